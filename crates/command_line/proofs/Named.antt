@@ -8,7 +8,7 @@ use Rattle.commands.specs.Values.{number_and_unit, number_at, number_within, sec
 use Rattle.orch_base.specs.Gives.{◌>>=◌}
 use Rattle.scenario_generator.specs.Bounds.{is_drawable}
 use Rattle.command_line.specs.declared.command.Own.{Own}
-use Rattle.command_line.specs.declared.command.Own.TheVariants.{Run, Generate, Dump}
+use Rattle.command_line.specs.declared.command.Own.TheVariants.{Run, Generate, Dump, Live}
 use Rattle.command_line.specs.declared.parts.Counts.{Counts}
 use Rattle.command_line.specs.declared.parts.Instances.{Instances}
 use Rattle.command_line.specs.declared.parts.Places.{Places}
@@ -158,33 +158,44 @@ default_has : (low high default n : ℕ) (o : Option Text) → low ≤ default �
 default_has low high default n None above below e = subst (λ (k : ℕ). (low ≤ k) × (k ≤ high)) (same_ok default n e) (above, below)
 default_has low high default n (Some text) above below e = number_has low high n text e
 
--- there is some server
-some_servers : (rows : List Row) (c : Counts) → counts_in rows ≡ Ok c → 1 ≤ c.servers
+-- there is some server, some poller and some worker
+record AreCounts (c : Counts) : Type 0 where
+  servers : 1 ≤ c.servers
+  pollers : (1 ≤ c.pollers) × (c.pollers ≤ 16)
+  workers : (1 ≤ c.workers) × (c.workers ≤ 16)
+
+counts_have : (rows : List Row) (c : Counts) → counts_in rows ≡ Ok c → AreCounts c
 unfolding counts_in
-some_servers rows c e =
+counts_have rows c e =
     let pollers = bind_ok (or_default 2 (number_in 1 16) (first_of (codes "pollers") rows)) _ c e in
     let workers = bind_ok (or_default 2 (number_in 1 16) (first_of (codes "workers") rows)) _ c pollers.2 in
     let wait = bind_ok (or_default 1000 (number_in 1 10000) (first_of (codes "wait") rows)) _ c workers.2 in
     let seed = bind_ok (or_default 1 (number_in 0 (2 ^ 64 - 1)) (first_of (codes "seed") rows)) _ c wait.2 in
     let servers = bind_ok (or_default 10 (number_in 1 1000) (first_of (codes "servers") rows)) _ c seed.2 in
     let turns = bind_ok (or_default 100 (number_in 0 1000000) (first_of (codes "turns") rows)) _ c servers.2 in
-    let least : 1 ≤ servers.0 = (default_has 1 1000 10 servers.0 (first_of (codes "servers") rows) (omega arith) (omega arith) servers.1).0 in
-    subst (λ (k : Counts). 1 ≤ k.servers) (same_ok (record { pollers = pollers.0; workers = workers.0; wait = wait.0; seed = seed.0; servers = servers.0; turns = turns.0 }) c turns.2) least
+    let is : AreCounts (record { pollers = pollers.0; workers = workers.0; wait = wait.0; seed = seed.0; servers = servers.0; turns = turns.0 }) =
+    record {
+      servers = (default_has 1 1000 10 servers.0 (first_of (codes "servers") rows) (omega arith) (omega arith) servers.1).0;
+      pollers = default_has 1 16 2 pollers.0 (first_of (codes "pollers") rows) (omega arith) (omega arith) pollers.1;
+      workers = default_has 1 16 2 workers.0 (first_of (codes "workers") rows) (omega arith) (omega arith) workers.1;
+    } in
+    subst AreCounts (same_ok (record { pollers = pollers.0; workers = workers.0; wait = wait.0; seed = seed.0; servers = servers.0; turns = turns.0 }) c turns.2) is
 
-bounded : (command : Text) (rows : List Row) (c : Counts) → bounded_in command rows ≡ Ok c → (1 ≤ c.servers) × (is_within_bound (own_at command) c ≡ true)
+bounded : (command : Text) (rows : List Row) (c : Counts) → bounded_in command rows ≡ Ok c → AreCounts c × (is_within_bound (own_at command) c ≡ true)
 unfolding bounded_in
 bounded command rows c e =
     let counts = bind_ok (counts_in rows) _ c e in
-    go counts.0 (is_within_bound (own_at command) counts.0) refl (some_servers rows counts.0 counts.1) counts.2
+    go counts.0 (is_within_bound (own_at command) counts.0) refl (counts_have rows counts.0 counts.1) counts.2
   where
-    go : (d : Counts) (b : Bool) → is_within_bound (own_at command) d ≡ b → 1 ≤ d.servers → cond {A = Result Counts Usage} b (Ok d) (Err BadWords) ≡ Ok c → (1 ≤ c.servers) × (is_within_bound (own_at command) c ≡ true)
-    go d true is some e = subst (λ (k : Counts). (1 ≤ k.servers) × (is_within_bound (own_at command) k ≡ true)) (same_ok d c e) (some, is)
+    go : (d : Counts) (b : Bool) → is_within_bound (own_at command) d ≡ b → AreCounts d → cond {A = Result Counts Usage} b (Ok d) (Err BadWords) ≡ Ok c → AreCounts c × (is_within_bound (own_at command) c ≡ true)
+    go d true is some e = subst (λ (k : Counts). AreCounts k × (is_within_bound (own_at command) k ≡ true)) (same_ok d c e) (some, is)
     go d false is some e = cc
 
 drawing_has : (own : Option Own) (p : Places) (c : Counts) → p.servers ≡ c.servers → p.turns ≡ c.turns → 1 ≤ c.servers → is_within_bound own c ≡ true → IfSome (drawing_by own p) IsDrawn
 drawing_has None p c servers turns some within = tt
 drawing_has (Some Run) p c servers turns some within = tt
 drawing_has (Some Dump) p c servers turns some within = tt
+drawing_has (Some Live) p c servers turns some within = tt
 drawing_has (Some Generate) p c servers turns some within = record { servers = subst (λ (n : ℕ). 1 ≤ n) (sym servers) some; bound = ap (λ (n : ℕ). is_drawable n p.turns) servers ∙ (ap (λ (n : ℕ). is_drawable c.servers n) turns ∙ within) }
 
 -- ---- all of them
@@ -210,7 +221,9 @@ places_have rows p e =
       reason = told.reason;
       owner = told.owner;
       pattern = told.pattern;
-      drawn = drawing_has (own_at command.0) _ counts.0 refl refl drawn.0 drawn.1;
+      pollers = drawn.0.pollers;
+      workers = drawn.0.workers;
+      drawn = drawing_has (own_at command.0) _ counts.0 refl refl drawn.0.servers drawn.1;
     })
 
 pub taken_have : (words : List (List ℕ)) (p : Places) → places_of words ≡ Ok p → AreTaken p

@@ -8,7 +8,7 @@ use Rattle.commands.specs.declared.needs.Needs.{Needs}
 use Rattle.commands.specs.Names.{name_of, needs_of, nothing}
 use Rattle.command_routes.specs.Routes.{is_built_found}
 use Rattle.command_line.specs.declared.command.Own.{Own}
-use Rattle.command_line.specs.declared.command.Own.TheVariants.{Run, Generate, Dump}
+use Rattle.command_line.specs.declared.command.Own.TheVariants.{Run, Generate, Dump, Live}
 use Rattle.command_line.specs.declared.usage.Usage.{Usage}
 use Rattle.command_line.specs.declared.usage.Usage.TheVariants.{BadWords}
 use Rattle.command_line.specs.Usages.{or_bad}
@@ -18,7 +18,8 @@ abbrev pub own_at : Text → Option Own
 own_at word =
     if bytes_eq word (codes "run") then Some Run else
     (if bytes_eq word (codes "generate") then Some Generate else
-    (if bytes_eq word (codes "dump") then Some Dump else None))
+    (if bytes_eq word (codes "dump") then Some Dump else
+    (if bytes_eq word (codes "live") then Some Live else None)))
 
 -- it is a word of the program's own, or that of a command that is built
 abbrev pub is_taken_word : Text → Bool

@@ -10,7 +10,7 @@ use Rattle.command_line.specs.declared.parts.Instances.{Instances}
 use Rattle.command_line.specs.declared.parts.Texts.{Texts}
 use Rattle.command_line.specs.declared.parts.Counts.{Counts}
 use Rattle.command_line.specs.declared.command.Own.{Own}
-use Rattle.command_line.specs.declared.command.Own.TheVariants.{Run, Generate, Dump}
+use Rattle.command_line.specs.declared.command.Own.TheVariants.{Run, Generate, Dump, Live}
 use Rattle.command_line.specs.declared.parts.Drawing.{Drawing}
 use Rattle.command_line.specs.declared.usage.Usage.{Usage}
 use Rattle.command_line.specs.declared.usage.Usage.TheVariants.{BadWords}
@@ -58,6 +58,7 @@ is_within_bound None counts = true
 is_within_bound (Some Run) counts = true
 is_within_bound (Some Generate) counts = is_drawable counts.servers counts.turns
 is_within_bound (Some Dump) counts = true
+is_within_bound (Some Live) counts = true
 
 -- the numbers, which are within the bound of what the command draws
 unfoldable pub bounded_in : Text → List Row → Result Counts Usage
@@ -107,7 +108,19 @@ drawing_by None p = None
 drawing_by (Some Run) p = None
 drawing_by (Some Generate) p = Some (record { seed = p.seed; servers = p.servers; turns = p.turns })
 drawing_by (Some Dump) p = None
+drawing_by (Some Live) p = None
 
 -- the scenario that the words ask to draw; elsewhere they ask for one that is read
 abbrev pub drawing_of : Places → Option Drawing
 drawing_of p = drawing_by (own_at p.command) p
+
+abbrev pub is_live_word : Option Own → Bool
+is_live_word None = false
+is_live_word (Some Run) = false
+is_live_word (Some Generate) = false
+is_live_word (Some Dump) = false
+is_live_word (Some Live) = true
+
+-- the words ask to run the scenario in threads
+abbrev pub is_live : Places → Bool
+is_live p = is_live_word (own_at p.command)

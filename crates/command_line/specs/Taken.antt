@@ -26,4 +26,6 @@ pub record AreTaken (p : Places) : Type 0 where
   pub reason : IfSome p.reason (λ text. length text ≤ 255)
   pub owner : IfSome p.owner (λ text. length text ≤ 255)
   pub pattern : IfSome p.pattern (λ text. is_pattern text ≡ true)
+  pub pollers : (1 ≤ p.pollers) × (p.pollers ≤ 16)
+  pub workers : (1 ≤ p.workers) × (p.workers ≤ 16)
   pub drawn : IfSome (drawing_of p) IsDrawn

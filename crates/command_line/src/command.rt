@@ -23,6 +23,8 @@ pub enum Own {
     Generate,
     /// `dump`: the servers of a scenario behind its turns, as a scenario.
     Dump,
+    /// `live`: a scenario is run in threads.
+    Live,
 }
 
 impl Own {
@@ -36,6 +38,8 @@ impl Own {
             Some(Own::Generate)
         } else if word == "dump" {
             Some(Own::Dump)
+        } else if word == "live" {
+            Some(Own::Live)
         } else {
             None
         }

@@ -4,7 +4,7 @@ ghost use Rattle.std.specs.Prelude.{◌≡◌, ◌≤◌, IfOk};
 ghost use Rattle.orch_base.specs.Gives.{Gives};
 ghost use Rattle.command_line.specs.Options.{rows_in};
 ghost use Rattle.command_line.specs.Commands.{own_at};
-ghost use Rattle.command_line.specs.Places.{bounded_in, counts_in, drawing_of, has_flag, instances_in, is_within_bound, places_in, texts_in};
+ghost use Rattle.command_line.specs.Places.{bounded_in, counts_in, drawing_of, has_flag, instances_in, is_live, is_within_bound, places_in, texts_in};
 ghost use Rattle.scenario_generator.specs.Bounds.{is_drawable};
 ghost use Rattle.command_line.specs.Usages.{usage_fault};
 
@@ -81,7 +81,17 @@ impl Places {
                 servers: self.servers,
                 turns: self.turns,
             }),
-            Some(Own::Run) | Some(Own::Dump) | None => None,
+            Some(Own::Run) | Some(Own::Dump) | Some(Own::Live) | None => None,
+        }
+    }
+
+    /// Whether the words ask to run the scenario in threads.
+    pub fn is_live(&self) -> bool
+        ensures { result ≡ is_live self.now }
+    {
+        match Own::read(self.command.as_str()) {
+            Some(Own::Live) => true,
+            Some(Own::Run) | Some(Own::Generate) | Some(Own::Dump) | None => false,
         }
     }
 }
@@ -182,7 +192,7 @@ fn is_within_bound(own: Option<Own>, counts: Counts) -> bool
 {
     match own {
         Some(Own::Generate) => is_drawable(counts.servers, counts.turns),
-        Some(Own::Run) | Some(Own::Dump) | None => true,
+        Some(Own::Run) | Some(Own::Dump) | Some(Own::Live) | None => true,
     }
 }
 

@@ -134,6 +134,8 @@ hooks-read h are =
 
 -- what was read of a scenario before its servers reads back
 pub record SaysReadable (s : Scenario) : Type 0 where
+  pub some_node : 1 ≤ s.nodes
+  pub few_nodes : s.nodes ≤ 16
   pub pseudo : s.pseudo ≤ 1000000
   pub block : s.block ≤ 1000000000
   pub blocks : All IsBlock s.blocks
@@ -151,7 +153,7 @@ dumped_head w s now = record {
   moment = now;
   gtid = w.gtid;
   pseudo = s.pseudo;
-  nodes = 1;
+  nodes = s.nodes;
   block = s.block;
   blocks = s.blocks;
   aliases = s.aliases;
@@ -168,10 +170,11 @@ module _ (w : World) (s : Scenario) (now : ℕ) where
   unfolding head_in dump_data one_in
   head-reads says early =
       let moment = number-reads 0 1000000000000000 now (omega arith) early in
+      let nodes = number-reads 1 16 s.nodes says.some_node says.few_nodes in
       let pseudo = number-reads 0 1000000 s.pseudo (omega arith) says.pseudo in
       let block : period_in (count_data s.block) ≡ Ok s.block = number-reads 0 1000000000 s.block (omega arith) says.block in
       let blocks = blocks-read s.blocks says.blocks in
       let aliases = aliases-read s.aliases says.aliases in
       let filters = filters-read s.filters says.master says.intermediate in
       let hooks = hooks-read s.hooks says.hooks in
-      rw moment (rw pseudo (rw block (rw blocks (rw aliases (rw filters (rw hooks refl))))))
+      rw moment (rw pseudo (rw nodes (rw block (rw blocks (rw aliases (rw filters (rw hooks refl)))))))

@@ -197,6 +197,8 @@ hooks-have d h read e =
 -- ---- all of it
 
 pub record IsHead (h : Head) : Type 0 where
+  pub some_node : 1 ≤ h.nodes
+  pub few_nodes : h.nodes ≤ 16
   pub pseudo : h.pseudo ≤ 1000000
   pub block : h.block ≤ 1000000000
   pub blocks : All IsBlock h.blocks
@@ -214,7 +216,8 @@ head-has d h read e =
     let moment = bind-ok (optional (codes "now") (number_in 0 1000000000000000) 0 d) _ h version.2 in
     let gtid = bind-ok (optional (codes "gtid") bool_in false d) _ h moment.2 in
     let pseudo = bind-ok (optional (codes "pseudo") (number_in 0 1000000) 0 d) _ h gtid.2 in
-    let block = bind-ok (optional (codes "block") period_in 3600 d) _ h pseudo.2 in
+    let nodes = bind-ok (optional (codes "nodes") (number_in 1 16) 1 d) _ h pseudo.2 in
+    let block = bind-ok (optional (codes "block") period_in 3600 d) _ h nodes.2 in
     let blocks = bind-ok (optional (codes "blocks") blocks_in [] d) _ h block.2 in
     let aliases = bind-ok (optional (codes "aliases") aliases_in [] d) _ h blocks.2 in
     let filters = bind-ok (optional (codes "filters") filters_in no_filters d) _ h aliases.2 in
@@ -223,7 +226,7 @@ head-has d h read e =
       moment = moment.0;
       gtid = gtid.0;
       pseudo = pseudo.0;
-      nodes = 1;
+      nodes = nodes.0;
       block = block.0;
       blocks = blocks.0;
       aliases = aliases.0;
@@ -233,7 +236,10 @@ head-has d h read e =
     let bs = block-list blocks.0 (optional-at (codes "blocks") blocks_in [] d blocks.0 blocks.1) in
     let as' = alias-list aliases.0 (optional-at (codes "aliases") aliases_in [] d aliases.0 aliases.1) in
     let fs = filter-lists filters.0 (optional-at (codes "filters") filters_in no_filters d filters.0 filters.1) in
+    let of = of_nodes nodes.0 (optional-at (codes "nodes") (number_in 1 16) 1 d nodes.0 nodes.1) in
     subst IsHead {x = made} (same_Ok made h hooks.2) (record {
+      some_node = of.0;
+      few_nodes = of.1;
       pseudo = marks pseudo.0 (optional-at (codes "pseudo") (number_in 0 1000000) 0 d pseudo.0 pseudo.1);
       block = period block.0 (optional-at (codes "block") period_in 3600 d block.0 block.1);
       blocks = bs.each;
@@ -245,6 +251,10 @@ head-has d h read e =
       hooks = hook-lists hooks.0 (optional-at (codes "hooks") hooks_in no_hooks d hooks.0 hooks.1);
     })
   where
+    of_nodes : (n : ℕ) → IsAt (codes "nodes") (number_in 1 16) 1 d n → (1 ≤ n) × (n ≤ 16)
+    of_nodes n (got.absent is) = (omega arith, omega arith)
+    of_nodes n (got.there v at e) = number-ok 1 16 v n e
+
     period : (n : ℕ) → IsAt (codes "block") period_in 3600 d n → n ≤ 1000000000
     period n (got.absent is) = omega arith
     period n (got.there v at e) = (number-ok 0 1000000000 v n e).1

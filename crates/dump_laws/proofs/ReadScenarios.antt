@@ -59,7 +59,7 @@ with-reads_back : (head : Head) (given : List (Option HostPort) × List Given) (
 unfolding scenario_with
 with-reads_back head given items s is settings e =
     let o = bind-ok (opening_in (inits_of given.1) head.gtid) _ s e in
-    let ts = bind-ok (turns_in given.0 o.0.servers items) _ s o.2 in
+    let ts = bind-ok (turns_in given.0 o.0.servers head.nodes items) _ s o.2 in
     let opened = opening-is (inits_of given.1) head.gtid o.0 o.1 in
     let made : Scenario = record {
       opening = o.0;
@@ -77,6 +77,8 @@ with-reads_back head given items s is settings e =
     } in
     subst ReadsBack {x = made} (same_Ok made s ts.2) (record {
       says = record {
+        some_node = is.some_node;
+        few_nodes = is.few_nodes;
         pseudo = is.pseudo;
         block = is.block;
         blocks = is.blocks;

@@ -47,6 +47,7 @@ module _ (s : Scenario) (w : World) (checked : IsChecked (opening_of w)) (able :
   pub dump-numbers : (now : ℕ) → now ≤ 1000000000000000 → IsReadable w s now
   dump-numbers now early = record {
     moment = omega arith;
+    nodes = let most = says.few_nodes in omega arith;
     pseudo = let most = says.pseudo in omega arith;
     block = let most = says.block in omega arith;
     periods = λ k d less. let most = (says.blocks k d less).seconds in omega arith;

@@ -89,9 +89,9 @@ opens is gtid checked =
     let small : is_small (length is) (listed_count is) ≡ true = le-leb _ 4000000 checked.listed.listed in
     rw small (rw checked.sound refl)
 
-none-turn : (is : List ServerInit) (gtid : Bool) → IsChecked (opening is gtid) → turns_in (listed_names_of is) is no_items ≡ Ok []
+none-turn : (is : List ServerInit) (gtid : Bool) (nodes : ℕ) → IsChecked (opening is gtid) → turns_in (listed_names_of is) is nodes no_items ≡ Ok []
 unfolding turns_in bounded
-none-turn is gtid checked =
+none-turn is gtid nodes checked =
     let least : leb 0 1000000 ≡ true = refl in
     let count : listed_count is + 0 ≡ listed_count is = omega arith in
     let small : is_small (length is) (listed_count is + 0) ≡ true = rw count (le-leb _ 4000000 checked.listed.listed) in
@@ -110,7 +110,7 @@ module _ (s : Scenario) (w : World) (now : ℕ) (of : IsWorldOf s w) (checked : 
       let is = map init_of w.servers in
       let same = inits-same is w.gtid checked.listed able in
       let answers = same-answers s is own (same-settings s w of) in
-      rw same (rw (opens is w.gtid checked) (rw (none-turn is w.gtid checked) (rw (answers, all-known w.servers, none-ruled w.servers) refl)))
+      rw same (rw (opens is w.gtid checked) (rw (none-turn is w.gtid s.nodes checked) (rw (answers, all-known w.servers, none-ruled w.servers) refl)))
 
   pub data-reads : now ≤ 1000000000000000 → scenario_from (dump_data w s now) ≡ Ok (dumped_scenario w s now)
   unfolding scenario_from dump_data

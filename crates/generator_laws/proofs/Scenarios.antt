@@ -77,7 +77,7 @@ all_pass (i ∷ is) = ap (λ bs. true ∷ bs) (all_pass is)
 -- ---- the whole
 
 turns_stand : (servers x turns : ℕ) (ss : List DrawnServer) → 0 < servers → servers ≤ 1000 → turns ≤ 1000000 → ArePlaced ss → length ss ≡ servers → is_drawable servers turns ≡ true
-    → turns_in (names_from 0 servers) (inits_from_drawn ss) (turns_data (turns_from servers x turns).drawn) ≡ Ok (map turn_of (turns_from servers x turns).drawn)
+    → turns_in (names_from 0 servers) (inits_from_drawn ss) 1 (turns_data (turns_from servers x turns).drawn) ≡ Ok (map turn_of (turns_from servers x turns).drawn)
 unfolding turns_in
 turns_stand servers x turns ss some few few' are count fits =
     let ts = (turns_from servers x turns).drawn in

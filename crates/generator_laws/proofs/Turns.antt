@@ -16,7 +16,7 @@ use Rattle.scenario_generator.proofs.Promises.{turns_are}
 use Rattle.generator_laws.specs.Drawn.{listed_turns, names_from, turn_of}
 use Rattle.generator_laws.proofs.Names.{named}
 
-turn_reads : (servers : ℕ) (printed : List (List ℕ)) (t : DrawnTurn) → servers ≤ 1000 → IsTurnOf servers t → turn_in (names_from 0 servers) printed (turn_data t) ≡ Ok (One (turn_of t))
+turn_reads : (servers : ℕ) (printed : List (List ℕ)) (t : DrawnTurn) → servers ≤ 1000 → IsTurnOf servers t → turn_in (names_from 0 servers) printed 1 (turn_data t) ≡ Ok (One (turn_of t))
 unfolding turn_in turn_with server_of amount_of poll_of poller_of number_in whole_in built_word
 turn_reads servers printed (Fetch n) few is = rw (named servers n is (omega arith)) refl
 turn_reads servers printed (Apply n) few is = rw (named servers n is (omega arith)) refl
@@ -29,11 +29,11 @@ turn_reads servers printed (Write root size) few is =
     rw (named servers root is.there (omega arith)) (rw (low, high) refl)
 
 turns_read_from : (servers n : ℕ) (printed : List (List ℕ)) (ts : List DrawnTurn) → servers ≤ 1000 → AreTurnsOf servers ts
-    → each_from (λ k d. turn_in (names_from 0 servers) printed d) n (turns_data ts) ≡ Ok (listed_turns ts)
+    → each_from (λ k d. turn_in (names_from 0 servers) printed 1 d) n (turns_data ts) ≡ Ok (listed_turns ts)
 turns_read_from servers n printed [] few are = refl
 turns_read_from servers n printed (t ∷ ts) few are =
     rw (turn_reads servers printed t few (are zero t refl)) (rw (turns_read_from servers (n + 1) printed ts few (λ k u e. are (suc k) u e)) refl)
 
 pub turns_read : (servers x turns : ℕ) (printed : List (List ℕ)) → 0 < servers → servers ≤ 1000
-    → each_from (λ k d. turn_in (names_from 0 servers) printed d) 0 (turns_data (turns_from servers x turns).drawn) ≡ Ok (listed_turns (turns_from servers x turns).drawn)
+    → each_from (λ k d. turn_in (names_from 0 servers) printed 1 d) 0 (turns_data (turns_from servers x turns).drawn) ≡ Ok (listed_turns (turns_from servers x turns).drawn)
 turns_read servers x turns printed some few = turns_read_from servers 0 printed (turns_from servers x turns).drawn few (turns_are servers x turns some)

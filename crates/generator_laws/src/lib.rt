@@ -27,7 +27,7 @@ pub fn drawn_servers_read()
 /// The turns that are drawn over so many servers read as those turns.
 pub fn drawn_turns_read()
     ensures { (servers x turns : ℕ) (printed : List (List ℕ)) → 0 < servers → servers ≤ 1000
-        → each (turn_in (names_from 0 servers) printed)
+        → each (turn_in (names_from 0 servers) printed 1)
         (turns_data (turns_from servers x turns).drawn)
         ≡ Ok (listed_turns (turns_from servers x turns).drawn) }
 {}

@@ -49,7 +49,7 @@ impl Model for Claims {
 }
 
 impl Claims {
-    ghost use Rattle.std.specs.Prelude.{◌≡◌, ◌≤◌, ◌^◌, IfOk, IsTrue};
+    ghost use Rattle.std.specs.Prelude.{◌≡◌, ◌==◌, ◌≤◌, ◌^◌, IfOk, IsTrue, length};
     ghost use Rattle.node_claims.specs.Claims.{active, after_act, after_claim, after_release, claim_answer, made, may_act, release_answer, remembered_by, IsNode};
 
     /// So many nodes, 1 to 16, of which none remembers anything, and the claim that is kept.
@@ -72,6 +72,20 @@ impl Claims {
         *self.remembered.get(place as usize)?
     }
 
+    /// What the node, counted from 1, would be answered that claims to be the active one; nothing changes. Moments are
+    /// at most 2^63. It takes no memory.
+    pub fn answer(&self, node: u32, now: Moment) -> ClaimAnswer
+        requires early { now.0 ≤ 2 ^ 63 }
+        ensures answer { result ≡ claim_answer self.now node now.0 }
+    {
+        if let Some((other, until)) = self.kept {
+            if other != node && now < until {
+                return ClaimAnswer::Taken { node: other, until };
+            }
+        }
+        ClaimAnswer::Held(Moment(now.0 + CLAIM_SECONDS))
+    }
+
     /// Claims that the node, counted from 1, is the active one: `Taken` exactly where the kept claim is another node's
     /// and lasts; nothing has changed then. Else `Held`: the claim of 60 seconds from now on is kept and remembered,
     /// and what other nodes remember stays. Moments are at most 2^63. It takes no memory.
@@ -81,15 +95,12 @@ impl Claims {
         ensures answer { result ≡ claim_answer self.old node now.0 }
         ensures after { self.new ≡ after_claim self.old node now.0 }
     {
-        if let Some((other, until)) = self.kept {
-            if other != node && now < until {
-                return ClaimAnswer::Taken { node: other, until };
-            }
+        let answer = self.answer(node, now);
+        if let ClaimAnswer::Held(until) = answer {
+            self.kept = Some((node, until));
+            self.remembered[(node - 1) as usize] = Some(until);
         }
-        let until = Moment(now.0 + CLAIM_SECONDS);
-        self.kept = Some((node, until));
-        self.remembered[(node - 1) as usize] = Some(until);
-        ClaimAnswer::Held(until)
+        answer
     }
 
     /// Gives the node's claim back: `NotHeld` exactly where the kept claim isn't its own; nothing has changed then.
@@ -121,6 +132,13 @@ impl Claims {
             self.remembered[(node - 1) as usize] = None;
         }
         lasts
+    }
+
+    /// Whether there is one node alone. It takes no memory.
+    pub fn is_alone(&self) -> bool
+        ensures { result ≡ (length self.now.remembered == 1) }
+    {
+        self.remembered.len() == 1
     }
 
     /// The kept claim: its node, counted from 1, and the first moment at which it no longer lasts. It takes no memory.

@@ -3,14 +3,16 @@
 
 use adapters::{FileSource, Input, StreamSink};
 use command_line::{Usage, places};
+use gates::NoGate;
 use instance_keeper::MemKeeper;
+use live_calls::orch;
 use orch_base::{Memory, OwnedText, Sink};
 use sql_keeper::{Backend, SqlKeeper};
 use std::alloc::Global;
 use std::fs::File;
 use std::process::ExitCode;
 use std::{env, io};
-use top_call::{Way, close, orch};
+use top_call::{Way, close};
 
 fn words_of(rt: &HostRuntime, alloc: Global) -> io::Result<Vec<Vec<u8>>> {
     let mut words = Vec::new(alloc);
@@ -75,7 +77,16 @@ fn main(rt: HostRuntime) -> ExitCode {
         Ok(keeper) => keeper,
         Err(_) => return no_memory(&mut err),
     };
-    let status = orch(alloc, &words, &mut source, &mut out, &mut err, &mut keeper);
+    let status = orch(
+        &rt,
+        alloc,
+        &words,
+        &mut source,
+        &mut out,
+        &mut err,
+        &mut keeper,
+        &NoGate,
+    );
     keeper.close();
     ExitCode::from(status)
 }

@@ -25,23 +25,29 @@ use Rattle.jobs_in_flight.specs.Jobs.{is_open, job_at, jobs_turned, most_turns, 
 use Rattle.orch_core.specs.Jobs.{turn_of, turned_at}
 use Rattle.orch_core.specs.declared.fault.TurnFault.{TurnFault}
 use Rattle.orch_core.specs.declared.fault.TurnFault.TheVariants as fault
-use Rattle.orch_core.specs.Keeping.{act_asks, Ran, WasCutOff, asks}
+use Rattle.orch_core.specs.Keeping.{Ran, WasCutOff}
 use Rattle.name_order.specs.NameOrder.{by_name}
-use Rattle.scenarios.specs.Turns.{IsTurn, pollers}
+use Rattle.scenarios.specs.Turns.{IsTurn, NamesOneOf, pollers}
 use Rattle.orch_core.specs.Replies.{reply_of}
 use Rattle.jobs_in_flight.proofs.Numbers.{found-number}
+use Rattle.orch_core.proofs.Others.{closed-others, turned-others}
 use Rattle.orch_core.proofs.Runs.{Ran-nil}
 use Rattle.orch_core.proofs.Turned.{All-found}
 use Rattle.orch_core.specs.Rounds.{Finished, FinishedBy, WasCutShort, after_rounds, after_turns, round_of, times, told_in}
 use Rattle.jobs_in_flight.specs.Rounds.{polls, replicates, round_over}
-use Rattle.orch_core.specs.After.{after_act, step}
-use Rattle.orch_core.specs.Runs.{Held, LeadsTo, Machine, engine, held_run, held_step, run_turns, turns_of}
+use Rattle.orch_core.specs.Nodes.{act_in, with_claims}
+use Rattle.orch_core.specs.After.{after_act, after_done, step}
+use Rattle.orch_core.specs.Runs.{Held, LeadsTo, Machine, act_asks, asks, done_asks, engine, held_run, held_step, run_turns, turns_of}
 use Rattle.orch_core.specs.States.{IsState, State}
 
 -- ---- turns of which none asks for rows lead to one state
 
+-- in no state
+abbrev pub AsksNever : Turn → Type 0
+AsksNever t = (s : State) → asks s t ≡ false
+
 abbrev pub AsksNothing : List Turn → Type 0
-AsksNothing ts = All (λ t. asks t ≡ false) ts
+AsksNothing ts = All AsksNever ts
 
 act-any : (rows : List Row) (s : State) (a : Act) → act_asks a ≡ false → after_act rows s a ≡ after_act [] s a
 act-any rows s (act.PollRead p n) e = refl
@@ -51,12 +57,16 @@ act-any rows s (act.Job job) e = refl
 act-any rows s act.Scan e = refl
 act-any rows s act.Restart e = absurd (false≢true (sym e))
 
-pub step-any : (rows : List Row) (s : State) (t : Turn) → asks t ≡ false → step rows s t ≡ step [] s t
+done-any : (rows : List Row) (s : State) (o : Option Act) → done_asks o ≡ false → after_done rows s o ≡ after_done [] s o
+done-any rows s None e = refl
+done-any rows s (Some a) e = act-any rows s a e
+
+pub step-any : (rows : List Row) (s : State) (t : Turn) → asks s t ≡ false → step rows s t ≡ step [] s t
 step-any rows s (turn.Step x) e = refl
 step-any rows s (turn.Tick seconds) e = refl
 step-any rows s (turn.Act a) e = act-any rows s a e
-step-any rows s (turn.As node a) e = act-any rows s a e
-step-any rows s (turn.Claim node) e = refl
+step-any rows s (turn.As node a) e = ap (with_claims s (turn.As node a)) (done-any rows s (act_in s (turn.As node a)) e)
+step-any rows s (turn.Claim node) e = ap (with_claims s (turn.Claim node)) (done-any rows s (act_in s (turn.Claim node)) e)
 step-any rows s (turn.Release node) e = refl
 
 -- ---- the jobs after a round
@@ -117,14 +127,14 @@ module _ {A : Type 0} (m : Machine A) (state : A → State) (steps : (rows : Lis
   runs-any : (a : A) (xs : List (List Row × Turn)) → AsksNothing (turns_of xs) → state (run_turns m a xs) ≡ after_turns (state a) (turns_of xs)
   runs-any a [] none = refl
   runs-any a (x ∷ xs) none =
-      runs-any (m.next x.0 a x.1) xs (All-tail (λ t. asks t ≡ false) x.1 (turns_of xs) none)
-      ∙ ap (λ (s : State). after_turns s (turns_of xs)) (steps x.0 a x.1 ∙ step-any x.0 (state a) x.1 (All-head (λ t. asks t ≡ false) x.1 (turns_of xs) none))
+      runs-any (m.next x.0 a x.1) xs (All-tail AsksNever x.1 (turns_of xs) none)
+      ∙ ap (λ (s : State). after_turns s (turns_of xs)) (steps x.0 a x.1 ∙ step-any x.0 (state a) x.1 (All-head AsksNever x.1 (turns_of xs) none (state a)))
 
   held-any : (h : Held A) (ts : List Turn) → AsksNothing ts → state (held_run m h ts).state ≡ after_turns (state h.state) ts
   held-any h [] none = refl
   held-any h (t ∷ ts) none =
-      held-any (held_step m h t) ts (All-tail (λ t. asks t ≡ false) t ts none)
-      ∙ ap (λ (s : State). after_turns s ts) (steps h.rows h.state t ∙ step-any h.rows (state h.state) t (All-head (λ t. asks t ≡ false) t ts none))
+      held-any (held_step m h t) ts (All-tail AsksNever t ts none)
+      ∙ ap (λ (s : State). after_turns s ts) (steps h.rows h.state t ∙ step-any h.rows (state h.state) t (All-head AsksNever t ts none (state h.state)))
 
   pub leads-any : (kept : Option (List Row)) (a now : A) (ts : List Turn) → AsksNothing ts → LeadsTo m kept a ts now → state now ≡ after_turns (state a) ts
   leads-any None a now ts none leads =
@@ -171,11 +181,12 @@ times-more : (k : ℕ) (ts : List Turn) → times k ts ++ ts ≡ times (k + 1) t
 times-more zero ts = sym (append-nil ts)
 times-more (suc k) ts = append_assoc ts (times k ts) ts ∙ ap (λ (x : List Turn). ts ++ x) (times-more k ts) ∙ (let same : suc (k + 1) ≡ suc k + 1 = omega arith in ap (λ (n : ℕ). times n ts) same)
 
--- so many rounds were taken, each where the job was open, and left it so many turns less
+-- so many rounds were taken, each where the job was open, and left it so many turns less, and the other jobs
 pub record Rounds {A : Type 0} (m : Machine A) (state : A → State) (kept : Option (List Row)) (a : A) (job : ℕ) (kept' : Option (List Row)) (now : A) (k : ℕ) : Type 0 where
   pub here : state now ≡ after_rounds (state a) job k
   pub goes_on : (i : ℕ) → i < k → is_open (after_rounds (state a) job i).jobs job ≡ true
   pub left : k + most_turns (state now).jobs job ≤ most_turns (state a).jobs job
+  pub others : without_job (state now).jobs job ≡ without_job (state a).jobs job
   pub ran : Ran m kept a (times k (round_of (state a) job)) kept' now
 
 -- a round leaves an open job fewer turns
@@ -194,15 +205,15 @@ round-fewer s job is opened = go (job_at s.jobs job) refl opened
         )))
 
 asks-replicates : (servers : List ServerNo) → AsksNothing (flat_map replicates servers)
-asks-replicates [] = All-nil (λ t. asks t ≡ false)
-asks-replicates (n ∷ ns) = All-cons (λ t. asks t ≡ false) (turn.Step (step.Fetch n)) (turn.Step (step.Apply n) ∷ flat_map replicates ns) refl (All-cons (λ t. asks t ≡ false) (turn.Step (step.Apply n)) (flat_map replicates ns) refl (asks-replicates ns))
+asks-replicates [] = All-nil AsksNever
+asks-replicates (n ∷ ns) = All-cons AsksNever (turn.Step (step.Fetch n)) (turn.Step (step.Apply n) ∷ flat_map replicates ns) (λ s. refl) (All-cons AsksNever (turn.Step (step.Apply n)) (flat_map replicates ns) (λ s. refl) (asks-replicates ns))
 
 asks-polls : (servers : List ServerNo) → AsksNothing (flat_map polls servers)
-asks-polls [] = All-nil (λ t. asks t ≡ false)
-asks-polls (n ∷ ns) = All-cons (λ t. asks t ≡ false) (turn.Act (act.PollRead 0 n)) (turn.Act (act.PollStore 0) ∷ flat_map polls ns) refl (All-cons (λ t. asks t ≡ false) (turn.Act (act.PollStore 0)) (flat_map polls ns) refl (asks-polls ns))
+asks-polls [] = All-nil AsksNever
+asks-polls (n ∷ ns) = All-cons AsksNever (turn.Act (act.PollRead 0 n)) (turn.Act (act.PollStore 0) ∷ flat_map polls ns) (λ s. refl) (All-cons AsksNever (turn.Act (act.PollStore 0)) (flat_map polls ns) (λ s. refl) (asks-polls ns))
 
 pub asks-round : (servers : List ServerNo) (job : ℕ) → AsksNothing (round_over servers job)
-asks-round servers job = All-cons (λ t. asks t ≡ false) (turn.Act (act.Job job)) (flat_map replicates servers ++ flat_map polls servers) refl (All-append (λ t. asks t ≡ false) (flat_map replicates servers) (flat_map polls servers) (asks-replicates servers) (asks-polls servers))
+asks-round servers job = All-cons AsksNever (turn.Act (act.Job job)) (flat_map replicates servers ++ flat_map polls servers) (λ s. refl) (All-append AsksNever (flat_map replicates servers) (flat_map polls servers) (asks-replicates servers) (asks-polls servers))
 
 -- the turns of a round are turns over the servers
 module _ (count : ℕ) where
@@ -222,12 +233,31 @@ module _ (count : ℕ) where
   pub turns-round : (servers : List ServerNo) (job : ℕ) → All (λ n. n.0 < count) servers → All (IsTurn count) (round_over servers job)
   turns-round servers job all = All-cons (IsTurn count) (turn.Act (act.Job job)) (flat_map replicates servers ++ flat_map polls servers) tt (All-append (IsTurn count) (flat_map replicates servers) (flat_map polls servers) (turns-replicates servers all) (turns-polls servers all))
 
+-- and name no orchestrator
+module _ (nodes : ℕ) where
+  named-replicates : (servers : List ServerNo) → All (NamesOneOf nodes) (flat_map replicates servers)
+  named-replicates [] = All-nil (NamesOneOf nodes)
+  named-replicates (n ∷ ns) =
+      All-cons (NamesOneOf nodes) (turn.Step (step.Fetch n)) (turn.Step (step.Apply n) ∷ flat_map replicates ns) tt (All-cons (NamesOneOf nodes) (turn.Step (step.Apply n)) (flat_map replicates ns) tt (named-replicates ns))
+
+  named-polls : (servers : List ServerNo) → All (NamesOneOf nodes) (flat_map polls servers)
+  named-polls [] = All-nil (NamesOneOf nodes)
+  named-polls (n ∷ ns) =
+      All-cons (NamesOneOf nodes) (turn.Act (act.PollRead 0 n)) (turn.Act (act.PollStore 0) ∷ flat_map polls ns) tt (All-cons (NamesOneOf nodes) (turn.Act (act.PollStore 0)) (flat_map polls ns) tt (named-polls ns))
+
+  pub named-others : (servers : List ServerNo) → All (NamesOneOf nodes) (flat_map replicates servers ++ flat_map polls servers)
+  named-others servers = All-append (NamesOneOf nodes) (flat_map replicates servers) (flat_map polls servers) (named-replicates servers) (named-polls servers)
+
+  pub named-round : (servers : List ServerNo) (job : ℕ) → All (NamesOneOf nodes) (round_over servers job)
+  named-round servers job = All-cons (NamesOneOf nodes) (turn.Act (act.Job job)) (flat_map replicates servers ++ flat_map polls servers) tt (named-others servers)
+
 module _ {A : Type 0} (m : Machine A) (state : A → State) (steps : (rows : List Row) (a : A) (t : Turn) → state (m.next rows a t) ≡ step rows (state a) t) where
   pub Rounds-none : (kept : Option (List Row)) (a : A) (job : ℕ) → Rounds m state kept a job kept a 0
   Rounds-none kept a job = record {
     here = refl;
     goes_on = λ i h. absurd (omega (arith, h));
     left = omega arith;
+    others = refl;
     ran = Ran-nil m kept a;
   }
 
@@ -246,6 +276,7 @@ module _ {A : Type 0} (m : Machine A) (state : A → State) (steps : (rows : Lis
             ∙ ap (after_turns (state a)) (times-more k round);
         goes_on = λ i h. by i h (ltb i k) refl;
         left = omega (arith, fewer_now, most, before);
+        others = ap (λ (js : List Unended). without_job js job) jobs ∙ turned-others (state b) job is ∙ rounds.others;
         ran = subst (λ ts. Ran m kept a ts kept'' c) (times-more k round) (Ran-append m kept kept' kept'' a b c (times k round) round rounds.ran ran);
       }
     where
@@ -264,6 +295,9 @@ module _ {A : Type 0} (m : Machine A) (state : A → State) (steps : (rows : Lis
         rounds = record { goes_on = rounds.goes_on; ended = ap (λ (s : State). is_open s.jobs job) (sym rounds.here) ∙ closed; within = omega (arith, left) };
         ran = rounds.ran;
       }
+
+  pub Finished-others : (kept kept' : Option (List Row)) (a b : A) (job k : ℕ) → Rounds m state kept a job kept' b k → is_open (state b).jobs job ≡ false → (state b).jobs ≡ without_job (state a).jobs job
+  Finished-others kept kept' a b job k rounds closed = sym (closed-others (state b).jobs job closed) ∙ rounds.others
 
 slice-past : {A : Type 0} (xs ys : List A) (n i : ℕ) → i ≡ length xs + n → slice_get (xs ++ ys) i ≡ slice_get ys n
 slice-past [] ys n i e = ap (slice_get ys) (omega (arith, e))

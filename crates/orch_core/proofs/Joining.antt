@@ -85,13 +85,13 @@ module _ (count : ℕ) where
       })
       (joined-range _ (begun a x.entry) x.job.core.id xs each.1 few)
 
-  pub joined-rising : (leases : List (Option ℕ)) (a : AuditState) (last : ℕ) (xs : List Begins) (jobs : List Unended) → BeginInTurn count leases a last xs → Rise 0 jobs last
-      → Rise 0 (jobs ++ map recovery_job xs) (number_after last xs)
-  joined-rising leases a last [] jobs each rise = subst (λ (js : List Unended). Rise 0 js last) (sym (append-nil jobs)) rise
-  joined-rising leases a last (x ∷ xs) jobs each rise =
+  pub joined-rising : (low : ℕ) (leases : List (Option ℕ)) (a : AuditState) (last : ℕ) (xs : List Begins) (jobs : List Unended) → BeginInTurn count leases a last xs → Rise low jobs last
+      → Rise low (jobs ++ map recovery_job xs) (number_after last xs)
+  joined-rising low leases a last [] jobs each rise = subst (λ (js : List Unended). Rise low js last) (sym (append-nil jobs)) rise
+  joined-rising low leases a last (x ∷ xs) jobs each rise =
       let number = each.0.number in
-      subst (λ (js : List Unended). Rise 0 js (number_after x.job.core.id xs)) (joined jobs x xs)
-      (joined-rising _ (begun a x.entry) x.job.core.id xs (jobs ++ recovery_job x ∷ []) each.1 (Rise-push 0 jobs last (recovery_job x) (omega (arith, number)) rise))
+      subst (λ (js : List Unended). Rise low js (number_after x.job.core.id xs)) (joined jobs x xs)
+      (joined-rising low _ (begun a x.entry) x.job.core.id xs (jobs ++ recovery_job x ∷ []) each.1 (Rise-push low jobs last (recovery_job x) (omega (arith, number)) rise))
 
   pub joined-audit : (leases : List (Option ℕ)) (a : AuditState) (last : ℕ) (xs : List Begins) → BeginInTurn count leases a last xs → IsAudit a → IsAudit (audit_after a xs)
   joined-audit leases a last [] each is = is

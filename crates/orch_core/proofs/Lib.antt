@@ -3,12 +3,15 @@ pub mod Sources
 pub mod Recoveries
 pub mod Periods
 pub mod States
+pub mod Claims
 pub mod Runs
 pub mod Starts
 pub mod Beginnings
 pub mod HookTold
 pub mod Outcomes
 pub mod Turned
+pub mod Others
+pub mod LastPolls
 pub mod Finishing
 pub mod Entries
 pub mod Joining

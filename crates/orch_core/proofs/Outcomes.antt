@@ -462,7 +462,7 @@ module _ (count : ℕ) (k : Knowledge) where
   rising-updated (update.Discovery o) is next rise = rise
   rising-updated (update.Decides e) is next rise = rise
   rising-updated (update.Begins x) is next rise = let number = next.number in Rise-push 0 k.jobs k.last_job x.job (omega (arith, number)) rise
-  rising-updated (update.Recovers xs) is next rise = joined-rising (length k.book.names) k.book.leases k.audit k.last_job xs k.jobs is rise
+  rising-updated (update.Recovers xs) is next rise = joined-rising (length k.book.names) 0 k.book.leases k.audit k.last_job xs k.jobs is rise
 
   -- an audit stays one
   audit-updated : (u : Update) → IsUpdate k u → IsAudit k.audit → IsAudit (updated k u).audit

@@ -41,6 +41,9 @@ use Rattle.world_openings.proofs.Opened.{given-opened}
 use Rattle.world_openings.specs.Opening.{Fits, opened_world, source_state}
 use Rattle.server_model.specs.Worlds.{World, server_at}
 use Rattle.scenarios.specs.declared.scenario.Scenario.{Scenario}
+use Rattle.node_claims.specs.Claims.{ClaimState}
+use Rattle.node_claims.specs.Claims.{made as claims_made}
+use Rattle.orch_core.specs.Nodes.{holder_of, kept_claim}
 use Rattle.orch_core.specs.Polls.{empty_slots}
 use Rattle.orch_base.specs.Memory.{next_count}
 use Rattle.orch_core.specs.Keeping.{HasTurnCause, kept_if}
@@ -251,7 +254,7 @@ moment-within s rows items moment is counting made =
     subst (λ (n : ℕ). n ≤ greatest) (sym (made ∙ ap (latest s.moment.0) counting)) (latest-most (length s.opening.servers) greatest_id s.moment.0 rows early)
 
 -- the pieces of an opening, as they were made one after another of the rows that the keeper gave
-pub record IsOpening (s : Scenario) (given : List Row) (w : World) (settings : List Settings) (items : List Row) (moment : Moment) (b b' : BookState) (a a' : AuditState) (recoveries : List Change) (slots : List (Option Observation)) (reads : ℕ) (jobs : List Unended) (wait : ℕ) (configuration : Configuration) : Type 0 where
+pub record IsOpening (s : Scenario) (given : List Row) (w : World) (settings : List Settings) (items : List Row) (moment : Moment) (b b' : BookState) (a a' : AuditState) (recoveries : List Change) (slots : List (Option Observation)) (reads : ℕ) (jobs : List Unended) (wait : ℕ) (configuration : Configuration) (claims : ClaimState) (holder : Option ℕ) : Type 0 where
   pub world : w ≡ start_world s
   pub settings_made : settings ≡ settings_of s
   pub counting : items ≡ start_rows s given
@@ -265,11 +268,13 @@ pub record IsOpening (s : Scenario) (given : List Row) (w : World) (settings : L
   pub read : reads ≡ last_read items
   pub idle : jobs ≡ []
   pub configured : configuration ≡ configuration_of wait s
+  pub claimed : claims ≡ claims_made s.nodes (kept_claim items)
+  pub held : holder ≡ holder_of (kept_claim items)
 
-module _ (s : Scenario) (given : List Row) (w : World) (settings : List Settings) (items : List Row) (moment : Moment) (b b' : BookState) (a a' : AuditState) (recoveries : List Change) (slots : List (Option Observation)) (reads : ℕ) (jobs : List Unended) (wait : ℕ) (configuration : Configuration)
-    (is : IsOpening s given w settings items moment b b' a a' recoveries slots reads jobs wait configuration) where
+module _ (s : Scenario) (given : List Row) (w : World) (settings : List Settings) (items : List Row) (moment : Moment) (b b' : BookState) (a a' : AuditState) (recoveries : List Change) (slots : List (Option Observation)) (reads : ℕ) (jobs : List Unended) (wait : ℕ) (configuration : Configuration) (claims : ClaimState) (holder : Option ℕ)
+    (is : IsOpening s given w settings items moment b b' a a' recoveries slots reads jobs wait configuration claims holder) where
   abbrev made : State
-  made = record { world = w; moment = moment.0; book = b'; audit = a'; slots = slots; reads = reads; jobs = jobs; last_job = 0; configuration = configuration }
+  made = record { world = w; moment = moment.0; book = b'; audit = a'; slots = slots; reads = reads; jobs = jobs; last_job = 0; configuration = configuration; claims = claims; last_holder = holder }
 
   abbrev changes : List Change
   changes = opening_changes w moment b s.known s.rules recoveries
@@ -338,10 +343,12 @@ module _ (s : Scenario) (given : List Row) (w : World) (settings : List Settings
       ∙ ap (λ (x : World). record made { jobs = []; world = x }) is.world
       ∙ ap (λ (x : Moment). record made { jobs = []; world = start_world s; moment = x.0 }) moment_is
       ∙ ap (λ (x : BookState). record made { jobs = []; world = start_world s; moment = (start_moment s given).0; book = x }) book
-      ∙ ap (λ (x : AuditState). record begins { audit = x; slots = slots; reads = reads; configuration = configuration }) audit
-      ∙ ap (λ (x : List (Option Observation)). record begins { slots = x; reads = reads; configuration = configuration }) is.empty
-      ∙ ap (λ (x : ℕ). record begins { reads = x; configuration = configuration }) read
-      ∙ ap (λ (x : Configuration). record begins { configuration = x }) is.configured
+      ∙ ap (λ (x : AuditState). record begins { audit = x; slots = slots; reads = reads; configuration = configuration; claims = claims; last_holder = holder }) audit
+      ∙ ap (λ (x : List (Option Observation)). record begins { slots = x; reads = reads; configuration = configuration; claims = claims; last_holder = holder }) is.empty
+      ∙ ap (λ (x : ℕ). record begins { reads = x; configuration = configuration; claims = claims; last_holder = holder }) read
+      ∙ ap (λ (x : Configuration). record begins { configuration = x; claims = claims; last_holder = holder }) is.configured
+      ∙ ap (λ (x : ClaimState). record begins { claims = x; last_holder = holder }) (is.claimed ∙ ap (λ (xs : List Row). claims_made s.nodes (kept_claim xs)) is.counting)
+      ∙ ap (λ (x : Option ℕ). record begins { last_holder = x }) (is.held ∙ ap (λ (xs : List Row). holder_of (kept_claim xs)) is.counting)
 
   pub StartsBy-made : (kept : Option (List Row)) → IfSome kept (λ rows. given ≡ rows) → StartsBy kept s wait made
   StartsBy-made None told = (given, state_is)
@@ -352,6 +359,15 @@ module _ (s : Scenario) (given : List Row) (w : World) (settings : List Settings
   kept_made None told = refl
   kept_made (Some rows) told =
       ap (λ (cs : List Change). Some (changed rows cs)) (changes_are ∙ ap (start_changes s) told)
+
+-- memory ran out between the keeper's calls
+pub cause-stays : {A : Type 0} (before now : ℕ) → now ≡ before → HasTurnCause {A = A} before now (Err fault.Memory)
+cause-stays before now same = record {
+  later = omega (arith, same);
+  ok = tt;
+  failed = λ k. cc;
+  memory = λ k. same;
+}
 
 -- a fault that is handed on has the cause that it had
 pub cause-carried : {A B : Type 0} (before mid now : ℕ) (r : Result B TurnFault) (e : TurnFault) → mid ≡ before → r ≡ Err e → HasTurnCause mid now r → HasTurnCause {A = A} before now (Err e)

@@ -1,5 +1,5 @@
 -- Turns keep what holds of states.
-use Rattle.std.proofs.Common.{◌≡◌, ℕ, ◌+◌, ◌<◌, ◌≤◌, ◌^◌, Bool, true, false, List, [], ◌∷◌, length, Option, None, Some, refl, sym, ap, subst, ◌∙◌, arith}
+use Rattle.std.proofs.Common.{◌≡◌, ℕ, ◌+◌, ◌<◌, ◌≤◌, ◌^◌, Bool, true, false, List, [], ◌∷◌, ◌++◌, length, Option, None, Some, refl, sym, ap, subst, ◌∙◌, arith, append-nil}
 use Rattle.std.specs.Prelude.{All, min, IfSome, ◌&&◌, nat_lt, slice_set, fold, map, Ok, Err, if◌then◌else◌}
 use Rattle.std.proofs.lemmas.List.{length-set, length-replicate, length-map}
 use Rattle.std.proofs.lemmas.List.Elements.{All-nil, All-set, All-replicate}
@@ -17,7 +17,8 @@ use Rattle.audit_log.specs.Audits.{AuditState, IsAudit, closed}
 use Rattle.opening_book.proofs.Recoveries.{audit-loaded}
 use Rattle.opening_book.specs.Counting.{counted, loaded}
 use Rattle.orch_base.specs.declared.server.Moment.{Moment}
-use Rattle.orch_core.specs.Restarts.{interrupted_at, last_given, reloaded_audit, reloaded_book, reloaded_moment}
+use Rattle.node_claims.specs.Claims.{ClaimState}
+use Rattle.orch_core.specs.Restarts.{interrupted_at, last_given, reloaded_audit, reloaded_book, reloaded_moment, restart_changes}
 use Rattle.orch_core.proofs.Recoveries.{HasBegun, closed-begun, closed-is, counted-begun, reloaded-most}
 use Rattle.kept_rows.specs.Seeing.{seen_in}
 use Rattle.server_model.specs.declared.server.Server.{Server}
@@ -28,7 +29,9 @@ use Rattle.server_model.specs.Gtids.{status, status_in, status_of, source_at, se
 use Rattle.server_model.specs.Run.{AllAllowed, AllJoinWell, run}
 use Rattle.server_model.specs.Worlds.{World, server_at}
 use Rattle.turns.specs.declared.turn.Step.{Step}
+use Rattle.turns.specs.declared.turn.Act.TheVariants as act
 use Rattle.turns.specs.declared.turn.Turn.{Turn}
+use Rattle.turns.specs.declared.turn.Turn.TheVariants as turn
 use Rattle.turns.specs.declared.turn.Step.TheVariants as step
 use Rattle.scenarios.specs.Turns.{pollers, IsStep}
 use Rattle.orch_core.specs.Turns.{exchange_of, later}
@@ -43,7 +46,7 @@ use Rattle.orch_core.specs.Polls.{empty_slots, changes_of}
 use Rattle.orch_core.specs.Readings.{reading_by}
 use Rattle.orch_core.specs.After.{after_restart, step as turn_step}
 use Rattle.orch_core.specs.Runs.{engine}
-use Rattle.orch_core.specs.Keeping.{StepsTo, kept_by, kept_if}
+use Rattle.orch_core.specs.Keeping.{StepsTo, kept_by, kept_if, kept_with}
 
 -- a step's exchange is allowed, and is no attachment
 pub Allowed-step : (count : ℕ) (w : World) (x : Step) → IsStep count x → AllAllowed w (exchange_of x ∷ []) × AllJoinWell w (exchange_of x ∷ [])
@@ -296,6 +299,16 @@ pub kept_given : (kept : Option (List Row)) (given : List Row) (s : State) (t : 
 kept_given None given s t told = refl
 kept_given (Some rows) given s t told = ap (λ (x : List Row). Some (changed rows (changes_of x s t))) told
 
+pub with_given : (more : List Change) (kept : Option (List Row)) (given : List Row) (s : State) → IfSome kept (λ rows. given ≡ rows) → kept_if true kept (restart_changes given s ++ more) ≡ kept_with more true kept s
+with_given more None given s told = refl
+with_given more (Some rows) given s told = ap (λ (x : List Row). Some (changed rows (restart_changes x s ++ more))) told
+
+-- with no more changes it is a restart alone
+pub with_none : (more : List Change) (made : Bool) (kept : Option (List Row)) (s : State) → more ≡ [] → kept_with more made kept s ≡ kept_by engine made kept s (turn.Act act.Restart)
+with_none more true None s none = refl
+with_none more true (Some rows) s none = ap (λ (xs : List Change). Some (changed rows (restart_changes rows s ++ xs))) none ∙ ap (λ (xs : List Change). Some (changed rows xs)) (append-nil (restart_changes rows s))
+with_none more false kept s none = refl
+
 -- a turn that asks the keeper for nothing
 
 pub StepsTo-any : (kept : Option (List Row)) (s now : State) (t : Turn) → ((rows : List Row) → now ≡ turn_step rows s t) → StepsTo engine kept s t now
@@ -316,3 +329,24 @@ kept_unchanged false kept s t none = refl
 -- the jobs are as they were
 pub IsState-room : (s : State) (jobs : List Unended) → IsState s → jobs ≡ s.jobs → IsState (record s { jobs = jobs })
 IsState-room s jobs is same = subst (λ (xs : List Unended). IsState (record s { jobs = xs })) (sym same) is
+
+-- ---- several orchestrators
+
+-- whichever of them claims to be active
+pub IsState-claims : (s : State) (claims : ClaimState) (holder : Option ℕ) → IsState s → IsState (record s { claims = claims; last_holder = holder })
+IsState-claims s claims holder is = record {
+  names = is.names;
+  settings = is.settings;
+  slots = is.slots;
+  observed = is.observed;
+  sources = is.sources;
+  jobs = is.jobs;
+  rising = is.rising;
+  audit = is.audit;
+  entries = is.entries;
+  next = is.next;
+  begun = is.begun;
+  moment = is.moment;
+  block = is.block;
+  blocks = is.blocks;
+}

@@ -1,5 +1,5 @@
 -- The state after each turn.
-use Rattle.std.specs.Prelude.{ℕ, List, [], ◌∷◌, slice_set, Some, None, is_some, if◌then◌else◌}
+use Rattle.std.specs.Prelude.{ℕ, List, [], ◌∷◌, slice_set, Option, Some, None, is_some, if◌then◌else◌}
 use Rattle.orch_base.specs.declared.server.ServerNo.{ServerNo}
 use Rattle.orch_base.specs.Memory.{next_count}
 use Rattle.kept_rows.specs.declared.row.Row.{Row}
@@ -14,6 +14,7 @@ use Rattle.turns.specs.declared.turn.Turn.{Turn}
 use Rattle.turns.specs.declared.turn.Turn.TheVariants as turn
 use Rattle.orch_core.specs.Closings.{closed_by, closing_of}
 use Rattle.orch_core.specs.Jobs.{turned_at}
+use Rattle.orch_core.specs.Nodes.{act_in, with_claims}
 use Rattle.orch_core.specs.Polls.{command_outcome, empty_slots, reading, scan_outcome, slot_at}
 use Rattle.orch_core.specs.Restarts.{interrupted_at, reloaded_audit, reloaded_book, reloaded_moment}
 use Rattle.orch_core.specs.Settling.{settled}
@@ -70,11 +71,15 @@ after_act rows s (act.Job job) = after_job s job
 after_act rows s act.Scan = settled s (scan_outcome s)
 after_act rows s act.Restart = after_restart rows s
 
--- after a turn; an orchestrator that remembers no claim does nothing as one of several
+abbrev pub after_done : List Row → State → Option Act → State
+after_done rows s None = s
+after_done rows s (Some a) = after_act rows s a
+
+-- after a turn
 abbrev pub step : List Row → State → Turn → State
 step rows s (turn.Step x) = after_step s x
 step rows s (turn.Tick seconds) = after_tick s seconds
 step rows s (turn.Act a) = after_act rows s a
-step rows s (turn.As node a) = after_act rows s a
-step rows s (turn.Claim node) = s
-step rows s (turn.Release node) = s
+step rows s (turn.As node a) = with_claims s (turn.As node a) (after_done rows s (act_in s (turn.As node a)))
+step rows s (turn.Claim node) = with_claims s (turn.Claim node) (after_done rows s (act_in s (turn.Claim node)))
+step rows s (turn.Release node) = with_claims s (turn.Release node) s

@@ -13,6 +13,8 @@ state_of a = record {
   jobs = a.knowledge.jobs.items;
   last_job = a.knowledge.last_job;
   configuration = a.configuration;
+  claims = a.claims;
+  last_holder = a.last_holder;
 }
 
 abbrev pub IsStateInside : Inside → Type 0

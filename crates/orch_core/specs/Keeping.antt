@@ -1,5 +1,5 @@
 -- What a run does with its keeper.
-use Rattle.std.specs.Prelude.{◌≡◌, ◌≢◌, ◌≤◌, ◌<◌, ◌⊎◌, ℕ, Bool, true, false, List, [], length, take, slice_get, Option, Some, None, Result, Err, OnOk, if◌then◌else◌}
+use Rattle.std.specs.Prelude.{◌≡◌, ◌≢◌, ◌≤◌, ◌<◌, ◌⊎◌, ℕ, Bool, true, List, [], ◌++◌, length, take, slice_get, Option, Some, None, Result, Err, OnOk, if◌then◌else◌}
 use Rattle.std.specs.Option.{option_map}
 use Rattle.orch_base.specs.Memory.{next_count}
 use Rattle.kept_rows.specs.declared.row.Row.{Row}
@@ -7,10 +7,12 @@ use Rattle.kept_rows.specs.declared.row.Change.{Change}
 use Rattle.kept_rows.specs.Rows.{changed}
 use Rattle.orch_core.specs.declared.fault.TurnFault.{TurnFault}
 use Rattle.orch_core.specs.declared.fault.TurnFault.TheVariants as fault
-use Rattle.turns.specs.declared.turn.Act.{Act}
-use Rattle.turns.specs.declared.turn.Act.TheVariants as act
 use Rattle.turns.specs.declared.turn.Turn.{Turn}
 use Rattle.turns.specs.declared.turn.Turn.TheVariants as turn
+use Rattle.orch_core.specs.After.{after_done}
+use Rattle.orch_core.specs.Nodes.{act_in}
+use Rattle.orch_core.specs.Restarts.{restart_changes}
+use Rattle.orch_core.specs.States.{State}
 use Rattle.orch_core.specs.Runs.{Machine, LeadsTo, kept_after}
 
 -- a turn leads from one state to another: by the kept rows, where the keeper tells them, and by some rows where it
@@ -27,26 +29,9 @@ kept_if made kept changes = if made then option_map (λ rows. changed rows chang
 abbrev pub kept_by : {A : Type 0} → Machine A → Bool → Option (List Row) → A → Turn → Option (List Row)
 kept_by m made kept s t = if made then option_map (λ rows. changed rows (m.changes rows s t)) kept else kept
 
--- a restart asks the keeper for its rows
-abbrev pub act_asks : Act → Bool
-act_asks (act.PollRead p n) = false
-act_asks (act.PollStore p) = false
-act_asks (act.Command c) = false
-act_asks (act.Job job) = false
-act_asks act.Scan = false
-act_asks act.Restart = true
-
-abbrev pub asks : Turn → Bool
-asks (turn.Step x) = false
-asks (turn.Tick seconds) = false
-asks (turn.Act a) = act_asks a
-asks (turn.As node a) = act_asks a
-asks (turn.Claim node) = false
-asks (turn.Release node) = false
-
 -- a turn that calls the keeper: it asks for the rows, or changes one
 abbrev pub Calls : {A : Type 0} → Machine A → A → Turn → Type 0
-Calls m s t = (asks t ≡ true) ⊎ ((rows : List Row) × (m.changes rows s t ≢ []))
+Calls m s t = (m.asks s t ≡ true) ⊎ ((rows : List Row) × (m.changes rows s t ≢ []))
 
 -- the turns led from one state, and the kept rows beside it, to another
 pub record Ran {A : Type 0} (m : Machine A) (kept : Option (List Row)) (s : A) (ts : List Turn) (kept' : Option (List Row)) (now : A) : Type 0 where
@@ -59,6 +44,16 @@ pub record WasCutOff {A : Type 0} (m : Machine A) (kept : Option (List Row)) (s 
   pub within : k < length ts
   pub ran : Ran m kept s (take k ts) kept' now
   pub calls : why ≡ fault.Keeper → (t : Turn) → slice_get ts k ≡ Some t → Calls m now t
+
+-- the state after a claim's rows are kept, before it is held: where the claim passes to another node, orchestrator
+-- started again
+abbrev pub ClaimPasses : Option (List Row) → State → ℕ → State → Type 0
+ClaimPasses None s node now = (rows : List Row) × (now ≡ after_done rows s (act_in s (turn.Claim node)))
+ClaimPasses (Some rows) s node now = now ≡ after_done rows s (act_in s (turn.Claim node))
+
+-- the kept rows after orchestrator started again, with these changes behind its own
+abbrev pub kept_with : List Change → Bool → Option (List Row) → State → Option (List Row)
+kept_with more made kept s = if made then option_map (λ rows. changed rows (restart_changes rows s ++ more)) kept else kept
 
 -- at Keeper the count rose once, in the call that failed, and elsewhere it didn't; it never falls
 pub record HasTurnCause {A : Type 0} (before now : ℕ) (result : Result A TurnFault) : Type 0 where

@@ -1,6 +1,7 @@
 pub mod Faults
 pub mod States
 pub mod Jobs
+pub mod Nodes
 pub mod Restarts
 pub mod Readings
 pub mod Beginnings
@@ -22,6 +23,7 @@ pub mod Rounds
 pub mod Scenarios
 pub mod Permission
 pub mod EngineBy
+pub mod Due
 pub mod OrchBy
 pub mod Closings
 pub mod Settling

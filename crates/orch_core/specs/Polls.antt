@@ -12,6 +12,7 @@ use Rattle.orch_core.specs.Closings.{closing_changes, closing_of}
 use Rattle.orch_core.specs.Commands.{Outcome, outcome_of, scan_by}
 use Rattle.jobs_in_flight.specs.Jobs.{job_observation}
 use Rattle.orch_core.specs.Jobs.{turned_at}
+use Rattle.orch_core.specs.Nodes.{act_in, claim_changes, release_changes}
 use Rattle.orch_core.specs.Readings.{reading_by}
 use Rattle.orch_core.specs.Restarts.{restart_changes}
 use Rattle.orch_core.specs.declared.command.Numbers.{Numbers}
@@ -61,11 +62,15 @@ act_changes rows s (act.Job job) = job_changes s job
 act_changes rows s act.Scan = (scan_outcome s).rows
 act_changes rows s act.Restart = restart_changes rows s
 
--- those of a turn
+abbrev pub done_changes : List Row → State → Option Act → List Change
+done_changes rows s None = []
+done_changes rows s (Some a) = act_changes rows s a
+
+-- those of a turn: of a claim that passes to another node with those of the restart that it brings
 abbrev pub changes_of : List Row → State → Turn → List Change
 changes_of rows s (turn.Step x) = []
 changes_of rows s (turn.Tick seconds) = []
 changes_of rows s (turn.Act a) = act_changes rows s a
-changes_of rows s (turn.As node a) = act_changes rows s a
-changes_of rows s (turn.Claim node) = []
-changes_of rows s (turn.Release node) = []
+changes_of rows s (turn.As node a) = done_changes rows s (act_in s (turn.As node a))
+changes_of rows s (turn.Claim node) = done_changes rows s (act_in s (turn.Claim node)) ++ claim_changes s node
+changes_of rows s (turn.Release node) = release_changes s node

@@ -17,6 +17,12 @@ use Rattle.turns.specs.declared.turn.Turn.TheVariants as turn
 use Rattle.turns.specs.declared.reply.Reply.{Reply}
 use Rattle.turns.specs.declared.reply.Reply.TheVariants as answered
 use Rattle.orch_core.specs.declared.engine.Replies.{Replies}
+use Rattle.node_claims.specs.Claims.{release_answer}
+use Rattle.node_claims.specs.declared.claims.ClaimAnswer.{ClaimAnswer}
+use Rattle.node_claims.specs.declared.claims.ClaimAnswer.TheVariants as claim
+use Rattle.node_claims.specs.declared.claims.ReleaseAnswer.{ReleaseAnswer}
+use Rattle.node_claims.specs.declared.claims.ReleaseAnswer.TheVariants as release
+use Rattle.orch_core.specs.Nodes.{act_in, claimed}
 use Rattle.orch_core.specs.States.{State}
 use Rattle.orch_core.specs.Polls.{command_outcome, reading, scan_outcome, slot_at}
 use Rattle.jobs_in_flight.specs.Jobs.{job_reply}
@@ -62,11 +68,24 @@ act_reply s (act.Job job) = job_reply (turned_at s job)
 act_reply s act.Scan = (scan_outcome s).reply
 act_reply s act.Restart = answered.Done
 
--- what a turn answers; an orchestrator that remembers no claim answers that it lapsed
+-- what one of several answers that is to do something; one that doesn't remember that it is active lapsed
+abbrev pub done_reply : State → Option Act → Reply
+done_reply s None = answered.Lapsed
+done_reply s (Some a) = act_reply s a
+
+abbrev pub claim_reply : ClaimAnswer → Reply
+claim_reply (claim.Taken node until) = answered.Taken node until
+claim_reply (claim.Held until) = answered.Held until
+
+abbrev pub release_reply : ReleaseAnswer → Reply
+release_reply release.NotHeld = answered.NotHeld
+release_reply release.Released = answered.Released
+
+-- what a turn answers
 abbrev pub reply_of : State → Turn → Reply
 reply_of s (turn.Step x) = step_reply s.world x
 reply_of s (turn.Tick seconds) = answered.Now (record { 0 = later s.moment seconds })
 reply_of s (turn.Act a) = act_reply s a
-reply_of s (turn.As node a) = act_reply s a
-reply_of s (turn.Claim node) = answered.Lapsed
-reply_of s (turn.Release node) = answered.Lapsed
+reply_of s (turn.As node a) = done_reply s (act_in s (turn.As node a))
+reply_of s (turn.Claim node) = claim_reply (claimed s node)
+reply_of s (turn.Release node) = release_reply (release_answer s.claims node)

@@ -1,12 +1,15 @@
 -- Runs: states, one turn after another.
-use Rattle.std.specs.Prelude.{◌≡◌, List, [], ◌∷◌, ◌++◌, fold, map, Option, Some, None}
+use Rattle.std.specs.Prelude.{◌≡◌, Bool, false, true, List, [], ◌∷◌, ◌++◌, fold, map, Option, Some, None}
 use Rattle.std.specs.Option.{option_map}
 use Rattle.kept_rows.specs.declared.row.Row.{Row}
 use Rattle.kept_rows.specs.declared.row.Change.{Change}
 use Rattle.kept_rows.specs.Rows.{changed}
 use Rattle.turns.specs.declared.reply.Reply.{Reply}
+use Rattle.turns.specs.declared.turn.Act.{Act}
+use Rattle.turns.specs.declared.turn.Act.TheVariants as act
 use Rattle.turns.specs.declared.turn.Turn.{Turn}
 use Rattle.orch_core.specs.After.{step}
+use Rattle.orch_core.specs.Nodes.{act_in}
 use Rattle.orch_core.specs.States.{State}
 use Rattle.orch_core.specs.Polls.{changes_of}
 use Rattle.orch_core.specs.Replies.{reply_of}
@@ -16,23 +19,41 @@ pub record Recorded : Type 0 where
   pub state : State
   pub journal : List (Turn × Reply)
 
+-- a restart asks the keeper for its rows
+abbrev pub act_asks : Act → Bool
+act_asks (act.PollRead p n) = false
+act_asks (act.PollStore p) = false
+act_asks (act.Command c) = false
+act_asks (act.Job job) = false
+act_asks act.Scan = false
+act_asks act.Restart = true
+
+abbrev pub done_asks : Option Act → Bool
+done_asks None = false
+done_asks (Some a) = act_asks a
+
+-- and so does each turn in which orchestrator starts again
+abbrev pub asks : State → Turn → Bool
+asks s t = done_asks (act_in s t)
+
 -- a turn joins the journal with its reply
 abbrev pub record_turn : List Row → Recorded → Turn → Recorded
 record_turn rows r t = record { state = step rows r.state t; journal = r.journal ++ (t, reply_of r.state t) ∷ [] }
 
 -- what a turn makes of one kind of state, and the changes of the kept rows that it makes, by the rows that the keeper
--- has
+-- has; and whether it asks for these
 pub record Machine (A : Type 0) : Type 0 where
   pub next : List Row → A → Turn → A
   pub changes : List Row → A → Turn → List Change
+  pub asks : A → Turn → Bool
 
 -- without a journal
 abbrev pub engine : Machine State
-engine = record { next = step; changes = changes_of }
+engine = record { next = step; changes = changes_of; asks = asks }
 
 -- and with one
 abbrev pub recorder : Machine Recorded
-recorder = record { next = record_turn; changes = λ rows r t. changes_of rows r.state t }
+recorder = record { next = record_turn; changes = λ rows r t. changes_of rows r.state t; asks = λ r t. asks r.state t }
 
 -- the state after turns, each with the rows that the keeper has then
 abbrev pub run_turns : {A : Type 0} → Machine A → A → List (List Row × Turn) → A

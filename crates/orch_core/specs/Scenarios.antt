@@ -15,6 +15,8 @@ use Rattle.server_model.specs.Worlds.{World}
 use Rattle.scenarios.specs.declared.scenario.Scenario.{Scenario}
 use Rattle.scenarios.specs.Scenarios.{flushes_of, period_of, room_of, settings_of}
 use Rattle.orch_core.specs.declared.configuration.Configuration.{Configuration}
+use Rattle.node_claims.specs.Claims.{made}
+use Rattle.orch_core.specs.Nodes.{holder_of, kept_claim}
 use Rattle.orch_core.specs.Polls.{empty_slots}
 use Rattle.orch_core.specs.Runs.{Recorded}
 use Rattle.orch_core.specs.States.{State}
@@ -49,8 +51,13 @@ start_changes s rows = opening_changes (start_world s) (start_moment s rows) (lo
 abbrev pub configuration_of : ℕ → Scenario → Configuration
 configuration_of wait s = record { wait = wait; every = s.pseudo; block = s.block; blocks = s.blocks; master = s.filters.master.passes; intermediate = s.filters.intermediate.passes; hooks = s.hooks; aliases = s.aliases }
 
+-- the claim of the rows that count
+abbrev pub start_claim : Scenario → List Row → Option (ℕ × Moment)
+start_claim s rows = kept_claim (start_rows s rows)
+
 -- the state with which the scenario's run begins, by the rows of its keeper: an instance that the opening puts brings
--- the bridge that it shows where it is valid, and a kept row brings none
+-- the bridge that it shows where it is valid, and a kept row brings none; no
+-- node remembers a claim
 abbrev pub start : Scenario → ℕ → List Row → State
 start s wait rows = record {
   world = start_world s;
@@ -62,6 +69,8 @@ start s wait rows = record {
   jobs = [];
   last_job = 0;
   configuration = configuration_of wait s;
+  claims = made s.nodes (start_claim s rows);
+  last_holder = holder_of (start_claim s rows);
 }
 
 -- with no turn yet

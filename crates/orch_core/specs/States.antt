@@ -8,14 +8,15 @@ use Rattle.unended_jobs.specs.declared.unended.Unended.{Unended}
 use Rattle.unended_jobs.specs.declared.unended.Unended.TheVariants as unended
 use Rattle.unended_jobs.specs.Unended.{IsUnended}
 use Rattle.jobs_in_flight.specs.Jobs.{Rise}
+use Rattle.node_claims.specs.Claims.{ClaimState}
 use Rattle.orch_core.specs.declared.configuration.Configuration.{Configuration}
 use Rattle.server_model.specs.declared.server.Server.{Server}
 use Rattle.server_model.specs.Worlds.{World}
 use Rattle.scenarios.specs.Turns.{pollers}
 
 -- the servers, the moment, what orchestrator knows, the recoveries that were begun, the pollers' slots, the greatest
--- read number so far, the unended jobs by rising number, the number of the last job that was begun, and what holds
--- throughout the run
+-- read number so far, the unended jobs by rising number, the number of the last job that was begun, what holds
+-- throughout the run, which of the orchestrators claims to be the active one, and which got a claim last
 pub record State : Type 0 where
   pub world : World
   pub moment : ℕ
@@ -26,6 +27,12 @@ pub record State : Type 0 where
   pub jobs : List Unended
   pub last_job : ℕ
   pub configuration : Configuration
+  pub claims : ClaimState
+  pub last_holder : Option ℕ
+
+-- so many orchestrators
+abbrev pub nodes_of : State → ℕ
+nodes_of s = length s.claims.remembered
 
 -- the server's source, if it has one, is one of so many servers
 abbrev pub HasKnownSource : ℕ → Server → Type 0

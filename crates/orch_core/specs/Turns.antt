@@ -1,5 +1,5 @@
 -- Turns: the exchanges that each makes.
-use Rattle.std.specs.Prelude.{ℕ, ◌+◌, ◌^◌, List, [], ◌∷◌, min}
+use Rattle.std.specs.Prelude.{ℕ, ◌+◌, ◌^◌, List, [], ◌∷◌, min, Option, Some, None}
 use Rattle.server_words.specs.declared.changes.Event.TheVariants as event
 use Rattle.server_model.specs.Run.{Exchange, Write, Fetch, Apply, Befall, Rotate, Purge}
 use Rattle.turns.specs.declared.turn.Act.{Act}
@@ -10,6 +10,7 @@ use Rattle.turns.specs.declared.turn.Turn.{Turn}
 use Rattle.turns.specs.declared.turn.Turn.TheVariants as turn
 use Rattle.jobs_in_flight.specs.Jobs.{job_exchanges}
 use Rattle.orch_core.specs.Jobs.{turned_at}
+use Rattle.orch_core.specs.Nodes.{act_in}
 use Rattle.orch_core.specs.States.{State}
 
 -- what befalls a server is one exchange
@@ -33,13 +34,17 @@ act_exchanges s (act.Job job) = job_exchanges (turned_at s job)
 act_exchanges s act.Scan = []
 act_exchanges s act.Restart = []
 
+abbrev pub done_exchanges : State → Option Act → List Exchange
+done_exchanges s None = []
+done_exchanges s (Some a) = act_exchanges s a
+
 -- the exchanges that a turn makes in a state, in order
 abbrev pub exchanges_at : State → Turn → List Exchange
 exchanges_at s (turn.Step x) = exchange_of x ∷ []
 exchanges_at s (turn.Tick seconds) = []
 exchanges_at s (turn.Act a) = act_exchanges s a
-exchanges_at s (turn.As node a) = act_exchanges s a
-exchanges_at s (turn.Claim node) = []
+exchanges_at s (turn.As node a) = done_exchanges s (act_in s (turn.As node a))
+exchanges_at s (turn.Claim node) = done_exchanges s (act_in s (turn.Claim node))
 exchanges_at s (turn.Release node) = []
 
 -- so many seconds later; the moment stands still at 2^63

@@ -2,18 +2,23 @@
 //! journal.
 
 ghost use Rattle.std.specs.Prelude.{◌≡◌, ◌≢◌, ◌<◌, ◌≤◌, ◌^◌, [], ◌∷◌, All, Some, None, IfOk, IfErr, OnOk, OnErr, Err, true, false, if◌then◌else◌, is_ok, length, slice_get};
-ghost use Rattle.scenarios.specs.Turns.{pollers, IsAct, IsCommand, IsStep, IsTurn};
+ghost use Rattle.scenarios.specs.Turns.{pollers, IsAct, IsCommand, IsStep, IsTurn, NamesOneOf};
 ghost use Rattle.turns.specs.Plain.{is_plain};
 ghost use Rattle.jobs_in_flight.specs.Jobs.{Rise, is_open, job_at};
 ghost use Rattle.orch_core.specs.Polls.{act_changes, changes_of, command_outcome, job_changes, numbers_of, scan_outcome};
 ghost use Rattle.orch_core.specs.Replies.{act_reply, reply_of, step_reply, AreReply};
-ghost use Rattle.orch_core.specs.Runs.{engine};
-ghost use Rattle.orch_core.specs.Keeping.{StepsTo, kept_by, kept_if, act_asks, asks, Calls, HasTurnCause};
+ghost use Rattle.orch_core.specs.Runs.{act_asks, asks, engine};
+ghost use Rattle.orch_core.specs.Keeping.{ClaimPasses, StepsTo, kept_by, kept_if, kept_with, Calls, HasTurnCause};
+ghost use Rattle.orch_core.specs.Nodes.{claim_changes_by, claimed};
+ghost use Rattle.node_claims.specs.Claims.{IsNode, release_answer};
 ghost use Rattle.orch_core.specs.Knowing.{LeavesIds};
 ghost use Rattle.orch_core.specs.CommandsBy.{outcome as outcome_in};
 ghost use Rattle.orch_core.specs.Settling.{CanSettle, settled};
-ghost use Rattle.orch_core.specs.States.{IsState};
+ghost use Rattle.orch_core.specs.States.{IsState, nodes_of};
 
+use crate::claiming::{
+    claim_reply, held_changes, holder_of, kept_claim, passes_to, release_changes, release_reply,
+};
 use crate::closing::{close_entry, closing_of, keep_turn};
 use crate::command::{Numbers, Outcome, outcome_of};
 use crate::exchanging::{exchange, later, read_reply, read_server};
@@ -23,8 +28,9 @@ use crate::opening::{complete, configure, copy_names, copy_settings, empty_slots
 use crate::recovering::scan_by;
 use crate::{Act, BoxedCommand, Configuration, Reply, Scenario, Step, Turn, TurnFault};
 use audit_log::Audit;
-use instance_keeper::{Book, Keeper, Observation};
+use instance_keeper::{Book, Change, Keeper, Observation};
 use jobs_in_flight::{FoundJob, find, others_over, take_turn};
+use node_claims::{ClaimAnswer, Claims};
 use opening_book::{
     GREATEST_ID, beyond_instances, counted, counted_in_order, last_id, last_read, latest_moment,
     latest_recovery, loaded_audit, loaded_book, loading,
@@ -45,6 +51,8 @@ pub struct Engine {
     slots: Vec<Option<Observation>>,
     reads: u64,
     configuration: Configuration,
+    claims: Claims,
+    last_holder: Option<u32>,
 }
 
 impl Model for Engine {
@@ -106,6 +114,7 @@ impl Engine {
         ensures plain { is_plain result ≡ true }
         ensures ok { self.new ≡ after_step self.old x }
         ensures servers { length self.new.world.servers ≡ length self.old.world.servers }
+        ensures nodes { nodes_of self.new ≡ nodes_of self.old }
     {
         exchange(&mut self.world, x)
     }
@@ -177,6 +186,27 @@ impl Engine {
             self.old (Turn.Act Act.Restart) }
         ensures cause { HasTurnCause (K.faults keeper.old) (K.faults keeper.new) result }
         ensures servers { length self.new.world.servers ≡ length self.old.world.servers }
+        ensures nodes { nodes_of self.new ≡ nodes_of self.old }
+    {
+        self.start_again(alloc, keeper, Vec::new(alloc))?;
+        Ok(Reply::Done)
+    }
+
+    // Orchestrator starts again; these changes are kept with its own, behind them.
+    fn start_again<K: Keeper>(
+        &mut self,
+        alloc: Global,
+        keeper: &mut K,
+        mut more: Vec<Change>,
+    ) -> Result<(), TurnFault>
+        ensures ok { OnOk result (StepsTo engine
+            (K.kept keeper.old) self.old (Turn.Act Act.Restart) self.new) }
+        ensures err { OnErr result (self.new ≡ self.old) }
+        ensures kept { K.kept keeper.new ≡ kept_with more.items (is_ok result)
+            (K.kept keeper.old) self.old }
+        ensures cause { HasTurnCause (K.faults keeper.old) (K.faults keeper.new) result }
+        ensures servers { length self.new.world.servers ≡ length self.old.world.servers }
+        ensures nodes { nodes_of self.new ≡ nodes_of self.old }
     {
         let next = self.knowledge.audit.next();
         let given = given_rows(alloc, keeper, self.knowledge.book.names())?;
@@ -184,7 +214,8 @@ impl Engine {
         let others = beyond_instances(&rows);
         let mut audit = loaded_audit(alloc, &self.configuration, others, next)?;
         let moment = latest_recovery(self.moment, audit.recoveries());
-        let changes = loading(alloc, &self.configuration, others, &audit, moment)?;
+        let mut changes = loading(alloc, &self.configuration, others, &audit, moment)?;
+        changes.append(&mut more)?;
         keep_some(alloc, keeper, self.knowledge.book.names(), &changes)?;
         audit.close(moment);
         self.knowledge.book.reload(rows);
@@ -192,7 +223,7 @@ impl Engine {
         self.moment = moment;
         empty_slots(&mut self.slots);
         self.knowledge.jobs.clear();
-        Ok(Reply::Done)
+        Ok(())
     }
 
     fn numbers(&self) -> Numbers
@@ -225,6 +256,7 @@ impl Engine {
         ensures idle { job_changes self.old id ≡ [] → keeper.new ≡ keeper.old }
         ensures calls { result ≡ Err TurnFault.Keeper → job_changes self.old id ≢ [] }
         ensures servers { length self.new.world.servers ≡ length self.old.world.servers }
+        ensures nodes { nodes_of self.new ≡ nodes_of self.old }
     {
         match find(&self.knowledge.jobs, id) {
             None => Ok(plain(Reply::NoJob, written)),
@@ -252,6 +284,7 @@ impl Engine {
         ensures calls { result ≡ Err TurnFault.Keeper
             → job_changes self.old found.id ≢ [] }
         ensures servers { length self.new.world.servers ≡ length self.old.world.servers }
+        ensures nodes { nodes_of self.new ≡ nodes_of self.old }
     {
         let read = self.reads.saturating_add(1);
         let job = &self.knowledge.jobs[found.at];
@@ -335,6 +368,7 @@ impl Engine {
         ensures idle { (scan_outcome self.old).rows ≡ [] → keeper.new ≡ keeper.old }
         ensures calls { result ≡ Err TurnFault.Keeper → (scan_outcome self.old).rows ≢ [] }
         ensures servers { length self.new.world.servers ≡ length self.old.world.servers }
+        ensures nodes { nodes_of self.new ≡ nodes_of self.old }
     {
         // shows the proof what holds of the book
         let _ = self.knowledge.book.servers();
@@ -407,6 +441,7 @@ impl Engine {
         ensures kept { K.kept keeper.new ≡ kept_at_start (is_ok result) (K.kept keeper.old) s.now }
         ensures cause { HasTurnCause (K.faults keeper.old) (K.faults keeper.new) result }
         ensures servers { IfOk result (λ e. length e.world.servers ≡ length s.now.opening.servers) }
+        ensures nodes { IfOk result (λ e. nodes_of e ≡ s.now.nodes) }
     {
         let world = World::make(alloc, &s.opening, s.room(), s.flushes())?;
         let settings = copy_settings(alloc, s.opening.servers())?;
@@ -419,6 +454,8 @@ impl Engine {
         let moment = latest_moment(s.moment, &rows);
         let mut audit = loaded_audit(alloc, &configuration, &rows, next)?;
         let recoveries = loading(alloc, &configuration, &rows, &audit, moment)?;
+        let kept = kept_claim(&rows);
+        let claims = Claims::make(alloc, s.nodes, kept)?;
         let book = loaded_book(alloc, &settings, &rows)?;
         let book = complete(alloc, keeper, &world, moment, book, s, recoveries)?;
         audit.close(moment);
@@ -435,6 +472,8 @@ impl Engine {
             slots,
             reads: last_read(&rows),
             configuration,
+            claims,
+            last_holder: holder_of(kept),
         })
     }
 
@@ -459,6 +498,7 @@ impl Engine {
             → keeper.new ≡ keeper.old }
         ensures calls { result ≡ Err TurnFault.Keeper → Calls engine self.old (Turn.Act act.now) }
         ensures servers { length self.new.world.servers ≡ length self.old.world.servers }
+        ensures nodes { nodes_of self.new ≡ nodes_of self.old }
     {
         match act {
             Act::PollRead(poller, no) => Ok(plain(self.poll_read(alloc, *poller, *no)?, written)),
@@ -470,6 +510,126 @@ impl Engine {
         }
     }
 
+    // What one of several orchestrators does, where it remembers that it is active; else it forgets its claim.
+    fn act_as<K: Keeper>(
+        &mut self,
+        alloc: Global,
+        keeper: &mut K,
+        node: u32,
+        act: &Act,
+        written: bool,
+    ) -> Result<Replies, TurnFault>
+        requires node { IsNode self.old.claims node }
+        requires act { IsAct (length self.old.world.servers) act.now }
+        ensures reply { IfOk result
+            (λ r. AreReply written (reply_of self.old (Turn.As node act.now)) r) }
+        ensures ok { OnOk result (StepsTo engine
+            (K.kept keeper.old) self.old (Turn.As node act.now) self.new) }
+        ensures err { OnErr result (self.new ≡ self.old) }
+        ensures kept { K.kept keeper.new ≡ kept_by engine (is_ok result)
+            (K.kept keeper.old) self.old (Turn.As node act.now) }
+        ensures cause { HasTurnCause (K.faults keeper.old) (K.faults keeper.new) result }
+        ensures idle { asks self.old (Turn.As node act.now) ≡ false
+            → changes_of [] self.old (Turn.As node act.now) ≡ [] → keeper.new ≡ keeper.old }
+        ensures calls { result ≡ Err TurnFault.Keeper → Calls engine self.old (Turn.As node act.now) }
+        ensures servers { length self.new.world.servers ≡ length self.old.world.servers }
+        ensures nodes { nodes_of self.new ≡ nodes_of self.old }
+    {
+        if !self.claims.may_act(node, self.moment) {
+            return Ok(plain(Reply::Lapsed, written));
+        }
+        self.act(alloc, keeper, act, written)
+    }
+
+    // The node's claim is kept first, and where it passes from another one orchestrator starts again, by the same call.
+    fn claim<K: Keeper>(
+        &mut self,
+        alloc: Global,
+        keeper: &mut K,
+        node: u32,
+    ) -> Result<Reply, TurnFault>
+        requires { IsNode self.old.claims node }
+        ensures reply { IfOk result (λ r. r ≡ reply_of self.old (Turn.Claim node)) }
+        ensures plain { IfOk result (λ r. is_plain r ≡ true) }
+        ensures ok { OnOk result (StepsTo engine
+            (K.kept keeper.old) self.old (Turn.Claim node) self.new) }
+        ensures err { OnErr result (self.new ≡ self.old) }
+        ensures kept { K.kept keeper.new ≡ kept_by engine (is_ok result)
+            (K.kept keeper.old) self.old (Turn.Claim node) }
+        ensures cause { HasTurnCause (K.faults keeper.old) (K.faults keeper.new) result }
+        ensures idle { asks self.old (Turn.Claim node) ≡ false
+            → changes_of [] self.old (Turn.Claim node) ≡ [] → keeper.new ≡ keeper.old }
+        ensures calls { result ≡ Err TurnFault.Keeper → Calls engine self.old (Turn.Claim node) }
+        ensures servers { length self.new.world.servers ≡ length self.old.world.servers }
+        ensures nodes { nodes_of self.new ≡ nodes_of self.old }
+    {
+        let now = self.moment;
+        let answer = self.claims.answer(node, now);
+        let ClaimAnswer::Held(until) = answer else {
+            return Ok(claim_reply(answer));
+        };
+        self.keep_claim(alloc, keeper, node, until)?;
+        self.claims.claim(node, now);
+        self.last_holder = Some(node);
+        Ok(claim_reply(answer))
+    }
+
+    // Keeps a claim that the node holds until this moment, and starts again where it passes from another one.
+    fn keep_claim<K: Keeper>(
+        &mut self,
+        alloc: Global,
+        keeper: &mut K,
+        node: u32,
+        until: Moment,
+    ) -> Result<(), TurnFault>
+        requires { claimed self.old node ≡ ClaimAnswer.Held until }
+        ensures ok { OnOk result (ClaimPasses (K.kept keeper.old) self.old node self.new) }
+        ensures err { OnErr result (self.new ≡ self.old) }
+        ensures kept { K.kept keeper.new ≡ kept_by engine (is_ok result)
+            (K.kept keeper.old) self.old (Turn.Claim node) }
+        ensures cause { HasTurnCause (K.faults keeper.old) (K.faults keeper.new) result }
+        ensures idle { asks self.old (Turn.Claim node) ≡ false
+            → changes_of [] self.old (Turn.Claim node) ≡ [] → keeper.new ≡ keeper.old }
+        ensures calls { result ≡ Err TurnFault.Keeper → Calls engine self.old (Turn.Claim node) }
+        ensures servers { length self.new.world.servers ≡ length self.old.world.servers }
+        ensures nodes { nodes_of self.new ≡ nodes_of self.old }
+        ensures claims { self.new.claims ≡ self.old.claims }
+        ensures holder { self.new.last_holder ≡ self.old.last_holder }
+    {
+        let changes = held_changes(alloc, self.claims.kept(), node, until)?;
+        if passes_to(self.last_holder, node) {
+            return self.start_again(alloc, keeper, changes);
+        }
+        keep_some(alloc, keeper, self.knowledge.book.names(), &changes)
+    }
+
+    // The node's claim is given back: its row is removed first.
+    fn release<K: Keeper>(
+        &mut self,
+        alloc: Global,
+        keeper: &mut K,
+        node: u32,
+    ) -> Result<Reply, TurnFault>
+        requires { IsNode self.old.claims node }
+        ensures reply { IfOk result (λ r. r ≡ reply_of self.old (Turn.Release node)) }
+        ensures plain { IfOk result (λ r. is_plain r ≡ true) }
+        ensures ok { OnOk result (StepsTo engine
+            (K.kept keeper.old) self.old (Turn.Release node) self.new) }
+        ensures err { OnErr result (self.new ≡ self.old) }
+        ensures kept { K.kept keeper.new ≡ kept_by engine (is_ok result)
+            (K.kept keeper.old) self.old (Turn.Release node) }
+        ensures cause { HasTurnCause (K.faults keeper.old) (K.faults keeper.new) result }
+        ensures idle { asks self.old (Turn.Release node) ≡ false
+            → changes_of [] self.old (Turn.Release node) ≡ [] → keeper.new ≡ keeper.old }
+        ensures calls { result ≡ Err TurnFault.Keeper → Calls engine self.old (Turn.Release node) }
+        ensures servers { length self.new.world.servers ≡ length self.old.world.servers }
+        ensures nodes { nodes_of self.new ≡ nodes_of self.old }
+    {
+        let changes = release_changes(alloc, self.claims.kept(), node)?;
+        keep_some(alloc, keeper, self.knowledge.book.names(), &changes)?;
+        Ok(release_reply(self.claims.release(node, self.moment)))
+    }
+
     /// One turn, with its reply once more where it is written.
     pub(crate) fn replies<K: Keeper>(
         &mut self,
@@ -478,46 +638,53 @@ impl Engine {
         t: &Turn,
         written: bool,
     ) -> Result<Replies, TurnFault>
-        requires { IsTurn (length self.old.world.servers) t.now }
+        requires turn { IsTurn (length self.old.world.servers) t.now }
+        requires named { NamesOneOf (nodes_of self.old) t.now }
         ensures reply { IfOk result (λ r. AreReply written (reply_of self.old t.now) r) }
         ensures ok { OnOk result (StepsTo engine (K.kept keeper.old) self.old t.now self.new) }
         ensures err { OnErr result (self.new ≡ self.old) }
         ensures kept { K.kept keeper.new ≡ kept_by engine (is_ok result)
             (K.kept keeper.old) self.old t.now }
         ensures cause { HasTurnCause (K.faults keeper.old) (K.faults keeper.new) result }
-        ensures idle { asks t.now ≡ false → changes_of [] self.old t.now ≡ []
+        ensures idle { asks self.old t.now ≡ false → changes_of [] self.old t.now ≡ []
             → keeper.new ≡ keeper.old }
         ensures calls { result ≡ Err TurnFault.Keeper → Calls engine self.old t.now }
         ensures servers { length self.new.world.servers ≡ length self.old.world.servers }
+        ensures nodes { nodes_of self.new ≡ nodes_of self.old }
     {
         match t {
             Turn::Step(x) => Ok(plain(self.exchange(*x), written)),
             Turn::Tick(seconds) => Ok(plain(self.tick(*seconds), written)),
-            Turn::Act(act) | Turn::As(_, act) => self.act(alloc, keeper, act, written),
-            Turn::Claim(_) | Turn::Release(_) => Ok(plain(Reply::Lapsed, written)),
+            Turn::Act(act) => self.act(alloc, keeper, act, written),
+            Turn::As(node, act) => self.act_as(alloc, keeper, *node, act, written),
+            Turn::Claim(node) => Ok(plain(self.claim(alloc, keeper, *node)?, written)),
+            Turn::Release(node) => Ok(plain(self.release(alloc, keeper, *node)?, written)),
         }
     }
 
     /// One turn. What it changes of the kept rows is kept first, and a refused command changes nothing. Keeper comes
     /// only where the keeper's count of faults rose, at a turn that calls the keeper; after it, and after Memory,
-    /// nothing has changed. The keeper is called only at a restart and where a kept row changes.
+    /// nothing has changed. The keeper is called only where orchestrator starts again and where a
+    /// kept row changes.
     pub fn turn<K: Keeper>(
         &mut self,
         alloc: Global,
         keeper: &mut K,
         t: &Turn,
     ) -> Result<Reply, TurnFault>
-        requires { IsTurn (length self.old.world.servers) t.now }
+        requires turn { IsTurn (length self.old.world.servers) t.now }
+        requires named { NamesOneOf (nodes_of self.old) t.now }
         ensures reply { IfOk result (λ r. r ≡ reply_of self.old t.now) }
         ensures ok { OnOk result (StepsTo engine (K.kept keeper.old) self.old t.now self.new) }
         ensures err { OnErr result (self.new ≡ self.old) }
         ensures kept { K.kept keeper.new ≡ kept_by engine (is_ok result)
             (K.kept keeper.old) self.old t.now }
         ensures cause { HasTurnCause (K.faults keeper.old) (K.faults keeper.new) result }
-        ensures idle { asks t.now ≡ false → changes_of [] self.old t.now ≡ []
+        ensures idle { asks self.old t.now ≡ false → changes_of [] self.old t.now ≡ []
             → keeper.new ≡ keeper.old }
         ensures calls { result ≡ Err TurnFault.Keeper → Calls engine self.old t.now }
         ensures servers { length self.new.world.servers ≡ length self.old.world.servers }
+        ensures nodes { nodes_of self.new ≡ nodes_of self.old }
     {
         let replies = self.replies(alloc, keeper, t, false)?;
         Ok(replies.told)
@@ -532,7 +699,8 @@ impl Engine {
         keeper: &mut K,
         turns: &[Turn],
     ) -> Result<(), TurnFault>
-        requires { All (IsTurn (length self.old.world.servers)) turns.now }
+        requires turns { All (IsTurn (length self.old.world.servers)) turns.now }
+        requires named { All (NamesOneOf (nodes_of self.old)) turns.now }
         ensures ok { OnOk result (Ran engine (K.kept keeper.old) self.old turns.now
             (K.kept keeper.new) self.new) }
         ensures err { IfErr result (λ e.
@@ -540,6 +708,7 @@ impl Engine {
             (K.kept keeper.new) self.new e) }
         ensures cause { HasTurnCause (K.faults keeper.old) (K.faults keeper.new) result }
         ensures servers { length self.new.world.servers ≡ length self.old.world.servers }
+        ensures nodes { nodes_of self.new ≡ nodes_of self.old }
     {
         for t in turns {
             self.turn(alloc, keeper, t)?;
@@ -555,7 +724,8 @@ impl Engine {
         job: u64,
         others: &[Turn],
     ) -> Result<Reply, TurnFault>
-        requires { All (IsTurn (length self.old.world.servers)) others.now }
+        requires turns { All (IsTurn (length self.old.world.servers)) others.now }
+        requires named { All (NamesOneOf (nodes_of self.old)) others.now }
         ensures reply { IfOk result (λ r. r ≡ reply_of self.old (Turn.Act (Act.Job job))) }
         ensures ok { OnOk result (Ran engine (K.kept keeper.old) self.old
             (Turn.Act (Act.Job job) ∷ others.now) (K.kept keeper.new) self.new) }
@@ -564,6 +734,7 @@ impl Engine {
             (K.kept keeper.new) self.new e) }
         ensures cause { HasTurnCause (K.faults keeper.old) (K.faults keeper.new) result }
         ensures servers { length self.new.world.servers ≡ length self.old.world.servers }
+        ensures nodes { nodes_of self.new ≡ nodes_of self.old }
     {
         let reply = self.turn(alloc, keeper, &Turn::Act(Act::Job(job)))?;
         self.run(alloc, keeper, others)?;
@@ -587,6 +758,7 @@ impl Engine {
             (K.kept keeper.new) self.new e) }
         ensures cause { HasTurnCause (K.faults keeper.old) (K.faults keeper.new) result }
         ensures servers { length self.new.world.servers ≡ length self.old.world.servers }
+        ensures nodes { nodes_of self.new ≡ nodes_of self.old }
     {
         let mut told = None;
         if !self.is_open(job) {
@@ -648,6 +820,13 @@ impl Engine {
         ensures { result.now ≡ self.now.book }
     {
         &self.knowledge.book
+    }
+
+    /// Which of several orchestrators claims to be the active one, and what each remembers.
+    pub fn claims(&self) -> &Claims
+        ensures { result.now ≡ self.now.claims }
+    {
+        &self.claims
     }
 
     /// The recoveries that were begun, each at 2^63 at the latest.

@@ -2,6 +2,7 @@
 //! answered.
 #![tactic(auto)]
 
+mod claiming;
 mod closing;
 mod command;
 mod configuration;
@@ -12,6 +13,7 @@ mod keep;
 mod knowledge;
 mod opening;
 mod orch;
+mod polls;
 mod recovering;
 mod telling;
 mod threads;

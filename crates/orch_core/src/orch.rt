@@ -1,22 +1,26 @@
 //! A run with the journal of its turns.
 
-ghost use Rattle.std.specs.Prelude.{◌≡◌, ◌≤◌, ◌^◌, [], All, IfOk, IfErr, OnOk, OnErr, Err, false, is_ok, length};
+ghost use Rattle.std.specs.Prelude.{◌≡◌, ◌<◌, ◌≤◌, ◌^◌, [], All, IfOk, IfErr, OnOk, OnErr, Err, false, is_ok, length, map};
+ghost use Rattle.name_order.specs.NameOrder.{by_name};
 ghost use Rattle.scenarios.specs.Scenarios.{IsScenario};
-ghost use Rattle.scenarios.specs.Turns.{IsTurn};
-ghost use Rattle.jobs_in_flight.specs.Jobs.{Rise, is_open};
+ghost use Rattle.scenarios.specs.Turns.{IsTurn, NamesOneOf};
+ghost use Rattle.node_claims.specs.Claims.{active};
+ghost use Rattle.jobs_in_flight.specs.Jobs.{Rise, is_open, without_job};
+ghost use Rattle.orch_core.specs.Due.{IsDue};
 ghost use Rattle.orch_core.specs.Polls.{changes_of};
 ghost use Rattle.orch_core.specs.Rounds.{Finished, WasCutShort};
-ghost use Rattle.orch_core.specs.States.{IsState};
+ghost use Rattle.orch_core.specs.States.{IsState, nodes_of};
 ghost use Rattle.orch_core.specs.Replies.{reply_of};
-ghost use Rattle.orch_core.specs.Runs.{recorder};
-ghost use Rattle.orch_core.specs.Keeping.{StepsTo, kept_by, asks, Calls, HasTurnCause, Ran, WasCutOff};
+ghost use Rattle.orch_core.specs.Runs.{asks, recorder};
+ghost use Rattle.orch_core.specs.Keeping.{StepsTo, kept_by, Calls, HasTurnCause, Ran, WasCutOff};
 ghost use Rattle.orch_core.specs.Scenarios.{StartsBy, kept_at_start};
 
+use crate::polls::{first_least, make_polls, note_poll};
 use crate::{Engine, Reply, Scenario, Turn, TurnFault};
 use audit_log::Audit;
 use instance_keeper::{Book, Keeper};
 use jobs_in_flight::round_over;
-use orch_base::Moment;
+use orch_base::{Moment, ServerNo};
 use server_model::World;
 use std::alloc::Global;
 use std::marker::Model;
@@ -28,6 +32,8 @@ use unended_jobs::Unended;
 pub struct Orch {
     engine: Engine,
     journal: Vec<(Turn, Reply)>,
+    // for each server the place in the journal, from 1, of its last poll-read turn, or 0
+    polls: Vec<u64>,
 }
 
 impl Model for Orch {
@@ -35,9 +41,11 @@ impl Model for Orch {
 
     ghost Value = { Recorded };
 
-    ghost use Rattle.orch_core.specs.OrchBy.{recorded_of};
+    ghost use Rattle.orch_core.specs.OrchBy.{recorded_of, KeepsPolls};
 
     ghost view = { recorded_of };
+
+    ghost invariant = { KeepsPolls };
 }
 
 impl Orch {
@@ -57,40 +65,46 @@ impl Orch {
         ensures cause { HasTurnCause (K.faults keeper.old) (K.faults keeper.new) result }
         ensures servers { IfOk result
             (λ o. length o.state.world.servers ≡ length s.now.opening.servers) }
+        ensures nodes { IfOk result (λ o. nodes_of o.state ≡ s.now.nodes) }
     {
+        let polls = make_polls(alloc, s.opening.servers().len())?;
         let engine = Engine::make(alloc, s, keeper, wait)?;
         Ok(Orch {
             engine,
             journal: Vec::new(alloc),
+            polls,
         })
     }
 
     /// One turn, which joins the journal with its reply. What it changes of the kept rows is kept first, and a refused
     /// command changes nothing. Keeper comes only where the keeper's count of faults rose, at a turn that calls the
-    /// keeper; after it, and after Memory, nothing has changed. The keeper is called only at a restart and where a kept
-    /// row changes.
+    /// keeper; after it, and after Memory, nothing has changed. The keeper is called only where orchestrator starts
+    /// again and where a kept row changes.
     pub fn turn<K: Keeper>(
         &mut self,
         alloc: Global,
         keeper: &mut K,
         t: Turn,
     ) -> Result<Reply, TurnFault>
-        requires { IsTurn (length self.old.state.world.servers) t }
+        requires turn { IsTurn (length self.old.state.world.servers) t }
+        requires named { NamesOneOf (nodes_of self.old.state) t }
         ensures reply { IfOk result (λ r. r ≡ reply_of self.old.state t) }
         ensures ok { OnOk result (StepsTo recorder (K.kept keeper.old) self.old t self.new) }
         ensures err { OnErr result (self.new ≡ self.old) }
         ensures kept { K.kept keeper.new ≡ kept_by recorder (is_ok result)
             (K.kept keeper.old) self.old t }
         ensures cause { HasTurnCause (K.faults keeper.old) (K.faults keeper.new) result }
-        ensures idle { asks t ≡ false → changes_of [] self.old.state t ≡ []
+        ensures idle { asks self.old.state t ≡ false → changes_of [] self.old.state t ≡ []
             → keeper.new ≡ keeper.old }
         ensures calls { result ≡ Err TurnFault.Keeper → Calls recorder self.old t }
         ensures servers { length self.new.state.world.servers ≡ length
             self.old.state.world.servers }
+        ensures nodes { nodes_of self.new.state ≡ nodes_of self.old.state }
     {
         self.journal.reserve(1)?;
         let replies = self.engine.replies(alloc, keeper, &t, true)?;
         let written = replies.written.unwrap();
+        note_poll(&mut self.polls, self.journal.len() as u64 + 1, &t);
         self.journal.push_reserved((t, written));
         Ok(replies.told)
     }
@@ -103,7 +117,8 @@ impl Orch {
         keeper: &mut K,
         turns: &[Turn],
     ) -> Result<(), TurnFault>
-        requires { All (IsTurn (length self.old.state.world.servers)) turns.now }
+        requires turns { All (IsTurn (length self.old.state.world.servers)) turns.now }
+        requires named { All (NamesOneOf (nodes_of self.old.state)) turns.now }
         ensures ok { OnOk result (Ran recorder (K.kept keeper.old) self.old turns.now
             (K.kept keeper.new) self.new) }
         ensures err { IfErr result (λ e.
@@ -112,6 +127,7 @@ impl Orch {
         ensures cause { HasTurnCause (K.faults keeper.old) (K.faults keeper.new) result }
         ensures servers { length self.new.state.world.servers ≡ length
             self.old.state.world.servers }
+        ensures nodes { nodes_of self.new.state ≡ nodes_of self.old.state }
     {
         for t in turns {
             self.turn(alloc, keeper, t.copy(alloc)?)?;
@@ -119,7 +135,8 @@ impl Orch {
         Ok(())
     }
 
-    /// Rounds until the job has ended, as `Engine::finish`'s; each of their turns joins the journal with its reply.
+    /// Rounds until the job has ended, as `Engine::finish`'s; each of their turns joins the journal with its reply. The
+    /// other jobs stay as they are.
     pub fn finish<K: Keeper>(
         &mut self,
         alloc: Global,
@@ -128,12 +145,15 @@ impl Orch {
     ) -> Result<(), TurnFault>
         ensures ok { OnOk result (Finished recorder (λ r. r.state) (K.kept keeper.old) self.old job
             (K.kept keeper.new) self.new) }
+        ensures others { OnOk result
+            (self.new.state.jobs ≡ without_job self.old.state.jobs job) }
         ensures err { IfErr result (λ e.
             WasCutShort recorder (λ r. r.state) (K.kept keeper.old) self.old job
             (K.kept keeper.new) self.new e) }
         ensures cause { HasTurnCause (K.faults keeper.old) (K.faults keeper.new) result }
         ensures servers { length self.new.state.world.servers ≡ length
             self.old.state.world.servers }
+        ensures nodes { nodes_of self.new.state ≡ nodes_of self.old.state }
     {
         if !self.is_open(job) {
             return Ok(());
@@ -180,12 +200,47 @@ impl Orch {
         &self.journal
     }
 
+    /// The state and the journal apart. It takes no memory.
+    pub fn into_parts(self) -> (Engine, Vec<(Turn, Reply)>)
+        ensures state { result.0 ≡ self.state }
+        ensures journal { result.1.items ≡ self.journal }
+    {
+        (self.engine, self.journal)
+    }
+
+    /// The servers' numbers in name order, of which there is at least one.
+    pub fn order(&self) -> &[ServerNo]
+        ensures order { result.now ≡ by_name self.now.state.book.names }
+        ensures within { All (λ n. n.0 < length self.now.state.world.servers) result.now }
+        ensures some { 0 < length result.now }
+    {
+        // shows the proof what holds of the state
+        self.shows_state();
+        self.engine.book().order()
+    }
+
+    /// The server with the least number among those that had no poll-read turn yet; where each had one, the server
+    /// whose last poll-read turn is the earliest. It takes no memory.
+    pub fn due(&self) -> ServerNo
+        ensures { IsDue (length self.now.state.world.servers)
+            (map (λ e. e.0) self.now.journal) result.0 }
+    {
+        ServerNo(first_least(&self.polls) as u32)
+    }
+
     /// The moment that it is now: at most 2^63.
     pub fn now(&self) -> Moment
         ensures value { result.0 ≡ self.now.state.moment }
         ensures within { result.0 ≤ 2 ^ 63 }
     {
         self.engine.now()
+    }
+
+    /// The active one of several orchestrators: who remembers that its claim lasts; there is no other.
+    pub fn active(&self) -> Option<u32>
+        ensures { result ≡ active self.now.state.claims self.now.state.moment }
+    {
+        self.engine.claims().active(self.engine.now())
     }
 
     /// The servers as they are now.

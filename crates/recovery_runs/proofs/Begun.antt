@@ -1,6 +1,6 @@
 -- What a turn begins is plans, and recoveries as they begin, which name no replica twice.
-use Rattle.std.proofs.Common.{◌≡◌, ℕ, ◌+◌, ◌<◌, true, List, [], ◌∷◌, length, map, ◌∙◌, ◌⊎◌, inl, inr, ap, refl, sym, subst, Option, Some, None, Result, Ok, Err, arith}
-use Rattle.std.specs.Prelude.{All, slice_get, get_or, ◌≤◌}
+use Rattle.std.proofs.Common.{◌≡◌, ℕ, ◌+◌, ◌<◌, true, List, [], ◌∷◌, length, map, refl, subst, Option, Some, None, Result, Ok, Err, ◌∙◌, ◌⊎◌, inl, inr, ap, arith}
+use Rattle.std.specs.Prelude.{All, IfSome, slice_get, get_or, ◌≤◌}
 use Rattle.std.specs.Option.{option_map}
 use Rattle.std.proofs.lemmas.Bool.{ltb-true}
 use Rattle.std.proofs.lemmas.List.Elements.{All-cons, All-contains, All-head, All-nil, All-tail}
@@ -38,7 +38,7 @@ use Rattle.audit_log.specs.Audits.{begun as begun_audit}
 use Rattle.book_commands.specs.declared.decided.Decided.{Decided}
 use Rattle.book_commands.specs.Decisions.{decided_of}
 use Rattle.recovery_permits.specs.declared.attempt.Attempt.{Attempt}
-use Rattle.recovery_permits.specs.Recoveries.{recovery_purpose, recovery_refusal, refusal_by as recovery_refusal_by}
+use Rattle.recovery_permits.specs.Recoveries.{recovery_refusal, refusal_by as recovery_refusal_by}
 use Rattle.recovery_permits.specs.Takeovers.{takeover_refusal}
 use Rattle.recovery_core.specs.Begun.{BeginInTurn, IsFresh}
 use Rattle.recovery_core.specs.Tries.{Begins as RecoveryBegins, recovery_begins, recovery_try, takeover_begins, takeover_try}
@@ -67,8 +67,10 @@ use Rattle.run_laws.specs.Entries.{attempt_in, scan_in}
 use Rattle.run_laws.specs.Ready.{AreShort, Ready}
 use Rattle.run_laws.proofs.Periods.{short-by}
 use Rattle.run_laws.proofs.ReadyOutcomes.{within-book}
-use Rattle.recovery_runs.specs.Begun.{AreHooksOf, BeginsOnce, HasHooks, TellsAll, jobs_begun, jobs_of, jobs_in_act}
+use Rattle.recovery_runs.specs.Begun.{BeginsOnce, TellsAll, jobs_begun, jobs_of, jobs_in_act, jobs_done, AreHooksOf, HasHooks}
 use Rattle.recovery_runs.proofs.Tellings.{listed, tells-own}
+use Rattle.orch_core.specs.Nodes.{act_in}
+use Rattle.orch_core.proofs.Claims.{act-fits}
 
 -- what an outcome begins in a state
 module _ (state : State) where
@@ -278,10 +280,14 @@ act-once count s (act.Job job) ready is = none-new s
 act-once count s act.Scan ready is = scan-once count s ready
 act-once count s act.Restart ready is = none-new s
 
+done-once : (count : ℕ) (s : State) (o : Option Act) → Ready count s → IfSome o (IsAct count) → All (BeginsOnce s) (jobs_done s o)
+done-once count s None ready is = none-new s
+done-once count s (Some a) ready is = act-once count s a ready is
+
 pub begun-once : (count : ℕ) (s : State) (t : Turn) → Ready count s → IsTurn count t → All (BeginsOnce s) (jobs_begun s t)
 begun-once count s (turn.Step x) ready is = none-new s
 begun-once count s (turn.Tick seconds) ready is = none-new s
 begun-once count s (turn.Act a) ready is = act-once count s a ready is
-begun-once count s (turn.As node a) ready is = absurd is
-begun-once count s (turn.Claim node) ready is = absurd is
-begun-once count s (turn.Release node) ready is = absurd is
+begun-once count s (turn.As node a) ready is = done-once count s (act_in s (turn.As node a)) ready (act-fits count s (turn.As node a) is)
+begun-once count s (turn.Claim node) ready is = done-once count s (act_in s (turn.Claim node)) ready (act-fits count s (turn.Claim node) is)
+begun-once count s (turn.Release node) ready is = none-new s

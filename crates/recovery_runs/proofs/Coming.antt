@@ -25,14 +25,15 @@ use Rattle.unended_jobs.proofs.Hooked.{hooked-has}
 use Rattle.covered_laws.proofs.Turning.{all-turned}
 use Rattle.orch_core.specs.Jobs.{turn_of}
 use Rattle.orch_core.specs.Polls.{command_outcome, scan_outcome}
-use Rattle.orch_core.specs.After.{after_act, step}
+use Rattle.orch_core.specs.After.{after_act, step, after_done}
 use Rattle.orch_core.specs.States.{State}
 use Rattle.orch_core.specs.Settling.{known_of}
 use Rattle.orch_core.specs.Knowing.{updated}
 use Rattle.run_laws.specs.Ready.{Ready}
 use Rattle.run_laws.specs.Flights.{moment_at}
-use Rattle.recovery_runs.specs.Begun.{ComesOf, jobs_begun, jobs_of, jobs_in_act}
+use Rattle.recovery_runs.specs.Begun.{ComesOf, jobs_begun, jobs_of, jobs_in_act, jobs_done}
 use Rattle.recovery_runs.proofs.Joining.{command-joins, joined, scan-joins}
+use Rattle.orch_core.specs.Nodes.{act_in}
 
 of-itself : (us : List Unended) (u : Unended) → Contains us u → ComesOf us u
 of-itself us (unended.Plan j) among = tt
@@ -83,10 +84,14 @@ act-come count rows s (act.Job id) ready = turn-come count s id ready (job_at s.
 act-come count rows s act.Scan ready = come-joined s.jobs (jobs_of s (scan_outcome s)) (updated (known_of s) (scan_outcome s).book).jobs (scan-joins s)
 act-come count rows s act.Restart ready = All-nil (ComesOf (s.jobs ++ []))
 
+done-come : (count : ℕ) (rows : List Row) (s : State) (o : Option Act) → Ready count s → All (ComesOf (s.jobs ++ jobs_done s o)) (after_done rows s o).jobs
+done-come count rows s None ready = all-stay s.jobs []
+done-come count rows s (Some a) ready = act-come count rows s a ready
+
 pub all-come : (count : ℕ) (rows : List Row) (s : State) (t : Turn) → Ready count s → All (ComesOf (s.jobs ++ jobs_begun s t)) (step rows s t).jobs
 all-come count rows s (turn.Step x) ready = all-stay s.jobs []
 all-come count rows s (turn.Tick seconds) ready = all-stay s.jobs []
 all-come count rows s (turn.Act a) ready = act-come count rows s a ready
-all-come count rows s (turn.As node a) ready = act-come count rows s a ready
-all-come count rows s (turn.Claim node) ready = all-stay s.jobs []
+all-come count rows s (turn.As node a) ready = done-come count rows s (act_in s (turn.As node a)) ready
+all-come count rows s (turn.Claim node) ready = done-come count rows s (act_in s (turn.Claim node)) ready
 all-come count rows s (turn.Release node) ready = all-stay s.jobs []

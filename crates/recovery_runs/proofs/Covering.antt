@@ -1,6 +1,6 @@
 -- Each turn leaves recoveries covered, kept, speaking and aimed.
-use Rattle.std.proofs.Common.{ℕ, List, refl, sym, subst}
-use Rattle.std.specs.Prelude.{All}
+use Rattle.std.proofs.Common.{ℕ, List, refl, sym, subst, Option, Some, None}
+use Rattle.std.specs.Prelude.{All, IfSome}
 use Rattle.std.proofs.lemmas.List.Elements.{All-weaker}
 use Rattle.orch_base.specs.Memory.{next_count}
 use Rattle.kept_rows.specs.declared.row.Row.{Row}
@@ -25,7 +25,7 @@ use Rattle.covered_laws.specs.Flights.{CoveredJobs, KeptJobs}
 use Rattle.covered_laws.proofs.Beside.{apart-stays, none-aimed, none-covered, none-kept, none-speak, outside-stays, recovery-covered, recovery-kept, recovery-speaks}
 use Rattle.covered_laws.proofs.Turning.{number-aimed, number-covered, number-kept, number-speaking}
 use Rattle.orch_core.specs.Polls.{command_outcome, scan_outcome}
-use Rattle.orch_core.specs.After.{after_act, step as turn_step}
+use Rattle.orch_core.specs.After.{after_act, step as turn_step, after_done}
 use Rattle.orch_core.specs.Scenarios.{start}
 use Rattle.orch_core.specs.States.{State}
 use Rattle.orch_core.specs.Turns.{exchange_of}
@@ -37,10 +37,12 @@ use Rattle.run_laws.specs.Flights.{flight_of, moment_at, takes}
 use Rattle.run_laws.specs.States.{HeldState, SoundState}
 use Rattle.run_laws.proofs.Flown.{flown}
 use Rattle.run_laws.proofs.Passing.{step-may}
-use Rattle.recovery_runs.specs.Begun.{BeginsOnce, jobs_begun, jobs_of, jobs_in_act}
+use Rattle.recovery_runs.specs.Begun.{BeginsOnce, jobs_begun, jobs_of, jobs_in_act, jobs_done}
 use Rattle.recovery_runs.specs.States.{AimedState, CoveredState, KeptState, SpeakingState}
 use Rattle.recovery_runs.proofs.Begun.{command-once, scan-once}
 use Rattle.recovery_runs.proofs.Joining.{command-joins, joined, scan-joins}
+use Rattle.orch_core.specs.Nodes.{act_in}
+use Rattle.orch_core.proofs.Claims.{act-fits}
 
 -- ---- what begins
 
@@ -92,13 +94,17 @@ covered-act count rows s (act.Job id) ready held is covered =
 covered-act count rows s act.Scan ready held is covered = record { jobs = with-scan (IsCoveredBeside s.world) count s (once-covered s.world s) ready covered.jobs }
 covered-act count rows s act.Restart ready held is covered = none-covered (flight_of (after_act rows s act.Restart))
 
+covered-done : (count : ℕ) (rows : List Row) (s : State) (o : Option Act) → Ready count s → HeldState s → IfSome o (IsAct count) → CoveredState s → CoveredState (after_done rows s o)
+covered-done count rows s None ready held is covered = covered
+covered-done count rows s (Some a) ready held is covered = covered-act count rows s a ready held is covered
+
 pub covered-step : (count : ℕ) (rows : List Row) (s : State) (t : Turn) → Ready count s → HeldState s → IsTurn count t → CoveredState s → CoveredState (turn_step rows s t)
 covered-step count rows s (turn.Step x) ready held is covered = outside-stays (flight_of s) s.jobs (pass.Exchanging (exchange_of x)) (step-outside x) covered
 covered-step count rows s (turn.Tick seconds) ready held is covered = record { jobs = covered.jobs }
 covered-step count rows s (turn.Act a) ready held is covered = covered-act count rows s a ready held is covered
-covered-step count rows s (turn.As node a) ready held is covered = absurd is
-covered-step count rows s (turn.Claim node) ready held is covered = absurd is
-covered-step count rows s (turn.Release node) ready held is covered = absurd is
+covered-step count rows s (turn.As node a) ready held is covered = record { jobs = (covered-done count rows s (act_in s (turn.As node a)) ready held (act-fits count s (turn.As node a) is) covered).jobs }
+covered-step count rows s (turn.Claim node) ready held is covered = record { jobs = (covered-done count rows s (act_in s (turn.Claim node)) ready held (act-fits count s (turn.Claim node) is) covered).jobs }
+covered-step count rows s (turn.Release node) ready held is covered = record { jobs = covered.jobs }
 
 -- ---- kept
 
@@ -112,13 +118,19 @@ kept-act count rows s (act.Job id) ready held sound is covered kept =
 kept-act count rows s act.Scan ready held sound is covered kept = record { jobs = with-scan (IsKeptBeside s.world) count s (once-kept s.world s) ready kept.jobs }
 kept-act count rows s act.Restart ready held sound is covered kept = none-kept (flight_of (after_act rows s act.Restart))
 
+kept-done : (count : ℕ) (rows : List Row) (s : State) (o : Option Act) → Ready count s → HeldState s → SoundState s → IfSome o (IsAct count) → CoveredState s → KeptState s → KeptState (after_done rows s o)
+kept-done count rows s None ready held sound is covered kept = kept
+kept-done count rows s (Some a) ready held sound is covered kept = kept-act count rows s a ready held sound is covered kept
+
 pub kept-step : (count : ℕ) (rows : List Row) (s : State) (t : Turn) → Ready count s → HeldState s → SoundState s → IsTurn count t → CoveredState s → KeptState s → KeptState (turn_step rows s t)
 kept-step count rows s (turn.Step x) ready held sound is covered kept = apart-stays (flight_of s) s.jobs (pass.Exchanging (exchange_of x)) (step-may count (flight_of s) x is) tt held kept
 kept-step count rows s (turn.Tick seconds) ready held sound is covered kept = record { jobs = kept.jobs }
 kept-step count rows s (turn.Act a) ready held sound is covered kept = kept-act count rows s a ready held sound is covered kept
-kept-step count rows s (turn.As node a) ready held sound is covered kept = absurd is
-kept-step count rows s (turn.Claim node) ready held sound is covered kept = absurd is
-kept-step count rows s (turn.Release node) ready held sound is covered kept = absurd is
+kept-step count rows s (turn.As node a) ready held sound is covered kept =
+    record { jobs = (kept-done count rows s (act_in s (turn.As node a)) ready held sound (act-fits count s (turn.As node a) is) covered kept).jobs }
+kept-step count rows s (turn.Claim node) ready held sound is covered kept =
+    record { jobs = (kept-done count rows s (act_in s (turn.Claim node)) ready held sound (act-fits count s (turn.Claim node) is) covered kept).jobs }
+kept-step count rows s (turn.Release node) ready held sound is covered kept = record { jobs = kept.jobs }
 
 -- ---- speaking
 
@@ -131,13 +143,17 @@ speaking-act count rows s (act.Job id) ready held is speaking =
 speaking-act count rows s act.Scan ready held is speaking = record { jobs = with-scan IsSpeakingBeside count s (once-speaks s) ready speaking.jobs }
 speaking-act count rows s act.Restart ready held is speaking = none-speak
 
+speaking-done : (count : ℕ) (rows : List Row) (s : State) (o : Option Act) → Ready count s → HeldState s → IfSome o (IsAct count) → SpeakingState s → SpeakingState (after_done rows s o)
+speaking-done count rows s None ready held is speaking = speaking
+speaking-done count rows s (Some a) ready held is speaking = speaking-act count rows s a ready held is speaking
+
 pub speaking-step : (count : ℕ) (rows : List Row) (s : State) (t : Turn) → Ready count s → HeldState s → IsTurn count t → SpeakingState s → SpeakingState (turn_step rows s t)
 speaking-step count rows s (turn.Step x) ready held is speaking = speaking
 speaking-step count rows s (turn.Tick seconds) ready held is speaking = speaking
 speaking-step count rows s (turn.Act a) ready held is speaking = speaking-act count rows s a ready held is speaking
-speaking-step count rows s (turn.As node a) ready held is speaking = absurd is
-speaking-step count rows s (turn.Claim node) ready held is speaking = absurd is
-speaking-step count rows s (turn.Release node) ready held is speaking = absurd is
+speaking-step count rows s (turn.As node a) ready held is speaking = speaking-done count rows s (act_in s (turn.As node a)) ready held (act-fits count s (turn.As node a) is) speaking
+speaking-step count rows s (turn.Claim node) ready held is speaking = speaking-done count rows s (act_in s (turn.Claim node)) ready held (act-fits count s (turn.Claim node) is) speaking
+speaking-step count rows s (turn.Release node) ready held is speaking = speaking
 
 -- ---- aimed
 
@@ -152,12 +168,16 @@ aimed-act begun rows s act.Scan held new aimed =
     record { jobs = joined (IsAimedBeside begun) s.jobs (jobs_of s (scan_outcome s)) (updated (known_of s) (scan_outcome s).book).jobs (scan-joins s) aimed.jobs new }
 aimed-act begun rows s act.Restart held new aimed = none-aimed begun
 
+aimed-done : (begun : ℕ → Recovery) (rows : List Row) (s : State) (o : Option Act) → HeldState s → All (IsAimedBeside begun) (jobs_done s o) → AimedState begun s → AimedState begun (after_done rows s o)
+aimed-done begun rows s None held new aimed = aimed
+aimed-done begun rows s (Some a) held new aimed = aimed-act begun rows s a held new aimed
+
 pub aimed-step : (begun : ℕ → Recovery) (rows : List Row) (s : State) (t : Turn) → HeldState s → All (IsAimedBeside begun) (jobs_begun s t) → AimedState begun s → AimedState begun (turn_step rows s t)
 aimed-step begun rows s (turn.Step x) held new aimed = aimed
 aimed-step begun rows s (turn.Tick seconds) held new aimed = aimed
 aimed-step begun rows s (turn.Act a) held new aimed = aimed-act begun rows s a held new aimed
-aimed-step begun rows s (turn.As node a) held new aimed = aimed-act begun rows s a held new aimed
-aimed-step begun rows s (turn.Claim node) held new aimed = aimed
+aimed-step begun rows s (turn.As node a) held new aimed = aimed-done begun rows s (act_in s (turn.As node a)) held new aimed
+aimed-step begun rows s (turn.Claim node) held new aimed = aimed-done begun rows s (act_in s (turn.Claim node)) held new aimed
 aimed-step begun rows s (turn.Release node) held new aimed = aimed
 
 -- ---- the opening

@@ -1,6 +1,6 @@
 -- The lost of a recovery have reasons, from its beginning on.
 use Rattle.std.proofs.Common.{◌≡◌, ◌∙◌, ℕ, Bool, true, List, ◌++◌, refl, sym, subst, Option, Some, None}
-use Rattle.std.specs.Prelude.{◌==◌, All}
+use Rattle.std.specs.Prelude.{◌==◌, All, IfSome}
 use Rattle.std.specs.Option.{option_map}
 use Rattle.std.proofs.lemmas.List.Elements.{All-nil, All-weaker}
 use Rattle.orch_base.specs.Memory.{next_count}
@@ -28,7 +28,7 @@ use Rattle.unended_jobs.proofs.Hooked.{hooked-has}
 use Rattle.covered_laws.proofs.Turning.{all-turned}
 use Rattle.orch_core.specs.Jobs.{turn_of}
 use Rattle.orch_core.specs.Polls.{command_outcome, scan_outcome}
-use Rattle.orch_core.specs.After.{after_act, step}
+use Rattle.orch_core.specs.After.{after_act, step, after_done}
 use Rattle.orch_core.specs.Scenarios.{start}
 use Rattle.orch_core.specs.States.{State}
 use Rattle.orch_core.specs.Settling.{known_of}
@@ -41,8 +41,10 @@ use Rattle.recovery_runs.specs.States.{SpeakingState}
 use Rattle.recovery_runs.proofs.Begun.{command-once, scan-once}
 use Rattle.recovery_runs.proofs.Joining.{command-joins, joined, scan-joins}
 use Rattle.recovery_runs.specs.Finishes.{recovery_after, turn_taken}
-use Rattle.recovery_runs.specs.Facts.{ExplainedState, ExplainsAct, ExplainsTurn, HasFacts}
+use Rattle.recovery_runs.specs.Facts.{ExplainedState, ExplainsAct, ExplainsTurn, HasFacts, ExplainsDone}
 use Rattle.recovery_runs.proofs.Finishing.{facts-true}
+use Rattle.orch_core.specs.Nodes.{act_in}
+use Rattle.orch_core.proofs.Claims.{act-fits}
 
 module _ (P : Fact → Bool) (id : ℕ) where
   abbrev Explained : Unended → Type 0
@@ -97,14 +99,21 @@ module _ (P : Fact → Bool) (id : ℕ) where
       with-begun s (jobs_of s (scan_outcome s)) (updated (known_of s) (scan_outcome s).book).jobs (scan-joins s) (scan-once count s ready) explained
   explained-act count rows s act.Restart ready is held speaking explains explained = All-nil Explained
 
+  explained-done : (count : ℕ) (rows : List Row) (s : State) (o : Option Act) → Ready count s → IfSome o (IsAct count) → HeldState s → SpeakingState s → ExplainsDone P id s o
+      → ExplainedState P id s → ExplainedState P id (after_done rows s o)
+  explained-done count rows s None ready is held speaking explains explained = explained
+  explained-done count rows s (Some a) ready is held speaking explains explained = explained-act count rows s a ready is held speaking explains explained
+
   pub explained-step : (count : ℕ) (rows : List Row) (s : State) (t : Turn) → Ready count s → IsTurn count t → HeldState s → SpeakingState s → ExplainsTurn P id s t
       → ExplainedState P id s → ExplainedState P id (step rows s t)
   explained-step count rows s (turn.Step x) ready is held speaking explains explained = explained
   explained-step count rows s (turn.Tick seconds) ready is held speaking explains explained = explained
   explained-step count rows s (turn.Act a) ready is held speaking explains explained = explained-act count rows s a ready is held speaking explains explained
-  explained-step count rows s (turn.As node a) ready is held speaking explains explained = absurd is
-  explained-step count rows s (turn.Claim node) ready is held speaking explains explained = absurd is
-  explained-step count rows s (turn.Release node) ready is held speaking explains explained = absurd is
+  explained-step count rows s (turn.As node a) ready is held speaking explains explained =
+      explained-done count rows s (act_in s (turn.As node a)) ready (act-fits count s (turn.As node a) is) held speaking explains explained
+  explained-step count rows s (turn.Claim node) ready is held speaking explains explained =
+      explained-done count rows s (act_in s (turn.Claim node)) ready (act-fits count s (turn.Claim node) is) held speaking explains explained
+  explained-step count rows s (turn.Release node) ready is held speaking explains explained = explained
 
   pub explained-start : (s : Scenario) (wait : ℕ) (rows : List Row) → ExplainedState P id (start s wait rows)
   explained-start s wait rows = All-nil Explained

@@ -1,9 +1,9 @@
 -- Until all hooks have run before a recovery that are to, none of its turns has changed a server.
-use Rattle.std.proofs.Common.{◌≡◌, ◌∙◌, ℕ, ◌+◌, ◌<◌, true, List, [], ◌∷◌, ◌++◌, length, refl, sym, ap, subst, take, Option, Some, None, ◌⊎◌, inl, inr, arith}
+use Rattle.std.proofs.Common.{◌≡◌, ◌∙◌, ℕ, ◌+◌, true, List, [], ◌∷◌, ◌++◌, length, refl, sym, ap, subst, take, Option, Some, None, ◌⊎◌, inl, inr, arith}
 use Rattle.std.specs.Prelude.{◌==◌, All, Contains, slice_get}
 use Rattle.std.specs.Option.{option_map}
 use Rattle.std.proofs.lemmas.List.Elements.{All-contains_itself, All-nil, All-weaker}
-use Rattle.std.proofs.lemmas.Option.{none-some, same_Some, slice_get_within}
+use Rattle.std.proofs.lemmas.Option.{none-some, slice_get_within}
 use Rattle.hook_laws.specs.Tended.{plan_of, IsEarly, IsOfDocket}
 use Rattle.hook_laws.proofs.Staying.{early-turn, of-docket}
 use Rattle.job_laws.proofs.Lists.{All-find}
@@ -11,8 +11,9 @@ use Rattle.jobs_in_flight.specs.Jobs.{job_at, job_exchanges, jobs_turned}
 use Rattle.kept_rows.specs.declared.row.Row.{Row}
 use Rattle.operations.specs.Turns.{is_going}
 use Rattle.orch_base.specs.Memory.{next_count}
-use Rattle.orch_core.specs.After.{step}
+use Rattle.orch_core.specs.After.{step, after_act, after_done}
 use Rattle.orch_core.specs.Jobs.{turn_of}
+use Rattle.orch_core.specs.Nodes.{act_in}
 use Rattle.orch_core.specs.Knowing.{updated}
 use Rattle.orch_core.specs.Polls.{command_outcome, scan_outcome}
 use Rattle.orch_core.specs.Runs.{engine, run_turns}
@@ -28,7 +29,6 @@ use Rattle.run_laws.specs.Ready.{Ready}
 use Rattle.scenarios.specs.Turns.{IsTurn}
 use Rattle.server_model.proofs.Lists.{slice_get-snoc_cases}
 use Rattle.server_model.specs.Run.{run}
-use Rattle.server_model.specs.Worlds.{World}
 use Rattle.turns.specs.declared.turn.Act.{Act}
 use Rattle.turns.specs.declared.turn.Act.TheVariants as act
 use Rattle.turns.specs.declared.turn.Turn.{Turn}
@@ -41,8 +41,8 @@ use Rattle.unended_jobs.specs.declared.docket.Docket.{Docket}
 use Rattle.unended_jobs.specs.declared.unended.Unended.{Unended}
 use Rattle.unended_jobs.specs.declared.unended.Unended.TheVariants as unended
 use Rattle.covered_laws.proofs.Turning.{all-turned}
-use Rattle.recovery_runs.specs.Begun.{jobs_begun, jobs_of}
-use Rattle.recovery_runs.specs.Origins.{Began, StaysStill}
+use Rattle.recovery_runs.specs.Begun.{jobs_begun, jobs_of, jobs_done, jobs_in_act}
+use Rattle.recovery_runs.specs.Origins.{Began, StaysStill, IsStill}
 use Rattle.recovery_runs.specs.States.{TendedState}
 use Rattle.recovery_runs.proofs.HookTellings.{early-still}
 use Rattle.recovery_runs.proofs.Joining.{command-joins, joined, scan-joins}
@@ -52,7 +52,7 @@ length-push : (xs : List Step) (x : Step) → length (xs ++ x ∷ []) ≡ length
 length-push [] x = refl
 length-push (y ∷ ys) x = let rest = length-push ys x in omega (arith, rest)
 
-job-same : (m n : ℕ) → turn.Act (act.Job m) ≡ turn.Act (act.Job n) → m ≡ n
+job-same : (m n : ℕ) → Some (act.Job m) ≡ Some (act.Job n) → m ≡ n
 job-same m n same = cc
 
 -- ---- along the turns
@@ -60,24 +60,17 @@ job-same m n same = cc
 module _ (from : State) where
   -- one more turn
   module _ (xs : List Step) (s : State) (x : Step) (here : s ≡ run_turns engine from xs) (place id : ℕ) where
-    at-last : (x.1 ≡ turn.Act (act.Job id) → (step x.0 s x.1).world ≡ s.world) → x.1 ≡ turn.Act (act.Job id)
-        → (step x.0 (run_turns engine from (take (length xs) (xs ++ x ∷ []))) x.1).world ≡ (run_turns engine from (take (length xs) (xs ++ x ∷ []))).world
-    at-last last is =
-        subst (λ (zs : List Step). (step x.0 (run_turns engine from zs) x.1).world ≡ (run_turns engine from zs).world) (sym (take-all xs (x ∷ [])))
-        (subst (λ (z : State). (step x.0 z x.1).world ≡ z.world) here (last is))
+    at-last : IsStill id s x → IsStill id (run_turns engine from (take (length xs) (xs ++ x ∷ []))) x
+    at-last last = subst (λ (zs : List Step). IsStill id (run_turns engine from zs) x) (sym (take-all xs (x ∷ []))) (subst (λ (z : State). IsStill id z x) here last)
 
-    still-on : StaysStill place id from xs → (x.1 ≡ turn.Act (act.Job id) → (step x.0 s x.1).world ≡ s.world) → StaysStill place id from (xs ++ x ∷ [])
-    still-on still last k y after at is = go (slice_get-snoc_cases xs x y k at)
+    still-on : StaysStill place id from xs → IsStill id s x → StaysStill place id from (xs ++ x ∷ [])
+    still-on still last k y after at = go (slice_get-snoc_cases xs x y k at)
       where
-        go : (slice_get xs k ≡ Some y) ⊎ ((k ≡ length xs) × (y ≡ x))
-            → (step y.0 (run_turns engine from (take k (xs ++ x ∷ []))) y.1).world ≡ (run_turns engine from (take k (xs ++ x ∷ []))).world
-        go (inl was) =
-            subst (λ (zs : List Step). (step y.0 (run_turns engine from zs) y.1).world ≡ (run_turns engine from zs).world) (sym (take-longer xs (x ∷ []) k y was)) (still k y after was is)
+        go : (slice_get xs k ≡ Some y) ⊎ ((k ≡ length xs) × (y ≡ x)) → IsStill id (run_turns engine from (take k (xs ++ x ∷ []))) y
+        go (inl was) = subst (λ (zs : List Step). IsStill id (run_turns engine from zs) y) (sym (take-longer xs (x ∷ []) k y was)) (still k y after was)
         go (inr (end, same)) =
-            subst (λ (n : ℕ). (step y.0 (run_turns engine from (take n (xs ++ x ∷ []))) y.1).world ≡ (run_turns engine from (take n (xs ++ x ∷ []))).world) (sym end)
-            (subst
-            (λ (z : Step). (step z.0 (run_turns engine from (take (length xs) (xs ++ x ∷ []))) z.1).world ≡ (run_turns engine from (take (length xs) (xs ++ x ∷ []))).world) (sym same)
-            (at-last last (sym (ap (λ (z : Step). z.1) same) ∙ is)))
+            subst (λ (n : ℕ). IsStill id (run_turns engine from (take n (xs ++ x ∷ []))) y) (sym end)
+            (subst (λ (z : Step). IsStill id (run_turns engine from (take (length xs) (xs ++ x ∷ []))) z) (sym same) (at-last last))
 
   -- a recovery that isn't through with the hooks before it
   abbrev pub HasStill : List Step → Unended → Type 0
@@ -86,7 +79,7 @@ module _ (from : State) where
 
   module _ (count : ℕ) (xs : List Step) (s : State) (rows : List Row) (here : s ≡ run_turns engine from xs) (ready : Ready count s) (tended : TendedState s) (all : All (HasStill xs) s.jobs) where
     -- in another's turn, or in none
-    stays : (t : Turn) (u : Unended) → (t ≡ turn.Act (act.Job (number_of u)) → ⊥) → HasStill xs u → HasStill (xs ++ (rows, t) ∷ []) u
+    stays : (t : Turn) (u : Unended) → (act_in s t ≡ Some (act.Job (number_of u)) → ⊥) → HasStill xs u → HasStill (xs ++ (rows, t) ∷ []) u
     unfolding longer
     stays t (unended.Plan j) apart h = tt
     stays t (unended.Recovery r docket) apart h = (
@@ -94,7 +87,7 @@ module _ (from : State) where
       λ k at early. still-on xs s (rows, t) here h.0.place r.core.id (h.1 k at early) (λ is. absurd (apart is)),
     )
 
-    all-stay : (t : Turn) → ((n : ℕ) → t ≡ turn.Act (act.Job n) → ⊥) → All (HasStill (xs ++ (rows, t) ∷ [])) s.jobs
+    all-stay : (t : Turn) → ((n : ℕ) → act_in s t ≡ Some (act.Job n) → ⊥) → All (HasStill (xs ++ (rows, t) ∷ [])) s.jobs
     all-stay t none = All-weaker (HasStill xs) (HasStill (xs ++ (rows, t) ∷ [])) (λ u h. stays t u (none (number_of u)) h) s.jobs all
 
     -- as it begins
@@ -110,12 +103,12 @@ module _ (from : State) where
     )
 
     -- its own turn
-    module _ (id : ℕ) where
+    module _ (t : Turn) (id : ℕ) (does : act_in s t ≡ Some (act.Job id)) (moves : (step rows s t).world ≡ (after_act rows s (act.Job id)).world) where
       abbrev after : List Step
-      after = xs ++ (rows, turn.Act (act.Job id)) ∷ []
+      after = xs ++ (rows, t) ∷ []
 
       other : (u : Unended) → (number_of u ≡ id → ⊥) → HasStill xs u → HasStill after u
-      other u apart h = stays (turn.Act (act.Job id)) u (λ same. apart (sym (job-same id (number_of u) same))) h
+      other u apart h = stays t u (λ same. apart (sym (job-same id (number_of u) (sym does ∙ same)))) h
 
       module _ (r : Recovery) (docket : Docket) (found : job_at s.jobs id ≡ Some (unended.Recovery r docket)) (h : HasStill xs (unended.Recovery r docket))
           (fits : IsReady count (unended.Recovery r docket)) (going : is_going (turn_of s (unended.Recovery r docket)).step ≡ true) where
@@ -147,12 +140,12 @@ module _ (from : State) where
         still-then k at early (Some g) has =
             let was = early-turn s.world s.book read (moment_at s) r docket g k has at early in
             subst (λ (n : ℕ). StaysStill h.0.place n from after) (sym number)
-            (still-on xs s (rows, turn.Act (act.Job id)) here h.0.place r.core.id (h.1 g has was) (λ is. early-still s id r docket tended rows g found has was))
+            (still-on xs s (rows, t) here h.0.place r.core.id (h.1 g has was) (λ is. moves ∙ early-still s id r docket tended rows g found has was))
 
         following-still : HasStill after (unended.Recovery following behind)
         unfolding goes-on longer
         following-still = (
-          goes-on from after r following docket behind number aim same (longer from xs ((rows, turn.Act (act.Job id)) ∷ []) (unended.Recovery r docket) h.0),
+          goes-on from after r following docket behind number aim same (longer from xs ((rows, t) ∷ []) (unended.Recovery r docket) h.0),
           λ k at early. still-then k at early docket.hooks refl,
         )
 
@@ -164,9 +157,9 @@ module _ (from : State) where
       unfolding longer
       gone none (unended.Plan j) h = tt
       gone none (unended.Recovery r docket) h = (
-        longer from xs ((rows, turn.Act (act.Job id)) ∷ []) (unended.Recovery r docket) h.0,
+        longer from xs ((rows, t) ∷ []) (unended.Recovery r docket) h.0,
         λ k at early.
-            still-on xs s (rows, turn.Act (act.Job id)) here h.0.place r.core.id (h.1 k at early) (λ is. ap (λ (o : Option Unended). run s.world (job_exchanges (option_map (turn_of s) o))) none),
+            still-on xs s (rows, t) here h.0.place r.core.id (h.1 k at early) (λ is. moves ∙ ap (λ (o : Option Unended). run s.world (job_exchanges (option_map (turn_of s) o))) none),
       )
 
       turned : (o : Option Unended) → job_at s.jobs id ≡ o → All (HasStill after) (jobs_turned s.jobs id (option_map (turn_of s) o))
@@ -175,26 +168,36 @@ module _ (from : State) where
           all-turned (HasStill xs) (HasStill after) id (λ k apart h. other k apart h) s.jobs (turn_of s u)
           (next u found (All-find (HasStill xs) (λ (k : Unended). number_of k == id) s.jobs u all found) (All-find (IsReady count) (λ (k : Unended). number_of k == id) s.jobs u ready.jobs found)) all
 
-    act-still : (a : Act) → IsTurn count (turn.Act a) → All (HasStill (xs ++ (rows, turn.Act a) ∷ [])) (step rows s (turn.Act a)).jobs
-    act-still (act.PollRead p n) is = all-stay (turn.Act (act.PollRead p n)) (λ n same. cc)
-    act-still (act.PollStore p) is = all-stay (turn.Act (act.PollStore p)) (λ n same. cc)
-    act-still (act.Command c) is =
-        joined (HasStill (xs ++ (rows, turn.Act (act.Command c)) ∷ [])) s.jobs (jobs_of s (command_outcome s c)) (updated (known_of s) (command_outcome s c).book).jobs (command-joins s c)
-        (all-stay (turn.Act (act.Command c)) (λ n same. cc))
-        (All-weaker (Contains (jobs_of s (command_outcome s c))) (HasStill (xs ++ (rows, turn.Act (act.Command c)) ∷ [])) (begins (turn.Act (act.Command c)) is) (jobs_of s (command_outcome s c))
-        (All-contains_itself (jobs_of s (command_outcome s c))))
-    act-still (act.Job id) is = turned id (job_at s.jobs id) refl
-    act-still act.Scan is =
-        joined (HasStill (xs ++ (rows, turn.Act act.Scan) ∷ [])) s.jobs (jobs_of s (scan_outcome s)) (updated (known_of s) (scan_outcome s).book).jobs (scan-joins s)
-        (all-stay (turn.Act act.Scan) (λ n same. cc))
-        (All-weaker (Contains (jobs_of s (scan_outcome s))) (HasStill (xs ++ (rows, turn.Act act.Scan) ∷ [])) (begins (turn.Act act.Scan) is) (jobs_of s (scan_outcome s))
-        (All-contains_itself (jobs_of s (scan_outcome s))))
-    act-still act.Restart is = All-nil (HasStill (xs ++ (rows, turn.Act act.Restart) ∷ []))
+    -- what orchestrator does in a turn, whoever takes it
+    module _ (t : Turn) (is : IsTurn count t) where
+      abbrev later : List Step
+      later = xs ++ (rows, t) ∷ []
+
+      off : (a : Act) → act_in s t ≡ Some a → ((n : ℕ) → Some a ≡ Some (act.Job n) → ⊥) → All (HasStill later) s.jobs
+      off a does other = all-stay t (λ n same. other n (sym does ∙ same))
+
+      begun : (a : Act) → act_in s t ≡ Some a → jobs_begun s t ≡ jobs_in_act s a → All (HasStill later) (jobs_in_act s a)
+      begun a does same =
+          All-weaker (Contains (jobs_in_act s a)) (HasStill later) (λ u among. begins t is u (subst (λ (us : List Unended). Contains us u) (sym same) among)) (jobs_in_act s a) (All-contains_itself (jobs_in_act s a))
+
+      act-still : (a : Act) → act_in s t ≡ Some a → jobs_begun s t ≡ jobs_in_act s a → (step rows s t).world ≡ (after_act rows s a).world → All (HasStill later) (after_act rows s a).jobs
+      act-still (act.PollRead p n) does same moves = off (act.PollRead p n) does (λ n same. cc)
+      act-still (act.PollStore p) does same moves = off (act.PollStore p) does (λ n same. cc)
+      act-still (act.Command c) does same moves =
+          joined (HasStill later) s.jobs (jobs_of s (command_outcome s c)) (updated (known_of s) (command_outcome s c).book).jobs (command-joins s c) (off (act.Command c) does (λ n same. cc)) (begun (act.Command c) does same)
+      act-still (act.Job id) does same moves = turned t id does moves (job_at s.jobs id) refl
+      act-still act.Scan does same moves =
+          joined (HasStill later) s.jobs (jobs_of s (scan_outcome s)) (updated (known_of s) (scan_outcome s).book).jobs (scan-joins s) (off act.Scan does (λ n same. cc)) (begun act.Scan does same)
+      act-still act.Restart does same moves = All-nil (HasStill later)
+
+      done-still : (o : Option Act) → act_in s t ≡ o → jobs_begun s t ≡ jobs_done s o → (step rows s t).world ≡ (after_done rows s o).world → All (HasStill later) (after_done rows s o).jobs
+      done-still None does alike moves = all-stay t (λ n job. none-some (act.Job n) (sym does ∙ job))
+      done-still (Some a) does alike moves = act-still a does alike moves
 
     pub still-step : (t : Turn) → IsTurn count t → All (HasStill (xs ++ (rows, t) ∷ [])) (step rows s t).jobs
     still-step (turn.Step x) is = all-stay (turn.Step x) (λ n same. cc)
     still-step (turn.Tick seconds) is = all-stay (turn.Tick seconds) (λ n same. cc)
-    still-step (turn.Act a) is = act-still a is
-    still-step (turn.As node a) is = absurd is
-    still-step (turn.Claim node) is = absurd is
-    still-step (turn.Release node) is = absurd is
+    still-step (turn.Act a) is = act-still (turn.Act a) is a refl refl refl
+    still-step (turn.As node a) is = done-still (turn.As node a) is (act_in s (turn.As node a)) refl refl refl
+    still-step (turn.Claim node) is = done-still (turn.Claim node) is (act_in s (turn.Claim node)) refl refl refl
+    still-step (turn.Release node) is = all-stay (turn.Release node) (λ n same. cc)

@@ -1,6 +1,6 @@
 -- Each turn leaves the hooks of recoveries tended.
 use Rattle.std.proofs.Common.{◌≡◌, ◌∙◌, ℕ, true, List, refl, sym, ap, subst, Option, Some, None}
-use Rattle.std.specs.Prelude.{◌==◌, All}
+use Rattle.std.specs.Prelude.{◌==◌, All, IfSome}
 use Rattle.std.specs.Option.{option_map}
 use Rattle.std.proofs.lemmas.List.Elements.{All-nil}
 use Rattle.std.proofs.lemmas.Option.{none-some, same_Some}
@@ -11,8 +11,10 @@ use Rattle.jobs_in_flight.specs.Jobs.{job_at, jobs_turned}
 use Rattle.kept_rows.specs.declared.row.Row.{Row}
 use Rattle.operations.specs.Turns.{is_going}
 use Rattle.orch_base.specs.Memory.{next_count}
-use Rattle.orch_core.specs.After.{after_act, step as turn_step}
+use Rattle.orch_core.specs.After.{after_act, after_done, step as turn_step}
 use Rattle.orch_core.specs.HookTelling.{told_of}
+use Rattle.orch_core.specs.Nodes.{act_in}
+use Rattle.orch_core.proofs.Claims.{act-fits}
 use Rattle.orch_core.specs.Jobs.{turn_of}
 use Rattle.orch_core.specs.Scenarios.{start}
 use Rattle.orch_core.specs.States.{State}
@@ -33,7 +35,6 @@ use Rattle.turns.specs.declared.turn.Turn.{Turn}
 use Rattle.turns.specs.declared.turn.Turn.TheVariants as turn
 use Rattle.unended_jobs.specs.Hooked.{hooked, promoted_in}
 use Rattle.unended_jobs.specs.Unended.{number_of}
-use Rattle.unended_jobs.specs.declared.docket.Docket.{Docket}
 use Rattle.unended_jobs.specs.declared.unended.Unended.{Unended}
 use Rattle.unended_jobs.specs.declared.unended.Unended.TheVariants as unended
 use Rattle.covered_laws.proofs.Turning.{all-turned}
@@ -92,13 +93,19 @@ tended-act count rows s (act.Job id) ready is tended = record { jobs = turn-tend
 tended-act count rows s act.Scan ready is tended = record { jobs = with-scan IsTendedBeside count s (once-tended s) ready tended.jobs }
 tended-act count rows s act.Restart ready is tended = record { jobs = All-nil IsTendedBeside }
 
+tended-done : (count : ℕ) (rows : List Row) (s : State) (o : Option Act) → Ready count s → IfSome o (IsAct count) → TendedState s → TendedState (after_done rows s o)
+tended-done count rows s None ready is tended = tended
+tended-done count rows s (Some a) ready is tended = tended-act count rows s a ready is tended
+
 pub tended-step : (count : ℕ) (rows : List Row) (s : State) (t : Turn) → Ready count s → IsTurn count t → TendedState s → TendedState (turn_step rows s t)
 tended-step count rows s (turn.Step x) ready is tended = record { jobs = tended.jobs }
 tended-step count rows s (turn.Tick seconds) ready is tended = record { jobs = tended.jobs }
 tended-step count rows s (turn.Act a) ready is tended = tended-act count rows s a ready is tended
-tended-step count rows s (turn.As node a) ready is tended = absurd is
-tended-step count rows s (turn.Claim node) ready is tended = absurd is
-tended-step count rows s (turn.Release node) ready is tended = absurd is
+tended-step count rows s (turn.As node a) ready is tended =
+    record { jobs = (tended-done count rows s (act_in s (turn.As node a)) ready (act-fits count s (turn.As node a) is) tended).jobs }
+tended-step count rows s (turn.Claim node) ready is tended =
+    record { jobs = (tended-done count rows s (act_in s (turn.Claim node)) ready (act-fits count s (turn.Claim node) is) tended).jobs }
+tended-step count rows s (turn.Release node) ready is tended = record { jobs = tended.jobs }
 
 pub tended-start : (s : Scenario) (wait : ℕ) (rows : List Row) → TendedState (start s wait rows)
 tended-start s wait rows = record { jobs = All-nil IsTendedBeside }

@@ -1,6 +1,6 @@
 -- The jobs that a turn begins.
-use Rattle.std.specs.Prelude.{◌≡◌, ◌<◌, ◌⊎◌, ℕ, Contains, List, [], Option, Some, None, slice_get}
-use Rattle.book_views.specs.Sources.{label_at, replicas_of}
+use Rattle.std.specs.Prelude.{◌≡◌, ◌<◌, ◌⊎◌, Contains, List, [], Option, Some, None, slice_get}
+use Rattle.book_views.specs.Sources.{replicas_of, label_at}
 use Rattle.hook_laws.specs.Tended.{IsOfDocket}
 use Rattle.orch_base.specs.Names.{HostPort}
 use Rattle.orch_base.specs.declared.code.Code.{Code}
@@ -27,6 +27,7 @@ use Rattle.turns.specs.declared.turn.Turn.TheVariants as turn
 use Rattle.unended_jobs.specs.declared.docket.Docket.{Docket}
 use Rattle.unended_jobs.specs.declared.unended.Unended.{Unended}
 use Rattle.unended_jobs.specs.declared.unended.Unended.TheVariants as unended
+use Rattle.orch_core.specs.Nodes.{act_in}
 
 -- those of what a command or a scan answers: the jobs that it leaves where there are none before it
 abbrev pub jobs_of : State → Outcome → List Unended
@@ -41,12 +42,16 @@ jobs_in_act s (act.Job job) = []
 jobs_in_act s act.Scan = jobs_of s (scan_outcome s)
 jobs_in_act s act.Restart = []
 
+abbrev pub jobs_done : State → Option Act → List Unended
+jobs_done s None = []
+jobs_done s (Some a) = jobs_in_act s a
+
 abbrev pub jobs_begun : State → Turn → List Unended
 jobs_begun s (turn.Step x) = []
 jobs_begun s (turn.Tick seconds) = []
 jobs_begun s (turn.Act a) = jobs_in_act s a
-jobs_begun s (turn.As node a) = jobs_in_act s a
-jobs_begun s (turn.Claim node) = []
+jobs_begun s (turn.As node a) = jobs_done s (act_in s (turn.As node a))
+jobs_begun s (turn.Claim node) = jobs_done s (act_in s (turn.Claim node))
 jobs_begun s (turn.Release node) = []
 
 -- whoever is owed stands in the order in which a recovery tells, but for a new source that is named at its beginning

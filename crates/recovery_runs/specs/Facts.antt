@@ -1,5 +1,5 @@
 -- That what a recovery tells is true, from its beginning on.
-use Rattle.std.specs.Prelude.{◌≡◌, ℕ, Bool, All, Option, Some}
+use Rattle.std.specs.Prelude.{◌≡◌, ℕ, Bool, All, Option, Some, None}
 use Rattle.run_laws.specs.Flights.{moment_at}
 use Rattle.jobs_in_flight.specs.Jobs.{job_at}
 use Rattle.orch_core.specs.States.{State}
@@ -13,6 +13,7 @@ use Rattle.unended_jobs.specs.declared.docket.Docket.{Docket}
 use Rattle.unended_jobs.specs.declared.unended.Unended.{Unended}
 use Rattle.unended_jobs.specs.declared.unended.Unended.TheVariants as unended
 use Rattle.unended_jobs.specs.Unended.{number_of}
+use Rattle.orch_core.specs.Nodes.{act_in}
 
 -- what a recovery came to so far has facts that count
 abbrev pub HasFacts : (Fact → Bool) → Unended → Type 0
@@ -33,10 +34,14 @@ ExplainsAct P id s (act.Job job) =
 ExplainsAct P id s act.Scan = Unit {0}
 ExplainsAct P id s act.Restart = Unit {0}
 
+abbrev pub ExplainsDone : (Fact → Bool) → ℕ → State → Option Act → Type 0
+ExplainsDone P id s None = Unit {0}
+ExplainsDone P id s (Some a) = ExplainsAct P id s a
+
 abbrev pub ExplainsTurn : (Fact → Bool) → ℕ → State → Turn → Type 0
 ExplainsTurn P id s (turn.Step x) = Unit {0}
 ExplainsTurn P id s (turn.Tick seconds) = Unit {0}
 ExplainsTurn P id s (turn.Act a) = ExplainsAct P id s a
-ExplainsTurn P id s (turn.As node a) = ExplainsAct P id s a
-ExplainsTurn P id s (turn.Claim node) = Unit {0}
+ExplainsTurn P id s (turn.As node a) = ExplainsDone P id s (act_in s (turn.As node a))
+ExplainsTurn P id s (turn.Claim node) = ExplainsDone P id s (act_in s (turn.Claim node))
 ExplainsTurn P id s (turn.Release node) = Unit {0}

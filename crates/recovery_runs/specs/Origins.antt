@@ -1,6 +1,6 @@
 -- Where the recoveries of a run began, and which facts were true in its turns.
 use Rattle.recovery_reasons.specs.Reasons.{Fact}
-use Rattle.std.specs.Prelude.{◌≡◌, ◌<◌, ℕ, Bool, List, Option, Some, Contains, slice_get, take}
+use Rattle.std.specs.Prelude.{◌≡◌, ◌<◌, ℕ, Bool, List, Some, Contains, slice_get, take}
 use Rattle.book_views.specs.Sources.{replicas_of}
 use Rattle.hook_laws.specs.Tended.{IsOfDocket}
 use Rattle.kept_rows.specs.declared.row.Row.{Row}
@@ -8,10 +8,10 @@ use Rattle.recovery_histories.specs.Kept.{SameAim}
 use Rattle.recovery_plans.specs.Recoveries.{Recovery}
 use Rattle.turns.specs.declared.turn.Act.TheVariants as act
 use Rattle.turns.specs.declared.turn.Turn.{Turn}
-use Rattle.turns.specs.declared.turn.Turn.TheVariants as kind
 use Rattle.unended_jobs.specs.declared.docket.Docket.{Docket}
 use Rattle.unended_jobs.specs.declared.unended.Unended.TheVariants as unended
 use Rattle.orch_core.specs.After.{step}
+use Rattle.orch_core.specs.Nodes.{act_in}
 use Rattle.orch_core.specs.Runs.{engine, run_turns}
 use Rattle.orch_core.specs.States.{State}
 use Rattle.recovery_runs.specs.Facts.{ExplainsTurn}
@@ -42,7 +42,10 @@ pub record Began (from : State) (xs : List (List Row × Turn)) (r : Recovery) (d
 abbrev pub ExplainsAlong : (Fact → Bool) → ℕ → State → List (List Row × Turn) → Type 0
 ExplainsAlong P id from xs = (k : ℕ) (x : List Row × Turn) → slice_get xs k ≡ Some x → ExplainsTurn P id (run_turns engine from (take k xs)) x.1
 
--- in each turn of the job of this number, from this place on, the servers stay as they are
+-- in a turn of the job of this number, whoever takes it, the servers stay as they are
+abbrev pub IsStill : ℕ → State → List Row × Turn → Type 0
+IsStill id s x = act_in s x.1 ≡ Some (act.Job id) → (step x.0 s x.1).world ≡ s.world
+
+-- so it is in each of these turns from this place on
 abbrev pub StaysStill : ℕ → ℕ → State → List (List Row × Turn) → Type 0
-StaysStill place id from xs = (k : ℕ) (x : List Row × Turn) → place < k → slice_get xs k ≡ Some x → x.1 ≡ kind.Act (act.Job id)
-    → (step x.0 (run_turns engine from (take k xs)) x.1).world ≡ (run_turns engine from (take k xs)).world
+StaysStill place id from xs = (k : ℕ) (x : List Row × Turn) → place < k → slice_get xs k ≡ Some x → IsStill id (run_turns engine from (take k xs)) x

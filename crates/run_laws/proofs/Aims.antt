@@ -30,11 +30,12 @@ use Rattle.turns.specs.declared.turn.Turn.{Turn}
 use Rattle.turns.specs.declared.turn.Turn.TheVariants as turn
 use Rattle.orch_core.specs.Commands.{by_hand}
 use Rattle.orch_core.specs.HookTelling.{told_try, with_told}
+use Rattle.orch_core.specs.Nodes.{act_in}
 use Rattle.orch_core.specs.Polls.{numbers_of}
 use Rattle.orch_core.specs.declared.configuration.Configuration.{Configuration}
 use Rattle.orch_core.specs.States.{State}
-use Rattle.run_laws.specs.Aims.{IsAbout, IsAimed, IsAskedBy, IsAskedIn, IsFor}
-use Rattle.run_laws.specs.Entries.{attempt_in, recoveries_begun, recoveries_by, recoveries_in_act, recoveries_of, scan_in, takeovers_by, takeovers_of, tried}
+use Rattle.run_laws.specs.Aims.{IsAbout, IsAimed, IsAskedBy, IsAskedIn, IsAskedOf, IsFor}
+use Rattle.run_laws.specs.Entries.{attempt_in, recoveries_begun, recoveries_by, recoveries_done, recoveries_in_act, recoveries_of, scan_in, takeovers_by, takeovers_of, tried}
 
 -- ---- by a scan
 
@@ -170,10 +171,21 @@ act-aimed s (act.Job job) = All-nil (AimedIn s (act.Job job))
 act-aimed s act.Scan = scan-aimed s
 act-aimed s act.Restart = All-nil (AimedIn s act.Restart)
 
+abbrev AimedOf : State → Option Act → RecoveryBegins → Type 0
+AimedOf s o x = IsAskedOf s o x × IsAbout s.book x
+
+done-aimed : (s : State) (o : Option Act) → All (AimedOf s o) (recoveries_done s o)
+done-aimed s None = All-nil (AimedOf s None)
+done-aimed s (Some a) = act-aimed s a
+
 pub turn-aimed : (s : State) (t : Turn) → All (IsAimed s t) (recoveries_begun s t)
 turn-aimed s (turn.Step x) = All-nil (IsAimed s (turn.Step x))
 turn-aimed s (turn.Tick seconds) = All-nil (IsAimed s (turn.Tick seconds))
 turn-aimed s (turn.Act a) = All-weaker (AimedIn s a) (IsAimed s (turn.Act a)) (λ x is. record { asked = is.0; about = is.1 }) (recoveries_in_act s a) (act-aimed s a)
-turn-aimed s (turn.As node a) = All-weaker (AimedIn s a) (IsAimed s (turn.As node a)) (λ x is. record { asked = is.0; about = is.1 }) (recoveries_in_act s a) (act-aimed s a)
-turn-aimed s (turn.Claim node) = All-nil (IsAimed s (turn.Claim node))
+turn-aimed s (turn.As node a) =
+    let o = act_in s (turn.As node a) in
+    All-weaker (AimedOf s o) (IsAimed s (turn.As node a)) (λ x is. record { asked = is.0; about = is.1 }) (recoveries_done s o) (done-aimed s o)
+turn-aimed s (turn.Claim node) =
+    let o = act_in s (turn.Claim node) in
+    All-weaker (AimedOf s o) (IsAimed s (turn.Claim node)) (λ x is. record { asked = is.0; about = is.1 }) (recoveries_done s o) (done-aimed s o)
 turn-aimed s (turn.Release node) = All-nil (IsAimed s (turn.Release node))

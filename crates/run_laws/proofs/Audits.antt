@@ -65,11 +65,11 @@ use Rattle.recovery_permits.specs.Recoveries.{recovery_refusal}
 use Rattle.recovery_permits.specs.Takeovers.{takeover_refusal}
 use Rattle.orch_core.specs.HookTelling.{told_try}
 use Rattle.orch_core.specs.Jobs.{turn_of, turned_at}
-use Rattle.orch_core.specs.Polls.{act_changes, changes_by, changes_of, command_outcome, numbers_of, slot_at}
+use Rattle.orch_core.specs.Polls.{act_changes, changes_by, changes_of, command_outcome, numbers_of, slot_at, done_changes}
 use Rattle.orch_core.specs.Restarts.{interrupted_at, last_given, reloaded_audit, reloaded_rows, restart_changes}
 use Rattle.orch_core.specs.Periods.{period_by}
 use Rattle.book_views.specs.Sources.{label_at}
-use Rattle.orch_core.specs.After.{after_act, step}
+use Rattle.orch_core.specs.After.{after_act, step, after_done}
 use Rattle.orch_core.specs.Runs.{Held, engine, held_run, held_step}
 use Rattle.orch_core.specs.Scenarios.{loaded_audit, loaded_book, start, start_changes, start_moment, start_rows, start_world}
 use Rattle.orch_core.specs.States.{State, IsSlot, IsState}
@@ -92,20 +92,23 @@ use Rattle.run_laws.proofs.Entering.{follow-entry}
 use Rattle.run_laws.proofs.Follows.{Follow-start, Follow-turn, ready-of, reading-known, within-given}
 use Rattle.run_laws.specs.Entries.{recoveries_begun}
 use Rattle.run_laws.specs.Flights.{moment_at}
+use Rattle.orch_core.specs.Nodes.{act_in, claim_changes, release_changes}
+use Rattle.orch_core.proofs.Claims.{act-fits}
+use Rattle.run_laws.proofs.ClaimRows.{FollowAudit-claims, claim-changes-are, release-changes-are}
 
 -- ---- changes of the book's rows
 
 -- the book takes the change, and its key is in its type's range
-abbrev IsBooked : ℕ → Change → Type 0
+abbrev pub IsBooked : ℕ → Change → Type 0
 IsBooked count c = (fits count c ≡ true) × IsInRange c
 
-booked-follow : (count : ℕ) (rows : List Row) (a : AuditState) (cs : List Change) → count ≤ 2 ^ 32 → All (IsBooked count) cs → FollowAudit count rows a → FollowAudit count (changed rows cs) a
+pub booked-follow : (count : ℕ) (rows : List Row) (a : AuditState) (cs : List Change) → count ≤ 2 ^ 32 → All (IsBooked count) cs → FollowAudit count rows a → FollowAudit count (changed rows cs) a
 booked-follow count rows a [] few all follow = follow
 booked-follow count rows a (c ∷ cs) few all follow =
     let here = All-head (IsBooked count) c cs all in
     booked-follow count (changed_by rows c) a cs few (All-tail (IsBooked count) c cs all) (FollowAudit-book count rows a c few follow here.0 here.1)
 
-one-booked : (count : ℕ) (c : Change) → IsBooked count c → All (IsBooked count) (c ∷ [])
+pub one-booked : (count : ℕ) (c : Change) → IsBooked count c → All (IsBooked count) (c ∷ [])
 one-booked count c is = All-cons (IsBooked count) c [] is (All-nil (IsBooked count))
 
 -- a reading of servers that the book knows
@@ -119,12 +122,12 @@ module _ (b : BookState) (o : Observation) (is : IsBook b) (known : are_known (l
       go false true = All-nil (IsBooked (length b.names))
       go false false = one-booked (length b.names) (change.Put (row.Instance (renewed kept o))) (put-kept b o is known kept at, tt)
 
-  discovery-booked : (seen : Seen) → o.seen ≡ Some seen → (x : Option Instance) → instance_at b o.no ≡ x → All (IsBooked (length b.names)) (option_to_list (discovery_change x o seen))
+  pub discovery-booked : (seen : Seen) → o.seen ≡ Some seen → (x : Option Instance) → instance_at b o.no ≡ x → All (IsBooked (length b.names)) (option_to_list (discovery_change x o seen))
   discovery-booked seen at None lacks =
       one-booked (length b.names) (change.Put (row.Instance (first_seen o seen))) (subst (λ (x : Option Seen). are_known (length b.names) (o.no.0 ∷ seen_servers x) ≡ true) at known, tt)
   discovery-booked seen at (Some kept) there = stored-booked (Some kept) there
 
-slot-booked : (b : BookState) (slot : Option Observation) → IsBook b → IfSome slot (λ o. are_known (length b.names) (observed_servers o) ≡ true) → All (IsBooked (length b.names)) (changes_by b slot)
+pub slot-booked : (b : BookState) (slot : Option Observation) → IsBook b → IfSome slot (λ o. are_known (length b.names) (observed_servers o) ≡ true) → All (IsBooked (length b.names)) (changes_by b slot)
 slot-booked b None is known = All-nil (IsBooked (length b.names))
 slot-booked b (Some o) is known = stored-booked b o is known (instance_at b o.no) refl
 
@@ -140,7 +143,7 @@ observed-booked count s read now (Some x) ready is =
     go n None at = All-nil (IsBooked (length s.book.names))
     go n (Some kept) at = stored-booked s.book (observed s.world read now n) ready.book (observed-known count s ready n read now kept at) (Some kept) at
 
-job-booked : (count : ℕ) (s : State) (id : ℕ) (o : Option Unended) → job_at s.jobs id ≡ o → Ready count s → All (IsBooked (length s.book.names)) (changes_by s.book (job_observation (option_map (turn_of s) o)))
+pub job-booked : (count : ℕ) (s : State) (id : ℕ) (o : Option Unended) → job_at s.jobs id ≡ o → Ready count s → All (IsBooked (length s.book.names)) (changes_by s.book (job_observation (option_map (turn_of s) o)))
 job-booked count s id None at ready = All-nil (IsBooked (length s.book.names))
 job-booked count s id (Some u) at ready = observed-booked count s (next_count s.reads) (moment_at s) (turn_of s u).observation ready (job-sees count s id u ready at)
 
@@ -300,14 +303,23 @@ follow-act count rows s act.Scan is within rising most follow =
     follow-begins count (moment_at s) rows s.audit (recoveries_begun s (turn.Act act.Scan)) (turn-apart s (turn.Act act.Scan)) (turn-short count s (turn.Act act.Scan) is) most follow
 follow-act count rows s act.Restart is within rising most follow = follow-restart count rows s is rising follow
 
+follow-done : (count : ℕ) (rows : List Row) (s : State) (o : Option Act) → Ready count s → IfSome o (IsAct count) → IsRising rows → (after_done rows s o).audit.next ≤ 2 ^ 64 → FollowAudit count rows s.audit
+    → FollowAudit count (changed rows (done_changes rows s o)) (after_done rows s o).audit
+follow-done count rows s None is within rising most follow = follow
+follow-done count rows s (Some a) is within rising most follow = follow-act count rows s a is within rising most follow
+
 pub follow-turn : (count : ℕ) (rows : List Row) (s : State) (t : Turn) → Ready count s → IsTurn count t → IsRising rows → (step rows s t).audit.next ≤ 2 ^ 64 → FollowAudit count rows s.audit
     → FollowAudit count (changed rows (changes_of rows s t)) (step rows s t).audit
 follow-turn count rows s (turn.Step x) is within rising most follow = follow
 follow-turn count rows s (turn.Tick seconds) is within rising most follow = follow
 follow-turn count rows s (turn.Act a) is within rising most follow = follow-act count rows s a is within rising most follow
-follow-turn count rows s (turn.As node a) is within rising most follow = absurd within
-follow-turn count rows s (turn.Claim node) is within rising most follow = absurd within
-follow-turn count rows s (turn.Release node) is within rising most follow = absurd within
+follow-turn count rows s (turn.As node a) is within rising most follow = follow-done count rows s (act_in s (turn.As node a)) is (act-fits count s (turn.As node a) within) rising most follow
+follow-turn count rows s (turn.Claim node) is within rising most follow =
+    let done = done_changes rows s (act_in s (turn.Claim node)) in
+    let after = (after_done rows s (act_in s (turn.Claim node))).audit in
+    subst (λ (xs : List Row). FollowAudit count xs after) (sym (fold-append changed_by rows done (claim_changes s node)))
+    (FollowAudit-claims count (changed rows done) after (claim_changes s node) (claim-changes-are s node) (follow-done count rows s (act_in s (turn.Claim node)) is (act-fits count s (turn.Claim node) within) rising most follow))
+follow-turn count rows s (turn.Release node) is within rising most follow = FollowAudit-claims count rows s.audit (release_changes s node) (release-changes-are s node) follow
 
 pub FollowAudit-step : (rows : List Row) (s : State) (t : Turn) → IsState s → IsTurn (length s.world.servers) t → (step rows s t).audit.next ≤ 2 ^ 64 → Follow rows s.book → FollowAudit (length s.world.servers) rows s.audit
     → FollowAudit (length s.world.servers) (changed rows (changes_of rows s t)) (step rows s t).audit
@@ -363,20 +375,20 @@ module _ (s : Scenario) (wait : ℕ) (rows : List Row) (is : IsScenario s) where
 -- ---- over a whole run
 
 -- both the book and the audit are followed
-record FollowsBoth (count : ℕ) (h : Held State) : Type 0 where
-  ready : Ready count h.state
-  book : Follow h.rows h.state.book
-  audit : FollowAudit count h.rows h.state.audit
+pub record FollowsBoth (count : ℕ) (h : Held State) : Type 0 where
+  pub ready : Ready count h.state
+  pub book : Follow h.rows h.state.book
+  pub audit : FollowAudit count h.rows h.state.audit
 
 -- the next id of each state is at most that of the last one
-next-run : (h : Held State) (ts : List Turn) → h.state.audit.next ≤ (held_run engine h ts).state.audit.next
+pub next-run : (h : Held State) (ts : List Turn) → h.state.audit.next ≤ (held_run engine h ts).state.audit.next
 next-run h [] = omega arith
 next-run h (t ∷ ts) =
     let here = next-goes-on h.rows h.state t in
     let rest = next-run (held_step engine h t) ts in
     omega (arith, here, rest)
 
-both-run : (count : ℕ) (h : Held State) (ts : List Turn) → All (IsTurn count) ts → (held_run engine h ts).state.audit.next ≤ 2 ^ 64 → FollowsBoth count h → FollowsBoth count (held_run engine h ts)
+pub both-run : (count : ℕ) (h : Held State) (ts : List Turn) → All (IsTurn count) ts → (held_run engine h ts).state.audit.next ≤ 2 ^ 64 → FollowsBoth count h → FollowsBoth count (held_run engine h ts)
 both-run count h [] all most both = both
 both-run count h (t ∷ ts) all most both =
     let here = All-head (IsTurn count) t ts all in
@@ -396,7 +408,7 @@ module _ (s : Scenario) (wait : ℕ) (rows : List Row) (ts : List Turn) (is : Is
   abbrev whole : Held State
   whole = held_run engine (held-start s wait rows) ts
 
-  both-whole : whole.state.audit.next ≤ 2 ^ 64 → FollowsBoth (length s.opening.servers) whole
+  pub both-whole : whole.state.audit.next ≤ 2 ^ 64 → FollowsBoth (length s.opening.servers) whole
   both-whole most =
       both-run (length s.opening.servers) (held-start s wait rows) ts all most
       (record { ready = Ready-start s wait rows is; book = Follow-start s wait rows is rising; audit = FollowAudit-start s wait rows is rising })

@@ -1,6 +1,6 @@
 -- What begins with a turn can begin, at its moment, and is apart.
 use Rattle.std.proofs.Common.{◌≡◌, ◌∙◌, ℕ, ◌+◌, ◌<◌, ◌≤◌, ◌^◌, true, List, [], ◌∷◌, length, refl, sym, ap, subst, Option, Some, None, Result, Ok, Err, arith}
-use Rattle.std.specs.Prelude.{All}
+use Rattle.std.specs.Prelude.{All, IfSome}
 use Rattle.std.proofs.lemmas.Bool.{ltb-true}
 use Rattle.std.proofs.lemmas.List.Elements.{All-cons, All-map, All-nil, All-weaker}
 use Rattle.audit_log.specs.Audits.{AuditState, begun, longest_block}
@@ -37,9 +37,11 @@ use Rattle.run_laws.proofs.ReadyOutcomes.{within-both}
 use Rattle.run_laws.specs.Ready.{Ready}
 use Rattle.run_laws.proofs.Periods.{short-by}
 use Rattle.run_laws.proofs.Apart.{recovery-apart, scan-apart, takeover-apart}
+use Rattle.run_laws.specs.Begins.{BeginApartInTurn, entries_of, BeginsApart}
+use Rattle.run_laws.specs.Entries.{attempt_in, entries_begun, recoveries_begun, recoveries_by, recoveries_in_act, recoveries_of, takeovers_by, takeovers_of, tried, recoveries_done, scan_in}
+use Rattle.orch_core.specs.Nodes.{act_in}
+use Rattle.orch_core.proofs.Claims.{act-fits}
 use Rattle.run_laws.proofs.Told.{told-entries}
-use Rattle.run_laws.specs.Begins.{BeginApartInTurn, BeginsApart, entries_of}
-use Rattle.run_laws.specs.Entries.{attempt_in, entries_begun, recoveries_begun, recoveries_by, recoveries_in_act, recoveries_of, scan_in, takeovers_by, takeovers_of, tried}
 
 -- ---- what a command begins: nothing, a recovery that isn't refused, or a takeover that isn't
 
@@ -106,13 +108,17 @@ act-can count s act.Scan ready is =
     (scan-in-turn s.world s.book (attempt_in s) s.configuration.wait s.audit s.last_job ready.book (λ n. short-by s.configuration ready.periods (label_at s.book n)))
 act-can count s act.Restart ready is = tt
 
+done-can : (count : ℕ) (s : State) (o : Option Act) → Ready count s → IfSome o (IsAct count) → Can s (recoveries_done s o)
+done-can count s None ready is = tt
+done-can count s (Some a) ready is = act-can count s a ready is
+
 pub turn-can : (count : ℕ) (s : State) (t : Turn) → Ready count s → IsTurn count t → Can s (recoveries_begun s t)
 turn-can count s (turn.Step x) ready is = tt
 turn-can count s (turn.Tick seconds) ready is = tt
 turn-can count s (turn.Act a) ready is = act-can count s a ready is
-turn-can count s (turn.As node a) ready is = absurd is
-turn-can count s (turn.Claim node) ready is = absurd is
-turn-can count s (turn.Release node) ready is = absurd is
+turn-can count s (turn.As node a) ready is = done-can count s (act_in s (turn.As node a)) ready (act-fits count s (turn.As node a) is)
+turn-can count s (turn.Claim node) ready is = done-can count s (act_in s (turn.Claim node)) ready (act-fits count s (turn.Claim node) is)
+turn-can count s (turn.Release node) ready is = tt
 
 -- ---- and apart, at the moment of the turn
 
@@ -136,12 +142,16 @@ act-apart s act.Scan =
     (scan-apart s.world s.book (attempt_in s) s.configuration.wait (record { 0 = s.moment }) (λ n. refl) s.audit s.last_job)
 act-apart s act.Restart = tt
 
+done-apart : (s : State) (o : Option Act) → Apart s (recoveries_done s o)
+done-apart s None = tt
+done-apart s (Some a) = act-apart s a
+
 pub turn-apart : (s : State) (t : Turn) → Apart s (recoveries_begun s t)
 turn-apart s (turn.Step x) = tt
 turn-apart s (turn.Tick seconds) = tt
 turn-apart s (turn.Act a) = act-apart s a
-turn-apart s (turn.As node a) = act-apart s a
-turn-apart s (turn.Claim node) = tt
+turn-apart s (turn.As node a) = done-apart s (act_in s (turn.As node a))
+turn-apart s (turn.Claim node) = done-apart s (act_in s (turn.Claim node))
 turn-apart s (turn.Release node) = tt
 
 -- ---- with the block periods of their clusters
@@ -185,12 +195,16 @@ act-periods s act.Scan =
     (scan-blocks s.world s.book (attempt_in s) s.configuration.wait s.audit s.last_job (period_by s.configuration) (λ n. refl))
 act-periods s act.Restart = none-periods s
 
+done-periods : (s : State) (o : Option Act) → HavePeriods s (recoveries_done s o)
+done-periods s None = none-periods s
+done-periods s (Some a) = act-periods s a
+
 pub turn-periods : (s : State) (t : Turn) → HavePeriods s (recoveries_begun s t)
 turn-periods s (turn.Step x) = none-periods s
 turn-periods s (turn.Tick seconds) = none-periods s
 turn-periods s (turn.Act a) = act-periods s a
-turn-periods s (turn.As node a) = act-periods s a
-turn-periods s (turn.Claim node) = none-periods s
+turn-periods s (turn.As node a) = done-periods s (act_in s (turn.As node a))
+turn-periods s (turn.Claim node) = done-periods s (act_in s (turn.Claim node))
 turn-periods s (turn.Release node) = none-periods s
 
 -- so none is too long

@@ -1,6 +1,6 @@
 -- In every state of a run the audit is apart, and each of its recoveries counts at a restart.
-use Rattle.std.proofs.Common.{◌≡◌, ◌∙◌, ℕ, ◌<◌, ◌≤◌, Bool, true, false, leb, List, [], ◌∷◌, get_or, length, map, refl, sym, ap, subst, inl, inr, Option, arith}
-use Rattle.std.specs.Prelude.{All, ◌==◌, ◌&&◌, nat_lt, if◌then◌else◌}
+use Rattle.std.proofs.Common.{◌≡◌, ◌∙◌, ℕ, ◌<◌, ◌≤◌, Bool, true, false, leb, List, [], ◌∷◌, get_or, length, map, refl, sym, ap, subst, inl, inr, Option, arith, Some, None}
+use Rattle.std.specs.Prelude.{All, ◌==◌, ◌&&◌, nat_lt, if◌then◌else◌, IfSome}
 use Rattle.std.proofs.lemmas.Bool.{le-leb, leb-true}
 use Rattle.std.proofs.lemmas.List.Elements.{All-head, All-map, All-push, All-tail, All-weaker}
 use Rattle.audit_log.proofs.Parting.{acknowledged-apart, closed-apart}
@@ -36,7 +36,7 @@ use Rattle.orch_core.specs.Closings.{closing_of}
 use Rattle.orch_core.specs.Jobs.{turned_at}
 use Rattle.orch_core.specs.Polls.{command_outcome}
 use Rattle.orch_core.specs.Restarts.{interrupted_at, last_given, reloaded_audit, reloaded_moment}
-use Rattle.orch_core.specs.After.{after_act, step}
+use Rattle.orch_core.specs.After.{after_act, step, after_done}
 use Rattle.orch_core.specs.Periods.{period_by}
 use Rattle.orch_core.specs.Runs.{engine, run_turns, turns_of}
 use Rattle.orch_core.specs.Scenarios.{loaded_audit, start, start_moment, start_rows}
@@ -55,6 +55,8 @@ use Rattle.run_laws.proofs.Logged.{Becomes, command-becomes}
 use Rattle.run_laws.proofs.Periods.{short-by}
 use Rattle.run_laws.specs.Entries.{recoveries_begun, recoveries_scanned}
 use Rattle.run_laws.specs.Runs.{ComesTo}
+use Rattle.orch_core.specs.Nodes.{act_in}
+use Rattle.orch_core.proofs.Claims.{act-fits}
 
 -- ---- recoveries that count, whatever their ids
 
@@ -159,13 +161,17 @@ act-moment rows s (act.Job job) most = most
 act-moment rows s act.Scan most = most
 act-moment rows s act.Restart most = moment-reloaded rows s most
 
+done-moment : (rows : List Row) (s : State) (o : Option Act) → s.moment ≤ greatest → (after_done rows s o).moment ≤ greatest
+done-moment rows s None most = most
+done-moment rows s (Some a) most = act-moment rows s a most
+
 -- time stands still at the end of its range
-moment-stays : (rows : List Row) (s : State) (t : Turn) → s.moment ≤ greatest → (step rows s t).moment ≤ greatest
+pub moment-stays : (rows : List Row) (s : State) (t : Turn) → s.moment ≤ greatest → (step rows s t).moment ≤ greatest
 moment-stays rows s (turn.Step x) most = most
 moment-stays rows s (turn.Tick seconds) most = later-most s.moment seconds
 moment-stays rows s (turn.Act a) most = act-moment rows s a most
-moment-stays rows s (turn.As node a) most = act-moment rows s a most
-moment-stays rows s (turn.Claim node) most = most
+moment-stays rows s (turn.As node a) most = done-moment rows s (act_in s (turn.As node a)) most
+moment-stays rows s (turn.Claim node) most = done-moment rows s (act_in s (turn.Claim node)) most
 moment-stays rows s (turn.Release node) most = most
 
 -- ---- each turn
@@ -221,13 +227,17 @@ logged-act count rows s act.Scan is fits =
     logged-becomes count s (recoveries_scanned s) (audit_after s.audit (recoveries_scanned s)) is (turn-can count s (turn.Act act.Scan) is.ready fits) (turn-apart s (turn.Act act.Scan)) (inr refl)
 logged-act count rows s act.Restart is fits = logged-restart count rows s is
 
+logged-done : (count : ℕ) (rows : List Row) (s : State) (o : Option Act) → IsReckoned count s → IfSome o (IsAct count) → IsLogged count (after_done rows s o).audit
+logged-done count rows s None is fits = record { apart = is.apart; known = is.known }
+logged-done count rows s (Some a) is fits = logged-act count rows s a is fits
+
 logged-step : (count : ℕ) (rows : List Row) (s : State) (t : Turn) → IsReckoned count s → IsTurn count t → IsLogged count (step rows s t).audit
 logged-step count rows s (turn.Step x) is fits = record { apart = is.apart; known = is.known }
 logged-step count rows s (turn.Tick seconds) is fits = record { apart = is.apart; known = is.known }
 logged-step count rows s (turn.Act a) is fits = logged-act count rows s a is fits
-logged-step count rows s (turn.As node a) is fits = absurd fits
-logged-step count rows s (turn.Claim node) is fits = absurd fits
-logged-step count rows s (turn.Release node) is fits = absurd fits
+logged-step count rows s (turn.As node a) is fits = logged-done count rows s (act_in s (turn.As node a)) is (act-fits count s (turn.As node a) fits)
+logged-step count rows s (turn.Claim node) is fits = logged-done count rows s (act_in s (turn.Claim node)) is (act-fits count s (turn.Claim node) fits)
+logged-step count rows s (turn.Release node) is fits = record { apart = is.apart; known = is.known }
 
 pub reckoned-step : (count : ℕ) (rows : List Row) (s : State) (t : Turn) → IsReckoned count s → IsTurn count t → IsReckoned count (step rows s t)
 reckoned-step count rows s t is fits =
@@ -289,10 +299,14 @@ act-goes-on rows s (act.Job job) = let same = closed_by-next s.audit (record { 0
 act-goes-on rows s act.Scan = next-after (record { 0 = s.moment }) s.audit (recoveries_scanned s) (turn-apart s (turn.Act act.Scan))
 act-goes-on rows s act.Restart = omega arith
 
+done-goes-on : (rows : List Row) (s : State) (o : Option Act) → s.audit.next ≤ (after_done rows s o).audit.next
+done-goes-on rows s None = omega arith
+done-goes-on rows s (Some a) = act-goes-on rows s a
+
 pub next-goes-on : (rows : List Row) (s : State) (t : Turn) → s.audit.next ≤ (step rows s t).audit.next
 next-goes-on rows s (turn.Step x) = omega arith
 next-goes-on rows s (turn.Tick seconds) = omega arith
 next-goes-on rows s (turn.Act a) = act-goes-on rows s a
-next-goes-on rows s (turn.As node a) = act-goes-on rows s a
-next-goes-on rows s (turn.Claim node) = omega arith
+next-goes-on rows s (turn.As node a) = done-goes-on rows s (act_in s (turn.As node a))
+next-goes-on rows s (turn.Claim node) = done-goes-on rows s (act_in s (turn.Claim node))
 next-goes-on rows s (turn.Release node) = omega arith

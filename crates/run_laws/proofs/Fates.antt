@@ -46,13 +46,14 @@ use Rattle.turns.specs.declared.turn.Turn.TheVariants as turn
 use Rattle.unended_jobs.specs.Hooked.{hooked}
 use Rattle.unended_jobs.specs.declared.unended.Unended.{Unended}
 use Rattle.unended_jobs.specs.declared.unended.Unended.TheVariants as unended
-use Rattle.orch_core.specs.After.{after_act}
+use Rattle.orch_core.specs.After.{after_act, after_done}
 use Rattle.orch_core.proofs.Closed.{flown-entry}
 use Rattle.orch_core.specs.Closings.{closed_by, closing_at, closing_for, closing_of}
 use Rattle.orch_core.specs.Commands.{Outcome, about as given_or, asked, begun as job_begun, by_hand, decided, discovered, forgotten, next_reading, outcome_by, outcome_of, question, recovered, recovery_begun, refusal, removal_refusal, taken_over}
 use Rattle.orch_core.specs.HookTelling.{told_try}
 use Rattle.orch_core.specs.Jobs.{turn_of}
-use Rattle.orch_core.specs.Keeping.{act_asks, asks}
+use Rattle.orch_core.specs.Nodes.{act_in}
+use Rattle.orch_core.specs.Runs.{act_asks, asks, done_asks}
 use Rattle.orch_core.specs.Knowing.{updated}
 use Rattle.orch_core.specs.Polls.{command_outcome, numbers_of}
 use Rattle.orch_core.specs.Restarts.{interrupted_at}
@@ -61,8 +62,8 @@ use Rattle.orch_core.specs.States.{State}
 use Rattle.run_laws.proofs.Closings.{ended-map, ended_as, ended_in, ended_with}
 use Rattle.run_laws.proofs.Reloads.{reloaded-comes}
 use Rattle.run_laws.specs.Begins.{entries_of}
-use Rattle.run_laws.specs.Entries.{recoveries_by, recoveries_in_act, recoveries_of, recoveries_scanned, takeovers_by, takeovers_of, tried}
-use Rattle.run_laws.specs.Fates.{AuditIs, RestartKeepsAll, acked_in, cluster_acked, cluster_decided, cluster_of, entry_by_job, entry_in_act, entry_of_turn, entry_then}
+use Rattle.run_laws.specs.Entries.{recoveries_by, recoveries_done, recoveries_in_act, recoveries_of, recoveries_scanned, takeovers_by, takeovers_of, tried}
+use Rattle.run_laws.specs.Fates.{AuditIs, RestartKeepsAll, acked_in, cluster_acked, cluster_decided, cluster_of, entry_by_job, entry_in_act, entry_in_done, entry_then, entry_of_turn}
 use Rattle.run_laws.specs.Runs.{ComesTo}
 
 -- ---- lists
@@ -250,12 +251,16 @@ act-fates rows s (act.Job job) off = by-job-turn s (job_at s.jobs job)
 act-fates rows s act.Scan off = joins s.audit (recoveries_scanned s)
 act-fates rows s act.Restart off = absurd (false≢true (sym off))
 
-pub turn-fates : (rows : List Row) (s : State) (t : Turn) → asks t ≡ false → AuditIs rows s t
+done-fates : (rows : List Row) (s : State) (o : Option Act) → done_asks o ≡ false → (after_done rows s o).audit.recoveries ≡ map (entry_in_done s o) s.audit.recoveries ++ entries_of (recoveries_done s o)
+done-fates rows s None off = stays s.audit.recoveries
+done-fates rows s (Some a) off = act-fates rows s a off
+
+pub turn-fates : (rows : List Row) (s : State) (t : Turn) → asks s t ≡ false → AuditIs rows s t
 turn-fates rows s (turn.Step x) off = stays s.audit.recoveries
 turn-fates rows s (turn.Tick seconds) off = stays s.audit.recoveries
 turn-fates rows s (turn.Act a) off = act-fates rows s a off
-turn-fates rows s (turn.As node a) off = act-fates rows s a off
-turn-fates rows s (turn.Claim node) off = stays s.audit.recoveries
+turn-fates rows s (turn.As node a) off = done-fates rows s (act_in s (turn.As node a)) off
+turn-fates rows s (turn.Claim node) off = done-fates rows s (act_in s (turn.Claim node)) off
 turn-fates rows s (turn.Release node) off = stays s.audit.recoveries
 
 pub restart-comes : (s : Scenario) (xs : List (List Row × Turn)) (last : State) (rows : List Row) → ComesTo s xs last → RestartKeepsAll (length s.opening.servers) rows last

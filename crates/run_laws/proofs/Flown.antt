@@ -1,6 +1,6 @@
 -- Each turn of a run is its passages.
 use Rattle.std.proofs.Common.{◌≡◌, ◌∙◌, ℕ, Bool, true, false, List, [], ◌∷◌, length, refl, sym, ap, Option, Some, None, zero, suc}
-use Rattle.std.specs.Prelude.{is_some, map, nat_lt, not, replicate, slice_index_or, slice_set, if◌then◌else◌}
+use Rattle.std.specs.Prelude.{is_some, map, nat_lt, not, replicate, slice_index_or, slice_set, if◌then◌else◌, IfSome}
 use Rattle.std.specs.Option.{option_map}
 use Rattle.std.proofs.lemmas.Bool.{false≢true}
 use Rattle.orch_base.specs.declared.server.Settings.{Settings}
@@ -41,12 +41,14 @@ use Rattle.jobs_in_flight.specs.Jobs.{book_turned, job_at, job_exchanges, jobs_t
 use Rattle.orch_core.specs.Jobs.{turn_of}
 use Rattle.orch_core.specs.Polls.{empty_slots, reading, slot_at}
 use Rattle.orch_core.specs.Restarts.{last_given, reloaded_book}
-use Rattle.orch_core.specs.After.{after_act, after_restart, step}
+use Rattle.orch_core.specs.After.{after_act, after_restart, step, after_done}
 use Rattle.orch_core.specs.States.{State}
-use Rattle.run_laws.specs.Flights.{act_passages, by_job, flight_of, moment_at, passages_of, takes, takes_over}
+use Rattle.run_laws.specs.Flights.{act_passages, by_job, flight_of, moment_at, passages_of, takes, takes_over, done_passages}
 use Rattle.run_laws.proofs.FlownOutcomes.{Leaves-command, Leaves-scan}
 use Rattle.run_laws.specs.Ready.{Ready}
 use Rattle.run_laws.proofs.Ready.{settings-count}
+use Rattle.orch_core.specs.Nodes.{act_in}
+use Rattle.orch_core.proofs.Claims.{act-fits}
 
 -- ---- a reading that is stored
 
@@ -208,10 +210,14 @@ flown-act count rows s (act.Job job) ready is = job-flown s job (job_at s.jobs j
 flown-act count rows s act.Scan ready is = (Leaves-scan count s ready).flown
 flown-act count rows s act.Restart ready is = restart-flown count rows s ready
 
+flown-done : (count : ℕ) (rows : List Row) (s : State) (o : Option Act) → Ready count s → IfSome o (IsAct count) → flight_of (after_done rows s o) ≡ passing (flight_of s) (done_passages s o)
+flown-done count rows s None ready is = refl
+flown-done count rows s (Some a) ready is = flown-act count rows s a ready is
+
 pub flown : (count : ℕ) (rows : List Row) (s : State) (t : Turn) → Ready count s → IsTurn count t → flight_of (step rows s t) ≡ passing (flight_of s) (passages_of s t)
 flown count rows s (turn.Step x) ready is = refl
 flown count rows s (turn.Tick seconds) ready is = refl
 flown count rows s (turn.Act a) ready is = flown-act count rows s a ready is
-flown count rows s (turn.As node a) ready is = absurd is
-flown count rows s (turn.Claim node) ready is = absurd is
-flown count rows s (turn.Release node) ready is = absurd is
+flown count rows s (turn.As node a) ready is = flown-done count rows s (act_in s (turn.As node a)) ready (act-fits count s (turn.As node a) is)
+flown count rows s (turn.Claim node) ready is = flown-done count rows s (act_in s (turn.Claim node)) ready (act-fits count s (turn.Claim node) is)
+flown count rows s (turn.Release node) ready is = refl

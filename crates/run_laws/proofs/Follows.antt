@@ -33,7 +33,7 @@ use Rattle.turns.specs.declared.turn.Act.TheVariants as act
 use Rattle.turns.specs.declared.turn.Turn.{Turn}
 use Rattle.turns.specs.declared.turn.Turn.TheVariants as turn
 use Rattle.commands.specs.declared.turn.CommandTurn.{CommandTurn}
-use Rattle.orch_core.specs.Polls.{act_changes, changes_by, changes_of, command_outcome, numbers_of, slot_at}
+use Rattle.orch_core.specs.Polls.{act_changes, changes_by, changes_of, command_outcome, numbers_of, slot_at, done_changes}
 use Rattle.jobs_in_flight.specs.Jobs.{book_turned, job_at, job_observation, stored, without_leases}
 use Rattle.orch_core.specs.Jobs.{turn_of, turned_at}
 use Rattle.recovery_core.specs.Begun.{leases_after}
@@ -62,7 +62,7 @@ use Rattle.opening_book.specs.Counting.{greatest_id}
 use Rattle.orch_base.specs.Memory.{next_count}
 use Rattle.orch_core.specs.States.{State, IsState}
 use Rattle.scenarios.specs.Turns.{IsAct, IsCommand, IsTurn}
-use Rattle.orch_core.specs.After.{after_act, step}
+use Rattle.orch_core.specs.After.{after_act, step, after_done}
 use Rattle.orch_core.proofs.Servers.{servers-start}
 use Rattle.orch_core.proofs.Starts.{all-missing, all-opening, all-registering, opened-is, sources-start}
 use Rattle.orch_core.proofs.States.{reading_known, names-loaded}
@@ -92,6 +92,9 @@ use Rattle.run_laws.proofs.Closings.{end-puts, end-small, end_changes, ended_as,
 use Rattle.run_laws.proofs.Counting.{next-goes-on}
 use Rattle.run_laws.specs.Entries.{recoveries_begun}
 use Rattle.run_laws.specs.Flights.{moment_at}
+use Rattle.orch_core.specs.Nodes.{act_in, claim_changes, release_changes}
+use Rattle.orch_core.proofs.Claims.{act-fits}
+use Rattle.run_laws.proofs.ClaimRows.{Follow-claims, claim-changes-are, release-changes-are}
 
 -- at the opening
 
@@ -199,7 +202,7 @@ Follow-ending rows b a now id e acked is small follow =
     (Follow-recoveries rows b (option_to_list (option_map (ended_as now e acked) (recovery_at a id))) (end-small now id e a acked is small) follow)
 
 -- and neither are those that begin
-entries-puts : (xs : List RecoveryBegins) → entries_put xs ≡ map put_recovery (entries_of xs)
+pub entries-puts : (xs : List RecoveryBegins) → entries_put xs ≡ map put_recovery (entries_of xs)
 entries-puts [] = refl
 entries-puts (x ∷ xs) = ap (λ (cs : List Change). put_recovery x.entry ∷ cs) (entries-puts xs)
 
@@ -357,14 +360,23 @@ Follow-act count rows s (act.Job job) is audit most within follow = Follow-job r
 Follow-act count rows s act.Scan is audit most within follow = Follow-begins rows s.book (recoveries_begun s (turn.Act act.Scan)) (small-ids s (turn.Act act.Scan) most) follow
 Follow-act count rows s act.Restart is audit most within follow = Follow-restart rows s is.periods audit most follow
 
+Follow-done : (count : ℕ) (rows : List Row) (s : State) (o : Option Act) → Ready count s → IsAudit s.audit → (after_done rows s o).audit.next ≤ 2 ^ 64 → IfSome o (IsAct count) → Follow rows s.book
+    → Follow (changed rows (done_changes rows s o)) (after_done rows s o).book
+Follow-done count rows s None is audit most within follow = follow
+Follow-done count rows s (Some a) is audit most within follow = Follow-act count rows s a is audit most within follow
+
 pub Follow-turn : (count : ℕ) (rows : List Row) (s : State) (t : Turn) → Ready count s → IsAudit s.audit → (step rows s t).audit.next ≤ 2 ^ 64 → IsTurn count t → Follow rows s.book
     → Follow (changed rows (changes_of rows s t)) (step rows s t).book
 Follow-turn count rows s (turn.Step x) is audit most within follow = follow
 Follow-turn count rows s (turn.Tick seconds) is audit most within follow = follow
 Follow-turn count rows s (turn.Act a) is audit most within follow = Follow-act count rows s a is audit most within follow
-Follow-turn count rows s (turn.As node a) is audit most within follow = absurd within
-Follow-turn count rows s (turn.Claim node) is audit most within follow = absurd within
-Follow-turn count rows s (turn.Release node) is audit most within follow = absurd within
+Follow-turn count rows s (turn.As node a) is audit most within follow = Follow-done count rows s (act_in s (turn.As node a)) is audit most (act-fits count s (turn.As node a) within) follow
+Follow-turn count rows s (turn.Claim node) is audit most within follow =
+    let done = done_changes rows s (act_in s (turn.Claim node)) in
+    let after = (after_done rows s (act_in s (turn.Claim node))).book in
+    subst (λ (xs : List Row). Follow xs after) (sym (fold-append changed_by rows done (claim_changes s node)))
+    (Follow-claims (changed rows done) after (claim_changes s node) (claim-changes-are s node) (Follow-done count rows s (act_in s (turn.Claim node)) is audit most (act-fits count s (turn.Claim node) within) follow))
+Follow-turn count rows s (turn.Release node) is audit most within follow = Follow-claims rows s.book (release_changes s node) (release-changes-are s node) follow
 
 -- what states are, with a book
 pub ready-of : (s : State) → IsState s → IsBook s.book → Ready (length s.world.servers) s

@@ -1,6 +1,6 @@
 -- Each recovery of the audit that isn't ended has its unended job.
 use Rattle.std.proofs.Common.{◌≡◌, ◌∙◌, ℕ, ◌+◌, ◌<◌, ◌≤◌, Bool, true, false, cond, List, [], ◌∷◌, ◌++◌, append_assoc, map, length, refl, sym, ap, subst, Option, Some, None, Result, Ok, Err, arith}
-use Rattle.std.specs.Prelude.{◌==◌, ◌||◌, All, AllPairs, filter, fold, is_none, not, if◌then◌else◌}
+use Rattle.std.specs.Prelude.{◌==◌, ◌||◌, All, AllPairs, IfSome, filter, fold, is_none, not, if◌then◌else◌}
 use Rattle.std.specs.Option.{option_map, option_to_list}
 use Rattle.std.proofs.lemmas.Bool.{eq-eqb, eqb-true, ne_eqb}
 use Rattle.std.proofs.lemmas.List.{append-nil}
@@ -23,7 +23,7 @@ use Rattle.commands.specs.declared.refusal.Refusal.{Refusal}
 use Rattle.commands.specs.declared.refusal.Refusal.TheVariants.{UnknownInstance}
 use Rattle.commands.specs.declared.turn.CommandTurn.{CommandTurn}
 use Rattle.instance_keeper.specs.Book.{BookState}
-use Rattle.jobs_in_flight.proofs.Numbers.{Rise-push, Rise-with, Rise-without, found-number, with-past}
+use Rattle.jobs_in_flight.proofs.Numbers.{Rise-push, Rise-with, Rise-within, Rise-without, found-number, with-past}
 use Rattle.jobs_in_flight.specs.Jobs.{Rise, job_at, jobs_turned, with_job, without_job}
 use Rattle.job_laws.proofs.Lists.{All-find}
 use Rattle.kept_rows.proofs.Lists.{pairs_head, pairs_tail}
@@ -40,13 +40,15 @@ use Rattle.orch_base.specs.declared.server.Moment.{Moment}
 use Rattle.orch_base.specs.declared.server.ServerNo.{ServerNo}
 use Rattle.orch_core.proofs.Beginnings.{job-entry}
 use Rattle.orch_core.proofs.Joining.{joined-rising}
-use Rattle.orch_core.specs.After.{after_act, after_job, step as turn_step}
+use Rattle.orch_core.specs.After.{after_act, after_done, after_job, step as turn_step}
+use Rattle.orch_core.proofs.Claims.{act-fits}
 use Rattle.orch_core.proofs.Closed.{flown-entry}
 use Rattle.orch_core.specs.Closings.{closed_by, closing_at, closing_for, closing_of}
 use Rattle.orch_core.specs.Commands.{Outcome, about as given_or, asked, begun as job_begun, by_hand, decided, discovered, forgotten, next_reading, outcome_by, outcome_of, question, recovered, recovery_begun, refusal, removal_refusal, taken_over}
 use Rattle.orch_core.specs.HookTelling.{told_try}
 use Rattle.orch_core.specs.Jobs.{turn_of}
 use Rattle.orch_core.specs.Knowing.{recovery_job, updated}
+use Rattle.orch_core.specs.Nodes.{act_in}
 use Rattle.orch_core.specs.Polls.{command_outcome, numbers_of}
 use Rattle.orch_core.specs.Restarts.{interrupted_at, reloaded_audit}
 use Rattle.orch_core.specs.Runs.{engine, run_turns, turns_of}
@@ -289,13 +291,13 @@ entries-past low (x ∷ xs) high id j rise found entry = go (number_of x == id) 
 
 -- ---- in a state
 
--- they are paired, and the jobs' numbers rise
-record ArePaired (a : AuditState) (jobs : List Unended) (last : ℕ) : Type 0 where
-  ids : open_ids a ≡ entries_in jobs
-  rising : Rise 0 jobs last
+-- they are paired, and the jobs' numbers rise above this one
+pub record ArePaired (low : ℕ) (a : AuditState) (jobs : List Unended) (last : ℕ) : Type 0 where
+  pub ids : open_ids a ≡ entries_in jobs
+  pub rising : Rise low jobs last
 
-abbrev IsPaired : State → Type 0
-IsPaired s = ArePaired s.audit s.jobs s.last_job
+abbrev pub IsPaired : ℕ → State → Type 0
+IsPaired low s = ArePaired low s.audit s.jobs s.last_job
 
 -- ---- what begins
 
@@ -312,25 +314,25 @@ ids-joined count leases a last (x ∷ xs) jobs each same =
     (open-begun a x.entry unended ∙ ap (λ (ys : List ℕ). ys ++ x.entry.id ∷ []) same ∙ sym (entries-append jobs (recovery_job x ∷ [])))
     ∙ ap entries_in (append_assoc jobs (recovery_job x ∷ []) (map recovery_job xs))
 
-module _ (s : State) (is : IsPaired s) where
+module _ (low : ℕ) (s : State) (is : IsPaired low s) where
   -- a job without an entry
-  begins-one : (job : Unended) → number_of job ≡ s.last_job + 1 → entry_id job ≡ None → ArePaired s.audit (s.jobs ++ job ∷ []) (number_of job)
+  begins-one : (job : Unended) → number_of job ≡ s.last_job + 1 → entry_id job ≡ None → ArePaired low s.audit (s.jobs ++ job ∷ []) (number_of job)
   begins-one job number entry = record {
     ids = is.ids ∙ sym (entries-append s.jobs (job ∷ []) ∙ ap (λ (o : Option ℕ). entries_in s.jobs ++ (option_to_list o ++ [])) entry ∙ append-nil (entries_in s.jobs));
-    rising = Rise-push 0 s.jobs s.last_job job (omega (arith, number)) is.rising;
+    rising = Rise-push low s.jobs s.last_job job (omega (arith, number)) is.rising;
   }
 
   -- recoveries
-  begins-all : (xs : List RecoveryBegins) → Can s xs → ArePaired (audit_after s.audit xs) (s.jobs ++ map recovery_job xs) (fold (λ l x. x.job.core.id) s.last_job xs)
+  begins-all : (xs : List RecoveryBegins) → Can s xs → ArePaired low (audit_after s.audit xs) (s.jobs ++ map recovery_job xs) (fold (λ l x. x.job.core.id) s.last_job xs)
   begins-all xs can = record {
     ids = ids-joined (length s.book.names) s.book.leases s.audit s.last_job xs s.jobs can is.ids;
-    rising = joined-rising (length s.book.names) s.book.leases s.audit s.last_job xs s.jobs can is.rising;
+    rising = joined-rising (length s.book.names) low s.book.leases s.audit s.last_job xs s.jobs can is.rising;
   }
 
-module _ (s : State) (is : IsPaired s) (c : CommandTurn) where
+module _ (low : ℕ) (s : State) (is : IsPaired low s) (c : CommandTurn) where
   -- by an outcome
   abbrev By : Outcome → Type 0
-  By o = ArePaired (updated (known_of s) o.book).audit (updated (known_of s) o.book).jobs (updated (known_of s) o.book).last_job
+  By o = ArePaired low (updated (known_of s) o.book).audit (updated (known_of s) o.book).jobs (updated (known_of s) o.book).last_job
 
   by-discovered : (b : BookState) (reads : ℕ) (o : Observation) (x : Option Seen) → By (discovered b reads o x)
   by-discovered b reads o None = is
@@ -344,7 +346,7 @@ module _ (s : State) (is : IsPaired s) (c : CommandTurn) where
   by-asked reads (Ok permit) lines = is
   by-asked reads (Err r) lines = is
 
-  by-effect : (e : Effect) → ArePaired (audit_decided s.audit e) s.jobs s.last_job
+  by-effect : (e : Effect) → ArePaired low (audit_decided s.audit e) s.jobs s.last_job
   by-effect effect.Stays = is
   by-effect (effect.Change x) = is
   by-effect (effect.Acks cluster) = record { ids = open-acknowledged s.audit cluster ∙ is.ids; rising = is.rising }
@@ -354,11 +356,11 @@ module _ (s : State) (is : IsPaired s) (c : CommandTurn) where
   by-decided reads a (Err r) d = is
 
   by-job : (r : Option Refusal) (list : List ServerNo) (job : Unended) → number_of job ≡ s.last_job + 1 → entry_id job ≡ None → By (job_begun (numbers_of s) r list job)
-  by-job None list job number entry = begins-one s is job number entry
+  by-job None list job number entry = begins-one low s is job number entry
   by-job (Some r) list job number entry = is
 
   by-try : (r : Result RecoveryBegins Refusal) → Can s (tried r) → By (recovery_begun (numbers_of s) r)
-  by-try (Ok x) can = begins-all s is (x ∷ []) can
+  by-try (Ok x) can = begins-all low s is (x ∷ []) can
   by-try (Err why) can = is
 
   by-recovery : (i : Option ServerNo) → Can s (recoveries_of s i) → By (given_or (refusal s.reads UnknownInstance) (recovered s.world s.book s.audit s.configuration (numbers_of s)) i)
@@ -402,37 +404,37 @@ module _ (s : State) (is : IsPaired s) (c : CommandTurn) where
 
 -- ---- a job's turn
 
-module _ (count : ℕ) (s : State) (id : ℕ) (ready : IsReckoned count s) (is : IsPaired s) where
+module _ (low count : ℕ) (s : State) (id : ℕ) (ready : IsReckoned count s) (is : IsPaired low s) where
   abbrev now : Moment
   now = record { 0 = s.moment }
 
   -- a job that has an entry is dropped, and its entry ends
   drops : (j : Unended) (e : ℕ) (o : Ending) (acked : Bool) → is_open o ≡ false → job_at s.jobs id ≡ Some j → entry_id j ≡ Some e
-      → ArePaired (ended_with s.audit now e o acked) (without_job s.jobs id) s.last_job
+      → ArePaired low (ended_with s.audit now e o acked) (without_job s.jobs id) s.last_job
   drops j e o acked closes found entry =
       let rising : Rising 0 (entries_in s.jobs) = subst (Rising 0) is.ids (rising-open s.audit ready.apart.audit) in
       record {
-        ids = open-ended now e o closes acked s.audit ∙ ap (others e) is.ids ∙ sym (entries-without 0 0 s.jobs s.last_job id j e is.rising rising found entry);
-        rising = Rise-without 0 s.jobs s.last_job id is.rising;
+        ids = open-ended now e o closes acked s.audit ∙ ap (others e) is.ids ∙ sym (entries-without low 0 s.jobs s.last_job id j e is.rising rising found entry);
+        rising = Rise-without low s.jobs s.last_job id is.rising;
       }
 
   -- one without is
-  passes : (j : Unended) → job_at s.jobs id ≡ Some j → entry_id j ≡ None → ArePaired s.audit (without_job s.jobs id) s.last_job
+  passes : (j : Unended) → job_at s.jobs id ≡ Some j → entry_id j ≡ None → ArePaired low s.audit (without_job s.jobs id) s.last_job
   passes j found entry = record {
-    ids = is.ids ∙ sym (entries-past 0 s.jobs s.last_job id j is.rising found entry);
-    rising = Rise-without 0 s.jobs s.last_job id is.rising;
+    ids = is.ids ∙ sym (entries-past low s.jobs s.last_job id j is.rising found entry);
+    rising = Rise-without low s.jobs s.last_job id is.rising;
   }
 
   -- one takes its place
-  goes : (j k : Unended) → job_at s.jobs id ≡ Some j → entry_id k ≡ entry_id j → number_of k ≡ number_of j → ArePaired s.audit (with_job s.jobs id k) s.last_job
+  goes : (j k : Unended) → job_at s.jobs id ≡ Some j → entry_id k ≡ entry_id j → number_of k ≡ number_of j → ArePaired low s.audit (with_job s.jobs id k) s.last_job
   goes j k found entry number = record {
-    ids = is.ids ∙ sym (entries-with 0 s.jobs s.last_job id j k is.rising entry found);
-    rising = Rise-with 0 s.jobs s.last_job id k (number ∙ found-number s.jobs id j found) is.rising;
+    ids = is.ids ∙ sym (entries-with low s.jobs s.last_job id j k is.rising entry found);
+    rising = Rise-with low s.jobs s.last_job id k (number ∙ found-number s.jobs id j found) is.rising;
   }
 
   -- a job without an entry
   by-plain : (j k : Unended) (x : JobStep) → job_at s.jobs id ≡ Some j → entry_id j ≡ None → entry_id k ≡ None → (is_going x ≡ true → number_of k ≡ number_of j)
-      → ArePaired s.audit (if is_going x then with_job s.jobs id k else without_job s.jobs id) s.last_job
+      → ArePaired low s.audit (if is_going x then with_job s.jobs id k else without_job s.jobs id) s.last_job
   by-plain j k step.Going found entry none number = goes j k found (none ∙ sym entry) (number refl)
   by-plain j k (step.Done lines) found entry none number = passes j found entry
   by-plain j k (step.Failed c lines) found entry none number = passes j found entry
@@ -440,7 +442,7 @@ module _ (count : ℕ) (s : State) (id : ℕ) (ready : IsReckoned count s) (is :
   -- a recovery with one
   by-entry : (r next : RecoveryJob) (d after : Docket) (e : ℕ) (x : JobStep) → job_at s.jobs id ≡ Some (unended.Recovery r d) → d.entry ≡ Some e → after.entry ≡ Some e
       → (is_going x ≡ true → number_of (unended.Recovery next after) ≡ r.core.id)
-      → ArePaired (closed_by s.audit now (closing_at next x e)) (if is_going x then with_job s.jobs id (unended.Recovery next after) else without_job s.jobs id) s.last_job
+      → ArePaired low (closed_by s.audit now (closing_at next x e)) (if is_going x then with_job s.jobs id (unended.Recovery next after) else without_job s.jobs id) s.last_job
   by-entry r next d after e step.Going found entry kept number = goes (unended.Recovery r d) (unended.Recovery next after) found (kept ∙ sym entry) (number refl)
   by-entry r next d after e (step.Done lines) found entry kept number =
       drops (unended.Recovery r d) e (done_with next.outcome.promoted) (is_acknowledged next (step.Done lines))
@@ -451,11 +453,11 @@ module _ (count : ℕ) (s : State) (id : ℕ) (ready : IsReckoned count s) (is :
   -- by the docket's entry
   abbrev Pairs : Hooked → Option ℕ → Type 0
   Pairs h o =
-      ArePaired (closed_by s.audit now (closing_for h.taken.recovery h.taken.step o))
+      ArePaired low (closed_by s.audit now (closing_for h.taken.recovery h.taken.step o))
       (if is_going h.taken.step then with_job s.jobs id (unended.Recovery h.taken.recovery h.docket) else without_job s.jobs id) s.last_job
 
   by-flown : (j : Unended) → job_at s.jobs id ≡ Some j → IsReady count j
-      → ArePaired (closed_by s.audit now (closing_of (Some (turn_of s j)))) (jobs_turned s.jobs id (Some (turn_of s j))) s.last_job
+      → ArePaired low (closed_by s.audit now (closing_of (Some (turn_of s j)))) (jobs_turned s.jobs id (Some (turn_of s j))) s.last_job
   by-flown (unended.Plan j) found able =
       by-plain (unended.Plan j) (turn_of s (unended.Plan j)).next (turn_of s (unended.Plan j)).step found refl refl
       (flown-number count s.world s.book (next_count s.reads) now (unended.Plan j) able)
@@ -469,46 +471,54 @@ module _ (count : ℕ) (s : State) (id : ℕ) (ready : IsReckoned count s) (is :
       by h (Some e) entry kept number =
           subst (Pairs h) (sym (kept ∙ entry)) (by-entry r h.taken.recovery d h.docket e h.taken.step found entry (kept ∙ entry) number)
 
-  paired-job : IsPaired (after_job s id)
+  paired-job : IsPaired low (after_job s id)
   paired-job = go (job_at s.jobs id) refl
     where
-      go : (o : Option Unended) → job_at s.jobs id ≡ o → ArePaired (closed_by s.audit now (closing_of (option_map (turn_of s) o))) (jobs_turned s.jobs id (option_map (turn_of s) o)) s.last_job
+      go : (o : Option Unended) → job_at s.jobs id ≡ o → ArePaired low (closed_by s.audit now (closing_of (option_map (turn_of s) o))) (jobs_turned s.jobs id (option_map (turn_of s) o)) s.last_job
       go None at = is
       go (Some j) at = by-flown j at (All-find (IsReady count) (λ (k : Unended). number_of k == id) s.jobs j ready.ready.jobs at)
 
 -- ---- each turn
 
-paired-none : (a : AuditState) (at : Moment) (last : ℕ) → ArePaired (closed a at) [] last
-paired-none a at last = record { ids = none-open at a.recoveries; rising = omega arith }
+pub paired-none : (low : ℕ) (a : AuditState) (at : Moment) (last : ℕ) → low ≤ last → ArePaired low (closed a at) [] last
+paired-none low a at last within = record { ids = none-open at a.recoveries; rising = within }
 
-paired-act : (count : ℕ) (rows : List Row) (s : State) (a : Act) → IsReckoned count s → IsAct count a → IsPaired s → IsPaired (after_act rows s a)
-paired-act count rows s (act.PollRead p n) ready fits is = record { ids = is.ids; rising = is.rising }
-paired-act count rows s (act.PollStore p) ready fits is = record { ids = is.ids; rising = is.rising }
-paired-act count rows s (act.Command c) ready fits is =
-    by-command s is c (turn-can count s (turn.Act (act.Command c)) ready.ready fits)
-paired-act count rows s (act.Job job) ready fits is = paired-job count s job ready is
-paired-act count rows s act.Scan ready fits is = begins-all s is (recoveries_scanned s) (turn-can count s (turn.Act act.Scan) ready.ready fits)
-paired-act count rows s act.Restart ready fits is = paired-none (reloaded_audit rows s) (interrupted_at rows s) s.last_job
+paired-act : (low count : ℕ) (rows : List Row) (s : State) (a : Act) → IsReckoned count s → IsAct count a → IsPaired low s → IsPaired low (after_act rows s a)
+paired-act low count rows s (act.PollRead p n) ready fits is = record { ids = is.ids; rising = is.rising }
+paired-act low count rows s (act.PollStore p) ready fits is = record { ids = is.ids; rising = is.rising }
+paired-act low count rows s (act.Command c) ready fits is =
+    by-command low s is c (turn-can count s (turn.Act (act.Command c)) ready.ready fits)
+paired-act low count rows s (act.Job job) ready fits is = paired-job low count s job ready is
+paired-act low count rows s act.Scan ready fits is = begins-all low s is (recoveries_scanned s) (turn-can count s (turn.Act act.Scan) ready.ready fits)
+paired-act low count rows s act.Restart ready fits is = paired-none low (reloaded_audit rows s) (interrupted_at rows s) s.last_job (Rise-within low s.jobs s.last_job is.rising)
 
-paired-step : (count : ℕ) (rows : List Row) (s : State) (t : Turn) → IsReckoned count s → IsTurn count t → IsPaired s → IsPaired (turn_step rows s t)
-paired-step count rows s (turn.Step x) ready fits is = record { ids = is.ids; rising = is.rising }
-paired-step count rows s (turn.Tick seconds) ready fits is = record { ids = is.ids; rising = is.rising }
-paired-step count rows s (turn.Act a) ready fits is = paired-act count rows s a ready fits is
-paired-step count rows s (turn.As node a) ready fits is = absurd fits
-paired-step count rows s (turn.Claim node) ready fits is = absurd fits
-paired-step count rows s (turn.Release node) ready fits is = absurd fits
+paired-done : (low count : ℕ) (rows : List Row) (s : State) (o : Option Act) → IsReckoned count s → IfSome o (IsAct count) → IsPaired low s → IsPaired low (after_done rows s o)
+paired-done low count rows s None ready fits is = is
+paired-done low count rows s (Some a) ready fits is = paired-act low count rows s a ready fits is
 
-paired-run : (count : ℕ) (s : State) (xs : List (List Row × Turn)) → All (IsTurn count) (turns_of xs) → IsReckoned count s → IsPaired s → IsPaired (run_turns engine s xs)
-paired-run count s [] all ready is = is
-paired-run count s (x ∷ xs) all ready is =
+paired-step : (low count : ℕ) (rows : List Row) (s : State) (t : Turn) → IsReckoned count s → IsTurn count t → IsPaired low s → IsPaired low (turn_step rows s t)
+paired-step low count rows s (turn.Step x) ready fits is = record { ids = is.ids; rising = is.rising }
+paired-step low count rows s (turn.Tick seconds) ready fits is = record { ids = is.ids; rising = is.rising }
+paired-step low count rows s (turn.Act a) ready fits is = paired-act low count rows s a ready fits is
+paired-step low count rows s (turn.As node a) ready fits is =
+    let now = paired-done low count rows s (act_in s (turn.As node a)) ready (act-fits count s (turn.As node a) fits) is in
+    record { ids = now.ids; rising = now.rising }
+paired-step low count rows s (turn.Claim node) ready fits is =
+    let now = paired-done low count rows s (act_in s (turn.Claim node)) ready (act-fits count s (turn.Claim node) fits) is in
+    record { ids = now.ids; rising = now.rising }
+paired-step low count rows s (turn.Release node) ready fits is = record { ids = is.ids; rising = is.rising }
+
+pub paired-run : (low count : ℕ) (s : State) (xs : List (List Row × Turn)) → All (IsTurn count) (turns_of xs) → IsReckoned count s → IsPaired low s → IsPaired low (run_turns engine s xs)
+paired-run low count s [] all ready is = is
+paired-run low count s (x ∷ xs) all ready is =
     let fits = All-head (IsTurn count) x.1 (turns_of xs) all in
-    paired-run count (turn_step x.0 s x.1) xs (All-tail (IsTurn count) x.1 (turns_of xs) all) (reckoned-step count x.0 s x.1 ready fits) (paired-step count x.0 s x.1 ready fits is)
+    paired-run low count (turn_step x.0 s x.1) xs (All-tail (IsTurn count) x.1 (turns_of xs) all) (reckoned-step count x.0 s x.1 ready fits) (paired-step low count x.0 s x.1 ready fits is)
 
-paired-comes : (s : Scenario) (xs : List (List Row × Turn)) (last : State) → ComesTo s xs last → IsPaired last
+paired-comes : (s : Scenario) (xs : List (List Row × Turn)) (last : State) → ComesTo s xs last → IsPaired 0 last
 paired-comes s xs last comes =
-    subst IsPaired (sym comes.state)
-    (paired-run (length s.opening.servers) (start s comes.wait comes.rows) xs comes.turns (reckoned-start s comes.wait comes.rows comes.scenario)
-    (paired-none (loaded_audit s comes.rows) (start_moment s comes.rows) 0))
+    subst (IsPaired 0) (sym comes.state)
+    (paired-run 0 (length s.opening.servers) (start s comes.wait comes.rows) xs comes.turns (reckoned-start s comes.wait comes.rows comes.scenario)
+    (paired-none 0 (loaded_audit s comes.rows) (start_moment s comes.rows) 0 (omega arith)))
 
 pub jobs-comes : (s : Scenario) (xs : List (List Row × Turn)) (last : State) → ComesTo s xs last → EntriesHaveJobs last
 jobs-comes s xs last comes = (paired-comes s xs last comes).ids

@@ -28,12 +28,15 @@ pub mod JobEntries
 pub mod Aims
 pub mod Fates
 pub mod Reloads
+pub mod ClaimRows
 pub mod Follows
 pub mod Audits
 pub mod Permissions
 pub mod Plain
 pub mod Marks
 pub mod RunLaws
+pub mod NodeClaims
+pub mod ClaimKept
 pub mod JobTurns
 pub mod Lowest
 pub mod Failures

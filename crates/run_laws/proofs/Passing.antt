@@ -1,7 +1,7 @@
 -- Each passage of a turn may pass in a held state, and passes well in a sound one; so each turn leaves a state held,
 -- and sound where it is.
-use Rattle.std.proofs.Common.{ℕ, Bool, true, false, List, [], ◌∷◌, refl, sym, ap, subst}
-use Rattle.std.specs.Prelude.{is_some, if◌then◌else◌}
+use Rattle.std.proofs.Common.{ℕ, Bool, true, false, List, [], ◌∷◌, refl, sym, ap, subst, Option, Some, None}
+use Rattle.std.specs.Prelude.{is_some, if◌then◌else◌, IfSome}
 use Rattle.orch_base.specs.Memory.{next_count}
 use Rattle.orch_base.specs.declared.server.ServerNo.{ServerNo}
 use Rattle.kept_rows.specs.declared.row.Row.{Row}
@@ -23,15 +23,17 @@ use Rattle.jobs_in_flight.specs.Jobs.{job_at, jobs_turned}
 use Rattle.std.specs.Option.{option_map}
 use Rattle.orch_core.specs.Jobs.{turn_of}
 use Rattle.orch_core.specs.Polls.{slot_at}
-use Rattle.orch_core.specs.After.{after_act, step}
+use Rattle.orch_core.specs.After.{after_act, step, after_done}
 use Rattle.orch_core.specs.States.{State}
 use Rattle.orch_core.specs.Turns.{exchange_of}
 use Rattle.orch_core.proofs.States.{Allowed-step}
-use Rattle.run_laws.specs.Flights.{act_passages, by_job, flight_of, moment_at, passages_of, takes}
+use Rattle.run_laws.specs.Flights.{act_passages, by_job, flight_of, moment_at, passages_of, takes, done_passages}
 use Rattle.run_laws.specs.States.{HeldState, SoundState}
 use Rattle.run_laws.proofs.Flown.{flown, poll-may}
 use Rattle.run_laws.proofs.FlownOutcomes.{Leaves-command, Leaves-scan}
 use Rattle.run_laws.specs.Ready.{Ready}
+use Rattle.orch_core.specs.Nodes.{act_in}
+use Rattle.orch_core.proofs.Claims.{act-fits}
 
 -- ---- a job's turn
 
@@ -82,13 +84,17 @@ act-may count s (act.Job job) ready held is = job-may s job held
 act-may count s act.Scan ready held is = (Leaves-scan count s ready).may
 act-may count s act.Restart ready held is = (tt, tt)
 
+done-may : (count : ℕ) (s : State) (o : Option Act) → Ready count s → HeldState s → IfSome o (IsAct count) → AllMayPass (flight_of s) (done_passages s o)
+done-may count s None ready held is = tt
+done-may count s (Some a) ready held is = act-may count s a ready held is
+
 pub may-pass : (count : ℕ) (s : State) (t : Turn) → Ready count s → HeldState s → IsTurn count t → AllMayPass (flight_of s) (passages_of s t)
 may-pass count s (turn.Step x) ready held is = (step-may count (flight_of s) x is, tt)
 may-pass count s (turn.Tick seconds) ready held is = tt
 may-pass count s (turn.Act a) ready held is = act-may count s a ready held is
-may-pass count s (turn.As node a) ready held is = absurd is
-may-pass count s (turn.Claim node) ready held is = absurd is
-may-pass count s (turn.Release node) ready held is = absurd is
+may-pass count s (turn.As node a) ready held is = done-may count s (act_in s (turn.As node a)) ready held (act-fits count s (turn.As node a) is)
+may-pass count s (turn.Claim node) ready held is = done-may count s (act_in s (turn.Claim node)) ready held (act-fits count s (turn.Claim node) is)
+may-pass count s (turn.Release node) ready held is = tt
 
 act-well : (count : ℕ) (s : State) (a : Act) → Ready count s → HeldState s → SoundState s → IsAct count a → AllPassWell (flight_of s) (act_passages s a)
 act-well count s (act.PollRead p n) ready held sound is = poll-well s p n (is_some (instance_at s.book n))
@@ -98,13 +104,17 @@ act-well count s (act.Job job) ready held sound is = job-well s job held sound
 act-well count s act.Scan ready held sound is = (Leaves-scan count s ready).well
 act-well count s act.Restart ready held sound is = (tt, tt)
 
+done-well : (count : ℕ) (s : State) (o : Option Act) → Ready count s → HeldState s → SoundState s → IfSome o (IsAct count) → AllPassWell (flight_of s) (done_passages s o)
+done-well count s None ready held sound is = tt
+done-well count s (Some a) ready held sound is = act-well count s a ready held sound is
+
 pub pass-well : (count : ℕ) (s : State) (t : Turn) → Ready count s → HeldState s → SoundState s → IsTurn count t → AllPassWell (flight_of s) (passages_of s t)
 pass-well count s (turn.Step x) ready held sound is = (tt, tt)
 pass-well count s (turn.Tick seconds) ready held sound is = tt
 pass-well count s (turn.Act a) ready held sound is = act-well count s a ready held sound is
-pass-well count s (turn.As node a) ready held sound is = absurd is
-pass-well count s (turn.Claim node) ready held sound is = absurd is
-pass-well count s (turn.Release node) ready held sound is = absurd is
+pass-well count s (turn.As node a) ready held sound is = done-well count s (act_in s (turn.As node a)) ready held sound (act-fits count s (turn.As node a) is)
+pass-well count s (turn.Claim node) ready held sound is = done-well count s (act_in s (turn.Claim node)) ready held sound (act-fits count s (turn.Claim node) is)
+pass-well count s (turn.Release node) ready held sound is = tt
 
 -- what a turn leaves, by its passages
 act-held : (count : ℕ) (rows : List Row) (s : State) (a : Act) → Ready count s → HeldState s → IsAct count a → HeldJobs (passing (flight_of s) (act_passages s a)) (after_act rows s a).jobs
@@ -115,13 +125,17 @@ act-held count rows s (act.Job job) ready held is = job-held s job held
 act-held count rows s act.Scan ready held is = (Leaves-scan count s ready).held held
 act-held count rows s act.Restart ready held is = restart-held (flight_of s) s.jobs held
 
+done-held : (count : ℕ) (rows : List Row) (s : State) (o : Option Act) → Ready count s → HeldState s → IfSome o (IsAct count) → HeldJobs (passing (flight_of s) (done_passages s o)) (after_done rows s o).jobs
+done-held count rows s None ready held is = held
+done-held count rows s (Some a) ready held is = act-held count rows s a ready held is
+
 goes-held : (count : ℕ) (rows : List Row) (s : State) (t : Turn) → Ready count s → HeldState s → IsTurn count t → HeldJobs (passing (flight_of s) (passages_of s t)) (step rows s t).jobs
 goes-held count rows s (turn.Step x) ready held is = apart-held (flight_of s) s.jobs (pass.Exchanging (exchange_of x)) (step-may count (flight_of s) x is) tt held
 goes-held count rows s (turn.Tick seconds) ready held is = held
 goes-held count rows s (turn.Act a) ready held is = act-held count rows s a ready held is
-goes-held count rows s (turn.As node a) ready held is = absurd is
-goes-held count rows s (turn.Claim node) ready held is = absurd is
-goes-held count rows s (turn.Release node) ready held is = absurd is
+goes-held count rows s (turn.As node a) ready held is = done-held count rows s (act_in s (turn.As node a)) ready held (act-fits count s (turn.As node a) is)
+goes-held count rows s (turn.Claim node) ready held is = done-held count rows s (act_in s (turn.Claim node)) ready held (act-fits count s (turn.Claim node) is)
+goes-held count rows s (turn.Release node) ready held is = held
 
 act-sound : (count : ℕ) (rows : List Row) (s : State) (a : Act) → Ready count s → HeldState s → SoundState s → IsAct count a → IsQuiet (passing (flight_of s) (act_passages s a)).world
     → SoundJobs (passing (flight_of s) (act_passages s a)) (after_act rows s a).jobs
@@ -136,14 +150,19 @@ act-sound count rows s act.Scan ready held sound is quiet =
     leaves.sound held sound (subst IsQuiet (sym (ap (λ (f : Flight). f.world) leaves.flown)) quiet)
 act-sound count rows s act.Restart ready held sound is quiet = restart-sound (flight_of s) s.jobs sound
 
+done-sound : (count : ℕ) (rows : List Row) (s : State) (o : Option Act) → Ready count s → HeldState s → SoundState s → IfSome o (IsAct count) → IsQuiet (passing (flight_of s) (done_passages s o)).world
+    → SoundJobs (passing (flight_of s) (done_passages s o)) (after_done rows s o).jobs
+done-sound count rows s None ready held sound is quiet = sound
+done-sound count rows s (Some a) ready held sound is quiet = act-sound count rows s a ready held sound is quiet
+
 goes-sound : (count : ℕ) (rows : List Row) (s : State) (t : Turn) → Ready count s → HeldState s → SoundState s → IsTurn count t → IsQuiet (passing (flight_of s) (passages_of s t)).world
     → SoundJobs (passing (flight_of s) (passages_of s t)) (step rows s t).jobs
 goes-sound count rows s (turn.Step x) ready held sound is quiet = apart-sound (flight_of s) s.jobs (pass.Exchanging (exchange_of x)) (step-may count (flight_of s) x is) tt quiet held sound
 goes-sound count rows s (turn.Tick seconds) ready held sound is quiet = sound
 goes-sound count rows s (turn.Act a) ready held sound is quiet = act-sound count rows s a ready held sound is quiet
-goes-sound count rows s (turn.As node a) ready held sound is quiet = absurd is
-goes-sound count rows s (turn.Claim node) ready held sound is quiet = absurd is
-goes-sound count rows s (turn.Release node) ready held sound is quiet = absurd is
+goes-sound count rows s (turn.As node a) ready held sound is quiet = done-sound count rows s (act_in s (turn.As node a)) ready held sound (act-fits count s (turn.As node a) is) quiet
+goes-sound count rows s (turn.Claim node) ready held sound is quiet = done-sound count rows s (act_in s (turn.Claim node)) ready held sound (act-fits count s (turn.Claim node) is) quiet
+goes-sound count rows s (turn.Release node) ready held sound is quiet = sound
 
 pub Held-step : (count : ℕ) (rows : List Row) (s : State) (t : Turn) → Ready count s → HeldState s → IsTurn count t → HeldState (step rows s t)
 Held-step count rows s t ready held is = subst (λ (f : Flight). HeldJobs f (step rows s t).jobs) (sym (flown count rows s t ready is)) (goes-held count rows s t ready held is)

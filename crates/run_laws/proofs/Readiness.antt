@@ -1,6 +1,6 @@
 -- Each turn leaves all that is kept speaking of the servers, and so does an opening.
 use Rattle.std.proofs.Common.{◌≡◌, ◌∙◌, ℕ, ◌<◌, Bool, true, false, List, [], ◌∷◌, length, refl, sym, ap, subst, Option, Some, None, zero, suc, arith}
-use Rattle.std.specs.Prelude.{All, ◌==◌, IsTrue, is_some, not, slice_index_or, slice_set, if◌then◌else◌}
+use Rattle.std.specs.Prelude.{All, ◌==◌, IsTrue, is_some, not, slice_index_or, slice_set, if◌then◌else◌, IfSome}
 use Rattle.std.specs.Option.{option_map}
 use Rattle.std.proofs.lemmas.List.{length-map, length-replicate, length-set}
 use Rattle.std.proofs.lemmas.List.Elements.{All-cons, All-nil, All-head, All-tail, All-filter, All-replicate, All-set}
@@ -36,7 +36,7 @@ use Rattle.jobs_in_flight.specs.Jobs.{book_turned, job_at, job_exchanges, jobs_t
 use Rattle.orch_core.specs.Jobs.{turn_of}
 use Rattle.orch_core.specs.Polls.{command_outcome, reading, scan_outcome, slot_at}
 use Rattle.orch_core.specs.Restarts.{last_given}
-use Rattle.orch_core.specs.After.{after_act, after_tick, step}
+use Rattle.orch_core.specs.After.{after_act, after_tick, step, after_done}
 use Rattle.orch_core.specs.Scenarios.{loaded_audit, loaded_book, start, start_changes, start_moment, start_rows, start_world}
 use Rattle.orch_core.specs.States.{State, IsSlot}
 use Rattle.orch_core.specs.Turns.{exchange_of}
@@ -50,6 +50,9 @@ use Rattle.orch_core.specs.Settling.{known_of, settled}
 use Rattle.run_laws.specs.Ready.{Ready}
 use Rattle.run_laws.proofs.ReadyOutcomes.{Keeps, command-keeps, scan-keeps}
 use Rattle.run_laws.proofs.Ready.{IsBook-freed, IsBook-loaded, IsBook-observed, IsBook-ringed, IsBook-stored, settings-count}
+use Rattle.orch_core.specs.Nodes.{act_in, claims_after, holder_after, with_claims}
+use Rattle.orch_core.proofs.Claims.{act-fits}
+use Rattle.node_claims.specs.Claims.{ClaimState}
 
 -- ---- exchanges
 
@@ -232,13 +235,34 @@ Ready-act count rows s act.Restart ready is =
       periods = ready.periods;
     }
 
+-- whichever orchestrator claims to be active
+Ready-claims : (count : ℕ) (s : State) (claims : ClaimState) (holder : Option ℕ) → Ready count s → Ready count (record s { claims = claims; last_holder = holder })
+Ready-claims count s claims holder ready = record {
+  servers = ready.servers;
+  book = ready.book;
+  names = ready.names;
+  slots = ready.slots;
+  observed = ready.observed;
+  sources = ready.sources;
+  jobs = ready.jobs;
+  periods = ready.periods;
+}
+
+Ready-done : (count : ℕ) (rows : List Row) (s : State) (o : Option Act) → Ready count s → IfSome o (IsAct count) → Ready count (after_done rows s o)
+Ready-done count rows s None ready is = ready
+Ready-done count rows s (Some a) ready is = Ready-act count rows s a ready is
+
+Ready-claimed : (count : ℕ) (rows : List Row) (s : State) (t : Turn) → Ready count s → IsTurn count t → Ready count (with_claims s t (after_done rows s (act_in s t)))
+Ready-claimed count rows s t ready is =
+    Ready-claims count (after_done rows s (act_in s t)) (claims_after s t) (holder_after s t) (Ready-done count rows s (act_in s t) ready (act-fits count s t is))
+
 pub Ready-step : (count : ℕ) (rows : List Row) (s : State) (t : Turn) → Ready count s → IsTurn count t → Ready count (step rows s t)
 Ready-step count rows s (turn.Step x) ready is = Ready-run count s (exchange_of x ∷ []) ready (Allowed-step count s.world x is).0
 Ready-step count rows s (turn.Tick seconds) ready is = Ready-tick count s seconds ready
 Ready-step count rows s (turn.Act a) ready is = Ready-act count rows s a ready is
-Ready-step count rows s (turn.As node a) ready is = absurd is
-Ready-step count rows s (turn.Claim node) ready is = absurd is
-Ready-step count rows s (turn.Release node) ready is = absurd is
+Ready-step count rows s (turn.As node a) ready is = Ready-claimed count rows s (turn.As node a) ready is
+Ready-step count rows s (turn.Claim node) ready is = Ready-claimed count rows s (turn.Claim node) ready is
+Ready-step count rows s (turn.Release node) ready is = Ready-claimed count rows s (turn.Release node) ready is
 
 -- ---- an opening
 

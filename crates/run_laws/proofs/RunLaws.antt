@@ -31,13 +31,13 @@ use Rattle.turns.specs.declared.turn.Turn.{Turn}
 use Rattle.turns.specs.declared.turn.Turn.TheVariants as turn
 use Rattle.scenarios.specs.declared.scenario.Scenario.{Scenario}
 use Rattle.scenarios.specs.Scenarios.{IsScenario, flushes_of, room_of}
-use Rattle.scenarios.specs.Turns.{IsTurn, is_rotate, is_rotate_step, is_write, is_write_step}
+use Rattle.scenarios.specs.Turns.{IsTurn, is_rotate, is_rotate_step, is_write, is_write_step, NamesOneOf}
 use Rattle.scenarios.proofs.Rooms.{longest-at}
 use Rattle.orch_core.specs.After.{step as turn_step}
 use Rattle.orch_core.specs.Runs.{engine, run_turns, turns_of}
 use Rattle.orch_core.specs.Scenarios.{start, start_world}
 use Rattle.orch_core.specs.States.{State}
-use Rattle.orch_core.specs.Turns.{act_exchanges, exchange_of, exchanges_at}
+use Rattle.orch_core.specs.Turns.{act_exchanges, exchange_of, exchanges_at, done_exchanges}
 use Rattle.orch_core.proofs.States.{Allowed-step}
 use Rattle.orch_base.specs.Memory.{next_count}
 use Rattle.std.specs.Prelude.{◌==◌}
@@ -71,6 +71,7 @@ use Rattle.run_laws.proofs.Plain.{IsPlain, flown-plain, none-counts}
 use Rattle.run_laws.specs.Ready.{Ready}
 use Rattle.run_laws.proofs.Worlds.{world-turn}
 use Rattle.run_laws.proofs.Readiness.{Ready-start, Ready-step}
+use Rattle.orch_core.specs.Nodes.{act_in}
 
 -- ---- what holds of each state
 
@@ -130,6 +131,7 @@ own_comes s wait rows xs k is own = record {
     wait = wait;
     rows = rows;
     turns = subst (All (IsTurn (length s.opening.servers))) (sym own) (All-take (IsTurn (length s.opening.servers)) k s.turns is.turns);
+    named = subst (All (NamesOneOf s.nodes)) (sym own) (All-take (NamesOneOf s.nodes) k s.turns is.named);
     state = refl;
   };
   own = own;
@@ -195,13 +197,17 @@ Fit-act count s (act.Job job) goes q = Fit-job s job goes.held (goes.sound q) (j
 Fit-act count s act.Scan goes q = Fit-none s.world
 Fit-act count s act.Restart goes q = Fit-none s.world
 
+Fit-done : (count : ℕ) (s : State) (o : Option Act) → Goes count s → IsQuiet s.world → Fit s.world (done_exchanges s o)
+Fit-done count s None goes q = Fit-none s.world
+Fit-done count s (Some a) goes q = Fit-act count s a goes q
+
 Fit-turn : (count : ℕ) (s : State) (t : Turn) → IsTurn count t → Goes count s → IsQuiet s.world → Fit s.world (exchanges_at s t)
 Fit-turn count s (turn.Step x) is goes q = let fit = Allowed-step count s.world x is in record { allowed = fit.0; join = fit.1 }
 Fit-turn count s (turn.Tick seconds) is goes q = Fit-none s.world
 Fit-turn count s (turn.Act a) is goes q = Fit-act count s a goes q
-Fit-turn count s (turn.As node a) is goes q = absurd is
-Fit-turn count s (turn.Claim node) is goes q = absurd is
-Fit-turn count s (turn.Release node) is goes q = absurd is
+Fit-turn count s (turn.As node a) is goes q = Fit-done count s (act_in s (turn.As node a)) goes q
+Fit-turn count s (turn.Claim node) is goes q = Fit-done count s (act_in s (turn.Claim node)) goes q
+Fit-turn count s (turn.Release node) is goes q = Fit-none s.world
 
 Fit-along : (count : ℕ) (s : State) (xs : List (List Row × Turn)) → All (IsTurn count) (turns_of xs) → Goes count s → IsQuiet (run_turns engine s xs).world → Fit s.world (along s xs)
 unfolding along
@@ -248,12 +254,16 @@ adds-writes = record { each = each }
     by-act s act.Scan = refl
     by-act s act.Restart = refl
 
+    by-done : (s : State) (o : Option Act) → count_by adds (done_exchanges s o) ≡ 0
+    by-done s None = refl
+    by-done s (Some a) = by-act s a
+
     each : (s : State) (t : Turn) → count_by adds (exchanges_at s t) ≡ tick (is_write t)
     each s (turn.Step x) = by-step x
     each s (turn.Tick seconds) = refl
     each s (turn.Act a) = by-act s a
-    each s (turn.As node a) = by-act s a
-    each s (turn.Claim node) = refl
+    each s (turn.As node a) = by-done s (act_in s (turn.As node a))
+    each s (turn.Claim node) = by-done s (act_in s (turn.Claim node))
     each s (turn.Release node) = refl
 
 opens-rotates : Tells opens_file is_rotate
@@ -278,12 +288,16 @@ opens-rotates = record { each = each }
     by-act s act.Scan = refl
     by-act s act.Restart = refl
 
+    by-done : (s : State) (o : Option Act) → count_by opens_file (done_exchanges s o) ≡ 0
+    by-done s None = refl
+    by-done s (Some a) = by-act s a
+
     each : (s : State) (t : Turn) → count_by opens_file (exchanges_at s t) ≡ tick (is_rotate t)
     each s (turn.Step x) = by-step x
     each s (turn.Tick seconds) = refl
     each s (turn.Act a) = by-act s a
-    each s (turn.As node a) = by-act s a
-    each s (turn.Claim node) = refl
+    each s (turn.As node a) = by-done s (act_in s (turn.As node a))
+    each s (turn.Claim node) = by-done s (act_in s (turn.Claim node))
     each s (turn.Release node) = refl
 
 -- the scenario's first turns and the next one are no more than all of a kind
@@ -388,5 +402,6 @@ pub own_within : (is : Turn → Bool) (s : Scenario) (xs : List (List Row × Tur
 own_within is s xs k t now by at = record {
   comes = by.comes;
   next = subst (IsTurn (length s.opening.servers)) (get_or_from_slice_get s.turns k t t at) (by.comes.scenario.turns k t (slice_get_within s.turns k t at));
+  names = subst (NamesOneOf s.nodes) (get_or_from_slice_get s.turns k t t at) (by.comes.scenario.named k t (slice_get_within s.turns k t at));
   few = own-few is (turns_of xs) s.turns k t by.own at;
 }

@@ -1,5 +1,5 @@
 -- For whom and for what a turn's recoveries begin.
-use Rattle.std.specs.Prelude.{◌≡◌, false, Some, None, Contains}
+use Rattle.std.specs.Prelude.{◌≡◌, false, Option, Some, None, Contains}
 use Rattle.book_views.specs.Sources.{label_at}
 use Rattle.command_routes.specs.declared.route.Route.{Route}
 use Rattle.command_routes.specs.declared.route.Route.TheVariants.{Discovers, Forgets, Asks, Decides, Begins, Recovers, TakesOver}
@@ -20,6 +20,7 @@ use Rattle.turns.specs.declared.turn.Act.{Act}
 use Rattle.turns.specs.declared.turn.Act.TheVariants as act
 use Rattle.turns.specs.declared.turn.Turn.{Turn}
 use Rattle.turns.specs.declared.turn.Turn.TheVariants as turn
+use Rattle.orch_core.specs.Nodes.{act_in}
 use Rattle.orch_core.specs.States.{State}
 
 -- ---- what it is for
@@ -61,12 +62,16 @@ IsAskedIn s (act.Job job) x = ⊥
 IsAskedIn s act.Scan x = IsScanned s.book x
 IsAskedIn s act.Restart x = ⊥
 
+abbrev pub IsAskedOf : State → Option Act → RecoveryBegins → Type 0
+IsAskedOf s None x = ⊥
+IsAskedOf s (Some a) x = IsAskedIn s a x
+
 abbrev pub IsAsked : State → Turn → RecoveryBegins → Type 0
 IsAsked s (turn.Step y) x = ⊥
 IsAsked s (turn.Tick seconds) x = ⊥
 IsAsked s (turn.Act a) x = IsAskedIn s a x
-IsAsked s (turn.As node a) x = IsAskedIn s a x
-IsAsked s (turn.Claim node) x = ⊥
+IsAsked s (turn.As node a) x = IsAskedOf s (act_in s (turn.As node a)) x
+IsAsked s (turn.Claim node) x = IsAskedOf s (act_in s (turn.Claim node)) x
 IsAsked s (turn.Release node) x = ⊥
 
 -- a recovery that a turn begins was asked for in it, and its entry tells what it is about

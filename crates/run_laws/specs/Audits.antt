@@ -4,7 +4,7 @@ use Rattle.kept_rows.specs.Recoveries.{as_row}
 use Rattle.kept_rows.specs.declared.row.Row.{Row}
 use Rattle.kept_rows.specs.declared.row.Row.TheVariants as row
 use Rattle.opening_book.specs.Counting.{counts}
-use Rattle.orch_core.specs.Keeping.{asks}
+use Rattle.orch_core.specs.Runs.{asks}
 use Rattle.orch_core.specs.Restarts.{last_given}
 use Rattle.orch_core.specs.After.{step}
 use Rattle.orch_core.specs.States.{State}
@@ -39,7 +39,7 @@ AnyTurnAims = (s : State) (t : Turn) → All (IsAimed s t) (recoveries_begun s t
 -- But for a restart, which loads the kept rows, each entry becomes what the turn makes of it, and just those that begin
 -- come behind.
 abbrev pub TurnsMakeAudits : Type 0
-TurnsMakeAudits = (rows : List Row) (s : State) (t : Turn) → asks t ≡ false → AuditIs rows s t
+TurnsMakeAudits = (rows : List Row) (s : State) (t : Turn) → asks s t ≡ false → AuditIs rows s t
 
 -- where the rows are those by which all was kept, a restart keeps each entry, and ends those that aren't ended
 abbrev pub RestartsKeepAll : Scenario → State → Type 0

@@ -20,6 +20,7 @@ use Rattle.orch_core.specs.HookTelling.{told_try, with_told}
 use Rattle.orch_core.specs.Periods.{period_by}
 use Rattle.orch_core.specs.Polls.{numbers_of}
 use Rattle.orch_core.specs.States.{State}
+use Rattle.orch_core.specs.Nodes.{act_in}
 
 -- ---- by a command
 
@@ -77,12 +78,16 @@ recoveries_in_act s (act.Job job) = []
 recoveries_in_act s act.Scan = recoveries_scanned s
 recoveries_in_act s act.Restart = []
 
+abbrev pub recoveries_done : State → Option Act → List RecoveryBegins
+recoveries_done s None = []
+recoveries_done s (Some a) = recoveries_in_act s a
+
 abbrev pub recoveries_begun : State → Turn → List RecoveryBegins
 recoveries_begun s (turn.Step x) = []
 recoveries_begun s (turn.Tick seconds) = []
 recoveries_begun s (turn.Act a) = recoveries_in_act s a
-recoveries_begun s (turn.As node a) = recoveries_in_act s a
-recoveries_begun s (turn.Claim node) = []
+recoveries_begun s (turn.As node a) = recoveries_done s (act_in s (turn.As node a))
+recoveries_begun s (turn.Claim node) = recoveries_done s (act_in s (turn.Claim node))
 recoveries_begun s (turn.Release node) = []
 
 -- their entries, in order

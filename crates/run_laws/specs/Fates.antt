@@ -34,6 +34,7 @@ use Rattle.unended_jobs.specs.Hooked.{hooked}
 use Rattle.unended_jobs.specs.declared.unended.Unended.{Unended}
 use Rattle.unended_jobs.specs.declared.unended.Unended.TheVariants as unended
 use Rattle.orch_core.specs.After.{step as turn_step}
+use Rattle.orch_core.specs.Nodes.{act_in}
 use Rattle.orch_core.specs.Restarts.{interrupted_at}
 use Rattle.orch_core.specs.States.{State}
 use Rattle.run_laws.specs.Entries.{entries_begun}
@@ -99,12 +100,16 @@ entry_in_act s (act.Job job) k = entry_by_job s (job_at s.jobs job) k
 entry_in_act s act.Scan k = k
 entry_in_act s act.Restart k = k
 
+abbrev pub entry_in_done : State → Option Act → KeptRecovery → KeptRecovery
+entry_in_done s None k = k
+entry_in_done s (Some a) k = entry_in_act s a k
+
 abbrev pub entry_after : State → Turn → KeptRecovery → KeptRecovery
 entry_after s (turn.Step x) k = k
 entry_after s (turn.Tick seconds) k = k
 entry_after s (turn.Act a) k = entry_in_act s a k
-entry_after s (turn.As node a) k = entry_in_act s a k
-entry_after s (turn.Claim node) k = k
+entry_after s (turn.As node a) k = entry_in_done s (act_in s (turn.As node a)) k
+entry_after s (turn.Claim node) k = entry_in_done s (act_in s (turn.Claim node)) k
 entry_after s (turn.Release node) k = k
 
 -- each entry that there was becomes what the turn makes of it, and those that begin in it come behind

@@ -30,6 +30,7 @@ use Rattle.orch_core.specs.Knowing.{recovery_job}
 use Rattle.orch_core.specs.Commands.{by_hand, removal_refusal}
 use Rattle.orch_core.specs.HookTelling.{told_try}
 use Rattle.jobs_in_flight.specs.Jobs.{job_at}
+use Rattle.orch_core.specs.Nodes.{act_in}
 use Rattle.orch_core.specs.Polls.{numbers_of, reading, slot_at}
 use Rattle.orch_core.specs.States.{State}
 use Rattle.orch_core.specs.Turns.{exchange_of}
@@ -126,11 +127,15 @@ act_passages s (act.Job job) = by_job s job (job_at s.jobs job)
 act_passages s act.Scan = by_recoveries (recoveries_scanned s)
 act_passages s act.Restart = pass.Restarting ∷ []
 
+abbrev pub done_passages : State → Option Act → List Passage
+done_passages s None = []
+done_passages s (Some a) = act_passages s a
+
 -- what befalls a server is one exchange, which is no job's
 abbrev pub passages_of : State → Turn → List Passage
 passages_of s (turn.Step x) = pass.Exchanging (exchange_of x) ∷ []
 passages_of s (turn.Tick seconds) = []
 passages_of s (turn.Act a) = act_passages s a
-passages_of s (turn.As node a) = act_passages s a
-passages_of s (turn.Claim node) = []
+passages_of s (turn.As node a) = done_passages s (act_in s (turn.As node a))
+passages_of s (turn.Claim node) = done_passages s (act_in s (turn.Claim node))
 passages_of s (turn.Release node) = []

@@ -1,6 +1,6 @@
 -- The kept rows follow the book and the audit, where nobody else changes them.
 use Rattle.std.specs.Prelude.{◌≡◌, ◌≤◌, ◌^◌, ℕ, All, List, length}
-use Rattle.kept_rows.specs.Rows.{changed, IsRising}
+use Rattle.kept_rows.specs.Rows.{changed, row_in, IsRising}
 use Rattle.kept_rows.specs.declared.row.Row.{Row}
 use Rattle.opening_book.specs.Following.{Follow, FollowAudit}
 use Rattle.orch_core.specs.Polls.{changes_of}
@@ -13,6 +13,7 @@ use Rattle.scenarios.specs.declared.scenario.Scenario.{Scenario}
 use Rattle.scenarios.specs.Scenarios.{IsScenario}
 use Rattle.scenarios.specs.Turns.{IsTurn}
 use Rattle.turns.specs.declared.turn.Turn.{Turn}
+use Rattle.run_laws.specs.Claims.{IsClaimRow, claim_key}
 use Rattle.run_laws.specs.Runs.{ComesTo}
 
 -- the rows and the state after these turns from an opening, with each change kept
@@ -44,6 +45,14 @@ TurnAuditsAreFollowed = (rows : List Row) (s : State) (t : Turn) → IsState s �
 abbrev pub RunAuditsAreFollowed : Type 0
 RunAuditsAreFollowed = (s : Scenario) (wait : ℕ) (rows : List Row) (ts : List Turn) → IsScenario s → IsRising rows → All (IsTurn (length s.opening.servers)) ts
     → (held_from s wait rows ts).state.audit.next ≤ 2 ^ 64 → FollowAudit (length s.opening.servers) (held_from s wait rows ts).rows (held_from s wait rows ts).state.audit
+
+-- ---- the claim
+
+abbrev pub RunClaimsAreFollowed : Type 0
+RunClaimsAreFollowed = (s : Scenario) (wait : ℕ) (rows : List Row) (ts : List Turn) → IsScenario s → IsRising rows → All (IsTurn (length s.opening.servers)) ts
+    → (held_from s wait rows ts).state.audit.next ≤ 2 ^ 64 → IsClaimRow (length s.opening.servers) (row_in (held_from s wait rows ts).rows claim_key) (held_from s wait rows ts).state.claims.kept
+
+-- ---- restarts
 
 -- so a restart loads the audit whole
 abbrev pub RestartsLoadAll : Type 0

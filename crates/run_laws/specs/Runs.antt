@@ -9,18 +9,19 @@ use Rattle.turns.specs.declared.turn.Act.TheVariants as act
 use Rattle.turns.specs.declared.turn.Turn.TheVariants as turn
 use Rattle.scenarios.specs.declared.scenario.Scenario.{Scenario}
 use Rattle.scenarios.specs.Scenarios.{IsScenario}
-use Rattle.scenarios.specs.Turns.{IsTurn}
+use Rattle.scenarios.specs.Turns.{IsTurn, NamesOneOf}
 use Rattle.orch_core.specs.Replies.{reply_of}
 use Rattle.orch_core.specs.Runs.{engine, run_turns, turns_of}
 use Rattle.orch_core.specs.Scenarios.{start}
 use Rattle.orch_core.specs.States.{State}
 
--- so many waits, these rows and these turns over a scenario's servers led to this state
+-- so many waits, these rows and these turns over a scenario's servers, by its orchestrators, led to this state
 pub record ComesTo (s : Scenario) (xs : List (List Row × Turn)) (now : State) : Type 0 where
   pub scenario : IsScenario s
   pub wait : ℕ
   pub rows : List Row
   pub turns : All (IsTurn (length s.opening.servers)) (turns_of xs)
+  pub named : All (NamesOneOf s.nodes) (turns_of xs)
   pub state : now ≡ run_turns engine (start s wait rows) xs
 
 -- and these were the scenario's own first k turns
@@ -32,12 +33,14 @@ pub record ComesBy (s : Scenario) (xs : List (List Row × Turn)) (k : ℕ) (now 
 pub record ComesWithin (is : Turn → Bool) (s : Scenario) (xs : List (List Row × Turn)) (t : Turn) (now : State) : Type 0 where
   pub comes : ComesTo s xs now
   pub next : IsTurn (length s.opening.servers) t
+  pub names : NamesOneOf s.nodes t
   pub few : count_by is (turns_of xs ++ t ∷ []) ≤ count_by is s.turns
 
 -- and this turn can be taken next
 pub record ComesBefore (s : Scenario) (xs : List (List Row × Turn)) (now : State) (t : Turn) : Type 0 where
   pub comes : ComesTo s xs now
   pub next : IsTurn (length s.opening.servers) t
+  pub names : NamesOneOf s.nodes t
 
 -- a command begins the job of a number
 abbrev pub IsBegun : State → CommandTurn → ℕ → Type 0

@@ -1,12 +1,13 @@
 //! Laws of the kept rows through runs.
 
-ghost use Rattle.run_laws.specs.KeptRows.{OpeningAuditsAreFollowed, OpeningsAreFollowed, RestartsLoadAll, RunAuditsAreFollowed, RunsAreFollowed, TurnAuditsAreFollowed, TurnsAreFollowed};
+ghost use Rattle.run_laws.specs.KeptRows.{OpeningAuditsAreFollowed, OpeningsAreFollowed, RestartsLoadAll, RunAuditsAreFollowed, RunClaimsAreFollowed, RunsAreFollowed, TurnAuditsAreFollowed, TurnsAreFollowed};
 
 /// The kept rows follow what orchestrator knows, where nobody else changes them: under each table and key for which
 /// the book has a row that row is kept, and under any other of its tables only rows that don't count. So it is at the
 /// opening, each turn with its changes keeps it so, and so it is after every run. They follow the recoveries, too, as
 /// they begin, end and are acknowledged: under each id of which there is one that one is kept, and under any other id
-/// only what doesn't count. So a restart loads the audit whole. Ids only have to fit their type.
+/// only what doesn't count. So a restart loads the audit whole. The row of the claim is the kept claim's, or none where
+/// none is kept. Ids only have to fit their type.
 pub fn kept_rows_follow()
     ensures opening { OpeningsAreFollowed }
     ensures turn { TurnsAreFollowed }
@@ -14,5 +15,6 @@ pub fn kept_rows_follow()
     ensures opening_audit { OpeningAuditsAreFollowed }
     ensures turn_audit { TurnAuditsAreFollowed }
     ensures run_audit { RunAuditsAreFollowed }
+    ensures run_claim { RunClaimsAreFollowed }
     ensures restart { RestartsLoadAll }
 {}

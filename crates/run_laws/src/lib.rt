@@ -4,6 +4,7 @@
 
 mod answering;
 mod blocks;
+mod claims;
 mod flights;
 mod keeping;
 mod logging;
@@ -13,6 +14,7 @@ mod steps;
 
 pub use answering::{commands_answer_by_the_table, scans_tell_each_try};
 pub use blocks::begins_keep_the_block;
+pub use claims::{claims_pass_alone, one_orchestrator_is_active};
 pub use flights::{
     every_quiet_state_is_sound, every_state_is_held, jobs_keep_to_their_leases,
     jobs_leave_fewer_turns, turns_are_passages,

@@ -361,22 +361,28 @@ has_dump w s now is =
                               ),
                             ),
                             (
-                              literal (codes "now") refl,
+                              literal (codes "nodes") refl,
                               (
                                 tt,
                                 (
-                                  literal (codes "pseudo") refl,
+                                  literal (codes "now") refl,
                                   (
                                     tt,
                                     (
-                                      literal (codes "servers") refl,
+                                      literal (codes "pseudo") refl,
                                       (
-                                        has_items (server_data servers) IsTold servers (has_server servers is.names) told,
+                                        tt,
                                         (
-                                          literal (codes "turns") refl,
+                                          literal (codes "servers") refl,
                                           (
-                                            tt,
-                                            (literal (codes "version") refl, (tt, tt)),
+                                            has_items (server_data servers) IsTold servers (has_server servers is.names) told,
+                                            (
+                                              literal (codes "turns") refl,
+                                              (
+                                                tt,
+                                                (literal (codes "version") refl, (tt, tt)),
+                                              ),
+                                            ),
                                           ),
                                         ),
                                       ),

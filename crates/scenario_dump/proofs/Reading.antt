@@ -281,10 +281,13 @@ reads_dump w s now is =
               (
                 reads_hooks s.hooks is.pre_failover is.post_failover is.post_unsuccessful,
                 (
-                  reads_number 4 now is.moment,
+                  reads_number 4 s.nodes is.nodes,
                   (
-                    reads_number 4 s.pseudo is.pseudo,
-                    (reads_array 3 _ (reads_servers (opening_of w).servers w.servers is.servers), (reads_array 3 _ (reads_no_items 3), (reads_number 4 1 (omega arith), tt))),
+                    reads_number 4 now is.moment,
+                    (
+                      reads_number 4 s.pseudo is.pseudo,
+                      (reads_array 3 _ (reads_servers (opening_of w).servers w.servers is.servers), (reads_array 3 _ (reads_no_items 3), (reads_number 4 1 (omega arith), tt))),
+                    ),
                   ),
                 ),
               ),

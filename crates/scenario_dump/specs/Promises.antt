@@ -28,6 +28,7 @@ pub record HasNumbers (i : ServerInit) : Type 0 where
 -- all numbers have 64 bits, and the labels of aliases and of block periods rise
 pub record IsReadable (w : World) (s : Scenario) (now : ℕ) : Type 0 where
   pub moment : now < 2 ^ 64
+  pub nodes : s.nodes < 2 ^ 64
   pub pseudo : s.pseudo < 2 ^ 64
   pub block : s.block < 2 ^ 64
   pub periods : All (λ b. b.seconds < 2 ^ 64) s.blocks

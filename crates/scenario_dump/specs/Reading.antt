@@ -42,7 +42,7 @@ dumped_scenario w s now = record {
   opening = opening_of w;
   moment = record { 0 = now };
   pseudo = s.pseudo;
-  nodes = 1;
+  nodes = s.nodes;
   block = s.block;
   blocks = s.blocks;
   aliases = s.aliases;

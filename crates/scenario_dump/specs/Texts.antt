@@ -120,12 +120,13 @@ dump_data w s now =
     (member (codes "filters") (filters_data s.filters)
     (member (codes "gtid") (boolean w.gtid)
     (member (codes "hooks") (hooks_data s.hooks)
+    (member (codes "nodes") (count_data s.nodes)
     (member (codes "now") (count_data now)
     (member (codes "pseudo") (count_data s.pseudo)
     (member (codes "servers") (list_data (server_data (opening_of w).servers) (opening_of w).servers)
     (member (codes "turns") (array no_items)
     (member (codes "version") (count_data 1)
-    no_members)))))))))))
+    no_members))))))))))))
 
 -- with a newline byte at its end
 unfoldable pub dump_text : World → Scenario → ℕ → List ℕ

@@ -22,13 +22,13 @@ pub fn dumps_read_as_json()
 pub fn small_dumps_are_known()
     ensures one { dump_text one_server plain_scenario 0
         ≡ codes "{\"aliases\":{},\"block\":3600,\"blocks\":{},\"filters\":{\"intermediate\":[\"*\"],\"master\":[\"*\"]},\"gtid\":false,"
-        ++ codes "\"hooks\":{\"post_failover\":[],\"post_unsuccessful\":[],\"pre_failover\":[]},\"now\":0,\"pseudo\":0,"
+        ++ codes "\"hooks\":{\"post_failover\":[],\"post_unsuccessful\":[],\"pre_failover\":[]},\"nodes\":1,\"now\":0,\"pseudo\":0,"
         ++ codes "\"servers\":[{\"cluster\":\"m:3306\",\"dc\":\"\",\"desk\":true,\"feed\":true,\"flushes\":[],\"history\":[],\"limit\":1073741824,"
         ++ codes "\"logs\":true,\"name\":\"m:3306\",\"purged\":1,\"read_only\":false,\"server_id\":1,\"up\":true,"
         ++ codes "\"uuid\":\"00000000-0000-0000-0000-000000000001\",\"version\":\"8.0.36\"}],\"turns\":[],\"version\":1}\n" }
     ensures two { dump_text two_servers named_scenario 7
         ≡ codes "{\"aliases\":{\"m:3306\":\"a \\\"b\\\"\"},\"block\":3600,\"blocks\":{\"m:3306\":60},\"filters\":{\"intermediate\":[\"*\"],\"master\":[\"*\"]},"
-        ++ codes "\"gtid\":false,\"hooks\":{\"post_failover\":[[\"page {failedHost}\",0]],\"post_unsuccessful\":[],\"pre_failover\":[]},\"now\":7,\"pseudo\":5,"
+        ++ codes "\"gtid\":false,\"hooks\":{\"post_failover\":[[\"page {failedHost}\",0]],\"post_unsuccessful\":[],\"pre_failover\":[]},\"nodes\":1,\"now\":7,\"pseudo\":5,"
         ++ codes "\"servers\":[{\"cluster\":\"m:3306\",\"dc\":\"\",\"desk\":true,\"feed\":true,\"flushes\":[1,3],"
         ++ codes "\"history\":[[\"m:3306\",100,2],[\"m:3306\",200,1]],\"limit\":250,"
         ++ codes "\"logs\":true,\"name\":\"m:3306\",\"purged\":1,\"read_only\":false,\"server_id\":1,\"up\":true,"

@@ -108,7 +108,8 @@ pub fn dump(
     print_hooks(alloc, hooks.post_unsuccessful.as_slice(), &mut out)?;
     out.extend_from_slice(b",\"pre_failover\":")?;
     print_hooks(alloc, hooks.pre_failover.as_slice(), &mut out)?;
-    print_number(b"},\"now\":", now.0, &mut out)?;
+    print_number(b"},\"nodes\":", u64::from(scenario.nodes), &mut out)?;
+    print_number(b",\"now\":", now.0, &mut out)?;
     print_number(b",\"pseudo\":", scenario.pseudo, &mut out)?;
     out.extend_from_slice(b",\"servers\":")?;
     print_servers(alloc, world, &mut out)?;

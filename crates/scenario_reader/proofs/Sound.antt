@@ -22,7 +22,7 @@ use Rattle.scenarios.specs.declared.blocks.Block.{Block}
 use Rattle.scenarios.specs.declared.scenario.Scenario.{Scenario}
 use Rattle.turns.specs.declared.turn.Turn.{Turn}
 use Rattle.scenarios.specs.Scenarios.{IsScenario}
-use Rattle.scenarios.specs.Turns.{IsTurn, is_write}
+use Rattle.scenarios.specs.Turns.{IsTurn, IsTurnOf, NamesOneOf, is_write}
 use Rattle.scenario_values.specs.declared.fault.FaultCode.{FaultCode}
 use Rattle.scenario_values.specs.declared.fault.FaultCode.TheVariants.{BadHook, TooLong, TooLarge}
 use Rattle.scenario_values.specs.Faults.{holds, under, under_item, needed, only_keys, optional, each, each_from, item_count}
@@ -49,19 +49,21 @@ use Rattle.scenario_turns.proofs.Order.{order_within}
 -- ---- turns
 
 -- turns of so many servers, few of them, within the room of what is listed
-record AreTurns (servers : List ServerInit) (ts : List Turn) : Type 0 where
+record AreTurns (servers : List ServerInit) (nodes : ℕ) (ts : List Turn) : Type 0 where
   turns : All (IsTurn (length servers)) ts
+  named : All (NamesOneOf nodes) ts
   few : length ts ≤ 1000000
   room : length servers * (listed_count servers + count_by is_write ts) ≤ 4000000
 
-bounded-have : (servers : List ServerInit) (made ts : List Turn) → All (IsTurn (length servers)) made → bounded servers made ≡ Ok ts → AreTurns servers ts
+bounded-have : (servers : List ServerInit) (nodes : ℕ) (made ts : List Turn) → All (IsTurnOf (length servers) nodes) made → bounded servers made ≡ Ok ts → AreTurns servers nodes ts
 unfolding bounded
-bounded-have servers made ts are e =
+bounded-have servers nodes made ts are e =
     let few = bind-ok (holds TooLarge (leb (length made) 1000000)) _ ts e in
     let small = bind-ok (holds TooLarge (is_small (length servers) (listed_count servers + count_by is_write made))) _ ts few.2 in
-    subst (AreTurns servers) (same_Ok made ts small.2)
+    subst (AreTurns servers nodes) (same_Ok made ts small.2)
     (record {
-      turns = are;
+      turns = λ k d less. (are k d less).0;
+      named = λ k d less. (are k d less).1;
       few = leb-true (length made) 1000000 (holds-ok TooLarge _ few.0 few.1);
       room = leb-true _ 4000000 (holds-ok TooLarge _ small.0 small.1);
     })
@@ -70,17 +72,18 @@ bounded-have servers made ts are e =
 printed_count : (servers : List ServerInit) → length (printed_of servers) ≡ length servers
 printed_count servers = length-map (server_names servers) printed ∙ length-map servers (λ (i : ServerInit). i.settings.name)
 
-turns-have : (names : List (Option HostPort)) (servers : List ServerInit) (items : Items) (ts : List Turn) → length names ≡ length servers → turns_in names servers items ≡ Ok ts → AreTurns servers ts
+turns-have : (names : List (Option HostPort)) (servers : List ServerInit) (nodes : ℕ) (items : Items) (ts : List Turn) → length names ≡ length servers → turns_in names servers nodes items ≡ Ok ts
+    → AreTurns servers nodes ts
 unfolding turns_in
-turns-have names servers items ts count e =
+turns-have names servers nodes items ts count e =
     let texts = printed_of servers in
     let counts : length texts ≡ length names = printed_count servers ∙ sym count in
-    let listed = bind-ok (under (codes "turns") (each (turn_in names texts) items)) _ ts e in
-    let ok : each (turn_in names texts) items ≡ Ok listed.0 = under-ok (codes "turns") _ listed.0 listed.1 in
-    let are : All (IsListedTurn (length names)) listed.0 =
-    each_from-all (IsListedTurn (length names)) (λ n d. turn_in names texts d) (λ n d t f. turn-has names texts d t counts f) 0 items listed.0 ok in
-    bounded-have servers (expanded (in_order servers) listed.0) ts
-    (expanded-are (length servers) (in_order servers) (order_within servers) listed.0 (subst (λ n. All (IsListedTurn n) listed.0) count are))
+    let listed = bind-ok (under (codes "turns") (each (turn_in names texts nodes) items)) _ ts e in
+    let ok : each (turn_in names texts nodes) items ≡ Ok listed.0 = under-ok (codes "turns") _ listed.0 listed.1 in
+    let are : All (IsListedTurn (length names) nodes) listed.0 =
+    each_from-all (IsListedTurn (length names) nodes) (λ n d. turn_in names texts nodes d) (λ n d t f. turn-has names texts nodes d t counts f) 0 items listed.0 ok in
+    bounded-have servers nodes (expanded (in_order servers) listed.0) ts
+    (expanded-are (length servers) nodes (in_order servers) (order_within servers) listed.0 (subst (λ n. All (IsListedTurn n nodes) listed.0) count are))
     listed.2
 
 -- ---- the servers
@@ -140,7 +143,8 @@ none_of P = λ k d less. absurd (omega arith)
 record AreSmall (h : Head) : Type 0 where
   moment : h.moment ≤ 1000000000000000
   pseudo : h.pseudo ≤ 1000000
-  nodes : h.nodes ≡ 1
+  some_node : 1 ≤ h.nodes
+  few_nodes : h.nodes ≤ 16
   block : h.block ≤ 1000000000
   blocks : All (λ b. b.seconds ≤ 1000000000) h.blocks
   hooks : AreHooks h.hooks
@@ -222,7 +226,8 @@ head-has d h e =
     let moment = bind-ok (optional (codes "now") (number_in 0 1000000000000000) 0 d) _ h version.2 in
     let gtid = bind-ok (optional (codes "gtid") bool_in _ d) _ h moment.2 in
     let pseudo = bind-ok (optional (codes "pseudo") (number_in 0 1000000) 0 d) _ h gtid.2 in
-    let block = bind-ok (optional (codes "block") period_in 3600 d) _ h pseudo.2 in
+    let nodes = bind-ok (optional (codes "nodes") (number_in 1 16) 1 d) _ h pseudo.2 in
+    let block = bind-ok (optional (codes "block") period_in 3600 d) _ h nodes.2 in
     let blocks = bind-ok (optional (codes "blocks") blocks_in [] d) _ h block.2 in
     let aliases = bind-ok (optional (codes "aliases") aliases_in [] d) _ h blocks.2 in
     let filters = bind-ok (optional (codes "filters") filters_in no_filters d) _ h aliases.2 in
@@ -231,7 +236,7 @@ head-has d h e =
       moment = moment.0;
       gtid = gtid.0;
       pseudo = pseudo.0;
-      nodes = 1;
+      nodes = nodes.0;
       block = block.0;
       blocks = blocks.0;
       aliases = aliases.0;
@@ -241,7 +246,8 @@ head-has d h e =
     subst AreSmall (same_Ok made h hooks.2) (record {
       moment = by 1000000000000000 0 moment.0 (omega arith) (optional-ok (codes "now") (number_in 0 1000000000000000) 0 d moment.0 moment.1);
       pseudo = by 1000000 0 pseudo.0 (omega arith) (optional-ok (codes "pseudo") (number_in 0 1000000) 0 d pseudo.0 pseudo.1);
-      nodes = refl;
+      some_node = (of_nodes nodes.0 (optional-ok (codes "nodes") (number_in 1 16) 1 d nodes.0 nodes.1)).0;
+      few_nodes = (of_nodes nodes.0 (optional-ok (codes "nodes") (number_in 1 16) 1 d nodes.0 nodes.1)).1;
       block = by 1000000000 3600 block.0 (omega arith) (optional-ok (codes "block") period_in 3600 d block.0 block.1);
       blocks = listed blocks.0 (optional-ok (codes "blocks") blocks_in [] d blocks.0 blocks.1);
       hooks = hooked hooks.0 (optional-ok (codes "hooks") hooks_in no_hooks d hooks.0 hooks.1);
@@ -255,6 +261,10 @@ head-has d h e =
     hooked hs (inl none) = subst AreHooks (sym none) (record { pre_failover = none_of IsHook; post_failover = none_of IsHook; post_unsuccessful = none_of IsHook })
     hooked hs (inr there) = hooks-have there.0 hs there.1
 
+    of_nodes : (n : ℕ) → (n ≡ 1) ⊎ ((v : Data) × (number_in 1 16 v ≡ Ok n)) → (1 ≤ n) × (n ≤ 16)
+    of_nodes n (inl same) = (omega arith, omega arith)
+    of_nodes n (inr there) = number-ok 1 16 there.0 n there.1
+
     listed : (bs : List Block) → (bs ≡ []) ⊎ ((v : Data) × (blocks_in v ≡ Ok bs)) → All (λ b. b.seconds ≤ 1000000000) bs
     listed bs (inl none) = subst (All (λ (b : Block). b.seconds ≤ 1000000000)) (sym none) (none_of (λ (b : Block). b.seconds ≤ 1000000000))
     listed bs (inr there) = blocks-have there.0 bs there.1
@@ -266,10 +276,10 @@ scenario_with-sound : (head : Head) (given : List (Option HostPort) × List Give
 unfolding scenario_with
 scenario_with-sound head given items s early are names e =
     let o = bind-ok (opening_in (inits_of given.1) head.gtid) _ s e in
-    let ts = bind-ok (turns_in given.0 o.0.servers items) _ s o.2 in
+    let ts = bind-ok (turns_in given.0 o.0.servers head.nodes items) _ s o.2 in
     let opened = opening-has (inits_of given.1) head.gtid o.0 are o.1 in
     let count : length given.0 ≡ length o.0.servers = names ∙ ap length (sym opened.same) in
-    let turns = turns-have given.0 o.0.servers items ts.0 count ts.1 in
+    let turns = turns-have given.0 o.0.servers head.nodes items ts.0 count ts.1 in
     let known : length (known_of given.1) ≡ length o.0.servers = length-map given.1 (λ (g : Given). g.known) ∙ sym (length-inits given.1 0 given.1) ∙ ap length (sym opened.same) in
     let rules : length (rules_of given.1) ≡ length o.0.servers = length-map given.1 (λ (g : Given). g.rule) ∙ sym (length-inits given.1 0 given.1) ∙ ap length (sym opened.same) in
     let made : Scenario = record {
@@ -290,10 +300,12 @@ scenario_with-sound head given items s early are names e =
       checked = opened.checked;
       moment = early.moment;
       pseudo = early.pseudo;
-      nodes = early.nodes;
+      some_node = early.some_node;
+      few_nodes = early.few_nodes;
       block = early.block;
       blocks = early.blocks;
       turns = turns.turns;
+      named = turns.named;
       few = turns.few;
       room = turns.room;
       known = known;

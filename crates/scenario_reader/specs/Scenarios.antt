@@ -37,8 +37,8 @@ json_in bytes = or_fails NotJson (if is_utf8 bytes then read bytes else None)
 -- ---- the top object
 
 abbrev pub top_keys : List (List ℕ)
-top_keys = codes "version" ∷ codes "now" ∷ codes "gtid" ∷ codes "pseudo" ∷ codes "block" ∷ codes "blocks" ∷ codes "aliases" ∷ codes "filters"
-    ∷ codes "hooks" ∷ codes "servers" ∷ codes "turns" ∷ []
+top_keys = codes "version" ∷ codes "now" ∷ codes "gtid" ∷ codes "pseudo" ∷ codes "nodes" ∷ codes "block" ∷ codes "blocks" ∷ codes "aliases"
+    ∷ codes "filters" ∷ codes "hooks" ∷ codes "servers" ∷ codes "turns" ∷ []
 
 abbrev pub is_one : Option ℕ → Bool
 is_one None = false
@@ -69,6 +69,7 @@ head_in d = do
   moment ← optional (codes "now") (number_in 0 1000000000000000) 0 d
   gtid ← optional (codes "gtid") bool_in false d
   pseudo ← optional (codes "pseudo") (number_in 0 1000000) 0 d
+  nodes ← optional (codes "nodes") (number_in 1 16) 1 d
   block ← optional (codes "block") period_in 3600 d
   blocks ← optional (codes "blocks") blocks_in [] d
   aliases ← optional (codes "aliases") aliases_in [] d
@@ -78,7 +79,7 @@ head_in d = do
     moment = moment;
     gtid = gtid;
     pseudo = pseudo;
-    nodes = 1;
+    nodes = nodes;
     block = block;
     blocks = blocks;
     aliases = aliases;
@@ -93,17 +94,17 @@ bounded servers turns = do
   few_writes ← holds TooLarge (is_small (length servers) (listed_count servers + count_by is_write turns))
   Ok turns
 
--- the turns that the listed ones stand for, each of which is read before they are counted
-unfoldable pub turns_in : List (Option HostPort) → List ServerInit → Items → Result (List Turn) Fault
-turns_in names servers items = do
-  listed ← under (codes "turns") (each (turn_in names (printed_of servers)) items)
+-- the turns that the listed ones of so many orchestrators stand for, each of which is read before they are counted
+unfoldable pub turns_in : List (Option HostPort) → List ServerInit → ℕ → Items → Result (List Turn) Fault
+turns_in names servers nodes items = do
+  listed ← under (codes "turns") (each (turn_in names (printed_of servers) nodes) items)
   bounded servers (expanded (in_order servers) listed)
 
 -- the opening of the servers, and the turns over them
 unfoldable pub scenario_with : Head → List (Option HostPort) × List Given → Items → Result Scenario Fault
 scenario_with head given listed = do
   opening ← opening_in (inits_of given.1) head.gtid
-  turns ← turns_in given.0 opening.servers listed
+  turns ← turns_in given.0 opening.servers head.nodes listed
   Ok (record {
     opening = opening;
     moment = record { 0 = head.moment };

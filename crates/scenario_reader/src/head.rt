@@ -5,6 +5,7 @@ ghost use Rattle.orch_base.specs.Gives.{Gives};
 ghost use Rattle.hook_texts.specs.Hooks.{no_hooks};
 ghost use Rattle.scenario_json.specs.View.{view};
 ghost use Rattle.scenario_values.specs.Faults.{fault_of, needed, optional};
+ghost use Rattle.scenario_values.specs.Values.{number_in};
 ghost use Rattle.scenario_filters.specs.Aliases.{aliases_in};
 ghost use Rattle.scenario_filters.specs.Filters.{filters_in, no_filters, AreRead};
 ghost use Rattle.scenario_reader.specs.Blocks.{blocks_in};
@@ -30,7 +31,7 @@ pub struct Head {
     pub gtid: bool,
     /// Each transaction whose number is divisible by this is a mark; 0 for no marks.
     pub pseudo: u64,
-    /// How many orchestrators share what is kept.
+    /// How many orchestrators share what is kept: 1 to 16.
     pub nodes: u32,
     /// The block period: at most 1,000,000,000 seconds.
     pub block: u64,
@@ -54,7 +55,13 @@ pub(crate) fn keys_in(alloc: Global, value: &Value) -> Result<(), ReadFault>
     ensures { Gives (λ _. tt) fault_of result (keys_in (view value.now)) }
 {
     let members = members_in(alloc, value)?;
-    only_keys(alloc, members, &["version", "now", "gtid", "pseudo", "block", "blocks", "aliases", "filters", "hooks", "servers", "turns"])?;
+    only_keys(
+        alloc,
+        members,
+        &[
+            "version", "now", "gtid", "pseudo", "nodes", "block", "blocks", "aliases", "filters", "hooks", "servers", "turns",
+        ],
+    )?;
     holds(alloc, FaultCode::Missing, is_there("version", value) && is_there("servers", value))
 }
 
@@ -85,6 +92,14 @@ fn version_at(alloc: Global, object: &Value) -> Result<(), ReadFault>
         Some(value) => under(alloc, b"version", one_in(alloc, value)),
         None => Err(fails(alloc, FaultCode::Missing)),
     }
+}
+
+fn nodes_at(alloc: Global, object: &Value) -> Result<u32, ReadFault>
+    ensures { Gives (λ n. n) fault_of result
+        (optional (codes "nodes") (number_in 1 16) 1 (view object.now)) }
+{
+    let nodes = number_at(alloc, object, "nodes", 1, 16, 1)?;
+    Ok(nodes as u32)
 }
 
 #[tactic(auto, using(scenario_values::proofs::Unders::gives_under))]
@@ -138,6 +153,7 @@ pub(crate) fn head_in(alloc: Global, object: &Value) -> Result<Head, ReadFault>
     let moment = number_at(alloc, object, "now", 0, 1_000_000_000_000_000, 0)?;
     let gtid = bool_at(alloc, object, "gtid", false)?;
     let pseudo = number_at(alloc, object, "pseudo", 0, 1_000_000, 0)?;
+    let nodes = nodes_at(alloc, object)?;
     let block = number_at(alloc, object, "block", 0, 1_000_000_000, 3600)?;
     let blocks = blocks_at(alloc, object)?;
     let aliases = aliases_at(alloc, object)?;
@@ -147,7 +163,7 @@ pub(crate) fn head_in(alloc: Global, object: &Value) -> Result<Head, ReadFault>
         moment,
         gtid,
         pseudo,
-        nodes: 1,
+        nodes,
         block,
         blocks,
         aliases,

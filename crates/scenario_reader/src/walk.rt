@@ -66,12 +66,18 @@ fn turns_at(
     alloc: Global,
     names: &Names,
     patterns: &Patterns,
+    nodes: u32,
     items: &[Value],
 ) -> Result<Vec<ListedTurn>, ReadFault>
     ensures { Gives (λ v. v.items) fault_of result
-        (place_under (codes "turns") (each (turn_in names.now patterns.now) (items_view items.now))) }
+        (place_under (codes "turns")
+        (each (turn_in names.now patterns.now nodes) (items_view items.now))) }
 {
-    under(alloc, b"turns", each_turn(alloc, names, patterns, items))
+    under(
+        alloc,
+        b"turns",
+        each_turn(alloc, names, patterns, nodes, items),
+    )
 }
 
 // The turns that the listed ones stand for, where they are not too many.
@@ -91,19 +97,21 @@ fn bounded(
     Ok(turns)
 }
 
-// The turns over these servers.
+// The turns over these servers, of so many orchestrators.
 #[tactic(auto, unfolding(crate::specs::Scenarios::turns_in))]
 fn turns_in(
     alloc: Global,
     names: &Names,
     servers: &[ServerInit],
+    nodes: u32,
     items: &[Value],
 ) -> Result<Turns, ReadFault>
     requires { length servers.now ≤ 1000 }
-    ensures { Gives (λ t. t) fault_of result (turns_in names.now servers.now (items_view items.now)) }
+    ensures { Gives (λ t. t) fault_of result
+        (turns_in names.now servers.now nodes (items_view items.now)) }
 {
     let patterns = Patterns::of_turns(alloc, printed_of(alloc, servers)?, items)?;
-    let listed = turns_at(alloc, names, &patterns, items)?;
+    let listed = turns_at(alloc, names, &patterns, nodes, items)?;
     let ordered = in_order(alloc, servers)?;
     let turns = bounded(alloc, servers, &ordered, listed)?;
     Ok(Turns::new(turns))
@@ -126,7 +134,7 @@ fn scenario_with(
     let rules = rules_of(alloc, &listed.given)?;
     let servers = inits_of(alloc, listed.given)?;
     let opening = opening_in(alloc, servers, head.gtid)?;
-    let turns = turns_in(alloc, &listed.names, opening.servers(), items)?;
+    let turns = turns_in(alloc, &listed.names, opening.servers(), head.nodes, items)?;
     let filters = answered(alloc, head.filters, &head.aliases, opening.servers())?;
     Ok(Scenario {
         opening,

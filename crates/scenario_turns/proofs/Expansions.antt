@@ -1,19 +1,21 @@
 -- How many turns the listed ones stand for, and that each is a turn of the servers.
-use Rattle.std.proofs.Common.{◌≡◌, ℕ, ◌+◌, ◌*◌, ◌<◌, ◌≤◌, List, [], ◌∷◌, ◌++◌, length, take, get_or, All, false, leb, refl, arith}
+use Rattle.std.proofs.Common.{◌≡◌, ℕ, ◌+◌, ◌*◌, ◌<◌, ◌≤◌, List, [], ◌∷◌, ◌++◌, length, take, get_or, All, Option, Some, None, false, leb, refl, arith}
+use Rattle.std.specs.Prelude.{IfSome}
 use Rattle.std.specs.List.{flat_map}
 use Rattle.std.proofs.lemmas.List.{length-append}
 use Rattle.std.proofs.lemmas.Bool.Decides.{nat_tests}
 use Rattle.std.proofs.lemmas.List.Folds.{length-flat_map-take}
 use Rattle.std.proofs.lemmas.List.Elements.{All-nil, All-cons, All-head, All-tail}
 use Rattle.orch_base.specs.declared.server.ServerNo.{ServerNo}
+use Rattle.turns.specs.declared.turn.Act.{Act}
 use Rattle.turns.specs.declared.turn.Turn.{Turn}
-use Rattle.turns.specs.declared.turn.Turn.TheVariants.{Act, Step}
+use Rattle.turns.specs.declared.turn.Turn.TheVariants.{Step}
 use Rattle.turns.specs.declared.turn.Step.TheVariants.{Apply, Fetch}
 use Rattle.turns.specs.declared.turn.Act.TheVariants.{PollRead, PollStore}
-use Rattle.scenarios.specs.Turns.{IsTurn}
+use Rattle.scenarios.specs.Turns.{IsAct, IsNumberOf, IsTurnOf}
 use Rattle.scenario_turns.specs.declared.expansion.ListedTurn.{ListedTurn}
 use Rattle.scenario_turns.specs.declared.expansion.ListedTurn.TheVariants.{One, Polls, Round}
-use Rattle.scenario_turns.specs.Expansion.{IsListedTurn, polls_of, steps_of, expansion_of, expanded}
+use Rattle.scenario_turns.specs.Expansion.{IsListedTurn, done_by, polls_of, steps_of, expansion_of, expanded}
 
 -- ---- how many
 
@@ -21,11 +23,11 @@ twice : (f g : ServerNo → Turn) (ns : List ServerNo) → length (flat_map (λ 
 twice f g [] = refl
 twice f g (n ∷ ns) = let more = twice f g ns in omega arith
 
-pub polls_length : (ns : List ServerNo) → length (polls_of ns) ≡ 2 * length ns
-polls_length ns = twice (λ n. Act (PollRead 0 n)) (λ n. Act (PollStore 0)) ns
+pub polls_length : (node : Option ℕ) (ns : List ServerNo) → length (polls_of node ns) ≡ 2 * length ns
+polls_length by ns = twice (λ n. done_by by (PollRead 0 n)) (λ n. done_by by (PollStore 0)) ns
 
-pub round_length : (ns : List ServerNo) → length (steps_of ns ++ polls_of ns) ≡ 4 * length ns
-round_length ns = omega (arith, length-append (steps_of ns) (polls_of ns), twice (λ n. Step (Fetch n)) (λ n. Step (Apply n)) ns, polls_length ns)
+pub round_length : (ns : List ServerNo) → length (steps_of ns ++ polls_of None ns) ≡ 4 * length ns
+round_length ns = omega (arith, length-append (steps_of ns) (polls_of None ns), twice (λ n. Step (Fetch n)) (λ n. Step (Apply n)) ns, polls_length None ns)
 
 -- the turns up to one that is listed, and its own, are more than there may be: those of all are too
 pub too_many : (ns : List ServerNo) (listed : List ListedTurn) (i count own : ℕ) (d : ListedTurn) → i < length listed → count ≡ length (expanded ns (take i listed)) → own ≡ length (expansion_of ns (get_or listed i d))
@@ -48,18 +50,26 @@ All-flat_map P Q f each (x ∷ xs) all = All-append P (f x) (flat_map f xs) (eac
 All-two : {X : Type 0} (P : X → Type 0) (x y : X) → P x → P y → All P (x ∷ y ∷ [])
 All-two P x y one two = All-cons P x (y ∷ []) one (All-cons P y [] two (All-nil P))
 
-module _ (count : ℕ) (ns : List ServerNo) (within : All (λ n. n.0 < count) ns) where
-  polls-are : All (IsTurn count) (polls_of ns)
-  polls-are = All-flat_map (IsTurn count) (λ n. n.0 < count) (λ n. Act (PollRead 0 n) ∷ Act (PollStore 0) ∷ []) (λ n is. All-two (IsTurn count) (Act (PollRead 0 n)) (Act (PollStore 0)) (omega arith, is) (omega arith)) ns within
+-- what one orchestrator, or one of so many, does
+pub done_by-is : (count nodes : ℕ) (node : Option ℕ) (a : Act) → IfSome node (IsNumberOf nodes) → IsAct count a → IsTurnOf count nodes (done_by node a)
+done_by-is count nodes None a of is = (is, tt)
+done_by-is count nodes (Some n) a of is = (is, of)
 
-  steps-are : All (IsTurn count) (steps_of ns)
-  steps-are = All-flat_map (IsTurn count) (λ n. n.0 < count) (λ n. Step (Fetch n) ∷ Step (Apply n) ∷ []) (λ n is. All-two (IsTurn count) (Step (Fetch n)) (Step (Apply n)) is is) ns within
+module _ (count nodes : ℕ) (ns : List ServerNo) (within : All (λ n. n.0 < count) ns) where
+  polls-are : (node : Option ℕ) → IfSome node (IsNumberOf nodes) → All (IsTurnOf count nodes) (polls_of node ns)
+  polls-are by of =
+      All-flat_map (IsTurnOf count nodes) (λ n. n.0 < count) (λ n. done_by by (PollRead 0 n) ∷ done_by by (PollStore 0) ∷ [])
+      (λ n is. All-two (IsTurnOf count nodes) (done_by by (PollRead 0 n)) (done_by by (PollStore 0)) (done_by-is count nodes by (PollRead 0 n) of (omega arith, is)) (done_by-is count nodes by (PollStore 0) of (omega arith)))
+      ns within
 
-  expansion-is : (listed : ListedTurn) → IsListedTurn count listed → All (IsTurn count) (expansion_of ns listed)
-  expansion-is (One turn) is = All-cons (IsTurn count) turn [] is (All-nil (IsTurn count))
-  expansion-is Polls is = polls-are
-  expansion-is Round is = All-append (IsTurn count) (steps_of ns) (polls_of ns) steps-are polls-are
+  steps-are : All (IsTurnOf count nodes) (steps_of ns)
+  steps-are = All-flat_map (IsTurnOf count nodes) (λ n. n.0 < count) (λ n. Step (Fetch n) ∷ Step (Apply n) ∷ []) (λ n is. All-two (IsTurnOf count nodes) (Step (Fetch n)) (Step (Apply n)) (is, tt) (is, tt)) ns within
+
+  expansion-is : (listed : ListedTurn) → IsListedTurn count nodes listed → All (IsTurnOf count nodes) (expansion_of ns listed)
+  expansion-is (One turn) is = All-cons (IsTurnOf count nodes) turn [] is (All-nil (IsTurnOf count nodes))
+  expansion-is (Polls by) is = polls-are by is
+  expansion-is Round is = All-append (IsTurnOf count nodes) (steps_of ns) (polls_of None ns) steps-are (polls-are None tt)
 
   -- what is listed stands for turns of the servers
-  pub expanded-are : (listed : List ListedTurn) → All (IsListedTurn count) listed → All (IsTurn count) (expanded ns listed)
-  expanded-are listed all = All-flat_map (IsTurn count) (IsListedTurn count) (expansion_of ns) expansion-is listed all
+  pub expanded-are : (listed : List ListedTurn) → All (IsListedTurn count nodes) listed → All (IsTurnOf count nodes) (expanded ns listed)
+  expanded-are listed all = All-flat_map (IsTurnOf count nodes) (IsListedTurn count nodes) (expansion_of ns) expansion-is listed all

@@ -1,16 +1,20 @@
 -- A turn that is read is one of the servers, or stands for such turns.
-use Rattle.std.proofs.Common.{◌≡◌, ℕ, ◌<◌, ◌≤◌, List, length, Option, Result, Ok, subst, arith}
+use Rattle.std.proofs.Common.{◌≡◌, ℕ, ◌<◌, ◌≤◌, Bool, true, false, cond, List, length, Option, Some, None, Result, Ok, refl, subst, arith}
+use Rattle.std.specs.Prelude.{IfSome, ◌&&◌, nat_le}
+use Rattle.std.proofs.lemmas.Bool.{leb-true}
 use Rattle.serde_json.specs.Data.{Data, Items, no_items, item}
 use Rattle.orch_base.specs.declared.server.ServerNo.{ServerNo}
 use Rattle.orch_base.specs.Names.{HostPort}
 use Rattle.server_words.specs.declared.changes.Link.{Link}
+use Rattle.turns.specs.declared.turn.Act.{Act}
 use Rattle.turns.specs.declared.turn.Turn.{Turn}
-use Rattle.turns.specs.declared.turn.Turn.TheVariants.{Act, Step, Tick}
+use Rattle.turns.specs.declared.turn.Turn.TheVariants as turn
 use Rattle.turns.specs.declared.turn.Step.TheVariants.{Write, Fetch, Apply, Fail, Heal, Cut, Join, Rotate, Purge}
 use Rattle.turns.specs.declared.turn.Act.TheVariants.{PollRead, PollStore, Command, Job, Scan, Restart}
-use Rattle.scenarios.specs.Turns.{IsCommand, IsTurn}
+use Rattle.scenarios.specs.Turns.{IsAct, IsCommand, IsNumberOf, IsTurnOf}
 use Rattle.scenario_values.specs.declared.fault.Fault.{Fault}
-use Rattle.scenario_values.specs.Faults.{under_item}
+use Rattle.scenario_values.specs.declared.fault.FaultCode.TheVariants.{BadTurn, NodeTurn}
+use Rattle.scenario_values.specs.Faults.{fails, holds, under_item}
 use Rattle.scenario_values.specs.Values.{items_in, text_in, number_in}
 use Rattle.scenario_servers.specs.Names.{server_named}
 use Rattle.scenario_servers.proofs.ServerSteps.{named-ok}
@@ -20,10 +24,12 @@ use Rattle.scenario_turns.specs.declared.expansion.ListedTurn.{ListedTurn}
 use Rattle.scenario_turns.specs.declared.expansion.ListedTurn.TheVariants.{One, Polls, Round}
 use Rattle.scenario_turns.specs.declared.word.Word.{Word}
 use Rattle.scenario_turns.specs.declared.word.Word.TheVariants as word
-use Rattle.scenario_turns.specs.Expansion.{IsListedTurn}
-use Rattle.scenario_turns.specs.Words.{word_at}
-use Rattle.scenario_turns.specs.Turns.{one_of, two_of, link_in, poller_in, server_of, amount_of, link_of, seconds_of, poll_of, poller_of, job_of, turn_by, alone, turn_of, turn_with, turn_from, turn_in}
-use Rattle.scenario_turns.proofs.Sound.{command-has}
+use Rattle.scenario_turns.specs.Expansion.{IsListedTurn, done_by}
+use Rattle.scenario_turns.specs.Words.{has_parts, stands, word_at}
+use Rattle.scenario_turns.specs.Turns.{one_of, two_of, link_in, poller_in, server_of, amount_of, link_of, seconds_of, poll_of, poller_of, job_of, turn_by, alone}
+use Rattle.scenario_turns.specs.Turns.{whole_or_none, node_or_fails, node_in, node_of, act_of, inner_with, inner_from, inner_in, as_of, turn_of, turn_with, turn_from, turn_in}
+use Rattle.scenario_turns.proofs.Sound.{both_true, command-has}
+use Rattle.scenario_turns.proofs.Expansions.{done_by-is}
 
 server-has : (names : List (Option HostPort)) (rest : Items) (n : ServerNo) → server_of names rest ≡ Ok n → n.0 < length names
 unfolding server_of
@@ -82,50 +88,134 @@ poller-has rest p e =
     omega (arith, bounds.1)
 
 -- a turn of what was read
-made-has : {A : Type 0} (count : ℕ) (P : A → Type 0) (make : A → Turn) (read : Result A Fault) (t : ListedTurn) → ((x : A) → P x → IsTurn count (make x)) → ((x : A) → read ≡ Ok x → P x)
-    → turn_by make read ≡ Ok t → IsListedTurn count t
-made-has count P make read t is has e =
+made-has : {A : Type 0} (count nodes : ℕ) (P : A → Type 0) (make : A → Turn) (read : Result A Fault) (t : ListedTurn) → ((x : A) → P x → IsTurnOf count nodes (make x)) → ((x : A) → read ≡ Ok x → P x)
+    → turn_by make read ≡ Ok t → IsListedTurn count nodes t
+made-has count nodes P make read t is has e =
     let x = bind-ok read _ t e in
-    subst (IsListedTurn count) (same_Ok (One (make x.0)) t x.2) (is x.0 (has x.0 x.1))
+    subst (IsListedTurn count nodes) (same_Ok (One (make x.0)) t x.2) (is x.0 (has x.0 x.1))
 
-alone-has : (count : ℕ) (turn : ListedTurn) (rest : Items) (t : ListedTurn) → IsListedTurn count turn → alone turn rest ≡ Ok t → IsListedTurn count t
-alone-has count turn no_items t is e = subst (IsListedTurn count) (same_Ok turn t e) is
-alone-has count turn (item a rest) t is e = cc
+alone-has : (count nodes : ℕ) (turn : ListedTurn) (rest : Items) (t : ListedTurn) → IsListedTurn count nodes turn → alone turn rest ≡ Ok t → IsListedTurn count nodes t
+alone-has count nodes turn no_items t is e = subst (IsListedTurn count nodes) (same_Ok turn t e) is
+alone-has count nodes turn (item a rest) t is e = cc
 
-turn_of-has : (names : List (Option HostPort)) (printed : List (List ℕ)) (w : Word) (rest : Items) (t : ListedTurn) → length printed ≡ length names → turn_of names printed w rest ≡ Ok t
-    → IsListedTurn (length names) t
-turn_of-has names printed word.Write rest t counts e =
-    made-has (length names) (IsAmount (length names) 1000000) (λ p. Step (Write p.0 p.1)) (amount_of names 1000000 rest) t (λ p is. (is.within, is.some, is.few)) (amount-has names 1000000 rest) e
-turn_of-has names printed word.Fetch rest t counts e = made-has (length names) (λ n. n.0 < length names) (λ n. Step (Fetch n)) (server_of names rest) t (λ n is. is) (server-has names rest) e
-turn_of-has names printed word.Apply rest t counts e = made-has (length names) (λ n. n.0 < length names) (λ n. Step (Apply n)) (server_of names rest) t (λ n is. is) (server-has names rest) e
-turn_of-has names printed word.Fail rest t counts e = made-has (length names) (λ n. n.0 < length names) (λ n. Step (Fail n)) (server_of names rest) t (λ n is. is) (server-has names rest) e
-turn_of-has names printed word.Heal rest t counts e = made-has (length names) (λ n. n.0 < length names) (λ n. Step (Heal n)) (server_of names rest) t (λ n is. is) (server-has names rest) e
-turn_of-has names printed word.Rotate rest t counts e = made-has (length names) (λ n. n.0 < length names) (λ n. Step (Rotate n)) (server_of names rest) t (λ n is. is) (server-has names rest) e
-turn_of-has names printed word.Purge rest t counts e =
-    made-has (length names) (IsAmount (length names) 4294967295) (λ p. Step (Purge p.0 p.1)) (amount_of names 4294967295 rest) t (λ p is. (is.within, is.some, is.few)) (amount-has names 4294967295 rest) e
-turn_of-has names printed word.Cut rest t counts e = made-has (length names) (λ p. p.0.0 < length names) (λ p. Step (Cut p.0 p.1)) (link_of names rest) t (λ p is. is) (link-has names rest) e
-turn_of-has names printed word.Join rest t counts e = made-has (length names) (λ p. p.0.0 < length names) (λ p. Step (Join p.0 p.1)) (link_of names rest) t (λ p is. is) (link-has names rest) e
-turn_of-has names printed word.Tick rest t counts e = made-has (length names) (λ n. n ≤ 1000000000) Tick (seconds_of rest) t (λ n is. is) (seconds-have rest) e
-turn_of-has names printed word.PollRead rest t counts e =
-    made-has (length names) (IsPoll (length names)) (λ p. Act (PollRead p.0 p.1)) (poll_of names rest) t (λ p is. (is.poller, is.within)) (poll-has names rest) e
-turn_of-has names printed word.PollStore rest t counts e = made-has (length names) (λ p. p < 64) (λ p. Act (PollStore p)) (poller_of rest) t (λ p is. is) (poller-has rest) e
-turn_of-has names printed word.Polls rest t counts e = alone-has (length names) Polls rest t tt e
-turn_of-has names printed word.Round rest t counts e = alone-has (length names) Round rest t tt e
-turn_of-has names printed word.Command rest t counts e =
-    made-has (length names) (IsCommand (length names)) (λ c. Act (Command c)) (command_in names printed rest) t (λ c is. is) (λ c f. command-has names printed rest c counts f) e
-turn_of-has names printed word.Job rest t counts e = made-has (length names) (λ n. Unit {0}) (λ n. Act (Job n)) (job_of rest) t (λ n is. is) (λ n read. tt) e
-turn_of-has names printed word.Scan rest t counts e = alone-has (length names) (One (Act Scan)) rest t tt e
-turn_of-has names printed word.Restart rest t counts e = alone-has (length names) (One (Act Restart)) rest t tt e
+-- ---- orchestrators
 
-pub turn-has : (names : List (Option HostPort)) (printed : List (List ℕ)) (d : Data) (t : ListedTurn) → length printed ≡ length names → turn_in names printed d ≡ Ok t → IsListedTurn (length names) t
-unfolding turn_in turn_with
-turn-has names printed d t counts e =
-    let items = bind-ok (items_in d) (turn_from names printed) t e in
+within-nodes : (nodes : ℕ) (o : Option ℕ) (n : ℕ) → node_or_fails nodes o ≡ Ok n → IsNumberOf nodes n
+within-nodes nodes None n e = cc
+within-nodes nodes (Some m) n e = go (nat_le 1 m && nat_le m nodes) refl e
+  where
+    go : (b : Bool) → (nat_le 1 m && nat_le m nodes) ≡ b → cond {A = Result ℕ Fault} b (Ok m) (fails NodeTurn) ≡ Ok n → IsNumberOf nodes n
+    go true is e =
+        let parts = both_true (nat_le 1 m) (nat_le m nodes) is in
+        subst (IsNumberOf nodes) (same_Ok m n e) (leb-true 1 m parts.0, leb-true m nodes parts.1)
+    go false is e = cc
+
+node-has : (nodes : ℕ) (d : Data) (n : ℕ) → node_in nodes d ≡ Ok n → IsNumberOf nodes n
+unfolding node_in
+node-has nodes d n e =
+    let number = bind-ok (under_item 1 (whole_or_none d)) _ n e in
+    within-nodes nodes number.0 n number.2
+
+node_of-has : (nodes : ℕ) (rest : Items) (n : ℕ) → node_of nodes rest ≡ Ok n → IsNumberOf nodes n
+unfolding node_of
+node_of-has nodes rest n e =
+    let number = bind-ok (one_of rest) _ n e in
+    node-has nodes number.0 n number.2
+
+-- what orchestrator does, of what was read
+done-has : {A : Type 0} (count nodes : ℕ) (node : Option ℕ) (P : A → Type 0) (make : A → Act) (read : Result A Fault) (t : ListedTurn) → IfSome node (IsNumberOf nodes) → ((x : A) → P x → IsAct count (make x))
+    → ((x : A) → read ≡ Ok x → P x) → turn_by (λ x. done_by node (make x)) read ≡ Ok t → IsListedTurn count nodes t
+done-has count nodes by P make read t of is has e =
+    made-has count nodes P (λ x. done_by by (make x)) read t (λ x p. done_by-is count nodes by (make x) of (is x p)) has e
+
+act_of-has : (names : List (Option HostPort)) (printed : List (List ℕ)) (nodes : ℕ) (node : Option ℕ) (w : Word) (rest : Items) (t : ListedTurn) → length printed ≡ length names → IfSome node (IsNumberOf nodes)
+    → act_of names printed node w rest ≡ Ok t → IsListedTurn (length names) nodes t
+act_of-has names printed nodes by word.PollRead rest t counts of e =
+    done-has (length names) nodes by (IsPoll (length names)) (λ p. PollRead p.0 p.1) (poll_of names rest) t of (λ p is. (is.poller, is.within)) (poll-has names rest) e
+act_of-has names printed nodes by word.PollStore rest t counts of e = done-has (length names) nodes by (λ p. p < 64) (λ p. PollStore p) (poller_of rest) t of (λ p is. is) (poller-has rest) e
+act_of-has names printed nodes by word.Polls rest t counts of e = alone-has (length names) nodes (Polls by) rest t of e
+act_of-has names printed nodes by word.Command rest t counts of e =
+    done-has (length names) nodes by (IsCommand (length names)) (λ c. Command c) (command_in names printed rest) t of (λ c is. is) (λ c f. command-has names printed rest c counts f) e
+act_of-has names printed nodes by word.Job rest t counts of e = done-has (length names) nodes by (λ n. Unit {0}) (λ n. Job n) (job_of rest) t of (λ n is. is) (λ n read. tt) e
+act_of-has names printed nodes by word.Scan rest t counts of e = alone-has (length names) nodes (One (done_by by Scan)) rest t (done_by-is (length names) nodes by Scan of tt) e
+act_of-has names printed nodes by word.Restart rest t counts of e = alone-has (length names) nodes (One (done_by by Restart)) rest t (done_by-is (length names) nodes by Restart of tt) e
+act_of-has names printed nodes by word.Round rest t counts of e = cc
+act_of-has names printed nodes by word.Write rest t counts of e = cc
+act_of-has names printed nodes by word.Fetch rest t counts of e = cc
+act_of-has names printed nodes by word.Apply rest t counts of e = cc
+act_of-has names printed nodes by word.Fail rest t counts of e = cc
+act_of-has names printed nodes by word.Heal rest t counts of e = cc
+act_of-has names printed nodes by word.Rotate rest t counts of e = cc
+act_of-has names printed nodes by word.Purge rest t counts of e = cc
+act_of-has names printed nodes by word.Cut rest t counts of e = cc
+act_of-has names printed nodes by word.Join rest t counts of e = cc
+act_of-has names printed nodes by word.Tick rest t counts of e = cc
+act_of-has names printed nodes by word.Claim rest t counts of e = cc
+act_of-has names printed nodes by word.Release rest t counts of e = cc
+act_of-has names printed nodes by word.As rest t counts of e = cc
+
+inner-has : (names : List (Option HostPort)) (printed : List (List ℕ)) (nodes node : ℕ) (d : Data) (t : ListedTurn) → length printed ≡ length names → IsNumberOf nodes node → inner_in names printed node d ≡ Ok t
+    → IsListedTurn (length names) nodes t
+unfolding inner_in inner_with
+inner-has names printed nodes node d t counts of e =
+    let items = bind-ok (items_in d) (inner_from names printed node) t e in
     go items.0 items.2
   where
-    go : (ds : Items) → turn_from names printed ds ≡ Ok t → IsListedTurn (length names) t
+    go : (ds : Items) → inner_from names printed node ds ≡ Ok t → IsListedTurn (length names) nodes t
     go no_items e = cc
     go (item first rest) e =
         let text = bind-ok (under_item 0 (text_in first)) _ t e in
         let w = bind-ok (word_at text.0) _ t text.2 in
-        turn_of-has names printed w.0 rest t counts w.2
+        let parts = bind-ok (holds BadTurn (has_parts w.0 rest)) _ t w.2 in
+        act_of-has names printed nodes (Some node) w.0 rest t counts of parts.2
+
+as-has : (names : List (Option HostPort)) (printed : List (List ℕ)) (nodes : ℕ) (rest : Items) (t : ListedTurn) → length printed ≡ length names → as_of names printed nodes rest ≡ Ok t → IsListedTurn (length names) nodes t
+unfolding as_of
+as-has names printed nodes rest t counts e =
+    let parts = bind-ok (two_of rest) _ t e in
+    let node = bind-ok (node_in nodes parts.0.0) _ t parts.2 in
+    inner-has names printed nodes node.0 parts.0.1 t counts (node-has nodes parts.0.0 node.0 node.1) (under-ok _ _ t node.2)
+
+-- ---- the turn
+
+turn_of-has : (names : List (Option HostPort)) (printed : List (List ℕ)) (nodes : ℕ) (w : Word) (rest : Items) (t : ListedTurn) → length printed ≡ length names → turn_of names printed nodes w rest ≡ Ok t
+    → IsListedTurn (length names) nodes t
+turn_of-has names printed nodes word.Write rest t counts e =
+    made-has (length names) nodes (IsAmount (length names) 1000000) (λ p. turn.Step (Write p.0 p.1)) (amount_of names 1000000 rest) t (λ p is. ((is.within, is.some, is.few), tt)) (amount-has names 1000000 rest) e
+turn_of-has names printed nodes word.Fetch rest t counts e = made-has (length names) nodes (λ n. n.0 < length names) (λ n. turn.Step (Fetch n)) (server_of names rest) t (λ n is. (is, tt)) (server-has names rest) e
+turn_of-has names printed nodes word.Apply rest t counts e = made-has (length names) nodes (λ n. n.0 < length names) (λ n. turn.Step (Apply n)) (server_of names rest) t (λ n is. (is, tt)) (server-has names rest) e
+turn_of-has names printed nodes word.Fail rest t counts e = made-has (length names) nodes (λ n. n.0 < length names) (λ n. turn.Step (Fail n)) (server_of names rest) t (λ n is. (is, tt)) (server-has names rest) e
+turn_of-has names printed nodes word.Heal rest t counts e = made-has (length names) nodes (λ n. n.0 < length names) (λ n. turn.Step (Heal n)) (server_of names rest) t (λ n is. (is, tt)) (server-has names rest) e
+turn_of-has names printed nodes word.Rotate rest t counts e = made-has (length names) nodes (λ n. n.0 < length names) (λ n. turn.Step (Rotate n)) (server_of names rest) t (λ n is. (is, tt)) (server-has names rest) e
+turn_of-has names printed nodes word.Purge rest t counts e =
+    made-has (length names) nodes (IsAmount (length names) 4294967295) (λ p. turn.Step (Purge p.0 p.1)) (amount_of names 4294967295 rest) t (λ p is. ((is.within, is.some, is.few), tt)) (amount-has names 4294967295 rest) e
+turn_of-has names printed nodes word.Cut rest t counts e = made-has (length names) nodes (λ p. p.0.0 < length names) (λ p. turn.Step (Cut p.0 p.1)) (link_of names rest) t (λ p is. (is, tt)) (link-has names rest) e
+turn_of-has names printed nodes word.Join rest t counts e = made-has (length names) nodes (λ p. p.0.0 < length names) (λ p. turn.Step (Join p.0 p.1)) (link_of names rest) t (λ p is. (is, tt)) (link-has names rest) e
+turn_of-has names printed nodes word.Tick rest t counts e = made-has (length names) nodes (λ n. n ≤ 1000000000) turn.Tick (seconds_of rest) t (λ n is. (is, tt)) (seconds-have rest) e
+turn_of-has names printed nodes word.PollRead rest t counts e = act_of-has names printed nodes None word.PollRead rest t counts tt e
+turn_of-has names printed nodes word.PollStore rest t counts e = act_of-has names printed nodes None word.PollStore rest t counts tt e
+turn_of-has names printed nodes word.Polls rest t counts e = act_of-has names printed nodes None word.Polls rest t counts tt e
+turn_of-has names printed nodes word.Round rest t counts e = alone-has (length names) nodes Round rest t tt e
+turn_of-has names printed nodes word.Command rest t counts e = act_of-has names printed nodes None word.Command rest t counts tt e
+turn_of-has names printed nodes word.Job rest t counts e = act_of-has names printed nodes None word.Job rest t counts tt e
+turn_of-has names printed nodes word.Scan rest t counts e = act_of-has names printed nodes None word.Scan rest t counts tt e
+turn_of-has names printed nodes word.Restart rest t counts e = act_of-has names printed nodes None word.Restart rest t counts tt e
+turn_of-has names printed nodes word.Claim rest t counts e = made-has (length names) nodes (IsNumberOf nodes) turn.Claim (node_of nodes rest) t (λ n is. (tt, is)) (node_of-has nodes rest) e
+turn_of-has names printed nodes word.Release rest t counts e = made-has (length names) nodes (IsNumberOf nodes) turn.Release (node_of nodes rest) t (λ n is. (tt, is)) (node_of-has nodes rest) e
+turn_of-has names printed nodes word.As rest t counts e = as-has names printed nodes rest t counts e
+
+pub turn-has : (names : List (Option HostPort)) (printed : List (List ℕ)) (nodes : ℕ) (d : Data) (t : ListedTurn) → length printed ≡ length names → turn_in names printed nodes d ≡ Ok t
+    → IsListedTurn (length names) nodes t
+unfolding turn_in turn_with
+turn-has names printed nodes d t counts e =
+    let items = bind-ok (items_in d) (turn_from names printed nodes) t e in
+    go items.0 items.2
+  where
+    go : (ds : Items) → turn_from names printed nodes ds ≡ Ok t → IsListedTurn (length names) nodes t
+    go no_items e = cc
+    go (item first rest) e =
+        let text = bind-ok (under_item 0 (text_in first)) _ t e in
+        let w = bind-ok (word_at text.0) _ t text.2 in
+        let parts = bind-ok (holds BadTurn (has_parts w.0 rest)) _ t w.2 in
+        let may = bind-ok (holds NodeTurn (stands nodes w.0)) _ t parts.2 in
+        turn_of-has names printed nodes w.0 rest t counts may.2

@@ -30,7 +30,7 @@ use Rattle.scenario_turns.specs.Commands.{command_in, command_keys, duration_in,
 use Rattle.scenario_servers.specs.Rules.{rule_in}
 use Rattle.scenario_turns.specs.Found.{found_in, found_of}
 
-both_true : (a b : Bool) → (a && b) ≡ true → (a ≡ true) × (b ≡ true)
+pub both_true : (a b : Bool) → (a && b) ≡ true → (a ≡ true) × (b ≡ true)
 both_true true true e = (refl, refl)
 both_true true false e = (refl, e)
 both_true false b e = (e, absurd (false_true e))

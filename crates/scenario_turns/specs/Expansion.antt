@@ -1,14 +1,16 @@
 -- The turns that listed turns stand for.
-use Rattle.std.specs.Prelude.{ℕ, ◌++◌, ◌∷◌, List, [], map}
+use Rattle.std.specs.Prelude.{ℕ, ◌++◌, ◌∷◌, List, [], map, IfSome, Option, None, Some}
 use Rattle.std.specs.List.{flat_map}
 use Rattle.orch_base.specs.declared.server.ServerNo.{ServerNo}
 use Rattle.orch_base.specs.Names.{HostPort, printed}
 use Rattle.openings.specs.declared.init.ServerInit.{ServerInit}
+use Rattle.turns.specs.declared.turn.Act.{Act}
 use Rattle.turns.specs.declared.turn.Turn.{Turn}
-use Rattle.turns.specs.declared.turn.Turn.TheVariants.{Act, Step}
+use Rattle.turns.specs.declared.turn.Turn.TheVariants.{Step}
+use Rattle.turns.specs.declared.turn.Turn.TheVariants as turn
 use Rattle.turns.specs.declared.turn.Step.TheVariants.{Apply, Fetch}
 use Rattle.turns.specs.declared.turn.Act.TheVariants.{PollRead, PollStore}
-use Rattle.scenarios.specs.Turns.{IsTurn}
+use Rattle.scenarios.specs.Turns.{IsNumberOf, IsTurnOf}
 use Rattle.name_order.specs.NameOrder.{by_name}
 use Rattle.scenario_turns.specs.declared.expansion.ListedTurn.{ListedTurn}
 use Rattle.scenario_turns.specs.declared.expansion.ListedTurn.TheVariants.{One, Polls, Round}
@@ -24,9 +26,14 @@ printed_of servers = map printed (server_names servers)
 abbrev pub in_order : List ServerInit → List ServerNo
 in_order servers = by_name (server_names servers)
 
--- poller 0 reads each of these servers and stores what it read
-abbrev pub polls_of : List ServerNo → List Turn
-polls_of ns = flat_map (λ n. Act (PollRead 0 n) ∷ Act (PollStore 0) ∷ []) ns
+-- the turn in which the one orchestrator does this, or one of several by its number
+abbrev pub done_by : Option ℕ → Act → Turn
+done_by None a = turn.Act a
+done_by (Some node) a = turn.As node a
+
+-- poller 0 of the one orchestrator, or of one of several, reads each of these servers and stores what it read
+abbrev pub polls_of : Option ℕ → List ServerNo → List Turn
+polls_of by ns = flat_map (λ n. done_by by (PollRead 0 n) ∷ done_by by (PollStore 0) ∷ []) ns
 
 -- a receiver's step and an applier's step at each of these servers
 abbrev pub steps_of : List ServerNo → List Turn
@@ -35,15 +42,15 @@ steps_of ns = flat_map (λ n. Step (Fetch n) ∷ Step (Apply n) ∷ []) ns
 -- what one listed turn stands for over these servers
 abbrev pub expansion_of : List ServerNo → ListedTurn → List Turn
 expansion_of ns (One turn) = turn ∷ []
-expansion_of ns Polls = polls_of ns
-expansion_of ns Round = steps_of ns ++ polls_of ns
+expansion_of ns (Polls by) = polls_of by ns
+expansion_of ns Round = steps_of ns ++ polls_of None ns
 
 -- the turns of all listed ones, in order
 abbrev pub expanded : List ServerNo → List ListedTurn → List Turn
 expanded ns listed = flat_map (expansion_of ns) listed
 
--- the listed turn is a turn of so many servers, where it is one turn
-abbrev pub IsListedTurn : ℕ → ListedTurn → Type 0
-IsListedTurn count (One turn) = IsTurn count turn
-IsListedTurn count Polls = Unit {0}
-IsListedTurn count Round = Unit {0}
+-- the listed turn is a turn of so many servers and orchestrators, where it is one turn, and is of one of them
+abbrev pub IsListedTurn : ℕ → ℕ → ListedTurn → Type 0
+IsListedTurn count nodes (One turn) = IsTurnOf count nodes turn
+IsListedTurn count nodes (Polls by) = IfSome by (IsNumberOf nodes)
+IsListedTurn count nodes Round = Unit {0}

@@ -1,18 +1,20 @@
--- The turns: of each the word, then the number of parts, then the parts from the left.
-use Rattle.std.specs.Prelude.{ℕ, ◌-◌, ◌^◌, List, if◌then◌else◌, codes, Option, Result, Ok}
+-- The turns: of each the word, then the number of parts, then whether it stands among the turns of so many
+-- orchestrators, then the parts from the left.
+use Rattle.std.specs.Prelude.{ℕ, ◌-◌, ◌^◌, ◌&&◌, List, if◌then◌else◌, nat_le, codes, Option, Some, None, Result, Ok}
 use Rattle.serde_json.specs.Data.{Data, Items, no_items, item}
+use Rattle.serde_json.specs.Find.{as_number, as_u64}
 use Rattle.orch_base.specs.declared.server.ServerNo.{ServerNo}
 use Rattle.orch_base.specs.Gives.{◌>>=◌}
 use Rattle.orch_base.specs.Names.{HostPort}
 use Rattle.server_words.specs.declared.changes.Link.{Link}
 use Rattle.server_words.specs.declared.changes.Link.TheVariants.{Desk, Feed}
 use Rattle.turns.specs.declared.turn.Turn.{Turn}
-use Rattle.turns.specs.declared.turn.Turn.TheVariants.{Act, Step, Tick}
+use Rattle.turns.specs.declared.turn.Turn.TheVariants as turn
 use Rattle.turns.specs.declared.turn.Step.TheVariants.{Write, Fetch, Apply, Fail, Heal, Cut, Join, Rotate, Purge}
 use Rattle.turns.specs.declared.turn.Act.TheVariants.{PollRead, PollStore, Command, Job, Scan, Restart}
 use Rattle.scenario_values.specs.declared.fault.Fault.{Fault}
-use Rattle.scenario_values.specs.declared.fault.FaultCode.TheVariants.{BadTurn, BadNumber}
-use Rattle.scenario_values.specs.Faults.{fails, under_item}
+use Rattle.scenario_values.specs.declared.fault.FaultCode.TheVariants.{BadTurn, BadNumber, BadType, NodeTurn}
+use Rattle.scenario_values.specs.Faults.{fails, holds, or_fails, under_item}
 use Rattle.scenario_values.specs.Values.{items_in, text_in, number_in}
 use Rattle.scenario_servers.specs.Names.{server_named}
 use Rattle.scenario_turns.specs.Commands.{command_in}
@@ -20,7 +22,8 @@ use Rattle.scenario_turns.specs.declared.expansion.ListedTurn.{ListedTurn}
 use Rattle.scenario_turns.specs.declared.expansion.ListedTurn.TheVariants.{One, Polls, Round}
 use Rattle.scenario_turns.specs.declared.word.Word.{Word}
 use Rattle.scenario_turns.specs.declared.word.Word.TheVariants as word
-use Rattle.scenario_turns.specs.Words.{is_word, word_at}
+use Rattle.scenario_turns.specs.Expansion.{done_by}
+use Rattle.scenario_turns.specs.Words.{has_parts, is_word, stands, word_at}
 
 abbrev pub link_at : List ℕ → Result Link Fault
 link_at text = if is_word (codes "desk") text then Ok Desk else (if is_word (codes "feed") text then Ok Feed else fails BadNumber)
@@ -101,37 +104,118 @@ abbrev pub alone : ListedTurn → Items → Result ListedTurn Fault
 alone turn no_items = Ok turn
 alone turn _ = fails BadTurn
 
-abbrev pub turn_of : List (Option HostPort) → List (List ℕ) → Word → Items → Result ListedTurn Fault
-turn_of names printed word.Write rest = turn_by (λ p. Step (Write p.0 p.1)) (amount_of names 1000000 rest)
-turn_of names printed word.Fetch rest = turn_by (λ n. Step (Fetch n)) (server_of names rest)
-turn_of names printed word.Apply rest = turn_by (λ n. Step (Apply n)) (server_of names rest)
-turn_of names printed word.Fail rest = turn_by (λ n. Step (Fail n)) (server_of names rest)
-turn_of names printed word.Heal rest = turn_by (λ n. Step (Heal n)) (server_of names rest)
-turn_of names printed word.Rotate rest = turn_by (λ n. Step (Rotate n)) (server_of names rest)
-turn_of names printed word.Purge rest = turn_by (λ p. Step (Purge p.0 p.1)) (amount_of names 4294967295 rest)
-turn_of names printed word.Cut rest = turn_by (λ p. Step (Cut p.0 p.1)) (link_of names rest)
-turn_of names printed word.Join rest = turn_by (λ p. Step (Join p.0 p.1)) (link_of names rest)
-turn_of names printed word.Tick rest = turn_by Tick (seconds_of rest)
-turn_of names printed word.PollRead rest = turn_by (λ p. Act (PollRead p.0 p.1)) (poll_of names rest)
-turn_of names printed word.PollStore rest = turn_by (λ p. Act (PollStore p)) (poller_of rest)
-turn_of names printed word.Polls rest = alone Polls rest
-turn_of names printed word.Round rest = alone Round rest
-turn_of names printed word.Command rest = turn_by (λ c. Act (Command c)) (command_in names printed rest)
-turn_of names printed word.Job rest = turn_by (λ n. Act (Job n)) (job_of rest)
-turn_of names printed word.Scan rest = alone (One (Act Scan)) rest
-turn_of names printed word.Restart rest = alone (One (Act Restart)) rest
+-- ---- orchestrators
 
-unfoldable pub turn_with : List (Option HostPort) → List (List ℕ) → Data → Items → Result ListedTurn Fault
-turn_with names printed first rest = do
+-- a number that is whole and at most 2^64 - 1, or another number
+unfoldable pub whole_or_none : Data → Result (Option ℕ) Fault
+whole_or_none d = do
+  n ← or_fails BadType (as_number d)
+  Ok (as_u64 n)
+
+abbrev pub node_or_fails : ℕ → Option ℕ → Result ℕ Fault
+node_or_fails nodes None = fails NodeTurn
+node_or_fails nodes (Some n) = if nat_le 1 n && nat_le n nodes then Ok n else fails NodeTurn
+
+-- one of so many, as the first part behind the word; another number is a fault of the turn
+unfoldable pub node_in : ℕ → Data → Result ℕ Fault
+node_in nodes d = do
+  number ← under_item 1 (whole_or_none d)
+  node_or_fails nodes number
+
+-- N
+unfoldable pub node_of : ℕ → Items → Result ℕ Fault
+node_of nodes rest = do
+  number ← one_of rest
+  node_in nodes number
+
+-- ---- what orchestrator does
+
+-- what the one orchestrator, or one of several, is to do; a round is no orchestrator's alone
+abbrev pub act_of : List (Option HostPort) → List (List ℕ) → Option ℕ → Word → Items → Result ListedTurn Fault
+act_of names printed by word.PollRead rest = turn_by (λ p. done_by by (PollRead p.0 p.1)) (poll_of names rest)
+act_of names printed by word.PollStore rest = turn_by (λ p. done_by by (PollStore p)) (poller_of rest)
+act_of names printed by word.Polls rest = alone (Polls by) rest
+act_of names printed by word.Command rest = turn_by (λ c. done_by by (Command c)) (command_in names printed rest)
+act_of names printed by word.Job rest = turn_by (λ n. done_by by (Job n)) (job_of rest)
+act_of names printed by word.Scan rest = alone (One (done_by by Scan)) rest
+act_of names printed by word.Restart rest = alone (One (done_by by Restart)) rest
+act_of names printed by word.Round rest = fails NodeTurn
+act_of names printed by word.Write rest = fails BadTurn
+act_of names printed by word.Fetch rest = fails BadTurn
+act_of names printed by word.Apply rest = fails BadTurn
+act_of names printed by word.Fail rest = fails BadTurn
+act_of names printed by word.Heal rest = fails BadTurn
+act_of names printed by word.Rotate rest = fails BadTurn
+act_of names printed by word.Purge rest = fails BadTurn
+act_of names printed by word.Cut rest = fails BadTurn
+act_of names printed by word.Join rest = fails BadTurn
+act_of names printed by word.Tick rest = fails BadTurn
+act_of names printed by word.Claim rest = fails BadTurn
+act_of names printed by word.Release rest = fails BadTurn
+act_of names printed by word.As rest = fails BadTurn
+
+unfoldable pub inner_with : List (Option HostPort) → List (List ℕ) → ℕ → Data → Items → Result ListedTurn Fault
+inner_with names printed node first rest = do
   text ← under_item 0 (text_in first)
   word ← word_at text
-  turn_of names printed word rest
+  parts ← holds BadTurn (has_parts word rest)
+  act_of names printed (Some node) word rest
 
-abbrev pub turn_from : List (Option HostPort) → List (List ℕ) → Items → Result ListedTurn Fault
-turn_from names printed no_items = fails BadTurn
-turn_from names printed (item first rest) = turn_with names printed first rest
+abbrev pub inner_from : List (Option HostPort) → List (List ℕ) → ℕ → Items → Result ListedTurn Fault
+inner_from names printed node no_items = fails BadTurn
+inner_from names printed node (item first rest) = inner_with names printed node first rest
 
-unfoldable pub turn_in : List (Option HostPort) → List (List ℕ) → Data → Result ListedTurn Fault
-turn_in names printed d = do
+-- the turn that one of several orchestrators takes
+unfoldable pub inner_in : List (Option HostPort) → List (List ℕ) → ℕ → Data → Result ListedTurn Fault
+inner_in names printed node d = do
   items ← items_in d
-  turn_from names printed items
+  inner_from names printed node items
+
+-- N, TURN
+unfoldable pub as_of : List (Option HostPort) → List (List ℕ) → ℕ → Items → Result ListedTurn Fault
+as_of names printed nodes rest = do
+  parts ← two_of rest
+  node ← node_in nodes parts.0
+  under_item 2 (inner_in names printed node parts.1)
+
+-- ---- the turn
+
+abbrev pub turn_of : List (Option HostPort) → List (List ℕ) → ℕ → Word → Items → Result ListedTurn Fault
+turn_of names printed nodes word.Write rest = turn_by (λ p. turn.Step (Write p.0 p.1)) (amount_of names 1000000 rest)
+turn_of names printed nodes word.Fetch rest = turn_by (λ n. turn.Step (Fetch n)) (server_of names rest)
+turn_of names printed nodes word.Apply rest = turn_by (λ n. turn.Step (Apply n)) (server_of names rest)
+turn_of names printed nodes word.Fail rest = turn_by (λ n. turn.Step (Fail n)) (server_of names rest)
+turn_of names printed nodes word.Heal rest = turn_by (λ n. turn.Step (Heal n)) (server_of names rest)
+turn_of names printed nodes word.Rotate rest = turn_by (λ n. turn.Step (Rotate n)) (server_of names rest)
+turn_of names printed nodes word.Purge rest = turn_by (λ p. turn.Step (Purge p.0 p.1)) (amount_of names 4294967295 rest)
+turn_of names printed nodes word.Cut rest = turn_by (λ p. turn.Step (Cut p.0 p.1)) (link_of names rest)
+turn_of names printed nodes word.Join rest = turn_by (λ p. turn.Step (Join p.0 p.1)) (link_of names rest)
+turn_of names printed nodes word.Tick rest = turn_by turn.Tick (seconds_of rest)
+turn_of names printed nodes word.PollRead rest = act_of names printed None word.PollRead rest
+turn_of names printed nodes word.PollStore rest = act_of names printed None word.PollStore rest
+turn_of names printed nodes word.Polls rest = act_of names printed None word.Polls rest
+turn_of names printed nodes word.Round rest = alone Round rest
+turn_of names printed nodes word.Command rest = act_of names printed None word.Command rest
+turn_of names printed nodes word.Job rest = act_of names printed None word.Job rest
+turn_of names printed nodes word.Scan rest = act_of names printed None word.Scan rest
+turn_of names printed nodes word.Restart rest = act_of names printed None word.Restart rest
+turn_of names printed nodes word.Claim rest = turn_by turn.Claim (node_of nodes rest)
+turn_of names printed nodes word.Release rest = turn_by turn.Release (node_of nodes rest)
+turn_of names printed nodes word.As rest = as_of names printed nodes rest
+
+unfoldable pub turn_with : List (Option HostPort) → List (List ℕ) → ℕ → Data → Items → Result ListedTurn Fault
+turn_with names printed nodes first rest = do
+  text ← under_item 0 (text_in first)
+  word ← word_at text
+  parts ← holds BadTurn (has_parts word rest)
+  may ← holds NodeTurn (stands nodes word)
+  turn_of names printed nodes word rest
+
+abbrev pub turn_from : List (Option HostPort) → List (List ℕ) → ℕ → Items → Result ListedTurn Fault
+turn_from names printed nodes no_items = fails BadTurn
+turn_from names printed nodes (item first rest) = turn_with names printed nodes first rest
+
+unfoldable pub turn_in : List (Option HostPort) → List (List ℕ) → ℕ → Data → Result ListedTurn Fault
+turn_in names printed nodes d = do
+  items ← items_in d
+  turn_from names printed nodes items

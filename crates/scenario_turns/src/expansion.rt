@@ -1,7 +1,7 @@
 //! What listed turns stand for.
 
 ghost use Rattle.std.specs.Prelude.{◌≡◌, ◌++◌, ◌≤◌, IfOk, OnOk, length, nat_le};
-ghost use Rattle.scenario_turns.specs.Expansion.{printed_of, server_names, in_order, polls_of, steps_of, expansion_of, expanded};
+ghost use Rattle.scenario_turns.specs.Expansion.{done_by, printed_of, server_names, in_order, polls_of, steps_of, expansion_of, expanded};
 
 use crate::pattern::printed_names;
 use name_order::in_name_order;
@@ -15,8 +15,9 @@ use std::alloc::Global;
 pub enum ListedTurn {
     /// One turn.
     One(Turn),
-    /// Poller 0 reads each server and stores what it read, in the order of the servers' names.
-    Polls,
+    /// Poller 0 reads each server and stores what it read, in the order of the servers' names: that of the one
+    /// orchestrator, or of this one of several.
+    Polls(Option<u32>),
     /// A fetch and an apply at each server in the order of the servers' names, and then the polls.
     Round,
 }
@@ -59,7 +60,7 @@ fn length_of(ordered: &[ServerNo], listed: &ListedTurn) -> usize
 {
     match listed {
         ListedTurn::One(_) => 1,
-        ListedTurn::Polls => 2 * ordered.len(),
+        ListedTurn::Polls(_) => 2 * ordered.len(),
         ListedTurn::Round => 4 * ordered.len(),
     }
 }
@@ -79,12 +80,22 @@ pub fn are_few(ordered: &[ServerNo], listed: &[ListedTurn]) -> bool
     true
 }
 
-fn push_polls(ordered: &[ServerNo], turns: &mut Vec<Turn>) -> Result<(), Memory>
-    ensures { OnOk result (turns.new.items ≡ turns.old.items ++ polls_of ordered.now) }
+/// The turn in which the one orchestrator does this, or one of several by its number.
+pub(crate) fn done_by(node: Option<u32>, act: Act) -> Turn
+    ensures { result ≡ done_by node act }
+{
+    match node {
+        None => Turn::Act(act),
+        Some(node) => Turn::As(node, act),
+    }
+}
+
+fn push_polls(ordered: &[ServerNo], node: Option<u32>, turns: &mut Vec<Turn>) -> Result<(), Memory>
+    ensures { OnOk result (turns.new.items ≡ turns.old.items ++ polls_of node ordered.now) }
 {
     for no in ordered {
-        turns.push(Turn::Act(Act::PollRead(0, *no)))?;
-        turns.push(Turn::Act(Act::PollStore(0)))?;
+        turns.push(done_by(node, Act::PollRead(0, *no)))?;
+        turns.push(done_by(node, Act::PollStore(0)))?;
     }
     Ok(())
 }
@@ -107,10 +118,10 @@ fn push_turns(ordered: &[ServerNo], listed: ListedTurn, turns: &mut Vec<Turn>) -
             turns.push(turn)?;
             Ok(())
         }
-        ListedTurn::Polls => push_polls(ordered, turns),
+        ListedTurn::Polls(node) => push_polls(ordered, node, turns),
         ListedTurn::Round => {
             push_steps(ordered, turns)?;
-            push_polls(ordered, turns)
+            push_polls(ordered, None, turns)
         }
     }
 }

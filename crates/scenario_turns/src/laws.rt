@@ -18,5 +18,7 @@ pub fn read_commands_are_sound()
 
 /// A turn that is read meets the condition of the calls that take one, or stands for such turns.
 pub fn read_turns_are_sound()
-    ensures { (names : List (Option HostPort)) (printed : List (List ℕ)) (d : Data) (t : ListedTurn) → length printed ≡ length names → turn_in names printed d ≡ Ok t → IsListedTurn (length names) t }
+    ensures { (names : List (Option HostPort)) (printed : List (List ℕ)) (nodes : ℕ) (d : Data)
+        (t : ListedTurn) → length printed ≡ length names → turn_in names printed nodes d ≡ Ok t
+        → IsListedTurn (length names) nodes t }
 {}

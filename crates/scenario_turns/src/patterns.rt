@@ -27,9 +27,14 @@ impl Model for Patterns {
     ghost invariant = { λ p. AreKnown p.known p.printed.items };
 }
 
-// The text of the pattern that a listed turn asks for, if it looks like one that does.
+// The text of the pattern that a listed turn asks for, if it looks like one that does: its last part gives it, or that
+// of the turn in it.
 fn asked<'a>(turn: &Value<'a>) -> Option<&'a str> {
-    turn.as_array()?.get(2)?.get("pattern")?.as_str()
+    let last = turn.as_array()?.get(2)?;
+    match last.as_array() {
+        Some(inner) => inner.get(2)?.get("pattern")?.as_str(),
+        None => last.get("pattern")?.as_str(),
+    }
 }
 
 impl Patterns {

@@ -3,7 +3,7 @@
 ghost use Rattle.std.specs.Prelude.{◌≡◌};
 ghost use Rattle.orch_base.specs.Gives.{Gives};
 ghost use Rattle.scenario_values.specs.Faults.{fault_of};
-ghost use Rattle.scenario_turns.specs.Words.{is_word, built_word, word_at};
+ghost use Rattle.scenario_turns.specs.Words.{is_word, built_word, parts_after, stands, word_at};
 
 use scenario_values::{FaultCode, ReadFault, fails};
 use std::alloc::Global;
@@ -29,6 +29,9 @@ pub enum Word {
     Job,
     Scan,
     Restart,
+    Claim,
+    Release,
+    As,
 }
 
 pub(crate) fn is_word(word: &str, text: &str) -> bool
@@ -60,6 +63,9 @@ fn built_word(text: &str) -> Option<Word>
         "job" => Some(Word::Job),
         "scan" => Some(Word::Scan),
         "restart" => Some(Word::Restart),
+        "claim" => Some(Word::Claim),
+        "release" => Some(Word::Release),
+        "as" => Some(Word::As),
         _ => None,
     }
 }
@@ -71,5 +77,58 @@ pub(crate) fn word_at(alloc: Global, text: &str) -> Result<Word, ReadFault>
     match built_word(text) {
         Some(word) => Ok(word),
         None => Err(fails(alloc, FaultCode::BadTurn)),
+    }
+}
+
+/// How many parts follow the word.
+pub(crate) fn parts_after(word: Word) -> usize
+    ensures { result ≡ parts_after word }
+{
+    match word {
+        Word::Polls | Word::Round | Word::Scan | Word::Restart => 0,
+        Word::Fetch
+        | Word::Apply
+        | Word::Fail
+        | Word::Heal
+        | Word::Rotate
+        | Word::Tick
+        | Word::PollStore
+        | Word::Job
+        | Word::Claim
+        | Word::Release => 1,
+        Word::Write
+        | Word::Purge
+        | Word::Cut
+        | Word::Join
+        | Word::PollRead
+        | Word::Command
+        | Word::As => 2,
+    }
+}
+
+/// Whether a turn of the word stands alone among the turns of so many orchestrators.
+pub(crate) fn stands(nodes: u32, word: Word) -> bool
+    ensures { result ≡ stands nodes word }
+{
+    match word {
+        Word::Write
+        | Word::Fetch
+        | Word::Apply
+        | Word::Fail
+        | Word::Heal
+        | Word::Rotate
+        | Word::Purge
+        | Word::Cut
+        | Word::Join
+        | Word::Tick => true,
+        Word::PollRead
+        | Word::PollStore
+        | Word::Polls
+        | Word::Round
+        | Word::Command
+        | Word::Job
+        | Word::Scan
+        | Word::Restart => nodes == 1,
+        Word::Claim | Word::Release | Word::As => nodes > 1,
     }
 }

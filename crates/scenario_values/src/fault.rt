@@ -61,12 +61,13 @@ pub enum FaultCode {
     BadTurn,
     /// A command that isn't known, or one without a key that it needs.
     BadCommand,
-    /// A key, a turn or a command that isn't built yet.
-    NotBuilt,
     /// A server finds its place by GTIDs in a scenario without them.
     AutoWithoutGtid,
     /// A hook's text is empty, too long or has a control character, or its exit isn't 0 to 255.
     BadHook,
+    /// Of several orchestrators none is named by a turn of one, or one of a single orchestrator's turns names one, or the
+    /// number is none of theirs.
+    NodeTurn,
 }
 
 /// Where a value stands in a text: a JSON pointer (RFC 6901), which contracts see as its bytes.

@@ -9,7 +9,7 @@ use Rattle.openings.specs.Servers.{parts_of}
 use Rattle.hook_texts.specs.Hooks.{AreHooks}
 use Rattle.scenarios.specs.declared.scenario.Scenario.{Scenario}
 use Rattle.scenarios.specs.Blocks.{period_in}
-use Rattle.scenarios.specs.Turns.{IsTurn, is_rotate, is_write}
+use Rattle.scenarios.specs.Turns.{IsTurn, NamesOneOf, is_rotate, is_write}
 
 -- the transactions that histories list
 abbrev pub listed_in : List ServerInit → ℕ
@@ -40,17 +40,19 @@ names_of s = map (λ i. i.settings.name) s.opening.servers
 abbrev pub period_of : Scenario → List ℕ → ℕ
 period_of s cluster = period_in s.blocks s.block cluster
 
--- The opening is checked, each turn is one of its servers', there are at most 1,000,000 turns, the servers together
--- take room for at most 4,000,000 transactions, each number is in its range, each server is known or not and has a rule
--- or none, each filter list has an answer for each server, and each hook has a text.
+-- The opening is checked, each turn is one of its servers and of its orchestrators, there are at most 1,000,000 turns,
+-- the servers together take room for at most 4,000,000 transactions, each number is in its range, each server is known
+-- or not and has a rule or none, each filter list has an answer for each server, and each hook has a text.
 pub record IsScenario (s : Scenario) : Type 0 where
   pub checked : IsChecked s.opening
   pub moment : s.moment.0 ≤ 1000000000000000
   pub pseudo : s.pseudo ≤ 1000000
-  pub nodes : s.nodes ≡ 1
+  pub some_node : 1 ≤ s.nodes
+  pub few_nodes : s.nodes ≤ 16
   pub block : s.block ≤ 1000000000
   pub blocks : All (λ b. b.seconds ≤ 1000000000) s.blocks
   pub turns : All (IsTurn (length s.opening.servers)) s.turns
+  pub named : All (NamesOneOf s.nodes) s.turns
   pub few : length s.turns ≤ 1000000
   pub room : length s.opening.servers * room_of s ≤ 4000000
   pub known : length s.known ≡ length s.opening.servers

@@ -45,15 +45,31 @@ IsAct count (act.Job job) = Unit {0}
 IsAct count act.Scan = Unit {0}
 IsAct count act.Restart = Unit {0}
 
--- The turn is of these servers, and its numbers are in their ranges. Where there is one orchestrator, none acts by its
--- number, and none claims to be the active one.
+-- the turn is of these servers, and its numbers are in their ranges
 abbrev pub IsTurn : ℕ → Turn → Type 0
 IsTurn count (turn.Step s) = IsStep count s
 IsTurn count (turn.Tick seconds) = seconds ≤ 1000000000
 IsTurn count (turn.Act a) = IsAct count a
-IsTurn count (turn.As node a) = ⊥
-IsTurn count (turn.Claim node) = ⊥
-IsTurn count (turn.Release node) = ⊥
+IsTurn count (turn.As node a) = IsAct count a
+IsTurn count (turn.Claim node) = Unit {0}
+IsTurn count (turn.Release node) = Unit {0}
+
+-- one of so many orchestrators, counted from 1
+abbrev pub IsNumberOf : ℕ → ℕ → Type 0
+IsNumberOf nodes node = (1 ≤ node) × (node ≤ nodes)
+
+-- the orchestrator that the turn names, if it names one, is one of so many
+abbrev pub NamesOneOf : ℕ → Turn → Type 0
+NamesOneOf nodes (turn.Step s) = Unit {0}
+NamesOneOf nodes (turn.Tick seconds) = Unit {0}
+NamesOneOf nodes (turn.Act a) = Unit {0}
+NamesOneOf nodes (turn.As node a) = IsNumberOf nodes node
+NamesOneOf nodes (turn.Claim node) = IsNumberOf nodes node
+NamesOneOf nodes (turn.Release node) = IsNumberOf nodes node
+
+-- both
+abbrev pub IsTurnOf : ℕ → ℕ → Turn → Type 0
+IsTurnOf count nodes t = IsTurn count t × NamesOneOf nodes t
 
 -- an ordinary client's transaction
 abbrev pub is_write_step : Step → Bool

@@ -16,7 +16,7 @@ use Rattle.turns.specs.declared.turn.Act.TheVariants as act
 use Rattle.turns.specs.declared.turn.Step.TheVariants as step
 use Rattle.turns.specs.declared.turn.Turn.TheVariants as turn
 use Rattle.jobs_in_flight.specs.Jobs.{is_open, most_turns}
-use Rattle.orch_core.specs.Keeping.{Ran, asks}
+use Rattle.orch_core.specs.Keeping.{Ran}
 use Rattle.orch_core.specs.Replies.{reply_of}
 use Rattle.orch_core.specs.declared.fault.TurnFault.{TurnFault}
 use Rattle.orch_core.specs.Rounds.{FinishedBy, IsFinish, WasCutShort, after_rounds, after_turns, round_of, times, told_in}
@@ -24,7 +24,7 @@ use Rattle.jobs_in_flight.specs.Rounds.{polls, replicates, round_over}
 use Rattle.orch_core.specs.After.{step as turn_step}
 use Rattle.orch_core.specs.Runs.{Held, engine, LeadsTo, Recorded, held_run, held_step, record_turn, recorder, run_turns, turns_of}
 use Rattle.orch_core.specs.States.{State}
-use Rattle.orch_core.proofs.Finishing.{AsksNothing, asks-round, step-any}
+use Rattle.orch_core.proofs.Finishing.{AsksNever, AsksNothing, asks-round, step-any}
 use Rattle.orch_core.proofs.Runs.{Ran-nil}
 use Rattle.tasks.specs.Closing.{begun_by, closing_by, rounds_of, rounds_while}
 use Rattle.tasks.specs.Progress.{ClosesEach, GivesUpEach, GivesUpOn, Point}
@@ -76,7 +76,7 @@ last-quiet : (xs ys : List (Turn × Reply)) → last_reply ys ≡ None → last_
 last-quiet [] ys h = h
 last-quiet (x ∷ xs) ys h = ap (λ (o : Option Reply). or_reply o x) (last-quiet xs ys h)
 
-last-told : (xs ys : List (Turn × Reply)) (r : Reply) → last_reply ys ≡ Some r → last_reply (xs ++ ys) ≡ Some r
+pub last-told : (xs ys : List (Turn × Reply)) (r : Reply) → last_reply ys ≡ Some r → last_reply (xs ++ ys) ≡ Some r
 last-told [] ys r h = h
 last-told (x ∷ xs) ys r h = ap (λ (o : Option Reply). or_reply o x) (last-told xs ys r h)
 
@@ -94,16 +94,16 @@ run_along : (r : Recorded) (xs : List (List Row × Turn)) → AsksNothing (turns
 run_along r [] none = sym (append-nil r.journal)
 run_along r (x ∷ xs) none =
     let entry : Turn × Reply = (x.1, reply_of r.state x.1) in
-    run_along (record_turn x.0 r x.1) xs (All-tail (λ u. asks u ≡ false) x.1 (turns_of xs) none)
-    ∙ ap (λ (s : State). (r.journal ++ entry ∷ []) ++ replies_along s (turns_of xs)) (step-any x.0 r.state x.1 (All-head (λ u. asks u ≡ false) x.1 (turns_of xs) none))
+    run_along (record_turn x.0 r x.1) xs (All-tail AsksNever x.1 (turns_of xs) none)
+    ∙ ap (λ (s : State). (r.journal ++ entry ∷ []) ++ replies_along s (turns_of xs)) (step-any x.0 r.state x.1 (All-head AsksNever x.1 (turns_of xs) none r.state))
     ∙ append_assoc r.journal (entry ∷ []) (replies_along (turn_step [] r.state x.1) (turns_of xs))
 
 held_along : (h : Held Recorded) (ts : List Turn) → AsksNothing ts → (held_run recorder h ts).state.journal ≡ h.state.journal ++ replies_along h.state.state ts
 held_along h [] none = sym (append-nil h.state.journal)
 held_along h (t ∷ ts) none =
     let entry : Turn × Reply = (t, reply_of h.state.state t) in
-    held_along (held_step recorder h t) ts (All-tail (λ u. asks u ≡ false) t ts none)
-    ∙ ap (λ (s : State). (h.state.journal ++ entry ∷ []) ++ replies_along s ts) (step-any h.rows h.state.state t (All-head (λ u. asks u ≡ false) t ts none))
+    held_along (held_step recorder h t) ts (All-tail AsksNever t ts none)
+    ∙ ap (λ (s : State). (h.state.journal ++ entry ∷ []) ++ replies_along s ts) (step-any h.rows h.state.state t (All-head AsksNever t ts none h.state.state))
     ∙ append_assoc h.state.journal (entry ∷ []) (replies_along (turn_step [] h.state.state t) ts)
 
 journal_along : (kept : Option (List Row)) (mid run : Recorded) (ts : List Turn) → AsksNothing ts → LeadsTo recorder kept mid ts run → run.journal ≡ mid.journal ++ replies_along mid.state ts
@@ -148,8 +148,8 @@ module _ (servers : List ServerNo) (job : ℕ) where
       ∙ ap (λ (u : State). Some (reply_of u (turn.Act (act.Job job)))) (sym (fold-append (turn_step []) s round (times k round)))
 
 asks-times : (k : ℕ) (ts : List Turn) → AsksNothing ts → AsksNothing (times k ts)
-asks-times zero ts none = All-nil (λ t. asks t ≡ false)
-asks-times (suc k) ts none = All-append (λ t. asks t ≡ false) ts (times k ts) none (asks-times k ts none)
+asks-times zero ts none = All-nil AsksNever
+asks-times (suc k) ts none = All-append AsksNever ts (times k ts) none (asks-times k ts none)
 
 -- ---- what is left of a single command
 

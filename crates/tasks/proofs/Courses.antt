@@ -5,14 +5,10 @@ use Rattle.std.proofs.lemmas.List.{append-nil, length-append, length-take-le, ta
 use Rattle.std.proofs.lemmas.List.Folds.{list_any-append}
 use Rattle.std.proofs.lemmas.List.Sums.{count_by-le-length, sum_by_push}
 use Rattle.std.proofs.Math.ListN.{get_or-append}
-use Rattle.std.proofs.Math.Seq.{get_or-append_seam, take-length}
 use Rattle.std.proofs.lemmas.Option.{get_or_from_slice_get, slice_get-get_or}
 use Rattle.orch_base.specs.Names.{HostPort}
 use Rattle.kept_rows.specs.declared.row.Row.{Row}
-use Rattle.commands.specs.declared.turn.CommandTurn.{CommandTurn}
 use Rattle.turns.specs.declared.turn.Turn.{Turn}
-use Rattle.turns.specs.declared.turn.Act.TheVariants as act
-use Rattle.turns.specs.declared.turn.Turn.TheVariants as turn
 use Rattle.turns.specs.declared.reply.Reply.{Reply}
 use Rattle.orch_core.specs.declared.fault.TurnFault.{TurnFault}
 use Rattle.orch_core.specs.declared.fault.TurnFault.TheVariants as fault
@@ -27,8 +23,8 @@ use Rattle.report_text.specs.Lines.{line_text, lines_text}
 use Rattle.tasks.specs.declared.progress.Progress.{Progress}
 use Rattle.tasks.specs.declared.verdict.Verdict.{Verdict}
 use Rattle.tasks.specs.declared.verdict.Verdict.TheVariants as verdict
-use Rattle.tasks.specs.Progress.{Adds, Follows, GivesUp, GivesUpOn, GaveUp, IsFresh, Leads, Point, Replies, StopsBefore, StopsBehind, Tallies, point, with_reply}
-use Rattle.tasks.specs.Report.{any_refused, is_failure, is_refusal, is_refused, last_reply, or_reply, replies_text, tally_of, verdict_of}
+use Rattle.tasks.specs.Progress.{Adds, Follows, GivesUp, GivesUpOn, GaveUp, IsFresh, Leads, Point, StopsBefore, StopsBehind, Tallies, point, with_reply}
+use Rattle.tasks.specs.Report.{any_refused, is_failure, is_refusal, is_refused, replies_text, tally_of, verdict_of}
 use Rattle.tasks.specs.Sinks.{Carries, IsOnTheWay, Taken, TakesFront, between}
 use Rattle.tasks.proofs.Sends.{front_of_longer, front_taken, takes_nothing}
 
@@ -59,11 +55,6 @@ refused_joins run state t r = list_any-append (λ e. is_refused e.1) run.journal
     last : (b : Bool) → (b || false) ≡ b
     last true = refl
     last false = refl
-
--- the last reply of a command is that of its turn, where it comes last
-pub last_is : (journal : List (Turn × Reply)) (c : CommandTurn) (r : Reply) → last_reply (journal ++ (turn.Act (act.Command c), r) ∷ []) ≡ Some r
-last_is [] c r = refl
-last_is (e ∷ es) c r = ap (λ (o : Option Reply). or_reply o e) (last_is es c r)
 
 -- ---- the same turns with a journal
 
@@ -208,6 +199,7 @@ by_verdict : (turns refused failed : ℕ) (v : Verdict) → tally (turns + 1) (r
 by_verdict turns refused failed verdict.Neither = same_tally (turns + 1) (turns + 1) (refused + 0) refused (failed + 0) failed refl (omega arith) (omega arith)
 by_verdict turns refused failed verdict.Refused = same_tally (turns + 1) (turns + 1) (refused + 1) (refused + 1) (failed + 0) failed refl refl (omega arith)
 by_verdict turns refused failed verdict.Failed = same_tally (turns + 1) (turns + 1) (refused + 0) refused (failed + 1) (failed + 1) refl (omega arith) refl
+by_verdict turns refused failed verdict.Taken = same_tally (turns + 1) (turns + 1) (refused + 0) refused (failed + 0) failed refl (omega arith) (omega arith)
 
 -- one more reply is counted
 tally_joins : (journal : List (Turn × Reply)) (t : Turn) (r : Reply) → tally_of (journal ++ (t, r) ∷ []) ≡ with_reply (tally_of journal) (verdict_of r)
@@ -297,41 +289,6 @@ gave_up_on rows kept mid s now ts us why same cut = at why cut.calls
 -- the scenario's turns gave up
 pub first_gave_up : (from : Point) (kept : Option (List Row)) (now : State) (ts us : List Turn) (why : TurnFault) → WasCutOff engine from.kept from.state ts kept now why → GivesUp from (ts ++ us) kept why
 first_gave_up from kept now ts us why cut = gave_up_on from.kept kept (without_turns from.state) from.state now ts us why refl cut
-
--- the command's own turn did
-pub last_gave_up : (from : Point) (mid : Point) (kept : Option (List Row)) (ts : List Turn) (t : Turn) (why : TurnFault) → Ran engine from.kept from.state ts mid.kept mid.state → kept ≡ mid.kept → (why ≡ fault.Keeper → Calls engine mid.state t) → GivesUp from (ts ++ t ∷ []) kept why
-last_gave_up from mid kept ts t why ran same calls = at why calls
-  where
-    run : Recording from.kept (without_turns from.state) ts mid.kept mid.state
-    run = recorded from.kept mid.kept from.state mid.state ts ran
-
-    front : take (length ts) (ts ++ t ∷ []) ≡ ts
-    front = take-append-le (length ts) ts (t ∷ []) (omega arith) ∙ take-length ts
-
-    leads : Leads from kept (take (length ts) (ts ++ t ∷ [])) run.run
-    leads = subst (λ k. Leads from k (take (length ts) (ts ++ t ∷ [])) run.run) (sym same) (subst (λ vs. Leads from mid.kept vs run.run) (sym front) run.ran)
-
-    within : length ts < length (ts ++ t ∷ [])
-    within = omega (arith, length-append ts (t ∷ []))
-
-    own : (u : Turn) → slice_get (ts ++ t ∷ []) (length ts) ≡ Some u → t ≡ u
-    own u at = sym (get_or-append_seam ts t [] u) ∙ get_or_from_slice_get (ts ++ t ∷ []) (length ts) u u at
-
-    at : (e : TurnFault) → (e ≡ fault.Keeper → Calls engine mid.state t) → GivesUp from (ts ++ t ∷ []) kept e
-    at fault.Keeper calls = (run.run, record { k = length ts; within = within; comes = leads; calls = λ u is. subst (λ (v : State). Calls engine v u) (sym run.state) (subst (Calls engine mid.state) (own u is) (calls refl)) })
-    at fault.Memory calls = record { k = length ts; within = omega (arith, within); run = run.run; ran = leads }
-
--- the command's own turn was taken
-pub own_replies : (from mid to : Point) (ts : List Turn) (c : CommandTurn) (r : Reply) → Ran engine from.kept from.state ts mid.kept mid.state → StepsTo engine mid.kept mid.state (turn.Act (act.Command c)) to.state
-    → to.kept ≡ kept_by engine true mid.kept mid.state (turn.Act (act.Command c)) → r ≡ reply_of mid.state (turn.Act (act.Command c)) → Replies from (ts ++ turn.Act (act.Command c) ∷ []) to r
-own_replies from mid to ts c r ran steps keeps replied =
-    let run = recorded from.kept mid.kept from.state mid.state ts ran in
-    record {
-      run = record { state = to.state; journal = run.run.journal ++ (turn.Act (act.Command c), r) ∷ [] };
-      ran = next_leads from mid to ts run.run (turn.Act (act.Command c)) r run.ran run.state steps keeps replied;
-      state = refl;
-      last = last_is run.run.journal c r;
-    }
 
 pub same_point : (k k' : Option (List Row)) (s s' : State) → k ≡ k' → s ≡ s' → point k s ≡ point k' s'
 same_point k k' s s' kept state = cc

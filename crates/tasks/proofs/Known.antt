@@ -1,5 +1,5 @@
 -- Tasks where the keeper tells its rows.
-use Rattle.std.proofs.Common.{◌≡◌, ◌∙◌, ℕ, ◌+◌, true, List, [], ◌∷◌, ◌++◌, length, map, None, take, drop, refl, sym, ap, subst, append_assoc, arith, Option, Some, inl, inr}
+use Rattle.std.proofs.Common.{◌≡◌, ◌∙◌, ℕ, ◌+◌, ◌≤◌, true, List, [], ◌∷◌, ◌++◌, length, map, None, take, drop, refl, sym, ap, subst, append_assoc, arith, Option, Some, inl, inr}
 use Rattle.std.proofs.lemmas.List.{append-nil, length-map, map-append, take-append-drop, take-append-le}
 use Rattle.std.proofs.Math.Seq.{take-append-add}
 use Rattle.std.proofs.lemmas.List.Sums.{fold-append}
@@ -19,12 +19,13 @@ use Rattle.report_text.specs.Lines.{lines_text}
 use Rattle.tasks.specs.declared.asked.Asked.{Asked}
 use Rattle.tasks.specs.declared.asked.Asked.TheVariants as asked
 use Rattle.tasks.specs.declared.asked.Task.{Task}
-use Rattle.tasks.specs.Closing.{closing}
 use Rattle.tasks.specs.Endings.{IsOn, IsWhole, WasCut, course_of}
-use Rattle.tasks.specs.Known.{Begins, IsFixed, all_turns, cut_answer, held_from, opened, own_held, task_answer}
+use Rattle.tasks.specs.Known.{Begins, IsFixed, all_turns, cut_answer, held_from, opened, task_answer, turns_from}
 use Rattle.tasks.specs.Report.{asked_answer, cut_text, replies_text, tables_of, tally_of}
-use Rattle.tasks.specs.Works.{Comes, Work, turns_in}
+use Rattle.tasks.specs.Stages.{AllTaken, SomeTaken, Stage, stages}
+use Rattle.tasks.specs.Works.{Comes, Work}
 use Rattle.tasks.proofs.Courses.{lines-append}
+use Rattle.tasks.proofs.Stages.{all_some, cut_some, some_ran}
 
 -- ---- known rows fix the run
 
@@ -117,14 +118,41 @@ ran_on h ts rows kept mid run at known ran =
     let here : Ran recorder (Some h.rows) h.state ts kept run = subst (λ (r : Recorded). Ran recorder (Some h.rows) r ts kept run) at (subst (λ o. Ran recorder o mid ts kept run) known ran) in
     (here.state, here.rows)
 
--- turns behind the task's own, by the rows of the keeper
-pub behind_own : (w : Work) (rows : List Row) (ts : List Turn) (mid_rows kept : Option (List Row)) (mid run : Recorded) → w.old ≡ Some rows → Comes w (turns_in w) mid_rows mid → Ran recorder mid_rows mid ts kept run
-    → IsFixed w rows (turns_in w ++ ts) kept run
-behind_own w rows ts mid_rows kept mid run known comes ran =
-    let first = known_rows_fix w rows (turns_in w) mid_rows mid known comes in
-    let own = held_from w.task w.scenario rows (turns_in w) in
+-- all turns of stages behind a state that is known
+pub all_fix : (xs : List Stage) (h : Held Recorded) (rows kept : Option (List Row)) (mid run : Recorded) (ts : List Turn) → mid ≡ h.state → rows ≡ Some h.rows → AllTaken kept run xs rows mid ts → ts ≡ turns_from h xs
+all_fix [] h rows kept mid run ts at known all = all.none
+all_fix (x ∷ xs) h rows kept mid run ts at known all =
+    let here = ran_on h (x mid) rows all.at_rows mid all.at at known all.taken in
+    let next = held_run recorder h (x h.state) in
+    let same : x mid ≡ x h.state = ap x at in
+    all.are ∙ (ap (λ (us : List Turn). us ++ all.rest) same
+    ∙ ap (λ (us : List Turn). x h.state ++ us)
+    (all_fix xs next all.at_rows kept all.at run all.rest (here.0 ∙ ap (λ us. (held_run recorder h us).state) same) (here.1 ∙ ap (λ us. Some (held_run recorder h us).rows) same) all.on))
+
+-- and some of them
+pub some_fix : (xs : List Stage) (h : Held Recorded) (rows kept : Option (List Row)) (mid run : Recorded) (ts : List Turn) → mid ≡ h.state → rows ≡ Some h.rows → SomeTaken kept run xs rows mid ts → (k : ℕ) × (ts ≡ take k (turns_from h xs))
+some_fix [] h rows kept mid run ts at known end = (0, end.none)
+some_fix (x ∷ xs) h rows kept mid run ts at known (inl some) =
+    let more = turns_from (held_run recorder h (x h.state)) xs in
+    let within : some.k ≤ length (x h.state) = subst (λ (r : Recorded). some.k ≤ length (x r)) at some.within in
+    (some.k, some.are ∙ (ap (λ (r : Recorded). take some.k (x r)) at ∙ sym (take-append-le some.k (x h.state) more within)))
+some_fix (x ∷ xs) h rows kept mid run ts at known (inr some) =
+    let here = ran_on h (x mid) rows some.at_rows mid some.at at known some.taken in
+    let next = held_run recorder h (x h.state) in
+    let same : x mid ≡ x h.state = ap x at in
+    let rest = some_fix xs next some.at_rows kept some.at run some.rest (here.0 ∙ ap (λ us. (held_run recorder h us).state) same) (here.1 ∙ ap (λ us. Some (held_run recorder h us).rows) same) some.on in (
+      length (x h.state) + rest.0,
+      some.are ∙ (ap (λ (us : List Turn). us ++ some.rest) same ∙ (ap (λ (us : List Turn). x h.state ++ us) rest.1 ∙ sym (take-append-add (x h.state) (turns_from next xs) rest.0))),
+    )
+
+-- turns behind the scenario's, by the rows of the keeper
+pub behind_turns : (w : Work) (rows : List Row) (ts : List Turn) (mid_rows kept : Option (List Row)) (mid run : Recorded) → w.old ≡ Some rows → Comes w w.scenario.turns mid_rows mid → Ran recorder mid_rows mid ts kept run
+    → IsFixed w rows (w.scenario.turns ++ ts) kept run
+behind_turns w rows ts mid_rows kept mid run known comes ran =
+    let first = known_rows_fix w rows w.scenario.turns mid_rows mid known comes in
+    let own = held_from w.task w.scenario rows w.scenario.turns in
     let last = ran_on own ts mid_rows kept mid run first.run_is first.rows_are ran in
-    let both : held_from w.task w.scenario rows (turns_in w ++ ts) ≡ held_run recorder own ts = fold-append (held_step recorder) (opened w.task w.scenario rows) (turns_in w) ts in
+    let both : held_from w.task w.scenario rows (w.scenario.turns ++ ts) ≡ held_run recorder own ts = fold-append (held_step recorder) (opened w.task w.scenario rows) w.scenario.turns ts in
     record {
       run_is = last.0 ∙ sym (ap (λ (h : Held Recorded). h.state) both);
       rows_are = last.1 ∙ sym (ap (λ (h : Held Recorded). Some h.rows) both);
@@ -133,26 +161,32 @@ behind_own w rows ts mid_rows kept mid run known comes ran =
 -- all turns lead to one run
 pub whole_is : (w : Work) (rows : List Row) (run : Recorded) → w.old ≡ Some rows → IsWhole (course_of w) run → IsFixed w rows (all_turns w.task w.scenario rows) w.new run
 whole_is w rows run known whole =
-    let first = known_rows_fix w rows (turns_in w) whole.rows whole.mid known whole.came in
-    let at = behind_own w rows (closing w.task.asked whole.mid) whole.rows w.new whole.mid run known whole.came whole.closed in
-    subst (λ (r : Recorded). IsFixed w rows (turns_in w ++ closing w.task.asked r) w.new run) first.run_is at
+    let first = known_rows_fix w rows w.scenario.turns whole.rows whole.mid known whole.came in
+    let xs = stages w.task.asked in
+    let ran = some_ran w.new run xs whole.rows whole.mid whole.ts (all_some w.new run xs whole.rows whole.mid whole.ts whole.own) in
+    let at = behind_turns w rows whole.ts whole.rows w.new whole.mid run known whole.came ran in
+    let are = all_fix xs (held_from w.task w.scenario rows w.scenario.turns) whole.rows w.new whole.mid run whole.ts first.run_is first.rows_are whole.own in
+    subst (λ (us : List Turn). IsFixed w rows (w.scenario.turns ++ us) w.new run) are at
 
 -- some of them lead to what is left of the task
 pub on_is : (w : Work) (rows : List Row) (run : Recorded) → w.old ≡ Some rows → IsOn (course_of w) run → (k : ℕ) × (cut_text w.task.asked (names_of w.scenario) run ≡ cut_answer w.task w.scenario rows k)
 on_is w rows run known (inl at) =
-    let is = known_rows_fix w rows (take at.k (turns_in w)) w.new run known at.comes in
-    let front : take at.k (all_turns w.task w.scenario rows) ≡ take at.k (turns_in w) = take-append-le at.k (turns_in w) (closing w.task.asked (own_held w.task w.scenario rows).state) at.within in
+    let is = known_rows_fix w rows (take at.k w.scenario.turns) w.new run known at.comes in
+    let more = turns_from (held_from w.task w.scenario rows w.scenario.turns) (stages w.task.asked) in
+    let front : take at.k (all_turns w.task w.scenario rows) ≡ take at.k w.scenario.turns = take-append-le at.k w.scenario.turns more at.within in
     (at.k, ap (cut_text w.task.asked (names_of w.scenario)) (is.run_is ∙ ap (λ ts. (held_from w.task w.scenario rows ts).state) (sym front)))
 on_is w rows run known (inr at) =
-    let first = known_rows_fix w rows (turns_in w) at.rows at.mid known at.came in
-    let is = behind_own w rows (take at.k (closing w.task.asked at.mid)) at.rows w.new at.mid run known at.came at.ran in
-    let n = length (turns_in w) + at.k in
-    let same : turns_in w ++ take at.k (closing w.task.asked at.mid) ≡ take n (all_turns w.task w.scenario rows) =
-    ap (λ (r : Recorded). turns_in w ++ take at.k (closing w.task.asked r)) first.run_is ∙ sym (take-append-add (turns_in w) (closing w.task.asked (own_held w.task w.scenario rows).state) at.k) in
+    let first = known_rows_fix w rows w.scenario.turns at.rows at.mid known at.came in
+    let xs = stages w.task.asked in
+    let is = behind_turns w rows at.ts at.rows w.new at.mid run known at.came (some_ran w.new run xs at.rows at.mid at.ts at.own) in
+    let own = held_from w.task w.scenario rows w.scenario.turns in
+    let fix = some_fix xs own at.rows w.new at.mid run at.ts first.run_is first.rows_are at.own in
+    let n = length w.scenario.turns + fix.0 in
+    let same : w.scenario.turns ++ at.ts ≡ take n (all_turns w.task w.scenario rows) =
+    ap (λ (us : List Turn). w.scenario.turns ++ us) fix.1 ∙ sym (take-append-add w.scenario.turns (turns_from own xs) fix.0) in
     (n, ap (cut_text w.task.asked (names_of w.scenario)) (is.run_is ∙ ap (λ ts. (held_from w.task w.scenario rows ts).state) same))
 
 -- and so do those before one that was cut
 pub cut_is : (w : Work) (rows : List Row) (run : Recorded) → w.old ≡ Some rows → WasCut (course_of w) run → (k : ℕ) × (cut_text w.task.asked (names_of w.scenario) run ≡ cut_answer w.task w.scenario rows k)
 cut_is w rows run known (inl at) = on_is w rows run known (inl (record { k = at.k; within = let less = at.within in omega (arith, less); comes = at.comes }))
-cut_is w rows run known (inr at) =
-    on_is w rows run known (inr (record { mid = at.mid; rows = at.rows; came = at.came; k = at.cut.k; within = let less = at.cut.within in omega (arith, less); ran = at.cut.comes }))
+cut_is w rows run known (inr at) = on_is w rows run known (inr (record { mid = at.mid; rows = at.rows; came = at.came; ts = at.ts; own = cut_some w.new run (stages w.task.asked) at.rows at.mid at.ts at.own }))

@@ -1,6 +1,5 @@
 -- What stands at the ending of a task.
-use Rattle.std.proofs.Common.{Some, ◌≡◌, ◌∙◌, ℕ, List, [], ◌++◌, length, take, true, false, refl, sym, ap, subst, arith, Option, Bool, inl, inr}
-use Rattle.std.specs.Option.{option_and_then}
+use Rattle.std.proofs.Common.{◌≡◌, ◌∙◌, ℕ, List, [], ◌++◌, length, take, true, false, refl, sym, ap, subst, arith, Option, Bool, inl, inr}
 use Rattle.std.proofs.lemmas.List.{append-nil}
 use Rattle.std.proofs.Math.Seq.{take-length}
 use Rattle.orch_base.specs.Names.{HostPort}
@@ -18,7 +17,6 @@ use Rattle.orch_core.specs.Keeping.{Ran, WasCutOff}
 use Rattle.orch_core.specs.Runs.{Recorded, engine, recorder}
 use Rattle.orch_core.specs.Scenarios.{StartsBy, kept_at_start, without_turns}
 use Rattle.orch_core.specs.States.{State}
-use Rattle.orch_core.proofs.Runs.{Ran-nil}
 use Rattle.report_text.specs.declared.totals.Tally.{Tally}
 use Rattle.tasks.specs.declared.asked.Asked.{Asked}
 use Rattle.tasks.specs.declared.asked.Asked.TheVariants as asked
@@ -26,15 +24,15 @@ use Rattle.tasks.specs.declared.asked.Task.{Task}
 use Rattle.tasks.specs.declared.ending.Ending.{Ending}
 use Rattle.tasks.specs.declared.ending.Ending.TheVariants as ends
 use Rattle.tasks.specs.declared.progress.Progress.{Progress}
-use Rattle.tasks.specs.Asked.{own_turns, turns_taken}
-use Rattle.tasks.specs.Closing.{begun_by, closing, closing_by}
 use Rattle.tasks.specs.Endings.{Course, IsOn, IsWhole, Stands, Tells, WasCut}
-use Rattle.tasks.specs.Progress.{Answers, EndsCut, EndsWhole, Follows, GaveUp, Gives, GivesUp, GivesUpOn, Leads, Point, Stops, StopsBehind, StopsBefore, Tallies, course_from, point}
-use Rattle.tasks.specs.Report.{Answer, answer_of, asked_answer, cut_text, last_reply, dump_of, own_answer, replies_text, summary_of, tables_of, told_answer}
+use Rattle.tasks.specs.Progress.{Answers, EndsCut, EndsWhole, Follows, GaveUp, Gives, GivesUp, Leads, Point, Stops, StopsBehind, StopsBefore, StopsIn, Tallies, course_from, point}
+use Rattle.tasks.specs.Report.{Answer, answer_of, asked_answer, cut_text, dump_of, own_answer, replies_text, summary_of, tables_of, told_answer}
 use Rattle.tasks.specs.Singles.{Writes}
 use Rattle.tasks.specs.Sinks.{End, FailsIn, Taken, Takes, TakesFront, between}
-use Rattle.tasks.specs.Works.{Comes, IsCut, Work, turns_in}
+use Rattle.tasks.specs.Stages.{AllTaken, CutTaken, SomeTaken, stages}
+use Rattle.tasks.specs.Works.{Comes, IsCut, Work}
 use Rattle.tasks.proofs.Courses.{Recording, first_gave_up}
+use Rattle.tasks.proofs.Stages.{all_of_none, all_some}
 use Rattle.tasks.proofs.Sends.{front_taken, nothing_is_front, takes_nothing}
 
 -- ---- runs
@@ -52,16 +50,13 @@ module _ (c : Task) (names : List HostPort) (scenario : Scenario) (ts : List Tur
   whole_text : (run : Recorded) → run.state ≡ to.state → replies_text names run ++ tables_of to.state ≡ (answer_of c names scenario run).out
   whole_text run state = ap (λ (s : State). replies_text names run ++ tables_of s) (sym state) ∙ ap (λ (a : Answer). a.out) (sym (run_text run))
 
-  -- nothing follows a run's turns
-  nothing_follows : (run : Recorded) → closing c.asked run ≡ []
-  nothing_follows run = ap (λ (a : Asked). closing a run) is_run
-
   whole_of : (run : Recorded) → Leads from to.kept ts run → IsWhole course run
   whole_of run leads = record {
     mid = run;
     rows = to.kept;
     came = leads;
-    closed = subst (λ us. Ran recorder to.kept run us to.kept run) (sym (nothing_follows run)) (Ran-nil recorder to.kept run);
+    ts = [];
+    own = all_of_none c.asked to.kept run (ap stages is_run);
   }
 
   err_text : (run : Recorded) → Takes (between err err) (answer_of c names scenario run).err
@@ -153,9 +148,8 @@ writes_stand c run a out err ends.Memory whole is wrote = record {
     mid = whole.mid;
     rows = whole.rows;
     came = whole.came;
-    k = length (closing c.task.asked whole.mid);
-    within = omega arith;
-    ran = subst (λ us. Ran recorder whole.rows whole.mid us c.kept run) (sym (take-length (closing c.task.asked whole.mid))) whole.closed;
+    ts = whole.ts;
+    own = all_some c.kept run (stages c.task.asked) whole.rows whole.mid whole.ts whole.own;
   });
   on_err = wrote.1;
   on_out = nothing_is_front out.old.bytes out.new.bytes (cut_text c.task.asked c.names run) wrote.0;
@@ -216,7 +210,8 @@ module _ (c : Task) (names : List HostPort) (scenario : Scenario) (ts : List Tur
         mid = tallies.run;
         rows = to.kept;
         came = tallies.ran;
-        closed = subst (λ us. Ran recorder to.kept tallies.run us to.kept tallies.run) (sym (ap (λ (a : Asked). closing a tallies.run) is)) (Ran-nil recorder to.kept tallies.run);
+        ts = [];
+        own = all_of_none c.asked to.kept tallies.run (ap stages is);
       })
       (ap (λ (a : Asked). asked_answer a c.tables names scenario tallies.run) is
       ∙ (ap (λ (t : Tally). summary_of t tallies.run.state) (sym tallies.is) ∙ ap (λ (s : State). summary_of tally s) tallies.state))
@@ -237,50 +232,47 @@ module _ (c : Task) (names : List HostPort) (scenario : Scenario) (ts : List Tur
       apart : asked.Turn t ≡ asked.Run → ⊥
       apart e = cc
 
-  -- what follows its own turn
-  follows_own : (mid : Recorded) (reply : Reply) → last_reply mid.journal ≡ Some reply → closing c.asked mid ≡ closing_by (begun_by reply) mid.state
-  follows_own mid reply last =
-      ap (λ (a : Asked). closing a mid) is ∙ ap (λ (o : Option Reply). closing_by (option_and_then begun_by o) mid.state) last
-
   -- what is answered by its last reply
-  pub own_stands : (to : Point) (tables : Bool) (reply : Reply) (out err : End) (ending : Ending) → c.tables ≡ tables → Answers from ts to reply → Writes (told_answer tables names to.state reply) out err ending
+  pub own_stands : (to : Point) (tables : Bool) (reply : Reply) (out err : End) (ending : Ending) → c.tables ≡ tables → Answers from ts t to reply → Writes (told_answer tables names to.state reply) out err ending
       → Stands (course_from c names scenario ts from to.kept) out err ending
   own_stands to tables reply out err ending tabled answers wrote =
-      let closes = answers.closes in
-      let mid = answers.replies.run in
-      writes_stand (course_from c names scenario ts from to.kept) closes.run (told_answer tables names to.state reply) out err ending
+      let ends = answers.ends in
+      writes_stand (course_from c names scenario ts from to.kept) ends.run (told_answer tables names to.state reply) out err ending
       (record {
-        mid = mid;
-        rows = answers.at.kept;
-        came = answers.replies.ran;
-        closed = subst (λ us. Ran recorder answers.at.kept mid us to.kept closes.run) (sym (follows_own mid answers.reply answers.replies.last)) closes.ran;
+        mid = answers.mid;
+        rows = answers.rows;
+        came = answers.ran;
+        ts = ends.ts;
+        own = subst (λ (a : Asked). AllTaken to.kept ends.run (stages a) answers.rows answers.mid ends.ts) (sym is) ends.taken;
       })
-      (ap (λ (a : Asked). asked_answer a c.tables names scenario closes.run) is
-      ∙ (ap (λ (r : Option Reply). own_answer c.tables names closes.run.state r) closes.last
-      ∙ (ap (λ (b : Bool). told_answer b names closes.run.state reply) tabled ∙ ap (λ (s : State). told_answer tables names s reply) closes.state)))
+      (ap (λ (a : Asked). asked_answer a c.tables names scenario ends.run) is
+      ∙ (ap (λ (r : Option Reply). own_answer c.tables names ends.run.state r) ends.last
+      ∙ (ap (λ (b : Bool). told_answer b names ends.run.state reply) tabled ∙ ap (λ (s : State). told_answer tables names s reply) ends.state)))
       wrote
 
-  pub own_keeper : (kept : Option (List Row)) (out err : Taken) (why : TurnFault) → why ≡ fault.Keeper → Stops from ts kept why → Stands (course_from c names scenario ts from kept) (between out out) (between err err) ends.Keeper
+  pub own_keeper : (kept : Option (List Row)) (out err : Taken) (why : TurnFault) → why ≡ fault.Keeper → Stops from ts t kept why → Stands (course_from c names scenario ts from kept) (between out out) (between err err) ends.Keeper
   own_keeper kept out err why failed (inl gives) = keeper_stands c names scenario ts from kept out err why not_a_run failed gives
   own_keeper kept out err why failed (inr stops) =
-      let mid = stops.replies.run in
-      let us = closing_by (begun_by stops.reply) mid.state in
-      let at : (run : Recorded) × IsCut (λ vs run. Ran recorder stops.at.kept mid vs kept run) us run = subst (GivesUpOn stops.at.kept mid us kept) failed stops.gives in
+      let at : (run : Recorded) × (us : List Turn) × CutTaken kept run (stages (asked.Turn t)) stops.rows stops.mid us = subst (StopsIn (stages (asked.Turn t)) stops.rows stops.mid kept) failed stops.stops in
       cut_quietly c names scenario ts from kept out err at.0 not_a_run (inr (record {
-        mid = mid;
-        rows = stops.at.kept;
-        came = stops.replies.ran;
-        cut = subst (λ vs. IsCut (λ ws run. Ran recorder stops.at.kept mid ws kept run) vs at.0) (sym (follows_own mid stops.reply stops.replies.last)) at.1;
+        mid = stops.mid;
+        rows = stops.rows;
+        came = stops.ran;
+        ts = at.1;
+        own = subst (λ (a : Asked). CutTaken kept at.0 (stages a) stops.rows stops.mid at.1) (sym is) at.2;
       }))
 
-  pub own_memory : (kept : Option (List Row)) (out err : Taken) (why : TurnFault) → why ≡ fault.Memory → Stops from ts kept why → Stands (course_from c names scenario ts from kept) (between out out) (between err err) ends.Memory
+  pub own_memory : (kept : Option (List Row)) (out err : Taken) (why : TurnFault) → why ≡ fault.Memory → Stops from ts t kept why → Stands (course_from c names scenario ts from kept) (between out out) (between err err) ends.Memory
   own_memory kept out err why failed (inl gives) = memory_stands c names scenario ts from kept out err why failed gives
   own_memory kept out err why failed (inr stops) =
-      let mid = stops.replies.run in
-      let us = closing_by (begun_by stops.reply) mid.state in
-      let given : Gives stops.at.kept mid us kept = subst (GivesUpOn stops.at.kept mid us kept) failed stops.gives in
-      let at = subst (λ vs. Gives stops.at.kept mid vs kept) (sym (follows_own mid stops.reply stops.replies.last)) given in
-      wanting_quietly c names scenario ts from kept out err at.run (inr (record { mid = mid; rows = stops.at.kept; came = stops.replies.ran; k = at.k; within = at.within; ran = at.ran }))
+      let at : (run : Recorded) × (us : List Turn) × SomeTaken kept run (stages (asked.Turn t)) stops.rows stops.mid us = subst (StopsIn (stages (asked.Turn t)) stops.rows stops.mid kept) failed stops.stops in
+      wanting_quietly c names scenario ts from kept out err at.0 (inr (record {
+        mid = stops.mid;
+        rows = stops.rows;
+        came = stops.ran;
+        ts = at.1;
+        own = subst (λ (a : Asked). SomeTaken kept at.0 (stages a) stops.rows stops.mid at.1) (sym is) at.2;
+      }))
 
 -- and to one that uses an instance that no server is
 pub unknown_stands : (c : Task) (names : List HostPort) (scenario : Scenario) (ts : List Turn) (from : Point) (kept : Option (List Row)) (now : State) (out err : End) (ending : Ending) → c.asked ≡ asked.Unknown → Recording from.kept (without_turns from.state) ts kept now
@@ -291,7 +283,8 @@ unknown_stands c names scenario ts from kept now out err ending is recording wro
       mid = recording.run;
       rows = kept;
       came = recording.ran;
-      closed = subst (λ us. Ran recorder kept recording.run us kept recording.run) (sym (ap (λ (a : Asked). closing a recording.run) is)) (Ran-nil recorder kept recording.run);
+      ts = [];
+      own = all_of_none c.asked kept recording.run (ap stages is);
     })
     (ap (λ (a : Asked). asked_answer a c.tables names scenario recording.run) is
     ∙ ap (λ (s : State). told_answer false names s (answered.Refused UnknownInstance)) recording.state)
@@ -305,15 +298,15 @@ module _ (c : Course) (came : List Turn → Option (List Row) → Recorded → T
   further = record c { came = came }
 
   whole_on : (run : Recorded) → IsWhole c run → IsWhole further run
-  whole_on run whole = record { mid = whole.mid; rows = whole.rows; came = on c.turns whole.rows whole.mid whole.came; closed = whole.closed }
+  whole_on run whole = record { mid = whole.mid; rows = whole.rows; came = on c.turns whole.rows whole.mid whole.came; ts = whole.ts; own = whole.own }
 
   is_on : (run : Recorded) → IsOn c run → IsOn further run
   is_on run (inl at) = inl (record { k = at.k; within = at.within; comes = on (take at.k c.turns) c.kept run at.comes })
-  is_on run (inr at) = inr (record { mid = at.mid; rows = at.rows; came = on c.turns at.rows at.mid at.came; k = at.k; within = at.within; ran = at.ran })
+  is_on run (inr at) = inr (record { mid = at.mid; rows = at.rows; came = on c.turns at.rows at.mid at.came; ts = at.ts; own = at.own })
 
   cut_on : (run : Recorded) → WasCut c run → WasCut further run
   cut_on run (inl at) = inl (record { k = at.k; within = at.within; comes = on (take at.k c.turns) c.kept run at.comes; calls = at.calls })
-  cut_on run (inr at) = inr (record { mid = at.mid; rows = at.rows; came = on c.turns at.rows at.mid at.came; cut = at.cut })
+  cut_on run (inr at) = inr (record { mid = at.mid; rows = at.rows; came = on c.turns at.rows at.mid at.came; ts = at.ts; own = at.own })
 
   stands_on : (out err : End) (ending : Ending) → Stands c out err ending → Stands further out err ending
   stands_on out err (ends.Written refused) s = record { run = s.run; whole = whole_on s.run s.whole; on_out = s.on_out; on_err = s.on_err; is_refused = s.is_refused }
@@ -323,7 +316,7 @@ module _ (c : Course) (came : List Turn → Option (List Row) → Recorded → T
   stands_on out err ends.Keeper s = record { run = s.run; cut = cut_on s.run s.cut; on_err = s.on_err; on_out = s.on_out }
   stands_on out err ends.Memory s = record { run = s.run; on = is_on s.run s.on; on_err = s.on_err; on_out = s.on_out }
 
-pub begun_stands : (w : Work) (names : List HostPort) (ts : List Turn) (begun : State) (mid : Option (List Row)) (out err : End) (ending : Ending) → StartsBy w.old w.scenario w.task.waits begun → mid ≡ kept_at_start true w.old w.scenario → names ≡ names_of w.scenario → ts ≡ turns_in w
+pub begun_stands : (w : Work) (names : List HostPort) (ts : List Turn) (begun : State) (mid : Option (List Row)) (out err : End) (ending : Ending) → StartsBy w.old w.scenario w.task.waits begun → mid ≡ kept_at_start true w.old w.scenario → names ≡ names_of w.scenario → ts ≡ w.scenario.turns
     → Stands (course_from w.task names w.scenario ts (point mid begun) w.new) out err ending → Tells w out err ending
 begun_stands w names ts begun mid out err ending opens kept named all stands =
     inr (subst (λ us. Stands (record { task = w.task; names = names_of w.scenario; scenario = w.scenario; turns = us; came = Comes w; kept = w.new }) out err ending) all
@@ -332,17 +325,11 @@ begun_stands w names ts begun mid out err ending opens kept named all stands =
     (λ us rows run leads. record { begun = begun; opens = opens; ran = subst (λ k. Ran recorder k (without_turns begun) us rows run) kept leads })
     out err ending stands)))
 
--- the turns of each thing that is asked
-pub asked_stands : (c : Task) (names : List HostPort) (scenario : Scenario) (a : Asked) (ts us : List Turn) (from : Point) (kept : Option (List Row)) (out err : End) (ending : Ending) → c.asked ≡ a → us ≡ ts ++ own_turns a → Stands (course_from c names scenario us from kept) out err ending
-    → Stands (course_from c names scenario (turns_taken c.asked ts) from kept) out err ending
-asked_stands c names scenario a ts us from kept out err ending is all stands =
-    subst (λ vs. Stands (course_from c names scenario vs from kept) out err ending) (all ∙ ap (λ (b : Asked). turns_taken b ts) (sym is)) stands
-
 -- a command whose instance no server is, where the scenario's turns gave up
 not_run : (a : Asked) → a ≡ asked.Unknown → a ≡ asked.Run → ⊥
 not_run a is run = absurd cc
 
-whole_gave_up : (from : Point) (kept : Option (List Row)) (now : State) (ts : List Turn) (why : TurnFault) → WasCutOff engine from.kept from.state ts kept now why → GivesUp from ts kept why
+pub whole_gave_up : (from : Point) (kept : Option (List Row)) (now : State) (ts : List Turn) (why : TurnFault) → WasCutOff engine from.kept from.state ts kept now why → GivesUp from ts kept why
 whole_gave_up from kept now ts why cut = subst (λ us. GivesUp from us kept why) (append-nil ts) (first_gave_up from kept now ts [] why cut)
 
 pub unknown_keeper : (c : Task) (names : List HostPort) (scenario : Scenario) (ts : List Turn) (from : Point) (kept : Option (List Row)) (now : State) (out err : Taken) (why : TurnFault) → c.asked ≡ asked.Unknown → why ≡ fault.Keeper → WasCutOff engine from.kept from.state ts kept now why
@@ -369,7 +356,8 @@ module _ (c : Task) (names : List HostPort) (scenario : Scenario) (ts : List Tur
         mid = recording.run;
         rows = kept;
         came = recording.ran;
-        closed = subst (λ us. Ran recorder kept recording.run us kept recording.run) (sym (ap (λ (a : Asked). closing a recording.run) is)) (Ran-nil recorder kept recording.run);
+        ts = [];
+        own = all_of_none c.asked kept recording.run (ap stages is);
       })
       (ap (λ (a : Asked). asked_answer a c.tables names scenario recording.run) is ∙ ap (dump_of names scenario) recording.state)
       wrote

@@ -189,6 +189,7 @@ is_asked_at p names (Some own.Run) words built read = go p.summary
     go false = tt
 is_asked_at p names (Some own.Generate) words built read = absurd cc
 is_asked_at p names (Some own.Dump) words built read = tt
+is_asked_at p names (Some own.Live) words built read = tt
 
 pub asked_is : (p : Places) (names : List HostPort) → IsTaken p → AskOfRead p → IsAsked (length names) (asked_of p names)
 unfolding asked_of

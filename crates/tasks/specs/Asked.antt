@@ -1,5 +1,5 @@
 -- What words ask of a scenario's servers.
-use Rattle.std.specs.Prelude.{◌≡◌, ℕ, ◌+◌, ◌++◌, ◌∷◌, Bool, List, [], map, if◌then◌else◌, Option, Some, None, option_map, Ok}
+use Rattle.std.specs.Prelude.{◌≡◌, ℕ, ◌+◌, ◌∷◌, Bool, List, [], map, if◌then◌else◌, Option, Some, None, option_map, Ok}
 use Rattle.orch_base.specs.Names.{HostPort, printed, same_name}
 use Rattle.orch_base.specs.declared.server.ServerNo.{ServerNo}
 use Rattle.commands.specs.declared.name.CommandName.{CommandName}
@@ -12,9 +12,6 @@ use Rattle.command_line.specs.declared.parts.Places.{Places}
 use Rattle.command_line.specs.Commands.{own_at}
 use Rattle.command_line.specs.Places.{drawing_of, places_of}
 use Rattle.scenarios.specs.Turns.{IsCommand}
-use Rattle.turns.specs.declared.turn.Turn.{Turn}
-use Rattle.turns.specs.declared.turn.Act.TheVariants as act
-use Rattle.turns.specs.declared.turn.Turn.TheVariants as turn
 use Rattle.scenario_turns.specs.Found.{found_of}
 use Rattle.tasks.specs.declared.asked.Asked.{Asked}
 use Rattle.tasks.specs.declared.asked.Asked.TheVariants as asked
@@ -64,29 +61,18 @@ abbrev pub asked_named : Places → List HostPort → Option CommandName → Ask
 asked_named p names None = asked.Nothing
 asked_named p names (Some name) = asked_about p names name (server_given names (used (uses_of name).i p.i)) (server_given names (used (uses_of name).d p.d))
 
--- by a word of the program's own, or by a command: a scenario that is drawn has no servers of which to ask something
+-- by a word of the program's own, or by a command: a scenario that is drawn has no servers of which to ask something; a
+-- live run's report is that of a run of the turns that it takes
 abbrev pub asked_at : Places → List HostPort → Option Own → Asked
 asked_at p names None = asked_named p names (name_of p.command)
 asked_at p names (Some own.Run) = if p.summary then asked.Summary else asked.Run
 asked_at p names (Some own.Generate) = asked.Nothing
 asked_at p names (Some own.Dump) = asked.Dump
+asked_at p names (Some own.Live) = asked.Run
 
 -- what words ask over servers of these names
 unfoldable pub asked_of : Places → List HostPort → Asked
 asked_of p names = asked_at p names (own_at p.command)
-
--- the turns that are taken for it behind the scenario's
-abbrev pub own_turns : Asked → List Turn
-own_turns asked.Run = []
-own_turns asked.Summary = []
-own_turns asked.Dump = []
-own_turns (asked.Turn t) = turn.Act (act.Command t) ∷ []
-own_turns asked.Unknown = []
-own_turns asked.Nothing = []
-
--- the turns that are taken: the scenario's, and behind them the command's own
-abbrev pub turns_taken : Asked → List Turn → List Turn
-turns_taken a ts = ts ++ own_turns a
 
 -- it is something, and its turn is one over so many servers
 abbrev pub IsAsked : ℕ → Asked → Type 0

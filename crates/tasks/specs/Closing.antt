@@ -8,8 +8,6 @@ use Rattle.jobs_in_flight.specs.Jobs.{is_open, most_turns}
 use Rattle.orch_core.specs.Rounds.{after_turns, round_of}
 use Rattle.orch_core.specs.Runs.{Recorded}
 use Rattle.orch_core.specs.States.{State}
-use Rattle.tasks.specs.declared.asked.Asked.{Asked}
-use Rattle.tasks.specs.declared.asked.Asked.TheVariants as asked
 use Rattle.tasks.specs.Report.{last_reply}
 
 -- these turns again and again while the job is open, at most so many times
@@ -48,19 +46,14 @@ begun_by answered.Released = None
 begun_by answered.NotHeld = None
 begun_by answered.Lapsed = None
 
--- the job that the command's own turn began, which comes last in this run
-abbrev pub own_job : Asked → Recorded → Option ℕ
-own_job asked.Run run = None
-own_job asked.Summary run = None
-own_job asked.Dump run = None
-own_job (asked.Turn t) run = option_and_then begun_by (last_reply run.journal)
-own_job asked.Unknown run = None
-own_job asked.Nothing run = None
+-- the job that the command's own turn began, of which the last reply tells
+abbrev pub own_job : Recorded → Option ℕ
+own_job run = option_and_then begun_by (last_reply run.journal)
 
 abbrev pub closing_by : Option ℕ → State → List Turn
 closing_by None s = []
 closing_by (Some job) s = rounds_of s job
 
--- the turns that follow the scenario's and the command's own, by the run that those led to
-abbrev pub closing : Asked → Recorded → List Turn
-closing a run = closing_by (own_job a run) run.state
+-- the turns that follow the command's own, by the run that led to there
+abbrev pub closing : Recorded → List Turn
+closing run = closing_by (own_job run) run.state

@@ -6,18 +6,17 @@ use Rattle.orch_base.specs.Names.{HostPort}
 use Rattle.scenarios.specs.declared.scenario.Scenario.{Scenario}
 use Rattle.scenarios.specs.Scenarios.{names_of}
 use Rattle.turns.specs.declared.turn.Turn.{Turn}
-use Rattle.orch_core.specs.Keeping.{Ran}
-use Rattle.orch_core.specs.Runs.{Recorded, recorder}
+use Rattle.orch_core.specs.Runs.{Recorded}
 use Rattle.tasks.specs.declared.asked.Task.{Task}
 use Rattle.tasks.specs.declared.ending.Ending.{Ending}
 use Rattle.tasks.specs.declared.ending.Ending.TheVariants as ends
-use Rattle.tasks.specs.Closing.{closing}
 use Rattle.tasks.specs.Report.{answer_of, cut_text}
 use Rattle.tasks.specs.Sinks.{End, FailsIn, Takes, TakesFront}
-use Rattle.tasks.specs.Works.{Comes, IsCut, Work, turns_in}
+use Rattle.tasks.specs.Stages.{AllTaken, CutTaken, SomeTaken, stages}
+use Rattle.tasks.specs.Works.{Comes, IsCut, Work}
 
--- what a task's report is of: the task, the servers' names, the scenario, its turns and the command's own, which turns
--- lead to which kept rows and which state, and the kept rows at the end
+-- what a task's report is of: the task, the servers' names, the scenario, its turns, which turns lead to which kept rows
+-- and which state, and the kept rows at the end
 pub record Course : Type 1 where
   pub task : Task
   pub names : List HostPort
@@ -26,42 +25,43 @@ pub record Course : Type 1 where
   pub came : List Turn → Option (List Row) → Recorded → Type 0
   pub kept : Option (List Row)
 
--- all turns were taken: those of the course, and then the rounds of the job that the command began
+-- all turns were taken: the scenario's, and then all of the command's own
 pub record IsWhole (c : Course) (run : Recorded) : Type 0 where
   pub mid : Recorded
   pub rows : Option (List Row)
   pub came : c.came c.turns rows mid
-  pub closed : Ran recorder rows mid (closing c.task.asked mid) c.kept run
+  pub ts : List Turn
+  pub own : AllTaken c.kept run (stages c.task.asked) rows mid ts
 
--- so many of the course's turns were taken
+-- so many of the scenario's turns were taken
 pub record IsOnTurns (c : Course) (run : Recorded) : Type 0 where
   pub k : ℕ
   pub within : k ≤ length c.turns
   pub comes : c.came (take k c.turns) c.kept run
 
--- all of them were, and so many turns of the rounds
-pub record IsOnRounds (c : Course) (run : Recorded) : Type 0 where
+-- all of them were, and some of the command's own
+pub record IsOnOwn (c : Course) (run : Recorded) : Type 0 where
   pub mid : Recorded
   pub rows : Option (List Row)
   pub came : c.came c.turns rows mid
-  pub k : ℕ
-  pub within : k ≤ length (closing c.task.asked mid)
-  pub ran : Ran recorder rows mid (take k (closing c.task.asked mid)) c.kept run
+  pub ts : List Turn
+  pub own : SomeTaken c.kept run (stages c.task.asked) rows mid ts
 
 -- some of the turns were taken
 abbrev pub IsOn : Course → Recorded → Type 0
-IsOn c run = IsOnTurns c run ⊎ IsOnRounds c run
+IsOn c run = IsOnTurns c run ⊎ IsOnOwn c run
 
--- a turn of the rounds met a keeper's fault
-pub record IsCutInRounds (c : Course) (run : Recorded) : Type 0 where
+-- one of the command's own turns met a keeper's fault
+pub record IsCutInOwn (c : Course) (run : Recorded) : Type 0 where
   pub mid : Recorded
   pub rows : Option (List Row)
   pub came : c.came c.turns rows mid
-  pub cut : IsCut (λ ts at. Ran recorder rows mid ts c.kept at) (closing c.task.asked mid) run
+  pub ts : List Turn
+  pub own : CutTaken c.kept run (stages c.task.asked) rows mid ts
 
 -- one of the turns met a keeper's fault
 abbrev pub WasCut : Course → Recorded → Type 0
-WasCut c run = IsCut (λ ts at. c.came ts c.kept at) c.turns run ⊎ IsCutInRounds c run
+WasCut c run = IsCut (λ ts at. c.came ts c.kept at) c.turns run ⊎ IsCutInOwn c run
 
 -- all turns were taken, and the report is written whole
 pub record IsWritten (c : Course) (out err : End) (refused : Bool) : Type 0 where
@@ -127,7 +127,7 @@ NeverBegan w out err ends.Keeper = IsIdle w out err
 NeverBegan w out err ends.Memory = IsIdle w out err
 
 abbrev pub course_of : Work → Course
-course_of w = record { task = w.task; names = names_of w.scenario; scenario = w.scenario; turns = turns_in w; came = Comes w; kept = w.new }
+course_of w = record { task = w.task; names = names_of w.scenario; scenario = w.scenario; turns = w.scenario.turns; came = Comes w; kept = w.new }
 
 -- what stands at each ending of a task
 abbrev pub Tells : Work → End → End → Ending → Type 0

@@ -1,5 +1,5 @@
 -- A task where the keeper tells its rows: what it answers is a function of the task, the scenario and the kept rows.
-use Rattle.std.specs.Prelude.{◌≡◌, ◌++◌, ℕ, List, Option, Some, take}
+use Rattle.std.specs.Prelude.{◌≡◌, ◌++◌, ℕ, List, [], ◌∷◌, Option, Some, take}
 use Rattle.kept_rows.specs.declared.row.Row.{Row}
 use Rattle.kept_rows.specs.Rows.{changed}
 use Rattle.scenarios.specs.declared.scenario.Scenario.{Scenario}
@@ -8,9 +8,8 @@ use Rattle.turns.specs.declared.turn.Turn.{Turn}
 use Rattle.orch_core.specs.Runs.{Held, Recorded, held_run, recorder}
 use Rattle.orch_core.specs.Scenarios.{start, start_changes, without_turns}
 use Rattle.tasks.specs.declared.asked.Task.{Task}
-use Rattle.tasks.specs.Asked.{turns_taken}
-use Rattle.tasks.specs.Closing.{closing}
 use Rattle.tasks.specs.Report.{Answer, answer_of, cut_text}
+use Rattle.tasks.specs.Stages.{Stage, stages}
 use Rattle.tasks.specs.Works.{Work}
 
 -- the opening's state, and the kept rows with what it keeps
@@ -21,13 +20,14 @@ opened c s rows = record { rows = changed rows (start_changes s rows); state = w
 abbrev pub held_from : Task → Scenario → List Row → List Turn → Held Recorded
 held_from c s rows ts = held_run recorder (opened c s rows) ts
 
--- both after the scenario's turns and the command's own
-abbrev pub own_held : Task → Scenario → List Row → Held Recorded
-own_held c s rows = held_from c s rows (turns_taken c.asked s.turns)
+-- the turns of stages, one after another, each by the run that those before it lead to
+abbrev pub turns_from : Held Recorded → List Stage → List Turn
+turns_from h [] = []
+turns_from h (x ∷ xs) = x h.state ++ turns_from (held_run recorder h (x h.state)) xs
 
--- all turns: these, and the rounds of the job that the command began
+-- all turns: the scenario's, and the command's own
 abbrev pub all_turns : Task → Scenario → List Row → List Turn
-all_turns c s rows = turns_taken c.asked s.turns ++ closing c.asked (own_held c s rows).state
+all_turns c s rows = s.turns ++ turns_from (held_from c s rows s.turns) (stages c.asked)
 
 -- both after the first k of all turns
 abbrev pub held_after : Task → Scenario → List Row → ℕ → Held Recorded

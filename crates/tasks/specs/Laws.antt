@@ -1,15 +1,24 @@
 -- Laws of tasks.
-use Rattle.std.specs.Prelude.{◌≡◌, ℕ, List, Option, Some, length, map}
+use Rattle.std.specs.Prelude.{◌≡◌, ℕ, List, Option, None, Some, length, map}
+use Rattle.commands.specs.declared.turn.CommandTurn.{CommandTurn}
 use Rattle.kept_rows.specs.declared.row.Row.{Row}
+use Rattle.node_claims.specs.declared.claims.ClaimAnswer.TheVariants as claim
 use Rattle.orch_base.specs.Names.{HostPort}
+use Rattle.orch_base.specs.declared.server.Moment.{Moment}
+use Rattle.orch_core.specs.After.{step}
+use Rattle.orch_core.specs.Nodes.{claimed}
 use Rattle.orch_core.specs.Runs.{Recorded}
+use Rattle.orch_core.specs.States.{State}
 use Rattle.command_line.specs.declared.parts.Places.{Places}
 use Rattle.scenarios.specs.declared.scenario.Scenario.{Scenario}
+use Rattle.turns.specs.declared.turn.Act.TheVariants as act
 use Rattle.turns.specs.declared.turn.Turn.{Turn}
+use Rattle.turns.specs.declared.turn.Turn.TheVariants as turn
 use Rattle.tasks.specs.declared.asked.Task.{Task}
 use Rattle.tasks.specs.Asked.{AskOfRead, IsAsked, IsTaken, asked_of}
 use Rattle.tasks.specs.Known.{Begins, IsFixed, cut_answer, task_answer}
 use Rattle.tasks.specs.Report.{tally_of}
+use Rattle.tasks.specs.Stages.{claim_ahead, own_turn}
 use Rattle.tasks.specs.Works.{Comes, Work}
 
 -- what words that are taken ask of a scenario is sound over the servers
@@ -31,3 +40,11 @@ RepliesAreOfTurns = (w : Work) (ts : List Turn) (kept : Option (List Row)) (run 
 -- and so a summary counts them
 abbrev pub SummariesCountTurns : Type 0
 SummariesCountTurns = (w : Work) (ts : List Turn) (kept : Option (List Row)) (run : Recorded) → Comes w ts kept run → (tally_of run.journal).turns ≡ length ts
+
+-- a command that claims ahead is taken as the first one, where that one got the claim
+abbrev pub ClaimedCommandsAreTaken : Type 0
+ClaimedCommandsAreTaken = (rows : List Row) (s : State) (c : CommandTurn) (until : Moment) → claim_ahead s ≡ Some (turn.Claim 1) → claimed s 1 ≡ claim.Held until → own_turn c (step rows s (turn.Claim 1)) ≡ Some (turn.As 1 (act.Command c))
+
+-- and isn't taken where another's claim lasts
+abbrev pub TakenClaimsTakeNoCommand : Type 0
+TakenClaimsTakeNoCommand = (rows : List Row) (s : State) (c : CommandTurn) (other : ℕ) (until : Moment) → claim_ahead s ≡ Some (turn.Claim 1) → claimed s 1 ≡ claim.Taken other until → own_turn c (step rows s (turn.Claim 1)) ≡ None

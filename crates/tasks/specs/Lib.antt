@@ -1,11 +1,13 @@
 pub mod Asked
 pub mod Closing
 pub mod Endings
+pub mod Journals
 pub mod Known
 pub mod Laws
 pub mod Progress
 pub mod Report
 pub mod Singles
 pub mod Sinks
+pub mod Stages
 pub mod Stands
 pub mod Works

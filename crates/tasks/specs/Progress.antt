@@ -11,6 +11,8 @@ use Rattle.orch_core.specs.Keeping.{Calls, Ran}
 use Rattle.orch_core.specs.Runs.{Recorded, recorder}
 use Rattle.orch_core.specs.Scenarios.{without_turns}
 use Rattle.orch_core.specs.States.{State}
+use Rattle.commands.specs.declared.turn.CommandTurn.{CommandTurn}
+use Rattle.tasks.specs.declared.asked.Asked.TheVariants as asked
 use Rattle.tasks.specs.declared.asked.Task.{Task}
 use Rattle.tasks.specs.declared.progress.Progress.{Progress}
 use Rattle.report_text.specs.declared.totals.Tally.{Tally}
@@ -23,6 +25,7 @@ use Rattle.tasks.specs.declared.verdict.Verdict.{Verdict}
 use Rattle.tasks.specs.declared.verdict.Verdict.TheVariants as verdict
 use Rattle.tasks.specs.Report.{any_refused, is_refused, last_reply, replies_text, tables_of, tally_of}
 use Rattle.tasks.specs.Sinks.{Carries, End, FailsInRest, Joins, Taken, TakesFront, TakesRest}
+use Rattle.tasks.specs.Stages.{AllTaken, CutTaken, SomeTaken, Stage, stages}
 use Rattle.tasks.specs.Works.{IsCut}
 
 -- a state of a run, and the kept rows beside it, where the keeper tells them
@@ -83,6 +86,7 @@ abbrev pub with_reply : Tally → Verdict → Tally
 with_reply t verdict.Neither = record t { turns = t.turns + 1 }
 with_reply t verdict.Refused = record t { turns = t.turns + 1; refused = t.refused + 1 }
 with_reply t verdict.Failed = record t { turns = t.turns + 1; failed = t.failed + 1 }
+with_reply t verdict.Taken = record t { turns = t.turns + 1 }
 
 -- these turns led from one point to another, and their replies come to this tally
 pub record Tallies (from : Point) (ts : List Turn) (to : Point) (tally : Tally) : Type 0 where
@@ -93,13 +97,6 @@ pub record Tallies (from : Point) (ts : List Turn) (to : Point) (tally : Tally) 
   pub count : length run.journal ≡ length ts
 
 -- ---- a single command
-
--- these turns were taken, and the last reply of a command is this one
-pub record Replies (from : Point) (ts : List Turn) (to : Point) (reply : Reply) : Type 0 where
-  pub run : Recorded
-  pub ran : Leads from to.kept ts run
-  pub state : run.state ≡ to.state
-  pub last : last_reply run.journal ≡ Some reply
 
 -- from a run on, so many of these turns were taken
 pub record Gives (rows : Option (List Row)) (mid : Recorded) (ts : List Turn) (kept : Option (List Row)) : Type 0 where
@@ -132,23 +129,44 @@ ClosesEach from reply to told = (mid : Recorded) → mid.state ≡ from.state �
 abbrev pub GivesUpEach : Point → Reply → Option (List Row) → TurnFault → Type 0
 GivesUpEach from reply kept why = (mid : Recorded) → mid.state ≡ from.state → GivesUpOn from.kept mid (closing_by (begun_by reply) mid.state) kept why
 
--- all turns of a single command were taken, its rounds too, and its last reply is this one
-pub record Answers (from : Point) (ts : List Turn) (to : Point) (told : Reply) : Type 0 where
-  pub at : Point
-  pub reply : Reply
-  pub replies : Replies from ts at reply
-  pub closes : Closes at.kept replies.run reply to told
+-- behind a run all turns of stages were taken, which led to another point, and the last reply of the command is this one
+pub record Ends (xs : List Stage) (rows : Option (List Row)) (mid : Recorded) (to : Point) (told : Reply) : Type 0 where
+  pub ts : List Turn
+  pub run : Recorded
+  pub taken : AllTaken to.kept run xs rows mid ts
+  pub state : run.state ≡ to.state
+  pub last : last_reply run.journal ≡ Some told
 
--- its rounds gave up
-pub record StopsInRounds (from : Point) (ts : List Turn) (kept : Option (List Row)) (why : TurnFault) : Type 0 where
-  pub at : Point
-  pub reply : Reply
-  pub replies : Replies from ts at reply
-  pub gives : GivesUpOn at.kept replies.run (closing_by (begun_by reply) replies.run.state) kept why
+-- so it is behind every run at this point
+abbrev pub EndsEach : List Stage → Point → Point → Reply → Type 0
+EndsEach xs from to told = (mid : Recorded) → mid.state ≡ from.state → Ends xs from.kept mid to told
 
--- one of its turns gave up
-abbrev pub Stops : Point → List Turn → Option (List Row) → TurnFault → Type 0
-Stops from ts kept why = GivesUp from ts kept why ⊎ StopsInRounds from ts kept why
+-- behind a run some turns of stages were taken, up to one that gave up
+abbrev pub StopsIn : List Stage → Option (List Row) → Recorded → Option (List Row) → TurnFault → Type 0
+StopsIn xs rows mid kept fault.Keeper = (run : Recorded) × (ts : List Turn) × CutTaken kept run xs rows mid ts
+StopsIn xs rows mid kept fault.Memory = (run : Recorded) × (ts : List Turn) × SomeTaken kept run xs rows mid ts
+
+-- so it is behind every run at this point
+abbrev pub StopsEach : List Stage → Point → Option (List Row) → TurnFault → Type 0
+StopsEach xs from kept why = (mid : Recorded) → mid.state ≡ from.state → StopsIn xs from.kept mid kept why
+
+-- these turns were taken, and behind them all of a single command's own; its last reply is this one
+pub record Answers (from : Point) (ts : List Turn) (own : CommandTurn) (to : Point) (told : Reply) : Type 0 where
+  pub rows : Option (List Row)
+  pub mid : Recorded
+  pub ran : Leads from rows ts mid
+  pub ends : Ends (stages (asked.Turn own)) rows mid to told
+
+-- one of its own turns gave up
+pub record StopsInOwn (from : Point) (ts : List Turn) (own : CommandTurn) (kept : Option (List Row)) (why : TurnFault) : Type 0 where
+  pub rows : Option (List Row)
+  pub mid : Recorded
+  pub ran : Leads from rows ts mid
+  pub stops : StopsIn (stages (asked.Turn own)) rows mid kept why
+
+-- one of all turns gave up
+abbrev pub Stops : Point → List Turn → CommandTurn → Option (List Row) → TurnFault → Type 0
+Stops from ts own kept why = GivesUp from ts kept why ⊎ StopsInOwn from ts own kept why
 
 -- ---- steps of a report on its way, between two moments of out
 

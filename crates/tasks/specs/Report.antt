@@ -1,5 +1,5 @@
 -- What a task answers: a function of the task and of the last state of its run.
-use Rattle.std.specs.Prelude.{ℕ, ◌==◌, List, [], ◌∷◌, ◌++◌, Bool, true, false, if◌then◌else◌, length, map, count_by, Option, Some, None}
+use Rattle.std.specs.Prelude.{ℕ, ◌==◌, List, [], ◌∷◌, ◌++◌, ◌&&◌, ◌||◌, Bool, true, false, not, if◌then◌else◌, length, map, count_by, Option, Some, None}
 use Rattle.std.specs.List.{list_any}
 use Rattle.orch_base.specs.Names.{HostPort}
 use Rattle.audit_lines.specs.Lines.{recovery_lines}
@@ -43,7 +43,7 @@ tables_of s = tables_text s.world (recovery_lines s.audit.recoveries) (map numbe
 abbrev pub report_text : List HostPort → Recorded → List ℕ
 report_text names run = replies_text names run ++ tables_of run.state
 
--- a command is refused, or a job fails; an exchange and a poll never
+-- a command is refused, a job fails, or a claim is taken by another; an exchange and a poll never
 abbrev pub verdict_of : Reply → Verdict
 verdict_of (answered.Refused r) = verdict.Refused
 verdict_of (answered.Failed cause) = verdict.Failed
@@ -65,7 +65,7 @@ verdict_of (answered.Begun job) = verdict.Neither
 verdict_of answered.Going = verdict.Neither
 verdict_of answered.NoJob = verdict.Neither
 verdict_of (answered.Held until) = verdict.Neither
-verdict_of (answered.Taken node until) = verdict.Neither
+verdict_of (answered.Taken node until) = verdict.Taken
 verdict_of answered.Released = verdict.Neither
 verdict_of answered.NotHeld = verdict.Neither
 verdict_of answered.Lapsed = verdict.Neither
@@ -74,20 +74,37 @@ abbrev pub is_refusal : Verdict → Bool
 is_refusal verdict.Neither = false
 is_refusal verdict.Refused = true
 is_refusal verdict.Failed = false
+is_refusal verdict.Taken = false
 
 abbrev pub is_failure : Verdict → Bool
 is_failure verdict.Neither = false
 is_failure verdict.Refused = false
 is_failure verdict.Failed = true
+is_failure verdict.Taken = false
 
 -- it is one of the two
 abbrev pub is_bad : Verdict → Bool
 is_bad verdict.Neither = false
 is_bad verdict.Refused = true
 is_bad verdict.Failed = true
+is_bad verdict.Taken = false
+
+abbrev pub is_of_claim : Verdict → Bool
+is_of_claim verdict.Neither = false
+is_of_claim verdict.Refused = false
+is_of_claim verdict.Failed = false
+is_of_claim verdict.Taken = true
 
 abbrev pub is_refused : Reply → Bool
 is_refused r = is_bad (verdict_of r)
+
+-- another's claim lasts
+abbrev pub is_taken : Reply → Bool
+is_taken r = is_of_claim (verdict_of r)
+
+-- a single command answers so on err, and its status is that of a refusal
+abbrev pub is_for_err : Reply → Bool
+is_for_err r = is_refused r || is_taken r
 
 unfoldable pub any_refused : Recorded → Bool
 any_refused run = list_any (λ e. is_refused e.1) run.journal
@@ -108,15 +125,16 @@ tally_of journal = record {
 abbrev pub summary_of : Tally → State → Answer
 summary_of tally s = record { out = summary_text tally s.world (length s.audit.recoveries); err = []; is_refused = false }
 
--- a single command: its lines, or its refusal on err; and the tables where they are asked for
+-- a single command: its lines, or on err its refusal or whose claim lasts; and the tables where they are asked for, but not
+-- where another's claim lasts
 abbrev pub told_answer : Bool → List HostPort → State → Reply → Answer
 told_answer tables names s r = record {
-  out = (if is_refused r then [] else plain_text_of names r) ++ (if tables then tables_of s else []);
-  err = if is_refused r then plain_text_of names r else [];
-  is_refused = is_refused r;
+  out = (if is_for_err r then [] else plain_text_of names r) ++ (if tables && not (is_taken r) then tables_of s else []);
+  err = if is_for_err r then plain_text_of names r else [];
+  is_refused = is_for_err r;
 }
 
--- ---- a command's own reply: that of the last turn that is a command or a job's
+-- ---- a command's own reply: that of the last turn that is a command, a job's or a claim
 
 abbrev pub is_commands_act : Act → Bool
 is_commands_act (act.PollRead p n) = false
@@ -131,7 +149,7 @@ is_commands (turn.Step x) = false
 is_commands (turn.Tick seconds) = false
 is_commands (turn.Act a) = is_commands_act a
 is_commands (turn.As node a) = is_commands_act a
-is_commands (turn.Claim node) = false
+is_commands (turn.Claim node) = true
 is_commands (turn.Release node) = false
 
 -- the reply of this turn, unless a later one has one

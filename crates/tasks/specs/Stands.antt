@@ -1,14 +1,12 @@
 -- What the turns of a task are over, and what its report comes to by what is asked.
-use Rattle.std.specs.Prelude.{◌≡◌, ◌∷◌, ◌++◌, Bool, List, [], All, Option, length}
+use Rattle.std.specs.Prelude.{◌≡◌, Bool, List, All, Option, length}
 use Rattle.commands.specs.declared.turn.CommandTurn.{CommandTurn}
 use Rattle.kept_rows.specs.declared.row.Row.{Row}
 use Rattle.orch_base.specs.Names.{HostPort}
-use Rattle.orch_core.specs.States.{State}
+use Rattle.orch_core.specs.States.{State, nodes_of}
 use Rattle.scenarios.specs.declared.scenario.Scenario.{Scenario}
-use Rattle.scenarios.specs.Turns.{IsCommand, IsTurn}
+use Rattle.scenarios.specs.Turns.{IsCommand, IsTurn, NamesOneOf}
 use Rattle.turns.specs.declared.turn.Turn.{Turn}
-use Rattle.turns.specs.declared.turn.Act.TheVariants as act
-use Rattle.turns.specs.declared.turn.Turn.TheVariants as turn
 use Rattle.tasks.specs.declared.asked.Asked.TheVariants as asked
 use Rattle.tasks.specs.declared.asked.Task.{Task}
 use Rattle.tasks.specs.declared.ending.Ending.{Ending}
@@ -20,12 +18,12 @@ use Rattle.tasks.specs.Sinks.{End, Taken, between}
 abbrev pub AreTurnsIn : State → List Turn → Type 0
 AreTurnsIn s ts = All (IsTurn (length s.world.servers)) ts
 
+-- and each that names an orchestrator names one of the state's
+abbrev pub AreNamedIn : State → List Turn → Type 0
+AreNamedIn s ts = All (NamesOneOf (nodes_of s)) ts
+
 abbrev pub IsCommandIn : State → CommandTurn → Type 0
 IsCommandIn s c = IsCommand (length s.world.servers) c
-
--- a command's own turn behind a scenario's
-abbrev pub with_own : List Turn → CommandTurn → List Turn
-with_own ts own = ts ++ turn.Act (act.Command own) ∷ []
 
 -- ---- reports from a point on
 
@@ -39,7 +37,7 @@ SummaryStands ts from kept out err ending = (names : List HostPort) (s : Scenari
 
 -- of any task that asks for this command, with the tables or without
 abbrev pub CommandStands : CommandTurn → Bool → List HostPort → List Turn → Point → Option (List Row) → End → End → Ending → Type 0
-CommandStands own tables names ts from kept out err ending = (task : Task) (s : Scenario) → task.asked ≡ asked.Turn own → task.tables ≡ tables → Stands (course_from task names s (with_own ts own) from kept) out err ending
+CommandStands own tables names ts from kept out err ending = (task : Task) (s : Scenario) → task.asked ≡ asked.Turn own → task.tables ≡ tables → Stands (course_from task names s ts from kept) out err ending
 
 -- of any task that asks about an instance that no server is
 abbrev pub UnknownStands : List HostPort → List Turn → Point → Option (List Row) → End → End → Ending → Type 0

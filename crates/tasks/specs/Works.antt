@@ -8,7 +8,6 @@ use Rattle.orch_core.specs.Runs.{Recorded, recorder}
 use Rattle.orch_core.specs.Scenarios.{StartsBy, kept_at_start, without_turns}
 use Rattle.orch_core.specs.States.{State}
 use Rattle.tasks.specs.declared.asked.Task.{Task}
-use Rattle.tasks.specs.Asked.{turns_taken}
 
 -- a task over a scenario, and the kept rows before and after it, where the keeper tells them
 pub record Work : Type 0 where
@@ -16,10 +15,6 @@ pub record Work : Type 0 where
   pub scenario : Scenario
   pub old : Option (List Row)
   pub new : Option (List Row)
-
--- the scenario's turns, and behind them the command's own
-abbrev pub turns_in : Work → List Turn
-turns_in w = turns_taken w.task.asked w.scenario.turns
 
 -- The opening and then these turns lead to these kept rows and to this state: by the kept rows, where the keeper tells
 -- them, and by some rows at the opening and at each turn where it doesn't.

@@ -15,7 +15,7 @@ use turns::BoxedCommand;
 /// What words ask for.
 #[derive(Drop)]
 pub enum Asked {
-    /// `run`: the scenario's own turns.
+    /// `run`: the scenario's own turns; and `live`: those that it takes.
     Run,
     /// `run --summary`: the same turns, of which the summary is told.
     Summary,
@@ -188,6 +188,7 @@ fn asked_of(alloc: Global, places: &Places, names: &[Name]) -> Result<Asked, Mem
         }),
         Some(Own::Generate) => Ok(Asked::Nothing),
         Some(Own::Dump) => Ok(Asked::Dump),
+        Some(Own::Live) => Ok(Asked::Run),
         None => asked_named(alloc, places, names, CommandName::read(word)),
     }
 }

@@ -6,7 +6,7 @@ ghost use Rattle.tasks.specs.Progress.{point};
 ghost use Rattle.tasks.specs.Report.{dump_of};
 ghost use Rattle.tasks.specs.Singles.{Writes, view};
 ghost use Rattle.tasks.specs.Sinks.{across};
-ghost use Rattle.tasks.specs.Stands.{AreTurnsIn, DumpStands};
+ghost use Rattle.tasks.specs.Stands.{AreNamedIn, AreTurnsIn, DumpStands};
 
 use crate::Ending;
 use crate::single::{Report, told_report, write_report};
@@ -73,7 +73,8 @@ pub(crate) fn dump_report<O: Sink, E: Sink, K: Keeper>(
     out: &mut O,
     err: &mut E,
 ) -> Ending
-    requires { AreTurnsIn engine.old turns.now }
+    requires turns { AreTurnsIn engine.old turns.now }
+    requires named { AreNamedIn engine.old turns.now }
     ensures stands { DumpStands names.now scenario.now turns.now
         (point (K.kept keeper.old) engine.old) (K.kept keeper.new)
         (across (O.written out.old) (O.faults out.old) (O.written out.new) (O.faults out.new))

@@ -1,6 +1,6 @@
 //! Laws of tasks, over their definitions alone.
 
-ghost use Rattle.tasks.specs.Laws.{CutTextsBeginAnswers, KnownRowsFixRuns, RepliesAreOfTurns, SummariesCountTurns, TakenAreAsked};
+ghost use Rattle.tasks.specs.Laws.{ClaimedCommandsAreTaken, CutTextsBeginAnswers, KnownRowsFixRuns, RepliesAreOfTurns, SummariesCountTurns, TakenAreAsked, TakenClaimsTakeNoCommand};
 
 /// What words that are taken ask of a scenario is something, and its turn meets the condition of the calls that take turns: its
 /// command is built, what it needs is there, each number and text is in its range, and its instance and destination are
@@ -25,4 +25,11 @@ pub fn cut_texts_begin_the_report()
 pub fn summaries_count_the_turns()
     ensures replies { RepliesAreOfTurns }
     ensures turns { SummariesCountTurns }
+{}
+
+/// A single command that claims ahead, since none of several orchestrators is active, is taken as the first one where that
+/// one got the claim, and isn't taken where another's claim lasts.
+pub fn claims_decide_single_commands()
+    ensures held { ClaimedCommandsAreTaken }
+    ensures taken { TakenClaimsTakeNoCommand }
 {}

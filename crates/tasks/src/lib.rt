@@ -1,10 +1,11 @@
 //! What words ask of a scenario's servers, and the report of it: a run's as it comes, its summary and a single command's at
-//! the end.
+//! the end; and the report of turns that were taken.
 #![tactic(auto)]
 
 mod asked;
 mod dumped;
 mod ending;
+mod journal;
 mod laws;
 mod names;
 mod pieces;
@@ -16,9 +17,10 @@ mod verdict;
 
 pub use asked::{Asked, Task, task_of};
 pub use ending::Ending;
+pub use journal::journal_report;
 pub use laws::{
-    asked_turns_are_sound, cut_texts_begin_the_report, known_rows_fix_the_run,
-    summaries_count_the_turns,
+    asked_turns_are_sound, claims_decide_single_commands, cut_texts_begin_the_report,
+    known_rows_fix_the_run, summaries_count_the_turns,
 };
 pub use names::names_of;
 pub use report::task_report;

@@ -52,6 +52,18 @@ impl Pieces {
         }
     }
 
+    /// This text, of which the sink hasn't been given anything yet.
+    pub(crate) fn of(alloc: Global, held: Vec<u8>) -> Pieces
+        ensures held { result.held.items ≡ held.items }
+        ensures failed { result.failed ≡ false }
+    {
+        Pieces {
+            held,
+            failed: false,
+            line: Vec::new(alloc),
+        }
+    }
+
     /// Whether the sink failed.
     pub(crate) fn has_failed(&self) -> bool
         ensures { result ≡ self.now.failed }

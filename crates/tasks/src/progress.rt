@@ -1,11 +1,11 @@
 //! A run's report, written as the turns are taken.
 
-ghost use Rattle.std.specs.Prelude.{IfErr, OnErr, OnOk};
+ghost use Rattle.std.specs.Prelude.{◌≡◌, false, IfErr, OnErr, OnOk};
 ghost use Rattle.orch_core.specs.Keeping.{HasTurnCause};
 ghost use Rattle.tasks.specs.Endings.{HasKeepersCause};
 ghost use Rattle.tasks.specs.Progress.{Adds, EndsCut, EndsWhole, Follows, GaveUp, IsFresh, point};
 ghost use Rattle.tasks.specs.Sinks.{Stays, across, taken};
-ghost use Rattle.tasks.specs.Stands.{AreTurnsIn, RunStands};
+ghost use Rattle.tasks.specs.Stands.{AreNamedIn, AreTurnsIn, RunStands};
 
 use crate::Ending;
 use crate::pieces::Pieces;
@@ -34,8 +34,20 @@ impl Progress {
         }
     }
 
-    // Adds the line of a turn with its reply, by its number in the run.
-    fn add<O: Sink>(
+    /// It stands behind this text, which isn't written yet.
+    pub(crate) fn behind(alloc: Global, head: Vec<u8>) -> Progress
+        ensures held { result.pieces.held.items ≡ head.items }
+        ensures unfailed { result.pieces.failed ≡ false }
+        ensures unrefused { result.is_refused ≡ false }
+    {
+        Progress {
+            pieces: Pieces::of(alloc, head),
+            is_refused: false,
+        }
+    }
+
+    /// Adds the line of a turn with its reply, by its number in the run.
+    pub(crate) fn add<O: Sink>(
         &mut self,
         number: u64,
         t: &Turn,
@@ -55,8 +67,8 @@ impl Progress {
         Ok(())
     }
 
-    // The ending behind all turns: the tables are written, and what is left of the report.
-    fn end<O: Sink>(mut self, engine: &Engine, out: &mut O) -> Ending
+    /// The ending behind all turns: the tables are written, and what is left of the report.
+    pub(crate) fn end<O: Sink>(mut self, engine: &Engine, out: &mut O) -> Ending
         ensures { EndsWhole engine.now self (taken (O.written out.old) (O.faults out.old))
             (taken (O.written out.new) (O.faults out.new)) result }
     {
@@ -97,6 +109,7 @@ fn take_turns<O: Sink, K: Keeper>(
     progress: &mut Progress,
 ) -> Result<(), TurnFault>
     requires turns { AreTurnsIn engine.old turns.now }
+    requires named { AreNamedIn engine.old turns.now }
     requires fresh { IsFresh progress.old }
     ensures ok { OnOk result (Follows names.now (point (K.kept keeper.old) engine.old) turns.now
         (point (K.kept keeper.new) engine.new)
@@ -124,7 +137,8 @@ fn printed_report<O: Sink, K: Keeper>(
     names: &PrintedNames<'_>,
     out: &mut O,
 ) -> Ending
-    requires { AreTurnsIn engine.old turns.now }
+    requires turns { AreTurnsIn engine.old turns.now }
+    requires named { AreNamedIn engine.old turns.now }
     ensures stands { RunStands names.now turns.now (point (K.kept keeper.old) engine.old)
         (K.kept keeper.new)
         (across (O.written out.old) (O.faults out.old) (O.written out.new) (O.faults out.new))
@@ -150,7 +164,8 @@ pub(crate) fn run_report<O: Sink, K: Keeper>(
     names: &[Name],
     out: &mut O,
 ) -> Ending
-    requires { AreTurnsIn engine.old turns.now }
+    requires turns { AreTurnsIn engine.old turns.now }
+    requires named { AreNamedIn engine.old turns.now }
     ensures stands { RunStands names.now turns.now (point (K.kept keeper.old) engine.old)
         (K.kept keeper.new)
         (across (O.written out.old) (O.faults out.old) (O.written out.new) (O.faults out.new))

@@ -1,12 +1,13 @@
 //! The report of a task over a scenario.
 
 ghost use Rattle.std.specs.Prelude.{◌≡◌, ◌≤◌, length};
+ghost use Rattle.orch_core.specs.States.{nodes_of};
 ghost use Rattle.scenarios.specs.Scenarios.{IsScenario, names_of};
-ghost use Rattle.tasks.specs.Asked.{IsAsked, turns_taken};
+ghost use Rattle.tasks.specs.Asked.{IsAsked};
 ghost use Rattle.tasks.specs.Endings.{HasKeepersCause, Stands, Tells};
 ghost use Rattle.tasks.specs.Progress.{course_from, point};
 ghost use Rattle.tasks.specs.Sinks.{across};
-ghost use Rattle.tasks.specs.Stands.{AreTurnsIn};
+ghost use Rattle.tasks.specs.Stands.{AreNamedIn, AreTurnsIn};
 
 use crate::dumped::dump_report;
 use crate::progress::run_report;
@@ -33,9 +34,11 @@ fn asked_report<O: Sink, E: Sink, K: Keeper>(
     keeper: &mut K,
 ) -> Ending
     requires turns { AreTurnsIn engine.old turns.now }
+    requires named { AreNamedIn engine.old turns.now }
     requires asked { IsAsked (length engine.old.world.servers) task.now.asked }
+    requires nodes { 1 ≤ nodes_of engine.old }
     ensures stands { Stands (course_from task.now names.now scenario.now
-        (turns_taken task.now.asked turns.now)
+        turns.now
         (point (K.kept keeper.old) engine.old) (K.kept keeper.new))
         (across (O.written out.old) (O.faults out.old) (O.written out.new) (O.faults out.new))
         (across (E.written err.old) (E.faults err.old) (E.written err.new) (E.faults err.new))

@@ -1,18 +1,24 @@
 //! A single command's report, written at its end.
 
-ghost use Rattle.std.specs.Prelude.{◌≡◌, ◌≤◌, [], IfOk, IfErr, if◌then◌else◌};
-ghost use Rattle.orch_core.specs.Keeping.{HasTurnCause};
+ghost use Rattle.std.specs.Prelude.{◌≡◌, ◌≤◌, [], IfOk, IfErr, IfSome, OnOk, length, option_map, if◌then◌else◌};
+ghost use Rattle.std.specs.Option.{option_to_list};
+ghost use Rattle.scenarios.specs.Turns.{IsNumberOf, IsTurn, NamesOneOf};
+ghost use Rattle.orch_core.specs.Keeping.{HasTurnCause, Ran, WasCutOff};
+ghost use Rattle.orch_core.specs.Replies.{reply_of};
+ghost use Rattle.orch_core.specs.Runs.{engine as plainly};
+ghost use Rattle.orch_core.specs.States.{nodes_of};
 ghost use Rattle.tasks.specs.Closing.{begun_by};
 ghost use Rattle.tasks.specs.Endings.{HasKeepersCause};
-ghost use Rattle.tasks.specs.Progress.{Answers, ClosesEach, GivesUp, GivesUpEach, Replies, Stops, point};
+ghost use Rattle.tasks.specs.Progress.{Answers, ClosesEach, EndsEach, GivesUpEach, Stops, StopsEach, point};
 ghost use Rattle.tasks.specs.Report.{tables_of, told_answer};
 ghost use Rattle.tasks.specs.Singles.{Writes, view};
 ghost use Rattle.tasks.specs.Sinks.{across};
-ghost use Rattle.tasks.specs.Stands.{AreTurnsIn, CommandStands, IsCommandIn, UnknownStands, with_own};
+ghost use Rattle.tasks.specs.Stages.{claim_ahead, own_stages, own_turn, taker};
+ghost use Rattle.tasks.specs.Stands.{AreNamedIn, AreTurnsIn, CommandStands, IsCommandIn, UnknownStands};
 
 use crate::Ending;
 use crate::pieces::add_tables;
-use crate::verdict::is_refused;
+use crate::verdict::{is_for_err, is_taken};
 use commands::Refusal;
 use instance_keeper::Keeper;
 use orch_base::{Memory, Name, Sink, write_all};
@@ -40,7 +46,8 @@ fn some_tables(alloc: Global, asked: bool, engine: &Engine) -> Result<Vec<u8>, M
     Ok(text)
 }
 
-/// The lines of a reply, or its refusal for err; and the tables where they are asked for.
+/// The lines of a reply, or for err its refusal or whose claim lasts; and the tables where they are asked for, but not
+/// where another's claim lasts.
 pub(crate) fn told_report(
     alloc: Global,
     asked: bool,
@@ -52,8 +59,8 @@ pub(crate) fn told_report(
 {
     let mut told = Vec::new(alloc);
     plain_text(reply, names, &mut told)?;
-    let mut tables = some_tables(alloc, asked, engine)?;
-    if is_refused(reply) {
+    let mut tables = some_tables(alloc, asked && !is_taken(reply), engine)?;
+    if is_for_err(reply) {
         return Ok(Report {
             out: tables,
             err: told,
@@ -104,26 +111,98 @@ fn write_told<O: Sink, E: Sink>(
     }
 }
 
-// Takes the scenario's turns and then the command's own, and answers its reply.
+// The claim ahead of a command: of the first of several orchestrators, where none is active.
+fn claim_ahead(engine: &Engine) -> Option<Turn>
+    requires { 1 ≤ nodes_of engine.now }
+    ensures claim { result ≡ claim_ahead engine.now }
+    ensures turn { IfSome result (IsTurn (length engine.now.world.servers)) }
+    ensures named { IfSome result (NamesOneOf (nodes_of engine.now)) }
+{
+    let claims = engine.claims();
+    if claims.is_alone() || claims.active(engine.now()).is_some() {
+        return None;
+    }
+    Some(Turn::Claim(1))
+}
+
+// The orchestrator by which a command is taken: the active one, or the first, where the kept claim is its own.
+fn taker(engine: &Engine) -> Option<u32>
+    requires { 1 ≤ nodes_of engine.now }
+    ensures taker { result ≡ taker engine.now }
+    ensures node { IfSome result (IsNumberOf (nodes_of engine.now)) }
+{
+    let claims = engine.claims();
+    if let Some(node) = claims.active(engine.now()) {
+        return Some(node);
+    }
+    match claims.kept() {
+        Some((1, _)) => Some(1),
+        Some(_) | None => None,
+    }
+}
+
+// The command's own turn; none where another orchestrator's claim lasts.
+fn own_turn(alloc: Global, engine: &Engine, own: &BoxedCommand) -> Result<Option<Turn>, Memory>
+    requires own { IsCommandIn engine.now own.now }
+    requires nodes { 1 ≤ nodes_of engine.now }
+    ensures own { IfOk result (λ t. t ≡ own_turn own.now engine.now) }
+    ensures turn { IfOk result (λ t. IfSome t (IsTurn (length engine.now.world.servers))) }
+    ensures named { IfOk result (λ t. IfSome t (NamesOneOf (nodes_of engine.now))) }
+{
+    let act = Act::Command(own.copy(alloc)?);
+    if engine.claims().is_alone() {
+        return Ok(Some(Turn::Act(act)));
+    }
+    let Some(node) = taker(engine) else {
+        return Ok(None);
+    };
+    Ok(Some(Turn::As(node, act)))
+}
+
+// Takes this turn, if it is one.
+fn take_one<K: Keeper>(
+    alloc: Global,
+    keeper: &mut K,
+    engine: &mut Engine,
+    t: &Option<Turn>,
+) -> Result<Option<Reply>, TurnFault>
+    requires turn { IfSome t.now (IsTurn (length engine.old.world.servers)) }
+    requires named { IfSome t.now (NamesOneOf (nodes_of engine.old)) }
+    ensures reply { IfOk result (λ r. r ≡ option_map (reply_of engine.old) t.now) }
+    ensures ok { OnOk result (Ran plainly (K.kept keeper.old) engine.old (option_to_list t.now)
+        (K.kept keeper.new) engine.new) }
+    ensures err { IfErr result (λ e. WasCutOff plainly (K.kept keeper.old) engine.old
+        (option_to_list t.now) (K.kept keeper.new) engine.new e) }
+    ensures cause { HasTurnCause (K.faults keeper.old) (K.faults keeper.new) result }
+    ensures servers { length engine.new.world.servers ≡ length engine.old.world.servers }
+    ensures nodes { nodes_of engine.new ≡ nodes_of engine.old }
+{
+    match t {
+        Some(t) => Ok(Some(engine.turn(alloc, keeper, t)?)),
+        None => Ok(None),
+    }
+}
+
+// Takes the command's claim, where it needs one, and then its own turn, where it got it; and answers the last reply.
 fn own_reply<K: Keeper>(
     alloc: Global,
     keeper: &mut K,
     engine: &mut Engine,
-    turns: &[Turn],
     own: &BoxedCommand,
 ) -> Result<Reply, TurnFault>
-    requires turns { AreTurnsIn engine.old turns.now }
     requires own { IsCommandIn engine.old own.now }
-    ensures ok { IfOk result (Replies (point (K.kept keeper.old) engine.old)
-        (with_own turns.now own.now) (point (K.kept keeper.new) engine.new)) }
-    ensures err { IfErr result (GivesUp (point (K.kept keeper.old) engine.old)
-        (with_own turns.now own.now) (K.kept keeper.new)) }
+    requires nodes { 1 ≤ nodes_of engine.old }
+    ensures ok { IfOk result (EndsEach (own_stages own.now)
+        (point (K.kept keeper.old) engine.old) (point (K.kept keeper.new) engine.new)) }
+    ensures err { IfErr result (StopsEach (own_stages own.now)
+        (point (K.kept keeper.old) engine.old) (K.kept keeper.new)) }
     ensures cause { HasTurnCause (K.faults keeper.old) (K.faults keeper.new) result }
 {
-    engine.run(alloc, keeper, turns)?;
-    let own = Turn::Act(Act::Command(own.copy(alloc)?));
-    let reply = engine.turn(alloc, keeper, &own)?;
-    Ok(reply)
+    let claim = claim_ahead(engine);
+    let claimed = take_one(alloc, keeper, engine, &claim)?;
+    let own = own_turn(alloc, engine, own)?;
+    let told = take_one(alloc, keeper, engine, &own)?;
+    Ok(told.or(claimed).unwrap_or(Reply::Lapsed))
 }
 
 // The job that a reply tells to have begun.
@@ -178,7 +257,8 @@ fn finish<K: Keeper>(
     Ok(told.unwrap_or(reply))
 }
 
-// Takes all turns of a single command: the scenario's, its own and the rounds of its job; and answers its last reply.
+// Takes all turns of a single command: the scenario's, its claim, its own and the rounds of its job; and answers its
+// last reply.
 fn last_reply<K: Keeper>(
     alloc: Global,
     keeper: &mut K,
@@ -187,20 +267,24 @@ fn last_reply<K: Keeper>(
     own: &BoxedCommand,
 ) -> Result<Reply, TurnFault>
     requires turns { AreTurnsIn engine.old turns.now }
+    requires named { AreNamedIn engine.old turns.now }
     requires own { IsCommandIn engine.old own.now }
+    requires nodes { 1 ≤ nodes_of engine.old }
     ensures ok { IfOk result (Answers (point (K.kept keeper.old) engine.old)
-        (with_own turns.now own.now) (point (K.kept keeper.new) engine.new)) }
+        turns.now own.now (point (K.kept keeper.new) engine.new)) }
     ensures err { IfErr result (Stops (point (K.kept keeper.old) engine.old)
-        (with_own turns.now own.now) (K.kept keeper.new)) }
+        turns.now own.now (K.kept keeper.new)) }
     ensures cause { HasTurnCause (K.faults keeper.old) (K.faults keeper.new) result }
 {
-    let reply = own_reply(alloc, keeper, engine, turns, own)?;
+    engine.run(alloc, keeper, turns)?;
+    let reply = own_reply(alloc, keeper, engine, own)?;
     finish(alloc, keeper, engine, reply)
 }
 
 /// Takes the scenario's turns, the command's own and the rounds of the job that it began, and writes what its last
 /// reply says: its lines on out, or its refusal or the failed job's cause on err, and the tables where they are asked
-/// for. After a keeper's fault nothing is written.
+/// for. Of several orchestrators the active one takes it; where none is, the first claims, and where another's claim
+/// lasts that one's reply is written on err, and nothing else. After a keeper's fault nothing is written.
 pub(crate) fn command_report<O: Sink, E: Sink, K: Keeper>(
     alloc: Global,
     keeper: &mut K,
@@ -213,7 +297,9 @@ pub(crate) fn command_report<O: Sink, E: Sink, K: Keeper>(
     err: &mut E,
 ) -> Ending
     requires turns { AreTurnsIn engine.old turns.now }
+    requires named { AreNamedIn engine.old turns.now }
     requires own { IsCommandIn engine.old own.now }
+    requires nodes { 1 ≤ nodes_of engine.old }
     ensures stands { CommandStands own.now tables names.now turns.now
         (point (K.kept keeper.old) engine.old) (K.kept keeper.new)
         (across (O.written out.old) (O.faults out.old) (O.written out.new) (O.faults out.new))
@@ -239,7 +325,8 @@ pub(crate) fn unknown_report<O: Sink, E: Sink, K: Keeper>(
     out: &mut O,
     err: &mut E,
 ) -> Ending
-    requires { AreTurnsIn engine.old turns.now }
+    requires turns { AreTurnsIn engine.old turns.now }
+    requires named { AreNamedIn engine.old turns.now }
     ensures stands { UnknownStands names.now turns.now (point (K.kept keeper.old) engine.old)
         (K.kept keeper.new)
         (across (O.written out.old) (O.faults out.old) (O.written out.new) (O.faults out.new))

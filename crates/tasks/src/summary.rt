@@ -7,7 +7,7 @@ ghost use Rattle.tasks.specs.Progress.{GivesUp, Tallies, point, with_reply};
 ghost use Rattle.tasks.specs.Report.{summary_of, verdict_of};
 ghost use Rattle.tasks.specs.Singles.{Writes};
 ghost use Rattle.tasks.specs.Sinks.{across};
-ghost use Rattle.tasks.specs.Stands.{AreTurnsIn, SummaryStands};
+ghost use Rattle.tasks.specs.Stands.{AreNamedIn, AreTurnsIn, SummaryStands};
 
 use crate::Ending;
 use crate::single::{Report, write_report};
@@ -28,7 +28,7 @@ fn with_reply(tally: Tally, reply: &Reply) -> Tally
 {
     let turns = tally.turns + 1;
     match verdict_of(reply) {
-        Verdict::Neither => Tally { turns, ..tally },
+        Verdict::Neither | Verdict::Taken => Tally { turns, ..tally },
         Verdict::Refused => Tally {
             turns,
             refused: tally.refused + 1,
@@ -49,7 +49,8 @@ fn count_turns<K: Keeper>(
     engine: &mut Engine,
     turns: &[Turn],
 ) -> Result<Tally, TurnFault>
-    requires { AreTurnsIn engine.old turns.now }
+    requires turns { AreTurnsIn engine.old turns.now }
+    requires named { AreNamedIn engine.old turns.now }
     ensures ok { IfOk result (Tallies (point (K.kept keeper.old) engine.old) turns.now
         (point (K.kept keeper.new) engine.new)) }
     ensures err { IfErr result (GivesUp (point (K.kept keeper.old) engine.old) turns.now
@@ -107,7 +108,8 @@ pub(crate) fn summary_report<O: Sink, E: Sink, K: Keeper>(
     out: &mut O,
     err: &mut E,
 ) -> Ending
-    requires { AreTurnsIn engine.old turns.now }
+    requires turns { AreTurnsIn engine.old turns.now }
+    requires named { AreNamedIn engine.old turns.now }
     ensures stands { SummaryStands turns.now (point (K.kept keeper.old) engine.old)
         (K.kept keeper.new)
         (across (O.written out.old) (O.faults out.old) (O.written out.new) (O.faults out.new))

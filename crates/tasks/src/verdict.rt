@@ -1,16 +1,17 @@
 //! What a reply says of its turn.
 
 ghost use Rattle.std.specs.Prelude.{◌≡◌};
-ghost use Rattle.tasks.specs.Report.{is_refused, verdict_of};
+ghost use Rattle.tasks.specs.Report.{is_for_err, is_refused, is_taken, verdict_of};
 
 use turns::Reply;
 
-/// Whether a command was refused, or a job failed.
+/// Whether a command was refused, a job failed, or another's claim lasts.
 #[derive(Clone, Copy)]
 pub(crate) enum Verdict {
     Neither,
     Refused,
     Failed,
+    Taken,
 }
 
 /// Which of them a reply says.
@@ -20,6 +21,7 @@ pub(crate) fn verdict_of(reply: &Reply) -> Verdict
     match reply {
         Reply::Refused(_) => Verdict::Refused,
         Reply::Failed(_) => Verdict::Failed,
+        Reply::Taken { .. } => Verdict::Taken,
         Reply::Write(_)
         | Reply::Fetch(_)
         | Reply::Apply(_)
@@ -38,19 +40,38 @@ pub(crate) fn verdict_of(reply: &Reply) -> Verdict
         | Reply::Going
         | Reply::NoJob
         | Reply::Held(_)
-        | Reply::Taken { .. }
         | Reply::Released
         | Reply::NotHeld
         | Reply::Lapsed => Verdict::Neither,
     }
 }
 
-/// Whether it says one of the two.
+/// Whether a command was refused, or a job failed.
 pub(crate) fn is_refused(reply: &Reply) -> bool
     ensures { result ≡ is_refused reply.now }
 {
     match verdict_of(reply) {
         Verdict::Refused | Verdict::Failed => true,
+        Verdict::Neither | Verdict::Taken => false,
+    }
+}
+
+/// Whether a single command answers so on err.
+pub(crate) fn is_for_err(reply: &Reply) -> bool
+    ensures { result ≡ is_for_err reply.now }
+{
+    match verdict_of(reply) {
+        Verdict::Refused | Verdict::Failed | Verdict::Taken => true,
         Verdict::Neither => false,
+    }
+}
+
+/// Whether another's claim lasts.
+pub(crate) fn is_taken(reply: &Reply) -> bool
+    ensures { result ≡ is_taken reply.now }
+{
+    match verdict_of(reply) {
+        Verdict::Taken => true,
+        Verdict::Neither | Verdict::Refused | Verdict::Failed => false,
     }
 }

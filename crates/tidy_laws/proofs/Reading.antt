@@ -141,7 +141,7 @@ with-written : (head : Head) (given : List (Option HostPort) × List Given) (ite
 unfolding scenario_with
 with-written head given items s all e =
     let o = bind-ok (opening_in (inits_of given.1) head.gtid) _ s e in
-    let ts = bind-ok (turns_in given.0 o.0.servers items) _ s o.2 in
+    let ts = bind-ok (turns_in given.0 o.0.servers head.nodes items) _ s o.2 in
     subst UntilsCanBePrinted (same_Ok _ s ts.2)
     (subst (λ (is : List ServerInit). All (λ i. IfSome i.until IsWritten) is) (sym (opening-same (inits_of given.1) head.gtid o.0 o.1)) (inits-written given.1 0 given.1 all))
 

@@ -55,7 +55,7 @@ use Rattle.unended_jobs.specs.Unended.{Flown, core_of, number_of}
 use Rattle.unended_laws.specs.Beside.{IsHeldBeside}
 use Rattle.unended_laws.proofs.Cores.{core-found}
 use Rattle.job_laws.specs.Leases.{leases_of}
-use Rattle.orch_core.specs.After.{after_act, step as turn_step}
+use Rattle.orch_core.specs.After.{after_act, step as turn_step, after_done}
 use Rattle.orch_core.specs.Commands.{Outcome, about, asked, by_hand, begun, decided, discovered, forgotten, next_reading, outcome_by, outcome_of, question, recovered, recovery_begun, refusal, removal_refusal, taken_over}
 use Rattle.orch_core.specs.Jobs.{turn_of}
 use Rattle.orch_core.specs.HookTelling.{told_try, with_told}
@@ -65,7 +65,7 @@ use Rattle.orch_core.specs.Settling.{settled}
 use Rattle.orch_core.specs.States.{State}
 use Rattle.orch_core.specs.Turns.{exchange_of}
 use Rattle.run_laws.specs.Entries.{attempt_in, recoveries_scanned, scan_in}
-use Rattle.run_laws.specs.Flights.{act_passages, by_discovery, by_instance, by_job, by_permission, by_poll, by_recoveries, by_recovery, by_removal, by_route, by_takeover, by_try, discovers, flight_of, moment_at, passages_of}
+use Rattle.run_laws.specs.Flights.{act_passages, by_discovery, by_instance, by_job, by_permission, by_poll, by_recoveries, by_recovery, by_removal, by_route, by_takeover, by_try, discovers, flight_of, moment_at, passages_of, done_passages}
 use Rattle.run_laws.specs.Ready.{Ready}
 use Rattle.run_laws.specs.States.{HeldState}
 use Rattle.run_laws.proofs.Flown.{flown as step-flown}
@@ -79,6 +79,7 @@ use Rattle.tidy_laws.proofs.Begun.{job-within, recovery-within, scan-within, tak
 use Rattle.tidy_laws.proofs.Passing.{neat-passing}
 use Rattle.tidy_laws.proofs.Recovering.{taken-within}
 use Rattle.tidy_laws.proofs.Turns.{turn-within}
+use Rattle.orch_core.specs.Nodes.{act_in}
 
 -- the flight is neat, and each unended job stays within a cluster
 pub record IsNeatState (c : Clusters) (s : State) : Type 0 where
@@ -203,13 +204,17 @@ module _ (c : Clusters) (s : State) (held : HeldState s) (neat : IsNeatState c s
   act-neat act.Scan = recoveries-passages (recoveries_scanned s) (flight_of s)
   act-neat act.Restart = (tt, tt)
 
+  done-neat : (o : Option Act) → AreNeatPassages c (flight_of s) (done_passages s o)
+  done-neat None = tt
+  done-neat (Some a) = act-neat a
+
   passages-neat : (count : ℕ) (t : Turn) → IsTurn count t → AreNeatPassages c (flight_of s) (passages_of s t)
   passages-neat count (turn.Step x) is = (((step-may count (flight_of s) x is).0, step-orderly c count s x is), tt)
   passages-neat count (turn.Tick seconds) is = tt
   passages-neat count (turn.Act a) is = act-neat a
-  passages-neat count (turn.As node a) is = absurd is
-  passages-neat count (turn.Claim node) is = absurd is
-  passages-neat count (turn.Release node) is = absurd is
+  passages-neat count (turn.As node a) is = done-neat (act_in s (turn.As node a))
+  passages-neat count (turn.Claim node) is = done-neat (act_in s (turn.Claim node))
+  passages-neat count (turn.Release node) is = tt
 
   -- ---- what a turn leaves of the jobs
 
@@ -322,13 +327,17 @@ module _ (c : Clusters) (s : State) (held : HeldState s) (neat : IsNeatState c s
   act-jobs rows act.Scan = scan-jobs
   act-jobs rows act.Restart = All-nil P
 
+  done-jobs : (rows : List Row) (o : Option Act) → All P (after_done rows s o).jobs
+  done-jobs rows None = neat.jobs
+  done-jobs rows (Some a) = act-jobs rows a
+
   turn-jobs : (count : ℕ) (rows : List Row) (t : Turn) → IsTurn count t → All P (turn_step rows s t).jobs
   turn-jobs count rows (turn.Step x) is = neat.jobs
   turn-jobs count rows (turn.Tick seconds) is = neat.jobs
   turn-jobs count rows (turn.Act a) is = act-jobs rows a
-  turn-jobs count rows (turn.As node a) is = absurd is
-  turn-jobs count rows (turn.Claim node) is = absurd is
-  turn-jobs count rows (turn.Release node) is = absurd is
+  turn-jobs count rows (turn.As node a) is = done-jobs rows (act_in s (turn.As node a))
+  turn-jobs count rows (turn.Claim node) is = done-jobs rows (act_in s (turn.Claim node))
+  turn-jobs count rows (turn.Release node) is = neat.jobs
 
 pub neat-step : (c : Clusters) (count : ℕ) (rows : List Row) (s : State) (t : Turn) → Ready count s → HeldState s → IsTurn count t → IsNeatState c s → IsNeatState c (turn_step rows s t)
 neat-step c count rows s t ready held is neat = record {

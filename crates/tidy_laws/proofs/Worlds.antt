@@ -33,7 +33,7 @@ use Rattle.orch_core.specs.Jobs.{turn_of}
 use Rattle.orch_core.specs.Runs.{engine, run_turns, turns_of}
 use Rattle.orch_core.specs.Scenarios.{start}
 use Rattle.orch_core.specs.States.{State}
-use Rattle.orch_core.specs.Turns.{act_exchanges, exchanges_at}
+use Rattle.orch_core.specs.Turns.{act_exchanges, exchanges_at, done_exchanges}
 use Rattle.orch_core.proofs.States.{Allowed-step}
 use Rattle.run_laws.specs.Flights.{moment_at}
 use Rattle.run_laws.specs.Runs.{ComesTo}
@@ -42,6 +42,7 @@ use Rattle.run_laws.proofs.Worlds.{world-turn}
 use Rattle.scenario_dump.specs.Reading.{IsWorldOf}
 use Rattle.tidy_laws.specs.Runs.{UntilsCanBePrinted}
 use Rattle.tidy_laws.proofs.Runs.{tidy-comes}
+use Rattle.orch_core.specs.Nodes.{act_in}
 
 abbrev settings_in : List Server → List Settings
 settings_in servers = map (λ x. x.settings) servers
@@ -72,13 +73,17 @@ act-allowed s (act.Job job) = job-allowed s (job_at s.jobs job)
 act-allowed s act.Scan = tt
 act-allowed s act.Restart = tt
 
+done-allowed : (s : State) (o : Option Act) → AllAllowed s.world (done_exchanges s o)
+done-allowed s None = tt
+done-allowed s (Some a) = act-allowed s a
+
 turn-exchanges : (count : ℕ) (s : State) (t : Turn) → IsTurn count t → AllAllowed s.world (exchanges_at s t)
 turn-exchanges count s (turn.Step x) is = (Allowed-step count s.world x is).0
 turn-exchanges count s (turn.Tick seconds) is = tt
 turn-exchanges count s (turn.Act a) is = act-allowed s a
-turn-exchanges count s (turn.As node a) is = absurd is
-turn-exchanges count s (turn.Claim node) is = absurd is
-turn-exchanges count s (turn.Release node) is = absurd is
+turn-exchanges count s (turn.As node a) is = done-allowed s (act_in s (turn.As node a))
+turn-exchanges count s (turn.Claim node) is = done-allowed s (act_in s (turn.Claim node))
+turn-exchanges count s (turn.Release node) is = tt
 
 -- the servers' settings, and the mode
 record IsOf (settings : List Settings) (gtid : Bool) (w : World) : Type 0 where

@@ -333,15 +333,15 @@ module _ (c : Call) (p : Places) (taken_as : places_of c.words ≡ Ok p) where
   fault_on way.Keeper f ask ends_so fault_as = absurd (sound c.bytes ends_so.work.scenario f ends_so.asks.is.read fault_as)
   fault_on way.Memory f ask ends_so fault_as = inr (inr refl)
 
-  faults_for : (w : Way) (o : Option Drawing) → drawing_of p ≡ o → Ends c w → FaultsFor o c.bytes (status_of w)
+  faults_for : (w : Way) (o : Option Drawing) → drawing_of p ≡ o → Ends c w → FaultsFor o (scenario_in c.bytes) (status_of w)
   faults_for w None is ends_so = record {
     only = λ two. fault_back w ends_so (of_two w two);
     always = λ f fault_as. fault_on w f (p, taken_as, is) ends_so fault_as;
   }
   faults_for w (Some d) is ends_so = λ two. let at : Ends c way.Fault = subst (Ends c) (of_two w two) ends_so in never_both c.words d at.0 (p, taken_as, is)
 
-  pub faults : (w : Way) → Ends c w → FaultsAs (places_of c.words) c.bytes (status_of w)
-  faults w ends_so = subst (λ (r : Result Places Usage). FaultsAs r c.bytes (status_of w)) (sym taken_as) (faults_for w (drawing_of p) refl ends_so)
+  pub faults : (w : Way) → Ends c w → FaultsAs (places_of c.words) (scenario_in c.bytes) (status_of w)
+  faults w ends_so = subst (λ (r : Result Places Usage). FaultsAs r (scenario_in c.bytes) (status_of w)) (sym taken_as) (faults_for w (drawing_of p) refl ends_so)
 
 pub no_usage : (words : List (List ℕ)) (p : Places) (w : Way) → places_of words ≡ Ok p → (w ≡ way.Usage → ⊥) → IsUsage words (status_of w)
 no_usage words p w taken_as other = record {
@@ -375,13 +375,13 @@ bad_words words u is h = rw is at h
 pub not_asked : (words : List (List ℕ)) (d : Drawing) → places_of words ≡ Err usage.BadWords → AskToDraw words d → ⊥
 not_asked words d bad ask = not_both (places_of words) ask.0 usage.BadWords ask.1 bad
 
-pub untaken_faults : (words : List (List ℕ)) (bytes : List ℕ) → places_of words ≡ Err usage.BadWords → FaultsAs (places_of words) bytes 1
-untaken_faults words bytes bad = subst (λ (r : Result Places Usage). FaultsAs r bytes 1) (sym bad) (λ two. absurd (omega (arith, two)))
+pub untaken_faults : (words : List (List ℕ)) (bytes : List ℕ) → places_of words ≡ Err usage.BadWords → FaultsAs (places_of words) (scenario_in bytes) 1
+untaken_faults words bytes bad = subst (λ (r : Result Places Usage). FaultsAs r (scenario_in bytes) 1) (sym bad) (λ two. absurd (omega (arith, two)))
 
-pub wanting_faults : (r : Result Places Usage) (bytes : List ℕ) → FaultsAs r bytes 6
+pub wanting_faults : (r : Result Places Usage) (bytes : List ℕ) → FaultsAs r (scenario_in bytes) 6
 wanting_faults (Ok p) bytes = go (drawing_of p)
   where
-    go : (o : Option Drawing) → FaultsFor o bytes 6
+    go : (o : Option Drawing) → FaultsFor o (scenario_in bytes) 6
     go None = record { only = λ two. absurd (omega (arith, two)); always = λ f fault_as. inr (inr refl) }
     go (Some d) = λ two. absurd (omega (arith, two))
 wanting_faults (Err u) bytes = λ two. absurd (omega (arith, two))

@@ -55,12 +55,12 @@ long_text = go (text_of (MAX_SCENARIO_LEN + 1))
     go x = (x.0, subst (λ (n : ℕ). nat_lt MAX_SCENARIO_LEN n ≡ true) (sym x.1) refl)
 
 pub too_long_read : (left : Option (List ℕ)) (e : NotRead) (fault : ReadFault) (stop : Stop) → e ≡ not_read.TooLong → fault_of fault ≡ Some too_long_fault → stop ≡ stop_by fault
-    → IfSome left (λ bytes. Gives {X = List ℕ} {Y = List ℕ} (λ v. v) length_fault (Err e) (whole bytes)) → OfRead left (λ bytes. ReadsAs bytes (Err stop))
+    → IfSome left (λ bytes. Gives {X = List ℕ} {Y = List ℕ} (λ v. v) length_fault (Err e) (whole bytes)) → OfRead left (λ bytes. ReadsAs (scenario_in bytes) (Err stop))
 too_long_read None e fault stop is long by h = go long_text
   where
-    go : (bytes : List ℕ) × (nat_lt MAX_SCENARIO_LEN (length bytes) ≡ true) → OfRead None (λ bytes. ReadsAs bytes (Err stop))
-    go x = (x.0, subst (λ y. ReadsAs x.0 (Err y)) (sym (by ∙ stop_of_long fault long)) (scenario_in_too_long x.0 x.1))
-too_long_read (Some bytes) e fault stop is long by h = subst (λ x. ReadsAs bytes (Err x)) (sym (by ∙ stop_of_long fault long)) (long_at bytes e is h)
+    go : (bytes : List ℕ) × (nat_lt MAX_SCENARIO_LEN (length bytes) ≡ true) → OfRead None (λ bytes. ReadsAs (scenario_in bytes) (Err stop))
+    go x = (x.0, subst (λ y. ReadsAs (scenario_in x.0) (Err y)) (sym (by ∙ stop_of_long fault long)) (scenario_in_too_long x.0 x.1))
+too_long_read (Some bytes) e fault stop is long by h = subst (λ x. ReadsAs (scenario_in bytes) (Err x)) (sym (by ∙ stop_of_long fault long)) (long_at bytes e is h)
 
 -- ---- bytes that were read
 
@@ -68,6 +68,6 @@ is_whole : (b : Bool) (bytes v : List ℕ) → cond {A = Result (List ℕ) NotRe
 is_whole true bytes v h = absurd cc
 is_whole false bytes v h = cc
 
-pub of_read : (left : Option (List ℕ)) (v : List ℕ) (r : Result Scenario Stop) → IfSome left (λ bytes. whole bytes ≡ Ok v) → ReadsAs v r → OfRead left (λ bytes. ReadsAs bytes r)
+pub of_read : (left : Option (List ℕ)) (v : List ℕ) (r : Result Scenario Stop) → IfSome left (λ bytes. whole bytes ≡ Ok v) → ReadsAs (scenario_in v) r → OfRead left (λ bytes. ReadsAs (scenario_in bytes) r)
 of_read None v r told reads = (v, reads)
-of_read (Some bytes) v r told reads = subst (λ (x : List ℕ). ReadsAs x r) (is_whole (nat_lt MAX_SCENARIO_LEN (length bytes)) bytes v told) reads
+of_read (Some bytes) v r told reads = subst (λ (x : List ℕ). ReadsAs (scenario_in x) r) (is_whole (nat_lt MAX_SCENARIO_LEN (length bytes)) bytes v told) reads

@@ -1,11 +1,12 @@
 -- Each run of the turns that words take: its states are safe, its commands answer by the permission table, and its
 -- recoveries begin apart and finish well.
-use Rattle.std.proofs.Common.{◌≡◌, ℕ, zero, suc, ◌<◌, Bool, true, false, cond, List, [], ◌∷◌, ◌++◌, length, Option, Some, None, ◌∙◌, refl, sym, ap, subst, take, inl, inr}
-use Rattle.std.specs.Prelude.{All, is_some, ◌^◌, ◌≤◌}
-use Rattle.std.proofs.Math.Seq.{take-length}
+use Rattle.std.proofs.Common.{◌≡◌, ℕ, zero, suc, ◌<◌, Bool, true, false, cond, List, [], ◌∷◌, ◌++◌, length, Option, Some, None, ◌∙◌, refl, sym, ap, subst, take, inl, inr, arith}
+use Rattle.std.specs.Prelude.{All, IfSome, is_some, ◌^◌, ◌≤◌}
+use Rattle.std.specs.Option.{option_to_list}
 use Rattle.std.proofs.lemmas.List.{length-map}
 use Rattle.std.proofs.lemmas.List.Elements.{All-append, All-cons, All-nil, All-take}
 use Rattle.kept_rows.specs.declared.row.Row.{Row}
+use Rattle.commands.specs.declared.turn.CommandTurn.{CommandTurn}
 use Rattle.commands.specs.declared.line.Line.{Line}
 use Rattle.command_line.specs.declared.parts.Places.{Places}
 use Rattle.orch_base.specs.Names.{HostPort}
@@ -14,22 +15,22 @@ use Rattle.name_order.specs.NameOrder.{by_name}
 use Rattle.name_order.proofs.Arranged.{by_name-within}
 use Rattle.scenarios.specs.declared.scenario.Scenario.{Scenario}
 use Rattle.scenarios.specs.Scenarios.{IsScenario, names_of}
-use Rattle.scenarios.specs.Turns.{IsTurn}
+use Rattle.scenarios.specs.Turns.{IsCommand, IsNumberOf, IsTurn, IsTurnOf, NamesOneOf}
 use Rattle.turns.specs.declared.turn.Turn.{Turn}
 use Rattle.turns.specs.declared.turn.Act.TheVariants as act
 use Rattle.turns.specs.declared.turn.Turn.TheVariants as turn
 use Rattle.jobs_in_flight.specs.Jobs.{is_open, job_at, most_turns}
 use Rattle.orch_core.specs.Rounds.{after_turns, round_of}
-use Rattle.orch_core.proofs.Finishing.{Ran-append, turns-round}
+use Rattle.orch_core.proofs.Finishing.{Ran-append, named-round, turns-round}
 use Rattle.orch_core.specs.Runs.{Held, LeadsTo, Recorded, engine, held_run, held_step, recorder, run_turns, turns_of}
 use Rattle.std.proofs.lemmas.Option.{same_Some}
-use Rattle.kept_rows.specs.Rows.{IsRising, changed}
+use Rattle.kept_rows.specs.Rows.{IsRising, changed, row_in}
 use Rattle.opening_book.specs.Following.{FollowAudit}
 use Rattle.orch_core.specs.Keeping.{Ran}
 use Rattle.run_laws.specs.KeptRows.{held_from}
 use Rattle.run_laws.proofs.Audits.{Follow-whole, FollowAudit-whole}
 use Rattle.orch_core.specs.Scenarios.{StartsBy, kept_at_start, start, start_changes, without_turns}
-use Rattle.orch_core.specs.States.{State}
+use Rattle.orch_core.specs.States.{State, nodes_of}
 use Rattle.run_laws.specs.Ready.{Ready}
 use Rattle.recovery_runs.specs.Finishes.{IsFinish}
 use Rattle.run_laws.specs.Runs.{ComesTo}
@@ -37,7 +38,7 @@ use Rattle.run_laws.proofs.JobTurns.{named-job, others-stay}
 use Rattle.run_laws.proofs.Failures.{plans-done, plans-fail, spends-last}
 use Rattle.run_laws.proofs.Lines.{scan-tries}
 use Rattle.run_laws.proofs.Lowest.{lowest-refuses}
-use Rattle.run_laws.proofs.Counting.{apart-comes}
+use Rattle.run_laws.proofs.Counting.{apart-comes, reckoned-comes}
 use Rattle.run_laws.proofs.Marks.{found-end, matches-end}
 use Rattle.run_laws.proofs.Aims.{turn-aimed}
 use Rattle.run_laws.proofs.Fates.{restart-comes, turn-fates}
@@ -53,26 +54,24 @@ use Rattle.scenario_reader.proofs.Sound.{scenario_in_sound}
 use Rattle.tasks.specs.declared.asked.Asked.{Asked}
 use Rattle.tasks.specs.declared.asked.Asked.TheVariants as asked
 use Rattle.tasks.specs.declared.asked.Task.{Task}
-use Rattle.tasks.specs.Asked.{AskOfRead, IsAsked, IsTaken, asked_of, own_turns, task_of}
+use Rattle.tasks.specs.Asked.{AskOfRead, IsAsked, IsTaken, asked_of, task_of}
 use Rattle.tasks.specs.Closing.{closing, closing_by, own_job, rounds_of, rounds_while}
-use Rattle.tasks.specs.Endings.{IsOn, IsOnRounds, IsOnTurns, course_of}
-use Rattle.tasks.specs.Works.{Comes, Work, turns_in}
+use Rattle.tasks.specs.Endings.{IsOn, IsOnOwn, IsOnTurns, course_of}
+use Rattle.tasks.specs.Stages.{SomeTaken, Stage, active_in, claim_ahead, claim_without, command_as, is_alone, own_turn, stages, taker}
+use Rattle.tasks.specs.Works.{Comes, Work}
 use Rattle.tasks.proofs.Courses.{run_state}
+use Rattle.tasks.proofs.Stages.{some_ran}
+use Rattle.tasks.proofs.Takers.{taker_is}
 use Rattle.tasks.proofs.Words.{asked_is}
 use Rattle.unended_jobs.specs.declared.docket.Docket.{Docket}
 use Rattle.unended_jobs.specs.declared.unended.Unended.TheVariants as unended
 use Rattle.top_call.specs.Ends.{IsTask}
-use Rattle.top_call.specs.Runs.{BeginApart, BeginsApart, Finishes, FinishWell, IsSafeRun, IsSafeState, OwnRestartKeepsAll, TellHooks, TellsHooks, TellTruly, TellsTruly, ObeysTable, AreSoFar, Through}
+use Rattle.top_call.specs.Runs.{BeginApart, BeginsApart, Finishes, FinishWell, IsSafeRun, IsSafeState, OwnClaimRow, OwnRestartKeepsAll, TellTruly, TellsTruly, Obeys, ObeysTable, AreSoFar, Through, ActAlone, IsActiveAlone, TellHooks, TellsHooks}
+use Rattle.run_laws.specs.Claims.{IsClaimRow, claim_key}
+use Rattle.run_laws.proofs.ClaimKept.{claim-row-whole}
+use Rattle.run_laws.proofs.NodeClaims.{acting-alone, begun-since, every-kept, every-many, every-one, every-reached, lapsed-idle, passing-drops, passing-restarts, waits}
 
 -- ---- the turns
-
-own_taken : (count : ℕ) (a : Asked) → IsAsked count a → All (IsTurn count) (own_turns a)
-own_taken count asked.Run is = All-nil (IsTurn count)
-own_taken count asked.Summary is = All-nil (IsTurn count)
-own_taken count asked.Dump is = All-nil (IsTurn count)
-own_taken count asked.Unknown is = All-nil (IsTurn count)
-own_taken count (asked.Turn t) is = All-cons (IsTurn count) (turn.Act (act.Command t)) [] is (All-nil (IsTurn count))
-own_taken count asked.Nothing is = absurd is
 
 -- the task of words that are taken has a turn over the servers
 pub asked_in_task : (p : Places) (names : List HostPort) (s : Scenario) (t : Task) → IsTaken p → AskOfRead p → names ≡ names_of s → t ≡ task_of p names → IsAsked (length s.opening.servers) t.asked
@@ -81,11 +80,9 @@ asked_in_task p names s t taken asks named is =
     let here : IsAsked (length s.opening.servers) (asked_of p (names_of s)) = subst (λ (n : ℕ). IsAsked n (asked_of p (names_of s))) (length-map s.opening.servers (λ i. i.settings.name)) own in
     subst (λ (u : Task). IsAsked (length s.opening.servers) u.asked) (sym (is ∙ ap (task_of p) named)) here
 
-work_turns : (words : List (List ℕ)) (bytes : List ℕ) (w : Work) (k : ℕ) → IsTask words bytes w → IsScenario w.scenario → All (IsTurn (length w.scenario.opening.servers)) (take k (turns_in w))
-work_turns words bytes w k is scenario =
-    let count = length w.scenario.opening.servers in
-    let own : IsAsked count w.task.asked = asked_in_task is.places (names_of w.scenario) w.scenario w.task (words, is.taken) is.asks refl is.task in
-    All-take (IsTurn count) k (w.scenario.turns ++ own_turns w.task.asked) (All-append (IsTurn count) w.scenario.turns (own_turns w.task.asked) scenario.turns (own_taken count w.task.asked own))
+-- the scenario's turns are turns over its servers
+scenario_turns : (s : Scenario) → IsScenario s → All (IsTurnOf (length s.opening.servers) s.nodes) s.turns
+scenario_turns s is = λ j d less. (is.turns j d less, is.named j d less)
 
 -- ---- the rows at each turn
 
@@ -136,7 +133,7 @@ module _ (s : Scenario) (wait : ℕ) (old new : List Row) (begun : State) (ts : 
 -- ---- laws of each run
 
 -- any turns over the servers
-module _ (w : Work) (ts : List Turn) (kept : Option (List Row)) (run : Recorded) (scenario : IsScenario w.scenario) (all : All (IsTurn (length w.scenario.opening.servers)) ts) (comes : Comes w ts kept run) where
+module _ (w : Work) (ts : List Turn) (kept : Option (List Row)) (run : Recorded) (scenario : IsScenario w.scenario) (all : All (IsTurnOf (length w.scenario.opening.servers) w.scenario.nodes) ts) (comes : Comes w ts kept run) where
   found : Through w.scenario w.task.waits ts run.state
   found = along w.scenario w.task.waits w.old comes.begun ts run comes.opens comes.ran.state
 
@@ -146,7 +143,8 @@ module _ (w : Work) (ts : List Turn) (kept : Option (List Row)) (run : Recorded)
     scenario = scenario;
     wait = w.task.waits;
     rows = by.rows;
-    turns = subst (All (IsTurn (length w.scenario.opening.servers))) (sym by.turns) all;
+    turns = subst (All (IsTurn (length w.scenario.opening.servers))) (sym by.turns) (λ k d less. (all k d less).0);
+    named = subst (All (NamesOneOf w.scenario.nodes)) (sym by.turns) (λ k d less. (all k d less).1);
     state = by.state;
   }
 
@@ -156,7 +154,7 @@ module _ (w : Work) (ts : List Turn) (kept : Option (List Row)) (run : Recorded)
   goes : Goes (length w.scenario.opening.servers) run.state
   goes = Goes-comes w.scenario found.xs run.state comes_to
 
-  holds : IsSafeState run.state
+  pub holds : IsSafeState run.state
   holds = record {
     placed = goes.held.flight.placed;
     held = goes.held;
@@ -177,6 +175,19 @@ module _ (w : Work) (ts : List Turn) (kept : Option (List Row)) (run : Recorded)
   ready : Ready (length w.scenario.opening.servers) run.state
   ready = goes.ready
 
+  nodes_stay : nodes_of run.state ≡ w.scenario.nodes
+  nodes_stay = every-many w.scenario found.xs run.state comes_to
+
+  own_row : kept ≡ w.new → OwnClaimRow w run.state
+  own_row is old new before behind rising fit =
+      let n = length w.scenario.opening.servers in
+      let opens = subst (λ (o : Option (List Row)). StartsBy o w.scenario w.task.waits comes.begun) before comes.opens in
+      let from = subst (λ (o : Option (List Row)). Ran recorder (kept_at_start true o w.scenario) (without_turns comes.begun) ts kept run) before comes.ran in
+      let ran = subst (λ (o : Option (List Row)). Ran recorder (kept_at_start true (Some old) w.scenario) (without_turns comes.begun) ts o run) (is ∙ behind) from in
+      let same = own_follows w.scenario w.task.waits old new comes.begun ts run opens ran in
+      let fits : (held_from w.scenario w.task.waits old ts).state.audit.next ≤ 2 ^ 64 = subst (λ (h : Held State). h.state.audit.next ≤ 2 ^ 64) (sym same) fit in
+      subst (λ (h : Held State). IsClaimRow n (row_in h.rows claim_key) h.state.claims.kept) same (claim-row-whole w.scenario w.task.waits old ts scenario rising (λ k d less. (all k d less).0) fits)
+
   own_restart : kept ≡ w.new → OwnRestartKeepsAll w run.state
   own_restart is old new before behind rising fit =
       let n = length w.scenario.opening.servers in
@@ -186,10 +197,10 @@ module _ (w : Work) (ts : List Turn) (kept : Option (List Row)) (run : Recorded)
       let same = own_follows w.scenario w.task.waits old new comes.begun ts run opens ran in
       let fits : (held_from w.scenario w.task.waits old ts).state.audit.next ≤ 2 ^ 64 = subst (λ (h : Held State). h.state.audit.next ≤ 2 ^ 64) (sym same) fit in
       restart-comes w.scenario found.xs run.state new comes_to
-      (subst (λ (h : Held State). IsRising h.rows) same (Follow-whole w.scenario w.task.waits old ts scenario rising all fits).rising)
-      (subst (λ (h : Held State). FollowAudit n h.rows h.state.audit) same (FollowAudit-whole w.scenario w.task.waits old ts scenario rising all fits))
+      (subst (λ (h : Held State). IsRising h.rows) same (Follow-whole w.scenario w.task.waits old ts scenario rising (λ k d less. (all k d less).0) fits).rising)
+      (subst (λ (h : Held State). FollowAudit n h.rows h.state.audit) same (FollowAudit-whole w.scenario w.task.waits old ts scenario rising (λ k d less. (all k d less).0) fits))
 
-  begins : kept ≡ w.new → (rows : List Row) (t : Turn) → BeginsApart w rows run.state t
+  pub begins : kept ≡ w.new → (rows : List Row) (t : Turn) → BeginsApart w rows run.state t
   begins is rows t = record {
     apart = apart-in-turn w.scenario found.xs run.state t comes_to;
     periods = periods-in-turn w.scenario found.xs run.state t comes_to;
@@ -200,11 +211,26 @@ module _ (w : Work) (ts : List Turn) (kept : Option (List Row)) (run : Recorded)
     scans = record { tries = scan-tries run.state; joins = refl; leases = refl; kept = refl };
   }
 
-  finishes : (rows : List Row) (id : ℕ) (r : Recovery) (docket : Docket) (lines : List Line) → IsFinish run.state id r docket lines → Finishes w ts rows run.state id r docket lines
+  pub alone : kept ≡ w.new → IsActiveAlone w run.state
+  alone is =
+      let reached = every-reached w.scenario found.xs run.state comes_to in
+      record {
+        one = every-one w.scenario found.xs run.state comes_to;
+        kept = every-kept w.scenario found.xs run.state comes_to;
+        acting = λ t. acting-alone run.state t reached;
+        lapsed = λ t. lapsed-idle run.state t;
+        waits = λ t. waits run.state t;
+        restart = λ t. passing-restarts run.state t;
+        jobs = λ t. passing-drops run.state t;
+        since = λ t. begun-since (length w.scenario.opening.servers) run.state t (reckoned-comes w.scenario found.xs run.state comes_to);
+        row = own_row is;
+      }
+
+  pub finishes : (rows : List Row) (id : ℕ) (r : Recovery) (docket : Docket) (lines : List Line) → IsFinish run.state id r docket lines → Finishes w ts rows run.state id r docket lines
   unfolding comes_by
   finishes rows id r docket lines is = record { through = found; well = λ by. finish-comes w.scenario by.xs run.state (comes_by by) rows id r docket lines is }
 
-  loses : (id : ℕ) (r : Recovery) (docket : Docket) → job_at run.state.jobs id ≡ Some (unended.Recovery r docket) → TellsTruly w ts run.state id r docket
+  pub loses : (id : ℕ) (r : Recovery) (docket : Docket) → job_at run.state.jobs id ≡ Some (unended.Recovery r docket) → TellsTruly w ts run.state id r docket
   unfolding comes_by
   loses id r docket at = record {
     through = found;
@@ -212,7 +238,7 @@ module _ (w : Work) (ts : List Turn) (kept : Option (List Row)) (run : Recorded)
     told = λ by P explains here. told-next w.scenario by.xs run.state (comes_by by) P id r docket explains here at;
   }
 
-  hooks : (rows : List Row) (id : ℕ) (r : Recovery) (docket : Docket) → job_at run.state.jobs id ≡ Some (unended.Recovery r docket) → TellsHooks w ts rows run.state id r docket
+  pub hooks : (rows : List Row) (id : ℕ) (r : Recovery) (docket : Docket) → job_at run.state.jobs id ≡ Some (unended.Recovery r docket) → TellsHooks w ts rows run.state id r docket
   unfolding comes_by
   hooks rows id r docket at = record {
     through = found;
@@ -223,58 +249,119 @@ module _ (w : Work) (ts : List Turn) (kept : Option (List Row)) (run : Recorded)
   }
 
 -- the turns of rounds are turns over the servers
-module _ (count : ℕ) where
-  while_turns : (round : List Turn) → All (IsTurn count) round → (n : ℕ) (s : State) (job : ℕ) → All (IsTurn count) (rounds_while round n s job)
-  while_turns round all zero s job = All-nil (IsTurn count)
+module _ (count nodes : ℕ) where
+  while_turns : (round : List Turn) → All (IsTurnOf count nodes) round → (n : ℕ) (s : State) (job : ℕ) → All (IsTurnOf count nodes) (rounds_while round n s job)
+  while_turns round all zero s job = All-nil (IsTurnOf count nodes)
   while_turns round all (suc n) s job = go (is_open s.jobs job) (while_turns round all n (after_turns s round) job)
     where
-      go : (b : Bool) → All (IsTurn count) (rounds_while round n (after_turns s round) job) → All (IsTurn count) (cond b (round ++ rounds_while round n (after_turns s round) job) [])
-      go true later = All-append (IsTurn count) round (rounds_while round n (after_turns s round) job) all later
-      go false later = All-nil (IsTurn count)
+      go : (b : Bool) → All (IsTurnOf count nodes) (rounds_while round n (after_turns s round) job) → All (IsTurnOf count nodes) (cond b (round ++ rounds_while round n (after_turns s round) job) [])
+      go true later = All-append (IsTurnOf count nodes) round (rounds_while round n (after_turns s round) job) all later
+      go false later = All-nil (IsTurnOf count nodes)
 
-  rounds_turns : (s : State) (job : ℕ) → length s.book.names ≡ count → All (IsTurn count) (rounds_of s job)
+  rounds_turns : (s : State) (job : ℕ) → length s.book.names ≡ count → All (IsTurnOf count nodes) (rounds_of s job)
   unfolding rounds_of
   rounds_turns s job counts =
       while_turns (round_of s job)
-      (turns-round count (by_name s.book.names) job (subst (λ (n : ℕ). All (λ (server : ServerNo). server.0 < n) (by_name s.book.names)) counts (by_name-within s.book.names)))
+      (λ k d less. (
+        turns-round count (by_name s.book.names) job (subst (λ (n : ℕ). All (λ (server : ServerNo). server.0 < n) (by_name s.book.names)) counts (by_name-within s.book.names)) k d less,
+        named-round nodes (by_name s.book.names) job k d less,
+      ))
       (most_turns s.jobs job) s job
 
-  closing_turns : (a : Asked) (run : Recorded) → length run.state.book.names ≡ count → All (IsTurn count) (closing a run)
-  closing_turns a run counts = go (own_job a run)
+  closing_turns : (run : Recorded) → length run.state.book.names ≡ count → All (IsTurnOf count nodes) (closing run)
+  closing_turns run counts = go (own_job run)
     where
-      go : (o : Option ℕ) → All (IsTurn count) (closing_by o run.state)
-      go None = All-nil (IsTurn count)
+      go : (o : Option ℕ) → All (IsTurnOf count nodes) (closing_by o run.state)
+      go None = All-nil (IsTurnOf count nodes)
       go (Some job) = rounds_turns run.state job counts
+
+-- each stage's turns are turns over the servers, by a run over them
+abbrev AreOver : ℕ → ℕ → Stage → Type 0
+AreOver count nodes x = (run : Recorded) → length run.state.book.names ≡ count → nodes_of run.state ≡ nodes → All (IsTurnOf count nodes) (x run)
+
+abbrev AllOver : ℕ → ℕ → List Stage → Type 0
+AllOver count nodes [] = Unit {0}
+AllOver count nodes (x ∷ xs) = AreOver count nodes x × AllOver count nodes xs
+
+module _ (count nodes : ℕ) (some : 1 ≤ nodes) where
+  one_of : (o : Option Turn) → IfSome o (IsTurnOf count nodes) → All (IsTurnOf count nodes) (option_to_list o)
+  one_of None is = All-nil (IsTurnOf count nodes)
+  one_of (Some t) is = All-cons (IsTurnOf count nodes) t [] is (All-nil (IsTurnOf count nodes))
+
+  claim_is : (s : State) → IfSome (claim_ahead s) (IsTurnOf count nodes)
+  claim_is s = by (is_alone s) (active_in s)
+    where
+      by : (b : Bool) (o : Option ℕ) → IfSome (cond b None (claim_without o)) (IsTurnOf count nodes)
+      by true o = tt
+      by false (Some node) = tt
+      by false None = (tt, (omega arith, some))
+
+  own_is : (c : CommandTurn) (s : State) → IsCommand count c → nodes_of s ≡ nodes → IfSome (own_turn c s) (IsTurnOf count nodes)
+  own_is c s is here = by (is_alone s) (taker s) (taker_is s (subst (λ (n : ℕ). 1 ≤ n) (sym here) some))
+    where
+      by : (b : Bool) (o : Option ℕ) → IfSome o (IsNumberOf (nodes_of s)) → IfSome (cond b (Some (turn.Act (act.Command c))) (command_as c o)) (IsTurnOf count nodes)
+      by true o of = (is, tt)
+      by false (Some node) of = (is, subst (λ (n : ℕ). IsNumberOf n node) here of)
+      by false None of = tt
+
+  stages_over : (a : Asked) → IsAsked count a → AllOver count nodes (stages a)
+  stages_over asked.Run is = tt
+  stages_over asked.Summary is = tt
+  stages_over asked.Dump is = tt
+  stages_over (asked.Turn c) is = (
+    λ run names here. one_of (claim_ahead run.state) (claim_is run.state),
+    (λ run names here. one_of (own_turn c run.state) (own_is c run.state is here), (λ run names here. closing_turns count nodes run names, tt)),
+  )
+  stages_over asked.Unknown is = tt
+  stages_over asked.Nothing is = absurd is
 
 -- what holds behind any turns over the servers holds behind those so far
 module _ (words : List (List ℕ)) (bytes : List ℕ) (w : Work) (run : Recorded) (is : IsTask words bytes w) (P : List Turn → Type 0)
-    (each : (ts : List Turn) → IsScenario w.scenario → All (IsTurn (length w.scenario.opening.servers)) ts → Comes w ts w.new run → P ts) where
-  in_turns : (at : IsOnTurns (course_of w) run) → P (take at.k (turns_in w))
-  in_turns at =
-      let scenario = scenario_in_sound bytes w.scenario is.read in
-      each (take at.k (turns_in w)) scenario (work_turns words bytes w at.k is scenario) at.comes
+    (each : (ts : List Turn) → IsScenario w.scenario → All (IsTurnOf (length w.scenario.opening.servers) w.scenario.nodes) ts → Comes w ts w.new run → P ts) where
+  scenario : IsScenario w.scenario
+  scenario = scenario_in_sound bytes w.scenario is.read
 
-  in_rounds : (at : IsOnRounds (course_of w) run) → P (turns_in w ++ take at.k (closing w.task.asked at.mid))
-  in_rounds at =
-      let scenario = scenario_in_sound bytes w.scenario is.read in
+  abbrev Over : Turn → Type 0
+  Over = IsTurnOf (length w.scenario.opening.servers) w.scenario.nodes
+
+  in_turns : (at : IsOnTurns (course_of w) run) → P (take at.k w.scenario.turns)
+  in_turns at = each (take at.k w.scenario.turns) scenario (All-take Over at.k w.scenario.turns (scenario_turns w.scenario scenario)) at.comes
+
+  -- turns behind others
+  on_from : (ts us : List Turn) (rows kept : Option (List Row)) (mid now : Recorded) → Comes w ts rows mid → Ran recorder rows mid us kept now → Comes w (ts ++ us) kept now
+  on_from ts us rows kept mid now came ran =
+      record { begun = came.begun; opens = came.opens; ran = Ran-append recorder (kept_at_start true w.old w.scenario) rows kept (without_turns came.begun) mid now ts us came.ran ran }
+
+  in_stages : (xs : List Stage) → AllOver (length w.scenario.opening.servers) w.scenario.nodes xs → (ts us : List Turn) (rows : Option (List Row)) (mid : Recorded) → All Over ts → Comes w ts rows mid → SomeTaken w.new run xs rows mid us → All Over us
+  in_stages [] over ts us rows mid all came end = subst (All Over) (sym end.none) (All-nil Over)
+  in_stages (x ∷ xs) over ts us rows mid all came (inl some) =
+      subst (All Over) (sym some.are) (All-take Over some.k (x mid) (over.0 mid (ready w ts rows mid scenario all came).names (nodes_stay w ts rows mid scenario all came)))
+  in_stages (x ∷ xs) over ts us rows mid all came (inr some) =
+      let here = over.0 mid (ready w ts rows mid scenario all came).names (nodes_stay w ts rows mid scenario all came) in
+      subst (All Over) (sym some.are)
+      (All-append Over (x mid) some.rest here
+      (in_stages xs over.1 (ts ++ x mid) some.rest some.at_rows some.at (All-append Over ts (x mid) all here) (on_from ts (x mid) rows some.at_rows mid some.at came some.taken) some.on))
+
+  in_own : (at : IsOnOwn (course_of w) run) → P (w.scenario.turns ++ at.ts)
+  in_own at =
       let count = length w.scenario.opening.servers in
-      let own : All (IsTurn count) (turns_in w) = subst (All (IsTurn count)) (take-length (turns_in w)) (work_turns words bytes w (length (turns_in w)) is scenario) in
-      let mid = ready w (turns_in w) at.rows at.mid scenario own at.came in
-      let us = take at.k (closing w.task.asked at.mid) in
-      let more : All (IsTurn count) us = All-take (IsTurn count) at.k (closing w.task.asked at.mid) (closing_turns count w.task.asked at.mid mid.names) in
-      each (turns_in w ++ us) scenario (All-append (IsTurn count) (turns_in w) us own more)
-      (record { begun = at.came.begun; opens = at.came.opens; ran = Ran-append recorder (kept_at_start true w.old w.scenario) at.rows w.new (without_turns at.came.begun) at.mid run (turns_in w) us at.came.ran at.ran })
+      let asks : IsAsked count w.task.asked = asked_in_task is.places (names_of w.scenario) w.scenario w.task (words, is.taken) is.asks refl is.task in
+      let over = stages_over count w.scenario.nodes scenario.some_node w.task.asked asks in
+      let own = scenario_turns w.scenario scenario in
+      let more = in_stages (stages w.task.asked) over w.scenario.turns at.ts at.rows at.mid own at.came at.own in
+      each (w.scenario.turns ++ at.ts) scenario (All-append Over w.scenario.turns at.ts own more)
+      (on_from w.scenario.turns at.ts at.rows w.new at.mid run at.came (some_ran w.new run (stages w.task.asked) at.rows at.mid at.ts at.own))
 
   so_far : (ts : List Turn) → AreSoFar w run ts → P ts
   so_far ts (inl x) = subst P (sym x.are) (in_turns x.at)
-  so_far ts (inr x) = subst P (sym x.are) (in_rounds x.at)
+  so_far ts (inr x) = subst P (sym x.are) (in_own x.at)
 
 -- where it says nothing of the turns
 module _ (words : List (List ℕ)) (bytes : List ℕ) (w : Work) (run : Recorded) (is : IsTask words bytes w) (Q : Type 0)
-    (each : (ts : List Turn) → IsScenario w.scenario → All (IsTurn (length w.scenario.opening.servers)) ts → Comes w ts w.new run → Q) where
+    (each : (ts : List Turn) → IsScenario w.scenario → All (IsTurnOf (length w.scenario.opening.servers) w.scenario.nodes) ts → Comes w ts w.new run → Q) where
   on_each : IsOn (course_of w) run → Q
   on_each (inl at) = in_turns words bytes w run is (λ ts. Q) each at
-  on_each (inr at) = in_rounds words bytes w run is (λ ts. Q) each at
+  on_each (inr at) = in_own words bytes w run is (λ ts. Q) each at
 
 pub safe_run : (words : List (List ℕ)) (bytes : List ℕ) → IsSafeRun words bytes
 safe_run words bytes = λ w run is on. on_each words bytes w run is (IsSafeState run.state) (λ ts scenario all comes. holds w ts w.new run scenario all comes) on
@@ -295,21 +382,27 @@ pub tell_hooks : (words : List (List ℕ)) (bytes : List ℕ) → TellHooks word
 tell_hooks words bytes = λ w run ts rows id r docket is on at.
     so_far words bytes w run is (λ us. TellsHooks w us rows run.state id r docket) (λ us scenario all comes. hooks w us w.new run scenario all comes rows id r docket at) ts on
 
-pub obeys : (words : List (List ℕ)) (bytes : List ℕ) → ObeysTable words bytes
-obeys words bytes = λ w k kept run rows c is comes here. record {
-  answer = answers_by_table run.state c;
-  lowest = lowest-refuses run.state c.command;
-  refused = refused_changes_nothing rows run.state c;
+pub obeys_at : (rows : List Row) (s : State) (c : CommandTurn) → Obeys rows s c
+obeys_at rows s c = record {
+  answer = answers_by_table s c;
+  lowest = lowest-refuses s c.command;
+  refused = refused_changes_nothing rows s c;
   begun = λ job begins.
-      let x = begun_there run.state c job begins in
+      let x = begun_there s c job begins in
       record {
         begun = x.0;
         is_begun = x.1;
-        number = begun_number run.state c job begins;
-        joins = begun_joins run.state c x.0 x.1 rows;
-        leases = begun_leased run.state c x.0 x.1 rows;
-        audit = begun_logged run.state c x.0 x.1 rows;
-        kept = begun_kept run.state c x.0 x.1 rows;
-        waits = spends-last run.state c.command x.0 x.1;
+        number = begun_number s c job begins;
+        joins = begun_joins s c x.0 x.1 rows;
+        leases = begun_leased s c x.0 x.1 rows;
+        audit = begun_logged s c x.0 x.1 rows;
+        kept = begun_kept s c x.0 x.1 rows;
+        waits = spends-last s c.command x.0 x.1;
       };
 }
+
+pub obeys : (words : List (List ℕ)) (bytes : List ℕ) → ObeysTable words bytes
+obeys words bytes = λ w run rows c is on. obeys_at rows run.state c
+
+pub active_alone : (words : List (List ℕ)) (bytes : List ℕ) → ActAlone words bytes
+active_alone words bytes = λ w run is on. on_each words bytes w run is (IsActiveAlone w run.state) (λ ts scenario all comes. alone w ts w.new run scenario all comes refl) on

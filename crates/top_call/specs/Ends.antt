@@ -155,24 +155,24 @@ pub record IsUsage (words : List (List ℕ)) (status : ℕ) : Type 0 where
   pub only : status ≡ 1 → places_of words ≡ Err BadWords
   pub always : places_of words ≡ Err BadWords → (status ≡ 1) ⊎ (status ≡ 6)
 
--- 2 exactly where the bytes have a fault, unless the source failed or memory ran out
-pub record FaultsBy (bytes : List ℕ) (status : ℕ) : Type 0 where
-  pub only : status ≡ 2 → (f : Fault) × (scenario_in bytes ≡ Err f)
-  pub always : (f : Fault) → scenario_in bytes ≡ Err f → (status ≡ 2) ⊎ (status ≡ 3) ⊎ (status ≡ 6)
+-- 2 exactly where what is read is a fault, unless the source failed or memory ran out
+pub record FaultsBy (read : Result Scenario Fault) (status : ℕ) : Type 0 where
+  pub only : status ≡ 2 → (f : Fault) × (read ≡ Err f)
+  pub always : (f : Fault) → read ≡ Err f → (status ≡ 2) ⊎ (status ≡ 3) ⊎ (status ≡ 6)
 
 -- so it is of words that ask of a scenario that is read, and of those that draw one it isn't 2
-abbrev pub FaultsFor : Option Drawing → List ℕ → ℕ → Type 0
-FaultsFor None bytes status = FaultsBy bytes status
-FaultsFor (Some d) bytes status = status ≡ 2 → ⊥
+abbrev pub FaultsFor : Option Drawing → Result Scenario Fault → ℕ → Type 0
+FaultsFor None read status = FaultsBy read status
+FaultsFor (Some d) read status = status ≡ 2 → ⊥
 
 -- nor is it where the words aren't taken
-abbrev pub FaultsAs : Result Places Usage → List ℕ → ℕ → Type 0
-FaultsAs (Ok p) bytes status = FaultsFor (drawing_of p) bytes status
-FaultsAs (Err usage) bytes status = status ≡ 2 → ⊥
+abbrev pub FaultsAs : Result Places Usage → Result Scenario Fault → ℕ → Type 0
+FaultsAs (Ok p) read status = FaultsFor (drawing_of p) read status
+FaultsAs (Err usage) read status = status ≡ 2 → ⊥
 
 -- so it is of words over the bytes that the source had, where they are known
 abbrev pub FaultsOf : List (List ℕ) → Option (List ℕ) → ℕ → Type 0
-FaultsOf words left status = IfSome left (λ bytes. FaultsAs (places_of words) bytes status)
+FaultsOf words left status = IfSome left (λ bytes. FaultsAs (places_of words) (scenario_in bytes) status)
 
 -- The keeper's first fault ends the call: its count rose once at 5, so not before the turn that met the fault, nor after
 -- it; perhaps at 4, where what was left of the report couldn't be written; and with any other status it didn't rise.

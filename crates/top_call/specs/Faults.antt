@@ -30,9 +30,9 @@ code_text code.BadPattern = codes "21 BadPattern"
 code_text code.BadVersion = codes "22 BadVersion"
 code_text code.BadTurn = codes "23 BadTurn"
 code_text code.BadCommand = codes "24 BadCommand"
-code_text code.NotBuilt = codes "25 NotBuilt"
 code_text code.AutoWithoutGtid = codes "26 AutoWithoutGtid"
 code_text code.BadHook = codes "27 BadHook"
+code_text code.NodeTurn = codes "28 NodeTurn"
 
 -- a path stands behind a space; nothing stands for the whole text's
 abbrev pub path_text : List ℕ → List ℕ

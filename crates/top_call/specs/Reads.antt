@@ -1,9 +1,9 @@
--- Whether bytes were read as a scenario.
+-- Whether a scenario was read.
 use Rattle.std.specs.Prelude.{◌≡◌, ℕ, ⊤, List, Option, Some, None, Result, Ok, Err}
 use Rattle.scenarios.specs.declared.scenario.Scenario.{Scenario}
+use Rattle.scenario_values.specs.declared.fault.Fault.{Fault}
 use Rattle.scenario_values.specs.declared.fault.ReadFault.{ReadFault}
 use Rattle.scenario_values.specs.declared.fault.ReadFault.TheVariants as reading
-use Rattle.scenario_reader.specs.Scenarios.{scenario_in}
 use Rattle.top_call.specs.declared.reading.Stop.{Stop}
 use Rattle.top_call.specs.declared.reading.Stop.TheVariants as stops
 
@@ -17,9 +17,9 @@ abbrev pub stop_by : ReadFault → Stop
 stop_by reading.Memory = stops.Memory
 stop_by (reading.Fault f) = stops.Fault f
 
--- the scenario that the bytes are, or their fault
-abbrev pub ReadsAs : List ℕ → Result Scenario Stop → Type 0
-ReadsAs bytes (Ok s) = scenario_in bytes ≡ Ok s
-ReadsAs bytes (Err stops.Memory) = ⊤
-ReadsAs bytes (Err stops.Source) = ⊤
-ReadsAs bytes (Err (stops.Fault f)) = scenario_in bytes ≡ Err f
+-- what reading gives is this scenario, or this fault
+abbrev pub ReadsAs : Result Scenario Fault → Result Scenario Stop → Type 0
+ReadsAs read (Ok s) = read ≡ Ok s
+ReadsAs read (Err stops.Memory) = ⊤
+ReadsAs read (Err stops.Source) = ⊤
+ReadsAs read (Err (stops.Fault f)) = read ≡ Err f

@@ -1,11 +1,11 @@
 -- What holds of each run of the turns that words take over the scenario that bytes are, whatever rows the keeper hands
 -- back: of the run of a call's report, too.
-use Rattle.std.specs.Prelude.{All, ◌≡◌, ℕ, ◌+◌, ◌^◌, ◌≤◌, Bool, false, List, [], ◌∷◌, ◌++◌, length, map, slice_get, take, ◌⊎◌, Option, Some}
+use Rattle.std.specs.Prelude.{All, ◌≡◌, ℕ, ◌+◌, ◌^◌, ◌≤◌, Bool, false, List, [], ◌∷◌, ◌++◌, length, map, take, ◌⊎◌, Some}
 use Rattle.kept_rows.specs.declared.row.Row.{Row}
 use Rattle.server_model.specs.Safe.{Safe, Placed, IsQuiet}
 use Rattle.audit_log.specs.Apart.{IsApart}
 use Rattle.audit_log.specs.Audits.{closed}
-use Rattle.kept_rows.specs.Rows.{IsRising}
+use Rattle.kept_rows.specs.Rows.{IsRising, row_in}
 use Rattle.orch_core.specs.Restarts.{interrupted_at}
 use Rattle.run_laws.specs.Begins.{BeginApartInTurn}
 use Rattle.run_laws.specs.Marks.{FoundMatchesEnd, MatchesEnd}
@@ -40,12 +40,11 @@ use Rattle.run_laws.specs.JobEntries.{EntriesHaveJobs}
 use Rattle.run_laws.specs.Failures.{PlansAreDone, PlansFailForWhatBefell, SpendsWaitsLast}
 use Rattle.run_laws.specs.Lowest.{RefusedByLowest}
 use Rattle.run_laws.specs.Jobs.{JobsHaveLeases, JobsLeaveOthers, LeasesNameJobs}
-use Rattle.orch_core.specs.Keeping.{asks}
 use Rattle.orch_core.specs.Permission.{IsAnswer, refusal_at}
 use Rattle.orch_core.specs.Polls.{changes_of}
 use Rattle.orch_core.specs.Replies.{reply_of}
 use Rattle.orch_core.specs.After.{step}
-use Rattle.orch_core.specs.Runs.{Recorded, engine, run_turns, turns_of}
+use Rattle.orch_core.specs.Runs.{Recorded, asks, engine, run_turns, turns_of}
 use Rattle.orch_core.specs.Scenarios.{start}
 use Rattle.orch_core.specs.States.{State}
 use Rattle.recovery_plans.specs.Recoveries.{Recovery}
@@ -53,12 +52,12 @@ use Rattle.recovery_reasons.specs.Reasons.{Fact, IsExplained}
 use Rattle.recovery_runs.specs.Failing.{RecoveriesFailForWhatBefell}
 use Rattle.recovery_runs.specs.RunFinishes.{AreScenarios, FailsWell, FinishesWell}
 use Rattle.recovery_runs.specs.Origins.{Began, ExplainsAlong}
-use Rattle.tasks.specs.Closing.{closing}
-use Rattle.tasks.specs.Endings.{IsOn, IsOnRounds, IsOnTurns, course_of}
-use Rattle.tasks.specs.Works.{Comes, Work, turns_in}
+use Rattle.tasks.specs.Endings.{IsOn, IsOnOwn, IsOnTurns, course_of}
+use Rattle.tasks.specs.Works.{Work}
 use Rattle.unended_jobs.specs.declared.docket.Docket.{Docket}
 use Rattle.unended_jobs.specs.declared.unended.Unended.TheVariants as unended
 use Rattle.top_call.specs.Ends.{IsTask}
+use Rattle.run_laws.specs.Claims.{ActsWhereActive, ClaimsWait, IsClaimRow, ItsClaimIsKept, LapsedDoesNothing, OneIsActive, PassingLeavesNewJobs, PassingLeavesNoJob, PassingStartsAgain, claim_key}
 
 -- ---- states
 
@@ -85,8 +84,8 @@ pub record IsSafeState (s : State) : Type 0 where
   pub matched : IsQuiet s.world → MatchesEnd s
   pub met : IsQuiet s.world → FoundMatchesEnd s
 
--- So is every state: behind any of the scenario's turns and the command's own, and behind any turn of the rounds that
--- follow until the job that it began has ended.
+-- So is every state: behind any of the scenario's turns, the command's claim and its own turn, and behind any turn of
+-- the rounds that follow until the job that it began has ended.
 abbrev pub IsSafeRun : List (List ℕ) → List ℕ → Type 0
 IsSafeRun words bytes = (w : Work) (run : Recorded) → IsTask words bytes w → IsOn (course_of w) run → IsSafeState run.state
 
@@ -115,10 +114,9 @@ pub record Obeys (rows : List Row) (s : State) (c : CommandTurn) : Type 0 where
       → (changes_of rows s (turn.Act (act.Command c)) ≡ []) × (step rows s (turn.Act (act.Command c)) ≡ s)
   pub begun : (job : ℕ) → reply_of s (turn.Act (act.Command c)) ≡ answered.Begun job → Begins rows s c job
 
--- so each command turn does, in the state before it; rounds have none
+-- so any command turn would in every state of the run
 abbrev pub ObeysTable : List (List ℕ) → List ℕ → Type 0
-ObeysTable words bytes = (w : Work) (k : ℕ) (kept : Option (List Row)) (run : Recorded) (rows : List Row) (c : CommandTurn) → IsTask words bytes w → Comes w (take k (turns_in w)) kept run
-    → slice_get (turns_in w) k ≡ Some (turn.Act (act.Command c)) → Obeys rows run.state c
+ObeysTable words bytes = (w : Work) (run : Recorded) (rows : List Row) (c : CommandTurn) → IsTask words bytes w → IsOn (course_of w) run → Obeys rows run.state c
 
 -- ---- recoveries that begin
 
@@ -146,7 +144,7 @@ pub record BeginsApart (w : Work) (rows : List Row) (s : State) (t : Turn) : Typ
   pub apart : BeginApartInTurn (moment_at s) s.audit (entries_begun s t)
   pub periods : All (λ r. r.block ≡ period_of w.scenario r.cluster) (entries_begun s t)
   pub aims : All (IsAimed s t) (recoveries_begun s t)
-  pub all : asks t ≡ false → AuditIs rows s t
+  pub all : asks s t ≡ false → AuditIs rows s t
   pub restart : RestartKeepsAll (length w.scenario.opening.servers) rows s
   pub own : OwnRestartKeepsAll w s
   pub scans : Scans rows s
@@ -155,20 +153,46 @@ pub record BeginsApart (w : Work) (rows : List Row) (s : State) (t : Turn) : Typ
 abbrev pub BeginApart : List (List ℕ) → List ℕ → Type 0
 BeginApart words bytes = (w : Work) (run : Recorded) (rows : List Row) (t : Turn) → IsTask words bytes w → IsOn (course_of w) run → BeginsApart w rows run.state t
 
+-- ---- several orchestrators
+
+-- by the rows that are kept behind the run's turns, while the ids of recoveries fit their type
+abbrev pub OwnClaimRow : Work → State → Type 0
+OwnClaimRow w s = (old new : List Row) → w.old ≡ Some old → w.new ≡ Some new → IsRising old → s.audit.next ≤ 2 ^ 64
+    → IsClaimRow (length w.scenario.opening.servers) (row_in new claim_key) s.claims.kept
+
+-- At most one of them is active, and the kept claim is then its own. Each of their turns that doesn't lapse is the
+-- active one's, and one that lapsed does nothing. No claim is granted before another's has run out, and where one
+-- passes orchestrator starts again, so that no job is left, and the jobs of all later states were begun since. Where the
+-- keeper tells its rows, the claim's row is the kept claim's.
+pub record IsActiveAlone (w : Work) (s : State) : Type 0 where
+  pub one : OneIsActive s
+  pub kept : ItsClaimIsKept s
+  pub acting : (t : Turn) → ActsWhereActive s t
+  pub lapsed : (t : Turn) → LapsedDoesNothing s t
+  pub waits : (t : Turn) → ClaimsWait s t
+  pub restart : (t : Turn) → PassingStartsAgain s t
+  pub jobs : (t : Turn) → PassingLeavesNoJob s t
+  pub since : (t : Turn) → PassingLeavesNewJobs (length w.scenario.opening.servers) s t
+  pub row : OwnClaimRow w s
+
+-- so it is in every state of the run
+abbrev pub ActAlone : List (List ℕ) → List ℕ → Type 0
+ActAlone words bytes = (w : Work) (run : Recorded) → IsTask words bytes w → IsOn (course_of w) run → IsActiveAlone w run.state
+
 -- ---- recoveries that are done
 
--- the turns so far are some of the scenario's and the command's own
+-- the turns so far are some of the scenario's
 pub record IsInTurns (w : Work) (run : Recorded) (ts : List Turn) : Type 0 where
   pub at : IsOnTurns (course_of w) run
-  pub are : ts ≡ take at.k (turns_in w)
+  pub are : ts ≡ take at.k w.scenario.turns
 
--- or all of these and some of the rounds behind them
-pub record IsInRounds (w : Work) (run : Recorded) (ts : List Turn) : Type 0 where
-  pub at : IsOnRounds (course_of w) run
-  pub are : ts ≡ turns_in w ++ take at.k (closing w.task.asked at.mid)
+-- or all of these and some of the command's own behind them
+pub record IsInOwn (w : Work) (run : Recorded) (ts : List Turn) : Type 0 where
+  pub at : IsOnOwn (course_of w) run
+  pub are : ts ≡ w.scenario.turns ++ at.ts
 
 abbrev pub AreSoFar : Work → Recorded → List Turn → Type 0
-AreSoFar w run ts = IsInTurns w run ts ⊎ IsInRounds w run ts
+AreSoFar w run ts = IsInTurns w run ts ⊎ IsInOwn w run ts
 
 -- they lead from an opening of the scenario to this state, by some rows at the opening and at each turn
 pub record Through (s : Scenario) (wait : ℕ) (ts : List Turn) (now : State) : Type 0 where
@@ -183,7 +207,7 @@ pub record Finishes (w : Work) (ts : List Turn) (rows : List Row) (s : State) (i
   pub through : Through w.scenario w.task.waits ts s
   pub well : (by : Through w.scenario w.task.waits ts s) → FinishesWell (length w.scenario.opening.servers) (start w.scenario w.task.waits by.rows) by.xs rows s id r docket lines
 
--- so each does, in the scenario's turns and in the rounds
+-- so each does, in the scenario's turns and in the command's own
 abbrev pub FinishWell : List (List ℕ) → List ℕ → Type 0
 FinishWell words bytes = (w : Work) (run : Recorded) (ts : List Turn) (rows : List Row) (id : ℕ) (r : Recovery) (docket : Docket) (lines : List Line) → IsTask words bytes w → AreSoFar w run ts
     → IsFinish run.state id r docket lines → Finishes w ts rows run.state id r docket lines
@@ -199,7 +223,7 @@ pub record TellsTruly (w : Work) (ts : List Turn) (s : State) (id : ℕ) (r : Re
   pub began : (by : Through w.scenario w.task.waits ts s) → Began (start w.scenario w.task.waits by.rows) by.xs r docket
   pub told : (by : Through w.scenario w.task.waits ts s) (P : Fact → Bool) → ExplainsAlong P id (start w.scenario w.task.waits by.rows) by.xs → ExplainsTurn P id s (turn.Act (act.Job id)) → IsExplained P (recovery_after s r)
 
--- so each does, in the scenario's turns and in the rounds
+-- so each does, in the scenario's turns and in the command's own
 abbrev pub TellTruly : List (List ℕ) → List ℕ → Type 0
 TellTruly words bytes = (w : Work) (run : Recorded) (ts : List Turn) (id : ℕ) (r : Recovery) (docket : Docket) → IsTask words bytes w → AreSoFar w run ts
     → job_at run.state.jobs id ≡ Some (unended.Recovery r docket) → TellsTruly w ts run.state id r docket

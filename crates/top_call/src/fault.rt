@@ -35,9 +35,9 @@ fn code_text(code: FaultCode) -> &'static [u8]
         FaultCode::BadVersion => b"22 BadVersion",
         FaultCode::BadTurn => b"23 BadTurn",
         FaultCode::BadCommand => b"24 BadCommand",
-        FaultCode::NotBuilt => b"25 NotBuilt",
         FaultCode::AutoWithoutGtid => b"26 AutoWithoutGtid",
         FaultCode::BadHook => b"27 BadHook",
+        FaultCode::NodeTurn => b"28 NodeTurn",
     }
 }
 

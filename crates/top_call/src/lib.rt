@@ -1,4 +1,4 @@
-//! The top call: it does all that the words of the command line ask with a scenario.
+//! The call that does all that the words of the command line ask with a scenario, but for a run in threads.
 #![tactic(auto)]
 
 mod fault;
@@ -6,5 +6,6 @@ mod reading;
 mod top;
 mod way;
 
-pub use top::{close, orch};
+pub use reading::{Stop, scenario_from, stop_by};
+pub use top::{close, close_fault, orch_plain};
 pub use way::Way;

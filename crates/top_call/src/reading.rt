@@ -4,6 +4,7 @@ ghost use Rattle.std.specs.Prelude.{◌≡◌, IfOk, IfSome, Err};
 ghost use Rattle.std.specs.Io.KnownBytes.{Consumes};
 ghost use Rattle.orch_base.specs.Causes.{Rose};
 ghost use Rattle.scenarios.specs.Scenarios.{IsScenario};
+ghost use Rattle.scenario_reader.specs.Scenarios.{scenario_in};
 ghost use Rattle.top_call.specs.Reads.{OfRead, ReadsAs, stop_by};
 
 use orch_base::{NotRead, Source, read_all};
@@ -13,14 +14,17 @@ use std::alloc::Global;
 
 /// Why there is no scenario.
 #[derive(Drop)]
-pub(crate) enum Stop {
+pub enum Stop {
+    /// Want of memory.
     Memory,
+    /// The source failed.
     Source,
+    /// What was read has this fault.
     Fault(Fault),
 }
 
-// What stops where reading has this fault.
-fn stop_by(fault: ReadFault) -> Stop
+/// What stops where reading has this fault.
+pub fn stop_by(fault: ReadFault) -> Stop
     ensures { result ≡ stop_by fault }
 {
     match fault {
@@ -31,7 +35,7 @@ fn stop_by(fault: ReadFault) -> Stop
 
 // The scenario that these bytes are.
 fn scenario_in(alloc: Global, bytes: &[u8]) -> Result<Scenario, Stop>
-    ensures read { ReadsAs bytes.now result }
+    ensures read { ReadsAs (scenario_in bytes.now) result }
     ensures sound { IfOk result IsScenario }
     ensures not_source { result ≡ Err Stop.Source → ⊥ }
 {
@@ -42,8 +46,9 @@ fn scenario_in(alloc: Global, bytes: &[u8]) -> Result<Scenario, Stop>
 }
 
 /// Reads the source to its end: the scenario that its bytes are, or their fault.
-pub(crate) fn scenario_from<S: Source>(alloc: Global, source: &mut S) -> Result<Scenario, Stop>
-    ensures read { OfRead (S.left source.old) (λ bytes. ReadsAs bytes result) }
+pub fn scenario_from<S: Source>(alloc: Global, source: &mut S) -> Result<Scenario, Stop>
+    ensures read { OfRead (S.left source.old) (λ bytes.
+        ReadsAs (scenario_in bytes) result) }
     ensures sound { IfOk result IsScenario }
     ensures consumed { IfOk result (λ _.
         IfSome (S.left source.old) (λ bytes.

@@ -1,4 +1,4 @@
-//! The top call.
+//! The call that does what the words ask, but for a run in threads.
 
 ghost use Rattle.std.specs.Prelude.{◌≡◌, ◌≤◌, ◌⊎◌, ℕ, List, [], codes, map, IfSome, Option, Some};
 ghost use Rattle.std.specs.Io.KnownBytes.{Consumes};
@@ -14,7 +14,7 @@ ghost use Rattle.top_call.specs.Ends.{AskToDraw, DrawEnds, EndsBy, EndsOf, EndsO
 ghost use Rattle.top_call.specs.Faults.{fault_text};
 ghost use Rattle.top_call.specs.Reads.{OfRead};
 ghost use Rattle.top_call.specs.Report.{ByReport, EndsAs, KeepsRows, WritesErr, WritesOut};
-ghost use Rattle.top_call.specs.Runs.{BeginApart, FinishWell, IsSafeRun, TellHooks, TellTruly, ObeysTable};
+ghost use Rattle.top_call.specs.Runs.{ActAlone, BeginApart, FinishWell, IsSafeRun, TellHooks, TellTruly, ObeysTable};
 
 use crate::fault::fault_line;
 use crate::reading::{Stop, scenario_from};
@@ -113,8 +113,8 @@ fn report<O: Sink, E: Sink, K: Keeper>(
     }
 }
 
-// Writes the line of a scenario's fault.
-fn close_fault<E: Sink>(alloc: Global, err: &mut E, fault: &Fault) -> Way
+/// Writes the line of a scenario's fault, as far as the sink takes it.
+pub fn close_fault<E: Sink>(alloc: Global, err: &mut E, fault: &Fault) -> Way
     ensures { ((result ≡ Way.Fault) × TakesLine
         (across (E.written err.old) (E.faults err.old) (E.written err.new) (E.faults err.new))
         (fault_text fault.now))
@@ -231,7 +231,7 @@ fn respond<S: Source, O: Sink, E: Sink, K: Keeper>(
 /// Does what the words ask with the scenario that the source has, writes the report on out and what went wrong on err,
 /// and answers the program's status. What orchestrator knows is kept by the keeper: the run begins with its rows, and
 /// each change is kept before it is made. Words that ask to draw a scenario have it written on out; neither the source
-/// nor the keeper is called for them.
+/// nor the keeper is called for them. It waits for no other thread: what words ask that name `live` it does as of `run`.
 ///
 /// - 0: the report is written, and no reply in it is refused or failed; or a run's summary is, or a scenario that was
 /// drawn.
@@ -246,7 +246,7 @@ fn respond<S: Source, O: Sink, E: Sink, K: Keeper>(
 /// - 7: the report is written, and a reply in it is refused or failed; of a single command that reply is on err.
 ///
 /// Elsewhere than at 4, where err fails it has a front of its line, and the status is the same.
-pub fn orch<S: Source, O: Sink, E: Sink, K: Keeper>(
+pub fn orch_plain<S: Source, O: Sink, E: Sink, K: Keeper>(
     alloc: Global,
     words: &[Vec<u8>],
     scenario: &mut S,
@@ -325,6 +325,10 @@ pub fn orch<S: Source, O: Sink, E: Sink, K: Keeper>(
     ensures begins { (bytes : List ℕ) → BeginApart (map (λ w. w.items) words.now) bytes }
     ensures finishes { (bytes : List ℕ) → FinishWell (map (λ w. w.items) words.now) bytes }
     ensures losses { (bytes : List ℕ) → TellTruly (map (λ w. w.items) words.now) bytes }
+
+    // In every such state at most one of several orchestrators is active, and takes their turns; where a claim passes
+    // from one to another, nothing of the other is left.
+    ensures alone { (bytes : List ℕ) → ActAlone (map (λ w. w.items) words.now) bytes }
     ensures hooks { (bytes : List ℕ) → TellHooks (map (λ w. w.items) words.now) bytes }
 {
     match places(alloc, words) {

@@ -8,7 +8,7 @@ use orch_base::{
 };
 use std::alloc::Global;
 use std::test::Fail;
-use top_call::orch;
+use top_call::orch_plain;
 
 /// The words of a command line.
 pub(crate) type Words = &'static [&'static [u8]];
@@ -204,7 +204,7 @@ fn status_of(
     err: &mut MemSink,
     keeper: &mut MemKeeper,
 ) -> u8 {
-    orch(alloc, words, source, out, err, keeper)
+    orch_plain(alloc, words, source, out, err, keeper)
 }
 
 /// Calls `orch`.

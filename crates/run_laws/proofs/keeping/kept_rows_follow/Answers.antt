@@ -1,3 +1,4 @@
+use Rattle.run_laws.proofs.ClaimKept.{claim-row-whole}
 use Rattle.run_laws.proofs.Audits.{Follow-whole, FollowAudit-start, FollowAudit-step, FollowAudit-whole}
 use Rattle.run_laws.proofs.Follows.{Follow-start, Follow-step}
 use Rattle.run_laws.proofs.Reloads.{reloaded-comes}
@@ -23,3 +24,6 @@ returns-clause-run_audit c = FollowAudit-whole
 
 pub returns-clause-restart : goal.returns-clause-restart
 returns-clause-restart c = reloaded-comes
+
+pub returns-clause-run_claim : goal.returns-clause-run_claim
+returns-clause-run_claim c = claim-row-whole

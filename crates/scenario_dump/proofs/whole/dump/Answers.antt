@@ -4,7 +4,7 @@ use Rattle.serde_json.specs.Data.{object, string}
 use Rattle.serde_json.specs.Written.{compact_text}
 use Rattle.scenario_dump.specs.Parts.{flag_text}
 use Rattle.scenario_dump.specs.Texts.{aliases_data, blocks_data, hook_data, list_data}
-use Rattle.scenario_dump.proofs.Printed.{First, Once, grew_by}
+use Rattle.scenario_dump.proofs.Printed.{First, Once, grew_by, number_as}
 use Rattle.scenario_dump.proofs.Wholes.{whole_parts, whole_text}
 use Rattle.scenario_dump.proofs.whole.dump.Goals as goal
 
@@ -29,9 +29,10 @@ returns c =
     (First _ _ _ _ _ _ (c.in_ok-print_hooks-2.ensures ∙ ap (λ v. c.extend_from_slice-5.new.self.items ++ compact_text (list_data hook_data v)) c.as_slice-6.ensures)
     (First _ _ _ _ _ _ c.in_ok-extend_from_slice-6.ensures.items
     (First _ _ _ _ _ _ (c.in_ok-print_hooks-3.ensures ∙ ap (λ v. c.extend_from_slice-6.new.self.items ++ compact_text (list_data hook_data v)) c.as_slice-7.ensures)
-    (First _ _ _ _ _ _ c.in_ok-print_number-2.ensures
+    (First _ _ _ _ _ _ (number_as _ c.print_hooks-3.new.out.items (codes "},\"nodes\":") _ _ c.in_ok-print_number-2.ensures c.from.ensures)
     (First _ _ _ _ _ _ c.in_ok-print_number-3.ensures
+    (First _ _ _ _ _ _ c.in_ok-print_number-4.ensures
     (First _ _ _ _ _ _ c.in_ok-extend_from_slice-7.ensures.items
     (First _ _ _ _ _ _ c.in_ok-print_servers.ensures
-    (Once _ _ _ c.in_ok-extend_from_slice-8.ensures.items)))))))))))))))))))))
+    (Once _ _ _ c.in_ok-extend_from_slice-8.ensures.items))))))))))))))))))))))
     ∙ sym (whole_text w s c.args.now.0)

@@ -3,4 +3,4 @@ use Rattle.scenario_turns.specs.Expansion.{polls_of}
 use Rattle.scenario_turns.proofs.expansion.push_polls.Given as goal
 
 abbrev pub invariant-loop-no : goal.invariant-loop-no
-invariant-loop-no l = l.turns.items ≡ l.fn.turns.items ++ polls_of (take l.no-index l.ordered)
+invariant-loop-no l = l.turns.items ≡ l.fn.turns.items ++ polls_of l.node (take l.no-index l.ordered)

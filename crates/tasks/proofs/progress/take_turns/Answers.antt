@@ -14,6 +14,7 @@ loop-i-init g c = record {
   follows = Follows-nil c.args.names.now (point (g.K.Keeper.kept c.args.keeper.now) c.args.engine.now) c.args.turns.now (taken (g.O.Sink.written c.args.out.now) (g.O.Sink.faults c.args.out.now)) c.args.progress.now c.requires.fresh;
   same = refl;
   servers = refl;
+  nodes = refl;
 }
 
 pub returns-in_err-reply-clause-err : goal.returns-in_err-reply-clause-err
@@ -44,4 +45,5 @@ loop-i-preserved g c = record {
       (subst (λ (t : Turn). Adds c.args.names.now (c.loop-i.i + 1) t c.in_ok-reply.reply c.loop-i.progress c.add.new.self (taken (g.O.Sink.written c.loop-i.out) (g.O.Sink.faults c.loop-i.out)) (taken (g.O.Sink.written c.add.new.out) (g.O.Sink.faults c.add.new.out))) c.index-turns-i.is c.in_ok-add.ensures.ok);
   same = c.in_ok-reply.ensures.cause.ok ∙ c.loop-i.invariant.same;
   servers = c.turn.ensures.servers ∙ c.loop-i.invariant.servers;
+  nodes = c.turn.ensures.nodes ∙ c.loop-i.invariant.nodes;
 }

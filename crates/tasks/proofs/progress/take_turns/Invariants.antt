@@ -1,4 +1,5 @@
 use Rattle.std.proofs.Common.{◌≡◌, length, take}
+use Rattle.orch_core.specs.States.{nodes_of}
 use Rattle.tasks.specs.Progress.{Follows, point}
 use Rattle.tasks.specs.Sinks.{between, taken}
 use Rattle.tasks.proofs.progress.take_turns.Given as goal
@@ -9,4 +10,5 @@ invariant-loop-i g l = record {
       (between (taken (g.O.Sink.written l.fn.out) (g.O.Sink.faults l.fn.out)) (taken (g.O.Sink.written l.out) (g.O.Sink.faults l.out))) l.progress;
   same : g.K.Keeper.faults l.keeper ≡ g.K.Keeper.faults l.fn.keeper;
   servers : length l.engine.world.servers ≡ length l.fn.engine.world.servers;
+  nodes : nodes_of l.engine ≡ nodes_of l.fn.engine;
 }

@@ -14,6 +14,7 @@ loop-t-init g c = record {
   tallies = Tallies-nil (point (g.K.Keeper.kept c.args.keeper.now) c.args.engine.now) c.args.turns.now;
   same = refl;
   servers = refl;
+  nodes = refl;
 }
 
 pub returns-in_err-reply-clause-err : goal.returns-in_err-reply-clause-err
@@ -43,4 +44,5 @@ loop-t-preserved g c = record {
       (subst (λ (t : Turn). c.in_ok-reply.reply ≡ reply_of c.loop-t.engine t) c.t-item.is c.in_ok-reply.ensures.reply) c.with_reply-tally.ensures;
   same = c.in_ok-reply.ensures.cause.ok ∙ c.loop-t.invariant.same;
   servers = c.turn.ensures.servers ∙ c.loop-t.invariant.servers;
+  nodes = c.turn.ensures.nodes ∙ c.loop-t.invariant.nodes;
 }

@@ -1,4 +1,5 @@
 use Rattle.std.proofs.Common.{◌≡◌, length, take}
+use Rattle.orch_core.specs.States.{nodes_of}
 use Rattle.tasks.specs.Progress.{Tallies, point}
 use Rattle.tasks.proofs.summary.count_turns.Given as goal
 
@@ -7,4 +8,5 @@ invariant-loop-t g l = record {
   tallies : Tallies (point (g.K.Keeper.kept l.fn.keeper) l.fn.engine) (take l.t-index l.turns) (point (g.K.Keeper.kept l.keeper) l.engine) l.tally;
   same : g.K.Keeper.faults l.keeper ≡ g.K.Keeper.faults l.fn.keeper;
   servers : length l.engine.world.servers ≡ length l.fn.engine.world.servers;
+  nodes : nodes_of l.engine ≡ nodes_of l.fn.engine;
 }

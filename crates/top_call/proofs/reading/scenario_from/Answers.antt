@@ -1,4 +1,5 @@
 use Rattle.std.proofs.Common.{ℕ, List, subst}
+use Rattle.scenario_reader.specs.Scenarios.{scenario_in}
 use Rattle.top_call.specs.Reads.{ReadsAs}
 use Rattle.top_call.proofs.Ends.{each}
 use Rattle.top_call.proofs.Long.{of_read, too_long_read}
@@ -10,7 +11,7 @@ returns-in-Err-TooLong-clause-read g c = too_long_read _ _ _ _ c.in-Err-TooLong.
 pub returns-in-Ok-clause-read : goal.returns-in-Ok-clause-read
 returns-in-Ok-clause-read g c =
     of_read (g.S.Source.left c.args.source.now) c.in-Ok.bytes.items c.scenario_in.result c.in-Ok.ensures.told
-    (subst (λ (bytes : List ℕ). ReadsAs bytes c.scenario_in.result) c.deref.ensures.value c.scenario_in.ensures.read)
+    (subst (λ (bytes : List ℕ). ReadsAs (scenario_in bytes) c.scenario_in.result) c.deref.ensures.value c.scenario_in.ensures.read)
 
 pub returns-in-Err-Memory-clause-read : goal.returns-in-Err-Memory-clause-read
 returns-in-Err-Memory-clause-read g c = each (g.S.Source.left c.args.source.now) _ (λ bytes. tt)

@@ -1,4 +1,5 @@
 use Rattle.std.proofs.Common.{Err, inl, refl, subst}
+use Rattle.scenario_reader.specs.Scenarios.{scenario_in}
 use Rattle.top_call.specs.declared.reading.Stop.{Stop}
 use Rattle.top_call.specs.Reads.{OfRead, ReadsAs}
 use Rattle.top_call.specs.declared.way.Way.TheVariants as way
@@ -27,4 +28,4 @@ pub returns-in-Err-Fault-clause-ends : goal.returns-in-Err-Fault-clause-ends
 returns-in-Err-Fault-clause-ends g c = λ words t.
     lifted (g.S.Source.left c.args.source.now) _ _
     (λ bytes r. faulty words bytes c.args.places.now _ _ _ _ c.close_fault.result t c.requires.asks r c.close_fault.ensures)
-    (subst (λ (why : Stop). OfRead (g.S.Source.left c.args.source.now) (λ bytes. ReadsAs bytes (Err why))) c.in-Err-Fault.field-0-is c.in-Err-Fault.ensures.read)
+    (subst (λ (why : Stop). OfRead (g.S.Source.left c.args.source.now) (λ bytes. ReadsAs (scenario_in bytes) (Err why))) c.in-Err-Fault.field-0-is c.in-Err-Fault.ensures.read)

@@ -4,7 +4,7 @@ use Rattle.std.specs.List.{flat_map}
 use Rattle.std.proofs.lemmas.List.Elements.{All-tail}
 use Rattle.orch_base.specs.declared.server.ServerNo.{ServerNo}
 use Rattle.name_order.specs.NameOrder.{by_name}
-use Rattle.scenarios.specs.Turns.{IsTurn}
+use Rattle.scenarios.specs.Turns.{IsTurn, NamesOneOf}
 use Rattle.turns.specs.declared.turn.Turn.{Turn}
 use Rattle.turns.specs.declared.turn.Act.TheVariants as act
 use Rattle.turns.specs.declared.turn.Turn.TheVariants as turn
@@ -12,8 +12,8 @@ use Rattle.orch_core.specs.Keeping.{Ran, WasCutOff}
 use Rattle.orch_core.specs.Rounds.{round_of}
 use Rattle.jobs_in_flight.specs.Rounds.{polls, replicates}
 use Rattle.orch_core.specs.Runs.{engine}
-use Rattle.orch_core.specs.States.{State}
-use Rattle.orch_core.proofs.Finishing.{FinishedBy-told, Rounds-more, Rounds-none, cut-first, cut-round, round-less, told-more, turns-round}
+use Rattle.orch_core.specs.States.{State, nodes_of}
+use Rattle.orch_core.proofs.Finishing.{FinishedBy-told, Rounds-more, Rounds-none, cut-first, cut-round, named-others, round-less, told-more, turns-round}
 use Rattle.orch_core.proofs.engine.Engine.finish.Goals as goal
 
 pub rounds-preserved : goal.rounds-preserved
@@ -32,6 +32,7 @@ rounds-preserved g c =
       );
       same = c.in-Ok-round.ensures.cause.ok ∙ c.rounds.invariant.same;
       servers = c.round.ensures.servers ∙ c.rounds.invariant.servers;
+      nodes = c.round.ensures.nodes ∙ c.rounds.invariant.nodes;
     }
 
 pub rounds-smaller : goal.rounds-smaller
@@ -43,8 +44,8 @@ rounds-smaller g c =
     let ran = subst (λ (ts : List Turn). Ran engine (g.K.Keeper.kept c.rounds.keeper) c.rounds.self ts (g.K.Keeper.kept c.round.new.keeper) c.round.new.self) turns c.in-Ok-round.ensures.ok in
     round-less engine (λ (s : State). s) (λ rows a t. refl) (g.K.Keeper.kept c.rounds.keeper) (g.K.Keeper.kept c.round.new.keeper) (by_name c.args.self.now.book.names) c.rounds.self c.round.new.self c.args.job c.shows_state-in-rounds.ensures opened ran
 
-pub round-requires : goal.round-requires
-round-requires g c =
+pub round-requires-clause-turns : goal.round-requires-clause-turns
+round-requires-clause-turns g c =
     let turns : turn.Act (act.Job c.args.job) ∷ c.deref.result.now ≡ round_of c.args.self.now c.args.job =
     ap (λ (ts : List Turn). turn.Act (act.Job c.args.job) ∷ ts) (c.deref.ensures.value ∙ c.in-Ok.ensures ∙ ap (λ (ns : List ServerNo). flat_map replicates ns ++ flat_map polls ns) c.order.ensures.order)
     ∙ ap (λ (s : State). round_of s c.args.job) c.self.view_is in
@@ -55,6 +56,10 @@ round-requires g c =
     let each : All (IsTurn (length c.rounds.self.world.servers)) (turn.Act (act.Job c.args.job) ∷ c.deref.result.now) =
     subst (λ (ts : List Turn). All (IsTurn (length c.rounds.self.world.servers)) ts) (sym turns) (subst (λ n. All (IsTurn n) (round_of c.args.self.now c.args.job)) servers all) in
     All-tail (IsTurn (length c.rounds.self.world.servers)) (turn.Act (act.Job c.args.job)) c.deref.result.now each
+
+pub round-requires-clause-named : goal.round-requires-clause-named
+round-requires-clause-named g c =
+    subst (λ (ts : List Turn). All (NamesOneOf (nodes_of c.rounds.self)) ts) (sym (c.deref.ensures.value ∙ c.in-Ok.ensures)) (named-others (nodes_of c.rounds.self) c.order.result.now)
 
 pub returns-in-Err-clause-err : goal.returns-in-Err-clause-err
 returns-in-Err-clause-err g c =

@@ -2,6 +2,7 @@ use Rattle.std.proofs.Common.{ℕ, ◌≡◌, length}
 use Rattle.jobs_in_flight.specs.Jobs.{most_turns}
 use Rattle.orch_core.specs.Rounds.{told_in}
 use Rattle.orch_core.specs.Runs.{engine}
+use Rattle.orch_core.specs.States.{nodes_of}
 use Rattle.orch_core.proofs.Finishing.{Rounds}
 use Rattle.orch_core.proofs.engine.Engine.finish.Given as goal
 
@@ -13,4 +14,5 @@ invariant-rounds g l = record {
   rounds : (k : ℕ) × Rounds engine (λ s. s) (g.K.Keeper.kept l.fn.keeper) l.fn.self l.job (g.K.Keeper.kept l.keeper) l.self k × (l.told ≡ told_in l.fn.self l.job k);
   same : g.K.Keeper.faults l.keeper ≡ g.K.Keeper.faults l.fn.keeper;
   servers : length l.self.world.servers ≡ length l.fn.self.world.servers;
+  nodes : nodes_of l.self ≡ nodes_of l.fn.self;
 }

@@ -9,12 +9,14 @@ use Rattle.kept_rows.specs.declared.row.Change.{Change}
 use Rattle.kept_rows.specs.declared.row.Row.{Row}
 use Rattle.opening_book.specs.Opening.{is_opening_change, loading, opening_changes}
 use Rattle.orch_core.specs.Keeping.{kept_if}
+use Rattle.node_claims.specs.Claims.{made as claims_made}
+use Rattle.orch_core.specs.Nodes.{holder_of, kept_claim}
 use Rattle.orch_core.specs.Periods.{period_by}
 use Rattle.orch_core.specs.Scenarios.{kept_at_start}
 use Rattle.openings.specs.declared.init.ServerInit.{ServerInit}
 use Rattle.server_model.specs.Worlds.{World}
 use Rattle.orch_core.proofs.Sources.{KnowsSources}
-use Rattle.orch_core.proofs.Starts.{Fits-start, cause-carried, IsOpening, all-loading, IsState-made, StartsBy-made, book-names, kept_made, moment-within, opened-by, sources-start, world_made}
+use Rattle.orch_core.proofs.Starts.{Fits-start, cause-carried, cause-stays, IsOpening, all-loading, IsState-made, StartsBy-made, book-names, kept_made, moment-within, opened-by, sources-start, world_made}
 use Rattle.orch_core.proofs.engine.Engine.make.Goals as goal
 
 pub make-requires-clause-fits : goal.make-requires-clause-fits
@@ -74,7 +76,8 @@ invariant_of-result g c =
     let count : c.len.result ≡ length c.args.s.now.opening.servers = len ∙ ap length settings ∙ length-map c.args.s.now.opening.servers (λ i. i.settings) in
     let counting : c.in_ok-rows.rows.items ≡ counted (length c.args.s.now.opening.servers) greatest_id given = c.in_ok-rows.ensures ∙ ap (λ (n : ℕ). counted n greatest_id given) count in
     let last : c.last_id-next.result ≡ last_id given = search rules in
-    let opening : IsOpening c.args.s.now given c.in_ok-world.world c.in_ok-settings.settings.items c.in_ok-rows.rows.items c.latest_moment-moment.result c.in_ok-book.book c.in_ok-book-2.book c.in_ok-audit.audit.audit c.close.new.self.audit c.in_ok-recoveries.recoveries.items c.in_ok-slots.slots.items c.last_read.result c.new.result.items c.args.wait c.in_ok-configuration.configuration = record {
+    let kept : c.kept_claim-kept.result ≡ kept_claim c.in_ok-rows.rows.items = c.kept_claim-kept.ensures ∙ ap kept_claim c.deref-7.ensures.value in
+    let opening : IsOpening c.args.s.now given c.in_ok-world.world c.in_ok-settings.settings.items c.in_ok-rows.rows.items c.latest_moment-moment.result c.in_ok-book.book c.in_ok-book-2.book c.in_ok-audit.audit.audit c.close.new.self.audit c.in_ok-recoveries.recoveries.items c.in_ok-slots.slots.items c.last_read.result c.new.result.items c.args.wait c.in_ok-configuration.configuration c.in_ok-claims.claims c.holder_of.result = record {
       world = world;
       settings_made = settings;
       counting = counting;
@@ -88,8 +91,10 @@ invariant_of-result g c =
       read = search rules;
       idle = c.new.ensures.items;
       configured = c.in_ok-configuration.ensures;
+      claimed = c.in_ok-claims.ensures ∙ ap (claims_made c.args.s.now.nodes) kept;
+      held = c.holder_of.ensures ∙ ap holder_of kept;
     } in
-    IsState-made _ _ _ _ _ _ _ _ _ _ _ _ _ _ _ _ opening c.requires
+    IsState-made _ _ _ _ _ _ _ _ _ _ _ _ _ _ _ _ _ _ opening c.requires
 
 pub returns-clause-ok : goal.returns-clause-ok
 returns-clause-ok g c =
@@ -100,7 +105,8 @@ returns-clause-ok g c =
     let count : c.len.result ≡ length c.args.s.now.opening.servers = len ∙ ap length settings ∙ length-map c.args.s.now.opening.servers (λ i. i.settings) in
     let counting : c.in_ok-rows.rows.items ≡ counted (length c.args.s.now.opening.servers) greatest_id given = c.in_ok-rows.ensures ∙ ap (λ (n : ℕ). counted n greatest_id given) count in
     let last : c.last_id-next.result ≡ last_id given = search rules in
-    let opening : IsOpening c.args.s.now given c.in_ok-world.world c.in_ok-settings.settings.items c.in_ok-rows.rows.items c.latest_moment-moment.result c.in_ok-book.book c.in_ok-book-2.book c.in_ok-audit.audit.audit c.close.new.self.audit c.in_ok-recoveries.recoveries.items c.in_ok-slots.slots.items c.last_read.result c.new.result.items c.args.wait c.in_ok-configuration.configuration = record {
+    let kept : c.kept_claim-kept.result ≡ kept_claim c.in_ok-rows.rows.items = c.kept_claim-kept.ensures ∙ ap kept_claim c.deref-7.ensures.value in
+    let opening : IsOpening c.args.s.now given c.in_ok-world.world c.in_ok-settings.settings.items c.in_ok-rows.rows.items c.latest_moment-moment.result c.in_ok-book.book c.in_ok-book-2.book c.in_ok-audit.audit.audit c.close.new.self.audit c.in_ok-recoveries.recoveries.items c.in_ok-slots.slots.items c.last_read.result c.new.result.items c.args.wait c.in_ok-configuration.configuration c.in_ok-claims.claims c.holder_of.result = record {
       world = world;
       settings_made = settings;
       counting = counting;
@@ -114,8 +120,10 @@ returns-clause-ok g c =
       read = search rules;
       idle = c.new.ensures.items;
       configured = c.in_ok-configuration.ensures;
+      claimed = c.in_ok-claims.ensures ∙ ap (claims_made c.args.s.now.nodes) kept;
+      held = c.holder_of.ensures ∙ ap holder_of kept;
     } in
-    StartsBy-made _ _ _ _ _ _ _ _ _ _ _ _ _ _ _ _ opening (g.K.Keeper.kept c.args.keeper.now) c.in_ok-given.ensures.told
+    StartsBy-made _ _ _ _ _ _ _ _ _ _ _ _ _ _ _ _ _ _ opening (g.K.Keeper.kept c.args.keeper.now) c.in_ok-given.ensures.told
 
 pub returns-clause-kept : goal.returns-clause-kept
 returns-clause-kept g c =
@@ -126,7 +134,8 @@ returns-clause-kept g c =
     let count : c.len.result ≡ length c.args.s.now.opening.servers = len ∙ ap length settings ∙ length-map c.args.s.now.opening.servers (λ i. i.settings) in
     let counting : c.in_ok-rows.rows.items ≡ counted (length c.args.s.now.opening.servers) greatest_id given = c.in_ok-rows.ensures ∙ ap (λ (n : ℕ). counted n greatest_id given) count in
     let last : c.last_id-next.result ≡ last_id given = search rules in
-    let opening : IsOpening c.args.s.now given c.in_ok-world.world c.in_ok-settings.settings.items c.in_ok-rows.rows.items c.latest_moment-moment.result c.in_ok-book.book c.in_ok-book-2.book c.in_ok-audit.audit.audit c.close.new.self.audit c.in_ok-recoveries.recoveries.items c.in_ok-slots.slots.items c.last_read.result c.new.result.items c.args.wait c.in_ok-configuration.configuration = record {
+    let kept : c.kept_claim-kept.result ≡ kept_claim c.in_ok-rows.rows.items = c.kept_claim-kept.ensures ∙ ap kept_claim c.deref-7.ensures.value in
+    let opening : IsOpening c.args.s.now given c.in_ok-world.world c.in_ok-settings.settings.items c.in_ok-rows.rows.items c.latest_moment-moment.result c.in_ok-book.book c.in_ok-book-2.book c.in_ok-audit.audit.audit c.close.new.self.audit c.in_ok-recoveries.recoveries.items c.in_ok-slots.slots.items c.last_read.result c.new.result.items c.args.wait c.in_ok-configuration.configuration c.in_ok-claims.claims c.holder_of.result = record {
       world = world;
       settings_made = settings;
       counting = counting;
@@ -140,8 +149,10 @@ returns-clause-kept g c =
       read = search rules;
       idle = c.new.ensures.items;
       configured = c.in_ok-configuration.ensures;
+      claimed = c.in_ok-claims.ensures ∙ ap (claims_made c.args.s.now.nodes) kept;
+      held = c.holder_of.ensures ∙ ap holder_of kept;
     } in
-    search rules ∙ kept_made _ _ _ _ _ _ _ _ _ _ _ _ _ _ _ _ opening (g.K.Keeper.kept c.args.keeper.now) c.in_ok-given.ensures.told
+    search rules ∙ kept_made _ _ _ _ _ _ _ _ _ _ _ _ _ _ _ _ _ _ opening (g.K.Keeper.kept c.args.keeper.now) c.in_ok-given.ensures.told
 
 pub complete-requires-clause-recoveries : goal.complete-requires-clause-recoveries
 complete-requires-clause-recoveries g c =
@@ -168,3 +179,21 @@ returns-in_err-book-2-clause-cause g c =
     let p = err_from_is_err_and c.from_residual-in_err-book-2.result c.from_residual-in_err-book-2.ensures.1 in
     let same : g.K.Keeper.faults c.given_rows.new.keeper ≡ g.K.Keeper.faults c.args.keeper.now = c.in_ok-given.ensures.cause.ok in
     rw (p.1, p.2) (cause-carried _ _ _ c.complete.result _ same c.in_err-book-2.was c.complete.ensures.cause)
+
+pub returns-in_err-claims-clause-kept : goal.returns-in_err-claims-clause-kept
+returns-in_err-claims-clause-kept g c =
+    let gives = err_from_is_err_and c.from_residual-in_err-claims.result c.from_residual-in_err-claims.ensures.1 in
+    let fails : is_ok c.from_residual-in_err-claims.result ≡ false = ap is_ok gives.1 in
+    c.in_ok-given.ensures.kept ∙ ap (λ (made : Bool). kept_at_start made (g.K.Keeper.kept c.args.keeper.now) c.args.s.now) (sym fails)
+
+pub returns-in_err-book-clause-kept : goal.returns-in_err-book-clause-kept
+returns-in_err-book-clause-kept g c =
+    let gives = err_from_is_err_and c.from_residual-in_err-book.result c.from_residual-in_err-book.ensures.1 in
+    let fails : is_ok c.from_residual-in_err-book.result ≡ false = ap is_ok gives.1 in
+    c.in_ok-given.ensures.kept ∙ ap (λ (made : Bool). kept_at_start made (g.K.Keeper.kept c.args.keeper.now) c.args.s.now) (sym fails)
+
+pub returns-in_err-book-clause-cause : goal.returns-in_err-book-clause-cause
+returns-in_err-book-clause-cause g c =
+    let p = err_from_is_err_and c.from_residual-in_err-book.result c.from_residual-in_err-book.ensures.1 in
+    let same : g.K.Keeper.faults c.given_rows.new.keeper ≡ g.K.Keeper.faults c.args.keeper.now = c.in_ok-given.ensures.cause.ok in
+    rw (p.1, p.2) (cause-stays _ _ same)

@@ -12,4 +12,5 @@ loop-t-preserved g c = record {
       (subst (λ (t : Turn). g.K.Keeper.kept c.turn.new.keeper ≡ kept_by engine true (g.K.Keeper.kept c.loop-t.keeper) c.loop-t.self t) c.t-item.is c.in_ok-turn.ensures.kept);
   same = c.in_ok-turn.ensures.cause.ok ∙ c.loop-t.invariant.same;
   servers = c.turn.ensures.servers ∙ c.loop-t.invariant.servers;
+  nodes = c.turn.ensures.nodes ∙ c.loop-t.invariant.nodes;
 }

@@ -2,14 +2,16 @@ use Rattle.std.proofs.Common.{◌≡◌, ◌∙◌, ◌+◌, ◌<◌, arith, ref
 use Rattle.std.specs.Prelude.{All}
 use Rattle.orch_base.specs.declared.server.ServerNo.{ServerNo}
 use Rattle.name_order.specs.NameOrder.{by_name}
-use Rattle.scenarios.specs.Turns.{IsTurn}
+use Rattle.scenarios.specs.Turns.{IsTurn, NamesOneOf}
 use Rattle.turns.specs.declared.turn.Turn.{Turn}
 use Rattle.instance_keeper.specs.Book.{BookState}
 use Rattle.orch_core.specs.Keeping.{Ran, WasCutOff}
 use Rattle.orch_core.specs.Rounds.{round_of}
 use Rattle.jobs_in_flight.specs.Rounds.{round_over}
 use Rattle.orch_core.specs.Runs.{Recorded, recorder}
-use Rattle.orch_core.proofs.Finishing.{Rounds-more, cut-first, cut-round, round-less, turns-round}
+use Rattle.orch_core.specs.States.{nodes_of}
+use Rattle.orch_core.proofs.Others.{closed-others}
+use Rattle.orch_core.proofs.Finishing.{Finished-others, Rounds-more, cut-first, cut-round, named-round, round-less, turns-round}
 use Rattle.orch_core.proofs.orch.Orch.finish.Goals as goal
 
 pub rounds-preserved : goal.rounds-preserved
@@ -27,6 +29,7 @@ rounds-preserved g c =
       );
       same = c.in_default-run.ensures.cause.ok ∙ c.rounds.invariant.same;
       servers = c.run.ensures.servers ∙ c.rounds.invariant.servers;
+      nodes = c.run.ensures.nodes ∙ c.rounds.invariant.nodes;
     }
 
 pub rounds-smaller : goal.rounds-smaller
@@ -38,8 +41,8 @@ rounds-smaller g c =
     let ran = subst (λ (ts : List Turn). Ran recorder (g.K.Keeper.kept c.rounds.keeper) c.rounds.self ts (g.K.Keeper.kept c.run.new.keeper) c.run.new.self) turns c.in_default-run.ensures.ok in
     round-less recorder (λ (r : Recorded). r.state) (λ rows a t. refl) (g.K.Keeper.kept c.rounds.keeper) (g.K.Keeper.kept c.run.new.keeper) (by_name c.args.self.now.state.book.names) c.rounds.self c.run.new.self c.args.job c.shows_state-in-rounds.ensures opened ran
 
-pub run-requires : goal.run-requires
-run-requires g c =
+pub run-requires-clause-turns : goal.run-requires-clause-turns
+run-requires-clause-turns g c =
     let turns : c.deref.result.now ≡ round_of c.args.self.now.state c.args.job =
     c.deref.ensures.value ∙ c.in-Ok.ensures ∙ ap (λ (ns : List ServerNo). round_over ns c.args.job) (c.order.ensures.order ∙ ap (λ (b : BookState). by_name b.names) c.book.ensures)
     ∙ ap (λ (r : Recorded). round_of r.state c.args.job) c.self.view_is in
@@ -49,6 +52,10 @@ run-requires g c =
     (subst (λ (b : BookState). All (λ (n : ServerNo). n.0 < length b.names) (by_name b.names)) c.book.ensures (subst (λ (ns : List ServerNo). All (λ (n : ServerNo). n.0 < length c.book.result.now.names) ns) c.order.ensures.order c.order.ensures.within)) in
     let all = turns-round (length c.args.self.now.state.book.names) (by_name c.args.self.now.state.book.names) c.args.job order in
     subst (λ (ts : List Turn). All (IsTurn (length c.rounds.self.state.world.servers)) ts) (sym turns) (subst (λ n. All (IsTurn n) (round_of c.args.self.now.state c.args.job)) servers all)
+
+pub run-requires-clause-named : goal.run-requires-clause-named
+run-requires-clause-named g c =
+    subst (λ (ts : List Turn). All (NamesOneOf (nodes_of c.rounds.self.state)) ts) (sym (c.deref.ensures.value ∙ c.in-Ok.ensures)) (named-round (nodes_of c.rounds.self.state) c.order.result.now c.args.job)
 
 pub returns-in-Err-clause-err : goal.returns-in-Err-clause-err
 returns-in-Err-clause-err g c =
@@ -62,3 +69,12 @@ returns-in-Err-clause-err g c =
 
 pub returns-in_default-clause-err : goal.returns-in_default-clause-err
 returns-in_default-clause-err g c = cut-first recorder (λ (r : Recorded). r.state) (g.K.Keeper.kept c.args.keeper.now) c.args.self.now c.args.job _ (λ same. cc) (sym c.is_open.ensures ∙ c.if-not-is_open.false)
+
+pub returns-clause-others : goal.returns-clause-others
+returns-clause-others g c =
+    let closed = sym c.is_open-in-rounds.ensures ∙ c.rounds-test.false in
+    let before = c.rounds.invariant.rounds in
+    Finished-others recorder (λ (r : Recorded). r.state) (λ rows a t. refl) (g.K.Keeper.kept c.args.keeper.now) (g.K.Keeper.kept c.rounds.keeper) c.args.self.now c.rounds.self c.args.job before.0 before.1 closed
+
+pub returns-then-not-is_open-clause-others : goal.returns-then-not-is_open-clause-others
+returns-then-not-is_open-clause-others g c = sym (closed-others c.args.self.now.state.jobs c.args.job (sym c.is_open.ensures ∙ c.if-not-is_open.true))

@@ -1,6 +1,7 @@
 use Rattle.std.proofs.Common.{ℕ, ◌≡◌, length}
 use Rattle.jobs_in_flight.specs.Jobs.{most_turns}
 use Rattle.orch_core.specs.Runs.{recorder}
+use Rattle.orch_core.specs.States.{nodes_of}
 use Rattle.orch_core.proofs.Finishing.{Rounds}
 use Rattle.orch_core.proofs.orch.Orch.finish.Given as goal
 
@@ -12,4 +13,5 @@ invariant-rounds g l = record {
   rounds : (k : ℕ) × Rounds recorder (λ r. r.state) (g.K.Keeper.kept l.fn.keeper) l.fn.self l.job (g.K.Keeper.kept l.keeper) l.self k;
   same : g.K.Keeper.faults l.keeper ≡ g.K.Keeper.faults l.fn.keeper;
   servers : length l.self.state.world.servers ≡ length l.fn.self.state.world.servers;
+  nodes : nodes_of l.self.state ≡ nodes_of l.fn.self.state;
 }

@@ -1,8 +1,9 @@
-use Rattle.std.proofs.Common.{◌≡◌, ◌∙◌, true, subst, arith}
+use Rattle.std.proofs.Common.{◌≡◌, ◌∙◌, true, Err, ap, subst, arith}
+use Rattle.std.proofs.lemmas.Result.{err_from_is_err_and}
 use Rattle.turns.specs.declared.turn.Turn.{Turn}
-use Rattle.orch_core.specs.Keeping.{StepsTo, kept_by}
+use Rattle.orch_core.specs.Keeping.{Calls, StepsTo, kept_by}
 use Rattle.orch_core.specs.Runs.{recorder}
-use Rattle.orch_core.proofs.Runs.{Ran-next}
+use Rattle.orch_core.proofs.Runs.{Ran-next, cut-at}
 use Rattle.orch_core.proofs.orch.Orch.run.Goals as goal
 
 pub loop-t-preserved : goal.loop-t-preserved
@@ -12,4 +13,12 @@ loop-t-preserved g c = record {
       (subst (λ (t : Turn). g.K.Keeper.kept c.turn.new.keeper ≡ kept_by recorder true (g.K.Keeper.kept c.loop-t.keeper) c.loop-t.self t) (c.in_ok-copy.ensures ∙ c.t-item.is) c.in_ok-turn.ensures.kept);
   same = c.in_ok-turn.ensures.cause.ok ∙ c.loop-t.invariant.same;
   servers = c.turn.ensures.servers ∙ c.loop-t.invariant.servers;
+  nodes = c.turn.ensures.nodes ∙ c.loop-t.invariant.nodes;
 }
+
+pub returns-in_err-turn-clause-err : goal.returns-in_err-turn-clause-err
+returns-in_err-turn-clause-err g c =
+    let p = err_from_is_err_and c.from_residual-in_err-turn.result c.from_residual-in_err-turn.ensures.1 in
+    rw (p.1, p.2)
+    (cut-at recorder _ _ _ _ _ _ c.args.turns.now c.loop-t.t-index c.t-item.result c.in_err-turn.field-0.0 (omega arith) c.loop-t.invariant.ran c.in_err-turn.ensures.err c.in_err-turn.ensures.kept
+    (λ e. subst (λ (t : Turn). Calls recorder c.loop-t.self t) (c.in_ok-copy.ensures ∙ c.t-item.is) (c.in_err-turn.ensures.calls (ap Err e))))

@@ -1,12 +1,23 @@
-use Rattle.std.proofs.Common.{◌≡◌, ◌∙◌, ◌++◌, ◌∷◌, [], List, ap, subst, sym}
+use Rattle.std.proofs.Common.{◌≡◌, ◌∙◌, ◌+◌, ◌<◌, ◌≤◌, ℕ, ◌++◌, ◌∷◌, [], List, Result, Err, length, map, ap, subst, sym, arith}
+use Rattle.std.proofs.lemmas.List.{length-map, map-append}
 use Rattle.std.proofs.lemmas.Option.{same_Some}
+use Rattle.std.proofs.lemmas.Result.{err_from_is_err_and}
 use Rattle.turns.specs.declared.reply.Reply.{Reply}
+use Rattle.orch_core.specs.declared.fault.TurnFault.{TurnFault}
 use Rattle.turns.specs.declared.turn.Turn.{Turn}
-use Rattle.orch_core.specs.Keeping.{StepsTo}
+use Rattle.orch_core.specs.Due.{last_poll, polled_at}
+use Rattle.orch_core.specs.Keeping.{Calls, StepsTo}
 use Rattle.orch_core.specs.Replies.{reply_of}
 use Rattle.orch_core.specs.Runs.{Recorded, recorder}
+use Rattle.orch_core.proofs.LastPolls.{last_poll-push}
 use Rattle.orch_core.proofs.Runs.{StepsTo-recorded}
 use Rattle.orch_core.proofs.orch.Orch.turn.Goals as goal
+
+abbrev Same : {A : Type 0} → Result A TurnFault → Result A TurnFault → Type 0
+Same x y = x ≡ y
+
+same_err : {A : Type 0} (a b : TurnFault) → Same {A = A} (Err a) (Err b) → a ≡ b
+same_err a b e = cc
 
 pub returns-clause-ok : goal.returns-clause-ok
 returns-clause-ok g c =
@@ -20,3 +31,34 @@ returns-clause-ok g c =
     ∙ ap (λ (r : Reply). journal ++ (c.args.t, r) ∷ []) written in
     subst (λ (r : Recorded). StepsTo recorder kept r c.args.t (record { state = c.replies.new.self; journal = c.push_reserved.new.self.items })) c.self.view_is
     (StepsTo-recorded kept c.self.inside.engine c.replies.new.self journal c.push_reserved.new.self.items c.args.t c.in_ok-replies.ensures.ok joins)
+
+pub returns-in_err-replies-clause-calls : goal.returns-in_err-replies-clause-calls
+returns-in_err-replies-clause-calls g c =
+    let p = err_from_is_err_and c.from_residual-in_err-replies.result c.from_residual-in_err-replies.ensures.1 in
+    rw (p.1, p.2) (λ failed. subst (λ (r : Recorded). Calls recorder r c.args.t) c.self.view_is (c.in_err-replies.ensures.calls (ap Err (same_err _ _ failed))))
+
+pub invariant_of-self-2 : goal.invariant_of-self-2
+invariant_of-self-2 g c =
+    let before = c.self.inside.journal.items in
+    let turns : List Turn = map (λ (e : Turn × Reply). e.0) before in
+    let polls = c.self.inside.polls.items in
+    let count = c.note_poll.ensures.count in
+    let joined : c.push_reserved.new.self.items ≡ before ++ (c.args.t, c.unwrap-written.result) ∷ [] =
+    c.push_reserved.ensures.items ∙ ap (λ (xs : List (Turn × Reply)). xs ++ (c.args.t, c.unwrap-written.result) ∷ []) c.in_ok-reserve.ensures.items in
+    let all : map (λ (e : Turn × Reply). e.0) c.push_reserved.new.self.items ≡ turns ++ c.args.t ∷ [] =
+    ap (map (λ (e : Turn × Reply). e.0)) joined ∙ map-append (λ (e : Turn × Reply). e.0) before ((c.args.t, c.unwrap-written.result) ∷ []) in
+    let place : c.len.result + 1 ≡ length turns + 1 =
+    let len = c.len.ensures in
+    let same = ap (λ (xs : List (Turn × Reply)). length xs) c.in_ok-reserve.ensures.items in
+    omega (arith, len, same, length-map before (λ (e : Turn × Reply). e.0), c.reserve.new.self.ok) in
+    record {
+      count = count ∙ c.self.invariant.count ∙ sym c.replies.ensures.servers;
+      some = subst (λ (n : ℕ). 0 < n) (sym count) c.self.invariant.some;
+      few = subst (λ (n : ℕ). n ≤ 1000) (sym count) c.self.invariant.few;
+      each = λ n h.
+          let within : n < length polls = subst (λ (k : ℕ). n < k) count h in
+          c.note_poll.ensures.each n within
+          ∙ ap (λ k. polled_at n k (c.len.result + 1) c.args.t) (c.self.invariant.each n within)
+          ∙ ap (λ k. polled_at n (last_poll n turns) k c.args.t) place
+          ∙ sym (ap (last_poll n) all ∙ last_poll-push n turns c.args.t);
+    }

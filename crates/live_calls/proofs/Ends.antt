@@ -1,0 +1,175 @@
+-- How calls end that ask for a live run.
+use Rattle.std.proofs.Common.{◌≡◌, ◌∙◌, ℕ, ◌≤◌, true, false, Bool, List, [], Option, Some, None, Result, Ok, Err, refl, sym, ap, subst, arith, ◌⊎◌, inl, inr}
+use Rattle.std.specs.Prelude.{IfSome, codes}
+use Rattle.std.specs.Io.KnownBytes.{Consumes}
+use Rattle.kept_rows.specs.declared.row.Row.{Row}
+use Rattle.orch_base.specs.Causes.{Rose}
+use Rattle.scenarios.specs.declared.scenario.Scenario.{Scenario}
+use Rattle.scenario_values.specs.declared.fault.Fault.{Fault}
+use Rattle.command_line.specs.declared.command.Own.{Own}
+use Rattle.command_line.specs.declared.command.Own.TheVariants as own
+use Rattle.command_line.specs.declared.parts.Drawing.{Drawing}
+use Rattle.command_line.specs.declared.parts.Places.{Places}
+use Rattle.command_line.specs.declared.usage.Usage.{Usage}
+use Rattle.command_line.specs.declared.usage.Usage.TheVariants as usage
+use Rattle.command_line.specs.Commands.{own_at}
+use Rattle.command_line.specs.Places.{drawing_by, drawing_of, is_live, is_live_word, places_of}
+use Rattle.command_line.proofs.Named.{taken_have}
+use Rattle.live_desk.specs.Ends.{IsLive}
+use Rattle.live_desk.specs.Entries.{Entry}
+use Rattle.tasks.specs.declared.ending.Ending.TheVariants as ends
+use Rattle.tasks.specs.Asked.{IsTaken}
+use Rattle.tasks.specs.Sinks.{End, Fails, FailsIn, Taken, Takes, TakesFront, TakesLine, between}
+use Rattle.tasks.proofs.Sends.{nothing_is_front, takes_nothing}
+use Rattle.top_call.specs.declared.way.Way.{Way}
+use Rattle.top_call.specs.declared.way.Way.TheVariants as way
+use Rattle.top_call.specs.Ends.{AskToDraw, Call, FaultsBy, Idles, IsComplete, IsGood, IsReported, NoneRose, ReadsWhole, call, status_of}
+use Rattle.top_call.specs.Faults.{fault_text}
+use Rattle.top_call.specs.Reads.{OfRead}
+use Rattle.top_call.proofs.Ends.{idles, none_or_some, of_done, of_two, reads_at}
+use Rattle.live_calls.specs.Ends.{AskLive, IsPlain, LiveEnds, LiveWords, Lives, RunsAlone}
+use Rattle.live_calls.specs.Reads.{live_scenario}
+use Rattle.live_calls.specs.Reports.{LiveReport, LiveTells, live_report}
+use Rattle.live_calls.proofs.LiveScenarios.{alone_read}
+
+-- ---- the words
+
+-- the words name `live`, where they do
+pub are_live : (words : List (List ℕ)) (o : Option Places) (p : Places) → o ≡ Some p → LiveWords words o → (places_of words ≡ Ok p) × (is_live p ≡ true)
+are_live words o p same h = subst (LiveWords words) same h
+
+pub are_plain : (words : List (List ℕ)) (o : Option Places) → o ≡ None → LiveWords words o → IsPlain words
+are_plain words o same h = subst (LiveWords words) same h
+
+not_drawn : (o : Option Own) (p : Places) → is_live_word o ≡ true → drawing_by o p ≡ None
+not_drawn None p is = refl
+not_drawn (Some own.Run) p is = refl
+not_drawn (Some own.Generate) p is = absurd cc
+not_drawn (Some own.Dump) p is = refl
+not_drawn (Some own.Live) p is = refl
+
+-- words that ask for a live run ask of a scenario that is read
+pub live_reads : (p : Places) → is_live p ≡ true → drawing_of p ≡ None
+live_reads p is = not_drawn (own_at p.command) p is
+
+both_ok : (r : Result Places Usage) (p q : Places) → r ≡ Ok p → r ≡ Ok q → p ≡ q
+both_ok (Ok x) p q e f = cc
+both_ok (Err u) p q e f = absurd cc
+
+unlike : (b : Bool) → b ≡ true → b ≡ false → ⊥
+unlike true e f = cc
+unlike false e f = cc
+
+-- words that don't name `live` don't ask for such a run
+pub never_both : (words : List (List ℕ)) → IsPlain words → AskLive words → ⊥
+never_both words plain ask = unlike (is_live ask.places) ask.live (plain ask.places ask.taken)
+
+pub is_plain : (words : List (List ℕ)) (p : Places) → places_of words ≡ Ok p → is_live p ≡ false → IsPlain words
+is_plain words p taken is = λ q other. subst (λ (x : Places). is_live x ≡ false) (both_ok (places_of words) p q taken other) is
+
+not_both : {A E : Type 0} (r : Result A E) (x : A) (e : E) → r ≡ Ok x → r ≡ Err e → ⊥
+not_both (Ok y) x e good bad = absurd cc
+not_both (Err d) x e good bad = absurd cc
+
+pub bad_is_plain : (words : List (List ℕ)) → places_of words ≡ Err usage.BadWords → IsPlain words
+bad_is_plain words bad = λ q other. absurd (not_both (places_of words) q usage.BadWords other bad)
+
+pub live_draws_nothing : (words : List (List ℕ)) (p : Places) (d : Drawing) → places_of words ≡ Ok p → is_live p ≡ true → AskToDraw words d → ⊥
+live_draws_nothing words p d taken live ask =
+    none_or_some (drawing_of p) d (live_reads p live) (subst (λ (q : Places). drawing_of q ≡ Some d) (both_ok (places_of words) ask.0 p ask.1 taken) ask.2)
+
+-- there are some pollers and workers, and few
+pub few_threads : (p : Places) → IsTaken p → (p.pollers ≤ 16) × (p.workers ≤ 16)
+few_threads p taken = let has = taken_have taken.0 p taken.1 in (has.pollers.1, has.workers.1)
+
+-- ---- by each way to end
+
+module _ (words : List (List ℕ)) (bytes : List ℕ) (p : Places) (s : Scenario) (old new : Option (List Row)) (out err : End) (taken_as : places_of words ≡ Ok p) (live : is_live p ≡ true) (read_as : live_scenario bytes ≡ Ok s) where
+  abbrev c : Call
+  c = call words bytes old new out err
+
+  lives : (P : LiveReport → Type 0) (es : List Entry) → IsLive s p.wait es → P (live_report s p.wait old es) → Lives c P
+  lives P es is holds = record { asks = record { places = p; taken = taken_as; live = live }; scenario = s; read = read_as; entries = es; is = is; holds = holds }
+
+  pub written : (refused : Bool) → LiveTells s p.wait old new out (ends.Written refused) → Takes err [] → LiveEnds c (way.Reported refused)
+  written refused (inl ran) told = lives (λ r. (new ≡ r.kept) × Takes out r.out × Takes err [] × (refused ≡ r.is_refused)) ran.entries ran.is (ran.delivers.0, ran.delivers.1, told, ran.delivers.2)
+  written refused (inr never) told = absurd never
+
+  pub unwritten : LiveTells s p.wait old new out ends.Unwritten → TakesLine err (codes "write fault\n") → LiveEnds c way.Sink
+  unwritten (inl ran) told = lives (λ r. (new ≡ r.kept) × FailsIn out r.out × TakesLine err (codes "write fault\n")) ran.entries ran.is (ran.delivers.0, ran.delivers.1, told)
+  unwritten (inr never) told = absurd never
+
+  pub keeper_failed : LiveTells s p.wait old new out ends.Keeper → TakesLine err (codes "keeper fault\n") → LiveEnds c way.Keeper
+  keeper_failed (inl ran) told = lives (λ r. Idles c (codes "keeper fault\n")) ran.entries ran.is (record { kept = ran.delivers.0; out = ran.delivers.1; err = told })
+  keeper_failed (inr never) told = absurd never
+
+  pub wanting : LiveTells s p.wait old new out ends.Memory → TakesLine err (codes "out of memory\n") → LiveEnds c way.Memory
+  wanting (inl ran) told = inr (lives (λ r. ((new ≡ old) ⊎ (new ≡ r.kept)) × TakesFront out r.out × TakesLine err (codes "out of memory\n")) ran.entries ran.is (ran.delivers.0, ran.delivers.1, told))
+  wanting (inr never) told = inl (record { kept = never.0; out = never.1; err = told })
+
+pub sink_rose : (s : Scenario) (wait : ℕ) (old new : Option (List Row)) (out : End) → LiveTells s wait old new out ends.Unwritten → Fails out
+sink_rose s wait old new out (inl ran) = ran.delivers.1.failed
+sink_rose s wait old new out (inr never) = absurd never
+
+-- the scenario has a fault
+pub faulty : (words : List (List ℕ)) (bytes : List ℕ) (fault : Fault) (kept : Option (List Row)) (out : Taken) (err : End) (w : Way) → live_scenario bytes ≡ Err fault
+    → ((w ≡ way.Fault) × TakesLine err (fault_text fault)) ⊎ ((w ≡ way.Memory) × TakesLine err (codes "out of memory\n")) → LiveEnds (call words bytes kept kept (between out out) err) w
+faulty words bytes fault kept out err w read_as (inl closed) =
+    subst (LiveEnds (call words bytes kept kept (between out out) err)) (sym closed.0) (fault, read_as, idles words bytes kept out err (fault_text fault) closed.1)
+faulty words bytes fault kept out err w read_as (inr closed) =
+    subst (LiveEnds (call words bytes kept kept (between out out) err)) (sym closed.0) (inl (idles words bytes kept out err (codes "out of memory\n") closed.1))
+
+-- ---- statuses
+
+-- a scenario has no fault
+sound : (bytes : List ℕ) (s : Scenario) (f : Fault) → live_scenario bytes ≡ Ok s → live_scenario bytes ≡ Err f → ⊥
+sound bytes s f read_as fault_as = not_both (live_scenario bytes) s f read_as fault_as
+
+module _ (c : Call) where
+  fault_back : (w : Way) → LiveEnds c w → w ≡ way.Fault → (f : Fault) × (live_scenario c.bytes ≡ Err f)
+  fault_back w ends_so is = let at : LiveEnds c way.Fault = subst (LiveEnds c) is ends_so in (at.0, at.1)
+
+  fault_on : (w : Way) (f : Fault) → LiveEnds c w → live_scenario c.bytes ≡ Err f → (status_of w ≡ 2) ⊎ (status_of w ≡ 3) ⊎ (status_of w ≡ 6)
+  fault_on (way.Reported refused) f ends_so fault_as = absurd (sound c.bytes ends_so.scenario f ends_so.read fault_as)
+  fault_on way.Drawn f ends_so fault_as = absurd ends_so
+  fault_on way.Usage f ends_so fault_as = absurd ends_so
+  fault_on way.Fault f ends_so fault_as = inl refl
+  fault_on way.Source f ends_so fault_as = inr (inl refl)
+  fault_on way.Sink f ends_so fault_as = absurd (sound c.bytes ends_so.scenario f ends_so.read fault_as)
+  fault_on way.Keeper f ends_so fault_as = absurd (sound c.bytes ends_so.scenario f ends_so.read fault_as)
+  fault_on way.Memory f ends_so fault_as = inr (inr refl)
+
+  pub faults : (w : Way) → LiveEnds c w → FaultsBy (live_scenario c.bytes) (status_of w)
+  faults w ends_so = record {
+    only = λ two. fault_back w ends_so (of_two w two);
+    always = λ f fault_as. fault_on w f ends_so fault_as;
+  }
+
+-- the source was read to its end
+pub read_whole : (words : List (List ℕ)) (left left_now : Option (List ℕ)) (kept kept_now : Option (List Row)) (out err : End) (w : Way) (status : ℕ) → status ≡ status_of w → (IsReported w → IfSome left (λ bytes. Consumes left left_now bytes))
+    → OfRead left (λ bytes. LiveEnds (call words bytes kept kept_now out err) w) → IfSome left (λ bytes. ReadsWhole words bytes status left left_now)
+read_whole words None left_now kept kept_now out err w status is read ended = tt
+read_whole words (Some bytes) left_now kept kept_now out err w status is read ended = λ ask done. go (of_done w (subst (λ (n : ℕ). (n ≡ 0) ⊎ (n ≡ 7)) is done))
+  where
+    go : IsReported w ⊎ (w ≡ way.Drawn) → Consumes (Some bytes) left_now bytes
+    go (inl reported) = read reported
+    go (inr drawn) = let at : LiveEnds (call words bytes kept kept_now out err) way.Drawn = subst (LiveEnds (call words bytes kept kept_now out err)) drawn ended in absurd at
+
+pub complete : (c : Call) (w : Way) (sb sa kb ka : ℕ) → AskLive c.words → (w ≡ way.Source → Rose sb sa) → (w ≡ way.Sink → Rose c.out.old.faults c.out.new.faults) → (w ≡ way.Keeper → Rose kb ka) → LiveEnds c w → IsGood c.words c.bytes → RunsAlone c.words c.bytes
+    → NoneRose sb sa kb ka c.out c.err → IsComplete (status_of w)
+complete c (way.Reported true) sb sa kb ka ask source sink keeper ends_so good alone none = inr (inl refl)
+complete c (way.Reported false) sb sa kb ka ask source sink keeper ends_so good alone none = inl refl
+complete c way.Drawn sb sa kb ka ask source sink keeper ends_so good alone none = inl refl
+complete c way.Usage sb sa kb ka ask source sink keeper ends_so good alone none = absurd ends_so
+complete c way.Fault sb sa kb ka ask source sink keeper ends_so good alone none =
+    let read = good.read (reads_at c.words good.places good.taken (ask.places, ask.taken, live_reads ask.places ask.live)) in
+    absurd (sound c.bytes read.0 ends_so.0 (alone_read c.bytes read.0 read.1 (alone ask read.0 read.1)) ends_so.1)
+complete c way.Source sb sa kb ka ask source sink keeper ends_so good alone none = absurd (none.no_source (source refl))
+complete c way.Sink sb sa kb ka ask source sink keeper ends_so good alone none = absurd (none.no_out (sink refl))
+complete c way.Keeper sb sa kb ka ask source sink keeper ends_so good alone none = absurd (none.no_keeper (keeper refl))
+complete c way.Memory sb sa kb ka ask source sink keeper ends_so good alone none = inr (inr refl)
+
+-- where the bytes are known, what follows
+pub follows : (left : Option (List ℕ)) (P Q : List ℕ → Type 0) → ((bytes : List ℕ) → P bytes → Q bytes) → IfSome left P → IfSome left Q
+follows None P Q f h = tt
+follows (Some bytes) P Q f h = f bytes h

@@ -1,0 +1,5 @@
+pub mod Alike
+pub mod Ends
+pub mod LiveScenarios
+pub mod Reports
+pub mod Runs

@@ -1,0 +1,47 @@
+-- What a live run reads.
+use Rattle.std.proofs.Common.{◌≡◌, ◌∙◌, ℕ, List, Option, Some, None, Ok, Err, refl, ap, subst, sym}
+use Rattle.std.specs.Prelude.{MatchOption, Result, ⊤}
+use Rattle.orch_base.specs.Gives.{Gives, ◌>>=◌}
+use Rattle.scenarios.specs.declared.scenario.Scenario.{Scenario}
+use Rattle.scenario_values.specs.declared.fault.Fault.{Fault}
+use Rattle.scenario_values.specs.declared.fault.ReadFault.{ReadFault}
+use Rattle.scenario_values.specs.declared.fault.ReadFault.TheVariants as reading
+use Rattle.scenario_values.specs.Faults.{fault_of}
+use Rattle.scenario_reader.specs.Scenarios.{scenario_in}
+use Rattle.top_call.specs.declared.reading.Stop.{Stop}
+use Rattle.top_call.specs.declared.reading.Stop.TheVariants as stops
+use Rattle.top_call.specs.Reads.{ReadsAs, stop_by}
+use Rattle.live_calls.specs.Reads.{live_scenario, of_one, one_node}
+
+-- a fault of the bytes is met before
+pub stays_read : (bytes : List ℕ) (e : Stop) → ReadsAs (scenario_in bytes) (Err e) → ReadsAs (live_scenario bytes) (Err e)
+stays_read bytes stops.Memory read = tt
+stays_read bytes stops.Source read = tt
+stays_read bytes (stops.Fault f) read = ap (λ (r : Result Scenario Fault). r >>= of_one) read
+
+module _ (bytes : List ℕ) (s : Scenario) (read : scenario_in bytes ≡ Ok s) where
+  with_nodes : (r : Result (Unit {0}) Fault) → one_node s.nodes ≡ r → live_scenario bytes ≡ (r >>= (λ one. Ok s))
+  with_nodes r is = ap (λ (x : Result Scenario Fault). x >>= of_one) read ∙ ap (λ (x : Result (Unit {0}) Fault). x >>= (λ one. Ok s)) is
+
+  pub one_read : one_node s.nodes ≡ Ok tt → live_scenario bytes ≡ Ok s
+  one_read is = with_nodes (Ok tt) is
+
+  pub several_read : (fault : ReadFault) → Gives {X = Unit {0}} {Y = Unit {0}} (λ one. tt) fault_of (Err fault) (one_node s.nodes) → ReadsAs (live_scenario bytes) (Err (stop_by fault))
+  several_read reading.Memory gives = tt
+  several_read (reading.Fault f) gives = with_nodes (Err f) gives
+
+-- what a live run reads is what the bytes are
+of_one_back : (t s : Scenario) (r : Result (Unit {0}) Fault) → (r >>= (λ one. Ok t)) ≡ Ok s → t ≡ s
+of_one_back t s (Ok one) is = cc
+of_one_back t s (Err f) is = absurd cc
+
+pub live_read : (bytes : List ℕ) (s : Scenario) → live_scenario bytes ≡ Ok s → scenario_in bytes ≡ Ok s
+live_read bytes s is = go (scenario_in bytes) is
+  where
+    go : (r : Result Scenario Fault) → (r >>= of_one) ≡ Ok s → r ≡ Ok s
+    go (Ok t) same = ap Ok (of_one_back t s (one_node t.nodes) same)
+    go (Err f) same = absurd cc
+
+-- where the bytes are a scenario of one orchestrator
+pub alone_read : (bytes : List ℕ) (s : Scenario) → scenario_in bytes ≡ Ok s → s.nodes ≡ 1 → live_scenario bytes ≡ Ok s
+alone_read bytes s read one = one_read bytes s read (ap one_node one)

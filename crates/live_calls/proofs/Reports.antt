@@ -1,0 +1,53 @@
+-- What a live run writes and keeps.
+use Rattle.std.proofs.Common.{◌≡◌, ◌∙◌, ℕ, ◌≤◌, List, Option, ap, arith, subst, inl, inr}
+use Rattle.kept_rows.specs.declared.row.Row.{Row}
+use Rattle.orch_base.specs.Names.{HostPort}
+use Rattle.orch_core.specs.Runs.{Recorded}
+use Rattle.orch_core.specs.States.{State}
+use Rattle.scenarios.specs.declared.scenario.Scenario.{Scenario}
+use Rattle.scenarios.specs.Scenarios.{names_of}
+use Rattle.turns.specs.declared.turn.Turn.{Turn}
+use Rattle.turns.specs.declared.reply.Reply.{Reply}
+use Rattle.live_desk.specs.Desks.{run_of}
+use Rattle.live_desk.specs.Ends.{IsLive, rows_after, state_after}
+use Rattle.live_desk.specs.Entries.{Entry, turns_in}
+use Rattle.schedules.specs.Turns.{schedule_line}
+use Rattle.tasks.specs.declared.ending.Ending.{Ending}
+use Rattle.tasks.specs.declared.ending.Ending.TheVariants as ends
+use Rattle.tasks.specs.Endings.{HasKeepersCause}
+use Rattle.tasks.specs.Journals.{JournalStands, told_run}
+use Rattle.tasks.specs.Sinks.{End}
+use Rattle.live_calls.specs.Reports.{Delivers, LiveReport, Ran, live_report, run_report}
+
+-- the rows are kept, and behind that it is written
+pub delivered : (names : List HostPort) (ts : List Turn) (run : Recorded) (rows : List Row) (head : List ℕ) (old new : Option (List Row)) (out : End) (ending : Ending) → head ≡ schedule_line names ts → new ≡ (run_report names ts run rows old).kept
+    → JournalStands head names run out ending → Delivers (run_report names ts run rows old) old new out ending
+delivered names ts run rows head old new out ending line kept stands = go ending (subst (λ (h : List ℕ). JournalStands h names run out ending) line stands)
+  where
+    go : (e : Ending) → JournalStands (schedule_line names ts) names run out e → Delivers (run_report names ts run rows old) old new out e
+    go (ends.Written refused) at = (kept, at.0, at.1)
+    go ends.Unwritten at = (kept, at)
+    go ends.Keeper at = absurd at
+    go ends.Memory at = (inr kept, at)
+
+-- the run of a journal is that of its turns
+told_is : (s : Scenario) (wait : ℕ) (es : List Entry) (state : State) → IsLive s wait es → state ≡ state_after s wait es → told_run state es ≡ (run_of s wait (turns_in es)).state
+told_is s wait es state is same =
+    ap (λ (t : State). told_run t es) same
+    ∙ ap (λ (j : List (Turn × Reply)). record { state = state_after s wait es; journal = j }) is.run
+
+pub tells : (s : Scenario) (wait : ℕ) (names : List HostPort) (es : List Entry) (state : State) (rows : List Row) (old new : Option (List Row)) (out : End) (ending : Ending) → names ≡ names_of s → IsLive s wait es → state ≡ state_after s wait es → rows ≡ rows_after s wait es
+    → Delivers (run_report names (turns_in es) (told_run state es) rows old) old new out ending → Ran s wait old new out ending
+tells s wait names es state rows old new out ending named is at kept delivers =
+    let same : run_report names (turns_in es) (told_run state es) rows old ≡ live_report s wait old es =
+    ap (λ (ns : List HostPort). run_report ns (turns_in es) (told_run state es) rows old) named
+    ∙ (ap (λ (run : Recorded). run_report (names_of s) (turns_in es) run rows old) (told_is s wait es state is at)
+    ∙ ap (λ (rs : List Row). run_report (names_of s) (turns_in es) (run_of s wait (turns_in es)).state rs old) kept) in
+    record { entries = es; is = is; delivers = subst (λ (r : LiveReport). Delivers r old new out ending) same delivers }
+
+-- the keeper's count stands where the rows were kept
+pub kept_cause : (before now : ℕ) (head : List ℕ) (names : List HostPort) (run : Recorded) (out : End) (ending : Ending) → now ≡ before → JournalStands head names run out ending → HasKeepersCause before now ending
+kept_cause before now head names run out (ends.Written refused) same at = record { later = omega (arith, same); written = λ r is. same; unwritten = λ is. absurd cc; failed = λ is. absurd cc; memory = λ is. absurd cc }
+kept_cause before now head names run out ends.Unwritten same at = record { later = omega (arith, same); written = λ r is. absurd cc; unwritten = λ is. inl same; failed = λ is. absurd cc; memory = λ is. absurd cc }
+kept_cause before now head names run out ends.Keeper same at = absurd at
+kept_cause before now head names run out ends.Memory same at = record { later = omega (arith, same); written = λ r is. absurd cc; unwritten = λ is. absurd cc; failed = λ is. absurd cc; memory = λ is. same }

@@ -1,0 +1,218 @@
+use Rattle.std.proofs.Common.{◌∙◌, ℕ, List, inl, map, refl, subst, sym}
+use Rattle.std.specs.Prelude.{IfSome}
+use Rattle.command_line.specs.declared.parts.Drawing.{Drawing}
+use Rattle.tasks.specs.Sinks.{End, between, taken}
+use Rattle.top_call.specs.declared.way.Way.TheVariants as way
+use Rattle.top_call.specs.Ends.{AskToDraw, DrawEnds, FaultsBy, IsComplete, IsUsage, StopsAtFirst, call}
+use Rattle.top_call.proofs.Ends.{each, idles, lifted, keeper_rose, known, no_usage, of_four, of_three, undrawn, unmoved}
+use Rattle.top_call.proofs.Reports.{both, err_by, kept_by_report, out_by, status_told}
+use Rattle.top_call.proofs.Runs.{active_alone, begin_apart, finish_well, tell_hooks, tell_truly, obeys, safe_run}
+use Rattle.live_calls.specs.Ends.{AskLive, IsPlain}
+use Rattle.live_calls.specs.Reads.{live_scenario}
+use Rattle.live_calls.proofs.Ends.{are_live, are_plain, complete, faults, follows, live_draws_nothing, never_both, read_whole}
+use Rattle.live_calls.proofs.Runs.{goes_well}
+use Rattle.live_calls.proofs.top.orch.Goals as goal
+
+-- ---- the words ask for a live run
+
+pub returns-in-Ok-Some-clause-usage : goal.returns-in-Ok-Some-clause-usage
+returns-in-Ok-Some-clause-usage g c =
+    let words : List (List ℕ) = map (λ w. w.items) c.args.words.now in
+    subst (λ (n : ℕ). IsUsage words n) (sym c.status.ensures) (no_usage words c.in-Ok-Some.places c.answer.result (are_live _ _ _ c.in-Ok-Some.field-0-is c.in-Ok-Some.ensures).0 c.answer.ensures.not_usage)
+
+pub returns-in-Ok-Some-clause-fault : goal.returns-in-Ok-Some-clause-fault
+returns-in-Ok-Some-clause-fault g c = λ plain. absurd (never_both (map (λ w. w.items) c.args.words.now) plain (record { places = c.in-Ok-Some.places; taken = (are_live _ _ _ c.in-Ok-Some.field-0-is c.in-Ok-Some.ensures).0; live = (are_live _ _ _ c.in-Ok-Some.field-0-is c.in-Ok-Some.ensures).1 }))
+
+pub returns-in-Ok-Some-clause-live_fault : goal.returns-in-Ok-Some-clause-live_fault
+returns-in-Ok-Some-clause-live_fault g c = λ ask.
+    let words : List (List ℕ) = map (λ w. w.items) c.args.words.now in
+    known (g.S.Source.left c.args.scenario.now) _ _
+    (λ bytes e. subst (λ (n : ℕ). FaultsBy (live_scenario bytes) n) (sym c.status.ensures) (faults (call words bytes _ _ _ _) c.answer.result e)) (c.answer.ensures.ends words (are_live _ _ _ c.in-Ok-Some.field-0-is c.in-Ok-Some.ensures).0)
+
+pub returns-in-Ok-Some-clause-source : goal.returns-in-Ok-Some-clause-source
+returns-in-Ok-Some-clause-source g c = λ three. c.answer.ensures.source (of_three c.answer.result (sym c.status.ensures ∙ three))
+
+pub returns-in-Ok-Some-clause-sink : goal.returns-in-Ok-Some-clause-sink
+returns-in-Ok-Some-clause-sink g c = λ four. inl (c.answer.ensures.sink (of_four c.answer.result (sym c.status.ensures ∙ four)))
+
+pub returns-in-Ok-Some-clause-keeper : goal.returns-in-Ok-Some-clause-keeper
+returns-in-Ok-Some-clause-keeper g c = subst (λ (n : ℕ). StopsAtFirst (g.K.Keeper.faults c.args.keeper.now) (g.K.Keeper.faults c.answer.new.keeper) n) (sym c.status.ensures) c.answer.ensures.keeper
+
+pub returns-in-Ok-Some-clause-read : goal.returns-in-Ok-Some-clause-read
+returns-in-Ok-Some-clause-read g c =
+    let words : List (List ℕ) = map (λ w. w.items) c.args.words.now in
+    read_whole words (g.S.Source.left c.args.scenario.now) (g.S.Source.left c.answer.new.source) _ _ _ _ c.answer.result _ c.status.ensures c.answer.ensures.read (c.answer.ensures.ends words (are_live _ _ _ c.in-Ok-Some.field-0-is c.in-Ok-Some.ensures).0)
+
+pub returns-in-Ok-Some-clause-drawn : goal.returns-in-Ok-Some-clause-drawn
+returns-in-Ok-Some-clause-drawn g c = λ d ask. absurd (live_draws_nothing (map (λ w. w.items) c.args.words.now) c.in-Ok-Some.places d (are_live _ _ _ c.in-Ok-Some.field-0-is c.in-Ok-Some.ensures).0 (are_live _ _ _ c.in-Ok-Some.field-0-is c.in-Ok-Some.ensures).1 ask)
+
+pub returns-in-Ok-Some-clause-unread : goal.returns-in-Ok-Some-clause-unread
+returns-in-Ok-Some-clause-unread g c = λ d ask. absurd (live_draws_nothing (map (λ w. w.items) c.args.words.now) c.in-Ok-Some.places d (are_live _ _ _ c.in-Ok-Some.field-0-is c.in-Ok-Some.ensures).0 (are_live _ _ _ c.in-Ok-Some.field-0-is c.in-Ok-Some.ensures).1 ask)
+
+pub returns-in-Ok-Some-clause-unkept : goal.returns-in-Ok-Some-clause-unkept
+returns-in-Ok-Some-clause-unkept g c = λ d ask. absurd (live_draws_nothing (map (λ w. w.items) c.args.words.now) c.in-Ok-Some.places d (are_live _ _ _ c.in-Ok-Some.field-0-is c.in-Ok-Some.ensures).0 (are_live _ _ _ c.in-Ok-Some.field-0-is c.in-Ok-Some.ensures).1 ask)
+
+pub returns-in-Ok-Some-clause-live : goal.returns-in-Ok-Some-clause-live
+returns-in-Ok-Some-clause-live g c = λ ask. lifted (g.S.Source.left c.args.scenario.now) _ _ (λ bytes e. (c.answer.result, c.status.ensures, e)) (c.answer.ensures.ends (map (λ w. w.items) c.args.words.now) (are_live _ _ _ c.in-Ok-Some.field-0-is c.in-Ok-Some.ensures).0)
+
+pub returns-in-Ok-Some-clause-ends : goal.returns-in-Ok-Some-clause-ends
+returns-in-Ok-Some-clause-ends g c = λ plain. absurd (never_both (map (λ w. w.items) c.args.words.now) plain (record { places = c.in-Ok-Some.places; taken = (are_live _ _ _ c.in-Ok-Some.field-0-is c.in-Ok-Some.ensures).0; live = (are_live _ _ _ c.in-Ok-Some.field-0-is c.in-Ok-Some.ensures).1 }))
+
+pub returns-in-Ok-Some-clause-status : goal.returns-in-Ok-Some-clause-status
+returns-in-Ok-Some-clause-status g c = λ plain. absurd (never_both (map (λ w. w.items) c.args.words.now) plain (record { places = c.in-Ok-Some.places; taken = (are_live _ _ _ c.in-Ok-Some.field-0-is c.in-Ok-Some.ensures).0; live = (are_live _ _ _ c.in-Ok-Some.field-0-is c.in-Ok-Some.ensures).1 }))
+
+pub returns-in-Ok-Some-clause-out : goal.returns-in-Ok-Some-clause-out
+returns-in-Ok-Some-clause-out g c = λ plain. absurd (never_both (map (λ w. w.items) c.args.words.now) plain (record { places = c.in-Ok-Some.places; taken = (are_live _ _ _ c.in-Ok-Some.field-0-is c.in-Ok-Some.ensures).0; live = (are_live _ _ _ c.in-Ok-Some.field-0-is c.in-Ok-Some.ensures).1 }))
+
+pub returns-in-Ok-Some-clause-err : goal.returns-in-Ok-Some-clause-err
+returns-in-Ok-Some-clause-err g c = λ plain. absurd (never_both (map (λ w. w.items) c.args.words.now) plain (record { places = c.in-Ok-Some.places; taken = (are_live _ _ _ c.in-Ok-Some.field-0-is c.in-Ok-Some.ensures).0; live = (are_live _ _ _ c.in-Ok-Some.field-0-is c.in-Ok-Some.ensures).1 }))
+
+pub returns-in-Ok-Some-clause-kept : goal.returns-in-Ok-Some-clause-kept
+returns-in-Ok-Some-clause-kept g c = λ plain. absurd (never_both (map (λ w. w.items) c.args.words.now) plain (record { places = c.in-Ok-Some.places; taken = (are_live _ _ _ c.in-Ok-Some.field-0-is c.in-Ok-Some.ensures).0; live = (are_live _ _ _ c.in-Ok-Some.field-0-is c.in-Ok-Some.ensures).1 }))
+
+pub returns-in-Ok-Some-clause-complete : goal.returns-in-Ok-Some-clause-complete
+returns-in-Ok-Some-clause-complete g c =
+    let words : List (List ℕ) = map (λ w. w.items) c.args.words.now in
+    known (g.S.Source.left c.args.scenario.now) _ _
+    (λ bytes e good alone none. subst IsComplete (sym c.status.ensures) (complete (call words bytes _ _ _ _) c.answer.result _ _ _ _ (record { places = c.in-Ok-Some.places; taken = (are_live _ _ _ c.in-Ok-Some.field-0-is c.in-Ok-Some.ensures).0; live = (are_live _ _ _ c.in-Ok-Some.field-0-is c.in-Ok-Some.ensures).1 }) c.answer.ensures.source c.answer.ensures.sink (keeper_rose _ _ c.answer.result c.answer.ensures.keeper) e good alone none))
+    (c.answer.ensures.ends words (are_live _ _ _ c.in-Ok-Some.field-0-is c.in-Ok-Some.ensures).0)
+
+pub returns-in-Ok-Some-clause-safe : goal.returns-in-Ok-Some-clause-safe
+returns-in-Ok-Some-clause-safe g c = safe_run (map (λ w. w.items) c.args.words.now)
+
+pub returns-in-Ok-Some-clause-commands : goal.returns-in-Ok-Some-clause-commands
+returns-in-Ok-Some-clause-commands g c = obeys (map (λ w. w.items) c.args.words.now)
+
+pub returns-in-Ok-Some-clause-begins : goal.returns-in-Ok-Some-clause-begins
+returns-in-Ok-Some-clause-begins g c = begin_apart (map (λ w. w.items) c.args.words.now)
+
+pub returns-in-Ok-Some-clause-finishes : goal.returns-in-Ok-Some-clause-finishes
+returns-in-Ok-Some-clause-finishes g c = finish_well (map (λ w. w.items) c.args.words.now)
+
+pub returns-in-Ok-Some-clause-losses : goal.returns-in-Ok-Some-clause-losses
+returns-in-Ok-Some-clause-losses g c = tell_truly (map (λ w. w.items) c.args.words.now)
+
+pub returns-in-Ok-Some-clause-alone : goal.returns-in-Ok-Some-clause-alone
+returns-in-Ok-Some-clause-alone g c = active_alone (map (λ w. w.items) c.args.words.now)
+
+pub returns-in-Ok-Some-clause-hooks : goal.returns-in-Ok-Some-clause-hooks
+returns-in-Ok-Some-clause-hooks g c = tell_hooks (map (λ w. w.items) c.args.words.now)
+
+pub returns-in-Ok-Some-clause-well : goal.returns-in-Ok-Some-clause-well
+returns-in-Ok-Some-clause-well g c = goes_well (map (λ w. w.items) c.args.words.now)
+
+-- ---- they don't
+
+pub returns-in-Ok-None-clause-fault : goal.returns-in-Ok-None-clause-fault
+returns-in-Ok-None-clause-fault g c = λ plain. c.orch_plain.ensures.fault
+
+pub returns-in-Ok-None-clause-live_fault : goal.returns-in-Ok-None-clause-live_fault
+returns-in-Ok-None-clause-live_fault g c = λ ask. absurd (never_both (map (λ w. w.items) c.args.words.now) (are_plain _ _ c.in-Ok-None.field-0-is c.in-Ok-None.ensures) ask)
+
+pub returns-in-Ok-None-clause-complete : goal.returns-in-Ok-None-clause-complete
+returns-in-Ok-None-clause-complete g c = follows (g.S.Source.left c.args.scenario.now) _ _ (λ bytes whole good alone none. whole good none) c.orch_plain.ensures.complete
+
+pub returns-in-Ok-None-clause-live : goal.returns-in-Ok-None-clause-live
+returns-in-Ok-None-clause-live g c = λ ask. absurd (never_both (map (λ w. w.items) c.args.words.now) (are_plain _ _ c.in-Ok-None.field-0-is c.in-Ok-None.ensures) ask)
+
+pub returns-in-Ok-None-clause-ends : goal.returns-in-Ok-None-clause-ends
+returns-in-Ok-None-clause-ends g c = λ plain. c.orch_plain.ensures.ends
+
+pub returns-in-Ok-None-clause-status : goal.returns-in-Ok-None-clause-status
+returns-in-Ok-None-clause-status g c = λ plain. c.orch_plain.ensures.status
+
+pub returns-in-Ok-None-clause-out : goal.returns-in-Ok-None-clause-out
+returns-in-Ok-None-clause-out g c = λ plain. c.orch_plain.ensures.out
+
+pub returns-in-Ok-None-clause-err : goal.returns-in-Ok-None-clause-err
+returns-in-Ok-None-clause-err g c = λ plain. c.orch_plain.ensures.err
+
+pub returns-in-Ok-None-clause-kept : goal.returns-in-Ok-None-clause-kept
+returns-in-Ok-None-clause-kept g c = λ plain. c.orch_plain.ensures.kept
+
+pub returns-in-Ok-None-clause-safe : goal.returns-in-Ok-None-clause-safe
+returns-in-Ok-None-clause-safe g c = safe_run (map (λ w. w.items) c.args.words.now)
+
+pub returns-in-Ok-None-clause-commands : goal.returns-in-Ok-None-clause-commands
+returns-in-Ok-None-clause-commands g c = obeys (map (λ w. w.items) c.args.words.now)
+
+pub returns-in-Ok-None-clause-begins : goal.returns-in-Ok-None-clause-begins
+returns-in-Ok-None-clause-begins g c = begin_apart (map (λ w. w.items) c.args.words.now)
+
+pub returns-in-Ok-None-clause-finishes : goal.returns-in-Ok-None-clause-finishes
+returns-in-Ok-None-clause-finishes g c = finish_well (map (λ w. w.items) c.args.words.now)
+
+pub returns-in-Ok-None-clause-losses : goal.returns-in-Ok-None-clause-losses
+returns-in-Ok-None-clause-losses g c = tell_truly (map (λ w. w.items) c.args.words.now)
+
+pub returns-in-Ok-None-clause-alone : goal.returns-in-Ok-None-clause-alone
+returns-in-Ok-None-clause-alone g c = active_alone (map (λ w. w.items) c.args.words.now)
+
+pub returns-in-Ok-None-clause-hooks : goal.returns-in-Ok-None-clause-hooks
+returns-in-Ok-None-clause-hooks g c = tell_hooks (map (λ w. w.items) c.args.words.now)
+
+pub returns-in-Ok-None-clause-well : goal.returns-in-Ok-None-clause-well
+returns-in-Ok-None-clause-well g c = goes_well (map (λ w. w.items) c.args.words.now)
+
+-- ---- memory ran out
+
+pub returns-in-Err-clause-keeper : goal.returns-in-Err-clause-keeper
+returns-in-Err-clause-keeper g c = subst (λ (n : ℕ). StopsAtFirst (g.K.Keeper.faults c.args.keeper.now) (g.K.Keeper.faults c.args.keeper.now) n) (sym c.status-in-Err.ensures) (unmoved _ _ way.Memory (λ is. absurd cc) refl)
+
+pub returns-in-Err-clause-live : goal.returns-in-Err-clause-live
+returns-in-Err-clause-live g c = λ ask.
+    let words : List (List ℕ) = map (λ w. w.items) c.args.words.now in
+    each (g.S.Source.left c.args.scenario.now) _ (λ bytes. (way.Memory, c.status-in-Err.ensures, inl (idles words bytes _ _ _ _ c.close.ensures.took)))
+
+pub returns-in-Err-clause-ends : goal.returns-in-Err-clause-ends
+returns-in-Err-clause-ends g c = λ plain.
+    let words : List (List ℕ) = map (λ w. w.items) c.args.words.now in
+    each (g.S.Source.left c.args.scenario.now) _ (λ bytes. (way.Memory, c.status-in-Err.ensures, inl (idles words bytes _ _ _ _ c.close.ensures.took)))
+
+pub returns-in-Err-clause-drawn : goal.returns-in-Err-clause-drawn
+returns-in-Err-clause-drawn g c = λ d ask.
+    let out = taken (g.O.Sink.written c.args.out.now) (g.O.Sink.faults c.args.out.now) in
+    let err : End = between (taken (g.E.Sink.written c.args.err.now) (g.E.Sink.faults c.args.err.now)) (taken (g.E.Sink.written c.close.new.err) (g.E.Sink.faults c.close.new.err)) in
+    subst (λ (n : ℕ). DrawEnds d n (between out out) err) (sym c.status-in-Err.ensures) (undrawn d out err c.close.ensures.took)
+
+pub returns-in-Err-clause-safe : goal.returns-in-Err-clause-safe
+returns-in-Err-clause-safe g c = safe_run (map (λ w. w.items) c.args.words.now)
+
+pub returns-in-Err-clause-commands : goal.returns-in-Err-clause-commands
+returns-in-Err-clause-commands g c = obeys (map (λ w. w.items) c.args.words.now)
+
+pub returns-in-Err-clause-begins : goal.returns-in-Err-clause-begins
+returns-in-Err-clause-begins g c = begin_apart (map (λ w. w.items) c.args.words.now)
+
+pub returns-in-Err-clause-finishes : goal.returns-in-Err-clause-finishes
+returns-in-Err-clause-finishes g c = finish_well (map (λ w. w.items) c.args.words.now)
+
+pub returns-in-Err-clause-losses : goal.returns-in-Err-clause-losses
+returns-in-Err-clause-losses g c = tell_truly (map (λ w. w.items) c.args.words.now)
+
+pub returns-in-Err-clause-alone : goal.returns-in-Err-clause-alone
+returns-in-Err-clause-alone g c = active_alone (map (λ w. w.items) c.args.words.now)
+
+pub returns-in-Err-clause-hooks : goal.returns-in-Err-clause-hooks
+returns-in-Err-clause-hooks g c = tell_hooks (map (λ w. w.items) c.args.words.now)
+
+pub returns-in-Err-clause-well : goal.returns-in-Err-clause-well
+returns-in-Err-clause-well g c = goes_well (map (λ w. w.items) c.args.words.now)
+
+pub returns-in-Err-clause-status : goal.returns-in-Err-clause-status
+returns-in-Err-clause-status g c = λ plain.
+    status_told (g.S.Source.left c.args.scenario.now) (g.K.Keeper.kept c.args.keeper.now) (g.K.Keeper.kept c.args.keeper.now) (map (λ w. w.items) c.args.words.now)
+    (between (taken (g.O.Sink.written c.args.out.now) (g.O.Sink.faults c.args.out.now)) (taken (g.O.Sink.written c.args.out.now) (g.O.Sink.faults c.args.out.now)))
+    (between (taken (g.E.Sink.written c.args.err.now) (g.E.Sink.faults c.args.err.now)) (taken (g.E.Sink.written c.close.new.err) (g.E.Sink.faults c.close.new.err))) _ (returns-in-Err-clause-ends g c plain)
+
+pub returns-in-Err-clause-out : goal.returns-in-Err-clause-out
+returns-in-Err-clause-out g c = λ plain.
+    both (g.S.Source.left c.args.scenario.now) (g.K.Keeper.kept c.args.keeper.now) _ _ (λ bytes rows known by. out_by (call (map (λ w. w.items) c.args.words.now) bytes _ _ _ _) rows _ known by) (returns-in-Err-clause-ends g c plain)
+
+pub returns-in-Err-clause-err : goal.returns-in-Err-clause-err
+returns-in-Err-clause-err g c = λ plain.
+    both (g.S.Source.left c.args.scenario.now) (g.K.Keeper.kept c.args.keeper.now) _ _ (λ bytes rows known by. err_by (call (map (λ w. w.items) c.args.words.now) bytes _ _ _ _) rows _ known by) (returns-in-Err-clause-ends g c plain)
+
+pub returns-in-Err-clause-kept : goal.returns-in-Err-clause-kept
+returns-in-Err-clause-kept g c = λ plain.
+    both (g.S.Source.left c.args.scenario.now) (g.K.Keeper.kept c.args.keeper.now) _ _ (λ bytes rows known by. kept_by_report (call (map (λ w. w.items) c.args.words.now) bytes _ _ _ _) rows _ known by) (returns-in-Err-clause-ends g c plain)

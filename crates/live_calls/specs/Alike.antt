@@ -1,0 +1,21 @@
+-- A schedule as the turns of a scenario.
+use Rattle.std.specs.Prelude.{◌≡◌, ℕ, Bool, List, []}
+use Rattle.scenarios.specs.declared.scenario.Scenario.{Scenario}
+use Rattle.scenarios.specs.Scenarios.{flushes_of, names_of, room_of}
+use Rattle.turns.specs.declared.turn.Turn.{Turn}
+use Rattle.live_desk.specs.Desks.{run_of}
+use Rattle.tasks.specs.declared.asked.Asked.TheVariants as asked
+use Rattle.tasks.specs.declared.asked.Task.{Task}
+use Rattle.tasks.specs.Known.{task_answer}
+use Rattle.tasks.specs.Report.{run_answer}
+
+abbrev pub with_turns : Scenario → List Turn → Scenario
+with_turns s ts = record s { turns = ts }
+
+-- the task of `run`
+abbrev pub run_task : ℕ → Bool → Task
+run_task wait tables = record { waits = wait; asked = asked.Run; tables = tables }
+
+abbrev pub SchedulesRunAlike : Type 0
+SchedulesRunAlike = (s : Scenario) (wait : ℕ) (tables : Bool) (ts : List Turn) → room_of (with_turns s ts) ≡ room_of s → flushes_of (with_turns s ts) ≡ flushes_of s
+    → task_answer (run_task wait tables) (with_turns s ts) [] ≡ run_answer (names_of s) (run_of s wait ts).state

@@ -1,0 +1,77 @@
+-- How a call ends that asks for a live run.
+use Rattle.std.specs.Prelude.{◌≡◌, ℕ, ◌⊎◌, true, false, List, [], codes, IfSome, Option, Some, None, Ok, Err}
+use Rattle.kept_rows.specs.declared.row.Row.{Row}
+use Rattle.scenarios.specs.declared.scenario.Scenario.{Scenario}
+use Rattle.scenario_values.specs.declared.fault.Fault.{Fault}
+use Rattle.scenario_reader.specs.Scenarios.{scenario_in}
+use Rattle.command_line.specs.declared.parts.Places.{Places}
+use Rattle.command_line.specs.Places.{is_live, places_of}
+use Rattle.live_desk.specs.Ends.{IsLive}
+use Rattle.live_desk.specs.Entries.{Entry}
+use Rattle.tasks.specs.Sinks.{End, FailsIn, Takes, TakesFront, TakesLine}
+use Rattle.top_call.specs.Ends.{Call, FaultsBy, Idles, call, status_of}
+use Rattle.top_call.specs.Faults.{fault_text}
+use Rattle.top_call.specs.Reads.{OfRead}
+use Rattle.top_call.specs.declared.way.Way.{Way}
+use Rattle.top_call.specs.declared.way.Way.TheVariants as way
+use Rattle.live_calls.specs.Reads.{live_scenario}
+use Rattle.live_calls.specs.Reports.{LiveReport, live_report}
+
+-- the words aren't taken, or they don't name `live`
+abbrev pub IsPlain : List (List ℕ) → Type 0
+IsPlain words = (p : Places) → places_of words ≡ Ok p → is_live p ≡ false
+
+-- the words are taken, and name it
+pub record AskLive (words : List (List ℕ)) : Type 0 where
+  pub places : Places
+  pub taken : places_of words ≡ Ok places
+  pub live : is_live places ≡ true
+
+-- these are they, where the words name it
+abbrev pub LiveWords : List (List ℕ) → Option Places → Type 0
+LiveWords words None = IsPlain words
+LiveWords words (Some p) = (places_of words ≡ Ok p) × (is_live p ≡ true)
+
+-- The call's scenario was run in threads, and this holds of the report of what came of it: of a journal that is a run of
+-- the scenario's opening, with each of its commands once and in order, with all its other turns in order, and without a
+-- job that isn't ended.
+pub record Lives (c : Call) (P : LiveReport → Type 0) : Type 0 where
+  pub asks : AskLive c.words
+  pub scenario : Scenario
+  pub read : live_scenario c.bytes ≡ Ok scenario
+  pub entries : List Entry
+  pub is : IsLive scenario asks.places.wait entries
+  pub holds : P (live_report scenario asks.places.wait c.kept entries)
+
+-- What such a call has done by each way to end. The last rows are kept by one call before anything is written.
+abbrev pub LiveEnds : Call → Way → Type 0
+LiveEnds c (way.Reported refused) = Lives c (λ r. (c.kept_now ≡ r.kept) × Takes c.out r.out × Takes c.err [] × (refused ≡ r.is_refused))
+LiveEnds c way.Drawn = ⊥
+LiveEnds c way.Usage = ⊥
+LiveEnds c way.Fault = (f : Fault) × (live_scenario c.bytes ≡ Err f) × Idles c (fault_text f)
+LiveEnds c way.Source = Idles c (codes "read fault\n")
+LiveEnds c way.Sink = Lives c (λ r. (c.kept_now ≡ r.kept) × FailsIn c.out r.out × TakesLine c.err (codes "write fault\n"))
+LiveEnds c way.Keeper = Lives c (λ r. Idles c (codes "keeper fault\n"))
+LiveEnds c way.Memory =
+    Idles c (codes "out of memory\n") ⊎ Lives c (λ r. ((c.kept_now ≡ c.kept) ⊎ (c.kept_now ≡ r.kept)) × TakesFront c.out r.out × TakesLine c.err (codes "out of memory\n"))
+
+-- so ends a call of any words that these places are, over the bytes that were read
+abbrev pub LiveEndsOf : Places → Option (List ℕ) → Option (List Row) → Option (List Row) → End → End → Way → Type 0
+LiveEndsOf p left kept kept_now out err w = (words : List (List ℕ)) → places_of words ≡ Ok p → OfRead left (λ bytes. LiveEnds (call words bytes kept kept_now out err) w)
+
+-- over any bytes that are this scenario
+abbrev pub LiveEndsOver : Places → Scenario → Option (List Row) → Option (List Row) → End → End → Way → Type 0
+LiveEndsOver p s kept kept_now out err w = (words : List (List ℕ)) (bytes : List ℕ) → places_of words ≡ Ok p → live_scenario bytes ≡ Ok s → LiveEnds (call words bytes kept kept_now out err) w
+
+-- a call with this status ends by one of these ways
+abbrev pub LiveEndsBy : Call → ℕ → Type 0
+LiveEndsBy c status = (w : Way) × (status ≡ status_of w) × LiveEnds c w
+
+-- 2 exactly where the bytes that the source had, where they are known, have a fault for a live run, unless the source
+-- failed or memory ran out
+abbrev pub LiveFaultsOf : Option (List ℕ) → ℕ → Type 0
+LiveFaultsOf left status = IfSome left (λ bytes. FaultsBy (live_scenario bytes) status)
+
+-- where the words name `live` the bytes aren't a scenario of several orchestrators
+abbrev pub RunsAlone : List (List ℕ) → List ℕ → Type 0
+RunsAlone words bytes = AskLive words → (s : Scenario) → scenario_in bytes ≡ Ok s → s.nodes ≡ 1

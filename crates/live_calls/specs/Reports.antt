@@ -1,0 +1,65 @@
+-- What is written of a live run, and what is kept.
+use Rattle.std.specs.Prelude.{◌≡◌, ◌⊎◌, ◌++◌, ℕ, Bool, List, [], map, Option}
+use Rattle.std.specs.Option.{option_map}
+use Rattle.kept_rows.specs.declared.row.Row.{Row}
+use Rattle.kept_rows.specs.declared.row.Change.{Change}
+use Rattle.kept_rows.specs.declared.row.Change.TheVariants.{Put}
+use Rattle.kept_rows.specs.Rows.{changed}
+use Rattle.orch_base.specs.Names.{HostPort}
+use Rattle.orch_core.specs.Runs.{Recorded}
+use Rattle.scenarios.specs.declared.scenario.Scenario.{Scenario}
+use Rattle.scenarios.specs.Scenarios.{names_of}
+use Rattle.turns.specs.declared.turn.Turn.{Turn}
+use Rattle.live_desk.specs.Desks.{run_of}
+use Rattle.live_desk.specs.Ends.{IsLive, rows_after}
+use Rattle.live_desk.specs.Entries.{Entry, turns_in}
+use Rattle.schedules.specs.Turns.{schedule_line}
+use Rattle.tasks.specs.declared.ending.Ending.{Ending}
+use Rattle.tasks.specs.declared.ending.Ending.TheVariants as ends
+use Rattle.tasks.specs.Report.{any_refused, report_text}
+use Rattle.tasks.specs.Sinks.{End, FailsIn, Takes, TakesFront}
+
+-- what is to be written, whether a reply in it is refused or failed, and the keeper's rows then, where it tells them
+pub record LiveReport : Type 0 where
+  pub out : List ℕ
+  pub is_refused : Bool
+  pub kept : Option (List Row)
+
+abbrev pub puts : List Row → List Change
+puts rows = map (λ r. Put r) rows
+
+-- The line of a schedule, and behind it the report that `run` gives of its turns; and the rows that the keeper had, with
+-- the run's last rows put over them.
+abbrev pub run_report : List HostPort → List Turn → Recorded → List Row → Option (List Row) → LiveReport
+run_report names ts run rows old = record {
+  out = schedule_line names ts ++ report_text names run;
+  is_refused = any_refused run;
+  kept = option_map (λ had. changed had (puts rows)) old;
+}
+
+-- of the run over the turns of a journal, from the scenario's opening without kept rows
+abbrev pub live_report : Scenario → ℕ → Option (List Row) → List Entry → LiveReport
+live_report s wait old es = run_report (names_of s) (turns_in es) (run_of s wait (turns_in es)).state (rows_after s wait es) old
+
+-- What was kept and written of it at each ending: the rows are kept before anything is written.
+abbrev pub Delivers : LiveReport → Option (List Row) → Option (List Row) → End → Ending → Type 0
+Delivers r old new out (ends.Written refused) = (new ≡ r.kept) × Takes out r.out × (refused ≡ r.is_refused)
+Delivers r old new out ends.Unwritten = (new ≡ r.kept) × FailsIn out r.out
+Delivers r old new out ends.Keeper = (new ≡ old) × Takes out []
+Delivers r old new out ends.Memory = ((new ≡ old) ⊎ (new ≡ r.kept)) × TakesFront out r.out
+
+-- memory ran out before the run had ended: nothing was kept or written
+abbrev pub NeverRan : Option (List Row) → Option (List Row) → End → Ending → Type 0
+NeverRan old new out (ends.Written refused) = ⊥
+NeverRan old new out ends.Unwritten = ⊥
+NeverRan old new out ends.Keeper = ⊥
+NeverRan old new out ends.Memory = (new ≡ old) × Takes out []
+
+-- it ended with this journal, of which that is so
+pub record Ran (s : Scenario) (wait : ℕ) (old new : Option (List Row)) (out : End) (ending : Ending) : Type 0 where
+  pub entries : List Entry
+  pub is : IsLive s wait entries
+  pub delivers : Delivers (live_report s wait old entries) old new out ending
+
+abbrev pub LiveTells : Scenario → ℕ → Option (List Row) → Option (List Row) → End → Ending → Type 0
+LiveTells s wait old new out ending = Ran s wait old new out ending ⊎ NeverRan old new out ending

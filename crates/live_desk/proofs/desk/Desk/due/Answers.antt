@@ -1,0 +1,18 @@
+use Rattle.std.proofs.Common.{◌≡◌, ◌∙◌, ℕ, List, length, map, ap, sym, subst}
+use Rattle.turns.specs.declared.turn.Turn.{Turn}
+use Rattle.turns.specs.declared.reply.Reply.{Reply}
+use Rattle.orch_core.specs.Due.{IsDue}
+use Rattle.live_desk.specs.DeskBy.{desk_of}
+use Rattle.live_desk.specs.Desks.{DeskState}
+use Rattle.live_desk.specs.Entries.{turns_in}
+use Rattle.live_desk.proofs.Entries.{turns-pairs}
+use Rattle.live_desk.proofs.desk.Desk.due.Goals as goal
+
+pub returns : goal.returns
+returns c =
+    let d : DeskState = desk_of c.self.inside in
+    let is = c.self.invariant.desk in
+    let turns : map (λ (p : Turn × Reply). p.0) d.run.journal ≡ turns_in d.entries = sym (turns-pairs d.entries ∙ ap (map (λ (p : Turn × Reply). p.0)) is.journal) in
+    subst (λ (e : DeskState). IsDue (length e.scenario.opening.servers) (turns_in e.entries) c.due.result.0) c.self.view_is
+    (subst (λ (ts : List Turn). IsDue (length d.scenario.opening.servers) ts c.due.result.0) turns
+    (subst (λ (n : ℕ). IsDue n (map (λ (p : Turn × Reply). p.0) d.run.journal) c.due.result.0) is.servers c.due.ensures))

@@ -1,0 +1,127 @@
+use Rattle.std.proofs.Common.{◌≡◌, ◌∙◌, ◌-◌, ◌≤◌, ◌^◌, ◌++◌, ℕ, true, List, Option, length, ap, arith, rules, subst, sym}
+use Rattle.audit_log.specs.Audits.{AuditState, IsAudit, closed}
+use Rattle.instance_keeper.specs.Book.{book_made}
+use Rattle.kept_rows.specs.declared.row.Change.{Change}
+use Rattle.kept_rows.specs.declared.row.Row.{Row}
+use Rattle.opening_book.specs.Audits.{audit_of, latest_recovery}
+use Rattle.opening_book.specs.Counting.{counted}
+use Rattle.opening_book.specs.Opening.{loading}
+use Rattle.orch_core.specs.Periods.{period_by}
+use Rattle.orch_base.specs.declared.server.Moment.{Moment}
+use Rattle.turns.specs.declared.turn.Act.TheVariants as act
+use Rattle.turns.specs.declared.turn.Turn.TheVariants as turn
+use Rattle.orch_core.specs.Keeping.{StepsTo, kept_if, kept_with}
+use Rattle.orch_core.specs.Restarts.{interrupted_at, last_given, reloaded_audit, reloaded_moment, reloaded_rows, restart_changes}
+use Rattle.orch_core.specs.Runs.{engine}
+use Rattle.orch_core.specs.States.{State}
+use Rattle.orch_core.specs.EngineBy.{state_of}
+use Rattle.orch_core.proofs.States.{IsRestarted, IsState-restart, StepsTo-given, reloaded-is, step-restart, with_given}
+use Rattle.orch_core.proofs.engine.Engine.start_again.Goals as goal
+
+pub loaded_audit-requires : goal.loaded_audit-requires
+loaded_audit-requires g c =
+    let before = state_of c.self.inside in
+    let given = c.in_ok-given.given.items in
+    let count : c.servers.result ≡ length before.book.settings = c.servers.ensures.count ∙ c.self.invariant.names ∙ sym c.self.invariant.settings in
+    let items : c.counted_in_order-rows.result.items ≡ counted (length before.book.settings) (last_given before) given =
+    c.counted_in_order-rows.ensures ∙ ap (λ (n : ℕ). counted n (c.next-next.result - 1) given) count ∙ ap (λ (n : ℕ). counted (length before.book.settings) (n - 1) given) c.next-next.ensures in
+    let small = c.servers.ensures.holds.small in
+    let names = c.self.invariant.names in
+    let settings = c.self.invariant.settings in
+    let few : length before.book.settings ≤ 2 ^ 32 = omega (arith, small, names, settings) in
+    let same : audit_of (period_by before.configuration) c.next-next.result c.beyond_instances-others.result.now ≡ reloaded_audit given before =
+    c.beyond_instances-others.ensures.audit (period_by before.configuration) c.next-next.result
+    ∙ ap (λ (n : ℕ). audit_of (period_by before.configuration) n c.deref.result.now) c.next-next.ensures ∙ ap (audit_of (period_by before.configuration) before.audit.next) (c.deref.ensures.value ∙ items) in
+    subst IsAudit (sym same) (reloaded-is given before c.self.invariant few)
+
+pub invariant_of-self : goal.invariant_of-self
+invariant_of-self g c =
+    let before = state_of c.self.inside in
+    let given = c.in_ok-given.given.items in
+    let count : c.servers.result ≡ length before.book.settings = c.servers.ensures.count ∙ c.self.invariant.names ∙ sym c.self.invariant.settings in
+    let items : c.counted_in_order-rows.result.items ≡ counted (length before.book.settings) (last_given before) given =
+    c.counted_in_order-rows.ensures ∙ ap (λ (n : ℕ). counted n (c.next-next.result - 1) given) count ∙ ap (λ (n : ℕ). counted (length before.book.settings) (n - 1) given) c.next-next.ensures in
+    let small = c.servers.ensures.holds.small in
+    let names = c.self.invariant.names in
+    let settings = c.self.invariant.settings in
+    let few : length before.book.settings ≤ 2 ^ 32 = omega (arith, small, names, settings) in
+    let audited : c.in_ok-audit.audit.audit ≡ reloaded_audit given before =
+    c.in_ok-audit.ensures ∙ c.beyond_instances-others.ensures.audit (period_by before.configuration) c.next-next.result
+    ∙ ap (λ (n : ℕ). audit_of (period_by before.configuration) n c.deref.result.now) c.next-next.ensures ∙ ap (audit_of (period_by before.configuration) before.audit.next) (c.deref.ensures.value ∙ items) in
+    let moment = c.latest_recovery-moment.result in
+    let closes : c.close.new.self.audit ≡ closed c.in_ok-audit.audit.audit moment = search rules in
+    let latest : moment.0 ≡ reloaded_moment given before =
+    c.latest_recovery-moment.ensures ∙ ap (latest_recovery before.moment) (c.recoveries.ensures.list ∙ ap (λ (a : AuditState). a.recoveries) audited) in
+    let when : moment ≡ interrupted_at given before = ap (λ (n : ℕ). record { 0 = n }) latest in
+    let re : IsRestarted given before c.reload.new.self c.close.new.self.audit moment c.empty_slots.new.slots.items c.clear.new.self.items = record {
+      book = c.reload.ensures.made ∙ ap (book_made before.book.settings) items;
+      audit = closes ∙ ap (λ (a : AuditState). closed a moment) audited;
+      moment_is = when;
+      empty = c.empty_slots.ensures;
+      dropped = c.clear.ensures.items;
+    } in
+    IsState-restart given before c.reload.new.self c.close.new.self.audit moment c.empty_slots.new.slots.items c.clear.new.self.items re c.self.invariant few
+
+pub returns-clause-ok : goal.returns-clause-ok
+returns-clause-ok g c =
+    let before = state_of c.self.inside in
+    let given = c.in_ok-given.given.items in
+    let count : c.servers.result ≡ length before.book.settings = c.servers.ensures.count ∙ c.self.invariant.names ∙ sym c.self.invariant.settings in
+    let items : c.counted_in_order-rows.result.items ≡ counted (length before.book.settings) (last_given before) given =
+    c.counted_in_order-rows.ensures ∙ ap (λ (n : ℕ). counted n (c.next-next.result - 1) given) count ∙ ap (λ (n : ℕ). counted (length before.book.settings) (n - 1) given) c.next-next.ensures in
+    let small = c.servers.ensures.holds.small in
+    let names = c.self.invariant.names in
+    let settings = c.self.invariant.settings in
+    let few : length before.book.settings ≤ 2 ^ 32 = omega (arith, small, names, settings) in
+    let audited : c.in_ok-audit.audit.audit ≡ reloaded_audit given before =
+    c.in_ok-audit.ensures ∙ c.beyond_instances-others.ensures.audit (period_by before.configuration) c.next-next.result
+    ∙ ap (λ (n : ℕ). audit_of (period_by before.configuration) n c.deref.result.now) c.next-next.ensures ∙ ap (audit_of (period_by before.configuration) before.audit.next) (c.deref.ensures.value ∙ items) in
+    let moment = c.latest_recovery-moment.result in
+    let closes : c.close.new.self.audit ≡ closed c.in_ok-audit.audit.audit moment = search rules in
+    let latest : moment.0 ≡ reloaded_moment given before =
+    c.latest_recovery-moment.ensures ∙ ap (latest_recovery before.moment) (c.recoveries.ensures.list ∙ ap (λ (a : AuditState). a.recoveries) audited) in
+    let when : moment ≡ interrupted_at given before = ap (λ (n : ℕ). record { 0 = n }) latest in
+    let re : IsRestarted given before c.reload.new.self c.close.new.self.audit moment c.empty_slots.new.slots.items c.clear.new.self.items = record {
+      book = c.reload.ensures.made ∙ ap (book_made before.book.settings) items;
+      audit = closes ∙ ap (λ (a : AuditState). closed a moment) audited;
+      moment_is = when;
+      empty = c.empty_slots.ensures;
+      dropped = c.clear.ensures.items;
+    } in
+    let kept = g.K.Keeper.kept c.args.keeper.now in
+    let after : State = record before { moment = moment.0; book = c.reload.new.self; audit = c.close.new.self.audit; slots = c.empty_slots.new.slots.items; jobs = c.clear.new.self.items } in
+    subst (λ (s : State). StepsTo engine kept s (turn.Act act.Restart) after) c.self.view_is
+    (StepsTo-given kept given before after (turn.Act act.Restart) c.in_ok-given.ensures.told
+    (step-restart given before c.reload.new.self c.close.new.self.audit moment c.empty_slots.new.slots.items c.clear.new.self.items re))
+
+pub returns-clause-kept : goal.returns-clause-kept
+returns-clause-kept g c =
+    let before = state_of c.self.inside in
+    let given = c.in_ok-given.given.items in
+    let count : c.servers.result ≡ length before.book.settings = c.servers.ensures.count ∙ c.self.invariant.names ∙ sym c.self.invariant.settings in
+    let items : c.counted_in_order-rows.result.items ≡ counted (length before.book.settings) (last_given before) given =
+    c.counted_in_order-rows.ensures ∙ ap (λ (n : ℕ). counted n (c.next-next.result - 1) given) count ∙ ap (λ (n : ℕ). counted (length before.book.settings) (n - 1) given) c.next-next.ensures in
+    let small = c.servers.ensures.holds.small in
+    let names = c.self.invariant.names in
+    let settings = c.self.invariant.settings in
+    let few : length before.book.settings ≤ 2 ^ 32 = omega (arith, small, names, settings) in
+    let audited : c.in_ok-audit.audit.audit ≡ reloaded_audit given before =
+    c.in_ok-audit.ensures ∙ c.beyond_instances-others.ensures.audit (period_by before.configuration) c.next-next.result
+    ∙ ap (λ (n : ℕ). audit_of (period_by before.configuration) n c.deref.result.now) c.next-next.ensures ∙ ap (audit_of (period_by before.configuration) before.audit.next) (c.deref.ensures.value ∙ items) in
+    let moment = c.latest_recovery-moment.result in
+    let closes : c.close.new.self.audit ≡ closed c.in_ok-audit.audit.audit moment = search rules in
+    let latest : moment.0 ≡ reloaded_moment given before =
+    c.latest_recovery-moment.ensures ∙ ap (latest_recovery before.moment) (c.recoveries.ensures.list ∙ ap (λ (a : AuditState). a.recoveries) audited) in
+    let when : moment ≡ interrupted_at given before = ap (λ (n : ℕ). record { 0 = n }) latest in
+    let kept = g.K.Keeper.kept c.args.keeper.now in
+    let period = period_by before.configuration in
+    let own : c.in_ok-changes.changes.items ≡ restart_changes given before =
+    c.in_ok-changes.ensures ∙ c.beyond_instances-others.ensures.loading period c.in_ok-audit.audit.audit moment
+    ∙ ap (λ (xs : List Row). loading period xs c.in_ok-audit.audit.audit moment) (c.deref.ensures.value ∙ items)
+    ∙ ap (λ (a : AuditState). loading period (reloaded_rows given before) a moment) audited
+    ∙ ap (λ (m : Moment). loading period (reloaded_rows given before) (reloaded_audit given before) m) when in
+    let changes : c.deref-2.result.now ≡ restart_changes given before ++ c.args.more.items =
+    c.deref-2.ensures.value ∙ c.in_ok-append.ensures.items ∙ ap (λ (cs : List Change). cs ++ c.args.more.items) own in
+    c.in_ok-keep_some.ensures.kept ∙ ap (λ (k : Option (List Row)). kept_if true k c.deref-2.result.now) c.in_ok-given.ensures.kept
+    ∙ ap (λ (cs : List Change). kept_if true kept cs) changes ∙ with_given c.args.more.items kept given before c.in_ok-given.ensures.told
+    ∙ ap (λ (s : State). kept_with c.args.more.items true kept s) c.self.view_is

@@ -1,0 +1,477 @@
+-- Through runs the row at the claim's key is the kept claim's.
+use Rattle.std.proofs.Common.{◌≡◌, ◌∙◌, ℕ, ◌+◌, ◌<◌, ◌≤◌, ◌^◌, inl, inr, Bool, true, false, List, [], ◌∷◌, ◌++◌, length, map, Option, Some, None, Result, Ok, Err, refl, sym, ap, subst, arith, zero, suc}
+use Rattle.std.specs.Prelude.{All, AllPairs, IfSome, nat_lt, ◌==◌, filter, fold, if◌then◌else◌}
+use Rattle.std.specs.Option.{option_map, option_to_list}
+use Rattle.std.proofs.lemmas.Bool.{false≢true, ltb-true, eq-eqb}
+use Rattle.std.proofs.lemmas.List.Elements.{All-append, All-cons, All-filter, All-head, All-map, All-nil, All-tail, All-weaker}
+use Rattle.std.proofs.lemmas.List.Sums.{fold-append}
+use Rattle.orch_base.specs.declared.server.Moment.{Moment}
+use Rattle.orch_base.specs.declared.server.ServerNo.{ServerNo}
+use Rattle.kept_rows.specs.declared.recovery.Recovery.{Recovery}
+use Rattle.kept_rows.specs.declared.row.Change.{Change}
+use Rattle.kept_rows.specs.declared.row.Change.TheVariants as change
+use Rattle.kept_rows.specs.declared.row.Key.{Key}
+use Rattle.kept_rows.specs.declared.row.Key.TheVariants as key
+use Rattle.kept_rows.specs.declared.row.Row.{Row}
+use Rattle.kept_rows.specs.declared.row.Row.TheVariants as row
+use Rattle.kept_rows.specs.declared.row.Table.{Table}
+use Rattle.kept_rows.specs.declared.row.Table.TheVariants as table
+use Rattle.kept_rows.specs.Ranges.{IsInRange, IsKeyInRange}
+use Rattle.kept_rows.specs.Rows.{IsRising, changed, key_number, row_after, row_in, sort_key, sort_key_of}
+use Rattle.kept_rows.specs.Servers.{are_known, fits, is_of_book, key_servers, row_fits, source_servers, observed_servers}
+use Rattle.kept_rows.proofs.Known.{both_true, head_known}
+use Rattle.kept_rows.proofs.Lists.{pairs_head, pairs_tail}
+use Rattle.kept_rows.proofs.LookUps.{row_in-changed}
+use Rattle.node_claims.specs.Claims as claims
+use Rattle.node_claims.specs.Claims.{ClaimState, is_of}
+use Rattle.node_claims.specs.declared.claims.ClaimAnswer.{ClaimAnswer}
+use Rattle.node_claims.specs.declared.claims.ClaimAnswer.TheVariants as claim
+use Rattle.opening_book.proofs.Following.{PutsRecovery, is_eq}
+use Rattle.orch_core.specs.Nodes.{act_in, claim_changes, claim_changes_by, claim_or, is_kept_so, release_changes, release_changes_by}
+use Rattle.orch_core.specs.Polls.{changes_of, done_changes, act_changes, changes_by, command_outcome, numbers_of, slot_at}
+use Rattle.orch_core.specs.After.{after_done, step, after_act}
+use Rattle.orch_core.specs.States.{State, IsSlot}
+use Rattle.run_laws.specs.Claims.{IsClaimRow, claim_key, claim_row, claim_by_row}
+use Rattle.audit_log.specs.Audits.{AuditState, IsAudit, acking, closing, recovery_at}
+use Rattle.book_commands.specs.declared.decided.Decided.{Decided}
+use Rattle.book_commands.specs.declared.decided.Effect.{Effect}
+use Rattle.book_commands.specs.declared.decided.Effect.TheVariants as effect
+use Rattle.book_commands.specs.Decisions.{decided_of, rows_of}
+use Rattle.kept_rows.specs.Recoveries.{put_recovery, as_row}
+use Rattle.opening_book.proofs.Recoveries.{acking-small, audit-loaded, closing-small, last_id-within, puts-loaded}
+use Rattle.std.proofs.lemmas.List.{length-map}
+use Rattle.kept_rows.specs.declared.observation.Observation.{Observation}
+use Rattle.server_words.specs.declared.status.Status.{Status as Seen}
+use Rattle.instance_keeper.specs.Book.{BookState, discovery_change, instance_at, IsBook}
+use Rattle.scenarios.specs.declared.scenario.Scenario.{Scenario}
+use Rattle.turns.specs.declared.turn.Act.{Act}
+use Rattle.turns.specs.declared.turn.Act.TheVariants as act
+use Rattle.turns.specs.declared.turn.Turn.{Turn}
+use Rattle.turns.specs.declared.turn.Turn.TheVariants as turn
+use Rattle.commands.specs.declared.turn.CommandTurn.{CommandTurn}
+use Rattle.jobs_in_flight.specs.Jobs.{job_at, job_observation}
+use Rattle.orch_core.specs.Jobs.{turned_at}
+use Rattle.recovery_core.specs.Tries.{Begins as RecoveryBegins, recovery_try, takeover_try}
+use Rattle.orch_base.specs.declared.recovery.Ending.{Ending}
+use Rattle.orch_core.specs.Closings.{closing_changes, closing_of}
+use Rattle.orch_core.specs.Knowing.{Knowledge, updated}
+use Rattle.orch_core.specs.Commands.{Outcome, about as given_or, asked, begun, by_hand, decided, discovered, entries_put, forgotten, next_reading, outcome_by, outcome_of, question, recovered, recovery_begun, refusal, removal, removal_refusal, taken_over}
+use Rattle.orch_core.specs.HookTelling.{told_try}
+use Rattle.orch_core.specs.Restarts.{interrupted_at, last_given, reloaded_audit, reloaded_rows, restart_changes}
+use Rattle.orch_core.specs.Periods.{period_by}
+use Rattle.opening_book.specs.Opening.{blocks_given, missing_from, registering_from}
+use Rattle.orch_core.proofs.Outcomes.{IsEffectFor, decided-effect}
+use Rattle.command_routes.specs.declared.route.Route.{Route}
+use Rattle.command_routes.specs.declared.route.Route.TheVariants.{Discovers, Forgets, Asks, Decides, Begins, Recovers, TakesOver}
+use Rattle.command_routes.specs.Routes.{route_of}
+use Rattle.commands.specs.declared.line.Line.{Line}
+use Rattle.commands.specs.declared.refusal.Refusal.{Refusal}
+use Rattle.commands.specs.declared.refusal.Refusal.TheVariants.{UnknownInstance}
+use Rattle.commands.specs.Turns.{is_within}
+use Rattle.asking_commands.specs.Answers.{allowed, lines_of, permitted}
+use Rattle.scenarios.specs.Scenarios.{IsScenario, period_of}
+use Rattle.orch_core.specs.Scenarios.{loaded_audit, loaded_book, start, start_changes, start_moment, start_rows, start_world, start_claim}
+use Rattle.opening_book.specs.Counting.{greatest_id, counts}
+use Rattle.scenarios.specs.Turns.{IsAct, IsCommand, IsTurn}
+use Rattle.orch_core.proofs.Servers.{servers-start}
+use Rattle.orch_core.proofs.Starts.{all-missing, all-registering, opened-is, sources-start}
+use Rattle.command_routes.specs.declared.route.Planner.{Planner}
+use Rattle.command_jobs.specs.Jobs.{job_by, leases_by, refusal_by}
+use Rattle.job_laws.proofs.Lists.{All-at}
+use Rattle.orch_core.specs.Settling.{known_of}
+use Rattle.run_laws.specs.Begins.{entries_of}
+use Rattle.run_laws.specs.Ready.{AreShort, Ready}
+use Rattle.run_laws.proofs.Periods.{short-by}
+use Rattle.run_laws.proofs.Beginnings.{small-ids}
+use Rattle.run_laws.proofs.Closings.{end-puts, end-small, end_changes, ended_as, turned-ends}
+use Rattle.run_laws.proofs.Counting.{next-goes-on}
+use Rattle.run_laws.specs.Entries.{recoveries_begun}
+use Rattle.run_laws.specs.Flights.{moment_at}
+use Rattle.orch_core.proofs.Claims.{act-fits}
+use Rattle.orch_core.specs.Runs.{Held, engine, held_run, held_step}
+use Rattle.orch_core.proofs.States.{one_known}
+use Rattle.run_laws.proofs.Follows.{reading-known, within-given, entries-puts}
+use Rattle.run_laws.proofs.Audits.{FollowsBoth, IsBooked, both-run, both-whole, discovery-booked, held-start, job-booked, next-run, one-booked, slot-booked}
+use Rattle.run_laws.proofs.NodeClaims.{act-claims}
+use Rattle.run_laws.specs.KeptRows.{RunClaimsAreFollowed}
+use Rattle.kept_rows.proofs.Rising.{map_of-risen}
+
+-- ---- changes of other rows
+
+off-below : (k : ℕ) → k < claim_key → (k == claim_key) ≡ false
+off-below k h = grind arith
+
+-- the row at the claim's key stays
+abbrev pub IsAside : Change → Type 0
+IsAside c = (x : Option Row) → row_after claim_key x c ≡ x
+
+aside-put : (r : Row) → sort_key_of r < claim_key → IsAside (change.Put r)
+aside-put r less = λ x. ap (λ (b : Bool). if b then Some r else x) (off-below (sort_key_of r) less)
+
+aside-remove : (t : Table) (k : Key) → sort_key t k < claim_key → IsAside (change.Remove t k)
+aside-remove t k less = λ x. ap (λ (b : Bool). if b then None else x) (off-below (sort_key t k) less)
+
+-- a change of the book
+booked-row : (count : ℕ) → count ≤ 2 ^ 32 → (r : Row) → row_fits count r ≡ true → sort_key_of r < claim_key
+booked-row count few (row.Instance i) h = let less = head_known count i.no.0 (source_servers i.seen.source) h in omega (arith, less, few)
+booked-row count few (row.Downtime d) h = let less = head_known count d.no.0 [] h in omega (arith, less, few)
+booked-row count few (row.Candidate c) h = let less = head_known count c.no.0 [] h in omega (arith, less, few)
+booked-row count few (row.Recovery r) h = absurd (false≢true h)
+booked-row count few (row.Switch e) h = omega arith
+booked-row count few (row.Active node end) h = absurd (false≢true h)
+
+key-within : (k : Key) → IsKeyInRange k → key_number k ≤ 2 ^ 32 + 2 ^ 64 + 1
+key-within (key.Server n) range = omega (arith, range)
+key-within (key.Id id) range = omega (arith, range)
+key-within key.Global range = omega arith
+key-within key.Active range = omega arith
+
+booked-key : (t : Table) (k : Key) → is_of_book t ≡ true → IsKeyInRange k → sort_key t k < claim_key
+booked-key table.Instance k h range = let n = key-within k range in omega (arith, n)
+booked-key table.Downtime k h range = let n = key-within k range in omega (arith, n)
+booked-key table.Candidate k h range = let n = key-within k range in omega (arith, n)
+booked-key table.Recovery k h range = absurd (false≢true h)
+booked-key table.Switch k h range = let n = key-within k range in omega (arith, n)
+booked-key table.Active k h range = absurd (false≢true h)
+
+pub booked-aside : (count : ℕ) → count ≤ 2 ^ 32 → (c : Change) → fits count c ≡ true → IsInRange c → IsAside c
+booked-aside count few (change.Put r) fit range = aside-put r (booked-row count few r fit)
+booked-aside count few (change.Remove t k) fit range = aside-remove t k (booked-key t k (both_true (is_of_book t) (are_known count (key_servers k)) fit).0 range)
+
+-- a recovery that is put
+pub puts-aside : (c : Change) → PutsRecovery c → IsAside c
+puts-aside c puts = let small = puts.1 in subst IsAside (sym puts.2) (aside-put (row.Recovery puts.0) (omega (arith, small)))
+
+-- after all of them
+pub all-aside : (cs : List Change) → All IsAside cs → (x : Option Row) → fold (row_after claim_key) x cs ≡ x
+all-aside [] all x = refl
+all-aside (c ∷ cs) all x = ap (λ (y : Option Row). fold (row_after claim_key) y cs) (All-head IsAside c cs all x) ∙ all-aside cs (All-tail IsAside c cs all) x
+
+pub aside-stays : (rows : List Row) (cs : List Change) → All IsAside cs → row_in (changed rows cs) claim_key ≡ row_in rows claim_key
+aside-stays rows cs all = row_in-changed rows cs claim_key ∙ all-aside cs all (row_in rows claim_key)
+
+-- ---- changes by claims
+
+at-key : (node : ℕ) (until : Moment) (x : Option Row) → row_after claim_key x (change.Put (row.Active node until)) ≡ Some (row.Active node until)
+at-key node until x = ap (λ (b : Bool). if b then Some (row.Active node until) else x) (eq-eqb claim_key claim_key refl)
+
+gone : (x : Option Row) → row_after claim_key x (change.Remove table.Active key.Active) ≡ None
+gone x = ap (λ (b : Bool). if b then None else x) (eq-eqb claim_key claim_key refl)
+
+abbrev ending : ℕ → Moment
+ending n = record { 0 = n }
+
+same-claim : (kept : Option (ℕ × Moment)) (node : ℕ) (until : Moment) → is_kept_so kept node until ≡ true → kept ≡ Some (node, until)
+same-claim None node until h = absurd (false≢true h)
+same-claim (Some k) node until h =
+    let both = both_true (k.0 == node) (k.1.0 == until.0) h in
+    let first : k.0 ≡ node = is_eq k.0 node both.0 in
+    let second : k.1.0 ≡ until.0 = is_eq k.1.0 until.0 both.1 in
+    ap (λ (n : ℕ). Some (n, k.1)) first ∙ ap (λ (n : ℕ). Some (node, ending n)) second
+
+-- of the row there, by what nodes do
+module _ (count : ℕ) (x : Option Row) (s : ClaimState) (is : IsClaimRow count x s.kept) where
+  held-row : (node : ℕ) (until : Moment) → IsClaimRow count (fold (row_after claim_key) x (claim_changes_by s.kept node (claim.Held until))) (Some (node, until))
+  held-row node until = go (is_kept_so s.kept node until) refl
+    where
+      go : (b : Bool) → is_kept_so s.kept node until ≡ b → IsClaimRow count (fold (row_after claim_key) x (if b then [] else change.Put (row.Active node until) ∷ [])) (Some (node, until))
+      go true same = subst (IsClaimRow count x) (same-claim s.kept node until same) is
+      go false other = inl (at-key node until x)
+
+  answered-row : (node : ℕ) (a : ClaimAnswer) → IsClaimRow count (fold (row_after claim_key) x (claim_changes_by s.kept node a)) (claims.after_answer s node a).kept
+  answered-row node (claim.Taken other until) = is
+  answered-row node (claim.Held until) = held-row node until
+
+  claimed-row : (node now : ℕ) → IsClaimRow count (fold (row_after claim_key) x (claim_changes_by s.kept node (claims.claim_answer s node now))) (claims.after_claim s node now).kept
+  claimed-row node now = answered-row node (claims.claim_answer s node now)
+
+  released-row : (node : ℕ) → IsClaimRow count (fold (row_after claim_key) x (release_changes_by s.kept node)) (claims.after_release s node).kept
+  released-row node = go (is_of node s.kept)
+    where
+      go : (b : Bool) → IsClaimRow count (fold (row_after claim_key) x (if b then change.Remove table.Active key.Active ∷ [] else [])) (if b then record (claims.with_remembered s node None) { kept = None } else s).kept
+      go true = inl (gone x)
+      go false = is
+
+kept-still : (s : ClaimState) (node : ℕ) → (claims.with_remembered s node None).kept ≡ s.kept
+kept-still s zero = refl
+kept-still s (suc place) = refl
+
+acted-kept : (s : ClaimState) (node now : ℕ) → (claims.after_act s node now).kept ≡ s.kept
+acted-kept s node now = go (claims.may_act s node now)
+  where
+    go : (b : Bool) → (if b then s else claims.with_remembered s node None).kept ≡ s.kept
+    go true = refl
+    go false = kept-still s node
+
+-- ---- a turn, whose acts change other rows
+
+module _ (count : ℕ) (rows : List Row) (s : State) (is : IsClaimRow count (row_in rows claim_key) s.claims.kept) where
+  stayed : (cs : List Change) (now : Option (ℕ × Moment)) → All IsAside cs → now ≡ s.claims.kept → IsClaimRow count (row_in (changed rows cs) claim_key) now
+  stayed cs now aside same = subst (λ (k : Option (ℕ × Moment)). IsClaimRow count (row_in (changed rows cs) claim_key) k) (sym same) (subst (λ (x : Option Row). IsClaimRow count x s.claims.kept) (sym (aside-stays rows cs aside)) is)
+
+  -- and behind these the claim's own
+  behind : (cs ds : List Change) → All IsAside cs → row_in (changed rows (cs ++ ds)) claim_key ≡ fold (row_after claim_key) (row_in rows claim_key) ds
+  behind cs ds aside =
+      row_in-changed rows (cs ++ ds) claim_key
+      ∙ (fold-append (row_after claim_key) (row_in rows claim_key) cs ds ∙ ap (λ (x : Option Row). fold (row_after claim_key) x ds) (all-aside cs aside (row_in rows claim_key)))
+
+  pub claim-row-turn : (t : Turn) → All IsAside (done_changes rows s (act_in s t)) → IsClaimRow count (row_in (changed rows (changes_of rows s t)) claim_key) (step rows s t).claims.kept
+  claim-row-turn (turn.Step x) aside = is
+  claim-row-turn (turn.Tick seconds) aside = is
+  claim-row-turn (turn.Act a) aside = stayed (changes_of rows s (turn.Act a)) (step rows s (turn.Act a)).claims.kept aside (ap (λ (c : ClaimState). c.kept) (act-claims rows s a))
+  claim-row-turn (turn.As node a) aside = stayed (changes_of rows s (turn.As node a)) (step rows s (turn.As node a)).claims.kept aside (acted-kept s.claims node s.moment)
+  claim-row-turn (turn.Claim node) aside =
+      subst (λ (x : Option Row). IsClaimRow count x (step rows s (turn.Claim node)).claims.kept) (sym (behind (done_changes rows s (act_in s (turn.Claim node))) (claim_changes s node) aside))
+      (claimed-row count (row_in rows claim_key) s.claims is node s.moment)
+  claim-row-turn (turn.Release node) aside =
+      subst (λ (x : Option Row). IsClaimRow count x (step rows s (turn.Release node)).claims.kept) (sym (row_in-changed rows (release_changes s node) claim_key))
+      (released-row count (row_in rows claim_key) s.claims is node)
+
+-- ---- what acts change
+
+recovery-puts : (rs : List Recovery) → All (λ r. r.id < 2 ^ 64) rs → All IsAside (map put_recovery rs)
+recovery-puts rs small =
+    All-map IsAside put_recovery rs (All-weaker (λ (r : Recovery). r.id < 2 ^ 64) (λ r. IsAside (put_recovery r)) (λ r less. aside-put (row.Recovery (as_row r)) (omega (arith, less))) rs small)
+
+booked-all : (count : ℕ) → count ≤ 2 ^ 32 → (cs : List Change) → All (IsBooked count) cs → All IsAside cs
+booked-all count few cs all = All-weaker (IsBooked count) IsAside (λ c h. booked-aside count few c h.0 h.1) cs all
+
+ended-aside : (a : AuditState) (now : Moment) (id : ℕ) (e : Ending) (acked : Bool) → IsAudit a → a.next ≤ 2 ^ 64 → All IsAside (end_changes a now id e acked)
+ended-aside a now id e acked is small =
+    subst (All IsAside) (sym (end-puts now id e a acked)) (recovery-puts (option_to_list (option_map (ended_as now e acked) (recovery_at a id))) (end-small now id e a acked is small))
+
+begun-aside : (xs : List RecoveryBegins) → All (λ r. r.id < 2 ^ 64) (entries_of xs) → All IsAside (entries_put xs)
+begun-aside xs small = subst (All IsAside) (sym (entries-puts xs)) (recovery-puts (entries_of xs) small)
+
+module _ (b : BookState) (a : AuditState) (reads : ℕ) (is : IsBook b) (few : length b.names ≤ 2 ^ 32) (audit : IsAudit a) (small : a.next ≤ 2 ^ 64) where
+  asked-aside : (p : Result Unit Refusal) (lines : List Line) → All IsAside (asked reads p lines).rows
+  asked-aside (Ok permit) lines = All-nil IsAside
+  asked-aside (Err r) lines = All-nil IsAside
+
+  forgotten-aside : (p : Result Unit Refusal) (i : ServerNo) → nat_lt i.0 (length b.names) ≡ true → All IsAside (forgotten reads p i).rows
+  forgotten-aside (Ok permit) i known =
+      let within = ltb-true i.0 (length b.names) known in
+      booked-all (length b.names) few (removal i ∷ []) (one-booked (length b.names) (removal i) (one_known (length b.names) i.0 within, omega (arith, within, few)))
+  forgotten-aside (Err r) i known = All-nil IsAside
+
+  discovered-aside : (o : Observation) → are_known (length b.names) (observed_servers o) ≡ true → (x : Option Seen) → o.seen ≡ x → All IsAside (discovered b reads o x).rows
+  discovered-aside o known None at = All-nil IsAside
+  discovered-aside o known (Some seen) at = booked-all (length b.names) few (option_to_list (discovery_change (instance_at b o.no) o seen)) (discovery-booked b o is known seen at (instance_at b o.no) refl)
+
+  effect-aside : (e : Effect) → IsEffectFor (length b.names) e → All IsAside (rows_of a e)
+  effect-aside effect.Stays fits = All-nil IsAside
+  effect-aside (effect.Change c) fits = booked-all (length b.names) few (c ∷ []) (one-booked (length b.names) c fits)
+  effect-aside (effect.Acks cluster) fits = recovery-puts (acking a cluster) (acking-small a cluster audit small)
+
+  decided-aside : (p : Result Unit Refusal) (d : Decided) → IsEffectFor (length b.names) d.effect → All IsAside (decided reads a p d).rows
+  decided-aside (Ok permit) d fits = effect-aside d.effect fits
+  decided-aside (Err r) d fits = All-nil IsAside
+
+  recovery-aside : (s : State) (k : Knowledge) (r : Result RecoveryBegins Refusal) → (updated k (recovery_begun (numbers_of s) r).book).audit.next ≤ 2 ^ 64 → All IsAside (recovery_begun (numbers_of s) r).rows
+  recovery-aside s k (Ok x) most =
+      let less : x.entry.id + 1 ≤ 2 ^ 64 = most in
+      begun-aside (x ∷ []) (All-cons (λ (r : Recovery). r.id < 2 ^ 64) x.entry [] (omega (arith, less)) (All-nil (λ (r : Recovery). r.id < 2 ^ 64)))
+  recovery-aside s k (Err why) most = All-nil IsAside
+
+command-aside : (count : ℕ) (s : State) (c : CommandTurn) → Ready count s → IsAudit s.audit → s.audit.next ≤ 2 ^ 64 → (updated (known_of s) (command_outcome s c).book).audit.next ≤ 2 ^ 64 → IsCommand count c → All IsAside (command_outcome s c).rows
+unfolding outcome_of
+command-aside count s c ready audit small most command = by (route_of c.command.name) most
+  where
+    few : length s.book.names ≤ 2 ^ 32
+    few = let least = ready.book.small in omega (arith, least)
+
+    asks : All IsAside (question s.book s.audit s.reads c).rows
+    asks = asked-aside s.book s.audit s.reads ready.book few audit small (permitted s.book c.command) (lines_of s.book s.audit.recoveries c c.command.name)
+
+    given : (some : ServerNo → Outcome) → ((i : ServerNo) → nat_lt i.0 (length s.book.names) ≡ true → All IsAside (some i).rows) → (i : Option ServerNo) → is_within (length s.book.names) i ≡ true
+        → All IsAside (given_or (question s.book s.audit s.reads c) some i).rows
+    given some each None within = asks
+    given some each (Some i) within = each i within
+
+    begins : (p : Planner) (r : Option Refusal) → All IsAside (begun (numbers_of s) r (leases_by s.world s.book c.command p) (job_by s.world s.book c.command p (s.last_job + 1) s.configuration.wait s.configuration.every)).rows
+    begins p (Some why) = All-nil IsAside
+    begins p None = All-nil IsAside
+
+    recovers : (i : Option ServerNo) → (updated (known_of s) (given_or (refusal s.reads UnknownInstance) (recovered s.world s.book s.audit s.configuration (numbers_of s)) i).book).audit.next ≤ 2 ^ 64
+        → All IsAside (given_or (refusal s.reads UnknownInstance) (recovered s.world s.book s.audit s.configuration (numbers_of s)) i).rows
+    recovers None most = All-nil IsAside
+    recovers (Some i) most =
+        recovery-aside s.book s.audit s.reads ready.book few audit small s (known_of s)
+        (told_try s.configuration s.book (recovery_try s.world s.book s.audit (by_hand s.book s.configuration (numbers_of s) i) s.configuration.wait (s.last_job + 1) i)) most
+
+    takes : (i : ServerNo) (d : Option ServerNo) → (updated (known_of s) (taken_over s.world s.book s.audit s.configuration (numbers_of s) d i).book).audit.next ≤ 2 ^ 64 → All IsAside (taken_over s.world s.book s.audit s.configuration (numbers_of s) d i).rows
+    takes i None most = All-nil IsAside
+    takes i (Some d) most =
+        recovery-aside s.book s.audit s.reads ready.book few audit small s (known_of s)
+        (told_try s.configuration s.book (takeover_try s.world s.book s.audit (by_hand s.book s.configuration (numbers_of s) i) s.configuration.wait (s.last_job + 1) i d)) most
+
+    takes-over : (i d : Option ServerNo) → (updated (known_of s) (given_or (refusal s.reads UnknownInstance) (taken_over s.world s.book s.audit s.configuration (numbers_of s) d) i).book).audit.next ≤ 2 ^ 64
+        → All IsAside (given_or (refusal s.reads UnknownInstance) (taken_over s.world s.book s.audit s.configuration (numbers_of s) d) i).rows
+    takes-over None d most = All-nil IsAside
+    takes-over (Some i) d most = takes i d most
+
+    by : (r : Route) → (updated (known_of s) (outcome_by s.world s.book s.audit s.configuration (numbers_of s) c r).book).audit.next ≤ 2 ^ 64 → All IsAside (outcome_by s.world s.book s.audit s.configuration (numbers_of s) c r).rows
+    by Discovers most =
+        given (λ i. discovered s.book s.reads (next_reading s.world (numbers_of s) i) (next_reading s.world (numbers_of s) i).seen)
+        (λ i h. discovered-aside s.book s.audit s.reads ready.book few audit small (next_reading s.world (numbers_of s) i) (reading-known count s i ready (ltb-true i.0 (length s.book.names) h)) (next_reading s.world (numbers_of s) i).seen refl)
+        c.command.i (within-given count s c ready command)
+    by Forgets most =
+        given (forgotten s.reads (allowed (removal_refusal s.book c.command))) (forgotten-aside s.book s.audit s.reads ready.book few audit small (allowed (removal_refusal s.book c.command))) c.command.i (within-given count s c ready command)
+    by (Asks q) most = asks
+    by (Decides d) most =
+        decided-aside s.book s.audit s.reads ready.book few audit small (permitted s.book c.command) (decided_of s.book s.audit (moment_at s) c.keys c.command.i d)
+        (decided-effect s.book (length s.book.names) ready.book.small s.audit (moment_at s) c.keys c.command.i d (within-given count s c ready command))
+    by (Begins p) most = begins p (refusal_by s.world s.book (moment_at s) s.configuration.every c.command p)
+    by Recovers most = recovers c.command.i most
+    by TakesOver most = takes-over c.command.i c.command.d most
+
+job-aside : (count : ℕ) (s : State) (id : ℕ) → Ready count s → IsAudit s.audit → s.audit.next ≤ 2 ^ 64
+    → All IsAside (changes_by s.book (job_observation (turned_at s id)) ++ closing_changes s.audit (moment_at s) (closing_of (turned_at s id)))
+job-aside count s id ready audit small =
+    let few = ready.book.small in
+    All-append IsAside (changes_by s.book (job_observation (turned_at s id))) (closing_changes s.audit (moment_at s) (closing_of (turned_at s id)))
+    (booked-all (length s.book.names) (omega (arith, few)) (changes_by s.book (job_observation (turned_at s id))) (job-booked count s id (job_at s.jobs id) refl ready))
+    (turned-ends count s id (λ a ds. All IsAside ds) (All-nil IsAside) (λ entry e acked closes there. ended-aside s.audit (moment_at s) entry e acked audit small))
+
+restart-aside : (rows : List Row) (s : State) → IsBook s.book → AreShort s.configuration → IsAudit s.audit → s.audit.next ≤ 2 ^ 64 → All IsAside (restart_changes rows s)
+restart-aside rows s book periods audit small =
+    let count = ap length book.named ∙ length-map s.book.settings (λ x. x.name) in
+    let few = book.small in
+    let first = audit.first in
+    let period = period_by s.configuration in
+    let ended = closing (reloaded_audit rows s) (interrupted_at rows s) in
+    let is = audit-loaded period (short-by s.configuration periods) (length s.book.settings) s.audit.next (last_given s) rows (omega (arith, count, few)) first small (omega (arith, first)) in
+    All-append IsAside (blocks_given period (reloaded_rows rows s)) (map put_recovery ended)
+    (All-weaker PutsRecovery IsAside puts-aside (blocks_given period (reloaded_rows rows s)) (puts-loaded period (length s.book.settings) (last_given s) rows (omega (arith, count, few)) (omega (arith, first, small))))
+    (recovery-puts ended (closing-small (reloaded_audit rows s) (interrupted_at rows s) is small))
+
+act-aside : (count : ℕ) (rows : List Row) (s : State) (a : Act) → Ready count s → IsAudit s.audit → (after_act rows s a).audit.next ≤ 2 ^ 64 → IsAct count a → All IsAside (act_changes rows s a)
+act-aside count rows s (act.PollRead p n) is audit most within = All-nil IsAside
+act-aside count rows s (act.PollStore p) is audit most within =
+    let few = is.book.small in
+    let known : IsSlot count (slot_at s p) = All-at (IsSlot count) s.slots p None tt is.observed in
+    booked-all (length s.book.names) (omega (arith, few)) (changes_by s.book (slot_at s p)) (slot-booked s.book (slot_at s p) is.book (subst (λ n. IfSome (slot_at s p) (λ o. are_known n (observed_servers o) ≡ true)) (sym is.names) known))
+act-aside count rows s (act.Command c) is audit most within = command-aside count s c is audit (let on = next-goes-on rows s (turn.Act (act.Command c)) in omega (arith, on, most)) most within
+act-aside count rows s (act.Job job) is audit most within = job-aside count s job is audit (let on = next-goes-on rows s (turn.Act (act.Job job)) in omega (arith, on, most))
+act-aside count rows s act.Scan is audit most within = begun-aside (recoveries_begun s (turn.Act act.Scan)) (small-ids s (turn.Act act.Scan) most)
+act-aside count rows s act.Restart is audit most within = restart-aside rows s is.book is.periods audit most
+
+done-aside : (count : ℕ) (rows : List Row) (s : State) (o : Option Act) → Ready count s → IsAudit s.audit → (after_done rows s o).audit.next ≤ 2 ^ 64 → IfSome o (IsAct count) → All IsAside (done_changes rows s o)
+done-aside count rows s None is audit most within = All-nil IsAside
+done-aside count rows s (Some a) is audit most within = act-aside count rows s a is audit most within
+
+turn-aside : (count : ℕ) (rows : List Row) (s : State) (t : Turn) → Ready count s → IsAudit s.audit → (step rows s t).audit.next ≤ 2 ^ 64 → IsTurn count t → All IsAside (done_changes rows s (act_in s t))
+turn-aside count rows s (turn.Step x) is audit most within = All-nil IsAside
+turn-aside count rows s (turn.Tick seconds) is audit most within = All-nil IsAside
+turn-aside count rows s (turn.Act a) is audit most within = act-aside count rows s a is audit most within
+turn-aside count rows s (turn.As node a) is audit most within = done-aside count rows s (act_in s (turn.As node a)) is audit most (act-fits count s (turn.As node a) within)
+turn-aside count rows s (turn.Claim node) is audit most within = done-aside count rows s (act_in s (turn.Claim node)) is audit most (act-fits count s (turn.Claim node) within)
+turn-aside count rows s (turn.Release node) is audit most within = All-nil IsAside
+
+-- ---- an opening
+
+-- of rows that rise one at most is a claim's
+no-claim : (xs : List Row) (kept : Option (ℕ × Moment)) → All (λ r. claim_key < sort_key_of r) xs → fold claim_or kept xs ≡ kept
+no-claim [] kept all = refl
+no-claim (x ∷ xs) kept all = ap (λ (k : Option (ℕ × Moment)). fold claim_or k xs) (other x (All-head (λ r. claim_key < sort_key_of r) x xs all)) ∙ no-claim xs kept (All-tail (λ r. claim_key < sort_key_of r) x xs all)
+  where
+    other : (r : Row) → claim_key < sort_key_of r → claim_or kept r ≡ kept
+    other (row.Active node until) more = absurd (omega (arith, more))
+    other (row.Instance i) more = refl
+    other (row.Downtime d) more = refl
+    other (row.Candidate c) more = refl
+    other (row.Recovery r) more = refl
+    other (row.Switch e) more = refl
+
+by-counting : (P : Row → Bool) (xs : List Row) → AllPairs (λ a b. sort_key_of a < sort_key_of b) xs → fold claim_or None (filter P xs) ≡ claim_by_row P (row_in xs claim_key)
+by-counting P [] apart = refl
+by-counting P (x ∷ xs) apart = go (sort_key_of x == claim_key) refl (by-counting P xs (pairs_tail (λ (a b : Row). sort_key_of a < sort_key_of b) x xs apart))
+  where
+    later : All (λ r. sort_key_of x < sort_key_of r) xs
+    later = pairs_head (λ (a b : Row). sort_key_of a < sort_key_of b) x xs apart
+
+    other : (r : Row) → (sort_key_of r == claim_key) ≡ false → claim_or None r ≡ None
+    other (row.Active node until) off = absurd (false≢true (sym off ∙ eq-eqb claim_key claim_key refl))
+    other (row.Instance i) off = refl
+    other (row.Downtime d) off = refl
+    other (row.Candidate c) off = refl
+    other (row.Recovery r) off = refl
+    other (row.Switch e) off = refl
+
+    one : (b : Bool) → P x ≡ b → sort_key_of x ≡ claim_key → fold claim_or None (if b then x ∷ filter P xs else filter P xs) ≡ (if b then claim_or None x else None)
+    one true fits at = no-claim (filter P xs) (claim_or None x) (All-filter P (λ r. claim_key < sort_key_of r) xs (subst (λ (k : ℕ). All (λ r. k < sort_key_of r) xs) at later))
+    one false fits at = no-claim (filter P xs) None (All-filter P (λ r. claim_key < sort_key_of r) xs (subst (λ (k : ℕ). All (λ r. k < sort_key_of r) xs) at later))
+
+    rest : (b : Bool) → (sort_key_of x == claim_key) ≡ false → fold claim_or None (if b then x ∷ filter P xs else filter P xs) ≡ fold claim_or None (filter P xs)
+    rest true off = ap (λ (k : Option (ℕ × Moment)). fold claim_or k (filter P xs)) (other x off)
+    rest false off = refl
+
+    go : (e : Bool) → (sort_key_of x == claim_key) ≡ e → fold claim_or None (filter P xs) ≡ claim_by_row P (row_in xs claim_key)
+        → fold claim_or None (filter P (x ∷ xs)) ≡ claim_by_row P (if e then Some x else row_in xs claim_key)
+    go true at more = one (P x) refl (is_eq (sort_key_of x) claim_key at)
+    go false off more = rest (P x) off ∙ more
+
+module _ (s : Scenario) (wait : ℕ) (rows : List Row) (is : IsScenario s) where
+  abbrev n : ℕ
+  n = length s.opening.servers
+
+  few : n ≤ 2 ^ 32
+  few = let least = is.checked.listed.few in omega (arith, least)
+
+  start-aside : All IsAside (start_changes s rows)
+  start-aside =
+      let w = start_world s in
+      let at = start_moment s rows in
+      let b = loaded_book s rows in
+      let a = loaded_audit s rows in
+      let instances = missing_from w at b 0 s.known in
+      let candidates = registering_from at b 0 s.rules in
+      let given = blocks_given (period_of s) (start_rows s rows) in
+      let ended = closing a at in
+      let most = last_id-within rows in
+      All-append IsAside instances (candidates ++ (given ++ map put_recovery ended)) (all-missing IsAside n (λ i h. aside-put (row.Instance i) (booked-row n few (row.Instance i) h)) w at b (sources-start s is) (servers-start s) s.known)
+      (All-append IsAside candidates (given ++ map put_recovery ended) (all-registering IsAside n (λ c h. aside-put (row.Candidate c) (booked-row n few (row.Candidate c) h)) at b s.rules is.rules)
+      (All-append IsAside given (map put_recovery ended) (All-weaker PutsRecovery IsAside puts-aside given (puts-loaded (period_of s) n greatest_id rows few (omega arith)))
+      (recovery-puts ended (closing-small a at (opened-is s rows is) (omega (arith, most))))))
+
+  given-row : (x : Option Row) (kept : Option (ℕ × Moment)) → kept ≡ claim_by_row (counts n greatest_id) x → IsClaimRow n x kept
+  given-row None kept same = inl (sym (ap claim_row same))
+  given-row (Some r) kept same = go (counts n greatest_id r) refl
+    where
+      row-of : (r : Row) → kept ≡ claim_or None r → (claim_or None r ≡ None → claim_by_row (counts n greatest_id) (Some r) ≡ None) → IsClaimRow n (Some r) kept
+      row-of (row.Active node until) gives-so none = inl (sym (ap claim_row gives-so))
+      row-of (row.Instance i) gives-so none = inr (gives-so, none refl)
+      row-of (row.Downtime d) gives-so none = inr (gives-so, none refl)
+      row-of (row.Candidate c) gives-so none = inr (gives-so, none refl)
+      row-of (row.Recovery k) gives-so none = inr (gives-so, none refl)
+      row-of (row.Switch e) gives-so none = inr (gives-so, none refl)
+
+      go : (b : Bool) → counts n greatest_id r ≡ b → IsClaimRow n (Some r) kept
+      go true fits = let gives-so = same ∙ ap (λ (b : Bool). if b then claim_or None r else None) fits in row-of r gives-so (λ none. ap (λ (b : Bool). if b then claim_or None r else None) fits ∙ none)
+      go false off = let gives = ap (λ (b : Bool). if b then claim_or None r else None) off in inr (same ∙ gives, gives)
+
+  start-row : IsRising rows → IsClaimRow n (row_in (changed rows (start_changes s rows)) claim_key) (start s wait rows).claims.kept
+  start-row rising =
+      let same : start_claim s rows ≡ claim_by_row (counts n greatest_id) (row_in rows claim_key) =
+      ap (λ (xs : List Row). fold claim_or None (filter (counts n greatest_id) xs)) (map_of-risen rows rising) ∙ by-counting (counts n greatest_id) rows rising.apart in
+      subst (λ (x : Option Row). IsClaimRow n x (start_claim s rows)) (sym (aside-stays rows (start_changes s rows) start-aside)) (given-row (row_in rows claim_key) (start_claim s rows) same)
+
+-- ---- over a whole run
+
+kept-run : (count : ℕ) (h : Held State) (ts : List Turn) → All (IsTurn count) ts → (held_run engine h ts).state.audit.next ≤ 2 ^ 64 → FollowsBoth count h → IsClaimRow count (row_in h.rows claim_key) h.state.claims.kept
+    → IsClaimRow count (row_in (held_run engine h ts).rows claim_key) (held_run engine h ts).state.claims.kept
+kept-run count h [] all most both is = is
+kept-run count h (t ∷ ts) all most both is =
+    let here = All-head (IsTurn count) t ts all in
+    let rest = next-run (held_step engine h t) ts in
+    let small : (step h.rows h.state t).audit.next ≤ 2 ^ 64 = omega (arith, rest, most) in
+    let one : All (IsTurn count) (t ∷ []) = All-cons (IsTurn count) t [] here (All-nil (IsTurn count)) in
+    kept-run count (held_step engine h t) ts (All-tail (IsTurn count) t ts all) most (both-run count h (t ∷ []) one small both)
+    (claim-row-turn count h.rows h.state is t (turn-aside count h.rows h.state t both.ready both.audit.audit small here))
+
+pub claim-row-whole : RunClaimsAreFollowed
+claim-row-whole s wait rows ts is rising all most =
+    let count = length s.opening.servers in
+    let h = held-start s wait rows in
+    let on = next-run h ts in
+    kept-run count h ts all most (both-whole s wait rows [] is rising (All-nil (IsTurn count)) (omega (arith, on, most))) (start-row s wait rows is rising)

@@ -1,2 +1,0 @@
-pub mod BuiltKeys
-pub mod BuiltTurns

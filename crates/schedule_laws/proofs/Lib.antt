@@ -1,0 +1,4 @@
+pub mod Members
+pub mod Commands
+pub mod Durations
+pub mod Turns
