@@ -137,9 +137,22 @@ def carried_out(story, told, plan, job, done, wrong, say):
     return follow(story, text, job, done)
 
 
+def imported(story, say):
+    """What differs between what the servers told as they were read and what the program tells of the scenario that was made of it."""
+    _, tables = story.run([])
+    bad, beside = story.compare_reading(tables)
+    for line in beside:
+        say(line)
+    if story.writer:
+        say(story.writer.stop())
+    return bad
+
+
 def play(story, made, wrong, say):
     """What differs of one story."""
     told, plan = made(story)
+    if told is None:
+        return imported(story, say)
     kind, got, tables = story.rehearse_restart(told[0], told[1]) if story.interrupt else story.rehearse(*told)
     say("program: %s %s" % (kind, story.spell(got if isinstance(got, str) else "; ".join(got))))
     bad = []

@@ -150,13 +150,11 @@ class Topology:
         return Server(name, self.client, self.aliases, self.last_files)
 
     def read_sources_again(self):
-        """A running topology moves between two readings: whoever has replicas is read again after them, but for its own status."""
+        """A running topology moves between two readings: whoever has replicas is read again after them, the lowest first, so that each
+        log has all that the replicas below it had when they were read."""
         for name in self.deepest_first():
-            server = self.servers[name]
-            if server.up and self.replicas(name):
-                again = self.new(name).read()
-                again.status = server.status or again.status
-                self.servers[name] = again
+            if self.servers[name].up and self.replicas(name):
+                self.servers[name] = self.new(name).read()
 
     def replicas(self, name):
         return [server for server in self.servers.values() if server.status and server.status.source == name]

@@ -190,6 +190,21 @@ def relocate(s):
 
 
 @story
+def relocate_replicas(s):
+    """d and e, replicas of c, go below b, c's source; d lags"""
+    chain(s)
+    s.below("d", "c")
+    s.below("e", "c")
+    s.write("a", 2)
+    s.settle("b", "c", "d", "e")
+    s.only("d", 5)
+    s.write("a", 1)
+    s.settle("b", "c", "e")
+    s.read()
+    return moved("relocate-replicas", "c", "b")
+
+
+@story
 def purged_logs(s):
     """a's and b's oldest files are purged: the scenario begins at the first transaction that all logs have"""
     chain(s)
@@ -234,11 +249,33 @@ def stopped(s):
 
 
 @story
+def started(s):
+    """c, which was stopped while its source went on, runs again"""
+    chain(s)
+    s.farm.ask(s.n("c"), "STOP SLAVE")
+    s.write("a", 2)
+    s.settle("b")
+    s.read()
+    return moved("start-replica", "c")
+
+
+@story
 def detached(s):
     """c is detached from b, which it keeps"""
     chain(s)
     s.read()
     return moved("detach-replica", "c")
+
+
+@story
+def attached_again(s):
+    """c, which was detached while b went on, is attached to it again"""
+    chain(s)
+    s.detach("c")
+    s.write("a", 2)
+    s.settle("b")
+    s.read()
+    return moved("reattach-replica", "c")
 
 
 @story
@@ -255,6 +292,55 @@ def writable(s):
     chain(s)
     s.read()
     return moved("set-writeable", "c")
+
+
+@story
+def read_only(s):
+    """c, which took clients' writes, refuses them"""
+    chain(s)
+    s.farm.ask(s.n("c"), "SET GLOBAL read_only=OFF")
+    s.read()
+    return moved("set-read-only", "c")
+
+
+# ---- what is read
+
+
+def five(s):
+    """a over b and d, b over c and e."""
+    s.root("a")
+    for r, x in (("b", "a"), ("c", "b"), ("d", "a"), ("e", "b")):
+        s.below(r, x)
+    s.write("a", 3)
+    s.settle("b", "c", "d", "e")
+    s.flush("a")
+    s.flush("b")
+    s.write("a", 2, parts=3)
+    s.settle("b", "c", "d", "e")
+
+
+@story
+def imported(s):
+    """five servers are read, of which one lags, one is detached and one takes writes: the tables tell of each what SHOW tells"""
+    five(s)
+    s.only("c", 4)
+    s.detach("e")
+    s.farm.ask(s.n("d"), "SET GLOBAL read_only=OFF")
+    s.write("a", 2)
+    s.settle("b", "d")
+    s.read()
+    return None, None
+
+
+@story
+def imported_loaded(s):
+    """five servers are read while a client writes to the root all the time"""
+    five(s)
+    s.writer = Writes(s, "a")
+    s.writer.start()
+    time.sleep(0.5)
+    s.read()
+    return None, None
 
 
 # ---- refusals

@@ -127,6 +127,15 @@ class Story:
     def applier_off(self, r):
         self.farm.ask(self.n(r), "STOP SLAVE SQL_THREAD")
 
+    def detach(self, r):
+        """r keeps its source behind two slashes, and where it stood."""
+        r = self.n(r)
+        self.farm.ask(r, "STOP SLAVE")
+        seen = self.state(r)
+        host, _, port = seen.source.rpartition(":")
+        self.farm.ask(r, "CHANGE MASTER TO MASTER_HOST='//%s', MASTER_PORT=%s, MASTER_LOG_FILE='mysql-bin.%06d', MASTER_LOG_POS=%d"
+                      % (host, port, seen.exec.number, seen.exec.position))
+
     def only(self, r, count):
         """r executes the first so many transactions of its source and stops its applier; the receiver goes on."""
         r = self.n(r)
@@ -269,11 +278,19 @@ class Story:
     def compare(self, tables):
         """What differs between the program's tables and the servers, and what is to be told beside."""
         now = self.again()
-        check = Loosely(self, now) if self.loose else Exactly(self, now, tables)
+        check = self.compared(now, Loosely(self, now) if self.loose else Exactly(self, now, tables), tables)
+        return check.bad + self.rows(now), check.told()
+
+    def compare_reading(self, tables):
+        """The same of the tables and what the servers told as they were read."""
+        check = self.compared(self.before, Exactly(self, self.before, tables), tables)
+        return check.bad, check.told()
+
+    def compared(self, topology, check, tables):
         for name, line in tables.items():
             if name not in self.down:
-                check.server(name, line.split(), now.servers[name])
-        return check.bad + self.rows(now), check.told()
+                check.server(name, line.split(), topology.servers[name])
+        return check
 
     def rows(self, now):
         """Each server has the rows of each transaction that it executed exactly once."""
