@@ -241,6 +241,10 @@ def moves(plan, command, i, d, source, below):
         plan.repoint(i, x)
     elif command == "relocate":
         relocated(plan, source, i, d)
+    elif command == "relocate-replicas":
+        for r in below(i):
+            if r != d:
+                relocated(plan, source, r, d)
     else:
         return False
     return True

@@ -15,9 +15,9 @@ use Rattle.command_line.specs.declared.parts.Places.{Places}
 use Rattle.command_line.specs.declared.parts.Texts.{Texts}
 use Rattle.command_line.specs.declared.usage.Usage.{Usage}
 use Rattle.command_line.specs.declared.usage.Usage.TheVariants.{BadWords}
-use Rattle.command_line.specs.Commands.{command_in, has_needed, is_given, is_taken_word, needs_at, own_at}
+use Rattle.command_line.specs.Commands.{command_in, has_needed, is_given, is_straight_word, is_taken_word, needs_at, own_at, plan_in}
 use Rattle.command_line.specs.Options.{rows_of_texts, texts_of}
-use Rattle.command_line.specs.Places.{bounded_in, counts_in, drawing_by, instances_in, is_within_bound, places_in, places_of, texts_in}
+use Rattle.command_line.specs.Places.{bounded_in, counts_in, drawing_by, has_flag, instances_in, is_within_bound, places_in, places_of, texts_in}
 use Rattle.command_line.specs.Taken.{AreTaken, IsDrawn}
 use Rattle.command_line.specs.Usages.{or_bad}
 use Rattle.command_line.specs.Values.{duration_in, maybe, name_in, number_in, or_bad as or_bad_value, or_default, pattern_in, rule_in, text_in, text_within}
@@ -198,6 +198,16 @@ drawing_has (Some Dump) p c servers turns some within = tt
 drawing_has (Some Live) p c servers turns some within = tt
 drawing_has (Some Generate) p c servers turns some within = record { servers = subst (λ (n : ℕ). 1 ≤ n) (sym servers) some; bound = ap (λ (n : ℕ). is_drawable n p.turns) servers ∙ (ap (λ (n : ℕ). is_drawable c.servers n) turns ∙ within) }
 
+-- ---- plans
+
+plan_has : (word : Text) (asked plan : Bool) → plan_in word asked ≡ Ok plan → plan ≡ true → is_straight_word word ≡ true
+plan_has word false plan e is = cc
+plan_has word true plan e is = go (is_straight_word word) refl e
+  where
+    go : (b : Bool) → is_straight_word word ≡ b → cond {A = Result Bool Usage} b (Ok true) (Err BadWords) ≡ Ok plan → is_straight_word word ≡ true
+    go true straight e = straight
+    go false straight e = cc
+
 -- ---- all of them
 
 places_have : (rows : List Row) (p : Places) → places_in rows ≡ Ok p → AreTaken p
@@ -207,6 +217,7 @@ places_have rows p e =
     let instances = bind_ok (instances_in rows) _ p command.2 in
     let texts = bind_ok (texts_in rows) _ p instances.2 in
     let counts = bind_ok (bounded_in command.0 rows) _ p texts.2 in
+    let plan = bind_ok (plan_in command.0 (has_flag (codes "plan") rows)) _ p counts.2 in
     let drawn = bounded command.0 rows counts.0 counts.1 in
     let named = given rows command.0 command.1 in
     let read = instances_have rows instances.0 instances.1 in
@@ -214,7 +225,7 @@ places_have rows p e =
     let needs = needs_at command.0 in
     let there : ((is_some instances.0.i || not needs.i) && (is_some instances.0.d || not needs.d) && (is_some instances.0.rule || not needs.rule) && (is_some texts.0.pattern || not needs.pattern)) ≡ true =
     rw (read.i, read.d, read.rule, told.there) named.there in
-    subst AreTaken (same_ok _ p counts.2) (record {
+    subst AreTaken (same_ok _ p plan.2) (record {
       word = named.word;
       needs = there;
       duration = read.duration;
@@ -224,6 +235,7 @@ places_have rows p e =
       pollers = drawn.0.pollers;
       workers = drawn.0.workers;
       drawn = drawing_has (own_at command.0) _ counts.0 refl refl drawn.0.servers drawn.1;
+      plan = plan_has command.0 (has_flag (codes "plan") rows) plan.0 plan.1;
     })
 
 pub taken_have : (words : List (List ℕ)) (p : Places) → places_of words ≡ Ok p → AreTaken p

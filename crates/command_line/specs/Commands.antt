@@ -1,12 +1,16 @@
--- What words name, and whether it has the options that it needs.
-use Rattle.std.specs.Prelude.{Bool, List, ◌&&◌, ◌||◌, not, codes, is_some, Option, Some, None, Result, Ok, Err, if◌then◌else◌}
+-- What words name, whether it has the options that it needs, and whether it has a plan.
+use Rattle.std.specs.Prelude.{Bool, true, false, List, ◌&&◌, ◌||◌, not, codes, is_some, Option, Some, None, Result, Ok, Err, if◌then◌else◌}
 use Rattle.std.specs.Option.{option_map_or}
 use Rattle.std.specs.Str.{bytes_eq}
 use Rattle.clap.specs.Walk.{Row, Text, first_of}
 use Rattle.orch_base.specs.Gives.{◌>>=◌}
 use Rattle.commands.specs.declared.needs.Needs.{Needs}
 use Rattle.commands.specs.Names.{name_of, needs_of, nothing}
-use Rattle.command_routes.specs.Routes.{is_built_found}
+use Rattle.command_routes.specs.declared.route.Planner.{Planner}
+use Rattle.command_routes.specs.declared.route.Planner.TheVariants as planner
+use Rattle.command_routes.specs.declared.route.Route.{Route}
+use Rattle.command_routes.specs.declared.route.Route.TheVariants.{Discovers, Forgets, Asks, Decides, Begins, Recovers, TakesOver}
+use Rattle.command_routes.specs.Routes.{is_built_found, route_of}
 use Rattle.command_line.specs.declared.command.Own.{Own}
 use Rattle.command_line.specs.declared.command.Own.TheVariants.{Run, Generate, Dump, Live}
 use Rattle.command_line.specs.declared.usage.Usage.{Usage}
@@ -44,3 +48,32 @@ unfoldable pub command_in : List Row → Result Text Usage
 command_in rows = do
   command ← or_bad (first_of (codes "c") rows)
   if is_taken_word command && has_needed (needs_at command) rows then Ok command else Err BadWords
+
+-- ---- plans
+
+-- the job's operations are known when it begins; those of a regroup go by what its replicas turn out to have
+abbrev pub is_straight_planner : Planner → Bool
+is_straight_planner (planner.Coordinates c) = true
+is_straight_planner (planner.Gtids c) = true
+is_straight_planner (planner.Paths c) = true
+is_straight_planner (planner.Regroups c) = false
+is_straight_planner (planner.Matches c) = true
+
+-- a command that begins a job which goes one way, where nothing fails; a takeover does
+abbrev pub is_straight : Route → Bool
+is_straight Discovers = false
+is_straight Forgets = false
+is_straight (Asks question) = false
+is_straight (Decides decision) = false
+is_straight (Begins planner) = is_straight_planner planner
+is_straight Recovers = false
+is_straight TakesOver = true
+
+-- the word of such a command
+abbrev pub is_straight_word : Text → Bool
+is_straight_word word = option_map_or (λ name. is_straight (route_of name)) (name_of word) false
+
+-- whether a plan is asked for, which only such a command has
+abbrev pub plan_in : Text → Bool → Result Bool Usage
+plan_in word false = Ok false
+plan_in word true = if is_straight_word word then Ok true else Err BadWords

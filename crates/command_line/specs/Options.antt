@@ -39,7 +39,8 @@ abbrev pub with_letters : App → App
 with_letters app = with_rule (with_rule (with_rule app (short_rule 99 (codes "c"))) (short_rule 105 (codes "i"))) (short_rule 100 (codes "d"))
 
 unfoldable pub orch : App
-orch = with_rule (with_rule (with_options (with_letters (new_app (codes "orch"))) option_names) (flag_rule (codes "tables"))) (flag_rule (codes "summary"))
+orch =
+    with_rule (with_rule (with_rule (with_options (with_letters (new_app (codes "orch"))) option_names) (flag_rule (codes "tables"))) (flag_rule (codes "summary"))) (flag_rule (codes "plan"))
 
 -- what a parse found, option by option
 abbrev pub rows_in : ArgMatches → List Row

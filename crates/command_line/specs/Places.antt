@@ -14,7 +14,7 @@ use Rattle.command_line.specs.declared.command.Own.TheVariants.{Run, Generate, D
 use Rattle.command_line.specs.declared.parts.Drawing.{Drawing}
 use Rattle.command_line.specs.declared.usage.Usage.{Usage}
 use Rattle.command_line.specs.declared.usage.Usage.TheVariants.{BadWords}
-use Rattle.command_line.specs.Commands.{command_in, own_at}
+use Rattle.command_line.specs.Commands.{command_in, own_at, plan_in}
 use Rattle.command_line.specs.Options.{rows_of_texts, texts_of}
 use Rattle.command_line.specs.Values.{duration_in, maybe, name_in, number_in, or_default, pattern_in, rule_in, text_in, text_within}
 
@@ -72,6 +72,7 @@ places_in rows = do
   instances ← instances_in rows
   texts ← texts_in rows
   counts ← bounded_in command rows
+  plan ← plan_in command (has_flag (codes "plan") rows)
   Ok (record {
     command = command;
     i = instances.i;
@@ -91,11 +92,12 @@ places_in rows = do
     turns = counts.turns;
     tables = has_flag (codes "tables") rows;
     summary = has_flag (codes "summary") rows;
+    plan = plan;
   })
 
--- what the words mean, where they are taken: they are UTF-8, clap gives matches, `-c` names what the program itself does
--- or a command that is built and has the options that it needs, each value reads, and what is to be drawn is within its
--- bound
+-- what the words mean, where they are taken: they are UTF-8, clap gives matches, `-c` names what the program itself
+-- does or a command that is built and has the options that it needs, each value reads, what is to be drawn is within
+-- its bound, and a plan is asked for of a command that has one
 unfoldable pub places_of : List (List ℕ) → Result Places Usage
 places_of words = do
   texts ← texts_of words

@@ -5,7 +5,7 @@ use Rattle.commands.specs.declared.needs.Needs.{Needs}
 use Rattle.scenario_generator.specs.Bounds.{is_drawable}
 use Rattle.command_line.specs.declared.parts.Drawing.{Drawing}
 use Rattle.command_line.specs.declared.parts.Places.{Places}
-use Rattle.command_line.specs.Commands.{is_taken_word, needs_at}
+use Rattle.command_line.specs.Commands.{is_straight_word, is_taken_word, needs_at}
 use Rattle.command_line.specs.Places.{drawing_of}
 
 -- each option that is needed is there
@@ -18,7 +18,7 @@ pub record IsDrawn (d : Drawing) : Type 0 where
   pub bound : is_drawable d.servers d.turns ≡ true
 
 -- The command is one of the program's own or one whose route is built, what it needs is there, each number, text and
--- pattern is in its range, and so is what is to be drawn.
+-- pattern is in its range, and so is what is to be drawn; where a plan is asked for the command has one.
 pub record AreTaken (p : Places) : Type 0 where
   pub word : is_taken_word p.command ≡ true
   pub needs : are_there (needs_at p.command) p ≡ true
@@ -29,3 +29,4 @@ pub record AreTaken (p : Places) : Type 0 where
   pub pollers : (1 ≤ p.pollers) × (p.pollers ≤ 16)
   pub workers : (1 ≤ p.workers) × (p.workers ≤ 16)
   pub drawn : IfSome (drawing_of p) IsDrawn
+  pub plan : p.plan ≡ true → is_straight_word p.command ≡ true

@@ -2,14 +2,14 @@
 
 ghost use Rattle.std.specs.Prelude.{◌≡◌};
 ghost use Rattle.orch_base.specs.Gives.{Gives};
-ghost use Rattle.command_line.specs.Commands.{command_in, has_needed, is_taken_word, needs_at, own_at};
+ghost use Rattle.command_line.specs.Commands.{command_in, has_needed, is_straight, is_straight_word, is_taken_word, needs_at, own_at, plan_in};
 ghost use Rattle.command_line.specs.Options.{rows_in};
 ghost use Rattle.command_line.specs.Usages.{usage_fault};
 
 use crate::options::text_of;
 use crate::usage::Usage;
 use clap::ArgMatches;
-use command_routes::is_built_command;
+use command_routes::{Planner, Route, is_built_command};
 use commands::{CommandName, Needs};
 use orch_base::OwnedText;
 use std::alloc::Global;
@@ -46,7 +46,8 @@ impl Own {
     }
 }
 
-/// Whether `-c` may have this text: a word of the program's own, or that of a command that is built. It takes no memory.
+/// Whether `-c` may have this text: a word of the program's own, or that of a command that is built. It takes no
+/// memory.
 pub fn is_taken_word(word: &str) -> bool
     ensures { result ≡ is_taken_word word.now }
 {
@@ -79,8 +80,8 @@ fn has_needed(needs: Needs, matches: &ArgMatches<'_>) -> bool
         && (text_of(matches, "pattern").is_some() || !needs.pattern)
 }
 
-/// The text of `-c`. What is neither a word of the program's own nor that of a command that is built, and one without an
-/// option that it needs, are `BadWords`.
+/// The text of `-c`. What is neither a word of the program's own nor that of a command that is built, and one without
+/// an option that it needs, are `BadWords`.
 #[tactic(auto, unfolding(crate::specs::Commands::command_in))]
 pub(crate) fn command_in(alloc: Global, matches: &ArgMatches<'_>) -> Result<OwnedText, Usage>
     ensures { Gives (λ l. l) usage_fault result (command_in (rows_in matches.now)) }
@@ -92,4 +93,42 @@ pub(crate) fn command_in(alloc: Global, matches: &ArgMatches<'_>) -> Result<Owne
         return Err(Usage::BadWords);
     }
     Ok(OwnedText::new(String::from_str(alloc, command)?))
+}
+
+// Whether it begins a job which goes one way, where nothing fails.
+fn is_straight(route: Route) -> bool
+    ensures { result ≡ is_straight route }
+{
+    match route {
+        Route::Begins(
+            Planner::Coordinates(_) | Planner::Gtids(_) | Planner::Paths(_) | Planner::Matches(_),
+        )
+        | Route::TakesOver => true,
+        Route::Begins(Planner::Regroups(_))
+        | Route::Discovers
+        | Route::Forgets
+        | Route::Asks(_)
+        | Route::Decides(_)
+        | Route::Recovers => false,
+    }
+}
+
+// Whether the word is that of such a command.
+fn is_straight_word(word: &str) -> bool
+    ensures { result ≡ is_straight_word word.now }
+{
+    match CommandName::read(word) {
+        Some(name) => is_straight(Route::of(name)),
+        None => false,
+    }
+}
+
+/// Whether a plan is asked for. Of a command that has none it is `BadWords`.
+pub(crate) fn plan_in(word: &str, asked: bool) -> Result<bool, Usage>
+    ensures { Gives (λ b. b) usage_fault result (plan_in word.now asked) }
+{
+    if asked && !is_straight_word(word) {
+        return Err(Usage::BadWords);
+    }
+    Ok(asked)
 }

@@ -76,7 +76,8 @@ fn orch<'a>(alloc: Global) -> Result<Command<'a>, Memory>
     let command = with_letters(alloc, Command::new(alloc, "orch"))?;
     let command = with_options(alloc, command, &OPTIONS)?;
     let command = with_flag(alloc, command, "tables")?;
-    with_flag(alloc, command, "summary")
+    let command = with_flag(alloc, command, "summary")?;
+    with_flag(alloc, command, "plan")
 }
 
 /// The words as texts; bytes that aren't UTF-8 are `BadWords`.

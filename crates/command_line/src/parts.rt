@@ -8,7 +8,7 @@ ghost use Rattle.command_line.specs.Places.{bounded_in, counts_in, drawing_of, h
 ghost use Rattle.scenario_generator.specs.Bounds.{is_drawable};
 ghost use Rattle.command_line.specs.Usages.{usage_fault};
 
-use crate::command::{Own, command_in};
+use crate::command::{Own, command_in, plan_in};
 use crate::options::text_of;
 use crate::usage::Usage;
 use crate::value::{
@@ -58,6 +58,8 @@ pub struct Places {
     pub tables: bool,
     /// `--summary`.
     pub summary: bool,
+    /// `--plan`: the command is one that has a plan.
+    pub plan: bool,
 }
 
 /// A scenario that is to be drawn.
@@ -222,6 +224,7 @@ pub(crate) fn places_in(alloc: Global, matches: &ArgMatches<'_>) -> Result<Place
     let instances = instances_in(alloc, matches)?;
     let texts = texts_in(alloc, matches)?;
     let counts = bounded_in(command.as_str(), matches)?;
+    let plan = plan_in(command.as_str(), has_flag(matches, "plan"))?;
     Ok(Places {
         command,
         i: instances.i,
@@ -241,5 +244,6 @@ pub(crate) fn places_in(alloc: Global, matches: &ArgMatches<'_>) -> Result<Place
         turns: counts.turns,
         tables: has_flag(matches, "tables"),
         summary: has_flag(matches, "summary"),
+        plan,
     })
 }

@@ -32,9 +32,9 @@ abbrev pub LiveWords : List (List ℕ) → Option Places → Type 0
 LiveWords words None = IsPlain words
 LiveWords words (Some p) = (places_of words ≡ Ok p) × (is_live p ≡ true)
 
--- The call's scenario was run in threads, and this holds of the report of what came of it: of a journal that is a run of
--- the scenario's opening, with each of its commands once and in order, with all its other turns in order, and without a
--- job that isn't ended.
+-- The call's scenario was run in threads, and this holds of the report of what came of it: of a journal that is a run
+-- of the scenario's opening, with each of its commands once and in order, with all its other turns in order, and
+-- without a job that isn't ended.
 pub record Lives (c : Call) (P : LiveReport → Type 0) : Type 0 where
   pub asks : AskLive c.words
   pub scenario : Scenario

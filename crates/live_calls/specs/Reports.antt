@@ -28,8 +28,8 @@ pub record LiveReport : Type 0 where
 abbrev pub puts : List Row → List Change
 puts rows = map (λ r. Put r) rows
 
--- The line of a schedule, and behind it the report that `run` gives of its turns; and the rows that the keeper had, with
--- the run's last rows put over them.
+-- The line of a schedule, and behind it the report that `run` gives of its turns; and the rows that the keeper had,
+-- with the run's last rows put over them.
 abbrev pub run_report : List HostPort → List Turn → Recorded → List Row → Option (List Row) → LiveReport
 run_report names ts run rows old = record {
   out = schedule_line names ts ++ report_text names run;

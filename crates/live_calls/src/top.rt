@@ -43,9 +43,9 @@ fn live_words(alloc: Global, words: &[Vec<u8>]) -> Result<Option<Places>, Memory
 /// other thread.
 ///
 /// Of `live`, the scenario is run by threads over a book in memory: a driver, pollers and workers, each of which passes
-/// the gate before each of its turns. Its last rows are then kept by one call, over those that the keeper has, and behind
-/// that out takes the line `schedule`, with the turns that were taken as one JSON list, and the report that `run` gives
-/// of these turns. The status is:
+/// the gate before each of its turns. Its last rows are then kept by one call, over those that the keeper has, and
+/// behind that out takes the line `schedule`, with the turns that were taken as one JSON list, and the report that
+/// `run` gives of these turns. The status is:
 ///
 /// - 0 and 7: the report is written; with 7 a reply in it is refused or failed.
 /// - 1, 2 and 3: as `orch_plain`'s; nothing was run. That the scenario has several orchestrators is a fault of it too,
@@ -63,8 +63,8 @@ pub fn orch<R: Threads + Wait + Sync, G: Gate + Sync, S: Source, O: Sink, E: Sin
     keeper: &mut K,
     gate: &G,
 ) -> u8
-    // 1 exactly where the words aren't taken, and 2 exactly where they are, ask of a scenario that is read, and it has a
-    // fault, but for 3 and 6. Of `live` that it has several orchestrators is one, behind all others.
+    // 1 exactly where the words aren't taken, and 2 exactly where they are, ask of a scenario that is read, and it has
+    // a fault, but for 3 and 6. Of `live` that it has several orchestrators is one, behind all others.
     ensures usage { IsUsage (map (λ w. w.items) words.now) result }
     ensures fault { IsPlain (map (λ w. w.items) words.now)
         → FaultsOf (map (λ w. w.items) words.now) (S.left scenario.old) result }
@@ -106,8 +106,8 @@ pub fn orch<R: Threads + Wait + Sync, G: Gate + Sync, S: Source, O: Sink, E: Sin
         (across (E.written err.old) (E.faults err.old) (E.written err.new) (E.faults err.new)))
         result) }
 
-    // Where they don't name it and the keeper tells its rows, all of it against the report, which is a function of the words, the bytes and
-    // the rows: the status, what out and err took, and the rows that are kept.
+    // Where they don't name it and the keeper tells its rows, all of it against the report, which is a function of the
+    // words, the bytes and the rows: the status, what out and err took, and the rows that are kept.
     ensures status { IsPlain (map (λ w. w.items) words.now) →
         ByReport (map (λ w. w.items) words.now) (S.left scenario.old)
         (K.kept keeper.old) (λ rows r. EndsAs r result) }
@@ -134,10 +134,11 @@ pub fn orch<R: Threads + Wait + Sync, G: Gate + Sync, S: Source, O: Sink, E: Sin
         → IsComplete result) }
 
     // Whatever bytes the source has, also where it doesn't tell them, elsewhere than in a live run: every state of each
-    // run of the words' turns over the scenario that they are, of the report's too, is held with its jobs in flight, its
-    // recoveries are apart, each that isn't ended has its unended job, a job's turn leaves the servers of others as they
-    // are, and every quiet state is sound and so safe, whatever rows the keeper hands back; and every command turn of
-    // such a run answers by the permission table, with the lowest number that applies, a refused one changing nothing.
+    // run of the words' turns over the scenario that they are, of the report's too, is held with its jobs in flight,
+    // its recoveries are apart, each that isn't ended has its unended job, a job's turn leaves the servers of others as
+    // they are, and every quiet state is sound and so safe, whatever rows the keeper hands back; and every command turn
+    // of such a run answers by the permission table, with the lowest number that applies, a refused one changing
+    // nothing.
     ensures safe { (bytes : List ℕ) → IsSafeRun (map (λ w. w.items) words.now) bytes }
     ensures commands { (bytes : List ℕ) → ObeysTable (map (λ w. w.items) words.now) bytes }
 

@@ -7,8 +7,8 @@ use std::thread;
 /// How often a thread looks before it gives up.
 const MOST: u64 = 1_000_000_000;
 
-/// The first pass of number 2 and the first pass of number 3 each wait until the other has begun, and the second pass of
-/// number 3 waits until the second pass of number 2 has begun.
+/// The first pass of number 2 and the first pass of number 3 each wait until the other has begun, and the second pass
+/// of number 3 waits until the second pass of number 2 has begun.
 #[derive(Drop)]
 pub struct Meeting {
     second: AtomicU64,

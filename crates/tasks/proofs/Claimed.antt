@@ -18,14 +18,14 @@ use Rattle.tasks.specs.Laws.{ClaimedCommandsAreTaken, TakenClaimsTakeNoCommand}
 use Rattle.tasks.specs.Stages.{active_in, claim_ahead, claim_without, command_as, is_alone, own_turn, taker, taker_by}
 
 -- who claims ahead is one of several, of whom none is active
-several : (s : State) (t : Turn) → claim_ahead s ≡ Some t → is_alone s ≡ false
+pub several : (s : State) (t : Turn) → claim_ahead s ≡ Some t → is_alone s ≡ false
 several s t is = by (is_alone s) (active_in s) is
   where
     by : (b : Bool) (o : Option ℕ) → cond b None (claim_without o) ≡ Some t → b ≡ false
     by true o e = absurd cc
     by false o e = refl
 
-inactive : (s : State) (t : Turn) → claim_ahead s ≡ Some t → active_in s ≡ None
+pub inactive : (s : State) (t : Turn) → claim_ahead s ≡ Some t → active_in s ≡ None
 inactive s t is = by (is_alone s) (active_in s) is
   where
     by : (b : Bool) (o : Option ℕ) → cond b None (claim_without o) ≡ Some t → o ≡ None

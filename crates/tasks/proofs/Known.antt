@@ -82,6 +82,7 @@ cut_begins c s rows k = at c.asked (all_turns c s rows)
     at asked.Summary ts = record { rest = (asked_answer asked.Summary c.tables (names_of s) s (held_from c s rows ts).state).out; is = refl }
     at asked.Dump ts = record { rest = (asked_answer asked.Dump c.tables (names_of s) s (held_from c s rows ts).state).out; is = refl }
     at (asked.Turn t) ts = record { rest = (asked_answer (asked.Turn t) c.tables (names_of s) s (held_from c s rows ts).state).out; is = refl }
+    at (asked.Plan t) ts = record { rest = (asked_answer (asked.Plan t) c.tables (names_of s) s (held_from c s rows ts).state).out; is = refl }
     at asked.Unknown ts = record { rest = (asked_answer asked.Unknown c.tables (names_of s) s (held_from c s rows ts).state).out; is = refl }
     at asked.Nothing ts = record { rest = []; is = refl }
 

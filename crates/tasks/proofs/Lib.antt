@@ -1,9 +1,11 @@
+pub mod Answered
 pub mod Claimed
 pub mod Closings
 pub mod Courses
 pub mod Journals
 pub mod Known
 pub mod Own
+pub mod Planning
 pub mod Stages
 pub mod Sends
 pub mod Stands

@@ -161,6 +161,7 @@ quiet_cut asked.Run names run other = absurd (other refl)
 quiet_cut asked.Summary names run other = refl
 quiet_cut asked.Dump names run other = refl
 quiet_cut (asked.Turn t) names run other = refl
+quiet_cut (asked.Plan t) names run other = refl
 quiet_cut asked.Unknown names run other = refl
 quiet_cut asked.Nothing names run other = refl
 

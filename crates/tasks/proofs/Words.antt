@@ -30,7 +30,7 @@ use Rattle.scenario_values.specs.declared.fault.ReadFault.{ReadFault}
 use Rattle.scenario_values.specs.declared.fault.ReadFault.TheVariants as reading
 use Rattle.scenario_values.specs.Faults.{fault_of, holds}
 use Rattle.tasks.specs.declared.asked.Asked.TheVariants as asked
-use Rattle.tasks.specs.Asked.{AskOfRead, IsAsked, IsTaken, asked_about, asked_at, asked_named, asked_of, pattern_for, server_from, server_given, server_of, turn_for, used}
+use Rattle.tasks.specs.Asked.{AskOfRead, IsAsked, IsTaken, asked_about, asked_at, asked_named, asked_of, asked_turn, pattern_for, server_from, server_given, server_of, turn_for, used}
 
 both_true : (a b : Bool) → (a && b) ≡ true → (a ≡ true) × (b ≡ true)
 both_true true b e = (refl, e)
@@ -173,7 +173,11 @@ module _ (p : Places) (names : List HostPort) (c : CommandName) (words : AreTake
   is_asked_about : (i d : Option (Option ServerNo)) → server_given names (used (uses_of c).i p.i) ≡ i → server_given names (used (uses_of c).d p.d) ≡ d → IsAsked (length names) (asked_about p names c i d)
   is_asked_about None d at_i at_d = tt
   is_asked_about (Some i) None at_i at_d = tt
-  is_asked_about (Some i) (Some d) at_i at_d = is_turn i d at_i at_d
+  is_asked_about (Some i) (Some d) at_i at_d = go p.plan (is_turn i d at_i at_d)
+    where
+      go : (plan : Bool) → IsCommand (length names) (turn_for p names c i d) → IsAsked (length names) (asked_turn plan (turn_for p names c i d))
+      go false is = is
+      go true is = is
 
 is_asked_named : (p : Places) (names : List HostPort) (o : Option CommandName) → AreTaken p → is_built_found o ≡ true → are_there (option_map_or needs_of o nothing) p ≡ true → IsAsked (length names) (asked_named p names o)
 is_asked_named p names None words built there = cc

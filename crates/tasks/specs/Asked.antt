@@ -1,5 +1,5 @@
 -- What words ask of a scenario's servers.
-use Rattle.std.specs.Prelude.{◌≡◌, ℕ, ◌+◌, ◌∷◌, Bool, List, [], map, if◌then◌else◌, Option, Some, None, option_map, Ok}
+use Rattle.std.specs.Prelude.{◌≡◌, ℕ, ◌+◌, ◌∷◌, Bool, true, false, List, [], map, if◌then◌else◌, Option, Some, None, option_map, Ok}
 use Rattle.orch_base.specs.Names.{HostPort, printed, same_name}
 use Rattle.orch_base.specs.declared.server.ServerNo.{ServerNo}
 use Rattle.commands.specs.declared.name.CommandName.{CommandName}
@@ -51,11 +51,16 @@ turn_for p names name i d = record {
   };
 }
 
+-- the command itself, or its plan
+abbrev pub asked_turn : Bool → CommandTurn → Asked
+asked_turn false t = asked.Turn t
+asked_turn true t = asked.Plan t
+
 -- about this instance and this destination, where servers have their names
 abbrev pub asked_about : Places → List HostPort → CommandName → Option (Option ServerNo) → Option (Option ServerNo) → Asked
 asked_about p names name None d = asked.Unknown
 asked_about p names name (Some i) None = asked.Unknown
-asked_about p names name (Some i) (Some d) = asked.Turn (turn_for p names name i d)
+asked_about p names name (Some i) (Some d) = asked_turn p.plan (turn_for p names name i d)
 
 abbrev pub asked_named : Places → List HostPort → Option CommandName → Asked
 asked_named p names None = asked.Nothing
@@ -80,6 +85,7 @@ IsAsked count asked.Run = Unit {0}
 IsAsked count asked.Summary = Unit {0}
 IsAsked count asked.Dump = Unit {0}
 IsAsked count (asked.Turn t) = IsCommand count t
+IsAsked count (asked.Plan t) = IsCommand count t
 IsAsked count asked.Unknown = Unit {0}
 IsAsked count asked.Nothing = ⊥
 

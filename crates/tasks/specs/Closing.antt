@@ -1,13 +1,12 @@
 -- What is taken behind a single command's own turn: the rounds of the job that it began.
 use Rattle.std.specs.Prelude.{ℕ, zero, suc, List, [], ◌++◌, if◌then◌else◌, Option, Some, None}
 use Rattle.std.specs.Option.{option_and_then}
-use Rattle.turns.specs.declared.reply.Reply.{Reply}
-use Rattle.turns.specs.declared.reply.Reply.TheVariants as answered
 use Rattle.turns.specs.declared.turn.Turn.{Turn}
 use Rattle.jobs_in_flight.specs.Jobs.{is_open, most_turns}
 use Rattle.orch_core.specs.Rounds.{after_turns, round_of}
 use Rattle.orch_core.specs.Runs.{Recorded}
 use Rattle.orch_core.specs.States.{State}
+pub use Rattle.tasks.specs.Begun.{begun_by}
 use Rattle.tasks.specs.Report.{last_reply}
 
 -- these turns again and again while the job is open, at most so many times
@@ -18,33 +17,6 @@ rounds_while round (suc n) s job = if is_open s.jobs job then round ++ rounds_wh
 -- the rounds of a job, until it has ended
 unfoldable pub rounds_of : State → ℕ → List Turn
 rounds_of s job = rounds_while (round_of s job) (most_turns s.jobs job) s job
-
--- the job that a reply tells to have begun
-abbrev pub begun_by : Reply → Option ℕ
-begun_by (answered.Begun job) = Some job
-begun_by (answered.Write a) = None
-begun_by (answered.Fetch a) = None
-begun_by (answered.Apply a) = None
-begun_by answered.Done = None
-begun_by (answered.Rotate a) = None
-begun_by (answered.Purge a) = None
-begun_by (answered.Now t) = None
-begun_by (answered.Read n) = None
-begun_by (answered.ReadUnreachable n) = None
-begun_by answered.Unknown = None
-begun_by answered.Stored = None
-begun_by (answered.Old n) = None
-begun_by answered.Nothing = None
-begun_by (answered.Told lines) = None
-begun_by (answered.Refused r) = None
-begun_by answered.Going = None
-begun_by (answered.Failed cause) = None
-begun_by answered.NoJob = None
-begun_by (answered.Held until) = None
-begun_by (answered.Taken node until) = None
-begun_by answered.Released = None
-begun_by answered.NotHeld = None
-begun_by answered.Lapsed = None
 
 -- the job that the command's own turn began, of which the last reply tells
 abbrev pub own_job : Recorded → Option ℕ

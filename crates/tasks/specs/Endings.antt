@@ -15,8 +15,8 @@ use Rattle.tasks.specs.Sinks.{End, FailsIn, Takes, TakesFront}
 use Rattle.tasks.specs.Stages.{AllTaken, CutTaken, SomeTaken, stages}
 use Rattle.tasks.specs.Works.{Comes, IsCut, Work}
 
--- what a task's report is of: the task, the servers' names, the scenario, its turns, which turns lead to which kept rows
--- and which state, and the kept rows at the end
+-- what a task's report is of: the task, the servers' names, the scenario, its turns, which turns lead to which kept
+-- rows and which state, and the kept rows at the end
 pub record Course : Type 1 where
   pub task : Task
   pub names : List HostPort

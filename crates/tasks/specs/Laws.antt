@@ -7,16 +7,19 @@ use Rattle.orch_base.specs.Names.{HostPort}
 use Rattle.orch_base.specs.declared.server.Moment.{Moment}
 use Rattle.orch_core.specs.After.{step}
 use Rattle.orch_core.specs.Nodes.{claimed}
+use Rattle.orch_core.specs.Replies.{reply_of}
 use Rattle.orch_core.specs.Runs.{Recorded}
 use Rattle.orch_core.specs.States.{State}
 use Rattle.command_line.specs.declared.parts.Places.{Places}
 use Rattle.scenarios.specs.declared.scenario.Scenario.{Scenario}
+use Rattle.turns.specs.declared.reply.Reply.TheVariants as answered
 use Rattle.turns.specs.declared.turn.Act.TheVariants as act
 use Rattle.turns.specs.declared.turn.Turn.{Turn}
 use Rattle.turns.specs.declared.turn.Turn.TheVariants as turn
 use Rattle.tasks.specs.declared.asked.Task.{Task}
 use Rattle.tasks.specs.Asked.{AskOfRead, IsAsked, IsTaken, asked_of}
 use Rattle.tasks.specs.Known.{Begins, IsFixed, cut_answer, task_answer}
+use Rattle.tasks.specs.Plans.{planned_reply}
 use Rattle.tasks.specs.Report.{tally_of}
 use Rattle.tasks.specs.Stages.{claim_ahead, own_turn}
 use Rattle.tasks.specs.Works.{Comes, Work}
@@ -48,3 +51,11 @@ ClaimedCommandsAreTaken = (rows : List Row) (s : State) (c : CommandTurn) (until
 -- and isn't taken where another's claim lasts
 abbrev pub TakenClaimsTakeNoCommand : Type 0
 TakenClaimsTakeNoCommand = (rows : List Row) (s : State) (c : CommandTurn) (other : ℕ) (until : Moment) → claim_ahead s ≡ Some (turn.Claim 1) → claimed s 1 ≡ claim.Taken other until → own_turn c (step rows s (turn.Claim 1)) ≡ None
+
+-- a plan is answered as the command's own turn would be, where none claims ahead
+abbrev pub PlansAreAnsweredAsCommands : Type 0
+PlansAreAnsweredAsCommands = (s : State) (c : CommandTurn) (t : Turn) → claim_ahead s ≡ None → own_turn c s ≡ Some t → planned_reply c s ≡ reply_of s t
+
+-- and as the claim would be, where another's lasts
+abbrev pub PlansTellClaimsThatLast : Type 0
+PlansTellClaimsThatLast = (s : State) (c : CommandTurn) (other : ℕ) (until : Moment) → claim_ahead s ≡ Some (turn.Claim 1) → claimed s 1 ≡ claim.Taken other until → planned_reply c s ≡ answered.Taken other until

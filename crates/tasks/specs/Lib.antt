@@ -1,9 +1,11 @@
 pub mod Asked
+pub mod Begun
 pub mod Closing
 pub mod Endings
 pub mod Journals
 pub mod Known
 pub mod Laws
+pub mod Plans
 pub mod Progress
 pub mod Report
 pub mod Singles

@@ -129,7 +129,8 @@ ClosesEach from reply to told = (mid : Recorded) → mid.state ≡ from.state �
 abbrev pub GivesUpEach : Point → Reply → Option (List Row) → TurnFault → Type 0
 GivesUpEach from reply kept why = (mid : Recorded) → mid.state ≡ from.state → GivesUpOn from.kept mid (closing_by (begun_by reply) mid.state) kept why
 
--- behind a run all turns of stages were taken, which led to another point, and the last reply of the command is this one
+-- behind a run all turns of stages were taken, which led to another point, and the last reply of the command is this
+-- one
 pub record Ends (xs : List Stage) (rows : Option (List Row)) (mid : Recorded) (to : Point) (told : Reply) : Type 0 where
   pub ts : List Turn
   pub run : Recorded

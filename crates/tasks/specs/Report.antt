@@ -4,6 +4,7 @@ use Rattle.std.specs.List.{list_any}
 use Rattle.orch_base.specs.Names.{HostPort}
 use Rattle.audit_lines.specs.Lines.{recovery_lines}
 use Rattle.commands.specs.declared.refusal.Refusal.TheVariants.{NotQuiet, UnknownInstance}
+use Rattle.commands.specs.declared.turn.CommandTurn.{CommandTurn}
 use Rattle.turns.specs.declared.reply.Reply.{Reply}
 use Rattle.turns.specs.declared.reply.Reply.TheVariants as answered
 use Rattle.turns.specs.declared.turn.Turn.{Turn}
@@ -19,6 +20,8 @@ use Rattle.report_text.specs.Lines.{lines_text, plain_text_of}
 use Rattle.report_text.specs.Summary.{summary_text}
 use Rattle.report_text.specs.Tables.{tables_text}
 use Rattle.unended_jobs.specs.Unended.{number_of}
+use Rattle.tasks.specs.Begun.{begun_by}
+use Rattle.tasks.specs.Plans.{Planned, begun_state, planned_in, planned_reply, planned_text}
 use Rattle.tasks.specs.declared.asked.Asked.{Asked}
 use Rattle.tasks.specs.declared.asked.Asked.TheVariants as asked
 use Rattle.tasks.specs.declared.asked.Task.{Task}
@@ -125,8 +128,8 @@ tally_of journal = record {
 abbrev pub summary_of : Tally → State → Answer
 summary_of tally s = record { out = summary_text tally s.world (length s.audit.recoveries); err = []; is_refused = false }
 
--- a single command: its lines, or on err its refusal or whose claim lasts; and the tables where they are asked for, but not
--- where another's claim lasts
+-- a single command: its lines, or on err its refusal or whose claim lasts; and the tables where they are asked for, but
+-- not where another's claim lasts
 abbrev pub told_answer : Bool → List HostPort → State → Reply → Answer
 told_answer tables names s r = record {
   out = (if is_for_err r then [] else plain_text_of names r) ++ (if tables && not (is_taken r) then tables_of s else []);
@@ -169,6 +172,20 @@ abbrev pub own_answer : Bool → List HostPort → State → Option Reply → An
 own_answer tables names s None = no_answer
 own_answer tables names s (Some r) = told_answer tables names s r
 
+-- ---- a command's plan
+
+abbrev pub told_plan : List HostPort → Planned → Answer
+told_plan names p = record { out = planned_text names p; err = []; is_refused = false }
+
+-- the plan of the job that the command began; else the reply, without tables
+abbrev pub plan_answer_by : List HostPort → CommandTurn → State → Reply → Option ℕ → Answer
+plan_answer_by names c s r None = told_answer false names s r
+plan_answer_by names c s r (Some job) = told_plan names (planned_in s c.command job)
+
+-- what is answered in place of a single command, behind the scenario's turns
+unfoldable pub plan_answer : CommandTurn → List HostPort → State → Answer
+plan_answer c names s = plan_answer_by names c (begun_state c s) (planned_reply c s) (begun_by (planned_reply c s))
+
 -- the world as a scenario that begins at the present moment; its refusal where a server with a source accepted a write
 abbrev pub dump_of : List HostPort → Scenario → State → Answer
 dump_of names s at =
@@ -181,6 +198,7 @@ asked_answer asked.Run tables names s run = run_answer names run
 asked_answer asked.Summary tables names s run = summary_of (tally_of run.journal) run.state
 asked_answer asked.Dump tables names s run = dump_of names s run.state
 asked_answer (asked.Turn t) tables names s run = own_answer tables names run.state (last_reply run.journal)
+asked_answer (asked.Plan c) tables names s run = plan_answer c names run.state
 asked_answer asked.Unknown tables names s run = told_answer false names run.state (answered.Refused UnknownInstance)
 asked_answer asked.Nothing tables names s run = no_answer
 
@@ -193,5 +211,6 @@ cut_text asked.Run names run = replies_text names run
 cut_text asked.Summary names run = []
 cut_text asked.Dump names run = []
 cut_text (asked.Turn t) names run = []
+cut_text (asked.Plan t) names run = []
 cut_text asked.Unknown names run = []
 cut_text asked.Nothing names run = []

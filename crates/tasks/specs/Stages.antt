@@ -1,5 +1,5 @@
--- What is taken behind a scenario's turns, stage by stage: a single command's claim, where several orchestrators share the
--- kept rows, its own turn, and the rounds of the job that it began.
+-- What is taken behind a scenario's turns, stage by stage: a single command's claim, where several orchestrators share
+-- the kept rows, its own turn, and the rounds of the job that it began.
 use Rattle.std.specs.Prelude.{◌≡◌, ℕ, ◌==◌, ◌≤◌, ◌⊎◌, ◌++◌, Bool, List, [], ◌∷◌, length, take, Option, Some, None, if◌then◌else◌}
 use Rattle.std.specs.Option.{option_to_list}
 use Rattle.commands.specs.declared.turn.CommandTurn.{CommandTurn}
@@ -62,12 +62,13 @@ Stage = Recorded → List Turn
 abbrev pub own_stages : CommandTurn → List Stage
 own_stages c = (λ run. option_to_list (claim_ahead run.state)) ∷ (λ run. option_to_list (own_turn c run.state)) ∷ []
 
--- and behind it the rounds of the job that it began
+-- and behind it the rounds of the job that it began; where its plan is asked for it takes no turn
 abbrev pub stages : Asked → List Stage
 stages asked.Run = []
 stages asked.Summary = []
 stages asked.Dump = []
 stages (asked.Turn c) = own_stages c ++ closing ∷ []
+stages (asked.Plan c) = []
 stages asked.Unknown = []
 stages asked.Nothing = []
 

@@ -39,6 +39,10 @@ SummaryStands ts from kept out err ending = (names : List HostPort) (s : Scenari
 abbrev pub CommandStands : CommandTurn → Bool → List HostPort → List Turn → Point → Option (List Row) → End → End → Ending → Type 0
 CommandStands own tables names ts from kept out err ending = (task : Task) (s : Scenario) → task.asked ≡ asked.Turn own → task.tables ≡ tables → Stands (course_from task names s ts from kept) out err ending
 
+-- of any task that asks for this command's plan
+abbrev pub PlanStands : CommandTurn → List HostPort → List Turn → Point → Option (List Row) → End → End → Ending → Type 0
+PlanStands own names ts from kept out err ending = (task : Task) (s : Scenario) → task.asked ≡ asked.Plan own → Stands (course_from task names s ts from kept) out err ending
+
 -- of any task that asks about an instance that no server is
 abbrev pub UnknownStands : List HostPort → List Turn → Point → Option (List Row) → End → End → Ending → Type 0
 UnknownStands names ts from kept out err ending = (task : Task) (s : Scenario) → task.asked ≡ asked.Unknown → Stands (course_from task names s ts from kept) out err ending

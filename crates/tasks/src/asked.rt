@@ -2,7 +2,7 @@
 
 ghost use Rattle.std.specs.Prelude.{◌≡◌, ◌≤◌, true, IfOk, IfSome, length};
 ghost use Rattle.cluster_filters.specs.Patterns.{is_pattern};
-ghost use Rattle.tasks.specs.Asked.{IsTaken, asked_about, asked_named, asked_of, pattern_for, server_given, server_of, task_of, turn_for, used};
+ghost use Rattle.tasks.specs.Asked.{IsTaken, asked_about, asked_named, asked_of, asked_turn, pattern_for, server_given, server_of, task_of, turn_for, used};
 
 use command_line::{Own, Places};
 use commands::{Command, CommandName, CommandTurn, Found, Keys};
@@ -23,6 +23,8 @@ pub enum Asked {
     Dump,
     /// A command: this turn behind the scenario's.
     Turn(BoxedCommand),
+    /// A command's plan, in place of the command: it takes no turn of its own.
+    Plan(BoxedCommand),
     /// A command that uses an instance or a destination that no server is: it takes no turn of its own.
     Unknown,
     /// Nothing of a scenario's servers: words that are taken ask this only where a scenario is to be drawn.
@@ -134,6 +136,18 @@ fn turn_for(
     })
 }
 
+// The command itself, or its plan.
+fn asked_turn(alloc: Global, plan: bool, turn: CommandTurn) -> Result<Asked, Memory>
+    ensures { IfOk result (λ a. a ≡ asked_turn plan turn) }
+{
+    let turn = BoxedCommand::new(alloc, turn)?;
+    Ok(if plan {
+        Asked::Plan(turn)
+    } else {
+        Asked::Turn(turn)
+    })
+}
+
 fn asked_about(
     alloc: Global,
     places: &Places,
@@ -148,7 +162,7 @@ fn asked_about(
     match (i, d) {
         (Some(i), Some(d)) => {
             let turn = turn_for(alloc, places, names, name, i, d)?;
-            Ok(Asked::Turn(BoxedCommand::new(alloc, turn)?))
+            asked_turn(alloc, places.plan, turn)
         }
         (None, _) | (Some(_), None) => Ok(Asked::Unknown),
     }
@@ -194,8 +208,8 @@ fn asked_of(alloc: Global, places: &Places, names: &[Name]) -> Result<Asked, Mem
 }
 
 /// What these words, which are taken, ask of servers of these names, of which there are at most 1,000: a run, its
-/// summary or the servers that it leads to, a command's turn with all options that the command uses, or a command whose
-/// instance or destination no server is.
+/// summary or the servers that it leads to, a command's turn with all options that the command uses, its plan, or a
+/// command whose instance or destination no server is.
 /// `Memory` comes only for want of memory.
 pub fn task_of(alloc: Global, places: &Places, names: &[Name]) -> Result<Task, Memory>
     requires words { IsTaken places.now }

@@ -1,10 +1,10 @@
 //! Laws of tasks, over their definitions alone.
 
-ghost use Rattle.tasks.specs.Laws.{ClaimedCommandsAreTaken, CutTextsBeginAnswers, KnownRowsFixRuns, RepliesAreOfTurns, SummariesCountTurns, TakenAreAsked, TakenClaimsTakeNoCommand};
+ghost use Rattle.tasks.specs.Laws.{ClaimedCommandsAreTaken, CutTextsBeginAnswers, KnownRowsFixRuns, PlansAreAnsweredAsCommands, PlansTellClaimsThatLast, RepliesAreOfTurns, SummariesCountTurns, TakenAreAsked, TakenClaimsTakeNoCommand};
 
-/// What words that are taken ask of a scenario is something, and its turn meets the condition of the calls that take turns: its
-/// command is built, what it needs is there, each number and text is in its range, and its instance and destination are
-/// among the servers.
+/// What words that are taken ask of a scenario is something, and its turn meets the condition of the calls that take
+/// turns: its command is built, what it needs is there, each number and text is in its range, and its instance and
+/// destination are among the servers.
 pub fn asked_turns_are_sound()
     ensures { TakenAreAsked }
 {}
@@ -20,16 +20,23 @@ pub fn cut_texts_begin_the_report()
     ensures { CutTextsBeginAnswers }
 {}
 
-/// The replies that a summary counts are those of the turns that were taken, one for each, in their order; so it tells as
-/// many turns as there were.
+/// The replies that a summary counts are those of the turns that were taken, one for each, in their order; so it tells
+/// as many turns as there were.
 pub fn summaries_count_the_turns()
     ensures replies { RepliesAreOfTurns }
     ensures turns { SummariesCountTurns }
 {}
 
-/// A single command that claims ahead, since none of several orchestrators is active, is taken as the first one where that
-/// one got the claim, and isn't taken where another's claim lasts.
+/// A single command that claims ahead, since none of several orchestrators is active, is taken as the first one where
+/// that one got the claim, and isn't taken where another's claim lasts.
 pub fn claims_decide_single_commands()
     ensures held { ClaimedCommandsAreTaken }
     ensures taken { TakenClaimsTakeNoCommand }
+{}
+
+/// Where a command's plan is asked for it is answered as the command would be: by its own turn, and where it would
+/// claim ahead in vain by the claim.
+pub fn plans_are_answered_as_commands()
+    ensures alike { PlansAreAnsweredAsCommands }
+    ensures lasting { PlansTellClaimsThatLast }
 {}

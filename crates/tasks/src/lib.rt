@@ -1,5 +1,5 @@
-//! What words ask of a scenario's servers, and the report of it: a run's as it comes, its summary and a single command's at
-//! the end; and the report of turns that were taken.
+//! What words ask of a scenario's servers, and the report of it: a run's as it comes, its summary and a single
+//! command's at the end, or its plan; and the report of turns that were taken.
 #![tactic(auto)]
 
 mod asked;
@@ -8,7 +8,9 @@ mod ending;
 mod journal;
 mod laws;
 mod names;
+mod nobody;
 mod pieces;
+mod planned;
 mod progress;
 mod report;
 mod single;
@@ -20,7 +22,7 @@ pub use ending::Ending;
 pub use journal::journal_report;
 pub use laws::{
     asked_turns_are_sound, claims_decide_single_commands, cut_texts_begin_the_report,
-    known_rows_fix_the_run, summaries_count_the_turns,
+    known_rows_fix_the_run, plans_are_answered_as_commands, summaries_count_the_turns,
 };
 pub use names::names_of;
 pub use report::task_report;

@@ -10,6 +10,7 @@ ghost use Rattle.tasks.specs.Sinks.{across};
 ghost use Rattle.tasks.specs.Stands.{AreNamedIn, AreTurnsIn};
 
 use crate::dumped::dump_report;
+use crate::planned::plan_report;
 use crate::progress::run_report;
 use crate::single::{command_report, unknown_report};
 use crate::summary::summary_report;
@@ -61,15 +62,16 @@ fn asked_report<O: Sink, E: Sink, K: Keeper>(
             out,
             err,
         ),
+        Asked::Plan(own) => plan_report(alloc, keeper, engine, turns, own, names, out, err),
         Asked::Unknown => unknown_report(alloc, keeper, engine, turns, names, out, err),
         Asked::Nothing => unreachable!(),
     }
 }
 
 /// Opens a scenario, takes its turns and the task's own, and writes the report: of a run each reply's line on out as it
-/// comes, in pieces of 64 KiB and a line, and then the tables, or in place of both its summary; the servers as a scenario
-/// on out, or on err why they can't be given so; of a single command its lines on out, or its refusal on err, and the
-/// tables where they are asked for. `names` are the servers' names.
+/// comes, in pieces of 64 KiB and a line, and then the tables, or in place of both its summary; the servers as a
+/// scenario on out, or on err why they can't be given so; of a single command its lines on out, or its refusal on err,
+/// and the tables where they are asked for; in place of that its plan. `names` are the servers' names.
 ///
 /// Err is written before out. Where a sink fails all turns are taken all the same. A run that a keeper's fault cuts has
 /// written the replies before that turn, anything else nothing. `Keeper` comes only where the keeper's

@@ -7,7 +7,7 @@ ghost use Rattle.orch_core.specs.Keeping.{HasTurnCause, Ran, WasCutOff};
 ghost use Rattle.orch_core.specs.Replies.{reply_of};
 ghost use Rattle.orch_core.specs.Runs.{engine as plainly};
 ghost use Rattle.orch_core.specs.States.{nodes_of};
-ghost use Rattle.tasks.specs.Closing.{begun_by};
+ghost use Rattle.tasks.specs.Begun.{begun_by};
 ghost use Rattle.tasks.specs.Endings.{HasKeepersCause};
 ghost use Rattle.tasks.specs.Progress.{Answers, ClosesEach, EndsEach, GivesUpEach, Stops, StopsEach, point};
 ghost use Rattle.tasks.specs.Report.{tables_of, told_answer};
@@ -111,8 +111,8 @@ fn write_told<O: Sink, E: Sink>(
     }
 }
 
-// The claim ahead of a command: of the first of several orchestrators, where none is active.
-fn claim_ahead(engine: &Engine) -> Option<Turn>
+/// The claim ahead of a command: of the first of several orchestrators, where none is active.
+pub(crate) fn claim_ahead(engine: &Engine) -> Option<Turn>
     requires { 1 ≤ nodes_of engine.now }
     ensures claim { result ≡ claim_ahead engine.now }
     ensures turn { IfSome result (IsTurn (length engine.now.world.servers)) }
@@ -205,8 +205,8 @@ fn own_reply<K: Keeper>(
     Ok(told.or(claimed).unwrap_or(Reply::Lapsed))
 }
 
-// The job that a reply tells to have begun.
-fn begun_by(reply: &Reply) -> Option<u64>
+/// The job that a reply tells to have begun.
+pub(crate) fn begun_by(reply: &Reply) -> Option<u64>
     ensures { result ≡ begun_by reply.now }
 {
     match reply {

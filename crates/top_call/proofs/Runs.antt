@@ -312,6 +312,7 @@ module _ (count nodes : ℕ) (some : 1 ≤ nodes) where
     λ run names here. one_of (claim_ahead run.state) (claim_is run.state),
     (λ run names here. one_of (own_turn c run.state) (own_is c run.state is here), (λ run names here. closing_turns count nodes run names, tt)),
   )
+  stages_over (asked.Plan c) is = tt
   stages_over asked.Unknown is = tt
   stages_over asked.Nothing is = absurd is
 

@@ -117,8 +117,8 @@ Ends c way.Keeper = Closes c ends.Keeper (codes "keeper fault\n")
 Ends c way.Memory =
     Idles c (codes "out of memory\n") ⊎ Closes c ends.Memory (codes "out of memory\n") ⊎ Draws c (TakesFront c.out) (TakesLine c.err (codes "out of memory\n"))
 
--- So ends, with this status, a call that draws this scenario: out took its text whole (0), or failed and took a front of
--- it (4), or memory ran out, and it took a front (6).
+-- So ends, with this status, a call that draws this scenario: out took its text whole (0), or failed and took a front
+-- of it (4), or memory ran out, and it took a front (6).
 abbrev pub DrawEnds : Drawing → ℕ → End → End → Type 0
 DrawEnds d status out err =
     ((status ≡ 0) × Takes out (drawn_text d) × Takes err [])
@@ -174,8 +174,9 @@ FaultsAs (Err usage) read status = status ≡ 2 → ⊥
 abbrev pub FaultsOf : List (List ℕ) → Option (List ℕ) → ℕ → Type 0
 FaultsOf words left status = IfSome left (λ bytes. FaultsAs (places_of words) (scenario_in bytes) status)
 
--- The keeper's first fault ends the call: its count rose once at 5, so not before the turn that met the fault, nor after
--- it; perhaps at 4, where what was left of the report couldn't be written; and with any other status it didn't rise.
+-- The keeper's first fault ends the call: its count rose once at 5, so not before the turn that met the fault, nor
+-- after it; perhaps at 4, where what was left of the report couldn't be written; and with any other status it didn't
+-- rise.
 pub record StopsAtFirst (before now status : ℕ) : Type 0 where
   pub later : before ≤ now
   pub failed : status ≡ 5 → now ≡ next_count before

@@ -72,8 +72,8 @@ ByReport words left kept P = IfSome left (λ bytes. IfSome kept (λ rows. P rows
 abbrev pub IsToWrite : Report → Type 0
 IsToWrite r = (r.status ≡ 0) ⊎ (r.status ≡ 7)
 
--- The call ends with the status of the report, or something stopped it: the source, where it is read (3), a sink of what
--- was to be written (4), the keeper of a task's run (5), or want of memory (6).
+-- The call ends with the status of the report, or something stopped it: the source, where it is read (3), a sink of
+-- what was to be written (4), the keeper of a task's run (5), or want of memory (6).
 abbrev pub EndsAs : Report → ℕ → Type 0
 EndsAs r status =
     (status ≡ r.status) ⊎ ((status ≡ 3) × (r.reads ≡ true)) ⊎ ((status ≡ 4) × IsToWrite r)

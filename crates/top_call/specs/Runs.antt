@@ -65,9 +65,9 @@ use Rattle.run_laws.specs.Claims.{ActsWhereActive, ClaimsWait, IsClaimRow, ItsCl
 -- are apart: each cluster has at most one that isn't ended. Each of these has its unended job, and each job's entry
 -- isn't ended. A lease names an unended job, a job has the leases of all that it may still change, and its turn leaves
 -- every other server as it is; a plan's job that fails was befallen by its cause in that turn, one that nothing befalls
--- is done, and a recovery fails for what befell it, too. Where the state is quiet it is sound, and its servers are safe;
--- where the log of one matches another's, all that the first has executed is a beginning of what the other has and ends
--- at that coordinate, and so it is of each match that a job found, as long as its server stands there.
+-- is done, and a recovery fails for what befell it, too. Where the state is quiet it is sound, and its servers are
+-- safe; where the log of one matches another's, all that the first has executed is a beginning of what the other has
+-- and ends at that coordinate, and so it is of each match that a job found, as long as its server stands there.
 pub record IsSafeState (s : State) : Type 0 where
   pub placed : Placed s.world
   pub held : HeldState s
@@ -162,8 +162,8 @@ OwnClaimRow w s = (old new : List Row) → w.old ≡ Some old → w.new ≡ Some
 
 -- At most one of them is active, and the kept claim is then its own. Each of their turns that doesn't lapse is the
 -- active one's, and one that lapsed does nothing. No claim is granted before another's has run out, and where one
--- passes orchestrator starts again, so that no job is left, and the jobs of all later states were begun since. Where the
--- keeper tells its rows, the claim's row is the kept claim's.
+-- passes orchestrator starts again, so that no job is left, and the jobs of all later states were begun since. Where
+-- the keeper tells its rows, the claim's row is the kept claim's.
 pub record IsActiveAlone (w : Work) (s : State) : Type 0 where
   pub one : OneIsActive s
   pub kept : ItsClaimIsKept s
@@ -233,9 +233,9 @@ TellTruly words bytes = (w : Work) (run : Recorded) (ts : List Turn) (id : ℕ) 
 -- A recovery in flight that began by a command or by a scan has the scenario's hooks, which were told of its failed
 -- server when it began; a takeover and a regroup have none. The turn in which it is done tells, behind its own lines,
 -- those of all hooks before it, up to the first with another exit than 0, and of all behind it; the turn in which it
--- fails those before it, none where its failed server was reached, which is why it fails, and of all that run then. Until
--- all have run that are to before it, no turn of it changes a server, whatever rows the keeper hands back: so none has
--- where one of these ended it. So it is by whatever rows the turns lead there.
+-- fails those before it, none where its failed server was reached, which is why it fails, and of all that run then.
+-- Until all have run that are to before it, no turn of it changes a server, whatever rows the keeper hands back: so
+-- none has where one of these ended it. So it is by whatever rows the turns lead there.
 pub record TellsHooks (w : Work) (ts : List Turn) (rows : List Row) (s : State) (id : ℕ) (r : Recovery) (docket : Docket) : Type 0 where
   pub through : Through w.scenario w.task.waits ts s
   pub own : (h : HookState) → docket.hooks ≡ Some h → AreScenarios w.scenario h

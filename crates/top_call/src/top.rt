@@ -231,7 +231,8 @@ fn respond<S: Source, O: Sink, E: Sink, K: Keeper>(
 /// Does what the words ask with the scenario that the source has, writes the report on out and what went wrong on err,
 /// and answers the program's status. What orchestrator knows is kept by the keeper: the run begins with its rows, and
 /// each change is kept before it is made. Words that ask to draw a scenario have it written on out; neither the source
-/// nor the keeper is called for them. It waits for no other thread: what words ask that name `live` it does as of `run`.
+/// nor the keeper is called for them. It waits for no other thread: what words ask that name `live` it does as of
+/// `run`.
 ///
 /// - 0: the report is written, and no reply in it is refused or failed; or a run's summary is, or a scenario that was
 /// drawn.
@@ -254,8 +255,8 @@ pub fn orch_plain<S: Source, O: Sink, E: Sink, K: Keeper>(
     err: &mut E,
     keeper: &mut K,
 ) -> u8
-    // 1 exactly where the words aren't taken, and 2 exactly where they are, ask of a scenario that is read, and it has a
-    // fault, but for 3 and 6.
+    // 1 exactly where the words aren't taken, and 2 exactly where they are, ask of a scenario that is read, and it has
+    // a fault, but for 3 and 6.
     ensures usage { IsUsage (map (λ w. w.items) words.now) result }
     ensures fault { FaultsOf (map (λ w. w.items) words.now) (S.left scenario.old) result }
 

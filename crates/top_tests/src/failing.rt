@@ -298,8 +298,8 @@ fn summaries_dumps_and_drawings(rt: HostRuntime) -> Result<(), Fail> {
     let loaded = "turns 0 refused 0 failed 0\nexecuted 0\nrecoveries 1\nerrant 0\n";
     let wanting = "write fault\n";
     let not_quiet = "refused 29 NotQuiet 1\n";
-    // The words, the scenario and the rows; the calls of the source, of out and of the keeper that fail, and the room of
-    // out; the status, what out and err took, and how many rows are kept then.
+    // The words, the scenario and the rows; the calls of the source, of out and of the keeper that fail, and the room
+    // of out; the status, what out and err took, and how many rows are kept then.
     let cases: [(
         Words,
         &str,

@@ -15,3 +15,6 @@ returns-in-Turn-clause-stands g c = c.command_report.ensures.stands c.args.task.
 
 pub returns-in-Unknown-clause-stands : goal.returns-in-Unknown-clause-stands
 returns-in-Unknown-clause-stands g c = c.unknown_report.ensures.stands c.args.task.now c.args.scenario.now c.in-Unknown.is
+
+pub returns-in-Plan-clause-stands : goal.returns-in-Plan-clause-stands
+returns-in-Plan-clause-stands g c = c.plan_report.ensures.stands c.args.task.now c.args.scenario.now c.in-Plan.is

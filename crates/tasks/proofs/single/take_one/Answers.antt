@@ -1,4 +1,4 @@
-use Rattle.std.proofs.Common.{[], ◌∷◌, Err, Option, Some, ap, arith, sym, subst}
+use Rattle.std.proofs.Common.{[], ◌∷◌, Err, Option, ap, arith, sym, subst}
 use Rattle.std.specs.Option.{option_to_list}
 use Rattle.std.proofs.lemmas.Result.{err_from_is_err_and}
 use Rattle.turns.specs.declared.turn.Turn.{Turn}

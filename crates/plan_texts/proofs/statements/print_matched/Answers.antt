@@ -1,0 +1,7 @@
+use Rattle.std.proofs.Common.{append_assoc}
+use Rattle.std.specs.Prelude.{codes}
+use Rattle.plan_texts.proofs.Written.{appended}
+use Rattle.plan_texts.proofs.statements.print_matched.Goals as goal
+
+pub returns : goal.returns
+returns c = simp append_assoc (simp (c.in_ok-print_lettered-2.ensures, c.in_ok-print_lettered.ensures, c.in_ok-print_named.ensures, c.in_ok-extend_from_slice.ensures.items, append_assoc) at (appended c.extend_from_slice-2.result c.extend_from_slice-2.new.self.items c.print_lettered-2.new.out.items (codes ".match.pos, SOURCE_AUTO_POSITION=0") c.extend_from_slice-2.ensures.items))

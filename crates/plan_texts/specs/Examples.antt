@@ -1,0 +1,114 @@
+-- Examples: three plans as texts, and lines of operations that these don't have.
+use Rattle.std.specs.Prelude.{ℕ, List, [], ◌∷◌, ◌++◌, codes, Some}
+use Rattle.orch_base.specs.Names.{HostPort}
+use Rattle.orch_base.specs.declared.server.ServerNo.{ServerNo}
+use Rattle.operations.specs.declared.op.Op.{Op}
+use Rattle.operations.specs.declared.op.Crossing.TheVariants.{About, Back, Up}
+use Rattle.operations.specs.declared.op.Op.TheVariants.{Cross, CrossMatch, Detach, Finish, Match, Reattach, Same, Settle, Status, StopReceiver}
+use Rattle.operations.specs.Plans.{auto, up}
+use Rattle.plan_texts.specs.Takeovers.{takeover_ops}
+use Rattle.plan_texts.specs.Texts.{warning}
+
+abbrev pub no : ℕ → ServerNo
+no n = record { 0 = n }
+
+abbrev pub at_home : List ℕ → HostPort
+at_home host = record { host = host; port = 3306 }
+
+abbrev pub three_names : List HostPort
+three_names = at_home (codes "m") ∷ at_home (codes "s") ∷ at_home (codes "r") ∷ []
+
+-- r, which is below s, goes to m
+abbrev pub move_up_ops : List Op
+move_up_ops = up (no 2) (no 1) (no 0) ++ Finish [] ∷ []
+
+abbrev pub move_up_text : List ℕ
+move_up_text =
+    warning
+    ++ (codes "server A r:3306\n"
+    ++ (codes "server B s:3306\n"
+    ++ (codes "server C m:3306\n"
+    ++ (codes "1 A STOP REPLICA;\n"
+    ++ (codes "2 B STOP REPLICA;\n"
+    ++ (codes "3 B SHOW REPLICA STATUS; SHOW BINARY LOG STATUS; -- note B; must be below C\n"
+    ++ (codes "4 A SHOW REPLICA STATUS; SHOW BINARY LOG STATUS; -- note A; must be below B\n"
+    ++ (codes "5 A START REPLICA UNTIL SOURCE_LOG_FILE=:B.end.file, SOURCE_LOG_POS=:B.end.pos; -- not where A.exec >= B.end\n"
+    ++ (codes "6 A SHOW REPLICA STATUS; SHOW BINARY LOG STATUS; -- note A; again until A.exec >= B.end\n"
+    ++ (codes "7 A STOP REPLICA;\n"
+    ++ (codes "8 A CHANGE REPLICATION SOURCE TO SOURCE_HOST='m', SOURCE_PORT=3306, SOURCE_LOG_FILE=:B.exec.file, SOURCE_LOG_POS=:B.exec.pos, SOURCE_AUTO_POSITION=0; -- only where A is below B at B.end, stopped\n"
+    ++ (codes "9 A START REPLICA;\n"
+    ++ (codes "10 B START REPLICA;\n"
+    ++ codes "11 A SHOW REPLICA STATUS; SHOW BINARY LOG STATUS; -- note A\n")))))))))))))
+
+-- s takes the place of m, whose other replica is r
+abbrev pub take_over_ops : List Op
+take_over_ops = takeover_ops (no 0) (no 1) (no 2 ∷ []) ++ Finish [] ∷ []
+
+abbrev pub take_over_text : List ℕ
+take_over_text =
+    warning
+    ++ (codes "server A m:3306\n"
+    ++ (codes "server B s:3306\n"
+    ++ (codes "server C r:3306\n"
+    ++ (codes "1 A SHOW REPLICA STATUS; SHOW BINARY LOG STATUS; -- note A; must be below nothing\n"
+    ++ (codes "2 A SET PERSIST super_read_only=ON;\n"
+    ++ (codes "3 A SHOW REPLICA STATUS; SHOW BINARY LOG STATUS; -- note A\n"
+    ++ (codes "4 B SHOW REPLICA STATUS; SHOW BINARY LOG STATUS; -- note B; must be below A\n"
+    ++ (codes "5 B START REPLICA UNTIL SOURCE_LOG_FILE=:A.end.file, SOURCE_LOG_POS=:A.end.pos; -- not where B.exec >= A.end\n"
+    ++ (codes "6 B SHOW REPLICA STATUS; SHOW BINARY LOG STATUS; -- note B; again until B.exec >= A.end\n"
+    ++ (codes "7 B STOP REPLICA;\n"
+    ++ (codes "8 B SHOW REPLICA STATUS; SHOW BINARY LOG STATUS; -- note B; must be below A\n"
+    ++ (codes "9 C SHOW REPLICA STATUS; SHOW BINARY LOG STATUS; -- note C; must be below A\n"
+    ++ (codes "10 C START REPLICA UNTIL SOURCE_LOG_FILE=:B.exec.file, SOURCE_LOG_POS=:B.exec.pos; -- not where C.exec >= B.exec\n"
+    ++ (codes "11 C SHOW REPLICA STATUS; SHOW BINARY LOG STATUS; -- note C; again until C.exec >= B.exec\n"
+    ++ (codes "12 C STOP REPLICA;\n"
+    ++ (codes "13 C SHOW REPLICA STATUS; SHOW BINARY LOG STATUS; -- note C; must be below A\n"
+    ++ (codes "14 C CHANGE REPLICATION SOURCE TO SOURCE_HOST='s', SOURCE_PORT=3306, SOURCE_LOG_FILE=:B.end.file, SOURCE_LOG_POS=:B.end.pos, SOURCE_AUTO_POSITION=0; -- only where C is below A at B.exec, stopped\n"
+    ++ (codes "15 C START REPLICA;\n"
+    ++ (codes "16 B STOP REPLICA; RESET REPLICA ALL;\n"
+    ++ (codes "17 A CHANGE REPLICATION SOURCE TO SOURCE_HOST='s', SOURCE_PORT=3306, SOURCE_LOG_FILE=:B.end.file, SOURCE_LOG_POS=:B.end.pos, SOURCE_AUTO_POSITION=0, SOURCE_USER=:user, SOURCE_PASSWORD=:password; -- only where A ends at B.exec, stopped\n"
+    ++ (codes "18 B SET PERSIST super_read_only=OFF; SET PERSIST read_only=OFF;\n"
+    ++ (codes "19 A SHOW REPLICA STATUS; SHOW BINARY LOG STATUS; -- note A\n"
+    ++ codes "20 B SHOW REPLICA STATUS; SHOW BINARY LOG STATUS; -- note B\n"))))))))))))))))))))))
+
+-- r goes below m, by what was executed
+abbrev pub move_gtid_ops : List Op
+move_gtid_ops = auto (no 2) (no 0) ++ Finish [] ∷ []
+
+abbrev pub move_gtid_text : List ℕ
+move_gtid_text =
+    warning
+    ++ (codes "server A r:3306\n"
+    ++ (codes "server B m:3306\n"
+    ++ (codes "1 A STOP REPLICA;\n"
+    ++ (codes "2 A SHOW REPLICA STATUS; SHOW BINARY LOG STATUS; -- note A\n"
+    ++ (codes "3 B SELECT WAIT_FOR_EXECUTED_GTID_SET(':A.gtids', 1); -- again until it answers 0\n"
+    ++ (codes "4 B SHOW REPLICA STATUS; SHOW BINARY LOG STATUS; -- note B\n"
+    ++ (codes "5 A CHANGE REPLICATION SOURCE TO SOURCE_HOST='m', SOURCE_PORT=3306, SOURCE_AUTO_POSITION=1; -- only where A.gtids are in B.gtids, stopped\n"
+    ++ (codes "6 A START REPLICA;\n"
+    ++ codes "7 A SHOW REPLICA STATUS; SHOW BINARY LOG STATUS; -- note A\n"))))))))
+
+-- what plans may do with r, which is below s and then below m, one after another
+abbrev pub other_ops : List Op
+other_ops =
+    StopReceiver (no 2) ∷ Settle (no 2) ∷ Detach (no 2) ∷ Reattach (no 2) ∷ Status (no 2) (Some (no 1)) ∷ Status (no 2) (Some (no 0)) ∷ Same (no 2)
+    ∷ Match (no 2) (no 0) 7 ∷ CrossMatch (no 2) (no 0) ∷ Cross Up (no 2) (no 1) ∷ Cross About (no 2) (no 1) ∷ Cross Back (no 2) (no 1) ∷ []
+
+abbrev pub other_text : List ℕ
+other_text =
+    warning
+    ++ (codes "server A r:3306\n"
+    ++ (codes "server B s:3306\n"
+    ++ (codes "server C m:3306\n"
+    ++ (codes "1 A STOP REPLICA IO_THREAD;\n"
+    ++ (codes "2 A SHOW REPLICA STATUS; SHOW BINARY LOG STATUS; -- note A; again until A.exec = A.read or its applier is off\n"
+    ++ (codes "3 A STOP REPLICA; SHOW REPLICA STATUS; SHOW BINARY LOG STATUS; CHANGE REPLICATION SOURCE TO SOURCE_HOST='//:A.source.host', SOURCE_PORT=:A.source.port, SOURCE_LOG_FILE=:A.exec.file, SOURCE_LOG_POS=:A.exec.pos, SOURCE_AUTO_POSITION=0; -- note A; only where A is attached, stopped\n"
+    ++ (codes "4 A SHOW REPLICA STATUS; SHOW BINARY LOG STATUS; CHANGE REPLICATION SOURCE TO SOURCE_HOST=':A.source.host', SOURCE_PORT=:A.source.port, SOURCE_LOG_FILE=:A.exec.file, SOURCE_LOG_POS=:A.exec.pos, SOURCE_AUTO_POSITION=0; -- note A; only where A is detached, stopped\n"
+    ++ (codes "5 A SHOW REPLICA STATUS; SHOW BINARY LOG STATUS; -- note A; must be below B\n"
+    ++ (codes "6 A SHOW REPLICA STATUS; SHOW BINARY LOG STATUS; -- note A; must be below C\n"
+    ++ (codes "7 A CHANGE REPLICATION SOURCE TO SOURCE_HOST='m', SOURCE_PORT=3306, SOURCE_LOG_FILE=:A.exec.file, SOURCE_LOG_POS=:A.exec.pos, SOURCE_AUTO_POSITION=0; -- only where A is below C at A.exec, stopped\n"
+    ++ (codes "8 A SHOW BINLOG EVENTS; -- note A.match, by hand: the place in the log of C behind all that A shows behind its last mark\n"
+    ++ (codes "9 A CHANGE REPLICATION SOURCE TO SOURCE_HOST='m', SOURCE_PORT=3306, SOURCE_LOG_FILE=:A.match.file, SOURCE_LOG_POS=:A.match.pos, SOURCE_AUTO_POSITION=0; -- only where A stands as it did then, stopped\n"
+    ++ (codes "10 A CHANGE REPLICATION SOURCE TO SOURCE_HOST=':B.source.host', SOURCE_PORT=:B.source.port, SOURCE_LOG_FILE=:B.exec.file, SOURCE_LOG_POS=:B.exec.pos, SOURCE_AUTO_POSITION=0; -- only where A is below B at B.end, stopped\n"
+    ++ (codes "11 A CHANGE REPLICATION SOURCE TO SOURCE_HOST='s', SOURCE_PORT=3306, SOURCE_LOG_FILE=:B.end.file, SOURCE_LOG_POS=:B.end.pos, SOURCE_AUTO_POSITION=0; -- only where A ends at B.exec, stopped\n"
+    ++ codes "12 A CHANGE REPLICATION SOURCE TO SOURCE_HOST='s', SOURCE_PORT=3306, SOURCE_LOG_FILE=:A.exec.file, SOURCE_LOG_POS=:A.exec.pos, SOURCE_AUTO_POSITION=0, SOURCE_USER=:user, SOURCE_PASSWORD=:password; -- only where A ends at A.end, stopped\n"))))))))))))))

@@ -1,0 +1,116 @@
+-- Statements: what is sent for each operation (MySQL 8.0 Reference Manual, "Replication Statements"), with words in
+-- place of coordinates that earlier lines noted.
+use Rattle.std.specs.Prelude.{ℕ, ◌==◌, Bool, true, false, List, [], ◌++◌, codes, decimal, fold, if◌then◌else◌, slice_get, Option, Some, None}
+use Rattle.std.specs.Option.{option_or}
+use Rattle.orch_base.specs.Names.{HostPort}
+use Rattle.orch_base.specs.declared.server.ServerNo.{ServerNo}
+use Rattle.operations.specs.declared.op.Aim.{Aim}
+use Rattle.operations.specs.declared.op.Aim.TheVariants.{EndOf, ExecOf}
+use Rattle.operations.specs.declared.op.Crossing.{Crossing}
+use Rattle.operations.specs.declared.op.Crossing.TheVariants as cross
+use Rattle.operations.specs.declared.op.Op.{Op}
+use Rattle.operations.specs.declared.op.Op.TheVariants as op
+use Rattle.plan_texts.specs.Letters.{letter}
+
+-- ---- the sources that operations before tell
+
+-- that of a server, where the operation reads it and names one
+abbrev pub told_by : ServerNo → Op → Option ServerNo
+told_by n (op.Status m from) = if m.0 == n.0 then from else None
+told_by n (op.Stop m) = None
+told_by n (op.StopReceiver m) = None
+told_by n (op.Start m) = None
+told_by n (op.Reset m) = None
+told_by n (op.Detach m) = None
+told_by n (op.Reattach m) = None
+told_by n (op.ReadOnly m on) = None
+told_by n (op.Until m aim) = None
+told_by n (op.Await m aim) = None
+told_by n (op.AwaitSet m d) = None
+told_by n (op.Settle m) = None
+told_by n (op.Cross c a b) = None
+told_by n (op.Same m) = None
+told_by n (op.Auto m d) = None
+told_by n (op.Match m d every) = None
+told_by n (op.CrossMatch m d) = None
+told_by n (op.Finish lines) = None
+
+-- the latest that is told
+abbrev pub told : List Op → ServerNo → Option ServerNo
+told before n = fold (λ found o. option_or (told_by n o) found) None before
+
+-- ---- words of statements
+
+-- what is noted of a server: A.end, A.exec
+unfoldable pub aim_words : List ServerNo → Aim → List ℕ
+aim_words order (EndOf n) = letter order n ++ codes ".end"
+aim_words order (ExecOf n) = letter order n ++ codes ".exec"
+
+-- the coordinate that was noted
+unfoldable pub spot_words : List ServerNo → Aim → List ℕ
+spot_words order aim = codes "SOURCE_LOG_FILE=:" ++ aim_words order aim ++ codes ".file, SOURCE_LOG_POS=:" ++ aim_words order aim ++ codes ".pos"
+
+abbrev pub address_words : Option HostPort → List ℕ
+address_words None = []
+address_words (Some name) = codes "SOURCE_HOST='" ++ name.host ++ codes "', SOURCE_PORT=" ++ decimal name.port
+
+unfoldable pub named_words : List HostPort → ServerNo → List ℕ
+named_words names n = address_words (slice_get names n.0)
+
+-- the source that was noted of a server, behind so many slashes
+unfoldable pub own_words : List ServerNo → List ℕ → ServerNo → List ℕ
+own_words order slashes n =
+    codes "SOURCE_HOST='" ++ slashes ++ codes ":" ++ letter order n ++ codes ".source.host', SOURCE_PORT=:" ++ letter order n ++ codes ".source.port"
+
+-- the source of a server: by its name where it was told, else as it was noted
+abbrev pub source_words : List HostPort → List ServerNo → ServerNo → Option ServerNo → List ℕ
+source_words names order n None = own_words order [] n
+source_words names order n (Some source) = named_words names source
+
+-- another source, by a coordinate
+unfoldable pub change_words : List ServerNo → List ℕ → Aim → List ℕ
+change_words order source aim = codes "CHANGE REPLICATION SOURCE TO " ++ source ++ codes ", " ++ spot_words order aim ++ codes ", SOURCE_AUTO_POSITION=0"
+
+-- one who had no source needs a login
+abbrev pub login_words : Option ServerNo → List ℕ
+login_words None = codes ", SOURCE_USER=:user, SOURCE_PASSWORD=:password"
+login_words (Some source) = []
+
+abbrev pub reading_words : List ℕ
+reading_words = codes "SHOW REPLICA STATUS; SHOW BINARY LOG STATUS"
+
+abbrev pub read_only_words : Bool → List ℕ
+read_only_words true = codes "SET PERSIST super_read_only=ON"
+read_only_words false = codes "SET PERSIST super_read_only=OFF; SET PERSIST read_only=OFF"
+
+-- ---- statements
+
+abbrev pub cross_statement : List HostPort → List ServerNo → List Op → Crossing → ServerNo → ServerNo → List ℕ
+cross_statement names order before cross.Up a b = change_words order (source_words names order b (told before b)) (ExecOf b)
+cross_statement names order before cross.Down a b = change_words order (named_words names b) (EndOf b)
+cross_statement names order before cross.About a b = change_words order (named_words names b) (EndOf b) ++ login_words (told before a)
+cross_statement names order before cross.Back a b = change_words order (named_words names b) (ExecOf a) ++ login_words None
+
+-- what is sent for an operation, behind these; nothing for the end of a job
+abbrev pub statement : List HostPort → List ServerNo → List Op → Op → List ℕ
+statement names order before (op.Status n from) = reading_words
+statement names order before (op.Stop n) = codes "STOP REPLICA"
+statement names order before (op.StopReceiver n) = codes "STOP REPLICA IO_THREAD"
+statement names order before (op.Start n) = codes "START REPLICA"
+statement names order before (op.Reset n) = codes "STOP REPLICA; RESET REPLICA ALL"
+statement names order before (op.Detach n) =
+    codes "STOP REPLICA; " ++ reading_words ++ codes "; " ++ change_words order (own_words order (codes "//") n) (ExecOf n)
+statement names order before (op.Reattach n) = reading_words ++ codes "; " ++ change_words order (own_words order [] n) (ExecOf n)
+statement names order before (op.ReadOnly n on) = read_only_words on
+statement names order before (op.Until n aim) = codes "START REPLICA UNTIL " ++ spot_words order aim
+statement names order before (op.Await n aim) = reading_words
+statement names order before (op.AwaitSet n m) = codes "SELECT WAIT_FOR_EXECUTED_GTID_SET(':" ++ letter order m ++ codes ".gtids', 1)"
+statement names order before (op.Settle n) = reading_words
+statement names order before (op.Cross c a b) = cross_statement names order before c a b
+statement names order before (op.Same n) = change_words order (source_words names order n (told before n)) (ExecOf n)
+statement names order before (op.Auto n m) = codes "CHANGE REPLICATION SOURCE TO " ++ named_words names m ++ codes ", SOURCE_AUTO_POSITION=1"
+statement names order before (op.Match n m every) = codes "SHOW BINLOG EVENTS"
+statement names order before (op.CrossMatch n m) =
+    codes "CHANGE REPLICATION SOURCE TO " ++ named_words names m ++ codes ", SOURCE_LOG_FILE=:" ++ letter order n
+    ++ codes ".match.file, SOURCE_LOG_POS=:" ++ letter order n ++ codes ".match.pos, SOURCE_AUTO_POSITION=0"
+statement names order before (op.Finish lines) = []

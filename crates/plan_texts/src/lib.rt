@@ -1,0 +1,19 @@
+//! The text of a plan: a warning, the servers by their letters, and a numbered line for each operation, with the
+//! statement of MySQL 8 and the condition under which alone it may be sent. What is named `print` appends, and at want
+//! of memory may leave a part behind.
+#![tactic(auto)]
+
+mod conditions;
+mod laws;
+mod letters;
+mod lines;
+mod statements;
+mod takeovers;
+mod told;
+mod words;
+
+pub use laws::plans_are_told_so;
+pub use lines::print_plan;
+/// Want of memory.
+pub use orch_base::Memory;
+pub use takeovers::takeover;

@@ -1,0 +1,231 @@
+//! What is sent for each operation.
+
+ghost use Rattle.std.specs.Prelude.{◌≡◌, ◌++◌, [], codes, OnOk};
+ghost use Rattle.operations.specs.declared.op.Aim.TheVariants.{ExecOf};
+ghost use Rattle.operations.specs.declared.op.Op.TheVariants.{CrossMatch};
+ghost use Rattle.plan_texts.specs.Letters.{letter};
+ghost use Rattle.plan_texts.specs.Statements.{change_words, cross_statement, named_words, own_words, read_only_words, reading_words, source_words, spot_words, statement};
+
+use crate::Memory;
+use crate::told::told as told_source;
+use crate::words::{login, print_lettered, print_named, print_own, print_source, print_spot};
+use operations::{Aim, Crossing, Op};
+use orch_base::{Name, ServerNo};
+use std::alloc::Global;
+
+/// The servers of a plan by their names and their letters, and the operations before the one that is told.
+#[derive(Clone, Copy)]
+pub(crate) struct Told<'a> {
+    pub(crate) names: &'a [Name],
+    pub(crate) order: &'a [ServerNo],
+    pub(crate) before: &'a [Op],
+}
+
+/// A reading of a server.
+pub(crate) fn reading() -> &'static [u8]
+    ensures { result.now ≡ reading_words }
+{
+    b"SHOW REPLICA STATUS; SHOW BINARY LOG STATUS"
+}
+
+fn read_only(on: bool) -> &'static [u8]
+    ensures { result.now ≡ read_only_words on }
+{
+    if on {
+        b"SET PERSIST super_read_only=ON"
+    } else {
+        b"SET PERSIST super_read_only=OFF; SET PERSIST read_only=OFF"
+    }
+}
+
+// Behind the source of a change: the coordinate that was noted.
+fn print_place(order: &[ServerNo], aim: Aim, out: &mut Vec<u8>) -> Result<(), Memory>
+    ensures { OnOk result (out.new.items
+        ≡ out.old.items
+        ++ (codes ", " ++ spot_words order.now aim ++ codes ", SOURCE_AUTO_POSITION=0")) }
+{
+    out.extend_from_slice(b", ")?;
+    print_spot(order, aim, out)?;
+    out.extend_from_slice(b", SOURCE_AUTO_POSITION=0")
+}
+
+// A change to the source of a server.
+fn print_to_source(
+    alloc: Global,
+    told: &Told<'_>,
+    no: ServerNo,
+    source: Option<ServerNo>,
+    aim: Aim,
+    out: &mut Vec<u8>,
+) -> Result<(), Memory>
+    ensures { OnOk result (out.new.items ≡ out.old.items
+        ++ change_words told.now.order.now
+        (source_words told.now.names.now told.now.order.now no source) aim) }
+{
+    out.extend_from_slice(b"CHANGE REPLICATION SOURCE TO ")?;
+    print_source(alloc, told.names, told.order, no, source, out)?;
+    print_place(told.order, aim, out)
+}
+
+// A change to a server.
+fn print_to_server(
+    alloc: Global,
+    told: &Told<'_>,
+    no: ServerNo,
+    aim: Aim,
+    out: &mut Vec<u8>,
+) -> Result<(), Memory>
+    ensures { OnOk result (out.new.items ≡ out.old.items
+        ++ change_words told.now.order.now (named_words told.now.names.now no) aim) }
+{
+    out.extend_from_slice(b"CHANGE REPLICATION SOURCE TO ")?;
+    print_named(alloc, told.names, no, out)?;
+    print_place(told.order, aim, out)
+}
+
+// A change to the source that was noted, behind so many slashes.
+fn print_to_own(
+    order: &[ServerNo],
+    slashes: &[u8],
+    no: ServerNo,
+    out: &mut Vec<u8>,
+) -> Result<(), Memory>
+    ensures { OnOk result (out.new.items ≡ out.old.items
+        ++ change_words order.now (own_words order.now slashes.now no) (ExecOf no)) }
+{
+    out.extend_from_slice(b"CHANGE REPLICATION SOURCE TO ")?;
+    print_own(order, slashes, no, out)?;
+    print_place(order, Aim::ExecOf(no), out)
+}
+
+fn print_crossing(
+    alloc: Global,
+    told: &Told<'_>,
+    crossing: Crossing,
+    a: ServerNo,
+    b: ServerNo,
+    out: &mut Vec<u8>,
+) -> Result<(), Memory>
+    ensures { OnOk result (out.new.items ≡ out.old.items
+        ++ cross_statement told.now.names.now told.now.order.now told.now.before.now crossing a b) }
+{
+    match crossing {
+        Crossing::Up => {
+            let source = told_source(told.before, b);
+            print_to_source(alloc, told, b, source, Aim::ExecOf(b), out)
+        }
+        Crossing::Down => print_to_server(alloc, told, b, Aim::EndOf(b), out),
+        Crossing::About => {
+            print_to_server(alloc, told, b, Aim::EndOf(b), out)?;
+            out.extend_from_slice(login(told_source(told.before, a)))
+        }
+        Crossing::Back => {
+            print_to_server(alloc, told, b, Aim::ExecOf(a), out)?;
+            out.extend_from_slice(login(None))
+        }
+    }
+}
+
+// Another source, by GTIDs.
+fn print_auto(alloc: Global, names: &[Name], no: ServerNo, out: &mut Vec<u8>) -> Result<(), Memory>
+    ensures { OnOk result (out.new.items ≡ out.old.items
+        ++ (codes "CHANGE REPLICATION SOURCE TO " ++ named_words names.now no
+        ++ codes ", SOURCE_AUTO_POSITION=1")) }
+{
+    out.extend_from_slice(b"CHANGE REPLICATION SOURCE TO ")?;
+    print_named(alloc, names, no, out)?;
+    out.extend_from_slice(b", SOURCE_AUTO_POSITION=1")
+}
+
+// Another source, where the logs match.
+fn print_matched(
+    alloc: Global,
+    told: &Told<'_>,
+    no: ServerNo,
+    to: ServerNo,
+    out: &mut Vec<u8>,
+) -> Result<(), Memory>
+    ensures { OnOk result (out.new.items ≡ out.old.items
+        ++ statement told.now.names.now told.now.order.now told.now.before.now (CrossMatch no to)) }
+{
+    out.extend_from_slice(b"CHANGE REPLICATION SOURCE TO ")?;
+    print_named(alloc, told.names, to, out)?;
+    print_lettered(b", SOURCE_LOG_FILE=:", told.order, no, out)?;
+    print_lettered(b".match.file, SOURCE_LOG_POS=:", told.order, no, out)?;
+    out.extend_from_slice(b".match.pos, SOURCE_AUTO_POSITION=0")
+}
+
+// The server is stopped, read, and detached.
+fn print_detach(order: &[ServerNo], no: ServerNo, out: &mut Vec<u8>) -> Result<(), Memory>
+    ensures { OnOk result (out.new.items ≡ out.old.items
+        ++ (codes "STOP REPLICA; " ++ reading_words ++ codes "; "
+        ++ change_words order.now (own_words order.now (codes "//") no) (ExecOf no))) }
+{
+    out.extend_from_slice(b"STOP REPLICA; ")?;
+    out.extend_from_slice(reading())?;
+    out.extend_from_slice(b"; ")?;
+    print_to_own(order, b"//", no, out)
+}
+
+// The server is read and attached again.
+fn print_reattach(order: &[ServerNo], no: ServerNo, out: &mut Vec<u8>) -> Result<(), Memory>
+    ensures { OnOk result (out.new.items ≡ out.old.items
+        ++ (reading_words ++ codes "; "
+        ++ change_words order.now (own_words order.now [] no) (ExecOf no))) }
+{
+    out.extend_from_slice(reading())?;
+    out.extend_from_slice(b"; ")?;
+    print_to_own(order, b"", no, out)
+}
+
+// The statement that waits for a server's GTIDs.
+fn print_wait(order: &[ServerNo], of: ServerNo, out: &mut Vec<u8>) -> Result<(), Memory>
+    ensures { OnOk result (out.new.items ≡ out.old.items
+        ++ (codes "SELECT WAIT_FOR_EXECUTED_GTID_SET(':" ++ letter order.now of
+        ++ codes ".gtids', 1)")) }
+{
+    print_lettered(b"SELECT WAIT_FOR_EXECUTED_GTID_SET(':", order, of, out)?;
+    out.extend_from_slice(b".gtids', 1)")
+}
+
+// The server goes on up to a coordinate that was noted.
+fn print_until(order: &[ServerNo], aim: Aim, out: &mut Vec<u8>) -> Result<(), Memory>
+    ensures { OnOk result (out.new.items
+        ≡ out.old.items ++ (codes "START REPLICA UNTIL " ++ spot_words order.now aim)) }
+{
+    out.extend_from_slice(b"START REPLICA UNTIL ")?;
+    print_spot(order, aim, out)
+}
+
+/// What is sent for an operation; nothing for the end of a job.
+pub(crate) fn print_statement(
+    alloc: Global,
+    told: &Told<'_>,
+    op: &Op,
+    out: &mut Vec<u8>,
+) -> Result<(), Memory>
+    ensures { OnOk result (out.new.items ≡ out.old.items
+        ++ statement told.now.names.now told.now.order.now told.now.before.now op.now) }
+{
+    match op {
+        Op::Status(_, _) | Op::Await(_, _) | Op::Settle(_) => out.extend_from_slice(reading()),
+        Op::Stop(_) => out.extend_from_slice(b"STOP REPLICA"),
+        Op::StopReceiver(_) => out.extend_from_slice(b"STOP REPLICA IO_THREAD"),
+        Op::Start(_) => out.extend_from_slice(b"START REPLICA"),
+        Op::Reset(_) => out.extend_from_slice(b"STOP REPLICA; RESET REPLICA ALL"),
+        Op::Detach(no) => print_detach(told.order, *no, out),
+        Op::Reattach(no) => print_reattach(told.order, *no, out),
+        Op::ReadOnly(_, on) => out.extend_from_slice(read_only(*on)),
+        Op::Until(_, aim) => print_until(told.order, *aim, out),
+        Op::AwaitSet(_, of) => print_wait(told.order, *of, out),
+        Op::Cross(crossing, a, b) => print_crossing(alloc, told, *crossing, *a, *b, out),
+        Op::Same(no) => {
+            let source = told_source(told.before, *no);
+            print_to_source(alloc, told, *no, source, Aim::ExecOf(*no), out)
+        }
+        Op::Auto(_, to) => print_auto(alloc, told.names, *to, out),
+        Op::Match(_, _, _) => out.extend_from_slice(b"SHOW BINLOG EVENTS"),
+        Op::CrossMatch(no, to) => print_matched(alloc, told, *no, *to, out),
+        Op::Finish(_) => Ok(()),
+    }
+}

@@ -1,0 +1,20 @@
+use Rattle.std.proofs.Common.{◌≡◌, ◌∙◌, Err, ap, arith}
+use Rattle.commands.specs.declared.turn.CommandTurn.{CommandTurn}
+use Rattle.orch_base.specs.Memory.{next_count}
+use Rattle.orch_core.specs.Replies.{act_reply}
+use Rattle.turns.specs.declared.turn.Act.TheVariants as act
+use Rattle.tasks.specs.Plans.{begun_state}
+use Rattle.tasks.proofs.planned.begin.Goals as goal
+
+pub returns-in-Ok-clause-reply : goal.returns-in-Ok-clause-reply
+returns-in-Ok-clause-reply c = c.in-Ok.ensures.reply ∙ ap (λ (t : CommandTurn). act_reply c.args.engine.now (act.Command t)) c.in_ok-copy.ensures
+
+-- none of its rows is asked for
+pub returns-in-Ok-clause-state : goal.returns-in-Ok-clause-state
+returns-in-Ok-clause-state c = c.in-Ok.ensures.ok.1 ∙ ap (λ (t : CommandTurn). begun_state t c.args.engine.now) c.in_ok-copy.ensures
+
+-- nobody fails
+pub unreachable-requires : goal.unreachable-requires
+unreachable-requires c =
+    let risen : 0 ≡ next_count 0 = c.in-Err-Keeper.ensures.cause.failed (ap Err c.in-Err-Keeper.field-0-is) in
+    omega (arith, risen)

@@ -1,0 +1,17 @@
+use Rattle.tasks.specs.Progress.{point}
+use Rattle.tasks.proofs.Courses.{recorded}
+use Rattle.tasks.proofs.Planning.{plan_keeper, plan_memory, plan_stands}
+use Rattle.tasks.proofs.planned.plan_report.Goals as goal
+
+pub returns-in-Ok-clause-stands : goal.returns-in-Ok-clause-stands
+returns-in-Ok-clause-stands g c = λ task s is.
+    plan_stands task c.args.names.now s c.args.turns.now (point (g.K.Keeper.kept c.args.keeper.now) c.args.engine.now) c.args.own.now is (g.K.Keeper.kept c.run.new.keeper) c.run.new.self _ _ _ (recorded _ _ _ _ c.args.turns.now c.in-Ok.ensures.ok)
+    c.write_planned.ensures.writes
+
+pub returns-in-Err-Keeper-clause-stands : goal.returns-in-Err-Keeper-clause-stands
+returns-in-Err-Keeper-clause-stands g c = λ task s is.
+    plan_keeper task c.args.names.now s c.args.turns.now (point (g.K.Keeper.kept c.args.keeper.now) c.args.engine.now) c.args.own.now is (g.K.Keeper.kept c.run.new.keeper) c.run.new.self _ _ c.in-Err-Keeper.field-0 c.in-Err-Keeper.field-0-is c.in-Err-Keeper.ensures.err
+
+pub returns-in-Err-Memory-clause-stands : goal.returns-in-Err-Memory-clause-stands
+returns-in-Err-Memory-clause-stands g c = λ task s is.
+    plan_memory task c.args.names.now s c.args.turns.now (point (g.K.Keeper.kept c.args.keeper.now) c.args.engine.now) c.args.own.now is (g.K.Keeper.kept c.run.new.keeper) c.run.new.self _ _ c.in-Err-Memory.field-0 c.in-Err-Memory.field-0-is c.in-Err-Memory.ensures.err

@@ -1,0 +1,38 @@
+//! A keeper that keeps nothing.
+
+ghost use Rattle.std.specs.Prelude.{None, IfOk};
+ghost use Rattle.kept_rows.specs.Keeping.{KeepsAll, HasKeeperCause};
+ghost use Rattle.kept_rows.specs.Rows.{IsRising};
+
+use instance_keeper::{Change, Keeper, KeeperFault, Row};
+use orch_base::Name;
+use std::alloc::Global;
+
+/// A keeper that keeps nothing and tells of no rows. None of its calls fails.
+#[derive(Clone, Copy)]
+pub(crate) struct Nobody;
+
+impl Keeper for Nobody {
+    ghost kept = { λ k. None };
+
+    ghost faults = { λ k. 0 };
+
+    fn keep(
+        &mut self,
+        _alloc: Global,
+        _names: &[Name],
+        _changes: &[Change],
+    ) -> Result<(), KeeperFault>
+        ensures kept { KeepsAll None None _changes.now result }
+        ensures cause { HasKeeperCause 0 0 result }
+    {
+        Ok(())
+    }
+
+    fn rows(&mut self, alloc: Global, _names: &[Name]) -> Result<Vec<Row>, KeeperFault>
+        ensures rising { IfOk result (λ given. IsRising given.items) }
+        ensures cause { HasKeeperCause 0 0 result }
+    {
+        Ok(Vec::new(alloc))
+    }
+}

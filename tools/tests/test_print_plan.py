@@ -1,0 +1,50 @@
+"""The plans of print_plan.py are those of the program: cases/plans.table has the program's, which .ci/tables runs it for."""
+import json
+import os
+import shlex
+import sys
+import unittest
+
+TOOLS = os.path.dirname(os.path.dirname(os.path.abspath(__file__)))
+sys.path.insert(0, TOOLS)
+
+from client import full
+from print_plan import plan_text, sources_in
+
+TABLE = os.path.join(os.path.dirname(TOOLS), "cases", "plans.table")
+
+
+def rows():
+    """Of each command that has a plan: its number in the table, its words, its scenario and its plan."""
+    with open(TABLE, encoding="utf-8") as file:
+        for number, line in enumerate(file.read().split("\n"), 1):
+            if line and not line.startswith("#"):
+                words, scenario, status, _, plan = (line.split("\t") + [""] * 2)[:5]
+                if status == "0":
+                    yield number, shlex.split(words), scenario, plan.replace("\\n", "\n") + "\n"
+
+
+def told(words, scenario):
+    """The plan of print_plan.py, where it has one."""
+    if json.loads(scenario).get("pseudo"):
+        return None
+    named = {word: full(words[at + 1]) for at, word in enumerate(words) if word in ("-i", "-d")}
+    try:
+        return plan_text(words[words.index("-c") + 1], named["-i"], named.get("-d"), sources_in(scenario))
+    except ValueError:
+        return None
+
+
+class Plans(unittest.TestCase):
+    def test_both_tell_the_same(self):
+        compared = 0
+        for number, words, scenario, plan in rows():
+            text = told(words, scenario)
+            if text is not None:
+                compared += 1
+                self.assertEqual(text, plan, "cases/plans.table:%d" % number)
+        self.assertGreaterEqual(compared, 25)
+
+
+if __name__ == "__main__":
+    unittest.main()
