@@ -20,9 +20,9 @@ use std::alloc::Global;
 use topology_tree::Forest;
 use unended_jobs::{Docket, Unended};
 
-/// `Refused` exactly with the lowest refusal of the permission table that applies to the command, where each transaction
-/// is a mark whose number is divisible by `every`, and none where that is 0. It changes nothing. `Memory` comes only for
-/// want of memory.
+/// `Refused` exactly with the lowest refusal of the permission table that applies to the command, where each
+/// transaction is a mark whose number is divisible by `every`, and none where that is 0. It changes nothing. `Memory`
+/// comes only for want of memory.
 #[tactic(auto, using(crate::proofs::Planned::planned))]
 pub fn permit(
     alloc: Global,

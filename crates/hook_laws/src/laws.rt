@@ -31,9 +31,9 @@ pub fn hooks_before_recoveries_leave_servers()
         (hooked w b read now r d).taken.exchanges ≡ [] }
 {}
 
-/// A recovery that is done tells, behind its own lines, those of all hooks before it and of all behind it; one that fails
-/// tells those before it up to the one that ended it, and all that run then. One that hasn't looked at its failed server
-/// fails just where that is reached, and tells none before it. One without hooks tells none.
+/// A recovery that is done tells, behind its own lines, those of all hooks before it and of all behind it; one that
+/// fails tells those before it up to the one that ended it, and all that run then. One that hasn't looked at its failed
+/// server fails just where that is reached, and tells none before it. One without hooks tells none.
 pub fn recoveries_tell_their_hooks()
     ensures done { (w : World) (b : BookState) (read : ℕ) (now : AMoment) (r : Recovery)
         (d : ADocket) (s : HookState) (lines : List ALine) →

@@ -403,8 +403,8 @@ impl Book {
         self.empty_between(next, count);
     }
 
-    // Puts these rows, where a book takes them, while all places of instances are still to be set. It gives the next one
-    // that is to be set then.
+    // Puts these rows, where a book takes them, while all places of instances are still to be set. It gives the next
+    // one that is to be set then.
     fn set_all(&mut self, rows: Vec<Row>) -> u32
         ensures within { result ≤ length self.new.names }
         ensures after { first_set result self.new ≡

@@ -127,10 +127,10 @@ fn is_reached(world: &World, no: ServerNo) -> bool
 
 /// Where all that server `r` has executed ends in the log of `d`, by the last mark that the log of `r` keeps: a
 /// transaction whose number is divisible by `every`, of which there are none at 0. Unreachable with the first of the
-/// two that is down or whose desk link is cut. NoMark where the log of `r` keeps no mark, or that of `d` doesn't keep the
-/// last one of `r`. Mismatch with the first entry of `r`, counted from 1, behind the mark for which `d` has none in its
-/// place, or one that shows another origin, another size or a mark. The time is that of the entries behind the mark. It
-/// takes no memory.
+/// two that is down or whose desk link is cut. NoMark where the log of `r` keeps no mark, or that of `d` doesn't keep
+/// the last one of `r`. Mismatch with the first entry of `r`, counted from 1, behind the mark for which `d` has none in
+/// its place, or one that shows another origin, another size or a mark. The time is that of the entries behind the
+/// mark. It takes no memory.
 pub fn match_logs(world: &World, r: ServerNo, d: ServerNo, every: u64) -> Result<Coord, MatchFault>
     ensures { result ≡ match_logs world.now r d every }
 {

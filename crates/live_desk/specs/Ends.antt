@@ -18,8 +18,8 @@ Finishes h (job ∷ jobs) ts =
     (k : ℕ) × (rest : List Turn) × IsFinish h.state.state job k × (ts ≡ times k (round_of h.state.state job) ++ rest)
     × Finishes (held_run recorder h (times k (round_of h.state.state job))) jobs rest
 
--- all of the scenario's turns are taken in a front of the journal, and behind it the caller, whose number is 0, finished
--- jobs
+-- all of the scenario's turns are taken in a front of the journal, and behind it the caller, whose number is 0,
+-- finished jobs
 pub record IsEnded (s : Scenario) (wait : ℕ) (es : List Entry) : Type 0 where
   pub front : List Entry
   pub last : List (Turn × Reply)

@@ -33,9 +33,9 @@ fn count_listed(turns: &[Turn]) -> usize
 /// Runs a scenario in threads: one driver takes the scenario's turns that are no command, in order, and then fetch and
 /// apply of each server in name order; a poller reads and stores the server that is due; a worker takes the next
 /// command, and then the turns of its job. Each ends where nothing is left to do. A poller or a worker also ends after
-/// `budget` turns, and the driver after so many more than its listed ones. After the join the caller, whose number is 0,
-/// takes what is left, and finishes all jobs. It answers the journal, which is a run of the scenario's opening without
-/// kept rows, the state after it, and the rows that are kept then.
+/// `budget` turns, and the driver after so many more than its listed ones. After the join the caller, whose number is
+/// 0, takes what is left, and finishes all jobs. It answers the journal, which is a run of the scenario's opening
+/// without kept rows, the state after it, and the rows that are kept then.
 pub fn live_to_end<R: Threads + Wait + Sync, G: Gate + Sync>(
     rt: &R,
     alloc: Global,

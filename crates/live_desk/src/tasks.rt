@@ -123,8 +123,8 @@ impl Task {
     }
 }
 
-/// One driver, and so many pollers and workers. The caller's number is 0, the driver's 1, that of poller p is 1 + p, and
-/// that of worker w is 1 + pollers + w.
+/// One driver, and so many pollers and workers. The caller's number is 0, the driver's 1, that of poller p is 1 + p,
+/// and that of worker w is 1 + pollers + w.
 pub(crate) fn make_tasks(alloc: Global, pollers: u32, workers: u32) -> Result<Vec<Task>, Memory>
     requires pollers { pollers < 64 }
     requires workers { workers < 2 ^ 31 }

@@ -11,8 +11,8 @@ ghost use Rattle.job_laws.specs.Leases.{Begins, leases_of};
 ghost use Rattle.server_model.specs.Worlds.{World};
 
 /// Where nothing refuses one of the commands that match logs, the job of its plan may begin: its operations are held,
-/// each change of source has its match, each server that one of them may change is in the command's list, and nobody has
-/// a lease of a server of that list. So it is for every book and for servers in any state.
+/// each change of source has its match, each server that one of them may change is in the command's list, and nobody
+/// has a lease of a server of that list. So it is for every book and for servers in any state.
 pub fn permitted_matches_begin()
     ensures { (w : World) (b : BookState) (jobs : List Job) (now : AMoment) (every : ℕ)
         (given : ACommand) (id wait : ℕ) →

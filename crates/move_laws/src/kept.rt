@@ -11,8 +11,8 @@ ghost use Rattle.moves_gtid.specs.Plans.{plan_of as gtid_plan_of};
 ghost use Rattle.server_model.specs.Worlds.{World};
 
 /// Where nothing refuses a command, no operation of its plan goes up by the coordinate of a server, or on by its own,
-/// whose source was seen to have purged that coordinate's file, and none goes by GTIDs to a source that was seen to have
-/// purged what wasn't seen of the server that moves (MySQL 8.0 Reference Manual, "PURGE BINARY LOGS Statement").
+/// whose source was seen to have purged that coordinate's file, and none goes by GTIDs to a source that was seen to
+/// have purged what wasn't seen of the server that moves (MySQL 8.0 Reference Manual, "PURGE BINARY LOGS Statement").
 pub fn permitted_moves_go_by_what_is_kept()
     ensures coordinates { (w : World) (b : BookState) (given : ACommand) →
         refusal_of w b given ≡ None → AllGoByKept b (plan_of w b given) }

@@ -120,8 +120,8 @@ acted_forgets s node now is lapsed = ap (λ b. remembered_by (cond b s (with_rem
 
 -- ---- each call keeps the active node the owner
 
--- a node that remembers a moment that hasn't come has the kept claim, with that moment, and none remembers one more than
--- 60 seconds away
+-- a node that remembers a moment that hasn't come has the kept claim, with that moment, and none remembers one more
+-- than 60 seconds away
 record IsOwned (s : ClaimState) (now : ℕ) : Type 0 where
   own : (node : ℕ) (until : Moment) → remembered_by s node ≡ Some until → now < until.0 → s.kept ≡ Some (node, until)
   short : (node : ℕ) (until : Moment) → remembered_by s node ≡ Some until → until.0 ≤ now + 60

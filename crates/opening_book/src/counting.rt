@@ -100,7 +100,8 @@ pub fn counted(alloc: Global, servers: u32, last: u64, rows: Vec<Row>) -> Result
     Ok(counting(servers, last, map))
 }
 
-/// The rows that count, as `counted` gives them, of rows that stand by table, then key, one of each. It takes no memory.
+/// The rows that count, as `counted` gives them, of rows that stand by table, then key, one of each. It takes no
+/// memory.
 pub fn counted_in_order(servers: u32, last: u64, rows: Vec<Row>) -> Vec<Row>
     requires { IsRising rows.items }
     ensures { result.items ≡ counted servers last rows.items }

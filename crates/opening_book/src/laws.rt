@@ -27,8 +27,8 @@ pub fn kept_rows_follow_the_book()
 {}
 
 /// Kept rows follow the audit that is loaded of them, at an opening and at a restart, once what the load keeps is kept:
-/// each recovery whose row has no block period with its cluster's, and each unended one as interrupted. They go on to do
-/// so after each change of the book that is kept, after each end of the unended recoveries, and after each
+/// each recovery whose row has no block period with its cluster's, and each unended one as interrupted. They go on to
+/// do so after each change of the book that is kept, after each end of the unended recoveries, and after each
 /// acknowledgement: under each id of which the audit has a recovery that recovery is kept, and under any other id only
 /// what doesn't count.
 pub fn kept_rows_follow_the_audit()

@@ -55,8 +55,8 @@ fn lay(log: &mut LogIndex, flushes: &[u64], history: &[Txn])
 }
 
 /// What a server has executed, laid with its flush points as its log lays it, also where it doesn't log; a flush point
-/// behind it all is none. There is room for so many transactions and flushes, with those that are laid. `Err` is want of
-/// memory.
+/// behind it all is none. There is room for so many transactions and flushes, with those that are laid. `Err` is want
+/// of memory.
 pub fn laid_history(
     alloc: Global,
     init: &ServerInit,

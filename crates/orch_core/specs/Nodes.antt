@@ -1,4 +1,5 @@
--- Several orchestrators over the same kept rows: which of them acts, what a claim comes to, and which turn is orchestrator's.
+-- Several orchestrators over the same kept rows: which of them acts, what a claim comes to, and which turn is
+-- orchestrator's.
 use Rattle.std.specs.Prelude.{ℕ, ◌==◌, ◌&&◌, Bool, false, not, List, [], ◌∷◌, Option, Some, None, fold, option_map, if◌then◌else◌}
 use Rattle.kept_rows.specs.declared.row.Change.{Change}
 use Rattle.kept_rows.specs.declared.row.Change.TheVariants as change

@@ -44,8 +44,8 @@ pub enum Check {
     GtidOff,
     /// 18: each server that moves was seen to have executed nothing of its own that wasn't seen of its new source.
     Errant,
-    /// 30: no source was seen to have purged the file of the coordinate that was seen of its replica, where a move goes by
-    /// that coordinate.
+    /// 30: no source was seen to have purged the file of the coordinate that was seen of its replica, where a move goes
+    /// by that coordinate.
     PurgedPlace,
     /// 30: no new source was seen to have purged what wasn't seen of the server that moves.
     PurgedSet,

@@ -1,4 +1,5 @@
--- Parts of plans beside those of one replica: for several replicas one after another, for GTIDs, and for logs that match.
+-- Parts of plans beside those of one replica: for several replicas one after another, for GTIDs, and for logs that
+-- match.
 use Rattle.std.specs.Prelude.{ℕ, List, [], ◌∷◌, map, Some, None}
 use Rattle.std.specs.List.{flat_map}
 use Rattle.orch_base.specs.declared.server.ServerNo.{ServerNo}

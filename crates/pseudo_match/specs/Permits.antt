@@ -30,7 +30,8 @@ row_of command.MatchUp = Busy ∷ Unreachable ∷ NoSource ∷ AlreadyDetached �
 row_of command.MatchReplicas = match_row
 row_of command.RegroupReplicas = Busy ∷ []
 
--- the checks of marks, of servers that move and of replicas that are regrouped, where there are none and where there are
+-- the checks of marks, of servers that move and of replicas that are regrouped, where there are none and where there
+-- are
 abbrev pub moved_row : Bool → List Check
 moved_row true = PseudoOff ∷ MovedNotLogging ∷ []
 moved_row false = MovedNotLogging ∷ []

@@ -23,8 +23,8 @@ use Rattle.recovery_permits.specs.Recoveries.{recovery_list, recovery_purpose, r
 use Rattle.recovery_permits.specs.Takeovers.{followers_of, takeover_refusal}
 use Rattle.server_model.specs.Worlds.{World}
 
--- What begins: the servers of which the job takes the leases, the job, its entry in the audit, the analysis of the failed
--- server, of which hooks are told, none for a takeover, which runs no hooks; and its hooks, once they are told.
+-- What begins: the servers of which the job takes the leases, the job, its entry in the audit, the analysis of the
+-- failed server, of which hooks are told, none for a takeover, which runs no hooks; and its hooks, once they are told.
 pub record Begins : Type 0 where
   pub list : List ServerNo
   pub job : Recovery

@@ -63,8 +63,8 @@ fn recovery_kind(book: &Book, failed: ServerNo) -> Kind
     }
 }
 
-/// The recovery of a server with this analysis, with the servers of which it takes the leases and its replicas, as the job
-/// of this number, whose operations may wait so often each.
+/// The recovery of a server with this analysis, with the servers of which it takes the leases and its replicas, as the
+/// job of this number, whose operations may wait so often each.
 pub(crate) fn recovery_begins(
     alloc: Global,
     book: &Book,

@@ -23,8 +23,9 @@ pub fn hooks_run_in_order()
         hooks_left (ran_after s) < hooks_left s }
 {}
 
-/// Those that run before a recovery tell their lines up to the first with another exit than 0: all of them, where none is
-/// due any more, and where the one that is due has such an exit the others up to it. Those behind it all tell theirs.
+/// Those that run before a recovery tell their lines up to the first with another exit than 0: all of them, where none
+/// is due any more, and where the one that is due has such an exit the others up to it. Those behind it all tell
+/// theirs.
 pub fn all_hooks_run()
     ensures before { (s : HookState) → AreInOrder s → s.checked ≡ true → due_before s ≡ None →
         before_lines s

@@ -16,8 +16,9 @@ ghost use Rattle.recovery_covers.specs.Covers.{IsTold};
 ghost use Rattle.recovery_covers.specs.SoFar.{CoversSoFar};
 ghost use Rattle.recovery_outcomes.specs.Chains.{IsChain};
 
-/// A turn in which a recovery is done leaves its replicas covered, and its lines are those of the outcome. Each follower
-/// follows the promoted server, but after a swap: then the chosen one does, and each other one follows the chosen one.
+/// A turn in which a recovery is done leaves its replicas covered, and its lines are those of the outcome. Each
+/// follower follows the promoted server, but after a swap: then the chosen one does, and each other one follows the
+/// chosen one.
 pub fn recoveries_end_covered()
     ensures told { (w : World) (b : BookState) (read : ℕ) (now : AMoment) (r : Recovery) →
         Placed w → HeldRings w b.rings → HeldRecovery w r → CoversSoFar w r →

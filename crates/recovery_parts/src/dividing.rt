@@ -37,7 +37,8 @@ pub fn without(alloc: Global, list: &[Stopped], no: ServerNo) -> Result<Vec<Stop
     Ok(others)
 }
 
-/// Where the others go beside the chosen one, by these means: their moves, and those that are lost behind the ones that are.
+/// Where the others go beside the chosen one, by these means: their moves, and those that are lost behind the ones that
+/// are.
 pub fn divide(
     alloc: Global,
     by: &Ground<'_>,

@@ -327,8 +327,8 @@ pub decisions-keep : (w : World) (b : BookState) (now : Moment) (P : Recovery �
 decisions-keep w b now P keep move.Still p = p
 decisions-keep w b now P keep (move.Then {r} d may rest) p = decisions-keep w b now P keep rest (keep r d may p)
 
--- Each move leaves what the next one finds: what holds before the turn's operation, between it and the end of the stage,
--- and behind that, each with the world as it is then.
+-- Each move leaves what the next one finds: what holds before the turn's operation, between it and the end of the
+-- stage, and behind that, each with the world as it is then.
 pub record Keeps (w : World) (b : BookState) (read : ℕ) (now : Moment) (Before : Recovery → Type 0) (Between After : World → Recovery → Type 0) : Type 0 where
   pub decides : (r : Recovery) (d : Decision) → MayDecide w b now r d → Before r → Before (decided_by w b now r d)
   pub waits : (r : Recovery) (o : Op) (rest : List Op) (ob : Option Observation) (es : List Exchange) (j : Job) → Does w read now r o rest ob es j → is_waiting j ≡ true

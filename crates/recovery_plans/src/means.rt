@@ -5,6 +5,7 @@
 pub enum Means {
     /// By GTIDs where they are used, else by bridges.
     Bridges,
-    /// By matches of their logs (Pseudo-GTID), whose marks are the transactions with a number that is divisible by this.
+    /// By matches of their logs (Pseudo-GTID), whose marks are the transactions with a number that is divisible by
+    /// this.
     Matches(u64),
 }

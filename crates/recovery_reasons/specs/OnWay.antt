@@ -111,8 +111,8 @@ AllFit xs = All (λ l. is_unfit l.why ≡ false) xs
 
 -- ---- on its way
 
--- At most four decisions without an operation come one behind another. Where nobody is chosen the choice is to come; and
--- in a takeover the designated one is to take its master's place, or takes it.
+-- At most four decisions without an operation come one behind another. Where nobody is chosen the choice is to come;
+-- and in a takeover the designated one is to take its master's place, or takes it.
 pub record TasksOf (u : Purpose) (s : Stage) (ts : List Task) (source : Option ServerNo) (swaps : Bool) : Type 0 where
   pub few : pauses_in ts + pauses_last u swaps ≤ 4
   pub suited : All (λ t. suits u t ≡ true) ts
@@ -120,8 +120,8 @@ pub record TasksOf (u : Purpose) (s : Stage) (ts : List Task) (source : Option S
   pub yields : takes_over u ≡ true → Contains ts task.Yielding ⊎ Yields s
 
 -- Where what is seen may end the recovery its operations read the failed server; a master that is to give up its place
--- is that one, for the designated one; whose stop was seen is the designated one; and who goes where that one stopped is
--- another.
+-- is that one, for the designated one; whose stop was seen is the designated one; and who goes where that one stopped
+-- is another.
 pub record StageOf (u : Purpose) (f : ServerNo) (s : Stage) (ops : List Op) (o : Option Bridge) : Type 0 where
   pub first : ((info s).bar ≡ table.Never) ⊎ All (λ x. x ≡ op.Status f None) ops
   pub meets : (m d : ServerNo) → IsMeeting s m d → (m ≡ f) × (u ≡ purpose.Takeover d)

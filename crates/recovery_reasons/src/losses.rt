@@ -21,10 +21,10 @@ ghost use Rattle.recovery_reasons.specs.OnWay.{AllFit};
 ghost use Rattle.recovery_reasons.specs.Reasons.{ExplainsTruly, Fact, IsExplained, Speaks};
 
 /// What a recovery came to so far has true facts: each entry of its lost, each of its drained, whom it chose and among
-/// whom, and whom it promoted were so before the turn, or are true of its world and its book. Whatever holds of what was
-/// so and of each fact that is true of this turn holds of all afterwards, whether the recovery goes on, is done or fails.
-/// A recovery whose decisions leave no operation found nobody; and one that is done has lost nobody since none of the
-/// drained may be promoted.
+/// whom, and whom it promoted were so before the turn, or are true of its world and its book. Whatever holds of what
+/// was so and of each fact that is true of this turn holds of all afterwards, whether the recovery goes on, is done or
+/// fails. A recovery whose decisions leave no operation found nobody; and one that is done has lost nobody since none
+/// of the drained may be promoted.
 pub fn recoveries_tell_the_truth()
     ensures told { (w : World) (b : BookState) (read : ℕ) (now : AMoment) (r : Recovery)
         (P : Fact → Bool) →

@@ -66,8 +66,8 @@ abbrev pub told_hooks : Option HookState → Option HostPort → List Line
 told_hooks None promoted = []
 told_hooks (Some h) promoted = all_before h ++ all_behind h promoted
 
--- Those of all that run where it fails: none before it where its failed server was reached, else all that run before it;
--- and all that run then.
+-- Those of all that run where it fails: none before it where its failed server was reached, else all that run before
+-- it; and all that run then.
 pub record FailsTelling (h : HookState) (f : ServerNo) (c : Cause) (lines : List Line) : Type 0 where
   pub looked : h.checked ≡ true → lines ≡ all_before h ++ unsuccessful_lines h
   pub reached : h.checked ≡ false → (c ≡ cause.Reachable f) × (lines ≡ unsuccessful_lines h)
@@ -87,9 +87,9 @@ pub record IsFailure (s : State) (id : ℕ) (r : Recovery) (docket : Docket) (c 
   pub found : job_at s.jobs id ≡ Some (unended.Recovery r docket)
   pub failed : (turn_hooked s r docket).taken.step ≡ step.Failed c lines
 
--- What it owes, over so many servers: it is about whom it was about, its outcome covers the replicas and is what its own
--- lines tell, each follower follows the promoted server, but after a swap the chosen one, which does, each replica has
--- one place, and the outcome names servers that are there.
+-- What it owes, over so many servers: it is about whom it was about, its outcome covers the replicas and is what its
+-- own lines tell, each follower follows the promoted server, but after a swap the chosen one, which does, each replica
+-- has one place, and the outcome names servers that are there.
 pub record OwesNothing (count : ℕ) (w : World) (before after : Recovery) (lines : List Line) : Type 0 where
   pub aim : SameAim before after
   pub told : IsTold w after lines

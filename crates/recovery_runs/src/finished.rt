@@ -2,8 +2,9 @@
 
 ghost use Rattle.recovery_runs.specs.Finished.{EarlyStayStill, FailedTellHooks, FinishedEndEntries, FinishedKeepAims, FinishedKeepEntries, FinishedKeepHistories, FinishedOweNothing, FinishedTellHooks, FinishedTellLines, FinishedTellOwn, LastFactsAreTrue, FactsAreTrue, OpeningsAreExplained, TurnsStayExplained};
 
-/// The turn in which a recovery is done answers its lines, its own and behind them those of its hooks, and leaves nothing owed to its replicas; where the servers
-/// are safe afterwards, histories are kept, too. What the recovery is about is what it began with.
+/// The turn in which a recovery is done answers its lines, its own and behind them those of its hooks, and leaves
+/// nothing owed to its replicas; where the servers are safe afterwards, histories are kept, too. What the recovery is
+/// about is what it began with.
 pub fn finished_recoveries_owe_nothing()
     ensures reply { FinishedTellLines }
     ensures own { FinishedTellOwn }
@@ -18,9 +19,9 @@ pub fn finished_recoveries_end_their_entries()
     ensures kept { FinishedKeepEntries }
 {}
 
-/// Where hooks are in order a recovery that is done tells all that run then, before it and behind it, and one that fails
-/// all that run then: none before it where its failed server was reached, which is why it fails, else those up to the
-/// first with another exit than 0. Until all before it have run that are to, its turns change no server.
+/// Where hooks are in order a recovery that is done tells all that run then, before it and behind it, and one that
+/// fails all that run then: none before it where its failed server was reached, which is why it fails, else those up to
+/// the first with another exit than 0. Until all before it have run that are to, its turns change no server.
 pub fn recoveries_tell_all_hooks()
     ensures done { FinishedTellHooks }
     ensures failed { FailedTellHooks }

@@ -27,8 +27,9 @@ pub fn recoveries_finish_well()
     ensures { RecoveriesFinishWell }
 {}
 
-/// The turn of a run in which a recovery fails answers its cause and the lines of its hooks. Until all before it have run
-/// that are to, no turn of it changes a server: so none has where one of these ended it. Its hooks are the scenario's.
+/// The turn of a run in which a recovery fails answers its cause and the lines of its hooks. Until all before it have
+/// run that are to, no turn of it changes a server: so none has where one of these ended it. Its hooks are the
+/// scenario's.
 pub fn recoveries_tell_hooks_in_runs()
     ensures failed { RecoveriesFailWell }
     ensures still { EarlyTurnsStayStill }

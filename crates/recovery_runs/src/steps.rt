@@ -5,8 +5,8 @@ ghost use Rattle.recovery_runs.specs.Turns.{AtAnyOpening, BeginsJobsOnce, Openin
 ghost use Rattle.run_laws.specs.Turns.{TurnKeeps, WhereHeld, WhereReady, WhereSound};
 
 /// The jobs that a turn begins are plans, and recoveries as they begin, of the replicas that the book has of their
-/// failed servers, of which none is named twice; and with the scenario's hooks, which are told of the failed server, but
-/// for a regroup and a takeover, which run none.
+/// failed servers, of which none is named twice; and with the scenario's hooks, which are told of the failed server,
+/// but for a regroup and a takeover, which run none.
 pub fn turns_begin_jobs_once()
     ensures { WhereReady (λ count. BeginsJobsOnce) }
 {}

@@ -130,8 +130,8 @@ fn first_job(
 }
 
 impl RecoveryJob {
-    /// A recovery begins, by whose means the others go, as the job of this number, whose operations may wait so often each: of this server, with
-    /// these replicas, and telling of those, both in name order.
+    /// A recovery begins, by whose means the others go, as the job of this number, whose operations may wait so often
+    /// each: of this server, with these replicas, and telling of those, both in name order.
     pub fn make(
         alloc: Global,
         purpose: Purpose,

@@ -30,8 +30,8 @@ abbrev pub replicas_row : Bool → List Check
 replicas_row true = SameInstance ∷ Busy ∷ Unreachable ∷ OtherCluster ∷ Below ∷ DestNotLogging ∷ SameServerId ∷ VersionLower ∷ Errant ∷ PurgedSet ∷ []
 replicas_row false = SameInstance ∷ Busy ∷ Unreachable ∷ OtherCluster ∷ Below ∷ DestNotLogging ∷ SameServerId ∷ VersionLower ∷ []
 
--- the row of a command, behind the check that its instances are known and before its own one, by whether the servers use
--- GTIDs: then no path is looked for
+-- the row of a command, behind the check that its instances are known and before its own one, by whether the servers
+-- use GTIDs: then no path is looked for
 abbrev pub row_of : Bool → RegroupCommand → List Check
 row_of gtid command.Relocate = relocate_row gtid
 row_of gtid command.RelocateReplicas = replicas_row gtid
@@ -71,8 +71,8 @@ moving_list w b movers d = movers ++ (option_to_list d ++ passed_by w.gtid b mov
 abbrev pub relocating : World → BookState → ServerNo → List ServerNo → Option ServerNo → Case
 relocating w b i movers d = going_by (crossed_by w.gtid b movers d) (moving i movers d (moving_list w b movers d))
 
--- which servers move to the destination that is given, the servers of which the job takes the leases, and those by whose
--- coordinates the moves go
+-- which servers move to the destination that is given, the servers of which the job takes the leases, and those by
+-- whose coordinates the moves go
 abbrev pub case_of : World → BookState → RegroupCommand → ServerNo → Option ServerNo → Case
 case_of w b command.Relocate i d = relocating w b i (i ∷ []) d
 case_of w b command.RelocateReplicas i d = relocating w b i (replicas_but b i d) d

@@ -25,8 +25,8 @@ way_in up to (suc steps) n = way_on (way_in up to steps) to (up n)
 abbrev pub way_above : BookState → ServerNo → ServerNo → Option (List ServerNo)
 way_above b n to = way_in (parent_at b) to (length b.names) n
 
--- a server's own source is next above it, also where the forest hasn't it: where the book doesn't know it, or it comes back
--- to itself
+-- a server's own source is next above it, also where the forest hasn't it: where the book doesn't know it, or it comes
+-- back to itself
 abbrev pub way_up : BookState → ServerNo → ServerNo → Option (List ServerNo)
 way_up b n to = if is_given to (source_of b n) then Some [] else way_above b n to
 

@@ -131,8 +131,8 @@ fn path_beside(
 }
 
 /// The path of a server to a destination: up to it, where it is above the server, else up to the source to which it is
-/// attached, and below it from there. None where neither is above the server. Above a server are its own source and those
-/// that the book's forest has above it. `Err` is want of memory.
+/// attached, and below it from there. None where neither is above the server. Above a server are its own source and
+/// those that the book's forest has above it. `Err` is want of memory.
 pub(crate) fn path_of(
     alloc: Global,
     book: &Book,
@@ -166,8 +166,8 @@ pub(crate) fn path_to(
     }
 }
 
-/// Puts the servers by whose coordinates a server goes its path behind others: the sources that it passes, or itself where
-/// it goes on where it is.
+/// Puts the servers by whose coordinates a server goes its path behind others: the sources that it passes, or itself
+/// where it goes on where it is.
 pub(crate) fn push_crossed(
     list: &mut Vec<ServerNo>,
     no: ServerNo,

@@ -69,8 +69,8 @@ fn print_summary(
 }
 
 /// Appends a line of the turns and of what was refused and failed, one of the transactions that all servers together
-/// have executed, one of the number of recoveries, and one of how many writes servers with a source accepted; or nothing
-/// at want of memory.
+/// have executed, one of the number of recoveries, and one of how many writes servers with a source accepted; or
+/// nothing at want of memory.
 pub fn summary(
     tally: Tally,
     world: &World,

@@ -55,7 +55,8 @@ PassingStartsAgain s t = (rows : List Row) (node last : ℕ) (until : Moment) �
 abbrev pub PassingLeavesNoJob : State → Turn → Type 0
 PassingLeavesNoJob s t = (rows : List Row) (node last : ℕ) (until : Moment) → t ≡ turn.Claim node → reply_of s t ≡ answered.Held until → s.last_holder ≡ Some last → last ≢ node → (step rows s t).jobs ≡ []
 
--- and every job of every state that any turns then lead to was begun since: its number is above that of the last job before
+-- and every job of every state that any turns then lead to was begun since: its number is above that of the last job
+-- before
 abbrev pub PassingLeavesNewJobs : ℕ → State → Turn → Type 0
 PassingLeavesNewJobs count s t = (rows : List Row) (node last : ℕ) (until : Moment) (xs : List (List Row × Turn)) → t ≡ turn.Claim node → reply_of s t ≡ answered.Held until → s.last_holder ≡ Some last → last ≢ node
     → All (IsTurn count) (turns_of xs) → All (λ j. s.last_job < number_of j) (run_turns engine (step rows s t) xs).jobs

@@ -41,8 +41,8 @@ use Rattle.run_laws.specs.Entries.{entries_begun}
 
 -- ---- with its job
 
--- it stays open while its job goes on, and ends at the moment of the turn in which the job is done, with the server that
--- was promoted, or fails, with the cause's name; only a takeover that is done is acknowledged
+-- it stays open while its job goes on, and ends at the moment of the turn in which the job is done, with the server
+-- that was promoted, or fails, with the cause's name; only a takeover that is done is acknowledged
 abbrev pub entry_then : Moment → Recovery → JobStep → KeptRecovery → KeptRecovery
 entry_then now r step.Going k = k
 entry_then now r (step.Done lines) k = record k { ended = Some now; outcome = done_with r.outcome.promoted; acked = is_takeover r.purpose || k.acked }

@@ -24,8 +24,8 @@ pub fn commands_answer_by_the_table()
 {}
 
 /// A scan tells a line for each instance whose analysis asks for a recovery, in name order: begun, with the next job's
-/// number, exactly where no check refuses it on what those before it left, or refused. What begins is just what it tells so: it joins the unended jobs, takes its leases, and its
-/// entries are kept.
+/// number, exactly where no check refuses it on what those before it left, or refused. What begins is just what it
+/// tells so: it joins the unended jobs, takes its leases, and its entries are kept.
 pub fn scans_tell_each_try()
     ensures lines { ScansTellEachTry }
     ensures table { ScansTryByTable }

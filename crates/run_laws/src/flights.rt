@@ -25,8 +25,8 @@ pub fn every_state_is_held()
 
 /// Each quiet state of each run is sound, with jobs in flight: it is safe, and each bridge that is kept, that a slot's
 /// reading shows, that a job saw or by which a recovery goes later stands. Where the log of a server matches another's,
-/// the coordinate's place in the other's log is all that the server has executed, which is a beginning of what the other
-/// has. So it is of each match that a job found, as long as the server stands where it was matched.
+/// the coordinate's place in the other's log is all that the server has executed, which is a beginning of what the
+/// other has. So it is of each match that a job found, as long as the server stands where it was matched.
 pub fn every_quiet_state_is_sound()
     ensures sound { InEveryQuietState SoundState }
     ensures matched { InEveryQuietState MatchesEnd }

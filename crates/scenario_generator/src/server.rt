@@ -13,7 +13,8 @@ use orch_base::Memory;
 pub enum DrawnServer {
     /// It has no source, and took 20 transactions of 100 bytes from clients.
     Root,
-    /// It replicates from this one, by its number counted from 0, and has executed so many of its transactions: 0 to 20.
+    /// It replicates from this one, by its number counted from 0, and has executed so many of its transactions: 0 to
+    /// 20.
     Replica { source: u32, executed: u32 },
 }
 

@@ -65,8 +65,8 @@ pub enum FaultCode {
     AutoWithoutGtid,
     /// A hook's text is empty, too long or has a control character, or its exit isn't 0 to 255.
     BadHook,
-    /// Of several orchestrators none is named by a turn of one, or one of a single orchestrator's turns names one, or the
-    /// number is none of theirs.
+    /// Of several orchestrators none is named by a turn of one, or one of a single orchestrator's turns names one, or
+    /// the number is none of theirs.
     NodeTurn,
 }
 

@@ -10,8 +10,8 @@ ghost use Rattle.scenario_dump.specs.Texts.{items_of};
 ghost use Rattle.schedules.specs.Turns.{turn_data};
 ghost use Rattle.schedule_laws.specs.Reading.{IsToldTurn, NamesRead, listed_of};
 
-/// What a schedule's list has of turns of one orchestrator, over servers whose names read, reads as those turns, each as
-/// one.
+/// What a schedule's list has of turns of one orchestrator, over servers whose names read, reads as those turns, each
+/// as one.
 pub fn schedules_read()
     ensures { (listed : List (Option HostPort)) (names : List HostPort) (printed : List (List ℕ)) (ts : List Turn)
         → NamesRead listed names → All (IsToldTurn (length names) printed) ts

@@ -35,8 +35,8 @@ pub(crate) fn keep_gtid(executed: &mut ReservedSet, gtid: bool, uuid: u128, n: u
     }
 }
 
-/// Adds the GTIDs of the transactions from one index on and before another to the set, where GTIDs are used. It takes no
-/// memory.
+/// Adds the GTIDs of the transactions from one index on and before another to the set, where GTIDs are used. It takes
+/// no memory.
 pub(crate) fn keep_gtids(
     kept: &mut ReservedSet,
     gtid: bool,

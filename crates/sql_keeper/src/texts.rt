@@ -99,8 +99,8 @@ fn row_of(
     }
 }
 
-// What is given in place of a row of servers that aren't known: of a recovery one of no server, so that no other takes its
-// number.
+// What is given in place of a row of servers that aren't known: of a recovery one of no server, so that no other takes
+// its number.
 #[tactic(auto, using(crate::proofs::Unknown::of_none))]
 fn stand_in(alloc: Global, table: Table, key: &str) -> Option<Row>
     ensures { IfSome result (λ r. IsOfNoServer r) }
@@ -125,8 +125,8 @@ fn stand_in(alloc: Global, table: Table, key: &str) -> Option<Row>
     }
 }
 
-/// The row that these are. One of servers that aren't known is passed over, but in place of a recovery there is one of no
-/// server.
+/// The row that these are. One of servers that aren't known is passed over, but in place of a recovery there is one of
+/// no server.
 pub(crate) fn row_in(
     alloc: Global,
     names: &[Name],

@@ -8,7 +8,8 @@ use Rattle.scenario_reader.specs.Scenarios.{scenario_in}
 use Rattle.server_model.specs.Worlds.{World}
 use Rattle.world_openings.specs.Opening.{opened_world}
 
--- the text reads without a fault, as the scenario that it tells; this can be run, and its servers open to the very world
+-- the text reads without a fault, as the scenario that it tells; this can be run, and its servers open to the very
+-- world
 pub record ReadsBack (w : World) (s : Scenario) (now : ℕ) : Type 0 where
   pub reads : scenario_in (dump_text w s now) ≡ Ok (dumped_scenario w s now)
   pub runs : IsScenario (dumped_scenario w s now)

@@ -44,8 +44,8 @@ IsTaskWithin c f chosen task.Yielding = Unit {0}
 abbrev pub IsStageWithin : Clusters → Stage → Type 0
 IsStageWithin c s = IfSome (info s).lead (IsWithinCluster c)
 
--- of a job at a stage, with what is still to do of a failed server, what is drained, the new source, and where a replica
--- stopped
+-- of a job at a stage, with what is still to do of a failed server, what is drained, the new source, and where a
+-- replica stopped
 pub record PartsWithin (c : Clusters) (j : Job) (s : Stage) (ts : List Task) (f : ServerNo) (ds : List Stopped) (chosen : Option ServerNo) (o : Option Bridge) : Type 0 where
   pub core : IsJobWithin c j
   pub stage : IsStageWithin c s

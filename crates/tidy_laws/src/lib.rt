@@ -51,9 +51,9 @@ pub fn dumps_of_runs_read_back()
     dumps_read();
 }
 
-/// An exchange that is allowed and in order keeps servers trim: it writes a transaction with a size in its range, starts
-/// a replica up to a coordinate that can be printed, or attaches a server to one of its own cluster. A placed world of
-/// trim servers is tidy.
+/// An exchange that is allowed and in order keeps servers trim: it writes a transaction with a size in its range,
+/// starts a replica up to a coordinate that can be printed, or attaches a server to one of its own cluster. A placed
+/// world of trim servers is tidy.
 pub fn exchanges_in_order_keep_trim()
     ensures keeps { (c : Clusters) (w : World) (e : Exchange) → IsTrim c w → Allowed w e → IsOrderly c w e →
         IsTrim c (after w e) }
