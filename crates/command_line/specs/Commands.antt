@@ -10,7 +10,7 @@ use Rattle.command_routes.specs.declared.route.Planner.{Planner}
 use Rattle.command_routes.specs.declared.route.Planner.TheVariants as planner
 use Rattle.command_routes.specs.declared.route.Route.{Route}
 use Rattle.command_routes.specs.declared.route.Route.TheVariants.{Discovers, Forgets, Asks, Decides, Begins, Recovers, TakesOver}
-use Rattle.command_routes.specs.Routes.{is_built_found, route_of}
+use Rattle.command_routes.specs.Routes.{route_of}
 use Rattle.command_line.specs.declared.command.Own.{Own}
 use Rattle.command_line.specs.declared.command.Own.TheVariants.{Run, Generate, Dump, Live}
 use Rattle.command_line.specs.declared.usage.Usage.{Usage}
@@ -25,9 +25,9 @@ own_at word =
     (if bytes_eq word (codes "dump") then Some Dump else
     (if bytes_eq word (codes "live") then Some Live else None)))
 
--- it is a word of the program's own, or that of a command that is built
+-- it is a word of the program's own, or a command's
 abbrev pub is_taken_word : Text → Bool
-is_taken_word word = is_some (own_at word) || is_built_found (name_of word)
+is_taken_word word = is_some (own_at word) || is_some (name_of word)
 
 -- what the command of this word needs; the program's own words need nothing
 unfoldable pub needs_at : Text → Needs
@@ -43,7 +43,7 @@ has_needed needs rows =
     (is_given (codes "i") rows || not needs.i) && (is_given (codes "d") rows || not needs.d)
     && (is_given (codes "promotion-rule") rows || not needs.rule) && (is_given (codes "pattern") rows || not needs.pattern)
 
--- the text of `-c`, which is a word of the program's own or names a command whose route is built, and has what it needs
+-- the text of `-c`, which is a word of the program's own or a command's, and has what it needs
 unfoldable pub command_in : List Row → Result Text Usage
 command_in rows = do
   command ← or_bad (first_of (codes "c") rows)

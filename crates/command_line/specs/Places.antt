@@ -96,8 +96,8 @@ places_in rows = do
   })
 
 -- what the words mean, where they are taken: they are UTF-8, clap gives matches, `-c` names what the program itself
--- does or a command that is built and has the options that it needs, each value reads, what is to be drawn is within
--- its bound, and a plan is asked for of a command that has one
+-- does or a command and has the options that it needs, each value reads, what is to be drawn is within its bound, and
+-- a plan is asked for of a command that has one
 unfoldable pub places_of : List (List ℕ) → Result Places Usage
 places_of words = do
   texts ← texts_of words

@@ -17,8 +17,8 @@ pub record IsDrawn (d : Drawing) : Type 0 where
   pub servers : 1 ≤ d.servers
   pub bound : is_drawable d.servers d.turns ≡ true
 
--- The command is one of the program's own or one whose route is built, what it needs is there, each number, text and
--- pattern is in its range, and so is what is to be drawn; where a plan is asked for the command has one.
+-- The word is the program's own or a command's, what it needs is there, each number, text and pattern is in its range,
+-- and so is what is to be drawn; where a plan is asked for the command has one.
 pub record AreTaken (p : Places) : Type 0 where
   pub word : is_taken_word p.command ≡ true
   pub needs : are_there (needs_at p.command) p ≡ true

@@ -9,7 +9,7 @@ ghost use Rattle.command_line.specs.Usages.{usage_fault};
 use crate::options::text_of;
 use crate::usage::Usage;
 use clap::ArgMatches;
-use command_routes::{Planner, Route, is_built_command};
+use command_routes::{Planner, Route};
 use commands::{CommandName, Needs};
 use orch_base::OwnedText;
 use std::alloc::Global;
@@ -46,12 +46,11 @@ impl Own {
     }
 }
 
-/// Whether `-c` may have this text: a word of the program's own, or that of a command that is built. It takes no
-/// memory.
+/// Whether `-c` may have this text: a word of the program's own, or a command's. It takes no memory.
 pub fn is_taken_word(word: &str) -> bool
     ensures { result ≡ is_taken_word word.now }
 {
-    Own::read(word).is_some() || is_built_command(word)
+    Own::read(word).is_some() || CommandName::read(word).is_some()
 }
 
 // What the command of this word needs; the program's own words need nothing.
@@ -80,8 +79,8 @@ fn has_needed(needs: Needs, matches: &ArgMatches<'_>) -> bool
         && (text_of(matches, "pattern").is_some() || !needs.pattern)
 }
 
-/// The text of `-c`. What is neither a word of the program's own nor that of a command that is built, and one without
-/// an option that it needs, are `BadWords`.
+/// The text of `-c`. What is neither a word of the program's own nor a command's, and one without an option that it
+/// needs, are `BadWords`.
 #[tactic(auto, unfolding(crate::specs::Commands::command_in))]
 pub(crate) fn command_in(alloc: Global, matches: &ArgMatches<'_>) -> Result<OwnedText, Usage>
     ensures { Gives (λ l. l) usage_fault result (command_in (rows_in matches.now)) }

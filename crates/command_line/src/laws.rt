@@ -5,9 +5,9 @@ ghost use Rattle.command_line.specs.declared.parts.Places.{Places};
 ghost use Rattle.command_line.specs.Places.{places_of};
 ghost use Rattle.command_line.specs.Taken.{AreTaken};
 
-/// Words that are taken name what the program itself does or a command whose route is built; each option that the
-/// command needs is there, each number, text and pattern is in its range, what is to be drawn is within its bound, and
-/// a command of which a plan is asked for has one.
+/// Words that are taken name what the program itself does or a command; each option that the command needs is there,
+/// each number, text and pattern is in its range, what is to be drawn is within its bound, and a command of which a
+/// plan is asked for has one.
 pub fn taken_words_are_sound()
     ensures { (words : List (List ℕ)) (p : Places) → places_of words ≡ Ok p → AreTaken p }
 {}

@@ -1,6 +1,5 @@
--- What each command does, and which commands are built.
-use Rattle.std.specs.Prelude.{◌≡◌, ◌⊎◌, ◌||◌, ℕ, Bool, true, false, List, codes, Option, Some, None}
-use Rattle.std.specs.Str.{bytes_eq}
+-- What each command does.
+use Rattle.std.specs.Prelude.{Option, Some, None}
 use Rattle.commands.specs.declared.name.CommandName.{CommandName}
 use Rattle.commands.specs.declared.name.CommandName.TheVariants as name
 use Rattle.command_routes.specs.declared.kinds.CoordsCommand.TheVariants as coords
@@ -14,7 +13,6 @@ use Rattle.command_routes.specs.declared.route.Planner.{Planner}
 use Rattle.command_routes.specs.declared.route.Planner.TheVariants as planner
 use Rattle.command_routes.specs.declared.route.Route.{Route}
 use Rattle.command_routes.specs.declared.route.Route.TheVariants.{Discovers, Forgets, Asks, Decides, Begins, Recovers, TakesOver}
-use Rattle.commands.specs.Names.{name_of, word_of}
 
 -- what a command does
 abbrev pub route_of : CommandName → Route
@@ -74,34 +72,3 @@ planner_of (Decides decision) = None
 planner_of (Begins planner) = Some planner
 planner_of Recovers = None
 planner_of TakesOver = None
-
-abbrev pub is_built_planner : Planner → Bool
-is_built_planner (planner.Coordinates c) = true
-is_built_planner (planner.Gtids c) = true
-is_built_planner (planner.Paths c) = true
-is_built_planner (planner.Regroups c) = true
-is_built_planner (planner.Matches c) = true
-
-abbrev pub is_built_route : Route → Bool
-is_built_route Discovers = true
-is_built_route Forgets = true
-is_built_route (Asks question) = true
-is_built_route (Decides decision) = true
-is_built_route (Begins planner) = is_built_planner planner
-is_built_route Recovers = true
-is_built_route TakesOver = true
-
-abbrev pub is_built_name : CommandName → Bool
-is_built_name n = is_built_route (route_of n)
-
-abbrev pub is_built_found : Option CommandName → Bool
-is_built_found None = false
-is_built_found (Some n) = is_built_name n
-
--- run, or the word of a command that is built
-abbrev pub is_built_command : List ℕ → Bool
-is_built_command word = bytes_eq word (codes "run") || is_built_found (name_of word)
-
--- run, or such a word
-abbrev pub IsBuiltWord : List ℕ → Type 0
-IsBuiltWord text = (text ≡ codes "run") ⊎ ((name : CommandName) × (is_built_name name ≡ true) × (text ≡ word_of name))

@@ -1,7 +1,7 @@
 //! What a command does.
 
 ghost use Rattle.std.specs.Prelude.{◌≡◌};
-ghost use Rattle.command_routes.specs.Routes.{is_built_command, is_built_name, is_built_planner, is_built_route, planner_of, route_of};
+ghost use Rattle.command_routes.specs.Routes.{planner_of, route_of};
 
 use crate::kinds::{CoordsCommand, GtidCommand, MatchCommand, PathCommand, Regrouping};
 use commands::CommandName;
@@ -182,56 +182,5 @@ impl Route {
             | Route::Recovers
             | Route::TakesOver => None,
         }
-    }
-}
-
-impl Planner {
-    /// Whether the command is built: all are.
-    pub fn is_built(self) -> bool
-        ensures { result ≡ is_built_planner self }
-    {
-        match self {
-            Planner::Coordinates(_)
-            | Planner::Gtids(_)
-            | Planner::Paths(_)
-            | Planner::Regroups(_)
-            | Planner::Matches(_) => true,
-        }
-    }
-}
-
-impl Route {
-    /// Whether the command is built.
-    pub fn is_built(self) -> bool
-        ensures { result ≡ is_built_route self }
-    {
-        match self {
-            Route::Begins(planner) => planner.is_built(),
-            Route::Discovers
-            | Route::Forgets
-            | Route::Asks(_)
-            | Route::Decides(_)
-            | Route::Recovers
-            | Route::TakesOver => true,
-        }
-    }
-}
-
-fn is_built_name(name: CommandName) -> bool
-    ensures { result ≡ is_built_name name }
-{
-    Route::of(name).is_built()
-}
-
-/// Whether a command of this word is built: `run`, and each command. It takes no memory.
-pub fn is_built_command(word: &str) -> bool
-    ensures { result ≡ is_built_command word.now }
-{
-    if word == "run" {
-        return true;
-    }
-    match CommandName::read(word) {
-        Some(name) => is_built_name(name),
-        None => false,
     }
 }

@@ -5,7 +5,7 @@ use Rattle.std.specs.Prelude.{nat_le, true}
 use Rattle.scenario_values.specs.Faults.{each_from}
 use Rattle.scenario_values.specs.Values.{number_in, whole_in}
 use Rattle.scenario_turns.specs.Turns.{amount_of, poll_of, poller_of, server_of, turn_in, turn_with}
-use Rattle.scenario_turns.specs.Words.{built_word}
+use Rattle.scenario_turns.specs.Words.{word_named}
 use Rattle.scenario_turns.specs.declared.expansion.ListedTurn.TheVariants.{One}
 use Rattle.scenario_generator.specs.declared.turn.DrawnTurn.{DrawnTurn}
 use Rattle.scenario_generator.specs.declared.turn.DrawnTurn.TheVariants.{Write, Fetch, Apply, Rotate, PollRead, PollStore}
@@ -17,7 +17,7 @@ use Rattle.generator_laws.specs.Drawn.{listed_turns, names_from, turn_of}
 use Rattle.generator_laws.proofs.Names.{named}
 
 turn_reads : (servers : ℕ) (printed : List (List ℕ)) (t : DrawnTurn) → servers ≤ 1000 → IsTurnOf servers t → turn_in (names_from 0 servers) printed 1 (turn_data t) ≡ Ok (One (turn_of t))
-unfolding turn_in turn_with server_of amount_of poll_of poller_of number_in whole_in built_word
+unfolding turn_in turn_with server_of amount_of poll_of poller_of number_in whole_in word_named
 turn_reads servers printed (Fetch n) few is = rw (named servers n is (omega arith)) refl
 turn_reads servers printed (Apply n) few is = rw (named servers n is (omega arith)) refl
 turn_reads servers printed (Rotate n) few is = rw (named servers n is (omega arith)) refl

@@ -13,7 +13,6 @@ use Rattle.commands.specs.declared.turn.Command.{Command}
 use Rattle.commands.specs.declared.turn.CommandTurn.{CommandTurn}
 use Rattle.commands.specs.declared.turn.Found.{Found}
 use Rattle.commands.specs.declared.turn.Keys.{Keys}
-use Rattle.command_routes.specs.Routes.{is_built_name}
 use Rattle.commands.specs.Names.{name_of, needs_of}
 use Rattle.commands.specs.Turns.{is_there, is_within}
 use Rattle.cluster_filters.specs.Patterns.{is_found, is_pattern}
@@ -154,25 +153,16 @@ keys-have printed name given k e =
 
 -- ---- the turn
 
-name-built : (d : Data) (name : CommandName) → name_in d ≡ Ok name → is_built_name name ≡ true
-unfolding name_in
-name-built d name e =
-    let text = bind-ok (text_in d) _ name e in
-    let read = bind-ok (or_fails BadCommand (name_of text.0)) _ name text.2 in
-    let built = bind-ok (holds BadCommand (is_built_name read.0)) _ name read.2 in
-    subst (λ (n : CommandName). is_built_name n ≡ true) (same_Ok read.0 name built.2) (holds-ok BadCommand _ built.0 built.1)
-
 all_true : (a b c d : Bool) → a ≡ true → b ≡ true → c ≡ true → d ≡ true → (a && b && c && d) ≡ true
 all_true a b c d ha hb hc hd = rw (ha, hb, hc, hd) refl
 
 three_true : (a b c : Bool) → a ≡ true → b ≡ true → c ≡ true → (a && b && c) ≡ true
 three_true a b c ha hb hc = rw (ha, hb, hc) refl
 
-is_command : (count : ℕ) (name : CommandName) (c : Command) (k : Keys) → is_built_name name ≡ true → AreInstances count name c → AreKeys count name k → IsCommand count (record { command = c; keys = k })
-is_command count name c k built instances keys =
+is_command : (count : ℕ) (name : CommandName) (c : Command) (k : Keys) → AreInstances count name c → AreKeys count name k → IsCommand count (record { command = c; keys = k })
+is_command count name c k instances keys =
     let same : name ≡ c.name = sym instances.named in
     record {
-      built = subst (λ (n : CommandName). is_built_name n ≡ true) same built;
       fits = three_true _ _ _
           (subst (λ (n : CommandName). (is_there (needs_of n).i c.i && is_there (needs_of n).d c.d && is_there (needs_of n).rule k.rule && is_there (needs_of n).pattern k.pattern) ≡ true) same
           (all_true _ _ _ _ instances.has_i instances.has_d keys.has_rule keys.has_pattern))
@@ -194,5 +184,5 @@ command-has names printed rest t counts e =
     let command = bind-ok (instances_in names name.0 parts.0.1) _ t known.2 in
     let keys = bind-ok (keys_in printed name.0 parts.0.1) _ t command.2 in
     subst (IsCommand (length names)) (same_Ok (record { command = command.0; keys = keys.0 }) t keys.2)
-    (is_command (length names) name.0 command.0 keys.0 (name-built parts.0.0 name.0 (under-ok _ _ name.0 name.1)) (instances-have names name.0 parts.0.1 command.0 command.1)
+    (is_command (length names) name.0 command.0 keys.0 (instances-have names name.0 parts.0.1 command.0 command.1)
     (subst (λ (n : ℕ). AreKeys n name.0 keys.0) counts (keys-have printed name.0 parts.0.1 keys.0 keys.1)))

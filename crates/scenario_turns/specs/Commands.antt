@@ -1,7 +1,6 @@
 -- The command turns: the word is followed by a command's name and by what it is given.
 use Rattle.std.specs.Prelude.{ℕ, ◌∷◌, List, [], codes, Option, Result, Ok}
 use Rattle.serde_json.specs.Data.{Data, Items, no_items, item}
-use Rattle.command_routes.specs.Routes.{is_built_name}
 use Rattle.commands.specs.Names.{name_of, needs_of}
 use Rattle.commands.specs.Turns.{is_there}
 use Rattle.commands.specs.declared.name.CommandName.{CommandName}
@@ -20,13 +19,11 @@ use Rattle.scenario_values.specs.declared.fault.FaultCode.TheVariants.{BadComman
 use Rattle.scenario_values.specs.Faults.{fails, or_fails, holds, under_item, maybe, only_keys}
 use Rattle.scenario_values.specs.Values.{members_in, short_in, text_in}
 
--- a command that is built
+-- a command's name
 unfoldable pub name_in : Data → Result CommandName Fault
 name_in d = do
   text ← text_in d
-  name ← or_fails BadCommand (name_of text)
-  built ← holds BadCommand (is_built_name name)
-  Ok name
+  or_fails BadCommand (name_of text)
 
 -- ---- the keys
 

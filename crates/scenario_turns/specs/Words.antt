@@ -12,7 +12,7 @@ use Rattle.scenario_turns.specs.declared.word.Word.TheVariants.{Write, Fetch, Ap
 abbrev pub is_word : List ℕ → List ℕ → Bool
 is_word word text = pointwise nat_eq word text
 
--- the turns that are built, each with its word
+-- the turns, each with its word
 abbrev pub words : List (List ℕ × Word)
 words =
     (codes "write", Write)
@@ -39,15 +39,15 @@ words =
     ∷ []
 
 -- the turn of a word
-unfoldable pub built_word : List ℕ → Option Word
-built_word text = option_map (λ w. w.1) (find (λ w. bytes_eq text w.0) words)
+unfoldable pub word_named : List ℕ → Option Word
+word_named text = option_map (λ w. w.1) (find (λ w. bytes_eq text w.0) words)
 
 abbrev pub word_or_fails : Option Word → Result Word Fault
 word_or_fails None = fails BadTurn
 word_or_fails (Some word) = Ok word
 
 abbrev pub word_at : List ℕ → Result Word Fault
-word_at text = word_or_fails (built_word text)
+word_at text = word_or_fails (word_named text)
 
 -- how many parts follow the word
 abbrev pub parts_after : Word → ℕ

@@ -8,11 +8,10 @@ ghost use Rattle.scenario_json.specs.View.{view, items_view};
 
 use crate::keys::given_in;
 use crate::patterns::Patterns;
-use command_routes::Route;
 use commands::{CommandName, CommandTurn};
 use scenario_json::Value;
 use scenario_servers::Names;
-use scenario_values::{FaultCode, ReadFault, fails, holds, text_in, under_item};
+use scenario_values::{FaultCode, ReadFault, fails, text_in, under_item};
 use std::alloc::Global;
 
 #[tactic(auto, unfolding(crate::specs::Commands::name_in))]
@@ -20,11 +19,10 @@ fn name_in(alloc: Global, value: &Value) -> Result<CommandName, ReadFault>
     ensures { Gives (λ n. n) fault_of result (name_in (view value.now)) }
 {
     let text = text_in(alloc, value)?;
-    let Some(name) = CommandName::read(text) else {
-        return Err(fails(alloc, FaultCode::BadCommand));
-    };
-    holds(alloc, FaultCode::BadCommand, Route::of(name).is_built())?;
-    Ok(name)
+    match CommandName::read(text) {
+        Some(name) => Ok(name),
+        None => Err(fails(alloc, FaultCode::BadCommand)),
+    }
 }
 
 #[tactic(auto, using(scenario_values::proofs::Unders::gives_under))]
@@ -60,7 +58,7 @@ fn parts_of<'a, 'v>(
 }
 
 /// A command turn, by what follows its word: a command's name and an object with what it is given. Another number of
-/// parts is `BadTurn` of the turn. At part 1 a name of no command that is built is `BadCommand`. At part 2 come first
+/// parts is `BadTurn` of the turn. At part 1 a name of no command is `BadCommand`. At part 2 come first
 /// the keys that no command has, as `UnknownKey`, and then each key's own faults, also where the command doesn't need
 /// it: `BadType`; at an instance `BadName` and `UnknownName`; for another rule, a duration that isn't 1 to 31,536,000
 /// seconds, and a reason or an owner of more than 255 bytes `BadNumber`; `BadPattern`. A key that is needed and absent

@@ -3,7 +3,7 @@
 ghost use Rattle.std.specs.Prelude.{◌≡◌};
 ghost use Rattle.orch_base.specs.Gives.{Gives};
 ghost use Rattle.scenario_values.specs.Faults.{fault_of};
-ghost use Rattle.scenario_turns.specs.Words.{is_word, built_word, parts_after, stands, word_at};
+ghost use Rattle.scenario_turns.specs.Words.{is_word, word_named, parts_after, stands, word_at};
 
 use scenario_values::{FaultCode, ReadFault, fails};
 use std::alloc::Global;
@@ -40,9 +40,9 @@ pub(crate) fn is_word(word: &str, text: &str) -> bool
     word == text
 }
 
-#[tactic(auto, unfolding(crate::specs::Words::built_word))]
-fn built_word(text: &str) -> Option<Word>
-    ensures { result ≡ built_word text.now }
+#[tactic(auto, unfolding(crate::specs::Words::word_named))]
+fn word_named(text: &str) -> Option<Word>
+    ensures { result ≡ word_named text.now }
 {
     match text {
         "write" => Some(Word::Write),
@@ -74,7 +74,7 @@ fn built_word(text: &str) -> Option<Word>
 pub(crate) fn word_at(alloc: Global, text: &str) -> Result<Word, ReadFault>
     ensures { Gives (λ w. w) fault_of result (word_at text.now) }
 {
-    match built_word(text) {
+    match word_named(text) {
         Some(word) => Ok(word),
         None => Err(fails(alloc, FaultCode::BadTurn)),
     }

@@ -2,7 +2,6 @@
 use Rattle.std.specs.Prelude.{◌≡◌, ℕ, ◌<◌, ◌≤◌, Bool, false, true, length, IfSome}
 use Rattle.commands.specs.declared.turn.CommandTurn.{CommandTurn}
 use Rattle.commands.specs.Turns.{fits}
-use Rattle.command_routes.specs.Routes.{is_built_name}
 use Rattle.turns.specs.declared.turn.Step.{Step}
 use Rattle.turns.specs.declared.turn.Step.TheVariants as step
 use Rattle.turns.specs.declared.turn.Act.{Act}
@@ -14,10 +13,9 @@ use Rattle.turns.specs.declared.turn.Turn.TheVariants as turn
 abbrev pub pollers : ℕ
 pollers = 64
 
--- A command over so many servers: it is built, what it needs is there, each number and text is in its range, and a
--- pattern has an answer for each server.
+-- A command over so many servers: what it needs is there, each number and text is in its range, and a pattern has an
+-- answer for each server.
 pub record IsCommand (count : ℕ) (t : CommandTurn) : Type 0 where
-  pub built : is_built_name t.command.name ≡ true
   pub fits : fits count t ≡ true
   pub duration : IfSome t.keys.duration (λ n. (1 ≤ n) × (n ≤ 31536000))
   pub reason : IfSome t.keys.reason (λ text. length text ≤ 255)

@@ -206,7 +206,7 @@ command-reads listed names printed read c told =
     let fits = three (has_needed c) (is_within (length names) c.command.i) (is_within (length names) c.command.d) told.command.fits in
     let needs = needs_of c.command.name in
     let has = four (is_there needs.i c.command.i) (is_there needs.d c.command.d) (is_there needs.rule c.keys.rule) (is_there needs.pattern c.keys.pattern) fits.0 in
-    rw (name_of-word_of c.command.name, told.command.built, known-keys names c)
+    rw (name_of-word_of c.command.name, known-keys names c)
     (rw (at-i names c, servers-read listed names read (codes "i") c.command.i fits.1, has.0)
     (rw (at-d names c, servers-read listed names read (codes "d") c.command.d fits.2, has.1)
     (rw (at-rule names c, rules-read c.keys.rule, has.2)

@@ -15,7 +15,7 @@ use Rattle.scenarios.specs.Turns.{IsStep}
 use Rattle.scenario_values.specs.Faults.{each_from}
 use Rattle.scenario_values.specs.Values.{number_in, whole_in}
 use Rattle.scenario_turns.specs.Turns.{amount_of, job_of, link_in, link_of, poll_of, poller_of, seconds_of, server_of, turn_in, turn_with}
-use Rattle.scenario_turns.specs.Words.{built_word}
+use Rattle.scenario_turns.specs.Words.{word_named}
 use Rattle.scenario_turns.specs.declared.expansion.ListedTurn.TheVariants.{One}
 use Rattle.scenario_dump.specs.Texts.{items_of}
 use Rattle.schedules.specs.Turns.{act_data, step_data, turn_data}
@@ -24,7 +24,7 @@ use Rattle.schedule_laws.proofs.Commands.{command-reads}
 
 module _ (listed : List (Option HostPort)) (names : List HostPort) (printed : List (List ℕ)) (read : NamesRead listed names) where
   step-reads : (x : Step) → IsStep (length names) x → turn_in listed printed 1 (step_data names x) ≡ Ok (One (turn.Step x))
-  unfolding turn_in turn_with server_of amount_of link_of link_in number_in whole_in built_word
+  unfolding turn_in turn_with server_of amount_of link_of link_in number_in whole_in word_named
   step-reads (step.Write n size) is =
       let low : nat_le 1 size ≡ true = le-leb 1 size is.1 in
       let high : nat_le size 1000000 ≡ true = le-leb size 1000000 is.2 in
@@ -44,7 +44,7 @@ module _ (listed : List (Option HostPort)) (names : List HostPort) (printed : Li
       rw (read n is.0) (rw (low, high) refl)
 
   act-reads : (a : Act) → IsToldAct (length names) printed a → turn_in listed printed 1 (act_data names a) ≡ Ok (One (turn.Act a))
-  unfolding turn_in turn_with poll_of poller_of job_of number_in whole_in built_word
+  unfolding turn_in turn_with poll_of poller_of job_of number_in whole_in word_named
   act-reads (act.PollRead p n) is =
       let low : nat_le 0 p ≡ true = le-leb 0 p (omega arith) in
       let high : nat_le p 63 ≡ true = le-leb p 63 (omega (arith, is.0)) in
@@ -62,7 +62,7 @@ module _ (listed : List (Option HostPort)) (names : List HostPort) (printed : Li
   act-reads act.Restart is = refl
 
   turn-reads : (t : Turn) → IsToldTurn (length names) printed t → turn_in listed printed 1 (turn_data names t) ≡ Ok (One t)
-  unfolding turn_in turn_with seconds_of number_in whole_in built_word
+  unfolding turn_in turn_with seconds_of number_in whole_in word_named
   turn-reads (turn.Step x) is = step-reads x is
   turn-reads (turn.Tick seconds) is =
       let low : nat_le 0 seconds ≡ true = le-leb 0 seconds (omega arith) in

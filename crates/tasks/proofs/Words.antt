@@ -13,7 +13,6 @@ use Rattle.commands.specs.Names.{name_of, needs_of, nothing, uses_of}
 use Rattle.commands.specs.Turns.{is_there, is_within}
 use Rattle.commands.proofs.Needed.{needed-used}
 use Rattle.cluster_filters.specs.Patterns.{is_found, is_pattern}
-use Rattle.command_routes.specs.Routes.{is_built_found, is_built_name}
 use Rattle.command_line.specs.Commands.{needs_at, own_at}
 use Rattle.command_line.specs.Places.{drawing_by}
 use Rattle.command_line.specs.Taken.{AreTaken, are_there}
@@ -151,12 +150,11 @@ covers-each c =
       pattern = or_not (uses_of c).pattern (needs_of c).pattern last.1;
     }
 
-module _ (p : Places) (names : List HostPort) (c : CommandName) (words : AreTaken p) (built : is_built_name c ≡ true) (has : GivesNeeded p c) where
+module _ (p : Places) (names : List HostPort) (c : CommandName) (words : AreTaken p) (has : GivesNeeded p c) where
   is_turn : (i d : Option ServerNo) → server_given names (used (uses_of c).i p.i) ≡ Some i → server_given names (used (uses_of c).d p.d) ≡ Some d → IsCommand (length names) (turn_for p names c i d)
   is_turn i d at_i at_d =
       let covered = covers-each c in
       record {
-        built = built;
         fits = all_true _ _ _ _ _ _
             (there (needs_of c).i i (λ needed. given-there names (used (uses_of c).i p.i) i (used-there (uses_of c).i p.i (covered.i needed) (has.i needed)) at_i))
             (there (needs_of c).d d (λ needed. given-there names (used (uses_of c).d p.d) d (used-there (uses_of c).d p.d (covered.d needed) (has.d needed)) at_d))
@@ -179,21 +177,21 @@ module _ (p : Places) (names : List HostPort) (c : CommandName) (words : AreTake
       go false is = is
       go true is = is
 
-is_asked_named : (p : Places) (names : List HostPort) (o : Option CommandName) → AreTaken p → is_built_found o ≡ true → are_there (option_map_or needs_of o nothing) p ≡ true → IsAsked (length names) (asked_named p names o)
-is_asked_named p names None words built there = cc
-is_asked_named p names (Some c) words built there = is_asked_about p names c words built (needed_given p c there) _ _ refl refl
+is_asked_named : (p : Places) (names : List HostPort) (o : Option CommandName) → AreTaken p → is_some o ≡ true → are_there (option_map_or needs_of o nothing) p ≡ true → IsAsked (length names) (asked_named p names o)
+is_asked_named p names None words named there = cc
+is_asked_named p names (Some c) words named there = is_asked_about p names c words (needed_given p c there) _ _ refl refl
 
-is_asked_at : (p : Places) (names : List HostPort) (o : Option Own) → AreTaken p → (is_some o || is_built_found (name_of p.command)) ≡ true → drawing_by o p ≡ None → IsAsked (length names) (asked_at p names o)
+is_asked_at : (p : Places) (names : List HostPort) (o : Option Own) → AreTaken p → (is_some o || is_some (name_of p.command)) ≡ true → drawing_by o p ≡ None → IsAsked (length names) (asked_at p names o)
 unfolding needs_at
-is_asked_at p names None words built read = is_asked_named p names (name_of p.command) words built words.needs
-is_asked_at p names (Some own.Run) words built read = go p.summary
+is_asked_at p names None words named read = is_asked_named p names (name_of p.command) words named words.needs
+is_asked_at p names (Some own.Run) words named read = go p.summary
   where
     go : (summary : Bool) → IsAsked (length names) (cond summary asked.Summary asked.Run)
     go true = tt
     go false = tt
-is_asked_at p names (Some own.Generate) words built read = absurd cc
-is_asked_at p names (Some own.Dump) words built read = tt
-is_asked_at p names (Some own.Live) words built read = tt
+is_asked_at p names (Some own.Generate) words named read = absurd cc
+is_asked_at p names (Some own.Dump) words named read = tt
+is_asked_at p names (Some own.Live) words named read = tt
 
 pub asked_is : (p : Places) (names : List HostPort) → IsTaken p → AskOfRead p → IsAsked (length names) (asked_of p names)
 unfolding asked_of

@@ -3,8 +3,8 @@
 ghost use Rattle.tasks.specs.Laws.{ClaimedCommandsAreTaken, CutTextsBeginAnswers, KnownRowsFixRuns, PlansAreAnsweredAsCommands, PlansTellClaimsThatLast, RepliesAreOfTurns, SummariesCountTurns, TakenAreAsked, TakenClaimsTakeNoCommand};
 
 /// What words that are taken ask of a scenario is something, and its turn meets the condition of the calls that take
-/// turns: its command is built, what it needs is there, each number and text is in its range, and its instance and
-/// destination are among the servers.
+/// turns: what its command needs is there, each number and text is in its range, and its instance and destination are
+/// among the servers.
 pub fn asked_turns_are_sound()
     ensures { TakenAreAsked }
 {}
