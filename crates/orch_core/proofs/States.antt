@@ -17,7 +17,6 @@ use Rattle.audit_log.specs.Audits.{AuditState, IsAudit, closed}
 use Rattle.opening_book.proofs.Recoveries.{audit-loaded}
 use Rattle.opening_book.specs.Counting.{counted, loaded}
 use Rattle.orch_base.specs.declared.server.Moment.{Moment}
-use Rattle.node_claims.specs.Claims.{ClaimState}
 use Rattle.orch_core.specs.Restarts.{interrupted_at, last_given, reloaded_audit, reloaded_book, reloaded_moment, restart_changes}
 use Rattle.orch_core.proofs.Recoveries.{HasBegun, closed-begun, closed-is, counted-begun, reloaded-most}
 use Rattle.kept_rows.specs.Seeing.{seen_in}
@@ -329,24 +328,3 @@ kept_unchanged false kept s t none = refl
 -- the jobs are as they were
 pub IsState-room : (s : State) (jobs : List Unended) → IsState s → jobs ≡ s.jobs → IsState (record s { jobs = jobs })
 IsState-room s jobs is same = subst (λ (xs : List Unended). IsState (record s { jobs = xs })) (sym same) is
-
--- ---- several orchestrators
-
--- whichever of them claims to be active
-pub IsState-claims : (s : State) (claims : ClaimState) (holder : Option ℕ) → IsState s → IsState (record s { claims = claims; last_holder = holder })
-IsState-claims s claims holder is = record {
-  names = is.names;
-  settings = is.settings;
-  slots = is.slots;
-  observed = is.observed;
-  sources = is.sources;
-  jobs = is.jobs;
-  rising = is.rising;
-  audit = is.audit;
-  entries = is.entries;
-  next = is.next;
-  begun = is.begun;
-  moment = is.moment;
-  block = is.block;
-  blocks = is.blocks;
-}

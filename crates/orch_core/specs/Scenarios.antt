@@ -56,8 +56,7 @@ abbrev pub start_claim : Scenario → List Row → Option (ℕ × Moment)
 start_claim s rows = kept_claim (start_rows s rows)
 
 -- the state with which the scenario's run begins, by the rows of its keeper: an instance that the opening puts brings
--- the bridge that it shows where it is valid, and a kept row brings none; no
--- node remembers a claim
+-- the bridge that it shows where it is valid, and a kept row brings none; no node remembers a claim
 abbrev pub start : Scenario → ℕ → List Row → State
 start s wait rows = record {
   world = start_world s;

@@ -664,8 +664,7 @@ impl Engine {
 
     /// One turn. What it changes of the kept rows is kept first, and a refused command changes nothing. Keeper comes
     /// only where the keeper's count of faults rose, at a turn that calls the keeper; after it, and after Memory,
-    /// nothing has changed. The keeper is called only where orchestrator starts again and where a
-    /// kept row changes.
+    /// nothing has changed. The keeper is called only where orchestrator starts again and where a kept row changes.
     pub fn turn<K: Keeper>(
         &mut self,
         alloc: Global,
