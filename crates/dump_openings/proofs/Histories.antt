@@ -7,7 +7,7 @@ use Rattle.orch_base.specs.Chains.{Grounded, Root, Under}
 use Rattle.orch_base.specs.declared.server.Txn.{Txn}
 use Rattle.openings.specs.Listed.{listed_history}
 use Rattle.openings.specs.Servers as listed
-use Rattle.openings.specs.Servers.{count_at, count_of, history_at, parts_at, root_of}
+use Rattle.openings.specs.Servers.{count_at, history_at, parts_at, root_of}
 use Rattle.openings.proofs.Chains.{reached_from-root}
 use Rattle.openings.proofs.ListedCounts.{IsNumbered}
 use Rattle.openings.proofs.Roots.{same-end}

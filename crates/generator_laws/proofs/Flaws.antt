@@ -13,7 +13,6 @@ use Rattle.scenario_generator.specs.declared.server.DrawnServer.{DrawnServer}
 use Rattle.scenario_generator.specs.declared.server.DrawnServer.TheVariants.{Root, Replica}
 use Rattle.scenario_generator.specs.Promises.{ArePlaced, IsPlaced}
 use Rattle.scenario_generator.specs.Servers as drawn
-use Rattle.scenario_generator.specs.Servers.{servers_from}
 use Rattle.generator_laws.specs.Drawn.{given_of, givens_from, inits_from_drawn, source_of as source_in}
 
 -- ---- the server of a number

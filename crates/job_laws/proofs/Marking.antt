@@ -1,5 +1,5 @@
 -- What a match tells of two histories in a safe world.
-use Rattle.std.proofs.Common.{◌≡◌, ℕ, zero, suc, ◌+◌, ◌-◌, ◌<◌, ◌≤◌, Bool, true, false, cond, not, List, [], ◌∷◌, length, take, refl, sym, ◌∙◌, ap, subst, Option, Some, None, Result, Ok, Err, arith, ◌&&◌}
+use Rattle.std.proofs.Common.{◌≡◌, ℕ, zero, suc, ◌+◌, ◌-◌, ◌<◌, ◌≤◌, Bool, true, false, cond, not, List, [], ◌∷◌, length, take, refl, sym, ◌∙◌, ap, Option, Some, None, Result, Ok, Err, arith, ◌&&◌}
 use Rattle.std.specs.Prelude.{◌==◌, slice_get}
 use Rattle.std.proofs.lemmas.Bool.{false≢true, and_parts, eqb-true, eq-eqb}
 use Rattle.std.proofs.lemmas.Bool.Decides.{nat_tests}
@@ -21,7 +21,6 @@ use Rattle.server_model.specs.Worlds.{World, histories, history_of, server_at}
 use Rattle.server_model.specs.declared.server.Server.{Server}
 use Rattle.replication_laws.proofs.Histories.{IsKin-once}
 use Rattle.replication_laws.proofs.Logs.{LaysOut-Grown, LaysOut-length}
-use Rattle.operations.specs.declared.matching.MatchFault.{MatchFault}
 use Rattle.operations.specs.declared.matching.MatchFault.TheVariants as fault
 use Rattle.operations.specs.Matching.{alike, is_mark, is_mark_there, is_same_there, first_unlike, last_mark, match_between, match_logs, match_of, matched_at, matched_behind, matched_from, place_of_mark, shows_same}
 use Rattle.operations.proofs.Marks.{IsEntry, entry-is, first-none, is-entry, is-last, last-is, mark-there, match-behind, match-of-both, none-first, same-there}

@@ -18,7 +18,6 @@ use Rattle.server_words.specs.declared.attach.Spot.{Spot}
 use Rattle.server_words.specs.declared.attach.Spot.TheVariants as spot
 use Rattle.server_model.specs.Attach.{IsTarget}
 use Rattle.server_model.specs.Bridges.{Stands}
-use Rattle.server_model.specs.Layout.{LaysOut}
 use Rattle.server_model.specs.Plains.{logged_by}
 use Rattle.server_model.specs.Run.{Exchange, Attach, run, Allowed, AllAllowed, JoinsWell}
 use Rattle.server_model.specs.Safe.{Placed, Safe}
@@ -38,7 +37,7 @@ use Rattle.operations.specs.Matching.{alike, match_logs, standing, standing_at}
 use Rattle.operations.specs.Plans.{finished}
 use Rattle.operations.specs.Targets.{can_attach}
 use Rattle.operations.specs.Turns.{by_match}
-use Rattle.operations.proofs.Marks.{IsEntry, entry-is}
+use Rattle.operations.proofs.Marks.{entry-is}
 use Rattle.operations.proofs.Targets.{can-allowed, target-can}
 use Rattle.operations.proofs.Tests.{both, or-mono}
 use Rattle.job_laws.specs.Matched.{AllMeet, ArePlaced, IsPlaced, Matched, Meets, MeetsAt, are_matched, finds_match, matched_by, matched_in, matching}

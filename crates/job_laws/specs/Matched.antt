@@ -1,5 +1,5 @@
 -- What holds of the matches that a job found, and of the operations that go by them.
-use Rattle.std.specs.Prelude.{◌≡◌, ℕ, ◌==◌, Bool, true, ◌&&◌, ◌||◌, List, [], ◌∷◌, All, is_some}
+use Rattle.std.specs.Prelude.{◌==◌, Bool, true, ◌&&◌, ◌||◌, List, [], ◌∷◌, All, is_some}
 use Rattle.binlog_coords.specs.declared.Coord.{Coord}
 use Rattle.orch_base.specs.declared.server.ServerNo.{ServerNo}
 use Rattle.server_words.specs.declared.attach.Spot.{Spot}

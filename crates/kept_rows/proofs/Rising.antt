@@ -1,7 +1,7 @@
 -- Rows that rise already are their own map.
-use Rattle.std.proofs.Common.{◌≡◌, ◌∙◌, ℕ, suc, zero, ◌+◌, ◌-◌, ◌<◌, ◌≤◌, Bool, true, false, List, [], ◌∷◌, ◌++◌, length, get_or, All, sym, ap, subst, append-nil, arith}
+use Rattle.std.proofs.Common.{◌≡◌, ◌∙◌, ℕ, suc, zero, ◌+◌, ◌-◌, ◌<◌, Bool, true, false, List, [], ◌∷◌, ◌++◌, length, get_or, All, sym, ap, subst, append-nil, arith}
 use Rattle.std.specs.Prelude.{fold, nat_lt}
-use Rattle.std.specs.Bool.{MatchBool, OnTrue}
+use Rattle.std.specs.Bool.{OnTrue}
 use Rattle.std.specs.List.{AllAdjacentBelow, AllPairs, IsAllAdjacentAnswer}
 use Rattle.std.proofs.lemmas.Bool.{ltb-true}
 use Rattle.std.proofs.lemmas.List.{append_assoc}

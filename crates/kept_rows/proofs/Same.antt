@@ -1,6 +1,6 @@
 -- Equal instances are those that the code tells to be equal.
 use Rattle.std.proofs.Common.{◌≡◌, ℕ, Bool, true, false, List, [], ◌∷◌, Option, None, Some, refl, sym, ap, subst, arith}
-use Rattle.std.specs.Prelude.{◌==◌, ◌&&◌, if◌then◌else◌}
+use Rattle.std.specs.Prelude.{◌==◌, ◌&&◌}
 use Rattle.std.proofs.lemmas.Bool.{false≢true}
 use Rattle.binlog_coords.specs.declared.Coord.{Coord}
 use Rattle.gtid_sets.specs.declared.interval.Interval.{Interval}

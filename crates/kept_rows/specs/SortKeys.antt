@@ -1,5 +1,5 @@
 -- Sort keys as the code has them.
-use Rattle.std.specs.Prelude.{◌≡◌, ℕ, ◌+◌, ◌<◌, ◌≤◌, List, [], ◌∷◌, length, ⊤}
+use Rattle.std.specs.Prelude.{ℕ, ◌<◌, ◌≤◌, List, length}
 use Rattle.std.specs.List.{AllWithin}
 use Rattle.kept_rows.specs.declared.row.Row.{Row}
 use Rattle.kept_rows.specs.declared.row.SortKey.{SortKey}

@@ -10,15 +10,15 @@ use Rattle.opening_book.specs.Opening.{loading, opened_book, opening_changes}
 use Rattle.orch_core.specs.Nodes.{holder_of}
 use Rattle.orch_core.specs.Polls.{empty_slots}
 use Rattle.orch_core.specs.Runs.{Held, Recorded, held_run, recorder}
-use Rattle.orch_core.specs.Scenarios.{configuration_of, loaded_audit, loaded_book, start, start_changes, start_claim, start_moment, start_rows, start_world, without_turns}
+use Rattle.orch_core.specs.Scenarios.{configuration_of, loaded_audit, loaded_book, start_claim, start_moment, start_rows, without_turns}
 use Rattle.scenarios.specs.declared.scenario.Scenario.{Scenario}
 use Rattle.scenarios.specs.Scenarios.{flushes_of, names_of, period_of, room_of}
 use Rattle.server_model.specs.Worlds.{World}
 use Rattle.turns.specs.declared.turn.Turn.{Turn}
 use Rattle.world_openings.specs.Opening.{opened_world}
 use Rattle.live_desk.specs.Desks.{opening, run_of}
-use Rattle.tasks.specs.Report.{Answer, run_answer}
-use Rattle.live_calls.specs.Alike.{SchedulesRunAlike, run_task, with_turns}
+use Rattle.tasks.specs.Report.{run_answer}
+use Rattle.live_calls.specs.Alike.{SchedulesRunAlike, with_turns}
 
 -- the opening is that of its servers, and of the room for its writes and rotations
 opens : Scenario → ℕ → World → Held Recorded

@@ -1,5 +1,5 @@
 -- How calls end that ask for a live run.
-use Rattle.std.proofs.Common.{◌≡◌, ◌∙◌, ℕ, ◌≤◌, true, false, Bool, List, [], Option, Some, None, Result, Ok, Err, refl, sym, ap, subst, arith, ◌⊎◌, inl, inr}
+use Rattle.std.proofs.Common.{◌≡◌, ℕ, ◌≤◌, true, false, Bool, List, [], Option, Some, None, Result, Ok, Err, refl, sym, subst, ◌⊎◌, inl, inr}
 use Rattle.std.specs.Prelude.{IfSome, codes}
 use Rattle.std.specs.Io.KnownBytes.{Consumes}
 use Rattle.kept_rows.specs.declared.row.Row.{Row}
@@ -20,7 +20,6 @@ use Rattle.live_desk.specs.Entries.{Entry}
 use Rattle.tasks.specs.declared.ending.Ending.TheVariants as ends
 use Rattle.tasks.specs.Asked.{IsTaken}
 use Rattle.tasks.specs.Sinks.{End, Fails, FailsIn, Taken, Takes, TakesFront, TakesLine, between}
-use Rattle.tasks.proofs.Sends.{nothing_is_front, takes_nothing}
 use Rattle.top_call.specs.declared.way.Way.{Way}
 use Rattle.top_call.specs.declared.way.Way.TheVariants as way
 use Rattle.top_call.specs.Ends.{AskToDraw, Call, FaultsBy, Idles, IsComplete, IsGood, IsReported, NoneRose, ReadsWhole, call, status_of}

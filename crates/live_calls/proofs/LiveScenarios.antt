@@ -1,6 +1,6 @@
 -- What a live run reads.
-use Rattle.std.proofs.Common.{◌≡◌, ◌∙◌, ℕ, List, Option, Some, None, Ok, Err, refl, ap, subst, sym}
-use Rattle.std.specs.Prelude.{MatchOption, Result, ⊤}
+use Rattle.std.proofs.Common.{◌≡◌, ◌∙◌, ℕ, List, Ok, Err, ap}
+use Rattle.std.specs.Prelude.{Result}
 use Rattle.orch_base.specs.Gives.{Gives, ◌>>=◌}
 use Rattle.scenarios.specs.declared.scenario.Scenario.{Scenario}
 use Rattle.scenario_values.specs.declared.fault.Fault.{Fault}

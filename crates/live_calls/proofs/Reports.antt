@@ -1,5 +1,5 @@
 -- What a live run writes and keeps.
-use Rattle.std.proofs.Common.{◌≡◌, ◌∙◌, ℕ, ◌≤◌, List, Option, ap, arith, subst, inl, inr}
+use Rattle.std.proofs.Common.{◌≡◌, ◌∙◌, ℕ, List, Option, ap, arith, subst, inl, inr}
 use Rattle.kept_rows.specs.declared.row.Row.{Row}
 use Rattle.orch_base.specs.Names.{HostPort}
 use Rattle.orch_core.specs.Runs.{Recorded}

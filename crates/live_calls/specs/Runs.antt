@@ -1,5 +1,5 @@
 -- What holds of each state of a live run: whatever turns its threads take, in whatever order.
-use Rattle.std.specs.Prelude.{All, ◌≡◌, ℕ, true, List, [], length, Option, Some, Ok}
+use Rattle.std.specs.Prelude.{All, ◌≡◌, ℕ, true, List, [], length, Some, Ok}
 use Rattle.kept_rows.specs.declared.row.Row.{Row}
 use Rattle.commands.specs.declared.line.Line.{Line}
 use Rattle.commands.specs.declared.turn.CommandTurn.{CommandTurn}

@@ -1,5 +1,5 @@
 -- The end of a live run.
-use Rattle.std.proofs.Common.{◌≡◌, ◌∙◌, ℕ, zero, suc, ◌+◌, Bool, true, cond, List, [], ◌∷◌, ◌++◌, length, get_or, map, refl, subst, sym, ap, Some, append_assoc, append-nil}
+use Rattle.std.proofs.Common.{◌≡◌, ◌∙◌, ℕ, zero, suc, Bool, true, cond, List, [], ◌∷◌, ◌++◌, length, get_or, map, refl, subst, sym, ap, Some, append_assoc, append-nil}
 use Rattle.std.specs.Prelude.{All, ◌<◌, slice_get, is_some, ◌==◌}
 use Rattle.std.specs.List.{flat_map}
 use Rattle.std.proofs.lemmas.Bool.{eq-eqb}

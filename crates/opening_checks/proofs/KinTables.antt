@@ -1,11 +1,11 @@
 -- The table's meaning, as one more server's history joins it; and the origins' counts.
-use Rattle.std.proofs.Common.{◌≡◌, ℕ, ◌+◌, ◌-◌, ◌<◌, ◌⊎◌, inl, inr, Bool, true, false, List, [], length, take, replicate, refl, sym, ap, subst, ◌∙◌, Some, None, Option, arith, suc, zero, get_or}
+use Rattle.std.proofs.Common.{◌≡◌, ℕ, ◌+◌, ◌-◌, ◌<◌, ◌⊎◌, inl, inr, Bool, true, false, List, [], length, replicate, refl, sym, ap, subst, ◌∙◌, Some, None, Option, arith, suc, zero, get_or}
 use Rattle.std.specs.Prelude.{◌&&◌, slice_get, nat_le, is_none, is_some, not, All}
 use Rattle.std.specs.List.{list_all}
 use Rattle.std.proofs.lemmas.Bool.{cases_order, false≢true}
 use Rattle.std.proofs.Common.{cond, drop, ◌∷◌}
 use Rattle.openings.specs.Flaws.{first_met, not_kin}
-use Rattle.std.proofs.lemmas.List.{length-replicate, take_all, drop_more}
+use Rattle.std.proofs.lemmas.List.{length-replicate, drop_more}
 use Rattle.std.proofs.lemmas.Option.{same_Some, unwrap_or-slice_get, slice_get_within, slice_get-get_or, get_or_from_slice_get}
 use Rattle.orch_base.specs.declared.server.Txn.{Txn}
 use Rattle.orch_base.specs.declared.server.ServerNo.{ServerNo}
@@ -14,7 +14,7 @@ use Rattle.opening_checks.specs.declared.kin_row.Link.{Link}
 use Rattle.openings.specs.declared.part.Part.{Part}
 use Rattle.openings.specs.Kin.{agrees_with, all_below, is_home, is_kin, links}
 use Rattle.opening_checks.specs.KinTable.{agrees_throughout, before_at, is_counted, link_of, row_at, with_links, CountsHome, IsOfServers, IsTable, Lists, alike}
-use Rattle.openings.specs.Listed.{listed_history, joined_by, singles, transactions}
+use Rattle.openings.specs.Listed.{listed_history, transactions}
 use Rattle.openings.specs.Opening.{IsPart}
 use Rattle.openings.specs.Servers.{count_at, parts_at, parts_of, root_of}
 use Rattle.opening_checks.proofs.KinGrows.{Takes, Takes-all}

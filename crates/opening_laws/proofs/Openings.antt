@@ -12,7 +12,7 @@ use Rattle.openings.specs.Listed.{listed_history}
 use Rattle.openings.specs.Logs.{flushed_times, flushed_at, laid_after, laid}
 use Rattle.openings.specs.Opening.{Opened, IsChecked}
 use Rattle.openings.specs.Servers as listed
-use Rattle.openings.specs.Servers.{number_of, parts_at, root_of, count_under, count_of, count_at, history_at, log_by, log_at, exec_of, read_of}
+use Rattle.openings.specs.Servers.{number_of, parts_at, root_of, count_under, count_at, history_at, log_by, log_at, exec_of, read_of}
 use Rattle.openings.specs.Sound.{IsSound, IsUnder}
 use Rattle.openings.proofs.Soundness.{sound_checked}
 use Rattle.server_model.specs.Layout.{LaysOut}

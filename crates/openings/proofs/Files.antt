@@ -1,5 +1,5 @@
 -- The files of servers' logs.
-use Rattle.std.proofs.Common.{◌≡◌, ℕ, ◌+◌, ◌≤◌, Bool, true, false, cond, List, [], ◌∷◌, Option, Some, None, zero, suc, arith}
+use Rattle.std.proofs.Common.{ℕ, ◌+◌, ◌≤◌, Bool, true, false, cond, List, [], ◌∷◌, Option, Some, None, zero, suc, arith}
 use Rattle.std.specs.Prelude.{◌==◌, count_by, nat_le, slice_get}
 use Rattle.binlog_coords.specs.Log.{Log, appended, flush, opened, push}
 use Rattle.orch_base.specs.declared.server.Txn.{Txn}

@@ -4,7 +4,7 @@ use Rattle.std.specs.Prelude.{◌==◌, ◌||◌, nat_le, nat_lt, count_by, All,
 use Rattle.std.proofs.lemmas.Bool.{cases_lt, cases_order, cases_Bool, eq-eqb, ne_eqb, and_parts, or_parts, leb-true, le-leb, ltb-false}
 use Rattle.std.proofs.lemmas.List.{drop_more, drop_all, length-drop, get_or-drop, length-take-le, take_all, take_more}
 use Rattle.std.proofs.lemmas.List.Sums.{sum_by-cons}
-use Rattle.binlog_coords.specs.Log.{Log, push, flush, appended, entry_at_end}
+use Rattle.binlog_coords.specs.Log.{Log, push, flush}
 use Rattle.orch_base.specs.declared.server.Txn.{Txn}
 use Rattle.openings.specs.Flaws.{falls_or_passes, bad_flushes}
 use Rattle.openings.specs.Servers.{count_of}

@@ -1,9 +1,8 @@
 -- What is found in logs that are matched.
-use Rattle.std.proofs.Common.{◌≡◌, ℕ, zero, suc, ◌+◌, ◌<◌, ◌≤◌, Bool, true, false, cond, not, length, refl, sym, ◌∙◌, ap, subst, inl, inr, Option, Some, None, Result, Ok, Err, arith}
+use Rattle.std.proofs.Common.{◌≡◌, ℕ, zero, suc, ◌+◌, ◌<◌, ◌≤◌, Bool, true, false, cond, not, length, refl, sym, ◌∙◌, ap, inl, inr, Option, Some, None, Err, arith}
 use Rattle.std.specs.Prelude.{nat_lt, slice_get}
-use Rattle.std.proofs.lemmas.Bool.{false≢true, cases_eq, lt-ltb, le-ltb, ltb-false}
+use Rattle.std.proofs.lemmas.Bool.{false≢true, cases_eq, le-ltb, ltb-false}
 use Rattle.std.proofs.lemmas.Option.{same_Some}
-use Rattle.binlog_coords.specs.declared.Coord.{Coord}
 use Rattle.orch_base.specs.declared.server.ServerNo.{ServerNo}
 use Rattle.orch_base.specs.declared.server.Txn.{Txn}
 use Rattle.orch_base.specs.Histories.{same_txn}
@@ -12,7 +11,6 @@ use Rattle.server_model.specs.Gtids.{purged_len}
 use Rattle.server_model.specs.Plains.{logged_by}
 use Rattle.server_model.specs.Worlds.{World, server_at}
 use Rattle.server_model.specs.declared.server.Server.{Server}
-use Rattle.operations.specs.declared.matching.MatchFault.{MatchFault}
 use Rattle.operations.specs.declared.matching.MatchFault.TheVariants as fault
 use Rattle.operations.specs.Matching.{is_mark, is_mark_there, is_same_there, last_below, first_not, last_mark, place_of_mark, first_unlike, matched_at, matched_behind, matched_from, match_of, match_between, match_logs}
 

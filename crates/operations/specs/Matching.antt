@@ -1,6 +1,6 @@
 -- How the log of a server matches another's (Pseudo-GTID): by its last mark, which is an entry that no other is equal
 -- to, and by what the entries behind that one show.
-use Rattle.std.specs.Prelude.{ℕ, zero, suc, ◌+◌, ◌-◌, ◌%◌, Bool, true, false, ◌==◌, ◌&&◌, not, if◌then◌else◌, length, Option, Some, None, Result, Ok, Err}
+use Rattle.std.specs.Prelude.{ℕ, zero, suc, ◌+◌, ◌-◌, ◌%◌, Bool, false, ◌==◌, ◌&&◌, not, if◌then◌else◌, length, Option, Some, None, Result, Ok, Err}
 use Rattle.binlog_coords.specs.declared.Coord.{Coord}
 use Rattle.binlog_coords.specs.Log.{coord_after, end_of}
 use Rattle.orch_base.specs.declared.server.ServerNo.{ServerNo}

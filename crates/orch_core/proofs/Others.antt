@@ -1,6 +1,6 @@
 -- A job's turn leaves the other jobs, and where the job isn't open they are all that is left.
 use Rattle.std.proofs.Common.{◌≡◌, ◌∙◌, ℕ, suc, ◌<◌, ◌≤◌, Bool, true, false, cond, List, [], ◌∷◌, length, refl, sym, ap, Option, Some, None, arith}
-use Rattle.std.specs.Prelude.{◌==◌, is_some, filter, not, if◌then◌else◌}
+use Rattle.std.specs.Prelude.{◌==◌, is_some, not, if◌then◌else◌}
 use Rattle.std.specs.Option.{option_map}
 use Rattle.std.proofs.lemmas.Bool.{eq-eqb, false≢true}
 use Rattle.std.proofs.lemmas.List.Filters.{length-filter_both}

@@ -1,5 +1,5 @@
 -- Permitted relocations go by what was seen to be kept.
-use Rattle.std.proofs.Common.{◌≡◌, Bool, true, false, List, [], ◌∷◌, ◌++◌, refl, sym, ◌∙◌, ap, subst, Option, Some, None}
+use Rattle.std.proofs.Common.{◌≡◌, Bool, true, false, List, [], ◌∷◌, ◌++◌, refl, sym, ◌∙◌, ap, Option, Some, None}
 use Rattle.std.specs.List.{flat_map}
 use Rattle.std.specs.Option.{option_or}
 use Rattle.orch_base.specs.declared.server.Moment.{Moment}
@@ -7,7 +7,7 @@ use Rattle.orch_base.specs.declared.server.ServerNo.{ServerNo}
 use Rattle.commands.specs.declared.refusal.Refusal.{Refusal}
 use Rattle.commands.specs.declared.turn.Command.{Command}
 use Rattle.instance_keeper.specs.Book.{BookState}
-use Rattle.operations.specs.Plans.{again, under, up}
+use Rattle.operations.specs.Plans.{under, up}
 use Rattle.permission.specs.Checks.{Case, first_refusal, place_purged, refusal_by, set_purged, unknown_in}
 use Rattle.permission.specs.Lists.{first_about, moves_to}
 use Rattle.permission.specs.Replicas.{replicas_but}

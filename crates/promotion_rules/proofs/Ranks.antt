@@ -1,5 +1,5 @@
 -- The ranks of drained replicas.
-use Rattle.std.proofs.Common.{◌≡◌, ℕ, ◌<◌, ◌+◌, Bool, true, false, cond, refl, sym, ap, subst, arith}
+use Rattle.std.proofs.Common.{◌≡◌, ℕ, ◌<◌, ◌+◌, Bool, true, false, cond, ap, arith}
 use Rattle.std.specs.Prelude.{◌↔◌, ◌*◌}
 use Rattle.promotion_rules.specs.declared.drained.Drained.{Drained}
 use Rattle.promotion_rules.specs.Choice.{precedence, rank}

@@ -1,6 +1,6 @@
 -- The hooks of one recovery: which of them is due, and what those that ran tell (orchestrator's documentation,
 -- "Recovery hooks").
-use Rattle.std.specs.Prelude.{◌≡◌, ◌+◌, ◌<◌, ◌≤◌, ◌-◌, ◌^◌, ◌==◌, ℕ, Bool, false, true, All, List, [], ◌∷◌, ◌++◌, length, map, slice_get, take, if◌then◌else◌, Option, None, Some}
+use Rattle.std.specs.Prelude.{◌≡◌, ◌+◌, ◌<◌, ◌≤◌, ◌-◌, ◌^◌, ◌==◌, ℕ, Bool, false, true, All, List, [], ◌∷◌, ◌++◌, length, map, slice_get, take, if◌then◌else◌, Option, None}
 use Rattle.orch_base.specs.Names.{HostPort}
 use Rattle.commands.specs.declared.line.HookPhase.{HookPhase}
 use Rattle.commands.specs.declared.line.HookPhase.TheVariants as phase

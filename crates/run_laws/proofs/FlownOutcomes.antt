@@ -50,7 +50,7 @@ use Rattle.move_laws.proofs.Begun as coords
 use Rattle.move_laws.proofs.BegunGtid as gtids
 use Rattle.move_laws.proofs.BegunMatch as matches
 use Rattle.path_laws.proofs.Begun as paths
-use Rattle.operations.specs.Jobs.{Job, job_with}
+use Rattle.operations.specs.Jobs.{Job}
 use Rattle.permission.specs.Rows.{about as about_given, about_one}
 use Rattle.recovery_plans.specs.declared.means.Means.{Means}
 use Rattle.recovery_plans.specs.declared.means.Means.TheVariants as means

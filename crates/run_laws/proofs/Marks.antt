@@ -8,7 +8,6 @@ use Rattle.job_laws.proofs.Matching.{match-well}
 use Rattle.job_laws.specs.Matched.{AllMeet, Meets}
 use Rattle.operations.specs.Jobs.{Job}
 use Rattle.operations.specs.Matching.{match_logs}
-use Rattle.operations.specs.declared.matching.Match.{Match}
 use Rattle.orch_base.specs.declared.server.ServerNo.{ServerNo}
 use Rattle.server_model.specs.Safe.{Safe}
 use Rattle.server_model.specs.Worlds.{World}

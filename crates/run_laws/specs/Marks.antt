@@ -1,5 +1,5 @@
 -- What the logs of two servers that match have in common (Pseudo-GTID), in the states of runs.
-use Rattle.std.specs.Prelude.{◌≡◌, ℕ, true, All, List, Some, Ok}
+use Rattle.std.specs.Prelude.{◌≡◌, ℕ, true, All, Some, Ok}
 use Rattle.binlog_coords.specs.declared.Coord.{Coord}
 use Rattle.operations.specs.Matching.{match_logs}
 use Rattle.operations.specs.declared.matching.Match.{Match}

@@ -1,24 +1,19 @@
 -- What a world's calls tell of a server.
 use Rattle.std.proofs.Common.{◌≡◌, ◌∙◌, ◌<◌, ◌≤◌, ℕ, zero, suc, Bool, true, false, ◌∷◌, List, [], length, sym, ap, ap₂, arith, refl, subst}
-use Rattle.std.specs.Prelude.{All, if◌then◌else◌, is_some, Option, Some, None, map, option_and_then, option_map, slice_get, unwrap_or}
+use Rattle.std.specs.Prelude.{All, if◌then◌else◌, is_some, Option, Some, None, option_and_then, option_map, slice_get, unwrap_or}
 use Rattle.std.proofs.lemmas.Option.{get_or_from_slice_get, slice_get-map, slice_get_within}
 use Rattle.std.proofs.lemmas.Bool.{false≢true}
-use Rattle.serde_json.specs.Written.{compact_text}
 use Rattle.binlog_coords.specs.Index.{Index}
 use Rattle.orch_base.specs.Names.{printed}
-use Rattle.orch_base.specs.declared.server.ServerNo.{ServerNo}
 use Rattle.orch_base.specs.declared.server.Settings.{Settings}
-use Rattle.orch_base.specs.declared.server.SourceState.{SourceState}
-use Rattle.orch_base.specs.declared.server.SourceState.TheVariants.{Without, Attached, Detached}
 use Rattle.orch_base.specs.declared.server.Txn.{Txn}
 use Rattle.server_model.specs.declared.server.Server.{Server}
 use Rattle.server_model.specs.Plains.{log_of}
-use Rattle.server_model.specs.Worlds.{World, history_of, server_at, source_no}
+use Rattle.server_model.specs.Worlds.{World, history_of, server_at}
 use Rattle.scenario_dump.specs.Files.{flush_points}
-use Rattle.scenario_dump.specs.Parts.{flushes_of, flushes_text}
+use Rattle.scenario_dump.specs.Parts.{flushes_of}
 use Rattle.scenario_dump.specs.Servers.{init_by, init_of, opening_of, source_in}
-use Rattle.scenario_dump.specs.Texts.{count_data, list_data, name_text}
-use Rattle.scenario_dump.specs.Tidy.{IsOf, IsTidy}
+use Rattle.scenario_dump.specs.Texts.{name_text}
 use Rattle.scenario_dump.proofs.Points.{at_below}
 
 some-inj : {A : Type 0} (a b : A) → Some a ≡ Some b → a ≡ b

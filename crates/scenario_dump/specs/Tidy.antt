@@ -1,9 +1,8 @@
 -- What holds of the servers of a run beside that they are placed, and safe where no server with a source accepted a
 -- write: by it they can be given as a scenario.
-use Rattle.std.specs.Prelude.{◌≡◌, ℕ, ◌≤◌, ◌<◌, ◌^◌, Bool, true, false, List, [], if◌then◌else◌, All, IfSome, Option, Some, None}
+use Rattle.std.specs.Prelude.{◌≡◌, ℕ, ◌≤◌, ◌<◌, ◌^◌, true, false, List, [], if◌then◌else◌, All, IfSome, Some, None}
 use Rattle.binlog_coords.specs.declared.Coord.{Coord}
 use Rattle.binlog_coords.specs.Log.{file_start, opened}
-use Rattle.orch_base.specs.declared.server.Txn.{Txn}
 use Rattle.orch_base.specs.declared.server.SourceState.TheVariants.{Without}
 use Rattle.server_model.specs.declared.server.Server.{Server}
 use Rattle.server_model.specs.Fit.{HasSize}

@@ -13,14 +13,14 @@ use Rattle.commands.specs.declared.turn.Command.{Command}
 use Rattle.commands.specs.declared.turn.CommandTurn.{CommandTurn}
 use Rattle.commands.specs.declared.turn.Found.{Found}
 use Rattle.commands.specs.declared.turn.Keys.{Keys}
-use Rattle.commands.specs.Names.{name_of, needs_of}
+use Rattle.commands.specs.Names.{needs_of}
 use Rattle.commands.specs.Turns.{is_there, is_within}
 use Rattle.cluster_filters.specs.Patterns.{is_found, is_pattern}
 use Rattle.commands.specs.Values.{number_and_unit, number_at, seconds_at, within}
 use Rattle.scenarios.specs.Turns.{IsCommand}
 use Rattle.scenario_values.specs.declared.fault.Fault.{Fault}
 use Rattle.scenario_values.specs.declared.fault.FaultCode.TheVariants.{BadCommand, BadNumber, BadPattern}
-use Rattle.scenario_values.specs.Faults.{fails, holds, or_fails, under_item, maybe, only_keys}
+use Rattle.scenario_values.specs.Faults.{fails, holds, under_item, maybe, only_keys}
 use Rattle.scenario_values.specs.Values.{members_in, short_in, text_in, text_within}
 use Rattle.scenario_servers.specs.Names.{server_named}
 use Rattle.scenario_servers.proofs.ServerSteps.{named-ok}

@@ -1,6 +1,6 @@
 -- Turns as JSON, in the scenario's own form: an array of a word and its parts.
-use Rattle.std.specs.Prelude.{ℕ, List, [], ◌∷◌, ◌++◌, codes, decimal, map, option_map, unwrap_or, slice_get, Option, Some, None}
-use Rattle.serde_json.specs.Data.{Data, number, unsigned, string, array, object, Items, no_items, item, Members, no_members, put}
+use Rattle.std.specs.Prelude.{ℕ, List, [], ◌++◌, codes, decimal, option_map, unwrap_or, slice_get, Option, Some, None}
+use Rattle.serde_json.specs.Data.{Data, number, unsigned, string, array, object, no_items, item, Members, no_members, put}
 use Rattle.serde_json.specs.Written.{compact_text}
 use Rattle.orch_base.specs.declared.rule.Rule.{Rule}
 use Rattle.orch_base.specs.declared.rule.Rule.TheVariants as rule

@@ -1,6 +1,5 @@
 -- What is told of a server, by the list that it holds.
-use Rattle.std.proofs.Common.{◌≡◌, Bool, true, false, cond, [], refl, sym, ap, ◌∙◌}
-use Rattle.binlog_coords.specs.Index.{Index}
+use Rattle.std.proofs.Common.{◌≡◌, true, cond, [], sym, ap, ◌∙◌}
 use Rattle.binlog_coords.specs.Log.{opened}
 use Rattle.server_model.specs.ServerBy.{server_of}
 use Rattle.server_model.specs.declared.server.Server.{Server}

@@ -1,5 +1,5 @@
 -- What contracts see of a server, by the one list that it holds.
-use Rattle.std.specs.Prelude.{Bool, [], if◌then◌else◌}
+use Rattle.std.specs.Prelude.{[], if◌then◌else◌}
 use Rattle.binlog_coords.specs.Index.{Index}
 use Rattle.binlog_coords.specs.Log.{opened}
 use Rattle.server_model.specs.Server.{Server}

@@ -9,7 +9,7 @@ use Rattle.binlog_coords.specs.declared.Coord.{Coord}
 use Rattle.binlog_coords.specs.declared.Next.{Next}
 use Rattle.binlog_coords.specs.declared.Next.TheVariants as next
 use Rattle.binlog_coords.specs.Index.{Index}
-use Rattle.binlog_coords.specs.Log.{Log, appended, file_start, flush, next_after, opened, push}
+use Rattle.binlog_coords.specs.Log.{Log, appended, flush, next_after, opened, push}
 use Rattle.orch_base.specs.declared.server.ServerNo.{ServerNo}
 use Rattle.orch_base.specs.declared.server.SourceState.{SourceState}
 use Rattle.orch_base.specs.declared.server.SourceState.TheVariants.{Without, Attached, Detached}

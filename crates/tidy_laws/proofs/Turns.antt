@@ -46,7 +46,7 @@ use Rattle.operations.specs.Deeds.{Deed, deed_of}
 use Rattle.operations.specs.Jobs.{Job, position_of, seen_of, with_seen, match_found}
 use Rattle.operations.specs.Matching.{match_between, match_logs, standing_at}
 use Rattle.operations.specs.Targets.{can_attach}
-use Rattle.operations.specs.Turns.{Attempt, Goes, Stops, after_answer, after_ask, after_attach, after_look, after_status, after_until, after_wait, after_wait_by, aim_of, attach_answer_of, attached_anew, bridge_at, by_deed, by_ops, by_set, after_match, by_match, crossed, failed, hands_after, holds_seen, is_moved, is_reached, next, observed, read_by, restarts, same_again, saw, settled, settles, turned, until_by}
+use Rattle.operations.specs.Turns.{Attempt, Goes, Stops, after_answer, after_ask, after_attach, after_look, after_status, after_until, after_wait, after_wait_by, aim_of, attach_answer_of, attached_anew, bridge_at, by_deed, by_ops, by_set, after_match, by_match, crossed, failed, holds_seen, is_moved, is_reached, next, observed, read_by, restarts, same_again, saw, settled, settles, turned, until_by}
 use Rattle.job_laws.specs.Footing.{finds, finds_crossing, footing, is_under, logs_at, source_shown}
 use Rattle.job_laws.specs.Held.{AllShow, HeldJob}
 use Rattle.job_laws.proofs.Marking.{match-parts}

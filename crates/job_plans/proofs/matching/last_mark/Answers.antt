@@ -1,5 +1,4 @@
-use Rattle.std.proofs.Common.{◌≡◌, ℕ, ◌+◌, ◌-◌, ◌≤◌, Bool, arith, ap, refl, sym, ◌∙◌, Option, Some}
-use Rattle.orch_base.specs.declared.server.Txn.{Txn}
+use Rattle.std.proofs.Common.{◌≡◌, ℕ, ◌+◌, ◌-◌, ◌≤◌, Bool, arith, refl, sym, ◌∙◌, Some}
 use Rattle.server_model.specs.Plains.{logged_by}
 use Rattle.server_model.specs.Worlds.{server_at}
 use Rattle.server_model.specs.declared.server.Server.{Server}

@@ -1,14 +1,11 @@
-use Rattle.std.proofs.Common.{◌≡◌, ℕ, ◌≤◌, ◌<◌, Bool, true, false, not, arith, ap, cond, length, refl, sym, ◌∙◌, Option, Some, None, Err}
+use Rattle.std.proofs.Common.{◌≡◌, false, ap, length, sym, ◌∙◌, Some}
 use Rattle.std.specs.Option.{option_copied}
 use Rattle.orch_base.specs.declared.server.Txn.{Txn}
-use Rattle.orch_base.specs.Histories.{same_txn}
-use Rattle.server_model.specs.Desk.{can_reach}
 use Rattle.server_model.specs.Plains.{logged_by}
 use Rattle.server_model.specs.Worlds.{server_at}
 use Rattle.server_model.specs.declared.server.Server.{Server}
-use Rattle.operations.specs.Matching.{is_mark, is_mark_there, is_same_there, last_mark, place_of_mark}
+use Rattle.operations.specs.Matching.{is_mark_there, is_same_there, last_mark, place_of_mark}
 use Rattle.operations.proofs.Marks.{last-is, mark-there, match-behind, match-of-both, match-unlogged, same-there}
-use Rattle.job_plans.specs.Entries.{kept_from}
 use Rattle.job_plans.proofs.Entries.{IsKept, kept-is, entry-kept, server-there, told-none, txn-of}
 use Rattle.job_plans.proofs.matching.match_logs.Goals.{In-Some-last_mark, In-Some-place_of_mark}
 use Rattle.job_plans.proofs.matching.match_logs.Goals as goal

@@ -1,5 +1,4 @@
 use Rattle.tasks.specs.declared.ending.Ending.TheVariants as ends
-use Rattle.tasks.specs.Sinks.{between, taken}
 use Rattle.tasks.proofs.Sends.{takes_nothing}
 use Rattle.top_call.proofs.Ends.{counted}
 use Rattle.live_calls.proofs.Ends.{keeper_failed, sink_rose, unwritten, wanting, written}

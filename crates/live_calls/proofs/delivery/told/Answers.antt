@@ -1,4 +1,4 @@
-use Rattle.std.proofs.Common.{◌≡◌, ◌∙◌, ℕ, ◌≤◌, List, arith, inl, subst, sym}
+use Rattle.std.proofs.Common.{◌≡◌, ◌∙◌, ◌≤◌, List, arith, inl, subst, sym}
 use Rattle.live_desk.specs.Ends.{IsLive, rows_after, state_after}
 use Rattle.live_desk.specs.Entries.{Entry}
 use Rattle.live_calls.proofs.Ends.{few_threads}

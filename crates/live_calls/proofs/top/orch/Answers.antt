@@ -1,13 +1,10 @@
 use Rattle.std.proofs.Common.{◌∙◌, ℕ, List, inl, map, refl, subst, sym}
-use Rattle.std.specs.Prelude.{IfSome}
-use Rattle.command_line.specs.declared.parts.Drawing.{Drawing}
 use Rattle.tasks.specs.Sinks.{End, between, taken}
 use Rattle.top_call.specs.declared.way.Way.TheVariants as way
-use Rattle.top_call.specs.Ends.{AskToDraw, DrawEnds, FaultsBy, IsComplete, IsUsage, StopsAtFirst, call}
+use Rattle.top_call.specs.Ends.{DrawEnds, FaultsBy, IsComplete, IsUsage, StopsAtFirst, call}
 use Rattle.top_call.proofs.Ends.{each, idles, lifted, keeper_rose, known, no_usage, of_four, of_three, undrawn, unmoved}
 use Rattle.top_call.proofs.Reports.{both, err_by, kept_by_report, out_by, status_told}
 use Rattle.top_call.proofs.Runs.{active_alone, begin_apart, finish_well, tell_hooks, tell_truly, obeys, safe_run}
-use Rattle.live_calls.specs.Ends.{AskLive, IsPlain}
 use Rattle.live_calls.specs.Reads.{live_scenario}
 use Rattle.live_calls.proofs.Ends.{are_live, are_plain, complete, faults, follows, live_draws_nothing, never_both, read_whole}
 use Rattle.live_calls.proofs.Runs.{goes_well}

@@ -1,4 +1,4 @@
-use Rattle.std.proofs.Common.{◌+◌, ap₂, drop, ◌∙◌, ◌++◌, ◌<◌, [], ◌∷◌, ap, arith, length, sym, subst}
+use Rattle.std.proofs.Common.{◌+◌, ap₂, drop, ◌∙◌, ◌++◌, [], ◌∷◌, ap, arith, length, sym}
 use Rattle.serde_json.specs.Written.{items_text}
 use Rattle.server_model.specs.Worlds.{history_of, server_at}
 use Rattle.scenario_dump.specs.Histories.{parts_of}

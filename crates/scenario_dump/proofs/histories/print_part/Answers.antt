@@ -1,5 +1,4 @@
-use Rattle.std.proofs.Common.{◌≡◌, ◌∙◌, ◌++◌, [], ◌∷◌, ap, sym, refl}
-use Rattle.json.specs.Print.{escape_byte, quoted}
+use Rattle.std.proofs.Common.{[], ◌∷◌, refl}
 use Rattle.scenario_dump.proofs.Printed.{appended, map_ok, part_shape}
 use Rattle.scenario_dump.proofs.histories.print_part.Goals as goal
 

@@ -1,4 +1,4 @@
-use Rattle.std.proofs.Common.{◌≡◌, ◌∙◌, ◌++◌, List, ℕ, [], ◌∷◌, ap, append_assoc, arith, sym}
+use Rattle.std.proofs.Common.{◌∙◌, ◌++◌, List, ℕ, [], ◌∷◌, ap, append_assoc, arith, sym}
 use Rattle.json.specs.Print.{quoted}
 use Rattle.scenario_dump.proofs.Printed.{appended, map_ok, quoted_as}
 use Rattle.scenario_dump.proofs.Worlds.{name_past, name_there}

@@ -1,6 +1,5 @@
-use Rattle.std.proofs.Common.{◌≡◌, ◌∙◌, ap, Err, ℕ, Bool, true, false, cond, List, None, refl, sym}
+use Rattle.std.proofs.Common.{◌≡◌, ◌∙◌, ap, Err, ℕ, Bool, true, false, cond, List, None, refl}
 use Rattle.std.specs.Str.{IsUtf8, is_utf8}
-use Rattle.std.proofs.lemmas.Bool.{false≢true}
 use Rattle.std.proofs.lemmas.Str.{is_utf8-from_IsUtf8, IsUtf8-from_is_utf8}
 use Rattle.serde_json.specs.Read.{read}
 use Rattle.scenario_values.specs.declared.fault.FaultCode.TheVariants.{NotJson}

@@ -1,4 +1,4 @@
-use Rattle.std.proofs.Common.{◌≡◌, ◌+◌, Some, arith, ap, drop, sym, ◌∙◌}
+use Rattle.std.proofs.Common.{◌≡◌, Some, arith, ap, sym, ◌∙◌}
 use Rattle.std.specs.Prelude.{slice_get}
 use Rattle.gtid_sets.specs.Sets.{holds}
 use Rattle.server_model.specs.Gtids.{has_gtid, uuids_in}

@@ -3,7 +3,7 @@ use Rattle.std.specs.Prelude.{slice_get, slice_range}
 use Rattle.gtid_sets.specs.Adding.{with_pair}
 use Rattle.gtid_sets.specs.Reserved.{Reserved}
 use Rattle.gtid_sets.specs.declared.interval.Interval.{Interval}
-use Rattle.server_model.specs.Gtids.{uuids_in, with_gtid, with_gtids}
+use Rattle.server_model.specs.Gtids.{uuids_in, with_gtids}
 use Rattle.server_model.proofs.ExecutedSets.{length-range, with_gtids-push}
 use Rattle.server_model.proofs.Lists.{range-more}
 use Rattle.server_model.proofs.gtids.keep_gtids.Goals as goal

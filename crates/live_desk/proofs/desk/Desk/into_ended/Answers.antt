@@ -1,9 +1,7 @@
 use Rattle.std.proofs.Common.{◌≡◌, ◌∙◌, ℕ, List, length, sym, ap, subst}
 use Rattle.kept_rows.specs.declared.row.Row.{Row}
-use Rattle.turns.specs.declared.turn.Turn.{Turn}
-use Rattle.turns.specs.declared.reply.Reply.{Reply}
 use Rattle.orch_core.specs.Runs.{Held, Recorded}
-use Rattle.live_desk.specs.Desks.{DeskState, held_of}
+use Rattle.live_desk.specs.Desks.{held_of}
 use Rattle.live_desk.specs.Ends.{IsLive, RunsOn, rows_after, state_after}
 use Rattle.live_desk.specs.Entries.{Entry, entries_of}
 use Rattle.live_desk.proofs.Ends.{ended-run, live-end}

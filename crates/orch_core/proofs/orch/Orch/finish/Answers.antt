@@ -1,4 +1,4 @@
-use Rattle.std.proofs.Common.{◌≡◌, ◌∙◌, ◌+◌, ◌<◌, arith, refl, sym, ap, subst, length, List}
+use Rattle.std.proofs.Common.{◌≡◌, ◌∙◌, ◌+◌, ◌<◌, refl, sym, ap, subst, length, List}
 use Rattle.std.specs.Prelude.{All}
 use Rattle.orch_base.specs.declared.server.ServerNo.{ServerNo}
 use Rattle.name_order.specs.NameOrder.{by_name}

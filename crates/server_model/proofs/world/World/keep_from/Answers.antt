@@ -1,8 +1,7 @@
-use Rattle.std.proofs.Common.{◌≡◌, ℕ, ◌+◌, ◌-◌, ◌<◌, ◌≤◌, List, Option, Some, true, length, refl, arith, ap, subst, sym, ◌∙◌}
+use Rattle.std.proofs.Common.{◌≡◌, ℕ, ◌<◌, ◌≤◌, List, Option, Some, true, length, refl, arith, ap, subst, sym, ◌∙◌}
 use Rattle.std.specs.Prelude.{All, IsSomeAnd, slice_get, slice_range, slice_set}
 use Rattle.std.proofs.lemmas.List.{length-set}
 use Rattle.std.proofs.lemmas.Option.{same_Some}
-use Rattle.gtid_sets.specs.Reserved.{Reserved}
 use Rattle.orch_base.specs.declared.server.Txn.{Txn}
 use Rattle.server_model.specs.Gtids.{purged_len, uuids_in, IsNumbered}
 use Rattle.server_model.specs.ServerBy.{server_of}
