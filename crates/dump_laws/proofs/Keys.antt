@@ -74,9 +74,6 @@ known-members known (r ∷ rs) e =
 
 -- ---- what is read at a key
 
-pub under-Ok : {A : Type 0} (key : List ℕ) (r : Result A Fault) (x : A) → r ≡ Ok x → under key r ≡ Ok x
-under-Ok key r x e = ap (under key) e
-
 pub needed-Ok : {A : Type 0} (key : List ℕ) (read : Data → Result A Fault) (d v : Data) (x : A) → get key d ≡ Some v → read v ≡ Ok x → needed key read d ≡ Ok x
 needed-Ok key read d v x there e = ap (needed_in key read) there ∙ ap (under key) e
 

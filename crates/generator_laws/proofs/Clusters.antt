@@ -60,9 +60,6 @@ same_root ss are n source executed e =
 
 -- ---- clusters
 
-label_is : (ss : List DrawnServer) (n : ℕ) (s : DrawnServer) → (init_of (givens_from 0 ss) n (given_of n s)).settings.cluster ≡ label_at (slice_get (givens_from 0 ss) (root_in (givens_from 0 ss) n))
-label_is ss n s = refl
-
 alike : (i j : ServerInit) → i.settings.cluster ≡ j.settings.cluster → not (same_cluster i j) ≡ false
 alike i j same = ap not (sym (ap (pointwise nat_eq i.settings.cluster) same) ∙ same_label i.settings.cluster)
 

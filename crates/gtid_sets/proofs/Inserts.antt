@@ -1,9 +1,8 @@
 -- An interval among those of a set.
 use Rattle.std.proofs.Common.{◌≡◌, ℕ, ◌+◌, ◌^◌, ◌<◌, ◌≤◌, Bool, true, false, cond, eqb, leb, min, max, List, [], ◌∷◌, ◌++◌, length, get_or, take, drop, refl, sym, ap, ◌∙◌, subst, arith, zero, suc, inl, inr}
-use Rattle.std.specs.Prelude.{◌&&◌, ◌||◌, ◌-◌, Option, Some, None, slice_get}
+use Rattle.std.specs.Prelude.{◌&&◌, ◌||◌, ◌-◌}
 use Rattle.std.specs.List.{All, AllWithin, AllPairs, remove}
 use Rattle.std.proofs.lemmas.Bool.{eqb-true, and_parts, false≢true, cases_lt}
-use Rattle.std.proofs.lemmas.Option.{same_Some}
 use Rattle.std.proofs.lemmas.List.{get_or-drop, length-drop}
 use Rattle.std.proofs.lemmas.List.Edits.{length-remove, get_or-remove_below, get_or-remove_above}
 use Rattle.std.proofs.lemmas.Bool.Decides.{nat_tests}
@@ -132,10 +131,6 @@ pub low-merged : (s t : Interval) → s.uuid ≡ t.uuid → low (merged s t) ≡
 unfolding point
 low-merged s t e = omega arith
 
-pub high-merged : (s t : Interval) → s.uuid ≡ t.uuid → high (merged s t) ≡ max (high s) (high t)
-unfolding point
-high-merged s t e = omega arith
-
 All-cons : (P : Interval → Type 0) (x : Interval) (ys : List Interval) → P x → All P ys → All P (x ∷ ys)
 All-cons P x ys a b zero d h = a
 All-cons P x ys a b (suc k) d h = b k d (omega arith)
@@ -249,19 +244,6 @@ touches-at [] zero s d e = absurd (false≢true e)
 touches-at [] (suc i) s d e = absurd (false≢true e)
 touches-at (t ∷ xs) zero s d e = e
 touches-at (t ∷ xs) (suc i) s d e = touches-at xs i s d e
-
-abbrev pub touches_option : Interval → Option Interval → Bool
-touches_option s None = false
-touches_option s (Some t) = touches s t
-
-pub touches_first-get : (xs : List Interval) (i : ℕ) (s : Interval) (o : Option Interval) → slice_get xs i ≡ o → touches_first s (drop i xs) ≡ touches_option s o
-touches_first-get [] zero s None e = refl
-touches_first-get [] zero s (Some t) e = cc
-touches_first-get [] (suc i) s None e = refl
-touches_first-get [] (suc i) s (Some t) e = cc
-touches_first-get (x ∷ xs) zero s None e = cc
-touches_first-get (x ∷ xs) zero s (Some t) e = ap (touches s) (same_Some x t e)
-touches_first-get (x ∷ xs) (suc i) s o e = touches_first-get xs i s o e
 
 -- what stands from a point on, once the interval there is taken out
 pub drop-remove : (xs : List Interval) (i : ℕ) → i < length xs → drop i (remove xs i) ≡ drop (i + 1) xs

@@ -1,12 +1,10 @@
 -- Texts that are divided.
-use Rattle.std.proofs.Common.{◌≡◌, ℕ, suc, ◌+◌, ◌-◌, ◌*◌, ◌^◌, ◌<◌, ◌≤◌, inl, inr, Bool, true, false, cond, eqb, ltb, min, not, List, [], ◌∷◌, ◌++◌, length, get_or, take, drop, Option, Some, None, Ok, Err, Result, refl, sym, ap, ◌∙◌, subst, append_assoc, append-nil, drop-drop, arith}
-use Rattle.std.specs.Prelude.{◌&&◌, ◌||◌, position, unwrap_or, option_map}
-use Rattle.std.specs.List.{list_all, position_or_len}
-use Rattle.std.specs.Char.{is_ascii_digit}
+use Rattle.std.proofs.Common.{◌≡◌, ℕ, suc, ◌+◌, ◌-◌, ◌*◌, ◌^◌, ◌<◌, ◌≤◌, inl, inr, Bool, true, false, cond, eqb, ltb, min, not, List, [], ◌∷◌, ◌++◌, length, take, drop, Option, Some, None, Ok, Err, Result, refl, sym, ap, ◌∙◌, subst, append_assoc, append-nil, drop-drop, arith}
+use Rattle.std.specs.Prelude.{◌||◌, position, unwrap_or, option_map}
+use Rattle.std.specs.List.{position_or_len}
 use Rattle.std.proofs.lemmas.Bool.Decides.{nat_tests}
 use Rattle.std.proofs.lemmas.Bool.{cases_lt, lt-ltb, le-ltb}
 use Rattle.std.proofs.lemmas.List.{take_all, length-take-le}
-use Rattle.std.proofs.lemmas.List.Folds.{list_all_at}
 use Rattle.std.specs.Prelude.{MatchOption, ⊤}
 use Rattle.uuid.specs.Text.{parsed, parsed_hyphenated}
 use Rattle.gtid_sets.specs.declared.interval.Interval.{Interval}
@@ -14,7 +12,7 @@ use Rattle.gtid_sets.specs.declared.fault.GtidFault.{GtidFault}
 use Rattle.gtid_sets.specs.declared.fault.GtidFault.TheVariants.{BadUuid, BadInterval, Zero, TooLarge, Memory}
 use Rattle.gtid_sets.specs.Gives.{◌>>=◌}
 use Rattle.gtid_sets.specs.Sets.{largest}
-use Rattle.gtid_sets.specs.Grammar.{pieces, onto_first, number_at, value_of, is_colon, is_comma, leading, inner, listed_at, filled_at, text_at, part_at, parts_at, number_or, interval_of, begin_of, end_of, interval_at, intervals_at, uuid_or, fault_of, behind}
+use Rattle.gtid_sets.specs.Grammar.{pieces, onto_first, number_at, is_colon, is_comma, leading, inner, listed_at, filled_at, text_at, part_at, parts_at, number_or, interval_of, begin_of, end_of, interval_at, intervals_at, uuid_or, fault_of, behind}
 
 first_or_more : (b : Bool) (m n : ℕ) → m ≤ n → cond b (1 + m) 0 ≤ suc n
 first_or_more true m n h = omega arith
@@ -35,15 +33,6 @@ position_is p xs =
 -- one more digit
 step_value : (v d m : ℕ) → min (min (min v m * 10) m + d) m ≡ min (v * 10 + d) m
 step_value v d m = omega arith
-
-none_and : (b : Bool) (n : ℕ) → cond (b && false) (Some n) None ≡ None
-none_and true n = refl
-none_and false n = refl
-
-pub digits_failed : (ds : List ℕ) (i : ℕ) (d : ℕ) → i < length ds → is_ascii_digit (get_or ds i d) ≡ false → number_at ds ≡ None
-digits_failed ds i d h bad =
-    let all : list_all is_ascii_digit ds ≡ false = list_all_at is_ascii_digit ds i d h bad in
-    rw all (none_and (ltb 0 (length ds)) (value_of ds))
 
 -- a text up to the first offset that divides it, and the rest
 piece_end : (p : ℕ → Bool) (x : ℕ) (xs : List ℕ) (b : Bool) → p x ≡ b → cond (not b) (1 + position_or_len p xs) 0 ≡ suc (length xs) → (position_or_len p xs ≡ length xs → pieces p xs ≡ xs ∷ [])

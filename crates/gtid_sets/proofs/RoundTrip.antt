@@ -193,9 +193,6 @@ hyphenated_word xs = list_all-from_AllPass in_word (hyphenated_text lower xs) (�
     rw (by_index_at 36 (λ j. cond (is_hyphen_place j) 45 (hex_digit lower (nibble xs (digit_place j)))) k d within)
     (hyphen_or (is_hyphen_place k) (hex_digit lower (nibble xs (digit_place k))) (hex_word (nibble xs (digit_place k)) (nibble_small xs (digit_place k)))))
 
-hyphenated_length : (xs : List ℕ) → length (hyphenated_text lower xs) ≡ 36
-hyphenated_length xs = by_index_length 36 (λ j. cond (is_hyphen_place j) 45 (hex_digit lower (nibble xs (digit_place j))))
-
 some_bytes : (q u : ℕ) (bytes : List ℕ) (r : Option (List ℕ)) → Some bytes ≡ r → from_be_bytes w128 bytes ≡ u → uuid_or q r ≡ Ok u
 some_bytes q u bytes r e f = subst (λ (x : Option (List ℕ)). uuid_or q x ≡ Ok u) e (ap Ok f)
 

@@ -1,12 +1,12 @@
 -- Where a set's intervals stand beside a pair.
-use Rattle.std.proofs.Common.{◌≡◌, ℕ, ◌+◌, ◌^◌, ◌<◌, ◌≤◌, inl, inr, Bool, true, false, eqb, ltb, leb, not, List, [], ◌∷◌, length, get_or, take, refl, sym, ◌∙◌, subst, arith}
+use Rattle.std.proofs.Common.{◌≡◌, ℕ, ◌+◌, ◌^◌, ◌<◌, ◌≤◌, inl, inr, Bool, true, false, ltb, leb, not, List, [], ◌∷◌, length, get_or, take, refl, sym, ◌∙◌, subst, arith}
 use Rattle.std.specs.Prelude.{◌&&◌, ◌||◌}
 use Rattle.std.specs.List.{All, AllWithin}
 use Rattle.std.specs.Bool.{OnFalse}
 use Rattle.std.proofs.lemmas.Bool.Decides.{nat_tests}
-use Rattle.std.proofs.lemmas.Bool.{cases_lt, false≢true, eqb-true}
+use Rattle.std.proofs.lemmas.Bool.{cases_lt, false≢true}
 use Rattle.std.proofs.lemmas.List.{get_or_default, take_all}
-use Rattle.std.proofs.lemmas.List.Folds.{list_any_none, list_any_at, list_any_more}
+use Rattle.std.proofs.lemmas.List.Folds.{list_any_none, list_any_at}
 use Rattle.gtid_sets.specs.Sets.{point, low, high, between, on_line, spans, holds, IsInterval, IsSet, Misses}
 use Rattle.gtid_sets.proofs.Line.{low_high, point_rises, point_within, point_behind}
 use Rattle.gtid_sets.proofs.Points.{holds_line, holds_past, rises, rise_highs}
@@ -121,12 +121,6 @@ either : {P : Type 0} (a b : Bool) → (a ≡ true → P) → (b ≡ true → P)
 either true b f g e = f refl
 either false b f g e = g e
 
--- one more interval, all of which is in the set
-pub parts_more : (ps xs : List Interval) (i : ℕ) (d : Interval) → i < length ps → ((x : ℕ) → on_line (take i ps) x ≡ true → on_line xs x ≡ true)
-    → ((x : ℕ) → between x (get_or ps i d) ≡ true → on_line xs x ≡ true) → (x : ℕ) → on_line (take (i + 1) ps) x ≡ true → on_line xs x ≡ true
-parts_more ps xs i d h before here x on =
-    either (on_line (take i ps) x) (between x (get_or ps i d)) (before x) (here x) (sym (list_any_more (between x) ps i d h) ∙ on)
-
 -- all parts are in the set
 pub parts_held : (ps xs : List Interval) → IsSet ps → IsSet xs → ((x : ℕ) → on_line ps x ≡ true → on_line xs x ≡ true)
     → (u n : ℕ) → holds ps u n ≡ true → holds xs u n ≡ true
@@ -135,12 +129,6 @@ parts_held ps xs ip ix all u n on =
       | inl fits ↦ holds_line xs u n ix.each fits ∙ all (point u n) (sym (holds_line ps u n ip.each fits) ∙ on)
       | inr past ↦ absurd (false≢true (sym (holds_past ps u n ip.each past) ∙ on))
     ]
-
-pub part_missed : (ps xs : List Interval) (i : ℕ) (d : Interval) → i < length ps → Misses xs (get_or ps i d)
-    → ((u n : ℕ) → holds ps u n ≡ true → holds xs u n ≡ true) → ⊥
-part_missed ps xs i d h missed all =
-    let s = get_or ps i d in
-    false≢true (sym missed.2 ∙ all s.uuid missed.0 (list_any_at (spans s.uuid missed.0) ps i d h missed.1))
 
 pub none_held : (xs : List Interval) → IsSet xs → ((u n : ℕ) → holds xs u n ≡ false) → xs ≡ []
 none_held [] is none = refl
@@ -162,8 +150,3 @@ found_at xs i d u n is fits h past up =
 
 pub parts_all : (ps xs : List Interval) (i : ℕ) → length ps ≤ i → ((x : ℕ) → on_line (take i ps) x ≡ true → on_line xs x ≡ true) → (x : ℕ) → on_line ps x ≡ true → on_line xs x ≡ true
 parts_all ps xs i h all x = subst (λ (qs : List Interval). on_line qs x ≡ true → on_line xs x ≡ true) (take_all i ps h) (all x)
-
-pub none_if : (xs : List Interval) (b : Bool) → IsSet xs → b ≡ eqb (length xs) 0
-    → (b ≡ true → (u n : ℕ) → holds xs u n ≡ false) × (((u n : ℕ) → holds xs u n ≡ false) → b ≡ true)
-none_if [] b is e = (λ yes u n. refl, λ none. e)
-none_if (s ∷ xs) b is e = (λ yes. absurd (omega (arith, eqb-true (length (s ∷ xs)) 0 (sym e ∙ yes))), λ none. let no : s ∷ xs ≡ [] = none_held (s ∷ xs) is none in cc)

@@ -64,9 +64,6 @@ module _ (b : BookState) (is : IsBook b) where
   abbrev pub last : List Row
   last = option_to_list (option_map row.Switch b.switch)
 
-  first_low : Low (1 * 2 ^ 65) first
-  first_low = low_less (1 * 2 ^ 65 + 0) (1 * 2 ^ 65) first (omega arith) (rows_low row.Instance (λ i. i.no) (1 * 2 ^ 65) (λ a. refl) 0 b.instances is.instance_numbers)
-
   first_high : High (1 * 2 ^ 65 + 2 ^ 32) first
   first_high = let s = is.small in let n = is.instances in high_more (1 * 2 ^ 65 + (0 + length b.instances)) (1 * 2 ^ 65 + 2 ^ 32) first (omega (arith, s, n)) (rows_high row.Instance (λ i. i.no) (1 * 2 ^ 65) (λ a. refl) 0 b.instances is.instance_numbers)
 

@@ -229,11 +229,6 @@ known_at b n is = known_in (length b.names) n b.instances is.sources
     known_in count zero (x ∷ xs) h = All-head (HasKnownSource count) x xs h
     known_in count (suc n) (x ∷ xs) h = known_in count n xs (All-tail (HasKnownSource count) x xs h)
 
-pub set_twice : {A : Type 0} (xs : List A) (n : ℕ) (x y : A) → slice_set (slice_set xs n x) n y ≡ slice_set xs n y
-set_twice [] n x y = refl
-set_twice (z ∷ zs) zero x y = refl
-set_twice (z ∷ zs) (suc n) x y = ap (λ l. z ∷ l) (set_twice zs n x y)
-
 abbrev pub renewed_at : BookState → Observation → Option Instance
 renewed_at b o = option_map (λ i. renewed i o) (instance_at b o.no)
 

@@ -1,5 +1,5 @@
 -- Maps whose keys count up: a key is its value's place.
-use Rattle.std.proofs.Common.{◌≡◌, ℕ, suc, zero, ◌+◌, ◌<◌, true, false, nat_eq, List, [], ◌∷◌, ◌++◌, length, map, add-one, Option, None, Some, refl, sym, ap, ◌∙◌, arith}
+use Rattle.std.proofs.Common.{◌≡◌, ℕ, suc, zero, ◌+◌, ◌<◌, false, nat_eq, List, [], ◌∷◌, ◌++◌, length, map, add-one, Option, None, Some, refl, sym, ap, ◌∙◌, arith}
 use Rattle.std.specs.List.{slice_set}
 use Rattle.std.specs.Option.{option_flatten}
 use Rattle.std.specs.Prelude.{replicate}
@@ -7,19 +7,12 @@ use Rattle.std.proofs.lemmas.Bool.Decides.{nat_tests}
 use Rattle.indexmap.specs.IndexMap.{insert_entry, set_value_at}
 use Rattle.instance_keeper.specs.Counts.{CountsUp}
 
-eq_true : (a b : ℕ) → a ≡ b → nat_eq a b ≡ true
-eq_true a b e = grind (arith, nat_tests)
-
 eq_false : (a b : ℕ) → b < a → nat_eq a b ≡ false
 eq_false a b less = grind (arith, nat_tests)
 
 module _ {X : Type 0} where
   abbrev values_in : List (ℕ × X) → List X
   values_in es = map (λ e. e.1) es
-
-  pub length_values : (es : List (ℕ × X)) → length (values_in es) ≡ length es
-  length_values [] = refl
-  length_values (e ∷ es) = ap suc (length_values es)
 
   pub set_counts : (es : List (ℕ × X)) (from j : ℕ) (v : X) → CountsUp from es → CountsUp from (set_value_at es j v)
   set_counts [] from j v up = up

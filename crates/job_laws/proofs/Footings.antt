@@ -18,17 +18,6 @@ use Rattle.job_laws.specs.Footing.{Footing, Within, is_under, finds_aim, finds_c
 use Rattle.operations.proofs.Tests.{both, or-mono, or-right, cond-mono, some-mono, or-at}
 use Rattle.job_laws.proofs.Sights.{seen-at}
 
-pub Within-refl : (f : Footing) → Within f f
-Within-refl f = record { gtid = λ h. h; logs = λ n h. h; read = λ n h. h; under = λ n m h. h }
-
-pub Within-trans : (f g h : Footing) → Within f g → Within g h → Within f h
-Within-trans f g h p q = record {
-  gtid = λ e. q.gtid (p.gtid e);
-  logs = λ n e. q.logs n (p.logs n e);
-  read = λ n e. q.read n (p.read n e);
-  under = λ n m e. q.under n m (p.under n m e);
-}
-
 -- both of two that are sure
 two : (a b a' b' : Bool) → (a ≡ true → a' ≡ true) → (b ≡ true → b' ≡ true) → (a && b) ≡ true → (a' && b') ≡ true
 two a b a' b' p q h = let parts = and_parts a b h in both a' b' (p parts.0) (q parts.1)

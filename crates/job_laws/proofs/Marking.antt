@@ -15,7 +15,6 @@ use Rattle.orch_base.specs.declared.server.Txn.{Txn}
 use Rattle.server_words.specs.declared.answers.Unreachable.{Unreachable}
 use Rattle.server_model.specs.Desk.{can_reach}
 use Rattle.server_model.specs.Plains.{logged, logged_by, logged_in}
-use Rattle.server_model.specs.Run.{IsJunction}
 use Rattle.server_model.specs.Safe.{IsKin, Safe}
 use Rattle.server_model.specs.Worlds.{World, histories, history_of, server_at}
 use Rattle.server_model.specs.declared.server.Server.{Server}
@@ -163,9 +162,6 @@ module _ (w : World) (safe : Safe w) (r d : ℕ) (x y : Server) (at_r : server_a
         omega (arith, ap length match-prefix, length-take (length x.history.txns) y.history.txns, LaysOut-length y.history.txns y.log.log laid) in
         ap (place y.log.log) (sym m.end ∙ ap (coord_after y.log.log) count)
         ∙ place-coord_after y.log.log (Laid-Grown y.log.log (LaysOut-Grown y.history.txns y.log.log laid)) (length x.history.txns) enough
-
-    pub match-joins : IsJunction x y c
-    match-joins = record { prefix = match-prefix; place = match-place }
 
 -- ---- as orchestrator reads both logs
 

@@ -30,18 +30,6 @@ module _ (bytes : List ℕ) (s : Scenario) (read : scenario_in bytes ≡ Ok s) w
   several_read reading.Memory gives = tt
   several_read (reading.Fault f) gives = with_nodes (Err f) gives
 
--- what a live run reads is what the bytes are
-of_one_back : (t s : Scenario) (r : Result (Unit {0}) Fault) → (r >>= (λ one. Ok t)) ≡ Ok s → t ≡ s
-of_one_back t s (Ok one) is = cc
-of_one_back t s (Err f) is = absurd cc
-
-pub live_read : (bytes : List ℕ) (s : Scenario) → live_scenario bytes ≡ Ok s → scenario_in bytes ≡ Ok s
-live_read bytes s is = go (scenario_in bytes) is
-  where
-    go : (r : Result Scenario Fault) → (r >>= of_one) ≡ Ok s → r ≡ Ok s
-    go (Ok t) same = ap Ok (of_one_back t s (one_node t.nodes) same)
-    go (Err f) same = absurd cc
-
 -- where the bytes are a scenario of one orchestrator
 pub alone_read : (bytes : List ℕ) (s : Scenario) → scenario_in bytes ≡ Ok s → s.nodes ≡ 1 → live_scenario bytes ≡ Ok s
 alone_read bytes s read one = one_read bytes s read (ap one_node one)

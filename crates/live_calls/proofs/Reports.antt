@@ -1,5 +1,5 @@
 -- What a live run writes and keeps.
-use Rattle.std.proofs.Common.{◌≡◌, ◌∙◌, ℕ, List, Option, ap, arith, subst, inl, inr}
+use Rattle.std.proofs.Common.{◌≡◌, ◌∙◌, ℕ, List, Option, ap, subst, inr}
 use Rattle.kept_rows.specs.declared.row.Row.{Row}
 use Rattle.orch_base.specs.Names.{HostPort}
 use Rattle.orch_core.specs.Runs.{Recorded}
@@ -14,7 +14,6 @@ use Rattle.live_desk.specs.Entries.{Entry, turns_in}
 use Rattle.schedules.specs.Turns.{schedule_line}
 use Rattle.tasks.specs.declared.ending.Ending.{Ending}
 use Rattle.tasks.specs.declared.ending.Ending.TheVariants as ends
-use Rattle.tasks.specs.Endings.{HasKeepersCause}
 use Rattle.tasks.specs.Journals.{JournalStands, told_run}
 use Rattle.tasks.specs.Sinks.{End}
 use Rattle.live_calls.specs.Reports.{Delivers, LiveReport, Ran, live_report, run_report}
@@ -44,10 +43,3 @@ tells s wait names es state rows old new out ending named is at kept delivers =
     ∙ (ap (λ (run : Recorded). run_report (names_of s) (turns_in es) run rows old) (told_is s wait es state is at)
     ∙ ap (λ (rs : List Row). run_report (names_of s) (turns_in es) (run_of s wait (turns_in es)).state rs old) kept) in
     record { entries = es; is = is; delivers = subst (λ (r : LiveReport). Delivers r old new out ending) same delivers }
-
--- the keeper's count stands where the rows were kept
-pub kept_cause : (before now : ℕ) (head : List ℕ) (names : List HostPort) (run : Recorded) (out : End) (ending : Ending) → now ≡ before → JournalStands head names run out ending → HasKeepersCause before now ending
-kept_cause before now head names run out (ends.Written refused) same at = record { later = omega (arith, same); written = λ r is. same; unwritten = λ is. absurd cc; failed = λ is. absurd cc; memory = λ is. absurd cc }
-kept_cause before now head names run out ends.Unwritten same at = record { later = omega (arith, same); written = λ r is. absurd cc; unwritten = λ is. inl same; failed = λ is. absurd cc; memory = λ is. absurd cc }
-kept_cause before now head names run out ends.Keeper same at = absurd at
-kept_cause before now head names run out ends.Memory same at = record { later = omega (arith, same); written = λ r is. absurd cc; unwritten = λ is. absurd cc; failed = λ is. absurd cc; memory = λ is. same }

@@ -1,8 +1,7 @@
 -- Places in a list of turns.
-use Rattle.std.proofs.Common.{◌≡◌, ◌∙◌, ℕ, zero, suc, ◌+◌, ◌<◌, ◌≤◌, Bool, true, false, cond, List, [], ◌∷◌, length, get_or, drop, refl, sym, ap, subst, Option, Some, None, add-one, arith}
+use Rattle.std.proofs.Common.{◌≡◌, ◌∙◌, ℕ, zero, suc, ◌+◌, ◌<◌, ◌≤◌, Bool, true, cond, List, [], ◌∷◌, length, get_or, drop, refl, sym, ap, subst, Option, Some, None, add-one, arith}
 use Rattle.std.specs.Prelude.{IfSome, slice_get}
 use Rattle.std.proofs.Math.Seq.{drop-cons}
-use Rattle.std.proofs.lemmas.List.{drop_all}
 use Rattle.std.proofs.lemmas.Option.{slice_get-get_or}
 use Rattle.turns.specs.declared.turn.Turn.{Turn}
 use Rattle.live_desk.specs.Desks.{IsNext}
@@ -12,29 +11,10 @@ use Rattle.live_desk.specs.Entries.{is_of, those_in}
 by-first : (c : Bool) (ts : List Turn) (at : ℕ) (d : Turn) → at < length ts → left_from c ts at ≡ cond (is_of c (get_or ts at d)) (get_or ts at d ∷ left_from c ts (at + 1)) (left_from c ts (at + 1))
 by-first c ts at d within = ap (those_in c) (drop-cons ts at d within ∙ ap (λ k. get_or ts at d ∷ drop k ts) (sym (add-one at)))
 
--- a turn of the other kind is passed over
-pub left-past : (c : Bool) (ts : List Turn) (at : ℕ) (d : Turn) → at < length ts → is_of c (get_or ts at d) ≡ false → left_from c ts (at + 1) ≡ left_from c ts at
-left-past c ts at d within other = sym (by-first c ts at d within ∙ ap (λ b. cond b (get_or ts at d ∷ left_from c ts (at + 1)) (left_from c ts (at + 1))) other)
-
-pub at-here : (c : Bool) (ts : List Turn) (at : ℕ) (d : Turn) → at < length ts → is_of c (get_or ts at d) ≡ true → IsAt c ts at
-at-here c ts at d within this = record {
-  within = omega (arith, within);
-  here = subst (λ (o : Option Turn). IfSome o (λ t. is_of c t ≡ true)) (sym (slice_get-get_or ts at d within)) this;
-}
-
 past : (ts : List Turn) (at : ℕ) → length ts ≤ at → slice_get ts at ≡ None
 past [] at h = refl
 past (t ∷ ts) zero h = absurd (omega (arith, h))
 past (t ∷ ts) (suc at) h = past ts at (omega (arith, h))
-
-pub at-end : (c : Bool) (ts : List Turn) (at : ℕ) → at ≡ length ts → IsAt c ts at
-at-end c ts at end = record {
-  within = omega (arith, end);
-  here = subst (λ (o : Option Turn). IfSome o (λ t. is_of c t ≡ true)) (sym (past ts at (omega (arith, end)))) tt;
-}
-
-pub left-over : (c : Bool) (ts : List Turn) (at : ℕ) → length ts ≤ at → left_from c ts at ≡ []
-left-over c ts at over = ap (those_in c) (drop_all at ts over)
 
 this-at : (c : Bool) (ts : List Turn) (at : ℕ) (d : Turn) → IsAt c ts at → at < length ts → is_of c (get_or ts at d) ≡ true
 this-at c ts at d is within = subst (λ (o : Option Turn). IfSome o (λ t. is_of c t ≡ true)) (slice_get-get_or ts at d within) is.here
@@ -54,10 +34,6 @@ left-next c ts at is within = go (slice_get ts at) refl
         some (u ∷ us) zero h e = cc
         some (u ∷ us) (suc k) h e = some us k (omega (arith, h)) e
     go (Some d) e = sym (ap (drop 1) (left-here c ts at d is within))
-
--- none is taken where none is left
-pub left-end : (c : Bool) (ts : List Turn) (at : ℕ) → length ts ≤ at → left_from c ts at ≡ drop 1 (left_from c ts at)
-left-end c ts at over = left-over c ts at over ∙ sym (ap (drop 1) (left-over c ts at over))
 
 pub next-here : (c : Bool) (ts : List Turn) (at : ℕ) (d : Turn) → IsAt c ts at → at < length ts → IsNext (get_or ts at d) (left_from c ts at)
 next-here c ts at d is within = subst (IsNext (get_or ts at d)) (sym (left-here c ts at d is within)) refl

@@ -485,9 +485,6 @@ FollowAudit-book count rows a c few follow fit range = record {
 -- ---- changes of recoveries
 
 module _ (f : Recovery → Recovery) (same : (r : Recovery) → (f r).id ≡ r.id) (lasts : (r : Recovery) → (f r).block ≡ r.block) (changes : Recovery → Bool) (still : (r : Recovery) → changes r ≡ false → f r ≡ r) where
-  by-id : ℕ → Recovery → Bool
-  by-id id r = r.id == id
-
   found-mapped : (id : ℕ) (xs : List Recovery) → find (λ r. r.id == id) (map f xs) ≡ option_map f (find (λ r. r.id == id) xs)
   found-mapped id [] = refl
   found-mapped id (r ∷ xs) = ap (λ n. if (n == id) then Some (f r) else find (λ x. x.id == id) (map f xs)) (same r) ∙ go (r.id == id) (found-mapped id xs)

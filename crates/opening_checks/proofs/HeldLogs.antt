@@ -1,22 +1,15 @@
 -- The logs of sources as they are kept.
-use Rattle.std.proofs.Common.{◌≡◌, ℕ, List, [], ◌∷◌, ◌⊎◌, inl, inr, length, replicate, sym, ap, ◌∙◌, refl, Option, Some, None, suc, zero}
+use Rattle.std.proofs.Common.{◌≡◌, ℕ, List, [], ◌∷◌, ◌⊎◌, inl, inr, sym, ap, ◌∙◌, refl, Option, Some, None, suc, zero}
 use Rattle.std.specs.Prelude.{slice_get, slice_set}
-use Rattle.std.proofs.lemmas.List.{length-replicate, length-set}
+use Rattle.std.proofs.lemmas.List.{length-set}
 use Rattle.std.proofs.lemmas.Option.{same_Some}
 use Rattle.binlog_coords.specs.Index.{Index}
 use Rattle.openings.specs.declared.init.ServerInit.{ServerInit}
 use Rattle.openings.specs.Servers.{log_at}
-use Rattle.openings.proofs.Members.{get-replicate}
 use Rattle.opening_checks.specs.SourceLogs.{AreLogs}
 
 no_log : (l : Index) → Some l ≡ None → ⊥
 no_log l e = cc
-
-pub AreLogs-none : (servers : List ServerInit) (logs : List (Option Index)) → logs ≡ replicate (length servers) None → AreLogs servers logs
-AreLogs-none servers logs none = record {
-  count = ap length none ∙ length-replicate (length servers) None;
-  each = λ n l at. absurd (no_log l (get-replicate (length servers) None (Some l) n (ap (λ (ls : List (Option Index)). slice_get ls n) (sym none) ∙ at)));
-}
 
 -- an element of a list with one that was put: that one, or an old one
 put_cases : {X : Type 0} (xs : List X) (n : ℕ) (v : X) (j : ℕ) (y : X) → slice_get (slice_set xs n v) j ≡ Some y → ((j ≡ n) × (y ≡ v)) ⊎ (slice_get xs j ≡ Some y)

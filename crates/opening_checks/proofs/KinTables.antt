@@ -1,12 +1,12 @@
 -- The table's meaning, as one more server's history joins it; and the origins' counts.
-use Rattle.std.proofs.Common.{◌≡◌, ℕ, ◌+◌, ◌-◌, ◌<◌, ◌⊎◌, inl, inr, Bool, true, false, List, [], length, replicate, refl, sym, ap, subst, ◌∙◌, Some, None, Option, arith, suc, zero, get_or}
+use Rattle.std.proofs.Common.{◌≡◌, ℕ, ◌+◌, ◌-◌, ◌<◌, ◌⊎◌, inl, inr, Bool, true, false, List, length, refl, sym, ap, subst, ◌∙◌, Some, None, Option, arith, get_or}
 use Rattle.std.specs.Prelude.{◌&&◌, slice_get, nat_le, is_none, is_some, not, All}
 use Rattle.std.specs.List.{list_all}
 use Rattle.std.proofs.lemmas.Bool.{cases_order, false≢true}
 use Rattle.std.proofs.Common.{cond, drop, ◌∷◌}
 use Rattle.openings.specs.Flaws.{first_met, not_kin}
-use Rattle.std.proofs.lemmas.List.{length-replicate, drop_more}
-use Rattle.std.proofs.lemmas.Option.{same_Some, unwrap_or-slice_get, slice_get_within, slice_get-get_or, get_or_from_slice_get}
+use Rattle.std.proofs.lemmas.List.{drop_more}
+use Rattle.std.proofs.lemmas.Option.{same_Some, slice_get_within, slice_get-get_or, get_or_from_slice_get}
 use Rattle.orch_base.specs.declared.server.Txn.{Txn}
 use Rattle.orch_base.specs.declared.server.ServerNo.{ServerNo}
 use Rattle.openings.specs.declared.init.ServerInit.{ServerInit}
@@ -22,29 +22,6 @@ use Rattle.opening_checks.proofs.Kinship.{decides}
 use Rattle.opening_checks.proofs.ListTests.{list_all-same}
 use Rattle.opening_checks.proofs.Numbered.{listed-numbered, take-holds}
 use Rattle.openings.proofs.Sizes.{joined-listed, listed-all}
-
-abbrev no_links : List Link
-no_links = []
-
-pub IsTable-none : (servers : List ServerInit) (rows : List (List Link)) → rows ≡ replicate (length servers) [] → IsTable servers 0 rows
-IsTable-none servers rows e = record {
-  count = ap length e ∙ length-replicate (length servers) [];
-  sound = λ o k x h. absurd (nothing o k x h);
-  complete = λ m less. absurd (omega arith);
-}
-  where
-    empty : (n o : ℕ) → get_or (replicate n no_links) o [] ≡ no_links
-    empty zero o = refl
-    empty (suc n) zero = refl
-    empty (suc n) (suc o) = empty n o
-
-    no_link : (k : ℕ) (x : Link) → slice_get [] k ≡ Some x → ⊥
-    no_link k x h = cc
-
-    nothing : (o k : ℕ) (x : Link) → slice_get (row_at rows o) k ≡ Some x → ⊥
-    nothing o k x h =
-        let row : row_at rows o ≡ no_links = unwrap_or-slice_get rows o [] ∙ ap (λ rs. get_or rs o []) e ∙ empty (length servers) o in
-        no_link k x (sym (ap (λ (r : List Link). slice_get r k) row) ∙ h)
 
 -- a server with a source lists nothing
 pub IsTable-skip : (servers : List ServerInit) (n : ℕ) (rows : List (List Link)) (i : ServerInit) (m : ServerNo) → slice_get servers n ≡ Some i → i.source ≡ Some m → IsTable servers n rows → IsTable servers (n + 1) rows

@@ -34,14 +34,6 @@ points_at-below j least (x ∷ xs) less rises =
     let later : j < x = omega arith in
     points_at-other j x xs (λ e. omega arith) ∙ points_at-below j x xs later parts.1
 
-rises_from-weaker : (least less : ℕ) (xs : List ℕ) → less ≤ least → rises_from least xs ≡ true → rises_from less xs ≡ true
-rises_from-weaker least less [] h rises = refl
-rises_from-weaker least less (x ∷ xs) h rises =
-    let parts = and_parts (nat_le least x) (rises_from x xs) rises in
-    let more = leb-true least x parts.0 in
-    let low : nat_le less x ≡ true = le-leb less x (omega arith) in
-    rw low parts.1
-
 -- a flush before others comes to the same
 flushed_times-after : (n : ℕ) (log : Log) → flushed_times n (flush log) ≡ flush (flushed_times n log)
 flushed_times-after zero log = refl
@@ -60,9 +52,6 @@ pub record Flushes (flushes : List ℕ) (next count at : ℕ) (before now : Log)
   pub rises : rises_from count (drop at flushes) ≡ true
   pub log : flushed_at (drop at flushes) count now ≡ flushed_at (drop next flushes) count before
   pub behind : SameBehind count (drop next flushes) (drop at flushes)
-
-pub Flushes-none : (flushes : List ℕ) (next count : ℕ) (log : Log) → next ≤ length flushes → rises_from count (drop next flushes) ≡ true → Flushes flushes next count next log log
-Flushes-none flushes next count log within rises = record { from = omega arith; within = within; rises = rises; log = refl; behind = record { each = λ j h. refl } }
 
 pub Flushes-more : (flushes : List ℕ) (next count at : ℕ) (before now : Log) → at < length flushes → get_or flushes at 0 ≡ count → Flushes flushes next count at before now
     → Flushes flushes next count (at + 1) before (flush now)
@@ -154,9 +143,6 @@ pub record Lays (flushes : List ℕ) (history : List Txn) (next count : ℕ) (be
   pub within : next ≤ length flushes
   pub rises : rises_from count (drop next flushes) ≡ true
   pub log : laid_after (drop next flushes) count now (drop count history) ≡ laid_after flushes 0 before history
-
-pub Lays-none : (flushes : List ℕ) (history : List Txn) (log : Log) → rises_from 0 flushes ≡ true → Lays flushes history 0 0 log log
-Lays-none flushes history log rises = record { within = omega arith; rises = rises; log = refl }
 
 pub Lays-more : (flushes : List ℕ) (history : List Txn) (next at count : ℕ) (before now flushed : Log) (t : Txn) → drop count history ≡ t ∷ drop (count + 1) history → Lays flushes history next count before now
     → flushed ≡ flushed_at (drop next flushes) count now → SameBehind count (drop next flushes) (drop at flushes) → at ≤ length flushes → rises_from (count + 1) (drop at flushes) ≡ true

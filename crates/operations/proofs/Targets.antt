@@ -41,6 +41,3 @@ can-allowed w (Purge n file) h = absurd (false≢true h)
 
 pub target-can : (w : World) (to : ℕ) (at : Coord) → IsTarget w to at → places_by (server_at w to) at ≡ true
 target-can w to at t = ap (λ o. places_by o at) t.there ∙ both t.target.settings.logs (has_place t.target.log.log at) t.logs t.place
-
-pub auto-target-can : (w : World) (to : ℕ) → IsAutoTarget w to → (w.gtid && logs_by (server_at w to)) ≡ true
-auto-target-can w to t = both w.gtid (logs_by (server_at w to)) t.gtid (ap logs_by t.there ∙ t.logs)

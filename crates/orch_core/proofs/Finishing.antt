@@ -33,7 +33,7 @@ use Rattle.jobs_in_flight.proofs.Numbers.{found-number}
 use Rattle.orch_core.proofs.Others.{closed-others, turned-others}
 use Rattle.orch_core.proofs.Runs.{Ran-nil}
 use Rattle.orch_core.proofs.Turned.{All-found}
-use Rattle.orch_core.specs.Rounds.{Finished, FinishedBy, WasCutShort, after_rounds, after_turns, round_of, times, told_in}
+use Rattle.orch_core.specs.Rounds.{FinishedBy, WasCutShort, after_rounds, after_turns, round_of, times, told_in}
 use Rattle.jobs_in_flight.specs.Rounds.{polls, replicates, round_over}
 use Rattle.orch_core.specs.Nodes.{act_in, with_claims}
 use Rattle.orch_core.specs.After.{after_act, after_done, step}
@@ -286,15 +286,6 @@ module _ {A : Type 0} (m : Machine A) (state : A → State) (steps : (rows : Lis
           let past = ltb-false i k e in
           let same : i ≡ k = omega (arith, h, past) in
           ap (λ (n : ℕ). is_open (after_rounds (state a) job n).jobs job) same ∙ ap (λ (s : State). is_open s.jobs job) (sym rounds.here) ∙ opened
-
-  pub Finished-by : (kept kept' : Option (List Row)) (a b : A) (job k : ℕ) → Rounds m state kept a job kept' b k → is_open (state b).jobs job ≡ false → Finished m state kept a job kept' b
-  Finished-by kept kept' a b job k rounds closed =
-      let left = rounds.left in
-      record {
-        k = k;
-        rounds = record { goes_on = rounds.goes_on; ended = ap (λ (s : State). is_open s.jobs job) (sym rounds.here) ∙ closed; within = omega (arith, left) };
-        ran = rounds.ran;
-      }
 
   pub Finished-others : (kept kept' : Option (List Row)) (a b : A) (job k : ℕ) → Rounds m state kept a job kept' b k → is_open (state b).jobs job ≡ false → (state b).jobs ≡ without_job (state a).jobs job
   Finished-others kept kept' a b job k rounds closed = sym (closed-others (state b).jobs job closed) ∙ rounds.others

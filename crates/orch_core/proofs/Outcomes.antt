@@ -24,8 +24,6 @@ use Rattle.commands.specs.Turns.{has_needed, is_within}
 use Rattle.asking_commands.specs.declared.answers.AnswerFault.TheVariants as fault
 use Rattle.asking_commands.specs.Answers.{allowed, lines_of, permitted, unless_refused}
 use Rattle.audit_log.specs.Audits.{AuditState, IsAudit}
-use Rattle.audit_log.specs.Apart.{IsApart}
-use Rattle.audit_log.proofs.Parting.{acknowledged-apart}
 use Rattle.book_commands.specs.declared.decided.Decided.{Decided}
 use Rattle.book_commands.specs.declared.decided.Effect.{Effect}
 use Rattle.book_commands.specs.declared.decided.Effect.TheVariants as effect
@@ -38,7 +36,7 @@ use Rattle.scenarios.specs.Turns.{IsCommand}
 use Rattle.orch_core.specs.declared.command.Update.{Update}
 use Rattle.orch_core.specs.declared.command.Update.TheVariants as update
 use Rattle.recovery_core.proofs.Beginning.{recovery-begins, recovery-moment, takeover-begins, takeover-moment}
-use Rattle.recovery_core.proofs.InTurn.{apart-after, scan-in-turn, scan-moments}
+use Rattle.recovery_core.proofs.InTurn.{scan-in-turn, scan-moments}
 use Rattle.recovery_core.specs.Begun.{CanBegin}
 use Rattle.recovery_core.specs.Scans.{attempt_of, scanned}
 use Rattle.recovery_core.specs.Tries.{Begins as RecoveryBegins, recovery_try, takeover_try}
@@ -485,17 +483,6 @@ module _ (count : ℕ) (k : Knowledge) where
   entries-updated (update.Decides (effect.Acks cluster)) is next audit entries = entries-acknowledged k.audit cluster k.jobs entries
   entries-updated (update.Begins x) is next audit entries = entries-push k.audit 0 k.jobs x.job next.entry entries
   entries-updated (update.Recovers xs) is next audit entries = joined-entries (length k.book.names) k.book.leases k.audit k.last_job xs k.jobs is audit entries
-
--- it stays apart
-pub apart-updated : (k : Knowledge) (u : Update) → IsUpdate k u → IsApart k.audit → IsApart (updated k u).audit
-apart-updated k update.Stays is apart = apart
-apart-updated k (update.Change c) is apart = apart
-apart-updated k (update.Discovery o) is apart = apart
-apart-updated k (update.Decides effect.Stays) is apart = apart
-apart-updated k (update.Decides (effect.Change c)) is apart = apart
-apart-updated k (update.Decides (effect.Acks cluster)) is apart = acknowledged-apart k.audit cluster apart
-apart-updated k (update.Begins x) is apart = apart
-apart-updated k (update.Recovers xs) is apart = apart-after (length k.book.names) k.book.leases k.audit k.last_job xs is apart
 
 -- the next id stays in its type's range
 pub next-updated : (k : Knowledge) (u : Update) → LeavesIds u → k.audit.next < 2 ^ 64 → (updated k u).audit.next < 2 ^ 64

@@ -41,7 +41,7 @@ use Rattle.unended_jobs.specs.Unended.{IsUnended}
 use Rattle.jobs_in_flight.specs.Jobs.{Rise, stored}
 use Rattle.orch_core.specs.States.{HaveEntries, State, IsSlot, IsState}
 use Rattle.orch_core.proofs.Sources.{KnowsSources, source-at, sources-run}
-use Rattle.orch_core.specs.Polls.{empty_slots, changes_of}
+use Rattle.orch_core.specs.Polls.{empty_slots}
 use Rattle.orch_core.specs.Readings.{reading_by}
 use Rattle.orch_core.specs.After.{after_restart, step as turn_step}
 use Rattle.orch_core.specs.Runs.{engine}
@@ -294,10 +294,6 @@ pub StepsTo-given : (kept : Option (List Row)) (given : List Row) (s now : State
 StepsTo-given None given s now t told is = (given, is)
 StepsTo-given (Some rows) given s now t told is = subst (λ (x : List Row). now ≡ turn_step x s t) told is
 
-pub kept_given : (kept : Option (List Row)) (given : List Row) (s : State) (t : Turn) → IfSome kept (λ rows. given ≡ rows) → kept_if true kept (changes_of given s t) ≡ kept_by engine true kept s t
-kept_given None given s t told = refl
-kept_given (Some rows) given s t told = ap (λ (x : List Row). Some (changed rows (changes_of x s t))) told
-
 pub with_given : (more : List Change) (kept : Option (List Row)) (given : List Row) (s : State) → IfSome kept (λ rows. given ≡ rows) → kept_if true kept (restart_changes given s ++ more) ≡ kept_with more true kept s
 with_given more None given s told = refl
 with_given more (Some rows) given s told = ap (λ (x : List Row). Some (changed rows (restart_changes x s ++ more))) told
@@ -309,22 +305,3 @@ with_none more true (Some rows) s none = ap (λ (xs : List Change). Some (change
 with_none more false kept s none = refl
 
 -- a turn that asks the keeper for nothing
-
-pub StepsTo-any : (kept : Option (List Row)) (s now : State) (t : Turn) → ((rows : List Row) → now ≡ turn_step rows s t) → StepsTo engine kept s t now
-StepsTo-any None s now t is = ([], is [])
-StepsTo-any (Some rows) s now t is = is rows
-
--- no change leaves the kept rows as they are
-pub kept_same : (made : Bool) (kept : Option (List Row)) → kept_if made kept [] ≡ kept
-kept_same true None = refl
-kept_same true (Some rows) = refl
-kept_same false kept = refl
-
-pub kept_unchanged : (made : Bool) (kept : Option (List Row)) (s : State) (t : Turn) → ((rows : List Row) → changes_of rows s t ≡ []) → kept_by engine made kept s t ≡ kept
-kept_unchanged true None s t none = refl
-kept_unchanged true (Some rows) s t none = ap (λ (cs : List Change). Some (changed rows cs)) (none rows)
-kept_unchanged false kept s t none = refl
-
--- the jobs are as they were
-pub IsState-room : (s : State) (jobs : List Unended) → IsState s → jobs ≡ s.jobs → IsState (record s { jobs = jobs })
-IsState-room s jobs is same = subst (λ (xs : List Unended). IsState (record s { jobs = xs })) (sym same) is

@@ -61,10 +61,6 @@ of-have uuid (s ∷ xs) m all = go (of-have uuid xs m (All-tail IsInterval s xs 
         ∙ ap (λ b. (leb s.first m && leb m s.last) || b) rest
     go rest false = rest
 
-or_assoc : (a b c : Bool) → ((a || b) || c) ≡ (a || (b || c))
-or_assoc true b c = refl
-or_assoc false b c = refl
-
 -- a set with more numbers of one UUID
 fold-holds : (uuid : ℕ) (ns : List ℕ) (set : List Interval) (u m : ℕ) → uuid < 2 ^ 128 → IsSet set → All Fits ns
     → holds (fold (λ s n. with_pair uuid n s) set ns) u m ≡ (holds set u m || (eqb u uuid && list_any (λ k. k == m) ns))

@@ -12,10 +12,6 @@ use Rattle.regroup.specs.Ways.{Path, passed_in, path_beside, path_by, path_of, p
 abbrev pub Behind : List ServerNo → Option (List ServerNo) → Option (List ServerNo)
 Behind passed way = option_map (λ rest. passed ++ rest) way
 
-pub behind-nothing : (way : Option (List ServerNo)) → Behind [] way ≡ way
-behind-nothing None = refl
-behind-nothing (Some xs) = refl
-
 append-nothing : (xs : List ServerNo) → xs ++ [] ≡ xs
 append-nothing [] = refl
 append-nothing (x ∷ xs) = ap (λ l. x ∷ l) (append-nothing xs)
@@ -31,9 +27,6 @@ module _ (up : ServerNo → Option ServerNo) (to : ServerNo) where
 
   stepped : (n k : ℕ) (at : ServerNo) (o : Option ServerNo) → n ≡ k + 1 → up at ≡ o → way_in up to n at ≡ way_on (way_in up to k) to o
   stepped n k at o e at_o = way-step n k at e ∙ ap (way_on (way_in up to k) to) at_o
-
-  pub way-ends : (n k : ℕ) (at : ServerNo) (passed : List ServerNo) → n ≡ k + 1 → up at ≡ None → Behind passed (way_in up to n at) ≡ None
-  way-ends n k at passed e at_o = ap (Behind passed) (stepped n k at None e at_o)
 
   come : (passed : List ServerNo) (p : ServerNo) (way : Option (List ServerNo)) (t : Bool) → t ≡ true
       → Behind passed (if t then Some [] else option_map (λ rest. p ∷ rest) way) ≡ Some passed
@@ -53,10 +46,6 @@ module _ (up : ServerNo → Option ServerNo) (to : ServerNo) where
       → Behind (passed ++ p ∷ []) (way_in up to k p) ≡ Behind passed (way_in up to n at)
   way-goes n k at p passed e at_p other =
       on passed p (way_in up to k p) (p.0 == to.0) (λ h. other (eqb-true p.0 to.0 h)) ∙ sym (ap (Behind passed) (stepped n k at (Some p) e at_p))
-
-  pub way-spent : (n : ℕ) (at : ServerNo) (passed : List ServerNo) → n ≡ 0 → Behind passed (way_in up to n at) ≡ None
-  way-spent zero at passed e = refl
-  way-spent (suc n) at passed e = absurd (omega (arith, e))
 
 -- ---- what a path passes
 

@@ -21,9 +21,6 @@ both : (a b : Bool) → (a && b) ≡ true → (a ≡ true) × (b ≡ true)
 both true b e = (refl, e)
 both false b e = absurd (false≢true e)
 
-and_true : (a b : Bool) → a ≡ true → b ≡ true → (a && b) ≡ true
-and_true a b e f = rw (e, f) refl
-
 interval_told : (s : Interval) → is_interval s ≡ true → IsInterval s
 interval_told s e =
     let a = both ((ltb s.uuid (2 ^ 128) && leb 1 s.first) && leb s.first s.last) (leb s.last largest) e in

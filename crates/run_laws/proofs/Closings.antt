@@ -83,10 +83,6 @@ module _ (now : Moment) (id : ℕ) (e : Ending) where
   ended-map a true = ap (λ (xs : List Recovery). record a { recoveries = xs }) (all-both a.recoveries)
   ended-map a false = refl
 
-  pub ended-next : (a : AuditState) (acked : Bool) → (ended_with a now id e acked).next ≡ a.next
-  ended-next a true = refl
-  ended-next a false = refl
-
   as-id : (acked : Bool) (r : Recovery) → (ended_as now e acked r).id ≡ r.id
   as-id true r = refl
   as-id false r = refl

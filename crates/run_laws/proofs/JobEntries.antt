@@ -87,10 +87,6 @@ abbrev Rising : ℕ → List ℕ → Type 0
 Rising low [] = Unit {0}
 Rising low (x ∷ xs) = (low < x) × Rising x xs
 
-rising-from : (low low' : ℕ) (xs : List ℕ) → low' ≤ low → Rising low xs → Rising low' xs
-rising-from low low' [] le h = tt
-rising-from low low' (x ∷ xs) le h = let above = h.0 in (omega (arith, above, le), h.1)
-
 -- all but this one
 abbrev others : ℕ → List ℕ → List ℕ
 others e xs = filter (λ n. not (n == e)) xs
@@ -144,10 +140,6 @@ open-acknowledged a cluster = ids-mapped (acknowledged_for cluster) (λ r. id r 
 
 -- an entry ends
 module _ (now : Moment) (e : ℕ) (o : Ending) (closes : is_open o ≡ false) (acked : Bool) where
-  as-id : (b : Bool) (r : Recovery) → (ended_as now o b r).id ≡ r.id
-  as-id true r = refl
-  as-id false r = refl
-
   as-ended : (b : Bool) (r : Recovery) → is_unended (ended_as now o b r) ≡ false
   as-ended true r = closes
   as-ended false r = closes

@@ -88,10 +88,6 @@ job-sees count s id u ready at x is =
     let sees = flown-sees s.world s.book (next_count s.reads) (record { 0 = s.moment }) u x (subst (λ (n : ℕ). IsReady n u) (sym ready.servers) here) is in
     (sees.0, sees.1)
 
-names-turned : (b : BookState) (o : Option Observation) (id : ℕ) (going : Bool) → (if going then stored b o else without_leases (stored b o) id).names ≡ b.names
-names-turned b o id true = names-stored b o
-names-turned b o id false = names-stored b o
-
 module _ (count : ℕ) (s : State) (id : ℕ) (ready : Ready count s) where
   Ready-by : (t : Flown) (going : Bool) → AllAllowed s.world t.exchanges → (going ≡ true → IsReady count t.next) → IsBook (stored s.book t.observation) → (audit : AuditState) (reads : ℕ)
       → Ready count (record s {

@@ -6,7 +6,7 @@ use Rattle.std.proofs.lemmas.List.{drop_all}
 use Rattle.serde_json.specs.Data.{Data}
 use Rattle.serde_json.specs.Written.{comma_if, compact_text, items_text}
 use Rattle.server_model.proofs.Lists.{slice_get-drop}
-use Rattle.scenario_dump.specs.Texts.{count_data, items_of, list_data}
+use Rattle.scenario_dump.specs.Texts.{count_data, items_of}
 
 some_behind : (n : ℕ) → nat_lt 0 (n + 1) ≡ true
 some_behind n = grind (arith, common_steps)
@@ -15,9 +15,6 @@ regroup : (out a b c : List ℕ) → (out ++ (a ++ b)) ++ c ≡ out ++ (a ++ (b 
 regroup out a b c = simp append_assoc
 
 -- ---- lists
-
-pub list_begins : {A : Type 0} (f : A → Data) (xs : List A) (old new : List ℕ) → new ≡ old ++ 91 ∷ [] → new ++ items_text (nat_lt 0 0) (items_of f (drop 0 xs)) ≡ old ++ compact_text (list_data f xs)
-list_begins f xs old new e = ap (λ (v : List ℕ). v ++ items_text false (items_of f xs)) e ∙ append_assoc old (91 ∷ []) (items_text false (items_of f xs))
 
 pub list_goes_on : {A : Type 0} (f : A → Data) (xs : List A) (n : ℕ) (x : A) (out new text whole : List ℕ) → slice_get xs n ≡ Some x → compact_text (f x) ≡ text → new ≡ out ++ (comma_if (nat_lt 0 n) ++ text)
     → out ++ items_text (nat_lt 0 n) (items_of f (drop n xs)) ≡ whole → new ++ items_text (nat_lt 0 (n + 1)) (items_of f (drop (n + 1) xs)) ≡ whole

@@ -11,7 +11,6 @@ use Rattle.binlog_coords.specs.Text.{coord_text}
 use Rattle.orch_base.specs.Names.{printed}
 use Rattle.orch_base.specs.declared.server.ServerNo.{ServerNo}
 use Rattle.orch_base.specs.declared.server.Settings.{Settings}
-use Rattle.orch_base.specs.declared.server.SourceState.{SourceState}
 use Rattle.orch_base.specs.declared.server.SourceState.TheVariants.{Without}
 use Rattle.server_words.specs.declared.plain.Plain.{Plain}
 use Rattle.server_model.specs.declared.server.Server.{Server}
@@ -130,7 +129,3 @@ init_there w n s there = slice_get-map init_of w.servers n ∙ ap (option_map in
 pub inits_count : (w : World) → length (opening_of w).servers ≡ length w.servers
 unfolding opening_of
 inits_count w = simp length-map
-
--- what its source is, where its tables tell it
-pub source_of_plain : {A : Type 0} (w : World) (n : ℕ) (s : Server) (p : Plain) (f : SourceState → A) → server_at w n ≡ Some s → option_map plain_of (server_at w n) ≡ Some p → option_map (λ s. f s.source) (server_at w n) ≡ Some (f p.source)
-source_of_plain w n s p f there plain = ap (option_map (λ s. f s.source)) there ∙ ap (λ x. Some (f x.source)) (sym (told w n s plain_of p there plain))

@@ -274,7 +274,3 @@ read_given gtid d given e =
     let servers = bind-ok (each_from (server_in gtid (listed_names listed.0) (listed_uuids 0 listed.0)) 0 listed.0) _ given listed.2 in
     let is : (listed_names listed.0, servers.0) ≡ given = same_Ok (listed_names listed.0, servers.0) given servers.2 in
     subst (λ (p : List (Option HostPort) × List Given). IsGiven gtid (inits_of p.1)) is (all-given gtid listed.0 servers.0 servers.1 low high)
-
--- the same of the servers with their defaults
-pub read_inits : (gtid : Bool) (d : Data) (names : List (Option HostPort)) (given : List Given) (inits : List ServerInit) → servers_in gtid d ≡ Ok (names, given) → inits ≡ inits_of given → IsGiven gtid inits
-read_inits gtid d names given inits read is = subst (IsGiven gtid) (sym is) (read_given gtid d (names, given) read)

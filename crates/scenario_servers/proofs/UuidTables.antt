@@ -1,10 +1,9 @@
 -- The table of the first server of each UUID, as UUIDs are listed one after the other.
-use Rattle.std.proofs.Common.{◌≡◌, ℕ, zero, suc, ◌+◌, ◌<◌, Bool, true, false, cond, List, [], ◌∷◌, ◌++◌, length, take, get_or, nat_lt, Option, Some, None, refl, sym, ap, ◌∙◌, subst, add-zero, zero-add, arith}
+use Rattle.std.proofs.Common.{◌≡◌, ℕ, zero, suc, ◌+◌, ◌<◌, Bool, true, false, cond, List, [], ◌∷◌, ◌++◌, length, take, get_or, nat_lt, Option, Some, None, refl, sym, ap, ◌∙◌, add-zero, zero-add, arith}
 use Rattle.std.specs.Prelude.{◌==◌, ◌||◌, codes, if◌then◌else◌, is_some}
 use Rattle.std.specs.List.{list_any}
-use Rattle.std.specs.BTreeMap.{BTreeMap, Updates, get}
+use Rattle.std.specs.BTreeMap.{BTreeMap}
 use Rattle.std.specs.Option.{option_or}
-use Rattle.std.specs.Ordering.{is_eq, nat_cmp}
 use Rattle.std.proofs.lemmas.Bool.Decides.{nat_tests}
 use Rattle.std.proofs.lemmas.List.{length_push}
 use Rattle.scenario_json.specs.declared.value.Value.{Value}
@@ -16,43 +15,12 @@ use Rattle.scenario_servers.proofs.UuidLists.{IsUuidsTo, next_uuid}
 
 -- ---- one more UUID
 
-same-tests : (u uuid : ℕ) → is_eq (nat_cmp u uuid) ≡ (u == uuid)
-same-tests u uuid = grind (arith, nat_tests)
-
-or_none : {X : Type 0} (o : Option X) → option_or o None ≡ o
-or_none None = refl
-or_none (Some x) = refl
-
 absent : {X : Type 0} (o : Option X) → is_some o ≡ false → o ≡ None
 absent None e = refl
 absent (Some x) e = absurd (cc)
 
 same : (u uuid : ℕ) → (u == uuid) ≡ true → u ≡ uuid
 same u uuid e = grind (arith, nat_tests)
-
-added_at : (old : BTreeMap ℕ ℕ) (added uuid number : ℕ) (b : Bool) → (added == uuid) ≡ b → is_some (get nat_cmp old added) ≡ false
-    → cond b (Some number) (get nat_cmp old uuid) ≡ option_or (get nat_cmp old uuid) (cond b (Some number) None)
-added_at old added uuid number true e none =
-    let here : get nat_cmp old uuid ≡ None = subst (λ (n : ℕ). get nat_cmp old n ≡ None) (same added uuid e) (absent (get nat_cmp old added) none) in
-    rw here refl
-added_at old added uuid number false e none = sym (or_none (get nat_cmp old uuid))
-
-pub adds_uuid : (old new : BTreeMap ℕ ℕ) (added number : ℕ) → is_some (get nat_cmp old added) ≡ false → Updates nat_cmp old new added (Some number) → AddsUuid old new (Some added) number
-adds_uuid old new added number none updates = record { found = λ uuid. updates.0 uuid ∙ rw (same-tests added uuid) (added_at old added uuid number (added == uuid) refl none) }
-
-pub adds_none : (old new : BTreeMap ℕ ℕ) (number : ℕ) → new ≡ old → AddsUuid old new None number
-adds_none old new number e = record { found = λ uuid. ap (λ m. get nat_cmp m uuid) e ∙ sym (or_none (get nat_cmp old uuid)) }
-
-pub adds_known : (old new : BTreeMap ℕ ℕ) (added number : ℕ) → is_some (get nat_cmp old added) ≡ true → new ≡ old → AddsUuid old new (Some added) number
-adds_known old new added number there e = record { found = λ uuid. ap (λ m. get nat_cmp m uuid) e ∙ kept uuid (added == uuid) refl }
-  where
-    first : {X : Type 0} (o p : Option X) → is_some o ≡ true → o ≡ option_or o p
-    first None p h = absurd (cc)
-    first (Some x) p h = refl
-
-    kept : (uuid : ℕ) (b : Bool) → (added == uuid) ≡ b → get nat_cmp old uuid ≡ option_or (get nat_cmp old uuid) (cond b (Some number) None)
-    kept uuid true e = first (get nat_cmp old uuid) (Some number) (subst (λ (n : ℕ). is_some (get nat_cmp old n) ≡ true) (same added uuid e) there)
-    kept uuid false e = sym (or_none (get nat_cmp old uuid))
 
 -- ---- the list
 

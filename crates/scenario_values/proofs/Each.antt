@@ -1,12 +1,11 @@
 -- Reading the items of a list, or the members of an object, one after the other, as a loop does.
-use Rattle.std.proofs.Common.{◌≡◌, ℕ, suc, Some, None, ◌+◌, ◌<◌, List, [], ◌∷◌, ◌++◌, length, get_or, drop, Option, MatchOption, Result, Ok, Err, Bor, refl, sym, ap, ◌∙◌, append_assoc, add-one, drop-cons}
-use Rattle.std.specs.Prelude.{⊤}
+use Rattle.std.proofs.Common.{◌≡◌, ℕ, suc, ◌+◌, ◌<◌, List, [], ◌∷◌, ◌++◌, length, get_or, drop, Result, Ok, Err, Bor, refl, sym, ap, ◌∙◌, append_assoc, add-one, drop-cons}
 use Rattle.serde_json.specs.Data.{Data}
 use Rattle.scenario_json.specs.declared.value.Value.{Value}
 use Rattle.scenario_json.specs.View.{view, items_view, members_view}
 use Rattle.orch_base.specs.Gives.{◌>>=◌}
 use Rattle.scenario_values.specs.declared.fault.Fault.{Fault}
-use Rattle.scenario_values.specs.Faults.{under, under_item, each_from, each_member, item_count}
+use Rattle.scenario_values.specs.Faults.{under_item, each_from, each_member, item_count}
 
 pub item_count_view : (vs : List Value) → item_count (items_view vs) ≡ length vs
 item_count_view [] = refl
@@ -35,14 +34,6 @@ next_read read vs at v x front lt here ok so_far =
     rw (rest, ok) (regroup front x (each_from read (at + 1) (items_view (drop (at + 1) vs)))) in
     sym one ∙ so_far
 
-pub fails_read : {A : Type 0} (read : ℕ → Data → Result A Fault) (vs : List Value) (at : ℕ) (v : Value) (front : List A) (o : Option Fault) → at < length vs → v ≡ get_or vs at v → MatchOption o ⊤ (λ f. under_item at (read at (view v)) ≡ Err f)
-    → IsReadTo read vs at front → MatchOption o ⊤ (λ f. each_from read 0 (items_view vs) ≡ Err f)
-fails_read read vs at v front None lt here failed so_far = tt
-fails_read read vs at v front (Some f) lt here failed so_far =
-    let rest : drop at vs ≡ v ∷ drop (at + 1) vs = rest_at vs at v lt here in
-    let one : with_front front (each_from read at (items_view (drop at vs))) ≡ Err f = rw (rest, failed) refl in
-    sym so_far ∙ one
-
 -- ---- members
 
 abbrev pub Entry : Type 0
@@ -51,22 +42,3 @@ Entry = Bor (List ℕ) × Value
 -- the members before `at` were read as `front`
 abbrev pub AreReadTo : {A : Type 0} → (List ℕ → Data → Result A Fault) → List Entry → ℕ → List A → Type 0
 AreReadTo read ms at front = with_front front (each_member read (members_view (drop at ms))) ≡ each_member read (members_view ms)
-
-member_at : (ms : List Entry) (at : ℕ) (m : Entry) → at < length ms → m ≡ get_or ms at m → drop at ms ≡ m ∷ drop (at + 1) ms
-member_at ms at m lt here = rw add-one (drop-cons ms at m lt ∙ ap (λ (e : Entry). e ∷ drop (suc at) ms) (sym here))
-
-pub next_member : {A : Type 0} (read : List ℕ → Data → Result A Fault) (ms : List Entry) (at : ℕ) (m : Entry) (x : A) (front : List A) → at < length ms → m ≡ get_or ms at m → under m.0.now (read m.0.now (view m.1)) ≡ Ok x
-    → AreReadTo read ms at front → AreReadTo read ms (at + 1) (front ++ x ∷ [])
-next_member read ms at m x front lt here ok so_far =
-    let rest : drop at ms ≡ m ∷ drop (at + 1) ms = member_at ms at m lt here in
-    let one : with_front front (each_member read (members_view (drop at ms))) ≡ with_front (front ++ x ∷ []) (each_member read (members_view (drop (at + 1) ms))) =
-    rw (rest, ok) (regroup front x (each_member read (members_view (drop (at + 1) ms)))) in
-    sym one ∙ so_far
-
-pub fails_member : {A : Type 0} (read : List ℕ → Data → Result A Fault) (ms : List Entry) (at : ℕ) (m : Entry) (front : List A) (o : Option Fault) → at < length ms → m ≡ get_or ms at m
-    → MatchOption o ⊤ (λ f. under m.0.now (read m.0.now (view m.1)) ≡ Err f) → AreReadTo read ms at front → MatchOption o ⊤ (λ f. each_member read (members_view ms) ≡ Err f)
-fails_member read ms at m front None lt here failed so_far = tt
-fails_member read ms at m front (Some f) lt here failed so_far =
-    let rest : drop at ms ≡ m ∷ drop (at + 1) ms = member_at ms at m lt here in
-    let one : with_front front (each_member read (members_view (drop at ms))) ≡ Err f = rw (rest, failed) refl in
-    sym so_far ∙ one

@@ -34,10 +34,6 @@ is_gtid uuid u n t = (u == uuid t.origin.0) && (n == t.seq)
 Rises-one : (uuid n : ℕ) → Rises (single uuid n)
 Rises-one uuid n = omega arith
 
-pub Rises-fold : (uuid : ℕ → ℕ) (txns : List Txn) (set : List Interval) → All Rises set → All Rises (fold (with_gtid uuid) set txns)
-Rises-fold uuid [] set r = r
-Rises-fold uuid (t ∷ ts) set r = Rises-fold uuid ts (with_gtid uuid set t) (Rises-inserted set (single (uuid t.origin.0) t.seq) (Rises-one (uuid t.origin.0) t.seq) r)
-
 or_assoc : (a b c : Bool) → ((a || b) || c) ≡ (a || (b || c))
 or_assoc true b c = refl
 or_assoc false b c = refl

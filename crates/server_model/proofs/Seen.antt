@@ -1,30 +1,12 @@
 -- What is seen of a server.
-use Rattle.std.proofs.Common.{◌≡◌, ℕ, Bool, true, false, cond, List, refl, sym, ◌∙◌, ap, subst, Option, Some, None, Ok, Err}
+use Rattle.std.proofs.Common.{◌≡◌, ℕ, Bool, List, sym, ◌∙◌, ap, subst, Option, Some}
 use Rattle.std.specs.Prelude.{option_map}
-use Rattle.std.proofs.lemmas.Bool.{false≢true}
-use Rattle.std.proofs.lemmas.Option.{same_Some}
 use Rattle.gtid_sets.specs.Reserved.{Reserved}
 use Rattle.gtid_sets.specs.declared.interval.Interval.{Interval}
-use Rattle.server_model.specs.Desk.{can_reach}
-use Rattle.server_model.specs.Gtids.{uuids_in, purged_txns, seen_set, seen_purged, source_at, shown, shown_of, status, status_of, status_in, IsSetOf}
+use Rattle.server_model.specs.Gtids.{uuids_in, purged_txns, seen_set, seen_purged, source_at, shown, shown_of, status_of, IsSetOf}
 use Rattle.server_model.specs.Worlds.{World, server_at}
 use Rattle.server_model.specs.declared.server.Server.{Server}
 use Rattle.server_words.specs.declared.status.Status.{Status}
-use Rattle.server_words.specs.declared.status.StatusFault.TheVariants as seeing
-
-pub status-unreached : (w : World) (n : ℕ) → can_reach (server_at w n) ≡ false → status w n ≡ Err seeing.Unreachable
-status-unreached w n off = go (server_at w n) off
-  where
-    go : (o : Option Server) → can_reach o ≡ false → status_in w o ≡ Err seeing.Unreachable
-    go None h = refl
-    go (Some s) h = ap (λ b. cond b (Ok (shown_of w s)) (Err seeing.Unreachable)) h
-
-pub status-reached : (w : World) (n : ℕ) (x : Status) → can_reach (server_at w n) ≡ true → shown w n ≡ Some x → status w n ≡ Ok x
-status-reached w n x on shows = go (server_at w n) on shows
-  where
-    go : (o : Option Server) → can_reach o ≡ true → option_map (shown_of w) o ≡ Some x → status_in w o ≡ Ok x
-    go None h e = absurd (false≢true h)
-    go (Some s) h e = ap (λ b. cond b (Ok (shown_of w s)) (Err seeing.Unreachable)) h ∙ ap Ok (same_Some (shown_of w s) x e)
 
 pub shown-is : (w : World) (n : ℕ) (s : Server) (o : Option Server) (set purged : List Interval) (x : Status) → server_at w n ≡ Some s
     → o ≡ source_at w s → set ≡ seen_set w s → purged ≡ seen_purged w s → x ≡ status_of s o set purged → shown w n ≡ Some x

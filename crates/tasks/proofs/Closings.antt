@@ -25,7 +25,6 @@ use Rattle.orch_core.specs.After.{step as turn_step}
 use Rattle.orch_core.specs.Runs.{Held, engine, LeadsTo, Recorded, held_run, held_step, record_turn, recorder, run_turns, turns_of}
 use Rattle.orch_core.specs.States.{State}
 use Rattle.orch_core.proofs.Finishing.{AsksNever, AsksNothing, asks-round, step-any}
-use Rattle.orch_core.proofs.Runs.{Ran-nil}
 use Rattle.tasks.specs.Closing.{begun_by, closing_by, rounds_of, rounds_while}
 use Rattle.tasks.specs.Progress.{ClosesEach, GivesUpEach, GivesUpOn, Point}
 use Rattle.tasks.specs.Report.{is_commands, last_reply, or_reply}
@@ -71,10 +70,6 @@ unfolding rounds_of
 rounds_begin s job k goes_on within = while_begins (round_of s job) job s (most_turns s.jobs job) k goes_on within
 
 -- ---- the last reply of a journal
-
-last-quiet : (xs ys : List (Turn × Reply)) → last_reply ys ≡ None → last_reply (xs ++ ys) ≡ last_reply xs
-last-quiet [] ys h = h
-last-quiet (x ∷ xs) ys h = ap (λ (o : Option Reply). or_reply o x) (last-quiet xs ys h)
 
 pub last-told : (xs ys : List (Turn × Reply)) (r : Reply) → last_reply ys ≡ Some r → last_reply (xs ++ ys) ≡ Some r
 last-told [] ys r h = h
@@ -152,15 +147,6 @@ asks-times zero ts none = All-nil AsksNever
 asks-times (suc k) ts none = All-append AsksNever ts (times k ts) none (asks-times k ts none)
 
 -- ---- what is left of a single command
-
--- no job was begun
-pub nothing_left : (from : Point) (reply : Reply) → begun_by reply ≡ None → ClosesEach from reply from reply
-nothing_left from reply none = λ mid at last. record {
-  run = mid;
-  ran = subst (λ (o : Option ℕ). Ran recorder from.kept mid (closing_by o mid.state) from.kept mid) (sym none) (Ran-nil recorder from.kept mid);
-  state = at;
-  last = last;
-}
 
 module _ (from : Point) (reply : Reply) (job : ℕ) (begun : begun_by reply ≡ Some job) where
   rounds_behind : (mid : Recorded) → mid.state ≡ from.state → closing_by (begun_by reply) mid.state ≡ rounds_of from.state job

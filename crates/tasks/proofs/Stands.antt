@@ -25,7 +25,7 @@ use Rattle.tasks.specs.declared.ending.Ending.{Ending}
 use Rattle.tasks.specs.declared.ending.Ending.TheVariants as ends
 use Rattle.tasks.specs.declared.progress.Progress.{Progress}
 use Rattle.tasks.specs.Endings.{Course, IsOn, IsWhole, Stands, Tells, WasCut}
-use Rattle.tasks.specs.Progress.{Answers, EndsCut, EndsWhole, Follows, GaveUp, Gives, GivesUp, Leads, Point, Stops, StopsBehind, StopsBefore, StopsIn, Tallies, course_from, point}
+use Rattle.tasks.specs.Progress.{Answers, EndsCut, EndsWhole, Follows, GaveUp, Gives, GivesUp, Leads, Point, Stops, StopsBefore, StopsIn, Tallies, course_from, point}
 use Rattle.tasks.specs.Report.{Answer, answer_of, asked_answer, cut_text, dump_of, own_answer, replies_text, summary_of, tables_of, told_answer}
 use Rattle.tasks.specs.Singles.{Writes}
 use Rattle.tasks.specs.Sinks.{End, FailsIn, Taken, Takes, TakesFront, between}
@@ -110,21 +110,9 @@ module _ (c : Task) (names : List HostPort) (scenario : Scenario) (ts : List Tur
   }
   cut_stands ends.Memory stops told = absurd told
 
-  -- memory ran out
-  pub wanting_stands : StopsBehind names from ts to (between start new) → Stands course (between start new) (between err err) ends.Memory
-  wanting_stands stops = record {
-    run = stops.run;
-    on = inl (record { k = stops.k; within = stops.within; comes = stops.ran });
-    on_err = takes_nothing err.bytes;
-    on_out = subst (λ (v : List ℕ). TakesFront (between start new) v) (sym (left_text stops.run)) stops.front;
-  }
-
 -- why a run's turns weren't all taken
 pub gave_keeper : (names : List HostPort) (from to : Point) (ts : List Turn) (e : End) (p : Progress) (why : TurnFault) → why ≡ fault.Keeper → GaveUp names from ts to e p why → StopsBefore names from ts to e p
 gave_keeper names from to ts e p why is gave = subst (GaveUp names from ts to e p) is gave
-
-pub gave_memory : (names : List HostPort) (from to : Point) (ts : List Turn) (e : End) (p : Progress) (why : TurnFault) → why ≡ fault.Memory → GaveUp names from ts to e p why → StopsBehind names from ts to e
-gave_memory names from to ts e p why is gave = subst (GaveUp names from ts to e p) is gave
 
 -- ---- single commands
 

@@ -241,9 +241,6 @@ trim-apply c w n trim (Some r) at (applying.Execute t to) is =
 
 -- ---- what is asked of a server, and what befalls it
 
-same-source : (source other : SourceState) → source ≡ other → (c : Clusters) (n : ℕ) → ((m : ℕ) → source_no source ≡ Some m → c m ≡ c n) → (m : ℕ) → source_no other ≡ Some m → c m ≡ c n
-same-source source other is c n old m h = old m (ap source_no is ∙ h)
-
 module _ (c : Clusters) (gtid : Bool) (n : ℕ) (s : Server) (old : ReplicatesOf c gtid n s) where
   asked-stopped : (which : Threads) → ReplicatesOf c gtid n (stopped which s)
   asked-stopped threads.Both = record {

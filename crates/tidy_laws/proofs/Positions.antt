@@ -9,7 +9,7 @@ use Rattle.std.proofs.lemmas.List.Elements.{All-nil, All-head, All-tail, All-pus
 use Rattle.std.proofs.lemmas.Option.{get_or_from_slice_get, slice_get_within}
 use Rattle.binlog_coords.specs.declared.Coord.{Coord}
 use Rattle.binlog_coords.specs.declared.Entry.{Entry}
-use Rattle.binlog_coords.specs.Log.{Log, appended, end_coord, end_of, entry_at_end, flush, has_place, is_file_start, push, same_coord, start_coord, touches}
+use Rattle.binlog_coords.specs.Log.{Log, appended, end_coord, entry_at_end, flush, has_place, is_file_start, push, same_coord, start_coord, touches}
 use Rattle.binlog_coords.proofs.Places.{same_coord-true}
 use Rattle.openings.proofs.Members.{get-push_new}
 use Rattle.orch_base.specs.declared.server.Txn.{Txn}
@@ -104,9 +104,6 @@ lies-laid history log (Flushed history' before l) all = lies-flush (reach histor
 -- ---- printing
 
 module _ (bound : ℕ) (log : Log) (l : Lies bound log) (few : log.files ≤ 8000001) (low : bound ≤ 4000000000004) where
-  written-start : (file : ℕ) → 1 ≤ file → file ≤ log.files → (c : Coord) → c.pos ≡ 4 → c.file ≡ file → IsWritten c
-  written-start file least most c at of = record { file = omega arith; files = omega arith; start = omega arith; pos = omega arith }
-
   written-touched : (c : Coord) (es : List Entry) → All (LiesIn bound log.files) es → list_any (touches c) es ≡ true → IsWritten c
   written-touched c [] all h = absurd (false≢true h)
   written-touched c (e ∷ es) all h =
@@ -146,8 +143,3 @@ module _ (bound : ℕ) (log : Log) (l : Lies bound log) (few : log.files ≤ 800
           le-from : (a b : ℕ) → nat_le a b ≡ true → a ≤ b
           le-from a b h = grind (arith, nat_tests)
       go false is h = written-touched c log.entries l.entries h
-
-  pub written-end : IsWritten (end_of log)
-  written-end =
-      let a = l.files in let b = l.start in let d = l.end in
-      record { file = a; files = omega arith; start = b; pos = omega arith }

@@ -3,7 +3,7 @@ use Rattle.std.proofs.Common.{◌≡◌, ℕ, ◌+◌, ◌*◌, ◌≤◌, lengt
 use Rattle.std.proofs.lemmas.List.Elements.{All-weaker}
 use Rattle.std.proofs.lemmas.Option.{same_Some}
 use Rattle.binlog_coords.specs.declared.Coord.{Coord}
-use Rattle.binlog_coords.specs.Log.{end_of, file_start, has_place}
+use Rattle.binlog_coords.specs.Log.{file_start, has_place}
 use Rattle.binlog_coords.proofs.Places.{place-parts}
 use Rattle.orch_base.specs.declared.server.SourceState.{SourceState}
 use Rattle.orch_base.specs.declared.server.SourceState.TheVariants.{Without, Attached, Detached}
@@ -16,7 +16,7 @@ use Rattle.scenario_dump.specs.Tidy.{IsTidy}
 use Rattle.scenario_dump.specs.Tidy.{IsOf, IsTidyServer, IsWritten}
 use Rattle.tidy_laws.specs.Clusters.{Clusters, cluster_in}
 use Rattle.tidy_laws.specs.Trim.{HasOwnOf, IsTrim}
-use Rattle.tidy_laws.proofs.Positions.{Lies, lies-laid, written-end, written-placed}
+use Rattle.tidy_laws.proofs.Positions.{Lies, lies-laid, written-placed}
 
 -- the first position of a log
 pub written-first : (c : Coord) → c ≡ file_start 1 → IsWritten c
@@ -42,10 +42,6 @@ module _ (c : Clusters) (w : World) (placed : Placed w) (trim : IsTrim c w) wher
   pub written-at : (n : ℕ) (s : Server) (to : Coord) → server_at w n ≡ Some s → s.settings.logs ≡ true → has_place s.log.log to ≡ true → IsWritten to
   written-at n s to at logs h =
       written-placed (4 + 1000000 * length s.history.txns) s.log.log (lies-at n s at logs) (few-files n s at) (low-positions n s at) to h
-
-  pub written-own : (n : ℕ) (s : Server) → server_at w n ≡ Some s → s.settings.logs ≡ true → IsWritten (end_of s.log.log)
-  written-own n s at logs =
-      written-end (4 + 1000000 * length s.history.txns) s.log.log (lies-at n s at logs) (few-files n s at) (low-positions n s at)
 
   -- what has a place in the log of a server can be printed
   pub written-target : (n : ℕ) (to : Coord) → IsTarget w n to → IsWritten to

@@ -374,14 +374,3 @@ bad_words words u is h = rw is at h
 
 pub not_asked : (words : List (List ℕ)) (d : Drawing) → places_of words ≡ Err usage.BadWords → AskToDraw words d → ⊥
 not_asked words d bad ask = not_both (places_of words) ask.0 usage.BadWords ask.1 bad
-
-pub untaken_faults : (words : List (List ℕ)) (bytes : List ℕ) → places_of words ≡ Err usage.BadWords → FaultsAs (places_of words) (scenario_in bytes) 1
-untaken_faults words bytes bad = subst (λ (r : Result Places Usage). FaultsAs r (scenario_in bytes) 1) (sym bad) (λ two. absurd (omega (arith, two)))
-
-pub wanting_faults : (r : Result Places Usage) (bytes : List ℕ) → FaultsAs r (scenario_in bytes) 6
-wanting_faults (Ok p) bytes = go (drawing_of p)
-  where
-    go : (o : Option Drawing) → FaultsFor o (scenario_in bytes) 6
-    go None = record { only = λ two. absurd (omega (arith, two)); always = λ f fault_as. inr (inr refl) }
-    go (Some d) = λ two. absurd (omega (arith, two))
-wanting_faults (Err u) bytes = λ two. absurd (omega (arith, two))

@@ -17,15 +17,6 @@ pub record Marking (up : ℕ → Option ℕ) (before looped : List Bool) (node a
   pub reached : (node ≡ at) ⊎ IsMarked looped node
   pub back : ComesBack up at
 
-pub Marking-begin : (up : ℕ → Option ℕ) (looped : List Bool) (node : ℕ) → MarksLoops up looped → ComesBack up node → Marking up looped looped node node
-Marking-begin up looped node marks back = record {
-  sound = marks.sound;
-  kept = λ n h. h;
-  closed = λ n m h e. inl (marks.closed n m h e);
-  reached = inl refl;
-  back = back;
-}
-
 marked-set : (looped : List Bool) (at n : ℕ) → at < length looped → IsMarked looped n → IsMarked (set looped at true) n
 marked-set looped at n lt h =
     elim (cases_eq n at) [
@@ -58,16 +49,6 @@ Marking-step up before looped node at next lt marking follows back = record {
   ];
   back = back;
 }
-
-pub Marking-end : (up : ℕ → Option ℕ) (before looped : List Bool) (node at : ℕ) → Marking up before looped node at → IsMarked looped at → MarksLoops up looped
-Marking-end up before looped node at marking met = record {
-  sound = marking.sound;
-  closed = λ n m h e. elim (marking.closed n m h e) [ inl there ↦ there | inr here ↦ subst (λ (y : ℕ). IsMarked looped y) (sym here) met ];
-}
-
-pub Marking-node : (up : ℕ → Option ℕ) (before looped : List Bool) (node at : ℕ) → Marking up before looped node at → IsMarked looped at → IsMarked looped node
-Marking-node up before looped node at marking met =
-    elim marking.reached [ inl same ↦ subst (λ (y : ℕ). IsMarked looped y) (sym same) met | inr there ↦ there ]
 
 -- before the first step
 pub Walked-begin : (sources : List (Option ℕ)) (walks : List ℕ) (start : ℕ) → start < length sources → IsBefore sources walks start → Walked sources walks walks start (Some start)

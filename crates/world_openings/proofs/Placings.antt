@@ -41,9 +41,6 @@ there [] k h = absurd (omega arith)
 there (x ∷ xs) zero h = (x, refl)
 there (x ∷ xs) (suc k) h = there xs k (omega arith)
 
-pub AreBare-none : (o : Opened) (room flushes : ℕ) → AreBare o room flushes 0 []
-AreBare-none o room flushes = record { count = refl; each = λ k i at h. absurd (omega arith) }
-
 pub AreBare-more : (o : Opened) (room flushes n : ℕ) (servers : List Server) (i : ServerInit) → slice_get o.servers n ≡ Some i → AreBare o room flushes n servers
     → AreBare o room flushes (n + 1) (servers ++ bare_server o.servers room flushes n i ∷ [])
 AreBare-more o room flushes n servers i at bare = record {
