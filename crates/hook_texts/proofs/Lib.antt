@@ -1,4 +1,3 @@
 pub mod Parts
-pub mod Printed
 pub mod Reading
 pub mod Told

@@ -6,7 +6,7 @@ use Rattle.std.specs.List.{after_first, before_first, list_all, position_or_len,
 use Rattle.std.specs.Str.{bytes_eq}
 use Rattle.std.specs.Cmp.Lexicographic.{as_long as pointwise_long, bytes_decides}
 use Rattle.std.proofs.lemmas.Bool.{eqb-true, eqb-false, ne_eqb}
-use Rattle.std.proofs.lemmas.List.{append-nil, get_or-take, length-append, length-take, take_at}
+use Rattle.std.proofs.lemmas.List.{append-nil, get_or-take, length-append, length-take}
 use Rattle.std.proofs.lemmas.List.Elements.{All-head, All-nil, All-tail, All-cons, All-push}
 use Rattle.std.proofs.lemmas.List.Sums.{fails_before_first, passes_at_first, split_at_first}
 use Rattle.std.proofs.Math.Seq.{drop-append-add}
@@ -16,19 +16,6 @@ use Rattle.hook_texts.specs.declared.values.Values.{Values}
 use Rattle.hook_texts.specs.Expanded.{braced, expanded, expanded_behind, given_at, placeholder_at, placeholder_named, placeholder_text, placeholders, value_of, word_text, IsOtherWord, IsPlain, Lacks}
 
 -- ---- a byte behind a text that lacks it
-
-first_behind : (p : ℕ → Bool) (front : List ℕ) (c : ℕ) (rest : List ℕ) → All (λ b. p b ≡ false) front → p c ≡ true → position_or_len p (front ++ c ∷ rest) ≡ length front
-first_behind p [] c rest fail pass = rw pass refl
-first_behind p (b ∷ front) c rest fail pass =
-    let here = All-head (λ b. p b ≡ false) b front fail in
-    let more = first_behind p front c rest (All-tail (λ b. p b ≡ false) b front fail) pass in
-    rw here (omega (arith, more))
-
-pub before_behind : (p : ℕ → Bool) (front : List ℕ) (c : ℕ) (rest : List ℕ) → All (λ b. p b ≡ false) front → p c ≡ true → before_first p (front ++ c ∷ rest) ≡ front
-before_behind p front c rest fail pass = rw (first_behind p front c rest fail pass) (take_at front (c ∷ rest) (length front) refl)
-
-pub after_behind : (p : ℕ → Bool) (front : List ℕ) (c : ℕ) (rest : List ℕ) → All (λ b. p b ≡ false) front → p c ≡ true → after_first p (front ++ c ∷ rest) ≡ rest
-after_behind p front c rest fail pass = rw (first_behind p front c rest fail pass) (drop-append-add front (c ∷ rest) 1)
 
 front_fails : (p : ℕ → Bool) (text : List ℕ) → position_or_len p text ≤ length text → All (λ b. p b ≡ false) (before_first p text)
 front_fails p text within k d below =

@@ -1,11 +1,10 @@
 //! What a hook is told of a recovery.
 
 ghost use Rattle.std.specs.Prelude.{◌≡◌, find, IfOk, option_copied, string_bytes};
-ghost use Rattle.std.specs.List.{after_first};
 ghost use Rattle.std.specs.Str.{bytes_eq};
-ghost use Rattle.orch_base.specs.Names.{host_of, is_colon, printed, IsName};
 ghost use Rattle.hook_texts.specs.Expanded.{host_in, placeholder_named, port_in, word_text};
 
+use itoa::Buffer;
 use orch_base::{Memory, Name, OwnedText};
 use std::alloc::Global;
 
@@ -95,33 +94,12 @@ pub struct Values {
     pub successful: bool,
 }
 
-#[tactic(auto, using(crate::proofs::Printed::printed_is_utf8))]
-fn printed(alloc: Global, name: &Name) -> Result<String, Memory>
-    ensures text { IfOk result (λ s. string_bytes s ≡ printed name.now) }
-    ensures name { IsName name.now }
-{
-    let mut text = Vec::new(alloc);
-    name.print(&mut text)?;
-    Ok(String::from_utf8(text).unwrap())
-}
-
-// The text before the first colon, and the text behind it.
-fn parts(text: &str) -> (&str, &str)
-    ensures host { result.0.now ≡ host_of text.now }
-    ensures port { result.1.now ≡ after_first is_colon text.now }
-{
-    match text.split_once(':') {
-        Some((host, port)) => (host, port),
-        None => (text, ""),
-    }
-}
-
 // The host of a server, if there is one.
 fn host_in(alloc: Global, name: Option<&Name>) -> Result<String, Memory>
     ensures { IfOk result (λ s. string_bytes s ≡ host_in (option_copied name.entry)) }
 {
     match name {
-        Some(name) => String::from_str(alloc, parts(&printed(alloc, name)?).0),
+        Some(name) => String::from_str(alloc, name.host()),
         None => Ok(String::new(alloc)),
     }
 }
@@ -131,7 +109,10 @@ fn port_in(alloc: Global, name: Option<&Name>) -> Result<String, Memory>
     ensures { IfOk result (λ s. string_bytes s ≡ port_in (option_copied name.entry)) }
 {
     match name {
-        Some(name) => String::from_str(alloc, parts(&printed(alloc, name)?).1),
+        Some(name) => {
+            let mut buffer = Buffer::new();
+            String::from_str(alloc, buffer.format(name.port()))
+        }
         None => Ok(String::new(alloc)),
     }
 }

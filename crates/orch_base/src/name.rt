@@ -155,6 +155,20 @@ impl Name {
         })
     }
 
+    /// The host.
+    pub fn host(&self) -> &str
+        ensures { result.now ≡ self.now.host }
+    {
+        self.host.as_str()
+    }
+
+    /// The port.
+    pub fn port(&self) -> u16
+        ensures { result ≡ self.now.port }
+    {
+        self.port
+    }
+
     /// Whether host and port are the same, byte for byte.
     #[tactic(auto, using(crate::proofs::SameNames::same_name_tells))]
     pub fn is_same(&self, other: &Name) -> bool

@@ -77,13 +77,7 @@ fn print_head(
 }
 
 // The line of an operation, if it has one.
-fn print_op(
-    alloc: Global,
-    told: &Told<'_>,
-    number: u128,
-    op: &Op,
-    out: &mut Vec<u8>,
-) -> Result<(), Memory>
+fn print_op(told: &Told<'_>, number: u128, op: &Op, out: &mut Vec<u8>) -> Result<(), Memory>
     ensures { OnOk result (out.new.items ≡ out.old.items
         ++ op_line told.now.names.now told.now.order.now told.now.before.now number op.now) }
 {
@@ -91,7 +85,7 @@ fn print_op(
         return Ok(());
     };
     print_head(told.order, number, no, out)?;
-    print_statement(alloc, told, op, out)?;
+    print_statement(told, op, out)?;
     out.extend_from_slice(b";")?;
     print_condition(told.order, told.before, op, out)?;
     out.extend_from_slice(b"\n")
@@ -99,7 +93,6 @@ fn print_op(
 
 // The lines of operations, from a number on.
 fn print_ops(
-    alloc: Global,
     names: &[Name],
     order: &[ServerNo],
     number: u64,
@@ -115,7 +108,7 @@ fn print_ops(
             order,
             before: &ops[..at],
         };
-        print_op(alloc, &told, u128::from(number) + at as u128, op, out)?;
+        print_op(&told, u128::from(number) + at as u128, op, out)?;
     }
     Ok(())
 }
@@ -147,7 +140,6 @@ fn next_number(master: Option<ServerNo>) -> u64
 // The plan, by servers in an order.
 #[tactic(auto, unfolding(crate::specs::Texts::ordered_text))]
 fn print_ordered(
-    alloc: Global,
     names: &[Name],
     order: &[ServerNo],
     master: Option<ServerNo>,
@@ -160,7 +152,7 @@ fn print_ordered(
     out.extend_from_slice(warning())?;
     print_servers(names, order, out)?;
     print_master(order, master, out)?;
-    print_ops(alloc, names, order, next_number(master), ops, out)
+    print_ops(names, order, next_number(master), ops, out)
 }
 
 /// Appends the text of a plan's operations, for servers of these names: statements of MySQL 8 with what must be true
@@ -178,5 +170,5 @@ pub fn print_plan(
         ≡ out.old.items ++ plan_text names.now master ops.now) }
 {
     let order = order_of(alloc, master, ops)?;
-    print_ordered(alloc, names, &order, master, ops, out)
+    print_ordered(names, &order, master, ops, out)
 }

@@ -11,7 +11,6 @@ use crate::told::told as told_source;
 use crate::words::{login, print_lettered, print_named, print_own, print_source, print_spot};
 use operations::{Aim, Crossing, Op};
 use orch_base::{Name, ServerNo};
-use std::alloc::Global;
 
 /// The servers of a plan by their names and their letters, and the operations before the one that is told.
 #[derive(Clone, Copy)]
@@ -51,7 +50,6 @@ fn print_place(order: &[ServerNo], aim: Aim, out: &mut Vec<u8>) -> Result<(), Me
 
 // A change to the source of a server.
 fn print_to_source(
-    alloc: Global,
     told: &Told<'_>,
     no: ServerNo,
     source: Option<ServerNo>,
@@ -63,23 +61,17 @@ fn print_to_source(
         (source_words told.now.names.now told.now.order.now no source) aim) }
 {
     out.extend_from_slice(b"CHANGE REPLICATION SOURCE TO ")?;
-    print_source(alloc, told.names, told.order, no, source, out)?;
+    print_source(told.names, told.order, no, source, out)?;
     print_place(told.order, aim, out)
 }
 
 // A change to a server.
-fn print_to_server(
-    alloc: Global,
-    told: &Told<'_>,
-    no: ServerNo,
-    aim: Aim,
-    out: &mut Vec<u8>,
-) -> Result<(), Memory>
+fn print_to_server(told: &Told<'_>, no: ServerNo, aim: Aim, out: &mut Vec<u8>) -> Result<(), Memory>
     ensures { OnOk result (out.new.items ≡ out.old.items
         ++ change_words told.now.order.now (named_words told.now.names.now no) aim) }
 {
     out.extend_from_slice(b"CHANGE REPLICATION SOURCE TO ")?;
-    print_named(alloc, told.names, no, out)?;
+    print_named(told.names, no, out)?;
     print_place(told.order, aim, out)
 }
 
@@ -99,7 +91,6 @@ fn print_to_own(
 }
 
 fn print_crossing(
-    alloc: Global,
     told: &Told<'_>,
     crossing: Crossing,
     a: ServerNo,
@@ -112,34 +103,33 @@ fn print_crossing(
     match crossing {
         Crossing::Up => {
             let source = told_source(told.before, b);
-            print_to_source(alloc, told, b, source, Aim::ExecOf(b), out)
+            print_to_source(told, b, source, Aim::ExecOf(b), out)
         }
-        Crossing::Down => print_to_server(alloc, told, b, Aim::EndOf(b), out),
+        Crossing::Down => print_to_server(told, b, Aim::EndOf(b), out),
         Crossing::About => {
-            print_to_server(alloc, told, b, Aim::EndOf(b), out)?;
+            print_to_server(told, b, Aim::EndOf(b), out)?;
             out.extend_from_slice(login(told_source(told.before, a)))
         }
         Crossing::Back => {
-            print_to_server(alloc, told, b, Aim::ExecOf(a), out)?;
+            print_to_server(told, b, Aim::ExecOf(a), out)?;
             out.extend_from_slice(login(None))
         }
     }
 }
 
 // Another source, by GTIDs.
-fn print_auto(alloc: Global, names: &[Name], no: ServerNo, out: &mut Vec<u8>) -> Result<(), Memory>
+fn print_auto(names: &[Name], no: ServerNo, out: &mut Vec<u8>) -> Result<(), Memory>
     ensures { OnOk result (out.new.items ≡ out.old.items
         ++ (codes "CHANGE REPLICATION SOURCE TO " ++ named_words names.now no
         ++ codes ", SOURCE_AUTO_POSITION=1")) }
 {
     out.extend_from_slice(b"CHANGE REPLICATION SOURCE TO ")?;
-    print_named(alloc, names, no, out)?;
+    print_named(names, no, out)?;
     out.extend_from_slice(b", SOURCE_AUTO_POSITION=1")
 }
 
 // Another source, where the logs match.
 fn print_matched(
-    alloc: Global,
     told: &Told<'_>,
     no: ServerNo,
     to: ServerNo,
@@ -149,7 +139,7 @@ fn print_matched(
         ++ statement told.now.names.now told.now.order.now told.now.before.now (CrossMatch no to)) }
 {
     out.extend_from_slice(b"CHANGE REPLICATION SOURCE TO ")?;
-    print_named(alloc, told.names, to, out)?;
+    print_named(told.names, to, out)?;
     print_lettered(b", SOURCE_LOG_FILE=:", told.order, no, out)?;
     print_lettered(b".match.file, SOURCE_LOG_POS=:", told.order, no, out)?;
     out.extend_from_slice(b".match.pos, SOURCE_AUTO_POSITION=0")
@@ -198,12 +188,7 @@ fn print_until(order: &[ServerNo], aim: Aim, out: &mut Vec<u8>) -> Result<(), Me
 }
 
 /// What is sent for an operation; nothing for the end of a job.
-pub(crate) fn print_statement(
-    alloc: Global,
-    told: &Told<'_>,
-    op: &Op,
-    out: &mut Vec<u8>,
-) -> Result<(), Memory>
+pub(crate) fn print_statement(told: &Told<'_>, op: &Op, out: &mut Vec<u8>) -> Result<(), Memory>
     ensures { OnOk result (out.new.items ≡ out.old.items
         ++ statement told.now.names.now told.now.order.now told.now.before.now op.now) }
 {
@@ -218,14 +203,14 @@ pub(crate) fn print_statement(
         Op::ReadOnly(_, on) => out.extend_from_slice(read_only(*on)),
         Op::Until(_, aim) => print_until(told.order, *aim, out),
         Op::AwaitSet(_, of) => print_wait(told.order, *of, out),
-        Op::Cross(crossing, a, b) => print_crossing(alloc, told, *crossing, *a, *b, out),
+        Op::Cross(crossing, a, b) => print_crossing(told, *crossing, *a, *b, out),
         Op::Same(no) => {
             let source = told_source(told.before, *no);
-            print_to_source(alloc, told, *no, source, Aim::ExecOf(*no), out)
+            print_to_source(told, *no, source, Aim::ExecOf(*no), out)
         }
-        Op::Auto(_, to) => print_auto(alloc, told.names, *to, out),
+        Op::Auto(_, to) => print_auto(told.names, *to, out),
         Op::Match(_, _, _) => out.extend_from_slice(b"SHOW BINLOG EVENTS"),
-        Op::CrossMatch(no, to) => print_matched(alloc, told, *no, *to, out),
+        Op::CrossMatch(no, to) => print_matched(told, *no, *to, out),
         Op::Finish(_) => Ok(()),
     }
 }

@@ -1,8 +1,6 @@
 //! The words of statements.
 
-ghost use Rattle.std.specs.Prelude.{◌≡◌, ◌++◌, decimal, IfOk, OnOk, Some, string_bytes};
-ghost use Rattle.std.specs.List.{after_first};
-ghost use Rattle.orch_base.specs.Names.{host_of, is_colon, printed, IsName};
+ghost use Rattle.std.specs.Prelude.{◌≡◌, ◌++◌, decimal, OnOk, Some};
 ghost use Rattle.plan_texts.specs.Letters.{letter};
 ghost use Rattle.plan_texts.specs.Statements.{address_words, aim_words, login_words, named_words, own_words, source_words, spot_words};
 
@@ -11,7 +9,6 @@ use crate::letters::print_letter;
 use itoa::Buffer;
 use operations::Aim;
 use orch_base::{Name, ServerNo};
-use std::alloc::Global;
 
 pub(crate) fn print_number(number: u128, out: &mut Vec<u8>) -> Result<(), Memory>
     ensures { OnOk result (out.new.items ≡ out.old.items ++ decimal number) }
@@ -62,51 +59,23 @@ pub(crate) fn print_spot(order: &[ServerNo], aim: Aim, out: &mut Vec<u8>) -> Res
     out.extend_from_slice(b".pos")
 }
 
-#[tactic(auto, using(hook_texts::proofs::Printed::printed_is_utf8))]
-fn printed(alloc: Global, name: &Name) -> Result<String, Memory>
-    ensures text { IfOk result (λ s. string_bytes s ≡ printed name.now) }
-    ensures name { IsName name.now }
-{
-    let mut text = Vec::new(alloc);
-    name.print(&mut text)?;
-    Ok(String::from_utf8(text).unwrap())
-}
-
-// The text before the first colon, and the text behind it.
-fn parts(text: &str) -> (&str, &str)
-    ensures host { result.0.now ≡ host_of text.now }
-    ensures port { result.1.now ≡ after_first is_colon text.now }
-{
-    match text.split_once(':') {
-        Some((host, port)) => (host, port),
-        None => (text, ""),
-    }
-}
-
 // SOURCE_HOST and SOURCE_PORT of a server by its name.
-fn print_address(alloc: Global, name: &Name, out: &mut Vec<u8>) -> Result<(), Memory>
+fn print_address(name: &Name, out: &mut Vec<u8>) -> Result<(), Memory>
     ensures { OnOk result (out.new.items ≡ out.old.items ++ address_words (Some name.now)) }
 {
-    let text = printed(alloc, name)?;
-    let (host, port) = parts(&text);
     out.extend_from_slice(b"SOURCE_HOST='")?;
-    out.extend_from_slice(host.as_bytes())?;
+    out.extend_from_slice(name.host().as_bytes())?;
     out.extend_from_slice(b"', SOURCE_PORT=")?;
-    out.extend_from_slice(port.as_bytes())
+    print_number(u128::from(name.port()), out)
 }
 
 /// The same of the server of this number.
 #[tactic(auto, unfolding(crate::specs::Statements::named_words))]
-pub(crate) fn print_named(
-    alloc: Global,
-    names: &[Name],
-    no: ServerNo,
-    out: &mut Vec<u8>,
-) -> Result<(), Memory>
+pub(crate) fn print_named(names: &[Name], no: ServerNo, out: &mut Vec<u8>) -> Result<(), Memory>
     ensures { OnOk result (out.new.items ≡ out.old.items ++ named_words names.now no) }
 {
     match names.get(no.0 as usize) {
-        Some(name) => print_address(alloc, name, out),
+        Some(name) => print_address(name, out),
         None => Ok(()),
     }
 }
@@ -129,7 +98,6 @@ pub(crate) fn print_own(
 
 /// The source of a server: by its name where it was told, else as it was noted.
 pub(crate) fn print_source(
-    alloc: Global,
     names: &[Name],
     order: &[ServerNo],
     no: ServerNo,
@@ -140,7 +108,7 @@ pub(crate) fn print_source(
         ≡ out.old.items ++ source_words names.now order.now no told) }
 {
     match told {
-        Some(source) => print_named(alloc, names, source, out),
+        Some(source) => print_named(names, source, out),
         None => print_own(order, b"", no, out),
     }
 }
