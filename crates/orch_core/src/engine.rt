@@ -8,17 +8,13 @@ ghost use Rattle.jobs_in_flight.specs.Jobs.{Rise, is_open, job_at};
 ghost use Rattle.orch_core.specs.Polls.{act_changes, changes_of, command_outcome, job_changes, numbers_of, scan_outcome};
 ghost use Rattle.orch_core.specs.Replies.{act_reply, reply_of, step_reply, AreReply};
 ghost use Rattle.orch_core.specs.Runs.{act_asks, asks, engine};
-ghost use Rattle.orch_core.specs.Keeping.{ClaimPasses, StepsTo, kept_by, kept_if, kept_with, Calls, HasTurnCause};
-ghost use Rattle.orch_core.specs.Nodes.{claim_changes_by, claimed};
-ghost use Rattle.node_claims.specs.Claims.{IsNode, release_answer};
+ghost use Rattle.orch_core.specs.Keeping.{StepsTo, kept_by, kept_if, kept_with, Calls, HasTurnCause};
 ghost use Rattle.orch_core.specs.Knowing.{LeavesIds};
 ghost use Rattle.orch_core.specs.CommandsBy.{outcome as outcome_in};
 ghost use Rattle.orch_core.specs.Settling.{CanSettle, settled};
 ghost use Rattle.orch_core.specs.States.{IsState, nodes_of};
 
-use crate::claiming::{
-    claim_reply, held_changes, holder_of, kept_claim, passes_to, release_changes, release_reply,
-};
+use crate::claiming::{holder_of, kept_claim};
 use crate::closing::{close_entry, closing_of, keep_turn};
 use crate::command::{Numbers, Outcome, outcome_of};
 use crate::exchanging::{exchange, later, read_reply, read_server};
@@ -30,7 +26,7 @@ use crate::{Act, BoxedCommand, Configuration, Reply, Scenario, Step, Turn, TurnF
 use audit_log::Audit;
 use instance_keeper::{Book, Change, Keeper, Observation};
 use jobs_in_flight::{FoundJob, find, others_over, take_turn};
-use node_claims::{ClaimAnswer, Claims};
+use node_claims::Claims;
 use opening_book::{
     GREATEST_ID, beyond_instances, counted, counted_in_order, last_id, last_read, latest_moment,
     latest_recovery, loaded_audit, loaded_book, loading,
@@ -46,13 +42,13 @@ use world_openings::OpenedWorld;
 #[derive(Drop)]
 pub struct Engine {
     world: World,
-    moment: Moment,
-    knowledge: Knowledge,
+    pub(crate) moment: Moment,
+    pub(crate) knowledge: Knowledge,
     slots: Vec<Option<Observation>>,
     reads: u64,
     configuration: Configuration,
-    claims: Claims,
-    last_holder: Option<u32>,
+    pub(crate) claims: Claims,
+    pub(crate) last_holder: Option<u32>,
 }
 
 impl Model for Engine {
@@ -74,7 +70,8 @@ pub(crate) struct Replies {
     pub(crate) written: Option<Reply>,
 }
 
-fn plain(reply: Reply, written: bool) -> Replies
+/// A reply that holds nothing on the heap, and once more for a journal, where it is written.
+pub(crate) fn plain(reply: Reply, written: bool) -> Replies
     requires { is_plain reply ≡ true }
     ensures { AreReply written reply result }
 {
@@ -192,8 +189,8 @@ impl Engine {
         Ok(Reply::Done)
     }
 
-    // Orchestrator starts again; these changes are kept with its own, behind them.
-    fn start_again<K: Keeper>(
+    /// Orchestrator starts again; these changes are kept with its own, behind them.
+    pub(crate) fn start_again<K: Keeper>(
         &mut self,
         alloc: Global,
         keeper: &mut K,
@@ -477,9 +474,9 @@ impl Engine {
         })
     }
 
-    // What orchestrator does, with its reply once more where it is written.
+    /// What orchestrator does, with its reply once more where it is written.
     #[inline(always)]
-    fn act<K: Keeper>(
+    pub(crate) fn act<K: Keeper>(
         &mut self,
         alloc: Global,
         keeper: &mut K,
@@ -508,126 +505,6 @@ impl Engine {
             Act::Scan => self.scan(alloc, keeper, written),
             Act::Restart => Ok(plain(self.restart(alloc, keeper)?, written)),
         }
-    }
-
-    // What one of several orchestrators does, where it remembers that it is active; else it forgets its claim.
-    fn act_as<K: Keeper>(
-        &mut self,
-        alloc: Global,
-        keeper: &mut K,
-        node: u32,
-        act: &Act,
-        written: bool,
-    ) -> Result<Replies, TurnFault>
-        requires node { IsNode self.old.claims node }
-        requires act { IsAct (length self.old.world.servers) act.now }
-        ensures reply { IfOk result
-            (λ r. AreReply written (reply_of self.old (Turn.As node act.now)) r) }
-        ensures ok { OnOk result (StepsTo engine
-            (K.kept keeper.old) self.old (Turn.As node act.now) self.new) }
-        ensures err { OnErr result (self.new ≡ self.old) }
-        ensures kept { K.kept keeper.new ≡ kept_by engine (is_ok result)
-            (K.kept keeper.old) self.old (Turn.As node act.now) }
-        ensures cause { HasTurnCause (K.faults keeper.old) (K.faults keeper.new) result }
-        ensures idle { asks self.old (Turn.As node act.now) ≡ false
-            → changes_of [] self.old (Turn.As node act.now) ≡ [] → keeper.new ≡ keeper.old }
-        ensures calls { result ≡ Err TurnFault.Keeper → Calls engine self.old (Turn.As node act.now) }
-        ensures servers { length self.new.world.servers ≡ length self.old.world.servers }
-        ensures nodes { nodes_of self.new ≡ nodes_of self.old }
-    {
-        if !self.claims.may_act(node, self.moment) {
-            return Ok(plain(Reply::Lapsed, written));
-        }
-        self.act(alloc, keeper, act, written)
-    }
-
-    // The node's claim is kept first, and where it passes from another one orchestrator starts again, by the same call.
-    fn claim<K: Keeper>(
-        &mut self,
-        alloc: Global,
-        keeper: &mut K,
-        node: u32,
-    ) -> Result<Reply, TurnFault>
-        requires { IsNode self.old.claims node }
-        ensures reply { IfOk result (λ r. r ≡ reply_of self.old (Turn.Claim node)) }
-        ensures plain { IfOk result (λ r. is_plain r ≡ true) }
-        ensures ok { OnOk result (StepsTo engine
-            (K.kept keeper.old) self.old (Turn.Claim node) self.new) }
-        ensures err { OnErr result (self.new ≡ self.old) }
-        ensures kept { K.kept keeper.new ≡ kept_by engine (is_ok result)
-            (K.kept keeper.old) self.old (Turn.Claim node) }
-        ensures cause { HasTurnCause (K.faults keeper.old) (K.faults keeper.new) result }
-        ensures idle { asks self.old (Turn.Claim node) ≡ false
-            → changes_of [] self.old (Turn.Claim node) ≡ [] → keeper.new ≡ keeper.old }
-        ensures calls { result ≡ Err TurnFault.Keeper → Calls engine self.old (Turn.Claim node) }
-        ensures servers { length self.new.world.servers ≡ length self.old.world.servers }
-        ensures nodes { nodes_of self.new ≡ nodes_of self.old }
-    {
-        let now = self.moment;
-        let answer = self.claims.answer(node, now);
-        let ClaimAnswer::Held(until) = answer else {
-            return Ok(claim_reply(answer));
-        };
-        self.keep_claim(alloc, keeper, node, until)?;
-        self.claims.claim(node, now);
-        self.last_holder = Some(node);
-        Ok(claim_reply(answer))
-    }
-
-    // Keeps a claim that the node holds until this moment, and starts again where it passes from another one.
-    fn keep_claim<K: Keeper>(
-        &mut self,
-        alloc: Global,
-        keeper: &mut K,
-        node: u32,
-        until: Moment,
-    ) -> Result<(), TurnFault>
-        requires { claimed self.old node ≡ ClaimAnswer.Held until }
-        ensures ok { OnOk result (ClaimPasses (K.kept keeper.old) self.old node self.new) }
-        ensures err { OnErr result (self.new ≡ self.old) }
-        ensures kept { K.kept keeper.new ≡ kept_by engine (is_ok result)
-            (K.kept keeper.old) self.old (Turn.Claim node) }
-        ensures cause { HasTurnCause (K.faults keeper.old) (K.faults keeper.new) result }
-        ensures idle { asks self.old (Turn.Claim node) ≡ false
-            → changes_of [] self.old (Turn.Claim node) ≡ [] → keeper.new ≡ keeper.old }
-        ensures calls { result ≡ Err TurnFault.Keeper → Calls engine self.old (Turn.Claim node) }
-        ensures servers { length self.new.world.servers ≡ length self.old.world.servers }
-        ensures nodes { nodes_of self.new ≡ nodes_of self.old }
-        ensures claims { self.new.claims ≡ self.old.claims }
-        ensures holder { self.new.last_holder ≡ self.old.last_holder }
-    {
-        let changes = held_changes(alloc, self.claims.kept(), node, until)?;
-        if passes_to(self.last_holder, node) {
-            return self.start_again(alloc, keeper, changes);
-        }
-        keep_some(alloc, keeper, self.knowledge.book.names(), &changes)
-    }
-
-    // The node's claim is given back: its row is removed first.
-    fn release<K: Keeper>(
-        &mut self,
-        alloc: Global,
-        keeper: &mut K,
-        node: u32,
-    ) -> Result<Reply, TurnFault>
-        requires { IsNode self.old.claims node }
-        ensures reply { IfOk result (λ r. r ≡ reply_of self.old (Turn.Release node)) }
-        ensures plain { IfOk result (λ r. is_plain r ≡ true) }
-        ensures ok { OnOk result (StepsTo engine
-            (K.kept keeper.old) self.old (Turn.Release node) self.new) }
-        ensures err { OnErr result (self.new ≡ self.old) }
-        ensures kept { K.kept keeper.new ≡ kept_by engine (is_ok result)
-            (K.kept keeper.old) self.old (Turn.Release node) }
-        ensures cause { HasTurnCause (K.faults keeper.old) (K.faults keeper.new) result }
-        ensures idle { asks self.old (Turn.Release node) ≡ false
-            → changes_of [] self.old (Turn.Release node) ≡ [] → keeper.new ≡ keeper.old }
-        ensures calls { result ≡ Err TurnFault.Keeper → Calls engine self.old (Turn.Release node) }
-        ensures servers { length self.new.world.servers ≡ length self.old.world.servers }
-        ensures nodes { nodes_of self.new ≡ nodes_of self.old }
-    {
-        let changes = release_changes(alloc, self.claims.kept(), node)?;
-        keep_some(alloc, keeper, self.knowledge.book.names(), &changes)?;
-        Ok(release_reply(self.claims.release(node, self.moment)))
     }
 
     /// One turn, with its reply once more where it is written.

@@ -11,6 +11,7 @@ mod exchanging;
 mod fault;
 mod keep;
 mod knowledge;
+mod nodes;
 mod opening;
 mod orch;
 mod polls;

@@ -1,0 +1,143 @@
+//! The turns of several orchestrators over the same kept rows.
+
+ghost use Rattle.std.specs.Prelude.{◌≡◌, [], IfOk, OnOk, OnErr, Err, true, false, is_ok, length};
+ghost use Rattle.scenarios.specs.Turns.{IsAct};
+ghost use Rattle.turns.specs.Plain.{is_plain};
+ghost use Rattle.node_claims.specs.Claims.{IsNode};
+ghost use Rattle.orch_core.specs.Polls.{changes_of};
+ghost use Rattle.orch_core.specs.Replies.{reply_of, AreReply};
+ghost use Rattle.orch_core.specs.Runs.{asks, engine};
+ghost use Rattle.orch_core.specs.Keeping.{ClaimPasses, StepsTo, kept_by, Calls, HasTurnCause};
+ghost use Rattle.orch_core.specs.Nodes.{claimed};
+ghost use Rattle.orch_core.specs.States.{nodes_of};
+
+use crate::claiming::{claim_reply, held_changes, passes_to, release_changes, release_reply};
+use crate::engine::{Replies, plain};
+use crate::keep::keep_some;
+use crate::{Act, Engine, Reply, Turn, TurnFault};
+use instance_keeper::Keeper;
+use node_claims::ClaimAnswer;
+use orch_base::Moment;
+use std::alloc::Global;
+
+impl Engine {
+    /// What one of several orchestrators does, where it remembers that it is active; else it forgets its claim.
+    pub(crate) fn act_as<K: Keeper>(
+        &mut self,
+        alloc: Global,
+        keeper: &mut K,
+        node: u32,
+        act: &Act,
+        written: bool,
+    ) -> Result<Replies, TurnFault>
+        requires node { IsNode self.old.claims node }
+        requires act { IsAct (length self.old.world.servers) act.now }
+        ensures reply { IfOk result
+            (λ r. AreReply written (reply_of self.old (Turn.As node act.now)) r) }
+        ensures ok { OnOk result (StepsTo engine
+            (K.kept keeper.old) self.old (Turn.As node act.now) self.new) }
+        ensures err { OnErr result (self.new ≡ self.old) }
+        ensures kept { K.kept keeper.new ≡ kept_by engine (is_ok result)
+            (K.kept keeper.old) self.old (Turn.As node act.now) }
+        ensures cause { HasTurnCause (K.faults keeper.old) (K.faults keeper.new) result }
+        ensures idle { asks self.old (Turn.As node act.now) ≡ false
+            → changes_of [] self.old (Turn.As node act.now) ≡ [] → keeper.new ≡ keeper.old }
+        ensures calls { result ≡ Err TurnFault.Keeper → Calls engine self.old (Turn.As node act.now) }
+        ensures servers { length self.new.world.servers ≡ length self.old.world.servers }
+        ensures nodes { nodes_of self.new ≡ nodes_of self.old }
+    {
+        if !self.claims.may_act(node, self.moment) {
+            return Ok(plain(Reply::Lapsed, written));
+        }
+        self.act(alloc, keeper, act, written)
+    }
+
+    /// The node's claim is kept first, and where it passes from another one orchestrator starts again, by the same call.
+    pub(crate) fn claim<K: Keeper>(
+        &mut self,
+        alloc: Global,
+        keeper: &mut K,
+        node: u32,
+    ) -> Result<Reply, TurnFault>
+        requires { IsNode self.old.claims node }
+        ensures reply { IfOk result (λ r. r ≡ reply_of self.old (Turn.Claim node)) }
+        ensures plain { IfOk result (λ r. is_plain r ≡ true) }
+        ensures ok { OnOk result (StepsTo engine
+            (K.kept keeper.old) self.old (Turn.Claim node) self.new) }
+        ensures err { OnErr result (self.new ≡ self.old) }
+        ensures kept { K.kept keeper.new ≡ kept_by engine (is_ok result)
+            (K.kept keeper.old) self.old (Turn.Claim node) }
+        ensures cause { HasTurnCause (K.faults keeper.old) (K.faults keeper.new) result }
+        ensures idle { asks self.old (Turn.Claim node) ≡ false
+            → changes_of [] self.old (Turn.Claim node) ≡ [] → keeper.new ≡ keeper.old }
+        ensures calls { result ≡ Err TurnFault.Keeper → Calls engine self.old (Turn.Claim node) }
+        ensures servers { length self.new.world.servers ≡ length self.old.world.servers }
+        ensures nodes { nodes_of self.new ≡ nodes_of self.old }
+    {
+        let now = self.moment;
+        let answer = self.claims.answer(node, now);
+        let ClaimAnswer::Held(until) = answer else {
+            return Ok(claim_reply(answer));
+        };
+        self.keep_claim(alloc, keeper, node, until)?;
+        self.claims.claim(node, now);
+        self.last_holder = Some(node);
+        Ok(claim_reply(answer))
+    }
+
+    // Keeps a claim that the node holds until this moment, and starts again where it passes from another one.
+    fn keep_claim<K: Keeper>(
+        &mut self,
+        alloc: Global,
+        keeper: &mut K,
+        node: u32,
+        until: Moment,
+    ) -> Result<(), TurnFault>
+        requires { claimed self.old node ≡ ClaimAnswer.Held until }
+        ensures ok { OnOk result (ClaimPasses (K.kept keeper.old) self.old node self.new) }
+        ensures err { OnErr result (self.new ≡ self.old) }
+        ensures kept { K.kept keeper.new ≡ kept_by engine (is_ok result)
+            (K.kept keeper.old) self.old (Turn.Claim node) }
+        ensures cause { HasTurnCause (K.faults keeper.old) (K.faults keeper.new) result }
+        ensures idle { asks self.old (Turn.Claim node) ≡ false
+            → changes_of [] self.old (Turn.Claim node) ≡ [] → keeper.new ≡ keeper.old }
+        ensures calls { result ≡ Err TurnFault.Keeper → Calls engine self.old (Turn.Claim node) }
+        ensures servers { length self.new.world.servers ≡ length self.old.world.servers }
+        ensures nodes { nodes_of self.new ≡ nodes_of self.old }
+        ensures claims { self.new.claims ≡ self.old.claims }
+        ensures holder { self.new.last_holder ≡ self.old.last_holder }
+    {
+        let changes = held_changes(alloc, self.claims.kept(), node, until)?;
+        if passes_to(self.last_holder, node) {
+            return self.start_again(alloc, keeper, changes);
+        }
+        keep_some(alloc, keeper, self.knowledge.book.names(), &changes)
+    }
+
+    /// The node's claim is given back: its row is removed first.
+    pub(crate) fn release<K: Keeper>(
+        &mut self,
+        alloc: Global,
+        keeper: &mut K,
+        node: u32,
+    ) -> Result<Reply, TurnFault>
+        requires { IsNode self.old.claims node }
+        ensures reply { IfOk result (λ r. r ≡ reply_of self.old (Turn.Release node)) }
+        ensures plain { IfOk result (λ r. is_plain r ≡ true) }
+        ensures ok { OnOk result (StepsTo engine
+            (K.kept keeper.old) self.old (Turn.Release node) self.new) }
+        ensures err { OnErr result (self.new ≡ self.old) }
+        ensures kept { K.kept keeper.new ≡ kept_by engine (is_ok result)
+            (K.kept keeper.old) self.old (Turn.Release node) }
+        ensures cause { HasTurnCause (K.faults keeper.old) (K.faults keeper.new) result }
+        ensures idle { asks self.old (Turn.Release node) ≡ false
+            → changes_of [] self.old (Turn.Release node) ≡ [] → keeper.new ≡ keeper.old }
+        ensures calls { result ≡ Err TurnFault.Keeper → Calls engine self.old (Turn.Release node) }
+        ensures servers { length self.new.world.servers ≡ length self.old.world.servers }
+        ensures nodes { nodes_of self.new ≡ nodes_of self.old }
+    {
+        let changes = release_changes(alloc, self.claims.kept(), node)?;
+        keep_some(alloc, keeper, self.knowledge.book.names(), &changes)?;
+        Ok(release_reply(self.claims.release(node, self.moment)))
+    }
+}
