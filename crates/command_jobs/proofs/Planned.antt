@@ -1,5 +1,5 @@
 -- A command is one of those by whose permission and plan its job goes.
-use Rattle.std.proofs.Common.{◌≡◌, ◌∙◌, Option, Some, None, refl, ap, true}
+use Rattle.std.proofs.Common.{◌≡◌, ◌∙◌, Option, Some, refl, ap, true}
 use Rattle.std.specs.Prelude.{IsSome, IsTrue, is_some}
 use Rattle.commands.specs.declared.name.CommandName.{CommandName}
 use Rattle.command_routes.specs.declared.kinds.CoordsCommand.{CoordsCommand}

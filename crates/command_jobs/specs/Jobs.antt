@@ -6,6 +6,7 @@ use Rattle.commands.specs.declared.name.CommandName.{CommandName}
 use Rattle.commands.specs.declared.refusal.Refusal.{Refusal}
 use Rattle.commands.specs.declared.turn.Command.{Command}
 use Rattle.command_routes.specs.declared.route.Planner.{Planner}
+use Rattle.command_routes.specs.declared.kinds.Regrouping.{Regrouping}
 use Rattle.command_routes.specs.declared.kinds.Regrouping.TheVariants.{ByBridges, ByMatches}
 use Rattle.command_routes.specs.declared.route.Planner.TheVariants.{Coordinates, Gtids, Matches, Paths, Regroups}
 use Rattle.command_routes.specs.Routes.{planner_of, route_of}
@@ -13,6 +14,7 @@ use Rattle.instance_keeper.specs.Book.{BookState}
 use Rattle.book_views.specs.Sources.{replicas_of}
 use Rattle.operations.specs.Jobs.{job_with}
 use Rattle.recovery_plans.specs.Beginning.{begun_recovery}
+use Rattle.recovery_plans.specs.Recoveries.{Recovery}
 use Rattle.recovery_plans.specs.declared.means.Means.{Means}
 use Rattle.recovery_plans.specs.declared.means.Means.TheVariants as means
 use Rattle.recovery_plans.specs.declared.purpose.Purpose.TheVariants as purpose
@@ -50,16 +52,24 @@ leases_by w b c (Regroups ByBridges) = paths.leased_by w b c
 leases_by w b c (Regroups ByMatches) = matches.leased_by b c
 leases_by w b c (Matches kind) = matches.leased_by b c
 
--- the replicas of an instance are regrouped by some means, in name order; without one nothing is done
+-- how the others go in a regroup, with marks at this distance
+abbrev pub means_by : Regrouping → ℕ → Means
+means_by ByBridges every = means.Bridges
+means_by ByMatches every = means.Matches every
+
+-- the replicas of an instance are regrouped by some means, in name order
+abbrev pub regroup_with : BookState → Means → ℕ → ℕ → ServerNo → Recovery
+regroup_with b by id wait i = begun_recovery purpose.Regroup by id wait i (replicas_of b i) (replicas_of b i)
+
+-- without an instance nothing is done
 abbrev pub regroup_about : BookState → Means → ℕ → ℕ → Option ServerNo → Unended
 regroup_about b by id wait None = unended.Plan (job_with id wait [])
-regroup_about b by id wait (Some i) = unended.Recovery (begun_recovery purpose.Regroup by id wait i (replicas_of b i) (replicas_of b i)) no_docket
+regroup_about b by id wait (Some i) = unended.Recovery (regroup_with b by id wait i) no_docket
 
 -- the command's job, with this number, whose operations may wait so often each, with marks at this distance
 abbrev pub job_by : World → BookState → Command → Planner → ℕ → ℕ → ℕ → Unended
 job_by w b c (Coordinates kind) id wait every = unended.Plan (job_with id wait (coords_plans.plan_of w b c))
 job_by w b c (Gtids kind) id wait every = unended.Plan (job_with id wait (gtid_plans.plan_of b c))
 job_by w b c (Paths kind) id wait every = unended.Plan (job_with id wait (path_plans.plan_of w b c))
-job_by w b c (Regroups ByBridges) id wait every = regroup_about b means.Bridges id wait c.i
-job_by w b c (Regroups ByMatches) id wait every = regroup_about b (means.Matches every) id wait c.i
+job_by w b c (Regroups by) id wait every = regroup_about b (means_by by every) id wait c.i
 job_by w b c (Matches kind) id wait every = unended.Plan (job_with id wait (match_plans.plan_of b every c))

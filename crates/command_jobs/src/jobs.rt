@@ -4,21 +4,19 @@ ghost use Rattle.std.specs.Prelude.{◌≡◌, IfOk, Some};
 ghost use Rattle.orch_base.specs.Gives.{Gives};
 ghost use Rattle.book_views.specs.Forests.{book_forest};
 ghost use Rattle.permission.specs.Checks.{permit_fault, permitted};
-ghost use Rattle.command_jobs.specs.Jobs.{job_by, leases_by, planner_for, refusal_by, regroup_about};
+ghost use Rattle.command_jobs.specs.Jobs.{job_by, leases_by, means_by, planner_for, refusal_by, regroup_about};
 
-use book_views::replicas;
+use crate::RegroupJob;
 use command_routes::{Planner, Regrouping};
 use commands::Command;
 use instance_keeper::Book;
 use job_plans::Job;
 use orch_base::{Memory, Moment, ServerNo};
 use permission::PermitFault;
-use recovery_plans::{Means, Purpose};
-use recovery_turns::RecoveryJob;
 use server_model::World;
 use std::alloc::Global;
 use topology_tree::Forest;
-use unended_jobs::{Docket, Unended};
+use unended_jobs::Unended;
 
 /// `Refused` exactly with the lowest refusal of the permission table that applies to the command, where each
 /// transaction is a mark whose number is divisible by `every`, and none where that is 0. It changes nothing. `Memory`
@@ -77,26 +75,23 @@ pub fn leases(
     }
 }
 
-// The replicas of an instance are regrouped by some means; where none is given, nothing is.
-fn regroup_of(
+// The replicas of an instance are regrouped; where none is given, nothing is.
+fn regroup_about(
     alloc: Global,
     book: &Book,
     instance: Option<ServerNo>,
-    means: Means,
+    by: Regrouping,
     id: u64,
     wait: u32,
+    every: u64,
 ) -> Result<Unended, Memory>
-    ensures { IfOk result (λ job. job ≡ regroup_about book.now means id wait instance) }
+    ensures { IfOk result (λ job. job
+        ≡ regroup_about book.now (means_by by every) id wait instance) }
 {
-    let Some(i) = instance else {
-        return Ok(Unended::Plan(Job::make(alloc, id, Vec::new(alloc), wait)?));
-    };
-    let replicas = replicas(alloc, book, i)?;
-    let order = replicas.to_vec(alloc)?;
-    Ok(Unended::Recovery(
-        RecoveryJob::make(alloc, Purpose::Regroup, means, id, wait, i, replicas, order)?,
-        Docket::none(),
-    ))
+    match instance {
+        None => Ok(Unended::Plan(Job::make(alloc, id, Vec::new(alloc), wait)?)),
+        Some(i) => Ok(RegroupJob::make(alloc, book, i, by, id, wait, every)?.into_unended()),
+    }
 }
 
 /// The command's job, with this number, whose operations may wait so often each, and by marks of this distance: the
@@ -122,11 +117,8 @@ pub fn job(
         Planner::Gtids(_) => moves_gtid::plan(alloc, book, forest, world, command)?,
         Planner::Paths(_) => regroup::plan(alloc, book, forest, world, command)?,
         Planner::Matches(_) => pseudo_match::plan(alloc, book, forest, world, command, every)?,
-        Planner::Regroups(Regrouping::ByBridges) => {
-            return regroup_of(alloc, book, command.i, Means::Bridges, id, wait);
-        }
-        Planner::Regroups(Regrouping::ByMatches) => {
-            return regroup_of(alloc, book, command.i, Means::Matches(every), id, wait);
+        Planner::Regroups(by) => {
+            return regroup_about(alloc, book, command.i, by, id, wait, every);
         }
     };
     Ok(Unended::Plan(Job::make(alloc, id, ops, wait)?))

@@ -3,8 +3,11 @@
 #![tactic(auto)]
 
 mod jobs;
+mod regrouping;
+mod threads;
 
 pub use jobs::{job, leases, permit};
 /// Want of memory.
 pub use orch_base::Memory;
 pub use permission::PermitFault;
+pub use regrouping::RegroupJob;

@@ -24,7 +24,7 @@ use Rattle.recovery_plans.specs.declared.purpose.Purpose.{Purpose}
 use Rattle.recovery_plans.specs.declared.purpose.Purpose.TheVariants as purpose
 use Rattle.recovery_plans.specs.declared.stage.Stage.{Stage}
 use Rattle.recovery_plans.specs.declared.stage.Stage.TheVariants as stage
-use Rattle.recovery_plans.specs.Deciding.{by_queue, decided, once}
+use Rattle.recovery_plans.specs.Deciding.{by_queue, decided, ground_of, once}
 use Rattle.recovery_plans.specs.Recoveries.{Recovery}
 use Rattle.recovery_plans.specs.Taking.{acted, attempted, barred_by, fate, last_exchanges, met, on_going, settled, taken, undone, Fate, Taken}
 use Rattle.recovery_plans.specs.Taking as taking
@@ -43,11 +43,11 @@ module _ (w : World) (b : BookState) (read : ℕ) (now : Moment) (r : Recovery) 
   abbrev Looks : JobStep → Type 0
   Looks x = (x ≡ step.Going) ⊎ (x ≡ step.Failed (cause.Reachable r.failed) [])
 
-  stays : once w b now r ≡ r
-  stays = ap (λ ops. by_queue w b now r ops r.queue) at.ops
+  stays : once (ground_of w b now) r ≡ r
+  stays = ap (λ ops. by_queue (ground_of w b now) r ops r.queue) at.ops
 
-  decides : decided w b now r ≡ r
-  decides = ap (λ x. once w b now (once w b now (once w b now x))) stays ∙ (ap (λ x. once w b now (once w b now x)) stays ∙ (ap (once w b now) stays ∙ stays))
+  decides : decided (ground_of w b now) r ≡ r
+  decides = ap (λ x. once (ground_of w b now) (once (ground_of w b now) (once (ground_of w b now) x))) stays ∙ (ap (λ x. once (ground_of w b now) (once (ground_of w b now) x)) stays ∙ (ap (once (ground_of w b now)) stays ∙ stays))
 
   none-undone : (u : Purpose) (seen : List Sight) (s : Stage) → IsOfDead u → undone w u seen r.failed s ≡ []
   none-undone purpose.Regroup seen s dead = refl
@@ -128,4 +128,4 @@ module _ (w : World) (c : Cause) (lines : List Line) where
   by-ops read now r (o ∷ rest) e = by-attempt r o (by_deed w read now r.core rest (deed_of o)) e
 
 pub fails-silently : (w : World) (b : BookState) (read : ℕ) (now : Moment) (r : Recovery) (c : Cause) (lines : List Line) → (taken w b read now r).step ≡ step.Failed c lines → lines ≡ []
-fails-silently w b read now r c lines e = by-ops w c lines read now (decided w b now r) (decided w b now r).core.ops e
+fails-silently w b read now r c lines e = by-ops w c lines read now (decided (ground_of w b now) r) (decided (ground_of w b now) r).core.ops e

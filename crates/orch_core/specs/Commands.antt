@@ -1,6 +1,7 @@
 -- Commands: what each answers, and what it changes.
 use Rattle.std.specs.Prelude.{◌+◌, ℕ, true, map, unwrap_or, List, [], ◌∷◌, Option, Some, None, Result, Ok, Err}
 use Rattle.std.specs.Option.{option_to_list}
+use Rattle.orch_base.specs.declared.recovery.Kind.{Kind}
 use Rattle.orch_base.specs.declared.server.ServerNo.{ServerNo}
 use Rattle.orch_base.specs.Memory.{next_count}
 use Rattle.kept_rows.specs.declared.observation.Observation.{Observation}
@@ -34,7 +35,7 @@ use Rattle.unended_jobs.specs.declared.unended.Unended.{Unended}
 use Rattle.permission.specs.Checks.{busy}
 use Rattle.recovery_core.specs.declared.scanning.Terms.{Terms}
 use Rattle.recovery_core.specs.Scans.{Staged, attempt_of, scanned}
-use Rattle.recovery_core.specs.Tries.{Begins as RecoveryBegins, recovery_try, takeover_try}
+use Rattle.recovery_core.specs.Tries.{Begins as RecoveryBegins, given_try, kind_try, recovery_try}
 use Rattle.recovery_permits.specs.declared.attempt.Attempt.{Attempt}
 use Rattle.kept_rows.specs.Recoveries.{put_recovery}
 use Rattle.orch_core.specs.declared.configuration.Configuration.{Configuration}
@@ -148,8 +149,11 @@ recovered w b a c n f = recovery_begun n (told_try c b (recovery_try w b a (by_h
 
 -- a replica takes a master's place
 abbrev pub taken_over : World → BookState → AuditState → Configuration → Numbers → Option ServerNo → ServerNo → Outcome
-taken_over w b a c n None i = refusal n.reads UnknownInstance
-taken_over w b a c n (Some d) i = recovery_begun n (told_try c b (takeover_try w b a (by_hand b c n i) n.wait (n.last_job + 1) i d))
+taken_over w b a c n d i = recovery_begun n (told_try c b (given_try w b a (by_hand b c n i) n.wait (n.last_job + 1) i d))
+
+-- of a kind that is asked for
+abbrev pub begun_by_hand : World → BookState → AuditState → Configuration → Numbers → Option Kind → ServerNo → Option ServerNo → Outcome
+begun_by_hand w b a c n what i d = recovery_begun n (told_try c b (kind_try w b a (by_hand b c n i) n.wait (n.last_job + 1) i d what))
 
 abbrev pub terms_of : BookState → Numbers → Terms
 terms_of b n = record { enabled = unwrap_or b.switch true; wait = n.wait; now = n.moment }

@@ -11,7 +11,7 @@ ghost use Rattle.orch_core.specs.Knowing.{LeavesIds};
 ghost use Rattle.orch_core.specs.CommandsBy.{outcome};
 
 use crate::exchanging::read_server;
-use crate::recovering::{recover, take_over};
+use crate::recovering::begin_by_hand;
 use crate::{Configuration, Reply};
 use asking_commands::{AnswerFault, answer, permit};
 use audit_log::Audit;
@@ -21,7 +21,7 @@ use command_jobs::{PermitFault, job, leases, permit as permit_job};
 use command_routes::{Decision, Planner, Route};
 use commands::{Command, CommandTurn, Line, Lines, Refusal};
 use instance_keeper::{Book, Change, Instance, Key, Observation, Row, Seen, Table};
-use orch_base::{Memory, Moment, ServerNo};
+use orch_base::{Kind, Memory, Moment, ServerNo};
 use recovery_core::Begun;
 use server_model::World;
 use std::alloc::Global;
@@ -379,19 +379,30 @@ pub(crate) fn outcome_of(
         (Route::Decides(what), _) => decision(alloc, book, audit, numbers, t, what),
         (Route::Begins(planner), _) => begin_by(alloc, world, book, numbers, t.command, planner),
         (Route::Recovers, Some(no)) => {
-            recover(alloc, world, book, audit, configuration, numbers, no)
-        }
-        (Route::TakesOver, Some(no)) => {
-            let designated = t.command.d;
-            take_over(
+            begin_by_hand(
                 alloc,
                 world,
                 book,
                 audit,
                 configuration,
                 numbers,
+                None,
                 no,
-                designated,
+                None,
+            )
+        }
+        (Route::TakesOver, Some(no)) => {
+            let takeover = Some(Kind::Takeover);
+            begin_by_hand(
+                alloc,
+                world,
+                book,
+                audit,
+                configuration,
+                numbers,
+                takeover,
+                no,
+                t.command.d,
             )
         }
         (Route::Recovers | Route::TakesOver, None) => {

@@ -7,7 +7,7 @@ ghost use Rattle.orch_base.specs.Gives.{Gives};
 ghost use Rattle.permission.specs.Checks.{permit_fault};
 ghost use Rattle.audit_log.specs.Audits.{longest_block};
 ghost use Rattle.recovery_core.specs.Tries.{Begins};
-ghost use Rattle.orch_core.specs.Commands.{by_hand, entries_put, recovered, recovery_begun, scan_by, taken_over, terms_of};
+ghost use Rattle.orch_core.specs.Commands.{begun_by_hand, entries_put, recovery_begun, scan_by, terms_of};
 ghost use Rattle.orch_core.specs.CommandsBy.{outcome};
 ghost use Rattle.orch_core.specs.HookTelling.{told_try};
 ghost use Rattle.orch_core.specs.Knowing.{LeavesIds};
@@ -18,33 +18,11 @@ use crate::telling::{all_told, with_told};
 use crate::{Configuration, Reply};
 use audit_log::{Audit, Periods};
 use book_views::{book_forest, label_at};
-use commands::Refusal;
 use instance_keeper::{Book, Change, Row};
-use orch_base::{Memory, ServerNo};
-use recovery_core::{Begun, PermitFault, Scan, Terms, scan, try_recovery, try_takeover};
-use recovery_permits::Attempt;
+use orch_base::{Kind, Memory, ServerNo};
+use recovery_core::{Ask, Begun, PermitFault, Scan, Terms, scan, try_begin};
 use server_model::World;
 use std::alloc::Global;
-
-// An operator asks for that of a server: the switch, downtimes and filters make no difference.
-fn by_hand(
-    book: &Book,
-    configuration: &Configuration,
-    numbers: Numbers,
-    failed: ServerNo,
-) -> Attempt
-    requires { failed.0 < length book.now.names }
-    ensures { result ≡ by_hand book.now configuration.now numbers failed }
-{
-    Attempt {
-        by_master: true,
-        by_intermediate: true,
-        enabled: true,
-        by_hand: true,
-        block: configuration.period(label_at(book, failed).as_str()),
-        now: numbers.moment,
-    }
-}
 
 // Each entry is kept.
 fn entries_put(alloc: Global, begun: &[Begun]) -> Result<Vec<Change>, Memory>
@@ -108,61 +86,47 @@ fn next_job(numbers: Numbers) -> Result<u64, Memory>
     numbers.last_job.checked_add(1).ok_or(Memory)
 }
 
-/// The recovery of a server begins, unless it is refused. Memory comes, too, where no number is left for a job, or no
-/// id in the audit.
-pub(crate) fn recover(
+/// What an operator asks for begins, unless it is refused: the recovery of a server, or the takeover of its place by a
+/// replica. The switch, downtimes and filters make no difference. Memory comes, too, where no number is left for a job,
+/// or no id in the audit.
+pub(crate) fn begin_by_hand(
     alloc: Global,
     world: &World,
     book: &Book,
     audit: &Audit,
     configuration: &Configuration,
     numbers: Numbers,
+    kind: Option<Kind>,
     failed: ServerNo,
-) -> Result<Outcome, Memory>
-    requires server { failed.0 < length book.now.names }
-    requires begun { All (λ r. r.begun.0 ≤ 2 ^ 63) audit.now.audit.recoveries }
-    ensures outcome { IfOk result (λ out. outcome out
-        ≡ recovered world.now book.now audit.now.audit configuration.now numbers failed) }
-    ensures ids { IfOk result (λ out. LeavesIds out.book) }
-{
-    let forest = book_forest(alloc, book)?;
-    let number = next_job(numbers)?;
-    let by = by_hand(book, configuration, numbers, failed);
-    let wait = numbers.wait;
-    let tried = try_recovery(alloc, book, &forest, world, audit, by, wait, number, failed);
-    recovery_begun(alloc, book, configuration, numbers, number, tried)
-}
-
-/// A replica's takeover of its master's place begins, unless it is refused. Memory comes, too, where no number is left
-/// for a job, or no id in the audit.
-pub(crate) fn take_over(
-    alloc: Global,
-    world: &World,
-    book: &Book,
-    audit: &Audit,
-    configuration: &Configuration,
-    numbers: Numbers,
-    master: ServerNo,
     designated: Option<ServerNo>,
 ) -> Result<Outcome, Memory>
-    requires i { master.0 < length book.now.names }
+    requires server { failed.0 < length book.now.names }
     requires d { IsTrue (is_within (length book.now.names) designated) }
     requires begun { All (λ r. r.begun.0 ≤ 2 ^ 63) audit.now.audit.recoveries }
-    ensures outcome { IfOk result (λ out. outcome out
-        ≡ taken_over world.now book.now audit.now.audit configuration.now numbers designated
-        master) }
+    ensures outcome { IfOk result (λ out. outcome out ≡ begun_by_hand world.now book.now
+        audit.now.audit configuration.now numbers kind failed designated) }
     ensures ids { IfOk result (λ out. LeavesIds out.book) }
 {
-    let Some(designated) = designated else {
-        return Ok(refused(alloc, numbers.reads, Refusal::UnknownInstance));
-    };
     let forest = book_forest(alloc, book)?;
     let number = next_job(numbers)?;
-    let by = by_hand(book, configuration, numbers, master);
-    let wait = numbers.wait;
-    let tried = try_takeover(
-        alloc, book, &forest, world, audit, by, wait, number, master, designated,
-    );
+    let ask = Ask {
+        world,
+        book,
+        forest: &forest,
+        audit,
+        by_master: true,
+        by_intermediate: true,
+        enabled: true,
+        by_hand: true,
+        kind,
+        failed,
+        designated,
+        block: configuration.period(label_at(book, failed).as_str()),
+        wait: numbers.wait,
+        job: number,
+        moment: numbers.moment,
+    };
+    let tried = try_begin(alloc, &ask);
     recovery_begun(alloc, book, configuration, numbers, number, tried)
 }
 

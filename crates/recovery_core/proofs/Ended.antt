@@ -13,8 +13,9 @@ use Rattle.commands.specs.Causes.{cause_name}
 use Rattle.operations.specs.declared.step.JobStep.{JobStep}
 use Rattle.operations.specs.declared.step.JobStep.TheVariants as step
 use Rattle.operations.specs.Turns.{is_going}
+use Rattle.recovery_plans.specs.Beginning.{is_takeover}
 use Rattle.recovery_plans.specs.Recoveries.{Recovery}
-use Rattle.recovery_core.specs.Endings.{done_with, ending_of, is_acknowledged, is_takeover}
+use Rattle.recovery_core.specs.Endings.{done_with, ending_of, is_acknowledged}
 
 done-closed : (o : Option ServerNo) → is_open (done_with o) ≡ false
 done-closed None = refl

@@ -1,5 +1,5 @@
 -- How a recovery's entry in the audit ends.
-use Rattle.std.specs.Prelude.{Bool, true, false, Option, None, Some}
+use Rattle.std.specs.Prelude.{Bool, false, Option, None, Some}
 use Rattle.orch_base.specs.declared.recovery.CauseName.TheVariants as named
 use Rattle.orch_base.specs.declared.recovery.Ending.{Ending}
 use Rattle.orch_base.specs.declared.recovery.Ending.TheVariants as ending
@@ -8,7 +8,7 @@ use Rattle.commands.specs.Causes.{cause_name}
 use Rattle.operations.specs.declared.step.JobStep.{JobStep}
 use Rattle.operations.specs.declared.step.JobStep.TheVariants as step
 use Rattle.recovery_plans.specs.declared.purpose.Purpose.{Purpose}
-use Rattle.recovery_plans.specs.declared.purpose.Purpose.TheVariants as purpose
+use Rattle.recovery_plans.specs.Beginning.{is_takeover}
 use Rattle.recovery_plans.specs.Recoveries.{Recovery}
 
 -- by the promoted server: without one nothing could be chosen
@@ -24,12 +24,6 @@ ending_with promoted (step.Failed c lines) = Some (ending.Failed (cause_name c))
 
 abbrev pub ending_of : Recovery → JobStep → Option Ending
 ending_of r s = ending_with r.outcome.promoted s
-
-abbrev pub is_takeover : Purpose → Bool
-is_takeover purpose.Regroup = false
-is_takeover purpose.Master = false
-is_takeover (purpose.Intermediate s) = false
-is_takeover (purpose.Takeover d) = true
 
 -- a takeover that is done is acknowledged in the same turn
 abbrev pub is_acknowledged_for : Purpose → JobStep → Bool

@@ -3,3 +3,4 @@ pub mod Groups
 pub mod Scans
 pub mod Begun
 pub mod Endings
+pub mod Asks

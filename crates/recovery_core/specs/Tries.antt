@@ -7,6 +7,7 @@ use Rattle.orch_base.specs.declared.recovery.Kind.TheVariants as kind
 use Rattle.orch_base.specs.declared.server.Moment.{Moment}
 use Rattle.orch_base.specs.declared.server.ServerNo.{ServerNo}
 use Rattle.commands.specs.declared.refusal.Refusal.{Refusal}
+use Rattle.commands.specs.declared.refusal.Refusal.TheVariants.{UnknownInstance}
 use Rattle.instance_keeper.specs.Book.{BookState}
 use Rattle.kept_rows.specs.declared.recovery.Recovery.{Recovery as KeptRecovery}
 use Rattle.book_views.specs.Sources.{label_at, replicas_of}
@@ -84,3 +85,15 @@ recovery_try w b audit a wait job f = unless_refused (recovery_refusal w b audit
 
 abbrev pub takeover_try : World → BookState → AuditState → Attempt → ℕ → ℕ → ServerNo → ServerNo → Result Begins Refusal
 takeover_try w b audit a wait job i d = unless_refused (takeover_refusal w b audit a i d) (takeover_begins b audit a.now a.block wait job i d)
+
+-- where a replica is given
+abbrev pub given_try : World → BookState → AuditState → Attempt → ℕ → ℕ → ServerNo → Option ServerNo → Result Begins Refusal
+given_try w b audit a wait job i None = Err UnknownInstance
+given_try w b audit a wait job i (Some d) = takeover_try w b audit a wait job i d
+
+-- of a kind that is asked for: any recovery but a takeover is of the kind of its failed server
+abbrev pub kind_try : World → BookState → AuditState → Attempt → ℕ → ℕ → ServerNo → Option ServerNo → Option Kind → Result Begins Refusal
+kind_try w b audit a wait job f d None = recovery_try w b audit a wait job f
+kind_try w b audit a wait job f d (Some kind.Master) = recovery_try w b audit a wait job f
+kind_try w b audit a wait job f d (Some kind.Intermediate) = recovery_try w b audit a wait job f
+kind_try w b audit a wait job f d (Some kind.Takeover) = given_try w b audit a wait job f d

@@ -1,7 +1,8 @@
 //! How a recovery's entry in the audit ends.
 
 ghost use Rattle.std.specs.Prelude.{◌≡◌};
-ghost use Rattle.recovery_core.specs.Endings.{done_with, ending_with, is_acknowledged_for, is_takeover};
+ghost use Rattle.recovery_plans.specs.Beginning.{is_takeover};
+ghost use Rattle.recovery_core.specs.Endings.{done_with, ending_with, is_acknowledged_for};
 
 use operations::JobStep;
 use orch_base::{CauseName, Ending, ServerNo};

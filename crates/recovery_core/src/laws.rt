@@ -16,11 +16,12 @@ ghost use Rattle.failure_analysis.specs.declared.code.Action.TheVariants.{Nothin
 ghost use Rattle.failure_analysis.specs.declared.entry.Entry.{Entry as AnEntry};
 ghost use Rattle.operations.specs.declared.step.JobStep.{JobStep as AStep};
 ghost use Rattle.operations.specs.Turns.{is_going};
+ghost use Rattle.recovery_plans.specs.Beginning.{is_takeover};
 ghost use Rattle.recovery_plans.specs.Recoveries.{Recovery};
 ghost use Rattle.recovery_permits.specs.declared.attempt.Attempt.{Attempt as AnAttempt};
 ghost use Rattle.server_model.specs.Worlds.{World};
 ghost use Rattle.recovery_core.specs.Begun.{audit_after, leases_after, BeginInTurn, CanBegin};
-ghost use Rattle.recovery_core.specs.Endings.{ending_of, is_acknowledged, is_takeover};
+ghost use Rattle.recovery_core.specs.Endings.{ending_of, is_acknowledged};
 ghost use Rattle.recovery_core.specs.Scans.{after_try, from_start, scanned, staged_try, Staged};
 ghost use Rattle.recovery_core.specs.Tries.{recovery_try, takeover_try, Begins};
 

@@ -2,6 +2,7 @@
 //! documentation, "Topology recovery").
 #![tactic(auto)]
 
+mod ask;
 mod begun;
 mod codes;
 mod ending;
@@ -13,6 +14,7 @@ mod takeover;
 mod threads;
 mod tries;
 
+pub use ask::{Ask, try_begin};
 pub use begun::Begun;
 pub use ending::{ending_of, is_acknowledged};
 pub use laws::{
@@ -24,5 +26,3 @@ pub use orch_base::Memory;
 pub use permission::PermitFault;
 pub use scanning::{Terms, scan};
 pub use stage::Scan;
-pub use takeover::try_takeover;
-pub use tries::try_recovery;

@@ -1,6 +1,6 @@
 //! How far a scan has come.
 
-ghost use Rattle.std.specs.Prelude.{◌≡◌, ◌<◌, ◌≤◌, ◌-◌, ◌^◌, ◌∷◌, All, Err, IfOk, None, Ok, OnOk, length, slice_index_or};
+ghost use Rattle.std.specs.Prelude.{◌≡◌, ◌<◌, ◌≤◌, ◌-◌, ◌^◌, All, Err, IfOk, None, Ok, OnOk, length, slice_index_or};
 ghost use Rattle.instance_keeper.specs.Leases.{taken};
 ghost use Rattle.book_views.specs.Sources.{replicas_of};
 ghost use Rattle.audit_log.specs.Apart.{MayBegin};
@@ -17,7 +17,7 @@ use commands::{Line, Lines, Refusal};
 use failure_analysis::Entry;
 use instance_keeper::Book;
 use orch_base::ServerNo;
-use recovery_permits::{Attempt, refusal_by_code};
+use recovery_permits::{Attempt, recovery_servers, refusal_by_code};
 use server_model::World;
 use std::alloc::Global;
 use std::marker::Model;
@@ -57,16 +57,6 @@ fn take(leases: &mut [Option<u64>], servers: &[ServerNo], job: u64)
     for no in servers {
         leases[no.0 as usize] = Some(job);
     }
-}
-
-// A server, and then its replicas.
-fn listed(alloc: Global, no: ServerNo, replicas: &[ServerNo]) -> Result<Vec<ServerNo>, Memory>
-    ensures { IfOk result (λ v. v.items ≡ no ∷ replicas.now) }
-{
-    let mut list = Vec::new(alloc);
-    list.push(no)?;
-    list.extend_from_slice(replicas)?;
-    Ok(list)
 }
 
 /// What a scan tells of each instance whose analysis asks for a recovery, in name order, and the recoveries that may
@@ -195,7 +185,7 @@ impl Stage {
             (staged_try world.now book.now attempt wait self.old entry.no)) }
         ensures room { OnOk result (HasRoom self.old.begun → HasRoom self.new.begun) }
     {
-        let list = listed(alloc, entry.no, replicas)?;
+        let list = recovery_servers(alloc, entry.no, replicas)?;
         if let Some(refusal) = self.refusal(book, world, attempt, &list, replicas, entry) {
             return self.refuse(entry, refusal);
         }

@@ -3,87 +3,79 @@
 ghost use Rattle.std.specs.Prelude.{◌≡◌, ◌<◌, ◌≤◌, ◌-◌, ◌^◌, All, IfOk, length};
 ghost use Rattle.orch_base.specs.Gives.{Gives};
 ghost use Rattle.book_views.specs.Forests.{book_forest};
+ghost use Rattle.book_views.specs.Sources.{replicas_of};
 ghost use Rattle.permission.specs.Checks.{permit_fault};
-ghost use Rattle.recovery_core.specs.Tries.{takeover_begins, takeover_try};
+ghost use Rattle.recovery_permits.specs.Takeovers.{followers_of};
+ghost use Rattle.recovery_core.specs.Asks.{takeover_try_of};
+ghost use Rattle.recovery_core.specs.Tries.{takeover_begins};
 
 use crate::tries::entry_of;
-use crate::{Begun, Memory, PermitFault};
-use audit_log::Audit;
+use crate::{Ask, Begun, Memory, PermitFault};
 use book_views::replicas;
-use instance_keeper::Book;
-use orch_base::{Kind, Moment, ServerNo};
-use recovery_permits::{Attempt, followers_of, permit_takeover, recovery_servers};
+use orch_base::{Kind, ServerNo};
+use recovery_permits::{followers_of, permit_takeover, recovery_servers};
 use recovery_plans::{Means, Purpose};
 use recovery_turns::RecoveryJob;
-use server_model::World;
 use std::alloc::Global;
-use topology_tree::Forest;
 
 fn takeover_begins(
     alloc: Global,
-    book: &Book,
-    audit: &Audit,
-    now: Moment,
-    block: u64,
-    wait: u32,
-    job: u64,
-    i: ServerNo,
-    d: ServerNo,
+    ask: &Ask<'_>,
+    designated: ServerNo,
+    replicas: Vec<ServerNo>,
+    order: Vec<ServerNo>,
 ) -> Result<Begun, Memory>
-    requires { i.0 < length book.now.names }
-    ensures begins { IfOk result (λ x. x
-        ≡ takeover_begins book.now audit.now.audit now block wait job i d) }
+    requires server { ask.now.failed.0 < length ask.now.book.now.names }
+    requires replicas { replicas.items ≡ replicas_of ask.now.book.now ask.now.failed }
+    requires order { order.items ≡ followers_of ask.now.book.now ask.now.failed designated }
+    ensures begins { IfOk result (λ x. x ≡ takeover_begins ask.now.book.now ask.now.audit.now.audit
+        ask.now.moment ask.now.block ask.now.wait ask.now.job ask.now.failed designated) }
     ensures room { IfOk result (λ x. x.entry.id < 2 ^ 64 - 1) }
 {
-    let entry = entry_of(alloc, book, audit, now, block, Kind::Takeover, i)?;
-    let list = recovery_servers(alloc, book, i)?;
-    let replicas = replicas(alloc, book, i)?;
-    let order = followers_of(alloc, book, i, d)?;
+    let (book, audit, master) = (ask.book, ask.audit, ask.failed);
+    let (now, block) = (ask.moment, ask.block);
+    let entry = entry_of(alloc, book, audit, now, block, Kind::Takeover, master)?;
+    let list = recovery_servers(alloc, master, &replicas)?;
     let job = RecoveryJob::make(
         alloc,
-        Purpose::Takeover(d),
+        Purpose::Takeover(designated),
         Means::Bridges,
-        job,
-        wait,
-        i,
+        ask.job,
+        ask.wait,
+        master,
         replicas,
         order,
     )?;
     Ok(Begun::new(list, job, entry, None))
 }
 
-/// Tries the takeover of a master's place by a replica, as the job of this number, whose operations may wait so often
-/// each: what begins, or the refusal of the lowest number that applies. It changes nothing. Moments are at most 2^63.
-/// `Memory` comes, too, where the audit has no id left.
-pub fn try_takeover(
+/// The takeover of a master's place by this replica, as it is asked for.
+pub(crate) fn try_takeover(
     alloc: Global,
-    book: &Book,
-    forest: &Forest,
-    world: &World,
-    audit: &Audit,
-    attempt: Attempt,
-    wait: u32,
-    job: u64,
-    i: ServerNo,
-    d: ServerNo,
+    ask: &Ask<'_>,
+    designated: ServerNo,
 ) -> Result<Begun, PermitFault>
-    requires servers { (i.0 < length book.now.names) × (d.0 < length book.now.names) }
-    requires forest { forest.now ≡ book_forest book.now }
-    requires begun { All (λ r. r.begun.0 ≤ 2 ^ 63) audit.now.audit.recoveries }
-    ensures begins { Gives (λ x. x) permit_fault result (takeover_try world.now book.now
-        audit.now.audit attempt wait job i d) }
+    requires master { ask.now.failed.0 < length ask.now.book.now.names }
+    requires designated { designated.0 < length ask.now.book.now.names }
+    requires forest { ask.now.forest.now ≡ book_forest ask.now.book.now }
+    requires begun { All (λ r. r.begun.0 ≤ 2 ^ 63) ask.now.audit.now.audit.recoveries }
+    ensures begins { Gives (λ x. x) permit_fault result (takeover_try_of ask.now designated) }
     ensures room { IfOk result (λ x. x.entry.id < 2 ^ 64 - 1) }
 {
-    permit_takeover(alloc, book, forest, world, audit, attempt, i, d)?;
-    Ok(takeover_begins(
+    let (book, master) = (ask.book, ask.failed);
+    let replicas = replicas(alloc, book, master)?;
+    let followers = followers_of(alloc, book, master, designated)?;
+    permit_takeover(
         alloc,
         book,
-        audit,
-        attempt.now,
-        attempt.block,
-        wait,
-        job,
-        i,
-        d,
-    )?)
+        ask.forest,
+        ask.world,
+        ask.audit,
+        ask.attempt(),
+        master,
+        designated,
+        &replicas,
+        &followers,
+    )?;
+    Ok(takeover_begins(alloc, ask, designated, replicas, followers)?)
 }

@@ -7,21 +7,20 @@ ghost use Rattle.book_views.specs.Sources.{replicas_of};
 ghost use Rattle.permission.specs.Checks.{permit_fault};
 ghost use Rattle.recovery_permits.specs.Checks.{code_at};
 ghost use Rattle.recovery_permits.specs.Recoveries.{recovery_list};
-ghost use Rattle.recovery_core.specs.Tries.{entry_of, recovery_begins, recovery_kind, recovery_try};
+ghost use Rattle.recovery_core.specs.Asks.{recovery_try_of};
+ghost use Rattle.recovery_core.specs.Tries.{entry_of, recovery_begins, recovery_kind};
 
 use crate::codes::code_at;
-use crate::{Begun, Memory, PermitFault};
+use crate::{Ask, Begun, Memory, PermitFault};
 use audit_log::Audit;
 use book_views::{label_at, replicas};
 use instance_keeper::{Book, Recovery};
 use orch_base::{Code, Ending, Kind, Moment, ServerNo};
 use permission::source;
-use recovery_permits::{Attempt, permit_recovery, recovery_purpose, recovery_servers};
+use recovery_permits::{permit_recovery, recovery_purpose, recovery_servers};
 use recovery_plans::Means;
 use recovery_turns::RecoveryJob;
-use server_model::World;
 use std::alloc::Global;
-use topology_tree::Forest;
 
 /// The entry of a recovery that begins, with this block period. Where the audit has no id left, memory wants.
 pub(crate) fn entry_of(
@@ -110,42 +109,23 @@ pub(crate) fn recovery_begins(
     Ok(Begun::new(list, job, entry, code))
 }
 
-/// Tries the recovery of a server, as the job of this number, whose operations may wait so often each: what begins, or
-/// the refusal of the lowest number that applies. It changes nothing. Moments are at most 2^63. `Memory` comes, too,
-/// where the audit has no id left.
-pub fn try_recovery(
-    alloc: Global,
-    book: &Book,
-    forest: &Forest,
-    world: &World,
-    audit: &Audit,
-    attempt: Attempt,
-    wait: u32,
-    job: u64,
-    failed: ServerNo,
-) -> Result<Begun, PermitFault>
-    requires server { failed.0 < length book.now.names }
-    requires forest { forest.now ≡ book_forest book.now }
-    requires begun { All (λ r. r.begun.0 ≤ 2 ^ 63) audit.now.audit.recoveries }
-    ensures begins { Gives (λ x. x) permit_fault result (recovery_try world.now book.now
-        audit.now.audit attempt wait job failed) }
+/// The recovery of a server, as it is asked for.
+pub(crate) fn try_recovery(alloc: Global, ask: &Ask<'_>) -> Result<Begun, PermitFault>
+    requires server { ask.now.failed.0 < length ask.now.book.now.names }
+    requires forest { ask.now.forest.now ≡ book_forest ask.now.book.now }
+    requires begun { All (λ r. r.begun.0 ≤ 2 ^ 63) ask.now.audit.now.audit.recoveries }
+    ensures begins { Gives (λ x. x) permit_fault result (recovery_try_of ask.now) }
     ensures room { IfOk result (λ x. x.entry.id < 2 ^ 64 - 1) }
 {
+    let (book, audit, failed) = (ask.book, ask.audit, ask.failed);
     let code = code_at(alloc, book, failed)?;
-    permit_recovery(alloc, book, forest, world, audit, attempt, failed, code)?;
-    let list = recovery_servers(alloc, book, failed)?;
     let replicas = replicas(alloc, book, failed)?;
+    let attempt = ask.attempt();
+    permit_recovery(
+        alloc, book, ask.forest, ask.world, audit, attempt, failed, &replicas, code,
+    )?;
+    let list = recovery_servers(alloc, failed, &replicas)?;
     Ok(recovery_begins(
-        alloc,
-        book,
-        audit,
-        attempt.now,
-        attempt.block,
-        wait,
-        job,
-        failed,
-        code,
-        list,
-        replicas,
+        alloc, book, audit, ask.moment, ask.block, ask.wait, ask.job, failed, code, list, replicas,
     )?)
 }

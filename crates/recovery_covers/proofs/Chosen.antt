@@ -27,7 +27,7 @@ use Rattle.recovery_plans.specs.Beginning.{first_source}
 use Rattle.recovery_plans.specs.Recoveries.{Recovery}
 use Rattle.recovery_plans.specs.Stages.{target}
 use Rattle.recovery_plans.specs.Deciding as deciding
-use Rattle.recovery_plans.specs.Deciding.{Lot, chosen_of, lot_by, lot_by_group, move_of, stay_of, moves_in, losses_in, own_end_of, without_stopped, choose, expels}
+use Rattle.recovery_plans.specs.Deciding.{Lot, chosen_of, ground_of, lot_by, lot_by_group, move_of, stay_of, moves_in, losses_in, own_end_of, without_stopped, choose, expels}
 use Rattle.recovery_plans.proofs.Choices.{All-chosen}
 use Rattle.standing_laws.specs.Standing.{IsSourced, IsApart}
 use Rattle.recovery_covers.specs.Covers.{times, lost_nos, listed, owed, leader}
@@ -65,9 +65,9 @@ abbrev pub IsLotOf : ServerNo → Lot → Type 0
 IsLotOf p (deciding.Goes by) = target by ≡ p
 IsLotOf p (deciding.Stays why) = Unit {0}
 
-pub lot-is : (m : Means) (w : World) (b : BookState) (f : ServerNo) (p s : Stopped) → IsLotOf p.no (lot_by m w b f p s)
-lot-is (means.Matches every) w b f p s = refl
-lot-is means.Bridges w b f p s = go w.gtid
+pub lot-is : (m : Means) (w : World) (b : BookState) (now : Moment) (f : ServerNo) (p s : Stopped) → IsLotOf p.no (lot_by m (ground_of w b now) f p s)
+lot-is (means.Matches every) w b now f p s = refl
+lot-is means.Bridges w b now f p s = go w.gtid
   where
     by-group : (g : Group) → IsLotOf p.no (lot_by_group p.no f s g)
     by-group (group.Follow at) = refl
@@ -102,14 +102,6 @@ module _ (f : ServerNo) (lot : Stopped → Lot) where
   moves-choose ts (s ∷ ss) = go (lot s) (moves-choose ts ss)
     where
       go : (x : Lot) → chooses (moves_in lot ss ++ ts) ≡ chooses ts → chooses ((move_of s x ++ moves_in lot ss) ++ ts) ≡ chooses ts
-      go (deciding.Goes by) h = h
-      go (deciding.Stays why) h = h
-
-  moves-decide : (ts : List Task) (ss : List Stopped) → decides (moves_in lot ss ++ ts) ≡ decides ts
-  moves-decide ts [] = refl
-  moves-decide ts (s ∷ ss) = go (lot s) (moves-decide ts ss)
-    where
-      go : (x : Lot) → decides (moves_in lot ss ++ ts) ≡ decides ts → decides ((move_of s x ++ moves_in lot ss) ++ ts) ≡ decides ts
       go (deciding.Goes by) h = h
       go (deciding.Stays why) h = h
 
@@ -153,18 +145,18 @@ module _ (f : ServerNo) (lot : Stopped → Lot) where
 
 -- ---- the choice
 
-module _ (w : World) (b : BookState) (now : Moment) (r : Recovery) (ts : List Task) (c : CoversAt w (record r { queue = task.Choosing ∷ ts }) stage.Idle) (p : Stopped) (is : chosen_of w b now r.failed r.drained ≡ Some p) where
+module _ (w : World) (b : BookState) (now : Moment) (r : Recovery) (ts : List Task) (c : CoversAt w (record r { queue = task.Choosing ∷ ts }) stage.Idle) (p : Stopped) (is : chosen_of (ground_of w b now) r.failed r.drained ≡ Some p) where
   abbrev lot : Stopped → Lot
-  lot = lot_by r.means w b r.failed p
+  lot = lot_by r.means (ground_of w b now) r.failed p
 
-  each : (s : Stopped) → IsLotOf p.no (lot_by r.means w b r.failed p s)
-  each s = lot-is r.means w b r.failed p s
+  each : (s : Stopped) → IsLotOf p.no (lot_by r.means (ground_of w b now) r.failed p s)
+  each s = lot-is r.means w b now r.failed p s
 
   abbrev rest : List Stopped
   rest = without_stopped r.drained p.no
 
   abbrev after : Recovery
-  after = choose w b now (record r { queue = ts }) (Some p)
+  after = choose (ground_of w b now) (record r { queue = ts }) (Some p)
 
   none : (r.chosen ≡ None) × (r.outcome.promoted ≡ None)
   none = c.unchosen refl

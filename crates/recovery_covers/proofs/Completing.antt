@@ -26,7 +26,7 @@ use Rattle.recovery_plans.specs.declared.purpose.Purpose.TheVariants as purpose
 use Rattle.recovery_plans.specs.declared.stage.Stage.{Stage}
 use Rattle.recovery_plans.specs.declared.stage.Stage.TheVariants as stage
 use Rattle.recovery_plans.specs.declared.task.Way.TheVariants as way
-use Rattle.recovery_plans.specs.Beginning.{first_source}
+use Rattle.recovery_plans.specs.Beginning.{first_source, is_takeover}
 use Rattle.recovery_plans.specs.Recoveries.{Recovery, follows, loses}
 use Rattle.recovery_plans.specs.Stages.{tail_of}
 use Rattle.recovery_plans.specs.Telling.{told}
@@ -38,7 +38,7 @@ use Rattle.recovery_plans.proofs.Choices.{same-no}
 use Rattle.recovery_ends.specs.Shapes.{Fits}
 use Rattle.standing_laws.specs.Standing.{IsUnder, IsSourced, IsApart}
 use Rattle.recovery_covers.specs.Covers.{times, lost_nos, listed, leader, crowns}
-use Rattle.recovery_covers.specs.SoFar.{of_stage, chooses, is_takeover, is_late, Leads, FollowsBy, IsLast, IsPromoted, OldFollows, Stands, CoversAt, CoversSoFar}
+use Rattle.recovery_covers.specs.SoFar.{of_stage, chooses, is_late, Leads, FollowsBy, IsLast, IsPromoted, OldFollows, Stands, CoversAt, CoversSoFar}
 use Rattle.recovery_covers.proofs.Times.{one, times-push}
 use Rattle.recovery_covers.proofs.Covering.{queue-as, master-crowns, takeover-crowns, crowned-leader, giving-on, restaged}
 use Rattle.recovery_covers.proofs.Changing.{old-master}

@@ -18,12 +18,12 @@ use Rattle.recovery_plans.specs.declared.task.Way.{Way}
 use Rattle.recovery_plans.specs.declared.task.Way.TheVariants as way
 use Rattle.recovery_plans.specs.declared.task.Task.{Task}
 use Rattle.recovery_plans.specs.declared.task.Task.TheVariants as task
-use Rattle.recovery_plans.specs.Beginning.{is_master}
+use Rattle.recovery_plans.specs.Beginning.{is_master, is_takeover}
 use Rattle.recovery_plans.specs.Deciding.{expels}
 use Rattle.recovery_plans.specs.Recoveries.{Recovery}
 use Rattle.standing_laws.specs.Standing.{IsUnder, IsSourced, IsApart, KeepsSource, Stays, IsSourcedAsSeen, Reads}
 use Rattle.recovery_covers.specs.Covers.{times, follower_nos, lost_nos, listed, owed, leader, crowns, HasSwapped}
-use Rattle.recovery_covers.specs.SoFar.{stopped_nos, of_task, of_queue, of_stage, is_takeover, is_intermediate, is_late, Leads, Awaits, IsLast, IsPromoted, IsCrowned, IsGiving, Stands, CoversAt, CoversSoFar}
+use Rattle.recovery_covers.specs.SoFar.{stopped_nos, of_task, of_queue, of_stage, is_intermediate, is_late, Leads, Awaits, IsLast, IsPromoted, IsCrowned, IsGiving, Stands, CoversAt, CoversSoFar}
 use Rattle.standing_laws.proofs.Standing.{Stays-keeps, Under-keeps, Sourced-keeps, Apart-keeps, Free-keeps, Ruling-stays}
 use Rattle.recovery_covers.proofs.Times.{times-append, All-counted, self-times}
 

@@ -20,18 +20,18 @@ use Rattle.recovery_plans.specs.declared.stage.Stage.TheVariants as stage
 use Rattle.recovery_plans.specs.declared.task.Task.{Task}
 use Rattle.recovery_plans.specs.declared.task.Task.TheVariants as task
 use Rattle.recovery_plans.specs.declared.task.Way.TheVariants as way
-use Rattle.recovery_plans.specs.Beginning.{first_source, is_master}
+use Rattle.recovery_plans.specs.Beginning.{first_source, is_master, is_takeover}
 use Rattle.recovery_plans.specs.Recoveries.{Recovery, working}
-use Rattle.recovery_plans.specs.Stages.{level, tail_of}
+use Rattle.recovery_plans.specs.Stages.{level}
 use Rattle.recovery_plans.specs.Telling.{told}
-use Rattle.recovery_plans.specs.Deciding.{better_of, choose, closing, crown, expels, rejoin, releases, sort, why_of, yield}
+use Rattle.recovery_plans.specs.Deciding.{better_of, choose, closing, crown, expels, ground_of, rejoin, releases, sort, why_of, yield}
 use Rattle.recovery_plans.specs.Moves as by
 use Rattle.recovery_plans.specs.Moves.{Decision, IsNext, MayDecide, decided_by, follows_lead}
 use Rattle.recovery_plans.proofs.Choices.{All-better}
 use Rattle.recovery_plans.proofs.Walking.{decides-idle}
 use Rattle.standing_laws.specs.Standing.{IsSourced}
 use Rattle.recovery_covers.specs.Covers.{times, follower_nos, lost_nos, crowns}
-use Rattle.recovery_covers.specs.SoFar.{of_task, of_queue, of_stage, chooses, decides, is_nil, in_order, is_takeover, is_intermediate, Leads, Awaits, OldFollows, Stands, CoversAt, CoversSoFar}
+use Rattle.recovery_covers.specs.SoFar.{of_task, of_queue, of_stage, chooses, decides, is_nil, in_order, is_intermediate, Leads, Awaits, OldFollows, Stands, CoversAt, CoversSoFar}
 use Rattle.recovery_covers.proofs.Times.{one, times-append, self-all}
 use Rattle.recovery_covers.proofs.Covering.{queue-as}
 use Rattle.recovery_covers.proofs.Chosen.{unnamed, unnamed-apart, chosen-covers}
@@ -271,7 +271,7 @@ module _ (w : World) where
         moves = λ n x h. let bad : stage.Idle ≡ stage.Move n (way.Up x) = sym idle ∙ h in cc;
       }
 
-      swapping : (p q : ServerNo) → is_master r.purpose ≡ true → r.chosen ≡ Some p → better_of w b now r.failed p (map (λ x. x.no) r.outcome.followers) ≡ Some q
+      swapping : (p q : ServerNo) → is_master r.purpose ≡ true → r.chosen ≡ Some p → better_of (ground_of w b now) r.failed p (map (λ x. x.no) r.outcome.followers) ≡ Some q
           → CoversSoFar w (working (record r { swaps = false }) (stage.Level p q) (level p q))
       swapping p q u is e =
           let listed = (All-better w b now r.failed (λ (x : ServerNo). 0 < times x.0 (follower_nos r.outcome.followers)) p (follower_nos r.outcome.followers) q (All-map (λ (x : ServerNo). 0 < times x.0 (follower_nos r.outcome.followers)) (λ x. x.no) r.outcome.followers (self-all (λ x. x.no) r.outcome.followers)) e).0 in
@@ -318,7 +318,7 @@ module _ (w : World) where
         leads (inl e) = e
         leads (inr y) = absurd (false≢true y.0)
 
-    decides-at : (r : Recovery) (d : Decision) → MayDecide w b now r d → r.core.ops ≡ [] → r.stage ≡ stage.Idle → CoversAt w r stage.Idle → Fine (decided_by w b now r d)
+    decides-at : (r : Recovery) (d : Decision) → MayDecide (ground_of w b now) r d → r.core.ops ≡ [] → r.stage ≡ stage.Idle → CoversAt w r stage.Idle → Fine (decided_by (ground_of w b now) r d)
     decides-at r (by.Reads n ts) next none idle c =
         inl (so-far _ (stage.Read n) _ _ refl refl (λ m way h. cc) (begins r (task.Reading n) ts (stage.Read n) _ (next-covers r (task.Reading n) ts next c) refl refl refl (λ h. h) tt))
     decides-at r (by.Drains n ts) next none idle c =
@@ -344,12 +344,12 @@ module _ (w : World) where
     decides-at r (by.Sticks t ts) g none idle c =
         inr (record { ops = none; queue = refl; chosen = refl; apart = takeover-apart r.purpose (lead-takeover (record r { queue = t ∷ ts }) t g.1 (awaited r t ts g.0 c)) })
     decides-at r (by.Chooses p ts) (next, e) none idle c =
-        inl (at-rest (choose w b now (record r { queue = ts }) (Some p)) idle (chosen-covers w b now r ts (next-covers r task.Choosing ts next c) p e))
+        inl (at-rest (choose (ground_of w b now) (record r { queue = ts }) (Some p)) idle (chosen-covers w b now r ts (next-covers r task.Choosing ts next c) p e))
     decides-at r (by.ChoosesNobody ts) (next, e) none idle c =
         let at = next-covers r task.Choosing ts next c in
         inr (record { ops = none; queue = refl; chosen = refl; apart = unnamed-apart r.purpose (unnamed r.purpose r.chosen (at.unchosen refl).0 at.named) })
-    decides-at r (by.Hands d ds way ts) g none idle c = inl (hands-covers w b r d ds way ts g c)
-    decides-at r (by.Leaves d ds ts) g none idle c = inl (at-rest _ idle (leaves-covers w b r d ds None ts g c))
+    decides-at r (by.Hands d ds way ts) g none idle c = inl (hands-covers w b now r d ds way ts g c)
+    decides-at r (by.Leaves d ds ts) g none idle c = inl (at-rest _ idle (leaves-covers w b now r d ds None ts g c))
     decides-at r (by.HandedOver ts) g none idle c = inl (at-rest _ idle (handed-over w b r ts g.0.queue g.1 c))
     decides-at r (by.Passes ts) (next, e) none idle c =
         let named = intermediate-named r.purpose r.chosen (awaited r task.Handing ts next c) c.named in
@@ -365,7 +365,7 @@ module _ (w : World) where
     no-next : (r : Recovery) (t : Task) (ts : List Task) → IsStuck r → IsNext r t ts → ⊥
     no-next r t ts x next = let bad : [] ≡ t ∷ ts = sym x.queue ∙ next.queue in cc
 
-    decides-stuck : (r : Recovery) (d : Decision) → MayDecide w b now r d → IsStuck r → Fine (decided_by w b now r d)
+    decides-stuck : (r : Recovery) (d : Decision) → MayDecide (ground_of w b now) r d → IsStuck r → Fine (decided_by (ground_of w b now) r d)
     decides-stuck r by.Remains g x = inr (record { ops = x.ops; queue = x.queue; chosen = x.chosen; apart = x.apart })
     decides-stuck r (by.Levels p q) g x = let bad : None ≡ Some p = sym x.chosen ∙ g.2 in cc
     decides-stuck r (by.Crowns p) g x = let bad : None ≡ Some p = sym x.chosen ∙ g.2 in cc
@@ -381,7 +381,7 @@ module _ (w : World) where
     decides-stuck r (by.Leaves d ds ts) g x = absurd (no-next r _ _ x g.next)
     decides-stuck r d g x = absurd (no-next r _ _ x g.0)
 
-    pub decides-covers : (r : Recovery) (d : Decision) → MayDecide w b now r d → Fine r → Fine (decided_by w b now r d)
+    pub decides-covers : (r : Recovery) (d : Decision) → MayDecide (ground_of w b now) r d → Fine r → Fine (decided_by (ground_of w b now) r d)
     decides-covers r d may (inl c) =
         let none = decides-idle w b now r d may in
         let idle = c.rests none in

@@ -6,6 +6,7 @@ use Rattle.std.proofs.lemmas.Bool.{false≢true, and_parts, eqb-true, eq-eqb}
 use Rattle.std.proofs.lemmas.Option.{same_Some}
 use Rattle.std.proofs.lemmas.List.Elements.{All-nil, All-cons, All-head, All-tail, All-push}
 use Rattle.binlog_coords.specs.Log.{same_coord}
+use Rattle.orch_base.specs.declared.server.Moment.{Moment}
 use Rattle.orch_base.specs.declared.server.ServerNo.{ServerNo}
 use Rattle.server_model.specs.Worlds.{World}
 use Rattle.recovery_plans.specs.Whys as lost
@@ -25,7 +26,7 @@ use Rattle.recovery_plans.specs.declared.task.Task.{Task}
 use Rattle.recovery_plans.specs.declared.task.Task.TheVariants as task
 use Rattle.recovery_plans.specs.declared.task.Way.{Way}
 use Rattle.recovery_plans.specs.declared.task.Way.TheVariants as way
-use Rattle.recovery_plans.specs.Deciding.{expels, logs_at, moving, way_by_set, way_below}
+use Rattle.recovery_plans.specs.Deciding.{expels, ground_of, logs_at, moving, way_by_set, way_below}
 use Rattle.recovery_plans.specs.Recoveries.{Recovery, loses, sight_of}
 use Rattle.recovery_plans.specs.Stages.{before, tail_of, target, with_way}
 use Rattle.recovery_plans.specs.Moves.{IsHanding}
@@ -58,8 +59,8 @@ some-op n (way.Auto to exec) h = cc
 some-op n (way.Match to exec every) h = cc
 
 -- a way below the successor leads there
-pub way-leads : (w : World) (b : BookState) (xs : List Sight) (x s : ServerNo) (d : Stopped) (by : Way) → way_below w b xs x s d ≡ Some by → target by ≡ s
-way-leads w b xs x s d by h = go w.gtid h
+pub way-leads : (w : World) (b : BookState) (now : Moment) (xs : List Sight) (x s : ServerNo) (d : Stopped) (by : Way) → way_below (ground_of w b now) xs x s d ≡ Some by → target by ≡ s
+way-leads w b now xs x s d by h = go w.gtid h
   where
     units : (ys : List Bridge) → All (λ (y : Bridge). Unit {0}) ys
     units [] = All-nil (λ (y : Bridge). Unit {0})
@@ -193,14 +194,14 @@ module _ (w : World) (b : BookState) where
   pub handed-over : (r : Recovery) (ts : List Task) → r.queue ≡ task.Handing ∷ ts → r.drained ≡ [] → CoversAt w r stage.Idle → CoversAt w (record r { queue = ts; drained = [] }) stage.Idle
   handed-over r ts queue drained c = handed (record r { queue = ts }) (handing r [] ts queue drained c)
 
-  pub leaves-covers : (r : Recovery) (d : Stopped) (ds : List Stopped) (o : Option Way) (ts : List Task) → IsHanding w b r d ds o ts → CoversAt w r stage.Idle
+  pub leaves-covers : (now : Moment) (r : Recovery) (d : Stopped) (ds : List Stopped) (o : Option Way) (ts : List Task) → IsHanding (ground_of w b now) r d ds o ts → CoversAt w r stage.Idle
       → CoversAt w (record (loses r d.no (lost.behind d.exec)) { drained = ds }) stage.Idle
-  leaves-covers r d ds o ts g c =
+  leaves-covers now r d ds o ts g c =
       subst (λ (q : List Task). CoversAt w (record (loses r d.no (lost.behind d.exec)) { queue = q; drained = ds }) stage.Idle) (sym g.next.queue)
       (stays (record r { queue = ts }) d ds (handing r (d ∷ ds) ts g.next.queue g.drained c))
 
-  pub hands-covers : (r : Recovery) (d : Stopped) (ds : List Stopped) (by : Way) (ts : List Task) → IsHanding w b r d ds (Some by) ts → CoversAt w r stage.Idle
+  pub hands-covers : (now : Moment) (r : Recovery) (d : Stopped) (ds : List Stopped) (by : Way) (ts : List Task) → IsHanding (ground_of w b now) r d ds (Some by) ts → CoversAt w r stage.Idle
       → CoversSoFar w (moving (record r { drained = ds }) d.no by)
-  hands-covers r d ds by ts g c =
+  hands-covers now r d ds by ts g c =
       subst (λ (q : List Task). CoversSoFar w (moving (record r { queue = q; drained = ds }) d.no by)) (sym g.next.queue)
-      (goes (record r { queue = ts }) d ds by (g.chosen ∙ ap Some (sym (way-leads w b r.core.seen r.failed g.source d by g.way))) (handing r (d ∷ ds) ts g.next.queue g.drained c))
+      (goes (record r { queue = ts }) d ds by (g.chosen ∙ ap Some (sym (way-leads w b now r.core.seen r.failed g.source d by g.way))) (handing r (d ∷ ds) ts g.next.queue g.drained c))

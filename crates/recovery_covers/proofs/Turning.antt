@@ -12,6 +12,7 @@ use Rattle.commands.specs.declared.cause.Cause.TheVariants as cause
 use Rattle.recovery_plans.specs.declared.why.Miss.{Miss}
 use Rattle.recovery_plans.specs.declared.why.Miss.TheVariants as miss
 use Rattle.recovery_plans.specs.declared.why.Why.{Why}
+use Rattle.recovery_plans.specs.Beginning.{is_takeover}
 use Rattle.recovery_plans.specs.Whys as lost
 use Rattle.kept_rows.specs.declared.observation.Observation.{Observation}
 use Rattle.operations.specs.declared.op.Crossing.TheVariants as cross
@@ -32,7 +33,7 @@ use Rattle.recovery_plans.specs.declared.task.Way.{Way}
 use Rattle.recovery_plans.specs.declared.task.Way.TheVariants as way
 use Rattle.recovery_plans.specs.Recoveries.{Recovery, follows_no_more, working}
 use Rattle.recovery_plans.specs.Stages.{ends, leaver, move, moved, moves, tail_of, target}
-use Rattle.recovery_plans.specs.Deciding.{expels}
+use Rattle.recovery_plans.specs.Deciding.{expels, ground_of}
 use Rattle.recovery_plans.specs.Taking as taking
 use Rattle.recovery_plans.specs.Taking.{Fate, Loss, entered, stepped, fate_of_drain, fate_of_trail, lost_on_way, fate_of_errant, fate, loss_of, match_fate, missed_fate, move_fate, way_fate, exec_by, place_on, spot_by, is_waiting, taken}
 use Rattle.recovery_plans.specs.Moves as moving
@@ -46,7 +47,7 @@ use Rattle.recovery_laws.specs.Rings.{HeldRings}
 use Rattle.recovery_laws.proofs.Deciding.{decides-held}
 use Rattle.recovery_laws.proofs.Taking.{due, fits}
 use Rattle.standing_laws.specs.Standing.{IsApart, IsFree, IsSourced, IsWritable, KeepsSource, Stays, IsSourcedAsSeen}
-use Rattle.recovery_covers.specs.SoFar.{of_stage, is_late, is_takeover, Stands, CoversAt, CoversSoFar}
+use Rattle.recovery_covers.specs.SoFar.{of_stage, is_late, Stands, CoversAt, CoversSoFar}
 use Rattle.standing_laws.proofs.Standing.{Stays-same}
 use Rattle.standing_laws.proofs.Effects.{After, IsMoved, IsOnce, Reads-true, deed-still, way-moves, up-once, about-moves, back-moves, detach-moves, reset-moves, shut-moves, open-moves, status-reads}
 use Rattle.recovery_covers.proofs.Covering.{is_seen, last-on, restaged, stage-on}
@@ -367,7 +368,7 @@ module _ (w : World) (b : BookState) (read : ℕ) (now : Moment) (placed : Place
   abbrev Before : Recovery → Type 0
   Before r = HeldRecovery w r × Fine r
 
-  pub decides-before : (r : Recovery) (d : Decision) → MayDecide w b now r d → Before r → Before (decided_by w b now r d)
+  pub decides-before : (r : Recovery) (d : Decision) → MayDecide (ground_of w b now) r d → Before r → Before (decided_by (ground_of w b now) r d)
   decides-before r d may h = (decides-held w b now rings r d may h.0, decides-covers w b now r d may h.1)
 
   -- with an operation left it isn't stuck

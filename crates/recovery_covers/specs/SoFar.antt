@@ -12,7 +12,7 @@ use Rattle.recovery_plans.specs.declared.stage.Stage.TheVariants as stage
 use Rattle.recovery_plans.specs.declared.task.Task.{Task}
 use Rattle.recovery_plans.specs.declared.task.Task.TheVariants as task
 use Rattle.recovery_plans.specs.declared.task.Way.TheVariants as way
-use Rattle.recovery_plans.specs.Beginning.{first_source, is_master}
+use Rattle.recovery_plans.specs.Beginning.{first_source, is_master, is_takeover}
 use Rattle.recovery_plans.specs.Deciding.{expels}
 use Rattle.recovery_plans.specs.Recoveries.{Recovery}
 use Rattle.recovery_plans.specs.Stages.{tail_of, target}
@@ -113,12 +113,6 @@ in_order [] = true
 in_order (t ∷ ts) = is_before t ts && in_order ts
 
 -- ---- the new source
-
-abbrev pub is_takeover : Purpose → Bool
-is_takeover purpose.Regroup = false
-is_takeover purpose.Master = false
-is_takeover (purpose.Intermediate s) = false
-is_takeover (purpose.Takeover d) = true
 
 abbrev pub is_intermediate : Purpose → Bool
 is_intermediate purpose.Regroup = false

@@ -34,7 +34,7 @@ use Rattle.recovery_plans.specs.Stages.{before, ends, leaver, moved, tail_of}
 use Rattle.recovery_plans.specs.Table.{more_on}
 use Rattle.recovery_plans.specs.Beginning.{begun_recovery, first_stage}
 use Rattle.recovery_plans.specs.Deciding as deciding
-use Rattle.recovery_plans.specs.Deciding.{Lot, lot_by, move_of, moves_in, without_stopped, choose, why_of, expels, releases, sort, closing}
+use Rattle.recovery_plans.specs.Deciding.{Lot, ground_of, lot_by, move_of, moves_in, without_stopped, choose, why_of, expels, releases, sort, closing}
 use Rattle.recovery_plans.specs.Taking as taking
 use Rattle.recovery_plans.specs.Taking.{idle, last_looks, entered, stepped, is_waiting, taken}
 use Rattle.recovery_plans.specs.Moves as by
@@ -129,13 +129,13 @@ module _ (w : World) (b : BookState) (now : Moment) where
     calm = record { waited = omega arith; rests = λ h. cc };
   }
 
-  choose-ends : (r : Recovery) (o : Option Stopped) → IsCalm r → NoMore r (choose w b now r o)
+  choose-ends : (r : Recovery) (o : Option Stopped) → IsCalm r → NoMore r (choose (ground_of w b now) r o)
   choose-ends r None calm = record { ops = omega arith; wait = refl; calm = record { waited = calm.waited; rests = calm.rests } }
   choose-ends r (Some p) calm = record {
     ops =
         let others = without_stopped r.drained p.no in
-        let a = append-ops r.replicas (moves_in (lot_by r.means w b r.failed p) others) r.queue in
-        let m = moves-ops r.replicas (lot_by r.means w b r.failed p) others in
+        let a = append-ops r.replicas (moves_in (lot_by r.means (ground_of w b now) r.failed p) others) r.queue in
+        let m = moves-ops r.replicas (lot_by r.means (ground_of w b now) r.failed p) others in
         let f = filter-shorter (λ (s : Stopped). not (s.no.0 == p.no.0)) r.drained in
         omega (arith, a, m, f);
     wait = refl;
@@ -163,7 +163,7 @@ module _ (w : World) (b : BookState) (now : Moment) where
   last-of : (r : Recovery) (a : Bool) → IsOver r purpose.Master → r.swaps ≡ a → ops_last r.purpose r.swaps ≡ ops_of_crown a
   last-of r a over e = ap (λ u. ops_last u r.swaps) over.purpose ∙ ap ops_of_crown e
 
-  decides-ends : (r : Recovery) (d : Decision) → MayDecide w b now r d → IsCalm r → NoMore r (decided_by w b now r d)
+  decides-ends : (r : Recovery) (d : Decision) → MayDecide (ground_of w b now) r d → IsCalm r → NoMore r (decided_by (ground_of w b now) r d)
   decides-ends r (by.Reads n ts) next calm = begin-ends r (task.Reading n) ts (stage.Read n) (op.Status n None) [] next calm refl (omega arith)
   decides-ends r (by.Drains n ts) next calm =
       begin-ends r (task.Draining n) ts (stage.Drain n) (op.StopReceiver n) (op.Settle n ∷ op.Stop n ∷ op.Status n None ∷ []) next calm refl (omega arith)
@@ -514,9 +514,9 @@ module _ (w : World) (b : BookState) (read : ℕ) (now : Moment) (first : Recove
   abbrev Before : Recovery → Type 0
   Before r = IsFit r × NoMoreTurns first r
 
-  decides-before : (r : Recovery) (d : Decision) → MayDecide w b now r d → Before r → Before (decided_by w b now r d)
+  decides-before : (r : Recovery) (d : Decision) → MayDecide (ground_of w b now) r d → Before r → Before (decided_by (ground_of w b now) r d)
   decides-before r d may h =
-      let n = by-ops r (decided_by w b now r d) (decides-idle w b now r d may) (decides-ends w b now r d may h.1.calm) in
+      let n = by-ops r (decided_by (ground_of w b now) r d) (decides-idle w b now r d may) (decides-ends w b now r d may h.1.calm) in
       let one = h.1.turns in
       let other = n.turns in
       (decides-fits w b now r d may h.0, record { turns = omega (arith, one, other); wait = n.wait ∙ h.1.wait; calm = n.calm })

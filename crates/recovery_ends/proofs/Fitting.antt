@@ -21,11 +21,11 @@ use Rattle.recovery_plans.specs.Recoveries.{Recovery, follows_no_more}
 use Rattle.recovery_plans.specs.Stages.{ends, leaver, level, moved, tail_of, trail}
 use Rattle.recovery_plans.specs.Beginning.{first_ops, first_stage}
 use Rattle.recovery_plans.specs.Telling.{told}
-use Rattle.recovery_plans.specs.Deciding.{closing, decided}
+use Rattle.recovery_plans.specs.Deciding.{closing, ground_of}
 use Rattle.recovery_plans.specs.Taking.{taken, entered, idle, last_looks, stepped}
 use Rattle.recovery_plans.specs.Moves as by
 use Rattle.recovery_plans.specs.Moves.{Bearing, Decision, Does, Ending, MayDecide, MayEnd, borne, decided_by, ended_by, fate_of}
-use Rattle.recovery_plans.proofs.Walking.{Keeps, decided-walks, decisions-keep, kept-along}
+use Rattle.recovery_plans.proofs.Walking.{Keeps, kept-along}
 use Rattle.recovery_ends.specs.Shapes.{Fits}
 use Rattle.recovery_ends.proofs.Shapes.{Went, WentOn, deed-went, fits-step, front-fits, moved-fits, tail-fits, way-fits}
 
@@ -56,7 +56,7 @@ release-fits n = front-fits (stage.Release n) (op.Start n ∷ []) refl refl refl
 
 -- ---- what is decided
 
-pub decides-fits : (w : World) (b : BookState) (now : Moment) (r : Recovery) (d : Decision) → MayDecide w b now r d → IsFit r → IsFit (decided_by w b now r d)
+pub decides-fits : (w : World) (b : BookState) (now : Moment) (r : Recovery) (d : Decision) → MayDecide (ground_of w b now) r d → IsFit r → IsFit (decided_by (ground_of w b now) r d)
 decides-fits w b now r (by.Reads n ts) may fits = front-fits (stage.Read n) (op.Status n None ∷ []) refl refl refl
 decides-fits w b now r (by.Drains n ts) may fits = drain-fits n
 decides-fits w b now r (by.Sends n way ts) may fits = way-fits n way
@@ -70,9 +70,6 @@ decides-fits w b now r (by.Crowns p) may fits = tail-fits (stage.Crown p)
 decides-fits w b now r (by.Rejoins p) may fits = start-fits r p
 decides-fits w b now r by.Closes may fits = tail-fits (stage.Close (told r))
 decides-fits w b now r d may fits = fits
-
-pub decided-fits : (w : World) (b : BookState) (now : Moment) (r : Recovery) → IsFit r → IsFit (decided w b now r)
-decided-fits w b now r fits = decisions-keep w b now IsFit (decides-fits w b now) (decided-walks w b now r) fits
 
 -- ---- a stage that is done
 

@@ -35,7 +35,7 @@ use Rattle.recovery_plans.specs.declared.purpose.Purpose.TheVariants as purpose
 use Rattle.recovery_plans.specs.Beginning.{begun_recovery}
 use Rattle.recovery_plans.specs.Recoveries.{Recovery, follows_no_more}
 use Rattle.recovery_plans.specs.Stages.{ends, leaver, moved}
-use Rattle.recovery_plans.specs.Deciding.{logs_at, chosen_of, may_lead}
+use Rattle.recovery_plans.specs.Deciding.{ground_of, logs_at, chosen_of, may_lead}
 use Rattle.recovery_plans.specs.Taking.{entered, stepped, taken}
 use Rattle.recovery_plans.specs.Moves as by
 use Rattle.recovery_plans.specs.Moves.{Bearing, Decision, Ending, MayDecide, borne, decided_by, ended_by, fate_of}
@@ -117,23 +117,23 @@ module _ (w : World) (b : BookState) (now : Moment) (r : Recovery) (held : HeldR
   stood : (s : Stopped) → IsStopped w r.core.seen r.failed s → IsSoundStop w r.failed s → logs_at w s.no ≡ true → (own : Coord) × Stands w s.no.0 r.failed.0 own s.exec
   stood s stopped stands logs = let own = stopped.logs (sym (ap logs_by stopped.there) ∙ logs) in (own.0, stands own.0 own.1)
 
-  may-logs : (s : Stopped) → may_lead w b now s ≡ true → logs_at w s.no ≡ true
+  may-logs : (s : Stopped) → may_lead (ground_of w b now) s ≡ true → logs_at w s.no ≡ true
   may-logs s h = (and_parts (logs_at w s.no) (not (is_barred (rule_at b s.no now))) h).0
 
   -- the chosen one has what each that might have been chosen had
-  chosen-keeps : ((n : ℕ) → times n (stopped_nos r.drained) ≤ 1) → (p : Stopped) → chosen_of w b now r.failed r.drained ≡ Some p → All (λ s. Keeps w r.failed.0 s.exec p.no.0) (filter (may_lead w b now) r.drained)
+  chosen-keeps : ((n : ℕ) → times n (stopped_nos r.drained) ≤ 1) → (p : Stopped) → chosen_of (ground_of w b now) r.failed r.drained ≡ Some p → All (λ s. Keeps w r.failed.0 s.exec p.no.0) (filter (may_lead (ground_of w b now)) r.drained)
   chosen-keeps once p is =
-      go (filter (may_lead w b now) r.drained) (All-filter (may_lead w b now) (IsStopped w r.core.seen r.failed) r.drained held.drained)
-      (All-filter (may_lead w b now) (IsSoundStop w r.failed) r.drained sound.drained) (filter_passes (may_lead w b now) r.drained)
-      (All-filter (may_lead w b now) (λ (s : Stopped). may_lead w b now s ≡ true → is_at_or_before s.exec p.exec ≡ true) r.drained (chosen-most w b now r.failed r.drained once p is))
+      go (filter (may_lead (ground_of w b now)) r.drained) (All-filter (may_lead (ground_of w b now)) (IsStopped w r.core.seen r.failed) r.drained held.drained)
+      (All-filter (may_lead (ground_of w b now)) (IsSoundStop w r.failed) r.drained sound.drained) (filter_passes (may_lead (ground_of w b now)) r.drained)
+      (All-filter (may_lead (ground_of w b now)) (λ (s : Stopped). may_lead (ground_of w b now) s ≡ true → is_at_or_before s.exec p.exec ≡ true) r.drained (chosen-most w b now r.failed r.drained once p is))
     where
       mine : (own : Coord) × Stands w p.no.0 r.failed.0 own p.exec
       mine =
           stood p (All-chosen w b now r.failed (IsStopped w r.core.seen r.failed) r.drained p held.drained is) (All-chosen w b now r.failed (IsSoundStop w r.failed) r.drained p sound.drained is)
           (chosen-logs w b now r.failed r.drained p is)
 
-      go : (ys : List Stopped) → All (IsStopped w r.core.seen r.failed) ys → All (IsSoundStop w r.failed) ys → All (λ s. may_lead w b now s ≡ true) ys
-          → All (λ s. may_lead w b now s ≡ true → is_at_or_before s.exec p.exec ≡ true) ys → All (λ s. Keeps w r.failed.0 s.exec p.no.0) ys
+      go : (ys : List Stopped) → All (IsStopped w r.core.seen r.failed) ys → All (IsSoundStop w r.failed) ys → All (λ s. may_lead (ground_of w b now) s ≡ true) ys
+          → All (λ s. may_lead (ground_of w b now) s ≡ true → is_at_or_before s.exec p.exec ≡ true) ys → All (λ s. Keeps w r.failed.0 s.exec p.no.0) ys
       go ys hs ss es os =
           λ i d lt. let s = get_or ys i d in
           let own = stood s (hs i d lt) (ss i d lt) (may-logs s (es i d lt)) in
@@ -169,7 +169,7 @@ others-once r d ds is once n =
     let most = once n in omega (arith, e, most)
 
 module _ (w : World) (b : BookState) (read : ℕ) (now : Moment) (rings : HeldRings w b.rings) (stand : SoundRings w b.rings) where
-  decides-once : (r : Recovery) (d : Decision) → MayDecide w b now r d → IsDrainedOnce r → IsDrainedOnce (decided_by w b now r d)
+  decides-once : (r : Recovery) (d : Decision) → MayDecide (ground_of w b now) r d → IsDrainedOnce r → IsDrainedOnce (decided_by (ground_of w b now) r d)
   decides-once r (by.Chooses p ts) may once n = let none : 0 ≤ 1 = omega arith in none
   decides-once r (by.ChoosesNobody ts) may once n = let none : 0 ≤ 1 = omega arith in none
   decides-once r (by.HandedOver ts) may once n = let none : 0 ≤ 1 = omega arith in none
@@ -177,15 +177,15 @@ module _ (w : World) (b : BookState) (read : ℕ) (now : Moment) (rings : HeldRi
   decides-once r (by.Leaves d ds ts) may once n = others-once r d ds may.drained once n
   decides-once r d may once n = once n
 
-  decides-kept : (r : Recovery) (d : Decision) → MayDecide w b now r d → KeepsChoice w r → KeptByChosen w (decided_by w b now r d)
+  decides-kept : (r : Recovery) (d : Decision) → MayDecide (ground_of w b now) r d → KeepsChoice w r → KeptByChosen w (decided_by (ground_of w b now) r d)
   decides-kept r (by.Chooses x ts) may h p is =
-      subst (λ (n : ServerNo). All (λ s. Keeps w r.failed.0 s.exec n.0) (filter (may_lead w b now) r.drained)) (same_Some x.no p is)
+      subst (λ (n : ServerNo). All (λ s. Keeps w r.failed.0 s.exec n.0) (filter (may_lead (ground_of w b now)) r.drained)) (same_Some x.no p is)
       (chosen-keeps w b now r h.held h.sound h.once x may.1)
   decides-kept r (by.ChoosesNobody ts) may h p is = cc
   decides-kept r (by.Sticks t ts) may h p is = cc
   decides-kept r d may h p is = h.kept p is
 
-  decides-all : (r : Recovery) (d : Decision) → MayDecide w b now r d → KeepsChoice w r → KeepsChoice w (decided_by w b now r d)
+  decides-all : (r : Recovery) (d : Decision) → MayDecide (ground_of w b now) r d → KeepsChoice w r → KeepsChoice w (decided_by (ground_of w b now) r d)
   decides-all r d may h = record {
     held = decides-held w b now rings r d may h.held;
     sound = decides-sound w b now rings stand r d may h.held h.sound;

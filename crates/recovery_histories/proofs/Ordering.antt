@@ -15,7 +15,7 @@ use Rattle.promotion_rules.specs.declared.drained.Drained.{Drained}
 use Rattle.promotion_rules.specs.Choice.{advance_order, is_eligible, most_advanced}
 use Rattle.promotion_rules.proofs.Choosing.{chosen-first, first-furthest}
 use Rattle.recovery_plans.specs.declared.outcome.Stopped.{Stopped}
-use Rattle.recovery_plans.specs.Deciding.{drained_of, may_lead, stopped_in, chosen_of}
+use Rattle.recovery_plans.specs.Deciding.{drained_of, ground_of, may_lead, stopped_in, chosen_of}
 use Rattle.recovery_covers.specs.Covers.{times}
 use Rattle.recovery_covers.specs.SoFar.{stopped_nos}
 use Rattle.recovery_covers.proofs.Times.{All-counted}
@@ -67,20 +67,20 @@ found-all (x ∷ xs) once =
 
 module _ (w : World) (b : BookState) (now : Moment) (f : ServerNo) (xs : List Stopped) (once : (n : ℕ) → times n (stopped_nos xs) ≤ 1) where
   abbrev drained : List Drained
-  drained = map (drained_of w b now f) xs
+  drained = map (drained_of (ground_of w b now) f) xs
 
   -- a drained one stopped where it was found
   abbrev IsFound : Drained → Type 0
   IsFound d = (s : Stopped) → find (λ (x : Stopped). x.no.0 == d.no.0) xs ≡ Some s → d.exec ≡ s.exec
 
   each-found : All IsFound drained
-  each-found = All-map IsFound (drained_of w b now f) xs (λ i d lt s h. ap (λ (x : Stopped). x.exec) (same_Some _ s (sym (found-all xs once i d lt) ∙ h)))
+  each-found = All-map IsFound (drained_of (ground_of w b now) f) xs (λ i d lt s h. ap (λ (x : Stopped). x.exec) (same_Some _ s (sym (found-all xs once i d lt) ∙ h)))
 
   -- none that may be chosen has executed more
-  pub chosen-most : (p : Stopped) → chosen_of w b now f xs ≡ Some p → All (λ s. may_lead w b now s ≡ true → is_at_or_before s.exec p.exec ≡ true) xs
+  pub chosen-most : (p : Stopped) → chosen_of (ground_of w b now) f xs ≡ Some p → All (λ s. may_lead (ground_of w b now) s ≡ true → is_at_or_before s.exec p.exec ≡ true) xs
   chosen-most p h = go (most_advanced b.names drained) refl h
     where
-      go : (o : Option ServerNo) → most_advanced b.names drained ≡ o → stopped_in xs o ≡ Some p → All (λ s. may_lead w b now s ≡ true → is_at_or_before s.exec p.exec ≡ true) xs
+      go : (o : Option ServerNo) → most_advanced b.names drained ≡ o → stopped_in xs o ≡ Some p → All (λ s. may_lead (ground_of w b now) s ≡ true → is_at_or_before s.exec p.exec ≡ true) xs
       go None e g = cc
       go (Some n) e g =
           let most = first-furthest b.names is_eligible drained n (chosen-first (advance_order b.names) is_eligible drained n e) in
@@ -89,10 +89,10 @@ module _ (w : World) (b : BookState) (now : Moment) (f : ServerNo) (xs : List St
           back xs (λ (d : Drained). is_eligible d ≡ true → is_before most.1.exec d.exec ≡ false) most.4.most
           (λ s f e. not-before p.exec s.exec (ap (λ (c : Coord). is_before c s.exec) (sym same) ∙ f e))
         where
-          back : (ys : List Stopped) (Q : Drained → Type 0) → All Q (map (drained_of w b now f) ys)
-              → ((s : Stopped) → Q (drained_of w b now f s) → may_lead w b now s ≡ true → is_at_or_before s.exec p.exec ≡ true)
-              → All (λ s. may_lead w b now s ≡ true → is_at_or_before s.exec p.exec ≡ true) ys
-          back [] Q all each = All-nil (λ (s : Stopped). may_lead w b now s ≡ true → is_at_or_before s.exec p.exec ≡ true)
+          back : (ys : List Stopped) (Q : Drained → Type 0) → All Q (map (drained_of (ground_of w b now) f) ys)
+              → ((s : Stopped) → Q (drained_of (ground_of w b now) f s) → may_lead (ground_of w b now) s ≡ true → is_at_or_before s.exec p.exec ≡ true)
+              → All (λ s. may_lead (ground_of w b now) s ≡ true → is_at_or_before s.exec p.exec ≡ true) ys
+          back [] Q all each = All-nil (λ (s : Stopped). may_lead (ground_of w b now) s ≡ true → is_at_or_before s.exec p.exec ≡ true)
           back (y ∷ ys) Q all each =
-              All-cons (λ (s : Stopped). may_lead w b now s ≡ true → is_at_or_before s.exec p.exec ≡ true) y ys (each y (All-head Q (drained_of w b now f y) (map (drained_of w b now f) ys) all))
-              (back ys Q (All-tail Q (drained_of w b now f y) (map (drained_of w b now f) ys) all) each)
+              All-cons (λ (s : Stopped). may_lead (ground_of w b now) s ≡ true → is_at_or_before s.exec p.exec ≡ true) y ys (each y (All-head Q (drained_of (ground_of w b now) f y) (map (drained_of (ground_of w b now) f) ys) all))
+              (back ys Q (All-tail Q (drained_of (ground_of w b now) f y) (map (drained_of (ground_of w b now) f) ys) all) each)

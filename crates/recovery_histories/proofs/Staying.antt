@@ -4,6 +4,7 @@ use Rattle.orch_base.specs.declared.server.Moment.{Moment}
 use Rattle.orch_base.specs.declared.server.ServerNo.{ServerNo}
 use Rattle.server_model.specs.Worlds.{World}
 use Rattle.instance_keeper.specs.Book.{BookState}
+use Rattle.recovery_plans.specs.Deciding.{ground_of}
 use Rattle.recovery_plans.specs.declared.stage.Stage.{Stage}
 use Rattle.recovery_plans.specs.Recoveries.{Recovery, follows_no_more}
 use Rattle.recovery_plans.specs.Stages.{leaver, moved}
@@ -20,7 +21,7 @@ pub then-aim : (a b c : Recovery) → SameAim a b → SameAim b c → SameAim a 
 then-aim a b c p q = record { purpose = q.purpose ∙ p.purpose; failed = q.failed ∙ p.failed; replicas = q.replicas ∙ p.replicas; order = q.order ∙ p.order }
 
 module _ (a : Recovery) where
-  decides-aim : (w : World) (b : BookState) (now : Moment) (r : Recovery) (d : Decision) → SameAim a r → SameAim a (decided_by w b now r d)
+  decides-aim : (w : World) (b : BookState) (now : Moment) (r : Recovery) (d : Decision) → SameAim a r → SameAim a (decided_by (ground_of w b now) r d)
   decides-aim w b now r by.Remains s = record { purpose = s.purpose; failed = s.failed; replicas = s.replicas; order = s.order }
   decides-aim w b now r d s = record { purpose = s.purpose; failed = s.failed; replicas = s.replicas; order = s.order }
 

@@ -17,7 +17,7 @@ use Rattle.operations.proofs.Allowing.{turn-allowed}
 use Rattle.job_laws.specs.Flights.{Flight, Held, after_turn, without_leases}
 use Rattle.job_laws.specs.Leases.{IsLeased, Leases, job_at}
 use Rattle.job_laws.specs.Passages as pass
-use Rattle.job_laws.specs.Passages.{MayPass, Passage, passed, slot_of, stored_if, turned_by}
+use Rattle.job_laws.specs.Passages.{MayPass, Passage, passed, slot_of, turned_by}
 use Rattle.job_laws.proofs.Begun.{freed-others, kept-leases}
 use Rattle.job_laws.proofs.Passages.{leases-stored_if, world-stored_if}
 use Rattle.recovery_plans.specs.declared.outcome.Follower.{Follower}

@@ -8,6 +8,7 @@ use Rattle.std.proofs.lemmas.List.Elements.{All-nil, All-cons, All-head, All-tai
 use Rattle.binlog_coords.specs.declared.Coord.{Coord}
 use Rattle.binlog_coords.specs.Log.{is_before, same_coord}
 use Rattle.binlog_coords.proofs.Places.{same_coord-true}
+use Rattle.orch_base.specs.declared.server.Moment.{Moment}
 use Rattle.orch_base.specs.declared.server.ServerNo.{ServerNo}
 use Rattle.server_model.specs.Attach.{IsTarget}
 use Rattle.server_model.specs.Worlds.{World}
@@ -26,7 +27,7 @@ use Rattle.recovery_plans.specs.declared.outcome.Stopped.{Stopped}
 use Rattle.recovery_plans.specs.declared.task.Task.TheVariants as task
 use Rattle.recovery_plans.specs.declared.task.Way.TheVariants as way
 use Rattle.recovery_plans.specs.Deciding as deciding
-use Rattle.recovery_plans.specs.Deciding.{Lot, logs_at, drained_of, follower_of, stopped_in, chosen_of, better_of, lot_by_group, own_end_of, lot_by, move_of, moves_in}
+use Rattle.recovery_plans.specs.Deciding.{Lot, ground_of, logs_at, lot_by_group, own_end_of, lot_by, move_of, moves_in}
 use Rattle.recovery_laws.specs.Rings.{HeldRings}
 use Rattle.recovery_laws.specs.HeldRecoveries.{IsReadyWay, IsReady, IsStopped, stopped_bridge}
 
@@ -97,9 +98,9 @@ module _ (w : World) (seen : List Sight) where
         level true e = record { own = own-spans.own; exec = subst (λ (c : Coord). IsTarget w f.0 c) (sym (same_coord-true s.exec p.exec e)) own-spans.exec }
         level false e = later (is_before p.exec s.exec)
 
-    pub lot-ready : (m : Means) (s : Stopped) → IsReadyLot (lot_by m w b f p s)
-    lot-ready (means.Matches every) s = logs
-    lot-ready means.Bridges s = go w.gtid refl
+    pub lot-ready : (m : Means) (now : Moment) (s : Stopped) → IsReadyLot (lot_by m (ground_of w b now) f p s)
+    lot-ready (means.Matches every) now s = logs
+    lot-ready means.Bridges now s = go w.gtid refl
       where
         go : (g : Bool) → w.gtid ≡ g
             → IsReadyLot (cond g (deciding.Goes (way.Auto p.no s.exec)) (lot_by_group p.no f s (group_of b.rings p.no (own_end_of p) p.exec f s.exec)))

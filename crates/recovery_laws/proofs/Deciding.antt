@@ -32,7 +32,7 @@ use Rattle.recovery_plans.specs.declared.task.Way.TheVariants as way
 use Rattle.recovery_plans.specs.Recoveries.{Recovery, sight_of, working}
 use Rattle.recovery_plans.specs.Stages.{before, drain, level, move, with_bridge, with_way}
 use Rattle.recovery_plans.specs.Telling.{told}
-use Rattle.recovery_plans.specs.Deciding.{logs_at, chosen_of, better_of, lot_by, moves_in, without_stopped, choose, moving, way_below, way_by_set, why_of, expels, releases, sort, decided}
+use Rattle.recovery_plans.specs.Deciding.{ground_of, logs_at, chosen_of, better_of, lot_by, moves_in, without_stopped, choose, moving, way_below, way_by_set, why_of, expels, releases, sort, decided}
 use Rattle.recovery_laws.specs.Rings.{HeldRings}
 use Rattle.recovery_ends.specs.Shapes.{Fits}
 use Rattle.recovery_plans.specs.Moves as by
@@ -51,10 +51,6 @@ or-true false = refl
 
 level-held : (f : Footing) (p q : ServerNo) → f.logs q.0 ≡ true → are_held f (level p q) ≡ true
 level-held f p q logs = simp (self, logs, or-true) refl
-
--- operations that end with the lines are held where those before them are
-closing-held : (f : Footing) (o : Op) (r : Recovery) → ((g : Footing) → finds g (deed_of o) ≡ true) → are_held f (o ∷ op.Finish (told r) ∷ []) ≡ true
-closing-held f o r each = both (finds f (deed_of o)) true (each f) refl
 
 module _ (w : World) where
   -- a stage begins with held operations
@@ -114,7 +110,7 @@ module _ (w : World) where
 
 module _ (w : World) (b : BookState) (now : Moment) (rings : HeldRings w b.rings) where
   -- a successor that can be gone to by GTIDs was read, and logs
-  below-ready : (seen : List Sight) (x s : ServerNo) (d : Stopped) (o : Option Way) → way_below w b seen x s d ≡ o → IfSome o (IsReadyWay w seen)
+  below-ready : (seen : List Sight) (x s : ServerNo) (d : Stopped) (o : Option Way) → way_below (ground_of w b now) seen x s d ≡ o → IfSome o (IsReadyWay w seen)
   below-ready seen x s d o e = subst (λ (y : Option Way). IfSome y (IsReadyWay w seen)) e (go w.gtid refl)
     where
       by-set : (a : Bool) → w.gtid ≡ true → (is_some (seen_of seen s.0) && logs_at w s) ≡ a → IfSome (cond a (Some (way.Auto s d.exec)) None) (IsReadyWay w seen)
@@ -151,7 +147,7 @@ module _ (w : World) (b : BookState) (now : Moment) (rings : HeldRings w b.rings
       let all = subst (λ (q : List Task). All (IsReady w r.core.seen) q) next.queue held.queue in
       (All-head (IsReady w r.core.seen) t ts all, queued-held r ts r.drained held (All-tail (IsReady w r.core.seen) t ts all) held.drained)
 
-  handed-held : (r : Recovery) (d : Stopped) (ds : List Stopped) (o : Option Way) (ts : List Task) → IsHanding w b r d ds o ts → HeldRecovery w r → HeldRecovery w (record r { drained = ds })
+  handed-held : (r : Recovery) (d : Stopped) (ds : List Stopped) (o : Option Way) (ts : List Task) → IsHanding (ground_of w b now) r d ds o ts → HeldRecovery w r → HeldRecovery w (record r { drained = ds })
   handed-held r d ds o ts g held =
       queued-held r r.queue ds held held.queue
       (All-tail (IsStopped w r.core.seen r.failed) d ds (subst (λ (xs : List Stopped). All (IsStopped w r.core.seen r.failed) xs) g.drained held.drained))
@@ -159,13 +155,13 @@ module _ (w : World) (b : BookState) (now : Moment) (rings : HeldRings w b.rings
   lead-of : (r : Recovery) (x : Bridge) → r.lead ≡ Some x → HeldRecovery w r → IsLead w r.failed x
   lead-of r x is held = subst (λ (o : Option Bridge). IfSome o (IsLead w r.failed)) is held.lead
 
-  chooses-held : (r : Recovery) (p : Stopped) → HeldRecovery w r → chosen_of w b now r.failed r.drained ≡ Some p → HeldRecovery w (choose w b now r (Some p))
+  chooses-held : (r : Recovery) (p : Stopped) → HeldRecovery w r → chosen_of (ground_of w b now) r.failed r.drained ≡ Some p → HeldRecovery w (choose (ground_of w b now) r (Some p))
   chooses-held r p held e =
       let one = All-chosen w b now r.failed (IsStopped w r.core.seen r.failed) r.drained p held.drained e in
       let logs = chosen-logs w b now r.failed r.drained p e in
-      queued-held r (moves_in (lot_by r.means w b r.failed p) (without_stopped r.drained p.no) ++ r.queue) [] held
-      (All-append (IsReady w r.core.seen) (moves_in (lot_by r.means w b r.failed p) (without_stopped r.drained p.no)) r.queue
-      (moves-ready w r.core.seen (lot_by r.means w b r.failed p) (without_stopped r.drained p.no) (lot-ready w r.core.seen b r.failed p rings one logs r.means)) held.queue)
+      queued-held r (moves_in (lot_by r.means (ground_of w b now) r.failed p) (without_stopped r.drained p.no) ++ r.queue) [] held
+      (All-append (IsReady w r.core.seen) (moves_in (lot_by r.means (ground_of w b now) r.failed p) (without_stopped r.drained p.no)) r.queue
+      (moves-ready w r.core.seen (lot_by r.means (ground_of w b now) r.failed p) (without_stopped r.drained p.no) (lot-ready w r.core.seen b r.failed p rings one logs r.means now)) held.queue)
       (All-nil (IsStopped w r.core.seen r.failed))
 
   sort-held : (r : Recovery) → HeldRecovery w r → HeldRecovery w (sort r)
@@ -176,14 +172,14 @@ module _ (w : World) (b : BookState) (now : Moment) (rings : HeldRings w b.rings
       (All-append (IsReady w r.core.seen) (map task.Expelling out) (map task.Releasing free ++ r.queue) (ready-map r.core.seen task.Expelling out (λ n. tt))
       (All-append (IsReady w r.core.seen) (map task.Releasing free) r.queue (ready-map r.core.seen task.Releasing free (λ n. tt)) held.queue)) held.drained
 
-  better-logs : (r : Recovery) (p q : ServerNo) → better_of w b now r.failed p (map (λ x. x.no) r.outcome.followers) ≡ Some q → logs_at w q ≡ true
+  better-logs : (r : Recovery) (p q : ServerNo) → better_of (ground_of w b now) r.failed p (map (λ x. x.no) r.outcome.followers) ≡ Some q → logs_at w q ≡ true
   better-logs r p q e = (All-better w b now r.failed (λ (k : ServerNo). Unit {0}) p (map (λ x. x.no) r.outcome.followers) q (units (map (λ x. x.no) r.outcome.followers)) e).1
     where
       units : (ks : List ServerNo) → All (λ (k : ServerNo). Unit {0}) ks
       units [] = All-nil (λ (k : ServerNo). Unit {0})
       units (k ∷ ks) = All-cons (λ (x : ServerNo). Unit {0}) k ks tt (units ks)
 
-  pub decides-held : (r : Recovery) (d : Decision) → MayDecide w b now r d → HeldRecovery w r → HeldRecovery w (decided_by w b now r d)
+  pub decides-held : (r : Recovery) (d : Decision) → MayDecide (ground_of w b now) r d → HeldRecovery w r → HeldRecovery w (decided_by (ground_of w b now) r d)
   decides-held r (by.Reads n ts) next held =
       working-held w (record r { queue = ts }) (stage.Read n) (op.Status n None ∷ []) (next-held r (task.Reading n) ts next held).1 tt refl (λ has. refl) (front-fits (stage.Read n) (op.Status n None ∷ []) refl refl refl)
   decides-held r (by.Drains n ts) next held =
@@ -229,5 +225,5 @@ module _ (w : World) (b : BookState) (now : Moment) (rings : HeldRings w b.rings
       working-held w r (stage.Close (told r)) (op.Start p ∷ op.Finish (told r) ∷ []) held tt refl (λ has. refl) (record { front = op.Start p ∷ []; still = refl; is = refl; due = λ h. cc })
   decides-held r by.Closes g held = working-held w r (stage.Close (told r)) (op.Finish (told r) ∷ []) held tt refl (λ has. refl) (tail-fits (stage.Close (told r)))
 
-pub decided-held : (w : World) (b : BookState) (now : Moment) (r : Recovery) → HeldRings w b.rings → HeldRecovery w r → HeldRecovery w (decided w b now r)
+pub decided-held : (w : World) (b : BookState) (now : Moment) (r : Recovery) → HeldRings w b.rings → HeldRecovery w r → HeldRecovery w (decided (ground_of w b now) r)
 decided-held w b now r rings held = decisions-keep w b now (HeldRecovery w) (decides-held w b now rings) (decided-walks w b now r) held

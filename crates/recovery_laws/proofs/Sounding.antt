@@ -53,7 +53,7 @@ use Rattle.recovery_plans.specs.Recoveries.{Recovery, follows, follows_no_more, 
 use Rattle.recovery_plans.specs.Stages.{drain, ends, gather, leaver, level, moved, with_bridge, with_way}
 use Rattle.recovery_plans.specs.Telling.{told}
 use Rattle.recovery_plans.specs.Deciding as deciding
-use Rattle.recovery_plans.specs.Deciding.{Lot, chosen_of, lot_by_group, own_end_of, lot_by, move_of, moves_in, without_stopped, choose, moving, way_below, way_by_set, why_of, expels, releases, sort, logs_at}
+use Rattle.recovery_plans.specs.Deciding.{Lot, chosen_of, ground_of, lot_by_group, own_end_of, lot_by, move_of, moves_in, without_stopped, choose, moving, way_below, way_by_set, why_of, expels, releases, sort, logs_at}
 use Rattle.recovery_plans.specs.Taking.{lead_under, idle, entered, stepped, swapped, that_can, takes_writes, goes_back, way_back, undone, last_looks, last_exchanges, taken}
 use Rattle.recovery_plans.specs.Moves as by
 use Rattle.recovery_plans.specs.Moves.{Bearing, Decision, Does, Ending, IsHanding, IsNext, MayDecide, MayEnd, borne, decided_by, ended_by, fate_of}
@@ -113,7 +113,7 @@ module _ (w : World) (b : BookState) (now : Moment) (rings : HeldRings w b.rings
       go (deciding.Goes by) h = All-cons (IsSoundTask w) (task.Moving s.no by) [] h (All-nil (IsSoundTask w))
       go (deciding.Stays why) h = All-nil (IsSoundTask w)
 
-  lot-sound : (seen : List Sight) (f : ServerNo) (p : Stopped) → IsStopped w seen f p → logs_at w p.no ≡ true → IsSoundStop w f p → (m : Means) (s : Stopped) → IsSoundLot (lot_by m w b f p s)
+  lot-sound : (seen : List Sight) (f : ServerNo) (p : Stopped) → IsStopped w seen f p → logs_at w p.no ≡ true → IsSoundStop w f p → (m : Means) (s : Stopped) → IsSoundLot (lot_by m (ground_of w b now) f p s)
   lot-sound seen f p stopped logs sound (means.Matches every) s = tt
   lot-sound seen f p stopped logs sound means.Bridges s = go w.gtid
     where
@@ -153,24 +153,24 @@ module _ (w : World) (b : BookState) (now : Moment) (rings : HeldRings w b.rings
       let all = subst (λ (q : List Task). All (IsSoundTask w) q) next.queue s.queue in
       (All-head (IsSoundTask w) t ts all, queued-sound r ts r.drained s (All-tail (IsSoundTask w) t ts all) s.drained)
 
-  handed-sound : (r : Recovery) (d : Stopped) (ds : List Stopped) (o : Option Way) (ts : List Task) → IsHanding w b r d ds o ts → SoundRecovery w r → SoundRecovery w (record r { drained = ds })
+  handed-sound : (r : Recovery) (d : Stopped) (ds : List Stopped) (o : Option Way) (ts : List Task) → IsHanding (ground_of w b now) r d ds o ts → SoundRecovery w r → SoundRecovery w (record r { drained = ds })
   handed-sound r d ds o ts g s =
       queued-sound r r.queue ds s s.queue (All-tail (IsSoundStop w r.failed) d ds (subst (λ (xs : List Stopped). All (IsSoundStop w r.failed) xs) g.drained s.drained))
 
   lead-of : (r : Recovery) (x : Bridge) → r.lead ≡ Some x → SoundRecovery w r → StandsIn w x
   lead-of r x is s = subst (λ (o : Option Bridge). IfSome o (StandsIn w)) is s.lead
 
-  chooses-sound : (r : Recovery) (p : Stopped) → All (IsStopped w r.core.seen r.failed) r.drained → SoundRecovery w r → chosen_of w b now r.failed r.drained ≡ Some p
-      → SoundRecovery w (choose w b now r (Some p))
+  chooses-sound : (r : Recovery) (p : Stopped) → All (IsStopped w r.core.seen r.failed) r.drained → SoundRecovery w r → chosen_of (ground_of w b now) r.failed r.drained ≡ Some p
+      → SoundRecovery w (choose (ground_of w b now) r (Some p))
   chooses-sound r p stopped s e =
       let one = All-chosen w b now r.failed (IsStopped w r.core.seen r.failed) r.drained p stopped e in
       let stop = All-chosen w b now r.failed (IsSoundStop w r.failed) r.drained p s.drained e in
-      queued-sound r (moves_in (lot_by r.means w b r.failed p) (without_stopped r.drained p.no) ++ r.queue) [] s
-      (All-append (IsSoundTask w) (moves_in (lot_by r.means w b r.failed p) (without_stopped r.drained p.no)) r.queue
-      (moves-sound (lot_by r.means w b r.failed p) (without_stopped r.drained p.no) (lot-sound r.core.seen r.failed p one (chosen-logs w b now r.failed r.drained p e) stop r.means)) s.queue)
+      queued-sound r (moves_in (lot_by r.means (ground_of w b now) r.failed p) (without_stopped r.drained p.no) ++ r.queue) [] s
+      (All-append (IsSoundTask w) (moves_in (lot_by r.means (ground_of w b now) r.failed p) (without_stopped r.drained p.no)) r.queue
+      (moves-sound (lot_by r.means (ground_of w b now) r.failed p) (without_stopped r.drained p.no) (lot-sound r.core.seen r.failed p one (chosen-logs w b now r.failed r.drained p e) stop r.means)) s.queue)
       (All-nil (IsSoundStop w r.failed))
 
-  below-sound : (seen : List Sight) (x k : ServerNo) (d : Stopped) (o : Option Way) → way_below w b seen x k d ≡ o → IfSome o (IsSoundWay w)
+  below-sound : (seen : List Sight) (x k : ServerNo) (d : Stopped) (o : Option Way) → way_below (ground_of w b now) seen x k d ≡ o → IfSome o (IsSoundWay w)
   below-sound seen x k d o e = subst (λ (y : Option Way). IfSome y (IsSoundWay w)) e (go w.gtid)
     where
       by-set : (a : Bool) → IfSome (cond a (Some (way.Auto k d.exec)) None) (IsSoundWay w)
@@ -205,7 +205,7 @@ module _ (w : World) (b : BookState) (now : Moment) (rings : HeldRings w b.rings
         lead = s.lead;
       }
 
-  pub decides-sound : (r : Recovery) (d : Decision) → MayDecide w b now r d → HeldRecovery w r → SoundRecovery w r → SoundRecovery w (decided_by w b now r d)
+  pub decides-sound : (r : Recovery) (d : Decision) → MayDecide (ground_of w b now) r d → HeldRecovery w r → SoundRecovery w r → SoundRecovery w (decided_by (ground_of w b now) r d)
   decides-sound r (by.Reads n ts) next held s = begun-sound w (record r { queue = ts }) (stage.Read n) (op.Status n None ∷ []) (next-sound r (task.Reading n) ts next s).1 tt
   decides-sound r (by.Drains n ts) next held s = begun-sound w (record r { queue = ts }) (stage.Drain n) (drain n) (next-sound r (task.Draining n) ts next s).1 tt
   decides-sound r (by.Sends n way ts) next held s = let h = next-sound r (task.Moving n way) ts next s in moving-sound w (record r { queue = ts }) n way h.1 h.0
@@ -231,7 +231,7 @@ module _ (w : World) (b : BookState) (now : Moment) (rings : HeldRings w b.rings
   decides-sound r (by.Rejoins p) g held s = begun-sound w r (stage.Close (told r)) (op.Start p ∷ op.Finish (told r) ∷ []) s tt
   decides-sound r by.Closes g held s = begun-sound w r (stage.Close (told r)) (op.Finish (told r) ∷ []) s tt
 
-  decides-both : (r : Recovery) (d : Decision) → MayDecide w b now r d → IsHeldAndSound w r → IsHeldAndSound w (decided_by w b now r d)
+  decides-both : (r : Recovery) (d : Decision) → MayDecide (ground_of w b now) r d → IsHeldAndSound w r → IsHeldAndSound w (decided_by (ground_of w b now) r d)
   decides-both r d may h = (decides-held w b now rings r d may h.0, decides-sound r d may h.0 h.1)
 
 -- ---- what others do

@@ -7,7 +7,7 @@ ghost use Rattle.server_model.specs.Run.{Exchange, run, AllAllowed};
 ghost use Rattle.server_model.specs.Safe.{Placed};
 ghost use Rattle.server_model.specs.Worlds.{World};
 ghost use Rattle.recovery_plans.specs.Recoveries.{Recovery};
-ghost use Rattle.recovery_plans.specs.Deciding.{decided};
+ghost use Rattle.recovery_plans.specs.Deciding.{decided, ground_of};
 ghost use Rattle.recovery_plans.specs.Taking.{taken};
 ghost use Rattle.recovery_laws.specs.Rings.{HeldRings};
 ghost use Rattle.recovery_laws.specs.HeldRecoveries.{HeldRecovery, KeepsRecovery};
@@ -16,7 +16,7 @@ ghost use Rattle.recovery_laws.specs.HeldRecoveries.{HeldRecovery, KeepsRecovery
 /// and whatever others do meanwhile.
 pub fn recoveries_stay_held()
     ensures decided { (w : World) (b : BookState) (now : AMoment) (r : Recovery) →
-        HeldRings w b.rings → HeldRecovery w r → HeldRecovery w (decided w b now r) }
+        HeldRings w b.rings → HeldRecovery w r → HeldRecovery w (decided (ground_of w b now) r) }
     ensures taken { (w : World) (b : BookState) (read : ℕ) (now : AMoment) (r : Recovery) →
         Placed w → HeldRings w b.rings → HeldRecovery w r →
         KeepsRecovery w (taken w b read now r) }

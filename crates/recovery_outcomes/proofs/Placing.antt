@@ -9,9 +9,9 @@ use Rattle.server_model.specs.Worlds.{World}
 use Rattle.recovery_plans.specs.declared.outcome.Follower.{Follower}
 use Rattle.recovery_plans.specs.declared.purpose.Purpose.{Purpose}
 use Rattle.recovery_plans.specs.declared.purpose.Purpose.TheVariants as purpose
+use Rattle.recovery_plans.specs.Beginning.{is_takeover}
 use Rattle.recovery_plans.specs.Recoveries.{Outcome}
 use Rattle.recovery_covers.specs.Covers.{times, follower_nos, lost_nos, owed, leader, IsOnceIn, HasOnePlace, Covers}
-use Rattle.recovery_covers.specs.SoFar.{is_takeover}
 use Rattle.recovery_covers.proofs.Times.{self-all}
 
 one-of : (a b c : ℕ) → a + (b + c) ≡ 1 → IsOnceIn a b c

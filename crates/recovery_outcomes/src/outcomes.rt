@@ -5,10 +5,10 @@ ghost use Rattle.orch_base.specs.declared.server.ServerNo.{ServerNo as Number};
 ghost use Rattle.server_model.specs.Worlds.{World};
 ghost use Rattle.recovery_plans.specs.declared.outcome.Follower.{Follower as AFollower};
 ghost use Rattle.recovery_plans.specs.declared.purpose.Purpose.{Purpose as APurpose};
+ghost use Rattle.recovery_plans.specs.Beginning.{is_takeover};
 ghost use Rattle.recovery_plans.specs.Recoveries.{Outcome};
 ghost use Rattle.recovery_plans.specs.Telling.{told_by};
 ghost use Rattle.recovery_covers.specs.Covers.{Covers, HasOnePlace, owed, times};
-ghost use Rattle.recovery_covers.specs.SoFar.{is_takeover};
 ghost use Rattle.recovery_outcomes.specs.Told.{IsToldOf, leader_line};
 
 /// Where an outcome covers its replicas each of them is promoted, follows once or is lost once, and only one of these;

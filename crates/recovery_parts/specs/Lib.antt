@@ -1,3 +1,4 @@
 pub mod Doings
 pub mod Fates
+pub mod Grounds
 pub mod Lots

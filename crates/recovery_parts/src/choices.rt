@@ -5,6 +5,7 @@ ghost use Rattle.std.specs.Option.{option_copied};
 ghost use Rattle.server_model.specs.Worlds.{server_at};
 ghost use Rattle.recovery_plans.specs.Deciding.{better_of, center_in, chosen_of, drained_of, expels, follower_of, is_apart, is_elsewhere, is_near, is_reached, logs_at, lot_by, may_lead, releases, stopped_in, unfit, way_below};
 ghost use Rattle.recovery_plans.specs.declared.outcome.Follower.{Follower as AFollower};
+ghost use Rattle.recovery_parts.specs.Grounds.{ground_by};
 ghost use Rattle.recovery_parts.specs.Lots.{by_lot};
 
 use binlog_coords::Coord;
@@ -57,7 +58,7 @@ fn is_near(world: &World, one: ServerNo, other: ServerNo) -> bool
 // A drained replica of a failed server as the choice looks at it.
 fn drained_of(by: &Ground<'_>, failed: ServerNo, replica: &Stopped) -> Drained
     requires { replica.now.no.0 < length by.now.book.now.names }
-    ensures { result ≡ drained_of by.now.world.now by.now.book.now by.now.moment failed replica.now }
+    ensures { result ≡ drained_of (ground_by by.now) failed replica.now }
 {
     Drained {
         no: replica.no,
@@ -76,8 +77,7 @@ fn drained_all(
     list: &[Stopped],
 ) -> Result<Vec<Drained>, Memory>
     requires { All (λ s. s.no.0 < length by.now.book.now.names) list.now }
-    ensures { IfOk result (λ all. all.items
-        ≡ map (drained_of by.now.world.now by.now.book.now by.now.moment failed) list.now) }
+    ensures { IfOk result (λ all. all.items ≡ map (drained_of (ground_by by.now) failed) list.now) }
 {
     let mut all = Vec::with_capacity(alloc, list.len())?;
     for replica in list {
@@ -106,8 +106,7 @@ pub fn chosen_of(
     list: &[Stopped],
 ) -> Result<Option<Stopped>, Memory>
     requires { All (λ s. s.no.0 < length by.now.book.now.names) list.now }
-    ensures { IfOk result (λ o. o
-        ≡ chosen_of by.now.world.now by.now.book.now by.now.moment failed list.now) }
+    ensures { IfOk result (λ o. o ≡ chosen_of (ground_by by.now) failed list.now) }
 {
     let all = drained_all(alloc, by, failed, list)?;
     Ok(stopped_in(list, most_advanced(&all, by.book.names())))
@@ -116,7 +115,7 @@ pub fn chosen_of(
 /// Whether a drained replica might have been chosen.
 pub(crate) fn may_lead(by: &Ground<'_>, replica: &Stopped) -> bool
     requires { replica.now.no.0 < length by.now.book.now.names }
-    ensures { result ≡ may_lead by.now.world.now by.now.book.now by.now.moment replica.now }
+    ensures { result ≡ may_lead (ground_by by.now) replica.now }
 {
     logs_at(by.world, replica.no) && by.book.rule(replica.no, by.moment) != Rule::MustNot
 }
@@ -124,7 +123,7 @@ pub(crate) fn may_lead(by: &Ground<'_>, replica: &Stopped) -> bool
 // A follower as the choice of a better one looks at it.
 fn follower_of(by: &Ground<'_>, failed: ServerNo, no: ServerNo) -> Drained
     requires { no.0 < length by.now.book.now.names }
-    ensures { result ≡ follower_of by.now.world.now by.now.book.now by.now.moment failed no }
+    ensures { result ≡ follower_of (ground_by by.now) failed no }
 {
     Drained {
         no,
@@ -144,7 +143,7 @@ fn followers_all(
 ) -> Result<Vec<Drained>, Memory>
     requires { All (λ x. x.no.0 < length by.now.book.now.names) list.now }
     ensures { IfOk result (λ all. all.items ≡ map (λ (x : AFollower).
-        follower_of by.now.world.now by.now.book.now by.now.moment failed x.no) list.now) }
+        follower_of (ground_by by.now) failed x.no) list.now) }
 {
     let mut all = Vec::with_capacity(alloc, list.len())?;
     for follower in list {
@@ -163,7 +162,7 @@ pub fn better_of(
 ) -> Result<Option<ServerNo>, Memory>
     requires promoted { promoted.0 < length by.now.book.now.names }
     requires followers { All (λ x. x.no.0 < length by.now.book.now.names) list.now }
-    ensures { IfOk result (λ o. o ≡ better_of by.now.world.now by.now.book.now by.now.moment failed
+    ensures { IfOk result (λ o. o ≡ better_of (ground_by by.now) failed
         promoted (map (λ (x : AFollower). x.no) list.now)) }
 {
     let all = followers_all(alloc, by, failed, list)?;
@@ -180,8 +179,7 @@ pub fn lot_by(
     replica: &Stopped,
 ) -> Result<Way, Why>
     requires { chosen.now.no.0 < length by.now.book.now.names }
-    ensures { result ≡ by_lot (lot_by means by.now.world.now by.now.book.now failed
-        chosen.now replica.now) }
+    ensures { result ≡ by_lot (lot_by means (ground_by by.now) failed chosen.now replica.now) }
 {
     let (no, exec) = (chosen.no, replica.exec);
     if let Means::Matches(every) = means {
@@ -235,7 +233,7 @@ pub fn way_below(
     replica: &Stopped,
 ) -> Option<Way>
     requires { failed.0 < length by.now.book.now.names }
-    ensures { result ≡ way_below by.now.world.now by.now.book.now job.now.seen failed successor replica.now }
+    ensures { result ≡ way_below (ground_by by.now) job.now.seen failed successor replica.now }
 {
     if by.world.gtid() {
         let was_read = job.sight(successor).is_some();
@@ -248,57 +246,31 @@ pub fn way_below(
     Some(Way::Up(bridge))
 }
 
-// Whether a lost one executed what the new source didn't, or less, or was to go on in a purged file.
-fn is_apart(why: Option<Why>) -> bool
-    ensures { result ≡ is_apart why }
-{
-    match why {
-        Some(Why::Lost(Lost::Ahead(_) | Lost::Behind(_) | Lost::Purged(_))) => true,
-        Some(
-            Why::Lost(Lost::Unreachable | Lost::Moved(_) | Lost::NotLogging | Lost::MustNot)
-            | Why::Unmatched(_),
-        )
-        | None => false,
-    }
+// What a reason tells of a lost one: whether it executed what the new source didn't, or less, or its place is purged
+// there; whether it stands elsewhere, or where it stood before it was to be matched; whether it was reached.
+#[derive(Clone, Copy)]
+struct Care {
+    apart: bool,
+    elsewhere: bool,
+    reached: bool,
 }
 
-// Whether a lost one stands elsewhere, or where it stood before it was to be matched.
-fn is_elsewhere(why: Option<Why>) -> bool
-    ensures { result ≡ is_elsewhere why }
+// One that isn't lost is as one that wasn't reached.
+fn care_of(why: Option<Why>) -> Care
+    ensures apart { result.apart ≡ is_apart why }
+    ensures elsewhere { result.elsewhere ≡ is_elsewhere why }
+    ensures reached { result.reached ≡ is_reached why }
 {
-    match why {
-        Some(Why::Lost(Lost::Moved(_)) | Why::Unmatched(_)) => true,
-        Some(
-            Why::Lost(
-                Lost::Ahead(_)
-                | Lost::Behind(_)
-                | Lost::Purged(_)
-                | Lost::Unreachable
-                | Lost::NotLogging
-                | Lost::MustNot,
-            ),
-        )
-        | None => false,
-    }
-}
-
-// Whether a lost one was reached.
-fn is_reached(why: Option<Why>) -> bool
-    ensures { result ≡ is_reached why }
-{
-    match why {
-        Some(
-            Why::Lost(
-                Lost::Ahead(_)
-                | Lost::Behind(_)
-                | Lost::Purged(_)
-                | Lost::Moved(_)
-                | Lost::NotLogging
-                | Lost::MustNot,
-            )
-            | Why::Unmatched(_),
-        ) => true,
-        Some(Why::Lost(Lost::Unreachable)) | None => false,
+    let (apart, elsewhere, reached) = match why {
+        Some(Why::Lost(Lost::Ahead(_) | Lost::Behind(_) | Lost::Purged(_))) => (true, false, true),
+        Some(Why::Lost(Lost::Moved(_)) | Why::Unmatched(_)) => (false, true, true),
+        Some(Why::Lost(Lost::NotLogging | Lost::MustNot)) => (false, false, true),
+        Some(Why::Lost(Lost::Unreachable)) | None => (false, false, false),
+    };
+    Care {
+        apart,
+        elsewhere,
+        reached,
     }
 }
 
@@ -307,7 +279,7 @@ pub fn expels(purpose: Purpose, why: Option<Why>) -> bool
     ensures { result ≡ expels purpose why }
 {
     match purpose {
-        Purpose::Master | Purpose::Intermediate(_) => is_apart(why),
+        Purpose::Master | Purpose::Intermediate(_) => care_of(why).apart,
         Purpose::Regroup | Purpose::Takeover(_) => false,
     }
 }
@@ -317,8 +289,8 @@ pub fn releases(purpose: Purpose, why: Option<Why>) -> bool
     ensures { result ≡ releases purpose why }
 {
     match purpose {
-        Purpose::Regroup => is_reached(why),
-        Purpose::Master | Purpose::Intermediate(_) => is_elsewhere(why),
+        Purpose::Regroup => care_of(why).reached,
+        Purpose::Master | Purpose::Intermediate(_) => care_of(why).elsewhere,
         Purpose::Takeover(_) => false,
     }
 }

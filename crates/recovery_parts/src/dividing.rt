@@ -2,6 +2,7 @@
 
 ghost use Rattle.std.specs.Prelude.{◌≡◌, ◌<◌, ◌++◌, All, IfOk, OnOk, filter, length, map};
 ghost use Rattle.recovery_plans.specs.Deciding.{losses_in, lot_by, may_lead, moves_in, unfit, without_stopped};
+ghost use Rattle.recovery_parts.specs.Grounds.{ground_by};
 
 use crate::choices::{Ground, lot_by, may_lead, unfit};
 use orch_base::{Memory, ServerNo};
@@ -12,8 +13,7 @@ use std::alloc::Global;
 /// The drained replicas that might be chosen.
 pub fn leaders(alloc: Global, by: &Ground<'_>, list: &[Stopped]) -> Result<Vec<Stopped>, Memory>
     requires { All (λ s. s.no.0 < length by.now.book.now.names) list.now }
-    ensures { IfOk result (λ v. v.items
-        ≡ filter (may_lead by.now.world.now by.now.book.now by.now.moment) list.now) }
+    ensures { IfOk result (λ v. v.items ≡ filter (may_lead (ground_by by.now)) list.now) }
 {
     let mut leaders = Vec::new(alloc);
     for replica in list {
@@ -49,10 +49,10 @@ pub fn divide(
     lost: &mut Vec<LostReplica>,
 ) -> Result<Vec<Task>, Memory>
     requires { chosen.now.no.0 < length by.now.book.now.names }
-    ensures moves { IfOk result (λ v. v.items ≡ moves_in (lot_by means by.now.world.now
-        by.now.book.now failed chosen.now) others.now) }
+    ensures moves { IfOk result (λ v. v.items
+        ≡ moves_in (lot_by means (ground_by by.now) failed chosen.now) others.now) }
     ensures lost { OnOk result (lost.new.items ≡ lost.old.items ++ losses_in (lot_by means
-        by.now.world.now by.now.book.now failed chosen.now) others.now) }
+        (ground_by by.now) failed chosen.now) others.now) }
 {
     let mut moves = Vec::new(alloc);
     for replica in others {

@@ -1,10 +1,11 @@
 //! What becomes of a stage whose operation fails.
 
 ghost use Rattle.std.specs.Prelude.{◌≡◌};
+ghost use Rattle.std.specs.Option.{option_map};
 ghost use Rattle.server_model.specs.Worlds.{server_at};
-ghost use Rattle.recovery_plans.specs.Taking.{exec_by, fate, fate_of_drain, fate_of_move, fate_of_trail, loss_of, lost_on_way, match_fate, move_fate, place_on, spot_by, spot_seen};
+ghost use Rattle.recovery_plans.specs.Taking.{drain_fate, exec_by, fate, is_away, loss_of, lost_on_way, match_fate, move_fate, place_on, spot_by, spot_seen, trail_fate, way_fate};
 ghost use Rattle.recovery_plans.specs.declared.why.Why.{Why as AWhy};
-ghost use Rattle.recovery_parts.specs.Fates.{fate_told};
+ghost use Rattle.recovery_parts.specs.Fates.{fate_told, loss_told};
 
 use binlog_coords::Coord;
 use commands::{Cause, Lost};
@@ -27,6 +28,17 @@ pub enum Fate {
     Releases(ServerNo),
     /// The second goes back below the first.
     Returns(ServerNo, ServerNo),
+}
+
+/// What a failing operation tells of the replica that it speaks with.
+#[derive(Clone, Copy)]
+pub(crate) enum Loss {
+    /// It took too long.
+    Spent,
+    /// It has transactions of its own.
+    Differs,
+    /// Why it isn't matched or attached.
+    Missed(Miss),
 }
 
 /// Where a server was seen.
@@ -60,44 +72,77 @@ fn exec_at(world: &World, no: ServerNo) -> Coord
     world.plain(no).exec
 }
 
-fn of_drain(no: ServerNo, cause: &Cause) -> Fate
-    ensures { fate_told result ≡ fate_of_drain no cause.now }
+// What a failing operation tells of the replica that it speaks with: nothing, where the recovery fails.
+fn loss_of(cause: &Cause) -> Option<Loss>
+    ensures { option_map loss_told result ≡ loss_of cause.now }
 {
-    match cause {
-        Cause::Unreachable(_) => Fate::Loses(no, Why::Lost(Lost::Unreachable)),
-        Cause::WaitSpent(_)
-        | Cause::Interfered { .. }
-        | Cause::Running(_)
-        | Cause::Loop(_)
-        | Cause::Errant(_, _)
-        | Cause::Moved(_, _)
-        | Cause::Reachable(_)
-        | Cause::NoCandidate
-        | Cause::Purged(_, _)
-        | Cause::NoMark(_)
-        | Cause::Mismatch(_, _)
-        | Cause::HookFailed { .. } => Fate::Fails,
+    let miss = match cause {
+        Cause::WaitSpent(_) => return Some(Loss::Spent),
+        Cause::Errant(_, _) => return Some(Loss::Differs),
+        Cause::Unreachable(no) => Miss::Unreachable(*no),
+        Cause::Running(_) => Miss::Running,
+        Cause::Interfered {
+            expected,
+            found,
+            ..
+        } => Miss::Interfered {
+            expected: *expected,
+            found: *found,
+        },
+        Cause::Loop(_) => Miss::Loop,
+        Cause::Purged(_, first) => Miss::Purged(*first),
+        Cause::NoMark(_) => Miss::NoMark,
+        Cause::Mismatch(_, entry) => Miss::Mismatch(*entry),
+        Cause::Moved(_, _) | Cause::Reachable(_) | Cause::NoCandidate | Cause::HookFailed { .. } =>
+            return None,
+    };
+    Some(Loss::Missed(miss))
+}
+
+// Whether a miss is that the server wasn't reached.
+fn is_away(miss: Miss) -> bool
+    ensures { result ≡ is_away miss }
+{
+    match miss {
+        Miss::Unreachable(_) => true,
+        Miss::Running
+        | Miss::Interfered { .. }
+        | Miss::Loop
+        | Miss::Purged(_)
+        | Miss::NoMark
+        | Miss::Mismatch(_) => false,
+    }
+}
+
+fn of_drain(no: ServerNo, loss: Option<Loss>) -> Fate
+    ensures { fate_told result ≡ drain_fate no (option_map loss_told loss) }
+{
+    match loss {
+        Some(Loss::Missed(miss)) => {
+            if is_away(miss) {
+                Fate::Loses(no, Why::Lost(Lost::Unreachable))
+            } else {
+                Fate::Fails
+            }
+        }
+        Some(Loss::Spent | Loss::Differs) | None => Fate::Fails,
     }
 }
 
 // One that takes too long is behind, where it stands.
-fn of_trail(world: &World, no: ServerNo, cause: &Cause) -> Fate
-    ensures { fate_told result ≡ fate_of_trail world.now no cause.now }
+fn of_trail(world: &World, no: ServerNo, loss: Option<Loss>) -> Fate
+    ensures { fate_told result ≡ trail_fate world.now no (option_map loss_told loss) }
 {
-    match cause {
-        Cause::Unreachable(_) => Fate::Frees(no, Why::Lost(Lost::Unreachable)),
-        Cause::WaitSpent(_) => Fate::Frees(no, Why::Lost(Lost::Behind(exec_at(world, no)))),
-        Cause::Interfered { .. }
-        | Cause::Running(_)
-        | Cause::Loop(_)
-        | Cause::Errant(_, _)
-        | Cause::Moved(_, _)
-        | Cause::Reachable(_)
-        | Cause::NoCandidate
-        | Cause::Purged(_, _)
-        | Cause::NoMark(_)
-        | Cause::Mismatch(_, _)
-        | Cause::HookFailed { .. } => Fate::Fails,
+    match loss {
+        Some(Loss::Spent) => Fate::Frees(no, Why::Lost(Lost::Behind(exec_at(world, no)))),
+        Some(Loss::Missed(miss)) => {
+            if is_away(miss) {
+                Fate::Frees(no, Why::Lost(Lost::Unreachable))
+            } else {
+                Fate::Fails
+            }
+        }
+        Some(Loss::Differs) | None => Fate::Fails,
     }
 }
 
@@ -125,64 +170,42 @@ fn place_on(way: Way) -> Coord
 }
 
 // A replica that goes its way at once.
-fn of_attach(world: &World, purpose: Purpose, no: ServerNo, way: Way, cause: &Cause) -> Fate
-    ensures { fate_told result ≡ move_fate world.now purpose no way (loss_of cause.now) }
+fn of_attach(world: &World, purpose: Purpose, no: ServerNo, way: Way, loss: Option<Loss>) -> Fate
+    ensures { fate_told result ≡ move_fate world.now purpose no way (option_map loss_told loss) }
 {
-    match cause {
-        Cause::Unreachable(_) => on_way(purpose, no, Lost::Unreachable),
-        Cause::Running(_) => on_way(purpose, no, Lost::Moved(spot_at(world, no))),
-        Cause::Interfered { found, .. } => on_way(purpose, no, Lost::Moved(*found)),
-        Cause::Errant(_, _) => match way {
+    match loss {
+        Some(Loss::Missed(Miss::Unreachable(_))) => on_way(purpose, no, Lost::Unreachable),
+        Some(Loss::Missed(Miss::Running)) => on_way(purpose, no, Lost::Moved(spot_at(world, no))),
+        Some(Loss::Missed(Miss::Interfered { found, .. })) => {
+            on_way(purpose, no, Lost::Moved(found))
+        }
+        Some(Loss::Missed(Miss::Purged(_))) => on_way(purpose, no, Lost::Purged(place_on(way))),
+        Some(Loss::Differs) => match way {
             Way::Auto { exec, .. } => on_way(purpose, no, Lost::Ahead(exec)),
             Way::Down(_) | Way::Up(_) | Way::Match { .. } => Fate::Fails,
         },
-        Cause::Purged(_, _) => on_way(purpose, no, Lost::Purged(place_on(way))),
-        Cause::WaitSpent(_)
-        | Cause::Loop(_)
-        | Cause::Moved(_, _)
-        | Cause::Reachable(_)
-        | Cause::NoCandidate
-        | Cause::NoMark(_)
-        | Cause::Mismatch(_, _)
-        | Cause::HookFailed { .. } => Fate::Fails,
+        Some(Loss::Missed(Miss::Loop | Miss::NoMark | Miss::Mismatch(_)) | Loss::Spent) | None => {
+            Fate::Fails
+        }
     }
 }
 
-// One that goes by a match.
-fn of_match(no: ServerNo, cause: &Cause) -> Fate
-    ensures { fate_told result ≡ match_fate no (loss_of cause.now) }
+// One that goes by a match is left where it stands, for whatever cause.
+fn of_match(no: ServerNo, loss: Option<Loss>) -> Fate
+    ensures { fate_told result ≡ match_fate no (option_map loss_told loss) }
 {
-    let miss = match cause {
-        Cause::Unreachable(away) => Miss::Unreachable(*away),
-        Cause::Running(_) => Miss::Running,
-        Cause::Interfered {
-            expected,
-            found,
-            ..
-        } => Miss::Interfered {
-            expected: *expected,
-            found: *found,
-        },
-        Cause::Loop(_) => Miss::Loop,
-        Cause::Purged(_, first) => Miss::Purged(*first),
-        Cause::NoMark(_) => Miss::NoMark,
-        Cause::Mismatch(_, entry) => Miss::Mismatch(*entry),
-        Cause::WaitSpent(_)
-        | Cause::Errant(_, _)
-        | Cause::Moved(_, _)
-        | Cause::Reachable(_)
-        | Cause::NoCandidate
-        | Cause::HookFailed { .. } => return Fate::Fails,
-    };
-    Fate::Loses(no, Why::Unmatched(miss))
+    match loss {
+        Some(Loss::Missed(miss)) => Fate::Loses(no, Why::Unmatched(miss)),
+        Some(Loss::Spent | Loss::Differs) | None => Fate::Fails,
+    }
 }
 
-fn of_move(world: &World, purpose: Purpose, no: ServerNo, way: Way, cause: &Cause) -> Fate
-    ensures { fate_told result ≡ fate_of_move world.now purpose no way cause.now }
+fn of_move(world: &World, purpose: Purpose, no: ServerNo, way: Way, loss: Option<Loss>) -> Fate
+    ensures { fate_told result ≡ way_fate world.now purpose no way (option_map loss_told loss) }
 {
     match way {
-        Way::Match { .. } => of_match(no, cause),
-        Way::Down(_) | Way::Up(_) | Way::Auto { .. } => of_attach(world, purpose, no, way, cause),
+        Way::Match { .. } => of_match(no, loss),
+        Way::Down(_) | Way::Up(_) | Way::Auto { .. } => of_attach(world, purpose, no, way, loss),
     }
 }
 
@@ -190,11 +213,12 @@ fn of_move(world: &World, purpose: Purpose, no: ServerNo, way: Way, cause: &Caus
 pub fn fate_of(world: &World, purpose: Purpose, stage: &Stage, cause: &Cause) -> Fate
     ensures { fate_told result ≡ fate world.now purpose stage.now cause.now }
 {
+    let loss = loss_of(cause);
     match stage {
-        Stage::Drain(n) => of_drain(*n, cause),
-        Stage::Move(n, way) => of_move(world, purpose, *n, *way, cause),
+        Stage::Drain(n) => of_drain(*n, loss),
+        Stage::Move(n, way) => of_move(world, purpose, *n, *way, loss),
         Stage::Join(n, _) => Fate::Loses(*n, Why::Lost(Lost::Unreachable)),
-        Stage::Look(n, _) | Stage::Trail(n, _) => of_trail(world, *n, cause),
+        Stage::Look(n, _) | Stage::Trail(n, _) => of_trail(world, *n, loss),
         Stage::Check | Stage::Expel(_) | Stage::Release(_) => Fate::Drops,
         Stage::Level(_, q) => Fate::Releases(*q),
         Stage::Swap(p, q) => Fate::Returns(*p, *q),

@@ -26,8 +26,11 @@ abbrev pub recovery_list : BookState → ServerNo → List ServerNo
 recovery_list b f = f ∷ replicas_of b f
 
 -- no server is to move, or must be reached
+abbrev pub case_over : ServerNo → List ServerNo → Case
+case_over f replicas = record { i = f; to = None; leased = f ∷ replicas; reached = []; moves = []; sources = []; crossed = [] }
+
 abbrev pub case_of : BookState → ServerNo → Case
-case_of b f = record { i = f; to = None; leased = recovery_list b f; reached = []; moves = []; sources = []; crossed = [] }
+case_of b f = case_over f (replicas_of b f)
 
 -- 21 to 23: what keeps a recovery from beginning by itself; by hand it begins in spite of these
 abbrev pub unasked : BookState → Attempt → ServerNo → Bool → Option Refusal

@@ -5,7 +5,7 @@ use Rattle.commands.specs.declared.refusal.Refusal.{Refusal}
 use Rattle.commands.specs.declared.refusal.Refusal.TheVariants.{UnknownInstance}
 use Rattle.instance_keeper.specs.Book.{BookState}
 use Rattle.name_order.specs.NameOrder.{by_name}
-use Rattle.book_views.specs.Sources.{is_instance, is_replica_of}
+use Rattle.book_views.specs.Sources.{is_instance, is_replica_of, replicas_of}
 use Rattle.audit_log.specs.Audits.{AuditState}
 use Rattle.permission.specs.Checks.{Case, first_refusal}
 use Rattle.permission.specs.Lists.{first_of, moves_to, only_if}
@@ -13,7 +13,6 @@ use Rattle.permission.specs.declared.case.Check.{Check}
 use Rattle.permission.specs.declared.case.Check.TheVariants.{Busy, DestNotLogging, SameInstance, SameServerId, Unreachable, VersionLower}
 use Rattle.recovery_permits.specs.declared.attempt.Attempt.{Attempt}
 use Rattle.recovery_permits.specs.Checks.{held_back, no_master, no_replica}
-use Rattle.recovery_permits.specs.Recoveries.{recovery_list}
 use Rattle.server_model.specs.Worlds.{World}
 
 -- the servers that come below the designated one: the master and its other replicas
@@ -24,16 +23,19 @@ comes_below b i d n = not (n.0 == d.0) && ((n.0 == i.0) || is_replica_of b i n)
 abbrev pub followers_of : BookState → ServerNo → ServerNo → List ServerNo
 followers_of b i d = filter (comes_below b i d) (by_name b.names)
 
-abbrev pub case_of : BookState → ServerNo → ServerNo → Case
-case_of b i d = record {
+abbrev pub case_over : ServerNo → ServerNo → List ServerNo → List ServerNo → Case
+case_over i d replicas followers = record {
   i = i;
   to = Some d;
-  leased = recovery_list b i;
+  leased = i ∷ replicas;
   reached = i ∷ d ∷ [];
-  moves = moves_to (followers_of b i d) (Some d);
+  moves = moves_to followers (Some d);
   sources = d ∷ [];
   crossed = [];
 }
+
+abbrev pub case_of : BookState → ServerNo → ServerNo → Case
+case_of b i d = case_over i d (replicas_of b i) (followers_of b i d)
 
 abbrev pub row : List Check
 row = SameInstance ∷ Busy ∷ Unreachable ∷ DestNotLogging ∷ SameServerId ∷ VersionLower ∷ []

@@ -1,20 +1,19 @@
 //! The row of recoveries.
 
-ghost use Rattle.std.specs.Prelude.{◌≡◌, ◌<◌, ◌≤◌, ◌^◌, All, IfOk, length};
+ghost use Rattle.std.specs.Prelude.{◌≡◌, ◌<◌, ◌≤◌, ◌^◌, ◌∷◌, All, IfOk, length};
 ghost use Rattle.orch_base.specs.Gives.{Gives};
 ghost use Rattle.book_views.specs.Forests.{book_forest};
 ghost use Rattle.book_views.specs.Sources.{replicas_of};
 ghost use Rattle.failure_analysis.specs.Table.{action_of};
 ghost use Rattle.permission.specs.Checks.{permit_fault, permitted};
 ghost use Rattle.recovery_permits.specs.Checks.{code_at};
-ghost use Rattle.recovery_permits.specs.Recoveries.{case_of, held_off, purpose_by, recovery_list, recovery_purpose, recovery_refusal, refusal_by, refusal_for, unasked};
+ghost use Rattle.recovery_permits.specs.Recoveries.{case_over, held_off, purpose_by, recovery_purpose, recovery_refusal, refusal_by, refusal_for, unasked};
 
 use crate::checks::{
     disabled, downtimed, filtered, held_back, without_candidate, without_successor,
 };
 use crate::{Attempt, Memory, PermitFault};
 use audit_log::Audit;
-use book_views::replicas;
 use commands::Refusal;
 use failure_analysis::{Action, actionable};
 use instance_keeper::Book;
@@ -26,27 +25,27 @@ use std::alloc::Global;
 use topology_tree::Forest;
 
 /// The servers of which the recovery of a server, or the takeover of its place, takes the leases: it and its replicas,
-/// these in name order. `Err` is want of memory.
+/// these in their order. `Err` is want of memory.
 pub fn recovery_servers(
     alloc: Global,
-    book: &Book,
     failed: ServerNo,
+    replicas: &[ServerNo],
 ) -> Result<Vec<ServerNo>, Memory>
-    ensures { IfOk result (λ list. list.items ≡ recovery_list book.now failed) }
+    ensures { IfOk result (λ list. list.items ≡ failed ∷ replicas.now) }
 {
     let mut list = Vec::new(alloc);
     list.push(failed)?;
-    list.append(&mut replicas(alloc, book, failed)?)?;
+    list.extend_from_slice(replicas)?;
     Ok(list)
 }
 
-fn case_of(alloc: Global, book: &Book, failed: ServerNo) -> Result<Case, Memory>
-    ensures { IfOk result (λ c. c ≡ case_of book.now failed) }
+fn case_of(alloc: Global, failed: ServerNo, replicas: &[ServerNo]) -> Result<Case, Memory>
+    ensures { IfOk result (λ c. c ≡ case_over failed replicas.now) }
 {
     Ok(Case::new(
         failed,
         None,
-        recovery_servers(alloc, book, failed)?,
+        recovery_servers(alloc, failed, replicas)?,
         Vec::new(alloc),
         Vec::new(alloc),
         Vec::new(alloc),
@@ -127,9 +126,11 @@ fn refusal_by(
     audit: &Audit,
     attempt: Attempt,
     failed: ServerNo,
+    replicas: &[ServerNo],
     code: Option<Code>,
 ) -> Result<Option<Refusal>, Memory>
     requires server { failed.0 < length book.now.names }
+    requires replicas { replicas.now ≡ replicas_of book.now failed }
     requires forest { forest.now ≡ book_forest book.now }
     requires begun { All (λ r. r.begun.0 ≤ 2 ^ 63) audit.now.audit.recoveries }
     ensures { IfOk result (λ r. r ≡ refusal_by world.now book.now audit.now.audit attempt
@@ -138,19 +139,16 @@ fn refusal_by(
     let Some(code) = code else {
         return Ok(Some(Refusal::UnknownInstance));
     };
-    let case = case_of(alloc, book, failed)?;
+    let case = case_of(alloc, failed, replicas)?;
     match first_refusal(alloc, book, forest, world, &case, &[Check::Busy])? {
         Some(refusal) => Ok(Some(refusal)),
-        None => {
-            let replicas = replicas(alloc, book, failed)?;
-            Ok(refusal_by_code(book, world, audit, attempt, failed, &replicas, code))
-        }
+        None => Ok(refusal_by_code(book, world, audit, attempt, failed, replicas, code)),
     }
 }
 
-/// Refuses the recovery of a server, by its code, with the refusal of the lowest number that applies. It goes by the
-/// book, the audit, the servers' settings and the moment, and changes nothing. Moments are at most 2^63. `Memory` comes
-/// only for want of memory.
+/// Refuses the recovery of a server, by its replicas in name order and its code, with the refusal of the lowest number
+/// that applies. It goes by the book, the audit, the servers' settings and the moment, and changes nothing. Moments are
+/// at most 2^63. `Memory` comes only for want of memory.
 pub fn permit_recovery(
     alloc: Global,
     book: &Book,
@@ -159,16 +157,20 @@ pub fn permit_recovery(
     audit: &Audit,
     attempt: Attempt,
     failed: ServerNo,
+    replicas: &[ServerNo],
     code: Option<Code>,
 ) -> Result<(), PermitFault>
     requires server { failed.0 < length book.now.names }
+    requires replicas { replicas.now ≡ replicas_of book.now failed }
     requires forest { forest.now ≡ book_forest book.now }
     requires code { code ≡ code_at book.now failed }
     requires begun { All (λ r. r.begun.0 ≤ 2 ^ 63) audit.now.audit.recoveries }
     ensures { Gives (λ _. tt) permit_fault result (permitted (recovery_refusal world.now book.now
         audit.now.audit attempt failed)) }
 {
-    answered(refusal_by(alloc, book, forest, world, audit, attempt, failed, code)?)
+    answered(refusal_by(
+        alloc, book, forest, world, audit, attempt, failed, replicas, code,
+    )?)
 }
 
 /// What the recovery of a server is for: its place is taken, or, where it has a source, its replicas go below that.

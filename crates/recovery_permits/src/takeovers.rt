@@ -3,8 +3,9 @@
 ghost use Rattle.std.specs.Prelude.{◌≡◌, ◌<◌, ◌≤◌, ◌^◌, All, IfOk, length};
 ghost use Rattle.orch_base.specs.Gives.{Gives};
 ghost use Rattle.book_views.specs.Forests.{book_forest};
+ghost use Rattle.book_views.specs.Sources.{replicas_of};
 ghost use Rattle.permission.specs.Checks.{permit_fault, permitted};
-ghost use Rattle.recovery_permits.specs.Takeovers.{case_of, comes_below, followers_of, takeover_refusal};
+ghost use Rattle.recovery_permits.specs.Takeovers.{case_over, comes_below, followers_of, takeover_refusal};
 
 use crate::checks::{held_back, is_replica_of, no_master, no_replica};
 use crate::recoveries::recovery_servers;
@@ -51,14 +52,20 @@ pub fn followers_of(
         .collect(alloc)
 }
 
-fn case_of(alloc: Global, book: &Book, i: ServerNo, d: ServerNo) -> Result<Case, Memory>
-    ensures { IfOk result (λ c. c ≡ case_of book.now i d) }
+fn case_of(
+    alloc: Global,
+    i: ServerNo,
+    d: ServerNo,
+    replicas: &[ServerNo],
+    followers: &[ServerNo],
+) -> Result<Case, Memory>
+    ensures { IfOk result (λ c. c ≡ case_over i d replicas.now followers.now) }
 {
-    let leased = recovery_servers(alloc, book, i)?;
+    let leased = recovery_servers(alloc, i, replicas)?;
     let mut reached = Vec::new(alloc);
     reached.push(i)?;
     reached.push(d)?;
-    let moves = moves_to(alloc, &followers_of(alloc, book, i, d)?, Some(d))?;
+    let moves = moves_to(alloc, followers, Some(d))?;
     let mut sources = Vec::new(alloc);
     sources.push(d)?;
     let crossed = Vec::new(alloc);
@@ -74,8 +81,12 @@ fn takeover_refusal(
     attempt: Attempt,
     i: ServerNo,
     d: ServerNo,
+    replicas: &[ServerNo],
+    followers: &[ServerNo],
 ) -> Result<Option<Refusal>, Memory>
     requires servers { (i.0 < length book.now.names) × (d.0 < length book.now.names) }
+    requires replicas { replicas.now ≡ replicas_of book.now i }
+    requires followers { followers.now ≡ followers_of book.now i d }
     requires forest { forest.now ≡ book_forest book.now }
     requires begun { All (λ r. r.begun.0 ≤ 2 ^ 63) audit.now.audit.recoveries }
     ensures { IfOk result (λ r. r ≡ takeover_refusal world.now book.now audit.now.audit attempt
@@ -84,7 +95,7 @@ fn takeover_refusal(
     if !(is_instance(book, i) && is_instance(book, d)) {
         return Ok(Some(Refusal::UnknownInstance));
     }
-    let case = case_of(alloc, book, i, d)?;
+    let case = case_of(alloc, i, d, replicas, followers)?;
     if let Some(refusal) = first_refusal(alloc, book, forest, world, &case, &ROW)? {
         return Ok(Some(refusal));
     }
@@ -97,9 +108,10 @@ fn takeover_refusal(
     }
 }
 
-/// Refuses the takeover of a master's place by a replica with the refusal of the lowest number that applies. It goes by
-/// the book, the audit, the servers' settings and the moment, and changes nothing. Moments are at most 2^63. `Memory`
-/// comes only for want of memory.
+/// Refuses the takeover of a master's place by a replica, by the master's replicas and the servers that come below the
+/// designated one, each in name order, with the refusal of the lowest number that applies. It goes by the book, the
+/// audit, the servers' settings and the moment, and changes nothing. Moments are at most 2^63. `Memory` comes only for
+/// want of memory.
 pub fn permit_takeover(
     alloc: Global,
     book: &Book,
@@ -109,12 +121,18 @@ pub fn permit_takeover(
     attempt: Attempt,
     i: ServerNo,
     d: ServerNo,
+    replicas: &[ServerNo],
+    followers: &[ServerNo],
 ) -> Result<(), PermitFault>
     requires servers { (i.0 < length book.now.names) × (d.0 < length book.now.names) }
+    requires replicas { replicas.now ≡ replicas_of book.now i }
+    requires followers { followers.now ≡ followers_of book.now i d }
     requires forest { forest.now ≡ book_forest book.now }
     requires begun { All (λ r. r.begun.0 ≤ 2 ^ 63) audit.now.audit.recoveries }
     ensures { Gives (λ _. tt) permit_fault result (permitted (takeover_refusal world.now book.now
         audit.now.audit attempt i d)) }
 {
-    answered(takeover_refusal(alloc, book, forest, world, audit, attempt, i, d)?)
+    answered(takeover_refusal(
+        alloc, book, forest, world, audit, attempt, i, d, replicas, followers,
+    )?)
 }

@@ -14,7 +14,7 @@ use Rattle.operations.specs.declared.sight.Sight.{Sight}
 use Rattle.operations.specs.Deeds.{deed_of}
 use Rattle.operations.specs.Targets.{can_attach}
 use Rattle.operations.specs.Turns as attempt
-use Rattle.operations.specs.Turns.{Attempt, Turned, by_deed, crossing_of, restarts}
+use Rattle.operations.specs.Turns.{Attempt, by_deed, crossing_of, restarts}
 use Rattle.operations.proofs.Allowing.{restarts-allowed, turn-allowed}
 use Rattle.operations.proofs.Targets.{can-allowed}
 use Rattle.recovery_plans.specs.declared.purpose.Purpose.{Purpose}
@@ -22,7 +22,7 @@ use Rattle.recovery_plans.specs.declared.purpose.Purpose.TheVariants as purpose
 use Rattle.recovery_plans.specs.declared.stage.Stage.{Stage}
 use Rattle.recovery_plans.specs.declared.stage.Stage.TheVariants as stage
 use Rattle.recovery_plans.specs.Recoveries.{Recovery}
-use Rattle.recovery_plans.specs.Deciding.{decided}
+use Rattle.recovery_plans.specs.Deciding.{decided, ground_of}
 use Rattle.recovery_plans.specs.Taking as taking
 use Rattle.recovery_plans.specs.Taking.{Fate, fate, that_can, takes_writes, goes_back, way_back, undone, last_exchanges, met, barred_by, on_going, attempted, acted, taken}
 
@@ -86,4 +86,4 @@ acted-allowed w read now r (o ∷ rest) is =
     (subst (λ (ops : List Op). AllAllowed w (attempt.settled r.core (attempt.by_ops w read now r.core ops)).exchanges) is (turn-allowed w read now r.core))
 
 pub taken-allowed : (w : World) (b : BookState) (read : ℕ) (now : Moment) (r : Recovery) → AllAllowed w (taken w b read now r).exchanges
-taken-allowed w b read now r = acted-allowed w read now (decided w b now r) (decided w b now r).core.ops refl
+taken-allowed w b read now r = acted-allowed w read now (decided (ground_of w b now) r) (decided (ground_of w b now) r).core.ops refl

@@ -47,7 +47,7 @@ use Rattle.recovery_plans.specs.Moves as by
 use Rattle.recovery_plans.specs.Moves.{Bearing, Decision, Does, Ending, IsHanding, IsNext, MayBear, MayDecide, MayEnd, borne, decided_by, ended_by, fate_of, stopped_at}
 use Rattle.recovery_plans.proofs.Walking.{KeepsAlways, always, decided-walks, decisions-keep, kept-along, made-along, once-walks}
 use Rattle.recovery_plans.specs.Deciding as deciding
-use Rattle.recovery_plans.specs.Deciding.{Lot, chosen_of, lot_by, move_of, moves_in, without_stopped, choose, moving, why_of, expels, releases, sort, once, decided}
+use Rattle.recovery_plans.specs.Deciding.{Lot, chosen_of, ground_of, lot_by, move_of, moves_in, without_stopped, choose, moving, why_of, expels, releases, sort, once, decided}
 use Rattle.recovery_plans.specs.Taking.{swapped, lead_under, idle, frees, last_looks, entered, that_can, takes_writes, goes_back, way_back, undone, last_exchanges, taken}
 use Rattle.recovery_plans.specs.Named.{changed_by, IsOpOf, IsTaskOf, AreSourcesOf, IsOf, KeepsOf}
 use Rattle.recovery_plans.proofs.Choices.{All-chosen, All-better}
@@ -247,8 +247,8 @@ module _ (P Q : ℕ → Type 0) (id : ℕ) (pq : (n : ℕ) → P n → Q n) wher
       (All-head (IsTaskOf P Q r.failed) t ts all, queued-of r ts r.drained r.chosen has (All-tail (IsTaskOf P Q r.failed) t ts all) has.drained has.sources)
 
   -- the first of the drained ones, and the others
-  handed-of : (w : World) (b : BookState) (r : Recovery) (d : Stopped) (ds : List Stopped) (o : Option Way) (ts : List Task) → IsHanding w b r d ds o ts → IsOf P Q id r → Mine d.no × IsOf P Q id (record r { drained = ds })
-  handed-of w b r d ds o ts g has =
+  handed-of : (w : World) (b : BookState) (now : Moment) (r : Recovery) (d : Stopped) (ds : List Stopped) (o : Option Way) (ts : List Task) → IsHanding (ground_of w b now) r d ds o ts → IsOf P Q id r → Mine d.no × IsOf P Q id (record r { drained = ds })
+  handed-of w b now r d ds o ts g has =
       let all = subst (λ (xs : List Stopped). All (λ (x : Stopped). P x.no.0) xs) g.drained has.drained in
       (All-head (λ (x : Stopped). P x.no.0) d ds all, queued-of r r.queue ds r.chosen has has.queue (All-tail (λ (x : Stopped). P x.no.0) d ds all) has.sources)
 
@@ -269,15 +269,15 @@ module _ (P Q : ℕ → Type 0) (id : ℕ) (pq : (n : ℕ) → P n → Q n) wher
       (All-append (IsTaskOf P Q r.failed) (map task.Releasing free) r.queue
       (marks-of r.failed task.Releasing free (λ n x. x) (All-filter (λ (n : ServerNo). releases r.purpose (why_of r.outcome.lost n)) Mine r.replicas has.replicas)) has.queue)) has.drained has.sources
 
-  chooses-of : (w : World) (b : BookState) (now : Moment) (r : Recovery) (p : Stopped) → IsOf P Q id r → chosen_of w b now r.failed r.drained ≡ Some p → IsOf P Q id (choose w b now r (Some p))
+  chooses-of : (w : World) (b : BookState) (now : Moment) (r : Recovery) (p : Stopped) → IsOf P Q id r → chosen_of (ground_of w b now) r.failed r.drained ≡ Some p → IsOf P Q id (choose (ground_of w b now) r (Some p))
   chooses-of w b now r p has e =
-      queued-of r (moves_in (lot_by r.means w b r.failed p) (without_stopped r.drained p.no) ++ r.queue) [] (Some p.no) has
-      (All-append (IsTaskOf P Q r.failed) (moves_in (lot_by r.means w b r.failed p) (without_stopped r.drained p.no)) r.queue
-      (moves-of r.failed (lot_by r.means w b r.failed p) (without_stopped r.drained p.no)
+      queued-of r (moves_in (lot_by r.means (ground_of w b now) r.failed p) (without_stopped r.drained p.no) ++ r.queue) [] (Some p.no) has
+      (All-append (IsTaskOf P Q r.failed) (moves_in (lot_by r.means (ground_of w b now) r.failed p) (without_stopped r.drained p.no)) r.queue
+      (moves-of r.failed (lot_by r.means (ground_of w b now) r.failed p) (without_stopped r.drained p.no)
       (All-filter (λ (d : Stopped). not (d.no.0 == p.no.0)) (λ (d : Stopped). P d.no.0) r.drained has.drained)) has.queue) (All-nil (λ (d : Stopped). P d.no.0))
       (one-chosen r.purpose r.failed p.no r.chosen has.sources (All-chosen w b now r.failed (λ (d : Stopped). P d.no.0) r.drained p has.drained e))
 
-  decides-of : (w : World) (b : BookState) (now : Moment) (r : Recovery) (d : Decision) → MayDecide w b now r d → IsOf P Q id r → IsOf P Q id (decided_by w b now r d)
+  decides-of : (w : World) (b : BookState) (now : Moment) (r : Recovery) (d : Decision) → MayDecide (ground_of w b now) r d → IsOf P Q id r → IsOf P Q id (decided_by (ground_of w b now) r d)
   decides-of w b now r (by.Reads n ts) next has =
       let h = next-of r (task.Reading n) ts next has in
       working-of (record r { queue = ts }) (stage.Read n) (op.Status n None ∷ []) h.1 (All-nil Mine) (each-of (op.Status n None ∷ []) ((tt, h.0), tt))
@@ -302,8 +302,8 @@ module _ (P Q : ℕ → Type 0) (id : ℕ) (pq : (n : ℕ) → P n → Q n) wher
   decides-of w b now r (by.Chooses p ts) (next, e) has = chooses-of w b now (record r { queue = ts }) p (next-of r task.Choosing ts next has).1 e
   decides-of w b now r (by.ChoosesNobody ts) g has =
       queued-of r [] [] None has (All-nil (IsTaskOf P Q r.failed)) (All-nil (λ (d : Stopped). P d.no.0)) (none-chosen r.purpose r.failed r.chosen has.sources)
-  decides-of w b now r (by.Hands d ds way ts) g has = let h = handed-of w b r d ds (Some way) ts g has in moving-of (record r { drained = ds }) d.no way h.1 h.0
-  decides-of w b now r (by.Leaves d ds ts) g has = (handed-of w b r d ds None ts g has).1
+  decides-of w b now r (by.Hands d ds way ts) g has = let h = handed-of w b now r d ds (Some way) ts g has in moving-of (record r { drained = ds }) d.no way h.1 h.0
+  decides-of w b now r (by.Leaves d ds ts) g has = (handed-of w b now r d ds None ts g has).1
   decides-of w b now r (by.HandedOver ts) g has =
       let h = (next-of r task.Handing ts g.0 has).1 in queued-of r ts [] r.chosen has h.queue (All-nil (λ (d : Stopped). P d.no.0)) has.sources
   decides-of w b now r (by.Passes ts) (next, e) has = (next-of r task.Handing ts next has).1
@@ -321,10 +321,10 @@ module _ (P Q : ℕ → Type 0) (id : ℕ) (pq : (n : ℕ) → P n → Q n) wher
       working-of r (stage.Close (told r)) (op.Start p ∷ op.Finish (told r) ∷ []) has (All-nil Mine) (each-of (op.Start p ∷ op.Finish (told r) ∷ []) (does p mine, ((tt, tt), tt)))
   decides-of w b now r by.Closes g has = working-of r (stage.Close (told r)) (op.Finish (told r) ∷ []) has (All-nil Mine) (each-of (op.Finish (told r) ∷ []) ((tt, tt), tt))
 
-  pub once-of : (w : World) (b : BookState) (now : Moment) (r : Recovery) → IsOf P Q id r → IsOf P Q id (once w b now r)
+  pub once-of : (w : World) (b : BookState) (now : Moment) (r : Recovery) → IsOf P Q id r → IsOf P Q id (once (ground_of w b now) r)
   once-of w b now r has = decisions-keep w b now (IsOf P Q id) (decides-of w b now) (once-walks w b now r) has
 
-  pub decided-of : (w : World) (b : BookState) (now : Moment) (r : Recovery) → IsOf P Q id r → IsOf P Q id (decided w b now r)
+  pub decided-of : (w : World) (b : BookState) (now : Moment) (r : Recovery) → IsOf P Q id r → IsOf P Q id (decided (ground_of w b now) r)
   decided-of w b now r has = decisions-keep w b now (IsOf P Q id) (decides-of w b now) (decided-walks w b now r) has
 
   -- ---- a stage that is done

@@ -7,6 +7,7 @@ use Rattle.orch_base.specs.declared.server.Moment.{Moment}
 use Rattle.orch_base.specs.declared.server.ServerNo.{ServerNo}
 use Rattle.server_model.specs.Worlds.{World}
 use Rattle.instance_keeper.specs.Book.{BookState}
+use Rattle.recovery_plans.specs.Deciding.{ground_of}
 use Rattle.recovery_plans.specs.declared.outcome.Stopped.{Stopped}
 use Rattle.recovery_plans.specs.declared.stage.Stage.{Stage}
 use Rattle.recovery_plans.specs.Recoveries.{Recovery, follows_no_more}
@@ -26,7 +27,7 @@ module _ (P : ℕ → Type 0) (id : ℕ) where
   abbrev Named : Recovery → Type 0
   Named r = IsOf P P id r × Leads r
 
-  decides-leads : (w : World) (b : BookState) (now : Moment) (r : Recovery) (d : Decision) → MayDecide w b now r d → Named r → Leads (decided_by w b now r d)
+  decides-leads : (w : World) (b : BookState) (now : Moment) (r : Recovery) (d : Decision) → MayDecide (ground_of w b now) r d → Named r → Leads (decided_by (ground_of w b now) r d)
   decides-leads w b now r (by.Chooses p ts) g h = All-chosen w b now r.failed (λ (d : Stopped). P d.no.0) r.drained p h.0.drained g.1
   decides-leads w b now r (by.ChoosesNobody ts) g h = tt
   decides-leads w b now r d g h = h.1

@@ -35,63 +35,63 @@ use Rattle.recovery_plans.specs.declared.task.Way.TheVariants as way
 use Rattle.recovery_plans.specs.Recoveries.{Recovery, loses, working}
 use Rattle.recovery_plans.specs.Stages.{ends, moved, trail, with_bridge}
 use Rattle.recovery_plans.specs.Table.{more_on}
-use Rattle.recovery_plans.specs.Deciding.{better_of, by_queue, by_task, at_last, choose, chosen_of, crown, decided, hand, hand_by, hand_over, look_at, moving, once, rejoin, swap, swap_by, swap_or_crown, way_below, yield}
+use Rattle.recovery_plans.specs.Deciding.{better_of, by_queue, by_task, at_last, choose, chosen_of, crown, decided, ground_of, hand, hand_by, hand_over, look_at, moving, once, rejoin, swap, swap_by, swap_or_crown, way_below, yield}
 use Rattle.recovery_plans.specs.Taking as taking
 use Rattle.recovery_plans.specs.Taking.{Fate, Loss, Taken, acted, at_end, attempted, barred_by, completed, entered, exec_by, fate, fate_of_drain, fate_of_errant, fate_of_trail, loss_of, match_fate, missed_fate, move_fate, way_fate, frees, goes_on, halted, idle, is_below, is_waiting, judged, last_exchanges, looked, lost_on_way, met, on_going, progressed, spot_by, spot_seen, stepped, taken, place_on}
 use Rattle.recovery_plans.specs.Moves as move
-use Rattle.recovery_plans.specs.Moves.{AtEnd, Decision, Decisions, Does, Ending, FailsFor, HasNoBetter, IsHanding, IsNext, IsOver, MayDecide, MayEnd, Stops, Turning, MayBear, Bearing, borne, decided_by, ended_by, fate_of, late, rests, stray}
+use Rattle.recovery_plans.specs.Moves.{AtEnd, Decision, Decisions, Does, Ending, FailsFor, IsHanding, IsNext, IsOver, MayDecide, MayEnd, Stops, Turning, MayBear, Bearing, borne, decided_by, ended_by, fate_of, late, rests, stray}
 
 -- ---- what is decided
 
 module _ (w : World) (b : BookState) (now : Moment) where
-  one : (r : Recovery) (d : Decision) → MayDecide w b now r d → Decisions w b now r (decided_by w b now r d)
+  one : (r : Recovery) (d : Decision) → MayDecide (ground_of w b now) r d → Decisions (ground_of w b now) r (decided_by (ground_of w b now) r d)
   one r d may = move.Then d may move.Still
 
-  pub joined : {r s t : Recovery} → Decisions w b now r s → Decisions w b now s t → Decisions w b now r t
+  pub joined : {r s t : Recovery} → Decisions (ground_of w b now) r s → Decisions (ground_of w b now) s t → Decisions (ground_of w b now) r t
   joined move.Still other = other
   joined (move.Then d may rest) other = move.Then d may (joined rest other)
 
   -- those without a way are left, up to the first that has one
   hand-walks : (k : ServerNo) (ts : List Task) (ds : List Stopped) (r : Recovery) → r.core.ops ≡ [] → r.chosen ≡ Some k
-      → Decisions w b now (record r { queue = task.Handing ∷ ts; drained = ds }) (hand w b k (record r { queue = ts }) ds)
+      → Decisions (ground_of w b now) (record r { queue = task.Handing ∷ ts; drained = ds }) (hand (ground_of w b now) k (record r { queue = ts }) ds)
   hand-walks k ts [] r none chosen =
       one (record r { queue = task.Handing ∷ ts; drained = [] }) (move.HandedOver ts)
       (record { rests = none; queue = refl }, refl, λ h. let bad : None ≡ Some k = sym h ∙ chosen in cc)
   hand-walks k ts (d ∷ ds) r none chosen =
-      go (way_below w b r.core.seen r.failed k d) refl (hand-walks k ts ds (loses r d.no (lost.behind d.exec)) none chosen)
+      go (way_below (ground_of w b now) r.core.seen r.failed k d) refl (hand-walks k ts ds (loses r d.no (lost.behind d.exec)) none chosen)
     where
-      handing : (o : Option Way) → way_below w b r.core.seen r.failed k d ≡ o → IsHanding w b (record r { queue = task.Handing ∷ ts; drained = d ∷ ds }) d ds o ts
+      handing : (o : Option Way) → way_below (ground_of w b now) r.core.seen r.failed k d ≡ o → IsHanding (ground_of w b now) (record r { queue = task.Handing ∷ ts; drained = d ∷ ds }) d ds o ts
       handing o e = record { next = record { rests = none; queue = refl }; drained = refl; source = k; chosen = chosen; way = e }
 
-      go : (o : Option Way) → way_below w b r.core.seen r.failed k d ≡ o
-          → Decisions w b now (record (loses r d.no (lost.behind d.exec)) { queue = task.Handing ∷ ts; drained = ds }) (hand w b k (loses (record r { queue = ts }) d.no (lost.behind d.exec)) ds)
-          → Decisions w b now (record r { queue = task.Handing ∷ ts; drained = d ∷ ds }) (hand_by (record r { queue = ts }) d ds o (hand w b k (loses (record r { queue = ts }) d.no (lost.behind d.exec)) ds))
+      go : (o : Option Way) → way_below (ground_of w b now) r.core.seen r.failed k d ≡ o
+          → Decisions (ground_of w b now) (record (loses r d.no (lost.behind d.exec)) { queue = task.Handing ∷ ts; drained = ds }) (hand (ground_of w b now) k (loses (record r { queue = ts }) d.no (lost.behind d.exec)) ds)
+          → Decisions (ground_of w b now) (record r { queue = task.Handing ∷ ts; drained = d ∷ ds }) (hand_by (record r { queue = ts }) d ds o (hand (ground_of w b now) k (loses (record r { queue = ts }) d.no (lost.behind d.exec)) ds))
       go None e rest = move.Then (move.Leaves d ds ts) (handing None e) rest
       go (Some by) e rest = one (record r { queue = task.Handing ∷ ts; drained = d ∷ ds }) (move.Hands d ds by ts) (handing (Some by) e)
 
-  over-walks : (r : Recovery) (ts : List Task) → IsNext r task.Handing ts → (o : Option ServerNo) → r.chosen ≡ o → Decisions w b now r (hand_over w b (record r { queue = ts }) o)
+  over-walks : (r : Recovery) (ts : List Task) → IsNext r task.Handing ts → (o : Option ServerNo) → r.chosen ≡ o → Decisions (ground_of w b now) r (hand_over (ground_of w b now) (record r { queue = ts }) o)
   over-walks r ts next None e = one r (move.Passes ts) (next, e)
   over-walks r ts next (Some k) e =
-      subst (λ (q : List Task). Decisions w b now (record r { queue = q }) (hand w b k (record r { queue = ts }) r.drained)) (sym next.queue)
+      subst (λ (q : List Task). Decisions (ground_of w b now) (record r { queue = q }) (hand (ground_of w b now) k (record r { queue = ts }) r.drained)) (sym next.queue)
       (hand-walks k ts r.drained r next.rests e)
 
-  choose-walks : (r : Recovery) (ts : List Task) → IsNext r task.Choosing ts → (o : Option Stopped) → chosen_of w b now r.failed r.drained ≡ o
-      → Decisions w b now r (choose w b now (record r { queue = ts }) o)
+  choose-walks : (r : Recovery) (ts : List Task) → IsNext r task.Choosing ts → (o : Option Stopped) → chosen_of (ground_of w b now) r.failed r.drained ≡ o
+      → Decisions (ground_of w b now) r (choose (ground_of w b now) (record r { queue = ts }) o)
   choose-walks r ts next None e = one r (move.ChoosesNobody ts) (next, e)
   choose-walks r ts next (Some p) e = one r (move.Chooses p ts) (next, e)
 
-  look-walks : (r : Recovery) (n : ServerNo) (ts : List Task) → IsNext r (task.Trailing n) ts → (o : Option Bridge) → r.lead ≡ o → Decisions w b now r (look_at (record r { queue = ts }) n o)
+  look-walks : (r : Recovery) (n : ServerNo) (ts : List Task) → IsNext r (task.Trailing n) ts → (o : Option Bridge) → r.lead ≡ o → Decisions (ground_of w b now) r (look_at (record r { queue = ts }) n o)
   look-walks r n ts next None e = one r (move.Sticks (task.Trailing n) ts) (next, refl, e)
   look-walks r n ts next (Some x) e = one r (move.Looks n x ts) (next, e)
 
-  yield-walks : (r : Recovery) (ts : List Task) → IsNext r task.Yielding ts → (o : Option Bridge) → r.lead ≡ o → Decisions w b now r (yield (record r { queue = ts }) o)
+  yield-walks : (r : Recovery) (ts : List Task) → IsNext r task.Yielding ts → (o : Option Bridge) → r.lead ≡ o → Decisions (ground_of w b now) r (yield (record r { queue = ts }) o)
   yield-walks r ts next None e = one r (move.Sticks task.Yielding ts) (next, refl, e)
   yield-walks r ts next (Some x) e = one r (move.Yields x ts) (next, e)
 
-  task-walks : (r : Recovery) (t : Task) (ts : List Task) → IsNext r t ts → Decisions w b now r (by_task w b now (record r { queue = ts }) t)
+  task-walks : (r : Recovery) (t : Task) (ts : List Task) → IsNext r t ts → Decisions (ground_of w b now) r (by_task (ground_of w b now) (record r { queue = ts }) t)
   task-walks r (task.Reading n) ts next = one r (move.Reads n ts) next
   task-walks r (task.Draining n) ts next = one r (move.Drains n ts) next
-  task-walks r task.Choosing ts next = choose-walks r ts next (chosen_of w b now r.failed r.drained) refl
+  task-walks r task.Choosing ts next = choose-walks r ts next (chosen_of (ground_of w b now) r.failed r.drained) refl
   task-walks r task.Handing ts next = over-walks r ts next r.chosen refl
   task-walks r (task.Moving n by) ts next = one r (move.Sends n by ts) next
   task-walks r task.Sorting ts next = one r (move.Sorts ts) next
@@ -104,49 +104,49 @@ module _ (w : World) (b : BookState) (now : Moment) where
     over : (u : Purpose) → r.purpose ≡ u → IsOver r u
     over u is = record { rests = none; queue = empty; purpose = is }
 
-    rejoin-walks : r.purpose ≡ purpose.Regroup → (o : Option ServerNo) → r.chosen ≡ o → Decisions w b now r (rejoin r o)
+    rejoin-walks : r.purpose ≡ purpose.Regroup → (o : Option ServerNo) → r.chosen ≡ o → Decisions (ground_of w b now) r (rejoin r o)
     rejoin-walks is None e = move.Still
     rejoin-walks is (Some p) e = one r (move.Rejoins p) (over purpose.Regroup is, e)
 
-    crown-walks : r.purpose ≡ purpose.Master → r.swaps ≡ false → (o : Option ServerNo) → r.chosen ≡ o → Decisions w b now r (crown r o)
+    crown-walks : r.purpose ≡ purpose.Master → r.swaps ≡ false → (o : Option ServerNo) → r.chosen ≡ o → Decisions (ground_of w b now) r (crown r o)
     crown-walks is swaps None e = move.Still
     crown-walks is swaps (Some p) e = one r (move.Crowns p) (over purpose.Master is, swaps, e)
 
-    swap-walks : r.purpose ≡ purpose.Master → r.swaps ≡ true → (o : Option ServerNo) → r.chosen ≡ o → Decisions w b now r (swap w b now (record r { swaps = false }) o)
+    swap-walks : r.purpose ≡ purpose.Master → r.swaps ≡ true → (o : Option ServerNo) → r.chosen ≡ o → Decisions (ground_of w b now) r (swap (ground_of w b now) (record r { swaps = false }) o)
     swap-walks is swaps None e =
         one r move.Remains
-        (over purpose.Master is, swaps, subst (λ (o : Option ServerNo). IfSome o (λ p. better_of w b now r.failed p (map (λ x. x.no) r.outcome.followers) ≡ None)) (sym e) tt)
-    swap-walks is swaps (Some p) e = go (better_of w b now r.failed p (map (λ x. x.no) r.outcome.followers)) refl
+        (over purpose.Master is, swaps, subst (λ (o : Option ServerNo). IfSome o (λ p. better_of (ground_of w b now) r.failed p (map (λ x. x.no) r.outcome.followers) ≡ None)) (sym e) tt)
+    swap-walks is swaps (Some p) e = go (better_of (ground_of w b now) r.failed p (map (λ x. x.no) r.outcome.followers)) refl
       where
-        go : (o : Option ServerNo) → better_of w b now r.failed p (map (λ x. x.no) r.outcome.followers) ≡ o → Decisions w b now r (swap_by (record r { swaps = false }) p o)
+        go : (o : Option ServerNo) → better_of (ground_of w b now) r.failed p (map (λ x. x.no) r.outcome.followers) ≡ o → Decisions (ground_of w b now) r (swap_by (record r { swaps = false }) p o)
         go None f =
             one r move.Remains
-            (over purpose.Master is, swaps, subst (λ (o : Option ServerNo). IfSome o (λ p. better_of w b now r.failed p (map (λ x. x.no) r.outcome.followers) ≡ None)) (sym e) f)
+            (over purpose.Master is, swaps, subst (λ (o : Option ServerNo). IfSome o (λ p. better_of (ground_of w b now) r.failed p (map (λ x. x.no) r.outcome.followers) ≡ None)) (sym e) f)
         go (Some q) f = one r (move.Levels p q) (over purpose.Master is, swaps, e, f)
 
-    last-walks : (u : Purpose) → r.purpose ≡ u → Decisions w b now r (at_last w b now r u)
+    last-walks : (u : Purpose) → r.purpose ≡ u → Decisions (ground_of w b now) r (at_last (ground_of w b now) r u)
     last-walks purpose.Regroup is = rejoin-walks is r.chosen refl
     last-walks purpose.Master is = go r.swaps refl
       where
-        go : (a : Bool) → r.swaps ≡ a → Decisions w b now r (swap_or_crown w b now r a)
+        go : (a : Bool) → r.swaps ≡ a → Decisions (ground_of w b now) r (swap_or_crown (ground_of w b now) r a)
         go true e = swap-walks is e r.chosen refl
         go false e = crown-walks is e r.chosen refl
     last-walks (purpose.Intermediate s) is = one r move.Closes (s, over (purpose.Intermediate s) is)
     last-walks (purpose.Takeover d) is = move.Still
 
-  pub once-walks : (r : Recovery) → Decisions w b now r (once w b now r)
+  pub once-walks : (r : Recovery) → Decisions (ground_of w b now) r (once (ground_of w b now) r)
   once-walks r = go r.core.ops r.queue refl refl
     where
-      go : (ops : List Op) (ts : List Task) → r.core.ops ≡ ops → r.queue ≡ ts → Decisions w b now r (by_queue w b now r ops ts)
+      go : (ops : List Op) (ts : List Task) → r.core.ops ≡ ops → r.queue ≡ ts → Decisions (ground_of w b now) r (by_queue (ground_of w b now) r ops ts)
       go (x ∷ xs) ts none q = move.Still
       go [] [] none q = last-walks r none q r.purpose refl
       go [] (t ∷ ts) none q = task-walks r t ts (record { rests = none; queue = q })
 
-  pub decided-walks : (r : Recovery) → Decisions w b now r (decided w b now r)
+  pub decided-walks : (r : Recovery) → Decisions (ground_of w b now) r (decided (ground_of w b now) r)
   decided-walks r =
-      let a = once w b now r in
-      let c = once w b now a in
-      let d = once w b now c in
+      let a = once (ground_of w b now) r in
+      let c = once (ground_of w b now) a in
+      let d = once (ground_of w b now) c in
       joined (once-walks r) (joined (once-walks a) (joined (once-walks c) (once-walks d)))
 
 -- ---- the end of a stage
@@ -275,7 +275,7 @@ fated w u s c = Fatal
 
 -- ---- a turn
 
-module _ (w : World) (b : BookState) (read : ℕ) (now : Moment) (r d : Recovery) (ds : Decisions w b now r d) where
+module _ (w : World) (b : BookState) (read : ℕ) (now : Moment) (r d : Recovery) (ds : Decisions (ground_of w b now) r d) where
   acted-walks : (ops : List Op) → d.core.ops ≡ ops → Turning w b read now r (acted w read now d ops)
   acted-walks [] is = move.Fails ds cause.NoCandidate None (move.NoSource is)
   acted-walks (o ∷ rest) is = go (by_deed w read now d.core rest (deed_of o)) refl
@@ -304,12 +304,12 @@ module _ (w : World) (b : BookState) (read : ℕ) (now : Moment) (r d : Recovery
       go (attempt.Ends lines) e = move.Finishes ds o rest lines is e
 
 pub taken-walks : (w : World) (b : BookState) (read : ℕ) (now : Moment) (r : Recovery) → Turning w b read now r (taken w b read now r)
-taken-walks w b read now r = acted-walks w b read now r (decided w b now r) (decided-walks w b now r) (decided w b now r).core.ops refl
+taken-walks w b read now r = acted-walks w b read now r (decided (ground_of w b now) r) (decided-walks w b now r) (decided (ground_of w b now) r).core.ops refl
 
 -- ---- what is kept
 
 -- no operation is left where something is decided
-pub decides-idle : (w : World) (b : BookState) (now : Moment) (r : Recovery) (d : Decision) → MayDecide w b now r d → r.core.ops ≡ []
+pub decides-idle : (w : World) (b : BookState) (now : Moment) (r : Recovery) (d : Decision) → MayDecide (ground_of w b now) r d → r.core.ops ≡ []
 decides-idle w b now r (move.Reads n ts) may = may.rests
 decides-idle w b now r (move.Drains n ts) may = may.rests
 decides-idle w b now r (move.Sends n by ts) may = may.rests
@@ -322,15 +322,15 @@ decides-idle w b now r move.Closes may = may.1.rests
 decides-idle w b now r d may = may.0.rests
 
 -- what each decision keeps
-pub decisions-keep : (w : World) (b : BookState) (now : Moment) (P : Recovery → Type 0) → ((r : Recovery) (d : Decision) → MayDecide w b now r d → P r → P (decided_by w b now r d))
-    → {r s : Recovery} → Decisions w b now r s → P r → P s
+pub decisions-keep : (w : World) (b : BookState) (now : Moment) (P : Recovery → Type 0) → ((r : Recovery) (d : Decision) → MayDecide (ground_of w b now) r d → P r → P (decided_by (ground_of w b now) r d))
+    → {r s : Recovery} → Decisions (ground_of w b now) r s → P r → P s
 decisions-keep w b now P keep move.Still p = p
 decisions-keep w b now P keep (move.Then {r} d may rest) p = decisions-keep w b now P keep rest (keep r d may p)
 
 -- Each move leaves what the next one finds: what holds before the turn's operation, between it and the end of the
 -- stage, and behind that, each with the world as it is then.
 pub record Keeps (w : World) (b : BookState) (read : ℕ) (now : Moment) (Before : Recovery → Type 0) (Between After : World → Recovery → Type 0) : Type 0 where
-  pub decides : (r : Recovery) (d : Decision) → MayDecide w b now r d → Before r → Before (decided_by w b now r d)
+  pub decides : (r : Recovery) (d : Decision) → MayDecide (ground_of w b now) r d → Before r → Before (decided_by (ground_of w b now) r d)
   pub waits : (r : Recovery) (o : Op) (rest : List Op) (ob : Option Observation) (es : List Exchange) (j : Job) → Does w read now r o rest ob es j → is_waiting j ≡ true
       → Before r → After (run w es) (record r { core = j })
   pub acts : (r : Recovery) (o : Op) (rest : List Op) (ob : Option Observation) (es : List Exchange) (j : Job) → Does w read now r o rest ob es j → is_waiting j ≡ false
@@ -376,7 +376,7 @@ module _ (w : World) (b : BookState) (read : ℕ) (now : Moment) (Before : Recov
     kept-whole ends r = whole r (taken w b read now r) ends (taken-walks w b read now r)
 
   -- and of the exchanges of any turn, also of one that fails, holds what holds of each operation's and of the last ones
-  module _ (E : List Exchange → Type 0) (none : E []) (decides : (r : Recovery) (d : Decision) → MayDecide w b now r d → Before r → Before (decided_by w b now r d))
+  module _ (E : List Exchange → Type 0) (none : E []) (decides : (r : Recovery) (d : Decision) → MayDecide (ground_of w b now) r d → Before r → Before (decided_by (ground_of w b now) r d))
       (does : (r : Recovery) (o : Op) (rest : List Op) (ob : Option Observation) (es : List Exchange) (j : Job) → Does w read now r o rest ob es j → Before r → E es)
       (fails : (r : Recovery) (c : Cause) (ob : Option Observation) → FailsFor w read now r c ob → Before r → E (last_exchanges w r)) where
     made : (r : Recovery) (t : Taken) → Turning w b read now r t → Before r → E t.exchanges
@@ -393,7 +393,7 @@ module _ (w : World) (b : BookState) (read : ℕ) (now : Moment) (Before : Recov
 
 -- each move keeps what holds at each moment, of the world as it is then
 pub record KeepsAlways (w : World) (b : BookState) (read : ℕ) (now : Moment) (P : World → Recovery → Type 0) : Type 0 where
-  pub decides : (r : Recovery) (d : Decision) → MayDecide w b now r d → P w r → P w (decided_by w b now r d)
+  pub decides : (r : Recovery) (d : Decision) → MayDecide (ground_of w b now) r d → P w r → P w (decided_by (ground_of w b now) r d)
   pub does : (r : Recovery) (o : Op) (rest : List Op) (ob : Option Observation) (es : List Exchange) (j : Job) → Does w read now r o rest ob es j → P w r
       → P (run w es) (record r { core = j })
   pub enters : (v : World) (r : Recovery) → P v r → P v (entered r (moved r.stage))

@@ -48,6 +48,12 @@ is_master purpose.Master = true
 is_master (purpose.Intermediate s) = false
 is_master (purpose.Takeover d) = false
 
+abbrev pub is_takeover : Purpose → Bool
+is_takeover purpose.Regroup = false
+is_takeover purpose.Master = false
+is_takeover (purpose.Intermediate s) = false
+is_takeover (purpose.Takeover d) = true
+
 -- A recovery begins, by whose means the others go, as the job of this number, whose operations may wait so often each:
 -- of this server, with these replicas, and telling of those.
 abbrev pub begun_recovery : Purpose → Means → ℕ → ℕ → ServerNo → List ServerNo → List ServerNo → Recovery

@@ -39,6 +39,16 @@ use Rattle.recovery_plans.specs.Stages.{before, drain, level, move, with_bridge,
 use Rattle.recovery_plans.specs.Telling.{told}
 use Rattle.recovery_plans.specs.Whys as whys
 
+-- What is decided by: the servers' settings, whether they use GTIDs, the book, and the moment at which rules of promotion
+-- are looked up.
+pub record Ground : Type 0 where
+  pub world : World
+  pub book : BookState
+  pub moment : Moment
+
+abbrev pub ground_of : World → BookState → Moment → Ground
+ground_of w b now = record { world = w; book = b; moment = now }
+
 -- ---- which is promoted
 
 abbrev pub logs_at : World → ServerNo → Bool
@@ -53,25 +63,25 @@ abbrev pub is_near : World → ServerNo → ServerNo → Bool
 is_near w one other = pointwise nat_eq (center_in (server_at w one.0)) (center_in (server_at w other.0))
 
 -- a drained replica of a failed server as the choice looks at it, with its rule at this moment
-abbrev pub drained_of : World → BookState → Moment → ServerNo → Stopped → Drained
-drained_of w b now f s = record {
+abbrev pub drained_of : Ground → ServerNo → Stopped → Drained
+drained_of g f s = record {
   no = s.no;
   exec = s.exec;
   own_end = s.own_end;
-  rule = rule_at b s.no now;
-  logs = logs_at w s.no;
-  near = is_near w f s.no;
+  rule = rule_at g.book s.no g.moment;
+  logs = logs_at g.world s.no;
+  near = is_near g.world f s.no;
 }
 
 -- a server that may take the promoted one's place; at its coordinates nobody looks
-abbrev pub follower_of : World → BookState → Moment → ServerNo → ServerNo → Drained
-follower_of w b now f n = record {
+abbrev pub follower_of : Ground → ServerNo → ServerNo → Drained
+follower_of g f n = record {
   no = n;
   exec = record { file = 1; pos = 4 };
   own_end = None;
-  rule = rule_at b n now;
-  logs = logs_at w n;
-  near = is_near w f n;
+  rule = rule_at g.book n g.moment;
+  logs = logs_at g.world n;
+  near = is_near g.world f n;
 }
 
 abbrev pub stopped_in : List Stopped → Option ServerNo → Option Stopped
@@ -79,14 +89,14 @@ stopped_in xs None = None
 stopped_in xs (Some n) = find (λ s. s.no.0 == n.0) xs
 
 -- it logs, and its rule doesn't bar it, wherever it stands
-abbrev pub may_lead : World → BookState → Moment → Stopped → Bool
-may_lead w b now s = logs_at w s.no && not (is_barred (rule_at b s.no now))
+abbrev pub may_lead : Ground → Stopped → Bool
+may_lead g s = logs_at g.world s.no && not (is_barred (rule_at g.book s.no g.moment))
 
-abbrev pub chosen_of : World → BookState → Moment → ServerNo → List Stopped → Option Stopped
-chosen_of w b now f xs = stopped_in xs (most_advanced b.names (map (drained_of w b now f) xs))
+abbrev pub chosen_of : Ground → ServerNo → List Stopped → Option Stopped
+chosen_of g f xs = stopped_in xs (most_advanced g.book.names (map (drained_of g f) xs))
 
-abbrev pub better_of : World → BookState → Moment → ServerNo → ServerNo → List ServerNo → Option ServerNo
-better_of w b now f p qs = better b.names (follower_of w b now f p) (map (follower_of w b now f) qs)
+abbrev pub better_of : Ground → ServerNo → ServerNo → List ServerNo → Option ServerNo
+better_of g f p qs = better g.book.names (follower_of g f p) (map (follower_of g f) qs)
 
 -- ---- where the others go
 
@@ -105,15 +115,15 @@ lot_by_group p f s group.Behind = Stays (whys.behind s.exec)
 abbrev pub own_end_of : Stopped → Coord
 own_end_of p = unwrap_or p.own_end p.exec
 
-abbrev pub lot_of : World → BookState → ServerNo → Stopped → Stopped → Lot
-lot_of w b f p s =
-    if w.gtid then Goes (way.Auto p.no s.exec)
-    else lot_by_group p.no f s (group_of b.rings p.no (own_end_of p) p.exec f s.exec)
+abbrev pub lot_of : Ground → ServerNo → Stopped → Stopped → Lot
+lot_of g f p s =
+    if g.world.gtid then Goes (way.Auto p.no s.exec)
+    else lot_by_group p.no f s (group_of g.book.rings p.no (own_end_of p) p.exec f s.exec)
 
 -- by these means
-abbrev pub lot_by : Means → World → BookState → ServerNo → Stopped → Stopped → Lot
-lot_by means.Bridges w b f p s = lot_of w b f p s
-lot_by (means.Matches every) w b f p s = Goes (way.Match p.no s.exec every)
+abbrev pub lot_by : Means → Ground → ServerNo → Stopped → Stopped → Lot
+lot_by means.Bridges g f p s = lot_of g f p s
+lot_by (means.Matches every) g f p s = Goes (way.Match p.no s.exec every)
 
 abbrev pub move_of : Stopped → Lot → List Task
 move_of s (Goes by) = task.Moving s.no by ∷ []
@@ -150,13 +160,13 @@ unfit w s = record { no = s.no; why = if logs_at w s.no then whys.must_not else 
 abbrev pub stuck : Recovery → Recovery
 stuck r = record r { queue = []; chosen = None }
 
-abbrev pub choose : World → BookState → Moment → Recovery → Option Stopped → Recovery
-choose w b now r None = record (stuck r) {
+abbrev pub choose : Ground → Recovery → Option Stopped → Recovery
+choose g r None = record (stuck r) {
   drained = [];
-  outcome = record { promoted = None; followers = r.outcome.followers; lost = r.outcome.lost ++ map (unfit w) r.drained };
+  outcome = record { promoted = None; followers = r.outcome.followers; lost = r.outcome.lost ++ map (unfit g.world) r.drained };
 }
-choose w b now r (Some p) =
-    choose_by (record r { eligible = filter (may_lead w b now) r.drained }) p.no (lot_by r.means w b r.failed p) (without_stopped r.drained p.no)
+choose g r (Some p) =
+    choose_by (record r { eligible = filter (may_lead g) r.drained }) p.no (lot_by r.means g r.failed p) (without_stopped r.drained p.no)
 
 -- a move begins: what it goes by was seen
 abbrev pub moving : Recovery → ServerNo → Way → Recovery
@@ -169,22 +179,22 @@ way_by_set w seen s d = if is_some (seen_of seen s.0) && logs_at w s then Some (
 
 -- below the successor: by its GTIDs, or by the latest kept bridge of the failed server under it where the replica
 -- stands
-abbrev pub way_below : World → BookState → List Sight → ServerNo → ServerNo → Stopped → Option Way
-way_below w b seen x s d =
-    if w.gtid then way_by_set w seen s d else option_map way.Up (latest_that (has_own s d.exec) (ring_at b.rings x))
+abbrev pub way_below : Ground → List Sight → ServerNo → ServerNo → Stopped → Option Way
+way_below g seen x s d =
+    if g.world.gtid then way_by_set g.world seen s d else option_map way.Up (latest_that (has_own s d.exec) (ring_at g.book.rings x))
 
 -- with the others still to be handed over, or without a way
 abbrev pub hand_by : Recovery → Stopped → List Stopped → Option Way → Recovery → Recovery
 hand_by r d ds None without = without
 hand_by r d ds (Some by) without = moving (record r { queue = task.Handing ∷ r.queue; drained = ds }) d.no by
 
-abbrev pub hand : World → BookState → ServerNo → Recovery → List Stopped → Recovery
-hand w b s r [] = record r { drained = [] }
-hand w b s r (d ∷ ds) = hand_by r d ds (way_below w b r.core.seen r.failed s d) (hand w b s (loses r d.no (whys.behind d.exec)) ds)
+abbrev pub hand : Ground → ServerNo → Recovery → List Stopped → Recovery
+hand g s r [] = record r { drained = [] }
+hand g s r (d ∷ ds) = hand_by r d ds (way_below g r.core.seen r.failed s d) (hand g s (loses r d.no (whys.behind d.exec)) ds)
 
-abbrev pub hand_over : World → BookState → Recovery → Option ServerNo → Recovery
-hand_over w b r None = r
-hand_over w b r (Some s) = hand w b s r r.drained
+abbrev pub hand_over : Ground → Recovery → Option ServerNo → Recovery
+hand_over g r None = r
+hand_over g r (Some s) = hand g s r r.drained
 
 -- ---- what becomes of the lost
 
@@ -249,29 +259,29 @@ abbrev pub swap_by : Recovery → ServerNo → Option ServerNo → Recovery
 swap_by r p None = r
 swap_by r p (Some q) = working r (stage.Level p q) (level p q)
 
-abbrev pub swap : World → BookState → Moment → Recovery → Option ServerNo → Recovery
-swap w b now r None = r
-swap w b now r (Some p) = swap_by r p (better_of w b now r.failed p (map (λ x. x.no) r.outcome.followers))
+abbrev pub swap : Ground → Recovery → Option ServerNo → Recovery
+swap g r None = r
+swap g r (Some p) = swap_by r p (better_of g r.failed p (map (λ x. x.no) r.outcome.followers))
 
 abbrev pub crown : Recovery → Option ServerNo → Recovery
 crown r None = r
 crown r (Some p) = working r (stage.Crown p) (op.Reset p ∷ op.ReadOnly p false ∷ [])
 
 -- a better one is looked for once, and then the chosen one is crowned
-abbrev pub swap_or_crown : World → BookState → Moment → Recovery → Bool → Recovery
-swap_or_crown w b now r true = swap w b now (record r { swaps = false }) r.chosen
-swap_or_crown w b now r false = crown r r.chosen
+abbrev pub swap_or_crown : Ground → Recovery → Bool → Recovery
+swap_or_crown g r true = swap g (record r { swaps = false }) r.chosen
+swap_or_crown g r false = crown r r.chosen
 
 -- the chosen one is started
 abbrev pub rejoin : Recovery → Option ServerNo → Recovery
 rejoin r None = r
 rejoin r (Some p) = closing r (op.Start p ∷ [])
 
-abbrev pub at_last : World → BookState → Moment → Recovery → Purpose → Recovery
-at_last w b now r purpose.Regroup = rejoin r r.chosen
-at_last w b now r purpose.Master = swap_or_crown w b now r r.swaps
-at_last w b now r (purpose.Intermediate s) = closing r []
-at_last w b now r (purpose.Takeover d) = r
+abbrev pub at_last : Ground → Recovery → Purpose → Recovery
+at_last g r purpose.Regroup = rejoin r r.chosen
+at_last g r purpose.Master = swap_or_crown g r r.swaps
+at_last g r (purpose.Intermediate s) = closing r []
+at_last g r (purpose.Takeover d) = r
 
 -- ---- what is next
 
@@ -286,27 +296,27 @@ yield r (Some b) =
     working (record r { core = record r.core { seen = with_bridge r.core.seen b } }) (stage.Yield r.failed b.no)
     (op.Reset b.no ∷ op.Cross cross.About r.failed b.no ∷ [])
 
-abbrev pub by_task : World → BookState → Moment → Recovery → Task → Recovery
-by_task w b now r (task.Reading n) = working r (stage.Read n) (op.Status n None ∷ [])
-by_task w b now r (task.Draining n) = working r (stage.Drain n) (drain n)
-by_task w b now r task.Choosing = choose w b now r (chosen_of w b now r.failed r.drained)
-by_task w b now r task.Handing = hand_over w b r r.chosen
-by_task w b now r (task.Moving n by) = moving r n by
-by_task w b now r task.Sorting = sort r
-by_task w b now r (task.Expelling n) = working r (stage.Expel n) (op.Detach n ∷ [])
-by_task w b now r (task.Releasing n) = working r (stage.Release n) (op.Start n ∷ [])
-by_task w b now r (task.Trailing n) = look_at r n r.lead
-by_task w b now r task.Yielding = yield r r.lead
+abbrev pub by_task : Ground → Recovery → Task → Recovery
+by_task g r (task.Reading n) = working r (stage.Read n) (op.Status n None ∷ [])
+by_task g r (task.Draining n) = working r (stage.Drain n) (drain n)
+by_task g r task.Choosing = choose g r (chosen_of g r.failed r.drained)
+by_task g r task.Handing = hand_over g r r.chosen
+by_task g r (task.Moving n by) = moving r n by
+by_task g r task.Sorting = sort r
+by_task g r (task.Expelling n) = working r (stage.Expel n) (op.Detach n ∷ [])
+by_task g r (task.Releasing n) = working r (stage.Release n) (op.Start n ∷ [])
+by_task g r (task.Trailing n) = look_at r n r.lead
+by_task g r task.Yielding = yield r r.lead
 
-abbrev pub by_queue : World → BookState → Moment → Recovery → List Op → List Task → Recovery
-by_queue w b now r (x ∷ xs) ts = r
-by_queue w b now r [] [] = at_last w b now r r.purpose
-by_queue w b now r [] (t ∷ ts) = by_task w b now (record r { queue = ts }) t
+abbrev pub by_queue : Ground → Recovery → List Op → List Task → Recovery
+by_queue g r (x ∷ xs) ts = r
+by_queue g r [] [] = at_last g r r.purpose
+by_queue g r [] (t ∷ ts) = by_task g (record r { queue = ts }) t
 
 -- the next task, where no operation is left
-abbrev pub once : World → BookState → Moment → Recovery → Recovery
-once w b now r = by_queue w b now r r.core.ops r.queue
+abbrev pub once : Ground → Recovery → Recovery
+once g r = by_queue g r r.core.ops r.queue
 
 -- at most four decisions stand one behind another
-abbrev pub decided : World → BookState → Moment → Recovery → Recovery
-decided w b now r = once w b now (once w b now (once w b now (once w b now r)))
+abbrev pub decided : Ground → Recovery → Recovery
+decided g r = once g (once g (once g (once g r)))

@@ -35,7 +35,7 @@ use Rattle.recovery_plans.specs.Whys as lost
 use Rattle.recovery_plans.specs.Recoveries.{Recovery, follows, loses, working}
 use Rattle.recovery_plans.specs.Table.{info, is_nothing, more_on}
 use Rattle.recovery_plans.specs.Stages.{drain, gather, level, trail, with_bridge}
-use Rattle.recovery_plans.specs.Deciding.{better_of, choose, chosen_of, closing, crown, look_at, moving, rejoin, sort, stuck, way_below, yield}
+use Rattle.recovery_plans.specs.Deciding.{Ground, better_of, choose, chosen_of, closing, crown, ground_of, look_at, moving, rejoin, sort, stuck, way_below, yield}
 use Rattle.recovery_plans.specs.Taking as taking
 use Rattle.recovery_plans.specs.Taking.{Fate, Taken, barred_by, expelled, fails, fate, frees, goes_on, idle, is_below, is_waiting, last_looks, lead_under, spot_seen, stepped, swapped}
 
@@ -72,27 +72,27 @@ pub data Decision : Type 0 where
   Rejoins : (p : ServerNo) → Decision
   Closes : Decision
 
-abbrev pub decided_by : World → BookState → Moment → Recovery → Decision → Recovery
-decided_by w b now r (Reads n ts) = working (record r { queue = ts }) (stage.Read n) (op.Status n None ∷ [])
-decided_by w b now r (Drains n ts) = working (record r { queue = ts }) (stage.Drain n) (drain n)
-decided_by w b now r (Sends n by ts) = moving (record r { queue = ts }) n by
-decided_by w b now r (Expels n ts) = working (record r { queue = ts }) (stage.Expel n) (op.Detach n ∷ [])
-decided_by w b now r (Releases n ts) = working (record r { queue = ts }) (stage.Release n) (op.Start n ∷ [])
-decided_by w b now r (Looks n x ts) = look_at (record r { queue = ts }) n (Some x)
-decided_by w b now r (Yields x ts) = yield (record r { queue = ts }) (Some x)
-decided_by w b now r (Sticks t ts) = stuck r
-decided_by w b now r (Chooses p ts) = choose w b now (record r { queue = ts }) (Some p)
-decided_by w b now r (ChoosesNobody ts) = choose w b now (record r { queue = ts }) None
-decided_by w b now r (Hands d ds by ts) = moving (record r { drained = ds }) d.no by
-decided_by w b now r (Leaves d ds ts) = record (loses r d.no (lost.behind d.exec)) { drained = ds }
-decided_by w b now r (HandedOver ts) = record r { queue = ts; drained = [] }
-decided_by w b now r (Passes ts) = record r { queue = ts }
-decided_by w b now r (Sorts ts) = sort (record r { queue = ts })
-decided_by w b now r (Levels p q) = working (record r { swaps = false }) (stage.Level p q) (level p q)
-decided_by w b now r Remains = record r { swaps = false }
-decided_by w b now r (Crowns p) = crown r (Some p)
-decided_by w b now r (Rejoins p) = rejoin r (Some p)
-decided_by w b now r Closes = closing r []
+abbrev pub decided_by : Ground → Recovery → Decision → Recovery
+decided_by g r (Reads n ts) = working (record r { queue = ts }) (stage.Read n) (op.Status n None ∷ [])
+decided_by g r (Drains n ts) = working (record r { queue = ts }) (stage.Drain n) (drain n)
+decided_by g r (Sends n by ts) = moving (record r { queue = ts }) n by
+decided_by g r (Expels n ts) = working (record r { queue = ts }) (stage.Expel n) (op.Detach n ∷ [])
+decided_by g r (Releases n ts) = working (record r { queue = ts }) (stage.Release n) (op.Start n ∷ [])
+decided_by g r (Looks n x ts) = look_at (record r { queue = ts }) n (Some x)
+decided_by g r (Yields x ts) = yield (record r { queue = ts }) (Some x)
+decided_by g r (Sticks t ts) = stuck r
+decided_by g r (Chooses p ts) = choose g (record r { queue = ts }) (Some p)
+decided_by g r (ChoosesNobody ts) = choose g (record r { queue = ts }) None
+decided_by g r (Hands d ds by ts) = moving (record r { drained = ds }) d.no by
+decided_by g r (Leaves d ds ts) = record (loses r d.no (lost.behind d.exec)) { drained = ds }
+decided_by g r (HandedOver ts) = record r { queue = ts; drained = [] }
+decided_by g r (Passes ts) = record r { queue = ts }
+decided_by g r (Sorts ts) = sort (record r { queue = ts })
+decided_by g r (Levels p q) = working (record r { swaps = false }) (stage.Level p q) (level p q)
+decided_by g r Remains = record r { swaps = false }
+decided_by g r (Crowns p) = crown r (Some p)
+decided_by g r (Rejoins p) = rejoin r (Some p)
+decided_by g r Closes = closing r []
 
 -- no operation is left, and this is the next task, with those behind it
 pub record IsNext (r : Recovery) (t : Task) (ts : List Task) : Type 0 where
@@ -106,12 +106,12 @@ pub record IsOver (r : Recovery) (u : Purpose) : Type 0 where
   pub purpose : r.purpose ≡ u
 
 -- the next is to be handed over to the chosen one, some way or none
-pub record IsHanding (w : World) (b : BookState) (r : Recovery) (d : Stopped) (ds : List Stopped) (o : Option Way) (ts : List Task) : Type 0 where
+pub record IsHanding (g : Ground) (r : Recovery) (d : Stopped) (ds : List Stopped) (o : Option Way) (ts : List Task) : Type 0 where
   pub next : IsNext r task.Handing ts
   pub drained : r.drained ≡ d ∷ ds
   pub source : ServerNo
   pub chosen : r.chosen ≡ Some source
-  pub way : way_below w b r.core.seen r.failed source d ≡ o
+  pub way : way_below g r.core.seen r.failed source d ≡ o
 
 -- tasks that go by where the designated one stopped
 abbrev pub follows_lead : Task → Bool
@@ -127,39 +127,38 @@ follows_lead (task.Expelling n) = false
 follows_lead (task.Releasing n) = false
 
 -- none of the followers is better than the promoted one
-abbrev pub HasNoBetter : World → BookState → Moment → Recovery → Type 0
-HasNoBetter w b now r = IfSome r.chosen (λ p. better_of w b now r.failed p (map (λ x. x.no) r.outcome.followers) ≡ None)
+abbrev pub HasNoBetter : Ground → Recovery → Type 0
+HasNoBetter g r = IfSome r.chosen (λ p. better_of g r.failed p (map (λ x. x.no) r.outcome.followers) ≡ None)
 
 -- under which guard it is decided so, by the servers' settings and the book
-abbrev pub MayDecide : World → BookState → Moment → Recovery → Decision → Type 0
-MayDecide w b now r (Reads n ts) = IsNext r (task.Reading n) ts
-MayDecide w b now r (Drains n ts) = IsNext r (task.Draining n) ts
-MayDecide w b now r (Sends n by ts) = IsNext r (task.Moving n by) ts
-MayDecide w b now r (Expels n ts) = IsNext r (task.Expelling n) ts
-MayDecide w b now r (Releases n ts) = IsNext r (task.Releasing n) ts
-MayDecide w b now r (Looks n x ts) = IsNext r (task.Trailing n) ts × (r.lead ≡ Some x)
-MayDecide w b now r (Yields x ts) = IsNext r task.Yielding ts × (r.lead ≡ Some x)
-MayDecide w b now r (Sticks t ts) = IsNext r t ts × (follows_lead t ≡ true) × (r.lead ≡ None)
-MayDecide w b now r (Chooses p ts) = IsNext r task.Choosing ts × (chosen_of w b now r.failed r.drained ≡ Some p)
-MayDecide w b now r (ChoosesNobody ts) = IsNext r task.Choosing ts × (chosen_of w b now r.failed r.drained ≡ None)
-MayDecide w b now r (Hands d ds by ts) = IsHanding w b r d ds (Some by) ts
-MayDecide w b now r (Leaves d ds ts) = IsHanding w b r d ds None ts
-MayDecide w b now r (HandedOver ts) = IsNext r task.Handing ts × (r.drained ≡ []) × (r.chosen ≡ None → ⊥)
-MayDecide w b now r (Passes ts) = IsNext r task.Handing ts × (r.chosen ≡ None)
-MayDecide w b now r (Sorts ts) = IsNext r task.Sorting ts
-MayDecide w b now r (Levels p q) =
+abbrev pub MayDecide : Ground → Recovery → Decision → Type 0
+MayDecide g r (Reads n ts) = IsNext r (task.Reading n) ts
+MayDecide g r (Drains n ts) = IsNext r (task.Draining n) ts
+MayDecide g r (Sends n by ts) = IsNext r (task.Moving n by) ts
+MayDecide g r (Expels n ts) = IsNext r (task.Expelling n) ts
+MayDecide g r (Releases n ts) = IsNext r (task.Releasing n) ts
+MayDecide g r (Looks n x ts) = IsNext r (task.Trailing n) ts × (r.lead ≡ Some x)
+MayDecide g r (Yields x ts) = IsNext r task.Yielding ts × (r.lead ≡ Some x)
+MayDecide g r (Sticks t ts) = IsNext r t ts × (follows_lead t ≡ true) × (r.lead ≡ None)
+MayDecide g r (Chooses p ts) = IsNext r task.Choosing ts × (chosen_of g r.failed r.drained ≡ Some p)
+MayDecide g r (ChoosesNobody ts) = IsNext r task.Choosing ts × (chosen_of g r.failed r.drained ≡ None)
+MayDecide g r (Hands d ds by ts) = IsHanding g r d ds (Some by) ts
+MayDecide g r (Leaves d ds ts) = IsHanding g r d ds None ts
+MayDecide g r (HandedOver ts) = IsNext r task.Handing ts × (r.drained ≡ []) × (r.chosen ≡ None → ⊥)
+MayDecide g r (Passes ts) = IsNext r task.Handing ts × (r.chosen ≡ None)
+MayDecide g r (Sorts ts) = IsNext r task.Sorting ts
+MayDecide g r (Levels p q) =
     IsOver r purpose.Master × (r.swaps ≡ true) × (r.chosen ≡ Some p)
-    × (better_of w b now r.failed p (map (λ x. x.no) r.outcome.followers) ≡ Some q)
-MayDecide w b now r Remains = IsOver r purpose.Master × (r.swaps ≡ true) × HasNoBetter w b now r
-MayDecide w b now r (Crowns p) = IsOver r purpose.Master × (r.swaps ≡ false) × (r.chosen ≡ Some p)
-MayDecide w b now r (Rejoins p) = IsOver r purpose.Regroup × (r.chosen ≡ Some p)
-MayDecide w b now r Closes = (s : ServerNo) × IsOver r (purpose.Intermediate s)
+    × (better_of g r.failed p (map (λ x. x.no) r.outcome.followers) ≡ Some q)
+MayDecide g r Remains = IsOver r purpose.Master × (r.swaps ≡ true) × HasNoBetter g r
+MayDecide g r (Crowns p) = IsOver r purpose.Master × (r.swaps ≡ false) × (r.chosen ≡ Some p)
+MayDecide g r (Rejoins p) = IsOver r purpose.Regroup × (r.chosen ≡ Some p)
+MayDecide g r Closes = (s : ServerNo) × IsOver r (purpose.Intermediate s)
 
 -- one decision behind another
-pub data Decisions (w : World) (b : BookState) (now : Moment) : Recovery → Recovery → Type 0 where
-  Still : {r : Recovery} → Decisions w b now r r
-  Then : {r s : Recovery} (d : Decision) → MayDecide w b now r d → Decisions w b now (decided_by w b now r d) s
-      → Decisions w b now r s
+pub data Decisions (g : Ground) : Recovery → Recovery → Type 0 where
+  Still : {r : Recovery} → Decisions g r r
+  Then : {r s : Recovery} (d : Decision) → MayDecide g r d → Decisions g (decided_by g r d) s → Decisions g r s
 
 -- ---- an operation
 
@@ -310,14 +309,14 @@ done r lines = record { step = step.Done lines; observation = None; exchanges = 
 -- a turn comes to this: behind what is decided it waits; an operation is done; one fails, and the recovery goes on; the
 -- recovery fails; or it is done
 pub data Turning (w : World) (b : BookState) (read : ℕ) (now : Moment) (r : Recovery) : Taken → Type 0 where
-  Waits : {d : Recovery} → Decisions w b now r d → (o : Op) (rest : List Op) (ob : Option Observation) (es : List Exchange) (j : Job)
+  Waits : {d : Recovery} → Decisions (ground_of w b now) r d → (o : Op) (rest : List Op) (ob : Option Observation) (es : List Exchange) (j : Job)
       → Does w read now d o rest ob es j → is_waiting j ≡ true → Turning w b read now r (goes_on ob es (record d { core = j }))
-  Acts : {d s : Recovery} → Decisions w b now r d → (o : Op) (rest : List Op) (ob : Option Observation) (es : List Exchange) (j : Job)
+  Acts : {d s : Recovery} → Decisions (ground_of w b now) r d → (o : Op) (rest : List Op) (ob : Option Observation) (es : List Exchange) (j : Job)
       → Does w read now d o rest ob es j → is_waiting j ≡ false → AtEnd (stepped (record d { core = j }) o) s
       → Turning w b read now r (goes_on ob es s)
-  Bears : {d : Recovery} → Decisions w b now r d → (o : Op) (rest : List Op) (c : Cause) (ob : Option Observation) (e : Bearing)
+  Bears : {d : Recovery} → Decisions (ground_of w b now) r d → (o : Op) (rest : List Op) (c : Cause) (ob : Option Observation) (e : Bearing)
       → Stops w read now d o rest c ob → fate w d.purpose d.stage c ≡ fate_of e → MayBear d.stage e → Turning w b read now r (goes_on ob [] (borne d (fate_of e)))
-  Fails : {d : Recovery} → Decisions w b now r d → (c : Cause) (ob : Option Observation) → FailsFor w read now d c ob
+  Fails : {d : Recovery} → Decisions (ground_of w b now) r d → (c : Cause) (ob : Option Observation) → FailsFor w read now d c ob
       → Turning w b read now r (fails w d c ob)
-  Finishes : {d : Recovery} → Decisions w b now r d → (o : Op) (rest : List Op) (lines : List Line) → d.core.ops ≡ o ∷ rest
+  Finishes : {d : Recovery} → Decisions (ground_of w b now) r d → (o : Op) (rest : List Op) (lines : List Line) → d.core.ops ≡ o ∷ rest
       → by_deed w read now d.core rest (deed_of o) ≡ attempt.Ends lines → Turning w b read now r (done d lines)

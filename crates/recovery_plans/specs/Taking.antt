@@ -45,7 +45,7 @@ use Rattle.recovery_plans.specs.Recoveries.{Recovery, follows, follows_no_more, 
 use Rattle.recovery_plans.specs.Stages.{ends, gather, leaver, moved, trail, with_bridge}
 use Rattle.recovery_plans.specs.Table as table
 use Rattle.recovery_plans.specs.Table.{Back, Bar, Failing, Made, info}
-use Rattle.recovery_plans.specs.Deciding.{closing, decided, moving}
+use Rattle.recovery_plans.specs.Deciding.{closing, decided, ground_of, moving}
 
 -- What a turn comes to, what it observed for the book, the exchanges that changed servers, and the recovery after it.
 pub record Taken : Type 0 where
@@ -378,4 +378,4 @@ settled w read now r = acted w read now r r.core.ops
 
 -- one turn, on a world and a book, with the read number and the moment of what it observes
 abbrev pub taken : World → BookState → ℕ → Moment → Recovery → Taken
-taken w b read now r = settled w read now (decided w b now r)
+taken w b read now r = settled w read now (decided (ground_of w b now) r)

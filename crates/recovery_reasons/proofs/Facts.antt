@@ -25,7 +25,7 @@ use Rattle.recovery_plans.specs.Moves as by
 use Rattle.recovery_plans.specs.Moves.{Bearing, Decision, Decisions, Ending, MayDecide, MayEnd, borne, decided_by, ended_by, fate_of, stopped_at}
 use Rattle.recovery_plans.specs.Recoveries.{Recovery, follows_no_more}
 use Rattle.recovery_plans.specs.Stages.{ends, leaver, moved}
-use Rattle.recovery_plans.specs.Deciding.{follower_of, may_lead}
+use Rattle.recovery_plans.specs.Deciding.{follower_of, ground_of, may_lead}
 use Rattle.recovery_plans.specs.Taking.{entered, is_below, stepped, taken}
 use Rattle.recovery_plans.proofs.Walking.{Keeps, joined, kept-whole}
 use Rattle.recovery_laws.specs.HeldRecoveries.{HeldRecovery}
@@ -104,15 +104,15 @@ module _ (w : World) (b : BookState) (now : Moment) (r : Recovery) (P : Fact →
 
   -- ---- what is decided
 
-  module _ (x : Recovery) (so : Decisions w b now r x) where
-    decided-stands : (d : Decision) → MayDecide w b now x d → Going x → Going (decided_by w b now x d)
+  module _ (x : Recovery) (so : Decisions (ground_of w b now) r x) where
+    decided-stands : (d : Decision) → MayDecide (ground_of w b now) x d → Going x → Going (decided_by (ground_of w b now) x d)
     decided-stands (by.Chooses p ts) m h =
-        let told : P (IsChosen p.no (filter (may_lead w b now) x.drained)) ≡ true = why x (IsChosen p.no (filter (may_lead w b now) x.drained)) so (Chooses p (ts, m.0) m.1 (chosen-most w b now x.failed x.drained p m.1)) in
-        let this : (n : ServerNo) → Some p.no ≡ Some n → P (IsChosen n (filter (may_lead w b now) x.drained)) ≡ true =
-        λ n e. subst (λ (k : ServerNo). P (IsChosen k (filter (may_lead w b now) x.drained)) ≡ true) (same_Some p.no n e) told in
+        let told : P (IsChosen p.no (filter (may_lead (ground_of w b now)) x.drained)) ≡ true = why x (IsChosen p.no (filter (may_lead (ground_of w b now)) x.drained)) so (Chooses p (ts, m.0) m.1 (chosen-most w b now x.failed x.drained p m.1)) in
+        let this : (n : ServerNo) → Some p.no ≡ Some n → P (IsChosen n (filter (may_lead (ground_of w b now)) x.drained)) ≡ true =
+        λ n e. subst (λ (k : ServerNo). P (IsChosen k (filter (may_lead (ground_of w b now)) x.drained)) ≡ true) (same_Some p.no n e) told in
         rests x _ (record {
           drained = All-nil (λ (s : Stopped). P (IsDrained s) ≡ true);
-          among = All-filter (may_lead w b now) (λ (s : Stopped). P (IsDrained s) ≡ true) x.drained h.0.drained;
+          among = All-filter (may_lead (ground_of w b now)) (λ (s : Stopped). P (IsDrained s) ≡ true) x.drained h.0.drained;
           chosen = λ n u e. this n e;
           promoted = λ n u e. inl (this n e);
         }) m.0.rests
@@ -142,11 +142,11 @@ module _ (w : World) (b : BookState) (now : Moment) (r : Recovery) (P : Fact →
     decided-stands (by.HandedOver ts) m h =
         rests x _ (record { drained = All-nil (λ (s : Stopped). P (IsDrained s) ≡ true); among = h.0.among; chosen = h.0.chosen; promoted = h.0.promoted }) m.0.rests
     decided-stands (by.Levels p q) m h = (
-      like x (decided_by w b now x (by.Levels p q)) refl refl refl refl refl h.0,
+      like x (decided_by (ground_of w b now) x (by.Levels p q)) refl refl refl refl refl h.0,
       λ busy m' n' e.
           let same = same_Some (p, q) (m', n') (swaps-so (stage.Level p q) m' n' e) in
           subst (λ (y : ServerNo × ServerNo). (P (IsChosen y.0 x.eligible) ≡ true) × (P (IsBetter y.0 y.1) ≡ true)) same
-          (h.0.chosen p (ap chooses m.0.purpose) m.2, why x (IsBetter p q) so (Betters m.2 m.3 (chosen-first (nearer_order b.names) (is_better (follower_of w b now x.failed p)) (map (follower_of w b now x.failed) (map (λ y. y.no) x.outcome.followers)) q m.3))),
+          (h.0.chosen p (ap chooses m.0.purpose) m.2, why x (IsBetter p q) so (Betters m.2 m.3 (chosen-first (nearer_order b.names) (is_better (follower_of (ground_of w b now) x.failed p)) (map (follower_of (ground_of w b now) x.failed) (map (λ y. y.no) x.outcome.followers)) q m.3))),
     )
     decided-stands (by.Passes ts) m h = rests x _ (like x _ refl refl refl refl refl h.0) m.0.rests
     decided-stands (by.Sorts ts) m h = rests x _ (like x _ refl refl refl refl refl h.0) m.rests
@@ -205,7 +205,7 @@ module _ (w : World) (b : BookState) (now : Moment) (r : Recovery) (P : Fact →
   busy-with o rest ops is none = let bad : o ∷ rest ≡ [] = sym is ∙ none in cc
 
   abbrev Before : Recovery → Type 0
-  Before x = HeldRecovery w x × (Decisions w b now r x × Going x)
+  Before x = HeldRecovery w x × (Decisions (ground_of w b now) r x × Going x)
 
   keeps-stands : (read : ℕ) → HeldRings w b.rings → Keeps w b read now Before (λ v x. Reading w b now r x × (Stands x × Swaps x)) (λ v x. Going x)
   keeps-stands read rings = record {

@@ -1,8 +1,9 @@
 -- Nobody is lost since none may be promoted, but where nobody is found.
-use Rattle.std.proofs.Common.{◌≡◌, ◌+◌, Bool, true, false, cond, not, List, [], ◌∷◌, ◌++◌, map, refl, sym, ap, Option, Some, None}
+use Rattle.std.proofs.Common.{◌≡◌, Bool, true, false, cond, List, [], ◌∷◌, ◌++◌, map, refl, sym, ap, Option, Some, None}
 use Rattle.std.specs.Prelude.{◌==◌}
 use Rattle.std.proofs.lemmas.Option.{same_Some}
 use Rattle.std.proofs.lemmas.List.Elements.{All-append, All-cons, All-head, All-nil, All-push, All-tail}
+use Rattle.orch_base.specs.declared.server.Moment.{Moment}
 use Rattle.orch_base.specs.declared.server.ServerNo.{ServerNo}
 use Rattle.binlog_coords.specs.Log.{same_coord}
 use Rattle.commands.specs.declared.cause.Cause.{Cause}
@@ -23,7 +24,7 @@ use Rattle.recovery_plans.specs.declared.stage.Stage.TheVariants as stage
 use Rattle.recovery_plans.specs.declared.task.Way.{Way}
 use Rattle.recovery_plans.specs.declared.task.Way.TheVariants as way
 use Rattle.recovery_plans.specs.Deciding as deciding
-use Rattle.recovery_plans.specs.Deciding.{Lot, losses_in, lot_by, lot_by_group, lot_of, own_end_of, stay_of}
+use Rattle.recovery_plans.specs.Deciding.{Lot, ground_of, losses_in, lot_by, lot_by_group, lot_of, own_end_of, stay_of}
 use Rattle.recovery_plans.specs.Moves.{late, stray}
 use Rattle.recovery_plans.specs.Taking as taking
 use Rattle.recovery_plans.specs.Taking.{Fate, Loss, fate, fate_of_drain, fate_of_errant, fate_of_trail, is_below, loss_of, lost_on_way, marked, match_fate, missed_fate, move_fate, place_on, spot_by, spot_seen, way_fate}
@@ -48,8 +49,8 @@ fit-lots lot each [] = All-nil IsFitLost
 fit-lots lot each (s ∷ ss) = All-append IsFitLost (stay_of s (lot s)) (losses_in lot ss) (each s) (fit-lots lot each ss)
 
 -- beside the chosen one each goes some way, or is ahead or behind
-fit-lot : (w : World) (b : BookState) (f : ServerNo) (p s : Stopped) → AllFit (stay_of s (lot_of w b f p s))
-fit-lot w b f p s = go w.gtid
+fit-lot : (w : World) (b : BookState) (now : Moment) (f : ServerNo) (p s : Stopped) → AllFit (stay_of s (lot_of (ground_of w b now) f p s))
+fit-lot w b now f p s = go w.gtid
   where
     single : (y : Why) → is_unfit y ≡ false → AllFit (record { no = s.no; why = y; detached = false } ∷ [])
     single y fit = All-cons IsFitLost (record { no = s.no; why = y; detached = false }) [] fit (All-nil IsFitLost)
@@ -63,9 +64,9 @@ fit-lot w b f p s = go w.gtid
     go true = All-nil IsFitLost
     go false = by-group (group_of b.rings p.no (own_end_of p) p.exec f s.exec)
 
-pub fit-lots-by : (u : Means) (w : World) (b : BookState) (f : ServerNo) (p s : Stopped) → AllFit (stay_of s (lot_by u w b f p s))
-fit-lots-by means.Bridges w b f p s = fit-lot w b f p s
-fit-lots-by (means.Matches every) w b f p s = All-nil IsFitLost
+pub fit-lots-by : (u : Means) (w : World) (b : BookState) (now : Moment) (f : ServerNo) (p s : Stopped) → AllFit (stay_of s (lot_by u (ground_of w b now) f p s))
+fit-lots-by means.Bridges w b now f p s = fit-lot w b now f p s
+fit-lots-by (means.Matches every) w b now f p s = All-nil IsFitLost
 
 pub fit-marked : (n : ServerNo) (xs : List LostReplica) → AllFit xs → AllFit (map (marked n) xs)
 fit-marked n [] all = All-nil IsFitLost

@@ -1,11 +1,10 @@
 -- Where no operation is left behind a turn's decisions, one of them found nobody.
 use Rattle.std.proofs.Common.{◌≡◌, ℕ, ◌+◌, ◌≤◌, ◌<◌, suc, Bool, true, false, List, [], ◌∷◌, ◌++◌, map, filter, refl, sym, ◌∙◌, ap, subst, Option, Some, None, ◌⊎◌, inl, inr, arith}
 use Rattle.std.specs.List.{Contains}
-use Rattle.std.specs.Prelude.{option_map}
-use Rattle.std.proofs.lemmas.Bool.{false≢true}
 use Rattle.orch_base.specs.declared.server.Moment.{Moment}
 use Rattle.orch_base.specs.declared.server.ServerNo.{ServerNo}
 use Rattle.server_model.specs.Worlds.{World}
+use Rattle.recovery_plans.specs.Beginning.{is_takeover}
 use Rattle.recovery_plans.specs.Whys as lost
 use Rattle.instance_keeper.specs.declared.bridge.Bridge.{Bridge}
 use Rattle.instance_keeper.specs.Book.{BookState}
@@ -16,14 +15,14 @@ use Rattle.recovery_plans.specs.declared.purpose.Purpose.TheVariants as purpose
 use Rattle.recovery_plans.specs.declared.task.Task.{Task}
 use Rattle.recovery_plans.specs.declared.task.Task.TheVariants as task
 use Rattle.recovery_plans.specs.declared.task.Way.{Way}
-use Rattle.recovery_plans.specs.Deciding.{at_last, better_of, by_queue, by_task, choose, chosen_of, crown, decided, expels, hand, hand_by, hand_over, look_at, lot_by, moves_in, once, rejoin, releases, swap, swap_by, swap_or_crown, way_below, why_of, without_stopped, yield}
+use Rattle.recovery_plans.specs.Deciding.{at_last, better_of, by_queue, by_task, choose, chosen_of, crown, decided, expels, ground_of, hand, hand_by, hand_over, look_at, lot_by, moves_in, once, rejoin, releases, swap, swap_by, swap_or_crown, way_below, why_of, without_stopped, yield}
 use Rattle.recovery_plans.specs.Moves as move
 use Rattle.recovery_plans.specs.Moves.{Decision, Decisions, IsNext, MayDecide, decided_by}
 use Rattle.recovery_plans.specs.Recoveries.{Recovery, loses}
 use Rattle.recovery_plans.proofs.Walking.{decided-walks, decisions-keep, once-walks}
 use Rattle.recovery_reasons.specs.Nobody as nobody
 use Rattle.recovery_reasons.specs.Nobody.{DecisionsElse, HasNobody, finds_nobody}
-use Rattle.recovery_reasons.specs.OnWay.{IsOnWay, chooses, pauses_in, pauses_last, takes_over}
+use Rattle.recovery_reasons.specs.OnWay.{IsOnWay, chooses, pauses_in, pauses_last}
 use Rattle.recovery_reasons.proofs.OnWay.{Fine, IsStuck, decides-fine, decides-lost, decides-stuck, decides-way, none-in, not-stuck}
 use Rattle.recovery_reasons.proofs.Tasks.{busy-map, busy-moves, pauses-append, some-op, to-yield}
 use Rattle.recovery_reasons.proofs.Choosing.{none-may}
@@ -39,16 +38,16 @@ last-some (purpose.Intermediate s) swaps = omega arith
 last-some (purpose.Takeover d) swaps = omega arith
 
 module _ (w : World) (b : BookState) (now : Moment) where
-  behind : (r d : Recovery) (x : Decision) → MayDecide w b now r x → finds_nobody x ≡ false → HasNobody w b now (decided_by w b now r x) d → HasNobody w b now r d
+  behind : (r d : Recovery) (x : Decision) → MayDecide (ground_of w b now) r x → finds_nobody x ≡ false → HasNobody w b now (decided_by (ground_of w b now) r x) d → HasNobody w b now r d
   behind r d x may else (nobody.NoneMay y ts path next all later) = nobody.NoneMay y ts (nobody.Then x may else path) next all later
   behind r d x may else (nobody.NoneKnows y t ts path next follows none later) = nobody.NoneKnows y t ts (nobody.Then x may else path) next follows none later
 
   -- one of the decisions finds nobody, or none does
-  sorted : {r d : Recovery} → Decisions w b now r d → HasNobody w b now r d ⊎ DecisionsElse w b now r d
+  sorted : {r d : Recovery} → Decisions (ground_of w b now) r d → HasNobody w b now r d ⊎ DecisionsElse w b now r d
   sorted move.Still = inr nobody.Still
   sorted (move.Then {r} {s} x may rest) = go x may rest (sorted rest)
     where
-      go : (x : Decision) → MayDecide w b now r x → Decisions w b now (decided_by w b now r x) s → HasNobody w b now (decided_by w b now r x) s ⊎ DecisionsElse w b now (decided_by w b now r x) s
+      go : (x : Decision) → MayDecide (ground_of w b now) r x → Decisions (ground_of w b now) (decided_by (ground_of w b now) r x) s → HasNobody w b now (decided_by (ground_of w b now) r x) s ⊎ DecisionsElse w b now (decided_by (ground_of w b now) r x) s
           → HasNobody w b now r s ⊎ DecisionsElse w b now r s
       go (move.Sticks t ts) h rest later = inl (nobody.NoneKnows r t ts nobody.Still h.0 h.1 h.2 rest)
       go (move.ChoosesNobody ts) h rest later = inl (nobody.NoneMay r ts nobody.Still h.0 (none-may w b now r.failed r.drained h.1) rest)
@@ -62,13 +61,13 @@ module _ (w : World) (b : BookState) (now : Moment) where
   -- ---- one decision
 
   -- all are handed over, or one goes some way
-  hand-pauses : (k : ServerNo) (ds : List Stopped) (x : Recovery) → (hand w b k x ds).core.ops ≡ [] → pauses_of (hand w b k x ds) ≡ pauses_of x
+  hand-pauses : (k : ServerNo) (ds : List Stopped) (x : Recovery) → (hand (ground_of w b now) k x ds).core.ops ≡ [] → pauses_of (hand (ground_of w b now) k x ds) ≡ pauses_of x
   hand-pauses k [] x none = refl
-  hand-pauses k (d ∷ ds) x none = go (way_below w b x.core.seen x.failed k d) none (hand-pauses k ds (loses x d.no (lost.behind d.exec)))
+  hand-pauses k (d ∷ ds) x none = go (way_below (ground_of w b now) x.core.seen x.failed k d) none (hand-pauses k ds (loses x d.no (lost.behind d.exec)))
     where
-      go : (o : Option Way) → (hand_by x d ds o (hand w b k (loses x d.no (lost.behind d.exec)) ds)).core.ops ≡ []
-          → ((hand w b k (loses x d.no (lost.behind d.exec)) ds).core.ops ≡ [] → pauses_of (hand w b k (loses x d.no (lost.behind d.exec)) ds) ≡ pauses_of x)
-          → pauses_of (hand_by x d ds o (hand w b k (loses x d.no (lost.behind d.exec)) ds)) ≡ pauses_of x
+      go : (o : Option Way) → (hand_by x d ds o (hand (ground_of w b now) k (loses x d.no (lost.behind d.exec)) ds)).core.ops ≡ []
+          → ((hand (ground_of w b now) k (loses x d.no (lost.behind d.exec)) ds).core.ops ≡ [] → pauses_of (hand (ground_of w b now) k (loses x d.no (lost.behind d.exec)) ds) ≡ pauses_of x)
+          → pauses_of (hand_by x d ds o (hand (ground_of w b now) k (loses x d.no (lost.behind d.exec)) ds)) ≡ pauses_of x
       go None h rest = rest h
       go (Some by) h rest = absurd (some-op d.no by h)
 
@@ -96,25 +95,25 @@ module _ (w : World) (b : BookState) (now : Moment) where
           let two : pauses_last r.purpose r.swaps ≡ 2 = ap (λ (u : Purpose). pauses_last u r.swaps) is ∙ ap (pauses_last purpose.Master) swaps in
           omega (arith, one, two)
 
-      swaps-now : r.purpose ≡ purpose.Master → r.swaps ≡ true → (o : Option ServerNo) → r.chosen ≡ o → (swap w b now (record r { swaps = false }) o).core.ops ≡ []
-          → Less (swap w b now (record r { swaps = false }) o)
+      swaps-now : r.purpose ≡ purpose.Master → r.swaps ≡ true → (o : Option ServerNo) → r.chosen ≡ o → (swap (ground_of w b now) (record r { swaps = false }) o).core.ops ≡ []
+          → Less (swap (ground_of w b now) (record r { swaps = false }) o)
       swaps-now is swaps None e h = absurd (none-here task.Choosing (way.course.tasks.chosen (ap chooses is) e))
-      swaps-now is swaps (Some p) e h = go (better_of w b now r.failed p (map (λ x. x.no) r.outcome.followers)) h
+      swaps-now is swaps (Some p) e h = go (better_of (ground_of w b now) r.failed p (map (λ x. x.no) r.outcome.followers)) h
         where
           go : (o : Option ServerNo) → (swap_by (record r { swaps = false }) p o).core.ops ≡ [] → Less (swap_by (record r { swaps = false }) p o)
           go None f = inr (less-swaps is swaps)
           go (Some q) f = cc
 
-      master-now : r.purpose ≡ purpose.Master → (a : Bool) → r.swaps ≡ a → (swap_or_crown w b now r a).core.ops ≡ [] → Less (swap_or_crown w b now r a)
+      master-now : r.purpose ≡ purpose.Master → (a : Bool) → r.swaps ≡ a → (swap_or_crown (ground_of w b now) r a).core.ops ≡ [] → Less (swap_or_crown (ground_of w b now) r a)
       master-now is true e h = swaps-now is e r.chosen refl h
       master-now is false e h = crowns is r.chosen refl h
 
-      last-now : (u : Purpose) → r.purpose ≡ u → (at_last w b now r u).core.ops ≡ [] → Less (at_last w b now r u)
+      last-now : (u : Purpose) → r.purpose ≡ u → (at_last (ground_of w b now) r u).core.ops ≡ [] → Less (at_last (ground_of w b now) r u)
       last-now purpose.Regroup is h = rejoins is r.chosen refl h
       last-now purpose.Master is h = master-now is r.swaps refl h
       last-now (purpose.Intermediate s) is h = cc
       last-now (purpose.Takeover d) is h =
-          absurd (none-here task.Yielding (to-yield r.purpose r.chosen r.swaps r.stage r.queue way.course.tasks (way.rests none) (ap takes_over is)))
+          absurd (none-here task.Yielding (to-yield r.purpose r.chosen r.swaps r.stage r.queue way.course.tasks (way.rests none) (ap is_takeover is)))
 
     -- the next task
     module _ (t : Task) (ts : List Task) (queue : r.queue ≡ t ∷ ts) where
@@ -124,12 +123,12 @@ module _ (w : World) (b : BookState) (now : Moment) where
       sum : pauses_in r.queue ≡ pauses_in (t ∷ ts)
       sum = ap pauses_in queue
 
-    choosing-now : (ts : List Task) → r.queue ≡ task.Choosing ∷ ts → (o : Option Stopped) → chosen_of w b now r.failed r.drained ≡ o → Less (choose w b now (record r { queue = ts }) o)
+    choosing-now : (ts : List Task) → r.queue ≡ task.Choosing ∷ ts → (o : Option Stopped) → chosen_of (ground_of w b now) r.failed r.drained ≡ o → Less (choose (ground_of w b now) (record r { queue = ts }) o)
     choosing-now ts queue None e = inl (decides-lost w b now r way (move.ChoosesNobody ts) (next task.Choosing ts queue, e) refl)
     choosing-now ts queue (Some p) e =
         let all = sum task.Choosing ts queue in
-        let moves = moves_in (lot_by r.means w b r.failed p) (without_stopped r.drained p.no) in
-        let calm = (busy-moves r.purpose (lot_by r.means w b r.failed p) (without_stopped r.drained p.no)).none in
+        let moves = moves_in (lot_by r.means (ground_of w b now) r.failed p) (without_stopped r.drained p.no) in
+        let calm = (busy-moves r.purpose (lot_by r.means (ground_of w b now) r.failed p) (without_stopped r.drained p.no)).none in
         let more = pauses-append moves ts in
         inr (omega (arith, all, calm, more))
 
@@ -142,14 +141,14 @@ module _ (w : World) (b : BookState) (now : Moment) where
     yielding-now ts queue None e h = inl (decides-lost w b now r way (move.Sticks task.Yielding ts) (next task.Yielding ts queue, refl, e) refl)
     yielding-now ts queue (Some x) e h = cc
 
-    handing-now : (ts : List Task) → r.queue ≡ task.Handing ∷ ts → (o : Option ServerNo) → (hand_over w b (record r { queue = ts }) o).core.ops ≡ [] → Less (hand_over w b (record r { queue = ts }) o)
+    handing-now : (ts : List Task) → r.queue ≡ task.Handing ∷ ts → (o : Option ServerNo) → (hand_over (ground_of w b now) (record r { queue = ts }) o).core.ops ≡ [] → Less (hand_over (ground_of w b now) (record r { queue = ts }) o)
     handing-now ts queue None h = let all = sum task.Handing ts queue in inr (omega (arith, all))
     handing-now ts queue (Some k) h =
         let all = sum task.Handing ts queue in
         let same = hand-pauses k r.drained (record r { queue = ts }) h in
         inr (omega (arith, all, same))
 
-    sorting-now : (ts : List Task) → r.queue ≡ task.Sorting ∷ ts → Less (by_task w b now (record r { queue = ts }) task.Sorting)
+    sorting-now : (ts : List Task) → r.queue ≡ task.Sorting ∷ ts → Less (by_task (ground_of w b now) (record r { queue = ts }) task.Sorting)
     sorting-now ts queue =
         let all = sum task.Sorting ts queue in
         let out = map task.Expelling (filter (λ n. expels r.purpose (why_of r.outcome.lost n)) r.replicas) in
@@ -160,10 +159,10 @@ module _ (w : World) (b : BookState) (now : Moment) where
         let e = pauses-append free ts in
         inr (omega (arith, all, a, c, d, e))
 
-    task-now : (t : Task) (ts : List Task) → r.queue ≡ t ∷ ts → (by_task w b now (record r { queue = ts }) t).core.ops ≡ [] → Less (by_task w b now (record r { queue = ts }) t)
+    task-now : (t : Task) (ts : List Task) → r.queue ≡ t ∷ ts → (by_task (ground_of w b now) (record r { queue = ts }) t).core.ops ≡ [] → Less (by_task (ground_of w b now) (record r { queue = ts }) t)
     task-now (task.Reading n) ts queue h = cc
     task-now (task.Draining n) ts queue h = cc
-    task-now task.Choosing ts queue h = choosing-now ts queue (chosen_of w b now r.failed r.drained) refl
+    task-now task.Choosing ts queue h = choosing-now ts queue (chosen_of (ground_of w b now) r.failed r.drained) refl
     task-now task.Handing ts queue h = handing-now ts queue r.chosen h
     task-now (task.Moving n by) ts queue h = absurd (some-op n by h)
     task-now task.Sorting ts queue h = sorting-now ts queue
@@ -172,20 +171,20 @@ module _ (w : World) (b : BookState) (now : Moment) where
     task-now (task.Trailing n) ts queue h = looking-now n ts queue r.lead refl h
     task-now task.Yielding ts queue h = yielding-now ts queue r.lead refl h
 
-    once-less : (once w b now r).core.ops ≡ [] → Less (once w b now r)
+    once-less : (once (ground_of w b now) r).core.ops ≡ [] → Less (once (ground_of w b now) r)
     once-less = go r.core.ops r.queue refl refl
       where
-        go : (ops : List Op) (ts : List Task) → r.core.ops ≡ ops → r.queue ≡ ts → (by_queue w b now r ops ts).core.ops ≡ [] → Less (by_queue w b now r ops ts)
+        go : (ops : List Op) (ts : List Task) → r.core.ops ≡ ops → r.queue ≡ ts → (by_queue (ground_of w b now) r ops ts).core.ops ≡ [] → Less (by_queue (ground_of w b now) r ops ts)
         go (x ∷ xs) ts is queue h = let bad : x ∷ xs ≡ [] = sym is ∙ none in cc
         go [] [] is queue h = last-now queue r.purpose refl h
         go [] (t ∷ ts) is queue h = task-now t ts queue h
 
   -- ---- four decisions
 
-  once-ops : (r : Recovery) → (once w b now r).core.ops ≡ [] → r.core.ops ≡ []
+  once-ops : (r : Recovery) → (once (ground_of w b now) r).core.ops ≡ [] → r.core.ops ≡ []
   once-ops r = go r.core.ops refl
     where
-      go : (ops : List Op) → r.core.ops ≡ ops → (by_queue w b now r ops r.queue).core.ops ≡ [] → r.core.ops ≡ []
+      go : (ops : List Op) → r.core.ops ≡ ops → (by_queue (ground_of w b now) r ops r.queue).core.ops ≡ [] → r.core.ops ≡ []
       go [] is h = is
       go (x ∷ xs) is h = h
 
@@ -193,26 +192,26 @@ module _ (w : World) (b : BookState) (now : Moment) where
   abbrev Behind : ℕ → Recovery → Type 0
   Behind k r = IsStuck r ⊎ (IsOnWay r × (pauses_of r + k ≤ 4))
 
-  one-more : (k : ℕ) (r : Recovery) → Behind k r → (once w b now r).core.ops ≡ [] → Behind (suc k) (once w b now r)
+  one-more : (k : ℕ) (r : Recovery) → Behind k r → (once (ground_of w b now) r).core.ops ≡ [] → Behind (suc k) (once (ground_of w b now) r)
   one-more k r (inl x) h = inl (decisions-keep w b now IsStuck (decides-stuck w b now) (once-walks w b now r) x)
   one-more k r (inr x) h = go (decisions-keep w b now Fine (decides-fine w b now) (once-walks w b now r) (inl x.0)) (once-less r x.0 (once-ops r h) h)
     where
-      go : Fine (once w b now r) → IsStuck (once w b now r) ⊎ (pauses_of (once w b now r) < pauses_of r) → Behind (suc k) (once w b now r)
+      go : Fine (once (ground_of w b now) r) → IsStuck (once (ground_of w b now) r) ⊎ (pauses_of (once (ground_of w b now) r) < pauses_of r) → Behind (suc k) (once (ground_of w b now) r)
       go (inr y) z = inl y
       go (inl y) (inl z) = inl z
       go (inl y) (inr z) = let le = x.1 in inr (y, omega (arith, le, z))
 
-  decided-stuck : (r : Recovery) → IsOnWay r → (decided w b now r).core.ops ≡ [] → IsStuck (decided w b now r)
+  decided-stuck : (r : Recovery) → IsOnWay r → (decided (ground_of w b now) r).core.ops ≡ [] → IsStuck (decided (ground_of w b now) r)
   decided-stuck r way h = go (one-more 3 d (one-more 2 c (one-more 1 a (one-more 0 r (inr (way, first)) ha) hc) hd) h)
     where
       a : Recovery
-      a = once w b now r
+      a = once (ground_of w b now) r
 
       c : Recovery
-      c = once w b now a
+      c = once (ground_of w b now) a
 
       d : Recovery
-      d = once w b now c
+      d = once (ground_of w b now) c
 
       hd : d.core.ops ≡ []
       hd = once-ops d h
@@ -226,13 +225,13 @@ module _ (w : World) (b : BookState) (now : Moment) where
       first : pauses_of r + 0 ≤ 4
       first = let le = way.course.tasks.few in omega (arith, le)
 
-      go : Behind 4 (once w b now d) → IsStuck (once w b now d)
+      go : Behind 4 (once (ground_of w b now) d) → IsStuck (once (ground_of w b now) d)
       go (inl x) = x
-      go (inr x) = let le = x.1 in let some = last-some (once w b now d).purpose (once w b now d).swaps in absurd (omega (arith, le, some))
+      go (inr x) = let le = x.1 in let some = last-some (once (ground_of w b now) d).purpose (once (ground_of w b now) d).swaps in absurd (omega (arith, le, some))
 
-  pub finds-nobody : (r : Recovery) → IsOnWay r → (decided w b now r).core.ops ≡ [] → HasNobody w b now r (decided w b now r)
+  pub finds-nobody : (r : Recovery) → IsOnWay r → (decided (ground_of w b now) r).core.ops ≡ [] → HasNobody w b now r (decided (ground_of w b now) r)
   finds-nobody r way h = go (sorted (decided-walks w b now r))
     where
-      go : HasNobody w b now r (decided w b now r) ⊎ DecisionsElse w b now r (decided w b now r) → HasNobody w b now r (decided w b now r)
+      go : HasNobody w b now r (decided (ground_of w b now) r) ⊎ DecisionsElse w b now r (decided (ground_of w b now) r) → HasNobody w b now r (decided (ground_of w b now) r)
       go (inl x) = x
-      go (inr x) = absurd (not-stuck (decided w b now r) (else-way x way) (decided-stuck r way h))
+      go (inr x) = absurd (not-stuck (decided (ground_of w b now) r) (else-way x way) (decided-stuck r way h))

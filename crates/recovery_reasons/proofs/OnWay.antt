@@ -1,5 +1,5 @@
 -- A recovery stays on its way, until nobody is found who takes the failed server's place.
-use Rattle.std.proofs.Common.{◌≡◌, ℕ, ◌+◌, Bool, true, false, cond, not, List, [], ◌∷◌, ◌++◌, map, filter, refl, sym, ◌∙◌, ap, subst, Option, Some, None, ◌⊎◌, inl, inr, arith, append_assoc}
+use Rattle.std.proofs.Common.{◌≡◌, ℕ, Bool, true, false, cond, not, List, [], ◌∷◌, ◌++◌, map, filter, refl, sym, ◌∙◌, ap, subst, Option, Some, None, ◌⊎◌, inl, inr, arith, append_assoc}
 use Rattle.std.specs.Prelude.{◌==◌, slice_index_or}
 use Rattle.std.specs.List.{All, Contains}
 use Rattle.std.proofs.lemmas.Bool.{eq-eqb, false≢true}
@@ -34,8 +34,8 @@ use Rattle.recovery_plans.specs.declared.stage.Stage.TheVariants as stage
 use Rattle.recovery_plans.specs.declared.task.Task.{Task}
 use Rattle.recovery_plans.specs.declared.task.Task.TheVariants as task
 use Rattle.recovery_plans.specs.declared.task.Way.TheVariants as way
-use Rattle.recovery_plans.specs.Beginning.{begun_recovery, but, first_source}
-use Rattle.recovery_plans.specs.Deciding.{expels, losses_in, lot_by, moves_in, releases, why_of, without_stopped}
+use Rattle.recovery_plans.specs.Beginning.{begun_recovery, but, first_source, is_takeover}
+use Rattle.recovery_plans.specs.Deciding.{expels, ground_of, losses_in, lot_by, moves_in, releases, why_of, without_stopped}
 use Rattle.recovery_plans.specs.Moves as by
 use Rattle.recovery_plans.specs.Moves.{Bearing, Decision, Ending, IsNext, MayBear, MayDecide, MayEnd, Turning, borne, decided_by, ended_by, fate_of, follows_lead, rests}
 use Rattle.recovery_plans.specs.Recoveries.{Recovery, follows_no_more}
@@ -49,7 +49,7 @@ use Rattle.recovery_ends.specs.Shapes.{Fits}
 use Rattle.recovery_ends.proofs.Fitting.{IsFit, decides-fits, stepped-fits, went-of}
 use Rattle.recovery_ends.proofs.Shapes.{fits-step, moved-fits, same-head}
 use Rattle.recovery_reasons.specs.Nobody.{finds_nobody}
-use Rattle.recovery_reasons.specs.OnWay.{AllFit, IsOnCourse, IsOnWay, StageOf, TasksOf, Yields, chooses, is_beside, takes_over}
+use Rattle.recovery_reasons.specs.OnWay.{AllFit, IsOnCourse, IsOnWay, StageOf, TasksOf, Yields, chooses, is_beside}
 use Rattle.recovery_plans.specs.declared.means.Means.{Means}
 use Rattle.recovery_plans.specs.Whys as lost
 use Rattle.recovery_plans.proofs.Leading.{moved-leads}
@@ -82,7 +82,7 @@ not-stuck r way x = go r.purpose refl
     go purpose.Regroup e = none-chosen (ap chooses e)
     go purpose.Master e = none-chosen (ap chooses e)
     go (purpose.Intermediate s) e = x.apart s e
-    go (purpose.Takeover d) e = none-in task.Yielding (to-yield r.purpose r.chosen r.swaps r.stage [] tasks (way.rests x.ops) (ap takes_over e))
+    go (purpose.Takeover d) e = none-in task.Yielding (to-yield r.purpose r.chosen r.swaps r.stage [] tasks (way.rests x.ops) (ap is_takeover e))
 
 abbrev pub Fine : Recovery → Type 0
 Fine r = IsOnWay r ⊎ IsStuck r
@@ -109,7 +109,7 @@ beside-apart (purpose.Takeover d) n h = (d, refl, λ same. false≢true (sym (ap
 -- who goes where the designated one stopped is a task of takeovers
 lead-apart : (u : Purpose) (t : Task) → follows_lead t ≡ true → Suits u t → (s : ServerNo) → u ≡ purpose.Intermediate s → ⊥
 lead-apart u (task.Trailing n) h fits s e = false≢true (sym (ap (λ (x : Purpose). is_beside x n) e) ∙ fits)
-lead-apart u task.Yielding h fits s e = false≢true (sym (ap takes_over e) ∙ fits)
+lead-apart u task.Yielding h fits s e = false≢true (sym (ap is_takeover e) ∙ fits)
 lead-apart u t h fits s e = false≢true h
 
 module _ (w : World) (b : BookState) (now : Moment) where
@@ -140,7 +140,7 @@ module _ (w : World) (b : BookState) (now : Moment) where
     to-unswapped : r.core.ops ≡ [] → (k : Stage) → TasksOf r.purpose k r.queue r.chosen false
     to-unswapped none k = unswaps r.purpose r.chosen r.swaps r.stage r.queue way.course.tasks (way.rests none) k
 
-    pub decides-way : (d : Decision) → MayDecide w b now r d → finds_nobody d ≡ false → IsOnWay (decided_by w b now r d)
+    pub decides-way : (d : Decision) → MayDecide (ground_of w b now) r d → finds_nobody d ≡ false → IsOnWay (decided_by (ground_of w b now) r d)
     decides-way (by.Reads n ts) may h =
         made _ (behind-here (task.Reading n) ts may (λ e. cc) (λ e. cc) (stage.Read n)) (at-stage (stage.Read n) (op.Status n None ∷ []) refl refl refl) way.course.fit (λ e. cc)
     decides-way (by.Drains n ts) may h =
@@ -177,10 +177,10 @@ module _ (w : World) (b : BookState) (now : Moment) where
     decides-way (by.Sticks t ts) may h = absurd (false≢true (sym h))
     decides-way (by.ChoosesNobody ts) may h = absurd (false≢true (sym h))
     decides-way (by.Chooses p ts) may h =
-        made _ (chooses-one r.purpose r.chosen r.swaps r.stage ts (moves_in (lot_by r.means w b r.failed p) (without_stopped r.drained p.no)) p.no (tasks-here task.Choosing ts may.0)
-        (busy-moves r.purpose (lot_by r.means w b r.failed p) (without_stopped r.drained p.no)) r.stage) here
-        (All-append IsFitLost r.outcome.lost (losses_in (lot_by r.means w b r.failed p) (without_stopped r.drained p.no)) way.course.fit
-        (fit-lots (lot_by r.means w b r.failed p) (fit-lots-by r.means w b r.failed p) (without_stopped r.drained p.no))) way.rests
+        made _ (chooses-one r.purpose r.chosen r.swaps r.stage ts (moves_in (lot_by r.means (ground_of w b now) r.failed p) (without_stopped r.drained p.no)) p.no (tasks-here task.Choosing ts may.0)
+        (busy-moves r.purpose (lot_by r.means (ground_of w b now) r.failed p) (without_stopped r.drained p.no)) r.stage) here
+        (All-append IsFitLost r.outcome.lost (losses_in (lot_by r.means (ground_of w b now) r.failed p) (without_stopped r.drained p.no)) way.course.fit
+        (fit-lots (lot_by r.means (ground_of w b now) r.failed p) (fit-lots-by r.means w b now r.failed p) (without_stopped r.drained p.no))) way.rests
     decides-way (by.Hands d ds go ts) may h =
         made _ (to-stage may.next.rests (stage.Move d.no go)) (at-stage (stage.Move d.no go) _ refl refl refl) way.course.fit (λ e. absurd (some-op d.no go e))
     decides-way (by.Leaves d ds ts) may h = made _ way.course.tasks here (one-more r.outcome.lost d.no (lost.behind d.exec) way.course.fit refl) way.rests
@@ -199,7 +199,7 @@ module _ (w : World) (b : BookState) (now : Moment) where
     decides-way (by.Rejoins p) may h = made _ (to-stage may.0.rests (stage.Close _)) (at-stage (stage.Close _) _ refl refl refl) way.course.fit (λ e. cc)
     decides-way by.Closes may h = made _ (to-stage may.1.rests (stage.Close _)) (at-stage (stage.Close _) _ refl refl refl) way.course.fit (λ e. cc)
 
-    pub decides-lost : (d : Decision) → MayDecide w b now r d → finds_nobody d ≡ true → IsStuck (decided_by w b now r d)
+    pub decides-lost : (d : Decision) → MayDecide (ground_of w b now) r d → finds_nobody d ≡ true → IsStuck (decided_by (ground_of w b now) r d)
     decides-lost (by.Sticks t ts) may h = record { ops = may.0.rests; queue = refl; chosen = refl; apart = lead-apart r.purpose t may.1 (suit-here t ts may.0) }
     decides-lost (by.ChoosesNobody ts) may h = record {
       ops = may.0.rests;
@@ -213,7 +213,7 @@ module _ (w : World) (b : BookState) (now : Moment) where
   no-next : (r : Recovery) (t : Task) (ts : List Task) → IsStuck r → IsNext r t ts → ⊥
   no-next r t ts x next = let bad : [] ≡ t ∷ ts = sym x.queue ∙ next.queue in cc
 
-  pub decides-stuck : (r : Recovery) (d : Decision) → MayDecide w b now r d → IsStuck r → IsStuck (decided_by w b now r d)
+  pub decides-stuck : (r : Recovery) (d : Decision) → MayDecide (ground_of w b now) r d → IsStuck r → IsStuck (decided_by (ground_of w b now) r d)
   decides-stuck r by.Remains may x = record { ops = x.ops; queue = x.queue; chosen = x.chosen; apart = x.apart }
   decides-stuck r (by.Levels p q) may x = let bad : None ≡ Some p = sym x.chosen ∙ may.2 in cc
   decides-stuck r (by.Crowns p) may x = let bad : None ≡ Some p = sym x.chosen ∙ may.2 in cc
@@ -229,11 +229,11 @@ module _ (w : World) (b : BookState) (now : Moment) where
   decides-stuck r (by.Leaves d ds ts) may x = absurd (no-next r _ _ x may.next)
   decides-stuck r d may x = absurd (no-next r _ _ x may.0)
 
-  pub decides-fine : (r : Recovery) (d : Decision) → MayDecide w b now r d → Fine r → Fine (decided_by w b now r d)
+  pub decides-fine : (r : Recovery) (d : Decision) → MayDecide (ground_of w b now) r d → Fine r → Fine (decided_by (ground_of w b now) r d)
   decides-fine r d may (inr x) = inr (decides-stuck r d may x)
   decides-fine r d may (inl way) = go (finds_nobody d) refl
     where
-      go : (a : Bool) → finds_nobody d ≡ a → Fine (decided_by w b now r d)
+      go : (a : Bool) → finds_nobody d ≡ a → Fine (decided_by (ground_of w b now) r d)
       go true e = inr (decides-lost r way d may e)
       go false e = inl (decides-way r way d may e)
 

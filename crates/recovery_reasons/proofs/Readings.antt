@@ -17,8 +17,9 @@ use Rattle.operations.specs.declared.sight.Sight.{Sight}
 use Rattle.operations.specs.Deeds.{deed_of}
 use Rattle.operations.specs.Jobs.{Job, position_of, seen_of}
 use Rattle.operations.specs.Turns as attempt
-use Rattle.operations.specs.Turns.{Attempt, after_look, by_deed, observed, aim_of, is_reached, next, saw, is_moved, after_status, after_ask, until_by, after_until, after_wait_by, after_wait, settles, holds_seen, crossing_of, same_again, by_set, attach_answer_of, after_answer, after_attach, cause_by}
+use Rattle.operations.specs.Turns.{Attempt, after_look, by_deed, observed}
 use Rattle.job_laws.proofs.Sights.{seen-at}
+use Rattle.recovery_plans.specs.Deciding.{ground_of}
 use Rattle.recovery_plans.specs.declared.stage.Stage.{Stage}
 use Rattle.recovery_plans.specs.declared.stage.Stage.TheVariants as stage
 use Rattle.recovery_plans.specs.Recoveries.{Recovery, follows_no_more}
@@ -87,7 +88,7 @@ read-now w read now j rest n = go (seen_in (status w n.0)) refl
 -- this turn.
 pub record Reading (w : World) (b : BookState) (now : Moment) (r : Recovery) (z : Recovery) : Type 0 where
   pub first : Recovery
-  pub so : Decisions w b now r first
+  pub so : Decisions (ground_of w b now) r first
   pub failed : z.failed ≡ first.failed
   pub lead : z.lead ≡ first.lead
   pub led : lead_of z.stage ≡ lead_of first.stage
@@ -98,7 +99,7 @@ pub record Reading (w : World) (b : BookState) (now : Moment) (r : Recovery) (z 
 pub fits-of : (w : World) (x : Recovery) (o : Op) (rest : List Op) → x.core.ops ≡ o ∷ rest → HeldRecovery w x → Fits x.stage (o ∷ rest)
 fits-of w x o rest is held = subst (λ (xs : List Op). Fits x.stage xs) is held.fits
 
-module _ (w : World) (b : BookState) (now : Moment) (r : Recovery) (read : ℕ) (x : Recovery) (so : Decisions w b now r x) (o : Op) (rest : List Op) (fits : Fits x.stage (o ∷ rest))
+module _ (w : World) (b : BookState) (now : Moment) (r : Recovery) (read : ℕ) (x : Recovery) (so : Decisions (ground_of w b now) r x) (o : Op) (rest : List Op) (fits : Fits x.stage (o ∷ rest))
     (ob : Option Observation) (es : List Exchange) (k : Job) (e : by_deed w read now x.core rest (deed_of o) ≡ attempt.Goes ob es k) where
   abbrev later : Recovery
   later = record x { core = k }

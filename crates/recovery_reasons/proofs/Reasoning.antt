@@ -62,7 +62,7 @@ use Rattle.recovery_plans.specs.Recoveries.{Recovery, follows_no_more, loses}
 use Rattle.recovery_plans.specs.Stages.{before, ends, leaver, move, moved, is_look, tail_of}
 use Rattle.recovery_plans.specs.Table.{alone, info, more_on}
 use Rattle.recovery_plans.specs.Deciding as deciding
-use Rattle.recovery_plans.specs.Deciding.{Lot, logs_at, may_lead, chosen_of, lot_by, lot_by_group, own_end_of, stay_of, losses_in, without_stopped, unfit, way_by_set, way_below, stay_of}
+use Rattle.recovery_plans.specs.Deciding.{Lot, ground_of, logs_at, may_lead, chosen_of, lot_by, lot_by_group, own_end_of, stay_of, losses_in, without_stopped, unfit, way_by_set, way_below, stay_of}
 use Rattle.recovery_plans.specs.Taking as taking
 use Rattle.recovery_plans.specs.Taking.{Fate, Loss, spot_seen, is_below, marked, entered, stepped, fate_of_drain, fate_of_trail, lost_on_way, fate_of_errant, fate_of_move, fate, loss_of, match_fate, move_fate, met, taken, exec_by, spot_by, place_on}
 use Rattle.recovery_plans.specs.Moves as by
@@ -270,7 +270,7 @@ shown-exec w n s h = go (server_at w n) h
 
 module _ (w : World) (b : BookState) (now : Moment) where
   -- a drained one that doesn't go below the successor
-  below-of : (seen : List Sight) (f n : ServerNo) (s : Stopped) → way_below w b seen f n s ≡ None → BelowSuccessor w b seen f n s
+  below-of : (seen : List Sight) (f n : ServerNo) (s : Stopped) → way_below (ground_of w b now) seen f n s ≡ None → BelowSuccessor w b seen f n s
   below-of seen f n s h = go w.gtid refl h
     where
       by-set : (a : Bool) → cond a (Some (way.Auto n s.exec)) None ≡ None → a ≡ false
@@ -306,11 +306,11 @@ module _ (w : World) (b : BookState) (now : Moment) (r : Recovery) (P : Fact →
       go (deciding.Stays y) h rest = All-cons Each (record { no = s.no; why = y; detached = false }) (losses_in lot ss) h rest
 
   -- one decision more
-  module _ (x : Recovery) (so : Decisions w b now r x) where
+  module _ (x : Recovery) (so : Decisions (ground_of w b now) r x) where
     because : (n : ServerNo) (y : Why) → Reason w b now x n y → P (IsLost n y) ≡ true
     because n y h = why x (IsLost n y) so (Loses h)
 
-    lot-explained : (m : Means) (p s : Stopped) → IsDue task.Choosing x → chosen_of w b now x.failed x.drained ≡ Some p → Contains x.drained s → MayStay s (lot_by m w b x.failed p s)
+    lot-explained : (m : Means) (p s : Stopped) → IsDue task.Choosing x → chosen_of (ground_of w b now) x.failed x.drained ≡ Some p → Contains x.drained s → MayStay s (lot_by m (ground_of w b now) x.failed p s)
     lot-explained (means.Matches every) p s due is there = tt
     lot-explained means.Bridges p s due is there = go w.gtid
       where
@@ -333,19 +333,19 @@ module _ (w : World) (b : BookState) (now : Moment) (r : Recovery) (P : Fact →
         go true = tt
         go false = level (same_coord s.exec p.exec) refl
 
-    lots-explained : (p : Stopped) (ss : List Stopped) → IsDue task.Choosing x → chosen_of w b now x.failed x.drained ≡ Some p → All (Contains x.drained) ss
-        → All (λ s. MayStay s (lot_by x.means w b x.failed p s)) ss
-    lots-explained p [] due is there = All-nil (λ (s : Stopped). MayStay s (lot_by x.means w b x.failed p s))
+    lots-explained : (p : Stopped) (ss : List Stopped) → IsDue task.Choosing x → chosen_of (ground_of w b now) x.failed x.drained ≡ Some p → All (Contains x.drained) ss
+        → All (λ s. MayStay s (lot_by x.means (ground_of w b now) x.failed p s)) ss
+    lots-explained p [] due is there = All-nil (λ (s : Stopped). MayStay s (lot_by x.means (ground_of w b now) x.failed p s))
     lots-explained p (s ∷ ss) due is there =
-        All-cons (λ (y : Stopped). MayStay y (lot_by x.means w b x.failed p y)) s ss (lot-explained x.means p s due is (All-head (Contains x.drained) s ss there))
+        All-cons (λ (y : Stopped). MayStay y (lot_by x.means (ground_of w b now) x.failed p y)) s ss (lot-explained x.means p s due is (All-head (Contains x.drained) s ss there))
         (lots-explained p ss due is (All-tail (Contains x.drained) s ss there))
 
-    unfit-explained : (ss : List Stopped) → IsDue task.Choosing x → chosen_of w b now x.failed x.drained ≡ None → All (Contains x.drained) ss
-        → All (λ s. may_lead w b now s ≡ false) ss → All Each (map (unfit w) ss)
+    unfit-explained : (ss : List Stopped) → IsDue task.Choosing x → chosen_of (ground_of w b now) x.failed x.drained ≡ None → All (Contains x.drained) ss
+        → All (λ s. may_lead (ground_of w b now) s ≡ false) ss → All Each (map (unfit w) ss)
     unfit-explained [] due is there none = All-nil Each
     unfit-explained (s ∷ ss) due is there none =
-        All-cons Each (unfit w s) (map (unfit w) ss) (go (logs_at w s.no) refl (All-head (λ (y : Stopped). may_lead w b now y ≡ false) s ss none))
-        (unfit-explained ss due is (All-tail (Contains x.drained) s ss there) (All-tail (λ (y : Stopped). may_lead w b now y ≡ false) s ss none))
+        All-cons Each (unfit w s) (map (unfit w) ss) (go (logs_at w s.no) refl (All-head (λ (y : Stopped). may_lead (ground_of w b now) y ≡ false) s ss none))
+        (unfit-explained ss due is (All-tail (Contains x.drained) s ss there) (All-tail (λ (y : Stopped). may_lead (ground_of w b now) y ≡ false) s ss none))
       where
         barred : (a : Bool) → not a ≡ false → a ≡ true
         barred true h = refl
@@ -358,10 +358,10 @@ module _ (w : World) (b : BookState) (now : Moment) (r : Recovery) (P : Fact →
         go true e h = because s.no lost.must_not (Without s due is mine (e, barred (is_barred (rule_at b s.no now)) h))
         go false e h = because s.no lost.not_logging (Without s due is mine e)
 
-    decision-explained : (d : Decision) → MayDecide w b now x d → Good x → Good (decided_by w b now x d)
+    decision-explained : (d : Decision) → MayDecide (ground_of w b now) x d → Good x → Good (decided_by (ground_of w b now) x d)
     decision-explained (by.Chooses p ts) m good =
-        All-append Each x.outcome.lost (losses_in (lot_by x.means w b x.failed p) (without_stopped x.drained p.no)) good
-        (losses-explained (lot_by x.means w b x.failed p) (without_stopped x.drained p.no)
+        All-append Each x.outcome.lost (losses_in (lot_by x.means (ground_of w b now) x.failed p) (without_stopped x.drained p.no)) good
+        (losses-explained (lot_by x.means (ground_of w b now) x.failed p) (without_stopped x.drained p.no)
         (lots-explained p (without_stopped x.drained p.no) (ts, m.0) m.1 (All-filter (λ s. not (s.no.0 == p.no.0)) (Contains x.drained) x.drained (All-contains_itself x.drained))))
     decision-explained (by.ChoosesNobody ts) m good =
         All-append Each x.outcome.lost (map (unfit w) x.drained) good
@@ -414,7 +414,7 @@ module _ (w : World) (b : BookState) (now : Moment) (r : Recovery) (P : Fact →
   completes-good z (by.Marks n) may speaks course h good = marked-good n z.outcome.lost good
   completes-good z e may speaks course h good = good
 
-  module _ (read : ℕ) (x : Recovery) (so : Decisions w b now r x) (o : Op) (rest : List Op) (fits : Fits x.stage (o ∷ rest)) (speaks : SpeaksWith x) (going : IsOnWay x) (is : x.core.ops ≡ o ∷ rest) (good : Good x) where
+  module _ (read : ℕ) (x : Recovery) (so : Decisions (ground_of w b now) r x) (o : Op) (rest : List Op) (fits : Fits x.stage (o ∷ rest)) (speaks : SpeaksWith x) (going : IsOnWay x) (is : x.core.ops ≡ o ∷ rest) (good : Good x) where
     -- it goes where the designated one stopped
     trailing : (n : ServerNo) (y : Bridge) → x.stage ≡ stage.Trail n y → IsTrailing x n y
     trailing n y at = record {
@@ -552,7 +552,7 @@ module _ (w : World) (b : BookState) (now : Moment) (r : Recovery) (P : Fact →
   borne-good x c ob f h = h
 
   abbrev Before : Recovery → Type 0
-  Before x = HeldRecovery w x × SpeaksWith x × (Fine x × (Decisions w b now r x × Good x))
+  Before x = HeldRecovery w x × SpeaksWith x × (Fine x × (Decisions (ground_of w b now) r x × Good x))
 
   keeps-good : (read : ℕ) → HeldRings w b.rings → Keeps w b read now Before (λ v x. SpeaksWith x × (IsOnCourse x × (Reading w b now r x × Good x))) (λ v x. Good x)
   keeps-good read rings = record {

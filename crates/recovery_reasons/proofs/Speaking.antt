@@ -42,10 +42,10 @@ use Rattle.recovery_plans.specs.Named.{spoken_to}
 use Rattle.recovery_plans.specs.Recoveries.{Recovery, follows_no_more, sight_of}
 use Rattle.recovery_plans.specs.Stages.{before, drain, ends, leaver, move, moved, trail, with_bridge, is_look, tail_of, with_way}
 use Rattle.recovery_plans.specs.Table.{alone, more_on}
-use Rattle.recovery_plans.specs.Deciding.{moving}
+use Rattle.recovery_plans.specs.Deciding.{ground_of, moving}
 use Rattle.recovery_plans.specs.Taking.{entered, stepped, is_waiting, taken}
 use Rattle.recovery_plans.specs.Moves as by
-use Rattle.recovery_plans.specs.Moves.{Bearing, Decision, Does, Ending, MayDecide, MayEnd, borne, decided_by, ended_by, fate_of}
+use Rattle.recovery_plans.specs.Moves.{Bearing, Decision, Ending, MayDecide, MayEnd, borne, decided_by, ended_by, fate_of}
 use Rattle.recovery_plans.proofs.Leading.{moved-leads}
 use Rattle.recovery_plans.proofs.Walking.{Keeps, kept-along}
 use Rattle.recovery_laws.specs.HeldRecoveries.{HeldRecovery}
@@ -172,7 +172,7 @@ moving-speaks r n by = record {
 -- ---- what is decided
 
 module _ (w : World) (b : BookState) (now : Moment) where
-  pub decides-speaks : (r : Recovery) (d : Decision) → MayDecide w b now r d → SpeaksWith r → SpeaksWith (decided_by w b now r d)
+  pub decides-speaks : (r : Recovery) (d : Decision) → MayDecide (ground_of w b now) r d → SpeaksWith r → SpeaksWith (decided_by (ground_of w b now) r d)
   decides-speaks r (by.Reads n ts) may s = silent _ refl refl refl
   decides-speaks r (by.Drains n ts) may s = speaking _ n refl (drain-speaks n) refl (λ m way e. cc) (λ m p e. cc)
   decides-speaks r (by.Sends n way ts) may s = moving-speaks (record r { queue = ts }) n way

@@ -19,13 +19,14 @@ use Rattle.recovery_plans.specs.declared.task.Task.{Task}
 use Rattle.recovery_plans.specs.declared.task.Task.TheVariants as task
 use Rattle.recovery_plans.specs.declared.task.Way.{Way}
 use Rattle.recovery_plans.specs.declared.task.Way.TheVariants as way
+use Rattle.recovery_plans.specs.Beginning.{is_takeover}
 use Rattle.recovery_plans.specs.Deciding as deciding
 use Rattle.recovery_plans.specs.Deciding.{Lot, move_of, moves_in}
 use Rattle.recovery_plans.specs.Stages.{moved}
 use Rattle.recovery_plans.specs.Table as table
 use Rattle.recovery_plans.specs.Table.{info, move}
 use Rattle.recovery_ends.specs.Ends.{closes}
-use Rattle.recovery_reasons.specs.OnWay.{IsMeeting, StageOf, TasksOf, Yields, chooses, pauses, pauses_in, pauses_last, suits, takes_over}
+use Rattle.recovery_reasons.specs.OnWay.{IsMeeting, StageOf, TasksOf, Yields, chooses, pauses, pauses_in, pauses_last, suits}
 use Rattle.recovery_plans.specs.Table.{before as before_op}
 
 -- ---- stages
@@ -117,7 +118,7 @@ plain-stage u f s t os ops o h never led none = record {
 
 -- ---- tasks
 
-choosing-apart : (u : Purpose) → chooses u ≡ true → takes_over u ≡ true → ⊥
+choosing-apart : (u : Purpose) → chooses u ≡ true → is_takeover u ≡ true → ⊥
 choosing-apart purpose.Regroup c t = false≢true t
 choosing-apart purpose.Master c t = false≢true t
 choosing-apart (purpose.Intermediate s) c t = false≢true c
@@ -170,7 +171,7 @@ busy-map u f none suit (n ∷ ns) = busy-more u (f n) (map f ns) (none n) (suit 
 module _ (u : Purpose) (chosen : Option ServerNo) (swaps : Bool) where
   module _ (s : Stage) (ts : List Task) (h : TasksOf u s ts chosen swaps) (idle : s ≡ stage.Idle) where
     -- without a stage the designated one is still to take its master's place
-    pub to-yield : takes_over u ≡ true → Contains ts task.Yielding
+    pub to-yield : is_takeover u ≡ true → Contains ts task.Yielding
     to-yield over = go (h.yields over)
       where
         go : Contains ts task.Yielding ⊎ Yields s → Contains ts task.Yielding

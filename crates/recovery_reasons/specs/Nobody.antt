@@ -5,7 +5,7 @@ use Rattle.server_model.specs.Worlds.{World}
 use Rattle.instance_keeper.specs.Book.{BookState}
 use Rattle.recovery_plans.specs.declared.task.Task.{Task}
 use Rattle.recovery_plans.specs.declared.task.Task.TheVariants as task
-use Rattle.recovery_plans.specs.Deciding.{may_lead}
+use Rattle.recovery_plans.specs.Deciding.{ground_of, may_lead}
 use Rattle.recovery_plans.specs.Moves as move
 use Rattle.recovery_plans.specs.Moves.{Decision, Decisions, IsNext, MayDecide, decided_by, follows_lead}
 use Rattle.recovery_plans.specs.Recoveries.{Recovery}
@@ -36,13 +36,13 @@ finds_nobody move.Closes = false
 -- decisions one behind another, none of which is so
 pub data DecisionsElse (w : World) (b : BookState) (now : Moment) : Recovery → Recovery → Type 0 where
   Still : {r : Recovery} → DecisionsElse w b now r r
-  Then : {r s : Recovery} (d : Decision) → MayDecide w b now r d → finds_nobody d ≡ false → DecisionsElse w b now (decided_by w b now r d) s
+  Then : {r s : Recovery} (d : Decision) → MayDecide (ground_of w b now) r d → finds_nobody d ≡ false → DecisionsElse w b now (decided_by (ground_of w b now) r d) s
       → DecisionsElse w b now r s
 
 -- Why no operation is left behind a turn's decisions: the first that finds nobody is a choice among the drained, each
 -- of which doesn't log or is barred, as the book is now; or it is where nobody knows where the designated one stopped.
 pub data HasNobody (w : World) (b : BookState) (now : Moment) (r d : Recovery) : Type 0 where
-  NoneMay : (x : Recovery) (ts : List Task) → DecisionsElse w b now r x → IsNext x task.Choosing ts → All (λ s. may_lead w b now s ≡ false) x.drained
-      → Decisions w b now (decided_by w b now x (move.ChoosesNobody ts)) d → HasNobody w b now r d
+  NoneMay : (x : Recovery) (ts : List Task) → DecisionsElse w b now r x → IsNext x task.Choosing ts → All (λ s. may_lead (ground_of w b now) s ≡ false) x.drained
+      → Decisions (ground_of w b now) (decided_by (ground_of w b now) x (move.ChoosesNobody ts)) d → HasNobody w b now r d
   NoneKnows : (x : Recovery) (t : Task) (ts : List Task) → DecisionsElse w b now r x → IsNext x t ts → follows_lead t ≡ true → x.lead ≡ None
-      → Decisions w b now (decided_by w b now x (move.Sticks t ts)) d → HasNobody w b now r d
+      → Decisions (ground_of w b now) (decided_by (ground_of w b now) x (move.Sticks t ts)) d → HasNobody w b now r d

@@ -16,6 +16,7 @@ use Rattle.recovery_plans.specs.declared.task.Task.{Task}
 use Rattle.recovery_plans.specs.declared.task.Task.TheVariants as task
 use Rattle.recovery_plans.specs.declared.why.Why.{Why}
 use Rattle.recovery_plans.specs.declared.why.Why.TheVariants as why
+use Rattle.recovery_plans.specs.Beginning.{is_takeover}
 use Rattle.recovery_plans.specs.Recoveries.{Recovery}
 use Rattle.recovery_plans.specs.Table as table
 use Rattle.recovery_plans.specs.Table.{info}
@@ -28,12 +29,6 @@ chooses purpose.Regroup = true
 chooses purpose.Master = true
 chooses (purpose.Intermediate s) = false
 chooses (purpose.Takeover d) = false
-
-abbrev pub takes_over : Purpose → Bool
-takes_over purpose.Regroup = false
-takes_over purpose.Master = false
-takes_over (purpose.Intermediate s) = false
-takes_over (purpose.Takeover d) = true
 
 -- a server beside the designated one
 abbrev pub is_beside : Purpose → ServerNo → Bool
@@ -72,7 +67,7 @@ pauses_last (purpose.Takeover d) swaps = 1
 abbrev pub suits : Purpose → Task → Bool
 suits u task.Choosing = chooses u
 suits u (task.Trailing n) = is_beside u n
-suits u task.Yielding = takes_over u
+suits u task.Yielding = is_takeover u
 suits u (task.Reading n) = true
 suits u (task.Draining n) = true
 suits u task.Handing = true
@@ -117,7 +112,7 @@ pub record TasksOf (u : Purpose) (s : Stage) (ts : List Task) (source : Option S
   pub few : pauses_in ts + pauses_last u swaps ≤ 4
   pub suited : All (λ t. suits u t ≡ true) ts
   pub chosen : chooses u ≡ true → source ≡ None → Contains ts task.Choosing
-  pub yields : takes_over u ≡ true → Contains ts task.Yielding ⊎ Yields s
+  pub yields : is_takeover u ≡ true → Contains ts task.Yielding ⊎ Yields s
 
 -- Where what is seen may end the recovery its operations read the failed server; a master that is to give up its place
 -- is that one, for the designated one; whose stop was seen is the designated one; and who goes where that one stopped

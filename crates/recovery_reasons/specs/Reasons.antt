@@ -25,7 +25,6 @@ use Rattle.instance_keeper.specs.Bridges.{has_exec, has_own, latest_that, ring_a
 use Rattle.kept_rows.specs.Seeing.{seen_in}
 use Rattle.operations.specs.declared.sight.Sight.{Sight}
 use Rattle.operations.specs.declared.op.Aim.TheVariants.{ExecOf}
-use Rattle.operations.specs.declared.op.Op.TheVariants as op
 use Rattle.operations.specs.Deeds as deed
 use Rattle.operations.specs.Deeds.{Deed, deed_of}
 use Rattle.operations.specs.declared.matching.Match.{Match}
@@ -44,7 +43,7 @@ use Rattle.recovery_plans.specs.declared.task.Task.TheVariants as task
 use Rattle.recovery_plans.specs.declared.task.Way.{Way}
 use Rattle.recovery_plans.specs.declared.task.Way.TheVariants as way
 use Rattle.recovery_plans.specs.Stages.{before, is_look, reads_last, tail_of}
-use Rattle.recovery_plans.specs.Deciding.{logs_at, chosen_of, better_of, drained_of, follower_of, may_lead}
+use Rattle.recovery_plans.specs.Deciding.{ground_of, logs_at, chosen_of, better_of, drained_of, follower_of, may_lead}
 use Rattle.recovery_plans.specs.Moves.{Decisions, IsNext, stopped_at}
 use Rattle.recovery_plans.specs.Named.{spoken_to}
 use Rattle.recovery_plans.specs.Recoveries.{Recovery, sight_of}
@@ -176,9 +175,9 @@ pub record IsTrailing (r : Recovery) (n : ServerNo) (x : Bridge) : Type 0 where
 -- Why a server is lost in a turn, in its world and its book, of the recovery as it was decided so far.
 pub data Reason (w : World) (b : BookState) (now : Moment) (r : Recovery) : ServerNo → Why → Type 0 where
   -- one of the drained is chosen, and this one of them executed more, or less without a bridge; or none may be chosen
-  Beside : {why : Why} (p s : Stopped) → IsDue task.Choosing r → chosen_of w b now r.failed r.drained ≡ Some p → Contains r.drained s
+  Beside : {why : Why} (p s : Stopped) → IsDue task.Choosing r → chosen_of (ground_of w b now) r.failed r.drained ≡ Some p → Contains r.drained s
       → BesideChosen b r.failed p s why → Reason w b now r s.no why
-  Without : {why : Why} (s : Stopped) → IsDue task.Choosing r → chosen_of w b now r.failed r.drained ≡ None → Contains r.drained s
+  Without : {why : Why} (s : Stopped) → IsDue task.Choosing r → chosen_of (ground_of w b now) r.failed r.drained ≡ None → Contains r.drained s
       → WithoutChosen w b now s why → Reason w b now r s.no why
   -- the first of the drained is to go below the successor, and has no way there
   Below : (n : ServerNo) (s : Stopped) (ss : List Stopped) → IsDue task.Handing r → r.chosen ≡ Some n → r.drained ≡ s ∷ ss
@@ -224,15 +223,15 @@ pub data IsTrue (w : World) (b : BookState) (now : Moment) (r : Recovery) : Fact
   Drains : {n : ServerNo} (s : Status) → speaks_of r.stage ≡ Some n → reads_last r.stage ≡ true → seen_in (status w n.0) ≡ Some s
       → is_below (position_of s) r.failed ≡ true → IsTrue w b now r (IsDrained (stopped_at n (position_of s)))
   -- the first of the drained that log and aren't barred, by the book of this turn: none of these executed more
-  Chooses : (p : Stopped) → IsDue task.Choosing r → chosen_of w b now r.failed r.drained ≡ Some p
-      → HasExecutedMost is_eligible (map (drained_of w b now r.failed) r.drained) p.no → IsTrue w b now r (IsChosen p.no (filter (may_lead w b now) r.drained))
+  Chooses : (p : Stopped) → IsDue task.Choosing r → chosen_of (ground_of w b now) r.failed r.drained ≡ Some p
+      → HasExecutedMost is_eligible (map (drained_of (ground_of w b now) r.failed) r.drained) p.no → IsTrue w b now r (IsChosen p.no (filter (may_lead (ground_of w b now)) r.drained))
   -- the first of the followers that log and have a strictly better rule than the chosen one, by the book of this turn
-  Betters : {p q : ServerNo} → r.chosen ≡ Some p → better_of w b now r.failed p (map (λ x. x.no) r.outcome.followers) ≡ Some q
-      → IsChoice (nearer_order b.names) (is_better (follower_of w b now r.failed p)) (map (follower_of w b now r.failed) (map (λ x. x.no) r.outcome.followers)) q → IsTrue w b now r (IsBetter p q)
+  Betters : {p q : ServerNo} → r.chosen ≡ Some p → better_of (ground_of w b now) r.failed p (map (λ x. x.no) r.outcome.followers) ≡ Some q
+      → IsChoice (nearer_order b.names) (is_better (follower_of (ground_of w b now) r.failed p)) (map (follower_of (ground_of w b now) r.failed) (map (λ x. x.no) r.outcome.followers)) q → IsTrue w b now r (IsBetter p q)
 
 -- Each fact counts that is true of the turn, of what is decided in it so far or of its operation.
 abbrev pub ExplainsTruly : World → BookState → Moment → Recovery → (Fact → Bool) → Type 0
-ExplainsTruly w b now r P = (d : Recovery) (x : Fact) → Decisions w b now r d → IsTrue w b now d x → P x ≡ true
+ExplainsTruly w b now r P = (d : Recovery) (x : Fact) → Decisions (ground_of w b now) r d → IsTrue w b now d x → P x ≡ true
 
 abbrev pub AllLost : (Fact → Bool) → List LostReplica → Type 0
 AllLost P xs = All (λ l. P (IsLost l.no l.why) ≡ true) xs

@@ -11,7 +11,7 @@ ghost use Rattle.server_model.specs.Worlds.{World};
 ghost use Rattle.recovery_plans.specs.declared.means.Means.{Means as AMeans};
 ghost use Rattle.recovery_plans.specs.declared.purpose.Purpose.{Purpose as APurpose};
 ghost use Rattle.recovery_plans.specs.Beginning.{begun_recovery};
-ghost use Rattle.recovery_plans.specs.Deciding.{decided};
+ghost use Rattle.recovery_plans.specs.Deciding.{decided, ground_of};
 ghost use Rattle.recovery_plans.specs.Recoveries.{Recovery};
 ghost use Rattle.recovery_plans.specs.Taking.{taken};
 ghost use Rattle.recovery_laws.specs.HeldRecoveries.{HeldRecovery};
@@ -41,7 +41,8 @@ pub fn recoveries_tell_the_truth()
         (replicas order : List Number) →
         IsExplained P (begun_recovery u by id wait f replicas order) }
     ensures nobody { (w : World) (b : BookState) (now : AMoment) (r : Recovery) → Speaks r →
-        (decided w b now r).core.ops ≡ [] → HasNobody w b now r (decided w b now r) }
+        (decided (ground_of w b now) r).core.ops ≡ [] →
+        HasNobody w b now r (decided (ground_of w b now) r) }
     ensures fit { (w : World) (b : BookState) (read : ℕ) (now : AMoment) (r : Recovery) →
         Speaks r → (lines : List ALine) → (taken w b read now r).step ≡ step.Done lines →
         AllFit (taken w b read now r).recovery.outcome.lost }

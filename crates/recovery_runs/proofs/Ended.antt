@@ -1,5 +1,5 @@
 -- A recovery that a hook ended has changed no server.
-use Rattle.std.proofs.Common.{◌≡◌, ℕ, List, subst, Option, Some, None, ◌⊎◌, inl, inr}
+use Rattle.std.proofs.Common.{◌≡◌, ℕ, List, subst, Some, None, ◌⊎◌, inl, inr}
 use Rattle.std.specs.Prelude.{◌==◌}
 use Rattle.commands.specs.declared.cause.Cause.{Cause}
 use Rattle.commands.specs.declared.cause.Cause.TheVariants as cause
@@ -13,7 +13,7 @@ use Rattle.orch_base.specs.Memory.{next_count}
 use Rattle.orch_base.specs.declared.server.Moment.{Moment}
 use Rattle.orch_core.specs.States.{State}
 use Rattle.recovery_hooks.specs.Runs.{HookState}
-use Rattle.recovery_plans.specs.Deciding.{decided}
+use Rattle.recovery_plans.specs.Deciding.{decided, ground_of}
 use Rattle.recovery_plans.specs.Recoveries.{Recovery}
 use Rattle.run_laws.specs.Flights.{moment_at}
 use Rattle.run_laws.specs.Runs.{ComesTo}
@@ -49,7 +49,7 @@ module _ (s : Scenario) (xs : List Step) (now : State) (comes : ComesTo s xs now
       go (fail-comes s xs now comes id r docket (record { cause = c; lines = lines }) is.found (failure-told now id r docket (tends-comes s xs now comes).cares.tended c lines is))
     where
       go : ((front_hook docket.hooks ≡ None) × IsFailing now.world now.book (next_count now.reads) (moment_at now) r c) ⊎ IsEndedByHook docket c → (h : HookState) × (docket.hooks ≡ Some h) × IsEarly h
-      go (inl (front, failing)) = absurd (no-hook now.world now.book (next_count now.reads) (moment_at now) r (decided now.world now.book (moment_at now) r) number exit c same failing)
+      go (inl (front, failing)) = absurd (no-hook now.world now.book (next_count now.reads) (moment_at now) r (decided (ground_of now.world now.book (moment_at now)) r) number exit c same failing)
       go (inr ended) = (ended.hooks, ended.runs, inr (ended.hook, ended.due))
 
   -- what the turn in which one fails tells

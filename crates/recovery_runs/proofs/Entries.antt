@@ -16,7 +16,8 @@ use Rattle.kept_rows.specs.declared.row.Row.{Row}
 use Rattle.jobs_in_flight.specs.Jobs.{job_observation}
 use Rattle.operations.specs.declared.step.JobStep.{JobStep}
 use Rattle.operations.specs.declared.step.JobStep.TheVariants as job_step
-use Rattle.recovery_core.specs.Endings.{done_with, is_takeover}
+use Rattle.recovery_core.specs.Endings.{done_with}
+use Rattle.recovery_plans.specs.Beginning.{is_takeover}
 use Rattle.recovery_plans.specs.Recoveries.{Recovery}
 use Rattle.recovery_plans.specs.declared.purpose.Purpose.{Purpose}
 use Rattle.turns.specs.declared.turn.Act.TheVariants as act

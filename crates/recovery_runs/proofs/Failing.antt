@@ -22,7 +22,6 @@ use Rattle.server_model.specs.Run.{Exchange}
 use Rattle.server_model.specs.Worlds.{World, has_source}
 use Rattle.operations.specs.declared.op.Op.{Op}
 use Rattle.operations.specs.declared.op.Op.TheVariants as op
-use Rattle.operations.specs.declared.sight.Position.{Position}
 use Rattle.operations.specs.declared.step.JobStep.{JobStep}
 use Rattle.operations.specs.declared.step.JobStep.TheVariants as step
 use Rattle.operations.specs.Deeds.{Deed, deed_of}
@@ -33,7 +32,7 @@ use Rattle.job_laws.proofs.Lists.{All-find}
 use Rattle.cause_laws.proofs.Turning.{stopped-befell}
 use Rattle.recovery_plans.specs.declared.stage.Stage.{Stage}
 use Rattle.recovery_plans.specs.declared.stage.Stage.TheVariants as stage
-use Rattle.recovery_plans.specs.Deciding.{decided}
+use Rattle.recovery_plans.specs.Deciding.{decided, ground_of}
 use Rattle.recovery_plans.specs.Named.{spoken_to}
 use Rattle.recovery_plans.specs.Recoveries.{Recovery}
 use Rattle.recovery_plans.specs.Table as table
@@ -51,18 +50,15 @@ use Rattle.recovery_reasons.proofs.OnWay.{Fine, decides-fine, still-on}
 use Rattle.recovery_reasons.proofs.Readings.{ReadsNow, ShowsNow, read-now}
 use Rattle.turns.specs.declared.reply.Failure.{Failure}
 use Rattle.turns.specs.declared.reply.Reply.TheVariants as answered
-use Rattle.turns.specs.declared.turn.Act.TheVariants as act
-use Rattle.turns.specs.declared.turn.Turn.TheVariants as turn
 use Rattle.scenarios.specs.declared.scenario.Scenario.{Scenario}
 use Rattle.unended_jobs.specs.declared.docket.Docket.{Docket}
 use Rattle.unended_jobs.specs.declared.unended.Unended.{Unended}
 use Rattle.unended_jobs.specs.declared.unended.Unended.TheVariants as unended
 use Rattle.unended_jobs.specs.Hooked.{front_hook, front_turn, promoted_in, rear_hook, rear_turn, step_before, step_with, with_hooks}
 use Rattle.unended_jobs.specs.Unended.{number_of}
-use Rattle.jobs_in_flight.specs.Jobs.{job_at, job_reply, step_reply}
+use Rattle.jobs_in_flight.specs.Jobs.{job_reply, step_reply}
 use Rattle.covered_laws.specs.Beside.{IsSpeakingBeside}
 use Rattle.orch_core.specs.Jobs.{turn_of}
-use Rattle.orch_core.specs.Replies.{reply_of}
 use Rattle.orch_core.specs.States.{State}
 use Rattle.run_laws.specs.Runs.{ComesTo}
 use Rattle.recovery_runs.specs.Failing as failing
@@ -163,8 +159,8 @@ module _ (w : World) (b : BookState) (read : ℕ) (now : Moment) (r so : Recover
 
 fails-truly : (w : World) (b : BookState) (read : ℕ) (now : Moment) (r : Recovery) → IsOnWay r → (c : Cause) (lines : List Line) → (taken w b read now r).step ≡ step.Failed c lines → IsFailing w b read now r c
 fails-truly w b read now r way c lines h =
-    at-ops w b read now r (decided w b now r) (decisions-keep w b now Fine (decides-fine w b now) (decided-walks w b now r) (inl way)) (finds-nobody w b now r way) c lines
-    (decided w b now r).core.ops refl h
+    at-ops w b read now r (decided (ground_of w b now) r) (decisions-keep w b now Fine (decides-fine w b now) (decided-walks w b now r) (inl way)) (finds-nobody w b now r way) c lines
+    (decided (ground_of w b now) r).core.ops refl h
 
 -- ---- with hooks
 

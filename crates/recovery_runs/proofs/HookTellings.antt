@@ -1,5 +1,5 @@
 -- What recoveries tell of their hooks in a state in which these are tended.
-use Rattle.std.proofs.Common.{◌≡◌, ◌∙◌, ◌+◌, ℕ, List, [], ◌++◌, refl, sym, ap, subst, Option, Some, None}
+use Rattle.std.proofs.Common.{◌≡◌, ◌∙◌, ◌+◌, ℕ, List, ◌++◌, refl, sym, ap, Option, Some, None}
 use Rattle.std.specs.Prelude.{◌==◌}
 use Rattle.std.specs.Option.{option_map}
 use Rattle.commands.specs.declared.cause.Cause.{Cause}
@@ -11,7 +11,6 @@ use Rattle.job_laws.proofs.Lists.{All-find}
 use Rattle.jobs_in_flight.specs.Jobs.{job_at, job_reply, step_reply}
 use Rattle.kept_rows.specs.declared.row.Row.{Row}
 use Rattle.operations.specs.declared.step.JobStep.{JobStep}
-use Rattle.operations.specs.declared.step.JobStep.TheVariants as job_step
 use Rattle.orch_base.specs.Memory.{next_count}
 use Rattle.orch_core.specs.After.{step}
 use Rattle.orch_core.specs.Jobs.{turn_of}
@@ -28,7 +27,7 @@ use Rattle.unended_jobs.specs.Unended.{number_of}
 use Rattle.unended_jobs.specs.declared.docket.Docket.{Docket}
 use Rattle.unended_jobs.specs.declared.unended.Unended.{Unended}
 use Rattle.unended_jobs.specs.declared.unended.Unended.TheVariants as unended
-use Rattle.recovery_runs.specs.Finishes.{done_with, own_lines, promoted_then, ran_lines, told_hooks, turn_hooked, turn_taken, IsFailure, IsFinish, TellsFailed}
+use Rattle.recovery_runs.specs.Finishes.{done_with, own_lines, promoted_then, ran_lines, told_hooks, IsFailure, IsFinish, TellsFailed}
 use Rattle.recovery_runs.specs.States.{IsTendedBeside, TendedState}
 use Rattle.recovery_runs.proofs.Finishing.{lines-own, world-hooked}
 

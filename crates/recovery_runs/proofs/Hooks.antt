@@ -1,5 +1,5 @@
 -- The turn of a recovery with hooks in which it is done.
-use Rattle.std.proofs.Common.{◌≡◌, ◌∙◌, ◌+◌, Bool, true, false, List, [], ◌++◌, Option, Some, None, refl, sym, cond}
+use Rattle.std.proofs.Common.{◌≡◌, ◌∙◌, ◌+◌, Bool, true, false, List, ◌++◌, Option, Some, None, refl, sym, cond}
 use Rattle.std.specs.Prelude.{◌==◌}
 use Rattle.std.proofs.lemmas.List.{append-nil}
 use Rattle.commands.specs.declared.cause.Cause.TheVariants as cause

@@ -1,5 +1,5 @@
 -- Each recovery in flight began in a turn of its run.
-use Rattle.std.proofs.Common.{◌≡◌, ◌∙◌, ℕ, List, [], ◌∷◌, ◌++◌, length, refl, sym, ap, subst, take, Option, Some, ◌⊎◌, inl, inr, zero, suc}
+use Rattle.std.proofs.Common.{◌≡◌, ◌∙◌, ℕ, List, [], ◌∷◌, ◌++◌, length, refl, sym, ap, subst, take, Some, ◌⊎◌, inl, inr, zero, suc}
 use Rattle.std.specs.Prelude.{All, Contains, slice_get}
 use Rattle.std.proofs.lemmas.List.Elements.{All-contains, All-weaker, Contains-append_cases}
 use Rattle.book_views.specs.Sources.{replicas_of}

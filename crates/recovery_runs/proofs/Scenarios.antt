@@ -1,5 +1,5 @@
 -- The hooks of recoveries are the scenario's.
-use Rattle.std.proofs.Common.{◌≡◌, ◌∙◌, ℕ, List, [], ◌∷◌, refl, sym, ap, subst, take, Option, Some, None}
+use Rattle.std.proofs.Common.{◌≡◌, ◌∙◌, ℕ, List, [], ◌∷◌, refl, sym, ap, take, Option, Some, None}
 use Rattle.std.proofs.lemmas.Option.{none-some, same_Some}
 use Rattle.book_views.specs.Sources.{label_at}
 use Rattle.hook_laws.specs.Tended.{plan_of}

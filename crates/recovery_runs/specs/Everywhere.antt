@@ -1,5 +1,5 @@
 -- Of the recoveries in each state of each run: where they began, what they tell, and how they finish.
-use Rattle.std.specs.Prelude.{◌≡◌, ℕ, Bool, List, Option, Some, length}
+use Rattle.std.specs.Prelude.{◌≡◌, ℕ, Bool, List, Some, length}
 use Rattle.commands.specs.declared.cause.Cause.{Cause}
 use Rattle.commands.specs.declared.line.Line.{Line}
 use Rattle.hook_laws.specs.Tended.{IsEarly}

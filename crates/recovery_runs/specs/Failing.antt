@@ -17,7 +17,7 @@ use Rattle.operations.specs.declared.op.Op.TheVariants as op
 use Rattle.operations.specs.Deeds.{deed_of}
 use Rattle.cause_laws.specs.Events.{Befell}
 use Rattle.recovery_plans.specs.declared.stage.Stage.TheVariants as stage
-use Rattle.recovery_plans.specs.Deciding.{decided}
+use Rattle.recovery_plans.specs.Deciding.{decided, ground_of}
 use Rattle.recovery_plans.specs.Moves.{Stops}
 use Rattle.recovery_plans.specs.Named.{spoken_to}
 use Rattle.recovery_plans.specs.Recoveries.{Recovery}
@@ -63,7 +63,7 @@ pub data FailsTruly (w : World) (b : BookState) (read : ℕ) (now : Moment) (r d
 
 -- as it is decided in the turn, it fails for this
 abbrev pub IsFailing : World → BookState → ℕ → Moment → Recovery → Cause → Type 0
-IsFailing w b read now r c = FailsTruly w b read now r (decided w b now r) c
+IsFailing w b read now r c = FailsTruly w b read now r (decided (ground_of w b now) r) c
 
 -- a hook that was due before it ran with another exit than 0: the cause has its number, counted from 1, and its exit
 pub record IsEndedByHook (d : Docket) (c : Cause) : Type 0 where

@@ -1,5 +1,5 @@
 -- What the turn in which a recovery is done leaves, and for what its replicas were lost.
-use Rattle.std.specs.Prelude.{◌≡◌, ◌++◌, ℕ, Bool, Contains, List, Option, Some}
+use Rattle.std.specs.Prelude.{◌≡◌, ◌++◌, ℕ, Bool, Contains, List, Some}
 use Rattle.std.specs.Option.{option_map}
 use Rattle.audit_log.specs.Audits.{recovery_at}
 use Rattle.commands.specs.declared.cause.Cause.{Cause}

@@ -16,11 +16,11 @@ use Rattle.jobs_in_flight.specs.Jobs.{job_at}
 use Rattle.operations.specs.declared.step.JobStep.{JobStep}
 use Rattle.operations.specs.declared.step.JobStep.TheVariants as step
 use Rattle.orch_core.specs.States.{State}
-use Rattle.recovery_core.specs.Endings.{is_takeover}
 use Rattle.recovery_covers.specs.Covers.{HasOnePlace, IsTold, times}
 use Rattle.recovery_outcomes.specs.Chains.{IsChain}
 use Rattle.recovery_histories.specs.Kept.{IsBeginning, Keeps, SameAim}
 use Rattle.recovery_hooks.specs.Runs.{HookState, done_lines, unsuccessful_lines}
+use Rattle.recovery_plans.specs.Beginning.{is_takeover}
 use Rattle.recovery_plans.specs.Recoveries.{Recovery}
 use Rattle.recovery_plans.specs.Taking.{Taken, taken}
 use Rattle.recovery_plans.specs.declared.purpose.Purpose.{Purpose}

@@ -18,7 +18,7 @@ use Rattle.recovery_plans.specs.declared.outcome.Stopped.{Stopped}
 use Rattle.recovery_plans.specs.declared.task.Task.{Task}
 use Rattle.recovery_plans.specs.declared.task.Task.TheVariants as task
 use Rattle.recovery_plans.specs.declared.task.Way.{Way}
-use Rattle.recovery_plans.specs.Deciding.{choose, expels, hand, hand_by, losses_in, may_lead, moves_in, releases, sort, stuck, once, unfit, way_below, why_of, without_stopped}
+use Rattle.recovery_plans.specs.Deciding.{Ground, expels, ground_of, hand, hand_by, releases, sort, once, way_below, why_of}
 use Rattle.recovery_plans.specs.Recoveries.{Recovery, loses}
 use Rattle.recovery_plans.specs.Telling.{follower_line}
 use Rattle.recovery_turns.specs.declared.decided.Decided.{Decided}
@@ -79,10 +79,10 @@ first_is [] x h = absurd (false≢true (ap is_some h))
 first_is {X = X} (y ∷ ys) x h = ap (λ (z : X). z ∷ ys) (ap (λ (o : Option X). unwrap_or o y) h)
 
 -- while an operation is left nothing is decided
-pub once_busy : (w : World) (b : BookState) (now : Moment) (r : Recovery) → 0 < length r.core.ops → r ≡ once w b now r
+pub once_busy : (w : World) (b : BookState) (now : Moment) (r : Recovery) → 0 < length r.core.ops → r ≡ once (ground_of w b now) r
 once_busy w b now r due = go r.core.ops due
   where
-    go : (ops : List Op) → 0 < length ops → r ≡ Rattle.recovery_plans.specs.Deciding.by_queue w b now r ops r.queue
+    go : (ops : List Op) → 0 < length ops → r ≡ Rattle.recovery_plans.specs.Deciding.by_queue (ground_of w b now) r ops r.queue
     go [] h = absurd (omega (arith, h))
     go (o ∷ ops) h = refl
 
@@ -103,14 +103,14 @@ idle_due r d = go d.work
 -- ---- the handing over
 
 -- the next one's way, where it is looked up after that one is taken
-pub hand_way : (w : World) (b : BookState) (s : ServerNo) (r : Recovery) (d m : Decided) (x : Stopped) (j : Job) (f : ServerNo) (o : Option Way)
-    → m ≡ record d { handed = m.handed } → m.handed ≡ d.handed + 1 → d.work ≡ None → j ≡ (decided_on r m).core → f ≡ r.failed → o ≡ way_below w b j.seen f s x
-    → way_below w b (decided_on r d).core.seen (decided_on r d).failed s x ≡ o
-hand_way w b s r d m x j f o is more idle job at told =
-    ap (λ (y : Recovery). way_below w b y.core.seen y.failed s x) (sym (handed_on r d m is more idle))
-    ∙ ap (λ (n : ServerNo). way_below w b (decided_on r m).core.seen n s x)
+pub hand_way : (g : Ground) (s : ServerNo) (r : Recovery) (d m : Decided) (x : Stopped) (j : Job) (f : ServerNo) (o : Option Way)
+    → m ≡ record d { handed = m.handed } → m.handed ≡ d.handed + 1 → d.work ≡ None → j ≡ (decided_on r m).core → f ≡ r.failed → o ≡ way_below g j.seen f s x
+    → way_below g (decided_on r d).core.seen (decided_on r d).failed s x ≡ o
+hand_way g s r d m x j f o is more idle job at told =
+    ap (λ (y : Recovery). way_below g y.core.seen y.failed s x) (sym (handed_on r d m is more idle))
+    ∙ ap (λ (n : ServerNo). way_below g (decided_on r m).core.seen n s x)
     (ap (λ (y : Recovery). y.failed) (idle_on r m (ap (λ (z : Decided). z.work) is ∙ idle)) ∙ sym at)
-    ∙ ap (λ (k : Job). way_below w b k.seen f s x) (sym job)
+    ∙ ap (λ (k : Job). way_below g k.seen f s x) (sym job)
     ∙ sym told
 
 -- one is lost: the others are fewer, and the task stays
@@ -131,33 +131,33 @@ pub left_task : (r : Recovery) (d e : Decided) (x : Stopped) (why : Why) → (de
 left_task r d e x why queue left = subst (λ (ts : List Task). ts ≡ task.Handing ∷ drop 1 ts) (sym (ap (λ (y : Recovery). y.queue) left)) queue
 
 -- what is handed over doesn't hang on who was drained
-pub hand_drained : (w : World) (b : BookState) (s : ServerNo) (r : Recovery) (xs ds : List Stopped) → hand w b s (record r { drained = xs }) ds ≡ hand w b s r ds
-hand_drained w b s r xs [] = refl
-hand_drained w b s r xs (d ∷ ds) =
-    ap (hand_by (record r { drained = xs }) d ds (way_below w b r.core.seen r.failed s d)) (hand_drained w b s (loses r d.no (lost.behind d.exec)) xs ds)
-    ∙ either (way_below w b r.core.seen r.failed s d)
+pub hand_drained : (g : Ground) (s : ServerNo) (r : Recovery) (xs ds : List Stopped) → hand g s (record r { drained = xs }) ds ≡ hand g s r ds
+hand_drained g s r xs [] = refl
+hand_drained g s r xs (d ∷ ds) =
+    ap (hand_by (record r { drained = xs }) d ds (way_below g r.core.seen r.failed s d)) (hand_drained g s (loses r d.no (lost.behind d.exec)) xs ds)
+    ∙ either (way_below g r.core.seen r.failed s d)
   where
-    either : (o : Option Way) → hand_by (record r { drained = xs }) d ds o (hand w b s (loses r d.no (lost.behind d.exec)) ds)
-        ≡ hand_by r d ds o (hand w b s (loses r d.no (lost.behind d.exec)) ds)
+    either : (o : Option Way) → hand_by (record r { drained = xs }) d ds o (hand g s (loses r d.no (lost.behind d.exec)) ds)
+        ≡ hand_by r d ds o (hand g s (loses r d.no (lost.behind d.exec)) ds)
     either None = refl
     either (Some by) = refl
 
 -- one goes its way
-pub hand_goes : (w : World) (b : BookState) (s : ServerNo) (r : Recovery) (d : Stopped) (ds : List Stopped) (by : Way) → r.queue ≡ task.Handing ∷ drop 1 r.queue → r.drained ≡ d ∷ ds
-    → way_below w b r.core.seen r.failed s d ≡ Some by
-    → Rattle.recovery_plans.specs.Deciding.moving (record r { drained = ds }) d.no by ≡ hand w b s (record r { queue = drop 1 r.queue }) r.drained
-hand_goes w b s r d ds by queue drained goes =
+pub hand_goes : (g : Ground) (s : ServerNo) (r : Recovery) (d : Stopped) (ds : List Stopped) (by : Way) → r.queue ≡ task.Handing ∷ drop 1 r.queue → r.drained ≡ d ∷ ds
+    → way_below g r.core.seen r.failed s d ≡ Some by
+    → Rattle.recovery_plans.specs.Deciding.moving (record r { drained = ds }) d.no by ≡ hand g s (record r { queue = drop 1 r.queue }) r.drained
+hand_goes g s r d ds by queue drained goes =
     ap (λ (ts : List Task). Rattle.recovery_plans.specs.Deciding.moving (record r { queue = ts; drained = ds }) d.no by) queue
-    ∙ ap (λ (o : Option Way). hand_by (record r { queue = drop 1 r.queue }) d ds o (hand w b s (loses (record r { queue = drop 1 r.queue }) d.no (lost.behind d.exec)) ds)) (sym goes)
-    ∙ ap (hand w b s (record r { queue = drop 1 r.queue })) (sym drained)
+    ∙ ap (λ (o : Option Way). hand_by (record r { queue = drop 1 r.queue }) d ds o (hand g s (loses (record r { queue = drop 1 r.queue }) d.no (lost.behind d.exec)) ds)) (sym goes)
+    ∙ ap (hand g s (record r { queue = drop 1 r.queue })) (sym drained)
 
 -- one is lost, and the others are handed over
-pub hand_loses : (w : World) (b : BookState) (s : ServerNo) (r : Recovery) (d : Stopped) (ds : List Stopped) → r.drained ≡ d ∷ ds → way_below w b r.core.seen r.failed s d ≡ None
-    → hand w b s (record (loses r d.no (lost.behind d.exec)) { queue = drop 1 r.queue; drained = ds }) ds ≡ hand w b s (record r { queue = drop 1 r.queue }) r.drained
-hand_loses w b s r d ds drained none =
-    hand_drained w b s (record (loses r d.no (lost.behind d.exec)) { queue = drop 1 r.queue }) ds ds
-    ∙ ap (λ (o : Option Way). hand_by (record r { queue = drop 1 r.queue }) d ds o (hand w b s (loses (record r { queue = drop 1 r.queue }) d.no (lost.behind d.exec)) ds)) (sym none)
-    ∙ ap (hand w b s (record r { queue = drop 1 r.queue })) (sym drained)
+pub hand_loses : (g : Ground) (s : ServerNo) (r : Recovery) (d : Stopped) (ds : List Stopped) → r.drained ≡ d ∷ ds → way_below g r.core.seen r.failed s d ≡ None
+    → hand g s (record (loses r d.no (lost.behind d.exec)) { queue = drop 1 r.queue; drained = ds }) ds ≡ hand g s (record r { queue = drop 1 r.queue }) r.drained
+hand_loses g s r d ds drained none =
+    hand_drained g s (record (loses r d.no (lost.behind d.exec)) { queue = drop 1 r.queue }) ds ds
+    ∙ ap (λ (o : Option Way). hand_by (record r { queue = drop 1 r.queue }) d ds o (hand g s (loses (record r { queue = drop 1 r.queue }) d.no (lost.behind d.exec)) ds)) (sym none)
+    ∙ ap (hand g s (record r { queue = drop 1 r.queue })) (sym drained)
 
 -- ---- where a decision takes the queue's place
 

@@ -21,7 +21,7 @@ use Rattle.instance_keeper.specs.Book.{BookState}
 use Rattle.server_model.specs.Run.{AllAllowed}
 use Rattle.operations.specs.Changes.{server_of}
 use Rattle.recovery_plans.specs.declared.task.Task.{Task}
-use Rattle.recovery_plans.specs.Deciding.{decided, once}
+use Rattle.recovery_plans.specs.Deciding.{decided, ground_of, once}
 use Rattle.recovery_plans.specs.Named.{IsNamedRecovery, IsOpOf, IsTaskOf, spoken_to}
 use Rattle.recovery_plans.specs.Recoveries.{Recovery}
 use Rattle.recovery_plans.specs.Stages.{ends, moved}
@@ -91,15 +91,15 @@ job-named count r has = record { ops = ops-named count r.core.ops has.ops; hands
 pub same-named : (m n : ℕ) (r s : Recovery) → s ≡ r → m ≡ n → IsNamedRecovery m r → IsNamedRecovery n s
 same-named m n r s same count has = subst (λ (k : ℕ). IsNamedRecovery k s) count (subst (λ (x : Recovery). IsNamedRecovery m x) (sym same) has)
 
-pub once-named : (n : ℕ) (w : World) (b : BookState) (now : Moment) (r s : Recovery) → s ≡ once w b now r → IsNamedRecovery n r → IsNamedRecovery n s
+pub once-named : (n : ℕ) (w : World) (b : BookState) (now : Moment) (r s : Recovery) → s ≡ once (ground_of w b now) r → IsNamedRecovery n r → IsNamedRecovery n s
 once-named n w b now r s same has =
     subst (λ (x : Recovery). IsNamedRecovery n x) (sym same)
-    (renumbered (λ k. k < n) (λ k. k < n) r.core.id (once w b now r) (once-of (λ k. k < n) (λ k. k < n) r.core.id (λ k h. h) w b now r has))
+    (renumbered (λ k. k < n) (λ k. k < n) r.core.id (once (ground_of w b now) r) (once-of (λ k. k < n) (λ k. k < n) r.core.id (λ k h. h) w b now r has))
 
-pub decided-named : (n : ℕ) (w : World) (b : BookState) (now : Moment) (r s : Recovery) → s ≡ decided w b now r → IsNamedRecovery n r → IsNamedRecovery n s
+pub decided-named : (n : ℕ) (w : World) (b : BookState) (now : Moment) (r s : Recovery) → s ≡ decided (ground_of w b now) r → IsNamedRecovery n r → IsNamedRecovery n s
 decided-named n w b now r s same has =
     subst (λ (x : Recovery). IsNamedRecovery n x) (sym same)
-    (renumbered (λ k. k < n) (λ k. k < n) r.core.id (decided w b now r) (decided-of (λ k. k < n) (λ k. k < n) r.core.id (λ k h. h) w b now r has))
+    (renumbered (λ k. k < n) (λ k. k < n) r.core.id (decided (ground_of w b now) r) (decided-of (λ k. k < n) (λ k. k < n) r.core.id (λ k h. h) w b now r has))
 
 -- without the task that begins
 pub begun-named : (n : ℕ) (r s : Recovery) (t : Task) (ts : List Task) → r.queue ≡ t ∷ ts → s ≡ record r { queue = ts } → IsNamedRecovery n r → IsNamedRecovery n s

@@ -3,6 +3,7 @@
 ghost use Rattle.std.specs.Prelude.{◌≡◌, ◌<◌, ◌∷◌, ◌++◌, [], if◌then◌else◌, All, IfOk, IfSome, None, OnOk, Some, drop, filter, length, map};
 ghost use Rattle.recovery_plans.specs.Deciding.{by_task, choose, chosen_of, closing, expels, hand, hand_over, releases, sort, why_of};
 ghost use Rattle.recovery_plans.specs.declared.task.Task.{Task as ATask};
+ghost use Rattle.recovery_parts.specs.Grounds.{ground_by};
 ghost use Rattle.recovery_turns.specs.Deciding.{IsBusy, decided_on};
 
 use crate::RecoveryJob;
@@ -40,8 +41,8 @@ impl Decided {
         requires chosen { chosen.no.0 < length by.now.book.now.names }
         requires drained { All (λ s. s.no.0 < length by.now.book.now.names) drained.now }
         requires same { drained.now ≡ (decided_on of.now self.old).drained }
-        ensures value { OnOk result (decided_on of.now self.new ≡ choose by.now.world.now
-            by.now.book.now by.now.moment (decided_on of.now self.old) (Some chosen)) }
+        ensures value { OnOk result (decided_on of.now self.new
+            ≡ choose (ground_by by.now) (decided_on of.now self.old) (Some chosen)) }
         ensures idle { self.new.work ≡ None }
     {
         let others = without(alloc, drained, chosen.no)?;
@@ -74,8 +75,8 @@ impl Decided {
     ) -> Result<(), Memory>
         requires idle { self.old.work ≡ None }
         requires same { drained.now ≡ (decided_on of.now self.old).drained }
-        ensures value { OnOk result (decided_on of.now self.new ≡ choose by.now.world.now
-            by.now.book.now by.now.moment (decided_on of.now self.old) None) }
+        ensures value { OnOk result (decided_on of.now self.new
+            ≡ choose (ground_by by.now) (decided_on of.now self.old) None) }
         ensures idle { self.new.work ≡ None }
     {
         lose_all(by.world, drained, &mut self.lost)?;
@@ -97,10 +98,9 @@ impl Decided {
         requires idle { self.old.work ≡ None }
         requires drained { All (λ s. s.no.0 < length by.now.book.now.names)
             (decided_on of.now self.old).drained }
-        ensures value { OnOk result (decided_on of.now self.new ≡ choose by.now.world.now
-            by.now.book.now by.now.moment (decided_on of.now self.old) (chosen_of
-            by.now.world.now by.now.book.now by.now.moment of.now.failed
-            (decided_on of.now self.old).drained)) }
+        ensures value { OnOk result (decided_on of.now self.new
+            ≡ choose (ground_by by.now) (decided_on of.now self.old)
+            (chosen_of (ground_by by.now) of.now.failed (decided_on of.now self.old).drained)) }
         ensures idle { self.new.work ≡ None }
     {
         let drained = self.drained(of);
@@ -122,8 +122,8 @@ impl Decided {
         requires known { of.now.failed.0 < length by.now.book.now.names }
         requires task { (decided_on of.now self.old).queue
             ≡ Task.Handing ∷ drop 1 (decided_on of.now self.old).queue }
-        ensures value { OnOk result (decided_on of.now self.new ≡ hand by.now.world.now
-            by.now.book.now successor (record (decided_on of.now self.old)
+        ensures value { OnOk result (decided_on of.now self.new
+            ≡ hand (ground_by by.now) successor (record (decided_on of.now self.old)
             { queue = drop 1 (decided_on of.now self.old).queue })
             (decided_on of.now self.old).drained) }
         ensures busy { OnOk result (IsBusy self.new.work) }
@@ -153,8 +153,8 @@ impl Decided {
         requires known { of.now.failed.0 < length by.now.book.now.names }
         requires task { (decided_on of.now self.old).queue
             ≡ Task.Handing ∷ drop 1 (decided_on of.now self.old).queue }
-        ensures value { OnOk result (decided_on of.now self.new ≡ by_task by.now.world.now
-            by.now.book.now by.now.moment (record (decided_on of.now self.old)
+        ensures value { OnOk result (decided_on of.now self.new
+            ≡ by_task (ground_by by.now) (record (decided_on of.now self.old)
             { queue = drop 1 (decided_on of.now self.old).queue }) Task.Handing) }
         ensures busy { OnOk result (IsBusy self.new.work) }
     {

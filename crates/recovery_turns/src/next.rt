@@ -4,6 +4,7 @@ ghost use Rattle.std.specs.Prelude.{◌≡◌, ◌<◌, All, IfOk, None, OnOk, S
 ghost use Rattle.recovery_plans.specs.Deciding.{at_last, better_of, by_task, crown, decided, look_at, once, rejoin, stuck, swap, swap_by, swap_or_crown, yield};
 ghost use Rattle.recovery_plans.specs.Named.{IsNamedRecovery};
 ghost use Rattle.recovery_plans.specs.declared.outcome.Follower.{Follower as AFollower};
+ghost use Rattle.recovery_parts.specs.Grounds.{ground_by};
 ghost use Rattle.recovery_turns.specs.Deciding.{IsBusy, IsFirst, decided_on};
 
 use crate::RecoveryJob;
@@ -41,8 +42,8 @@ impl Decided {
         requires named { IsNamedRecovery (length by.now.book.now.names)
             (decided_on of.now self.old) }
         requires master { of.now.purpose ≡ Purpose.Master }
-        ensures value { OnOk result (decided_on of.now self.new ≡ swap by.now.world.now
-            by.now.book.now by.now.moment (decided_on of.now self.old)
+        ensures value { OnOk result (decided_on of.now self.new
+            ≡ swap (ground_by by.now) (decided_on of.now self.old)
             (decided_on of.now self.old).chosen) }
         ensures busy { OnOk result (IsBusy self.new.work) }
     {
@@ -80,8 +81,8 @@ impl Decided {
         requires named { IsNamedRecovery (length by.now.book.now.names)
             (decided_on of.now self.old) }
         requires master { of.now.purpose ≡ Purpose.Master }
-        ensures value { OnOk result (decided_on of.now self.new ≡ swap_or_crown by.now.world.now
-            by.now.book.now by.now.moment (decided_on of.now self.old)
+        ensures value { OnOk result (decided_on of.now self.new
+            ≡ swap_or_crown (ground_by by.now) (decided_on of.now self.old)
             (decided_on of.now self.old).swaps) }
         ensures busy { OnOk result (IsBusy self.new.work) }
     {
@@ -111,8 +112,8 @@ impl Decided {
         requires idle { self.old.work ≡ None }
         requires named { IsNamedRecovery (length by.now.book.now.names)
             (decided_on of.now self.old) }
-        ensures value { OnOk result (decided_on of.now self.new ≡ at_last by.now.world.now
-            by.now.book.now by.now.moment (decided_on of.now self.old) of.now.purpose) }
+        ensures value { OnOk result (decided_on of.now self.new
+            ≡ at_last (ground_by by.now) (decided_on of.now self.old) of.now.purpose) }
         ensures busy { OnOk result (IsBusy self.new.work) }
     {
         match of.purpose {
@@ -179,8 +180,8 @@ impl Decided {
         requires named { IsNamedRecovery (length by.now.book.now.names)
             (decided_on of.now self.old) }
         requires other { task ≡ Task.Handing → ⊥ }
-        ensures value { OnOk result (decided_on of.now self.new ≡ by_task by.now.world.now
-            by.now.book.now by.now.moment (decided_on of.now self.old) task) }
+        ensures value { OnOk result (decided_on of.now self.new
+            ≡ by_task (ground_by by.now) (decided_on of.now self.old) task) }
         ensures busy { OnOk result (IsBusy self.new.work) }
     {
         match task {
@@ -213,8 +214,8 @@ impl Decided {
         requires busy { IsBusy self.old.work }
         requires named { IsNamedRecovery (length by.now.book.now.names)
             (decided_on of.now self.old) }
-        ensures value { OnOk result (decided_on of.now self.new ≡ once by.now.world.now
-            by.now.book.now by.now.moment (decided_on of.now self.old)) }
+        ensures value { OnOk result (decided_on of.now self.new
+            ≡ once (ground_by by.now) (decided_on of.now self.old)) }
         ensures busy { OnOk result (IsBusy self.new.work) }
     {
         if self.work.is_some() || of.core.done < of.core.ops.len() {
@@ -240,8 +241,8 @@ impl Decided {
         requires idle { self.old.work ≡ None }
         requires named { IsNamedRecovery (length by.now.book.now.names)
             (decided_on of.now self.old) }
-        ensures { OnOk result (decided_on of.now self.new ≡ decided by.now.world.now
-            by.now.book.now by.now.moment (decided_on of.now self.old)) }
+        ensures { OnOk result (decided_on of.now self.new
+            ≡ decided (ground_by by.now) (decided_on of.now self.old)) }
     {
         self.decide_once(alloc, of, by)?;
         self.decide_once(alloc, of, by)?;

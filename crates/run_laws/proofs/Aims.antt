@@ -14,8 +14,8 @@ use Rattle.orch_base.specs.declared.server.Moment.{Moment}
 use Rattle.orch_base.specs.declared.server.ServerNo.{ServerNo}
 use Rattle.permission.specs.Views.{source_of}
 use Rattle.orch_base.specs.declared.recovery.Kind.{Kind}
+use Rattle.recovery_plans.specs.Beginning.{is_takeover}
 use Rattle.recovery_core.proofs.Beginning.{unrefused}
-use Rattle.recovery_core.specs.Endings.{is_takeover}
 use Rattle.recovery_core.specs.Scans.{Staged, actionable_in, after_try, from_start, scan_step, scanned, scanned_over, staged_refusal}
 use Rattle.recovery_core.specs.Tries.{Begins as RecoveryBegins, kind_by, recovery_begins, recovery_try, takeover_begins, takeover_try, unless_refused}
 use Rattle.recovery_permits.specs.declared.attempt.Attempt.{Attempt}

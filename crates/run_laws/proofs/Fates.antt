@@ -33,8 +33,9 @@ use Rattle.orch_base.specs.declared.recovery.Ending.TheVariants as ending
 use Rattle.orch_base.specs.declared.server.Moment.{Moment}
 use Rattle.orch_base.specs.declared.server.ServerNo.{ServerNo}
 use Rattle.recovery_core.specs.Begun.{audit_after}
-use Rattle.recovery_core.specs.Endings.{done_with, is_takeover}
+use Rattle.recovery_core.specs.Endings.{done_with}
 use Rattle.recovery_core.specs.Tries.{Begins as RecoveryBegins, recovery_try, takeover_try}
+use Rattle.recovery_plans.specs.Beginning.{is_takeover}
 use Rattle.recovery_plans.specs.Recoveries.{Recovery}
 use Rattle.recovery_plans.specs.Taking.{Taken}
 use Rattle.scenarios.specs.declared.scenario.Scenario.{Scenario}

@@ -32,7 +32,7 @@ use Rattle.recovery_plans.specs.declared.purpose.Purpose.{Purpose}
 use Rattle.recovery_plans.specs.declared.purpose.Purpose.TheVariants as purpose
 use Rattle.recovery_plans.specs.declared.stage.Stage.{Stage}
 use Rattle.recovery_plans.specs.declared.stage.Stage.TheVariants as stage
-use Rattle.recovery_plans.specs.Deciding.{decided}
+use Rattle.recovery_plans.specs.Deciding.{decided, ground_of}
 use Rattle.recovery_plans.specs.Recoveries.{Recovery}
 use Rattle.recovery_plans.specs.Taking as taking
 use Rattle.unended_jobs.specs.declared.unended.Unended.{Unended}
@@ -223,7 +223,7 @@ attempted-plain w r o (Stops c ob) all = met-plain w r c ob (taking.fate w r.pur
 attempted-plain w r o (Ends lines) all = All-nil IsPlain
 
 taken-plain : (w : World) (b : BookState) (read : ℕ) (now : Moment) (r : Recovery) → All IsPlain (taking.taken w b read now r).exchanges
-taken-plain w b read now r = go (decided w b now r) (decided w b now r).core.ops
+taken-plain w b read now r = go (decided (ground_of w b now) r) (decided (ground_of w b now) r).core.ops
   where
     go : (d : Recovery) (ops : List Op) → All IsPlain (taking.acted w read now d ops).exchanges
     go d [] = last-plain w d

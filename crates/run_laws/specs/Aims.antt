@@ -11,7 +11,7 @@ use Rattle.orch_base.specs.declared.recovery.Kind.{Kind}
 use Rattle.orch_base.specs.declared.recovery.Kind.TheVariants as kind
 use Rattle.orch_base.specs.declared.server.ServerNo.{ServerNo}
 use Rattle.permission.specs.Views.{source_of}
-use Rattle.recovery_core.specs.Endings.{is_takeover}
+use Rattle.recovery_plans.specs.Beginning.{is_takeover}
 use Rattle.recovery_core.specs.Scans.{actionable_in}
 use Rattle.recovery_core.specs.Tries.{Begins as RecoveryBegins}
 use Rattle.recovery_plans.specs.declared.purpose.Purpose.{Purpose}

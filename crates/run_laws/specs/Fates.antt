@@ -23,7 +23,8 @@ use Rattle.orch_base.specs.Memory.{next_count}
 use Rattle.orch_base.specs.declared.recovery.Ending.TheVariants as ending
 use Rattle.orch_base.specs.declared.server.Moment.{Moment}
 use Rattle.orch_base.specs.declared.server.ServerNo.{ServerNo}
-use Rattle.recovery_core.specs.Endings.{done_with, is_takeover}
+use Rattle.recovery_core.specs.Endings.{done_with}
+use Rattle.recovery_plans.specs.Beginning.{is_takeover}
 use Rattle.recovery_plans.specs.Recoveries.{Recovery}
 use Rattle.recovery_plans.specs.Taking.{Taken}
 use Rattle.turns.specs.declared.turn.Act.{Act}

@@ -41,7 +41,7 @@ use Rattle.operations.specs.Deeds.{Deed, deed_of}
 use Rattle.operations.specs.Jobs.{Job, match_found, position_of, seen_of}
 use Rattle.operations.specs.Turns as attempt
 use Rattle.operations.specs.Matching.{match_logs, standing_at}
-use Rattle.operations.specs.Turns.{bridge_at, Attempt, next, saw, observed, is_moved, after_status, after_look, after_ask, aim_of, is_reached, until_by, after_until, after_wait_by, after_wait, holds_seen, settles, crossed, crossing_of, by_match, by_set, after_match, attach_answer_of, after_answer, by_deed}
+use Rattle.operations.specs.Turns.{bridge_at, Attempt, saw, observed, is_moved, after_status, after_look, after_ask, aim_of, is_reached, until_by, after_until, after_wait_by, after_wait, holds_seen, settles, crossed, by_match, by_set, after_match, attach_answer_of, after_answer, by_deed}
 use Rattle.job_laws.specs.Footing.{footing, finds, is_under, logs_at, source_shown}
 use Rattle.job_laws.specs.Held.{AllShow}
 use Rattle.job_laws.specs.Matched.{ArePlaced, finds_match, matched_in}

@@ -45,7 +45,7 @@ use Rattle.recovery_plans.specs.Recoveries.{Recovery, follows, follows_no_more, 
 use Rattle.recovery_plans.specs.Stages.{before, drain, ends, gather, leaver, level, move, moved, with_bridge, with_way}
 use Rattle.recovery_plans.specs.Telling.{told}
 use Rattle.recovery_plans.specs.Deciding as deciding
-use Rattle.recovery_plans.specs.Deciding.{Lot, chosen_of, lot_by, lot_by_group, move_of, moves_in, own_end_of, without_stopped, choose, moving, way_below, way_by_set, why_of, expels, releases, sort, logs_at}
+use Rattle.recovery_plans.specs.Deciding.{Lot, chosen_of, ground_of, lot_by, lot_by_group, move_of, moves_in, own_end_of, without_stopped, choose, moving, way_below, way_by_set, why_of, expels, releases, sort, logs_at}
 use Rattle.recovery_plans.specs.Taking.{Taken, lead_under, last_looks, idle, frees, entered, stepped, swapped, that_can, takes_writes, goes_back, way_back, undone, last_exchanges, taken}
 use Rattle.recovery_plans.specs.Moves as by
 use Rattle.recovery_plans.specs.Moves.{Bearing, Decision, Does, Ending, FailsFor, IsHanding, IsNext, MayDecide, MayEnd, Turning, borne, decided_by, ended_by, fate_of}
@@ -138,7 +138,7 @@ module _ (c : Clusters) where
         go (deciding.Goes by) h = All-cons (IsTaskWithin c f chosen) (task.Moving s.no by) [] h (All-nil (IsTaskWithin c f chosen))
         go (deciding.Stays why) h = All-nil (IsTaskWithin c f chosen)
 
-    lot-within : (m : Means) (f : ServerNo) (p : Stopped) → AreAlike c p.no.0 f.0 → (s : Stopped) → AreAlike c s.no.0 f.0 → IsLotWithin s.no (lot_by m w b f p s)
+    lot-within : (m : Means) (f : ServerNo) (p : Stopped) → AreAlike c p.no.0 f.0 → (s : Stopped) → AreAlike c s.no.0 f.0 → IsLotWithin s.no (lot_by m (ground_of w b now) f p s)
     lot-within (means.Matches every) f p alike s also = alike ∙ sym also
     lot-within means.Bridges f p alike s also = go w.gtid
       where
@@ -162,7 +162,7 @@ module _ (c : Clusters) where
         (All-head (IsTaskWithin c r.failed r.chosen) t ts all, queued-within r ts r.drained r.chosen s (All-tail (IsTaskWithin c r.failed r.chosen) t ts all) s.drained)
 
     -- the first of the drained ones and the successor are of the cluster
-    handed-within : (r : Recovery) (d : Stopped) (ds : List Stopped) (o : Option Way) (ts : List Task) (k : IsHanding w b r d ds o ts) → IsRecoveryWithin c r
+    handed-within : (r : Recovery) (d : Stopped) (ds : List Stopped) (o : Option Way) (ts : List Task) (k : IsHanding (ground_of w b now) r d ds o ts) → IsRecoveryWithin c r
         → AreAlike c k.source.0 d.no.0 × IsRecoveryWithin c (record r { drained = ds })
     handed-within r d ds o ts k s =
         let all = subst (λ (xs : List Stopped). All (λ (x : Stopped). AreAlike c x.no.0 r.failed.0) xs) k.drained s.drained in
@@ -174,15 +174,15 @@ module _ (c : Clusters) where
     lead-of : (r : Recovery) (x : Bridge) → r.lead ≡ Some x → IsRecoveryWithin c r → IsWithinCluster c x
     lead-of r x is s = subst (λ (o : Option Bridge). IfSome o (IsWithinCluster c)) is s.lead
 
-    chooses-within : (r : Recovery) (p : Stopped) → IsRecoveryWithin c r → chosen_of w b now r.failed r.drained ≡ Some p → IsRecoveryWithin c (choose w b now r (Some p))
+    chooses-within : (r : Recovery) (p : Stopped) → IsRecoveryWithin c r → chosen_of (ground_of w b now) r.failed r.drained ≡ Some p → IsRecoveryWithin c (choose (ground_of w b now) r (Some p))
     chooses-within r p s e =
         let one = All-chosen w b now r.failed (λ (d : Stopped). AreAlike c d.no.0 r.failed.0) r.drained p s.drained e in
-        queued-within r (moves_in (lot_by r.means w b r.failed p) (without_stopped r.drained p.no) ++ r.queue) [] (Some p.no) s
-        (All-append (IsTaskWithin c r.failed (Some p.no)) (moves_in (lot_by r.means w b r.failed p) (without_stopped r.drained p.no)) r.queue
-        (moves-within r.failed (Some p.no) (lot_by r.means w b r.failed p) (without_stopped r.drained p.no) (All-filter _ (λ (d : Stopped). AreAlike c d.no.0 r.failed.0) r.drained s.drained) (lot-within r.means r.failed p one))
+        queued-within r (moves_in (lot_by r.means (ground_of w b now) r.failed p) (without_stopped r.drained p.no) ++ r.queue) [] (Some p.no) s
+        (All-append (IsTaskWithin c r.failed (Some p.no)) (moves_in (lot_by r.means (ground_of w b now) r.failed p) (without_stopped r.drained p.no)) r.queue
+        (moves-within r.failed (Some p.no) (lot_by r.means (ground_of w b now) r.failed p) (without_stopped r.drained p.no) (All-filter _ (λ (d : Stopped). AreAlike c d.no.0 r.failed.0) r.drained s.drained) (lot-within r.means r.failed p one))
         (queue-rechosen r.failed r.chosen (Some p.no) r.queue one s.queue)) (All-nil (λ (d : Stopped). AreAlike c d.no.0 r.failed.0))
 
-    below-within : (seen : List Sight) (x k : ServerNo) (d : Stopped) → AreAlike c k.0 d.no.0 → (o : Option Way) → way_below w b seen x k d ≡ o → IfSome o (IsWayWithin c d.no)
+    below-within : (seen : List Sight) (x k : ServerNo) (d : Stopped) → AreAlike c k.0 d.no.0 → (o : Option Way) → way_below (ground_of w b now) seen x k d ≡ o → IfSome o (IsWayWithin c d.no)
     below-within seen x k d alike o e = subst (λ (y : Option Way). IfSome y (IsWayWithin c d.no)) e (go w.gtid)
       where
         by-set : (a : Bool) → IfSome (cond a (Some (way.Auto k d.exec)) None) (IsWayWithin c d.no)
@@ -216,7 +216,7 @@ module _ (c : Clusters) where
           lead = s.lead;
         }
 
-    decides-within : (r : Recovery) (d : Decision) → MayDecide w b now r d → IsRecoveryWithin c r → IsRecoveryWithin c (decided_by w b now r d)
+    decides-within : (r : Recovery) (d : Decision) → MayDecide (ground_of w b now) r d → IsRecoveryWithin c r → IsRecoveryWithin c (decided_by (ground_of w b now) r d)
     decides-within r (by.Reads n ts) next s = working-within (record r { queue = ts }) (stage.Read n) (op.Status n None ∷ []) (next-within r (task.Reading n) ts next s).1 tt tt
     decides-within r (by.Drains n ts) next s = working-within (record r { queue = ts }) (stage.Drain n) (drain n) (next-within r (task.Draining n) ts next s).1 tt (tt, (tt, tt))
     decides-within r (by.Sends n way ts) next s = let h = next-within r (task.Moving n way) ts next s in moving-within (record r { queue = ts }) n way h.1 h.0
@@ -359,7 +359,7 @@ module _ (c : Clusters) where
     abbrev Before : Recovery → Type 0
     Before r = HeldRecovery w r × IsRecoveryWithin c r
 
-    decides-both : (r : Recovery) (d : Decision) → MayDecide w b now r d → Before r → Before (decided_by w b now r d)
+    decides-both : (r : Recovery) (d : Decision) → MayDecide (ground_of w b now) r d → Before r → Before (decided_by (ground_of w b now) r d)
     decides-both r d may h = (decides-held w b now rings r d may h.0, decides-within w b now alike r d may h.1)
 
     tried : (r : Recovery) (o : Op) (rest : List Op) → r.core.ops ≡ o ∷ rest → Before r → IsTriedWithin c w (by_deed w read now r.core rest (deed_of o))

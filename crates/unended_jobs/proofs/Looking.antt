@@ -1,19 +1,12 @@
 -- What was looked up of a job, by the kind that it is, and what a turn that was looked up tells.
-use Rattle.std.proofs.Common.{◌≡◌, ◌∙◌, ℕ, ◌<◌, zero, suc, Bool, true, false, List, [], ◌∷◌, length, ap, refl, subst, sym, Option, Some, None, arith}
+use Rattle.std.proofs.Common.{◌≡◌, ◌∙◌, ℕ, ◌<◌, zero, suc, Bool, true, false, List, [], ◌∷◌, length, ap, refl, sym, Option, Some, None, arith}
 use Rattle.std.specs.Prelude.{is_some, slice_get, if◌then◌else◌}
 use Rattle.std.specs.Option.{option_map}
-use Rattle.orch_base.specs.declared.server.Moment.{Moment}
 use Rattle.commands.specs.declared.line.Line.{Line}
-use Rattle.instance_keeper.specs.Book.{BookState}
-use Rattle.server_model.specs.Worlds.{World}
-use Rattle.job_plans.specs.declared.act.Look.{Look}
-use Rattle.job_plans.specs.Acts.{foretold as plan_foretold}
 use Rattle.operations.specs.declared.step.JobStep.TheVariants as step
-use Rattle.operations.specs.Jobs.{Job}
-use Rattle.operations.specs.Turns.{turned}
 use Rattle.recovery_plans.specs.Recoveries.{Recovery}
 use Rattle.recovery_turns.specs.declared.look.RecoveryLook.{RecoveryLook}
-use Rattle.recovery_turns.specs.Looks.{after_step, foretold as recovery_foretold, CanTake}
+use Rattle.recovery_turns.specs.Looks.{after_step, foretold as recovery_foretold}
 use Rattle.recovery_turns.proofs.Purposes.{done-purpose}
 use Rattle.unended_jobs.specs.declared.look.UnendedLook.{UnendedLook}
 use Rattle.unended_jobs.specs.declared.look.UnendedLook.TheVariants as look
@@ -28,9 +21,8 @@ use Rattle.unended_jobs.specs.declared.look.Place.TheVariants as place
 use Rattle.recovery_turns.specs.declared.look.Then.{Then}
 use Rattle.recovery_turns.specs.Deciding.{decided_on}
 use Rattle.unended_jobs.specs.declared.docket.Docket.{Docket}
-use Rattle.unended_jobs.specs.Hooked.{front_hook, front_turn, hooked, own_turn, quiet, rear_hook, rear_turn, step_before, step_with, told_with, with_hooks, with_hooks_of, CanRun}
+use Rattle.unended_jobs.specs.Hooked.{front_hook, front_turn, own_turn, quiet, rear_hook, rear_turn, step_before, step_with, told_with, with_hooks, with_hooks_of, CanRun}
 use Rattle.unended_jobs.specs.Looks.{foretold, hooked_by, observation_of, step_of}
-use Rattle.unended_jobs.specs.Unended.{by_plan, by_recovery, flown, Flown}
 
 -- it tells what was looked up
 
@@ -91,19 +83,6 @@ own-foretold d p q r l m is same =
     ap (recovery_foretold r) is
     ∙ ap (λ (s : JobStep). record (recovery_foretold r l) { step = s; recovery = after_step (decided_on r l.decided) (step_with d.hooks q l.step) l.then }) (step-same d.hooks p q l.step same)
     ∙ ap (λ (y : Recovery). record (recovery_foretold r l) { step = step_with d.hooks p l.step; recovery = y }) (after-same d.hooks q (decided_on r l.decided) l.step l.then)
-
-going-same : (o : Option HookState) (promoted : Option HostPort) (s : JobStep) → s ≡ step.Going → step_with o promoted s ≡ step.Going
-going-same None promoted s is = is
-going-same (Some h) promoted s is = ap (told_with h promoted) is
-
-pub own-can : (w : World) (r : Recovery) (o : Option HookState) (q : Option HostPort) (l m : RecoveryLook) → m ≡ record l { step = step_with o q l.step } → CanTake w r l → CanTake w r m
-own-can w r o q l m is can = subst (CanTake w r) (sym is) (record {
-  servers = can.servers;
-  allowed = can.allowed;
-  spare = λ wants. let was = can.spare wants in (going-same o q l.step was.0, was.1);
-  fits = can.fits;
-  ends = can.ends;
-})
 
 -- ---- a hook behind it
 

@@ -29,7 +29,7 @@ use Rattle.operations.specs.Named.{are_named, is_named}
 use Rattle.operations.specs.Matching.{match_logs, standing_at}
 use Rattle.operations.specs.Targets.{can_attach}
 use Rattle.operations.specs.Turns.{bridge_at, Attempt, Goes, Stops, after_answer, after_ask, after_attach, after_look, after_status, after_until, after_wait, after_wait_by, aim_of, attach_answer_of, by_deed, by_ops, by_set, after_match, by_match, crossed, holds_seen, is_moved, is_reached, next, observed, read_by, same_again, saw, settled, settles, turned, until_by}
-use Rattle.recovery_plans.specs.Deciding.{decided}
+use Rattle.recovery_plans.specs.Deciding.{decided, ground_of}
 use Rattle.recovery_plans.specs.Named.{IsNamedRecovery, IsOpOf, spoken_to}
 use Rattle.recovery_plans.specs.Recoveries.{Recovery}
 use Rattle.recovery_plans.specs.Taking.{acted, taken}
@@ -135,12 +135,12 @@ abbrev IsThere : ℕ → ℕ → Type 0
 IsThere count n = n < count
 
 pub recovery-sees : (w : World) (b : BookState) (read : ℕ) (now : Moment) (r : Recovery) (o : Observation) → IsNamedRecovery (length w.servers) r → (taken w b read now r).observation ≡ Some o → IsSightOf w read now o
-recovery-sees w b read now r o named is = go (decided w b now r).core.ops (decided-of (IsThere (length w.servers)) (IsThere (length w.servers)) r.core.id (λ n h. h) w b now r named).ops is
+recovery-sees w b read now r o named is = go (decided (ground_of w b now) r).core.ops (decided-of (IsThere (length w.servers)) (IsThere (length w.servers)) r.core.id (λ n h. h) w b now r named).ops is
   where
     x : Recovery
-    x = decided w b now r
+    x = decided (ground_of w b now) r
 
-    go : (ops : List Op) → All (IsOpOf (IsThere (length w.servers)) (IsThere (length w.servers))) ops → (acted w read now (decided w b now r) ops).observation ≡ Some o → IsSightOf w read now o
+    go : (ops : List Op) → All (IsOpOf (IsThere (length w.servers)) (IsThere (length w.servers))) ops → (acted w read now (decided (ground_of w b now) r) ops).observation ≡ Some o → IsSightOf w read now o
     go [] all h = cc
     go (op ∷ rest) all h =
         at-some (IsSightOf w read now) (settled x.core (by_deed w read now x.core rest (deed_of op))).observation o

@@ -1,5 +1,5 @@
 -- The turn of a recovery with hooks: a hook's turn, or its own (orchestrator's documentation, "Recovery hooks").
-use Rattle.std.specs.Prelude.{ℕ, ◌+◌, ◌<◌, ◌==◌, ◌++◌, List, [], length, slice_get, if◌then◌else◌, Option, None, Some}
+use Rattle.std.specs.Prelude.{ℕ, ◌+◌, ◌<◌, ◌==◌, ◌++◌, [], length, slice_get, if◌then◌else◌, Option, None, Some}
 use Rattle.std.specs.Option.{option_map}
 use Rattle.orch_base.specs.Names.{HostPort}
 use Rattle.orch_base.specs.declared.server.Moment.{Moment}

@@ -1,5 +1,5 @@
 -- An unended job that begins leaves all held and sound, itself too.
-use Rattle.std.proofs.Common.{◌∙◌, ℕ, Bool, List, [], ◌∷◌, ◌++◌, cond, sym, ap, Option, Some}
+use Rattle.std.proofs.Common.{◌∙◌, ℕ, Bool, List, [], ◌∷◌, ◌++◌, cond, sym, ap, Some}
 use Rattle.std.specs.Prelude.{All}
 use Rattle.std.proofs.lemmas.List.Elements.{All-push, All-weaker}
 use Rattle.orch_base.specs.declared.server.ServerNo.{ServerNo}

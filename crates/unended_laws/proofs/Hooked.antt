@@ -1,11 +1,11 @@
 -- A turn of a recovery with hooks passes as one without does.
-use Rattle.std.proofs.Common.{◌≡◌, ℕ, Bool, true, false, [], refl, sym, subst}
+use Rattle.std.proofs.Common.{◌≡◌, ℕ, Bool, true, false, refl, sym, subst}
 use Rattle.std.proofs.lemmas.List.Elements.{All-nil, All-weaker}
 use Rattle.operations.specs.declared.step.JobStep.{JobStep}
 use Rattle.operations.specs.Changes.{server_of}
 use Rattle.operations.specs.Turns.{is_going}
 use Rattle.job_laws.specs.Flights.{Flight}
-use Rattle.job_laws.specs.Leases.{IsLeased, Leases, MayChange}
+use Rattle.job_laws.specs.Leases.{IsLeased, MayChange}
 use Rattle.job_laws.specs.Matched.{IsPlaced, Meets}
 use Rattle.job_laws.specs.Passages.{MayTake, TakesWell}
 use Rattle.recovery_plans.specs.Named.{IsOpOf}

@@ -5,18 +5,19 @@ use Rattle.promotion_rules.specs.declared.drained.Drained.{Drained}
 use Rattle.promotion_rules.specs.Choice.{better}
 use Rattle.recovery_plans.specs.Deciding.{follower_of}
 use Rattle.recovery_plans.specs.declared.outcome.Follower.{Follower}
+use Rattle.recovery_parts.specs.Grounds.{ground_by}
 use Rattle.recovery_parts.proofs.Lists.{all-made}
 use Rattle.recovery_parts.proofs.choices.better_of.Goals as goal
 
 pub better-requires : goal.better-requires
 better-requires c =
     subst (λ (names : List HostPort). All (λ (d : Drained). d.no.0 < length names) c.deref.result.now) (sym c.names.ensures)
-    (all-made (λ (d : Drained). d.no.0 < length c.args.by.now.book.now.names) (λ (x : Follower). follower_of c.args.by.now.world.now c.args.by.now.book.now c.args.by.now.moment c.args.failed x.no) c.args.list.now c.deref.result.now
+    (all-made (λ (d : Drained). d.no.0 < length c.args.by.now.book.now.names) (λ (x : Follower). follower_of (ground_by c.args.by.now) c.args.failed x.no) c.args.list.now c.deref.result.now
     (c.deref.ensures.value ∙ c.in_ok-all.ensures) c.requires.followers)
 
 pub returns : goal.returns
 returns c =
-    let follower = follower_of c.args.by.now.world.now c.args.by.now.book.now c.args.by.now.moment c.args.failed in
+    let follower = follower_of (ground_by c.args.by.now) c.args.failed in
     c.better.ensures
     ∙ ap (λ (names : List HostPort). better names c.follower_of-of.result c.deref.result.now) c.names.ensures
     ∙ ap (λ (of : Drained). better c.args.by.now.book.now.names of c.deref.result.now) c.follower_of-of.ensures

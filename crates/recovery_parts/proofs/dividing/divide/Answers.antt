@@ -1,12 +1,13 @@
 use Rattle.std.proofs.Common.{ap, ◌∙◌, sym}
 use Rattle.recovery_plans.specs.Deciding.{lot_by}
+use Rattle.recovery_parts.specs.Grounds.{ground_by}
 use Rattle.recovery_parts.proofs.Divided.{Divided, one-goes, one-stays}
 use Rattle.recovery_parts.proofs.dividing.divide.Goals as goal
 use Rattle.recovery_parts.proofs.dividing.divide.Goals.{in-Ok+in_ok-push-in-Ok, in-Err+in_ok-push-in-Err}
 
 pub loop-replica-preserved : goal.loop-replica-preserved
 loop-replica-preserved c =
-    let lot = lot_by c.args.means c.args.by.now.world.now c.args.by.now.book.now c.args.failed c.args.chosen.now in
+    let lot = lot_by c.args.means (ground_by c.args.by.now) c.args.failed c.args.chosen.now in
     let before = c.args.lost.now.items in
     let xs = c.args.others.now in
     let k = c.loop-replica.replica-index in

@@ -1,4 +1,4 @@
-use Rattle.std.proofs.Common.{rules, ◌≡◌, ◌∙◌, ap, sym, true}
+use Rattle.std.proofs.Common.{rules, ◌≡◌, true}
 use Rattle.std.specs.Prelude.{is_some}
 use Rattle.unended_jobs.specs.Hooked.{rear_hook}
 use Rattle.unended_jobs.proofs.Looking.{behind-can, behind-turn}

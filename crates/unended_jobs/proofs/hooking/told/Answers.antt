@@ -1,5 +1,4 @@
 use Rattle.std.proofs.Common.{rules, ◌≡◌, ap}
-use Rattle.recovery_turns.specs.declared.look.RecoveryLook.{RecoveryLook}
 use Rattle.operations.specs.declared.step.JobStep.{JobStep}
 use Rattle.unended_jobs.specs.Hooked.{name_of, step_with}
 use Rattle.unended_jobs.proofs.Looking.{own-foretold}

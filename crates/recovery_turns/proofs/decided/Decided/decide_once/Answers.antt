@@ -2,6 +2,7 @@ use Rattle.std.proofs.Common.{◌≡◌, ◌-◌, ◌<◌, Option, drop, length,
 use Rattle.recovery_plans.specs.declared.task.Task.{Task}
 use Rattle.recovery_plans.specs.Deciding.{once}
 use Rattle.recovery_plans.specs.Recoveries.{Recovery}
+use Rattle.recovery_parts.specs.Grounds.{ground_by}
 use Rattle.recovery_turns.specs.Deciding.{IsFirst, decided_on}
 use Rattle.recovery_turns.proofs.Decisions.{busy_due, idle_due, once_busy}
 use Rattle.recovery_turns.proofs.Turned.{begun-named}
@@ -15,7 +16,7 @@ returns-then-is_some-clause-value c =
     let by = c.args.by.now in
     let a = c.of.inside in
     let long : length (drop a.core.done a.core.ops.items) ≡ length a.core.ops.items - a.core.done = length-drop a.core.done a.core.ops.items in
-    elim c.then-is_some.branch as (λ _. decided_on r d ≡ once by.world.now by.book.now by.moment (decided_on r d)) [
+    elim c.then-is_some.branch as (λ _. decided_on r d ≡ once (ground_by by) (decided_on r d)) [
       | then-is_some-via-then-is_some v ↦ once_busy by.world.now by.book.now by.moment (decided_on r d) (busy_due r d (sym c.is_some.ensures ∙ v.if-is_some.true) c.requires.busy)
       | then-is_some-via-else-is_some+then-of-len v ↦
           let due : 0 < length (drop a.core.done a.core.ops.items) = omega (arith, v.if-of-len.true, v.len.ensures) in

@@ -1,5 +1,5 @@
 use Rattle.std.proofs.Common.{ap, sym, refl, ◌∙◌, length}
-use Rattle.recovery_plans.specs.Deciding.{decided}
+use Rattle.recovery_plans.specs.Deciding.{decided, ground_of}
 use Rattle.recovery_plans.specs.Taking.{settled}
 use Rattle.recovery_turns.specs.Deciding.{decided_on}
 use Rattle.recovery_turns.proofs.Turned.{can-take, decided-named, same-named}
@@ -22,5 +22,5 @@ returns-then-fits-clause-can c =
     let w = c.args.world.now in
     let b = c.args.book.now in
     can-take w b c.args.read c.args.moment c.args.self.now c.in_ok-look.look
-    (c.in_ok-look.ensures.turn ∙ ap (settled w c.args.read c.args.moment) (c.in_ok-decide.ensures ∙ ap (decided w b c.args.moment) c.undecided-decided.ensures.value))
+    (c.in_ok-look.ensures.turn ∙ ap (settled w c.args.read c.args.moment) (c.in_ok-decide.ensures ∙ ap (decided (ground_of w b c.args.moment)) c.undecided-decided.ensures.value))
     c.requires.named c.in_ok-look.ensures.spare (c.fits.ensures c.if-fits.true) c.in_ok-look.ensures.ends
