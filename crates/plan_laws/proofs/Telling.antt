@@ -1,0 +1,46 @@
+-- What is told is the job that the command begins.
+use Rattle.std.proofs.Common.{◌≡◌, ◌∙◌, ◌+◌, List, [], Option, Some, ap, arith}
+use Rattle.std.specs.Option.{unwrap_or}
+use Rattle.orch_base.specs.Names.{HostPort}
+use Rattle.orch_base.specs.declared.server.ServerNo.{ServerNo}
+use Rattle.commands.specs.declared.turn.CommandTurn.{CommandTurn}
+use Rattle.jobs_in_flight.specs.Jobs.{job_at}
+use Rattle.orch_core.specs.Replies.{act_reply}
+use Rattle.orch_core.specs.States.{State}
+use Rattle.recovery_plans.specs.Recoveries.{Recovery}
+use Rattle.run_laws.proofs.Permissions.{begun_joins, begun_numbered, begun_replies}
+use Rattle.tasks.specs.Begun.{begun_by}
+use Rattle.tasks.specs.Plans.{begun_state, planned_by, planned_reply, takeover_planned}
+use Rattle.tasks.specs.Report.{plan_answer, plan_answer_by, told_plan}
+use Rattle.turns.specs.declared.reply.Reply.{Reply}
+use Rattle.turns.specs.declared.reply.Reply.TheVariants as answered
+use Rattle.turns.specs.declared.turn.Act.TheVariants as act
+use Rattle.unended_jobs.specs.declared.unended.Unended.{Unended}
+use Rattle.unended_jobs.specs.declared.unended.Unended.TheVariants as unended
+use Rattle.plan_laws.specs.Begun.{MovesAreToldWhole, TakeoversAreToldWhole, WouldBegin}
+use Rattle.plan_laws.proofs.Jobs.{found-last}
+
+module _ (names : List HostPort) (s : State) (c : CommandTurn) (job : Unended) (is : WouldBegin s c job) where
+  replied : planned_reply c s ≡ answered.Begun (s.last_job + 1)
+  replied = ap (λ (o : Option Reply). unwrap_or o (act_reply s (act.Command c))) is.free ∙ begun_replies s c is.begun is.is_begun
+
+  there : job_at (begun_state c s).jobs (s.last_job + 1) ≡ Some job
+  there =
+      ap (λ (jobs : List Unended). job_at jobs (s.last_job + 1)) (begun_joins s c is.begun is.is_begun [])
+      ∙ (found-last 0 s.jobs s.last_job (s.last_job + 1) is.begun.job is.state.rising (omega arith) (begun_numbered s c is.begun is.is_begun)
+      ∙ ap (λ (j : Unended). Some j) is.job_is)
+
+  told : plan_answer c names s ≡ told_plan names (planned_by (begun_state c s).book c.command (Some job))
+  unfolding plan_answer
+  told =
+      ap (λ (r : Reply). plan_answer_by names c (begun_state c s) r (begun_by r)) replied
+      ∙ ap (λ (j : Option Unended). told_plan names (planned_by (begun_state c s).book c.command j)) there
+
+pub moves-told : MovesAreToldWhole
+moves-told names s c job is = told names s c (unended.Plan job) is
+
+pub takeovers-told : TakeoversAreToldWhole
+takeovers-told names s c r k m d is master designated =
+    told names s c (unended.Recovery r k) is
+    ∙ (ap (λ (i : Option ServerNo). told_plan names (takeover_planned (begun_state c s).book i c.command.d)) master
+    ∙ ap (λ (o : Option ServerNo). told_plan names (takeover_planned (begun_state c s).book (Some m) o)) designated)
