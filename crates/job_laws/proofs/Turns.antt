@@ -116,7 +116,7 @@ going-sound w o es j placed allowed joins all met =
 -- ---- each kind of operation
 
 -- an attached source that isn't another than the one that is named is that one
-not-moved : (m : ServerNo) (x : SourceState) → is_moved (Some m) x ≡ false → source_no x ≡ Some m.0
+pub not-moved : (m : ServerNo) (x : SourceState) → is_moved (Some m) x ≡ false → source_no x ≡ Some m.0
 not-moved m Without h = cc
 not-moved m (Attached k) h = go (k.0 == m.0) refl h
   where

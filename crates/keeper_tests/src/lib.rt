@@ -1,5 +1,7 @@
-//! Tests of the keeper over real files.
+//! Tests of the keeper over real files, and of the texts of its rows.
 #![tactic(auto)]
 
 #[cfg(test)]
 mod files;
+#[cfg(test)]
+mod texts;

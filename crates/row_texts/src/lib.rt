@@ -9,8 +9,6 @@ mod laws;
 mod reading;
 mod row_text;
 mod table;
-#[cfg(test)]
-mod tests;
 mod word;
 mod write;
 

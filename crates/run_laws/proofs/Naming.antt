@@ -119,26 +119,27 @@ module _ (b : BookState) where
 -- ---- by what isn't refused
 
 module _ (w : World) (b : BookState) (audit : AuditState) (a : Attempt) where
-  -- the source of an intermediate master is none of its replicas
-  successor : (f s : ServerNo) → recovery_refusal w b audit a f ≡ None → source_of b f ≡ Some s → is_replica_of b f s ≡ false
-  successor f s free at = by-code (code_at b f) refl free
+  -- the source of an intermediate master can take its replicas
+  pub succeeds : (f s : ServerNo) → recovery_refusal w b audit a f ≡ None → source_of b f ≡ Some s → can_succeed w b f s ≡ true
+  succeeds f s free at = by-code (code_at b f) refl free
     where
-      can : can_succeed w b f s ≡ true → is_replica_of b f s ≡ false
-      can h =
-          let one = and_parts (is_valid b s) (has_log w s && (same_label w s f && not (is_replica_of b f s))) h in
-          let two = and_parts (has_log w s) (same_label w s f && not (is_replica_of b f s)) one.1 in
-          not-true (is_replica_of b f s) (and_parts (same_label w s f) (not (is_replica_of b f s)) two.1).1
-
-      by-action : (code : Code) (what : Action) → (what ≡ action.MasterRecovery → source_of b f ≡ None) → refusal_for w b audit a f code what ≡ None → is_replica_of b f s ≡ false
+      by-action : (code : Code) (what : Action) → (what ≡ action.MasterRecovery → source_of b f ≡ None) → refusal_for w b audit a f code what ≡ None → can_succeed w b f s ≡ true
       by-action code action.Nothing masters h = cc
       by-action code action.MasterRecovery masters h = absurd (none-some s (sym (masters refl) ∙ at))
       by-action code action.IntermediateRecovery masters h =
           let has = passed (has_successor w b f (source_of b f)) NoCandidate (neither (held_off b audit a f a.by_intermediate) (without_successor w b f) h).1 in
-          can (sym (ap (has_successor w b f) at) ∙ has)
+          sym (ap (has_successor w b f) at) ∙ has
 
-      by-code : (o : Option Code) → code_at b f ≡ o → refusal_by w b audit a f o ≡ None → is_replica_of b f s ≡ false
+      by-code : (o : Option Code) → code_at b f ≡ o → refusal_by w b audit a f o ≡ None → can_succeed w b f s ≡ true
       by-code None e h = cc
       by-code (Some code) e h = by-action code (action_of code) (master-source b f code e) (neither _ (refusal_for w b audit a f code (action_of code)) h).1
+
+  -- and is none of them
+  successor : (f s : ServerNo) → recovery_refusal w b audit a f ≡ None → source_of b f ≡ Some s → is_replica_of b f s ≡ false
+  successor f s free at =
+      let one = and_parts (is_valid b s) (has_log w s && (same_label w s f && not (is_replica_of b f s))) (succeeds f s free at) in
+      let two = and_parts (has_log w s) (same_label w s f && not (is_replica_of b f s)) one.1 in
+      not-true (is_replica_of b f s) (and_parts (same_label w s f) (not (is_replica_of b f s)) two.1).1
 
   recovery-are : (f : ServerNo) → recovery_refusal w b audit a f ≡ None → AreReplicas (recovery_purpose b f) f (replicas_of b f)
   recovery-are f free = go (source_of b f) refl

@@ -47,19 +47,19 @@ use Rattle.run_laws.proofs.Flown.{leases-loaded, rings-loaded}
 -- ---- what an opening puts
 
 -- the instance of a server that is there
-record Shows (w : World) (at : Moment) (c : Change) : Type 0 where
-  n : ℕ
-  server : Server
-  there : server_at w n ≡ Some server
-  is : c ≡ change.Put (row.Instance (opening_instance w at n server))
+pub record Shows (w : World) (at : Moment) (c : Change) : Type 0 where
+  pub n : ℕ
+  pub server : Server
+  pub there : server_at w n ≡ Some server
+  pub is : c ≡ change.Put (row.Instance (opening_instance w at n server))
 
 -- a change that leaves bridges and leases
-record LeavesBridges (c : Change) : Type 0 where
-  rings : (b : BookState) → (after_opening b c).rings ≡ b.rings
-  leases : (b : BookState) → (after_opening b c).leases ≡ b.leases
+pub record LeavesBridges (c : Change) : Type 0 where
+  pub rings : (b : BookState) → (after_opening b c).rings ≡ b.rings
+  pub leases : (b : BookState) → (after_opening b c).leases ≡ b.leases
 
 -- a change of an opening puts such an instance, or leaves them
-abbrev Opens : World → Moment → Change → Type 0
+abbrev pub Opens : World → Moment → Change → Type 0
 Opens w at c = Shows w at c ⊎ LeavesBridges c
 
 Opens-instance : (w : World) (at : Moment) (n : ℕ) (o : Option Server) → server_at w n ≡ o → IfSome (put_instance w at n o) (Opens w at)
@@ -81,7 +81,7 @@ Opens-registering w at b n (Some rule) = go (has_row b (row.Candidate (registere
     go true = tt
     go false = inr (record { rings = λ b. refl; leases = λ b. refl })
 
-Opens-start : (s : Scenario) (rows : List Row) → All (Opens (start_world s) (start_moment s rows)) (start_changes s rows)
+pub Opens-start : (s : Scenario) (rows : List Row) → All (Opens (start_world s) (start_moment s rows)) (start_changes s rows)
 Opens-start s rows =
     let w = start_world s in
     let at = start_moment s rows in
@@ -116,7 +116,7 @@ module _ (w : World) (at : Moment) (P : Bridge → Type 0) (shown : (n : ServerN
       subst (λ (x : Change). All (All P) (after_opening b x).rings) (sym shows.is) (ring-all b.rings (record { 0 = shows.n }) _ (put-shown shows.n shows.server shows.there) all)
   opened-one b c (inr leaves) all = subst (All (All P)) (sym (leaves.rings b)) all
 
-  opened-rings : (b : BookState) (cs : List Change) → All (Opens w at) cs → All (All P) b.rings → All (All P) (opened_book b cs).rings
+  pub opened-rings : (b : BookState) (cs : List Change) → All (Opens w at) cs → All (All P) b.rings → All (All P) (opened_book b cs).rings
   opened-rings b [] opens all = all
   opened-rings b (c ∷ cs) opens all =
       opened-rings (after_opening b c) cs (All-tail (Opens w at) c cs opens) (opened-one b c (All-head (Opens w at) c cs opens) all)

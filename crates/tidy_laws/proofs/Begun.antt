@@ -1,15 +1,13 @@
 -- What a permitted command, a recovery and a takeover begin stays within the cluster.
-use Rattle.std.proofs.Common.{◌≡◌, ℕ, Bool, true, false, cond, not, List, [], ◌∷◌, ◌+◌, ◌++◌, map, refl, sym, ◌∙◌, ap, subst, Option, Some, None, Ok, ◌&&◌}
-use Rattle.std.specs.Prelude.{All, is_some, nat_lt, option_map}
+use Rattle.std.proofs.Common.{◌≡◌, ℕ, Bool, true, false, not, List, [], ◌∷◌, ◌+◌, ◌++◌, map, refl, sym, ◌∙◌, ap, subst, Option, Some, None, Ok, ◌&&◌}
+use Rattle.std.specs.Prelude.{All}
 use Rattle.std.specs.List.{flat_map}
 use Rattle.std.specs.Option.{option_or}
 use Rattle.std.specs.Cmp.Lexicographic.{same_text}
-use Rattle.std.proofs.lemmas.Bool.{and_parts, false≢true}
+use Rattle.std.proofs.lemmas.Bool.{and_parts}
 use Rattle.std.proofs.lemmas.List.Elements.{All-append, All-cons, All-head, All-nil, All-push, All-tail}
-use Rattle.std.proofs.lemmas.Option.{none-some, same_Some}
 use Rattle.audit_log.specs.Audits.{AuditState}
-use Rattle.book_views.specs.Sources.{is_replica_of, replicas_of, seen_source, source_in}
-use Rattle.orch_base.specs.declared.code.Code.{Code}
+use Rattle.book_views.specs.Sources.{is_replica_of, replicas_of}
 use Rattle.orch_base.specs.declared.server.Moment.{Moment}
 use Rattle.orch_base.specs.declared.server.ServerNo.{ServerNo}
 use Rattle.commands.specs.declared.line.Line.{Line}
@@ -25,15 +23,8 @@ use Rattle.command_routes.specs.declared.kinds.GtidCommand.TheVariants as gtids
 use Rattle.command_routes.specs.declared.kinds.Regrouping.TheVariants.{ByBridges, ByMatches}
 use Rattle.command_routes.specs.declared.route.Planner.{Planner}
 use Rattle.command_routes.specs.declared.route.Planner.TheVariants.{Coordinates, Gtids, Matches, Paths, Regroups}
-use Rattle.failure_analysis.specs.Analysis.{counts_of, entry_of}
-use Rattle.failure_analysis.specs.Table.{AreCounts, action_of, code_of, none_replicates}
-use Rattle.failure_analysis.specs.declared.code.Action.{Action}
-use Rattle.failure_analysis.specs.declared.code.Action.TheVariants as action
 use Rattle.failure_analysis.specs.declared.entry.Entry.{Entry}
-use Rattle.failure_analysis.proofs.Counting.{tally-parts}
-use Rattle.failure_analysis.proofs.Rows.{action-of}
-use Rattle.instance_keeper.specs.Book.{BookState, instance_at}
-use Rattle.kept_rows.specs.declared.observation.Instance.{Instance}
+use Rattle.instance_keeper.specs.Book.{BookState}
 use Rattle.move_laws.proofs.Firsts.{each-none, neither, not-false, test-false}
 use Rattle.moves_coords.specs.Commands.{coords_command}
 use Rattle.moves_coords.specs.Permits as coords_permits
@@ -49,7 +40,7 @@ use Rattle.operations.specs.Deeds.{Deed, deed_of}
 use Rattle.operations.specs.Jobs.{job_with}
 use Rattle.operations.specs.Plans.{again, auto, finished, swap, under, up}
 use Rattle.permission.specs.Checks.{first_refusal, of_other_cluster, refusal_by as check_refusal, unknown_in}
-use Rattle.permission.specs.Lists.{first_about, moves_to, only_if}
+use Rattle.permission.specs.Lists.{first_about, moves_to}
 use Rattle.permission.specs.Replicas.{replicas_but, siblings_of}
 use Rattle.permission.specs.Rows.{about as about_given, about_one, refused}
 use Rattle.permission.specs.Views.{has_log, is_valid, label_in, same_label, source_above, source_of}
@@ -62,8 +53,7 @@ use Rattle.recovery_core.specs.Scans.{Staged, actionable_in, after_try, from_sta
 use Rattle.recovery_core.specs.Tries.{Begins, recovery_begins, recovery_try, takeover_begins, takeover_try, unless_refused}
 use Rattle.recovery_core.proofs.Beginning.{unrefused}
 use Rattle.recovery_permits.specs.declared.attempt.Attempt.{Attempt}
-use Rattle.recovery_permits.specs.Checks.{can_succeed, code_at, has_successor, without_successor}
-use Rattle.recovery_permits.specs.Recoveries.{held_off, purpose_by, recovery_purpose, recovery_refusal, refusal_by as recovery_refusal_by, refusal_for}
+use Rattle.recovery_permits.specs.Recoveries.{purpose_by, recovery_purpose, recovery_refusal}
 use Rattle.recovery_permits.specs.Takeovers.{followers_of, takeover_refusal}
 use Rattle.recovery_plans.specs.Beginning.{begun_recovery, but}
 use Rattle.recovery_plans.specs.declared.outcome.Stopped.{Stopped}
@@ -83,6 +73,7 @@ use Rattle.regroup.specs.Plans.{arrived, ascended, climbed, moved_by, next_of, r
 use Rattle.regroup.specs.Ways.{Path, path_of}
 use Rattle.server_model.specs.declared.server.Server.{Server as AServer}
 use Rattle.server_model.specs.Worlds.{World, server_at}
+use Rattle.run_laws.proofs.Naming.{succeeds}
 use Rattle.tidy_laws.specs.Clusters.{AreAlike, Clusters, cluster_in, label}
 use Rattle.tidy_laws.specs.Recoveries.{IsRecoveryWithin, IsTaskWithin, IsUnendedWithin}
 use Rattle.tidy_laws.specs.Trim.{IsTrim}
@@ -447,61 +438,13 @@ module _ (c : Clusters) (w : World) (trim : IsTrim c w) (b : BookState) (now : M
 
 -- ---- what a recovery is for
 
--- what is asked for of a server with a source is no master's recovery
-abbrev is_masters : Action → Bool
-is_masters action.MasterRecovery = true
-is_masters action.IntermediateRecovery = false
-is_masters action.Nothing = false
-
-asked-without : (dead sourced : Bool) → cond dead (cond sourced action.IntermediateRecovery action.MasterRecovery) action.Nothing ≡ action.MasterRecovery → sourced ≡ false
-asked-without true true h = absurd (false≢true (ap is_masters h))
-asked-without true false h = refl
-asked-without false sourced h = absurd (false≢true (ap is_masters h))
-
-sourceless : (o : Option ServerNo) → is_some o ≡ false → o ≡ None
-sourceless None h = refl
-sourceless (Some s) h = absurd (false≢true (sym h))
-
-passed : (x : Bool) (r : Refusal) → only_if (not x) r ≡ None → x ≡ true
-passed true r h = refl
-passed false r h = cc
-
--- a master is what has no source
-master-source : (b : BookState) (f : ServerNo) (code : Code) → code_at b f ≡ Some code → action_of code ≡ action.MasterRecovery → source_of b f ≡ None
-master-source b f code at asks = go (instance_at b f) at
-  where
-    counts : (i : Instance) → AreCounts (counts_of b f i)
-    counts i = let parts = tally-parts b.instances f in record { lagging = parts.lagging; replicating = parts.replicating; valid = parts.valid }
-
-    go : (o : Option Instance) → option_map (λ (e : Entry). e.code) (option_map (entry_of b f) o) ≡ Some code → source_in (seen_source o) ≡ None
-    go None h = refl
-    go (Some i) h =
-        let k = counts_of b f i in
-        sourceless (source_in i.seen.source)
-        (asked-without (not i.valid && (nat_lt 0 k.valid_replicas && none_replicates k)) (is_some (source_in i.seen.source))
-        (sym (action-of k (counts i)) ∙ ap action_of (same_Some (code_of k) code h) ∙ asks))
-
 module _ (c : Clusters) (w : World) (trim : IsTrim c w) where
   -- the source of an intermediate master is of its cluster
   successor : (b : BookState) (audit : AuditState) (a : Attempt) (f s : ServerNo) → recovery_refusal w b audit a f ≡ None → source_of b f ≡ Some s → AreAlike c s.0 f.0
-  successor b audit a f s free at = by-code (code_at b f) refl free
-    where
-      can : can_succeed w b f s ≡ true → AreAlike c s.0 f.0
-      can h =
-          let one = and_parts (is_valid b s) (has_log w s && (same_label w s f && not (is_replica_of b f s))) h in
-          let two = and_parts (has_log w s) (same_label w s f && not (is_replica_of b f s)) one.1 in
-          alike-label c w trim s f (and_parts (same_label w s f) (not (is_replica_of b f s)) two.1).0
-
-      by-action : (code : Code) (what : Action) → (what ≡ action.MasterRecovery → source_of b f ≡ None) → refusal_for w b audit a f code what ≡ None → AreAlike c s.0 f.0
-      by-action code action.Nothing masters h = cc
-      by-action code action.MasterRecovery masters h = absurd (none-some s (sym (masters refl) ∙ at))
-      by-action code action.IntermediateRecovery masters h =
-          let has = passed (has_successor w b f (source_of b f)) refusal.NoCandidate (neither (held_off b audit a f a.by_intermediate) (without_successor w b f) h).1 in
-          can (sym (ap (has_successor w b f) at) ∙ has)
-
-      by-code : (o : Option Code) → code_at b f ≡ o → recovery_refusal_by w b audit a f o ≡ None → AreAlike c s.0 f.0
-      by-code None e h = cc
-      by-code (Some code) e h = by-action code (action_of code) (master-source b f code e) (neither _ (refusal_for w b audit a f code (action_of code)) h).1
+  successor b audit a f s free at =
+      let one = and_parts (is_valid b s) (has_log w s && (same_label w s f && not (is_replica_of b f s))) (succeeds w b audit a f s free at) in
+      let two = and_parts (has_log w s) (same_label w s f && not (is_replica_of b f s)) one.1 in
+      alike-label c w trim s f (and_parts (same_label w s f) (not (is_replica_of b f s)) two.1).0
 
   aim-within : (b : BookState) (audit : AuditState) (a : Attempt) (f : ServerNo) → recovery_refusal w b audit a f ≡ None → IsAimWithin c (recovery_purpose b f) f
   aim-within b audit a f free = go (source_of b f) refl

@@ -45,7 +45,7 @@ use Rattle.recovery_plans.specs.Recoveries.{Recovery, follows, follows_no_more, 
 use Rattle.recovery_plans.specs.Stages.{before, drain, ends, gather, leaver, level, move, moved, with_bridge, with_way}
 use Rattle.recovery_plans.specs.Telling.{told}
 use Rattle.recovery_plans.specs.Deciding as deciding
-use Rattle.recovery_plans.specs.Deciding.{Lot, chosen_of, ground_of, lot_by, lot_by_group, move_of, moves_in, own_end_of, without_stopped, choose, moving, way_below, way_by_set, why_of, expels, releases, sort, logs_at}
+use Rattle.recovery_plans.specs.Deciding.{Lot, chosen_of, ground_of, lot_by, lot_by_group, move_of, moves_in, own_end_of, without_stopped, choose, moving, way_below, way_by_set, why_of, expels, releases, sort}
 use Rattle.recovery_plans.specs.Taking.{Taken, lead_under, last_looks, idle, frees, entered, stepped, swapped, that_can, takes_writes, goes_back, way_back, undone, last_exchanges, taken}
 use Rattle.recovery_plans.specs.Moves as by
 use Rattle.recovery_plans.specs.Moves.{Bearing, Decision, Does, Ending, FailsFor, IsHanding, IsNext, MayDecide, MayEnd, Turning, borne, decided_by, ended_by, fate_of}

@@ -51,7 +51,7 @@ use Rattle.job_laws.specs.Footing.{finds, finds_crossing, footing, is_under, log
 use Rattle.job_laws.specs.Held.{AllShow, HeldJob}
 use Rattle.job_laws.proofs.Marking.{match-parts}
 use Rattle.job_laws.proofs.Spanning.{bridge-parts}
-use Rattle.job_laws.proofs.Turns.{due-of, with-one}
+use Rattle.job_laws.proofs.Turns.{due-of, not-moved, with-one}
 use Rattle.tidy_laws.specs.Clusters.{AreAlike, Clusters, label}
 use Rattle.tidy_laws.specs.Trim.{AllOrderly, IsOrderly, IsOrderlyAsk, IsTrim}
 use Rattle.tidy_laws.specs.Within.{AllWithin, AreDueWithin, GoesWithin, IsDueWithin, IsJobWithin, IsReadWithin, IsTriedWithin, IsTurnWithin, IsWithinCluster, StoodWithin}
@@ -89,16 +89,6 @@ module _ (c : Clusters) (w : World) (placed : Placed w) (trim : IsTrim c w) wher
 
   pub read-within : (read : ℕ) (now : Moment) (n : ServerNo) → IsReadWithin c (observed w read now n)
   read-within read now n = λ seen h. stood-within n.0 seen h
-
--- an attached source that isn't another than the one that is named is that one
-not-moved : (m : ServerNo) (x : SourceState) → is_moved (Some m) x ≡ false → source_no x ≡ Some m.0
-not-moved m Without h = cc
-not-moved m (Attached k) h = go (k.0 == m.0) refl h
-  where
-    go : (b : Bool) → (k.0 == m.0) ≡ b → not b ≡ false → Some k.0 ≡ Some m.0
-    go true e h = ap Some (eqb-true k.0 m.0 e)
-    go false e h = cc
-not-moved m (Detached k) h = cc
 
 -- a server that stands where it is expected is below that source
 spot-source : (r : Server) (m : ServerNo) (at : Coord) (x : SourceState) → same_spot (spot.At m at) (spot_below r x) ≡ true → source_no x ≡ Some m.0

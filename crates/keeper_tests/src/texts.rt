@@ -1,8 +1,8 @@
 //! Rows from texts and texts of rows, by the values of the format's examples.
 
-use crate::{RowFault, RowText, TableNumber};
 use kept_rows::{Row, Table};
 use orch_base::{Memory, Name};
+use row_texts::{RowFault, RowText, TableNumber};
 use std::alloc::Global;
 use std::test::Fail;
 
