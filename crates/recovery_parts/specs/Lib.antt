@@ -1,4 +1,5 @@
 pub mod Doings
 pub mod Fates
 pub mod Grounds
+pub mod Infos
 pub mod Lots

@@ -3,14 +3,16 @@
 ghost use Rattle.std.specs.Prelude.{◌≡◌};
 ghost use Rattle.std.specs.Option.{option_map};
 ghost use Rattle.server_model.specs.Worlds.{server_at};
-ghost use Rattle.recovery_plans.specs.Taking.{drain_fate, exec_by, fate, is_away, loss_of, lost_on_way, match_fate, move_fate, place_on, spot_by, spot_seen, trail_fate, way_fate};
+ghost use Rattle.recovery_plans.specs.Taking.{drain_fate, exec_by, fate_by, is_away, loss_of, lost_on_way, match_fate, move_fate, place_on, spot_by, spot_seen, trail_fate, way_fate};
 ghost use Rattle.recovery_plans.specs.declared.why.Why.{Why as AWhy};
 ghost use Rattle.recovery_parts.specs.Fates.{fate_told, loss_told};
+ghost use Rattle.recovery_parts.specs.Infos.{failing_told};
 
+use crate::table::Failing;
 use binlog_coords::Coord;
 use commands::{Cause, Lost};
 use orch_base::{ServerNo, SourceState};
-use recovery_plans::{Miss, Purpose, Stage, Way, Why};
+use recovery_plans::{Miss, Purpose, Way, Why};
 use server_model::World;
 use server_words::Spot;
 
@@ -210,36 +212,18 @@ fn of_move(world: &World, purpose: Purpose, no: ServerNo, way: Way, loss: Option
 }
 
 /// What becomes of a stage whose operation fails for a cause.
-pub fn fate_of(world: &World, purpose: Purpose, stage: &Stage, cause: &Cause) -> Fate
-    ensures { fate_told result ≡ fate world.now purpose stage.now cause.now }
+pub fn fate_of(world: &World, purpose: Purpose, failing: Failing, cause: &Cause) -> Fate
+    ensures { fate_told result ≡ fate_by world.now purpose (failing_told failing) cause.now }
 {
     let loss = loss_of(cause);
-    match stage {
-        Stage::Drain(n) => of_drain(*n, loss),
-        Stage::Move(n, way) => of_move(world, purpose, *n, *way, loss),
-        Stage::Join(n, _) => Fate::Loses(*n, Why::Lost(Lost::Unreachable)),
-        Stage::Look(n, _) | Stage::Trail(n, _) => of_trail(world, *n, loss),
-        Stage::Check | Stage::Expel(_) | Stage::Release(_) => Fate::Drops,
-        Stage::Level(_, q) => Fate::Releases(*q),
-        Stage::Swap(p, q) => Fate::Returns(*p, *q),
-        Stage::Idle
-        | Stage::Read(_)
-        | Stage::Judged(_)
-        | Stage::Expelled(_)
-        | Stage::Swapped(_, _)
-        | Stage::Return(_, _)
-        | Stage::Resume(_, _)
-        | Stage::Crown(_)
-        | Stage::Open(_)
-        | Stage::Opened(_)
-        | Stage::Meet(_, _)
-        | Stage::Shut(_, _)
-        | Stage::Gather(_, _)
-        | Stage::Looked(_, _)
-        | Stage::Halted(_, _)
-        | Stage::Yield(_, _)
-        | Stage::Switch(_, _)
-        | Stage::Switched(_, _)
-        | Stage::Close(_) => Fate::Fails,
+    match failing {
+        Failing::All => Fate::Fails,
+        Failing::Passes => Fate::Drops,
+        Failing::Drains(n) => of_drain(n, loss),
+        Failing::Moves(n, way) => of_move(world, purpose, n, way, loss),
+        Failing::Joins(n) => Fate::Loses(n, Why::Lost(Lost::Unreachable)),
+        Failing::Trails(n) => of_trail(world, n, loss),
+        Failing::Releases(q) => Fate::Releases(q),
+        Failing::Returns(p, q) => Fate::Returns(p, q),
     }
 }

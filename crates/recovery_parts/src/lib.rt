@@ -8,6 +8,7 @@ mod doing;
 mod fates;
 mod ops;
 mod stages;
+mod table;
 mod threads;
 
 pub use choices::{Ground, better_of, chosen_of, expels, lot_by, releases, way_below};
@@ -17,4 +18,5 @@ pub use fates::{Fate, fate_of, spot_seen};
 pub use ops::{drain, level, moving, one, room, shut, sight_of, three, trail, two};
 /// Want of memory.
 pub use orch_base::Memory;
-pub use stages::{ends, leaver, moved};
+pub use stages::ends;
+pub use table::{Back, Bar, Failing, Info, Made, info_of};

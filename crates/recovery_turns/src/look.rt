@@ -10,8 +10,9 @@ ghost use Rattle.commands.specs.declared.line.Line.{Line as ALine};
 ghost use Rattle.recovery_plans.specs.Named.{IsNamedRecovery};
 ghost use Rattle.recovery_plans.specs.Recoveries.{Recovery as ARecovery};
 ghost use Rattle.recovery_plans.specs.Stages.{moved};
-ghost use Rattle.recovery_plans.specs.Taking.{barred_by, fails, fate, goes_back, last_exchanges, met, settled, taken, undone, way_back};
+ghost use Rattle.recovery_plans.specs.Taking.{back_by, bar_by, fails, fate, goes_back, last_exchanges, met, settled, taken, undone};
 ghost use Rattle.recovery_parts.specs.Doings.{exchange_of};
+ghost use Rattle.recovery_parts.specs.Infos.{back_told, bar_told};
 ghost use Rattle.recovery_turns.specs.Deciding.{decided_on};
 ghost use Rattle.recovery_turns.specs.Looks.{CanEnd, CanTake, IsSpare, foretold};
 ghost use Rattle.recovery_turns.specs.Steps.{IsTold};
@@ -26,7 +27,8 @@ use job_plans::{Act, JobView, Look, has_place};
 use operations::{JobStep, Op, Position, Sight};
 use orch_base::{Memory, Moment, ServerNo, SourceState};
 use recovery_parts::{
-    Change, Doing, Fate, Ground, doing_of, ends, fate_of, moved, only, room, then_starts,
+    Back, Bar, Change, Doing, Fate, Ground, Info, doing_of, ends, fate_of, info_of, only, room,
+    then_starts,
 };
 use recovery_plans::{Purpose, Stage};
 use server_model::World;
@@ -118,92 +120,40 @@ fn going_back(
     Ok(changes)
 }
 
-// The way back of a takeover of this master that fails at this stage.
+// The way back of a takeover of this master.
 fn way_back(
     alloc: Global,
     world: &World,
     job: &JobView<'_>,
     master: ServerNo,
-    stage: &Stage,
+    back: Back,
 ) -> Result<Vec<Change>, Memory>
     ensures { IfOk result (λ v. map exchange_of v.items
-        ≡ way_back world.now job.now.seen master stage.now) }
+        ≡ back_by world.now job.now.seen master (back_told back)) }
 {
-    match stage {
-        Stage::Switch(m, d) => going_back(alloc, world, job, *m, *d),
-        Stage::Meet(_, _)
-        | Stage::Shut(_, _)
-        | Stage::Switched(_, _)
-        | Stage::Open(_)
-        | Stage::Opened(_)
-        | Stage::Close(_) => Ok(Vec::new(alloc)),
-        Stage::Idle
-        | Stage::Check
-        | Stage::Read(_)
-        | Stage::Drain(_)
-        | Stage::Judged(_)
-        | Stage::Move(_, _)
-        | Stage::Join(_, _)
-        | Stage::Expel(_)
-        | Stage::Expelled(_)
-        | Stage::Release(_)
-        | Stage::Level(_, _)
-        | Stage::Swap(_, _)
-        | Stage::Swapped(_, _)
-        | Stage::Return(_, _)
-        | Stage::Resume(_, _)
-        | Stage::Crown(_)
-        | Stage::Gather(_, _)
-        | Stage::Look(_, _)
-        | Stage::Looked(_, _)
-        | Stage::Trail(_, _)
-        | Stage::Halted(_, _)
-        | Stage::Yield(_, _) => only(alloc, Change::Ask(master, Ask::SetReadOnly(false))),
+    match back {
+        Back::Nowhere => Ok(Vec::new(alloc)),
+        Back::Writes => only(alloc, Change::Ask(master, Ask::SetReadOnly(false))),
+        Back::Whole(m, d) => going_back(alloc, world, job, m, d),
     }
 }
 
-// Why what is seen ends a recovery at this stage, of this failed server.
-fn barred_by(job: &JobView<'_>, act: &Act, stage: &Stage, failed: ServerNo) -> Option<Cause>
-    ensures { result ≡ barred_by stage.now failed (job_after job.now act.now).seen }
+// Why what is seen ends a recovery of this failed server.
+fn barred_by(job: &JobView<'_>, act: &Act, bar: Bar, failed: ServerNo) -> Option<Cause>
+    ensures { result ≡ bar_by (bar_told bar) failed (job_after job.now act.now).seen }
 {
-    match stage {
-        Stage::Check => Some(Cause::Reachable(failed)),
-        Stage::Meet(m, _) => {
-            let source = seen_after(job, act, *m)?.source;
+    match bar {
+        Bar::Never => None,
+        Bar::Reached => Some(Cause::Reachable(failed)),
+        Bar::Sourced(m) => {
+            let source = seen_after(job, act, m)?.source;
             match source {
                 SourceState::Without => None,
                 SourceState::Attached(_) | SourceState::Detached(_) => {
-                    Some(Cause::Moved(*m, source))
+                    Some(Cause::Moved(m, source))
                 }
             }
         }
-        Stage::Idle
-        | Stage::Read(_)
-        | Stage::Drain(_)
-        | Stage::Judged(_)
-        | Stage::Move(_, _)
-        | Stage::Join(_, _)
-        | Stage::Expel(_)
-        | Stage::Expelled(_)
-        | Stage::Release(_)
-        | Stage::Level(_, _)
-        | Stage::Swap(_, _)
-        | Stage::Swapped(_, _)
-        | Stage::Return(_, _)
-        | Stage::Resume(_, _)
-        | Stage::Crown(_)
-        | Stage::Open(_)
-        | Stage::Opened(_)
-        | Stage::Shut(_, _)
-        | Stage::Gather(_, _)
-        | Stage::Look(_, _)
-        | Stage::Looked(_, _)
-        | Stage::Trail(_, _)
-        | Stage::Halted(_, _)
-        | Stage::Yield(_, _)
-        | Stage::Switch(_, _)
-        | Stage::Switched(_, _)
-        | Stage::Close(_) => None,
     }
 }
 
@@ -217,7 +167,8 @@ impl Decided {
         match of.purpose {
             Purpose::Regroup | Purpose::Master | Purpose::Intermediate(_) => Ok(Vec::new(alloc)),
             Purpose::Takeover(_) => {
-                way_back(alloc, world, &self.job(of), of.failed, self.stage(of))
+                let back = info_of(self.stage(of)).back;
+                way_back(alloc, world, &self.job(of), of.failed, back)
             }
         }
     }
@@ -265,7 +216,7 @@ impl Decided {
         ensures { IfOk result (λ o. (n : Number) → moved (decided_on of.now self.now).stage
             ≡ Stage.Opened n → IsTold (decided_on of.now self.now) o) }
     {
-        let next = moved(self.stage(of));
+        let Info { next, .. } = info_of(self.stage(of));
         if let Stage::Opened(_) = next {
             let stage = self.told(alloc, of)?;
             let told = stage.copy(alloc)?;
@@ -293,8 +244,8 @@ impl Decided {
         ensures spare { IfOk result IsSpare }
         ensures ends { IfOk result (λ l. CanEnd (decided_on of.now l.decided) l.then) }
     {
-        let bar = barred_by(&self.job(of), &act, self.stage(of), of.failed);
-        if let Some(cause) = bar {
+        let bar = info_of(self.stage(of)).bar;
+        if let Some(cause) = barred_by(&self.job(of), &act, bar, of.failed) {
             return self.fail(alloc, of, world, cause, observation);
         }
         let doing = doing_of(alloc, &self.job(of), &act)?;
@@ -323,7 +274,8 @@ impl Decided {
         ensures spare { IfOk result IsSpare }
         ensures ends { IfOk result (λ l. CanEnd (decided_on of.now l.decided) l.then) }
     {
-        let fate = fate_of(world, of.purpose, self.stage(of), &cause);
+        let failing = info_of(self.stage(of)).failing;
+        let fate = fate_of(world, of.purpose, failing, &cause);
         match fate {
             Fate::Fails => return self.fail(alloc, of, world, cause, observation),
             Fate::Drops

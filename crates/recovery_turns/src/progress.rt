@@ -6,9 +6,10 @@ ghost use Rattle.operations.specs.Jobs.{seen_of};
 ghost use Rattle.recovery_plans.specs.Deciding.{closing, moving};
 ghost use Rattle.recovery_plans.specs.Moves.{borne};
 ghost use Rattle.recovery_plans.specs.Stages.{moved};
-ghost use Rattle.recovery_plans.specs.Taking.{completed, frees, gathered, halted, idle, is_below, last_looks, lead_under, looked, swapped};
+ghost use Rattle.recovery_plans.specs.Taking.{completed, frees, gathered, halted, idle, is_below, last_looks, lead_under, looked, made_of, swapped};
 ghost use Rattle.recovery_plans.specs.Recoveries.{follows};
 ghost use Rattle.recovery_parts.specs.Fates.{fate_told};
+ghost use Rattle.recovery_parts.specs.Infos.{made_told};
 ghost use Rattle.recovery_turns.specs.Deciding.{seen_by};
 ghost use Rattle.recovery_turns.specs.RecoveriesBy.{IsRoomy};
 ghost use Rattle.recovery_turns.specs.Steps.{IsTold, progressed_by, stepped_by};
@@ -19,7 +20,7 @@ use instance_keeper::Bridge;
 use operations::{Crossing, Op, Position};
 use orch_base::{ServerNo, SourceState};
 use recovery_parts::{
-    Fate, leaver, moved, moving, one, shut, sight_of, spot_seen, three, trail, two,
+    Fate, Info, Made, info_of, moving, one, shut, sight_of, spot_seen, three, trail, two,
 };
 use recovery_plans::{Purpose, Stage, Stopped, Way, Why};
 use std::alloc::Global;
@@ -217,72 +218,25 @@ impl RecoveryJob {
         self.work(Stage::Open(d), one(ops, Op::ReadOnly(d, false)));
     }
 
-    // What comes after the last operation of a stage.
-    fn complete(&mut self, alloc: Global, ops: Vec<Op>, lines: Option<LastLines>)
+    // What the end of a stage makes.
+    fn complete(&mut self, alloc: Global, made: Made, ops: Vec<Op>, lines: Option<LastLines>)
         requires room { IsRoomy 1 self.old }
         requires ops { 8 ≤ vec_capacity ops }
-        requires told { (n : Number) → self.old.stage ≡ Stage.Opened n → IsTold self.old lines }
-        ensures { self.new ≡ completed self.old self.old.stage }
+        requires told { (n : Number) → made ≡ Made.Opened n → IsTold self.old lines }
+        ensures { self.new ≡ made_of self.old (made_told made) }
     {
-        match &self.stage {
-            Stage::Judged(n) => {
-                let n = *n;
-                self.judge(n)
-            }
-            Stage::Join(n, p) | Stage::Resume(p, n) => {
-                let (n, p) = (*n, *p);
-                self.join(n, p)
-            }
-            Stage::Expelled(n) => {
-                let n = *n;
-                self.expel(n)
-            }
-            Stage::Gather(_, d) => {
-                let d = *d;
-                self.gather(d)
-            }
-            Stage::Swapped(p, q) => {
-                let (p, q) = (*p, *q);
-                self.pass_swap(p, q, ops)
-            }
-            Stage::Opened(n) => {
-                let n = *n;
-                self.pass_open(n, ops, lines)
-            }
-            Stage::Meet(m, d) => {
-                let (m, d) = (*m, *d);
-                self.work(Stage::Shut(m, d), shut(ops, m, d))
-            }
-            Stage::Looked(n, lead) => {
-                let (n, lead) = (*n, *lead);
-                self.pass_look(alloc, n, lead, ops)
-            }
-            Stage::Halted(n, lead) => {
-                let (n, lead) = (*n, *lead);
-                self.halt(alloc, n, lead, ops)
-            }
-            Stage::Switched(m, d) => {
-                let (m, d) = (*m, *d);
-                self.pass_switch(m, d, ops)
-            }
-            Stage::Idle
-            | Stage::Check
-            | Stage::Read(_)
-            | Stage::Drain(_)
-            | Stage::Move(_, _)
-            | Stage::Expel(_)
-            | Stage::Release(_)
-            | Stage::Level(_, _)
-            | Stage::Swap(_, _)
-            | Stage::Return(_, _)
-            | Stage::Crown(_)
-            | Stage::Open(_)
-            | Stage::Shut(_, _)
-            | Stage::Look(_, _)
-            | Stage::Trail(_, _)
-            | Stage::Yield(_, _)
-            | Stage::Switch(_, _)
-            | Stage::Close(_) => self.idle(),
+        match made {
+            Made::Nothing => self.idle(),
+            Made::Judged(n) => self.judge(n),
+            Made::Follows(n, p) => self.join(n, p),
+            Made::Marked(n) => self.expel(n),
+            Made::Gathered(d) => self.gather(d),
+            Made::Swapped(p, q) => self.pass_swap(p, q, ops),
+            Made::Opened(n) => self.pass_open(n, ops, lines),
+            Made::Met(m, d) => self.work(Stage::Shut(m, d), shut(ops, m, d)),
+            Made::Looked(n, lead) => self.pass_look(alloc, n, lead, ops),
+            Made::Halted(n, lead) => self.halt(alloc, n, lead, ops),
+            Made::Switched(m, d) => self.pass_switch(m, d, ops),
         }
     }
 
@@ -291,9 +245,9 @@ impl RecoveryJob {
         ensures { self.new ≡ stepped_by self.old ending }
     {
         if ending {
-            let stage = moved(&self.stage);
-            self.follow_no_more(leaver(&stage));
-            self.enter(stage);
+            let Info { next, .. } = info_of(&self.stage);
+            self.follow_no_more(info_of(&next).leaves);
+            self.enter(next);
         }
     }
 
@@ -317,7 +271,8 @@ impl RecoveryJob {
         }
         self.step(ending);
         if self.core.done == self.core.ops.len() {
-            self.complete(alloc, ops, lines);
+            let made = info_of(&self.stage).made;
+            self.complete(alloc, made, ops, lines);
         }
     }
 

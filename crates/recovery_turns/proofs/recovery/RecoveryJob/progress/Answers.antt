@@ -1,13 +1,23 @@
 use Rattle.std.proofs.Common.{◌≡◌, ◌-◌, ◌<◌, drop, length, length-drop, sym, ap, subst, ◌∙◌, arith}
 use Rattle.recovery_plans.specs.Recoveries.{Recovery}
+use Rattle.recovery_plans.specs.Table as table
+use Rattle.recovery_plans.specs.Table.{info}
+use Rattle.recovery_parts.specs.Infos.{made_told}
 use Rattle.recovery_turns.specs.RecoveriesBy.{IsRoomy}
-use Rattle.recovery_turns.specs.Steps.{progressed_by}
+use Rattle.recovery_turns.specs.Steps.{IsTold, progressed_by, stepped_by}
 use Rattle.recovery_turns.proofs.Rooms.{roomy_stepped}
-use Rattle.recovery_turns.proofs.Stepped.{stays}
+use Rattle.recovery_turns.proofs.Stepped.{opened-told, stays}
 use Rattle.recovery_turns.proofs.recovery.RecoveryJob.progress.Goals as goal
 
 pub complete-requires-clause-room : goal.complete-requires-clause-room
 complete-requires-clause-room c = subst (λ (x : Recovery). IsRoomy 1 x) (sym c.step.ensures) (roomy_stepped c.args.self.now c.args.ending c.requires.room)
+
+pub complete-requires-clause-told : goal.complete-requires-clause-told
+complete-requires-clause-told c = λ n is.
+    let at : (info (stepped_by c.args.self.now c.args.ending).stage).made ≡ table.Opened n =
+    ap (λ (x : Recovery). (info x.stage).made) (sym c.step.ensures)
+    ∙ subst (λ (x : Recovery). (info x.stage).made ≡ table.Opened n) c.self.view_is (sym c.info_of-made.ensures.made ∙ ap made_told is) in
+    subst (λ (x : Recovery). IsTold x c.args.lines) (sym c.step.ensures) (opened-told c.args.self.now c.args.ending c.args.lines c.requires.told n at)
 
 pub returns-else-self-len : goal.returns-else-self-len
 returns-else-self-len c =
