@@ -12,16 +12,17 @@ use Rattle.hook_texts.specs.declared.hooks.Hooks.{Hooks}
 use Rattle.scenarios.specs.declared.blocks.Block.{Block}
 use Rattle.scenarios.specs.declared.filters.Alias.{Alias}
 use Rattle.scenario_values.specs.declared.fault.FaultCode.TheVariants.{BadHook, BadPattern}
-use Rattle.scenario_values.specs.Faults.{fails, holds, needed, only_keys, optional, under_item}
-use Rattle.scenario_values.specs.Values.{bool_in, items_in, label_or_fails, members_in, number_in, text_in, text_within}
+use Rattle.scenario_values.specs.Faults.{fails, holds, only_keys, optional}
+use Rattle.scenario_values.specs.Values.{items_in, label_or_fails, members_in, number_in, text_in, text_within}
 use Rattle.scenario_servers.proofs.Steps.{bind-ok, holds-ok, number-ok, same_Ok, under-ok}
 use Rattle.scenario_filters.specs.declared.filters.FilterTexts.{FilterTexts}
 use Rattle.scenario_filters.specs.Aliases.{alias_in, aliases_in}
 use Rattle.scenario_filters.specs.Filters.{everything, filter_in, filter_keys, filters_in, list_in, no_filters}
 use Rattle.scenario_reader.specs.declared.head.Head.{Head}
 use Rattle.scenario_reader.specs.Blocks.{block_in, blocks_in, period_in}
-use Rattle.scenario_reader.specs.Scenarios.{head_in, one_in}
-use Rattle.scenario_reader.specs.Hooks.{exit_or_fails, hook_in, hook_keys, hook_list_in, hooks_in, is_hook_text, two_of, whole_of}
+use Rattle.scenario_reader.specs.Scenarios.{head_in}
+use Rattle.scenario_reader.specs.Hooks.{exit_or_fails, hook_in, hook_list_in, hooks_in, two_of}
+use Rattle.scenario_reader.proofs.Parts.{head-ok, hook-ok, hooks-ok}
 use Rattle.dump_laws.proofs.Heads.{IsAlias, IsBlock, IsHookText, AreHookTexts}
 use Rattle.dump_laws.proofs.ReadData as got
 use Rattle.dump_laws.proofs.ReadData.{IsAt, IsFromText, Rise, each-item, each-value, got-read, items-are, ItemsFromText, members-are, optional-at, text-is, values-rise}
@@ -154,19 +155,13 @@ first-from (item a (item b no_items)) p all e = subst (λ (q : Data × Data). Is
 first-from (item a (item b (item c ds))) p all e = absurd cc
 
 hook-has : (d : Data) (h : Hook) → IsFromText d → hook_in d ≡ Ok h → IsHookText h
-unfolding hook_in
 hook-has d h read e =
-    let items = bind-ok (items_in d) _ h e in
-    let parts = bind-ok (two_of items.0) _ h items.2 in
-    let text = bind-ok (under_item 0 (text_in parts.0.0)) _ h parts.2 in
-    let good = bind-ok (holds BadHook (is_hook_text text.0)) _ h text.2 in
-    let whole = bind-ok (under_item 1 (whole_of parts.0.1)) _ h good.2 in
-    let exit = bind-ok (exit_or_fails whole.0) _ h whole.2 in
-    subst IsHookText (same_Ok (record { text = text.0; exit = exit.0 }) h exit.2) (record {
-      is = holds-ok BadHook _ good.0 good.1;
-      exit = exit-small whole.0 exit.0 exit.1;
-      text = text-is parts.0.0 text.0 (first-from items.0 parts.0 (items-are d items.0 read items.1) parts.1) (under-ok (decimal 0) (text_in parts.0.0) text.0 text.1);
-    })
+    let r = hook-ok d h e in
+    record {
+      is = r.is_text;
+      exit = exit-small r.whole h.exit r.exit;
+      text = text-is r.parts.0 h.text (first-from r.items r.parts (items-are d r.items read r.lists) r.two) (under-ok (decimal 0) (text_in r.parts.0) h.text r.text);
+    }
 
 hooks-list-has : (d : Data) (hs : List Hook) → IsFromText d → hook_list_in d ≡ Ok hs → All IsHookText hs
 unfolding hook_list_in
@@ -175,20 +170,13 @@ hooks-list-has d hs read e =
     each-item IsHookText (λ n d. hook_in d) (λ n d h u f. hook-has d h u f) 0 items.0 hs (items-are d items.0 read items.1) items.2
 
 hooks-have : (d : Data) (h : Hooks) → IsFromText d → hooks_in d ≡ Ok h → AreHookTexts h
-unfolding hooks_in
 hooks-have d h read e =
-    let members = bind-ok (members_in d) _ h e in
-    let keys = bind-ok (only_keys hook_keys members.0) _ h members.2 in
-    let pre_failover = bind-ok (optional (codes "pre_failover") hook_list_in [] d) _ h keys.2 in
-    let post_failover = bind-ok (optional (codes "post_failover") hook_list_in [] d) _ h pre_failover.2 in
-    let post_unsuccessful = bind-ok (optional (codes "post_unsuccessful") hook_list_in [] d) _ h post_failover.2 in
-    subst AreHookTexts
-    (same_Ok (record { pre_failover = pre_failover.0; post_failover = post_failover.0; post_unsuccessful = post_unsuccessful.0 }) h post_unsuccessful.2)
-    (record {
-      pre_failover = by (codes "pre_failover") pre_failover.0 (optional-at (codes "pre_failover") hook_list_in [] d pre_failover.0 pre_failover.1);
-      post_failover = by (codes "post_failover") post_failover.0 (optional-at (codes "post_failover") hook_list_in [] d post_failover.0 post_failover.1);
-      post_unsuccessful = by (codes "post_unsuccessful") post_unsuccessful.0 (optional-at (codes "post_unsuccessful") hook_list_in [] d post_unsuccessful.0 post_unsuccessful.1);
-    })
+    let r = hooks-ok d h e in
+    record {
+      pre_failover = by (codes "pre_failover") h.pre_failover (optional-at (codes "pre_failover") hook_list_in [] d h.pre_failover r.pre_failover);
+      post_failover = by (codes "post_failover") h.post_failover (optional-at (codes "post_failover") hook_list_in [] d h.post_failover r.post_failover);
+      post_unsuccessful = by (codes "post_unsuccessful") h.post_unsuccessful (optional-at (codes "post_unsuccessful") hook_list_in [] d h.post_unsuccessful r.post_unsuccessful);
+    }
   where
     by : (key : List ℕ) (hs : List Hook) → IsAt key hook_list_in [] d hs → All IsHookText hs
     by key hs (got.absent is) = subst (All IsHookText) (sym is) (All-nil IsHookText)
@@ -210,46 +198,25 @@ pub record IsHead (h : Head) : Type 0 where
   pub hooks : AreHookTexts h.hooks
 
 pub head-has : (d : Data) (h : Head) → IsFromText d → head_in d ≡ Ok h → IsHead h
-unfolding head_in
 head-has d h read e =
-    let version = bind-ok (needed (codes "version") one_in d) _ h e in
-    let moment = bind-ok (optional (codes "now") (number_in 0 1000000000000000) 0 d) _ h version.2 in
-    let gtid = bind-ok (optional (codes "gtid") bool_in false d) _ h moment.2 in
-    let pseudo = bind-ok (optional (codes "pseudo") (number_in 0 1000000) 0 d) _ h gtid.2 in
-    let nodes = bind-ok (optional (codes "nodes") (number_in 1 16) 1 d) _ h pseudo.2 in
-    let block = bind-ok (optional (codes "block") period_in 3600 d) _ h nodes.2 in
-    let blocks = bind-ok (optional (codes "blocks") blocks_in [] d) _ h block.2 in
-    let aliases = bind-ok (optional (codes "aliases") aliases_in [] d) _ h blocks.2 in
-    let filters = bind-ok (optional (codes "filters") filters_in no_filters d) _ h aliases.2 in
-    let hooks = bind-ok (optional (codes "hooks") hooks_in no_hooks d) _ h filters.2 in
-    let made : Head = record {
-      moment = moment.0;
-      gtid = gtid.0;
-      pseudo = pseudo.0;
-      nodes = nodes.0;
-      block = block.0;
-      blocks = blocks.0;
-      aliases = aliases.0;
-      filters = filters.0;
-      hooks = hooks.0;
-    } in
-    let bs = block-list blocks.0 (optional-at (codes "blocks") blocks_in [] d blocks.0 blocks.1) in
-    let as' = alias-list aliases.0 (optional-at (codes "aliases") aliases_in [] d aliases.0 aliases.1) in
-    let fs = filter-lists filters.0 (optional-at (codes "filters") filters_in no_filters d filters.0 filters.1) in
-    let of = of_nodes nodes.0 (optional-at (codes "nodes") (number_in 1 16) 1 d nodes.0 nodes.1) in
-    subst IsHead {x = made} (same_Ok made h hooks.2) (record {
+    let r = head-ok d h e in
+    let bs = block-list h.blocks (optional-at (codes "blocks") blocks_in [] d h.blocks r.blocks) in
+    let as' = alias-list h.aliases (optional-at (codes "aliases") aliases_in [] d h.aliases r.aliases) in
+    let fs = filter-lists h.filters (optional-at (codes "filters") filters_in no_filters d h.filters r.filters) in
+    let of = of_nodes h.nodes (optional-at (codes "nodes") (number_in 1 16) 1 d h.nodes r.nodes) in
+    record {
       some_node = of.0;
       few_nodes = of.1;
-      pseudo = marks pseudo.0 (optional-at (codes "pseudo") (number_in 0 1000000) 0 d pseudo.0 pseudo.1);
-      block = period block.0 (optional-at (codes "block") period_in 3600 d block.0 block.1);
+      pseudo = marks h.pseudo (optional-at (codes "pseudo") (number_in 0 1000000) 0 d h.pseudo r.pseudo);
+      block = period h.block (optional-at (codes "block") period_in 3600 d h.block r.block);
       blocks = bs.each;
       aliases = as'.each;
       master = fs.master;
       intermediate = fs.intermediate;
       aliases_rise = as'.rise;
       blocks_rise = bs.rise;
-      hooks = hook-lists hooks.0 (optional-at (codes "hooks") hooks_in no_hooks d hooks.0 hooks.1);
-    })
+      hooks = hook-lists h.hooks (optional-at (codes "hooks") hooks_in no_hooks d h.hooks r.hooks);
+    }
   where
     of_nodes : (n : ℕ) → IsAt (codes "nodes") (number_in 1 16) 1 d n → (1 ≤ n) × (n ≤ 16)
     of_nodes n (got.absent is) = (omega arith, omega arith)

@@ -14,15 +14,14 @@ use Rattle.orch_base.specs.Names.{HostPort, IsName, printed}
 use Rattle.openings.specs.declared.init.ServerInit.{ServerInit}
 use Rattle.openings.specs.Servers.{follow_on, number_of, reached_from}
 use Rattle.scenario_values.specs.declared.fault.FaultCode.TheVariants.{BadNumber, DuplicateName, DuplicateUuid}
-use Rattle.scenario_values.specs.Faults.{each_from, fails, holds, item_count, maybe, needed, only_keys, optional}
-use Rattle.scenario_values.specs.Values.{bool_in, items_in, label_in, members_in, name_in, number_in, short_in, version_in}
+use Rattle.scenario_values.specs.Faults.{each_from, fails, holds, item_count}
+use Rattle.scenario_values.specs.Values.{items_in, label_in, name_in, number_in, short_in, version_in}
 use Rattle.scenario_servers.specs.declared.given.Given.{Given}
 use Rattle.scenario_servers.specs.declared.given.Identity.{Identity}
 use Rattle.scenario_servers.specs.Names.{first_named, has_uuid, is_earlier, listed_names, listed_uuids, new_uuid, own_name, own_uuid, server_named, uuid_at}
 use Rattle.scenario_servers.specs.Openings.{init_of, inits_from, inits_of, label_at, label_of, root_in, settings_of, source_in}
-use Rattle.scenario_servers.specs.Rules.{rule_in}
-use Rattle.scenario_servers.specs.Servers.{default_version, flushes_in, history_in, identity_in, listed_in, replication_in, server_from, server_in, server_keys, servers_in, setup_in}
-use Rattle.scenario_servers.proofs.ServerSteps.{named-ok}
+use Rattle.scenario_servers.specs.Servers.{default_version, listed_in, server_in, servers_in}
+use Rattle.scenario_servers.proofs.ServerSteps.{ReadsIdentity, named-ok, server-ok}
 use Rattle.scenario_servers.proofs.Steps.{Same, bind-ok, each_from-get, each_from-length, holds-ok, maybe-ok, needed-ok, number-ok, optional-ok, same_Ok, under-ok}
 use Rattle.dump_laws.proofs.Heads.{IsLabel}
 use Rattle.dump_laws.proofs.ReadData as got
@@ -65,25 +64,18 @@ own-uuid-ok uuids n d uuid few e =
     fresh own true small e = cc
     fresh own false small e = let same : own ≡ uuid = same_Ok own uuid e in omega arith
 
-identity-has : (names : List (Option HostPort)) (uuids : List (Option ℕ)) (n : ℕ) (d : Data) (i : Identity) → n < 1000 → IsFromText d → identity_in names uuids n d ≡ Ok i → IsIdentity i
-unfolding identity_in
-identity-has names uuids n d i few read e =
-    let name = bind-ok (needed (codes "name") (own_name names n) d) _ i e in
-    let uuid = bind-ok (own_uuid uuids n d) _ i name.2 in
-    let id = bind-ok (optional (codes "server_id") (number_in 1 4294967295) (n + 1) d) _ i uuid.2 in
-    let version = bind-ok (optional (codes "version") version_in default_version d) _ i id.2 in
-    let cluster = bind-ok (maybe (codes "cluster") label_in d) _ i version.2 in
-    let found = needed-ok (codes "name") (own_name names n) d name.0 name.1 in
-    let range = ids id.0 (optional-ok (codes "server_id") (number_in 1 4294967295) (n + 1) d id.0 id.1) in
-    let made : Identity = record { name = name.0; uuid = uuid.0; server_id = id.0; version = version.0; cluster = cluster.0 } in
-    subst IsIdentity {x = made} (same_Ok made i cluster.2) (record {
-      name = own-name-ok names n found.0 name.0 found.2;
-      uuid = own-uuid-ok uuids n d uuid.0 few uuid.1;
+identity-has : (names : List (Option HostPort)) (uuids : List (Option ℕ)) (n : ℕ) (d : Data) (i : Identity) → n < 1000 → IsFromText d → ReadsIdentity names uuids n d i → IsIdentity i
+identity-has names uuids n d i few read r =
+    let found = needed-ok (codes "name") (own_name names n) d i.name r.name in
+    let range = ids i.server_id (optional-ok (codes "server_id") (number_in 1 4294967295) (n + 1) d i.server_id r.id) in
+    record {
+      name = own-name-ok names n found.0 i.name found.2;
+      uuid = own-uuid-ok uuids n d i.uuid few r.uuid;
       some_id = range.0;
       id = range.1;
-      version = versions version.0 (optional-ok (codes "version") version_in default_version d version.0 version.1);
-      cluster = labels cluster.0 (maybe-at (codes "cluster") label_in d cluster.0 cluster.1);
-    })
+      version = versions i.version (optional-ok (codes "version") version_in default_version d i.version r.version);
+      cluster = labels i.cluster (maybe-at (codes "cluster") label_in d i.cluster r.cluster);
+    }
   where
     ids : (k : ℕ) → (k ≡ n + 1) ⊎ ((v : Data) × (number_in 1 4294967295 v ≡ Ok k)) → (1 ≤ k) × (k ≤ 4294967295)
     ids k (inl is) = (omega arith, omega arith)
@@ -104,37 +96,13 @@ pub record WasRead (count : ℕ) (g : Given) : Type 0 where
   pub source : (m : ServerNo) → g.source ≡ Some m → m.0 < count
 
 server-has : (gtid : Bool) (names : List (Option HostPort)) (uuids : List (Option ℕ)) (n : ℕ) (d : Data) (g : Given) → n < 1000 → IsFromText d → server_in gtid names uuids n d ≡ Ok g → WasRead (length names) g
-unfolding server_in server_from
 server-has gtid names uuids n d g small read e =
-    let ms = bind-ok (members_in d) _ g e in
-    let keys = bind-ok (only_keys (server_keys d) ms.0) _ g ms.2 in
-    let identity = bind-ok (identity_in names uuids n d) _ g keys.2 in
-    let setup = bind-ok (setup_in d) _ g identity.2 in
-    let known = bind-ok (optional (codes "known") bool_in true d) _ g setup.2 in
-    let rule = bind-ok (maybe (codes "rule") rule_in d) _ g known.2 in
-    let history = bind-ok (maybe (codes "history") (history_in names) d) _ g rule.2 in
-    let source = bind-ok (maybe (codes "source") (server_named names) d) _ g history.2 in
-    let replication = bind-ok (replication_in gtid d) _ g source.2 in
-    let flushes = bind-ok (optional (codes "flushes") flushes_in [] d) _ g replication.2 in
-    let purged = bind-ok (optional (codes "purged") (number_in 1 4294967295) 1 d) _ g flushes.2 in
-    let dc = bind-ok (optional (codes "dc") short_in [] d) _ g purged.2 in
-    let made : Given = record {
-      identity = identity.0;
-      setup = setup.0;
-      known = known.0;
-      rule = rule.0;
-      history = history.0;
-      source = source.0;
-      replication = replication.0;
-      flushes = flushes.0;
-      purged = purged.0;
-      dc = dc.0;
-    } in
-    subst (WasRead (length names)) {x = made} (same_Ok made g dc.2) (record {
-      identity = identity-has names uuids n d identity.0 small read identity.1;
-      dc = shorts dc.0 (optional-at (codes "dc") short_in [] d dc.0 dc.1);
-      source = λ m is. sources source.0 m is (maybe-ok (codes "source") (server_named names) d source.0 source.1);
-    })
+    let r = server-ok gtid names uuids n d g e in
+    record {
+      identity = identity-has names uuids n d g.identity small read r.identity;
+      dc = shorts g.dc (optional-at (codes "dc") short_in [] d g.dc r.dc);
+      source = λ m is. sources g.source m is (maybe-ok (codes "source") (server_named names) d g.source r.source);
+    }
   where
     shorts : (text : List ℕ) → IsAt (codes "dc") short_in [] d text → IsShort text
     shorts text (got.absent is) = subst IsShort (sym is) (record { short = omega arith; text = IsUtf8-nil })

@@ -16,7 +16,7 @@ use Rattle.operations.specs.Deeds.{Deed, deed_of}
 use Rattle.operations.specs.Jobs.{seen_of, with_seen}
 use Rattle.job_laws.specs.Footing.{Footing, Within, is_under, finds_aim, finds_crossing, finds, reading, logging, looking, learn, are_held, source_shown, footing}
 use Rattle.operations.proofs.Tests.{both, or-mono, or-right, cond-mono, some-mono, or-at}
-use Rattle.job_laws.proofs.Sights.{seen-at}
+use Rattle.operations.proofs.Sights.{seen-at}
 
 -- both of two that are sure
 two : (a b a' b' : Bool) → (a ≡ true → a' ≡ true) → (b ≡ true → b' ≡ true) → (a && b) ≡ true → (a' && b') ≡ true

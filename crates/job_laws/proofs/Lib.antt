@@ -1,4 +1,3 @@
-pub mod Sights
 pub mod Spanning
 pub mod Leased
 pub mod Footings

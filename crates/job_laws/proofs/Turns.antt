@@ -41,7 +41,7 @@ use Rattle.job_laws.specs.Held.{AllShow, ShowsAt, HeldJob, KeepsHeld, IsDue}
 use Rattle.server_model.specs.Showing.{Shows}
 use Rattle.job_laws.specs.Sound.{IsBridged, AllBridged, KeepsSound}
 use Rattle.operations.proofs.Tests.{both}
-use Rattle.job_laws.proofs.Sights.{seen-at}
+use Rattle.operations.proofs.Sights.{seen-at}
 use Rattle.job_laws.proofs.Footings.{aim-by, held-mono, Within-saw, Within-logging, Within-again, read-still}
 use Rattle.job_laws.proofs.Showing.{logs-on, Bridged-run, ShowsAt-run, Shows-seen, Bridged-seen}
 use Rattle.job_laws.proofs.Modes.{gtid-run}

@@ -7,3 +7,4 @@ pub mod Left
 pub mod Marks
 pub mod Named
 pub mod Ending
+pub mod Sights

@@ -16,7 +16,7 @@ use Rattle.instance_keeper.specs.Bridges.{has_own, latest_that, ring_at}
 use Rattle.operations.specs.declared.sight.Sight.{Sight}
 use Rattle.operations.specs.Jobs.{seen_of}
 use Rattle.job_laws.specs.Footing.{source_shown}
-use Rattle.job_laws.proofs.Sights.{seen-at}
+use Rattle.operations.proofs.Sights.{seen-at}
 use Rattle.operations.specs.declared.op.Op.{Op}
 use Rattle.recovery_plans.specs.declared.outcome.LostReplica.{LostReplica}
 use Rattle.recovery_plans.specs.declared.outcome.Stopped.{Stopped}

@@ -21,7 +21,7 @@ use Rattle.job_laws.specs.Footing.{Footing, footing, finds, are_held, is_under, 
 use Rattle.job_laws.specs.Held.{Spans}
 use Rattle.job_laws.specs.Matched.{Matched, are_matched, matched_in}
 use Rattle.job_laws.proofs.Lists.{All-at}
-use Rattle.job_laws.proofs.Sights.{seen-at}
+use Rattle.operations.proofs.Sights.{seen-at}
 use Rattle.recovery_plans.specs.declared.outcome.Stopped.{Stopped}
 use Rattle.recovery_plans.specs.declared.stage.Stage.{Stage}
 use Rattle.recovery_plans.specs.declared.stage.Stage.TheVariants as stage

@@ -27,7 +27,7 @@ use Rattle.operations.specs.Jobs.{Job, position_of, seen_of, with_seen, match_fo
 use Rattle.operations.specs.Matching.{match_logs, standing_at}
 use Rattle.operations.specs.Targets.{can_attach}
 use Rattle.operations.specs.Turns.{bridge_at, Attempt, Goes, Stops, Ends, next, saw, observed, is_moved, after_status, after_look, after_ask, aim_of, is_reached, until_by, after_until, after_wait_by, after_wait, holds_seen, settles, read_by, crossed, same_again, by_set, after_match, by_match, attach_answer_of, after_answer, after_attach, by_deed}
-use Rattle.job_laws.proofs.Sights.{seen-at}
+use Rattle.operations.proofs.Sights.{seen-at}
 
 -- each server that was read still is
 abbrev pub StaysRead : List Sight → List Sight → Type 0

@@ -24,7 +24,7 @@ use Rattle.operations.specs.Turns.{bridge_at, Attempt, going}
 use Rattle.operations.proofs.Tests.{both}
 use Rattle.job_laws.specs.Footing.{Footing, footing, finds, are_held}
 use Rattle.job_laws.specs.Held.{HeldJob, KeepsHeld, IsDue, Spans}
-use Rattle.job_laws.proofs.Sights.{seen-at}
+use Rattle.operations.proofs.Sights.{seen-at}
 use Rattle.job_laws.proofs.Spanning.{seen-spans}
 use Rattle.job_laws.proofs.Turns.{Held-run, deed-kept, due-of}
 use Rattle.recovery_plans.specs.declared.purpose.Purpose.{Purpose}

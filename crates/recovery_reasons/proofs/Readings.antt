@@ -18,7 +18,7 @@ use Rattle.operations.specs.Deeds.{deed_of}
 use Rattle.operations.specs.Jobs.{Job, position_of, seen_of}
 use Rattle.operations.specs.Turns as attempt
 use Rattle.operations.specs.Turns.{Attempt, after_look, by_deed, observed}
-use Rattle.job_laws.proofs.Sights.{seen-at}
+use Rattle.operations.proofs.Sights.{seen-at}
 use Rattle.recovery_plans.specs.Deciding.{ground_of}
 use Rattle.recovery_plans.specs.declared.stage.Stage.{Stage}
 use Rattle.recovery_plans.specs.declared.stage.Stage.TheVariants as stage

@@ -25,7 +25,7 @@ use Rattle.operations.specs.Jobs.{Job, position_of, seen_of, with_seen, match_fo
 use Rattle.operations.specs.Targets.{can_attach}
 use Rattle.operations.specs.Turns as attempt
 use Rattle.operations.specs.Turns.{Attempt, next, saw, observed, is_moved, after_status, after_look, after_ask, aim_of, is_reached, until_by, after_until, after_wait_by, after_wait, holds_seen, settles, crossing_of, same_again, by_set, by_match, attach_answer_of, after_answer, after_attach, by_deed}
-use Rattle.job_laws.proofs.Sights.{seen-at}
+use Rattle.operations.proofs.Sights.{seen-at}
 use Rattle.recovery_plans.specs.Named.{spoken_to}
 
 -- what was seen of a server stays

@@ -94,6 +94,9 @@ auto-ok gtid d b e is = let on = bind-ok (bool_in d) _ b e in go on.0 gtid on.2
 pub record ReadsIdentity (names : List (Option HostPort)) (uuids : List (Option ℕ)) (n : ℕ) (d : Data) (i : Identity) : Type 0 where
   pub name : needed (codes "name") (own_name names n) d ≡ Ok i.name
   pub uuid : own_uuid uuids n d ≡ Ok i.uuid
+  pub id : optional (codes "server_id") (number_in 1 4294967295) (n + 1) d ≡ Ok i.server_id
+  pub version : optional (codes "version") version_in default_version d ≡ Ok i.version
+  pub cluster : maybe (codes "cluster") label_in d ≡ Ok i.cluster
 
 pub identity-ok : (names : List (Option HostPort)) (uuids : List (Option ℕ)) (n : ℕ) (d : Data) (i : Identity) → identity_in names uuids n d ≡ Ok i → ReadsIdentity names uuids n d i
 unfolding identity_in
@@ -103,7 +106,13 @@ identity-ok names uuids n d i e =
     let id = bind-ok (optional (codes "server_id") (number_in 1 4294967295) (n + 1) d) _ i uuid.2 in
     let version = bind-ok (optional (codes "version") version_in default_version d) _ i id.2 in
     let cluster = bind-ok (maybe (codes "cluster") label_in d) _ i version.2 in
-    subst (ReadsIdentity names uuids n d) (same_Ok _ i cluster.2) (record { name = name.1; uuid = uuid.1 })
+    subst (ReadsIdentity names uuids n d) (same_Ok _ i cluster.2) (record {
+      name = name.1;
+      uuid = uuid.1;
+      id = id.1;
+      version = version.1;
+      cluster = cluster.1;
+    })
 
 pub record HasLimit (s : Setup) : Type 0 where
   pub low : 100 ≤ s.limit
@@ -172,6 +181,7 @@ pub record ReadsServer (gtid : Bool) (names : List (Option HostPort)) (uuids : L
   pub replication : ReadsReplication gtid d g.replication
   pub flushes : optional (codes "flushes") flushes_in [] d ≡ Ok g.flushes
   pub purged : 1 ≤ g.purged
+  pub dc : optional (codes "dc") short_in [] d ≡ Ok g.dc
 
 pub server-ok : (gtid : Bool) (names : List (Option HostPort)) (uuids : List (Option ℕ)) (n : ℕ) (d : Data) (g : Given) → server_in gtid names uuids n d ≡ Ok g → ReadsServer gtid names uuids n d g
 unfolding server_in server_from
@@ -199,4 +209,5 @@ server-ok gtid names uuids n d g e =
       replication = replication-ok gtid d replication.0 replication.1;
       flushes = flushes.1;
       purged = (purged-ok d purged.0 purged.1).0;
+      dc = dc.1;
     })

@@ -46,7 +46,7 @@ use Rattle.job_laws.specs.Footing.{footing, finds, is_under, logs_at, source_sho
 use Rattle.job_laws.specs.Held.{AllShow}
 use Rattle.job_laws.specs.Matched.{ArePlaced, finds_match, matched_in}
 use Rattle.job_laws.proofs.Spanning.{bridge-parts}
-use Rattle.job_laws.proofs.Sights.{seen-at}
+use Rattle.operations.proofs.Sights.{seen-at}
 use Rattle.job_laws.proofs.Trying.{cross-tried, auto-tried, match-tried}
 use Rattle.recovery_plans.specs.declared.task.Way.{Way}
 use Rattle.recovery_plans.specs.declared.task.Way.TheVariants as way

@@ -1,12 +1,12 @@
 -- In a scenario that was read each coordinate up to which an applier is to go can be printed.
 use Rattle.std.proofs.Common.{◌≡◌, ℕ, ◌+◌, ◌<◌, ◌≤◌, ◌^◌, ◌&&◌, inl, inr, Bool, true, false, cond, leb, List, [], ◌∷◌, length, Option, Some, None, Result, Ok, Err, refl, sym, subst}
-use Rattle.std.specs.Prelude.{All, IfSome, codes, decimal, nat_le, nat_lt, option_and_then}
+use Rattle.std.specs.Prelude.{All, IfSome, codes, nat_le, nat_lt, option_and_then}
 use Rattle.std.specs.List.{after_last, before_last, list_any}
 use Rattle.std.specs.Str.Parse.{digits_value}
 use Rattle.std.proofs.lemmas.Bool.{leb-true, ltb-true}
 use Rattle.std.proofs.lemmas.Option.{same_Some}
 use Rattle.std.proofs.lemmas.List.Elements.{All-cons, All-head, All-nil, All-tail}
-use Rattle.serde_json.specs.Data.{Data, Items, no_items}
+use Rattle.serde_json.specs.Data.{Data, Items}
 use Rattle.binlog_coords.specs.declared.Coord.{Coord}
 use Rattle.binlog_coords.specs.declared.text.CoordFault.{CoordFault}
 use Rattle.binlog_coords.specs.declared.text.CoordFault.TheVariants.{NoColon}
@@ -14,26 +14,20 @@ use Rattle.binlog_coords.specs.Grammar.{coord_at, coord_of, extension_of, file_a
 use Rattle.orch_base.specs.declared.source.TheConstants.{MAX_SCENARIO_LEN}
 use Rattle.orch_base.specs.Names.{HostPort}
 use Rattle.openings.specs.declared.init.ServerInit.{ServerInit}
-use Rattle.openings.specs.declared.opening.Flaw.{Flaw}
-use Rattle.openings.specs.Flaws.{flaw_in}
-use Rattle.openings.specs.Opening.{Opened, opening}
-use Rattle.opening_checks.specs.Checked.{found_of, opening_or}
-use Rattle.opening_checks.specs.Values.{value_at}
 use Rattle.scenarios.specs.declared.scenario.Scenario.{Scenario}
-use Rattle.scenario_values.specs.declared.fault.FaultCode.{FaultCode}
-use Rattle.scenario_values.specs.declared.fault.FaultCode.TheVariants.{TooLong, TooLarge}
-use Rattle.scenario_values.specs.Faults.{each_from, holds, maybe, needed, optional}
-use Rattle.scenario_values.specs.Values.{coord_in, coord_or_fails, items_in, text_in}
+use Rattle.scenario_values.specs.declared.fault.FaultCode.TheVariants.{TooLong}
+use Rattle.scenario_values.specs.Faults.{each_from, holds, maybe}
+use Rattle.scenario_values.specs.Values.{coord_in, coord_or_fails, text_in}
 use Rattle.scenario_servers.specs.declared.given.Given.{Given}
 use Rattle.scenario_servers.specs.Names.{listed_names, listed_uuids}
 use Rattle.scenario_servers.specs.Openings.{init_of, inits_from, inits_of}
 use Rattle.scenario_servers.specs.Servers.{listed_in, server_in, servers_in}
 use Rattle.scenario_servers.proofs.ServerSteps.{server-ok}
-use Rattle.scenario_servers.proofs.Steps.{bind-ok, each_from-all, maybe-ok, needed-ok, same_Ok, under-ok}
-use Rattle.scenario_openings.specs.Openings.{code_of, fails_at, is_small, keys_of, listed_count, opening_in, opening_or_fails}
+use Rattle.scenario_servers.proofs.Steps.{bind-ok, each_from-all, maybe-ok, same_Ok}
 use Rattle.scenario_reader.specs.declared.head.Head.{Head}
-use Rattle.scenario_reader.specs.Scenarios.{head_in, json_in, keys_in, scenario_from, scenario_in, scenario_with, turns_in}
+use Rattle.scenario_reader.specs.Scenarios.{json_in, scenario_from, scenario_in, scenario_with}
 use Rattle.scenario_dump.specs.Tidy.{IsWritten}
+use Rattle.scenario_reader.proofs.Parts.{from-ok, made_of, opening-same, with-ok}
 use Rattle.tidy_laws.specs.Runs.{UntilsCanBePrinted}
 
 -- ---- a coordinate
@@ -121,39 +115,16 @@ inits-written gs n (x ∷ xs) all =
     All-cons (λ (i : ServerInit). IfSome i.until IsWritten) (init_of gs n x) (inits_from gs (n + 1) xs) (All-head IsPrinted x xs all)
     (inits-written gs (n + 1) xs (All-tail IsPrinted x xs all))
 
-never : {A : Type 0} (code : FaultCode) (parts : List (List ℕ)) (x : A) → fails_at code parts ≡ Ok x → ⊥
-never code [] x e = cc
-never code (part ∷ parts) x e = never code parts x (under-ok part (fails_at code parts) x e)
-
-opening-same : (servers : List ServerInit) (gtid : Bool) (o : Opened) → opening_in servers gtid ≡ Ok o → o.servers ≡ servers
-unfolding opening_in
-opening-same servers gtid o e =
-    let small = bind-ok (holds TooLarge (is_small (length servers) (listed_count servers))) _ o e in
-    go (flaw_in servers) small.2
-  where
-    go : (f : Option (Flaw × ℕ)) → opening_or_fails (opening_or (opening servers gtid) (found_of servers f)) ≡ Ok o → o.servers ≡ servers
-    go None e = subst (λ (x : Opened). x.servers ≡ servers) (same_Ok (opening servers gtid) o e) refl
-    go (Some f) e = absurd (never (code_of f.0) (codes "servers" ∷ decimal f.1 ∷ keys_of (value_at servers f.0 f.1)) o e)
-
 -- ---- the whole
 
 with-written : (head : Head) (given : List (Option HostPort) × List Given) (items : Items) (s : Scenario) → All IsPrinted given.1 → scenario_with head given items ≡ Ok s → UntilsCanBePrinted s
-unfolding scenario_with
 with-written head given items s all e =
-    let o = bind-ok (opening_in (inits_of given.1) head.gtid) _ s e in
-    let ts = bind-ok (turns_in given.0 o.0.servers head.nodes items) _ s o.2 in
-    subst UntilsCanBePrinted (same_Ok _ s ts.2)
-    (subst (λ (is : List ServerInit). All (λ i. IfSome i.until IsWritten) is) (sym (opening-same (inits_of given.1) head.gtid o.0 o.1)) (inits-written given.1 0 given.1 all))
+    let r = with-ok head given items s e in
+    subst UntilsCanBePrinted {x = made_of head given.1 r.opened r.turns} r.is
+    (subst (λ (is : List ServerInit). All (λ i. IfSome i.until IsWritten) is) (sym (opening-same (inits_of given.1) head.gtid r.opened r.opens)) (inits-written given.1 0 given.1 all))
 
 from-data : (d : Data) (s : Scenario) → scenario_from d ≡ Ok s → UntilsCanBePrinted s
-unfolding scenario_from
-from-data d s e =
-    let keys = bind-ok (keys_in d) _ s e in
-    let head = bind-ok (head_in d) _ s keys.2 in
-    let given = bind-ok (needed (codes "servers") (servers_in head.0.gtid) d) _ s head.2 in
-    let listed = bind-ok (optional (codes "turns") items_in no_items d) _ s given.2 in
-    let servers = needed-ok (codes "servers") (servers_in head.0.gtid) d given.0 given.1 in
-    with-written head.0 given.0 listed.0 s (servers-written head.0.gtid servers.0 given.0 servers.2) listed.2
+from-data d s e = let r = from-ok d s e in with-written r.head r.given r.items s (servers-written r.head.gtid r.servers r.given r.gives) r.whole
 
 -- what bytes are read as
 pub read-written : (bytes : List ℕ) (s : Scenario) → scenario_in bytes ≡ Ok s → UntilsCanBePrinted s
