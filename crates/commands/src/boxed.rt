@@ -8,9 +8,14 @@ use std::alloc::Global;
 use std::marker::Model;
 
 /// A GTID set on the heap, which contracts see as that set.
-#[derive(Drop)]
 pub struct BoxedSet {
     set: Box<GtidSet>,
+}
+
+impl Drop for BoxedSet {
+    fn drop(self) {
+        let BoxedSet { set: _set } = self;
+    }
 }
 
 impl Model for BoxedSet {

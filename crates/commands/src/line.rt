@@ -53,7 +53,6 @@ pub enum HookPhase {
 }
 
 /// What a line says of a recovery.
-#[derive(Drop)]
 pub struct RecoveryLine {
     /// Its number, counted from 1.
     pub id: u64,
@@ -68,6 +67,21 @@ pub struct RecoveryLine {
     pub outcome: Ending,
     /// Whether it is acknowledged.
     pub acked: bool,
+}
+
+impl Drop for RecoveryLine {
+    fn drop(self) {
+        let RecoveryLine {
+            id: _,
+            cluster: _cluster,
+            kind: _,
+            failed: _,
+            begun: _,
+            ended: _,
+            outcome: _,
+            acked: _,
+        } = self;
+    }
 }
 
 impl RecoveryLine {
@@ -254,9 +268,14 @@ impl Line {
 }
 
 /// Lines in order, which contracts see as that list.
-#[derive(Drop)]
 pub struct Lines {
     lines: Vec<Line>,
+}
+
+impl Drop for Lines {
+    fn drop(self) {
+        let Lines { lines: _lines } = self;
+    }
 }
 
 impl Model for Lines {
@@ -287,7 +306,8 @@ impl Lines {
     pub fn into_vec(self) -> Vec<Line>
         ensures { result.items ≡ self }
     {
-        self.lines
+        let Lines { lines } = self;
+        lines
     }
 
     /// The same lines once more.

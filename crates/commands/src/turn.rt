@@ -19,9 +19,14 @@ pub struct Command {
 }
 
 /// An answer for each server, by number, which contracts see as that list.
-#[derive(Drop)]
 pub struct Answers {
     answers: Vec<bool>,
+}
+
+impl Drop for Answers {
+    fn drop(self) {
+        let Answers { answers: _answers } = self;
+    }
 }
 
 impl Model for Answers {
@@ -51,7 +56,8 @@ impl Answers {
     pub fn into_vec(self) -> Vec<bool>
         ensures { result.items ≡ self }
     {
-        self.answers
+        let Answers { answers } = self;
+        answers
     }
 
     /// The same answers once more.
@@ -85,7 +91,6 @@ impl Found {
 }
 
 /// What a command is given beside its instances.
-#[derive(Drop)]
 pub struct Keys {
     /// The rule of promotion.
     pub rule: Option<Rule>,
@@ -96,6 +101,18 @@ pub struct Keys {
     /// At most 255 bytes.
     pub owner: Option<OwnedText>,
     pub pattern: Option<Found>,
+}
+
+impl Drop for Keys {
+    fn drop(self) {
+        let Keys {
+            rule: _,
+            duration: _,
+            reason: _reason,
+            owner: _owner,
+            pattern: _pattern,
+        } = self;
+    }
 }
 
 fn copy_label(alloc: Global, label: &Option<OwnedText>) -> Result<Option<OwnedText>, Memory>
@@ -132,10 +149,18 @@ impl Keys {
 }
 
 /// A command with all that it is given.
-#[derive(Drop)]
 pub struct CommandTurn {
     pub command: Command,
     pub keys: Keys,
+}
+
+impl Drop for CommandTurn {
+    fn drop(self) {
+        let CommandTurn {
+            command: _command,
+            keys: _keys,
+        } = self;
+    }
 }
 
 fn is_within(no: Option<ServerNo>, servers: u32) -> bool

@@ -12,10 +12,18 @@ use std::alloc::Global;
 use std::marker::Model;
 
 /// A set of GTIDs with room for so many intervals, so that a GTID is added without memory.
-#[derive(Drop)]
 pub struct ReservedSet {
     intervals: Vec<Interval>,
     room: u64,
+}
+
+impl Drop for ReservedSet {
+    fn drop(self) {
+        let ReservedSet {
+            intervals: _intervals,
+            room: _,
+        } = self;
+    }
 }
 
 impl Model for ReservedSet {

@@ -18,9 +18,16 @@ use std::alloc::Global;
 use std::marker::Model;
 
 /// A set of GTIDs.
-#[derive(Drop)]
 pub struct GtidSet {
     intervals: Vec<Interval>,
+}
+
+impl Drop for GtidSet {
+    fn drop(self) {
+        let GtidSet {
+            intervals: _intervals,
+        } = self;
+    }
 }
 
 impl Model for GtidSet {

@@ -8,13 +8,21 @@ use std::marker::Model;
 
 /// A hook of a recovery (orchestrator's documentation, "Recovery hooks"). No process is started: what it answers is
 /// given beside it.
-#[derive(Drop)]
 pub struct Hook {
     /// What runs, with words in braces for the values of the recovery: 1 to 1,000 bytes, none of them a control
     /// character.
     pub text: OwnedText,
     /// The exit that it answers.
     pub exit: u8,
+}
+
+impl Drop for Hook {
+    fn drop(self) {
+        let Hook {
+            text: _text,
+            exit: _,
+        } = self;
+    }
 }
 
 impl Hook {
@@ -37,9 +45,14 @@ impl Hook {
 }
 
 /// Hooks in the order in which they run, which contracts see as that list.
-#[derive(Drop)]
 pub struct HookList {
     hooks: Vec<Hook>,
+}
+
+impl Drop for HookList {
+    fn drop(self) {
+        let HookList { hooks: _hooks } = self;
+    }
 }
 
 impl Model for HookList {
@@ -70,7 +83,8 @@ impl HookList {
     pub fn into_vec(self) -> Vec<Hook>
         ensures { result.items ≡ self }
     {
-        self.hooks
+        let HookList { hooks } = self;
+        hooks
     }
 
     /// The same hooks once more.
@@ -115,7 +129,6 @@ fn same_hooks(hooks: &[Hook], others: &[Hook]) -> bool
 
 /// The hooks of all recoveries, by when they run (orchestrator's configuration, PreFailoverProcesses,
 /// PostFailoverProcesses, PostUnsuccessfulFailoverProcesses).
-#[derive(Drop)]
 pub struct Hooks {
     /// Before a recovery; an exit that isn't 0 ends it.
     pub pre_failover: HookList,
@@ -123,6 +136,16 @@ pub struct Hooks {
     pub post_failover: HookList,
     /// When a recovery failed.
     pub post_unsuccessful: HookList,
+}
+
+impl Drop for Hooks {
+    fn drop(self) {
+        let Hooks {
+            pre_failover: _pre_failover,
+            post_failover: _post_failover,
+            post_unsuccessful: _post_unsuccessful,
+        } = self;
+    }
 }
 
 impl Hooks {

@@ -78,7 +78,6 @@ pub(crate) fn placeholder_named(word: &str) -> Option<Placeholder>
 }
 
 /// What the hooks of a recovery are told of it.
-#[derive(Drop)]
 pub struct Values {
     /// The analysis of the failed server when the recovery began, by orchestrator's name.
     pub failure_type: OwnedText,
@@ -92,6 +91,19 @@ pub struct Values {
     pub successor: Option<Name>,
     /// Whether the recovery is done.
     pub successful: bool,
+}
+
+impl Drop for Values {
+    fn drop(self) {
+        let Values {
+            failure_type: _failure_type,
+            failed: _failed,
+            cluster: _cluster,
+            alias: _alias,
+            successor: _successor,
+            successful: _,
+        } = self;
+    }
 }
 
 // The host of a server, if there is one.

@@ -136,7 +136,6 @@ fn renewal(kept: &Instance, o: &Observation) -> Result<Option<Change>, Memory>
 }
 
 /// What orchestrator knows: the instances, downtimes and candidates by the servers' numbers, and the switch.
-#[derive(Drop)]
 pub struct Book {
     servers: ServerList,
     instances: Instances,
@@ -145,6 +144,20 @@ pub struct Book {
     switch: Option<bool>,
     rings: Vec<Ring>,
     leases: Vec<Option<u64>>,
+}
+
+impl Drop for Book {
+    fn drop(self) {
+        let Book {
+            servers: _servers,
+            instances: _instances,
+            downtimes: _downtimes,
+            candidates: _candidates,
+            switch: _switch,
+            rings: _rings,
+            leases: _leases,
+        } = self;
+    }
 }
 
 impl Model for Book {

@@ -51,9 +51,14 @@ pub fn bridge_in(no: ServerNo, seen: &Seen) -> Option<Bridge>
 }
 
 /// The latest bridges of a server, the oldest first.
-#[derive(Drop)]
 pub(crate) struct Ring {
     bridges: HeapCircularBuffer<Bridge>,
+}
+
+impl Drop for Ring {
+    fn drop(self) {
+        let Ring { bridges: _bridges } = self;
+    }
 }
 
 impl Model for Ring {

@@ -10,12 +10,22 @@ use std::alloc::Global;
 use std::marker::Model;
 
 /// The servers by number, and their numbers by name.
-#[derive(Drop)]
 pub(crate) struct ServerList {
     settings: Vec<Settings>,
     names: Vec<Name>,
     order: Vec<ServerNo>,
     ranks: Vec<u32>,
+}
+
+impl Drop for ServerList {
+    fn drop(self) {
+        let ServerList {
+            settings: _settings,
+            names: _names,
+            order: _order,
+            ranks: _ranks,
+        } = self;
+    }
 }
 
 impl Model for ServerList {

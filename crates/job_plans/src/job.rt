@@ -23,7 +23,6 @@ use std::alloc::Global;
 use std::marker::Model;
 
 /// A plan's operations, of which some are done, and what was seen on the way.
-#[derive(Drop)]
 pub struct Job {
     id: u64,
     // How many waits one operation has.
@@ -36,6 +35,21 @@ pub struct Job {
     waited: u32,
     // The servers that it stopped and hasn't started.
     hands: Vec<ServerNo>,
+}
+
+impl Drop for Job {
+    fn drop(self) {
+        let Job {
+            id: _,
+            wait: _,
+            ops: _ops,
+            done: _,
+            seen: _seen,
+            matches: _matches,
+            waited: _,
+            hands: _hands,
+        } = self;
+    }
 }
 
 impl Model for Job {

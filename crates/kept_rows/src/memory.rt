@@ -16,12 +16,22 @@ use std::alloc::Global;
 use std::marker::Model;
 
 /// A keeper in memory.
-#[derive(Drop)]
 pub struct MemKeeper {
     rows: Vec<Row>,
     fail_at: Vec<u64>,
     calls: u64,
     faults: u64,
+}
+
+impl Drop for MemKeeper {
+    fn drop(self) {
+        let MemKeeper {
+            rows: _rows,
+            fail_at: _fail_at,
+            calls: _,
+            faults: _,
+        } = self;
+    }
 }
 
 impl Model for MemKeeper {

@@ -8,7 +8,6 @@ use orch_base::{Ending, Kind, Moment, OwnedText, ServerNo};
 use std::alloc::Global;
 
 /// A recovery, as the audit has it (orchestrator's documentation, "Topology recovery").
-#[derive(Drop)]
 pub struct Recovery {
     /// Its number, counted from 1.
     pub id: u64,
@@ -28,6 +27,22 @@ pub struct Recovery {
     pub acked: bool,
     /// For how many seconds from its begin it blocks others: the period of its cluster when it was begun.
     pub block: u64,
+}
+
+impl Drop for Recovery {
+    fn drop(self) {
+        let Recovery {
+            id: _,
+            cluster: _cluster,
+            kind: _,
+            failed: _,
+            begun: _,
+            ended: _,
+            outcome: _,
+            acked: _,
+            block: _,
+        } = self;
+    }
 }
 
 impl Recovery {
@@ -65,22 +80,32 @@ impl Recovery {
     pub fn into_row(self) -> RecoveryRow
         ensures { result ≡ as_row self }
     {
+        let Recovery {
+            id,
+            cluster,
+            kind,
+            failed,
+            begun,
+            ended,
+            outcome,
+            acked,
+            block,
+        } = self;
         RecoveryRow {
-            id: self.id,
-            cluster: self.cluster,
-            kind: self.kind,
-            failed: self.failed,
-            begun: self.begun,
-            ended: self.ended,
-            outcome: self.outcome,
-            acked: self.acked,
-            block: Some(self.block),
+            id,
+            cluster,
+            kind,
+            failed,
+            begun,
+            ended,
+            outcome,
+            acked,
+            block: Some(block),
         }
     }
 }
 
 /// A recovery, as its row keeps it.
-#[derive(Drop)]
 pub struct RecoveryRow {
     /// Its number, counted from 1.
     pub id: u64,
@@ -100,6 +125,22 @@ pub struct RecoveryRow {
     pub acked: bool,
     /// For how many seconds from its begin it blocks others: none in a row that was kept before rows had it.
     pub block: Option<u64>,
+}
+
+impl Drop for RecoveryRow {
+    fn drop(self) {
+        let RecoveryRow {
+            id: _,
+            cluster: _cluster,
+            kind: _,
+            failed: _,
+            begun: _,
+            ended: _,
+            outcome: _,
+            acked: _,
+            block: _,
+        } = self;
+    }
 }
 
 impl RecoveryRow {
@@ -144,16 +185,27 @@ impl RecoveryRow {
     pub fn into_recovery(self, period: u64) -> Recovery
         ensures { result ≡ as_recovery period self }
     {
+        let RecoveryRow {
+            id,
+            cluster,
+            kind,
+            failed,
+            begun,
+            ended,
+            outcome,
+            acked,
+            block,
+        } = self;
         Recovery {
-            id: self.id,
-            cluster: self.cluster,
-            kind: self.kind,
-            failed: self.failed,
-            begun: self.begun,
-            ended: self.ended,
-            outcome: self.outcome,
-            acked: self.acked,
-            block: self.block.unwrap_or(period),
+            id,
+            cluster,
+            kind,
+            failed,
+            begun,
+            ended,
+            outcome,
+            acked,
+            block: block.unwrap_or(period),
         }
     }
 }

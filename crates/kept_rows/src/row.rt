@@ -10,7 +10,6 @@ use orch_base::{Moment, OwnedText, ServerNo};
 use std::alloc::Global;
 
 /// A time for which a server's analysis begins no recovery (orchestrator's documentation, "Downtime").
-#[derive(Drop)]
 pub struct Downtime {
     /// The server.
     pub no: ServerNo,
@@ -22,6 +21,18 @@ pub struct Downtime {
     pub owner: OwnedText,
     /// Why: at most 255 bytes.
     pub reason: OwnedText,
+}
+
+impl Drop for Downtime {
+    fn drop(self) {
+        let Downtime {
+            no: _,
+            begun: _,
+            until: _,
+            owner: _owner,
+            reason: _reason,
+        } = self;
+    }
 }
 
 impl Downtime {

@@ -34,10 +34,18 @@ pub enum ReleaseAnswer {
 
 /// The kept claim, and until when each node remembers that it is active. A node is active as long as it remembers a
 /// moment that hasn't come; it remembers by itself, so it may act without a look at the kept claim.
-#[derive(Drop)]
 pub struct Claims {
     kept: Option<(u32, Moment)>,
     remembered: Vec<Option<Moment>>,
+}
+
+impl Drop for Claims {
+    fn drop(self) {
+        let Claims {
+            kept: _kept,
+            remembered: _remembered,
+        } = self;
+    }
 }
 
 impl Model for Claims {

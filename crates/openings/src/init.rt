@@ -8,7 +8,6 @@ use orch_base::{Memory, ServerNo, Settings};
 use std::alloc::Global;
 
 /// A server as a scenario gives it. The fields from `executed` to `until` speak of a server with a source.
-#[derive(Drop)]
 pub struct ServerInit {
     pub settings: Settings,
     /// Whether the server refuses ordinary clients' writes.
@@ -41,6 +40,30 @@ pub struct ServerInit {
     pub flushes: Counts,
     /// The first file that its binary log keeps: those before it are purged. 1 to 4,294,967,295; 1 without a log.
     pub purged: u32,
+}
+
+impl Drop for ServerInit {
+    fn drop(self) {
+        let ServerInit {
+            settings: _settings,
+            read_only: _,
+            up: _,
+            desk: _,
+            feed: _,
+            history: _history,
+            source: _,
+            executed: _,
+            at: _,
+            read: _,
+            io: _,
+            sql: _,
+            auto: _,
+            detached: _,
+            until: _,
+            flushes: _flushes,
+            purged: _,
+        } = self;
+    }
 }
 
 // The same history once more, if there is one.

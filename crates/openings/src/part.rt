@@ -19,9 +19,14 @@ pub struct Part {
 }
 
 /// A history as a list of parts, which contracts see as that list.
-#[derive(Drop)]
 pub struct Parts {
     parts: Vec<Part>,
+}
+
+impl Drop for Parts {
+    fn drop(self) {
+        let Parts { parts: _parts } = self;
+    }
 }
 
 impl Model for Parts {
@@ -67,14 +72,20 @@ impl Parts {
     pub fn into_vec(self) -> Vec<Part>
         ensures { result.items ≡ self }
     {
-        self.parts
+        let Parts { parts } = self;
+        parts
     }
 }
 
 /// Numbers of transactions, which contracts see as that list: after so many of them the log was flushed.
-#[derive(Drop)]
 pub struct Counts {
     counts: Vec<u64>,
+}
+
+impl Drop for Counts {
+    fn drop(self) {
+        let Counts { counts: _counts } = self;
+    }
 }
 
 impl Model for Counts {
@@ -119,7 +130,8 @@ impl Counts {
     pub fn into_vec(self) -> Vec<u64>
         ensures { result.items ≡ self }
     {
-        self.counts
+        let Counts { counts } = self;
+        counts
     }
 }
 

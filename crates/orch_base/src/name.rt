@@ -48,10 +48,18 @@ impl fmt::Display for NameFault {
 }
 
 /// A server's name: a host of 1 to 255 letters, digits, `.`, `-` and `_`, and a port of 1 to 65535.
-#[derive(Drop)]
 pub struct Name {
     host: String,
     port: u16,
+}
+
+impl Drop for Name {
+    fn drop(self) {
+        let Name {
+            host: _host,
+            port: _,
+        } = self;
+    }
 }
 
 impl Model for Name {

@@ -74,7 +74,6 @@ pub enum IoState {
 }
 
 /// The settings of a server, which never change.
-#[derive(Drop)]
 pub struct Settings {
     /// The server's name, by which every command and text names it.
     pub name: Name,
@@ -91,6 +90,21 @@ pub struct Settings {
     pub limit: u64,
     /// The data centre that the server stands in: 0 to 255 bytes, empty where none is told.
     pub dc: OwnedText,
+}
+
+impl Drop for Settings {
+    fn drop(self) {
+        let Settings {
+            name: _name,
+            uuid: _,
+            server_id: _,
+            version: _,
+            cluster: _cluster,
+            logs: _,
+            limit: _,
+            dc: _dc,
+        } = self;
+    }
 }
 
 impl Settings {

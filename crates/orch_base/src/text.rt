@@ -5,9 +5,14 @@ use std::alloc::Global;
 use std::marker::Model;
 
 /// A text, as a cluster's label, which contracts see as the list of its bytes.
-#[derive(Drop)]
 pub struct OwnedText {
     text: String,
+}
+
+impl Drop for OwnedText {
+    fn drop(self) {
+        let OwnedText { text: _text } = self;
+    }
 }
 
 impl Model for OwnedText {
@@ -56,6 +61,7 @@ impl OwnedText {
     pub fn into_string(self) -> String
         ensures { string_bytes result ≡ self }
     {
-        self.text
+        let OwnedText { text } = self;
+        text
     }
 }

@@ -39,7 +39,6 @@ use unended_jobs::Unended;
 use world_openings::OpenedWorld;
 
 /// The servers of a scenario after some turns, the moment, and what orchestrator knows.
-#[derive(Drop)]
 pub struct Engine {
     world: World,
     pub(crate) moment: Moment,
@@ -49,6 +48,21 @@ pub struct Engine {
     configuration: Configuration,
     pub(crate) claims: Claims,
     pub(crate) last_holder: Option<u32>,
+}
+
+impl Drop for Engine {
+    fn drop(self) {
+        let Engine {
+            world: _world,
+            moment: _,
+            knowledge: _knowledge,
+            slots: _slots,
+            reads: _,
+            configuration: _configuration,
+            claims: _claims,
+            last_holder: _,
+        } = self;
+    }
 }
 
 impl Model for Engine {

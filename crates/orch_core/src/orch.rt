@@ -28,12 +28,21 @@ use unended_jobs::Unended;
 
 /// The servers of a scenario after some turns, the moment, what orchestrator knows, and the journal: each turn so far
 /// with its reply, in order.
-#[derive(Drop)]
 pub struct Orch {
     engine: Engine,
     journal: Vec<(Turn, Reply)>,
     // for each server the place in the journal, from 1, of its last poll-read turn, or 0
     polls: Vec<u64>,
+}
+
+impl Drop for Orch {
+    fn drop(self) {
+        let Orch {
+            engine: _engine,
+            journal: _journal,
+            polls: _polls,
+        } = self;
+    }
 }
 
 impl Model for Orch {
@@ -205,7 +214,12 @@ impl Orch {
         ensures state { result.0 ≡ self.state }
         ensures journal { result.1.items ≡ self.journal }
     {
-        (self.engine, self.journal)
+        let Orch {
+            engine,
+            journal,
+            polls: _polls,
+        } = self;
+        (engine, journal)
     }
 
     /// The servers' numbers in name order, of which there is at least one.

@@ -9,7 +9,6 @@ use std::alloc::Global;
 use std::marker::Model;
 
 /// The hooks of one recovery: what they are told of it, and how many have run.
-#[derive(Drop)]
 pub struct HookRun {
     hooks: Hooks,
     // What they are told until the recovery is done.
@@ -19,6 +18,18 @@ pub struct HookRun {
     // How many have run before it, and behind it.
     before: u32,
     after: u32,
+}
+
+impl Drop for HookRun {
+    fn drop(self) {
+        let HookRun {
+            hooks: _hooks,
+            told: _told,
+            checked: _,
+            before: _,
+            after: _,
+        } = self;
+    }
 }
 
 impl Model for HookRun {

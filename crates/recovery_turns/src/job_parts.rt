@@ -11,7 +11,6 @@ use orch_base::ServerNo;
 use server_words::Ask;
 
 /// The job of a recovery, by its parts.
-#[derive(Drop)]
 pub(crate) struct JobParts {
     pub(crate) id: u64,
     pub(crate) wait: u32,
@@ -23,6 +22,21 @@ pub(crate) struct JobParts {
     pub(crate) matches: Vec<Match>,
     // The servers that it stopped and hasn't started.
     pub(crate) hands: Vec<ServerNo>,
+}
+
+impl Drop for JobParts {
+    fn drop(self) {
+        let JobParts {
+            id: _,
+            wait: _,
+            ops: _ops,
+            done: _,
+            waited: _,
+            seen: _seen,
+            matches: _matches,
+            hands: _hands,
+        } = self;
+    }
 }
 
 impl JobParts {

@@ -13,7 +13,6 @@ use recovery_plans::{Follower, LostReplica, Means, Purpose, Stage, Stopped, Task
 use std::marker::Model;
 
 /// What is done with the replicas of a server that failed, or that gives up its place.
-#[derive(Drop)]
 pub struct RecoveryJob {
     pub(crate) purpose: Purpose,
     // How the others go.
@@ -44,6 +43,30 @@ pub struct RecoveryJob {
     pub(crate) promoted: Option<ServerNo>,
     pub(crate) followers: Vec<Follower>,
     pub(crate) lost: Vec<LostReplica>,
+}
+
+impl Drop for RecoveryJob {
+    fn drop(self) {
+        let RecoveryJob {
+            purpose: _purpose,
+            means: _means,
+            core: _core,
+            stage: _stage,
+            queue: _queue,
+            begun: _,
+            failed: _,
+            replicas: _replicas,
+            order: _order,
+            drained: _drained,
+            chosen: _,
+            lead: _,
+            eligible: _eligible,
+            swaps: _,
+            promoted: _,
+            followers: _followers,
+            lost: _lost,
+        } = self;
+    }
 }
 
 impl Model for RecoveryJob {

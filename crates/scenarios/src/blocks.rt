@@ -9,12 +9,20 @@ use std::alloc::Global;
 use std::marker::Model;
 
 /// A cluster's label, and how long recoveries of the cluster block the next one (RecoveryPeriodBlockSeconds).
-#[derive(Drop)]
 pub struct Block {
     /// 1 to 261 bytes.
     pub cluster: OwnedText,
     /// At most 1,000,000,000.
     pub seconds: u64,
+}
+
+impl Drop for Block {
+    fn drop(self) {
+        let Block {
+            cluster: _cluster,
+            seconds: _,
+        } = self;
+    }
 }
 
 impl Block {

@@ -10,12 +10,20 @@ use std::alloc::Global;
 use std::marker::Model;
 
 /// A cluster's label, and the alias by which filters may name the cluster.
-#[derive(Drop)]
 pub struct Alias {
     /// 1 to 261 bytes.
     pub cluster: OwnedText,
     /// At most 255 bytes.
     pub alias: OwnedText,
+}
+
+impl Drop for Alias {
+    fn drop(self) {
+        let Alias {
+            cluster: _cluster,
+            alias: _alias,
+        } = self;
+    }
 }
 
 impl Alias {

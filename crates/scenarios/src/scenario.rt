@@ -67,7 +67,6 @@ fn copy_turns(alloc: Global, turns: &[Turn]) -> Result<Vec<Turn>, Memory>
 /// The servers as they begin, the moment, which transactions are marks, how many orchestrators there are, the block
 /// periods, the clusters' aliases, whose recoveries may begin by themselves and what they tell, what is known at the
 /// opening and how it is promoted, and the turns that follow.
-#[derive(Drop)]
 pub struct Scenario {
     pub opening: Opening,
     /// When it begins: at most 1,000,000,000,000,000.
@@ -89,6 +88,25 @@ pub struct Scenario {
     /// For each server the rule with which it is registered at the opening, if any.
     pub rules: Rules,
     pub turns: Turns,
+}
+
+impl Drop for Scenario {
+    fn drop(self) {
+        let Scenario {
+            opening: _opening,
+            moment: _,
+            pseudo: _,
+            nodes: _,
+            block: _,
+            blocks: _blocks,
+            aliases: _aliases,
+            filters: _filters,
+            hooks: _hooks,
+            known: _known,
+            rules: _rules,
+            turns: _turns,
+        } = self;
+    }
 }
 
 impl Scenario {

@@ -7,7 +7,6 @@ use orch_base::{ServerNo, Settings, SourceState, Txn};
 use std::marker::Model;
 
 /// A server: what it has executed, its log, and where it stands in its source's log.
-#[derive(Drop)]
 pub struct Server {
     pub settings: Settings,
     /// What it has executed, and its own binary log. One that doesn't log keeps this list, too, and shows an empty log.
@@ -33,6 +32,27 @@ pub struct Server {
     pub desk: bool,
     /// Whether the server reaches its source.
     pub feed: bool,
+}
+
+impl Drop for Server {
+    fn drop(self) {
+        let Server {
+            settings: _settings,
+            log: _log,
+            first: _,
+            source: _,
+            exec: _,
+            read: _,
+            auto: _,
+            receiver: _,
+            applier: _,
+            until: _,
+            read_only: _,
+            up: _,
+            desk: _,
+            feed: _,
+        } = self;
+    }
 }
 
 impl Model for Server {

@@ -36,7 +36,6 @@ use std::alloc::Global;
 use std::marker::Model;
 
 /// All servers.
-#[derive(Drop)]
 pub struct World {
     servers: Vec<Server>,
     // How many transactions of its own each server has executed.
@@ -47,6 +46,19 @@ pub struct World {
     purged: Vec<ReservedSet>,
     gtid: bool,
     errant: u64,
+}
+
+impl Drop for World {
+    fn drop(self) {
+        let World {
+            servers: _servers,
+            own: _own,
+            executed: _executed,
+            purged: _purged,
+            gtid: _,
+            errant: _,
+        } = self;
+    }
 }
 
 impl Model for World {

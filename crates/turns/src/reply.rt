@@ -12,11 +12,19 @@ use std::marker::Model;
 use std::mem::size_of;
 
 /// Why a job failed, and the lines that it answers.
-#[derive(Drop)]
 pub struct Failure {
     pub cause: Cause,
     /// What its hooks tell: none of a job that isn't a recovery's.
     pub lines: Lines,
+}
+
+impl Drop for Failure {
+    fn drop(self) {
+        let Failure {
+            cause: _cause,
+            lines: _lines,
+        } = self;
+    }
 }
 
 impl Failure {
@@ -32,9 +40,14 @@ impl Failure {
 }
 
 /// A job's failure on the heap, which contracts see as that failure.
-#[derive(Drop)]
 pub struct BoxedFailure {
     failure: Box<Failure>,
+}
+
+impl Drop for BoxedFailure {
+    fn drop(self) {
+        let BoxedFailure { failure: _failure } = self;
+    }
 }
 
 impl Model for BoxedFailure {

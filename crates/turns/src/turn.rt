@@ -10,9 +10,14 @@ use std::marker::Model;
 use std::mem::size_of;
 
 /// A command turn on the heap, which contracts see as that turn.
-#[derive(Drop)]
 pub struct BoxedCommand {
     turn: Box<CommandTurn>,
+}
+
+impl Drop for BoxedCommand {
+    fn drop(self) {
+        let BoxedCommand { turn: _turn } = self;
+    }
 }
 
 impl Model for BoxedCommand {

@@ -13,12 +13,20 @@ use recovery_hooks::HookRun;
 use std::alloc::Global;
 
 /// What goes with a recovery: its entry in the audit, and its hooks.
-#[derive(Drop)]
 pub struct Docket {
     /// The id of its entry in the audit: a regroup has none.
     pub entry: Option<u64>,
     /// Its hooks: just a recovery that a command or a scan began runs some.
     pub hooks: Option<HookRun>,
+}
+
+impl Drop for Docket {
+    fn drop(self) {
+        let Docket {
+            entry: _,
+            hooks: _hooks,
+        } = self;
+    }
 }
 
 // What a recovery's own turn tells, with the lines of these hooks.
