@@ -92,8 +92,8 @@ impl RegroupJob {
         self.job.look(alloc, world, book, read, moment)
     }
 
-    /// Does what was looked up on this regroup and this world, and hands on what the look told. At want of memory nothing
-    /// has changed; it comes only where the regroup goes on and nothing is observed.
+    /// Does what was looked up on this regroup and this world, and hands on what the look told. At want of memory
+    /// nothing has changed; it comes only where the regroup goes on and nothing is observed.
     pub fn turn(
         &mut self,
         alloc: Global,

@@ -52,7 +52,8 @@ impl Engine {
         self.act(alloc, keeper, act, written)
     }
 
-    /// The node's claim is kept first, and where it passes from another one orchestrator starts again, by the same call.
+    /// The node's claim is kept first, and where it passes from another one orchestrator starts again, by the same
+    /// call.
     pub(crate) fn claim<K: Keeper>(
         &mut self,
         alloc: Global,

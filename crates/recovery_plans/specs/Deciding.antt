@@ -39,8 +39,8 @@ use Rattle.recovery_plans.specs.Stages.{before, drain, level, move, with_bridge,
 use Rattle.recovery_plans.specs.Telling.{told}
 use Rattle.recovery_plans.specs.Whys as whys
 
--- What is decided by: the servers' settings, whether they use GTIDs, the book, and the moment at which rules of promotion
--- are looked up.
+-- What is decided by: the servers' settings, whether they use GTIDs, the book, and the moment at which rules of
+-- promotion are looked up.
 pub record Ground : Type 0 where
   pub world : World
   pub book : BookState
