@@ -16,6 +16,8 @@ use Rattle.recovery_plans.specs.Beginning.{first_source, is_master, is_takeover}
 use Rattle.recovery_plans.specs.Deciding.{expels}
 use Rattle.recovery_plans.specs.Recoveries.{Recovery}
 use Rattle.recovery_plans.specs.Stages.{tail_of, target}
+use Rattle.recovery_plans.specs.Standings as standing
+use Rattle.recovery_plans.specs.Standings.{Standing}
 use Rattle.recovery_plans.specs.Table.{info}
 use Rattle.recovery_plans.specs.Telling.{told}
 use Rattle.standing_laws.specs.Standing.{IsUnder, IsSourced, IsApart, IsFree, IsRuling, IsSourcedAsSeen, Reads}
@@ -188,37 +190,37 @@ pub record IsGiving (r : Recovery) (m d : ServerNo) : Type 0 where
   pub failed : r.failed ≡ m
   pub chosen : r.chosen ≡ Some d
 
+abbrev pub Holds : World → Recovery → Standing → Type 0
+Holds w r standing.InMastersPlace = is_master r.purpose ≡ true
+Holds w r standing.InTakeover = is_takeover r.purpose ≡ true
+Holds w r standing.Undecided = decides r.queue ≡ true
+Holds w r (standing.Chosen p) = r.chosen ≡ Some p
+Holds w r (standing.Last p) = IsLast r p
+Holds w r (standing.Crowned n) = IsCrowned r n
+Holds w r (standing.Giving m d) = IsGiving r m d
+Holds w r standing.Closed = IsClosed w r
+Holds w r (standing.Told lines) = lines ≡ told r
+Holds w r (standing.Follower q) = 0 < times q.0 (follower_nos r.outcome.followers)
+Holds w r (standing.Lost n) = IsLost r n
+Holds w r (standing.AsSeen n) = IsSourcedAsSeen w r.core.seen n
+Holds w r (standing.WayRead by) = Reads r.core.seen by
+Holds w r (standing.Sourced n) = IsSourced w n.0
+Holds w r (standing.Under n p) = IsUnder w n.0 p.0
+Holds w r (standing.Apart n) = IsApart w n.0
+Holds w r (standing.Free n) = IsFree w n.0
+Holds w r (standing.Ruling n) = IsRuling w n.0
+
+-- all of them, side by side
+abbrev pub AllHold : World → Recovery → List Standing → Type 0
+AllHold w r [] = Unit {0}
+AllHold w r (a ∷ []) = Holds w r a
+AllHold w r (a ∷ b ∷ []) = Holds w r a × Holds w r b
+AllHold w r (a ∷ b ∷ c ∷ []) = Holds w r a × Holds w r b × Holds w r c
+AllHold w r (a ∷ b ∷ c ∷ d ∷ ds) = Holds w r a × Holds w r b × Holds w r c × AllHold w r (d ∷ ds)
+
 -- how a stage's servers stand
 abbrev pub Stands : World → Recovery → Stage → Type 0
-Stands w r stage.Idle = Unit {0}
-Stands w r stage.Check = Unit {0}
-Stands w r (stage.Read n) = Unit {0}
-Stands w r (stage.Drain n) = decides r.queue ≡ true
-Stands w r (stage.Judged n) = (decides r.queue ≡ true) × IsSourcedAsSeen w r.core.seen n
-Stands w r (stage.Move n by) = (r.chosen ≡ Some (target by)) × IsSourced w n.0 × Reads r.core.seen by
-Stands w r (stage.Join n p) = (r.chosen ≡ Some p) × IsUnder w n.0 p.0
-Stands w r (stage.Expel n) = IsLost r n × IsSourced w n.0
-Stands w r (stage.Expelled n) = IsLost r n × IsApart w n.0
-Stands w r (stage.Release n) = Unit {0}
-Stands w r (stage.Level p q) = (is_master r.purpose ≡ true) × IsLast r p × (0 < times q.0 (follower_nos r.outcome.followers))
-Stands w r (stage.Swap p q) = (is_master r.purpose ≡ true) × IsLast r p × IsFree w q.0
-Stands w r (stage.Swapped p q) = (is_master r.purpose ≡ true) × IsLast r p × IsFree w q.0 × IsUnder w p.0 q.0
-Stands w r (stage.Return p q) = (is_master r.purpose ≡ true) × IsLast r p
-Stands w r (stage.Resume p q) = (is_master r.purpose ≡ true) × IsLast r p × IsUnder w q.0 p.0
-Stands w r (stage.Crown n) = (is_master r.purpose ≡ true) × IsLast r n
-Stands w r (stage.Open n) = IsCrowned r n × IsFree w n.0
-Stands w r (stage.Opened n) = IsCrowned r n × IsRuling w n.0
-Stands w r (stage.Meet m d) = IsGiving r m d
-Stands w r (stage.Shut m d) = IsGiving r m d
-Stands w r (stage.Gather m d) = IsGiving r m d
-Stands w r (stage.Look n b) = (is_takeover r.purpose ≡ true) × (r.chosen ≡ Some b.no)
-Stands w r (stage.Looked n b) = (r.chosen ≡ Some b.no) × IsSourcedAsSeen w r.core.seen n
-Stands w r (stage.Trail n b) = (r.chosen ≡ Some b.no) × IsSourced w n.0
-Stands w r (stage.Halted n b) = (r.chosen ≡ Some b.no) × IsSourced w n.0
-Stands w r (stage.Yield m d) = IsGiving r m d × IsLast r d
-Stands w r (stage.Switch m d) = IsGiving r m d × IsLast r d × IsFree w d.0
-Stands w r (stage.Switched m d) = IsGiving r m d × IsLast r d × IsFree w d.0 × IsUnder w m.0 d.0
-Stands w r (stage.Close lines) = IsClosed w r × (lines ≡ told r)
+Stands w r s = AllHold w r (info s).stands
 
 -- ---- so far
 

@@ -1,5 +1,6 @@
 pub mod Whys
 pub mod Recoveries
+pub mod Standings
 pub mod Table
 pub mod Stages
 pub mod Telling

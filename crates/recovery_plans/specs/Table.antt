@@ -8,6 +8,8 @@ use Rattle.operations.specs.declared.op.Op.{Op}
 use Rattle.operations.specs.declared.op.Op.TheVariants as op
 use Rattle.recovery_plans.specs.declared.stage.Stage.{Stage}
 use Rattle.recovery_plans.specs.declared.stage.Stage.TheVariants as stage
+use Rattle.recovery_plans.specs.Standings as standing
+use Rattle.recovery_plans.specs.Standings.{Standing}
 use Rattle.recovery_plans.specs.declared.task.Way.{Way}
 use Rattle.recovery_plans.specs.declared.task.Way.TheVariants as way
 
@@ -156,6 +158,8 @@ pub record Info : Type 0 where
   pub back : Back
   pub failing : Failing
   pub made : Made
+  -- what the recovery counts on while the stage lasts
+  pub stands : List Standing
 
 -- a stage that ends by itself, of which nothing else is to be told
 abbrev pub plain : Stage → List ServerNo → Info
@@ -176,6 +180,7 @@ plain s ns = record {
   back = Writes;
   failing = All;
   made = Nothing;
+  stands = [];
 }
 
 abbrev pub info : Stage → Info
@@ -189,23 +194,42 @@ info (stage.Drain n) = record (plain (stage.Judged n) (n ∷ [])) {
   speaks = Some n;
   more = 3;
   failing = Drains n;
+  stands = standing.Undecided ∷ [];
 }
-info (stage.Judged n) = record (plain (stage.Judged n) (n ∷ [])) { due = true; places = n ∷ []; more = 3; made = Judged n }
+info (stage.Judged n) = record (plain (stage.Judged n) (n ∷ [])) {
+  due = true;
+  places = n ∷ [];
+  more = 3;
+  made = Judged n;
+  stands = standing.Undecided ∷ standing.AsSeen n ∷ [];
+}
 info (stage.Move n by) = record (plain (stage.Join n (target by)) (n ∷ [])) {
   tail = move by n ∷ op.Start n ∷ [];
   places = n ∷ [];
   speaks = alone by n;
   more = more_on by;
   failing = Moves n by;
+  stands = standing.Chosen (target by) ∷ standing.Sourced n ∷ standing.WayRead by ∷ [];
 }
-info (stage.Join n p) = record (plain (stage.Join n p) (n ∷ [])) { places = n ∷ []; speaks = Some n; failing = Joins n; made = Follows n p }
-info (stage.Expel n) = record (plain (stage.Expelled n) (n ∷ [])) { tail = op.Detach n ∷ []; failing = Passes }
-info (stage.Expelled n) = record (plain (stage.Expelled n) (n ∷ [])) { made = Marked n }
+info (stage.Join n p) = record (plain (stage.Join n p) (n ∷ [])) {
+  places = n ∷ [];
+  speaks = Some n;
+  failing = Joins n;
+  made = Follows n p;
+  stands = standing.Chosen p ∷ standing.Under n p ∷ [];
+}
+info (stage.Expel n) = record (plain (stage.Expelled n) (n ∷ [])) {
+  tail = op.Detach n ∷ [];
+  failing = Passes;
+  stands = standing.Lost n ∷ standing.Sourced n ∷ [];
+}
+info (stage.Expelled n) = record (plain (stage.Expelled n) (n ∷ [])) { made = Marked n; stands = standing.Lost n ∷ standing.Apart n ∷ [] }
 info (stage.Release n) = record (plain (stage.Release n) (n ∷ [])) { failing = Passes }
 info (stage.Level p q) = record (plain (stage.Swap p q) (p ∷ q ∷ [])) {
   tail = op.Reset q ∷ op.Cross cross.About p q ∷ [];
   more = 5;
   failing = Instead (stage.Release q) (op.Start q ∷ []);
+  stands = standing.InMastersPlace ∷ standing.Last p ∷ standing.Follower q ∷ [];
 }
 info (stage.Swap p q) = record (plain (stage.Swapped p q) (p ∷ q ∷ [])) {
   tail = op.Cross cross.About p q ∷ [];
@@ -214,16 +238,59 @@ info (stage.Swap p q) = record (plain (stage.Swapped p q) (p ∷ q ∷ [])) {
   places = q ∷ [];
   more = 5;
   failing = Instead (stage.Return p q) (op.Cross cross.Back q p ∷ op.Start q ∷ []);
+  stands = standing.InMastersPlace ∷ standing.Last p ∷ standing.Free q ∷ [];
 }
-info (stage.Swapped p q) = record (plain (stage.Swapped p q) (p ∷ q ∷ [])) { places = q ∷ []; more = 5; made = Swapped p q }
-info (stage.Return p q) = record (plain (stage.Resume p q) (p ∷ q ∷ [])) { tail = op.Cross cross.Back q p ∷ op.Start q ∷ []; places = q ∷ [] }
-info (stage.Resume p q) = record (plain (stage.Resume p q) (p ∷ q ∷ [])) { places = q ∷ []; made = Follows q p }
-info (stage.Crown n) = record (plain (stage.Open n) (n ∷ [])) { tail = op.Reset n ∷ op.ReadOnly n false ∷ []; more = 3; closes = true }
-info (stage.Open n) = record (plain (stage.Opened n) (n ∷ [])) { tail = op.ReadOnly n false ∷ []; more = 3; closes = true; late = true; back = Nowhere }
-info (stage.Opened n) = record (plain (stage.Opened n) (n ∷ [])) { more = 3; closes = true; late = true; back = Nowhere; made = Opened n }
-info (stage.Meet m d) = record (plain (stage.Meet m d) (m ∷ d ∷ [])) { more = 7; bar = Sourced m; back = Nowhere; made = Met m d }
-info (stage.Shut m d) = record (plain (stage.Gather m d) (m ∷ d ∷ [])) { tail = op.ReadOnly m true ∷ gather m d; back = Nowhere }
-info (stage.Gather m d) = record (plain (stage.Gather m d) (m ∷ d ∷ [])) { made = Gathered d }
+info (stage.Swapped p q) = record (plain (stage.Swapped p q) (p ∷ q ∷ [])) {
+  places = q ∷ [];
+  more = 5;
+  made = Swapped p q;
+  stands = standing.InMastersPlace ∷ standing.Last p ∷ standing.Free q ∷ standing.Under p q ∷ [];
+}
+info (stage.Return p q) = record (plain (stage.Resume p q) (p ∷ q ∷ [])) {
+  tail = op.Cross cross.Back q p ∷ op.Start q ∷ [];
+  places = q ∷ [];
+  stands = standing.InMastersPlace ∷ standing.Last p ∷ [];
+}
+info (stage.Resume p q) = record (plain (stage.Resume p q) (p ∷ q ∷ [])) {
+  places = q ∷ [];
+  made = Follows q p;
+  stands = standing.InMastersPlace ∷ standing.Last p ∷ standing.Under q p ∷ [];
+}
+info (stage.Crown n) = record (plain (stage.Open n) (n ∷ [])) {
+  tail = op.Reset n ∷ op.ReadOnly n false ∷ [];
+  more = 3;
+  closes = true;
+  stands = standing.InMastersPlace ∷ standing.Last n ∷ [];
+}
+info (stage.Open n) = record (plain (stage.Opened n) (n ∷ [])) {
+  tail = op.ReadOnly n false ∷ [];
+  more = 3;
+  closes = true;
+  late = true;
+  back = Nowhere;
+  stands = standing.Crowned n ∷ standing.Free n ∷ [];
+}
+info (stage.Opened n) = record (plain (stage.Opened n) (n ∷ [])) {
+  more = 3;
+  closes = true;
+  late = true;
+  back = Nowhere;
+  made = Opened n;
+  stands = standing.Crowned n ∷ standing.Ruling n ∷ [];
+}
+info (stage.Meet m d) = record (plain (stage.Meet m d) (m ∷ d ∷ [])) {
+  more = 7;
+  bar = Sourced m;
+  back = Nowhere;
+  made = Met m d;
+  stands = standing.Giving m d ∷ [];
+}
+info (stage.Shut m d) = record (plain (stage.Gather m d) (m ∷ d ∷ [])) {
+  tail = op.ReadOnly m true ∷ gather m d;
+  back = Nowhere;
+  stands = standing.Giving m d ∷ [];
+}
+info (stage.Gather m d) = record (plain (stage.Gather m d) (m ∷ d ∷ [])) { made = Gathered d; stands = standing.Giving m d ∷ [] }
 info (stage.Look n b) = record (plain (stage.Looked n b) (n ∷ [])) {
   tail = op.Status n None ∷ [];
   reads = true;
@@ -232,8 +299,16 @@ info (stage.Look n b) = record (plain (stage.Looked n b) (n ∷ [])) {
   lead = Some b;
   more = 7;
   failing = Trails n;
+  stands = standing.InTakeover ∷ standing.Chosen b.no ∷ [];
 }
-info (stage.Looked n b) = record (plain (stage.Looked n b) (n ∷ [])) { due = true; places = n ∷ []; lead = Some b; more = 7; made = Looked n b }
+info (stage.Looked n b) = record (plain (stage.Looked n b) (n ∷ [])) {
+  due = true;
+  places = n ∷ [];
+  lead = Some b;
+  more = 7;
+  made = Looked n b;
+  stands = standing.Chosen b.no ∷ standing.AsSeen n ∷ [];
+}
 info (stage.Trail n b) = record (plain (stage.Halted n b) (n ∷ [])) {
   tail = op.Status n None ∷ [];
   reads = true;
@@ -242,12 +317,21 @@ info (stage.Trail n b) = record (plain (stage.Halted n b) (n ∷ [])) {
   lead = Some b;
   more = 3;
   failing = Trails n;
+  stands = standing.Chosen b.no ∷ standing.Sourced n ∷ [];
 }
-info (stage.Halted n b) = record (plain (stage.Halted n b) (n ∷ [])) { due = true; places = n ∷ []; lead = Some b; more = 3; made = Halted n b }
+info (stage.Halted n b) = record (plain (stage.Halted n b) (n ∷ [])) {
+  due = true;
+  places = n ∷ [];
+  lead = Some b;
+  more = 3;
+  made = Halted n b;
+  stands = standing.Chosen b.no ∷ standing.Sourced n ∷ [];
+}
 info (stage.Yield m d) = record (plain (stage.Switch m d) (m ∷ d ∷ [])) {
   tail = op.Reset d ∷ op.Cross cross.About m d ∷ [];
   places = m ∷ [];
   more = 4;
+  stands = standing.Giving m d ∷ standing.Last d ∷ [];
 }
 info (stage.Switch m d) = record (plain (stage.Switched m d) (m ∷ d ∷ [])) {
   tail = op.Cross cross.About m d ∷ [];
@@ -255,6 +339,19 @@ info (stage.Switch m d) = record (plain (stage.Switched m d) (m ∷ d ∷ [])) {
   places = m ∷ [];
   more = 4;
   back = Whole m d;
+  stands = standing.Giving m d ∷ standing.Last d ∷ standing.Free d ∷ [];
 }
-info (stage.Switched m d) = record (plain (stage.Switched m d) (m ∷ d ∷ [])) { places = m ∷ []; more = 4; back = Nowhere; made = Switched m d }
-info (stage.Close lines) = record (plain stage.Idle []) { tail = op.Finish lines ∷ []; closes = true; late = true; back = Nowhere }
+info (stage.Switched m d) = record (plain (stage.Switched m d) (m ∷ d ∷ [])) {
+  places = m ∷ [];
+  more = 4;
+  back = Nowhere;
+  made = Switched m d;
+  stands = standing.Giving m d ∷ standing.Last d ∷ standing.Free d ∷ standing.Under m d ∷ [];
+}
+info (stage.Close lines) = record (plain stage.Idle []) {
+  tail = op.Finish lines ∷ [];
+  closes = true;
+  late = true;
+  back = Nowhere;
+  stands = standing.Closed ∷ standing.Told lines ∷ [];
+}
