@@ -14,7 +14,7 @@ use Rattle.unended_jobs.specs.Unended.{IsUnended}
 use Rattle.recovery_plans.specs.declared.means.Means.{Means}
 use Rattle.recovery_plans.specs.declared.means.Means.TheVariants as means
 use Rattle.server_model.specs.Worlds.{World}
-use Rattle.orch_core.specs.Knowing.{MayTake}
+use Rattle.knowledge.specs.Knowing.{MayTake}
 use Rattle.orch_core.specs.States.{entry_id}
 
 module _ (w : World) (b : BookState) (now : Moment) (every : ℕ) (given : Command) (p : Planner) (is : IsBook b) (i_there : is_within (length b.names) given.i ≡ true) (d_there : is_within (length b.names) given.d ≡ true) where

@@ -22,9 +22,9 @@ use Rattle.unended_jobs.specs.Hooked.{front_hook, front_turn, promoted_in, rear_
 use Rattle.unended_jobs.specs.Unended.{Flown, flown}
 use Rattle.unended_jobs.specs.declared.unended.Unended.{Unended}
 use Rattle.unended_jobs.specs.declared.unended.Unended.TheVariants as unended
-use Rattle.orch_core.specs.Closings.{closed_by, closing_by, closing_for, closing_of}
+use Rattle.knowledge.specs.Closings.{closed_by, closing_by, closing_for, closing_of}
 use Rattle.orch_core.specs.States.{HaveEntries, IsOpenAt, entry_id}
-use Rattle.orch_core.specs.declared.closing.Closing.{Closing}
+use Rattle.knowledge.specs.declared.closing.Closing.{Closing}
 use Rattle.orch_core.proofs.Entries.{entries-closed, entries-with, entries-without, found-open, open-acked, open-ended}
 use Rattle.orch_core.proofs.Recoveries.{HasBegun, mapped-begun}
 

@@ -23,8 +23,8 @@ use Rattle.turns.specs.declared.turn.Step.TheVariants as step
 use Rattle.turns.specs.declared.turn.Turn.TheVariants as turn
 use Rattle.jobs_in_flight.specs.Jobs.{is_open, job_at, jobs_turned, most_turns, most_turns_by, with_job, without_job}
 use Rattle.orch_core.specs.Jobs.{turn_of, turned_at}
-use Rattle.orch_core.specs.declared.fault.TurnFault.{TurnFault}
-use Rattle.orch_core.specs.declared.fault.TurnFault.TheVariants as fault
+use Rattle.knowledge.specs.declared.fault.TurnFault.{TurnFault}
+use Rattle.knowledge.specs.declared.fault.TurnFault.TheVariants as fault
 use Rattle.orch_core.specs.Keeping.{Ran, WasCutOff}
 use Rattle.name_order.specs.NameOrder.{by_name}
 use Rattle.scenarios.specs.Turns.{IsTurn, NamesOneOf, pollers}

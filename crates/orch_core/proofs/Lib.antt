@@ -7,7 +7,6 @@ pub mod Claims
 pub mod Runs
 pub mod Starts
 pub mod Beginnings
-pub mod HookTold
 pub mod Outcomes
 pub mod Turned
 pub mod Others
@@ -16,6 +15,4 @@ pub mod Finishing
 pub mod Entries
 pub mod Joining
 pub mod Closed
-pub mod Closings
-pub mod Newer
 pub mod Slots

@@ -21,8 +21,7 @@ use Rattle.commands.specs.declared.line.Line.{Line}
 use Rattle.commands.specs.declared.refusal.Refusal.{Refusal}
 use Rattle.commands.specs.declared.turn.CommandTurn.{CommandTurn}
 use Rattle.commands.specs.Turns.{has_needed, is_within}
-use Rattle.asking_commands.specs.declared.answers.AnswerFault.TheVariants as fault
-use Rattle.asking_commands.specs.Answers.{allowed, lines_of, permitted, unless_refused}
+use Rattle.asking_commands.specs.Answers.{allowed, lines_of, permitted}
 use Rattle.audit_log.specs.Audits.{AuditState, IsAudit}
 use Rattle.book_commands.specs.declared.decided.Decided.{Decided}
 use Rattle.book_commands.specs.declared.decided.Effect.{Effect}
@@ -33,8 +32,8 @@ use Rattle.instance_keeper.specs.Had.{has_row, put_change}
 use Rattle.orch_base.specs.declared.server.Moment.{Moment}
 use Rattle.orch_core.proofs.Recoveries.{HasBegun, acked-begun, acked-is}
 use Rattle.scenarios.specs.Turns.{IsCommand}
-use Rattle.orch_core.specs.declared.command.Update.{Update}
-use Rattle.orch_core.specs.declared.command.Update.TheVariants as update
+use Rattle.command_outcomes.specs.declared.command.Update.{Update}
+use Rattle.command_outcomes.specs.declared.command.Update.TheVariants as update
 use Rattle.recovery_core.proofs.Beginning.{recovery-begins, recovery-moment, takeover-begins, takeover-moment}
 use Rattle.recovery_core.proofs.InTurn.{scan-in-turn, scan-moments}
 use Rattle.recovery_core.specs.Begun.{CanBegin}
@@ -45,17 +44,18 @@ use Rattle.orch_core.proofs.Entries.{entries-acknowledged, entries-push}
 use Rattle.orch_core.proofs.Joining.{joined-audit, joined-begun, joined-entries, joined-next, joined-range, joined-rising}
 use Rattle.commands.specs.declared.refusal.Refusal.TheVariants.{UnknownInstance}
 use Rattle.book_views.specs.Sources.{label_at}
-use Rattle.orch_core.specs.Commands.{by_hand, recovered, recovery_begun, taken_over, terms_of, Outcome, about as given_or, asked, begun, decided, discovered, first_of, forgotten, next_reading, outcome_by, outcome_of, question, refusal, removal_refusal, told}
-use Rattle.orch_core.specs.declared.configuration.Configuration.{Configuration}
-use Rattle.orch_core.specs.HookTelling.{told_try, with_told}
-use Rattle.orch_core.specs.Knowing.{IsEffect, IsUpdate, Knowledge, LeavesIds, MayTake, recovery_job, updated}
-use Rattle.orch_core.specs.Periods.{period_by}
-use Rattle.orch_core.proofs.HookTold.{told-can, told-in-turn}
+use Rattle.command_outcomes.specs.Commands.{by_hand, recovered, recovery_begun, taken_over, terms_of, Outcome, about as given_or, asked, begun, decided, discovered, forgotten, next_reading, outcome_by, outcome_of, question, refusal, removal_refusal}
+use Rattle.command_outcomes.specs.declared.configuration.Configuration.{Configuration}
+use Rattle.command_outcomes.specs.HookTelling.{told_try, with_told}
+use Rattle.knowledge.specs.Knowing.{IsEffect, IsUpdate, Knowledge, MayTake, recovery_job, updated}
+use Rattle.command_outcomes.specs.Ids.{LeavesIds}
+use Rattle.command_outcomes.specs.Periods.{period_by}
+use Rattle.command_outcomes.proofs.HookTold.{told-can, told-in-turn}
 use Rattle.orch_core.proofs.Periods.{hand-short, period-short}
 use Rattle.orch_core.specs.Polls.{command_outcome, numbers_of, scan_outcome}
 use Rattle.jobs_in_flight.specs.Jobs.{Rise}
 use Rattle.orch_core.specs.States.{HaveEntries, State, IsState, entry_id}
-use Rattle.orch_core.specs.declared.command.Numbers.{Numbers}
+use Rattle.command_outcomes.specs.declared.command.Numbers.{Numbers}
 use Rattle.orch_core.proofs.Beginnings.{begun-unended, job-entry, may-take}
 use Rattle.jobs_in_flight.proofs.Numbers.{Rise-push}
 use Rattle.command_routes.specs.declared.route.Decision.{Decision}
@@ -88,38 +88,6 @@ given-duration count c command = go c.keys.duration command.duration
     go : (d : Option ℕ) → IfSome d (λ n. (1 ≤ n) × (n ≤ 31536000)) → IfSome d (λ n. n ≤ 31536000)
     go None h = tt
     go (Some n) h = h.1
-
--- of two tests the first that refuses
-pub refused-first : (unknown later : Option Refusal) (why : Refusal) → Err why ≡ allowed unknown → Some why ≡ first_of unknown later
-refused-first None later why h = cc
-refused-first (Some r) later why h = let same : why ≡ r = cc in ap (λ (x : Refusal). Some x) same
-
--- what a command that only asks comes to, by its answer
-pub asked_told : (reads : ℕ) (p : Result Unit Refusal) (lines given : List Line) → unless_refused p lines ≡ Ok given → told reads given ≡ asked reads p lines
-asked_told reads (Ok permit) lines given e = let same : lines ≡ given = cc in ap (told reads) (sym same)
-asked_told reads (Err r) lines given e = cc
-
-pub asked_refused : (reads : ℕ) (p : Result Unit Refusal) (lines : List Line) (why : Refusal) → unless_refused p lines ≡ Err (fault.Refused why) → refusal reads why ≡ asked reads p lines
-asked_refused reads (Ok permit) lines why e = cc
-asked_refused reads (Err r) lines why e = let same : r ≡ why = cc in ap (refusal reads) (sym same)
-
--- neither a question nor a decision begins an entry
-pub asked-leaves : (reads : ℕ) (p : Result Unit Refusal) (lines : List Line) → LeavesIds (asked reads p lines).book
-asked-leaves reads (Ok permit) lines = tt
-asked-leaves reads (Err r) lines = tt
-
-pub decided-leaves : (reads : ℕ) (a : AuditState) (p : Result Unit Refusal) (d : Decided) → LeavesIds (decided reads a p d).book
-decided-leaves reads a (Ok permit) d = tt
-decided-leaves reads a (Err r) d = tt
-
--- nor what is read of a server, nor a plan
-pub discovered-leaves : (b : BookState) (reads : ℕ) (o : Observation) (seen : Option Seen) → LeavesIds (discovered b reads o seen).book
-discovered-leaves b reads o None = tt
-discovered-leaves b reads o (Some seen) = tt
-
-pub begun-leaves : (n : Numbers) (refusal : Option Refusal) (list : List ServerNo) (job : Unended) → LeavesIds (begun n refusal list job).book
-begun-leaves n None list job = tt
-begun-leaves n (Some r) list job = tt
 
 -- the book takes what a command makes of it
 module _ (k : Knowledge) (count : ℕ) (names : length k.book.names ≡ count) where

@@ -8,8 +8,8 @@ use Rattle.audit_log.specs.Audits.{longest_block}
 use Rattle.orch_base.specs.declared.server.ServerNo.{ServerNo}
 use Rattle.scenarios.specs.Blocks.{period_in}
 use Rattle.scenarios.specs.declared.blocks.Block.{Block}
-use Rattle.orch_core.specs.Commands.{by_hand}
-use Rattle.orch_core.specs.Periods.{period_by}
+use Rattle.command_outcomes.specs.Commands.{by_hand}
+use Rattle.command_outcomes.specs.Periods.{period_by}
 use Rattle.orch_core.specs.Polls.{numbers_of}
 use Rattle.orch_core.specs.States.{IsState, State}
 

@@ -7,8 +7,8 @@ use Rattle.kept_rows.specs.declared.row.Row.{Row}
 use Rattle.kept_rows.specs.Rows.{changed}
 use Rattle.turns.specs.declared.reply.Reply.{Reply}
 use Rattle.turns.specs.declared.turn.Turn.{Turn}
-use Rattle.orch_core.specs.declared.fault.TurnFault.{TurnFault}
-use Rattle.orch_core.specs.declared.fault.TurnFault.TheVariants as fault
+use Rattle.knowledge.specs.declared.fault.TurnFault.{TurnFault}
+use Rattle.knowledge.specs.declared.fault.TurnFault.TheVariants as fault
 use Rattle.orch_core.specs.Keeping.{Calls, StepsTo, Ran, WasCutOff, kept_by}
 use Rattle.orch_core.specs.Replies.{reply_of}
 use Rattle.orch_core.specs.After.{step}

@@ -5,7 +5,7 @@ use Rattle.kept_rows.specs.declared.observation.Observation.{Observation}
 use Rattle.instance_keeper.specs.Book.{BookState}
 use Rattle.jobs_in_flight.specs.Jobs.{stored}
 use Rattle.turns.specs.declared.reply.Reply.{Reply}
-use Rattle.orch_core.specs.declared.fault.TurnFault.{TurnFault}
+use Rattle.knowledge.specs.declared.fault.TurnFault.{TurnFault}
 use Rattle.orch_core.specs.States.{State, IsState}
 use Rattle.orch_core.proofs.States.{IsState-store}
 

@@ -29,7 +29,7 @@ use Rattle.orch_base.specs.declared.server.Settings.{Settings}
 use Rattle.audit_log.specs.Loading.{loaded_by}
 use Rattle.kept_rows.specs.Recoveries.{put_recovery}
 use Rattle.kept_rows.specs.declared.recovery.Recovery.{Recovery}
-use Rattle.orch_core.specs.Periods.{period_by}
+use Rattle.command_outcomes.specs.Periods.{period_by}
 use Rattle.orch_core.proofs.Periods.{short-in}
 use Rattle.opening_book.specs.Opening.{after_opening, block_given, blocks_given, changes_from, interrupting, is_opening_change, loading, missing, missing_from, opened_book, opening_changes, opening_instance, put_instance, registered, registering, registering_from}
 use Rattle.server_model.specs.declared.server.Server.{Server}
@@ -46,13 +46,14 @@ use Rattle.node_claims.specs.Claims.{made as claims_made}
 use Rattle.orch_core.specs.Nodes.{holder_of, kept_claim}
 use Rattle.orch_core.specs.Polls.{empty_slots}
 use Rattle.orch_base.specs.Memory.{next_count}
-use Rattle.orch_core.specs.Keeping.{HasTurnCause, kept_if}
-use Rattle.orch_core.specs.declared.fault.TurnFault.{TurnFault}
-use Rattle.orch_core.specs.declared.fault.TurnFault.TheVariants as fault
+use Rattle.knowledge.specs.Faults.{HasTurnCause}
+use Rattle.knowledge.specs.Kept.{kept_if}
+use Rattle.knowledge.specs.declared.fault.TurnFault.{TurnFault}
+use Rattle.knowledge.specs.declared.fault.TurnFault.TheVariants as fault
 use Rattle.scenarios.specs.Scenarios.{IsScenario, period_of, room_of, flushes_of, settings_of}
 use Rattle.scenarios.specs.Turns.{pollers}
 use Rattle.scenarios.proofs.Rooms.{longest-at}
-use Rattle.orch_core.specs.declared.configuration.Configuration.{Configuration}
+use Rattle.command_outcomes.specs.declared.configuration.Configuration.{Configuration}
 use Rattle.orch_core.specs.Scenarios.{configuration_of, loaded_audit, loaded_book, start_world, start_rows, start_moment, start_changes, start, StartsBy, kept_at_start}
 use Rattle.unended_jobs.specs.declared.unended.Unended.{Unended}
 use Rattle.unended_jobs.specs.Unended.{IsUnended}

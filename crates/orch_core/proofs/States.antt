@@ -34,7 +34,7 @@ use Rattle.turns.specs.declared.turn.Turn.TheVariants as turn
 use Rattle.turns.specs.declared.turn.Step.TheVariants as step
 use Rattle.scenarios.specs.Turns.{pollers, IsStep}
 use Rattle.orch_core.specs.Turns.{exchange_of, later}
-use Rattle.orch_core.specs.Periods.{period_by}
+use Rattle.command_outcomes.specs.Periods.{period_by}
 use Rattle.orch_core.proofs.Periods.{period-short}
 use Rattle.unended_jobs.specs.declared.unended.Unended.{Unended}
 use Rattle.unended_jobs.specs.Unended.{IsUnended}
@@ -42,10 +42,11 @@ use Rattle.jobs_in_flight.specs.Jobs.{Rise, stored}
 use Rattle.orch_core.specs.States.{HaveEntries, State, IsSlot, IsState}
 use Rattle.orch_core.proofs.Sources.{KnowsSources, source-at, sources-run}
 use Rattle.orch_core.specs.Polls.{empty_slots}
-use Rattle.orch_core.specs.Readings.{reading_by}
+use Rattle.command_outcomes.specs.Readings.{reading_by}
 use Rattle.orch_core.specs.After.{after_restart, step as turn_step}
 use Rattle.orch_core.specs.Runs.{engine}
-use Rattle.orch_core.specs.Keeping.{StepsTo, kept_by, kept_if, kept_with}
+use Rattle.orch_core.specs.Keeping.{StepsTo, kept_by, kept_with}
+use Rattle.knowledge.specs.Kept.{kept_if}
 
 -- a step's exchange is allowed, and is no attachment
 pub Allowed-step : (count : ℕ) (w : World) (x : Step) → IsStep count x → AllAllowed w (exchange_of x ∷ []) × AllJoinWell w (exchange_of x ∷ [])

@@ -24,10 +24,11 @@ use Rattle.operations.specs.Turns.{is_going}
 use Rattle.jobs_in_flight.specs.Jobs.{Rise, book_turned, job_at, job_exchanges, job_observation, job_reply, jobs_turned, reads_with, step_reply, stored, turn_by, with_job, without_job, without_leases}
 use Rattle.audit_log.specs.Audits.{AuditState, IsAudit}
 use Rattle.orch_base.specs.declared.server.Moment.{Moment}
-use Rattle.orch_core.specs.Closings.{closed_by, closing_changes, closing_of}
-use Rattle.orch_core.specs.declared.closing.Closing.{Closing}
+use Rattle.knowledge.specs.Closings.{closed_by, closing_changes, closing_of}
+use Rattle.knowledge.specs.declared.closing.Closing.{Closing}
 use Rattle.orch_core.specs.Jobs.{turn_of, turned_at}
-use Rattle.orch_core.specs.Polls.{changes_by, changes_of}
+use Rattle.orch_core.specs.Polls.{changes_of}
+use Rattle.knowledge.specs.Kept.{changes_by}
 use Rattle.orch_core.specs.After.{step as turn_step}
 use Rattle.orch_core.specs.States.{HaveEntries, IsOpenAt, IsSlot, IsState, State, entry_id}
 use Rattle.jobs_in_flight.proofs.Numbers.{found-number, Rise-with, Rise-without}

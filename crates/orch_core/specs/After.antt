@@ -12,7 +12,7 @@ use Rattle.turns.specs.declared.turn.Act.TheVariants as act
 use Rattle.turns.specs.declared.turn.Step.{Step}
 use Rattle.turns.specs.declared.turn.Turn.{Turn}
 use Rattle.turns.specs.declared.turn.Turn.TheVariants as turn
-use Rattle.orch_core.specs.Closings.{closed_by, closing_of}
+use Rattle.knowledge.specs.Closings.{closed_by, closing_of}
 use Rattle.orch_core.specs.Jobs.{turned_at}
 use Rattle.orch_core.specs.Nodes.{act_in, with_claims}
 use Rattle.orch_core.specs.Polls.{command_outcome, empty_slots, reading, scan_outcome, slot_at}

@@ -1,12 +1,11 @@
 -- What a run does with its keeper.
-use Rattle.std.specs.Prelude.{◌≡◌, ◌≢◌, ◌≤◌, ◌<◌, ◌⊎◌, ℕ, Bool, true, List, [], ◌++◌, length, take, slice_get, Option, Some, None, Result, Err, OnOk, if◌then◌else◌}
+use Rattle.std.specs.Prelude.{◌≡◌, ◌≢◌, ◌<◌, ◌⊎◌, ℕ, Bool, true, List, [], ◌++◌, length, take, slice_get, Option, Some, None, if◌then◌else◌}
 use Rattle.std.specs.Option.{option_map}
-use Rattle.orch_base.specs.Memory.{next_count}
 use Rattle.kept_rows.specs.declared.row.Row.{Row}
 use Rattle.kept_rows.specs.declared.row.Change.{Change}
 use Rattle.kept_rows.specs.Rows.{changed}
-use Rattle.orch_core.specs.declared.fault.TurnFault.{TurnFault}
-use Rattle.orch_core.specs.declared.fault.TurnFault.TheVariants as fault
+use Rattle.knowledge.specs.declared.fault.TurnFault.{TurnFault}
+use Rattle.knowledge.specs.declared.fault.TurnFault.TheVariants as fault
 use Rattle.turns.specs.declared.turn.Turn.{Turn}
 use Rattle.turns.specs.declared.turn.Turn.TheVariants as turn
 use Rattle.orch_core.specs.After.{after_done}
@@ -20,10 +19,6 @@ use Rattle.orch_core.specs.Runs.{Machine, LeadsTo, kept_after}
 abbrev pub StepsTo : {A : Type 0} → Machine A → Option (List Row) → A → Turn → A → Type 0
 StepsTo m None s t now = (rows : List Row) × (now ≡ m.next rows s t)
 StepsTo m (Some rows) s t now = now ≡ m.next rows s t
-
--- the kept rows with these changes, where they are made and the keeper tells its rows
-abbrev pub kept_if : Bool → Option (List Row) → List Change → Option (List Row)
-kept_if made kept changes = if made then option_map (λ rows. changed rows changes) kept else kept
 
 -- the kept rows after a turn, where it was taken and the keeper tells its rows
 abbrev pub kept_by : {A : Type 0} → Machine A → Bool → Option (List Row) → A → Turn → Option (List Row)
@@ -54,10 +49,3 @@ ClaimPasses (Some rows) s node now = now ≡ after_done rows s (act_in s (turn.C
 -- the kept rows after orchestrator started again, with these changes behind its own
 abbrev pub kept_with : List Change → Bool → Option (List Row) → State → Option (List Row)
 kept_with more made kept s = if made then option_map (λ rows. changed rows (restart_changes rows s ++ more)) kept else kept
-
--- at Keeper the count rose once, in the call that failed, and elsewhere it didn't; it never falls
-pub record HasTurnCause {A : Type 0} (before now : ℕ) (result : Result A TurnFault) : Type 0 where
-  pub later : before ≤ now
-  pub ok : OnOk result (now ≡ before)
-  pub failed : result ≡ Err fault.Keeper → now ≡ next_count before
-  pub memory : result ≡ Err fault.Memory → now ≡ before

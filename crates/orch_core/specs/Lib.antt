@@ -1,20 +1,9 @@
-pub mod Faults
 pub mod States
 pub mod Jobs
 pub mod Nodes
 pub mod Restarts
-pub mod Readings
-pub mod Beginnings
-pub mod BeginningsBy
-pub mod HookTelling
-pub mod Knowing
-pub mod KnowingBy
-pub mod Periods
-pub mod Commands
-pub mod CommandsBy
 pub mod Turns
 pub mod Polls
-pub mod Newer
 pub mod Replies
 pub mod After
 pub mod Runs
@@ -25,5 +14,4 @@ pub mod Permission
 pub mod EngineBy
 pub mod Due
 pub mod OrchBy
-pub mod Closings
 pub mod Settling

@@ -19,10 +19,10 @@ use Rattle.commands.specs.declared.turn.Command.{Command}
 use Rattle.asking_commands.specs.Answers.{unknown_in}
 use Rattle.turns.specs.declared.reply.Reply.{Reply}
 use Rattle.turns.specs.declared.reply.Reply.TheVariants as answered
-use Rattle.orch_core.specs.Commands.{by_hand, first_of, removal_refusal}
+use Rattle.command_outcomes.specs.Commands.{by_hand, first_of, removal_refusal}
 use Rattle.orch_core.specs.Polls.{numbers_of}
-use Rattle.orch_core.specs.declared.command.Numbers.{Numbers}
-use Rattle.orch_core.specs.declared.configuration.Configuration.{Configuration}
+use Rattle.command_outcomes.specs.declared.command.Numbers.{Numbers}
+use Rattle.command_outcomes.specs.declared.configuration.Configuration.{Configuration}
 use Rattle.orch_core.specs.States.{State}
 
 -- 5: orchestrator doesn't reach the server

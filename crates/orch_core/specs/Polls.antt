@@ -1,21 +1,20 @@
 -- Polls, commands and jobs: what orchestrator reads of servers, and how the kept rows change.
 use Rattle.std.specs.Prelude.{ℕ, ◌++◌, List, [], replicate, slice_index_or, Option, Some, None}
-use Rattle.std.specs.Option.{option_to_list}
 use Rattle.orch_base.specs.declared.server.ServerNo.{ServerNo}
 use Rattle.orch_base.specs.Memory.{next_count}
 use Rattle.kept_rows.specs.declared.observation.Observation.{Observation}
 use Rattle.kept_rows.specs.declared.row.Row.{Row}
 use Rattle.kept_rows.specs.declared.row.Change.{Change}
-use Rattle.instance_keeper.specs.Book.{BookState, instance_at, store_change}
 use Rattle.commands.specs.declared.turn.CommandTurn.{CommandTurn}
-use Rattle.orch_core.specs.Closings.{closing_changes, closing_of}
-use Rattle.orch_core.specs.Commands.{Outcome, outcome_of, scan_by}
+use Rattle.knowledge.specs.Closings.{closing_changes, closing_of}
+use Rattle.command_outcomes.specs.Commands.{Outcome, outcome_of, scan_by}
 use Rattle.jobs_in_flight.specs.Jobs.{job_observation}
+use Rattle.knowledge.specs.Kept.{changes_by}
 use Rattle.orch_core.specs.Jobs.{turned_at}
 use Rattle.orch_core.specs.Nodes.{act_in, claim_changes, release_changes}
-use Rattle.orch_core.specs.Readings.{reading_by}
+use Rattle.command_outcomes.specs.Readings.{reading_by}
 use Rattle.orch_core.specs.Restarts.{restart_changes}
-use Rattle.orch_core.specs.declared.command.Numbers.{Numbers}
+use Rattle.command_outcomes.specs.declared.command.Numbers.{Numbers}
 use Rattle.turns.specs.declared.turn.Act.{Act}
 use Rattle.turns.specs.declared.turn.Act.TheVariants as act
 use Rattle.turns.specs.declared.turn.Turn.{Turn}
@@ -44,10 +43,6 @@ command_outcome s c = outcome_of s.world s.book s.audit s.configuration (numbers
 -- what a scan tells and begins
 abbrev pub scan_outcome : State → Outcome
 scan_outcome s = scan_by s.world s.book s.audit s.configuration (numbers_of s)
-
-abbrev pub changes_by : BookState → Option Observation → List Change
-changes_by b None = []
-changes_by b (Some o) = option_to_list (store_change (instance_at b o.no) o)
 
 -- the changes of the kept rows that a job's turn makes: by what it observes, and by the entry that ends
 abbrev pub job_changes : State → ℕ → List Change

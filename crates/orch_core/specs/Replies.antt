@@ -1,9 +1,7 @@
 -- What each turn answers.
-use Rattle.std.specs.Prelude.{◌≡◌, Bool, Option, Some, None, is_some, if◌then◌else◌}
-use Rattle.instance_keeper.specs.declared.book.StoreAnswer.{StoreAnswer}
-use Rattle.instance_keeper.specs.declared.book.StoreAnswer.TheVariants as store
+use Rattle.std.specs.Prelude.{Option, Some, None, is_some, if◌then◌else◌}
 use Rattle.kept_rows.specs.declared.observation.Observation.{Observation}
-use Rattle.instance_keeper.specs.Book.{BookState, instance_at, store_answer}
+use Rattle.instance_keeper.specs.Book.{instance_at}
 use Rattle.server_model.specs.Desk.{rotate}
 use Rattle.server_model.specs.Exchanges.{write, fetch, apply}
 use Rattle.server_model.specs.Purging.{purge}
@@ -16,7 +14,7 @@ use Rattle.turns.specs.declared.turn.Turn.{Turn}
 use Rattle.turns.specs.declared.turn.Turn.TheVariants as turn
 use Rattle.turns.specs.declared.reply.Reply.{Reply}
 use Rattle.turns.specs.declared.reply.Reply.TheVariants as answered
-use Rattle.orch_core.specs.declared.engine.Replies.{Replies}
+use Rattle.knowledge.specs.Replies.{stored_reply}
 use Rattle.node_claims.specs.Claims.{release_answer}
 use Rattle.node_claims.specs.declared.claims.ClaimAnswer.{ClaimAnswer}
 use Rattle.node_claims.specs.declared.claims.ClaimAnswer.TheVariants as claim
@@ -29,23 +27,9 @@ use Rattle.jobs_in_flight.specs.Jobs.{job_reply}
 use Rattle.orch_core.specs.Jobs.{turned_at}
 use Rattle.orch_core.specs.Turns.{later}
 
--- this reply, and once more for the journal where it is written
-pub record AreReply (written : Bool) (r : Reply) (both : Replies) : Type 0 where
-  pub told : both.told ≡ r
-  pub written_too : both.written ≡ (if written then Some r else None)
-
 -- the number of a reading, and whether it reached the server
 abbrev pub read_reply : Observation → Reply
 read_reply o = if is_some o.seen then answered.Read o.read else answered.ReadUnreachable o.read
-
-abbrev pub reply_by : StoreAnswer → Reply
-reply_by store.Unknown = answered.Unknown
-reply_by (store.Old read) = answered.Old read
-reply_by store.Stored = answered.Stored
-
-abbrev pub stored_reply : BookState → Option Observation → Reply
-stored_reply b None = answered.Nothing
-stored_reply b (Some o) = reply_by (store_answer (instance_at b o.no) o)
 
 -- what a step answers in a world
 abbrev pub step_reply : World → Step → Reply

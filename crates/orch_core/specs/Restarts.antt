@@ -8,7 +8,7 @@ use Rattle.opening_book.specs.Audits.{audit_of, latest_recovery}
 use Rattle.opening_book.specs.Counting.{counted, loaded}
 use Rattle.opening_book.specs.Opening.{loading}
 use Rattle.orch_base.specs.declared.server.Moment.{Moment}
-use Rattle.orch_core.specs.Periods.{period_by}
+use Rattle.command_outcomes.specs.Periods.{period_by}
 use Rattle.orch_core.specs.States.{State}
 
 -- the last id that was given

@@ -14,7 +14,7 @@ use Rattle.world_openings.specs.Opening.{opened_world}
 use Rattle.server_model.specs.Worlds.{World}
 use Rattle.scenarios.specs.declared.scenario.Scenario.{Scenario}
 use Rattle.scenarios.specs.Scenarios.{flushes_of, period_of, room_of, settings_of}
-use Rattle.orch_core.specs.declared.configuration.Configuration.{Configuration}
+use Rattle.command_outcomes.specs.declared.configuration.Configuration.{Configuration}
 use Rattle.node_claims.specs.Claims.{made}
 use Rattle.orch_core.specs.Nodes.{holder_of, kept_claim}
 use Rattle.orch_core.specs.Polls.{empty_slots}

@@ -2,10 +2,10 @@
 use Rattle.std.specs.Prelude.{◌≡◌, ◌+◌, ◌<◌, ◌≤◌, ◌^◌, ℕ, ⊤, length, All, None}
 use Rattle.unended_jobs.specs.declared.unended.Unended.{Unended}
 use Rattle.unended_jobs.specs.Unended.{IsUnended, number_of}
-use Rattle.orch_core.specs.declared.command.Update.{Update}
-use Rattle.orch_core.specs.declared.command.Update.TheVariants as update
-use Rattle.orch_core.specs.Commands.{Outcome}
-use Rattle.orch_core.specs.Knowing.{IsUpdate, Knowledge, updated}
+use Rattle.command_outcomes.specs.declared.command.Update.{Update}
+use Rattle.command_outcomes.specs.declared.command.Update.TheVariants as update
+use Rattle.command_outcomes.specs.Commands.{Outcome}
+use Rattle.knowledge.specs.Knowing.{IsUpdate, Knowledge, updated}
 use Rattle.orch_core.specs.States.{State, entry_id}
 
 -- the book, the audit and the jobs of a state

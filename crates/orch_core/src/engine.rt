@@ -6,26 +6,29 @@ ghost use Rattle.scenarios.specs.Turns.{pollers, IsAct, IsCommand, IsStep, IsTur
 ghost use Rattle.turns.specs.Plain.{is_plain};
 ghost use Rattle.jobs_in_flight.specs.Jobs.{Rise, is_open, job_at};
 ghost use Rattle.orch_core.specs.Polls.{act_changes, changes_of, command_outcome, job_changes, numbers_of, scan_outcome};
-ghost use Rattle.orch_core.specs.Replies.{act_reply, reply_of, step_reply, AreReply};
+ghost use Rattle.orch_core.specs.Replies.{act_reply, reply_of, step_reply};
+ghost use Rattle.knowledge.specs.Replies.{AreReply};
 ghost use Rattle.orch_core.specs.Runs.{act_asks, asks, engine};
-ghost use Rattle.orch_core.specs.Keeping.{StepsTo, kept_by, kept_if, kept_with, Calls, HasTurnCause};
-ghost use Rattle.orch_core.specs.Knowing.{LeavesIds};
-ghost use Rattle.orch_core.specs.CommandsBy.{outcome as outcome_in};
+ghost use Rattle.orch_core.specs.Keeping.{StepsTo, kept_by, kept_with, Calls};
+ghost use Rattle.knowledge.specs.Kept.{kept_if};
+ghost use Rattle.knowledge.specs.Faults.{HasTurnCause};
+ghost use Rattle.command_outcomes.specs.Ids.{LeavesIds};
+ghost use Rattle.command_outcomes.specs.CommandsBy.{outcome as outcome_in};
 ghost use Rattle.orch_core.specs.Settling.{CanSettle, settled};
 ghost use Rattle.orch_core.specs.States.{IsState, nodes_of};
 
 use crate::claiming::{holder_of, kept_claim};
-use crate::closing::{close_entry, closing_of, keep_turn};
-use crate::command::{Numbers, Outcome, outcome_of};
-use crate::exchanging::{exchange, later, read_reply, read_server};
-use crate::keep::{given_rows, keep_some, store_slot};
-use crate::knowledge::Knowledge;
+use crate::exchanging::{exchange, later, read_reply};
 use crate::opening::{complete, configure, copy_names, copy_settings, empty_slots, make_slots};
-use crate::recovering::scan_by;
 use crate::{Act, BoxedCommand, Configuration, Reply, Scenario, Step, Turn, TurnFault};
 use audit_log::Audit;
+use command_outcomes::{Numbers, Outcome, outcome_of, read_server, scan_by};
 use instance_keeper::{Book, Change, Keeper, Observation};
 use jobs_in_flight::{FoundJob, find, others_over, take_turn};
+use knowledge::{
+    Knowledge, Replies, close_entry, closing_of, copied, given_rows, keep_some, keep_turn, plain,
+    store_slot,
+};
 use node_claims::Claims;
 use opening_book::{
     GREATEST_ID, beyond_instances, counted, counted_in_order, last_id, last_read, latest_moment,
@@ -75,36 +78,6 @@ impl Model for Engine {
     ghost view = { state_of };
 
     ghost invariant = { IsStateInside };
-}
-
-/// What a turn answers: to be told, and once more for a journal, where it is written.
-#[derive(Drop)]
-pub(crate) struct Replies {
-    pub(crate) told: Reply,
-    pub(crate) written: Option<Reply>,
-}
-
-/// A reply that holds nothing on the heap, and once more for a journal, where it is written.
-pub(crate) fn plain(reply: Reply, written: bool) -> Replies
-    requires { is_plain reply ≡ true }
-    ensures { AreReply written reply result }
-{
-    let again = if written { Some(reply.again()) } else { None };
-    Replies {
-        told: reply,
-        written: again,
-    }
-}
-
-/// The reply's copy for a journal, where it is written.
-pub(crate) fn copied(alloc: Global, reply: &Reply, written: bool) -> Result<Option<Reply>, Memory>
-    ensures { IfOk result (λ r. r ≡ (if written then Some reply.now else None)) }
-{
-    if written {
-        Ok(Some(reply.copy(alloc)?))
-    } else {
-        Ok(None)
-    }
 }
 
 fn is_number(_number: u64)

@@ -1,21 +1,17 @@
-//! What one turn does beside what orchestrator knows: an exchange with the servers and its reply, a later moment, and a
-//! server read for a poller and stored.
+//! What one turn does beside what orchestrator knows: an exchange with the servers and its reply, a later moment, and
+//! what a poll answers.
 
-ghost use Rattle.std.specs.Prelude.{◌≡◌, ◌<◌, ◌∷◌, [], IfOk, IfSome, length, true};
-ghost use Rattle.kept_rows.specs.Servers.{are_known, observed_servers};
-ghost use Rattle.jobs_in_flight.specs.Jobs.{stored};
-ghost use Rattle.orch_core.specs.Readings.{reading_by};
-ghost use Rattle.orch_core.specs.Replies.{read_reply, reply_by, step_reply, stored_reply};
+ghost use Rattle.std.specs.Prelude.{◌≡◌, ◌∷◌, [], length, true};
+ghost use Rattle.orch_core.specs.Replies.{read_reply, step_reply};
 ghost use Rattle.orch_core.specs.Turns.{exchange_of, later};
 ghost use Rattle.scenarios.specs.Turns.{IsStep};
 ghost use Rattle.server_model.specs.Run.{run};
 ghost use Rattle.turns.specs.Plain.{is_plain};
 
 use crate::Reply;
-use instance_keeper::{Book, Observation, StoreAnswer};
-use orch_base::{Memory, Moment, ServerNo};
+use instance_keeper::Observation;
+use orch_base::Moment;
 use server_model::World;
-use std::alloc::Global;
 use turns::Step;
 
 /// The last moment: where it would be passed, time stands still.
@@ -61,30 +57,6 @@ pub(crate) fn exchange(world: &mut World, step: Step) -> Reply
     }
 }
 
-/// A reading of a server, with this number, at this moment.
-pub(crate) fn read_server(
-    alloc: Global,
-    world: &World,
-    no: ServerNo,
-    read: u64,
-    moment: Moment,
-) -> Result<Observation, Memory>
-    requires { no.0 < length world.now.servers }
-    ensures { IfOk result (λ o. o ≡ reading_by world.now no read moment.0) }
-{
-    let seen = if world.is_reached(no) {
-        Some(world.shows(alloc, no)?)
-    } else {
-        None
-    };
-    Ok(Observation {
-        no,
-        read,
-        moment,
-        seen,
-    })
-}
-
 /// What a poll answers that made this reading.
 pub(crate) fn read_reply(o: &Observation) -> Reply
     ensures reply { result ≡ read_reply o.now }
@@ -94,29 +66,5 @@ pub(crate) fn read_reply(o: &Observation) -> Reply
         Reply::Read(o.read)
     } else {
         Reply::ReadUnreachable(o.read)
-    }
-}
-
-fn reply_by(answer: StoreAnswer) -> Reply
-    ensures reply { result ≡ reply_by answer }
-    ensures plain { is_plain result ≡ true }
-{
-    match answer {
-        StoreAnswer::Unknown => Reply::Unknown,
-        StoreAnswer::Old(read) => Reply::Old(read),
-        StoreAnswer::Stored => Reply::Stored,
-    }
-}
-
-/// Empties the slot and stores its reading, where it has one. It takes no memory.
-pub(crate) fn store(book: &mut Book, slot: Option<Observation>) -> Reply
-    requires { IfSome slot (λ o. are_known (length book.old.names) (observed_servers o) ≡ true) }
-    ensures reply { result ≡ stored_reply book.old slot }
-    ensures plain { is_plain result ≡ true }
-    ensures book { book.new ≡ stored book.old slot }
-{
-    match slot {
-        None => Reply::Nothing,
-        Some(o) => reply_by(book.store_observation(o)),
     }
 }

@@ -3,28 +3,20 @@
 #![tactic(auto)]
 
 mod claiming;
-mod closing;
-mod command;
-mod configuration;
 mod engine;
 mod exchanging;
-mod fault;
-mod keep;
-mod knowledge;
 mod nodes;
 mod opening;
 mod orch;
 mod polls;
-mod recovering;
-mod telling;
 mod threads;
 
+pub use command_outcomes::Configuration;
 pub use commands::{
     Answers, Command, CommandName, CommandTurn, Found, Keys, Line, Lines, Refusal, StateWord,
 };
-pub use configuration::Configuration;
 pub use engine::Engine;
-pub use fault::TurnFault;
+pub use knowledge::TurnFault;
 pub use orch::Orch;
 pub use scenarios::{Alias, Aliases, ClusterFilters, FilterList, Scenario, Texts, Turns};
 pub use turns::{Act, BoxedCommand, BoxedFailure, Failure, Reply, Step, Turn};

@@ -3,15 +3,16 @@
 
 ghost use Rattle.std.specs.Prelude.{◌≡◌, ◌≤◌, ◌^◌, All, IfOk, IsTrue, None, [], is_ok, length, map};
 ghost use Rattle.opening_book.specs.Opening.{is_opening_change, opened_book, opening_changes};
-ghost use Rattle.orch_core.specs.Keeping.{HasTurnCause, kept_if};
+ghost use Rattle.knowledge.specs.Faults.{HasTurnCause};
+ghost use Rattle.knowledge.specs.Kept.{kept_if};
 ghost use Rattle.orch_core.specs.Polls.{empty_slots};
 ghost use Rattle.orch_core.specs.Scenarios.{configuration_of};
 ghost use Rattle.orch_core.specs.States.{HasKnownSource};
 ghost use Rattle.scenarios.specs.Turns.{pollers};
 
-use crate::keep::keep_some;
 use crate::{Configuration, Scenario, TurnFault};
 use instance_keeper::{Book, Change, Keeper, Observation};
+use knowledge::keep_some;
 use opening_book::{open_book, opening_changes};
 use openings::ServerInit;
 use orch_base::{Memory, Moment, Name, Settings};

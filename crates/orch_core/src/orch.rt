@@ -12,7 +12,8 @@ ghost use Rattle.orch_core.specs.Rounds.{Finished, WasCutShort};
 ghost use Rattle.orch_core.specs.States.{IsState, nodes_of};
 ghost use Rattle.orch_core.specs.Replies.{reply_of};
 ghost use Rattle.orch_core.specs.Runs.{asks, recorder};
-ghost use Rattle.orch_core.specs.Keeping.{StepsTo, kept_by, Calls, HasTurnCause, Ran, WasCutOff};
+ghost use Rattle.orch_core.specs.Keeping.{StepsTo, kept_by, Calls, Ran, WasCutOff};
+ghost use Rattle.knowledge.specs.Faults.{HasTurnCause};
 ghost use Rattle.orch_core.specs.Scenarios.{StartsBy, kept_at_start};
 
 use crate::polls::{first_least, make_polls, note_poll};

@@ -1,12 +1,10 @@
 //! The types of this crate can be moved between threads, and shared by them.
 
-use crate::{Configuration, Engine, Orch, TurnFault};
+use crate::{Engine, Orch};
 
 fn crosses_threads<T: Send + Sync>() {}
 
 fn all_cross_threads() {
-    crosses_threads::<Configuration>();
-    crosses_threads::<TurnFault>();
     crosses_threads::<Engine>();
     crosses_threads::<Orch>();
 }

@@ -57,10 +57,10 @@ use Rattle.turns.specs.declared.turn.Act.TheVariants as act
 use Rattle.turns.specs.declared.turn.Turn.{Turn}
 use Rattle.turns.specs.declared.turn.Turn.TheVariants as turn
 use Rattle.unended_jobs.specs.declared.unended.Unended.{Unended}
-use Rattle.orch_core.specs.HookTelling.{hooks_by, told_of, told_try, with_told}
-use Rattle.orch_core.specs.Knowing.{recovery_job}
-use Rattle.orch_core.specs.declared.configuration.Configuration.{Configuration}
-use Rattle.orch_core.specs.Commands.{Outcome, about as given_or, asked, begun, by_hand, decided, discovered, forgotten, outcome_by, outcome_of, question, recovered, recovery_begun, refusal, removal_refusal, taken_over}
+use Rattle.command_outcomes.specs.HookTelling.{hooks_by, told_of, told_try, with_told}
+use Rattle.knowledge.specs.Knowing.{recovery_job}
+use Rattle.command_outcomes.specs.declared.configuration.Configuration.{Configuration}
+use Rattle.command_outcomes.specs.Commands.{Outcome, about as given_or, asked, begun, by_hand, decided, discovered, forgotten, outcome_by, outcome_of, question, recovered, recovery_begun, refusal, removal_refusal, taken_over}
 use Rattle.orch_core.specs.Polls.{command_outcome, numbers_of, reading, scan_outcome}
 use Rattle.orch_core.specs.States.{State}
 use Rattle.run_laws.specs.Entries.{attempt_in, scan_in}

@@ -31,7 +31,7 @@ use Rattle.orch_core.specs.States.{State}
 use Rattle.orch_core.specs.Turns.{exchange_of}
 use Rattle.covered_laws.specs.Passages.{IsOutside}
 use Rattle.orch_core.specs.Settling.{known_of}
-use Rattle.orch_core.specs.Knowing.{updated}
+use Rattle.knowledge.specs.Knowing.{updated}
 use Rattle.run_laws.specs.Ready.{Ready}
 use Rattle.run_laws.specs.Flights.{flight_of, moment_at, takes}
 use Rattle.run_laws.specs.States.{HeldState, SoundState}

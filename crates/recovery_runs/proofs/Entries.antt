@@ -25,9 +25,10 @@ use Rattle.turns.specs.declared.turn.Turn.TheVariants as turn
 use Rattle.unended_jobs.specs.Hooked.{own_turn, Hooked}
 use Rattle.unended_jobs.specs.declared.docket.Docket.{Docket}
 use Rattle.unended_jobs.specs.declared.unended.Unended.{Unended}
-use Rattle.orch_core.specs.Closings.{closed_by, closing_at, closing_changes, closing_for, closing_of}
+use Rattle.knowledge.specs.Closings.{closed_by, closing_at, closing_changes, closing_for, closing_of}
 use Rattle.orch_core.specs.Jobs.{turn_of, turned_at}
-use Rattle.orch_core.specs.Polls.{changes_by, changes_of}
+use Rattle.orch_core.specs.Polls.{changes_of}
+use Rattle.knowledge.specs.Kept.{changes_by}
 use Rattle.orch_core.specs.After.{step}
 use Rattle.orch_core.specs.States.{State}
 use Rattle.run_laws.specs.Flights.{moment_at}

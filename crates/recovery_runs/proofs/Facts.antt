@@ -32,7 +32,7 @@ use Rattle.orch_core.specs.After.{after_act, step, after_done}
 use Rattle.orch_core.specs.Scenarios.{start}
 use Rattle.orch_core.specs.States.{State}
 use Rattle.orch_core.specs.Settling.{known_of}
-use Rattle.orch_core.specs.Knowing.{updated}
+use Rattle.knowledge.specs.Knowing.{updated}
 use Rattle.run_laws.specs.Ready.{Ready}
 use Rattle.run_laws.specs.Flights.{moment_at}
 use Rattle.run_laws.specs.States.{HeldState}

@@ -7,11 +7,11 @@ use Rattle.hook_texts.specs.declared.hooks.Hooks.{Hooks}
 use Rattle.hook_texts.specs.declared.values.Values.{Values}
 use Rattle.kept_rows.specs.declared.row.Row.{Row}
 use Rattle.orch_core.specs.After.{step}
-use Rattle.orch_core.specs.HookTelling.{told_of}
+use Rattle.command_outcomes.specs.HookTelling.{told_of}
 use Rattle.orch_core.specs.Runs.{engine, run_turns}
 use Rattle.orch_core.specs.Scenarios.{configuration_of, start}
 use Rattle.orch_core.specs.States.{State}
-use Rattle.orch_core.specs.declared.configuration.Configuration.{Configuration}
+use Rattle.command_outcomes.specs.declared.configuration.Configuration.{Configuration}
 use Rattle.recovery_hooks.specs.Runs.{HookState}
 use Rattle.recovery_plans.specs.Recoveries.{Recovery}
 use Rattle.recovery_plans.specs.declared.purpose.Purpose.{Purpose}

@@ -14,7 +14,7 @@ use Rattle.orch_base.specs.Memory.{next_count}
 use Rattle.orch_core.specs.After.{step, after_act, after_done}
 use Rattle.orch_core.specs.Jobs.{turn_of}
 use Rattle.orch_core.specs.Nodes.{act_in}
-use Rattle.orch_core.specs.Knowing.{updated}
+use Rattle.knowledge.specs.Knowing.{updated}
 use Rattle.orch_core.specs.Polls.{command_outcome, scan_outcome}
 use Rattle.orch_core.specs.Runs.{engine, run_turns}
 use Rattle.orch_core.specs.Settling.{known_of}

@@ -12,7 +12,7 @@ use Rattle.kept_rows.specs.declared.row.Row.{Row}
 use Rattle.operations.specs.Turns.{is_going}
 use Rattle.orch_base.specs.Memory.{next_count}
 use Rattle.orch_core.specs.After.{after_act, after_done, step as turn_step}
-use Rattle.orch_core.specs.HookTelling.{told_of}
+use Rattle.command_outcomes.specs.HookTelling.{told_of}
 use Rattle.orch_core.specs.Nodes.{act_in}
 use Rattle.orch_core.proofs.Claims.{act-fits}
 use Rattle.orch_core.specs.Jobs.{turn_of}

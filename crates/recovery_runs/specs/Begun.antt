@@ -4,9 +4,9 @@ use Rattle.book_views.specs.Sources.{replicas_of, label_at}
 use Rattle.hook_laws.specs.Tended.{IsOfDocket}
 use Rattle.orch_base.specs.Names.{HostPort}
 use Rattle.orch_base.specs.declared.code.Code.{Code}
-use Rattle.orch_core.specs.Commands.{Outcome}
-use Rattle.orch_core.specs.HookTelling.{told_of}
-use Rattle.orch_core.specs.Knowing.{updated}
+use Rattle.command_outcomes.specs.Commands.{Outcome}
+use Rattle.command_outcomes.specs.HookTelling.{told_of}
+use Rattle.knowledge.specs.Knowing.{updated}
 use Rattle.orch_core.specs.Polls.{command_outcome, scan_outcome}
 use Rattle.orch_core.specs.Settling.{known_of}
 use Rattle.orch_core.specs.States.{State}

@@ -28,11 +28,11 @@ use Rattle.turns.specs.declared.turn.Act.{Act}
 use Rattle.turns.specs.declared.turn.Act.TheVariants as act
 use Rattle.turns.specs.declared.turn.Turn.{Turn}
 use Rattle.turns.specs.declared.turn.Turn.TheVariants as turn
-use Rattle.orch_core.specs.Commands.{by_hand}
-use Rattle.orch_core.specs.HookTelling.{told_try, with_told}
+use Rattle.command_outcomes.specs.Commands.{by_hand}
+use Rattle.command_outcomes.specs.HookTelling.{told_try, with_told}
 use Rattle.orch_core.specs.Nodes.{act_in}
 use Rattle.orch_core.specs.Polls.{numbers_of}
-use Rattle.orch_core.specs.declared.configuration.Configuration.{Configuration}
+use Rattle.command_outcomes.specs.declared.configuration.Configuration.{Configuration}
 use Rattle.orch_core.specs.States.{State}
 use Rattle.run_laws.specs.Aims.{IsAbout, IsAimed, IsAskedBy, IsAskedIn, IsAskedOf, IsFor}
 use Rattle.run_laws.specs.Entries.{attempt_in, recoveries_begun, recoveries_by, recoveries_done, recoveries_in_act, recoveries_of, scan_in, takeovers_by, takeovers_of, tried}

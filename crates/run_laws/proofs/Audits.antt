@@ -57,17 +57,18 @@ use Rattle.turns.specs.declared.turn.Turn.TheVariants as turn
 use Rattle.scenarios.specs.declared.scenario.Scenario.{Scenario}
 use Rattle.scenarios.specs.Scenarios.{IsScenario, period_of}
 use Rattle.scenarios.specs.Turns.{IsAct, IsCommand, IsTurn}
-use Rattle.orch_core.specs.Closings.{closed_by, closing_changes, closing_of}
-use Rattle.orch_core.specs.Commands.{Outcome, about as given_or, asked, begun, by_hand, decided, discovered, entries_put, forgotten, next_reading, outcome_by, outcome_of, question, recovered, recovery_begun, refusal, removal, removal_refusal, taken_over}
+use Rattle.knowledge.specs.Closings.{closed_by, closing_changes, closing_of}
+use Rattle.command_outcomes.specs.Commands.{Outcome, about as given_or, asked, begun, by_hand, decided, discovered, entries_put, forgotten, next_reading, outcome_by, outcome_of, question, recovered, recovery_begun, refusal, removal, removal_refusal, taken_over}
 use Rattle.recovery_core.specs.Begun.{audit_after}
 use Rattle.recovery_core.specs.Tries.{Begins as RecoveryBegins, recovery_begins, takeover_begins, unless_refused}
 use Rattle.recovery_permits.specs.Recoveries.{recovery_refusal}
 use Rattle.recovery_permits.specs.Takeovers.{takeover_refusal}
-use Rattle.orch_core.specs.HookTelling.{told_try}
+use Rattle.command_outcomes.specs.HookTelling.{told_try}
 use Rattle.orch_core.specs.Jobs.{turn_of, turned_at}
-use Rattle.orch_core.specs.Polls.{act_changes, changes_by, changes_of, command_outcome, numbers_of, slot_at, done_changes}
+use Rattle.orch_core.specs.Polls.{act_changes, changes_of, command_outcome, numbers_of, slot_at, done_changes}
+use Rattle.knowledge.specs.Kept.{changes_by}
 use Rattle.orch_core.specs.Restarts.{interrupted_at, last_given, reloaded_audit, reloaded_rows, restart_changes}
-use Rattle.orch_core.specs.Periods.{period_by}
+use Rattle.command_outcomes.specs.Periods.{period_by}
 use Rattle.book_views.specs.Sources.{label_at}
 use Rattle.orch_core.specs.After.{after_act, step, after_done}
 use Rattle.orch_core.specs.Runs.{Held, engine, held_run, held_step}
@@ -79,7 +80,7 @@ use Rattle.orch_core.proofs.Servers.{servers-start}
 use Rattle.orch_core.proofs.Starts.{all-missing, all-registering, sources-start}
 use Rattle.orch_core.proofs.States.{one_known}
 use Rattle.orch_core.specs.Settling.{known_of}
-use Rattle.orch_core.specs.Knowing.{Knowledge, updated}
+use Rattle.knowledge.specs.Knowing.{Knowledge, updated}
 use Rattle.run_laws.specs.Begins.{BeginApartInTurn, entries_of}
 use Rattle.run_laws.proofs.Ready.{observed-known, put-kept, settings-count}
 use Rattle.run_laws.proofs.Readiness.{Ready-start, Ready-step}

@@ -27,10 +27,10 @@ use Rattle.turns.specs.declared.turn.Act.{Act}
 use Rattle.turns.specs.declared.turn.Act.TheVariants as act
 use Rattle.turns.specs.declared.turn.Turn.{Turn}
 use Rattle.turns.specs.declared.turn.Turn.TheVariants as turn
-use Rattle.orch_core.specs.Commands.{by_hand}
-use Rattle.orch_core.specs.HookTelling.{told_try, with_told}
-use Rattle.orch_core.specs.Periods.{period_by}
-use Rattle.orch_core.proofs.HookTold.{told-can, told-in-turn}
+use Rattle.command_outcomes.specs.Commands.{by_hand}
+use Rattle.command_outcomes.specs.HookTelling.{told_try, with_told}
+use Rattle.command_outcomes.specs.Periods.{period_by}
+use Rattle.command_outcomes.proofs.HookTold.{told-can, told-in-turn}
 use Rattle.orch_core.specs.Polls.{numbers_of}
 use Rattle.orch_core.specs.States.{State}
 use Rattle.run_laws.proofs.ReadyOutcomes.{within-both}

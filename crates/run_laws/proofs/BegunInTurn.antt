@@ -20,7 +20,7 @@ use Rattle.recovery_ends.specs.Ends.{IsShaped}
 use Rattle.recovery_core.specs.Begun.{BeginInTurn, CanBegin, IsListed, leases_after}
 use Rattle.recovery_core.specs.Tries.{Begins}
 use Rattle.unended_jobs.specs.Unended.{IsReady}
-use Rattle.orch_core.specs.Knowing.{recovery_job}
+use Rattle.knowledge.specs.Knowing.{recovery_job}
 
 -- ---- leases
 

@@ -28,7 +28,8 @@ use Rattle.node_claims.specs.declared.claims.ClaimAnswer.{ClaimAnswer}
 use Rattle.node_claims.specs.declared.claims.ClaimAnswer.TheVariants as claim
 use Rattle.opening_book.proofs.Following.{PutsRecovery, is_eq}
 use Rattle.orch_core.specs.Nodes.{act_in, claim_changes, claim_changes_by, claim_or, is_kept_so, release_changes, release_changes_by}
-use Rattle.orch_core.specs.Polls.{changes_of, done_changes, act_changes, changes_by, command_outcome, numbers_of, slot_at}
+use Rattle.orch_core.specs.Polls.{changes_of, done_changes, act_changes, command_outcome, numbers_of, slot_at}
+use Rattle.knowledge.specs.Kept.{changes_by}
 use Rattle.orch_core.specs.After.{after_done, step, after_act}
 use Rattle.orch_core.specs.States.{State, IsSlot}
 use Rattle.run_laws.specs.Claims.{IsClaimRow, claim_key, claim_row, claim_by_row}
@@ -53,12 +54,12 @@ use Rattle.jobs_in_flight.specs.Jobs.{job_at, job_observation}
 use Rattle.orch_core.specs.Jobs.{turned_at}
 use Rattle.recovery_core.specs.Tries.{Begins as RecoveryBegins, recovery_try, takeover_try}
 use Rattle.orch_base.specs.declared.recovery.Ending.{Ending}
-use Rattle.orch_core.specs.Closings.{closing_changes, closing_of}
-use Rattle.orch_core.specs.Knowing.{Knowledge, updated}
-use Rattle.orch_core.specs.Commands.{Outcome, about as given_or, asked, begun, by_hand, decided, discovered, entries_put, forgotten, next_reading, outcome_by, outcome_of, question, recovered, recovery_begun, refusal, removal, removal_refusal, taken_over}
-use Rattle.orch_core.specs.HookTelling.{told_try}
+use Rattle.knowledge.specs.Closings.{closing_changes, closing_of}
+use Rattle.knowledge.specs.Knowing.{Knowledge, updated}
+use Rattle.command_outcomes.specs.Commands.{Outcome, about as given_or, asked, begun, by_hand, decided, discovered, entries_put, forgotten, next_reading, outcome_by, outcome_of, question, recovered, recovery_begun, refusal, removal, removal_refusal, taken_over}
+use Rattle.command_outcomes.specs.HookTelling.{told_try}
 use Rattle.orch_core.specs.Restarts.{interrupted_at, last_given, reloaded_audit, reloaded_rows, restart_changes}
-use Rattle.orch_core.specs.Periods.{period_by}
+use Rattle.command_outcomes.specs.Periods.{period_by}
 use Rattle.opening_book.specs.Opening.{blocks_given, missing_from, registering_from}
 use Rattle.orch_core.proofs.Outcomes.{IsEffectFor, decided-effect}
 use Rattle.command_routes.specs.declared.route.Route.{Route}

@@ -39,7 +39,7 @@ use Rattle.unended_jobs.proofs.Hooked.{hooked-has}
 use Rattle.unended_jobs.specs.Unended.{IsReady, number_of}
 use Rattle.unended_jobs.specs.declared.unended.Unended.{Unended}
 use Rattle.unended_jobs.specs.declared.unended.Unended.TheVariants as unended
-use Rattle.orch_core.specs.Closings.{closed_by, closing_at, closing_by, closing_changes, closing_for, closing_of}
+use Rattle.knowledge.specs.Closings.{closed_by, closing_at, closing_by, closing_changes, closing_for, closing_of}
 use Rattle.orch_core.specs.Jobs.{turn_of, turned_at}
 use Rattle.orch_core.specs.States.{State}
 use Rattle.run_laws.specs.Ready.{Ready}

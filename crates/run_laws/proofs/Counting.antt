@@ -32,18 +32,18 @@ use Rattle.orch_core.proofs.Periods.{short-in}
 use Rattle.orch_core.proofs.Recoveries.{reloaded-most}
 use Rattle.orch_core.proofs.Starts.{moment-within, opened-is}
 use Rattle.orch_core.proofs.States.{one_known}
-use Rattle.orch_core.specs.Closings.{closing_of}
+use Rattle.knowledge.specs.Closings.{closing_of}
 use Rattle.orch_core.specs.Jobs.{turned_at}
 use Rattle.orch_core.specs.Polls.{command_outcome}
 use Rattle.orch_core.specs.Restarts.{interrupted_at, last_given, reloaded_audit, reloaded_moment}
 use Rattle.orch_core.specs.After.{after_act, step, after_done}
-use Rattle.orch_core.specs.Periods.{period_by}
+use Rattle.command_outcomes.specs.Periods.{period_by}
 use Rattle.orch_core.specs.Runs.{engine, run_turns, turns_of}
 use Rattle.orch_core.specs.Scenarios.{loaded_audit, start, start_moment, start_rows}
 use Rattle.orch_core.specs.States.{State}
 use Rattle.orch_core.specs.Turns.{later}
 use Rattle.orch_core.specs.Settling.{known_of}
-use Rattle.orch_core.specs.Knowing.{updated}
+use Rattle.knowledge.specs.Knowing.{updated}
 use Rattle.run_laws.specs.Begins.{BeginApartInTurn, entries_of}
 use Rattle.run_laws.proofs.Readiness.{Ready-start, Ready-step}
 use Rattle.run_laws.proofs.Ready.{settings-count}

@@ -28,9 +28,9 @@ use Rattle.run_laws.specs.BegunJobs.{BegunJob, begun_by, begun_of, of_plan, of_t
 use Rattle.run_laws.specs.Ready.{Ready}
 use Rattle.unended_jobs.specs.Unended.{IsReady}
 use Rattle.orch_core.proofs.Turned.{All-found}
-use Rattle.orch_core.specs.Commands.{by_hand}
-use Rattle.orch_core.specs.HookTelling.{told_try}
-use Rattle.orch_core.specs.Knowing.{recovery_job}
+use Rattle.command_outcomes.specs.Commands.{by_hand}
+use Rattle.command_outcomes.specs.HookTelling.{told_try}
+use Rattle.knowledge.specs.Knowing.{recovery_job}
 use Rattle.orch_core.specs.Polls.{numbers_of}
 use Rattle.command_jobs.specs.Jobs.{job_by, leases_by, refusal_by, regroup_about}
 use Rattle.command_routes.specs.Routes.{route_of}

@@ -49,13 +49,13 @@ use Rattle.unended_jobs.specs.declared.unended.Unended.{Unended}
 use Rattle.unended_jobs.specs.declared.unended.Unended.TheVariants as unended
 use Rattle.orch_core.specs.After.{after_act, after_done}
 use Rattle.orch_core.proofs.Closed.{flown-entry}
-use Rattle.orch_core.specs.Closings.{closed_by, closing_at, closing_for, closing_of}
-use Rattle.orch_core.specs.Commands.{Outcome, about as given_or, asked, begun as job_begun, by_hand, decided, discovered, forgotten, next_reading, outcome_by, outcome_of, question, recovered, recovery_begun, refusal, removal_refusal, taken_over}
-use Rattle.orch_core.specs.HookTelling.{told_try}
+use Rattle.knowledge.specs.Closings.{closed_by, closing_at, closing_for, closing_of}
+use Rattle.command_outcomes.specs.Commands.{Outcome, about as given_or, asked, begun as job_begun, by_hand, decided, discovered, forgotten, next_reading, outcome_by, outcome_of, question, recovered, recovery_begun, refusal, removal_refusal, taken_over}
+use Rattle.command_outcomes.specs.HookTelling.{told_try}
 use Rattle.orch_core.specs.Jobs.{turn_of}
 use Rattle.orch_core.specs.Nodes.{act_in}
 use Rattle.orch_core.specs.Runs.{act_asks, asks, done_asks}
-use Rattle.orch_core.specs.Knowing.{updated}
+use Rattle.knowledge.specs.Knowing.{updated}
 use Rattle.orch_core.specs.Polls.{command_outcome, numbers_of}
 use Rattle.orch_core.specs.Restarts.{interrupted_at}
 use Rattle.orch_core.specs.Settling.{known_of}

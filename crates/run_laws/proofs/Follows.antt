@@ -33,18 +33,19 @@ use Rattle.turns.specs.declared.turn.Act.TheVariants as act
 use Rattle.turns.specs.declared.turn.Turn.{Turn}
 use Rattle.turns.specs.declared.turn.Turn.TheVariants as turn
 use Rattle.commands.specs.declared.turn.CommandTurn.{CommandTurn}
-use Rattle.orch_core.specs.Polls.{act_changes, changes_by, changes_of, command_outcome, numbers_of, slot_at, done_changes}
+use Rattle.orch_core.specs.Polls.{act_changes, changes_of, command_outcome, numbers_of, slot_at, done_changes}
+use Rattle.knowledge.specs.Kept.{changes_by}
 use Rattle.jobs_in_flight.specs.Jobs.{book_turned, job_at, job_observation, stored, without_leases}
 use Rattle.orch_core.specs.Jobs.{turn_of, turned_at}
 use Rattle.recovery_core.specs.Begun.{leases_after}
 use Rattle.recovery_core.specs.Tries.{Begins as RecoveryBegins, recovery_try, takeover_try}
 use Rattle.orch_base.specs.declared.recovery.Ending.{Ending}
-use Rattle.orch_core.specs.Closings.{closing_changes, closing_of}
-use Rattle.orch_core.specs.Knowing.{Knowledge, updated}
-use Rattle.orch_core.specs.Commands.{Outcome, about as given_or, asked, begun, by_hand, decided, discovered, entries_put, forgotten, next_reading, outcome_by, outcome_of, question, recovered, recovery_begun, refusal, removal, removal_refusal, taken_over}
-use Rattle.orch_core.specs.HookTelling.{told_try}
+use Rattle.knowledge.specs.Closings.{closing_changes, closing_of}
+use Rattle.knowledge.specs.Knowing.{Knowledge, updated}
+use Rattle.command_outcomes.specs.Commands.{Outcome, about as given_or, asked, begun, by_hand, decided, discovered, entries_put, forgotten, next_reading, outcome_by, outcome_of, question, recovered, recovery_begun, refusal, removal, removal_refusal, taken_over}
+use Rattle.command_outcomes.specs.HookTelling.{told_try}
 use Rattle.orch_core.specs.Restarts.{interrupted_at, last_given, reloaded_audit, reloaded_book, reloaded_rows, restart_changes}
-use Rattle.orch_core.specs.Periods.{period_by}
+use Rattle.command_outcomes.specs.Periods.{period_by}
 use Rattle.opening_book.specs.Opening.{blocks_given, loading}
 use Rattle.orch_core.proofs.Outcomes.{IsEffectFor, decided-effect}
 use Rattle.command_routes.specs.declared.route.Route.{Route}

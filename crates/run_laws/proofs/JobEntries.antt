@@ -43,11 +43,11 @@ use Rattle.orch_core.proofs.Joining.{joined-rising}
 use Rattle.orch_core.specs.After.{after_act, after_done, after_job, step as turn_step}
 use Rattle.orch_core.proofs.Claims.{act-fits}
 use Rattle.orch_core.proofs.Closed.{flown-entry}
-use Rattle.orch_core.specs.Closings.{closed_by, closing_at, closing_for, closing_of}
-use Rattle.orch_core.specs.Commands.{Outcome, about as given_or, asked, begun as job_begun, by_hand, decided, discovered, forgotten, next_reading, outcome_by, outcome_of, question, recovered, recovery_begun, refusal, removal_refusal, taken_over}
-use Rattle.orch_core.specs.HookTelling.{told_try}
+use Rattle.knowledge.specs.Closings.{closed_by, closing_at, closing_for, closing_of}
+use Rattle.command_outcomes.specs.Commands.{Outcome, about as given_or, asked, begun as job_begun, by_hand, decided, discovered, forgotten, next_reading, outcome_by, outcome_of, question, recovered, recovery_begun, refusal, removal_refusal, taken_over}
+use Rattle.command_outcomes.specs.HookTelling.{told_try}
 use Rattle.orch_core.specs.Jobs.{turn_of}
-use Rattle.orch_core.specs.Knowing.{recovery_job, updated}
+use Rattle.knowledge.specs.Knowing.{recovery_job, updated}
 use Rattle.orch_core.specs.Nodes.{act_in}
 use Rattle.orch_core.specs.Polls.{command_outcome, numbers_of}
 use Rattle.orch_core.specs.Restarts.{interrupted_at, reloaded_audit}

@@ -23,7 +23,7 @@ use Rattle.kept_rows.specs.Seeing.{seen_in}
 use Rattle.orch_base.specs.declared.server.ServerNo.{ServerNo}
 use Rattle.permission.specs.Checks.{busy_by}
 use Rattle.server_model.specs.Gtids.{status}
-use Rattle.orch_core.specs.Commands.{busy_given, by_hand, first_of}
+use Rattle.command_outcomes.specs.Commands.{busy_given, by_hand, first_of}
 use Rattle.orch_core.specs.Permission.{refusal_by, recovery_refused, takeover_given, takeover_refused, unreached}
 use Rattle.orch_core.specs.Polls.{numbers_of}
 use Rattle.orch_core.specs.States.{State}

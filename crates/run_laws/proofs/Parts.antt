@@ -9,8 +9,8 @@ use Rattle.recovery_core.specs.Tries.{Begins}
 use Rattle.scenarios.specs.declared.scenario.Scenario.{Scenario}
 use Rattle.scenarios.specs.Scenarios.{period_of}
 use Rattle.turns.specs.declared.turn.Turn.{Turn}
-use Rattle.orch_core.specs.declared.configuration.Configuration.{Configuration}
-use Rattle.orch_core.specs.Periods.{period_by}
+use Rattle.command_outcomes.specs.declared.configuration.Configuration.{Configuration}
+use Rattle.command_outcomes.specs.Periods.{period_by}
 use Rattle.orch_core.specs.States.{State}
 use Rattle.run_laws.proofs.Beginnings.{turn-apart, turn-periods}
 use Rattle.run_laws.proofs.Periods.{configured-comes}

@@ -8,8 +8,8 @@ use Rattle.turns.specs.declared.turn.Act.TheVariants as act
 use Rattle.turns.specs.declared.turn.Turn.{Turn}
 use Rattle.turns.specs.declared.turn.Turn.TheVariants as turn
 use Rattle.orch_core.specs.After.{after_act, step, after_done}
-use Rattle.orch_core.specs.declared.configuration.Configuration.{Configuration}
-use Rattle.orch_core.specs.Periods.{period_by}
+use Rattle.command_outcomes.specs.declared.configuration.Configuration.{Configuration}
+use Rattle.command_outcomes.specs.Periods.{period_by}
 use Rattle.orch_core.specs.Runs.{engine, run_turns}
 use Rattle.orch_core.specs.Scenarios.{configuration_of, start}
 use Rattle.orch_core.specs.States.{State}

@@ -22,8 +22,8 @@ use Rattle.command_routes.specs.declared.route.Planner.{Planner}
 use Rattle.command_jobs.specs.Jobs.{job_by, leases_by, refusal_by as planned_refusal}
 use Rattle.command_jobs.proofs.Begun.{job-number}
 use Rattle.unended_jobs.specs.declared.unended.Unended.{Unended}
-use Rattle.orch_core.specs.Knowing.{updated}
-use Rattle.orch_core.specs.Commands.{Outcome, about as given_or, asked, begun, busy_given, by_hand, decided, discovered, first_of, forgotten, next_reading, outcome_by, outcome_of, recovered, recovery_begun, refusal, stays, taken_over}
+use Rattle.knowledge.specs.Knowing.{updated}
+use Rattle.command_outcomes.specs.Commands.{Outcome, about as given_or, asked, begun, busy_given, by_hand, decided, discovered, first_of, forgotten, next_reading, outcome_by, outcome_of, recovered, recovery_begun, refusal, stays, taken_over}
 use Rattle.audit_log.specs.Audits.{AuditState}
 use Rattle.book_commands.specs.declared.decided.Decided.{Decided}
 use Rattle.book_commands.specs.Decisions.{decided_of}
@@ -31,7 +31,7 @@ use Rattle.command_routes.specs.declared.route.Route.{Route}
 use Rattle.command_routes.specs.declared.route.Route.TheVariants.{Discovers, Forgets, Asks, Decides, Begins, Recovers, TakesOver}
 use Rattle.command_routes.specs.Routes.{route_of}
 use Rattle.instance_keeper.specs.Leases.{taken}
-use Rattle.orch_core.specs.HookTelling.{told_try}
+use Rattle.command_outcomes.specs.HookTelling.{told_try}
 use Rattle.orch_core.specs.Permission.{IsAnswer, IsDone, recovery_refused, refusal_at, refusal_by, takeover_given, takeover_refused, unreached}
 use Rattle.recovery_core.specs.Tries.{Begins as RecoveryBegins, recovery_begins, takeover_begins, unless_refused}
 use Rattle.recovery_permits.specs.Recoveries.{recovery_refusal}
@@ -45,7 +45,7 @@ use Rattle.orch_core.specs.Replies.{reply_of}
 use Rattle.orch_core.specs.After.{step}
 use Rattle.orch_core.specs.States.{State}
 use Rattle.orch_core.specs.Settling.{known_of, with_known}
-use Rattle.orch_core.specs.Periods.{period_by}
+use Rattle.command_outcomes.specs.Periods.{period_by}
 use Rattle.book_views.specs.Sources.{label_at}
 
 -- refused exactly with the refusal that applies, else so

@@ -30,8 +30,8 @@ use Rattle.unended_jobs.specs.Unended.{Flown, IsReady, number_of}
 use Rattle.unended_jobs.proofs.Going.{flown-allowed, flown-ready, flown-sees}
 use Rattle.operations.specs.Turns.{observed}
 use Rattle.orch_base.specs.declared.server.ServerNo.{ServerNo}
-use Rattle.orch_core.specs.Knowing.{updated}
-use Rattle.orch_core.specs.Commands.{Outcome}
+use Rattle.knowledge.specs.Knowing.{updated}
+use Rattle.command_outcomes.specs.Commands.{Outcome}
 use Rattle.jobs_in_flight.specs.Jobs.{book_turned, job_at, job_exchanges, jobs_turned, stored, with_job, without_job, without_leases}
 use Rattle.orch_core.specs.Jobs.{turn_of}
 use Rattle.orch_core.specs.Polls.{command_outcome, reading, scan_outcome, slot_at}

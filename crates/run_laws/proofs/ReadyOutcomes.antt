@@ -39,11 +39,11 @@ use Rattle.recovery_core.specs.Tries.{Begins as RecoveryBegins, recovery_try, ta
 use Rattle.scenarios.specs.Turns.{IsCommand}
 use Rattle.unended_jobs.specs.declared.unended.Unended.{Unended}
 use Rattle.unended_jobs.specs.Unended.{IsReady, number_of}
-use Rattle.orch_core.specs.Knowing.{recovery_job, updated}
-use Rattle.orch_core.specs.Commands.{Outcome, about as given_or, asked, begun, by_hand, decided, discovered, forgotten, outcome_by, outcome_of, question, recovered, recovery_begun, refusal, removal, removal_refusal, taken_over, terms_of}
-use Rattle.orch_core.specs.HookTelling.{told_try, with_told}
-use Rattle.orch_core.specs.Periods.{period_by}
-use Rattle.orch_core.proofs.HookTold.{told-can, told-in-turn}
+use Rattle.knowledge.specs.Knowing.{recovery_job, updated}
+use Rattle.command_outcomes.specs.Commands.{Outcome, about as given_or, asked, begun, by_hand, decided, discovered, forgotten, outcome_by, outcome_of, question, recovered, recovery_begun, refusal, removal, removal_refusal, taken_over, terms_of}
+use Rattle.command_outcomes.specs.HookTelling.{told_try, with_told}
+use Rattle.command_outcomes.specs.Periods.{period_by}
+use Rattle.command_outcomes.proofs.HookTold.{told-can, told-in-turn}
 use Rattle.orch_core.specs.Polls.{command_outcome, numbers_of, reading, scan_outcome}
 use Rattle.orch_core.specs.States.{State}
 use Rattle.orch_core.proofs.Outcomes.{IsEffectFor, decided-effect}

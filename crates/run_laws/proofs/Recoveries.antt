@@ -29,7 +29,7 @@ use Rattle.unended_laws.specs.Flights.{HeldJobs, SoundJobs}
 use Rattle.unended_laws.specs.Passages.{IsListed}
 use Rattle.unended_laws.proofs.Begun.{begin-held, begin-sound, recovery-held, recovery-sound}
 use Rattle.unended_laws.proofs.Cores.{cores-joined}
-use Rattle.orch_core.specs.Knowing.{recovery_job}
+use Rattle.knowledge.specs.Knowing.{recovery_job}
 use Rattle.run_laws.proofs.BegunInTurn.{length-taken}
 use Rattle.run_laws.specs.Flights.{by_recoveries}
 use Rattle.run_laws.proofs.Listing.{listed-behind}

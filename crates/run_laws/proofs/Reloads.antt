@@ -8,7 +8,7 @@ use Rattle.opening_book.specs.Counting.{counted}
 use Rattle.opening_book.specs.Following.{FollowAudit}
 use Rattle.scenarios.specs.declared.scenario.Scenario.{Scenario}
 use Rattle.turns.specs.declared.turn.Turn.{Turn}
-use Rattle.orch_core.specs.Periods.{period_by}
+use Rattle.command_outcomes.specs.Periods.{period_by}
 use Rattle.orch_core.specs.Restarts.{last_given, reloaded_audit}
 use Rattle.orch_core.specs.States.{State}
 use Rattle.run_laws.proofs.Ready.{settings-count}

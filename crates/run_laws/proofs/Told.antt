@@ -7,8 +7,8 @@ use Rattle.instance_keeper.specs.Book.{BookState}
 use Rattle.kept_rows.specs.declared.recovery.Recovery.{Recovery as KeptRecovery}
 use Rattle.recovery_core.specs.Tries.{Begins}
 use Rattle.answer_laws.specs.Tries.{AreTries, Left, Scan, after_begun}
-use Rattle.orch_core.specs.HookTelling.{with_told}
-use Rattle.orch_core.specs.declared.configuration.Configuration.{Configuration}
+use Rattle.command_outcomes.specs.HookTelling.{with_told}
+use Rattle.command_outcomes.specs.declared.configuration.Configuration.{Configuration}
 use Rattle.run_laws.specs.Begins.{entries_of}
 use Rattle.run_laws.specs.Lines.{AreLinesOf}
 

@@ -7,8 +7,8 @@ use Rattle.commands.specs.declared.turn.Command.{Command}
 use Rattle.commands.specs.declared.turn.CommandTurn.{CommandTurn}
 use Rattle.instance_keeper.specs.Leases.{taken}
 use Rattle.kept_rows.specs.declared.row.Row.{Row}
-use Rattle.orch_core.specs.Knowing.{recovery_job}
-use Rattle.orch_core.specs.Commands.{entries_put}
+use Rattle.knowledge.specs.Knowing.{recovery_job}
+use Rattle.command_outcomes.specs.Commands.{entries_put}
 use Rattle.orch_core.specs.Permission.{IsAnswer, refusal_at}
 use Rattle.orch_core.specs.Polls.{changes_of}
 use Rattle.orch_core.specs.Replies.{reply_of}

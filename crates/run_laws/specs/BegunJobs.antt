@@ -14,9 +14,9 @@ use Rattle.kept_rows.specs.declared.row.Change.{Change}
 use Rattle.orch_base.specs.declared.server.ServerNo.{ServerNo}
 use Rattle.recovery_core.specs.Tries.{Begins as RecoveryBegins, recovery_try, takeover_try}
 use Rattle.unended_jobs.specs.declared.unended.Unended.{Unended}
-use Rattle.orch_core.specs.Knowing.{recovery_job}
-use Rattle.orch_core.specs.Commands.{by_hand}
-use Rattle.orch_core.specs.HookTelling.{told_try}
+use Rattle.knowledge.specs.Knowing.{recovery_job}
+use Rattle.command_outcomes.specs.Commands.{by_hand}
+use Rattle.command_outcomes.specs.HookTelling.{told_try}
 use Rattle.orch_core.specs.Polls.{numbers_of}
 use Rattle.orch_core.specs.States.{State}
 

@@ -15,9 +15,9 @@ use Rattle.turns.specs.declared.turn.Act.TheVariants as act
 use Rattle.turns.specs.declared.turn.Turn.{Turn}
 use Rattle.turns.specs.declared.turn.Turn.TheVariants as turn
 use Rattle.run_laws.specs.Begins.{entries_of}
-use Rattle.orch_core.specs.Commands.{by_hand, terms_of}
-use Rattle.orch_core.specs.HookTelling.{told_try, with_told}
-use Rattle.orch_core.specs.Periods.{period_by}
+use Rattle.command_outcomes.specs.Commands.{by_hand, terms_of}
+use Rattle.command_outcomes.specs.HookTelling.{told_try, with_told}
+use Rattle.command_outcomes.specs.Periods.{period_by}
 use Rattle.orch_core.specs.Polls.{numbers_of}
 use Rattle.orch_core.specs.States.{State}
 use Rattle.orch_core.specs.Nodes.{act_in}

@@ -26,9 +26,9 @@ use Rattle.job_laws.specs.Flights.{Flight}
 use Rattle.job_laws.specs.Leases.{leases_of}
 use Rattle.job_laws.specs.Passages.{Passage}
 use Rattle.job_laws.specs.Passages as pass
-use Rattle.orch_core.specs.Knowing.{recovery_job}
-use Rattle.orch_core.specs.Commands.{by_hand, removal_refusal}
-use Rattle.orch_core.specs.HookTelling.{told_try}
+use Rattle.knowledge.specs.Knowing.{recovery_job}
+use Rattle.command_outcomes.specs.Commands.{by_hand, removal_refusal}
+use Rattle.command_outcomes.specs.HookTelling.{told_try}
 use Rattle.jobs_in_flight.specs.Jobs.{job_at}
 use Rattle.orch_core.specs.Nodes.{act_in}
 use Rattle.orch_core.specs.Polls.{numbers_of, reading, slot_at}

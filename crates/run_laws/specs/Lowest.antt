@@ -12,7 +12,7 @@ use Rattle.commands.specs.declared.refusal.Refusal.{Refusal}
 use Rattle.commands.specs.declared.refusal.Refusal.TheVariants as refusal
 use Rattle.commands.specs.declared.turn.Command.{Command}
 use Rattle.orch_base.specs.declared.server.ServerNo.{ServerNo}
-use Rattle.orch_core.specs.Commands.{busy_given, by_hand}
+use Rattle.command_outcomes.specs.Commands.{busy_given, by_hand}
 use Rattle.orch_core.specs.Permission.{refusal_at, unreached}
 use Rattle.orch_core.specs.Polls.{numbers_of}
 use Rattle.orch_core.specs.States.{State}

@@ -4,7 +4,7 @@ use Rattle.std.specs.Prelude.{◌≡◌, ◌≤◌, ℕ, All, length}
 use Rattle.audit_log.specs.Audits.{longest_block}
 use Rattle.instance_keeper.specs.Book.{IsBook}
 use Rattle.unended_jobs.specs.Unended.{IsReady}
-use Rattle.orch_core.specs.declared.configuration.Configuration.{Configuration}
+use Rattle.command_outcomes.specs.declared.configuration.Configuration.{Configuration}
 use Rattle.orch_core.specs.States.{HasKnownSource, IsSlot, State}
 use Rattle.scenarios.specs.Turns.{pollers}
 

@@ -18,7 +18,7 @@ use Rattle.turns.specs.declared.turn.Turn.TheVariants as turn
 use Rattle.jobs_in_flight.specs.Jobs.{is_open, most_turns}
 use Rattle.orch_core.specs.Keeping.{Ran}
 use Rattle.orch_core.specs.Replies.{reply_of}
-use Rattle.orch_core.specs.declared.fault.TurnFault.{TurnFault}
+use Rattle.knowledge.specs.declared.fault.TurnFault.{TurnFault}
 use Rattle.orch_core.specs.Rounds.{FinishedBy, IsFinish, WasCutShort, after_rounds, after_turns, round_of, times, told_in}
 use Rattle.jobs_in_flight.specs.Rounds.{polls, replicates, round_over}
 use Rattle.orch_core.specs.After.{step as turn_step}

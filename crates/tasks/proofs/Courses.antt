@@ -10,8 +10,8 @@ use Rattle.orch_base.specs.Names.{HostPort}
 use Rattle.kept_rows.specs.declared.row.Row.{Row}
 use Rattle.turns.specs.declared.turn.Turn.{Turn}
 use Rattle.turns.specs.declared.reply.Reply.{Reply}
-use Rattle.orch_core.specs.declared.fault.TurnFault.{TurnFault}
-use Rattle.orch_core.specs.declared.fault.TurnFault.TheVariants as fault
+use Rattle.knowledge.specs.declared.fault.TurnFault.{TurnFault}
+use Rattle.knowledge.specs.declared.fault.TurnFault.TheVariants as fault
 use Rattle.orch_core.specs.Keeping.{Calls, Ran, StepsTo, WasCutOff, kept_by}
 use Rattle.orch_core.specs.Replies.{reply_of}
 use Rattle.orch_core.specs.Runs.{Held, Recorded, engine, held_run, held_step, record_turn, recorder, run_turns}

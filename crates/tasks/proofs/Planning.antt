@@ -15,8 +15,8 @@ use Rattle.turns.specs.declared.reply.Reply.{Reply}
 use Rattle.turns.specs.declared.turn.Act.TheVariants as act
 use Rattle.turns.specs.declared.turn.Turn.{Turn}
 use Rattle.unended_jobs.specs.declared.unended.Unended.{Unended}
-use Rattle.orch_core.specs.declared.fault.TurnFault.{TurnFault}
-use Rattle.orch_core.specs.declared.fault.TurnFault.TheVariants as fault
+use Rattle.knowledge.specs.declared.fault.TurnFault.{TurnFault}
+use Rattle.knowledge.specs.declared.fault.TurnFault.TheVariants as fault
 use Rattle.orch_core.specs.Keeping.{WasCutOff}
 use Rattle.orch_core.specs.Nodes.{claimed}
 use Rattle.orch_core.specs.Replies.{act_reply}

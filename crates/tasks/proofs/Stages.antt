@@ -2,8 +2,8 @@
 use Rattle.std.proofs.Common.{◌≡◌, ◌∙◌, List, [], ◌∷◌, ◌++◌, take, refl, sym, ap, subst, arith, append_assoc, Option, inl, inr}
 use Rattle.kept_rows.specs.declared.row.Row.{Row}
 use Rattle.turns.specs.declared.turn.Turn.{Turn}
-use Rattle.orch_core.specs.declared.fault.TurnFault.{TurnFault}
-use Rattle.orch_core.specs.declared.fault.TurnFault.TheVariants as fault
+use Rattle.knowledge.specs.declared.fault.TurnFault.{TurnFault}
+use Rattle.knowledge.specs.declared.fault.TurnFault.TheVariants as fault
 use Rattle.orch_core.specs.Keeping.{Ran}
 use Rattle.orch_core.specs.Runs.{Recorded, recorder}
 use Rattle.orch_core.proofs.Finishing.{Ran-append}

@@ -1,7 +1,7 @@
 //! A run's report, written as the turns are taken.
 
 ghost use Rattle.std.specs.Prelude.{◌≡◌, false, IfErr, OnErr, OnOk};
-ghost use Rattle.orch_core.specs.Keeping.{HasTurnCause};
+ghost use Rattle.knowledge.specs.Faults.{HasTurnCause};
 ghost use Rattle.tasks.specs.Endings.{HasKeepersCause};
 ghost use Rattle.tasks.specs.Progress.{Adds, EndsCut, EndsWhole, Follows, GaveUp, IsFresh, point};
 ghost use Rattle.tasks.specs.Sinks.{Stays, across, taken};

@@ -3,7 +3,8 @@
 ghost use Rattle.std.specs.Prelude.{◌≡◌, ◌≤◌, [], IfOk, IfErr, IfSome, OnOk, length, option_map, if◌then◌else◌};
 ghost use Rattle.std.specs.Option.{option_to_list};
 ghost use Rattle.scenarios.specs.Turns.{IsNumberOf, IsTurn, NamesOneOf};
-ghost use Rattle.orch_core.specs.Keeping.{HasTurnCause, Ran, WasCutOff};
+ghost use Rattle.orch_core.specs.Keeping.{Ran, WasCutOff};
+ghost use Rattle.knowledge.specs.Faults.{HasTurnCause};
 ghost use Rattle.orch_core.specs.Replies.{reply_of};
 ghost use Rattle.orch_core.specs.Runs.{engine as plainly};
 ghost use Rattle.orch_core.specs.States.{nodes_of};

@@ -1,7 +1,7 @@
 //! A run's summary, written at its end.
 
 ghost use Rattle.std.specs.Prelude.{◌≡◌, ◌+◌, ◌<◌, ◌≤◌, ◌^◌, IfErr, IfOk};
-ghost use Rattle.orch_core.specs.Keeping.{HasTurnCause};
+ghost use Rattle.knowledge.specs.Faults.{HasTurnCause};
 ghost use Rattle.tasks.specs.Endings.{HasKeepersCause};
 ghost use Rattle.tasks.specs.Progress.{GivesUp, Tallies, point, with_reply};
 ghost use Rattle.tasks.specs.Report.{summary_of, verdict_of};

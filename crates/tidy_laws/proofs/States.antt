@@ -56,10 +56,10 @@ use Rattle.unended_laws.specs.Beside.{IsHeldBeside}
 use Rattle.unended_laws.proofs.Cores.{core-found}
 use Rattle.job_laws.specs.Leases.{leases_of}
 use Rattle.orch_core.specs.After.{after_act, step as turn_step, after_done}
-use Rattle.orch_core.specs.Commands.{Outcome, about, asked, by_hand, begun, decided, discovered, forgotten, next_reading, outcome_by, outcome_of, question, recovered, recovery_begun, refusal, removal_refusal, taken_over}
+use Rattle.command_outcomes.specs.Commands.{Outcome, about, asked, by_hand, begun, decided, discovered, forgotten, next_reading, outcome_by, outcome_of, question, recovered, recovery_begun, refusal, removal_refusal, taken_over}
 use Rattle.orch_core.specs.Jobs.{turn_of}
-use Rattle.orch_core.specs.HookTelling.{told_try, with_told}
-use Rattle.orch_core.specs.Knowing.{recovery_job}
+use Rattle.command_outcomes.specs.HookTelling.{told_try, with_told}
+use Rattle.knowledge.specs.Knowing.{recovery_job}
 use Rattle.orch_core.specs.Polls.{command_outcome, numbers_of, reading, scan_outcome}
 use Rattle.orch_core.specs.Settling.{settled}
 use Rattle.orch_core.specs.States.{State}

@@ -30,8 +30,8 @@ use Rattle.instance_keeper.specs.Leases.{taken}
 use Rattle.jobs_in_flight.specs.Jobs.{job_at}
 use Rattle.run_laws.specs.BegunJobs.{BegunJob, begun_of, entry_kept, with_entry}
 use Rattle.recovery_core.specs.Begun.{leases_after}
-use Rattle.orch_core.specs.Commands.{entries_put}
-use Rattle.orch_core.specs.Knowing.{recovery_job}
+use Rattle.command_outcomes.specs.Commands.{entries_put}
+use Rattle.knowledge.specs.Knowing.{recovery_job}
 use Rattle.run_laws.specs.Answering.{TriesByTable}
 use Rattle.run_laws.specs.Aims.{IsAimed}
 use Rattle.run_laws.specs.Entries.{entries_begun, recoveries_begun, recoveries_scanned}

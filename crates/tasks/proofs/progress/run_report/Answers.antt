@@ -1,6 +1,6 @@
 use Rattle.std.proofs.Common.{List, refl, arith, subst}
 use Rattle.orch_base.specs.Names.{HostPort}
-use Rattle.orch_core.specs.declared.fault.TurnFault.TheVariants as fault
+use Rattle.knowledge.specs.declared.fault.TurnFault.TheVariants as fault
 use Rattle.orch_core.specs.Runs.{recorder}
 use Rattle.orch_core.specs.Scenarios.{without_turns}
 use Rattle.orch_core.proofs.Runs.{Ran-nil}

@@ -5,7 +5,7 @@ use Rattle.commands.specs.declared.turn.CommandTurn.{CommandTurn}
 use Rattle.kept_rows.specs.declared.row.Row.{Row}
 use Rattle.orch_core.specs.Keeping.{Ran}
 use Rattle.orch_core.specs.Runs.{engine}
-use Rattle.orch_core.specs.declared.fault.TurnFault.{TurnFault}
+use Rattle.knowledge.specs.declared.fault.TurnFault.{TurnFault}
 use Rattle.turns.specs.declared.reply.Reply.{Reply}
 use Rattle.turns.specs.declared.turn.Turn.{Turn}
 use Rattle.tasks.specs.Progress.{Answers, ClosesEach, EndsEach, GivesUpEach, Point, Stops, point}

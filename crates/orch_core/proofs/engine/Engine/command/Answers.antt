@@ -3,9 +3,9 @@ use Rattle.std.specs.Prelude.{IfSome}
 use Rattle.commands.specs.declared.turn.CommandTurn.{CommandTurn}
 use Rattle.commands.specs.Turns.{is_within}
 use Rattle.scenarios.specs.Turns.{IsCommand}
-use Rattle.orch_core.specs.Commands.{outcome_of}
-use Rattle.orch_core.specs.CommandsBy.{outcome}
-use Rattle.orch_core.specs.declared.command.Numbers.{Numbers}
+use Rattle.command_outcomes.specs.Commands.{outcome_of}
+use Rattle.command_outcomes.specs.CommandsBy.{outcome}
+use Rattle.command_outcomes.specs.declared.command.Numbers.{Numbers}
 use Rattle.orch_core.specs.Polls.{command_outcome, numbers_of}
 use Rattle.orch_core.specs.Settling.{CanSettle}
 use Rattle.orch_core.specs.States.{State}

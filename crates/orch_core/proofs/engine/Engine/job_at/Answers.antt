@@ -7,14 +7,15 @@ use Rattle.turns.specs.declared.reply.Reply.{Reply}
 use Rattle.turns.specs.declared.turn.Act.TheVariants as act
 use Rattle.turns.specs.declared.turn.Turn.TheVariants as turn
 use Rattle.jobs_in_flight.specs.Jobs.{job_at, step_reply}
-use Rattle.orch_core.specs.Closings.{closed_by, closing_changes}
-use Rattle.orch_core.specs.Keeping.{kept_if}
-use Rattle.orch_core.specs.Polls.{changes_by, changes_of}
-use Rattle.orch_core.specs.Replies.{AreReply, reply_of}
+use Rattle.knowledge.specs.Closings.{closed_by, closing_changes}
+use Rattle.knowledge.specs.Kept.{changes_by, kept_if}
+use Rattle.orch_core.specs.Polls.{changes_of}
+use Rattle.orch_core.specs.Replies.{reply_of}
+use Rattle.knowledge.specs.Replies.{AreReply}
 use Rattle.orch_core.specs.After.{step}
 use Rattle.orch_core.specs.States.{IsOpenAt, State}
 use Rattle.orch_core.specs.EngineBy.{state_of}
-use Rattle.orch_core.specs.declared.closing.Closing.{Closing}
+use Rattle.knowledge.specs.declared.closing.Closing.{Closing}
 use Rattle.orch_core.proofs.Turned.{Looked, IsState-taken, changes-here, ends, ends-open, found-one, here, looked-as, none-kept, observed-book, observed-place, reply-is, servers-taken, step-here}
 use Rattle.orch_core.proofs.engine.Engine.job_at.Goals as goal
 

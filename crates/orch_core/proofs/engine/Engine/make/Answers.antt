@@ -8,10 +8,10 @@ use Rattle.opening_book.specs.Counting.{counted, greatest_id}
 use Rattle.kept_rows.specs.declared.row.Change.{Change}
 use Rattle.kept_rows.specs.declared.row.Row.{Row}
 use Rattle.opening_book.specs.Opening.{is_opening_change, loading, opening_changes}
-use Rattle.orch_core.specs.Keeping.{kept_if}
+use Rattle.knowledge.specs.Kept.{kept_if}
 use Rattle.node_claims.specs.Claims.{made as claims_made}
 use Rattle.orch_core.specs.Nodes.{holder_of, kept_claim}
-use Rattle.orch_core.specs.Periods.{period_by}
+use Rattle.command_outcomes.specs.Periods.{period_by}
 use Rattle.orch_core.specs.Scenarios.{kept_at_start}
 use Rattle.openings.specs.declared.init.ServerInit.{ServerInit}
 use Rattle.server_model.specs.Worlds.{World}

@@ -1,13 +1,13 @@
 use Rattle.std.proofs.Common.{◌≡◌, ◌≢◌, ◌∙◌, ◌≤◌, ◌^◌, [], Err, sym, ap, subst}
 use Rattle.std.specs.Prelude.{IfOk, OnOk, is_ok}
-use Rattle.orch_core.specs.Commands.{Outcome, scan_by}
-use Rattle.orch_core.specs.CommandsBy.{outcome}
-use Rattle.orch_core.specs.declared.command.Numbers.{Numbers}
-use Rattle.orch_core.specs.Keeping.{kept_if}
+use Rattle.command_outcomes.specs.Commands.{Outcome, scan_by}
+use Rattle.command_outcomes.specs.CommandsBy.{outcome}
+use Rattle.command_outcomes.specs.declared.command.Numbers.{Numbers}
+use Rattle.knowledge.specs.Kept.{kept_if}
 use Rattle.orch_core.specs.Polls.{numbers_of, scan_outcome}
-use Rattle.orch_core.specs.Replies.{AreReply}
+use Rattle.knowledge.specs.Replies.{AreReply}
 use Rattle.orch_core.specs.Settling.{CanSettle, settled}
-use Rattle.orch_core.specs.declared.fault.TurnFault.TheVariants as fault
+use Rattle.knowledge.specs.declared.fault.TurnFault.TheVariants as fault
 use Rattle.orch_core.specs.States.{State}
 use Rattle.orch_core.specs.EngineBy.{state_of}
 use Rattle.orch_core.proofs.Outcomes.{scan-settles}

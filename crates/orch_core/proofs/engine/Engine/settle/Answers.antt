@@ -1,8 +1,8 @@
 use Rattle.std.proofs.Common.{◌≡◌, ◌∙◌, sym, ap, subst}
-use Rattle.orch_core.specs.CommandsBy.{outcome}
+use Rattle.command_outcomes.specs.CommandsBy.{outcome}
 use Rattle.orch_core.specs.EngineBy.{state_of}
-use Rattle.orch_core.specs.Knowing.{IsUpdate, Knowledge, updated}
-use Rattle.orch_core.specs.KnowingBy.{known}
+use Rattle.knowledge.specs.Knowing.{IsUpdate, Knowledge, updated}
+use Rattle.knowledge.specs.KnowingBy.{known}
 use Rattle.orch_core.specs.Settling.{CanSettle, known_of, settled, with_known}
 use Rattle.orch_core.specs.States.{State}
 use Rattle.orch_core.proofs.Outcomes.{IsState-settled}

@@ -6,11 +6,12 @@ use Rattle.kept_rows.specs.declared.row.Row.{Row}
 use Rattle.opening_book.specs.Audits.{audit_of, latest_recovery}
 use Rattle.opening_book.specs.Counting.{counted}
 use Rattle.opening_book.specs.Opening.{loading}
-use Rattle.orch_core.specs.Periods.{period_by}
+use Rattle.command_outcomes.specs.Periods.{period_by}
 use Rattle.orch_base.specs.declared.server.Moment.{Moment}
 use Rattle.turns.specs.declared.turn.Act.TheVariants as act
 use Rattle.turns.specs.declared.turn.Turn.TheVariants as turn
-use Rattle.orch_core.specs.Keeping.{StepsTo, kept_if, kept_with}
+use Rattle.orch_core.specs.Keeping.{StepsTo, kept_with}
+use Rattle.knowledge.specs.Kept.{kept_if}
 use Rattle.orch_core.specs.Restarts.{interrupted_at, last_given, reloaded_audit, reloaded_moment, reloaded_rows, restart_changes}
 use Rattle.orch_core.specs.Runs.{engine}
 use Rattle.orch_core.specs.States.{State}

@@ -3,7 +3,7 @@ use Rattle.std.proofs.lemmas.List.{length-map, map-append}
 use Rattle.std.proofs.lemmas.Option.{same_Some}
 use Rattle.std.proofs.lemmas.Result.{err_from_is_err_and}
 use Rattle.turns.specs.declared.reply.Reply.{Reply}
-use Rattle.orch_core.specs.declared.fault.TurnFault.{TurnFault}
+use Rattle.knowledge.specs.declared.fault.TurnFault.{TurnFault}
 use Rattle.turns.specs.declared.turn.Turn.{Turn}
 use Rattle.orch_core.specs.Due.{last_poll, polled_at}
 use Rattle.orch_core.specs.Keeping.{Calls, StepsTo}

@@ -1,0 +1,2 @@
+pub mod HookTold
+pub mod Outcomes

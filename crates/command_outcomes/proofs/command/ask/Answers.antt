@@ -1,0 +1,15 @@
+use Rattle.std.proofs.Common.{◌∙◌, List, ap}
+use Rattle.asking_commands.specs.Answers.{answer_of, lines_of, permitted}
+use Rattle.kept_rows.specs.declared.recovery.Recovery.{Recovery}
+use Rattle.command_outcomes.specs.Commands.{asked}
+use Rattle.command_outcomes.proofs.Outcomes.{asked_refused}
+use Rattle.command_outcomes.proofs.command.ask.Goals as goal
+
+pub returns-in-Err-Refused : goal.returns-in-Err-Refused
+unfolding answer_of
+returns-in-Err-Refused c =
+    let said = rw c.in-Err-Refused.field-0-is at c.in-Err-Refused.ensures in
+    let book = c.args.book.now in
+    let t = c.args.t.now in
+    c.refused.ensures ∙ asked_refused c.args.reads _ _ c.in-Err-Refused.refusal said
+    ∙ ap (λ (rs : List Recovery). asked c.args.reads (permitted book t.command) (lines_of book rs t t.command.name)) c.recoveries.ensures.list

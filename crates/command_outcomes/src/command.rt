@@ -1,0 +1,421 @@
+//! What a command answers, and what it changes.
+
+ghost use Rattle.std.specs.Prelude.{◌≡◌, ◌<◌, ◌≤◌, ◌^◌, ◌∷◌, [], All, IfOk, IfSome, IsTrue, length};
+ghost use Rattle.std.specs.Option.{option_to_list};
+ghost use Rattle.instance_keeper.specs.Book.{discovery_change, instance_at};
+ghost use Rattle.commands.specs.Turns.{is_within};
+ghost use Rattle.asking_commands.specs.Answers.{allowed};
+ghost use Rattle.command_jobs.specs.Jobs.{planner_for};
+ghost use Rattle.command_outcomes.specs.Commands.{begun_by, decision, discovered, forgotten, next_reading, outcome_of, question, refusal, removal, removal_refusal};
+ghost use Rattle.command_outcomes.specs.Ids.{LeavesIds};
+ghost use Rattle.command_outcomes.specs.CommandsBy.{outcome};
+
+use crate::recovering::begin_by_hand;
+use crate::{Configuration, read_server};
+use asking_commands::{AnswerFault, answer, permit};
+use audit_log::Audit;
+use book_commands::{Decided, Effect, decide, rows_of};
+use book_views::book_forest;
+use command_jobs::{PermitFault, job, leases, permit as permit_job};
+use command_routes::{Decision, Planner, Route};
+use commands::{Command, CommandTurn, Line, Lines, Refusal};
+use instance_keeper::{Book, Change, Instance, Key, Observation, Row, Seen, Table};
+use orch_base::{Kind, Memory, Moment, ServerNo};
+use recovery_core::Begun;
+use server_model::World;
+use std::alloc::Global;
+use std::marker::Model;
+use turns::Reply;
+use unended_jobs::Unended;
+
+/// The numbers by which a command goes.
+#[derive(Clone, Copy)]
+pub struct Numbers {
+    /// The greatest read number so far.
+    pub reads: u64,
+    /// The number of the last job that was begun.
+    pub last_job: u64,
+    /// At most so many times a job waits.
+    pub wait: u32,
+    /// The distance of marks, 0 for none.
+    pub every: u64,
+    /// The moment at which it is asked.
+    pub moment: Moment,
+}
+
+/// A job that begins.
+#[derive(Drop)]
+pub struct Beginning {
+    /// The servers of which it takes the leases.
+    pub list: Vec<ServerNo>,
+    /// The job, at its first operation.
+    pub job: Unended,
+}
+
+impl Model for Beginning {
+    ghost use Rattle.command_outcomes.specs.Beginnings.{Beginning as Start};
+
+    ghost Value = { Start };
+
+    ghost use Rattle.command_outcomes.specs.BeginningsBy.{beginning_of};
+
+    ghost view = { beginning_of };
+}
+
+/// Recoveries that begin one after another, which contracts see as a list.
+#[derive(Drop)]
+pub struct Recoveries {
+    /// In the order in which they begin.
+    pub list: Vec<Begun>,
+}
+
+impl Model for Recoveries {
+    ghost use Rattle.std.specs.Prelude.{List};
+    ghost use Rattle.recovery_core.specs.Tries.{Begins};
+
+    ghost Value = { List Begins };
+
+    ghost view = { λ a. a.list.items };
+}
+
+impl Recoveries {
+    /// These recoveries. It takes no memory.
+    pub fn new(list: Vec<Begun>) -> Recoveries
+        ensures { result ≡ list.items }
+    {
+        Recoveries { list }
+    }
+}
+
+/// What a command or a scan makes of the book, the audit and the jobs.
+#[derive(Drop)]
+pub enum Update {
+    /// Nothing.
+    Stays,
+    /// This change.
+    Change(Change),
+    /// It takes in what was read of a server.
+    Discovery(Observation),
+    /// What an operator decided.
+    Decides(Effect),
+    /// A job begins, which takes its leases.
+    Begins(Beginning),
+    /// Recoveries begin one after another: each takes its leases, and has its entry in the audit.
+    Recovers(Recoveries),
+}
+
+/// What a command or a scan comes to.
+#[derive(Drop)]
+pub struct Outcome {
+    /// What it answers.
+    pub reply: Reply,
+    /// What it makes of what is known.
+    pub book: Update,
+    /// How it changes the kept rows, in order.
+    pub rows: Vec<Change>,
+    /// The greatest read number after it.
+    pub reads: u64,
+}
+
+pub(crate) fn refused(alloc: Global, reads: u64, why: Refusal) -> Outcome
+    ensures { outcome result ≡ refusal reads why }
+{
+    Outcome {
+        reply: Reply::Refused(why),
+        book: Update::Stays,
+        rows: Vec::new(alloc),
+        reads,
+    }
+}
+
+// The name of the instance as the only line.
+fn named(alloc: Global, no: ServerNo) -> Result<Reply, Memory>
+    ensures { IfOk result (λ r. r ≡ Reply.Told (Line.Server no ∷ [])) }
+{
+    let mut lines = Vec::with_capacity(alloc, 1)?;
+    lines.push(Line::Server(no))?;
+    Ok(Reply::Told(Lines::new(lines)))
+}
+
+// A list of the change, where there is one.
+fn listed(alloc: Global, change: Option<Change>) -> Result<Vec<Change>, Memory>
+    ensures { IfOk result (λ v. v.items ≡ option_to_list change) }
+{
+    let mut changes = Vec::new(alloc);
+    if let Some(change) = change {
+        changes.push(change)?;
+    }
+    Ok(changes)
+}
+
+// How the kept rows change: an instance that the book lacks is put; for one that it has the rule of stored readings
+// holds.
+fn discovery_change(book: &Book, o: &Observation, seen: &Seen) -> Result<Option<Change>, Memory>
+    requires { o.now.no.0 < length book.now.names }
+    ensures { IfOk result (λ c. c ≡ discovery_change
+        (instance_at book.now o.now.no) o.now seen.now) }
+{
+    if book.instance(o.no).is_some() {
+        return book.change_by(o);
+    }
+    Ok(Some(Change::Put(Row::Instance(Instance {
+        no: o.no,
+        read: o.read,
+        moment: o.moment,
+        valid: true,
+        seen: seen.copy()?,
+    }))))
+}
+
+fn discovered(alloc: Global, book: &Book, reads: u64, o: Observation) -> Result<Outcome, Memory>
+    requires { o.no.0 < length book.now.names }
+    ensures { IfOk result (λ out. outcome out ≡ discovered book.now reads o o.seen) }
+{
+    let Some(seen) = &o.seen else {
+        return Ok(refused(alloc, reads, Refusal::Unreachable(o.no)));
+    };
+    let rows = listed(alloc, discovery_change(book, &o, seen)?)?;
+    let reply = named(alloc, o.no)?;
+    let reads = o.read;
+    Ok(Outcome {
+        reply,
+        book: Update::Discovery(o),
+        rows,
+        reads,
+    })
+}
+
+// Reads the server itself.
+fn discover(
+    alloc: Global,
+    world: &World,
+    book: &Book,
+    numbers: Numbers,
+    no: ServerNo,
+) -> Result<Outcome, Memory>
+    requires world { no.0 < length world.now.servers }
+    requires book { no.0 < length book.now.names }
+    ensures { IfOk result (λ out. outcome out ≡ discovered book.now numbers.reads
+        (next_reading world.now numbers no) (next_reading world.now numbers no).seen) }
+{
+    let read = numbers.reads.saturating_add(1);
+    let o = read_server(alloc, world, no, read, numbers.moment)?;
+    discovered(alloc, book, numbers.reads, o)
+}
+
+fn removal(no: ServerNo) -> Change
+    ensures { result ≡ removal no }
+{
+    Change::Remove(Table::Instance, Key::Server(no))
+}
+
+// What refuses the removal: an instance that isn't in the book, or one of which a job has the lease.
+fn removal_refusal(book: &Book, command: Command) -> Option<Refusal>
+    requires i { IsTrue (is_within (length book.now.names) command.i) }
+    requires d { IsTrue (is_within (length book.now.names) command.d) }
+    ensures { result ≡ removal_refusal book.now command }
+{
+    if let Err(refusal) = permit(book, command) {
+        return Some(refusal);
+    }
+    let no = command.i?;
+    let job = book.lease(no)?;
+    Some(Refusal::Busy(no, job))
+}
+
+// Removes the instance.
+fn forget(
+    alloc: Global,
+    book: &Book,
+    command: Command,
+    no: ServerNo,
+    reads: u64,
+) -> Result<Outcome, Memory>
+    requires i { IsTrue (is_within (length book.now.names) command.i) }
+    requires d { IsTrue (is_within (length book.now.names) command.d) }
+    ensures { IfOk result (λ out. outcome out ≡ forgotten reads
+        (allowed (removal_refusal book.now command)) no) }
+{
+    if let Some(refusal) = removal_refusal(book, command) {
+        return Ok(refused(alloc, reads, refusal));
+    }
+    let rows = listed(alloc, Some(removal(no)))?;
+    let reply = named(alloc, no)?;
+    Ok(Outcome {
+        reply,
+        book: Update::Change(removal(no)),
+        rows,
+        reads,
+    })
+}
+
+// Asks the book or the audit.
+#[tactic(auto, unfolding(asking_commands::specs::Answers::answer_of), using(crate::proofs::Outcomes::asked_told, crate::proofs::Outcomes::asked_refused))]
+fn ask(
+    alloc: Global,
+    book: &Book,
+    audit: &Audit,
+    reads: u64,
+    t: &CommandTurn,
+) -> Result<Outcome, Memory>
+    requires i { IsTrue (is_within (length book.now.names) t.now.command.i) }
+    requires d { IsTrue (is_within (length book.now.names) t.now.command.d) }
+    ensures { IfOk result (λ out. outcome out ≡ question book.now audit.now.audit reads t.now) }
+{
+    match answer(alloc, book, audit.recoveries(), t) {
+        Ok(lines) => Ok(Outcome {
+            reply: Reply::Told(lines),
+            book: Update::Stays,
+            rows: Vec::new(alloc),
+            reads,
+        }),
+        Err(AnswerFault::Refused(refusal)) => Ok(refused(alloc, reads, refusal)),
+        Err(AnswerFault::Memory) => Err(Memory),
+    }
+}
+
+// Keeps what an operator decides.
+fn decision(
+    alloc: Global,
+    book: &Book,
+    audit: &Audit,
+    numbers: Numbers,
+    t: &CommandTurn,
+    what: Decision,
+) -> Result<Outcome, Memory>
+    requires i { IsTrue (is_within (length book.now.names) t.now.command.i) }
+    requires d { IsTrue (is_within (length book.now.names) t.now.command.d) }
+    requires moment { numbers.moment.0 ≤ 2 ^ 63 }
+    requires duration { IfSome t.now.keys.duration (λ n. n ≤ 31536000) }
+    ensures { IfOk result (λ out. outcome out ≡ decision book.now audit.now.audit numbers t.now
+        what) }
+{
+    if let Err(refusal) = permit(book, t.command) {
+        return Ok(refused(alloc, numbers.reads, refusal));
+    }
+    let now = numbers.moment;
+    let decided = decide(alloc, book, audit, now, &t.keys, t.command.i, what)?;
+    let rows = rows_of(alloc, audit, &decided.effect)?;
+    let Decided { lines, effect } = decided;
+    Ok(Outcome {
+        reply: Reply::Told(lines),
+        book: Update::Decides(effect),
+        rows,
+        reads: numbers.reads,
+    })
+}
+
+// Begins the job of a command, unless it is refused. Where no number is left for a job, memory wants.
+fn begin_by(
+    alloc: Global,
+    world: &World,
+    book: &Book,
+    numbers: Numbers,
+    command: Command,
+    planner: Planner,
+) -> Result<Outcome, Memory>
+    requires { planner_for command.name ≡ Some planner }
+    ensures { IfOk result (λ out. outcome out ≡ begun_by world.now book.now numbers command
+        planner) }
+{
+    let forest = book_forest(alloc, book)?;
+    match permit_job(
+        alloc,
+        book,
+        &forest,
+        world,
+        command,
+        planner,
+        numbers.moment,
+        numbers.every,
+    ) {
+        Ok(()) => {}
+        Err(PermitFault::Refused(why)) => return Ok(refused(alloc, numbers.reads, why)),
+        Err(PermitFault::Memory) => return Err(Memory),
+    }
+    if numbers.last_job == u64::MAX {
+        return Err(Memory);
+    }
+    let number = numbers.last_job + 1;
+    let list = leases(alloc, book, &forest, world, command, planner)?;
+    let job = job(
+        alloc,
+        book,
+        &forest,
+        world,
+        command,
+        planner,
+        number,
+        numbers.wait,
+        numbers.every,
+    )?;
+    Ok(Outcome {
+        reply: Reply::Begun(number),
+        book: Update::Begins(Beginning { list, job }),
+        rows: Vec::new(alloc),
+        reads: numbers.reads,
+    })
+}
+
+/// The outcome of a command, by the numbers that it goes by. It changes nothing. Memory comes, too, where no number is
+/// left for a job, or no id in the audit.
+#[tactic(auto, unfolding(crate::specs::Commands::outcome_of))]
+pub fn outcome_of(
+    alloc: Global,
+    world: &World,
+    book: &Book,
+    audit: &Audit,
+    configuration: &Configuration,
+    numbers: Numbers,
+    t: &CommandTurn,
+) -> Result<Outcome, Memory>
+    requires servers { length book.now.names ≡ length world.now.servers }
+    requires i { IsTrue (is_within (length book.now.names) t.now.command.i) }
+    requires d { IsTrue (is_within (length book.now.names) t.now.command.d) }
+    requires moment { numbers.moment.0 ≤ 2 ^ 63 }
+    requires duration { IfSome t.now.keys.duration (λ n. n ≤ 31536000) }
+    requires begun { All (λ r. r.begun.0 ≤ 2 ^ 63) audit.now.audit.recoveries }
+    ensures outcome { IfOk result (λ out. outcome out
+        ≡ outcome_of world.now book.now audit.now.audit configuration.now numbers t.now) }
+    ensures ids { IfOk result (λ out. LeavesIds out.book) }
+{
+    match (Route::of(t.command.name), t.command.i) {
+        (Route::Discovers, Some(no)) => discover(alloc, world, book, numbers, no),
+        (Route::Forgets, Some(no)) => forget(alloc, book, t.command, no, numbers.reads),
+        (Route::Decides(what), _) => decision(alloc, book, audit, numbers, t, what),
+        (Route::Begins(planner), _) => begin_by(alloc, world, book, numbers, t.command, planner),
+        (Route::Recovers, Some(no)) => {
+            begin_by_hand(
+                alloc,
+                world,
+                book,
+                audit,
+                configuration,
+                numbers,
+                None,
+                no,
+                None,
+            )
+        }
+        (Route::TakesOver, Some(no)) => {
+            let takeover = Some(Kind::Takeover);
+            begin_by_hand(
+                alloc,
+                world,
+                book,
+                audit,
+                configuration,
+                numbers,
+                takeover,
+                no,
+                t.command.d,
+            )
+        }
+        (Route::Recovers | Route::TakesOver, None) => {
+            Ok(refused(alloc, numbers.reads, Refusal::UnknownInstance))
+        }
+        (Route::Discovers | Route::Forgets, None) | (Route::Asks(_), _) => {
+            ask(alloc, book, audit, numbers.reads, t)
+        }
+    }
+}

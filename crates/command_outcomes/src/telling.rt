@@ -1,0 +1,86 @@
+//! What the hooks of recoveries that begin are told.
+
+ghost use Rattle.std.specs.Prelude.{◌≡◌, IfOk, map};
+ghost use Rattle.command_outcomes.specs.HookTelling.{hooks_by, told_of, with_told};
+
+use crate::Configuration;
+use hook_texts::Values;
+use instance_keeper::Book;
+use orch_base::{Code, Memory, Name, OwnedText};
+use recovery_core::Begun;
+use recovery_hooks::{HookRun, code_word};
+use std::alloc::Global;
+
+fn text_of(alloc: Global, text: &str) -> Result<OwnedText, Memory>
+    ensures { IfOk result (λ t. t ≡ text.now) }
+{
+    Ok(OwnedText::new(String::from_str(alloc, text)?))
+}
+
+fn told_of(
+    alloc: Global,
+    configuration: &Configuration,
+    failed: &Name,
+    cluster: &str,
+    code: Code,
+) -> Result<Values, Memory>
+    ensures { IfOk result (λ v. v ≡ told_of configuration.now failed.now cluster.now code) }
+{
+    Ok(Values {
+        failure_type: text_of(alloc, code_word(code))?,
+        failed: failed.copy(alloc)?,
+        cluster: text_of(alloc, cluster)?,
+        alias: text_of(alloc, configuration.aliases.alias(cluster))?,
+        successor: None,
+        successful: false,
+    })
+}
+
+fn hooks_of(
+    alloc: Global,
+    configuration: &Configuration,
+    book: &Book,
+    begun: &Begun,
+) -> Result<Option<HookRun>, Memory>
+    ensures { IfOk result (λ h. h ≡ hooks_by configuration.now book.now begun.now begun.now.code) }
+{
+    let Some(code) = begun.code() else {
+        return Ok(None);
+    };
+    let entry = begun.entry();
+    let Some(failed) = book.names().get(entry.failed.0 as usize) else {
+        return Ok(None);
+    };
+    let told = told_of(alloc, configuration, failed, entry.cluster.as_str(), code)?;
+    Ok(Some(HookRun::begin(alloc, &configuration.hooks, told)?))
+}
+
+/// The recovery with its hooks, which are told of its failed server.
+pub(crate) fn with_told(
+    alloc: Global,
+    configuration: &Configuration,
+    book: &Book,
+    begun: Begun,
+) -> Result<Begun, Memory>
+    ensures { IfOk result (λ x. x ≡ with_told configuration.now book.now begun) }
+{
+    let hooks = hooks_of(alloc, configuration, book, &begun)?;
+    Ok(begun.with_hooks(hooks))
+}
+
+/// Each of the recoveries so.
+pub(crate) fn all_told(
+    alloc: Global,
+    configuration: &Configuration,
+    book: &Book,
+    begun: Vec<Begun>,
+) -> Result<Vec<Begun>, Memory>
+    ensures { IfOk result (λ v. v.items
+        ≡ map (with_told configuration.now book.now) begun.items) }
+{
+    let mut told = Vec::with_capacity(alloc, begun.len())?;
+    for one in begun {
+        told.push(with_told(alloc, configuration, book, one)?)?;
+    }
+    Ok(told)
+}

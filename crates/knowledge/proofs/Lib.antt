@@ -1,0 +1,3 @@
+pub mod Newer
+pub mod Closings
+pub mod Remaining

@@ -1,0 +1,17 @@
+-- How the kept rows change.
+use Rattle.std.specs.Prelude.{Bool, List, [], Option, Some, None, if◌then◌else◌}
+use Rattle.std.specs.Option.{option_map, option_to_list}
+use Rattle.instance_keeper.specs.Book.{BookState, instance_at, store_change}
+use Rattle.kept_rows.specs.Rows.{changed}
+use Rattle.kept_rows.specs.declared.observation.Observation.{Observation}
+use Rattle.kept_rows.specs.declared.row.Change.{Change}
+use Rattle.kept_rows.specs.declared.row.Row.{Row}
+
+-- the kept rows with these changes, where they are made and the keeper tells its rows
+abbrev pub kept_if : Bool → Option (List Row) → List Change → Option (List Row)
+kept_if made kept changes = if made then option_map (λ rows. changed rows changes) kept else kept
+
+-- how storing the reading of a slot changes them
+abbrev pub changes_by : BookState → Option Observation → List Change
+changes_by b None = []
+changes_by b (Some o) = option_to_list (store_change (instance_at b o.no) o)

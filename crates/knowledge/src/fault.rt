@@ -1,0 +1,48 @@
+//! Why a turn gave up.
+
+use instance_keeper::KeeperFault;
+use orch_base::Memory;
+use std::fmt;
+
+/// Why a turn, or the opening, gave up.
+#[derive(Clone, Copy, Debug, PartialEq, Eq)]
+pub enum TurnFault {
+    /// The keeper failed, and counted it.
+    Keeper,
+    /// Want of memory.
+    Memory,
+}
+
+impl From<Memory> for TurnFault {
+    ghost use Rattle.std.specs.Prelude.{◌≡◌};
+    ghost use Rattle.knowledge.specs.declared.fault.TurnFault.TheVariants.{Memory};
+
+    ghost from_gives = { λ _ e. e ≡ Memory };
+
+    fn from(_e: Memory) -> TurnFault {
+        TurnFault::Memory
+    }
+}
+
+impl From<KeeperFault> for TurnFault {
+    ghost use Rattle.std.specs.Prelude.{◌≡◌};
+    ghost use Rattle.knowledge.specs.Faults.{fault_by};
+
+    ghost from_gives = { λ x e. e ≡ fault_by x };
+
+    fn from(e: KeeperFault) -> TurnFault {
+        match e {
+            KeeperFault::Failed => TurnFault::Keeper,
+            KeeperFault::Memory => TurnFault::Memory,
+        }
+    }
+}
+
+impl fmt::Display for TurnFault {
+    fn fmt<W: fmt::Write>(&self, f: &mut fmt::Formatter<W>) -> fmt::Result {
+        match self {
+            TurnFault::Keeper => write!(f, "the keeper failed"),
+            TurnFault::Memory => write!(f, "out of memory"),
+        }
+    }
+}

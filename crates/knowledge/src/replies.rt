@@ -1,0 +1,41 @@
+//! What a turn answers, and once more for a journal.
+
+ghost use Rattle.std.specs.Prelude.{◌≡◌, IfOk, None, Some, if◌then◌else◌, true};
+ghost use Rattle.knowledge.specs.Replies.{AreReply};
+ghost use Rattle.turns.specs.Plain.{is_plain};
+
+use orch_base::Memory;
+use std::alloc::Global;
+use turns::Reply;
+
+/// What a turn answers.
+#[derive(Drop)]
+pub struct Replies {
+    /// To be told.
+    pub told: Reply,
+    /// Once more for a journal, where one is written.
+    pub written: Option<Reply>,
+}
+
+/// A reply that holds nothing on the heap, and once more for a journal, where it is written.
+pub fn plain(reply: Reply, written: bool) -> Replies
+    requires { is_plain reply ≡ true }
+    ensures { AreReply written reply result }
+{
+    let again = if written { Some(reply.again()) } else { None };
+    Replies {
+        told: reply,
+        written: again,
+    }
+}
+
+/// The reply's copy for a journal, where it is written.
+pub fn copied(alloc: Global, reply: &Reply, written: bool) -> Result<Option<Reply>, Memory>
+    ensures { IfOk result (λ r. r ≡ (if written then Some reply.now else None)) }
+{
+    if written {
+        Ok(Some(reply.copy(alloc)?))
+    } else {
+        Ok(None)
+    }
+}

@@ -1,6 +1,0 @@
-use Rattle.std.proofs.Common.{◌≡◌, take}
-use Rattle.orch_core.specs.Commands.{entries_put}
-use Rattle.orch_core.proofs.recovering.entries_put.Given as goal
-
-abbrev pub invariant-loop-one : goal.invariant-loop-one
-invariant-loop-one l = l.changes.items ≡ entries_put (take l.one-index l.begun)

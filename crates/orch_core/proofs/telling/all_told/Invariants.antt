@@ -1,6 +1,0 @@
-use Rattle.std.proofs.Common.{◌≡◌, map}
-use Rattle.orch_core.specs.HookTelling.{with_told}
-use Rattle.orch_core.proofs.telling.all_told.Given as goal
-
-abbrev pub invariant-loop-one : goal.invariant-loop-one
-invariant-loop-one l = l.told.items ≡ map (with_told l.configuration l.book) l.yielded

@@ -1,6 +1,0 @@
-use Rattle.orch_core.specs.Beginnings.{Beginning as Start}
-use Rattle.orch_core.specs.declared.command.Beginning.TheInside.{Inside}
-
--- what contracts see of a beginning
-abbrev pub beginning_of : Inside → Start
-beginning_of a = record { list = a.list.items; job = a.job }

@@ -1,6 +1,0 @@
-use Rattle.orch_core.specs.Commands.{Outcome}
-use Rattle.orch_core.specs.declared.command.Outcome.{Outcome as Inside}
-
--- what contracts see of an outcome
-abbrev pub outcome : Inside → Outcome
-outcome o = record { reply = o.reply; book = o.book; rows = o.rows.items; reads = o.reads }

@@ -1,8 +1,0 @@
--- Block periods of clusters.
-use Rattle.std.specs.Prelude.{ℕ, List}
-use Rattle.scenarios.specs.Blocks.{period_in}
-use Rattle.orch_core.specs.declared.configuration.Configuration.{Configuration}
-
--- of a cluster, by its label: its own, if it has one, and else that of all
-abbrev pub period_by : Configuration → List ℕ → ℕ
-period_by c cluster = period_in c.blocks c.block cluster
