@@ -1,20 +1,12 @@
 -- Which recovery is told as the one that blocks.
 use Rattle.std.proofs.Common.{◌≡◌, ℕ, ◌+◌, ◌-◌, ◌≤◌, Bool, true, false, cond, not, ◌&&◌, List, [], ◌∷◌, ◌++◌, refl, sym, ◌∙◌, ap, subst, append_assoc, Option, Some, None, Result, Ok, Err, ◌⊎◌, inl, inr}
 use Rattle.std.specs.Prelude.{All, find, nat_eq, nat_lt, reverse}
-use Rattle.std.specs.Cmp.Lexicographic.{nat_list_eq_equiv, pointwise, same_text}
+use Rattle.answer_laws.proofs.Prelude.{All-cons, All-nil, All-reverse, All-weaker, AuditState, Held, IsClosed, IsFree, IsHeldBack, IsLastBlock}
+use Rattle.answer_laws.proofs.Prelude.{Moment, Recovery, and_parts, false≢true, held_by, is_blocking, is_of, is_unended, last_blocking, ltb-false}
+use Rattle.answer_laws.proofs.Prelude.{ltb-true, may_begin, nat_list_eq_equiv, none-passes, not-true, pointwise, reverse-append, reverse-reverse}
+use Rattle.answer_laws.proofs.Prelude.{same_Some, same_text, unended_of}
+use Rattle.answer_laws.proofs.Prelude.held
 use mathlib.Core.List.{reverse-cons}
-use Rattle.std.proofs.lemmas.Bool.{and_parts, false≢true, ltb-false, ltb-true, not-true}
-use Rattle.std.proofs.lemmas.List.{reverse-append, reverse-reverse}
-use Rattle.std.proofs.lemmas.List.Elements.{All-cons, All-nil, All-weaker}
-use Rattle.std.proofs.lemmas.Option.{same_Some}
-use Rattle.orch_base.specs.declared.server.Moment.{Moment}
-use Rattle.kept_rows.specs.declared.recovery.Recovery.{Recovery}
-use Rattle.audit_log.specs.declared.held.Held.{Held}
-use Rattle.audit_log.specs.declared.held.Held.TheVariants as held
-use Rattle.audit_log.specs.Apart.{IsFree, IsHeldBack}
-use Rattle.audit_log.specs.Audits.{AuditState, held_by, is_blocking, is_of, is_unended, last_blocking, may_begin, unended_of}
-use Rattle.audit_log.proofs.Finding.{All-reverse, none-passes}
-use Rattle.answer_laws.specs.Latest.{IsClosed, IsLastBlock}
 
 -- the first that passes, none before it does
 record IsFirst (p : Recovery → Bool) (xs : List Recovery) (y : Recovery) : Type 0 where

@@ -1,56 +1,28 @@
 -- What is asked of servers beside the book are their settings, and whether GTIDs are used.
 use Rattle.std.proofs.Common.{◌≡◌, ℕ, Bool, false, not, ◌&&◌, ◌||◌, List, [], ◌∷◌, ◌++◌, refl, sym, ◌∙◌, ap, Option, Some, None}
 use Rattle.std.specs.Prelude.{option_map, ◌==◌, nat_eq}
-use Rattle.std.specs.Cmp.Lexicographic.{pointwise}
-use Rattle.std.specs.List.{list_any}
-use Rattle.std.specs.Option.{option_or, option_to_list}
-use Rattle.orch_base.specs.declared.code.Code.{Code}
-use Rattle.orch_base.specs.declared.server.Moment.{Moment}
-use Rattle.orch_base.specs.declared.server.ServerNo.{ServerNo}
-use Rattle.orch_base.specs.declared.server.Settings.{Settings}
-use Rattle.orch_base.specs.declared.server.Version.{Version}
-use Rattle.server_model.specs.declared.server.Server.{Server}
-use Rattle.server_model.specs.Worlds.{World, server_at}
-use Rattle.commands.specs.declared.refusal.Refusal.TheVariants as refusal
-use Rattle.commands.specs.declared.turn.Command.{Command}
-use Rattle.instance_keeper.specs.Book.{BookState, rule_at}
-use Rattle.book_views.specs.Sources.{is_instance, is_replica_of, replicas_of}
-use Rattle.audit_log.specs.Audits.{AuditState}
-use Rattle.failure_analysis.specs.Table.{action_of}
-use Rattle.failure_analysis.specs.declared.code.Action.{Action}
-use Rattle.failure_analysis.specs.declared.code.Action.TheVariants.{MasterRecovery, IntermediateRecovery, Nothing}
-use Rattle.promotion_candidates.specs.Candidates.{has_candidate, is_candidate}
-use Rattle.promotion_rules.specs.Choice.{is_barred}
-use Rattle.permission.specs.Checks.{Case, errant, errant_by, first_refusal, of_lower_version, of_other_cluster, of_same_id, refusal_by, unknown_in, unlogged, without_log}
-use Rattle.permission.specs.Errants.{own_missing}
-use Rattle.permission.specs.Lists.{first_about, only_if}
-use Rattle.permission.specs.Replicas.{replicas_but}
-use Rattle.permission.specs.Rows.{about, about_one, going_by, moving}
-use Rattle.permission.specs.Views.{has_log, id_in, is_auto, is_lower, is_valid, label_in, logs_in, lower_version, same_id, same_label, set_seen, source_of, uuid_in, version_in}
-use Rattle.permission.specs.declared.case.Check.{Check}
-use Rattle.permission.specs.declared.case.Check.TheVariants as check
-use Rattle.command_routes.specs.declared.kinds.CoordsCommand.{CoordsCommand}
-use Rattle.command_routes.specs.declared.kinds.CoordsCommand.TheVariants as coord
-use Rattle.command_routes.specs.declared.kinds.GtidCommand.{GtidCommand}
-use Rattle.moves_coords.specs.Commands.{coords_command}
-use Rattle.moves_coords.specs.Permits as coords
-use Rattle.moves_coords.specs.Plans as coords_plans
-use Rattle.moves_gtid.specs.Commands.{gtid_command}
-use Rattle.moves_gtid.specs.Permits as gtids
-use Rattle.recovery_permits.specs.Checks.{code_at, can_succeed, has_successor, held_back, no_master, no_replica}
-use Rattle.recovery_permits.specs.Recoveries as recovery
-use Rattle.recovery_permits.specs.Takeovers as takeover
-use Rattle.recovery_permits.specs.declared.attempt.Attempt.{Attempt}
-use Rattle.pseudo_match.specs.Commands.{pseudo_command}
-use Rattle.pseudo_match.specs.Permits as matches
-use Rattle.pseudo_match.specs.declared.command.PseudoCommand.{PseudoCommand}
-use Rattle.pseudo_match.specs.declared.command.PseudoCommand.TheVariants as matching
-use Rattle.regroup.specs.Commands.{regroup_command}
-use Rattle.regroup.specs.Permits as paths
-use Rattle.regroup.specs.Plans as path_plans
-use Rattle.regroup.specs.declared.command.RegroupCommand.{RegroupCommand}
-use Rattle.regroup.specs.declared.command.RegroupCommand.TheVariants as path
-use Rattle.answer_laws.specs.Settings.{SameSettings}
+use Rattle.answer_laws.proofs.Prelude.{Action, Attempt, AuditState, BookState, Case, Check, Code, Command, CoordsCommand, GtidCommand}
+use Rattle.answer_laws.proofs.Prelude.{IntermediateRecovery, MasterRecovery, Moment, Nothing, PseudoCommand, RegroupCommand, SameSettings, Server}
+use Rattle.answer_laws.proofs.Prelude.{ServerNo, Settings, Version, World, about, about_one, action_of, can_succeed, code_at, coords_command, errant}
+use Rattle.answer_laws.proofs.Prelude.{errant_by, first_about, first_refusal, going_by, gtid_command, has_candidate, has_log, has_successor}
+use Rattle.answer_laws.proofs.Prelude.{held_back, id_in, is_auto, is_barred, is_candidate, is_instance, is_lower, is_replica_of, is_valid, label_in}
+use Rattle.answer_laws.proofs.Prelude.{list_any, logs_in, lower_version, moving, no_master, no_replica, of_lower_version, of_other_cluster}
+use Rattle.answer_laws.proofs.Prelude.{of_same_id, only_if, option_or, option_to_list, own_missing, pointwise, pseudo_command, refusal_by}
+use Rattle.answer_laws.proofs.Prelude.{regroup_command, replicas_but, replicas_of, rule_at, same_id, same_label, server_at, set_seen, source_of}
+use Rattle.answer_laws.proofs.Prelude.{unknown_in, unlogged, uuid_in, version_in, without_log}
+use Rattle.answer_laws.proofs.Prelude.check
+use Rattle.answer_laws.proofs.Prelude.coord
+use Rattle.answer_laws.proofs.Prelude.coords
+use Rattle.answer_laws.proofs.Prelude.coords_plans
+use Rattle.answer_laws.proofs.Prelude.gtids
+use Rattle.answer_laws.proofs.Prelude.matches
+use Rattle.answer_laws.proofs.Prelude.matching
+use Rattle.answer_laws.proofs.Prelude.path
+use Rattle.answer_laws.proofs.Prelude.path_plans
+use Rattle.answer_laws.proofs.Prelude.paths
+use Rattle.answer_laws.proofs.Prelude.recovery
+use Rattle.answer_laws.proofs.Prelude.refusal
+use Rattle.answer_laws.proofs.Prelude.takeover
 
 -- ---- settings
 
@@ -144,27 +116,15 @@ module _ (w v : World) (same : SameSettings w v) where
   -- ---- checks
 
   check-same : (b : BookState) (c : Case) (k : Check) → refusal_by w b c k ≡ refusal_by v b c k
-  check-same b c check.SameInstance = refl
-  check-same b c check.Busy = refl
-  check-same b c check.Unreachable = refl
-  check-same b c check.NoSource = refl
-  check-same b c check.NotDetached = refl
-  check-same b c check.AlreadyDetached = refl
   check-same b c check.OtherCluster = about-same (of_other_cluster w) (of_other_cluster v) (λ m. ap (λ x. only_if (not x) refusal.OtherCluster) (labels-same m.no m.source)) c.moves
-  check-same b c check.Below = refl
-  check-same b c check.SourceHasNoSource = refl
-  check-same b c check.NotSibling = refl
-  check-same b c check.NotSameLog = refl
   check-same b c check.DestNotLogging = about-same (without_log w) (without_log v) (λ n. ap (λ x. only_if (not x) refusal.DestNotLogging) (by-logs n.0)) c.sources
   check-same b c check.SameServerId = about-same (of_same_id w) (of_same_id v) (λ m. ap (λ x. only_if x (refusal.SameServerId m.no)) (ids-same m.no m.source)) c.moves
   check-same b c check.VersionLower = about-same (of_lower_version w) (of_lower_version v) (λ m. ap (λ x. only_if x (refusal.VersionLower m.no)) (lower-same m.no m.source)) c.moves
   check-same b c check.GtidOff = ap (λ x. only_if (not x) refusal.GtidOff) same.gtid
   check-same b c check.Errant =
       about-same (errant w b) (errant v b) (λ m. ap (λ x. errant_by (own_missing x (set_seen b m.no) (set_seen b m.source))) (by-uuid m.no.0)) c.moves
-  check-same b c check.PurgedPlace = refl
-  check-same b c check.PurgedSet = refl
-  check-same b c check.PseudoOff = refl
   check-same b c check.MovedNotLogging = about-same (unlogged w) (unlogged v) (λ m. ap (λ x. only_if (not x) (refusal.MovedNotLogging m.no)) (by-logs m.no.0)) c.moves
+  check-same b c _ = refl
 
   row-same : (b : BookState) (c : Case) (row : List Check) → first_refusal w b c row ≡ first_refusal v b c row
   row-same b c row = about-same (refusal_by w b c) (refusal_by v b c) (check-same b c) row
@@ -183,20 +143,8 @@ module _ (w v : World) (same : SameSettings w v) where
           ∙ ap (λ g. first_refusal v b (coords.case_of b c i d) (coords.row_of g c)) (by-gtids b i)
 
   ops-same : (b : BookState) (c : CoordsCommand) (i : ServerNo) (d : Option ServerNo) → coords_plans.ops_of w b c i d ≡ coords_plans.ops_of v b c i d
-  ops-same b coord.MoveUp i d = refl
-  ops-same b coord.MoveUpReplicas i d = refl
-  ops-same b coord.MoveBelow i d = refl
   ops-same b coord.Repoint i d = ap (λ g. coords_plans.repointed_by g i d (source_of b i)) (by-gtids b i)
-  ops-same b coord.TakeSiblings i d = refl
-  ops-same b coord.TakeMaster i d = refl
-  ops-same b coord.DetachReplica i d = refl
-  ops-same b coord.ReattachReplica i d = refl
-  ops-same b coord.ResetReplica i d = refl
-  ops-same b coord.StartReplica i d = refl
-  ops-same b coord.StopReplica i d = refl
-  ops-same b coord.RestartReplica i d = refl
-  ops-same b coord.SetReadOnly i d = refl
-  ops-same b coord.SetWriteable i d = refl
+  ops-same b _ i d = refl
 
   pub coords-plans-same : (b : BookState) (given : Command) → coords_plans.plan_of w b given ≡ coords_plans.plan_of v b given
   coords-plans-same b given = kinds-same [] (coords_plans.ops_of w b) (coords_plans.ops_of v b) (ops-same b) (coords_command given.name) given
@@ -217,10 +165,8 @@ module _ (w v : World) (same : SameSettings w v) where
   -- ---- by matches
 
   match-own-same : (b : BookState) (now : Moment) (c : PseudoCommand) (i : ServerNo) → matches.own_refusal w b now c i ≡ matches.own_refusal v b now c i
-  match-own-same b now matching.Match i = refl
-  match-own-same b now matching.MatchUp i = refl
-  match-own-same b now matching.MatchReplicas i = refl
   match-own-same b now matching.RegroupReplicas i = ap (λ x. only_if (not x) refusal.NoCandidate) (candidates-same b now i)
+  match-own-same b now _ i = refl
 
   pub matches-same : (b : BookState) (now : Moment) (every : ℕ) (given : Command) → matches.refusal_of w b now every given ≡ matches.refusal_of v b now every given
   matches-same b now every given =

@@ -1,28 +1,13 @@
 -- The labels of a book's clusters, each once.
 use Rattle.std.proofs.Common.{◌≡◌, ◌∙◌, ℕ, ◌+◌, ◌<◌, Bool, true, false, cond, List, [], ◌∷◌, map, length, refl, sym, ap, subst, arith}
 use Rattle.std.specs.Prelude.{All, AllPairs, Contains, filter, nat_eq}
-use Rattle.std.specs.List.{range_with_len}
-use Rattle.std.specs.List.Sorted.{IsSortedBy}
-use Rattle.std.specs.Cmp.{IsTotalOrder}
-use Rattle.std.specs.Cmp.Lexicographic.{on_texts, pointwise, same_text, slice_cmp, texts_ties}
-use Rattle.std.specs.Ordering.{is_eq, is_lt, nat_cmp, ordering_reverse}
-use Rattle.std.specs.declared.cmp.Ordering.{Ordering}
-use Rattle.std.specs.declared.cmp.Ordering.TheVariants.{Less, Equal, Greater}
-use Rattle.std.proofs.lemmas.Bool.{false≢true}
-use Rattle.std.proofs.lemmas.List.Elements.{All-cons, All-get_or, All-head, All-map, All-nil, All-tail, All-weaker, Contains-append_right, Contains-get_or}
-use Rattle.std.proofs.lemmas.List.FromFn.{get_or-range_with_len, length-range_with_len}
-use Rattle.std.proofs.lemmas.List.Kept.{AllPairs-cons}
-use Rattle.std.proofs.lemmas.List.Sorted.{All-permutation, IsPermutation-sym}
-use Rattle.orch_base.specs.declared.server.ServerNo.{ServerNo}
-use Rattle.name_order.specs.NameOrder.{by_name}
-use Rattle.name_order.specs.Sorts.{sort_by}
-use Rattle.name_order.proofs.ByName.{IsOrder-by_name, length-by_name}
-use Rattle.name_order.proofs.Arranged.{by_name-within}
-use Rattle.name_order.proofs.Sorting.{first_of_sorted, rest_of_sorted, sorted_is_sorted, sorted_permutes}
-use Rattle.instance_keeper.specs.Book.{BookState}
-use Rattle.book_views.specs.Sources.{is_instance, label_at}
-use Rattle.asking_commands.specs.Labels.{clusters_of, each_once, is_again, labels_of}
-use Rattle.answer_laws.specs.Clusters.{IsBefore, IsLabelled, ListsEachOnce}
+use Rattle.answer_laws.proofs.Prelude.{All-cons, All-get_or, All-head, All-map, All-nil, All-permutation, All-tail, All-weaker, AllPairs-cons}
+use Rattle.answer_laws.proofs.Prelude.{BookState, Contains-append_right, Contains-get_or, Equal, Greater, IsBefore, IsLabelled, IsOrder-by_name}
+use Rattle.answer_laws.proofs.Prelude.{IsPermutation-sym, IsSortedBy, IsTotalOrder, Less, ListsEachOnce, Ordering, ServerNo, by_name, by_name-within}
+use Rattle.answer_laws.proofs.Prelude.{clusters_of, each_once, false≢true, first_of_sorted, get_or-range_with_len, is_again, is_eq, is_instance}
+use Rattle.answer_laws.proofs.Prelude.{is_lt, label_at, labels_of, length-by_name, length-range_with_len, nat_cmp, on_texts, ordering_reverse}
+use Rattle.answer_laws.proofs.Prelude.{pointwise, range_with_len, rest_of_sorted, same_text, slice_cmp, sort_by, sorted_is_sorted, sorted_permutes}
+use Rattle.answer_laws.proofs.Prelude.{texts_ties}
 
 -- ---- labels in order
 

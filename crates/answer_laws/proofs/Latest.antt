@@ -1,14 +1,8 @@
 -- Look-ups of the latest bridge.
 use Rattle.std.proofs.Common.{◌≡◌, ◌-◌, Bool, true, false, cond, List, [], ◌∷◌, ◌++◌, drop, length, refl, sym, ◌∙◌, ap, subst, Option, Some, None, arith}
 use Rattle.std.specs.Prelude.{fold, All}
-use Rattle.std.proofs.lemmas.List.{drop-append-le, length-append}
-use Rattle.std.proofs.lemmas.List.Elements.{All-cons, All-head, All-nil, All-tail}
-use Rattle.std.proofs.lemmas.List.Sums.{fold-append}
-use Rattle.std.proofs.lemmas.Option.{same_Some}
-use Rattle.circular_buffer.specs.Buffer.{keep_last, last_item}
-use Rattle.instance_keeper.specs.Bridges.{is_same, latest_that, ring_size, with_bridge}
-use Rattle.instance_keeper.specs.declared.bridge.Bridge.{Bridge}
-use Rattle.answer_laws.specs.Latest.{IsLatest}
+use Rattle.answer_laws.proofs.Prelude.{All-cons, All-head, All-nil, All-tail, Bridge, IsLatest, drop-append-le, fold-append, is_same, keep_last}
+use Rattle.answer_laws.proofs.Prelude.{last_item, latest_that, length-append, ring_size, same_Some, with_bridge}
 
 module _ (passes : Bridge → Bool) where
   abbrev over : Option Bridge → List Bridge → Option Bridge

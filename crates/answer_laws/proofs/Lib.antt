@@ -1,3 +1,4 @@
+mod Prelude
 pub mod Latest
 pub mod Blocking
 pub mod ByBook

@@ -1,20 +1,12 @@
 -- The plans of permitted repoints without a destination.
 use Rattle.std.proofs.Common.{◌≡◌, Bool, true, false, [], ◌∷◌, sym, ◌∙◌, ap, Some, None}
 use Rattle.std.specs.Prelude.{map}
-use Rattle.orch_base.specs.declared.server.ServerNo.{ServerNo}
-use Rattle.commands.specs.declared.line.Line.TheVariants.{Follows}
-use Rattle.commands.specs.declared.name.CommandName.TheVariants as name
-use Rattle.commands.specs.declared.refusal.Refusal.TheVariants as refusal
-use Rattle.instance_keeper.specs.Book.{BookState}
-use Rattle.operations.specs.Plans.{again, auto, finished}
-use Rattle.permission.specs.Checks.{first_refusal, refusal_by, unknown_in}
-use Rattle.permission.specs.Views.{source_of}
-use Rattle.server_model.specs.Worlds.{World}
-use Rattle.moves_coords.specs.Permits.{by_gtids, case_of, refusal_about, refusal_of, row_of}
-use Rattle.moves_coords.specs.Plans.{plan_of, repointed, repointed_auto, repointed_by}
-use Rattle.command_routes.specs.declared.kinds.CoordsCommand.TheVariants as command
-use Rattle.move_laws.specs.Given.{given}
-use Rattle.move_laws.proofs.Firsts.{each-none, given-by, neither}
+use Rattle.answer_laws.proofs.Prelude.{BookState, Follows, ServerNo, World, again, auto, by_gtids, case_of, each-none, finished, first_refusal, given}
+use Rattle.answer_laws.proofs.Prelude.{given-by, neither, plan_of, refusal_about, refusal_by, refusal_of, repointed, repointed_auto, repointed_by}
+use Rattle.answer_laws.proofs.Prelude.{row_of, source_of, unknown_in}
+use Rattle.answer_laws.proofs.Prelude.coord as command
+use Rattle.answer_laws.proofs.Prelude.name
+use Rattle.answer_laws.proofs.Prelude.refusal
 
 module _ (w : World) (b : BookState) (i : ServerNo) where
   its-row : (way : Bool) → by_gtids w b i ≡ way → refusal_of w b (given name.Repoint i None) ≡ None

@@ -1,57 +1,29 @@
 -- Checks by rising numbers answer the lowest refusal.
 use Rattle.std.proofs.Common.{◌≡◌, ℕ, suc, ◌+◌, ◌≤◌, ◌<◌, Bool, true, false, cond, not, ◌&&◌, List, [], ◌∷◌, ◌++◌, refl, sym, ◌∙◌, ap, subst, Option, Some, None, Result, Ok, Err, arith}
 use Rattle.std.specs.Prelude.{All, Any, is_some, nat_le, nat_lt, option_map}
-use Rattle.std.specs.Option.{option_or}
-use Rattle.std.proofs.lemmas.Bool.{and_parts, leb-true, ltb-true}
-use Rattle.std.proofs.lemmas.List.Elements.{All-cons, All-nil}
-use Rattle.std.proofs.lemmas.Option.{same_Some}
-use Rattle.orch_base.specs.declared.code.Code.{Code}
-use Rattle.orch_base.specs.declared.server.Moment.{Moment}
-use Rattle.orch_base.specs.declared.server.ServerNo.{ServerNo}
-use Rattle.commands.specs.Refusals.{number_of}
-use Rattle.commands.specs.Unknown.{is_unknown}
-use Rattle.commands.specs.declared.refusal.Refusal.{Refusal}
-use Rattle.commands.specs.declared.refusal.Refusal.TheVariants as refusal
-use Rattle.commands.specs.declared.turn.Command.{Command}
-use Rattle.instance_keeper.specs.Book.{BookState, downtime_at}
-use Rattle.book_views.specs.Sources.{is_instance, label_at}
-use Rattle.audit_log.specs.Audits.{AuditState, may_begin}
-use Rattle.audit_log.specs.declared.held.Held.{Held}
-use Rattle.audit_log.specs.declared.held.Held.TheVariants as held
-use Rattle.failure_analysis.specs.Table.{action_of}
-use Rattle.failure_analysis.specs.declared.code.Action.{Action}
-use Rattle.failure_analysis.specs.declared.code.Action.TheVariants.{MasterRecovery, IntermediateRecovery, Nothing}
-use Rattle.move_laws.specs.Numbers.{check_number, rises_from}
-use Rattle.move_laws.proofs.Numbered.{check-number, gtid-rows-rise, match-last-rows-rise, match-rows-rise, rows-rise}
-use Rattle.permission.specs.Checks.{Case, is_given, is_known, refusal_by, unknown_in}
-use Rattle.permission.specs.Lists.{first_of, only_if}
-use Rattle.permission.specs.Replicas.{replicas_but}
-use Rattle.permission.specs.Rows.{about, about_one}
-use Rattle.permission.specs.Views.{attached_of, source_of}
-use Rattle.permission.specs.declared.case.Check.{Check}
-use Rattle.permission.specs.declared.case.Check.TheVariants as check
-use Rattle.promotion_candidates.specs.Candidates.{has_candidate, without_candidate as no_candidate}
-use Rattle.command_routes.specs.declared.kinds.CoordsCommand.{CoordsCommand}
-use Rattle.command_routes.specs.declared.kinds.GtidCommand.{GtidCommand}
-use Rattle.moves_coords.specs.Commands.{coords_command}
-use Rattle.moves_coords.specs.Permits as coords
-use Rattle.moves_gtid.specs.Commands.{gtid_command}
-use Rattle.moves_gtid.specs.Permits as gtids
-use Rattle.recovery_permits.specs.Checks.{code_at, disabled, downtimed, filtered, has_successor, held_back, held_by, no_master, no_replica, refused_as, without_candidate, without_successor}
-use Rattle.recovery_permits.specs.Recoveries as recovery
-use Rattle.recovery_permits.specs.Takeovers as takeover
-use Rattle.recovery_permits.specs.declared.attempt.Attempt.{Attempt}
-use Rattle.pseudo_match.specs.Commands.{pseudo_command}
-use Rattle.pseudo_match.specs.Permits as matches
-use Rattle.pseudo_match.specs.declared.command.PseudoCommand.{PseudoCommand}
-use Rattle.pseudo_match.specs.declared.command.PseudoCommand.TheVariants as matching
-use Rattle.regroup.specs.Commands.{regroup_command}
-use Rattle.regroup.specs.Permits as paths
-use Rattle.regroup.specs.Ways.{path_to}
-use Rattle.regroup.specs.declared.command.RegroupCommand.{RegroupCommand}
-use Rattle.regroup.specs.declared.command.RegroupCommand.TheVariants as path
-use Rattle.server_model.specs.Worlds.{World}
-use Rattle.answer_laws.specs.Lowest.{IsAnswer, IsNoLower, action_checks, code_checks, coords_checks, gtid_checks, match_checks, own_checks, path_checks, recovery_checks, row_checks, takeover_checks}
+use Rattle.answer_laws.proofs.Prelude.{Action, All-cons, All-nil, Attempt, AuditState, BookState, Case, Check, Code, Command, CoordsCommand}
+use Rattle.answer_laws.proofs.Prelude.{GtidCommand, Held, IntermediateRecovery, IsAnswer, IsNoLower, MasterRecovery, Moment, Nothing, PseudoCommand}
+use Rattle.answer_laws.proofs.Prelude.{Refusal, RegroupCommand, ServerNo, World, about, about_one, action_checks, action_of, and_parts, attached_of}
+use Rattle.answer_laws.proofs.Prelude.{check-number, check_number, code_at, code_checks, coords_checks, coords_command, disabled, downtime_at}
+use Rattle.answer_laws.proofs.Prelude.{downtimed, filtered, first_of, gtid-rows-rise, gtid_checks, gtid_command, has_candidate, has_successor}
+use Rattle.answer_laws.proofs.Prelude.{held_back, is_given, is_instance, is_known, is_unknown, label_at, leb-true, ltb-true, match-last-rows-rise}
+use Rattle.answer_laws.proofs.Prelude.{match-rows-rise, match_checks, may_begin, no_master, no_replica, number_of, only_if, option_or, own_checks}
+use Rattle.answer_laws.proofs.Prelude.{path_checks, path_to, pseudo_command, recovery_checks, refusal_by, refused_as, regroup_command, replicas_but}
+use Rattle.answer_laws.proofs.Prelude.{rises_from, row_checks, rows-rise, same_Some, source_of, takeover_checks, unknown_in, without_candidate}
+use Rattle.answer_laws.proofs.Prelude.{without_successor}
+use Rattle.answer_laws.proofs.Prelude.Candidates.{without_candidate as no_candidate}
+use Rattle.answer_laws.proofs.Prelude.Checks.{held_by}
+use Rattle.answer_laws.proofs.Prelude.check
+use Rattle.answer_laws.proofs.Prelude.coords
+use Rattle.answer_laws.proofs.Prelude.gtids
+use Rattle.answer_laws.proofs.Prelude.held
+use Rattle.answer_laws.proofs.Prelude.matches
+use Rattle.answer_laws.proofs.Prelude.matching
+use Rattle.answer_laws.proofs.Prelude.path
+use Rattle.answer_laws.proofs.Prelude.paths
+use Rattle.answer_laws.proofs.Prelude.recovery
+use Rattle.answer_laws.proofs.Prelude.refusal
+use Rattle.answer_laws.proofs.Prelude.takeover
 
 -- ---- checks whose numbers rise
 
@@ -114,25 +86,7 @@ ends_by top (k ∷ row) = nat_le (check_number k) top && ends_by top row
 -- all end at 32
 most : (k : Check) → nat_le (check_number k) 32 ≡ true
 most check.SameInstance = refl
-most check.Busy = refl
-most check.Unreachable = refl
-most check.NoSource = refl
-most check.NotDetached = refl
-most check.AlreadyDetached = refl
-most check.OtherCluster = refl
-most check.Below = refl
-most check.SourceHasNoSource = refl
-most check.NotSibling = refl
-most check.NotSameLog = refl
-most check.DestNotLogging = refl
-most check.SameServerId = refl
-most check.VersionLower = refl
-most check.GtidOff = refl
-most check.Errant = refl
-most check.PurgedPlace = refl
-most check.PurgedSet = refl
-most check.PseudoOff = refl
-most check.MovedNotLogging = refl
+most _ = refl
 
 ends-all : (row : List Check) → ends_by 32 row ≡ true
 ends-all [] = refl
@@ -219,9 +173,7 @@ gtid-lowest w b given =
 path-rows-rise : (gtid : Bool) (c : RegroupCommand) → rises_from 2 (paths.row_of gtid c) ≡ true
 path-rows-rise true path.Relocate = refl
 path-rows-rise false path.Relocate = refl
-path-rows-rise true path.RelocateReplicas = refl
-path-rows-rise false path.RelocateReplicas = refl
-path-rows-rise gtid path.RegroupReplicas = refl
+path-rows-rise _ _ = refl
 
 -- a command's own check is for a path, or a candidate
 has-astray : (gtid : Bool) (b : BookState) (movers : List ServerNo) (d : Option ServerNo) → Has 19 27 (paths.astray gtid b movers d)
@@ -280,10 +232,8 @@ path-lowest w b now given =
 
 module _ (w : World) (b : BookState) (now : Moment) (every : ℕ) where
   own-has : (c : PseudoCommand) (i : ServerNo) → Has 19 27 (matches.own_refusal w b now c i)
-  own-has matching.Match i r e = cc
-  own-has matching.MatchUp i r e = cc
-  own-has matching.MatchReplicas i r e = cc
   own-has matching.RegroupReplicas i r e = candidate-has w b now i r e
+  own-has _ i r e = cc
 
   last-rising : (k : Case) (c : PseudoCommand) → Rising 27 (row_checks w b k (matches.last_row_of every c))
   last-rising k c =
@@ -293,9 +243,7 @@ module _ (w : World) (b : BookState) (now : Moment) (every : ℕ) where
 
   row-ends : (c : PseudoCommand) → ends_by 18 (matches.row_of c) ≡ true
   row-ends matching.Match = refl
-  row-ends matching.MatchUp = refl
-  row-ends matching.MatchReplicas = refl
-  row-ends matching.RegroupReplicas = refl
+  row-ends _ = refl
 
   abbrev match-all : PseudoCommand → ServerNo → Option ServerNo → List (Option Refusal)
   match-all c i d = row_checks w b (matches.case_of b c i d) (matches.row_of c) ++ matches.own_refusal w b now c i ∷ row_checks w b (matches.case_of b c i d) (matches.last_row_of every c)

@@ -1,19 +1,9 @@
 -- The tries of a scan, each on what those before it left.
 use Rattle.std.proofs.Common.{◌≡◌, ◌∙◌, ℕ, ◌+◌, List, [], ◌∷◌, ◌++◌, append_assoc, refl, sym, ap, subst, inl, inr, Option, Some, None}
-use Rattle.std.proofs.lemmas.List.{append-nil}
-use Rattle.audit_log.specs.Audits.{AuditState}
-use Rattle.commands.specs.declared.line.Line.{Line}
-use Rattle.commands.specs.declared.line.Line.TheVariants as line
-use Rattle.commands.specs.declared.refusal.Refusal.{Refusal}
-use Rattle.failure_analysis.specs.declared.entry.Entry.{Entry}
-use Rattle.instance_keeper.specs.Book.{BookState}
-use Rattle.orch_base.specs.declared.server.ServerNo.{ServerNo}
-use Rattle.recovery_core.specs.Scans.{Staged, actionable_in, after_try, from_start, scan_step, scanned, scanned_over, staged_refusal}
-use Rattle.recovery_core.specs.Tries.{Begins, recovery_begins, unless_refused}
-use Rattle.recovery_permits.specs.declared.attempt.Attempt.{Attempt}
-use Rattle.server_model.specs.Worlds.{World}
-use Rattle.answer_laws.specs.Lowest.{IsAnswer}
-use Rattle.answer_laws.specs.Tries.{AreTries, IsRefusedTry, Left, Scan, checks_at}
+use Rattle.answer_laws.proofs.Prelude.{AreTries, Attempt, AuditState, Begins, BookState, Entry, IsAnswer, IsRefusedTry, Left, Line, Refusal, Scan}
+use Rattle.answer_laws.proofs.Prelude.{ServerNo, Staged, World, actionable_in, after_try, append-nil, checks_at, from_start, recovery_begins}
+use Rattle.answer_laws.proofs.Prelude.{scan_step, scanned, scanned_over, staged_refusal, unless_refused}
+use Rattle.answer_laws.proofs.Prelude.line
 use Rattle.answer_laws.proofs.Rising.{recovery-lowest}
 
 -- one more entry, which is refused

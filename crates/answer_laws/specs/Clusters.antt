@@ -1,13 +1,7 @@
 -- The listing of a book's clusters.
 use Rattle.std.specs.Prelude.{◌≡◌, ◌<◌, ℕ, true, List, length, map, All, AllPairs, Contains}
-use Rattle.std.specs.Cmp.Lexicographic.{slice_cmp}
-use Rattle.std.specs.Ordering.{nat_cmp}
-use Rattle.std.specs.declared.cmp.Ordering.TheVariants.{Less}
-use Rattle.orch_base.specs.declared.server.ServerNo.{ServerNo}
-use Rattle.commands.specs.declared.line.Line.{Line}
-use Rattle.commands.specs.declared.line.Line.TheVariants as line
-use Rattle.instance_keeper.specs.Book.{BookState}
-use Rattle.book_views.specs.Sources.{is_instance, label_at}
+use Rattle.answer_laws.specs.Prelude.{BookState, Less, Line, ServerNo, is_instance, label_at, nat_cmp, slice_cmp}
+use Rattle.answer_laws.specs.Prelude.line
 
 -- one label stands before another by its bytes
 abbrev pub IsBefore : List ℕ → List ℕ → Type 0

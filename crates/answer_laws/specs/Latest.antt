@@ -1,11 +1,7 @@
 -- The latest of what is kept in order.
 use Rattle.std.specs.Prelude.{◌≡◌, ℕ, Bool, true, false, List, ◌∷◌, ◌++◌, All}
-use Rattle.orch_base.specs.declared.server.Moment.{Moment}
-use Rattle.kept_rows.specs.declared.recovery.Recovery.{Recovery}
-use Rattle.instance_keeper.specs.declared.bridge.Bridge.{Bridge}
-use Rattle.audit_log.specs.Apart.{IsFree, IsHeldBack}
-use Rattle.audit_log.specs.Audits.{is_unended}
-use Rattle.audit_log.specs.declared.held.Held.TheVariants as held
+use Rattle.answer_laws.specs.Prelude.{Bridge, IsFree, IsHeldBack, Moment, Recovery, is_unended}
+use Rattle.answer_laws.specs.Prelude.held
 
 -- the bridge is of the ring and passes, and none behind it does
 pub record IsLatest (passes : Bridge → Bool) (ring : List Bridge) (b : Bridge) : Type 0 where

@@ -1,36 +1,16 @@
 -- The lowest number: what the checks of each command refuse, in whatever order they are looked at.
 use Rattle.std.specs.Prelude.{◌≡◌, ℕ, ◌≤◌, Bool, if◌then◌else◌, not, ◌&&◌, List, [], ◌∷◌, ◌++◌, map, Option, Some, None, All, Any}
-use Rattle.orch_base.specs.declared.code.Code.{Code}
-use Rattle.orch_base.specs.declared.server.Moment.{Moment}
-use Rattle.orch_base.specs.declared.server.ServerNo.{ServerNo}
-use Rattle.commands.specs.Refusals.{number_of}
-use Rattle.commands.specs.declared.refusal.Refusal.{Refusal}
-use Rattle.commands.specs.declared.refusal.Refusal.TheVariants.{NotActionable, UnknownInstance}
-use Rattle.commands.specs.declared.turn.Command.{Command}
-use Rattle.instance_keeper.specs.Book.{BookState}
-use Rattle.book_views.specs.Sources.{is_instance}
-use Rattle.audit_log.specs.Audits.{AuditState}
-use Rattle.failure_analysis.specs.Table.{action_of}
-use Rattle.failure_analysis.specs.declared.code.Action.{Action}
-use Rattle.failure_analysis.specs.declared.code.Action.TheVariants.{MasterRecovery, IntermediateRecovery, Nothing}
-use Rattle.permission.specs.Checks.{Case, refusal_by, unknown_in}
-use Rattle.permission.specs.Lists.{only_if}
-use Rattle.permission.specs.Rows.{about}
-use Rattle.permission.specs.declared.case.Check.{Check}
-use Rattle.permission.specs.declared.case.Check.TheVariants.{Busy}
-use Rattle.moves_coords.specs.Commands.{coords_command}
-use Rattle.moves_coords.specs.Permits as coords
-use Rattle.moves_gtid.specs.Commands.{gtid_command}
-use Rattle.moves_gtid.specs.Permits as gtids
-use Rattle.recovery_permits.specs.Checks.{code_at, disabled, downtimed, filtered, held_back, no_master, no_replica, without_candidate, without_successor}
-use Rattle.recovery_permits.specs.Recoveries as recovery
-use Rattle.recovery_permits.specs.Takeovers as takeover
-use Rattle.recovery_permits.specs.declared.attempt.Attempt.{Attempt}
-use Rattle.pseudo_match.specs.Commands.{pseudo_command}
-use Rattle.pseudo_match.specs.Permits as matches
-use Rattle.regroup.specs.Commands.{regroup_command}
-use Rattle.regroup.specs.Permits as paths
-use Rattle.server_model.specs.Worlds.{World}
+use Rattle.answer_laws.specs.Prelude.{Action, Attempt, AuditState, BookState, Busy, Case, Check, Code, Command, IntermediateRecovery, MasterRecovery}
+use Rattle.answer_laws.specs.Prelude.{Moment, NotActionable, Nothing, Refusal, ServerNo, UnknownInstance, World, about, action_of, code_at}
+use Rattle.answer_laws.specs.Prelude.{coords_command, disabled, downtimed, filtered, gtid_command, held_back, is_instance, no_master, no_replica}
+use Rattle.answer_laws.specs.Prelude.{number_of, only_if, pseudo_command, refusal_by, regroup_command, unknown_in, without_candidate}
+use Rattle.answer_laws.specs.Prelude.{without_successor}
+use Rattle.answer_laws.specs.Prelude.coords
+use Rattle.answer_laws.specs.Prelude.gtids
+use Rattle.answer_laws.specs.Prelude.matches
+use Rattle.answer_laws.specs.Prelude.paths
+use Rattle.answer_laws.specs.Prelude.recovery
+use Rattle.answer_laws.specs.Prelude.takeover
 
 -- a check passes, or refuses with no lower number
 abbrev pub IsNoLower : Refusal → Option Refusal → Type 0

@@ -1,6 +1,6 @@
 -- Worlds that differ only in how their servers stand.
 use Rattle.std.specs.Prelude.{◌≡◌, ℕ, option_map}
-use Rattle.server_model.specs.Worlds.{World, server_at}
+use Rattle.answer_laws.specs.Prelude.{World, server_at}
 
 -- the same servers are there, with the same settings, and both worlds use GTIDs or neither does
 pub record SameSettings (w v : World) : Type 0 where

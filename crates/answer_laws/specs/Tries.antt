@@ -1,16 +1,7 @@
 -- The tries of a scan.
 use Rattle.std.specs.Prelude.{◌≡◌, ◌⊎◌, ℕ, ◌+◌, ⊤, All, List, [], ◌∷◌, Option, None}
-use Rattle.orch_base.specs.declared.server.ServerNo.{ServerNo}
-use Rattle.commands.specs.declared.line.Line.{Line}
-use Rattle.commands.specs.declared.line.Line.TheVariants as line
-use Rattle.commands.specs.declared.refusal.Refusal.{Refusal}
-use Rattle.instance_keeper.specs.Book.{BookState}
-use Rattle.instance_keeper.specs.Leases.{taken}
-use Rattle.failure_analysis.specs.declared.entry.Entry.{Entry}
-use Rattle.audit_log.specs.Audits.{AuditState, begun}
-use Rattle.recovery_core.specs.Tries.{Begins}
-use Rattle.recovery_permits.specs.declared.attempt.Attempt.{Attempt}
-use Rattle.server_model.specs.Worlds.{World}
+use Rattle.answer_laws.specs.Prelude.{Attempt, AuditState, Begins, BookState, Entry, Line, Refusal, ServerNo, World, begun, taken}
+use Rattle.answer_laws.specs.Prelude.line
 use Rattle.answer_laws.specs.Lowest.{IsLowest, recovery_checks}
 
 -- what a scan goes by: the servers, the book, and how each server is tried

@@ -1,12 +1,9 @@
 //! The latest of what the book and the audit keep.
 
 ghost use Rattle.std.specs.Prelude.{◌≡◌, ◌∷◌, ◌++◌, ℕ, [], All, Bool, Err, List, None, Some, false, true};
-ghost use Rattle.circular_buffer.specs.Buffer.{last_item};
-ghost use Rattle.audit_log.specs.Audits.{AuditState, may_begin};
-ghost use Rattle.audit_log.specs.declared.held.Held.TheVariants as held;
-ghost use Rattle.instance_keeper.specs.Bridges.{is_same, latest_that, with_bridge};
-ghost use Rattle.instance_keeper.specs.declared.bridge.Bridge.{Bridge as ABridge};
-ghost use Rattle.orch_base.specs.declared.server.Moment.{Moment as AMoment};
+ghost use Rattle.answer_laws.specs.Prelude.{AuditState, Bridge as ABridge, Moment as AMoment, is_same, last_item, latest_that, may_begin};
+ghost use Rattle.answer_laws.specs.Prelude.{with_bridge};
+ghost use Rattle.answer_laws.specs.Prelude.held;
 ghost use Rattle.answer_laws.specs.Latest.{IsLastBlock, IsLatest};
 
 /// A look-up of bridges answers exactly the latest that fits, and none exactly where none fits. A bridge that is kept

@@ -1,13 +1,8 @@
 //! The listing of clusters, and the lines of a scan.
 
 ghost use Rattle.std.specs.Prelude.{ℕ};
-ghost use Rattle.asking_commands.specs.Labels.{clusters_of};
-ghost use Rattle.audit_log.specs.Audits.{AuditState};
-ghost use Rattle.instance_keeper.specs.Book.{BookState};
-ghost use Rattle.orch_base.specs.declared.server.ServerNo.{ServerNo as Number};
-ghost use Rattle.recovery_core.specs.Scans.{actionable_in, scanned};
-ghost use Rattle.recovery_permits.specs.declared.attempt.Attempt.{Attempt as AnAttempt};
-ghost use Rattle.server_model.specs.Worlds.{World};
+ghost use Rattle.answer_laws.specs.Prelude.{Attempt as AnAttempt, AuditState, BookState, ServerNo as Number, World, actionable_in, clusters_of};
+ghost use Rattle.answer_laws.specs.Prelude.{scanned};
 ghost use Rattle.answer_laws.specs.Clusters.{ListsEachOnce};
 ghost use Rattle.answer_laws.specs.Tries.{AreTries};
 

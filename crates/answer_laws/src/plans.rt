@@ -1,17 +1,9 @@
 //! Whole plans.
 
 ghost use Rattle.std.specs.Prelude.{◌≡◌, ◌∷◌, [], None, Some, false, true};
-ghost use Rattle.commands.specs.declared.line.Line.TheVariants.{Follows, Server};
-ghost use Rattle.commands.specs.declared.name.CommandName.TheVariants as name;
-ghost use Rattle.instance_keeper.specs.Book.{BookState};
-ghost use Rattle.move_laws.specs.Given.{given};
-ghost use Rattle.moves_coords.specs.Permits.{by_gtids, refusal_of};
-ghost use Rattle.moves_coords.specs.Plans.{plan_of};
-ghost use Rattle.operations.specs.Plans.{again, auto, finished};
-ghost use Rattle.operations.specs.declared.op.Op.TheVariants.{Detach, Finish, ReadOnly, Reattach, Reset, Start, Status, Stop};
-ghost use Rattle.orch_base.specs.declared.server.ServerNo.{ServerNo as Number};
-ghost use Rattle.permission.specs.Views.{source_of};
-ghost use Rattle.server_model.specs.Worlds.{World};
+ghost use Rattle.answer_laws.specs.Prelude.{BookState, Detach, Finish, Follows, ReadOnly, Reattach, Reset, Server, ServerNo as Number, Start, Status};
+ghost use Rattle.answer_laws.specs.Prelude.{Stop, World, again, auto, by_gtids, finished, given, plan_of, refusal_of, source_of};
+ghost use Rattle.answer_laws.specs.Prelude.name;
 
 /// A repoint without a destination, where it is permitted, goes on under the source that the book shows: by
 /// coordinates, or by GTIDs where the instance finds its place by them.

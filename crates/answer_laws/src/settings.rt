@@ -1,21 +1,14 @@
 //! Permits, lists and plans go by the book.
 
 ghost use Rattle.std.specs.Prelude.{◌≡◌, ℕ};
-ghost use Rattle.audit_log.specs.Audits.{AuditState};
-ghost use Rattle.commands.specs.declared.turn.Command.{Command as ACommand};
-ghost use Rattle.instance_keeper.specs.Book.{BookState};
-ghost use Rattle.moves_coords.specs.Permits as coords;
-ghost use Rattle.moves_coords.specs.Plans as coords_plans;
-ghost use Rattle.moves_gtid.specs.Permits as gtids;
-ghost use Rattle.orch_base.specs.declared.server.Moment.{Moment as AMoment};
-ghost use Rattle.orch_base.specs.declared.server.ServerNo.{ServerNo as Number};
-ghost use Rattle.recovery_permits.specs.Recoveries.{recovery_refusal};
-ghost use Rattle.recovery_permits.specs.Takeovers.{takeover_refusal};
-ghost use Rattle.recovery_permits.specs.declared.attempt.Attempt.{Attempt as AnAttempt};
-ghost use Rattle.pseudo_match.specs.Permits as matches;
-ghost use Rattle.regroup.specs.Permits as paths;
-ghost use Rattle.regroup.specs.Plans as path_plans;
-ghost use Rattle.server_model.specs.Worlds.{World};
+ghost use Rattle.answer_laws.specs.Prelude.{Attempt as AnAttempt, AuditState, BookState, Command as ACommand, Moment as AMoment, ServerNo as Number};
+ghost use Rattle.answer_laws.specs.Prelude.{World, recovery_refusal, takeover_refusal};
+ghost use Rattle.answer_laws.specs.Prelude.coords;
+ghost use Rattle.answer_laws.specs.Prelude.coords_plans;
+ghost use Rattle.answer_laws.specs.Prelude.gtids;
+ghost use Rattle.answer_laws.specs.Prelude.matches;
+ghost use Rattle.answer_laws.specs.Prelude.path_plans;
+ghost use Rattle.answer_laws.specs.Prelude.paths;
 ghost use Rattle.answer_laws.specs.Settings.{SameSettings};
 
 /// What refuses a command, a recovery or a takeover is the same over all servers with the same settings, however they

@@ -6,9 +6,9 @@ use Rattle.std.specs.Cmp.Lexicographic.{slice_cmp, same_text, texts_ties}
 use Rattle.std.specs.Ordering.{is_lt, is_eq, nat_cmp}
 use Rattle.std.proofs.lemmas.Cmp.{nat_list_cmp_total}
 use Rattle.std.proofs.lemmas.List.{get_or-map, length-map}
-use Rattle.std.proofs.lemmas.List.Sorted.{ranks_by, IsPermutation-map}
-use Rattle.name_order.specs.Sorts.{sort_by}
-use Rattle.name_order.proofs.Sorting.{IsTight, sorted_is_sort_by}
+use Rattle.std.proofs.lemmas.List.Sorted.{IsPermutation-map, ranks_by}
+use Rattle.instance_keeper.specs.NameOrder.Sorts.{sort_by}
+use Rattle.instance_keeper.proofs.NameOrder.Sorting.{IsTight, sorted_is_sort_by}
 
 abbrev pub seen : Bor (List ℕ) → List ℕ
 seen label = label.now

@@ -1,7 +1,7 @@
 -- What is wrong with a book's instances.
 use Rattle.std.specs.Prelude.{Bool, true, false, List, filter, map}
-use Rattle.orch_base.specs.declared.code.Code.{Code}
-use Rattle.orch_base.specs.declared.code.Code.TheVariants as code
+use Rattle.instance_keeper.specs.OrchBase.declared.code.Code.{Code}
+use Rattle.instance_keeper.specs.OrchBase.declared.code.Code.TheVariants as code
 use Rattle.instance_keeper.specs.Book.{BookState}
 use Rattle.failure_analysis.specs.Analysis.{analysis}
 use Rattle.failure_analysis.specs.declared.entry.Entry.{Entry}

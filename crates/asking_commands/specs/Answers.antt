@@ -1,8 +1,8 @@
 -- What a command that only asks the book or the audit answers.
 use Rattle.std.specs.Prelude.{Bool, true, false, List, [], Option, Some, None, Result, Ok, Err}
-use Rattle.orch_base.specs.declared.server.ServerNo.{ServerNo}
+use Rattle.instance_keeper.specs.OrchBase.declared.server.ServerNo.{ServerNo}
 use Rattle.instance_keeper.specs.Book.{BookState}
-use Rattle.kept_rows.specs.declared.recovery.Recovery.{Recovery}
+use Rattle.instance_keeper.specs.KeptRows.declared.recovery.Recovery.{Recovery}
 use Rattle.commands.specs.declared.line.Line.{Line}
 use Rattle.commands.specs.declared.name.CommandName.{CommandName}
 use Rattle.command_routes.specs.declared.route.Question.{Question}

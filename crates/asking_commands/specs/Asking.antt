@@ -1,11 +1,11 @@
 -- What a book tells of its instances.
 use Rattle.std.specs.Prelude.{ℕ, Bool, false, true, ◌&&◌, List, [], ◌∷◌, map, filter, slice_index_or, nat_eq, unwrap_or, if◌then◌else◌}
 use Rattle.std.specs.Cmp.Lexicographic.{pointwise}
-use Rattle.orch_base.specs.declared.server.ServerNo.{ServerNo}
-use Rattle.orch_base.specs.declared.server.SourceState.{SourceState}
-use Rattle.orch_base.specs.declared.server.SourceState.TheVariants.{Without, Attached, Detached}
+use Rattle.instance_keeper.specs.OrchBase.declared.server.ServerNo.{ServerNo}
+use Rattle.instance_keeper.specs.OrchBase.declared.server.SourceState.{SourceState}
+use Rattle.instance_keeper.specs.OrchBase.declared.server.SourceState.TheVariants.{Without, Attached, Detached}
 use Rattle.instance_keeper.specs.Book.{BookState, instance_at}
-use Rattle.name_order.specs.NameOrder.{by_name}
+use Rattle.instance_keeper.specs.NameOrder.NameOrder.{by_name}
 use Rattle.book_views.specs.Sources.{is_instance, label_at, replicas_of, seen_source}
 use Rattle.commands.specs.declared.line.Line.{Line}
 use Rattle.commands.specs.declared.line.Line.TheVariants as line

@@ -3,8 +3,8 @@ use Rattle.std.specs.Prelude.{ℕ, Bool, false, List, [], ◌∷◌, map, filter
 use Rattle.std.specs.Cmp.Lexicographic.{pointwise, slice_cmp}
 use Rattle.std.specs.Ordering.{nat_cmp}
 use Rattle.instance_keeper.specs.Book.{BookState}
-use Rattle.name_order.specs.NameOrder.{by_name}
-use Rattle.name_order.specs.Sorts.{sort_by}
+use Rattle.instance_keeper.specs.NameOrder.NameOrder.{by_name}
+use Rattle.instance_keeper.specs.NameOrder.Sorts.{sort_by}
 use Rattle.commands.specs.declared.line.Line.{Line}
 use Rattle.commands.specs.declared.line.Line.TheVariants as line
 use Rattle.book_views.specs.Sources.{is_instance, label_at}

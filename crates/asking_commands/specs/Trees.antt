@@ -1,15 +1,15 @@
 -- The trees of a cluster.
 use Rattle.std.specs.Prelude.{ℕ, Bool, false, ◌&&◌, List, filter, filter_map, length, slice_get, Option, Some, None, option_map, option_and_then, is_none, if◌then◌else◌}
 use Rattle.std.specs.List.{flat_map, range_with_len}
-use Rattle.orch_base.specs.declared.server.IoState.{IoState}
-use Rattle.orch_base.specs.declared.server.IoState.TheVariants.{Yes, Connecting, No}
-use Rattle.orch_base.specs.declared.server.ServerNo.{ServerNo}
-use Rattle.orch_base.specs.declared.server.Settings.{Settings}
-use Rattle.orch_base.specs.declared.server.SourceState.{SourceState}
-use Rattle.orch_base.specs.declared.server.SourceState.TheVariants.{Without, Attached, Detached}
-use Rattle.orch_base.specs.declared.server.Version.{Version}
+use Rattle.instance_keeper.specs.OrchBase.declared.server.IoState.{IoState}
+use Rattle.instance_keeper.specs.OrchBase.declared.server.IoState.TheVariants.{Yes, Connecting, No}
+use Rattle.instance_keeper.specs.OrchBase.declared.server.ServerNo.{ServerNo}
+use Rattle.instance_keeper.specs.OrchBase.declared.server.Settings.{Settings}
+use Rattle.instance_keeper.specs.OrchBase.declared.server.SourceState.{SourceState}
+use Rattle.instance_keeper.specs.OrchBase.declared.server.SourceState.TheVariants.{Without, Attached, Detached}
+use Rattle.instance_keeper.specs.OrchBase.declared.server.Version.{Version}
 use Rattle.instance_keeper.specs.Book.{BookState, instance_at}
-use Rattle.kept_rows.specs.declared.observation.Instance.{Instance}
+use Rattle.instance_keeper.specs.KeptRows.declared.observation.Instance.{Instance}
 use Rattle.topology_tree.specs.Forests.{above, walk_of}
 use Rattle.book_views.specs.Forests.{book_forest, server_at}
 use Rattle.commands.specs.declared.line.Line.{Line}

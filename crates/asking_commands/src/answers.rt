@@ -1,7 +1,7 @@
 //! The answers.
 
 ghost use Rattle.std.specs.Prelude.{◌≡◌, ◌<◌, IfOk, IsTrue, length};
-ghost use Rattle.orch_base.specs.Gives.{Gives};
+ghost use Rattle.instance_keeper.specs.OrchBase.Gives.{Gives};
 ghost use Rattle.commands.specs.Turns.{is_within};
 ghost use Rattle.asking_commands.specs.Answers.{answer_fault, answer_of, answer_to, answers_of, asks, is_known, lines_of, permitted};
 
@@ -12,13 +12,13 @@ use crate::listing::{
     all_instances, find, global_switch, which_cluster, which_cluster_instances, which_master,
     which_replicas,
 };
+use crate::orch_base::ServerNo;
 use crate::trees::topology;
 use audit_lines::recovery_lines;
 use book_views::is_instance;
 use command_routes::{Question, Route};
 use commands::{Command, CommandName, CommandTurn, Found, Lines, Refusal, unknown_instance};
 use instance_keeper::{Book, Recovery};
-use orch_base::ServerNo;
 use std::alloc::Global;
 use std::fmt;
 

@@ -3,14 +3,14 @@
 ghost use Rattle.std.specs.Prelude.{◌≡◌, IfOk, length, map, not};
 ghost use Rattle.std.specs.Cmp.Lexicographic.{slice_cmp};
 ghost use Rattle.std.specs.Ordering.{nat_cmp};
-ghost use Rattle.name_order.specs.Sorts.{sort_by};
+ghost use Rattle.instance_keeper.specs.NameOrder.Sorts.{sort_by};
 ghost use Rattle.asking_commands.specs.Labels.{clusters_of, is_again, labels_of};
 
 use crate::Memory;
+use crate::orch_base::OwnedText;
 use book_views::{is_instance, label_at};
 use commands::{Line, Lines};
 use instance_keeper::Book;
-use orch_base::OwnedText;
 use std::alloc::Global;
 
 // The labels of the book's instances.

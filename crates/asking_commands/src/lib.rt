@@ -5,16 +5,16 @@ mod analysis;
 mod answers;
 mod labels;
 mod listing;
-mod threads;
 mod trees;
 
 pub use analysis::replication_analysis;
 pub use answers::{AnswerFault, answer, asks, permit};
+use instance_keeper::orch_base;
 pub use labels::clusters;
 pub use listing::{
     all_instances, find, global_switch, switch_line, which_cluster, which_cluster_instances,
     which_master, which_replicas,
 };
 /// Want of memory.
-pub use orch_base::Memory;
+pub use instance_keeper::orch_base::Memory;
 pub use trees::topology;

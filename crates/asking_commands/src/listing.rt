@@ -5,10 +5,10 @@ ghost use Rattle.book_views.specs.Sources.{is_instance, label_at};
 ghost use Rattle.asking_commands.specs.Asking.{all_instances, cluster_instances, cluster_of, found, is_of_cluster, master_of, replica_lines, source_line, switch_line, switch_of};
 
 use crate::Memory;
+use crate::orch_base::{OwnedText, ServerNo, SourceState};
 use book_views::{is_instance, label_at, replicas, seen_source};
 use commands::{Line, Lines};
 use instance_keeper::Book;
-use orch_base::{OwnedText, ServerNo, SourceState};
 use std::alloc::Global;
 
 /// The instances of the book, in name order.

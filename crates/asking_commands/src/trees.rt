@@ -8,10 +8,10 @@ ghost use Rattle.asking_commands.specs.Trees.{instance_line, is_root_of, node_li
 
 use crate::Memory;
 use crate::listing::is_of_cluster;
+use crate::orch_base::{IoState, OwnedText, ServerNo, SourceState};
 use book_views::{book_forest, label_at, server_at};
 use commands::{Line, Lines, StateWord};
 use instance_keeper::{Book, Instance};
-use orch_base::{IoState, OwnedText, ServerNo, SourceState};
 use std::alloc::Global;
 use topology_tree::Forest;
 

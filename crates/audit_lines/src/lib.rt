@@ -7,7 +7,7 @@ ghost use Rattle.audit_lines.specs.Lines.{line_of, recovery_lines};
 use commands::{Line, Lines, RecoveryLine};
 use kept_rows::Recovery;
 /// Want of memory.
-pub use orch_base::Memory;
+pub use kept_rows::orch_base::Memory;
 use std::alloc::Global;
 
 fn line_of(alloc: Global, recovery: &Recovery) -> Result<RecoveryLine, Memory>

@@ -1,7 +1,7 @@
 -- What a change keeps of a recovery.
 use Rattle.std.proofs.Common.{◌≡◌, ℕ, Bool, true, false, cond, List, refl}
-use Rattle.orch_base.specs.declared.recovery.Ending.TheVariants as ending
-use Rattle.orch_base.specs.declared.server.Moment.{Moment}
+use Rattle.kept_rows.specs.OrchBase.declared.recovery.Ending.TheVariants as ending
+use Rattle.kept_rows.specs.OrchBase.declared.server.Moment.{Moment}
 use Rattle.kept_rows.specs.declared.recovery.Recovery.{Recovery}
 use Rattle.audit_log.specs.Audits.{acknowledged_for, ended_so, interrupted, is_of, is_unended}
 

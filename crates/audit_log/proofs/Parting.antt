@@ -6,9 +6,9 @@ use Rattle.std.proofs.lemmas.Bool.{and_parts, false≢true, le-ltb, ltb-false}
 use borrow.Author.Tests.{ltb-true}
 use Rattle.std.proofs.lemmas.List.Elements.{All-head, All-tail, All-contains_itself, All-map, All-weaker}
 use Rattle.std.proofs.lemmas.List.Sums.{sum_by-cons, sum_by_push}
-use Rattle.orch_base.specs.declared.recovery.Ending.{Ending}
-use Rattle.orch_base.specs.declared.recovery.Ending.TheVariants as ending
-use Rattle.orch_base.specs.declared.server.Moment.{Moment}
+use Rattle.kept_rows.specs.OrchBase.declared.recovery.Ending.{Ending}
+use Rattle.kept_rows.specs.OrchBase.declared.recovery.Ending.TheVariants as ending
+use Rattle.kept_rows.specs.OrchBase.declared.server.Moment.{Moment}
 use Rattle.kept_rows.specs.declared.recovery.Recovery.{Recovery}
 use Rattle.audit_log.specs.declared.held.Held.{Held}
 use Rattle.audit_log.specs.declared.held.Held.TheVariants as held

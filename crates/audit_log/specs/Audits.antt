@@ -2,9 +2,9 @@
 use Rattle.std.specs.Prelude.{◌≡◌, ℕ, ◌+◌, ◌-◌, ◌<◌, ◌≤◌, ◌==◌, ◌&&◌, ◌||◌, nat_eq, nat_lt, not, if◌then◌else◌, Bool, true, false, List, [], ◌∷◌, ◌++◌, All, AllPairs, count_by, filter, find, length, map, reverse, Option, None, Some, is_none, Result, Ok, Err}
 use Rattle.std.specs.List.{HoldsAt}
 use Rattle.std.specs.Cmp.Lexicographic.{pointwise}
-use Rattle.orch_base.specs.declared.recovery.Ending.{Ending}
-use Rattle.orch_base.specs.declared.recovery.Ending.TheVariants as ending
-use Rattle.orch_base.specs.declared.server.Moment.{Moment}
+use Rattle.kept_rows.specs.OrchBase.declared.recovery.Ending.{Ending}
+use Rattle.kept_rows.specs.OrchBase.declared.recovery.Ending.TheVariants as ending
+use Rattle.kept_rows.specs.OrchBase.declared.server.Moment.{Moment}
 use Rattle.kept_rows.specs.declared.recovery.Recovery.{Recovery}
 use Rattle.audit_log.specs.declared.held.Held.{Held}
 use Rattle.audit_log.specs.declared.held.Held.TheVariants as held

@@ -3,14 +3,13 @@
 
 ghost use Rattle.std.specs.Prelude.{◌≡◌, ◌<◌, ◌≤◌, ◌^◌, ◌+◌, ◌-◌, ◌&&◌, ◌==◌, All, count_by, if◌then◌else◌, IfOk, IsSomeAnd, OnErr, OnOk, length, map, true, vec_len, vec_capacity};
 ghost use Rattle.std.specs.Option.{option_copied};
-ghost use Rattle.kept_rows.specs.declared.recovery.Recovery.{Recovery as ARecovery};
 ghost use Rattle.audit_log.specs.Apart.{MayBegin};
 ghost use Rattle.audit_log.specs.Audits.{acked_so, acking, acknowledged, acknowledged_at, acknowledged_for, begun, closed, closing, count_new, ended, ended_so, interrupted, is_blocking, is_new, is_of, is_unended, last_blocking, may_begin, recovery_at, unended_of, IsAudit, StandsAt};
 
 use crate::Memory;
 use crate::held::Held;
+use crate::orch_base::{Ending, Moment};
 use kept_rows::Recovery;
-use orch_base::{Ending, Moment};
 use std::alloc::Global;
 use std::marker::Model;
 

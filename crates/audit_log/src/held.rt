@@ -1,6 +1,6 @@
 //! What keeps a recovery from beginning.
 
-use orch_base::Moment;
+use crate::orch_base::Moment;
 
 /// Why no recovery of a cluster may begin.
 #[derive(Clone, Copy, Debug, PartialEq, Eq)]

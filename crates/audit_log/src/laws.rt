@@ -4,8 +4,8 @@ ghost use Rattle.std.specs.Prelude.{◌≡◌, ◌≤◌, ◌<◌, ℕ, All, Any
 ghost use Rattle.kept_rows.specs.Rows.{IsRising};
 ghost use Rattle.kept_rows.specs.declared.recovery.Recovery.{Recovery};
 ghost use Rattle.kept_rows.specs.declared.row.Row.{Row};
-ghost use Rattle.orch_base.specs.declared.recovery.Ending.{Ending};
-ghost use Rattle.orch_base.specs.declared.server.Moment.{Moment as AMoment};
+ghost use Rattle.kept_rows.specs.OrchBase.declared.recovery.Ending.{Ending};
+ghost use Rattle.kept_rows.specs.OrchBase.declared.server.Moment.{Moment as AMoment};
 ghost use Rattle.audit_log.specs.Apart.{IsApart, IsClear, IsFree, IsHeldBack, MayBegin};
 ghost use Rattle.audit_log.specs.Audits.{acknowledged, acknowledged_at, begun, closed, ended, is_open, is_unended, longest_block, may_begin, AuditState, IsAudit};
 ghost use Rattle.audit_log.specs.Loading.{recoveries_in};

@@ -6,14 +6,14 @@ mod held;
 mod laws;
 mod loading;
 mod periods;
-mod threads;
 
 pub use audit::{Audit, is_unended};
 pub use held::Held;
+use kept_rows::orch_base;
 pub use laws::{
     audits_stay_apart, begins_are_apart, kept_recoveries_make_an_audit, restarts_end_recoveries,
 };
 pub use loading::{loaded_by, recoveries_in};
 /// Want of memory.
-pub use orch_base::Memory;
+pub use kept_rows::orch_base::Memory;
 pub use periods::Periods;

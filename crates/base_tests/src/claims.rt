@@ -1,7 +1,7 @@
 ghost use Rattle.std.specs.Prelude.{◌≡◌, length, IfOk};
 
+use crate::orch_base::{Memory, Moment};
 use node_claims::{ClaimAnswer, Claims, ReleaseAnswer};
-use orch_base::{Memory, Moment};
 use std::alloc::Global;
 
 // What a node asks for, or claims that begin with the kept one that the step names.

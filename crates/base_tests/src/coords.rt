@@ -1,7 +1,7 @@
 ghost use Rattle.std.specs.Prelude.{◌≡◌, ◌≤◌, length, IfOk};
 
+use crate::orch_base::Memory;
 use binlog_coords::{Coord, CoordFault, LogIndex, Next, print_coord, read_coord};
-use orch_base::Memory;
 use std::alloc::Global;
 
 fn at(file: u32, pos: u64) -> Coord {

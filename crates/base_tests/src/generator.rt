@@ -2,7 +2,7 @@
 
 ghost use Rattle.std.specs.Prelude.{◌<◌};
 
-use orch_base::{MemSink, Memory};
+use crate::orch_base::{MemSink, Memory};
 use scenario_generator::{NotWritten, generate, write_scenario};
 use std::alloc::Global;
 

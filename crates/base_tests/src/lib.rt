@@ -22,3 +22,5 @@ mod order;
 mod placeholders;
 #[cfg(test)]
 mod sets;
+
+use binlog_coords::orch_base;

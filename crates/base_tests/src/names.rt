@@ -1,4 +1,4 @@
-use orch_base::*;
+use crate::orch_base::*;
 use std::alloc::Global;
 use std::cmp::Ordering;
 

@@ -1,5 +1,5 @@
+use crate::orch_base::{Memory, Name, ServerNo};
 use name_order::{in_name_order, ranks};
-use orch_base::{Memory, Name, ServerNo};
 use std::alloc::Global;
 
 // The servers of these names in name order, and their places there. At most nine names count.

@@ -1,5 +1,5 @@
+use crate::orch_base::{Name, NameFault, OwnedText};
 use hook_texts::{Values, expand};
-use orch_base::{Name, NameFault, OwnedText};
 use std::alloc::Global;
 
 // The analysis, the failed server, its cluster's label and alias, the promoted server, whether the recovery is done.

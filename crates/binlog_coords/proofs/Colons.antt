@@ -1,15 +1,9 @@
 -- A text is divided at its last colon.
 use Rattle.std.proofs.Common.{◌≡◌, ◌≢◌, ℕ, zero, suc, ◌+◌, ◌-◌, ◌<◌, ◌≤◌, true, false, not, List, [], ◌∷◌, ◌++◌, length, take, drop, get_or, Option, Some, None, refl, sym, ap, ◌∙◌, subst, arith, inl, inr, ⊎_elim}
 use Rattle.std.specs.Prelude.{◌⊎◌, MatchOption}
-use Rattle.std.specs.Borrow.{Bor}
-use Rattle.std.specs.List.{list_any, suffix_len, before_last, after_last}
-use Rattle.std.specs.Str.Pattern.{RFindsChar}
-use Rattle.std.proofs.lemmas.Bool.{false≢true, cases_eq, ne_eqb, not_from_false, or_right, or_from}
-use Rattle.std.proofs.lemmas.List.{take_at, drop_at, append_assoc, length-append, take-append-drop, get_or-append_right, get_or_at}
-use Rattle.std.proofs.lemmas.List.Folds.{list_any-append}
-use Rattle.std.proofs.lemmas.List.Sums.{suffix_len_is}
-use Rattle.std.proofs.lemmas.Str.Pattern.{NoCharPasses-char, drop_at_char}
-use Rattle.binlog_coords.specs.Grammar.{is_colon}
+use Rattle.binlog_coords.proofs.Prelude.{Bor, NoCharPasses-char, RFindsChar, after_last, append_assoc, before_last, cases_eq, drop_at, drop_at_char}
+use Rattle.binlog_coords.proofs.Prelude.{false≢true, get_or-append_right, get_or_at, is_colon, length-append, list_any, list_any-append, ne_eqb}
+use Rattle.binlog_coords.proofs.Prelude.{not_from_false, or_from, or_right, suffix_len, suffix_len_is, take-append-drop, take_at}
 
 abbrev pub NoColons : List ℕ → Type 0
 NoColons text = (i : ℕ) → i < length text → get_or text i 0 ≢ 58

@@ -1,22 +1,12 @@
 -- What a search by halves needs of a log's transactions.
 use Rattle.std.proofs.Common.{◌≡◌, ℕ, ◌+◌, ◌-◌, ◌<◌, ◌≤◌, Bool, true, false, cond, List, [], ◌∷◌, ◌++◌, length, refl, sym, ◌∙◌, ap, subst, inl, inr, Option, Some, None, arith, zero, suc, ◌||◌, get_or}
 use Rattle.std.specs.Prelude.{count_by, map, option_map, slice_get}
-use Rattle.std.specs.Int.{from_bool}
-use Rattle.std.specs.List.{list_any, prefix_len}
-use Rattle.std.specs.List.Sorted.{IsPartitionedBy, IsPartitionPoint}
-use Rattle.std.proofs.lemmas.List.Sums.{prefix_len_is}
-use Rattle.std.proofs.lemmas.Bool.{cases_Bool}
-use Rattle.std.proofs.lemmas.List.{length-map, map-append}
-use Rattle.std.proofs.lemmas.Option.{slice_get-get_or, slice_get-map, slice_get_past}
-use Rattle.std.proofs.lemmas.Bool.Decides.{nat_tests}
-use Rattle.binlog_coords.specs.declared.Coord.{Coord}
-use Rattle.binlog_coords.specs.declared.Entry.{Entry}
-use Rattle.binlog_coords.specs.declared.Next.{Next}
-use Rattle.binlog_coords.specs.declared.Next.TheVariants as next
-use Rattle.binlog_coords.specs.declared.index.Slot.{Slot}
-use Rattle.binlog_coords.specs.Log.{Log, is_before, is_at_or_before, same_coord, file_start, end_of, start_coord, end_coord, ends_by, touches, is_file_start, has_place, coord_after, end_or_first, entry_from, next_file, next_after}
-use Rattle.binlog_coords.specs.Entries.{LieBetween, starts_at}
-use Rattle.binlog_coords.specs.Slots.{entry_of}
+use Rattle.binlog_coords.proofs.Prelude.{Coord, Entry, IsPartitionedBy, IsPartitionPoint, LieBetween, Log, Next, Slot, cases_Bool, coord_after}
+use Rattle.binlog_coords.proofs.Prelude.{end_coord, end_of, end_or_first, ends_by, entry_from, entry_of, file_start, from_bool, has_place}
+use Rattle.binlog_coords.proofs.Prelude.{is_at_or_before, is_before, is_file_start, length-map, list_any, map-append, nat_tests, next_after}
+use Rattle.binlog_coords.proofs.Prelude.{next_file, prefix_len, prefix_len_is, same_coord, slice_get-get_or, slice_get-map, slice_get_past}
+use Rattle.binlog_coords.proofs.Prelude.{start_coord, starts_at, touches}
+use Rattle.binlog_coords.proofs.Prelude.next
 use Rattle.binlog_coords.proofs.Places.{is_at_or_before-trans, count_by-cons}
 
 -- one more transaction at the end

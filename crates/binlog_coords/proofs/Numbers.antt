@@ -1,16 +1,11 @@
 -- The numbers of a coordinate's text.
 use Rattle.std.proofs.Common.{◌≡◌, ℕ, zero, suc, ◌+◌, ◌-◌, ◌^◌, ◌<◌, ◌≤◌, Bool, true, false, cond, eqb, ltb, leb, List, [], ◌∷◌, ◌++◌, length, get_or, Some, None, Result, Ok, Err, refl, sym, ap, ◌∙◌, subst, arith, ⊎_elim, rules}
 use Rattle.std.specs.Prelude.{◌&&◌, ◌||◌, decimal, replicate}
-use Rattle.std.specs.List.{list_all}
-use Rattle.std.specs.Char.{is_ascii_digit}
-use Rattle.std.specs.Result.{result_ok}
-use Rattle.std.specs.Str.Parse.{ParsesUnsigned, digits_value}
-use Rattle.std.proofs.lemmas.Bool.{false≢true, false_from_ne_true, and_right, cases_eq, and_parts, or_cases, or_left, or_right, eq-eqb, eqb-true, ltb-true, lt-ltb, le-leb, leb-true}
-use Rattle.std.proofs.lemmas.List.{length-append, length-replicate, drop-replicate}
-use Rattle.std.proofs.lemmas.Fmt.{first_decimal, digits_decimal, digits_value-decimal, decimal-digits_value}
-use Rattle.std.proofs.lemmas.Str.Parse.{IsNumeralModel, IsDigitsTest, numerals_by_value, parse_digits}
-use Rattle.binlog_coords.specs.Text.{six_digits}
-use Rattle.binlog_coords.specs.Grammar.{begins_above_zero, is_plain, is_extension, value_within, number_at, pos_at}
+use Rattle.binlog_coords.proofs.Prelude.{IsDigitsTest, IsNumeralModel, ParsesUnsigned, and_parts, and_right, begins_above_zero, cases_eq}
+use Rattle.binlog_coords.proofs.Prelude.{decimal-digits_value, digits_decimal, digits_value, digits_value-decimal, drop-replicate, eq-eqb, eqb-true}
+use Rattle.binlog_coords.proofs.Prelude.{false_from_ne_true, false≢true, first_decimal, is_ascii_digit, is_extension, is_plain, le-leb, leb-true}
+use Rattle.binlog_coords.proofs.Prelude.{length-append, length-replicate, list_all, lt-ltb, ltb-true, number_at, numerals_by_value, or_cases, or_left}
+use Rattle.binlog_coords.proofs.Prelude.{or_right, parse_digits, pos_at, result_ok, six_digits, value_within}
 
 tells_digits : IsDigitsTest (λ ds. list_all is_ascii_digit ds ≡ true)
 tells_digits = search rules

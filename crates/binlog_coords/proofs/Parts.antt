@@ -1,12 +1,8 @@
 -- What the parts of a text make of it.
 use Rattle.std.proofs.Common.{◌≡◌, ℕ, Bool, true, false, cond, List, Option, Some, None, Result, Err, sym, ap, ◌∙◌, subst}
 use Rattle.std.specs.Prelude.{MatchOption}
-use Rattle.std.specs.Borrow.{Bor}
-use Rattle.std.specs.List.{list_any, before_last, after_last}
-use Rattle.binlog_coords.specs.declared.Coord.{Coord}
-use Rattle.binlog_coords.specs.declared.text.CoordFault.{CoordFault}
-use Rattle.binlog_coords.specs.declared.text.CoordFault.TheVariants.{NoColon}
-use Rattle.binlog_coords.specs.Grammar.{is_colon, file_at, pos_at, coord_of, coord_at}
+use Rattle.binlog_coords.proofs.Prelude.{Bor, Coord, CoordFault, NoColon, after_last, before_last, coord_at, coord_of, file_at, is_colon, list_any}
+use Rattle.binlog_coords.proofs.Prelude.{pos_at}
 
 -- what the function of the two halves ensures
 abbrev pub AreHalves : List ℕ → Option (Bor (List ℕ) × Bor (List ℕ)) → Type 0

@@ -1,16 +1,9 @@
 -- A text reads as a coordinate exactly where it is what is printed of it.
 use Rattle.std.proofs.Common.{◌≡◌, ℕ, ◌^◌, ◌<◌, ◌≤◌, Bool, true, false, cond, List, [], ◌∷◌, ◌++◌, take, drop, Option, Some, None, Ok, Err, refl, sym, ap, ◌∙◌, arith}
 use Rattle.std.specs.Prelude.{codes, decimal, nat_eq, option_and_then}
-use Rattle.std.specs.List.{list_any, starts_with, before_last, after_last}
-use Rattle.std.specs.Cmp.Lexicographic.{same_text}
-use Rattle.std.specs.Str.Parse.{digits_value}
-use Rattle.std.proofs.lemmas.List.{append_assoc, take-append-drop}
-use Rattle.std.proofs.lemmas.Fmt.{digits_decimal, digits_value-decimal}
-use Rattle.std.proofs.lemmas.Str.Parse.{not_in_digits}
-use Rattle.binlog_coords.specs.declared.Coord.{Coord}
-use Rattle.binlog_coords.specs.declared.text.CoordFault.TheVariants.{NoColon}
-use Rattle.binlog_coords.specs.Text.{coord_text, six_digits}
-use Rattle.binlog_coords.specs.Grammar.{is_colon, is_plain, is_extension, value_within, number_at, file_at, pos_at, coord_of, coord_at, HasText}
+use Rattle.binlog_coords.proofs.Prelude.{Coord, HasText, NoColon, after_last, append_assoc, before_last, coord_at, coord_of, coord_text}
+use Rattle.binlog_coords.proofs.Prelude.{digits_decimal, digits_value, digits_value-decimal, file_at, is_colon, is_extension, is_plain, list_any}
+use Rattle.binlog_coords.proofs.Prelude.{not_in_digits, number_at, pos_at, same_text, six_digits, starts_with, take-append-drop, value_within}
 use Rattle.binlog_coords.proofs.Colons.{NoColons, before_last-colon, after_last-colon, list_any-colon, rejoined}
 use Rattle.binlog_coords.proofs.Numbers.{own, decimal-is_plain, is_plain-decimal, six_digits-is_extension, digits_value-six_digits, is_extension-six_digits, value_within_is, value_within_some}
 
@@ -75,9 +68,7 @@ numbers_read : (some : Bool) (file pos : Option ℕ) (c : Coord) → cond some (
 numbers_read true (Some file) (Some pos) c e =
     let same : record { file = file; pos = pos } ≡ c = cc in
     (refl, ap (λ (d : Coord). Some d.file) same, ap (λ (d : Coord). Some d.pos) same)
-numbers_read true (Some file) None c e = absurd (cc)
-numbers_read true None pos c e = absurd (cc)
-numbers_read false file pos c e = absurd (cc)
+numbers_read _ _ _ c e = absurd (cc)
 
 pub only_printed_reads : (text : List ℕ) (c : Coord) → coord_at text ≡ Ok c → (text ≡ coord_text c) × HasText c
 unfolding coord_at

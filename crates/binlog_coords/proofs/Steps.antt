@@ -1,14 +1,10 @@
 -- What follows a coordinate, in the words of the log: a transaction, the next file, or nothing.
 use Rattle.std.proofs.Common.{◌≡◌, ℕ, ◌+◌, ◌<◌, ◌≤◌, Bool, true, false, cond, List, [], ◌∷◌, ◌++◌, length, refl, sym, zero-add, ◌∙◌, ap, subst, inl, inr, ◌⊎◌, Some, None, arith, length-append, zero, suc, get_or}
 use Rattle.std.specs.Prelude.{◌↔◌, IsSomeAnd, Option, count_by, slice_get}
-use Rattle.std.proofs.lemmas.Bool.{cases_lt}
-use Rattle.std.proofs.lemmas.Bool.Decides.{nat_tests}
-use Rattle.std.proofs.lemmas.Option.{same_Some, slice_get_within, slice_get-get_or, get_or_from_slice_get}
-use Rattle.binlog_coords.specs.declared.Coord.{Coord}
-use Rattle.binlog_coords.specs.declared.Entry.{Entry}
-use Rattle.binlog_coords.specs.declared.Next.{Next}
-use Rattle.binlog_coords.specs.declared.Next.TheVariants as next
-use Rattle.binlog_coords.specs.Log.{Log, is_at_or_before, same_coord, file_start, end_of, appended, entry_at_end, start_coord, end_coord, ends_by, place, entry_from, next_file, next_after, StepFrom, Spans, EndsFile}
+use Rattle.binlog_coords.proofs.Prelude.{Coord, EndsFile, Entry, Log, Next, Spans, StepFrom, appended, cases_lt, end_coord, end_of, ends_by}
+use Rattle.binlog_coords.proofs.Prelude.{entry_at_end, entry_from, file_start, get_or_from_slice_get, is_at_or_before, nat_tests, next_after}
+use Rattle.binlog_coords.proofs.Prelude.{next_file, place, same_coord, same_Some, slice_get-get_or, slice_get_within, start_coord}
+use Rattle.binlog_coords.proofs.Prelude.next
 use Rattle.binlog_coords.proofs.Places.{Laid, Opened, Appended, Flushed, Found, Missing, At, same_coord-true, same_coord-refl, is_at_or_before-trans, count_by-cons, count-monotone, place-parts, slice_get-snoc_within, slice_get-snoc_last, entry_from-snoc, entry_from-past, entry_from-found, next_after-end, next_after-step, next_file-earlier, next_file-last}
 
 -- each transaction takes bytes

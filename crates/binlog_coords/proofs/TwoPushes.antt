@@ -1,8 +1,7 @@
 -- A log with the limit 200 after two transactions of 100 bytes, by computation.
 use Rattle.std.proofs.Common.{◌≡◌, ℕ, refl, Some, None}
-use Rattle.binlog_coords.specs.declared.Coord.{Coord}
-use Rattle.binlog_coords.specs.declared.Next.TheVariants as next
-use Rattle.binlog_coords.specs.Log.{Log, opened, push, end_of, place, next_after, coord_after}
+use Rattle.binlog_coords.proofs.Prelude.{Coord, Log, coord_after, end_of, next_after, opened, place, push}
+use Rattle.binlog_coords.proofs.Prelude.next
 
 abbrev two : Log
 two = push (push (opened 200) 100) 100

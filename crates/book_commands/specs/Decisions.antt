@@ -1,26 +1,14 @@
 -- What an operator's decision answers, and what it makes of what is known.
 use Rattle.std.specs.Prelude.{ℕ, ◌+◌, Bool, true, false, List, [], ◌∷◌, map, Option, None, Some, is_some, unwrap_or, if◌then◌else◌}
-use Rattle.orch_base.specs.declared.rule.Rule.TheVariants as rule
-use Rattle.orch_base.specs.declared.server.Moment.{Moment}
-use Rattle.orch_base.specs.declared.server.ServerNo.{ServerNo}
-use Rattle.kept_rows.specs.Recoveries.{put_recovery}
-use Rattle.kept_rows.specs.declared.row.Candidate.{Candidate}
-use Rattle.kept_rows.specs.declared.row.Change.{Change}
-use Rattle.kept_rows.specs.declared.row.Change.TheVariants as change
-use Rattle.kept_rows.specs.declared.row.Downtime.{Downtime}
-use Rattle.kept_rows.specs.declared.row.Key.TheVariants as key
-use Rattle.kept_rows.specs.declared.row.Row.TheVariants as row
-use Rattle.kept_rows.specs.declared.row.Table.TheVariants as table
-use Rattle.instance_keeper.specs.Book.{BookState, after_change, downtime_at}
-use Rattle.instance_keeper.specs.Had.{put_change}
-use Rattle.audit_log.specs.Audits.{AuditState, acking, acknowledged, count_new}
-use Rattle.commands.specs.declared.line.Line.{Line}
-use Rattle.commands.specs.declared.line.Line.TheVariants as line
-use Rattle.commands.specs.declared.turn.Keys.{Keys}
-use Rattle.command_routes.specs.declared.route.Decision.{Decision}
-use Rattle.command_routes.specs.declared.route.Decision.TheVariants as decision
-use Rattle.asking_commands.specs.Asking.{switch_line}
-use Rattle.book_views.specs.Sources.{label_at}
+use Rattle.book_commands.specs.Prelude.{AuditState, BookState, Candidate, Change, Decision, Downtime, Keys, Line, Moment, ServerNo, acking}
+use Rattle.book_commands.specs.Prelude.{acknowledged, after_change, count_new, downtime_at, label_at, put_change, put_recovery, switch_line}
+use Rattle.book_commands.specs.Prelude.change
+use Rattle.book_commands.specs.Prelude.decision
+use Rattle.book_commands.specs.Prelude.key
+use Rattle.book_commands.specs.Prelude.line
+use Rattle.book_commands.specs.Prelude.row
+use Rattle.book_commands.specs.Prelude.rule
+use Rattle.book_commands.specs.Prelude.table
 use Rattle.book_commands.specs.declared.decided.Decided.{Decided}
 use Rattle.book_commands.specs.declared.decided.Effect.{Effect}
 use Rattle.book_commands.specs.declared.decided.Effect.TheVariants as effect

@@ -1,8 +1,8 @@
 //! What a decision comes to.
 
+use crate::orch_base::OwnedText;
 use commands::Lines;
 use instance_keeper::Change;
-use orch_base::OwnedText;
 
 /// What a decision makes of what is known.
 #[derive(Drop)]

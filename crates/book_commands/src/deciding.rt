@@ -1,11 +1,10 @@
 //! Decisions.
 
 ghost use Rattle.std.specs.Prelude.{◌≡◌, ◌<◌, ◌≤◌, ◌^◌, ◌∷◌, [], IfOk, IfSome, length, map, unwrap_or};
-ghost use Rattle.audit_log.specs.Audits.{acking, count_new, is_new};
-ghost use Rattle.book_views.specs.Sources.{label_at};
-ghost use Rattle.kept_rows.specs.Recoveries.{put_recovery};
-ghost use Rattle.book_commands.specs.Decisions.{acked, after, candidate_of, decided_of, decided_with, downtime_begun, downtime_ended, downtime_of, downtime_removal, effect_by, registered, rows_of, switched, undecided};
+ghost use Rattle.book_commands.specs.Prelude.{acking, count_new, is_new, label_at, put_recovery};
+ghost use Rattle.book_commands.specs.Decisions.{acked, candidate_of, decided_of, decided_with, downtime_begun, downtime_ended, downtime_of, downtime_removal, effect_by, registered, rows_of, switched, undecided};
 
+use crate::orch_base::{Moment, OwnedText, Rule, ServerNo};
 use crate::{Decided, Effect, Memory};
 use asking_commands::switch_line;
 use audit_log::Audit;
@@ -13,7 +12,6 @@ use book_views::label_at;
 use command_routes::Decision;
 use commands::{Keys, Line, Lines};
 use instance_keeper::{Book, Candidate, Change, Downtime, Key, Recovery, Row, Table};
-use orch_base::{Moment, OwnedText, Rule, ServerNo};
 use std::alloc::Global;
 
 /// How long a downtime lasts of which no duration is given, in seconds.

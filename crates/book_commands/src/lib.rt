@@ -4,9 +4,9 @@
 
 mod decided;
 mod deciding;
-mod threads;
 
 pub use decided::{Decided, Effect};
 pub use deciding::{decide, rows_of};
+use instance_keeper::orch_base;
 /// Want of memory.
-pub use orch_base::Memory;
+pub use instance_keeper::orch_base::Memory;

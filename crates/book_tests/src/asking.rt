@@ -1,10 +1,10 @@
 //! Which servers the commands that ask the book or the audit name.
 
+use crate::orch_base::{Memory, OwnedText, ServerNo, SourceState};
 use crate::rows::{Given, book};
 use asking_commands::{AnswerFault, answer, asks};
 use commands::{Answers, Command, CommandName, CommandTurn, Found, Keys, Line};
 use instance_keeper::Book;
-use orch_base::{Memory, OwnedText, ServerNo, SourceState};
 use std::alloc::Global;
 
 // z is no instance, and so no parent of a; b is detached; c and d are each other's source; e is of another cluster

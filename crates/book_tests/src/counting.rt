@@ -1,9 +1,9 @@
 //! Which rows count, and what they make of an opening.
 
+use crate::orch_base::{Memory, Moment, ServerNo, SourceState};
 use crate::rows::{Given, are_rows, rows, settings};
 use instance_keeper::{Ending, Rule};
 use opening_book::{counted, last_id, last_read, latest_moment, loaded_book};
-use orch_base::{Memory, Moment, ServerNo, SourceState};
 use std::alloc::Global;
 use std::slice;
 

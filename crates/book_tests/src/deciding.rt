@@ -2,13 +2,13 @@
 
 ghost use Rattle.std.specs.Prelude.{◌≡◌, ◌≤◌, ◌<◌, ◌↔◌, All, IfOk, IfSome, IsTrue};
 
+use crate::orch_base::{Ending, Kind, Memory, Moment, Rule, ServerNo, SourceState};
 use crate::rows::{Given, OnePeriod, book, label};
 use audit_log::{Audit, kept_recoveries_make_an_audit, recoveries_in};
 use book_commands::{Decided, Effect, decide, rows_of};
 use command_routes::Decision;
 use commands::{Keys, Line};
 use instance_keeper::{Book, Change, Key, Recovery, Row, last_row_stands, row_map};
-use orch_base::{Ending, Kind, Memory, Moment, Rule, ServerNo, SourceState};
 use std::alloc::Global;
 
 // What a decision is given.

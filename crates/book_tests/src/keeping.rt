@@ -1,12 +1,12 @@
 //! The book, its rows and the keeper in memory: each public call once, with ample memory.
 
+use crate::binlog_coords_items::Coord;
+use crate::orch_base::{Memory, Moment, ServerNo, SourceState};
 use crate::rows::{Given, are_rows, book, instance, row, rows, seen};
-use binlog_coords::Coord;
 use instance_keeper::{
     Book, Change, Ending, Instance, Keeper, KeeperFault, Key, MemKeeper, Observation, Row, Rule,
     StoreAnswer, Table,
 };
-use orch_base::{Memory, Moment, ServerNo, SourceState};
 use std::alloc::Global;
 
 const SERVERS: [(&str, &str); 2] = [("m", "m:3306"), ("r:3307", "m:3306")];

@@ -13,3 +13,5 @@ mod keeping;
 mod loading;
 #[cfg(test)]
 mod rows;
+
+use instance_keeper::{binlog_coords_items, gtid_sets, orch_base};

@@ -1,11 +1,11 @@
 //! What a load of kept rows keeps of recoveries.
 
 use crate::deciding::loaded;
+use crate::orch_base::{Memory, Moment, ServerNo};
 use crate::rows::{Given, OnePeriod, are_rows, rows};
 use audit_log::Audit;
 use instance_keeper::{Change, Ending, Keeper, KeeperFault, MemKeeper, Row};
 use opening_book::{counted, last_id, loading};
-use orch_base::{Memory, Moment, ServerNo};
 use std::alloc::Global;
 
 /// The block period of a cluster, for rows that have none.

@@ -2,14 +2,14 @@
 
 ghost use Rattle.std.specs.Prelude.{◌≡◌, ◌<◌, ◌^◌, IfOk, length};
 
-use audit_log::Periods;
-use binlog_coords::Coord;
-use gtid_sets::GtidSet;
-use instance_keeper::{Book, Candidate, Downtime, Instance, RecoveryRow, Row, Seen};
-use orch_base::{
+use crate::binlog_coords_items::Coord;
+use crate::gtid_sets::GtidSet;
+use crate::orch_base::{
     Ending, IoState, Kind, Memory, Moment, Name, OwnedText, Rule, ServerNo, Settings, SourceState,
     Version,
 };
+use audit_log::Periods;
+use instance_keeper::{Book, Candidate, Downtime, Instance, RecoveryRow, Row, Seen};
 use std::alloc::{AllocError, Global};
 
 /// A row, its server by number.

@@ -5,18 +5,18 @@ use Rattle.std.proofs.lemmas.Bool.{cases_lt}
 use Rattle.std.proofs.lemmas.List.{get_or-map, get_or_past, length-map}
 use Rattle.std.proofs.lemmas.List.FromFn.{length-map-range_with_len}
 use Rattle.std.proofs.lemmas.Option.{same_Some}
-use Rattle.orch_base.specs.declared.server.ServerNo.{ServerNo}
-use Rattle.orch_base.specs.declared.server.SourceState.{SourceState}
-use Rattle.orch_base.specs.declared.server.SourceState.TheVariants.{Without, Attached, Detached}
-use Rattle.kept_rows.specs.Servers.{are_known, source_servers}
+use Rattle.instance_keeper.specs.OrchBase.declared.server.ServerNo.{ServerNo}
+use Rattle.instance_keeper.specs.OrchBase.declared.server.SourceState.{SourceState}
+use Rattle.instance_keeper.specs.OrchBase.declared.server.SourceState.TheVariants.{Without, Attached, Detached}
+use Rattle.instance_keeper.specs.KeptRows.Servers.{are_known, source_servers}
 use Rattle.instance_keeper.specs.Book.{BookState, IsBook, instance_at}
 use Rattle.topology_tree.specs.Forests.{IsClosed}
 use Rattle.topology_tree.specs.Making.{forest_of}
 use Rattle.topology_tree.specs.Making as making
-use Rattle.name_order.specs.NameOrder.{by_name, rank_of}
-use Rattle.name_order.proofs.Arranged.{by_name-within}
-use Rattle.name_order.proofs.ByName.{IsOrder-by_name, length-by_name}
-use Rattle.name_order.proofs.Placing.{place-of_number, rank-of_place}
+use Rattle.instance_keeper.specs.NameOrder.NameOrder.{by_name, rank_of}
+use Rattle.instance_keeper.proofs.NameOrder.Arranged.{by_name-within}
+use Rattle.instance_keeper.proofs.NameOrder.ByName.{IsOrder-by_name, length-by_name}
+use Rattle.instance_keeper.proofs.NameOrder.Placing.{place-of_number, rank-of_place}
 use Rattle.book_views.specs.Sources.{is_instance, seen_source, source_in}
 use Rattle.book_views.specs.Forests.{book_forest, node_at, node_of, source_node, source_nodes}
 use Rattle.book_views.proofs.Reading.{known-below, source-known}

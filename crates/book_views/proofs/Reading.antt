@@ -5,13 +5,13 @@ use Rattle.std.specs.List.{list_all}
 use Rattle.std.proofs.lemmas.Bool.Decides.{nat_tests}
 use Rattle.std.proofs.lemmas.List.Elements.{All-get_or}
 use Rattle.std.proofs.lemmas.Option.{slice_get_within, get_or_from_slice_get}
-use Rattle.orch_base.specs.Names.{HostPort}
-use Rattle.orch_base.specs.declared.server.ServerNo.{ServerNo}
-use Rattle.kept_rows.specs.Servers.{are_known, source_servers}
+use Rattle.instance_keeper.specs.OrchBase.Names.{HostPort}
+use Rattle.instance_keeper.specs.OrchBase.declared.server.ServerNo.{ServerNo}
+use Rattle.instance_keeper.specs.KeptRows.Servers.{are_known, source_servers}
 use Rattle.instance_keeper.specs.Book.{BookState, IsBook, HasKnownSource, instance_at}
-use Rattle.kept_rows.specs.declared.observation.Instance.{Instance}
-use Rattle.name_order.specs.NameOrder.{by_name}
-use Rattle.name_order.proofs.Arranged.{by_name-within}
+use Rattle.instance_keeper.specs.KeptRows.declared.observation.Instance.{Instance}
+use Rattle.instance_keeper.specs.NameOrder.NameOrder.{by_name}
+use Rattle.instance_keeper.proofs.NameOrder.Arranged.{by_name-within}
 use Rattle.book_views.specs.Sources.{seen_source}
 
 known-seen : (n : ℕ) (o : Option Instance) → HasKnownSource n o → are_known n (source_servers (seen_source o)) ≡ true

@@ -1,11 +1,11 @@
 -- The forest of a book: a node for each server, by its rank in name order.
 use Rattle.std.specs.Prelude.{ℕ, List, map, slice_get, Option, Some, None, option_and_then, if◌then◌else◌}
-use Rattle.orch_base.specs.declared.server.ServerNo.{ServerNo}
+use Rattle.instance_keeper.specs.OrchBase.declared.server.ServerNo.{ServerNo}
 use Rattle.instance_keeper.specs.Book.{BookState, instance_at}
 use Rattle.topology_tree.specs.Following.{Follows}
 use Rattle.topology_tree.specs.Forests.{above}
 use Rattle.topology_tree.specs.Making.{forest_of}
-use Rattle.name_order.specs.NameOrder.{by_name, rank_of}
+use Rattle.instance_keeper.specs.NameOrder.NameOrder.{by_name, rank_of}
 use Rattle.book_views.specs.Sources.{is_instance, seen_source, source_in}
 
 -- a server's node

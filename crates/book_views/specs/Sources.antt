@@ -1,12 +1,12 @@
 -- What a book tells of its servers, instances and their sources.
 use Rattle.std.specs.Prelude.{ℕ, Bool, false, ◌==◌, List, [], filter, slice_get, Option, Some, None, is_some}
-use Rattle.orch_base.specs.declared.server.ServerNo.{ServerNo}
-use Rattle.orch_base.specs.declared.server.Settings.{Settings}
-use Rattle.orch_base.specs.declared.server.SourceState.{SourceState}
-use Rattle.orch_base.specs.declared.server.SourceState.TheVariants.{Without, Attached, Detached}
+use Rattle.instance_keeper.specs.OrchBase.declared.server.ServerNo.{ServerNo}
+use Rattle.instance_keeper.specs.OrchBase.declared.server.Settings.{Settings}
+use Rattle.instance_keeper.specs.OrchBase.declared.server.SourceState.{SourceState}
+use Rattle.instance_keeper.specs.OrchBase.declared.server.SourceState.TheVariants.{Without, Attached, Detached}
 use Rattle.instance_keeper.specs.Book.{BookState, instance_at}
-use Rattle.kept_rows.specs.declared.observation.Instance.{Instance}
-use Rattle.name_order.specs.NameOrder.{by_name}
+use Rattle.instance_keeper.specs.KeptRows.declared.observation.Instance.{Instance}
+use Rattle.instance_keeper.specs.NameOrder.NameOrder.{by_name}
 
 -- the server is an instance of the book
 abbrev pub is_instance : BookState → ServerNo → Bool

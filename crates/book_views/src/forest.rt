@@ -5,9 +5,9 @@ ghost use Rattle.topology_tree.specs.Forests.{IsForestOf};
 ghost use Rattle.book_views.specs.Forests.{book_forest, node_of, parent_of, server_at, source_node, source_nodes, IsBelow};
 
 use crate::Memory;
+use crate::orch_base::{ServerNo, SourceState};
 use crate::sources::{is_instance, seen_source};
 use instance_keeper::Book;
-use orch_base::{ServerNo, SourceState};
 use std::alloc::Global;
 use topology_tree::Forest;
 

@@ -5,6 +5,7 @@ mod forest;
 mod sources;
 
 pub use forest::{book_forest, is_below, parent, server_at};
+use instance_keeper::orch_base;
 /// Want of memory.
-pub use orch_base::Memory;
+pub use instance_keeper::orch_base::Memory;
 pub use sources::{is_instance, label_at, replicas, seen_source};

@@ -1,13 +1,13 @@
 //! Instances, their sources and their replicas.
 
 ghost use Rattle.std.specs.Prelude.{◌≡◌, ◌<◌, IfOk, length, true};
-ghost use Rattle.kept_rows.specs.Servers.{are_known, source_servers};
+ghost use Rattle.instance_keeper.specs.KeptRows.Servers.{are_known, source_servers};
 ghost use Rattle.instance_keeper.specs.Book.{instance_at};
 ghost use Rattle.book_views.specs.Sources.{is_attached_to, is_instance, label_at, replicas_of, seen_source};
 
 use crate::Memory;
+use crate::orch_base::{OwnedText, ServerNo, SourceState};
 use instance_keeper::Book;
-use orch_base::{OwnedText, ServerNo, SourceState};
 use std::alloc::Global;
 
 /// The label of a server's cluster.

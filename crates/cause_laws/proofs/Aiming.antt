@@ -1,30 +1,14 @@
 -- What tests of a job say: of a source that was named, of the aims of waits, and of changes of source.
 use Rattle.std.proofs.Common.{◌≡◌, ℕ, zero, suc, ◌+◌, ◌-◌, ◌≤◌, Bool, true, false, not, ◌&&◌, List, [], ◌∷◌, refl, sym, ◌∙◌, ap, subst, ◌⊎◌, inl, inr, Option, Some, None, arith}
 use Rattle.std.specs.Prelude.{nat_lt, nat_le, ◌==◌}
-use Rattle.std.proofs.lemmas.Bool.{and_cases, and_from, and_parts, eq-eqb, eqb-true, false_from_ne_true, false≢true, le-leb, ltb-false, not-false, not-true, not_from_false, not_from_true, or_cases, or_left, or_right}
-use Rattle.std.proofs.lemmas.Option.{same_Some}
-use Rattle.binlog_coords.specs.declared.Coord.{Coord}
-use Rattle.binlog_coords.specs.Log.{same_coord}
-use Rattle.gtid_sets.specs.declared.interval.Interval.{Interval}
-use Rattle.gtid_sets.specs.Sets.{holds, spans}
-use Rattle.orch_base.specs.declared.server.ServerNo.{ServerNo}
-use Rattle.orch_base.specs.declared.server.SourceState.{SourceState}
-use Rattle.orch_base.specs.declared.server.SourceState.TheVariants.{Without, Attached, Detached}
-use Rattle.server_words.specs.declared.status.Status.{Status}
-use Rattle.server_model.specs.Run.{Exchange}
-use Rattle.instance_keeper.specs.declared.bridge.Bridge.{Bridge}
-use Rattle.operations.specs.declared.op.Crossing.{Crossing}
-use Rattle.operations.specs.declared.op.Crossing.TheVariants as cross
-use Rattle.operations.specs.declared.sight.Position.{Position}
-use Rattle.operations.specs.Changes.{change_of, server_of}
-use Rattle.operations.specs.Deeds as deed
-use Rattle.operations.specs.Deeds.{Deed}
-use Rattle.operations.specs.declared.matching.Match.{Match}
-use Rattle.operations.specs.Jobs.{Job, match_found, seen_of}
-use Rattle.operations.specs.Turns.{attached_anew, bridge_at, by_match, by_set, crossed, has_all, has_from, holds_seen, is_moved, is_reached, is_settled, is_within, read_by, same_again, settles}
-use Rattle.job_laws.specs.Held.{attachment_of}
-use Rattle.operations.proofs.Sets.{within-holds}
-use Rattle.cause_laws.specs.Events.{IsBefore, LacksSome}
+use Rattle.cause_laws.proofs.Prelude.{Attached, Bridge, Coord, Crossing, Deed, Detached, Exchange, Interval, IsBefore, Job, LacksSome, Match}
+use Rattle.cause_laws.proofs.Prelude.{Position, ServerNo, SourceState, Status, Without, and_cases, and_from, and_parts, attached_anew, attachment_of}
+use Rattle.cause_laws.proofs.Prelude.{bridge_at, by_match, by_set, change_of, crossed, eq-eqb, eqb-true, false_from_ne_true, false≢true, has_all}
+use Rattle.cause_laws.proofs.Prelude.{has_from, holds, holds_seen, is_moved, is_reached, is_settled, is_within, le-leb, ltb-false, match_found}
+use Rattle.cause_laws.proofs.Prelude.{not-false, not-true, not_from_false, not_from_true, or_cases, or_left, or_right, read_by, same_again}
+use Rattle.cause_laws.proofs.Prelude.{same_coord, same_Some, seen_of, server_of, settles, spans, within-holds}
+use Rattle.cause_laws.proofs.Prelude.cross
+use Rattle.cause_laws.proofs.Prelude.deed
 
 -- ---- a source that was named
 
@@ -122,9 +106,7 @@ with-one n x h y e = subst (λ z. server_of z ≡ n.0) (same_Some x y e) h
 crossed-with : (c : Crossing) (a : ServerNo) (o : Option Bridge) → IsWith a (crossed c a o)
 crossed-with c a None x e = cc
 crossed-with cross.Up a (Some b) x e = with-one a _ refl x e
-crossed-with cross.Down a (Some b) x e = with-one a _ refl x e
-crossed-with cross.About a (Some b) x e = with-one a _ refl x e
-crossed-with cross.Back a (Some b) x e = with-one a _ refl x e
+crossed-with _ a _ x e = with-one a _ refl x e
 
 anew-with : (n : ServerNo) (exec : Coord) (source : SourceState) → IsWith n (attached_anew n exec source)
 anew-with n exec Without x e = cc
@@ -147,15 +129,8 @@ of-change : (m n : ServerNo) (o : Option Exchange) → Some m ≡ Some n → IsW
 of-change m n o e h = subst (λ k. IsWith k o) (same_Some m n e) h
 
 pub attachment-with : (j : Job) (d : Deed) (n : ServerNo) (x : Exchange) → change_of d ≡ Some n → attachment_of j d ≡ Some x → server_of x ≡ n.0
-attachment-with j (deed.Look m from) n x h e = cc
-attachment-with j (deed.Request m a) n x h e = cc
-attachment-with j (deed.Until m to) n x h e = cc
-attachment-with j (deed.Await m to) n x h e = cc
-attachment-with j (deed.AwaitSet m k) n x h e = cc
-attachment-with j (deed.Settle m) n x h e = cc
 attachment-with j (deed.Cross c a b) n x h e = of-change a n _ h (crossed-with c a (bridge_at (read_by c a b) (seen_of j.seen (read_by c a b).0))) x e
 attachment-with j (deed.Same m) n x h e = of-change m n _ h (again-with m (seen_of j.seen m.0)) x e
 attachment-with j (deed.Auto m k) n x h e = of-change m n _ h (set-with m k (seen_of j.seen k.0)) x e
-attachment-with j (deed.Match m k every) n x h e = cc
 attachment-with j (deed.CrossMatch m k) n x h e = of-change m n _ h (match-with m k (match_found j.matches m k)) x e
-attachment-with j (deed.Finish lines) n x h e = cc
+attachment-with j _ n x h e = cc

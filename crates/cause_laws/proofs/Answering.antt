@@ -1,25 +1,13 @@
 -- What exchanges answer of a server that isn't reached, and of one that is.
 use Rattle.std.proofs.Common.{◌≡◌, ℕ, Bool, true, false, cond, not, ◌&&◌, ◌||◌, List, [], ◌∷◌, length, refl, ap, subst, Option, Some, None, Ok, Err, Result}
 use Rattle.std.specs.Prelude.{nat_lt}
-use Rattle.std.proofs.lemmas.Bool.{false≢true}
-use Rattle.binlog_coords.specs.declared.Coord.{Coord}
-use Rattle.gtid_sets.specs.declared.interval.Interval.{Interval}
-use Rattle.kept_rows.specs.Seeing.{seen_in}
-use Rattle.server_words.specs.declared.answers.Unreachable.{Unreachable}
-use Rattle.server_words.specs.declared.attach.AttachFault.{AttachFault}
-use Rattle.server_words.specs.declared.attach.AttachFault.TheVariants as attaching
-use Rattle.server_words.specs.declared.attach.Spot.{Spot}
-use Rattle.server_words.specs.declared.status.StatusFault.TheVariants as seeing
-use Rattle.server_model.specs.declared.server.Server.{Server}
-use Rattle.server_model.specs.Attach.{attach_answer, attach_decision, chain_meets, first_kept, live_spot, purged_answer, same_spot, spot_below}
-use Rattle.server_model.specs.Desk.{can_reach, desk_answer}
-use Rattle.server_model.specs.Gtids.{attach_auto_answer, auto_decision, auto_purged, auto_readiness, answer_by_sets, errant_answer, errant_set, held_of, purged_len, shown_of, status_in, uuids}
-use Rattle.server_model.specs.Run.{Exchange, Write, Fetch, Apply, Request, Befall, Rotate, Purge, Attach, AttachAuto}
-use Rattle.server_model.specs.Worlds.{World, server_at, sources}
-use Rattle.operations.specs.Changes.{server_of}
-use Rattle.operations.specs.Targets.{can_attach}
-use Rattle.operations.specs.Turns.{attach_answer_of}
-use Rattle.cause_laws.specs.Events.{Answers}
+use Rattle.cause_laws.proofs.Prelude.{Answers, Attach, AttachAuto, AttachFault, Coord, Exchange, Interval}
+use Rattle.cause_laws.proofs.Prelude.{Server, Spot, Unreachable, World, answer_by_sets, attach_answer, attach_answer_of}
+use Rattle.cause_laws.proofs.Prelude.{attach_auto_answer, attach_decision, auto_decision, auto_purged, auto_readiness, can_attach, can_reach}
+use Rattle.cause_laws.proofs.Prelude.{chain_meets, desk_answer, errant_answer, errant_set, false≢true, first_kept, held_of, live_spot, purged_answer}
+use Rattle.cause_laws.proofs.Prelude.{purged_len, same_spot, seen_in, server_at, server_of, shown_of, sources, spot_below, status_in, uuids}
+use Rattle.cause_laws.proofs.Prelude.attaching
+use Rattle.cause_laws.proofs.Prelude.seeing
 
 -- ---- statuses and requests
 
@@ -55,12 +43,8 @@ not-asked (Some s) e = ap reply e
 -- a fault of a server that was reached
 abbrev IsTold : AttachFault → Type 0
 IsTold attaching.Unreachable = ⊥
-IsTold (attaching.Running at) = Unit {0}
-IsTold (attaching.Interfered expected found) = Unit {0}
-IsTold attaching.Loop = Unit {0}
-IsTold (attaching.Errant set) = Unit {0}
-IsTold (attaching.Purged first) = Unit {0}
 IsTold attaching.Memory = ⊥
+IsTold _ = Unit {0}
 
 abbrev fault : AttachFault → Result (Unit {0}) AttachFault
 fault f = Err f
@@ -150,13 +134,7 @@ set-told w n observed to (Some s) = record {
 pub answer-told : (w : World) (x : Exchange) → can_attach w x ≡ true → IsReachTold (server_at w (server_of x)) (attach_answer_of w x)
 answer-told w (Attach n expect to at) can = at-told w n expect to.0 at (server_at w n)
 answer-told w (AttachAuto n observed to) can = set-told w n observed to.0 (server_at w n)
-answer-told w (Write n size) can = absurd (false≢true can)
-answer-told w (Fetch n) can = absurd (false≢true can)
-answer-told w (Apply n) can = absurd (false≢true can)
-answer-told w (Request n a) can = absurd (false≢true can)
-answer-told w (Befall n e) can = absurd (false≢true can)
-answer-told w (Rotate n) can = absurd (false≢true can)
-answer-told w (Purge n file) can = absurd (false≢true can)
+answer-told w _ can = absurd (false≢true can)
 
 pub answer-unreached : (w : World) (x : Exchange) → can_attach w x ≡ true → attach_answer_of w x ≡ Err attaching.Unreachable → can_reach (server_at w (server_of x)) ≡ false
 answer-unreached w x can e = go (can_reach (server_at w (server_of x))) refl
@@ -176,21 +154,9 @@ answer-memory w x can e = go (can_reach (server_at w (server_of x))) refl
 pub answers-of : (w : World) (x : Exchange) (f : AttachFault) → can_attach w x ≡ true → attach_answer_of w x ≡ Err f → Answers w x f
 answers-of w (Attach n expect to at) f can e = e
 answers-of w (AttachAuto n observed to) f can e = e
-answers-of w (Write n size) f can e = absurd (false≢true can)
-answers-of w (Fetch n) f can e = absurd (false≢true can)
-answers-of w (Apply n) f can e = absurd (false≢true can)
-answers-of w (Request n a) f can e = absurd (false≢true can)
-answers-of w (Befall n b) f can e = absurd (false≢true can)
-answers-of w (Rotate n) f can e = absurd (false≢true can)
-answers-of w (Purge n file) f can e = absurd (false≢true can)
+answers-of w _ f can e = absurd (false≢true can)
 
 pub answer-from : (w : World) (x : Exchange) (f : AttachFault) → Answers w x f → attach_answer_of w x ≡ Err f
 answer-from w (Attach n expect to at) f h = h
 answer-from w (AttachAuto n observed to) f h = h
-answer-from w (Write n size) f h = absurd h
-answer-from w (Fetch n) f h = absurd h
-answer-from w (Apply n) f h = absurd h
-answer-from w (Request n a) f h = absurd h
-answer-from w (Befall n b) f h = absurd h
-answer-from w (Rotate n) f h = absurd h
-answer-from w (Purge n file) f h = absurd h
+answer-from w _ f h = absurd h

@@ -1,70 +1,32 @@
 -- What a job has in its hands is what it left stopped.
 use Rattle.std.proofs.Common.{◌≡◌, ℕ, ◌+◌, Bool, true, false, cond, not, ◌||◌, List, [], ◌∷◌, ◌++◌, refl, sym, ◌∙◌, ap, subst, Option, Some, None, Ok, Err, Result, map, get_or, ◌⊎◌, inl, inr, arith}
 use Rattle.std.specs.Prelude.{nat_lt, ◌==◌, fold, All, AllPairs}
-use Rattle.std.specs.List.{list_any}
-use Rattle.std.proofs.lemmas.Bool.{cases_Bool, eq-eqb, eqb-true, false≢true, not-true}
-use Rattle.std.proofs.lemmas.List.Elements.{All-cons, All-head, All-nil, All-tail, filter_passes}
-use Rattle.std.proofs.lemmas.List.Kept.{AllPairs-filter}
-use Rattle.std.proofs.lemmas.List.Quantifiers.{all_pairs_push}
-use Rattle.std.proofs.lemmas.List.Sums.{fold-append}
-use Rattle.binlog_coords.specs.declared.Coord.{Coord}
-use Rattle.orch_base.specs.declared.server.Moment.{Moment}
-use Rattle.orch_base.specs.declared.server.ServerNo.{ServerNo}
-use Rattle.kept_rows.specs.declared.observation.Observation.{Observation}
-use Rattle.kept_rows.specs.Seeing.{seen_in}
-use Rattle.server_words.specs.declared.answers.Unreachable.{Unreachable}
-use Rattle.server_words.specs.declared.attach.AttachFault.{AttachFault}
-use Rattle.server_words.specs.declared.attach.Spot.{Spot}
-use Rattle.server_words.specs.declared.changes.Ask.{Ask}
-use Rattle.server_words.specs.declared.changes.Ask.TheVariants as asking
-use Rattle.server_words.specs.declared.changes.Threads.{Threads}
-use Rattle.server_words.specs.declared.status.Status.{Status}
-use Rattle.server_model.specs.Desk.{desk_answer}
-use Rattle.server_model.specs.Gtids.{status}
-use Rattle.server_model.specs.Run.{Exchange, Write, Fetch, Apply, Request, Befall, Rotate, Purge, Attach, AttachAuto}
-use Rattle.server_model.specs.Worlds.{World, server_at}
-use Rattle.commands.specs.declared.cause.Cause.{Cause}
-use Rattle.commands.specs.declared.cause.Cause.TheVariants as cause
-use Rattle.commands.specs.declared.line.Line.{Line}
-use Rattle.operations.specs.declared.matching.MatchFault.{MatchFault}
-use Rattle.operations.specs.declared.op.Op.{Op}
-use Rattle.operations.specs.declared.step.JobStep.TheVariants as step
-use Rattle.operations.specs.Deeds as deed
-use Rattle.operations.specs.Deeds.{Deed, deed_of}
-use Rattle.operations.specs.Jobs.{Job, seen_of, with_hand, without}
-use Rattle.operations.specs.Matching.{match_logs, standing_at}
-use Rattle.operations.specs.Targets.{can_attach}
-use Rattle.operations.specs.Turns.{Attempt, Goes, Stops, settled, next, saw, observed, is_moved, after_status, after_look, after_ask, aim_of, hands_after, is_reached, until_by, after_until, after_wait_by, after_wait, holds_seen, settles, after_match, attach_answer_of, after_answer, after_attach, by_deed, by_ops}
-use Rattle.job_laws.proofs.Leased.{turn-leased}
-use Rattle.job_laws.specs.Held.{attachment_of}
-use Rattle.job_laws.specs.Leases.{HasLeases, IsLeased, KeepsLeases, Leases, MayChange}
-use Rattle.cause_laws.specs.Courses.{AllGoing, Meeting, exchanges_in, job_after, turn_at}
-use Rattle.cause_laws.specs.Events.{Done, Ended, IsTaken, Misses, Stopped, Waited, asked_until, changes_by, made}
-use Rattle.cause_laws.specs.Hands.{IsLeftStopped, IsNoStart, is_in_hands}
+use Rattle.cause_laws.proofs.Prelude.{All-cons, All-head, All-nil, All-tail, AllGoing, AllPairs-filter, Ask, AttachFault}
+use Rattle.cause_laws.proofs.Prelude.{Attempt, Cause, Coord, Deed, Done, Ended, Exchange, Goes, HasLeases, IsLeased, IsLeftStopped}
+use Rattle.cause_laws.proofs.Prelude.{IsNoStart, IsTaken, Job, KeepsLeases, Leases, Line, MatchFault, MayChange, Meeting, Misses, Moment, Observation}
+use Rattle.cause_laws.proofs.Prelude.{Op, Request, ServerNo, Spot, Status, Stopped, Stops, Threads, Unreachable, Waited, World, Write}
+use Rattle.cause_laws.proofs.Prelude.{after_answer, after_ask, after_attach, after_look, after_match, after_status, after_until, after_wait}
+use Rattle.cause_laws.proofs.Prelude.{after_wait_by, aim_of, all_pairs_push, asked_until, attach_answer_of, attachment_of, by_deed, by_ops}
+use Rattle.cause_laws.proofs.Prelude.{can_attach, cases_Bool, changes_by, deed_of, desk_answer, eq-eqb, eqb-true, exchanges_in, false≢true}
+use Rattle.cause_laws.proofs.Prelude.{filter_passes, fold-append, hands_after, holds_seen, is_in_hands, is_moved, is_reached, job_after, list_any}
+use Rattle.cause_laws.proofs.Prelude.{made, match_logs, next, not-true, observed, saw, seen_in, seen_of, server_at, settled, settles, standing_at}
+use Rattle.cause_laws.proofs.Prelude.{status, turn-leased, turn_at, until_by, with_hand, without}
+use Rattle.cause_laws.proofs.Prelude.asking
+use Rattle.cause_laws.proofs.Prelude.cause
+use Rattle.cause_laws.proofs.Prelude.deed
+use Rattle.cause_laws.proofs.Prelude.step
 use Rattle.cause_laws.proofs.Turning.{turn-idle, turn-taken}
 
 -- ---- whether a server is left stopped, exchange by exchange
 
 abbrev by_ask : Bool → Ask → Bool → Bool
-by_ask false a b = b
 by_ask true (asking.Stop which) b = true
 by_ask true asking.Start b = false
-by_ask true (asking.StartUntil to) b = b
-by_ask true asking.Detach b = b
-by_ask true asking.Reattach b = b
-by_ask true asking.Reset b = b
-by_ask true (asking.SetReadOnly on) b = b
+by_ask _ _ b = b
 
 abbrev one_on : ℕ → Bool → Exchange → Bool
 one_on n b (Request k a) = by_ask (k == n) a b
-one_on n b (Write k size) = b
-one_on n b (Fetch k) = b
-one_on n b (Apply k) = b
-one_on n b (Befall k e) = b
-one_on n b (Rotate k) = b
-one_on n b (Purge k file) = b
-one_on n b (Attach k expect to at) = b
-one_on n b (AttachAuto k observed to) = b
+one_on n b _ = b
 
 abbrev left_on : ℕ → Bool → List Exchange → Bool
 left_on n b es = fold (one_on n) b es
@@ -94,13 +56,7 @@ part n (Request k a) = go (cases_Bool (k == n))
     go (inl same) = ask-part n k a (eqb-true k n same)
     go (inr apart) = other-part n k a apart
 part n (Write k size) = Other (λ h. cc) (λ b. refl)
-part n (Fetch k) = Other (λ h. cc) (λ b. refl)
-part n (Apply k) = Other (λ h. cc) (λ b. refl)
-part n (Befall k e) = Other (λ h. cc) (λ b. refl)
-part n (Rotate k) = Other (λ h. cc) (λ b. refl)
-part n (Purge k file) = Other (λ h. cc) (λ b. refl)
-part n (Attach k expect to at) = Other (λ h. cc) (λ b. refl)
-part n (AttachAuto k observed to) = Other (λ h. cc) (λ b. refl)
+part n _ = Other (λ h. cc) (λ b. refl)
 
 -- the last stop is found, or nothing but what was so before
 last-stop : (n : ℕ) (b : Bool) (es : List Exchange) → left_on n b es ≡ true → ((b ≡ true) × All (IsNoStart n) es) ⊎ IsLeftStopped n es
@@ -225,17 +181,7 @@ has-asked n hands k (asking.SetReadOnly on) = go (k.0 == n) (has n hands)
 
 abbrev hands_by : Deed → List ServerNo → List ServerNo
 hands_by (deed.Request n a) hands = hands_after hands n a
-hands_by (deed.Look n from) hands = hands
-hands_by (deed.Until n to) hands = hands
-hands_by (deed.Await n to) hands = hands
-hands_by (deed.AwaitSet n m) hands = hands
-hands_by (deed.Settle n) hands = hands
-hands_by (deed.Cross c a b) hands = hands
-hands_by (deed.Same n) hands = hands
-hands_by (deed.Auto n m) hands = hands
-hands_by (deed.Match n m every) hands = hands
-hands_by (deed.CrossMatch n m) hands = hands
-hands_by (deed.Finish lines) hands = hands
+hands_by _ hands = hands
 
 module _ (w : World) (read : ℕ) (now : Moment) (j : Job) (rest : List Op) where
   -- an attempt after which the job goes on leaves it these hands
@@ -311,15 +257,8 @@ until-left n b k None = refl
 until-left n b k (Some to) = until-same (k.0 == n) to b
 
 attach-left : (w : World) (n : ℕ) (b : Bool) (x : Exchange) → can_attach w x ≡ true → b ≡ left_on n b (x ∷ [])
-attach-left w n b (Attach k expect to at) can = refl
-attach-left w n b (AttachAuto k observed to) can = refl
-attach-left w n b (Write k size) can = refl
-attach-left w n b (Fetch k) can = refl
-attach-left w n b (Apply k) can = refl
 attach-left w n b (Request k a) can = absurd (false≢true can)
-attach-left w n b (Befall k e) can = refl
-attach-left w n b (Rotate k) can = refl
-attach-left w n b (Purge k file) can = refl
+attach-left w n b _ can = refl
 
 made-left : (w : World) (n : ℕ) (b : Bool) (o : Option Exchange) → b ≡ left_on n b (made w o)
 made-left w n b None = refl
@@ -330,32 +269,19 @@ made-left w n b (Some x) = go (can_attach w x) refl
     go false can = refl
 
 changes-left : (w : World) (j : Job) (n : ℕ) (d : Deed) (hands : List ServerNo) → has n (hands_by d hands) ≡ left_on n (has n hands) (changes_by w j d)
-changes-left w j n (deed.Look k from) hands = refl
 changes-left w j n (deed.Request k a) hands = has-asked n hands k a
 changes-left w j n (deed.Until k to) hands = until-left n (has n hands) k (until_by (seen_of j.seen k.0) (aim_of j.seen to))
-changes-left w j n (deed.Await k to) hands = refl
-changes-left w j n (deed.AwaitSet k m) hands = refl
-changes-left w j n (deed.Settle k) hands = refl
 changes-left w j n (deed.Cross c a b) hands = made-left w n (has n hands) (attachment_of j (deed.Cross c a b))
 changes-left w j n (deed.Same k) hands = made-left w n (has n hands) (attachment_of j (deed.Same k))
 changes-left w j n (deed.Auto k m) hands = made-left w n (has n hands) (attachment_of j (deed.Auto k m))
-changes-left w j n (deed.Match k m every) hands = refl
 changes-left w j n (deed.CrossMatch k m) hands = made-left w n (has n hands) (attachment_of j (deed.CrossMatch k m))
-changes-left w j n (deed.Finish lines) hands = refl
+changes-left w j n _ hands = refl
 
 waits-change-nothing : (w : World) (j : Job) (d : Deed) (s : Status) → Misses j d s → changes_by w j d ≡ []
 waits-change-nothing w j (deed.Await n to) s h = refl
 waits-change-nothing w j (deed.AwaitSet n m) s h = refl
 waits-change-nothing w j (deed.Settle n) s h = refl
-waits-change-nothing w j (deed.Look n from) s h = absurd h
-waits-change-nothing w j (deed.Request n a) s h = absurd h
-waits-change-nothing w j (deed.Until n to) s h = absurd h
-waits-change-nothing w j (deed.Cross c a b) s h = absurd h
-waits-change-nothing w j (deed.Same n) s h = absurd h
-waits-change-nothing w j (deed.Auto n m) s h = absurd h
-waits-change-nothing w j (deed.Match n m every) s h = absurd h
-waits-change-nothing w j (deed.CrossMatch n m) s h = absurd h
-waits-change-nothing w j (deed.Finish lines) s h = absurd h
+waits-change-nothing w j _ s h = absurd h
 
 -- ---- turns
 
@@ -426,25 +352,11 @@ pushed-apart hands n apart =
 asked-apart : (hands : List ServerNo) (n : ServerNo) (a : Ask) → AllPairs Apart hands → AllPairs Apart (hands_after hands n a)
 asked-apart hands n (asking.Stop which) apart = pushed-apart hands n apart
 asked-apart hands n asking.Start apart = AllPairs-filter Apart (λ k. not (k.0 == n.0)) hands apart
-asked-apart hands n (asking.StartUntil to) apart = apart
-asked-apart hands n asking.Detach apart = apart
-asked-apart hands n asking.Reattach apart = apart
-asked-apart hands n asking.Reset apart = apart
-asked-apart hands n (asking.SetReadOnly on) apart = apart
+asked-apart hands n _ apart = apart
 
 handled-apart : (d : Deed) (hands : List ServerNo) → AllPairs Apart hands → AllPairs Apart (hands_by d hands)
 handled-apart (deed.Request n a) hands apart = asked-apart hands n a apart
-handled-apart (deed.Look n from) hands apart = apart
-handled-apart (deed.Until n to) hands apart = apart
-handled-apart (deed.Await n to) hands apart = apart
-handled-apart (deed.AwaitSet n m) hands apart = apart
-handled-apart (deed.Settle n) hands apart = apart
-handled-apart (deed.Cross c a b) hands apart = apart
-handled-apart (deed.Same n) hands apart = apart
-handled-apart (deed.Auto n m) hands apart = apart
-handled-apart (deed.Match n m every) hands apart = apart
-handled-apart (deed.CrossMatch n m) hands apart = apart
-handled-apart (deed.Finish lines) hands apart = apart
+handled-apart _ hands apart = apart
 
 course-apart : (j : Job) (ms : List Meeting) → AllPairs Apart j.hands → AllGoing j ms → AllPairs Apart (job_after j ms).hands
 course-apart j [] apart going = apart

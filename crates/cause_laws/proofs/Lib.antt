@@ -1,3 +1,4 @@
+mod Prelude
 pub mod Answering
 pub mod Aiming
 pub mod Taking

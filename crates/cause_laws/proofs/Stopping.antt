@@ -1,37 +1,18 @@
 -- What befalls an operation stops its job, for that cause.
 use Rattle.std.proofs.Common.{◌≡◌, ℕ, ◌+◌, ◌≤◌, Bool, true, false, cond, not, List, [], refl, sym, ◌∙◌, ap, subst, Option, Some, None, Err}
 use Rattle.std.specs.Prelude.{is_some}
-use Rattle.std.proofs.lemmas.Bool.{false≢true, le-ltb}
-use Rattle.std.proofs.lemmas.Option.{same_Some}
-use Rattle.binlog_coords.specs.declared.Coord.{Coord}
-use Rattle.orch_base.specs.declared.server.Moment.{Moment}
-use Rattle.orch_base.specs.declared.server.ServerNo.{ServerNo}
-use Rattle.orch_base.specs.declared.server.SourceState.{SourceState}
-use Rattle.kept_rows.specs.declared.observation.Observation.{Observation}
-use Rattle.kept_rows.specs.Seeing.{seen_in}
-use Rattle.server_words.specs.declared.attach.AttachFault.{AttachFault}
-use Rattle.server_words.specs.declared.attach.AttachFault.TheVariants as attaching
-use Rattle.server_words.specs.declared.changes.Ask.{Ask}
-use Rattle.server_words.specs.declared.changes.Ask.TheVariants as asking
-use Rattle.server_words.specs.declared.status.Status.{Status}
-use Rattle.server_model.specs.Desk.{can_reach, desk_answer}
-use Rattle.server_model.specs.Gtids.{status}
-use Rattle.server_model.specs.Run.{Exchange}
-use Rattle.server_model.specs.Worlds.{World, server_at}
-use Rattle.commands.specs.declared.cause.Cause.{Cause}
-use Rattle.commands.specs.declared.cause.Cause.TheVariants as cause
-use Rattle.operations.specs.declared.matching.MatchFault.{MatchFault}
-use Rattle.operations.specs.declared.matching.MatchFault.TheVariants as matching
-use Rattle.operations.specs.declared.op.Op.{Op}
-use Rattle.operations.specs.Changes.{change_of, server_of}
-use Rattle.operations.specs.Deeds as deed
-use Rattle.operations.specs.Deeds.{Deed}
-use Rattle.operations.specs.Jobs.{Job, seen_of}
-use Rattle.operations.specs.Matching.{match_between, match_logs, standing_at}
-use Rattle.operations.specs.Targets.{can_attach}
-use Rattle.operations.specs.Turns.{Goes, Stops, next, saw, observed, is_moved, after_status, after_look, after_ask, aim_of, is_reached, until_by, after_until, after_wait_by, after_wait, holds_seen, settles, cause_of_match, after_match, attach_answer_of, cause_by, after_answer, after_attach, by_deed}
-use Rattle.job_laws.specs.Held.{attachment_of}
-use Rattle.cause_laws.specs.Events.{Befell, IsAnswered, IsMoved, IsSpent, IsUnmatched, first_away, only_where, speaks_with, tries}
+use Rattle.cause_laws.proofs.Prelude.{Ask, AttachFault, Befell, Cause, Coord, Deed, Exchange, Goes, IsAnswered, IsMoved, IsSpent, IsUnmatched, Job}
+use Rattle.cause_laws.proofs.Prelude.{MatchFault, Moment, Observation, Op, ServerNo, SourceState, Status, Stops, World, after_answer, after_ask}
+use Rattle.cause_laws.proofs.Prelude.{after_attach, after_look, after_match, after_status, after_until, after_wait, after_wait_by, aim_of}
+use Rattle.cause_laws.proofs.Prelude.{attach_answer_of, attachment_of, by_deed, can_attach, can_reach, cause_by, cause_of_match, change_of}
+use Rattle.cause_laws.proofs.Prelude.{desk_answer, false≢true, first_away, holds_seen, is_moved, is_reached, le-ltb, match_between, match_logs, next}
+use Rattle.cause_laws.proofs.Prelude.{observed, only_where, same_Some, saw, seen_in, seen_of, server_at, server_of, settles, speaks_with, standing_at}
+use Rattle.cause_laws.proofs.Prelude.{status, tries, until_by}
+use Rattle.cause_laws.proofs.Prelude.asking
+use Rattle.cause_laws.proofs.Prelude.attaching
+use Rattle.cause_laws.proofs.Prelude.cause
+use Rattle.cause_laws.proofs.Prelude.deed
+use Rattle.cause_laws.proofs.Prelude.matching
 use Rattle.cause_laws.proofs.Answering.{answer-from, answer-told, not-asked, not-read}
 use Rattle.cause_laws.proofs.Aiming.{apart-moved, attachment-with, before-aim, lacks-set}
 
@@ -121,22 +102,15 @@ module _ (w : World) (read : ℕ) (now : Moment) (j : Job) (rest : List Op) wher
   at-server d m n f same e = subst (λ (k : ServerNo). StopsFor d (cause_by k f)) (same_Some m n same) (None, e)
 
   answered-stops : (d : Deed) (n : ServerNo) (f : AttachFault) → IsAnswered w j d n f → StopsFor d (cause_by n f)
-  answered-stops (deed.Look m from) n f h = let none = h.found in cc
-  answered-stops (deed.Request m a) n f h = let none = h.found in cc
-  answered-stops (deed.Until m to) n f h = let none = h.found in cc
-  answered-stops (deed.Await m to) n f h = let none = h.found in cc
-  answered-stops (deed.AwaitSet m k) n f h = let none = h.found in cc
-  answered-stops (deed.Settle m) n f h = let none = h.found in cc
   answered-stops (deed.Cross c a b) n f h =
       at-server (deed.Cross c a b) a n f h.changed (answered-so a (attachment_of j (deed.Cross c a b)) h.exchange f h.found h.can (answer-from w h.exchange f h.answer))
   answered-stops (deed.Same m) n f h =
       at-server (deed.Same m) m n f h.changed (answered-so m (attachment_of j (deed.Same m)) h.exchange f h.found h.can (answer-from w h.exchange f h.answer))
   answered-stops (deed.Auto m k) n f h =
       at-server (deed.Auto m k) m n f h.changed (answered-so m (attachment_of j (deed.Auto m k)) h.exchange f h.found h.can (answer-from w h.exchange f h.answer))
-  answered-stops (deed.Match m k every) n f h = let none = h.found in cc
   answered-stops (deed.CrossMatch m k) n f h =
       at-server (deed.CrossMatch m k) m n f h.changed (answered-so m (attachment_of j (deed.CrossMatch m k)) h.exchange f h.found h.can (answer-from w h.exchange f h.answer))
-  answered-stops (deed.Finish lines) n f h = let none = h.found in cc
+  answered-stops _ n f h = let none = h.found in cc
 
   -- ---- a server that was moved
 
@@ -174,16 +148,7 @@ module _ (w : World) (read : ℕ) (now : Moment) (j : Job) (rest : List Op) wher
   spent-stops (deed.AwaitSet m k) n h =
       spent-at (deed.AwaitSet m k) m n h.short.seen h.short.spoken h.short.shown
       (λ is. spent-by m (holds_seen (seen_of j.seen k.0)) h.short.seen is (lacks-set (seen_of j.seen k.0) h.short.seen h.short.misses) h.last)
-  spent-stops (deed.Look m from) n h = absurd (false≢true h.fails)
-  spent-stops (deed.Request m a) n h = absurd (false≢true h.fails)
-  spent-stops (deed.Until m to) n h = absurd (false≢true h.fails)
-  spent-stops (deed.Settle m) n h = absurd (false≢true h.fails)
-  spent-stops (deed.Cross c a b) n h = absurd (false≢true h.fails)
-  spent-stops (deed.Same m) n h = absurd (false≢true h.fails)
-  spent-stops (deed.Auto m k) n h = absurd (false≢true h.fails)
-  spent-stops (deed.Match m k every) n h = absurd (false≢true h.fails)
-  spent-stops (deed.CrossMatch m k) n h = absurd (false≢true h.fails)
-  spent-stops (deed.Finish lines) n h = absurd (false≢true h.fails)
+  spent-stops _ n h = absurd (false≢true h.fails)
 
   -- ---- logs that don't match
 
@@ -202,8 +167,6 @@ module _ (w : World) (read : ℕ) (now : Moment) (j : Job) (rest : List Op) wher
   befallen-stops d (cause.Errant n set) h = answered-stops d n (attaching.Errant set) h
   befallen-stops d (cause.Moved n source) h = moved-stops d n source h
   befallen-stops d (cause.Purged n first) h = answered-stops d n (attaching.Purged first) h
-  befallen-stops d (cause.Reachable n) h = absurd h
-  befallen-stops d cause.NoCandidate h = absurd h
   befallen-stops d (cause.NoMark n) h = unmatched-stops d n matching.NoMark h
   befallen-stops d (cause.Mismatch n entry) h = unmatched-stops d n (matching.Mismatch entry) h
-  befallen-stops d (cause.HookFailed number exit) h = absurd h
+  befallen-stops d _ h = absurd h

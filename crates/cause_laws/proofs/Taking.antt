@@ -1,40 +1,20 @@
 -- What a turn comes to by the operation that is due.
 use Rattle.std.proofs.Common.{◌≡◌, ℕ, ◌+◌, ◌≤◌, Bool, true, false, cond, not, List, [], ◌∷◌, refl, sym, ◌∙◌, ap, subst, Option, Some, None, Ok, Err, Result}
 use Rattle.std.specs.Prelude.{nat_lt, is_some}
-use Rattle.std.proofs.lemmas.Bool.{false≢true, ltb-false, ltb-true, not-false, or_parts}
-use Rattle.std.proofs.lemmas.Option.{same_Some}
-use Rattle.binlog_coords.specs.declared.Coord.{Coord}
-use Rattle.orch_base.specs.declared.server.Moment.{Moment}
-use Rattle.orch_base.specs.declared.server.ServerNo.{ServerNo}
-use Rattle.kept_rows.specs.declared.observation.Observation.{Observation}
-use Rattle.kept_rows.specs.Seeing.{seen_in}
-use Rattle.server_words.specs.declared.answers.Unreachable.{Unreachable}
-use Rattle.server_words.specs.declared.attach.AttachFault.{AttachFault}
-use Rattle.server_words.specs.declared.attach.AttachFault.TheVariants as attaching
-use Rattle.server_words.specs.declared.changes.Ask.{Ask}
-use Rattle.server_words.specs.declared.changes.Ask.TheVariants as asking
-use Rattle.server_words.specs.declared.status.Status.{Status}
-use Rattle.server_model.specs.declared.server.Server.{Server}
-use Rattle.server_model.specs.Desk.{can_reach, desk_answer}
-use Rattle.server_model.specs.Gtids.{status}
-use Rattle.server_model.specs.Plains.{logged_by}
-use Rattle.server_model.specs.Run.{Exchange, Request}
-use Rattle.server_model.specs.Worlds.{World, server_at}
-use Rattle.commands.specs.declared.cause.Cause.{Cause}
-use Rattle.commands.specs.declared.cause.Cause.TheVariants as cause
-use Rattle.operations.specs.declared.op.Aim.{Aim}
-use Rattle.operations.specs.declared.matching.MatchFault.{MatchFault}
-use Rattle.operations.specs.declared.matching.MatchFault.TheVariants as matching
-use Rattle.operations.specs.declared.op.Op.{Op}
-use Rattle.operations.specs.Changes.{change_of}
-use Rattle.operations.specs.Deeds as deed
-use Rattle.operations.specs.Deeds.{Deed}
-use Rattle.operations.specs.Jobs.{Job, seen_of}
-use Rattle.operations.specs.Matching.{first_unlike, last_mark, match_between, match_logs, matched_at, matched_behind, matched_from, place_of_mark, standing_at}
-use Rattle.operations.specs.Targets.{can_attach}
-use Rattle.operations.specs.Turns.{Attempt, Goes, Stops, settled, next, saw, observed, is_moved, after_status, after_look, after_ask, aim_of, is_reached, until_by, after_until, after_wait_by, after_wait, holds_seen, is_settled, settles, after_match, attach_answer_of, cause_by, after_answer, after_attach, by_deed}
-use Rattle.job_laws.specs.Held.{attachment_of}
-use Rattle.cause_laws.specs.Events.{Befell, Done, Ended, IsAnswered, IsShort, IsTaken, Misses, Stopped, Waited, asked_until, changes_by, fails_when_spent, first_away, made, only_where, speaks_with, tries}
+use Rattle.cause_laws.proofs.Prelude.{Aim, Ask, AttachFault, Attempt, Befell, Cause, Coord, Deed, Done, Ended, Exchange, Goes, IsAnswered, IsShort}
+use Rattle.cause_laws.proofs.Prelude.{IsTaken, Job, MatchFault, Misses, Moment, Observation, Op, Request, Server, ServerNo, Status, Stopped, Stops}
+use Rattle.cause_laws.proofs.Prelude.{Unreachable, Waited, World, after_answer, after_ask, after_attach, after_look, after_match, after_status}
+use Rattle.cause_laws.proofs.Prelude.{after_until, after_wait, after_wait_by, aim_of, asked_until, attach_answer_of, attachment_of, by_deed}
+use Rattle.cause_laws.proofs.Prelude.{can_attach, can_reach, cause_by, change_of, changes_by, desk_answer, fails_when_spent, false≢true, first_away}
+use Rattle.cause_laws.proofs.Prelude.{first_unlike, holds_seen, is_moved, is_reached, is_settled, last_mark, logged_by, ltb-false, ltb-true, made}
+use Rattle.cause_laws.proofs.Prelude.{match_between, match_logs, matched_at, matched_behind, matched_from, next, not-false, observed, only_where}
+use Rattle.cause_laws.proofs.Prelude.{or_parts, place_of_mark, same_Some, saw, seen_in, seen_of, server_at, settled, settles, speaks_with}
+use Rattle.cause_laws.proofs.Prelude.{standing_at, status, tries, until_by}
+use Rattle.cause_laws.proofs.Prelude.asking
+use Rattle.cause_laws.proofs.Prelude.attaching
+use Rattle.cause_laws.proofs.Prelude.cause
+use Rattle.cause_laws.proofs.Prelude.deed
+use Rattle.cause_laws.proofs.Prelude.matching
 use Rattle.cause_laws.proofs.Answering.{answer-memory, answer-unreached, answers-of, unasked, unread}
 use Rattle.cause_laws.proofs.Aiming.{aim-before, aim-come, attachment-with, has-come, moved-apart, set-come, set-lacks, unsettled}
 

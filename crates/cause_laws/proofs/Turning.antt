@@ -1,26 +1,13 @@
 -- The turns of a job, one after another.
 use Rattle.std.proofs.Common.{◌≡◌, ℕ, ◌+◌, ◌-◌, ◌≤◌, ◌<◌, true, false, List, [], ◌∷◌, ◌++◌, length, refl, sym, ◌∙◌, ap, subst, Option, Some, ◌⊎◌, inl, inr, arith}
-use Rattle.std.specs.List.{list_any}
-use Rattle.std.proofs.lemmas.Bool.{false≢true, or_parts}
-use Rattle.std.proofs.lemmas.Option.{same_Some}
-use Rattle.orch_base.specs.declared.server.Moment.{Moment}
-use Rattle.orch_base.specs.declared.server.ServerNo.{ServerNo}
-use Rattle.kept_rows.specs.declared.observation.Observation.{Observation}
-use Rattle.server_model.specs.Worlds.{World}
-use Rattle.commands.specs.declared.cause.Cause.{Cause}
-use Rattle.commands.specs.declared.cause.Cause.TheVariants as cause
-use Rattle.commands.specs.declared.line.Line.{Line}
-use Rattle.operations.specs.declared.op.Op.{Op}
-use Rattle.operations.specs.declared.step.JobStep.TheVariants as step
-use Rattle.operations.specs.Deeds as deed
-use Rattle.operations.specs.Deeds.{Deed, deed_of}
-use Rattle.operations.specs.Ending.{MovesOn, turns_left}
-use Rattle.operations.specs.Jobs.{Job}
-use Rattle.operations.specs.Plans.{finished}
-use Rattle.operations.specs.Turns.{Stops, Turned, by_deed, by_ops, is_going, settled, turned}
-use Rattle.operations.proofs.Ending.{turn-moves}
-use Rattle.cause_laws.specs.Courses.{AllFree, AllGoing, AllWait, AreSpent, IsDoneIn, IsWait, Meeting, is_finish, job_after, lines_by, lines_of, turn_at}
-use Rattle.cause_laws.specs.Events.{Befell, Done, Ended, IsShort, IsSpent, IsTaken, IsWaited, Stopped, Waited, fails_when_spent, speaks_with}
+use Rattle.cause_laws.proofs.Prelude.{AllFree, AllGoing, AllWait, AreSpent, Befell, Cause, Deed, Done, Ended, IsDoneIn, IsShort, IsSpent, IsTaken}
+use Rattle.cause_laws.proofs.Prelude.{IsWait, IsWaited, Job, Line, Meeting, Moment, MovesOn, Observation, Op, ServerNo, Stopped, Stops, Turned}
+use Rattle.cause_laws.proofs.Prelude.{Waited, World, by_deed, by_ops, deed_of, fails_when_spent, false≢true, finished, is_finish, is_going, job_after}
+use Rattle.cause_laws.proofs.Prelude.{lines_by, lines_of, list_any, or_parts, same_Some, settled, speaks_with, turn-moves, turn_at, turned}
+use Rattle.cause_laws.proofs.Prelude.{turns_left}
+use Rattle.cause_laws.proofs.Prelude.cause
+use Rattle.cause_laws.proofs.Prelude.deed
+use Rattle.cause_laws.proofs.Prelude.step
 use Rattle.cause_laws.proofs.Taking.{deed-taken}
 
 -- ---- one turn
@@ -115,16 +102,7 @@ trail-of j ms none (inr t) = t
 one-spoken : (w v : World) (j k : Job) (d : Deed) (m n : ServerNo) → fails_when_spent d ≡ true → speaks_with w j d ≡ Some m → speaks_with v k d ≡ Some n → m ≡ n
 one-spoken w v j k (deed.Await a to) m n h e f = sym (same_Some a m e) ∙ same_Some a n f
 one-spoken w v j k (deed.AwaitSet a b) m n h e f = sym (same_Some a m e) ∙ same_Some a n f
-one-spoken w v j k (deed.Look a from) m n h e f = absurd (false≢true h)
-one-spoken w v j k (deed.Request a b) m n h e f = absurd (false≢true h)
-one-spoken w v j k (deed.Until a to) m n h e f = absurd (false≢true h)
-one-spoken w v j k (deed.Settle a) m n h e f = absurd (false≢true h)
-one-spoken w v j k (deed.Cross c a b) m n h e f = absurd (false≢true h)
-one-spoken w v j k (deed.Same a) m n h e f = absurd (false≢true h)
-one-spoken w v j k (deed.Auto a b) m n h e f = absurd (false≢true h)
-one-spoken w v j k (deed.Match a b every) m n h e f = absurd (false≢true h)
-one-spoken w v j k (deed.CrossMatch a b) m n h e f = absurd (false≢true h)
-one-spoken w v j k (deed.Finish lines) m n h e f = absurd (false≢true h)
+one-spoken w v j k _ m n h e f = absurd (false≢true h)
 
 same-first : (op k : Op) (rest ops : List Op) → op ∷ rest ≡ k ∷ ops → op ≡ k
 same-first op k rest ops e = cc
@@ -192,18 +170,8 @@ spent-last j ms m n lines none going e = go (job_after j ms).ops refl
 -- ---- the end
 
 later-lines : (w : World) (read : ℕ) (now : Moment) (j : Job) (rest : List Op) (d : Deed) (lines : List Line) → (settled j (by_deed w read now j rest d)).step ≡ step.Going → lines_by d lines ≡ lines
-later-lines w read now j rest (deed.Look n from) lines e = refl
-later-lines w read now j rest (deed.Request n a) lines e = refl
-later-lines w read now j rest (deed.Until n to) lines e = refl
-later-lines w read now j rest (deed.Await n to) lines e = refl
-later-lines w read now j rest (deed.AwaitSet n m) lines e = refl
-later-lines w read now j rest (deed.Settle n) lines e = refl
-later-lines w read now j rest (deed.Cross c a b) lines e = refl
-later-lines w read now j rest (deed.Same n) lines e = refl
-later-lines w read now j rest (deed.Auto n m) lines e = refl
-later-lines w read now j rest (deed.Match n m every) lines e = refl
-later-lines w read now j rest (deed.CrossMatch n m) lines e = refl
 later-lines w read now j rest (deed.Finish ls) lines e = cc
+later-lines w read now j rest _ lines e = refl
 
 done-behind : (j : Job) (m : Meeting) (ms : List Meeting) → (turn_at j m).step ≡ step.Going → lines_of (turn_at j m).job.ops ≡ lines_of j.ops → IsDoneIn (turn_at j m).job ms → IsDoneIn j (m ∷ ms)
 done-behind j m ms going same d = record {
@@ -242,18 +210,8 @@ undisturbed-done j (m ∷ ms) counted few free = go j.ops refl (λ going. undist
     go (op ∷ rest) is later = by op rest is (turn-taken m.world m.read m.now j op rest is) later
 
 no-finish : (d : Deed) (lines : List Line) → is_finish d ≡ false → lines_by d lines ≡ lines
-no-finish (deed.Look n from) lines e = refl
-no-finish (deed.Request n a) lines e = refl
-no-finish (deed.Until n to) lines e = refl
-no-finish (deed.Await n to) lines e = refl
-no-finish (deed.AwaitSet n m) lines e = refl
-no-finish (deed.Settle n) lines e = refl
-no-finish (deed.Cross c a b) lines e = refl
-no-finish (deed.Same n) lines e = refl
-no-finish (deed.Auto n m) lines e = refl
-no-finish (deed.Match n m every) lines e = refl
-no-finish (deed.CrossMatch n m) lines e = refl
 no-finish (deed.Finish ls) lines e = absurd (false≢true (sym e))
+no-finish _ lines e = refl
 
 pub finished-lines : (ops : List Op) (lines : List Line) → list_any (λ op. is_finish (deed_of op)) ops ≡ false → lines_of (finished ops lines) ≡ lines
 finished-lines [] lines none = refl

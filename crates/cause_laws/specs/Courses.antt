@@ -1,17 +1,8 @@
 -- The turns of a plan's job, one after another, whatever happens to the servers between them.
 use Rattle.std.specs.Prelude.{◌≡◌, ℕ, ◌-◌, Bool, true, false, List, [], ◌∷◌, ◌++◌, length}
-use Rattle.orch_base.specs.declared.server.Moment.{Moment}
-use Rattle.orch_base.specs.declared.server.ServerNo.{ServerNo}
-use Rattle.server_model.specs.Run.{Exchange}
-use Rattle.server_model.specs.Worlds.{World}
-use Rattle.commands.specs.declared.cause.Cause.{Cause}
-use Rattle.commands.specs.declared.line.Line.{Line}
-use Rattle.operations.specs.declared.op.Op.{Op}
-use Rattle.operations.specs.declared.step.JobStep.TheVariants as step
-use Rattle.operations.specs.Deeds as deed
-use Rattle.operations.specs.Deeds.{Deed, deed_of}
-use Rattle.operations.specs.Jobs.{Job}
-use Rattle.operations.specs.Turns.{Turned, turned}
+use Rattle.cause_laws.specs.Prelude.{Cause, Deed, Exchange, Job, Line, Moment, Op, ServerNo, Turned, World, deed_of, turned}
+use Rattle.cause_laws.specs.Prelude.deed
+use Rattle.cause_laws.specs.Prelude.step
 use Rattle.cause_laws.specs.Events.{Befell, IsShort}
 
 -- what a turn finds: the servers, the read number and the moment

@@ -1,38 +1,15 @@
 -- Why a job stops: what befalls the operation that is due, in the world of that turn. And what a turn does else.
 use Rattle.std.specs.Prelude.{◌≡◌, ℕ, ◌+◌, ◌<◌, ◌≤◌, Bool, true, false, if◌then◌else◌, List, [], ◌∷◌, map, Option, Some, None, is_some, Err}
-use Rattle.binlog_coords.specs.declared.Coord.{Coord}
-use Rattle.binlog_coords.specs.Log.{is_at_or_before, same_coord}
-use Rattle.gtid_sets.specs.Sets.{holds}
-use Rattle.orch_base.specs.declared.server.ServerNo.{ServerNo}
-use Rattle.orch_base.specs.declared.server.SourceState.{SourceState}
-use Rattle.orch_base.specs.declared.server.SourceState.TheVariants.{Attached}
-use Rattle.kept_rows.specs.Seeing.{seen_in}
-use Rattle.server_words.specs.declared.attach.AttachFault.{AttachFault}
-use Rattle.server_words.specs.declared.attach.AttachFault.TheVariants as attaching
-use Rattle.server_words.specs.declared.attach.Spot.{Spot}
-use Rattle.server_words.specs.declared.status.Status.{Status}
-use Rattle.server_words.specs.declared.changes.Ask.TheVariants as asking
-use Rattle.server_model.specs.Attach.{attach_at}
-use Rattle.server_model.specs.Desk.{can_reach}
-use Rattle.server_model.specs.Gtids.{attach_auto, status}
-use Rattle.server_model.specs.Run.{Exchange, Write, Fetch, Apply, Request, Befall, Rotate, Purge, Attach, AttachAuto}
-use Rattle.server_model.specs.Worlds.{World, server_at}
-use Rattle.commands.specs.declared.cause.Cause.{Cause}
-use Rattle.commands.specs.declared.cause.Cause.TheVariants as cause
-use Rattle.commands.specs.declared.line.Line.{Line}
-use Rattle.operations.specs.declared.step.JobStep.TheVariants as step
-use Rattle.operations.specs.declared.matching.MatchFault.{MatchFault}
-use Rattle.operations.specs.declared.matching.MatchFault.TheVariants as matching
-use Rattle.operations.specs.declared.op.Op.{Op}
-use Rattle.operations.specs.declared.sight.Position.{Position}
-use Rattle.operations.specs.Changes.{change_of}
-use Rattle.operations.specs.Deeds as deed
-use Rattle.operations.specs.Deeds.{Deed}
-use Rattle.operations.specs.Jobs.{Job, seen_of}
-use Rattle.operations.specs.Matching.{match_logs}
-use Rattle.operations.specs.Targets.{can_attach}
-use Rattle.operations.specs.Turns.{Turned, aim_of, until_by}
-use Rattle.job_laws.specs.Held.{attachment_of}
+use Rattle.cause_laws.specs.Prelude.{Apply, Attach, AttachAuto, Attached, AttachFault, Befall, Cause, Coord, Deed, Exchange, Fetch, Job, Line}
+use Rattle.cause_laws.specs.Prelude.{MatchFault, Op, Position, Purge, Request, Rotate, ServerNo, SourceState, Spot, Status, Turned, World, Write}
+use Rattle.cause_laws.specs.Prelude.{aim_of, attach_at, attach_auto, attachment_of, can_attach, can_reach, change_of, holds, is_at_or_before}
+use Rattle.cause_laws.specs.Prelude.{match_logs, same_coord, seen_in, seen_of, server_at, status, until_by}
+use Rattle.cause_laws.specs.Prelude.asking
+use Rattle.cause_laws.specs.Prelude.attaching
+use Rattle.cause_laws.specs.Prelude.cause
+use Rattle.cause_laws.specs.Prelude.deed
+use Rattle.cause_laws.specs.Prelude.matching
+use Rattle.cause_laws.specs.Prelude.step
 
 -- ---- with whom an operation speaks in a turn
 

@@ -1,10 +1,7 @@
 -- Which servers a job has in its hands, by what it did.
 use Rattle.std.specs.Prelude.{◌≡◌, ℕ, ◌==◌, Bool, List, ◌∷◌, ◌++◌, All}
-use Rattle.std.specs.List.{list_any}
-use Rattle.server_words.specs.declared.changes.Ask.TheVariants as asking
-use Rattle.server_words.specs.declared.changes.Threads.{Threads}
-use Rattle.server_model.specs.Run.{Exchange, Request}
-use Rattle.operations.specs.Jobs.{Job}
+use Rattle.cause_laws.specs.Prelude.{Exchange, Job, Request, Threads, list_any}
+use Rattle.cause_laws.specs.Prelude.asking
 
 abbrev pub is_in_hands : Job → ℕ → Bool
 is_in_hands j n = list_any (λ k. k.0 == n) j.hands

@@ -1,3 +1,4 @@
+pub mod Prelude
 pub mod Events
 pub mod Courses
 pub mod Hands

@@ -1,16 +1,9 @@
 //! The turns of a job, one after another.
 
 ghost use Rattle.std.specs.Prelude.{◌≡◌, ◌++◌, ◌<◌, ◌≤◌, ℕ, List, false, length};
-ghost use Rattle.std.specs.List.{list_any};
-ghost use Rattle.commands.specs.declared.cause.Cause.TheVariants as cause;
-ghost use Rattle.commands.specs.declared.line.Line.{Line as ALine};
-ghost use Rattle.operations.specs.declared.op.Op.{Op as AnOp};
-ghost use Rattle.operations.specs.declared.step.JobStep.TheVariants as step;
-ghost use Rattle.operations.specs.Deeds.{deed_of};
-ghost use Rattle.operations.specs.Ending.{turns_left};
-ghost use Rattle.operations.specs.Jobs.{Job};
-ghost use Rattle.operations.specs.Plans.{finished};
-ghost use Rattle.orch_base.specs.declared.server.ServerNo.{ServerNo as Number};
+ghost use Rattle.cause_laws.specs.Prelude.{Job, Line as ALine, Op as AnOp, ServerNo as Number, deed_of, finished, list_any, turns_left};
+ghost use Rattle.cause_laws.specs.Prelude.cause;
+ghost use Rattle.cause_laws.specs.Prelude.step;
 ghost use Rattle.cause_laws.specs.Courses.{AllFree, AllGoing, AreSpent, IsDoneIn, Meeting, is_finish, job_after, lines_of, turn_at};
 
 /// A job whose wait for a server is spent has waited for it as often as it may, by one operation, and each of these

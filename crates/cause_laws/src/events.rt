@@ -1,16 +1,9 @@
 //! What a turn of a job comes to.
 
 ghost use Rattle.std.specs.Prelude.{◌≡◌, ◌∷◌, ℕ, [], List, Option};
-ghost use Rattle.commands.specs.declared.cause.Cause.{Cause as Why};
-ghost use Rattle.commands.specs.declared.line.Line.{Line as ALine};
-ghost use Rattle.kept_rows.specs.declared.observation.Observation.{Observation as Reading};
-ghost use Rattle.operations.specs.declared.op.Op.{Op as AnOp};
-ghost use Rattle.operations.specs.declared.step.JobStep.TheVariants as step;
-ghost use Rattle.operations.specs.Deeds.{Deed, deed_of};
-ghost use Rattle.operations.specs.Jobs.{Job};
-ghost use Rattle.operations.specs.Turns.{Stops, by_deed, turned};
-ghost use Rattle.orch_base.specs.declared.server.Moment.{Moment as AMoment};
-ghost use Rattle.server_model.specs.Worlds.{World};
+ghost use Rattle.cause_laws.specs.Prelude.{Cause as Why, Deed, Job, Line as ALine, Moment as AMoment, Observation as Reading, Op as AnOp, Stops};
+ghost use Rattle.cause_laws.specs.Prelude.{World, by_deed, deed_of, turned};
+ghost use Rattle.cause_laws.specs.Prelude.step;
 ghost use Rattle.cause_laws.specs.Events.{Befell, IsTaken};
 
 /// A job fails exactly for what befell the operation that was due, in that very turn: its server wasn't reached, was

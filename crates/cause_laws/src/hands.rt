@@ -1,13 +1,9 @@
 //! What jobs have in their hands.
 
 ghost use Rattle.std.specs.Prelude.{◌≡◌, ◌==◌, ℕ, [], List, map, AllPairs, false, true};
-ghost use Rattle.commands.specs.declared.cause.Cause.{Cause as Why};
-ghost use Rattle.commands.specs.declared.line.Line.{Line as ALine};
-ghost use Rattle.job_laws.specs.Leases.{HasLeases, IsLeased, Leases};
-ghost use Rattle.operations.specs.declared.step.JobStep.TheVariants as step;
-ghost use Rattle.operations.specs.Jobs.{Job};
-ghost use Rattle.server_model.specs.Run.{Request};
-ghost use Rattle.server_words.specs.declared.changes.Ask.TheVariants as asking;
+ghost use Rattle.cause_laws.specs.Prelude.{Cause as Why, HasLeases, IsLeased, Job, Leases, Line as ALine, Request};
+ghost use Rattle.cause_laws.specs.Prelude.asking;
+ghost use Rattle.cause_laws.specs.Prelude.step;
 ghost use Rattle.cause_laws.specs.Courses.{AllGoing, Meeting, exchanges_in, job_after, turn_at};
 ghost use Rattle.cause_laws.specs.Hands.{IsLeftStopped, is_in_hands};
 

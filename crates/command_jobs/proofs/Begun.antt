@@ -1,41 +1,24 @@
 -- A command that isn't refused begins a job over servers that are there and free.
 use Rattle.std.proofs.Common.{◌≡◌, ℕ, ◌<◌, ◌^◌, true, List, [], length, refl, Option, Some, None, arith}
-use Rattle.std.proofs.lemmas.List.Elements.{All-nil}
-use Rattle.orch_base.specs.declared.server.ServerNo.{ServerNo}
+use Rattle.command_jobs.proofs.Prelude.{All-nil, BookState, ByBridges, ByMatches, Command, Coordinates, Gtids, IsBook, IsInRange, IsReady, IsReadyJob}
+use Rattle.command_jobs.proofs.Prelude.{IsUnended, Matches, Means, Moment, Op, Paths, Planner, Regroups, ServerNo, World, are_named, begun-of}
+use Rattle.command_jobs.proofs.Prelude.{begun-shaped, first_busy, given-within, is_within, job_by, job_with, leases_by, number_of, refusal_by}
+use Rattle.command_jobs.proofs.Prelude.{regroup_about, replicas-within, replicas_of}
+use Rattle.command_jobs.proofs.Prelude.coords_plans
+use Rattle.command_jobs.proofs.Prelude.free_coords
+use Rattle.command_jobs.proofs.Prelude.free_gtids
+use Rattle.command_jobs.proofs.Prelude.free_matches
+use Rattle.command_jobs.proofs.Prelude.free_paths
+use Rattle.command_jobs.proofs.Prelude.gtid_plans
+use Rattle.command_jobs.proofs.Prelude.match_plans
+use Rattle.command_jobs.proofs.Prelude.means
+use Rattle.command_jobs.proofs.Prelude.named_coords
+use Rattle.command_jobs.proofs.Prelude.named_gtids
+use Rattle.command_jobs.proofs.Prelude.named_matches
+use Rattle.command_jobs.proofs.Prelude.named_paths
+use Rattle.command_jobs.proofs.Prelude.path_plans
+use Rattle.command_jobs.proofs.Prelude.purpose
 use Rattle.std.specs.Prelude.{All}
-use Rattle.orch_base.specs.declared.server.Moment.{Moment}
-use Rattle.commands.specs.declared.turn.Command.{Command}
-use Rattle.commands.specs.Turns.{is_within}
-use Rattle.command_routes.specs.declared.route.Planner.{Planner}
-use Rattle.command_routes.specs.declared.kinds.Regrouping.TheVariants.{ByBridges, ByMatches}
-use Rattle.command_routes.specs.declared.route.Planner.TheVariants.{Coordinates, Gtids, Matches, Paths, Regroups}
-use Rattle.instance_keeper.specs.Book.{BookState, IsBook}
-use Rattle.instance_keeper.specs.Leases.{first_busy}
-use Rattle.operations.specs.declared.op.Op.{Op}
-use Rattle.operations.specs.Jobs.{job_with}
-use Rattle.operations.specs.Named.{IsInRange, are_named}
-use Rattle.book_views.specs.Sources.{replicas_of}
-use Rattle.permission.proofs.Within.{given-within, replicas-within}
-use Rattle.recovery_plans.specs.declared.means.Means.{Means}
-use Rattle.recovery_plans.specs.declared.means.Means.TheVariants as means
-use Rattle.recovery_plans.specs.declared.purpose.Purpose.TheVariants as purpose
-use Rattle.recovery_plans.proofs.Begun.{begun-of}
-use Rattle.recovery_ends.proofs.Ended.{begun-shaped}
-use Rattle.unended_jobs.specs.Unended.{IsReady, IsReadyJob, IsUnended, number_of}
-use Rattle.moves_coords.specs.Plans as coords_plans
-use Rattle.moves_gtid.specs.Plans as gtid_plans
-use Rattle.pseudo_match.specs.Plans as match_plans
-use Rattle.regroup.specs.Plans as path_plans
-use Rattle.server_model.specs.Worlds.{World}
-use Rattle.moves_coords.proofs.Free as free_coords
-use Rattle.moves_coords.proofs.Named as named_coords
-use Rattle.moves_gtid.proofs.Free as free_gtids
-use Rattle.moves_gtid.proofs.Named as named_gtids
-use Rattle.pseudo_match.proofs.Free as free_matches
-use Rattle.pseudo_match.proofs.Named as named_matches
-use Rattle.regroup.proofs.Free as free_paths
-use Rattle.regroup.proofs.Named as named_paths
-use Rattle.command_jobs.specs.Jobs.{job_by, leases_by, refusal_by, regroup_about}
 
 pub leases-free : (w : World) (b : BookState) (now : Moment) (every : ℕ) (c : Command) (p : Planner) → refusal_by w b now every c p ≡ None
     → first_busy b.leases (leases_by w b c p) ≡ None
@@ -110,9 +93,6 @@ regroup-number b by id wait (Some i) = refl
 
 -- it has that number
 pub job-number : (w : World) (b : BookState) (c : Command) (p : Planner) (id wait every : ℕ) → number_of (job_by w b c p id wait every) ≡ id
-job-number w b c (Coordinates kind) id wait every = refl
-job-number w b c (Gtids kind) id wait every = refl
-job-number w b c (Paths kind) id wait every = refl
 job-number w b c (Regroups ByBridges) id wait every = regroup-number b means.Bridges id wait c.i
 job-number w b c (Regroups ByMatches) id wait every = regroup-number b (means.Matches every) id wait c.i
-job-number w b c (Matches kind) id wait every = refl
+job-number w b c _ id wait every = refl

@@ -1,21 +1,12 @@
 -- A command is one of those by whose permission and plan its job goes.
 use Rattle.std.proofs.Common.{◌≡◌, ◌∙◌, Option, Some, refl, ap, true}
 use Rattle.std.specs.Prelude.{IsSome, IsTrue, is_some}
-use Rattle.commands.specs.declared.name.CommandName.{CommandName}
-use Rattle.command_routes.specs.declared.kinds.CoordsCommand.{CoordsCommand}
-use Rattle.command_routes.specs.declared.kinds.GtidCommand.{GtidCommand}
-use Rattle.command_routes.specs.declared.kinds.MatchCommand.{MatchCommand}
-use Rattle.command_routes.specs.declared.kinds.MatchCommand.TheVariants as matching
-use Rattle.command_routes.specs.declared.kinds.PathCommand.{PathCommand}
-use Rattle.command_routes.specs.declared.kinds.PathCommand.TheVariants as path
-use Rattle.command_routes.specs.declared.kinds.Regrouping.TheVariants.{ByBridges, ByMatches}
-use Rattle.command_routes.specs.declared.route.Planner.{Planner}
-use Rattle.command_routes.specs.declared.route.Planner.TheVariants.{Coordinates, Gtids, Matches, Paths, Regroups}
-use Rattle.moves_coords.specs.Commands.{coords_by, coords_command}
-use Rattle.moves_gtid.specs.Commands.{gtid_by, gtid_command}
-use Rattle.pseudo_match.specs.Commands.{has_plan as is_matched, pseudo_by, pseudo_command}
-use Rattle.regroup.specs.Commands.{has_plan, regroup_by, regroup_command}
-use Rattle.command_jobs.specs.Jobs.{planner_for}
+use Rattle.command_jobs.proofs.Prelude.{ByBridges, ByMatches, CommandName, Coordinates, CoordsCommand, GtidCommand, Gtids, MatchCommand, Matches}
+use Rattle.command_jobs.proofs.Prelude.{PathCommand, Paths, Planner, Regroups, coords_by, coords_command, gtid_by, gtid_command, has_plan}
+use Rattle.command_jobs.proofs.Prelude.{planner_for, pseudo_by, pseudo_command, regroup_by, regroup_command}
+use Rattle.command_jobs.proofs.Prelude.Commands.{has_plan as is_matched}
+use Rattle.command_jobs.proofs.Prelude.matching
+use Rattle.command_jobs.proofs.Prelude.path
 
 pub by-coordinates : (n : CommandName) (c : CoordsCommand) → planner_for n ≡ Some (Coordinates c) → IsSome (coords_command n)
 by-coordinates n c h = ap (λ (p : Option Planner). is_some (coords_by p)) h

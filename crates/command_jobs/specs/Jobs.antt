@@ -1,35 +1,19 @@
 -- The job that a command begins: what refuses it, of which servers it takes the leases, and the job itself.
 use Rattle.std.specs.Prelude.{ℕ, List, [], Option, Some, None}
-use Rattle.orch_base.specs.declared.server.Moment.{Moment}
-use Rattle.orch_base.specs.declared.server.ServerNo.{ServerNo}
-use Rattle.commands.specs.declared.name.CommandName.{CommandName}
-use Rattle.commands.specs.declared.refusal.Refusal.{Refusal}
-use Rattle.commands.specs.declared.turn.Command.{Command}
-use Rattle.command_routes.specs.declared.route.Planner.{Planner}
-use Rattle.command_routes.specs.declared.kinds.Regrouping.{Regrouping}
-use Rattle.command_routes.specs.declared.kinds.Regrouping.TheVariants.{ByBridges, ByMatches}
-use Rattle.command_routes.specs.declared.route.Planner.TheVariants.{Coordinates, Gtids, Matches, Paths, Regroups}
-use Rattle.command_routes.specs.Routes.{planner_of, route_of}
-use Rattle.instance_keeper.specs.Book.{BookState}
-use Rattle.book_views.specs.Sources.{replicas_of}
-use Rattle.operations.specs.Jobs.{job_with}
-use Rattle.recovery_plans.specs.Beginning.{begun_recovery}
-use Rattle.recovery_plans.specs.Recoveries.{Recovery}
-use Rattle.recovery_plans.specs.declared.means.Means.{Means}
-use Rattle.recovery_plans.specs.declared.means.Means.TheVariants as means
-use Rattle.recovery_plans.specs.declared.purpose.Purpose.TheVariants as purpose
-use Rattle.unended_jobs.specs.Hooked.{no_docket}
-use Rattle.unended_jobs.specs.declared.unended.Unended.{Unended}
-use Rattle.unended_jobs.specs.declared.unended.Unended.TheVariants as unended
-use Rattle.server_model.specs.Worlds.{World}
-use Rattle.moves_coords.specs.Permits as coords
-use Rattle.moves_coords.specs.Plans as coords_plans
-use Rattle.moves_gtid.specs.Permits as gtids
-use Rattle.moves_gtid.specs.Plans as gtid_plans
-use Rattle.pseudo_match.specs.Permits as matches
-use Rattle.pseudo_match.specs.Plans as match_plans
-use Rattle.regroup.specs.Permits as paths
-use Rattle.regroup.specs.Plans as path_plans
+use Rattle.command_jobs.specs.Prelude.{BookState, ByBridges, ByMatches, Command, CommandName, Coordinates, Gtids, Matches, Means, Moment, Paths}
+use Rattle.command_jobs.specs.Prelude.{Planner, Recovery, Refusal, Regrouping, Regroups, ServerNo, Unended, World, begun_recovery, job_with}
+use Rattle.command_jobs.specs.Prelude.{no_docket, planner_of, replicas_of, route_of}
+use Rattle.command_jobs.specs.Prelude.coords
+use Rattle.command_jobs.specs.Prelude.coords_plans
+use Rattle.command_jobs.specs.Prelude.gtid_plans
+use Rattle.command_jobs.specs.Prelude.gtids
+use Rattle.command_jobs.specs.Prelude.match_plans
+use Rattle.command_jobs.specs.Prelude.matches
+use Rattle.command_jobs.specs.Prelude.means
+use Rattle.command_jobs.specs.Prelude.path_plans
+use Rattle.command_jobs.specs.Prelude.paths
+use Rattle.command_jobs.specs.Prelude.purpose
+use Rattle.command_jobs.specs.Prelude.unended
 
 -- by which permission and plan the command's job goes; none where it begins no job
 abbrev pub planner_for : CommandName → Option Planner

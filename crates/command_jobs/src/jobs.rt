@@ -1,21 +1,19 @@
 //! Permission, leases and job of a command that begins a job.
 
 ghost use Rattle.std.specs.Prelude.{◌≡◌, IfOk, Some};
-ghost use Rattle.orch_base.specs.Gives.{Gives};
-ghost use Rattle.book_views.specs.Forests.{book_forest};
-ghost use Rattle.permission.specs.Checks.{permit_fault, permitted};
+ghost use Rattle.command_jobs.specs.Prelude.{Gives, book_forest, permit_fault, permitted};
 ghost use Rattle.command_jobs.specs.Jobs.{job_by, leases_by, means_by, planner_for, refusal_by, regroup_about};
 
 use crate::RegroupJob;
+use crate::commands::Command;
+use crate::instance_keeper_items::Book;
+use crate::job_plans::Job;
+use crate::orch_base::{Memory, Moment, ServerNo};
+use crate::server_model::World;
+use crate::topology_tree::Forest;
 use command_routes::{Planner, Regrouping};
-use commands::Command;
-use instance_keeper::Book;
-use job_plans::Job;
-use orch_base::{Memory, Moment, ServerNo};
 use permission::PermitFault;
-use server_model::World;
 use std::alloc::Global;
-use topology_tree::Forest;
 use unended_jobs::Unended;
 
 /// `Refused` exactly with the lowest refusal of the permission table that applies to the command, where each

@@ -4,10 +4,14 @@
 
 mod jobs;
 mod regrouping;
-mod threads;
 
 pub use jobs::{job, leases, permit};
+use permission::{book_views, topology_tree};
+use unended_jobs::{
+    commands, instance_keeper_items, job_plans, operations_items, orch_base, recovery_plans_items,
+    recovery_turns, server_model,
+};
 /// Want of memory.
-pub use orch_base::Memory;
 pub use permission::PermitFault;
 pub use regrouping::RegroupJob;
+pub use unended_jobs::orch_base::Memory;

@@ -1,21 +1,17 @@
 //! A regroup as a job.
 
 ghost use Rattle.std.specs.Prelude.{◌≡◌, IfOk, None, OnErr, OnOk, length};
-ghost use Rattle.server_model.specs.Run.{run};
-ghost use Rattle.recovery_plans.specs.Named.{IsNamedRecovery};
-ghost use Rattle.recovery_plans.specs.Taking.{taken};
-ghost use Rattle.recovery_turns.specs.Looks.{CanTake, foretold};
-ghost use Rattle.unended_jobs.specs.Hooked.{no_docket};
+ghost use Rattle.command_jobs.specs.Prelude.{CanTake, IsNamedRecovery, foretold, no_docket, run, taken};
 ghost use Rattle.command_jobs.specs.Jobs.{means_by, regroup_with};
 
-use book_views::replicas;
+use crate::book_views::replicas;
+use crate::instance_keeper_items::{Book, Observation};
+use crate::operations_items::JobStep;
+use crate::orch_base::{Memory, Moment, ServerNo};
+use crate::recovery_plans_items::{Means, Purpose};
+use crate::recovery_turns::{RecoveryJob, RecoveryLook};
+use crate::server_model::World;
 use command_routes::Regrouping;
-use instance_keeper::{Book, Observation};
-use operations::JobStep;
-use orch_base::{Memory, Moment, ServerNo};
-use recovery_plans::{Means, Purpose};
-use recovery_turns::{RecoveryJob, RecoveryLook};
-use server_model::World;
 use std::alloc::Global;
 use std::marker::Model;
 use unended_jobs::{Docket, Unended};
@@ -28,7 +24,7 @@ pub struct RegroupJob {
 }
 
 impl Model for RegroupJob {
-    ghost use Rattle.recovery_plans.specs.Recoveries.{Recovery};
+    ghost use Rattle.unended_jobs.specs.RecoveryPlans.Recoveries.{Recovery};
 
     ghost Value = { Recovery };
 

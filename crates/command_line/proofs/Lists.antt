@@ -1,6 +1,6 @@
 -- Lists from a place on.
 use Rattle.std.proofs.Common.{◌≡◌, ℕ, zero, suc, ◌+◌, ◌<◌, ◌≤◌, List, [], ◌∷◌, map, length, drop, refl, ap, ◌∙◌, arith}
-use Rattle.std.specs.List.{slice_index_or}
+use Rattle.command_line.proofs.Prelude.{slice_index_or}
 
 next : {A B : Type 0} (f : A → B) (xs : List A) (i : ℕ) (d : A) → i < length xs → map f (drop i xs) ≡ f (slice_index_or xs i d) ∷ map f (drop (suc i) xs)
 next f [] i d lt = absurd (omega arith)

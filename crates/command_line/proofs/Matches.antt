@@ -1,14 +1,8 @@
 -- clap's promise for the command.
 use Rattle.std.proofs.Common.{◌≡◌, ◌∙◌, true, List, [], ◌∷◌, Ok, Err, refl, sym, ap, subst, inl, inr}
 use Rattle.std.specs.Prelude.{◌⊎◌}
-use Rattle.clap.specs.Faults.{fault_of, is_simple_and_free}
-use Rattle.clap.specs.Kinds.{IsAmong, Kinds}
-use Rattle.clap.specs.Simple.{App, is_simple, matches_of}
-use Rattle.clap.specs.Walk.{Row, Text}
-use Rattle.clap.specs.declared.error.kind.ErrorKind.{ErrorKind}
-use Rattle.clap.specs.declared.error.kind.ErrorKind.TheVariants.{OutOfMemory}
-use Rattle.command_line.specs.declared.usage.Usage.TheVariants.{BadWords}
-use Rattle.command_line.specs.Options.{orch, rows_of_texts, unless_faulty}
+use Rattle.command_line.proofs.Prelude.{App, BadWords, ErrorKind, IsAmong, Kinds, OutOfMemory, Row, Text, fault_of, is_simple, is_simple_and_free}
+use Rattle.command_line.proofs.Prelude.{matches_of, orch, rows_of_texts, unless_faulty}
 
 pub is_plain : is_simple orch ≡ true
 unfolding orch

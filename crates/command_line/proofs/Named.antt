@@ -1,26 +1,14 @@
 -- What words that are taken have.
+use Rattle.command_line.proofs.Prelude.{AreTaken, BadWords, Counts, Dump, Generate, Instances, IsDrawn, Live, Own, Places, Row, Run, Text, Texts}
+use Rattle.command_line.proofs.Prelude.{Usage, and_parts as both_true, bounded_in, command_in, counts_in, drawing_by, duration_in, first_of, has_flag}
+use Rattle.command_line.proofs.Prelude.{has_needed, instances_in, is_drawable, is_given, is_pattern, is_straight_word, is_taken_word, is_within_bound}
+use Rattle.command_line.proofs.Prelude.{leb-true, maybe, name_in, needs_at, number_and_unit, number_at, number_in, number_within}
+use Rattle.command_line.proofs.Prelude.{or_bad as or_bad_value, or_default, own_at, pattern_in, places_in, places_of, plan_in, rows_of_texts, rule_in}
+use Rattle.command_line.proofs.Prelude.{seconds_at, text_in, text_within, texts_in, texts_of, within}
+use Rattle.command_line.proofs.Prelude.Usages.{or_bad}
 use Rattle.std.proofs.Common.{◌≡◌, ◌∙◌, ℕ, ◌≤◌, arith, Bool, true, false, List, length, Option, Some, None, Result, Ok, Err, refl, sym, ap, subst, cond}
 use Rattle.std.specs.Prelude.{◌&&◌, ◌||◌, ◌-◌, ◌^◌, codes, is_some, nat_le, not, IfSome, option_map, ◌*◌}
-use Rattle.std.proofs.lemmas.Bool.{leb-true}
-use Rattle.clap.specs.Walk.{Row, Text, first_of}
-use Rattle.cluster_filters.specs.Patterns.{is_pattern}
-use Rattle.commands.specs.Values.{number_and_unit, number_at, number_within, seconds_at, within}
 use Rattle.orch_base.specs.Gives.{◌>>=◌}
-use Rattle.scenario_generator.specs.Bounds.{is_drawable}
-use Rattle.command_line.specs.declared.command.Own.{Own}
-use Rattle.command_line.specs.declared.command.Own.TheVariants.{Run, Generate, Dump, Live}
-use Rattle.command_line.specs.declared.parts.Counts.{Counts}
-use Rattle.command_line.specs.declared.parts.Instances.{Instances}
-use Rattle.command_line.specs.declared.parts.Places.{Places}
-use Rattle.command_line.specs.declared.parts.Texts.{Texts}
-use Rattle.command_line.specs.declared.usage.Usage.{Usage}
-use Rattle.command_line.specs.declared.usage.Usage.TheVariants.{BadWords}
-use Rattle.command_line.specs.Commands.{command_in, has_needed, is_given, is_straight_word, is_taken_word, needs_at, own_at, plan_in}
-use Rattle.command_line.specs.Options.{rows_of_texts, texts_of}
-use Rattle.command_line.specs.Places.{bounded_in, counts_in, drawing_by, has_flag, instances_in, is_within_bound, places_in, places_of, texts_in}
-use Rattle.command_line.specs.Taken.{AreTaken, IsDrawn}
-use Rattle.command_line.specs.Usages.{or_bad}
-use Rattle.command_line.specs.Values.{duration_in, maybe, name_in, number_in, or_bad as or_bad_value, or_default, pattern_in, rule_in, text_in, text_within}
 
 abbrev Same : {A : Type 0} → Result A Usage → Result A Usage → Type 0
 Same r s = r ≡ s
@@ -31,10 +19,6 @@ same_ok x y e = cc
 bind_ok : {A B : Type 0} (r : Result A Usage) (f : A → Result B Usage) (y : B) → Same (r >>= f) (Ok y) → (x : A) × (r ≡ Ok x) × (f x ≡ Ok y)
 bind_ok (Ok x) f y e = (x, refl, e)
 bind_ok (Err u) f y e = cc
-
-both_true : (a b : Bool) → (a && b) ≡ true → (a ≡ true) × (b ≡ true)
-both_true true b e = (refl, e)
-both_true false b e = absurd cc
 
 -- ---- one option
 

@@ -1,13 +1,8 @@
 -- One more option, and one more word.
+use Rattle.command_line.proofs.Prelude.{App, BadWords, IsUtf8, IsUtf8-from_is_utf8, Text, and_left as and_false, is_utf8, is_utf8-from_IsUtf8}
+use Rattle.command_line.proofs.Prelude.{list_all, long_rule, texts_of, with_options, with_rule}
 use Rattle.std.proofs.Common.{◌≡◌, ℕ, ◌+◌, ◌<◌, ◌≤◌, Bool, true, false, List, [], ◌∷◌, ◌++◌, map, length, drop, get_or, Bor, Vec, Global, refl, sym, ap, ◌∙◌, append_assoc, append-nil, Ok, Err}
 use Rattle.std.specs.Prelude.{◌&&◌}
-use Rattle.std.specs.List.{list_all}
-use Rattle.std.specs.Str.{IsUtf8, is_utf8}
-use Rattle.std.proofs.lemmas.Str.{IsUtf8-from_is_utf8, is_utf8-from_IsUtf8}
-use Rattle.clap.specs.Simple.{App, with_rule}
-use Rattle.clap.specs.Walk.{Text}
-use Rattle.command_line.specs.declared.usage.Usage.TheVariants.{BadWords}
-use Rattle.command_line.specs.Options.{long_rule, texts_of, with_options}
 use Rattle.command_line.proofs.Lists.{item_then, none_left}
 
 abbrev now : Bor Text → Text
@@ -40,10 +35,6 @@ one_more_text texts pushed t words i d lt is same so_far =
 and_true : (b c : Bool) → b ≡ true → c ≡ (b && c)
 and_true true c e = refl
 and_true false c e = absurd cc
-
-and_false : (b c : Bool) → b ≡ false → (b && c) ≡ false
-and_false true c e = absurd cc
-and_false false c e = refl
 
 -- a word that is UTF-8 leaves it to those behind it
 pub utf8_behind : (words : List (Vec ℕ Global)) (i : ℕ) (d : Vec ℕ Global) → i < length words → IsUtf8 (get_or words i d).items

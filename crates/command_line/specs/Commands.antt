@@ -3,7 +3,6 @@ use Rattle.std.specs.Prelude.{Bool, true, false, List, ◌&&◌, ◌||◌, not, 
 use Rattle.std.specs.Option.{option_map_or}
 use Rattle.std.specs.Str.{bytes_eq}
 use Rattle.clap.specs.Walk.{Row, Text, first_of}
-use Rattle.orch_base.specs.Gives.{◌>>=◌}
 use Rattle.commands.specs.declared.needs.Needs.{Needs}
 use Rattle.commands.specs.Names.{name_of, needs_of, nothing}
 use Rattle.command_routes.specs.declared.route.Planner.{Planner}
@@ -16,6 +15,7 @@ use Rattle.command_line.specs.declared.command.Own.TheVariants.{Run, Generate, D
 use Rattle.command_line.specs.declared.usage.Usage.{Usage}
 use Rattle.command_line.specs.declared.usage.Usage.TheVariants.{BadWords}
 use Rattle.command_line.specs.Usages.{or_bad}
+use Rattle.orch_base.specs.Gives.{◌>>=◌}
 
 -- what the program itself does by this word, where it is none of the commands'
 abbrev pub own_at : Text → Option Own

@@ -3,7 +3,6 @@ use Rattle.std.specs.Prelude.{ℕ, ◌-◌, ◌^◌, List, codes, Bool, true, fa
 use Rattle.std.specs.Option.{option_map_or}
 use Rattle.std.specs.Str.{bytes_eq}
 use Rattle.clap.specs.Walk.{Row, Text, first_of}
-use Rattle.orch_base.specs.Gives.{◌>>=◌}
 use Rattle.scenario_generator.specs.Bounds.{is_drawable}
 use Rattle.command_line.specs.declared.parts.Places.{Places}
 use Rattle.command_line.specs.declared.parts.Instances.{Instances}
@@ -17,6 +16,7 @@ use Rattle.command_line.specs.declared.usage.Usage.TheVariants.{BadWords}
 use Rattle.command_line.specs.Commands.{command_in, own_at, plan_in}
 use Rattle.command_line.specs.Options.{rows_of_texts, texts_of}
 use Rattle.command_line.specs.Values.{duration_in, maybe, name_in, number_in, or_default, pattern_in, rule_in, text_in, text_within}
+use Rattle.orch_base.specs.Gives.{◌>>=◌}
 
 -- the instances, and what is kept of one
 unfoldable pub instances_in : List Row → Result Instances Usage

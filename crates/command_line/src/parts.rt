@@ -3,7 +3,6 @@
 ghost use Rattle.std.specs.Prelude.{◌≡◌, ◌≤◌, IfOk};
 ghost use Rattle.orch_base.specs.Gives.{Gives};
 ghost use Rattle.command_line.specs.Options.{rows_in};
-ghost use Rattle.command_line.specs.Commands.{own_at};
 ghost use Rattle.command_line.specs.Places.{bounded_in, counts_in, drawing_of, has_flag, instances_in, is_live, is_within_bound, places_in, texts_in};
 ghost use Rattle.scenario_generator.specs.Bounds.{is_drawable};
 ghost use Rattle.command_line.specs.Usages.{usage_fault};

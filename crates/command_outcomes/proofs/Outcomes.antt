@@ -1,17 +1,17 @@
 -- What a command comes to, by what refuses it, and that it leaves ids.
 use Rattle.std.proofs.Common.{◌≡◌, ℕ, List, sym, ap, Option, Some, None, Result, Ok, Err}
-use Rattle.orch_base.specs.declared.server.ServerNo.{ServerNo}
-use Rattle.kept_rows.specs.declared.observation.Observation.{Observation}
-use Rattle.server_words.specs.declared.status.Status.{Status as Seen}
-use Rattle.instance_keeper.specs.Book.{BookState}
-use Rattle.commands.specs.declared.line.Line.{Line}
-use Rattle.commands.specs.declared.refusal.Refusal.{Refusal}
+use Rattle.recovery_permits.specs.OrchBase.declared.server.ServerNo.{ServerNo}
+use Rattle.recovery_permits.specs.KeptRows.declared.observation.Observation.{Observation}
+use Rattle.recovery_permits.specs.ServerWords.declared.status.Status.{Status as Seen}
+use Rattle.recovery_permits.specs.InstanceKeeper.Book.{BookState}
+use Rattle.recovery_permits.specs.Commands.declared.line.Line.{Line}
+use Rattle.recovery_permits.specs.Commands.declared.refusal.Refusal.{Refusal}
 use Rattle.asking_commands.specs.declared.answers.AnswerFault.TheVariants as fault
 use Rattle.asking_commands.specs.Answers.{allowed, unless_refused}
-use Rattle.audit_log.specs.Audits.{AuditState}
+use Rattle.recovery_permits.specs.AuditLog.Audits.{AuditState}
 use Rattle.book_commands.specs.declared.decided.Decided.{Decided}
 use Rattle.unended_jobs.specs.declared.unended.Unended.{Unended}
-use Rattle.command_outcomes.specs.Commands.{asked, begun, decided, discovered, first_of, refusal, told}
+use Rattle.command_outcomes.specs.Outcomes.{asked, begun, decided, discovered, first_of, refusal, told}
 use Rattle.command_outcomes.specs.Ids.{LeavesIds}
 use Rattle.command_outcomes.specs.declared.command.Numbers.{Numbers}
 

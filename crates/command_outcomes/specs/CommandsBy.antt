@@ -1,4 +1,4 @@
-use Rattle.command_outcomes.specs.Commands.{Outcome}
+use Rattle.command_outcomes.specs.Outcomes.{Outcome}
 use Rattle.command_outcomes.specs.declared.command.Outcome.{Outcome as Inside}
 
 -- what contracts see of an outcome

@@ -1,15 +1,7 @@
 -- What the hooks of a recovery that begins are told.
 use Rattle.std.specs.Prelude.{ℕ, false, List, slice_get, Option, None, Some, Result, Ok, Err}
-use Rattle.std.specs.Option.{option_map}
-use Rattle.orch_base.specs.Names.{HostPort}
-use Rattle.orch_base.specs.declared.code.Code.{Code}
-use Rattle.commands.specs.declared.refusal.Refusal.{Refusal}
-use Rattle.hook_texts.specs.declared.values.Values.{Values}
-use Rattle.instance_keeper.specs.Book.{BookState}
-use Rattle.scenarios.specs.Aliases.{alias_of}
-use Rattle.recovery_core.specs.Tries.{Begins}
-use Rattle.recovery_hooks.specs.Analysis.{code_text}
-use Rattle.recovery_hooks.specs.Runs.{begun_hooks, HookState}
+use Rattle.command_outcomes.specs.Prelude.{Begins, BookState, Code, HookState, HostPort, Refusal, Values, alias_of, begun_hooks, code_text}
+use Rattle.command_outcomes.specs.Prelude.{option_map}
 use Rattle.command_outcomes.specs.declared.configuration.Configuration.{Configuration}
 
 -- of the failed server, the label of its cluster, and its analysis

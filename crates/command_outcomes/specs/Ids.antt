@@ -1,6 +1,6 @@
 -- Ids of recoveries that begin.
 use Rattle.std.specs.Prelude.{⊤}
-use Rattle.recovery_core.specs.Scans.{HasRoom}
+use Rattle.command_outcomes.specs.Prelude.{HasRoom}
 use Rattle.command_outcomes.specs.declared.command.Update.{Update}
 use Rattle.command_outcomes.specs.declared.command.Update.TheVariants as update
 

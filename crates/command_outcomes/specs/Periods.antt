@@ -1,6 +1,6 @@
 -- Block periods of clusters.
 use Rattle.std.specs.Prelude.{ℕ, List}
-use Rattle.scenarios.specs.Blocks.{period_in}
+use Rattle.command_outcomes.specs.Prelude.{period_in}
 use Rattle.command_outcomes.specs.declared.configuration.Configuration.{Configuration}
 
 -- of a cluster, by its label: its own, if it has one, and else that of all

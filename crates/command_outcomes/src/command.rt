@@ -1,31 +1,27 @@
 //! What a command answers, and what it changes.
 
 ghost use Rattle.std.specs.Prelude.{◌≡◌, ◌<◌, ◌≤◌, ◌^◌, ◌∷◌, [], All, IfOk, IfSome, IsTrue, length};
-ghost use Rattle.std.specs.Option.{option_to_list};
-ghost use Rattle.instance_keeper.specs.Book.{discovery_change, instance_at};
-ghost use Rattle.commands.specs.Turns.{is_within};
-ghost use Rattle.asking_commands.specs.Answers.{allowed};
-ghost use Rattle.command_jobs.specs.Jobs.{planner_for};
-ghost use Rattle.command_outcomes.specs.Commands.{begun_by, decision, discovered, forgotten, next_reading, outcome_of, question, refusal, removal, removal_refusal};
+ghost use Rattle.command_outcomes.specs.Prelude.{allowed, discovery_change, instance_at, is_within, option_to_list, planner_for};
+ghost use Rattle.command_outcomes.specs.Outcomes.{begun_by, decision, discovered, forgotten, next_reading, outcome_of, question, refusal, removal, removal_refusal};
 ghost use Rattle.command_outcomes.specs.Ids.{LeavesIds};
 ghost use Rattle.command_outcomes.specs.CommandsBy.{outcome};
 
+use crate::audit_log::Audit;
+use crate::book_views::book_forest;
+use crate::commands::{Command, CommandTurn, Line, Lines, Refusal};
+use crate::instance_keeper_items::{Book, Change, Instance, Key, Observation, Row, Seen, Table};
+use crate::orch_base::{Kind, Memory, Moment, ServerNo};
 use crate::recovering::begin_by_hand;
+use crate::server_model::World;
+use crate::turns::Reply;
 use crate::{Configuration, read_server};
 use asking_commands::{AnswerFault, answer, permit};
-use audit_log::Audit;
 use book_commands::{Decided, Effect, decide, rows_of};
-use book_views::book_forest;
 use command_jobs::{PermitFault, job, leases, permit as permit_job};
 use command_routes::{Decision, Planner, Route};
-use commands::{Command, CommandTurn, Line, Lines, Refusal};
-use instance_keeper::{Book, Change, Instance, Key, Observation, Row, Seen, Table};
-use orch_base::{Kind, Memory, Moment, ServerNo};
 use recovery_core::Begun;
-use server_model::World;
 use std::alloc::Global;
 use std::marker::Model;
-use turns::Reply;
 use unended_jobs::Unended;
 
 /// The numbers by which a command goes.
@@ -359,7 +355,7 @@ fn begin_by(
 
 /// The outcome of a command, by the numbers that it goes by. It changes nothing. Memory comes, too, where no number is
 /// left for a job, or no id in the audit.
-#[tactic(auto, unfolding(crate::specs::Commands::outcome_of))]
+#[tactic(auto, unfolding(crate::specs::Outcomes::outcome_of))]
 pub fn outcome_of(
     alloc: Global,
     world: &World,

@@ -1,7 +1,7 @@
 //! What holds throughout a run.
 
-use audit_log::Periods;
-use commands::Answers;
+use crate::audit_log::Periods;
+use crate::commands::Answers;
 use scenarios::{Aliases, Blocks, Hooks};
 
 /// What holds throughout a run.

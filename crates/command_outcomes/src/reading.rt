@@ -3,9 +3,9 @@
 ghost use Rattle.std.specs.Prelude.{◌≡◌, ◌<◌, IfOk, length};
 ghost use Rattle.command_outcomes.specs.Readings.{reading_by};
 
-use instance_keeper::Observation;
-use orch_base::{Memory, Moment, ServerNo};
-use server_model::World;
+use crate::instance_keeper_items::Observation;
+use crate::orch_base::{Memory, Moment, ServerNo};
+use crate::server_model::World;
 use std::alloc::Global;
 
 /// A reading of a server, with this number, at this moment.

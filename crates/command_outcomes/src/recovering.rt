@@ -1,29 +1,24 @@
 //! The commands that begin recoveries, and the scan.
 
 ghost use Rattle.std.specs.Prelude.{◌≡◌, ◌<◌, ◌≤◌, ◌+◌, ◌-◌, ◌^◌, ℕ, List, All, IfOk, IsTrue, Ok, Result, length};
-ghost use Rattle.commands.specs.Turns.{is_within};
-ghost use Rattle.commands.specs.declared.refusal.Refusal.{Refusal as Why};
-ghost use Rattle.orch_base.specs.Gives.{Gives};
-ghost use Rattle.permission.specs.Checks.{permit_fault};
-ghost use Rattle.audit_log.specs.Audits.{longest_block};
-ghost use Rattle.recovery_core.specs.Tries.{Begins};
-ghost use Rattle.command_outcomes.specs.Commands.{begun_by_hand, entries_put, recovery_begun, scan_by, terms_of};
+ghost use Rattle.command_outcomes.specs.Prelude.{Begins, Gives, Refusal as Why, is_within, longest_block, permit_fault};
+ghost use Rattle.command_outcomes.specs.Outcomes.{begun_by_hand, entries_put, recovery_begun, scan_by, terms_of};
 ghost use Rattle.command_outcomes.specs.CommandsBy.{outcome};
 ghost use Rattle.command_outcomes.specs.HookTelling.{told_try};
 ghost use Rattle.command_outcomes.specs.Ids.{LeavesIds};
 ghost use Rattle.command_outcomes.specs.Periods.{period_by};
 
 use crate::Configuration;
+use crate::audit_log::{Audit, Periods};
+use crate::book_views::{book_forest, label_at};
 use crate::command::{Numbers, Outcome, Recoveries, Update, refused};
+use crate::instance_keeper_items::{Book, Change, Row};
+use crate::orch_base::{Kind, Memory, ServerNo};
+use crate::server_model::World;
 use crate::telling::{all_told, with_told};
-use audit_log::{Audit, Periods};
-use book_views::{book_forest, label_at};
-use instance_keeper::{Book, Change, Row};
-use orch_base::{Kind, Memory, ServerNo};
+use crate::turns::Reply;
 use recovery_core::{Ask, Begun, PermitFault, Scan, Terms, scan, try_begin};
-use server_model::World;
 use std::alloc::Global;
-use turns::Reply;
 
 // Each entry is kept.
 fn entries_put(alloc: Global, begun: &[Begun]) -> Result<Vec<Change>, Memory>

@@ -4,11 +4,11 @@ ghost use Rattle.std.specs.Prelude.{◌≡◌, IfOk, map};
 ghost use Rattle.command_outcomes.specs.HookTelling.{hooks_by, told_of, with_told};
 
 use crate::Configuration;
-use hook_texts::Values;
-use instance_keeper::Book;
-use orch_base::{Code, Memory, Name, OwnedText};
+use crate::hook_texts::Values;
+use crate::instance_keeper_items::Book;
+use crate::orch_base::{Code, Memory, Name, OwnedText};
+use crate::recovery_hooks::{HookRun, code_word};
 use recovery_core::Begun;
-use recovery_hooks::{HookRun, code_word};
 use std::alloc::Global;
 
 fn text_of(alloc: Global, text: &str) -> Result<OwnedText, Memory>

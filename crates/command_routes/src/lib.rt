@@ -3,7 +3,6 @@
 
 mod kinds;
 mod route;
-mod threads;
 
 pub use kinds::{CoordsCommand, GtidCommand, MatchCommand, PathCommand, Regrouping};
 pub use route::{Decision, Planner, Question, Route};

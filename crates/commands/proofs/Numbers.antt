@@ -11,7 +11,7 @@ use Rattle.std.specs.Cmp.Lexicographic.{pointwise, same_text, nat_list_eq_equiv}
 use Rattle.std.proofs.lemmas.Bool.{false≢true, le-leb, leb-true, lt-ltb, ltb-true}
 use Rattle.std.proofs.lemmas.List.{drop_at, take_at, take-append-drop}
 use Rattle.std.proofs.lemmas.Str.Parse.{parse_digits}
-use Rattle.orch_base.proofs.NameLemmas.{own}
+use Rattle.server_words.proofs.OrchBase.NameLemmas.{own}
 use Rattle.commands.specs.Values.{before, number_at}
 
 -- `r` is `Ok v` exactly where both tests hold

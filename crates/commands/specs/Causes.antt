@@ -1,6 +1,6 @@
 -- The causes' names.
-use Rattle.orch_base.specs.declared.recovery.CauseName.{CauseName}
-use Rattle.orch_base.specs.declared.recovery.CauseName.TheVariants as named
+use Rattle.server_words.specs.OrchBase.declared.recovery.CauseName.{CauseName}
+use Rattle.server_words.specs.OrchBase.declared.recovery.CauseName.TheVariants as named
 use Rattle.commands.specs.declared.cause.Cause.{Cause}
 use Rattle.commands.specs.declared.cause.Cause.TheVariants as cause
 

@@ -1,6 +1,6 @@
 -- Commands with what they are given.
 use Rattle.std.specs.Prelude.{ℕ, Bool, true, ◌&&◌, ◌||◌, not, nat_lt, Option, Some, None, is_some}
-use Rattle.orch_base.specs.declared.server.ServerNo.{ServerNo}
+use Rattle.server_words.specs.OrchBase.declared.server.ServerNo.{ServerNo}
 use Rattle.commands.specs.declared.turn.CommandTurn.{CommandTurn}
 use Rattle.commands.specs.Names.{needs_of}
 

@@ -1,6 +1,6 @@
 -- The lowest refusal: an instance that a command uses isn't known.
 use Rattle.std.specs.Prelude.{Bool, true, false, ◌&&◌, ◌||◌, not, Option, Some, None, if◌then◌else◌}
-use Rattle.orch_base.specs.declared.server.ServerNo.{ServerNo}
+use Rattle.server_words.specs.OrchBase.declared.server.ServerNo.{ServerNo}
 use Rattle.commands.specs.declared.name.CommandName.{CommandName}
 use Rattle.commands.specs.declared.name.CommandName.TheVariants as name
 use Rattle.commands.specs.declared.refusal.Refusal.{Refusal}

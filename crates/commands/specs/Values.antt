@@ -4,8 +4,8 @@ use Rattle.std.specs.List.{ends_with}
 use Rattle.std.specs.Option.{option_map_or}
 use Rattle.std.specs.Str.{all_ascii_digits, bytes_eq}
 use Rattle.std.specs.Str.Parse.{digits_value}
-use Rattle.orch_base.specs.declared.rule.Rule.{Rule}
-use Rattle.orch_base.specs.declared.rule.Rule.TheVariants.{Prefer, Neutral, PreferNot, MustNot}
+use Rattle.server_words.specs.OrchBase.declared.rule.Rule.{Rule}
+use Rattle.server_words.specs.OrchBase.declared.rule.Rule.TheVariants.{Prefer, Neutral, PreferNot, MustNot}
 
 -- the rule of promotion of a word
 unfoldable pub rule_at : List ℕ → Option Rule

@@ -3,7 +3,7 @@
 ghost use Rattle.std.specs.Prelude.{◌≡◌, IfOk};
 
 use crate::Memory;
-use gtid_sets::GtidSet;
+use crate::gtid_sets::GtidSet;
 use std::alloc::Global;
 use std::marker::Model;
 
@@ -20,7 +20,7 @@ impl Drop for BoxedSet {
 
 impl Model for BoxedSet {
     ghost use Rattle.std.specs.Prelude.{List, box_value};
-    ghost use Rattle.gtid_sets.specs.declared.interval.Interval.{Interval};
+    ghost use Rattle.server_words.specs.GtidSets.declared.interval.Interval.{Interval};
 
     ghost Value = { List Interval };
 

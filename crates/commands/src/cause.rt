@@ -3,8 +3,8 @@
 ghost use Rattle.std.specs.Prelude.{◌≡◌, IfOk};
 ghost use Rattle.commands.specs.Causes.{cause_name};
 
+use crate::orch_base::{CauseName, ServerNo, SourceState};
 use crate::{BoxedSet, Memory};
-use orch_base::{CauseName, ServerNo, SourceState};
 use server_words::Spot;
 use std::alloc::Global;
 

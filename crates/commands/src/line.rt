@@ -2,9 +2,9 @@
 
 ghost use Rattle.std.specs.Prelude.{◌≡◌, ◌↔◌, IfOk, IsTrue};
 
+use crate::binlog_coords_items::Coord;
+use crate::orch_base::{Code, Ending, Kind, Moment, OwnedText, Rule, ServerNo, Version};
 use crate::{Cause, Memory, Refusal};
-use binlog_coords::Coord;
-use orch_base::{Code, Ending, Kind, Moment, OwnedText, Rule, ServerNo, Version};
 use server_words::Spot;
 use std::alloc::Global;
 use std::marker::Model;

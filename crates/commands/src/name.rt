@@ -1,7 +1,7 @@
 //! The commands' names, and what each needs.
 
 ghost use Rattle.std.specs.Prelude.{◌≡◌, ◌↔◌, List, ℕ, Some, option_copied};
-ghost use Rattle.commands.specs.Names.{name_of, needs_of, word_of};
+ghost use Rattle.commands.specs.Names.{name_of, word_of};
 ghost use Rattle.commands.specs.declared.name.CommandName.{CommandName};
 
 /// A command (orchestrator's documentation, "Executing via command line").

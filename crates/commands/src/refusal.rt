@@ -3,8 +3,8 @@
 ghost use Rattle.std.specs.Prelude.{◌≡◌, IfOk};
 ghost use Rattle.commands.specs.Refusals.{number_of};
 
+use crate::orch_base::{Code, Moment, ServerNo};
 use crate::{BoxedSet, Memory};
-use orch_base::{Code, Moment, ServerNo};
 use std::alloc::Global;
 
 /// Why a command is refused, by its number: where several apply, the lowest number is answered.

@@ -2,8 +2,8 @@
 
 ghost use Rattle.std.specs.Prelude.{◌≡◌, ◌↔◌, IsTrue};
 
+use crate::orch_base::OwnedText;
 use crate::{Answers, Command, CommandName, CommandTurn, Found, Keys};
-use orch_base::OwnedText;
 
 fn same_label(label: &Option<OwnedText>, other: &Option<OwnedText>) -> bool
     ensures { IsTrue result ↔ (label.now ≡ other.now) }

@@ -3,8 +3,8 @@
 ghost use Rattle.std.specs.Prelude.{◌≡◌, IfOk};
 ghost use Rattle.commands.specs.Turns.{fits, has_needed, is_within};
 
+use crate::orch_base::{OwnedText, Rule, ServerNo};
 use crate::{CommandName, Memory};
-use orch_base::{OwnedText, Rule, ServerNo};
 use std::alloc::Global;
 use std::marker::Model;
 

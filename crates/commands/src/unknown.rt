@@ -3,8 +3,8 @@
 ghost use Rattle.std.specs.Prelude.{◌≡◌};
 ghost use Rattle.commands.specs.Unknown.{is_missing, is_unknown, takes_any, unknown_of};
 
+use crate::orch_base::ServerNo;
 use crate::{Command, CommandName, Refusal};
-use orch_base::ServerNo;
 
 fn takes_any(name: CommandName) -> bool
     ensures { result ≡ takes_any name }

@@ -5,7 +5,7 @@ ghost use Rattle.std.specs.Char.{is_ascii_digit};
 ghost use Rattle.std.specs.List.{list_all};
 ghost use Rattle.commands.specs.Values.{before, number_and_unit, number_at, number_within, rule_at, seconds_at, within};
 
-use orch_base::Rule;
+use crate::orch_base::Rule;
 
 /// The rule of promotion of a word: `prefer`, `neutral`, `prefer_not` or `must_not`. None for any other text.
 #[tactic(auto, unfolding(crate::specs::Values::rule_at))]

@@ -1,31 +1,12 @@
 -- What is no turn of theirs leaves recoveries covered and kept.
 use Rattle.std.proofs.Common.{ℕ, Bool, List, [], ◌∷◌, ◌++◌, sym, subst}
-use Rattle.std.proofs.lemmas.List.Elements.{All-nil, All-push, All-weaker}
-use Rattle.orch_base.specs.declared.server.ServerNo.{ServerNo}
-use Rattle.server_model.specs.Run.{Exchange, AllAllowed, run}
-use Rattle.server_model.specs.Safe.{Placed}
-use Rattle.server_model.specs.Worlds.{World}
-use Rattle.job_laws.specs.Flights.{Flight, Held}
-use Rattle.job_laws.specs.Passages as pass
-use Rattle.job_laws.specs.Passages.{MayPass, Passage, passed, slot_of}
-use Rattle.job_laws.proofs.Passages.{world-stored_if}
-use Rattle.recovery_plans.specs.declared.means.Means.{Means}
-use Rattle.recovery_plans.specs.declared.purpose.Purpose.{Purpose}
-use Rattle.recovery_plans.specs.Beginning.{begun_recovery}
-use Rattle.recovery_plans.specs.Recoveries.{Recovery}
-use Rattle.recovery_covers.specs.Covers.{AreReplicas}
-use Rattle.recovery_covers.proofs.Begun.{begun-covers, outside-covers}
-use Rattle.recovery_histories.proofs.Keeping.{begun-kept, kept-run}
-use Rattle.recovery_reasons.proofs.Speaking.{begun-speaks}
-use Rattle.unended_jobs.specs.declared.docket.Docket.{Docket}
-use Rattle.unended_jobs.specs.declared.unended.Unended.{Unended}
-use Rattle.unended_jobs.specs.declared.unended.Unended.TheVariants as unended
-use Rattle.unended_jobs.specs.Unended.{core_of}
-use Rattle.unended_laws.specs.Flights.{HeldJobs}
-use Rattle.unended_laws.specs.Passages.{IsApart}
-use Rattle.covered_laws.specs.Beside.{IsAimedBeside, IsCoveredBeside, IsKeptBeside, IsSpeakingBeside}
-use Rattle.covered_laws.specs.Flights.{AimedJobs, CoveredJobs, KeptJobs, SpeakingJobs}
-use Rattle.covered_laws.specs.Passages.{IsOutside}
+use Rattle.covered_laws.proofs.Prelude.{AimedJobs, All-nil, All-push, All-weaker, AllAllowed, AreReplicas, CoveredJobs, Docket, Exchange, Flight}
+use Rattle.covered_laws.proofs.Prelude.{Held, HeldJobs, IsAimedBeside, IsApart, IsCoveredBeside, IsKeptBeside, IsOutside, IsSpeakingBeside, KeptJobs}
+use Rattle.covered_laws.proofs.Prelude.{MayPass, Means, Passage, Placed, Purpose, Recovery, ServerNo, SpeakingJobs, Unended, World, begun-covers}
+use Rattle.covered_laws.proofs.Prelude.{begun-kept, begun-speaks, begun_recovery, core_of, kept-run, outside-covers, passed, run, slot_of}
+use Rattle.covered_laws.proofs.Prelude.{world-stored_if}
+use Rattle.covered_laws.proofs.Prelude.pass
+use Rattle.covered_laws.proofs.Prelude.unended
 
 -- ---- no orchestrator's
 
@@ -40,10 +21,7 @@ outside-covered f (pass.Polling p n read now) out (unended.Recovery r docket) c 
 outside-covered f (pass.Storing p keeps) out (unended.Recovery r docket) c = stored-same (λ w. IsCoveredBeside w (unended.Recovery r docket)) f p keeps c
 outside-covered f (pass.Discovering n read now) out (unended.Recovery r docket) c = c
 outside-covered f (pass.Forgetting n) out (unended.Recovery r docket) c = c
-outside-covered f pass.Restarting out (unended.Recovery r docket) c = absurd out
-outside-covered f (pass.Beginning list j) out (unended.Recovery r docket) c = absurd out
-outside-covered f (pass.Turning id read now keeps) out (unended.Recovery r docket) c = absurd out
-outside-covered f (pass.Taking id t keeps) out (unended.Recovery r docket) c = absurd out
+outside-covered f _ out _ c = absurd out
 
 pub outside-stays : (f : Flight) (us : List Unended) (p : Passage) → IsOutside p → CoveredJobs f us → CoveredJobs (passed f p) us
 outside-stays f us p out covered = record {
@@ -62,10 +40,7 @@ apart-kept f (pass.Polling p n read now) may apart held u k = k
 apart-kept f (pass.Storing p keeps) may apart held u k = stored-same (λ w. IsKeptBeside w u) f p keeps k
 apart-kept f (pass.Discovering n read now) may apart held u k = k
 apart-kept f (pass.Forgetting n) may apart held u k = k
-apart-kept f pass.Restarting may apart held u k = absurd apart
-apart-kept f (pass.Beginning list j) may apart held u k = absurd apart
-apart-kept f (pass.Turning id read now keeps) may apart held u k = absurd apart
-apart-kept f (pass.Taking id t keeps) may apart held u k = absurd apart
+apart-kept f _ may apart held u k = absurd apart
 
 pub apart-stays : (f : Flight) (us : List Unended) (p : Passage) → MayPass f p → IsApart p → HeldJobs f us → KeptJobs f us → KeptJobs (passed f p) us
 apart-stays f us p may apart held kept = record {

@@ -1,42 +1,16 @@
 -- Recoveries in flight that are done have covered their replicas, and what they owe beside.
 use Rattle.std.proofs.Common.{◌≡◌, ◌∙◌, ℕ, ◌+◌, ◌<◌, Bool, true, false, List, [], ◌∷◌, cond, refl, sym, ap, subst, Option, Some, None, inl, inr, arith}
 use Rattle.std.specs.Prelude.{All, IfSome, ◌==◌}
-use Rattle.std.proofs.lemmas.Bool.{eqb-true}
-use Rattle.std.proofs.lemmas.List.Elements.{All-cons, All-contains, All-head, All-tail, All-weaker}
-use Rattle.std.proofs.lemmas.Option.{same_Some}
-use Rattle.orch_base.specs.declared.server.ServerNo.{ServerNo}
-use Rattle.server_model.specs.Safe.{Safe}
-use Rattle.server_model.specs.Worlds.{World}
-use Rattle.commands.specs.declared.line.Line.{Line}
-use Rattle.job_laws.specs.Flights.{Flight}
-use Rattle.recovery_plans.specs.declared.outcome.Follower.{Follower}
-use Rattle.recovery_plans.specs.declared.outcome.LostReplica.{LostReplica}
-use Rattle.recovery_plans.specs.declared.purpose.Purpose.{Purpose}
-use Rattle.recovery_plans.specs.declared.purpose.Purpose.TheVariants as purpose
-use Rattle.recovery_plans.specs.Beginning.{first_source}
-use Rattle.recovery_plans.specs.Named.{AreSourcesOf, IsNamedRecovery}
-use Rattle.recovery_plans.specs.Recoveries.{Outcome, Recovery}
-use Rattle.recovery_laws.specs.HeldRecoveries.{HeldRecovery}
-use Rattle.recovery_laws.specs.Rings.{HeldRings}
-use Rattle.recovery_covers.specs.Covers.{Covers, Follows, HasOnePlace, IsAsNamed, IsTold, follower_nos, leader, listed, lost_nos, owed, times}
-use Rattle.recovery_covers.specs.SoFar.{CoversSoFar}
-use Rattle.recovery_covers.proofs.Times.{self-all, self-times}
-use Rattle.recovery_outcomes.specs.Chains.{IsChain}
-use Rattle.recovery_outcomes.proofs.Done.{turn-chain, turn-done}
-use Rattle.recovery_outcomes.proofs.Placing.{replica-placed}
-use Rattle.recovery_histories.specs.Kept.{IsBeginning, Keeps, KeptByChosen, SameAim}
-use Rattle.recovery_histories.proofs.Keeping.{old-begins, promoted-keeps, taken-kept}
-use Rattle.recovery_histories.proofs.Staying.{taken-aim, then-aim}
-use Rattle.recovery_reasons.specs.Reasons.{ExplainsTruly, Fact, IsExplained}
-use Rattle.recovery_reasons.proofs.Facts.{taken-explained}
-use Rattle.unended_jobs.specs.declared.unended.Unended.{Unended}
-use Rattle.unended_jobs.specs.declared.unended.Unended.TheVariants as unended
-use Rattle.jobs_in_flight.proofs.Numbers.{found-number}
-use Rattle.unended_laws.specs.Beside.{IsHeldBeside, IsSoundBeside}
-use Rattle.unended_laws.specs.Flights.{HeldJobs, SoundJobs}
-use Rattle.covered_laws.specs.Beside.{IsAimedBeside, IsCoveredBeside, IsKeptBeside, IsSpeakingBeside}
-use Rattle.covered_laws.specs.Flights.{AimedJobs, CoveredJobs, KeptJobs, SpeakingJobs}
-use Rattle.covered_laws.specs.Turns.{IsDoneIn, IsNamedOutcome, RecoveryTurn, outcome_then, recovery_then, world_then}
+use Rattle.covered_laws.proofs.Prelude.{AimedJobs, All-cons, All-contains, All-head, All-tail, All-weaker, AreSourcesOf, CoveredJobs, Covers}
+use Rattle.covered_laws.proofs.Prelude.{CoversSoFar, ExplainsTruly, Fact, Flight, Follower, Follows, HasOnePlace, HeldJobs, HeldRecovery, HeldRings}
+use Rattle.covered_laws.proofs.Prelude.{IsAimedBeside, IsAsNamed, IsBeginning, IsChain, IsCoveredBeside, IsDoneIn, IsExplained, IsHeldBeside}
+use Rattle.covered_laws.proofs.Prelude.{IsKeptBeside, IsNamedOutcome, IsNamedRecovery, IsSoundBeside, IsSpeakingBeside, IsTold, Keeps, KeptByChosen}
+use Rattle.covered_laws.proofs.Prelude.{KeptJobs, Line, LostReplica, Outcome, Purpose, Recovery, RecoveryTurn, Safe, SameAim, ServerNo, SoundJobs}
+use Rattle.covered_laws.proofs.Prelude.{SpeakingJobs, Unended, World, eqb-true, first_source, follower_nos, found-number, leader, listed, lost_nos}
+use Rattle.covered_laws.proofs.Prelude.{old-begins, outcome_then, owed, promoted-keeps, recovery_then, replica-placed, same_Some, self-all}
+use Rattle.covered_laws.proofs.Prelude.{self-times, taken-aim, taken-explained, taken-kept, then-aim, times, turn-chain, turn-done, world_then}
+use Rattle.covered_laws.proofs.Prelude.purpose
+use Rattle.covered_laws.proofs.Prelude.unended
 use Rattle.covered_laws.proofs.Turning.{found, rings-held, rings-sound}
 
 -- ---- the servers of an outcome are those of the recovery
@@ -52,10 +26,8 @@ module _ (count : ℕ) where
       go false e g rest = rest (omega (arith, g))
 
   owed-there : (u : Purpose) (f : ServerNo) (ns : List ServerNo) → f.0 < count → All (λ n. n.0 < count) ns → All (λ n. n.0 < count) (owed u f ns)
-  owed-there purpose.Regroup f ns source all = all
-  owed-there purpose.Master f ns source all = all
-  owed-there (purpose.Intermediate s) f ns source all = all
   owed-there (purpose.Takeover d) f ns source all = All-cons (λ (n : ServerNo). n.0 < count) f ns source all
+  owed-there _ f ns source all = all
 
   module _ (w : World) (u : Purpose) (f : ServerNo) (ns : List ServerNo) (o : Outcome) (c : Covers w u f ns o) (source : f.0 < count) (all : All (λ n. n.0 < count) ns) (first : (s : ServerNo) → u ≡ purpose.Intermediate s → s.0 < count) where
     placed-there : (n : ℕ) → 0 < times n (leader u o.promoted) + (times n (follower_nos o.followers) + times n (lost_nos o.lost)) → n < count
@@ -71,12 +43,10 @@ module _ (count : ℕ) where
             placed-there p.0 (omega (arith, here))
 
         go : (v : Purpose) → u ≡ v → p.0 < count
-        go purpose.Regroup h = as-placed (ap (λ (x : Purpose). leader x o.promoted) h)
-        go purpose.Master h = as-placed (ap (λ (x : Purpose). leader x o.promoted) h)
         go (purpose.Intermediate s) h =
             let named : o.promoted ≡ Some s = subst (λ (x : Purpose). IsAsNamed x f o) h c.named in
             subst (λ (n : ServerNo). n.0 < count) (same_Some s p (sym named ∙ e)) (first s h)
-        go (purpose.Takeover d) h = as-placed (ap (λ (x : Purpose). leader x o.promoted) h)
+        go _ h = as-placed (ap (λ (x : Purpose). leader x o.promoted) h)
 
     followers-there : All (λ x. x.no.0 < count) o.followers
     followers-there =

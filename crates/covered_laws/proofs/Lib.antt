@@ -1,3 +1,4 @@
+mod Prelude
 pub mod Beside
 pub mod Turning
 pub mod Ending

@@ -1,54 +1,17 @@
 -- The turn of an unended job leaves all covered, kept and speaking.
 use Rattle.std.proofs.Common.{◌≡◌, ◌∙◌, ℕ, Bool, true, false, List, cond, get_or, refl, sym, ap, subst, Option, Some, None}
 use Rattle.std.specs.Prelude.{All, ◌==◌, not}
-use Rattle.std.specs.Option.{option_map}
-use Rattle.std.proofs.lemmas.Bool.{eq-eqb, false≢true}
-use Rattle.std.proofs.lemmas.List.Elements.{All-filter, All-map, All-nil, All-weaker, filter_passes}
-use Rattle.orch_base.specs.declared.server.Moment.{Moment}
-use Rattle.instance_keeper.specs.declared.bridge.Bridge.{Bridge}
-use Rattle.kept_rows.specs.declared.observation.Observation.{Observation}
-use Rattle.instance_keeper.specs.Book.{BookState}
-use Rattle.server_model.specs.Run.{run}
-use Rattle.server_model.specs.Worlds.{World}
-use Rattle.operations.specs.Changes.{server_of}
-use Rattle.operations.specs.Jobs.{Job}
-use Rattle.operations.specs.Turns.{is_going, turned}
-use Rattle.job_laws.specs.Flights.{Flight, StandsIn, after_turn}
-use Rattle.job_laws.specs.Held.{Spans}
-use Rattle.job_laws.specs.Leases.{HasLeases, IsLeased, job_at as core_at}
-use Rattle.job_laws.specs.Passages.{passed, passing, turned_by}
-use Rattle.job_laws.proofs.Leased.{turn-leased}
-use Rattle.job_laws.proofs.Lists.{All-find}
-use Rattle.job_laws.proofs.Passages.{world-stored_if}
-use Rattle.recovery_plans.specs.Recoveries.{Recovery}
-use Rattle.recovery_plans.specs.Taking.{taken}
-use Rattle.recovery_laws.specs.LeasedRecoveries.{KeepsLeased, LeasedRecovery}
-use Rattle.recovery_laws.specs.Passing.{as_turn}
-use Rattle.recovery_laws.specs.Rings.{AreOwn, HeldRings, SoundRings}
-use Rattle.recovery_laws.proofs.Leasing.{taken-leased}
-use Rattle.recovery_covers.proofs.Begun.{others-cover}
-use Rattle.recovery_covers.proofs.Turning.{turn-covers}
-use Rattle.recovery_covers.specs.SoFar.{CoversSoFar}
-use Rattle.recovery_histories.specs.Kept.{KeptByChosen, SameAim}
-use Rattle.recovery_histories.proofs.Keeping.{taken-kept}
-use Rattle.recovery_histories.proofs.Staying.{taken-aim, then-aim}
-use Rattle.recovery_reasons.specs.Reasons.{Speaks}
-use Rattle.recovery_reasons.proofs.Speaking.{taken-speaks}
-use Rattle.unended_jobs.specs.declared.unended.Unended.{Unended}
-use Rattle.unended_jobs.specs.declared.unended.Unended.TheVariants as unended
-use Rattle.unended_jobs.specs.declared.docket.Docket.{Docket}
-use Rattle.unended_jobs.specs.Hooked.{hooked, promoted_in}
-use Rattle.unended_jobs.specs.Unended.{Flown, core_of, flown, number_of}
-use Rattle.unended_jobs.proofs.Hooked.{hooked-has}
-use Rattle.unended_jobs.proofs.Going.{flown-allowed}
-use Rattle.jobs_in_flight.specs.Jobs.{job_at, jobs_turned, with_job, without_job}
-use Rattle.jobs_in_flight.proofs.Numbers.{found-number}
-use Rattle.unended_laws.specs.Beside.{IsHeldBeside, IsSoundBeside}
-use Rattle.unended_laws.specs.Flights.{HeldJobs, SoundJobs}
-use Rattle.unended_laws.specs.Passages.{passage_of, passages_by}
-use Rattle.unended_laws.proofs.Cores.{core-found}
-use Rattle.covered_laws.specs.Beside.{IsAimedBeside, IsCoveredBeside, IsKeptBeside, IsSpeakingBeside}
-use Rattle.covered_laws.specs.Flights.{AimedJobs, CoveredJobs, KeptJobs, SpeakingJobs}
+use Rattle.covered_laws.proofs.Prelude.{AimedJobs, All-filter, All-find, All-map, All-nil, All-weaker, AreOwn, BookState, Bridge, CoveredJobs}
+use Rattle.covered_laws.proofs.Prelude.{CoversSoFar, Docket, Flight, Flown, HasLeases, HeldJobs, HeldRings, IsAimedBeside, IsCoveredBeside}
+use Rattle.covered_laws.proofs.Prelude.{IsHeldBeside, IsKeptBeside, IsLeased, IsSoundBeside, IsSpeakingBeside, Job, KeepsLeased, KeptByChosen}
+use Rattle.covered_laws.proofs.Prelude.{KeptJobs, LeasedRecovery, Moment, Observation, Recovery, SameAim, SoundJobs, SoundRings, Spans, SpeakingJobs}
+use Rattle.covered_laws.proofs.Prelude.{Speaks, StandsIn, Unended, World, after_turn, as_turn, core-found, core_of, eq-eqb, false≢true, filter_passes}
+use Rattle.covered_laws.proofs.Prelude.{flown, flown-allowed, found-number, hooked, hooked-has, is_going, job_at, jobs_turned, number_of, option_map}
+use Rattle.covered_laws.proofs.Prelude.{others-cover, passage_of, passages_by, passed, passing, promoted_in, run, server_of, taken, taken-aim}
+use Rattle.covered_laws.proofs.Prelude.{taken-kept, taken-leased, taken-speaks, then-aim, turn-covers, turn-leased, turned, turned_by, with_job}
+use Rattle.covered_laws.proofs.Prelude.{without_job, world-stored_if}
+use Rattle.covered_laws.proofs.Prelude.Leases.{job_at as core_at}
+use Rattle.covered_laws.proofs.Prelude.unended
 use Rattle.covered_laws.proofs.Beside.{run-kept}
 
 -- ---- what a turn leaves of the list

@@ -1,12 +1,7 @@
 -- What holds of an unended job beside what is held and sound.
 use Rattle.std.specs.Prelude.{ℕ}
-use Rattle.server_model.specs.Worlds.{World}
-use Rattle.recovery_plans.specs.Recoveries.{Recovery}
-use Rattle.recovery_covers.specs.SoFar.{CoversSoFar}
-use Rattle.recovery_histories.specs.Kept.{KeptByChosen, SameAim}
-use Rattle.recovery_reasons.specs.Reasons.{Speaks}
-use Rattle.unended_jobs.specs.declared.unended.Unended.{Unended}
-use Rattle.unended_jobs.specs.declared.unended.Unended.TheVariants as unended
+use Rattle.covered_laws.specs.Prelude.{CoversSoFar, KeptByChosen, Recovery, SameAim, Speaks, Unended, World}
+use Rattle.covered_laws.specs.Prelude.unended
 
 -- a recovery covers its replicas so far
 abbrev pub IsCoveredBeside : World → Unended → Type 0

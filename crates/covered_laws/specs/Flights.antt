@@ -1,8 +1,6 @@
 -- Servers with unended jobs in flight, whose recoveries cover their replicas so far.
 use Rattle.std.specs.Prelude.{ℕ, List, All}
-use Rattle.job_laws.specs.Flights.{Flight}
-use Rattle.recovery_plans.specs.Recoveries.{Recovery}
-use Rattle.unended_jobs.specs.declared.unended.Unended.{Unended}
+use Rattle.covered_laws.specs.Prelude.{Flight, Recovery, Unended}
 use Rattle.covered_laws.specs.Beside.{IsAimedBeside, IsCoveredBeside, IsKeptBeside, IsSpeakingBeside}
 
 -- in every state, quiet or not, beside HeldJobs

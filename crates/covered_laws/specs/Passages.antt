@@ -1,7 +1,7 @@
 -- Passages that are no orchestrator's exchange, no job's turn, no beginning and no restart.
 use Rattle.std.specs.Prelude.{◌≡◌, true, ⊤}
-use Rattle.job_laws.specs.Passages.{Passage, Exchanging, Polling, Storing, Discovering, Forgetting, Restarting, Beginning, Turning, Taking}
-use Rattle.standing_laws.specs.Standing.{is_outside}
+use Rattle.covered_laws.specs.Prelude.{Beginning, Discovering, Exchanging, Forgetting, Passage, Polling, Restarting, Storing, Taking, Turning}
+use Rattle.covered_laws.specs.Prelude.{is_outside}
 
 abbrev pub IsOutside : Passage → Type 0
 IsOutside (Exchanging e) = is_outside e ≡ true

@@ -1,18 +1,8 @@
 -- Turns of recoveries in flight.
 use Rattle.std.specs.Prelude.{◌≡◌, ℕ, ◌<◌, List, Some, IfSome, All}
-use Rattle.orch_base.specs.declared.server.Moment.{Moment}
-use Rattle.server_model.specs.Run.{run}
-use Rattle.server_model.specs.Worlds.{World}
-use Rattle.commands.specs.declared.line.Line.{Line}
-use Rattle.instance_keeper.specs.Book.{BookState}
-use Rattle.operations.specs.declared.step.JobStep.TheVariants as step
-use Rattle.job_laws.specs.Flights.{Flight}
-use Rattle.jobs_in_flight.specs.Jobs.{job_at}
-use Rattle.recovery_plans.specs.Recoveries.{Outcome, Recovery}
-use Rattle.recovery_plans.specs.Taking.{Taken, taken}
-use Rattle.unended_jobs.specs.declared.docket.Docket.{Docket}
-use Rattle.unended_jobs.specs.declared.unended.Unended.{Unended}
-use Rattle.unended_jobs.specs.declared.unended.Unended.TheVariants as unended
+use Rattle.covered_laws.specs.Prelude.{BookState, Docket, Flight, Line, Moment, Outcome, Recovery, Taken, Unended, World, job_at, run, taken}
+use Rattle.covered_laws.specs.Prelude.step
+use Rattle.covered_laws.specs.Prelude.unended
 
 -- the turn of a recovery in flight by its number, on a book with the flight's bridges: with this read number, at this
 -- moment

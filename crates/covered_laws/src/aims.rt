@@ -1,16 +1,8 @@
 //! What recoveries in flight are about.
 
 ghost use Rattle.std.specs.Prelude.{◌≡◌, ◌∷◌, ◌++◌, ℕ, List, Option, []};
-ghost use Rattle.std.specs.Option.{option_map};
-ghost use Rattle.orch_base.specs.declared.server.Moment.{Moment as AMoment};
-ghost use Rattle.instance_keeper.specs.Book.{BookState};
-ghost use Rattle.job_laws.specs.Flights.{Flight};
-ghost use Rattle.jobs_in_flight.specs.Jobs.{job_at, jobs_turned};
-ghost use Rattle.recovery_plans.specs.Recoveries.{Recovery};
-ghost use Rattle.recovery_histories.specs.Kept.{SameAim};
-ghost use Rattle.unended_jobs.specs.declared.unended.Unended.{Unended as AnUnended};
-ghost use Rattle.unended_jobs.specs.Unended.{flown};
-ghost use Rattle.unended_laws.specs.Flights.{HeldJobs};
+ghost use Rattle.covered_laws.specs.Prelude.{BookState, Flight, HeldJobs, Moment as AMoment, Recovery, SameAim, Unended as AnUnended, flown, job_at};
+ghost use Rattle.covered_laws.specs.Prelude.{jobs_turned, option_map};
 ghost use Rattle.covered_laws.specs.Beside.{IsAimedBeside};
 ghost use Rattle.covered_laws.specs.Flights.{AimedJobs};
 ghost use Rattle.covered_laws.specs.Turns.{RecoveryTurn, recovery_then};

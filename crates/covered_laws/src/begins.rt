@@ -1,18 +1,9 @@
 //! Recoveries that begin.
 
 ghost use Rattle.std.specs.Prelude.{◌∷◌, ◌++◌, ℕ, List, []};
-ghost use Rattle.orch_base.specs.declared.server.ServerNo.{ServerNo as Number};
-ghost use Rattle.server_model.specs.Worlds.{World};
-ghost use Rattle.job_laws.specs.Flights.{Flight};
-ghost use Rattle.job_laws.specs.Passages.{Beginning, passed};
-ghost use Rattle.recovery_plans.specs.declared.means.Means.{Means as AMeans};
-ghost use Rattle.recovery_plans.specs.declared.purpose.Purpose.{Purpose as APurpose};
-ghost use Rattle.recovery_plans.specs.Beginning.{begun_recovery};
-ghost use Rattle.recovery_covers.specs.Covers.{AreReplicas};
-ghost use Rattle.unended_jobs.specs.declared.docket.Docket.{Docket as ADocket};
-ghost use Rattle.unended_jobs.specs.declared.unended.Unended.{Unended as AnUnended};
-ghost use Rattle.unended_jobs.specs.declared.unended.Unended.TheVariants.{Recovery};
-ghost use Rattle.unended_jobs.specs.Unended.{core_of};
+ghost use Rattle.covered_laws.specs.Prelude.{AreReplicas, Beginning, Docket as ADocket, Flight, Means as AMeans, Purpose as APurpose};
+ghost use Rattle.covered_laws.specs.Prelude.{ServerNo as Number, Unended as AnUnended, World, begun_recovery, core_of, passed};
+ghost use Rattle.covered_laws.specs.Prelude.unended.{Recovery};
 ghost use Rattle.covered_laws.specs.Beside.{IsCoveredBeside, IsKeptBeside, IsSpeakingBeside};
 ghost use Rattle.covered_laws.specs.Flights.{CoveredJobs, KeptJobs, SpeakingJobs};
 

@@ -1,17 +1,9 @@
 //! Recoveries in flight that are done.
 
 ghost use Rattle.std.specs.Prelude.{◌≡◌, ◌<◌, ℕ, List, All, Some};
-ghost use Rattle.orch_base.specs.declared.server.ServerNo.{ServerNo as Number};
-ghost use Rattle.commands.specs.declared.line.Line.{Line as ALine};
-ghost use Rattle.server_model.specs.Safe.{Safe};
-ghost use Rattle.job_laws.specs.Flights.{Flight};
-ghost use Rattle.recovery_plans.specs.declared.purpose.Purpose.TheVariants as purpose;
-ghost use Rattle.recovery_plans.specs.Named.{IsNamedRecovery};
-ghost use Rattle.recovery_covers.specs.Covers.{HasOnePlace, IsTold, times};
-ghost use Rattle.recovery_outcomes.specs.Chains.{IsChain};
-ghost use Rattle.recovery_histories.specs.Kept.{IsBeginning, Keeps, SameAim};
-ghost use Rattle.unended_jobs.specs.declared.unended.Unended.{Unended as AnUnended};
-ghost use Rattle.unended_laws.specs.Flights.{HeldJobs, SoundJobs};
+ghost use Rattle.covered_laws.specs.Prelude.{Flight, HasOnePlace, HeldJobs, IsBeginning, IsChain, IsNamedRecovery, IsTold, Keeps, Line as ALine};
+ghost use Rattle.covered_laws.specs.Prelude.{Safe, SameAim, ServerNo as Number, SoundJobs, Unended as AnUnended, times};
+ghost use Rattle.covered_laws.specs.Prelude.purpose;
 ghost use Rattle.covered_laws.specs.Flights.{CoveredJobs, KeptJobs};
 ghost use Rattle.covered_laws.specs.Turns.{IsDoneIn, IsNamedOutcome, RecoveryTurn, outcome_then, recovery_then, world_then};
 

@@ -1,10 +1,7 @@
 //! Why recoveries in flight lose replicas, and whom they choose.
 
 ghost use Rattle.std.specs.Prelude.{Bool, List};
-ghost use Rattle.job_laws.specs.Flights.{Flight};
-ghost use Rattle.recovery_reasons.specs.Reasons.{ExplainsTruly, Fact, IsExplained};
-ghost use Rattle.unended_jobs.specs.declared.unended.Unended.{Unended as AnUnended};
-ghost use Rattle.unended_laws.specs.Flights.{HeldJobs};
+ghost use Rattle.covered_laws.specs.Prelude.{ExplainsTruly, Fact, Flight, HeldJobs, IsExplained, Unended as AnUnended};
 ghost use Rattle.covered_laws.specs.Flights.{SpeakingJobs};
 ghost use Rattle.covered_laws.specs.Turns.{RecoveryTurn, recovery_then};
 

@@ -1,17 +1,8 @@
 //! Turns of jobs by their numbers.
 
 ghost use Rattle.std.specs.Prelude.{◌≡◌, ℕ, Bool, List, Option};
-ghost use Rattle.std.specs.Option.{option_map};
-ghost use Rattle.orch_base.specs.declared.server.Moment.{Moment as AMoment};
-ghost use Rattle.kept_rows.specs.declared.observation.Observation.{Observation as Reading};
-ghost use Rattle.instance_keeper.specs.Book.{BookState};
-ghost use Rattle.job_laws.specs.Flights.{Flight};
-ghost use Rattle.job_laws.specs.Passages.{passing};
-ghost use Rattle.jobs_in_flight.specs.Jobs.{job_at, jobs_turned};
-ghost use Rattle.unended_jobs.specs.declared.unended.Unended.{Unended as AnUnended};
-ghost use Rattle.unended_jobs.specs.Unended.{flown};
-ghost use Rattle.unended_laws.specs.Flights.{HeldJobs, SoundJobs};
-ghost use Rattle.unended_laws.specs.Passages.{passages_by};
+ghost use Rattle.covered_laws.specs.Prelude.{BookState, Flight, HeldJobs, Moment as AMoment, Observation as Reading, SoundJobs, Unended as AnUnended};
+ghost use Rattle.covered_laws.specs.Prelude.{flown, job_at, jobs_turned, option_map, passages_by, passing};
 ghost use Rattle.covered_laws.specs.Flights.{CoveredJobs, KeptJobs, SpeakingJobs};
 
 /// The turn of a job's number leaves all covered, the job itself too where it goes on, and kept where all was sound,

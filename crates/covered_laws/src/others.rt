@@ -1,11 +1,7 @@
 //! Recoveries while others take their turns.
 
 ghost use Rattle.std.specs.Prelude.{List, []};
-ghost use Rattle.job_laws.specs.Flights.{Flight};
-ghost use Rattle.job_laws.specs.Passages.{MayPass, Passage, Restarting, passed};
-ghost use Rattle.unended_jobs.specs.declared.unended.Unended.{Unended as AnUnended};
-ghost use Rattle.unended_laws.specs.Flights.{HeldJobs};
-ghost use Rattle.unended_laws.specs.Passages.{IsApart};
+ghost use Rattle.covered_laws.specs.Prelude.{Flight, HeldJobs, IsApart, MayPass, Passage, Restarting, Unended as AnUnended, passed};
 ghost use Rattle.covered_laws.specs.Flights.{CoveredJobs, KeptJobs, SpeakingJobs};
 ghost use Rattle.covered_laws.specs.Passages.{IsOutside};
 

@@ -1,12 +1,11 @@
 -- The content of a string of a text that is UTF-8 is UTF-8.
 use Rattle.std.proofs.Common.{◌≡◌, ◌∙◌, ◌<◌, ◌≤◌, ◌+◌, ◌*◌, ◌==◌, ◌||◌, ◌&&◌, ◌⊎◌, inl, inr, ℕ, zero, suc, Bool, true, false, cond, List, [], ◌∷◌, ◌++◌, length, get_or, Option, Some, None, IfSome, option_and_then, IsUtf8, refl, sym, ap, subst, arith, append_assoc, append-nil, length-append, eqb, ltb, leb}
 use Rattle.std.specs.Prelude.{nat_le, nat_lt}
-use Rattle.std.specs.Char.{IsScalar, digit_value, encode_utf8, is_digit}
-use Rattle.std.proofs.Math.Utf8.{encode, encodes, scalar, scalars}
-use Rattle.std.proofs.lemmas.Bool.{and_parts, cases_lt, eqb-true, le-leb, le-ltb, leb-true, lt-ltb, ltb-true, ne_eqb}
-use Rattle.std.proofs.lemmas.Bool.Decides.{nat_tests}
-use Rattle.std.proofs.lemmas.Str.{IsCharBoundary-after_ascii, IsUtf8-append, IsUtf8-drop, IsUtf8-encode, IsUtf8-nil, encode_ascii, inside_one, len_utf8_bounds, length-encode}
-use Rattle.json.specs.Text.{after_backslash, after_high, after_u, code_unit, content, is_high_surrogate, is_low_surrogate, plain, prepend, short_escape, surrogate_pair}
+use Rattle.dump_laws.proofs.Prelude.{IsCharBoundary-after_ascii, IsScalar, IsUtf8-append, IsUtf8-drop, IsUtf8-encode, IsUtf8-nil, after_backslash}
+use Rattle.dump_laws.proofs.Prelude.{after_high, after_u, and_parts, cases_lt, code_unit, content, digit_value, encode, encode_ascii, encode_utf8}
+use Rattle.dump_laws.proofs.Prelude.{encodes, eqb-true, inside_one, is_digit, is_high_surrogate, is_low_surrogate, le-leb, le-ltb, leb-true}
+use Rattle.dump_laws.proofs.Prelude.{len_utf8_bounds, length-encode, lt-ltb, ltb-true, nat_tests, ne_eqb, plain, prepend, scalar, scalars}
+use Rattle.dump_laws.proofs.Prelude.{short_escape, surrogate_pair}
 
 -- what stands behind an ASCII byte
 pub behind-ascii : (x : ℕ) (xs : List ℕ) → x < 128 → IsUtf8 (x ∷ xs) → IsUtf8 xs
@@ -79,10 +78,7 @@ spelt-by true true true true a b c d u p q r s e =
     let l = digit-ascii d s in
     let same : digit_value a * 4096 + digit_value b * 256 + digit_value c * 16 + digit_value d ≡ u = cc in
     record { first = i.0; second = j.0; third = k.0; fourth = l.0; unit = omega arith }
-spelt-by true true true false a b c d u p q r s e = absurd (cc)
-spelt-by true true false s' a b c d u p q r s e = absurd (cc)
-spelt-by true false r' s' a b c d u p q r s e = absurd (cc)
-spelt-by false q' r' s' a b c d u p q r s e = absurd (cc)
+spelt-by _ _ _ _ a b c d u p q r s e = absurd (cc)
 
 spelt : (a b c d u : ℕ) → code_unit a b c d ≡ Some u → Spells a b c d u
 unfolding code_unit

@@ -1,17 +1,7 @@
 -- A dump of a quiet world of a scenario that was read reads as the scenario that it tells.
 use Rattle.std.proofs.Common.{◌≡◌, ℕ, true, List, length, Some, Ok, leb}
-use Rattle.std.specs.Str.{is_utf8}
-use Rattle.std.proofs.lemmas.Bool.{le-leb}
-use Rattle.serde_json.specs.Read.{read}
-use Rattle.openings.specs.Opening.{IsChecked}
-use Rattle.orch_base.specs.declared.source.TheConstants.{MAX_SCENARIO_LEN}
-use Rattle.scenarios.specs.declared.scenario.Scenario.{Scenario}
-use Rattle.scenario_reader.specs.Scenarios.{scenario_in}
-use Rattle.scenario_dump.specs.Promises.{HasTexts, IsReadable}
-use Rattle.scenario_dump.specs.Reading.{IsWithinLimits, IsWorldOf, dumped_scenario}
-use Rattle.scenario_dump.specs.Servers.{opening_of}
-use Rattle.scenario_dump.specs.Texts.{dump_data, dump_text}
-use Rattle.server_model.specs.Worlds.{World}
+use Rattle.dump_laws.proofs.Prelude.{HasTexts, IsChecked, IsReadable, IsWithinLimits, IsWorldOf, MAX_SCENARIO_LEN, Scenario, World, dump_data}
+use Rattle.dump_laws.proofs.Prelude.{dump_text, dumped_scenario, is_utf8, le-leb, opening_of, read, scenario_in}
 use Rattle.dump_laws.proofs.Readable.{dump-readable}
 use Rattle.dump_laws.proofs.ReadScenarios.{reads-back}
 use Rattle.dump_laws.proofs.Texts.{dump-numbers, dump-texts}

@@ -1,16 +1,8 @@
 -- A server's keys, and what stands at each.
 use Rattle.std.proofs.Common.{◌≡◌, ◌∙◌, ℕ, true, List, [], ◌∷◌, ◌++◌, Option, Some, None, Ok, refl, ap}
 use Rattle.std.specs.Prelude.{codes, is_some, option_map}
-use Rattle.serde_json.specs.Data.{boolean, object, string}
-use Rattle.serde_json.specs.Find.{get}
-use Rattle.orch_base.specs.declared.server.ServerNo.{ServerNo}
-use Rattle.orch_base.specs.Names.{printed}
-use Rattle.openings.specs.declared.init.ServerInit.{ServerInit}
-use Rattle.openings.specs.Opening.{IsAlone}
-use Rattle.gtid_sets.specs.Printed.{uuid_text}
-use Rattle.scenario_values.specs.Faults.{only_keys}
-use Rattle.scenario_servers.specs.Servers.{own_keys, replica_keys, server_keys}
-use Rattle.scenario_dump.specs.Texts.{coord_data, count_data, list_data, name_text, part_data, server_data, version_text}
+use Rattle.dump_laws.proofs.Prelude.{IsAlone, ServerInit, ServerNo, boolean, coord_data, count_data, get, list_data, name_text, object, only_keys}
+use Rattle.dump_laws.proofs.Prelude.{own_keys, part_data, printed, replica_keys, server_data, server_keys, string, uuid_text, version_text}
 use Rattle.dump_laws.proofs.Keys.{Field, are_known, get-members_of, known-members, member_if-for, members_of, value_at, when}
 
 -- what speaks of a source alone is there where the server has one

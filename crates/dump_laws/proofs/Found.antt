@@ -1,19 +1,9 @@
 -- Names and UUIDs of listed servers are found again.
 use Rattle.std.proofs.Common.{◌≡◌, ◌∙◌, ◌≢◌, ◌<◌, ℕ, zero, suc, ◌+◌, ◌^◌, ◌==◌, Bool, true, false, List, [], ◌∷◌, map, take, Option, Some, Ok, refl, ap, arith}
 use Rattle.std.specs.Prelude.{codes, nat_lt, slice_get}
-use Rattle.std.specs.List.{list_any}
-use Rattle.std.proofs.lemmas.Bool.{le-ltb, ne_eqb}
-use Rattle.std.proofs.lemmas.Option.{same_Some}
-use Rattle.serde_json.specs.Data.{Data, string}
-use Rattle.serde_json.specs.Find.{get}
-use Rattle.orch_base.specs.declared.server.ServerNo.{ServerNo}
-use Rattle.orch_base.specs.Names.{HostPort, IsName, printed, same_name}
-use Rattle.orch_base.proofs.SameNames.{same_name_tells}
-use Rattle.openings.specs.declared.init.ServerInit.{ServerInit}
-use Rattle.scenario_values.specs.Values.{name_in}
-use Rattle.scenario_servers.specs.Names.{first_named, has_uuid, number_or_fails, own_name, own_uuid, server_named}
-use Rattle.scenario_dump.specs.Texts.{name_text}
-use Rattle.gtid_sets.specs.Printed.{uuid_text}
+use Rattle.dump_laws.proofs.Prelude.{Data, HostPort, IsName, ServerInit, ServerNo, first_named, get, has_uuid, le-ltb, list_any, name_in, name_text}
+use Rattle.dump_laws.proofs.Prelude.{ne_eqb, number_or_fails, own_name, own_uuid, printed, same_name, same_name_tells, same_Some, server_named}
+use Rattle.dump_laws.proofs.Prelude.{string, uuid_text}
 use Rattle.dump_laws.proofs.Values.{name-reads, uuid-reads}
 
 -- the servers' names and UUIDs, as they are looked up

@@ -1,26 +1,10 @@
 -- What a dump says before its servers reads as the scenario has it.
 use Rattle.std.proofs.Common.{◌≡◌, ◌≤◌, ◌+◌, ℕ, true, List, [], ◌∷◌, length, map, All, Ok, IsUtf8, refl, arith, leb}
-use Rattle.std.proofs.lemmas.Bool.{le-leb}
-use Rattle.std.proofs.lemmas.List.Elements.{All-head, All-tail}
-use Rattle.serde_json.specs.Data.{object, string}
-use Rattle.cluster_filters.specs.Forms.{form_of, has_pattern}
-use Rattle.hook_texts.specs.declared.hooks.Hook.{Hook}
-use Rattle.hook_texts.specs.declared.hooks.Hooks.{Hooks}
-use Rattle.scenarios.specs.declared.blocks.Block.{Block}
-use Rattle.scenarios.specs.declared.filters.Alias.{Alias}
-use Rattle.scenarios.specs.declared.filters.ClusterFilters.{ClusterFilters}
-use Rattle.scenarios.specs.declared.scenario.Scenario.{Scenario}
-use Rattle.scenario_values.specs.Faults.{each_from, each_member}
-use Rattle.scenario_values.specs.Values.{label_or_fails}
-use Rattle.scenario_filters.specs.declared.filters.FilterTexts.{FilterTexts}
-use Rattle.scenario_filters.specs.Aliases.{alias_in, aliases_in}
-use Rattle.scenario_filters.specs.Filters.{HavePatterns, filter_in, filters_in, list_in}
-use Rattle.scenario_reader.specs.declared.head.Head.{Head}
-use Rattle.scenario_reader.specs.Blocks.{block_in, blocks_in, period_in}
-use Rattle.scenario_reader.specs.Hooks.{hook_in, hook_list_in, hooks_in, is_hook_text, whole_of}
-use Rattle.scenario_reader.specs.Scenarios.{head_in, keys_in, one_in}
-use Rattle.scenario_dump.specs.Texts.{aliases_data, blocks_data, count_data, dump_data, filters_data, hook_data, hooks_data, items_of, list_data}
-use Rattle.server_model.specs.Worlds.{World}
+use Rattle.dump_laws.proofs.Prelude.{Alias, All-head, All-tail, Block, ClusterFilters, FilterTexts, HavePatterns, Head, Hook, Hooks, Scenario, World}
+use Rattle.dump_laws.proofs.Prelude.{alias_in, aliases_data, aliases_in, block_in, blocks_data, blocks_in, count_data, dump_data, each_from}
+use Rattle.dump_laws.proofs.Prelude.{each_member, filter_in, filters_data, filters_in, form_of, has_pattern, head_in, hook_data, hook_in}
+use Rattle.dump_laws.proofs.Prelude.{hook_list_in, hooks_data, hooks_in, is_hook_text, items_of, keys_in, label_or_fails, le-leb, list_data, list_in}
+use Rattle.dump_laws.proofs.Prelude.{object, one_in, period_in, string, whole_of}
 use Rattle.dump_laws.proofs.ReadData.{Rise}
 use Rattle.dump_laws.proofs.Values.{number-reads}
 

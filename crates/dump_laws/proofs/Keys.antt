@@ -1,16 +1,9 @@
 -- What stands at a key of an object whose members are there or not, and what is read of it.
 use Rattle.std.proofs.Common.{◌≡◌, ◌∙◌, ℕ, Bool, true, false, List, [], ◌∷◌, Option, Some, None, Result, Ok, IfSome, refl, sym, ap}
 use Rattle.std.specs.Prelude.{◌&&◌, ◌||◌, is_none, if◌then◌else◌, option_map}
-use Rattle.std.specs.Option.{option_or}
-use Rattle.std.specs.Ordering.{nat_cmp, match_ordering}
-use Rattle.std.specs.Cmp.Lexicographic.{slice_cmp}
-use Rattle.std.specs.declared.cmp.Ordering.{Ordering}
-use Rattle.std.specs.declared.cmp.Ordering.TheVariants.{Less, Equal, Greater}
-use Rattle.serde_json.specs.Data.{Data, Members, no_members}
-use Rattle.serde_json.specs.Find.{get, get_member}
-use Rattle.scenario_values.specs.declared.fault.Fault.{Fault}
-use Rattle.scenario_values.specs.Faults.{is_key, maybe, maybe_in, needed, needed_in, only_keys, optional, optional_in, under}
-use Rattle.scenario_dump.specs.Texts.{member_for, member_if}
+use Rattle.dump_laws.proofs.Prelude.{Data, Equal, Fault, Greater, Less, Members, Ordering, get, get_member, is_key, match_ordering, maybe, maybe_in}
+use Rattle.dump_laws.proofs.Prelude.{member_for, member_if, nat_cmp, needed, needed_in, no_members, only_keys, option_or, optional, optional_in}
+use Rattle.dump_laws.proofs.Prelude.{slice_cmp, under}
 
 -- a key, and the value that stands there, if any
 abbrev pub Field : Type 0
@@ -34,12 +27,10 @@ value_at key [] = None
 value_at key (r ∷ rs) = match_ordering (slice_cmp nat_cmp key r.0) (value_at key rs) (option_or r.1 (value_at key rs)) (value_at key rs)
 
 get-for : (key k : List ℕ) (c : Ordering) (o r : Option Data) (ms : Members) → slice_cmp nat_cmp key k ≡ c → get_member key ms ≡ r → get_member key (member_for k o ms) ≡ match_ordering c r (option_or o r) r
-get-for key k Less None r ms is rest = rest
 get-for key k Less (Some d) r ms is rest = rw is rest
-get-for key k Equal None r ms is rest = rest
 get-for key k Equal (Some d) r ms is rest = rw is refl
-get-for key k Greater None r ms is rest = rest
 get-for key k Greater (Some d) r ms is rest = rw is rest
+get-for key k _ _ r ms is rest = rest
 
 pub get-members_of : (key : List ℕ) (rs : List Field) → get_member key (members_of rs) ≡ value_at key rs
 get-members_of key [] = refl

@@ -1,18 +1,9 @@
 -- All listed servers read as they were written, and are the servers of an opening again.
 use Rattle.std.proofs.Common.{◌≡◌, ◌∙◌, ◌+◌, ℕ, zero, suc, Bool, true, false, List, [], ◌∷◌, map, Option, Some, None, Ok, refl, sym, ap, subst, arith, leb}
 use Rattle.std.specs.Prelude.{codes, is_some, not, option_and_then, slice_get, unwrap_or}
-use Rattle.std.proofs.lemmas.Bool.{le-leb}
-use Rattle.serde_json.specs.Find.{as_str, get}
-use Rattle.orch_base.specs.Names.{name_at}
-use Rattle.orch_base.proofs.RoundTrip.{printed_reads_lem}
-use Rattle.openings.specs.declared.init.ServerInit.{ServerInit}
-use Rattle.openings.specs.Opening.{IsListed, opening}
-use Rattle.scenario_values.specs.Faults.{each_from, item_count}
-use Rattle.scenario_servers.specs.declared.given.Given.{Given}
-use Rattle.scenario_servers.specs.Names.{listed_name, listed_names, listed_uuids, read_name, read_uuid, uuid_at}
-use Rattle.scenario_servers.specs.Openings.{init_under, inits_from, inits_of}
-use Rattle.scenario_servers.specs.Servers.{listed_in, server_in, servers_in}
-use Rattle.scenario_dump.specs.Texts.{items_of, list_data, server_data}
+use Rattle.dump_laws.proofs.Prelude.{Given, IsListed, ServerInit, as_str, each_from, get, init_under, inits_from, inits_of, item_count, items_of}
+use Rattle.dump_laws.proofs.Prelude.{le-leb, list_data, listed_in, listed_name, listed_names, listed_uuids, name_at, opening, printed_reads_lem}
+use Rattle.dump_laws.proofs.Prelude.{read_name, read_uuid, server_data, server_in, servers_in, uuid_at}
 use Rattle.dump_laws.proofs.Found.{listed_names_of, listed_uuids_of}
 use Rattle.dump_laws.proofs.Keys.{given}
 use Rattle.dump_laws.proofs.Parts.{items-count}

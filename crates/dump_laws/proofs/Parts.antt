@@ -1,19 +1,9 @@
 -- Histories and flush points read as they were written.
 use Rattle.std.proofs.Common.{◌≡◌, ◌<◌, ◌≤◌, ℕ, zero, suc, ◌+◌, true, List, [], ◌∷◌, length, All, Some, Ok, refl, arith, leb}
 use Rattle.std.specs.Prelude.{slice_get}
-use Rattle.std.proofs.lemmas.Bool.{le-leb}
-use Rattle.std.proofs.lemmas.List.Elements.{All-head, All-tail}
-use Rattle.serde_json.specs.Data.{Data, string}
-use Rattle.orch_base.specs.declared.server.ServerNo.{ServerNo}
-use Rattle.orch_base.specs.Names.{IsName}
-use Rattle.openings.specs.declared.init.ServerInit.{ServerInit}
-use Rattle.openings.specs.declared.part.Part.{Part}
-use Rattle.openings.specs.Opening.{IsPart}
-use Rattle.scenario_values.specs.Faults.{each_from, item_count}
-use Rattle.scenario_values.specs.Values.{whole_in}
-use Rattle.scenario_servers.specs.Names.{server_named}
-use Rattle.scenario_servers.specs.Servers.{flushes_in, history_in, part_in}
-use Rattle.scenario_dump.specs.Texts.{count_data, items_of, list_data, name_text, part_data}
+use Rattle.dump_laws.proofs.Prelude.{All-head, All-tail, Data, IsName, IsPart, Part, ServerInit, ServerNo, count_data, each_from, flushes_in}
+use Rattle.dump_laws.proofs.Prelude.{history_in, item_count, items_of, le-leb, list_data, name_text, part_data, part_in, server_named, string}
+use Rattle.dump_laws.proofs.Prelude.{whole_in}
 use Rattle.dump_laws.proofs.Found.{NamesApart, listed_names_of, server-named}
 use Rattle.dump_laws.proofs.Values.{number-reads, whole-reads}
 

@@ -1,23 +1,12 @@
 -- What a JSON text that is UTF-8 reads as: strings and keys are UTF-8, and the keys of each object rise.
 use Rattle.std.proofs.Common.{◌≡◌, ◌∙◌, ◌<◌, ℕ, zero, suc, List, [], ◌∷◌, map, All, Option, Some, None, Result, Ok, Err, option_map, option_and_then, IsUtf8, refl, sym, ap, subst, arith}
 use Rattle.std.specs.Prelude.{⊤, slice_get}
-use Rattle.std.specs.Cmp.Lexicographic.{slice_cmp}
-use Rattle.std.specs.Ordering.{match_ordering, nat_cmp, ordering_reverse}
-use Rattle.std.specs.declared.cmp.Ordering.{Ordering}
-use Rattle.std.specs.declared.cmp.Ordering.TheVariants.{Less, Equal, Greater}
-use Rattle.std.proofs.lemmas.Cmp.{nat_list_cmp_total}
-use Rattle.std.proofs.lemmas.List.Elements.{All-cons, All-nil}
-use Rattle.std.proofs.lemmas.Option.{same_Some}
-use Rattle.json.specs.Json as json
-use Rattle.json.specs.Lex.{tokens}
-use Rattle.json.specs.Token.{Token}
-use Rattle.serde_json.specs.Data.{Data, null, boolean, number, string, array, object, Items, no_items, item, Members, no_members, member, put}
-use Rattle.serde_json.specs.Find.{get, get_member}
-use Rattle.serde_json.specs.Read.{max_depth, number_of, of_items, of_json, of_members, read}
-use Rattle.scenario_values.specs.declared.fault.Fault.{Fault}
-use Rattle.scenario_values.specs.Faults.{each_from, each_member, optional, maybe, optional_in, maybe_in, under}
-use Rattle.scenario_values.specs.Values.{items_in, members_in, text_in}
-use Rattle.scenario_servers.proofs.Steps.{bind-ok, each_from-ok, same_Ok, under-ok}
+use Rattle.dump_laws.proofs.Prelude.{All-cons, All-nil, Data, Equal, Fault, Greater, Items, Less, Members, Ordering, Token, array, bind-ok, boolean}
+use Rattle.dump_laws.proofs.Prelude.{each_from, each_from-ok, each_member, get, get_member, item, items_in, match_ordering, max_depth, maybe}
+use Rattle.dump_laws.proofs.Prelude.{maybe_in, member, members_in, nat_cmp, nat_list_cmp_total, no_items, no_members, null, number, number_of, object}
+use Rattle.dump_laws.proofs.Prelude.{of_items, of_json, of_members, optional, optional_in, ordering_reverse, put, read, same_Ok, same_Some, slice_cmp}
+use Rattle.dump_laws.proofs.Prelude.{string, text_in, tokens, under, under-ok}
+use Rattle.dump_laws.proofs.Prelude.json
 use Rattle.dump_laws.proofs.Tokens.{JsonItemsUtf8, JsonUtf8, JsonMembersUtf8, tokens-texts, value-texts}
 
 -- a key before each of these

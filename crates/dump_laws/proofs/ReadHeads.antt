@@ -1,28 +1,11 @@
 -- What was read of a scenario reads back: what it says before its servers, its filters' answers, and its settings.
 use Rattle.std.proofs.Common.{◌≡◌, ◌∙◌, ◌≤◌, ℕ, Bool, true, false, leb, List, [], map, All, Ok, Option, Some, None, IsUtf8, refl, sym, ap, subst, arith}
 use Rattle.std.specs.Prelude.{codes, decimal, if◌then◌else◌}
-use Rattle.std.proofs.lemmas.Bool.{leb-true}
-use Rattle.std.proofs.lemmas.List.Elements.{All-cons, All-nil}
-use Rattle.json.proofs.Printed.Utf8.{IsUtf8-are_ascii}
-use Rattle.serde_json.specs.Data.{Data, Items, no_items, item}
-use Rattle.cluster_filters.specs.Forms.{form_of, has_pattern}
-use Rattle.hook_texts.specs.Hooks.{no_hooks}
-use Rattle.hook_texts.specs.declared.hooks.Hook.{Hook}
-use Rattle.hook_texts.specs.declared.hooks.Hooks.{Hooks}
-use Rattle.scenarios.specs.declared.blocks.Block.{Block}
-use Rattle.scenarios.specs.declared.filters.Alias.{Alias}
-use Rattle.scenario_values.specs.declared.fault.FaultCode.TheVariants.{BadHook, BadPattern}
-use Rattle.scenario_values.specs.Faults.{fails, holds, only_keys, optional}
-use Rattle.scenario_values.specs.Values.{items_in, label_or_fails, members_in, number_in, text_in, text_within}
-use Rattle.scenario_servers.proofs.Steps.{bind-ok, holds-ok, number-ok, same_Ok, under-ok}
-use Rattle.scenario_filters.specs.declared.filters.FilterTexts.{FilterTexts}
-use Rattle.scenario_filters.specs.Aliases.{alias_in, aliases_in}
-use Rattle.scenario_filters.specs.Filters.{everything, filter_in, filter_keys, filters_in, list_in, no_filters}
-use Rattle.scenario_reader.specs.declared.head.Head.{Head}
-use Rattle.scenario_reader.specs.Blocks.{block_in, blocks_in, period_in}
-use Rattle.scenario_reader.specs.Scenarios.{head_in}
-use Rattle.scenario_reader.specs.Hooks.{exit_or_fails, hook_in, hook_list_in, hooks_in, two_of}
-use Rattle.scenario_reader.proofs.Parts.{head-ok, hook-ok, hooks-ok}
+use Rattle.dump_laws.proofs.Prelude.{Alias, All-cons, All-nil, BadHook, BadPattern, Block, Data, FilterTexts, Head, Hook, Hooks, IsUtf8-are_ascii}
+use Rattle.dump_laws.proofs.Prelude.{Items, alias_in, aliases_in, bind-ok, block_in, blocks_in, everything, exit_or_fails, fails, filter_in}
+use Rattle.dump_laws.proofs.Prelude.{filter_keys, filters_in, form_of, has_pattern, head-ok, head_in, holds, holds-ok, hook-ok, hook_in, hook_list_in}
+use Rattle.dump_laws.proofs.Prelude.{hooks-ok, hooks_in, item, items_in, label_or_fails, leb-true, list_in, members_in, no_filters, no_hooks}
+use Rattle.dump_laws.proofs.Prelude.{no_items, number-ok, number_in, only_keys, optional, period_in, same_Ok, text_in, text_within, two_of, under-ok}
 use Rattle.dump_laws.proofs.Heads.{IsAlias, IsBlock, IsHookText, AreHookTexts}
 use Rattle.dump_laws.proofs.ReadData as got
 use Rattle.dump_laws.proofs.ReadData.{IsAt, IsFromText, Rise, each-item, each-value, got-read, items-are, ItemsFromText, members-are, optional-at, text-is, values-rise}

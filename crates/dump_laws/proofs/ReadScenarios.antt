@@ -1,22 +1,9 @@
 -- A scenario that was read reads back.
 use Rattle.std.proofs.Common.{◌≡◌, ℕ, Bool, true, false, List, length, Option, Some, None, Ok, refl, sym, subst, leb}
 use Rattle.std.specs.Prelude.{codes, if◌then◌else◌, slice_get}
-use Rattle.std.specs.Str.{is_utf8}
-use Rattle.std.proofs.lemmas.Str.{IsUtf8-from_is_utf8}
-use Rattle.serde_json.specs.Data.{Data, Items}
-use Rattle.serde_json.specs.Read.{read}
-use Rattle.openings.specs.declared.init.ServerInit.{ServerInit}
-use Rattle.orch_base.specs.declared.source.TheConstants.{MAX_SCENARIO_LEN}
-use Rattle.orch_base.specs.Names.{HostPort}
-use Rattle.scenarios.specs.declared.scenario.Scenario.{Scenario}
-use Rattle.scenario_values.specs.declared.fault.FaultCode.TheVariants.{NotJson, TooLong}
-use Rattle.scenario_values.specs.Faults.{holds}
-use Rattle.scenario_servers.specs.declared.given.Given.{Given}
-use Rattle.scenario_servers.specs.Openings.{inits_of}
-use Rattle.scenario_servers.proofs.Steps.{bind-ok, or_fails-ok}
-use Rattle.scenario_reader.specs.declared.head.Head.{Head}
-use Rattle.scenario_reader.specs.Scenarios.{json_in, scenario_from, scenario_in, scenario_with}
-use Rattle.scenario_reader.proofs.Parts.{from-ok, made_of, opening-same, with-ok}
+use Rattle.dump_laws.proofs.Prelude.{Data, Given, Head, HostPort, IsUtf8-from_is_utf8, Items, MAX_SCENARIO_LEN, NotJson, Scenario, ServerInit}
+use Rattle.dump_laws.proofs.Prelude.{TooLong, bind-ok, from-ok, holds, inits_of, is_utf8, json_in, made_of, opening-same, or_fails-ok, read}
+use Rattle.dump_laws.proofs.Prelude.{scenario_from, scenario_in, scenario_with, with-ok}
 use Rattle.dump_laws.proofs.Heads.{SaysReadable}
 use Rattle.dump_laws.proofs.ReadData.{IsFromText, got-read, text-read}
 use Rattle.dump_laws.proofs.ReadHeads.{IsHead, head-has}

@@ -1,28 +1,16 @@
 -- The settings of servers that were read have texts that read back.
 use Rattle.std.proofs.Common.{◌≡◌, ◌∙◌, ◌<◌, ◌≤◌, ◌^◌, ◌+◌, ◌⊎◌, inl, inr, ℕ, zero, suc, Bool, true, false, List, [], ◌∷◌, length, Option, Some, None, Ok, IfSome, refl, sym, subst, arith}
 use Rattle.std.specs.Prelude.{◌&&◌, codes, get_or, if◌then◌else◌, nat_le, slice_get, take, unwrap_or}
-use Rattle.std.specs.List.{list_any}
-use Rattle.std.proofs.lemmas.Bool.{and_parts, leb-true}
-use Rattle.std.proofs.lemmas.Str.{IsUtf8-nil}
-use Rattle.std.proofs.lemmas.Option.{same_Some, slice_get_cases, slice_get_within}
-use Rattle.serde_json.specs.Data.{Data, Items, item, no_items}
-use Rattle.serde_json.specs.Find.{get, get_item}
-use Rattle.orch_base.specs.declared.server.ServerNo.{ServerNo}
-use Rattle.orch_base.specs.declared.server.Version.{Version}
-use Rattle.orch_base.specs.Gives.{◌>>=◌}
-use Rattle.orch_base.specs.Names.{HostPort, IsName, printed}
-use Rattle.openings.specs.declared.init.ServerInit.{ServerInit}
-use Rattle.openings.specs.Servers.{follow_on, number_of, reached_from}
-use Rattle.scenario_values.specs.declared.fault.FaultCode.TheVariants.{BadNumber, DuplicateName, DuplicateUuid}
-use Rattle.scenario_values.specs.Faults.{each_from, fails, holds, item_count}
-use Rattle.scenario_values.specs.Values.{items_in, label_in, name_in, number_in, short_in, version_in}
-use Rattle.scenario_servers.specs.declared.given.Given.{Given}
-use Rattle.scenario_servers.specs.declared.given.Identity.{Identity}
-use Rattle.scenario_servers.specs.Names.{first_named, has_uuid, is_earlier, listed_names, listed_uuids, new_uuid, own_name, own_uuid, server_named, uuid_at}
-use Rattle.scenario_servers.specs.Openings.{init_of, inits_from, inits_of, label_at, label_of, root_in, settings_of, source_in}
-use Rattle.scenario_servers.specs.Servers.{default_version, listed_in, server_in, servers_in}
-use Rattle.scenario_servers.proofs.ServerSteps.{ReadsIdentity, named-ok, server-ok}
-use Rattle.scenario_servers.proofs.Steps.{Same, bind-ok, each_from-get, each_from-length, holds-ok, maybe-ok, needed-ok, number-ok, optional-ok, same_Ok, under-ok}
+use Rattle.dump_laws.proofs.Prelude.{BadNumber, Data, DuplicateName, DuplicateUuid, Given, HostPort, Identity, IsName, IsUtf8-nil, Items}
+use Rattle.dump_laws.proofs.Prelude.{ReadsIdentity, Same, ServerInit, ServerNo, Version, and_parts, bind-ok, default_version, each_from}
+use Rattle.dump_laws.proofs.Prelude.{each_from-get, each_from-length, fails, first_named, follow_on, get, get_item, has_uuid, holds, holds-ok}
+use Rattle.dump_laws.proofs.Prelude.{inits_from, inits_of, is_earlier, item, item_count, items_in, label_at, label_in, label_of, leb-true, list_any}
+use Rattle.dump_laws.proofs.Prelude.{listed_in, listed_names, listed_uuids, maybe-ok, name_in, named-ok, needed-ok, new_uuid, no_items, number-ok}
+use Rattle.dump_laws.proofs.Prelude.{number_in, optional-ok, own_name, own_uuid, printed, reached_from, root_in, same_Ok, same_Some, server-ok}
+use Rattle.dump_laws.proofs.Prelude.{server_in, server_named, servers_in, short_in, slice_get_cases, slice_get_within, under-ok, uuid_at, version_in}
+use Rattle.dump_laws.proofs.Prelude.Openings.{init_of, settings_of, source_in}
+use Rattle.dump_laws.proofs.Prelude.Servers.{number_of}
+use Rattle.scenario_reader.specs.OrchBase.Gives.{◌>>=◌}
 use Rattle.dump_laws.proofs.Heads.{IsLabel}
 use Rattle.dump_laws.proofs.ReadData as got
 use Rattle.dump_laws.proofs.ReadData.{IsAt, IsMaybe, IsFromText, ItemsFromText, got-read, items-are, maybe-at, optional-at}

@@ -1,27 +1,12 @@
 -- What is read of single values is in its range.
 use Rattle.std.proofs.Common.{◌≡◌, ◌<◌, ◌≤◌, ◌^◌, ◌+◌, ◌*◌, ◌==◌, ℕ, Bool, true, false, List, ◌∷◌, length, get_or, Option, Some, None, Result, Ok, Err, IsUtf8, refl, ap, subst, arith, leb, decimal}
 use Rattle.std.specs.Prelude.{◌&&◌, if◌then◌else◌}
-use Rattle.std.specs.Int.{from_be_bytes, w128}
-use Rattle.std.specs.List.{before_first, list_all}
-use Rattle.std.specs.Str.{all_ascii_digits}
-use Rattle.std.specs.Str.Parse.{digits_value}
-use Rattle.std.proofs.lemmas.Bool.{eqb-true, leb-true}
-use Rattle.std.proofs.lemmas.Bool.Decides.{nat_tests}
-use Rattle.std.proofs.lemmas.Fmt.{length-decimal-le}
-use Rattle.std.proofs.lemmas.List.{length-append}
-use Rattle.std.proofs.lemmas.List.Sums.{AllPass-from_list_all}
-use Rattle.std.proofs.lemmas.Option.{same_Some}
-use Rattle.uuid.specs.Text.{by_index, byte_of_digits, digits_of, has_hyphens, is_hex_digit, parsed_hyphenated, parsed_simple, value_of}
-use Rattle.serde_json.specs.Data.{Data}
-use Rattle.orch_base.specs.declared.name.NameFault.{NameFault}
-use Rattle.orch_base.specs.declared.server.Version.{Version}
-use Rattle.orch_base.specs.Names.{HostPort, IsName, host_at, host_of, name_at, port_at, port_of, printed}
-use Rattle.orch_base.proofs.ReadNames.{read_is_name}
-use Rattle.scenario_values.specs.declared.fault.FaultCode.TheVariants.{BadNumber}
-use Rattle.scenario_values.specs.Faults.{fails}
-use Rattle.scenario_values.specs.Values.{behind_dot, is_dot, label_in, label_or_fails, name_in, name_or_fails, short_in, text_in, text_within, uuid_in, uuid_or_fails, version_at, version_in, version_of, version_part}
-use Rattle.scenario_servers.proofs.Printed.{printed_is_utf8}
-use Rattle.scenario_servers.proofs.Steps.{Same, bind-ok, same_Ok}
+use Rattle.dump_laws.proofs.Prelude.{AllPass-from_list_all, BadNumber, Data, HostPort, IsName, NameFault, Same, Version, all_ascii_digits}
+use Rattle.dump_laws.proofs.Prelude.{before_first, behind_dot, bind-ok, by_index, byte_of_digits, digits_of, digits_value, eqb-true, fails}
+use Rattle.dump_laws.proofs.Prelude.{from_be_bytes, has_hyphens, host_at, host_of, is_dot, is_hex_digit, label_in, label_or_fails, leb-true}
+use Rattle.dump_laws.proofs.Prelude.{length-append, length-decimal-le, list_all, name_at, name_in, name_or_fails, nat_tests, parsed_hyphenated}
+use Rattle.dump_laws.proofs.Prelude.{parsed_simple, port_at, port_of, printed, printed_is_utf8, read_is_name, same_Ok, same_Some, short_in, text_in}
+use Rattle.dump_laws.proofs.Prelude.{text_within, uuid_in, uuid_or_fails, value_of, version_at, version_in, version_of, version_part, w128}
 use Rattle.dump_laws.proofs.Heads.{IsLabel}
 use Rattle.dump_laws.proofs.ReadData.{IsFromText, text-is}
 use Rattle.dump_laws.proofs.Values.{IsVersion}
@@ -93,9 +78,7 @@ printed-label name is =
 
 part-passed : (a b c : Bool) (v k : ℕ) → (if a && b && c then Some v else None) ≡ Some k → (c ≡ true) × (v ≡ k)
 part-passed true true true v k e = (refl, same_Some v k e)
-part-passed true true false v k e = absurd (cc)
-part-passed true false c v k e = absurd (cc)
-part-passed false b c v k e = absurd (cc)
+part-passed _ _ _ v k e = absurd (cc)
 
 part-small : (digits : List ℕ) (k : ℕ) → version_part digits ≡ Some k → k ≤ 65535
 part-small digits k e =
@@ -108,9 +91,7 @@ version-from : (a b c : Option ℕ) (v : Version) → version_of a b c ≡ Ok v 
 version-from (Some a) (Some b) (Some c) v e first second third =
     let same : record { major = a; minor = b; patch = c } ≡ v = cc in
     subst IsVersion same (record { major = first a refl; minor = second b refl; patch = third c refl })
-version-from (Some a) (Some b) None v e first second third = absurd (cc)
-version-from (Some a) None c v e first second third = absurd (cc)
-version-from None b c v e first second third = absurd (cc)
+version-from _ _ _ v e first second third = absurd (cc)
 
 pub version-ok : (d : Data) (v : Version) → version_in d ≡ Ok v → IsVersion v
 unfolding version_in

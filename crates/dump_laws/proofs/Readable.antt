@@ -1,18 +1,8 @@
 -- The servers of a dump have texts that read back.
 use Rattle.std.proofs.Common.{◌≡◌, ◌∙◌, ℕ, zero, suc, true, List, [], ◌∷◌, map, Option, Some, None, IfSome, refl, sym, ap, subst}
 use Rattle.std.specs.Prelude.{slice_get}
-use Rattle.std.proofs.lemmas.Option.{same_Some}
-use Rattle.openings.specs.declared.init.ServerInit.{ServerInit}
-use Rattle.openings.specs.Opening.{IsChecked}
-use Rattle.orch_base.specs.declared.server.ServerNo.{ServerNo}
-use Rattle.binlog_coords.specs.declared.Coord.{Coord}
-use Rattle.scenarios.specs.declared.scenario.Scenario.{Scenario}
-use Rattle.scenarios.specs.Scenarios.{settings_of}
-use Rattle.scenario_dump.specs.Reading.{IsWorldOf}
-use Rattle.scenario_dump.specs.Servers.{init_by, init_of, opening_of, source_in}
-use Rattle.scenario_dump.specs.Tidy.{CanPrint, IsTidy, IsWritten}
-use Rattle.server_model.specs.declared.server.Server.{Server}
-use Rattle.server_model.specs.Worlds.{World}
+use Rattle.dump_laws.proofs.Prelude.{CanPrint, Coord, IsChecked, IsTidy, IsWorldOf, IsWritten, Scenario, Server, ServerInit, ServerNo, World, init_by}
+use Rattle.dump_laws.proofs.Prelude.{init_of, opening_of, same_Some, settings_of, source_in}
 use Rattle.dump_laws.proofs.Listed.{AllReadBack}
 use Rattle.dump_laws.proofs.Servers.{SettingsReadBack, Reads}
 use Rattle.dump_laws.proofs.Sizes.{purged-low}

@@ -1,25 +1,11 @@
 -- A listed server reads as it was written.
 use Rattle.std.proofs.Common.{◌≡◌, ◌∙◌, ◌<◌, ◌≤◌, ◌^◌, ℕ, ◌+◌, Bool, true, false, List, [], length, Option, Some, None, Ok, All, IfSome, IsUtf8, refl, ap}
 use Rattle.std.specs.Prelude.{codes, is_some, slice_get, unwrap_or}
-use Rattle.serde_json.specs.Data.{Data, boolean, string}
-use Rattle.serde_json.specs.Find.{get}
-use Rattle.binlog_coords.specs.declared.Coord.{Coord}
-use Rattle.orch_base.specs.declared.server.ServerNo.{ServerNo}
-use Rattle.orch_base.specs.declared.server.Settings.{Settings}
-use Rattle.orch_base.specs.Names.{IsName}
-use Rattle.openings.specs.declared.init.ServerInit.{ServerInit}
-use Rattle.openings.specs.declared.part.Part.{Part}
-use Rattle.openings.specs.Opening.{IsPart, IsServer}
-use Rattle.scenario_values.specs.Faults.{maybe, needed, optional, optional_in}
-use Rattle.scenario_values.specs.Values.{bool_in, coord_in, label_in, members_in, number_in, short_in, version_in, whole_in}
-use Rattle.scenario_servers.specs.declared.given.Given.{Given}
-use Rattle.scenario_servers.specs.declared.given.Identity.{Identity}
-use Rattle.scenario_servers.specs.declared.given.Replication.{Replication}
-use Rattle.scenario_servers.specs.declared.given.Setup.{Setup}
-use Rattle.scenario_servers.specs.Names.{own_name, own_uuid, server_named}
-use Rattle.scenario_servers.specs.Rules.{rule_in}
-use Rattle.scenario_servers.specs.Servers.{auto_in, default_version, flushes_in, has_source, history_in, identity_in, replication_in, server_from, server_in, setup_in}
-use Rattle.scenario_dump.specs.Texts.{coord_data, count_data, list_data, name_text, part_data, server_data}
+use Rattle.dump_laws.proofs.Prelude.{Coord, Data, Given, Identity, IsName, IsPart, IsServer, Part, Replication, ServerInit, ServerNo, Settings, Setup}
+use Rattle.dump_laws.proofs.Prelude.{auto_in, bool_in, boolean, coord_data, coord_in, count_data, default_version, flushes_in, get, has_source}
+use Rattle.dump_laws.proofs.Prelude.{history_in, identity_in, label_in, list_data, maybe, members_in, name_text, needed, number_in, optional}
+use Rattle.dump_laws.proofs.Prelude.{optional_in, own_name, own_uuid, part_data, replication_in, rule_in, server_data, server_from, server_in}
+use Rattle.dump_laws.proofs.Prelude.{server_named, setup_in, short_in, string, version_in, whole_in}
 use Rattle.dump_laws.proofs.Found.{NamesApart, UuidsApart, listed_names_of, own-name, own-uuid, listed_uuids_of}
 use Rattle.dump_laws.proofs.Keys.{given, maybe-None, maybe-Ok, maybe-when, members_of, needed-Ok, optional-Ok, optional-when, or_none, value_at}
 use Rattle.dump_laws.proofs.Parts.{HaveNames, flushes-read, history-reads, number-named}

@@ -1,15 +1,8 @@
 -- How much the servers of an opening have executed, and how many files their logs have.
 use Rattle.std.proofs.Common.{◌≡◌, ◌≤◌, ℕ, length, All, Some, ap, arith}
 use Rattle.std.specs.Prelude.{slice_get}
-use Rattle.openings.specs.declared.init.ServerInit.{ServerInit}
-use Rattle.openings.specs.Opening.{IsChecked, Opened}
-use Rattle.openings.specs.Servers.{count_of, history_at, log_at, log_by, log_in, root_of}
-use Rattle.openings.specs.Taking.{PartsInRange}
-use Rattle.openings.proofs.Laid.{good-points}
-use Rattle.openings.proofs.Sizes.{history_at-sized, length-history_at, parts_at-few}
-use Rattle.openings.proofs.Soundness.{sound_checked}
-use Rattle.opening_checks.proofs.Flawed.{in_range}
-use Rattle.world_openings.proofs.LaidLogs.{IsLaid, IsLaid-log_by}
+use Rattle.dump_laws.proofs.Prelude.{IsChecked, IsLaid, IsLaid-log_by, Opened, PartsInRange, ServerInit, count_of, good-points, history_at}
+use Rattle.dump_laws.proofs.Prelude.{history_at-sized, in_range, length-history_at, log_at, log_by, log_in, parts_at-few, root_of, sound_checked}
 
 module _ (o : Opened) (checked : IsChecked o) where
   ranges : PartsInRange o.servers

@@ -1,15 +1,8 @@
 -- A dump's numbers have 64 bits, its labels rise, and its texts are UTF-8.
 use Rattle.std.proofs.Common.{◌≡◌, ◌<◌, ◌≤◌, ◌^◌, ℕ, List, map, All, Option, Some, None, get_or, refl, ap, arith}
 use Rattle.std.specs.Prelude.{slice_get}
-use Rattle.std.proofs.lemmas.Option.{slice_get-get_or}
-use Rattle.openings.specs.declared.init.ServerInit.{ServerInit}
-use Rattle.openings.specs.Opening.{IsChecked}
-use Rattle.openings.specs.Servers.{count_of, count_under}
-use Rattle.orch_base.specs.declared.server.ServerNo.{ServerNo}
-use Rattle.scenarios.specs.declared.scenario.Scenario.{Scenario}
-use Rattle.scenario_dump.specs.Promises.{HasNumbers, HasTexts, IsReadable}
-use Rattle.scenario_dump.specs.Servers.{opening_of}
-use Rattle.server_model.specs.Worlds.{World}
+use Rattle.dump_laws.proofs.Prelude.{HasNumbers, HasTexts, IsChecked, IsReadable, Scenario, ServerInit, ServerNo, World, count_of, count_under}
+use Rattle.dump_laws.proofs.Prelude.{opening_of, slice_get-get_or}
 use Rattle.dump_laws.proofs.Heads.{SaysReadable}
 use Rattle.dump_laws.proofs.Listed.{AllReadBack}
 use Rattle.dump_laws.proofs.ReadData.{rise-between}

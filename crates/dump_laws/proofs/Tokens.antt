@@ -1,34 +1,21 @@
 -- The strings and keys of a JSON text that is UTF-8 are UTF-8.
 use Rattle.std.proofs.Common.{◌≡◌, ◌<◌, ◌+◌, ◌==◌, ◌&&◌, ℕ, zero, suc, Bool, true, false, cond, List, [], ◌∷◌, ◌++◌, length, get_or, drop, Option, Some, None, IsUtf8, refl, sym, subst, arith}
-use Rattle.std.specs.List.{starts_with}
+use Rattle.dump_laws.proofs.Prelude.{Class, IsCharBoundary-after_ascii, IsUtf8-drop, Json, Lexeme, Mode, Place, Token, after_number, begins_colon}
+use Rattle.dump_laws.proofs.Prelude.{class, content, ends_word, eqb-true, head, if_allowed, items_tokens, json_tokens, lex, lex_byte, may_begin}
+use Rattle.dump_laws.proofs.Prelude.{may_close, members_tokens, number_before, operator_lexeme, place_token, plain, punctuate, starts_with}
+use Rattle.dump_laws.proofs.Prelude.{string_token, tokens, value, value-json_tokens_back, word}
+use Rattle.dump_laws.proofs.Prelude.ascii
+use Rattle.dump_laws.proofs.Prelude.json
+use Rattle.dump_laws.proofs.Prelude.lexing
+use Rattle.dump_laws.proofs.Prelude.tok
 use Rattle.std.specs.Prelude.{⊤, nat_eq}
-use Rattle.std.proofs.lemmas.Bool.{eqb-true}
-use Rattle.std.proofs.lemmas.Str.{IsCharBoundary-after_ascii, IsUtf8-drop}
-use Rattle.json.specs.Json as json
-use Rattle.json.specs.Json.{Json, value}
-use Rattle.json.specs.Lex as lexing
-use Rattle.json.specs.Lex.{Class, Lexeme, Mode, Place, begins_colon, class, if_allowed, lex, lex_byte, may_begin, may_close, operator_lexeme, place_token, punctuate, string_token, tokens}
-use Rattle.json.specs.Text.{content, plain}
-use Rattle.json.specs.Token as tok
-use Rattle.json.specs.Token.{Token}
-use Rattle.json.specs.Tree.{items_tokens, json_tokens, members_tokens}
-use Rattle.json.specs.Word.{after_number, ends_word, head, number_before, word}
-use Rattle.json.specs.Ascii as ascii
-use Rattle.json.proofs.Unique.Spelling.{value-json_tokens_back}
 use Rattle.dump_laws.proofs.Contents.{Good, content-utf8}
 
 -- a string or a key is UTF-8
 abbrev pub TokenUtf8 : Token → Type 0
-TokenUtf8 tok.begin_object = ⊤
-TokenUtf8 tok.end_object = ⊤
-TokenUtf8 tok.begin_array = ⊤
-TokenUtf8 tok.end_array = ⊤
 TokenUtf8 (tok.key s) = IsUtf8 s
 TokenUtf8 (tok.string s) = IsUtf8 s
-TokenUtf8 (tok.number s) = ⊤
-TokenUtf8 (tok.boolean b) = ⊤
-TokenUtf8 tok.null = ⊤
-TokenUtf8 tok.bad = ⊤
+TokenUtf8 _ = ⊤
 
 abbrev pub TokensUtf8 : List Token → Type 0
 TokensUtf8 [] = ⊤
@@ -94,18 +81,12 @@ byte-texts lexing.in_word lexing.space x xs k quoted rest = rest lexing.between
 byte-texts lexing.in_word lexing.other x xs k quoted rest = rest lexing.in_word
 byte-texts lexing.in_string lexing.quote x xs k quoted rest = rest lexing.between
 byte-texts lexing.in_string lexing.backslash x xs k quoted rest = rest lexing.in_escape
-byte-texts lexing.in_string lexing.operator x xs k quoted rest = rest lexing.in_string
-byte-texts lexing.in_string lexing.space x xs k quoted rest = rest lexing.in_string
-byte-texts lexing.in_string lexing.other x xs k quoted rest = rest lexing.in_string
-byte-texts lexing.in_escape c x xs k quoted rest = rest lexing.in_string
+byte-texts _ _ x xs k quoted rest = rest lexing.in_string
 
 -- a class other than that of a quote
 IsQuote : Class → Type 0
 IsQuote lexing.quote = ⊤
-IsQuote lexing.backslash = ⊥
-IsQuote lexing.operator = ⊥
-IsQuote lexing.space = ⊥
-IsQuote lexing.other = ⊥
+IsQuote _ = ⊥
 
 quote-is : (x : ℕ) → class x ≡ lexing.quote → x ≡ 34
 unfolding IsQuote
@@ -122,10 +103,8 @@ quote-is x e = go (x == 34) (x == 92) _ _ refl (subst IsQuote (sym e) tt)
 
     go : (a b c d : Bool) → (x == 34) ≡ a → IsQuote (cond a lexing.quote (cond b lexing.backslash (cond c lexing.operator (cond d lexing.space lexing.other)))) → x ≡ 34
     go true b c d is q = eqb-true x 34 is
-    go false true c d is q = absurd q
-    go false false true d is q = absurd q
     go false false false true is q = absurd q
-    go false false false false is q = absurd q
+    go _ _ _ _ is q = absurd q
 
 lex-texts : (m : Mode) (xs : List ℕ) → AfterQuotes xs → LexemesUtf8 (lex m xs)
 unfolding lex
@@ -158,8 +137,6 @@ punctuate-texts : (p : Place) (ls : List Lexeme) → LexemesUtf8 ls → TokensUt
 unfolding punctuate
 punctuate-texts lexing.fresh [] all = tt
 punctuate-texts lexing.after_value [] all = tt
-punctuate-texts lexing.after_comma [] all = (tt, tt)
-punctuate-texts lexing.after_key [] all = (tt, tt)
 punctuate-texts lexing.fresh (lexing.token t ∷ ls) all = place-texts lexing.fresh t (begins_colon ls) (λ next. punctuate next ls) all.0 (λ q. punctuate-texts q ls all.1)
 punctuate-texts lexing.after_value (lexing.token t ∷ ls) all = place-texts lexing.after_value t (begins_colon ls) (λ next. punctuate next ls) all.0 (λ q. punctuate-texts q ls all.1)
 punctuate-texts lexing.after_comma (lexing.token t ∷ ls) all = place-texts lexing.after_comma t (begins_colon ls) (λ next. punctuate next ls) all.0 (λ q. punctuate-texts q ls all.1)
@@ -167,11 +144,8 @@ punctuate-texts lexing.after_key (lexing.token t ∷ ls) all = place-texts lexin
 punctuate-texts lexing.fresh (lexing.comma ∷ ls) all = (tt, tt)
 punctuate-texts lexing.after_value (lexing.comma ∷ ls) all = punctuate-texts lexing.after_comma ls all.1
 punctuate-texts lexing.after_comma (lexing.comma ∷ ls) all = (tt, tt)
-punctuate-texts lexing.after_key (lexing.comma ∷ ls) all = (tt, tt)
-punctuate-texts lexing.fresh (lexing.colon ∷ ls) all = (tt, tt)
-punctuate-texts lexing.after_value (lexing.colon ∷ ls) all = (tt, tt)
-punctuate-texts lexing.after_comma (lexing.colon ∷ ls) all = (tt, tt)
 punctuate-texts lexing.after_key (lexing.colon ∷ ls) all = punctuate-texts lexing.fresh ls all.1
+punctuate-texts _ _ all = (tt, tt)
 
 pub tokens-texts : (text : List ℕ) → IsUtf8 text → TokensUtf8 (tokens text)
 tokens-texts text u = punctuate-texts lexing.fresh (lex lexing.between text) (lex-texts lexing.between text (after-quotes text u))
@@ -180,12 +154,10 @@ tokens-texts text u = punctuate-texts lexing.fresh (lex lexing.between text) (le
 
 abbrev mutual
   pub JsonUtf8 : Json → Type 0
-  JsonUtf8 json.null = ⊤
-  JsonUtf8 (json.boolean b) = ⊤
-  JsonUtf8 (json.number s) = ⊤
   JsonUtf8 (json.string s) = IsUtf8 s
   JsonUtf8 (json.array js) = JsonItemsUtf8 js
   JsonUtf8 (json.object ms) = JsonMembersUtf8 ms
+  JsonUtf8 _ = ⊤
 
   pub JsonItemsUtf8 : json.Items → Type 0
   JsonItemsUtf8 json.no_items = ⊤
@@ -205,12 +177,10 @@ texts-rest (t ∷ ts) us all = texts-rest ts us all.1
 
 mutual
   json-texts : (j : Json) → TokensUtf8 (json_tokens j) → JsonUtf8 j
-  json-texts json.null all = tt
-  json-texts (json.boolean b) all = tt
-  json-texts (json.number s) all = tt
   json-texts (json.string s) all = all.0
   json-texts (json.array js) all = items-texts js all.1
   json-texts (json.object ms) all = members-texts ms all.1
+  json-texts _ all = tt
 
   items-texts : (js : json.Items) → TokensUtf8 (items_tokens js) → JsonItemsUtf8 js
   items-texts json.no_items all = tt

@@ -1,29 +1,12 @@
 -- Single values read as they were written.
 use Rattle.std.proofs.Common.{◌≡◌, ◌∙◌, ◌≢◌, ◌<◌, ◌≤◌, ◌^◌, ◌%◌, ◌/◌, ℕ, zero, suc, true, false, List, [], ◌∷◌, ◌++◌, length, get_or, Some, Ok, All, inl, refl, sym, ap, arith, append_assoc, decimal, leb}
-use Rattle.std.specs.Int.{byte_at, bytes_high_first, to_be_bytes, w128}
-use Rattle.std.specs.List.{before_first, position_or_len}
-use Rattle.std.specs.Str.{all_ascii_digits}
-use Rattle.std.specs.Str.Parse.{digits_value}
-use Rattle.std.proofs.lemmas.Bool.{le-leb, ne_eqb}
-use Rattle.std.proofs.lemmas.Fmt.{decimal_nonempty, digits_decimal, digits_value-decimal}
-use Rattle.std.proofs.lemmas.List.{take_at}
-use Rattle.std.proofs.lemmas.Str.Parse.{not_in_digits}
-use Rattle.std.proofs.Math.Seq.{drop-append-add}
-use Rattle.uuid.specs.Text.{lower}
-use Rattle.uuid.proofs.RoundTrips.{parses_hyphenated_text}
-use Rattle.uuid.proofs.OrderLemmas.{from_be_bytes-to_be_bytes_16}
-use Rattle.serde_json.specs.Data.{string}
-use Rattle.binlog_coords.specs.declared.Coord.{Coord}
-use Rattle.binlog_coords.specs.Grammar.{HasText, coord_at}
-use Rattle.binlog_coords.specs.Text.{coord_text}
-use Rattle.gtid_sets.specs.Printed.{uuid_text}
-use Rattle.orch_base.specs.declared.server.Version.{Version}
-use Rattle.orch_base.specs.Names.{HostPort, IsName, printed}
-use Rattle.orch_base.proofs.NameLemmas.{own}
-use Rattle.orch_base.proofs.RoundTrip as names
-use Rattle.scenario_values.specs.Values.{behind_dot, coord_in, coord_or_fails, is_dot, label_in, name_in, name_or_fails, number_in, short_in, uuid_in, uuid_or_fails, version_in, version_of, version_part, whole_in, within}
-use Rattle.scenario_dump.specs.Texts.{coord_data, count_data, version_text}
-use Rattle.scenario_dump.specs.Tidy.{IsWritten}
+use Rattle.dump_laws.proofs.Prelude.{Coord, HasText, HostPort, IsName, IsWritten, Version, all_ascii_digits, before_first, behind_dot, byte_at}
+use Rattle.dump_laws.proofs.Prelude.{bytes_high_first, coord_at, coord_data, coord_in, coord_or_fails, coord_text, count_data, decimal_nonempty}
+use Rattle.dump_laws.proofs.Prelude.{digits_decimal, digits_value, digits_value-decimal, drop-append-add, from_be_bytes-to_be_bytes_16, is_dot}
+use Rattle.dump_laws.proofs.Prelude.{label_in, le-leb, lower, name_in, name_or_fails, ne_eqb, not_in_digits, number_in, own, parses_hyphenated_text}
+use Rattle.dump_laws.proofs.Prelude.{position_or_len, printed, short_in, string, take_at, to_be_bytes, uuid_in, uuid_or_fails, uuid_text, version_in}
+use Rattle.dump_laws.proofs.Prelude.{version_of, version_part, version_text, w128, whole_in, within}
+use Rattle.dump_laws.proofs.Prelude.names
 
 pub number-reads : (low high n : ℕ) → low ≤ n → n ≤ high → number_in low high (count_data n) ≡ Ok n
 unfolding number_in whole_in

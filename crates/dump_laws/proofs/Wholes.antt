@@ -1,25 +1,9 @@
 -- A dump's value reads as the scenario that it tells.
 use Rattle.std.proofs.Common.{◌≡◌, ◌∙◌, ◌+◌, ◌≤◌, ℕ, Bool, true, List, [], ◌∷◌, length, map, Option, Some, None, Ok, refl, sym, ap, arith, leb}
-use Rattle.std.proofs.lemmas.Bool.{le-leb}
-use Rattle.serde_json.specs.Data.{no_items}
-use Rattle.cluster_filters.specs.Forms.{forms_of, some_matches}
-use Rattle.openings.specs.declared.init.ServerInit.{ServerInit}
-use Rattle.openings.specs.Opening.{IsChecked, IsListed, opening}
-use Rattle.orch_base.specs.declared.server.Settings.{Settings}
-use Rattle.scenarios.specs.declared.filters.Alias.{Alias}
-use Rattle.scenarios.specs.declared.scenario.Scenario.{Scenario}
-use Rattle.scenarios.specs.Scenarios.{settings_of}
-use Rattle.scenario_servers.specs.Openings.{known_of, rules_of}
-use Rattle.scenario_openings.specs.Openings.{is_small, listed_count, opening_in}
-use Rattle.scenario_filters.specs.Aliases.{alias_of}
-use Rattle.scenario_filters.specs.Filters.{answered, passes}
-use Rattle.scenario_reader.specs.Scenarios.{bounded, scenario_from, scenario_with, turns_in}
-use Rattle.scenario_dump.specs.Reading.{IsWorldOf, all_known, dumped_scenario, no_rules}
-use Rattle.scenario_dump.specs.Servers.{init_by, init_of, opening_of, source_in}
-use Rattle.scenario_dump.specs.Texts.{dump_data}
-use Rattle.server_model.specs.declared.server.Server.{Server}
-use Rattle.server_model.specs.Worlds.{World}
-use Rattle.orch_base.specs.declared.server.ServerNo.{ServerNo}
+use Rattle.dump_laws.proofs.Prelude.{Alias, IsChecked, IsListed, IsWorldOf, Scenario, Server, ServerInit, ServerNo, Settings, World, alias_of}
+use Rattle.dump_laws.proofs.Prelude.{all_known, answered, bounded, dump_data, dumped_scenario, forms_of, init_by, init_of, is_small, known_of, le-leb}
+use Rattle.dump_laws.proofs.Prelude.{listed_count, no_items, no_rules, opening, opening_in, opening_of, passes, rules_of, scenario_from}
+use Rattle.dump_laws.proofs.Prelude.{scenario_with, settings_of, some_matches, source_in, turns_in}
 use Rattle.dump_laws.proofs.Found.{listed_names_of}
 use Rattle.dump_laws.proofs.Heads.{SaysReadable, dumped_head, head-reads, keys-read, texts_of}
 use Rattle.dump_laws.proofs.Listed.{AllReadBack, inits-same, servers-read}

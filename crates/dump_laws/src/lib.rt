@@ -2,15 +2,16 @@
 #![tactic(auto)]
 
 ghost use Rattle.std.specs.Prelude.{◌≡◌, ℕ, List, Ok};
-ghost use Rattle.openings.specs.Opening.{IsChecked};
-ghost use Rattle.scenarios.specs.declared.scenario.Scenario.{Scenario};
+ghost use Rattle.scenario_reader.specs.Openings.Opening.{IsChecked};
+ghost use Rattle.scenario_reader.specs.Scenarios.declared.scenario.Scenario.{Scenario};
 ghost use Rattle.scenario_dump.specs.Reading.{IsWorldOf, IsWithinLimits, dumped_scenario};
 ghost use Rattle.scenario_dump.specs.Servers.{opening_of};
 ghost use Rattle.scenario_dump.specs.Texts.{dump_text};
-ghost use Rattle.scenario_reader.specs.Scenarios.{scenario_in};
+ghost use Rattle.scenario_reader.specs.ReadScenarios.{scenario_in};
 ghost use Rattle.server_model.specs.Worlds.{World};
 
 use scenario_dump::dumps_read_as_json;
+use scenario_reader::binlog_coords_items;
 
 /// What is dumped of a quiet world of a scenario that was read reads without a fault, as the scenario of that world.
 pub fn dumps_read()
@@ -18,6 +19,6 @@ pub fn dumps_read()
         → IsWorldOf s w → IsWithinLimits w s now → IsChecked (opening_of w)
         → scenario_in (dump_text w s now) ≡ Ok (dumped_scenario w s now) }
 {
-    binlog_coords::printed_reads();
+    crate::binlog_coords_items::printed_reads();
     dumps_read_as_json();
 }

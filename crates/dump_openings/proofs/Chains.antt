@@ -1,9 +1,6 @@
 -- A chain that ends doesn't come back to where it began.
 use Rattle.std.proofs.Common.{◌≡◌, ◌∙◌, ℕ, false, refl, sym, ap, subst, inl, inr, ◌⊎◌, Option, Some, None}
-use Rattle.std.proofs.lemmas.Bool.{false_from_ne_true}
-use Rattle.std.proofs.lemmas.Option.{same_Some}
-use Rattle.orch_base.specs.Chains.{Grounded, Root, Under, Follows, Direct, Further, is_reached}
-use Rattle.orch_base.proofs.Chains.{reached-follows}
+use Rattle.dump_openings.proofs.Prelude.{Direct, Follows, Further, Grounded, Root, Under, false_from_ne_true, is_reached, reached-follows, same_Some}
 
 -- one step of a chain that comes to b
 Follows-first : (up : ℕ → Option ℕ) (b a : ℕ) → Follows up b a → (m : ℕ) × (up a ≡ Some m) × ((m ≡ b) ⊎ Follows up b m)

@@ -1,26 +1,11 @@
 -- The servers of a dump are an opening, where the limits of scenarios are kept.
 use Rattle.std.proofs.Common.{◌≡◌, ◌∙◌, ℕ, ◌*◌, ◌<◌, ◌≤◌, true, length, All, refl, sym, ap, subst, Option, Some, None, arith, get_or, sum_by}
 use Rattle.std.specs.Prelude.{option_map, slice_get}
-use Rattle.std.proofs.lemmas.List.{length-map}
-use Rattle.std.proofs.lemmas.List.Sums.{get_or-le-sum_by}
-use Rattle.std.proofs.lemmas.Option.{get_or_from_slice_get, same_Some, slice_get_within, slice_get-map}
-use Rattle.orch_base.specs.Names.{same_name}
-use Rattle.orch_base.specs.declared.server.ServerNo.{ServerNo}
-use Rattle.orch_base.specs.declared.server.Settings.{Settings}
-use Rattle.orch_base.specs.declared.server.Txn.{Txn}
-use Rattle.openings.specs.declared.init.ServerInit.{ServerInit}
-use Rattle.openings.specs.declared.part.Part.{Part}
-use Rattle.openings.specs.Listed.{transactions}
-use Rattle.openings.specs.Opening.{IsAlone, IsChecked, IsListed, IsPart, IsServer, opening}
-use Rattle.openings.specs.Servers as listed
-use Rattle.openings.specs.Servers.{number_of}
-use Rattle.scenarios.specs.declared.scenario.Scenario.{Scenario}
-use Rattle.scenarios.specs.Scenarios.{IsScenario}
-use Rattle.server_model.specs.declared.server.Server.{Server}
-use Rattle.server_model.specs.Worlds.{World, server_at, source_no}
-use Rattle.scenario_dump.specs.Reading.{IsWithinLimits, IsWorldOf}
-use Rattle.scenario_dump.specs.Servers.{init_by, init_of, opening_of, source_in}
-use Rattle.scenario_dump.specs.Tidy.{IsTidy}
+use Rattle.dump_openings.proofs.Prelude.{IsAlone, IsChecked, IsListed, IsPart, IsScenario, IsServer, IsTidy, IsWithinLimits, IsWorldOf, Part}
+use Rattle.dump_openings.proofs.Prelude.{Scenario, Server, ServerInit, ServerNo, Settings, Txn, World, get_or-le-sum_by, get_or_from_slice_get}
+use Rattle.dump_openings.proofs.Prelude.{init_by, init_of, length-map, number_of, opening, opening_of, same_name, same_Some, server_at, slice_get-map}
+use Rattle.dump_openings.proofs.Prelude.{slice_get_within, source_in, source_no, transactions}
+use Rattle.dump_openings.proofs.Prelude.listed
 use Rattle.dump_openings.proofs.Flaws.{flawless-given, parts-given}
 use Rattle.dump_openings.proofs.Inits.{init-from, init-number, init-purged, init-settings, inits, length-inits}
 use Rattle.dump_openings.proofs.Parts.{OfParts, OfParts-all}

@@ -1,32 +1,14 @@
 -- The servers of a dump have no flaw.
 use Rattle.std.proofs.Common.{◌≡◌, ◌∙◌, ◌&&◌, ◌||◌, ℕ, ◌+◌, Bool, true, false, cond, List, [], ◌∷◌, length, All, refl, sym, ap, Option, Some, None, arith, suc, zero-add}
 use Rattle.std.specs.Prelude.{is_none, nat_eq, nat_lt, not, slice_get}
-use Rattle.std.specs.Cmp.Lexicographic.{nat_list_eq_equiv, pointwise}
-use Rattle.std.proofs.lemmas.Bool.{eq-eqb, le-ltb, not_from_true, or_from}
-use Rattle.std.proofs.lemmas.Bool.Decides.{nat_tests}
-use Rattle.std.proofs.lemmas.List.Elements.{All-nil}
-use Rattle.std.proofs.lemmas.List.Folds.{list_any_none}
-use Rattle.std.proofs.lemmas.Option.{same_Some}
-use Rattle.binlog_coords.specs.declared.Coord.{Coord}
-use Rattle.binlog_coords.specs.Log.{Log, is_at_or_before, is_before, place}
-use Rattle.orch_base.specs.declared.server.ServerNo.{ServerNo}
-use Rattle.orch_base.specs.declared.server.Settings.{Settings}
-use Rattle.orch_base.specs.declared.server.Txn.{Txn}
-use Rattle.openings.specs.declared.init.ServerInit.{ServerInit}
-use Rattle.openings.specs.declared.opening.Flaw.{Flaw}
-use Rattle.openings.specs.declared.part.Part.{Part}
-use Rattle.openings.specs.Flaws.{at_server, at_source, bad_coords, bad_coords_in, bad_files, bad_flushes, bad_purged, below_itself, both_given, falls_or_passes, first_met, flaw_in, flaw_or, has_place_of, not_kin, of_source, origin_elsewhere, other_cluster, same_cluster, source_not_logging, too_many}
-use Rattle.openings.specs.Kin.{is_kin}
-use Rattle.openings.specs.Listed.{listed_history}
-use Rattle.openings.specs.Servers as listed
-use Rattle.openings.specs.Servers.{count_of, exec_of, log_at, number_of, read_of}
-use Rattle.server_model.specs.declared.server.Server.{Server}
-use Rattle.server_model.specs.Safe.{AttachedWell, Safe}
-use Rattle.server_model.specs.Worlds.{World, server_at, source_no}
-use Rattle.scenario_dump.specs.Files.{flush_points}
-use Rattle.scenario_dump.specs.Histories.{parts_of}
-use Rattle.scenario_dump.specs.Servers.{init_by, init_of, opening_of, source_in}
-use Rattle.scenario_dump.specs.Tidy.{IsOf, IsTidy}
+use Rattle.dump_openings.proofs.Prelude.{All-nil, AttachedWell, Coord, Flaw, IsOf, IsTidy, Log, Part, Safe, Server, ServerInit, ServerNo, Settings}
+use Rattle.dump_openings.proofs.Prelude.{Txn, World, at_server, at_source, bad_coords, bad_coords_in, bad_files, bad_flushes, bad_purged}
+use Rattle.dump_openings.proofs.Prelude.{below_itself, both_given, count_of, eq-eqb, exec_of, falls_or_passes, first_met, flaw_in, flaw_or}
+use Rattle.dump_openings.proofs.Prelude.{flush_points, has_place_of, init_by, init_of, is_at_or_before, is_before, is_kin, le-ltb, list_any_none}
+use Rattle.dump_openings.proofs.Prelude.{listed_history, log_at, nat_list_eq_equiv, nat_tests, not_from_true, not_kin, number_of, of_source}
+use Rattle.dump_openings.proofs.Prelude.{opening_of, or_from, origin_elsewhere, other_cluster, parts_of, place, pointwise, read_of, same_cluster}
+use Rattle.dump_openings.proofs.Prelude.{same_Some, server_at, source_in, source_no, source_not_logging, too_many}
+use Rattle.dump_openings.proofs.Prelude.listed
 use Rattle.dump_openings.proofs.Chains.{never_back}
 use Rattle.dump_openings.proofs.Histories.{listed-own, prefix-within}
 use Rattle.dump_openings.proofs.Inits.{grounded-given, init-at, init-count, init-flushes, init-from, init-none, init-number, init-purged, init-settings, inits, source-no}

@@ -1,20 +1,10 @@
 -- What the servers of a dump have executed.
 use Rattle.std.proofs.Common.{◌≡◌, ◌∙◌, ℕ, ◌<◌, ◌≤◌, List, length, take, refl, sym, ap, subst, Option, Some, None, arith}
 use Rattle.std.specs.Prelude.{slice_get}
-use Rattle.std.proofs.lemmas.List.{length-take, take_all, take-take}
-use Rattle.std.proofs.lemmas.Option.{slice_get_within}
-use Rattle.orch_base.specs.Chains.{Grounded, Root, Under}
-use Rattle.orch_base.specs.declared.server.Txn.{Txn}
-use Rattle.openings.specs.Listed.{listed_history}
-use Rattle.openings.specs.Servers as listed
-use Rattle.openings.specs.Servers.{count_at, history_at, parts_at, root_of}
-use Rattle.openings.proofs.Chains.{reached_from-root}
-use Rattle.openings.proofs.ListedCounts.{IsNumbered}
-use Rattle.openings.proofs.Roots.{same-end}
-use Rattle.server_model.specs.declared.server.Server.{Server}
-use Rattle.server_model.specs.Safe.{Safe, AttachedWell}
-use Rattle.server_model.specs.Worlds.{World, histories, history_of, server_at, source_no, source_of}
-use Rattle.scenario_dump.specs.Servers.{init_of}
+use Rattle.dump_openings.proofs.Prelude.{AttachedWell, Grounded, IsNumbered, Root, Safe, Server, Txn, Under, World, count_at, histories, history_at}
+use Rattle.dump_openings.proofs.Prelude.{history_of, init_of, length-take, listed_history, parts_at, reached_from-root, root_of, same-end, server_at}
+use Rattle.dump_openings.proofs.Prelude.{slice_get_within, source_no, source_of, take-take, take_all}
+use Rattle.dump_openings.proofs.Prelude.listed
 use Rattle.dump_openings.proofs.Inits.{grounded-given, init-at, init-count, init-none, init-parts, inits, length-inits, loopless-given, source-given}
 use Rattle.dump_openings.proofs.Parts.{listed_history-parts}
 

@@ -1,24 +1,10 @@
 -- The servers of a world as a scenario gives them: what is given of each, and which sources they have.
 use Rattle.std.proofs.Common.{◌≡◌, ◌∙◌, ℕ, ◌<◌, cond, List, length, map, refl, sym, ap, subst, Option, Some, None, arith}
 use Rattle.std.specs.Prelude.{option_map, slice_get}
-use Rattle.std.proofs.lemmas.List.{length-map}
-use Rattle.std.proofs.lemmas.Option.{same_Some, slice_get_within, slice_get-map}
-use Rattle.binlog_coords.specs.Log.{opened}
-use Rattle.orch_base.specs.Chains.{Grounded}
-use Rattle.orch_base.specs.declared.server.ServerNo.{ServerNo}
-use Rattle.orch_base.specs.declared.server.SourceState.{SourceState}
-use Rattle.orch_base.specs.declared.server.SourceState.TheVariants.{Without, Attached, Detached}
-use Rattle.orch_base.specs.declared.server.Txn.{Txn}
-use Rattle.openings.specs.declared.init.ServerInit.{ServerInit}
-use Rattle.openings.specs.Logs.{laid}
-use Rattle.openings.specs.Servers as listed
-use Rattle.openings.specs.Servers.{count_of, log_by, number_of}
-use Rattle.openings.proofs.Roots.{IsLoopless}
-use Rattle.server_model.specs.declared.server.Server.{Server}
-use Rattle.server_model.specs.Safe.{Safe}
-use Rattle.server_model.specs.Worlds.{World, server_at, source_no, source_of, sources}
-use Rattle.scenario_dump.specs.Histories.{parts_of}
-use Rattle.scenario_dump.specs.Servers.{init_by, init_of, points_of, source_in}
+use Rattle.dump_openings.proofs.Prelude.{Attached, Detached, Grounded, IsLoopless, Safe, Server, ServerInit, ServerNo, SourceState, Txn, Without}
+use Rattle.dump_openings.proofs.Prelude.{World, count_of, init_by, init_of, laid, length-map, log_by, number_of, opened, parts_of, points_of}
+use Rattle.dump_openings.proofs.Prelude.{same_Some, server_at, slice_get-map, slice_get_within, source_in, source_no, source_of, sources}
+use Rattle.dump_openings.proofs.Prelude.listed
 use Rattle.dump_openings.proofs.Chains.{never_back}
 use Rattle.dump_openings.proofs.Parts.{transactions-parts}
 

@@ -1,22 +1,12 @@
 -- Histories that are kin agree link by link, and each transaction is at home.
+use Rattle.dump_openings.proofs.Prelude.{IsKin, Safe, Server, ServerNo, Txn, World, agrees_with, all_below, and_from}
+use Rattle.dump_openings.proofs.Prelude.{any_passes_from_place as list_any-found, cases_Bool, eq-eqb, histories, histories_agree, history_of, holds}
+use Rattle.dump_openings.proofs.Prelude.{init_of, is_home, is_kin, length-take-le, links, links_after, links_agree, list_all, list_all-from_get}
+use Rattle.dump_openings.proofs.Prelude.{listed_history, not_from_false, number_of, or_left, or_right, same_before, same_Some, same_txn}
+use Rattle.dump_openings.proofs.Prelude.{server_at, slice_get-front, slice_get-get_or, slice_get-take, slice_get_within, source_no}
+use Rattle.dump_openings.proofs.Prelude.listed.{parts_of}
 use Rattle.std.proofs.Common.{◌≡◌, ◌∙◌, ◌&&◌, ◌==◌, ℕ, ◌+◌, ◌<◌, ◌≤◌, Bool, true, List, [], ◌∷◌, length, take, refl, sym, ap, inl, inr, Option, Some, None, arith, get_or, zero, suc}
 use Rattle.std.specs.Prelude.{is_some, not, slice_get}
-use Rattle.std.specs.List.{list_all, list_any}
-use Rattle.std.proofs.lemmas.Bool.{and_from, cases_Bool, eq-eqb, not_from_false, or_left, or_right}
-use Rattle.std.proofs.lemmas.List.{length-take-le}
-use Rattle.std.proofs.lemmas.Option.{same_Some, slice_get_within, slice_get-get_or}
-use Rattle.orch_base.specs.declared.server.ServerNo.{ServerNo}
-use Rattle.orch_base.specs.declared.server.Txn.{Txn}
-use Rattle.orch_base.specs.Histories.{holds, same_txn}
-use Rattle.openings.specs.Kin.{agrees_with, all_below, histories_agree, is_home, is_kin, links, links_after, links_agree, same_before}
-use Rattle.openings.specs.Listed.{listed_history}
-use Rattle.openings.specs.Servers.{number_of, parts_of}
-use Rattle.openings.proofs.Agreements.{list_all-from_get}
-use Rattle.openings.proofs.Fronts.{slice_get-front, slice_get-take}
-use Rattle.server_model.specs.declared.server.Server.{Server}
-use Rattle.server_model.specs.Safe.{IsKin, Safe}
-use Rattle.server_model.specs.Worlds.{World, histories, history_of, server_at, source_no}
-use Rattle.scenario_dump.specs.Servers.{init_of}
 use Rattle.dump_openings.proofs.Histories.{history-given, listed-own}
 use Rattle.dump_openings.proofs.Inits.{init-at, init-none, init-number, inits}
 
@@ -98,11 +88,6 @@ module _ (h : ℕ → List Txn) (kin : IsKin h) where
       (λ j l at_b. list_all-from_get (λ k. links_agree k l) (links (h a)) (λ i k at_a. link-shared a b i j k l at_a at_b))
 
 -- ---- the servers of a dump
-
-list_any-found : {X : Type 0} (p : X → Bool) (xs : List X) (k : ℕ) (x : X) → slice_get xs k ≡ Some x → p x ≡ true → list_any p xs ≡ true
-list_any-found p [] k x h is = cc
-list_any-found p (y ∷ ys) zero x h is = or_left (p y) (list_any p ys) (ap p (same_Some y x h) ∙ is)
-list_any-found p (y ∷ ys) (suc k) x h is = or_right (p y) (list_any p ys) (list_any-found p ys k x h is)
 
 all_below-from : (p : ℕ → Bool) (n : ℕ) → ((m : ℕ) → p m ≡ true) → all_below p n ≡ true
 all_below-from p zero each = refl

@@ -1,17 +1,10 @@
 -- A log is laid again from its history and its flush points.
 use Rattle.std.proofs.Common.{◌≡◌, ◌∙◌, ◌==◌, ◌||◌, ℕ, ◌+◌, ◌-◌, ◌<◌, ◌≤◌, Bool, true, false, cond, List, [], ◌∷◌, ◌++◌, length, replicate, refl, sym, ap, subst, arith, add-zero, append_assoc, length-append, zero, suc}
 use Rattle.std.specs.Prelude.{nat_le, nat_lt, count_by}
-use Rattle.std.proofs.lemmas.Bool.{eq-eqb, le-ltb, ltb-false, ne_eqb, or_from, or_parts}
-use Rattle.std.proofs.lemmas.List.{append-nil, replicate-append-replicate}
-use Rattle.std.proofs.lemmas.List.Sums.{sum_by-cons, sum_by_push}
-use Rattle.binlog_coords.specs.declared.Entry.{Entry}
-use Rattle.binlog_coords.specs.Log.{Log, appended, entry_at_end, flush, opened, push}
-use Rattle.orch_base.specs.declared.server.Txn.{Txn}
-use Rattle.openings.specs.Flaws.{falls_or_passes}
-use Rattle.openings.specs.Logs.{flushed_at, flushed_times, laid, laid_after}
-use Rattle.server_model.specs.Layout.{LaysOut, Opened, Took, Flushed}
-use Rattle.server_model.proofs.LogSizes.{length-push}
-use Rattle.scenario_dump.specs.Files.{file_behind, flush_points, flushed_from}
+use Rattle.dump_openings.proofs.Prelude.{Entry, Flushed, LaysOut, Log, Opened, Took, Txn, append-nil, appended, entry_at_end, eq-eqb, falls_or_passes}
+use Rattle.dump_openings.proofs.Prelude.{file_behind, flush, flush_points, flushed_at, flushed_from, flushed_times, laid, laid_after, le-ltb}
+use Rattle.dump_openings.proofs.Prelude.{length-push, ltb-false, ne_eqb, opened, or_from, or_parts, push, replicate-append-replicate, sum_by-cons}
+use Rattle.dump_openings.proofs.Prelude.{sum_by_push}
 
 -- the flush points of a log by its own limit
 abbrev pub own_points : Log → List ℕ

@@ -1,18 +1,8 @@
 -- The logs and the coordinates of the servers of a dump.
 use Rattle.std.proofs.Common.{[], ◌≡◌, ◌∙◌, ℕ, Bool, true, false, cond, List, refl, sym, ap, Option, Some, None}
-use Rattle.binlog_coords.specs.Log.{opened}
-use Rattle.orch_base.specs.declared.server.ServerNo.{ServerNo}
-use Rattle.orch_base.specs.declared.server.SourceState.{SourceState}
-use Rattle.orch_base.specs.declared.server.SourceState.TheVariants.{Without, Attached, Detached}
-use Rattle.openings.specs.declared.init.ServerInit.{ServerInit}
-use Rattle.openings.specs.Logs.{laid}
-use Rattle.openings.specs.Servers.{exec_of, history_at, log_at, log_by, log_in, read_of}
-use Rattle.server_model.specs.declared.server.Server.{Server}
-use Rattle.server_model.specs.Safe.{Safe}
-use Rattle.server_model.specs.Worlds.{World, server_at}
-use Rattle.scenario_dump.specs.Files.{flush_points}
-use Rattle.scenario_dump.specs.Servers.{init_by, init_of, source_in}
-use Rattle.scenario_dump.specs.Tidy.{IsBare, IsTidy}
+use Rattle.dump_openings.proofs.Prelude.{Attached, Detached, IsBare, IsTidy, Safe, Server, ServerInit, ServerNo, SourceState, Without, World, exec_of}
+use Rattle.dump_openings.proofs.Prelude.{flush_points, history_at, init_by, init_of, laid, log_at, log_by, log_in, opened, read_of, server_at}
+use Rattle.dump_openings.proofs.Prelude.{source_in}
 use Rattle.dump_openings.proofs.Histories.{history-own}
 use Rattle.dump_openings.proofs.Inits.{init-at, init-log, inits}
 use Rattle.dump_openings.proofs.Layouts.{laid-own_points}

@@ -1,17 +1,9 @@
 -- Histories as parts, and back.
 use Rattle.std.proofs.Common.{◌≡◌, ◌∙◌, ◌==◌, ◌≤◌, ℕ, ◌+◌, Bool, true, false, cond, List, [], ◌∷◌, ◌++◌, length, map, take, replicate, refl, sym, ap, subst, Some, All, arith, add-one, append_assoc}
 use Rattle.std.specs.Prelude.{slice_get}
-use Rattle.std.proofs.lemmas.Bool.{and_parts, eqb-true}
-use Rattle.std.proofs.lemmas.List.{append-nil, length-map, take_at}
-use Rattle.std.proofs.lemmas.List.Elements.{All-cons, All-head, All-nil, All-tail}
-use Rattle.orch_base.specs.declared.server.ServerNo.{ServerNo}
-use Rattle.orch_base.specs.declared.server.Txn.{Txn}
-use Rattle.orch_base.specs.Histories.{count_own}
-use Rattle.openings.specs.declared.part.Part.{Part}
-use Rattle.openings.specs.Listed.{joined_by, listed_history, next_txn, singles, transactions}
-use Rattle.openings.proofs.ListedCounts.{IsNumbered}
-use Rattle.openings.proofs.Sizes.{length-singles}
-use Rattle.scenario_dump.specs.Histories.{behind, is_like, part_of, parts_of}
+use Rattle.dump_openings.proofs.Prelude.{All-cons, All-head, All-nil, All-tail, IsNumbered, Part, ServerNo, Txn, and_parts, append-nil, behind}
+use Rattle.dump_openings.proofs.Prelude.{count_own, eqb-true, is_like, joined_by, length-map, length-singles, listed_history, next_txn, part_of}
+use Rattle.dump_openings.proofs.Prelude.{parts_of, singles, take_at, transactions}
 
 -- the origin and the size of a transaction
 abbrev pub single_of : Txn → ServerNo × ℕ

@@ -1,19 +1,9 @@
 -- A dump opens to the world that was dumped.
 use Rattle.std.proofs.Common.{◌≡◌, ◌∙◌, ◌&&◌, ℕ, ◌+◌, ◌-◌, cond, List, [], ◌∷◌, length, map, refl, sym, ap, Option, Some, None, arith, suc, zero-add}
 use Rattle.std.specs.Prelude.{is_some, slice_get}
-use Rattle.orch_base.specs.declared.server.ServerNo.{ServerNo}
-use Rattle.orch_base.specs.declared.server.Settings.{Settings}
-use Rattle.orch_base.specs.declared.server.SourceState.{SourceState}
-use Rattle.orch_base.specs.declared.server.SourceState.TheVariants.{Without, Attached, Detached}
-use Rattle.openings.specs.declared.init.ServerInit.{ServerInit}
-use Rattle.openings.specs.Servers.{history_at, logged_by}
-use Rattle.server_model.specs.declared.server.Server.{Server}
-use Rattle.server_model.specs.Safe.{IsQuiet, Safe}
-use Rattle.server_model.specs.Worlds.{World, server_at}
-use Rattle.world_openings.specs.Opening.{opened_from, opened_server, opened_world, source_state}
-use Rattle.scenario_dump.specs.Reading.{refitted, refitted_server}
-use Rattle.scenario_dump.specs.Servers.{init_by, init_of, is_detached, opening_of, source_in}
-use Rattle.scenario_dump.specs.Tidy.{IsBare, IsTidy}
+use Rattle.dump_openings.proofs.Prelude.{Attached, Detached, IsBare, IsQuiet, IsTidy, Safe, Server, ServerInit, ServerNo, Settings, SourceState}
+use Rattle.dump_openings.proofs.Prelude.{Without, World, history_at, init_by, init_of, is_detached, logged_by, opened_from, opened_server}
+use Rattle.dump_openings.proofs.Prelude.{opened_world, opening_of, refitted, refitted_server, server_at, source_in, source_state}
 use Rattle.dump_openings.proofs.Histories.{history-own}
 use Rattle.dump_openings.proofs.Inits.{init-flushes, init-purged, init-settings, inits}
 use Rattle.dump_openings.proofs.Logs.{bare-own, exec-own, log-own, read-own}

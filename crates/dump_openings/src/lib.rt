@@ -2,8 +2,8 @@
 #![tactic(auto)]
 
 ghost use Rattle.std.specs.Prelude.{◌≡◌, ℕ, None};
-ghost use Rattle.openings.specs.Flaws.{flaw_in};
-ghost use Rattle.openings.specs.Opening.{IsChecked};
+ghost use Rattle.scenarios.specs.Openings.Flaws.{flaw_in};
+ghost use Rattle.scenarios.specs.Openings.Opening.{IsChecked};
 ghost use Rattle.scenario_dump.specs.Reading.{IsWorldOf, IsWithinLimits, refitted};
 ghost use Rattle.scenario_dump.specs.Servers.{opening_of};
 ghost use Rattle.scenarios.specs.declared.scenario.Scenario.{Scenario};

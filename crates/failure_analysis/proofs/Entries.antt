@@ -7,14 +7,14 @@ use Rattle.std.proofs.Math.Bool.{and-true}
 use Rattle.std.proofs.Math.Nat.{add-zero}
 use Rattle.std.proofs.lemmas.List.Sorted.{sum_by-IsPermutation}
 use Rattle.std.proofs.lemmas.List.Sums.{length-filter, sum_by-cons}
-use Rattle.name_order.specs.NameOrder.{by_name}
-use Rattle.name_order.proofs.ByName.{IsOrder-by_name, length-by_name}
+use Rattle.instance_keeper.specs.NameOrder.NameOrder.{by_name}
+use Rattle.instance_keeper.proofs.NameOrder.ByName.{IsOrder-by_name, length-by_name}
 use Rattle.book_views.specs.Sources.{is_attached_to, is_instance, is_replica_of, replicas_of, seen_source}
 use Rattle.std.proofs.lemmas.List.{append-nil, take_more}
 use Rattle.std.proofs.lemmas.List.Elements.{filter_map-append}
-use Rattle.orch_base.specs.declared.server.ServerNo.{ServerNo}
+use Rattle.instance_keeper.specs.OrchBase.declared.server.ServerNo.{ServerNo}
 use Rattle.instance_keeper.specs.Book.{BookState, IsBook, instance_at}
-use Rattle.kept_rows.specs.declared.observation.Instance.{Instance}
+use Rattle.instance_keeper.specs.KeptRows.declared.observation.Instance.{Instance}
 use Rattle.failure_analysis.specs.declared.entry.Entry.{Entry}
 use Rattle.failure_analysis.specs.declared.tally.Tally.{Tally}
 use Rattle.failure_analysis.specs.Analysis.{count_of, entry_at, entry_of, is_any, is_replica_that}

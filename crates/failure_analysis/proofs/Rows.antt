@@ -7,8 +7,8 @@ use Rattle.std.proofs.lemmas.Option.{same_Some}
 use Rattle.std.proofs.lemmas.Bool.Decides.{nat_tests}
 use Rattle.failure_analysis.specs.declared.code.Counts.{Counts}
 use Rattle.failure_analysis.specs.Table.{action_by, action_of, code_of, conditions, is_of_row, problems, AreCounts}
-use Rattle.orch_base.specs.declared.code.Code.{Code}
-use Rattle.orch_base.specs.declared.code.Code.TheVariants.{NoProblem}
+use Rattle.instance_keeper.specs.OrchBase.declared.code.Code.{Code}
+use Rattle.instance_keeper.specs.OrchBase.declared.code.Code.TheVariants.{NoProblem}
 
 abbrev counts : Bool → Bool → ℕ → ℕ → ℕ → ℕ → Counts
 counts h ok n v r l = record { has_source = h; valid = ok; replicas = n; valid_replicas = v; replicating = r; lagging = l }

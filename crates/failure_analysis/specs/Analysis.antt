@@ -1,12 +1,12 @@
 -- What a book tells of each of its instances.
 use Rattle.std.specs.Prelude.{ℕ, ◌&&◌, Bool, true, false, List, count_by, filter_map, Option, Some, None, is_some, option_map}
-use Rattle.binlog_coords.specs.Log.{is_before}
-use Rattle.orch_base.specs.declared.server.IoState.{IoState}
-use Rattle.orch_base.specs.declared.server.IoState.TheVariants as io
-use Rattle.orch_base.specs.declared.server.ServerNo.{ServerNo}
-use Rattle.name_order.specs.NameOrder.{by_name}
+use Rattle.instance_keeper.specs.BinlogCoords.Log.{is_before}
+use Rattle.instance_keeper.specs.OrchBase.declared.server.IoState.{IoState}
+use Rattle.instance_keeper.specs.OrchBase.declared.server.IoState.TheVariants as io
+use Rattle.instance_keeper.specs.OrchBase.declared.server.ServerNo.{ServerNo}
+use Rattle.instance_keeper.specs.NameOrder.NameOrder.{by_name}
 use Rattle.instance_keeper.specs.Book.{BookState, instance_at}
-use Rattle.kept_rows.specs.declared.observation.Instance.{Instance}
+use Rattle.instance_keeper.specs.KeptRows.declared.observation.Instance.{Instance}
 use Rattle.book_views.specs.Sources.{is_attached_to, source_in}
 use Rattle.failure_analysis.specs.declared.code.Counts.{Counts}
 use Rattle.failure_analysis.specs.declared.entry.Entry.{Entry}

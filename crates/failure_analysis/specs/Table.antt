@@ -1,8 +1,8 @@
 -- The table of analyses: what each code says of an instance and its replicas.
 use Rattle.std.specs.Prelude.{◌≤◌, ◌==◌, ◌&&◌, nat_le, nat_lt, not, Bool, false, List, [], ◌∷◌, ◌++◌, map, find, unwrap_or, if◌then◌else◌}
 use Rattle.std.specs.List.{list_any}
-use Rattle.orch_base.specs.declared.code.Code.{Code}
-use Rattle.orch_base.specs.declared.code.Code.TheVariants.{MasterSingleReplicaDead, MasterSingleReplicaNotReplicating, AllMasterReplicasNotReplicating, AllMasterReplicasNotReplicatingOrDead, DeadMasterWithoutReplicas, DeadMasterAndReplicas, DeadMaster, DeadMasterAndSomeReplicas, UnreachableMasterWithLaggingReplicas, UnreachableMaster, AllIntermediateMasterReplicasNotReplicating, DeadIntermediateMasterAndReplicas, DeadIntermediateMasterWithSingleReplica, DeadIntermediateMaster, DeadIntermediateMasterAndSomeReplicas, UnreachableIntermediateMasterWithLaggingReplicas, UnreachableIntermediateMaster, NoProblem}
+use Rattle.instance_keeper.specs.OrchBase.declared.code.Code.{Code}
+use Rattle.instance_keeper.specs.OrchBase.declared.code.Code.TheVariants.{MasterSingleReplicaDead, MasterSingleReplicaNotReplicating, AllMasterReplicasNotReplicating, AllMasterReplicasNotReplicatingOrDead, DeadMasterWithoutReplicas, DeadMasterAndReplicas, DeadMaster, DeadMasterAndSomeReplicas, UnreachableMasterWithLaggingReplicas, UnreachableMaster, AllIntermediateMasterReplicasNotReplicating, DeadIntermediateMasterAndReplicas, DeadIntermediateMasterWithSingleReplica, DeadIntermediateMaster, DeadIntermediateMasterAndSomeReplicas, UnreachableIntermediateMasterWithLaggingReplicas, UnreachableIntermediateMaster, NoProblem}
 use Rattle.failure_analysis.specs.declared.code.Action.{Action}
 use Rattle.failure_analysis.specs.declared.code.Action.TheVariants.{MasterRecovery, IntermediateRecovery, Nothing}
 use Rattle.failure_analysis.specs.declared.code.Counts.{Counts}

@@ -1,7 +1,7 @@
 -- How replicas are counted, server by server.
 use Rattle.std.specs.Prelude.{ℕ, ◌+◌, ◌≤◌, Bool, List, if◌then◌else◌, Option, is_some}
-use Rattle.orch_base.specs.declared.server.ServerNo.{ServerNo}
-use Rattle.kept_rows.specs.declared.observation.Instance.{Instance}
+use Rattle.instance_keeper.specs.OrchBase.declared.server.ServerNo.{ServerNo}
+use Rattle.instance_keeper.specs.KeptRows.declared.observation.Instance.{Instance}
 use Rattle.book_views.specs.Sources.{source_in}
 use Rattle.failure_analysis.specs.declared.code.Counts.{Counts}
 use Rattle.failure_analysis.specs.declared.tally.Tally.{Tally}

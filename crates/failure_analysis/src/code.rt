@@ -4,7 +4,7 @@
 ghost use Rattle.std.specs.Prelude.{◌≡◌, true};
 ghost use Rattle.failure_analysis.specs.Table.{action_of, code_of, is_dead_intermediate, is_dead_master, is_valid_intermediate, is_valid_master, AreCounts};
 
-use orch_base::Code;
+use crate::orch_base::Code;
 
 /// What a book tells of an instance and of its replicas: the instances whose seen source is attached to it.
 #[derive(Clone, Copy, Debug, PartialEq, Eq)]

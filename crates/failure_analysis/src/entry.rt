@@ -7,9 +7,9 @@ ghost use Rattle.failure_analysis.specs.Tallies.{counts_by, AreParts};
 
 use crate::Memory;
 use crate::code::{Counts, code_of};
+use crate::orch_base::{Code, ServerNo, SourceState};
 use crate::tally::{Tally, tallies};
 use instance_keeper::{Book, Instance};
-use orch_base::{Code, ServerNo, SourceState};
 use std::alloc::Global;
 
 /// What an analysis says of an instance.

@@ -2,15 +2,15 @@
 
 ghost use Rattle.std.specs.Prelude.{◌≡◌, ◌↔◌, All, Bool, List, count_by, false, filter, length, map, true};
 ghost use Rattle.instance_keeper.specs.Book.{BookState, IsBook};
-ghost use Rattle.kept_rows.specs.declared.observation.Instance.{Instance};
-ghost use Rattle.name_order.specs.NameOrder.{by_name};
-ghost use Rattle.orch_base.specs.declared.code.Code.{Code as ACode};
-ghost use Rattle.orch_base.specs.declared.server.ServerNo.{ServerNo};
+ghost use Rattle.instance_keeper.specs.KeptRows.declared.observation.Instance.{Instance};
+ghost use Rattle.instance_keeper.specs.NameOrder.NameOrder.{by_name};
+ghost use Rattle.instance_keeper.specs.OrchBase.declared.code.Code.{Code as ACode};
+ghost use Rattle.instance_keeper.specs.OrchBase.declared.server.ServerNo.{ServerNo};
 ghost use Rattle.book_views.specs.Sources.{is_instance, replicas_of};
 ghost use Rattle.failure_analysis.specs.Analysis.{analysis, count_of, counts_of, is_any};
 ghost use Rattle.failure_analysis.specs.Table.{action_by, action_of, code_of, conditions, is_of_row, problems, AreCounts};
 ghost use Rattle.failure_analysis.specs.declared.code.Counts.{Counts as SomeCounts};
-ghost use Rattle.orch_base.specs.declared.code.Code.TheVariants.{NoProblem};
+ghost use Rattle.instance_keeper.specs.OrchBase.declared.code.Code.TheVariants.{NoProblem};
 
 /// Of the rows of the table exactly one applies to any counts: the rows exclude one another and leave nothing out. A
 /// row whose condition holds gives the code, and the last row is exactly for what no condition holds of.

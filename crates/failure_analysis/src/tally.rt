@@ -1,14 +1,14 @@
 //! Replicas, counted for each server in one pass over the instances.
 
 ghost use Rattle.std.specs.Prelude.{◌≡◌, ℕ, ◌+◌, ◌<◌, ◌^◌, IfOk, length, replicate, slice_index_or};
-ghost use Rattle.orch_base.specs.declared.server.ServerNo.{ServerNo as Number};
-ghost use Rattle.failure_analysis.specs.Analysis.{is_connected, lags, replicates};
+ghost use Rattle.instance_keeper.specs.OrchBase.declared.server.ServerNo.{ServerNo as Number};
+ghost use Rattle.failure_analysis.specs.Analysis.{lags, replicates};
 ghost use Rattle.failure_analysis.specs.Tallies.{no_replicas, raised, tally_of, AreParts};
 
 use crate::Memory;
+use crate::orch_base::{IoState, ServerNo, SourceState};
 use book_views::seen_source;
 use instance_keeper::{Book, Instance};
-use orch_base::{IoState, ServerNo, SourceState};
 use std::alloc::Global;
 
 /// How many replicas a server has, how many of them are valid, how many of these replicate, and how many of these lag.

@@ -14,9 +14,3 @@ pub struct NoGate;
 impl Gate for NoGate {
     fn pass(&self, _worker: u32) {}
 }
-
-fn crosses_threads<T: Send + Sync>() {}
-
-fn all_cross_threads() {
-    crosses_threads::<NoGate>();
-}

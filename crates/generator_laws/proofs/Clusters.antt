@@ -1,19 +1,9 @@
 -- Drawn servers are of the cluster of their source.
 use Rattle.std.proofs.Common.{◌≡◌, ◌∙◌, ◌<◌, ℕ, zero, suc, ◌+◌, true, false, ◌∷◌, List, [], length, Option, Some, None, refl, sym, ap, arith}
 use Rattle.std.specs.Prelude.{nat_eq, not, slice_get}
-use Rattle.std.specs.Cmp.Lexicographic.{pointwise}
-use Rattle.std.proofs.lemmas.Bool.{eq-eqb}
-use Rattle.std.proofs.lemmas.Option.{slice_get_within}
-use Rattle.openings.specs.declared.init.ServerInit.{ServerInit}
-use Rattle.openings.specs.Flaws.{at_server, first_met, other_cluster, same_cluster}
-use Rattle.openings.specs.Servers.{number_of}
-use Rattle.openings.proofs.Roots.{IsLoopless, same-end}
-use Rattle.scenario_servers.specs.declared.given.Given.{Given}
-use Rattle.scenario_servers.specs.Openings.{init_of, label_at, root_in, source_in}
-use Rattle.scenario_generator.specs.declared.server.DrawnServer.{DrawnServer}
-use Rattle.scenario_generator.specs.declared.server.DrawnServer.TheVariants.{Root, Replica}
-use Rattle.scenario_generator.specs.Promises.{ArePlaced, IsPlaced}
-use Rattle.generator_laws.specs.Drawn.{given_of, givens_from, inits_from_drawn}
+use Rattle.generator_laws.proofs.Prelude.{ArePlaced, DrawnServer, Given, IsLoopless, IsPlaced, Replica, Root, ServerInit, at_server, eq-eqb}
+use Rattle.generator_laws.proofs.Prelude.{first_met, given_of, givens_from, init_of, inits_from_drawn, label_at, number_of, other_cluster, pointwise}
+use Rattle.generator_laws.proofs.Prelude.{root_in, same-end, same_cluster, slice_get_within, source_in}
 use Rattle.generator_laws.proofs.Flaws.{at_drawn, at_found, drawn_at, falls, given_at, none_meets}
 
 same_label : (a : List ℕ) → pointwise nat_eq a a ≡ true

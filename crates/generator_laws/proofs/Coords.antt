@@ -1,23 +1,11 @@
 -- Where drawn replicas stand in their sources' logs.
 use Rattle.std.proofs.Common.{◌≡◌, ◌∙◌, ◌<◌, ◌≤◌, ◌==◌, ◌+◌, ℕ, zero, suc, Bool, true, false, cond, ◌∷◌, List, [], length, Some, None, refl, sym, ap, subst, arith, length-append}
 use Rattle.std.specs.Prelude.{get_or, nat_le, nat_lt, slice_get}
-use Rattle.std.proofs.lemmas.Bool.{eq-eqb, le-ltb}
-use Rattle.std.proofs.lemmas.Option.{slice_get_within, slice_get-get_or}
-use Rattle.binlog_coords.specs.declared.Coord.{Coord}
-use Rattle.binlog_coords.specs.Grown.{Grown, Opened, Pushed}
-use Rattle.binlog_coords.specs.Log.{Log, appended, coord_after, entry_at_end, flush, opened, place, push}
-use Rattle.binlog_coords.proofs.Places.{Laid-Grown, place-coord_after}
-use Rattle.orch_base.specs.declared.server.Txn.{Txn}
-use Rattle.openings.specs.Flaws.{bad_coords, bad_coords_in, first_met}
-use Rattle.openings.specs.Logs.{laid, laid_after}
-use Rattle.openings.specs.Servers.{history_at, log_at, log_by, log_in}
-use Rattle.scenario_servers.specs.declared.given.Given.{Given}
-use Rattle.scenario_servers.specs.Openings.{init_of}
-use Rattle.scenario_generator.specs.declared.server.DrawnServer.{DrawnServer}
-use Rattle.scenario_generator.specs.declared.server.DrawnServer.TheVariants.{Root, Replica}
-use Rattle.scenario_generator.specs.Promises.{ArePlaced, IsPlaced}
-use Rattle.scenario_generator.specs.Servers as drawn
-use Rattle.generator_laws.specs.Drawn.{given_of, givens_from, inits_from_drawn}
+use Rattle.generator_laws.proofs.Prelude.{ArePlaced, Coord, DrawnServer, Given, Grown, IsPlaced, Laid-Grown, Log, Opened, Pushed, Replica, Root, Txn}
+use Rattle.generator_laws.proofs.Prelude.{appended, bad_coords, bad_coords_in, coord_after, entry_at_end, eq-eqb, first_met, flush, given_of}
+use Rattle.generator_laws.proofs.Prelude.{givens_from, history_at, init_of, inits_from_drawn, laid, laid_after, le-ltb, log_at, log_by, log_in}
+use Rattle.generator_laws.proofs.Prelude.{opened, place, place-coord_after, push, slice_get-get_or, slice_get_within}
+use Rattle.generator_laws.proofs.Prelude.drawn
 use Rattle.generator_laws.proofs.Flaws.{at_found, none_meets, opens_there}
 use Rattle.generator_laws.proofs.Histories.{history_count, history_own}
 

@@ -1,19 +1,12 @@
 -- Flaws that drawn servers haven't.
 use Rattle.std.proofs.Common.{◌≡◌, ◌∙◌, ◌<◌, ◌≤◌, ◌==◌, ◌||◌, ℕ, zero, suc, ◌+◌, Bool, false, ◌∷◌, List, [], length, Option, Some, None, refl, sym, ap, subst, arith}
 use Rattle.std.specs.Prelude.{nat_lt, not, slice_get}
-use Rattle.std.proofs.lemmas.Bool.{le-ltb, ne_eqb}
-use Rattle.orch_base.specs.Chains.{is_reached, is_reached_on}
-use Rattle.openings.specs.declared.init.ServerInit.{ServerInit}
-use Rattle.openings.specs.Flaws.{at_server, at_source, bad_files, below_itself, both_given, first_met, source_not_logging, too_many}
-use Rattle.openings.specs.Servers.{count_of, log_at, number_of, source_of, sources}
-use Rattle.openings.proofs.Files.{log_at-files}
-use Rattle.scenario_servers.specs.declared.given.Given.{Given}
-use Rattle.scenario_servers.specs.Openings.{init_of, inits_from}
-use Rattle.scenario_generator.specs.declared.server.DrawnServer.{DrawnServer}
-use Rattle.scenario_generator.specs.declared.server.DrawnServer.TheVariants.{Root, Replica}
-use Rattle.scenario_generator.specs.Promises.{ArePlaced, IsPlaced}
-use Rattle.scenario_generator.specs.Servers as drawn
-use Rattle.generator_laws.specs.Drawn.{given_of, givens_from, inits_from_drawn, source_of as source_in}
+use Rattle.generator_laws.proofs.Prelude.{ArePlaced, DrawnServer, Given, IsPlaced, Replica, Root, ServerInit, at_server, at_source, bad_files}
+use Rattle.generator_laws.proofs.Prelude.{below_itself, both_given, count_of, first_met, given_of, givens_from, init_of, inits_from, inits_from_drawn}
+use Rattle.generator_laws.proofs.Prelude.{is_reached, is_reached_on, le-ltb, log_at, log_at-files, ne_eqb, number_of, source_not_logging, source_of}
+use Rattle.generator_laws.proofs.Prelude.{sources, too_many}
+use Rattle.generator_laws.proofs.Prelude.Drawn.{source_of as source_in}
+use Rattle.generator_laws.proofs.Prelude.drawn
 
 -- ---- the server of a number
 

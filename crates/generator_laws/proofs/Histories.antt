@@ -1,25 +1,13 @@
 -- What drawn servers have executed.
 use Rattle.std.proofs.Common.{◌≡◌, ◌∙◌, ◌<◌, ◌≤◌, ℕ, zero, suc, ◌∷◌, List, [], length, replicate, take, Option, Some, None, refl, sym, ap, arith, inl, inr}
 use Rattle.std.specs.Prelude.{get_or, slice_get}
-use Rattle.std.proofs.lemmas.List.{length-take-le, take_all}
-use Rattle.std.proofs.lemmas.Option.{slice_get_within, slice_get-get_or}
-use Rattle.orch_base.specs.declared.server.ServerNo.{ServerNo}
-use Rattle.orch_base.specs.declared.server.Txn.{Txn}
-use Rattle.openings.specs.declared.part.Part.{Part}
-use Rattle.openings.specs.Listed.{listed_history, next_txn, singles}
-use Rattle.openings.specs.Servers.{count_at, follow_on, history_at, number_of, parts_at, parts_of, reached_from, root_of, source_of as source_at, sources}
-use Rattle.openings.proofs.Chains.{reached_from-root}
-use Rattle.openings.proofs.Fronts.{slice_get-take}
-use Rattle.openings.proofs.ListedCounts.{length-listed_history}
-use Rattle.openings.proofs.Members.{get-append, get-replicate}
-use Rattle.openings.proofs.Sizes.{joined_by-each}
-use Rattle.scenario_servers.specs.declared.given.Given.{Given}
-use Rattle.scenario_servers.specs.Openings.{init_of}
-use Rattle.scenario_generator.specs.declared.server.DrawnServer.{DrawnServer}
-use Rattle.scenario_generator.specs.declared.server.DrawnServer.TheVariants.{Root, Replica}
-use Rattle.scenario_generator.specs.Promises.{ArePlaced}
-use Rattle.scenario_generator.specs.Servers as drawn
-use Rattle.generator_laws.specs.Drawn.{given_of, givens_from, inits_from_drawn, server_no, source_of}
+use Rattle.generator_laws.proofs.Prelude.{ArePlaced, DrawnServer, Given, Part, Replica, Root, ServerNo, Txn, count_at, follow_on, get-append}
+use Rattle.generator_laws.proofs.Prelude.{get-replicate, given_of, givens_from, history_at, init_of, inits_from_drawn, joined_by-each}
+use Rattle.generator_laws.proofs.Prelude.{length-listed_history, length-take-le, listed_history, next_txn, number_of, parts_at, parts_of}
+use Rattle.generator_laws.proofs.Prelude.{reached_from, reached_from-root, root_of, server_no, singles, slice_get-get_or, slice_get-take}
+use Rattle.generator_laws.proofs.Prelude.{slice_get_within, source_of as source_at, sources, take_all}
+use Rattle.generator_laws.proofs.Prelude.Drawn.{source_of}
+use Rattle.generator_laws.proofs.Prelude.drawn
 use Rattle.generator_laws.proofs.Flaws.{count_is, init_source, length-inits, opens_there, source_below}
 
 -- ---- what a root lists

@@ -1,24 +1,10 @@
 -- What drawn roots list is kin.
 use Rattle.std.proofs.Common.{◌≡◌, ◌∙◌, ◌≢◌, ◌<◌, ◌==◌, ℕ, zero, suc, true, false, ◌∷◌, List, [], Option, Some, None, refl, sym, ap, subst, arith}
 use Rattle.std.specs.Prelude.{not, slice_get}
-use Rattle.std.specs.List.{list_all}
-use Rattle.std.proofs.lemmas.Bool.{and_from, eq-eqb, ne_eqb}
-use Rattle.std.proofs.lemmas.Map.Keys.{any_passes_from_place}
-use Rattle.std.proofs.lemmas.Option.{same_Some}
-use Rattle.orch_base.specs.declared.server.Txn.{Txn}
-use Rattle.orch_base.specs.Histories.{holds, same_txn}
-use Rattle.openings.specs.declared.init.ServerInit.{ServerInit}
-use Rattle.openings.specs.Flaws.{first_met, not_kin}
-use Rattle.openings.specs.Kin.{agrees_with, all_below, histories_agree, is_home, is_kin, links, links_after, links_agree}
-use Rattle.openings.specs.Listed.{listed_history}
-use Rattle.openings.specs.Servers.{history_at}
-use Rattle.openings.proofs.Agreements.{list_all-from_get}
-use Rattle.opening_checks.proofs.ListTests.{all_below-from_each}
-use Rattle.scenario_servers.specs.declared.given.Given.{Given}
-use Rattle.scenario_servers.specs.Openings.{init_of}
-use Rattle.scenario_generator.specs.declared.server.DrawnServer.{DrawnServer}
-use Rattle.scenario_generator.specs.declared.server.DrawnServer.TheVariants.{Root, Replica}
-use Rattle.generator_laws.specs.Drawn.{given_of, givens_from, inits_from_drawn}
+use Rattle.generator_laws.proofs.Prelude.{DrawnServer, Given, Replica, Root, ServerInit, Txn, agrees_with, all_below, all_below-from_each, and_from}
+use Rattle.generator_laws.proofs.Prelude.{any_passes_from_place, eq-eqb, first_met, given_of, givens_from, histories_agree, history_at, holds}
+use Rattle.generator_laws.proofs.Prelude.{init_of, inits_from_drawn, is_home, is_kin, links, links_after, links_agree, list_all, list_all-from_get}
+use Rattle.generator_laws.proofs.Prelude.{listed_history, ne_eqb, not_kin, same_Some, same_txn}
 use Rattle.generator_laws.proofs.Flaws.{drawn_at, none_meets}
 use Rattle.generator_laws.proofs.Histories.{own_parts, own_txn, root_history}
 

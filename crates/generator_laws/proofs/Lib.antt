@@ -1,3 +1,4 @@
+mod Prelude
 pub mod Names
 pub mod Turns
 pub mod Servers

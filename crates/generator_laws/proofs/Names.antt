@@ -1,16 +1,8 @@
 -- Drawn names are found by their numbers.
 use Rattle.std.proofs.Common.{◌≡◌, ◌∙◌, ◌≢◌, ◌<◌, ◌≤◌, ℕ, zero, suc, ◌+◌, ◌^◌, Bool, true, false, Some, Ok, refl, sym, ap, arith, inl, inr}
-use Rattle.std.proofs.lemmas.Bool.Decides.{eqb_tells}
+use Rattle.generator_laws.proofs.Prelude.{HostPort, eqb_tells, first_named, name_in, name_of, name_reads, names_apart, names_from, same_name}
+use Rattle.generator_laws.proofs.Prelude.{same_name_tells, server_name, server_named, server_no, string}
 use Rattle.std.specs.Prelude.{IsTrue}
-use Rattle.serde_json.specs.Data.{string}
-use Rattle.orch_base.specs.Names.{HostPort, same_name}
-use Rattle.orch_base.proofs.SameNames.{same_name_tells}
-use Rattle.scenario_values.specs.Values.{name_in}
-use Rattle.scenario_servers.specs.Names.{first_named, server_named}
-use Rattle.scenario_generator.specs.Texts.{server_name}
-use Rattle.scenario_generator.proofs.Names.{name_reads}
-use Rattle.scenario_generator.proofs.Promises.{names_apart}
-use Rattle.generator_laws.specs.Drawn.{name_of, names_from, server_no}
 
 same_name_true : (a : HostPort) → same_name a a ≡ true
 same_name_true a = (same_name_tells a a).1 refl

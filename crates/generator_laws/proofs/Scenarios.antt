@@ -1,32 +1,12 @@
 -- Drawn scenarios read whole.
 use Rattle.std.proofs.Common.{◌≡◌, ◌∙◌, ◌<◌, ◌≤◌, ◌+◌, ℕ, true, false, ◌∷◌, List, [], length, None, Ok, refl, ap, subst, arith, replicate}
 use Rattle.std.specs.Prelude.{map, nat_le}
-use Rattle.std.proofs.lemmas.Bool.{le-leb}
-use Rattle.std.proofs.lemmas.List.{length-map}
-use Rattle.orch_base.specs.declared.server.ServerNo.{ServerNo}
-use Rattle.openings.specs.declared.init.ServerInit.{ServerInit}
-use Rattle.openings.specs.Flaws.{flaw_in}
-use Rattle.openings.specs.Opening.{opening}
-use Rattle.scenarios.specs.Scenarios.{IsScenario}
-use Rattle.scenario_servers.specs.Openings.{known_of, rules_of}
-use Rattle.scenario_openings.specs.Openings.{is_small, listed_count, opening_in}
-use Rattle.scenario_filters.specs.Filters.{everything, passes}
-use Rattle.scenario_turns.specs.Expansion.{expanded, in_order, printed_of}
-use Rattle.scenario_reader.specs.Scenarios.{bounded, scenario_in, scenario_with, turns_in}
-use Rattle.scenario_reader.proofs.Sound.{scenario_in_sound}
-use Rattle.scenario_generator.specs.declared.server.DrawnServer.{DrawnServer}
-use Rattle.scenario_generator.specs.declared.turn.DrawnTurn.{DrawnTurn}
-use Rattle.scenario_generator.specs.Bounds.{is_drawable}
-use Rattle.scenario_generator.specs.Promises.{ArePlaced}
-use Rattle.scenario_generator.specs.Servers as drawn
-use Rattle.scenario_generator.specs.Servers.{servers_from}
-use Rattle.scenario_generator.specs.Texts.{scenario_text, turns_data}
-use Rattle.scenario_generator.specs.Turns.{turns_from}
-use Rattle.scenario_generator.proofs.Promises.{counts_few, placed}
-use Rattle.scenario_generator.proofs.Servers.{servers_from-count}
-use Rattle.scenario_generator.proofs.Turns.{turns_from-count}
-use Rattle.generator_laws.specs.Drawn.{givens_from, inits_from_drawn, listed_turns, names_from, turn_of}
-use Rattle.generator_laws.specs.Whole.{drawn_head, drawn_scenario}
+use Rattle.generator_laws.proofs.Prelude.{ArePlaced, DrawnServer, DrawnTurn, IsScenario, ServerInit, ServerNo, bounded, counts_few, drawn_head}
+use Rattle.generator_laws.proofs.Prelude.{drawn_scenario, everything, expanded, flaw_in, givens_from, in_order, inits_from_drawn, is_drawable}
+use Rattle.generator_laws.proofs.Prelude.{is_small, known_of, le-leb, length-map, listed_count, listed_turns, names_from, opening, opening_in, passes}
+use Rattle.generator_laws.proofs.Prelude.{placed, printed_of, rules_of, scenario_in, scenario_in_sound, scenario_text, scenario_with, servers_from}
+use Rattle.generator_laws.proofs.Prelude.{servers_from-count, turn_of, turns_data, turns_from, turns_from-count, turns_in}
+use Rattle.generator_laws.proofs.Prelude.drawn
 use Rattle.generator_laws.proofs.Clusters.{none_is_elsewhere}
 use Rattle.generator_laws.proofs.Coords.{none_is_out_of_place}
 use Rattle.generator_laws.proofs.Flaws.{each_source_logs, length-inits, none_has_bad_files, none_has_both, none_has_too_many, none_is_below_itself}

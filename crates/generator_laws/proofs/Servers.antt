@@ -1,23 +1,11 @@
 -- Drawn servers read as what was drawn.
 use Rattle.std.proofs.Common.{◌≡◌, ◌<◌, ◌≤◌, ◌==◌, ℕ, zero, suc, ◌+◌, ◌^◌, true, false, ◌∷◌, List, [], length, take, Option, Some, Ok, refl, sym, ap, subst, arith}
 use Rattle.std.specs.Prelude.{nat_le, nat_lt, slice_get}
-use Rattle.std.specs.List.{list_any}
-use Rattle.std.proofs.lemmas.Bool.{le-leb, le-ltb, ne_eqb}
-use Rattle.std.proofs.lemmas.Option.{slice_get_within}
-use Rattle.serde_json.specs.Data.{array}
-use Rattle.scenario_values.specs.Faults.{each_from, item_count}
-use Rattle.scenario_values.specs.Values.{name_in, number_in, whole_in}
-use Rattle.scenario_servers.specs.Names.{has_uuid, listed_names, listed_uuids, own_name, own_uuid}
-use Rattle.scenario_servers.specs.Servers.{history_in, identity_in, listed_in, part_in, replication_in, server_from, server_in, servers_in, setup_in}
-use Rattle.scenario_generator.specs.declared.server.DrawnServer.{DrawnServer}
-use Rattle.scenario_generator.specs.declared.server.DrawnServer.TheVariants.{Root, Replica}
-use Rattle.scenario_generator.specs.Promises.{IsPlaced}
-use Rattle.scenario_generator.specs.Servers.{servers_from}
-use Rattle.scenario_generator.specs.Texts.{server_data, servers_data}
-use Rattle.scenario_generator.proofs.Names.{name_reads}
-use Rattle.scenario_generator.proofs.Promises.{placed}
-use Rattle.scenario_generator.proofs.Servers.{servers_from-count}
-use Rattle.generator_laws.specs.Drawn.{given_of, givens_from, name_of, names_from}
+use Rattle.generator_laws.proofs.Prelude.{DrawnServer, IsPlaced, Replica, Root, array, each_from, given_of, givens_from, has_uuid, history_in}
+use Rattle.generator_laws.proofs.Prelude.{identity_in, item_count, le-leb, le-ltb, list_any, listed_in, listed_names, listed_uuids, name_in, name_of}
+use Rattle.generator_laws.proofs.Prelude.{name_reads, names_from, ne_eqb, number_in, own_name, own_uuid, part_in, placed, replication_in, server_data}
+use Rattle.generator_laws.proofs.Prelude.{server_from, server_in, servers_data, servers_from, servers_from-count, servers_in, setup_in}
+use Rattle.generator_laws.proofs.Prelude.{slice_get_within, whole_in}
 use Rattle.generator_laws.proofs.Names.{first_of_names, named}
 
 -- ---- names and UUIDs of all

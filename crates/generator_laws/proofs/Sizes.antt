@@ -1,23 +1,9 @@
 -- Drawn scenarios are within the bound of what is listed and written.
 use Rattle.std.proofs.Common.{◌≡◌, ◌∙◌, ◌≢◌, ◌≤◌, ◌+◌, ◌*◌, ◌/◌, ◌%◌, ℕ, zero, suc, true, ◌∷◌, List, [], length, Some, refl, sym, ap, subst, arith}
 use Rattle.std.specs.Prelude.{count_by, map, slice_get, sum_by}
-use Rattle.std.proofs.lemmas.Bool.{le-leb, leb-true}
-use Rattle.std.proofs.lemmas.List.{length-map}
-use Rattle.std.proofs.lemmas.List.Sums.{count_by-le-length, sum_by-cons}
-use Rattle.std.proofs.lemmas.Nat.{mul-le}
-use Rattle.openings.specs.declared.init.ServerInit.{ServerInit}
-use Rattle.openings.specs.Listed.{transactions}
-use Rattle.openings.specs.Servers.{parts_of}
-use Rattle.scenarios.specs.Turns.{is_write}
-use Rattle.scenario_servers.specs.declared.given.Given.{Given}
-use Rattle.scenario_servers.specs.Openings.{init_of, inits_from}
-use Rattle.scenario_openings.specs.Openings.{is_small, listed_count}
-use Rattle.scenario_generator.specs.declared.server.DrawnServer.{DrawnServer}
-use Rattle.scenario_generator.specs.declared.server.DrawnServer.TheVariants.{Root, Replica}
-use Rattle.scenario_generator.specs.declared.turn.DrawnTurn.{DrawnTurn}
-use Rattle.scenario_generator.specs.Bounds.{is_drawable}
-use Rattle.scenario_generator.specs.Promises.{ArePlaced, IsPlaced}
-use Rattle.generator_laws.specs.Drawn.{given_of, givens_from, inits_from_drawn, turn_of}
+use Rattle.generator_laws.proofs.Prelude.{ArePlaced, DrawnServer, DrawnTurn, Given, IsPlaced, Replica, Root, ServerInit, count_by-le-length, given_of}
+use Rattle.generator_laws.proofs.Prelude.{givens_from, init_of, inits_from, inits_from_drawn, is_drawable, is_small, is_write, le-leb, leb-true}
+use Rattle.generator_laws.proofs.Prelude.{length-map, listed_count, mul-le, parts_of, sum_by-cons, transactions, turn_of}
 use Rattle.generator_laws.proofs.Flaws.{length-inits}
 
 -- a root stands at a ten, and no replica does

@@ -1,19 +1,9 @@
 -- Drawn turns read as what was drawn.
 use Rattle.std.proofs.Common.{◌≡◌, ◌<◌, ◌≤◌, ℕ, zero, suc, ◌+◌, ◌∷◌, List, [], Ok, refl, arith}
-use Rattle.std.proofs.lemmas.Bool.{le-leb}
+use Rattle.generator_laws.proofs.Prelude.{Apply, AreTurnsOf, DrawnTurn, Fetch, IsTurnOf, One, PollRead, PollStore, Rotate, Write, amount_of}
+use Rattle.generator_laws.proofs.Prelude.{each_from, le-leb, listed_turns, names_from, number_in, poll_of, poller_of, server_of, turn_data, turn_in}
+use Rattle.generator_laws.proofs.Prelude.{turn_of, turn_with, turns_are, turns_data, turns_from, whole_in, word_named}
 use Rattle.std.specs.Prelude.{nat_le, true}
-use Rattle.scenario_values.specs.Faults.{each_from}
-use Rattle.scenario_values.specs.Values.{number_in, whole_in}
-use Rattle.scenario_turns.specs.Turns.{amount_of, poll_of, poller_of, server_of, turn_in, turn_with}
-use Rattle.scenario_turns.specs.Words.{word_named}
-use Rattle.scenario_turns.specs.declared.expansion.ListedTurn.TheVariants.{One}
-use Rattle.scenario_generator.specs.declared.turn.DrawnTurn.{DrawnTurn}
-use Rattle.scenario_generator.specs.declared.turn.DrawnTurn.TheVariants.{Write, Fetch, Apply, Rotate, PollRead, PollStore}
-use Rattle.scenario_generator.specs.Promises.{AreTurnsOf, IsTurnOf}
-use Rattle.scenario_generator.specs.Texts.{turn_data, turns_data}
-use Rattle.scenario_generator.specs.Turns.{turns_from}
-use Rattle.scenario_generator.proofs.Promises.{turns_are}
-use Rattle.generator_laws.specs.Drawn.{listed_turns, names_from, turn_of}
 use Rattle.generator_laws.proofs.Names.{named}
 
 turn_reads : (servers : ℕ) (printed : List (List ℕ)) (t : DrawnTurn) → servers ≤ 1000 → IsTurnOf servers t → turn_in (names_from 0 servers) printed 1 (turn_data t) ≡ Ok (One (turn_of t))

@@ -1,16 +1,9 @@
 -- A drawn scenario reads as far as its servers' opening.
 use Rattle.std.proofs.Common.{◌≡◌, ◌<◌, ◌≤◌, ℕ, true, length, refl, arith}
 use Rattle.std.specs.Prelude.{nat_le}
-use Rattle.std.proofs.lemmas.Bool.{le-leb}
-use Rattle.orch_base.specs.declared.source.TheConstants.{MAX_SCENARIO_LEN}
-use Rattle.scenario_reader.specs.Scenarios.{head_in, keys_in, one_in, scenario_from, scenario_in, scenario_with}
-use Rattle.scenario_generator.specs.Servers.{servers_from}
-use Rattle.scenario_generator.specs.Texts.{drawn_data, scenario_text, turns_data}
-use Rattle.scenario_generator.specs.Turns.{turns_from}
-use Rattle.scenario_generator.proofs.Lines.{text_short, text_utf8}
-use Rattle.scenario_generator.proofs.Values.{text_reads}
-use Rattle.generator_laws.specs.Drawn.{givens_from, names_from}
-use Rattle.generator_laws.specs.Whole.{drawn_head}
+use Rattle.generator_laws.proofs.Prelude.{MAX_SCENARIO_LEN, drawn_data, drawn_head, givens_from, head_in, keys_in, le-leb, names_from, one_in}
+use Rattle.generator_laws.proofs.Prelude.{scenario_from, scenario_in, scenario_text, scenario_with, servers_from, text_reads, text_short, text_utf8}
+use Rattle.generator_laws.proofs.Prelude.{turns_data, turns_from}
 use Rattle.generator_laws.proofs.Servers.{servers_read}
 
 data_reads : (seed servers turns : ℕ) → 0 < servers → servers ≤ 1000

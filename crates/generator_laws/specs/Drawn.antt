@@ -1,26 +1,10 @@
 -- What a drawn scenario reads as.
 use Rattle.std.specs.Prelude.{ℕ, zero, suc, ◌+◌, ◌∷◌, List, [], true, false, Option, Some, None, map}
-use Rattle.orch_base.specs.declared.server.ServerNo.{ServerNo}
-use Rattle.orch_base.specs.Names.{HostPort}
-use Rattle.openings.specs.declared.init.ServerInit.{ServerInit}
-use Rattle.openings.specs.declared.part.Part.{Part}
-use Rattle.turns.specs.declared.turn.Turn.{Turn}
-use Rattle.turns.specs.declared.turn.Turn.TheVariants.{Act, Step}
-use Rattle.turns.specs.declared.turn.Step.TheVariants as step
-use Rattle.turns.specs.declared.turn.Act.TheVariants as act
-use Rattle.scenario_servers.specs.declared.given.Given.{Given}
-use Rattle.scenario_servers.specs.declared.given.Identity.{Identity}
-use Rattle.scenario_servers.specs.declared.given.Setup.{Setup}
-use Rattle.scenario_servers.specs.declared.given.Replication.{Replication}
-use Rattle.scenario_servers.specs.Openings.{inits_of}
-use Rattle.scenario_servers.specs.Servers.{default_version}
-use Rattle.scenario_turns.specs.declared.expansion.ListedTurn.{ListedTurn}
-use Rattle.scenario_turns.specs.declared.expansion.ListedTurn.TheVariants.{One}
-use Rattle.scenario_generator.specs.declared.server.DrawnServer.{DrawnServer}
-use Rattle.scenario_generator.specs.declared.server.DrawnServer.TheVariants.{Root, Replica}
-use Rattle.scenario_generator.specs.declared.turn.DrawnTurn.{DrawnTurn}
-use Rattle.scenario_generator.specs.declared.turn.DrawnTurn.TheVariants.{Write, Fetch, Apply, Rotate, PollRead, PollStore}
-use Rattle.scenario_generator.specs.Texts.{server_name}
+use Rattle.generator_laws.specs.Prelude.{Act, Apply, DrawnServer, DrawnTurn, Fetch, Given, HostPort, Identity, ListedTurn, One, Part, PollRead}
+use Rattle.generator_laws.specs.Prelude.{PollStore, Replica, Replication, Root, Rotate, ServerInit, ServerNo, Setup, Step, Turn, Write}
+use Rattle.generator_laws.specs.Prelude.{default_version, inits_of, server_name}
+use Rattle.generator_laws.specs.Prelude.act
+use Rattle.generator_laws.specs.Prelude.step
 
 abbrev pub server_no : ℕ → ServerNo
 server_no n = record { 0 = n }

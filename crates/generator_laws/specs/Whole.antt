@@ -1,13 +1,6 @@
 -- What stands before the servers of a drawn scenario, and the whole.
 use Rattle.std.specs.Prelude.{ℕ, ◌∷◌, [], true, false, None, codes, map, replicate}
-use Rattle.hook_texts.specs.Hooks.{no_hooks}
-use Rattle.openings.specs.Opening.{opening}
-use Rattle.scenarios.specs.declared.filters.FilterList.{FilterList}
-use Rattle.scenarios.specs.declared.scenario.Scenario.{Scenario}
-use Rattle.scenario_filters.specs.Filters.{no_filters}
-use Rattle.scenario_generator.specs.Servers.{servers_from}
-use Rattle.scenario_generator.specs.Turns.{turns_from}
-use Rattle.scenario_reader.specs.declared.head.Head.{Head}
+use Rattle.generator_laws.specs.Prelude.{FilterList, Head, Scenario, no_filters, no_hooks, opening, servers_from, turns_from}
 use Rattle.generator_laws.specs.Drawn.{inits_from_drawn, turn_of}
 
 -- every key but the version is absent

@@ -2,18 +2,8 @@
 #![tactic(auto)]
 
 ghost use Rattle.std.specs.Prelude.{◌≡◌, ℕ, ◌+◌, ◌<◌, ◌≤◌, List, None, Ok, false, true};
-ghost use Rattle.serde_json.specs.Data.{array};
-ghost use Rattle.openings.specs.Flaws.{flaw_in};
-ghost use Rattle.scenarios.specs.Scenarios.{IsScenario};
-ghost use Rattle.scenario_values.specs.Faults.{each};
-ghost use Rattle.scenario_servers.specs.Servers.{servers_in};
-ghost use Rattle.scenario_turns.specs.Turns.{turn_in};
-ghost use Rattle.scenario_openings.specs.Openings.{is_small, listed_count};
-ghost use Rattle.scenario_generator.specs.Bounds.{is_drawable};
-ghost use Rattle.scenario_generator.specs.Servers.{servers_from};
-ghost use Rattle.scenario_generator.specs.Texts.{scenario_text, servers_data, turns_data};
-ghost use Rattle.scenario_generator.specs.Turns.{turns_from};
-ghost use Rattle.scenario_reader.specs.Scenarios.{scenario_in, scenario_with};
+ghost use Rattle.generator_laws.specs.Prelude.{IsScenario, array, each, flaw_in, is_drawable, is_small, listed_count, scenario_in, scenario_text};
+ghost use Rattle.generator_laws.specs.Prelude.{scenario_with, servers_data, servers_from, servers_in, turn_in, turns_data, turns_from};
 ghost use Rattle.generator_laws.specs.Drawn.{givens_from, inits_from_drawn, listed_turns, names_from};
 ghost use Rattle.generator_laws.specs.Whole.{drawn_head, drawn_scenario};
 

@@ -1,18 +1,11 @@
 -- The count is the number of pairs.
 use Rattle.std.proofs.Common.{◌≡◌, ℕ, zero, suc, ◌+◌, ◌-◌, ◌^◌, ◌<◌, ◌≤◌, false, eqb, ltb, leb, List, [], ◌∷◌, ◌++◌, length, length-append, refl, sym, ap, ◌∙◌, subst, arith}
 use Rattle.std.specs.Prelude.{◌&&◌, ◌||◌, ◌==◌, map}
-use Rattle.std.specs.List.{All, AllPairs, list_any, range_with_len}
-use Rattle.std.proofs.lemmas.Bool.Decides.{nat_tests}
-use Rattle.std.proofs.lemmas.List.Elements.{All-head, All-tail, All-cons, All-append}
-use Rattle.std.proofs.lemmas.List.Folds.{list_any-append}
-use Rattle.std.proofs.lemmas.List.FromFn.{length-range_with_len}
-use Rattle.std.proofs.lemmas.List.Kept.{AllPairs-cons}
-use Rattle.std.proofs.lemmas.List.Sums.{sum_by-cons}
-use Rattle.gtid_sets.specs.Sets.{point, low, high, on_line, holds, size, IsInterval, IsSet}
-use Rattle.gtid_sets.specs.Pairs.{pairs}
+use Rattle.gtid_sets.proofs.Prelude.{All, All-append, All-cons, All-head, All-tail, AllPairs, AllPairs-cons, Interval, IsInterval, IsSet, high, holds}
+use Rattle.gtid_sets.proofs.Prelude.{length-range_with_len, list_any, list_any-append, low, nat_tests, on_line, pairs, point, range_with_len, size}
+use Rattle.gtid_sets.proofs.Prelude.{sum_by-cons}
 use Rattle.gtid_sets.proofs.Line.{point_behind}
 use Rattle.gtid_sets.proofs.Points.{holds_line}
-use Rattle.gtid_sets.specs.declared.interval.Interval.{Interval}
 
 -- consecutive numbers have consecutive points
 points_run : (u a n : ℕ) → map (point u) (range_with_len a n) ≡ range_with_len (point u a) n

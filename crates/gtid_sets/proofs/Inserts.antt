@@ -1,15 +1,10 @@
 -- An interval among those of a set.
 use Rattle.std.proofs.Common.{◌≡◌, ℕ, ◌+◌, ◌^◌, ◌<◌, ◌≤◌, Bool, true, false, cond, eqb, leb, min, max, List, [], ◌∷◌, ◌++◌, length, get_or, take, drop, refl, sym, ap, ◌∙◌, subst, arith, zero, suc, inl, inr}
 use Rattle.std.specs.Prelude.{◌&&◌, ◌||◌, ◌-◌}
-use Rattle.std.specs.List.{All, AllWithin, AllPairs, remove}
-use Rattle.std.proofs.lemmas.Bool.{eqb-true, and_parts, false≢true, cases_lt}
-use Rattle.std.proofs.lemmas.List.{get_or-drop, length-drop}
-use Rattle.std.proofs.lemmas.List.Edits.{length-remove, get_or-remove_below, get_or-remove_above}
-use Rattle.std.proofs.lemmas.Bool.Decides.{nat_tests}
-use Rattle.std.proofs.lemmas.List.Elements.{All-head, All-tail}
-use Rattle.gtid_sets.specs.Sets.{point, low, high, spans, holds, largest, IsInterval, IsSet}
-use Rattle.gtid_sets.specs.Adding.{single, touches, merged, is_before, inserted, touches_first, with_pair}
-use Rattle.gtid_sets.specs.declared.interval.Interval.{Interval}
+use Rattle.gtid_sets.proofs.Prelude.{All, All-head, All-tail, AllPairs, AllWithin, Interval, IsInterval, IsSet, and_parts, cases_lt, eqb-true}
+use Rattle.gtid_sets.proofs.Prelude.{false≢true, get_or-drop, get_or-remove_above, get_or-remove_below, high, holds, inserted, is_before, largest}
+use Rattle.gtid_sets.proofs.Prelude.{length-drop, length-remove, low, merged, nat_tests, point, remove, single, spans, touches, touches_first}
+use Rattle.gtid_sets.proofs.Prelude.{with_pair}
 use Rattle.gtid_sets.proofs.Line.{low_high}
 
 abbrev pub Rises : Interval → Type 0

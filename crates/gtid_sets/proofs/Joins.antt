@@ -1,13 +1,8 @@
 -- A set that grows at its end.
 use Rattle.std.proofs.Common.{◌≡◌, ℕ, ◌+◌, ◌<◌, ◌≤◌, List, [], ◌∷◌, ◌++◌, length, get_or, sym, subst, arith, length-append}
-use Rattle.std.proofs.Math.ListN.{get_or-append}
-use Rattle.std.proofs.Math.Seq.{get_or-append_seam}
-use Rattle.std.specs.List.{All, AllPairs}
-use Rattle.std.proofs.lemmas.List.Elements.{All-push}
-use Rattle.std.proofs.lemmas.List.Quantifiers.{all_pairs_push}
-use Rattle.gtid_sets.specs.Sets.{low, high, IsInterval, IsSet}
+use Rattle.gtid_sets.proofs.Prelude.{All, All-push, AllPairs, Interval, IsInterval, IsSet, all_pairs_push, get_or-append, get_or-append_seam, high}
+use Rattle.gtid_sets.proofs.Prelude.{low}
 use Rattle.gtid_sets.proofs.Line.{point_rises}
-use Rattle.gtid_sets.specs.declared.interval.Interval.{Interval}
 
 pub record Front (ys : List Interval) (l : Interval) : Type 0 where
   pub front : IsSet ys

@@ -1,3 +1,4 @@
+mod Prelude
 pub mod Line
 pub mod Joins
 pub mod Points

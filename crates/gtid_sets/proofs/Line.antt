@@ -1,9 +1,7 @@
 -- The order of pairs.
 use Rattle.std.proofs.Common.{◌≡◌, ℕ, ◌+◌, ◌^◌, ◌<◌, ◌≤◌, false, eqb, ltb, leb, max, arith}
 use Rattle.std.specs.Prelude.{◌&&◌, ◌||◌}
-use Rattle.std.proofs.lemmas.Bool.Decides.{nat_tests}
-use Rattle.gtid_sets.specs.Sets.{point, low, high, between, spans, IsInterval}
-use Rattle.gtid_sets.specs.declared.interval.Interval.{Interval}
+use Rattle.gtid_sets.proofs.Prelude.{Interval, IsInterval, between, high, low, nat_tests, point, spans}
 
 pub point_lt : (u n v m : ℕ) → n < 2 ^ 64 → m < 2 ^ 64 → ltb (point u n) (point v m) ≡ (ltb u v || (eqb u v && ltb n m))
 unfolding point

@@ -1,11 +1,6 @@
 -- The part of a set that is of one UUID.
 use Rattle.std.proofs.Common.{◌≡◌, ℕ, ◌+◌, ◌<◌, ◌==◌, ◌&&◌, true, List, filter, arith}
-use Rattle.std.proofs.lemmas.Grind.{common_steps}
-use Rattle.std.proofs.lemmas.List.Elements.{All-filter}
-use Rattle.std.proofs.lemmas.List.Kept.{AllPairs-filter}
-use Rattle.std.proofs.lemmas.Map.Views.{any-filter_same}
-use Rattle.gtid_sets.specs.declared.interval.Interval.{Interval}
-use Rattle.gtid_sets.specs.Sets.{high, holds, low, spans, IsInterval, IsSet}
+use Rattle.gtid_sets.proofs.Prelude.{All-filter, AllPairs-filter, Interval, IsInterval, IsSet, any-filter_same, common_steps, high, holds, low, spans}
 
 pub part_is_set : (uuid : ℕ) (xs : List Interval) → IsSet xs → IsSet (filter (λ s. s.uuid == uuid) xs)
 part_is_set uuid xs set = record {

@@ -1,18 +1,12 @@
 -- Texts that are divided.
 use Rattle.std.proofs.Common.{◌≡◌, ℕ, suc, ◌+◌, ◌-◌, ◌*◌, ◌^◌, ◌<◌, ◌≤◌, inl, inr, Bool, true, false, cond, eqb, ltb, min, not, List, [], ◌∷◌, ◌++◌, length, take, drop, Option, Some, None, Ok, Err, Result, refl, sym, ap, ◌∙◌, subst, append_assoc, append-nil, drop-drop, arith}
 use Rattle.std.specs.Prelude.{◌||◌, position, unwrap_or, option_map}
-use Rattle.std.specs.List.{position_or_len}
-use Rattle.std.proofs.lemmas.Bool.Decides.{nat_tests}
-use Rattle.std.proofs.lemmas.Bool.{cases_lt, lt-ltb, le-ltb}
-use Rattle.std.proofs.lemmas.List.{take_all, length-take-le}
+use Rattle.gtid_sets.proofs.Prelude.{BadInterval, BadUuid, GtidFault, Interval, Memory, TooLarge, Zero, begin_of, behind, cases_lt, end_of, fault_of}
+use Rattle.gtid_sets.proofs.Prelude.{filled_at, inner, interval_at, interval_of, intervals_at, is_colon, is_comma, largest, le-ltb, leading}
+use Rattle.gtid_sets.proofs.Prelude.{length-take-le, listed_at, lt-ltb, nat_tests, number_at, number_or, onto_first, parsed, parsed_hyphenated}
+use Rattle.gtid_sets.proofs.Prelude.{part_at, parts_at, pieces, position_or_len, take_all, text_at, uuid_or}
 use Rattle.std.specs.Prelude.{MatchOption, ⊤}
-use Rattle.uuid.specs.Text.{parsed, parsed_hyphenated}
-use Rattle.gtid_sets.specs.declared.interval.Interval.{Interval}
-use Rattle.gtid_sets.specs.declared.fault.GtidFault.{GtidFault}
-use Rattle.gtid_sets.specs.declared.fault.GtidFault.TheVariants.{BadUuid, BadInterval, Zero, TooLarge, Memory}
 use Rattle.gtid_sets.specs.Gives.{◌>>=◌}
-use Rattle.gtid_sets.specs.Sets.{largest}
-use Rattle.gtid_sets.specs.Grammar.{pieces, onto_first, number_at, is_colon, is_comma, leading, inner, listed_at, filled_at, text_at, part_at, parts_at, number_or, interval_of, begin_of, end_of, interval_at, intervals_at, uuid_or, fault_of, behind}
 
 first_or_more : (b : Bool) (m n : ℕ) → m ≤ n → cond b (1 + m) 0 ≤ suc n
 first_or_more true m n h = omega arith
@@ -136,11 +130,8 @@ unfolding interval_at
 read_no_last u p f t e g = none_last u p f (number_at (begin_of t)) (number_at (end_of t)) e g
 
 pub fault_given : (e : GtidFault) (read : Result (List Interval) GtidFault) → read ≡ Err e → MatchOption (fault_of e) ⊤ (λ f. read ≡ Err f)
-fault_given (BadUuid p) read h = h
-fault_given (BadInterval p) read h = h
-fault_given (Zero p) read h = h
-fault_given (TooLarge p) read h = h
 fault_given Memory read h = tt
+fault_given _ read h = h
 
 behind_more : (found : List Interval) (one : Interval) (r : Result (List Interval) GtidFault) → behind found (r >>= (λ more. Ok (one ∷ more))) ≡ behind (found ++ one ∷ []) r
 behind_more found one (Ok more) = ap Ok (sym (append_assoc found (one ∷ []) more))

@@ -1,15 +1,9 @@
 -- Pairs by their points.
 use Rattle.std.proofs.Common.{◌≡◌, ℕ, ◌+◌, ◌^◌, ◌<◌, ◌≤◌, inl, inr, Bool, true, false, eqb, leb, List, [], ◌∷◌, length, get_or, take, refl, sym, ap, ◌∙◌, subst, arith}
 use Rattle.std.specs.Prelude.{◌&&◌, ◌||◌}
-use Rattle.std.specs.List.{All, AllWithin}
-use Rattle.std.proofs.lemmas.Bool.Decides.{nat_tests}
-use Rattle.std.proofs.lemmas.Bool.{cases_lt}
-use Rattle.std.proofs.lemmas.List.{get_or_default}
-use Rattle.std.proofs.lemmas.List.Elements.{All-head, All-tail}
-use Rattle.std.proofs.lemmas.List.Folds.{list_any_more}
-use Rattle.gtid_sets.specs.Sets.{point, low, high, between, on_line, holds, IsInterval, IsSet}
+use Rattle.gtid_sets.proofs.Prelude.{All, All-head, All-tail, AllWithin, Interval, IsInterval, IsSet, between, cases_lt, get_or_default, high, holds}
+use Rattle.gtid_sets.proofs.Prelude.{list_any_more, low, nat_tests, on_line, point}
 use Rattle.gtid_sets.proofs.Line.{spans_line, spans_past, low_high}
-use Rattle.gtid_sets.specs.declared.interval.Interval.{Interval}
 
 pub holds_line : (xs : List Interval) (u n : ℕ) → All IsInterval xs → n < 2 ^ 64 → holds xs u n ≡ on_line xs (point u n)
 holds_line [] u n all fits = refl
@@ -63,11 +57,9 @@ rises_past ys j d s is h k e l r =
     omega arith
 
 or_past : (a b p : Bool) → ((a || b) || p) ≡ ((a || p) || b)
-or_past true b p = refl
 or_past false true true = refl
-or_past false true false = refl
 or_past false false true = refl
-or_past false false false = refl
+or_past _ _ _ = refl
 
 or_more : (a b p : Bool) → ((a || b) || p) ≡ (a || (b || p))
 or_more true b p = refl

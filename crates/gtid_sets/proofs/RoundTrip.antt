@@ -1,26 +1,15 @@
 -- What is printed reads as the same set.
+use Rattle.gtid_sets.proofs.Prelude.{AllPass-from_list_all, Interval, IsInterval, IsNumeralModel, IsSet, all_ascii_digits, and_parts, by_index_at}
+use Rattle.gtid_sets.proofs.Prelude.{by_index_length, byte_at, bytes_high_first, digit_place, digits_decimal, digits_value-decimal, drop-append-add}
+use Rattle.gtid_sets.proofs.Prelude.{eqb-true, filled_at, first_decimal, fold, from_be_bytes, from_be_bytes-to_be_bytes_16}
+use Rattle.gtid_sets.proofs.Prelude.{get_or-reverse, hex_digit, hyphenated_text, interval_at, interval_of, intervals_at, is_ascii_digit, is_blank}
+use Rattle.gtid_sets.proofs.Prelude.{is_colon, is_comma, is_dash, is_hyphen_place, largest, le-ltb, leading, length-append, length-reverse, list_all}
+use Rattle.gtid_sets.proofs.Prelude.{list_all-append, list_all-from_AllPass, lower, lt-ltb, nat_tests, ne_eqb, nibble, nibble_small}
+use Rattle.gtid_sets.proofs.Prelude.{not-true as not_true, number_at, numerals_by_fold, parsed_hyphenated, parses_hyphenated_text, part_at, parts_at}
+use Rattle.gtid_sets.proofs.Prelude.{pieces, position_or_len, printed, range_text, take_all, take_at, tells_all_ascii_digits, text_at, texts}
+use Rattle.gtid_sets.proofs.Prelude.{to_be_bytes, trailing, uuid_or, uuid_text, value_of, w128}
 use Rattle.std.proofs.Common.{◌≡◌, ℕ, zero, suc, ◌+◌, ◌-◌, ◌*◌, ◌/◌, ◌%◌, ◌^◌, ◌<◌, ◌≤◌, Bool, true, false, not, cond, eqb, ltb, List, [], ◌∷◌, ◌++◌, length, get_or, take, drop, Option, Some, None, Ok, All, inl, refl, sym, ap, ◌∙◌, subst, append_assoc, append-nil, arith}
 use Rattle.std.specs.Prelude.{◌&&◌, decimal, reverse, nat_le, ◌==◌}
-use Rattle.std.specs.List.{list_all, fold, position_or_len}
-use Rattle.std.specs.Char.{is_ascii_digit}
-use Rattle.std.specs.Str.{all_ascii_digits}
-use Rattle.std.specs.Int.{from_be_bytes, to_be_bytes, w128, bytes_high_first, byte_at}
-use Rattle.std.proofs.lemmas.Bool.{false≢true, lt-ltb, le-ltb, eqb-true, ne_eqb}
-use Rattle.std.proofs.lemmas.Bool.Decides.{nat_tests}
-use Rattle.std.proofs.lemmas.List.{take_all, take_at, length-append, length-reverse, get_or-reverse}
-use Rattle.std.proofs.lemmas.List.Folds.{list_all-append}
-use Rattle.std.proofs.lemmas.List.Sums.{AllPass-from_list_all, list_all-from_AllPass}
-use Rattle.std.proofs.lemmas.Fmt.{first_decimal, digits_decimal, digits_value-decimal}
-use Rattle.std.proofs.lemmas.Str.Parse.{IsNumeralModel, numerals_by_fold, tells_all_ascii_digits}
-use Rattle.std.proofs.Math.Seq.{drop-append-add}
-use Rattle.uuid.specs.Text.{parsed_hyphenated, hyphenated_text, lower, nibble, hex_digit, is_hyphen_place, digit_place}
-use Rattle.uuid.proofs.TextLemmas.{by_index_length, by_index_at, nibble_small}
-use Rattle.uuid.proofs.RoundTrips.{parses_hyphenated_text}
-use Rattle.uuid.proofs.OrderLemmas.{from_be_bytes-to_be_bytes_16}
-use Rattle.gtid_sets.specs.declared.interval.Interval.{Interval}
-use Rattle.gtid_sets.specs.Sets.{largest, IsInterval, IsSet}
-use Rattle.gtid_sets.specs.Grammar.{is_blank, is_colon, is_comma, is_dash, pieces, leading, trailing, value_of, number_at, interval_of, interval_at, intervals_at, uuid_or, filled_at, part_at, parts_at, text_at}
-use Rattle.gtid_sets.specs.Printed.{uuid_text, range_text, texts, printed}
 
 -- neither a blank nor a comma, and no colon besides
 abbrev in_part : ℕ → Bool
@@ -28,14 +17,6 @@ in_part b = nat_le 45 b
 
 abbrev in_word : ℕ → Bool
 in_word b = nat_le 45 b && not (b == 58)
-
-and_parts : (a b : Bool) → (a && b) ≡ true → (a ≡ true) × (b ≡ true)
-and_parts true b e = (refl, e)
-and_parts false b e = absurd (false≢true e)
-
-not_true : (b : Bool) → not b ≡ true → b ≡ false
-not_true false e = refl
-not_true true e = absurd (false≢true e)
 
 all_imply : (p q : ℕ → Bool) → ((b : ℕ) → p b ≡ true → q b ≡ true) → (bs : List ℕ) → list_all p bs ≡ true → list_all q bs ≡ true
 all_imply p q h [] e = refl

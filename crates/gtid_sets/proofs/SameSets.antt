@@ -1,11 +1,8 @@
 -- Two sets that have the same pairs have the same intervals.
-use Rattle.std.proofs.Common.{◌≡◌, ℕ, suc, ◌+◌, ◌/◌, ◌%◌, ◌^◌, ◌<◌, ◌≤◌, Bool, true, false, leb, List, [], ◌∷◌, inl, inr, refl, sym, ap, ◌∙◌, subst, arith}
-use Rattle.std.specs.Prelude.{◌&&◌, ◌||◌}
-use Rattle.std.specs.List.{All}
-use Rattle.std.proofs.lemmas.Bool.{false≢true, cases_lt}
-use Rattle.std.proofs.lemmas.Bool.Decides.{nat_tests}
-use Rattle.gtid_sets.specs.declared.interval.Interval.{Interval}
-use Rattle.gtid_sets.specs.Sets.{point, low, high, between, on_line, holds, IsInterval, IsSet}
+use Rattle.gtid_sets.proofs.Prelude.{All, Interval, IsInterval, IsSet, between, cases_lt, false≢true, high, holds, low, nat_tests, on_line}
+use Rattle.gtid_sets.proofs.Prelude.{or_left as or_first, point}
+use Rattle.std.proofs.Common.{◌≡◌, ℕ, suc, ◌+◌, ◌/◌, ◌%◌, ◌^◌, ◌<◌, ◌≤◌, true, false, leb, List, [], ◌∷◌, inl, inr, refl, sym, ap, ◌∙◌, subst, arith}
+use Rattle.std.specs.Prelude.{◌&&◌}
 use Rattle.gtid_sets.proofs.Line.{low_high}
 use Rattle.gtid_sets.proofs.Points.{holds_line}
 
@@ -29,10 +26,6 @@ past_between x l h less = grind (arith, nat_tests)
 
 in_between : (x l h : ℕ) → l ≤ x → x ≤ h → (leb l x && leb x h) ≡ true
 in_between x l h a b = grind (arith, nat_tests)
-
-or_first : (a b : Bool) → a ≡ true → (a || b) ≡ true
-or_first true b e = refl
-or_first false b e = absurd (false≢true e)
 
 -- no point before the first of the intervals is on one
 below_none : (m x : ℕ) (xs : List Interval) → All (λ t. m < low t) xs → x ≤ m → on_line xs x ≡ false

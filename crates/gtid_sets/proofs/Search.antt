@@ -1,16 +1,11 @@
 -- Where a set's intervals stand beside a pair.
+use Rattle.gtid_sets.proofs.Prelude.{All, AllWithin, Interval, IsInterval, IsSet, Misses, OnFalse, between, cases_lt, false≢true, get_or_default}
+use Rattle.gtid_sets.proofs.Prelude.{high, holds, le-leb as at_or_above, list_any_at, list_any_none, low, lt-leb as not_above, nat_tests, on_line}
+use Rattle.gtid_sets.proofs.Prelude.{point, spans, take_all}
 use Rattle.std.proofs.Common.{◌≡◌, ℕ, ◌+◌, ◌^◌, ◌<◌, ◌≤◌, inl, inr, Bool, true, false, ltb, leb, not, List, [], ◌∷◌, length, get_or, take, refl, sym, ◌∙◌, subst, arith}
 use Rattle.std.specs.Prelude.{◌&&◌, ◌||◌}
-use Rattle.std.specs.List.{All, AllWithin}
-use Rattle.std.specs.Bool.{OnFalse}
-use Rattle.std.proofs.lemmas.Bool.Decides.{nat_tests}
-use Rattle.std.proofs.lemmas.Bool.{cases_lt, false≢true}
-use Rattle.std.proofs.lemmas.List.{get_or_default, take_all}
-use Rattle.std.proofs.lemmas.List.Folds.{list_any_none, list_any_at}
-use Rattle.gtid_sets.specs.Sets.{point, low, high, between, on_line, spans, holds, IsInterval, IsSet, Misses}
 use Rattle.gtid_sets.proofs.Line.{low_high, point_rises, point_within, point_behind}
 use Rattle.gtid_sets.proofs.Points.{holds_line, holds_past, rises, rise_highs}
-use Rattle.gtid_sets.specs.declared.interval.Interval.{Interval}
 
 inside : (a b x : ℕ) → a ≤ x → x ≤ b → (leb a x && leb x b) ≡ true
 inside a b x l r = grind (arith, nat_tests)
@@ -20,12 +15,6 @@ below a b x l = grind (arith, nat_tests)
 
 pub above : (a b x : ℕ) → b < x → (leb a x && leb x b) ≡ false
 above a b x l = grind (arith, nat_tests)
-
-at_or_above : (a x : ℕ) → a ≤ x → leb a x ≡ true
-at_or_above a x l = grind (arith, nat_tests)
-
-not_above : (a x : ℕ) → x < a → leb a x ≡ false
-not_above a x l = grind (arith, nat_tests)
 
 -- where all intervals below i end before x and the one at i does not
 pub line_at : (xs : List Interval) (i : ℕ) (d : Interval) (x : ℕ) → IsSet xs → i < length xs → AllWithin (λ s. high s < x) xs 0 i → x ≤ high (get_or xs i d)

@@ -1,15 +1,11 @@
 -- One set without another, from the front on.
 use Rattle.std.proofs.Common.{◌≡◌, ℕ, ◌+◌, ◌-◌, ◌^◌, ◌<◌, ◌≤◌, inl, inr, Bool, true, false, ltb, leb, max, not, List, [], length, get_or, refl, sym, ap, ◌∙◌, subst, arith}
 use Rattle.std.specs.Prelude.{◌&&◌, ◌||◌}
-use Rattle.std.specs.List.{AllWithin}
-use Rattle.std.proofs.lemmas.Bool.Decides.{nat_tests}
-use Rattle.std.proofs.lemmas.Bool.{cases_lt, lt-ltb, le-ltb}
-use Rattle.std.proofs.lemmas.List.Folds.{list_any_none}
-use Rattle.gtid_sets.specs.Sets.{point, low, high, between, on_line, holds, IsInterval, IsSet}
+use Rattle.gtid_sets.proofs.Prelude.{AllWithin, Interval, IsInterval, IsSet, between, cases_lt, high, holds, le-ltb, list_any_none, low, lt-ltb}
+use Rattle.gtid_sets.proofs.Prelude.{nat_tests, on_line, point}
 use Rattle.gtid_sets.proofs.Line.{low_high, point_within, point_behind, point_rises}
 use Rattle.gtid_sets.proofs.Points.{holds_line, holds_past, rises}
 use Rattle.gtid_sets.proofs.Search.{line_at, line_past, above, below}
-use Rattle.gtid_sets.specs.declared.interval.Interval.{Interval}
 
 pub minus_holds : (xs ys zs : List Interval) → IsSet xs → IsSet ys → IsSet zs → ((x : ℕ) → on_line zs x ≡ (on_line xs x && not (on_line ys x)))
     → (u n : ℕ) → holds zs u n ≡ (holds xs u n && not (holds ys u n))

@@ -1,8 +1,6 @@
 -- What is printed so far, and what is left.
 use Rattle.std.proofs.Common.{◌≡◌, ℕ, ◌+◌, ◌<◌, ◌≤◌, List, [], ◌∷◌, ◌++◌, length, get_or, drop, drop-cons, add-one, append-nil, append_assoc, Option, Some, refl, sym, ap, ◌∙◌}
-use Rattle.std.proofs.lemmas.List.{drop_all}
-use Rattle.gtid_sets.specs.declared.interval.Interval.{Interval}
-use Rattle.gtid_sets.specs.Printed.{head_text, range_text, texts}
+use Rattle.gtid_sets.proofs.Prelude.{Interval, drop_all, head_text, range_text, texts}
 
 pub texts_more : (before : Option ℕ) (xs : List Interval) (i : ℕ) (d : Interval) → i < length xs
     → texts before (drop i xs) ≡ (head_text before (get_or xs i d).uuid ++ 58 ∷ range_text (get_or xs i d)) ++ texts (Some (get_or xs i d).uuid) (drop (i + 1) xs)

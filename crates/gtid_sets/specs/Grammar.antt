@@ -7,8 +7,8 @@ use Rattle.uuid.specs.Text.{parsed_hyphenated}
 use Rattle.gtid_sets.specs.declared.interval.Interval.{Interval}
 use Rattle.gtid_sets.specs.declared.fault.GtidFault.{GtidFault}
 use Rattle.gtid_sets.specs.declared.fault.GtidFault.TheVariants.{BadUuid, BadInterval, Zero, TooLarge, Memory}
-use Rattle.gtid_sets.specs.Gives.{◌>>=◌}
 use Rattle.gtid_sets.specs.Sets.{largest, holds}
+use Rattle.gtid_sets.specs.Gives.{◌>>=◌}
 
 -- the fault that a text has, and nothing at want of memory
 abbrev pub fault_of : GtidFault → Option GtidFault

@@ -8,7 +8,6 @@ mod interval;
 mod print;
 mod reserved;
 mod set;
-mod threads;
 
 pub use fault::GtidFault;
 pub use interval::{Interval, LARGEST};

@@ -7,7 +7,7 @@ ghost use Rattle.std.specs.List.{All, AllPairs, AllWithin, list_any};
 ghost use Rattle.gtid_sets.specs.Grammar.{Reads, text_at};
 ghost use Rattle.gtid_sets.specs.Pairs.{pairs};
 ghost use Rattle.gtid_sets.specs.Printed.{printed};
-ghost use Rattle.gtid_sets.specs.Sets.{point, low, high, holds, spans, size, largest, on_line, between, IsInterval, IsSet, Misses};
+ghost use Rattle.gtid_sets.specs.Sets.{point, low, high, holds, size, largest, on_line, between, IsInterval, IsSet, Misses};
 
 use crate::Memory;
 use crate::fault::GtidFault;

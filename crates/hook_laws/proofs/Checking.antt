@@ -1,40 +1,18 @@
 -- A recovery that looks at its failed server changes none.
 use Rattle.std.proofs.Common.{◌≡◌, ◌∙◌, ◌⊎◌, inl, inr, ℕ, Bool, false, List, [], ◌∷◌, ◌++◌, Option, Some, None, refl, sym, ap, cond, subst}
 use Rattle.std.specs.Prelude.{slice_get}
-use Rattle.hook_texts.specs.declared.hooks.Hook.{Hook}
-use Rattle.instance_keeper.specs.Book.{BookState}
-use Rattle.kept_rows.specs.Seeing.{seen_in}
-use Rattle.operations.specs.declared.op.Op.{Op}
-use Rattle.operations.specs.declared.step.JobStep.{JobStep}
-use Rattle.operations.specs.declared.step.JobStep.TheVariants as step
-use Rattle.operations.specs.declared.op.Op.TheVariants as op
-use Rattle.commands.specs.declared.cause.Cause.{Cause}
-use Rattle.commands.specs.declared.cause.Cause.TheVariants as cause
-use Rattle.commands.specs.declared.line.Line.{Line}
-use Rattle.kept_rows.specs.declared.observation.Observation.{Observation}
-use Rattle.operations.specs.Deeds.{deed_of}
-use Rattle.operations.specs.Jobs.{Job}
-use Rattle.operations.specs.Turns as attempt
-use Rattle.operations.specs.Turns.{after_look, by_deed, next, observed, restarts, saw, Attempt}
-use Rattle.orch_base.specs.Names.{HostPort}
-use Rattle.orch_base.specs.declared.server.Moment.{Moment}
-use Rattle.server_words.specs.declared.status.Status.{Status}
-use Rattle.recovery_hooks.specs.Runs.{due_before, HookState}
-use Rattle.recovery_plans.specs.declared.purpose.Purpose.{Purpose}
-use Rattle.recovery_plans.specs.declared.purpose.Purpose.TheVariants as purpose
-use Rattle.recovery_plans.specs.declared.stage.Stage.{Stage}
-use Rattle.recovery_plans.specs.declared.stage.Stage.TheVariants as stage
-use Rattle.recovery_plans.specs.Deciding.{by_queue, decided, ground_of, once}
-use Rattle.recovery_plans.specs.Recoveries.{Recovery}
-use Rattle.recovery_plans.specs.Taking.{acted, attempted, barred_by, fate, last_exchanges, met, on_going, settled, taken, undone, Fate, Taken}
-use Rattle.recovery_plans.specs.Taking as taking
-use Rattle.server_model.specs.Gtids.{status}
-use Rattle.server_model.specs.Run.{Exchange}
-use Rattle.server_model.specs.Worlds.{World}
-use Rattle.operations.specs.declared.sight.Sight.{Sight}
-use Rattle.unended_jobs.specs.declared.docket.Docket.{Docket}
-use Rattle.unended_jobs.specs.Hooked.{front_turn, hooked, promoted_in, rear_hook, rear_turn, with_hooks}
-use Rattle.hook_laws.specs.Tended.{IsAtCheck, IsEarly, IsOfDead, IsTended}
+use Rattle.hook_laws.proofs.Prelude.{Attempt, BookState, Cause, Docket, Exchange, Fate, Hook, HookState, HostPort, IsAtCheck, IsEarly, IsOfDead}
+use Rattle.hook_laws.proofs.Prelude.{IsTended, Job, JobStep, Line, Moment, Observation, Op, Purpose, Recovery, Sight, Stage, Status, Taken, World}
+use Rattle.hook_laws.proofs.Prelude.{acted, after_look, attempted, barred_by, by_deed, by_queue, decided, deed_of, due_before, fate, front_turn}
+use Rattle.hook_laws.proofs.Prelude.{ground_of, hooked, last_exchanges, met, next, observed, on_going, once, promoted_in, rear_hook, rear_turn}
+use Rattle.hook_laws.proofs.Prelude.{restarts, saw, seen_in, settled, status, taken, undone, with_hooks}
+use Rattle.hook_laws.proofs.Prelude.attempt
+use Rattle.hook_laws.proofs.Prelude.cause
+use Rattle.hook_laws.proofs.Prelude.op
+use Rattle.hook_laws.proofs.Prelude.purpose
+use Rattle.hook_laws.proofs.Prelude.stage
+use Rattle.hook_laws.proofs.Prelude.step
+use Rattle.hook_laws.proofs.Prelude.taking
 
 module _ (w : World) (b : BookState) (read : ℕ) (now : Moment) (r : Recovery) (at : IsAtCheck r) where
   abbrev look : Op
@@ -50,10 +28,8 @@ module _ (w : World) (b : BookState) (read : ℕ) (now : Moment) (r : Recovery) 
   decides = ap (λ x. once (ground_of w b now) (once (ground_of w b now) (once (ground_of w b now) x))) stays ∙ (ap (λ x. once (ground_of w b now) (once (ground_of w b now) x)) stays ∙ (ap (once (ground_of w b now)) stays ∙ stays))
 
   none-undone : (u : Purpose) (seen : List Sight) (s : Stage) → IsOfDead u → undone w u seen r.failed s ≡ []
-  none-undone purpose.Regroup seen s dead = refl
-  none-undone purpose.Master seen s dead = refl
-  none-undone (purpose.Intermediate k) seen s dead = refl
   none-undone (purpose.Takeover d) seen s dead = absurd dead
+  none-undone _ seen s dead = refl
 
   none-last : last_exchanges w r ≡ []
   none-last =
@@ -109,10 +85,7 @@ tended-still w b read now r d s has is early =
 module _ (w : World) (c : Cause) (lines : List Line) where
   by-fate : (r : Recovery) (k : Cause) (o : Option Observation) (f : Fate) → (met w r k o f).step ≡ step.Failed c lines → lines ≡ []
   by-fate r k o taking.Fails e = cc
-  by-fate r k o taking.Drops e = absurd cc
-  by-fate r k o (taking.Loses n why) e = absurd cc
-  by-fate r k o (taking.Frees n why) e = absurd cc
-  by-fate r k o (taking.Goes s ops) e = absurd cc
+  by-fate r k o _ e = absurd cc
 
   by-bar : (r : Recovery) (o : Op) (ob : Option Observation) (es : List Exchange) (j : Job) (k : Option Cause) → (on_going w r o ob es j k).step ≡ step.Failed c lines → lines ≡ []
   by-bar r o ob es j None e = absurd cc

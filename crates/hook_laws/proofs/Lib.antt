@@ -1,3 +1,4 @@
+mod Prelude
 pub mod Checking
 pub mod Telling
 pub mod Staying

@@ -1,33 +1,14 @@
 -- Hooks stay in order along the turns of their recovery.
 use Rattle.std.proofs.Common.{◌≡◌, ◌∙◌, ◌+◌, ◌≤◌, inl, inr, ℕ, zero, suc, Bool, true, false, List, [], ◌∷◌, length, Option, Some, None, refl, sym, ap, cond, subst, arith}
 use Rattle.std.specs.Prelude.{◌==◌, All, slice_get, take}
-use Rattle.std.specs.Option.{option_map}
-use Rattle.std.proofs.lemmas.Bool.{eqb-true, false≢true}
-use Rattle.std.proofs.lemmas.List.Elements.{All-nil, All-push}
-use Rattle.std.proofs.lemmas.Option.{same_Some}
-use Rattle.commands.specs.declared.cause.Cause.TheVariants as cause
-use Rattle.hook_texts.specs.declared.hooks.Hook.{Hook}
-use Rattle.hook_texts.specs.declared.hooks.Hooks.{Hooks}
-use Rattle.hook_texts.specs.declared.values.Values.{Values}
-use Rattle.instance_keeper.specs.Book.{BookState}
-use Rattle.orch_base.specs.Names.{HostPort}
-use Rattle.orch_base.specs.declared.server.Moment.{Moment}
-use Rattle.orch_base.specs.declared.server.ServerNo.{ServerNo}
-use Rattle.operations.specs.declared.step.JobStep.{JobStep}
-use Rattle.operations.specs.declared.step.JobStep.TheVariants as step
-use Rattle.operations.specs.Turns.{is_going}
-use Rattle.recovery_hooks.specs.Runs.{begun_hooks, checked, due_after, due_before, failed_lines, ran_after, ran_before, HookState, Passes}
-use Rattle.recovery_plans.specs.Beginning.{begun_recovery}
-use Rattle.recovery_plans.specs.Recoveries.{Recovery}
-use Rattle.recovery_plans.specs.Taking.{taken, Taken}
-use Rattle.recovery_plans.specs.declared.means.Means.{Means}
-use Rattle.recovery_plans.specs.declared.purpose.Purpose.{Purpose}
-use Rattle.recovery_plans.specs.declared.purpose.Purpose.TheVariants as purpose
-use Rattle.server_model.specs.Worlds.{World}
-use Rattle.server_model.proofs.Lists.{take-more}
-use Rattle.unended_jobs.specs.declared.docket.Docket.{Docket}
-use Rattle.unended_jobs.specs.Hooked.{due_at, front_hook, front_turn, hooked, promoted_in, rear_hook, rear_turn, with_hooks, Hooked}
-use Rattle.hook_laws.specs.Tended.{plan_of, IsAtCheck, IsEarly, IsOfDead, IsOfDocket, IsTended}
+use Rattle.hook_laws.proofs.Prelude.{All-nil, All-push, BookState, Docket, Hook, Hooked, Hooks, HookState, HostPort, IsAtCheck, IsEarly, IsOfDead}
+use Rattle.hook_laws.proofs.Prelude.{IsOfDocket, IsTended, JobStep, Means, Moment, Passes, Purpose, Recovery, ServerNo, Taken, Values, World}
+use Rattle.hook_laws.proofs.Prelude.{begun_hooks, begun_recovery, checked, due_after, due_at, due_before, eqb-true, failed_lines, false≢true}
+use Rattle.hook_laws.proofs.Prelude.{front_hook, front_turn, hooked, is_going, option_map, plan_of, promoted_in, ran_after, ran_before, rear_hook}
+use Rattle.hook_laws.proofs.Prelude.{rear_turn, same_Some, take-more, taken, with_hooks}
+use Rattle.hook_laws.proofs.Prelude.cause
+use Rattle.hook_laws.proofs.Prelude.purpose
+use Rattle.hook_laws.proofs.Prelude.step
 
 -- ---- as it begins
 

@@ -1,25 +1,13 @@
 -- The lines of hooks in the turn in which a recovery ends.
 use Rattle.std.proofs.Common.{◌≡◌, ◌∙◌, ◌+◌, ℕ, Bool, true, false, List, [], ◌++◌, ◌⊎◌, inl, inr, Option, Some, None, refl, sym, ap, cond, subst}
 use Rattle.std.specs.Prelude.{◌==◌, slice_get, take}
-use Rattle.std.proofs.lemmas.Bool.{eq-eqb, false≢true}
-use Rattle.commands.specs.declared.cause.Cause.{Cause}
-use Rattle.commands.specs.declared.cause.Cause.TheVariants as cause
-use Rattle.commands.specs.declared.line.HookPhase.TheVariants as phase
-use Rattle.commands.specs.declared.line.Line.{Line}
-use Rattle.hook_texts.specs.declared.hooks.Hook.{Hook}
-use Rattle.instance_keeper.specs.Book.{BookState}
-use Rattle.orch_base.specs.Names.{HostPort}
-use Rattle.orch_base.specs.declared.server.Moment.{Moment}
-use Rattle.operations.specs.declared.step.JobStep.{JobStep}
-use Rattle.operations.specs.declared.step.JobStep.TheVariants as step
-use Rattle.recovery_hooks.specs.Runs.{after_lines, before_lines, done_lines, due_before, failed_lines, lines_of, ran_before, unsuccessful_lines, AreInOrder, HookState}
-use Rattle.recovery_hooks.proofs.Running.{all-before, all-behind, all-stopped}
-use Rattle.recovery_plans.specs.Recoveries.{Recovery}
-use Rattle.recovery_plans.specs.Taking.{taken, Taken}
-use Rattle.server_model.specs.Worlds.{World}
-use Rattle.unended_jobs.specs.declared.docket.Docket.{Docket}
-use Rattle.unended_jobs.specs.Hooked.{due_at, front_turn, hooked, promoted_in, rear_turn, told_with, with_hooks}
-use Rattle.hook_laws.specs.Tended.{all_before, all_behind, IsTended}
+use Rattle.hook_laws.proofs.Prelude.{AreInOrder, BookState, Cause, Docket, Hook, HookState, HostPort, IsTended, JobStep, Line, Moment, Recovery}
+use Rattle.hook_laws.proofs.Prelude.{Taken, World, after_lines, all-before, all-behind, all-stopped, all_before, all_behind, before_lines, done_lines}
+use Rattle.hook_laws.proofs.Prelude.{due_at, due_before, eq-eqb, failed_lines, false≢true, front_turn, hooked, lines_of, promoted_in, ran_before}
+use Rattle.hook_laws.proofs.Prelude.{rear_turn, taken, told_with, unsuccessful_lines, with_hooks}
+use Rattle.hook_laws.proofs.Prelude.cause
+use Rattle.hook_laws.proofs.Prelude.phase
+use Rattle.hook_laws.proofs.Prelude.step
 use Rattle.hook_laws.proofs.Checking.{check-tells, fails-silently}
 
 module _ (d : Docket) (s : HookState) (promoted : Option HostPort) (r : Recovery) (t : Taken) (order : AreInOrder s) where

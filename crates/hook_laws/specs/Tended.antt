@@ -1,18 +1,18 @@
 -- What holds of a recovery and its hooks, from its beginning on.
 use Rattle.std.specs.Prelude.{◌≡◌, ◌⊎◌, false, List, [], ◌∷◌, Option, None, Some}
 use Rattle.std.specs.Option.{option_map}
-use Rattle.commands.specs.declared.line.HookPhase.TheVariants as phase
-use Rattle.commands.specs.declared.line.Line.{Line}
-use Rattle.hook_texts.specs.declared.hooks.Hook.{Hook}
-use Rattle.hook_texts.specs.declared.hooks.Hooks.{Hooks}
-use Rattle.hook_texts.specs.declared.values.Values.{Values}
-use Rattle.orch_base.specs.Names.{HostPort}
-use Rattle.operations.specs.declared.op.Op.TheVariants as op
-use Rattle.recovery_plans.specs.declared.purpose.Purpose.{Purpose}
-use Rattle.recovery_plans.specs.declared.purpose.Purpose.TheVariants as purpose
-use Rattle.recovery_plans.specs.declared.stage.Stage.TheVariants as stage
-use Rattle.recovery_plans.specs.Recoveries.{Recovery}
-use Rattle.recovery_hooks.specs.Runs.{due_before, lines_of, running_before, when_done, AreInOrder, HookState}
+use Rattle.unended_jobs.specs.Commands.declared.line.HookPhase.TheVariants as phase
+use Rattle.unended_jobs.specs.Commands.declared.line.Line.{Line}
+use Rattle.unended_jobs.specs.HookTexts.declared.hooks.Hook.{Hook}
+use Rattle.unended_jobs.specs.HookTexts.declared.hooks.Hooks.{Hooks}
+use Rattle.unended_jobs.specs.HookTexts.declared.values.Values.{Values}
+use Rattle.unended_jobs.specs.OrchBase.Names.{HostPort}
+use Rattle.unended_jobs.specs.Operations.declared.op.Op.TheVariants as op
+use Rattle.unended_jobs.specs.RecoveryPlans.declared.purpose.Purpose.{Purpose}
+use Rattle.unended_jobs.specs.RecoveryPlans.declared.purpose.Purpose.TheVariants as purpose
+use Rattle.unended_jobs.specs.RecoveryPlans.declared.stage.Stage.TheVariants as stage
+use Rattle.unended_jobs.specs.RecoveryPlans.Recoveries.{Recovery}
+use Rattle.unended_jobs.specs.RecoveryHooks.Runs.{due_before, lines_of, running_before, when_done, AreInOrder, HookState}
 use Rattle.unended_jobs.specs.declared.docket.Docket.{Docket}
 
 -- a dead master's, or that of a dead intermediate master

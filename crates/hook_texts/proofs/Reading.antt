@@ -1,4 +1,7 @@
 -- How a text is read: its placeholders, and what is none.
+pub use Rattle.std.proofs.lemmas.Bool.{and_left as and_head}
+use Rattle.std.proofs.lemmas.Bool.{false_from_ne_true as false_by}
+use Rattle.std.proofs.lemmas.Bool.{and_right as and_tail}
 use Rattle.std.proofs.Common.{◌≡◌, ℕ, ◌+◌, ◌<◌, ◌≤◌, Bool, true, false, not, eqb, cond, List, [], ◌∷◌, ◌++◌, All, length, get_or, take, drop, zero, suc, Option, Some, None, refl, sym, ap, subst, ◌∙◌, append_assoc, arith}
 use Rattle.std.specs.Prelude.{◌&&◌, ◌==◌, find, nat_eq, MatchOption}
 use Rattle.std.specs.Borrow.{Bor}
@@ -64,18 +67,6 @@ find_passes p (x ∷ xs) y e = found_passes p (p x) x y (find p xs) refl (find_p
 
 flipped : (a b : ℕ) → eqb a b ≡ false → eqb b a ≡ false
 flipped a b e = ne_eqb b a (λ same. eqb-false a b e (sym same))
-
-pub and_head : (b c : Bool) → b ≡ false → (b && c) ≡ false
-and_head true c e = absurd cc
-and_head false c e = refl
-
-and_tail : (b c : Bool) → c ≡ false → (b && c) ≡ false
-and_tail true c e = e
-and_tail false c e = refl
-
-false_by : (b : Bool) → (b ≡ true → ⊥) → b ≡ false
-false_by true not_so = absurd (not_so refl)
-false_by false not_so = refl
 
 -- a word that is closed begins with another where the two are the same
 named_at : (w word left : List ℕ) → Lacks 125 w → Lacks 125 word → starts_with nat_eq (word ++ 125 ∷ left) (w ++ 125 ∷ []) ≡ bytes_eq w word
@@ -148,13 +139,7 @@ none_unopened b text other =
 pub placeholder_found : (p : Placeholder) (rest : List ℕ) → placeholder_at (placeholder_text p ++ rest) ≡ Some p
 unfolding placeholder_at
 placeholder_found place.FailureType rest = refl
-placeholder_found place.FailedHost rest = refl
-placeholder_found place.FailedPort rest = refl
-placeholder_found place.FailureCluster rest = refl
-placeholder_found place.FailureClusterAlias rest = refl
-placeholder_found place.SuccessorHost rest = refl
-placeholder_found place.SuccessorPort rest = refl
-placeholder_found place.IsSuccessful rest = refl
+placeholder_found _ rest = refl
 
 -- a text is longer than the placeholder with which it begins
 pub placeholder_fits : (b : ℕ) (text : List ℕ) (p : Placeholder) → placeholder_at (b ∷ text) ≡ Some p → length (word_text p) + 1 ≤ length text

@@ -4,7 +4,6 @@
 mod expanding;
 mod hooks;
 mod laws;
-mod threads;
 mod values;
 
 pub use expanding::expand;

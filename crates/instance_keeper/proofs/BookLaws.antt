@@ -1,25 +1,14 @@
 -- The kept rows of a book change with the book.
 use Rattle.std.proofs.Common.{◌≡◌, ℕ, ◌+◌, ◌*◌, ◌<◌, ◌≤◌, ◌^◌, Bool, true, List, [], ◌∷◌, ◌++◌, length, All, Option, None, Some, refl, sym, ap, ◌∙◌, append_assoc, append-nil, arith}
 use Rattle.std.specs.Prelude.{filter_map, option_map, slice_set}
-use Rattle.std.specs.List.{AllPairs}
-use Rattle.std.specs.Option.{option_to_list}
-use Rattle.std.proofs.lemmas.Bool.{false≢true}
-use Rattle.std.proofs.lemmas.List.Elements.{All-nil, All-cons, All-weaker, All-append}
-use Rattle.kept_rows.specs.declared.row.Row.{Row}
-use Rattle.kept_rows.specs.declared.row.Row.TheVariants as row
-use Rattle.kept_rows.specs.declared.row.Table.{Table}
-use Rattle.kept_rows.specs.declared.row.Table.TheVariants as table
-use Rattle.kept_rows.specs.declared.row.Key.{Key}
-use Rattle.kept_rows.specs.declared.row.Key.TheVariants as key
-use Rattle.kept_rows.specs.declared.row.Change.{Change}
-use Rattle.kept_rows.specs.declared.row.Change.TheVariants as change
-use Rattle.kept_rows.specs.Rows.{sort_key, sort_key_of, put, remove, changed_by, IsRising}
-use Rattle.kept_rows.specs.Ranges.{IsKeyInRange, IsInRange}
-use Rattle.kept_rows.specs.Servers.{are_known, row_fits, fits, is_of_book, source_servers, key_servers}
-use Rattle.instance_keeper.specs.Book.{BookState, IsBook, after_put, after_removal, after_change, book_rows}
-use Rattle.kept_rows.proofs.Lists.{pairs_append}
-use Rattle.kept_rows.proofs.SortKeys.{put_middle, remove_middle}
-use Rattle.kept_rows.proofs.Known.{both_true, head_known}
+use Rattle.instance_keeper.proofs.Prelude.{All-append, All-cons, All-nil, All-weaker, AllPairs, BookState, Change, IsBook, IsInRange, IsKeyInRange}
+use Rattle.instance_keeper.proofs.Prelude.{IsRising, Key, Row, Table, after_change, after_put, after_removal, are_known, book_rows, both_true}
+use Rattle.instance_keeper.proofs.Prelude.{changed_by, false≢true, fits, head_known, is_of_book, key_servers, option_to_list, pairs_append, put}
+use Rattle.instance_keeper.proofs.Prelude.{put_middle, remove, remove_middle, row_fits, sort_key, sort_key_of, source_servers}
+use Rattle.instance_keeper.proofs.Prelude.change
+use Rattle.instance_keeper.proofs.Prelude.key
+use Rattle.instance_keeper.proofs.Prelude.row
+use Rattle.instance_keeper.proofs.Prelude.table
 use Rattle.instance_keeper.proofs.BookRows.{rows_low, rows_high, rows_rise, table_put, table_remove}
 
 abbrev pub Low : ℕ → List Row → Type 0

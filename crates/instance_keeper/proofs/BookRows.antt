@@ -1,20 +1,9 @@
 -- The kept rows of a book: they rise, and they change with the book.
 use Rattle.std.proofs.Common.{◌≡◌, ℕ, suc, zero, ◌+◌, ◌<◌, ◌≤◌, List, [], ◌∷◌, ◌++◌, length, get_or, take, drop, All, Option, None, Some, refl, sym, ap, ◌∙◌, subst, append_assoc, add-zero, arith}
 use Rattle.std.specs.Prelude.{filter_map, option_map, IfSome, slice_set}
-use Rattle.std.specs.List.{AllPairs}
-use Rattle.std.specs.Option.{option_to_list}
-use Rattle.std.proofs.lemmas.List.{take-append-drop, length-take-le}
-use Rattle.std.proofs.lemmas.List.Elements.{All-nil, All-cons, All-weaker, All-append, filter_map-append}
-use Rattle.std.proofs.Math.Seq.{drop-cons}
-use Rattle.std.proofs.lemmas.List.Kept.{AllPairs-cons}
-use Rattle.orch_base.specs.declared.server.ServerNo.{ServerNo}
-use Rattle.kept_rows.specs.declared.row.Row.{Row}
-use Rattle.kept_rows.specs.declared.row.Table.{Table}
-use Rattle.kept_rows.specs.declared.row.Key.{Key}
-use Rattle.kept_rows.specs.Rows.{sort_key, sort_key_of, put, remove}
-use Rattle.instance_keeper.specs.Book.{IsNumbered}
-use Rattle.kept_rows.proofs.Lists.{set_parts}
-use Rattle.kept_rows.proofs.SortKeys.{put_middle, remove_middle}
+use Rattle.instance_keeper.proofs.Prelude.{All-append, All-cons, All-nil, All-weaker, AllPairs, AllPairs-cons, IsNumbered, Key, Row, ServerNo, Table}
+use Rattle.instance_keeper.proofs.Prelude.{drop-cons, filter_map-append, length-take-le, option_to_list, put, put_middle, remove, remove_middle}
+use Rattle.instance_keeper.proofs.Prelude.{set_parts, sort_key, sort_key_of, take-append-drop}
 use Rattle.instance_keeper.proofs.Books.{numbered_at}
 
 -- the rows of one table

@@ -1,28 +1,15 @@
 -- What keeps a book a book.
 use Rattle.std.proofs.Common.{◌≡◌, ℕ, suc, zero, ◌+◌, ◌<◌, ◌^◌, Bool, true, List, [], ◌∷◌, length, get_or, replicate, Option, None, Some, refl, sym, ap, ◌∙◌, subst, All, zero-add, add-zero, arith}
 use Rattle.std.specs.Prelude.{IfSome, slice_get, slice_set, option_map, unwrap_or}
-use Rattle.std.proofs.lemmas.List.{length-set, length-replicate, length-map}
-use Rattle.std.proofs.lemmas.List.Elements.{All-set, All-replicate, All-head, All-tail}
-use Rattle.std.proofs.lemmas.Option.{get_or_from_slice_get}
-use Rattle.orch_base.specs.declared.server.ServerNo.{ServerNo}
-use Rattle.orch_base.specs.declared.server.Settings.{Settings}
-use Rattle.kept_rows.specs.declared.observation.Observation.{Observation}
-use Rattle.server_words.specs.declared.status.Status.{Status as Seen}
-use Rattle.kept_rows.specs.declared.observation.Instance.{Instance}
-use Rattle.instance_keeper.specs.declared.bridge.Bridge.{Bridge}
-use Rattle.kept_rows.specs.declared.row.Downtime.{Downtime}
-use Rattle.kept_rows.specs.declared.row.Candidate.{Candidate}
-use Rattle.kept_rows.specs.declared.row.Row.{Row}
-use Rattle.kept_rows.specs.declared.row.Row.TheVariants as row
-use Rattle.kept_rows.specs.declared.row.Change.{Change}
-use Rattle.kept_rows.specs.declared.row.Change.TheVariants as change
-use Rattle.kept_rows.specs.declared.row.Table.{Table}
-use Rattle.kept_rows.specs.declared.row.Table.TheVariants as table
-use Rattle.kept_rows.specs.declared.row.Key.{Key}
-use Rattle.kept_rows.specs.declared.row.Key.TheVariants as key
-use Rattle.kept_rows.specs.Servers.{are_known, row_fits, source_servers, seen_servers, observed_servers, fits}
-use Rattle.kept_rows.proofs.Known.{rest_known}
-use Rattle.instance_keeper.specs.Book.{BookState, IsBook, IsNumbered, HasKnownSource, instance_at, renewed, names_of, empty_book, after_put, after_removal, after_change}
+use Rattle.instance_keeper.proofs.Prelude.{All-head, All-replicate, All-set, All-tail, BookState, Bridge, Candidate, Change, Downtime, HasKnownSource}
+use Rattle.instance_keeper.proofs.Prelude.{Instance, IsBook, IsNumbered, Key, Observation, Row, ServerNo, Settings, Status as Seen, Table}
+use Rattle.instance_keeper.proofs.Prelude.{after_change, after_put, after_removal, are_known, empty_book, fits, get_or_from_slice_get, instance_at}
+use Rattle.instance_keeper.proofs.Prelude.{length-map, length-replicate, length-set, names_of, observed_servers, renewed, rest_known, row_fits}
+use Rattle.instance_keeper.proofs.Prelude.{seen_servers, source_servers}
+use Rattle.instance_keeper.proofs.Prelude.change
+use Rattle.instance_keeper.proofs.Prelude.key
+use Rattle.instance_keeper.proofs.Prelude.row
+use Rattle.instance_keeper.proofs.Prelude.table
 
 pub numbered_set : {A : Type 0} (no_of : A → ServerNo) (from n : ℕ) (x : Option A) (xs : List (Option A)) → IsNumbered no_of from xs → IfSome x (λ a. (no_of a).0 ≡ from + n) → IsNumbered no_of from (slice_set xs n x)
 numbered_set no_of from n x [] h own = h
@@ -178,23 +165,10 @@ put_is b (row.Active node until) is h = is
 
 pub removal_is : (b : BookState) (t : Table) (k : Key) → IsBook b → IsBook (after_removal b t k)
 removal_is b table.Instance (key.Server n) is = rings_set (record b { instances = slice_set b.instances n.0 None }) n.0 [] (instance_set b n.0 None is tt tt)
-removal_is b table.Instance (key.Id id) is = is
-removal_is b table.Instance key.Global is = is
-removal_is b table.Instance key.Active is = is
 removal_is b table.Downtime (key.Server n) is = downtime_set b n.0 None is tt
-removal_is b table.Downtime (key.Id id) is = is
-removal_is b table.Downtime key.Global is = is
-removal_is b table.Downtime key.Active is = is
 removal_is b table.Candidate (key.Server n) is = candidate_set b n.0 None is tt
-removal_is b table.Candidate (key.Id id) is = is
-removal_is b table.Candidate key.Global is = is
-removal_is b table.Candidate key.Active is = is
-removal_is b table.Recovery k is = is
-removal_is b table.Switch (key.Server n) is = is
-removal_is b table.Switch (key.Id id) is = is
 removal_is b table.Switch key.Global is = switch_set b None is
-removal_is b table.Switch key.Active is = is
-removal_is b table.Active k is = is
+removal_is b _ _ is = is
 
 -- the same from what the code has found
 pub put_kept : (b view : BookState) (r : Row) (i : Instance) (now : List (Option Instance)) → b ≡ view → IsBook b → row_fits (length view.names) r ≡ true → r ≡ row.Instance i → now ≡ slice_set b.instances i.no.0 (Some i) → IsBook (record b { instances = now })

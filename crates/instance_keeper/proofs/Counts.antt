@@ -1,11 +1,7 @@
 -- Maps whose keys count up: a key is its value's place.
 use Rattle.std.proofs.Common.{◌≡◌, ℕ, suc, zero, ◌+◌, ◌<◌, false, nat_eq, List, [], ◌∷◌, ◌++◌, length, map, add-one, Option, None, Some, refl, sym, ap, ◌∙◌, arith}
-use Rattle.std.specs.List.{slice_set}
-use Rattle.std.specs.Option.{option_flatten}
+use Rattle.instance_keeper.proofs.Prelude.{CountsUp, insert_entry, nat_tests, option_flatten, set_value_at, slice_set}
 use Rattle.std.specs.Prelude.{replicate}
-use Rattle.std.proofs.lemmas.Bool.Decides.{nat_tests}
-use Rattle.indexmap.specs.IndexMap.{insert_entry, set_value_at}
-use Rattle.instance_keeper.specs.Counts.{CountsUp}
 
 eq_false : (a b : ℕ) → b < a → nat_eq a b ≡ false
 eq_false a b less = grind (arith, nat_tests)

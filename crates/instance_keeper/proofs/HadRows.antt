@@ -1,22 +1,11 @@
 -- Rows that a book has are those that the code tells it has.
 use Rattle.std.proofs.Common.{◌≡◌, ℕ, Bool, true, false, List, [], ◌∷◌, Option, None, Some, refl, sym, ap, subst, zero, suc}
 use Rattle.std.specs.Prelude.{◌==◌, ◌&&◌, ◌↔◌, IsTrue, nat_eq, slice_index_or, slice_set}
-use Rattle.std.specs.Cmp.Lexicographic.{pointwise, same_text}
-use Rattle.std.proofs.lemmas.Bool.{false≢true}
-use Rattle.orch_base.specs.declared.rule.Rule.{Rule}
-use Rattle.orch_base.specs.declared.rule.Rule.TheVariants as rule
-use Rattle.orch_base.specs.declared.server.ServerNo.{ServerNo}
-use Rattle.orch_base.specs.declared.server.Moment.{Moment}
-use Rattle.kept_rows.specs.declared.observation.Instance.{Instance}
-use Rattle.kept_rows.specs.declared.row.Candidate.{Candidate}
-use Rattle.kept_rows.specs.declared.row.Downtime.{Downtime}
-use Rattle.kept_rows.specs.declared.row.Row.{Row}
-use Rattle.kept_rows.specs.declared.row.Row.TheVariants as row
-use Rattle.instance_keeper.specs.Book.{BookState, after_put}
-use Rattle.instance_keeper.specs.Had.{had, has_row, same_candidate, same_downtime, same_rule}
-use Rattle.kept_rows.specs.Same.{same_bool, same_instance}
-use Rattle.kept_rows.proofs.Known.{both_true}
-use Rattle.kept_rows.proofs.Same.{bool_is, eq_is, eq_refl, instance_is, instance_refl, moment_eta, no_is}
+use Rattle.instance_keeper.proofs.Prelude.{BookState, Candidate, Downtime, Instance, Moment, Row, Rule, ServerNo, after_put, bool_is, both_true}
+use Rattle.instance_keeper.proofs.Prelude.{eq_is, eq_refl, false≢true, had, has_row, instance_is, instance_refl, moment_eta, no_is, pointwise}
+use Rattle.instance_keeper.proofs.Prelude.{same_bool, same_candidate, same_downtime, same_instance, same_rule, same_text}
+use Rattle.instance_keeper.proofs.Prelude.row
+use Rattle.instance_keeper.proofs.Prelude.rule
 
 -- downtimes and candidates
 
@@ -52,27 +41,14 @@ downtime_is a b h =
 
 rule_refl : (a : Rule) → same_rule a a ≡ true
 rule_refl rule.Prefer = refl
-rule_refl rule.Neutral = refl
-rule_refl rule.PreferNot = refl
-rule_refl rule.MustNot = refl
+rule_refl _ = refl
 
 rule_is : (a b : Rule) → same_rule a b ≡ true → a ≡ b
 rule_is rule.Prefer rule.Prefer h = refl
 rule_is rule.Neutral rule.Neutral h = refl
 rule_is rule.PreferNot rule.PreferNot h = refl
 rule_is rule.MustNot rule.MustNot h = refl
-rule_is rule.Prefer rule.Neutral h = absurd (false≢true h)
-rule_is rule.Prefer rule.PreferNot h = absurd (false≢true h)
-rule_is rule.Prefer rule.MustNot h = absurd (false≢true h)
-rule_is rule.Neutral rule.Prefer h = absurd (false≢true h)
-rule_is rule.Neutral rule.PreferNot h = absurd (false≢true h)
-rule_is rule.Neutral rule.MustNot h = absurd (false≢true h)
-rule_is rule.PreferNot rule.Prefer h = absurd (false≢true h)
-rule_is rule.PreferNot rule.Neutral h = absurd (false≢true h)
-rule_is rule.PreferNot rule.MustNot h = absurd (false≢true h)
-rule_is rule.MustNot rule.Prefer h = absurd (false≢true h)
-rule_is rule.MustNot rule.Neutral h = absurd (false≢true h)
-rule_is rule.MustNot rule.PreferNot h = absurd (false≢true h)
+rule_is _ _ h = absurd (false≢true h)
 
 candidate_of : ServerNo → Rule → Moment → Candidate
 candidate_of number rule until = record { no = number; rule = rule; until = until }

@@ -1,14 +1,11 @@
 -- The row of a server in a table of a book.
 use Rattle.std.proofs.Common.{◌≡◌, ℕ, suc, zero, ◌+◌, ◌*◌, ◌^◌, ◌<◌, ◌≤◌, true, false, List, [], ◌∷◌, ◌++◌, length, get_or, All, Option, None, Some, refl, ap, ◌∙◌, subst, arith}
 use Rattle.std.specs.Prelude.{◌==◌, filter_map, option_map}
-use Rattle.std.proofs.lemmas.List.Elements.{All-head, All-tail, All-weaker, All-append}
-use Rattle.orch_base.specs.declared.server.ServerNo.{ServerNo}
-use Rattle.kept_rows.specs.declared.row.Row.{Row}
-use Rattle.kept_rows.specs.declared.row.Row.TheVariants as row
-use Rattle.kept_rows.specs.declared.row.Table.TheVariants as table
-use Rattle.kept_rows.specs.declared.row.Key.TheVariants as key
-use Rattle.kept_rows.specs.Rows.{sort_key_of, row_at, row_in}
-use Rattle.instance_keeper.specs.Book.{BookState, IsBook, IsNumbered, book_rows, instance_at}
+use Rattle.instance_keeper.proofs.Prelude.{All-append, All-head, All-tail, All-weaker, BookState, IsBook, IsNumbered, Row, ServerNo, book_rows}
+use Rattle.instance_keeper.proofs.Prelude.{instance_at, row_at, row_in, sort_key_of}
+use Rattle.instance_keeper.proofs.Prelude.key
+use Rattle.instance_keeper.proofs.Prelude.row
+use Rattle.instance_keeper.proofs.Prelude.table
 use Rattle.instance_keeper.proofs.BookRows.{rows_low}
 use Rattle.instance_keeper.proofs.BookLaws.{behind_first, in_first, second, third, last}
 

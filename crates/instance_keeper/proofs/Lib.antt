@@ -1,3 +1,4 @@
+mod Prelude
 pub mod Counts
 pub mod Books
 pub mod Steady
@@ -12,3 +13,8 @@ pub mod InstanceRows
 pub mod HadRows
 pub mod NoRecovery
 pub mod Reloads
+pub use Rattle.kept_rows.proofs.BinlogCoords as BinlogCoords
+pub use Rattle.kept_rows.proofs.GtidSets as GtidSets
+pub mod KeptRows
+pub mod NameOrder
+pub use Rattle.kept_rows.proofs.OrchBase as OrchBase

@@ -1,10 +1,7 @@
 -- A book has no row in the table of recoveries.
 use Rattle.std.proofs.Common.{◌≡◌, ℕ, ◌+◌, ◌*◌, ◌<◌, ◌≤◌, ◌^◌, false, List, [], ◌∷◌, ◌++◌, All, None, refl, sym, ap, ◌∙◌, append_assoc, arith}
 use Rattle.std.specs.Prelude.{◌==◌}
-use Rattle.std.proofs.lemmas.List.Elements.{All-append, All-head, All-tail, All-weaker}
-use Rattle.kept_rows.specs.declared.row.Row.{Row}
-use Rattle.kept_rows.specs.Rows.{row_in, sort_key_of}
-use Rattle.instance_keeper.specs.Book.{BookState, IsBook, book_rows}
+use Rattle.instance_keeper.proofs.Prelude.{All-append, All-head, All-tail, All-weaker, BookState, IsBook, Row, book_rows, row_in, sort_key_of}
 use Rattle.instance_keeper.proofs.BookLaws.{first, last, last_low, second, third, to_third}
 
 abbrev Elsewhere : ℕ → Row → Type 0

@@ -1,11 +1,7 @@
 -- The order of a book's names.
 use Rattle.std.proofs.Common.{◌≡◌, ℕ, ◌<◌, List, length, get_or, map, ap, ◌∙◌, arith}
-use Rattle.std.proofs.lemmas.List.{length-map}
-use Rattle.std.proofs.lemmas.List.FromFn.{get_or-map-range_with_len, length-map-range_with_len}
-use Rattle.orch_base.specs.Names.{HostPort}
-use Rattle.orch_base.specs.declared.server.Settings.{Settings}
-use Rattle.name_order.specs.NameOrder.{by_name, rank_of, ranks_of}
-use Rattle.name_order.proofs.ByName.{length-by_name}
+use Rattle.instance_keeper.proofs.Prelude.{HostPort, Settings, by_name, get_or-map-range_with_len, length-by_name, length-map}
+use Rattle.instance_keeper.proofs.Prelude.{length-map-range_with_len, rank_of, ranks_of}
 
 ranks_long : (names : List HostPort) (ranks : List ℕ) → ranks ≡ ranks_of (by_name names) → length ranks ≡ length names
 ranks_long names ranks is = ap length is ∙ length-map-range_with_len (rank_of (by_name names)) 0 (length (by_name names)) ∙ length-by_name names

@@ -1,18 +1,10 @@
 -- A book that is loaded anew, place after place.
 use Rattle.std.proofs.Common.{◌≡◌, ◌∙◌, ℕ, zero, suc, ◌<◌, ◌≤◌, Bool, true, false, List, [], ◌∷◌, length, replicate, Option, None, Some, refl, sym, ap, subst, arith}
 use Rattle.std.specs.Prelude.{◌&&◌, nat_le, if◌then◌else◌, slice_set}
-use Rattle.std.proofs.lemmas.Bool.{leb-true, leb-false}
-use Rattle.std.proofs.lemmas.List.{length-replicate, length-map}
-use Rattle.kept_rows.specs.declared.observation.Instance.{Instance}
-use Rattle.kept_rows.specs.declared.row.Candidate.{Candidate}
-use Rattle.kept_rows.specs.declared.row.Downtime.{Downtime}
-use Rattle.kept_rows.specs.declared.row.Row.{Row}
-use Rattle.kept_rows.specs.declared.row.Row.TheVariants as row
-use Rattle.kept_rows.specs.Servers.{row_fits, source_servers}
-use Rattle.kept_rows.proofs.Known.{head_known}
-use Rattle.instance_keeper.specs.Book.{BookState, IsBook, IsNumbered, after_put, after_row, empty_book}
-use Rattle.instance_keeper.specs.Reloads.{first_of, first_set, place_from}
-use Rattle.instance_keeper.specs.declared.bridge.Bridge.{Bridge}
+use Rattle.instance_keeper.proofs.Prelude.{BookState, Bridge, Candidate, Downtime, Instance, IsBook, IsNumbered, Row, after_put, after_row}
+use Rattle.instance_keeper.proofs.Prelude.{empty_book, first_of, first_set, head_known, leb-false, leb-true, length-map, length-replicate, place_from}
+use Rattle.instance_keeper.proofs.Prelude.{row_fits, source_servers}
+use Rattle.instance_keeper.proofs.Prelude.row
 use Rattle.instance_keeper.proofs.Books.{numbered_none}
 
 -- ---- the first places
@@ -108,11 +100,7 @@ placed_by next count i n false fits later known is = absurd (some_none (sym is))
 
 pub placed : (next count : ℕ) (r : Row) (n : ℕ) → place_from next count r ≡ Some n → IsPlace next count r n
 placed next count (row.Instance i) n is = placed_by next count i n (nat_le next i.no.0) (row_fits count (row.Instance i)) refl refl is
-placed next count (row.Downtime d) n is = absurd (some_none (sym is))
-placed next count (row.Candidate c) n is = absurd (some_none (sym is))
-placed next count (row.Recovery r) n is = absurd (some_none (sym is))
-placed next count (row.Switch enabled) n is = absurd (some_none (sym is))
-placed next count (row.Active node until) n is = absurd (some_none (sym is))
+placed next count _ n is = absurd (some_none (sym is))
 
 -- a row that sets no place from the next one on
 commuted_by : (next : ℕ) (b : BookState) (r : Row) (fits : Bool) → row_fits (length b.names) r ≡ fits → first_set next (after_put b r) ≡ after_put (first_set next b) r

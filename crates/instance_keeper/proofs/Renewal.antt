@@ -1,12 +1,9 @@
 -- The change that keeps the book's row as it becomes.
 use Rattle.std.proofs.Common.{◌≡◌, Bool, true, false, None, Some, refl}
 use Rattle.std.specs.Prelude.{if◌then◌else◌}
-use Rattle.kept_rows.specs.declared.observation.Instance.{Instance}
-use Rattle.kept_rows.specs.declared.row.Row.TheVariants as row
-use Rattle.kept_rows.specs.declared.row.Change.TheVariants as change
-use Rattle.kept_rows.specs.Same.{same_instance}
-use Rattle.kept_rows.proofs.Same.{instance_is, instance_refl}
-use Rattle.instance_keeper.specs.Book.{renewal}
+use Rattle.instance_keeper.proofs.Prelude.{Instance, instance_is, instance_refl, renewal, same_instance}
+use Rattle.instance_keeper.proofs.Prelude.change
+use Rattle.instance_keeper.proofs.Prelude.row
 
 pub renewal_none : (kept now : Instance) → kept ≡ now → renewal kept now ≡ None
 renewal_none kept now h = rw (instance_refl kept now h) refl

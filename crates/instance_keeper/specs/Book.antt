@@ -1,33 +1,17 @@
 -- What orchestrator knows, by the servers' numbers.
 use Rattle.std.specs.Prelude.{◌≡◌, ℕ, ◌+◌, ◌<◌, ◌^◌, nat_lt, Bool, true, if◌then◌else◌, List, [], ◌∷◌, ◌++◌, length, map, fold, replicate, filter_map, slice_set, slice_index_or, Option, None, Some, Result, Ok, Err, option_map, unwrap_or, is_some, IfSome, ⊤}
-use Rattle.std.specs.List.{All}
-use Rattle.std.specs.Option.{option_to_list}
-use Rattle.orch_base.specs.Names.{HostPort}
-use Rattle.orch_base.specs.declared.server.ServerNo.{ServerNo}
-use Rattle.orch_base.specs.declared.server.Settings.{Settings}
-use Rattle.orch_base.specs.declared.server.Moment.{Moment}
-use Rattle.server_words.specs.declared.status.Status.{Status as Seen}
-use Rattle.kept_rows.specs.declared.observation.Observation.{Observation}
-use Rattle.kept_rows.specs.declared.observation.Instance.{Instance}
-use Rattle.orch_base.specs.declared.rule.Rule.{Rule}
-use Rattle.orch_base.specs.declared.rule.Rule.TheVariants as rule
-use Rattle.kept_rows.specs.declared.row.Downtime.{Downtime}
-use Rattle.kept_rows.specs.declared.row.Candidate.{Candidate}
-use Rattle.kept_rows.specs.declared.row.Row.{Row}
-use Rattle.kept_rows.specs.declared.row.Row.TheVariants as row
-use Rattle.kept_rows.specs.declared.row.Table.{Table}
-use Rattle.kept_rows.specs.declared.row.Table.TheVariants as table
-use Rattle.kept_rows.specs.declared.row.Key.{Key}
-use Rattle.kept_rows.specs.declared.row.Key.TheVariants as key
-use Rattle.kept_rows.specs.declared.row.Change.{Change}
-use Rattle.kept_rows.specs.declared.row.Change.TheVariants as change
+use Rattle.instance_keeper.specs.Prelude.{All, Candidate, Change, Downtime, HostPort, Instance, Key, Moment, Observation, Row, Rule, ServerNo}
+use Rattle.instance_keeper.specs.Prelude.{Settings, Status as Seen, Table, are_known, option_to_list, row_fits, same_instance, source_servers}
+use Rattle.instance_keeper.specs.Prelude.change
+use Rattle.instance_keeper.specs.Prelude.key
+use Rattle.instance_keeper.specs.Prelude.row
+use Rattle.instance_keeper.specs.Prelude.rule
+use Rattle.instance_keeper.specs.Prelude.table
 use Rattle.instance_keeper.specs.declared.book.StoreAnswer.{StoreAnswer}
 use Rattle.instance_keeper.specs.declared.book.StoreAnswer.TheVariants as answer
 use Rattle.instance_keeper.specs.declared.bridge.Bridge.{Bridge}
 use Rattle.instance_keeper.specs.declared.lease.LeaseFault.{LeaseFault}
 use Rattle.instance_keeper.specs.Bridges.{bridge_in, ringed}
-use Rattle.kept_rows.specs.Same.{same_instance}
-use Rattle.kept_rows.specs.Servers.{are_known, row_fits, source_servers}
 
 -- each list has a place for each server, by its number; the settings and names never change; the switch is none without
 -- a row

@@ -1,13 +1,8 @@
 -- Bridges: pairs of coordinates that stand for one point of a server's log and of its source's.
 use Rattle.std.specs.Prelude.{ℕ, ◌==◌, ◌&&◌, Bool, false, if◌then◌else◌, List, [], ◌∷◌, ◌++◌, fold, slice_set, slice_index_or, Option, None, Some}
-use Rattle.binlog_coords.specs.declared.Coord.{Coord}
-use Rattle.circular_buffer.specs.Buffer.{keep_last, last_item}
-use Rattle.orch_base.specs.declared.server.ServerNo.{ServerNo}
-use Rattle.orch_base.specs.declared.server.SourceState.{SourceState}
-use Rattle.orch_base.specs.declared.server.SourceState.TheVariants as source
-use Rattle.server_words.specs.declared.status.Status.{Status as Seen}
+use Rattle.instance_keeper.specs.Prelude.{Coord, ServerNo, SourceState, Status as Seen, keep_last, last_item, same_coord}
+use Rattle.instance_keeper.specs.Prelude.source
 use Rattle.instance_keeper.specs.declared.bridge.Bridge.{Bridge}
-use Rattle.kept_rows.specs.Same.{same_coord}
 
 abbrev pub bridge_by : ServerNo → Option Coord → SourceState → Coord → Option Bridge
 bridge_by n None source exec = None

@@ -1,17 +1,10 @@
 -- Rows that a book has, as the code tells it.
 use Rattle.std.specs.Prelude.{◌==◌, ◌&&◌, Bool, true, false, if◌then◌else◌, nat_eq, slice_index_or, Option, None, Some}
-use Rattle.std.specs.Cmp.Lexicographic.{pointwise}
-use Rattle.orch_base.specs.declared.rule.Rule.{Rule}
-use Rattle.orch_base.specs.declared.rule.Rule.TheVariants as rule
-use Rattle.orch_base.specs.declared.server.ServerNo.{ServerNo}
-use Rattle.kept_rows.specs.declared.row.Candidate.{Candidate}
-use Rattle.kept_rows.specs.declared.row.Change.{Change}
-use Rattle.kept_rows.specs.declared.row.Change.TheVariants as change
-use Rattle.kept_rows.specs.declared.row.Downtime.{Downtime}
-use Rattle.kept_rows.specs.declared.row.Row.{Row}
-use Rattle.kept_rows.specs.declared.row.Row.TheVariants as row
+use Rattle.instance_keeper.specs.Prelude.{Candidate, Change, Downtime, Row, Rule, ServerNo, pointwise, same_bool, same_instance}
+use Rattle.instance_keeper.specs.Prelude.change
+use Rattle.instance_keeper.specs.Prelude.row
+use Rattle.instance_keeper.specs.Prelude.rule
 use Rattle.instance_keeper.specs.Book.{BookState, instance_at}
-use Rattle.kept_rows.specs.Same.{same_bool, same_instance}
 
 abbrev pub same_downtime : Downtime → Downtime → Bool
 same_downtime a b =

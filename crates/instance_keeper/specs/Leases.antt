@@ -1,6 +1,6 @@
 -- Leases of servers, by the servers' numbers: a job that has a server's lease is the only one that may change it.
 use Rattle.std.specs.Prelude.{ℕ, ◌==◌, Bool, false, if◌then◌else◌, List, [], ◌∷◌, map, fold, slice_set, slice_index_or, Option, None, Some}
-use Rattle.orch_base.specs.declared.server.ServerNo.{ServerNo}
+use Rattle.instance_keeper.specs.Prelude.{ServerNo}
 use Rattle.instance_keeper.specs.declared.lease.LeaseFault.{LeaseFault}
 use Rattle.instance_keeper.specs.declared.lease.LeaseFault.TheVariants as fault
 

@@ -1,8 +1,7 @@
 -- How a book is loaded anew: the instances' places are set one after another, those without a row to none.
 use Rattle.std.specs.Prelude.{ℕ, zero, suc, ◌&&◌, nat_le, if◌then◌else◌, List, [], ◌∷◌, Option, None, Some}
-use Rattle.kept_rows.specs.declared.row.Row.{Row}
-use Rattle.kept_rows.specs.declared.row.Row.TheVariants as row
-use Rattle.kept_rows.specs.Servers.{row_fits}
+use Rattle.instance_keeper.specs.Prelude.{Row, row_fits}
+use Rattle.instance_keeper.specs.Prelude.row
 use Rattle.instance_keeper.specs.Book.{BookState}
 
 -- the first places as they are, and none at the others

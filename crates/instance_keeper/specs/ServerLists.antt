@@ -1,9 +1,6 @@
 -- The servers of a book as the code has them.
 use Rattle.std.specs.Prelude.{◌≡◌, ℕ, ◌<◌, ◌^◌, List, length, map}
-use Rattle.orch_base.specs.Names.{HostPort}
-use Rattle.orch_base.specs.declared.server.ServerNo.{ServerNo}
-use Rattle.orch_base.specs.declared.server.Settings.{Settings}
-use Rattle.name_order.specs.NameOrder.{by_name, ranks_of}
+use Rattle.instance_keeper.specs.Prelude.{HostPort, ServerNo, Settings, by_name, ranks_of}
 
 -- the names, their order and each server's place in it are those of the settings
 pub record IsServerList (settings : List Settings) (names : List HostPort) (order : List ServerNo) (ranks : List ℕ) : Type 0 where

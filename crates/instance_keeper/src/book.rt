@@ -1,25 +1,23 @@
 //! The book: what orchestrator knows.
 
 ghost use Rattle.std.specs.Prelude.{◌≡◌, ◌<◌, ◌≤◌, ◌^◌, All, None, Some, [], IfOk, OnErr, OnOk, IsTrue, true, fold, length, map, replicate, slice_get, slice_set, slice_index_or, option_map, unwrap_or, nat_lt};
-ghost use Rattle.std.specs.Option.{option_copied};
-ghost use Rattle.indexmap.specs.IndexMap.{values};
-ghost use Rattle.name_order.specs.NameOrder.{by_name, rank_of, IsOrder};
+ghost use Rattle.instance_keeper.specs.Prelude.{IsOrder, are_known, by_name, fits, key_servers, observed_servers, option_copied};
+ghost use Rattle.instance_keeper.specs.Prelude.{rank_of, row_fits, servers_of, values};
 ghost use Rattle.instance_keeper.specs.Bridges.{bridge_in, has_exec, has_own, latest_that, ring_at, ringed};
 ghost use Rattle.instance_keeper.specs.Had.{candidate_kept, downtime_kept};
 ghost use Rattle.instance_keeper.specs.Reloads.{first_set, place_from};
 ghost use Rattle.instance_keeper.specs.Leases.{first_busy, given_back, taken};
 ghost use Rattle.instance_keeper.specs.Counts.{CountsUp};
-ghost use Rattle.kept_rows.specs.Servers.{are_known, source_servers, observed_servers, ending_servers, servers_of, key_servers, row_fits, fits};
 ghost use Rattle.instance_keeper.specs.Book.{empty_book, after_put, after_bridge, after_removal, after_change, lease_at, lease_result, after_row, book_made, instance_at, renewed, store_answer, after_store, shown_by, after_addition, after_discovery, renewal, store_change, downtime_at, rule_at, IsBook};
 
+use crate::binlog_coords_items::Coord;
 use crate::bridge::{Bridge, Ring, bridge_in};
 use crate::lease::{LeaseFault, first_busy, give_back, take};
+use crate::orch_base::{Moment, Name, ServerNo, Settings};
 use crate::server_list::ServerList;
 use crate::{Memory, Rule};
-use binlog_coords::Coord;
 use indexmap::IndexMap;
 use kept_rows::{Candidate, Change, Downtime, Instance, Key, Observation, Row, Table};
-use orch_base::{Moment, Name, ServerNo, Settings};
 use std::alloc::Global;
 use std::marker::Model;
 

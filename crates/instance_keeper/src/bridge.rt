@@ -1,13 +1,13 @@
 //! Bridges, and each server's ring of the latest ones.
 
 ghost use Rattle.std.specs.Prelude.{◌≡◌, [], IfOk};
-ghost use Rattle.circular_buffer.specs.Buffer.{last_item};
+ghost use Rattle.instance_keeper.specs.Prelude.{last_item};
 ghost use Rattle.instance_keeper.specs.Bridges.{bridge_by, has_exec, has_own, is_same, latest_that, over, same_bridge, with_bridge};
 
+use crate::binlog_coords_items::Coord;
+use crate::orch_base::{ServerNo, SourceState};
 use crate::{Memory, Seen};
-use binlog_coords::Coord;
 use circular_buffer::HeapCircularBuffer;
-use orch_base::{ServerNo, SourceState};
 use std::alloc::Global;
 use std::marker::Model;
 

@@ -1,10 +1,9 @@
 //! Rows that a book has.
 
 ghost use Rattle.std.specs.Prelude.{◌≡◌, ◌<◌, length, true};
-ghost use Rattle.kept_rows.specs.Servers.{row_fits};
+ghost use Rattle.instance_keeper.specs.Prelude.{row_fits, same_bool, same_instance};
 ghost use Rattle.instance_keeper.specs.Book.{instance_at};
 ghost use Rattle.instance_keeper.specs.Had.{candidate_kept, downtime_kept, had, has_row, put_change, same_candidate, same_downtime};
-ghost use Rattle.kept_rows.specs.Same.{same_bool, same_instance};
 
 use crate::book::Book;
 use kept_rows::{Candidate, Change, Downtime, Instance, Row};

@@ -1,15 +1,10 @@
 //! What holds of a book and its kept rows.
 
 ghost use Rattle.std.specs.Prelude.{◌≡◌, ◌<◌, true, length, option_map};
-ghost use Rattle.kept_rows.specs.declared.row.Row.{Row};
-ghost use Rattle.kept_rows.specs.declared.row.Change.{Change};
-ghost use Rattle.kept_rows.specs.declared.row.Row.TheVariants as row;
-ghost use Rattle.kept_rows.specs.declared.row.Table.TheVariants as table;
-ghost use Rattle.kept_rows.specs.declared.row.Key.TheVariants as key;
-ghost use Rattle.kept_rows.specs.Ranges.{IsInRange};
-ghost use Rattle.kept_rows.specs.Rows.{changed_by, row_at, IsRising};
-ghost use Rattle.kept_rows.specs.Servers.{fits};
-ghost use Rattle.orch_base.specs.declared.server.ServerNo.{ServerNo};
+ghost use Rattle.instance_keeper.specs.Prelude.{Change, IsInRange, IsRising, Row, ServerNo, changed_by, fits, row_at};
+ghost use Rattle.instance_keeper.specs.Prelude.key;
+ghost use Rattle.instance_keeper.specs.Prelude.row;
+ghost use Rattle.instance_keeper.specs.Prelude.table;
 ghost use Rattle.instance_keeper.specs.Book.{BookState, IsBook, after_change, after_put, book_rows, instance_at};
 ghost use Rattle.instance_keeper.specs.Had.{has_row};
 

@@ -3,7 +3,7 @@
 ghost use Rattle.std.specs.Prelude.{◌≡◌, ◌<◌, All, length};
 ghost use Rattle.instance_keeper.specs.Leases.{first_busy, freed, given_back, taken};
 
-use orch_base::ServerNo;
+use crate::orch_base::ServerNo;
 use std::fmt;
 
 /// Why leases aren't taken.

@@ -8,10 +8,10 @@ mod had;
 mod laws;
 mod lease;
 mod server_list;
-mod threads;
 
 pub use book::{Book, StoreAnswer};
 pub use bridge::{Bridge, bridge_in};
+pub use kept_rows::{binlog_coords_items, gtid_sets, orch_base, server_words_items};
 /// The rows and their keeper.
 pub use kept_rows::{
     Candidate, Change, Downtime, Instance, Keeper, KeeperFault, Key, MemKeeper, Observation,
@@ -21,4 +21,12 @@ pub use kept_rows::{
 pub use laws::{had_rows_change_nothing, instances_are_rows, rows_follow_the_book};
 pub use lease::LeaseFault;
 /// Want of memory.
-pub use orch_base::{CauseName, Code, Ending, Kind, Memory, Rule};
+pub use kept_rows::orch_base::{CauseName, Code, Ending, Kind, Memory, Rule};
+
+/// What is passed on of `kept_rows`.
+pub mod kept_rows_items {
+    pub use kept_rows::{
+        CauseName, Change, Ending, Keeper, KeeperFault, Kind, MemKeeper, Recovery, Row,
+        last_row_stands, row_map,
+    };
+}

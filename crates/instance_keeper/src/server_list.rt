@@ -1,11 +1,11 @@
 //! The servers of a book: their settings, which never change, and their order by name.
 
 ghost use Rattle.std.specs.Prelude.{◌≡◌, ◌<◌, ◌^◌, All, IfOk, Some, length, map, slice_get};
-ghost use Rattle.name_order.specs.NameOrder.{by_name, rank_of, IsOrder};
+ghost use Rattle.instance_keeper.specs.Prelude.{by_name, rank_of};
 
 use crate::Memory;
+use crate::orch_base::{Name, ServerNo, Settings};
 use name_order::{in_name_order, ranks};
-use orch_base::{Name, ServerNo, Settings};
 use std::alloc::Global;
 use std::marker::Model;
 
@@ -30,7 +30,7 @@ impl Drop for ServerList {
 
 impl Model for ServerList {
     ghost use Rattle.std.specs.Prelude.{List};
-    ghost use Rattle.orch_base.specs.declared.server.Settings.{Settings as ASettings};
+    ghost use Rattle.kept_rows.specs.OrchBase.declared.server.Settings.{Settings as ASettings};
     ghost use Rattle.instance_keeper.specs.ServerLists.{IsServerList};
 
     ghost Value = { List ASettings };

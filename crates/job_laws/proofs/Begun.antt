@@ -1,36 +1,18 @@
 -- Jobs that begin, take their turns and end.
+use Rattle.job_laws.proofs.Prelude.{All, All-cons, All-filter, All-nil, All-push, All-replicate, All-weaker, AllBridged, AllMeet, AreLeased}
+use Rattle.job_laws.proofs.Prelude.{ArePlaced, Begins, Flight, HasLeases, Held, HeldJob, IsBridged, IsLeased, IsPlaced, IsQuiet, IsShown}
+use Rattle.job_laws.proofs.Prelude.{IsShownBridged, Job, KeepsHeld, KeepsLeases, KeepsSound, Leases, MayChange, Meets, Moment, Observation, Op}
+use Rattle.job_laws.proofs.Prelude.{Placed, Placed-run, Safe, Safe-run, ServerNo, Shows, Shows-run, Sound, Spans, StandsIn, Turned, World, after_turn}
+use Rattle.job_laws.proofs.Prelude.{and_parts, are_held, are_listed, are_matched, begun, change_of, deed_of, eq-eqb, eqb-true, false≢true}
+use Rattle.job_laws.proofs.Prelude.{filter_passes, footing, is_going, is_in, is_of, job_at, job_turned, leased_to, list_any, matched_in, no_leases}
+use Rattle.job_laws.proofs.Prelude.{not-true, opened_flight, position_of, replaced, run, same_Some, seen_of, server_at, turned, without_job}
+use Rattle.job_laws.proofs.Prelude.{without_leases}
 use Rattle.std.proofs.Common.{◌≡◌, ℕ, Bool, true, false, cond, not, List, [], ◌∷◌, ◌++◌, refl, sym, ◌∙◌, ap, subst, Option, Some, None, IfSome}
 use Rattle.std.specs.Prelude.{◌==◌}
-use Rattle.std.specs.List.{All, list_any}
-use Rattle.std.proofs.lemmas.Bool.{and_parts, false≢true, eqb-true, eq-eqb}
-use Rattle.std.proofs.lemmas.Option.{same_Some}
-use Rattle.std.proofs.lemmas.List.Elements.{All-nil, All-cons, All-push, All-weaker, All-filter, All-replicate, filter_passes}
-use Rattle.orch_base.specs.declared.server.Moment.{Moment}
-use Rattle.orch_base.specs.declared.server.ServerNo.{ServerNo}
-use Rattle.server_model.specs.Run.{run}
-use Rattle.server_model.specs.Safe.{Safe, Placed, IsQuiet}
-use Rattle.server_model.specs.Worlds.{World, server_at}
-use Rattle.replication_laws.proofs.Runs.{Placed-run, Safe-run}
-use Rattle.operations.specs.declared.op.Op.{Op}
-use Rattle.operations.specs.Deeds.{deed_of}
-use Rattle.operations.specs.Jobs.{Job, seen_of, position_of}
-use Rattle.operations.specs.Turns.{Turned, turned}
-use Rattle.job_laws.specs.Footing.{footing, are_held}
-use Rattle.job_laws.specs.Held.{HeldJob, KeepsHeld, Spans}
-use Rattle.server_model.specs.Showing.{Shows}
-use Rattle.job_laws.specs.Sound.{IsBridged, AllBridged, KeepsSound}
-use Rattle.operations.specs.Changes.{change_of}
-use Rattle.job_laws.specs.Leases.{Leases, IsLeased, MayChange, HasLeases, AreLeased, KeepsLeases, Begins, is_in, are_listed, job_at}
-use Rattle.job_laws.specs.Flights.{Flight, Held, Sound, IsShown, IsShownBridged, StandsIn, no_leases, opened_flight, leased_to, without_leases, begun, replaced, without_job, after_turn, job_turned}
-use Rattle.instance_keeper.specs.Leases.{is_of}
-use Rattle.operations.specs.Turns.{is_going}
-use Rattle.job_laws.specs.Matched.{AllMeet, ArePlaced, IsPlaced, Meets, are_matched, matched_in}
 use Rattle.job_laws.proofs.Lists.{All-find, All-replaced, found-replaced, found-without}
 use Rattle.job_laws.proofs.Passing.{rings-run, rings-stand, slots-run, slots-bridged, jobs-run, jobs-bridged, jobs-meet, observed-shown, observed-bridged}
 use Rattle.job_laws.proofs.Showing.{Bridged-run}
-use Rattle.replication_laws.proofs.ShownCoords.{Shows-run}
 use Rattle.job_laws.proofs.Observing.{turn-observes}
-use Rattle.kept_rows.specs.declared.observation.Observation.{Observation}
 use Rattle.job_laws.proofs.Turns.{turn-kept, turn-sound}
 use Rattle.job_laws.proofs.Leased.{turn-leased}
 use Rattle.job_laws.proofs.Others.{unleased-run}
@@ -68,10 +50,6 @@ freed-back L id k n h = go (L n) refl h
         at false f h =
             let same : m ≡ k = same_Some m k h in
             (e ∙ h, λ is. false≢true (sym f ∙ eq-eqb m id (same ∙ is)))
-
-not-true : (b : Bool) → not b ≡ true → b ≡ false
-not-true true h = absurd (false≢true h)
-not-true false h = refl
 
 leased-without : (L : Leases) (jobs : List Job) (id : ℕ) → AreLeased L jobs → AreLeased (without_leases L id) (without_job jobs id)
 leased-without L jobs id are = record {

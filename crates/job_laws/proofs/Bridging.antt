@@ -1,36 +1,15 @@
 -- What bridges a reading shows, and what they let cross.
 use Rattle.std.proofs.Common.{◌≡◌, ℕ, true, List, refl, sym, ◌∙◌, ap, subst, Option, Some, None, ◌&&◌}
 use Rattle.std.specs.Prelude.{is_some}
-use Rattle.std.proofs.lemmas.Bool.{false≢true, and_parts, eqb-true}
-use Rattle.std.proofs.lemmas.Option.{same_Some}
-use Rattle.binlog_coords.specs.declared.Coord.{Coord}
-use Rattle.orch_base.specs.declared.server.ServerNo.{ServerNo}
-use Rattle.orch_base.specs.declared.server.SourceState.{SourceState}
-use Rattle.orch_base.specs.declared.server.SourceState.TheVariants.{Without, Attached, Detached}
-use Rattle.server_words.specs.declared.status.Status.{Status}
-use Rattle.server_words.specs.declared.attach.Spot.TheVariants as spot
-use Rattle.server_model.specs.Run.{Exchange, Attach, AttachAuto, Allowed, JoinsWell}
-use Rattle.server_model.specs.Safe.{Safe}
-use Rattle.server_model.specs.Worlds.{World, server_at, source_no}
-use Rattle.server_model.specs.Bridges.{Stands}
-use Rattle.replication_laws.proofs.BridgeLaws.{joins-down, joins-up, joins-about, joins-back}
-use Rattle.replication_laws.proofs.Crossings.{joins-same}
-use Rattle.replication_laws.proofs.SeenSets.{joins-auto}
-use Rattle.operations.specs.declared.op.Crossing.{Crossing}
-use Rattle.operations.specs.declared.op.Crossing.TheVariants as cross
-use Rattle.instance_keeper.specs.declared.bridge.Bridge.{Bridge}
-use Rattle.operations.specs.declared.sight.Position.{Position}
-use Rattle.operations.specs.declared.sight.Sight.{Sight}
-use Rattle.operations.specs.Jobs.{position_of, seen_of}
-use Rattle.instance_keeper.specs.Bridges.{bridge_by, bridge_in}
+use Rattle.job_laws.proofs.Prelude.{AllBridged, Allowed, AllShow, Attach, AttachAuto, Attached, Bridge, Coord, Crossing, Detached, Exchange}
+use Rattle.job_laws.proofs.Prelude.{IsBridged, JoinsWell, Position, Safe, ServerNo, Sight, SourceState, Spans, Stands, Status, Without, World}
+use Rattle.job_laws.proofs.Prelude.{and_parts, attached_anew, both, bridge_at, bridge_by, bridge_in, by_set, can-allowed, can_attach, crossed}
+use Rattle.job_laws.proofs.Prelude.{eqb-true, false≢true, finds_crossing, footing, is_under, joins-about, joins-auto, joins-back, joins-down}
+use Rattle.job_laws.proofs.Prelude.{joins-same, joins-up, logs_at, logs_by, position_of, read_by, same_again, same_Some, seen_of, server_at}
+use Rattle.job_laws.proofs.Prelude.{source_no, source_shown, target-can}
+use Rattle.job_laws.proofs.Prelude.cross
+use Rattle.job_laws.proofs.Prelude.spot
 use Rattle.job_laws.proofs.Spanning.{bridge-parts, seen-spans}
-use Rattle.operations.specs.Turns.{read_by, bridge_at, crossed, attached_anew, same_again, by_set}
-use Rattle.operations.specs.Targets.{logs_by, can_attach}
-use Rattle.operations.proofs.Targets.{target-can, can-allowed}
-use Rattle.operations.proofs.Tests.{both}
-use Rattle.job_laws.specs.Footing.{is_under, finds_crossing, logs_at, source_shown, footing}
-use Rattle.job_laws.specs.Held.{AllShow, Spans}
-use Rattle.job_laws.specs.Sound.{IsBridged, AllBridged}
 
 -- a bridge that was seen stands
 pub stands-at : (w : World) (n : ServerNo) (o : Option Position) (b : Bridge) → ((s : Position) → o ≡ Some s → IsBridged w n.0 s) → bridge_at n o ≡ Some b → Stands w b.no.0 b.source.0 b.own b.exec

@@ -1,22 +1,12 @@
 -- What one may count on grows, and the operations that are left stay held.
 use Rattle.std.proofs.Common.{◌≡◌, ℕ, Bool, true, false, cond, List, [], ◌∷◌, refl, ◌∙◌, ap, Option, Some, None, ◌&&◌, ◌||◌}
 use Rattle.std.specs.Prelude.{◌==◌, is_some}
-use Rattle.std.proofs.lemmas.Bool.{false≢true, and_parts}
-use Rattle.orch_base.specs.declared.server.ServerNo.{ServerNo}
-use Rattle.operations.specs.declared.sight.Position.{Position}
-use Rattle.server_model.specs.Worlds.{World, source_no}
-use Rattle.operations.specs.declared.op.Aim.{Aim}
-use Rattle.operations.specs.declared.op.Aim.TheVariants as aim
-use Rattle.operations.specs.declared.op.Crossing.{Crossing}
-use Rattle.operations.specs.declared.op.Crossing.TheVariants as cross
-use Rattle.operations.specs.declared.op.Op.{Op}
-use Rattle.operations.specs.declared.sight.Sight.{Sight}
-use Rattle.operations.specs.Deeds as deed
-use Rattle.operations.specs.Deeds.{Deed, deed_of}
-use Rattle.operations.specs.Jobs.{seen_of, with_seen}
-use Rattle.job_laws.specs.Footing.{Footing, Within, is_under, finds_aim, finds_crossing, finds, reading, logging, looking, learn, are_held, source_shown, footing}
-use Rattle.operations.proofs.Tests.{both, or-mono, or-right, cond-mono, some-mono, or-at}
-use Rattle.operations.proofs.Sights.{seen-at}
+use Rattle.job_laws.proofs.Prelude.{Aim, Crossing, Deed, Footing, Op, Position, ServerNo, Sight, Within, World, and_parts, are_held, both, cond-mono}
+use Rattle.job_laws.proofs.Prelude.{deed_of, false≢true, finds, finds_aim, finds_crossing, footing, is_under, learn, logging, looking, or-at, or-mono}
+use Rattle.job_laws.proofs.Prelude.{or-right, reading, seen-at, seen_of, some-mono, source_no, source_shown, with_seen}
+use Rattle.job_laws.proofs.Prelude.aim
+use Rattle.job_laws.proofs.Prelude.cross
+use Rattle.job_laws.proofs.Prelude.deed
 
 -- both of two that are sure
 two : (a b a' b' : Bool) → (a ≡ true → a' ≡ true) → (b ≡ true → b' ≡ true) → (a && b) ≡ true → (a' && b') ≡ true
@@ -48,20 +38,16 @@ module _ (f g : Footing) (le : Within f g) where
   crossing-mono cross.Back a b h = two (is_under (f.under a.0) b.0) (f.logs a.0) (is_under (g.under a.0) b.0) (g.logs a.0) (named a.0 b.0) (le.logs a.0) h
 
   pub finds-mono : (d : Deed) → finds f d ≡ true → finds g d ≡ true
-  finds-mono (deed.Look n from) h = refl
-  finds-mono (deed.Request n a) h = refl
   finds-mono (deed.Until n to) h = two (f.read n.0) (finds_aim f to) (g.read n.0) (finds_aim g to) (le.read n.0) (aim-mono to) h
   finds-mono (deed.Await n to) h = aim-mono to h
   finds-mono (deed.AwaitSet n m) h = le.read m.0 h
-  finds-mono (deed.Settle n) h = refl
   finds-mono (deed.Cross c a b) h = crossing-mono c a b h
   finds-mono (deed.Same n) h = sourced n.0 h
   finds-mono (deed.Auto n m) h =
       two f.gtid (f.read m.0 && f.logs m.0) g.gtid (g.read m.0 && g.logs m.0) le.gtid
       (two (f.read m.0) (f.logs m.0) (g.read m.0) (g.logs m.0) (le.read m.0) (le.logs m.0)) h
-  finds-mono (deed.Match n m every) h = refl
   finds-mono (deed.CrossMatch n m) h = le.logs m.0 h
-  finds-mono (deed.Finish lines) h = refl
+  finds-mono _ h = refl
 
   pub reading-mono : (n : ServerNo) (u : Option ℕ) → Within (reading f n u) (reading g n u)
   reading-mono n u = record {
@@ -85,17 +71,10 @@ looking-mono f g le n (Some m) = logging-mono (reading f n (Some m.0)) (reading 
 
 pub learn-mono : (f g : Footing) → Within f g → (d : Deed) → Within (learn f d) (learn g d)
 learn-mono f g le (deed.Look n from) = looking-mono f g le n from
-learn-mono f g le (deed.Request n a) = le
-learn-mono f g le (deed.Until n to) = le
 learn-mono f g le (deed.Await n to) = reading-mono f g le n None
 learn-mono f g le (deed.AwaitSet n m) = reading-mono f g le n None
 learn-mono f g le (deed.Settle n) = reading-mono f g le n None
-learn-mono f g le (deed.Cross c a b) = le
-learn-mono f g le (deed.Same n) = le
-learn-mono f g le (deed.Auto n m) = le
-learn-mono f g le (deed.Match n m every) = le
-learn-mono f g le (deed.CrossMatch n m) = le
-learn-mono f g le (deed.Finish lines) = le
+learn-mono f g le _ = le
 
 -- held operations stay held where one may count on more
 pub held-mono : (f g : Footing) → Within f g → (ops : List Op) → are_held f ops ≡ true → are_held g ops ≡ true

@@ -1,14 +1,8 @@
 -- Leases by the servers' numbers are leases as the laws have them.
 use Rattle.std.proofs.Common.{◌≡◌, ℕ, ◌<◌, Bool, true, false, cond, List, [], ◌∷◌, length, refl, sym, ◌∙◌, ap, subst, Option, Some, None, zero, suc, ◌||◌}
 use Rattle.std.specs.Prelude.{◌==◌, slice_index_or, slice_set}
-use Rattle.std.specs.List.{All, list_any}
-use Rattle.std.proofs.lemmas.List.Elements.{All-head, All-tail}
-use Rattle.std.proofs.lemmas.Bool.{false≢true, eqb-true, eq-eqb}
-use Rattle.std.proofs.lemmas.List.{length-set, get_or-set_same, get_or-set_other}
-use Rattle.orch_base.specs.declared.server.ServerNo.{ServerNo}
-use Rattle.job_laws.specs.Flights.{leased_to, without_leases}
-use Rattle.job_laws.specs.Leases.{leases_of}
-use Rattle.instance_keeper.specs.Leases.{taken, given_back}
+use Rattle.job_laws.proofs.Prelude.{All, All-head, All-tail, ServerNo, eq-eqb, eqb-true, false≢true, get_or-set_other, get_or-set_same, given_back}
+use Rattle.job_laws.proofs.Prelude.{leased_to, leases_of, length-set, list_any, taken, without_leases}
 
 at-set : (xs : List (Option ℕ)) (i n : ℕ) (v : Option ℕ) → i < length xs → slice_index_or (slice_set xs i v) n None ≡ cond (i == n) v (slice_index_or xs n None)
 at-set xs i n v within = go (i == n) refl

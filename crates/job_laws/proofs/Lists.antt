@@ -1,17 +1,8 @@
 -- What holds of each of a list.
 use Rattle.std.proofs.Common.{◌≡◌, ℕ, ◌-◌, Bool, true, false, cond, not, List, [], ◌∷◌, ◌++◌, length, refl, sym, ◌∙◌, ap, subst, Some, zero, suc}
 use Rattle.std.specs.Prelude.{◌==◌, slice_index_or, find}
-use Rattle.std.specs.List.{All}
-use Rattle.std.proofs.lemmas.Bool.{eqb-true, eq-eqb, ne_eqb}
-use Rattle.std.proofs.lemmas.Option.{same_Some}
-use Rattle.std.proofs.lemmas.List.Elements.{All-nil, All-cons, All-head, All-tail, All-push, All-drop}
-use Rattle.instance_keeper.specs.declared.bridge.Bridge.{Bridge}
-use Rattle.operations.specs.Jobs.{Job}
-use Rattle.instance_keeper.specs.Bridges.{ring_size, with_bridge}
-use Rattle.job_laws.specs.Flights.{replaced, without_job}
-use Rattle.job_laws.specs.Leases.{job_at}
-use Rattle.instance_keeper.specs.Bridges.{is_same}
-use Rattle.circular_buffer.specs.Buffer.{keep_last, last_item}
+use Rattle.job_laws.proofs.Prelude.{All, All-cons, All-drop, All-head, All-nil, All-push, All-tail, Bridge, Job, eq-eqb, eqb-true, is_same, job_at}
+use Rattle.job_laws.proofs.Prelude.{keep_last, last_item, ne_eqb, replaced, ring_size, same_Some, with_bridge, without_job}
 
 -- at a place of the list, or where there is none
 pub All-at : {X : Type 0} (P : X → Type 0) (xs : List X) (i : ℕ) (d : X) → P d → All P xs → P (slice_index_or xs i d)

@@ -1,30 +1,14 @@
 -- What a match tells of two histories in a safe world.
 use Rattle.std.proofs.Common.{◌≡◌, ℕ, zero, suc, ◌+◌, ◌-◌, ◌<◌, ◌≤◌, Bool, true, false, cond, not, List, [], ◌∷◌, length, take, refl, sym, ◌∙◌, ap, Option, Some, None, Result, Ok, Err, arith, ◌&&◌}
 use Rattle.std.specs.Prelude.{◌==◌, slice_get}
-use Rattle.std.proofs.lemmas.Bool.{false≢true, and_parts, eqb-true, eq-eqb}
-use Rattle.std.proofs.lemmas.Bool.Decides.{nat_tests}
-use Rattle.std.proofs.lemmas.Option.{slice_get_within}
-use Rattle.std.proofs.lemmas.List.{length-take, length-take-le}
-use Rattle.std.proofs.Math.Seq.{take-length}
-use Rattle.binlog_coords.specs.declared.Coord.{Coord}
-use Rattle.binlog_coords.specs.Log.{coord_after, place}
-use Rattle.binlog_coords.proofs.Places.{Laid-Grown, place-coord_after}
-use Rattle.orch_base.specs.Histories.{count_own, same_txn}
-use Rattle.orch_base.specs.declared.server.ServerNo.{ServerNo}
-use Rattle.orch_base.specs.declared.server.Txn.{Txn}
-use Rattle.server_words.specs.declared.answers.Unreachable.{Unreachable}
-use Rattle.server_model.specs.Desk.{can_reach}
-use Rattle.server_model.specs.Plains.{logged, logged_by, logged_in}
-use Rattle.server_model.specs.Safe.{IsKin, Safe}
-use Rattle.server_model.specs.Worlds.{World, histories, history_of, server_at}
-use Rattle.server_model.specs.declared.server.Server.{Server}
-use Rattle.replication_laws.proofs.Histories.{IsKin-once}
-use Rattle.replication_laws.proofs.Logs.{LaysOut-Grown, LaysOut-length}
-use Rattle.operations.specs.declared.matching.MatchFault.TheVariants as fault
-use Rattle.operations.specs.Matching.{alike, is_mark, is_mark_there, is_same_there, first_unlike, last_mark, match_between, match_logs, match_of, matched_at, matched_behind, matched_from, place_of_mark, shows_same}
-use Rattle.operations.proofs.Marks.{IsEntry, entry-is, first-none, is-entry, is-last, last-is, mark-there, match-behind, match-of-both, none-first, same-there}
-use Rattle.operations.proofs.Tests.{both}
-use Rattle.job_laws.specs.Marked.{KeepsMark}
+use Rattle.job_laws.proofs.Prelude.{Coord, IsEntry, IsKin, IsKin-once, KeepsMark, Laid-Grown, LaysOut-Grown, LaysOut-length, Safe, Server, ServerNo}
+use Rattle.job_laws.proofs.Prelude.{Txn, Unreachable, World, alike, and_parts, both, can_reach, coord_after, count_own, entry-is, eq-eqb, eqb-true}
+use Rattle.job_laws.proofs.Prelude.{false≢true, first-none, first_unlike, histories, history_of, is-entry, is-last, is_mark, is_mark_there}
+use Rattle.job_laws.proofs.Prelude.{is_same_there, last-is, last_mark, length-take, length-take-le, logged, logged_by, logged_in, mark-there}
+use Rattle.job_laws.proofs.Prelude.{match-behind, match-of-both, match_between, match_logs, match_of, matched_at, matched_behind, matched_from}
+use Rattle.job_laws.proofs.Prelude.{nat_tests, none-first, place, place-coord_after, place_of_mark, same-there, same_txn, server_at, shows_same}
+use Rattle.job_laws.proofs.Prelude.{slice_get_within, take-length}
+use Rattle.job_laws.proofs.Prelude.fault
 
 -- a match by its parts: the last mark of the first, where the second keeps it, and the entries behind it
 pub record ByMark (every : ℕ) (x y : Server) (c : Coord) : Type 0 where

@@ -1,46 +1,17 @@
 -- The matches that a job found, and what they let cross.
 use Rattle.std.proofs.Common.{◌≡◌, ℕ, ◌+◌, ◌-◌, ◌<◌, ◌≤◌, Bool, true, false, cond, List, [], ◌∷◌, ◌++◌, length, take, refl, sym, ◌∙◌, ap, subst, inl, inr, Option, Some, None, Ok, arith, reverse, ◌&&◌, ◌||◌}
 use Rattle.std.specs.Prelude.{◌==◌, find, is_some}
-use Rattle.std.specs.List.{All, flat_map}
-use Rattle.std.proofs.lemmas.Bool.{false≢true, and_parts, cases_eq, eqb-true}
-use Rattle.std.proofs.lemmas.Option.{same_Some, slice_get_within}
-use Rattle.std.proofs.lemmas.List.{length-take, reverse-append}
-use Rattle.std.proofs.lemmas.List.Elements.{All-head, All-nil, All-push, All-tail, All-weaker}
-use Rattle.std.proofs.Math.Seq.{take-length}
-use Rattle.binlog_coords.specs.declared.Coord.{Coord}
-use Rattle.binlog_coords.specs.Log.{end_of, place}
-use Rattle.binlog_coords.proofs.Places.{Laid-Grown, place-coord_after, place-of_end, place-parts}
-use Rattle.orch_base.specs.declared.server.ServerNo.{ServerNo}
-use Rattle.orch_base.specs.declared.server.SourceState.{SourceState}
-use Rattle.orch_base.specs.declared.server.SourceState.TheVariants.{Without, Attached, Detached}
-use Rattle.orch_base.specs.declared.server.Txn.{Txn}
-use Rattle.server_words.specs.declared.attach.Spot.{Spot}
-use Rattle.server_words.specs.declared.attach.Spot.TheVariants as spot
-use Rattle.server_model.specs.Attach.{IsTarget}
-use Rattle.server_model.specs.Bridges.{Stands}
-use Rattle.server_model.specs.Plains.{logged_by}
-use Rattle.server_model.specs.Run.{Exchange, Attach, run, Allowed, AllAllowed, JoinsWell}
-use Rattle.server_model.specs.Safe.{Placed, Safe}
-use Rattle.server_model.specs.Worlds.{World, server_at, source_no}
-use Rattle.server_model.specs.declared.server.Server.{Server}
-use Rattle.replication_laws.proofs.BridgeLaws.{Stands-grows, joins-about, joins-down}
-use Rattle.replication_laws.proofs.Logs.{LaysOut-Grown, LaysOut-length}
-use Rattle.replication_laws.proofs.Runs.{Grows-run}
-use Rattle.commands.specs.declared.line.Line.{Line}
-use Rattle.operations.specs.declared.matching.Match.{Match}
-use Rattle.operations.specs.declared.op.Op.{Op}
-use Rattle.operations.specs.declared.op.Op.TheVariants as op
-use Rattle.operations.specs.Deeds as deed
-use Rattle.operations.specs.Deeds.{Deed, deed_of}
-use Rattle.operations.specs.Jobs.{is_match_of, match_found}
-use Rattle.operations.specs.Matching.{alike, match_logs, standing, standing_at}
-use Rattle.operations.specs.Plans.{finished}
-use Rattle.operations.specs.Targets.{can_attach}
-use Rattle.operations.specs.Turns.{by_match}
-use Rattle.operations.proofs.Marks.{entry-is}
-use Rattle.operations.proofs.Targets.{can-allowed, target-can}
-use Rattle.operations.proofs.Tests.{both, or-mono}
-use Rattle.job_laws.specs.Matched.{AllMeet, ArePlaced, IsPlaced, Matched, Meets, MeetsAt, are_matched, finds_match, matched_by, matched_in, matching}
+use Rattle.job_laws.proofs.Prelude.{All, All-head, All-nil, All-push, All-tail, All-weaker, AllAllowed, AllMeet, Allowed, ArePlaced, Attach, Attached}
+use Rattle.job_laws.proofs.Prelude.{Coord, Deed, Detached, Exchange, Grows-run, IsPlaced, IsTarget, JoinsWell, Laid-Grown, LaysOut-Grown}
+use Rattle.job_laws.proofs.Prelude.{LaysOut-length, Line, Match, Matched, Meets, MeetsAt, Op, Placed, Safe, Server, ServerNo, SourceState, Spot}
+use Rattle.job_laws.proofs.Prelude.{Stands, Stands-grows, Txn, Without, World, alike, and_parts, are_matched, both, by_match, can-allowed, can_attach}
+use Rattle.job_laws.proofs.Prelude.{cases_eq, deed_of, end_of, entry-is, eqb-true, false≢true, finds_match, finished, flat_map, is_match_of}
+use Rattle.job_laws.proofs.Prelude.{joins-about, joins-down, length-take, logged_by, match_found, match_logs, matched_by, matched_in, matching}
+use Rattle.job_laws.proofs.Prelude.{or-mono, place, place-coord_after, place-of_end, place-parts, reverse-append, run, same_Some, server_at}
+use Rattle.job_laws.proofs.Prelude.{slice_get_within, source_no, standing, standing_at, take-length, target-can}
+use Rattle.job_laws.proofs.Prelude.deed
+use Rattle.job_laws.proofs.Prelude.op
+use Rattle.job_laws.proofs.Prelude.spot
 use Rattle.job_laws.proofs.Marking.{ByMark, alike-parts, logs-match, match-place, match-prefix, read-servers}
 use Rattle.job_laws.proofs.Showing.{Target-run}
 
@@ -48,32 +19,12 @@ use Rattle.job_laws.proofs.Showing.{Target-run}
 
 module _ (has more : Matched) (le : (n m : ServerNo) → has n m ≡ true → more n m ≡ true) where
   pub finds_match-mono : (d : Deed) → finds_match has d ≡ true → finds_match more d ≡ true
-  finds_match-mono (deed.Look n from) h = refl
-  finds_match-mono (deed.Request n a) h = refl
-  finds_match-mono (deed.Until n to) h = refl
-  finds_match-mono (deed.Await n to) h = refl
-  finds_match-mono (deed.AwaitSet n m) h = refl
-  finds_match-mono (deed.Settle n) h = refl
-  finds_match-mono (deed.Cross c a b) h = refl
-  finds_match-mono (deed.Same n) h = refl
-  finds_match-mono (deed.Auto n m) h = refl
-  finds_match-mono (deed.Match n m every) h = refl
   finds_match-mono (deed.CrossMatch n m) h = le n m h
-  finds_match-mono (deed.Finish lines) h = refl
+  finds_match-mono _ h = refl
 
   pub matched_by-mono : (d : Deed) (a b : ServerNo) → matched_by has d a b ≡ true → matched_by more d a b ≡ true
-  matched_by-mono (deed.Look n from) a b h = le a b h
-  matched_by-mono (deed.Request n x) a b h = le a b h
-  matched_by-mono (deed.Until n to) a b h = le a b h
-  matched_by-mono (deed.Await n to) a b h = le a b h
-  matched_by-mono (deed.AwaitSet n m) a b h = le a b h
-  matched_by-mono (deed.Settle n) a b h = le a b h
-  matched_by-mono (deed.Cross c x y) a b h = le a b h
-  matched_by-mono (deed.Same n) a b h = le a b h
-  matched_by-mono (deed.Auto n m) a b h = le a b h
   matched_by-mono (deed.Match n m every) a b h = or-mono (n.0 == a.0 && m.0 == b.0) (has a b) (more a b) (le a b) h
-  matched_by-mono (deed.CrossMatch n m) a b h = le a b h
-  matched_by-mono (deed.Finish lines) a b h = le a b h
+  matched_by-mono _ a b h = le a b h
 
 -- operations that go by matches still do where more were found
 pub matched-mono : (has more : Matched) → ((n m : ServerNo) → has n m ≡ true → more n m ≡ true) → (ops : List Op) → are_matched has ops ≡ true → are_matched more ops ≡ true

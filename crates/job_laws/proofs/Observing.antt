@@ -1,31 +1,15 @@
 -- What a turn observes is what a status shows.
 use Rattle.std.proofs.Common.{◌≡◌, ℕ, ◌+◌, Bool, true, false, cond, List, [], ◌∷◌, refl, sym, ◌∙◌, Option, Some, None, Ok, Err, Result}
 use Rattle.std.specs.Prelude.{nat_lt}
-use Rattle.std.proofs.lemmas.Option.{same_Some}
-use Rattle.orch_base.specs.declared.server.Moment.{Moment}
-use Rattle.orch_base.specs.declared.server.ServerNo.{ServerNo}
-use Rattle.kept_rows.specs.declared.observation.Observation.{Observation}
-use Rattle.server_words.specs.declared.status.Status.{Status}
-use Rattle.kept_rows.specs.Seeing.{seen_in}
-use Rattle.binlog_coords.specs.declared.Coord.{Coord}
-use Rattle.server_words.specs.declared.answers.Unreachable.{Unreachable}
-use Rattle.server_words.specs.declared.attach.AttachFault.{AttachFault}
-use Rattle.server_words.specs.declared.attach.Spot.{Spot}
-use Rattle.server_words.specs.declared.changes.Ask.{Ask}
-use Rattle.server_words.specs.declared.changes.Ask.TheVariants as asking
-use Rattle.server_model.specs.Desk.{desk_answer}
-use Rattle.server_model.specs.Gtids.{status}
-use Rattle.server_model.specs.Run.{Exchange}
-use Rattle.server_model.specs.Worlds.{World, server_at}
-use Rattle.commands.specs.declared.cause.Cause.TheVariants as cause
-use Rattle.operations.specs.declared.matching.MatchFault.{MatchFault}
-use Rattle.operations.specs.declared.op.Op.{Op}
-use Rattle.operations.specs.Deeds as deed
-use Rattle.operations.specs.Deeds.{Deed, deed_of}
-use Rattle.operations.specs.Jobs.{Job, match_found, seen_of}
-use Rattle.operations.specs.Matching.{match_logs, standing_at}
-use Rattle.operations.specs.Targets.{can_attach}
-use Rattle.operations.specs.Turns.{Goes, Stops, settled, next, saw, observed, is_moved, after_status, after_look, after_ask, aim_of, is_reached, until_by, after_until, after_wait_by, after_wait, holds_seen, settles, read_by, bridge_at, crossed, same_again, by_set, after_match, by_match, attach_answer_of, after_answer, after_attach, by_deed, by_ops, turned}
+use Rattle.job_laws.proofs.Prelude.{Ask, AttachFault, Coord, Deed, Exchange, Goes, Job, MatchFault, Moment, Observation, Op, ServerNo, Spot, Status}
+use Rattle.job_laws.proofs.Prelude.{Stops, Unreachable, World, after_answer, after_ask, after_attach, after_look, after_match, after_status}
+use Rattle.job_laws.proofs.Prelude.{after_until, after_wait, after_wait_by, aim_of, attach_answer_of, bridge_at, by_deed, by_match, by_ops, by_set}
+use Rattle.job_laws.proofs.Prelude.{can_attach, crossed, deed_of, desk_answer, holds_seen, is_moved, is_reached, match_found, match_logs, next}
+use Rattle.job_laws.proofs.Prelude.{observed, read_by, same_again, same_Some, saw, seen_in, seen_of, server_at, settled, settles, standing_at, status}
+use Rattle.job_laws.proofs.Prelude.{turned, until_by}
+use Rattle.job_laws.proofs.Prelude.ask as asking
+use Rattle.job_laws.proofs.Prelude.cause
+use Rattle.job_laws.proofs.Prelude.deed
 
 ask-observes : (j : Job) (rest : List Op) (n : ServerNo) (a : Ask) (r : Result (Unit {0}) Unreachable) → (settled j (after_ask j rest n a r)).observation ≡ None
 ask-observes j rest n a (Ok t) = refl

@@ -1,34 +1,18 @@
 -- An exchange with one server leaves the others as they are.
 use Rattle.std.proofs.Common.{◌≡◌, ℕ, false, List, [], ◌∷◌, refl, ◌∙◌, ap, Option, Some, None, Ok, Err, Result}
-use Rattle.std.specs.List.{All}
-use Rattle.std.proofs.lemmas.List.Elements.{All-head, All-tail}
-use Rattle.binlog_coords.specs.declared.Coord.{Coord}
-use Rattle.binlog_coords.specs.declared.Next.TheVariants as next
-use Rattle.orch_base.specs.declared.server.ServerNo.{ServerNo}
-use Rattle.server_model.specs.declared.decisions.ApplyStep.{ApplyStep}
-use Rattle.server_model.specs.declared.decisions.ApplyStep.TheVariants as applying
-use Rattle.server_model.specs.declared.decisions.FetchStep.{FetchStep}
-use Rattle.server_model.specs.declared.decisions.FetchStep.TheVariants as receiving
-use Rattle.server_words.specs.declared.answers.PurgeAnswer.{PurgeAnswer}
-use Rattle.server_words.specs.declared.answers.PurgeAnswer.TheVariants as purging
-use Rattle.server_words.specs.declared.answers.RotateAnswer.{RotateAnswer}
-use Rattle.server_words.specs.declared.answers.RotateAnswer.TheVariants as rotating
-use Rattle.server_words.specs.declared.answers.Unreachable.{Unreachable}
-use Rattle.server_words.specs.declared.answers.WriteAnswer.{WriteAnswer}
-use Rattle.server_words.specs.declared.answers.WriteAnswer.TheVariants as wrote
-use Rattle.server_words.specs.declared.attach.AttachFault.{AttachFault}
-use Rattle.server_words.specs.declared.changes.Ask.{Ask}
-use Rattle.server_model.specs.declared.server.Server.{Server}
-use Rattle.server_model.specs.Attach.{attach_answer, attached_to, after_attach}
-use Rattle.server_model.specs.Desk.{asked, befallen, desk_answer, rotate_answer, rotated, after_change, after_desk, after_rotate}
-use Rattle.server_model.specs.Exchanges.{took, own_txn, write_answer, after_write, fetch_step, after_fetch, apply_step, after_apply}
-use Rattle.server_model.specs.Gtids.{uuids, auto_coord, attached_auto, attach_auto_answer, after_attach_auto}
-use Rattle.server_model.specs.Purging.{purge_answer, after_purge}
-use Rattle.server_model.specs.Run.{Exchange, Write, Fetch, Apply, Request, Befall, Rotate, Purge, Attach, AttachAuto, after, run}
-use Rattle.server_model.specs.Worlds.{World, server_at, with_server}
-use Rattle.replication_laws.proofs.Worlds.{at_with_other}
-use Rattle.operations.specs.Changes.{server_of}
-use Rattle.job_laws.specs.Leases.{Leases, IsLeased}
+use Rattle.job_laws.proofs.Prelude.{All, All-head, All-tail, Apply, ApplyStep, Ask, Attach, AttachAuto, AttachFault, Befall, Coord, Exchange, Fetch}
+use Rattle.job_laws.proofs.Prelude.{FetchStep, IsLeased, Leases, Purge, PurgeAnswer, Request, Rotate, RotateAnswer, Server, ServerNo, Unreachable}
+use Rattle.job_laws.proofs.Prelude.{World, Write, WriteAnswer, after, after_apply, after_attach_auto, after_change, after_desk, after_fetch}
+use Rattle.job_laws.proofs.Prelude.{after_purge, after_rotate, after_write, apply_step, asked, at_with_other, attach_answer, attach_auto_answer}
+use Rattle.job_laws.proofs.Prelude.{attached_auto, attached_to, auto_coord, befallen, desk_answer, fetch_step, own_txn, purge_answer, rotate_answer}
+use Rattle.job_laws.proofs.Prelude.{rotated, run, server_at, server_of, took, uuids, with_server, write_answer}
+use Rattle.job_laws.proofs.Prelude.ServerModel.{after_attach}
+use Rattle.job_laws.proofs.Prelude.applying
+use Rattle.job_laws.proofs.Prelude.binlog_next as next
+use Rattle.job_laws.proofs.Prelude.purging
+use Rattle.job_laws.proofs.Prelude.receiving
+use Rattle.job_laws.proofs.Prelude.rotating
+use Rattle.job_laws.proofs.Prelude.wrote
 
 module _ (w : World) (n m : ℕ) (apart : m ≡ n → ⊥) where
   abbrev Stays : World → Type 0
@@ -38,30 +22,21 @@ module _ (w : World) (n m : ℕ) (apart : m ≡ n → ⊥) where
   other s t at = at_with_other w n s t at m apart
 
   other-write : (size : ℕ) (o : Option Server) → server_at w n ≡ o → (a : WriteAnswer) → Stays (after_write w n size o a)
-  other-write size None at a = refl
-  other-write size (Some s) at wrote.Down = refl
-  other-write size (Some s) at wrote.ReadOnly = refl
-  other-write size (Some s) at wrote.Full = refl
   other-write size (Some s) at (wrote.Done seq) = other s (took s (own_txn n seq size)) at
+  other-write size _ at _ = refl
 
   other-fetch : (o : Option Server) → server_at w n ≡ o → (a : FetchStep) → Stays (after_fetch w n o a)
-  other-fetch None at a = refl
-  other-fetch (Some r) at receiving.Halt = refl
-  other-fetch (Some r) at receiving.Unlinked = refl
   other-fetch (Some r) at (receiving.Refuse first) = other r (record r { receiver = false }) at
   other-fetch (Some r) at (receiving.Take (next.Entry index to)) = other r (record r { read = to }) at
   other-fetch (Some r) at (receiving.Take (next.Rotate to)) = other r (record r { read = to }) at
-  other-fetch (Some r) at (receiving.Take next.End) = refl
+  other-fetch _ at _ = refl
 
   other-apply : (o : Option Server) → server_at w n ≡ o → (a : ApplyStep) → Stays (after_apply w n o a)
-  other-apply None at a = refl
-  other-apply (Some r) at applying.Halt = refl
   other-apply (Some r) at applying.ForgetUntil = other r (record r { applier = false; until = None }) at
-  other-apply (Some r) at applying.Idle = refl
-  other-apply (Some r) at applying.NoRoom = refl
   other-apply (Some r) at (applying.Pass to) = other r (record r { exec = to }) at
   other-apply (Some r) at (applying.Skip to) = other r (record r { exec = to }) at
   other-apply (Some r) at (applying.Execute t to) = other r (record (took r t) { exec = to }) at
+  other-apply _ at _ = refl
 
   other-change : (f : Server → Server) (o : Option Server) → server_at w n ≡ o → Stays (after_change w n f o)
   other-change f None at = refl
@@ -72,18 +47,12 @@ module _ (w : World) (n m : ℕ) (apart : m ≡ n → ⊥) where
   other-desk a (Err e) = refl
 
   other-rotate : (o : Option Server) → server_at w n ≡ o → (a : RotateAnswer) → Stays (after_rotate w n o a)
-  other-rotate None at a = refl
-  other-rotate (Some s) at rotating.Down = refl
-  other-rotate (Some s) at rotating.NotLogging = refl
-  other-rotate (Some s) at rotating.Full = refl
   other-rotate (Some s) at (rotating.Done to) = other s (rotated s) at
+  other-rotate _ at _ = refl
 
   other-purge : (o : Option Server) → server_at w n ≡ o → (a : PurgeAnswer) → Stays (after_purge w n o a)
-  other-purge None at a = refl
-  other-purge (Some s) at purging.Down = refl
-  other-purge (Some s) at purging.NotLogging = refl
-  other-purge (Some s) at purging.NoFile = refl
   other-purge (Some s) at (purging.Done first) = other s (record s { first = first }) at
+  other-purge _ at _ = refl
 
   other-attach : (to : ServerNo) (c : Coord) (o : Option Server) → server_at w n ≡ o → (r : Result (Unit {0}) AttachFault) → Stays (after_attach w n to c o r)
   other-attach to c None at r = refl

@@ -1,16 +1,9 @@
 -- Every state of a run is held, and every quiet one is sound.
 use Rattle.std.proofs.Common.{◌≡◌, ℕ, Bool, true, false, List, [], ◌∷◌, refl, sym, ◌∙◌, ap, subst, Option, Some, None, IfSome}
-use Rattle.orch_base.specs.declared.server.Moment.{Moment}
-use Rattle.kept_rows.specs.declared.observation.Observation.{Observation}
-use Rattle.server_model.specs.Safe.{IsQuiet}
-use Rattle.server_model.specs.Worlds.{World}
-use Rattle.replication_laws.proofs.Runs.{quiet-run}
-use Rattle.operations.specs.Jobs.{Job}
-use Rattle.operations.specs.Turns.{Turned, observed, turned}
-use Rattle.job_laws.specs.Leases.{job_at}
-use Rattle.job_laws.specs.Flights.{Flight, Held, Sound, IsShown, IsShownBridged, after_turn, job_turned}
-use Rattle.job_laws.specs.Passages as pass
-use Rattle.job_laws.specs.Passages.{MayTake, Passage, PassesWell, TakesWell, stored_if, slot_of, turned_by, passed, MayPass, passing, AllMayPass, AllPassWell}
+use Rattle.job_laws.proofs.Prelude.{AllMayPass, AllPassWell, Flight, Held, IsQuiet, IsShown, IsShownBridged, Job, MayPass, MayTake, Moment}
+use Rattle.job_laws.proofs.Prelude.{Observation, Passage, PassesWell, Sound, TakesWell, Turned, World, after_turn, job_at, job_turned, observed}
+use Rattle.job_laws.proofs.Prelude.{passed, passing, quiet-run, slot_of, stored_if, turned, turned_by}
+use Rattle.job_laws.proofs.Prelude.pass
 use Rattle.job_laws.proofs.Lists.{All-at}
 use Rattle.job_laws.proofs.Passing.{Held-on, Sound-on, observed-shown, observed-bridged, Held-slotted, Sound-slotted, Held-stored, Sound-stored, Held-forgotten, Sound-forgotten, Held-restarted, Sound-restarted}
 use Rattle.job_laws.proofs.Begun.{Held-turned, Sound-turned, Held-begun, Sound-begun, held-after, sound-after, turn-shown, turn-bridged, held-of}
@@ -116,15 +109,11 @@ quiet-turned f id read now keeps (Some j) q =
 
 quiet-back : (f : Flight) (p : Passage) → IsQuiet (passed f p).world → IsQuiet f.world
 quiet-back f (pass.Exchanging e) q = quiet-run f.world (e ∷ []) q
-quiet-back f (pass.Polling p n read now) q = q
 quiet-back f (pass.Storing p keeps) q = ap (λ (w : World). w.errant) (sym (world-stored_if keeps f (slot_of f p))) ∙ q
-quiet-back f (pass.Discovering n read now) q = q
-quiet-back f (pass.Forgetting n) q = q
-quiet-back f pass.Restarting q = q
-quiet-back f (pass.Beginning list j) q = q
 quiet-back f (pass.Turning id read now keeps) q = quiet-turned f id read now keeps (job_at f.jobs id) q
 quiet-back f (pass.Taking id t keeps) q =
     quiet-run f.world t.exchanges (ap (λ (w : World). w.errant) (sym (world-stored_if keeps (after_turn f id t) t.observation)) ∙ q)
+quiet-back f _ q = q
 
 quiet-start : (f : Flight) (ps : List Passage) → IsQuiet (passing f ps).world → IsQuiet f.world
 quiet-start f [] q = q

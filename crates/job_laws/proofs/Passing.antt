@@ -1,29 +1,13 @@
 -- What each turn keeps of servers with jobs in flight.
 use Rattle.std.proofs.Common.{◌≡◌, ℕ, List, [], length, refl, Option, Some, None, IfSome}
-use Rattle.std.specs.List.{All}
-use Rattle.std.proofs.lemmas.List.Elements.{All-nil, All-set, All-weaker, All-replicate}
-use Rattle.orch_base.specs.declared.server.Moment.{Moment}
-use Rattle.orch_base.specs.declared.server.ServerNo.{ServerNo}
-use Rattle.kept_rows.specs.declared.observation.Observation.{Observation}
-use Rattle.server_model.specs.Run.{Exchange, run, AllAllowed, AllJoinWell}
-use Rattle.server_model.specs.Safe.{Safe, Placed, IsQuiet}
-use Rattle.server_model.specs.Worlds.{World}
-use Rattle.replication_laws.proofs.Runs.{Placed-run, Safe-run, Grows-run}
-use Rattle.replication_laws.proofs.BridgeLaws.{Stands-grows}
-use Rattle.instance_keeper.specs.declared.bridge.Bridge.{Bridge}
-use Rattle.operations.specs.Jobs.{Job, position_of}
-use Rattle.instance_keeper.specs.Bridges.{bridge_in, with_bridge, ring_at, ringed}
-use Rattle.operations.specs.Turns.{observed}
-use Rattle.job_laws.specs.Held.{HeldJob, Spans}
-use Rattle.job_laws.specs.Sound.{AllBridged}
-use Rattle.job_laws.specs.Leases.{HasLeases}
-use Rattle.job_laws.specs.Flights.{Flight, Held, Sound, IsShown, IsShownBridged, StandsIn, slotted, stored, forgotten, restarted, no_leases}
+use Rattle.job_laws.proofs.Prelude.{All, All-nil, All-replicate, All-set, All-weaker, AllAllowed, AllBridged, AllJoinWell, AllMeet, Bridge, Exchange}
+use Rattle.job_laws.proofs.Prelude.{Flight, Grows-run, HasLeases, Held, HeldJob, IsQuiet, IsShown, IsShownBridged, Job, Moment, Observation, Placed}
+use Rattle.job_laws.proofs.Prelude.{Placed-run, Safe, Safe-run, ServerNo, Shows-run, Sound, Spans, Stands-grows, StandsIn, World, bridge_in}
+use Rattle.job_laws.proofs.Prelude.{forgotten, no_leases, observed, position_of, restarted, ring_at, ringed, run, slotted, stored, with_bridge}
 use Rattle.job_laws.proofs.Spanning.{spans-by}
 use Rattle.job_laws.proofs.Bridging.{stands-by}
 use Rattle.job_laws.proofs.Lists.{All-at, All-ring}
 use Rattle.job_laws.proofs.Showing.{Spans-run, Bridged-run, Shows-seen, Bridged-seen}
-use Rattle.replication_laws.proofs.ShownCoords.{Shows-run}
-use Rattle.job_laws.specs.Matched.{AllMeet}
 use Rattle.job_laws.proofs.Matching.{AllMeet-run}
 use Rattle.job_laws.proofs.Turns.{Held-run, AllBridged-run}
 

@@ -1,19 +1,10 @@
 -- Plans leave operations that are held.
-use Rattle.std.proofs.Common.{◌≡◌, ℕ, Bool, true, false, List, [], ◌∷◌, ◌++◌, refl, Option, Some, None, ◌||◌}
+use Rattle.job_laws.proofs.Prelude.{Deed, Finish, Footing, Line, Op, SameBase, ServerNo, again, and_parts, are_held, asking, auto, both, deed_of}
+use Rattle.job_laws.proofs.Prelude.{eq_refl as self, finds, finished, learn, looking, or_right as or-more, swap, under, up}
+use Rattle.job_laws.proofs.Prelude.op.{Status}
+use Rattle.job_laws.proofs.Prelude.deed
+use Rattle.std.proofs.Common.{◌≡◌, Bool, true, false, List, [], ◌∷◌, ◌++◌, refl, Option, Some, None, ◌||◌}
 use Rattle.std.specs.Prelude.{◌==◌}
-use Rattle.std.proofs.lemmas.Bool.{and_parts, eq-eqb}
-use Rattle.orch_base.specs.declared.server.ServerNo.{ServerNo}
-use Rattle.operations.specs.declared.op.Op.{Op}
-use Rattle.operations.specs.declared.op.Op.TheVariants.{Finish, Status}
-use Rattle.commands.specs.declared.line.Line.{Line}
-use Rattle.operations.specs.Deeds as deed
-use Rattle.operations.specs.Deeds.{Deed, deed_of}
-use Rattle.operations.specs.Plans.{up, under, again, auto, swap, asking, finished}
-use Rattle.job_laws.specs.Footing.{Footing, SameBase, finds, looking, learn, are_held}
-use Rattle.operations.proofs.Tests.{both}
-
-self : (n : ℕ) → (n == n) ≡ true
-self n = eq-eqb n n refl
 
 any-true : (b : Bool) → (b || true) ≡ true
 any-true true = refl
@@ -44,27 +35,13 @@ asking-held f op i h = both (finds f (deed_of op)) (are_held (learn f (deed_of o
 
 -- ---- plans one after another
 
-or-more : (b x : Bool) → x ≡ true → (b || x) ≡ true
-or-more true x h = refl
-or-more false x h = h
-
 base-looking : (f : Footing) (n : ServerNo) (from : Option ServerNo) → SameBase f (looking f n from)
 base-looking f n None = record { gtid = λ h. h; logs = λ k h. h }
 base-looking f n (Some m) = record { gtid = λ h. h; logs = λ k h. or-more (m.0 == k) (f.logs k) h }
 
 base-learn : (f : Footing) (d : Deed) → SameBase f (learn f d)
 base-learn f (deed.Look n from) = base-looking f n from
-base-learn f (deed.Request n a) = record { gtid = λ h. h; logs = λ k h. h }
-base-learn f (deed.Until n to) = record { gtid = λ h. h; logs = λ k h. h }
-base-learn f (deed.Await n to) = record { gtid = λ h. h; logs = λ k h. h }
-base-learn f (deed.AwaitSet n m) = record { gtid = λ h. h; logs = λ k h. h }
-base-learn f (deed.Settle n) = record { gtid = λ h. h; logs = λ k h. h }
-base-learn f (deed.Cross c a b) = record { gtid = λ h. h; logs = λ k h. h }
-base-learn f (deed.Same n) = record { gtid = λ h. h; logs = λ k h. h }
-base-learn f (deed.Auto n m) = record { gtid = λ h. h; logs = λ k h. h }
-base-learn f (deed.Match n m every) = record { gtid = λ h. h; logs = λ k h. h }
-base-learn f (deed.CrossMatch n m) = record { gtid = λ h. h; logs = λ k h. h }
-base-learn f (deed.Finish lines) = record { gtid = λ h. h; logs = λ k h. h }
+base-learn f _ = record { gtid = λ h. h; logs = λ k h. h }
 
 base-trans : (f g h : Footing) → SameBase f g → SameBase g h → SameBase f h
 base-trans f g h p q = record { gtid = λ e. q.gtid (p.gtid e); logs = λ n e. q.logs n (p.logs n e) }

@@ -1,18 +1,9 @@
 -- The wait for an applier that settles ends by its last wait.
 use Rattle.std.proofs.Common.{◌≡◌, ℕ, ◌+◌, ◌<◌, ◌≤◌, Bool, true, false, cond, List, [], refl, ◌∙◌, ap, Some, None, ◌||◌}
 use Rattle.std.specs.Prelude.{nat_lt, not}
-use Rattle.std.proofs.lemmas.Bool.{lt-ltb, le-ltb}
-use Rattle.orch_base.specs.declared.server.Moment.{Moment}
-use Rattle.orch_base.specs.declared.server.ServerNo.{ServerNo}
-use Rattle.server_words.specs.declared.status.Status.{Status}
-use Rattle.kept_rows.specs.Seeing.{seen_in}
-use Rattle.server_model.specs.Gtids.{status}
-use Rattle.server_model.specs.Worlds.{World}
-use Rattle.commands.specs.declared.cause.Cause.TheVariants as cause
-use Rattle.operations.specs.declared.op.Op.{Op}
-use Rattle.operations.specs.Deeds.{Settle}
-use Rattle.operations.specs.Jobs.{Job}
-use Rattle.operations.specs.Turns.{Goes, Stops, next, saw, is_settled, settles, after_wait_by, after_wait, by_deed}
+use Rattle.job_laws.proofs.Prelude.{Goes, Job, Moment, Op, ServerNo, Settle, Status, Stops, World, after_wait, after_wait_by, by_deed, is_settled}
+use Rattle.job_laws.proofs.Prelude.{le-ltb, lt-ltb, next, saw, seen_in, settles, status}
+use Rattle.job_laws.proofs.Prelude.cause
 
 pub settle-unreached : (w : World) (read : ℕ) (now : Moment) (j : Job) (rest : List Op) (n : ServerNo)
     → seen_in (status w n.0) ≡ None → by_deed w read now j rest (Settle n) ≡ Stops (cause.Unreachable n) None

@@ -1,32 +1,9 @@
 -- What a status shows, and that it goes on being shown.
 use Rattle.std.proofs.Common.{◌≡◌, ℕ, true, List, refl, ◌∙◌, ap, Option, Some, None, Ok, Err, Result, count_by}
-use Rattle.std.proofs.lemmas.Bool.{false≢true}
-use Rattle.std.proofs.lemmas.Option.{same_Some}
-use Rattle.binlog_coords.specs.declared.Coord.{Coord}
-use Rattle.binlog_coords.specs.Log.{ends_by}
-use Rattle.binlog_coords.proofs.Places.{place-parts, place-from}
-use Rattle.orch_base.specs.declared.server.Settings.{Settings}
-use Rattle.instance_keeper.specs.declared.bridge.Bridge.{Bridge}
-use Rattle.server_words.specs.declared.status.Status.{Status}
-use Rattle.server_words.specs.declared.status.StatusFault.{StatusFault}
-use Rattle.kept_rows.specs.Seeing.{seen_in}
-use Rattle.server_model.specs.declared.server.Server.{Server}
-use Rattle.server_model.specs.Attach.{IsTarget}
-use Rattle.server_model.specs.Gtids.{status}
-use Rattle.server_model.specs.Run.{Exchange, run, AllAllowed}
-use Rattle.server_model.specs.Safe.{Safe, Placed}
-use Rattle.server_model.specs.Showing.{Shows}
-use Rattle.server_model.specs.Worlds.{World, server_at}
-use Rattle.replication_laws.specs.Growth.{Grows}
-use Rattle.replication_laws.proofs.BridgeLaws.{Stands-seen, Stands-grows}
-use Rattle.replication_laws.proofs.Runs.{Grows-run}
-use Rattle.replication_laws.proofs.ShownCoords.{Position-run, Shows-seen as Shows-answered}
-use Rattle.operations.specs.declared.sight.Position.{Position}
-use Rattle.operations.specs.Jobs.{position_of}
-use Rattle.operations.specs.Targets.{logs_by}
-use Rattle.job_laws.specs.Footing.{logs_at}
-use Rattle.job_laws.specs.Held.{ShowsAt, Spans}
-use Rattle.job_laws.specs.Sound.{IsBridged}
+use Rattle.job_laws.proofs.Prelude.{AllAllowed, Bridge, Coord, Exchange, Grows, Grows-run, IsBridged, IsTarget, Placed, Position, Position-run, Safe}
+use Rattle.job_laws.proofs.Prelude.{Server, Settings, Shows, Shows-seen as Shows-answered, ShowsAt, Spans, Stands-grows, Stands-seen, Status}
+use Rattle.job_laws.proofs.Prelude.{StatusFault, World, ends_by, false≢true, logs_at, logs_by, place-from, place-parts, position_of, run, same_Some}
+use Rattle.job_laws.proofs.Prelude.{seen_in, server_at, status}
 
 -- ---- what stays
 

@@ -1,21 +1,7 @@
 -- What bridges a reading shows, and that their ends have places.
 use Rattle.std.proofs.Common.{◌≡◌, ℕ, List, refl, ◌∙◌, ap, subst, Option, Some, None}
-use Rattle.std.proofs.lemmas.Option.{same_Some}
-use Rattle.binlog_coords.specs.declared.Coord.{Coord}
-use Rattle.orch_base.specs.declared.server.ServerNo.{ServerNo}
-use Rattle.orch_base.specs.declared.server.SourceState.{SourceState}
-use Rattle.orch_base.specs.declared.server.SourceState.TheVariants.{Without, Attached, Detached}
-use Rattle.server_words.specs.declared.status.Status.{Status}
-use Rattle.instance_keeper.specs.declared.bridge.Bridge.{Bridge}
-use Rattle.instance_keeper.specs.Bridges.{bridge_by, bridge_in}
-use Rattle.server_model.specs.Attach.{IsTarget}
-use Rattle.server_model.specs.Showing.{Shows}
-use Rattle.server_model.specs.Worlds.{World, source_no}
-use Rattle.operations.specs.declared.sight.Position.{Position}
-use Rattle.operations.specs.declared.sight.Sight.{Sight}
-use Rattle.operations.specs.Jobs.{position_of, seen_of}
-use Rattle.operations.specs.Turns.{bridge_at}
-use Rattle.job_laws.specs.Held.{AllShow, ShowsAt, Spans}
+use Rattle.job_laws.proofs.Prelude.{AllShow, Attached, Bridge, Coord, Detached, IsTarget, Position, ServerNo, Shows, ShowsAt, Sight, SourceState}
+use Rattle.job_laws.proofs.Prelude.{Spans, Status, Without, World, bridge_at, bridge_by, bridge_in, position_of, same_Some, seen_of, source_no}
 
 -- a reading that shows a bridge
 pub record ShowsBridge (n : ServerNo) (o : Option Position) (b : Bridge) : Type 0 where

@@ -1,35 +1,17 @@
 -- A job is stopped by a purged file exactly where its attachment is answered so.
 use Rattle.std.proofs.Common.{◌≡◌, ℕ, ◌+◌, Bool, true, false, cond, List, [], refl, ◌∙◌, ap, Option, Some, None, Ok, Err, Result}
 use Rattle.std.specs.Prelude.{nat_lt}
-use Rattle.std.proofs.lemmas.Option.{same_Some}
-use Rattle.binlog_coords.specs.declared.Coord.{Coord}
-use Rattle.orch_base.specs.declared.server.Moment.{Moment}
-use Rattle.orch_base.specs.declared.server.ServerNo.{ServerNo}
-use Rattle.kept_rows.specs.declared.observation.Observation.{Observation}
-use Rattle.server_words.specs.declared.status.Status.{Status}
-use Rattle.kept_rows.specs.Seeing.{seen_in}
-use Rattle.server_words.specs.declared.answers.Unreachable.{Unreachable}
-use Rattle.server_words.specs.declared.attach.AttachFault.{AttachFault}
-use Rattle.server_words.specs.declared.attach.AttachFault.TheVariants as attaching
-use Rattle.server_words.specs.declared.attach.Spot.{Spot}
-use Rattle.server_words.specs.declared.changes.Ask.{Ask}
-use Rattle.server_words.specs.declared.changes.Ask.TheVariants as asking
-use Rattle.server_model.specs.Desk.{desk_answer}
-use Rattle.server_model.specs.Gtids.{status}
-use Rattle.server_model.specs.Run.{Exchange}
-use Rattle.server_model.specs.Worlds.{World, server_at}
-use Rattle.commands.specs.declared.cause.Cause.TheVariants as cause
-use Rattle.operations.specs.declared.matching.MatchFault.{MatchFault}
-use Rattle.operations.specs.declared.matching.MatchFault.TheVariants as matching
-use Rattle.operations.specs.declared.op.Op.{Op}
-use Rattle.operations.specs.Changes.{change_of}
-use Rattle.operations.specs.Deeds as deed
-use Rattle.operations.specs.Deeds.{Deed}
-use Rattle.operations.specs.Jobs.{Job, match_found, seen_of}
-use Rattle.operations.specs.Matching.{match_logs, standing_at}
-use Rattle.operations.specs.Targets.{can_attach}
-use Rattle.operations.specs.Turns.{Attempt, Goes, Stops, next, saw, observed, is_moved, after_status, after_look, after_ask, aim_of, is_reached, until_by, after_until, after_wait_by, after_wait, holds_seen, settles, crossing_of, same_again, by_set, after_match, by_match, attach_answer_of, cause_by, after_answer, after_attach, by_deed}
-use Rattle.job_laws.specs.Held.{attachment_of, IsPurged}
+use Rattle.job_laws.proofs.Prelude.{Ask, AttachFault, Attempt, Coord, Deed, Exchange, Goes, IsPurged, Job, MatchFault, Moment, Observation, Op}
+use Rattle.job_laws.proofs.Prelude.{ServerNo, Spot, Status, Stops, Unreachable, World, after_answer, after_ask, after_attach, after_look, after_match}
+use Rattle.job_laws.proofs.Prelude.{after_status, after_until, after_wait, after_wait_by, aim_of, attach_answer_of, attachment_of, by_deed, by_match}
+use Rattle.job_laws.proofs.Prelude.{by_set, can_attach, cause_by, change_of, crossing_of, desk_answer, holds_seen, is_moved, is_reached, match_found}
+use Rattle.job_laws.proofs.Prelude.{match_logs, next, observed, same_again, same_Some, saw, seen_in, seen_of, server_at, settles, standing_at, status}
+use Rattle.job_laws.proofs.Prelude.{until_by}
+use Rattle.job_laws.proofs.Prelude.ask as asking
+use Rattle.job_laws.proofs.Prelude.attaching
+use Rattle.job_laws.proofs.Prelude.cause
+use Rattle.job_laws.proofs.Prelude.deed
+use Rattle.job_laws.proofs.Prelude.fault as matching
 
 module _ (w : World) (j : Job) (rest : List Op) (n : ServerNo) (first : ℕ) (o : Option Observation) where
   abbrev IsStopped : Attempt → Type 0
@@ -70,13 +52,8 @@ module _ (w : World) (j : Job) (rest : List Op) (n : ServerNo) (first : ℕ) (o 
   not-matched m k at (Err (matching.Mismatch x)) e = cc
 
   by_cause : (m : ServerNo) (f : AttachFault) → IsStopped (Stops (cause_by m f) None) → (Some m ≡ Some n) × (f ≡ attaching.Purged first)
-  by_cause m attaching.Unreachable e = cc
-  by_cause m (attaching.Running at) e = cc
-  by_cause m (attaching.Interfered expected found) e = cc
-  by_cause m attaching.Loop e = cc
-  by_cause m (attaching.Errant set) e = cc
   by_cause m (attaching.Purged k) e = (cc, cc)
-  by_cause m attaching.Memory e = cc
+  by_cause m _ e = cc
 
   attached : (m : ServerNo) (x : Option Exchange) → IsStopped (after_attach w j rest m x) → (Some m ≡ Some n) × IsPurged w first x
   attached m None e = cc
@@ -117,15 +94,8 @@ purged-attach w j rest m n first x same p =
 
 pub purged-stops : (w : World) (read : ℕ) (now : Moment) (j : Job) (rest : List Op) (d : Deed) (n : ServerNo) (first : ℕ)
     → change_of d ≡ Some n → IsPurged w first (attachment_of j d) → by_deed w read now j rest d ≡ Stops (cause.Purged n first) None
-purged-stops w read now j rest (deed.Look m from) n first h p = let none = p.found in cc
-purged-stops w read now j rest (deed.Request m a) n first h p = let none = p.found in cc
-purged-stops w read now j rest (deed.Until m to) n first h p = let none = p.found in cc
-purged-stops w read now j rest (deed.Await m to) n first h p = let none = p.found in cc
-purged-stops w read now j rest (deed.AwaitSet m k) n first h p = let none = p.found in cc
-purged-stops w read now j rest (deed.Settle m) n first h p = let none = p.found in cc
 purged-stops w read now j rest (deed.Cross c a b) n first h p = purged-attach w j rest a n first (crossing_of j.seen c a b) h p
 purged-stops w read now j rest (deed.Same m) n first h p = purged-attach w j rest m n first (same_again m (seen_of j.seen m.0)) h p
 purged-stops w read now j rest (deed.Auto m k) n first h p = purged-attach w j rest m n first (by_set m k (seen_of j.seen k.0)) h p
-purged-stops w read now j rest (deed.Match m k every) n first h p = let none = p.found in cc
 purged-stops w read now j rest (deed.CrossMatch m k) n first h p = purged-attach w j rest m n first (by_match m k (match_found j.matches m k)) h p
-purged-stops w read now j rest (deed.Finish lines) n first h p = let none = p.found in cc
+purged-stops w read now j rest _ n first h p = let none = p.found in cc

@@ -1,23 +1,10 @@
 -- A held job passes over no change of source.
 use Rattle.std.proofs.Common.{◌≡◌, ℕ, true, List, [], refl, ◌∙◌, ap, cond, Option, Some, None, ◌&&◌}
 use Rattle.std.specs.Prelude.{is_some}
-use Rattle.std.proofs.lemmas.Bool.{false≢true, and_parts}
-use Rattle.orch_base.specs.declared.server.Moment.{Moment}
-use Rattle.orch_base.specs.declared.server.ServerNo.{ServerNo}
-use Rattle.orch_base.specs.declared.server.SourceState.{SourceState}
-use Rattle.orch_base.specs.declared.server.SourceState.TheVariants.{Without, Attached, Detached}
-use Rattle.operations.specs.declared.sight.Position.{Position}
-use Rattle.server_model.specs.Run.{Exchange}
-use Rattle.server_model.specs.Worlds.{World, source_no}
-use Rattle.operations.specs.declared.op.Crossing.{Crossing}
-use Rattle.operations.specs.declared.op.Op.{Op}
-use Rattle.operations.specs.Deeds.{Auto, Cross, CrossMatch, Same}
-use Rattle.operations.specs.Jobs.{Job, match_found, seen_of}
-use Rattle.operations.specs.Targets.{can_attach}
-use Rattle.operations.specs.Turns.{Goes, next, read_by, bridge_at, crossed, attached_anew, same_again, by_match, by_set, attach_answer_of, after_answer, after_attach, by_deed}
-use Rattle.job_laws.specs.Footing.{finds, logs_at, source_shown, footing}
-use Rattle.job_laws.specs.Held.{AllShow, IsTried}
-use Rattle.job_laws.specs.Matched.{ArePlaced, matched_in}
+use Rattle.job_laws.proofs.Prelude.{AllShow, ArePlaced, Attached, Auto, Cross, Crossing, CrossMatch, Detached, Exchange, Goes, IsTried, Job, Moment}
+use Rattle.job_laws.proofs.Prelude.{Op, Position, Same, ServerNo, SourceState, Without, World, after_answer, after_attach, and_parts}
+use Rattle.job_laws.proofs.Prelude.{attach_answer_of, attached_anew, bridge_at, by_deed, by_match, by_set, can_attach, crossed, false≢true, finds}
+use Rattle.job_laws.proofs.Prelude.{footing, logs_at, match_found, matched_in, next, read_by, same_again, seen_of, source_no, source_shown}
 use Rattle.job_laws.proofs.Bridging.{crossing-found, crossing-can, same-can, auto-can}
 use Rattle.job_laws.proofs.Matching.{match-can, match-there}
 

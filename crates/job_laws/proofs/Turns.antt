@@ -1,53 +1,23 @@
 -- A turn of a job: its exchanges are allowed and join well, and it leaves the job held, whatever operations are left.
 use Rattle.std.proofs.Common.{◌≡◌, ℕ, ◌+◌, Bool, true, false, cond, not, List, [], ◌∷◌, ◌++◌, refl, sym, ◌∙◌, ap, subst, Option, Some, None, Ok, Err, Result}
 use Rattle.std.specs.Prelude.{◌==◌, nat_lt}
-use Rattle.std.proofs.lemmas.Bool.{and_parts, eqb-true}
-use Rattle.std.proofs.lemmas.Option.{same_Some}
-use Rattle.std.proofs.lemmas.List.Elements.{All-push}
-use Rattle.binlog_coords.specs.declared.Coord.{Coord}
-use Rattle.orch_base.specs.declared.server.Moment.{Moment}
-use Rattle.orch_base.specs.declared.server.ServerNo.{ServerNo}
-use Rattle.orch_base.specs.declared.server.SourceState.{SourceState}
-use Rattle.orch_base.specs.declared.server.SourceState.TheVariants.{Without, Attached, Detached}
-use Rattle.kept_rows.specs.declared.observation.Observation.{Observation}
-use Rattle.server_words.specs.declared.status.Status.{Status}
-use Rattle.kept_rows.specs.Seeing.{seen_in}
-use Rattle.server_words.specs.declared.answers.Unreachable.{Unreachable}
-use Rattle.server_words.specs.declared.attach.AttachFault.{AttachFault}
-use Rattle.server_words.specs.declared.changes.Ask.{Ask}
-use Rattle.server_words.specs.declared.changes.Ask.TheVariants as asking
-use Rattle.server_model.specs.Attach.{IsTarget}
-use Rattle.server_model.specs.Desk.{desk_answer}
-use Rattle.server_model.specs.Gtids.{status}
-use Rattle.server_model.specs.Run.{Exchange, Request, after, run, Allowed, AllAllowed, JoinsWell, AllJoinWell}
-use Rattle.server_model.specs.Safe.{Safe, Placed}
-use Rattle.server_model.specs.Worlds.{World, server_at, source_no}
-use Rattle.replication_laws.proofs.Runs.{Grows-run}
-use Rattle.commands.specs.declared.cause.Cause.{Cause}
-use Rattle.commands.specs.declared.cause.Cause.TheVariants as cause
-use Rattle.operations.specs.declared.matching.Match.{Match}
-use Rattle.operations.specs.declared.matching.MatchFault.{MatchFault}
-use Rattle.operations.specs.declared.op.Op.{Op}
-use Rattle.operations.specs.declared.sight.Position.{Position}
-use Rattle.operations.specs.declared.sight.Sight.{Sight}
-use Rattle.operations.specs.Deeds as deed
-use Rattle.operations.specs.Deeds.{Deed, deed_of}
-use Rattle.operations.specs.Jobs.{Job, match_found, position_of, seen_of, with_seen}
-use Rattle.operations.specs.Turns.{Goes, Stops, settled, next, saw, going, restarts, failed, observed, is_moved, after_status, after_look, hands_after, after_ask, aim_of, is_reached, until_by, after_until, after_wait_by, after_wait, holds_seen, settles, read_by, bridge_at, crossed, same_again, by_set, with_match, after_match, by_match, attach_answer_of, after_answer, after_attach, by_deed, by_ops, turned, Attempt}
-use Rattle.operations.specs.Matching.{match_logs, standing_at}
-use Rattle.operations.specs.Targets.{logs_by, can_attach}
-use Rattle.job_laws.specs.Footing.{Within, finds, reading, looking, learn, are_held, logs_at, footing}
-use Rattle.job_laws.specs.Held.{AllShow, ShowsAt, HeldJob, KeepsHeld, IsDue}
-use Rattle.server_model.specs.Showing.{Shows}
-use Rattle.job_laws.specs.Sound.{IsBridged, AllBridged, KeepsSound}
-use Rattle.operations.proofs.Tests.{both}
-use Rattle.operations.proofs.Sights.{seen-at}
+use Rattle.job_laws.proofs.Prelude.{All-push, AllAllowed, AllBridged, AllJoinWell, AllMeet, Allowed, AllShow, ArePlaced, Ask, Attached, AttachFault}
+use Rattle.job_laws.proofs.Prelude.{Attempt, Cause, Coord, Deed, Detached, Exchange, Goes, Grows-run, HeldJob, IsBridged, IsDue, IsPlaced, IsTarget}
+use Rattle.job_laws.proofs.Prelude.{Job, JoinsWell, KeepsHeld, KeepsSound, Match, MatchFault, Meets, Moment, Observation, Op, Placed, Position}
+use Rattle.job_laws.proofs.Prelude.{Request, Safe, ServerNo, Shows, ShowsAt, Sight, SourceState, Status, Stops, Unreachable, Within, Without, World}
+use Rattle.job_laws.proofs.Prelude.{after, after_answer, after_ask, after_attach, after_look, after_match, after_status, after_until, after_wait}
+use Rattle.job_laws.proofs.Prelude.{after_wait_by, aim_of, and_parts, are_held, are_matched, attach_answer_of, both, bridge_at, by_deed, by_match}
+use Rattle.job_laws.proofs.Prelude.{by_ops, by_set, can-allowed, can_attach, crossed, deed_of, desk_answer, eqb-true, failed, finds, footing, going}
+use Rattle.job_laws.proofs.Prelude.{hands_after, holds_seen, is_moved, is_reached, learn, logs_at, logs_by, looking, match_found, match_logs}
+use Rattle.job_laws.proofs.Prelude.{matched_in, matching, next, observed, position_of, read_by, reading, restarts, restarts-allowed, run, same_again}
+use Rattle.job_laws.proofs.Prelude.{same_Some, saw, seen-at, seen_in, seen_of, server_at, settled, settles, source_no, standing_at, status, turned}
+use Rattle.job_laws.proofs.Prelude.{until_by, with_match, with_seen}
+use Rattle.job_laws.proofs.Prelude.ask as asking
+use Rattle.job_laws.proofs.Prelude.cause
+use Rattle.job_laws.proofs.Prelude.deed
 use Rattle.job_laws.proofs.Footings.{aim-by, held-mono, Within-saw, Within-logging, Within-again, read-still}
 use Rattle.job_laws.proofs.Showing.{logs-on, Bridged-run, ShowsAt-run, Shows-seen, Bridged-seen}
 use Rattle.job_laws.proofs.Modes.{gtid-run}
-use Rattle.operations.proofs.Targets.{can-allowed}
-use Rattle.operations.proofs.Allowing.{restarts-allowed}
-use Rattle.job_laws.specs.Matched.{AllMeet, ArePlaced, IsPlaced, Meets, are_matched, matched_in, matching}
 use Rattle.job_laws.proofs.Matching.{AllMeet-run, ArePlaced-run, match-crosses, match-meets, match-placed, matched-behind, matched-mono, matching-found}
 use Rattle.job_laws.proofs.Bridging.{crossing-joins, same-joins, auto-joins}
 

@@ -1,22 +1,9 @@
 -- Servers with jobs in flight: what is kept of a run beside the instances of the book, on which no crossing rests.
 use Rattle.std.specs.Prelude.{◌≡◌, ℕ, ◌==◌, not, if◌then◌else◌, List, [], ◌∷◌, ◌++◌, length, map, filter, replicate, slice_set, Option, Some, None, IfSome, All}
-use Rattle.std.specs.List.{list_any}
-use Rattle.orch_base.specs.declared.server.Moment.{Moment}
-use Rattle.orch_base.specs.declared.server.ServerNo.{ServerNo}
-use Rattle.kept_rows.specs.declared.observation.Observation.{Observation}
-use Rattle.server_words.specs.declared.status.Status.{Status}
-use Rattle.server_model.specs.Run.{Exchange, after, run}
-use Rattle.server_model.specs.Safe.{Safe, Placed}
-use Rattle.server_model.specs.Worlds.{World}
-use Rattle.server_model.specs.Bridges.{Stands}
-use Rattle.instance_keeper.specs.declared.bridge.Bridge.{Bridge}
-use Rattle.operations.specs.Jobs.{Job, position_of}
-use Rattle.instance_keeper.specs.Bridges.{bridge_in, ringed}
-use Rattle.instance_keeper.specs.Leases.{freed}
-use Rattle.operations.specs.Turns.{Turned, is_going, turned}
+use Rattle.job_laws.specs.Prelude.{Bridge, Exchange, Job, Moment, Observation, Placed, Safe, ServerNo, Shows, Stands, Status, Turned, World, after}
+use Rattle.job_laws.specs.Prelude.{bridge_in, freed, is_going, list_any, position_of, ringed, run, turned}
 use Rattle.job_laws.specs.Held.{HeldJob, Spans}
 use Rattle.job_laws.specs.Matched.{AllMeet}
-use Rattle.server_model.specs.Showing.{Shows}
 use Rattle.job_laws.specs.Sound.{IsBridged, AllBridged}
 use Rattle.job_laws.specs.Leases.{Leases, AreLeased, job_at}
 

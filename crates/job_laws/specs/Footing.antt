@@ -1,18 +1,9 @@
 -- What the operations that are left may count on, one after another.
 use Rattle.std.specs.Prelude.{◌≡◌, ℕ, Bool, true, false, ◌==◌, ◌&&◌, ◌||◌, if◌then◌else◌, List, [], ◌∷◌, Option, Some, None, is_some}
-use Rattle.orch_base.specs.declared.server.ServerNo.{ServerNo}
-use Rattle.server_model.specs.Worlds.{World, server_at, source_no}
-use Rattle.operations.specs.declared.op.Aim.{Aim}
-use Rattle.operations.specs.declared.op.Aim.TheVariants as aim
-use Rattle.operations.specs.declared.op.Crossing.{Crossing}
-use Rattle.operations.specs.declared.op.Crossing.TheVariants as cross
-use Rattle.operations.specs.declared.op.Op.{Op}
-use Rattle.operations.specs.declared.sight.Position.{Position}
-use Rattle.operations.specs.declared.sight.Sight.{Sight}
-use Rattle.operations.specs.Deeds as deed
-use Rattle.operations.specs.Deeds.{Deed, deed_of}
-use Rattle.operations.specs.Jobs.{seen_of}
-use Rattle.operations.specs.Targets.{logs_by}
+use Rattle.job_laws.specs.Prelude.{Aim, Crossing, Deed, Op, Position, ServerNo, Sight, World, deed_of, logs_by, seen_of, server_at, source_no}
+use Rattle.job_laws.specs.Prelude.aim
+use Rattle.job_laws.specs.Prelude.cross
+use Rattle.job_laws.specs.Prelude.deed
 
 -- whether the servers use GTIDs, which servers log for sure, which were read, and the source that the last reading of
 -- each is sure to have shown

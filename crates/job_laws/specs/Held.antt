@@ -1,21 +1,10 @@
 -- What holds of jobs and readings in every world, quiet or not.
 use Rattle.std.specs.Prelude.{◌≡◌, ℕ, true, List, Option, Some, None, Err}
-use Rattle.orch_base.specs.declared.server.ServerNo.{ServerNo}
-use Rattle.server_words.specs.declared.attach.AttachFault.TheVariants as attaching
-use Rattle.server_model.specs.Attach.{IsTarget}
-use Rattle.server_model.specs.Safe.{Placed}
-use Rattle.server_model.specs.Worlds.{World}
-use Rattle.server_model.specs.Showing.{IsPosition}
-use Rattle.instance_keeper.specs.declared.bridge.Bridge.{Bridge}
-use Rattle.operations.specs.declared.sight.Position.{Position}
-use Rattle.operations.specs.declared.sight.Sight.{Sight}
-use Rattle.operations.specs.Jobs.{Job, match_found, seen_of}
-use Rattle.operations.specs.Targets.{can_attach}
-use Rattle.operations.specs.Turns.{Attempt, Turned, after_answer, attach_answer_of, by_match, by_set, crossing_of, same_again}
-use Rattle.server_model.specs.Run.{Exchange, run, AllAllowed}
-use Rattle.operations.specs.declared.op.Op.{Op}
-use Rattle.operations.specs.Deeds as deed
-use Rattle.operations.specs.Deeds.{Deed}
+use Rattle.job_laws.specs.Prelude.{AllAllowed, Attempt, Bridge, Deed, Exchange, IsPosition, IsTarget, Job, Op, Placed, Position, ServerNo, Sight}
+use Rattle.job_laws.specs.Prelude.{Turned, World, after_answer, attach_answer_of, by_match, by_set, can_attach, crossing_of, match_found, run}
+use Rattle.job_laws.specs.Prelude.{same_again, seen_of}
+use Rattle.job_laws.specs.Prelude.attaching
+use Rattle.job_laws.specs.Prelude.deed
 use Rattle.job_laws.specs.Footing.{Footing, footing, finds, learn, are_held}
 use Rattle.job_laws.specs.Matched.{ArePlaced, are_matched, finds_match, matched_by, matched_in}
 

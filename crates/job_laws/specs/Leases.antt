@@ -1,15 +1,8 @@
 -- That the servers that a job changes are leased to it.
 use Rattle.std.specs.Prelude.{◌≡◌, ℕ, ◌==◌, ◌&&◌, Bool, true, ◌∷◌, List, Option, Some, None, IfSome, [], find, slice_index_or, All}
-use Rattle.std.specs.List.{list_any}
-use Rattle.server_model.specs.Worlds.{World}
+use Rattle.job_laws.specs.Prelude.{Job, Op, ServerNo, Turned, World, change_of, deed_of, list_any, server_of}
 use Rattle.job_laws.specs.Footing.{footing, are_held}
 use Rattle.job_laws.specs.Matched.{are_matched, matched_in}
-use Rattle.orch_base.specs.declared.server.ServerNo.{ServerNo}
-use Rattle.operations.specs.declared.op.Op.{Op}
-use Rattle.operations.specs.Deeds.{deed_of}
-use Rattle.operations.specs.Changes.{change_of, server_of}
-use Rattle.operations.specs.Jobs.{Job}
-use Rattle.operations.specs.Turns.{Turned}
 
 -- who has the lease of each server
 abbrev pub Leases : Type 0

@@ -1,3 +1,4 @@
+pub mod Prelude
 pub mod Footing
 pub mod Marked
 pub mod Matched

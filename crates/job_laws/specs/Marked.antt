@@ -1,12 +1,6 @@
 -- A mark that the logs of two servers keep.
 use Rattle.std.specs.Prelude.{◌≡◌, ℕ, ◌<◌, true, false, Some, Ok, slice_get}
-use Rattle.orch_base.specs.Histories.{same_txn}
-use Rattle.orch_base.specs.declared.server.ServerNo.{ServerNo}
-use Rattle.orch_base.specs.declared.server.Txn.{Txn}
-use Rattle.server_model.specs.Plains.{logged}
-use Rattle.server_model.specs.Worlds.{World}
-use Rattle.server_model.specs.declared.server.Server.{Server}
-use Rattle.operations.specs.Matching.{is_mark}
+use Rattle.job_laws.specs.Prelude.{Server, ServerNo, Txn, World, is_mark, logged, same_txn}
 
 -- the last mark of what server r has executed is read in its log, and in that of server d
 pub record KeepsMark (w : World) (r d : ServerNo) (every : ℕ) (replica : Server) : Type 0 where

@@ -1,17 +1,8 @@
 -- What holds of the matches that a job found, and of the operations that go by them.
 use Rattle.std.specs.Prelude.{◌==◌, Bool, true, ◌&&◌, ◌||◌, List, [], ◌∷◌, All, is_some}
-use Rattle.binlog_coords.specs.declared.Coord.{Coord}
-use Rattle.orch_base.specs.declared.server.ServerNo.{ServerNo}
-use Rattle.server_words.specs.declared.attach.Spot.{Spot}
-use Rattle.server_words.specs.declared.attach.Spot.TheVariants as spot
-use Rattle.server_model.specs.Attach.{IsTarget}
-use Rattle.server_model.specs.Bridges.{Stands}
-use Rattle.server_model.specs.Worlds.{World}
-use Rattle.operations.specs.declared.matching.Match.{Match}
-use Rattle.operations.specs.declared.op.Op.{Op}
-use Rattle.operations.specs.Deeds as deed
-use Rattle.operations.specs.Deeds.{Deed, deed_of}
-use Rattle.operations.specs.Jobs.{match_found}
+use Rattle.job_laws.specs.Prelude.{Coord, Deed, IsTarget, Match, Op, ServerNo, Spot, Stands, World, deed_of, match_found}
+use Rattle.job_laws.specs.Prelude.deed
+use Rattle.job_laws.specs.Prelude.spot
 
 -- ---- the operations that are left
 

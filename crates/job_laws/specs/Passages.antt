@@ -1,11 +1,6 @@
 -- Runs of turns over servers with jobs in flight.
 use Rattle.std.specs.Prelude.{ℕ, Bool, if◌then◌else◌, List, [], ◌∷◌, slice_index_or, Option, Some, None, IfSome}
-use Rattle.orch_base.specs.declared.server.Moment.{Moment}
-use Rattle.orch_base.specs.declared.server.ServerNo.{ServerNo}
-use Rattle.kept_rows.specs.declared.observation.Observation.{Observation}
-use Rattle.server_model.specs.Run.{Exchange, Allowed, JoinsWell, run}
-use Rattle.operations.specs.Jobs.{Job}
-use Rattle.operations.specs.Turns.{Turned, observed, turned}
+use Rattle.job_laws.specs.Prelude.{Allowed, Exchange, Job, JoinsWell, Moment, Observation, ServerNo, Turned, observed, run, turned}
 use Rattle.job_laws.specs.Held.{KeepsHeld}
 use Rattle.job_laws.specs.Sound.{KeepsSound}
 use Rattle.job_laws.specs.Leases.{Begins, KeepsLeases, job_at}

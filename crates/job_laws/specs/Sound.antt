@@ -1,18 +1,8 @@
 -- What holds of readings in a safe world.
 use Rattle.std.specs.Prelude.{◌≡◌, ℕ, List, Some}
-use Rattle.binlog_coords.specs.declared.Coord.{Coord}
-use Rattle.server_model.specs.Safe.{Safe}
-use Rattle.server_model.specs.Worlds.{World, source_no}
-use Rattle.operations.specs.declared.op.Op.{Op}
-use Rattle.operations.specs.Deeds.{Deed}
+use Rattle.job_laws.specs.Prelude.{AllJoinWell, Coord, Deed, Job, Op, Position, Safe, Sight, Stands, Turned, World, run, seen_of, source_no}
 use Rattle.job_laws.specs.Held.{IsNext}
 use Rattle.job_laws.specs.Matched.{AllMeet}
-use Rattle.server_model.specs.Bridges.{Stands}
-use Rattle.operations.specs.declared.sight.Position.{Position}
-use Rattle.operations.specs.declared.sight.Sight.{Sight}
-use Rattle.operations.specs.Jobs.{Job, seen_of}
-use Rattle.operations.specs.Turns.{Turned}
-use Rattle.server_model.specs.Run.{run, AllJoinWell}
 
 -- the bridge that was seen of a server stands
 abbrev pub IsBridged : World → ℕ → Position → Type 0

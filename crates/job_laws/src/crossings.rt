@@ -1,22 +1,11 @@
 //! Changes of source by what was seen.
 
 ghost use Rattle.std.specs.Prelude.{◌≡◌, ℕ, List, Option, Some, None, true, is_some};
-ghost use Rattle.orch_base.specs.declared.server.Moment.{Moment as AMoment};
-ghost use Rattle.orch_base.specs.declared.server.ServerNo.{ServerNo as Number};
-ghost use Rattle.commands.specs.declared.cause.Cause.TheVariants as cause;
-ghost use Rattle.kept_rows.specs.declared.observation.Observation.{Observation as Reading};
-ghost use Rattle.instance_keeper.specs.declared.bridge.Bridge.{Bridge as ABridge};
-ghost use Rattle.server_model.specs.Run.{Exchange, Allowed, JoinsWell};
-ghost use Rattle.server_model.specs.Safe.{Safe};
-ghost use Rattle.server_model.specs.Worlds.{World};
-ghost use Rattle.operations.specs.declared.op.Crossing.{Crossing as ACrossing};
-ghost use Rattle.operations.specs.declared.sight.Sight.{Sight as ASight};
-ghost use Rattle.operations.specs.declared.op.Op.{Op as AnOp};
-ghost use Rattle.operations.specs.Changes.{change_of};
-ghost use Rattle.operations.specs.Deeds.{Deed, Auto, Cross, CrossMatch, Same};
-ghost use Rattle.operations.specs.Jobs.{Job, match_found, seen_of};
-ghost use Rattle.operations.specs.Targets.{can_attach};
-ghost use Rattle.operations.specs.Turns.{Stops, bridge_at, by_deed, crossing_of, same_again, by_match, by_set};
+ghost use Rattle.job_laws.specs.Prelude.{Allowed, Auto, Bridge as ABridge, Cross, Crossing as ACrossing, CrossMatch, Deed, Exchange, Job, JoinsWell};
+ghost use Rattle.job_laws.specs.Prelude.{Moment as AMoment, Observation as Reading, Op as AnOp, Safe, Same, ServerNo as Number, Sight as ASight};
+ghost use Rattle.job_laws.specs.Prelude.{Stops, World, bridge_at, by_deed, by_match, by_set, can_attach, change_of, crossing_of, match_found};
+ghost use Rattle.job_laws.specs.Prelude.{same_again, seen_of};
+ghost use Rattle.job_laws.specs.Prelude.cause;
 ghost use Rattle.job_laws.specs.Footing.{finds, finds_crossing, footing};
 ghost use Rattle.job_laws.specs.Held.{AllShow, IsPurged, IsTried, Spans, attachment_of};
 ghost use Rattle.job_laws.specs.Matched.{ArePlaced, matched_in};

@@ -1,20 +1,10 @@
 //! Operations, each in a turn of its job.
 
 ghost use Rattle.std.specs.Prelude.{◌≡◌, ℕ, ◌+◌, ◌<◌, ◌≤◌, List, [], Option, Some, None, true, false};
-ghost use Rattle.orch_base.specs.declared.server.ServerNo.{ServerNo as Number};
-ghost use Rattle.server_words.specs.declared.status.Status.{Status as Showed};
-ghost use Rattle.commands.specs.declared.cause.Cause.TheVariants as cause;
-ghost use Rattle.kept_rows.specs.Seeing.{seen_in};
-ghost use Rattle.server_model.specs.Gtids.{status};
-ghost use Rattle.orch_base.specs.declared.server.Moment.{Moment as AMoment};
-ghost use Rattle.kept_rows.specs.declared.observation.Observation.{Observation as Reading};
-ghost use Rattle.server_model.specs.Run.{Exchange, run, AllAllowed};
-ghost use Rattle.server_model.specs.Safe.{Safe, Placed};
-ghost use Rattle.server_model.specs.Worlds.{World};
-ghost use Rattle.operations.specs.declared.op.Op.{Op as AnOp};
-ghost use Rattle.operations.specs.Deeds.{Deed, Settle};
-ghost use Rattle.operations.specs.Jobs.{Job};
-ghost use Rattle.operations.specs.Turns.{Goes, Stops, going, next, saw, turned, settled, by_deed, is_settled};
+ghost use Rattle.job_laws.specs.Prelude.{AllAllowed, Deed, Exchange, Goes, Job, Moment as AMoment, Observation as Reading, Op as AnOp, Placed, Safe};
+ghost use Rattle.job_laws.specs.Prelude.{ServerNo as Number, Settle, Status as Showed, Stops, World, by_deed, going, is_settled, next, run, saw};
+ghost use Rattle.job_laws.specs.Prelude.{seen_in, settled, status, turned};
+ghost use Rattle.job_laws.specs.Prelude.cause;
 ghost use Rattle.job_laws.specs.Held.{HeldJob, KeepsHeld, IsNext};
 ghost use Rattle.job_laws.specs.Matched.{AllMeet};
 ghost use Rattle.job_laws.specs.Sound.{AllBridged, KeepsSound, IsNextSafely};

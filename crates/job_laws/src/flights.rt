@@ -1,18 +1,10 @@
 //! Turns over servers with jobs in flight.
 
 ghost use Rattle.std.specs.Prelude.{◌≡◌, ℕ, List, Option, IfSome, Some, ◌≤◌};
-ghost use Rattle.std.specs.List.{All};
-ghost use Rattle.orch_base.specs.declared.server.Moment.{Moment as AMoment};
-ghost use Rattle.orch_base.specs.declared.server.ServerNo.{ServerNo as Number};
-ghost use Rattle.kept_rows.specs.declared.observation.Observation.{Observation as Reading};
-ghost use Rattle.server_model.specs.Run.{Exchange, run, Allowed, JoinsWell, AllAllowed};
-ghost use Rattle.server_model.specs.Safe.{Safe, Placed, IsQuiet};
-ghost use Rattle.server_model.specs.Worlds.{World, server_at};
-ghost use Rattle.operations.specs.Jobs.{Job};
-ghost use Rattle.operations.specs.Turns.{observed, turned};
+ghost use Rattle.job_laws.specs.Prelude.{All, Allowed, Exchange, IsQuiet, Job, JoinsWell, Moment as AMoment, Observation as Reading};
+ghost use Rattle.job_laws.specs.Prelude.{Placed, Safe, ServerNo as Number, World, observed, run, server_at, server_of, turned};
 ghost use Rattle.job_laws.specs.Held.{HeldJob};
 ghost use Rattle.job_laws.specs.Flights.{Flight, Held, Sound, IsShown, IsShownBridged, exchanged, slotted, stored, forgotten, restarted, opened_flight, begun, after_job};
-ghost use Rattle.operations.specs.Changes.{server_of};
 ghost use Rattle.job_laws.specs.Leases.{Leases, IsLeased, Begins};
 
 /// What is no job's turn keeps a flight held, quiet or not, and sound where it is quiet afterwards: an exchange, a

@@ -1,8 +1,7 @@
 //! Leases as a list by the servers' numbers.
 
 ghost use Rattle.std.specs.Prelude.{◌≡◌, ◌<◌, ℕ, All, List, Option, length};
-ghost use Rattle.orch_base.specs.declared.server.ServerNo.{ServerNo as Number};
-ghost use Rattle.instance_keeper.specs.Leases.{given_back, taken};
+ghost use Rattle.job_laws.specs.Prelude.{ServerNo as Number, given_back, taken};
 ghost use Rattle.job_laws.specs.Flights.{leased_to, without_leases};
 ghost use Rattle.job_laws.specs.Leases.{leases_of};
 

@@ -1,19 +1,9 @@
 //! Logs that match, and changes of source by a match.
 
 ghost use Rattle.std.specs.Prelude.{◌≡◌, ℕ, List, Ok, Some, length, take, true};
-ghost use Rattle.binlog_coords.specs.declared.Coord.{Coord as At};
-ghost use Rattle.binlog_coords.specs.Log.{coord_after, place};
-ghost use Rattle.orch_base.specs.declared.server.ServerNo.{ServerNo as Number};
-ghost use Rattle.server_model.specs.declared.server.Server.{Server as AServer};
-ghost use Rattle.server_model.specs.Attach.{IsTarget};
-ghost use Rattle.server_model.specs.Run.{Allowed, Attach, Exchange, JoinsWell};
-ghost use Rattle.server_model.specs.Safe.{Placed, Safe};
-ghost use Rattle.server_model.specs.Worlds.{World, server_at};
-ghost use Rattle.operations.specs.declared.matching.Match.{Match as AMatch};
-ghost use Rattle.operations.specs.Jobs.{match_found};
-ghost use Rattle.operations.specs.Matching.{match_logs, standing_at};
-ghost use Rattle.operations.specs.Targets.{can_attach};
-ghost use Rattle.operations.specs.Turns.{by_match};
+ghost use Rattle.job_laws.specs.Prelude.{Allowed, Attach, Coord as At, Exchange, IsTarget, JoinsWell, Match as AMatch, Placed, Safe};
+ghost use Rattle.job_laws.specs.Prelude.{Server as AServer, ServerNo as Number, World, by_match, can_attach, coord_after, match_found, match_logs};
+ghost use Rattle.job_laws.specs.Prelude.{place, server_at, standing_at};
 ghost use Rattle.job_laws.specs.Marked.{KeepsMark};
 ghost use Rattle.job_laws.specs.Matched.{AllMeet, ArePlaced, Meets, MeetsAt};
 

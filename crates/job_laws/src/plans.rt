@@ -1,11 +1,7 @@
 //! Plans leave operations that are held.
 
 ghost use Rattle.std.specs.Prelude.{◌≡◌, ◌==◌, ◌++◌, List, true, false};
-ghost use Rattle.orch_base.specs.declared.server.ServerNo.{ServerNo as Number};
-ghost use Rattle.commands.specs.declared.line.Line.{Line as ALine};
-ghost use Rattle.operations.specs.declared.op.Op.{Op as AnOp};
-ghost use Rattle.operations.specs.Deeds.{deed_of};
-ghost use Rattle.operations.specs.Plans.{up, under, again, auto, swap, asking, finished};
+ghost use Rattle.job_laws.specs.Prelude.{Line as ALine, Op as AnOp, ServerNo as Number, again, asking, auto, deed_of, finished, swap, under, up};
 ghost use Rattle.job_laws.specs.Footing.{Footing, SameBase, finds, are_held};
 ghost use Rattle.job_laws.specs.Matched.{Matched, are_matched};
 

@@ -1,17 +1,9 @@
 //! What a reading of a server shows, for good.
 
 ghost use Rattle.std.specs.Prelude.{◌≡◌, ℕ, List, Some};
-ghost use Rattle.server_words.specs.declared.status.Status.{Status as Reading};
-ghost use Rattle.kept_rows.specs.Seeing.{seen_in};
-ghost use Rattle.server_model.specs.Gtids.{status};
-ghost use Rattle.server_model.specs.Run.{Exchange, run, AllAllowed};
-ghost use Rattle.server_model.specs.Safe.{Safe, Placed};
-ghost use Rattle.server_model.specs.Worlds.{World};
-ghost use Rattle.instance_keeper.specs.declared.bridge.Bridge.{Bridge as ABridge};
-ghost use Rattle.operations.specs.declared.sight.Position.{Position as APosition};
-ghost use Rattle.operations.specs.Jobs.{position_of};
+ghost use Rattle.job_laws.specs.Prelude.{AllAllowed, Bridge as ABridge, Exchange, Placed, Position as APosition, Safe, Shows, Status as Reading};
+ghost use Rattle.job_laws.specs.Prelude.{World, position_of, run, seen_in, status};
 ghost use Rattle.job_laws.specs.Held.{ShowsAt, Spans};
-ghost use Rattle.server_model.specs.Showing.{Shows};
 ghost use Rattle.job_laws.specs.Sound.{IsBridged};
 
 /// A status shows what the server has; in a safe world it shows a bridge that stands.

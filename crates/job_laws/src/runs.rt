@@ -1,7 +1,7 @@
 //! Runs of turns, with jobs in flight.
 
 ghost use Rattle.std.specs.Prelude.{List};
-ghost use Rattle.server_model.specs.Safe.{IsQuiet};
+ghost use Rattle.job_laws.specs.Prelude.{IsQuiet};
 ghost use Rattle.job_laws.specs.Flights.{Flight, Held, Sound};
 ghost use Rattle.job_laws.specs.Passages.{Passage, passed, MayPass, PassesWell, passing, AllMayPass, AllPassWell};
 

@@ -1,16 +1,8 @@
 -- The entries that a log keeps, and a search among them.
-use Rattle.std.proofs.Common.{◌≡◌, ℕ, zero, suc, ◌+◌, ◌<◌, ◌≤◌, Bool, true, false, cond, not, List, [], ◌∷◌, length, refl, sym, ◌∙◌, ap, subst, Option, Some, None, arith}
+use Rattle.job_plans.proofs.Prelude.{Server, Txn, World, alike, entry-is, first_not, kept_from, last_below, le-ltb, log_of, logged_by, lt-ltb}
+use Rattle.job_plans.proofs.Prelude.{purged_len, same_Some, server-there as nth-there, server_at, shows_same, slice_get_past, slice_get_within}
+use Rattle.std.proofs.Common.{◌≡◌, ℕ, suc, ◌+◌, ◌<◌, ◌≤◌, Bool, true, false, cond, not, length, refl, sym, ◌∙◌, ap, subst, Option, Some, None, arith}
 use Rattle.std.specs.Prelude.{nat_lt, option_and_then, option_map, slice_get}
-use Rattle.std.proofs.lemmas.Bool.{lt-ltb, le-ltb}
-use Rattle.std.proofs.lemmas.Option.{same_Some, slice_get_past, slice_get_within}
-use Rattle.orch_base.specs.declared.server.Txn.{Txn}
-use Rattle.server_model.specs.Gtids.{purged_len}
-use Rattle.server_model.specs.Plains.{log_of, logged_by}
-use Rattle.server_model.specs.Worlds.{World, server_at}
-use Rattle.server_model.specs.declared.server.Server.{Server}
-use Rattle.operations.specs.Matching.{alike, first_not, last_below, shows_same}
-use Rattle.operations.proofs.Marks.{entry-is}
-use Rattle.job_plans.specs.Entries.{kept_from}
 
 -- ---- what is kept
 
@@ -107,11 +99,6 @@ kept-is s k t h =
       below = slice_get_within s.history.txns k t e.is;
       is = e.is;
     }
-
-nth-there : (xs : List Server) (n : ℕ) → n < length xs → (s : Server) × (slice_get xs n ≡ Some s)
-nth-there [] n h = absurd (omega (arith, h))
-nth-there (x ∷ xs) zero h = (x, refl)
-nth-there (x ∷ xs) (suc n) h = nth-there xs n (omega (arith, h))
 
 pub server-there : (w : World) (n : ℕ) → n < length w.servers → (s : Server) × (server_at w n ≡ Some s)
 server-there w n h = nth-there w.servers n h

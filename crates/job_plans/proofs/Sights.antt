@@ -1,11 +1,7 @@
 -- The latest that was seen of each server.
 use Rattle.std.proofs.Common.{◌≡◌, ℕ, Bool, true, false, cond, List, [], ◌∷◌, refl, ◌∙◌, ap, Option, Some, None}
 use Rattle.std.specs.Prelude.{◌==◌}
-use Rattle.operations.specs.declared.sight.Position.{Position}
-use Rattle.operations.specs.declared.sight.Sight.{Sight}
-use Rattle.operations.specs.Jobs.{seen_of, with_seen}
-use Rattle.operations.proofs.Sights.{seen-at}
-use Rattle.job_plans.specs.JobsSeen.{or_seen, seen_after, seen_last}
+use Rattle.job_plans.proofs.Prelude.{Position, Sight, or_seen, seen-at, seen_after, seen_last, seen_of, with_seen}
 
 -- what was seen after these were seen
 pub seen-later : (xs ys : List Sight) (k : ℕ) → seen_of (seen_after xs ys) k ≡ or_seen (seen_last ys k) (seen_of xs k)

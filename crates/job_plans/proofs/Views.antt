@@ -1,16 +1,6 @@
 -- How a job is seen after a step.
 use Rattle.std.proofs.Common.{◌≡◌, ℕ, ◌+◌, ◌-◌, ◌*◌, List, [], ◌∷◌, length, sym, ◌∙◌, ap, drop, arith}
-use Rattle.operations.specs.Ending.{turns_for, turns_left}
-use Rattle.std.proofs.lemmas.List.{drop-drop}
-use Rattle.orch_base.specs.declared.server.ServerNo.{ServerNo}
-use Rattle.operations.specs.declared.matching.Match.{Match}
-use Rattle.operations.specs.declared.op.Op.{Op}
-use Rattle.operations.specs.declared.sight.Sight.{Sight}
-use Rattle.operations.specs.Jobs.{Job}
-use Rattle.operations.specs.Turns.{next}
-use Rattle.job_plans.specs.Acts.{rest_of}
-use Rattle.job_plans.specs.JobsBy.{job_of}
-use Rattle.job_plans.specs.declared.job.Job.TheInside.{Inside}
+use Rattle.job_plans.proofs.Prelude.{Inside, Job, Match, Op, ServerNo, Sight, drop-drop, job_of, next, rest_of, turns_for, turns_left}
 
 rest-is : (a : Inside) → drop (a.done + 1) a.ops.items ≡ rest_of (job_of a)
 rest-is a = sym (drop-drop 1 a.done a.ops.items)

@@ -1,18 +1,8 @@
 -- What a turn is to do, as it was looked up before it.
 use Rattle.std.specs.Prelude.{◌≡◌, ◌<◌, is_some, length, ◌+◌, Bool, true, false, List, [], ◌∷◌, drop, Option, Some, None}
-use Rattle.std.specs.List.{All}
-use Rattle.server_model.specs.Attach.{IsTarget}
-use Rattle.server_model.specs.Gtids.{IsAutoTarget}
-use Rattle.server_model.specs.Worlds.{World}
-use Rattle.std.specs.Option.{option_to_list}
-use Rattle.kept_rows.specs.declared.observation.Observation.{Observation}
-use Rattle.server_model.specs.Run.{Exchange, Request, Attach}
-use Rattle.operations.specs.declared.step.JobStep.{JobStep}
-use Rattle.operations.specs.declared.step.JobStep.TheVariants as step
-use Rattle.operations.specs.declared.op.Op.{Op}
-use Rattle.operations.specs.Jobs.{Job, seen_of}
-use Rattle.operations.specs.Turns.{Attempt, Turned, settled, next, saw_at, with_match, restarts, ended, hands_after, by_set}
-use Rattle.operations.specs.Named.{IsOneOf}
+use Rattle.job_plans.specs.Prelude.{All, Attach, Attempt, Exchange, IsAutoTarget, IsOneOf, IsTarget, Job, JobStep, Observation, Op, Request, Turned}
+use Rattle.job_plans.specs.Prelude.{World, by_set, ended, hands_after, next, option_to_list, restarts, saw_at, seen_of, settled, with_match}
+use Rattle.job_plans.specs.Prelude.step
 use Rattle.job_plans.specs.declared.act.Look.{Look}
 use Rattle.job_plans.specs.declared.act.Act.{Act}
 use Rattle.job_plans.specs.declared.act.Act.TheVariants as act

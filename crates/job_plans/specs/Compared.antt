@@ -1,10 +1,6 @@
 -- Two logs that are compared behind a mark that both keep.
 use Rattle.std.specs.Prelude.{◌≡◌, ℕ, ◌+◌, ◌-◌, ◌≤◌, length, Some}
-use Rattle.orch_base.specs.declared.server.ServerNo.{ServerNo}
-use Rattle.server_model.specs.Plains.{logged_by}
-use Rattle.server_model.specs.Worlds.{World, server_at}
-use Rattle.server_model.specs.declared.server.Server.{Server}
-use Rattle.operations.specs.Matching.{alike, first_not, first_unlike}
+use Rattle.job_plans.specs.Prelude.{Server, ServerNo, World, alike, first_not, first_unlike, logged_by, server_at}
 
 -- Up to entry k of the first server those of the second are like them; entry `at` of the second, which has so many, is
 -- in the place of entry k.

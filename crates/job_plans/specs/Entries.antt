@@ -1,7 +1,6 @@
 -- The entries that a log keeps, by the first of them.
 use Rattle.std.specs.Prelude.{ℕ, length, if◌then◌else◌}
-use Rattle.server_model.specs.declared.server.Server.{Server}
-use Rattle.server_model.specs.Gtids.{purged_len}
+use Rattle.job_plans.specs.Prelude.{Server, purged_len}
 
 -- the index of the first transaction that the log of a server keeps; where it doesn't log, how many it has executed
 abbrev pub kept_from : Server → ℕ

@@ -1,5 +1,5 @@
 use Rattle.std.specs.Prelude.{◌≤◌, ◌+◌, length, drop, vec_capacity}
-use Rattle.operations.specs.Jobs.{Job}
+use Rattle.job_plans.specs.Prelude.{Job}
 use Rattle.job_plans.specs.declared.job.Job.TheInside.{Inside}
 
 abbrev pub job_of : Inside → Job

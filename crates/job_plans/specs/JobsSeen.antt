@@ -1,8 +1,6 @@
 -- A job as its turn is looked up.
 use Rattle.std.specs.Prelude.{ℕ, ◌==◌, if◌then◌else◌, List, [], ◌∷◌, Option, Some, None}
-use Rattle.operations.specs.declared.sight.Position.{Position}
-use Rattle.operations.specs.declared.sight.Sight.{Sight}
-use Rattle.operations.specs.Jobs.{Job, with_seen}
+use Rattle.job_plans.specs.Prelude.{Job, Position, Sight, with_seen}
 use Rattle.job_plans.specs.declared.view.JobView.TheInside.{Inside}
 
 -- what was seen of servers after these were seen, in order

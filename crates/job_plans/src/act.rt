@@ -1,10 +1,10 @@
 //! What a turn is to do.
 
-use binlog_coords::Coord;
-use instance_keeper::Observation;
+use crate::binlog_coords_items::Coord;
+use crate::instance_keeper_items::Observation;
+use crate::orch_base::ServerNo;
+use crate::server_words_items::{Ask, Spot};
 use operations::{JobStep, Match, Sight};
-use orch_base::ServerNo;
-use server_words::{Ask, Spot};
 
 /// What a turn does to servers and to its job.
 #[derive(Drop)]

@@ -1,24 +1,19 @@
 //! A job.
 
 ghost use Rattle.std.specs.Prelude.{◌≡◌, ◌<◌, ◌+◌, ◌↔◌, [], None, IfOk, OnOk, OnErr, IsTrue, length, true, is_some};
-ghost use Rattle.std.specs.Option.{option_copied};
-ghost use Rattle.server_model.specs.Gtids.{IsAutoTarget};
-ghost use Rattle.server_model.specs.Run.{Request as Requesting, after, run};
-ghost use Rattle.operations.specs.Ending.{turns_left};
-ghost use Rattle.operations.specs.Jobs.{job_with, seen_of as latest_of};
-ghost use Rattle.operations.specs.Named.{IsNamed};
-ghost use Rattle.operations.specs.Turns.{next, saw_at, with_match, ended, hands_after, turned};
+ghost use Rattle.job_plans.specs.Prelude.{IsAutoTarget, IsNamed, Request as Requesting, after, ended, hands_after, job_with, next, option_copied};
+ghost use Rattle.job_plans.specs.Prelude.{run, saw_at, seen_of as latest_of, turned, turns_left, with_match};
 ghost use Rattle.job_plans.specs.Acts.{foretold, exchanges_of, rest_of, CanTurn};
 
 use crate::act::Act;
+use crate::instance_keeper_items::Observation;
 use crate::looks::latest;
+use crate::orch_base::{Memory, Moment, ServerNo};
+use crate::server_model::World;
+use crate::server_words_items::{Ask, AttachFault};
 use crate::turns::{change_hands, keep, restart};
 use crate::{JobView, Look};
-use instance_keeper::Observation;
 use operations::{JobStep, Match, Op, Position, Sight};
-use orch_base::{Memory, Moment, ServerNo};
-use server_model::World;
-use server_words::{Ask, AttachFault};
 use std::alloc::Global;
 use std::marker::Model;
 

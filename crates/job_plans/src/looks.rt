@@ -1,31 +1,23 @@
 //! What a turn comes to, by the kind of its operation.
 
 ghost use Rattle.std.specs.Prelude.{◌≡◌, ◌<◌, ◌&&◌, [], Some, None, IfOk, IsTrue, length, All};
-ghost use Rattle.std.specs.Option.{option_copied};
-ghost use Rattle.kept_rows.specs.Seeing.{seen_in};
-ghost use Rattle.server_model.specs.Attach.{IsTarget};
-ghost use Rattle.server_model.specs.Desk.{desk_answer};
-ghost use Rattle.server_model.specs.Gtids.{status as status_of, IsAutoTarget};
-ghost use Rattle.server_model.specs.Run.{Attach};
-ghost use Rattle.server_model.specs.Worlds.{server_at};
-ghost use Rattle.operations.specs.Jobs.{Job as JobState, position_of, seen_of};
-ghost use Rattle.operations.specs.Matching.{match_logs as match_of_logs, standing_at};
-ghost use Rattle.operations.specs.Named.{IsOneOf};
-ghost use Rattle.operations.specs.Targets.{logs_by, places_by};
-ghost use Rattle.operations.specs.Turns.{observed, is_moved, is_reached, after_look, after_ask, after_match, after_attach, cause_by, cause_of_match, crossed, read_by, holds_seen, is_settled};
+ghost use Rattle.job_plans.specs.Prelude.{Attach, IsAutoTarget, IsTarget, after_ask, after_attach, after_look, after_match};
+ghost use Rattle.job_plans.specs.Prelude.{cause_by, cause_of_match, crossed, desk_answer, holds_seen, is_moved, is_reached, is_settled, logs_by};
+ghost use Rattle.job_plans.specs.Prelude.{match_logs as match_of_logs, observed, option_copied, places_by, position_of, read_by, seen_in, seen_of};
+ghost use Rattle.job_plans.specs.Prelude.{server_at, standing_at, status as status_of};
 ghost use Rattle.job_plans.specs.Acts.{rest_of, TellsAll};
 ghost use Rattle.job_plans.specs.JobsSeen.{seen_last};
 
 use crate::Look;
 use crate::act::Act;
+use crate::binlog_coords_items::Coord;
+use crate::commands::{BoxedSet, Cause, Lines};
+use crate::instance_keeper_items::{Bridge, Observation};
 use crate::matching::match_logs;
-use binlog_coords::Coord;
-use commands::{BoxedSet, Cause, Lines};
-use instance_keeper::{Bridge, Observation};
+use crate::orch_base::{Memory, Moment, ServerNo, SourceState};
+use crate::server_model::World;
+use crate::server_words_items::{Ask, AttachFault, Spot, Status, StatusFault};
 use operations::{Crossing, JobStep, Match, MatchFault, Position, Sight};
-use orch_base::{Memory, Moment, ServerNo, SourceState};
-use server_model::World;
-use server_words::{Ask, AttachFault, Spot, Status, StatusFault};
 use std::alloc::Global;
 
 /// The latest that was seen of a server.

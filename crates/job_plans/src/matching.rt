@@ -1,18 +1,14 @@
 //! Whether the log of a server matches another's (Pseudo-GTID).
 
 ghost use Rattle.std.specs.Prelude.{◌≡◌, ◌<◌, ◌≤◌, IsTrue, Some, length};
-ghost use Rattle.binlog_coords.specs.Log.{coord_after};
-ghost use Rattle.orch_base.specs.Histories.{same_txn};
-ghost use Rattle.server_model.specs.Desk.{can_reach};
-ghost use Rattle.server_model.specs.declared.server.Server.{Server as AServer};
-ghost use Rattle.server_model.specs.Worlds.{server_at};
-ghost use Rattle.operations.specs.Matching.{first_unlike, is_mark, last_mark, match_logs, matched_at, place_of_mark, shows_same};
+ghost use Rattle.job_plans.specs.Prelude.{Server as AServer, can_reach, coord_after, first_unlike, is_mark, last_mark, match_logs, matched_at};
+ghost use Rattle.job_plans.specs.Prelude.{place_of_mark, same_txn, server_at, shows_same};
 ghost use Rattle.job_plans.specs.Entries.{kept_from};
 
-use binlog_coords::{Coord, LogIndex};
+use crate::binlog_coords_items::{Coord, LogIndex};
+use crate::orch_base::{ServerNo, Txn};
+use crate::server_model::World;
 use operations::MatchFault;
-use orch_base::{ServerNo, Txn};
-use server_model::World;
 
 fn is_mark(every: u64, t: Txn) -> bool
     ensures { result ≡ is_mark every t }

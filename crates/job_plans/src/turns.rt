@@ -1,15 +1,12 @@
 //! What a turn changes.
 
 ghost use Rattle.std.specs.Prelude.{◌≡◌, ◌<◌, ◌≤◌, ◌+◌, length, vec_len, vec_capacity, All};
-ghost use Rattle.server_model.specs.Run.{run};
-ghost use Rattle.operations.specs.Jobs.{with_seen, without};
-ghost use Rattle.operations.specs.Named.{IsOneOf};
-ghost use Rattle.operations.specs.Turns.{restarts, hands_after};
+ghost use Rattle.job_plans.specs.Prelude.{IsOneOf, hands_after, restarts, run, with_seen, without};
 
+use crate::orch_base::ServerNo;
+use crate::server_model::World;
+use crate::server_words_items::Ask;
 use operations::Sight;
-use orch_base::ServerNo;
-use server_model::World;
-use server_words::Ask;
 
 /// This is the latest that was seen of its server.
 pub fn keep(seen: &mut Vec<Sight>, sight: Sight)

@@ -1,29 +1,25 @@
 //! A job as its turn is looked up.
 
 ghost use Rattle.std.specs.Prelude.{◌≡◌, ◌<◌, ◌+◌, ◌↔◌, Some, None, IfOk, IsTrue, length, true};
-ghost use Rattle.std.specs.Option.{option_copied};
-ghost use Rattle.kept_rows.specs.Seeing.{seen_in};
-ghost use Rattle.server_model.specs.Gtids.{status as status_of};
-ghost use Rattle.operations.specs.Deeds.{deed_of};
-ghost use Rattle.operations.specs.Jobs.{match_found, seen_of as latest_of};
-ghost use Rattle.operations.specs.Named.{IsNamed, is_named};
-ghost use Rattle.operations.specs.Turns.{bridge_at, aim_of, turned, by_deed, after_until, until_by, after_wait_by, after_wait, is_reached as reaches, holds_seen as holds_all, settles, after_attach, crossing_of, same_again, by_set, by_match};
+ghost use Rattle.job_plans.specs.Prelude.{IsNamed, after_attach, after_until, after_wait, after_wait_by, aim_of, bridge_at, by_deed, by_match};
+ghost use Rattle.job_plans.specs.Prelude.{by_set, crossing_of, deed_of, holds_seen as holds_all, is_named, is_reached as reaches, match_found};
+ghost use Rattle.job_plans.specs.Prelude.{option_copied, same_again, seen_in, seen_of as latest_of, settles, status as status_of, turned, until_by};
 ghost use Rattle.job_plans.specs.Acts.{foretold, rest_of, CanTurn, IsNext, MayLook, Tells};
 
 use crate::Look;
 use crate::act::Act;
+use crate::binlog_coords_items::Coord;
+use crate::commands::{Cause, Lines};
+use crate::instance_keeper_items::Bridge;
 use crate::looks::{
     cause_by, done, failed, going, holds_seen, is_reached, is_settled, latest, latest_of_more,
     look_ask, look_attach, look_bridge, look_match, look_status, passed, position_of, read_by,
     takes_sets, watch,
 };
-use binlog_coords::Coord;
-use commands::{Cause, Lines};
-use instance_keeper::Bridge;
+use crate::orch_base::{Memory, Moment, ServerNo, SourceState};
+use crate::server_model::World;
+use crate::server_words_items::{Ask, AttachFault, Spot, Status, Threads};
 use operations::{Aim, Crossing, Match, Op, Position, Sight};
-use orch_base::{Memory, Moment, ServerNo, SourceState};
-use server_model::World;
-use server_words::{Ask, AttachFault, Spot, Status, Threads};
 use std::alloc::Global;
 use std::marker::Model;
 

@@ -3,7 +3,7 @@ use Rattle.std.proofs.Common.{◌≡◌, ◌∙◌, ℕ, ◌+◌, ◌<◌, List,
 use Rattle.std.specs.List.{flat_map}
 use Rattle.std.proofs.lemmas.Grind.{flat_map-append}
 use Rattle.std.proofs.lemmas.List.{take_more}
-use Rattle.orch_base.specs.declared.server.ServerNo.{ServerNo}
+use Rattle.unended_jobs.specs.OrchBase.declared.server.ServerNo.{ServerNo}
 use Rattle.turns.specs.declared.turn.Turn.{Turn}
 
 -- two turns more for one server more

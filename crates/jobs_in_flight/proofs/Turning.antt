@@ -6,14 +6,14 @@ use Rattle.std.specs.List.Sorted.{IsNonDecreasingBy, IsPartitionPoint}
 use Rattle.std.specs.Option.{option_map}
 use Rattle.std.proofs.lemmas.Bool.{ltb-false, ltb-true}
 use Rattle.std.proofs.lemmas.Option.{same_Some, slice_get-get_or}
-use Rattle.instance_keeper.specs.Book.{BookState}
+use Rattle.unended_jobs.specs.InstanceKeeper.Book.{BookState}
 use Rattle.unended_jobs.specs.declared.look.UnendedLook.{UnendedLook}
 use Rattle.unended_jobs.specs.Looks.{foretold, observation_of, step_of}
-use Rattle.operations.specs.declared.step.JobStep.{JobStep}
+use Rattle.unended_jobs.specs.Operations.declared.step.JobStep.{JobStep}
 use Rattle.unended_jobs.specs.declared.unended.Unended.{Unended}
 use Rattle.unended_jobs.specs.Unended.{number_of}
 use Rattle.unended_jobs.proofs.Looking.{foretold-observation, foretold-step}
-use Rattle.operations.specs.Turns.{is_going}
+use Rattle.unended_jobs.specs.Operations.Turns.{is_going}
 use Rattle.jobs_in_flight.specs.Jobs.{Rise, book_turned, job_at, jobs_turned, stored, turn_by, with_job, without_job, without_leases}
 use Rattle.jobs_in_flight.proofs.Numbers.{found-at, found-number, mono, none-at, remove-without, set-with}
 

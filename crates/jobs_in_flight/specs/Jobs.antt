@@ -1,18 +1,18 @@
 -- Unended jobs: how one is found, what its turn leaves of the jobs and the book, and what it answers.
 use Rattle.std.specs.Prelude.{ℕ, ◌+◌, ◌≤◌, ◌<◌, ◌==◌, Bool, not, is_some, if◌then◌else◌, List, [], ◌∷◌, find, filter, map, Option, Some, None}
 use Rattle.std.specs.Option.{option_map, option_and_then}
-use Rattle.orch_base.specs.Memory.{next_count}
-use Rattle.kept_rows.specs.declared.observation.Observation.{Observation}
-use Rattle.instance_keeper.specs.Book.{BookState, after_store}
-use Rattle.instance_keeper.specs.Leases.{given_back}
+use Rattle.unended_jobs.specs.OrchBase.Memory.{next_count}
+use Rattle.unended_jobs.specs.KeptRows.declared.observation.Observation.{Observation}
+use Rattle.unended_jobs.specs.InstanceKeeper.Book.{BookState, after_store}
+use Rattle.unended_jobs.specs.InstanceKeeper.Leases.{given_back}
 use Rattle.unended_jobs.specs.declared.unended.Unended.{Unended}
 use Rattle.unended_jobs.specs.declared.look.UnendedLook.{UnendedLook}
 use Rattle.unended_jobs.specs.Looks.{foretold}
 use Rattle.unended_jobs.specs.Unended.{Flown, number_of, turns_of}
-use Rattle.operations.specs.declared.step.JobStep.{JobStep}
-use Rattle.operations.specs.declared.step.JobStep.TheVariants as step
-use Rattle.operations.specs.Turns.{is_going}
-use Rattle.server_model.specs.Run.{Exchange}
+use Rattle.unended_jobs.specs.Operations.declared.step.JobStep.{JobStep}
+use Rattle.unended_jobs.specs.Operations.declared.step.JobStep.TheVariants as step
+use Rattle.unended_jobs.specs.Operations.Turns.{is_going}
+use Rattle.unended_jobs.specs.ServerModel.Run.{Exchange}
 use Rattle.turns.specs.declared.reply.Reply.{Reply}
 use Rattle.turns.specs.declared.reply.Reply.TheVariants as answered
 

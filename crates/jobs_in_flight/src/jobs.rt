@@ -2,16 +2,16 @@
 
 ghost use Rattle.std.specs.Prelude.{◌≡◌, ◌<◌, ℕ, true, false, length, slice_get, None, Some, IfOk, IfSome, OnOk, OnErr, MatchOption};
 ghost use Rattle.std.specs.List.{remove};
-ghost use Rattle.kept_rows.specs.Servers.{are_known, observed_servers};
-ghost use Rattle.operations.specs.Turns.{is_going};
-ghost use Rattle.server_model.specs.Run.{run};
+ghost use Rattle.unended_jobs.specs.KeptRows.Servers.{are_known, observed_servers};
+ghost use Rattle.unended_jobs.specs.Operations.Turns.{is_going};
+ghost use Rattle.unended_jobs.specs.ServerModel.Run.{run};
 ghost use Rattle.unended_jobs.specs.Looks.{CanGo, observation_of, step_of};
 ghost use Rattle.jobs_in_flight.specs.Jobs.{Rise, book_turned, job_at, job_exchanges, job_observation, jobs_turned, reads_with, step_reply, stored, turn_by, without_leases};
 
-use instance_keeper::{Book, Observation};
-use operations::JobStep;
-use orch_base::Memory;
-use server_model::World;
+use crate::instance_keeper_items::{Book, Observation};
+use crate::operations_items::JobStep;
+use crate::orch_base::Memory;
+use crate::server_model::World;
 use std::alloc::Global;
 use turns::{BoxedFailure, Failure, Reply};
 use unended_jobs::{Unended, UnendedLook};

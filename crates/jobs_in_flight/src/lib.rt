@@ -6,3 +6,4 @@ mod rounds;
 
 pub use jobs::{FoundJob, answer, find, take_turn};
 pub use rounds::{others_over, round_over};
+use unended_jobs::{instance_keeper_items, operations_items, orch_base, server_model};

@@ -4,7 +4,7 @@ ghost use Rattle.std.specs.Prelude.{◌≡◌, ◌++◌, IfOk};
 ghost use Rattle.std.specs.List.{flat_map};
 ghost use Rattle.jobs_in_flight.specs.Rounds.{polls, replicates, round_over};
 
-use orch_base::{Memory, ServerNo};
+use crate::orch_base::{Memory, ServerNo};
 use std::alloc::Global;
 use turns::{Act, Step, Turn};
 

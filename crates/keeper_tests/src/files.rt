@@ -1,7 +1,7 @@
 //! A keeper over a real file.
 
+use crate::orch_base::{Memory, Moment, Name, OwnedText, ServerNo};
 use kept_rows::{Candidate, Change, Keeper, KeeperFault, Key, Row, Rule, Table};
-use orch_base::{Memory, Moment, Name, OwnedText, ServerNo};
 use sql_keeper::SqlKeeper;
 use std::alloc::Global;
 use std::fs;

@@ -5,3 +5,5 @@
 mod files;
 #[cfg(test)]
 mod texts;
+
+use kept_rows::orch_base;

@@ -1,7 +1,7 @@
 //! Rows from texts and texts of rows, by the values of the format's examples.
 
+use crate::orch_base::{Memory, Name};
 use kept_rows::{Row, Table};
-use orch_base::{Memory, Name};
 use row_texts::{RowFault, RowText, TableNumber};
 use std::alloc::Global;
 use std::test::Fail;

@@ -1,16 +1,9 @@
 -- Servers that are known.
-use Rattle.std.proofs.Common.{◌≡◌, ℕ, ◌<◌, Bool, true, false, List, ◌∷◌, refl}
-use Rattle.std.specs.Prelude.{◌&&◌, nat_lt}
+pub use Rattle.std.proofs.lemmas.Bool.{and_parts as both_true}
+use Rattle.std.proofs.Common.{◌≡◌, ℕ, ◌<◌, Bool, true, List, ◌∷◌}
+use Rattle.std.specs.Prelude.{nat_lt}
 use Rattle.std.proofs.lemmas.Bool.{ltb-true}
 use Rattle.kept_rows.specs.Servers.{are_known}
-
-pub both_true : (a b : Bool) → (a && b) ≡ true → (a ≡ true) × (b ≡ true)
-both_true true true e = (refl, refl)
-both_true true false e = (refl, e)
-both_true false b e = (e, absurd (false_true e))
-  where
-    false_true : false ≡ true → ⊥
-    false_true e = cc
 
 -- a first server of known ones is known
 pub head_known : (count n : ℕ) (ns : List ℕ) → are_known count (n ∷ ns) ≡ true → n < count

@@ -6,3 +6,6 @@ pub mod Same
 pub mod LookUps
 pub mod SameRows
 pub mod Recoveries
+pub use Rattle.server_words.proofs.BinlogCoords as BinlogCoords
+pub use Rattle.server_words.proofs.GtidSets as GtidSets
+pub use Rattle.server_words.proofs.OrchBase as OrchBase

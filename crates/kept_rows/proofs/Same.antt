@@ -1,15 +1,17 @@
 -- Equal instances are those that the code tells to be equal.
+use Rattle.server_words.proofs.BinlogCoords.Places.{same_coord-refl as coord_refl}
+use Rattle.server_words.proofs.BinlogCoords.Places.{same_coord-true as coord_is}
 use Rattle.std.proofs.Common.{◌≡◌, ℕ, Bool, true, false, List, [], ◌∷◌, Option, None, Some, refl, sym, ap, subst, arith}
 use Rattle.std.specs.Prelude.{◌==◌, ◌&&◌}
 use Rattle.std.proofs.lemmas.Bool.{false≢true}
-use Rattle.binlog_coords.specs.declared.Coord.{Coord}
-use Rattle.gtid_sets.specs.declared.interval.Interval.{Interval}
-use Rattle.orch_base.specs.declared.server.ServerNo.{ServerNo}
-use Rattle.orch_base.specs.declared.server.Moment.{Moment}
-use Rattle.orch_base.specs.declared.server.SourceState.{SourceState}
-use Rattle.orch_base.specs.declared.server.SourceState.TheVariants as source
-use Rattle.orch_base.specs.declared.server.IoState.{IoState}
-use Rattle.orch_base.specs.declared.server.IoState.TheVariants as io
+use Rattle.server_words.specs.BinlogCoords.declared.Coord.{Coord}
+use Rattle.server_words.specs.GtidSets.declared.interval.Interval.{Interval}
+use Rattle.server_words.specs.OrchBase.declared.server.ServerNo.{ServerNo}
+use Rattle.server_words.specs.OrchBase.declared.server.Moment.{Moment}
+use Rattle.server_words.specs.OrchBase.declared.server.SourceState.{SourceState}
+use Rattle.server_words.specs.OrchBase.declared.server.SourceState.TheVariants as source
+use Rattle.server_words.specs.OrchBase.declared.server.IoState.{IoState}
+use Rattle.server_words.specs.OrchBase.declared.server.IoState.TheVariants as io
 use Rattle.server_words.specs.declared.status.Status.{Status as Seen}
 use Rattle.kept_rows.specs.declared.observation.Instance.{Instance}
 use Rattle.kept_rows.specs.Same.{same_bool, same_coord, same_end, same_source, same_io, same_interval, same_set, same_log, same_place, same_threads, same_seen, same_instance}
@@ -34,10 +36,6 @@ eq_is a b h = grind arith
 
 coord_of : ℕ → ℕ → Coord
 coord_of file pos = record { file = file; pos = pos }
-
-coord_eta : (a : Coord) → coord_of a.file a.pos ≡ a
-unfolding coord_of
-coord_eta a = refl
 
 no_of : ℕ → ServerNo
 no_of n = record { 0 = n }
@@ -75,16 +73,6 @@ instance_eta : (a : Instance) → instance_of a.no a.read a.moment a.valid a.see
 unfolding instance_of
 instance_eta a = refl
 
-coord_refl : (a : Coord) → same_coord a a ≡ true
-coord_refl a = rw (eq_refl a.file, eq_refl a.pos) refl
-
-coord_is : (a b : Coord) → same_coord a b ≡ true → a ≡ b
-coord_is a b h =
-    let e = both_true (a.file == b.file) (a.pos == b.pos) h in
-    let file = eq_is a.file b.file e.0 in
-    let pos = eq_is a.pos b.pos e.1 in
-    cc (coord_eta a, coord_eta b)
-
 end_refl : (a : Option Coord) → same_end a a ≡ true
 end_refl None = refl
 end_refl (Some a) = coord_refl a
@@ -107,12 +95,7 @@ source_is : (a b : SourceState) → same_source a b ≡ true → a ≡ b
 source_is source.Without source.Without h = refl
 source_is (source.Attached m) (source.Attached n) h = ap source.Attached (no_is m n h)
 source_is (source.Detached m) (source.Detached n) h = ap source.Detached (no_is m n h)
-source_is source.Without (source.Attached n) h = absurd (false≢true h)
-source_is source.Without (source.Detached n) h = absurd (false≢true h)
-source_is (source.Attached m) source.Without h = absurd (false≢true h)
-source_is (source.Attached m) (source.Detached n) h = absurd (false≢true h)
-source_is (source.Detached m) source.Without h = absurd (false≢true h)
-source_is (source.Detached m) (source.Attached n) h = absurd (false≢true h)
+source_is _ _ h = absurd (false≢true h)
 
 io_refl : (a : IoState) → same_io a a ≡ true
 io_refl io.Yes = refl
@@ -123,12 +106,7 @@ io_is : (a b : IoState) → same_io a b ≡ true → a ≡ b
 io_is io.Yes io.Yes h = refl
 io_is io.Connecting io.Connecting h = refl
 io_is io.No io.No h = refl
-io_is io.Yes io.Connecting h = absurd (false≢true h)
-io_is io.Yes io.No h = absurd (false≢true h)
-io_is io.Connecting io.Yes h = absurd (false≢true h)
-io_is io.Connecting io.No h = absurd (false≢true h)
-io_is io.No io.Yes h = absurd (false≢true h)
-io_is io.No io.Connecting h = absurd (false≢true h)
+io_is _ _ h = absurd (false≢true h)
 
 interval_refl : (a : Interval) → same_interval a a ≡ true
 interval_refl a = rw (eq_refl a.uuid, eq_refl a.first, eq_refl a.last) refl

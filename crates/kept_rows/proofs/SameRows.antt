@@ -86,11 +86,7 @@ from_number n = cond (n == 1) table.Instance (cond (n == 2) table.Downtime (cond
 
 from_own : (t : Table) → from_number (table_number t) ≡ t
 from_own table.Instance = refl
-from_own table.Downtime = refl
-from_own table.Candidate = refl
-from_own table.Recovery = refl
-from_own table.Switch = refl
-from_own table.Active = refl
+from_own _ = refl
 
 key_small : (k : Key) → IsKeyInRange k → key_number k < 2 ^ 65
 key_small (key.Server n) h = omega (arith, h)
@@ -100,13 +96,8 @@ key_small key.Active h = omega arith
 
 same_key : (k l : Key) → IsKeyInRange k → IsKeyInRange l → key_number k ≡ key_number l → k ≡ l
 same_key (key.Server n) (key.Server m) g h e = ap (λ (x : ℕ). key.Server (record { 0 = x })) e
-same_key (key.Server n) (key.Id id) g h e = absurd (omega (arith, g, e))
-same_key (key.Server n) key.Global g h e = absurd (omega (arith, g, e))
-same_key (key.Server n) key.Active g h e = absurd (omega (arith, g, e))
 same_key (key.Id id) (key.Server m) g h e = absurd (omega (arith, h, e))
 same_key (key.Id id) (key.Id other) g h e = ap key.Id (omega (arith, e))
-same_key (key.Id id) key.Global g h e = absurd (omega (arith, g, e))
-same_key (key.Id id) key.Active g h e = absurd (omega (arith, g, e))
 same_key key.Global (key.Server m) g h e = absurd (omega (arith, h, e))
 same_key key.Global (key.Id id) g h e = absurd (omega (arith, h, e))
 same_key key.Global key.Global g h e = refl
@@ -115,6 +106,7 @@ same_key key.Active (key.Server m) g h e = absurd (omega (arith, h, e))
 same_key key.Active (key.Id id) g h e = absurd (omega (arith, h, e))
 same_key key.Active key.Global g h e = absurd (omega (arith, e))
 same_key key.Active key.Active g h e = refl
+same_key _ _ g h e = absurd (omega (arith, g, e))
 
 pub same_sort_key : (t u : Table) (k l : Key) → IsKeyInRange k → IsKeyInRange l → sort_key t k ≡ sort_key u l → (t ≡ u) × (k ≡ l)
 same_sort_key t u k l g h e =

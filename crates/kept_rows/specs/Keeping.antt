@@ -1,7 +1,7 @@
 -- What a keeper does with its rows.
 use Rattle.std.specs.Prelude.{◌≡◌, ◌≤◌, ℕ, List, Option, Result, Err, MatchResult, OnOk, if◌then◌else◌}
 use Rattle.std.specs.Option.{option_map}
-use Rattle.orch_base.specs.Memory.{next_count, fails_next}
+use Rattle.server_words.specs.OrchBase.Memory.{next_count, fails_next}
 use Rattle.kept_rows.specs.declared.row.Row.{Row}
 use Rattle.kept_rows.specs.declared.row.Change.{Change}
 use Rattle.kept_rows.specs.declared.keeper.KeeperFault.{KeeperFault}

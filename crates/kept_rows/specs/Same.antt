@@ -1,11 +1,11 @@
 -- Whether instances are equal, as the code tells it.
 use Rattle.std.specs.Prelude.{◌==◌, ◌&&◌, Bool, true, false, not, if◌then◌else◌, List, [], ◌∷◌, Option, None, Some}
-use Rattle.binlog_coords.specs.declared.Coord.{Coord}
-use Rattle.gtid_sets.specs.declared.interval.Interval.{Interval}
-use Rattle.orch_base.specs.declared.server.SourceState.{SourceState}
-use Rattle.orch_base.specs.declared.server.SourceState.TheVariants as source
-use Rattle.orch_base.specs.declared.server.IoState.{IoState}
-use Rattle.orch_base.specs.declared.server.IoState.TheVariants as io
+use Rattle.server_words.specs.BinlogCoords.declared.Coord.{Coord}
+use Rattle.server_words.specs.GtidSets.declared.interval.Interval.{Interval}
+use Rattle.server_words.specs.OrchBase.declared.server.SourceState.{SourceState}
+use Rattle.server_words.specs.OrchBase.declared.server.SourceState.TheVariants as source
+use Rattle.server_words.specs.OrchBase.declared.server.IoState.{IoState}
+use Rattle.server_words.specs.OrchBase.declared.server.IoState.TheVariants as io
 use Rattle.server_words.specs.declared.status.Status.{Status as Seen}
 use Rattle.kept_rows.specs.declared.observation.Instance.{Instance}
 

@@ -1,10 +1,10 @@
 -- The servers that rows name, and the rows that a book takes.
 use Rattle.std.specs.Prelude.{ℕ, ◌&&◌, nat_lt, Bool, true, false, List, [], ◌∷◌, Option, None, Some}
 use Rattle.std.specs.List.{list_all}
-use Rattle.orch_base.specs.declared.recovery.Ending.{Ending}
-use Rattle.orch_base.specs.declared.recovery.Ending.TheVariants as ending
-use Rattle.orch_base.specs.declared.server.SourceState.{SourceState}
-use Rattle.orch_base.specs.declared.server.SourceState.TheVariants as source
+use Rattle.server_words.specs.OrchBase.declared.recovery.Ending.{Ending}
+use Rattle.server_words.specs.OrchBase.declared.recovery.Ending.TheVariants as ending
+use Rattle.server_words.specs.OrchBase.declared.server.SourceState.{SourceState}
+use Rattle.server_words.specs.OrchBase.declared.server.SourceState.TheVariants as source
 use Rattle.server_words.specs.declared.status.Status.{Status as Seen}
 use Rattle.kept_rows.specs.declared.observation.Observation.{Observation}
 use Rattle.kept_rows.specs.declared.row.Row.{Row}

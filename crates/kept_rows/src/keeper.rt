@@ -6,8 +6,8 @@ ghost use Rattle.kept_rows.specs.Keeping.{KeepsAll, HasKeeperCause};
 ghost use Rattle.kept_rows.specs.Rows.{IsRising};
 
 use crate::Memory;
+use crate::orch_base::Name;
 use crate::row::{Change, Row};
-use orch_base::Name;
 use std::alloc::Global;
 use std::fmt;
 

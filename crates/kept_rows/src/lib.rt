@@ -9,7 +9,6 @@ mod observation;
 mod recovery;
 mod row;
 mod servers;
-mod threads;
 
 pub use keeper::{Keeper, KeeperFault};
 pub use laws::{
@@ -17,9 +16,18 @@ pub use laws::{
 };
 pub use memory::{MemKeeper, row_map};
 pub use observation::{Instance, Observation};
+pub use server_words::{binlog_coords_items, gtid_sets, orch_base};
 /// Want of memory.
-pub use orch_base::{CauseName, Ending, Kind, Memory, Rule};
 pub use recovery::{Recovery, RecoveryRow};
 pub use row::{Candidate, Change, Downtime, Key, Row, Table};
+pub use server_words::orch_base::{CauseName, Ending, Kind, Memory, Rule};
 /// What one status of a server shows.
 pub use server_words::Status as Seen;
+
+/// What is passed on of `server_words`.
+pub mod server_words_items {
+    pub use server_words::{
+        ApplyAnswer, Ask, AttachFault, FetchAnswer, Link, PurgeAnswer, RotateAnswer, Spot, Status,
+        StatusFault, Threads, WriteAnswer,
+    };
+}

@@ -3,15 +3,15 @@
 ghost use Rattle.std.specs.Prelude.{◌≡◌, ◌<◌, ◌≤◌, ◌+◌, ◌↔◌, Some, IfSome, fold, true, IfOk, OnOk, OnErr, Err, length, nat_lt, vec_len, vec_capacity};
 ghost use Rattle.std.specs.Bool.{OnTrue, OnFalse};
 ghost use Rattle.std.specs.List.{HoldsAt};
-ghost use Rattle.orch_base.specs.Memory.{fails_next, next_count};
+ghost use Rattle.server_words.specs.OrchBase.Memory.{fails_next, next_count};
 ghost use Rattle.kept_rows.specs.Keeping.{KeepsAll, HasKeeperCause, after_call};
 ghost use Rattle.kept_rows.specs.SortKeys.{at, IsFirstFrom};
 ghost use Rattle.kept_rows.specs.Rows.{changed, changed_by, map_of, sort_key, sort_key_of, put, remove, IsRising};
 
 use crate::Memory;
 use crate::keeper::{Keeper, KeeperFault};
+use crate::orch_base::{Name, ServerNo};
 use crate::row::{Change, Key, Row, SortKey, Table};
-use orch_base::{Name, ServerNo};
 use std::alloc::Global;
 use std::marker::Model;
 

@@ -1,7 +1,7 @@
 //! What was seen of servers.
 
+use crate::orch_base::{Moment, ServerNo};
 use crate::{Memory, Seen};
-use orch_base::{Moment, ServerNo};
 
 /// One reading of a server.
 #[derive(Drop)]

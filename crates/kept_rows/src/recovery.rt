@@ -4,7 +4,7 @@ ghost use Rattle.std.specs.Prelude.{◌≡◌};
 ghost use Rattle.kept_rows.specs.Recoveries.{as_recovery, as_row};
 
 use crate::Memory;
-use orch_base::{Ending, Kind, Moment, OwnedText, ServerNo};
+use crate::orch_base::{Ending, Kind, Moment, OwnedText, ServerNo};
 use std::alloc::Global;
 
 /// A recovery, as the audit has it (orchestrator's documentation, "Topology recovery").

@@ -4,9 +4,9 @@ ghost use Rattle.std.specs.Prelude.{◌≡◌, nat_lt};
 ghost use Rattle.kept_rows.specs.Rows.{key_number, sort_key, table_number};
 
 use crate::observation::Instance;
+use crate::orch_base::{Moment, OwnedText, ServerNo};
 use crate::recovery::RecoveryRow;
 use crate::{Memory, Rule};
-use orch_base::{Moment, OwnedText, ServerNo};
 use std::alloc::Global;
 
 /// A time for which a server's analysis begins no recovery (orchestrator's documentation, "Downtime").

@@ -4,8 +4,8 @@ ghost use Rattle.std.specs.Prelude.{◌≡◌, nat_lt};
 ghost use Rattle.kept_rows.specs.Servers.{are_known, ending_servers, fits, is_of_book, key_servers, observed_servers, row_fits, servers_of, source_servers};
 
 use crate::observation::Observation;
+use crate::orch_base::{Ending, ServerNo, SourceState};
 use crate::row::{Change, Key, Row, Table};
-use orch_base::{Ending, ServerNo, SourceState};
 
 fn is_known(count: u32, no: ServerNo) -> bool
     ensures { result ≡ nat_lt no.0 count }

@@ -1,22 +1,22 @@
 -- The entry that ends with a job's turn, by what was looked up.
 use Rattle.std.proofs.Common.{◌≡◌, ◌∙◌, ℕ, Bool, List, Option, Some, refl, sym, ap}
 use Rattle.std.specs.Option.{option_map}
-use Rattle.commands.specs.declared.line.Line.{Line}
-use Rattle.operations.specs.declared.step.JobStep.{JobStep}
-use Rattle.operations.specs.declared.step.JobStep.TheVariants as step
-use Rattle.orch_base.specs.declared.recovery.Ending.{Ending}
-use Rattle.orch_base.specs.declared.server.ServerNo.{ServerNo}
-use Rattle.recovery_core.specs.Endings.{ending_with, is_acknowledged_for}
-use Rattle.recovery_plans.specs.declared.purpose.Purpose.{Purpose}
-use Rattle.recovery_plans.specs.Recoveries.{Recovery}
-use Rattle.unended_jobs.proofs.Looking.{foretold-step, last-purpose, next-recovery, recovery_after}
-use Rattle.unended_jobs.specs.Looks.{foretold, step_of}
-use Rattle.unended_jobs.specs.declared.look.UnendedLook.{UnendedLook}
-use Rattle.unended_jobs.specs.declared.docket.Docket.{Docket}
-use Rattle.unended_jobs.specs.declared.look.UnendedLook.TheVariants as look
-use Rattle.unended_jobs.specs.Looks.{hooked_by}
-use Rattle.unended_jobs.specs.declared.unended.Unended.{Unended}
-use Rattle.unended_jobs.specs.declared.unended.Unended.TheVariants as unended
+use Rattle.command_outcomes.specs.Commands.declared.line.Line.{Line}
+use Rattle.command_outcomes.specs.Operations.declared.step.JobStep.{JobStep}
+use Rattle.command_outcomes.specs.Operations.declared.step.JobStep.TheVariants as step
+use Rattle.command_outcomes.specs.OrchBase.declared.recovery.Ending.{Ending}
+use Rattle.command_outcomes.specs.OrchBase.declared.server.ServerNo.{ServerNo}
+use Rattle.command_outcomes.specs.RecoveryCore.Endings.{ending_with, is_acknowledged_for}
+use Rattle.command_outcomes.specs.RecoveryPlans.declared.purpose.Purpose.{Purpose}
+use Rattle.command_outcomes.specs.RecoveryPlans.Recoveries.{Recovery}
+use Rattle.command_outcomes.proofs.UnendedJobs.Looking.{foretold-step, last-purpose, next-recovery, recovery_after}
+use Rattle.command_outcomes.specs.UnendedJobs.Looks.{foretold, step_of}
+use Rattle.command_outcomes.specs.UnendedJobs.declared.look.UnendedLook.{UnendedLook}
+use Rattle.command_outcomes.specs.UnendedJobs.declared.docket.Docket.{Docket}
+use Rattle.command_outcomes.specs.UnendedJobs.declared.look.UnendedLook.TheVariants as look
+use Rattle.command_outcomes.specs.UnendedJobs.Looks.{hooked_by}
+use Rattle.command_outcomes.specs.UnendedJobs.declared.unended.Unended.{Unended}
+use Rattle.command_outcomes.specs.UnendedJobs.declared.unended.Unended.TheVariants as unended
 use Rattle.knowledge.specs.Closings.{closing_at, closing_by, closing_for, closing_of}
 use Rattle.knowledge.specs.declared.closing.Closing.{Closing}
 

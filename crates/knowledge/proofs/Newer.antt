@@ -2,14 +2,14 @@
 use Rattle.std.proofs.Common.{◌≡◌, ◌≢◌, ◌<◌, ℕ, Bool, true, false, [], ◌∷◌, Option, None, Some, refl, sym, ap, ◌∙◌, arith}
 use Rattle.std.specs.Prelude.{if◌then◌else◌, IsSomeAnd, nat_lt}
 use Rattle.std.specs.Option.{option_to_list}
-use Rattle.kept_rows.specs.declared.observation.Observation.{Observation}
-use Rattle.kept_rows.specs.declared.observation.Instance.{Instance}
-use Rattle.kept_rows.specs.declared.row.Change.TheVariants as change
-use Rattle.kept_rows.specs.declared.row.Row.TheVariants as row
-use Rattle.instance_keeper.specs.Book.{BookState, after_addition, instance_at, renewal, renewed, store_answer, store_change, stored_over}
-use Rattle.instance_keeper.proofs.Renewal.{renewal_some}
+use Rattle.command_outcomes.specs.KeptRows.declared.observation.Observation.{Observation}
+use Rattle.command_outcomes.specs.KeptRows.declared.observation.Instance.{Instance}
+use Rattle.command_outcomes.specs.KeptRows.declared.row.Change.TheVariants as change
+use Rattle.command_outcomes.specs.KeptRows.declared.row.Row.TheVariants as row
+use Rattle.command_outcomes.specs.InstanceKeeper.Book.{BookState, after_addition, instance_at, renewal, renewed, store_answer, store_change, stored_over}
+use Rattle.command_outcomes.proofs.InstanceKeeper.Renewal.{renewal_some}
 use Rattle.jobs_in_flight.specs.Jobs.{stored}
-use Rattle.turns.specs.declared.reply.Reply.TheVariants as answered
+use Rattle.command_outcomes.specs.Turns.declared.reply.Reply.TheVariants as answered
 use Rattle.knowledge.specs.Newer.{IsNewer, reading_of}
 use Rattle.knowledge.specs.Kept.{changes_by}
 use Rattle.knowledge.specs.Replies.{reply_by, stored_reply}

@@ -2,10 +2,10 @@
 use Rattle.std.proofs.Common.{◌≡◌, ◌∙◌, ℕ, ◌+◌, ◌-◌, ◌<◌, ◌≤◌, ◌^◌, List, [], ◌∷◌, ◌++◌, length, map, append_assoc, sym, ap, subst, arith}
 use Rattle.std.proofs.lemmas.List.{append-nil}
 use Rattle.std.proofs.lemmas.List.Elements.{All-head, All-tail}
-use Rattle.recovery_core.specs.Begun.{BeginInTurn, CanBegin}
-use Rattle.recovery_core.specs.Scans.{HasRoom}
-use Rattle.recovery_core.specs.Tries.{Begins}
-use Rattle.unended_jobs.specs.declared.unended.Unended.{Unended}
+use Rattle.command_outcomes.specs.RecoveryCore.Begun.{BeginInTurn, CanBegin}
+use Rattle.command_outcomes.specs.RecoveryCore.Scans.{HasRoom}
+use Rattle.command_outcomes.specs.RecoveryCore.Tries.{Begins}
+use Rattle.command_outcomes.specs.UnendedJobs.declared.unended.Unended.{Unended}
 use Rattle.command_outcomes.specs.declared.command.Update.TheVariants as update
 use Rattle.knowledge.specs.Knowing.{Knowledge, recovery_job, updated}
 

@@ -1,17 +1,17 @@
 -- How a recovery's entry of the audit ends with the turn that ends its job.
 use Rattle.std.specs.Prelude.{ℕ, if◌then◌else◌, List, [], Option, Some, None}
 use Rattle.std.specs.Option.{option_map, option_to_list}
-use Rattle.audit_log.specs.Audits.{AuditState, acked_so, acknowledged_at, ended, ended_so, recovery_at}
-use Rattle.kept_rows.specs.declared.recovery.Recovery.{Recovery as KeptRecovery}
-use Rattle.kept_rows.specs.declared.row.Change.{Change}
-use Rattle.kept_rows.specs.Recoveries.{put_recovery}
-use Rattle.operations.specs.declared.step.JobStep.{JobStep}
-use Rattle.orch_base.specs.declared.server.Moment.{Moment}
-use Rattle.recovery_core.specs.Endings.{ending_of, is_acknowledged}
-use Rattle.recovery_plans.specs.Recoveries.{Recovery}
-use Rattle.unended_jobs.specs.declared.unended.Unended.{Unended}
-use Rattle.unended_jobs.specs.declared.unended.Unended.TheVariants as unended
-use Rattle.unended_jobs.specs.Unended.{Flown}
+use Rattle.command_outcomes.specs.AuditLog.Audits.{AuditState, acked_so, acknowledged_at, ended, ended_so, recovery_at}
+use Rattle.command_outcomes.specs.KeptRows.declared.recovery.Recovery.{Recovery as KeptRecovery}
+use Rattle.command_outcomes.specs.KeptRows.declared.row.Change.{Change}
+use Rattle.command_outcomes.specs.KeptRows.Recoveries.{put_recovery}
+use Rattle.command_outcomes.specs.Operations.declared.step.JobStep.{JobStep}
+use Rattle.command_outcomes.specs.OrchBase.declared.server.Moment.{Moment}
+use Rattle.command_outcomes.specs.RecoveryCore.Endings.{ending_of, is_acknowledged}
+use Rattle.command_outcomes.specs.RecoveryPlans.Recoveries.{Recovery}
+use Rattle.command_outcomes.specs.UnendedJobs.declared.unended.Unended.{Unended}
+use Rattle.command_outcomes.specs.UnendedJobs.declared.unended.Unended.TheVariants as unended
+use Rattle.command_outcomes.specs.UnendedJobs.Unended.{Flown}
 use Rattle.knowledge.specs.declared.closing.Closing.{Closing}
 
 -- the entry of this id, where the turn ends it

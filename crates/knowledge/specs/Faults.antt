@@ -1,8 +1,8 @@
 -- What a keeper's fault is to a turn.
 use Rattle.std.specs.Prelude.{◌≡◌, ◌≤◌, ℕ, Result, Err, OnOk}
-use Rattle.orch_base.specs.Memory.{next_count}
-use Rattle.kept_rows.specs.declared.keeper.KeeperFault.{KeeperFault}
-use Rattle.kept_rows.specs.declared.keeper.KeeperFault.TheVariants as keeper
+use Rattle.command_outcomes.specs.OrchBase.Memory.{next_count}
+use Rattle.command_outcomes.specs.KeptRows.declared.keeper.KeeperFault.{KeeperFault}
+use Rattle.command_outcomes.specs.KeptRows.declared.keeper.KeeperFault.TheVariants as keeper
 use Rattle.knowledge.specs.declared.fault.TurnFault.{TurnFault}
 use Rattle.knowledge.specs.declared.fault.TurnFault.TheVariants as fault
 

@@ -1,11 +1,11 @@
 -- How the kept rows change.
 use Rattle.std.specs.Prelude.{Bool, List, [], Option, Some, None, if◌then◌else◌}
 use Rattle.std.specs.Option.{option_map, option_to_list}
-use Rattle.instance_keeper.specs.Book.{BookState, instance_at, store_change}
-use Rattle.kept_rows.specs.Rows.{changed}
-use Rattle.kept_rows.specs.declared.observation.Observation.{Observation}
-use Rattle.kept_rows.specs.declared.row.Change.{Change}
-use Rattle.kept_rows.specs.declared.row.Row.{Row}
+use Rattle.command_outcomes.specs.InstanceKeeper.Book.{BookState, instance_at, store_change}
+use Rattle.command_outcomes.specs.KeptRows.Rows.{changed}
+use Rattle.command_outcomes.specs.KeptRows.declared.observation.Observation.{Observation}
+use Rattle.command_outcomes.specs.KeptRows.declared.row.Change.{Change}
+use Rattle.command_outcomes.specs.KeptRows.declared.row.Row.{Row}
 
 -- the kept rows with these changes, where they are made and the keeper tells its rows
 abbrev pub kept_if : Bool → Option (List Row) → List Change → Option (List Row)

@@ -1,18 +1,18 @@
 -- What orchestrator knows, and what a command or a scan makes of it.
 use Rattle.std.specs.Prelude.{◌≡◌, ◌<◌, ◌≤◌, ℕ, ⊤, true, fold, length, map, List, [], ◌∷◌, ◌++◌, All, Some, None}
-use Rattle.orch_base.specs.declared.server.ServerNo.{ServerNo}
-use Rattle.kept_rows.specs.Servers.{are_known, fits, observed_servers}
-use Rattle.instance_keeper.specs.Book.{BookState, after_change, after_discovery}
-use Rattle.instance_keeper.specs.Leases.{first_busy, taken}
-use Rattle.audit_log.specs.Audits.{AuditState}
-use Rattle.book_commands.specs.declared.decided.Effect.{Effect}
-use Rattle.book_commands.specs.declared.decided.Effect.TheVariants as effect
-use Rattle.book_commands.specs.Decisions.{audit_after as audit_decided, book_after as book_decided}
-use Rattle.unended_jobs.specs.declared.unended.Unended.{Unended}
-use Rattle.unended_jobs.specs.declared.unended.Unended.TheVariants as unended
-use Rattle.unended_jobs.specs.Unended.{number_of}
-use Rattle.recovery_core.specs.Begun.{BeginInTurn, audit_after, leases_after}
-use Rattle.recovery_core.specs.Tries.{Begins as RecoveryBegins}
+use Rattle.command_outcomes.specs.OrchBase.declared.server.ServerNo.{ServerNo}
+use Rattle.command_outcomes.specs.KeptRows.Servers.{are_known, fits, observed_servers}
+use Rattle.command_outcomes.specs.InstanceKeeper.Book.{BookState, after_change, after_discovery}
+use Rattle.command_outcomes.specs.InstanceKeeper.Leases.{first_busy, taken}
+use Rattle.command_outcomes.specs.AuditLog.Audits.{AuditState}
+use Rattle.command_outcomes.specs.BookCommands.declared.decided.Effect.{Effect}
+use Rattle.command_outcomes.specs.BookCommands.declared.decided.Effect.TheVariants as effect
+use Rattle.command_outcomes.specs.BookCommands.Decisions.{audit_after as audit_decided, book_after as book_decided}
+use Rattle.command_outcomes.specs.UnendedJobs.declared.unended.Unended.{Unended}
+use Rattle.command_outcomes.specs.UnendedJobs.declared.unended.Unended.TheVariants as unended
+use Rattle.command_outcomes.specs.UnendedJobs.Unended.{number_of}
+use Rattle.command_outcomes.specs.RecoveryCore.Begun.{BeginInTurn, audit_after, leases_after}
+use Rattle.command_outcomes.specs.RecoveryCore.Tries.{Begins as RecoveryBegins}
 use Rattle.command_outcomes.specs.declared.command.Update.{Update}
 use Rattle.command_outcomes.specs.declared.command.Update.TheVariants as update
 

@@ -1,8 +1,8 @@
 -- Readings that are newer than what the book has.
 use Rattle.std.specs.Prelude.{◌≡◌, ◌<◌, Option, Some, true, IsSomeAnd}
-use Rattle.kept_rows.specs.declared.observation.Observation.{Observation}
-use Rattle.kept_rows.specs.declared.observation.Instance.{Instance}
-use Rattle.instance_keeper.specs.Book.{BookState, instance_at}
+use Rattle.command_outcomes.specs.KeptRows.declared.observation.Observation.{Observation}
+use Rattle.command_outcomes.specs.KeptRows.declared.observation.Instance.{Instance}
+use Rattle.command_outcomes.specs.InstanceKeeper.Book.{BookState, instance_at}
 
 -- the reading that makes an instance
 abbrev pub reading_of : Instance → Observation

@@ -1,11 +1,11 @@
 -- What is answered.
 use Rattle.std.specs.Prelude.{◌≡◌, Bool, Option, Some, None, if◌then◌else◌}
-use Rattle.instance_keeper.specs.declared.book.StoreAnswer.{StoreAnswer}
-use Rattle.instance_keeper.specs.declared.book.StoreAnswer.TheVariants as store
-use Rattle.kept_rows.specs.declared.observation.Observation.{Observation}
-use Rattle.instance_keeper.specs.Book.{BookState, instance_at, store_answer}
-use Rattle.turns.specs.declared.reply.Reply.{Reply}
-use Rattle.turns.specs.declared.reply.Reply.TheVariants as answered
+use Rattle.command_outcomes.specs.InstanceKeeper.declared.book.StoreAnswer.{StoreAnswer}
+use Rattle.command_outcomes.specs.InstanceKeeper.declared.book.StoreAnswer.TheVariants as store
+use Rattle.command_outcomes.specs.KeptRows.declared.observation.Observation.{Observation}
+use Rattle.command_outcomes.specs.InstanceKeeper.Book.{BookState, instance_at, store_answer}
+use Rattle.command_outcomes.specs.Turns.declared.reply.Reply.{Reply}
+use Rattle.command_outcomes.specs.Turns.declared.reply.Reply.TheVariants as answered
 use Rattle.knowledge.specs.declared.replies.Replies.{Replies}
 
 -- this reply, and once more for the journal where it is written

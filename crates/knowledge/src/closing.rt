@@ -2,23 +2,23 @@
 
 ghost use Rattle.std.specs.Prelude.{◌≡◌, ◌≢◌, ◌<◌, ◌++◌, [], Err, IfOk, IfSome, IsSomeAnd, Some, is_ok, true, length};
 ghost use Rattle.std.specs.Option.{option_copied};
-ghost use Rattle.audit_log.specs.Audits.{is_unended, recovery_at};
+ghost use Rattle.command_outcomes.specs.AuditLog.Audits.{is_unended, recovery_at};
 ghost use Rattle.jobs_in_flight.specs.Jobs.{step_reply};
-ghost use Rattle.unended_jobs.specs.Looks.{foretold, observation_of, step_of};
+ghost use Rattle.command_outcomes.specs.UnendedJobs.Looks.{foretold, observation_of, step_of};
 ghost use Rattle.knowledge.specs.Closings.{closed_by, closed_so, closing_change, closing_changes, closing_of};
 ghost use Rattle.knowledge.specs.Faults.{HasTurnCause};
 ghost use Rattle.knowledge.specs.Kept.{changes_by, kept_if};
 ghost use Rattle.knowledge.specs.Replies.{AreReply};
 
+use crate::audit_log::Audit;
+use crate::instance_keeper_items::{Book, Change, Keeper, Observation, Recovery, Row};
+use crate::operations_items::JobStep;
+use crate::orch_base::{Ending, Memory, Moment};
+use crate::recovery_core::{ending_of, is_acknowledged};
+use crate::unended_jobs_items::{Unended, UnendedLook};
 use crate::{Replies, TurnFault, copied, keep_some};
-use audit_log::Audit;
-use instance_keeper::{Book, Change, Keeper, Observation, Recovery, Row};
 use jobs_in_flight::answer;
-use operations::JobStep;
-use orch_base::{Ending, Memory, Moment};
-use recovery_core::{ending_of, is_acknowledged};
 use std::alloc::Global;
-use unended_jobs::{Unended, UnendedLook};
 
 /// An entry of the audit that ends.
 #[derive(Clone, Copy)]

@@ -1,7 +1,7 @@
 //! Why a turn gave up.
 
-use instance_keeper::KeeperFault;
-use orch_base::Memory;
+use crate::instance_keeper_items::KeeperFault;
+use crate::orch_base::Memory;
 use std::fmt;
 
 /// Why a turn, or the opening, gave up.

@@ -2,22 +2,22 @@
 
 ghost use Rattle.std.specs.Prelude.{◌≡◌, ◌≢◌, ◌<◌, [], ◌∷◌, IfOk, IfSome, OnOk, OnErr, IsSomeAnd, None, Some, Err, is_ok, length, true};
 ghost use Rattle.std.specs.Bool.{OnTrue};
-ghost use Rattle.instance_keeper.specs.Book.{after_addition, instance_at};
+ghost use Rattle.command_outcomes.specs.InstanceKeeper.Book.{after_addition, instance_at};
 ghost use Rattle.jobs_in_flight.specs.Jobs.{stored};
-ghost use Rattle.kept_rows.specs.Rows.{IsRising};
-ghost use Rattle.kept_rows.specs.Servers.{are_known, observed_servers, servers_of};
+ghost use Rattle.command_outcomes.specs.KeptRows.Rows.{IsRising};
+ghost use Rattle.command_outcomes.specs.KeptRows.Servers.{are_known, observed_servers, servers_of};
 ghost use Rattle.knowledge.specs.Faults.{HasTurnCause};
 ghost use Rattle.knowledge.specs.Kept.{changes_by, kept_if};
 ghost use Rattle.knowledge.specs.Newer.{IsNewer, reading_of};
 ghost use Rattle.knowledge.specs.Replies.{reply_by, stored_reply};
-ghost use Rattle.turns.specs.Plain.{is_plain};
+ghost use Rattle.command_outcomes.specs.Turns.Plain.{is_plain};
 
 use crate::TurnFault;
-use instance_keeper::{Book, Change, Instance, Keeper, Observation, Row, StoreAnswer};
-use orch_base::{Name, ServerNo};
+use crate::instance_keeper_items::{Book, Change, Instance, Keeper, Observation, Row, StoreAnswer};
+use crate::orch_base::{Name, ServerNo};
+use crate::turns::Reply;
 use std::alloc::Global;
 use std::slice::from_ref;
-use turns::Reply;
 
 #[tactic(auto, using(crate::proofs::Newer::newer))]
 /// Keeps the changes that storing the slot's reading makes, where it makes any, and then stores it and empties the

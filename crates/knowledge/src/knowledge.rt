@@ -1,25 +1,24 @@
 //! What orchestrator knows, and what a command or a scan makes of it.
 
 ghost use Rattle.std.specs.Prelude.{◌≡◌, ◌≢◌, ◌<◌, ◌≤◌, ◌+◌, ◌-◌, ◌^◌, ◌∷◌, [], if◌then◌else◌, Err, IfOk, None, OnOk, Some, is_ok, length, vec_len, vec_capacity};
-ghost use Rattle.book_commands.specs.Decisions.{audit_after as audit_decided, book_after as book_decided};
-ghost use Rattle.recovery_core.specs.Begun.{BeginInTurn, CanBegin};
-ghost use Rattle.recovery_core.specs.Scans.{HasRoom};
+ghost use Rattle.command_outcomes.specs.RecoveryCore.Begun.{BeginInTurn, CanBegin};
+ghost use Rattle.command_outcomes.specs.RecoveryCore.Scans.{HasRoom};
 ghost use Rattle.knowledge.specs.Faults.{HasTurnCause};
 ghost use Rattle.knowledge.specs.Kept.{kept_if};
 ghost use Rattle.knowledge.specs.Knowing.{HasRoomFor, IsEffect, IsUpdate, MayTake, updated};
 ghost use Rattle.command_outcomes.specs.Ids.{LeavesIds};
 ghost use Rattle.knowledge.specs.KnowingBy.{known};
 
+use crate::audit_log::Audit;
+use crate::book_commands::Effect;
+use crate::instance_keeper_items::{Book, Keeper};
+use crate::orch_base::Memory;
+use crate::recovery_core::Begun;
+use crate::turns::Reply;
+use crate::unended_jobs_items::{Docket, Unended};
 use crate::{TurnFault, copied, keep_some};
-use audit_log::Audit;
-use book_commands::Effect;
 use command_outcomes::{Beginning, Outcome, Recoveries, Update};
-use instance_keeper::{Book, Keeper};
-use orch_base::Memory;
-use recovery_core::Begun;
 use std::alloc::Global;
-use turns::Reply;
-use unended_jobs::{Docket, Unended};
 
 /// What orchestrator knows.
 #[derive(Drop)]

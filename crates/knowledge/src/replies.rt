@@ -2,11 +2,11 @@
 
 ghost use Rattle.std.specs.Prelude.{◌≡◌, IfOk, None, Some, if◌then◌else◌, true};
 ghost use Rattle.knowledge.specs.Replies.{AreReply};
-ghost use Rattle.turns.specs.Plain.{is_plain};
+ghost use Rattle.command_outcomes.specs.Turns.Plain.{is_plain};
 
-use orch_base::Memory;
+use crate::orch_base::Memory;
+use crate::turns::Reply;
 use std::alloc::Global;
-use turns::Reply;
 
 /// What a turn answers.
 #[derive(Drop)]

@@ -1,12 +1,12 @@
 //! The codes of the table, and the analysis of a book.
 
-use binlog_coords::Coord;
-use failure_analysis::{Action, Code, Counts, Entry, actionable, analyse, code_of};
-use gtid_sets::GtidSet;
-use instance_keeper::{Book, Instance, Row, Seen};
-use orch_base::{
+use crate::binlog_coords_items::Coord;
+use crate::gtid_sets::GtidSet;
+use crate::orch_base::{
     IoState, Memory, Moment, Name, OwnedText, ServerNo, Settings, SourceState, Version,
 };
+use failure_analysis::{Action, Code, Counts, Entry, actionable, analyse, code_of};
+use instance_keeper::{Book, Instance, Row, Seen};
 use std::alloc::{AllocError, Global};
 
 // Whether an instance has a source and is valid, and of its replicas how many there are, are valid, replicate and lag.

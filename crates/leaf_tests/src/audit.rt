@@ -3,9 +3,9 @@
 ghost use Rattle.std.specs.Prelude.{◌≡◌, ◌≤◌, ◌<◌, ◌^◌, ◌↔◌, All, IfOk, IfSome, IsTrue};
 ghost use Rattle.audit_log.specs.Audits.{may_begin};
 
+use crate::kept_rows_items::{CauseName, Ending, Kind, Recovery, Row, last_row_stands, row_map};
+use crate::orch_base::{Memory, Moment, OwnedText, ServerNo};
 use audit_log::{Audit, Held, Periods, is_unended, kept_recoveries_make_an_audit, recoveries_in};
-use kept_rows::{CauseName, Ending, Kind, Recovery, Row, last_row_stands, row_map};
-use orch_base::{Memory, Moment, OwnedText, ServerNo};
 use std::alloc::Global;
 
 const BLOCK: u64 = 3600;

@@ -7,3 +7,5 @@ mod analysis;
 mod audit;
 #[cfg(test)]
 mod promotion;
+
+use instance_keeper::{binlog_coords_items, gtid_sets, kept_rows_items, orch_base};

@@ -2,8 +2,8 @@
 
 ghost use Rattle.std.specs.Prelude.{◌<◌, ◌↔◌, All, IsTrue, length};
 
-use binlog_coords::Coord;
-use orch_base::{Memory, Name, Rule, ServerNo};
+use crate::binlog_coords_items::Coord;
+use crate::orch_base::{Memory, Name, Rule, ServerNo};
 use promotion_rules::{Drained, better, most_advanced};
 use std::alloc::{AllocError, Global};
 

@@ -1,24 +1,9 @@
 -- A scenario whose turns are a schedule begins and runs alike.
 use Rattle.std.proofs.Common.{◌≡◌, ◌∙◌, ℕ, List, [], ap}
-use Rattle.std.proofs.lemmas.List.{append-nil}
-use Rattle.kept_rows.specs.declared.row.Change.{Change}
-use Rattle.kept_rows.specs.Rows.{changed}
-use Rattle.audit_log.specs.Audits.{closed}
-use Rattle.node_claims.specs.Claims.{made}
-use Rattle.opening_book.specs.Counting.{last_read}
-use Rattle.opening_book.specs.Opening.{loading, opened_book, opening_changes}
-use Rattle.orch_core.specs.Nodes.{holder_of}
-use Rattle.orch_core.specs.Polls.{empty_slots}
-use Rattle.orch_core.specs.Runs.{Held, Recorded, held_run, recorder}
-use Rattle.orch_core.specs.Scenarios.{configuration_of, loaded_audit, loaded_book, start_claim, start_moment, start_rows, without_turns}
-use Rattle.scenarios.specs.declared.scenario.Scenario.{Scenario}
-use Rattle.scenarios.specs.Scenarios.{flushes_of, names_of, period_of, room_of}
-use Rattle.server_model.specs.Worlds.{World}
-use Rattle.turns.specs.declared.turn.Turn.{Turn}
-use Rattle.world_openings.specs.Opening.{opened_world}
-use Rattle.live_desk.specs.Desks.{opening, run_of}
-use Rattle.tasks.specs.Report.{run_answer}
-use Rattle.live_calls.specs.Alike.{SchedulesRunAlike, with_turns}
+use Rattle.live_calls.proofs.Prelude.{Change, Held, Recorded, Scenario, SchedulesRunAlike, Turn, World, append-nil, changed, closed, configuration_of}
+use Rattle.live_calls.proofs.Prelude.{empty_slots, flushes_of, held_run, holder_of, last_read, loaded_audit, loaded_book, loading, made, names_of}
+use Rattle.live_calls.proofs.Prelude.{opened_book, opened_world, opening, opening_changes, period_of, recorder, room_of, run_answer, run_of}
+use Rattle.live_calls.proofs.Prelude.{start_claim, start_moment, start_rows, with_turns, without_turns}
 
 -- the opening is that of its servers, and of the room for its writes and rotations
 opens : Scenario → ℕ → World → Held Recorded

@@ -1,34 +1,15 @@
 -- How calls end that ask for a live run.
 use Rattle.std.proofs.Common.{◌≡◌, ℕ, ◌≤◌, true, false, Bool, List, [], Option, Some, None, Result, Ok, Err, refl, sym, subst, ◌⊎◌, inl, inr}
 use Rattle.std.specs.Prelude.{IfSome, codes}
-use Rattle.std.specs.Io.KnownBytes.{Consumes}
-use Rattle.kept_rows.specs.declared.row.Row.{Row}
-use Rattle.orch_base.specs.Causes.{Rose}
-use Rattle.scenarios.specs.declared.scenario.Scenario.{Scenario}
-use Rattle.scenario_values.specs.declared.fault.Fault.{Fault}
-use Rattle.command_line.specs.declared.command.Own.{Own}
-use Rattle.command_line.specs.declared.command.Own.TheVariants as own
-use Rattle.command_line.specs.declared.parts.Drawing.{Drawing}
-use Rattle.command_line.specs.declared.parts.Places.{Places}
-use Rattle.command_line.specs.declared.usage.Usage.{Usage}
-use Rattle.command_line.specs.declared.usage.Usage.TheVariants as usage
-use Rattle.command_line.specs.Commands.{own_at}
-use Rattle.command_line.specs.Places.{drawing_by, drawing_of, is_live, is_live_word, places_of}
-use Rattle.command_line.proofs.Named.{taken_have}
-use Rattle.live_desk.specs.Ends.{IsLive}
-use Rattle.live_desk.specs.Entries.{Entry}
-use Rattle.tasks.specs.declared.ending.Ending.TheVariants as ends
-use Rattle.tasks.specs.Asked.{IsTaken}
-use Rattle.tasks.specs.Sinks.{End, Fails, FailsIn, Taken, Takes, TakesFront, TakesLine, between}
-use Rattle.top_call.specs.declared.way.Way.{Way}
-use Rattle.top_call.specs.declared.way.Way.TheVariants as way
-use Rattle.top_call.specs.Ends.{AskToDraw, Call, FaultsBy, Idles, IsComplete, IsGood, IsReported, NoneRose, ReadsWhole, call, status_of}
-use Rattle.top_call.specs.Faults.{fault_text}
-use Rattle.top_call.specs.Reads.{OfRead}
-use Rattle.top_call.proofs.Ends.{idles, none_or_some, of_done, of_two, reads_at}
-use Rattle.live_calls.specs.Ends.{AskLive, IsPlain, LiveEnds, LiveWords, Lives, RunsAlone}
-use Rattle.live_calls.specs.Reads.{live_scenario}
-use Rattle.live_calls.specs.Reports.{LiveReport, LiveTells, live_report}
+use Rattle.live_calls.proofs.Prelude.{AskLive, AskToDraw, Call, Consumes, Drawing, End, Entry, Fails, FailsIn, Fault, FaultsBy, Idles, IsComplete}
+use Rattle.live_calls.proofs.Prelude.{IsGood, IsLive, IsPlain, IsReported, IsTaken, LiveEnds, LiveReport, Lives, LiveTells, LiveWords, NoneRose}
+use Rattle.live_calls.proofs.Prelude.{OfRead, Own, Places, ReadsWhole, Rose, Row, RunsAlone, Scenario, Taken, Takes, TakesFront, TakesLine, Usage}
+use Rattle.live_calls.proofs.Prelude.{Way, between, call, drawing_by, drawing_of, fault_text, idles, is_live, is_live_word, live_report}
+use Rattle.live_calls.proofs.Prelude.{live_scenario, none_or_some, of_done, of_two, own_at, places_of, reads_at, status_of, taken_have}
+use Rattle.live_calls.proofs.Prelude.ends
+use Rattle.live_calls.proofs.Prelude.own
+use Rattle.live_calls.proofs.Prelude.usage
+use Rattle.live_calls.proofs.Prelude.way
 use Rattle.live_calls.proofs.LiveScenarios.{alone_read}
 
 -- ---- the words
@@ -42,10 +23,8 @@ are_plain words o same h = subst (LiveWords words) same h
 
 not_drawn : (o : Option Own) (p : Places) → is_live_word o ≡ true → drawing_by o p ≡ None
 not_drawn None p is = refl
-not_drawn (Some own.Run) p is = refl
 not_drawn (Some own.Generate) p is = absurd cc
-not_drawn (Some own.Dump) p is = refl
-not_drawn (Some own.Live) p is = refl
+not_drawn _ p is = refl
 
 -- words that ask for a live run ask of a scenario that is read
 pub live_reads : (p : Places) → is_live p ≡ true → drawing_of p ≡ None
@@ -129,14 +108,12 @@ module _ (c : Call) where
   fault_back w ends_so is = let at : LiveEnds c way.Fault = subst (LiveEnds c) is ends_so in (at.0, at.1)
 
   fault_on : (w : Way) (f : Fault) → LiveEnds c w → live_scenario c.bytes ≡ Err f → (status_of w ≡ 2) ⊎ (status_of w ≡ 3) ⊎ (status_of w ≡ 6)
-  fault_on (way.Reported refused) f ends_so fault_as = absurd (sound c.bytes ends_so.scenario f ends_so.read fault_as)
   fault_on way.Drawn f ends_so fault_as = absurd ends_so
   fault_on way.Usage f ends_so fault_as = absurd ends_so
   fault_on way.Fault f ends_so fault_as = inl refl
   fault_on way.Source f ends_so fault_as = inr (inl refl)
-  fault_on way.Sink f ends_so fault_as = absurd (sound c.bytes ends_so.scenario f ends_so.read fault_as)
-  fault_on way.Keeper f ends_so fault_as = absurd (sound c.bytes ends_so.scenario f ends_so.read fault_as)
   fault_on way.Memory f ends_so fault_as = inr (inr refl)
+  fault_on _ f ends_so fault_as = absurd (sound c.bytes ends_so.scenario f ends_so.read fault_as)
 
   pub faults : (w : Way) → LiveEnds c w → FaultsBy (live_scenario c.bytes) (status_of w)
   faults w ends_so = record {

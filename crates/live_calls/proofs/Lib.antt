@@ -1,3 +1,4 @@
+mod Prelude
 pub mod Alike
 pub mod Ends
 pub mod LiveScenarios

@@ -1,17 +1,11 @@
 -- What a live run reads.
 use Rattle.std.proofs.Common.{◌≡◌, ◌∙◌, ℕ, List, Ok, Err, ap}
 use Rattle.std.specs.Prelude.{Result}
-use Rattle.orch_base.specs.Gives.{Gives, ◌>>=◌}
-use Rattle.scenarios.specs.declared.scenario.Scenario.{Scenario}
-use Rattle.scenario_values.specs.declared.fault.Fault.{Fault}
-use Rattle.scenario_values.specs.declared.fault.ReadFault.{ReadFault}
-use Rattle.scenario_values.specs.declared.fault.ReadFault.TheVariants as reading
-use Rattle.scenario_values.specs.Faults.{fault_of}
-use Rattle.scenario_reader.specs.Scenarios.{scenario_in}
-use Rattle.top_call.specs.declared.reading.Stop.{Stop}
-use Rattle.top_call.specs.declared.reading.Stop.TheVariants as stops
-use Rattle.top_call.specs.Reads.{ReadsAs, stop_by}
-use Rattle.live_calls.specs.Reads.{live_scenario, of_one, one_node}
+use Rattle.live_calls.proofs.Prelude.{Fault, Gives, ReadFault, ReadsAs, Scenario, Stop, fault_of, live_scenario, of_one, one_node, scenario_in}
+use Rattle.live_calls.proofs.Prelude.{stop_by}
+use Rattle.live_calls.proofs.Prelude.reading
+use Rattle.live_calls.proofs.Prelude.stops
+use Rattle.top_call.specs.OrchBase.Gives.{◌>>=◌}
 
 -- a fault of the bytes is met before
 pub stays_read : (bytes : List ℕ) (e : Stop) → ReadsAs (scenario_in bytes) (Err e) → ReadsAs (live_scenario bytes) (Err e)

@@ -1,22 +1,9 @@
 -- What a live run writes and keeps.
 use Rattle.std.proofs.Common.{◌≡◌, ◌∙◌, ℕ, List, Option, ap, subst, inr}
-use Rattle.kept_rows.specs.declared.row.Row.{Row}
-use Rattle.orch_base.specs.Names.{HostPort}
-use Rattle.orch_core.specs.Runs.{Recorded}
-use Rattle.orch_core.specs.States.{State}
-use Rattle.scenarios.specs.declared.scenario.Scenario.{Scenario}
-use Rattle.scenarios.specs.Scenarios.{names_of}
-use Rattle.turns.specs.declared.turn.Turn.{Turn}
-use Rattle.turns.specs.declared.reply.Reply.{Reply}
-use Rattle.live_desk.specs.Desks.{run_of}
-use Rattle.live_desk.specs.Ends.{IsLive, rows_after, state_after}
-use Rattle.live_desk.specs.Entries.{Entry, turns_in}
-use Rattle.schedules.specs.Turns.{schedule_line}
-use Rattle.tasks.specs.declared.ending.Ending.{Ending}
-use Rattle.tasks.specs.declared.ending.Ending.TheVariants as ends
-use Rattle.tasks.specs.Journals.{JournalStands, told_run}
-use Rattle.tasks.specs.Sinks.{End}
-use Rattle.live_calls.specs.Reports.{Delivers, LiveReport, Ran, live_report, run_report}
+use Rattle.live_calls.proofs.Prelude.{Delivers, End, Ending, Entry, HostPort, IsLive, JournalStands, LiveReport, Ran, Recorded, Reply, Row, Scenario}
+use Rattle.live_calls.proofs.Prelude.{State, Turn, live_report, names_of, rows_after, run_of, run_report, schedule_line, state_after, told_run}
+use Rattle.live_calls.proofs.Prelude.{turns_in}
+use Rattle.live_calls.proofs.Prelude.ends
 
 -- the rows are kept, and behind that it is written
 pub delivered : (names : List HostPort) (ts : List Turn) (run : Recorded) (rows : List Row) (head : List ℕ) (old new : Option (List Row)) (out : End) (ending : Ending) → head ≡ schedule_line names ts → new ≡ (run_report names ts run rows old).kept

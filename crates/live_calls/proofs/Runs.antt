@@ -1,11 +1,7 @@
 -- What holds of each state of a live run.
 use Rattle.std.proofs.Common.{ℕ, List, [], refl}
-use Rattle.scenario_reader.proofs.Sound.{scenario_in_sound}
-use Rattle.live_desk.specs.Desks.{run_of}
-use Rattle.orch_core.specs.Scenarios.{start}
-use Rattle.tasks.specs.Works.{Comes}
-use Rattle.top_call.proofs.Runs.{alone, begins, finishes, holds, hooks, loses, obeys_at}
-use Rattle.live_calls.specs.Runs.{LiveGoesWell, live_work}
+use Rattle.live_calls.proofs.Prelude.{Comes, LiveGoesWell, alone, begins, finishes, holds, hooks, live_work, loses, obeys_at, run_of}
+use Rattle.live_calls.proofs.Prelude.{scenario_in_sound, start}
 
 pub goes_well : (words : List (List ℕ)) (bytes : List ℕ) → LiveGoesWell words bytes
 goes_well words bytes = λ p s ts taken live read all.

@@ -1,13 +1,7 @@
 -- A schedule as the turns of a scenario.
 use Rattle.std.specs.Prelude.{◌≡◌, ℕ, Bool, List, []}
-use Rattle.scenarios.specs.declared.scenario.Scenario.{Scenario}
-use Rattle.scenarios.specs.Scenarios.{flushes_of, names_of, room_of}
-use Rattle.turns.specs.declared.turn.Turn.{Turn}
-use Rattle.live_desk.specs.Desks.{run_of}
-use Rattle.tasks.specs.declared.asked.Asked.TheVariants as asked
-use Rattle.tasks.specs.declared.asked.Task.{Task}
-use Rattle.tasks.specs.Known.{task_answer}
-use Rattle.tasks.specs.Report.{run_answer}
+use Rattle.live_calls.specs.Prelude.{Scenario, Task, Turn, flushes_of, names_of, room_of, run_answer, run_of, task_answer}
+use Rattle.live_calls.specs.Prelude.asked
 
 abbrev pub with_turns : Scenario → List Turn → Scenario
 with_turns s ts = record s { turns = ts }

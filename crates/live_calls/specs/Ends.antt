@@ -1,19 +1,8 @@
 -- How a call ends that asks for a live run.
 use Rattle.std.specs.Prelude.{◌≡◌, ℕ, ◌⊎◌, true, false, List, [], codes, IfSome, Option, Some, None, Ok, Err}
-use Rattle.kept_rows.specs.declared.row.Row.{Row}
-use Rattle.scenarios.specs.declared.scenario.Scenario.{Scenario}
-use Rattle.scenario_values.specs.declared.fault.Fault.{Fault}
-use Rattle.scenario_reader.specs.Scenarios.{scenario_in}
-use Rattle.command_line.specs.declared.parts.Places.{Places}
-use Rattle.command_line.specs.Places.{is_live, places_of}
-use Rattle.live_desk.specs.Ends.{IsLive}
-use Rattle.live_desk.specs.Entries.{Entry}
-use Rattle.tasks.specs.Sinks.{End, FailsIn, Takes, TakesFront, TakesLine}
-use Rattle.top_call.specs.Ends.{Call, FaultsBy, Idles, call, status_of}
-use Rattle.top_call.specs.Faults.{fault_text}
-use Rattle.top_call.specs.Reads.{OfRead}
-use Rattle.top_call.specs.declared.way.Way.{Way}
-use Rattle.top_call.specs.declared.way.Way.TheVariants as way
+use Rattle.live_calls.specs.Prelude.{Call, End, Entry, FailsIn, Fault, FaultsBy, Idles, IsLive, OfRead, Places, Row, Scenario, Takes, TakesFront}
+use Rattle.live_calls.specs.Prelude.{TakesLine, Way, call, fault_text, is_live, places_of, scenario_in, status_of}
+use Rattle.live_calls.specs.Prelude.way
 use Rattle.live_calls.specs.Reads.{live_scenario}
 use Rattle.live_calls.specs.Reports.{LiveReport, live_report}
 

@@ -1,11 +1,7 @@
 -- What a live run reads: a scenario of one orchestrator.
 use Rattle.std.specs.Prelude.{ℕ, ◌==◌, List, codes, Result, Ok}
-use Rattle.orch_base.specs.Gives.{◌>>=◌}
-use Rattle.scenarios.specs.declared.scenario.Scenario.{Scenario}
-use Rattle.scenario_values.specs.declared.fault.Fault.{Fault}
-use Rattle.scenario_values.specs.declared.fault.FaultCode.TheVariants.{NodeTurn}
-use Rattle.scenario_values.specs.Faults.{holds, under}
-use Rattle.scenario_reader.specs.Scenarios.{scenario_in}
+use Rattle.live_calls.specs.Prelude.{Fault, NodeTurn, Scenario, holds, scenario_in, under}
+use Rattle.top_call.specs.OrchBase.Gives.{◌>>=◌}
 
 -- several orchestrators are a fault at their number
 abbrev pub one_node : ℕ → Result (Unit {0}) Fault

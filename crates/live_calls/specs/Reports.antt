@@ -1,23 +1,8 @@
 -- What is written of a live run, and what is kept.
 use Rattle.std.specs.Prelude.{◌≡◌, ◌⊎◌, ◌++◌, ℕ, Bool, List, [], map, Option}
-use Rattle.std.specs.Option.{option_map}
-use Rattle.kept_rows.specs.declared.row.Row.{Row}
-use Rattle.kept_rows.specs.declared.row.Change.{Change}
-use Rattle.kept_rows.specs.declared.row.Change.TheVariants.{Put}
-use Rattle.kept_rows.specs.Rows.{changed}
-use Rattle.orch_base.specs.Names.{HostPort}
-use Rattle.orch_core.specs.Runs.{Recorded}
-use Rattle.scenarios.specs.declared.scenario.Scenario.{Scenario}
-use Rattle.scenarios.specs.Scenarios.{names_of}
-use Rattle.turns.specs.declared.turn.Turn.{Turn}
-use Rattle.live_desk.specs.Desks.{run_of}
-use Rattle.live_desk.specs.Ends.{IsLive, rows_after}
-use Rattle.live_desk.specs.Entries.{Entry, turns_in}
-use Rattle.schedules.specs.Turns.{schedule_line}
-use Rattle.tasks.specs.declared.ending.Ending.{Ending}
-use Rattle.tasks.specs.declared.ending.Ending.TheVariants as ends
-use Rattle.tasks.specs.Report.{any_refused, report_text}
-use Rattle.tasks.specs.Sinks.{End, FailsIn, Takes, TakesFront}
+use Rattle.live_calls.specs.Prelude.{Change, End, Ending, Entry, FailsIn, HostPort, IsLive, Put, Recorded, Row, Scenario, Takes, TakesFront, Turn}
+use Rattle.live_calls.specs.Prelude.{any_refused, changed, names_of, option_map, report_text, rows_after, run_of, schedule_line, turns_in}
+use Rattle.live_calls.specs.Prelude.ends
 
 -- what is to be written, whether a reply in it is refused or failed, and the keeper's rows then, where it tells them
 pub record LiveReport : Type 0 where

@@ -1,25 +1,9 @@
 -- What holds of each state of a live run: whatever turns its threads take, in whatever order.
 use Rattle.std.specs.Prelude.{All, ◌≡◌, ℕ, true, List, [], length, Some, Ok}
-use Rattle.kept_rows.specs.declared.row.Row.{Row}
-use Rattle.commands.specs.declared.line.Line.{Line}
-use Rattle.commands.specs.declared.turn.CommandTurn.{CommandTurn}
-use Rattle.command_line.specs.declared.parts.Places.{Places}
-use Rattle.command_line.specs.Places.{is_live, places_of}
-use Rattle.jobs_in_flight.specs.Jobs.{job_at}
-use Rattle.live_desk.specs.Desks.{run_of}
-use Rattle.orch_core.specs.Runs.{Recorded}
-use Rattle.recovery_plans.specs.Recoveries.{Recovery}
-use Rattle.recovery_runs.specs.Finishes.{IsFinish}
-use Rattle.scenarios.specs.declared.scenario.Scenario.{Scenario}
-use Rattle.scenarios.specs.Scenarios.{names_of}
-use Rattle.scenarios.specs.Turns.{IsTurnOf}
-use Rattle.scenario_reader.specs.Scenarios.{scenario_in}
-use Rattle.turns.specs.declared.turn.Turn.{Turn}
-use Rattle.tasks.specs.Asked.{task_of}
-use Rattle.tasks.specs.Works.{Work}
-use Rattle.unended_jobs.specs.declared.docket.Docket.{Docket}
-use Rattle.unended_jobs.specs.declared.unended.Unended.TheVariants as unended
-use Rattle.top_call.specs.Runs.{BeginsApart, Finishes, IsActiveAlone, IsSafeState, Obeys, TellsHooks, TellsTruly}
+use Rattle.live_calls.specs.Prelude.{BeginsApart, CommandTurn, Docket, Finishes, IsActiveAlone, IsFinish, IsSafeState, IsTurnOf, Line, Obeys, Places}
+use Rattle.live_calls.specs.Prelude.{Recorded, Recovery, Row, Scenario, TellsHooks, TellsTruly, Turn, Work, is_live, job_at, names_of, places_of}
+use Rattle.live_calls.specs.Prelude.{run_of, scenario_in, task_of}
+use Rattle.live_calls.specs.Prelude.unended
 
 -- the words' task over the scenario, by rows in memory
 abbrev pub live_work : Places → Scenario → List Turn → Work

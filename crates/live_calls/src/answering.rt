@@ -1,26 +1,20 @@
 //! What is answered to words that ask for a live run.
 
 ghost use Rattle.std.specs.Prelude.{◌≡◌, IfSome, true};
-ghost use Rattle.std.specs.Io.KnownBytes.{Consumes};
-ghost use Rattle.command_line.specs.Places.{is_live};
-ghost use Rattle.orch_base.specs.Causes.{Rose};
-ghost use Rattle.scenarios.specs.Scenarios.{IsScenario};
-ghost use Rattle.tasks.specs.Asked.{IsTaken};
-ghost use Rattle.tasks.specs.Sinks.{across};
-ghost use Rattle.top_call.specs.Ends.{IsReported, StopsAtFirst, status_of};
+ghost use Rattle.live_calls.specs.Prelude.{Consumes, IsReported, IsScenario, IsTaken, Rose, StopsAtFirst, across, is_live, status_of};
 ghost use Rattle.live_calls.specs.Ends.{LiveEndsOf, LiveEndsOver};
 
+use crate::command_line::Places;
 use crate::delivery::told;
+use crate::kept_rows_items::Keeper;
+use crate::orch_base::{Sink, Source};
 use crate::reading::live_scenario_from;
-use command_line::Places;
+use crate::scenarios_items::Scenario;
+use crate::tasks::Ending;
 use gates::Gate;
-use kept_rows::Keeper;
-use orch_base::{Sink, Source};
-use scenarios::Scenario;
 use std::alloc::Global;
 use std::sync::Wait;
 use std::thread::Threads;
-use tasks::Ending;
 use top_call::{Stop, Way, close, close_fault};
 
 // Runs the scenario in threads, and writes what the words ask.

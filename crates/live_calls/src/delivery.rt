@@ -1,27 +1,22 @@
 //! A live run, and what is written of it.
 
-ghost use Rattle.scenarios.specs.Scenarios.{IsScenario};
-ghost use Rattle.live_desk.specs.Entries.{turns_in};
-ghost use Rattle.tasks.specs.Asked.{IsTaken};
-ghost use Rattle.tasks.specs.Endings.{HasKeepersCause};
-ghost use Rattle.tasks.specs.Journals.{told_run};
-ghost use Rattle.tasks.specs.Sinks.{across};
+ghost use Rattle.live_calls.specs.Prelude.{HasKeepersCause, IsScenario, IsTaken, across, told_run, turns_in};
 ghost use Rattle.live_calls.specs.Reports.{Delivers, LiveTells, run_report};
 
+use crate::command_line::Places;
+use crate::kept_rows_items::{Keeper, KeeperFault, Row};
+use crate::orch_base::{Name, Sink};
+use crate::orch_core_items::Engine;
 use crate::rows::keep_rows;
-use command_line::Places;
+use crate::scenarios_items::Scenario;
+use crate::tasks::{Ending, journal_report, names_of};
+use crate::turns::{Reply, Turn};
 use gates::Gate;
-use kept_rows::{Keeper, KeeperFault, Row};
 use live_desk::{Ended, live_to_end};
-use orch_base::{Name, Sink};
-use orch_core::Engine;
-use scenarios::Scenario;
 use schedules::schedule_text;
 use std::alloc::Global;
 use std::sync::Wait;
 use std::thread::Threads;
-use tasks::{Ending, journal_report, names_of};
-use turns::{Reply, Turn};
 
 /// So many turns a poller or a worker takes, and the driver beside the scenario's own.
 const BUDGET: u32 = 10_000;

@@ -1,22 +1,17 @@
 //! The scenario that threads run.
 
 ghost use Rattle.std.specs.Prelude.{◌≡◌, IfOk, IfSome, Err};
-ghost use Rattle.std.specs.Io.KnownBytes.{Consumes};
-ghost use Rattle.orch_base.specs.Causes.{Rose};
-ghost use Rattle.orch_base.specs.Gives.{Gives};
-ghost use Rattle.scenario_values.specs.Faults.{fault_of};
-ghost use Rattle.scenarios.specs.Scenarios.{IsScenario};
-ghost use Rattle.top_call.specs.Reads.{OfRead, ReadsAs};
+ghost use Rattle.live_calls.specs.Prelude.{Consumes, Gives, IsScenario, OfRead, ReadsAs, Rose, fault_of};
 ghost use Rattle.live_calls.specs.Reads.{live_scenario, one_node};
 
-use orch_base::Source;
-use scenario_values::{FaultCode, ReadFault, holds, under};
-use scenarios::Scenario;
+use crate::orch_base::Source;
+use crate::scenario_values::{FaultCode, ReadFault, holds, under};
+use crate::scenarios_items::Scenario;
 use std::alloc::Global;
 use top_call::{Stop, scenario_from, stop_by};
 
 // Nothing, where there is one orchestrator.
-#[tactic(auto, using(scenario_values::proofs::Unders::gives_under))]
+#[tactic(auto, using(crate::proofs::Prelude::gives_under))]
 fn one_node(alloc: Global, nodes: u32) -> Result<(), ReadFault>
     ensures { Gives (λ _. tt) fault_of result (one_node nodes) }
 {

@@ -1,11 +1,11 @@
 //! The rows of a live run, for the caller's keeper.
 
 ghost use Rattle.std.specs.Prelude.{◌≡◌, IfOk};
-ghost use Rattle.kept_rows.specs.Keeping.{HasKeeperCause, KeepsAll};
+ghost use Rattle.live_calls.specs.Prelude.{HasKeeperCause, KeepsAll};
 ghost use Rattle.live_calls.specs.Reports.{puts};
 
-use kept_rows::{Change, Keeper, KeeperFault, Row};
-use orch_base::{Memory, Name};
+use crate::kept_rows_items::{Change, Keeper, KeeperFault, Row};
+use crate::orch_base::{Memory, Name};
 use std::alloc::Global;
 
 // Changes that put each of the rows.

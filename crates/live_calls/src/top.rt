@@ -1,21 +1,17 @@
 //! The top call.
 
 ghost use Rattle.std.specs.Prelude.{◌≡◌, ◌⊎◌, ℕ, List, map, IfOk, IfSome};
-ghost use Rattle.command_line.specs.declared.parts.Drawing.{Drawing};
-ghost use Rattle.orch_base.specs.Causes.{Rose};
-ghost use Rattle.tasks.specs.Sinks.{across};
-ghost use Rattle.top_call.specs.Ends.{AskToDraw, DrawEnds, EndsBy, FaultsOf, IsComplete, IsGood, IsUsage, NoneRose, ReadsWhole, StopsAtFirst, call};
-ghost use Rattle.top_call.specs.Reads.{OfRead};
-ghost use Rattle.top_call.specs.Report.{ByReport, EndsAs, KeepsRows, WritesErr, WritesOut};
-ghost use Rattle.top_call.specs.Runs.{ActAlone, BeginApart, FinishWell, IsSafeRun, ObeysTable, TellHooks, TellTruly};
+ghost use Rattle.live_calls.specs.Prelude.{ActAlone, AskToDraw, BeginApart, ByReport, DrawEnds, Drawing, EndsAs, EndsBy, FaultsOf, FinishWell};
+ghost use Rattle.live_calls.specs.Prelude.{IsComplete, IsGood, IsSafeRun, IsUsage, KeepsRows, NoneRose, ObeysTable, OfRead, ReadsWhole, Rose};
+ghost use Rattle.live_calls.specs.Prelude.{StopsAtFirst, TellHooks, TellTruly, WritesErr, WritesOut, across, call};
 ghost use Rattle.live_calls.specs.Ends.{AskLive, IsPlain, LiveEndsBy, LiveFaultsOf, LiveWords, RunsAlone};
 ghost use Rattle.live_calls.specs.Runs.{LiveGoesWell};
 
 use crate::answering::answer;
-use command_line::{Places, Usage, places};
+use crate::command_line::{Places, Usage, places};
+use crate::kept_rows_items::Keeper;
+use crate::orch_base::{Memory, Sink, Source};
 use gates::Gate;
-use kept_rows::Keeper;
-use orch_base::{Memory, Sink, Source};
 use std::alloc::Global;
 use std::sync::Wait;
 use std::thread::Threads;

@@ -1,24 +1,10 @@
 -- A desk keeps what it keeps.
 use Rattle.std.proofs.Common.{◌≡◌, ◌∙◌, ℕ, Bool, true, false, cond, List, [], ◌∷◌, ◌++◌, length, drop, refl, sym, ap, subst, append_assoc, append-nil, inl, inr, ⊎_elim}
 use Rattle.std.specs.Prelude.{All}
-use Rattle.std.proofs.lemmas.List.Elements.{All-append, All-cons, All-nil}
-use Rattle.std.proofs.lemmas.List.Sums.{fold-append}
-use Rattle.kept_rows.specs.declared.row.Row.{Row}
-use Rattle.scenarios.specs.declared.scenario.Scenario.{Scenario}
-use Rattle.turns.specs.declared.turn.Turn.{Turn}
-use Rattle.turns.specs.declared.reply.Reply.{Reply}
-use Rattle.orch_core.specs.Runs.{Held, Recorded, held_step, record_turn, recorder}
-use Rattle.orch_core.specs.Scenarios.{start, start_changes}
-use Rattle.orch_core.specs.States.{State, nodes_of}
-use Rattle.scenarios.specs.Scenarios.{IsScenario}
-use Rattle.scenarios.specs.Turns.{IsTurn, NamesOneOf}
-use Rattle.kept_rows.specs.Rows.{changed}
-use Rattle.orch_core.specs.Polls.{changes_of}
-use Rattle.orch_core.specs.Replies.{reply_of}
-use Rattle.live_desk.specs.Kinds.{is_command}
-use Rattle.live_desk.specs.Desks.{DeskState, IsDesk, IsDriven, IsNext, IsNextOfAny, MayTake, held_of, made, opening, run_of, taken}
-use Rattle.live_desk.specs.DeskBy.{left_from}
-use Rattle.live_desk.specs.Entries.{Entry, commands_in, driver_list, drives, entries_of, others_in, pairs_in, turns_in}
+use Rattle.live_desk.proofs.Prelude.{All-append, All-cons, All-nil, DeskState, Entry, Held, IsDesk, IsDriven, IsNext, IsNextOfAny, IsScenario, IsTurn}
+use Rattle.live_desk.proofs.Prelude.{MayTake, NamesOneOf, Recorded, Reply, Row, Scenario, State, Turn, changed, changes_of, commands_in, driver_list}
+use Rattle.live_desk.proofs.Prelude.{drives, entries_of, fold-append, held_of, held_step, is_command, left_from, made, nodes_of, opening, others_in}
+use Rattle.live_desk.proofs.Prelude.{pairs_in, record_turn, recorder, reply_of, run_of, start, start_changes, taken, turns_in}
 use Rattle.live_desk.proofs.Entries.{driver-append, entries-push, pairs-append, those-append, turns-append}
 
 -- the opening

@@ -1,28 +1,10 @@
 -- The end of a live run.
 use Rattle.std.proofs.Common.{◌≡◌, ◌∙◌, ℕ, zero, suc, Bool, true, cond, List, [], ◌∷◌, ◌++◌, length, get_or, map, refl, subst, sym, ap, Some, append_assoc, append-nil}
 use Rattle.std.specs.Prelude.{All, ◌<◌, slice_get, is_some, ◌==◌}
-use Rattle.std.specs.List.{flat_map}
-use Rattle.std.proofs.lemmas.Bool.{eq-eqb}
-use Rattle.std.proofs.lemmas.List.Elements.{All-append, All-nil}
-use Rattle.std.proofs.lemmas.List.Sums.{fold-append}
-use Rattle.std.proofs.lemmas.Option.{same_Some}
-use Rattle.orch_base.specs.declared.server.ServerNo.{ServerNo}
-use Rattle.kept_rows.specs.declared.row.Row.{Row}
-use Rattle.scenarios.specs.Turns.{IsTurn, NamesOneOf}
-use Rattle.turns.specs.declared.turn.Turn.{Turn}
-use Rattle.turns.specs.declared.reply.Reply.{Reply}
-use Rattle.unended_jobs.specs.declared.unended.Unended.{Unended}
-use Rattle.jobs_in_flight.specs.Jobs.{is_open, job_at}
-use Rattle.name_order.specs.NameOrder.{by_name}
-use Rattle.unended_jobs.specs.Unended.{number_of}
-use Rattle.jobs_in_flight.specs.Rounds.{polls, replicates, round_over}
-use Rattle.orch_core.specs.Rounds.{Finished, IsFinish, round_of, times}
-use Rattle.orch_core.specs.Runs.{Held, Recorded, held_run, held_step, recorder}
-use Rattle.orch_core.specs.Replies.{reply_of}
-use Rattle.orch_core.proofs.Finishing.{named-round, turns-round}
-use Rattle.live_desk.specs.Desks.{DeskState, IsDesk, held_of, opening, run_of}
-use Rattle.live_desk.specs.Ends.{Finishes, IsLive, RunsOn}
-use Rattle.live_desk.specs.Entries.{Entry, commands_in, driver_list, entries_of, others_in, turns_in}
+use Rattle.live_desk.proofs.Prelude.{All-append, All-nil, DeskState, Entry, Finished, Finishes, Held, IsDesk, IsFinish, IsLive, IsTurn, NamesOneOf}
+use Rattle.live_desk.proofs.Prelude.{Recorded, Reply, Row, RunsOn, ServerNo, Turn, Unended, by_name, commands_in, driver_list, entries_of, eq-eqb}
+use Rattle.live_desk.proofs.Prelude.{flat_map, fold-append, held_of, held_run, held_step, is_open, job_at, named-round, number_of, opening, others_in}
+use Rattle.live_desk.proofs.Prelude.{polls, recorder, replicates, reply_of, round_of, round_over, run_of, same_Some, times, turns-round, turns_in}
 use Rattle.live_desk.proofs.Entries.{driver-append, entries-more, pairs-entries, those-append, turns-append, turns-pairs}
 
 -- one more entry

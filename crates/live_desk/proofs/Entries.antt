@@ -1,12 +1,8 @@
 -- Entries of a journal.
 use Rattle.std.proofs.Common.{◌≡◌, ◌∙◌, ℕ, suc, ◌+◌, Bool, true, false, cond, List, [], ◌∷◌, ◌++◌, length, map, refl, sym, ap, arith}
 use Rattle.std.specs.Prelude.{◌==◌}
-use Rattle.std.proofs.lemmas.List.{length-append, map-append}
-use Rattle.std.proofs.lemmas.List.Elements.{filter-append}
-use Rattle.std.proofs.lemmas.Bool.{eq-eqb}
-use Rattle.turns.specs.declared.turn.Turn.{Turn}
-use Rattle.turns.specs.declared.reply.Reply.{Reply}
-use Rattle.live_desk.specs.Entries.{Entry, Stands, driver_entries, driver_list, drives, entries_of, is_of, pairs_in, places_from, places_of, those_in, turns_in}
+use Rattle.live_desk.proofs.Prelude.{Entry, Reply, Stands, Turn, driver_entries, driver_list, drives, entries_of, eq-eqb, filter-append, is_of}
+use Rattle.live_desk.proofs.Prelude.{length-append, map-append, pairs_in, places_from, places_of, those_in, turns_in}
 
 pub pairs-entries : (ns : List ℕ) (ps : List (Turn × Reply)) → pairs_in (entries_of ns ps) ≡ ps
 pairs-entries ns [] = refl

@@ -1,3 +1,4 @@
+mod Prelude
 pub mod Cursors
 pub mod Entries
 pub mod Desks

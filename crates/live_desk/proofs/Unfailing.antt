@@ -1,7 +1,6 @@
 -- A keeper in memory that is to fail at no call.
 use Rattle.std.proofs.Common.{◌≡◌, List, [], Bool, false, cond, ℕ, ap}
-use Rattle.orch_base.specs.Memory.{fails_next, next_count}
-use Rattle.kept_rows.specs.Keeping.{Kept, after_call}
+use Rattle.live_desk.proofs.Prelude.{Kept, after_call, fails_next, next_count}
 
 pub never_fails : (k : Kept) → k.fail_at ≡ [] → fails_next k.fail_at k.calls ≡ false
 never_fails k none = ap (λ (ns : List ℕ). fails_next ns k.calls) none

@@ -1,5 +1,5 @@
 use Rattle.std.specs.Prelude.{◌≡◌, ◌≤◌, ℕ, Bool, true, false, IfSome, List, drop, length, slice_get}
-use Rattle.turns.specs.declared.turn.Turn.{Turn}
+use Rattle.orch_core.specs.Turns.declared.turn.Turn.{Turn}
 use Rattle.live_desk.specs.Entries.{entries_of, is_of, those_in}
 use Rattle.live_desk.specs.Desks.{DeskState, IsDesk}
 use Rattle.live_desk.specs.declared.desk.Desk.TheInside.{Inside}

@@ -1,14 +1,14 @@
 -- A desk: the run of a scenario over its journal, and what is left of the scenario's turns.
 use Rattle.std.specs.Prelude.{All, Bool, ◌≡◌, ◌⊎◌, ℕ, ⊤, true, if◌then◌else◌, List, [], ◌∷◌, ◌++◌, drop, length}
-use Rattle.kept_rows.specs.declared.row.Row.{Row}
-use Rattle.scenarios.specs.declared.scenario.Scenario.{Scenario}
-use Rattle.turns.specs.declared.turn.Turn.{Turn}
-use Rattle.kept_rows.specs.Rows.{changed}
+use Rattle.orch_core.specs.KeptRows.declared.row.Row.{Row}
+use Rattle.orch_core.specs.Scenarios.declared.scenario.Scenario.{Scenario}
+use Rattle.orch_core.specs.Turns.declared.turn.Turn.{Turn}
+use Rattle.orch_core.specs.KeptRows.Rows.{changed}
 use Rattle.orch_core.specs.Runs.{Held, Recorded, held_run, held_step, recorder}
-use Rattle.orch_core.specs.Scenarios.{start, start_changes, without_turns}
+use Rattle.orch_core.specs.Starts.{start, start_changes, without_turns}
 use Rattle.orch_core.specs.States.{nodes_of}
-use Rattle.scenarios.specs.Scenarios.{IsScenario}
-use Rattle.scenarios.specs.Turns.{IsTurn, NamesOneOf}
+use Rattle.orch_core.specs.Scenarios.Scenarios.{IsScenario}
+use Rattle.orch_core.specs.Scenarios.ValidTurns.{IsTurn, NamesOneOf}
 use Rattle.orch_core.specs.Replies.{reply_of}
 use Rattle.live_desk.specs.Kinds.{is_command}
 use Rattle.live_desk.specs.Entries.{Entry, is_of, turns_in, pairs_in, commands_in, others_in, drives, driver_list}

@@ -1,10 +1,10 @@
 -- What a live run promises of its journal.
 use Rattle.std.specs.Prelude.{All, ◌≡◌, ℕ, List, [], ◌∷◌, ◌++◌, length, map}
-use Rattle.kept_rows.specs.declared.row.Row.{Row}
-use Rattle.scenarios.specs.declared.scenario.Scenario.{Scenario}
-use Rattle.scenarios.specs.Turns.{IsTurn, NamesOneOf}
-use Rattle.turns.specs.declared.turn.Turn.{Turn}
-use Rattle.turns.specs.declared.reply.Reply.{Reply}
+use Rattle.orch_core.specs.KeptRows.declared.row.Row.{Row}
+use Rattle.orch_core.specs.Scenarios.declared.scenario.Scenario.{Scenario}
+use Rattle.orch_core.specs.Scenarios.ValidTurns.{IsTurn, NamesOneOf}
+use Rattle.orch_core.specs.Turns.declared.turn.Turn.{Turn}
+use Rattle.orch_core.specs.Turns.declared.reply.Reply.{Reply}
 use Rattle.orch_core.specs.Rounds.{IsFinish, round_of, times}
 use Rattle.orch_core.specs.Runs.{Held, Recorded, held_run, recorder}
 use Rattle.orch_core.specs.States.{State}

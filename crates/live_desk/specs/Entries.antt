@@ -1,7 +1,7 @@
 -- Journals with numbers: who took which turn, and what it answered.
 use Rattle.std.specs.Prelude.{◌≡◌, ◌≤◌, ℕ, ◌+◌, ◌&&◌, ◌==◌, nat_le, not, Bool, true, false, if◌then◌else◌, List, [], ◌∷◌, filter, map, length}
-use Rattle.turns.specs.declared.turn.Turn.{Turn}
-use Rattle.turns.specs.declared.reply.Reply.{Reply}
+use Rattle.orch_core.specs.Turns.declared.turn.Turn.{Turn}
+use Rattle.orch_core.specs.Turns.declared.reply.Reply.{Reply}
 use Rattle.live_desk.specs.Kinds.{is_command}
 
 -- the number of the one who took a turn, the turn, and its reply

@@ -1,11 +1,11 @@
 -- Kinds of turns: commands, and the turns by which replicas follow their sources.
 use Rattle.std.specs.Prelude.{Bool, true, false}
-use Rattle.turns.specs.declared.turn.Act.{Act}
-use Rattle.turns.specs.declared.turn.Act.TheVariants as act
-use Rattle.turns.specs.declared.turn.Step.{Step}
-use Rattle.turns.specs.declared.turn.Step.TheVariants as step
-use Rattle.turns.specs.declared.turn.Turn.{Turn}
-use Rattle.turns.specs.declared.turn.Turn.TheVariants as turn
+use Rattle.orch_core.specs.Turns.declared.turn.Act.{Act}
+use Rattle.orch_core.specs.Turns.declared.turn.Act.TheVariants as act
+use Rattle.orch_core.specs.Turns.declared.turn.Step.{Step}
+use Rattle.orch_core.specs.Turns.declared.turn.Step.TheVariants as step
+use Rattle.orch_core.specs.Turns.declared.turn.Turn.{Turn}
+use Rattle.orch_core.specs.Turns.declared.turn.Turn.TheVariants as turn
 
 abbrev pub is_command_act : Act → Bool
 is_command_act (act.PollRead p n) = false

@@ -1,9 +1,9 @@
 -- What the turns of a driver, a poller and a worker are.
 use Rattle.std.specs.Prelude.{◌≡◌, ℕ, Bool, true, false, [], Option, Some, None, length}
-use Rattle.orch_base.specs.declared.server.ServerNo.{ServerNo}
-use Rattle.turns.specs.declared.turn.Turn.{Turn}
-use Rattle.turns.specs.declared.turn.Turn.TheVariants as turn
-use Rattle.turns.specs.declared.turn.Act.TheVariants as act
+use Rattle.orch_core.specs.OrchBase.declared.server.ServerNo.{ServerNo}
+use Rattle.orch_core.specs.Turns.declared.turn.Turn.{Turn}
+use Rattle.orch_core.specs.Turns.declared.turn.Turn.TheVariants as turn
+use Rattle.orch_core.specs.Turns.declared.turn.Act.TheVariants as act
 use Rattle.orch_core.specs.Due.{IsDue}
 use Rattle.live_desk.specs.Desks.{DeskState, IsNextOf, IsNextOfAny, taken}
 use Rattle.live_desk.specs.Entries.{turns_in}

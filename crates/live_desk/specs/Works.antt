@@ -1,6 +1,6 @@
 -- What a worker has to do next.
 use Rattle.std.specs.Prelude.{◌≡◌, ℕ, ⊤, List, []}
-use Rattle.turns.specs.declared.turn.Turn.{Turn}
+use Rattle.orch_core.specs.Turns.declared.turn.Turn.{Turn}
 use Rattle.live_desk.specs.declared.roles.Work.{Work}
 use Rattle.live_desk.specs.declared.roles.Work.TheVariants as work
 

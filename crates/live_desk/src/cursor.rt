@@ -2,12 +2,12 @@
 
 ghost use Rattle.std.specs.Prelude.{◌≡◌, ◌≤◌, ℕ, [], All, IfSome, MatchOption, drop, length, true, if◌then◌else◌};
 ghost use Rattle.live_desk.specs.Kinds.{is_command, is_command_act};
-ghost use Rattle.scenarios.specs.Turns.{IsTurn, NamesOneOf};
+ghost use Rattle.orch_core.specs.Scenarios.ValidTurns.{IsTurn, NamesOneOf};
 ghost use Rattle.live_desk.specs.Entries.{is_of};
 ghost use Rattle.live_desk.specs.DeskBy.{IsAt, left_from};
 ghost use Rattle.live_desk.specs.Desks.{IsNext};
 
-use turns::{Act, Turn};
+use crate::turns::{Act, Turn};
 
 fn is_command_act(act: &Act) -> bool
     ensures { result ≡ is_command_act act.now }

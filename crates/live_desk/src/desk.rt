@@ -2,21 +2,21 @@
 
 ghost use Rattle.std.specs.Prelude.{◌≡◌, ◌<◌, ◌≤◌, ◌+◌, ◌∷◌, ◌++◌, ◌↔◌, [], All, IsTrue, IfOk, OnOk, OnErr, true, false, IfSome, MatchOption, length};
 ghost use Rattle.orch_core.specs.Due.{IsDue};
-ghost use Rattle.scenarios.specs.Scenarios.{IsScenario};
+ghost use Rattle.orch_core.specs.Scenarios.Scenarios.{IsScenario};
 ghost use Rattle.orch_core.specs.Replies.{reply_of};
-ghost use Rattle.scenarios.specs.Turns.{IsTurn, NamesOneOf};
+ghost use Rattle.orch_core.specs.Scenarios.ValidTurns.{IsTurn, NamesOneOf};
 ghost use Rattle.live_desk.specs.Entries.{Stands, drives, entries_of, is_of, turns_in};
 ghost use Rattle.live_desk.specs.Desks.{IsDesk, IsIdle, IsNext, MayTake, made, taken};
 
 use crate::cursor::{is_command, moved, next_at, turn_at};
+use crate::orch_base::{Memory, ServerNo};
 use crate::pass::Pass;
 use crate::rows::DeskRows;
-use orch_base::{Memory, ServerNo};
+use crate::scenarios_items::Scenario;
+use crate::turns::{Reply, Turn};
 use orch_core::{Orch, TurnFault};
-use scenarios::Scenario;
 use std::alloc::Global;
 use std::marker::Model;
-use turns::{Reply, Turn};
 
 /// A run of a scenario, who took which of its turns, and what is left of the scenario's turns.
 #[derive(Drop)]

@@ -1,20 +1,19 @@
 //! The end of a live run: the caller takes what is left, and finishes the jobs.
 
 ghost use Rattle.std.specs.Prelude.{◌≡◌, [], IfOk, OnOk, slice_index};
-ghost use Rattle.orch_core.specs.Runs.{Held, Recorded};
-ghost use Rattle.scenarios.specs.Scenarios.{IsScenario};
+ghost use Rattle.orch_core.specs.Scenarios.Scenarios.{IsScenario};
 ghost use Rattle.live_desk.specs.Entries.{entries_of};
 ghost use Rattle.live_desk.specs.Ends.{IsLive, RunsOn, rows_after, state_after};
 
+use crate::kept_rows_items::Row;
+use crate::orch_base::Memory;
 use crate::roles::Work;
 use crate::rows::DeskRows;
+use crate::scenarios_items::Scenario;
+use crate::turns::{Reply, Turn};
 use crate::{Desk, Pass};
-use kept_rows::Row;
-use orch_base::Memory;
 use orch_core::{Engine, Orch, TurnFault};
-use scenarios::Scenario;
 use std::alloc::Global;
-use turns::{Reply, Turn};
 
 /// The caller's number.
 const CALLER: u32 = 0;

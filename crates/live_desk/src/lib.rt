@@ -14,4 +14,5 @@ mod threads;
 pub use desk::Desk;
 pub use end::{Ended, Journal};
 pub use live_run::{live, live_to_end};
+use orch_core::{kept_rows_items, orch_base, scenarios_items, turns};
 pub use pass::Pass;

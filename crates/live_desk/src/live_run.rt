@@ -1,21 +1,21 @@
 //! A live run: its threads, and the caller's end.
 
 ghost use Rattle.std.specs.Prelude.{◌≡◌, ◌<◌, ◌^◌, IfOk, count_by, false};
-ghost use Rattle.scenarios.specs.Scenarios.{IsScenario};
+ghost use Rattle.orch_core.specs.Scenarios.Scenarios.{IsScenario};
 ghost use Rattle.live_desk.specs.Ends.{IsLive, rows_after, state_after};
 ghost use Rattle.live_desk.specs.Entries.{is_of};
 
 use crate::Desk;
 use crate::cursor::is_command;
 use crate::end::{Ended, Journal, desk_for};
+use crate::orch_base::Memory;
+use crate::scenarios_items::Scenario;
 use crate::tasks::{Shared, any_wanted, make_tasks, run_tasks};
+use crate::turns::Turn;
 use gates::Gate;
-use orch_base::Memory;
-use scenarios::Scenario;
 use std::alloc::Global;
 use std::sync::{Mutex, Wait};
 use std::thread::Threads;
-use turns::Turn;
 
 // How many of the turns are no command.
 fn count_listed(turns: &[Turn]) -> usize

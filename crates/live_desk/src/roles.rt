@@ -1,15 +1,15 @@
 //! The turns of a driver, a poller and a worker: each is one turn of the desk.
 
 ghost use Rattle.std.specs.Prelude.{◌≡◌, ◌≢◌, ◌⊎◌, ◌<◌, ◌≤◌, [], true, false, IfOk, OnErr, None, length};
-ghost use Rattle.scenarios.specs.Turns.{IsTurn, NamesOneOf};
+ghost use Rattle.orch_core.specs.Scenarios.ValidTurns.{IsTurn, NamesOneOf};
 ghost use Rattle.live_desk.specs.Desks.{IsIdle, IsNextOf};
 ghost use Rattle.live_desk.specs.Kinds.{is_replication};
 ghost use Rattle.live_desk.specs.Roles.{IsDrive, IsPoll, TakesOrEnds, Works};
 
+use crate::orch_base::Memory;
+use crate::turns::{Act, Reply, Step, Turn};
 use crate::{Desk, Pass};
-use orch_base::Memory;
 use std::alloc::Global;
-use turns::{Act, Reply, Step, Turn};
 
 /// What a worker has to do next.
 #[derive(Clone, Copy, Debug, PartialEq, Eq)]

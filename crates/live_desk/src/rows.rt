@@ -1,11 +1,11 @@
 //! The kept rows of a live run: they lie in memory, and their keeper never fails.
 
 ghost use Rattle.std.specs.Prelude.{◌≡◌, [], Some, IfSome, IfOk};
-ghost use Rattle.kept_rows.specs.Keeping.{KeepsAll, HasKeeperCause};
-ghost use Rattle.kept_rows.specs.Rows.{IsRising};
+ghost use Rattle.orch_core.specs.KeptRows.Keeping.{KeepsAll, HasKeeperCause};
+ghost use Rattle.orch_core.specs.KeptRows.Rows.{IsRising};
 
-use kept_rows::{Change, Keeper, KeeperFault, MemKeeper, Row};
-use orch_base::{Memory, Name};
+use crate::kept_rows_items::{Change, Keeper, KeeperFault, MemKeeper, Row};
+use crate::orch_base::{Memory, Name};
 use std::alloc::Global;
 use std::marker::Model;
 
@@ -17,7 +17,7 @@ pub(crate) struct DeskRows {
 
 impl Model for DeskRows {
     ghost use Rattle.std.specs.Prelude.{◌≡◌, [], List};
-    ghost use Rattle.kept_rows.specs.declared.row.Row.{Row as ARow};
+    ghost use Rattle.orch_core.specs.KeptRows.declared.row.Row.{Row as ARow};
 
     ghost Value = { List ARow };
 

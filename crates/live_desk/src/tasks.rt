@@ -3,10 +3,10 @@
 ghost use Rattle.std.specs.Prelude.{◌≡◌, ◌<◌, ◌≤◌, ◌^◌, true};
 ghost use Rattle.live_desk.specs.Tasks.{fits};
 
+use crate::orch_base::Memory;
 use crate::roles::Work;
 use crate::{Desk, Pass};
 use gates::Gate;
-use orch_base::Memory;
 use std::alloc::Global;
 use std::sync::{Mutex, Wait};
 use std::thread;

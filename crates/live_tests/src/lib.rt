@@ -5,3 +5,5 @@
 mod live;
 #[cfg(test)]
 mod meeting;
+
+use orch_core::{orch_base, scenarios_items, turns};

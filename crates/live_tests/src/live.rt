@@ -1,17 +1,17 @@
 //! Live runs whose threads meet, and others in which the caller does everything.
 
 ghost use Rattle.std.specs.Prelude.{IfOk};
-ghost use Rattle.scenarios.specs.Scenarios.{IsScenario};
+ghost use Rattle.orch_core.specs.Scenarios.Scenarios.{IsScenario};
 
 use crate::meeting::Meeting;
+use crate::orch_base::Memory;
+use crate::scenarios_items::Scenario;
+use crate::turns::{Act, Reply, Step, Turn};
 use gates::NoGate;
 use live_desk::{Journal, live};
-use orch_base::Memory;
 use scenario_reader::read;
-use scenarios::Scenario;
 use std::alloc::Global;
 use std::test::*;
-use turns::{Act, Reply, Step, Turn};
 
 /// A master m with a replica s, and r below it, which a command moves up.
 const MOVE: &str = r#"{"version":1,"servers":[{"name":"m","history":[["m",100,4]]},

@@ -2,10 +2,10 @@
 
 ghost use Rattle.std.specs.Prelude.{◌≡◌, ◌<◌, length};
 
-use binlog_coords::Coord;
-use gtid_sets::GtidSet;
-use orch_base::{IoState, ServerNo, SourceState, Txn};
-use server_model::{
+use crate::binlog_coords_items::Coord;
+use crate::gtid_sets::GtidSet;
+use crate::orch_base::{IoState, ServerNo, SourceState, Txn};
+use crate::server_model::{
     ApplyAnswer, AttachFault, FetchAnswer, Link, Plain, PurgeAnswer, Spot, Status, StatusFault,
     Threads, Unreachable, World, WriteAnswer,
 };

@@ -5,12 +5,12 @@ ghost use Rattle.openings.specs.Listed.{transactions as transactions_of};
 ghost use Rattle.openings.specs.Servers.{parts_of};
 ghost use Rattle.world_openings.specs.Opening.{Fits};
 
-use binlog_coords::Coord;
+use crate::binlog_coords_items::Coord;
+use crate::orch_base::{Memory, Name, OwnedText, ServerNo, Settings, Version};
+use crate::server_model::World;
 use made_openings::are_listed;
 use opening_checks::{CheckedOpening, OpeningFault};
 use openings::{Counts, Opening, Part, Parts, ServerInit, parts_of};
-use orch_base::{Memory, Name, OwnedText, ServerNo, Settings, Version};
-use server_model::World;
 use std::alloc::Global;
 use std::test::Fail;
 use world_openings::OpenedWorld;

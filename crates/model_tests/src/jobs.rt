@@ -3,13 +3,13 @@
 ghost use Rattle.std.specs.Prelude.{◌≡◌, ◌<◌, IfOk, OnOk, length, true};
 ghost use Rattle.operations.specs.Named.{are_named, IsNamed};
 
+use crate::binlog_coords_items::Coord;
+use crate::commands::{Line, Lines};
 use crate::given::{Given, MASTER, REPLICA, world_of};
-use binlog_coords::Coord;
-use commands::{Line, Lines};
+use crate::orch_base::{CauseName, Moment, ServerNo, SourceState};
+use crate::server_model::World;
 use job_plans::{Aim, Crossing, Job, JobStep, Op};
 use openings::Part;
-use orch_base::{CauseName, Moment, ServerNo, SourceState};
-use server_model::World;
 use std::alloc::Global;
 use std::test::Fail;
 

@@ -13,3 +13,5 @@ mod matching;
 mod servers;
 #[cfg(test)]
 mod starts;
+
+use operations::{binlog_coords_items, commands, gtid_sets, orch_base, server_model};

@@ -1,11 +1,11 @@
 //! Logs that match, and those that don't, as rows of data.
 
+use crate::binlog_coords_items::Coord;
 use crate::given::{Given, MASTER, REPLICA, world_of};
-use binlog_coords::Coord;
+use crate::orch_base::ServerNo;
+use crate::server_model::World;
 use job_plans::{MatchFault, match_logs};
 use openings::Part;
-use orch_base::ServerNo;
-use server_model::World;
 use std::test::Fail;
 
 const M: ServerNo = ServerNo(0);

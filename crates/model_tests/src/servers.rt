@@ -1,13 +1,13 @@
 //! Exchanges with servers: what each answers, and what is seen then.
 
+use crate::binlog_coords_items::Coord;
 use crate::exchanges::{Answer, Gtids, Seen, Step, take};
 use crate::given::{Given, MASTER, REPLICA, world_of};
-use binlog_coords::Coord;
-use openings::Part;
-use orch_base::{IoState, ServerNo, SourceState, Txn};
-use server_model::{
+use crate::orch_base::{IoState, ServerNo, SourceState, Txn};
+use crate::server_model::{
     ApplyAnswer, FetchAnswer, Link, Plain, PurgeAnswer, Spot, Threads, World, WriteAnswer,
 };
+use openings::Part;
 use std::alloc::Global;
 use std::test::Fail;
 

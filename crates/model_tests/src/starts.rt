@@ -1,10 +1,10 @@
 //! Openings: their check, their copies, and the histories and logs of their servers.
 
+use crate::binlog_coords_items::{Coord, LogIndex};
 use crate::given::{Given, MASTER, REPLICA, checked};
-use binlog_coords::{Coord, LogIndex};
+use crate::orch_base::{ServerNo, Txn};
 use opening_checks::{FlawedValue, OpeningFault};
 use openings::{Flaw, Opening, Part, count_of, history_at, log_of};
-use orch_base::{ServerNo, Txn};
 use std::alloc::Global;
 use std::test::Fail;
 

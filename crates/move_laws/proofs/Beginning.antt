@@ -1,27 +1,13 @@
 -- When a job begins, and what the checks of a permitted command tell of the book and of the servers.
 use Rattle.std.proofs.Common.{◌≡◌, ℕ, Bool, true, false, not, List, [], ◌∷◌, refl, sym, ◌∙◌, ap, Option, Some, None}
 use Rattle.std.specs.Prelude.{◌==◌, All, slice_index_or}
-use Rattle.std.specs.Option.{option_and_then}
-use Rattle.std.proofs.lemmas.Bool.{false≢true, eqb-true, eq-eqb}
-use Rattle.std.proofs.lemmas.List.Elements.{All-cons, All-head, All-nil, All-tail}
-use Rattle.std.proofs.lemmas.Option.{same_Some}
-use Rattle.orch_base.specs.declared.server.ServerNo.{ServerNo}
-use Rattle.orch_base.specs.declared.server.SourceState.{SourceState}
-use Rattle.orch_base.specs.declared.server.SourceState.TheVariants.{Without, Attached, Detached}
-use Rattle.commands.specs.declared.refusal.Refusal.TheVariants as refusal
-use Rattle.instance_keeper.specs.Book.{BookState, instance_at}
-use Rattle.book_views.specs.Sources.{is_attached_to, is_replica_of, seen_source, source_in}
-use Rattle.server_model.specs.declared.server.Server.{Server as AServer}
-use Rattle.server_model.specs.Worlds.{World, server_at}
-use Rattle.operations.specs.Jobs.{Job, job_with}
-use Rattle.operations.specs.Targets.{logs_by}
-use Rattle.operations.specs.declared.op.Op.{Op}
-use Rattle.job_laws.specs.Footing.{footing, are_held, logs_at}
-use Rattle.job_laws.specs.Matched.{are_matched, matched_in}
-use Rattle.job_laws.specs.Leases.{Begins, are_listed, leases_of}
-use Rattle.permission.specs.Checks.{busy, of_same_id, without_log}
-use Rattle.permission.specs.Lists.{first_about, moves_to}
-use Rattle.permission.specs.Views.{attached_in, attached_of, has_log, id_in, logs_in, same_id, source_above, source_of}
+use Rattle.move_laws.proofs.Prelude.{All-cons, All-head, All-nil, All-tail, Attached, Begins, BookState, Detached, Job, Op, ServerNo, SourceState}
+use Rattle.move_laws.proofs.Prelude.{Without, World, are_held, are_listed, are_matched, attached_in, attached_of, busy, eq-eqb, eqb-true, false≢true}
+use Rattle.move_laws.proofs.Prelude.{first_about, footing, has_log, id_in, instance_at, is_attached_to, is_replica_of, job_with, leases_of, logs_at}
+use Rattle.move_laws.proofs.Prelude.{logs_by, logs_in, matched_in, moves_to, of_same_id, option_and_then, same_id, same_Some, seen_source, server_at}
+use Rattle.move_laws.proofs.Prelude.{source_above, source_in, source_of, without_log}
+use Rattle.move_laws.proofs.Prelude.ServerModel.{Server as AServer}
+use Rattle.move_laws.proofs.Prelude.refusal
 use Rattle.move_laws.proofs.Firsts.{free-of, neither, not-false, test-false}
 
 -- with operations that are held and listed, over a list that is free

@@ -1,38 +1,19 @@
 -- Permitted commands by coordinates begin with operations that are held, over servers that are free.
 use Rattle.std.proofs.Common.{◌≡◌, ℕ, Bool, true, false, List, [], ◌∷◌, refl, sym, ◌∙◌, ap, Option, Some, None}
 use Rattle.std.specs.Prelude.{◌==◌, map}
-use Rattle.std.specs.Option.{option_and_then, option_or, option_to_list}
-use Rattle.std.proofs.lemmas.Bool.{and_parts, eq-eqb}
-use Rattle.std.proofs.lemmas.List.Elements.{filter_passes}
-use Rattle.orch_base.specs.declared.server.ServerNo.{ServerNo}
-use Rattle.commands.specs.declared.line.Line.TheVariants.{Follows}
-use Rattle.commands.specs.declared.refusal.Refusal.TheVariants as refusal
-use Rattle.commands.specs.declared.turn.Command.{Command}
-use Rattle.instance_keeper.specs.Book.{BookState}
-use Rattle.book_views.specs.Sources.{is_replica_of, replicas_of}
-use Rattle.server_model.specs.Worlds.{World}
-use Rattle.operations.specs.Jobs.{Job, job_with}
-use Rattle.operations.specs.Plans.{again, auto, finished, swap, under, up}
-use Rattle.operations.specs.declared.op.Op.{Op}
-use Rattle.job_laws.specs.Matched.{are_matched, matched_in}
-use Rattle.job_laws.proofs.Matching.{each-matched, finished-matched}
-use Rattle.job_laws.specs.Footing.{footing, are_held}
-use Rattle.job_laws.specs.Leases.{Begins, are_listed, leases_of}
-use Rattle.job_laws.proofs.Planned.{again-held, auto-held, finished-held, swap-held, under-held, up-held}
-use Rattle.permission.specs.Checks.{Case, busy, first_refusal, of_same_id, refusal_by, unknown_in, without_log}
-use Rattle.permission.specs.Lists.{first_about, first_of, moves_to}
-use Rattle.permission.specs.Replicas.{siblings_of}
-use Rattle.permission.specs.Rows.{about as about_given, about_one, in_order, is_first, refused}
-use Rattle.permission.specs.Views.{attached_of, is_auto, source_above, source_of}
-use Rattle.permission.specs.declared.case.Check.{Check}
-use Rattle.permission.specs.declared.case.Check.TheVariants as check
-use Rattle.permission.specs.declared.case.Move.{Move}
-use Rattle.plan_parts.specs.Parts.{following, unders, ups}
-use Rattle.moves_coords.specs.Commands.{coords_command}
-use Rattle.moves_coords.specs.Permits.{by_gtids, case_of, leased_by, list_of, refusal_about, refusal_of, row_of}
-use Rattle.moves_coords.specs.Plans.{master_taken, moved_below, moved_up, ops_of, plan_of, replicas_moved_up, repointed, repointed_auto, repointed_by, siblings_taken}
-use Rattle.command_routes.specs.declared.kinds.CoordsCommand.{CoordsCommand}
-use Rattle.command_routes.specs.declared.kinds.CoordsCommand.TheVariants as command
+use Rattle.move_laws.proofs.Prelude.{Begins, BookState, Case, Check, Command, CoordsCommand, Follows, Job, Move, Op, ServerNo, World}
+use Rattle.move_laws.proofs.Prelude.{about as about_given, about_one, again, again-held, and_parts, are_held, are_listed, are_matched, attached_of}
+use Rattle.move_laws.proofs.Prelude.{auto, auto-held, busy, by_gtids, coords_command, each-matched, eq-eqb, filter_passes, finished, finished-held}
+use Rattle.move_laws.proofs.Prelude.{finished-matched, first_about, first_of, first_refusal, following, footing, in_order, is_auto, is_first}
+use Rattle.move_laws.proofs.Prelude.{is_replica_of, job_with, leases_of, master_taken, matched_in, moved_below, moved_up, moves_to, of_same_id}
+use Rattle.move_laws.proofs.Prelude.{option_and_then, option_or, option_to_list, refusal_by, refused, replicas_moved_up, replicas_of, repointed}
+use Rattle.move_laws.proofs.Prelude.{repointed_auto, repointed_by, siblings_of, siblings_taken, source_above, source_of, swap, swap-held, under}
+use Rattle.move_laws.proofs.Prelude.{under-held, unders, unknown_in, up, up-held, ups, without_log}
+use Rattle.move_laws.proofs.Prelude.coords_permits.{case_of, leased_by, list_of, refusal_about, refusal_of, row_of}
+use Rattle.move_laws.proofs.Prelude.coords_plans.{ops_of, plan_of}
+use Rattle.move_laws.proofs.Prelude.check
+use Rattle.move_laws.proofs.Prelude.command
+use Rattle.move_laws.proofs.Prelude.refusal
 use Rattle.move_laws.proofs.Beginning.{above-by, apart-by, begins-with, logging, replicas-apart, same-apart}
 use Rattle.move_laws.proofs.Firsts.{each-none, given-by, neither}
 use Rattle.move_laws.proofs.Lists.{again-listed, among-behind, among-first, among-more, auto-listed, finished-listed, first-append, swap-listed, under-listed, unders-held, unders-listed, up-listed, ups-held, ups-listed}

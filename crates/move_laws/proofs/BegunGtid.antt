@@ -1,31 +1,14 @@
 -- Permitted commands by GTIDs begin with operations that are held, over servers that are free.
 use Rattle.std.proofs.Common.{◌≡◌, ℕ, true, not, List, [], ◌∷◌, ◌++◌, refl, Option, Some, None}
 use Rattle.std.specs.Prelude.{map}
-use Rattle.std.specs.Option.{option_to_list}
-use Rattle.orch_base.specs.declared.server.ServerNo.{ServerNo}
-use Rattle.commands.specs.declared.line.Line.TheVariants.{Follows, Server}
-use Rattle.commands.specs.declared.refusal.Refusal.TheVariants as refusal
-use Rattle.commands.specs.declared.turn.Command.{Command}
-use Rattle.instance_keeper.specs.Book.{BookState}
-use Rattle.server_model.specs.Worlds.{World}
-use Rattle.operations.specs.Jobs.{Job, job_with}
-use Rattle.operations.specs.Plans.{again, auto, finished}
-use Rattle.job_laws.specs.Matched.{matched_in}
-use Rattle.job_laws.proofs.Matching.{each-matched, finished-matched}
-use Rattle.job_laws.specs.Footing.{footing}
-use Rattle.job_laws.specs.Leases.{Begins, leases_of}
-use Rattle.job_laws.proofs.Planned.{again-held, auto-held, finished-held}
-use Rattle.permission.specs.Checks.{busy, first_refusal, refusal_by, unknown_in, without_log}
-use Rattle.permission.specs.Lists.{first_about, only_if}
-use Rattle.permission.specs.Replicas.{replicas_but}
-use Rattle.permission.specs.Rows.{about as about_given, about_one, refused}
-use Rattle.permission.specs.Views.{source_of}
-use Rattle.plan_parts.specs.Parts.{again_auto, autos, following}
-use Rattle.moves_gtid.specs.Commands.{gtid_command}
-use Rattle.moves_gtid.specs.Permits.{case_of, leased_by, list_of, refusal_about, refusal_of, row_of}
-use Rattle.moves_gtid.specs.Plans.{disabled, enabled, moved, ops_of, plan_of, replicas_moved}
-use Rattle.command_routes.specs.declared.kinds.GtidCommand.{GtidCommand}
-use Rattle.command_routes.specs.declared.kinds.GtidCommand.TheVariants as command
+use Rattle.move_laws.proofs.Prelude.{Begins, BookState, Command, Follows, GtidCommand, Job, Server, ServerNo, World, about as about_given, about_one}
+use Rattle.move_laws.proofs.Prelude.{again, again-held, again_auto, auto, auto-held, autos, busy, case_of, disabled, each-matched, enabled, finished}
+use Rattle.move_laws.proofs.Prelude.{finished-held, finished-matched, first_about, first_refusal, following, footing, gtid_command, job_with}
+use Rattle.move_laws.proofs.Prelude.{leased_by, leases_of, list_of, matched_in, only_if, ops_of, option_to_list, plan_of, refusal_about, refusal_by}
+use Rattle.move_laws.proofs.Prelude.{refusal_of, refused, replicas_but, replicas_moved, row_of, source_of, unknown_in, without_log}
+use Rattle.move_laws.proofs.Prelude.gtid_plans.{moved}
+use Rattle.move_laws.proofs.Prelude.gtids as command
+use Rattle.move_laws.proofs.Prelude.refusal
 use Rattle.move_laws.proofs.Beginning.{begins-with, logging}
 use Rattle.move_laws.proofs.Firsts.{each-none, neither, not-false, test-false}
 use Rattle.move_laws.proofs.Lists.{again-listed, again_auto-held, again_auto-listed, among-before, among-first, auto-listed, autos-held, autos-listed, finished-listed}

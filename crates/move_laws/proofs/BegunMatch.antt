@@ -1,32 +1,14 @@
 -- Permitted commands by matches begin with operations that are held and have their matches, over servers that are free.
 use Rattle.std.proofs.Common.{◌≡◌, ℕ, List, [], ◌∷◌, ◌++◌, refl, Option, Some, None}
 use Rattle.std.specs.Prelude.{map}
-use Rattle.std.specs.Option.{option_to_list}
-use Rattle.orch_base.specs.declared.server.Moment.{Moment}
-use Rattle.orch_base.specs.declared.server.ServerNo.{ServerNo}
-use Rattle.commands.specs.declared.line.Line.TheVariants.{Follows}
-use Rattle.commands.specs.declared.turn.Command.{Command}
-use Rattle.instance_keeper.specs.Book.{BookState}
-use Rattle.book_views.specs.Sources.{replicas_of}
-use Rattle.server_model.specs.Worlds.{World}
-use Rattle.operations.specs.Jobs.{Job, job_with}
-use Rattle.operations.specs.Plans.{finished}
-use Rattle.job_laws.specs.Footing.{footing}
-use Rattle.job_laws.specs.Leases.{Begins, leases_of}
-use Rattle.job_laws.specs.Matched.{matched_in}
-use Rattle.job_laws.proofs.Matching.{each-matched, finished-matched}
-use Rattle.job_laws.proofs.Planned.{finished-held}
-use Rattle.permission.specs.Checks.{busy, first_refusal, refusal_by, unknown_in, without_log}
-use Rattle.permission.specs.Lists.{first_about}
-use Rattle.permission.specs.Replicas.{replicas_but}
-use Rattle.permission.specs.Rows.{about as about_given, about_one, refused}
-use Rattle.permission.specs.Views.{source_above}
-use Rattle.plan_parts.specs.Parts.{following, matching, matchings}
-use Rattle.pseudo_match.specs.Commands.{pseudo_command}
-use Rattle.pseudo_match.specs.Permits.{case_of, leased_by, list_of, refusal_about, refusal_of, rest_refusal, row_of, row_refusal, sources_over}
-use Rattle.pseudo_match.specs.Plans.{moved, ops_of, plan_of, replicas_moved}
-use Rattle.pseudo_match.specs.declared.command.PseudoCommand.{PseudoCommand}
-use Rattle.pseudo_match.specs.declared.command.PseudoCommand.TheVariants as command
+use Rattle.move_laws.proofs.Prelude.{Begins, BookState, Command, Follows, Job, Moment, PseudoCommand, ServerNo, World, about as about_given}
+use Rattle.move_laws.proofs.Prelude.{about_one, busy, each-matched, finished, finished-held, finished-matched, first_about, first_refusal, following}
+use Rattle.move_laws.proofs.Prelude.{footing, job_with, leases_of, matched_in, matching, matchings, moved, option_to_list, pseudo_command, refusal_by}
+use Rattle.move_laws.proofs.Prelude.{refused, replicas_but, replicas_of, rest_refusal, row_refusal, source_above, sources_over, unknown_in}
+use Rattle.move_laws.proofs.Prelude.{without_log}
+use Rattle.move_laws.proofs.Prelude.Permits.{case_of, leased_by, list_of, refusal_about, refusal_of, row_of}
+use Rattle.move_laws.proofs.Prelude.Plans.{ops_of, plan_of, replicas_moved}
+use Rattle.move_laws.proofs.Prelude.pseudocommand as command
 use Rattle.move_laws.proofs.Beginning.{begins-with, logging}
 use Rattle.move_laws.proofs.Firsts.{each-none, neither}
 use Rattle.move_laws.proofs.Lists.{Among, among-before, among-first, finished-listed, matching-held, matching-listed, matching-matched, matchings-held, matchings-listed}

@@ -1,44 +1,23 @@
 -- Permitted moves go by what was seen to be kept.
 use Rattle.std.proofs.Common.{◌≡◌, ◌≤◌, Bool, true, false, not, List, [], ◌∷◌, ◌++◌, refl, sym, ◌∙◌, ap, Option, Some, None, arith}
 use Rattle.std.specs.Prelude.{All, nat_lt}
-use Rattle.std.specs.Option.{option_or, option_to_list}
-use Rattle.std.proofs.lemmas.Bool.Decides.{nat_tests}
-use Rattle.std.proofs.lemmas.List.Elements.{All-cons, All-head, All-nil, All-tail}
-use Rattle.orch_base.specs.declared.server.ServerNo.{ServerNo}
-use Rattle.commands.specs.declared.line.Line.{Line}
-use Rattle.commands.specs.declared.line.Line.TheVariants.{Follows, Server}
-use Rattle.commands.specs.declared.refusal.Refusal.TheVariants as refusal
-use Rattle.commands.specs.declared.turn.Command.{Command}
-use Rattle.command_routes.specs.declared.kinds.CoordsCommand.{CoordsCommand}
-use Rattle.command_routes.specs.declared.kinds.CoordsCommand.TheVariants as coords
-use Rattle.command_routes.specs.declared.kinds.GtidCommand.{GtidCommand}
-use Rattle.command_routes.specs.declared.kinds.GtidCommand.TheVariants as gtids
-use Rattle.instance_keeper.specs.Book.{BookState}
-use Rattle.book_views.specs.Sources.{replicas_of}
-use Rattle.moves_coords.specs.Commands.{coords_command}
-use Rattle.moves_coords.specs.Permits as coords_permits
-use Rattle.moves_coords.specs.Plans as coords_plans
-use Rattle.moves_coords.specs.Plans.{master_taken, moved_below, moved_up, replicas_moved_up, repointed, repointed_auto, repointed_by, siblings_taken}
-use Rattle.moves_gtid.specs.Commands.{gtid_command}
-use Rattle.moves_gtid.specs.Permits as gtid_permits
-use Rattle.moves_gtid.specs.Plans as gtid_plans
-use Rattle.operations.specs.declared.op.Crossing.TheVariants as cross
-use Rattle.operations.specs.declared.op.Op.{Op}
-use Rattle.operations.specs.declared.op.Op.TheVariants as op
-use Rattle.operations.specs.Deeds as deed
-use Rattle.operations.specs.Deeds.{Deed, deed_of}
-use Rattle.operations.specs.Plans.{again, auto, finished, swap, under, up}
-use Rattle.operations.specs.Turns.{is_within}
-use Rattle.operations.proofs.Sets.{within-holds}
-use Rattle.permission.specs.Checks.{first_refusal, place_purged, purged_under, set_purged, unknown_in}
-use Rattle.permission.specs.Lists.{first_about, moves_to}
-use Rattle.permission.specs.Replicas.{replicas_but, siblings_of}
-use Rattle.permission.specs.Rows.{about as about_given, about_one, refused}
-use Rattle.permission.specs.Views.{exec_seen, first_seen, purged_seen, set_seen, source_above, source_of}
-use Rattle.permission.specs.declared.case.Check.TheVariants.{PurgedPlace, PurgedSet}
-use Rattle.plan_parts.specs.Parts.{again_auto, autos, unders, ups}
-use Rattle.server_model.specs.Worlds.{World}
-use Rattle.move_laws.specs.ByKept.{AllGoByKept, GoesByKept, IsPlaceKept, IsSetKept}
+use Rattle.move_laws.proofs.Prelude.{All-cons, All-head, All-nil, All-tail, AllGoByKept, BookState, Command, CoordsCommand, Deed, Follows, GoesByKept}
+use Rattle.move_laws.proofs.Prelude.{GtidCommand, IsPlaceKept, IsSetKept, Line, Op, PurgedPlace, PurgedSet, Server, ServerNo, World}
+use Rattle.move_laws.proofs.Prelude.{about as about_given, about_one, again, again_auto, auto, autos, coords_command, deed_of, exec_seen, finished}
+use Rattle.move_laws.proofs.Prelude.{first_about, first_refusal, first_seen, gtid_command, is_within, master_taken, moved_below, moved_up, moves_to}
+use Rattle.move_laws.proofs.Prelude.{nat_tests, option_or, option_to_list, place_purged, purged_seen, purged_under, refused, replicas_but}
+use Rattle.move_laws.proofs.Prelude.{replicas_moved_up, replicas_of, repointed, repointed_auto, repointed_by, set_purged, set_seen, siblings_of}
+use Rattle.move_laws.proofs.Prelude.{siblings_taken, source_above, source_of, swap, under, unders, unknown_in, up, ups, within-holds}
+use Rattle.move_laws.proofs.Prelude.command as coords
+use Rattle.move_laws.proofs.Prelude.coords_permits
+use Rattle.move_laws.proofs.Prelude.coords_plans
+use Rattle.move_laws.proofs.Prelude.cross
+use Rattle.move_laws.proofs.Prelude.deed
+use Rattle.move_laws.proofs.Prelude.gtid_permits
+use Rattle.move_laws.proofs.Prelude.gtid_plans
+use Rattle.move_laws.proofs.Prelude.gtids
+use Rattle.move_laws.proofs.Prelude.op
+use Rattle.move_laws.proofs.Prelude.refusal
 use Rattle.move_laws.proofs.Firsts.{neither, not-false, test-false}
 use Rattle.move_laws.proofs.Numbered.{row-passes}
 
@@ -187,14 +166,7 @@ module _ (w : World) (b : BookState) (i : ServerNo) where
   coords-planned coords.TakeMaster d h =
       master-planned (source_of b i) (source_above b i)
       (row-passes w b (coords_permits.case_of b coords.TakeMaster i d) (coords_permits.row_of (coords_permits.by_gtids w b i) coords.TakeMaster) 8 PurgedPlace h refl)
-  coords-planned coords.DetachReplica d h = tt
-  coords-planned coords.ReattachReplica d h = tt
-  coords-planned coords.ResetReplica d h = tt
-  coords-planned coords.StartReplica d h = tt
-  coords-planned coords.StopReplica d h = tt
-  coords-planned coords.RestartReplica d h = tt
-  coords-planned coords.SetReadOnly d h = tt
-  coords-planned coords.SetWriteable d h = tt
+  coords-planned _ d h = tt
 
   -- ---- by GTIDs
 

@@ -1,17 +1,9 @@
 -- Where nothing is first, each is nothing.
+pub use Rattle.permission.proofs.Free.{neither}
+pub use Rattle.std.proofs.lemmas.Bool.{not-false}
 use Rattle.std.proofs.Common.{◌≡◌, ℕ, Bool, true, false, not, List, [], ◌∷◌, refl, sym, ◌∙◌, ap, Option, Some, None, ◌||◌}
 use Rattle.std.specs.Prelude.{◌==◌, is_some, slice_index_or}
-use Rattle.std.specs.List.{list_any}
-use Rattle.std.specs.Option.{option_or}
-use Rattle.std.proofs.lemmas.Bool.{false≢true, eqb-true}
-use Rattle.orch_base.specs.declared.server.ServerNo.{ServerNo}
-use Rattle.instance_keeper.specs.Book.{BookState, lease_at}
-use Rattle.permission.specs.Checks.{busy, busy_by}
-use Rattle.permission.specs.Lists.{first_of, first_about, only_if}
-
-pub neither : {A : Type 0} (x y : Option A) → option_or x y ≡ None → (x ≡ None) × (y ≡ None)
-neither None y h = (refl, h)
-neither (Some a) y h = cc
+use Rattle.move_laws.proofs.Prelude.{BookState, ServerNo, busy, busy_by, eqb-true, false≢true, first_about, first_of, lease_at, list_any, only_if}
 
 -- each of a list is nothing
 abbrev pub Nothing : {A : Type 0} → List (Option A) → Type 0
@@ -27,10 +19,6 @@ each-none (x ∷ xs) h = let parts = neither x (first_of xs) h in (parts.0, each
 pub test-false : {A : Type 0} (b : Bool) (x : A) → only_if b x ≡ None → b ≡ false
 test-false true x h = cc
 test-false false x h = refl
-
-pub not-false : (b : Bool) → not b ≡ false → b ≡ true
-not-false true h = refl
-not-false false h = absurd (false≢true (sym h))
 
 pub there-is : {A : Type 0} (o : Option A) → is_some o ≡ true → (x : A) × (o ≡ Some x)
 there-is None h = absurd (false≢true h)

@@ -1,25 +1,10 @@
 -- Plans of several servers, one after another: they are held and listed where each part is.
+use Rattle.move_laws.proofs.Prelude.{All-cons, All-head, All-nil, All-tail, All-weaker, Finish, Footing, Line, Matched, Op, SameBase, ServerNo, again}
+use Rattle.move_laws.proofs.Prelude.{again_auto, and_parts, are_held, are_listed, are_matched, auto, auto-held, autos, both, change_of, deed_of}
+use Rattle.move_laws.proofs.Prelude.{eq-eqb, finished, first_about, flat_map, held-append, is_in, list_any, list_any-append, matching, matchings}
+use Rattle.move_laws.proofs.Prelude.{option_or, or_left as or-left, swap, under, under-held, unders, up, up-held, ups}
 use Rattle.std.proofs.Common.{◌≡◌, ℕ, Bool, true, false, List, [], ◌∷◌, ◌++◌, refl, ◌∙◌, ap, Option, Some, None, ◌||◌}
 use Rattle.std.specs.Prelude.{◌==◌, All}
-use Rattle.std.specs.List.{flat_map, list_any}
-use Rattle.std.specs.Option.{option_or}
-use Rattle.std.proofs.lemmas.Bool.{and_parts, eq-eqb}
-use Rattle.std.proofs.lemmas.List.Elements.{All-cons, All-head, All-nil, All-tail, All-weaker}
-use Rattle.std.proofs.lemmas.List.Folds.{list_any-append}
-use Rattle.orch_base.specs.declared.server.ServerNo.{ServerNo}
-use Rattle.commands.specs.declared.line.Line.{Line}
-use Rattle.operations.specs.Changes.{change_of}
-use Rattle.operations.specs.Deeds.{deed_of}
-use Rattle.operations.specs.Plans.{again, auto, finished, swap, under, up}
-use Rattle.operations.specs.declared.op.Op.{Op}
-use Rattle.operations.specs.declared.op.Op.TheVariants.{Finish}
-use Rattle.operations.proofs.Tests.{both}
-use Rattle.plan_parts.specs.Parts.{again_auto, autos, matching, matchings, unders, ups}
-use Rattle.permission.specs.Lists.{first_about}
-use Rattle.job_laws.specs.Footing.{Footing, SameBase, are_held}
-use Rattle.job_laws.specs.Leases.{are_listed, is_in}
-use Rattle.job_laws.specs.Matched.{Matched, are_matched}
-use Rattle.job_laws.proofs.Planned.{auto-held, held-append, under-held, up-held}
 
 self : (n : ℕ) → (n == n) ≡ true
 self n = eq-eqb n n refl
@@ -27,10 +12,6 @@ self n = eq-eqb n n refl
 any-true : (b : Bool) → (b || true) ≡ true
 any-true true = refl
 any-true false = refl
-
-or-left : (a b : Bool) → a ≡ true → (a || b) ≡ true
-or-left true b h = refl
-or-left false b h = cc
 
 -- ---- a server of a list
 

@@ -1,35 +1,20 @@
 -- Rows answer the lowest refusal.
 use Rattle.std.proofs.Common.{◌≡◌, ℕ, zero, suc, ◌<◌, Bool, true, false, not, List, [], ◌∷◌, refl, sym, ◌∙◌, ap, subst, Option, Some, None, arith}
 use Rattle.std.specs.Prelude.{◌==◌, is_some, nat_lt, slice_get}
-use Rattle.std.specs.Option.{option_and_then, option_or}
-use Rattle.std.proofs.lemmas.Bool.{and_parts}
-use Rattle.std.proofs.lemmas.Bool.Decides.{nat_tests}
-use Rattle.std.proofs.lemmas.Option.{same_Some}
-use Rattle.gtid_sets.specs.declared.interval.Interval.{Interval}
-use Rattle.orch_base.specs.declared.server.ServerNo.{ServerNo}
-use Rattle.commands.specs.Refusals.{number_of}
-use Rattle.commands.specs.declared.refusal.Refusal.{Refusal}
-use Rattle.commands.specs.declared.refusal.Refusal.TheVariants as refusal
-use Rattle.instance_keeper.specs.Book.{BookState, instance_at, lease_at}
-use Rattle.book_views.specs.Sources.{seen_source}
-use Rattle.move_laws.specs.Numbers.{check_number, rises_from}
-use Rattle.moves_coords.specs.Permits.{row_of}
-use Rattle.command_routes.specs.declared.kinds.CoordsCommand.{CoordsCommand}
-use Rattle.command_routes.specs.declared.kinds.CoordsCommand.TheVariants as command
-use Rattle.moves_gtid.specs.Permits.{row_of as gtid_row_of}
-use Rattle.command_routes.specs.declared.kinds.GtidCommand.{GtidCommand}
-use Rattle.command_routes.specs.declared.kinds.GtidCommand.TheVariants as gtid
-use Rattle.pseudo_match.specs.Permits.{last_row_of, marks_row, moved_row, row_of as match_row_of}
-use Rattle.pseudo_match.specs.declared.command.PseudoCommand.{PseudoCommand}
-use Rattle.pseudo_match.specs.declared.command.PseudoCommand.TheVariants as matching
-use Rattle.permission.specs.Checks.{Case, are_one, busy, busy_by, errant, errant_by, is_given, of_below, of_lower_version, of_other_cluster, of_same_id, place_purged, purged_under, refusal_by, set_purged, unlogged, unreached, without_log}
-use Rattle.operations.specs.Turns.{is_within}
-use Rattle.permission.specs.Errants.{own_missing}
-use Rattle.permission.specs.Lists.{first_about, only_if}
-use Rattle.permission.specs.Views.{attached_of, exec_seen, first_seen, has_log, is_attached_in, is_below, is_detached_in, is_lower, is_valid, purged_seen, same_id, same_label, set_seen, source_of, uuid_of}
-use Rattle.permission.specs.declared.case.Check.{Check}
-use Rattle.permission.specs.declared.case.Check.TheVariants as check
-use Rattle.server_model.specs.Worlds.{World}
+use Rattle.move_laws.proofs.Prelude.{BookState, Case, Check, CoordsCommand, GtidCommand, Interval, PseudoCommand, Refusal, ServerNo, World, and_parts}
+use Rattle.move_laws.proofs.Prelude.{are_one, attached_of, busy, busy_by, check_number, errant, errant_by, exec_seen, first_about, first_seen}
+use Rattle.move_laws.proofs.Prelude.{has_log, instance_at, is_attached_in, is_below, is_detached_in, is_given, is_lower, is_valid, is_within}
+use Rattle.move_laws.proofs.Prelude.{last_row_of, lease_at, marks_row, moved_row, nat_tests, number_of, of_below, of_lower_version, of_other_cluster}
+use Rattle.move_laws.proofs.Prelude.{of_same_id, only_if, option_and_then, option_or, own_missing, place_purged, purged_seen, purged_under}
+use Rattle.move_laws.proofs.Prelude.{refusal_by, rises_from, row_of as gtid_row_of, same_id, same_label, same_Some, seen_source, set_purged, set_seen}
+use Rattle.move_laws.proofs.Prelude.{source_of, unlogged, unreached, uuid_of, without_log}
+use Rattle.move_laws.proofs.Prelude.Permits.{row_of as match_row_of}
+use Rattle.move_laws.proofs.Prelude.coords_permits.{row_of}
+use Rattle.move_laws.proofs.Prelude.check
+use Rattle.move_laws.proofs.Prelude.command
+use Rattle.move_laws.proofs.Prelude.gtids as gtid
+use Rattle.move_laws.proofs.Prelude.pseudocommand as matching
+use Rattle.move_laws.proofs.Prelude.refusal
 use Rattle.move_laws.proofs.Firsts.{neither}
 
 -- ---- a check's refusal has its number
@@ -142,32 +127,16 @@ module _ (w : World) (b : BookState) (c : Case) where
 
 pub rows-rise : (gtids : Bool) (c : CoordsCommand) → rises_from 2 (row_of gtids c) ≡ true
 rows-rise gtids command.MoveUp = refl
-rows-rise gtids command.MoveUpReplicas = refl
-rows-rise gtids command.MoveBelow = refl
 rows-rise true command.Repoint = refl
-rows-rise false command.Repoint = refl
-rows-rise gtids command.TakeSiblings = refl
-rows-rise gtids command.TakeMaster = refl
-rows-rise gtids command.DetachReplica = refl
-rows-rise gtids command.ReattachReplica = refl
-rows-rise gtids command.ResetReplica = refl
-rows-rise gtids command.StartReplica = refl
-rows-rise gtids command.StopReplica = refl
-rows-rise gtids command.RestartReplica = refl
-rows-rise gtids command.SetReadOnly = refl
-rows-rise gtids command.SetWriteable = refl
+rows-rise _ _ = refl
 
 pub gtid-rows-rise : (c : GtidCommand) → rises_from 2 (gtid_row_of c) ≡ true
 gtid-rows-rise gtid.MoveGtid = refl
-gtid-rows-rise gtid.MoveReplicasGtid = refl
-gtid-rows-rise gtid.EnableGtid = refl
-gtid-rows-rise gtid.DisableGtid = refl
+gtid-rows-rise _ = refl
 
 pub match-rows-rise : (c : PseudoCommand) → rises_from 2 (match_row_of c) ≡ true
 match-rows-rise matching.Match = refl
-match-rows-rise matching.MatchUp = refl
-match-rows-rise matching.MatchReplicas = refl
-match-rows-rise matching.RegroupReplicas = refl
+match-rows-rise _ = refl
 
 moved-rise : (none : Bool) → rises_from 30 (moved_row none) ≡ true
 moved-rise true = refl

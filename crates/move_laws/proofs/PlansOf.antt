@@ -1,24 +1,15 @@
 -- The plans of permitted commands.
 use Rattle.std.proofs.Common.{◌≡◌, ℕ, Bool, true, false, not, [], ◌∷◌, sym, ◌∙◌, ap, Option, Some, None}
 use Rattle.std.specs.Prelude.{map}
-use Rattle.std.specs.Option.{option_and_then}
-use Rattle.std.proofs.lemmas.Bool.{false≢true, eqb-true}
-use Rattle.orch_base.specs.declared.server.ServerNo.{ServerNo}
-use Rattle.commands.specs.declared.line.Line.TheVariants.{Follows}
-use Rattle.commands.specs.declared.name.CommandName.TheVariants as name
-use Rattle.commands.specs.declared.refusal.Refusal.TheVariants as refusal
-use Rattle.instance_keeper.specs.Book.{BookState}
-use Rattle.book_views.specs.Sources.{replicas_of}
-use Rattle.operations.specs.Plans.{again, auto, finished, swap, under, up}
-use Rattle.permission.specs.Checks.{are_one, first_refusal, is_given, refusal_by, unknown_in}
-use Rattle.permission.specs.Replicas.{siblings_of}
-use Rattle.permission.specs.Views.{attached_of, source_above, source_of}
-use Rattle.plan_parts.specs.Parts.{following, unders, ups}
-use Rattle.server_model.specs.Worlds.{World}
-use Rattle.moves_coords.specs.Permits.{by_gtids, case_of, refusal_about, refusal_of, row_of}
-use Rattle.moves_coords.specs.Plans.{master_taken, moved_below, moved_up, plan_of, replicas_moved_up, repointed, repointed_by, siblings_taken}
-use Rattle.command_routes.specs.declared.kinds.CoordsCommand.TheVariants as command
-use Rattle.move_laws.specs.Given.{given}
+use Rattle.move_laws.proofs.Prelude.{BookState, Follows, ServerNo, World, again, are_one, attached_of, auto, by_gtids, eqb-true, false≢true, finished}
+use Rattle.move_laws.proofs.Prelude.{first_refusal, following, given, is_given, master_taken, moved_below, moved_up, option_and_then, refusal_by}
+use Rattle.move_laws.proofs.Prelude.{replicas_moved_up, replicas_of, repointed, repointed_by, siblings_of, siblings_taken, source_above, source_of}
+use Rattle.move_laws.proofs.Prelude.{swap, under, unders, unknown_in, up, ups}
+use Rattle.move_laws.proofs.Prelude.coords_permits.{case_of, refusal_about, refusal_of, row_of}
+use Rattle.move_laws.proofs.Prelude.coords_plans.{plan_of}
+use Rattle.move_laws.proofs.Prelude.command
+use Rattle.move_laws.proofs.Prelude.name
+use Rattle.move_laws.proofs.Prelude.refusal
 use Rattle.move_laws.proofs.Beginning.{above-by}
 use Rattle.move_laws.proofs.Firsts.{each-none, given-by, neither, not-false, test-false}
 

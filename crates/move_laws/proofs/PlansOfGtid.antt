@@ -1,20 +1,11 @@
 -- The plans of permitted commands by GTIDs.
 use Rattle.std.proofs.Common.{◌≡◌, [], ◌∷◌, ap, Some, None}
 use Rattle.std.specs.Prelude.{map}
-use Rattle.orch_base.specs.declared.server.ServerNo.{ServerNo}
-use Rattle.commands.specs.declared.line.Line.TheVariants.{Server}
-use Rattle.commands.specs.declared.name.CommandName.TheVariants as name
-use Rattle.commands.specs.declared.refusal.Refusal.TheVariants as refusal
-use Rattle.instance_keeper.specs.Book.{BookState}
-use Rattle.operations.specs.Plans.{again, finished}
-use Rattle.permission.specs.Checks.{refusal_by, unknown_in}
-use Rattle.permission.specs.Views.{source_of}
-use Rattle.plan_parts.specs.Parts.{again_auto}
-use Rattle.server_model.specs.Worlds.{World}
-use Rattle.moves_gtid.specs.Permits.{case_of, refusal_about, refusal_of, row_of}
-use Rattle.moves_gtid.specs.Plans.{disabled, enabled, plan_of}
-use Rattle.command_routes.specs.declared.kinds.GtidCommand.TheVariants as command
-use Rattle.move_laws.specs.Given.{given}
+use Rattle.move_laws.proofs.Prelude.{BookState, Server, ServerNo, World, again, again_auto, case_of, disabled, enabled, finished, given, plan_of}
+use Rattle.move_laws.proofs.Prelude.{refusal_about, refusal_by, refusal_of, row_of, source_of, unknown_in}
+use Rattle.move_laws.proofs.Prelude.gtids as command
+use Rattle.move_laws.proofs.Prelude.name
+use Rattle.move_laws.proofs.Prelude.refusal
 use Rattle.move_laws.proofs.Firsts.{each-none, given-by, neither}
 
 pub plan-enabled : (w : World) (b : BookState) (i : ServerNo) → refusal_of w b (given name.EnableGtid i None) ≡ None

@@ -1,22 +1,13 @@
 -- The plans of permitted commands by matches.
 use Rattle.std.proofs.Common.{◌≡◌, ℕ, [], ◌∷◌, sym, ◌∙◌, ap, Some, None}
 use Rattle.std.specs.Prelude.{map}
-use Rattle.std.specs.Option.{option_and_then}
-use Rattle.orch_base.specs.declared.server.Moment.{Moment}
-use Rattle.orch_base.specs.declared.server.ServerNo.{ServerNo}
-use Rattle.commands.specs.declared.line.Line.TheVariants.{Follows}
-use Rattle.commands.specs.declared.name.CommandName.TheVariants as name
-use Rattle.commands.specs.declared.refusal.Refusal.TheVariants as refusal
-use Rattle.instance_keeper.specs.Book.{BookState}
-use Rattle.operations.specs.Plans.{finished}
-use Rattle.permission.specs.Checks.{refusal_by, unknown_in}
-use Rattle.permission.specs.Views.{attached_of, source_above, source_of}
-use Rattle.plan_parts.specs.Parts.{matching}
-use Rattle.server_model.specs.Worlds.{World}
-use Rattle.pseudo_match.specs.Permits.{case_of, refusal_about, refusal_of, rest_refusal, row_of, row_refusal}
-use Rattle.pseudo_match.specs.Plans.{moved, plan_of}
-use Rattle.pseudo_match.specs.declared.command.PseudoCommand.TheVariants as command
-use Rattle.move_laws.specs.Given.{given}
+use Rattle.move_laws.proofs.Prelude.{BookState, Follows, Moment, ServerNo, World, attached_of, finished, given, matching, moved, option_and_then}
+use Rattle.move_laws.proofs.Prelude.{refusal_by, rest_refusal, row_refusal, source_above, source_of, unknown_in}
+use Rattle.move_laws.proofs.Prelude.Permits.{case_of, refusal_about, refusal_of, row_of}
+use Rattle.move_laws.proofs.Prelude.Plans.{plan_of}
+use Rattle.move_laws.proofs.Prelude.name
+use Rattle.move_laws.proofs.Prelude.pseudocommand as command
+use Rattle.move_laws.proofs.Prelude.refusal
 use Rattle.move_laws.proofs.Beginning.{above-by}
 use Rattle.move_laws.proofs.Firsts.{each-none, given-by, neither}
 

@@ -1,13 +1,8 @@
 -- Operations that go by what their new sources were seen to keep.
 use Rattle.std.specs.Prelude.{◌≡◌, ℕ, ◌≤◌, true, List, [], ◌∷◌, Some}
-use Rattle.gtid_sets.specs.Sets.{holds}
-use Rattle.orch_base.specs.declared.server.ServerNo.{ServerNo}
-use Rattle.instance_keeper.specs.Book.{BookState}
-use Rattle.operations.specs.declared.op.Crossing.TheVariants as cross
-use Rattle.operations.specs.declared.op.Op.{Op}
-use Rattle.operations.specs.Deeds as deed
-use Rattle.operations.specs.Deeds.{Deed, deed_of}
-use Rattle.permission.specs.Views.{exec_seen, first_seen, purged_seen, set_seen, source_of}
+use Rattle.move_laws.specs.Prelude.{BookState, Deed, Op, ServerNo, deed_of, exec_seen, first_seen, holds, purged_seen, set_seen, source_of}
+use Rattle.move_laws.specs.Prelude.cross
+use Rattle.move_laws.specs.Prelude.deed
 
 -- the server's source was seen to keep the file of the coordinate that was seen of the server
 abbrev pub IsPlaceKept : BookState → ServerNo → Type 0

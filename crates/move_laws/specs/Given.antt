@@ -1,8 +1,6 @@
 -- Commands that are given an instance.
 use Rattle.std.specs.Prelude.{Option, Some}
-use Rattle.orch_base.specs.declared.server.ServerNo.{ServerNo}
-use Rattle.commands.specs.declared.name.CommandName.{CommandName}
-use Rattle.commands.specs.declared.turn.Command.{Command}
+use Rattle.move_laws.specs.Prelude.{Command, CommandName, ServerNo}
 
 -- a command about an instance, and the destination that is given
 abbrev pub given : CommandName → ServerNo → Option ServerNo → Command

@@ -1,7 +1,8 @@
 -- The checks by their numbers.
 use Rattle.std.specs.Prelude.{ℕ, Bool, true, ◌&&◌, nat_lt, List, [], ◌∷◌}
-use Rattle.permission.specs.declared.case.Check.{Check}
-use Rattle.permission.specs.declared.case.Check.TheVariants.{SameInstance, Busy, Unreachable, NoSource, NotDetached, AlreadyDetached, OtherCluster, Below, SourceHasNoSource, NotSibling, NotSameLog, DestNotLogging, SameServerId, VersionLower, GtidOff, Errant, PurgedPlace, PurgedSet, PseudoOff, MovedNotLogging}
+use Rattle.move_laws.specs.Prelude.{AlreadyDetached, Below, Busy, Check, DestNotLogging, Errant, GtidOff, MovedNotLogging, NoSource, NotDetached}
+use Rattle.move_laws.specs.Prelude.{NotSameLog, NotSibling, OtherCluster, PseudoOff, PurgedPlace, PurgedSet, SameInstance, SameServerId}
+use Rattle.move_laws.specs.Prelude.{SourceHasNoSource, Unreachable, VersionLower}
 
 -- a check's number is that of the refusal of one that doesn't pass
 abbrev pub check_number : Check → ℕ

@@ -1,13 +1,9 @@
 //! Permitted commands by coordinates begin.
 
 ghost use Rattle.std.specs.Prelude.{◌≡◌, ℕ, List, None};
-ghost use Rattle.commands.specs.declared.turn.Command.{Command as ACommand};
-ghost use Rattle.instance_keeper.specs.Book.{BookState};
-ghost use Rattle.moves_coords.specs.Permits.{leased_by, refusal_of};
-ghost use Rattle.moves_coords.specs.Plans.{plan_of};
-ghost use Rattle.operations.specs.Jobs.{Job, job_with};
-ghost use Rattle.job_laws.specs.Leases.{Begins, leases_of};
-ghost use Rattle.server_model.specs.Worlds.{World};
+ghost use Rattle.move_laws.specs.Prelude.{Begins, BookState, Command as ACommand, Job, World, job_with, leases_of};
+ghost use Rattle.move_laws.specs.Prelude.Permits.{leased_by, refusal_of};
+ghost use Rattle.move_laws.specs.Prelude.Plans.{plan_of};
 
 /// Where nothing refuses one of the commands by coordinates, the job of its plan may begin: its operations are held,
 /// each server that one of them may change is in the command's list, and nobody has a lease of a server of that list.

@@ -1,14 +1,9 @@
 //! Permitted commands by matches begin.
 
 ghost use Rattle.std.specs.Prelude.{◌≡◌, ℕ, List, None};
-ghost use Rattle.commands.specs.declared.turn.Command.{Command as ACommand};
-ghost use Rattle.instance_keeper.specs.Book.{BookState};
-ghost use Rattle.orch_base.specs.declared.server.Moment.{Moment as AMoment};
-ghost use Rattle.pseudo_match.specs.Permits.{leased_by, refusal_of};
-ghost use Rattle.pseudo_match.specs.Plans.{plan_of};
-ghost use Rattle.operations.specs.Jobs.{Job, job_with};
-ghost use Rattle.job_laws.specs.Leases.{Begins, leases_of};
-ghost use Rattle.server_model.specs.Worlds.{World};
+ghost use Rattle.move_laws.specs.Prelude.{Begins, BookState, Command as ACommand, Job, Moment as AMoment, World, job_with, leases_of};
+ghost use Rattle.move_laws.specs.Prelude.PseudoMatch.{leased_by, refusal_of};
+ghost use Rattle.move_laws.specs.Prelude.PseudoMatchPlans.{plan_of};
 
 /// Where nothing refuses one of the commands that match logs, the job of its plan may begin: its operations are held,
 /// each change of source has its match, each server that one of them may change is in the command's list, and nobody

@@ -1,14 +1,10 @@
 //! Permitted moves go by what was seen to be kept.
 
 ghost use Rattle.std.specs.Prelude.{◌≡◌, None};
-ghost use Rattle.commands.specs.declared.turn.Command.{Command as ACommand};
-ghost use Rattle.instance_keeper.specs.Book.{BookState};
+ghost use Rattle.move_laws.specs.Prelude.{BookState, Command as ACommand, World, plan_of as gtid_plan_of, refusal_of as gtid_refusal_of};
+ghost use Rattle.move_laws.specs.Prelude.Permits.{refusal_of};
+ghost use Rattle.move_laws.specs.Prelude.Plans.{plan_of};
 ghost use Rattle.move_laws.specs.ByKept.{AllGoByKept};
-ghost use Rattle.moves_coords.specs.Permits.{refusal_of};
-ghost use Rattle.moves_coords.specs.Plans.{plan_of};
-ghost use Rattle.moves_gtid.specs.Permits.{refusal_of as gtid_refusal_of};
-ghost use Rattle.moves_gtid.specs.Plans.{plan_of as gtid_plan_of};
-ghost use Rattle.server_model.specs.Worlds.{World};
 
 /// Where nothing refuses a command, no operation of its plan goes up by the coordinate of a server, or on by its own,
 /// whose source was seen to have purged that coordinate's file, and none goes by GTIDs to a source that was seen to

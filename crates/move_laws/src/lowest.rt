@@ -1,19 +1,11 @@
 //! The refusal with the lowest number.
 
 ghost use Rattle.std.specs.Prelude.{◌≡◌, ◌<◌, ℕ, Bool, List, None, Some, slice_get, true};
-ghost use Rattle.commands.specs.Refusals.{number_of};
-ghost use Rattle.commands.specs.declared.refusal.Refusal.{Refusal};
-ghost use Rattle.instance_keeper.specs.Book.{BookState};
+ghost use Rattle.move_laws.specs.Prelude.{BookState, Case, Check, CoordsCommand, GtidCommand, PseudoCommand, Refusal, World, first_refusal};
+ghost use Rattle.move_laws.specs.Prelude.{last_row_of, number_of, refusal_by, row_of as gtid_row_of};
+ghost use Rattle.move_laws.specs.Prelude.Permits.{row_of};
+ghost use Rattle.move_laws.specs.Prelude.PseudoMatch.{row_of as match_row_of};
 ghost use Rattle.move_laws.specs.Numbers.{check_number, rises_from};
-ghost use Rattle.moves_coords.specs.Permits.{row_of};
-ghost use Rattle.command_routes.specs.declared.kinds.CoordsCommand.{CoordsCommand};
-ghost use Rattle.moves_gtid.specs.Permits.{row_of as gtid_row_of};
-ghost use Rattle.command_routes.specs.declared.kinds.GtidCommand.{GtidCommand};
-ghost use Rattle.pseudo_match.specs.Permits.{last_row_of, row_of as match_row_of};
-ghost use Rattle.pseudo_match.specs.declared.command.PseudoCommand.{PseudoCommand};
-ghost use Rattle.permission.specs.Checks.{Case, first_refusal, refusal_by};
-ghost use Rattle.permission.specs.declared.case.Check.{Check};
-ghost use Rattle.server_model.specs.Worlds.{World};
 
 /// What a row of checks answers: nothing exactly where each check passes, else the refusal of one of its checks, and of
 /// a row whose numbers rise each check of a lower number passes. A check's refusal has the check's number.

@@ -1,19 +1,12 @@
 //! The plans of permitted commands.
 
 ghost use Rattle.std.specs.Prelude.{◌≡◌, ◌∷◌, [], Some, None, true, false};
-ghost use Rattle.orch_base.specs.declared.server.ServerNo.{ServerNo as Number};
-ghost use Rattle.commands.specs.declared.line.Line.TheVariants.{Follows};
-ghost use Rattle.book_views.specs.Sources.{replicas_of};
-ghost use Rattle.commands.specs.declared.name.CommandName.TheVariants.{MoveBelow, MoveUp, MoveUpReplicas, Repoint, TakeMaster, TakeSiblings};
-ghost use Rattle.instance_keeper.specs.Book.{BookState};
+ghost use Rattle.move_laws.specs.Prelude.{BookState, Follows, MoveBelow, MoveUp, MoveUpReplicas, Repoint, ServerNo as Number, TakeMaster};
+ghost use Rattle.move_laws.specs.Prelude.{TakeSiblings, World, again, attached_of, auto, by_gtids, finished, following, replicas_of, siblings_of};
+ghost use Rattle.move_laws.specs.Prelude.{source_of, swap, under, unders, up, ups};
+ghost use Rattle.move_laws.specs.Prelude.Permits.{refusal_of};
+ghost use Rattle.move_laws.specs.Prelude.Plans.{plan_of};
 ghost use Rattle.move_laws.specs.Given.{given};
-ghost use Rattle.moves_coords.specs.Permits.{by_gtids, refusal_of};
-ghost use Rattle.moves_coords.specs.Plans.{plan_of};
-ghost use Rattle.operations.specs.Plans.{again, auto, finished, swap, under, up};
-ghost use Rattle.permission.specs.Replicas.{siblings_of};
-ghost use Rattle.permission.specs.Views.{attached_of, source_of};
-ghost use Rattle.plan_parts.specs.Parts.{following, unders, ups};
-ghost use Rattle.server_model.specs.Worlds.{World};
 
 /// A permitted move has its whole plan, by the sources that the book shows: up to the source to which the instance's
 /// source is attached, below a sibling under their source, or anew under the same source, by coordinates, or below any

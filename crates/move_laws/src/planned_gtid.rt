@@ -1,18 +1,9 @@
 //! The plans of permitted commands by GTIDs.
 
 ghost use Rattle.std.specs.Prelude.{◌≡◌, ◌∷◌, [], Some, None};
-ghost use Rattle.orch_base.specs.declared.server.ServerNo.{ServerNo as Number};
-ghost use Rattle.commands.specs.declared.line.Line.TheVariants.{Follows, Server};
-ghost use Rattle.commands.specs.declared.name.CommandName.TheVariants.{DisableGtid, EnableGtid, MoveGtid, MoveReplicasGtid};
-ghost use Rattle.instance_keeper.specs.Book.{BookState};
+ghost use Rattle.move_laws.specs.Prelude.{BookState, DisableGtid, EnableGtid, Follows, MoveGtid, MoveReplicasGtid, Server, ServerNo as Number, World};
+ghost use Rattle.move_laws.specs.Prelude.{again, again_auto, auto, autos, finished, following, plan_of, refusal_of, replicas_but, source_of};
 ghost use Rattle.move_laws.specs.Given.{given};
-ghost use Rattle.moves_gtid.specs.Permits.{refusal_of};
-ghost use Rattle.moves_gtid.specs.Plans.{plan_of};
-ghost use Rattle.operations.specs.Plans.{again, auto, finished};
-ghost use Rattle.permission.specs.Replicas.{replicas_but};
-ghost use Rattle.permission.specs.Views.{source_of};
-ghost use Rattle.plan_parts.specs.Parts.{again_auto, autos, following};
-ghost use Rattle.server_model.specs.Worlds.{World};
 
 /// A permitted command by GTIDs has its whole plan: the instance, or each of its replicas but the destination, goes
 /// below the destination; or the instance finds its place under its source by GTIDs, or goes on there by coordinates.

@@ -1,19 +1,11 @@
 //! The plans of permitted commands by matches.
 
 ghost use Rattle.std.specs.Prelude.{◌≡◌, ◌∷◌, [], ℕ, Some, None};
-ghost use Rattle.orch_base.specs.declared.server.Moment.{Moment as AMoment};
-ghost use Rattle.orch_base.specs.declared.server.ServerNo.{ServerNo as Number};
-ghost use Rattle.commands.specs.declared.line.Line.TheVariants.{Follows};
-ghost use Rattle.commands.specs.declared.name.CommandName.TheVariants.{Match, MatchReplicas, MatchUp};
-ghost use Rattle.instance_keeper.specs.Book.{BookState};
+ghost use Rattle.move_laws.specs.Prelude.{BookState, Follows, Match, MatchReplicas, MatchUp, Moment as AMoment, ServerNo as Number, World};
+ghost use Rattle.move_laws.specs.Prelude.{attached_of, finished, following, matching, matchings, replicas_but, source_of};
+ghost use Rattle.move_laws.specs.Prelude.PseudoMatch.{refusal_of};
+ghost use Rattle.move_laws.specs.Prelude.PseudoMatchPlans.{plan_of};
 ghost use Rattle.move_laws.specs.Given.{given};
-ghost use Rattle.operations.specs.Plans.{finished};
-ghost use Rattle.permission.specs.Replicas.{replicas_but};
-ghost use Rattle.permission.specs.Views.{attached_of, source_of};
-ghost use Rattle.plan_parts.specs.Parts.{following, matching, matchings};
-ghost use Rattle.pseudo_match.specs.Permits.{refusal_of};
-ghost use Rattle.pseudo_match.specs.Plans.{plan_of};
-ghost use Rattle.server_model.specs.Worlds.{World};
 
 /// A permitted command by matches has its whole plan: the instance, or each of its replicas but the destination, goes
 /// below the destination; or the instance goes up to the source to which its source is attached.

@@ -1,27 +1,14 @@
 -- The operations of a plan, and the leases, are of the book's servers, where the command's instances are.
 use Rattle.std.proofs.Common.{◌≡◌, ◌<◌, Bool, true, false, List, [], ◌∷◌, length, refl, Option, Some, None}
 use Rattle.std.specs.Prelude.{All, IsTrue}
-use Rattle.std.specs.Option.{option_or, option_to_list}
-use Rattle.orch_base.specs.declared.server.ServerNo.{ServerNo}
-use Rattle.commands.specs.declared.line.Line.TheVariants.{Follows}
-use Rattle.commands.specs.Turns.{is_within}
-use Rattle.commands.specs.declared.turn.Command.{Command}
-use Rattle.instance_keeper.specs.Book.{BookState, IsBook}
-use Rattle.book_views.specs.Sources.{replicas_of}
-use Rattle.operations.specs.Named.{are_named}
-use Rattle.operations.specs.Plans.{again, auto, swap, under, up}
-use Rattle.permission.specs.Replicas.{siblings_of}
-use Rattle.permission.specs.Views.{source_above, source_of}
-use Rattle.permission.proofs.Rows.{about-is}
-use Rattle.permission.proofs.Within.{AllWithin, Within, cons-within, given-within, none-within, option-within, or-within, replicas-within, siblings-within, source-within}
-use Rattle.plan_parts.specs.Parts.{following, unders, ups}
-use Rattle.plan_parts.proofs.Named.{again-named, auto-named, below-test, finished-named, swap-named, under-named, unders-named, up-named, ups-named}
-use Rattle.server_model.specs.Worlds.{World}
-use Rattle.moves_coords.specs.Commands.{coords_command}
-use Rattle.moves_coords.specs.Permits.{by_gtids, leased_by, list_of}
-use Rattle.moves_coords.specs.Plans.{master_taken, moved_below, moved_up, ops_of, plan_of, replicas_moved_up, repointed, repointed_auto, repointed_by, siblings_taken}
-use Rattle.command_routes.specs.declared.kinds.CoordsCommand.{CoordsCommand}
-use Rattle.command_routes.specs.declared.kinds.CoordsCommand.TheVariants as command
+use Rattle.moves_coords.proofs.Prelude.{AllWithin, BookState, Command, CoordsCommand, Follows, IsBook, ServerNo, Within, World, about-is, again}
+use Rattle.moves_coords.proofs.Prelude.{again-named, are_named, auto, auto-named, below-test, by_gtids, cons-within, coords_command, finished-named}
+use Rattle.moves_coords.proofs.Prelude.{following, given-within, is_within, leased_by, list_of, master_taken, moved_below, moved_up, none-within}
+use Rattle.moves_coords.proofs.Prelude.{ops_of, option-within, option_or, option_to_list, or-within, plan_of, replicas-within, replicas_moved_up}
+use Rattle.moves_coords.proofs.Prelude.{replicas_of, repointed, repointed_auto, repointed_by, siblings-within, siblings_of, siblings_taken}
+use Rattle.moves_coords.proofs.Prelude.{source-within, source_above, source_of, swap, swap-named, under, under-named, unders, unders-named, up}
+use Rattle.moves_coords.proofs.Prelude.{up-named, ups, ups-named}
+use Rattle.moves_coords.proofs.Prelude.command
 
 module _ (w : World) (b : BookState) (is : IsBook b) where
   moved-up : (i : ServerNo) (x g : Option ServerNo) → i.0 < length b.names → Within b x → are_named (length b.names) (moved_up i x g) ≡ true
@@ -70,14 +57,7 @@ module _ (w : World) (b : BookState) (is : IsBook b) where
   ops-named command.Repoint i d at_i at_d = repoint (by_gtids w b i) i d (source_of b i) at_i at_d (source-within b i is at_i)
   ops-named command.TakeSiblings i d at_i at_d = siblings-below (siblings_of b i) i (source_of b i) (siblings-within b i) at_i
   ops-named command.TakeMaster i d at_i at_d = swapped i (source_of b i) (source_above b i) at_i (source-within b i is at_i)
-  ops-named command.DetachReplica i d at_i at_d = let hi = below-test i.0 (length b.names) at_i in simp (hi) refl
-  ops-named command.ReattachReplica i d at_i at_d = let hi = below-test i.0 (length b.names) at_i in simp (hi) refl
-  ops-named command.ResetReplica i d at_i at_d = let hi = below-test i.0 (length b.names) at_i in simp (hi) refl
-  ops-named command.StartReplica i d at_i at_d = let hi = below-test i.0 (length b.names) at_i in simp (hi) refl
-  ops-named command.StopReplica i d at_i at_d = let hi = below-test i.0 (length b.names) at_i in simp (hi) refl
-  ops-named command.RestartReplica i d at_i at_d = let hi = below-test i.0 (length b.names) at_i in simp (hi) refl
-  ops-named command.SetReadOnly i d at_i at_d = let hi = below-test i.0 (length b.names) at_i in simp (hi) refl
-  ops-named command.SetWriteable i d at_i at_d = let hi = below-test i.0 (length b.names) at_i in simp (hi) refl
+  ops-named _ i d at_i at_d = let hi = below-test i.0 (length b.names) at_i in simp (hi) refl
 
 pub plan-named : (w : World) (b : BookState) (command : Command) → IsBook b → IsTrue (is_within (length b.names) command.i) → IsTrue (is_within (length b.names) command.d)
     → are_named (length b.names) (plan_of w b command) ≡ true
@@ -91,17 +71,9 @@ list-within : (b : BookState) → IsBook b → (c : CoordsCommand) (i : ServerNo
 list-within b is command.MoveUp i d at_i at_d = cons-within b i (option_to_list (source_of b i)) at_i (option-within b (source_of b i) (source-within b i is at_i))
 list-within b is command.MoveUpReplicas i d at_i at_d = cons-within b i (replicas_of b i) at_i (replicas-within b i)
 list-within b is command.MoveBelow i d at_i at_d = cons-within b i (option_to_list d) at_i (option-within b d at_d)
-list-within b is command.Repoint i d at_i at_d = cons-within b i [] at_i (none-within b)
 list-within b is command.TakeSiblings i d at_i at_d = cons-within b i (siblings_of b i) at_i (siblings-within b i)
 list-within b is command.TakeMaster i d at_i at_d = cons-within b i (option_to_list (source_of b i)) at_i (option-within b (source_of b i) (source-within b i is at_i))
-list-within b is command.DetachReplica i d at_i at_d = cons-within b i [] at_i (none-within b)
-list-within b is command.ReattachReplica i d at_i at_d = cons-within b i [] at_i (none-within b)
-list-within b is command.ResetReplica i d at_i at_d = cons-within b i [] at_i (none-within b)
-list-within b is command.StartReplica i d at_i at_d = cons-within b i [] at_i (none-within b)
-list-within b is command.StopReplica i d at_i at_d = cons-within b i [] at_i (none-within b)
-list-within b is command.RestartReplica i d at_i at_d = cons-within b i [] at_i (none-within b)
-list-within b is command.SetReadOnly i d at_i at_d = cons-within b i [] at_i (none-within b)
-list-within b is command.SetWriteable i d at_i at_d = cons-within b i [] at_i (none-within b)
+list-within b is _ i d at_i at_d = cons-within b i [] at_i (none-within b)
 
 pub leases-within : (b : BookState) (command : Command) → IsBook b → IsTrue (is_within (length b.names) command.i) → IsTrue (is_within (length b.names) command.d)
     → All (λ n. n.0 < length b.names) (leased_by b command)

@@ -1,6 +1,6 @@
 -- The commands that move or change servers by coordinates.
 use Rattle.std.specs.Prelude.{Option, Some, None}
-use Rattle.commands.specs.declared.name.CommandName.{CommandName}
+use Rattle.permission.specs.Commands.declared.name.CommandName.{CommandName}
 use Rattle.command_routes.specs.declared.kinds.CoordsCommand.{CoordsCommand}
 use Rattle.command_routes.specs.declared.route.Planner.{Planner}
 use Rattle.command_routes.specs.declared.route.Planner.TheVariants as planner

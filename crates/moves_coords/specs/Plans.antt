@@ -1,16 +1,16 @@
 -- The plans of these commands.
 use Rattle.std.specs.Prelude.{Bool, true, false, List, [], ◌∷◌, Option, Some, None}
 use Rattle.std.specs.Option.{option_or}
-use Rattle.orch_base.specs.declared.server.ServerNo.{ServerNo}
-use Rattle.commands.specs.declared.line.Line.TheVariants.{Follows, Server}
-use Rattle.commands.specs.declared.turn.Command.{Command}
-use Rattle.instance_keeper.specs.Book.{BookState}
-use Rattle.operations.specs.declared.op.Op.{Op}
-use Rattle.operations.specs.declared.op.Op.TheVariants as op
-use Rattle.operations.specs.Plans.{again, asking, auto, finished, swap, under, up}
+use Rattle.permission.specs.OrchBase.declared.server.ServerNo.{ServerNo}
+use Rattle.permission.specs.Commands.declared.line.Line.TheVariants.{Follows, Server}
+use Rattle.permission.specs.Commands.declared.turn.Command.{Command}
+use Rattle.permission.specs.InstanceKeeper.Book.{BookState}
+use Rattle.permission.specs.Operations.declared.op.Op.{Op}
+use Rattle.permission.specs.Operations.declared.op.Op.TheVariants as op
+use Rattle.permission.specs.Operations.Plans.{again, asking, auto, finished, swap, under, up}
 use Rattle.plan_parts.specs.Parts.{following, unders, ups}
-use Rattle.book_views.specs.Sources.{replicas_of}
-use Rattle.server_model.specs.Worlds.{World}
+use Rattle.permission.specs.BookViews.Sources.{replicas_of}
+use Rattle.permission.specs.ServerModel.Worlds.{World}
 use Rattle.permission.specs.Replicas.{siblings_of}
 use Rattle.permission.specs.Rows.{about}
 use Rattle.permission.specs.Views.{source_above, source_of}

@@ -3,8 +3,8 @@
 ghost use Rattle.std.specs.Prelude.{◌≡◌};
 ghost use Rattle.moves_coords.specs.Commands.{coords_command};
 
+use crate::commands::CommandName;
 use command_routes::{CoordsCommand, Planner, Route};
-use commands::CommandName;
 
 /// Which command that moves or changes servers by coordinates a command is; none of any other command.
 pub fn coords_command(name: CommandName) -> Option<CoordsCommand>

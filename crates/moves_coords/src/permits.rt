@@ -1,27 +1,27 @@
 //! What refuses the commands.
 
 ghost use Rattle.std.specs.Prelude.{◌≡◌, ◌<◌, All, IfOk, IsSome, IsTrue, length};
-ghost use Rattle.orch_base.specs.Gives.{Gives};
-ghost use Rattle.book_views.specs.Forests.{book_forest};
-ghost use Rattle.commands.specs.Turns.{is_within};
+ghost use Rattle.permission.specs.OrchBase.Gives.{Gives};
+ghost use Rattle.permission.specs.BookViews.Forests.{book_forest};
+ghost use Rattle.permission.specs.Commands.Turns.{is_within};
 ghost use Rattle.permission.specs.Checks.{permit_fault, permitted};
 ghost use Rattle.moves_coords.specs.Commands.{coords_command};
 ghost use Rattle.moves_coords.specs.Permits.{by_gtids, case_of, leased_by, refusal_of, row_of};
 
+use crate::book_views::replicas;
 use crate::command::coords_command;
+use crate::commands::Command;
+use crate::instance_keeper_items::Book;
+use crate::orch_base::{Moment, ServerNo};
+use crate::server_model::World;
+use crate::topology_tree::Forest;
 use crate::{Memory, PermitFault};
-use book_views::replicas;
 use command_routes::CoordsCommand;
-use commands::Command;
-use instance_keeper::Book;
-use orch_base::{Moment, ServerNo};
 use permission::{
     Check, Movers, answered, is_auto, one_or_none, row_refusal, siblings, source, source_above,
     unknown_in,
 };
-use server_model::World;
 use std::alloc::Global;
-use topology_tree::Forest;
 
 const MOVE_UP: [Check; 8] = [
     Check::Busy,

@@ -1,28 +1,28 @@
 //! The plans of the commands.
 
 ghost use Rattle.std.specs.Prelude.{◌≡◌, IfOk, IsSome, IsTrue, length, true};
-ghost use Rattle.book_views.specs.Forests.{book_forest};
-ghost use Rattle.commands.specs.Turns.{is_within};
-ghost use Rattle.operations.specs.Named.{are_named};
+ghost use Rattle.permission.specs.BookViews.Forests.{book_forest};
+ghost use Rattle.permission.specs.Commands.Turns.{is_within};
+ghost use Rattle.permission.specs.Operations.Named.{are_named};
 ghost use Rattle.moves_coords.specs.Commands.{coords_command};
 ghost use Rattle.moves_coords.specs.Plans.{asked, asked_started, master_taken, moved_below, moved_up, ops_of, plan_of, replicas_moved_up, repointed, repointed_auto, siblings_taken};
 
 use crate::Memory;
+use crate::book_views::replicas;
 use crate::command::coords_command;
+use crate::commands::{Command, Line, Lines};
+use crate::instance_keeper_items::Book;
+use crate::operations_items::Op;
+use crate::orch_base::ServerNo;
 use crate::permits::by_gtids;
-use book_views::replicas;
+use crate::server_model::World;
+use crate::topology_tree::Forest;
 use command_routes::CoordsCommand;
-use commands::{Command, Line, Lines};
-use instance_keeper::Book;
-use operations::Op;
-use orch_base::ServerNo;
 use permission::{siblings, source, source_above};
 use plan_parts::{
     again, asking, auto, finished, moved, moved_each, restarted, swap, told, under, unders, up, ups,
 };
-use server_model::World;
 use std::alloc::Global;
-use topology_tree::Forest;
 
 // To the source of its source.
 fn moved_up(

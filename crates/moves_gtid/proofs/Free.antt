@@ -1,18 +1,8 @@
 -- A command that isn't refused finds the servers free of which its job takes the leases.
 use Rattle.std.proofs.Common.{◌≡◌, Option, None}
-use Rattle.orch_base.specs.declared.server.ServerNo.{ServerNo}
-use Rattle.commands.specs.declared.turn.Command.{Command}
-use Rattle.instance_keeper.specs.Book.{BookState}
-use Rattle.instance_keeper.specs.Leases.{first_busy}
-use Rattle.permission.specs.Checks.{busy, first_refusal}
-use Rattle.permission.specs.Lists.{first_about}
-use Rattle.permission.proofs.Free.{neither}
-use Rattle.permission.proofs.Rows.{about-free}
-use Rattle.server_model.specs.Worlds.{World}
-use Rattle.moves_gtid.specs.Commands.{gtid_command}
-use Rattle.moves_gtid.specs.Permits.{case_of, leased_by, list_of, refusal_about, refusal_of, row_of}
-use Rattle.command_routes.specs.declared.kinds.GtidCommand.{GtidCommand}
-use Rattle.command_routes.specs.declared.kinds.GtidCommand.TheVariants as command
+use Rattle.moves_gtid.proofs.Prelude.{BookState, Command, GtidCommand, ServerNo, World, about-free, busy, case_of, first_about, first_busy}
+use Rattle.moves_gtid.proofs.Prelude.{first_refusal, gtid_command, leased_by, list_of, neither, refusal_about, refusal_of, row_of}
+use Rattle.moves_gtid.proofs.Prelude.command
 
 module _ (w : World) (b : BookState) (i : ServerNo) where
   checks-free : (c : GtidCommand) (d : Option ServerNo) → first_refusal w b (case_of b c i d) (row_of c) ≡ None → first_about (busy b) (list_of b c i d) ≡ None

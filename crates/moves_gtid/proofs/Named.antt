@@ -1,26 +1,12 @@
 -- The operations of a plan, and the leases, are of the book's servers, where the command's instances are.
 use Rattle.std.proofs.Common.{◌≡◌, ◌<◌, true, List, [], ◌∷◌, length, refl, Option, Some, None}
 use Rattle.std.specs.Prelude.{All, IsTrue}
-use Rattle.std.specs.Option.{option_to_list}
-use Rattle.std.proofs.lemmas.List.Elements.{All-append}
-use Rattle.orch_base.specs.declared.server.ServerNo.{ServerNo}
-use Rattle.commands.specs.declared.line.Line.TheVariants.{Follows, Server}
-use Rattle.commands.specs.Turns.{is_within}
-use Rattle.commands.specs.declared.turn.Command.{Command}
-use Rattle.instance_keeper.specs.Book.{BookState, IsBook}
-use Rattle.operations.specs.Named.{are_named}
-use Rattle.operations.specs.Plans.{again, auto}
-use Rattle.permission.specs.Replicas.{replicas_but}
-use Rattle.permission.specs.Views.{source_of}
-use Rattle.permission.proofs.Rows.{about-is}
-use Rattle.permission.proofs.Within.{AllWithin, Within, but-within, cons-within, given-within, none-within, option-within, source-within}
-use Rattle.plan_parts.specs.Parts.{again_auto, autos, following}
-use Rattle.plan_parts.proofs.Named.{again-named, again_auto-named, auto-named, autos-named, finished-named}
-use Rattle.moves_gtid.specs.Commands.{gtid_command}
-use Rattle.moves_gtid.specs.Permits.{leased_by, list_of}
-use Rattle.moves_gtid.specs.Plans.{disabled, enabled, moved, ops_of, plan_of, replicas_moved}
-use Rattle.command_routes.specs.declared.kinds.GtidCommand.{GtidCommand}
-use Rattle.command_routes.specs.declared.kinds.GtidCommand.TheVariants as command
+use Rattle.moves_gtid.proofs.Prelude.{All-append, AllWithin, BookState, Command, Follows, GtidCommand, IsBook, Server, ServerNo, Within, about-is}
+use Rattle.moves_gtid.proofs.Prelude.{again, again-named, again_auto, again_auto-named, are_named, auto, auto-named, autos, autos-named, but-within}
+use Rattle.moves_gtid.proofs.Prelude.{cons-within, disabled, enabled, finished-named, following, given-within, gtid_command, is_within, leased_by}
+use Rattle.moves_gtid.proofs.Prelude.{list_of, moved, none-within, ops_of, option-within, option_to_list, plan_of, replicas_but, replicas_moved}
+use Rattle.moves_gtid.proofs.Prelude.{source-within, source_of}
+use Rattle.moves_gtid.proofs.Prelude.command
 
 module _ (b : BookState) (is : IsBook b) where
   moved-named : (i : ServerNo) (d : Option ServerNo) → i.0 < length b.names → Within b d → are_named (length b.names) (moved i d) ≡ true

@@ -1,11 +1,11 @@
 -- What refuses these commands: the rows of the permission table, and what their checks are about.
 use Rattle.std.specs.Prelude.{List, [], ◌∷◌, ◌++◌, Option}
 use Rattle.std.specs.Option.{option_to_list}
-use Rattle.orch_base.specs.declared.server.ServerNo.{ServerNo}
-use Rattle.commands.specs.declared.refusal.Refusal.{Refusal}
-use Rattle.commands.specs.declared.turn.Command.{Command}
-use Rattle.instance_keeper.specs.Book.{BookState}
-use Rattle.server_model.specs.Worlds.{World}
+use Rattle.permission.specs.OrchBase.declared.server.ServerNo.{ServerNo}
+use Rattle.permission.specs.Commands.declared.refusal.Refusal.{Refusal}
+use Rattle.permission.specs.Commands.declared.turn.Command.{Command}
+use Rattle.permission.specs.InstanceKeeper.Book.{BookState}
+use Rattle.permission.specs.ServerModel.Worlds.{World}
 use Rattle.permission.specs.Checks.{Case, first_refusal}
 use Rattle.permission.specs.Replicas.{replicas_but}
 use Rattle.permission.specs.Rows.{about, going_by, moving, refused}

@@ -1,11 +1,11 @@
 -- The plans of these commands.
 use Rattle.std.specs.Prelude.{List, [], ◌∷◌, Option, Some, None}
-use Rattle.orch_base.specs.declared.server.ServerNo.{ServerNo}
-use Rattle.commands.specs.declared.line.Line.TheVariants.{Follows, Server}
-use Rattle.commands.specs.declared.turn.Command.{Command}
-use Rattle.instance_keeper.specs.Book.{BookState}
-use Rattle.operations.specs.declared.op.Op.{Op}
-use Rattle.operations.specs.Plans.{again, auto, finished}
+use Rattle.permission.specs.OrchBase.declared.server.ServerNo.{ServerNo}
+use Rattle.permission.specs.Commands.declared.line.Line.TheVariants.{Follows, Server}
+use Rattle.permission.specs.Commands.declared.turn.Command.{Command}
+use Rattle.permission.specs.InstanceKeeper.Book.{BookState}
+use Rattle.permission.specs.Operations.declared.op.Op.{Op}
+use Rattle.permission.specs.Operations.Plans.{again, auto, finished}
 use Rattle.permission.specs.Replicas.{replicas_but}
 use Rattle.permission.specs.Rows.{about}
 use Rattle.permission.specs.Views.{source_of}

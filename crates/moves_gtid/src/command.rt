@@ -3,8 +3,8 @@
 ghost use Rattle.std.specs.Prelude.{◌≡◌};
 ghost use Rattle.moves_gtid.specs.Commands.{gtid_command};
 
+use crate::commands::CommandName;
 use command_routes::{GtidCommand, Planner, Route};
-use commands::CommandName;
 
 /// Which command by GTIDs a command is; none of any other command.
 pub fn gtid_command(name: CommandName) -> Option<GtidCommand>

@@ -6,8 +6,11 @@ mod permits;
 mod plans;
 
 pub use command::gtid_command;
+use permission::{
+    commands, instance_keeper_items, operations_items, orch_base, server_model, topology_tree,
+};
 /// Want of memory.
-pub use orch_base::Memory;
 pub use permission::PermitFault;
+pub use permission::orch_base::Memory;
 pub use permits::{leases, permit};
 pub use plans::plan;

@@ -1,25 +1,25 @@
 //! What refuses the commands.
 
 ghost use Rattle.std.specs.Prelude.{◌≡◌, ◌<◌, All, IfOk, IsSome, IsTrue, length};
-ghost use Rattle.orch_base.specs.Gives.{Gives};
-ghost use Rattle.book_views.specs.Forests.{book_forest};
-ghost use Rattle.commands.specs.Turns.{is_within};
+ghost use Rattle.permission.specs.OrchBase.Gives.{Gives};
+ghost use Rattle.permission.specs.BookViews.Forests.{book_forest};
+ghost use Rattle.permission.specs.Commands.Turns.{is_within};
 ghost use Rattle.permission.specs.Checks.{permit_fault, permitted};
 ghost use Rattle.moves_gtid.specs.Commands.{gtid_command};
 ghost use Rattle.moves_gtid.specs.Permits.{case_of, leased_by, refusal_of, row_of};
 
 use crate::command::gtid_command;
+use crate::commands::Command;
+use crate::instance_keeper_items::Book;
+use crate::orch_base::{Moment, ServerNo};
+use crate::server_model::World;
+use crate::topology_tree::Forest;
 use crate::{Memory, PermitFault};
 use command_routes::GtidCommand;
-use commands::Command;
-use instance_keeper::Book;
-use orch_base::{Moment, ServerNo};
 use permission::{
     Check, Movers, answered, one_or_none, replicas_but, row_refusal, source, unknown_in,
 };
-use server_model::World;
 use std::alloc::Global;
-use topology_tree::Forest;
 
 const MOVE: [Check; 11] = [
     Check::SameInstance,

@@ -1,24 +1,24 @@
 //! The plans of the commands.
 
 ghost use Rattle.std.specs.Prelude.{◌≡◌, IfOk, IsSome, IsTrue, length, true};
-ghost use Rattle.book_views.specs.Forests.{book_forest};
-ghost use Rattle.commands.specs.Turns.{is_within};
-ghost use Rattle.operations.specs.Named.{are_named};
+ghost use Rattle.permission.specs.BookViews.Forests.{book_forest};
+ghost use Rattle.permission.specs.Commands.Turns.{is_within};
+ghost use Rattle.permission.specs.Operations.Named.{are_named};
 ghost use Rattle.moves_gtid.specs.Commands.{gtid_command};
 ghost use Rattle.moves_gtid.specs.Plans.{disabled, enabled, moved, ops_of, plan_of, replicas_moved};
 
 use crate::Memory;
 use crate::command::gtid_command;
+use crate::commands::Command;
+use crate::instance_keeper_items::Book;
+use crate::operations_items::Op;
+use crate::orch_base::ServerNo;
+use crate::server_model::World;
+use crate::topology_tree::Forest;
 use command_routes::GtidCommand;
-use commands::Command;
-use instance_keeper::Book;
-use operations::Op;
-use orch_base::ServerNo;
 use permission::{replicas_but, source};
 use plan_parts::{again, again_auto, auto, autos, moved_each, told};
-use server_model::World;
 use std::alloc::Global;
-use topology_tree::Forest;
 
 // Below another server.
 fn moved(alloc: Global, i: ServerNo, d: Option<ServerNo>) -> Result<Vec<Op>, Memory>

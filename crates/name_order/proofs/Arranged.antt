@@ -1,14 +1,7 @@
 -- What std's sort gives is the order of servers by name.
 use Rattle.std.proofs.Common.{sym, get_or, ◌≡◌, ℕ, ◌+◌, ◌<◌, List, [], ◌∷◌, ◌++◌, take, Bor, Bool, map, length, ap, ◌∙◌, subst, refl, arith}
-use Rattle.std.specs.List.{enumerate_from}
-use Rattle.std.specs.List.Sorted.{IsPermutation, IsSortedBy}
-use Rattle.std.specs.Cmp.{IsStrictWeakOrder}
-use Rattle.std.specs.Ordering.{is_lt}
-use Rattle.std.proofs.lemmas.List.{get_or-map, length-map, length-take, map-append, take_more}
-use Rattle.std.proofs.lemmas.List.Sorted.{ranks_by, IsPermutation-map}
-use Rattle.orch_base.specs.Names.{HostPort}
-use Rattle.orch_base.specs.declared.server.ServerNo.{ServerNo}
-use Rattle.name_order.specs.NameOrder.{by_name, order_of, server_of}
+use Rattle.name_order.proofs.Prelude.{HostPort, IsPermutation, IsPermutation-map, IsSortedBy, IsStrictWeakOrder, ServerNo, by_name, enumerate_from}
+use Rattle.name_order.proofs.Prelude.{get_or-map, is_lt, length-map, length-take, map-append, order_of, ranks_by, server_of, take_more}
 use Rattle.name_order.proofs.ByName.{length-by_name, IsOrder-by_name, enumerated_more, order_total, order_tight}
 use Rattle.std.specs.Prelude.{All}
 use Rattle.name_order.proofs.Placing.{number_below}

@@ -1,23 +1,12 @@
 -- What the order of servers by name is.
 use Rattle.std.proofs.Common.{◌≡◌, ℕ, ◌+◌, ◌<◌, Bool, true, false, cond, List, [], ◌∷◌, ◌++◌, map, length, get_or, refl, sym, ap, ◌∙◌, subst, zero, suc, arith}
 use Rattle.std.specs.Prelude.{All, AllPairs}
-use Rattle.std.specs.List.{enumerate_from, range_with_len}
-use Rattle.std.specs.List.Sorted.{IsPermutation}
-use Rattle.std.specs.Cmp.{IsTotalOrder}
-use Rattle.std.specs.Cmp.Lexicographic.{slice_cmp, same_text, texts_ties, on_texts}
-use Rattle.std.specs.Ordering.{is_lt, is_eq, nat_cmp, ordering_then, ordering_reverse}
-use Rattle.std.specs.declared.cmp.Ordering.{Ordering}
-use Rattle.std.specs.declared.cmp.Ordering.TheVariants.{Less, Equal, Greater}
-use Rattle.std.proofs.lemmas.Bool.{false≢true}
-use Rattle.std.proofs.lemmas.Cmp.{on_total, then_total, nat_cmp_total, ranked}
-use Rattle.std.proofs.lemmas.List.{get_or-map, length-map, get_or_default}
-use Rattle.std.proofs.lemmas.List.Elements.{All-nil, All-cons, All-head, All-tail, All-weaker}
-use Rattle.std.proofs.lemmas.List.FromFn.{length-enumerate_from, get_or-enumerate_from}
-use Rattle.std.proofs.lemmas.List.Sorted.{IsPermutation-map, All-permutation, length_permutation}
-use Rattle.orch_base.specs.Names.{HostPort, name_cmp}
-use Rattle.orch_base.specs.declared.server.ServerNo.{ServerNo}
-use Rattle.name_order.specs.NameOrder.{order_of, server_of, by_name, named, IsOrder, IsRising}
-use Rattle.name_order.specs.Sorts.{insert_by, sort_by}
+use Rattle.name_order.proofs.Prelude.{All-cons, All-head, All-nil, All-permutation, All-tail, All-weaker, Equal, Greater, HostPort, IsOrder}
+use Rattle.name_order.proofs.Prelude.{IsPermutation, IsPermutation-map, IsRising, IsTotalOrder, Less, Ordering, ServerNo, by_name, enumerate_from}
+use Rattle.name_order.proofs.Prelude.{false≢true, get_or-enumerate_from, get_or-map, get_or_default, insert_by, is_eq, is_lt, length-enumerate_from}
+use Rattle.name_order.proofs.Prelude.{length-map, length_permutation, name_cmp, named, nat_cmp, nat_cmp_total, on_texts, on_total, order_of}
+use Rattle.name_order.proofs.Prelude.{ordering_reverse, ordering_then, range_with_len, ranked, same_text, server_of, slice_cmp, sort_by, texts_ties}
+use Rattle.name_order.proofs.Prelude.{then_total}
 use Rattle.name_order.proofs.Sorting.{IsTight, inserted, sorted_permutes}
 
 name_total : IsTotalOrder name_cmp

@@ -1,3 +1,4 @@
+mod Prelude
 pub mod Sorting
 pub mod ByName
 pub mod Arranged

@@ -1,19 +1,10 @@
 -- The place of each server in an order.
 use Rattle.std.proofs.Common.{◌≡◌, ℕ, ◌+◌, ◌<◌, false, List, map, length, get_or, set, refl, sym, ap, ◌∙◌, subst, eq-eqb, inl, inr, arith}
 use Rattle.std.specs.Prelude.{All, AllPairs, Contains, ◌≢◌, ◌⊎◌, nat_eq}
-use Rattle.std.specs.List.{range_with_len}
-use Rattle.std.specs.Bool.{Decides}
-use Rattle.std.proofs.lemmas.Bool.{eqb-true, cases_lt}
-use Rattle.std.proofs.lemmas.Bool.Decides.{eqb_tells}
-use Rattle.std.proofs.lemmas.Cmp.{nat_eq_equiv}
-use Rattle.std.proofs.lemmas.List.{get_or-map, length-map, get_or_default, get_or-set_same, get_or-set_other}
-use Rattle.std.proofs.lemmas.List.FromFn.{length-range_with_len, get_or-range_with_len, fill_by_all}
-use Rattle.std.proofs.lemmas.List.Sorted.{All-permutation, Contains-permutation}
-use Rattle.std.proofs.lemmas.List.Sums.{position_or_len_is}
-use Rattle.std.proofs.lemmas.Map.Keys.{IsDistinct-IsPermutation}
-use Rattle.std.proofs.lemmas.Map.Made.{AllPairs-from_IsDistinct, IsDistinct-from_AllPairs}
-use Rattle.orch_base.specs.declared.server.ServerNo.{ServerNo}
-use Rattle.name_order.specs.NameOrder.{IsOrder, rank_of, ranks_of}
+use Rattle.name_order.proofs.Prelude.{All-permutation, AllPairs-from_IsDistinct, Contains-permutation, Decides, IsDistinct-from_AllPairs}
+use Rattle.name_order.proofs.Prelude.{IsDistinct-IsPermutation, IsOrder, ServerNo, cases_lt, eqb-true, eqb_tells, fill_by_all, get_or-map}
+use Rattle.name_order.proofs.Prelude.{get_or-range_with_len, get_or-set_other, get_or-set_same, get_or_default, length-map, length-range_with_len}
+use Rattle.name_order.proofs.Prelude.{nat_eq_equiv, position_or_len_is, range_with_len, rank_of, ranks_of}
 
 number : ServerNo → ℕ
 number server = server.0

@@ -1,18 +1,10 @@
 -- Sorting by a total order that tells elements apart gives one list.
 use Rattle.std.proofs.Common.{Bool, true, zero, ◌≡◌, ℕ, ◌+◌, ◌<◌, false, cond, List, [], ◌∷◌, get_or, refl, sym, ap, subst, suc, arith}
 use Rattle.std.specs.Prelude.{All}
-use Rattle.std.specs.List.{sum_by}
-use Rattle.std.specs.List.Sorted.{IsPermutation, IsSortedBy}
-use Rattle.std.specs.Cmp.{IsTotalOrder, IsStrictWeakOrder}
-use Rattle.std.specs.Ordering.{is_lt, is_eq, is_gt, ordering_reverse}
-use Rattle.std.specs.declared.cmp.Ordering.{Ordering}
-use Rattle.std.specs.declared.cmp.Ordering.TheVariants.{Less, Equal, Greater}
-use Rattle.std.proofs.lemmas.Bool.{false≢true}
-use Rattle.std.proofs.lemmas.Cmp.{tied_itself}
-use Rattle.std.proofs.lemmas.List.Sums.{sum_by-cons}
-use Rattle.std.proofs.lemmas.List.Sorted.{sorted_far, ranks_by, sum_by-IsPermutation, IsPermutation-refl, IsPermutation-trans, IsPermutation-cons, IsPermutation-sym, IsPermutation-middle, All-permutation}
-use Rattle.std.proofs.lemmas.List.Elements.{All-nil, All-cons, All-head, All-tail, All-weaker}
-use Rattle.name_order.specs.Sorts.{insert_by, sort_by}
+use Rattle.name_order.proofs.Prelude.{All-cons, All-head, All-nil, All-permutation, All-tail, All-weaker, Equal, Greater, IsPermutation}
+use Rattle.name_order.proofs.Prelude.{IsPermutation-cons, IsPermutation-middle, IsPermutation-refl, IsPermutation-sym, IsPermutation-trans}
+use Rattle.name_order.proofs.Prelude.{IsSortedBy, IsStrictWeakOrder, IsTotalOrder, Less, Ordering, false≢true, insert_by, is_eq, is_gt, is_lt}
+use Rattle.name_order.proofs.Prelude.{ordering_reverse, ranks_by, sort_by, sorted_far, sum_by, sum_by-cons, sum_by-IsPermutation, tied_itself}
 
 -- elements are equal where the order doesn't tell them apart
 abbrev pub IsTight : {X : Type 0} → (X → X → Ordering) → Type 0

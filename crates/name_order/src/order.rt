@@ -2,7 +2,7 @@
 
 ghost use Rattle.std.specs.Prelude.{◌≡◌, ◌<◌, ◌^◌, All, IfOk, length, map};
 ghost use Rattle.std.specs.List.{enumerate_from};
-ghost use Rattle.name_order.specs.NameOrder.{by_name, order_of, rank_of, ranks_of, IsOrder};
+ghost use Rattle.name_order.specs.NameOrder.{by_name, order_of, ranks_of, IsOrder};
 
 use crate::Memory;
 use orch_base::{Name, ServerNo};

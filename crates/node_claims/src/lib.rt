@@ -3,7 +3,6 @@
 
 mod claims;
 mod laws;
-mod threads;
 
 pub use claims::{ClaimAnswer, Claims, ReleaseAnswer};
 pub use laws::{

@@ -1,20 +1,10 @@
 -- Rows behind those of instances keep all that is kept of recoveries.
 use Rattle.std.proofs.Common.{◌≡◌, ◌∙◌, ℕ, zero, suc, ◌-◌, ◌<◌, ◌≤◌, true, false, not, List, [], ◌∷◌, length, get_or, drop, take, Option, None, refl, sym, ap, map, arith}
 use Rattle.std.specs.Prelude.{◌++◌, filter_map}
-use Rattle.std.specs.List.{cons_option, position, position_or_len}
-use Rattle.std.proofs.Math.Seq.{take-length}
-use Rattle.std.proofs.lemmas.Bool.{false≢true}
-use Rattle.std.proofs.lemmas.List.{length-drop}
-use Rattle.std.proofs.lemmas.Grind.{common_steps}
-use Rattle.std.proofs.lemmas.List.Sums.{fails_before_first}
-use Rattle.orch_base.specs.declared.server.Moment.{Moment}
-use Rattle.kept_rows.specs.declared.row.Row.{Row}
-use Rattle.kept_rows.specs.declared.row.Row.TheVariants as row
-use Rattle.audit_log.specs.Audits.{AuditState}
-use Rattle.audit_log.specs.Loading.{loaded_by, recovery_row_in}
-use Rattle.kept_rows.specs.declared.recovery.RecoveryRow.{RecoveryRow}
-use Rattle.opening_book.specs.Audits.{audit_of, is_instance}
-use Rattle.opening_book.specs.Opening.{block_given, interrupting, loading}
+use Rattle.opening_book.proofs.Prelude.{AuditState, Moment, RecoveryRow, Row, audit_of, block_given, common_steps, cons_option, fails_before_first}
+use Rattle.opening_book.proofs.Prelude.{false≢true, interrupting, is_instance, length-drop, loaded_by, loading, position, position_or_len}
+use Rattle.opening_book.proofs.Prelude.{recovery_row_in, take-length}
+use Rattle.opening_book.proofs.Prelude.row
 
 behind : {X : Type 0} (f : Row → Option X) (rows : List Row) (from : ℕ) (d : Row) → from ≤ length rows → ((k : ℕ) → k < from → f (get_or rows k d) ≡ None) → filter_map f (drop from rows) ≡ filter_map f rows
 behind f rows zero d within none = refl
@@ -24,20 +14,12 @@ behind f (r ∷ rows) (suc n) d within none =
     ∙ sym (ap (λ o. cons_option o (filter_map f rows)) (none zero (omega arith)))
 
 no_recovery : (r : Row) → not (is_instance r) ≡ false → recovery_row_in r ≡ None
-no_recovery (row.Instance i) is = refl
-no_recovery (row.Downtime d) is = refl
-no_recovery (row.Candidate c) is = refl
 no_recovery (row.Recovery k) is = absurd (false≢true (sym is))
-no_recovery (row.Switch enabled) is = refl
-no_recovery (row.Active node until) is = refl
+no_recovery _ is = refl
 
 no_block : (period : List ℕ → ℕ) (r : Row) → not (is_instance r) ≡ false → block_given period r ≡ None
-no_block period (row.Instance i) is = refl
-no_block period (row.Downtime d) is = refl
-no_block period (row.Candidate c) is = refl
 no_block period (row.Recovery k) is = absurd (false≢true (sym is))
-no_block period (row.Switch enabled) is = refl
-no_block period (row.Active node until) is = refl
+no_block period _ is = refl
 
 pub before_none : (rows : List Row) → position (λ r. not (is_instance r)) rows ≡ None → (k : ℕ) → k < length rows → not (is_instance (get_or rows k (row.Switch true))) ≡ false
 before_none rows none k less =

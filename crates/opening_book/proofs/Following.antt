@@ -1,35 +1,17 @@
 -- Kept rows follow a book from its loading on, through each change.
+pub use Rattle.instance_keeper.proofs.KeptRows.Same.{eq_is as is_eq}
 use Rattle.std.proofs.Common.{◌≡◌, ◌∙◌, ℕ, ◌<◌, ◌^◌, Bool, true, false, List, [], ◌∷◌, length, map, refl, sym, ap, subst, Option, Some, None, zero, suc, arith}
 use Rattle.std.specs.Prelude.{All, ◌&&◌, ◌==◌, filter, filter_map, fold, option_map, replicate, if◌then◌else◌}
-use Rattle.std.proofs.lemmas.Bool.{false≢true}
-use Rattle.std.proofs.lemmas.List.Elements.{All-nil, All-cons, All-head, All-tail}
-use Rattle.orch_base.specs.declared.server.Settings.{Settings}
-use Rattle.std.proofs.lemmas.List.{length-map, length-set}
-use Rattle.kept_rows.specs.Recoveries.{put_recovery, as_row}
-use Rattle.opening_book.specs.Opening.{after_opening, is_opening_change, opened_book}
-use Rattle.orch_base.specs.declared.server.ServerNo.{ServerNo}
-use Rattle.kept_rows.specs.declared.observation.Instance.{Instance}
-use Rattle.instance_keeper.specs.declared.bridge.Bridge.{Bridge}
-use Rattle.instance_keeper.specs.Bridges.{ring_at, ringed, with_bridge}
-use Rattle.orch_base.specs.Names.{HostPort}
-use Rattle.kept_rows.specs.declared.row.Row.{Row}
-use Rattle.kept_rows.specs.declared.row.Row.TheVariants as row
-use Rattle.kept_rows.specs.declared.row.Change.{Change}
-use Rattle.kept_rows.specs.declared.row.Change.TheVariants as change
-use Rattle.kept_rows.specs.declared.recovery.Recovery.{Recovery}
-use Rattle.kept_rows.specs.declared.recovery.RecoveryRow.{RecoveryRow}
-use Rattle.instance_keeper.proofs.NoRecovery.{no_recovery}
-use Rattle.kept_rows.specs.Servers.{row_fits, fits, are_known, servers_of}
-use Rattle.instance_keeper.specs.Book.{BookState, IsBook, after_addition, after_put, after_row, after_change, shown_by, book_rows, empty_book}
-use Rattle.kept_rows.specs.Ranges.{IsInRange}
-use Rattle.kept_rows.specs.Rows.{sort_key, sort_key_of, row_in, row_after, map_of, changed, changed_by, IsRising}
-use Rattle.instance_keeper.proofs.BookLaws.{book_change, book_put}
-use Rattle.instance_keeper.proofs.Books.{change_is, empty_is}
-use Rattle.instance_keeper.proofs.Steady.{same-change, same-put}
-use Rattle.kept_rows.proofs.Lists.{pairs_head, pairs_tail}
-use Rattle.kept_rows.proofs.LookUps.{row_in-put, row_in-changed_by, row_in-map_of, map_of_rising, changed_by_rising}
-use Rattle.opening_book.specs.Counting.{counts, greatest_id, is_in_range, loaded}
-use Rattle.opening_book.specs.Following.{is_for_book, IsIdInRange, IsKeptFor, Follow}
+use Rattle.opening_book.proofs.Prelude.{All-cons, All-head, All-nil, All-tail, BookState, Bridge, Change, Follow, HostPort, Instance, IsBook}
+use Rattle.opening_book.proofs.Prelude.{IsIdInRange, IsInRange, IsKeptFor, IsRising, Recovery, RecoveryRow, Row, ServerNo, Settings, after_addition}
+use Rattle.opening_book.proofs.Prelude.{after_change, after_opening, after_put, after_row, are_known, as_row, book_change, book_put, book_rows}
+use Rattle.opening_book.proofs.Prelude.{change_is, changed, changed_by, changed_by_rising, counts, empty_book, empty_is, false≢true, fits}
+use Rattle.opening_book.proofs.Prelude.{greatest_id, is_for_book, is_in_range, is_opening_change, length-map, length-set, loaded, map_of}
+use Rattle.opening_book.proofs.Prelude.{map_of_rising, no_recovery, opened_book, pairs_head, pairs_tail, put_recovery, ring_at, ringed, row_after}
+use Rattle.opening_book.proofs.Prelude.{row_fits, row_in, row_in-changed_by, row_in-map_of, row_in-put, same-change, same-put, servers_of, shown_by}
+use Rattle.opening_book.proofs.Prelude.{sort_key, sort_key_of, with_bridge}
+use Rattle.opening_book.proofs.Prelude.change
+use Rattle.opening_book.proofs.Prelude.row
 
 -- the row of a sort key that passes a test
 
@@ -58,9 +40,6 @@ picked-above test p kept (r ∷ rows) all =
 
 pub rest_rising : (r : Row) (rows : List Row) → IsRising (r ∷ rows) → IsRising rows
 rest_rising r rows rising = record { apart = pairs_tail (λ a b. sort_key_of a < sort_key_of b) r rows rising.apart }
-
-pub is_eq : (a b : ℕ) → (a == b) ≡ true → a ≡ b
-is_eq a b h = grind arith
 
 picked-rising : (test : Row → Bool) (p : ℕ) (rows : List Row) → IsRising rows → picked test p None rows ≡ passing test (row_in rows p)
 picked-rising test p [] rising = refl
@@ -299,11 +278,7 @@ Follow-opening rows b (change.Put (row.Active node until)) follow fit range id =
 pub names-opening : (b : BookState) (c : Change) → (after_opening b c).names ≡ b.names
 names-opening b (change.Remove t k) = names-change b (change.Remove t k)
 names-opening b (change.Put (row.Instance i)) = refl
-names-opening b (change.Put (row.Downtime d)) = refl
-names-opening b (change.Put (row.Candidate c)) = refl
-names-opening b (change.Put (row.Recovery r)) = refl
-names-opening b (change.Put (row.Switch enabled)) = refl
-names-opening b (change.Put (row.Active node until)) = refl
+names-opening b _ = refl
 
 -- changes of an opening
 abbrev pub Takes : ℕ → Change → Type 0

@@ -1,3 +1,4 @@
+mod Prelude
 pub mod Missing
 pub mod Following
 pub mod Recoveries

@@ -1,12 +1,7 @@
 -- The changes of an opening, one server after another.
 use Rattle.std.proofs.Common.{◌≡◌, ℕ, ◌+◌, ◌<◌, List, [], ◌∷◌, ◌++◌, length, take, get_or, Option, None, Some, refl, sym, ap, ◌∙◌, arith}
-use Rattle.std.specs.List.{cons_option}
+use Rattle.opening_book.proofs.Prelude.{Change, changes_from, cons_option, filter_map-append, length-take, option_to_list, take_more}
 use Rattle.std.specs.Prelude.{filter_map}
-use Rattle.std.specs.Option.{option_to_list}
-use Rattle.std.proofs.lemmas.List.{take_more, length-take}
-use Rattle.std.proofs.lemmas.List.Elements.{filter_map-append}
-use Rattle.kept_rows.specs.declared.row.Change.{Change}
-use Rattle.opening_book.specs.Opening.{changes_from}
 
 cons-append : (o : Option Change) (xs ys : List Change) → cons_option o xs ++ ys ≡ cons_option o (xs ++ ys)
 cons-append None xs ys = refl

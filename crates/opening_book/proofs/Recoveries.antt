@@ -1,43 +1,23 @@
 -- Kept rows follow the audit that is loaded of them, and go on to do so.
 use Rattle.std.proofs.Common.{◌≡◌, ◌∙◌, ℕ, ◌+◌, ◌-◌, ◌<◌, ◌≤◌, ◌^◌, Bool, true, false, leb, ltb, List, [], ◌∷◌, map, refl, sym, ap, subst, Option, Some, None, arith}
 use Rattle.std.specs.Prelude.{All, AllPairs, ◌&&◌, ◌==◌, filter, find, fold, is_none, is_some, not, option_and_then, option_map, unwrap_or, if◌then◌else◌}
-use Rattle.std.specs.List.{cons_option}
-use Rattle.std.proofs.lemmas.Bool.{eq-eqb, false≢true, le-leb, leb-true, ne_eqb}
-use Rattle.std.proofs.lemmas.List.Elements.{All-nil, All-cons, All-append, All-filter, All-head, All-map, All-tail, All-weaker, filter_passes}
-use Rattle.std.proofs.lemmas.List.Kept.{AllPairs-filter}
-use Rattle.std.proofs.lemmas.List.Sums.{fold-append}
-use Rattle.orch_base.specs.declared.server.Moment.{Moment}
-use Rattle.kept_rows.specs.Recoveries.{as_row, put_recovery}
-use Rattle.kept_rows.specs.declared.recovery.Recovery.{Recovery}
-use Rattle.kept_rows.specs.declared.recovery.RecoveryRow.{RecoveryRow}
-use Rattle.kept_rows.specs.declared.row.Row.{Row}
-use Rattle.kept_rows.specs.declared.row.Row.TheVariants as row
-use Rattle.kept_rows.specs.declared.row.Change.{Change}
-use Rattle.kept_rows.specs.declared.row.Change.TheVariants as change
-use Rattle.kept_rows.specs.declared.row.Table.{Table}
-use Rattle.kept_rows.specs.declared.row.Table.TheVariants as table
-use Rattle.kept_rows.specs.declared.row.Key.{Key}
-use Rattle.kept_rows.specs.declared.row.Key.TheVariants as key
-use Rattle.kept_rows.specs.Servers.{are_known, ending_servers, fits, is_of_book, key_servers, row_fits, source_servers}
-use Rattle.kept_rows.specs.Ranges.{IsInRange, IsKeyInRange}
-use Rattle.kept_rows.specs.Rows.{changed, changed_by, key_number, key_of, map_of, put, row_after, row_in, rows_before, rows_behind, sort_key, sort_key_of, IsRising}
-use Rattle.instance_keeper.specs.Book.{BookState}
-use Rattle.kept_rows.proofs.Known.{both_true, head_known}
-use Rattle.kept_rows.proofs.Recoveries.{kept-back}
-use Rattle.kept_rows.proofs.Lists.{pairs_head, pairs_tail}
-use Rattle.kept_rows.proofs.LookUps.{map_of_rising, row_in-changed, row_in-changed_by}
-use Rattle.instance_keeper.proofs.NoRecovery.{row_in-elsewhere}
-use Rattle.audit_log.specs.Audits.{acking, acknowledged, acknowledged_for, closed, closing, ended_so, interrupted, is_new, is_of, is_unended, longest_block, recovery_at, AuditState, IsAudit}
-use Rattle.audit_log.specs.Loading.{loaded_by, recoveries_in, recovery_row_in}
-use Rattle.audit_log.proofs.Changes.{IsAudit-map, none-at}
-use Rattle.audit_log.proofs.Kept.{acknowledged-block, acknowledged-id, interrupted-block, interrupted-id}
-use Rattle.audit_log.proofs.Loaded.{kept-audit}
-use Rattle.opening_book.specs.Audits.{audit_of, id_in, last_id, later_id}
-use Rattle.opening_book.specs.Counting.{counted, counts, greatest, greatest_id, is_block_in_range, is_end_in_range, is_in_range}
-use Rattle.opening_book.specs.Following.{Follow, FollowAudit, IsAudited}
-use Rattle.opening_book.specs.Opening.{blocks_given, interrupting, loading}
+use Rattle.opening_book.proofs.Prelude.{All-append, All-cons, All-filter, All-head, All-map, All-nil, All-tail, All-weaker, AllPairs-filter}
+use Rattle.opening_book.proofs.Prelude.{AuditState, BookState, Change, Follow, FollowAudit, IsAudit, IsAudit-map, IsAudited, IsInRange, IsKeyInRange}
+use Rattle.opening_book.proofs.Prelude.{IsRising, Key, Moment, Recovery, RecoveryRow, Row, Table, acking, acknowledged, acknowledged-block}
+use Rattle.opening_book.proofs.Prelude.{acknowledged-id, acknowledged_for, are_known, as_row, audit_of, blocks_given, both_true, changed, changed_by}
+use Rattle.opening_book.proofs.Prelude.{closed, closing, cons_option, counted, counts, ended_so, ending_servers, eq-eqb, false≢true, filter_passes}
+use Rattle.opening_book.proofs.Prelude.{fits, fold-append, greatest, greatest_id, head_known, id_in, interrupted, interrupted-block, interrupted-id}
+use Rattle.opening_book.proofs.Prelude.{interrupting, is_block_in_range, is_end_in_range, is_in_range, is_new, is_of, is_of_book, is_unended}
+use Rattle.opening_book.proofs.Prelude.{kept-audit, kept-back, key_number, key_of, key_servers, last_id, later_id, le-leb, leb-true, loaded_by}
+use Rattle.opening_book.proofs.Prelude.{loading, longest_block, map_of, map_of_rising, ne_eqb, none-at, pairs_head, pairs_tail, put, put_recovery}
+use Rattle.opening_book.proofs.Prelude.{recoveries_in, recovery_at, recovery_row_in, row_after, row_fits, row_in, row_in-changed, row_in-changed_by}
+use Rattle.opening_book.proofs.Prelude.{row_in-elsewhere, rows_before, rows_behind, sort_key, sort_key_of, source_servers}
+use Rattle.opening_book.proofs.Prelude.change
+use Rattle.opening_book.proofs.Prelude.ending
+use Rattle.opening_book.proofs.Prelude.key
+use Rattle.opening_book.proofs.Prelude.row
+use Rattle.opening_book.proofs.Prelude.table
 use Rattle.opening_book.proofs.Following.{is_eq, map_of-rising, passing, rest_rising, Follow-puts, PutsRecovery}
-use Rattle.orch_base.specs.declared.recovery.Ending.TheVariants as ending
 
 -- where the recovery of an id stands
 abbrev at : ℕ → ℕ
@@ -227,12 +207,10 @@ stands-at (r ∷ rows) p x h = go (sort_key_of r == p) refl h (stands-at rows p 
 
 -- of a recovery's key only a recovery is a row that counts
 recovery-there : (id : ℕ) → id < 2 ^ 64 → (x : Row) → IsKeyed x → sort_key_of x ≡ at id → (k : RecoveryRow) × (x ≡ row.Recovery k)
-recovery-there id small (row.Instance i) range is = absurd (omega (arith, range, is))
-recovery-there id small (row.Downtime d) range is = absurd (omega (arith, range, is))
-recovery-there id small (row.Candidate c) range is = absurd (omega (arith, range, is))
 recovery-there id small (row.Recovery k) range is = (k, refl)
 recovery-there id small (row.Switch e) range is = absurd (omega (arith, small, is))
 recovery-there id small (row.Active node end) range is = absurd (omega (arith, small, is))
+recovery-there id small _ range is = absurd (omega (arith, range, is))
 
 -- ---- at a load
 
@@ -338,16 +316,12 @@ ids-below start (r ∷ rows) =
     All-cons (λ x. id_in x ≤ fold later_id (later_id start r) rows) r rows (omega (arith, more)) (ids-below (later_id start r) rows)
 
 id-within : (r : Row) → id_in r ≤ greatest_id
-id-within (row.Instance i) = omega arith
-id-within (row.Downtime d) = omega arith
-id-within (row.Candidate c) = omega arith
-id-within (row.Switch e) = omega arith
-id-within (row.Active node end) = omega arith
 id-within (row.Recovery r) = go (leb r.id greatest_id) refl
   where
     go : (b : Bool) → leb r.id greatest_id ≡ b → (if b then r.id else 0) ≤ greatest_id
     go true is = leb-true r.id greatest_id is
     go false is = omega arith
+id-within _ = omega arith
 
 last-within : (start : ℕ) (rows : List Row) → start ≤ greatest_id → fold later_id start rows ≤ greatest_id
 last-within start [] h = h
@@ -390,14 +364,10 @@ ids-agree last id most h = go (leb id greatest_id) refl h
 
 -- of the rows that are handed back the same count by the greatest id and by the last one
 rows-agree : (count : ℕ) (rows : List Row) (x : Row) → id_in x ≤ last_id rows → counts count greatest_id x ≡ counts count (last_id rows) x
-rows-agree count rows (row.Instance i) h = refl
-rows-agree count rows (row.Downtime d) h = refl
-rows-agree count rows (row.Candidate c) h = refl
-rows-agree count rows (row.Switch e) h = refl
-rows-agree count rows (row.Active node end) h = refl
 rows-agree count rows (row.Recovery r) h =
     ap (λ b. are_known count (r.failed.0 ∷ ending_servers r.outcome) && ((leb 1 r.id && b) && (leb r.begun.0 greatest && (is_end_in_range r.ended && is_block_in_range r.block))))
     (ids-agree (last_id rows) r.id (last_id-within rows) h)
+rows-agree count rows _ h = refl
 
 counted-opening : (count : ℕ) (rows : List Row) → counted count greatest_id rows ≡ counted count (last_id rows) rows
 counted-opening count rows =

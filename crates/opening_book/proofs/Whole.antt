@@ -1,7 +1,6 @@
 -- Rows that all count.
 use Rattle.std.proofs.Common.{◌≡◌, Bool, true, List, [], ◌∷◌, filter, refl}
-use Rattle.std.specs.List.{list_all}
-use Rattle.kept_rows.proofs.Known.{both_true}
+use Rattle.opening_book.proofs.Prelude.{both_true, list_all}
 
 pub filter_whole : {X : Type 0} (p : X → Bool) (xs : List X) → list_all p xs ≡ true → filter p xs ≡ xs
 filter_whole p [] all = refl

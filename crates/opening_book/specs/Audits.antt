@@ -1,10 +1,7 @@
 -- The audit of kept rows.
 use Rattle.std.specs.Prelude.{ℕ, nat_le, Bool, true, false, if◌then◌else◌, List, fold, max}
-use Rattle.kept_rows.specs.declared.recovery.Recovery.{Recovery}
-use Rattle.kept_rows.specs.declared.row.Row.{Row}
-use Rattle.kept_rows.specs.declared.row.Row.TheVariants as row
-use Rattle.audit_log.specs.Audits.{AuditState}
-use Rattle.audit_log.specs.Loading.{recoveries_in}
+use Rattle.opening_book.specs.Prelude.{AuditState, Recovery, Row, recoveries_in}
+use Rattle.opening_book.specs.Prelude.row
 use Rattle.opening_book.specs.Counting.{end_or, greatest_id}
 
 -- the id of a recovery, where it is in the range of an opening

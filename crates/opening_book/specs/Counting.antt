@@ -1,13 +1,7 @@
 -- Kept rows that count: those of the scenario's servers whose numbers are in their ranges.
 use Rattle.std.specs.Prelude.{ℕ, ◌^◌, ◌&&◌, nat_le, Bool, true, List, Option, None, Some, filter, fold, length, max}
-use Rattle.orch_base.specs.declared.server.Moment.{Moment}
-use Rattle.orch_base.specs.declared.server.Settings.{Settings}
-use Rattle.kept_rows.specs.declared.row.Row.{Row}
-use Rattle.kept_rows.specs.declared.row.Row.TheVariants as row
-use Rattle.kept_rows.specs.Rows.{map_of}
-use Rattle.audit_log.specs.Audits.{longest_block}
-use Rattle.kept_rows.specs.Servers.{are_known, servers_of}
-use Rattle.instance_keeper.specs.Book.{BookState, book_made}
+use Rattle.opening_book.specs.Prelude.{BookState, Moment, Row, Settings, are_known, book_made, longest_block, map_of, servers_of}
+use Rattle.opening_book.specs.Prelude.row
 
 -- read numbers and moments are at most this
 abbrev pub greatest : ℕ

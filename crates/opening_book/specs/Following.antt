@@ -1,18 +1,11 @@
 -- Kept rows that follow a book and an audit.
 use Rattle.std.specs.Prelude.{◌≡◌, ℕ, ◌-◌, ◌<◌, ◌≤◌, ◌^◌, ◌&&◌, Bool, false, length, List, Option, None, Some, IfSome, ⊤}
-use Rattle.orch_base.specs.declared.server.Moment.{Moment}
-use Rattle.kept_rows.specs.Recoveries.{as_row}
-use Rattle.kept_rows.specs.declared.recovery.Recovery.{Recovery}
-use Rattle.kept_rows.specs.declared.row.Row.{Row}
-use Rattle.kept_rows.specs.Servers.{is_of_book}
-use Rattle.instance_keeper.specs.Book.{BookState, book_rows, IsBook}
-use Rattle.kept_rows.specs.Rows.{changed, table_of, row_at, row_in, IsRising}
-use Rattle.kept_rows.specs.declared.row.Row.TheVariants as row
-use Rattle.kept_rows.specs.declared.row.Change.{Change}
-use Rattle.kept_rows.specs.declared.row.Change.TheVariants as change
-use Rattle.kept_rows.specs.declared.row.Table.TheVariants as table
-use Rattle.kept_rows.specs.declared.row.Key.TheVariants as key
-use Rattle.audit_log.specs.Audits.{AuditState, closed, longest_block, recovery_at, IsAudit}
+use Rattle.opening_book.specs.Prelude.{AuditState, BookState, Change, IsAudit, IsBook, IsRising, Moment, Recovery, Row, as_row, book_rows, changed}
+use Rattle.opening_book.specs.Prelude.{closed, is_of_book, longest_block, recovery_at, row_at, row_in, table_of}
+use Rattle.opening_book.specs.Prelude.change
+use Rattle.opening_book.specs.Prelude.key
+use Rattle.opening_book.specs.Prelude.row
+use Rattle.opening_book.specs.Prelude.table
 use Rattle.opening_book.specs.Audits.{audit_of}
 use Rattle.opening_book.specs.Counting.{counted, counts, greatest_id}
 use Rattle.opening_book.specs.Opening.{loading}

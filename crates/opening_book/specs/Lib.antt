@@ -1,3 +1,4 @@
+pub mod Prelude
 pub mod Counting
 pub mod Audits
 pub mod Opening

@@ -2,24 +2,11 @@
 -- registrations that the scenario gives, the block periods of recoveries whose rows have none, and the recoveries that
 -- it interrupts.
 use Rattle.std.specs.Prelude.{ℕ, ◌+◌, ◌&&◌, Bool, true, false, if◌then◌else◌, List, [], ◌∷◌, ◌++◌, filter_map, fold, map, Option, None, Some, is_none, slice_index_or}
-use Rattle.std.specs.List.{cons_option}
-use Rattle.orch_base.specs.declared.rule.Rule.{Rule}
-use Rattle.orch_base.specs.declared.server.Moment.{Moment}
-use Rattle.kept_rows.specs.declared.observation.Instance.{Instance}
-use Rattle.kept_rows.specs.Recoveries.{put_recovery}
-use Rattle.kept_rows.specs.declared.row.Candidate.{Candidate}
-use Rattle.kept_rows.specs.declared.row.Row.{Row}
-use Rattle.kept_rows.specs.declared.row.Row.TheVariants as row
-use Rattle.kept_rows.specs.declared.row.Change.{Change}
-use Rattle.kept_rows.specs.declared.row.Change.TheVariants as change
-use Rattle.kept_rows.specs.Servers.{fits, row_fits}
-use Rattle.instance_keeper.specs.Book.{BookState, after_addition, after_put, after_removal}
-use Rattle.instance_keeper.specs.Had.{put_change}
-use Rattle.audit_log.specs.Audits.{AuditState, closing}
-use Rattle.audit_log.specs.Loading.{loaded_by}
-use Rattle.server_model.specs.declared.server.Server.{Server}
-use Rattle.server_model.specs.Worlds.{World, server_at}
-use Rattle.server_model.specs.Gtids.{shown_of}
+use Rattle.opening_book.specs.Prelude.{AuditState, BookState, Candidate, Change, Instance, Moment, Row, Rule, Server, World, after_addition}
+use Rattle.opening_book.specs.Prelude.{after_put, after_removal, closing, cons_option, fits, loaded_by, put_change, put_recovery, row_fits, server_at}
+use Rattle.opening_book.specs.Prelude.{shown_of}
+use Rattle.opening_book.specs.Prelude.change
+use Rattle.opening_book.specs.Prelude.row
 
 -- a server as it is known at the opening: valid where orchestrator reaches it
 abbrev pub opening_instance : World → Moment → ℕ → Server → Instance

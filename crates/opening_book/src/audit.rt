@@ -1,17 +1,15 @@
 //! The audit of kept rows.
 
 ghost use Rattle.std.specs.Prelude.{◌≡◌, ℕ, List, IfOk, not};
-ghost use Rattle.std.specs.List.{position};
-ghost use Rattle.audit_log.specs.Audits.{AuditState, IsAudit};
+ghost use Rattle.opening_book.specs.Prelude.{AuditState, IsAudit, Moment as AMoment, position};
 ghost use Rattle.opening_book.specs.Audits.{audit_of, id_in, is_instance, last_id, later_id, latest_recovery, recovery_raised};
 ghost use Rattle.opening_book.specs.Opening.{loading};
-ghost use Rattle.orch_base.specs.declared.server.Moment.{Moment as AMoment};
 
 use crate::Memory;
 use crate::counting::GREATEST_ID;
+use crate::orch_base::Moment;
 use audit_log::{Audit, Periods, recoveries_in};
 use instance_keeper::{Recovery, Row};
-use orch_base::Moment;
 use std::alloc::Global;
 
 fn id_in(row: &Row) -> u64

@@ -1,15 +1,13 @@
 //! Kept rows that count.
 
 ghost use Rattle.std.specs.Prelude.{◌≡◌, ◌<◌, ◌^◌, IfOk, OnOk, filter, length, map};
-ghost use Rattle.std.specs.List.{list_all};
-ghost use Rattle.opening_book.specs.Counting.{counts, counted, is_block_in_range, is_end_in_range, is_in_range, last_read, later_read, latest, loaded, raised, end_or, greatest};
-ghost use Rattle.instance_keeper.specs.Book.{book_made};
-ghost use Rattle.kept_rows.specs.Rows.{IsRising};
-ghost use Rattle.kept_rows.specs.declared.row.Row.TheVariants as row;
+ghost use Rattle.opening_book.specs.Prelude.{IsRising, book_made, list_all};
+ghost use Rattle.opening_book.specs.Prelude.row;
+ghost use Rattle.opening_book.specs.Counting.{counts, counted, is_block_in_range, is_end_in_range, is_in_range, last_read, later_read, latest, raised};
 
 use crate::Memory;
+use crate::orch_base::{Moment, Settings};
 use instance_keeper::{Book, RecoveryRow, Row, row_map};
-use orch_base::{Moment, Settings};
 use std::alloc::Global;
 
 /// Read numbers and moments of rows that count are at most this.

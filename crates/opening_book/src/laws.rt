@@ -1,20 +1,11 @@
 //! What holds of kept rows and the book.
 
 ghost use Rattle.std.specs.Prelude.{◌≡◌, ◌+◌, ◌-◌, ◌<◌, ◌≤◌, ◌^◌, ℕ, All, true, length, map, List};
-ghost use Rattle.orch_base.specs.declared.server.Moment.{Moment as AMoment};
-ghost use Rattle.orch_base.specs.declared.server.Settings.{Settings};
-ghost use Rattle.kept_rows.specs.declared.row.Row.{Row};
-ghost use Rattle.kept_rows.specs.declared.row.Change.{Change};
-ghost use Rattle.kept_rows.specs.Servers.{fits};
-ghost use Rattle.instance_keeper.specs.Book.{BookState, after_change};
-ghost use Rattle.kept_rows.specs.Ranges.{IsInRange};
-ghost use Rattle.kept_rows.specs.Rows.{changed, changed_by, IsRising};
-ghost use Rattle.kept_rows.specs.declared.recovery.Recovery.{Recovery};
-ghost use Rattle.audit_log.specs.Audits.{acking, acknowledged, closed, longest_block, AuditState};
-ghost use Rattle.opening_book.specs.Audits.{audit_of, last_id};
+ghost use Rattle.opening_book.specs.Prelude.{AuditState, BookState, Change, IsInRange, IsRising, Moment as AMoment, Recovery, Row, Settings, acking};
+ghost use Rattle.opening_book.specs.Prelude.{acknowledged, after_change, changed, changed_by, closed, fits, put_recovery};
+ghost use Rattle.opening_book.specs.Audits.{last_id};
 ghost use Rattle.opening_book.specs.Counting.{counted, greatest_id, loaded};
 ghost use Rattle.opening_book.specs.Following.{AreShort, Follow, FollowAudit, FollowOnceLoaded, IsIdInRange};
-ghost use Rattle.kept_rows.specs.Recoveries.{put_recovery};
 ghost use Rattle.opening_book.specs.Opening.{after_opening, blocks_given, interrupting, is_opening_change};
 
 /// Kept rows follow the book that is loaded of them, and go on to do so after each change of both that the book takes,

@@ -1,14 +1,13 @@
 //! The book at an opening, and what is kept then.
 
 ghost use Rattle.std.specs.Prelude.{◌≡◌, ◌<◌, ◌≤◌, ◌^◌, ◌++◌, IfOk, IfSome, OnOk, All, IsTrue, length};
-ghost use Rattle.std.specs.Option.{option_to_list};
-ghost use Rattle.server_model.specs.Worlds.{server_at};
+ghost use Rattle.opening_book.specs.Prelude.{option_to_list, server_at};
 ghost use Rattle.opening_book.specs.Opening.{after_opening, block_given, blocks_given, is_opening_change, loading, missing, missing_from, opened_book, opening_changes, opening_instance, registered, registering, registering_from};
 
 use crate::Memory;
+use crate::orch_base::{Moment, Rule, ServerNo};
 use audit_log::{Audit, Periods, loaded_by};
 use instance_keeper::{Book, Candidate, Change, Instance, Row};
-use orch_base::{Moment, Rule, ServerNo};
 use server_model::World;
 use std::alloc::Global;
 

@@ -1,15 +1,8 @@
 -- The first flaw of several, and what it means that there is none.
 use Rattle.std.proofs.Common.{◌≡◌, ℕ, ◌+◌, ◌*◌, ◌<◌, ◌≤◌, Bool, true, false, cond, List, [], ◌∷◌, length, refl, ap, subst, Some, None, Option, arith, suc, zero, get_or}
 use Rattle.std.specs.Prelude.{slice_get, sum_by}
-use Rattle.std.proofs.lemmas.List.Sums.{get_or-le-sum_by}
-use Rattle.std.proofs.lemmas.Option.{same_Some, slice_get_within, get_or_from_slice_get}
-use Rattle.openings.specs.declared.init.ServerInit.{ServerInit}
-use Rattle.opening_checks.specs.Checks.{InRange}
-use Rattle.openings.specs.Flaws.{bad_files, first_met}
-use Rattle.openings.specs.Listed.{transactions}
-use Rattle.openings.specs.Opening.{opening, IsListed}
-use Rattle.opening_checks.specs.Places.{FilesGood}
-use Rattle.openings.specs.Servers.{parts_of}
+use Rattle.opening_checks.proofs.Prelude.{FilesGood, InRange, IsListed, ServerInit, bad_files, first_met, get_or-le-sum_by, get_or_from_slice_get}
+use Rattle.opening_checks.proofs.Prelude.{opening, parts_of, same_Some, slice_get_within, transactions}
 
 passed-first : (b : Bool) (n : ℕ) (rest : Option ℕ) → cond b (Some n) rest ≡ None → (b ≡ false) × (rest ≡ None)
 passed-first true n rest e = cc

@@ -1,12 +1,7 @@
 -- The logs of sources as they are kept.
 use Rattle.std.proofs.Common.{◌≡◌, ℕ, List, [], ◌∷◌, ◌⊎◌, inl, inr, sym, ap, ◌∙◌, refl, Option, Some, None, suc, zero}
 use Rattle.std.specs.Prelude.{slice_get, slice_set}
-use Rattle.std.proofs.lemmas.List.{length-set}
-use Rattle.std.proofs.lemmas.Option.{same_Some}
-use Rattle.binlog_coords.specs.Index.{Index}
-use Rattle.openings.specs.declared.init.ServerInit.{ServerInit}
-use Rattle.openings.specs.Servers.{log_at}
-use Rattle.opening_checks.specs.SourceLogs.{AreLogs}
+use Rattle.opening_checks.proofs.Prelude.{AreLogs, Index, ServerInit, length-set, log_at, same_Some}
 
 no_log : (l : Index) → Some l ≡ None → ⊥
 no_log l e = cc
@@ -14,11 +9,9 @@ no_log l e = cc
 -- an element of a list with one that was put: that one, or an old one
 put_cases : {X : Type 0} (xs : List X) (n : ℕ) (v : X) (j : ℕ) (y : X) → slice_get (slice_set xs n v) j ≡ Some y → ((j ≡ n) × (y ≡ v)) ⊎ (slice_get xs j ≡ Some y)
 put_cases [] zero v j y h = inr h
-put_cases [] (suc n) v j y h = inr h
 put_cases (x ∷ xs) zero v zero y h = inl (refl, sym (same_Some v y h))
-put_cases (x ∷ xs) zero v (suc j) y h = inr h
-put_cases (x ∷ xs) (suc n) v zero y h = inr h
 put_cases (x ∷ xs) (suc n) v (suc j) y h = elim (put_cases xs n v j y h) [ inl new ↦ inl (ap suc new.0, new.1) | inr old ↦ inr old ]
+put_cases _ _ v _ y h = inr h
 
 -- the log of a server joins those that are kept
 pub AreLogs-put : (servers : List ServerInit) (logs : List (Option Index)) (n : ℕ) (l : Index) → AreLogs servers logs → l.log ≡ log_at servers n → AreLogs servers (slice_set logs n (Some l))

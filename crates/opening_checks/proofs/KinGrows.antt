@@ -1,19 +1,13 @@
 -- The table takes a history that it agrees with.
 use Rattle.std.proofs.Common.{◌≡◌, ℕ, ◌+◌, ◌-◌, ◌<◌, ◌≤◌, ◌⊎◌, inl, inr, true, cond, List, [], ◌∷◌, ◌++◌, length, take, drop, refl, sym, ap, subst, ◌∙◌, Some, None, Option, arith, suc, length-append, get_or}
 use Rattle.std.specs.Prelude.{slice_get, slice_set, ◌==◌}
-use Rattle.std.proofs.lemmas.Bool.{cases_eq, cases_Bool, eq-eqb, ne_eqb, eqb-true, eqb-false, cases_order}
-use Rattle.std.proofs.lemmas.List.{get_or-set_same, get_or-set_other, length-set, drop_more}
-use Rattle.std.proofs.lemmas.Option.{unwrap_or-slice_get, slice_get-get_or, same_Some}
-use Rattle.orch_base.specs.declared.server.Txn.{Txn}
-use Rattle.orch_base.specs.Histories.{count_own}
-use Rattle.opening_checks.specs.declared.kin_row.Link.{Link}
-use Rattle.openings.specs.Kin.{links, links_after}
-use Rattle.opening_checks.specs.KinTable.{agrees_throughout, alike, before_at, link_of, row_at, extended, with_link, with_links, StandsAt}
-use Rattle.openings.proofs.Joined.{tick}
+use Rattle.opening_checks.proofs.Prelude.{IsNumbered, Link, StandsAt, Txn, agrees_throughout, alike, before_at, cases_Bool, cases_eq, cases_order, count_own}
+use Rattle.opening_checks.proofs.Prelude.{drop_more, eq-eqb, eqb-false, eqb-true, extended, get-push, get-push_old, get_or-set_other, get_or-set_same}
+use Rattle.opening_checks.proofs.Prelude.{length-set, link_of, links, links_after, ne_eqb, row_at, same_Some, slice_get-get_or, tick}
+use Rattle.opening_checks.proofs.Prelude.{unwrap_or-slice_get, with_link, with_links}
 use Rattle.opening_checks.proofs.Kinship.{agrees_throughout-get}
 use Rattle.opening_checks.proofs.Linked.{alike-refl}
-use Rattle.openings.proofs.Members.{get-push, get-push_old}
-use Rattle.opening_checks.proofs.Numbered.{IsNumbered, count_own-next, number-below}
+use Rattle.opening_checks.proofs.Numbered.{count_own-next, number-below}
 
 -- what a row keeps and gets
 record Longer (row now : List Link) (number : ℕ) (x : Link) : Type 0 where
@@ -110,7 +104,7 @@ Takes-more history at old now t numbered there within agrees takes = record {
     rows = let same = takes.count in with_link-rows now (before_at history at) t (omega arith)
 
     seq : t.seq ≡ count_own t.origin.0 (take at history) + 1
-    seq = numbered.each at t there
+    seq = numbered at t there
 
     kept : (o k : ℕ) (e : Link) → slice_get (row_at old o) k ≡ Some e → (o ≡ t.origin.0) ⊎ (o ≡ t.origin.0 → ⊥) → slice_get (row_at next o) k ≡ Some e
     kept o k e h (inl same) = subst (λ (p : ℕ). slice_get (row_at next p) k ≡ Some e) (sym same) (rows.here.kept k e (subst (λ (p : ℕ). slice_get (row_at now p) k ≡ Some e) same (takes.kept o k e h)))

@@ -1,13 +1,8 @@
 -- One transaction of a history against the table.
 use Rattle.std.proofs.Common.{◌≡◌, ℕ, ◌+◌, ◌<◌, Bool, List, [], length, drop, get_or, sym, ap, ◌∙◌, Some, Option}
 use Rattle.std.specs.Prelude.{◌&&◌}
-use Rattle.std.specs.List.{list_all}
-use Rattle.std.proofs.lemmas.List.{drop_more, get_or_default}
-use Rattle.std.proofs.lemmas.Option.{unwrap_or-slice_get}
-use Rattle.orch_base.specs.declared.server.Txn.{Txn}
-use Rattle.opening_checks.specs.declared.kin_row.Link.{Link}
-use Rattle.openings.specs.Kin.{links_after}
-use Rattle.opening_checks.specs.KinTable.{agrees_at, agrees_in, link_of, row_at}
+use Rattle.opening_checks.proofs.Prelude.{Link, Txn, agrees_at, agrees_in, drop_more, get_or_default, link_of, links_after, list_all, row_at}
+use Rattle.opening_checks.proofs.Prelude.{unwrap_or-slice_get}
 
 pub row_at-read : (rows : List (List Link)) (o : ℕ) (row : List Link) → o < length rows → row ≡ get_or rows o row → row_at rows o ≡ row
 row_at-read rows o row within is = unwrap_or-slice_get rows o [] ∙ get_or_default rows o [] row within ∙ sym is

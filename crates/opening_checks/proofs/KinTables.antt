@@ -1,27 +1,16 @@
 -- The table's meaning, as one more server's history joins it; and the origins' counts.
 use Rattle.std.proofs.Common.{◌≡◌, ℕ, ◌+◌, ◌-◌, ◌<◌, ◌⊎◌, inl, inr, Bool, true, false, List, length, refl, sym, ap, subst, ◌∙◌, Some, None, Option, arith, get_or}
 use Rattle.std.specs.Prelude.{◌&&◌, slice_get, nat_le, is_none, is_some, not, All}
-use Rattle.std.specs.List.{list_all}
-use Rattle.std.proofs.lemmas.Bool.{cases_order, false≢true}
+use Rattle.opening_checks.proofs.Prelude.{CountsHome, IsOfServers, IsPart, IsTable, Link, Lists, Part, ServerInit, ServerNo, Txn, agrees_throughout}
+use Rattle.opening_checks.proofs.Prelude.{agrees_with, alike, all_below, before_at, cases_order, count_at, drop_more, false≢true, first_met}
+use Rattle.opening_checks.proofs.Prelude.{get_or_from_slice_get, is_counted, is_home, is_kin, joined-listed, link_of, links, list_all, listed-all}
+use Rattle.opening_checks.proofs.Prelude.{listed_history, listed_numbered, not_kin, parts_at, parts_of, root_of, row_at, same_Some, slice_get-get_or, slice_get_within}
+use Rattle.opening_checks.proofs.Prelude.{transactions, with_links}
 use Rattle.std.proofs.Common.{cond, drop, ◌∷◌}
-use Rattle.openings.specs.Flaws.{first_met, not_kin}
-use Rattle.std.proofs.lemmas.List.{drop_more}
-use Rattle.std.proofs.lemmas.Option.{same_Some, slice_get_within, slice_get-get_or, get_or_from_slice_get}
-use Rattle.orch_base.specs.declared.server.Txn.{Txn}
-use Rattle.orch_base.specs.declared.server.ServerNo.{ServerNo}
-use Rattle.openings.specs.declared.init.ServerInit.{ServerInit}
-use Rattle.opening_checks.specs.declared.kin_row.Link.{Link}
-use Rattle.openings.specs.declared.part.Part.{Part}
-use Rattle.openings.specs.Kin.{agrees_with, all_below, is_home, is_kin, links}
-use Rattle.opening_checks.specs.KinTable.{agrees_throughout, before_at, is_counted, link_of, row_at, with_links, CountsHome, IsOfServers, IsTable, Lists, alike}
-use Rattle.openings.specs.Listed.{listed_history, transactions}
-use Rattle.openings.specs.Opening.{IsPart}
-use Rattle.openings.specs.Servers.{count_at, parts_at, parts_of, root_of}
 use Rattle.opening_checks.proofs.KinGrows.{Takes, Takes-all}
 use Rattle.opening_checks.proofs.Kinship.{decides}
 use Rattle.opening_checks.proofs.ListTests.{list_all-same}
-use Rattle.opening_checks.proofs.Numbered.{listed-numbered, take-holds}
-use Rattle.openings.proofs.Sizes.{joined-listed, listed-all}
+use Rattle.opening_checks.proofs.Numbered.{take-holds}
 
 -- a server with a source lists nothing
 pub IsTable-skip : (servers : List ServerInit) (n : ℕ) (rows : List (List Link)) (i : ServerInit) (m : ServerNo) → slice_get servers n ≡ Some i → i.source ≡ Some m → IsTable servers n rows → IsTable servers (n + 1) rows
@@ -71,7 +60,7 @@ pub listed-of_servers : (servers : ℕ) (parts : List Part) → All (IsPart serv
 listed-of_servers servers parts all j t h =
     let whole = listed-all parts (transactions parts) refl in
     let listed = joined-listed servers (transactions parts) parts all j t (ap (λ (ts : List Txn). slice_get ts j) whole ∙ h) in
-    let number = (listed-numbered parts).each j t h in
+    let number = listed_numbered parts j t h in
     record { origin = listed.origin; number = omega arith }
 
 pub all-of_servers : (servers : ℕ) (parts : List Part) → All (IsPart servers) parts → All (IsOfServers servers) (listed_history parts)
@@ -99,7 +88,7 @@ pub table-after : (servers : List ServerInit) (n : ℕ) (rows : List (List Link)
 table-after servers n rows i there root all table agrees =
     let history = listed_history (parts_of i) in
     IsTable-more servers n rows (with_links rows (links history)) i history there root refl table
-    (Takes-all history rows (listed-numbered (parts_of i)) (λ j t h. let of = (listed-of_servers (length servers) (parts_of i) all j t h).origin in let count = table.count in omega arith) agrees)
+    (Takes-all history rows (listed_numbered (parts_of i)) (λ j t h. let of = (listed-of_servers (length servers) (parts_of i) all j t h).origin in let count = table.count in omega arith) agrees)
 
 -- what the two tests tell of a history that a server lists
 pub told-kin : (servers : List ServerInit) (n : ℕ) (rows : List (List Link)) (own : List ℕ) (i : ServerInit) (history : List Txn) (a b : Bool) → history ≡ listed_history (parts_of i) → All (IsPart (length servers)) (parts_of i)

@@ -1,15 +1,9 @@
 -- The table decides whether a history agrees with those before it.
 use Rattle.std.proofs.Common.{◌≡◌, ℕ, ◌-◌, ◌<◌, ◌≤◌, inl, inr, true, false, List, refl, sym, ap, subst, ◌∙◌, Some, None, Option, arith}
 use Rattle.std.specs.Prelude.{slice_get, is_some, ◌||◌}
-use Rattle.std.proofs.lemmas.Bool.{or_cases, false≢true}
-use Rattle.orch_base.specs.declared.server.Txn.{Txn}
-use Rattle.orch_base.specs.declared.server.ServerNo.{ServerNo}
-use Rattle.openings.specs.declared.init.ServerInit.{ServerInit}
-use Rattle.opening_checks.specs.declared.kin_row.Link.{Link}
-use Rattle.openings.specs.Kin.{agrees_with, all_below, histories_agree, links, links_agree}
-use Rattle.opening_checks.specs.KinTable.{agrees_at, agrees_where, agrees_throughout, alike, before_at, link_of, row_at, Lists, IsTable}
-use Rattle.openings.specs.Listed.{listed_history}
-use Rattle.openings.specs.Servers.{parts_of}
+use Rattle.opening_checks.proofs.Prelude.{IsTable, Link, Lists, ServerInit, ServerNo, Txn, agrees_at, agrees_throughout, agrees_where, agrees_with}
+use Rattle.opening_checks.proofs.Prelude.{alike, all_below, before_at, false≢true, histories_agree, link_of, links, links_agree, listed_history}
+use Rattle.opening_checks.proofs.Prelude.{or_cases, parts_of, row_at}
 use Rattle.opening_checks.proofs.Linked.{links-get, links-txn, same_txn-parts, same_txn-from, alike-sym, alike-trans, links_agree-alike, links_agree-from, histories_agree-each, histories_agree-from_each}
 use Rattle.opening_checks.proofs.ListTests.{same_Bool, list_all-get, list_all-from_get, all_below-each, all_below-from_each}
 

@@ -1,3 +1,4 @@
+mod Prelude
 pub mod Flawed
 pub mod HeldLogs
 pub mod KinGrows

@@ -1,14 +1,9 @@
 -- The links of a history, by index; when two links say the same; when two histories agree.
 use Rattle.std.proofs.Common.{◌≡◌, ℕ, inl, inr, true, List, [], ◌∷◌, refl, sym, ap, subst, ◌∙◌, Some, None, Option, suc, zero}
 use Rattle.std.specs.Prelude.{◌==◌, not, slice_get}
-use Rattle.std.specs.List.{list_all}
-use Rattle.std.proofs.lemmas.Bool.{and_parts, and_from, or_cases, or_left, or_right, eqb-true, eq-eqb, cases_Bool, not_from_true, not_from_false, false≢true}
-use Rattle.std.proofs.lemmas.Option.{same_Some}
-use Rattle.orch_base.specs.declared.server.Txn.{Txn}
-use Rattle.orch_base.specs.Histories.{same_txn}
-use Rattle.opening_checks.specs.declared.kin_row.Link.{Link}
-use Rattle.openings.specs.Kin.{links, links_after, links_agree, histories_agree, same_before}
-use Rattle.opening_checks.specs.KinTable.{alike, before_at, link_of}
+use Rattle.opening_checks.proofs.Prelude.{Link, Txn, alike, and_from, and_parts, before_at, cases_Bool, eq-eqb, eqb-true, false≢true, histories_agree}
+use Rattle.opening_checks.proofs.Prelude.{link_of, links, links_after, links_agree, list_all, not_from_false, not_from_true, or_cases, or_left}
+use Rattle.opening_checks.proofs.Prelude.{or_right, same_before, same_Some, same_txn}
 use Rattle.opening_checks.proofs.ListTests.{list_all-get, list_all-from_get}
 
 -- the transaction before the one at an index, in a history that follows this one

@@ -1,10 +1,8 @@
 -- Tests of all elements of a list, and of all numbers below one.
+pub use Rattle.openings.proofs.Agreements.{list_all-from_get}
 use Rattle.std.proofs.Common.{◌≡◌, ℕ, ◌<◌, inl, inr, Bool, true, false, List, [], ◌∷◌, refl, sym, ap, subst, ◌∙◌, Some, arith, suc, zero}
 use Rattle.std.specs.Prelude.{◌&&◌, slice_get}
-use Rattle.std.specs.List.{list_all}
-use Rattle.std.proofs.lemmas.Bool.{and_parts, and_from, cases_order}
-use Rattle.std.proofs.lemmas.Option.{same_Some}
-use Rattle.openings.specs.Kin.{all_below}
+use Rattle.opening_checks.proofs.Prelude.{all_below, and_from, and_parts, cases_order, list_all, same_Some}
 
 pub same_Bool : (a b : Bool) → (a ≡ true → b ≡ true) → (b ≡ true → a ≡ true) → a ≡ b
 same_Bool true b there back = sym (there refl)
@@ -15,10 +13,6 @@ pub list_all-get : {X : Type 0} (p : X → Bool) (xs : List X) → list_all p xs
 list_all-get p [] all k x h = cc
 list_all-get p (y ∷ ys) all zero x h = subst (λ z. p z ≡ true) (same_Some y x h) (and_parts (p y) (list_all p ys) all).0
 list_all-get p (y ∷ ys) all (suc k) x h = list_all-get p ys (and_parts (p y) (list_all p ys) all).1 k x h
-
-pub list_all-from_get : {X : Type 0} (p : X → Bool) (xs : List X) → ((k : ℕ) (x : X) → slice_get xs k ≡ Some x → p x ≡ true) → list_all p xs ≡ true
-list_all-from_get p [] each = refl
-list_all-from_get p (y ∷ ys) each = and_from (p y) (list_all p ys) (each 0 y refl) (list_all-from_get p ys (λ k x h. each (suc k) x h))
 
 pub list_all-same : {X : Type 0} (p q : X → Bool) (xs : List X) → ((k : ℕ) (x : X) → slice_get xs k ≡ Some x → p x ≡ q x) → list_all p xs ≡ list_all q xs
 list_all-same p q [] each = refl

@@ -2,8 +2,7 @@
 use Rattle.std.proofs.Common.{◌≡◌, ℕ, ◌+◌, ◌-◌, ◌<◌, ap, ◌∙◌, Option, Some, None, arith, suc}
 use Rattle.std.proofs.Common.{true, false}
 use Rattle.std.specs.Prelude.{◌==◌, ◌||◌}
-use Rattle.std.proofs.lemmas.Bool.{eq-eqb, ne_eqb}
-use Rattle.openings.specs.Flaws.{is_reached, is_reached_on}
+use Rattle.opening_checks.proofs.Prelude.{eq-eqb, is_reached, is_reached_on, ne_eqb}
 
 -- one step of the walk that looks for n
 pub is_reached-on : (up : ℕ → Option ℕ) (k i at n m : ℕ) → i < k → up at ≡ Some m → (m ≡ n → ⊥) → is_reached up (k - i) n at ≡ is_reached up (k - (i + 1)) n m

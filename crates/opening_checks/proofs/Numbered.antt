@@ -1,49 +1,9 @@
 -- In a listed history each origin's transactions are numbered 1, 2, 3 and so on.
-use Rattle.std.proofs.Common.{◌≡◌, ℕ, ◌+◌, ◌<◌, ◌≤◌, ◌⊎◌, inl, inr, Bool, true, false, List, [], ◌∷◌, ◌++◌, length, take, refl, sym, ap, ◌∙◌, Some, arith, get_or}
+use Rattle.std.proofs.Common.{◌≡◌, ℕ, ◌+◌, ◌<◌, ◌≤◌, ◌⊎◌, inl, inr, Bool, true, false, List, [], ◌∷◌, ◌++◌, take, refl, sym, ap, ◌∙◌, Some, arith, get_or}
 use Rattle.std.specs.Prelude.{◌==◌, ◌||◌, ◌&&◌, nat_le, slice_get}
-use Rattle.std.proofs.lemmas.Bool.{cases_eq, eq-eqb, ne_eqb}
-use Rattle.std.proofs.lemmas.Bool.Decides.{nat_tests}
-use Rattle.std.proofs.lemmas.List.{take-append-le, take-take, take_at, take_more}
-use Rattle.std.proofs.lemmas.List.Folds.{list_any-append}
-use Rattle.std.proofs.lemmas.List.Sums.{sum_by-take-le}
-use Rattle.std.proofs.lemmas.Option.{slice_get_within, get_or_from_slice_get}
-use Rattle.orch_base.specs.declared.server.ServerNo.{ServerNo}
-use Rattle.orch_base.specs.declared.server.Txn.{Txn}
-use Rattle.orch_base.specs.Histories.{count_own, holds, same_txn}
-use Rattle.openings.specs.declared.part.Part.{Part}
-use Rattle.openings.specs.Listed.{joined_by, next_txn, singles, listed_history}
-use Rattle.openings.proofs.Joined.{count_own-push, tick, take-listed}
-use Rattle.openings.proofs.Members.{get-push}
-
--- each number is one more than the origin's transactions before it
-pub record IsNumbered (history : List Txn) : Type 0 where
-  pub each : (j : ℕ) (t : Txn) → slice_get history j ≡ Some t → t.seq ≡ count_own t.origin.0 (take j history) + 1
-
-IsNumbered-more : (done : List Txn) (x : ServerNo × ℕ) → IsNumbered done → IsNumbered (done ++ next_txn done x ∷ [])
-IsNumbered-more done x numbered = record {
-  each = λ j t h. elim (get-push done (next_txn done x) t j h) [
-    | inl old ↦ (
-        let within = slice_get_within done j t old in
-        let front : take j (done ++ next_txn done x ∷ []) ≡ take j done = take-append-le j done (next_txn done x ∷ []) (omega arith) in
-        numbered.each j t old ∙ ap (λ ts. count_own t.origin.0 ts + 1) (sym front))
-    | inr new ↦ (
-        let front : take j (done ++ next_txn done x ∷ []) ≡ done = ap (λ n. take n (done ++ next_txn done x ∷ [])) new.0 ∙ take_at done (next_txn done x ∷ []) (length done) refl in
-        ap (λ (u : Txn). u.seq) new.1 ∙ ap (λ (u : Txn). count_own u.origin.0 done + 1) (sym new.1) ∙ ap (λ ts. count_own t.origin.0 ts + 1) (sym front))
-  ];
-}
-
-joined_by-numbered : (done : List Txn) (xs : List (ServerNo × ℕ)) → IsNumbered done → IsNumbered (joined_by done xs)
-joined_by-numbered done [] numbered = numbered
-joined_by-numbered done (x ∷ xs) numbered = joined_by-numbered (done ++ next_txn done x ∷ []) xs (IsNumbered-more done x numbered)
-
-IsNumbered-none : IsNumbered []
-IsNumbered-none = record { each = λ j t h. absurd (none j t h) }
-  where
-    none : (j : ℕ) (t : Txn) → slice_get [] j ≡ Some t → ⊥
-    none j t h = cc
-
-pub joined-numbered : (xs : List (ServerNo × ℕ)) → IsNumbered (joined_by [] xs)
-joined-numbered xs = joined_by-numbered [] xs IsNumbered-none
+use Rattle.opening_checks.proofs.Prelude.{IsNumbered, Part, ServerNo, Txn, cases_eq, count_own, count_own-push, eq-eqb, get_or_from_slice_get, holds}
+use Rattle.opening_checks.proofs.Prelude.{joined_by, list_any-append, listed_history, nat_tests, ne_eqb, next_txn, same_txn, singles}
+use Rattle.opening_checks.proofs.Prelude.{slice_get_within, sum_by-take-le, take-listed, take-take, take_more, tick}
 
 -- one more of the origin's own
 pub count_own-next : (history : List Txn) (j : ℕ) (t : Txn) (o : ℕ) → slice_get history j ≡ Some t → count_own o (take (j + 1) history) ≡ count_own o (take j history) + tick (t.origin.0 == o)
@@ -55,7 +15,7 @@ count_own-next history j t o h =
 -- an earlier transaction of an origin has a smaller number than so many
 pub number-below : (history : List Txn) (j at : ℕ) (u : Txn) → IsNumbered history → slice_get history j ≡ Some u → j < at → u.seq ≤ count_own u.origin.0 (take at history)
 number-below history j at u numbered h less =
-    let seq = numbered.each j u h in
+    let seq = numbered j u h in
     let once : tick (u.origin.0 == u.origin.0) ≡ 1 = ap tick (eq-eqb u.origin.0 u.origin.0 refl) in
     let next : count_own u.origin.0 (take (j + 1) history) ≡ count_own u.origin.0 (take j history) + 1 = count_own-next history j u u.origin.0 h ∙ ap (λ n. count_own u.origin.0 (take j history) + n) once in
     let front : take (j + 1) (take at history) ≡ take (j + 1) history = take-take (j + 1) at history (omega arith) in
@@ -112,6 +72,3 @@ HoldsCounted-none = λ t one. grind (arith, nat_tests)
 -- what a server has executed holds what it counts
 pub take-holds : (parts : List Part) (k : ℕ) (t : Txn) → 1 ≤ t.seq → holds t (take k (listed_history parts)) ≡ nat_le t.seq (count_own t.origin.0 (take k (listed_history parts)))
 take-holds parts k t one = rw take-listed (joined_by-holds [] (take k (singles parts)) HoldsCounted-none t one)
-
-pub listed-numbered : (parts : List Part) → IsNumbered (listed_history parts)
-listed-numbered parts = joined-numbered (singles parts)

@@ -1,16 +1,9 @@
 -- The first kept file of a server, and the files of its log.
 use Rattle.std.proofs.Common.{◌≡◌, ℕ, ◌≤◌, Bool, true, false, cond, List, Some, ap, sym, ◌∙◌, arith}
 use Rattle.std.specs.Prelude.{nat_lt, slice_get}
-use Rattle.std.proofs.lemmas.Bool.{or_parts}
-use Rattle.std.proofs.lemmas.Bool.Decides.{nat_tests}
-use Rattle.openings.specs.Flaws.{bad_flushes, bad_purged}
-use Rattle.openings.specs.Servers.{log_at}
-use Rattle.openings.specs.declared.init.ServerInit.{ServerInit}
-use Rattle.openings.specs.declared.opening.Flaw.TheVariants.{BadPlace}
-use Rattle.openings.proofs.Files.{log_at-files}
-use Rattle.opening_checks.specs.Places.{FilesGood}
-use Rattle.opening_checks.specs.Values.{coord_value, flush_value, place_value, value_at, value_in}
-use Rattle.opening_checks.specs.declared.fault.FlawedValue.TheVariants as value
+use Rattle.opening_checks.proofs.Prelude.{BadPlace, FilesGood, ServerInit, bad_flushes, bad_purged, coord_value, flush_value, log_at, log_at-files}
+use Rattle.opening_checks.proofs.Prelude.{nat_tests, or_parts, place_value, value_at, value_in}
+use Rattle.opening_checks.proofs.Prelude.value
 
 not-below : (m n : ℕ) → n ≤ m → nat_lt m n ≡ false
 not-below m n h = grind (arith, nat_tests)

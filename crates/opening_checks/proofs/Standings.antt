@@ -1,14 +1,10 @@
 -- Where a replica stands in its source's log.
 use Rattle.std.proofs.Common.{◌≡◌, List, cond, refl, sym, ap, ◌∙◌, Some}
 use Rattle.std.specs.Prelude.{slice_get, unwrap_or}
-use Rattle.binlog_coords.specs.declared.Coord.{Coord}
-use Rattle.binlog_coords.specs.Log.{Log, coord_after}
-use Rattle.orch_base.specs.declared.server.ServerNo.{ServerNo}
-use Rattle.openings.specs.declared.init.ServerInit.{ServerInit}
-use Rattle.openings.specs.Flaws.{at_server, at_source, bad_coords, bad_coords_in}
-use Rattle.openings.specs.Servers.{number_of, log_at, exec_of, exec_under, read_of}
-use Rattle.opening_checks.specs.declared.fault.FlawedValue.TheVariants as value
-use Rattle.opening_checks.specs.Values.{bad_coords_under, bad_exec, bad_exec_in, coord_value, coord_value_under, exec_in, read_in}
+use Rattle.opening_checks.proofs.Prelude.{Coord, Log, ServerInit, ServerNo, at_server, at_source, bad_coords, bad_coords_in, bad_coords_under}
+use Rattle.opening_checks.proofs.Prelude.{bad_exec, bad_exec_in, coord_after, coord_value, coord_value_under, exec_in, exec_of, exec_under, log_at}
+use Rattle.opening_checks.proofs.Prelude.{number_of, read_in, read_of}
+use Rattle.opening_checks.proofs.Prelude.value
 
 -- the test by the source's log
 pub bad_coords-at : (servers : List ServerInit) (i source : ServerInit) (m : ServerNo) (log : Log) (exec read : Coord) → i.source ≡ Some m → slice_get servers m.0 ≡ Some source → log ≡ log_at servers m.0

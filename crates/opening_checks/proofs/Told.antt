@@ -1,9 +1,6 @@
 -- What is told of a flaw.
 use Rattle.std.proofs.Common.{◌≡◌, refl, Option, Some, None, Ok}
-use Rattle.orch_base.specs.declared.server.ServerNo.{ServerNo}
-use Rattle.openings.specs.declared.opening.Flaw.{Flaw}
-use Rattle.opening_checks.specs.Checks.{server_of, without}
-use Rattle.opening_checks.specs.declared.fault.FlawedValue.{FlawedValue}
+use Rattle.opening_checks.proofs.Prelude.{Flaw, FlawedValue, ServerNo, server_of, without}
 
 -- where nothing is answered, no server was found
 pub without-none : (flaw : Flaw) (first : Option (ServerNo × FlawedValue)) (u : Unit {0}) → without flaw first ≡ Ok u → server_of first ≡ None

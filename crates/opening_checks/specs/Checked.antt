@@ -1,9 +1,6 @@
 -- What the check of servers answers.
 use Rattle.std.specs.Prelude.{ℕ, List, Bool, Option, Some, None, Result, Ok, Err}
-use Rattle.openings.specs.declared.init.ServerInit.{ServerInit}
-use Rattle.openings.specs.declared.opening.Flaw.{Flaw}
-use Rattle.openings.specs.Flaws.{flaw_in}
-use Rattle.openings.specs.Opening.{Opened, opening}
+use Rattle.opening_checks.specs.Prelude.{Flaw, Opened, ServerInit, flaw_in, opening}
 use Rattle.opening_checks.specs.declared.fault.FlawedValue.{FlawedValue}
 use Rattle.opening_checks.specs.declared.fault.OpeningFault.{OpeningFault}
 use Rattle.opening_checks.specs.declared.fault.OpeningFault.TheVariants.{Flawed, Memory}

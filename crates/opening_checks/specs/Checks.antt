@@ -1,13 +1,9 @@
 -- The flaws of servers, one after another.
 use Rattle.std.specs.Prelude.{◌≡◌, ℕ, ◌≤◌, List, take, drop, length, Option, Some, None, Result, Ok, Err, MatchResult, MatchOption, IfSome, ⊤}
-use Rattle.orch_base.specs.declared.server.ServerNo.{ServerNo}
-use Rattle.openings.specs.declared.init.ServerInit.{ServerInit}
-use Rattle.openings.specs.declared.opening.Flaw.{Flaw}
+use Rattle.opening_checks.specs.Prelude.{Flaw, PartsInRange, ServerInit, ServerNo, first_flaw, flaws}
 use Rattle.opening_checks.specs.declared.fault.FlawedValue.{FlawedValue}
 use Rattle.opening_checks.specs.declared.fault.OpeningFault.{OpeningFault}
 use Rattle.opening_checks.specs.declared.fault.OpeningFault.TheVariants.{Flawed}
-use Rattle.openings.specs.Flaws.{first_flaw, flaws}
-use Rattle.openings.specs.Taking.{PartsInRange}
 use Rattle.opening_checks.specs.Checked.{Found, flaw_of}
 use Rattle.opening_checks.specs.Places.{LimitsInRange}
 use Rattle.opening_checks.specs.Values.{value_at}

@@ -1,14 +1,8 @@
 -- A table of what listed histories say of each transaction: for each origin a row of links, by the transactions'
 -- numbers.
 use Rattle.std.specs.Prelude.{◌≡◌, ℕ, ◌+◌, ◌-◌, ◌<◌, ◌≤◌, ◌==◌, ◌&&◌, Bool, true, nat_le, if◌then◌else◌, List, [], ◌∷◌, ◌++◌, length, Option, Some, None, slice_get, slice_set, slice_index, unwrap_or, zero, suc}
-use Rattle.std.specs.List.{list_all}
-use Rattle.orch_base.specs.declared.server.Txn.{Txn}
-use Rattle.orch_base.specs.Histories.{count_own}
-use Rattle.openings.specs.declared.init.ServerInit.{ServerInit}
+use Rattle.opening_checks.specs.Prelude.{ServerInit, Txn, count_own, history_at, links, list_all, listed_history, parts_of, same_before}
 use Rattle.opening_checks.specs.declared.kin_row.Link.{Link}
-use Rattle.openings.specs.Kin.{links, same_before}
-use Rattle.openings.specs.Listed.{listed_history}
-use Rattle.openings.specs.Servers.{history_at, parts_of}
 
 -- what a history says of a transaction beside its origin and number
 abbrev pub link_of : Option Txn → Txn → Link

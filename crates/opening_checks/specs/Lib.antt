@@ -1,3 +1,4 @@
+pub mod Prelude
 pub mod Checked
 pub mod Checks
 pub mod KinTable

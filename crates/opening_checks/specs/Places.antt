@@ -1,7 +1,6 @@
 -- What the logs of all servers need.
 use Rattle.std.specs.Prelude.{◌≡◌, ℕ, ◌≤◌, List, length, false, Some, slice_get}
-use Rattle.openings.specs.declared.init.ServerInit.{ServerInit}
-use Rattle.openings.specs.Flaws.{bad_files}
+use Rattle.opening_checks.specs.Prelude.{ServerInit, bad_files}
 
 -- each limit of a log's files and each number of flush points is in its range
 pub record LimitsInRange (servers : List ServerInit) : Type 0 where

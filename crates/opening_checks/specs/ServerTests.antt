@@ -1,12 +1,9 @@
 -- The tests of one server by which flaws are found without memory.
 use Rattle.std.specs.Prelude.{ℕ, Bool, List, Option, Some, None, slice_get}
-use Rattle.orch_base.specs.declared.server.ServerNo.{ServerNo}
-use Rattle.openings.specs.declared.init.ServerInit.{ServerInit}
-use Rattle.openings.specs.declared.opening.Flaw.{Flaw}
-use Rattle.openings.specs.declared.opening.Flaw.TheVariants as flaw
+use Rattle.opening_checks.specs.Prelude.{Flaw, ServerInit, ServerNo, below_itself, both_given, other_cluster, source_not_logging, too_many}
+use Rattle.opening_checks.specs.Prelude.flaw
 use Rattle.opening_checks.specs.declared.flaws.Test.{Test}
 use Rattle.opening_checks.specs.declared.flaws.Test.TheVariants as test
-use Rattle.openings.specs.Flaws.{both_given, source_not_logging, below_itself, other_cluster, too_many}
 
 -- the server that is named as a source
 abbrev pub named_in : List ServerInit → Option ServerNo → Option ServerInit

@@ -1,8 +1,6 @@
 -- Logs of servers that are kept while their replicas are looked at.
 use Rattle.std.specs.Prelude.{◌≡◌, ℕ, List, length, Option, Some, slice_get}
-use Rattle.binlog_coords.specs.Index.{Index}
-use Rattle.openings.specs.declared.init.ServerInit.{ServerInit}
-use Rattle.openings.specs.Servers.{log_at}
+use Rattle.opening_checks.specs.Prelude.{Index, ServerInit, log_at}
 
 -- for each server its log, or nothing yet
 pub record AreLogs (servers : List ServerInit) (logs : List (Option Index)) : Type 0 where

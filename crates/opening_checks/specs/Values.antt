@@ -1,13 +1,8 @@
 -- Which value of a server is to blame for a flaw.
 use Rattle.std.specs.Prelude.{ℕ, ◌+◌, not, Bool, nat_lt, if◌then◌else◌, List, [], ◌∷◌, Option, Some, None, unwrap_or, slice_get}
-use Rattle.binlog_coords.specs.declared.Coord.{Coord}
-use Rattle.binlog_coords.specs.Log.{Log, coord_after, place}
-use Rattle.openings.specs.declared.init.ServerInit.{ServerInit}
-use Rattle.openings.specs.declared.part.Part.{Part}
-use Rattle.openings.specs.declared.opening.Flaw.{Flaw}
-use Rattle.openings.specs.declared.opening.Flaw.TheVariants as flaw
-use Rattle.openings.specs.Flaws.{at_server, of_source, same_cluster, bad_coords_in, bad_flushes, bad_purged, has_place_of}
-use Rattle.openings.specs.Servers.{parts_of, count_of, log_at, exec_of}
+use Rattle.opening_checks.specs.Prelude.{Coord, Flaw, Log, Part, ServerInit, at_server, bad_coords_in, bad_flushes, bad_purged, coord_after, count_of}
+use Rattle.opening_checks.specs.Prelude.{exec_of, has_place_of, log_at, of_source, parts_of, place, same_cluster}
+use Rattle.opening_checks.specs.Prelude.flaw
 use Rattle.opening_checks.specs.declared.fault.FlawedValue.{FlawedValue}
 use Rattle.opening_checks.specs.declared.fault.FlawedValue.TheVariants as value
 

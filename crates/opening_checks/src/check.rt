@@ -1,7 +1,7 @@
 //! The flaws of servers, in the order in which they are looked for.
 
 ghost use Rattle.std.specs.Prelude.{◌≡◌};
-ghost use Rattle.openings.specs.Flaws.{first_met, flaw_in};
+ghost use Rattle.opening_checks.specs.Prelude.{first_met, flaw_in};
 ghost use Rattle.opening_checks.specs.Checked.{found_of};
 ghost use Rattle.opening_checks.specs.Checks.{place_flaw_in, plain_flaw_in, refused, without, InRange, Tells};
 ghost use Rattle.opening_checks.specs.ServerTests.{flaw_by, met_by};
@@ -11,10 +11,10 @@ use crate::fault::FlawedValue;
 use crate::files::first_bad_files;
 use crate::flaws::{Test, first_met, flaw_by};
 use crate::kin::first_not_kin;
+use crate::orch_base::ServerNo;
 use crate::places::first_bad_coords;
 use crate::source_logs::no_logs;
 use openings::{Flaw, ServerInit};
-use orch_base::ServerNo;
 use std::alloc::Global;
 
 // A fault where a server has the flaw; this one is the first, and this value of it is to blame.

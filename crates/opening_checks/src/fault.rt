@@ -3,8 +3,8 @@
 ghost use Rattle.std.specs.Prelude.{◌≡◌};
 ghost use Rattle.opening_checks.specs.declared.fault.OpeningFault.TheVariants.{Memory};
 
+use crate::orch_base::{Memory, ServerNo};
 use openings::Flaw;
-use orch_base::{Memory, ServerNo};
 use std::fmt;
 
 /// The value of a server that is to blame for a flaw.

@@ -1,21 +1,18 @@
 //! The files of the servers' binary logs: flush points, and what is purged.
 
 ghost use Rattle.std.specs.Prelude.{◌≡◌, ◌≤◌, ◌<◌, ◌^◌, IfOk, IfSome, Some, false, is_some, length, slice_get};
-ghost use Rattle.openings.specs.Flaws.{bad_files, bad_flushes, bad_purged, falls_or_passes, first_met};
-ghost use Rattle.openings.specs.Listed.{transactions};
-ghost use Rattle.openings.specs.Servers.{parts_of};
-ghost use Rattle.openings.specs.Taking.{PartsInRange};
-ghost use Rattle.openings.specs.declared.opening.Flaw.TheVariants.{BadPlace};
+ghost use Rattle.opening_checks.specs.Prelude.{BadPlace, PartsInRange, bad_files, bad_flushes, bad_purged, falls_or_passes, first_met, parts_of};
+ghost use Rattle.opening_checks.specs.Prelude.{transactions};
 ghost use Rattle.opening_checks.specs.Checks.{server_of, IsToBlame};
 ghost use Rattle.opening_checks.specs.Places.{LimitsInRange};
 ghost use Rattle.opening_checks.specs.SourceLogs.{AreLogs};
 ghost use Rattle.opening_checks.specs.Values.{first_bad_flush, flush_value, place_value};
 
 use crate::fault::FlawedValue;
+use crate::orch_base::{Memory, ServerNo};
 use crate::source_logs::take_log;
 use binlog_coords::LogIndex;
 use openings::{ServerInit, count_of};
-use orch_base::{Memory, ServerNo};
 use std::alloc::Global;
 
 // The number of the first count that is less than the one before it, or more than the bound.

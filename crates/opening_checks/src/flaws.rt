@@ -1,17 +1,15 @@
 //! The flaws of one server that are found without memory.
 
 ghost use Rattle.std.specs.Prelude.{◌≡◌, ◌<◌, ◌≤◌, IfSome, None, Some, if◌then◌else◌, is_some, length, slice_get};
-ghost use Rattle.std.specs.Option.{option_copied};
-ghost use Rattle.openings.specs.Flaws.{below_itself, both_given, first_met, origin_elsewhere, other_cluster, same_cluster, source_not_logging, too_many};
-ghost use Rattle.openings.specs.Servers.{parts_of};
-ghost use Rattle.openings.specs.Taking.{PartsInRange};
+ghost use Rattle.opening_checks.specs.Prelude.{PartsInRange, below_itself, both_given, first_met, option_copied, origin_elsewhere, other_cluster};
+ghost use Rattle.opening_checks.specs.Prelude.{parts_of, same_cluster, source_not_logging, too_many};
 ghost use Rattle.opening_checks.specs.Checks.{server_of, IsToBlame};
 ghost use Rattle.opening_checks.specs.ServerTests.{flaw_by, met_by, named_in};
 ghost use Rattle.opening_checks.specs.Values.{cluster_value, elsewhere, first_elsewhere, source_elsewhere, value_of};
 
 use crate::fault::FlawedValue;
+use crate::orch_base::ServerNo;
 use openings::{Flaw, Part, ServerInit, count_of, parts_of, source_no};
-use orch_base::ServerNo;
 
 /// What a server is tested for.
 #[derive(Clone, Copy)]

@@ -1,21 +1,15 @@
 //! Whether listed histories are kin.
 
 ghost use Rattle.std.specs.Prelude.{◌≡◌, ◌+◌, ◌<◌, ◌≤◌, [], All, IfOk, None, Some, true, length, replicate, slice_get};
-ghost use Rattle.std.specs.List.{list_all};
-ghost use Rattle.orch_base.specs.Histories.{count_own};
-ghost use Rattle.openings.specs.Flaws.{first_met, not_kin};
-ghost use Rattle.openings.specs.Kin.{is_kin, links};
-ghost use Rattle.openings.specs.Listed.{listed_history};
+ghost use Rattle.opening_checks.specs.Prelude.{NotKin, PartsInRange, count_own, first_met, history_at, is_kin, links, list_all, listed_history};
+ghost use Rattle.opening_checks.specs.Prelude.{not_kin, parts_of};
 ghost use Rattle.opening_checks.specs.Checks.{server_of, IsToBlame};
 ghost use Rattle.opening_checks.specs.KinTable.{agrees_throughout, is_counted, with_link, with_links, CountsHome, IsOfServers, IsTable};
-ghost use Rattle.openings.specs.Servers.{history_at, parts_of};
-ghost use Rattle.openings.specs.declared.opening.Flaw.TheVariants.{NotKin};
-ghost use Rattle.openings.specs.Taking.{PartsInRange};
 
 use crate::fault::FlawedValue;
 use crate::kin_row::{Link, Row};
+use crate::orch_base::{Memory, ServerNo, Txn};
 use openings::{ServerInit, executed_by, listed_history, parts_of};
-use orch_base::{Memory, ServerNo, Txn};
 use std::alloc::Global;
 
 // How many transactions of its own a server has executed.

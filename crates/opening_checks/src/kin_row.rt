@@ -1,9 +1,9 @@
 //! What listed histories say of one origin's transactions.
 
 ghost use Rattle.std.specs.Prelude.{◌≡◌, ◌≤◌};
-ghost use Rattle.openings.specs.Kin.{same_before};
+ghost use Rattle.opening_checks.specs.Prelude.{same_before};
 
-use orch_base::{Memory, Txn};
+use crate::orch_base::{Memory, Txn};
 use std::alloc::Global;
 use std::marker::Model;
 

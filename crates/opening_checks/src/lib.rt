@@ -11,5 +11,6 @@ mod opening;
 mod places;
 mod source_logs;
 
+use binlog_coords::orch_base;
 pub use fault::{FlawedValue, OpeningFault};
 pub use opening::CheckedOpening;

@@ -1,9 +1,7 @@
 //! Openings of checked servers.
 
 ghost use Rattle.std.specs.Prelude.{Bool, List, Result};
-ghost use Rattle.orch_base.specs.Gives.{Gives};
-ghost use Rattle.openings.specs.declared.init.ServerInit.{ServerInit};
-ghost use Rattle.openings.specs.Opening.{opening, IsListed};
+ghost use Rattle.opening_checks.specs.Prelude.{Gives, IsListed, ServerInit, opening};
 ghost use Rattle.opening_checks.specs.declared.fault.OpeningFault.{OpeningFault};
 ghost use Rattle.opening_checks.specs.Checked.{checked, flaw_of};
 

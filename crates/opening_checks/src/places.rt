@@ -1,20 +1,17 @@
 //! Where replicas stand in their sources' logs.
 
 ghost use Rattle.std.specs.Prelude.{◌≡◌, ◌≤◌, IfOk, IfSome, is_some, length};
-ghost use Rattle.binlog_coords.specs.Log.{coord_after};
-ghost use Rattle.openings.specs.Flaws.{bad_coords, bad_coords_in, first_met};
-ghost use Rattle.openings.specs.declared.opening.Flaw.TheVariants.{BadPlace};
-ghost use Rattle.openings.specs.Taking.{PartsInRange};
+ghost use Rattle.opening_checks.specs.Prelude.{BadPlace, PartsInRange, bad_coords, bad_coords_in, coord_after, first_met};
 ghost use Rattle.opening_checks.specs.Checks.{server_of, IsToBlame};
 ghost use Rattle.opening_checks.specs.Places.{FilesGood, LimitsInRange};
 ghost use Rattle.opening_checks.specs.SourceLogs.{AreLogs};
 ghost use Rattle.opening_checks.specs.Values.{bad_coords_under, bad_exec_in, coord_value, coord_value_in, coord_value_under};
 
 use crate::fault::FlawedValue;
+use crate::orch_base::{Memory, ServerNo};
 use crate::source_logs::take_log;
 use binlog_coords::{Coord, LogIndex};
 use openings::ServerInit;
-use orch_base::{Memory, ServerNo};
 use std::alloc::Global;
 
 // Where the first `k` transactions of the log end, or its beginning, where it has fewer.

@@ -1,15 +1,13 @@
 //! Logs of sources, each laid once for all its replicas.
 
 ghost use Rattle.std.specs.Prelude.{◌≡◌, IfOk, None, Some, false, replicate, slice_get};
-ghost use Rattle.openings.specs.Flaws.{bad_flushes};
-ghost use Rattle.openings.specs.Servers.{log_at};
-ghost use Rattle.openings.specs.Taking.{PartsInRange};
+ghost use Rattle.opening_checks.specs.Prelude.{PartsInRange, bad_flushes, log_at};
 ghost use Rattle.opening_checks.specs.Places.{LimitsInRange};
 ghost use Rattle.opening_checks.specs.SourceLogs.{AreLogs};
 
+use crate::orch_base::{Memory, ServerNo};
 use binlog_coords::LogIndex;
 use openings::{ServerInit, executed_by, laid_log};
-use orch_base::{Memory, ServerNo};
 use std::alloc::Global;
 
 /// For each of so many servers no log yet.

@@ -1,3 +1,4 @@
+mod Prelude
 pub mod OpeningKin
 pub mod Openings
 pub mod Rooms

@@ -1,27 +1,12 @@
 -- The histories of a sound opening are kin.
 use Rattle.std.proofs.Common.{◌≡◌, ℕ, ◌+◌, ◌<◌, ◌≤◌, true, List, [], ◌∷◌, ◌++◌, length, take, refl, sym, ◌∙◌, ap, subst, inl, inr, Option, Some, None, arith, zero, suc, add-one}
 use Rattle.std.specs.Prelude.{slice_get, ◌==◌, ◌&&◌, ◌||◌, not}
-use Rattle.std.proofs.lemmas.Bool.{and_parts, eq-eqb, eqb-true, cases_eq, cases_order}
-use Rattle.std.proofs.lemmas.Bool.Decides.{nat_tests}
-use Rattle.std.proofs.lemmas.List.{length-take, take-take, same_from_push}
-use Rattle.std.proofs.Math.Seq.{take-length}
-use Rattle.std.proofs.lemmas.Option.{same_Some}
-use Rattle.orch_base.specs.Chains.{Grounded, Root, Under}
-use Rattle.orch_base.specs.declared.server.ServerNo.{ServerNo}
-use Rattle.orch_base.specs.declared.server.Txn.{Txn}
-use Rattle.orch_base.specs.Histories.{same_txn, count_own}
-use Rattle.openings.specs.declared.init.ServerInit.{ServerInit}
-use Rattle.openings.specs.Listed.{listed_history}
-use Rattle.openings.specs.Servers.{number_of, source_of, sources, parts_of, parts_at, root_of, count_of, count_at, history_at}
-use Rattle.openings.specs.Kin.{links_after, same_before, links_agree, histories_agree}
-use Rattle.openings.specs.Sound.{IsSound}
-use Rattle.openings.proofs.Agreements.{agree-get, same_txn-swap}
-use Rattle.openings.proofs.Fronts.{slice_get-take, slice_get-take_within, take-more}
-use Rattle.openings.proofs.Joined.{tick, count_own-push}
-use Rattle.openings.proofs.ListedCounts.{IsNumbered, listed_numbered}
-use Rattle.openings.proofs.ServerHistories.{history_numbered}
-use Rattle.server_model.specs.Safe.{IsKin}
-use Rattle.replication_laws.proofs.Histories.{count_own-take-le, holds-at}
+use Rattle.opening_laws.proofs.Prelude.{Grounded, IsKin, IsNumbered, IsSound, Root, ServerInit, ServerNo, Txn, Under, agree-get, and_parts, cases_eq}
+use Rattle.opening_laws.proofs.Prelude.{cases_order, count_at, count_of, count_own, count_own-push, count_own-take-le, eq-eqb, eqb-true}
+use Rattle.opening_laws.proofs.Prelude.{histories_agree, history_at, history_numbered, holds-at, length-take, links_after, links_agree}
+use Rattle.opening_laws.proofs.Prelude.{listed_history, listed_numbered, nat_tests, number_of, parts_at, parts_of, root_of, same_before}
+use Rattle.opening_laws.proofs.Prelude.{same_from_push, same_Some, same_txn, same_txn-swap, slice_get-take, slice_get-take_within, source_of, sources}
+use Rattle.opening_laws.proofs.Prelude.{take-length, take-more, take-take, tick}
 
 -- one history
 

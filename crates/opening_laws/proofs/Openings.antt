@@ -1,29 +1,16 @@
 -- Opened worlds are safe.
 use Rattle.std.proofs.Common.{◌≡◌, ℕ, ◌+◌, Bool, true, false, cond, List, [], ◌∷◌, ◌++◌, length, take, refl, sym, ◌∙◌, ap, subst, Option, Some, None, append_assoc, zero, suc, count_by}
 use Rattle.std.specs.Prelude.{◌==◌, slice_get, All}
-use Rattle.std.proofs.lemmas.List.{append-nil}
-use Rattle.std.proofs.lemmas.List.Elements.{All-head, All-tail}
-use Rattle.binlog_coords.specs.declared.Coord.{Coord}
-use Rattle.binlog_coords.specs.Log.{Log, opened, push, place, is_at_or_before}
-use Rattle.orch_base.specs.declared.server.ServerNo.{ServerNo}
-use Rattle.orch_base.specs.declared.server.Txn.{Txn}
-use Rattle.openings.specs.declared.init.ServerInit.{ServerInit}
-use Rattle.openings.specs.Listed.{listed_history}
-use Rattle.openings.specs.Logs.{flushed_times, flushed_at, laid_after, laid}
-use Rattle.openings.specs.Opening.{Opened, IsChecked}
-use Rattle.openings.specs.Servers as listed
-use Rattle.openings.specs.Servers.{number_of, parts_at, root_of, count_under, count_at, history_at, log_by, log_at, exec_of, read_of}
-use Rattle.openings.specs.Sound.{IsSound, IsUnder}
-use Rattle.openings.proofs.Soundness.{sound_checked}
-use Rattle.server_model.specs.Layout.{LaysOut}
-use Rattle.server_model.specs.Layout as layout
-use Rattle.server_model.specs.Fit.{HasSize}
-use Rattle.world_openings.specs.Opening.{source_state, opened_server, opened_world}
-use Rattle.server_model.specs.Safe.{Safe, AttachedWell, IsKin, Grounded, IsSource, KeepFiles}
-use Rattle.server_model.specs.Worlds.{KeepsFrom, World, server_at, histories, history_of, sources, source_of, source_no}
-use Rattle.server_model.specs.declared.server.Server.{Server}
-use Rattle.world_openings.proofs.Opened.{given-opened, server_at-opened}
-use Rattle.world_openings.proofs.OpenedWorlds.{keeps-opened, sized, source-given, log_at-is}
+use Rattle.opening_laws.proofs.Prelude.{All-head, All-tail, AttachedWell, Coord, HasSize, IsChecked, IsKin, IsSound, IsSource, IsUnder, KeepFiles}
+use Rattle.opening_laws.proofs.Prelude.{KeepsFrom, LaysOut, Log, Opened, Safe, Server, ServerInit, ServerNo, Txn, World, append-nil, count_at}
+use Rattle.opening_laws.proofs.Prelude.{count_under, exec_of, flushed_at, flushed_times, given-opened, histories, history_at, history_of}
+use Rattle.opening_laws.proofs.Prelude.{is_at_or_before, keeps-opened, laid, laid_after, listed_history, log_at, log_at-is, log_by, number_of, opened}
+use Rattle.opening_laws.proofs.Prelude.{opened_server, opened_world, parts_at, place, push, read_of, root_of, server_at, server_at-opened, sized}
+use Rattle.opening_laws.proofs.Prelude.{sound_checked, source-given, source_no, source_state}
+use Rattle.opening_laws.proofs.Prelude.ServerModel.{Grounded}
+use Rattle.opening_laws.proofs.Prelude.Worlds.{source_of, sources}
+use Rattle.opening_laws.proofs.Prelude.layout
+use Rattle.opening_laws.proofs.Prelude.listed
 use Rattle.opening_laws.proofs.OpeningKin.{IsKin-opening}
 
 -- a log that is laid out lays out its history

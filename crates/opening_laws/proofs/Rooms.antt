@@ -1,25 +1,11 @@
 -- No history of a quiet run from an opening gets full.
 use Rattle.std.proofs.Common.{◌≡◌, ℕ, ◌+◌, ◌≤◌, length, take, refl, sym, subst, Some, arith, count_by, sum_by}
 use Rattle.std.specs.Prelude.{slice_get, List}
-use Rattle.std.proofs.lemmas.List.Sums.{get_or-le-sum_by}
-use Rattle.std.proofs.lemmas.Option.{slice_get_within, get_or_from_slice_get}
-use Rattle.openings.specs.declared.init.ServerInit.{ServerInit}
-use Rattle.openings.specs.Listed.{transactions}
-use Rattle.openings.specs.Opening.{Opened, IsChecked}
-use Rattle.openings.specs.Servers.{parts_of}
-use Rattle.server_words.specs.declared.answers.RotateAnswer.TheVariants as rotating
-use Rattle.server_model.specs.declared.server.Server.{Server}
-use Rattle.server_model.specs.Desk.{rotate_answer}
-use Rattle.server_model.specs.Run.{Exchange, Rotate, is_rotate, run, AllAllowed, AllJoinWell}
-use Rattle.server_model.specs.Safe.{IsQuiet}
-use Rattle.server_model.specs.Worlds.{server_at}
-use Rattle.world_openings.specs.Opening.{opened_world, Fits}
-use Rattle.world_openings.specs.Room.{room_for, LeavesFiles}
-use Rattle.world_openings.proofs.Opened.{given-opened}
-use Rattle.world_openings.proofs.OpenedWorlds.{length-history_at}
-use Rattle.replication_laws.specs.Room.{Fitting, AllFit, HasFiles, IsNotFull}
-use Rattle.replication_laws.proofs.Files.{not_full-files}
-use Rattle.replication_laws.proofs.Rooms.{not_full-run}
+use Rattle.opening_laws.proofs.Prelude.{AllAllowed, AllFit, AllJoinWell, Exchange, Fits, Fitting, HasFiles, IsChecked, IsNotFull, IsQuiet}
+use Rattle.opening_laws.proofs.Prelude.{LeavesFiles, Opened, Rotate, Server, ServerInit, get_or-le-sum_by, get_or_from_slice_get, given-opened}
+use Rattle.opening_laws.proofs.Prelude.{is_rotate, length-history_at, not_full-files, not_full-run, opened_world, parts_of, room_for, rotate_answer}
+use Rattle.opening_laws.proofs.Prelude.{run, server_at, slice_get_within, transactions}
+use Rattle.opening_laws.proofs.Prelude.rotating
 use Rattle.opening_laws.proofs.Openings.{Safe-opened}
 
 -- what the opening lists

@@ -1,13 +1,8 @@
 -- When histories agree: link by link, and both ways.
 use Rattle.std.proofs.Common.{◌≡◌, ℕ, ◌<◌, Bool, true, List, [], ◌∷◌, refl, sym, ◌∙◌, ap, inl, inr, Option, Some, None, arith, ◌&&◌, ◌||◌, zero, suc}
 use Rattle.std.specs.Prelude.{◌==◌, slice_get, not}
-use Rattle.std.specs.List.{list_all}
-use Rattle.std.proofs.lemmas.Bool.{and_parts, and_from, cases_order}
-use Rattle.std.proofs.lemmas.Bool.Decides.{nat_tests}
-use Rattle.std.proofs.lemmas.Option.{same_Some}
-use Rattle.orch_base.specs.declared.server.Txn.{Txn}
-use Rattle.orch_base.specs.Histories.{same_txn}
-use Rattle.openings.specs.Kin.{links, same_before, links_agree, histories_agree, all_below}
+use Rattle.openings.proofs.Prelude.{Txn, all_below, and_from, and_parts, cases_order, histories_agree, links, links_agree, list_all, nat_tests}
+use Rattle.openings.proofs.Prelude.{same_before, same_Some, same_txn}
 
 -- a test that holds at each element, element by element
 pub list_all-get : {X : Type 0} (test : X → Bool) (xs : List X) (i : ℕ) (x : X) → list_all test xs ≡ true → slice_get xs i ≡ Some x → test x ≡ true

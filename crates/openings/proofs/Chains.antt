@@ -1,6 +1,6 @@
 -- Following sources, step by step.
 use Rattle.std.proofs.Common.{◌≡◌, ℕ, ◌+◌, ◌-◌, ◌<◌, refl, ap, Option, Some, None, arith, suc, zero}
-use Rattle.openings.specs.Servers.{reached_from, follow_on}
+use Rattle.openings.proofs.Prelude.{follow_on, reached_from}
 
 -- one step up
 pub reached_from-on : (up : ℕ → Option ℕ) (k i at m : ℕ) → i < k → up at ≡ Some m → reached_from up (k - i) at ≡ reached_from up (k - (i + 1)) m

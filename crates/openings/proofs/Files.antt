@@ -1,11 +1,8 @@
 -- The files of servers' logs.
 use Rattle.std.proofs.Common.{ℕ, ◌+◌, ◌≤◌, Bool, true, false, cond, List, [], ◌∷◌, Option, Some, None, zero, suc, arith}
 use Rattle.std.specs.Prelude.{◌==◌, count_by, nat_le, slice_get}
-use Rattle.binlog_coords.specs.Log.{Log, appended, flush, opened, push}
-use Rattle.orch_base.specs.declared.server.Txn.{Txn}
-use Rattle.openings.specs.declared.init.ServerInit.{ServerInit}
-use Rattle.openings.specs.Logs.{flushed_at, flushed_times, laid, laid_after}
-use Rattle.openings.specs.Servers.{history_at, log_at, log_in}
+use Rattle.openings.proofs.Prelude.{Log, ServerInit, Txn, appended, flush, flushed_at, flushed_times, history_at, laid, laid_after, log_at, log_in}
+use Rattle.openings.proofs.Prelude.{opened, push}
 
 flushed_times-files : (n : ℕ) (log : Log) → log.files ≤ (flushed_times n log).files
 flushed_times-files zero log = omega arith

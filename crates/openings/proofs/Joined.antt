@@ -1,17 +1,10 @@
 -- Histories that transactions join one by one.
 use Rattle.std.proofs.Common.{◌≡◌, ℕ, ◌+◌, ◌-◌, ◌<◌, ◌≤◌, List, [], ◌∷◌, ◌++◌, length, take, replicate, refl, sym, ap, ◌∙◌, arith, suc, zero, length-append, min, drop}
-use Rattle.std.proofs.lemmas.List.{take_all, take-take, length-replicate, take_at, get_or-replicate}
+use Rattle.openings.proofs.Prelude.{CountsOwn, Part, ServerNo, Txn, cases_eq, count_by-le-length, count_own, drop_all, eq-eqb, get_or-replicate}
+use Rattle.openings.proofs.Prelude.{get_or-set_other, get_or-set_same, joined_by, length-replicate, length-set, listed_history, ne_eqb, next_txn}
+use Rattle.openings.proofs.Prelude.{singles, sum_by_push, take-take, take_all, take_at}
 use Rattle.std.specs.Prelude.{◌==◌, slice_index, slice_set, Bool}
 use Rattle.std.proofs.Common.{get_or, cond, ◌⊎◌, inl, inr, add-zero}
-use Rattle.std.proofs.lemmas.Bool.{cases_eq, eq-eqb, ne_eqb}
-use Rattle.std.proofs.lemmas.List.Sums.{sum_by_push, count_by-le-length}
-use Rattle.std.proofs.lemmas.List.{get_or-set_same, get_or-set_other, length-set, drop_all}
-use Rattle.orch_base.specs.Histories.{count_own}
-use Rattle.openings.specs.Taking.{CountsOwn}
-use Rattle.orch_base.specs.declared.server.ServerNo.{ServerNo}
-use Rattle.orch_base.specs.declared.server.Txn.{Txn}
-use Rattle.openings.specs.declared.part.Part.{Part}
-use Rattle.openings.specs.Listed.{joined_by, next_txn, singles, listed_history}
 
 abbrev nil : (X : Type 0) → List X
 nil X = []

@@ -1,16 +1,9 @@
 -- A log that is laid in one pass.
 use Rattle.std.proofs.Common.{◌≡◌, ℕ, ◌+◌, ◌<◌, ◌≤◌, true, false, cond, List, [], ◌∷◌, ◌++◌, length, take, drop, refl, sym, ap, ◌∙◌, append_assoc, arith, suc, zero, get_or, subst, inl, inr, length-append}
 use Rattle.std.specs.Prelude.{◌==◌, ◌||◌, nat_le, nat_lt, count_by, All, slice_index_or}
-use Rattle.std.proofs.lemmas.Bool.{cases_lt, cases_order, cases_Bool, eq-eqb, ne_eqb, and_parts, or_parts, leb-true, le-leb, ltb-false}
-use Rattle.std.proofs.lemmas.List.{drop_more, drop_all, length-drop, get_or-drop, length-take-le, take_all, take_more}
-use Rattle.std.proofs.lemmas.List.Sums.{sum_by-cons}
-use Rattle.binlog_coords.specs.Log.{Log, push, flush}
-use Rattle.orch_base.specs.declared.server.Txn.{Txn}
-use Rattle.openings.specs.Flaws.{falls_or_passes, bad_flushes}
-use Rattle.openings.specs.Servers.{count_of}
-use Rattle.openings.specs.declared.init.ServerInit.{ServerInit}
-use Rattle.openings.specs.Laying.{rises_from, SameBehind}
-use Rattle.openings.specs.Logs.{flushed_times, flushed_at, laid_after}
+use Rattle.openings.proofs.Prelude.{Log, SameBehind, ServerInit, Txn, and_parts, bad_flushes, cases_Bool, cases_lt, cases_order, count_of, drop_all}
+use Rattle.openings.proofs.Prelude.{drop_more, eq-eqb, falls_or_passes, flush, flushed_at, flushed_times, get_or-drop, laid_after, le-leb, leb-true}
+use Rattle.openings.proofs.Prelude.{length-drop, length-take-le, ltb-false, ne_eqb, or_parts, push, rises_from, sum_by-cons, take_all, take_more}
 use Rattle.openings.proofs.Joined.{tick}
 
 abbrev pub points_at : ℕ → List ℕ → ℕ

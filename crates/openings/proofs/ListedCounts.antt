@@ -1,16 +1,9 @@
 -- Listed histories: how many transactions they have, and which.
 use Rattle.std.proofs.Common.{◌≡◌, ℕ, ◌+◌, ◌<◌, ◌≤◌, List, [], ◌∷◌, ◌++◌, length, replicate, take, refl, sym, subst, inl, inr, Some, All, arith, length-append}
 use Rattle.std.specs.Prelude.{slice_get}
-use Rattle.std.proofs.lemmas.Option.{slice_get_within}
-use Rattle.std.proofs.lemmas.List.{length-replicate, take-append-le, take_at}
-use Rattle.std.proofs.lemmas.List.Elements.{All-nil, All-head, All-tail, All-append, All-replicate}
-use Rattle.std.proofs.lemmas.List.Sums.{sum_by-cons}
-use Rattle.orch_base.specs.declared.server.ServerNo.{ServerNo}
-use Rattle.orch_base.specs.declared.server.Txn.{Txn}
-use Rattle.orch_base.specs.Histories.{count_own}
-use Rattle.openings.specs.declared.part.Part.{Part}
-use Rattle.openings.specs.Listed.{transactions, singles, next_txn, joined_by, listed_history}
-use Rattle.openings.specs.Opening.{IsPart}
+use Rattle.openings.proofs.Prelude.{All-append, All-head, All-nil, All-replicate, All-tail, IsPart, Part, ServerNo, Txn, count_own, joined_by}
+use Rattle.openings.proofs.Prelude.{length-replicate, listed_history, next_txn, singles, slice_get_within, sum_by-cons, take-append-le, take_at}
+use Rattle.openings.proofs.Prelude.{transactions}
 use Rattle.openings.proofs.Fronts.{slice_get-snoc_cases}
 
 -- lengths

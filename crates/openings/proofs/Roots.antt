@@ -1,12 +1,8 @@
 -- Where no number comes back to itself, each chain ends.
 use Rattle.std.proofs.Common.{◌≡◌, ℕ, ◌<◌, ◌≤◌, true, false, List, [], ◌∷◌, length, refl, sym, ◌∙◌, ap, subst, inl, inr, ◌⊎◌, Option, Some, None, arith, zero, suc, ◌||◌, eqb}
 use Rattle.std.specs.Prelude.{◌==◌}
-use Rattle.std.specs.List.{IsDistinct, list_any, AllByRecursion}
-use Rattle.std.proofs.lemmas.Bool.{eq-eqb, ne_eqb, eqb-true, or_cases, or_left, or_right}
-use Rattle.std.proofs.lemmas.Map.Steps.{length-le_from_distinct_below}
-use Rattle.orch_base.specs.Chains.{Grounded, Root, Under}
-use Rattle.openings.specs.Servers.{reached_from, follow_on}
-use Rattle.openings.specs.Flaws.{is_reached, is_reached_on}
+use Rattle.openings.proofs.Prelude.{AllByRecursion, Grounded, IsDistinct, Root, Under, eq-eqb, eqb-true, follow_on, is_reached, is_reached_on}
+use Rattle.openings.proofs.Prelude.{length-le_from_distinct_below, list_any, ne_eqb, or_cases, or_left, or_right, reached_from}
 
 -- the numbers that a walk of so many steps meets
 abbrev walk_on : (ℕ → List ℕ) → Option ℕ → List ℕ

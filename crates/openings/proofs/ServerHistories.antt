@@ -1,13 +1,8 @@
 -- What servers have executed is numbered, and of servers that are there.
 use Rattle.std.proofs.Common.{◌≡◌, ℕ, ◌<◌, List, length, take, refl, Option, Some, None, All, arith}
 use Rattle.std.specs.Prelude.{slice_get}
-use Rattle.std.proofs.lemmas.List.{take-take}
-use Rattle.std.proofs.lemmas.List.Elements.{All-nil}
-use Rattle.orch_base.specs.declared.server.Txn.{Txn}
-use Rattle.openings.specs.declared.init.ServerInit.{ServerInit}
-use Rattle.openings.specs.Listed.{listed_history}
-use Rattle.openings.specs.Servers.{parts_at, root_of, count_at, history_at}
-use Rattle.openings.specs.Opening.{Opened, IsListed, IsPart}
+use Rattle.openings.proofs.Prelude.{All-nil, IsListed, IsPart, Opened, ServerInit, Txn, count_at, history_at, listed_history, parts_at, root_of}
+use Rattle.openings.proofs.Prelude.{take-take}
 use Rattle.openings.proofs.Fronts.{slice_get-take, slice_get-take_within}
 use Rattle.openings.proofs.ListedCounts.{IsNumbered, IsOf, listed_numbered, listed_of}
 

@@ -1,17 +1,9 @@
 -- What is listed has its sizes, and is of the servers.
 use Rattle.std.proofs.Common.{◌≡◌, ℕ, ◌+◌, ◌<◌, ◌≤◌, List, [], ◌∷◌, ◌++◌, length, take, replicate, refl, sym, subst, ap, ◌∙◌, inl, inr, Some, None, Option, arith, suc, length-append}
 use Rattle.std.specs.Prelude.{slice_get, All, slice_index_or}
-use Rattle.std.proofs.lemmas.Option.{slice_get-get_or, slice_get_within, get_or_from_slice_get}
-use Rattle.std.proofs.lemmas.List.{length-replicate, length-take, take_all}
-use Rattle.std.proofs.lemmas.List.Sums.{sum_by-cons}
-use Rattle.orch_base.specs.declared.server.ServerNo.{ServerNo}
-use Rattle.orch_base.specs.declared.server.Txn.{Txn}
-use Rattle.openings.specs.declared.init.ServerInit.{ServerInit}
-use Rattle.openings.specs.declared.part.Part.{Part}
-use Rattle.openings.specs.Listed.{joined_by, next_txn, singles, listed_history, transactions}
-use Rattle.openings.specs.Opening.{IsPart}
-use Rattle.openings.specs.Servers.{parts_at, history_at, root_of, count_at}
-use Rattle.openings.specs.Taking.{HasSize, PartsInRange}
+use Rattle.openings.proofs.Prelude.{HasSize, IsPart, Part, PartsInRange, ServerInit, ServerNo, Txn, count_at, get_or_from_slice_get, history_at}
+use Rattle.openings.proofs.Prelude.{joined_by, length-replicate, length-take, listed_history, next_txn, parts_at, root_of, singles, slice_get-get_or}
+use Rattle.openings.proofs.Prelude.{slice_get_within, sum_by-cons, take_all, transactions}
 use Rattle.openings.proofs.Joined.{pair_of, take-listed, length-joined_by}
 use Rattle.openings.proofs.Members.{get-push, get-take, get-append, get-replicate}
 

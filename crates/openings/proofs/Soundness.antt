@@ -1,26 +1,14 @@
 -- An opening without a flaw is sound.
 use Rattle.std.proofs.Common.{◌≡◌, ℕ, ◌+◌, ◌<◌, ◌≤◌, Bool, true, false, List, [], ◌∷◌, length, take, refl, sym, ◌∙◌, ap, subst, inl, inr, Option, Some, None, arith, zero, suc, ◌||◌, ◌&&◌, cond}
 use Rattle.std.specs.Prelude.{slice_get, is_some, is_none, ◌==◌, nat_lt, not, get_or}
-use Rattle.std.specs.List.{list_all}
-use Rattle.std.proofs.lemmas.Bool.{cases_order, and_parts, eqb-true, ltb-false, not-false, or_parts}
-use Rattle.std.proofs.lemmas.Bool.Decides.{nat_tests}
-use Rattle.std.proofs.lemmas.List.{length-take-le, take-take, take_all}
-use Rattle.std.proofs.lemmas.Option.{same_Some, slice_get_within, slice_get-get_or}
-use Rattle.binlog_coords.specs.declared.Coord.{Coord}
-use Rattle.binlog_coords.specs.Log.{Log, opened, place, is_before, is_at_or_before}
-use Rattle.orch_base.specs.Chains.{Grounded, Root, Under}
-use Rattle.orch_base.specs.declared.server.ServerNo.{ServerNo}
-use Rattle.orch_base.specs.declared.server.Txn.{Txn}
-use Rattle.openings.specs.declared.init.ServerInit.{ServerInit}
-use Rattle.openings.specs.declared.opening.Flaw.{Flaw}
-use Rattle.openings.specs.declared.part.Part.{Part}
-use Rattle.openings.specs.Listed.{transactions, listed_history}
-use Rattle.openings.specs.Servers.{number_of, source_of, sources, follow_on, reached_from, root_of, parts_of, parts_at, count_under, count_of, count_at, history_at, log_at, log_in, exec_of, read_of}
-use Rattle.openings.specs.Logs.{laid}
-use Rattle.openings.specs.Kin.{histories_agree, agrees_with, is_home, is_kin, all_below}
-use Rattle.openings.specs.Flaws.{at_server, at_source, of_source, both_given, source_not_logging, is_reached, is_reached_on, below_itself, too_many, bad_flushes, bad_purged, has_place_of, bad_coords_in, bad_coords, not_kin, flaws, first_met, flaw_or, first_flaw, flaw_in}
-use Rattle.openings.specs.Opening.{Opened, IsListed, IsChecked}
-use Rattle.openings.specs.Sound.{IsUnder, IsSound}
+use Rattle.openings.proofs.Prelude.{Coord, Flaw, Grounded, IsChecked, IsListed, IsSound, IsUnder, Log, Opened, Part, Root, ServerInit, ServerNo, Txn}
+use Rattle.openings.proofs.Prelude.{Under, agrees_with, all_below, and_parts, at_server, at_source, bad_coords, bad_coords_in, bad_flushes}
+use Rattle.openings.proofs.Prelude.{bad_purged, below_itself, both_given, cases_order, count_at, count_of, count_under, eqb-true, exec_of, first_flaw}
+use Rattle.openings.proofs.Prelude.{first_met, flaw_in, flaw_or, flaws, follow_on, has_place_of, histories_agree, history_at, is_at_or_before}
+use Rattle.openings.proofs.Prelude.{is_before, is_home, is_kin, is_reached, is_reached_on, laid, length-take-le, list_all, listed_history, log_at}
+use Rattle.openings.proofs.Prelude.{log_in, ltb-false, nat_tests, not-false, not_kin, number_of, of_source, opened, or_parts, parts_at, parts_of}
+use Rattle.openings.proofs.Prelude.{place, reached_from, read_of, root_of, same_Some, slice_get-get_or, slice_get_within, source_not_logging}
+use Rattle.openings.proofs.Prelude.{source_of, sources, take-take, take_all, too_many, transactions}
 use Rattle.openings.proofs.ListedCounts.{length-listed_history}
 use Rattle.openings.proofs.Roots.{IsLoopless, walk-ends, Grounded-walk, same-end}
 use Rattle.openings.proofs.Agreements.{list_all-get, all_below-at, agree-swap}

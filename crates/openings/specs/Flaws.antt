@@ -10,7 +10,7 @@ use Rattle.openings.specs.declared.opening.Flaw.TheVariants as flaw
 use Rattle.openings.specs.Listed.{listed_history}
 use Rattle.openings.specs.Servers.{number_of, sources, parts_of, count_of, log_at, exec_of, read_of}
 use Rattle.openings.specs.Kin.{is_kin}
-pub use Rattle.orch_base.specs.Chains.{is_reached, is_reached_on}
+pub use Rattle.binlog_coords.specs.OrchBase.Chains.{is_reached, is_reached_on}
 
 -- a test of the server that stands at a number
 abbrev pub at_server : (ServerInit → Bool) → Option ServerInit → Bool

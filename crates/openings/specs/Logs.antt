@@ -2,7 +2,7 @@
 -- "FLUSH BINARY LOGS").
 use Rattle.std.specs.Prelude.{ℕ, ◌+◌, ◌==◌, List, [], ◌∷◌, count_by, zero, suc}
 use Rattle.binlog_coords.specs.Log.{Log, opened, push, flush}
-use Rattle.orch_base.specs.declared.server.Txn.{Txn}
+use Rattle.binlog_coords.specs.OrchBase.declared.server.Txn.{Txn}
 
 -- so many new files
 abbrev pub flushed_times : ℕ → Log → Log

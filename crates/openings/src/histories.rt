@@ -6,8 +6,8 @@ ghost use Rattle.openings.specs.Opening.{IsPart};
 ghost use Rattle.openings.specs.Servers.{count_at, count_of, history_at, parts_at, parts_of, root_of, sources};
 ghost use Rattle.openings.specs.Taking.{CountsOwn, HasSize, PartsInRange};
 
+use crate::orch_base::{Memory, ServerNo, Txn};
 use crate::{Part, ServerInit, transactions};
-use orch_base::{Memory, ServerNo, Txn};
 use std::alloc::Global;
 
 /// The number of a server's source.

@@ -2,9 +2,9 @@
 
 ghost use Rattle.std.specs.Prelude.{◌≡◌, ◌↔◌, IfOk, IsTrue};
 
+use crate::orch_base::{Memory, ServerNo, Settings};
 use crate::{Counts, Parts};
 use binlog_coords::Coord;
-use orch_base::{Memory, ServerNo, Settings};
 use std::alloc::Global;
 
 /// A server as a scenario gives it. The fields from `executed` to `until` speak of a server with a source.

@@ -7,8 +7,8 @@ mod laws;
 mod logs;
 mod opening;
 mod part;
-mod threads;
 
+use binlog_coords::orch_base;
 pub use histories::{count_of, executed_by, history_at, listed_history, parts_of, source_no};
 pub use init::ServerInit;
 pub use laws::checked_openings_are_sound;

@@ -8,8 +8,8 @@ ghost use Rattle.openings.specs.Servers.{count_of, log_by, logged_by};
 ghost use Rattle.openings.specs.Taking.{HasSize};
 
 use crate::ServerInit;
+use crate::orch_base::{Memory, Txn};
 use binlog_coords::LogIndex;
-use orch_base::{Memory, Txn};
 use std::alloc::Global;
 
 // Flushes the log once for each flush point at this count, from the one at `next` on. The answer is the first behind

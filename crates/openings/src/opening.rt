@@ -3,7 +3,7 @@
 ghost use Rattle.std.specs.Prelude.{◌≡◌, ◌↔◌, IfOk, IsTrue};
 
 use crate::ServerInit;
-use orch_base::Memory;
+use crate::orch_base::Memory;
 use std::alloc::Global;
 use std::fmt;
 use std::marker::Model;

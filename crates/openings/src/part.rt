@@ -3,7 +3,7 @@
 ghost use Rattle.std.specs.Prelude.{◌≡◌, ◌↔◌, ◌<◌, ◌^◌, IfOk, IsTrue};
 ghost use Rattle.openings.specs.Listed.{transactions};
 
-use orch_base::{Memory, ServerNo};
+use crate::orch_base::{Memory, ServerNo};
 use std::alloc::Global;
 use std::marker::Model;
 

@@ -1,43 +1,19 @@
 -- A turn changes only servers that the job's operations may change or that are in its hands, and leaves no others.
 use Rattle.std.proofs.Common.{◌≡◌, ℕ, ◌+◌, Bool, true, false, cond, List, [], ◌∷◌, refl, sym, ap, subst, Option, Some, None, Ok, Err, Result, IfSome}
 use Rattle.std.specs.Prelude.{nat_lt, ◌==◌, not}
-use Rattle.std.specs.List.{All}
-use Rattle.std.proofs.lemmas.List.Elements.{All-nil, All-cons, All-head, All-tail, All-filter, All-map, All-push}
-use Rattle.binlog_coords.specs.declared.Coord.{Coord}
-use Rattle.orch_base.specs.declared.server.Moment.{Moment}
-use Rattle.orch_base.specs.declared.server.ServerNo.{ServerNo}
-use Rattle.kept_rows.specs.declared.observation.Observation.{Observation}
-use Rattle.server_words.specs.declared.status.Status.{Status}
-use Rattle.kept_rows.specs.Seeing.{seen_in}
-use Rattle.server_words.specs.declared.answers.Unreachable.{Unreachable}
-use Rattle.server_words.specs.declared.attach.AttachFault.{AttachFault}
-use Rattle.server_words.specs.declared.attach.Spot.TheVariants as spot
-use Rattle.server_words.specs.declared.attach.Spot.{Spot}
-use Rattle.server_words.specs.declared.changes.Ask.{Ask}
-use Rattle.server_words.specs.declared.changes.Ask.TheVariants as asking
-use Rattle.server_model.specs.Desk.{desk_answer}
-use Rattle.server_model.specs.Gtids.{status}
-use Rattle.server_model.specs.Run.{Exchange, Request, Attach, AttachAuto}
-use Rattle.server_model.specs.Worlds.{World, server_at}
-use Rattle.commands.specs.declared.cause.Cause.{Cause}
-use Rattle.commands.specs.declared.cause.Cause.TheVariants as cause
-use Rattle.operations.specs.declared.op.Crossing.{Crossing}
-use Rattle.operations.specs.declared.op.Crossing.TheVariants as cross
-use Rattle.operations.specs.declared.matching.Match.{Match}
-use Rattle.operations.specs.declared.matching.MatchFault.{MatchFault}
-use Rattle.operations.specs.declared.op.Op.{Op}
-use Rattle.operations.specs.declared.sight.Position.{Position}
-use Rattle.instance_keeper.specs.declared.bridge.Bridge.{Bridge}
-use Rattle.operations.specs.Deeds as deed
-use Rattle.operations.specs.Deeds.{Deed, deed_of}
-use Rattle.orch_base.specs.declared.server.SourceState.{SourceState}
-use Rattle.orch_base.specs.declared.server.SourceState.TheVariants.{Without, Attached, Detached}
-use Rattle.operations.specs.Jobs.{Job, match_found, seen_of, without}
-use Rattle.operations.specs.Turns.{Turned, Goes, Stops, settled, next, saw, going, restarts, failed, observed, is_moved, after_status, after_look, hands_after, after_ask, aim_of, is_reached, until_by, after_until, after_wait_by, after_wait, holds_seen, settles, read_by, bridge_at, crossed, attached_anew, same_again, by_set, with_match, after_match, by_match, attach_answer_of, after_answer, after_attach, by_deed, by_ops, turned}
-use Rattle.operations.specs.Matching.{match_logs, standing_at}
-use Rattle.operations.specs.Targets.{can_attach}
-use Rattle.operations.specs.Changes.{change_of, server_of}
-use Rattle.std.proofs.lemmas.Option.{same_Some}
+use Rattle.operations.proofs.Prelude.{All, All-cons, All-filter, All-head, All-map, All-nil, All-push, All-tail, Ask, Attach, AttachAuto, Attached}
+use Rattle.operations.proofs.Prelude.{AttachFault, Bridge, Cause, Coord, Crossing, Deed, Detached, Exchange, Goes, Job, Match, MatchFault, Moment}
+use Rattle.operations.proofs.Prelude.{Observation, Op, Position, Request, ServerNo, SourceState, Spot, Status, Stops, Turned, Unreachable, Without}
+use Rattle.operations.proofs.Prelude.{World, after_answer, after_ask, after_attach, after_look, after_match, after_status, after_until, after_wait}
+use Rattle.operations.proofs.Prelude.{after_wait_by, aim_of, attach_answer_of, attached_anew, bridge_at, by_deed, by_match, by_ops, by_set}
+use Rattle.operations.proofs.Prelude.{can_attach, change_of, crossed, deed_of, desk_answer, failed, going, hands_after, holds_seen, is_moved}
+use Rattle.operations.proofs.Prelude.{is_reached, match_found, match_logs, next, observed, read_by, restarts, same_again, same_Some, saw, seen_in}
+use Rattle.operations.proofs.Prelude.{seen_of, server_at, server_of, settled, settles, standing_at, status, turned, until_by, with_match, without}
+use Rattle.operations.proofs.Prelude.asking
+use Rattle.operations.proofs.Prelude.cause
+use Rattle.operations.proofs.Prelude.cross
+use Rattle.operations.proofs.Prelude.deed
+use Rattle.operations.proofs.Prelude.spot
 
 -- the server that an operation may change, if there is one, is of this kind
 abbrev pub ChangesOf : (ℕ → Type 0) → Op → Type 0
@@ -86,11 +62,7 @@ module _ (P : ℕ → Type 0) (j : Job) (rest : List Op) (ops : All (ChangesOf P
   hands-stays : (n : ServerNo) (a : Ask) → IsOf n → All IsOf (hands_after j.hands n a)
   hands-stays n (asking.Stop which) here = All-push IsOf (without j.hands n) n (All-filter (λ k. not (k.0 == n.0)) IsOf j.hands hands) here
   hands-stays n asking.Start here = All-filter (λ k. not (k.0 == n.0)) IsOf j.hands hands
-  hands-stays n (asking.StartUntil to) here = hands
-  hands-stays n asking.Detach here = hands
-  hands-stays n asking.Reattach here = hands
-  hands-stays n asking.Reset here = hands
-  hands-stays n (asking.SetReadOnly on) here = hands
+  hands-stays n _ here = hands
 
   ask-stays : (n : ServerNo) (a : Ask) → IsOf n → (r : Result (Unit {0}) Unreachable) → StaysOf P j.id (settled j (after_ask j rest n a r))
   ask-stays n a here (Ok t) = one-stays (Request n.0 a) (hands_after j.hands n a) here (hands-stays n a here)

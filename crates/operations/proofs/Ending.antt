@@ -1,33 +1,15 @@
 -- A turn ends an operation or is one more wait.
 use Rattle.std.proofs.Common.{◌≡◌, ℕ, ◌+◌, ◌<◌, ◌≤◌, Bool, true, false, cond, List, [], ◌∷◌, refl, ◌∙◌, ap, Option, Some, None, Ok, Err, Result, arith}
 use Rattle.std.specs.Prelude.{nat_lt}
-use Rattle.std.proofs.lemmas.Bool.{false≢true, ltb-true}
-use Rattle.orch_base.specs.declared.server.Moment.{Moment}
-use Rattle.orch_base.specs.declared.server.ServerNo.{ServerNo}
-use Rattle.kept_rows.specs.declared.observation.Observation.{Observation}
-use Rattle.server_words.specs.declared.status.Status.{Status}
-use Rattle.kept_rows.specs.Seeing.{seen_in}
-use Rattle.binlog_coords.specs.declared.Coord.{Coord}
-use Rattle.server_words.specs.declared.answers.Unreachable.{Unreachable}
-use Rattle.server_words.specs.declared.attach.AttachFault.{AttachFault}
-use Rattle.server_words.specs.declared.attach.Spot.{Spot}
-use Rattle.server_words.specs.declared.changes.Ask.{Ask}
-use Rattle.server_words.specs.declared.changes.Ask.TheVariants as asking
-use Rattle.server_model.specs.Desk.{desk_answer}
-use Rattle.server_model.specs.Gtids.{status}
-use Rattle.server_model.specs.Run.{Exchange}
-use Rattle.server_model.specs.Worlds.{World, server_at}
-use Rattle.commands.specs.declared.cause.Cause.{Cause}
-use Rattle.commands.specs.declared.cause.Cause.TheVariants as cause
-use Rattle.operations.specs.declared.matching.MatchFault.{MatchFault}
-use Rattle.operations.specs.declared.op.Op.{Op}
-use Rattle.operations.specs.Deeds as deed
-use Rattle.operations.specs.Deeds.{Deed, deed_of}
-use Rattle.operations.specs.Jobs.{Job, match_found, seen_of}
-use Rattle.operations.specs.Turns.{Goes, Stops, settled, next, saw, going, failed, observed, is_moved, after_status, after_look, after_ask, aim_of, is_reached, until_by, after_until, after_wait_by, after_wait, holds_seen, settles, read_by, bridge_at, crossed, same_again, by_set, with_match, after_match, by_match, attach_answer_of, after_answer, after_attach, by_deed, by_ops, turned}
-use Rattle.operations.specs.Matching.{match_logs, standing_at}
-use Rattle.operations.specs.Targets.{can_attach}
-use Rattle.operations.specs.Ending.{turns_for, MovesOn}
+use Rattle.operations.proofs.Prelude.{Ask, AttachFault, Cause, Coord, Deed, Exchange, Goes, Job, MatchFault, Moment, MovesOn, Observation, Op}
+use Rattle.operations.proofs.Prelude.{ServerNo, Spot, Status, Stops, Unreachable, World, after_answer, after_ask, after_attach, after_look}
+use Rattle.operations.proofs.Prelude.{after_match, after_status, after_until, after_wait, after_wait_by, aim_of, attach_answer_of, bridge_at, by_deed}
+use Rattle.operations.proofs.Prelude.{by_match, by_ops, by_set, can_attach, crossed, deed_of, desk_answer, failed, false≢true, going, holds_seen}
+use Rattle.operations.proofs.Prelude.{is_moved, is_reached, ltb-true, match_found, match_logs, next, observed, read_by, same_again, saw, seen_in}
+use Rattle.operations.proofs.Prelude.{seen_of, server_at, settled, settles, standing_at, status, turned, turns_for, until_by, with_match}
+use Rattle.operations.proofs.Prelude.asking
+use Rattle.operations.proofs.Prelude.cause
+use Rattle.operations.proofs.Prelude.deed
 
 module _ (j : Job) (rest : List Op) (counted : j.waited ≤ j.wait) (count : turns_for j.wait j.ops ≡ (j.wait + 1) + turns_for j.wait rest) where
   failed-moves : (c : Cause) (o : Option Observation) → MovesOn j (failed j c o)

@@ -1,30 +1,15 @@
 -- The operations that are left after a turn were left before it.
 use Rattle.std.proofs.Common.{◌≡◌, ℕ, ◌+◌, Bool, true, false, cond, List, [], ◌∷◌, refl, subst, Option, Some, None, Ok, Err, Result}
 use Rattle.std.specs.Prelude.{nat_lt}
-use Rattle.binlog_coords.specs.declared.Coord.{Coord}
-use Rattle.orch_base.specs.declared.server.Moment.{Moment}
-use Rattle.orch_base.specs.declared.server.ServerNo.{ServerNo}
-use Rattle.kept_rows.specs.declared.observation.Observation.{Observation}
-use Rattle.server_words.specs.declared.status.Status.{Status}
-use Rattle.kept_rows.specs.Seeing.{seen_in}
-use Rattle.server_words.specs.declared.answers.Unreachable.{Unreachable}
-use Rattle.server_words.specs.declared.attach.AttachFault.{AttachFault}
-use Rattle.server_words.specs.declared.attach.Spot.{Spot}
-use Rattle.server_words.specs.declared.changes.Ask.{Ask}
-use Rattle.server_words.specs.declared.changes.Ask.TheVariants as asking
-use Rattle.server_model.specs.Desk.{desk_answer}
-use Rattle.server_model.specs.Gtids.{status}
-use Rattle.server_model.specs.Run.{Exchange}
-use Rattle.server_model.specs.Worlds.{World, server_at}
-use Rattle.commands.specs.declared.cause.Cause.TheVariants as cause
-use Rattle.operations.specs.declared.matching.MatchFault.{MatchFault}
-use Rattle.operations.specs.declared.op.Op.{Op}
-use Rattle.operations.specs.Deeds as deed
-use Rattle.operations.specs.Deeds.{Deed, deed_of}
-use Rattle.operations.specs.Jobs.{Job, match_found, seen_of}
-use Rattle.operations.specs.Matching.{match_logs, standing_at}
-use Rattle.operations.specs.Targets.{can_attach}
-use Rattle.operations.specs.Turns.{Turned, Goes, Stops, settled, next, saw, observed, is_moved, after_status, after_look, after_ask, aim_of, is_reached, until_by, after_until, after_wait_by, after_wait, holds_seen, settles, read_by, bridge_at, crossed, same_again, by_set, after_match, by_match, attach_answer_of, after_answer, after_attach, by_deed, by_ops, turned}
+use Rattle.operations.proofs.Prelude.{Ask, AttachFault, Coord, Deed, Exchange, Goes, Job, MatchFault, Moment, Observation, Op, ServerNo, Spot, Status}
+use Rattle.operations.proofs.Prelude.{Stops, Turned, Unreachable, World, after_answer, after_ask, after_attach, after_look, after_match, after_status}
+use Rattle.operations.proofs.Prelude.{after_until, after_wait, after_wait_by, aim_of, attach_answer_of, bridge_at, by_deed, by_match, by_ops, by_set}
+use Rattle.operations.proofs.Prelude.{can_attach, crossed, deed_of, desk_answer, holds_seen, is_moved, is_reached, match_found, match_logs, next}
+use Rattle.operations.proofs.Prelude.{observed, read_by, same_again, saw, seen_in, seen_of, server_at, settled, settles, standing_at, status, turned}
+use Rattle.operations.proofs.Prelude.{until_by}
+use Rattle.operations.proofs.Prelude.asking
+use Rattle.operations.proofs.Prelude.cause
+use Rattle.operations.proofs.Prelude.deed
 
 module _ (P : List Op → Type 0) (none : P []) (j : Job) (rest : List Op) (left : P rest) (all : P j.ops) where
   abbrev Keeps : Turned → Type 0

@@ -1,18 +1,10 @@
 -- What is found in logs that are matched.
 use Rattle.std.proofs.Common.{◌≡◌, ℕ, zero, suc, ◌+◌, ◌<◌, ◌≤◌, Bool, true, false, cond, not, length, refl, sym, ◌∙◌, ap, inl, inr, Option, Some, None, Err, arith}
 use Rattle.std.specs.Prelude.{nat_lt, slice_get}
-use Rattle.std.proofs.lemmas.Bool.{false≢true, cases_eq, le-ltb, ltb-false}
-use Rattle.std.proofs.lemmas.Option.{same_Some}
-use Rattle.orch_base.specs.declared.server.ServerNo.{ServerNo}
-use Rattle.orch_base.specs.declared.server.Txn.{Txn}
-use Rattle.orch_base.specs.Histories.{same_txn}
-use Rattle.server_model.specs.Desk.{can_reach}
-use Rattle.server_model.specs.Gtids.{purged_len}
-use Rattle.server_model.specs.Plains.{logged_by}
-use Rattle.server_model.specs.Worlds.{World, server_at}
-use Rattle.server_model.specs.declared.server.Server.{Server}
-use Rattle.operations.specs.declared.matching.MatchFault.TheVariants as fault
-use Rattle.operations.specs.Matching.{is_mark, is_mark_there, is_same_there, last_below, first_not, last_mark, place_of_mark, first_unlike, matched_at, matched_behind, matched_from, match_of, match_between, match_logs}
+use Rattle.operations.proofs.Prelude.{Server, ServerNo, Txn, World, can_reach, cases_eq, false≢true, first_not, first_unlike, is_mark, is_mark_there}
+use Rattle.operations.proofs.Prelude.{is_same_there, last_below, last_mark, le-ltb, logged_by, ltb-false, match_between, match_logs, match_of}
+use Rattle.operations.proofs.Prelude.{matched_at, matched_behind, matched_from, place_of_mark, purged_len, same_Some, same_txn, server_at}
+use Rattle.operations.proofs.Prelude.fault
 
 -- ---- the last of the numbers below one
 

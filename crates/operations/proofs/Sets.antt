@@ -1,10 +1,8 @@
 -- Whether each GTID of a set is in another.
 use Rattle.std.proofs.Common.{◌≡◌, ℕ, ◌+◌, ◌-◌, ◌<◌, ◌≤◌, Bool, true, false, List, [], ◌∷◌, refl, sym, ◌∙◌, ap, subst, ◌&&◌, ◌||◌, zero, suc, arith}
 use Rattle.std.specs.Prelude.{◌==◌, nat_le, IsTrue}
-use Rattle.std.proofs.lemmas.Bool.{false≢true, and_parts, eqb-true, eq-eqb, leb-true, le-leb, or_left}
-use Rattle.gtid_sets.specs.declared.interval.Interval.{Interval}
-use Rattle.gtid_sets.specs.Sets.{holds, spans}
-use Rattle.operations.specs.Turns.{has_from, has_all, is_within}
+use Rattle.operations.proofs.Prelude.{Interval, and_parts, eq-eqb, eqb-true, false≢true, has_all, has_from, holds, is_within, le-leb, leb-true}
+use Rattle.operations.proofs.Prelude.{or_left, spans}
 use Rattle.operations.proofs.Tests.{both, or-right}
 
 from-read : (ys : List Interval) (u from k n : ℕ) → has_from ys u from k ≡ true → from ≤ n → n < from + k → holds ys u n ≡ true

@@ -1,11 +1,7 @@
 -- The latest that was seen of each server.
 use Rattle.std.proofs.Common.{◌≡◌, ℕ, Bool, true, false, cond, not, List, [], ◌∷◌, ◌++◌, refl, sym, ◌∙◌, ap, Some, None}
 use Rattle.std.specs.Prelude.{◌==◌}
-use Rattle.std.proofs.lemmas.Bool.{false≢true, eqb-true, eq-eqb, ne_eqb}
-use Rattle.orch_base.specs.declared.server.ServerNo.{ServerNo}
-use Rattle.operations.specs.declared.sight.Position.{Position}
-use Rattle.operations.specs.declared.sight.Sight.{Sight}
-use Rattle.operations.specs.Jobs.{seen_of, others, with_seen}
+use Rattle.operations.proofs.Prelude.{Position, ServerNo, Sight, eq-eqb, eqb-true, false≢true, ne_eqb, others, seen_of, with_seen}
 
 seen-others : (xs : List Sight) (n : ServerNo) (k : ℕ) → (n.0 ≡ k → ⊥) → seen_of (others xs n) k ≡ seen_of xs k
 seen-others [] n k apart = refl

@@ -1,14 +1,7 @@
 -- What can be attached is allowed, and an attachment that is allowed can be made.
 use Rattle.std.proofs.Common.{◌≡◌, ℕ, true, refl, ◌∙◌, ap, Option, Some, None, ◌&&◌}
-use Rattle.std.proofs.lemmas.Bool.{false≢true, and_parts}
-use Rattle.binlog_coords.specs.declared.Coord.{Coord}
-use Rattle.binlog_coords.specs.Log.{has_place}
-use Rattle.server_model.specs.declared.server.Server.{Server}
-use Rattle.server_model.specs.Attach.{IsTarget}
-use Rattle.server_model.specs.Gtids.{IsAutoTarget}
-use Rattle.server_model.specs.Run.{Exchange, Write, Fetch, Apply, Request, Befall, Rotate, Purge, Attach, AttachAuto, Allowed}
-use Rattle.server_model.specs.Worlds.{World, server_at}
-use Rattle.operations.specs.Targets.{logs_by, places_by, can_attach}
+use Rattle.operations.proofs.Prelude.{Allowed, Attach, AttachAuto, Coord, Exchange, IsAutoTarget, IsTarget}
+use Rattle.operations.proofs.Prelude.{Server, World, and_parts, can_attach, false≢true, has_place, logs_by, places_by, server_at}
 use Rattle.operations.proofs.Tests.{both}
 
 pub target-of : (w : World) (to : ℕ) (at : Coord) → places_by (server_at w to) at ≡ true → IsTarget w to at
@@ -31,13 +24,7 @@ auto-target-of w to h = go (server_at w to) refl parts.1
 pub can-allowed : (w : World) (e : Exchange) → can_attach w e ≡ true → Allowed w e
 can-allowed w (Attach n expect to at) h = target-of w to.0 at h
 can-allowed w (AttachAuto n observed to) h = auto-target-of w to.0 h
-can-allowed w (Write n size) h = absurd (false≢true h)
-can-allowed w (Fetch n) h = absurd (false≢true h)
-can-allowed w (Apply n) h = absurd (false≢true h)
-can-allowed w (Request n a) h = absurd (false≢true h)
-can-allowed w (Befall n e) h = absurd (false≢true h)
-can-allowed w (Rotate n) h = absurd (false≢true h)
-can-allowed w (Purge n file) h = absurd (false≢true h)
+can-allowed w _ h = absurd (false≢true h)
 
 pub target-can : (w : World) (to : ℕ) (at : Coord) → IsTarget w to at → places_by (server_at w to) at ≡ true
 target-can w to at t = ap (λ o. places_by o at) t.there ∙ both t.target.settings.logs (has_place t.target.log.log at) t.logs t.place

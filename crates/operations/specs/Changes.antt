@@ -1,7 +1,6 @@
 -- Which server an operation may change, and which an exchange is with.
 use Rattle.std.specs.Prelude.{ℕ, Option, Some, None}
-use Rattle.orch_base.specs.declared.server.ServerNo.{ServerNo}
-use Rattle.server_model.specs.Run.{Exchange, Write, Fetch, Apply, Request, Befall, Rotate, Purge, Attach, AttachAuto}
+use Rattle.operations.specs.Prelude.{Apply, Attach, AttachAuto, Befall, Exchange, Fetch, Purge, Request, Rotate, ServerNo, Write}
 use Rattle.operations.specs.Deeds as deed
 use Rattle.operations.specs.Deeds.{Deed}
 

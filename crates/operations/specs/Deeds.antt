@@ -1,10 +1,8 @@
 -- What operations are.
 use Rattle.std.specs.Prelude.{ℕ, List, Option}
-use Rattle.orch_base.specs.declared.server.ServerNo.{ServerNo}
-use Rattle.server_words.specs.declared.changes.Ask.{Ask}
-use Rattle.server_words.specs.declared.changes.Ask.TheVariants as asking
-use Rattle.server_words.specs.declared.changes.Threads.TheVariants as threads
-use Rattle.commands.specs.declared.line.Line.{Line}
+use Rattle.operations.specs.Prelude.{Ask, Line, ServerNo}
+use Rattle.operations.specs.Prelude.asking
+use Rattle.operations.specs.Prelude.threads
 use Rattle.operations.specs.declared.op.Aim.{Aim}
 use Rattle.operations.specs.declared.op.Crossing.{Crossing}
 use Rattle.operations.specs.declared.op.Op.{Op}

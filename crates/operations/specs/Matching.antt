@@ -1,19 +1,9 @@
 -- How the log of a server matches another's (Pseudo-GTID): by its last mark, which is an entry that no other is equal
 -- to, and by what the entries behind that one show.
 use Rattle.std.specs.Prelude.{ℕ, zero, suc, ◌+◌, ◌-◌, ◌%◌, Bool, false, ◌==◌, ◌&&◌, not, if◌then◌else◌, length, Option, Some, None, Result, Ok, Err}
-use Rattle.binlog_coords.specs.declared.Coord.{Coord}
-use Rattle.binlog_coords.specs.Log.{coord_after, end_of}
-use Rattle.orch_base.specs.declared.server.ServerNo.{ServerNo}
-use Rattle.orch_base.specs.declared.server.SourceState.{SourceState}
-use Rattle.orch_base.specs.declared.server.SourceState.TheVariants.{Without, Attached, Detached}
-use Rattle.orch_base.specs.declared.server.Txn.{Txn}
-use Rattle.orch_base.specs.Histories.{same_txn}
-use Rattle.server_words.specs.declared.attach.Spot.{Spot}
-use Rattle.server_words.specs.declared.attach.Spot.TheVariants as spot
-use Rattle.server_model.specs.declared.server.Server.{Server}
-use Rattle.server_model.specs.Desk.{can_reach}
-use Rattle.server_model.specs.Plains.{logged_by}
-use Rattle.server_model.specs.Worlds.{World, server_at}
+use Rattle.operations.specs.Prelude.{Attached, Coord, Detached, Server, ServerNo, SourceState, Spot, Txn, Without, World, can_reach, coord_after}
+use Rattle.operations.specs.Prelude.{end_of, logged_by, same_txn, server_at}
+use Rattle.operations.specs.Prelude.spot
 use Rattle.operations.specs.declared.matching.MatchFault.{MatchFault}
 use Rattle.operations.specs.declared.matching.MatchFault.TheVariants as fault
 

@@ -1,7 +1,6 @@
 -- Jobs over servers that are there, with numbers in their ranges.
 use Rattle.std.specs.Prelude.{◌≡◌, ℕ, ◌<◌, ◌≤◌, ◌^◌, Bool, true, nat_lt, List, All}
-use Rattle.std.specs.List.{list_all}
-use Rattle.orch_base.specs.declared.server.ServerNo.{ServerNo}
+use Rattle.operations.specs.Prelude.{ServerNo, list_all}
 use Rattle.operations.specs.declared.op.Op.{Op}
 use Rattle.operations.specs.Deeds as deed
 use Rattle.operations.specs.Deeds.{Deed, deed_of}

@@ -1,7 +1,6 @@
 -- Plans: the operations of a command.
 use Rattle.std.specs.Prelude.{List, [], ◌∷◌, ◌++◌, Some, None}
-use Rattle.orch_base.specs.declared.server.ServerNo.{ServerNo}
-use Rattle.commands.specs.declared.line.Line.{Line}
+use Rattle.operations.specs.Prelude.{Line, ServerNo}
 use Rattle.operations.specs.declared.op.Aim.TheVariants.{EndOf, ExecOf}
 use Rattle.operations.specs.declared.op.Crossing.TheVariants.{Up, Down, About}
 use Rattle.operations.specs.declared.op.Op.{Op}

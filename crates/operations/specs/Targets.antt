@@ -1,10 +1,7 @@
 -- Whether a change of source can be made.
 use Rattle.std.specs.Prelude.{Bool, false, ◌&&◌, Option, Some, None}
-use Rattle.binlog_coords.specs.declared.Coord.{Coord}
-use Rattle.binlog_coords.specs.Log.{has_place}
-use Rattle.server_model.specs.declared.server.Server.{Server}
-use Rattle.server_model.specs.Run.{Exchange, Write, Fetch, Apply, Request, Befall, Rotate, Purge, Attach, AttachAuto}
-use Rattle.server_model.specs.Worlds.{World, server_at}
+use Rattle.operations.specs.Prelude.{Apply, Attach, AttachAuto, Befall, Coord, Exchange, Fetch, Purge, Request, Rotate, Server, World, Write}
+use Rattle.operations.specs.Prelude.{has_place, server_at}
 
 -- a server is there and logs
 abbrev pub logs_by : Option Server → Bool

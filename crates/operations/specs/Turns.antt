@@ -1,34 +1,14 @@
 -- The turn of a job, as a function: what it does by its first operation, the exchanges that it makes, and the job
 -- after it.
 use Rattle.std.specs.Prelude.{ℕ, zero, suc, ◌+◌, ◌-◌, Bool, true, false, ◌==◌, ◌&&◌, ◌||◌, not, nat_lt, if◌then◌else◌, List, [], ◌∷◌, ◌++◌, map, Option, Some, None, Result, Ok, Err}
-use Rattle.std.specs.List.{list_all}
-use Rattle.gtid_sets.specs.Sets.{holds}
-use Rattle.std.specs.Option.{option_map, option_and_then}
-use Rattle.binlog_coords.specs.declared.Coord.{Coord}
-use Rattle.binlog_coords.specs.Log.{is_at_or_before, same_coord}
-use Rattle.gtid_sets.specs.declared.interval.Interval.{Interval}
-use Rattle.orch_base.specs.declared.server.Moment.{Moment}
-use Rattle.orch_base.specs.declared.server.ServerNo.{ServerNo}
-use Rattle.orch_base.specs.declared.server.SourceState.{SourceState}
-use Rattle.orch_base.specs.declared.server.SourceState.TheVariants.{Without, Attached, Detached}
-use Rattle.kept_rows.specs.declared.observation.Observation.{Observation}
-use Rattle.server_words.specs.declared.status.Status.{Status}
-use Rattle.kept_rows.specs.Seeing.{seen_in}
-use Rattle.server_words.specs.declared.answers.Unreachable.{Unreachable}
-use Rattle.server_words.specs.declared.attach.AttachFault.{AttachFault}
-use Rattle.server_words.specs.declared.attach.AttachFault.TheVariants as attaching
-use Rattle.server_words.specs.declared.attach.Spot.{Spot}
-use Rattle.server_words.specs.declared.attach.Spot.TheVariants as spot
-use Rattle.server_words.specs.declared.changes.Ask.{Ask}
-use Rattle.server_words.specs.declared.changes.Ask.TheVariants as asking
-use Rattle.server_model.specs.Attach.{attach_at}
-use Rattle.server_model.specs.Desk.{desk_answer}
-use Rattle.server_model.specs.Gtids.{status, attach_auto}
-use Rattle.server_model.specs.Run.{Exchange, Write, Fetch, Apply, Request, Befall, Rotate, Purge, Attach, AttachAuto}
-use Rattle.server_model.specs.Worlds.{World, server_at}
-use Rattle.commands.specs.declared.line.Line.{Line}
-use Rattle.commands.specs.declared.cause.Cause.{Cause}
-use Rattle.commands.specs.declared.cause.Cause.TheVariants as cause
+use Rattle.operations.specs.Prelude.{Apply, Ask, Attach, AttachAuto, Attached, AttachFault, Befall, Bridge, Cause, Coord, Detached, Exchange, Fetch}
+use Rattle.operations.specs.Prelude.{Interval, Line, Moment, Observation, Purge, Request, Rotate, ServerNo, SourceState, Spot, Status, Unreachable}
+use Rattle.operations.specs.Prelude.{Without, World, Write, attach_at, attach_auto, bridge_by, desk_answer, holds, is_at_or_before, list_all}
+use Rattle.operations.specs.Prelude.{option_and_then, option_map, same_coord, seen_in, server_at, status}
+use Rattle.operations.specs.Prelude.asking
+use Rattle.operations.specs.Prelude.attaching
+use Rattle.operations.specs.Prelude.cause
+use Rattle.operations.specs.Prelude.spot
 use Rattle.operations.specs.declared.step.JobStep.{JobStep}
 use Rattle.operations.specs.declared.step.JobStep.TheVariants as step
 use Rattle.operations.specs.declared.op.Aim.{Aim}
@@ -39,7 +19,6 @@ use Rattle.operations.specs.declared.matching.Match.{Match}
 use Rattle.operations.specs.declared.matching.MatchFault.{MatchFault}
 use Rattle.operations.specs.declared.matching.MatchFault.TheVariants as matching
 use Rattle.operations.specs.declared.op.Op.{Op}
-use Rattle.instance_keeper.specs.declared.bridge.Bridge.{Bridge}
 use Rattle.operations.specs.declared.sight.Position.{Position}
 use Rattle.operations.specs.declared.sight.Sight.{Sight}
 use Rattle.operations.specs.Deeds as deed
@@ -47,7 +26,6 @@ use Rattle.operations.specs.Deeds.{Deed, deed_of}
 use Rattle.operations.specs.Jobs.{Job, match_found, position_of, seen_of, with_seen, without, with_hand}
 use Rattle.operations.specs.Matching.{match_logs, standing_at}
 use Rattle.operations.specs.Targets.{can_attach}
-use Rattle.instance_keeper.specs.Bridges.{bridge_by}
 
 -- What a turn of a job comes to, what it observed for the book, the exchanges that changed servers, in order, and the
 -- job after it.

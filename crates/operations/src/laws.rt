@@ -1,9 +1,7 @@
 //! What a turn of a job leaves of what the next one requires.
 
 ghost use Rattle.std.specs.Prelude.{◌≡◌, ◌≤◌, ℕ};
-ghost use Rattle.orch_base.specs.declared.server.Moment.{Moment as AMoment};
-ghost use Rattle.server_model.specs.Run.{AllAllowed};
-ghost use Rattle.server_model.specs.Worlds.{World};
+ghost use Rattle.operations.specs.Prelude.{AllAllowed, Moment as AMoment, World};
 ghost use Rattle.operations.specs.Jobs.{Job};
 ghost use Rattle.operations.specs.Turns.{turned};
 ghost use Rattle.operations.specs.Named.{IsNamed, IsInRange};

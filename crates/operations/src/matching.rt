@@ -1,8 +1,8 @@
 //! How the logs of servers match (Pseudo-GTID).
 
-use binlog_coords::Coord;
-use orch_base::ServerNo;
-use server_words::Spot;
+use crate::binlog_coords_items::Coord;
+use crate::orch_base::ServerNo;
+use crate::server_words_items::Spot;
 
 /// Why the log of a server doesn't match another's.
 #[derive(Clone, Copy, Debug, PartialEq, Eq)]

@@ -1,7 +1,7 @@
 //! What a job does, one operation a turn.
 
+use crate::orch_base::ServerNo;
 use commands::Lines;
-use orch_base::ServerNo;
 
 /// How far a replica is to go in its source's log.
 #[derive(Clone, Copy, Debug, PartialEq, Eq)]

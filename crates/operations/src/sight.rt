@@ -1,8 +1,8 @@
 //! What a job saw of servers.
 
-use binlog_coords::Coord;
-use gtid_sets::GtidSet;
-use orch_base::{ServerNo, SourceState};
+use crate::binlog_coords_items::Coord;
+use crate::gtid_sets::GtidSet;
+use crate::orch_base::{ServerNo, SourceState};
 
 /// Where a server stood by one status.
 #[derive(Drop)]

@@ -24,10 +24,8 @@ not_found false n h = refl
 
 -- the host and its three tests, where they all pass
 tests_passed : (empty long : Bool) (place : Option ℕ) (host h : List ℕ) → cond empty (Err Empty) (cond long (Err TooLong) (without_bad host place)) ≡ Ok h → (empty ≡ false) × (long ≡ false) × (place ≡ None) × (host ≡ h)
-tests_passed true long place host h e = absurd (cc)
-tests_passed false true place host h e = absurd (cc)
-tests_passed false false (Some place) host h e = absurd (cc)
 tests_passed false false None host h e = (refl, refl, refl, cc)
+tests_passed _ _ _ host h e = absurd (cc)
 
 pub record IsHost (host : List ℕ) : Type 0 where
   pub some : 0 < length host
@@ -61,9 +59,7 @@ above_zero digits first all small =
 -- the value and its tests, where they all pass
 value_passed : (first all small : Bool) (n port : ℕ) → port_or_fault (cond (first && all && small) (Some n) None) ≡ Ok port → (first ≡ true) × (all ≡ true) × (small ≡ true) × (n ≡ port)
 value_passed true true true n port e = (refl, refl, refl, cc)
-value_passed true true false n port e = absurd (cc)
-value_passed true false small n port e = absurd (cc)
-value_passed false all small n port e = absurd (cc)
+value_passed _ _ _ n port e = absurd (cc)
 
 read_port : (text : Option (List ℕ)) (port : ℕ) → port_at text ≡ Ok port → (0 < port) × (port < 2 ^ 16)
 read_port None port e =

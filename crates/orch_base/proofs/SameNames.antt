@@ -1,13 +1,10 @@
 -- Names are the same exactly where they are equal.
-use Rattle.std.proofs.Common.{◌≡◌, Bool, true, false, eqb, refl, sym, subst, eq-eqb}
-use Rattle.std.specs.Prelude.{◌&&◌, ◌↔◌, nat_eq, IsTrue}
+use Rattle.std.proofs.lemmas.Bool.{and_parts as both}
+use Rattle.std.proofs.Common.{◌≡◌, true, eqb, refl, sym, subst, eq-eqb}
+use Rattle.std.specs.Prelude.{◌↔◌, nat_eq, IsTrue}
 use Rattle.std.specs.Cmp.Lexicographic.{pointwise, same_text, nat_list_eq_equiv}
-use Rattle.std.proofs.lemmas.Bool.{false≢true, eqb-true}
+use Rattle.std.proofs.lemmas.Bool.{eqb-true}
 use Rattle.orch_base.specs.Names.{HostPort, same_name}
-
-both : (a b : Bool) → (a && b) ≡ true → (a ≡ true) × (b ≡ true)
-both true b e = (refl, e)
-both false b e = absurd (false≢true e)
 
 equal : (a b : HostPort) → same_name a b ≡ true → a ≡ b
 equal a b e =

@@ -12,7 +12,6 @@ mod server;
 mod sink;
 mod source;
 mod text;
-mod threads;
 
 pub use chain_laws::chains_come_to_what_is_found;
 pub use code::Code;

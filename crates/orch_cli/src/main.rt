@@ -1,18 +1,18 @@
 //! Does what the words of the command line ask with a scenario.
 #![tactic(auto)]
 
+use crate::command_line::{Usage, places};
+use crate::gates::NoGate;
+use crate::instance_keeper_items::MemKeeper;
+use crate::orch_base::{Memory, OwnedText, Sink};
+use crate::top_call_items::{Way, close};
 use adapters::{FileSource, Input, StreamSink};
-use command_line::{Usage, places};
-use gates::NoGate;
-use instance_keeper::MemKeeper;
-use live_calls::orch;
-use orch_base::{Memory, OwnedText, Sink};
+use live_calls::{command_line, gates, instance_keeper_items, orch, orch_base, top_call_items};
 use sql_keeper::{Backend, SqlKeeper};
 use std::alloc::Global;
 use std::fs::File;
 use std::process::ExitCode;
 use std::{env, io};
-use top_call::{Way, close};
 
 fn words_of(rt: &HostRuntime, alloc: Global) -> io::Result<Vec<Vec<u8>>> {
     let mut words = Vec::new(alloc);

@@ -1,21 +1,9 @@
 -- A command that isn't refused begins a job over servers that are there and free.
 use Rattle.std.proofs.Common.{◌≡◌, ℕ, ◌<◌, ◌^◌, true, length, refl, Option, None, Some}
-use Rattle.commands.specs.declared.turn.Command.{Command}
-use Rattle.commands.specs.Turns.{is_within}
-use Rattle.command_routes.specs.declared.route.Planner.{Planner}
-use Rattle.command_routes.specs.declared.kinds.Regrouping.TheVariants.{ByBridges, ByMatches}
-use Rattle.command_routes.specs.declared.route.Planner.TheVariants.{Coordinates, Gtids, Matches, Paths, Regroups}
-use Rattle.command_jobs.specs.Jobs.{job_by, leases_by, refusal_by, regroup_about}
-use Rattle.command_jobs.proofs.Begun.{job-unended, leases-free, leases-within}
-use Rattle.instance_keeper.specs.Book.{BookState, IsBook}
-use Rattle.orch_base.specs.declared.server.Moment.{Moment}
-use Rattle.orch_base.specs.declared.server.ServerNo.{ServerNo}
-use Rattle.unended_jobs.specs.Unended.{IsUnended}
-use Rattle.recovery_plans.specs.declared.means.Means.{Means}
-use Rattle.recovery_plans.specs.declared.means.Means.TheVariants as means
-use Rattle.server_model.specs.Worlds.{World}
-use Rattle.knowledge.specs.Knowing.{MayTake}
-use Rattle.orch_core.specs.States.{entry_id}
+use Rattle.orch_core.proofs.Prelude.{BookState, ByBridges, ByMatches, Command, IsBook, IsUnended, Matches, MayTake, Means, Moment}
+use Rattle.orch_core.proofs.Prelude.{Planner, Regroups, ServerNo, World, entry_id, is_within, job-unended, job_by, leases-free, leases-within}
+use Rattle.orch_core.proofs.Prelude.{leases_by, refusal_by, regroup_about}
+use Rattle.orch_core.proofs.Prelude.means
 
 module _ (w : World) (b : BookState) (now : Moment) (every : ℕ) (given : Command) (p : Planner) (is : IsBook b) (i_there : is_within (length b.names) given.i ≡ true) (d_there : is_within (length b.names) given.d ≡ true) where
   -- a command that isn't refused may take its leases
@@ -32,9 +20,6 @@ regroup-entry b by id wait None = refl
 regroup-entry b by id wait (Some i) = refl
 
 pub job-entry : (w : World) (b : BookState) (given : Command) (p : Planner) (id wait every : ℕ) → entry_id (job_by w b given p id wait every) ≡ None
-job-entry w b given (Coordinates kind) id wait every = refl
-job-entry w b given (Gtids kind) id wait every = refl
-job-entry w b given (Paths kind) id wait every = refl
-job-entry w b given (Matches kind) id wait every = refl
 job-entry w b given (Regroups ByMatches) id wait every = regroup-entry b (means.Matches every) id wait given.i
 job-entry w b given (Regroups ByBridges) id wait every = regroup-entry b means.Bridges id wait given.i
+job-entry w b given _ id wait every = refl

@@ -1,33 +1,19 @@
 -- Turns of several orchestrators are turns of one, with the claims as they are left.
 use Rattle.std.proofs.Common.{◌≡◌, ◌∙◌, ℕ, Bool, true, false, List, length, Option, Some, None, refl, sym, ap}
 use Rattle.std.specs.Prelude.{IfSome, if◌then◌else◌}
-use Rattle.kept_rows.specs.declared.row.Row.{Row}
-use Rattle.node_claims.specs.Claims as claims
-use Rattle.node_claims.specs.Claims.{ClaimState}
-use Rattle.node_claims.proofs.Owned.{acted_long, answered_long, released_long}
-use Rattle.node_claims.specs.declared.claims.ClaimAnswer.{ClaimAnswer}
-use Rattle.node_claims.specs.declared.claims.ClaimAnswer.TheVariants as claim
-use Rattle.orch_core.specs.After.{after_act, after_done, step}
-use Rattle.orch_core.specs.Keeping.{StepsTo}
-use Rattle.orch_core.specs.Nodes.{act_claimed, act_in, acts, claimed, passes_to, with_claims}
-use Rattle.orch_core.specs.Polls.{changes_of, done_changes}
-use Rattle.orch_core.specs.Runs.{asks, done_asks, engine}
-use Rattle.orch_core.specs.States.{State, nodes_of}
-use Rattle.scenarios.specs.Turns.{IsAct, IsTurn}
-use Rattle.turns.specs.declared.turn.Act.{Act}
-use Rattle.turns.specs.declared.turn.Act.TheVariants as act
-use Rattle.turns.specs.declared.turn.Turn.{Turn}
-use Rattle.turns.specs.declared.turn.Turn.TheVariants as turn
+use Rattle.orch_core.proofs.Prelude.{Act, ClaimAnswer, ClaimState, IsAct, IsTurn, Row, State, StepsTo, Turn, act_claimed, act_in, acted_long, acts}
+use Rattle.orch_core.proofs.Prelude.{after_act, after_done, answered_long, asks, changes_of, claimed, done_asks, done_changes, engine, nodes_of}
+use Rattle.orch_core.proofs.Prelude.{passes_to, released_long, step, with_claims}
+use Rattle.orch_core.proofs.Prelude.act
+use Rattle.orch_core.proofs.Prelude.claim
+use Rattle.orch_core.proofs.Prelude.claims
+use Rattle.orch_core.proofs.Prelude.turn
 
 -- ---- what orchestrator does leaves the claims
 
 act-keeps : (rows : List Row) (s : State) (a : Act) → record (after_act rows s a) { claims = s.claims; last_holder = s.last_holder } ≡ after_act rows s a
 act-keeps rows s (act.PollRead p n) = refl
-act-keeps rows s (act.PollStore p) = refl
-act-keeps rows s (act.Command c) = refl
-act-keeps rows s (act.Job job) = refl
-act-keeps rows s act.Scan = refl
-act-keeps rows s act.Restart = refl
+act-keeps rows s _ = refl
 
 -- ---- a turn that is as another
 
@@ -75,12 +61,10 @@ claimed-act count last node (claim.Taken other until) = tt
 claimed-act count last node (claim.Held until) = if-act count (passes_to last node) act.Restart tt
 
 pub act-fits : (count : ℕ) (s : State) (t : Turn) → IsTurn count t → IfSome (act_in s t) (IsAct count)
-act-fits count s (turn.Step x) is = tt
-act-fits count s (turn.Tick seconds) is = tt
 act-fits count s (turn.Act a) is = is
 act-fits count s (turn.As node a) is = if-act count (acts s node) a is
 act-fits count s (turn.Claim node) is = claimed-act count s.last_holder node (claimed s node)
-act-fits count s (turn.Release node) is = tt
+act-fits count s _ is = tt
 
 -- ---- as many orchestrators as before
 
@@ -100,11 +84,7 @@ nodes-step rows s (turn.Act a) = by a
   where
     by : (a : Act) → nodes_of (after_act rows s a) ≡ nodes_of s
     by (act.PollRead p n) = refl
-    by (act.PollStore p) = refl
-    by (act.Command c) = refl
-    by (act.Job job) = refl
-    by act.Scan = refl
-    by act.Restart = refl
+    by _ = refl
 nodes-step rows s (turn.As node a) = nodes-acted s.claims node s.moment
 nodes-step rows s (turn.Claim node) = nodes-claimed s.claims node s.moment
 nodes-step rows s (turn.Release node) = nodes-released s.claims node

@@ -1,30 +1,13 @@
 -- The entry that ends with a job's turn.
 use Rattle.std.proofs.Common.{◌≡◌, ◌≢◌, ◌∙◌, ℕ, Bool, true, false, cond, List, refl, sym, ap, subst, Option, Some, None}
 use Rattle.std.specs.Prelude.{◌==◌, IfSome, if◌then◌else◌}
-use Rattle.std.specs.Option.{option_map}
-use Rattle.std.proofs.lemmas.Option.{same_Some}
-use Rattle.audit_log.proofs.Changes.{IsAudit-map}
-use Rattle.audit_log.specs.Audits.{AuditState, IsAudit, acked_so, acknowledged_at, ended, ended_so}
-use Rattle.kept_rows.specs.declared.recovery.Recovery.{Recovery as KeptRecovery}
-use Rattle.operations.specs.Turns.{is_going}
-use Rattle.operations.specs.declared.step.JobStep.{JobStep}
-use Rattle.orch_base.specs.declared.recovery.Ending.{Ending}
-use Rattle.orch_base.specs.declared.server.Moment.{Moment}
-use Rattle.instance_keeper.specs.Book.{BookState}
-use Rattle.jobs_in_flight.specs.Jobs.{Rise, job_at, jobs_turned, with_job, without_job}
-use Rattle.recovery_core.proofs.Ended.{going-unended}
-use Rattle.recovery_core.specs.Endings.{ending_of, is_acknowledged}
-use Rattle.hook_texts.specs.declared.hooks.Hook.{Hook}
-use Rattle.recovery_plans.specs.Recoveries.{Recovery}
-use Rattle.recovery_plans.specs.Taking.{taken}
-use Rattle.server_model.specs.Worlds.{World}
-use Rattle.unended_jobs.specs.Hooked.{front_hook, front_turn, promoted_in, rear_hook, rear_turn}
-use Rattle.unended_jobs.specs.Unended.{Flown, flown}
-use Rattle.unended_jobs.specs.declared.unended.Unended.{Unended}
-use Rattle.unended_jobs.specs.declared.unended.Unended.TheVariants as unended
-use Rattle.knowledge.specs.Closings.{closed_by, closing_by, closing_for, closing_of}
-use Rattle.orch_core.specs.States.{HaveEntries, IsOpenAt, entry_id}
-use Rattle.knowledge.specs.declared.closing.Closing.{Closing}
+use Rattle.orch_core.proofs.Prelude.{AuditState, BookState, Closing, Ending, Flown, HaveEntries, Hook, IsAudit, IsAudit-map, IsOpenAt, JobStep}
+use Rattle.orch_core.proofs.Prelude.{Moment, Recovery as KeptRecovery, Rise, Unended, World, acked_so, acknowledged_at, closed_by, closing_by}
+use Rattle.orch_core.proofs.Prelude.{closing_for, closing_of, ended, ended_so, ending_of, entry_id, flown, front_hook, front_turn, going-unended}
+use Rattle.orch_core.proofs.Prelude.{is_acknowledged, is_going, job_at, jobs_turned, option_map, promoted_in, rear_hook, rear_turn, same_Some, taken}
+use Rattle.orch_core.proofs.Prelude.{with_job, without_job}
+use Rattle.orch_core.proofs.Prelude.Recoveries.{Recovery}
+use Rattle.orch_core.proofs.Prelude.unended
 use Rattle.orch_core.proofs.Entries.{entries-closed, entries-with, entries-without, found-open, open-acked, open-ended}
 use Rattle.orch_core.proofs.Recoveries.{HasBegun, mapped-begun}
 

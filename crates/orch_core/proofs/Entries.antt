@@ -1,19 +1,10 @@
 -- The entries of jobs: how they stay while jobs and the audit change.
 use Rattle.std.proofs.Common.{◌≡◌, ◌≢◌, ◌∙◌, ℕ, ◌<◌, ◌≤◌, Bool, true, false, cond, List, [], ◌∷◌, ◌++◌, map, refl, sym, ap, subst, Option, Some, None, arith}
 use Rattle.std.specs.Prelude.{◌==◌, All, IsSomeAnd, find, not, unwrap_or, if◌then◌else◌}
-use Rattle.std.proofs.lemmas.Bool.{eq-eqb, eqb-true, ne_eqb}
-use Rattle.std.proofs.lemmas.List.Elements.{All-head, All-tail}
-use Rattle.std.proofs.lemmas.Option.{same_Some}
-use Rattle.orch_base.specs.declared.recovery.Ending.{Ending}
-use Rattle.orch_base.specs.declared.server.Moment.{Moment}
-use Rattle.kept_rows.specs.declared.recovery.Recovery.{Recovery}
-use Rattle.audit_log.specs.Audits.{AuditState, IsAudit, acked_so, acknowledged, acknowledged_at, acknowledged_for, begun, ended, ended_so, is_of, is_unended}
-use Rattle.audit_log.proofs.Kept.{acknowledged-id}
-use Rattle.unended_jobs.specs.declared.unended.Unended.{Unended}
-use Rattle.unended_jobs.specs.Unended.{number_of}
-use Rattle.jobs_in_flight.specs.Jobs.{Rise, job_at, with_job, without_job}
-use Rattle.jobs_in_flight.proofs.Numbers.{with-past}
-use Rattle.orch_core.specs.States.{HasEntry, HaveEntries, IsOpenAt, entry_id}
+use Rattle.orch_core.proofs.Prelude.{All-head, All-tail, AuditState, Ending, HasEntry, HaveEntries, IsAudit, IsOpenAt, Moment, Recovery, Rise}
+use Rattle.orch_core.proofs.Prelude.{Unended, acked_so, acknowledged, acknowledged-id, acknowledged_at, acknowledged_for, begun, ended, ended_so}
+use Rattle.orch_core.proofs.Prelude.{entry_id, eq-eqb, eqb-true, is_of, is_unended, job_at, ne_eqb, number_of, same_Some, with-past, with_job}
+use Rattle.orch_core.proofs.Prelude.{without_job}
 
 -- ---- entries that aren't ended, in an audit that changes
 

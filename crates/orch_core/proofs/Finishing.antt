@@ -1,44 +1,21 @@
 -- A job's rounds lead to its end.
 use Rattle.std.proofs.Common.{◌≡◌, ◌∙◌, ℕ, zero, suc, ◌+◌, ◌<◌, ◌≤◌, Bool, true, false, cond, List, [], ◌∷◌, ◌++◌, length, take, refl, sym, ap, subst, Option, Some, None, append_assoc, append-nil, add-one, ltb, arith}
 use Rattle.std.specs.Prelude.{All, not, ◌==◌, is_some, slice_get, if◌then◌else◌}
-use Rattle.std.specs.List.{flat_map}
-use Rattle.std.proofs.Math.Seq.{take-append-add}
-use Rattle.std.proofs.lemmas.List.{length-append}
-use Rattle.std.specs.Option.{option_map}
-use Rattle.std.proofs.lemmas.Bool.{eq-eqb, false≢true, ltb-false, ltb-true}
-use Rattle.std.proofs.lemmas.List.Elements.{All-append, All-cons, All-head, All-nil, All-tail}
-use Rattle.std.proofs.lemmas.List.Sums.{fold-append}
-use Rattle.orch_base.specs.declared.server.ServerNo.{ServerNo}
-use Rattle.orch_base.specs.Memory.{next_count}
-use Rattle.kept_rows.specs.declared.row.Row.{Row}
-use Rattle.operations.specs.Turns.{is_going}
-use Rattle.unended_jobs.specs.declared.unended.Unended.{Unended}
-use Rattle.unended_jobs.specs.Unended.{Flown, IsUnended, number_of, turns_of as turns_left}
-use Rattle.unended_jobs.proofs.Going.{flown-fewer, flown-number, ready-of}
-use Rattle.turns.specs.declared.reply.Reply.{Reply}
-use Rattle.turns.specs.declared.turn.Turn.{Turn}
-use Rattle.turns.specs.declared.turn.Act.{Act}
-use Rattle.turns.specs.declared.turn.Act.TheVariants as act
-use Rattle.turns.specs.declared.turn.Step.TheVariants as step
-use Rattle.turns.specs.declared.turn.Turn.TheVariants as turn
-use Rattle.jobs_in_flight.specs.Jobs.{is_open, job_at, jobs_turned, most_turns, most_turns_by, with_job, without_job}
-use Rattle.orch_core.specs.Jobs.{turn_of, turned_at}
-use Rattle.knowledge.specs.declared.fault.TurnFault.{TurnFault}
-use Rattle.knowledge.specs.declared.fault.TurnFault.TheVariants as fault
-use Rattle.orch_core.specs.Keeping.{Ran, WasCutOff}
-use Rattle.name_order.specs.NameOrder.{by_name}
-use Rattle.scenarios.specs.Turns.{IsTurn, NamesOneOf, pollers}
-use Rattle.orch_core.specs.Replies.{reply_of}
-use Rattle.jobs_in_flight.proofs.Numbers.{found-number}
+use Rattle.orch_core.proofs.Prelude.{Act, All-append, All-cons, All-head, All-nil, All-tail, FinishedBy, Flown, Held, IsState, IsTurn, IsUnended}
+use Rattle.orch_core.proofs.Prelude.{LeadsTo, Machine, NamesOneOf, Ran, Reply, Row, ServerNo, State, Turn, TurnFault, Unended, WasCutOff, WasCutShort}
+use Rattle.orch_core.proofs.Prelude.{act_asks, act_in, after_act, after_done, after_rounds, after_turns, asks, by_name, done_asks, engine, eq-eqb}
+use Rattle.orch_core.proofs.Prelude.{false≢true, flat_map, flown-fewer, flown-number, fold-append, found-number, held_run, held_step, is_going}
+use Rattle.orch_core.proofs.Prelude.{is_open, job_at, jobs_turned, length-append, ltb-false, ltb-true, most_turns, most_turns_by, next_count}
+use Rattle.orch_core.proofs.Prelude.{number_of, option_map, pollers, polls, ready-of, replicates, reply_of, round_of, round_over, run_turns, step}
+use Rattle.orch_core.proofs.Prelude.{take-append-add, times, told_in, turn_of, turned_at, turns_of, with_claims, with_job, without_job}
+use Rattle.orch_core.proofs.Prelude.UnendedJobs.{turns_of as turns_left}
+use Rattle.orch_core.proofs.Prelude.act
+use Rattle.orch_core.proofs.Prelude.fault
+use Rattle.orch_core.proofs.Prelude.turn
+use Rattle.orch_core.proofs.Prelude.turns_step as step
 use Rattle.orch_core.proofs.Others.{closed-others, turned-others}
 use Rattle.orch_core.proofs.Runs.{Ran-nil}
 use Rattle.orch_core.proofs.Turned.{All-found}
-use Rattle.orch_core.specs.Rounds.{FinishedBy, WasCutShort, after_rounds, after_turns, round_of, times, told_in}
-use Rattle.jobs_in_flight.specs.Rounds.{polls, replicates, round_over}
-use Rattle.orch_core.specs.Nodes.{act_in, with_claims}
-use Rattle.orch_core.specs.After.{after_act, after_done, step}
-use Rattle.orch_core.specs.Runs.{Held, LeadsTo, Machine, act_asks, asks, done_asks, engine, held_run, held_step, run_turns, turns_of}
-use Rattle.orch_core.specs.States.{IsState, State}
 
 -- ---- turns of which none asks for rows lead to one state
 
@@ -50,24 +27,18 @@ abbrev pub AsksNothing : List Turn → Type 0
 AsksNothing ts = All AsksNever ts
 
 act-any : (rows : List Row) (s : State) (a : Act) → act_asks a ≡ false → after_act rows s a ≡ after_act [] s a
-act-any rows s (act.PollRead p n) e = refl
-act-any rows s (act.PollStore p) e = refl
-act-any rows s (act.Command c) e = refl
-act-any rows s (act.Job job) e = refl
-act-any rows s act.Scan e = refl
 act-any rows s act.Restart e = absurd (false≢true (sym e))
+act-any rows s _ e = refl
 
 done-any : (rows : List Row) (s : State) (o : Option Act) → done_asks o ≡ false → after_done rows s o ≡ after_done [] s o
 done-any rows s None e = refl
 done-any rows s (Some a) e = act-any rows s a e
 
 pub step-any : (rows : List Row) (s : State) (t : Turn) → asks s t ≡ false → step rows s t ≡ step [] s t
-step-any rows s (turn.Step x) e = refl
-step-any rows s (turn.Tick seconds) e = refl
 step-any rows s (turn.Act a) e = act-any rows s a e
 step-any rows s (turn.As node a) e = ap (with_claims s (turn.As node a)) (done-any rows s (act_in s (turn.As node a)) e)
 step-any rows s (turn.Claim node) e = ap (with_claims s (turn.Claim node)) (done-any rows s (act_in s (turn.Claim node)) e)
-step-any rows s (turn.Release node) e = refl
+step-any rows s _ e = refl
 
 -- ---- the jobs after a round
 

@@ -1,33 +1,13 @@
 -- What recoveries that begin in turn leave of the jobs and the audit.
 use Rattle.std.proofs.Common.{◌≡◌, ℕ, ◌+◌, ◌-◌, ◌<◌, ◌≤◌, ◌^◌, Bool, true, false, List, [], ◌∷◌, ◌++◌, map, refl, sym, ap, subst, Option, arith}
 use Rattle.std.specs.Prelude.{◌==◌, ◌||◌, All, IfSome, fold, is_none}
-use Rattle.std.specs.List.{list_any}
-use Rattle.std.proofs.lemmas.Bool.{eqb-true, false≢true}
-use Rattle.std.proofs.lemmas.List.{append-nil}
-use Rattle.std.proofs.lemmas.List.Elements.{All-cons, All-head, All-nil, All-push, All-tail}
-use Rattle.audit_log.proofs.Changes.{IsAudit-begun}
-use Rattle.audit_log.proofs.Parting.{apart-begins}
-use Rattle.audit_log.specs.Apart.{MayBegin}
-use Rattle.audit_log.specs.Audits.{AuditState, IsAudit, begun, is_open, is_unended}
-use Rattle.kept_rows.specs.declared.recovery.Recovery.{Recovery as KeptRecovery}
-use Rattle.jobs_in_flight.proofs.Numbers.{Rise-push}
-use Rattle.jobs_in_flight.specs.Jobs.{Rise}
-use Rattle.orch_base.specs.declared.server.ServerNo.{ServerNo}
-use Rattle.recovery_core.specs.Begun.{BeginInTurn, IsListed, audit_after}
-use Rattle.recovery_core.specs.Scans.{HasRoom}
-use Rattle.recovery_core.specs.Tries.{Begins}
-use Rattle.recovery_plans.specs.Beginning.{first_source}
-use Rattle.recovery_plans.specs.Named.{IsListOf}
-use Rattle.recovery_plans.specs.Recoveries.{Recovery}
-use Rattle.recovery_plans.specs.declared.purpose.Purpose.{Purpose}
-use Rattle.recovery_plans.specs.declared.purpose.Purpose.TheVariants as purpose
-use Rattle.recovery_ends.proofs.Ended.{begun-shaped}
-use Rattle.recovery_ends.specs.Ends.{IsShaped}
-use Rattle.unended_jobs.specs.Unended.{IsUnended}
-use Rattle.unended_jobs.specs.declared.unended.Unended.{Unended}
-use Rattle.knowledge.specs.Knowing.{recovery_job}
-use Rattle.knowledge.proofs.Remaining.{joined}
-use Rattle.orch_core.specs.States.{HaveEntries}
+use Rattle.orch_core.proofs.Prelude.{All-cons, All-head, All-nil, All-push, All-tail, AuditState, BeginInTurn, Begins, HasRoom, HaveEntries, IsAudit}
+use Rattle.orch_core.proofs.Prelude.{IsAudit-begun, IsListed, IsListOf, IsShaped, IsUnended, MayBegin, Purpose, Recovery as KeptRecovery, Rise}
+use Rattle.orch_core.proofs.Prelude.{Rise-push, ServerNo, Unended, apart-begins, append-nil, audit_after, begun, begun-shaped, eqb-true, false≢true}
+use Rattle.orch_core.proofs.Prelude.{first_source, is_unended, joined, list_any, recovery_job}
+use Rattle.orch_core.proofs.Prelude.Audits.{is_open}
+use Rattle.orch_core.proofs.Prelude.Recoveries.{Recovery}
+use Rattle.orch_core.proofs.Prelude.purpose
 use Rattle.orch_core.proofs.Entries.{entries-joined}
 use Rattle.orch_core.proofs.Recoveries.{HasBegun}
 

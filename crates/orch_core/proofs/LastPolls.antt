@@ -1,7 +1,6 @@
 -- The places of the last poll-reads.
 use Rattle.std.proofs.Common.{◌≡◌, ◌∙◌, ℕ, suc, ◌+◌, List, [], ◌∷◌, ◌++◌, length, ap, arith}
-use Rattle.turns.specs.declared.turn.Turn.{Turn}
-use Rattle.orch_core.specs.Due.{last_poll, last_poll_from, polled_at}
+use Rattle.orch_core.proofs.Prelude.{Turn, last_poll, last_poll_from, polled_at}
 
 -- one more turn
 from-push : (n before place : ℕ) (ts : List Turn) (t : Turn) → last_poll_from n before place (ts ++ t ∷ []) ≡ polled_at n (last_poll_from n before place ts) (place + length ts + 1) t

@@ -1,3 +1,4 @@
+mod Prelude
 pub mod Servers
 pub mod Sources
 pub mod Recoveries
@@ -16,3 +17,26 @@ pub mod Entries
 pub mod Joining
 pub mod Closed
 pub mod Slots
+pub use Rattle.knowledge.proofs.AuditLog as AuditLog
+pub use Rattle.knowledge.proofs.BinlogCoords as BinlogCoords
+pub use Rattle.knowledge.proofs.CommandJobs as CommandJobs
+pub use Rattle.knowledge.proofs.CommandOutcomes as CommandOutcomes
+pub use Rattle.knowledge.proofs.CommandsProofs as CommandsProofs
+pub use Rattle.knowledge.proofs.FailureAnalysis as FailureAnalysis
+pub use Rattle.knowledge.proofs.InstanceKeeper as InstanceKeeper
+pub use Rattle.knowledge.proofs.JobsInFlight as JobsInFlight
+pub use Rattle.knowledge.proofs.KeptRows as KeptRows
+pub mod KnowledgeProofs
+pub use Rattle.knowledge.proofs.NameOrder as NameOrder
+pub mod NodeClaims
+pub mod OpeningBook
+pub use Rattle.knowledge.proofs.OpeningsProofs as OpeningsProofs
+pub use Rattle.knowledge.proofs.OperationsProofs as OperationsProofs
+pub use Rattle.knowledge.proofs.PermissionProofs as PermissionProofs
+pub use Rattle.knowledge.proofs.RecoveryCore as RecoveryCore
+pub use Rattle.knowledge.proofs.RecoveryEnds as RecoveryEnds
+pub use Rattle.knowledge.proofs.RecoveryPlans as RecoveryPlans
+pub use Rattle.knowledge.proofs.ScenariosProofs as ScenariosProofs
+pub use Rattle.knowledge.proofs.ServerModel as ServerModel
+pub use Rattle.knowledge.proofs.UnendedJobs as UnendedJobs
+pub mod WorldOpenings

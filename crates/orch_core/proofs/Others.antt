@@ -1,18 +1,9 @@
 -- A job's turn leaves the other jobs, and where the job isn't open they are all that is left.
 use Rattle.std.proofs.Common.{◌≡◌, ◌∙◌, ℕ, suc, ◌<◌, ◌≤◌, Bool, true, false, cond, List, [], ◌∷◌, length, refl, sym, ap, Option, Some, None, arith}
 use Rattle.std.specs.Prelude.{◌==◌, is_some, not, if◌then◌else◌}
-use Rattle.std.specs.Option.{option_map}
-use Rattle.std.proofs.lemmas.Bool.{eq-eqb, false≢true}
-use Rattle.std.proofs.lemmas.List.Filters.{length-filter_both}
-use Rattle.orch_base.specs.Memory.{next_count}
-use Rattle.operations.specs.Turns.{is_going}
-use Rattle.unended_jobs.specs.declared.unended.Unended.{Unended}
-use Rattle.unended_jobs.specs.Unended.{IsUnended, number_of}
-use Rattle.unended_jobs.proofs.Going.{flown-number, ready-of}
-use Rattle.jobs_in_flight.specs.Jobs.{is_open, job_at, jobs_turned, with_job, without_job}
-use Rattle.jobs_in_flight.proofs.Numbers.{found-number}
-use Rattle.orch_core.specs.Jobs.{turn_of, turned_at}
-use Rattle.orch_core.specs.States.{IsState, State}
+use Rattle.orch_core.proofs.Prelude.{IsState, IsUnended, State, Unended, eq-eqb, false≢true, flown-number, found-number, is_going, is_open, job_at}
+use Rattle.orch_core.proofs.Prelude.{jobs_turned, length-filter_both, next_count, number_of, option_map, ready-of, turn_of, turned_at, with_job}
+use Rattle.orch_core.proofs.Prelude.{without_job}
 use Rattle.orch_core.proofs.Turned.{All-found}
 
 -- a job that goes on takes its place

@@ -1,73 +1,35 @@
 -- What commands change fits the book, and keeps what holds of states.
 use Rattle.std.proofs.Common.{◌≡◌, ◌∙◌, ℕ, ◌+◌, ◌<◌, ◌≤◌, ◌^◌, Bool, true, false, List, [], map, length, refl, sym, ap, subst, Option, Some, None, Result, Ok, Err, arith}
 use Rattle.std.specs.Prelude.{All, IfSome, ◌&&◌, is_some, nat_lt, if◌then◌else◌}
-use Rattle.std.proofs.lemmas.List.Elements.{All-map, All-append, All-cons, All-nil, All-push, All-weaker}
-use Rattle.orch_base.specs.declared.server.ServerNo.{ServerNo}
-use Rattle.orch_base.specs.Memory.{next_count}
-use Rattle.kept_rows.specs.declared.observation.Instance.{Instance}
-use Rattle.kept_rows.specs.declared.row.Row.{Row}
-use Rattle.kept_rows.specs.declared.observation.Observation.{Observation}
-use Rattle.server_words.specs.declared.status.Status.{Status as Seen}
-use Rattle.kept_rows.specs.declared.row.Change.TheVariants as change
-use Rattle.kept_rows.specs.declared.row.Key.TheVariants as key
-use Rattle.kept_rows.specs.declared.row.Row.TheVariants as row
-use Rattle.kept_rows.specs.declared.row.Table.TheVariants as table
-use Rattle.kept_rows.specs.Servers.{are_known, fits, observed_servers, row_fits}
-use Rattle.instance_keeper.specs.Book.{BookState, IsBook, added_over, discovered_over, downtime_at, instance_at}
-use Rattle.kept_rows.specs.Ranges.{IsInRange}
-use Rattle.kept_rows.proofs.Known.{both_true}
-use Rattle.opening_book.proofs.Following.{names-change}
-use Rattle.commands.specs.declared.line.Line.{Line}
-use Rattle.commands.specs.declared.refusal.Refusal.{Refusal}
-use Rattle.commands.specs.declared.turn.CommandTurn.{CommandTurn}
-use Rattle.commands.specs.Turns.{has_needed, is_within}
-use Rattle.asking_commands.specs.Answers.{allowed, lines_of, permitted}
-use Rattle.audit_log.specs.Audits.{AuditState, IsAudit}
-use Rattle.book_commands.specs.declared.decided.Decided.{Decided}
-use Rattle.book_commands.specs.declared.decided.Effect.{Effect}
-use Rattle.book_commands.specs.declared.decided.Effect.TheVariants as effect
-use Rattle.book_commands.specs.Decisions.{about, acked, book_after as book_decided, candidate_of, decided_of, downtime_begun, downtime_ended, downtime_of, downtime_removal, effect_by, registered}
-use Rattle.commands.specs.declared.turn.Keys.{Keys}
-use Rattle.instance_keeper.specs.Had.{has_row, put_change}
-use Rattle.orch_base.specs.declared.server.Moment.{Moment}
+use Rattle.orch_core.proofs.Prelude.{All-append, All-cons, All-map, All-nil, All-push, All-weaker, Asks, AuditState, BeginInTime}
+use Rattle.orch_core.proofs.Prelude.{Begins as RecoveryBegins, BookState, CanBegin, CanSettle, CommandTurn, Configuration, Decided, Decides, Decision}
+use Rattle.orch_core.proofs.Prelude.{Discovers, Effect, Forgets, HaveEntries, Instance, IsAudit, IsBook, IsCommand, IsEffect, IsInRange, IsNext}
+use Rattle.orch_core.proofs.Prelude.{IsState, IsUnended as JobRange, IsUpdate, Keys, Knowledge, LeavesIds, Line, MayTake, Moment, Numbers}
+use Rattle.orch_core.proofs.Prelude.{Observation, Outcome, Planner, Recovers, Refusal, Rise, Rise-push, Route, Row, ServerNo, State, Status as Seen}
+use Rattle.orch_core.proofs.Prelude.{TakesOver, Unended, UnknownInstance, Update, about, acked, added_over, allowed, are_known, asked, attempt_of}
+use Rattle.orch_core.proofs.Prelude.{book_after as book_decided, both_true, by_hand, candidate_of, command_outcome, decided, decided_of, discovered}
+use Rattle.orch_core.proofs.Prelude.{discovered_over, downtime_at, downtime_begun, downtime_ended, downtime_of, downtime_removal, effect_by, entry_id}
+use Rattle.orch_core.proofs.Prelude.{fits, forgotten, has_needed, has_row, instance_at, is_within, job-number, job_by, known_of, label_at, leases_by}
+use Rattle.orch_core.proofs.Prelude.{lines_of, names-change, next_count, next_reading, number_of, numbers_of, observed_servers, outcome_by}
+use Rattle.orch_core.proofs.Prelude.{outcome_of, period_by, permitted, put_change, question, recovered, recovery-begins, recovery-moment}
+use Rattle.orch_core.proofs.Prelude.{recovery_begun, recovery_job, recovery_try, refusal, refusal_by, removal_refusal, route_of, row_fits}
+use Rattle.orch_core.proofs.Prelude.{scan-in-turn, scan-moments, scan_outcome, scanned, taken_over, takeover-begins, takeover-moment, takeover_try}
+use Rattle.orch_core.proofs.Prelude.{terms_of, told-can, told-in-turn, told_try, updated, with_known, with_told}
+use Rattle.orch_core.proofs.Prelude.Outcomes.{about as given_or, begun}
+use Rattle.orch_core.proofs.Prelude.Decisions.{registered}
+use Rattle.orch_core.proofs.Prelude.TheVariants.{Begins}
+use Rattle.orch_core.proofs.Prelude.change
+use Rattle.orch_core.proofs.Prelude.decision
+use Rattle.orch_core.proofs.Prelude.effect
+use Rattle.orch_core.proofs.Prelude.key
+use Rattle.orch_core.proofs.Prelude.row
+use Rattle.orch_core.proofs.Prelude.table
+use Rattle.orch_core.proofs.Prelude.update
 use Rattle.orch_core.proofs.Recoveries.{HasBegun, acked-begun, acked-is}
-use Rattle.scenarios.specs.Turns.{IsCommand}
-use Rattle.command_outcomes.specs.declared.command.Update.{Update}
-use Rattle.command_outcomes.specs.declared.command.Update.TheVariants as update
-use Rattle.recovery_core.proofs.Beginning.{recovery-begins, recovery-moment, takeover-begins, takeover-moment}
-use Rattle.recovery_core.proofs.InTurn.{scan-in-turn, scan-moments}
-use Rattle.recovery_core.specs.Begun.{CanBegin}
-use Rattle.recovery_core.specs.Scans.{attempt_of, scanned}
-use Rattle.recovery_core.specs.Tries.{Begins as RecoveryBegins, recovery_try, takeover_try}
-use Rattle.orch_core.specs.Settling.{BeginInTime, CanSettle, IsNext, known_of, with_known}
 use Rattle.orch_core.proofs.Entries.{entries-acknowledged, entries-push}
 use Rattle.orch_core.proofs.Joining.{joined-audit, joined-begun, joined-entries, joined-next, joined-range, joined-rising}
-use Rattle.commands.specs.declared.refusal.Refusal.TheVariants.{UnknownInstance}
-use Rattle.book_views.specs.Sources.{label_at}
-use Rattle.command_outcomes.specs.Commands.{by_hand, recovered, recovery_begun, taken_over, terms_of, Outcome, about as given_or, asked, begun, decided, discovered, forgotten, next_reading, outcome_by, outcome_of, question, refusal, removal_refusal}
-use Rattle.command_outcomes.specs.declared.configuration.Configuration.{Configuration}
-use Rattle.command_outcomes.specs.HookTelling.{told_try, with_told}
-use Rattle.knowledge.specs.Knowing.{IsEffect, IsUpdate, Knowledge, MayTake, recovery_job, updated}
-use Rattle.command_outcomes.specs.Ids.{LeavesIds}
-use Rattle.command_outcomes.specs.Periods.{period_by}
-use Rattle.command_outcomes.proofs.HookTold.{told-can, told-in-turn}
 use Rattle.orch_core.proofs.Periods.{hand-short, period-short}
-use Rattle.orch_core.specs.Polls.{command_outcome, numbers_of, scan_outcome}
-use Rattle.jobs_in_flight.specs.Jobs.{Rise}
-use Rattle.orch_core.specs.States.{HaveEntries, State, IsState, entry_id}
-use Rattle.command_outcomes.specs.declared.command.Numbers.{Numbers}
 use Rattle.orch_core.proofs.Beginnings.{begun-unended, job-entry, may-take}
-use Rattle.jobs_in_flight.proofs.Numbers.{Rise-push}
-use Rattle.command_routes.specs.declared.route.Decision.{Decision}
-use Rattle.command_routes.specs.declared.route.Decision.TheVariants as decision
-use Rattle.command_routes.specs.declared.route.Planner.{Planner}
-use Rattle.command_routes.specs.declared.route.Route.{Route}
-use Rattle.command_routes.specs.declared.route.Route.TheVariants.{Discovers, Forgets, Asks, Decides, Begins, Recovers, TakesOver}
-use Rattle.command_routes.specs.Routes.{route_of}
-use Rattle.command_jobs.proofs.Begun.{job-number}
-use Rattle.command_jobs.specs.Jobs.{job_by, leases_by, refusal_by}
-use Rattle.unended_jobs.specs.declared.unended.Unended.{Unended}
-use Rattle.unended_jobs.specs.Unended.{IsUnended as JobRange, number_of}
 use Rattle.orch_core.proofs.Starts.{settings-change}
 use Rattle.orch_core.proofs.States.{names-over, settings-over, reading_known, one_known}
 
@@ -225,12 +187,10 @@ names-decided b (effect.Change c) = names-change b c
 names-decided b (effect.Acks cluster) = refl
 
 names-updated : (k : Knowledge) (u : Update) → (updated k u).book.names ≡ k.book.names
-names-updated k update.Stays = refl
 names-updated k (update.Change c) = names-change k.book c
 names-updated k (update.Discovery o) = names-discovery k.book o (instance_at k.book o.no)
 names-updated k (update.Decides e) = names-decided k.book e
-names-updated k (update.Begins x) = refl
-names-updated k (update.Recovers xs) = refl
+names-updated k _ = refl
 
 settings-discovery : (b : BookState) (o : Observation) (kept : Option Instance) → (discovered_over b o kept).settings ≡ b.settings
 settings-discovery b o None = go o.seen
@@ -246,12 +206,10 @@ settings-decided b (effect.Change c) = settings-change b c
 settings-decided b (effect.Acks cluster) = refl
 
 settings-updated : (k : Knowledge) (u : Update) → (updated k u).book.settings ≡ k.book.settings
-settings-updated k update.Stays = refl
 settings-updated k (update.Change c) = settings-change k.book c
 settings-updated k (update.Discovery o) = settings-discovery k.book o (instance_at k.book o.no)
 settings-updated k (update.Decides e) = settings-decided k.book e
-settings-updated k (update.Begins x) = refl
-settings-updated k (update.Recovers xs) = refl
+settings-updated k _ = refl
 
 -- what an outcome begins is next
 abbrev NextBy : ℕ → ℕ → Outcome → Type 0
@@ -414,65 +372,40 @@ scan-settles s is book =
 
 module _ (count : ℕ) (k : Knowledge) where
   jobs-updated : (u : Update) → IsUpdate k u → IsNext count k.last_job u → length k.book.names ≡ count → (updated k u).last_job < 2 ^ 64 → All (JobRange count) k.jobs → All (JobRange count) (updated k u).jobs
-  jobs-updated update.Stays is next names few all = all
-  jobs-updated (update.Change c) is next names few all = all
-  jobs-updated (update.Discovery o) is next names few all = all
-  jobs-updated (update.Decides e) is next names few all = all
   jobs-updated (update.Begins x) is next names few all = All-push (JobRange count) k.jobs x.job all next.range
   jobs-updated (update.Recovers xs) is next names few all =
       All-append (JobRange count) k.jobs (map recovery_job xs) all (subst (λ (n : ℕ). All (JobRange n) (map recovery_job xs)) names (joined-range (length k.book.names) k.book.leases k.audit k.last_job xs is few))
+  jobs-updated _ is next names few all = all
 
   rising-updated : (u : Update) → IsUpdate k u → IsNext count k.last_job u → Rise 0 k.jobs k.last_job → Rise 0 (updated k u).jobs (updated k u).last_job
-  rising-updated update.Stays is next rise = rise
-  rising-updated (update.Change c) is next rise = rise
-  rising-updated (update.Discovery o) is next rise = rise
-  rising-updated (update.Decides e) is next rise = rise
   rising-updated (update.Begins x) is next rise = let number = next.number in Rise-push 0 k.jobs k.last_job x.job (omega (arith, number)) rise
   rising-updated (update.Recovers xs) is next rise = joined-rising (length k.book.names) 0 k.book.leases k.audit k.last_job xs k.jobs is rise
+  rising-updated _ is next rise = rise
 
   -- an audit stays one
   audit-updated : (u : Update) → IsUpdate k u → IsAudit k.audit → IsAudit (updated k u).audit
-  audit-updated update.Stays is audit = audit
-  audit-updated (update.Change c) is audit = audit
-  audit-updated (update.Discovery o) is audit = audit
-  audit-updated (update.Decides effect.Stays) is audit = audit
-  audit-updated (update.Decides (effect.Change c)) is audit = audit
   audit-updated (update.Decides (effect.Acks cluster)) is audit = acked-is k.audit cluster audit
-  audit-updated (update.Begins x) is audit = audit
   audit-updated (update.Recovers xs) is audit = joined-audit (length k.book.names) k.book.leases k.audit k.last_job xs is audit
+  audit-updated _ is audit = audit
 
   -- and has the jobs' entries
   entries-updated : (u : Update) → IsUpdate k u → IsNext count k.last_job u → IsAudit k.audit → HaveEntries k.audit 0 k.jobs → HaveEntries (updated k u).audit 0 (updated k u).jobs
-  entries-updated update.Stays is next audit entries = entries
-  entries-updated (update.Change c) is next audit entries = entries
-  entries-updated (update.Discovery o) is next audit entries = entries
-  entries-updated (update.Decides effect.Stays) is next audit entries = entries
-  entries-updated (update.Decides (effect.Change c)) is next audit entries = entries
   entries-updated (update.Decides (effect.Acks cluster)) is next audit entries = entries-acknowledged k.audit cluster k.jobs entries
   entries-updated (update.Begins x) is next audit entries = entries-push k.audit 0 k.jobs x.job next.entry entries
   entries-updated (update.Recovers xs) is next audit entries = joined-entries (length k.book.names) k.book.leases k.audit k.last_job xs k.jobs is audit entries
+  entries-updated _ is next audit entries = entries
 
 -- the next id stays in its type's range
 pub next-updated : (k : Knowledge) (u : Update) → LeavesIds u → k.audit.next < 2 ^ 64 → (updated k u).audit.next < 2 ^ 64
-next-updated k update.Stays ids fits = fits
-next-updated k (update.Change c) ids fits = fits
-next-updated k (update.Discovery o) ids fits = fits
 next-updated k (update.Decides effect.Stays) ids fits = fits
-next-updated k (update.Decides (effect.Change c)) ids fits = fits
-next-updated k (update.Decides (effect.Acks cluster)) ids fits = fits
-next-updated k (update.Begins x) ids fits = fits
 next-updated k (update.Recovers xs) ids fits = joined-next k.audit xs ids fits
+next-updated k _ ids fits = fits
 
 -- recoveries began in time
 begun-updated : (k : Knowledge) (u : Update) → BeginInTime u → HasBegun k.audit.recoveries → HasBegun (updated k u).audit.recoveries
-begun-updated k update.Stays time all = all
-begun-updated k (update.Change c) time all = all
-begun-updated k (update.Discovery o) time all = all
-begun-updated k (update.Decides effect.Stays) time all = all
-begun-updated k (update.Decides (effect.Change c)) time all = all
 begun-updated k (update.Decides (effect.Acks cluster)) time all = acked-begun k.audit cluster all
-begun-updated k (update.Begins x) time all = all
 begun-updated k (update.Recovers xs) time all = joined-begun k.audit xs time all
+begun-updated k _ time all = all
 
 -- what a command or a scan leaves, where the number of the last job fits its type
 pub IsState-settled : (s : State) (o : Outcome) (now : Knowledge) → IsState s → CanSettle s o → LeavesIds o.book → now.last_job < 2 ^ 64 → now ≡ updated (known_of s) o.book

@@ -1,17 +1,8 @@
 -- Block periods are at most 1,000,000,000 seconds.
 use Rattle.std.proofs.Common.{ℕ, ◌≤◌, Bool, true, false, List, [], ◌∷◌}
 use Rattle.std.specs.Prelude.{All, nat_eq, if◌then◌else◌}
-use Rattle.std.specs.Cmp.Lexicographic.{pointwise}
-use Rattle.std.proofs.lemmas.List.Elements.{All-head, All-tail}
-use Rattle.book_views.specs.Sources.{label_at}
-use Rattle.audit_log.specs.Audits.{longest_block}
-use Rattle.orch_base.specs.declared.server.ServerNo.{ServerNo}
-use Rattle.scenarios.specs.Blocks.{period_in}
-use Rattle.scenarios.specs.declared.blocks.Block.{Block}
-use Rattle.command_outcomes.specs.Commands.{by_hand}
-use Rattle.command_outcomes.specs.Periods.{period_by}
-use Rattle.orch_core.specs.Polls.{numbers_of}
-use Rattle.orch_core.specs.States.{IsState, State}
+use Rattle.orch_core.proofs.Prelude.{All-head, All-tail, Block, IsState, ServerNo, State, by_hand, label_at, longest_block, numbers_of, period_by}
+use Rattle.orch_core.proofs.Prelude.{period_in, pointwise}
 
 pub short-in : (bs : List Block) (block : ℕ) (cluster : List ℕ) → All (λ b. b.seconds ≤ longest_block) bs → block ≤ longest_block → period_in bs block cluster ≤ longest_block
 short-in [] block cluster all short = short

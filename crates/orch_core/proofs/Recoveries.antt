@@ -1,23 +1,13 @@
 -- Recoveries that count began in time, and so the moment to which they raise.
 use Rattle.std.proofs.Common.{◌≡◌, ℕ, ◌≤◌, ◌^◌, Bool, true, false, List, [], ◌∷◌, Option, Some, None, refl, subst, sym, arith}
 use Rattle.std.specs.Prelude.{All, ◌&&◌, filter, map, max, nat_le, if◌then◌else◌}
-use Rattle.std.proofs.lemmas.Bool.{leb-true}
-use Rattle.std.proofs.lemmas.List.Elements.{All-cons, All-head, All-nil, All-tail}
-use Rattle.orch_base.specs.declared.recovery.Ending.TheVariants as ending
-use Rattle.orch_base.specs.declared.server.Moment.{Moment}
-use Rattle.kept_rows.proofs.Known.{both_true}
-use Rattle.kept_rows.specs.Servers.{are_known, servers_of}
-use Rattle.kept_rows.specs.Rows.{map_of}
-use Rattle.kept_rows.specs.declared.recovery.Recovery.{Recovery}
-use Rattle.kept_rows.specs.declared.recovery.RecoveryRow.{RecoveryRow}
-use Rattle.kept_rows.specs.declared.row.Row.{Row}
-use Rattle.kept_rows.specs.declared.row.Row.TheVariants as row
-use Rattle.audit_log.specs.Audits.{acknowledged, acknowledged_for, closed, ended_so, interrupted, is_of, is_unended, AuditState, IsAudit}
-use Rattle.audit_log.proofs.Changes.{IsAudit-map}
-use Rattle.audit_log.proofs.Kept.{acknowledged-block, acknowledged-id, interrupted-block, interrupted-id}
-use Rattle.audit_log.specs.Loading.{loaded_by, recoveries_in}
-use Rattle.opening_book.specs.Audits.{latest_recovery, recovery_raised}
-use Rattle.opening_book.specs.Counting.{counted, counts, end_or, greatest, is_block_in_range, is_end_in_range, is_in_range, latest, raised}
+use Rattle.orch_core.proofs.Prelude.{All-cons, All-head, All-nil, All-tail, AuditState, IsAudit, IsAudit-map, Moment, Recovery, RecoveryRow, Row}
+use Rattle.orch_core.proofs.Prelude.{acknowledged, acknowledged-block, acknowledged-id, acknowledged_for, are_known, both_true, closed, counted}
+use Rattle.orch_core.proofs.Prelude.{counts, end_or, ended_so, greatest, interrupted, interrupted-block, interrupted-id, is_block_in_range}
+use Rattle.orch_core.proofs.Prelude.{is_end_in_range, is_in_range, is_of, is_unended, latest, latest_recovery, leb-true, loaded_by, map_of, raised}
+use Rattle.orch_core.proofs.Prelude.{recoveries_in, recovery_raised, servers_of}
+use Rattle.orch_core.proofs.Prelude.ending
+use Rattle.orch_core.proofs.Prelude.row
 
 -- each recovery began by 2^63
 abbrev pub HasBegun : List Recovery → Type 0
@@ -54,12 +44,8 @@ module _ (period : List ℕ → ℕ) (count last : ℕ) where
   counting rows = recoveries_in period (filter (counts count last) rows)
 
   of-row : (r : Row) → is_in_range last r ≡ true → (rest : List Row) → All IsInTime (recoveries_in period rest) → All IsInTime (recoveries_in period (r ∷ rest))
-  of-row (row.Instance i) is rest all = all
-  of-row (row.Downtime d) is rest all = all
-  of-row (row.Candidate c) is rest all = all
   of-row (row.Recovery k) is rest all = All-cons IsInTime (loaded_by period k) (recoveries_in period rest) (in-time period last k is) all
-  of-row (row.Switch enabled) is rest all = all
-  of-row (row.Active node until) is rest all = all
+  of-row _ is rest all = all
 
   all-in-time : (rows : List Row) → All IsInTime (counting rows)
   all-in-time [] = All-nil IsInTime
@@ -122,12 +108,9 @@ acked-begun a cluster all = mapped-begun (acknowledged_for cluster) (acknowledge
 -- ---- the moment of an opening
 
 raised-most : (last now : ℕ) (r : Row) → now ≤ greatest → is_in_range last r ≡ true → raised now r ≤ greatest
-raised-most last now (row.Instance i) most is = most
 raised-most last now (row.Downtime d) most is = max-most now d.begun.0 greatest most (at_most d.begun.0 greatest (both_true (nat_le d.begun.0 greatest) (nat_le d.until.0 greatest) is).0)
-raised-most last now (row.Candidate c) most is = most
 raised-most last now (row.Recovery k) most is = let none : List ℕ → ℕ = λ c. 0 in recovery-most now (loaded_by none k) most (in-time none last k is)
-raised-most last now (row.Switch enabled) most is = most
-raised-most last now (row.Active node until) most is = most
+raised-most last now _ most is = most
 
 filtered-most : (count last now : ℕ) (rows : List Row) → now ≤ greatest → latest now (filter (counts count last) rows) ≤ greatest
 filtered-most count last now [] most = most

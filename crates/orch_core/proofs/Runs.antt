@@ -1,19 +1,8 @@
 -- Runs, one turn after another.
 use Rattle.std.proofs.Common.{◌≡◌, ◌∙◌, ℕ, ◌+◌, ◌<◌, true, List, [], ◌∷◌, ◌++◌, length, take, get_or, refl, sym, ap, subst, Option, Some, None}
-use Rattle.std.proofs.lemmas.List.{take_more}
-use Rattle.std.proofs.lemmas.List.Sums.{fold-append}
-use Rattle.std.proofs.lemmas.Option.{get_or_from_slice_get}
-use Rattle.kept_rows.specs.declared.row.Row.{Row}
-use Rattle.kept_rows.specs.Rows.{changed}
-use Rattle.turns.specs.declared.reply.Reply.{Reply}
-use Rattle.turns.specs.declared.turn.Turn.{Turn}
-use Rattle.knowledge.specs.declared.fault.TurnFault.{TurnFault}
-use Rattle.knowledge.specs.declared.fault.TurnFault.TheVariants as fault
-use Rattle.orch_core.specs.Keeping.{Calls, StepsTo, Ran, WasCutOff, kept_by}
-use Rattle.orch_core.specs.Replies.{reply_of}
-use Rattle.orch_core.specs.After.{step}
-use Rattle.orch_core.specs.Runs.{Held, Machine, engine, held_run, held_step, recorder, run_turns, turns_of}
-use Rattle.orch_core.specs.States.{State}
+use Rattle.orch_core.proofs.Prelude.{Calls, Held, Machine, Ran, Reply, Row, State, StepsTo, Turn, TurnFault, WasCutOff, changed, engine, fold-append}
+use Rattle.orch_core.proofs.Prelude.{get_or_from_slice_get, held_run, held_step, kept_by, recorder, reply_of, run_turns, step, take_more, turns_of}
+use Rattle.orch_core.proofs.Prelude.fault
 
 -- one more turn
 

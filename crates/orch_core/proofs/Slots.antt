@@ -1,12 +1,7 @@
 -- A slot whose reading is stored and leaves it, or stays in it.
 use Rattle.std.proofs.Common.{◌≡◌, ℕ, zero, suc, List, [], ◌∷◌, get_or, Option, None, sym, ap, subst, ◌∙◌, refl}
 use Rattle.std.specs.Prelude.{Result, Ok, Err, OnOk, OnErr, slice_set}
-use Rattle.kept_rows.specs.declared.observation.Observation.{Observation}
-use Rattle.instance_keeper.specs.Book.{BookState}
-use Rattle.jobs_in_flight.specs.Jobs.{stored}
-use Rattle.turns.specs.declared.reply.Reply.{Reply}
-use Rattle.knowledge.specs.declared.fault.TurnFault.{TurnFault}
-use Rattle.orch_core.specs.States.{State, IsState}
+use Rattle.orch_core.proofs.Prelude.{BookState, IsState, Observation, Reply, State, TurnFault, stored}
 use Rattle.orch_core.proofs.States.{IsState-store}
 
 set-own : {A : Type 0} (xs : List A) (n : ℕ) (x : A) → x ≡ get_or xs n x → slice_set xs n x ≡ xs

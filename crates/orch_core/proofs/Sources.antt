@@ -1,16 +1,10 @@
 -- Each server's source is one of the servers, in the book's words.
 use Rattle.std.proofs.Common.{◌≡◌, ℕ, ◌<◌, true, List, length, refl, subst, Some, arith}
 use Rattle.std.specs.Prelude.{All, IfSome, slice_get, nat_lt}
-use Rattle.std.proofs.lemmas.Bool.Decides.{nat_tests}
-use Rattle.std.proofs.lemmas.Option.{get_or_from_slice_get, slice_get_within}
-use Rattle.orch_base.specs.declared.server.SourceState.{SourceState}
-use Rattle.orch_base.specs.declared.server.SourceState.TheVariants as source
-use Rattle.kept_rows.specs.Servers.{are_known, source_servers}
-use Rattle.server_model.specs.Run.{Exchange, AllAllowed, run}
-use Rattle.server_model.specs.Worlds.{World, source_no}
-use Rattle.server_model.specs.declared.server.Server.{Server}
-use Rattle.server_model.proofs.Sources as model
-use Rattle.orch_core.specs.States.{HasKnownSource}
+use Rattle.orch_core.proofs.Prelude.{AllAllowed, Exchange, HasKnownSource, Server, SourceState, World, are_known, get_or_from_slice_get, nat_tests}
+use Rattle.orch_core.proofs.Prelude.{run, slice_get_within, source_no, source_servers}
+use Rattle.orch_core.proofs.Prelude.model
+use Rattle.orch_core.proofs.Prelude.source
 
 abbrev pub KnowsSources : List Server → Type 0
 KnowsSources servers = All (HasKnownSource (length servers)) servers

@@ -1,67 +1,27 @@
 -- The state with which a scenario's run begins.
 use Rattle.std.proofs.Common.{◌≡◌, ◌∙◌, ℕ, ◌+◌, ◌<◌, ◌≤◌, ◌^◌, Bool, true, false, List, [], ◌∷◌, ◌++◌, length, get_or, refl, sym, ap, subst, Option, Some, None, Result, Err, arith}
 use Rattle.std.specs.Prelude.{All, IfSome, IsTrue, ◌&&◌, is_none, nat_lt, slice_index_or, if◌then◌else◌}
-use Rattle.std.proofs.lemmas.List.Sums.{get_or-le-sum_by}
-use Rattle.std.specs.List.{cons_option}
-use Rattle.std.proofs.lemmas.List.{length-map, length-replicate}
-use Rattle.std.proofs.lemmas.List.Elements.{All-append, All-cons, All-map, All-nil, All-replicate}
-use Rattle.std.proofs.lemmas.Option.{slice_get-get_or, slice_get_within}
-use Rattle.orch_base.specs.declared.rule.Rule.{Rule}
-use Rattle.orch_base.specs.declared.server.Moment.{Moment}
-use Rattle.audit_log.specs.Audits.{AuditState, IsAudit, closed, closing, longest_block}
-use Rattle.opening_book.proofs.Recoveries.{audit-opened, last_id-within}
-use Rattle.instance_keeper.specs.Had.{has_row}
-use Rattle.kept_rows.specs.declared.observation.Instance.{Instance}
-use Rattle.kept_rows.specs.declared.row.Candidate.{Candidate}
-use Rattle.kept_rows.specs.declared.observation.Observation.{Observation}
-use Rattle.kept_rows.specs.declared.row.Row.{Row}
-use Rattle.kept_rows.specs.declared.row.Change.{Change}
-use Rattle.kept_rows.specs.declared.row.Change.TheVariants as change
-use Rattle.kept_rows.specs.declared.row.Table.TheVariants as table
-use Rattle.kept_rows.specs.declared.row.Key.TheVariants as key
-use Rattle.kept_rows.specs.Servers.{are_known, source_servers, row_fits}
-use Rattle.instance_keeper.specs.Book.{BookState, after_change, book_made}
-use Rattle.opening_book.specs.Audits.{audit_of, last_id}
-use Rattle.opening_book.specs.Counting.{counted, greatest, greatest_id, last_read, latest}
-use Rattle.kept_rows.specs.Rows.{changed}
-use Rattle.kept_rows.specs.declared.row.Row.TheVariants as row
-use Rattle.orch_base.specs.declared.server.Settings.{Settings}
-use Rattle.audit_log.specs.Loading.{loaded_by}
-use Rattle.kept_rows.specs.Recoveries.{put_recovery}
-use Rattle.kept_rows.specs.declared.recovery.Recovery.{Recovery}
-use Rattle.command_outcomes.specs.Periods.{period_by}
+use Rattle.orch_core.proofs.Prelude.{All-append, All-cons, All-map, All-nil, All-replicate, Attached, AuditState, BookState, Candidate, Change}
+use Rattle.orch_core.proofs.Prelude.{ClaimState, Configuration, Detached, Fits, HasKnownSource, HasTurnCause, HaveEntries, Instance, IsAudit}
+use Rattle.orch_core.proofs.Prelude.{IsScenario, IsSlot, IsState, IsUnended, Moment, Observation, Recovery, Rise, Row, Rule, Scenario, Server}
+use Rattle.orch_core.proofs.Prelude.{ServerNo, Settings, StartsBy, State, TurnFault, Unended, World, after_change, after_opening, are_known}
+use Rattle.orch_core.proofs.Prelude.{audit-opened, audit_of, block_given, blocks_given, book_made, changed, changes_from, closed, closing}
+use Rattle.orch_core.proofs.Prelude.{configuration_of, cons_option, counted, empty_slots, flushes_of, get_or-le-sum_by, given-opened, greatest}
+use Rattle.orch_core.proofs.Prelude.{greatest_id, has_row, holder_of, interrupting, is_opening_change, kept_at_start, kept_claim, kept_if, last_id}
+use Rattle.orch_core.proofs.Prelude.{last_id-within, last_read, latest, length-map, length-replicate, loaded_audit, loaded_book, loaded_by, loading}
+use Rattle.orch_core.proofs.Prelude.{longest-at, longest_block, made as claims_made, missing, missing_from, names-opening, next_count, opened_book}
+use Rattle.orch_core.proofs.Prelude.{opened_world, opening_changes, opening_instance, parts_of, period_by, period_of, pollers, put_instance}
+use Rattle.orch_core.proofs.Prelude.{put_recovery, registered, registering, registering_from, room_of, row_fits, server_at, settings_of}
+use Rattle.orch_core.proofs.Prelude.{slice_get-get_or, slice_get_within, source_servers, source_state, start, start_changes, start_moment, start_rows}
+use Rattle.orch_core.proofs.Prelude.{start_world, transactions}
+use Rattle.orch_core.proofs.Prelude.change
+use Rattle.orch_core.proofs.Prelude.fault
+use Rattle.orch_core.proofs.Prelude.key
+use Rattle.orch_core.proofs.Prelude.row
+use Rattle.orch_core.proofs.Prelude.table
 use Rattle.orch_core.proofs.Periods.{short-in}
-use Rattle.opening_book.specs.Opening.{after_opening, block_given, blocks_given, changes_from, interrupting, is_opening_change, loading, missing, missing_from, opened_book, opening_changes, opening_instance, put_instance, registered, registering, registering_from}
-use Rattle.server_model.specs.declared.server.Server.{Server}
-use Rattle.openings.specs.Listed.{transactions}
-use Rattle.openings.specs.Servers.{parts_of}
-use Rattle.orch_base.specs.declared.server.ServerNo.{ServerNo}
-use Rattle.orch_base.specs.declared.server.SourceState.TheVariants.{Attached, Detached}
-use Rattle.world_openings.proofs.Opened.{given-opened}
-use Rattle.world_openings.specs.Opening.{Fits, opened_world, source_state}
-use Rattle.server_model.specs.Worlds.{World, server_at}
-use Rattle.scenarios.specs.declared.scenario.Scenario.{Scenario}
-use Rattle.node_claims.specs.Claims.{ClaimState}
-use Rattle.node_claims.specs.Claims.{made as claims_made}
-use Rattle.orch_core.specs.Nodes.{holder_of, kept_claim}
-use Rattle.orch_core.specs.Polls.{empty_slots}
-use Rattle.orch_base.specs.Memory.{next_count}
-use Rattle.knowledge.specs.Faults.{HasTurnCause}
-use Rattle.knowledge.specs.Kept.{kept_if}
-use Rattle.knowledge.specs.declared.fault.TurnFault.{TurnFault}
-use Rattle.knowledge.specs.declared.fault.TurnFault.TheVariants as fault
-use Rattle.scenarios.specs.Scenarios.{IsScenario, period_of, room_of, flushes_of, settings_of}
-use Rattle.scenarios.specs.Turns.{pollers}
-use Rattle.scenarios.proofs.Rooms.{longest-at}
-use Rattle.command_outcomes.specs.declared.configuration.Configuration.{Configuration}
-use Rattle.orch_core.specs.Scenarios.{configuration_of, loaded_audit, loaded_book, start_world, start_rows, start_moment, start_changes, start, StartsBy, kept_at_start}
-use Rattle.unended_jobs.specs.declared.unended.Unended.{Unended}
-use Rattle.unended_jobs.specs.Unended.{IsUnended}
-use Rattle.orch_core.specs.States.{HasKnownSource, HaveEntries, IsSlot, IsState, State}
-use Rattle.jobs_in_flight.specs.Jobs.{Rise}
 use Rattle.orch_core.proofs.Servers.{servers-start}
 use Rattle.orch_core.proofs.Sources.{KnowsSources, source-at}
-use Rattle.opening_book.proofs.Following.{names-opening}
 use Rattle.orch_core.proofs.Recoveries.{HasBegun, closed-begun, closed-is, counted-begun, latest-most}
 use Rattle.orch_core.proofs.States.{both_known, names-made, one_known, settings-made, settings-put}
 
@@ -151,16 +111,12 @@ pub all-loading : (P : Change → Type 0) (period : List ℕ → ℕ) (rows : Li
 all-loading P period rows a at each = All-append P (blocks_given period rows) (interrupting a at) (given rows) (All-map P put_recovery (closing a at) (λ k d h. each _))
   where
     one : (r : Row) → IfSome (block_given period r) P
-    one (row.Instance i) = tt
-    one (row.Downtime d) = tt
-    one (row.Candidate c) = tt
     one (row.Recovery k) = go (is_none k.block)
       where
         go : (none : Bool) → IfSome (if none then Some (put_recovery (loaded_by period k)) else None) P
         go true = each (loaded_by period k)
         go false = tt
-    one (row.Switch enabled) = tt
-    one (row.Active node until) = tt
+    one _ = tt
 
     given : (rows : List Row) → All P (blocks_given period rows)
     given [] = All-nil P
@@ -183,33 +139,12 @@ settings-change b (change.Remove table.Candidate (key.Server n)) = refl
 settings-change b (change.Remove table.Recovery (key.Server n)) = refl
 settings-change b (change.Remove table.Switch (key.Server n)) = refl
 settings-change b (change.Remove table.Active (key.Server n)) = refl
-settings-change b (change.Remove table.Instance (key.Id id)) = refl
-settings-change b (change.Remove table.Downtime (key.Id id)) = refl
-settings-change b (change.Remove table.Candidate (key.Id id)) = refl
-settings-change b (change.Remove table.Recovery (key.Id id)) = refl
-settings-change b (change.Remove table.Switch (key.Id id)) = refl
-settings-change b (change.Remove table.Active (key.Id id)) = refl
-settings-change b (change.Remove table.Instance key.Global) = refl
-settings-change b (change.Remove table.Downtime key.Global) = refl
-settings-change b (change.Remove table.Candidate key.Global) = refl
-settings-change b (change.Remove table.Recovery key.Global) = refl
-settings-change b (change.Remove table.Switch key.Global) = refl
-settings-change b (change.Remove table.Active key.Global) = refl
-settings-change b (change.Remove table.Instance key.Active) = refl
-settings-change b (change.Remove table.Downtime key.Active) = refl
-settings-change b (change.Remove table.Candidate key.Active) = refl
-settings-change b (change.Remove table.Recovery key.Active) = refl
-settings-change b (change.Remove table.Switch key.Active) = refl
-settings-change b (change.Remove table.Active key.Active) = refl
+settings-change b _ = refl
 
 settings-opening : (b : BookState) (c : Change) → (after_opening b c).settings ≡ b.settings
 settings-opening b (change.Remove t k) = settings-change b (change.Remove t k)
 settings-opening b (change.Put (row.Instance i)) = refl
-settings-opening b (change.Put (row.Downtime d)) = refl
-settings-opening b (change.Put (row.Candidate c)) = refl
-settings-opening b (change.Put (row.Recovery r)) = refl
-settings-opening b (change.Put (row.Switch enabled)) = refl
-settings-opening b (change.Put (row.Active node until)) = refl
+settings-opening b _ = refl
 
 names-opened : (b : BookState) (cs : List Change) → (opened_book b cs).names ≡ b.names
 names-opened b [] = refl

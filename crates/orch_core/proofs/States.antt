@@ -1,64 +1,27 @@
 -- Turns keep what holds of states.
 use Rattle.std.proofs.Common.{◌≡◌, ℕ, ◌+◌, ◌<◌, ◌≤◌, ◌^◌, Bool, true, false, List, [], ◌∷◌, ◌++◌, length, Option, None, Some, refl, sym, ap, subst, ◌∙◌, arith, append-nil}
 use Rattle.std.specs.Prelude.{All, min, IfSome, ◌&&◌, nat_lt, slice_set, fold, map, Ok, Err, if◌then◌else◌}
-use Rattle.std.proofs.lemmas.List.{length-set, length-replicate, length-map}
-use Rattle.std.proofs.lemmas.List.Elements.{All-nil, All-set, All-replicate}
-use Rattle.orch_base.specs.declared.server.Settings.{Settings}
-use Rattle.orch_base.specs.declared.server.ServerNo.{ServerNo}
-use Rattle.kept_rows.specs.declared.observation.Observation.{Observation}
-use Rattle.kept_rows.specs.declared.observation.Instance.{Instance}
-use Rattle.kept_rows.specs.declared.row.Change.{Change}
-use Rattle.kept_rows.specs.declared.row.Row.{Row}
-use Rattle.kept_rows.specs.Rows.{changed}
-use Rattle.kept_rows.specs.declared.row.Row.TheVariants as row
-use Rattle.kept_rows.specs.Servers.{are_known, observed_servers, seen_servers, source_servers, row_fits}
-use Rattle.instance_keeper.specs.Book.{BookState, empty_book, after_put, after_row, book_made, instance_at, renewed, renewed_book, stored_over}
-use Rattle.audit_log.specs.Audits.{AuditState, IsAudit, closed}
-use Rattle.opening_book.proofs.Recoveries.{audit-loaded}
-use Rattle.opening_book.specs.Counting.{counted, loaded}
-use Rattle.orch_base.specs.declared.server.Moment.{Moment}
-use Rattle.orch_core.specs.Restarts.{interrupted_at, last_given, reloaded_audit, reloaded_book, reloaded_moment, restart_changes}
+use Rattle.orch_core.proofs.Prelude.{All-nil, All-replicate, All-set, AllAllowed, AllJoinWell, AuditState, BookState, Change, HaveEntries, Instance}
+use Rattle.orch_core.proofs.Prelude.{IsAudit, IsSlot, IsState, IsStep, IsUnended, Moment, Observation, Rise, Row, Server, ServerNo, Settings, State}
+use Rattle.orch_core.proofs.Prelude.{Status, StatusFault, Step, StepsTo, Turn, Unended, World, after_put, after_restart, after_row, are_known}
+use Rattle.orch_core.proofs.Prelude.{audit-loaded, book_made, changed, closed, counted, empty_book, empty_slots, engine, exchange_of, instance_at}
+use Rattle.orch_core.proofs.Prelude.{interrupted_at, kept_by, kept_if, kept_with, last_given, later, length-map, length-replicate, length-set, loaded}
+use Rattle.orch_core.proofs.Prelude.{observed_servers, period_by, pollers, reading_by, reloaded_audit, reloaded_book, reloaded_moment, renewed}
+use Rattle.orch_core.proofs.Prelude.{renewed_book, restart_changes, row_fits, run, seen_in, seen_purged, seen_servers, seen_set, server_at, source_at}
+use Rattle.orch_core.proofs.Prelude.{source_servers, status, status_in, status_of, step as turn_step, stored, stored_over}
+use Rattle.orch_core.proofs.Prelude.act
+use Rattle.orch_core.proofs.Prelude.row
+use Rattle.orch_core.proofs.Prelude.seeing
+use Rattle.orch_core.proofs.Prelude.turn
+use Rattle.orch_core.proofs.Prelude.turns_step as step
 use Rattle.orch_core.proofs.Recoveries.{HasBegun, closed-begun, closed-is, counted-begun, reloaded-most}
-use Rattle.kept_rows.specs.Seeing.{seen_in}
-use Rattle.server_model.specs.declared.server.Server.{Server}
-use Rattle.server_words.specs.declared.status.Status.{Status}
-use Rattle.server_words.specs.declared.status.StatusFault.{StatusFault}
-use Rattle.server_words.specs.declared.status.StatusFault.TheVariants as seeing
-use Rattle.server_model.specs.Gtids.{status, status_in, status_of, source_at, seen_purged, seen_set}
-use Rattle.server_model.specs.Run.{AllAllowed, AllJoinWell, run}
-use Rattle.server_model.specs.Worlds.{World, server_at}
-use Rattle.turns.specs.declared.turn.Step.{Step}
-use Rattle.turns.specs.declared.turn.Act.TheVariants as act
-use Rattle.turns.specs.declared.turn.Turn.{Turn}
-use Rattle.turns.specs.declared.turn.Turn.TheVariants as turn
-use Rattle.turns.specs.declared.turn.Step.TheVariants as step
-use Rattle.scenarios.specs.Turns.{pollers, IsStep}
-use Rattle.orch_core.specs.Turns.{exchange_of, later}
-use Rattle.command_outcomes.specs.Periods.{period_by}
 use Rattle.orch_core.proofs.Periods.{period-short}
-use Rattle.unended_jobs.specs.declared.unended.Unended.{Unended}
-use Rattle.unended_jobs.specs.Unended.{IsUnended}
-use Rattle.jobs_in_flight.specs.Jobs.{Rise, stored}
-use Rattle.orch_core.specs.States.{HaveEntries, State, IsSlot, IsState}
 use Rattle.orch_core.proofs.Sources.{KnowsSources, source-at, sources-run}
-use Rattle.orch_core.specs.Polls.{empty_slots}
-use Rattle.command_outcomes.specs.Readings.{reading_by}
-use Rattle.orch_core.specs.After.{after_restart, step as turn_step}
-use Rattle.orch_core.specs.Runs.{engine}
-use Rattle.orch_core.specs.Keeping.{StepsTo, kept_by, kept_with}
-use Rattle.knowledge.specs.Kept.{kept_if}
 
 -- a step's exchange is allowed, and is no attachment
 pub Allowed-step : (count : ℕ) (w : World) (x : Step) → IsStep count x → AllAllowed w (exchange_of x ∷ []) × AllJoinWell w (exchange_of x ∷ [])
 Allowed-step count w (step.Write n size) is = ((is.1, tt), (tt, tt))
-Allowed-step count w (step.Fetch n) is = ((tt, tt), (tt, tt))
-Allowed-step count w (step.Apply n) is = ((tt, tt), (tt, tt))
-Allowed-step count w (step.Fail n) is = ((tt, tt), (tt, tt))
-Allowed-step count w (step.Heal n) is = ((tt, tt), (tt, tt))
-Allowed-step count w (step.Cut n link) is = ((tt, tt), (tt, tt))
-Allowed-step count w (step.Join n link) is = ((tt, tt), (tt, tt))
-Allowed-step count w (step.Rotate n) is = ((tt, tt), (tt, tt))
-Allowed-step count w (step.Purge n file) is = ((tt, tt), (tt, tt))
+Allowed-step count w _ is = ((tt, tt), (tt, tt))
 
 min-most : (a most : ℕ) → min a most ≤ most
 min-most a most = omega arith
@@ -90,11 +53,7 @@ reading_known w n read now all within =
 
 pub names-put : (b : BookState) (r : Row) → (after_put b r).names ≡ b.names
 names-put b (row.Instance i) = refl
-names-put b (row.Downtime d) = refl
-names-put b (row.Candidate c) = refl
-names-put b (row.Recovery r) = refl
-names-put b (row.Switch enabled) = refl
-names-put b (row.Active node until) = refl
+names-put b _ = refl
 
 names-row : (b : BookState) (r : Row) → (after_row b r).names ≡ b.names
 names-row b r = go (row_fits (length b.names) r)
@@ -129,11 +88,7 @@ names-stored b (Some o) = names-over b o (instance_at b o.no)
 
 pub settings-put : (b : BookState) (r : Row) → (after_put b r).settings ≡ b.settings
 settings-put b (row.Instance i) = refl
-settings-put b (row.Downtime d) = refl
-settings-put b (row.Candidate c) = refl
-settings-put b (row.Recovery r) = refl
-settings-put b (row.Switch enabled) = refl
-settings-put b (row.Active node until) = refl
+settings-put b _ = refl
 
 settings-row : (b : BookState) (r : Row) → (after_row b r).settings ≡ b.settings
 settings-row b r = go (row_fits (length b.names) r)

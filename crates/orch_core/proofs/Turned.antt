@@ -1,43 +1,21 @@
 -- The exchanges of a job's turn are allowed, and what holds of states holds after it.
-use Rattle.std.proofs.Common.{◌≡◌, ◌∙◌, ℕ, ◌<◌, ◌^◌, Bool, true, false, List, [], ◌∷◌, ◌++◌, length, get_or, refl, sym, ap, subst, Option, Some, None, arith}
-use Rattle.std.specs.Prelude.{All, IfSome, nat_lt, not, ◌==◌, slice_get, if◌then◌else◌}
-use Rattle.std.proofs.lemmas.Bool.{and_parts}
-use Rattle.std.proofs.lemmas.Option.{slice_get-get_or}
-use Rattle.std.specs.Option.{option_map}
-use Rattle.std.proofs.lemmas.List.Elements.{All-cons, All-filter, All-head, All-tail}
-use Rattle.orch_base.specs.Memory.{next_count}
-use Rattle.kept_rows.specs.declared.observation.Observation.{Observation}
-use Rattle.kept_rows.specs.Servers.{are_known, observed_servers, seen_servers}
-use Rattle.instance_keeper.specs.Book.{BookState}
-use Rattle.unended_jobs.specs.declared.unended.Unended.{Unended}
-use Rattle.unended_jobs.specs.declared.look.UnendedLook.{UnendedLook}
-use Rattle.unended_jobs.specs.Looks.{foretold, observation_of, step_of}
-use Rattle.operations.specs.declared.step.JobStep.TheVariants as step
-use Rattle.unended_jobs.specs.Unended.{Flown, IsUnended, flown, number_of}
-use Rattle.unended_jobs.proofs.Going.{flown-allowed, flown-number, flown-sees, flown-unended, ready-of}
-use Rattle.unended_jobs.proofs.Looking.{foretold-observation, foretold-step}
-use Rattle.turns.specs.declared.turn.Act.TheVariants as act
-use Rattle.turns.specs.declared.turn.Turn.TheVariants as turn
-use Rattle.server_model.specs.Run.{AllAllowed, run}
-use Rattle.server_model.specs.Worlds.{World}
-use Rattle.operations.specs.Turns.{is_going}
-use Rattle.jobs_in_flight.specs.Jobs.{Rise, book_turned, job_at, job_exchanges, job_observation, job_reply, jobs_turned, reads_with, step_reply, stored, turn_by, with_job, without_job, without_leases}
-use Rattle.audit_log.specs.Audits.{AuditState, IsAudit}
-use Rattle.orch_base.specs.declared.server.Moment.{Moment}
-use Rattle.knowledge.specs.Closings.{closed_by, closing_changes, closing_of}
-use Rattle.knowledge.specs.declared.closing.Closing.{Closing}
-use Rattle.orch_core.specs.Jobs.{turn_of, turned_at}
-use Rattle.orch_core.specs.Polls.{changes_of}
-use Rattle.knowledge.specs.Kept.{changes_by}
-use Rattle.orch_core.specs.After.{step as turn_step}
-use Rattle.orch_core.specs.States.{HaveEntries, IsOpenAt, IsSlot, IsState, State, entry_id}
-use Rattle.jobs_in_flight.proofs.Numbers.{found-number, Rise-with, Rise-without}
+use Rattle.orch_core.proofs.Prelude.{All-cons, All-filter, All-head, All-tail, AllAllowed, AuditState, BookState, Closing, Flown, HaveEntries}
+use Rattle.orch_core.proofs.Prelude.{IsAudit, IsOpenAt, IsSlot, IsState, IsUnended, Moment, Observation, Rise, Rise-with, Rise-without, State}
+use Rattle.orch_core.proofs.Prelude.{Unended, UnendedLook, World, are_known, book_turned, changes_by, changes_of, closed_by}
+use Rattle.orch_core.proofs.Prelude.{closing_changes, closing_of, entry_id, flown, flown-allowed, flown-number, flown-sees, flown-unended, foretold}
+use Rattle.orch_core.proofs.Prelude.{foretold-observation, foretold-step, found-here, found-number, head_known as known-head, is_going, job_at}
+use Rattle.orch_core.proofs.Prelude.{job_exchanges, job_observation, job_reply, jobs_turned, next_count, number_of, observation_of, observed_servers}
+use Rattle.orch_core.proofs.Prelude.{option_map, reads_with, ready-of, run, seen_servers, servers-run, slice_get-get_or, step as turn_step, step_of}
+use Rattle.orch_core.proofs.Prelude.{step_reply, stored, turn_by, turn_of, turned_at, with_job, without_job, without_leases}
+use Rattle.orch_core.proofs.Prelude.act
+use Rattle.orch_core.proofs.Prelude.jobstep as step
+use Rattle.orch_core.proofs.Prelude.turn
+use Rattle.std.proofs.Common.{◌≡◌, ◌∙◌, ℕ, ◌<◌, ◌^◌, Bool, true, false, List, [], ◌∷◌, ◌++◌, length, get_or, refl, sym, ap, subst, Option, Some, None}
+use Rattle.std.specs.Prelude.{All, IfSome, not, ◌==◌, slice_get, if◌then◌else◌}
 use Rattle.orch_core.proofs.Closed.{closed_by-begun, closed_by-is, closed_by-next, closing-going, closing-open, entries-turned, flown-entry}
 use Rattle.orch_core.proofs.Recoveries.{HasBegun}
-use Rattle.server_model.proofs.Counts.{servers-run}
 use Rattle.orch_core.proofs.Sources.{KnowsSources, sources-run}
 use Rattle.orch_core.proofs.States.{names-stored, reading_known, settings-stored}
-use Rattle.jobs_in_flight.proofs.Turning.{found-here}
 
 -- ---- a turn's exchanges are allowed
 
@@ -149,12 +127,6 @@ module _ (s : State) (id : ℕ) (is : IsState s) where
       }
 
 -- ---- what a turn observes is of the servers
-
-known-head : (count n : ℕ) (ns : List ℕ) → are_known count (n ∷ ns) ≡ true → n < count
-known-head count n ns h = below n count (and_parts (nat_lt n count) (are_known count ns) h).0
-  where
-    below : (m k : ℕ) → nat_lt m k ≡ true → m < k
-    below m k e = grind arith
 
 pub observed-known : (s : State) (u : Unended) → KnowsSources s.world.servers → IsUnended (length s.world.servers) u
     → IfSome (turn_of s u).observation (λ o. are_known (length s.world.servers) (observed_servers o) ≡ true)

@@ -1,25 +1,16 @@
 -- The state after each turn.
 use Rattle.std.specs.Prelude.{ℕ, List, [], ◌∷◌, slice_set, Option, Some, None, is_some, if◌then◌else◌}
-use Rattle.orch_base.specs.declared.server.ServerNo.{ServerNo}
-use Rattle.orch_base.specs.Memory.{next_count}
-use Rattle.kept_rows.specs.declared.row.Row.{Row}
-use Rattle.instance_keeper.specs.Book.{instance_at}
-use Rattle.audit_log.specs.Audits.{closed}
-use Rattle.server_model.specs.Run.{run}
-use Rattle.jobs_in_flight.specs.Jobs.{book_turned, job_exchanges, job_observation, jobs_turned, reads_with, stored}
-use Rattle.turns.specs.declared.turn.Act.{Act}
-use Rattle.turns.specs.declared.turn.Act.TheVariants as act
-use Rattle.turns.specs.declared.turn.Step.{Step}
-use Rattle.turns.specs.declared.turn.Turn.{Turn}
-use Rattle.turns.specs.declared.turn.Turn.TheVariants as turn
-use Rattle.knowledge.specs.Closings.{closed_by, closing_of}
+use Rattle.orch_core.specs.Prelude.{Act, Row, ServerNo, Step, Turn, book_turned, closed, closed_by, closing_of, instance_at, job_exchanges}
+use Rattle.orch_core.specs.Prelude.{job_observation, jobs_turned, next_count, reads_with, run, stored}
+use Rattle.orch_core.specs.Prelude.act
+use Rattle.orch_core.specs.Prelude.turn
 use Rattle.orch_core.specs.Jobs.{turned_at}
 use Rattle.orch_core.specs.Nodes.{act_in, with_claims}
 use Rattle.orch_core.specs.Polls.{command_outcome, empty_slots, reading, scan_outcome, slot_at}
 use Rattle.orch_core.specs.Restarts.{interrupted_at, reloaded_audit, reloaded_book, reloaded_moment}
 use Rattle.orch_core.specs.Settling.{settled}
 use Rattle.orch_core.specs.States.{State}
-use Rattle.orch_core.specs.Turns.{exchange_of, later}
+use Rattle.orch_core.specs.TurnExchanges.{exchange_of, later}
 
 -- the exchange is made
 abbrev pub after_step : State → Step → State

@@ -1,9 +1,8 @@
 -- Which server is to be read next.
 use Rattle.std.specs.Prelude.{◌≡◌, slice_index, length, ℕ, ◌+◌, ◌<◌, ◌≤◌, ◌==◌, List, [], ◌∷◌, if◌then◌else◌}
-use Rattle.turns.specs.declared.turn.Act.{Act}
-use Rattle.turns.specs.declared.turn.Act.TheVariants as act
-use Rattle.turns.specs.declared.turn.Turn.{Turn}
-use Rattle.turns.specs.declared.turn.Turn.TheVariants as turn
+use Rattle.orch_core.specs.Prelude.{Act, Turn}
+use Rattle.orch_core.specs.Prelude.act
+use Rattle.orch_core.specs.Prelude.turn
 
 -- the place of a turn, where it is a poll-read of this server, and else what was there before
 abbrev pub act_polled : ℕ → ℕ → ℕ → Act → ℕ

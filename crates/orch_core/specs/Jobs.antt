@@ -1,10 +1,6 @@
 -- The turn of a job in a state.
 use Rattle.std.specs.Prelude.{ℕ, Option}
-use Rattle.std.specs.Option.{option_map}
-use Rattle.orch_base.specs.Memory.{next_count}
-use Rattle.unended_jobs.specs.declared.unended.Unended.{Unended}
-use Rattle.unended_jobs.specs.Unended.{Flown, flown}
-use Rattle.jobs_in_flight.specs.Jobs.{job_at}
+use Rattle.orch_core.specs.Prelude.{Flown, Unended, flown, job_at, next_count, option_map}
 use Rattle.orch_core.specs.States.{State}
 
 -- the turn of a job, with the next read number and the moment for what it observes

@@ -1,13 +1,8 @@
 -- What a run does with its keeper.
 use Rattle.std.specs.Prelude.{◌≡◌, ◌≢◌, ◌<◌, ◌⊎◌, ℕ, Bool, true, List, [], ◌++◌, length, take, slice_get, Option, Some, None, if◌then◌else◌}
-use Rattle.std.specs.Option.{option_map}
-use Rattle.kept_rows.specs.declared.row.Row.{Row}
-use Rattle.kept_rows.specs.declared.row.Change.{Change}
-use Rattle.kept_rows.specs.Rows.{changed}
-use Rattle.knowledge.specs.declared.fault.TurnFault.{TurnFault}
-use Rattle.knowledge.specs.declared.fault.TurnFault.TheVariants as fault
-use Rattle.turns.specs.declared.turn.Turn.{Turn}
-use Rattle.turns.specs.declared.turn.Turn.TheVariants as turn
+use Rattle.orch_core.specs.Prelude.{Change, Row, Turn, TurnFault, changed, option_map}
+use Rattle.orch_core.specs.Prelude.fault
+use Rattle.orch_core.specs.Prelude.turn
 use Rattle.orch_core.specs.After.{after_done}
 use Rattle.orch_core.specs.Nodes.{act_in}
 use Rattle.orch_core.specs.Restarts.{restart_changes}

@@ -1,22 +1,16 @@
 -- Several orchestrators over the same kept rows: which of them acts, what a claim comes to, and which turn is
 -- orchestrator's.
 use Rattle.std.specs.Prelude.{ℕ, ◌==◌, ◌&&◌, Bool, false, not, List, [], ◌∷◌, Option, Some, None, fold, option_map, if◌then◌else◌}
-use Rattle.kept_rows.specs.declared.row.Change.{Change}
-use Rattle.kept_rows.specs.declared.row.Change.TheVariants as change
-use Rattle.kept_rows.specs.declared.row.Key.TheVariants as key
-use Rattle.kept_rows.specs.declared.row.Row.{Row}
-use Rattle.kept_rows.specs.declared.row.Row.TheVariants as row
-use Rattle.kept_rows.specs.declared.row.Table.TheVariants as table
-use Rattle.node_claims.specs.Claims as claims
-use Rattle.node_claims.specs.Claims.{ClaimState}
-use Rattle.node_claims.specs.declared.claims.ClaimAnswer.{ClaimAnswer}
-use Rattle.node_claims.specs.declared.claims.ClaimAnswer.TheVariants as claim
-use Rattle.orch_base.specs.declared.server.Moment.{Moment}
+use Rattle.orch_core.specs.Prelude.{Act, Change, ClaimAnswer, ClaimState, Moment, Row, Turn}
+use Rattle.orch_core.specs.Prelude.act
+use Rattle.orch_core.specs.Prelude.change
+use Rattle.orch_core.specs.Prelude.claim
+use Rattle.orch_core.specs.Prelude.claims
+use Rattle.orch_core.specs.Prelude.key
+use Rattle.orch_core.specs.Prelude.row
+use Rattle.orch_core.specs.Prelude.table
+use Rattle.orch_core.specs.Prelude.turn
 use Rattle.orch_core.specs.States.{State}
-use Rattle.turns.specs.declared.turn.Act.{Act}
-use Rattle.turns.specs.declared.turn.Act.TheVariants as act
-use Rattle.turns.specs.declared.turn.Turn.{Turn}
-use Rattle.turns.specs.declared.turn.Turn.TheVariants as turn
 
 -- ---- claims
 

@@ -1,26 +1,13 @@
 -- Polls, commands and jobs: what orchestrator reads of servers, and how the kept rows change.
 use Rattle.std.specs.Prelude.{ℕ, ◌++◌, List, [], replicate, slice_index_or, Option, Some, None}
-use Rattle.orch_base.specs.declared.server.ServerNo.{ServerNo}
-use Rattle.orch_base.specs.Memory.{next_count}
-use Rattle.kept_rows.specs.declared.observation.Observation.{Observation}
-use Rattle.kept_rows.specs.declared.row.Row.{Row}
-use Rattle.kept_rows.specs.declared.row.Change.{Change}
-use Rattle.commands.specs.declared.turn.CommandTurn.{CommandTurn}
-use Rattle.knowledge.specs.Closings.{closing_changes, closing_of}
-use Rattle.command_outcomes.specs.Commands.{Outcome, outcome_of, scan_by}
-use Rattle.jobs_in_flight.specs.Jobs.{job_observation}
-use Rattle.knowledge.specs.Kept.{changes_by}
+use Rattle.orch_core.specs.Prelude.{Act, Change, CommandTurn, Numbers, Observation, Outcome, Row, ServerNo, Turn, changes_by, closing_changes}
+use Rattle.orch_core.specs.Prelude.{closing_of, job_observation, next_count, outcome_of, pollers, reading_by, scan_by}
+use Rattle.orch_core.specs.Prelude.act
+use Rattle.orch_core.specs.Prelude.turn
 use Rattle.orch_core.specs.Jobs.{turned_at}
 use Rattle.orch_core.specs.Nodes.{act_in, claim_changes, release_changes}
-use Rattle.command_outcomes.specs.Readings.{reading_by}
 use Rattle.orch_core.specs.Restarts.{restart_changes}
-use Rattle.command_outcomes.specs.declared.command.Numbers.{Numbers}
-use Rattle.turns.specs.declared.turn.Act.{Act}
-use Rattle.turns.specs.declared.turn.Act.TheVariants as act
-use Rattle.turns.specs.declared.turn.Turn.{Turn}
-use Rattle.turns.specs.declared.turn.Turn.TheVariants as turn
 use Rattle.orch_core.specs.States.{State}
-use Rattle.scenarios.specs.Turns.{pollers}
 
 abbrev pub empty_slots : List (Option Observation)
 empty_slots = replicate pollers None

@@ -1,31 +1,18 @@
 -- What each turn answers.
 use Rattle.std.specs.Prelude.{Option, Some, None, is_some, if◌then◌else◌}
-use Rattle.kept_rows.specs.declared.observation.Observation.{Observation}
-use Rattle.instance_keeper.specs.Book.{instance_at}
-use Rattle.server_model.specs.Desk.{rotate}
-use Rattle.server_model.specs.Exchanges.{write, fetch, apply}
-use Rattle.server_model.specs.Purging.{purge}
-use Rattle.server_model.specs.Worlds.{World}
-use Rattle.turns.specs.declared.turn.Act.{Act}
-use Rattle.turns.specs.declared.turn.Act.TheVariants as act
-use Rattle.turns.specs.declared.turn.Step.{Step}
-use Rattle.turns.specs.declared.turn.Step.TheVariants as step
-use Rattle.turns.specs.declared.turn.Turn.{Turn}
-use Rattle.turns.specs.declared.turn.Turn.TheVariants as turn
-use Rattle.turns.specs.declared.reply.Reply.{Reply}
-use Rattle.turns.specs.declared.reply.Reply.TheVariants as answered
-use Rattle.knowledge.specs.Replies.{stored_reply}
-use Rattle.node_claims.specs.Claims.{release_answer}
-use Rattle.node_claims.specs.declared.claims.ClaimAnswer.{ClaimAnswer}
-use Rattle.node_claims.specs.declared.claims.ClaimAnswer.TheVariants as claim
-use Rattle.node_claims.specs.declared.claims.ReleaseAnswer.{ReleaseAnswer}
-use Rattle.node_claims.specs.declared.claims.ReleaseAnswer.TheVariants as release
+use Rattle.orch_core.specs.Prelude.{Act, ClaimAnswer, Observation, ReleaseAnswer, Reply, Step, Turn, World, apply, fetch, instance_at, job_reply}
+use Rattle.orch_core.specs.Prelude.{purge, release_answer, rotate, stored_reply, write}
+use Rattle.orch_core.specs.Prelude.act
+use Rattle.orch_core.specs.Prelude.answered
+use Rattle.orch_core.specs.Prelude.claim
+use Rattle.orch_core.specs.Prelude.release
+use Rattle.orch_core.specs.Prelude.step
+use Rattle.orch_core.specs.Prelude.turn
 use Rattle.orch_core.specs.Nodes.{act_in, claimed}
 use Rattle.orch_core.specs.States.{State}
 use Rattle.orch_core.specs.Polls.{command_outcome, reading, scan_outcome, slot_at}
-use Rattle.jobs_in_flight.specs.Jobs.{job_reply}
 use Rattle.orch_core.specs.Jobs.{turned_at}
-use Rattle.orch_core.specs.Turns.{later}
+use Rattle.orch_core.specs.TurnExchanges.{later}
 
 -- the number of a reading, and whether it reached the server
 abbrev pub read_reply : Observation → Reply

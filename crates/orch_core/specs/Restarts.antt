@@ -1,14 +1,6 @@
 -- What a restart loads of the kept rows: the ids of recoveries that count are below the next one.
 use Rattle.std.specs.Prelude.{ℕ, ◌-◌, List, length}
-use Rattle.audit_log.specs.Audits.{AuditState}
-use Rattle.instance_keeper.specs.Book.{BookState}
-use Rattle.kept_rows.specs.declared.row.Change.{Change}
-use Rattle.kept_rows.specs.declared.row.Row.{Row}
-use Rattle.opening_book.specs.Audits.{audit_of, latest_recovery}
-use Rattle.opening_book.specs.Counting.{counted, loaded}
-use Rattle.opening_book.specs.Opening.{loading}
-use Rattle.orch_base.specs.declared.server.Moment.{Moment}
-use Rattle.command_outcomes.specs.Periods.{period_by}
+use Rattle.orch_core.specs.Prelude.{AuditState, BookState, Change, Moment, Row, audit_of, counted, latest_recovery, loaded, loading, period_by}
 use Rattle.orch_core.specs.States.{State}
 
 -- the last id that was given

@@ -1,14 +1,8 @@
 -- Rounds: how a job is run to its end.
 use Rattle.std.specs.Prelude.{◌≡◌, ℕ, zero, suc, ◌≤◌, ◌<◌, true, false, List, [], ◌++◌, fold, Option, Some, None}
-use Rattle.kept_rows.specs.declared.row.Row.{Row}
-use Rattle.name_order.specs.NameOrder.{by_name}
-use Rattle.jobs_in_flight.specs.Rounds.{round_over}
-use Rattle.turns.specs.declared.reply.Reply.{Reply}
-use Rattle.turns.specs.declared.turn.Turn.{Turn}
-use Rattle.turns.specs.declared.turn.Act.TheVariants as act
-use Rattle.turns.specs.declared.turn.Turn.TheVariants as turn
-use Rattle.knowledge.specs.declared.fault.TurnFault.{TurnFault}
-use Rattle.jobs_in_flight.specs.Jobs.{is_open, most_turns}
+use Rattle.orch_core.specs.Prelude.{Reply, Row, Turn, TurnFault, by_name, is_open, most_turns, round_over}
+use Rattle.orch_core.specs.Prelude.act
+use Rattle.orch_core.specs.Prelude.turn
 use Rattle.orch_core.specs.Keeping.{Ran, WasCutOff}
 use Rattle.orch_core.specs.Replies.{reply_of}
 use Rattle.orch_core.specs.After.{step}

@@ -1,13 +1,7 @@
 -- Runs: states, one turn after another.
 use Rattle.std.specs.Prelude.{◌≡◌, Bool, false, true, List, [], ◌∷◌, ◌++◌, fold, map, Option, Some, None}
-use Rattle.std.specs.Option.{option_map}
-use Rattle.kept_rows.specs.declared.row.Row.{Row}
-use Rattle.kept_rows.specs.declared.row.Change.{Change}
-use Rattle.kept_rows.specs.Rows.{changed}
-use Rattle.turns.specs.declared.reply.Reply.{Reply}
-use Rattle.turns.specs.declared.turn.Act.{Act}
-use Rattle.turns.specs.declared.turn.Act.TheVariants as act
-use Rattle.turns.specs.declared.turn.Turn.{Turn}
+use Rattle.orch_core.specs.Prelude.{Act, Change, Reply, Row, Turn, changed, option_map}
+use Rattle.orch_core.specs.Prelude.act
 use Rattle.orch_core.specs.After.{step}
 use Rattle.orch_core.specs.Nodes.{act_in}
 use Rattle.orch_core.specs.States.{State}

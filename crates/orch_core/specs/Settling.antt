@@ -1,11 +1,7 @@
 -- What a command or a scan leaves of a state.
 use Rattle.std.specs.Prelude.{◌≡◌, ◌+◌, ◌<◌, ◌≤◌, ◌^◌, ℕ, ⊤, length, All, None}
-use Rattle.unended_jobs.specs.declared.unended.Unended.{Unended}
-use Rattle.unended_jobs.specs.Unended.{IsUnended, number_of}
-use Rattle.command_outcomes.specs.declared.command.Update.{Update}
-use Rattle.command_outcomes.specs.declared.command.Update.TheVariants as update
-use Rattle.command_outcomes.specs.Commands.{Outcome}
-use Rattle.knowledge.specs.Knowing.{IsUpdate, Knowledge, updated}
+use Rattle.orch_core.specs.Prelude.{IsUnended, IsUpdate, Knowledge, Outcome, Unended, Update, number_of, updated}
+use Rattle.orch_core.specs.Prelude.update
 use Rattle.orch_core.specs.States.{State, entry_id}
 
 -- the book, the audit and the jobs of a state

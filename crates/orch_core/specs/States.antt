@@ -1,18 +1,8 @@
 -- What a run is at a moment.
 use Rattle.std.specs.Prelude.{◌≡◌, ◌<◌, ◌≤◌, ◌^◌, ℕ, ⊤, true, length, List, [], ◌∷◌, Option, Some, None, IfSome, IsSomeAnd, All, unwrap_or}
-use Rattle.audit_log.specs.Audits.{AuditState, IsAudit, is_unended, longest_block, recovery_at}
-use Rattle.kept_rows.specs.declared.observation.Observation.{Observation}
-use Rattle.kept_rows.specs.Servers.{are_known, observed_servers, source_servers}
-use Rattle.instance_keeper.specs.Book.{BookState}
-use Rattle.unended_jobs.specs.declared.unended.Unended.{Unended}
-use Rattle.unended_jobs.specs.declared.unended.Unended.TheVariants as unended
-use Rattle.unended_jobs.specs.Unended.{IsUnended}
-use Rattle.jobs_in_flight.specs.Jobs.{Rise}
-use Rattle.node_claims.specs.Claims.{ClaimState}
-use Rattle.command_outcomes.specs.declared.configuration.Configuration.{Configuration}
-use Rattle.server_model.specs.declared.server.Server.{Server}
-use Rattle.server_model.specs.Worlds.{World}
-use Rattle.scenarios.specs.Turns.{pollers}
+use Rattle.orch_core.specs.Prelude.{AuditState, BookState, ClaimState, Configuration, IsAudit, IsUnended, Observation, Rise, Server, Unended, World}
+use Rattle.orch_core.specs.Prelude.{are_known, is_unended, longest_block, observed_servers, pollers, recovery_at, source_servers}
+use Rattle.orch_core.specs.Prelude.unended
 
 -- the servers, the moment, what orchestrator knows, the recoveries that were begun, the pollers' slots, the greatest
 -- read number so far, the unended jobs by rising number, the number of the last job that was begun, what holds

@@ -2,14 +2,13 @@
 
 ghost use Rattle.std.specs.Prelude.{◌≡◌, IfOk, true};
 ghost use Rattle.orch_core.specs.Nodes.{claim_changes_by, claim_or, holder_of, is_kept_so, kept_claim, passes_to, release_changes_by};
-ghost use Rattle.node_claims.specs.Claims.{is_of};
+ghost use Rattle.orch_core.specs.Prelude.{is_of, is_plain};
 ghost use Rattle.orch_core.specs.Replies.{claim_reply, release_reply};
-ghost use Rattle.turns.specs.Plain.{is_plain};
 
 use crate::Reply;
-use instance_keeper::{Change, Key, Row, Table};
+use crate::instance_keeper_items::{Change, Key, Row, Table};
+use crate::orch_base::{Memory, Moment};
 use node_claims::{ClaimAnswer, ReleaseAnswer};
-use orch_base::{Memory, Moment};
 use std::alloc::Global;
 
 // The claim that a row is, or the one so far.

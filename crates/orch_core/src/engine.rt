@@ -2,29 +2,26 @@
 //! journal.
 
 ghost use Rattle.std.specs.Prelude.{◌≡◌, ◌≢◌, ◌<◌, ◌≤◌, ◌^◌, [], ◌∷◌, All, Some, None, IfOk, IfErr, OnOk, OnErr, Err, true, false, if◌then◌else◌, is_ok, length, slice_get};
-ghost use Rattle.scenarios.specs.Turns.{pollers, IsAct, IsCommand, IsStep, IsTurn, NamesOneOf};
-ghost use Rattle.turns.specs.Plain.{is_plain};
-ghost use Rattle.jobs_in_flight.specs.Jobs.{Rise, is_open, job_at};
+ghost use Rattle.orch_core.specs.Prelude.{AreReply, HasTurnCause, IsAct, IsCommand, IsStep, IsTurn, LeavesIds, NamesOneOf, Rise, is_open, is_plain};
+ghost use Rattle.orch_core.specs.Prelude.{job_at, kept_if, outcome as outcome_in, pollers};
 ghost use Rattle.orch_core.specs.Polls.{act_changes, changes_of, command_outcome, job_changes, numbers_of, scan_outcome};
 ghost use Rattle.orch_core.specs.Replies.{act_reply, reply_of, step_reply};
-ghost use Rattle.knowledge.specs.Replies.{AreReply};
 ghost use Rattle.orch_core.specs.Runs.{act_asks, asks, engine};
 ghost use Rattle.orch_core.specs.Keeping.{StepsTo, kept_by, kept_with, Calls};
-ghost use Rattle.knowledge.specs.Kept.{kept_if};
-ghost use Rattle.knowledge.specs.Faults.{HasTurnCause};
-ghost use Rattle.command_outcomes.specs.Ids.{LeavesIds};
-ghost use Rattle.command_outcomes.specs.CommandsBy.{outcome as outcome_in};
 ghost use Rattle.orch_core.specs.Settling.{CanSettle, settled};
 ghost use Rattle.orch_core.specs.States.{IsState, nodes_of};
 
+use crate::audit_log::Audit;
 use crate::claiming::{holder_of, kept_claim};
+use crate::command_outcomes_items::{Numbers, Outcome, outcome_of, read_server, scan_by};
 use crate::exchanging::{exchange, later, read_reply};
+use crate::instance_keeper_items::{Book, Change, Keeper, Observation};
+use crate::jobs_in_flight::{FoundJob, find, others_over, take_turn};
 use crate::opening::{complete, configure, copy_names, copy_settings, empty_slots, make_slots};
+use crate::orch_base::{Memory, Moment, ServerNo};
+use crate::server_model::World;
+use crate::unended_jobs_items::Unended;
 use crate::{Act, BoxedCommand, Configuration, Reply, Scenario, Step, Turn, TurnFault};
-use audit_log::Audit;
-use command_outcomes::{Numbers, Outcome, outcome_of, read_server, scan_by};
-use instance_keeper::{Book, Change, Keeper, Observation};
-use jobs_in_flight::{FoundJob, find, others_over, take_turn};
 use knowledge::{
     Knowledge, Replies, close_entry, closing_of, copied, given_rows, keep_some, keep_turn, plain,
     store_slot,
@@ -34,11 +31,8 @@ use opening_book::{
     GREATEST_ID, beyond_instances, counted, counted_in_order, last_id, last_read, latest_moment,
     latest_recovery, loaded_audit, loaded_book, loading,
 };
-use orch_base::{Memory, Moment, ServerNo};
-use server_model::World;
 use std::alloc::Global;
 use std::marker::Model;
-use unended_jobs::Unended;
 use world_openings::OpenedWorld;
 
 /// The servers of a scenario after some turns, the moment, and what orchestrator knows.
@@ -404,8 +398,8 @@ impl Engine {
 impl Engine {
     ghost use Rattle.orch_core.specs.Keeping.{Ran, WasCutOff};
     ghost use Rattle.orch_core.specs.Rounds.{FinishedBy, WasCutShort};
-    ghost use Rattle.scenarios.specs.Scenarios.{IsScenario};
-    ghost use Rattle.orch_core.specs.Scenarios.{StartsBy, kept_at_start};
+    ghost use Rattle.knowledge.specs.Scenarios.Scenarios.{IsScenario};
+    ghost use Rattle.orch_core.specs.Starts.{StartsBy, kept_at_start};
 
     /// The opening state of a scenario, by the rows that the keeper hands back: its servers as they begin, the book of
     /// the rows that count and of the known servers that none of these is of, with the bridges that these servers show

@@ -3,16 +3,14 @@
 
 ghost use Rattle.std.specs.Prelude.{◌≡◌, ◌∷◌, [], length, true};
 ghost use Rattle.orch_core.specs.Replies.{read_reply, step_reply};
-ghost use Rattle.orch_core.specs.Turns.{exchange_of, later};
-ghost use Rattle.scenarios.specs.Turns.{IsStep};
-ghost use Rattle.server_model.specs.Run.{run};
-ghost use Rattle.turns.specs.Plain.{is_plain};
+ghost use Rattle.orch_core.specs.TurnExchanges.{exchange_of, later};
+ghost use Rattle.orch_core.specs.Prelude.{IsStep, is_plain, run};
 
 use crate::Reply;
-use instance_keeper::Observation;
-use orch_base::Moment;
-use server_model::World;
-use turns::Step;
+use crate::instance_keeper_items::Observation;
+use crate::orch_base::Moment;
+use crate::server_model::World;
+use crate::turns::Step;
 
 /// The last moment: where it would be passed, time stands still.
 const LAST_MOMENT: u64 = 1 << 63;

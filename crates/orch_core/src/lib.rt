@@ -9,14 +9,21 @@ mod nodes;
 mod opening;
 mod orch;
 mod polls;
-mod threads;
 
-pub use command_outcomes::Configuration;
-pub use commands::{
+pub use engine::Engine;
+pub use knowledge::command_outcomes_items::Configuration;
+pub use knowledge::commands::{
     Answers, Command, CommandName, CommandTurn, Found, Keys, Line, Lines, Refusal, StateWord,
 };
-pub use engine::Engine;
-pub use knowledge::TurnFault;
+pub use knowledge::scenarios_items::{
+    Alias, Aliases, ClusterFilters, FilterList, Scenario, Texts, Turns,
+};
+pub use knowledge::turns::{Act, BoxedCommand, BoxedFailure, Failure, Reply, Step, Turn};
+pub use knowledge::{
+    TurnFault, audit_lines, binlog_coords_items, commands, gtid_sets, instance_keeper_items,
+    jobs_in_flight, kept_rows_items, orch_base, permission_items, scenarios_items, turns,
+    unended_jobs_items,
+};
+use knowledge::{audit_log, command_outcomes_items, openings, server_model};
+pub use node_claims;
 pub use orch::Orch;
-pub use scenarios::{Alias, Aliases, ClusterFilters, FilterList, Scenario, Texts, Turns};
-pub use turns::{Act, BoxedCommand, BoxedFailure, Failure, Reply, Step, Turn};

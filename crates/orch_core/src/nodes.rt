@@ -1,24 +1,20 @@
 //! The turns of several orchestrators over the same kept rows.
 
 ghost use Rattle.std.specs.Prelude.{◌≡◌, [], IfOk, OnOk, OnErr, Err, true, false, is_ok, length};
-ghost use Rattle.scenarios.specs.Turns.{IsAct};
-ghost use Rattle.turns.specs.Plain.{is_plain};
-ghost use Rattle.node_claims.specs.Claims.{IsNode};
+ghost use Rattle.orch_core.specs.Prelude.{AreReply, HasTurnCause, IsAct, IsNode, is_plain};
 ghost use Rattle.orch_core.specs.Polls.{changes_of};
 ghost use Rattle.orch_core.specs.Replies.{reply_of};
-ghost use Rattle.knowledge.specs.Replies.{AreReply};
 ghost use Rattle.orch_core.specs.Runs.{asks, engine};
 ghost use Rattle.orch_core.specs.Keeping.{ClaimPasses, StepsTo, kept_by, Calls};
-ghost use Rattle.knowledge.specs.Faults.{HasTurnCause};
 ghost use Rattle.orch_core.specs.Nodes.{claimed};
 ghost use Rattle.orch_core.specs.States.{nodes_of};
 
 use crate::claiming::{claim_reply, held_changes, passes_to, release_changes, release_reply};
+use crate::instance_keeper_items::Keeper;
+use crate::orch_base::Moment;
 use crate::{Act, Engine, Reply, Turn, TurnFault};
-use instance_keeper::Keeper;
 use knowledge::{Replies, keep_some, plain};
 use node_claims::ClaimAnswer;
-use orch_base::Moment;
 use std::alloc::Global;
 
 impl Engine {

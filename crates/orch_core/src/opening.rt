@@ -2,21 +2,18 @@
 //! book with what its rows leave open.
 
 ghost use Rattle.std.specs.Prelude.{◌≡◌, ◌≤◌, ◌^◌, All, IfOk, IsTrue, None, [], is_ok, length, map};
-ghost use Rattle.opening_book.specs.Opening.{is_opening_change, opened_book, opening_changes};
-ghost use Rattle.knowledge.specs.Faults.{HasTurnCause};
-ghost use Rattle.knowledge.specs.Kept.{kept_if};
+ghost use Rattle.orch_core.specs.Prelude.{HasTurnCause, is_opening_change, kept_if, opened_book, opening_changes, pollers};
 ghost use Rattle.orch_core.specs.Polls.{empty_slots};
-ghost use Rattle.orch_core.specs.Scenarios.{configuration_of};
+ghost use Rattle.orch_core.specs.Starts.{configuration_of};
 ghost use Rattle.orch_core.specs.States.{HasKnownSource};
-ghost use Rattle.scenarios.specs.Turns.{pollers};
 
+use crate::instance_keeper_items::{Book, Change, Keeper, Observation};
+use crate::openings::ServerInit;
+use crate::orch_base::{Memory, Moment, Name, Settings};
+use crate::server_model::World;
 use crate::{Configuration, Scenario, TurnFault};
-use instance_keeper::{Book, Change, Keeper, Observation};
 use knowledge::keep_some;
 use opening_book::{open_book, opening_changes};
-use openings::ServerInit;
-use orch_base::{Memory, Moment, Name, Settings};
-use server_model::World;
 use std::alloc::Global;
 
 /// So many pollers have a slot each.

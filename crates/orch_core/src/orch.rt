@@ -1,11 +1,7 @@
 //! A run with the journal of its turns.
 
 ghost use Rattle.std.specs.Prelude.{◌≡◌, ◌<◌, ◌≤◌, ◌^◌, [], All, IfOk, IfErr, OnOk, OnErr, Err, false, is_ok, length, map};
-ghost use Rattle.name_order.specs.NameOrder.{by_name};
-ghost use Rattle.scenarios.specs.Scenarios.{IsScenario};
-ghost use Rattle.scenarios.specs.Turns.{IsTurn, NamesOneOf};
-ghost use Rattle.node_claims.specs.Claims.{active};
-ghost use Rattle.jobs_in_flight.specs.Jobs.{Rise, is_open, without_job};
+ghost use Rattle.orch_core.specs.Prelude.{HasTurnCause, IsScenario, IsTurn, NamesOneOf, Rise, active, by_name, is_open, without_job};
 ghost use Rattle.orch_core.specs.Due.{IsDue};
 ghost use Rattle.orch_core.specs.Polls.{changes_of};
 ghost use Rattle.orch_core.specs.Rounds.{Finished, WasCutShort};
@@ -13,19 +9,18 @@ ghost use Rattle.orch_core.specs.States.{IsState, nodes_of};
 ghost use Rattle.orch_core.specs.Replies.{reply_of};
 ghost use Rattle.orch_core.specs.Runs.{asks, recorder};
 ghost use Rattle.orch_core.specs.Keeping.{StepsTo, kept_by, Calls, Ran, WasCutOff};
-ghost use Rattle.knowledge.specs.Faults.{HasTurnCause};
-ghost use Rattle.orch_core.specs.Scenarios.{StartsBy, kept_at_start};
+ghost use Rattle.orch_core.specs.Starts.{StartsBy, kept_at_start};
 
+use crate::audit_log::Audit;
+use crate::instance_keeper_items::{Book, Keeper};
+use crate::jobs_in_flight::round_over;
+use crate::orch_base::{Moment, ServerNo};
 use crate::polls::{first_least, make_polls, note_poll};
+use crate::server_model::World;
+use crate::unended_jobs_items::Unended;
 use crate::{Engine, Reply, Scenario, Turn, TurnFault};
-use audit_log::Audit;
-use instance_keeper::{Book, Keeper};
-use jobs_in_flight::round_over;
-use orch_base::{Moment, ServerNo};
-use server_model::World;
 use std::alloc::Global;
 use std::marker::Model;
-use unended_jobs::Unended;
 
 /// The servers of a scenario after some turns, the moment, what orchestrator knows, and the journal: each turn so far
 /// with its reply, in order.

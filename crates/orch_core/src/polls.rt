@@ -3,8 +3,8 @@
 ghost use Rattle.std.specs.Prelude.{◌≡◌, ◌<◌, ◌≤◌, ℕ, IfOk, length, replicate, slice_index};
 ghost use Rattle.orch_core.specs.Due.{NotesAct, NotesPoll};
 
+use crate::orch_base::Memory;
 use crate::{Act, Turn};
-use orch_base::Memory;
 use std::alloc::Global;
 
 /// So many servers, none of which was read.

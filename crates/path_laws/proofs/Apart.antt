@@ -1,15 +1,8 @@
 -- A way doesn't come back: a server that goes up to another one doesn't pass itself.
 use Rattle.std.proofs.Common.{◌≡◌, ℕ, ◌<◌, Bool, true, false, List, [], ◌∷◌, length, refl, sym, ◌∙◌, ap, subst, Option, Some, None, arith, zero, suc}
 use Rattle.std.specs.Prelude.{◌==◌, All, IfSome, option_map, if◌then◌else◌}
-use Rattle.std.proofs.lemmas.Bool.{eqb-true}
-use Rattle.std.proofs.lemmas.List.Elements.{All-cons, All-nil, All-weaker}
-use Rattle.std.proofs.lemmas.Option.{same_Some}
-use Rattle.orch_base.specs.declared.server.ServerNo.{ServerNo}
-use Rattle.instance_keeper.specs.Book.{BookState}
-use Rattle.permission.specs.Checks.{is_given}
-use Rattle.permission.specs.Views.{source_of}
-use Rattle.regroup.specs.Ways.{parent_at, passed_in, path_of, way_above, way_in, way_on, way_up}
-use Rattle.regroup.proofs.Climbing.{passed-of}
+use Rattle.path_laws.proofs.Prelude.{All-cons, All-nil, All-weaker, BookState, ServerNo, eqb-true, is_given, parent_at, passed-of, passed_in, path_of}
+use Rattle.path_laws.proofs.Prelude.{same_Some, source_of, way_above, way_in, way_on, way_up}
 
 -- both are there only where they are equal
 abbrev Agree : Option (List ServerNo) → Option (List ServerNo) → Type 0

@@ -1,34 +1,14 @@
 -- Permitted commands begin with operations that are held, over servers that are free.
 use Rattle.std.proofs.Common.{◌≡◌, ℕ, Bool, true, false, List, [], ◌∷◌, ◌++◌, refl, Option, Some, None}
 use Rattle.std.specs.Prelude.{map}
-use Rattle.std.specs.Option.{option_to_list}
-use Rattle.orch_base.specs.declared.server.Moment.{Moment}
-use Rattle.orch_base.specs.declared.server.ServerNo.{ServerNo}
-use Rattle.commands.specs.declared.turn.Command.{Command}
-use Rattle.instance_keeper.specs.Book.{BookState}
-use Rattle.book_views.specs.Sources.{replicas_of}
-use Rattle.server_model.specs.Worlds.{World}
-use Rattle.operations.specs.Jobs.{Job, job_with}
-use Rattle.operations.specs.Plans.{auto, finished}
-use Rattle.job_laws.specs.Footing.{footing}
-use Rattle.job_laws.specs.Leases.{Begins, leases_of}
-use Rattle.job_laws.proofs.Planned.{finished-held}
-use Rattle.job_laws.specs.Matched.{matched_in}
-use Rattle.job_laws.proofs.Matching.{each-matched, finished-matched}
-use Rattle.permission.specs.Checks.{busy, first_refusal, refusal_by, unknown_in, without_log}
-use Rattle.permission.specs.Lists.{first_about}
-use Rattle.permission.specs.Replicas.{replicas_but}
-use Rattle.permission.specs.Rows.{about as about_given, about_one, refused}
-use Rattle.plan_parts.specs.Parts.{autos, following}
-use Rattle.regroup.specs.Commands.{regroup_command}
-use Rattle.regroup.specs.Permits.{case_of, leased_by, list_of, moving_list, passed_by, refusal_about, refusal_of, relocate_row, replicas_row, rest_refusal, row_of}
-use Rattle.regroup.specs.Plans.{moved_by, ops_of, plan_of, relocated, travelled}
-use Rattle.regroup.specs.Ways.{path_of}
-use Rattle.regroup.specs.declared.command.RegroupCommand.{RegroupCommand}
-use Rattle.regroup.specs.declared.command.RegroupCommand.TheVariants as command
-use Rattle.move_laws.proofs.Beginning.{begins-with, logging}
-use Rattle.move_laws.proofs.Firsts.{each-none, neither}
-use Rattle.move_laws.proofs.Lists.{among-before, autos-held, autos-listed, finished-listed}
+use Rattle.path_laws.proofs.Prelude.{Begins, BookState, Command, Job, Moment, RegroupCommand, ServerNo, World, about as about_given, about_one}
+use Rattle.path_laws.proofs.Prelude.{among-before, auto, autos, autos-held, autos-listed, begins-with, busy, case_of, each-matched, each-none}
+use Rattle.path_laws.proofs.Prelude.{finished, finished-held, finished-listed, finished-matched, first_about, first_refusal, following, footing}
+use Rattle.path_laws.proofs.Prelude.{job_with, leased_by, leases_of, list_of, logging, matched_in, moved_by, moving_list, neither, ops_of}
+use Rattle.path_laws.proofs.Prelude.{option_to_list, passed_by, path_of, plan_of, refusal_about, refusal_by, refusal_of, refused, regroup_command}
+use Rattle.path_laws.proofs.Prelude.{relocate_row, relocated, replicas_but, replicas_of, replicas_row, rest_refusal, row_of, travelled, unknown_in}
+use Rattle.path_laws.proofs.Prelude.{without_log}
+use Rattle.path_laws.proofs.Prelude.command
 use Rattle.path_laws.proofs.Plans.{among-last, among-middle, each-held, each-listed, travelled-matched}
 
 module _ (w : World) (b : BookState) (now : Moment) (jobs : List Job) (id wait : ℕ) where

@@ -1,30 +1,13 @@
 -- Permitted relocations go by what was seen to be kept.
 use Rattle.std.proofs.Common.{◌≡◌, Bool, true, false, List, [], ◌∷◌, ◌++◌, refl, sym, ◌∙◌, ap, Option, Some, None}
-use Rattle.std.specs.List.{flat_map}
-use Rattle.std.specs.Option.{option_or}
-use Rattle.orch_base.specs.declared.server.Moment.{Moment}
-use Rattle.orch_base.specs.declared.server.ServerNo.{ServerNo}
-use Rattle.commands.specs.declared.refusal.Refusal.{Refusal}
-use Rattle.commands.specs.declared.turn.Command.{Command}
-use Rattle.instance_keeper.specs.Book.{BookState}
-use Rattle.operations.specs.Plans.{under, up}
-use Rattle.permission.specs.Checks.{Case, first_refusal, place_purged, refusal_by, set_purged, unknown_in}
-use Rattle.permission.specs.Lists.{first_about, moves_to}
-use Rattle.permission.specs.Replicas.{replicas_but}
-use Rattle.permission.specs.Rows.{about as about_given, about_one, refused}
-use Rattle.permission.specs.declared.case.Check.TheVariants.{PurgedPlace, PurgedSet}
-use Rattle.plan_parts.specs.Parts.{autos}
-use Rattle.regroup.specs.Commands.{regroup_command}
-use Rattle.regroup.specs.declared.command.RegroupCommand.{RegroupCommand}
-use Rattle.regroup.specs.declared.command.RegroupCommand.TheVariants as command
-use Rattle.regroup.specs.Permits.{case_of, crossed_by, last_refusal, own_refusal, places_row, refusal_about, refusal_of, relocate_row, replicas_row, rest_refusal, row_of}
-use Rattle.regroup.specs.Plans.{arrived, climbed, moved_by, next_of, ops_of, plan_of, relocated, travelled}
-use Rattle.regroup.specs.Ways.{Path, crossed_in, crossed_on, path_of}
-use Rattle.server_model.specs.Worlds.{World}
-use Rattle.move_laws.specs.ByKept.{AllGoByKept}
-use Rattle.move_laws.proofs.ByKept.{again-by, autos-by, by-append, finished-by, kept-place, kept-sets, under-by, up-by}
-use Rattle.move_laws.proofs.Firsts.{neither}
-use Rattle.move_laws.proofs.Numbered.{row-passes}
+use Rattle.path_laws.proofs.Prelude.{AllGoByKept, BookState, Case, Command, Moment, Path, PurgedPlace, PurgedSet, Refusal, RegroupCommand, ServerNo}
+use Rattle.path_laws.proofs.Prelude.{World, about as about_given, about_one, again-by, arrived, autos, autos-by, by-append, case_of, climbed}
+use Rattle.path_laws.proofs.Prelude.{crossed_by, crossed_in, crossed_on, finished-by, first_about, first_refusal, flat_map, kept-place, kept-sets}
+use Rattle.path_laws.proofs.Prelude.{last_refusal, moved_by, moves_to, neither, next_of, ops_of, option_or, own_refusal, path_of, place_purged}
+use Rattle.path_laws.proofs.Prelude.{places_row, plan_of, refusal_about, refusal_by, refusal_of, refused, regroup_command, relocate_row, relocated}
+use Rattle.path_laws.proofs.Prelude.{replicas_but, replicas_row, rest_refusal, row-passes, row_of, set_purged, travelled, under, under-by, unknown_in}
+use Rattle.path_laws.proofs.Prelude.{up, up-by}
+use Rattle.path_laws.proofs.Prelude.command
 
 none-before : {A : Type 0} (f : A → Option Refusal) (xs ys : List A) → first_about f (xs ++ ys) ≡ None → (first_about f xs ≡ None) × (first_about f ys ≡ None)
 none-before f [] ys h = (refl, h)

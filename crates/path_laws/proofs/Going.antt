@@ -1,32 +1,13 @@
 -- There is a way up exactly where the book's forest has one server above another.
 use Rattle.std.proofs.Common.{◌≡◌, ℕ, ◌<◌, Bool, true, false, List, [], ◌∷◌, length, get_or, refl, sym, ◌∙◌, ap, subst, Option, Some, None, arith, inl, inr, zero, suc, ◌||◌}
 use Rattle.std.specs.Prelude.{◌==◌, ◌&&◌, is_some, nat_lt, option_and_then, option_map, if◌then◌else◌}
-use Rattle.std.specs.Option.{option_or}
-use Rattle.std.proofs.lemmas.Bool.{eq-eqb, eqb-true, false≢true}
-use Rattle.std.proofs.lemmas.Bool.Decides.{nat_tests}
-use Rattle.std.proofs.lemmas.List.{get_or-map}
-use Rattle.std.proofs.lemmas.Option.{same_Some, slice_get-get_or}
-use Rattle.orch_base.specs.Chains.{is_reached, is_reached_on}
-use Rattle.orch_base.specs.declared.server.ServerNo.{ServerNo}
-use Rattle.orch_base.specs.declared.server.SourceState.{SourceState}
-use Rattle.orch_base.specs.declared.server.SourceState.TheVariants.{Without, Attached, Detached}
-use Rattle.kept_rows.specs.Servers.{are_known, source_servers}
-use Rattle.instance_keeper.specs.Book.{BookState, IsBook, instance_at}
-use Rattle.name_order.specs.NameOrder.{by_name, rank_of}
-use Rattle.name_order.proofs.Arranged.{by_name-within}
-use Rattle.name_order.proofs.ByName.{IsOrder-by_name, length-by_name}
-use Rattle.name_order.proofs.Placing.{place-of_number, rank-of_place}
-use Rattle.topology_tree.specs.Forests.{IsForestOf, above}
-use Rattle.topology_tree.specs.Making.{forest_of}
-use Rattle.topology_tree.proofs.Computed.{IsForestOf-computed}
-use Rattle.book_views.specs.Forests.{book_forest, node_at, node_of, parent_of, server_at, source_node, source_nodes}
-use Rattle.book_views.specs.Sources.{is_instance, seen_source, source_in}
-use Rattle.book_views.proofs.Nodes.{length-forest, length-nodes, nodes-closed}
-use Rattle.book_views.proofs.Reading.{known-below, source-known}
-use Rattle.permission.specs.Checks.{is_given}
-use Rattle.permission.specs.Views.{attached_in, attached_of, is_below, source_of}
-use Rattle.regroup.specs.Ways.{Path, parent_at, path_beside, path_by, path_of, way_above, way_in, way_on, way_up}
-use Rattle.path_laws.specs.Ways.{is_on_way, is_under, is_under_in}
+use Rattle.path_laws.proofs.Prelude.{Attached, BookState, Detached, IsBook, IsForestOf, IsForestOf-computed, IsOrder-by_name, Path, ServerNo}
+use Rattle.path_laws.proofs.Prelude.{SourceState, Without, above, are_known, attached_in, attached_of, book_forest, by_name, by_name-within, eq-eqb}
+use Rattle.path_laws.proofs.Prelude.{eqb-true, false≢true, forest_of, get_or-map, instance_at, is_below, is_given, is_instance, is_on_way, is_reached}
+use Rattle.path_laws.proofs.Prelude.{is_reached_on, is_under, is_under_in, known-below, length-by_name, length-forest, length-nodes, nat_tests}
+use Rattle.path_laws.proofs.Prelude.{node_at, node_of, nodes-closed, option_or, parent_at, parent_of, path_beside, path_by, path_of, place-of_number}
+use Rattle.path_laws.proofs.Prelude.{rank-of_place, rank_of, same_Some, seen_source, server_at, slice_get-get_or, source-known, source_in}
+use Rattle.path_laws.proofs.Prelude.{source_node, source_nodes, source_of, source_servers, way_above, way_in, way_on, way_up}
 
 zeroth : ServerNo
 zeroth = record { 0 = 0 }

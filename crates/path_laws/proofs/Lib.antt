@@ -1,3 +1,4 @@
+mod Prelude
 pub mod Apart
 pub mod Parents
 pub mod Going

@@ -1,15 +1,8 @@
 -- A way goes from parent to parent.
 use Rattle.std.proofs.Common.{◌≡◌, ℕ, ◌<◌, Bool, true, false, List, [], ◌∷◌, length, refl, ◌∙◌, ap, subst, Option, Some, None, zero, suc}
 use Rattle.std.specs.Prelude.{◌==◌, IfSome, option_map, if◌then◌else◌}
-use Rattle.std.specs.Option.{option_or}
-use Rattle.std.proofs.lemmas.Bool.{eq-eqb, eqb-true, false≢true}
-use Rattle.std.proofs.lemmas.Option.{same_Some}
-use Rattle.orch_base.specs.declared.server.ServerNo.{ServerNo}
-use Rattle.instance_keeper.specs.Book.{BookState, IsBook}
-use Rattle.permission.specs.Checks.{is_given}
-use Rattle.permission.specs.Views.{attached_of, source_of}
-use Rattle.regroup.specs.Ways.{parent_at, path_beside, path_by, path_of, way_above, way_in, way_on, way_up}
-use Rattle.path_laws.specs.Ways.{Climbs, GoesUp}
+use Rattle.path_laws.proofs.Prelude.{BookState, Climbs, GoesUp, IsBook, ServerNo, attached_of, eq-eqb, eqb-true, false≢true, is_given, option_or}
+use Rattle.path_laws.proofs.Prelude.{parent_at, path_beside, path_by, path_of, same_Some, source_of, way_above, way_in, way_on, way_up}
 use Rattle.path_laws.proofs.Going.{parent-source, same-server}
 
 abbrev WayClimbs : BookState → ServerNo → ServerNo → Option (List ServerNo) → Type 0

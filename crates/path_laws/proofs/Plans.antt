@@ -1,24 +1,10 @@
 -- A server's path to a destination: its operations are held, and change only servers of the list.
 use Rattle.std.proofs.Common.{◌≡◌, true, false, List, [], ◌∷◌, ◌++◌, refl, Option, Some, None}
 use Rattle.std.specs.Prelude.{◌==◌, All}
-use Rattle.std.specs.List.{flat_map}
-use Rattle.std.proofs.lemmas.Bool.{and_parts}
-use Rattle.std.proofs.lemmas.List.Elements.{All-cons, All-head, All-nil, All-tail}
-use Rattle.orch_base.specs.declared.server.ServerNo.{ServerNo}
-use Rattle.instance_keeper.specs.Book.{BookState}
-use Rattle.operations.specs.Changes.{change_of}
-use Rattle.operations.specs.Deeds.{deed_of}
-use Rattle.operations.specs.Plans.{under, up}
-use Rattle.operations.specs.declared.op.Op.{Op}
-use Rattle.operations.proofs.Tests.{both}
-use Rattle.job_laws.specs.Matched.{Matched, are_matched}
-use Rattle.job_laws.proofs.Matching.{matched-append}
-use Rattle.job_laws.specs.Footing.{Footing, are_held}
-use Rattle.job_laws.specs.Leases.{are_listed, is_in}
-use Rattle.job_laws.proofs.Planned.{again-held, held-append, under-held, up-held}
-use Rattle.move_laws.proofs.Lists.{Among, again-listed, all-among, under-listed, up-listed}
-use Rattle.regroup.specs.Plans.{arrived, ascended, climbed, next_of, travelled}
-use Rattle.regroup.specs.Ways.{Path, passed_in, path_of, path_to}
+use Rattle.path_laws.proofs.Prelude.{All-cons, All-head, All-nil, All-tail, Among, BookState, Footing, Matched, Op, Path, ServerNo, again-held}
+use Rattle.path_laws.proofs.Prelude.{again-listed, all-among, and_parts, are_held, are_listed, are_matched, arrived, ascended, both, change_of}
+use Rattle.path_laws.proofs.Prelude.{climbed, deed_of, flat_map, held-append, is_in, matched-append, next_of, passed_in, path_of, path_to, travelled}
+use Rattle.path_laws.proofs.Prelude.{under, under-held, under-listed, up, up-held, up-listed}
 use Rattle.path_laws.proofs.Apart.{path-apart}
 
 -- ---- operations that are held

@@ -1,28 +1,13 @@
 -- The plans of permitted commands.
 use Rattle.std.proofs.Common.{◌≡◌, Bool, true, false, List, [], ◌∷◌, ◌++◌, sym, ◌∙◌, ap, Option, Some, None}
 use Rattle.std.specs.Prelude.{All, IsSome, is_some}
-use Rattle.std.specs.List.{flat_map}
-use Rattle.std.proofs.lemmas.List.{append-nil}
-use Rattle.std.proofs.lemmas.List.Elements.{All-cons, All-nil}
-use Rattle.orch_base.specs.declared.server.Moment.{Moment}
-use Rattle.orch_base.specs.declared.server.ServerNo.{ServerNo}
-use Rattle.commands.specs.declared.line.Line.TheVariants.{Follows}
-use Rattle.commands.specs.declared.name.CommandName.TheVariants as name
-use Rattle.commands.specs.declared.refusal.Refusal.TheVariants as refusal
-use Rattle.instance_keeper.specs.Book.{BookState}
-use Rattle.operations.specs.Plans.{auto, finished}
-use Rattle.operations.specs.declared.op.Op.{Op}
-use Rattle.permission.specs.Checks.{first_refusal, unknown_in}
-use Rattle.permission.specs.Lists.{first_about}
-use Rattle.permission.specs.Replicas.{replicas_but}
-use Rattle.plan_parts.specs.Parts.{autos, following}
-use Rattle.server_model.specs.Worlds.{World}
-use Rattle.regroup.specs.Permits.{astray, case_of, last_refusal, own_refusal, refusal_about, refusal_of, rest_refusal, row_of, without_path}
-use Rattle.regroup.specs.Plans.{arrived, plan_of, relocated, travelled}
-use Rattle.regroup.specs.Ways.{Path, path_of}
-use Rattle.regroup.specs.declared.command.RegroupCommand.TheVariants as command
-use Rattle.move_laws.specs.Given.{given}
-use Rattle.move_laws.proofs.Firsts.{given-by, neither}
+use Rattle.path_laws.proofs.Prelude.{All-cons, All-nil, BookState, Follows, Moment, Op, Path, ServerNo, World, append-nil, arrived, astray, auto}
+use Rattle.path_laws.proofs.Prelude.{autos, case_of, finished, first_about, first_refusal, flat_map, following, given, given-by, last_refusal}
+use Rattle.path_laws.proofs.Prelude.{neither, own_refusal, path_of, plan_of, refusal_about, refusal_of, relocated, replicas_but, rest_refusal, row_of}
+use Rattle.path_laws.proofs.Prelude.{travelled, unknown_in, without_path}
+use Rattle.path_laws.proofs.Prelude.command
+use Rattle.path_laws.proofs.Prelude.name
+use Rattle.path_laws.proofs.Prelude.refusal
 
 -- where none is astray, each has a path
 found-each : (b : BookState) (d : ServerNo) (rs : List ServerNo) → first_about (without_path b (Some d)) rs ≡ None → All (λ r. IsSome (path_of b r d)) rs

@@ -1,10 +1,6 @@
 -- What ways and paths are, by the book's forest.
 use Rattle.std.specs.Prelude.{◌≡◌, Bool, false, ◌||◌, List, [], ◌∷◌, Option, Some, None}
-use Rattle.orch_base.specs.declared.server.ServerNo.{ServerNo}
-use Rattle.instance_keeper.specs.Book.{BookState}
-use Rattle.permission.specs.Checks.{is_given}
-use Rattle.permission.specs.Views.{attached_of, is_below, source_of}
-use Rattle.regroup.specs.Ways.{parent_at}
+use Rattle.path_laws.specs.Prelude.{BookState, ServerNo, attached_of, is_below, is_given, parent_at, source_of}
 
 -- from a server up past these, each the parent of the one before it, to the parent of the last
 abbrev pub Climbs : BookState → ServerNo → List ServerNo → ServerNo → Type 0

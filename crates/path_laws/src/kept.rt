@@ -1,13 +1,7 @@
 //! Permitted relocations go by what was seen to be kept.
 
 ghost use Rattle.std.specs.Prelude.{◌≡◌, None};
-ghost use Rattle.orch_base.specs.declared.server.Moment.{Moment as AMoment};
-ghost use Rattle.commands.specs.declared.turn.Command.{Command as ACommand};
-ghost use Rattle.instance_keeper.specs.Book.{BookState};
-ghost use Rattle.move_laws.specs.ByKept.{AllGoByKept};
-ghost use Rattle.regroup.specs.Permits.{refusal_of};
-ghost use Rattle.regroup.specs.Plans.{plan_of};
-ghost use Rattle.server_model.specs.Worlds.{World};
+ghost use Rattle.path_laws.specs.Prelude.{AllGoByKept, BookState, Command as ACommand, Moment as AMoment, World, plan_of, refusal_of};
 
 /// Where nothing refuses a relocation, no operation of its plan, at whichever level of a path, goes up by the
 /// coordinate of a server, or on by its own, whose source was seen to have purged that coordinate's file, and none goes

@@ -1,20 +1,9 @@
 //! The plans of permitted commands.
 
 ghost use Rattle.std.specs.Prelude.{◌≡◌, ◌∷◌, [], All, IsSome, None, Some, false, true};
-ghost use Rattle.std.specs.List.{flat_map};
-ghost use Rattle.orch_base.specs.declared.server.Moment.{Moment as AMoment};
-ghost use Rattle.orch_base.specs.declared.server.ServerNo.{ServerNo as Number};
-ghost use Rattle.commands.specs.declared.line.Line.TheVariants.{Follows};
-ghost use Rattle.commands.specs.declared.name.CommandName.TheVariants.{Relocate, RelocateReplicas};
-ghost use Rattle.instance_keeper.specs.Book.{BookState};
-ghost use Rattle.move_laws.specs.Given.{given};
-ghost use Rattle.operations.specs.Plans.{auto, finished};
-ghost use Rattle.permission.specs.Replicas.{replicas_but};
-ghost use Rattle.plan_parts.specs.Parts.{autos, following};
-ghost use Rattle.regroup.specs.Permits.{refusal_of};
-ghost use Rattle.regroup.specs.Plans.{arrived, plan_of, travelled};
-ghost use Rattle.regroup.specs.Ways.{Path, path_of};
-ghost use Rattle.server_model.specs.Worlds.{World};
+ghost use Rattle.path_laws.specs.Prelude.{BookState, Follows, Moment as AMoment, Path, Relocate, RelocateReplicas, ServerNo as Number, World};
+ghost use Rattle.path_laws.specs.Prelude.{arrived, auto, autos, finished, flat_map, following, given, path_of, plan_of, refusal_of, replicas_but};
+ghost use Rattle.path_laws.specs.Prelude.{travelled};
 
 /// A permitted relocation has its whole plan. By coordinates the instance, or each of its replicas but the destination,
 /// has a path and goes it; with GTIDs each goes below the destination at once.

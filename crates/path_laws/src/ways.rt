@@ -1,11 +1,8 @@
 //! Ways up the book's forest.
 
 ghost use Rattle.std.specs.Prelude.{◌≡◌, ◌==◌, ◌<◌, [], All, List, None, Some, false, is_some, length};
-ghost use Rattle.orch_base.specs.declared.server.ServerNo.{ServerNo as Number};
-ghost use Rattle.instance_keeper.specs.Book.{BookState, IsBook};
+ghost use Rattle.path_laws.specs.Prelude.{BookState, IsBook, ServerNo as Number, attached_of, passed_in, path_of, source_of, way_up};
 ghost use Rattle.path_laws.specs.Ways.{GoesUp, is_on_way, is_under};
-ghost use Rattle.permission.specs.Views.{attached_of, source_of};
-ghost use Rattle.regroup.specs.Ways.{passed_in, path_of, way_up};
 
 /// A server that goes up to another one, or below one by its path, doesn't pass itself.
 pub fn ways_do_not_come_back()

@@ -1,13 +1,8 @@
 -- Whether a server is below another is a test.
 use Rattle.std.proofs.Common.{◌≡◌, ℕ, ◌<◌, ◌≤◌, Bool, true, false, List, length, refl, sym, ◌∙◌, ap, ◌||◌, ◌+◌, Option, arith, zero, suc}
 use Rattle.std.specs.Prelude.{◌==◌, ◌↔◌, ◌&&◌, IsTrue}
-use Rattle.std.proofs.lemmas.Bool.{eq-eqb, or_left, or_right, false≢true}
-use Rattle.orch_base.specs.Chains.{is_reached, is_reached_on}
-use Rattle.orch_base.proofs.Chains.{reached-follows}
-use Rattle.topology_tree.specs.Following.{Follows, Direct, Further}
-use Rattle.topology_tree.specs.Forests.{above}
-use Rattle.topology_tree.specs.Links.{IsForest}
-use Rattle.topology_tree.proofs.Levels.{level, level-above, level-below}
+use Rattle.permission.proofs.Prelude.{Direct, Follows, Further, IsForest, above, eq-eqb, false≢true, is_reached, is_reached_on, level, level-above}
+use Rattle.permission.proofs.Prelude.{level-below, or_left, or_right, reached-follows}
 
 -- what is followed is reached, in as many steps as its level
 pub reached-from : (ups : List (Option ℕ)) → IsForest ups → (n x k : ℕ) → Follows (above ups) n x → x < length ups → level ups x ≤ k → is_reached (above ups) k n x ≡ true

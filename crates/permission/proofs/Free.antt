@@ -1,12 +1,7 @@
 -- Where no server of a list is busy, none has a lease.
 use Rattle.std.proofs.Common.{◌≡◌, ℕ, List, [], ◌∷◌, refl, ◌∙◌, ap, Option, Some, None}
-use Rattle.std.specs.Option.{option_or}
-use Rattle.orch_base.specs.declared.server.ServerNo.{ServerNo}
-use Rattle.instance_keeper.specs.Book.{BookState, lease_at}
-use Rattle.instance_keeper.specs.Leases.{busy_by, first_busy}
-use Rattle.permission.specs.Checks.{busy}
-use Rattle.permission.specs.Checks.{busy_by as refused_by_lease}
-use Rattle.permission.specs.Lists.{first_about}
+use Rattle.permission.proofs.Prelude.{BookState, ServerNo, busy, busy_by as refused_by_lease, first_about, first_busy, lease_at, option_or}
+use Rattle.permission.proofs.Prelude.Leases.{busy_by}
 
 pub neither : {A : Type 0} (x y : Option A) → option_or x y ≡ None → (x ≡ None) × (y ≡ None)
 neither None y h = (refl, h)

@@ -1,19 +1,9 @@
 -- The set of what is missing.
 use Rattle.std.proofs.Common.{◌≡◌, ℕ, zero, suc, ◌<◌, ◌≤◌, ◌+◌, ◌-◌, ◌^◌, Bool, true, false, cond, eqb, leb, List, [], ◌∷◌, refl, sym, ◌∙◌, ap, ◌||◌, ◌&&◌, not, arith}
 use Rattle.std.specs.Prelude.{◌==◌, filter, fold, All}
-use Rattle.std.specs.List.{flat_map, list_any, range_with_len}
-use Rattle.std.proofs.lemmas.Bool.{eqb-true}
-use Rattle.std.proofs.lemmas.Bool.Decides.{nat_tests}
-use Rattle.std.proofs.lemmas.List.Elements.{All-head, All-tail, All-cons, All-append, All-filter}
-use Rattle.std.proofs.lemmas.List.Folds.{list_any-append}
-use Rattle.std.proofs.lemmas.Map.Views.{any-filter_same}
-use Rattle.gtid_sets.specs.declared.interval.Interval.{Interval}
-use Rattle.gtid_sets.specs.Adding.{with_pair}
-use Rattle.gtid_sets.specs.Pairs.{numbers}
-use Rattle.gtid_sets.specs.Sets.{holds, IsSet, IsInterval, largest}
-use Rattle.gtid_sets.proofs.Inserts.{holds-with_pair, IsSet-with_pair, Rises-set}
-use Rattle.gtid_sets.proofs.SameSets.{same_sets_lem}
-use Rattle.permission.specs.Errants.{numbers_of, numbers_missing, set_with, own_missing}
+use Rattle.permission.proofs.Prelude.{All-append, All-cons, All-filter, All-head, All-tail, Interval, IsInterval, IsSet, IsSet-with_pair, Rises-set}
+use Rattle.permission.proofs.Prelude.{any-filter_same, eqb-true, flat_map, holds, holds-with_pair, largest, list_any, list_any-append, nat_tests}
+use Rattle.permission.proofs.Prelude.{numbers, numbers_missing, numbers_of, own_missing, range_with_len, same_sets_lem, set_with, with_pair}
 
 -- the numbers of GTIDs
 abbrev Fits : ℕ → Type 0

@@ -1,13 +1,6 @@
 -- What is so of each command of a kind.
 use Rattle.std.proofs.Common.{◌≡◌, ◌<◌, List, [], length, refl, Option, Some, None}
-use Rattle.orch_base.specs.declared.server.ServerNo.{ServerNo}
-use Rattle.commands.specs.declared.refusal.Refusal.{Refusal}
-use Rattle.commands.specs.declared.turn.Command.{Command}
-use Rattle.instance_keeper.specs.Book.{BookState}
-use Rattle.instance_keeper.specs.Leases.{first_busy}
-use Rattle.permission.specs.Checks.{busy, unknown_in}
-use Rattle.permission.specs.Lists.{first_about}
-use Rattle.permission.specs.Rows.{about, about_one, refused}
+use Rattle.permission.proofs.Prelude.{BookState, Command, Refusal, ServerNo, about, about_one, busy, first_about, first_busy, refused, unknown_in}
 use Rattle.permission.proofs.Free.{free-list, neither}
 use Rattle.permission.proofs.Within.{Within}
 

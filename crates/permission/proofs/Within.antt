@@ -1,22 +1,10 @@
 -- Servers that the book names are its servers, where the instances of a command are.
 use Rattle.std.proofs.Common.{◌≡◌, ◌<◌, true, List, [], ◌∷◌, length, Option, Some, None, arith}
 use Rattle.std.specs.Prelude.{All, IfSome, IsTrue, not}
-use Rattle.std.specs.Option.{option_and_then, option_or, option_to_list}
-use Rattle.std.proofs.lemmas.Bool.Decides.{nat_tests}
-use Rattle.std.proofs.lemmas.List.Elements.{All-cons, All-filter, All-nil}
-use Rattle.orch_base.specs.declared.server.ServerNo.{ServerNo}
-use Rattle.orch_base.specs.declared.server.SourceState.{SourceState}
-use Rattle.orch_base.specs.declared.server.SourceState.TheVariants.{Without, Attached, Detached}
-use Rattle.commands.specs.Turns.{is_within}
-use Rattle.kept_rows.specs.Servers.{are_known, source_servers}
-use Rattle.instance_keeper.specs.Book.{BookState, IsBook, instance_at}
-use Rattle.name_order.specs.NameOrder.{by_name}
-use Rattle.name_order.proofs.Arranged.{by_name-within}
-use Rattle.book_views.specs.Sources.{is_replica_of, replicas_of, seen_source, source_in}
-use Rattle.book_views.proofs.Reading.{known-below, source-known}
-use Rattle.permission.specs.Checks.{is_given}
-use Rattle.permission.specs.Replicas.{replicas_but, siblings_of, siblings_under}
-use Rattle.permission.specs.Views.{source_above, source_of}
+use Rattle.permission.proofs.Prelude.{All-cons, All-filter, All-nil, Attached, BookState, Detached, IsBook, ServerNo, SourceState, Without, are_known}
+use Rattle.permission.proofs.Prelude.{by_name, by_name-within, instance_at, is_given, is_replica_of, is_within, known-below, nat_tests}
+use Rattle.permission.proofs.Prelude.{option_and_then, option_or, option_to_list, replicas_but, replicas_of, seen_source, siblings_of, siblings_under}
+use Rattle.permission.proofs.Prelude.{source-known, source_above, source_in, source_of, source_servers}
 
 -- the server that is there is one of the book's
 abbrev pub Within : BookState → Option ServerNo → Type 0

@@ -1,16 +1,8 @@
 -- The checks of the permission table: what each is about, and the refusal of one that doesn't pass.
 use Rattle.std.specs.Prelude.{ℕ, Bool, false, ◌==◌, not, nat_lt, List, [], ◌∷◌, Option, Some, None, Result, Ok, Err, is_some}
-use Rattle.std.specs.Option.{option_and_then}
-use Rattle.gtid_sets.specs.declared.interval.Interval.{Interval}
-use Rattle.orch_base.specs.declared.server.ServerNo.{ServerNo}
-use Rattle.commands.specs.declared.refusal.Refusal.{Refusal}
-use Rattle.commands.specs.declared.refusal.Refusal.TheVariants as refusal
-use Rattle.commands.specs.declared.turn.Command.{Command}
-use Rattle.commands.specs.Unknown.{unknown_of}
-use Rattle.instance_keeper.specs.Book.{BookState, instance_at, lease_at}
-use Rattle.server_model.specs.Worlds.{World}
-use Rattle.book_views.specs.Sources.{seen_source, is_instance}
-use Rattle.operations.specs.Turns.{is_within}
+use Rattle.permission.specs.Prelude.{BookState, Command, Interval, Refusal, ServerNo, World, instance_at, is_instance, is_within, lease_at}
+use Rattle.permission.specs.Prelude.{option_and_then, seen_source, unknown_of}
+use Rattle.permission.specs.Prelude.refusal
 use Rattle.permission.specs.declared.case.Check.{Check}
 use Rattle.permission.specs.declared.case.Check.TheVariants as check
 use Rattle.permission.specs.declared.case.Move.{Move}

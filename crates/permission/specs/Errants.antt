@@ -1,11 +1,7 @@
 -- What a server has executed of its own and its new source hasn't (MySQL 8.0 Reference Manual, "GTID Format and
 -- Storage").
 use Rattle.std.specs.Prelude.{ℕ, ◌==◌, not, List, [], filter, fold}
-use Rattle.std.specs.List.{flat_map}
-use Rattle.gtid_sets.specs.declared.interval.Interval.{Interval}
-use Rattle.gtid_sets.specs.Adding.{with_pair}
-use Rattle.gtid_sets.specs.Pairs.{numbers}
-use Rattle.gtid_sets.specs.Sets.{holds}
+use Rattle.permission.specs.Prelude.{Interval, flat_map, holds, numbers, with_pair}
 
 -- the numbers of a set's GTIDs of one UUID
 abbrev pub numbers_of : ℕ → List Interval → List ℕ

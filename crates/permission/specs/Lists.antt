@@ -1,7 +1,6 @@
 -- The first of a list's answers, and servers that move to one source.
 use Rattle.std.specs.Prelude.{Bool, List, [], ◌∷◌, map, Option, Some, None, if◌then◌else◌}
-use Rattle.std.specs.Option.{option_or}
-use Rattle.orch_base.specs.declared.server.ServerNo.{ServerNo}
+use Rattle.permission.specs.Prelude.{ServerNo, option_or}
 use Rattle.permission.specs.declared.case.Move.{Move}
 
 -- the first that is there

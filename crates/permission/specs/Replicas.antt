@@ -1,8 +1,6 @@
 -- Replicas, in name order, but one of them.
 use Rattle.std.specs.Prelude.{not, List, [], filter, Option, Some, None}
-use Rattle.orch_base.specs.declared.server.ServerNo.{ServerNo}
-use Rattle.instance_keeper.specs.Book.{BookState}
-use Rattle.book_views.specs.Sources.{replicas_of}
+use Rattle.permission.specs.Prelude.{BookState, ServerNo, replicas_of}
 use Rattle.permission.specs.Checks.{is_given}
 use Rattle.permission.specs.Views.{source_of}
 

@@ -1,10 +1,6 @@
 -- Rows of the permission table: which servers move to which source, and of which the job takes the leases.
 use Rattle.std.specs.Prelude.{Bool, true, false, List, [], ◌∷◌, ◌++◌, Option, Some, None}
-use Rattle.std.specs.Option.{option_or, option_to_list}
-use Rattle.orch_base.specs.declared.server.ServerNo.{ServerNo}
-use Rattle.commands.specs.declared.refusal.Refusal.{Refusal}
-use Rattle.commands.specs.declared.turn.Command.{Command}
-use Rattle.instance_keeper.specs.Book.{BookState}
+use Rattle.permission.specs.Prelude.{BookState, Command, Refusal, ServerNo, option_or, option_to_list}
 use Rattle.permission.specs.Checks.{Case, unknown_in}
 use Rattle.permission.specs.Lists.{moves_to}
 use Rattle.permission.specs.Views.{is_before}

@@ -1,21 +1,8 @@
 -- What the book and the settings tell of a server. A number that no server has is no instance; its settings are empty.
 use Rattle.std.specs.Prelude.{ℕ, Bool, true, false, ◌==◌, ◌&&◌, ◌||◌, nat_eq, nat_lt, List, [], length, Option, Some, None}
-use Rattle.std.specs.Option.{option_and_then}
-use Rattle.std.specs.Cmp.Lexicographic.{pointwise}
-use Rattle.binlog_coords.specs.declared.Coord.{Coord}
-use Rattle.gtid_sets.specs.declared.interval.Interval.{Interval}
-use Rattle.orch_base.specs.Chains.{is_reached}
-use Rattle.orch_base.specs.declared.server.ServerNo.{ServerNo}
-use Rattle.orch_base.specs.declared.server.SourceState.{SourceState}
-use Rattle.orch_base.specs.declared.server.SourceState.TheVariants.{Without, Attached, Detached}
-use Rattle.orch_base.specs.declared.server.Version.{Version}
-use Rattle.kept_rows.specs.declared.observation.Instance.{Instance}
-use Rattle.instance_keeper.specs.Book.{BookState, instance_at}
-use Rattle.server_model.specs.declared.server.Server.{Server}
-use Rattle.server_model.specs.Worlds.{World, server_at}
-use Rattle.topology_tree.specs.Forests.{above}
-use Rattle.book_views.specs.Forests.{book_forest, node_at}
-use Rattle.book_views.specs.Sources.{seen_source, source_in}
+use Rattle.permission.specs.Prelude.{Attached, BookState, Coord, Detached, Instance, Interval, Server, ServerNo, SourceState, Version, Without, World}
+use Rattle.permission.specs.Prelude.{above, book_forest, instance_at, is_reached, node_at, option_and_then, pointwise, seen_source, server_at}
+use Rattle.permission.specs.Prelude.{source_in}
 
 -- ---- by the book
 

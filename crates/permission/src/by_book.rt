@@ -1,21 +1,17 @@
 //! What the book tells of a server, and the checks that go by it alone. A number that no server has is no instance.
 
 ghost use Rattle.std.specs.Prelude.{◌≡◌, ◌↔◌, ◌<◌, [], IsTrue, length};
-ghost use Rattle.std.specs.Option.{option_copied};
-ghost use Rattle.instance_keeper.specs.Book.{instance_at, lease_at};
-ghost use Rattle.book_views.specs.Forests.{book_forest, IsBelow};
-ghost use Rattle.book_views.specs.Sources.{is_instance, seen_source};
-ghost use Rattle.operations.specs.Turns.{is_within};
+ghost use Rattle.permission.specs.Prelude.{IsBelow, book_forest, instance_at, is_instance, is_within, lease_at, option_copied, seen_source};
 ghost use Rattle.permission.specs.Checks.{busy, of_below, place_purged, set_purged, unreached};
 ghost use Rattle.permission.specs.Lists.{first_about};
-ghost use Rattle.permission.specs.Views.{attached_in, attached_of, exec_seen, first_seen, is_attached_in, is_auto, is_before, is_below, is_detached_in, is_valid, purged_seen, set_seen, source_above, source_of};
+ghost use Rattle.permission.specs.Views.{attached_of, exec_seen, first_seen, is_attached_in, is_auto, is_before, is_below, is_detached_in, is_valid, purged_seen, set_seen, source_above, source_of};
 
+use crate::binlog_coords_items::Coord;
 use crate::case::Move;
-use binlog_coords::Coord;
-use commands::Refusal;
-use gtid_sets::GtidSet;
-use instance_keeper::{Book, Instance};
-use orch_base::{ServerNo, SourceState};
+use crate::commands::Refusal;
+use crate::gtid_sets::GtidSet;
+use crate::instance_keeper_items::{Book, Instance};
+use crate::orch_base::{ServerNo, SourceState};
 use std::alloc::Global;
 use topology_tree::Forest;
 

@@ -1,16 +1,15 @@
 //! The checks that go by the servers' settings. The settings of a number that no server has are empty.
 
 ghost use Rattle.std.specs.Prelude.{◌≡◌, option_map};
-ghost use Rattle.std.specs.Option.{option_copied};
-ghost use Rattle.server_model.specs.Worlds.{server_at};
+ghost use Rattle.permission.specs.Prelude.{option_copied, server_at};
 ghost use Rattle.permission.specs.Checks.{of_lower_version, of_other_cluster, of_same_id, unlogged, without_log};
 ghost use Rattle.permission.specs.Lists.{first_about};
 ghost use Rattle.permission.specs.Views.{has_log, id_in, label_in, lower_version, same_label, uuid_of, version_in};
 
 use crate::case::Move;
-use commands::Refusal;
-use orch_base::{ServerNo, Settings, Version};
-use server_model::World;
+use crate::commands::Refusal;
+use crate::orch_base::{ServerNo, Settings, Version};
+use crate::server_model::World;
 
 fn settings(world: &World, no: ServerNo) -> Option<&Settings>
     ensures { option_copied result ≡ option_map (λ s. s.settings) (server_at world.now no.0) }

@@ -1,11 +1,11 @@
 //! What the checks of a command are about.
 
 ghost use Rattle.std.specs.Prelude.{◌≡◌, IfOk};
-ghost use Rattle.std.specs.Option.{option_to_list};
+ghost use Rattle.permission.specs.Prelude.{option_to_list};
 ghost use Rattle.permission.specs.Lists.{moves_to};
 
 use crate::Memory;
-use orch_base::ServerNo;
+use crate::orch_base::ServerNo;
 use std::alloc::Global;
 use std::marker::Model;
 

@@ -9,11 +9,22 @@ mod movers;
 mod replicas;
 mod row;
 
+pub use book_views;
 pub use by_book::{attached_to, is_auto, is_before, is_below, is_valid, source, source_above};
 pub use by_settings::{has_log, same_label};
 pub use case::{Case, Check, Move, moves_to, one_or_none};
 pub use movers::Movers;
+pub use operations::{
+    binlog_coords_items, commands, gtid_sets, instance_keeper_items, kept_rows_items, orch_base,
+    server_model, server_words_items,
+};
+pub use topology_tree;
 /// Want of memory.
-pub use orch_base::Memory;
+pub use operations::orch_base::Memory;
 pub use replicas::{replicas_but, siblings};
 pub use row::{PermitFault, answered, first_refusal, row_refusal, unknown_in};
+
+/// What is passed on of `operations`.
+pub mod operations_items {
+    pub use operations::{Aim, Crossing, JobStep, Match, Op, Position, Sight};
+}

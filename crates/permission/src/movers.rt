@@ -1,14 +1,14 @@
 //! The servers that a command is about.
 
 ghost use Rattle.std.specs.Prelude.{◌≡◌, ◌∷◌, ◌++◌, IfOk, []};
-ghost use Rattle.std.specs.Option.{option_to_list};
+ghost use Rattle.permission.specs.Prelude.{option_to_list};
 ghost use Rattle.permission.specs.Rows.{going_by, moving, swapping};
 
 use crate::Memory;
 use crate::by_book::is_before;
 use crate::case::{Case, Move, moves_to, one_or_none};
-use instance_keeper::Book;
-use orch_base::ServerNo;
+use crate::instance_keeper_items::Book;
+use crate::orch_base::ServerNo;
 use std::alloc::Global;
 use std::marker::Model;
 

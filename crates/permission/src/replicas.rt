@@ -5,10 +5,10 @@ ghost use Rattle.permission.specs.Replicas.{replicas_but, siblings_of, without};
 
 use crate::Memory;
 use crate::by_book::source;
+use crate::instance_keeper_items::Book;
+use crate::orch_base::ServerNo;
 use crate::row::is_given;
 use book_views::replicas;
-use instance_keeper::Book;
-use orch_base::ServerNo;
 use std::alloc::Global;
 
 // The servers of a list, without one where one is given.

@@ -1,9 +1,7 @@
 //! A row of checks, and the answer of a permit.
 
 ghost use Rattle.std.specs.Prelude.{◌≡◌, IfOk};
-ghost use Rattle.std.specs.Option.{option_and_then};
-ghost use Rattle.orch_base.specs.Gives.{Gives};
-ghost use Rattle.book_views.specs.Forests.{book_forest};
+ghost use Rattle.permission.specs.Prelude.{Gives, book_forest, option_and_then};
 ghost use Rattle.permission.specs.Checks.{are_one, errant, errant_by, first_refusal, is_given, is_known, permit_fault, permitted, refusal_by, unknown_in};
 ghost use Rattle.permission.specs.Errants.{own_missing};
 ghost use Rattle.permission.specs.Lists.{first_about, only_if};
@@ -18,12 +16,12 @@ use crate::by_settings::{
     lower_version, moved_not_logging, not_logging, other_cluster, same_id, uuid,
 };
 use crate::case::{Case, Check, Move};
+use crate::commands::{BoxedSet, Command, Refusal, unknown_instance};
+use crate::gtid_sets::GtidSet;
+use crate::instance_keeper_items::Book;
 use crate::movers::Movers;
-use commands::{BoxedSet, Command, Refusal, unknown_instance};
-use gtid_sets::GtidSet;
-use instance_keeper::Book;
-use orch_base::ServerNo;
-use server_model::World;
+use crate::orch_base::ServerNo;
+use crate::server_model::World;
 use std::alloc::Global;
 use std::fmt;
 use topology_tree::Forest;

@@ -2,10 +2,10 @@
 use Rattle.std.proofs.Common.{◌≡◌, ◌∙◌, ℕ, ◌<◌, ◌≤◌, Bool, false, cond, List, [], ◌∷◌, ◌++◌, Some, None, ap, arith}
 use Rattle.std.specs.Prelude.{◌==◌}
 use Rattle.std.proofs.lemmas.Bool.{eq-eqb}
-use Rattle.unended_jobs.specs.declared.unended.Unended.{Unended}
-use Rattle.unended_jobs.specs.Unended.{number_of}
-use Rattle.jobs_in_flight.specs.Jobs.{Rise, job_at}
-use Rattle.jobs_in_flight.proofs.Numbers.{Rise-within}
+use Rattle.run_laws.specs.UnendedJobs.declared.unended.Unended.{Unended}
+use Rattle.run_laws.specs.UnendedJobs.Unended.{number_of}
+use Rattle.run_laws.specs.JobsInFlight.Jobs.{Rise, job_at}
+use Rattle.run_laws.proofs.JobsInFlight.Numbers.{Rise-within}
 
 lower : (a b high : ℕ) → a ≤ high → high < b → (a == b) ≡ false
 lower a b high within beyond = grind arith

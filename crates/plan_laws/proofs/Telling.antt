@@ -1,22 +1,22 @@
 -- What is told is the job that the command begins.
 use Rattle.std.proofs.Common.{◌≡◌, ◌∙◌, ◌+◌, List, [], Option, Some, ap, arith}
 use Rattle.std.specs.Option.{unwrap_or}
-use Rattle.orch_base.specs.Names.{HostPort}
-use Rattle.orch_base.specs.declared.server.ServerNo.{ServerNo}
-use Rattle.commands.specs.declared.turn.CommandTurn.{CommandTurn}
-use Rattle.jobs_in_flight.specs.Jobs.{job_at}
-use Rattle.orch_core.specs.Replies.{act_reply}
-use Rattle.orch_core.specs.States.{State}
-use Rattle.recovery_plans.specs.Recoveries.{Recovery}
+use Rattle.run_laws.specs.OrchBase.Names.{HostPort}
+use Rattle.run_laws.specs.OrchBase.declared.server.ServerNo.{ServerNo}
+use Rattle.run_laws.specs.Commands.declared.turn.CommandTurn.{CommandTurn}
+use Rattle.run_laws.specs.JobsInFlight.Jobs.{job_at}
+use Rattle.run_laws.specs.OrchCore.Replies.{act_reply}
+use Rattle.run_laws.specs.OrchCore.States.{State}
+use Rattle.run_laws.specs.RecoveryPlans.Recoveries.{Recovery}
 use Rattle.run_laws.proofs.Permissions.{begun_joins, begun_numbered, begun_replies}
 use Rattle.tasks.specs.Begun.{begun_by}
 use Rattle.tasks.specs.Plans.{begun_state, planned_by, planned_reply, takeover_planned}
 use Rattle.tasks.specs.Report.{plan_answer, plan_answer_by, told_plan}
-use Rattle.turns.specs.declared.reply.Reply.{Reply}
-use Rattle.turns.specs.declared.reply.Reply.TheVariants as answered
-use Rattle.turns.specs.declared.turn.Act.TheVariants as act
-use Rattle.unended_jobs.specs.declared.unended.Unended.{Unended}
-use Rattle.unended_jobs.specs.declared.unended.Unended.TheVariants as unended
+use Rattle.run_laws.specs.Turns.declared.reply.Reply.{Reply}
+use Rattle.run_laws.specs.Turns.declared.reply.Reply.TheVariants as answered
+use Rattle.run_laws.specs.Turns.declared.turn.Act.TheVariants as act
+use Rattle.run_laws.specs.UnendedJobs.declared.unended.Unended.{Unended}
+use Rattle.run_laws.specs.UnendedJobs.declared.unended.Unended.TheVariants as unended
 use Rattle.plan_laws.specs.Begun.{MovesAreToldWhole, TakeoversAreToldWhole, WouldBegin}
 use Rattle.plan_laws.proofs.Jobs.{found-last}
 

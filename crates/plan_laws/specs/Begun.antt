@@ -1,19 +1,19 @@
 -- What a plan tells, beside the job that its command would begin.
 use Rattle.std.specs.Prelude.{◌≡◌, List, Some, None}
-use Rattle.orch_base.specs.Names.{HostPort}
-use Rattle.orch_base.specs.declared.server.ServerNo.{ServerNo}
-use Rattle.commands.specs.declared.turn.CommandTurn.{CommandTurn}
-use Rattle.operations.specs.Jobs.{Job}
-use Rattle.orch_core.specs.States.{IsState, State}
-use Rattle.permission.specs.Replicas.{replicas_but}
+use Rattle.run_laws.specs.OrchBase.Names.{HostPort}
+use Rattle.run_laws.specs.OrchBase.declared.server.ServerNo.{ServerNo}
+use Rattle.run_laws.specs.Commands.declared.turn.CommandTurn.{CommandTurn}
+use Rattle.run_laws.specs.Operations.Jobs.{Job}
+use Rattle.run_laws.specs.OrchCore.States.{IsState, State}
+use Rattle.run_laws.specs.Permission.Replicas.{replicas_but}
 use Rattle.plan_texts.specs.Takeovers.{takeover_ops}
-use Rattle.recovery_plans.specs.Recoveries.{Recovery}
+use Rattle.run_laws.specs.RecoveryPlans.Recoveries.{Recovery}
 use Rattle.run_laws.specs.BegunJobs.{BegunJob, begun_of}
 use Rattle.tasks.specs.Plans.{Planned, begun_state, lasting, straight, yielding}
 use Rattle.tasks.specs.Report.{plan_answer, told_plan}
-use Rattle.unended_jobs.specs.declared.docket.Docket.{Docket}
-use Rattle.unended_jobs.specs.declared.unended.Unended.{Unended}
-use Rattle.unended_jobs.specs.declared.unended.Unended.TheVariants as unended
+use Rattle.run_laws.specs.UnendedJobs.declared.docket.Docket.{Docket}
+use Rattle.run_laws.specs.UnendedJobs.declared.unended.Unended.{Unended}
+use Rattle.run_laws.specs.UnendedJobs.declared.unended.Unended.TheVariants as unended
 
 -- nobody's claim lasts, and the command begins this job
 pub record WouldBegin (s : State) (c : CommandTurn) (job : Unended) : Type 0 where

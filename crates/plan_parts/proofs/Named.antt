@@ -5,8 +5,8 @@ use Rattle.std.specs.List.{flat_map}
 use Rattle.std.proofs.lemmas.Bool.Decides.{nat_tests}
 use Rattle.std.proofs.lemmas.List.Elements.{All-head, All-tail}
 use Rattle.std.proofs.lemmas.List.Folds.{list_all-append}
-use Rattle.orch_base.specs.declared.server.ServerNo.{ServerNo}
-use Rattle.commands.specs.declared.line.Line.{Line}
+use Rattle.operations.specs.OrchBase.declared.server.ServerNo.{ServerNo}
+use Rattle.operations.specs.Commands.declared.line.Line.{Line}
 use Rattle.operations.specs.Deeds.{deed_of}
 use Rattle.operations.specs.Named.{are_named, is_named}
 use Rattle.operations.specs.Plans.{again, auto, finished, swap, under, up}

@@ -2,9 +2,9 @@
 -- match.
 use Rattle.std.specs.Prelude.{ℕ, List, [], ◌∷◌, map, Some, None}
 use Rattle.std.specs.List.{flat_map}
-use Rattle.orch_base.specs.declared.server.ServerNo.{ServerNo}
-use Rattle.commands.specs.declared.line.Line.{Line}
-use Rattle.commands.specs.declared.line.Line.TheVariants.{Follows}
+use Rattle.operations.specs.OrchBase.declared.server.ServerNo.{ServerNo}
+use Rattle.operations.specs.Commands.declared.line.Line.{Line}
+use Rattle.operations.specs.Commands.declared.line.Line.TheVariants.{Follows}
 use Rattle.operations.specs.declared.op.Op.{Op}
 use Rattle.operations.specs.declared.op.Op.TheVariants.{Auto, CrossMatch, Match, Start, Status, Stop}
 use Rattle.operations.specs.Plans.{auto, under, up}

@@ -5,9 +5,9 @@ ghost use Rattle.operations.specs.Plans.{finished};
 ghost use Rattle.plan_parts.specs.Parts.{following};
 
 use crate::Memory;
-use commands::{Line, Lines};
+use crate::commands::{Line, Lines};
+use crate::orch_base::ServerNo;
 use operations::Op;
-use orch_base::ServerNo;
 use std::alloc::Global;
 
 /// These operations, and at last the end with these lines.

@@ -7,6 +7,7 @@ mod parts;
 
 pub use ends::{finished, following, moved, moved_each, told};
 pub use lists::{autos, matchings, unders, ups};
+use operations::{commands, orch_base};
 /// Want of memory.
-pub use orch_base::Memory;
+pub use operations::orch_base::Memory;
 pub use parts::{again, again_auto, asking, auto, matching, restarted, swap, under, up};

@@ -4,9 +4,9 @@ ghost use Rattle.std.specs.Prelude.{◌≡◌, IfOk};
 ghost use Rattle.plan_parts.specs.Parts.{autos, matchings, unders, ups};
 
 use crate::Memory;
+use crate::orch_base::ServerNo;
 use crate::parts::{auto, matching, under, up};
 use operations::Op;
-use orch_base::ServerNo;
 use std::alloc::Global;
 
 /// Replicas of `i`, which is below `x`, go to `x`.

@@ -5,8 +5,8 @@ ghost use Rattle.operations.specs.Plans.{again, asking, auto, swap, under, up};
 ghost use Rattle.plan_parts.specs.Parts.{again_auto, matching};
 
 use crate::Memory;
+use crate::orch_base::ServerNo;
 use operations::{Aim, Crossing, Op};
-use orch_base::ServerNo;
 use std::alloc::Global;
 
 /// `i`, which is below `x`, goes to `x`'s source `g`.

@@ -1,13 +1,9 @@
 -- Conditions: what stands behind a line's statements: what to note, when to repeat, and the condition under which alone
 -- they may be sent.
 use Rattle.std.specs.Prelude.{ℕ, List, [], ◌++◌, codes, Option, Some, None}
-use Rattle.orch_base.specs.declared.server.ServerNo.{ServerNo}
-use Rattle.operations.specs.declared.op.Aim.{Aim}
-use Rattle.operations.specs.declared.op.Aim.TheVariants.{EndOf, ExecOf}
-use Rattle.operations.specs.declared.op.Crossing.{Crossing}
-use Rattle.operations.specs.declared.op.Crossing.TheVariants as cross
-use Rattle.operations.specs.declared.op.Op.{Op}
-use Rattle.operations.specs.declared.op.Op.TheVariants as op
+use Rattle.plan_texts.specs.Prelude.{Aim, Crossing, EndOf, ExecOf, Op, ServerNo}
+use Rattle.plan_texts.specs.Prelude.cross
+use Rattle.plan_texts.specs.Prelude.op
 use Rattle.plan_texts.specs.Letters.{letter}
 use Rattle.plan_texts.specs.Statements.{aim_words, told}
 

@@ -1,11 +1,7 @@
 -- Examples: three plans as texts, and lines of operations that these don't have.
 use Rattle.std.specs.Prelude.{ℕ, List, [], ◌∷◌, ◌++◌, codes, Some}
-use Rattle.orch_base.specs.Names.{HostPort}
-use Rattle.orch_base.specs.declared.server.ServerNo.{ServerNo}
-use Rattle.operations.specs.declared.op.Op.{Op}
-use Rattle.operations.specs.declared.op.Crossing.TheVariants.{About, Back, Up}
-use Rattle.operations.specs.declared.op.Op.TheVariants.{Cross, CrossMatch, Detach, Finish, Match, Reattach, Same, Settle, Status, StopReceiver}
-use Rattle.operations.specs.Plans.{auto, up}
+use Rattle.plan_texts.specs.Prelude.{About, Back, Cross, CrossMatch, Detach, Finish, HostPort, Match, Op, Reattach, Same, ServerNo, Settle, Status}
+use Rattle.plan_texts.specs.Prelude.{StopReceiver, Up, auto, up}
 use Rattle.plan_texts.specs.Takeovers.{takeover_ops}
 use Rattle.plan_texts.specs.Texts.{warning}
 

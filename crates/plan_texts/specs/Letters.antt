@@ -1,11 +1,7 @@
 -- Letters: by which letter a plan speaks of each server.
 use Rattle.std.specs.Prelude.{ℕ, ◌+◌, ◌/◌, ◌%◌, ◌==◌, nat_lt, List, [], ◌∷◌, ◌++◌, decimal, fold, position, if◌then◌else◌, Option, Some, None}
-use Rattle.std.specs.List.{list_any}
-use Rattle.orch_base.specs.declared.server.ServerNo.{ServerNo}
-use Rattle.operations.specs.declared.op.Aim.{Aim}
-use Rattle.operations.specs.declared.op.Aim.TheVariants.{EndOf, ExecOf}
-use Rattle.operations.specs.declared.op.Op.{Op}
-use Rattle.operations.specs.declared.op.Op.TheVariants as op
+use Rattle.plan_texts.specs.Prelude.{Aim, EndOf, ExecOf, Op, ServerNo, list_any}
+use Rattle.plan_texts.specs.Prelude.op
 
 -- ---- the order in which servers are first spoken of
 

@@ -1,3 +1,4 @@
+pub mod Prelude
 pub mod Conditions
 pub mod Examples
 pub mod Letters

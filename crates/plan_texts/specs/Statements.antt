@@ -1,15 +1,9 @@
 -- Statements: what is sent for each operation (MySQL 8.0 Reference Manual, "Replication Statements"), with words in
 -- place of coordinates that earlier lines noted.
 use Rattle.std.specs.Prelude.{ℕ, ◌==◌, Bool, true, false, List, [], ◌++◌, codes, decimal, fold, if◌then◌else◌, slice_get, Option, Some, None}
-use Rattle.std.specs.Option.{option_or}
-use Rattle.orch_base.specs.Names.{HostPort}
-use Rattle.orch_base.specs.declared.server.ServerNo.{ServerNo}
-use Rattle.operations.specs.declared.op.Aim.{Aim}
-use Rattle.operations.specs.declared.op.Aim.TheVariants.{EndOf, ExecOf}
-use Rattle.operations.specs.declared.op.Crossing.{Crossing}
-use Rattle.operations.specs.declared.op.Crossing.TheVariants as cross
-use Rattle.operations.specs.declared.op.Op.{Op}
-use Rattle.operations.specs.declared.op.Op.TheVariants as op
+use Rattle.plan_texts.specs.Prelude.{Aim, Crossing, EndOf, ExecOf, HostPort, Op, ServerNo, option_or}
+use Rattle.plan_texts.specs.Prelude.cross
+use Rattle.plan_texts.specs.Prelude.op
 use Rattle.plan_texts.specs.Letters.{letter}
 
 -- ---- the sources that operations before tell

@@ -1,11 +1,6 @@
 -- Takeovers: the operations by which a replica takes its master's place, where nobody is lost on the way.
 use Rattle.std.specs.Prelude.{true, false, List, [], ◌∷◌, ◌++◌, Some, None}
-use Rattle.std.specs.List.{flat_map}
-use Rattle.orch_base.specs.declared.server.ServerNo.{ServerNo}
-use Rattle.operations.specs.declared.op.Aim.TheVariants.{EndOf, ExecOf}
-use Rattle.operations.specs.declared.op.Crossing.TheVariants.{About, Down}
-use Rattle.operations.specs.declared.op.Op.{Op}
-use Rattle.operations.specs.declared.op.Op.TheVariants.{Await, Cross, ReadOnly, Reset, Start, Status, Stop, Until}
+use Rattle.plan_texts.specs.Prelude.{About, Await, Cross, Down, EndOf, ExecOf, Op, ReadOnly, Reset, ServerNo, Start, Status, Stop, Until, flat_map}
 
 -- m takes no more writes, and its replica d comes to the end of its log
 abbrev pub shut : ServerNo → ServerNo → List Op

@@ -1,8 +1,6 @@
 -- The text of a plan: a warning, the servers by their letters, and a numbered line for each operation.
 use Rattle.std.specs.Prelude.{ℕ, ◌+◌, List, [], ◌∷◌, ◌++◌, codes, decimal, slice_get, Option, Some, None}
-use Rattle.orch_base.specs.Names.{HostPort, printed}
-use Rattle.orch_base.specs.declared.server.ServerNo.{ServerNo}
-use Rattle.operations.specs.declared.op.Op.{Op}
+use Rattle.plan_texts.specs.Prelude.{HostPort, Op, ServerNo, printed}
 use Rattle.plan_texts.specs.Conditions.{condition, note_words}
 use Rattle.plan_texts.specs.Letters.{letter, order_of, subject}
 use Rattle.plan_texts.specs.Statements.{reading_words, statement}

@@ -7,10 +7,10 @@ ghost use Rattle.plan_texts.specs.Statements.{told};
 
 use crate::Memory;
 use crate::letters::print_letter;
+use crate::orch_base::ServerNo;
 use crate::told::told;
 use crate::words::{print_aim, print_lettered};
 use operations::{Aim, Crossing, Op};
-use orch_base::ServerNo;
 
 /// What is read of the server is noted.
 pub(crate) fn print_note(order: &[ServerNo], no: ServerNo, out: &mut Vec<u8>) -> Result<(), Memory>

@@ -1,13 +1,13 @@
 //! The letters of servers.
 
 ghost use Rattle.std.specs.Prelude.{◌≡◌, ◌++◌, ◌==◌, IfOk, OnOk, position};
-ghost use Rattle.std.specs.List.{list_any};
+ghost use Rattle.plan_texts.specs.Prelude.{list_any};
 ghost use Rattle.plan_texts.specs.Letters.{letter, letter_at, order_of, other, server_of, subject, with_given, with_server, with_spoken};
 
 use crate::Memory;
+use crate::orch_base::ServerNo;
 use crate::words::print_number;
 use operations::{Aim, Op};
-use orch_base::ServerNo;
 use std::alloc::Global;
 
 fn is_among(order: &[ServerNo], no: ServerNo) -> bool

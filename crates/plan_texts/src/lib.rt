@@ -14,6 +14,7 @@ mod words;
 
 pub use laws::plans_are_told_so;
 pub use lines::print_plan;
+use operations::orch_base;
 /// Want of memory.
-pub use orch_base::Memory;
+pub use operations::orch_base::Memory;
 pub use takeovers::takeover;

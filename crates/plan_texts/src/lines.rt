@@ -2,15 +2,15 @@
 
 ghost use Rattle.std.specs.Prelude.{◌≡◌, ◌++◌, [], codes, decimal, slice_get, OnOk};
 ghost use Rattle.plan_texts.specs.Letters.{letter, order_of};
-ghost use Rattle.plan_texts.specs.Texts.{line, line_for, master_line, next_number, op_line, op_lines, ordered_text, plan_text, printed_at, server_line, server_lines, warning};
+ghost use Rattle.plan_texts.specs.Texts.{line, master_line, next_number, op_line, op_lines, ordered_text, plan_text, printed_at, server_line, server_lines, warning};
 
 use crate::Memory;
 use crate::conditions::{print_condition, print_note};
 use crate::letters::{order_of, print_letter, subject};
+use crate::orch_base::{Name, ServerNo};
 use crate::statements::{Told, print_statement, reading};
 use crate::words::{print_lettered, print_number};
 use operations::Op;
-use orch_base::{Name, ServerNo};
 use std::alloc::Global;
 
 // What a plan doesn't say.

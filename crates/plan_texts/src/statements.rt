@@ -1,16 +1,15 @@
 //! What is sent for each operation.
 
 ghost use Rattle.std.specs.Prelude.{◌≡◌, ◌++◌, [], codes, OnOk};
-ghost use Rattle.operations.specs.declared.op.Aim.TheVariants.{ExecOf};
-ghost use Rattle.operations.specs.declared.op.Op.TheVariants.{CrossMatch};
+ghost use Rattle.plan_texts.specs.Prelude.{CrossMatch, ExecOf};
 ghost use Rattle.plan_texts.specs.Letters.{letter};
 ghost use Rattle.plan_texts.specs.Statements.{change_words, cross_statement, named_words, own_words, read_only_words, reading_words, source_words, spot_words, statement};
 
 use crate::Memory;
+use crate::orch_base::{Name, ServerNo};
 use crate::told::told as told_source;
 use crate::words::{login, print_lettered, print_named, print_own, print_source, print_spot};
 use operations::{Aim, Crossing, Op};
-use orch_base::{Name, ServerNo};
 
 /// The servers of a plan by their names and their letters, and the operations before the one that is told.
 #[derive(Clone, Copy)]

@@ -4,8 +4,8 @@ ghost use Rattle.std.specs.Prelude.{◌≡◌, IfOk};
 ghost use Rattle.plan_texts.specs.Takeovers.{all_led, led, shut, takeover_ops, yielded};
 
 use crate::Memory;
+use crate::orch_base::ServerNo;
 use operations::{Aim, Crossing, Op};
-use orch_base::ServerNo;
 use std::alloc::Global;
 
 // The master takes no more writes, and its replica comes to the end of its log.

@@ -3,8 +3,8 @@
 ghost use Rattle.std.specs.Prelude.{◌≡◌};
 ghost use Rattle.plan_texts.specs.Statements.{told, told_by};
 
+use crate::orch_base::ServerNo;
 use operations::Op;
-use orch_base::ServerNo;
 
 // That of a server, where the operation reads it and names one.
 fn told_by(op: &Op, no: ServerNo) -> Option<ServerNo>

@@ -6,9 +6,9 @@ ghost use Rattle.plan_texts.specs.Statements.{address_words, aim_words, login_wo
 
 use crate::Memory;
 use crate::letters::print_letter;
+use crate::orch_base::{Name, ServerNo};
 use itoa::Buffer;
 use operations::Aim;
-use orch_base::{Name, ServerNo};
 
 pub(crate) fn print_number(number: u128, out: &mut Vec<u8>) -> Result<(), Memory>
     ensures { OnOk result (out.new.items ≡ out.old.items ++ decimal number) }

@@ -1,14 +1,14 @@
 -- Which replicas may be promoted.
 use Rattle.std.specs.Prelude.{Bool, ◌&&◌, not, Option}
 use Rattle.std.specs.List.{list_any}
-use Rattle.orch_base.specs.declared.server.Moment.{Moment}
-use Rattle.orch_base.specs.declared.server.ServerNo.{ServerNo}
-use Rattle.commands.specs.declared.refusal.Refusal.{Refusal}
-use Rattle.commands.specs.declared.refusal.Refusal.TheVariants.{NoCandidate}
-use Rattle.instance_keeper.specs.Book.{BookState, rule_at}
-use Rattle.book_views.specs.Sources.{replicas_of}
+use Rattle.permission.specs.OrchBase.declared.server.Moment.{Moment}
+use Rattle.permission.specs.OrchBase.declared.server.ServerNo.{ServerNo}
+use Rattle.permission.specs.Commands.declared.refusal.Refusal.{Refusal}
+use Rattle.permission.specs.Commands.declared.refusal.Refusal.TheVariants.{NoCandidate}
+use Rattle.permission.specs.InstanceKeeper.Book.{BookState, rule_at}
+use Rattle.permission.specs.BookViews.Sources.{replicas_of}
 use Rattle.promotion_rules.specs.Choice.{is_barred}
-use Rattle.server_model.specs.Worlds.{World}
+use Rattle.permission.specs.ServerModel.Worlds.{World}
 use Rattle.permission.specs.Lists.{only_if}
 use Rattle.permission.specs.Views.{has_log, is_valid}
 

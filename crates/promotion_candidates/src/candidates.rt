@@ -2,16 +2,16 @@
 
 ghost use Rattle.std.specs.Prelude.{◌≡◌, IfOk};
 ghost use Rattle.std.specs.List.{list_any};
-ghost use Rattle.instance_keeper.specs.Book.{rule_at};
+ghost use Rattle.permission.specs.InstanceKeeper.Book.{rule_at};
 ghost use Rattle.promotion_rules.specs.Choice.{is_barred};
 ghost use Rattle.promotion_candidates.specs.Candidates.{is_candidate, without_candidate};
 
-use book_views::replicas;
-use commands::Refusal;
-use instance_keeper::Book;
-use orch_base::{Memory, Moment, Rule, ServerNo};
+use crate::book_views::replicas;
+use crate::commands::Refusal;
+use crate::instance_keeper_items::Book;
+use crate::orch_base::{Memory, Moment, Rule, ServerNo};
+use crate::server_model::World;
 use permission::{has_log, is_valid};
-use server_model::World;
 use std::alloc::Global;
 
 // A number that no server has has no registration.

@@ -4,5 +4,6 @@
 mod candidates;
 
 pub use candidates::{has_candidate, is_candidate, without_candidate};
+use permission::{book_views, commands, instance_keeper_items, orch_base, server_model};
 /// Want of memory.
-pub use orch_base::Memory;
+pub use permission::orch_base::Memory;

@@ -10,8 +10,8 @@ use Rattle.std.proofs.lemmas.List.Elements.{All-nil, All-cons, All-head, All-tai
 use Rattle.std.proofs.lemmas.Option.{same_Some}
 use Rattle.binlog_coords.specs.declared.Coord.{Coord}
 use Rattle.binlog_coords.specs.Log.{is_before}
-use Rattle.orch_base.specs.Names.{HostPort}
-use Rattle.orch_base.specs.declared.server.ServerNo.{ServerNo}
+use Rattle.binlog_coords.specs.OrchBase.Names.{HostPort}
+use Rattle.binlog_coords.specs.OrchBase.declared.server.ServerNo.{ServerNo}
 use Rattle.promotion_rules.specs.declared.drained.Drained.{Drained}
 use Rattle.promotion_rules.specs.Choice.{advance_order, coord_order, first_by, nearer_order}
 use Rattle.promotion_rules.specs.Chosen.{HasExecutedMost, IsChoice}

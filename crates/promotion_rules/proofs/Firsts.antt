@@ -1,4 +1,6 @@
 -- The first of a list by an order.
+use Rattle.std.proofs.lemmas.Bool.{and_left as both-false}
+use Rattle.std.proofs.lemmas.Bool.{not-true as not-false}
 use Rattle.std.proofs.Common.{◌≡◌, ℕ, ◌+◌, ◌<◌, Bool, true, false, cond, not, suc, ◌&&◌, List, [], ◌∷◌, ◌++◌, length, get_or, take, refl, sym, ◌∙◌, ap, subst, Option, Some, None, arith}
 use Rattle.std.specs.Prelude.{All, filter, find, Contains}
 use Rattle.std.specs.List.{list_all}
@@ -67,13 +69,6 @@ module _ {X : Type 0} (p : X → Bool) where
       go : (b : Bool) → p x ≡ b → cond b (Some x) (find p xs) ≡ Some y → (find p xs ≡ Some y → find q xs ≡ Some y) → cond (q x) (Some x) (find q xs) ≡ Some y
       go true f g rest = ap (λ b. cond b (Some x) (find q xs)) (ap q (same_Some x y g) ∙ h) ∙ g
       go false f g rest = ap (λ b. cond b (Some x) (find q xs)) (stricter x f) ∙ rest g
-
-not-false : (b : Bool) → not b ≡ true → b ≡ false
-not-false true e = absurd (false≢true e)
-not-false false e = refl
-
-both-false : (a b : Bool) → a ≡ false → (a && b) ≡ false
-both-false a b e = ap (λ c. c && b) e
 
 Contains-there : {X : Type 0} (x : X) (xs : List X) (y : X) → Contains xs y → Contains (x ∷ xs) y
 Contains-there x xs y (k, within, at) = (suc k, omega (arith, within), at)

@@ -3,7 +3,7 @@ use Rattle.std.proofs.Common.{List}
 use Rattle.std.specs.Cmp.{IsTotalOrder}
 use Rattle.std.proofs.lemmas.Cmp.{back_total, nat_cmp_total, on_total, then_total}
 use Rattle.binlog_coords.specs.declared.Coord.{Coord}
-use Rattle.orch_base.specs.Names.{HostPort}
+use Rattle.binlog_coords.specs.OrchBase.Names.{HostPort}
 use Rattle.name_order.specs.NameOrder.{named}
 use Rattle.name_order.proofs.ByName.{order_total}
 use Rattle.promotion_rules.specs.declared.drained.Drained.{Drained}

@@ -4,10 +4,10 @@ use Rattle.std.specs.List.{list_all}
 use Rattle.std.specs.Ordering.{is_lt, nat_cmp, ordering_then}
 use Rattle.std.specs.declared.cmp.Ordering.{Ordering}
 use Rattle.binlog_coords.specs.declared.Coord.{Coord}
-use Rattle.orch_base.specs.Names.{HostPort}
-use Rattle.orch_base.specs.declared.rule.Rule.{Rule}
-use Rattle.orch_base.specs.declared.rule.Rule.TheVariants as rule
-use Rattle.orch_base.specs.declared.server.ServerNo.{ServerNo}
+use Rattle.binlog_coords.specs.OrchBase.Names.{HostPort}
+use Rattle.binlog_coords.specs.OrchBase.declared.rule.Rule.{Rule}
+use Rattle.binlog_coords.specs.OrchBase.declared.rule.Rule.TheVariants as rule
+use Rattle.binlog_coords.specs.OrchBase.declared.server.ServerNo.{ServerNo}
 use Rattle.name_order.specs.NameOrder.{named, order_of}
 use Rattle.promotion_rules.specs.declared.drained.Drained.{Drained}
 

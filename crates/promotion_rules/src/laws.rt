@@ -2,8 +2,8 @@
 
 ghost use Rattle.std.specs.Prelude.{◌≡◌, ◌<◌, ◌↔◌, All, List, None, Some, true, false};
 ghost use Rattle.std.specs.Cmp.{IsTotalOrder};
-ghost use Rattle.orch_base.specs.Names.{HostPort};
-ghost use Rattle.orch_base.specs.declared.server.ServerNo.{ServerNo as Number};
+ghost use Rattle.binlog_coords.specs.OrchBase.Names.{HostPort};
+ghost use Rattle.binlog_coords.specs.OrchBase.declared.server.ServerNo.{ServerNo as Number};
 ghost use Rattle.promotion_rules.specs.Choice.{advance_order, better, is_better, is_eligible, most_advanced, nearer_order, precedence, rank};
 ghost use Rattle.promotion_rules.specs.Chosen.{HasExecutedMost, IsChoice};
 ghost use Rattle.promotion_rules.specs.declared.drained.Drained.{Drained as ADrained};

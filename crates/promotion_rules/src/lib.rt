@@ -5,6 +5,7 @@ mod choice;
 mod drained;
 mod laws;
 
+use binlog_coords::orch_base;
 pub use choice::{better, most_advanced};
 pub use drained::Drained;
 pub use laws::{

@@ -1,19 +1,9 @@
 -- A command that isn't refused finds the servers free of which its job takes the leases.
 use Rattle.std.proofs.Common.{◌≡◌, ℕ, Option, None}
-use Rattle.orch_base.specs.declared.server.Moment.{Moment}
-use Rattle.orch_base.specs.declared.server.ServerNo.{ServerNo}
-use Rattle.commands.specs.declared.turn.Command.{Command}
-use Rattle.instance_keeper.specs.Book.{BookState}
-use Rattle.instance_keeper.specs.Leases.{first_busy}
-use Rattle.permission.specs.Checks.{busy, first_refusal}
-use Rattle.permission.specs.Lists.{first_about}
-use Rattle.permission.proofs.Free.{neither}
-use Rattle.permission.proofs.Rows.{about-free}
-use Rattle.server_model.specs.Worlds.{World}
-use Rattle.pseudo_match.specs.Commands.{pseudo_command}
-use Rattle.pseudo_match.specs.Permits.{case_of, leased_by, list_of, refusal_about, refusal_of, rest_refusal, row_of, row_refusal}
-use Rattle.pseudo_match.specs.declared.command.PseudoCommand.{PseudoCommand}
-use Rattle.pseudo_match.specs.declared.command.PseudoCommand.TheVariants as command
+use Rattle.pseudo_match.proofs.Prelude.{BookState, Command, Moment, PseudoCommand, ServerNo, World, about-free, busy, case_of, first_about}
+use Rattle.pseudo_match.proofs.Prelude.{first_busy, first_refusal, leased_by, list_of, neither, pseudo_command, refusal_about, refusal_of}
+use Rattle.pseudo_match.proofs.Prelude.{rest_refusal, row_of, row_refusal}
+use Rattle.pseudo_match.proofs.Prelude.command
 
 module _ (w : World) (b : BookState) (i : ServerNo) where
   checks-free : (c : PseudoCommand) (d : Option ServerNo) → first_refusal w b (case_of b c i d) (row_of c) ≡ None → first_about (busy b) (list_of b c i d) ≡ None

@@ -1,2 +1,3 @@
+mod Prelude
 pub mod Named
 pub mod Free

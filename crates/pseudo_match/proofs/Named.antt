@@ -1,26 +1,12 @@
 -- The operations of a plan, and the leases, are of the book's servers, where the command's instances are.
 use Rattle.std.proofs.Common.{◌≡◌, ℕ, ◌<◌, true, List, [], ◌∷◌, length, refl, Option, Some, None}
 use Rattle.std.specs.Prelude.{All, IsTrue}
-use Rattle.std.specs.Option.{option_to_list}
-use Rattle.std.proofs.lemmas.List.Elements.{All-append}
-use Rattle.orch_base.specs.declared.server.ServerNo.{ServerNo}
-use Rattle.commands.specs.declared.line.Line.TheVariants.{Follows}
-use Rattle.commands.specs.Turns.{is_within}
-use Rattle.commands.specs.declared.turn.Command.{Command}
-use Rattle.instance_keeper.specs.Book.{BookState, IsBook}
-use Rattle.book_views.specs.Sources.{replicas_of}
-use Rattle.operations.specs.Named.{are_named}
-use Rattle.permission.specs.Replicas.{replicas_but}
-use Rattle.permission.specs.Views.{source_above, source_of}
-use Rattle.permission.proofs.Rows.{about-is}
-use Rattle.permission.proofs.Within.{AllWithin, Within, above-within, but-within, cons-within, given-within, none-within, option-within, replicas-within, source-within}
-use Rattle.plan_parts.specs.Parts.{following, matching, matchings}
-use Rattle.plan_parts.proofs.Named.{finished-named, matching-named, matchings-named}
-use Rattle.pseudo_match.specs.Commands.{pseudo_command}
-use Rattle.pseudo_match.specs.Permits.{leased_by, list_of, sources_over}
-use Rattle.pseudo_match.specs.Plans.{moved, ops_of, plan_of, replicas_moved}
-use Rattle.pseudo_match.specs.declared.command.PseudoCommand.{PseudoCommand}
-use Rattle.pseudo_match.specs.declared.command.PseudoCommand.TheVariants as command
+use Rattle.pseudo_match.proofs.Prelude.{All-append, AllWithin, BookState, Command, Follows, IsBook, PseudoCommand, ServerNo, Within, about-is}
+use Rattle.pseudo_match.proofs.Prelude.{above-within, are_named, but-within, cons-within, finished-named, following, given-within, is_within}
+use Rattle.pseudo_match.proofs.Prelude.{leased_by, list_of, matching, matching-named, matchings, matchings-named, moved, none-within, ops_of}
+use Rattle.pseudo_match.proofs.Prelude.{option-within, option_to_list, plan_of, pseudo_command, replicas-within, replicas_but, replicas_moved}
+use Rattle.pseudo_match.proofs.Prelude.{replicas_of, source-within, source_above, source_of, sources_over}
+use Rattle.pseudo_match.proofs.Prelude.command
 
 module _ (b : BookState) (every : ℕ) where
   moved-named : (i : ServerNo) (d : Option ServerNo) → i.0 < length b.names → are_named (length b.names) (moved i every d) ≡ true

@@ -1,6 +1,6 @@
 -- The commands that take servers below another one where their logs match.
 use Rattle.std.specs.Prelude.{Bool, true, false, Option, Some, None}
-use Rattle.commands.specs.declared.name.CommandName.{CommandName}
+use Rattle.permission.specs.Commands.declared.name.CommandName.{CommandName}
 use Rattle.command_routes.specs.declared.kinds.MatchCommand.TheVariants as matching
 use Rattle.command_routes.specs.declared.kinds.Regrouping.TheVariants as regrouping
 use Rattle.command_routes.specs.declared.route.Planner.{Planner}

@@ -3,8 +3,8 @@
 ghost use Rattle.std.specs.Prelude.{◌≡◌};
 ghost use Rattle.pseudo_match.specs.Commands.{pseudo_command};
 
+use crate::commands::CommandName;
 use command_routes::{MatchCommand, Planner, Regrouping, Route};
-use commands::CommandName;
 
 /// A command that takes servers below another one where their logs match, or sets a server's replicas in order so
 /// (orchestrator's documentation, "Pseudo GTID").

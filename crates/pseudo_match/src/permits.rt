@@ -1,27 +1,27 @@
 //! What refuses the commands.
 
 ghost use Rattle.std.specs.Prelude.{◌≡◌, ◌<◌, All, IfOk, IsSome, IsTrue, length};
-ghost use Rattle.orch_base.specs.Gives.{Gives};
-ghost use Rattle.book_views.specs.Forests.{book_forest};
-ghost use Rattle.commands.specs.Turns.{is_within};
+ghost use Rattle.permission.specs.OrchBase.Gives.{Gives};
+ghost use Rattle.permission.specs.BookViews.Forests.{book_forest};
+ghost use Rattle.permission.specs.Commands.Turns.{is_within};
 ghost use Rattle.permission.specs.Checks.{permit_fault, permitted};
 ghost use Rattle.pseudo_match.specs.Commands.{pseudo_command};
 ghost use Rattle.pseudo_match.specs.Permits.{case_of, last_row_of, leased_by, own_refusal, refusal_about, refusal_of, row_of, sources_over};
 
+use crate::book_views::replicas;
 use crate::command::{PseudoCommand, pseudo_command};
+use crate::commands::{Command, Refusal};
+use crate::instance_keeper_items::Book;
+use crate::orch_base::{Moment, ServerNo};
+use crate::server_model::World;
+use crate::topology_tree::Forest;
 use crate::{Memory, PermitFault};
-use book_views::replicas;
-use commands::{Command, Refusal};
-use instance_keeper::Book;
-use orch_base::{Moment, ServerNo};
 use permission::{
     Check, Movers, answered, one_or_none, replicas_but, row_refusal, source, source_above,
     unknown_in,
 };
 use promotion_candidates::without_candidate;
-use server_model::World;
 use std::alloc::Global;
-use topology_tree::Forest;
 
 const MATCH: [Check; 8] = [
     Check::SameInstance,

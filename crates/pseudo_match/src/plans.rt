@@ -1,23 +1,23 @@
 //! The plans of the commands.
 
 ghost use Rattle.std.specs.Prelude.{◌≡◌, IfOk, IsTrue, length, true};
-ghost use Rattle.book_views.specs.Forests.{book_forest};
-ghost use Rattle.commands.specs.Turns.{is_within};
-ghost use Rattle.operations.specs.Named.{are_named};
+ghost use Rattle.permission.specs.BookViews.Forests.{book_forest};
+ghost use Rattle.permission.specs.Commands.Turns.{is_within};
+ghost use Rattle.permission.specs.Operations.Named.{are_named};
 ghost use Rattle.pseudo_match.specs.Commands.{has_plan, pseudo_command};
 ghost use Rattle.pseudo_match.specs.Plans.{moved, ops_of, plan_of, replicas_moved};
 
 use crate::Memory;
 use crate::command::{PseudoCommand, pseudo_command};
-use commands::Command;
-use instance_keeper::Book;
-use operations::Op;
-use orch_base::ServerNo;
+use crate::commands::Command;
+use crate::instance_keeper_items::Book;
+use crate::operations_items::Op;
+use crate::orch_base::ServerNo;
+use crate::server_model::World;
+use crate::topology_tree::Forest;
 use permission::{replicas_but, source_above};
 use plan_parts::{matching, matchings, moved_each};
-use server_model::World;
 use std::alloc::Global;
-use topology_tree::Forest;
 
 // Below another server.
 fn moved(alloc: Global, i: ServerNo, every: u64, d: Option<ServerNo>) -> Result<Vec<Op>, Memory>

@@ -1,11 +1,11 @@
 //! Commands with what they are given.
 
-use commands::{CommandName, CommandTurn, Found};
-use orch_base::{Name, OwnedText, Rule, ServerNo};
+use crate::commands::{CommandName, CommandTurn, Found};
+use crate::orch_base::{Name, OwnedText, Rule, ServerNo};
+use crate::scenario_servers::Names;
+use crate::scenario_turns::{Patterns, command_in, found, printed_names};
+use crate::scenario_values::{ReadFault, items_in};
 use scenario_json::{Arena, Value};
-use scenario_servers::Names;
-use scenario_turns::{Patterns, command_in, found, printed_names};
-use scenario_values::{ReadFault, items_in};
 use std::alloc::Global;
 
 const SERVERS: &str = r#"[{"name":"db-a"},{"name":"db-b:3307"},{"name":7}]"#;

@@ -13,3 +13,8 @@ mod values;
 mod walk;
 #[cfg(test)]
 mod words;
+
+use scenario_reader::{
+    binlog_coords_items, commands, openings, orch_base, scenario_openings, scenario_servers,
+    scenario_turns, scenario_values, scenarios_items,
+};

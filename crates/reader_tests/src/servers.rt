@@ -1,15 +1,15 @@
 //! What servers are given, and what they are at the opening.
 
 ghost use Rattle.std.specs.Prelude.{IsTrue};
-ghost use Rattle.scenario_servers.specs.Openings.{IsGiven};
+ghost use Rattle.scenario_reader.specs.ScenarioServers.Openings.{IsGiven};
 
+use crate::openings::ServerInit;
+use crate::orch_base::{Rule, ServerNo, Version};
+use crate::scenario_openings::opening_in;
+use crate::scenario_servers::{Given, inits_of, known_of, rules_of, servers_in};
+use crate::scenario_values::{FaultCode, ReadFault};
 use made_openings::{are_apart, are_servers};
-use openings::ServerInit;
-use orch_base::{Rule, ServerNo, Version};
 use scenario_json::{Arena, Value};
-use scenario_openings::opening_in;
-use scenario_servers::{Given, inits_of, known_of, rules_of, servers_in};
-use scenario_values::{FaultCode, ReadFault};
 use std::alloc::Global;
 
 const TWO: &str =

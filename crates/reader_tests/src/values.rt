@@ -1,12 +1,12 @@
 //! Single values, and the paths of their faults.
 
-use binlog_coords::Coord;
-use orch_base::Version;
-use scenario_json::{Arena, Value};
-use scenario_values::{
+use crate::binlog_coords_items::Coord;
+use crate::orch_base::Version;
+use crate::scenario_values::{
     FaultCode, ReadFault, coord_in, fails, items_in, label_in, name_in, number_in, short_in,
     text_within, under, uuid_in, version_in,
 };
+use scenario_json::{Arena, Value};
 use std::alloc::Global;
 
 const VALUES: &str =

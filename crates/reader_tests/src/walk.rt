@@ -1,10 +1,10 @@
 //! Whole scenarios, and texts of the greatest length.
 
-use openings::ServerInit;
-use orch_base::{Memory, Rule};
+use crate::openings::ServerInit;
+use crate::orch_base::{Memory, Rule};
+use crate::scenario_values::{FaultCode, ReadFault};
+use crate::scenarios_items::Scenario;
 use scenario_reader::read;
-use scenario_values::{FaultCode, ReadFault};
-use scenarios::Scenario;
 use std::alloc::Global;
 
 // A code, where the text of so many spaces has a fault.

@@ -1,7 +1,7 @@
 //! The values of options that no run shows yet.
 
+use crate::orch_base::{Memory, Name, OwnedText, Rule};
 use command_line::{Places, Usage, places};
-use orch_base::{Memory, Name, OwnedText, Rule};
 use std::alloc::Global;
 
 fn words_of(alloc: Global, texts: &[&str]) -> Result<Vec<Vec<u8>>, Memory> {

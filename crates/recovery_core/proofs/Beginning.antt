@@ -1,42 +1,20 @@
 -- What isn't refused can begin.
 use Rattle.std.proofs.Common.{◌≡◌, ℕ, ◌+◌, ◌<◌, ◌≤◌, ◌∙◌, ◌&&◌, ◌||◌, Bool, true, false, cond, not, List, [], ◌∷◌, length, map, refl, sym, ap, subst, zero-add, Option, Some, None, Ok, arith}
 use Rattle.std.specs.Prelude.{◌==◌, IfSome, filter, slice_index_or}
-use Rattle.std.specs.List.{list_any, range_with_len}
-use Rattle.std.proofs.lemmas.Bool.{eqb-true, eq-eqb, false≢true}
-use Rattle.std.proofs.lemmas.List.Folds.{list_any_at}
-use Rattle.std.proofs.lemmas.List.FromFn.{get_or-range_with_len, length-range_with_len}
-use Rattle.std.proofs.lemmas.List.Sorted.{list_any-IsPermutation}
-use Rattle.orch_base.specs.Names.{HostPort}
-use Rattle.orch_base.specs.declared.code.Code.{Code}
-use Rattle.orch_base.specs.declared.server.ServerNo.{ServerNo}
-use Rattle.orch_base.specs.declared.server.SourceState.{SourceState}
-use Rattle.orch_base.specs.declared.server.SourceState.TheVariants.{Without, Attached, Detached}
-use Rattle.commands.specs.declared.refusal.Refusal.{Refusal}
-use Rattle.commands.specs.declared.refusal.Refusal.TheVariants.{NotReplica, UnknownInstance}
-use Rattle.name_order.specs.NameOrder.{by_name}
-use Rattle.name_order.proofs.ByName.{IsOrder-by_name, length-by_name}
-use Rattle.instance_keeper.specs.Book.{BookState, IsBook, instance_at}
-use Rattle.instance_keeper.specs.Leases.{busy_by, first_busy}
-use Rattle.instance_keeper.specs.declared.lease.LeaseFault.TheVariants as fault
-use Rattle.book_views.specs.Sources.{is_attached_to, is_instance, is_replica_of, replicas_of, seen_source}
-use Rattle.audit_log.specs.Audits.{AuditState, longest_block}
-use Rattle.permission.specs.Checks.{busy, first_refusal, is_given}
-use Rattle.permission.specs.Lists.{first_about, first_of, only_if}
-use Rattle.permission.specs.Views.{attached_in, attached_of, source_of}
-use Rattle.permission.proofs.Free.{free-list, neither}
-use Rattle.permission.proofs.Within.{replicas-within, source-within}
-use Rattle.recovery_plans.specs.declared.means.Means.TheVariants as means
-use Rattle.recovery_plans.specs.declared.purpose.Purpose.TheVariants as purpose
-use Rattle.recovery_plans.specs.Named.{IsListOf}
-use Rattle.recovery_plans.proofs.Begun.{begun-of}
-use Rattle.recovery_permits.specs.declared.attempt.Attempt.{Attempt}
-use Rattle.recovery_permits.specs.Checks.{code_at, held_back, no_master, no_replica}
-use Rattle.recovery_permits.specs.Recoveries.{purpose_by, recovery_list, recovery_purpose, recovery_refusal, refusal_by}
-use Rattle.recovery_permits.specs.Takeovers.{case_of, followers_of, row, takeover_refusal}
-use Rattle.recovery_core.specs.Begun.{CanBegin, IsListed}
-use Rattle.recovery_core.specs.Tries.{Begins, recovery_begins, recovery_try, takeover_begins, takeover_try, unless_refused}
+use Rattle.recovery_core.proofs.Prelude.{Attached, Attempt, AuditState, Begins, BookState, CanBegin, Code, Detached, HostPort, IsBook, IsListed}
+use Rattle.recovery_core.proofs.Prelude.{IsListOf, IsOrder-by_name, NotReplica, Refusal, ServerNo, SourceState, UnknownInstance, Without, World}
+use Rattle.recovery_core.proofs.Prelude.{attached_in, attached_of, begun-of, busy, by_name, case_of, code_at, eq-eqb, eqb-true, false≢true}
+use Rattle.recovery_core.proofs.Prelude.{first_about, first_busy, first_of, first_refusal, followers_of, free-list, get_or-range_with_len, held_back}
+use Rattle.recovery_core.proofs.Prelude.{instance_at, is_attached_to, is_given, is_instance, is_replica_of, length-by_name, length-range_with_len}
+use Rattle.recovery_core.proofs.Prelude.{list_any, list_any-IsPermutation, list_any_at, longest_block, neither, no_master, no_replica, only_if}
+use Rattle.recovery_core.proofs.Prelude.{purpose_by, range_with_len, recovery_begins, recovery_list, recovery_purpose, recovery_refusal, recovery_try}
+use Rattle.recovery_core.proofs.Prelude.{refusal_by, replicas-within, replicas_of, row, seen_source, source-within, source_of, takeover_begins}
+use Rattle.recovery_core.proofs.Prelude.{takeover_refusal, takeover_try, unless_refused}
+use Rattle.recovery_core.proofs.Prelude.Leases.{busy_by}
+use Rattle.recovery_core.proofs.Prelude.fault
+use Rattle.recovery_core.proofs.Prelude.means
+use Rattle.recovery_core.proofs.Prelude.purpose
 use Rattle.recovery_core.proofs.Trying.{list-within, recovery-may, takeover-may}
-use Rattle.server_model.specs.Worlds.{World}
 
 -- ---- what isn't refused
 
@@ -128,11 +106,7 @@ designated-listed b i d within h =
 
 last-of-five : (x1 x2 x3 x4 x5 : Option Refusal) → first_of (x1 ∷ x2 ∷ x3 ∷ x4 ∷ x5 ∷ []) ≡ None → x5 ≡ None
 last-of-five None None None None None h = refl
-last-of-five None None None None (Some r) h = cc
-last-of-five None None None (Some r) x5 h = cc
-last-of-five None None (Some r) x4 x5 h = cc
-last-of-five None (Some r) x3 x4 x5 h = cc
-last-of-five (Some r) x2 x3 x4 x5 h = cc
+last-of-five _ _ _ _ _ h = cc
 
 attached-then : (w : World) (b : BookState) (audit : AuditState) (a : Attempt) (i d : ServerNo) → takeover_refusal w b audit a i d ≡ None → no_replica b i d ≡ None
 attached-then w b audit a i d h =

@@ -1,21 +1,10 @@
 -- The ends of entries.
 use Rattle.std.proofs.Common.{◌≡◌, ℕ, ◌∙◌, true, false, refl, sym, ap, Option, Some, None}
-use Rattle.std.proofs.lemmas.Bool.{false≢true}
-use Rattle.std.proofs.lemmas.Option.{same_Some}
-use Rattle.orch_base.specs.declared.recovery.Ending.{Ending}
-use Rattle.orch_base.specs.declared.recovery.Ending.TheVariants as ending
-use Rattle.orch_base.specs.declared.server.Moment.{Moment}
-use Rattle.orch_base.specs.declared.server.ServerNo.{ServerNo}
-use Rattle.audit_log.specs.Apart.{IsApart}
-use Rattle.audit_log.specs.Audits.{AuditState, ended, is_open}
-use Rattle.audit_log.proofs.Parting.{ended-apart}
-use Rattle.commands.specs.Causes.{cause_name}
-use Rattle.operations.specs.declared.step.JobStep.{JobStep}
-use Rattle.operations.specs.declared.step.JobStep.TheVariants as step
-use Rattle.operations.specs.Turns.{is_going}
-use Rattle.recovery_plans.specs.Beginning.{is_takeover}
-use Rattle.recovery_plans.specs.Recoveries.{Recovery}
-use Rattle.recovery_core.specs.Endings.{done_with, ending_of, is_acknowledged}
+use Rattle.recovery_core.proofs.Prelude.{AuditState, Ending, IsApart, JobStep, Moment, ServerNo, cause_name, done_with, ended, ended-apart, ending_of}
+use Rattle.recovery_core.proofs.Prelude.{false≢true, is_acknowledged, is_going, is_open, is_takeover, same_Some}
+use Rattle.recovery_core.proofs.Prelude.Recoveries.{Recovery}
+use Rattle.recovery_core.proofs.Prelude.ending
+use Rattle.recovery_core.proofs.Prelude.step
 
 done-closed : (o : Option ServerNo) → is_open (done_with o) ≡ false
 done-closed None = refl

@@ -1,25 +1,12 @@
 -- Each entry of an analysis is that of its server.
 use Rattle.std.proofs.Common.{◌≡◌, ℕ, ◌<◌, Bool, false, List, [], ◌∷◌, length, map, refl, sym, ◌∙◌, ap, subst, Option, Some, None, Result, Ok, Err, Vec, Global, arith, zero-add}
 use Rattle.std.specs.Prelude.{◌==◌, All, Contains, IfOk, filter, filter_map, find}
-use Rattle.std.specs.declared.alloc.AllocError.{AllocError}
-use Rattle.std.specs.List.{cons_option, range_with_len}
-use Rattle.std.specs.Option.{option_map}
-use Rattle.std.proofs.lemmas.Bool.{eq-eqb, eqb-true, false≢true}
-use Rattle.std.proofs.lemmas.List.FromFn.{get_or-range_with_len, length-range_with_len}
-use Rattle.std.proofs.lemmas.List.Elements.{All-cons, All-contains, All-filter, All-head, All-map, All-nil, All-tail, Contains-get_or}
-use Rattle.std.proofs.lemmas.List.Sorted.{Contains-permutation}
-use Rattle.orch_base.specs.declared.server.ServerNo.{ServerNo}
-use Rattle.name_order.specs.NameOrder.{by_name}
-use Rattle.name_order.proofs.Arranged.{by_name-within}
-use Rattle.name_order.proofs.ByName.{IsOrder-by_name, length-by_name}
-use Rattle.instance_keeper.specs.Book.{BookState, instance_at}
-use Rattle.kept_rows.specs.declared.observation.Instance.{Instance}
-use Rattle.audit_log.proofs.Finding.{All-found, found-passes, none-passes}
-use Rattle.failure_analysis.specs.Analysis.{analysis, entry_at, entry_of}
-use Rattle.failure_analysis.specs.Table.{action_of}
-use Rattle.failure_analysis.specs.declared.entry.Entry.{Entry}
-use Rattle.recovery_permits.specs.Checks.{code_at}
-use Rattle.recovery_core.specs.Scans.{actionable_in, is_asked, IsEntryIn}
+use Rattle.recovery_core.proofs.Prelude.{All-cons, All-contains, All-filter, All-found, All-head, All-map, All-nil, All-tail, AllocError, BookState}
+use Rattle.recovery_core.proofs.Prelude.{Contains-get_or, Contains-permutation, Entry, Instance, IsEntryIn, IsOrder-by_name, ServerNo, action_of}
+use Rattle.recovery_core.proofs.Prelude.{actionable_in, analysis, by_name, by_name-within, code_at, cons_option, entry_at, eq-eqb, eqb-true}
+use Rattle.recovery_core.proofs.Prelude.{false≢true, found-passes, get_or-range_with_len, instance_at, is_asked, length-by_name}
+use Rattle.recovery_core.proofs.Prelude.{length-range_with_len, none-passes, option_map, range_with_len}
+use Rattle.recovery_core.proofs.Prelude.Analysis.{entry_of}
 
 module _ (b : BookState) where
   -- an entry stands for its server

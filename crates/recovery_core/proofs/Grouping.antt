@@ -1,15 +1,9 @@
 -- The replicas of each server are grouped one after another.
 use Rattle.std.proofs.Common.{◌≡◌, ℕ, ◌+◌, ◌<◌, Bool, true, false, cond, List, [], ◌∷◌, ◌++◌, length, get_or, set, take, refl, sym, ◌∙◌, ap, arith}
 use Rattle.std.specs.Prelude.{◌==◌, filter, replicate, slice_index_or}
-use Rattle.std.proofs.lemmas.Bool.{eqb-true, eq-eqb, false≢true}
-use Rattle.std.proofs.lemmas.List.{append-nil, get_or-replicate, get_or-set_same, get_or-set_other, length-set, length-replicate}
-use Rattle.std.proofs.lemmas.List.Elements.{filter_more}
-use Rattle.orch_base.specs.declared.server.ServerNo.{ServerNo}
-use Rattle.orch_base.specs.declared.server.SourceState.{SourceState}
-use Rattle.orch_base.specs.declared.server.SourceState.TheVariants.{Without, Attached, Detached}
-use Rattle.instance_keeper.specs.Book.{BookState, instance_at}
-use Rattle.book_views.specs.Sources.{is_attached_to, is_replica_of, seen_source}
-use Rattle.recovery_core.specs.Groups.{joined}
+use Rattle.recovery_core.proofs.Prelude.{Attached, BookState, Detached, ServerNo, SourceState, Without, append-nil, eq-eqb, eqb-true, false≢true}
+use Rattle.recovery_core.proofs.Prelude.{filter_more, get_or-replicate, get_or-set_other, get_or-set_same, instance_at, is_attached_to, is_replica_of}
+use Rattle.recovery_core.proofs.Prelude.{joined, length-replicate, length-set, seen_source}
 
 pub length-joined : (groups : List (List ServerNo)) (s : SourceState) (n : ServerNo) → length (joined groups s n) ≡ length groups
 length-joined groups Without n = refl

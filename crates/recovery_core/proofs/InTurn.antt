@@ -1,29 +1,14 @@
 -- What a scan begins, one after another.
 use Rattle.std.proofs.Common.{◌≡◌, ℕ, ◌+◌, ◌≤◌, ◌∙◌, false, cond, List, [], ◌∷◌, ◌++◌, length, append_assoc, refl, sym, ap, subst, Option, Some, None, arith}
 use Rattle.std.specs.Prelude.{All, filter}
-use Rattle.std.proofs.lemmas.List.{append-nil}
-use Rattle.std.proofs.lemmas.List.Elements.{All-cons, All-head, All-nil, All-tail}
-use Rattle.orch_base.specs.declared.server.Moment.{Moment}
-use Rattle.orch_base.specs.declared.server.ServerNo.{ServerNo}
-use Rattle.commands.specs.declared.refusal.Refusal.{Refusal}
-use Rattle.instance_keeper.specs.Book.{BookState, IsBook}
-use Rattle.book_views.specs.Sources.{label_at}
-use Rattle.audit_log.specs.Apart.{IsApart}
-use Rattle.audit_log.specs.Audits.{AuditState, begun, longest_block}
-use Rattle.audit_log.proofs.Parting.{begun-apart}
-use Rattle.failure_analysis.specs.Analysis.{analysis}
-use Rattle.failure_analysis.specs.Table.{action_of}
-use Rattle.failure_analysis.specs.declared.code.Action.{Action}
-use Rattle.failure_analysis.specs.declared.code.Action.TheVariants.{Nothing}
-use Rattle.failure_analysis.specs.declared.entry.Entry.{Entry}
-use Rattle.recovery_permits.specs.declared.attempt.Attempt.{Attempt}
-use Rattle.recovery_core.specs.Begun.{audit_after, leases_after, BeginInTurn}
-use Rattle.recovery_core.specs.Scans.{Staged, actionable_in, after_try, from_start, is_asked, scan_step, scanned, scanned_over, staged_refusal, IsEntryIn}
-use Rattle.recovery_core.specs.Tries.{Begins, recovery_begins, unless_refused}
+use Rattle.recovery_core.proofs.Prelude.{Action, All-cons, All-head, All-nil, All-tail, Attempt, AuditState, BeginInTurn, Begins, BookState, Entry}
+use Rattle.recovery_core.proofs.Prelude.{IsApart, IsBook, IsEntryIn, Moment, Nothing, Refusal, ServerNo, Staged, World, action_of, actionable_in}
+use Rattle.recovery_core.proofs.Prelude.{after_try, analysis, append-nil, audit_after, begun, begun-apart, from_start, is_asked, label_at}
+use Rattle.recovery_core.proofs.Prelude.{leases_after, longest_block, recovery_begins, scan_step, scanned, scanned_over, staged_refusal}
+use Rattle.recovery_core.proofs.Prelude.{unless_refused}
 use Rattle.recovery_core.proofs.Beginning.{recovery-begins}
 use Rattle.recovery_core.proofs.Entries.{actionable-entries}
 use Rattle.recovery_core.proofs.Steps.{length-taken}
-use Rattle.server_model.specs.Worlds.{World}
 
 -- what begins where this refuses it
 abbrev begun_by : Option Refusal → Begins → List Begins

@@ -1,3 +1,4 @@
+mod Prelude
 pub mod Entries
 pub mod Grouping
 pub mod Trying

@@ -1,19 +1,9 @@
 -- What a scan keeps from one try to the next.
 use Rattle.std.proofs.Common.{◌≡◌, ℕ, ◌+◌, ◌<◌, ◌≤◌, ◌∙◌, List, [], ◌∷◌, length, get_or, take, refl, sym, subst, Option, Some, None}
 use Rattle.std.specs.Prelude.{slice_set}
-use Rattle.std.proofs.lemmas.List.{length-set}
-use Rattle.std.proofs.lemmas.List.Elements.{All-push}
-use Rattle.std.proofs.lemmas.List.Sums.{fold_more}
-use Rattle.orch_base.specs.declared.server.ServerNo.{ServerNo}
-use Rattle.commands.specs.declared.refusal.Refusal.{Refusal}
-use Rattle.instance_keeper.specs.Book.{BookState}
-use Rattle.instance_keeper.specs.Leases.{taken}
-use Rattle.kept_rows.specs.declared.recovery.Recovery.{Recovery as KeptRecovery}
-use Rattle.failure_analysis.specs.declared.entry.Entry.{Entry}
-use Rattle.recovery_permits.specs.declared.attempt.Attempt.{Attempt}
-use Rattle.recovery_core.specs.Scans.{Staged, after_try, scan_step, scanned_over, staged_refusal, staged_try, IsReady}
-use Rattle.recovery_core.specs.Tries.{Begins, recovery_begins, unless_refused}
-use Rattle.server_model.specs.Worlds.{World}
+use Rattle.recovery_core.proofs.Prelude.{All-push, Attempt, Begins, BookState, Entry, IsReady, Recovery as KeptRecovery, Refusal, ServerNo, Staged}
+use Rattle.recovery_core.proofs.Prelude.{World, after_try, fold_more, length-set, recovery_begins, scan_step, scanned_over, staged_refusal}
+use Rattle.recovery_core.proofs.Prelude.{staged_try, taken, unless_refused}
 
 pub length-taken : (leases : List (Option ℕ)) (list : List ServerNo) (job : ℕ) → length (taken leases list job) ≡ length leases
 length-taken leases [] job = refl

@@ -1,37 +1,14 @@
 -- What refuses a try, and what may begin where nothing does.
+pub use Rattle.std.proofs.lemmas.Result.{on_ok_weaker as on-ok}
 use Rattle.std.proofs.Common.{◌≡◌, ℕ, ◌<◌, ◌≤◌, Bool, List, length, refl, sym, ◌∙◌, ap, subst, Option, Some, None, Result, Ok, Err}
-use Rattle.std.specs.Prelude.{All, OnOk, slice_index_or}
-use Rattle.std.specs.Option.{option_or}
-use Rattle.std.proofs.lemmas.List.Elements.{All-push}
-use Rattle.orch_base.specs.Gives.{Gives}
-use Rattle.orch_base.specs.declared.code.Code.{Code}
-use Rattle.orch_base.specs.declared.recovery.Kind.{Kind}
-use Rattle.orch_base.specs.declared.server.ServerNo.{ServerNo}
-use Rattle.kept_rows.specs.declared.recovery.Recovery.{Recovery as KeptRecovery}
-use Rattle.commands.specs.declared.refusal.Refusal.{Refusal}
-use Rattle.instance_keeper.specs.Book.{BookState}
-use Rattle.book_views.specs.Sources.{label_at, replicas_of}
-use Rattle.audit_log.specs.Apart.{MayBegin}
-use Rattle.audit_log.specs.Audits.{AuditState, longest_block, may_begin}
-use Rattle.audit_log.specs.declared.held.Held.{Held}
-use Rattle.audit_log.proofs.Parting.{apart-begins}
-use Rattle.failure_analysis.specs.Table.{action_of}
-use Rattle.failure_analysis.specs.declared.code.Action.{Action}
-use Rattle.failure_analysis.specs.declared.code.Action.TheVariants as action
-use Rattle.failure_analysis.specs.declared.entry.Entry.{Entry}
-use Rattle.permission.specs.Checks.{busy_by, permit_fault, permitted}
-use Rattle.permission.specs.Lists.{first_about}
-use Rattle.permission.specs.declared.row.PermitFault.{PermitFault}
-use Rattle.permission.specs.declared.row.PermitFault.TheVariants as fault
-use Rattle.permission.proofs.Free.{neither}
-use Rattle.permission.proofs.Within.{cons-within, replicas-within}
-use Rattle.recovery_permits.specs.declared.attempt.Attempt.{Attempt}
-use Rattle.recovery_permits.specs.Checks.{code_at, held_back, held_by}
-use Rattle.recovery_permits.specs.Recoveries.{held_off, recovery_list, recovery_refusal, refusal_by, refusal_for, unasked}
-use Rattle.recovery_permits.specs.Takeovers.{takeover_refusal}
-use Rattle.recovery_core.specs.Scans.{HasRoom, Staged, after_try}
-use Rattle.recovery_core.specs.Tries.{Begins, entry_of, unless_refused}
-use Rattle.server_model.specs.Worlds.{World}
+use Rattle.std.specs.Prelude.{All, slice_index_or}
+use Rattle.recovery_core.proofs.Prelude.{Action, All-push, Attempt, AuditState, Begins, BookState, Code, Entry, Gives, HasRoom, Held, Kind, MayBegin}
+use Rattle.recovery_core.proofs.Prelude.{PermitFault, Recovery as KeptRecovery, Refusal, ServerNo, Staged, World, action_of, after_try, apart-begins}
+use Rattle.recovery_core.proofs.Prelude.{busy_by, code_at, cons-within, entry_of, first_about, held_back, held_by, held_off, label_at, longest_block}
+use Rattle.recovery_core.proofs.Prelude.{may_begin, neither, option_or, permit_fault, permitted, recovery_list, recovery_refusal, refusal_by}
+use Rattle.recovery_core.proofs.Prelude.{refusal_for, replicas-within, replicas_of, takeover_refusal, unasked, unless_refused}
+use Rattle.recovery_core.proofs.Prelude.action
+use Rattle.recovery_core.proofs.Prelude.permitfault as fault
 
 -- a permit that is refused, or wants memory, is a try that is or does
 pub refused-try : (o : Option Refusal) (x : Begins) (e : PermitFault) → Gives {X = Unit {0}} {Y = Unit {0}} (λ _. tt) permit_fault (Err e) (permitted o)
@@ -100,10 +77,6 @@ module _ (b : BookState) (audit : AuditState) (a : Attempt) (f : ServerNo) where
 
 pub list-within : (b : BookState) (f : ServerNo) → f.0 < length b.names → All (λ (n : ServerNo). n.0 < length b.names) (recovery_list b f)
 list-within b f within = cons-within b f (replicas_of b f) within (replicas-within b f)
-
-pub on-ok : {A E P Q : Type 0} (r : Result A E) → (P → Q) → OnOk r P → OnOk r Q
-on-ok (Ok x) f h = f h
-on-ok (Err e) f h = tt
 
 pub room-kept : (old new : Staged) (e : Entry) (x : Begins) → x.entry.id < 18446744073709551615 → new ≡ after_try old e (Ok x) → HasRoom old.begun → HasRoom new.begun
 room-kept old new e x small is room =

@@ -1,14 +1,7 @@
 -- Recoveries that begin one after another.
 use Rattle.std.specs.Prelude.{◌≡◌, ℕ, ◌+◌, ◌<◌, ◌==◌, true, All, List, [], ◌∷◌, fold, slice_index_or, Option, None}
-use Rattle.std.specs.List.{list_any}
-use Rattle.orch_base.specs.declared.recovery.Ending.TheVariants.{Unended}
-use Rattle.orch_base.specs.declared.server.ServerNo.{ServerNo}
-use Rattle.instance_keeper.specs.Leases.{first_busy, taken}
-use Rattle.audit_log.specs.Apart.{MayBegin}
-use Rattle.audit_log.specs.Audits.{AuditState, begun}
-use Rattle.recovery_plans.specs.Beginning.{begun_recovery}
-use Rattle.recovery_plans.specs.Named.{IsListOf, IsNamedRecovery}
-use Rattle.recovery_plans.specs.Recoveries.{Recovery}
+use Rattle.recovery_core.specs.Prelude.{AuditState, IsListOf, IsNamedRecovery, MayBegin, Recovery, ServerNo, Unended, begun, begun_recovery}
+use Rattle.recovery_core.specs.Prelude.{first_busy, list_any, taken}
 use Rattle.recovery_core.specs.Tries.{Begins}
 
 abbrev pub IsListed : List ServerNo → ℕ → Type 0

@@ -1,15 +1,9 @@
 -- How a recovery's entry in the audit ends.
 use Rattle.std.specs.Prelude.{Bool, false, Option, None, Some}
-use Rattle.orch_base.specs.declared.recovery.CauseName.TheVariants as named
-use Rattle.orch_base.specs.declared.recovery.Ending.{Ending}
-use Rattle.orch_base.specs.declared.recovery.Ending.TheVariants as ending
-use Rattle.orch_base.specs.declared.server.ServerNo.{ServerNo}
-use Rattle.commands.specs.Causes.{cause_name}
-use Rattle.operations.specs.declared.step.JobStep.{JobStep}
-use Rattle.operations.specs.declared.step.JobStep.TheVariants as step
-use Rattle.recovery_plans.specs.declared.purpose.Purpose.{Purpose}
-use Rattle.recovery_plans.specs.Beginning.{is_takeover}
-use Rattle.recovery_plans.specs.Recoveries.{Recovery}
+use Rattle.recovery_core.specs.Prelude.{Ending, JobStep, Purpose, Recovery, ServerNo, cause_name, is_takeover}
+use Rattle.recovery_core.specs.Prelude.ending
+use Rattle.recovery_core.specs.Prelude.named
+use Rattle.recovery_core.specs.Prelude.step
 
 -- by the promoted server: without one nothing could be chosen
 abbrev pub done_with : Option ServerNo → Ending

@@ -1,10 +1,6 @@
 -- The replicas of each server, by server number.
 use Rattle.std.specs.Prelude.{◌≡◌, ◌<◌, List, [], ◌∷◌, ◌++◌, length, slice_index_or, slice_set}
-use Rattle.orch_base.specs.declared.server.ServerNo.{ServerNo}
-use Rattle.orch_base.specs.declared.server.SourceState.{SourceState}
-use Rattle.orch_base.specs.declared.server.SourceState.TheVariants.{Without, Attached, Detached}
-use Rattle.instance_keeper.specs.Book.{BookState}
-use Rattle.book_views.specs.Sources.{replicas_of}
+use Rattle.recovery_core.specs.Prelude.{Attached, BookState, Detached, ServerNo, SourceState, Without, replicas_of}
 
 -- these are the replicas of each server, in name order
 pub record AreGroups (b : BookState) (xs : List (List ServerNo)) : Type 0 where

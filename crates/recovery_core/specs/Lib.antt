@@ -1,3 +1,4 @@
+pub mod Prelude
 pub mod Tries
 pub mod Groups
 pub mod Scans

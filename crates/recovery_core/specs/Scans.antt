@@ -1,24 +1,10 @@
 -- A scan: each instance whose analysis asks for a recovery is tried, in name order, on what the tries before it left.
 use Rattle.std.specs.Prelude.{◌≡◌, ◌<◌, ◌≤◌, ◌^◌, ◌-◌, ℕ, ◌+◌, All, length, Some, Bool, true, false, List, [], ◌∷◌, ◌++◌, filter, fold, slice_index_or, Option, Result, Ok, Err}
-use Rattle.orch_base.specs.declared.server.ServerNo.{ServerNo}
-use Rattle.commands.specs.declared.line.Line.{Line}
-use Rattle.commands.specs.declared.line.Line.TheVariants as line
-use Rattle.commands.specs.declared.refusal.Refusal.{Refusal}
-use Rattle.instance_keeper.specs.Book.{BookState}
-use Rattle.book_views.specs.Sources.{label_at}
-use Rattle.instance_keeper.specs.Leases.{taken}
-use Rattle.failure_analysis.specs.Analysis.{analysis}
-use Rattle.failure_analysis.specs.Table.{action_of}
-use Rattle.failure_analysis.specs.declared.code.Action.{Action}
-use Rattle.failure_analysis.specs.declared.code.Action.TheVariants.{MasterRecovery, IntermediateRecovery, Nothing}
-use Rattle.failure_analysis.specs.declared.entry.Entry.{Entry}
-use Rattle.audit_log.specs.Audits.{AuditState, begun}
-use Rattle.recovery_permits.specs.declared.attempt.Attempt.{Attempt}
-use Rattle.recovery_permits.specs.Checks.{code_at}
-use Rattle.recovery_permits.specs.Recoveries.{recovery_refusal}
+use Rattle.recovery_core.specs.Prelude.{Action, Attempt, AuditState, BookState, Entry, IntermediateRecovery, Line, MasterRecovery, Nothing, Refusal}
+use Rattle.recovery_core.specs.Prelude.{ServerNo, World, action_of, analysis, begun, code_at, label_at, recovery_refusal, taken}
+use Rattle.recovery_core.specs.Prelude.line
 use Rattle.recovery_core.specs.declared.scanning.Terms.{Terms}
 use Rattle.recovery_core.specs.Tries.{Begins, recovery_try}
-use Rattle.server_model.specs.Worlds.{World}
 
 abbrev pub is_asked : Action → Bool
 is_asked MasterRecovery = true

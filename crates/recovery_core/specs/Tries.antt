@@ -1,28 +1,13 @@
 -- Recoveries and takeovers that are tried.
 use Rattle.std.specs.Prelude.{ℕ, false, List, Option, None, Some, Result, Ok, Err}
-use Rattle.orch_base.specs.declared.code.Code.{Code}
-use Rattle.orch_base.specs.declared.recovery.Ending.TheVariants as ending
-use Rattle.orch_base.specs.declared.recovery.Kind.{Kind}
-use Rattle.orch_base.specs.declared.recovery.Kind.TheVariants as kind
-use Rattle.orch_base.specs.declared.server.Moment.{Moment}
-use Rattle.orch_base.specs.declared.server.ServerNo.{ServerNo}
-use Rattle.commands.specs.declared.refusal.Refusal.{Refusal}
-use Rattle.commands.specs.declared.refusal.Refusal.TheVariants.{UnknownInstance}
-use Rattle.instance_keeper.specs.Book.{BookState}
-use Rattle.kept_rows.specs.declared.recovery.Recovery.{Recovery as KeptRecovery}
-use Rattle.book_views.specs.Sources.{label_at, replicas_of}
-use Rattle.audit_log.specs.Audits.{AuditState}
-use Rattle.permission.specs.Views.{source_of}
-use Rattle.recovery_plans.specs.Beginning.{begun_recovery}
-use Rattle.recovery_plans.specs.Recoveries.{Recovery}
-use Rattle.recovery_plans.specs.declared.means.Means.TheVariants as means
-use Rattle.recovery_plans.specs.declared.purpose.Purpose.TheVariants as purpose
-use Rattle.recovery_hooks.specs.Runs.{HookState}
-use Rattle.recovery_permits.specs.declared.attempt.Attempt.{Attempt}
-use Rattle.recovery_permits.specs.Checks.{code_at}
-use Rattle.recovery_permits.specs.Recoveries.{recovery_list, recovery_purpose, recovery_refusal}
-use Rattle.recovery_permits.specs.Takeovers.{followers_of, takeover_refusal}
-use Rattle.server_model.specs.Worlds.{World}
+use Rattle.recovery_core.specs.Prelude.{Attempt, AuditState, BookState, Code, HookState, Kind, Moment, Recovery, Refusal, ServerNo, UnknownInstance}
+use Rattle.recovery_core.specs.Prelude.{World, begun_recovery, code_at, followers_of, label_at, recovery_list, recovery_purpose, recovery_refusal}
+use Rattle.recovery_core.specs.Prelude.{replicas_of, source_of, takeover_refusal}
+use Rattle.recovery_core.specs.Prelude.KeptRows.{Recovery as KeptRecovery}
+use Rattle.recovery_core.specs.Prelude.ending
+use Rattle.recovery_core.specs.Prelude.kind
+use Rattle.recovery_core.specs.Prelude.means
+use Rattle.recovery_core.specs.Prelude.purpose
 
 -- What begins: the servers of which the job takes the leases, the job, its entry in the audit, the analysis of the
 -- failed server, of which hooks are told, none for a takeover, which runs no hooks; and its hooks, once they are told.

@@ -1,23 +1,20 @@
 //! What a recovery is asked to begin with.
 
 ghost use Rattle.std.specs.Prelude.{◌≡◌, ◌<◌, ◌≤◌, ◌-◌, ◌^◌, All, IfOk, IsTrue, length};
-ghost use Rattle.orch_base.specs.Gives.{Gives};
-ghost use Rattle.book_views.specs.Forests.{book_forest};
-ghost use Rattle.commands.specs.Turns.{is_within};
-ghost use Rattle.permission.specs.Checks.{permit_fault};
+ghost use Rattle.recovery_core.specs.Prelude.{Gives, book_forest, is_within, permit_fault};
 ghost use Rattle.recovery_core.specs.Asks.{attempt_by, try_of};
 
+use crate::audit_log::Audit;
+use crate::commands::Refusal;
+use crate::instance_keeper_items::Book;
+use crate::orch_base::{Kind, Moment, ServerNo};
+use crate::server_model::World;
 use crate::takeover::try_takeover;
+use crate::topology_tree::Forest;
 use crate::tries::try_recovery;
 use crate::{Begun, PermitFault};
-use audit_log::Audit;
-use commands::Refusal;
-use instance_keeper::Book;
-use orch_base::{Kind, Moment, ServerNo};
 use recovery_permits::Attempt;
-use server_model::World;
 use std::alloc::Global;
-use topology_tree::Forest;
 
 /// With what the recovery of a server, or the takeover of its place, is asked to begin. Moments are at most 2^63.
 #[derive(Clone, Copy)]

@@ -2,8 +2,8 @@
 
 ghost use Rattle.std.specs.Prelude.{◌≡◌, None};
 
-use instance_keeper::Recovery;
-use orch_base::{Code, ServerNo};
+use crate::instance_keeper_items::Recovery;
+use crate::orch_base::{Code, ServerNo};
 use recovery_hooks::HookRun;
 use recovery_turns::RecoveryJob;
 use std::marker::Model;

@@ -1,14 +1,13 @@
 //! What the analysis says of the instances of a book.
 
 ghost use Rattle.std.specs.Prelude.{◌≡◌, ◌<◌, ◌==◌, All, IfOk, filter, find, length, option_map};
-ghost use Rattle.failure_analysis.specs.Table.{action_of};
-ghost use Rattle.recovery_permits.specs.Checks.{code_at};
+ghost use Rattle.recovery_core.specs.Prelude.{action_of, code_at};
 ghost use Rattle.recovery_core.specs.Scans.{actionable_in, is_asked, IsEntryIn};
 
 use crate::Memory;
-use failure_analysis::{Action, Entry, actionable, analyse};
-use instance_keeper::Book;
-use orch_base::{Code, ServerNo};
+use crate::failure_analysis::{Action, Entry, actionable, analyse};
+use crate::instance_keeper_items::Book;
+use crate::orch_base::{Code, ServerNo};
 use std::alloc::Global;
 
 // The code of a server among these entries.

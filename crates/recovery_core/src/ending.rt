@@ -1,12 +1,12 @@
 //! How a recovery's entry in the audit ends.
 
 ghost use Rattle.std.specs.Prelude.{◌≡◌};
-ghost use Rattle.recovery_plans.specs.Beginning.{is_takeover};
+ghost use Rattle.recovery_core.specs.Prelude.{is_takeover};
 ghost use Rattle.recovery_core.specs.Endings.{done_with, ending_with, is_acknowledged_for};
 
-use operations::JobStep;
-use orch_base::{CauseName, Ending, ServerNo};
-use recovery_plans::Purpose;
+use crate::operations_items::JobStep;
+use crate::orch_base::{CauseName, Ending, ServerNo};
+use crate::recovery_plans_items::Purpose;
 
 fn done_with(promoted: Option<ServerNo>) -> Ending
     ensures { result ≡ done_with promoted }

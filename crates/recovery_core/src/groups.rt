@@ -1,13 +1,13 @@
 //! The replicas of each server, in one pass.
 
 ghost use Rattle.std.specs.Prelude.{◌≡◌, ◌++◌, ◌∷◌, [], IfOk, OnOk, length, replicate, true};
-ghost use Rattle.kept_rows.specs.Servers.{are_known, source_servers};
+ghost use Rattle.recovery_core.specs.Prelude.{are_known, source_servers};
 ghost use Rattle.recovery_core.specs.Groups.{joined, AreGroups};
 
 use crate::Memory;
-use book_views::seen_source;
-use instance_keeper::Book;
-use orch_base::{ServerNo, SourceState};
+use crate::book_views::seen_source;
+use crate::instance_keeper_items::Book;
+use crate::orch_base::{ServerNo, SourceState};
 use std::alloc::Global;
 use std::marker::Model;
 
@@ -19,7 +19,7 @@ pub(crate) struct Group {
 
 impl Model for Group {
     ghost use Rattle.std.specs.Prelude.{List};
-    ghost use Rattle.orch_base.specs.declared.server.ServerNo.{ServerNo as Number};
+    ghost use Rattle.recovery_permits.specs.OrchBase.declared.server.ServerNo.{ServerNo as Number};
 
     ghost Value = { List Number };
 

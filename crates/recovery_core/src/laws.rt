@@ -1,25 +1,10 @@
 //! What holds of tries, scans and endings, over their definitions alone.
 
 ghost use Rattle.std.specs.Prelude.{◌≡◌, ◌<◌, ◌≤◌, ◌+◌, ◌++◌, ◌∷◌, ℕ, [], All, Err, List, None, Ok, Option, Some, length, false, true};
-ghost use Rattle.orch_base.specs.declared.recovery.Ending.{Ending};
-ghost use Rattle.orch_base.specs.declared.server.Moment.{Moment as AMoment};
-ghost use Rattle.orch_base.specs.declared.server.ServerNo.{ServerNo as Number};
-ghost use Rattle.commands.specs.declared.line.Line.TheVariants as line;
-ghost use Rattle.commands.specs.declared.refusal.Refusal.{Refusal as ARefusal};
-ghost use Rattle.instance_keeper.specs.Book.{BookState, IsBook};
-ghost use Rattle.book_views.specs.Sources.{label_at};
-ghost use Rattle.audit_log.specs.Apart.{IsApart};
-ghost use Rattle.audit_log.specs.Audits.{AuditState, begun, ended, is_open, longest_block};
-ghost use Rattle.failure_analysis.specs.Analysis.{analysis};
-ghost use Rattle.failure_analysis.specs.Table.{action_of};
-ghost use Rattle.failure_analysis.specs.declared.code.Action.TheVariants.{Nothing};
-ghost use Rattle.failure_analysis.specs.declared.entry.Entry.{Entry as AnEntry};
-ghost use Rattle.operations.specs.declared.step.JobStep.{JobStep as AStep};
-ghost use Rattle.operations.specs.Turns.{is_going};
-ghost use Rattle.recovery_plans.specs.Beginning.{is_takeover};
-ghost use Rattle.recovery_plans.specs.Recoveries.{Recovery};
-ghost use Rattle.recovery_permits.specs.declared.attempt.Attempt.{Attempt as AnAttempt};
-ghost use Rattle.server_model.specs.Worlds.{World};
+ghost use Rattle.recovery_core.specs.Prelude.{Attempt as AnAttempt, AuditState, BookState, Ending, Entry as AnEntry, IsApart, IsBook};
+ghost use Rattle.recovery_core.specs.Prelude.{JobStep as AStep, Moment as AMoment, Nothing, Recovery, Refusal as ARefusal, ServerNo as Number, World};
+ghost use Rattle.recovery_core.specs.Prelude.{action_of, analysis, begun, ended, is_going, is_open, is_takeover, label_at, longest_block};
+ghost use Rattle.recovery_core.specs.Prelude.line;
 ghost use Rattle.recovery_core.specs.Begun.{audit_after, leases_after, BeginInTurn, CanBegin};
 ghost use Rattle.recovery_core.specs.Endings.{ending_of, is_acknowledged};
 ghost use Rattle.recovery_core.specs.Scans.{after_try, from_start, scanned, staged_try, Staged};

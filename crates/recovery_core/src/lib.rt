@@ -11,7 +11,6 @@ mod laws;
 mod scanning;
 mod stage;
 mod takeover;
-mod threads;
 mod tries;
 
 pub use ask::{Ask, try_begin};
@@ -21,8 +20,12 @@ pub use laws::{
     begins_keep_audits_apart, endings_close_entries, refused_tries_begin_nothing,
     scans_begin_in_turn, tries_can_begin,
 };
+use recovery_permits::{
+    audit_log, book_views, commands, failure_analysis, instance_keeper_items, operations_items,
+    orch_base, permission_items, recovery_plans_items, server_model, topology_tree,
+};
 /// Want of memory.
-pub use orch_base::Memory;
-pub use permission::PermitFault;
+pub use recovery_permits::orch_base::Memory;
+pub use recovery_permits::permission_items::PermitFault;
 pub use scanning::{Terms, scan};
 pub use stage::Scan;

@@ -1,20 +1,20 @@
 //! A scan for failed servers.
 
 ghost use Rattle.std.specs.Prelude.{◌≡◌, ◌<◌, ◌≤◌, ◌^◌, ℕ, All, IfOk, List, length, slice_index_or, false};
-ghost use Rattle.audit_log.specs.Audits.{longest_block};
+ghost use Rattle.recovery_core.specs.Prelude.{longest_block};
 ghost use Rattle.recovery_core.specs.Scans.{attempt_of, scanned, HasRoom};
 
+use crate::audit_log::{Audit, Periods};
+use crate::book_views::label_at;
 use crate::codes::actionable_entries;
+use crate::commands::Lines;
 use crate::groups::groups;
+use crate::instance_keeper_items::Book;
+use crate::orch_base::{Moment, ServerNo};
+use crate::server_model::World;
 use crate::stage::Stage;
 use crate::{Memory, Scan};
-use audit_log::{Audit, Periods};
-use book_views::label_at;
-use commands::Lines;
-use instance_keeper::Book;
-use orch_base::{Moment, ServerNo};
 use recovery_permits::Attempt;
-use server_model::World;
 use std::alloc::Global;
 
 /// What a scan goes by, beside the book, the audit, the servers' settings and the filters.

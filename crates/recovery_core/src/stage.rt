@@ -1,24 +1,18 @@
 //! How far a scan has come.
 
 ghost use Rattle.std.specs.Prelude.{◌≡◌, ◌<◌, ◌≤◌, ◌-◌, ◌^◌, All, Err, IfOk, None, Ok, OnOk, length, slice_index_or};
-ghost use Rattle.instance_keeper.specs.Leases.{taken};
-ghost use Rattle.book_views.specs.Sources.{replicas_of};
-ghost use Rattle.audit_log.specs.Apart.{MayBegin};
-ghost use Rattle.audit_log.specs.Audits.{longest_block};
-ghost use Rattle.permission.specs.Checks.{busy_by};
-ghost use Rattle.permission.specs.Lists.{first_about};
-ghost use Rattle.recovery_permits.specs.Recoveries.{recovery_list};
+ghost use Rattle.recovery_core.specs.Prelude.{MayBegin, busy_by, first_about, longest_block, recovery_list, replicas_of, taken};
 ghost use Rattle.recovery_core.specs.Scans.{after_try, from_start, staged_refusal, staged_try, HasRoom, IsEntryIn, IsReady};
 
+use crate::audit_log::Audit;
+use crate::commands::{Line, Lines, Refusal};
+use crate::failure_analysis::Entry;
+use crate::instance_keeper_items::Book;
+use crate::orch_base::ServerNo;
+use crate::server_model::World;
 use crate::tries::recovery_begins;
 use crate::{Begun, Memory};
-use audit_log::Audit;
-use commands::{Line, Lines, Refusal};
-use failure_analysis::Entry;
-use instance_keeper::Book;
-use orch_base::ServerNo;
 use recovery_permits::{Attempt, recovery_servers, refusal_by_code};
-use server_model::World;
 use std::alloc::Global;
 use std::marker::Model;
 

@@ -1,20 +1,16 @@
 //! The takeover of a master's place, as it is tried.
 
 ghost use Rattle.std.specs.Prelude.{◌≡◌, ◌<◌, ◌≤◌, ◌-◌, ◌^◌, All, IfOk, length};
-ghost use Rattle.orch_base.specs.Gives.{Gives};
-ghost use Rattle.book_views.specs.Forests.{book_forest};
-ghost use Rattle.book_views.specs.Sources.{replicas_of};
-ghost use Rattle.permission.specs.Checks.{permit_fault};
-ghost use Rattle.recovery_permits.specs.Takeovers.{followers_of};
+ghost use Rattle.recovery_core.specs.Prelude.{Gives, book_forest, followers_of, permit_fault, replicas_of};
 ghost use Rattle.recovery_core.specs.Asks.{takeover_try_of};
 ghost use Rattle.recovery_core.specs.Tries.{takeover_begins};
 
+use crate::book_views::replicas;
+use crate::orch_base::{Kind, ServerNo};
+use crate::recovery_plans_items::{Means, Purpose};
 use crate::tries::entry_of;
 use crate::{Ask, Begun, Memory, PermitFault};
-use book_views::replicas;
-use orch_base::{Kind, ServerNo};
 use recovery_permits::{followers_of, permit_takeover, recovery_servers};
-use recovery_plans::{Means, Purpose};
 use recovery_turns::RecoveryJob;
 use std::alloc::Global;
 

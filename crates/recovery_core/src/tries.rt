@@ -1,24 +1,19 @@
 //! The recovery of a server, as it is tried.
 
 ghost use Rattle.std.specs.Prelude.{◌≡◌, ◌<◌, ◌≤◌, ◌-◌, ◌^◌, All, IfOk, length};
-ghost use Rattle.orch_base.specs.Gives.{Gives};
-ghost use Rattle.book_views.specs.Forests.{book_forest};
-ghost use Rattle.book_views.specs.Sources.{replicas_of};
-ghost use Rattle.permission.specs.Checks.{permit_fault};
-ghost use Rattle.recovery_permits.specs.Checks.{code_at};
-ghost use Rattle.recovery_permits.specs.Recoveries.{recovery_list};
+ghost use Rattle.recovery_core.specs.Prelude.{Gives, book_forest, code_at, permit_fault, recovery_list, replicas_of};
 ghost use Rattle.recovery_core.specs.Asks.{recovery_try_of};
 ghost use Rattle.recovery_core.specs.Tries.{entry_of, recovery_begins, recovery_kind};
 
+use crate::audit_log::Audit;
+use crate::book_views::{label_at, replicas};
 use crate::codes::code_at;
+use crate::instance_keeper_items::{Book, Recovery};
+use crate::orch_base::{Code, Ending, Kind, Moment, ServerNo};
+use crate::permission_items::source;
+use crate::recovery_plans_items::Means;
 use crate::{Ask, Begun, Memory, PermitFault};
-use audit_log::Audit;
-use book_views::{label_at, replicas};
-use instance_keeper::{Book, Recovery};
-use orch_base::{Code, Ending, Kind, Moment, ServerNo};
-use permission::source;
 use recovery_permits::{permit_recovery, recovery_purpose, recovery_servers};
-use recovery_plans::Means;
 use recovery_turns::RecoveryJob;
 use std::alloc::Global;
 

@@ -1,34 +1,14 @@
 -- Recoveries that begin, and others' exchanges.
 use Rattle.std.proofs.Common.{◌≡◌, ℕ, ◌+◌, ◌<◌, Bool, true, false, cond, List, [], ◌∷◌, ◌++◌, map, refl, sym, ◌∙◌, ap, subst, Option, Some, None, ◌&&◌, inl, arith}
 use Rattle.std.specs.Prelude.{◌==◌}
-use Rattle.std.specs.List.{All}
-use Rattle.std.proofs.lemmas.Bool.{false≢true, eqb-true}
-use Rattle.std.proofs.lemmas.Option.{same_Some}
-use Rattle.std.proofs.lemmas.List.Elements.{All-nil, All-cons, All-head, All-tail}
-use Rattle.orch_base.specs.declared.server.ServerNo.{ServerNo}
-use Rattle.server_model.specs.Run.{Exchange, after, run}
-use Rattle.server_model.specs.Worlds.{World}
-use Rattle.operations.specs.Changes.{server_of}
-use Rattle.job_laws.specs.Leases.{Leases, IsLeased}
-use Rattle.job_laws.proofs.Others.{unleased-run}
-use Rattle.recovery_plans.specs.declared.outcome.Follower.{Follower}
-use Rattle.recovery_plans.specs.declared.outcome.LostReplica.{LostReplica}
-use Rattle.recovery_plans.specs.declared.outcome.Stopped.{Stopped}
-use Rattle.recovery_plans.specs.declared.means.Means.{Means}
-use Rattle.recovery_plans.specs.declared.purpose.Purpose.{Purpose}
-use Rattle.recovery_plans.specs.declared.purpose.Purpose.TheVariants as purpose
-use Rattle.recovery_plans.specs.declared.task.Task.{Task}
-use Rattle.recovery_plans.specs.declared.task.Task.TheVariants as task
-use Rattle.recovery_plans.specs.Beginning.{but, begun_recovery}
-use Rattle.recovery_plans.specs.Deciding.{expels}
-use Rattle.recovery_plans.specs.Named.{AreSourcesOf}
-use Rattle.recovery_plans.specs.Recoveries.{Recovery}
-use Rattle.recovery_laws.specs.LeasedRecoveries.{IsAny, LeasedRecovery}
-use Rattle.standing_laws.specs.Standing.{IsUnder, IsSourced, IsApart, is_outside}
-use Rattle.recovery_covers.specs.Covers.{times, owed, AreReplicas}
-use Rattle.recovery_covers.specs.SoFar.{of_task, of_queue, chooses, decides, in_order, FollowsBy, Awaits, CoversSoFar}
+use Rattle.recovery_covers.proofs.Prelude.{All, All-cons, All-head, All-nil, All-tail, AreReplicas, AreSourcesOf, Awaits, CoversSoFar, Exchange}
+use Rattle.recovery_covers.proofs.Prelude.{Follower, FollowsBy, IsAny, IsApart, IsLeased, IsSourced, IsUnder, LeasedRecovery, Leases, LostReplica}
+use Rattle.recovery_covers.proofs.Prelude.{Means, Purpose, Recovery, ServerNo, Stays-same, Stopped, Task, World, after, begun_recovery, but, chooses}
+use Rattle.recovery_covers.proofs.Prelude.{decides, eqb-true, expels, false≢true, in_order, is_outside, of_queue, of_task, outside-stays, owed, run}
+use Rattle.recovery_covers.proofs.Prelude.{same_Some, server_of, times, unleased-run}
+use Rattle.recovery_covers.proofs.Prelude.purpose
+use Rattle.recovery_covers.proofs.Prelude.task
 use Rattle.recovery_covers.proofs.Times.{one, times-parted}
-use Rattle.standing_laws.proofs.Standing.{Stays-same, outside-stays}
 use Rattle.recovery_covers.proofs.Covering.{covers-stays}
 
 -- ---- the tasks of a recovery that begins
@@ -206,10 +186,8 @@ leased-times l id n (k ∷ ks) all h = go (k.0 == n) refl h (leased-times l id n
 
 owed-leased : (l : Leases) (id : ℕ) (u : Purpose) (f : ServerNo) (ns : List ServerNo) (chosen : Option ServerNo) → All (λ k. IsLeased l id k.0) ns → AreSourcesOf (IsLeased l id) IsAny u f chosen
     → All (λ k. IsLeased l id k.0) (owed u f ns)
-owed-leased l id purpose.Regroup f ns chosen all h = all
-owed-leased l id purpose.Master f ns chosen all h = all
-owed-leased l id (purpose.Intermediate s) f ns chosen all h = all
 owed-leased l id (purpose.Takeover d) f ns chosen all h = All-cons (λ (k : ServerNo). IsLeased l id k.0) f ns h all
+owed-leased l id _ f ns chosen all h = all
 
 pub others-cover : (l : Leases) (id mine : ℕ) (w : World) (es : List Exchange) (r : Recovery) → All (λ e. IsLeased l id (server_of e)) es → (id ≡ mine → ⊥) → LeasedRecovery l mine r
     → CoversSoFar w r → CoversSoFar (run w es) r

@@ -1,28 +1,13 @@
 -- A stage's change covers the replicas as far as before.
 use Rattle.std.proofs.Common.{◌≡◌, ℕ, ◌+◌, ◌<◌, Bool, true, false, cond, not, List, [], ◌∷◌, refl, sym, ◌∙◌, ap, subst, Some, inl, inr, arith}
 use Rattle.std.specs.Prelude.{◌==◌, filter}
-use Rattle.std.proofs.lemmas.Bool.{false≢true, eqb-true, eq-eqb, ne_eqb}
-use Rattle.std.proofs.lemmas.List.Elements.{All-filter}
-use Rattle.orch_base.specs.declared.server.ServerNo.{ServerNo}
-use Rattle.orch_base.specs.declared.server.SourceState.{SourceState}
-use Rattle.orch_base.specs.declared.server.SourceState.TheVariants.{Without, Attached, Detached}
-use Rattle.server_model.specs.Desk.{is_detached}
-use Rattle.server_model.specs.Worlds.{World, has_source}
-use Rattle.operations.specs.Jobs.{Job}
-use Rattle.recovery_plans.specs.declared.outcome.Follower.{Follower}
-use Rattle.recovery_plans.specs.declared.purpose.Purpose.{Purpose}
-use Rattle.recovery_plans.specs.declared.purpose.Purpose.TheVariants as purpose
-use Rattle.recovery_plans.specs.declared.stage.Stage.{Stage}
-use Rattle.recovery_plans.specs.declared.stage.Stage.TheVariants as stage
-use Rattle.recovery_plans.specs.declared.task.Way.{Way}
-use Rattle.recovery_plans.specs.Beginning.{is_master}
-use Rattle.recovery_plans.specs.Recoveries.{Recovery, follows_no_more}
-use Rattle.recovery_plans.specs.Stages.{target}
-use Rattle.standing_laws.specs.Standing.{IsUnder, IsSourced, IsApart, IsFree, IsWritable, KeepsSource, Stays}
-use Rattle.recovery_covers.specs.Covers.{times, follower_nos, lost_nos, listed, owed, leader, crowns}
-use Rattle.recovery_covers.specs.SoFar.{stopped_nos, of_queue, of_stage, total, is_late, Leads, FollowsBy, OldFollows, Stands, CoversAt}
-use Rattle.standing_laws.proofs.Standing.{Stays-keeps, Under-keeps, Sourced-keeps, Apart-keeps, Free-keeps}
-use Rattle.standing_laws.proofs.Effects.{IsMoved}
+use Rattle.recovery_covers.proofs.Prelude.{All-filter, Apart-keeps, Attached, CoversAt, Detached, Follower, FollowsBy, Free-keeps, IsApart, IsFree}
+use Rattle.recovery_covers.proofs.Prelude.{IsMoved, IsSourced, IsUnder, IsWritable, Job, KeepsSource, Leads, OldFollows, Purpose, Recovery, ServerNo}
+use Rattle.recovery_covers.proofs.Prelude.{Sourced-keeps, SourceState, Stage, Stands, Stays, Stays-keeps, Under-keeps, Way, Without, World, crowns}
+use Rattle.recovery_covers.proofs.Prelude.{eq-eqb, eqb-true, false≢true, follower_nos, follows_no_more, has_source, is_detached, is_late, is_master}
+use Rattle.recovery_covers.proofs.Prelude.{leader, listed, lost_nos, ne_eqb, of_queue, of_stage, owed, stopped_nos, target, times, total}
+use Rattle.recovery_covers.proofs.Prelude.purpose
+use Rattle.recovery_covers.proofs.Prelude.stage
 use Rattle.recovery_covers.proofs.Times.{one, times-out, self-times}
 use Rattle.recovery_covers.proofs.Covering.{attached-on, sourced-on, apart-on, drained-on, queue-on, master-crowns, takeover-crowns, crowned-leader, last-on, crowned-on, giving-on, carried, carried-keeping}
 
@@ -31,10 +16,8 @@ abbrev pub AllButOne : World → World → ℕ → Type 0
 AllButOne w w' m = (k : ℕ) → (k ≡ m → ⊥) → Stays w w' k
 
 pub old-master : (u : Purpose) (f : ServerNo) (xs : List Follower) → is_master u ≡ true → OldFollows u f xs
-old-master purpose.Regroup f xs h = tt
-old-master purpose.Master f xs h = tt
-old-master (purpose.Intermediate s) f xs h = tt
 old-master (purpose.Takeover d) f xs h = absurd (false≢true h)
+old-master _ f xs h = tt
 
 -- the server stands in no list
 pub record IsAlone (r : Recovery) (m : ℕ) : Type 0 where

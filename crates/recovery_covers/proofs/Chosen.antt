@@ -1,37 +1,19 @@
 -- What is decided covers the replicas as far as before: the choice, and where the others go.
 use Rattle.std.proofs.Common.{◌≡◌, ℕ, ◌+◌, ◌<◌, Bool, true, false, cond, not, List, [], ◌∷◌, ◌++◌, refl, sym, ◌∙◌, ap, subst, Option, Some, None, inl, inr, arith}
 use Rattle.std.specs.Prelude.{◌==◌, IfSome}
-use Rattle.std.specs.List.{All}
-use Rattle.std.proofs.lemmas.Bool.{false≢true, and_parts}
-use Rattle.std.proofs.lemmas.List.Elements.{All-nil, All-cons, All-head, All-tail, All-append, All-weaker, All-filter}
-use Rattle.orch_base.specs.declared.server.Moment.{Moment}
-use Rattle.orch_base.specs.declared.server.ServerNo.{ServerNo}
-use Rattle.server_model.specs.Worlds.{World}
-use Rattle.instance_keeper.specs.declared.bridge.Bridge.{Bridge}
-use Rattle.instance_keeper.specs.Book.{BookState}
-use Rattle.replica_groups.specs.declared.groups.Group.{Group}
-use Rattle.replica_groups.specs.declared.groups.Group.TheVariants as group
-use Rattle.replica_groups.specs.Groups.{group_of}
-use Rattle.recovery_plans.specs.declared.means.Means.{Means}
-use Rattle.recovery_plans.specs.declared.means.Means.TheVariants as means
-use Rattle.recovery_plans.specs.declared.outcome.Follower.{Follower}
-use Rattle.recovery_plans.specs.declared.outcome.LostReplica.{LostReplica}
-use Rattle.recovery_plans.specs.declared.outcome.Stopped.{Stopped}
-use Rattle.recovery_plans.specs.declared.purpose.Purpose.{Purpose}
-use Rattle.recovery_plans.specs.declared.purpose.Purpose.TheVariants as purpose
-use Rattle.recovery_plans.specs.declared.stage.Stage.TheVariants as stage
-use Rattle.recovery_plans.specs.declared.task.Task.{Task}
-use Rattle.recovery_plans.specs.declared.task.Task.TheVariants as task
-use Rattle.recovery_plans.specs.declared.task.Way.TheVariants as way
-use Rattle.recovery_plans.specs.Beginning.{first_source}
-use Rattle.recovery_plans.specs.Recoveries.{Recovery}
-use Rattle.recovery_plans.specs.Stages.{target}
-use Rattle.recovery_plans.specs.Deciding as deciding
-use Rattle.recovery_plans.specs.Deciding.{Lot, chosen_of, ground_of, lot_by, lot_by_group, move_of, stay_of, moves_in, losses_in, own_end_of, without_stopped, choose, expels}
-use Rattle.recovery_plans.proofs.Choices.{All-chosen}
-use Rattle.standing_laws.specs.Standing.{IsSourced, IsApart}
-use Rattle.recovery_covers.specs.Covers.{times, lost_nos, listed, owed, leader}
-use Rattle.recovery_covers.specs.SoFar.{stopped_nos, of_task, of_queue, total, is_intermediate, chooses, decides, in_order, FollowsBy, Awaits, CoversAt}
+use Rattle.recovery_covers.proofs.Prelude.{All, All-append, All-chosen, All-cons, All-filter, All-head, All-nil, All-tail, All-weaker, Awaits}
+use Rattle.recovery_covers.proofs.Prelude.{BookState, Bridge, CoversAt, Follower, FollowsBy, Group, IsApart, IsSourced, LostReplica, Lot, Means}
+use Rattle.recovery_covers.proofs.Prelude.{Moment, Purpose, Recovery, ServerNo, Stopped, Task, World, and_parts, choose, chooses, chosen_of, decides}
+use Rattle.recovery_covers.proofs.Prelude.{expels, false≢true, first_source, ground_of, group_of, in_order, is_intermediate, leader, listed}
+use Rattle.recovery_covers.proofs.Prelude.{losses_in, lost_nos, lot_by, lot_by_group, move_of, moves_in, of_queue, of_task, owed, own_end_of, stay_of}
+use Rattle.recovery_covers.proofs.Prelude.{stopped_nos, target, times, total, without_stopped}
+use Rattle.recovery_covers.proofs.Prelude.deciding
+use Rattle.recovery_covers.proofs.Prelude.group
+use Rattle.recovery_covers.proofs.Prelude.means
+use Rattle.recovery_covers.proofs.Prelude.purpose
+use Rattle.recovery_covers.proofs.Prelude.stage
+use Rattle.recovery_covers.proofs.Prelude.task
+use Rattle.recovery_covers.proofs.Prelude.way
 use Rattle.recovery_covers.proofs.Times.{one, times-append, times-join, times-parted, self-all}
 
 -- ---- a new source that isn't named at the beginning
@@ -219,14 +201,10 @@ module _ (w : World) (b : BookState) (now : Moment) (r : Recovery) (ts : List Ta
   awaits-on : (t : Task) → Awaits w r t → Awaits w after t
   awaits-on (task.Moving n by) h = let bad : None ≡ Some (target by) = sym none.0 ∙ h.0 in cc
   awaits-on (task.Expelling n) h = (let l = times-join (λ (x : LostReplica). x.no) n.0 r.outcome.lost (losses_in lot rest) in let k = h.0 in omega (arith, l, k), h.1)
-  awaits-on (task.Reading n) h = tt
-  awaits-on (task.Draining n) h = tt
-  awaits-on task.Choosing h = tt
   awaits-on task.Handing h = h
-  awaits-on task.Sorting h = tt
-  awaits-on (task.Releasing n) h = tt
   awaits-on (task.Trailing n) h = h
   awaits-on task.Yielding h = h
+  awaits-on _ h = tt
 
   pub chosen-covers : CoversAt w after stage.Idle
   chosen-covers = record {

@@ -1,44 +1,20 @@
 -- A stage that is done covers the replicas as far as before.
 use Rattle.std.proofs.Common.{◌≡◌, ℕ, ◌+◌, Bool, true, false, cond, List, [], ◌∷◌, ◌++◌, map, refl, sym, ◌∙◌, ap, subst, Option, Some, None, ◌⊎◌, inl, inr, arith}
 use Rattle.std.specs.Prelude.{◌==◌, IfSome}
-use Rattle.std.specs.List.{All, Contains}
-use Rattle.std.proofs.lemmas.Bool.{false≢true, eqb-true}
-use Rattle.std.proofs.lemmas.Option.{same_Some}
-use Rattle.std.proofs.lemmas.List.Elements.{All-nil, All-cons, All-head, All-tail, All-push, All-weaker, Contains-push}
-use Rattle.orch_base.specs.declared.server.ServerNo.{ServerNo}
-use Rattle.orch_base.specs.declared.server.SourceState.{SourceState}
-use Rattle.orch_base.specs.declared.server.SourceState.TheVariants.{Without, Attached, Detached}
-use Rattle.server_model.specs.Worlds.{World, source_no, has_source}
-use Rattle.recovery_plans.specs.declared.why.Why.{Why}
-use Rattle.recovery_plans.specs.Whys as lost
-use Rattle.instance_keeper.specs.declared.bridge.Bridge.{Bridge}
-use Rattle.operations.specs.declared.op.Op.{Op}
-use Rattle.operations.specs.declared.op.Op.TheVariants as op
-use Rattle.operations.specs.declared.sight.Position.{Position}
-use Rattle.operations.specs.Jobs.{Job, seen_of}
-use Rattle.job_laws.proofs.Spanning.{bridge-parts}
-use Rattle.operations.specs.Turns.{bridge_at}
-use Rattle.recovery_plans.specs.declared.outcome.Follower.{Follower}
-use Rattle.recovery_plans.specs.declared.outcome.LostReplica.{LostReplica}
-use Rattle.recovery_plans.specs.declared.outcome.Stopped.{Stopped}
-use Rattle.recovery_plans.specs.declared.purpose.Purpose.{Purpose}
-use Rattle.recovery_plans.specs.declared.purpose.Purpose.TheVariants as purpose
-use Rattle.recovery_plans.specs.declared.stage.Stage.{Stage}
-use Rattle.recovery_plans.specs.declared.stage.Stage.TheVariants as stage
-use Rattle.recovery_plans.specs.declared.task.Way.TheVariants as way
-use Rattle.recovery_plans.specs.Beginning.{first_source, is_takeover}
-use Rattle.recovery_plans.specs.Recoveries.{Recovery, follows, loses}
-use Rattle.recovery_plans.specs.Stages.{tail_of}
-use Rattle.recovery_plans.specs.Telling.{told}
-use Rattle.recovery_plans.specs.Deciding.{closing, expels}
-use Rattle.recovery_plans.specs.Taking.{spot_seen, is_source, is_below, marked, expelled, swapped, lead_under, gathered, idle, frees, last_looks}
-use Rattle.recovery_plans.specs.Moves as by
-use Rattle.recovery_plans.specs.Moves.{Ending, MayEnd, WasRead, ended_by, rests, stopped_at}
-use Rattle.recovery_plans.proofs.Choices.{same-no}
-use Rattle.recovery_ends.specs.Shapes.{Fits}
-use Rattle.standing_laws.specs.Standing.{IsUnder, IsSourced, IsApart}
-use Rattle.recovery_covers.specs.Covers.{times, lost_nos, listed, leader, crowns}
-use Rattle.recovery_covers.specs.SoFar.{of_stage, chooses, is_late, Leads, FollowsBy, IsLast, IsPromoted, OldFollows, Stands, CoversAt, CoversSoFar}
+use Rattle.recovery_covers.proofs.Prelude.{All, All-cons, All-head, All-nil, All-push, All-tail, All-weaker, Attached, Bridge, Contains}
+use Rattle.recovery_covers.proofs.Prelude.{Contains-push, CoversAt, CoversSoFar, Detached, Ending, Fits, Follower, FollowsBy, IsApart, IsLast}
+use Rattle.recovery_covers.proofs.Prelude.{IsPromoted, IsSourced, IsUnder, Job, Leads, LostReplica, MayEnd, OldFollows, Op, Position, Purpose}
+use Rattle.recovery_covers.proofs.Prelude.{Recovery, ServerNo, SourceState, Stage, Stands, Stopped, WasRead, Why, Without, World, bridge-parts}
+use Rattle.recovery_covers.proofs.Prelude.{bridge_at, chooses, closing, crowns, ended_by, eqb-true, expelled, expels, false≢true, first_source}
+use Rattle.recovery_covers.proofs.Prelude.{follows, frees, gathered, has_source, idle, is_below, is_late, is_source, is_takeover, last_looks}
+use Rattle.recovery_covers.proofs.Prelude.{lead_under, leader, listed, loses, lost_nos, marked, of_stage, rests, same-no, same_Some, seen_of}
+use Rattle.recovery_covers.proofs.Prelude.{source_no, spot_seen, stopped_at, swapped, tail_of, times, told}
+use Rattle.recovery_covers.proofs.Prelude.by
+use Rattle.recovery_covers.proofs.Prelude.lost
+use Rattle.recovery_covers.proofs.Prelude.op
+use Rattle.recovery_covers.proofs.Prelude.purpose
+use Rattle.recovery_covers.proofs.Prelude.stage
+use Rattle.recovery_covers.proofs.Prelude.way
 use Rattle.recovery_covers.proofs.Times.{one, times-push}
 use Rattle.recovery_covers.proofs.Covering.{queue-as, master-crowns, takeover-crowns, crowned-leader, giving-on, restaged}
 use Rattle.recovery_covers.proofs.Changing.{old-master}
@@ -109,15 +85,11 @@ module _ (w : World) where
 
   expels-unreachable : (u : Purpose) → expels u (Some lost.unreachable) ≡ false
   expels-unreachable purpose.Regroup = refl
-  expels-unreachable purpose.Master = refl
-  expels-unreachable (purpose.Intermediate s) = refl
-  expels-unreachable (purpose.Takeover d) = refl
+  expels-unreachable _ = refl
 
   expels-moved : (u : Purpose) (x : _) → expels u (Some (lost.moved x)) ≡ false
   expels-moved purpose.Regroup x = refl
-  expels-moved purpose.Master x = refl
-  expels-moved (purpose.Intermediate s) x = refl
-  expels-moved (purpose.Takeover d) x = refl
+  expels-moved _ x = refl
 
   pub unreached : (u : Purpose) (n : ℕ) → expels u (Some lost.unreachable) ≡ true → IsSourced w n
   unreached u n h = absurd (false≢true (sym (expels-unreachable u) ∙ h))
@@ -296,12 +268,10 @@ module _ (w : World) where
 
   old-given : (u : Purpose) (f m d : ServerNo) (chosen : Option ServerNo) (xs : List Follower) → is_takeover u ≡ true → f ≡ m → chosen ≡ Some d → IfSome (first_source u) (λ n. chosen ≡ Some n)
       → Contains xs (record { no = m; source = d }) → OldFollows u f xs
-  old-given purpose.Regroup f m d chosen xs u same is named has = tt
-  old-given purpose.Master f m d chosen xs u same is named has = tt
-  old-given (purpose.Intermediate s) f m d chosen xs u same is named has = tt
   old-given (purpose.Takeover e) f m d chosen xs u same is named has =
       subst (λ (n : ServerNo). Contains xs (record { no = n; source = e })) (sym same)
       (subst (λ (n : ServerNo). Contains xs (record { no = m; source = n })) (same_Some d e (sym is ∙ named)) has)
+  old-given _ f m d chosen xs u same is named has = tt
 
   switched-covers : (r : Recovery) (m d : ServerNo) (core : Job) → CoversAt w r (stage.Switched m d) → CoversAt w (record (follows r m d) { stage = stage.Open d; core = core }) (stage.Open d)
   switched-covers r m d core c =

@@ -1,30 +1,15 @@
 -- What a recovery covers so far stays covered where its servers stand as before.
 use Rattle.std.proofs.Common.{◌≡◌, ℕ, ◌+◌, ◌<◌, Bool, true, false, List, [], ◌∷◌, refl, sym, ◌∙◌, ap, subst, Option, Some, inl, inr, arith}
-use Rattle.std.specs.List.{All}
-use Rattle.std.proofs.lemmas.Bool.{false≢true}
-use Rattle.std.proofs.lemmas.List.Elements.{All-nil, All-cons, All-head, All-tail}
-use Rattle.orch_base.specs.declared.server.ServerNo.{ServerNo}
-use Rattle.server_model.specs.Worlds.{World}
-use Rattle.operations.specs.Jobs.{Job}
-use Rattle.operations.specs.declared.sight.Sight.{Sight}
-use Rattle.recovery_plans.specs.declared.outcome.Follower.{Follower}
-use Rattle.recovery_plans.specs.declared.outcome.LostReplica.{LostReplica}
-use Rattle.recovery_plans.specs.declared.outcome.Stopped.{Stopped}
-use Rattle.recovery_plans.specs.declared.purpose.Purpose.{Purpose}
-use Rattle.recovery_plans.specs.declared.purpose.Purpose.TheVariants as purpose
-use Rattle.recovery_plans.specs.declared.stage.Stage.{Stage}
-use Rattle.recovery_plans.specs.declared.stage.Stage.TheVariants as stage
-use Rattle.recovery_plans.specs.declared.task.Way.{Way}
-use Rattle.recovery_plans.specs.declared.task.Way.TheVariants as way
-use Rattle.recovery_plans.specs.declared.task.Task.{Task}
-use Rattle.recovery_plans.specs.declared.task.Task.TheVariants as task
-use Rattle.recovery_plans.specs.Beginning.{is_master, is_takeover}
-use Rattle.recovery_plans.specs.Deciding.{expels}
-use Rattle.recovery_plans.specs.Recoveries.{Recovery}
-use Rattle.standing_laws.specs.Standing.{IsUnder, IsSourced, IsApart, KeepsSource, Stays, IsSourcedAsSeen, Reads}
-use Rattle.recovery_covers.specs.Covers.{times, follower_nos, lost_nos, listed, owed, leader, crowns, HasSwapped}
-use Rattle.recovery_covers.specs.SoFar.{stopped_nos, of_task, of_queue, of_stage, is_intermediate, is_late, Leads, Awaits, IsLast, IsPromoted, IsCrowned, IsGiving, Stands, CoversAt, CoversSoFar}
-use Rattle.standing_laws.proofs.Standing.{Stays-keeps, Under-keeps, Sourced-keeps, Apart-keeps, Free-keeps, Ruling-stays}
+use Rattle.recovery_covers.proofs.Prelude.{All, All-cons, All-head, All-nil, All-tail, Apart-keeps, Awaits, CoversAt, CoversSoFar, Follower}
+use Rattle.recovery_covers.proofs.Prelude.{Free-keeps, HasSwapped, IsApart, IsCrowned, IsGiving, IsLast, IsPromoted, IsSourced, IsSourcedAsSeen}
+use Rattle.recovery_covers.proofs.Prelude.{IsUnder, Job, KeepsSource, Leads, LostReplica, Purpose, Reads, Recovery, Ruling-stays, ServerNo, Sight}
+use Rattle.recovery_covers.proofs.Prelude.{Sourced-keeps, Stage, Stands, Stays, Stays-keeps, Stopped, Task, Under-keeps, Way, World, crowns, expels}
+use Rattle.recovery_covers.proofs.Prelude.{false≢true, follower_nos, is_intermediate, is_late, is_master, is_takeover, leader, listed, lost_nos}
+use Rattle.recovery_covers.proofs.Prelude.{of_queue, of_stage, of_task, owed, stopped_nos, times}
+use Rattle.recovery_covers.proofs.Prelude.purpose
+use Rattle.recovery_covers.proofs.Prelude.stage
+use Rattle.recovery_covers.proofs.Prelude.task
+use Rattle.recovery_covers.proofs.Prelude.way
 use Rattle.recovery_covers.proofs.Times.{times-append, All-counted, self-times}
 
 -- ---- lists
@@ -63,11 +48,7 @@ module _ (w w' : World) (r r' : Recovery) (same : SameWay r r') (f : ServerNo) (
   task-on task.Handing on h = ap is_intermediate same.purpose ∙ h
   task-on (task.Trailing n) on h = ap is_takeover same.purpose ∙ h
   task-on task.Yielding on h = ap is_takeover same.purpose ∙ h
-  task-on (task.Reading n) on h = tt
-  task-on (task.Draining n) on h = tt
-  task-on task.Choosing on h = tt
-  task-on task.Sorting on h = tt
-  task-on (task.Releasing n) on h = tt
+  task-on _ on h = tt
 
   pub queue-on : (ts : List Task) → ((n : ℕ) → 0 < times n (of_queue f ts) → IsSourced w n → IsSourced w' n) → All (Awaits w r) ts → All (Awaits w' r') ts
   queue-on [] on all = All-nil (Awaits w' r')
@@ -86,22 +67,16 @@ queue-as w r r' same ts all = queue-on w w r r' same r.failed (λ n h u. u) ts (
 -- ---- purposes
 
 pub master-crowns : (u : Purpose) → is_master u ≡ true → crowns u ≡ true
-master-crowns purpose.Regroup h = absurd (false≢true h)
 master-crowns purpose.Master h = refl
-master-crowns (purpose.Intermediate s) h = absurd (false≢true h)
-master-crowns (purpose.Takeover d) h = absurd (false≢true h)
+master-crowns _ h = absurd (false≢true h)
 
 pub takeover-crowns : (u : Purpose) → is_takeover u ≡ true → crowns u ≡ true
-takeover-crowns purpose.Regroup h = absurd (false≢true h)
-takeover-crowns purpose.Master h = absurd (false≢true h)
-takeover-crowns (purpose.Intermediate s) h = absurd (false≢true h)
 takeover-crowns (purpose.Takeover d) h = refl
+takeover-crowns _ h = absurd (false≢true h)
 
 pub crowned-leader : (u : Purpose) (o : Option ServerNo) → crowns u ≡ true → leader u o ≡ listed o
-crowned-leader purpose.Regroup o h = refl
-crowned-leader purpose.Master o h = refl
 crowned-leader (purpose.Intermediate s) o h = absurd (false≢true h)
-crowned-leader (purpose.Takeover d) o h = refl
+crowned-leader _ o h = refl
 
 -- ---- the same at another stage, or with another job
 
@@ -194,10 +169,8 @@ module _ (w w' : World) (r : Recovery) (core : Job) (keeps : (n : ℕ) → 0 < t
       subst (λ (xs : List Sight). IsSourcedAsSeen w' xs n) (sym same) (λ x e b. Sourced-keeps w w' n.0 (Stays-keeps w w' n.0 st) (h x e b))
 
   reads-on : (n : ServerNo) (by : Way) → (is_seen (stage.Move n by) ≡ true → core.seen ≡ r.core.seen) → Reads r.core.seen by → Reads core.seen by
-  reads-on n (way.Down b) seen h = tt
   reads-on n (way.Up b) seen h = subst (λ (xs : List Sight). Reads xs (way.Up b)) (sym (seen refl)) h
-  reads-on n (way.Auto to exec) seen h = tt
-  reads-on n (way.Match to exec every) seen h = tt
+  reads-on n _ seen h = tt
 
   stands-on : (s0 s : Stage) → CoversAt w r s → (is_seen s ≡ true → core.seen ≡ r.core.seen) → Stands w r s → Stands w' (record r { stage = s0; core = core }) s
   stands-on s0 (stage.Drain n) c seen h = h
@@ -252,10 +225,7 @@ module _ (w w' : World) (r : Recovery) (core : Job) (keeps : (n : ℕ) → 0 < t
     Free-keeps w w' d.0 (Stays-keeps w w' d.0 (leader-keeps (stage.Switched m d) c (takeover-crowns r.purpose h.0.takeover) d h.1.promoted)) h.2,
     Under-keeps w w' m.0 d.0 (Stays-keeps w w' m.0 (placed-keeps (stage.Switched m d) c m [] refl)) h.3,
   )
-  stands-on s0 stage.Idle c seen h = tt
-  stands-on s0 stage.Check c seen h = tt
-  stands-on s0 (stage.Read n) c seen h = tt
-  stands-on s0 (stage.Release n) c seen h = tt
+  stands-on s0 _ c seen h = tt
 
   -- a stage goes on, perhaps with another job
   pub stage-on : (s : Stage) → CoversAt w r s → (is_seen s ≡ true → core.seen ≡ r.core.seen) → CoversAt w' (record r { stage = s; core = core }) s

@@ -1,37 +1,19 @@
 -- What is decided at the beginning of a turn covers the replicas as far as before, or nobody leads.
 use Rattle.std.proofs.Common.{◌≡◌, ℕ, ◌+◌, ◌<◌, Bool, true, false, cond, List, [], ◌∷◌, ◌++◌, map, refl, sym, ◌∙◌, ap, subst, Option, Some, None, ◌⊎◌, inl, inr, arith}
 use Rattle.std.specs.Prelude.{◌==◌, IfSome, filter, find, option_map}
-use Rattle.std.specs.List.{All}
-use Rattle.std.proofs.lemmas.Bool.{false≢true, and_parts, eqb-true}
-use Rattle.std.proofs.lemmas.List.Elements.{All-nil, All-cons, All-head, All-tail, All-append, All-map, filter_passes}
-use Rattle.orch_base.specs.declared.server.Moment.{Moment}
-use Rattle.orch_base.specs.declared.server.ServerNo.{ServerNo}
-use Rattle.server_model.specs.Worlds.{World}
-use Rattle.instance_keeper.specs.declared.bridge.Bridge.{Bridge}
-use Rattle.instance_keeper.specs.Book.{BookState}
-use Rattle.operations.specs.declared.op.Op.{Op}
-use Rattle.operations.specs.declared.op.Op.TheVariants as op
-use Rattle.operations.specs.Jobs.{Job}
-use Rattle.recovery_plans.specs.declared.outcome.LostReplica.{LostReplica}
-use Rattle.recovery_plans.specs.declared.purpose.Purpose.{Purpose}
-use Rattle.recovery_plans.specs.declared.purpose.Purpose.TheVariants as purpose
-use Rattle.recovery_plans.specs.declared.stage.Stage.{Stage}
-use Rattle.recovery_plans.specs.declared.stage.Stage.TheVariants as stage
-use Rattle.recovery_plans.specs.declared.task.Task.{Task}
-use Rattle.recovery_plans.specs.declared.task.Task.TheVariants as task
-use Rattle.recovery_plans.specs.declared.task.Way.TheVariants as way
-use Rattle.recovery_plans.specs.Beginning.{first_source, is_master, is_takeover}
-use Rattle.recovery_plans.specs.Recoveries.{Recovery, working}
-use Rattle.recovery_plans.specs.Stages.{level}
-use Rattle.recovery_plans.specs.Telling.{told}
-use Rattle.recovery_plans.specs.Deciding.{better_of, choose, closing, crown, expels, ground_of, rejoin, releases, sort, why_of, yield}
-use Rattle.recovery_plans.specs.Moves as by
-use Rattle.recovery_plans.specs.Moves.{Decision, IsNext, MayDecide, decided_by, follows_lead}
-use Rattle.recovery_plans.proofs.Choices.{All-better}
-use Rattle.recovery_plans.proofs.Walking.{decides-idle}
-use Rattle.standing_laws.specs.Standing.{IsSourced}
-use Rattle.recovery_covers.specs.Covers.{times, follower_nos, lost_nos, crowns}
-use Rattle.recovery_covers.specs.SoFar.{of_task, of_queue, of_stage, chooses, decides, is_nil, in_order, is_intermediate, Leads, Awaits, OldFollows, Stands, CoversAt, CoversSoFar}
+use Rattle.recovery_covers.proofs.Prelude.{All, All-append, All-better, All-cons, All-head, All-map, All-nil, All-tail, Awaits, BookState, Bridge}
+use Rattle.recovery_covers.proofs.Prelude.{CoversAt, CoversSoFar, Decision, IsNext, IsSourced, Job, Leads, LostReplica, MayDecide, Moment, OldFollows}
+use Rattle.recovery_covers.proofs.Prelude.{Op, Purpose, Recovery, ServerNo, Stage, Stands, Task, World, and_parts, better_of, choose, chooses}
+use Rattle.recovery_covers.proofs.Prelude.{closing, crown, crowns, decided_by, decides, decides-idle, eqb-true, expels, false≢true, filter_passes}
+use Rattle.recovery_covers.proofs.Prelude.{first_source, follower_nos, follows_lead, ground_of, in_order, is_intermediate, is_master, is_nil}
+use Rattle.recovery_covers.proofs.Prelude.{is_takeover, level, lost_nos, of_queue, of_stage, of_task, rejoin, releases, sort, times, told, why_of}
+use Rattle.recovery_covers.proofs.Prelude.{working, yield}
+use Rattle.recovery_covers.proofs.Prelude.by
+use Rattle.recovery_covers.proofs.Prelude.op
+use Rattle.recovery_covers.proofs.Prelude.purpose
+use Rattle.recovery_covers.proofs.Prelude.stage
+use Rattle.recovery_covers.proofs.Prelude.task
+use Rattle.recovery_covers.proofs.Prelude.way
 use Rattle.recovery_covers.proofs.Times.{one, times-append, self-all}
 use Rattle.recovery_covers.proofs.Covering.{queue-as}
 use Rattle.recovery_covers.proofs.Chosen.{unnamed, unnamed-apart, chosen-covers}
@@ -47,17 +29,13 @@ pub record IsStuck (r : Recovery) : Type 0 where
 -- ---- purposes
 
 takeover-apart : (u : Purpose) → is_takeover u ≡ true → is_intermediate u ≡ false
-takeover-apart purpose.Regroup h = refl
-takeover-apart purpose.Master h = refl
 takeover-apart (purpose.Intermediate s) h = absurd (false≢true h)
-takeover-apart (purpose.Takeover d) h = refl
+takeover-apart _ h = refl
 
 -- in the recovery of an intermediate master the successor leads from the beginning
 intermediate-named : (u : Purpose) (o : Option ServerNo) → is_intermediate u ≡ true → IfSome (first_source u) (λ n. o ≡ Some n) → (n : ServerNo) × (o ≡ Some n)
-intermediate-named purpose.Regroup o h k = absurd (false≢true h)
-intermediate-named purpose.Master o h k = absurd (false≢true h)
 intermediate-named (purpose.Intermediate s) o h k = (s, k)
-intermediate-named (purpose.Takeover d) o h k = absurd (false≢true h)
+intermediate-named _ o h k = absurd (false≢true h)
 
 -- ---- what becomes of the lost
 
@@ -92,9 +70,7 @@ release-decide (n ∷ ns) ts = release-decide ns ts
 
 expels-none : (u : Purpose) → expels u None ≡ false
 expels-none purpose.Regroup = refl
-expels-none purpose.Master = refl
-expels-none (purpose.Intermediate s) = refl
-expels-none (purpose.Takeover d) = refl
+expels-none _ = refl
 
 module _ (w : World) where
   -- a lost one that is to be expelled is lost, and has a source

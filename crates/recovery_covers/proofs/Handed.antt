@@ -1,39 +1,15 @@
 -- What is decided covers the replicas as far as before: how the next drained one goes below a successor.
 use Rattle.std.proofs.Common.{◌≡◌, Bool, true, false, cond, List, [], ◌∷◌, ◌++◌, refl, sym, ◌∙◌, ap, subst, Option, Some, None, ◌&&◌, inl, inr, arith}
 use Rattle.std.specs.Prelude.{◌==◌, is_some, option_map}
-use Rattle.std.specs.List.{All}
-use Rattle.std.proofs.lemmas.Bool.{false≢true, and_parts, eqb-true, eq-eqb}
-use Rattle.std.proofs.lemmas.Option.{same_Some}
-use Rattle.std.proofs.lemmas.List.Elements.{All-nil, All-cons, All-head, All-tail, All-push}
-use Rattle.binlog_coords.specs.Log.{same_coord}
-use Rattle.orch_base.specs.declared.server.Moment.{Moment}
-use Rattle.orch_base.specs.declared.server.ServerNo.{ServerNo}
-use Rattle.server_model.specs.Worlds.{World}
-use Rattle.recovery_plans.specs.Whys as lost
-use Rattle.instance_keeper.specs.declared.bridge.Bridge.{Bridge}
-use Rattle.instance_keeper.specs.Book.{BookState}
-use Rattle.instance_keeper.specs.Bridges.{has_own, latest_that, ring_at}
-use Rattle.operations.specs.declared.sight.Sight.{Sight}
-use Rattle.operations.specs.Jobs.{seen_of}
-use Rattle.job_laws.specs.Footing.{source_shown}
-use Rattle.operations.proofs.Sights.{seen-at}
-use Rattle.operations.specs.declared.op.Op.{Op}
-use Rattle.recovery_plans.specs.declared.outcome.LostReplica.{LostReplica}
-use Rattle.recovery_plans.specs.declared.outcome.Stopped.{Stopped}
-use Rattle.recovery_plans.specs.declared.stage.Stage.{Stage}
-use Rattle.recovery_plans.specs.declared.stage.Stage.TheVariants as stage
-use Rattle.recovery_plans.specs.declared.task.Task.{Task}
-use Rattle.recovery_plans.specs.declared.task.Task.TheVariants as task
-use Rattle.recovery_plans.specs.declared.task.Way.{Way}
-use Rattle.recovery_plans.specs.declared.task.Way.TheVariants as way
-use Rattle.recovery_plans.specs.Deciding.{expels, ground_of, logs_at, moving, way_by_set, way_below}
-use Rattle.recovery_plans.specs.Recoveries.{Recovery, loses, sight_of}
-use Rattle.recovery_plans.specs.Stages.{before, tail_of, target, with_way}
-use Rattle.recovery_plans.specs.Moves.{IsHanding}
-use Rattle.recovery_plans.proofs.Choices.{same-no}
-use Rattle.recovery_laws.proofs.Choosing.{All-latest}
-use Rattle.standing_laws.specs.Standing.{IsSourced, IsApart, Reads}
-use Rattle.recovery_covers.specs.SoFar.{in_order, Leads, Awaits, CoversAt, CoversSoFar}
+use Rattle.recovery_covers.proofs.Prelude.{All, All-cons, All-head, All-latest, All-nil, All-push, All-tail, Awaits, BookState, Bridge, CoversAt}
+use Rattle.recovery_covers.proofs.Prelude.{CoversSoFar, IsApart, IsHanding, IsSourced, Leads, LostReplica, Moment, Op, Reads, Recovery, ServerNo}
+use Rattle.recovery_covers.proofs.Prelude.{Sight, Stage, Stopped, Task, Way, World, and_parts, before, eq-eqb, eqb-true, expels, false≢true}
+use Rattle.recovery_covers.proofs.Prelude.{ground_of, has_own, in_order, latest_that, logs_at, loses, moving, ring_at, same-no, same_coord, same_Some}
+use Rattle.recovery_covers.proofs.Prelude.{seen-at, seen_of, sight_of, source_shown, tail_of, target, way_below, way_by_set, with_way}
+use Rattle.recovery_covers.proofs.Prelude.lost
+use Rattle.recovery_covers.proofs.Prelude.stage
+use Rattle.recovery_covers.proofs.Prelude.task
+use Rattle.recovery_covers.proofs.Prelude.way
 use Rattle.recovery_covers.proofs.Covering.{queue-as}
 use Rattle.recovery_covers.proofs.Times.{times-push}
 
@@ -41,11 +17,9 @@ use Rattle.recovery_covers.proofs.Times.{times-push}
 
 -- by what it goes was seen
 pub way-reads : (xs : List Sight) (by : Way) → Reads (with_way xs by) by
-way-reads xs (way.Down b) = tt
 way-reads xs (way.Up b) =
     ap source_shown (seen-at xs b.no (sight_of b) b.no.0 ∙ ap (λ (x : Bool). cond x (Some (sight_of b)) (seen_of xs b.no.0)) (eq-eqb b.no.0 b.no.0 refl))
-way-reads xs (way.Auto to exec) = tt
-way-reads xs (way.Match to exec every) = tt
+way-reads xs _ = tt
 
 -- the operations of a replica that goes some way
 abbrev pub ops_in : Stage → List Op
@@ -54,9 +28,7 @@ ops_in s = []
 
 pub some-op : (n : ServerNo) (by : Way) → ops_in (stage.Move n by) ≡ [] → ⊥
 some-op n (way.Down b) h = cc
-some-op n (way.Up b) h = cc
-some-op n (way.Auto to exec) h = cc
-some-op n (way.Match to exec every) h = cc
+some-op n _ h = cc
 
 -- a way below the successor leads there
 pub way-leads : (w : World) (b : BookState) (now : Moment) (xs : List Sight) (x s : ServerNo) (d : Stopped) (by : Way) → way_below (ground_of w b now) xs x s d ≡ Some by → target by ≡ s

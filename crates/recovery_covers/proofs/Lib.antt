@@ -1,3 +1,4 @@
+mod Prelude
 pub mod Times
 pub mod Covering
 pub mod Changing
@@ -7,3 +8,10 @@ pub mod Decided
 pub mod Completing
 pub mod Turning
 pub mod Begun
+pub use Rattle.recovery_laws.proofs.BinlogCoords as BinlogCoords
+pub use Rattle.recovery_laws.proofs.JobLaws as JobLaws
+pub use Rattle.recovery_laws.proofs.PromotionRules as PromotionRules
+pub use Rattle.recovery_laws.proofs.RecoveryEnds as RecoveryEnds
+pub mod RecoveryLaws
+pub use Rattle.recovery_laws.proofs.RecoveryPlans as RecoveryPlans
+pub use Rattle.recovery_laws.proofs.ReplicationLaws as ReplicationLaws

@@ -1,11 +1,7 @@
 -- How often a server stands in a list.
 use Rattle.std.proofs.Common.{◌≡◌, ℕ, ◌+◌, ◌<◌, Bool, true, false, cond, not, List, [], ◌∷◌, ◌++◌, map, refl, sym, ◌∙◌, ap, arith}
 use Rattle.std.specs.Prelude.{◌==◌}
-use Rattle.std.specs.List.{All, filter}
-use Rattle.std.proofs.lemmas.Bool.{false≢true, eqb-true, eq-eqb, ne_eqb}
-use Rattle.std.proofs.lemmas.List.Elements.{All-nil, All-cons, All-head, All-tail}
-use Rattle.orch_base.specs.declared.server.ServerNo.{ServerNo}
-use Rattle.recovery_covers.specs.Covers.{times}
+use Rattle.recovery_covers.proofs.Prelude.{All, All-cons, All-head, All-nil, All-tail, ServerNo, eq-eqb, eqb-true, false≢true, filter, ne_eqb, times}
 
 -- how much one server adds
 abbrev pub one : ℕ → ServerNo → ℕ

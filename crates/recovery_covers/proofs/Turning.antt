@@ -1,55 +1,26 @@
 -- A turn of a recovery covers the replicas as far as before.
 use Rattle.std.proofs.Common.{◌≡◌, ℕ, Bool, true, false, cond, List, [], ◌∷◌, ◌++◌, refl, sym, ◌∙◌, ap, subst, Option, Some, None, ◌||◌, ◌⊎◌, inl, inr}
-use Rattle.std.proofs.lemmas.Bool.{false≢true}
-use Rattle.orch_base.specs.declared.server.Moment.{Moment}
-use Rattle.orch_base.specs.declared.server.ServerNo.{ServerNo}
-use Rattle.instance_keeper.specs.Book.{BookState}
-use Rattle.server_model.specs.Run.{Exchange, run}
-use Rattle.server_model.specs.Safe.{Placed}
-use Rattle.server_model.specs.Worlds.{World, server_at}
-use Rattle.commands.specs.declared.cause.Cause.{Cause}
-use Rattle.commands.specs.declared.cause.Cause.TheVariants as cause
-use Rattle.recovery_plans.specs.declared.why.Miss.{Miss}
-use Rattle.recovery_plans.specs.declared.why.Miss.TheVariants as miss
-use Rattle.recovery_plans.specs.declared.why.Why.{Why}
-use Rattle.recovery_plans.specs.Beginning.{is_takeover}
-use Rattle.recovery_plans.specs.Whys as lost
-use Rattle.kept_rows.specs.declared.observation.Observation.{Observation}
-use Rattle.operations.specs.declared.op.Crossing.TheVariants as cross
-use Rattle.operations.specs.declared.op.Op.{Op}
-use Rattle.operations.specs.declared.op.Op.TheVariants as op
-use Rattle.operations.specs.Deeds.{deed_of}
-use Rattle.operations.specs.Jobs.{Job}
-use Rattle.operations.specs.Turns as attempt
-use Rattle.operations.specs.Turns.{Attempt, by_deed, is_going}
-use Rattle.instance_keeper.specs.declared.bridge.Bridge.{Bridge}
-use Rattle.job_laws.specs.Footing.{footing, finds}
-use Rattle.job_laws.specs.Matched.{finds_match, matched_in}
-use Rattle.recovery_plans.specs.declared.purpose.Purpose.{Purpose}
-use Rattle.recovery_plans.specs.declared.purpose.Purpose.TheVariants as purpose
-use Rattle.recovery_plans.specs.declared.stage.Stage.{Stage}
-use Rattle.recovery_plans.specs.declared.stage.Stage.TheVariants as stage
-use Rattle.recovery_plans.specs.declared.task.Way.{Way}
-use Rattle.recovery_plans.specs.declared.task.Way.TheVariants as way
-use Rattle.recovery_plans.specs.Recoveries.{Recovery, follows_no_more, working}
-use Rattle.recovery_plans.specs.Stages.{ends, leaver, move, moved, moves, tail_of, target}
-use Rattle.recovery_plans.specs.Deciding.{expels, ground_of}
-use Rattle.recovery_plans.specs.Taking as taking
-use Rattle.recovery_plans.specs.Taking.{Fate, Loss, entered, stepped, fate_of_drain, fate_of_trail, lost_on_way, fate_of_errant, fate, loss_of, match_fate, missed_fate, move_fate, way_fate, exec_by, place_on, spot_by, is_waiting, taken}
-use Rattle.recovery_plans.specs.Moves as moving
-use Rattle.recovery_plans.specs.Moves.{Bearing, Decision, MayDecide, borne, decided_by, fate_of}
-use Rattle.recovery_plans.proofs.Walking.{Keeps, kept-along}
-use Rattle.recovery_laws.specs.HeldRecoveries.{HeldRecovery}
-use Rattle.recovery_ends.specs.Shapes.{Fits}
-use Rattle.recovery_ends.proofs.Fitting.{went-of}
-use Rattle.recovery_ends.proofs.Shapes.{WentOn, same-head, fits-step, moved-fits}
-use Rattle.recovery_laws.specs.Rings.{HeldRings}
-use Rattle.recovery_laws.proofs.Deciding.{decides-held}
-use Rattle.recovery_laws.proofs.Taking.{due, fits}
-use Rattle.standing_laws.specs.Standing.{IsApart, IsFree, IsSourced, IsWritable, KeepsSource, Stays, IsSourcedAsSeen}
-use Rattle.recovery_covers.specs.SoFar.{of_stage, is_late, Stands, CoversAt, CoversSoFar}
-use Rattle.standing_laws.proofs.Standing.{Stays-same}
-use Rattle.standing_laws.proofs.Effects.{After, IsMoved, IsOnce, Reads-true, deed-still, way-moves, up-once, about-moves, back-moves, detach-moves, reset-moves, shut-moves, open-moves, status-reads}
+use Rattle.recovery_covers.proofs.Prelude.{After, Attempt, Bearing, BookState, Bridge, Cause, CoversAt, CoversSoFar, Decision, Exchange, Fate, Fits}
+use Rattle.recovery_covers.proofs.Prelude.{HeldRecovery, HeldRings, IsApart, IsFree, IsMoved, IsOnce, IsSourced, IsSourcedAsSeen, IsWritable, Job}
+use Rattle.recovery_covers.proofs.Prelude.{Keeps, KeepsSource, Loss, MayDecide, Miss, Moment, Observation, Op, Placed, Purpose, Reads-true, Recovery}
+use Rattle.recovery_covers.proofs.Prelude.{ServerNo, Stage, Stands, Stays, Stays-same, Way, WentOn, Why, World, about-moves, back-moves, borne}
+use Rattle.recovery_covers.proofs.Prelude.{by_deed, decided_by, decides-held, deed-still, deed_of, detach-moves, due, ends, entered, exec_by, expels}
+use Rattle.recovery_covers.proofs.Prelude.{false≢true, fate, fate_of, fate_of_drain, fate_of_errant, fate_of_trail, finds, finds_match, fits}
+use Rattle.recovery_covers.proofs.Prelude.{fits-step, follows_no_more, footing, ground_of, is_going, is_late, is_takeover, is_waiting, kept-along}
+use Rattle.recovery_covers.proofs.Prelude.{leaver, loss_of, lost_on_way, match_fate, matched_in, missed_fate, move, move_fate, moved, moved-fits}
+use Rattle.recovery_covers.proofs.Prelude.{moves, of_stage, open-moves, place_on, reset-moves, run, same-head, server_at, shut-moves, spot_by}
+use Rattle.recovery_covers.proofs.Prelude.{status-reads, stepped, tail_of, taken, target, up-once, way-moves, way_fate, went-of, working}
+use Rattle.recovery_covers.proofs.Prelude.attempt
+use Rattle.recovery_covers.proofs.Prelude.by as moving
+use Rattle.recovery_covers.proofs.Prelude.cause
+use Rattle.recovery_covers.proofs.Prelude.cross
+use Rattle.recovery_covers.proofs.Prelude.lost
+use Rattle.recovery_covers.proofs.Prelude.miss
+use Rattle.recovery_covers.proofs.Prelude.op
+use Rattle.recovery_covers.proofs.Prelude.purpose
+use Rattle.recovery_covers.proofs.Prelude.stage
+use Rattle.recovery_covers.proofs.Prelude.taking
+use Rattle.recovery_covers.proofs.Prelude.way
 use Rattle.recovery_covers.proofs.Covering.{is_seen, last-on, restaged, stage-on}
 use Rattle.recovery_covers.proofs.Changing.{AllButOne, move-covers, expel-covers, swap-covers, return-covers, crown-covers, open-covers, shut-covers, yield-covers, switch-covers, level-covers}
 use Rattle.recovery_covers.proofs.Decided.{IsStuck, at-rest, decides-covers}
@@ -92,10 +63,8 @@ entered-core r s = go (leaver s)
     go (Some n) = refl
 
 takeover-leaves : (u : Purpose) (why : Why) → is_takeover u ≡ true → expels u (Some why) ≡ false
-takeover-leaves purpose.Regroup why h = absurd (false≢true h)
-takeover-leaves purpose.Master why h = absurd (false≢true h)
-takeover-leaves (purpose.Intermediate s) why h = absurd (false≢true h)
 takeover-leaves (purpose.Takeover d) why h = refl
+takeover-leaves _ why h = absurd (false≢true h)
 
 module _ (w : World) (read : ℕ) (now : Moment) (r : Recovery) (o : Op) (rest : List Op) (placed : Placed w) (held : HeldRecovery w r) (c : CoversSoFar w r) (is : r.core.ops ≡ o ∷ rest) where
   abbrev by : Op → Attempt
@@ -196,21 +165,7 @@ module _ (w : World) (read : ℕ) (now : Moment) (r : Recovery) (o : Op) (rest :
         (after-as (op.Cross cross.About m d) (λ x. IsMoved w x m.0 d.0) same (about-moves w read now r.core rest held.core.shown m d (found-as (op.Cross cross.About m d) same)))
     change-covers (stage.Close lines) t at =
         let bad : attempt.Ends lines ≡ attempt.Goes ob es k = sym (ap by (same-head o (op.Finish lines) rest _ t)) ∙ e in cc
-    change-covers stage.Idle t at = cc
-    change-covers stage.Check t at = cc
-    change-covers (stage.Read n) t at = cc
-    change-covers (stage.Judged n) t at = cc
-    change-covers (stage.Join n p) t at = cc
-    change-covers (stage.Expelled n) t at = cc
-    change-covers (stage.Release n) t at = cc
-    change-covers (stage.Swapped p q) t at = cc
-    change-covers (stage.Resume p q) t at = cc
-    change-covers (stage.Opened n) t at = cc
-    change-covers (stage.Meet m d) t at = cc
-    change-covers (stage.Gather m d) t at = cc
-    change-covers (stage.Looked n b) t at = cc
-    change-covers (stage.Halted n b) t at = cc
-    change-covers (stage.Switched m d) t at = cc
+    change-covers _ t at = cc
 
     -- ---- any operation
 
@@ -308,24 +263,18 @@ module _ (w : World) (read : ℕ) (now : Moment) (r : Recovery) (o : Op) (rest :
 
   lost-fine : (u : Purpose) (n : ServerNo) (by' : Way) (why : Why) → CoversAt w r (stage.Move n by') → IsFine (stage.Move n by') (lost_on_way u n why)
   lost-fine purpose.Regroup n by' why at = (refl, refl, λ h. at.stage.1)
-  lost-fine purpose.Master n by' why at = (refl, refl, λ h. at.stage.1)
-  lost-fine (purpose.Intermediate s) n by' why at = (refl, refl, λ h. at.stage.1)
-  lost-fine (purpose.Takeover d) n by' why at = (refl, refl, λ h. at.stage.1)
+  lost-fine _ n by' why at = (refl, refl, λ h. at.stage.1)
 
   errant-fine : (u : Purpose) (n : ServerNo) (by' : Way) → CoversAt w r (stage.Move n by') → IsFine (stage.Move n by') (fate_of_errant u n by')
   errant-fine u n (way.Auto to exec) at = lost-fine u n (way.Auto to exec) (lost.ahead exec) at
-  errant-fine u n (way.Down b) at = tt
-  errant-fine u n (way.Up b) at = tt
-  errant-fine u n (way.Match to exec every) at = tt
+  errant-fine u n _ at = tt
 
   missed-fine : (u : Purpose) (n : ServerNo) (by' : Way) → CoversAt w r (stage.Move n by') → (m : Miss) → IsFine (stage.Move n by') (missed_fate w u n by' m)
   missed-fine u n by' at (miss.Unreachable k) = lost-fine u n by' lost.unreachable at
   missed-fine u n by' at miss.Running = lost-fine u n by' (lost.moved (spot_by (server_at w n.0))) at
   missed-fine u n by' at (miss.Interfered expected there) = lost-fine u n by' (lost.moved there) at
-  missed-fine u n by' at miss.Loop = tt
   missed-fine u n by' at (miss.Purged first) = lost-fine u n by' (lost.purged (place_on by')) at
-  missed-fine u n by' at miss.NoMark = tt
-  missed-fine u n by' at (miss.Mismatch entry) = tt
+  missed-fine u n by' at _ = tt
 
   move-fine : (u : Purpose) (n : ServerNo) (by' : Way) → CoversAt w r (stage.Move n by') → (l : Option Loss) → IsFine (stage.Move n by') (move_fate w u n by' l)
   move-fine u n by' at None = tt

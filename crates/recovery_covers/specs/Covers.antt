@@ -1,16 +1,8 @@
 -- What a finished recovery owes the replicas of the server that failed, or that gave up its place.
 use Rattle.std.specs.Prelude.{◌≡◌, ℕ, ◌+◌, ◌≤◌, Bool, true, false, ◌==◌, if◌then◌else◌, List, [], ◌∷◌, map, Option, Some, None, All, Contains, ◌⊎◌}
-use Rattle.orch_base.specs.declared.server.ServerNo.{ServerNo}
-use Rattle.server_model.specs.Worlds.{World}
-use Rattle.commands.specs.declared.line.Line.{Line}
-use Rattle.recovery_plans.specs.declared.outcome.Follower.{Follower}
-use Rattle.recovery_plans.specs.declared.outcome.LostReplica.{LostReplica}
-use Rattle.recovery_plans.specs.declared.purpose.Purpose.{Purpose}
-use Rattle.recovery_plans.specs.declared.purpose.Purpose.TheVariants as purpose
-use Rattle.recovery_plans.specs.Beginning.{is_master}
-use Rattle.recovery_plans.specs.Recoveries.{Outcome, Recovery}
-use Rattle.recovery_plans.specs.Telling.{told}
-use Rattle.standing_laws.specs.Standing.{IsUnder, IsApart, IsRuling}
+use Rattle.recovery_covers.specs.Prelude.{Follower, IsApart, IsRuling, IsUnder, Line, LostReplica, Outcome, Purpose, Recovery, ServerNo, World}
+use Rattle.recovery_covers.specs.Prelude.{is_master, told}
+use Rattle.recovery_covers.specs.Prelude.purpose
 
 -- how often a server stands in a list
 abbrev pub times : ℕ → List ServerNo → ℕ

@@ -1,26 +1,13 @@
 -- How far a recovery has come in covering its replicas.
 use Rattle.std.specs.Prelude.{◌≡◌, ℕ, ◌+◌, ◌<◌, Bool, true, false, ◌&&◌, ◌||◌, not, List, [], ◌∷◌, ◌++◌, map, Option, Some, None, IfSome, All, Contains, ◌⊎◌}
-use Rattle.orch_base.specs.declared.server.ServerNo.{ServerNo}
-use Rattle.server_model.specs.Worlds.{World}
-use Rattle.instance_keeper.specs.declared.bridge.Bridge.{Bridge}
-use Rattle.recovery_plans.specs.declared.outcome.Follower.{Follower}
-use Rattle.recovery_plans.specs.declared.outcome.Stopped.{Stopped}
-use Rattle.recovery_plans.specs.declared.purpose.Purpose.{Purpose}
-use Rattle.recovery_plans.specs.declared.purpose.Purpose.TheVariants as purpose
-use Rattle.recovery_plans.specs.declared.stage.Stage.{Stage}
-use Rattle.recovery_plans.specs.declared.stage.Stage.TheVariants as stage
-use Rattle.recovery_plans.specs.declared.task.Task.{Task}
-use Rattle.recovery_plans.specs.declared.task.Task.TheVariants as task
-use Rattle.recovery_plans.specs.declared.task.Way.TheVariants as way
-use Rattle.recovery_plans.specs.Beginning.{first_source, is_master, is_takeover}
-use Rattle.recovery_plans.specs.Deciding.{expels}
-use Rattle.recovery_plans.specs.Recoveries.{Recovery}
-use Rattle.recovery_plans.specs.Stages.{tail_of, target}
-use Rattle.recovery_plans.specs.Standings as standing
-use Rattle.recovery_plans.specs.Standings.{Standing}
-use Rattle.recovery_plans.specs.Table.{info}
-use Rattle.recovery_plans.specs.Telling.{told}
-use Rattle.standing_laws.specs.Standing.{IsUnder, IsSourced, IsApart, IsFree, IsRuling, IsSourcedAsSeen, Reads}
+use Rattle.recovery_covers.specs.Prelude.{Bridge, Follower, IsApart, IsFree, IsRuling, IsSourced, IsSourcedAsSeen, IsUnder, Purpose, Reads, Recovery}
+use Rattle.recovery_covers.specs.Prelude.{ServerNo, Stage, Standing, Stopped, Task, World, expels, first_source, info, is_master, is_takeover}
+use Rattle.recovery_covers.specs.Prelude.{tail_of, target, told}
+use Rattle.recovery_covers.specs.Prelude.purpose
+use Rattle.recovery_covers.specs.Prelude.stage
+use Rattle.recovery_covers.specs.Prelude.standing
+use Rattle.recovery_covers.specs.Prelude.task
+use Rattle.recovery_covers.specs.Prelude.way
 use Rattle.recovery_covers.specs.Covers.{times, follower_nos, lost_nos, owed, leader, crowns, AreReplicas, HasSwapped}
 
 -- ---- the places

@@ -1,26 +1,11 @@
 //! What a recovery owes each replica.
 
 ghost use Rattle.std.specs.Prelude.{◌≡◌, ℕ, List, All, true};
-ghost use Rattle.orch_base.specs.declared.server.Moment.{Moment as AMoment};
-ghost use Rattle.orch_base.specs.declared.server.ServerNo.{ServerNo as Number};
-ghost use Rattle.instance_keeper.specs.Book.{BookState};
-ghost use Rattle.operations.specs.Changes.{server_of};
-ghost use Rattle.operations.specs.Turns.{is_going};
-ghost use Rattle.server_model.specs.Run.{Exchange, after, run};
-ghost use Rattle.server_model.specs.Safe.{Placed};
-ghost use Rattle.server_model.specs.Worlds.{World};
-ghost use Rattle.job_laws.specs.Leases.{Leases, IsLeased};
-ghost use Rattle.recovery_plans.specs.declared.means.Means.{Means as AMeans};
-ghost use Rattle.recovery_plans.specs.declared.purpose.Purpose.{Purpose as APurpose};
-ghost use Rattle.recovery_plans.specs.Beginning.{begun_recovery};
-ghost use Rattle.recovery_plans.specs.Recoveries.{Recovery};
-ghost use Rattle.recovery_plans.specs.Taking.{taken};
-ghost use Rattle.recovery_laws.specs.HeldRecoveries.{HeldRecovery};
-ghost use Rattle.recovery_laws.specs.LeasedRecoveries.{LeasedRecovery};
-ghost use Rattle.recovery_laws.specs.Rings.{HeldRings};
+ghost use Rattle.recovery_covers.specs.Prelude.{BookState, Exchange, HeldRecovery, HeldRings, IsLeased, LeasedRecovery, Leases, Means as AMeans};
+ghost use Rattle.recovery_covers.specs.Prelude.{Moment as AMoment, Placed, Purpose as APurpose, Recovery, ServerNo as Number, World, after};
+ghost use Rattle.recovery_covers.specs.Prelude.{begun_recovery, is_going, is_outside, run, server_of, taken};
 ghost use Rattle.recovery_covers.specs.Covers.{AreReplicas};
 ghost use Rattle.recovery_covers.specs.SoFar.{CoversSoFar};
-ghost use Rattle.standing_laws.specs.Standing.{is_outside};
 
 /// A recovery begins with its replicas covered so far, over any servers, where none of them is named twice.
 pub fn recoveries_begin_covered()

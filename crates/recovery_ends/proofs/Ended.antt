@@ -1,47 +1,24 @@
 -- A recovery ends: each turn after which it goes on leaves it fewer turns.
 use Rattle.std.proofs.Common.{◌≡◌, ℕ, ◌+◌, ◌*◌, ◌-◌, ◌<◌, ◌≤◌, Bool, true, false, cond, not, List, [], ◌∷◌, ◌++◌, map, length, refl, sym, ◌∙◌, ap, subst, Option, Some, None, ◌⊎◌, inl, inr, arith}
 use Rattle.std.specs.Prelude.{◌==◌, filter}
-use Rattle.std.proofs.lemmas.Bool.{false≢true}
-use Rattle.orch_base.specs.declared.server.Moment.{Moment}
-use Rattle.orch_base.specs.declared.server.ServerNo.{ServerNo}
-use Rattle.server_model.specs.Run.{Exchange}
-use Rattle.server_model.specs.Worlds.{World}
-use Rattle.recovery_plans.specs.declared.why.Why.{Why}
-use Rattle.instance_keeper.specs.declared.bridge.Bridge.{Bridge}
-use Rattle.kept_rows.specs.declared.observation.Observation.{Observation}
-use Rattle.instance_keeper.specs.Book.{BookState}
-use Rattle.operations.specs.declared.op.Crossing.TheVariants as cross
-use Rattle.operations.specs.declared.op.Op.{Op}
-use Rattle.operations.specs.declared.op.Op.TheVariants as op
-use Rattle.operations.specs.Deeds.{deed_of}
-use Rattle.operations.specs.Ending.{turns_for, turns_left, MovesOn}
-use Rattle.operations.specs.Jobs.{Job}
-use Rattle.operations.specs.Turns as attempt
-use Rattle.operations.specs.Turns.{Attempt, by_deed, going, is_going}
-use Rattle.operations.proofs.Ending.{turn-moves}
-use Rattle.recovery_plans.specs.declared.outcome.Stopped.{Stopped}
-use Rattle.recovery_plans.specs.declared.means.Means.{Means}
-use Rattle.recovery_plans.specs.declared.purpose.Purpose.{Purpose}
-use Rattle.recovery_plans.specs.declared.purpose.Purpose.TheVariants as purpose
-use Rattle.recovery_plans.specs.declared.stage.Stage.{Stage}
-use Rattle.recovery_plans.specs.declared.stage.Stage.TheVariants as stage
-use Rattle.recovery_plans.specs.declared.task.Task.{Task}
-use Rattle.recovery_plans.specs.declared.task.Task.TheVariants as task
-use Rattle.recovery_plans.specs.declared.task.Way.{Way}
-use Rattle.recovery_plans.specs.declared.task.Way.TheVariants as way
-use Rattle.recovery_plans.specs.Recoveries.{Recovery, follows, follows_no_more, loses, working}
-use Rattle.recovery_plans.specs.Stages.{before, ends, leaver, moved, tail_of}
-use Rattle.recovery_plans.specs.Table.{more_on}
-use Rattle.recovery_plans.specs.Beginning.{begun_recovery, first_stage}
-use Rattle.recovery_plans.specs.Deciding as deciding
-use Rattle.recovery_plans.specs.Deciding.{Lot, ground_of, lot_by, move_of, moves_in, without_stopped, choose, why_of, expels, releases, sort, closing}
-use Rattle.recovery_plans.specs.Taking as taking
-use Rattle.recovery_plans.specs.Taking.{idle, last_looks, entered, stepped, is_waiting, taken}
-use Rattle.recovery_plans.specs.Moves as by
-use Rattle.recovery_plans.specs.Moves.{Bearing, Decision, Does, Ending, IsNext, IsOver, MayBear, MayDecide, MayEnd, WasRead, borne, decided_by, ended_by, fate_of, rests, stopped_at}
-use Rattle.recovery_plans.proofs.Walking.{Keeps, decides-idle, kept-along}
-use Rattle.recovery_ends.specs.Shapes.{Fits}
-use Rattle.recovery_ends.specs.Ends.{ops_after, ops_of_task, ops_of_queue, closes, ops_of_crown, ops_last, ops_at_end, ops_to_come, turns_to_end, IsCalm, IsShaped}
+use Rattle.recovery_ends.proofs.Prelude.{Attempt, Bearing, BookState, Bridge, Decision, Does, Ending, Exchange, Fits, IsCalm, IsNext, IsOver}
+use Rattle.recovery_ends.proofs.Prelude.{IsShaped, Job, Keeps, Lot, MayBear, MayDecide, MayEnd, Means, Moment, MovesOn, Observation, Op, Purpose}
+use Rattle.recovery_ends.proofs.Prelude.{Recovery, ServerNo, Stage, Stopped, Task, WasRead, Way, Why, World, before, begun_recovery, borne, by_deed}
+use Rattle.recovery_ends.proofs.Prelude.{choose, closes, closing, decided_by, decides-idle, deed_of, ended_by, ends, entered, expels, false≢true}
+use Rattle.recovery_ends.proofs.Prelude.{fate_of, first_stage, follows, follows_no_more, going, ground_of, idle, is_going, is_waiting, kept-along}
+use Rattle.recovery_ends.proofs.Prelude.{last_looks, leaver, loses, lot_by, more_on, move_of, moved, moves_in, ops_after, ops_at_end, ops_last}
+use Rattle.recovery_ends.proofs.Prelude.{ops_of_crown, ops_of_queue, ops_of_task, ops_to_come, releases, rests, sort, stepped, stopped_at, tail_of}
+use Rattle.recovery_ends.proofs.Prelude.{taken, turn-moves, turns_for, turns_left, turns_to_end, why_of, without_stopped, working}
+use Rattle.recovery_ends.proofs.Prelude.attempt
+use Rattle.recovery_ends.proofs.Prelude.by
+use Rattle.recovery_ends.proofs.Prelude.cross
+use Rattle.recovery_ends.proofs.Prelude.deciding
+use Rattle.recovery_ends.proofs.Prelude.op
+use Rattle.recovery_ends.proofs.Prelude.purpose
+use Rattle.recovery_ends.proofs.Prelude.stage
+use Rattle.recovery_ends.proofs.Prelude.taking
+use Rattle.recovery_ends.proofs.Prelude.task
+use Rattle.recovery_ends.proofs.Prelude.way
 use Rattle.recovery_ends.proofs.Shapes.{fits-step, moved-fits, same-head}
 use Rattle.recovery_ends.proofs.Fitting.{IsFit, begun-fits, decides-fits, stepped-fits, taken-fits, went-of}
 
@@ -91,9 +68,7 @@ pub record NoMore (r r' : Recovery) : Type 0 where
 -- whatever way it goes
 way-room : (by : Way) (n : ServerNo) → length (before by n ++ tail_of (stage.Move n by)) + ops_after (stage.Move n by) ≡ 3
 way-room (way.Down b) n = refl
-way-room (way.Up b) n = refl
-way-room (way.Auto to exec) n = refl
-way-room (way.Match to exec every) n = refl
+way-room _ n = refl
 
 module _ (w : World) (b : BookState) (now : Moment) where
   -- of a recovery without an operation, which isn't at its last stages
@@ -317,9 +292,7 @@ module _ (r : Recovery) (none : r.core.ops ≡ []) where
 
   looks-at : (u : Purpose) (n : ServerNo) → r.stage ≡ stage.Opened n → Within r (closing r (last_looks r u n))
   looks-at purpose.Regroup n is = let c = come-at r (stage.Opened n) is in record { ops = omega (arith, c); wait = refl; waited = λ h. omega arith; rests = λ h. cc }
-  looks-at purpose.Master n is = let c = come-at r (stage.Opened n) is in record { ops = omega (arith, c); wait = refl; waited = λ h. omega arith; rests = λ h. cc }
-  looks-at (purpose.Intermediate s) n is = let c = come-at r (stage.Opened n) is in record { ops = omega (arith, c); wait = refl; waited = λ h. omega arith; rests = λ h. cc }
-  looks-at (purpose.Takeover d) n is = let c = come-at r (stage.Opened n) is in record { ops = omega (arith, c); wait = refl; waited = λ h. omega arith; rests = λ h. cc }
+  looks-at _ n is = let c = come-at r (stage.Opened n) is in record { ops = omega (arith, c); wait = refl; waited = λ h. omega arith; rests = λ h. cc }
 
   -- a stage with an end of its own that makes nothing has an operation left
   rests-at : (s : Stage) → r.stage ≡ s → rests s ≡ true → Fits s [] → Within r (idle r)
@@ -582,9 +555,7 @@ begun-calm u by id wait f ns order = record { waited = omega arith; rests = λ h
   where
     go : (v : Purpose) → closes (first_stage v f) ≡ false
     go purpose.Regroup = refl
-    go purpose.Master = refl
-    go (purpose.Intermediate s) = refl
-    go (purpose.Takeover d) = refl
+    go _ = refl
 
 pub begun-shaped : (u : Purpose) (by : Means) (id wait : ℕ) (f : ServerNo) (ns order : List ServerNo) → IsShaped (begun_recovery u by id wait f ns order)
 begun-shaped u by id wait f ns order = record { fits = begun-fits u f; calm = begun-calm u by id wait f ns order }

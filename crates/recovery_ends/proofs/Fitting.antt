@@ -1,32 +1,14 @@
 -- The operations that are left of a recovery are its stage's, whatever the servers and the book.
 use Rattle.std.proofs.Common.{◌≡◌, ℕ, Bool, true, false, cond, List, [], ◌∷◌, refl, sym, subst, Option, Some, None, ◌⊎◌, inl, inr}
-use Rattle.orch_base.specs.declared.server.Moment.{Moment}
-use Rattle.orch_base.specs.declared.server.ServerNo.{ServerNo}
-use Rattle.server_model.specs.Run.{Exchange}
-use Rattle.server_model.specs.Worlds.{World}
-use Rattle.instance_keeper.specs.declared.bridge.Bridge.{Bridge}
-use Rattle.kept_rows.specs.declared.observation.Observation.{Observation}
-use Rattle.instance_keeper.specs.Book.{BookState}
-use Rattle.operations.specs.declared.op.Op.{Op}
-use Rattle.operations.specs.declared.op.Op.TheVariants as op
-use Rattle.operations.specs.Deeds.{deed_of}
-use Rattle.operations.specs.Jobs.{Job}
-use Rattle.operations.specs.Turns.{Attempt, is_going}
-use Rattle.recovery_plans.specs.declared.purpose.Purpose.{Purpose}
-use Rattle.recovery_plans.specs.declared.purpose.Purpose.TheVariants as purpose
-use Rattle.recovery_plans.specs.declared.stage.Stage.{Stage}
-use Rattle.recovery_plans.specs.declared.stage.Stage.TheVariants as stage
-use Rattle.recovery_plans.specs.declared.task.Way.TheVariants as way
-use Rattle.recovery_plans.specs.Recoveries.{Recovery, follows_no_more}
-use Rattle.recovery_plans.specs.Stages.{ends, leaver, level, moved, tail_of, trail}
-use Rattle.recovery_plans.specs.Beginning.{first_ops, first_stage}
-use Rattle.recovery_plans.specs.Telling.{told}
-use Rattle.recovery_plans.specs.Deciding.{closing, ground_of}
-use Rattle.recovery_plans.specs.Taking.{taken, entered, idle, last_looks, stepped}
-use Rattle.recovery_plans.specs.Moves as by
-use Rattle.recovery_plans.specs.Moves.{Bearing, Decision, Does, Ending, MayDecide, MayEnd, borne, decided_by, ended_by, fate_of}
-use Rattle.recovery_plans.proofs.Walking.{Keeps, kept-along}
-use Rattle.recovery_ends.specs.Shapes.{Fits}
+use Rattle.recovery_ends.proofs.Prelude.{Attempt, Bearing, BookState, Bridge, Decision, Does, Ending, Exchange, Fits, Job, Keeps, MayDecide, MayEnd}
+use Rattle.recovery_ends.proofs.Prelude.{Moment, Observation, Op, Purpose, Recovery, ServerNo, Stage, World, borne, closing, decided_by, deed_of}
+use Rattle.recovery_ends.proofs.Prelude.{ended_by, ends, entered, fate_of, first_ops, first_stage, follows_no_more, ground_of, idle, is_going}
+use Rattle.recovery_ends.proofs.Prelude.{kept-along, last_looks, leaver, level, moved, stepped, tail_of, taken, told, trail}
+use Rattle.recovery_ends.proofs.Prelude.by
+use Rattle.recovery_ends.proofs.Prelude.op
+use Rattle.recovery_ends.proofs.Prelude.purpose
+use Rattle.recovery_ends.proofs.Prelude.stage
+use Rattle.recovery_ends.proofs.Prelude.way
 use Rattle.recovery_ends.proofs.Shapes.{Went, WentOn, deed-went, fits-step, front-fits, moved-fits, tail-fits, way-fits}
 
 abbrev pub IsFit : Recovery → Type 0
@@ -77,10 +59,8 @@ idle-fits : (r : Recovery) → r.core.ops ≡ [] → IsFit (idle r)
 idle-fits r none = record { front = []; still = refl; is = none; due = λ h. cc }
 
 close-fits : (r : Recovery) (u : Purpose) (n : ServerNo) → IsFit (closing r (last_looks r u n))
-close-fits r purpose.Regroup n = record { front = op.Status n None ∷ []; still = refl; is = refl; due = λ h. cc }
-close-fits r purpose.Master n = record { front = op.Status n None ∷ []; still = refl; is = refl; due = λ h. cc }
-close-fits r (purpose.Intermediate s) n = record { front = op.Status n None ∷ []; still = refl; is = refl; due = λ h. cc }
 close-fits r (purpose.Takeover d) n = record { front = op.Status r.failed None ∷ op.Status n None ∷ []; still = refl; is = refl; due = λ h. cc }
+close-fits r _ n = record { front = op.Status n None ∷ []; still = refl; is = refl; due = λ h. cc }
 
 completes-fits : (v : World) (r : Recovery) (e : Ending) → r.core.ops ≡ [] → MayEnd r e → IsFit r → IsFit (ended_by r e)
 completes-fits v r (by.Frees n why) none may fits = release-fits n

@@ -1,3 +1,4 @@
+mod Prelude
 pub mod Shapes
 pub mod Fitting
 pub mod Ended

@@ -1,23 +1,13 @@
 -- What a turn of a recovery observes is what its operation does.
 use Rattle.std.proofs.Common.{◌≡◌, refl, Option, Some, None, List}
-use Rattle.kept_rows.specs.declared.observation.Observation.{Observation}
-use Rattle.server_model.specs.Run.{Exchange}
-use Rattle.server_model.specs.Worlds.{World}
-use Rattle.commands.specs.declared.cause.Cause.{Cause}
-use Rattle.operations.specs.declared.op.Op.{Op}
-use Rattle.operations.specs.Jobs.{Job}
-use Rattle.operations.specs.Turns as attempt
-use Rattle.operations.specs.Turns.{Attempt, settled}
-use Rattle.recovery_plans.specs.Recoveries.{Recovery}
-use Rattle.recovery_plans.specs.Taking as taking
-use Rattle.recovery_plans.specs.Taking.{Fate, attempted, barred_by, fate, met, on_going}
+use Rattle.recovery_ends.proofs.Prelude.{Attempt, Cause, Exchange, Fate, Job, Observation, Op, Recovery, World, attempted, barred_by, fate, met}
+use Rattle.recovery_ends.proofs.Prelude.{on_going, settled}
+use Rattle.recovery_ends.proofs.Prelude.attempt
+use Rattle.recovery_ends.proofs.Prelude.taking
 
 met-observes : (w : World) (r : Recovery) (c : Cause) (ob : Option Observation) (x : Fate) → (met w r c ob x).observation ≡ ob
 met-observes w r c ob taking.Fails = refl
-met-observes w r c ob taking.Drops = refl
-met-observes w r c ob (taking.Loses n why) = refl
-met-observes w r c ob (taking.Frees n why) = refl
-met-observes w r c ob (taking.Goes s ops) = refl
+met-observes w r c ob _ = refl
 
 going-observes : (w : World) (r : Recovery) (o : Op) (ob : Option Observation) (es : List Exchange) (j : Job) (c : Option Cause) → (on_going w r o ob es j c).observation ≡ ob
 going-observes w r o ob es j None = refl

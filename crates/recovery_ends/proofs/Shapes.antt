@@ -1,40 +1,20 @@
 -- The operations that an attempt leaves of a stage.
 use Rattle.std.proofs.Common.{◌≡◌, ℕ, ◌+◌, Bool, true, false, cond, not, List, [], ◌∷◌, ◌++◌, refl, sym, ◌∙◌, ap, subst, Option, Some, None, Ok, Err, Result, ◌⊎◌, inl, inr, arith}
 use Rattle.std.specs.Prelude.{◌==◌, nat_lt, slice_index_or}
-use Rattle.std.proofs.lemmas.Bool.{false≢true, and_parts, ne_eqb}
-use Rattle.binlog_coords.specs.declared.Coord.{Coord}
-use Rattle.orch_base.specs.declared.server.Moment.{Moment}
-use Rattle.orch_base.specs.declared.server.ServerNo.{ServerNo}
-use Rattle.kept_rows.specs.declared.observation.Observation.{Observation}
-use Rattle.kept_rows.specs.Seeing.{seen_in}
-use Rattle.server_words.specs.declared.answers.Unreachable.{Unreachable}
-use Rattle.server_words.specs.declared.attach.AttachFault.{AttachFault}
-use Rattle.server_words.specs.declared.attach.Spot.{Spot}
-use Rattle.server_words.specs.declared.changes.Ask.{Ask}
-use Rattle.server_words.specs.declared.changes.Ask.TheVariants as asking
-use Rattle.server_words.specs.declared.status.Status.{Status}
-use Rattle.server_model.specs.Desk.{desk_answer}
-use Rattle.server_model.specs.Gtids.{status}
-use Rattle.server_model.specs.Run.{Exchange}
-use Rattle.server_model.specs.Worlds.{World, server_at}
-use Rattle.commands.specs.declared.cause.Cause.TheVariants as cause
-use Rattle.operations.specs.declared.op.Crossing.TheVariants as cross
-use Rattle.operations.specs.declared.matching.MatchFault.{MatchFault}
-use Rattle.operations.specs.declared.op.Op.{Op}
-use Rattle.operations.specs.declared.op.Op.TheVariants as op
-use Rattle.operations.specs.Deeds as deed
-use Rattle.operations.specs.Deeds.{Deed, deed_of}
-use Rattle.operations.specs.Jobs.{Job, match_found, seen_of}
-use Rattle.operations.specs.Matching.{match_logs, standing_at}
-use Rattle.operations.specs.Targets.{can_attach}
-use Rattle.operations.specs.Turns.{bridge_at, Attempt, Goes, Stops, Ends, next, saw, observed, is_moved, after_status, after_look, after_ask, aim_of, is_reached, until_by, after_until, after_wait_by, after_wait, holds_seen, settles, read_by, crossed, same_again, by_set, with_match, after_match, by_match, attach_answer_of, after_answer, after_attach, by_deed}
-use Rattle.recovery_plans.specs.declared.stage.Stage.{Stage}
-use Rattle.recovery_plans.specs.declared.stage.Stage.TheVariants as stage
-use Rattle.recovery_plans.specs.declared.task.Way.{Way}
-use Rattle.recovery_plans.specs.declared.task.Way.TheVariants as way
-use Rattle.recovery_plans.specs.Stages.{before, ends, gather, moved, tail_of}
-use Rattle.recovery_plans.specs.Taking.{is_waiting}
-use Rattle.recovery_ends.specs.Shapes.{Fits, are_still, is_due}
+use Rattle.recovery_ends.proofs.Prelude.{Ask, AttachFault, Attempt, Coord, Deed, Ends, Exchange, Fits, Goes, Job, MatchFault, Moment, Observation, Op}
+use Rattle.recovery_ends.proofs.Prelude.{ServerNo, Spot, Stage, Status, Stops, Unreachable, Way, World, after_answer, after_ask, after_attach}
+use Rattle.recovery_ends.proofs.Prelude.{after_look, after_match, after_status, after_until, after_wait, after_wait_by, aim_of, and_parts, are_still}
+use Rattle.recovery_ends.proofs.Prelude.{attach_answer_of, before, bridge_at, by_deed, by_match, by_set, can_attach, crossed, deed_of, desk_answer}
+use Rattle.recovery_ends.proofs.Prelude.{ends, false≢true, gather, holds_seen, is_due, is_moved, is_reached, is_waiting, match_found, match_logs}
+use Rattle.recovery_ends.proofs.Prelude.{moved, ne_eqb, next, observed, read_by, same_again, saw, seen_in, seen_of, server_at, settles, standing_at}
+use Rattle.recovery_ends.proofs.Prelude.{status, tail_of, until_by, with_match}
+use Rattle.recovery_ends.proofs.Prelude.asking
+use Rattle.recovery_ends.proofs.Prelude.cause
+use Rattle.recovery_ends.proofs.Prelude.cross
+use Rattle.recovery_ends.proofs.Prelude.deed
+use Rattle.recovery_ends.proofs.Prelude.op
+use Rattle.recovery_ends.proofs.Prelude.stage
+use Rattle.recovery_ends.proofs.Prelude.way
 
 -- ---- an attempt that goes on
 
@@ -203,18 +183,4 @@ moved-fits (stage.Yield m d) o rest h =
     moved-by (stage.Yield m d) (op.Reset d) (op.Cross cross.About m d ∷ []) o rest h refl (tail-fits (stage.Switch m d))
 moved-fits (stage.Switch m d) o rest h = moved-by (stage.Switch m d) (op.Cross cross.About m d) [] o rest h refl (tail-fits (stage.Switched m d))
 moved-fits (stage.Close lines) o rest h = moved-by (stage.Close lines) (op.Finish lines) [] o rest h refl (tail-fits stage.Idle)
-moved-fits stage.Idle o rest h = cc
-moved-fits stage.Check o rest h = cc
-moved-fits (stage.Read n) o rest h = cc
-moved-fits (stage.Judged n) o rest h = cc
-moved-fits (stage.Join n p) o rest h = cc
-moved-fits (stage.Expelled n) o rest h = cc
-moved-fits (stage.Release n) o rest h = cc
-moved-fits (stage.Swapped p q) o rest h = cc
-moved-fits (stage.Resume p q) o rest h = cc
-moved-fits (stage.Opened n) o rest h = cc
-moved-fits (stage.Meet m d) o rest h = cc
-moved-fits (stage.Gather m d) o rest h = cc
-moved-fits (stage.Looked n b) o rest h = cc
-moved-fits (stage.Halted n b) o rest h = cc
-moved-fits (stage.Switched m d) o rest h = cc
+moved-fits _ o rest h = cc

@@ -1,7 +1,7 @@
 -- How many turns a recovery has at most before it ends.
 use Rattle.std.specs.Prelude.{◌≡◌, ℕ, ◌+◌, ◌*◌, ◌≤◌, Bool, true, false, List, [], ◌∷◌, length}
-use Rattle.orch_base.specs.declared.server.ServerNo.{ServerNo}
-use Rattle.operations.specs.Ending.{turns_left}
+use Rattle.recovery_plans.specs.OrchBase.declared.server.ServerNo.{ServerNo}
+use Rattle.recovery_plans.specs.Operations.Ending.{turns_left}
 use Rattle.recovery_plans.specs.declared.purpose.Purpose.{Purpose}
 use Rattle.recovery_plans.specs.declared.purpose.Purpose.TheVariants as purpose
 use Rattle.recovery_plans.specs.declared.stage.Stage.{Stage}

@@ -1,8 +1,8 @@
 -- The operations that are left of a stage.
 use Rattle.std.specs.Prelude.{◌≡◌, Bool, true, not, List, [], ◌++◌}
 use Rattle.std.specs.List.{list_all}
-use Rattle.operations.specs.declared.op.Op.{Op}
-use Rattle.operations.specs.Deeds.{deed_of}
+use Rattle.recovery_plans.specs.Operations.declared.op.Op.{Op}
+use Rattle.recovery_plans.specs.Operations.Deeds.{deed_of}
 use Rattle.recovery_plans.specs.declared.stage.Stage.{Stage}
 use Rattle.recovery_plans.specs.Table.{info}
 use Rattle.recovery_plans.specs.Stages.{ends, tail_of}

@@ -1,11 +1,11 @@
 //! Recoveries end.
 
 ghost use Rattle.std.specs.Prelude.{◌≡◌, ◌<◌, ℕ, List, true};
-ghost use Rattle.orch_base.specs.declared.server.Moment.{Moment as AMoment};
-ghost use Rattle.orch_base.specs.declared.server.ServerNo.{ServerNo as Number};
-ghost use Rattle.instance_keeper.specs.Book.{BookState};
-ghost use Rattle.operations.specs.Turns.{is_going};
-ghost use Rattle.server_model.specs.Worlds.{World};
+ghost use Rattle.recovery_plans.specs.OrchBase.declared.server.Moment.{Moment as AMoment};
+ghost use Rattle.recovery_plans.specs.OrchBase.declared.server.ServerNo.{ServerNo as Number};
+ghost use Rattle.recovery_plans.specs.InstanceKeeper.Book.{BookState};
+ghost use Rattle.recovery_plans.specs.Operations.Turns.{is_going};
+ghost use Rattle.recovery_plans.specs.ServerModel.Worlds.{World};
 ghost use Rattle.recovery_plans.specs.declared.means.Means.{Means as AMeans};
 ghost use Rattle.recovery_plans.specs.declared.purpose.Purpose.{Purpose as APurpose};
 ghost use Rattle.recovery_plans.specs.Beginning.{begun_recovery};

@@ -1,57 +1,19 @@
 -- What each that might have been chosen had when it was drained is a beginning of what the promoted server has.
 use Rattle.std.proofs.Common.{◌≡◌, ℕ, ◌≤◌, Bool, true, false, cond, List, ◌∷◌, ◌++◌, length, take, drop, get_or, sym, ◌∙◌, ap, subst, Option, Some, None, ◌⊎◌, inl, inr, arith}
 use Rattle.std.specs.Prelude.{filter, not}
-use Rattle.std.specs.List.{All}
-use Rattle.std.proofs.lemmas.Bool.{and_parts}
-use Rattle.std.proofs.lemmas.Option.{same_Some}
-use Rattle.std.proofs.lemmas.List.{length-take, length-take-le, take-append-drop, take-append-le}
-use Rattle.std.proofs.lemmas.List.Elements.{All-nil, All-weaker, All-filter, All-contains, filter_passes}
-use Rattle.binlog_coords.specs.declared.Coord.{Coord}
-use Rattle.binlog_coords.specs.Log.{place, is_at_or_before}
-use Rattle.binlog_coords.proofs.Places.{place-monotone}
-use Rattle.orch_base.specs.declared.server.Moment.{Moment}
-use Rattle.orch_base.specs.declared.server.ServerNo.{ServerNo}
-use Rattle.orch_base.specs.declared.server.SourceState.{SourceState}
-use Rattle.orch_base.specs.declared.server.SourceState.TheVariants.{Without, Attached, Detached}
-use Rattle.orch_base.specs.declared.server.Txn.{Txn}
-use Rattle.server_model.specs.declared.server.Server.{Server}
-use Rattle.server_model.specs.Bridges.{Stands}
-use Rattle.server_model.specs.Run.{Exchange, run, AllAllowed}
-use Rattle.server_model.specs.Safe.{Safe, Placed}
-use Rattle.server_model.specs.Worlds.{World, source_no}
-use Rattle.replication_laws.specs.Growth.{Grows}
-use Rattle.replication_laws.proofs.Runs.{Grows-run}
-use Rattle.commands.specs.declared.line.Line.{Line}
-use Rattle.instance_keeper.specs.Book.{BookState, rule_at}
-use Rattle.operations.specs.Targets.{logs_by}
-use Rattle.operations.specs.declared.op.Op.{Op}
-use Rattle.operations.specs.Deeds.{deed_of}
-use Rattle.promotion_rules.specs.Choice.{is_barred}
-use Rattle.recovery_plans.specs.declared.outcome.Follower.{Follower}
-use Rattle.recovery_plans.specs.declared.outcome.Stopped.{Stopped}
-use Rattle.recovery_plans.specs.declared.means.Means.{Means}
-use Rattle.recovery_plans.specs.declared.purpose.Purpose.{Purpose}
-use Rattle.recovery_plans.specs.declared.purpose.Purpose.TheVariants as purpose
-use Rattle.recovery_plans.specs.Beginning.{begun_recovery}
-use Rattle.recovery_plans.specs.Recoveries.{Recovery, follows_no_more}
-use Rattle.recovery_plans.specs.Stages.{ends, leaver, moved}
-use Rattle.recovery_plans.specs.Deciding.{ground_of, logs_at, chosen_of, may_lead}
-use Rattle.recovery_plans.specs.Taking.{entered, stepped, taken}
-use Rattle.recovery_plans.specs.Moves as by
-use Rattle.recovery_plans.specs.Moves.{Bearing, Decision, Ending, MayDecide, borne, decided_by, ended_by, fate_of}
-use Rattle.recovery_plans.proofs.Walking as walk
-use Rattle.recovery_plans.proofs.Walking.{kept-whole}
-use Rattle.recovery_plans.proofs.Choices.{All-chosen, chosen-logs}
-use Rattle.recovery_laws.specs.HeldRecoveries.{IsStopped, HeldRecovery}
-use Rattle.recovery_laws.specs.Rings.{HeldRings, SoundRings}
-use Rattle.recovery_laws.specs.SoundRecoveries.{IsSoundStop, SoundRecovery}
-use Rattle.recovery_laws.proofs.Deciding.{decides-held}
-use Rattle.recovery_laws.proofs.Sounding.{decides-sound}
-use Rattle.recovery_laws.proofs.Taking.{taken-held}
-use Rattle.recovery_covers.specs.Covers.{times, HasSwapped, IsAsNamed, IsTold}
-use Rattle.standing_laws.specs.Standing.{attached_no, IsUnder}
-use Rattle.recovery_covers.specs.SoFar.{stopped_nos, CoversSoFar}
-use Rattle.recovery_histories.specs.Kept.{Keeps, KeptByChosen, IsBeginning}
+use Rattle.recovery_histories.proofs.Prelude.{All, All-chosen, All-contains, All-filter, All-nil, All-weaker, AllAllowed, Attached, Bearing}
+use Rattle.recovery_histories.proofs.Prelude.{BookState, Coord, CoversSoFar, Decision, Detached, Ending, Exchange, Follower, Grows, Grows-run}
+use Rattle.recovery_histories.proofs.Prelude.{HasSwapped, HeldRecovery, HeldRings, IsAsNamed, IsBeginning, IsSoundStop, IsStopped, IsTold, IsUnder}
+use Rattle.recovery_histories.proofs.Prelude.{Keeps, KeptByChosen, Line, MayDecide, Means, Moment, Op, Placed, Purpose, Recovery, Safe, Server}
+use Rattle.recovery_histories.proofs.Prelude.{ServerNo, SoundRecovery, SoundRings, SourceState, Stands, Stopped, Txn, Without, World, and_parts}
+use Rattle.recovery_histories.proofs.Prelude.{attached_no, begun_recovery, borne, chosen-logs, chosen_of, decided_by, decides-held, decides-sound}
+use Rattle.recovery_histories.proofs.Prelude.{deed_of, ended_by, ends, entered, fate_of, filter_passes, follows_no_more, ground_of, is_at_or_before}
+use Rattle.recovery_histories.proofs.Prelude.{is_barred, kept-whole, leaver, length-take, length-take-le, logs_at, logs_by, may_lead, moved, place}
+use Rattle.recovery_histories.proofs.Prelude.{place-monotone, rule_at, run, same_Some, source_no, stepped, stopped_nos, take-append-drop}
+use Rattle.recovery_histories.proofs.Prelude.{take-append-le, taken, taken-held, times}
+use Rattle.recovery_histories.proofs.Prelude.by
+use Rattle.recovery_histories.proofs.Prelude.purpose
+use Rattle.recovery_histories.proofs.Prelude.walk
 use Rattle.recovery_histories.proofs.Ordering.{chosen-most}
 
 -- ---- beginnings
@@ -281,9 +243,6 @@ pub old-begins : (w : World) (r : Recovery) (lines : List Line) (d : ServerNo) �
 old-begins w r lines d safe told is = under-begins w r.failed.0 d.0 safe (go r.purpose is told.covers.named)
   where
     go : (u : Purpose) → u ≡ purpose.Takeover d → IsAsNamed u r.failed r.outcome → IsUnder w r.failed.0 d.0
-    go purpose.Regroup e h = cc
-    go purpose.Master e h = cc
-    go (purpose.Intermediate s) e h = cc
     go (purpose.Takeover x) e h =
         let same : x ≡ d = ap of-takeover e in
         subst (λ (n : ServerNo). IsUnder w r.failed.0 n.0) same
@@ -294,3 +253,4 @@ old-begins w r lines d safe told is = under-begins w r.failed.0 d.0 safe (go r.p
         of-takeover purpose.Master = d
         of-takeover (purpose.Intermediate s) = s
         of-takeover (purpose.Takeover y) = y
+    go _ e h = cc

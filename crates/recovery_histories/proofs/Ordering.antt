@@ -1,24 +1,10 @@
 -- The chosen one has executed the most.
 use Rattle.std.proofs.Common.{◌≡◌, ℕ, ◌+◌, ◌<◌, ◌≤◌, Bool, true, false, cond, List, [], ◌∷◌, map, refl, sym, ◌∙◌, ap, Option, Some, None, ◌&&◌, ◌||◌, arith}
 use Rattle.std.specs.Prelude.{◌==◌, find, nat_lt, nat_le}
-use Rattle.std.specs.List.{All}
-use Rattle.std.proofs.lemmas.Bool.{false≢true, eqb-true, eq-eqb, ltb-false, le-leb}
-use Rattle.std.proofs.lemmas.Option.{same_Some}
-use Rattle.std.proofs.lemmas.List.Elements.{All-nil, All-cons, All-head, All-tail, All-map, All-contains}
-use Rattle.binlog_coords.specs.declared.Coord.{Coord}
-use Rattle.binlog_coords.specs.Log.{is_before, is_at_or_before}
-use Rattle.orch_base.specs.declared.server.Moment.{Moment}
-use Rattle.orch_base.specs.declared.server.ServerNo.{ServerNo}
-use Rattle.server_model.specs.Worlds.{World}
-use Rattle.instance_keeper.specs.Book.{BookState}
-use Rattle.promotion_rules.specs.declared.drained.Drained.{Drained}
-use Rattle.promotion_rules.specs.Choice.{advance_order, is_eligible, most_advanced}
-use Rattle.promotion_rules.proofs.Choosing.{chosen-first, first-furthest}
-use Rattle.recovery_plans.specs.declared.outcome.Stopped.{Stopped}
-use Rattle.recovery_plans.specs.Deciding.{drained_of, ground_of, may_lead, stopped_in, chosen_of}
-use Rattle.recovery_covers.specs.Covers.{times}
-use Rattle.recovery_covers.specs.SoFar.{stopped_nos}
-use Rattle.recovery_covers.proofs.Times.{All-counted}
+use Rattle.recovery_histories.proofs.Prelude.{All, All-cons, All-contains, All-counted, All-head, All-map, All-nil, All-tail, BookState, Coord}
+use Rattle.recovery_histories.proofs.Prelude.{Drained, Moment, ServerNo, Stopped, World, advance_order, chosen-first, chosen_of, drained_of, eq-eqb}
+use Rattle.recovery_histories.proofs.Prelude.{eqb-true, false≢true, first-furthest, ground_of, is_at_or_before, is_before, is_eligible, le-leb}
+use Rattle.recovery_histories.proofs.Prelude.{ltb-false, may_lead, most_advanced, same_Some, stopped_in, stopped_nos, times}
 
 -- ---- coordinates
 

@@ -1,18 +1,9 @@
 -- A turn leaves a recovery its aim.
 use Rattle.std.proofs.Common.{ℕ, refl, ◌∙◌, Option, Some, None}
-use Rattle.orch_base.specs.declared.server.Moment.{Moment}
-use Rattle.orch_base.specs.declared.server.ServerNo.{ServerNo}
-use Rattle.server_model.specs.Worlds.{World}
-use Rattle.instance_keeper.specs.Book.{BookState}
-use Rattle.recovery_plans.specs.Deciding.{ground_of}
-use Rattle.recovery_plans.specs.declared.stage.Stage.{Stage}
-use Rattle.recovery_plans.specs.Recoveries.{Recovery, follows_no_more}
-use Rattle.recovery_plans.specs.Stages.{leaver, moved}
-use Rattle.recovery_plans.specs.Taking.{entered, taken}
-use Rattle.recovery_plans.specs.Moves as by
-use Rattle.recovery_plans.specs.Moves.{Bearing, Decision, Ending, borne, decided_by, ended_by, fate_of}
-use Rattle.recovery_plans.proofs.Walking.{KeepsAlways, always, kept-whole}
-use Rattle.recovery_histories.specs.Kept.{SameAim}
+use Rattle.recovery_histories.proofs.Prelude.{Bearing, BookState, Decision, Ending, KeepsAlways, Moment, Recovery, SameAim, ServerNo, Stage, World}
+use Rattle.recovery_histories.proofs.Prelude.{always, borne, decided_by, ended_by, entered, fate_of, follows_no_more, ground_of, kept-whole, leaver}
+use Rattle.recovery_histories.proofs.Prelude.{moved, taken}
+use Rattle.recovery_histories.proofs.Prelude.by
 
 pub same-aim : (r : Recovery) → SameAim r r
 same-aim r = record { purpose = refl; failed = refl; replicas = refl; order = refl }

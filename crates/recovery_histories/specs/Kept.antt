@@ -1,11 +1,11 @@
 -- What a promoted server has of the failed one's history.
 use Rattle.std.specs.Prelude.{◌≡◌, ℕ, ◌≤◌, length, take, Some, All}
-use Rattle.binlog_coords.specs.declared.Coord.{Coord}
-use Rattle.binlog_coords.specs.Log.{place}
-use Rattle.orch_base.specs.declared.server.ServerNo.{ServerNo}
-use Rattle.server_model.specs.declared.server.Server.{Server}
-use Rattle.server_model.specs.Worlds.{World, server_at}
-use Rattle.recovery_plans.specs.Recoveries.{Recovery}
+use Rattle.recovery_covers.specs.BinlogCoords.declared.Coord.{Coord}
+use Rattle.recovery_covers.specs.BinlogCoords.Log.{place}
+use Rattle.recovery_covers.specs.OrchBase.declared.server.ServerNo.{ServerNo}
+use Rattle.recovery_covers.specs.ServerModel.declared.server.Server.{Server}
+use Rattle.recovery_covers.specs.ServerModel.Worlds.{World, server_at}
+use Rattle.recovery_covers.specs.RecoveryPlans.Recoveries.{Recovery}
 
 -- What a replica of f had when it stood at this coordinate of f's log, the first transactions of f up to there, is a
 -- beginning of what n has executed.

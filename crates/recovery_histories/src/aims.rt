@@ -1,11 +1,11 @@
 //! What no turn of a recovery changes.
 
 ghost use Rattle.std.specs.Prelude.{ℕ};
-ghost use Rattle.orch_base.specs.declared.server.Moment.{Moment as AMoment};
-ghost use Rattle.instance_keeper.specs.Book.{BookState};
-ghost use Rattle.server_model.specs.Worlds.{World};
-ghost use Rattle.recovery_plans.specs.Recoveries.{Recovery};
-ghost use Rattle.recovery_plans.specs.Taking.{taken};
+ghost use Rattle.recovery_covers.specs.OrchBase.declared.server.Moment.{Moment as AMoment};
+ghost use Rattle.recovery_covers.specs.InstanceKeeper.Book.{BookState};
+ghost use Rattle.recovery_covers.specs.ServerModel.Worlds.{World};
+ghost use Rattle.recovery_covers.specs.RecoveryPlans.Recoveries.{Recovery};
+ghost use Rattle.recovery_covers.specs.RecoveryPlans.Taking.{taken};
 ghost use Rattle.recovery_histories.specs.Kept.{SameAim};
 
 /// A turn changes neither what a recovery is for, nor the failed server and the replicas that are to be placed, nor of

@@ -1,22 +1,22 @@
 //! What a promoted server has of the failed one's history.
 
 ghost use Rattle.std.specs.Prelude.{◌≡◌, ℕ, List, Some, All};
-ghost use Rattle.orch_base.specs.declared.server.Moment.{Moment as AMoment};
-ghost use Rattle.orch_base.specs.declared.server.ServerNo.{ServerNo as Number};
-ghost use Rattle.commands.specs.declared.line.Line.{Line as ALine};
-ghost use Rattle.instance_keeper.specs.Book.{BookState};
-ghost use Rattle.server_model.specs.Run.{Exchange, run, AllAllowed};
-ghost use Rattle.server_model.specs.Safe.{Safe, Placed};
-ghost use Rattle.server_model.specs.Worlds.{World};
-ghost use Rattle.recovery_plans.specs.declared.means.Means.{Means as AMeans};
-ghost use Rattle.recovery_plans.specs.declared.purpose.Purpose.{Purpose as APurpose};
-ghost use Rattle.recovery_plans.specs.declared.purpose.Purpose.TheVariants as purpose;
-ghost use Rattle.recovery_plans.specs.Beginning.{begun_recovery};
-ghost use Rattle.recovery_plans.specs.Recoveries.{Recovery};
-ghost use Rattle.recovery_plans.specs.Taking.{taken};
-ghost use Rattle.recovery_laws.specs.HeldRecoveries.{HeldRecovery};
-ghost use Rattle.recovery_laws.specs.Rings.{HeldRings, SoundRings};
-ghost use Rattle.recovery_laws.specs.SoundRecoveries.{SoundRecovery};
+ghost use Rattle.recovery_covers.specs.OrchBase.declared.server.Moment.{Moment as AMoment};
+ghost use Rattle.recovery_covers.specs.OrchBase.declared.server.ServerNo.{ServerNo as Number};
+ghost use Rattle.recovery_covers.specs.Commands.declared.line.Line.{Line as ALine};
+ghost use Rattle.recovery_covers.specs.InstanceKeeper.Book.{BookState};
+ghost use Rattle.recovery_covers.specs.ServerModel.Run.{Exchange, run, AllAllowed};
+ghost use Rattle.recovery_covers.specs.ServerModel.Safe.{Safe, Placed};
+ghost use Rattle.recovery_covers.specs.ServerModel.Worlds.{World};
+ghost use Rattle.recovery_covers.specs.RecoveryPlans.declared.means.Means.{Means as AMeans};
+ghost use Rattle.recovery_covers.specs.RecoveryPlans.declared.purpose.Purpose.{Purpose as APurpose};
+ghost use Rattle.recovery_covers.specs.RecoveryPlans.declared.purpose.Purpose.TheVariants as purpose;
+ghost use Rattle.recovery_covers.specs.RecoveryPlans.Beginning.{begun_recovery};
+ghost use Rattle.recovery_covers.specs.RecoveryPlans.Recoveries.{Recovery};
+ghost use Rattle.recovery_covers.specs.RecoveryPlans.Taking.{taken};
+ghost use Rattle.recovery_covers.specs.RecoveryLaws.HeldRecoveries.{HeldRecovery};
+ghost use Rattle.recovery_covers.specs.RecoveryLaws.Rings.{HeldRings, SoundRings};
+ghost use Rattle.recovery_covers.specs.RecoveryLaws.SoundRecoveries.{SoundRecovery};
 ghost use Rattle.recovery_covers.specs.Covers.{IsTold};
 ghost use Rattle.recovery_covers.specs.SoFar.{CoversSoFar};
 ghost use Rattle.recovery_histories.specs.Kept.{Keeps, KeptByChosen, IsBeginning};

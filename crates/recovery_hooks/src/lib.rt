@@ -6,7 +6,6 @@ mod analysis;
 mod laws;
 mod lines;
 mod run;
-mod threads;
 
 pub use analysis::code_word;
 pub use laws::{all_hooks_run, hooks_run_in_order};

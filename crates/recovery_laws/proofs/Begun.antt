@@ -1,21 +1,11 @@
 -- Recoveries that begin.
+use Rattle.recovery_laws.proofs.Prelude.{All, All-cons, All-nil, HeldRecovery, IsPlaced, IsReady, IsReadyStage, IsSoundStage, IsSoundStop}
+use Rattle.recovery_laws.proofs.Prelude.{IsSoundTask, IsStopped, Means, Meets, Purpose, ServerNo, SoundRecovery, World, are_held, are_matched}
+use Rattle.recovery_laws.proofs.Prelude.{begun-fits as first-fits, begun_recovery, but, first-all, first_ops, first_stage, footing}
+use Rattle.recovery_laws.proofs.Prelude.{matched_in}
+use Rattle.recovery_laws.proofs.Prelude.purpose
+use Rattle.recovery_laws.proofs.Prelude.stage
 use Rattle.std.proofs.Common.{◌≡◌, ℕ, true, List, [], ◌∷◌, refl}
-use Rattle.std.specs.List.{All}
-use Rattle.std.proofs.lemmas.List.Elements.{All-nil, All-cons}
-use Rattle.orch_base.specs.declared.server.ServerNo.{ServerNo}
-use Rattle.server_model.specs.Worlds.{World}
-use Rattle.job_laws.specs.Footing.{footing, are_held}
-use Rattle.job_laws.specs.Matched.{IsPlaced, Meets, are_matched, matched_in}
-use Rattle.recovery_plans.specs.declared.means.Means.{Means}
-use Rattle.recovery_plans.specs.declared.purpose.Purpose.{Purpose}
-use Rattle.recovery_plans.specs.declared.purpose.Purpose.TheVariants as purpose
-use Rattle.recovery_plans.specs.declared.stage.Stage.TheVariants as stage
-use Rattle.recovery_plans.specs.Beginning.{first_stage, first_ops, but, begun_recovery}
-use Rattle.recovery_plans.proofs.Begun.{first-all}
-use Rattle.recovery_ends.specs.Shapes.{Fits}
-use Rattle.recovery_laws.specs.HeldRecoveries.{IsReady, IsReadyStage, IsStopped, HeldRecovery}
-use Rattle.recovery_laws.specs.SoundRecoveries.{IsSoundTask, IsSoundStage, IsSoundStop, SoundRecovery}
-use Rattle.recovery_ends.proofs.Shapes.{front-fits, tail-fits}
 
 each : (P : ServerNo → Type 0) (ns : List ServerNo) → ((n : ServerNo) → P n) → All P ns
 each P [] h = All-nil P
@@ -25,27 +15,15 @@ each P (n ∷ ns) h = All-cons P n ns (h n) (each P ns h)
 
 first-ready : (w : World) (u : Purpose) (f : ServerNo) → IsReadyStage w (first_stage u f)
 first-ready w purpose.Regroup f = tt
-first-ready w purpose.Master f = tt
-first-ready w (purpose.Intermediate s) f = tt
-first-ready w (purpose.Takeover d) f = tt
-
-first-fits : (u : Purpose) (f : ServerNo) → Fits (first_stage u f) (first_ops u f)
-first-fits purpose.Regroup f = tail-fits stage.Idle
-first-fits purpose.Master f = front-fits stage.Check (first_ops purpose.Master f) refl refl refl
-first-fits (purpose.Intermediate s) f = front-fits stage.Check (first_ops purpose.Master f) refl refl refl
-first-fits (purpose.Takeover d) f = front-fits (stage.Meet f d) (first_ops purpose.Master f) refl refl refl
+first-ready w _ f = tt
 
 first-held : (w : World) (u : Purpose) (f : ServerNo) → are_held (footing w []) (first_ops u f) ≡ true
 first-held w purpose.Regroup f = refl
-first-held w purpose.Master f = refl
-first-held w (purpose.Intermediate s) f = refl
-first-held w (purpose.Takeover d) f = refl
+first-held w _ f = refl
 
 first-free : (u : Purpose) (f : ServerNo) → are_matched (matched_in []) (first_ops u f) ≡ true
 first-free purpose.Regroup f = refl
-first-free purpose.Master f = refl
-first-free (purpose.Intermediate s) f = refl
-first-free (purpose.Takeover d) f = refl
+first-free _ f = refl
 
 pub begun-held : (w : World) (u : Purpose) (by : Means) (id wait : ℕ) (f : ServerNo) (ns order : List ServerNo) → HeldRecovery w (begun_recovery u by id wait f ns order)
 begun-held w u by id wait f ns order = record {
@@ -59,9 +37,7 @@ begun-held w u by id wait f ns order = record {
 
 first-sound : (w : World) (u : Purpose) (f : ServerNo) → IsSoundStage w (first_stage u f)
 first-sound w purpose.Regroup f = tt
-first-sound w purpose.Master f = tt
-first-sound w (purpose.Intermediate s) f = tt
-first-sound w (purpose.Takeover d) f = tt
+first-sound w _ f = tt
 
 pub begun-sound : (w : World) (u : Purpose) (by : Means) (id wait : ℕ) (f : ServerNo) (ns order : List ServerNo) → SoundRecovery w (begun_recovery u by id wait f ns order)
 begun-sound w u by id wait f ns order = record {

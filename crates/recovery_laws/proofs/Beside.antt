@@ -1,37 +1,13 @@
 -- What others do leaves a recovery held, sound and leased.
 use Rattle.std.proofs.Common.{◌≡◌, ℕ, Bool, true, false, cond, List, [], ◌∷◌, refl, sym, subst, Option, Some, None, IfSome}
-use Rattle.std.specs.List.{All}
-use Rattle.std.proofs.lemmas.Bool.{ne_eqb}
-use Rattle.std.proofs.lemmas.List.Elements.{All-weaker}
-use Rattle.orch_base.specs.declared.server.Moment.{Moment}
-use Rattle.orch_base.specs.declared.server.ServerNo.{ServerNo}
-use Rattle.server_model.specs.Run.{Exchange, run, AllAllowed}
-use Rattle.server_model.specs.Worlds.{World}
-use Rattle.instance_keeper.specs.declared.bridge.Bridge.{Bridge}
-use Rattle.operations.specs.declared.op.Op.{Op}
-use Rattle.operations.specs.Changes.{change_of}
-use Rattle.operations.specs.Deeds.{deed_of}
-use Rattle.operations.specs.Jobs.{Job}
-use Rattle.operations.specs.Turns.{is_going, turned}
-use Rattle.operations.proofs.Allowing.{turn-allowed}
-use Rattle.job_laws.specs.Flights.{Flight, Held, after_turn, without_leases}
-use Rattle.job_laws.specs.Leases.{IsLeased, Leases, job_at}
-use Rattle.job_laws.specs.Passages as pass
-use Rattle.job_laws.specs.Passages.{MayPass, Passage, passed, slot_of, turned_by}
-use Rattle.job_laws.proofs.Begun.{freed-others, kept-leases}
-use Rattle.job_laws.proofs.Passages.{leases-stored_if, world-stored_if}
-use Rattle.recovery_plans.specs.declared.outcome.Follower.{Follower}
-use Rattle.recovery_plans.specs.declared.outcome.Stopped.{Stopped}
-use Rattle.recovery_plans.specs.declared.purpose.Purpose.{Purpose}
-use Rattle.recovery_plans.specs.declared.purpose.Purpose.TheVariants as purpose
-use Rattle.recovery_plans.specs.declared.task.Task.{Task}
-use Rattle.recovery_plans.specs.declared.task.Task.TheVariants as task
-use Rattle.recovery_plans.specs.Named.{AreSourcesOf, IsOpOf, IsTaskOf, changed_by}
-use Rattle.recovery_plans.specs.Recoveries.{Recovery}
-use Rattle.recovery_laws.specs.HeldRecoveries.{HeldRecovery}
-use Rattle.recovery_laws.specs.LeasedRecoveries.{IsAny, LeasedRecovery}
-use Rattle.recovery_laws.specs.SoundRecoveries.{SoundRecovery}
-use Rattle.recovery_laws.specs.Staying.{Spares}
+use Rattle.recovery_laws.proofs.Prelude.{All, All-weaker, AllAllowed, AreSourcesOf, Bridge, Exchange, Flight, Follower, Held, HeldRecovery, IsAny}
+use Rattle.recovery_laws.proofs.Prelude.{IsLeased, IsOpOf, IsTaskOf, Job, LeasedRecovery, Leases, MayPass, Moment, Op, Passage, Purpose, Recovery}
+use Rattle.recovery_laws.proofs.Prelude.{ServerNo, SoundRecovery, Spares, Stopped, Task, World, after_turn, change_of, changed_by, deed_of}
+use Rattle.recovery_laws.proofs.Prelude.{freed-others, is_going, job_at, kept-leases, leases-stored_if, ne_eqb, passed, run, slot_of, turn-allowed}
+use Rattle.recovery_laws.proofs.Prelude.{turned, turned_by, without_leases, world-stored_if}
+use Rattle.recovery_laws.proofs.Prelude.pass
+use Rattle.recovery_laws.proofs.Prelude.purpose
+use Rattle.recovery_laws.proofs.Prelude.task
 use Rattle.recovery_laws.proofs.Sounding.{run-sound}
 use Rattle.recovery_laws.proofs.Taking.{others-held}
 
@@ -94,16 +70,13 @@ module _ (L M : Leases) (id : ℕ) (more : (n : ℕ) → IsLeased L id n → IsL
   op-more o h = (if-more (λ (n : ServerNo). IsLeased L id n.0) (λ (n : ServerNo). IsLeased M id n.0) (change_of (deed_of o)) (λ n h. more n.0 h) h.0, h.1)
 
   task-more : (f : ServerNo) (t : Task) → IsTaskOf (IsLeased L id) IsAny f t → IsTaskOf (IsLeased M id) IsAny f t
-  task-more f (task.Reading n) h = h
   task-more f (task.Draining n) h = more n.0 h
-  task-more f task.Choosing h = h
-  task-more f task.Handing h = h
   task-more f (task.Moving n by) h = more n.0 h
-  task-more f task.Sorting h = h
   task-more f (task.Expelling n) h = more n.0 h
   task-more f (task.Releasing n) h = more n.0 h
   task-more f (task.Trailing n) h = more n.0 h
   task-more f task.Yielding h = more f.0 h
+  task-more f _ h = h
 
   sources-more : (u : Purpose) (f : ServerNo) (chosen : Option ServerNo) → AreSourcesOf (IsLeased L id) IsAny u f chosen → AreSourcesOf (IsLeased M id) IsAny u f chosen
   sources-more purpose.Regroup f chosen h = if-more (λ (n : ServerNo). IsLeased L id n.0) (λ (n : ServerNo). IsLeased M id n.0) chosen (λ n h. more n.0 h) h
@@ -144,14 +117,11 @@ passage-leased f p id r may spares mine = leased-more f.leases (passed f p).leas
         (turn-leases f.leases k id (is_going (turned f.world read now j).step) apart n h)
 
     keeps-of : (q : Passage) → MayPass f q → Spares id q → (n : ℕ) → IsLeased f.leases id n → IsLeased (passed f q).leases id n
-    keeps-of (pass.Exchanging e) may spares n h = h
-    keeps-of (pass.Polling p n read now) may spares m h = h
     keeps-of (pass.Storing p keeps) may spares n h = subst (λ (l : Leases). IsLeased l id n) (sym (leases-stored_if keeps f (slot_of f p))) h
-    keeps-of (pass.Discovering n read now) may spares m h = h
-    keeps-of (pass.Forgetting n) may spares m h = h
     keeps-of pass.Restarting may spares n h = absurd spares
     keeps-of (pass.Beginning list j) may spares n h = kept-leases f list j may id n h
     keeps-of (pass.Turning k read now keeps) may spares n h = turned-leases k read now keeps (job_at f.jobs k) spares n h
     keeps-of (pass.Taking k t keeps) may spares n h =
         subst (λ (l : Leases). IsLeased l id n) (sym (leases-stored_if keeps (after_turn f k t) t.observation))
         (turn-leases f.leases k id (is_going t.step) spares n h)
+    keeps-of _ may spares _ h = h

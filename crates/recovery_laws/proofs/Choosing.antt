@@ -1,38 +1,16 @@
 -- What is chosen, and where the others go.
+pub use Rattle.recovery_plans.proofs.KeptRows.Same.{eq_refl as self}
 use Rattle.std.proofs.Common.{◌≡◌, ℕ, Bool, true, false, cond, List, [], ◌∷◌, refl, sym, ◌∙◌, ap, subst, Option, Some, None}
 use Rattle.std.specs.Prelude.{◌==◌, fold, unwrap_or}
-use Rattle.std.specs.List.{All}
-use Rattle.std.proofs.lemmas.Bool.{and_parts, eqb-true, eq-eqb}
-use Rattle.std.proofs.lemmas.Option.{same_Some}
-use Rattle.std.proofs.lemmas.List.Elements.{All-nil, All-cons, All-head, All-tail, All-append}
-use Rattle.binlog_coords.specs.declared.Coord.{Coord}
-use Rattle.binlog_coords.specs.Log.{is_before, same_coord}
-use Rattle.binlog_coords.proofs.Places.{same_coord-true}
-use Rattle.orch_base.specs.declared.server.Moment.{Moment}
-use Rattle.orch_base.specs.declared.server.ServerNo.{ServerNo}
-use Rattle.server_model.specs.Attach.{IsTarget}
-use Rattle.server_model.specs.Worlds.{World}
-use Rattle.instance_keeper.specs.declared.bridge.Bridge.{Bridge}
-use Rattle.instance_keeper.specs.Book.{BookState}
-use Rattle.instance_keeper.specs.Bridges.{has_exec, latest_that, ring_at}
-use Rattle.operations.specs.declared.sight.Sight.{Sight}
-use Rattle.operations.specs.Targets.{logs_by}
-use Rattle.job_laws.specs.Held.{Spans}
-use Rattle.job_laws.proofs.Lists.{All-at}
-use Rattle.replica_groups.specs.declared.groups.Group.TheVariants as group
-use Rattle.replica_groups.specs.Groups.{by_bridge, group_of}
-use Rattle.recovery_plans.specs.declared.means.Means.{Means}
-use Rattle.recovery_plans.specs.declared.means.Means.TheVariants as means
-use Rattle.recovery_plans.specs.declared.outcome.Stopped.{Stopped}
-use Rattle.recovery_plans.specs.declared.task.Task.TheVariants as task
-use Rattle.recovery_plans.specs.declared.task.Way.TheVariants as way
-use Rattle.recovery_plans.specs.Deciding as deciding
-use Rattle.recovery_plans.specs.Deciding.{Lot, ground_of, logs_at, lot_by_group, own_end_of, lot_by, move_of, moves_in}
-use Rattle.recovery_laws.specs.Rings.{HeldRings}
-use Rattle.recovery_laws.specs.HeldRecoveries.{IsReadyWay, IsReady, IsStopped, stopped_bridge}
-
-pub self : (n : ℕ) → (n == n) ≡ true
-self n = eq-eqb n n refl
+use Rattle.recovery_laws.proofs.Prelude.{All, All-append, All-at, All-cons, All-head, All-nil, All-tail, BookState, Bridge, Coord, HeldRings, IsReady}
+use Rattle.recovery_laws.proofs.Prelude.{IsReadyWay, IsStopped, IsTarget, Lot, Means, Moment, ServerNo, Sight, Spans, Stopped, World, and_parts}
+use Rattle.recovery_laws.proofs.Prelude.{by_bridge, eqb-true, ground_of, group_of, has_exec, is_before, latest_that, logs_at, logs_by, lot_by}
+use Rattle.recovery_laws.proofs.Prelude.{lot_by_group, move_of, moves_in, own_end_of, ring_at, same_coord, same_coord-true, same_Some, stopped_bridge}
+use Rattle.recovery_laws.proofs.Prelude.deciding
+use Rattle.recovery_laws.proofs.Prelude.group
+use Rattle.recovery_laws.proofs.Prelude.means
+use Rattle.recovery_laws.proofs.Prelude.task
+use Rattle.recovery_laws.proofs.Prelude.way
 
 -- ---- look-ups
 

@@ -1,48 +1,22 @@
 -- What is decided at the beginning of a turn leaves a recovery held.
 use Rattle.std.proofs.Common.{◌≡◌, Bool, true, false, cond, List, [], ◌∷◌, ◌++◌, map, refl, ◌∙◌, ap, subst, Option, Some, None, ◌||◌, ◌&&◌}
 use Rattle.std.specs.Prelude.{IfSome, filter, is_some, option_map}
-use Rattle.std.specs.List.{All}
-use Rattle.std.proofs.lemmas.Bool.{and_parts, eq-eqb}
-use Rattle.std.proofs.lemmas.List.Elements.{All-nil, All-cons, All-head, All-tail, All-append}
-use Rattle.orch_base.specs.declared.server.Moment.{Moment}
-use Rattle.orch_base.specs.declared.server.ServerNo.{ServerNo}
-use Rattle.server_model.specs.Worlds.{World}
-use Rattle.instance_keeper.specs.declared.bridge.Bridge.{Bridge}
-use Rattle.instance_keeper.specs.Book.{BookState}
-use Rattle.instance_keeper.specs.Bridges.{has_own, latest_that, ring_at}
-use Rattle.operations.specs.declared.op.Crossing.TheVariants as cross
-use Rattle.operations.specs.declared.op.Op.{Op}
-use Rattle.operations.specs.declared.op.Op.TheVariants as op
-use Rattle.operations.specs.declared.sight.Sight.{Sight}
-use Rattle.operations.specs.Deeds.{deed_of}
-use Rattle.operations.specs.Jobs.{seen_of}
-use Rattle.operations.proofs.Tests.{both}
-use Rattle.job_laws.specs.Footing.{Footing, footing, finds, are_held, is_under, source_shown}
-use Rattle.job_laws.specs.Held.{Spans}
-use Rattle.job_laws.specs.Matched.{Matched, are_matched, matched_in}
-use Rattle.job_laws.proofs.Lists.{All-at}
-use Rattle.operations.proofs.Sights.{seen-at}
-use Rattle.recovery_plans.specs.declared.outcome.Stopped.{Stopped}
-use Rattle.recovery_plans.specs.declared.stage.Stage.{Stage}
-use Rattle.recovery_plans.specs.declared.stage.Stage.TheVariants as stage
-use Rattle.recovery_plans.specs.declared.task.Task.{Task}
-use Rattle.recovery_plans.specs.declared.task.Task.TheVariants as task
-use Rattle.recovery_plans.specs.declared.task.Way.{Way}
-use Rattle.recovery_plans.specs.declared.task.Way.TheVariants as way
-use Rattle.recovery_plans.specs.Recoveries.{Recovery, sight_of, working}
-use Rattle.recovery_plans.specs.Stages.{before, drain, level, move, with_bridge, with_way}
-use Rattle.recovery_plans.specs.Telling.{told}
-use Rattle.recovery_plans.specs.Deciding.{ground_of, logs_at, chosen_of, better_of, lot_by, moves_in, without_stopped, choose, moving, way_below, way_by_set, why_of, expels, releases, sort, decided}
-use Rattle.recovery_laws.specs.Rings.{HeldRings}
-use Rattle.recovery_ends.specs.Shapes.{Fits}
-use Rattle.recovery_plans.specs.Moves as by
-use Rattle.recovery_plans.specs.Moves.{Decision, IsHanding, IsNext, MayDecide, decided_by}
-use Rattle.recovery_plans.proofs.Walking.{decided-walks, decisions-keep}
-use Rattle.recovery_laws.specs.HeldRecoveries.{IsReadyWay, IsReady, IsReadyStage, IsStopped, IsLead, HeldRecovery}
+use Rattle.recovery_laws.proofs.Prelude.{All, All-append, All-at, All-better, All-chosen, All-cons, All-head, All-nil, All-tail, BookState, Bridge}
+use Rattle.recovery_laws.proofs.Prelude.{Decision, Fits, Footing, HeldRecovery, HeldRings, IsHanding, IsLead, IsNext, IsReady, IsReadyStage}
+use Rattle.recovery_laws.proofs.Prelude.{IsReadyWay, IsStopped, Matched, MayDecide, Moment, Op, Recovery, ServerNo, Sight, Spans, Stage, Stopped}
+use Rattle.recovery_laws.proofs.Prelude.{Task, Way, World, and_parts, are_held, are_matched, before, better_of, both, choose, chosen-logs, chosen_of}
+use Rattle.recovery_laws.proofs.Prelude.{decided, decided-walks, decided_by, decisions-keep, deed_of, drain, eq-eqb, expels, finds, footing}
+use Rattle.recovery_laws.proofs.Prelude.{front-fits, ground_of, has_own, is_under, latest_that, level, logs_at, lot_by, matched_in, move, moves_in}
+use Rattle.recovery_laws.proofs.Prelude.{moving, releases, ring_at, seen-at, seen_of, sight_of, sort, source_shown, tail-fits, told, way-fits}
+use Rattle.recovery_laws.proofs.Prelude.{way_below, way_by_set, why_of, with_bridge, with_way, without_stopped, working}
+use Rattle.recovery_laws.proofs.Prelude.by
+use Rattle.recovery_laws.proofs.Prelude.cross
+use Rattle.recovery_laws.proofs.Prelude.op
+use Rattle.recovery_laws.proofs.Prelude.stage
+use Rattle.recovery_laws.proofs.Prelude.task
+use Rattle.recovery_laws.proofs.Prelude.way
 use Rattle.recovery_laws.proofs.Choosing.{self, All-latest, moves-ready, lot-ready}
-use Rattle.recovery_plans.proofs.Choices.{All-chosen, All-better, chosen-logs}
 use Rattle.recovery_laws.proofs.Ready.{spans-logs, bridge-shown, way-read, queue-more, stopped-more}
-use Rattle.recovery_ends.proofs.Shapes.{front-fits, tail-fits, way-fits}
 use Rattle.recovery_laws.proofs.StaysRead.{saw-read}
 
 or-true : (b : Bool) → (b || true) ≡ true
@@ -87,10 +61,8 @@ module _ (w : World) where
   way-held xs n (way.Match to exec every) s = both (logs_at w to) true s refl
 
   way-free : (by : Way) (n : ServerNo) (has : Matched) → are_matched has (before by n ++ move by n ∷ op.Start n ∷ []) ≡ true
-  way-free (way.Down b) n has = refl
-  way-free (way.Up b) n has = refl
-  way-free (way.Auto to exec) n has = refl
   way-free (way.Match to exec every) n has = simp self refl
+  way-free _ n has = refl
 
   way-shown : (r : Recovery) (by : Way) → HeldRecovery w r → IsReadyWay w r.core.seen by → Rattle.job_laws.specs.Held.AllShow w (with_way r.core.seen by)
   way-shown r (way.Down b) held s = bridge-shown w r.core.seen b held.core.shown s

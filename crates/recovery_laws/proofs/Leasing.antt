@@ -1,21 +1,8 @@
 -- A recovery changes only servers that are leased to it.
 use Rattle.std.proofs.Common.{ℕ, List, sym, subst}
-use Rattle.std.specs.List.{All}
-use Rattle.std.proofs.lemmas.List.Elements.{All-weaker}
-use Rattle.orch_base.specs.declared.server.Moment.{Moment}
-use Rattle.orch_base.specs.declared.server.ServerNo.{ServerNo}
-use Rattle.server_model.specs.Worlds.{World}
-use Rattle.instance_keeper.specs.Book.{BookState}
-use Rattle.job_laws.specs.Leases.{Leases, IsLeased, MayChange, HasLeases}
-use Rattle.recovery_plans.specs.declared.means.Means.{Means}
-use Rattle.recovery_plans.specs.declared.purpose.Purpose.{Purpose}
-use Rattle.recovery_plans.specs.Beginning.{begun_recovery}
-use Rattle.recovery_plans.specs.Named.{IsOpOf}
-use Rattle.recovery_plans.specs.Recoveries.{Recovery}
-use Rattle.recovery_plans.specs.Taking.{taken}
-use Rattle.recovery_plans.proofs.Begun.{begun-of}
-use Rattle.recovery_plans.proofs.Naming.{taken-of}
-use Rattle.recovery_laws.specs.LeasedRecoveries.{IsAny, IsLeasedList, LeasedRecovery, KeepsLeased}
+use Rattle.recovery_laws.proofs.Prelude.{All, All-weaker, BookState, HasLeases, IsAny, IsLeased, IsLeasedList, IsOpOf, KeepsLeased, LeasedRecovery}
+use Rattle.recovery_laws.proofs.Prelude.{Leases, MayChange, Means, Moment, Purpose, Recovery, ServerNo, World, begun-of, begun_recovery, taken}
+use Rattle.recovery_laws.proofs.Prelude.{taken-of}
 
 pub taken-leased : (l : Leases) (id : ℕ) (w : World) (b : BookState) (read : ℕ) (now : Moment) (r : Recovery) → LeasedRecovery l id r → KeepsLeased l id (taken w b read now r)
 taken-leased l id w b read now r has = taken-of (IsLeased l id) IsAny id (λ n h. tt) w b read now r has

@@ -1,3 +1,4 @@
+mod Prelude
 pub mod StaysRead
 pub mod Ready
 pub mod Choosing
@@ -10,3 +11,10 @@ pub mod Ringed
 pub mod Observing
 pub mod Passing
 pub mod Beside
+pub use Rattle.recovery_plans.proofs.BinlogCoords as BinlogCoords
+pub mod JobLaws
+pub use Rattle.recovery_plans.proofs.OperationsProofs as OperationsProofs
+pub use Rattle.recovery_plans.proofs.PromotionRules as PromotionRules
+pub mod RecoveryEnds
+pub mod RecoveryPlans
+pub mod ReplicationLaws

@@ -1,18 +1,7 @@
 -- What a recovery's turn observes is what a status shows.
 use Rattle.std.proofs.Common.{◌≡◌, ℕ, List, [], ◌∷◌, sym, ◌∙◌, Some}
-use Rattle.orch_base.specs.declared.server.Moment.{Moment}
-use Rattle.orch_base.specs.declared.server.ServerNo.{ServerNo}
-use Rattle.kept_rows.specs.declared.observation.Observation.{Observation}
-use Rattle.instance_keeper.specs.Book.{BookState}
-use Rattle.server_model.specs.Worlds.{World}
-use Rattle.operations.specs.declared.op.Op.{Op}
-use Rattle.operations.specs.Deeds.{deed_of}
-use Rattle.operations.specs.Turns.{by_deed, observed}
-use Rattle.job_laws.proofs.Observing.{deed-observes}
-use Rattle.recovery_plans.specs.Deciding.{decided, ground_of}
-use Rattle.recovery_plans.specs.Recoveries.{Recovery}
-use Rattle.recovery_plans.specs.Taking.{acted, taken}
-use Rattle.recovery_ends.proofs.Observing.{attempted-observes}
+use Rattle.recovery_laws.proofs.Prelude.{BookState, Moment, Observation, Op, Recovery, ServerNo, World, acted, attempted-observes, by_deed, decided}
+use Rattle.recovery_laws.proofs.Prelude.{deed-observes, deed_of, ground_of, observed, taken}
 
 acted-observes : (w : World) (read : ℕ) (now : Moment) (r : Recovery) (ops : List Op) (x : Observation) → (acted w read now r ops).observation ≡ Some x → (n : ServerNo) × (x ≡ observed w read now n)
 acted-observes w read now r [] x h = cc

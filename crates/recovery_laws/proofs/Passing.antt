@@ -1,32 +1,10 @@
 -- A recovery's turn keeps what its job's own would.
 use Rattle.std.proofs.Common.{◌≡◌, ℕ, Bool, true, false, [], refl, sym, subst, Option, Some, None, IfSome}
-use Rattle.std.proofs.lemmas.List.Elements.{All-nil, All-weaker}
-use Rattle.orch_base.specs.declared.server.Moment.{Moment}
-use Rattle.kept_rows.specs.declared.observation.Observation.{Observation}
-use Rattle.instance_keeper.specs.Book.{BookState}
-use Rattle.server_model.specs.Run.{run}
-use Rattle.server_model.specs.Safe.{Safe}
-use Rattle.server_model.specs.Showing.{Shows}
-use Rattle.server_model.specs.Worlds.{World}
-use Rattle.replication_laws.proofs.ShownCoords.{Shows-run}
-use Rattle.operations.specs.Jobs.{position_of, job_with}
-use Rattle.operations.specs.Turns.{is_going}
-use Rattle.job_laws.specs.Flights.{Flight, Held, Sound, IsShown, IsShownBridged}
-use Rattle.job_laws.specs.Held.{HeldJob}
-use Rattle.job_laws.specs.Leases.{IsLeased, KeepsLeases, Leases, MayChange}
-use Rattle.job_laws.specs.Matched.{AllMeet, IsPlaced, Meets}
-use Rattle.job_laws.specs.Passages.{MayTake, TakesWell}
-use Rattle.job_laws.specs.Sound.{AllBridged, IsBridged}
-use Rattle.job_laws.proofs.Passing.{observed-bridged, observed-shown}
-use Rattle.job_laws.proofs.Showing.{Bridged-run}
-use Rattle.recovery_plans.specs.Named.{IsOpOf}
-use Rattle.recovery_plans.specs.Recoveries.{Recovery}
-use Rattle.recovery_plans.specs.Taking.{Taken, taken}
-use Rattle.recovery_laws.specs.HeldRecoveries.{HeldRecovery, KeepsRecovery}
-use Rattle.recovery_laws.specs.LeasedRecoveries.{IsAny, KeepsLeased, LeasedRecovery}
-use Rattle.recovery_laws.specs.Passing.{as_turn, core_by}
-use Rattle.recovery_laws.specs.Rings.{HeldRings, SoundRings}
-use Rattle.recovery_laws.specs.SoundRecoveries.{KeepsSoundRecovery, SoundRecovery}
+use Rattle.recovery_laws.proofs.Prelude.{All-nil, All-weaker, AllBridged, AllMeet, BookState, Bridged-run, Flight, Held, HeldJob, HeldRecovery}
+use Rattle.recovery_laws.proofs.Prelude.{HeldRings, IsAny, IsBridged, IsLeased, IsOpOf, IsPlaced, IsShown, IsShownBridged, KeepsLeased, KeepsLeases}
+use Rattle.recovery_laws.proofs.Prelude.{KeepsRecovery, KeepsSoundRecovery, LeasedRecovery, Leases, MayChange, MayTake, Meets, Moment, Observation}
+use Rattle.recovery_laws.proofs.Prelude.{Recovery, Safe, Shows, Shows-run, Sound, SoundRecovery, SoundRings, Taken, TakesWell, World, as_turn}
+use Rattle.recovery_laws.proofs.Prelude.{core_by, is_going, job_with, observed-bridged, observed-shown, position_of, run, taken}
 use Rattle.recovery_laws.proofs.Leasing.{taken-leased}
 use Rattle.recovery_laws.proofs.Observing.{taken-observes}
 use Rattle.recovery_laws.proofs.Sounding.{taken-sound}

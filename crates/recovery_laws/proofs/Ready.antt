@@ -1,36 +1,14 @@
 -- What is ready to be gone by stays ready: whatever is read beside, and whatever is done to servers.
 use Rattle.std.proofs.Common.{◌≡◌, ℕ, true, List, refl, sym, ◌∙◌, ap, subst, Option, Some, None}
 use Rattle.std.specs.Prelude.{IfSome}
-use Rattle.std.specs.List.{All}
-use Rattle.std.proofs.lemmas.Bool.{false≢true}
-use Rattle.std.proofs.lemmas.Option.{same_Some}
-use Rattle.std.proofs.lemmas.List.Elements.{All-weaker}
-use Rattle.binlog_coords.specs.declared.Coord.{Coord}
-use Rattle.orch_base.specs.declared.server.ServerNo.{ServerNo}
-use Rattle.orch_base.specs.declared.server.Settings.{Settings}
-use Rattle.server_model.specs.Attach.{IsTarget}
-use Rattle.server_model.specs.Run.{Exchange, run, AllAllowed}
-use Rattle.server_model.specs.Safe.{Placed}
-use Rattle.server_model.specs.Worlds.{World}
-use Rattle.replication_laws.proofs.Runs.{Grows-run}
-use Rattle.instance_keeper.specs.declared.bridge.Bridge.{Bridge}
-use Rattle.operations.specs.declared.sight.Sight.{Sight}
-use Rattle.operations.specs.Targets.{logs_by}
-use Rattle.job_laws.specs.Footing.{logs_at}
-use Rattle.job_laws.specs.Held.{AllShow, ShowsAt, Spans}
-use Rattle.job_laws.proofs.Modes.{gtid-run}
-use Rattle.job_laws.proofs.Showing.{Spans-run, logs-on}
-use Rattle.job_laws.proofs.Turns.{with-one}
-use Rattle.recovery_plans.specs.declared.outcome.Stopped.{Stopped}
-use Rattle.recovery_plans.specs.declared.stage.Stage.{Stage}
-use Rattle.recovery_plans.specs.declared.stage.Stage.TheVariants as stage
-use Rattle.recovery_plans.specs.declared.task.Task.{Task}
-use Rattle.recovery_plans.specs.declared.task.Task.TheVariants as task
-use Rattle.recovery_plans.specs.declared.task.Way.{Way}
-use Rattle.recovery_plans.specs.declared.task.Way.TheVariants as way
-use Rattle.recovery_plans.specs.Recoveries.{sight_of}
-use Rattle.recovery_plans.specs.Stages.{with_bridge, with_way}
-use Rattle.recovery_laws.specs.HeldRecoveries.{IsReadyWay, IsReady, IsReadyStage, IsStopped, IsLead, stopped_bridge}
+use Rattle.recovery_laws.proofs.Prelude.{All, All-weaker, AllAllowed, AllShow, Bridge, Coord, Exchange, Grows-run, IsLead, IsReady, IsReadyStage}
+use Rattle.recovery_laws.proofs.Prelude.{IsReadyWay, IsStopped, IsTarget, Placed, ServerNo, Settings, ShowsAt, Sight, Spans, Spans-run, Stage}
+use Rattle.recovery_laws.proofs.Prelude.{Stopped, Task, Way, World, false≢true, gtid-run, logs-on, logs_by, run, same_Some, sight_of, stopped_bridge}
+use Rattle.recovery_laws.proofs.Prelude.{with-one, with_bridge, with_way}
+use Rattle.recovery_laws.proofs.Prelude.JobLaws.{logs_at}
+use Rattle.recovery_laws.proofs.Prelude.stage
+use Rattle.recovery_laws.proofs.Prelude.task
+use Rattle.recovery_laws.proofs.Prelude.way
 use Rattle.recovery_laws.proofs.StaysRead.{StaysRead, saw-read}
 
 -- ---- a bridge as a reading
@@ -63,22 +41,12 @@ way-read xs (way.Match to exec every) = λ n h. h
 
 module _ (w : World) (xs ys : List Sight) (more : StaysRead xs ys) where
   ready-way-more : (by : Way) → IsReadyWay w xs by → IsReadyWay w ys by
-  ready-way-more (way.Down b) h = h
-  ready-way-more (way.Up b) h = h
   ready-way-more (way.Auto to exec) h = record { gtid = h.gtid; logs = h.logs; read = more to.0 h.read }
-  ready-way-more (way.Match to exec every) h = h
+  ready-way-more _ h = h
 
   ready-more : (t : Task) → IsReady w xs t → IsReady w ys t
   ready-more (task.Moving n by) h = ready-way-more by h
-  ready-more (task.Reading n) h = tt
-  ready-more (task.Draining n) h = tt
-  ready-more task.Choosing h = tt
-  ready-more task.Handing h = tt
-  ready-more task.Sorting h = tt
-  ready-more (task.Expelling n) h = tt
-  ready-more (task.Releasing n) h = tt
-  ready-more (task.Trailing n) h = tt
-  ready-more task.Yielding h = tt
+  ready-more _ h = tt
 
   pub queue-more : (ts : List Task) → All (IsReady w xs) ts → All (IsReady w ys) ts
   queue-more ts all = All-weaker (IsReady w xs) (IsReady w ys) ready-more ts all
@@ -104,15 +72,7 @@ module _ (w : World) (es : List Exchange) (placed : Placed w) (allowed : AllAllo
 
   ready-run : (xs : List Sight) (t : Task) → IsReady w xs t → IsReady (run w es) xs t
   ready-run xs (task.Moving n by) h = ready-way-run xs by h
-  ready-run xs (task.Reading n) h = tt
-  ready-run xs (task.Draining n) h = tt
-  ready-run xs task.Choosing h = tt
-  ready-run xs task.Handing h = tt
-  ready-run xs task.Sorting h = tt
-  ready-run xs (task.Expelling n) h = tt
-  ready-run xs (task.Releasing n) h = tt
-  ready-run xs (task.Trailing n) h = tt
-  ready-run xs task.Yielding h = tt
+  ready-run xs _ h = tt
 
   pub queue-run : (xs : List Sight) (ts : List Task) → All (IsReady w xs) ts → All (IsReady (run w es) xs) ts
   queue-run xs ts all = All-weaker (IsReady w xs) (IsReady (run w es) xs) (ready-run xs) ts all
@@ -138,28 +98,4 @@ module _ (w : World) (es : List Exchange) (placed : Placed w) (allowed : AllAllo
   stage-run (stage.Looked n b) h = spans-run b h
   stage-run (stage.Trail n b) h = spans-run b h
   stage-run (stage.Halted n b) h = spans-run b h
-  stage-run stage.Idle h = tt
-  stage-run stage.Check h = tt
-  stage-run (stage.Read n) h = tt
-  stage-run (stage.Drain n) h = tt
-  stage-run (stage.Judged n) h = tt
-  stage-run (stage.Move n by) h = tt
-  stage-run (stage.Join n p) h = tt
-  stage-run (stage.Expel n) h = tt
-  stage-run (stage.Expelled n) h = tt
-  stage-run (stage.Release n) h = tt
-  stage-run (stage.Level p q) h = tt
-  stage-run (stage.Swap p q) h = tt
-  stage-run (stage.Swapped p q) h = tt
-  stage-run (stage.Return p q) h = tt
-  stage-run (stage.Resume p q) h = tt
-  stage-run (stage.Crown n) h = tt
-  stage-run (stage.Open n) h = tt
-  stage-run (stage.Opened n) h = tt
-  stage-run (stage.Meet m d) h = tt
-  stage-run (stage.Shut m d) h = tt
-  stage-run (stage.Gather m d) h = tt
-  stage-run (stage.Yield m d) h = tt
-  stage-run (stage.Switch m d) h = tt
-  stage-run (stage.Switched m d) h = tt
-  stage-run (stage.Close lines) h = tt
+  stage-run _ h = tt

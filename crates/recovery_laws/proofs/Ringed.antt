@@ -1,27 +1,18 @@
 -- Rings have their own servers' bridges.
 use Rattle.std.proofs.Common.{◌≡◌, ℕ, zero, suc, List, [], ◌∷◌, refl, sym, ap, subst, Option, Some, None}
 use Rattle.std.specs.Prelude.{IfSome, replicate, slice_set, slice_index_or}
-use Rattle.std.specs.List.{All}
-use Rattle.std.proofs.lemmas.List.Elements.{All-nil}
-use Rattle.orch_base.specs.declared.server.ServerNo.{ServerNo}
-use Rattle.server_words.specs.declared.status.Status.{Status}
-use Rattle.instance_keeper.specs.declared.bridge.Bridge.{Bridge}
-use Rattle.instance_keeper.specs.Bridges.{bridge_in, ring_at, ringed, with_bridge}
-use Rattle.operations.specs.Jobs.{position_of}
-use Rattle.job_laws.proofs.Lists.{All-ring}
-use Rattle.job_laws.proofs.Spanning.{bridge-parts}
-use Rattle.recovery_laws.specs.Rings.{AreOwn}
+use Rattle.recovery_laws.proofs.Prelude.{All, All-nil, All-ring, AreOwn, Bridge, ServerNo, Status, bridge-parts, bridge_in, position_of, ring_at}
+use Rattle.recovery_laws.proofs.Prelude.{ringed}
+use Rattle.recovery_laws.proofs.Prelude.Bridges.{with_bridge}
 
 abbrev IsOf : ℕ → Bridge → Type 0
 IsOf n b = b.no.0 ≡ n
 
 -- a fact of the ring at a place, where one ring is put
 set-ring : (P : List Bridge → Type 0) (rings : List (List Bridge)) (k j : ℕ) (r : List Bridge) → (k ≡ j → P r) → P (slice_index_or rings j []) → P (slice_index_or (slice_set rings k r) j [])
-set-ring P [] k j r same old = old
 set-ring P (x ∷ xs) zero zero r same old = same refl
-set-ring P (x ∷ xs) zero (suc j) r same old = old
-set-ring P (x ∷ xs) (suc k) zero r same old = old
 set-ring P (x ∷ xs) (suc k) (suc j) r same old = set-ring P xs k j r (λ e. same (ap suc e)) old
+set-ring _ _ _ _ r same old = old
 
 fresh-ring : (P : List Bridge → Type 0) (count j : ℕ) → P [] → P (slice_index_or (replicate count []) j [])
 fresh-ring P zero j h = h

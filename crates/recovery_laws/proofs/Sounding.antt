@@ -1,70 +1,32 @@
 -- In a safe world a recovery's attachments join well, and what it goes by stands.
 use Rattle.std.proofs.Common.{◌≡◌, ℕ, Bool, true, false, cond, List, [], ◌∷◌, ◌++◌, map, refl, sym, ◌∙◌, ap, subst, Option, Some, None}
 use Rattle.std.specs.Prelude.{◌==◌, IfSome, filter, option_map}
-use Rattle.std.specs.List.{All}
-use Rattle.std.proofs.lemmas.Bool.{and_parts, eqb-true}
-use Rattle.std.proofs.lemmas.Option.{same_Some}
-use Rattle.std.proofs.lemmas.List.Elements.{All-nil, All-cons, All-head, All-tail, All-append, All-push, All-weaker}
-use Rattle.binlog_coords.specs.declared.Coord.{Coord}
-use Rattle.binlog_coords.specs.Log.{is_before, same_coord}
-use Rattle.binlog_coords.proofs.Places.{same_coord-true}
-use Rattle.orch_base.specs.declared.server.Moment.{Moment}
-use Rattle.orch_base.specs.declared.server.ServerNo.{ServerNo}
-use Rattle.server_words.specs.declared.changes.Ask.TheVariants as asking
-use Rattle.server_model.specs.Bridges.{Stands}
-use Rattle.server_model.specs.Run.{Exchange, Request, after, run, AllAllowed, AllJoinWell}
-use Rattle.server_model.specs.Safe.{Safe, Placed}
-use Rattle.server_model.specs.Worlds.{World, source_no}
-use Rattle.replication_laws.proofs.BridgeLaws.{Stands-grows}
-use Rattle.replication_laws.proofs.Runs.{Grows-run}
-use Rattle.instance_keeper.specs.declared.bridge.Bridge.{Bridge}
-use Rattle.kept_rows.specs.declared.observation.Observation.{Observation}
-use Rattle.instance_keeper.specs.Book.{BookState}
-use Rattle.instance_keeper.specs.Bridges.{has_exec, has_own, latest_that, ring_at}
-use Rattle.operations.specs.declared.op.Crossing.TheVariants as cross
-use Rattle.operations.specs.declared.op.Op.{Op}
-use Rattle.operations.specs.declared.op.Op.TheVariants as op
-use Rattle.operations.specs.declared.sight.Sight.{Sight}
-use Rattle.operations.specs.Deeds.{deed_of}
-use Rattle.operations.specs.Jobs.{Job, seen_of}
-use Rattle.operations.specs.Targets.{can_attach}
-use Rattle.operations.specs.Turns.{bridge_at, crossing_of, going, restarts}
-use Rattle.job_laws.specs.Flights.{StandsIn}
-use Rattle.job_laws.specs.Footing.{footing, finds, are_held}
-use Rattle.job_laws.specs.Sound.{IsBridged, AllBridged, KeepsSound}
-use Rattle.job_laws.proofs.Bridging.{crossing-joins, stands-at}
-use Rattle.job_laws.proofs.Lists.{All-at}
-use Rattle.job_laws.proofs.Matching.{AllMeet-run}
-use Rattle.job_laws.proofs.Turns.{with-one, goes-kept, goes-sound, restarts-join, AllBridged-run}
-use Rattle.replica_groups.specs.declared.groups.Group.TheVariants as group
-use Rattle.replica_groups.specs.Groups.{by_bridge, group_of}
-use Rattle.recovery_plans.specs.declared.means.Means.{Means}
-use Rattle.recovery_plans.specs.declared.means.Means.TheVariants as means
-use Rattle.recovery_plans.specs.declared.outcome.Stopped.{Stopped}
-use Rattle.recovery_plans.specs.declared.purpose.Purpose.{Purpose}
-use Rattle.recovery_plans.specs.declared.purpose.Purpose.TheVariants as purpose
-use Rattle.recovery_plans.specs.declared.stage.Stage.{Stage}
-use Rattle.recovery_plans.specs.declared.stage.Stage.TheVariants as stage
-use Rattle.recovery_plans.specs.declared.task.Task.{Task}
-use Rattle.recovery_plans.specs.declared.task.Task.TheVariants as task
-use Rattle.recovery_plans.specs.declared.task.Way.{Way}
-use Rattle.recovery_plans.specs.declared.task.Way.TheVariants as way
-use Rattle.recovery_plans.specs.Recoveries.{Recovery, follows, follows_no_more, loses, sight_of, working}
-use Rattle.recovery_plans.specs.Stages.{drain, ends, gather, leaver, level, moved, with_bridge, with_way}
-use Rattle.recovery_plans.specs.Telling.{told}
-use Rattle.recovery_plans.specs.Deciding as deciding
-use Rattle.recovery_plans.specs.Deciding.{Lot, chosen_of, ground_of, lot_by_group, own_end_of, lot_by, move_of, moves_in, without_stopped, choose, moving, way_below, way_by_set, why_of, expels, releases, sort, logs_at}
-use Rattle.recovery_plans.specs.Taking.{lead_under, idle, entered, stepped, swapped, that_can, takes_writes, goes_back, way_back, undone, last_looks, last_exchanges, taken}
-use Rattle.recovery_plans.specs.Moves as by
-use Rattle.recovery_plans.specs.Moves.{Bearing, Decision, Does, Ending, IsHanding, IsNext, MayDecide, MayEnd, borne, decided_by, ended_by, fate_of}
-use Rattle.recovery_plans.proofs.Leading.{moved-leads}
-use Rattle.recovery_plans.proofs.Walking.{Keeps, kept-along, made-along}
-use Rattle.recovery_laws.specs.Rings.{HeldRings, SoundRings}
-use Rattle.recovery_ends.specs.Shapes.{Fits}
-use Rattle.recovery_laws.specs.HeldRecoveries.{IsStopped, stopped_bridge, HeldRecovery}
-use Rattle.recovery_laws.specs.SoundRecoveries.{IsSoundWay, IsSoundTask, IsSoundStop, IsSoundStage, SoundRecovery, KeepsSoundRecovery}
+use Rattle.recovery_laws.proofs.Prelude.{All, All-append, All-at, All-chosen, All-cons, All-head, All-nil, All-push, All-tail, All-weaker, AllAllowed}
+use Rattle.recovery_laws.proofs.Prelude.{AllBridged, AllBridged-run, AllJoinWell, AllMeet-run, Bearing, BookState, Bridge, Coord, Decision, Does}
+use Rattle.recovery_laws.proofs.Prelude.{Ending, Exchange, Fits, Grows-run, HeldRecovery, HeldRings, IsBridged, IsHanding, IsNext, IsSoundStage}
+use Rattle.recovery_laws.proofs.Prelude.{IsSoundStop, IsSoundTask, IsSoundWay, IsStopped, Job, Keeps, KeepsSound, KeepsSoundRecovery, Lot, MayDecide}
+use Rattle.recovery_laws.proofs.Prelude.{MayEnd, Means, Moment, Observation, Op, Placed, Purpose, Recovery, Request, Safe, ServerNo, Sight}
+use Rattle.recovery_laws.proofs.Prelude.{SoundRecovery, SoundRings, Stage, Stands, Stands-grows, StandsIn, Stopped, Task, Way, World, after}
+use Rattle.recovery_laws.proofs.Prelude.{and_parts, are_held, borne, bridge_at, by_bridge, can_attach, choose, chosen-logs, chosen_of, crossing-joins}
+use Rattle.recovery_laws.proofs.Prelude.{crossing_of, decided_by, deed_of, drain, ended_by, ends, entered, eqb-true, expels, fate_of, finds, follows}
+use Rattle.recovery_laws.proofs.Prelude.{follows_no_more, footing, gather, goes-kept, goes-sound, goes_back, going, ground_of, group_of, has_exec}
+use Rattle.recovery_laws.proofs.Prelude.{has_own, idle, is_before, kept-along, last_exchanges, last_looks, latest_that, lead_under, leaver, level}
+use Rattle.recovery_laws.proofs.Prelude.{logs_at, loses, lot_by, lot_by_group, made-along, move_of, moved, moved-leads, moves_in, moving, own_end_of}
+use Rattle.recovery_laws.proofs.Prelude.{releases, restarts, restarts-join, ring_at, run, same_coord, same_coord-true, same_Some, seen_of, sight_of}
+use Rattle.recovery_laws.proofs.Prelude.{sort, source_no, stands-at, stepped, stopped_bridge, swapped, taken, takes_writes, that_can, told, undone}
+use Rattle.recovery_laws.proofs.Prelude.{way_back, way_below, way_by_set, why_of, with-one, with_bridge, with_way, without_stopped, working}
+use Rattle.recovery_laws.proofs.Prelude.asking
+use Rattle.recovery_laws.proofs.Prelude.by
+use Rattle.recovery_laws.proofs.Prelude.cross
+use Rattle.recovery_laws.proofs.Prelude.deciding
+use Rattle.recovery_laws.proofs.Prelude.group
+use Rattle.recovery_laws.proofs.Prelude.means
+use Rattle.recovery_laws.proofs.Prelude.op
+use Rattle.recovery_laws.proofs.Prelude.purpose
+use Rattle.recovery_laws.proofs.Prelude.stage
+use Rattle.recovery_laws.proofs.Prelude.task
+use Rattle.recovery_laws.proofs.Prelude.way
 use Rattle.recovery_laws.proofs.Choosing.{All-latest, own-is}
-use Rattle.recovery_plans.proofs.Choices.{All-chosen, chosen-logs}
 use Rattle.recovery_laws.proofs.Deciding.{decides-held}
 use Rattle.recovery_laws.proofs.Taking.{due, source-is}
 
@@ -248,15 +210,7 @@ module _ (w : World) (es : List Exchange) (placed : Placed w) (allowed : AllAllo
 
   task-on : (t : Task) → IsSoundTask w t → IsSoundTask (run w es) t
   task-on (task.Moving n by) h = way-on w es placed allowed by h
-  task-on (task.Reading n) h = tt
-  task-on (task.Draining n) h = tt
-  task-on task.Choosing h = tt
-  task-on task.Handing h = tt
-  task-on task.Sorting h = tt
-  task-on (task.Expelling n) h = tt
-  task-on (task.Releasing n) h = tt
-  task-on (task.Trailing n) h = tt
-  task-on task.Yielding h = tt
+  task-on _ h = tt
 
   stage-on : (s : Stage) → IsSoundStage w s → IsSoundStage (run w es) s
   stage-on (stage.Look n b) h = stands-on b h
@@ -377,10 +331,8 @@ way-back-joins w j f (stage.Close lines) safe all left fits = tt
 way-back-joins w j f x safe all left fits = (tt, tt)
 
 undone-joins : (w : World) (u : Purpose) (r : Recovery) → Safe w → HeldRecovery w r → AllBridged w r.core.seen → AllJoinWell w (undone w u r.core.seen r.failed r.stage)
-undone-joins w purpose.Regroup r safe held all = tt
-undone-joins w purpose.Master r safe held all = tt
-undone-joins w (purpose.Intermediate k) r safe held all = tt
 undone-joins w (purpose.Takeover d) r safe held all = way-back-joins w r.core r.failed r.stage safe all held.core.left held.fits
+undone-joins w _ r safe held all = tt
 
 last-joins : (w : World) (r : Recovery) → Safe w → HeldRecovery w r → AllBridged w r.core.seen → AllJoinWell w (last_exchanges w r)
 last-joins w r safe held all =

@@ -1,33 +1,15 @@
 -- Each server that was read before an attempt still is.
 use Rattle.std.proofs.Common.{◌≡◌, ℕ, ◌+◌, Bool, true, false, cond, List, [], refl, ◌∙◌, ap, Option, Some, None, Ok, Err, Result}
 use Rattle.std.specs.Prelude.{◌==◌, nat_lt, is_some}
-use Rattle.binlog_coords.specs.declared.Coord.{Coord}
-use Rattle.orch_base.specs.declared.server.Moment.{Moment}
-use Rattle.orch_base.specs.declared.server.ServerNo.{ServerNo}
-use Rattle.kept_rows.specs.declared.observation.Observation.{Observation}
-use Rattle.kept_rows.specs.Seeing.{seen_in}
-use Rattle.server_words.specs.declared.answers.Unreachable.{Unreachable}
-use Rattle.server_words.specs.declared.attach.AttachFault.{AttachFault}
-use Rattle.server_words.specs.declared.attach.Spot.{Spot}
-use Rattle.server_words.specs.declared.changes.Ask.{Ask}
-use Rattle.server_words.specs.declared.changes.Ask.TheVariants as asking
-use Rattle.server_words.specs.declared.status.Status.{Status}
-use Rattle.server_model.specs.Desk.{desk_answer}
-use Rattle.server_model.specs.Gtids.{status}
-use Rattle.server_model.specs.Run.{Exchange}
-use Rattle.server_model.specs.Worlds.{World, server_at}
-use Rattle.commands.specs.declared.cause.Cause.TheVariants as cause
-use Rattle.operations.specs.declared.matching.MatchFault.{MatchFault}
-use Rattle.operations.specs.declared.op.Op.{Op}
-use Rattle.operations.specs.declared.sight.Position.{Position}
-use Rattle.operations.specs.declared.sight.Sight.{Sight}
-use Rattle.operations.specs.Deeds as deed
-use Rattle.operations.specs.Deeds.{Deed}
-use Rattle.operations.specs.Jobs.{Job, position_of, seen_of, with_seen, match_found}
-use Rattle.operations.specs.Matching.{match_logs, standing_at}
-use Rattle.operations.specs.Targets.{can_attach}
-use Rattle.operations.specs.Turns.{bridge_at, Attempt, Goes, Stops, Ends, next, saw, observed, is_moved, after_status, after_look, after_ask, aim_of, is_reached, until_by, after_until, after_wait_by, after_wait, holds_seen, settles, read_by, crossed, same_again, by_set, after_match, by_match, attach_answer_of, after_answer, after_attach, by_deed}
-use Rattle.operations.proofs.Sights.{seen-at}
+use Rattle.recovery_laws.proofs.Prelude.{Ask, AttachFault, Attempt, Coord, Deed, Ends, Exchange, Goes, Job, MatchFault, Moment, Observation, Op}
+use Rattle.recovery_laws.proofs.Prelude.{Position, ServerNo, Sight, Spot, Status, Stops, Unreachable, World, after_answer, after_ask, after_attach}
+use Rattle.recovery_laws.proofs.Prelude.{after_look, after_match, after_status, after_until, after_wait, after_wait_by, aim_of, attach_answer_of}
+use Rattle.recovery_laws.proofs.Prelude.{bridge_at, by_deed, by_match, by_set, can_attach, crossed, desk_answer, holds_seen, is_moved, is_reached}
+use Rattle.recovery_laws.proofs.Prelude.{match_found, match_logs, next, observed, position_of, read_by, same_again, saw, seen-at, seen_in, seen_of}
+use Rattle.recovery_laws.proofs.Prelude.{server_at, settles, standing_at, status, until_by, with_seen}
+use Rattle.recovery_laws.proofs.Prelude.asking
+use Rattle.recovery_laws.proofs.Prelude.cause
+use Rattle.recovery_laws.proofs.Prelude.deed
 
 -- each server that was read still is
 abbrev pub StaysRead : List Sight → List Sight → Type 0

@@ -1,54 +1,25 @@
 -- A turn of a recovery leaves it held.
 use Rattle.std.proofs.Common.{◌≡◌, ℕ, Bool, true, false, cond, List, [], ◌∷◌, ◌++◌, refl, sym, ◌∙◌, ap, subst, Option, Some, None, ◌⊎◌, inl, inr, ◌||◌, ◌&&◌}
 use Rattle.std.specs.Prelude.{◌==◌, IfSome, is_some}
-use Rattle.std.proofs.lemmas.Bool.{false≢true, eqb-true}
-use Rattle.std.proofs.lemmas.List.Elements.{All-push}
-use Rattle.orch_base.specs.declared.server.Moment.{Moment}
-use Rattle.orch_base.specs.declared.server.ServerNo.{ServerNo}
-use Rattle.server_model.specs.Run.{Exchange, run, AllAllowed}
-use Rattle.server_model.specs.Safe.{Placed}
-use Rattle.server_model.specs.Worlds.{World, source_no}
-use Rattle.recovery_plans.specs.declared.why.Why.{Why}
-use Rattle.instance_keeper.specs.declared.bridge.Bridge.{Bridge}
-use Rattle.kept_rows.specs.declared.observation.Observation.{Observation}
-use Rattle.instance_keeper.specs.Book.{BookState}
-use Rattle.operations.specs.declared.op.Crossing.TheVariants as cross
-use Rattle.operations.specs.declared.op.Op.{Op}
-use Rattle.operations.specs.declared.op.Op.TheVariants as op
-use Rattle.operations.specs.declared.sight.Position.{Position}
-use Rattle.operations.specs.declared.sight.Sight.{Sight}
-use Rattle.operations.specs.Deeds.{deed_of}
-use Rattle.operations.specs.Jobs.{Job, seen_of}
-use Rattle.operations.specs.Turns as attempt
-use Rattle.operations.specs.Turns.{bridge_at, Attempt, going}
-use Rattle.operations.proofs.Tests.{both}
-use Rattle.job_laws.specs.Footing.{Footing, footing, finds, are_held}
-use Rattle.job_laws.specs.Held.{HeldJob, KeepsHeld, IsDue, Spans}
-use Rattle.operations.proofs.Sights.{seen-at}
-use Rattle.job_laws.proofs.Spanning.{seen-spans}
-use Rattle.job_laws.proofs.Turns.{Held-run, deed-kept, due-of}
-use Rattle.recovery_plans.specs.declared.purpose.Purpose.{Purpose}
-use Rattle.recovery_plans.specs.declared.purpose.Purpose.TheVariants as purpose
-use Rattle.recovery_plans.specs.declared.stage.Stage.{Stage}
-use Rattle.recovery_plans.specs.declared.stage.Stage.TheVariants as stage
-use Rattle.recovery_plans.specs.declared.task.Way.TheVariants as way
-use Rattle.recovery_plans.specs.Recoveries.{Recovery, follows, follows_no_more, loses, sight_of, working}
-use Rattle.recovery_plans.specs.Stages.{ends, gather, leaver, moved, tail_of, trail, with_bridge}
-use Rattle.recovery_plans.specs.Telling.{told}
-use Rattle.recovery_plans.specs.Deciding.{closing}
-use Rattle.recovery_plans.specs.Taking.{is_source, is_below, swapped, lead_under, idle, frees, last_looks, entered, stepped, is_waiting, taken}
-use Rattle.recovery_plans.proofs.Allowed.{taken-allowed}
-use Rattle.recovery_plans.specs.Moves as by
-use Rattle.recovery_plans.specs.Moves.{Bearing, Does, Ending, MayBear, MayEnd, borne, ended_by, fate_of, stray}
-use Rattle.recovery_plans.proofs.Leading.{moved-leads}
-use Rattle.recovery_plans.proofs.Walking.{Keeps, kept-along}
-use Rattle.recovery_laws.specs.Rings.{HeldRings}
-use Rattle.recovery_ends.specs.Shapes.{Fits}
-use Rattle.recovery_laws.specs.HeldRecoveries.{IsReadyStage, IsStopped, IsLead, HeldRecovery, KeepsRecovery}
+use Rattle.recovery_laws.proofs.Prelude.{All-push, AllAllowed, Attempt, Bearing, BookState, Bridge, Does, Ending, Exchange, Fits, Footing, Held-run}
+use Rattle.recovery_laws.proofs.Prelude.{HeldJob, HeldRecovery, HeldRings, IsDue, IsLead, IsReadyStage, IsStopped, Job, Keeps, KeepsHeld}
+use Rattle.recovery_laws.proofs.Prelude.{KeepsRecovery, MayBear, MayEnd, Moment, Observation, Op, Placed, Position, Purpose, Recovery, ServerNo}
+use Rattle.recovery_laws.proofs.Prelude.{Sight, Spans, Stage, Went, WentOn, Why, World, are_held, borne, both, bridge_at, closing, deed-kept}
+use Rattle.recovery_laws.proofs.Prelude.{deed-went, deed_of, due-of, ended_by, ends, entered, eqb-true, false≢true, fate_of, finds, fits-step}
+use Rattle.recovery_laws.proofs.Prelude.{follows, follows_no_more, footing, frees, front-fits, gather, going, idle, is_below, is_source, is_waiting}
+use Rattle.recovery_laws.proofs.Prelude.{kept-along, last_looks, lead_under, leaver, loses, moved, moved-fits, moved-leads, run, same-head, seen-at}
+use Rattle.recovery_laws.proofs.Prelude.{seen-spans, seen_of, sight_of, source_no, stepped, stray, swapped, tail-fits, tail_of, taken, taken-allowed}
+use Rattle.recovery_laws.proofs.Prelude.{told, trail, with_bridge, working}
+use Rattle.recovery_laws.proofs.Prelude.attempt
+use Rattle.recovery_laws.proofs.Prelude.by
+use Rattle.recovery_laws.proofs.Prelude.cross
+use Rattle.recovery_laws.proofs.Prelude.op
+use Rattle.recovery_laws.proofs.Prelude.purpose
+use Rattle.recovery_laws.proofs.Prelude.stage
+use Rattle.recovery_laws.proofs.Prelude.way
 use Rattle.recovery_laws.proofs.Choosing.{self}
 use Rattle.recovery_laws.proofs.Deciding.{decides-held, moving-held, working-held}
 use Rattle.recovery_laws.proofs.Ready.{bridge-shown, queue-more, stopped-more, queue-run, stopped-run, lead-run, stage-run}
-use Rattle.recovery_ends.proofs.Shapes.{Went, WentOn, deed-went, same-head, fits-step, moved-fits, front-fits, tail-fits}
 use Rattle.recovery_laws.proofs.StaysRead.{Reads, StaysRead, deed-reads, saw-read}
 
 -- ---- what others do
@@ -132,11 +103,9 @@ module _ (w : World) where
   }
 
   close-held : (r : Recovery) (u : Purpose) (n : ServerNo) → HeldRecovery w r → HeldRecovery w (closing r (last_looks r u n))
-  close-held r purpose.Regroup n held = working-held w r (stage.Close (told r)) _ held tt refl (λ has. refl) (record { front = op.Status n None ∷ []; still = refl; is = refl; due = λ h. cc })
-  close-held r purpose.Master n held = working-held w r (stage.Close (told r)) _ held tt refl (λ has. refl) (record { front = op.Status n None ∷ []; still = refl; is = refl; due = λ h. cc })
-  close-held r (purpose.Intermediate s) n held = working-held w r (stage.Close (told r)) _ held tt refl (λ has. refl) (record { front = op.Status n None ∷ []; still = refl; is = refl; due = λ h. cc })
   close-held r (purpose.Takeover d) n held =
       working-held w r (stage.Close (told r)) _ held tt refl (λ has. refl) (record { front = op.Status r.failed None ∷ op.Status n None ∷ []; still = refl; is = refl; due = λ h. cc })
+  close-held r _ n held = working-held w r (stage.Close (told r)) _ held tt refl (λ has. refl) (record { front = op.Status n None ∷ []; still = refl; is = refl; due = λ h. cc })
 
   ready-of : (r : Recovery) (s : Stage) → r.stage ≡ s → HeldRecovery w r → IsReadyStage w s
   ready-of r s is held = subst (λ (x : Stage). IsReadyStage w x) is held.stage

@@ -1,26 +1,9 @@
 -- What holds of a recovery in every world, quiet or not.
 use Rattle.std.specs.Prelude.{◌≡◌, true, List, Option, Some, IfSome, All, is_some}
-use Rattle.binlog_coords.specs.declared.Coord.{Coord}
-use Rattle.orch_base.specs.declared.server.ServerNo.{ServerNo}
-use Rattle.server_model.specs.Run.{run, AllAllowed}
-use Rattle.server_model.specs.declared.server.Server.{Server}
-use Rattle.server_model.specs.Worlds.{World, server_at}
-use Rattle.instance_keeper.specs.declared.bridge.Bridge.{Bridge}
-use Rattle.operations.specs.declared.sight.Sight.{Sight}
-use Rattle.operations.specs.Jobs.{Job, seen_of}
-use Rattle.operations.specs.Turns.{is_going}
-use Rattle.job_laws.specs.Footing.{logs_at}
-use Rattle.job_laws.specs.Held.{HeldJob, Spans}
-use Rattle.recovery_plans.specs.declared.outcome.Stopped.{Stopped}
-use Rattle.recovery_plans.specs.declared.stage.Stage.{Stage}
-use Rattle.recovery_plans.specs.declared.task.Task.{Task}
-use Rattle.recovery_plans.specs.declared.task.Task.TheVariants as task
-use Rattle.recovery_plans.specs.declared.task.Way.{Way}
-use Rattle.recovery_plans.specs.declared.task.Way.TheVariants as way
-use Rattle.recovery_plans.specs.Recoveries.{Recovery}
-use Rattle.recovery_plans.specs.Table.{info}
-use Rattle.recovery_plans.specs.Taking.{Taken}
-use Rattle.recovery_ends.specs.Shapes.{Fits}
+use Rattle.recovery_laws.specs.Prelude.{AllAllowed, Bridge, Coord, Fits, HeldJob, Job, Recovery, Server, ServerNo, Sight, Spans, Stage, Stopped}
+use Rattle.recovery_laws.specs.Prelude.{Taken, Task, Way, World, info, is_going, logs_at, run, seen_of, server_at}
+use Rattle.recovery_laws.specs.Prelude.task
+use Rattle.recovery_laws.specs.Prelude.way
 
 -- GTIDs are used, and the server logs and was read
 pub record IsAutoSource (w : World) (seen : List Sight) (n : ServerNo) : Type 0 where

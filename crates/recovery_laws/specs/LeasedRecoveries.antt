@@ -1,11 +1,6 @@
 -- That each server that a recovery changes is leased to it.
 use Rattle.std.specs.Prelude.{ℕ}
-use Rattle.orch_base.specs.declared.server.ServerNo.{ServerNo}
-use Rattle.job_laws.specs.Leases.{Leases, IsLeased}
-use Rattle.recovery_plans.specs.declared.purpose.Purpose.{Purpose}
-use Rattle.recovery_plans.specs.Named.{IsListOf, IsOf, KeepsOf}
-use Rattle.recovery_plans.specs.Recoveries.{Recovery}
-use Rattle.recovery_plans.specs.Taking.{Taken}
+use Rattle.recovery_laws.specs.Prelude.{IsLeased, IsListOf, IsOf, KeepsOf, Leases, Purpose, Recovery, ServerNo, Taken}
 
 -- a server may be read without a lease
 abbrev pub IsAny : ℕ → Type 0

@@ -1,9 +1,6 @@
 -- The turn of a recovery as one of its job.
 use Rattle.std.specs.Prelude.{ℕ, Bool, true, false, []}
-use Rattle.operations.specs.Jobs.{Job, job_with}
-use Rattle.operations.specs.Turns.{Turned, is_going}
-use Rattle.recovery_plans.specs.Recoveries.{Recovery}
-use Rattle.recovery_plans.specs.Taking.{Taken}
+use Rattle.recovery_laws.specs.Prelude.{Job, Recovery, Taken, Turned, is_going, job_with}
 
 -- the job of a recovery that goes on; one that is ended has nothing left to do
 abbrev pub core_by : ℕ → Recovery → Bool → Job

@@ -1,11 +1,6 @@
 -- The bridges that a book keeps, as recoveries go by them.
 use Rattle.std.specs.Prelude.{◌≡◌, List, All}
-use Rattle.orch_base.specs.declared.server.ServerNo.{ServerNo}
-use Rattle.server_model.specs.Worlds.{World}
-use Rattle.instance_keeper.specs.declared.bridge.Bridge.{Bridge}
-use Rattle.instance_keeper.specs.Bridges.{ring_at}
-use Rattle.job_laws.specs.Flights.{StandsIn}
-use Rattle.job_laws.specs.Held.{Spans}
+use Rattle.recovery_laws.specs.Prelude.{Bridge, ServerNo, Spans, StandsIn, World, ring_at}
 
 -- a server's ring has bridges of that server
 abbrev pub AreOwn : List (List Bridge) → Type 0

@@ -1,25 +1,9 @@
 -- What holds of a recovery in a quiet world beside.
 use Rattle.std.specs.Prelude.{◌≡◌, true, List, Option, Some, IfSome, All}
-use Rattle.binlog_coords.specs.declared.Coord.{Coord}
-use Rattle.orch_base.specs.declared.server.ServerNo.{ServerNo}
-use Rattle.server_model.specs.Run.{run, AllJoinWell}
-use Rattle.server_model.specs.Worlds.{World}
-use Rattle.instance_keeper.specs.declared.bridge.Bridge.{Bridge}
-use Rattle.operations.specs.declared.matching.Match.{Match}
-use Rattle.operations.specs.declared.sight.Sight.{Sight}
-use Rattle.operations.specs.Turns.{is_going}
-use Rattle.job_laws.specs.Flights.{StandsIn}
-use Rattle.job_laws.specs.Matched.{AllMeet}
-use Rattle.job_laws.specs.Sound.{AllBridged}
-use Rattle.recovery_plans.specs.declared.outcome.Stopped.{Stopped}
-use Rattle.recovery_plans.specs.declared.stage.Stage.{Stage}
-use Rattle.recovery_plans.specs.declared.task.Task.{Task}
-use Rattle.recovery_plans.specs.declared.task.Task.TheVariants as task
-use Rattle.recovery_plans.specs.declared.task.Way.{Way}
-use Rattle.recovery_plans.specs.declared.task.Way.TheVariants as way
-use Rattle.recovery_plans.specs.Recoveries.{Recovery}
-use Rattle.recovery_plans.specs.Table.{info}
-use Rattle.recovery_plans.specs.Taking.{Taken}
+use Rattle.recovery_laws.specs.Prelude.{AllBridged, AllJoinWell, AllMeet, Bridge, Coord, Match, Recovery, ServerNo, Sight, Stage, StandsIn, Stopped}
+use Rattle.recovery_laws.specs.Prelude.{Taken, Task, Way, World, info, is_going, run}
+use Rattle.recovery_laws.specs.Prelude.task
+use Rattle.recovery_laws.specs.Prelude.way
 use Rattle.recovery_laws.specs.HeldRecoveries.{stopped_bridge}
 
 abbrev pub IsSoundWay : World → Way → Type 0

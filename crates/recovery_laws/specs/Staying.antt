@@ -1,6 +1,6 @@
 -- Passages that are no turn of a recovery.
 use Rattle.std.specs.Prelude.{◌≡◌, ℕ, ⊤}
-use Rattle.job_laws.specs.Passages.{Passage, Exchanging, Polling, Storing, Discovering, Forgetting, Restarting, Beginning, Turning, Taking}
+use Rattle.recovery_laws.specs.Prelude.{Beginning, Discovering, Exchanging, Forgetting, Passage, Polling, Restarting, Storing, Taking, Turning}
 
 -- a passage leaves the job of this number, which isn't that of a turn; a restart leaves none
 abbrev pub Spares : ℕ → Passage → Type 0

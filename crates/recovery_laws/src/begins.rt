@@ -1,12 +1,7 @@
 //! Recoveries that begin.
 
 ghost use Rattle.std.specs.Prelude.{ℕ, All, List};
-ghost use Rattle.orch_base.specs.declared.server.ServerNo.{ServerNo as Number};
-ghost use Rattle.server_model.specs.Worlds.{World};
-ghost use Rattle.job_laws.specs.Leases.{Leases, IsLeased};
-ghost use Rattle.recovery_plans.specs.declared.means.Means.{Means as AMeans};
-ghost use Rattle.recovery_plans.specs.declared.purpose.Purpose.{Purpose as APurpose};
-ghost use Rattle.recovery_plans.specs.Beginning.{begun_recovery};
+ghost use Rattle.recovery_laws.specs.Prelude.{IsLeased, Leases, Means as AMeans, Purpose as APurpose, ServerNo as Number, World, begun_recovery};
 ghost use Rattle.recovery_laws.specs.HeldRecoveries.{HeldRecovery};
 ghost use Rattle.recovery_laws.specs.SoundRecoveries.{SoundRecovery};
 ghost use Rattle.recovery_laws.specs.LeasedRecoveries.{LeasedRecovery, IsLeasedList};

@@ -1,14 +1,8 @@
 //! Recoveries leave operations that are held.
 
 ghost use Rattle.std.specs.Prelude.{◌≡◌, ℕ, List};
-ghost use Rattle.orch_base.specs.declared.server.Moment.{Moment as AMoment};
-ghost use Rattle.instance_keeper.specs.Book.{BookState};
-ghost use Rattle.server_model.specs.Run.{Exchange, run, AllAllowed};
-ghost use Rattle.server_model.specs.Safe.{Placed};
-ghost use Rattle.server_model.specs.Worlds.{World};
-ghost use Rattle.recovery_plans.specs.Recoveries.{Recovery};
-ghost use Rattle.recovery_plans.specs.Deciding.{decided, ground_of};
-ghost use Rattle.recovery_plans.specs.Taking.{taken};
+ghost use Rattle.recovery_laws.specs.Prelude.{AllAllowed, BookState, Exchange, Moment as AMoment, Placed, Recovery, World, decided, ground_of, run};
+ghost use Rattle.recovery_laws.specs.Prelude.{taken};
 ghost use Rattle.recovery_laws.specs.Rings.{HeldRings};
 ghost use Rattle.recovery_laws.specs.HeldRecoveries.{HeldRecovery, KeepsRecovery};
 

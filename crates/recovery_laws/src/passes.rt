@@ -1,12 +1,7 @@
 //! Recoveries among other jobs.
 
 ghost use Rattle.std.specs.Prelude.{ℕ};
-ghost use Rattle.orch_base.specs.declared.server.Moment.{Moment as AMoment};
-ghost use Rattle.instance_keeper.specs.Book.{BookState};
-ghost use Rattle.job_laws.specs.Flights.{Flight, Held, Sound};
-ghost use Rattle.job_laws.specs.Passages.{MayTake, TakesWell};
-ghost use Rattle.recovery_plans.specs.Recoveries.{Recovery};
-ghost use Rattle.recovery_plans.specs.Taking.{taken};
+ghost use Rattle.recovery_laws.specs.Prelude.{BookState, Flight, Held, MayTake, Moment as AMoment, Recovery, Sound, TakesWell, taken};
 ghost use Rattle.recovery_laws.specs.HeldRecoveries.{HeldRecovery};
 ghost use Rattle.recovery_laws.specs.LeasedRecoveries.{LeasedRecovery};
 ghost use Rattle.recovery_laws.specs.Passing.{as_turn};

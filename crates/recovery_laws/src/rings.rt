@@ -1,10 +1,7 @@
 //! The bridges of a book stand in their own servers' rings.
 
 ghost use Rattle.std.specs.Prelude.{◌≡◌, ℕ, List, Option, [], IfSome, replicate, slice_set};
-ghost use Rattle.orch_base.specs.declared.server.ServerNo.{ServerNo as Number};
-ghost use Rattle.server_words.specs.declared.status.Status.{Status as Showed};
-ghost use Rattle.instance_keeper.specs.declared.bridge.Bridge.{Bridge as ABridge};
-ghost use Rattle.instance_keeper.specs.Bridges.{bridge_in, ringed};
+ghost use Rattle.recovery_laws.specs.Prelude.{Bridge as ABridge, ServerNo as Number, Status as Showed, bridge_in, ringed};
 ghost use Rattle.recovery_laws.specs.Rings.{AreOwn};
 
 /// Each server's ring has bridges of that server, from empty rings on: where a bridge that was shown of a server is

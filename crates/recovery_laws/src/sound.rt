@@ -1,13 +1,7 @@
 //! Recoveries keep a safe world safe.
 
 ghost use Rattle.std.specs.Prelude.{ℕ, List};
-ghost use Rattle.orch_base.specs.declared.server.Moment.{Moment as AMoment};
-ghost use Rattle.instance_keeper.specs.Book.{BookState};
-ghost use Rattle.server_model.specs.Run.{Exchange, run, AllAllowed};
-ghost use Rattle.server_model.specs.Safe.{Placed, Safe};
-ghost use Rattle.server_model.specs.Worlds.{World};
-ghost use Rattle.recovery_plans.specs.Recoveries.{Recovery};
-ghost use Rattle.recovery_plans.specs.Taking.{taken};
+ghost use Rattle.recovery_laws.specs.Prelude.{AllAllowed, BookState, Exchange, Moment as AMoment, Placed, Recovery, Safe, World, run, taken};
 ghost use Rattle.recovery_laws.specs.Rings.{HeldRings, SoundRings};
 ghost use Rattle.recovery_laws.specs.HeldRecoveries.{HeldRecovery};
 ghost use Rattle.recovery_laws.specs.SoundRecoveries.{SoundRecovery, KeepsSoundRecovery};

@@ -1,9 +1,7 @@
 //! Recoveries while others take their turns.
 
 ghost use Rattle.std.specs.Prelude.{ℕ};
-ghost use Rattle.job_laws.specs.Flights.{Flight, Held};
-ghost use Rattle.job_laws.specs.Passages.{MayPass, Passage, passed};
-ghost use Rattle.recovery_plans.specs.Recoveries.{Recovery};
+ghost use Rattle.recovery_laws.specs.Prelude.{Flight, Held, MayPass, Passage, Recovery, passed};
 ghost use Rattle.recovery_laws.specs.HeldRecoveries.{HeldRecovery};
 ghost use Rattle.recovery_laws.specs.LeasedRecoveries.{LeasedRecovery};
 ghost use Rattle.recovery_laws.specs.SoundRecoveries.{SoundRecovery};

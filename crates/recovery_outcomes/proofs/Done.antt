@@ -1,66 +1,27 @@
 -- A recovery that is done covers its replicas.
 use Rattle.std.proofs.Common.{◌≡◌, ℕ, ◌+◌, Bool, true, false, cond, List, [], ◌∷◌, refl, sym, ◌∙◌, ap, subst, Option, Some, None, Ok, Err, Result, ◌&&◌, ◌||◌, ◌⊎◌, inl, inr, arith}
 use Rattle.std.specs.Prelude.{IfSome, nat_lt}
-use Rattle.std.specs.List.{Contains}
-use Rattle.std.proofs.lemmas.Bool.{false≢true}
-use Rattle.std.proofs.lemmas.Option.{same_Some}
-use Rattle.std.proofs.lemmas.List.Elements.{All-weaker}
-use Rattle.binlog_coords.specs.declared.Coord.{Coord}
-use Rattle.orch_base.specs.declared.server.Moment.{Moment}
-use Rattle.orch_base.specs.declared.server.ServerNo.{ServerNo}
-use Rattle.server_words.specs.declared.answers.Unreachable.{Unreachable}
-use Rattle.server_words.specs.declared.attach.AttachFault.{AttachFault}
-use Rattle.server_words.specs.declared.attach.Spot.{Spot}
-use Rattle.server_words.specs.declared.changes.Ask.{Ask}
-use Rattle.server_words.specs.declared.changes.Ask.TheVariants as asking
-use Rattle.server_words.specs.declared.status.Status.{Status}
-use Rattle.server_model.specs.Desk.{desk_answer}
-use Rattle.server_model.specs.Gtids.{status}
-use Rattle.server_model.specs.Run.{Exchange, run}
-use Rattle.server_model.specs.Safe.{Placed}
-use Rattle.server_model.specs.Worlds.{World, server_at}
-use Rattle.commands.specs.declared.cause.Cause.TheVariants as cause
-use Rattle.commands.specs.declared.line.Line.{Line}
-use Rattle.kept_rows.specs.declared.observation.Observation.{Observation}
-use Rattle.kept_rows.specs.Seeing.{seen_in}
-use Rattle.operations.specs.declared.op.Crossing.TheVariants as cross
-use Rattle.operations.specs.declared.matching.MatchFault.{MatchFault}
-use Rattle.operations.specs.declared.op.Op.{Op}
-use Rattle.operations.specs.declared.op.Op.TheVariants as op
-use Rattle.operations.specs.declared.step.JobStep.{JobStep}
-use Rattle.operations.specs.declared.step.JobStep.TheVariants as step
-use Rattle.operations.specs.Deeds as deed
-use Rattle.operations.specs.Deeds.{Deed, deed_of}
-use Rattle.operations.specs.Jobs.{Job, match_found, seen_of}
-use Rattle.operations.specs.Matching.{match_logs, standing_at}
-use Rattle.operations.specs.Targets.{can_attach}
-use Rattle.operations.specs.Turns as attempt
-use Rattle.operations.specs.Turns.{Attempt, next, saw, observed, is_moved, after_status, after_look, after_ask, aim_of, is_reached, until_by, after_until, after_wait_by, after_wait, holds_seen, settles, crossing_of, same_again, by_set, after_match, by_match, attach_answer_of, after_answer, after_attach, by_deed, ended}
-use Rattle.recovery_plans.specs.declared.outcome.Follower.{Follower}
-use Rattle.recovery_plans.specs.declared.purpose.Purpose.{Purpose}
-use Rattle.recovery_plans.specs.declared.purpose.Purpose.TheVariants as purpose
-use Rattle.recovery_plans.specs.declared.stage.Stage.{Stage}
-use Rattle.recovery_plans.specs.declared.stage.Stage.TheVariants as stage
-use Rattle.recovery_plans.specs.declared.task.Way.TheVariants as way
-use Rattle.recovery_plans.specs.Beginning.{first_source, is_master}
-use Rattle.recovery_plans.specs.Recoveries.{Outcome, Recovery}
-use Rattle.recovery_plans.specs.Stages.{ends, reads_last, tail_of}
-use Rattle.recovery_plans.specs.Taking.{Taken, taken}
-use Rattle.recovery_plans.specs.Moves as move
-use Rattle.recovery_plans.specs.Moves.{Turning}
-use Rattle.recovery_plans.proofs.Walking.{decisions-keep, taken-walks}
-use Rattle.instance_keeper.specs.Book.{BookState}
-use Rattle.recovery_laws.specs.Rings.{HeldRings}
-use Rattle.recovery_covers.proofs.Decided.{IsStuck}
-use Rattle.recovery_covers.proofs.Turning.{covered, decides-before}
-use Rattle.recovery_laws.specs.HeldRecoveries.{HeldRecovery}
-use Rattle.recovery_ends.specs.Shapes.{Fits}
-use Rattle.recovery_ends.proofs.Shapes.{same-head, fits-step}
-use Rattle.recovery_laws.proofs.Taking.{fits}
-use Rattle.recovery_covers.specs.Covers.{times, Follows, HasSwapped, IsAsNamed, Covers, IsTold}
-use Rattle.recovery_covers.proofs.Covering.{swapped-on}
-use Rattle.recovery_outcomes.specs.Chains.{IsChain}
-use Rattle.recovery_covers.specs.SoFar.{of_queue, stopped_nos, Leads, FollowsBy, OldFollows, CoversAt, CoversSoFar}
+use Rattle.recovery_outcomes.proofs.Prelude.{All-weaker, Ask, AttachFault, Attempt, BookState, Contains, Coord, Covers, CoversAt, CoversSoFar, Deed}
+use Rattle.recovery_outcomes.proofs.Prelude.{Exchange, Fits, Follower, Follows, FollowsBy, HasSwapped, HeldRecovery, HeldRings, IsAsNamed, IsChain}
+use Rattle.recovery_outcomes.proofs.Prelude.{IsStuck, IsTold, Job, JobStep, Leads, Line, MatchFault, Moment, Observation, OldFollows, Op, Outcome}
+use Rattle.recovery_outcomes.proofs.Prelude.{Placed, Purpose, Recovery, ServerNo, Spot, Stage, Status, Taken, Turning, Unreachable, World}
+use Rattle.recovery_outcomes.proofs.Prelude.{after_answer, after_ask, after_attach, after_look, after_match, after_status, after_until, after_wait}
+use Rattle.recovery_outcomes.proofs.Prelude.{after_wait_by, aim_of, attach_answer_of, by_deed, by_match, by_set, can_attach, covered, crossing_of}
+use Rattle.recovery_outcomes.proofs.Prelude.{decides-before, decisions-keep, deed_of, desk_answer, ended, ends, false≢true, first_source, fits}
+use Rattle.recovery_outcomes.proofs.Prelude.{fits-step, holds_seen, is_master, is_moved, is_reached, match_found, match_logs, next, observed}
+use Rattle.recovery_outcomes.proofs.Prelude.{of_queue, reads_last, run, same-head, same_again, same_Some, saw, seen_in, seen_of, server_at, settles}
+use Rattle.recovery_outcomes.proofs.Prelude.{standing_at, status, stopped_nos, swapped-on, tail_of, taken, taken-walks, times, until_by}
+use Rattle.recovery_outcomes.proofs.Prelude.asking
+use Rattle.recovery_outcomes.proofs.Prelude.attempt
+use Rattle.recovery_outcomes.proofs.Prelude.cause
+use Rattle.recovery_outcomes.proofs.Prelude.cross
+use Rattle.recovery_outcomes.proofs.Prelude.deed
+use Rattle.recovery_outcomes.proofs.Prelude.move
+use Rattle.recovery_outcomes.proofs.Prelude.op
+use Rattle.recovery_outcomes.proofs.Prelude.purpose
+use Rattle.recovery_outcomes.proofs.Prelude.stage
+use Rattle.recovery_outcomes.proofs.Prelude.step
+use Rattle.recovery_outcomes.proofs.Prelude.way
 
 -- ---- only the last operation ends a job well
 
@@ -236,21 +197,7 @@ module _ (w : World) (read : ℕ) (now : Moment) (r : Recovery) (o : Op) (rest :
       go (stage.Shut m d) t a = let bad = first (op.ReadOnly m true) _ t in cc
       go (stage.Yield m d) t a = let bad = first (op.Reset d) _ t in cc
       go (stage.Switch m d) t a = let bad = first (op.Cross cross.About m d) _ t in cc
-      go stage.Idle t a = cc
-      go stage.Check t a = cc
-      go (stage.Read n) t a = cc
-      go (stage.Judged n) t a = cc
-      go (stage.Join n p) t a = cc
-      go (stage.Expelled n) t a = cc
-      go (stage.Release n) t a = cc
-      go (stage.Swapped p q) t a = cc
-      go (stage.Resume p q) t a = cc
-      go (stage.Opened n) t a = cc
-      go (stage.Meet m d) t a = cc
-      go (stage.Gather m d) t a = cc
-      go (stage.Looked n b) t a = cc
-      go (stage.Halted n b) t a = cc
-      go (stage.Switched m d) t a = cc
+      go _ t a = cc
 
   at-finish : ends-so o → IsClosing w r lines
   at-finish d = go (fits-step r.stage o rest (fits w read now r o rest placed held is))

@@ -1,30 +1,15 @@
 -- Recoveries that are done and cover their replicas, one for each purpose.
 use Rattle.std.proofs.Common.{◌≡◌, ℕ, ◌+◌, ◌≤◌, Bool, true, false, cond, not, List, [], ◌∷◌, refl, sym, ◌∙◌, ap, Option, Some, None, ◌&&◌, inl, inr, arith}
 use Rattle.std.specs.Prelude.{◌==◌}
-use Rattle.std.specs.List.{list_all}
-use Rattle.std.proofs.lemmas.Bool.{false≢true, and_parts, eqb-true}
-use Rattle.std.proofs.lemmas.List.Elements.{All-nil, All-cons}
-use Rattle.orch_base.specs.declared.rule.Rule.TheVariants as rule
-use Rattle.orch_base.specs.declared.server.ServerNo.{ServerNo}
-use Rattle.orch_base.specs.declared.server.Settings.{Settings}
-use Rattle.orch_base.specs.declared.server.SourceState.{SourceState}
-use Rattle.orch_base.specs.declared.server.SourceState.TheVariants.{Without, Attached, Detached}
-use Rattle.server_model.specs.declared.server.Server.{Server}
-use Rattle.server_model.specs.Desk.{is_detached}
-use Rattle.server_model.specs.Run.{Fetch, Apply}
-use Rattle.server_model.specs.Worlds.{World, has_source, server_at}
-use Rattle.commands.specs.declared.line.Lost.TheVariants as lost
-use Rattle.recovery_plans.specs.declared.outcome.Follower.{Follower}
-use Rattle.recovery_plans.specs.declared.outcome.LostReplica.{LostReplica}
-use Rattle.recovery_plans.specs.declared.means.Means.TheVariants as means
-use Rattle.recovery_plans.specs.declared.purpose.Purpose.TheVariants as purpose
-use Rattle.recovery_plans.specs.declared.why.Why.TheVariants as why
-use Rattle.recovery_plans.specs.Beginning.{begun_recovery}
-use Rattle.recovery_plans.specs.Recoveries.{Outcome}
-use Rattle.recovery_plans.specs.Taking.{Taken}
-use Rattle.recovery_plans.proofs.Worlds.{server_no, end, bridge, server, world, book, rounds, each_turn}
-use Rattle.standing_laws.specs.Standing.{attached_no, IsUnder, IsApart, IsRuling}
-use Rattle.recovery_covers.specs.Covers.{times, Follows, Covers}
+use Rattle.recovery_outcomes.proofs.Prelude.{All-cons, All-nil, Apply, Attached, Covers, Detached, Fetch, Follower, Follows, IsApart, IsRuling}
+use Rattle.recovery_outcomes.proofs.Prelude.{IsUnder, LostReplica, Outcome, Server, ServerNo, Settings, SourceState, Taken, Without, World, and_parts}
+use Rattle.recovery_outcomes.proofs.Prelude.{attached_no, begun_recovery, book, bridge, each_turn, end, eqb-true, false≢true, has_source, is_detached}
+use Rattle.recovery_outcomes.proofs.Prelude.{list_all, rounds, server, server_at, server_no, times, world}
+use Rattle.recovery_outcomes.proofs.Prelude.lost
+use Rattle.recovery_outcomes.proofs.Prelude.means
+use Rattle.recovery_outcomes.proofs.Prelude.purpose
+use Rattle.recovery_outcomes.proofs.Prelude.rule
+use Rattle.recovery_outcomes.proofs.Prelude.why
 
 -- ---- tests of a server
 

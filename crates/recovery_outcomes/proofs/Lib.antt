@@ -1,3 +1,4 @@
+mod Prelude
 pub mod Done
 pub mod Running
 pub mod Placing

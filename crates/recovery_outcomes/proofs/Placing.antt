@@ -1,18 +1,9 @@
 -- What an outcome that covers its replicas says of each.
 use Rattle.std.proofs.Common.{◌≡◌, ℕ, ◌+◌, ◌<◌, ◌≤◌, Bool, true, false, cond, zero, suc, List, refl, sym, ◌⊎◌, inl, inr, arith}
 use Rattle.std.specs.Prelude.{◌==◌}
-use Rattle.std.specs.List.{Contains}
-use Rattle.std.proofs.lemmas.Bool.{eqb-true}
-use Rattle.std.proofs.lemmas.List.Elements.{All-contains}
-use Rattle.orch_base.specs.declared.server.ServerNo.{ServerNo}
-use Rattle.server_model.specs.Worlds.{World}
-use Rattle.recovery_plans.specs.declared.outcome.Follower.{Follower}
-use Rattle.recovery_plans.specs.declared.purpose.Purpose.{Purpose}
-use Rattle.recovery_plans.specs.declared.purpose.Purpose.TheVariants as purpose
-use Rattle.recovery_plans.specs.Beginning.{is_takeover}
-use Rattle.recovery_plans.specs.Recoveries.{Outcome}
-use Rattle.recovery_covers.specs.Covers.{times, follower_nos, lost_nos, owed, leader, IsOnceIn, HasOnePlace, Covers}
-use Rattle.recovery_covers.proofs.Times.{self-all}
+use Rattle.recovery_outcomes.proofs.Prelude.{All-contains, Contains, Covers, Follower, HasOnePlace, IsOnceIn, Outcome, Purpose, ServerNo, World}
+use Rattle.recovery_outcomes.proofs.Prelude.{eqb-true, follower_nos, is_takeover, leader, lost_nos, owed, self-all, times}
+use Rattle.recovery_outcomes.proofs.Prelude.purpose
 
 one-of : (a b c : ℕ) → a + (b + c) ≡ 1 → IsOnceIn a b c
 one-of zero zero c h = inr (inr (refl, refl, omega (arith, h)))
@@ -22,19 +13,15 @@ one-of (suc a) b c h = inl (omega (arith, h), omega (arith, h), omega (arith, h)
 -- the replicas are to be placed, and so is an old master
 owed-more : (u : Purpose) (f : ServerNo) (ns : List ServerNo) (n : ℕ) → times n ns ≤ times n (owed u f ns)
 owed-more purpose.Regroup f ns n = omega arith
-owed-more purpose.Master f ns n = omega arith
-owed-more (purpose.Intermediate s) f ns n = omega arith
-owed-more (purpose.Takeover d) f ns n = omega arith
+owed-more _ f ns n = omega arith
 
 owed-only : (u : Purpose) (f : ServerNo) (ns : List ServerNo) (n : ℕ) → 0 < times n (owed u f ns) → (0 < times n ns) ⊎ ((is_takeover u ≡ true) × (n ≡ f.0))
-owed-only purpose.Regroup f ns n h = inl h
-owed-only purpose.Master f ns n h = inl h
-owed-only (purpose.Intermediate s) f ns n h = inl h
 owed-only (purpose.Takeover d) f ns n h = go (f.0 == n) refl h
   where
     go : (b : Bool) → (f.0 == n) ≡ b → 0 < cond b 1 0 + times n ns → (0 < times n ns) ⊎ ((is_takeover (purpose.Takeover d) ≡ true) × (n ≡ f.0))
     go true e g = inr (refl, sym (eqb-true f.0 n e))
     go false e g = inl (omega (arith, g))
+owed-only _ f ns n h = inl h
 
 module _ (w : World) (u : Purpose) (f : ServerNo) (ns : List ServerNo) (o : Outcome) (c : Covers w u f ns o) where
   pub server-placed : (n : ℕ) → 0 < times n (owed u f ns) → HasOnePlace u o n

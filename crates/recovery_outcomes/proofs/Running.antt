@@ -1,23 +1,10 @@
 -- Recoveries, with others' turns between theirs.
 use Rattle.std.proofs.Common.{◌≡◌, ℕ, List, [], ◌∷◌}
-use Rattle.orch_base.specs.declared.server.Moment.{Moment}
-use Rattle.server_model.specs.Run.{run}
-use Rattle.server_model.specs.Worlds.{World}
-use Rattle.replication_laws.proofs.Runs.{Placed-run}
-use Rattle.commands.specs.declared.line.Line.{Line}
-use Rattle.instance_keeper.specs.Book.{BookState}
-use Rattle.operations.specs.declared.step.JobStep.TheVariants as step
-use Rattle.job_laws.specs.Leases.{Leases}
-use Rattle.recovery_plans.specs.Recoveries.{Recovery}
-use Rattle.recovery_plans.specs.Taking.{taken}
-use Rattle.recovery_laws.specs.Rings.{HeldRings}
-use Rattle.recovery_laws.proofs.Leasing.{taken-leased}
-use Rattle.recovery_laws.proofs.Taking.{others-held, taken-held}
-use Rattle.recovery_outcomes.specs.Between as between
-use Rattle.recovery_outcomes.specs.Between.{Between, world_by, recovery_by, MayCome, AllMayCome, world_after, recovery_after, UnderWay}
-use Rattle.recovery_covers.specs.Covers.{IsTold}
-use Rattle.recovery_covers.proofs.Begun.{outside-covers, others-cover}
-use Rattle.recovery_covers.proofs.Turning.{turn-covers}
+use Rattle.recovery_outcomes.proofs.Prelude.{AllMayCome, Between, BookState, HeldRings, IsTold, Leases, Line, MayCome, Moment, Placed-run, Recovery}
+use Rattle.recovery_outcomes.proofs.Prelude.{UnderWay, World, others-cover, others-held, outside-covers, recovery_after, recovery_by, run, taken}
+use Rattle.recovery_outcomes.proofs.Prelude.{taken-held, taken-leased, turn-covers, world_after, world_by}
+use Rattle.recovery_outcomes.proofs.Prelude.between
+use Rattle.recovery_outcomes.proofs.Prelude.step
 use Rattle.recovery_outcomes.proofs.Done.{turn-done}
 
 one-stays : (l : Leases) (id : ℕ) (w : World) (r : Recovery) (x : Between) → MayCome l id w r x → UnderWay l id w r → UnderWay l id (world_by w r x) (recovery_by w r x)

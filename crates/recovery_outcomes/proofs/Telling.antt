@@ -1,23 +1,13 @@
 -- The lines of an outcome tell of each server that it places.
 use Rattle.std.proofs.Common.{◌≡◌, ◌+◌, ◌<◌, Bool, true, false, cond, List, [], ◌∷◌, ◌++◌, map, refl, sym, ◌∙◌, ap, subst, Option, Some, None, ◌⊎◌, inl, inr, arith}
 use Rattle.std.specs.Prelude.{◌==◌, filter_map, find, option_map}
-use Rattle.std.specs.Option.{option_to_list}
-use Rattle.std.specs.List.{All, Contains}
-use Rattle.std.proofs.lemmas.Bool.{eqb-true}
-use Rattle.std.proofs.lemmas.List.Elements.{All-nil, All-cons, All-weaker, All-contains, All-contains_itself, Contains-append_left, Contains-append_right, filter_map-append}
-use Rattle.orch_base.specs.declared.server.ServerNo.{ServerNo}
-use Rattle.server_model.specs.Worlds.{World}
-use Rattle.commands.specs.declared.line.Line.{Line}
-use Rattle.commands.specs.declared.line.Line.TheVariants as line
-use Rattle.recovery_plans.specs.declared.outcome.Follower.{Follower}
-use Rattle.recovery_plans.specs.declared.outcome.LostReplica.{LostReplica}
-use Rattle.recovery_plans.specs.declared.purpose.Purpose.{Purpose}
-use Rattle.recovery_plans.specs.declared.purpose.Purpose.TheVariants as purpose
-use Rattle.recovery_plans.specs.Recoveries.{Outcome}
-use Rattle.recovery_plans.specs.Telling.{follower_line, lost_line, or_line, replica_line, lines_apart, told_by, told_why}
-use Rattle.recovery_plans.proofs.Choices.{same-no}
-use Rattle.recovery_covers.specs.Covers.{times, follower_nos, listed, owed, leader, HasOnePlace, Covers}
-use Rattle.recovery_outcomes.specs.Told.{leader_line, IsToldOf}
+use Rattle.recovery_outcomes.proofs.Prelude.{All, All-cons, All-contains, All-contains_itself, All-nil, All-weaker, Contains, Contains-append_left}
+use Rattle.recovery_outcomes.proofs.Prelude.{Contains-append_right, Covers, Follower, HasOnePlace, IsToldOf, Line, LostReplica, Outcome, Purpose}
+use Rattle.recovery_outcomes.proofs.Prelude.{ServerNo, World, eqb-true, filter_map-append, follower_line, follower_nos, leader, leader_line}
+use Rattle.recovery_outcomes.proofs.Prelude.{lines_apart, listed, lost_line, option_to_list, or_line, owed, replica_line, same-no, times, told_by}
+use Rattle.recovery_outcomes.proofs.Prelude.{told_why}
+use Rattle.recovery_outcomes.proofs.Prelude.line
+use Rattle.recovery_outcomes.proofs.Prelude.purpose
 use Rattle.recovery_outcomes.proofs.Placing.{server-placed}
 
 -- ---- look-ups
@@ -125,10 +115,8 @@ led-by u o n h = go u h
         at false f g = absurd (omega (arith, g))
 
     go : (v : Purpose) → times n.0 (leader v o) ≡ 1 → o ≡ Some n
-    go purpose.Regroup e = by o e
-    go purpose.Master e = by o e
     go (purpose.Intermediate s) e = let bad : 0 ≡ 1 = e in absurd (omega (arith, bad))
-    go (purpose.Takeover d) e = by o e
+    go _ e = by o e
 
 module _ (w : World) (u : Purpose) (f : ServerNo) (ns : List ServerNo) (o : Outcome) (c : Covers w u f ns o) (order : List ServerNo) where
   server-told : (n : ServerNo) → Contains order n → 0 < times n.0 (owed u f ns) → IsToldOf u o (told_by u o order) n

@@ -1,20 +1,7 @@
 -- A recovery's turns, with others' between them.
 use Rattle.std.specs.Prelude.{◌≡◌, ℕ, true, List, [], ◌∷◌, All}
-use Rattle.orch_base.specs.declared.server.Moment.{Moment}
-use Rattle.server_model.specs.Run.{Exchange, after, run, Allowed, AllAllowed}
-use Rattle.server_model.specs.Safe.{Placed}
-use Rattle.server_model.specs.Worlds.{World}
-use Rattle.instance_keeper.specs.Book.{BookState}
-use Rattle.operations.specs.Changes.{server_of}
-use Rattle.operations.specs.Turns.{is_going}
-use Rattle.job_laws.specs.Leases.{Leases, IsLeased}
-use Rattle.recovery_plans.specs.Recoveries.{Recovery}
-use Rattle.recovery_plans.specs.Taking.{taken}
-use Rattle.recovery_laws.specs.HeldRecoveries.{HeldRecovery}
-use Rattle.recovery_laws.specs.LeasedRecoveries.{LeasedRecovery}
-use Rattle.recovery_laws.specs.Rings.{HeldRings}
-use Rattle.standing_laws.specs.Standing.{is_outside}
-use Rattle.recovery_covers.specs.SoFar.{CoversSoFar}
+use Rattle.recovery_outcomes.specs.Prelude.{AllAllowed, Allowed, BookState, CoversSoFar, Exchange, HeldRecovery, HeldRings, IsLeased, LeasedRecovery}
+use Rattle.recovery_outcomes.specs.Prelude.{Leases, Moment, Placed, Recovery, World, after, is_going, is_outside, run, server_of, taken}
 
 -- an exchange that is no orchestrator's; a turn of another job, with its exchanges; a turn of this recovery
 pub data Between : Type 0 where

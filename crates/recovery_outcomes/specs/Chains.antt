@@ -1,8 +1,6 @@
 -- Whom the followers of a recovery that is done follow.
 use Rattle.std.specs.Prelude.{◌≡◌, Some, All, ◌⊎◌}
-use Rattle.recovery_plans.specs.Recoveries.{Recovery}
-use Rattle.recovery_covers.specs.Covers.{HasSwapped}
-use Rattle.recovery_covers.specs.SoFar.{FollowsBy}
+use Rattle.recovery_outcomes.specs.Prelude.{FollowsBy, HasSwapped, Recovery}
 
 -- Each follows the promoted server; but after a swap, where another took the chosen one's place, each follows the
 -- chosen one, which follows the promoted one.

@@ -1,14 +1,8 @@
 -- That the lines of an outcome tell of a server.
 use Rattle.std.specs.Prelude.{◌≡◌, List, Some, Contains, ◌⊎◌}
-use Rattle.orch_base.specs.declared.server.ServerNo.{ServerNo}
-use Rattle.commands.specs.declared.line.Line.{Line}
-use Rattle.commands.specs.declared.line.Line.TheVariants as line
-use Rattle.recovery_plans.specs.declared.outcome.Follower.{Follower}
-use Rattle.recovery_plans.specs.declared.outcome.LostReplica.{LostReplica}
-use Rattle.recovery_plans.specs.declared.purpose.Purpose.{Purpose}
-use Rattle.recovery_plans.specs.declared.purpose.Purpose.TheVariants as purpose
-use Rattle.recovery_plans.specs.Recoveries.{Outcome}
-use Rattle.recovery_plans.specs.Telling.{told_why}
+use Rattle.recovery_outcomes.specs.Prelude.{Follower, Line, LostReplica, Outcome, Purpose, ServerNo, told_why}
+use Rattle.recovery_outcomes.specs.Prelude.line
+use Rattle.recovery_outcomes.specs.Prelude.purpose
 
 -- the line of the promoted server
 abbrev pub leader_line : Purpose → ServerNo → Line

@@ -1,19 +1,9 @@
 //! What a recovery that is done owes each replica.
 
 ghost use Rattle.std.specs.Prelude.{◌≡◌, ℕ, List};
-ghost use Rattle.orch_base.specs.declared.server.Moment.{Moment as AMoment};
-ghost use Rattle.commands.specs.declared.line.Line.{Line as ALine};
-ghost use Rattle.instance_keeper.specs.Book.{BookState};
-ghost use Rattle.operations.specs.declared.step.JobStep.TheVariants as step;
-ghost use Rattle.server_model.specs.Run.{run};
-ghost use Rattle.server_model.specs.Safe.{Placed};
-ghost use Rattle.server_model.specs.Worlds.{World};
-ghost use Rattle.recovery_plans.specs.Recoveries.{Recovery};
-ghost use Rattle.recovery_plans.specs.Taking.{taken};
-ghost use Rattle.recovery_laws.specs.HeldRecoveries.{HeldRecovery};
-ghost use Rattle.recovery_laws.specs.Rings.{HeldRings};
-ghost use Rattle.recovery_covers.specs.Covers.{IsTold};
-ghost use Rattle.recovery_covers.specs.SoFar.{CoversSoFar};
+ghost use Rattle.recovery_outcomes.specs.Prelude.{BookState, CoversSoFar, HeldRecovery, HeldRings, IsTold, Line as ALine, Moment as AMoment, Placed};
+ghost use Rattle.recovery_outcomes.specs.Prelude.{Recovery, World, run, taken};
+ghost use Rattle.recovery_outcomes.specs.Prelude.step;
 ghost use Rattle.recovery_outcomes.specs.Chains.{IsChain};
 
 /// A turn in which a recovery is done leaves its replicas covered, and its lines are those of the outcome. Each

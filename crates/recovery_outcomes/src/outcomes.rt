@@ -1,14 +1,8 @@
 //! What an outcome that covers its replicas says of each.
 
 ghost use Rattle.std.specs.Prelude.{◌≡◌, ◌<◌, ◌⊎◌, ℕ, List, All, Contains, Some, true};
-ghost use Rattle.orch_base.specs.declared.server.ServerNo.{ServerNo as Number};
-ghost use Rattle.server_model.specs.Worlds.{World};
-ghost use Rattle.recovery_plans.specs.declared.outcome.Follower.{Follower as AFollower};
-ghost use Rattle.recovery_plans.specs.declared.purpose.Purpose.{Purpose as APurpose};
-ghost use Rattle.recovery_plans.specs.Beginning.{is_takeover};
-ghost use Rattle.recovery_plans.specs.Recoveries.{Outcome};
-ghost use Rattle.recovery_plans.specs.Telling.{told_by};
-ghost use Rattle.recovery_covers.specs.Covers.{Covers, HasOnePlace, owed, times};
+ghost use Rattle.recovery_outcomes.specs.Prelude.{Covers, Follower as AFollower, HasOnePlace, Outcome, Purpose as APurpose, ServerNo as Number};
+ghost use Rattle.recovery_outcomes.specs.Prelude.{World, is_takeover, owed, times, told_by};
 ghost use Rattle.recovery_outcomes.specs.Told.{IsToldOf, leader_line};
 
 /// Where an outcome covers its replicas each of them is promoted, follows once or is lost once, and only one of these;

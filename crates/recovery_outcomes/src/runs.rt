@@ -1,18 +1,10 @@
 //! Recoveries, with others' turns between theirs.
 
 ghost use Rattle.std.specs.Prelude.{◌≡◌, ℕ, List};
-ghost use Rattle.orch_base.specs.declared.server.Moment.{Moment as AMoment};
-ghost use Rattle.commands.specs.declared.line.Line.{Line as ALine};
-ghost use Rattle.instance_keeper.specs.Book.{BookState};
-ghost use Rattle.operations.specs.declared.step.JobStep.TheVariants as step;
-ghost use Rattle.server_model.specs.Run.{run};
-ghost use Rattle.server_model.specs.Worlds.{World};
-ghost use Rattle.job_laws.specs.Leases.{Leases};
-ghost use Rattle.recovery_plans.specs.Recoveries.{Recovery};
-ghost use Rattle.recovery_plans.specs.Taking.{taken};
-ghost use Rattle.recovery_laws.specs.Rings.{HeldRings};
+ghost use Rattle.recovery_outcomes.specs.Prelude.{BookState, HeldRings, IsTold, Leases, Line as ALine, Moment as AMoment, Recovery, World, run};
+ghost use Rattle.recovery_outcomes.specs.Prelude.{taken};
+ghost use Rattle.recovery_outcomes.specs.Prelude.step;
 ghost use Rattle.recovery_outcomes.specs.Between.{Between, AllMayCome, world_after, recovery_after, UnderWay};
-ghost use Rattle.recovery_covers.specs.Covers.{IsTold};
 
 /// Whatever comes between its turns, a recovery under way is held, keeps to its leases and covers its replicas so far;
 /// and when it is done it covers them, and tells so.

@@ -3,17 +3,17 @@ use Rattle.std.proofs.Common.{◌≡◌, ℕ, ◌-◌, ◌<◌, List, [], ◌∷
 use Rattle.std.specs.Prelude.{Result, Ok, Err}
 use Rattle.std.proofs.lemmas.List.{length-set, take_all}
 use Rattle.std.proofs.lemmas.List.Elements.{All-nil, All-tail}
-use Rattle.binlog_coords.specs.declared.Coord.{Coord}
-use Rattle.orch_base.specs.declared.server.ServerNo.{ServerNo}
-use Rattle.server_words.specs.declared.answers.Unreachable.{Unreachable}
-use Rattle.server_words.specs.declared.attach.AttachFault.{AttachFault}
-use Rattle.server_words.specs.declared.changes.Ask.{Ask}
-use Rattle.server_model.specs.declared.server.Server.{Server}
-use Rattle.server_model.specs.Attach.{after_attach, attach_answer, attached_to}
-use Rattle.server_model.specs.Desk.{after_change, after_desk, asked, desk_answer}
-use Rattle.server_model.specs.Run.{AllAllowed, after}
-use Rattle.server_model.specs.Worlds.{World, server_at}
-use Rattle.operations.specs.Changes.{server_of}
+use Rattle.recovery_plans.specs.BinlogCoords.declared.Coord.{Coord}
+use Rattle.recovery_plans.specs.OrchBase.declared.server.ServerNo.{ServerNo}
+use Rattle.recovery_plans.specs.ServerWords.declared.answers.Unreachable.{Unreachable}
+use Rattle.recovery_plans.specs.ServerWords.declared.attach.AttachFault.{AttachFault}
+use Rattle.recovery_plans.specs.ServerWords.declared.changes.Ask.{Ask}
+use Rattle.recovery_plans.specs.ServerModel.declared.server.Server.{Server}
+use Rattle.recovery_plans.specs.ServerModel.Attach.{after_attach, attach_answer, attached_to}
+use Rattle.recovery_plans.specs.ServerModel.Desk.{after_change, after_desk, asked, desk_answer}
+use Rattle.recovery_plans.specs.ServerModel.Run.{AllAllowed, after}
+use Rattle.recovery_plans.specs.ServerModel.Worlds.{World, server_at}
+use Rattle.recovery_plans.specs.Operations.Changes.{server_of}
 use Rattle.recovery_parts.specs.declared.doing.Change.{Change}
 use Rattle.recovery_parts.specs.declared.doing.Change.TheVariants as change
 use Rattle.recovery_parts.specs.Doings.{exchange_of}

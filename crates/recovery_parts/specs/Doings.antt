@@ -1,6 +1,6 @@
 -- What a turn does to servers.
 use Rattle.std.specs.Prelude.{Bool, true, false, List, [], ◌∷◌, map}
-use Rattle.server_model.specs.Run.{Exchange, Request, Attach, AttachAuto}
+use Rattle.recovery_plans.specs.ServerModel.Run.{Exchange, Request, Attach, AttachAuto}
 use Rattle.recovery_parts.specs.declared.doing.Change.{Change}
 use Rattle.recovery_parts.specs.declared.doing.Change.TheVariants as change
 use Rattle.recovery_parts.specs.declared.doing.Doing.{Doing}

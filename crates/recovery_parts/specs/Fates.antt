@@ -1,6 +1,6 @@
 use Rattle.std.specs.Prelude.{[], ◌∷◌}
-use Rattle.operations.specs.declared.op.Crossing.TheVariants as cross
-use Rattle.operations.specs.declared.op.Op.TheVariants as op
+use Rattle.recovery_plans.specs.Operations.declared.op.Crossing.TheVariants as cross
+use Rattle.recovery_plans.specs.Operations.declared.op.Op.TheVariants as op
 use Rattle.recovery_plans.specs.declared.stage.Stage.TheVariants as stage
 use Rattle.recovery_plans.specs.Taking as fate
 use Rattle.recovery_parts.specs.declared.fates.Fate.{Fate}

@@ -1,7 +1,7 @@
 -- What the code's table of stages tells.
 use Rattle.std.specs.Prelude.{[], ◌∷◌}
-use Rattle.operations.specs.declared.op.Crossing.TheVariants as cross
-use Rattle.operations.specs.declared.op.Op.TheVariants as op
+use Rattle.recovery_plans.specs.Operations.declared.op.Crossing.TheVariants as cross
+use Rattle.recovery_plans.specs.Operations.declared.op.Op.TheVariants as op
 use Rattle.recovery_plans.specs.declared.stage.Stage.TheVariants as stage
 use Rattle.recovery_plans.specs.Table as table
 use Rattle.recovery_parts.specs.declared.table.Back.{Back}

@@ -2,21 +2,21 @@
 
 ghost use Rattle.std.specs.Prelude.{◌≡◌, ◌<◌, ◌==◌, All, IfOk, find, length, map};
 ghost use Rattle.std.specs.Option.{option_copied};
-ghost use Rattle.server_model.specs.Worlds.{server_at};
+ghost use Rattle.recovery_plans.specs.ServerModel.Worlds.{server_at};
 ghost use Rattle.recovery_plans.specs.Deciding.{better_of, center_in, chosen_of, drained_of, expels, follower_of, is_apart, is_elsewhere, is_near, is_reached, logs_at, lot_by, may_lead, releases, stopped_in, unfit, way_below};
 ghost use Rattle.recovery_plans.specs.declared.outcome.Follower.{Follower as AFollower};
 ghost use Rattle.recovery_parts.specs.Grounds.{ground_by};
 ghost use Rattle.recovery_parts.specs.Lots.{by_lot};
 
-use binlog_coords::Coord;
-use commands::Lost;
-use instance_keeper::{Book, Bridge};
+use crate::binlog_coords_items::Coord;
+use crate::commands::Lost;
+use crate::instance_keeper_items::{Book, Bridge};
+use crate::orch_base::{Memory, Moment, Rule, ServerNo};
+use crate::promotion_rules::{Drained, better, most_advanced};
+use crate::replica_groups::{Group, Lines, group_of};
+use crate::server_model::World;
 use job_plans::JobView;
-use orch_base::{Memory, Moment, Rule, ServerNo};
-use promotion_rules::{Drained, better, most_advanced};
 use recovery_plans::{Follower, LostReplica, Means, Purpose, Stopped, Way, Why};
-use replica_groups::{Group, Lines, group_of};
-use server_model::World;
 use std::alloc::Global;
 
 /// What a decision goes by: the servers' settings, the book, and the moment at which rules of promotion are looked up.

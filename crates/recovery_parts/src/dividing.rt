@@ -5,9 +5,9 @@ ghost use Rattle.recovery_plans.specs.Deciding.{losses_in, lot_by, may_lead, mov
 ghost use Rattle.recovery_parts.specs.Grounds.{ground_by};
 
 use crate::choices::{Ground, lot_by, may_lead, unfit};
-use orch_base::{Memory, ServerNo};
+use crate::orch_base::{Memory, ServerNo};
+use crate::server_model::World;
 use recovery_plans::{LostReplica, Means, Stopped, Task};
-use server_model::World;
 use std::alloc::Global;
 
 /// The drained replicas that might be chosen.

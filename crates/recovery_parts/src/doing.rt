@@ -1,18 +1,18 @@
 //! What a turn of a recovery does to servers.
 
 ghost use Rattle.std.specs.Prelude.{◌≡◌, ◌<◌, ◌∷◌, ◌++◌, [], All, IfOk, OnErr, OnOk, length, map, true};
-ghost use Rattle.server_model.specs.Run.{AllAllowed, Allowed, after, run};
-ghost use Rattle.operations.specs.Changes.{server_of};
-ghost use Rattle.operations.specs.Turns.{restarts};
+ghost use Rattle.recovery_plans.specs.ServerModel.Run.{AllAllowed, Allowed, after, run};
+ghost use Rattle.recovery_plans.specs.Operations.Changes.{server_of};
+ghost use Rattle.recovery_plans.specs.Operations.Turns.{restarts};
 ghost use Rattle.job_plans.specs.Acts.{exchanges_of as made_by, takes_memory as wants_memory};
 ghost use Rattle.recovery_parts.specs.Doings.{exchange_of, exchanges_of, takes_memory};
 
-use binlog_coords::Coord;
-use gtid_sets::GtidSet;
+use crate::binlog_coords_items::Coord;
+use crate::gtid_sets::GtidSet;
+use crate::orch_base::{Memory, ServerNo};
+use crate::server_model::World;
+use crate::server_words_items::{Ask, AttachFault, Spot};
 use job_plans::{Act, JobView};
-use orch_base::{Memory, ServerNo};
-use server_model::World;
-use server_words::{Ask, AttachFault, Spot};
 use std::alloc::Global;
 
 /// A change that takes no memory.

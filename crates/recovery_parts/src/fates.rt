@@ -2,19 +2,19 @@
 
 ghost use Rattle.std.specs.Prelude.{◌≡◌};
 ghost use Rattle.std.specs.Option.{option_map};
-ghost use Rattle.server_model.specs.Worlds.{server_at};
+ghost use Rattle.recovery_plans.specs.ServerModel.Worlds.{server_at};
 ghost use Rattle.recovery_plans.specs.Taking.{drain_fate, exec_by, fate_by, is_away, loss_of, lost_on_way, match_fate, move_fate, place_on, spot_by, spot_seen, trail_fate, way_fate};
 ghost use Rattle.recovery_plans.specs.declared.why.Why.{Why as AWhy};
 ghost use Rattle.recovery_parts.specs.Fates.{fate_told, loss_told};
 ghost use Rattle.recovery_parts.specs.Infos.{failing_told};
 
+use crate::binlog_coords_items::Coord;
+use crate::commands::{Cause, Lost};
+use crate::orch_base::{ServerNo, SourceState};
+use crate::server_model::World;
+use crate::server_words_items::Spot;
 use crate::table::Failing;
-use binlog_coords::Coord;
-use commands::{Cause, Lost};
-use orch_base::{ServerNo, SourceState};
 use recovery_plans::{Miss, Purpose, Way, Why};
-use server_model::World;
-use server_words::Spot;
 
 /// What becomes of a stage whose operation fails.
 #[derive(Clone, Copy)]

@@ -9,14 +9,17 @@ mod fates;
 mod ops;
 mod stages;
 mod table;
-mod threads;
 
 pub use choices::{Ground, better_of, chosen_of, expels, lot_by, releases, way_below};
 pub use dividing::{divide, leaders, lose_all, without};
 pub use doing::{Change, Doing, doing_of, only, perform, then_starts};
 pub use fates::{Fate, fate_of, spot_seen};
 pub use ops::{drain, level, moving, one, room, shut, sight_of, three, trail, two};
+use recovery_plans::{
+    binlog_coords_items, commands, gtid_sets, instance_keeper_items, operations_items, orch_base,
+    promotion_rules, replica_groups, server_model, server_words_items,
+};
 /// Want of memory.
-pub use orch_base::Memory;
+pub use recovery_plans::orch_base::Memory;
 pub use stages::ends;
 pub use table::{Back, Bar, Failing, Info, Made, info_of};

@@ -4,10 +4,10 @@ ghost use Rattle.std.specs.Prelude.{◌≡◌, ◌≤◌, ◌∷◌, ◌++◌, [
 ghost use Rattle.recovery_plans.specs.Recoveries.{sight_of};
 ghost use Rattle.recovery_plans.specs.Stages.{before, drain, gather, level, move, target, trail};
 
-use gtid_sets::GtidSet;
-use instance_keeper::Bridge;
-use operations::{Aim, Crossing, Op, Position, Sight};
-use orch_base::{Memory, ServerNo, SourceState};
+use crate::gtid_sets::GtidSet;
+use crate::instance_keeper_items::Bridge;
+use crate::operations_items::{Aim, Crossing, Op, Position, Sight};
+use crate::orch_base::{Memory, ServerNo, SourceState};
 use recovery_plans::Way;
 use std::alloc::Global;
 

@@ -1,11 +1,11 @@
 //! How a stage ends.
 
 ghost use Rattle.std.specs.Prelude.{◌≡◌};
-ghost use Rattle.operations.specs.Deeds.{deed_of};
+ghost use Rattle.recovery_plans.specs.Operations.Deeds.{deed_of};
 ghost use Rattle.recovery_plans.specs.Stages.{ends, is_finish, is_look, moves};
 
+use crate::operations_items::Op;
 use crate::table::info_of;
-use operations::Op;
 use recovery_plans::Stage;
 
 // Whether what an operation may change is a source, or whether clients may write.

@@ -4,9 +4,9 @@ ghost use Rattle.std.specs.Prelude.{◌≡◌, None, false, true};
 ghost use Rattle.recovery_plans.specs.Table.{info};
 ghost use Rattle.recovery_parts.specs.Infos.{back_told, bar_told, failing_told, made_told};
 
+use crate::instance_keeper_items::Bridge;
 use crate::ops::target;
-use instance_keeper::Bridge;
-use orch_base::ServerNo;
+use crate::orch_base::ServerNo;
 use recovery_plans::{Stage, Way};
 
 /// What is seen in a stage that ends the recovery.

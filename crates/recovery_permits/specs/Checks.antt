@@ -1,21 +1,11 @@
 -- Checks of recoveries and takeovers, beside those of the permission table's other rows.
 use Rattle.std.specs.Prelude.{ℕ, Bool, false, ◌&&◌, not, Option, Some, None, Result, Ok, Err, option_map, is_some}
-use Rattle.orch_base.specs.declared.code.Code.{Code}
-use Rattle.orch_base.specs.declared.server.ServerNo.{ServerNo}
-use Rattle.commands.specs.declared.refusal.Refusal.{Refusal}
-use Rattle.commands.specs.declared.refusal.Refusal.TheVariants as refusal
-use Rattle.instance_keeper.specs.Book.{BookState, downtime_at}
-use Rattle.book_views.specs.Sources.{is_replica_of, label_at}
-use Rattle.audit_log.specs.Audits.{AuditState, may_begin}
-use Rattle.audit_log.specs.declared.held.Held.{Held}
-use Rattle.audit_log.specs.declared.held.Held.TheVariants as held
-use Rattle.failure_analysis.specs.Analysis.{entry_at}
-use Rattle.permission.specs.Checks.{is_given}
-use Rattle.permission.specs.Lists.{only_if}
-use Rattle.permission.specs.Views.{attached_of, has_log, is_valid, same_label, source_of}
-use Rattle.promotion_candidates.specs.Candidates.{has_candidate}
+use Rattle.recovery_permits.specs.Prelude.{AuditState, BookState, Code, Held, Refusal, ServerNo, World, attached_of, downtime_at, entry_at}
+use Rattle.recovery_permits.specs.Prelude.{has_candidate, has_log, is_given, is_replica_of, is_valid, label_at, may_begin, only_if, same_label}
+use Rattle.recovery_permits.specs.Prelude.{source_of}
+use Rattle.recovery_permits.specs.Prelude.held
+use Rattle.recovery_permits.specs.Prelude.refusal
 use Rattle.recovery_permits.specs.declared.attempt.Attempt.{Attempt}
-use Rattle.server_model.specs.Worlds.{World}
 
 -- the code of an instance
 abbrev pub code_at : BookState → ServerNo → Option Code

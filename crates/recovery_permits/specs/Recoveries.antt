@@ -1,25 +1,11 @@
 -- What refuses the recovery of a server, and what it is for.
 use Rattle.std.specs.Prelude.{Bool, List, [], ◌∷◌, Option, Some, None, if◌then◌else◌}
-use Rattle.std.specs.Option.{option_or}
-use Rattle.orch_base.specs.declared.code.Code.{Code}
-use Rattle.orch_base.specs.declared.server.ServerNo.{ServerNo}
-use Rattle.commands.specs.declared.refusal.Refusal.{Refusal}
-use Rattle.commands.specs.declared.refusal.Refusal.TheVariants.{NotActionable, UnknownInstance}
-use Rattle.instance_keeper.specs.Book.{BookState}
-use Rattle.book_views.specs.Sources.{replicas_of}
-use Rattle.audit_log.specs.Audits.{AuditState}
-use Rattle.failure_analysis.specs.Table.{action_of}
-use Rattle.failure_analysis.specs.declared.code.Action.{Action}
-use Rattle.failure_analysis.specs.declared.code.Action.TheVariants.{MasterRecovery, IntermediateRecovery, Nothing}
-use Rattle.permission.specs.Checks.{Case, first_refusal}
-use Rattle.permission.specs.Lists.{first_of}
-use Rattle.permission.specs.Views.{source_of}
-use Rattle.permission.specs.declared.case.Check.TheVariants.{Busy}
+use Rattle.recovery_permits.specs.Prelude.{Action, AuditState, BookState, Busy, Case, Code, IntermediateRecovery, MasterRecovery, NotActionable}
+use Rattle.recovery_permits.specs.Prelude.{Nothing, Purpose, Refusal, ServerNo, UnknownInstance, World, action_of, first_of, first_refusal, option_or}
+use Rattle.recovery_permits.specs.Prelude.{replicas_of, source_of}
+use Rattle.recovery_permits.specs.Prelude.purpose
 use Rattle.recovery_permits.specs.declared.attempt.Attempt.{Attempt}
 use Rattle.recovery_permits.specs.Checks.{code_at, disabled, downtimed, filtered, held_back, without_candidate, without_successor}
-use Rattle.recovery_plans.specs.declared.purpose.Purpose.{Purpose}
-use Rattle.recovery_plans.specs.declared.purpose.Purpose.TheVariants as purpose
-use Rattle.server_model.specs.Worlds.{World}
 
 -- the servers of which the recovery takes the leases: the failed one and its replicas, in name order
 abbrev pub recovery_list : BookState → ServerNo → List ServerNo

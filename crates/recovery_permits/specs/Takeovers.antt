@@ -1,19 +1,10 @@
 -- What refuses the takeover of a master's place by a replica.
 use Rattle.std.specs.Prelude.{Bool, ◌==◌, ◌&&◌, ◌||◌, not, List, [], ◌∷◌, filter, Option, Some}
-use Rattle.orch_base.specs.declared.server.ServerNo.{ServerNo}
-use Rattle.commands.specs.declared.refusal.Refusal.{Refusal}
-use Rattle.commands.specs.declared.refusal.Refusal.TheVariants.{UnknownInstance}
-use Rattle.instance_keeper.specs.Book.{BookState}
-use Rattle.name_order.specs.NameOrder.{by_name}
-use Rattle.book_views.specs.Sources.{is_instance, is_replica_of, replicas_of}
-use Rattle.audit_log.specs.Audits.{AuditState}
-use Rattle.permission.specs.Checks.{Case, first_refusal}
-use Rattle.permission.specs.Lists.{first_of, moves_to, only_if}
-use Rattle.permission.specs.declared.case.Check.{Check}
-use Rattle.permission.specs.declared.case.Check.TheVariants.{Busy, DestNotLogging, SameInstance, SameServerId, Unreachable, VersionLower}
+use Rattle.recovery_permits.specs.Prelude.{AuditState, BookState, Busy, Case, Check, DestNotLogging, Refusal, SameInstance, SameServerId, ServerNo}
+use Rattle.recovery_permits.specs.Prelude.{UnknownInstance, Unreachable, VersionLower, World, by_name, first_of, first_refusal, is_instance}
+use Rattle.recovery_permits.specs.Prelude.{is_replica_of, moves_to, only_if, replicas_of}
 use Rattle.recovery_permits.specs.declared.attempt.Attempt.{Attempt}
 use Rattle.recovery_permits.specs.Checks.{held_back, no_master, no_replica}
-use Rattle.server_model.specs.Worlds.{World}
 
 -- the servers that come below the designated one: the master and its other replicas
 abbrev pub comes_below : BookState → ServerNo → ServerNo → ServerNo → Bool

@@ -1,6 +1,6 @@
 //! A recovery that is tried.
 
-use orch_base::Moment;
+use crate::orch_base::Moment;
 
 /// What is known of an attempt to begin a recovery, beside the book, the audit and the servers' settings.
 #[derive(Clone, Copy, Debug, PartialEq, Eq)]

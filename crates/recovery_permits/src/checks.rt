@@ -1,18 +1,18 @@
 //! Single checks, each with the refusal of one that doesn't pass.
 
 ghost use Rattle.std.specs.Prelude.{◌≡◌, ◌<◌, ◌≤◌, ◌^◌, All, length};
-ghost use Rattle.book_views.specs.Sources.{is_replica_of, replicas_of};
-ghost use Rattle.recovery_permits.specs.Checks.{can_succeed, disabled, downtimed, filtered, has_successor, held_back, no_master, no_replica, refused_as, without_candidate, without_successor};
+ghost use Rattle.recovery_permits.specs.Prelude.{is_replica_of, replicas_of};
+ghost use Rattle.recovery_permits.specs.Checks.{can_succeed, disabled, downtimed, filtered, held_back, no_master, no_replica, refused_as, without_candidate, without_successor};
 
 use crate::Attempt;
+use crate::book_views::label_at;
+use crate::commands::Refusal;
+use crate::instance_keeper_items::Book;
+use crate::orch_base::ServerNo;
+use crate::server_model::World;
 use audit_log::{Audit, Held};
-use book_views::label_at;
-use commands::Refusal;
-use instance_keeper::Book;
-use orch_base::ServerNo;
 use permission::{attached_to, has_log, is_valid, same_label, source};
 use promotion_candidates::has_candidate;
-use server_model::World;
 
 pub(crate) fn disabled(attempt: Attempt) -> Option<Refusal>
     ensures { result ≡ disabled attempt }

@@ -1,28 +1,24 @@
 //! The row of recoveries.
 
 ghost use Rattle.std.specs.Prelude.{◌≡◌, ◌<◌, ◌≤◌, ◌^◌, ◌∷◌, All, IfOk, length};
-ghost use Rattle.orch_base.specs.Gives.{Gives};
-ghost use Rattle.book_views.specs.Forests.{book_forest};
-ghost use Rattle.book_views.specs.Sources.{replicas_of};
-ghost use Rattle.failure_analysis.specs.Table.{action_of};
-ghost use Rattle.permission.specs.Checks.{permit_fault, permitted};
+ghost use Rattle.recovery_permits.specs.Prelude.{Gives, action_of, book_forest, permit_fault, permitted, replicas_of};
 ghost use Rattle.recovery_permits.specs.Checks.{code_at};
-ghost use Rattle.recovery_permits.specs.Recoveries.{case_over, held_off, purpose_by, recovery_purpose, recovery_refusal, refusal_by, refusal_for, unasked};
+ghost use Rattle.recovery_permits.specs.Recoveries.{case_over, held_off, recovery_purpose, recovery_refusal, refusal_by, refusal_for, unasked};
 
 use crate::checks::{
     disabled, downtimed, filtered, held_back, without_candidate, without_successor,
 };
+use crate::commands::Refusal;
+use crate::instance_keeper_items::Book;
+use crate::orch_base::{Code, ServerNo};
+use crate::server_model::World;
+use crate::topology_tree::Forest;
 use crate::{Attempt, Memory, PermitFault};
 use audit_log::Audit;
-use commands::Refusal;
 use failure_analysis::{Action, actionable};
-use instance_keeper::Book;
-use orch_base::{Code, ServerNo};
 use permission::{Case, Check, answered, first_refusal, source};
 use recovery_plans::Purpose;
-use server_model::World;
 use std::alloc::Global;
-use topology_tree::Forest;
 
 /// The servers of which the recovery of a server, or the takeover of its place, takes the leases: it and its replicas,
 /// these in their order. `Err` is want of memory.

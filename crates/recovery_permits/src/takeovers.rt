@@ -1,24 +1,21 @@
 //! The row of takeovers.
 
 ghost use Rattle.std.specs.Prelude.{◌≡◌, ◌<◌, ◌≤◌, ◌^◌, All, IfOk, length};
-ghost use Rattle.orch_base.specs.Gives.{Gives};
-ghost use Rattle.book_views.specs.Forests.{book_forest};
-ghost use Rattle.book_views.specs.Sources.{replicas_of};
-ghost use Rattle.permission.specs.Checks.{permit_fault, permitted};
+ghost use Rattle.recovery_permits.specs.Prelude.{Gives, book_forest, permit_fault, permitted, replicas_of};
 ghost use Rattle.recovery_permits.specs.Takeovers.{case_over, comes_below, followers_of, takeover_refusal};
 
+use crate::book_views::is_instance;
 use crate::checks::{held_back, is_replica_of, no_master, no_replica};
+use crate::commands::Refusal;
+use crate::instance_keeper_items::Book;
+use crate::orch_base::ServerNo;
 use crate::recoveries::recovery_servers;
+use crate::server_model::World;
+use crate::topology_tree::Forest;
 use crate::{Attempt, Memory, PermitFault};
 use audit_log::Audit;
-use book_views::is_instance;
-use commands::Refusal;
-use instance_keeper::Book;
-use orch_base::ServerNo;
 use permission::{Case, Check, answered, first_refusal, moves_to};
-use server_model::World;
 use std::alloc::Global;
-use topology_tree::Forest;
 
 const ROW: [Check; 6] = [
     Check::SameInstance,

@@ -1,30 +1,15 @@
 -- The exchanges of a recovery's turn are allowed.
 use Rattle.std.proofs.Common.{◌≡◌, ℕ, Bool, true, false, cond, List, [], ◌∷◌, ◌++◌, refl, subst, Option, Some, None}
-use Rattle.orch_base.specs.declared.server.Moment.{Moment}
-use Rattle.orch_base.specs.declared.server.ServerNo.{ServerNo}
-use Rattle.server_words.specs.declared.changes.Ask.TheVariants as asking
-use Rattle.server_model.specs.Run.{Exchange, Request, after, run, AllAllowed}
-use Rattle.server_model.specs.Worlds.{World}
-use Rattle.commands.specs.declared.cause.Cause.{Cause}
-use Rattle.kept_rows.specs.declared.observation.Observation.{Observation}
-use Rattle.instance_keeper.specs.Book.{BookState}
-use Rattle.operations.specs.declared.op.Crossing.TheVariants as cross
-use Rattle.operations.specs.declared.op.Op.{Op}
-use Rattle.operations.specs.declared.sight.Sight.{Sight}
-use Rattle.operations.specs.Deeds.{deed_of}
-use Rattle.operations.specs.Targets.{can_attach}
-use Rattle.operations.specs.Turns as attempt
-use Rattle.operations.specs.Turns.{Attempt, by_deed, crossing_of, restarts}
-use Rattle.operations.proofs.Allowing.{restarts-allowed, turn-allowed}
-use Rattle.operations.proofs.Targets.{can-allowed}
-use Rattle.recovery_plans.specs.declared.purpose.Purpose.{Purpose}
-use Rattle.recovery_plans.specs.declared.purpose.Purpose.TheVariants as purpose
-use Rattle.recovery_plans.specs.declared.stage.Stage.{Stage}
-use Rattle.recovery_plans.specs.declared.stage.Stage.TheVariants as stage
-use Rattle.recovery_plans.specs.Recoveries.{Recovery}
-use Rattle.recovery_plans.specs.Deciding.{decided, ground_of}
-use Rattle.recovery_plans.specs.Taking as taking
-use Rattle.recovery_plans.specs.Taking.{Fate, fate, that_can, takes_writes, goes_back, way_back, undone, last_exchanges, met, barred_by, on_going, attempted, acted, taken}
+use Rattle.recovery_plans.proofs.Prelude.{AllAllowed, Attempt, BookState, Cause, Exchange, Fate, Moment, Observation, Op, Purpose, Recovery, Request}
+use Rattle.recovery_plans.proofs.Prelude.{ServerNo, Sight, Stage, World, acted, after, attempted, barred_by, by_deed, can-allowed, can_attach}
+use Rattle.recovery_plans.proofs.Prelude.{crossing_of, decided, deed_of, fate, goes_back, ground_of, last_exchanges, met, on_going, restarts}
+use Rattle.recovery_plans.proofs.Prelude.{restarts-allowed, run, taken, takes_writes, that_can, turn-allowed, undone, way_back}
+use Rattle.recovery_plans.proofs.Prelude.asking
+use Rattle.recovery_plans.proofs.Prelude.attempt
+use Rattle.recovery_plans.proofs.Prelude.cross
+use Rattle.recovery_plans.proofs.Prelude.purpose
+use Rattle.recovery_plans.proofs.Prelude.stage
+use Rattle.recovery_plans.proofs.Prelude.taking
 
 pub append-allowed : (w : World) (es fs : List Exchange) → AllAllowed w es → AllAllowed (run w es) fs → AllAllowed w (es ++ fs)
 append-allowed w [] fs one other = other
@@ -53,10 +38,8 @@ way-back-allowed w seen m (stage.Close lines) = tt
 way-back-allowed w seen m s = (tt, tt)
 
 undone-allowed : (w : World) (u : Purpose) (seen : List Sight) (f : ServerNo) (s : Stage) → AllAllowed w (undone w u seen f s)
-undone-allowed w purpose.Regroup seen f s = tt
-undone-allowed w purpose.Master seen f s = tt
-undone-allowed w (purpose.Intermediate k) seen f s = tt
 undone-allowed w (purpose.Takeover d) seen f s = way-back-allowed w seen f s
+undone-allowed w _ seen f s = tt
 
 pub last-allowed : (w : World) (r : Recovery) → AllAllowed w (last_exchanges w r)
 last-allowed w r =
@@ -65,10 +48,7 @@ last-allowed w r =
 
 met-allowed : (w : World) (r : Recovery) (c : Cause) (ob : Option Observation) (f : Fate) → AllAllowed w (met w r c ob f).exchanges
 met-allowed w r c ob taking.Fails = last-allowed w r
-met-allowed w r c ob taking.Drops = tt
-met-allowed w r c ob (taking.Loses n why) = tt
-met-allowed w r c ob (taking.Frees n why) = tt
-met-allowed w r c ob (taking.Goes s ops) = tt
+met-allowed w r c ob _ = tt
 
 attempted-allowed : (w : World) (r : Recovery) (o : Op) (a : Attempt) → AllAllowed w (attempt.settled r.core a).exchanges → AllAllowed w (attempted w r o a).exchanges
 attempted-allowed w r o (attempt.Goes ob es j) all = go (barred_by r.stage r.failed j.seen)

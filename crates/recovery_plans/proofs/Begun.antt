@@ -1,18 +1,11 @@
 -- The servers of recoveries that begin.
 use Rattle.std.proofs.Common.{◌≡◌, ℕ, List, [], ◌∷◌, ◌++◌, map, refl, not, subst}
 use Rattle.std.specs.Prelude.{◌==◌}
-use Rattle.std.specs.List.{All}
-use Rattle.std.proofs.lemmas.List.Elements.{All-nil, All-cons, All-append, All-filter, All-map}
-use Rattle.orch_base.specs.declared.server.ServerNo.{ServerNo}
-use Rattle.recovery_plans.specs.declared.outcome.Follower.{Follower}
-use Rattle.recovery_plans.specs.declared.outcome.Stopped.{Stopped}
-use Rattle.recovery_plans.specs.declared.means.Means.{Means}
-use Rattle.recovery_plans.specs.declared.purpose.Purpose.{Purpose}
-use Rattle.recovery_plans.specs.declared.purpose.Purpose.TheVariants as purpose
-use Rattle.recovery_plans.specs.declared.task.Task.{Task}
-use Rattle.recovery_plans.specs.declared.task.Task.TheVariants as task
-use Rattle.recovery_plans.specs.Beginning.{first_stage, first_ops, first_tasks, first_source, but, begun_recovery}
-use Rattle.recovery_plans.specs.Named.{changed_by, IsOpOf, IsTaskOf, AreSourcesOf, IsListOf, IsOf}
+use Rattle.recovery_plans.proofs.Prelude.{All, All-append, All-cons, All-filter, All-map, All-nil, AreSourcesOf, Follower, IsListOf, IsOf, IsOpOf}
+use Rattle.recovery_plans.proofs.Prelude.{IsTaskOf, Means, Purpose, ServerNo, Stopped, Task, begun_recovery, but, changed_by, first_ops, first_source}
+use Rattle.recovery_plans.proofs.Prelude.{first_stage, first_tasks}
+use Rattle.recovery_plans.proofs.Prelude.purpose
+use Rattle.recovery_plans.proofs.Prelude.task
 
 -- a fact of each task with which a recovery begins
 module _ (P : Task → Type 0) (choosing : P task.Choosing) (handing : P task.Handing) (sorting : P task.Sorting) where
@@ -30,16 +23,12 @@ module _ (P : Task → Type 0) (choosing : P task.Choosing) (handing : P task.Ha
 
 module _ (P Q : ℕ → Type 0) where
   first-changed : (u : Purpose) (f : ServerNo) → IsListOf P Q u f → All (λ n. P n.0) (changed_by (first_stage u f))
-  first-changed purpose.Regroup f h = All-nil (λ n. P n.0)
-  first-changed purpose.Master f h = All-nil (λ n. P n.0)
-  first-changed (purpose.Intermediate s) f h = All-nil (λ n. P n.0)
   first-changed (purpose.Takeover d) f h = All-cons (λ (n : ServerNo). P n.0) f (d ∷ []) h.0 (All-cons (λ (n : ServerNo). P n.0) d [] h.1 (All-nil (λ n. P n.0)))
+  first-changed _ f h = All-nil (λ n. P n.0)
 
   first-changes : (u : Purpose) (f : ServerNo) → Q f.0 → All (IsOpOf P Q) (first_ops u f)
   first-changes purpose.Regroup f q = All-nil (IsOpOf P Q)
-  first-changes purpose.Master f q = All-cons (IsOpOf P Q) _ [] (tt, q) (All-nil (IsOpOf P Q))
-  first-changes (purpose.Intermediate s) f q = All-cons (IsOpOf P Q) _ [] (tt, q) (All-nil (IsOpOf P Q))
-  first-changes (purpose.Takeover d) f q = All-cons (IsOpOf P Q) _ [] (tt, q) (All-nil (IsOpOf P Q))
+  first-changes _ f q = All-cons (IsOpOf P Q) _ [] (tt, q) (All-nil (IsOpOf P Q))
 
   first-sources : (u : Purpose) (f : ServerNo) → IsListOf P Q u f → AreSourcesOf P Q u f (first_source u)
   first-sources purpose.Regroup f h = tt

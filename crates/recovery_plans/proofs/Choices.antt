@@ -1,20 +1,10 @@
 -- What is chosen is one of those that were drained, and logs.
 use Rattle.std.proofs.Common.{◌≡◌, ℕ, Bool, true, false, cond, List, [], ◌∷◌, map, refl, sym, ◌∙◌, ap, subst, Option, Some, None, ◌&&◌}
 use Rattle.std.specs.Prelude.{◌==◌, not, find}
-use Rattle.std.specs.List.{All}
-use Rattle.std.proofs.lemmas.Bool.{and_parts, eqb-true}
-use Rattle.std.proofs.lemmas.Option.{same_Some}
-use Rattle.std.proofs.lemmas.List.Elements.{All-nil, All-cons, All-head, All-tail, All-contains, All-map}
-use Rattle.orch_base.specs.declared.server.Moment.{Moment}
-use Rattle.orch_base.specs.declared.server.ServerNo.{ServerNo}
-use Rattle.server_model.specs.Worlds.{World}
-use Rattle.instance_keeper.specs.Book.{BookState, rule_at}
-use Rattle.promotion_rules.specs.declared.drained.Drained.{Drained}
-use Rattle.promotion_rules.specs.Choice.{advance_order, is_barred, is_better, is_eligible, most_advanced, nearer_order}
-use Rattle.promotion_rules.proofs.Choosing.{chosen-first}
-use Rattle.promotion_rules.proofs.Firsts.{found_passes}
-use Rattle.recovery_plans.specs.declared.outcome.Stopped.{Stopped}
-use Rattle.recovery_plans.specs.Deciding.{ground_of, logs_at, drained_of, follower_of, stopped_in, chosen_of, better_of}
+use Rattle.recovery_plans.proofs.Prelude.{All, All-cons, All-contains, All-head, All-map, All-nil, All-tail, BookState, Drained, Moment, ServerNo}
+use Rattle.recovery_plans.proofs.Prelude.{Stopped, World, advance_order, and_parts, better_of, chosen-first, chosen_of, drained_of, eqb-true}
+use Rattle.recovery_plans.proofs.Prelude.{follower_of, found_passes, ground_of, is_barred, is_better, is_eligible, logs_at, most_advanced}
+use Rattle.recovery_plans.proofs.Prelude.{nearer_order, rule_at, same_Some, stopped_in}
 
 pub same-no : (a b : ServerNo) → a.0 ≡ b.0 → a ≡ b
 same-no a b h = ap (λ (n : ℕ). let m : ServerNo = record { 0 = n } in m) h

@@ -1,9 +1,7 @@
 -- The bridge by which a stage's replica goes is that of the stage that follows.
 use Rattle.std.proofs.Common.{◌≡◌, refl}
-use Rattle.recovery_plans.specs.declared.stage.Stage.{Stage}
-use Rattle.recovery_plans.specs.declared.stage.Stage.TheVariants as stage
-use Rattle.recovery_plans.specs.Stages.{moved}
-use Rattle.recovery_plans.specs.Table.{info}
+use Rattle.recovery_plans.proofs.Prelude.{Stage, info, moved}
+use Rattle.recovery_plans.proofs.Prelude.stage
 
 pub moved-leads : (s : Stage) → (info (moved s)).lead ≡ (info s).lead
 moved-leads (stage.Look n b) = refl

@@ -1,3 +1,4 @@
+mod Prelude
 pub mod Choices
 pub mod Naming
 pub mod Allowed
@@ -8,3 +9,8 @@ pub mod Others
 pub mod Walking
 pub mod Leading
 pub mod Promoting
+pub use Rattle.operations.proofs.BinlogCoords as BinlogCoords
+pub use Rattle.operations.proofs.KeptRows as KeptRows
+pub mod OperationsProofs
+pub mod PromotionRules
+pub use Rattle.operations.proofs.ServerModel as ServerModel

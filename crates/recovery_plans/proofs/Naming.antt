@@ -1,55 +1,29 @@
 -- What holds of the servers that a recovery changes and reads holds after its turns.
 use Rattle.std.proofs.Common.{◌≡◌, ℕ, Bool, true, false, cond, not, List, [], ◌∷◌, ◌++◌, map, refl, sym, ◌∙◌, ap, subst, Option, Some, None, inl, inr}
 use Rattle.std.specs.Prelude.{◌==◌, IfSome, filter}
-use Rattle.std.specs.List.{All}
-use Rattle.std.proofs.lemmas.Option.{same_Some}
-use Rattle.std.proofs.lemmas.List.Elements.{All-nil, All-cons, All-head, All-tail, All-append, All-filter, All-map, All-push, All-weaker}
-use Rattle.binlog_coords.specs.declared.Coord.{Coord}
-use Rattle.orch_base.specs.declared.server.Moment.{Moment}
-use Rattle.orch_base.specs.declared.server.ServerNo.{ServerNo}
-use Rattle.orch_base.specs.declared.server.SourceState.{SourceState}
-use Rattle.orch_base.specs.declared.server.SourceState.TheVariants.{Without, Attached, Detached}
-use Rattle.server_words.specs.declared.attach.Spot.TheVariants as spot
-use Rattle.server_words.specs.declared.changes.Ask.TheVariants as asking
-use Rattle.operations.specs.declared.sight.Position.{Position}
-use Rattle.server_model.specs.Run.{Exchange, Request, Attach}
-use Rattle.server_model.specs.Worlds.{World}
-use Rattle.recovery_plans.specs.declared.why.Why.{Why}
-use Rattle.instance_keeper.specs.declared.bridge.Bridge.{Bridge}
-use Rattle.kept_rows.specs.declared.observation.Observation.{Observation}
-use Rattle.instance_keeper.specs.Book.{BookState}
-use Rattle.instance_keeper.specs.Bridges.{bridge_by}
-use Rattle.operations.specs.declared.op.Crossing.TheVariants as cross
-use Rattle.operations.specs.declared.op.Op.{Op}
-use Rattle.operations.specs.declared.op.Op.TheVariants as op
-use Rattle.operations.specs.declared.sight.Sight.{Sight}
-use Rattle.operations.specs.Changes.{server_of}
-use Rattle.operations.specs.Jobs.{Job, seen_of}
-use Rattle.operations.specs.Targets.{can_attach}
-use Rattle.operations.specs.Turns as attempt
-use Rattle.operations.specs.Turns.{bridge_at, Attempt, Turned, crossed, crossing_of, restarts, turned}
-use Rattle.operations.proofs.Changing.{ChangesOf, StaysOf, turn-stays}
-use Rattle.operations.proofs.Left.{turn-left}
-use Rattle.recovery_plans.specs.declared.outcome.Follower.{Follower}
-use Rattle.recovery_plans.specs.declared.outcome.Stopped.{Stopped}
-use Rattle.recovery_plans.specs.declared.purpose.Purpose.{Purpose}
-use Rattle.recovery_plans.specs.declared.purpose.Purpose.TheVariants as purpose
-use Rattle.recovery_plans.specs.declared.stage.Stage.{Stage}
-use Rattle.recovery_plans.specs.declared.stage.Stage.TheVariants as stage
-use Rattle.recovery_plans.specs.declared.task.Task.{Task}
-use Rattle.recovery_plans.specs.declared.task.Task.TheVariants as task
-use Rattle.recovery_plans.specs.declared.task.Way.{Way}
-use Rattle.recovery_plans.specs.declared.task.Way.TheVariants as way
-use Rattle.recovery_plans.specs.Recoveries.{Recovery, follows, follows_no_more, loses, without_follower, working}
-use Rattle.recovery_plans.specs.Stages.{before, drain, gather, leaver, level, move, moved, trail, with_way}
-use Rattle.recovery_plans.specs.Telling.{told}
-use Rattle.recovery_plans.specs.Moves as by
-use Rattle.recovery_plans.specs.Moves.{Bearing, Decision, Does, Ending, IsHanding, IsNext, MayBear, MayDecide, MayEnd, borne, decided_by, ended_by, fate_of, stopped_at}
+use Rattle.recovery_plans.proofs.Prelude.{All, All-append, All-cons, All-filter, All-head, All-map, All-nil, All-push, All-tail, All-weaker}
+use Rattle.recovery_plans.proofs.Prelude.{AreSourcesOf, Attach, Attached, Attempt, Bearing, BookState, Bridge, ChangesOf, Coord, Decision, Detached}
+use Rattle.recovery_plans.proofs.Prelude.{Does, Ending, Exchange, Follower, IsHanding, IsNext, IsOf, IsOpOf, IsTaskOf, Job, KeepsOf, Lot, MayBear}
+use Rattle.recovery_plans.proofs.Prelude.{MayDecide, MayEnd, Moment, Observation, Op, Position, Purpose, Recovery, Request, ServerNo, Sight}
+use Rattle.recovery_plans.proofs.Prelude.{SourceState, Stage, StaysOf, Stopped, Task, Turned, Way, Why, Without, World, before, borne, bridge_at}
+use Rattle.recovery_plans.proofs.Prelude.{bridge_by, can_attach, changed_by, choose, chosen_of, crossed, crossing_of, decided, decided_by, drain}
+use Rattle.recovery_plans.proofs.Prelude.{ended_by, entered, expels, fate_of, follows, follows_no_more, frees, gather, goes_back, ground_of, idle}
+use Rattle.recovery_plans.proofs.Prelude.{last_exchanges, last_looks, lead_under, leaver, level, loses, lot_by, move, move_of, moved, moves_in}
+use Rattle.recovery_plans.proofs.Prelude.{moving, once, releases, restarts, same_Some, seen_of, server_of, sort, stopped_at, swapped, taken}
+use Rattle.recovery_plans.proofs.Prelude.{takes_writes, that_can, told, trail, turn-left, turn-stays, turned, undone, way_back, why_of, with_way}
+use Rattle.recovery_plans.proofs.Prelude.{without_follower, without_stopped, working}
+use Rattle.recovery_plans.proofs.Prelude.asking
+use Rattle.recovery_plans.proofs.Prelude.attempt
+use Rattle.recovery_plans.proofs.Prelude.by
+use Rattle.recovery_plans.proofs.Prelude.cross
+use Rattle.recovery_plans.proofs.Prelude.deciding
+use Rattle.recovery_plans.proofs.Prelude.op
+use Rattle.recovery_plans.proofs.Prelude.purpose
+use Rattle.recovery_plans.proofs.Prelude.spot
+use Rattle.recovery_plans.proofs.Prelude.stage
+use Rattle.recovery_plans.proofs.Prelude.task
+use Rattle.recovery_plans.proofs.Prelude.way
 use Rattle.recovery_plans.proofs.Walking.{KeepsAlways, always, decided-walks, decisions-keep, kept-along, made-along, once-walks}
-use Rattle.recovery_plans.specs.Deciding as deciding
-use Rattle.recovery_plans.specs.Deciding.{Lot, chosen_of, ground_of, lot_by, move_of, moves_in, without_stopped, choose, moving, why_of, expels, releases, sort, once, decided}
-use Rattle.recovery_plans.specs.Taking.{swapped, lead_under, idle, frees, last_looks, entered, that_can, takes_writes, goes_back, way_back, undone, last_exchanges, taken}
-use Rattle.recovery_plans.specs.Named.{changed_by, IsOpOf, IsTaskOf, AreSourcesOf, IsOf, KeepsOf}
 use Rattle.recovery_plans.proofs.Choices.{All-chosen, All-better}
 
 -- a bridge that was seen of a server is of that server
@@ -214,10 +188,8 @@ module _ (P Q : ℕ → Type 0) (id : ℕ) (pq : (n : ℕ) → P n → Q n) wher
       followed-of r (r.outcome.followers ++ record { no = n; source = p } ∷ []) has (All-push (λ (x : Follower). P x.no.0) r.outcome.followers _ has.followers h)
 
   none-chosen : (u : Purpose) (f : ServerNo) (o : Option ServerNo) → AreSourcesOf P Q u f o → AreSourcesOf P Q u f None
-  none-chosen purpose.Regroup f o h = tt
-  none-chosen purpose.Master f o h = tt
-  none-chosen (purpose.Intermediate s) f o h = tt
   none-chosen (purpose.Takeover d) f o h = h
+  none-chosen _ f o h = tt
 
   one-chosen : (u : Purpose) (f p : ServerNo) (o : Option ServerNo) → AreSourcesOf P Q u f o → Mine p → AreSourcesOf P Q u f (Some p)
   one-chosen purpose.Regroup f p o h k = k
@@ -338,10 +310,8 @@ module _ (P Q : ℕ → Type 0) (id : ℕ) (pq : (n : ℕ) → P n → Q n) wher
       at false = tt
 
   looks-of : (r : Recovery) (u : Purpose) (n : ServerNo) → Mine n → IsOf P Q id r → All Changes (last_looks r u n ++ op.Finish (told r) ∷ [])
-  looks-of r purpose.Regroup n h has = each-of (op.Status n None ∷ op.Finish (told r) ∷ []) (sees n h, ((tt, tt), tt))
-  looks-of r purpose.Master n h has = each-of (op.Status n None ∷ op.Finish (told r) ∷ []) (sees n h, ((tt, tt), tt))
-  looks-of r (purpose.Intermediate s) n h has = each-of (op.Status n None ∷ op.Finish (told r) ∷ []) (sees n h, ((tt, tt), tt))
   looks-of r (purpose.Takeover d) n h has = each-of (op.Status r.failed None ∷ op.Status n None ∷ op.Finish (told r) ∷ []) ((tt, has.failed), (sees n h, ((tt, tt), tt)))
+  looks-of r _ n h has = each-of (op.Status n None ∷ op.Finish (told r) ∷ []) (sees n h, ((tt, tt), tt))
 
   stage-of : (r : Recovery) (s : Stage) → r.stage ≡ s → IsOf P Q id r → All Mine (changed_by s)
   stage-of r s is has = subst (λ (x : Stage). All Mine (changed_by x)) is has.stage
@@ -424,10 +394,8 @@ module _ (P Q : ℕ → Type 0) (id : ℕ) (pq : (n : ℕ) → P n → Q n) wher
   way-back-mine w seen m s h c = writes-mine m h
 
   undone-mine : (w : World) (u : Purpose) (seen : List Sight) (f : ServerNo) (o : Option ServerNo) (s : Stage) → AreSourcesOf P Q u f o → All Mine (changed_by s) → All With (undone w u seen f s)
-  undone-mine w purpose.Regroup seen f o s h c = none
-  undone-mine w purpose.Master seen f o s h c = none
-  undone-mine w (purpose.Intermediate k) seen f o s h c = none
   undone-mine w (purpose.Takeover d) seen f o s h c = way-back-mine w seen f s h c
+  undone-mine w _ seen f o s h c = none
 
   restarts-mine : (ns : List ServerNo) → All Mine ns → All With (restarts ns)
   restarts-mine ns all = All-map With (λ (n : ServerNo). Request n.0 asking.Start) ns all

@@ -1,23 +1,17 @@
 -- Recoveries of dead intermediate masters, and takeovers, that go their whole way.
 use Rattle.std.proofs.Common.{◌≡◌, ℕ, true, false, List, [], ◌∷◌, map, refl, Some, None}
-use Rattle.orch_base.specs.declared.rule.Rule.TheVariants as rule
-use Rattle.orch_base.specs.declared.server.ServerNo.{ServerNo}
-use Rattle.orch_base.specs.declared.server.Settings.{Settings}
-use Rattle.orch_base.specs.declared.server.SourceState.TheVariants.{Without, Attached}
-use Rattle.server_words.specs.declared.attach.Spot.TheVariants as spot
-use Rattle.server_words.specs.declared.changes.Ask.TheVariants as asking
-use Rattle.server_words.specs.declared.changes.Event.TheVariants as event
-use Rattle.server_model.specs.Run.{Exchange, Apply, Request, Rotate, Befall, Attach}
-use Rattle.server_model.specs.Worlds.{World, sources}
-use Rattle.commands.specs.declared.cause.Cause.TheVariants as cause
-use Rattle.commands.specs.declared.line.Line.TheVariants as line
-use Rattle.commands.specs.declared.line.Lost.TheVariants as lost
-use Rattle.instance_keeper.specs.Book.{BookState}
-use Rattle.operations.specs.declared.step.JobStep.TheVariants as step
-use Rattle.recovery_plans.specs.declared.means.Means.TheVariants as means
-use Rattle.recovery_plans.specs.declared.purpose.Purpose.TheVariants as purpose
-use Rattle.recovery_plans.specs.Beginning.{begun_recovery}
-use Rattle.recovery_plans.specs.Taking.{Taken}
+use Rattle.recovery_plans.proofs.Prelude.{Apply, Attach, Attached, Befall, BookState, Exchange, Request, Rotate, ServerNo, Settings, Taken, Without}
+use Rattle.recovery_plans.proofs.Prelude.{World, begun_recovery, sources}
+use Rattle.recovery_plans.proofs.Prelude.asking
+use Rattle.recovery_plans.proofs.Prelude.cause
+use Rattle.recovery_plans.proofs.Prelude.event
+use Rattle.recovery_plans.proofs.Prelude.line
+use Rattle.recovery_plans.proofs.Prelude.lost
+use Rattle.recovery_plans.proofs.Prelude.means
+use Rattle.recovery_plans.proofs.Prelude.purpose
+use Rattle.recovery_plans.proofs.Prelude.rule
+use Rattle.recovery_plans.proofs.Prelude.spot
+use Rattle.recovery_plans.proofs.Prelude.step
 use Rattle.recovery_plans.proofs.Worlds.{server_no, end, bridge, server, world, book, rounds, each_turn, at_turn}
 
 module _ (st : Settings) where

@@ -1,21 +1,10 @@
 -- A turn promotes only a server that the recovery names.
 use Rattle.std.proofs.Common.{ℕ, [], ◌∷◌, subst, Option, Some, None}
 use Rattle.std.specs.Prelude.{IfSome}
-use Rattle.std.specs.List.{All}
-use Rattle.std.proofs.lemmas.List.Elements.{All-head, All-tail}
-use Rattle.orch_base.specs.declared.server.Moment.{Moment}
-use Rattle.orch_base.specs.declared.server.ServerNo.{ServerNo}
-use Rattle.server_model.specs.Worlds.{World}
-use Rattle.instance_keeper.specs.Book.{BookState}
-use Rattle.recovery_plans.specs.Deciding.{ground_of}
-use Rattle.recovery_plans.specs.declared.outcome.Stopped.{Stopped}
-use Rattle.recovery_plans.specs.declared.stage.Stage.{Stage}
-use Rattle.recovery_plans.specs.Recoveries.{Recovery, follows_no_more}
-use Rattle.recovery_plans.specs.Stages.{leaver, moved}
-use Rattle.recovery_plans.specs.Taking.{entered, taken}
-use Rattle.recovery_plans.specs.Moves as by
-use Rattle.recovery_plans.specs.Moves.{Bearing, Decision, Ending, MayDecide, MayEnd, borne, decided_by, ended_by, fate_of}
-use Rattle.recovery_plans.specs.Named.{IsOf, changed_by}
+use Rattle.recovery_plans.proofs.Prelude.{All, All-head, All-tail, Bearing, BookState, Decision, Ending, IsOf, MayDecide, MayEnd, Moment, Recovery}
+use Rattle.recovery_plans.proofs.Prelude.{ServerNo, Stage, Stopped, World, borne, changed_by, decided_by, ended_by, entered, fate_of, follows_no_more}
+use Rattle.recovery_plans.proofs.Prelude.{ground_of, leaver, moved, taken}
+use Rattle.recovery_plans.proofs.Prelude.by
 use Rattle.recovery_plans.proofs.Choices.{All-chosen}
 use Rattle.recovery_plans.proofs.Naming.{keeps-of}
 use Rattle.recovery_plans.proofs.Walking.{KeepsAlways, always, kept-whole, weakened}

@@ -1,45 +1,26 @@
 -- Each turn of a recovery is a walk of moves, and what each of them keeps a turn keeps.
 use Rattle.std.proofs.Common.{◌≡◌, ℕ, Bool, true, false, cond, List, [], ◌∷◌, ◌++◌, map, refl, sym, ◌∙◌, ap, subst, Option, Some, None, ◌⊎◌, inl, inr}
 use Rattle.std.specs.Prelude.{IfSome}
-use Rattle.std.proofs.lemmas.Bool.{false≢true}
-use Rattle.binlog_coords.specs.Log.{same_coord}
-use Rattle.orch_base.specs.declared.server.Moment.{Moment}
-use Rattle.orch_base.specs.declared.server.ServerNo.{ServerNo}
-use Rattle.server_model.specs.Run.{Exchange, run}
-use Rattle.server_model.specs.Worlds.{World, server_at}
-use Rattle.commands.specs.declared.cause.Cause.{Cause}
-use Rattle.commands.specs.declared.cause.Cause.TheVariants as cause
-use Rattle.commands.specs.declared.line.Line.{Line}
-use Rattle.recovery_plans.specs.declared.why.Miss.{Miss}
-use Rattle.recovery_plans.specs.declared.why.Miss.TheVariants as miss
-use Rattle.recovery_plans.specs.declared.why.Why.{Why}
-use Rattle.recovery_plans.specs.Whys as lost
-use Rattle.instance_keeper.specs.declared.bridge.Bridge.{Bridge}
-use Rattle.instance_keeper.specs.Book.{BookState}
-use Rattle.kept_rows.specs.declared.observation.Observation.{Observation}
-use Rattle.operations.specs.declared.op.Op.{Op}
-use Rattle.operations.specs.declared.sight.Position.{Position}
-use Rattle.operations.specs.Deeds.{deed_of}
-use Rattle.operations.specs.Jobs.{Job, seen_of}
-use Rattle.operations.specs.Turns as attempt
-use Rattle.operations.specs.Turns.{Attempt, by_deed, ended, is_going}
-use Rattle.recovery_plans.specs.declared.outcome.Stopped.{Stopped}
-use Rattle.recovery_plans.specs.declared.purpose.Purpose.{Purpose}
-use Rattle.recovery_plans.specs.declared.purpose.Purpose.TheVariants as purpose
-use Rattle.recovery_plans.specs.declared.stage.Stage.{Stage}
-use Rattle.recovery_plans.specs.declared.stage.Stage.TheVariants as stage
-use Rattle.recovery_plans.specs.declared.task.Task.{Task}
-use Rattle.recovery_plans.specs.declared.task.Task.TheVariants as task
-use Rattle.recovery_plans.specs.declared.task.Way.{Way}
-use Rattle.recovery_plans.specs.declared.task.Way.TheVariants as way
-use Rattle.recovery_plans.specs.Recoveries.{Recovery, loses, working}
-use Rattle.recovery_plans.specs.Stages.{ends, moved, trail, with_bridge}
-use Rattle.recovery_plans.specs.Table.{more_on}
-use Rattle.recovery_plans.specs.Deciding.{better_of, by_queue, by_task, at_last, choose, chosen_of, crown, decided, ground_of, hand, hand_by, hand_over, look_at, moving, once, rejoin, swap, swap_by, swap_or_crown, way_below, yield}
-use Rattle.recovery_plans.specs.Taking as taking
-use Rattle.recovery_plans.specs.Taking.{Fate, Loss, Taken, acted, at_end, attempted, barred_by, completed, entered, exec_by, fate, fate_of_drain, fate_of_errant, fate_of_trail, loss_of, match_fate, missed_fate, move_fate, way_fate, frees, goes_on, halted, idle, is_below, is_waiting, judged, last_exchanges, looked, lost_on_way, met, on_going, progressed, spot_by, spot_seen, stepped, taken, place_on}
-use Rattle.recovery_plans.specs.Moves as move
-use Rattle.recovery_plans.specs.Moves.{AtEnd, Decision, Decisions, Does, Ending, FailsFor, IsHanding, IsNext, IsOver, MayDecide, MayEnd, Stops, Turning, MayBear, Bearing, borne, decided_by, ended_by, fate_of, late, rests, stray}
+use Rattle.recovery_plans.proofs.Prelude.{AtEnd, Attempt, Bearing, BookState, Bridge, Cause, Decision, Decisions, Does, Ending, Exchange, FailsFor}
+use Rattle.recovery_plans.proofs.Prelude.{Fate, IsHanding, IsNext, IsOver, Job, Line, Loss, MayBear, MayDecide, MayEnd, Miss, Moment, Observation, Op}
+use Rattle.recovery_plans.proofs.Prelude.{Position, Purpose, Recovery, ServerNo, Stage, Stopped, Stops, Taken, Task, Turning, Way, Why, World, acted}
+use Rattle.recovery_plans.proofs.Prelude.{at_end, at_last, attempted, barred_by, better_of, borne, by_deed, by_queue, by_task, choose, chosen_of}
+use Rattle.recovery_plans.proofs.Prelude.{completed, crown, decided, decided_by, deed_of, ended, ended_by, ends, entered, exec_by, false≢true, fate}
+use Rattle.recovery_plans.proofs.Prelude.{fate_of, fate_of_drain, fate_of_errant, fate_of_trail, frees, goes_on, ground_of, halted, hand, hand_by}
+use Rattle.recovery_plans.proofs.Prelude.{hand_over, idle, is_below, is_going, is_waiting, judged, last_exchanges, late, look_at, looked, loses}
+use Rattle.recovery_plans.proofs.Prelude.{loss_of, lost_on_way, match_fate, met, missed_fate, more_on, move_fate, moved, moving, on_going, once}
+use Rattle.recovery_plans.proofs.Prelude.{place_on, progressed, rejoin, rests, run, same_coord, seen_of, server_at, spot_by, spot_seen, stepped}
+use Rattle.recovery_plans.proofs.Prelude.{stray, swap, swap_by, swap_or_crown, taken, trail, way_below, way_fate, with_bridge, working, yield}
+use Rattle.recovery_plans.proofs.Prelude.attempt
+use Rattle.recovery_plans.proofs.Prelude.by as move
+use Rattle.recovery_plans.proofs.Prelude.cause
+use Rattle.recovery_plans.proofs.Prelude.miss
+use Rattle.recovery_plans.proofs.Prelude.purpose
+use Rattle.recovery_plans.proofs.Prelude.stage
+use Rattle.recovery_plans.proofs.Prelude.taking
+use Rattle.recovery_plans.proofs.Prelude.task
+use Rattle.recovery_plans.proofs.Prelude.way
+use Rattle.recovery_plans.proofs.Prelude.whys as lost
 
 -- ---- what is decided
 
@@ -222,25 +203,19 @@ trail-fated w n x s at (cause.WaitSpent m) = Borne (move.Lets n (lost.behind (ex
 trail-fated w n x s at c = Fatal
 
 lost-fated : (u : Purpose) (n : ServerNo) (by : Way) (why : Why) → more_on by ≡ 1 → Fated (stage.Move n by) (lost_on_way u n why)
-lost-fated purpose.Regroup n by why more = Borne (move.Misses n why) (inr (inl (by, refl)))
-lost-fated purpose.Master n by why more = Borne (move.Misses n why) (inr (inl (by, refl)))
-lost-fated (purpose.Intermediate s) n by why more = Borne (move.Misses n why) (inr (inl (by, refl)))
 lost-fated (purpose.Takeover d) n by why more = Borne (move.Lets n why) (inl (by, refl, more))
+lost-fated _ n by why more = Borne (move.Misses n why) (inr (inl (by, refl)))
 
 errant-fated : (u : Purpose) (n : ServerNo) (by : Way) → Fated (stage.Move n by) (fate_of_errant u n by)
 errant-fated u n (way.Auto to exec) = lost-fated u n (way.Auto to exec) (lost.ahead exec) refl
-errant-fated u n (way.Down x) = Fatal
-errant-fated u n (way.Up x) = Fatal
-errant-fated u n (way.Match to exec every) = Fatal
+errant-fated u n _ = Fatal
 
 missed-fated : (w : World) (u : Purpose) (n : ServerNo) (by : Way) → more_on by ≡ 1 → (m : Miss) → Fated (stage.Move n by) (missed_fate w u n by m)
 missed-fated w u n by more (miss.Unreachable k) = lost-fated u n by lost.unreachable more
 missed-fated w u n by more miss.Running = lost-fated u n by (lost.moved (spot_by (server_at w n.0))) more
 missed-fated w u n by more (miss.Interfered expected found) = lost-fated u n by (lost.moved found) more
-missed-fated w u n by more miss.Loop = Fatal
 missed-fated w u n by more (miss.Purged first) = lost-fated u n by (lost.purged (place_on by)) more
-missed-fated w u n by more miss.NoMark = Fatal
-missed-fated w u n by more (miss.Mismatch entry) = Fatal
+missed-fated w u n by more _ = Fatal
 
 move-fated : (w : World) (u : Purpose) (n : ServerNo) (by : Way) → more_on by ≡ 1 → (l : Option Loss) → Fated (stage.Move n by) (move_fate w u n by l)
 move-fated w u n by more None = Fatal

@@ -1,22 +1,8 @@
 -- Made worlds and books, and recoveries that go their whole way over them.
 use Rattle.std.proofs.Common.{ℕ, zero, suc, ◌+◌, ◌*◌, Bool, true, false, List, [], ◌∷◌, map, Some, None}
 use Rattle.std.specs.Prelude.{◌==◌, if◌then◌else◌}
-use Rattle.binlog_coords.specs.declared.Coord.{Coord}
-use Rattle.binlog_coords.specs.declared.Entry.{Entry}
-use Rattle.orch_base.specs.declared.rule.Rule.{Rule}
-use Rattle.orch_base.specs.declared.server.Moment.{Moment}
-use Rattle.orch_base.specs.declared.server.ServerNo.{ServerNo}
-use Rattle.orch_base.specs.declared.server.Settings.{Settings}
-use Rattle.orch_base.specs.declared.server.SourceState.{SourceState}
-use Rattle.orch_base.specs.declared.server.Txn.{Txn}
-use Rattle.server_model.specs.declared.server.Server.{Server}
-use Rattle.server_model.specs.Run.{Exchange, run}
-use Rattle.server_model.specs.Worlds.{World, has_source}
-use Rattle.instance_keeper.specs.declared.bridge.Bridge.{Bridge}
-use Rattle.instance_keeper.specs.Book.{BookState}
-use Rattle.operations.specs.Turns.{is_going}
-use Rattle.recovery_plans.specs.Recoveries.{Recovery}
-use Rattle.recovery_plans.specs.Taking.{Taken, taken}
+use Rattle.recovery_plans.proofs.Prelude.{BookState, Bridge, Coord, Entry, Exchange, Moment, Recovery, Rule, Server, ServerNo, Settings, SourceState}
+use Rattle.recovery_plans.proofs.Prelude.{Taken, Txn, World, has_source, is_going, run, taken}
 
 abbrev pub server_no : ℕ → ServerNo
 server_no n = record { 0 = n }

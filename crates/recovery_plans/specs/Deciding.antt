@@ -1,26 +1,11 @@
 -- What is decided at the beginning of a turn, by the servers' settings, what was drained and the book of that turn.
 use Rattle.std.specs.Prelude.{ℕ, nat_eq, Bool, true, false, ◌==◌, ◌&&◌, not, if◌then◌else◌, List, [], ◌∷◌, ◌++◌, map, filter, find, Option, Some, None, is_some, option_map, unwrap_or}
-use Rattle.std.specs.Cmp.Lexicographic.{pointwise}
-use Rattle.binlog_coords.specs.declared.Coord.{Coord}
-use Rattle.orch_base.specs.declared.server.Moment.{Moment}
-use Rattle.orch_base.specs.declared.server.ServerNo.{ServerNo}
-use Rattle.server_model.specs.declared.server.Server.{Server}
-use Rattle.server_model.specs.Worlds.{World, server_at}
-use Rattle.commands.specs.declared.line.Lost.TheVariants as lost
-use Rattle.instance_keeper.specs.declared.bridge.Bridge.{Bridge}
-use Rattle.instance_keeper.specs.Book.{BookState, rule_at}
-use Rattle.instance_keeper.specs.Bridges.{has_own, latest_that, ring_at}
-use Rattle.operations.specs.declared.op.Crossing.TheVariants as cross
-use Rattle.operations.specs.declared.op.Op.{Op}
-use Rattle.operations.specs.declared.op.Op.TheVariants as op
-use Rattle.operations.specs.declared.sight.Sight.{Sight}
-use Rattle.operations.specs.Jobs.{seen_of}
-use Rattle.operations.specs.Targets.{logs_by}
-use Rattle.promotion_rules.specs.declared.drained.Drained.{Drained}
-use Rattle.promotion_rules.specs.Choice.{better, is_barred, most_advanced}
-use Rattle.replica_groups.specs.declared.groups.Group.{Group}
-use Rattle.replica_groups.specs.declared.groups.Group.TheVariants as group
-use Rattle.replica_groups.specs.Groups.{group_of}
+use Rattle.recovery_plans.specs.Prelude.{BookState, Bridge, Coord, Drained, Group, Moment, Op, Server, ServerNo, Sight, World, better, group_of}
+use Rattle.recovery_plans.specs.Prelude.{has_own, is_barred, latest_that, logs_by, most_advanced, pointwise, ring_at, rule_at, seen_of, server_at}
+use Rattle.recovery_plans.specs.Prelude.cross
+use Rattle.recovery_plans.specs.Prelude.group
+use Rattle.recovery_plans.specs.Prelude.lost
+use Rattle.recovery_plans.specs.Prelude.op
 use Rattle.recovery_plans.specs.declared.means.Means.{Means}
 use Rattle.recovery_plans.specs.declared.means.Means.TheVariants as means
 use Rattle.recovery_plans.specs.declared.outcome.LostReplica.{LostReplica}

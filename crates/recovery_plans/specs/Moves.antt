@@ -1,26 +1,13 @@
 -- A turn of a recovery as a list of moves, each under its guard: what is decided, at most one operation, and what its
 -- end makes of the recovery.
 use Rattle.std.specs.Prelude.{◌≡◌, ℕ, Bool, true, false, ◌⊎◌, if◌then◌else◌, List, [], ◌∷◌, ◌++◌, map, Option, Some, None, IfSome}
-use Rattle.orch_base.specs.declared.server.Moment.{Moment}
-use Rattle.orch_base.specs.declared.server.ServerNo.{ServerNo}
-use Rattle.binlog_coords.specs.Log.{same_coord}
-use Rattle.server_model.specs.Run.{Exchange}
-use Rattle.server_model.specs.Worlds.{World}
-use Rattle.commands.specs.declared.cause.Cause.{Cause}
-use Rattle.commands.specs.declared.cause.Cause.TheVariants as cause
-use Rattle.commands.specs.declared.line.Line.{Line}
-use Rattle.instance_keeper.specs.declared.bridge.Bridge.{Bridge}
-use Rattle.instance_keeper.specs.Book.{BookState}
-use Rattle.kept_rows.specs.declared.observation.Observation.{Observation}
-use Rattle.operations.specs.declared.op.Crossing.TheVariants as cross
-use Rattle.operations.specs.declared.op.Op.{Op}
-use Rattle.operations.specs.declared.op.Op.TheVariants as op
-use Rattle.operations.specs.declared.sight.Position.{Position}
-use Rattle.operations.specs.declared.step.JobStep.TheVariants as step
-use Rattle.operations.specs.Deeds.{deed_of}
-use Rattle.operations.specs.Jobs.{Job, seen_of}
-use Rattle.operations.specs.Turns as attempt
-use Rattle.operations.specs.Turns.{bridge_at, by_deed, ended}
+use Rattle.recovery_plans.specs.Prelude.{BookState, Bridge, Cause, Exchange, Job, Line, Moment, Observation, Op, Position, ServerNo, World, bridge_at}
+use Rattle.recovery_plans.specs.Prelude.{by_deed, deed_of, ended, same_coord, seen_of}
+use Rattle.recovery_plans.specs.Prelude.attempt
+use Rattle.recovery_plans.specs.Prelude.cause
+use Rattle.recovery_plans.specs.Prelude.cross
+use Rattle.recovery_plans.specs.Prelude.op
+use Rattle.recovery_plans.specs.Prelude.step
 use Rattle.recovery_plans.specs.declared.outcome.Stopped.{Stopped}
 use Rattle.recovery_plans.specs.declared.purpose.Purpose.{Purpose}
 use Rattle.recovery_plans.specs.declared.purpose.Purpose.TheVariants as purpose

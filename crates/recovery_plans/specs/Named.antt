@@ -1,12 +1,7 @@
 -- Which servers a recovery changes and reads, now or later.
 use Rattle.std.specs.Prelude.{◌≡◌, ℕ, ◌<◌, true, List, Option, Some, None, IfSome, All}
-use Rattle.orch_base.specs.declared.server.ServerNo.{ServerNo}
-use Rattle.operations.specs.declared.op.Op.{Op}
-use Rattle.operations.specs.Changes.{change_of, server_of}
-use Rattle.operations.specs.Deeds as deed
-use Rattle.operations.specs.Deeds.{Deed, deed_of}
-use Rattle.operations.specs.Jobs.{Job}
-use Rattle.instance_keeper.specs.declared.bridge.Bridge.{Bridge}
+use Rattle.recovery_plans.specs.Prelude.{Bridge, Deed, Job, Op, ServerNo, change_of, deed_of, is_going, server_of}
+use Rattle.recovery_plans.specs.Prelude.deed
 use Rattle.recovery_plans.specs.declared.outcome.Follower.{Follower}
 use Rattle.recovery_plans.specs.declared.outcome.Stopped.{Stopped}
 use Rattle.recovery_plans.specs.declared.purpose.Purpose.{Purpose}
@@ -14,7 +9,6 @@ use Rattle.recovery_plans.specs.declared.purpose.Purpose.TheVariants as purpose
 use Rattle.recovery_plans.specs.declared.stage.Stage.{Stage}
 use Rattle.recovery_plans.specs.declared.task.Task.{Task}
 use Rattle.recovery_plans.specs.declared.task.Task.TheVariants as task
-use Rattle.operations.specs.Turns.{is_going}
 use Rattle.recovery_plans.specs.Recoveries.{Recovery}
 use Rattle.recovery_plans.specs.Table.{info}
 use Rattle.recovery_plans.specs.Taking.{Taken}

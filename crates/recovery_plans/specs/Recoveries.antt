@@ -1,11 +1,6 @@
 -- Recoveries under way.
 use Rattle.std.specs.Prelude.{Bool, false, ◌==◌, not, List, [], ◌∷◌, ◌++◌, filter, Option, Some, None}
-use Rattle.orch_base.specs.declared.server.ServerNo.{ServerNo}
-use Rattle.orch_base.specs.declared.server.SourceState.TheVariants.{Attached}
-use Rattle.instance_keeper.specs.declared.bridge.Bridge.{Bridge}
-use Rattle.operations.specs.declared.op.Op.{Op}
-use Rattle.operations.specs.declared.sight.Position.{Position}
-use Rattle.operations.specs.Jobs.{Job}
+use Rattle.recovery_plans.specs.Prelude.{Attached, Bridge, Job, Op, Position, ServerNo}
 use Rattle.recovery_plans.specs.declared.means.Means.{Means}
 use Rattle.recovery_plans.specs.declared.outcome.Follower.{Follower}
 use Rattle.recovery_plans.specs.declared.outcome.LostReplica.{LostReplica}

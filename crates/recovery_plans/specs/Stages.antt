@@ -1,14 +1,8 @@
 -- The operations of a recovery's stages, and how one stage follows another.
 use Rattle.std.specs.Prelude.{Bool, true, false, ◌&&◌, ◌||◌, List, Option}
-use Rattle.orch_base.specs.declared.server.ServerNo.{ServerNo}
-use Rattle.server_words.specs.declared.changes.Ask.{Ask}
-use Rattle.server_words.specs.declared.changes.Ask.TheVariants as asking
-use Rattle.instance_keeper.specs.declared.bridge.Bridge.{Bridge}
-use Rattle.operations.specs.declared.op.Op.{Op}
-use Rattle.operations.specs.declared.sight.Sight.{Sight}
-use Rattle.operations.specs.Deeds as deed
-use Rattle.operations.specs.Deeds.{Deed}
-use Rattle.operations.specs.Jobs.{with_seen}
+use Rattle.recovery_plans.specs.Prelude.{Ask, Bridge, Deed, Op, ServerNo, Sight, with_seen}
+use Rattle.recovery_plans.specs.Prelude.asking
+use Rattle.recovery_plans.specs.Prelude.deed
 use Rattle.recovery_plans.specs.declared.stage.Stage.{Stage}
 use Rattle.recovery_plans.specs.declared.task.Way.{Way}
 use Rattle.recovery_plans.specs.declared.task.Way.TheVariants as way

@@ -1,7 +1,6 @@
 -- What a recovery counts on while it is at a stage.
 use Rattle.std.specs.Prelude.{List}
-use Rattle.orch_base.specs.declared.server.ServerNo.{ServerNo}
-use Rattle.commands.specs.declared.line.Line.{Line}
+use Rattle.recovery_plans.specs.Prelude.{Line, ServerNo}
 use Rattle.recovery_plans.specs.declared.task.Way.{Way}
 
 pub data Standing : Type 0 where

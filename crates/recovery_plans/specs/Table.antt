@@ -1,11 +1,8 @@
 -- The table of stages: what each is, in one place.
 use Rattle.std.specs.Prelude.{ℕ, Bool, true, false, List, [], ◌∷◌, Option, Some, None}
-use Rattle.orch_base.specs.declared.server.ServerNo.{ServerNo}
-use Rattle.instance_keeper.specs.declared.bridge.Bridge.{Bridge}
-use Rattle.operations.specs.declared.op.Aim.TheVariants.{EndOf, ExecOf}
-use Rattle.operations.specs.declared.op.Crossing.TheVariants as cross
-use Rattle.operations.specs.declared.op.Op.{Op}
-use Rattle.operations.specs.declared.op.Op.TheVariants as op
+use Rattle.recovery_plans.specs.Prelude.{Bridge, EndOf, ExecOf, Op, ServerNo}
+use Rattle.recovery_plans.specs.Prelude.cross
+use Rattle.recovery_plans.specs.Prelude.op
 use Rattle.recovery_plans.specs.declared.stage.Stage.{Stage}
 use Rattle.recovery_plans.specs.declared.stage.Stage.TheVariants as stage
 use Rattle.recovery_plans.specs.Standings as standing

@@ -1,35 +1,16 @@
 -- The turn of a recovery, as a function.
 use Rattle.std.specs.Prelude.{ℕ, Bool, true, false, ◌==◌, not, if◌then◌else◌, List, [], ◌∷◌, ◌++◌, map, Option, Some, None}
-use Rattle.binlog_coords.specs.declared.Coord.{Coord}
-use Rattle.binlog_coords.specs.Log.{same_coord}
-use Rattle.orch_base.specs.declared.server.Moment.{Moment}
-use Rattle.orch_base.specs.declared.server.ServerNo.{ServerNo}
-use Rattle.orch_base.specs.declared.server.SourceState.{SourceState}
-use Rattle.orch_base.specs.declared.server.SourceState.TheVariants.{Without, Attached, Detached}
-use Rattle.server_words.specs.declared.attach.Spot.{Spot}
-use Rattle.server_words.specs.declared.attach.Spot.TheVariants as spot
-use Rattle.server_words.specs.declared.changes.Ask.TheVariants as asking
-use Rattle.server_model.specs.declared.server.Server.{Server}
-use Rattle.server_model.specs.Attach.{spot_below}
-use Rattle.server_model.specs.Run.{Exchange, Request}
-use Rattle.server_model.specs.Worlds.{World, has_source, server_at, source_no}
-use Rattle.commands.specs.declared.cause.Cause.{Cause}
-use Rattle.commands.specs.declared.cause.Cause.TheVariants as cause
-use Rattle.instance_keeper.specs.declared.bridge.Bridge.{Bridge}
-use Rattle.kept_rows.specs.declared.observation.Observation.{Observation}
-use Rattle.instance_keeper.specs.Book.{BookState}
-use Rattle.operations.specs.declared.op.Crossing.TheVariants as cross
-use Rattle.operations.specs.declared.op.Op.{Op}
-use Rattle.operations.specs.declared.op.Op.TheVariants as op
-use Rattle.operations.specs.declared.sight.Position.{Position}
-use Rattle.operations.specs.declared.sight.Sight.{Sight}
-use Rattle.operations.specs.declared.step.JobStep.{JobStep}
-use Rattle.operations.specs.declared.step.JobStep.TheVariants as step
-use Rattle.operations.specs.Deeds.{deed_of}
-use Rattle.operations.specs.Jobs.{Job, seen_of}
-use Rattle.operations.specs.Targets.{can_attach}
-use Rattle.operations.specs.Turns as attempt
-use Rattle.operations.specs.Turns.{Attempt, bridge_at, by_deed, crossing_of, ended, restarts}
+use Rattle.recovery_plans.specs.Prelude.{Attached, Attempt, BookState, Bridge, Cause, Coord, Detached, Exchange, Job, JobStep, Moment, Observation}
+use Rattle.recovery_plans.specs.Prelude.{Op, Position, Request, Server, ServerNo, Sight, SourceState, Spot, Without, World, bridge_at, by_deed}
+use Rattle.recovery_plans.specs.Prelude.{can_attach, crossing_of, deed_of, ended, has_source, restarts, same_coord, seen_of, server_at, source_no}
+use Rattle.recovery_plans.specs.Prelude.{spot_below}
+use Rattle.recovery_plans.specs.Prelude.asking
+use Rattle.recovery_plans.specs.Prelude.attempt
+use Rattle.recovery_plans.specs.Prelude.cause
+use Rattle.recovery_plans.specs.Prelude.cross
+use Rattle.recovery_plans.specs.Prelude.op
+use Rattle.recovery_plans.specs.Prelude.spot
+use Rattle.recovery_plans.specs.Prelude.step
 use Rattle.recovery_plans.specs.declared.outcome.LostReplica.{LostReplica}
 use Rattle.recovery_plans.specs.declared.purpose.Purpose.{Purpose}
 use Rattle.recovery_plans.specs.declared.purpose.Purpose.TheVariants as purpose

@@ -1,9 +1,7 @@
 -- What a recovery tells when it is done.
 use Rattle.std.specs.Prelude.{Bool, ◌==◌, List, ◌++◌, filter_map, find, Option, Some, None, option_map}
-use Rattle.std.specs.Option.{option_to_list}
-use Rattle.orch_base.specs.declared.server.ServerNo.{ServerNo}
-use Rattle.commands.specs.declared.line.Line.{Line}
-use Rattle.commands.specs.declared.line.Line.TheVariants as line
+use Rattle.recovery_plans.specs.Prelude.{Line, ServerNo, option_to_list}
+use Rattle.recovery_plans.specs.Prelude.line
 use Rattle.recovery_plans.specs.declared.purpose.Purpose.{Purpose}
 use Rattle.recovery_plans.specs.declared.purpose.Purpose.TheVariants as purpose
 use Rattle.recovery_plans.specs.declared.why.Why.{Why}

@@ -1,10 +1,7 @@
 -- Why a replica is lost.
-use Rattle.binlog_coords.specs.declared.Coord.{Coord}
-use Rattle.orch_base.specs.declared.server.ServerNo.{ServerNo}
-use Rattle.server_words.specs.declared.attach.Spot.{Spot}
-use Rattle.commands.specs.declared.cause.Cause.{Cause}
-use Rattle.commands.specs.declared.cause.Cause.TheVariants as cause
-use Rattle.commands.specs.declared.line.Lost.TheVariants as lost
+use Rattle.recovery_plans.specs.Prelude.{Cause, Coord, ServerNo, Spot}
+use Rattle.recovery_plans.specs.Prelude.cause
+use Rattle.recovery_plans.specs.Prelude.lost
 use Rattle.recovery_plans.specs.declared.why.Miss.{Miss}
 use Rattle.recovery_plans.specs.declared.why.Miss.TheVariants as miss
 use Rattle.recovery_plans.specs.declared.why.Why.{Why}

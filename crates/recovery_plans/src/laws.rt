@@ -1,12 +1,7 @@
 //! What a turn of a recovery leaves of what the next one requires.
 
 ghost use Rattle.std.specs.Prelude.{◌≡◌, ◌<◌, ◌==◌, ℕ, All, Contains, List, Some, find, true};
-ghost use Rattle.orch_base.specs.declared.server.Moment.{Moment as AMoment};
-ghost use Rattle.orch_base.specs.declared.server.ServerNo.{ServerNo as Number};
-ghost use Rattle.instance_keeper.specs.Book.{BookState};
-ghost use Rattle.operations.specs.Turns.{is_going};
-ghost use Rattle.server_model.specs.Run.{AllAllowed};
-ghost use Rattle.server_model.specs.Worlds.{World};
+ghost use Rattle.recovery_plans.specs.Prelude.{AllAllowed, BookState, Line as ALine, Moment as AMoment, ServerNo as Number, World, is_going};
 ghost use Rattle.recovery_plans.specs.Beginning.{begun_recovery};
 ghost use Rattle.recovery_plans.specs.Moves.{Turning};
 ghost use Rattle.recovery_plans.specs.Named.{IsListOf, IsNamedRecovery};
@@ -19,7 +14,6 @@ ghost use Rattle.recovery_plans.specs.declared.outcome.LostReplica.{LostReplica 
 ghost use Rattle.recovery_plans.specs.declared.task.Task.{Task as ATask};
 ghost use Rattle.recovery_plans.specs.declared.why.Miss.{Miss as AMiss};
 ghost use Rattle.recovery_plans.specs.declared.why.Why.{Why as AWhy};
-ghost use Rattle.commands.specs.declared.line.Line.{Line as ALine};
 ghost use Rattle.recovery_plans.specs.declared.means.Means.{Means as AMeans};
 ghost use Rattle.recovery_plans.specs.declared.purpose.Purpose.{Purpose as APurpose};
 

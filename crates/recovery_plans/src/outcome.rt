@@ -1,8 +1,8 @@
 //! What becomes of replicas.
 
 use crate::Why;
-use binlog_coords::Coord;
-use orch_base::ServerNo;
+use crate::binlog_coords_items::Coord;
+use crate::orch_base::ServerNo;
 
 /// A replica that was stopped below its source, as it was seen then.
 #[derive(Clone, Copy, Debug, PartialEq, Eq)]

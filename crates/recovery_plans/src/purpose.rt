@@ -1,6 +1,6 @@
 //! What a recovery is for.
 
-use orch_base::ServerNo;
+use crate::orch_base::ServerNo;
 
 /// What a recovery is for.
 #[derive(Clone, Copy, Debug, PartialEq, Eq)]

@@ -1,9 +1,9 @@
 //! What a recovery is doing.
 
 use crate::Way;
-use commands::Lines;
-use instance_keeper::Bridge;
-use orch_base::ServerNo;
+use crate::commands::Lines;
+use crate::instance_keeper_items::Bridge;
+use crate::orch_base::ServerNo;
 
 /// The part of a task that is being done. A stage ends with the operation that changes a source, or whether writes are
 /// taken, so that each stage says how its server stands.

@@ -1,8 +1,8 @@
 //! What a recovery is still to do.
 
-use binlog_coords::Coord;
-use instance_keeper::Bridge;
-use orch_base::ServerNo;
+use crate::binlog_coords_items::Coord;
+use crate::instance_keeper_items::Bridge;
+use crate::orch_base::ServerNo;
 
 /// How a replica goes below its new source.
 #[derive(Clone, Copy, Debug, PartialEq, Eq)]

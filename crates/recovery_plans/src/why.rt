@@ -1,8 +1,8 @@
 //! Why a replica isn't below the new source.
 
-use commands::Lost;
-use orch_base::ServerNo;
-use server_words::Spot;
+use crate::commands::Lost;
+use crate::orch_base::ServerNo;
+use crate::server_words_items::Spot;
 
 /// Why a replica wasn't matched with its new source, or not attached to it by the match.
 #[derive(Clone, Copy, Debug, PartialEq, Eq)]

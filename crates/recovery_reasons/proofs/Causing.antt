@@ -1,48 +1,25 @@
 -- The cause of an operation that stops its job is true in the world in which it stopped it.
 use Rattle.std.proofs.Common.{◌≡◌, ℕ, ◌+◌, Bool, true, false, cond, not, List, [], ◌∷◌, length, refl, sym, ◌∙◌, ap, subst, Option, Some, None, Ok, Err, Result, ◌&&◌, ◌||◌, inl, inr}
 use Rattle.std.specs.Prelude.{nat_lt}
-use Rattle.std.proofs.lemmas.Option.{same_Some}
-use Rattle.binlog_coords.specs.declared.Coord.{Coord}
-use Rattle.gtid_sets.specs.declared.interval.Interval.{Interval}
-use Rattle.orch_base.specs.declared.server.Moment.{Moment}
-use Rattle.orch_base.specs.declared.server.ServerNo.{ServerNo}
-use Rattle.orch_base.specs.declared.server.SourceState.{SourceState}
-use Rattle.orch_base.specs.declared.server.SourceState.TheVariants.{Without, Attached, Detached}
-use Rattle.server_words.specs.declared.answers.Unreachable.{Unreachable}
-use Rattle.server_words.specs.declared.attach.AttachFault.{AttachFault}
-use Rattle.server_words.specs.declared.attach.AttachFault.TheVariants as attaching
-use Rattle.server_words.specs.declared.attach.Spot.{Spot}
-use Rattle.server_words.specs.declared.attach.Spot.TheVariants as spot
-use Rattle.server_words.specs.declared.changes.Ask.{Ask}
-use Rattle.server_words.specs.declared.changes.Ask.TheVariants as asking
-use Rattle.server_words.specs.declared.status.Status.{Status}
-use Rattle.server_words.specs.declared.status.StatusFault.TheVariants as seeing
-use Rattle.server_model.specs.declared.server.Server.{Server}
-use Rattle.server_model.specs.Attach.{spot_below, live_spot, same_spot, chain_meets, attach_answer, first_kept, purged_answer}
-use Rattle.server_model.specs.Desk.{desk_answer}
-use Rattle.server_model.specs.Gtids.{shown_of, status, status_in, attach_auto_answer, auto_purged, uuids, errant_set, errant_answer, answer_by_sets, held_of, purged_len}
-use Rattle.server_model.specs.Run.{Exchange, Attach, AttachAuto}
-use Rattle.server_model.specs.Worlds.{World, server_at, sources}
-use Rattle.commands.specs.declared.cause.Cause.{Cause}
-use Rattle.commands.specs.declared.cause.Cause.TheVariants as cause
-use Rattle.instance_keeper.specs.declared.bridge.Bridge.{Bridge}
-use Rattle.kept_rows.specs.declared.observation.Observation.{Observation}
-use Rattle.kept_rows.specs.Seeing.{seen_in}
-use Rattle.operations.specs.declared.op.Crossing.{Crossing}
-use Rattle.operations.specs.declared.op.Crossing.TheVariants as cross
-use Rattle.operations.specs.declared.matching.Match.{Match}
-use Rattle.operations.specs.declared.matching.MatchFault.{MatchFault}
-use Rattle.operations.specs.Matching.{match_logs, standing_at}
-use Rattle.operations.specs.declared.op.Op.{Op}
-use Rattle.operations.specs.declared.sight.Position.{Position}
-use Rattle.operations.specs.Deeds as deed
-use Rattle.operations.specs.Deeds.{Deed}
-use Rattle.operations.specs.Jobs.{Job, match_found, seen_of}
-use Rattle.operations.specs.Targets.{can_attach}
-use Rattle.operations.specs.Turns as attempt
-use Rattle.operations.specs.Turns.{bridge_at, Attempt, next, saw, observed, is_moved, after_status, after_look, after_ask, aim_of, is_reached, until_by, after_until, after_wait_by, after_wait, holds_seen, settles, by_deed, read_by, crossed, attached_anew, same_again, by_set, by_match, after_match, attach_answer_of, cause_by, after_answer, after_attach}
-use Rattle.recovery_plans.specs.Named.{spoken_to}
-use Rattle.recovery_reasons.specs.Causes.{IsMatchCause, IsUnreached, IsTrueOf}
+use Rattle.recovery_reasons.proofs.Prelude.{Ask, Attach, AttachAuto, Attached, AttachFault, Attempt, Bridge, Cause, Coord, Crossing, Deed, Detached}
+use Rattle.recovery_reasons.proofs.Prelude.{Exchange, Interval, IsMatchCause, IsTrueOf, IsUnreached, Job, Match, MatchFault, Moment, Observation, Op}
+use Rattle.recovery_reasons.proofs.Prelude.{Position, Server, ServerNo, SourceState, Spot, Status, Unreachable, World, after_answer, after_ask}
+use Rattle.recovery_reasons.proofs.Prelude.{after_attach, after_look, after_match, after_status, after_until, after_wait, after_wait_by, aim_of}
+use Rattle.recovery_reasons.proofs.Prelude.{answer_by_sets, attach_answer, attach_answer_of, attach_auto_answer, attached_anew, auto_purged}
+use Rattle.recovery_reasons.proofs.Prelude.{bridge_at, by_deed, by_match, by_set, can_attach, cause_by, chain_meets, crossed, desk_answer}
+use Rattle.recovery_reasons.proofs.Prelude.{errant_answer, errant_set, first_kept, held_of, holds_seen, is_moved, is_reached, live_spot, match_found}
+use Rattle.recovery_reasons.proofs.Prelude.{match_logs, next, observed, purged_answer, purged_len, read_by, same_again, same_Some, same_spot, saw}
+use Rattle.recovery_reasons.proofs.Prelude.{seen_in, seen_of, server_at, settles, shown_of, sources, spoken_to, spot_below, standing_at, status}
+use Rattle.recovery_reasons.proofs.Prelude.{status_in, until_by, uuids}
+use Rattle.recovery_reasons.proofs.Prelude.source.{Without}
+use Rattle.recovery_reasons.proofs.Prelude.asking
+use Rattle.recovery_reasons.proofs.Prelude.attaching
+use Rattle.recovery_reasons.proofs.Prelude.attempt
+use Rattle.recovery_reasons.proofs.Prelude.cause
+use Rattle.recovery_reasons.proofs.Prelude.cross
+use Rattle.recovery_reasons.proofs.Prelude.deed
+use Rattle.recovery_reasons.proofs.Prelude.seeing
+use Rattle.recovery_reasons.proofs.Prelude.spot
 
 -- what isn't seen isn't reached
 unseen-unreached : (w : World) (n : ℕ) → seen_in (status w n) ≡ None → IsUnreached w n

@@ -1,21 +1,10 @@
 -- The choice among the drained.
 use Rattle.std.proofs.Common.{◌≡◌, ℕ, Bool, true, false, cond, List, [], ◌∷◌, map, refl, sym, ◌∙◌, ap, subst, Option, Some, None}
 use Rattle.std.specs.Prelude.{◌==◌, find}
-use Rattle.std.specs.List.{All}
-use Rattle.std.proofs.lemmas.Bool.{false≢true, eq-eqb, eqb-true}
-use Rattle.std.proofs.lemmas.Option.{same_Some}
-use Rattle.std.proofs.lemmas.List.Elements.{All-nil, All-cons, All-head, All-tail, All-contains}
-use Rattle.orch_base.specs.declared.server.Moment.{Moment}
-use Rattle.orch_base.specs.declared.server.ServerNo.{ServerNo}
-use Rattle.server_model.specs.Worlds.{World}
-use Rattle.instance_keeper.specs.Book.{BookState}
-use Rattle.promotion_rules.specs.declared.drained.Drained.{Drained}
-use Rattle.promotion_rules.specs.Choice.{advance_order, is_eligible, most_advanced}
-use Rattle.promotion_rules.specs.Chosen.{HasExecutedMost}
-use Rattle.promotion_rules.proofs.Choosing.{chosen-first, first-furthest, none-chosen}
-use Rattle.promotion_rules.proofs.Orders.{advance_total}
-use Rattle.recovery_plans.specs.declared.outcome.Stopped.{Stopped}
-use Rattle.recovery_plans.specs.Deciding.{drained_of, ground_of, may_lead, stopped_in, chosen_of}
+use Rattle.recovery_reasons.proofs.Prelude.{All, All-cons, All-contains, All-head, All-nil, All-tail, BookState, Drained, HasExecutedMost, Moment}
+use Rattle.recovery_reasons.proofs.Prelude.{ServerNo, Stopped, World, advance_order, advance_total, chosen-first, chosen_of, drained_of, eq-eqb}
+use Rattle.recovery_reasons.proofs.Prelude.{eqb-true, false≢true, first-furthest, ground_of, is_eligible, may_lead, most_advanced, none-chosen}
+use Rattle.recovery_reasons.proofs.Prelude.{same_Some, stopped_in}
 
 module _ (w : World) (b : BookState) (now : Moment) where
   -- a number that one of the list has is found

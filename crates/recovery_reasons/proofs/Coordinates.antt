@@ -1,9 +1,7 @@
 -- Orders of coordinates.
 use Rattle.std.proofs.Common.{◌≡◌, ◌≤◌, Bool, true, false, refl, sym, ◌∙◌, ap, ◌&&◌, ◌||◌, arith}
 use Rattle.std.specs.Prelude.{◌==◌, nat_lt}
-use Rattle.std.proofs.lemmas.Bool.{false≢true, eqb-true, eq-eqb, ltb-false}
-use Rattle.binlog_coords.specs.declared.Coord.{Coord}
-use Rattle.binlog_coords.specs.Log.{is_before, same_coord}
+use Rattle.recovery_reasons.proofs.Prelude.{Coord, eq-eqb, eqb-true, false≢true, is_before, ltb-false, same_coord}
 
 lower : (a b : Bool) → (a ≡ false → b ≡ true) → (a || b) ≡ true
 lower true b f = refl

@@ -1,38 +1,15 @@
 -- What a recovery drained, chose and promoted so far has facts that count.
 use Rattle.std.proofs.Common.{◌≡◌, ℕ, Bool, true, false, cond, List, [], ◌∷◌, filter, map, refl, sym, ◌∙◌, ap, subst, Option, Some, None, inl, inr}
-use Rattle.std.proofs.lemmas.Bool.{false≢true}
-use Rattle.std.proofs.lemmas.Option.{same_Some}
-use Rattle.std.proofs.lemmas.List.Elements.{All-filter, All-nil, All-push, All-tail}
-use Rattle.orch_base.specs.declared.server.Moment.{Moment}
-use Rattle.orch_base.specs.declared.server.ServerNo.{ServerNo}
-use Rattle.server_model.specs.Worlds.{World}
-use Rattle.instance_keeper.specs.Book.{BookState}
-use Rattle.operations.specs.declared.op.Op.{Op}
-use Rattle.operations.specs.declared.sight.Position.{Position}
-use Rattle.operations.specs.Deeds.{deed_of}
-use Rattle.operations.specs.Jobs.{position_of, seen_of}
-use Rattle.operations.specs.Turns.{ended}
-use Rattle.promotion_rules.specs.Choice.{is_better, nearer_order}
-use Rattle.promotion_rules.proofs.Choosing.{chosen-first}
-use Rattle.recovery_plans.specs.declared.outcome.Stopped.{Stopped}
-use Rattle.recovery_plans.specs.declared.means.Means.{Means}
-use Rattle.recovery_plans.specs.declared.purpose.Purpose.{Purpose}
-use Rattle.recovery_plans.specs.declared.purpose.Purpose.TheVariants as purpose
-use Rattle.recovery_plans.specs.declared.stage.Stage.{Stage}
-use Rattle.recovery_plans.specs.declared.stage.Stage.TheVariants as stage
-use Rattle.recovery_plans.specs.Beginning.{begun_recovery}
-use Rattle.recovery_plans.specs.Moves as by
-use Rattle.recovery_plans.specs.Moves.{Bearing, Decision, Decisions, Ending, MayDecide, MayEnd, borne, decided_by, ended_by, fate_of, stopped_at}
-use Rattle.recovery_plans.specs.Recoveries.{Recovery, follows_no_more}
-use Rattle.recovery_plans.specs.Stages.{ends, leaver, moved}
-use Rattle.recovery_plans.specs.Deciding.{follower_of, ground_of, may_lead}
-use Rattle.recovery_plans.specs.Taking.{entered, is_below, stepped, taken}
-use Rattle.recovery_plans.proofs.Walking.{Keeps, joined, kept-whole}
-use Rattle.recovery_laws.specs.HeldRecoveries.{HeldRecovery}
-use Rattle.recovery_laws.specs.Rings.{HeldRings}
-use Rattle.recovery_laws.proofs.Deciding.{decides-held}
-use Rattle.recovery_reasons.specs.Reasons.{AllDrained, Betters, Chooses, Drains, ExplainsTruly, Fact, IsBetter, IsChosen, IsDrained, IsExplained, IsPromoted, IsSwapping, Speaks}
-use Rattle.recovery_reasons.specs.OnWay.{chooses}
+use Rattle.recovery_reasons.proofs.Prelude.{All-filter, All-nil, All-push, All-tail, AllDrained, Bearing, Betters, BookState, Chooses, Decision}
+use Rattle.recovery_reasons.proofs.Prelude.{Decisions, Drains, Ending, ExplainsTruly, Fact, HeldRecovery, HeldRings, IsBetter, IsChosen, IsDrained}
+use Rattle.recovery_reasons.proofs.Prelude.{IsExplained, IsPromoted, IsSwapping, Keeps, MayDecide, MayEnd, Means, Moment, Op, Position, Purpose}
+use Rattle.recovery_reasons.proofs.Prelude.{Recovery, ServerNo, Speaks, Stage, Stopped, World, begun_recovery, borne, chooses, chosen-first}
+use Rattle.recovery_reasons.proofs.Prelude.{decided_by, decides-held, deed_of, ended, ended_by, ends, entered, false≢true, fate_of, follower_of}
+use Rattle.recovery_reasons.proofs.Prelude.{follows_no_more, ground_of, is_below, is_better, joined, kept-whole, leaver, may_lead, moved}
+use Rattle.recovery_reasons.proofs.Prelude.{nearer_order, position_of, same_Some, seen_of, stepped, stopped_at, taken}
+use Rattle.recovery_reasons.proofs.Prelude.by
+use Rattle.recovery_reasons.proofs.Prelude.purpose
+use Rattle.recovery_reasons.proofs.Prelude.stage
 use Rattle.recovery_reasons.proofs.Readings.{Reading, fits-of, reader_of, stepped-reading}
 use Rattle.recovery_reasons.proofs.Choosing.{chosen-most}
 use Rattle.recovery_reasons.proofs.Reasoning.{taken-lost}
@@ -196,10 +173,7 @@ module _ (w : World) (b : BookState) (now : Moment) (r : Recovery) (P : Fact →
 
   borne-stands : (x : Recovery) (e : Bearing) → Stands x → Going (borne x (fate_of e))
   borne-stands x by.Drops s = begins x _ (like x _ refl refl refl refl refl s) refl
-  borne-stands x (by.Misses n y) s = begins x _ (like x _ refl refl refl refl refl s) refl
-  borne-stands x (by.Lets n y) s = begins x _ (like x _ refl refl refl refl refl s) refl
-  borne-stands x (by.Restarts p q) s = begins x _ (like x _ refl refl refl refl refl s) refl
-  borne-stands x (by.Returns p q) s = begins x _ (like x _ refl refl refl refl refl s) refl
+  borne-stands x _ s = begins x _ (like x _ refl refl refl refl refl s) refl
 
   busy-with : (o : Op) (rest ops : List Op) → ops ≡ o ∷ rest → ops ≡ [] → ⊥
   busy-with o rest ops is none = let bad : o ∷ rest ≡ [] = sym is ∙ none in cc

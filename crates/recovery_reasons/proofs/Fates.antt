@@ -1,40 +1,21 @@
 -- Nobody is lost since none may be promoted, but where nobody is found.
 use Rattle.std.proofs.Common.{◌≡◌, Bool, true, false, cond, List, [], ◌∷◌, ◌++◌, map, refl, sym, ap, Option, Some, None}
 use Rattle.std.specs.Prelude.{◌==◌}
-use Rattle.std.proofs.lemmas.Option.{same_Some}
-use Rattle.std.proofs.lemmas.List.Elements.{All-append, All-cons, All-head, All-nil, All-push, All-tail}
-use Rattle.orch_base.specs.declared.server.Moment.{Moment}
-use Rattle.orch_base.specs.declared.server.ServerNo.{ServerNo}
-use Rattle.binlog_coords.specs.Log.{same_coord}
-use Rattle.commands.specs.declared.cause.Cause.{Cause}
-use Rattle.commands.specs.declared.cause.Cause.TheVariants as cause
-use Rattle.instance_keeper.specs.declared.bridge.Bridge.{Bridge}
-use Rattle.instance_keeper.specs.Book.{BookState}
-use Rattle.server_model.specs.Worlds.{World, server_at}
-use Rattle.operations.specs.declared.sight.Position.{Position}
-use Rattle.replica_groups.specs.declared.groups.Group.{Group}
-use Rattle.replica_groups.specs.declared.groups.Group.TheVariants as group
-use Rattle.replica_groups.specs.Groups.{group_of}
-use Rattle.recovery_plans.specs.declared.outcome.LostReplica.{LostReplica}
-use Rattle.recovery_plans.specs.declared.outcome.Stopped.{Stopped}
-use Rattle.recovery_plans.specs.declared.purpose.Purpose.{Purpose}
-use Rattle.recovery_plans.specs.declared.purpose.Purpose.TheVariants as purpose
-use Rattle.recovery_plans.specs.declared.stage.Stage.{Stage}
-use Rattle.recovery_plans.specs.declared.stage.Stage.TheVariants as stage
-use Rattle.recovery_plans.specs.declared.task.Way.{Way}
-use Rattle.recovery_plans.specs.declared.task.Way.TheVariants as way
-use Rattle.recovery_plans.specs.Deciding as deciding
-use Rattle.recovery_plans.specs.Deciding.{Lot, ground_of, losses_in, lot_by, lot_by_group, lot_of, own_end_of, stay_of}
-use Rattle.recovery_plans.specs.Moves.{late, stray}
-use Rattle.recovery_plans.specs.Taking as taking
-use Rattle.recovery_plans.specs.Taking.{Fate, Loss, fate, fate_of_drain, fate_of_errant, fate_of_trail, is_below, loss_of, lost_on_way, marked, match_fate, missed_fate, move_fate, place_on, spot_by, spot_seen, way_fate}
-use Rattle.recovery_reasons.specs.OnWay.{AllFit, is_unfit}
-use Rattle.recovery_plans.specs.declared.means.Means.{Means}
-use Rattle.recovery_plans.specs.declared.means.Means.TheVariants as means
-use Rattle.recovery_plans.specs.declared.why.Miss.{Miss}
-use Rattle.recovery_plans.specs.declared.why.Miss.TheVariants as miss
-use Rattle.recovery_plans.specs.declared.why.Why.{Why}
-use Rattle.recovery_plans.specs.Whys as lost
+use Rattle.recovery_reasons.proofs.Prelude.{All-append, All-cons, All-head, All-nil, All-push, All-tail, AllFit, BookState, Bridge, Cause, Fate}
+use Rattle.recovery_reasons.proofs.Prelude.{Group, Loss, LostReplica, Lot, Means, Miss, Moment, Position, Purpose, ServerNo, Stage, Stopped, Way, Why}
+use Rattle.recovery_reasons.proofs.Prelude.{World, fate, fate_of_drain, fate_of_errant, fate_of_trail, ground_of, group_of, is_below, is_unfit, late}
+use Rattle.recovery_reasons.proofs.Prelude.{loss_of, losses_in, lost_on_way, lot_by, lot_by_group, lot_of, marked, match_fate, missed_fate, move_fate}
+use Rattle.recovery_reasons.proofs.Prelude.{own_end_of, place_on, same_coord, same_Some, server_at, spot_by, spot_seen, stay_of, stray, way_fate}
+use Rattle.recovery_reasons.proofs.Prelude.cause
+use Rattle.recovery_reasons.proofs.Prelude.deciding
+use Rattle.recovery_reasons.proofs.Prelude.group
+use Rattle.recovery_reasons.proofs.Prelude.lost
+use Rattle.recovery_reasons.proofs.Prelude.means
+use Rattle.recovery_reasons.proofs.Prelude.miss
+use Rattle.recovery_reasons.proofs.Prelude.purpose
+use Rattle.recovery_reasons.proofs.Prelude.stage
+use Rattle.recovery_reasons.proofs.Prelude.taking
+use Rattle.recovery_reasons.proofs.Prelude.way
 
 -- ---- the lost
 
@@ -94,11 +75,9 @@ fit-late x (Some s) y e = go (same_coord s.exec x.exec) e
 
 -- no failing operation tells of one that may not be promoted
 abbrev pub FitFate : Fate → Type 0
-FitFate taking.Fails = Unit {0}
-FitFate taking.Drops = Unit {0}
 FitFate (taking.Loses n y) = is_unfit y ≡ false
 FitFate (taking.Frees n y) = is_unfit y ≡ false
-FitFate (taking.Goes s ops) = Unit {0}
+FitFate _ = Unit {0}
 
 fit-drain : (n : ServerNo) (c : Cause) → FitFate (fate_of_drain n c)
 fit-drain n (cause.Unreachable m) = refl
@@ -111,24 +90,18 @@ fit-trail w n c = tt
 
 fit-way : (u : Purpose) (n : ServerNo) (y : Why) → is_unfit y ≡ false → FitFate (lost_on_way u n y)
 fit-way purpose.Regroup n y h = h
-fit-way purpose.Master n y h = h
-fit-way (purpose.Intermediate s) n y h = h
-fit-way (purpose.Takeover d) n y h = h
+fit-way _ n y h = h
 
 fit-errant : (u : Purpose) (n : ServerNo) (by : Way) → FitFate (fate_of_errant u n by)
 fit-errant u n (way.Auto to exec) = fit-way u n (lost.ahead exec) refl
-fit-errant u n (way.Down b) = tt
-fit-errant u n (way.Up b) = tt
-fit-errant u n (way.Match to exec every) = tt
+fit-errant u n _ = tt
 
 fit-missed : (w : World) (u : Purpose) (n : ServerNo) (by : Way) (m : Miss) → FitFate (missed_fate w u n by m)
 fit-missed w u n by (miss.Unreachable k) = fit-way u n lost.unreachable refl
 fit-missed w u n by miss.Running = fit-way u n (lost.moved (spot_by (server_at w n.0))) refl
 fit-missed w u n by (miss.Interfered expected found) = fit-way u n (lost.moved found) refl
-fit-missed w u n by miss.Loop = tt
 fit-missed w u n by (miss.Purged first) = fit-way u n (lost.purged (place_on by)) refl
-fit-missed w u n by miss.NoMark = tt
-fit-missed w u n by (miss.Mismatch entry) = tt
+fit-missed w u n by _ = tt
 
 fit-move : (w : World) (u : Purpose) (n : ServerNo) (by : Way) (l : Option Loss) → FitFate (move_fate w u n by l)
 fit-move w u n by None = tt

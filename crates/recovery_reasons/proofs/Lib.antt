@@ -1,3 +1,4 @@
+mod Prelude
 pub mod Choosing
 pub mod Tasks
 pub mod Fates

@@ -1,28 +1,16 @@
 -- Where no operation is left behind a turn's decisions, one of them found nobody.
 use Rattle.std.proofs.Common.{◌≡◌, ℕ, ◌+◌, ◌≤◌, ◌<◌, suc, Bool, true, false, List, [], ◌∷◌, ◌++◌, map, filter, refl, sym, ◌∙◌, ap, subst, Option, Some, None, ◌⊎◌, inl, inr, arith}
-use Rattle.std.specs.List.{Contains}
-use Rattle.orch_base.specs.declared.server.Moment.{Moment}
-use Rattle.orch_base.specs.declared.server.ServerNo.{ServerNo}
-use Rattle.server_model.specs.Worlds.{World}
-use Rattle.recovery_plans.specs.Beginning.{is_takeover}
-use Rattle.recovery_plans.specs.Whys as lost
-use Rattle.instance_keeper.specs.declared.bridge.Bridge.{Bridge}
-use Rattle.instance_keeper.specs.Book.{BookState}
-use Rattle.operations.specs.declared.op.Op.{Op}
-use Rattle.recovery_plans.specs.declared.outcome.Stopped.{Stopped}
-use Rattle.recovery_plans.specs.declared.purpose.Purpose.{Purpose}
-use Rattle.recovery_plans.specs.declared.purpose.Purpose.TheVariants as purpose
-use Rattle.recovery_plans.specs.declared.task.Task.{Task}
-use Rattle.recovery_plans.specs.declared.task.Task.TheVariants as task
-use Rattle.recovery_plans.specs.declared.task.Way.{Way}
-use Rattle.recovery_plans.specs.Deciding.{at_last, better_of, by_queue, by_task, choose, chosen_of, crown, decided, expels, ground_of, hand, hand_by, hand_over, look_at, lot_by, moves_in, once, rejoin, releases, swap, swap_by, swap_or_crown, way_below, why_of, without_stopped, yield}
-use Rattle.recovery_plans.specs.Moves as move
-use Rattle.recovery_plans.specs.Moves.{Decision, Decisions, IsNext, MayDecide, decided_by}
-use Rattle.recovery_plans.specs.Recoveries.{Recovery, loses}
-use Rattle.recovery_plans.proofs.Walking.{decided-walks, decisions-keep, once-walks}
-use Rattle.recovery_reasons.specs.Nobody as nobody
-use Rattle.recovery_reasons.specs.Nobody.{DecisionsElse, HasNobody, finds_nobody}
-use Rattle.recovery_reasons.specs.OnWay.{IsOnWay, chooses, pauses_in, pauses_last}
+use Rattle.recovery_reasons.proofs.Prelude.{BookState, Bridge, Contains, Decision, Decisions, DecisionsElse, HasNobody, IsNext, IsOnWay, MayDecide}
+use Rattle.recovery_reasons.proofs.Prelude.{Moment, Op, Purpose, Recovery, ServerNo, Stopped, Task, Way, World, at_last, better_of, by_queue, by_task}
+use Rattle.recovery_reasons.proofs.Prelude.{choose, chooses, chosen_of, crown, decided, decided-walks, decided_by, decisions-keep, expels}
+use Rattle.recovery_reasons.proofs.Prelude.{finds_nobody, ground_of, hand, hand_by, hand_over, is_takeover, look_at, loses, lot_by, moves_in, once}
+use Rattle.recovery_reasons.proofs.Prelude.{once-walks, pauses_in, pauses_last, rejoin, releases, swap, swap_by, swap_or_crown, way_below, why_of}
+use Rattle.recovery_reasons.proofs.Prelude.{without_stopped, yield}
+use Rattle.recovery_reasons.proofs.Prelude.by as move
+use Rattle.recovery_reasons.proofs.Prelude.lost
+use Rattle.recovery_reasons.proofs.Prelude.nobody
+use Rattle.recovery_reasons.proofs.Prelude.purpose
+use Rattle.recovery_reasons.proofs.Prelude.task
 use Rattle.recovery_reasons.proofs.OnWay.{Fine, IsStuck, decides-fine, decides-lost, decides-stuck, decides-way, none-in, not-stuck}
 use Rattle.recovery_reasons.proofs.Tasks.{busy-map, busy-moves, pauses-append, some-op, to-yield}
 use Rattle.recovery_reasons.proofs.Choosing.{none-may}
@@ -31,11 +19,8 @@ abbrev pauses_of : Recovery → ℕ
 pauses_of r = pauses_in r.queue + pauses_last r.purpose r.swaps
 
 last-some : (u : Purpose) (swaps : Bool) → 1 ≤ pauses_last u swaps
-last-some purpose.Regroup swaps = omega arith
 last-some purpose.Master true = omega arith
-last-some purpose.Master false = omega arith
-last-some (purpose.Intermediate s) swaps = omega arith
-last-some (purpose.Takeover d) swaps = omega arith
+last-some _ _ = omega arith
 
 module _ (w : World) (b : BookState) (now : Moment) where
   behind : (r d : Recovery) (x : Decision) → MayDecide (ground_of w b now) r x → finds_nobody x ≡ false → HasNobody w b now (decided_by (ground_of w b now) r x) d → HasNobody w b now r d
@@ -160,16 +145,13 @@ module _ (w : World) (b : BookState) (now : Moment) where
         inr (omega (arith, all, a, c, d, e))
 
     task-now : (t : Task) (ts : List Task) → r.queue ≡ t ∷ ts → (by_task (ground_of w b now) (record r { queue = ts }) t).core.ops ≡ [] → Less (by_task (ground_of w b now) (record r { queue = ts }) t)
-    task-now (task.Reading n) ts queue h = cc
-    task-now (task.Draining n) ts queue h = cc
     task-now task.Choosing ts queue h = choosing-now ts queue (chosen_of (ground_of w b now) r.failed r.drained) refl
     task-now task.Handing ts queue h = handing-now ts queue r.chosen h
     task-now (task.Moving n by) ts queue h = absurd (some-op n by h)
     task-now task.Sorting ts queue h = sorting-now ts queue
-    task-now (task.Expelling n) ts queue h = cc
-    task-now (task.Releasing n) ts queue h = cc
     task-now (task.Trailing n) ts queue h = looking-now n ts queue r.lead refl h
     task-now task.Yielding ts queue h = yielding-now ts queue r.lead refl h
+    task-now _ ts queue h = cc
 
     once-less : (once (ground_of w b now) r).core.ops ≡ [] → Less (once (ground_of w b now) r)
     once-less = go r.core.ops r.queue refl refl

@@ -1,58 +1,27 @@
 -- A recovery stays on its way, until nobody is found who takes the failed server's place.
 use Rattle.std.proofs.Common.{◌≡◌, ℕ, Bool, true, false, cond, not, List, [], ◌∷◌, ◌++◌, map, filter, refl, sym, ◌∙◌, ap, subst, Option, Some, None, ◌⊎◌, inl, inr, arith, append_assoc}
 use Rattle.std.specs.Prelude.{◌==◌, slice_index_or}
-use Rattle.std.specs.List.{All, Contains}
-use Rattle.std.proofs.lemmas.Bool.{eq-eqb, false≢true}
-use Rattle.std.proofs.lemmas.Option.{same_Some}
-use Rattle.std.proofs.lemmas.List.Elements.{All-append, All-cons, All-nil, All-tail, Contains-append_right}
-use Rattle.std.proofs.lemmas.Map.Made.{Contains-tail}
-use Rattle.orch_base.specs.declared.server.Moment.{Moment}
-use Rattle.orch_base.specs.declared.server.ServerNo.{ServerNo}
-use Rattle.orch_base.specs.declared.server.SourceState.{SourceState}
-use Rattle.orch_base.specs.declared.server.SourceState.TheVariants as source
-use Rattle.binlog_coords.specs.declared.Coord.{Coord}
-use Rattle.commands.specs.declared.cause.Cause.{Cause}
-use Rattle.commands.specs.declared.line.Line.{Line}
-use Rattle.instance_keeper.specs.declared.bridge.Bridge.{Bridge}
-use Rattle.instance_keeper.specs.Book.{BookState}
-use Rattle.instance_keeper.specs.Bridges.{bridge_by}
-use Rattle.kept_rows.specs.declared.observation.Observation.{Observation}
-use Rattle.server_model.specs.Run.{Exchange}
-use Rattle.server_model.specs.Worlds.{World}
-use Rattle.operations.specs.declared.op.Op.{Op}
-use Rattle.operations.specs.declared.op.Op.TheVariants as op
-use Rattle.operations.specs.declared.sight.Position.{Position}
-use Rattle.operations.specs.declared.step.JobStep.TheVariants as step
-use Rattle.operations.specs.Deeds.{deed_of}
-use Rattle.operations.specs.Jobs.{Job, seen_of}
-use Rattle.operations.specs.Turns as attempt
-use Rattle.operations.specs.Turns.{bridge_at, by_deed, is_going}
-use Rattle.recovery_plans.specs.declared.purpose.Purpose.{Purpose}
-use Rattle.recovery_plans.specs.declared.purpose.Purpose.TheVariants as purpose
-use Rattle.recovery_plans.specs.declared.stage.Stage.{Stage}
-use Rattle.recovery_plans.specs.declared.stage.Stage.TheVariants as stage
-use Rattle.recovery_plans.specs.declared.task.Task.{Task}
-use Rattle.recovery_plans.specs.declared.task.Task.TheVariants as task
-use Rattle.recovery_plans.specs.declared.task.Way.TheVariants as way
-use Rattle.recovery_plans.specs.Beginning.{begun_recovery, but, first_source, is_takeover}
-use Rattle.recovery_plans.specs.Deciding.{expels, ground_of, losses_in, lot_by, moves_in, releases, why_of, without_stopped}
-use Rattle.recovery_plans.specs.Moves as by
-use Rattle.recovery_plans.specs.Moves.{Bearing, Decision, Ending, IsNext, MayBear, MayDecide, MayEnd, Turning, borne, decided_by, ended_by, fate_of, follows_lead, rests}
-use Rattle.recovery_plans.specs.Recoveries.{Recovery, follows_no_more}
-use Rattle.recovery_plans.specs.Stages.{ends, leaver, moved, tail_of}
-use Rattle.recovery_plans.specs.Table as table
-use Rattle.recovery_plans.specs.Table.{info}
-use Rattle.recovery_plans.specs.Taking.{Fate, Taken, entered, fate, last_looks, lead_under, stepped, taken}
-use Rattle.recovery_plans.proofs.Walking.{Keeps, decisions-keep, kept-along, taken-walks}
-use Rattle.recovery_ends.specs.Ends.{closes}
-use Rattle.recovery_ends.specs.Shapes.{Fits}
-use Rattle.recovery_ends.proofs.Fitting.{IsFit, decides-fits, stepped-fits, went-of}
-use Rattle.recovery_ends.proofs.Shapes.{fits-step, moved-fits, same-head}
-use Rattle.recovery_reasons.specs.Nobody.{finds_nobody}
-use Rattle.recovery_reasons.specs.OnWay.{AllFit, IsOnCourse, IsOnWay, StageOf, TasksOf, Yields, chooses, is_beside}
-use Rattle.recovery_plans.specs.declared.means.Means.{Means}
-use Rattle.recovery_plans.specs.Whys as lost
-use Rattle.recovery_plans.proofs.Leading.{moved-leads}
+use Rattle.recovery_reasons.proofs.Prelude.{All, All-append, All-cons, All-nil, All-tail, AllFit, Bearing, BookState, Bridge, Cause, Contains}
+use Rattle.recovery_reasons.proofs.Prelude.{Contains-append_right, Contains-tail, Coord, Decision, Ending, Exchange, Fate, Fits, IsFit, IsNext}
+use Rattle.recovery_reasons.proofs.Prelude.{IsOnCourse, IsOnWay, Job, Keeps, Line, MayBear, MayDecide, MayEnd, Means, Moment, Observation, Op}
+use Rattle.recovery_reasons.proofs.Prelude.{Position, Purpose, Recovery, ServerNo, SourceState, Stage, StageOf, Taken, Task, TasksOf, Turning, World}
+use Rattle.recovery_reasons.proofs.Prelude.{Yields, begun_recovery, borne, bridge_at, bridge_by, but, by_deed, chooses, closes, decided_by}
+use Rattle.recovery_reasons.proofs.Prelude.{decides-fits, decisions-keep, deed_of, ended_by, ends, entered, eq-eqb, expels, false≢true, fate, fate_of}
+use Rattle.recovery_reasons.proofs.Prelude.{finds_nobody, first_source, fits-step, follows_lead, follows_no_more, ground_of, info, is_beside}
+use Rattle.recovery_reasons.proofs.Prelude.{is_going, is_takeover, kept-along, last_looks, lead_under, leaver, losses_in, lot_by, moved, moved-fits}
+use Rattle.recovery_reasons.proofs.Prelude.{moved-leads, moves_in, releases, rests, same-head, same_Some, seen_of, stepped, stepped-fits, tail_of}
+use Rattle.recovery_reasons.proofs.Prelude.{taken, taken-walks, went-of, why_of, without_stopped}
+use Rattle.recovery_reasons.proofs.Prelude.attempt
+use Rattle.recovery_reasons.proofs.Prelude.by
+use Rattle.recovery_reasons.proofs.Prelude.lost
+use Rattle.recovery_reasons.proofs.Prelude.op
+use Rattle.recovery_reasons.proofs.Prelude.purpose
+use Rattle.recovery_reasons.proofs.Prelude.source
+use Rattle.recovery_reasons.proofs.Prelude.stage
+use Rattle.recovery_reasons.proofs.Prelude.step
+use Rattle.recovery_reasons.proofs.Prelude.table
+use Rattle.recovery_reasons.proofs.Prelude.task
+use Rattle.recovery_reasons.proofs.Prelude.way
 use Rattle.recovery_reasons.proofs.Tasks.{AreBusy, Suits, before, behind, busy-append, busy-map, busy-more, busy-moves, busy-none, chooses-one, fewer, gives, gives-so, meeting_in, meets-back, meets-so, moved-bar, moved-meets, moved-places, moved-yields, no-bridge, no-meeting, pauses-append, plain-stage, restage, some-op, suit, suit-rest, to-yield, unswaps}
 use Rattle.recovery_reasons.proofs.Fates.{FitFate, IsFitLost, fit-fate, fit-late, fit-lots, fit-lots-by, fit-marked, fit-stray, one-more}
 
@@ -101,10 +70,8 @@ made y tasks place fit rests = record { course = record { tasks = tasks; stage =
 -- ---- what is decided
 
 beside-apart : (u : Purpose) (n : ServerNo) → is_beside u n ≡ true → (d : ServerNo) × (u ≡ purpose.Takeover d) × (n.0 ≡ d.0 → ⊥)
-beside-apart purpose.Regroup n h = absurd (false≢true h)
-beside-apart purpose.Master n h = absurd (false≢true h)
-beside-apart (purpose.Intermediate s) n h = absurd (false≢true h)
 beside-apart (purpose.Takeover d) n h = (d, refl, λ same. false≢true (sym (ap not (eq-eqb n.0 d.0 same)) ∙ h))
+beside-apart _ n h = absurd (false≢true h)
 
 -- who goes where the designated one stopped is a task of takeovers
 lead-apart : (u : Purpose) (t : Task) → follows_lead t ≡ true → Suits u t → (s : ServerNo) → u ≡ purpose.Intermediate s → ⊥
@@ -316,17 +283,7 @@ module _ (w : World) (read : ℕ) (now : Moment) (r : Recovery) (o : Op) (rest :
 abbrev is_given : Ending → Bool
 is_given (by.Switches m d) = true
 is_given (by.Ends n) = true
-is_given (by.Rests) = false
-is_given (by.Stays n s) = false
-is_given (by.Loses n y) = false
-is_given (by.Frees n y) = false
-is_given (by.Follows n p) = false
-is_given (by.Marks n) = false
-is_given (by.Leads d) = false
-is_given (by.Trails n x) = false
-is_given (by.Joins n x) = false
-is_given (by.Swaps p q) = false
-is_given (by.Shuts m d) = false
+is_given _ = false
 
 no-tail : (front : List Op) (x : Op) (xs : List Op) → [] ≡ front ++ (x ∷ xs) → ⊥
 no-tail [] x xs e = cc

@@ -1,36 +1,12 @@
 -- What is read in a turn of the replica of a stage.
 use Rattle.std.proofs.Common.{◌≡◌, ℕ, Bool, true, false, cond, List, [], ◌∷◌, ◌++◌, refl, sym, ◌∙◌, ap, subst, Option, Some, None, ◌⊎◌, inl, inr}
-use Rattle.std.proofs.lemmas.Bool.{eq-eqb}
-use Rattle.std.proofs.lemmas.Option.{same_Some}
-use Rattle.orch_base.specs.declared.server.Moment.{Moment}
-use Rattle.orch_base.specs.declared.server.ServerNo.{ServerNo}
-use Rattle.server_words.specs.declared.status.Status.{Status}
-use Rattle.server_model.specs.Gtids.{status}
-use Rattle.server_model.specs.Run.{Exchange}
-use Rattle.server_model.specs.Worlds.{World}
-use Rattle.kept_rows.specs.declared.observation.Observation.{Observation}
-use Rattle.instance_keeper.specs.Book.{BookState}
-use Rattle.kept_rows.specs.Seeing.{seen_in}
-use Rattle.operations.specs.declared.op.Op.{Op}
-use Rattle.operations.specs.declared.op.Op.TheVariants as op
-use Rattle.operations.specs.declared.sight.Sight.{Sight}
-use Rattle.operations.specs.Deeds.{deed_of}
-use Rattle.operations.specs.Jobs.{Job, position_of, seen_of}
-use Rattle.operations.specs.Turns as attempt
-use Rattle.operations.specs.Turns.{Attempt, after_look, by_deed, observed}
-use Rattle.operations.proofs.Sights.{seen-at}
-use Rattle.recovery_plans.specs.Deciding.{ground_of}
-use Rattle.recovery_plans.specs.declared.stage.Stage.{Stage}
-use Rattle.recovery_plans.specs.declared.stage.Stage.TheVariants as stage
-use Rattle.recovery_plans.specs.Recoveries.{Recovery, follows_no_more}
-use Rattle.recovery_plans.specs.Stages.{ends, leaver, moved, tail_of, reads_last}
-use Rattle.recovery_plans.specs.Taking.{entered, stepped}
-use Rattle.recovery_plans.specs.Moves.{Decisions}
-use Rattle.recovery_laws.specs.HeldRecoveries.{HeldRecovery}
-use Rattle.recovery_ends.specs.Shapes.{Fits}
-use Rattle.recovery_ends.proofs.Shapes.{same-head, fits-step, moved-fits}
-use Rattle.recovery_reasons.specs.Reasons.{speaks_of, lead_of}
-use Rattle.recovery_plans.proofs.Leading.{moved-leads}
+use Rattle.recovery_reasons.proofs.Prelude.{Attempt, BookState, Decisions, Exchange, Fits, HeldRecovery, Job, Moment, Observation, Op, Recovery}
+use Rattle.recovery_reasons.proofs.Prelude.{ServerNo, Sight, Stage, Status, World, after_look, by_deed, deed_of, ends, entered, eq-eqb, fits-step}
+use Rattle.recovery_reasons.proofs.Prelude.{follows_no_more, ground_of, lead_of, leaver, moved, moved-fits, moved-leads, observed, position_of}
+use Rattle.recovery_reasons.proofs.Prelude.{reads_last, same-head, same_Some, seen-at, seen_in, seen_of, speaks_of, status, stepped, tail_of}
+use Rattle.recovery_reasons.proofs.Prelude.attempt
+use Rattle.recovery_reasons.proofs.Prelude.op
+use Rattle.recovery_reasons.proofs.Prelude.stage
 
 -- the replica whose reading a stage has just made
 abbrev pub reader_of : Stage → Option ServerNo

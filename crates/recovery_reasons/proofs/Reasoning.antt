@@ -1,84 +1,44 @@
 -- Each entry of the lost was there before, or has its reason in this turn.
-use Rattle.recovery_plans.specs.Named.{spoken_to}
-use Rattle.server_model.specs.Desk.{desk_answer}
-use Rattle.server_model.specs.declared.server.Server.{Server}
-use Rattle.server_words.specs.declared.status.StatusFault.TheVariants as seeing
-use Rattle.server_words.specs.declared.changes.Ask.TheVariants as asking
-use Rattle.server_words.specs.declared.changes.Ask.{Ask}
-use Rattle.server_words.specs.declared.attach.AttachFault.TheVariants as attaching
-use Rattle.server_words.specs.declared.attach.AttachFault.{AttachFault}
-use Rattle.server_words.specs.declared.answers.Unreachable.{Unreachable}
-use Rattle.operations.specs.Targets.{can_attach}
-use Rattle.operations.specs.Deeds as deed
-use Rattle.operations.specs.declared.op.Aim.TheVariants.{ExecOf}
-use Rattle.operations.specs.declared.op.Aim.{Aim}
-use Rattle.gtid_sets.specs.declared.interval.Interval.{Interval}
-use Rattle.binlog_coords.specs.declared.Coord.{Coord}
+use Rattle.recovery_reasons.proofs.Prelude.{Aim, AimsAt, All, All-append, All-cons, All-contains_itself, All-filter, All-head, All-nil, All-push}
+use Rattle.recovery_reasons.proofs.Prelude.{All-tail, AllLost, Ask, AttachFault, Attempt, Below, BelowSuccessor, Beside, BookState, Bridge, Cause}
+use Rattle.recovery_reasons.proofs.Prelude.{Contains, Coord, Decision, Decisions, Deed, Ending, Errant, Exchange, ExecOf, ExplainsTruly, Fact, Fate}
+use Rattle.recovery_reasons.proofs.Prelude.{Fits, Halted, HeldRecovery, HeldRings, Interfered, Interval, IsAsked, IsDue, IsLost, IsOnCourse, IsOnWay}
+use Rattle.recovery_reasons.proofs.Prelude.{IsRefusedOn, IsTrailing, IsTrueOf, IsUnreached, Job, Keeps, Late, Loses, Loss, LostReplica, Lot}
+use Rattle.recovery_reasons.proofs.Prelude.{MayDecide, MayEnd, Means, Miss, Moment, Observation, Op, Purged, Purpose, Reason, Recovery, Running}
+use Rattle.recovery_reasons.proofs.Prelude.{Server, ServerNo, Sight, Speaks, SpeaksWith, Stage, Status, Stopped, Strayed, Unattached, Unmatched}
+use Rattle.recovery_reasons.proofs.Prelude.{Unreachable, Unreached, WaitsFor, WasRead, Way, Why, Without, World, after_answer, after_ask}
+use Rattle.recovery_reasons.proofs.Prelude.{after_attach, after_look, after_status, after_until, after_wait, after_wait_by, aim_of, alone}
+use Rattle.recovery_reasons.proofs.Prelude.{attach_answer_of, before, borne, by_bridge, by_deed, by_match, by_set, can_attach, cause_by, chosen_of}
+use Rattle.recovery_reasons.proofs.Prelude.{crossing_of, decided_by, decides-held, deed_of, desk_answer, ended_by, ends, entered, exec_by, false≢true}
+use Rattle.recovery_reasons.proofs.Prelude.{fate, fate_of, fate_of_drain, fate_of_errant, fate_of_move, fate_of_trail, follows_no_more, ground_of}
+use Rattle.recovery_reasons.proofs.Prelude.{group_of, has_exec, has_own, info, is_at_or_before, is_barred, is_before, is_below, is_look, is_moved}
+use Rattle.recovery_reasons.proofs.Prelude.{is_reached, joined, kept-whole, latest_that, lead_of, leaver, logs_at, loses, loss_of, losses_in}
+use Rattle.recovery_reasons.proofs.Prelude.{lost_on_way, lot_by, lot_by_group, marked, match_fate, match_found, may_lead, met, more_on, move}
+use Rattle.recovery_reasons.proofs.Prelude.{move_fate, moved, next, observed, own_end_of, place_on, position_of, ring_at, rule_at, same-head}
+use Rattle.recovery_reasons.proofs.Prelude.{same_again, same_coord, same_Some, saw, seen_in, seen_of, server_at, shown_of, speaks_of, spoken_to}
+use Rattle.recovery_reasons.proofs.Prelude.{spot_by, spot_seen, status, status_in, stay_of, stepped, tail_of, taken, unfit, until_by, way_below}
+use Rattle.recovery_reasons.proofs.Prelude.{way_by_set, went-of, without_stopped}
+use Rattle.recovery_reasons.proofs.Prelude.asking
+use Rattle.recovery_reasons.proofs.Prelude.attaching
+use Rattle.recovery_reasons.proofs.Prelude.attempt
+use Rattle.recovery_reasons.proofs.Prelude.by
+use Rattle.recovery_reasons.proofs.Prelude.cause
+use Rattle.recovery_reasons.proofs.Prelude.deciding
+use Rattle.recovery_reasons.proofs.Prelude.deed
+use Rattle.recovery_reasons.proofs.Prelude.group
+use Rattle.recovery_reasons.proofs.Prelude.lost
+use Rattle.recovery_reasons.proofs.Prelude.means
+use Rattle.recovery_reasons.proofs.Prelude.op
+use Rattle.recovery_reasons.proofs.Prelude.purpose
+use Rattle.recovery_reasons.proofs.Prelude.seeing
+use Rattle.recovery_reasons.proofs.Prelude.stage
+use Rattle.recovery_reasons.proofs.Prelude.taking
+use Rattle.recovery_reasons.proofs.Prelude.task
+use Rattle.recovery_reasons.proofs.Prelude.way
 use Rattle.std.proofs.Common.{◌≡◌, ℕ, Bool, true, false, cond, not, List, [], ◌∷◌, ◌++◌, map, refl, sym, ◌∙◌, ap, subst, Option, Some, None, ◌&&◌, ◌⊎◌, inl, inr, Ok, Err, Result, ◌+◌}
 use Rattle.std.specs.Prelude.{◌==◌, is_some, option_map, nat_lt}
-use Rattle.std.specs.List.{All, Contains}
-use Rattle.std.proofs.lemmas.Bool.{false≢true}
-use Rattle.std.proofs.lemmas.Option.{same_Some}
-use Rattle.std.proofs.lemmas.List.Elements.{All-nil, All-cons, All-head, All-tail, All-append, All-push, All-filter, All-contains_itself}
-use Rattle.binlog_coords.specs.Log.{is_before, same_coord, is_at_or_before}
-use Rattle.orch_base.specs.declared.server.Moment.{Moment}
-use Rattle.orch_base.specs.declared.server.ServerNo.{ServerNo}
-use Rattle.server_words.specs.declared.status.Status.{Status}
-use Rattle.server_model.specs.Gtids.{status, shown_of, status_in}
-use Rattle.server_model.specs.Run.{Exchange}
-use Rattle.server_model.specs.Worlds.{World, server_at}
-use Rattle.commands.specs.declared.cause.Cause.{Cause}
-use Rattle.commands.specs.declared.cause.Cause.TheVariants as cause
-use Rattle.recovery_plans.specs.declared.why.Miss.{Miss}
-use Rattle.recovery_plans.specs.declared.why.Why.{Why}
-use Rattle.recovery_plans.specs.Whys as lost
-use Rattle.instance_keeper.specs.declared.bridge.Bridge.{Bridge}
-use Rattle.kept_rows.specs.declared.observation.Observation.{Observation}
-use Rattle.instance_keeper.specs.Book.{BookState, rule_at}
-use Rattle.instance_keeper.specs.Bridges.{has_exec, has_own, latest_that, ring_at}
-use Rattle.kept_rows.specs.Seeing.{seen_in}
-use Rattle.operations.specs.declared.op.Op.{Op}
-use Rattle.operations.specs.declared.op.Op.TheVariants as op
-use Rattle.operations.specs.declared.sight.Sight.{Sight}
-use Rattle.operations.specs.Deeds.{deed_of, Deed}
-use Rattle.operations.specs.Jobs.{Job, position_of, seen_of, match_found}
-use Rattle.operations.specs.Turns as attempt
-use Rattle.operations.specs.Turns.{Attempt, after_look, by_deed, observed, aim_of, is_reached, next, saw, is_moved, after_status, after_ask, until_by, after_until, after_wait_by, after_wait, crossing_of, same_again, by_set, by_match, attach_answer_of, after_answer, after_attach, cause_by}
-use Rattle.promotion_rules.specs.Choice.{is_barred}
-use Rattle.replica_groups.specs.declared.groups.Group.TheVariants as group
-use Rattle.replica_groups.specs.Groups.{by_bridge, group_of}
-use Rattle.recovery_plans.specs.declared.means.Means.{Means}
-use Rattle.recovery_plans.specs.declared.means.Means.TheVariants as means
-use Rattle.recovery_plans.specs.declared.outcome.LostReplica.{LostReplica}
-use Rattle.recovery_plans.specs.declared.outcome.Stopped.{Stopped}
-use Rattle.recovery_plans.specs.declared.purpose.Purpose.{Purpose}
-use Rattle.recovery_plans.specs.declared.purpose.Purpose.TheVariants as purpose
-use Rattle.recovery_plans.specs.declared.stage.Stage.{Stage}
-use Rattle.recovery_plans.specs.declared.stage.Stage.TheVariants as stage
-use Rattle.recovery_plans.specs.declared.task.Task.TheVariants as task
-use Rattle.recovery_plans.specs.declared.task.Way.{Way}
-use Rattle.recovery_plans.specs.declared.task.Way.TheVariants as way
-use Rattle.recovery_plans.specs.Recoveries.{Recovery, follows_no_more, loses}
-use Rattle.recovery_plans.specs.Stages.{before, ends, leaver, move, moved, is_look, tail_of}
-use Rattle.recovery_plans.specs.Table.{alone, info, more_on}
-use Rattle.recovery_plans.specs.Deciding as deciding
-use Rattle.recovery_plans.specs.Deciding.{Lot, ground_of, logs_at, may_lead, chosen_of, lot_by, lot_by_group, own_end_of, stay_of, losses_in, without_stopped, unfit, way_by_set, way_below, stay_of}
-use Rattle.recovery_plans.specs.Taking as taking
-use Rattle.recovery_plans.specs.Taking.{Fate, Loss, spot_seen, is_below, marked, entered, stepped, fate_of_drain, fate_of_trail, lost_on_way, fate_of_errant, fate_of_move, fate, loss_of, match_fate, move_fate, met, taken, exec_by, spot_by, place_on}
-use Rattle.recovery_plans.specs.Moves as by
-use Rattle.recovery_plans.specs.Moves.{Decision, Ending, MayDecide, MayEnd, WasRead, borne, decided_by, ended_by, fate_of, Decisions}
-use Rattle.recovery_plans.proofs.Walking.{Keeps, kept-whole, joined}
-use Rattle.recovery_laws.specs.HeldRecoveries.{HeldRecovery}
-use Rattle.recovery_laws.specs.Rings.{HeldRings}
-use Rattle.recovery_ends.specs.Shapes.{Fits}
-use Rattle.recovery_laws.proofs.Deciding.{decides-held}
-use Rattle.recovery_ends.proofs.Fitting.{went-of}
-use Rattle.recovery_ends.proofs.Shapes.{same-head}
-use Rattle.recovery_reasons.specs.Causes.{IsTrueOf, IsUnreached}
-use Rattle.recovery_reasons.specs.Reasons.{BelowSuccessor, AllLost, speaks_of, lead_of, Speaks, SpeaksWith, ExplainsTruly, WaitsFor, IsAsked, AimsAt, IsDue, IsTrailing, Reason, IsRefusedOn, Beside, Without, Below, Unreached, Running, Interfered, Errant, Purged, Unmatched, Unattached, Strayed, Halted, Late, Fact, IsLost, Loses}
 use Rattle.recovery_reasons.proofs.Causing.{StopsTruly, deed-true, match-cause}
 use Rattle.recovery_reasons.proofs.Coordinates.{before-other}
-use Rattle.recovery_reasons.specs.OnWay.{IsOnCourse, IsOnWay}
 use Rattle.recovery_reasons.proofs.OnWay.{Fine, decides-fine, still-on, stepped-course}
 use Rattle.recovery_reasons.proofs.Readings.{Reading, fits-of, reader_of, stepped-reading}
 use Rattle.recovery_reasons.proofs.Speaking.{decides-speaks, due-speaks, stepped-speaks, due-waits, due-asked, due-looks, due-goes, match-refused, move-refused}
@@ -89,18 +49,7 @@ use Rattle.recovery_reasons.proofs.Choosing.{none-may}
 -- a wait that is spent saw the replica before where it was to go
 abbrev IsLate : World → ServerNo → Option Coord → Cause → Type 0
 IsLate w n to (cause.WaitSpent m) = (s : Status) × (seen_in (status w n.0) ≡ Some s) × (is_reached to s.exec ≡ false)
-IsLate w n to (cause.Unreachable m) = Unit {0}
-IsLate w n to (cause.Interfered m expected found) = Unit {0}
-IsLate w n to (cause.Running m) = Unit {0}
-IsLate w n to (cause.Loop m) = Unit {0}
-IsLate w n to (cause.Errant m set) = Unit {0}
-IsLate w n to (cause.Moved m source) = Unit {0}
-IsLate w n to (cause.Reachable m) = Unit {0}
-IsLate w n to cause.NoCandidate = Unit {0}
-IsLate w n to (cause.Purged m first) = Unit {0}
-IsLate w n to (cause.NoMark m) = Unit {0}
-IsLate w n to (cause.Mismatch m entry) = Unit {0}
-IsLate w n to (cause.HookFailed number exit) = Unit {0}
+IsLate w n to _ = Unit {0}
 
 abbrev StopsLate : World → ServerNo → Option Coord → Attempt → Type 0
 StopsLate w n to (attempt.Goes o es k) = Unit {0}
@@ -138,12 +87,7 @@ module _ (w : World) (j : Job) (rest : List Op) (n : ServerNo) (to : Option Coor
 
   fault-late : (f : AttachFault) → IsLate w n to (cause_by n f)
   fault-late attaching.Unreachable = tt
-  fault-late (attaching.Running at) = tt
-  fault-late (attaching.Interfered expected found) = tt
-  fault-late attaching.Loop = tt
-  fault-late (attaching.Errant set) = tt
-  fault-late (attaching.Purged first) = tt
-  fault-late attaching.Memory = tt
+  fault-late _ = tt
 
   attach-late : (o : Option Exchange) → StopsLate w n to (after_attach w j rest n o)
   attach-late None = tt
@@ -186,18 +130,7 @@ deed-late w read now j rest d n x on waits = go d on waits
 -- a status is no wait
 abbrev IsUnspent : Cause → Type 0
 IsUnspent (cause.WaitSpent m) = ⊥
-IsUnspent (cause.Unreachable m) = Unit {0}
-IsUnspent (cause.Interfered m expected found) = Unit {0}
-IsUnspent (cause.Running m) = Unit {0}
-IsUnspent (cause.Loop m) = Unit {0}
-IsUnspent (cause.Errant m set) = Unit {0}
-IsUnspent (cause.Moved m source) = Unit {0}
-IsUnspent (cause.Reachable m) = Unit {0}
-IsUnspent cause.NoCandidate = Unit {0}
-IsUnspent (cause.Purged m first) = Unit {0}
-IsUnspent (cause.NoMark m) = Unit {0}
-IsUnspent (cause.Mismatch m entry) = Unit {0}
-IsUnspent (cause.HookFailed number exit) = Unit {0}
+IsUnspent _ = Unit {0}
 
 abbrev StopsUnspent : Attempt → Type 0
 StopsUnspent (attempt.Goes o es k) = Unit {0}
@@ -215,16 +148,7 @@ look-unspent w read now j rest (deed.Look n from) h = seen (seen_in (status w n.
         go true = tt
         go false = tt
 look-unspent w read now j rest (deed.Request n a) h = absurd (false≢true h)
-look-unspent w read now j rest (deed.Until n to) h = absurd (false≢true h)
-look-unspent w read now j rest (deed.Await n to) h = absurd (false≢true h)
-look-unspent w read now j rest (deed.AwaitSet n m) h = absurd (false≢true h)
-look-unspent w read now j rest (deed.Settle n) h = absurd (false≢true h)
-look-unspent w read now j rest (deed.Cross c a b) h = absurd (false≢true h)
-look-unspent w read now j rest (deed.Same n) h = absurd (false≢true h)
-look-unspent w read now j rest (deed.Auto n m) h = absurd (false≢true h)
-look-unspent w read now j rest (deed.Match n m every) h = absurd (false≢true h)
-look-unspent w read now j rest (deed.CrossMatch n m) h = absurd (false≢true h)
-look-unspent w read now j rest (deed.Finish lines) h = absurd (false≢true h)
+look-unspent w read now j rest _ h = absurd (false≢true h)
 
 -- what is asked of a server stops a job where the server isn't reached
 abbrev StopsUnreached : World → ServerNo → Attempt → Type 0
@@ -242,17 +166,7 @@ asked-unreached w read now j rest d n on asked = go d on asked
     go : (y : Deed) → spoken_to y ≡ Some n → IsAsked y → StopsUnreached w n (by_deed w read now j rest y)
     go (deed.Request m a) e h =
         subst (λ (k : ServerNo). StopsUnreached w n (by_deed w read now j rest (deed.Request k a))) (sym (same_Some m n e)) (ask a (desk_answer (server_at w n.0)) refl)
-    go (deed.Look m from) e h = absurd h
-    go (deed.Until m aim) e h = absurd h
-    go (deed.Await m aim) e h = absurd h
-    go (deed.AwaitSet m k) e h = absurd h
-    go (deed.Settle m) e h = absurd h
-    go (deed.Cross c a b) e h = absurd h
-    go (deed.Same m) e h = absurd h
-    go (deed.Auto m k) e h = absurd h
-    go (deed.Match m k every) e h = absurd h
-    go (deed.CrossMatch m k) e h = absurd h
-    go (deed.Finish lines) e h = absurd h
+    go _ e h = absurd h
 
 -- the executed coordinate that a status shows is the server's
 shown-exec : (w : World) (n : ℕ) (s : Status) → seen_in (status w n) ≡ Some s → s.exec ≡ exec_by (server_at w n)
@@ -434,9 +348,7 @@ module _ (w : World) (b : BookState) (now : Moment) (r : Recovery) (P : Fact →
 
       by-purpose : (u : Purpose) (n : ServerNo) (y : Why) → Reason w b now x n y → Met (lost_on_way u n y)
       by-purpose purpose.Regroup n y h = missed n y h
-      by-purpose purpose.Master n y h = missed n y h
-      by-purpose (purpose.Intermediate s) n y h = missed n y h
-      by-purpose (purpose.Takeover d) n y h = missed n y h
+      by-purpose _ n y h = missed n y h
 
       -- the cause is true of the stage's replica
       truth : (n : ServerNo) → speaks_of x.stage ≡ Some n → IsTrueOf w n c
@@ -448,9 +360,7 @@ module _ (w : World) (b : BookState) (now : Moment) (r : Recovery) (P : Fact →
 
       errant-met : (n : ServerNo) (by : Way) (set : List Interval) → x.stage ≡ stage.Move n by → IsRefusedOn w n by (attaching.Errant set) → Met (fate_of_errant x.purpose n by)
       errant-met n (way.Auto to exec) set at refused = by-purpose x.purpose n (lost.ahead exec) (Errant to exec set at refused)
-      errant-met n (way.Down y) set at refused = good
-      errant-met n (way.Up y) set at refused = good
-      errant-met n (way.Match to exec every) set at refused = good
+      errant-met n _ set at refused = good
 
       move-met : (n : ServerNo) (by : Way) → x.stage ≡ stage.Move n by → alone by n ≡ Some n → (f : AttachFault) → IsRefusedOn w n by f → IsTrueOf w n (cause_by n f)
           → Met (move_fate w x.purpose n by (loss_of (cause_by n f)))

@@ -1,32 +1,16 @@
 -- An operation reads no server but the one that it speaks with.
 use Rattle.std.proofs.Common.{◌≡◌, ℕ, ◌+◌, Bool, true, false, cond, List, [], refl, sym, ◌∙◌, ap, Option, Some, None, Ok, Err, Result}
 use Rattle.std.specs.Prelude.{nat_lt}
-use Rattle.std.proofs.lemmas.Bool.{ne_eqb}
-use Rattle.std.proofs.lemmas.Option.{same_Some}
-use Rattle.binlog_coords.specs.declared.Coord.{Coord}
-use Rattle.orch_base.specs.declared.server.Moment.{Moment}
-use Rattle.orch_base.specs.declared.server.ServerNo.{ServerNo}
-use Rattle.server_words.specs.declared.answers.Unreachable.{Unreachable}
-use Rattle.server_words.specs.declared.attach.AttachFault.{AttachFault}
-use Rattle.server_words.specs.declared.changes.Ask.{Ask}
-use Rattle.server_words.specs.declared.changes.Ask.TheVariants as asking
-use Rattle.server_words.specs.declared.status.Status.{Status}
-use Rattle.server_model.specs.Desk.{desk_answer}
-use Rattle.server_model.specs.Gtids.{status}
-use Rattle.server_model.specs.Run.{Exchange}
-use Rattle.server_model.specs.Worlds.{World, server_at}
-use Rattle.commands.specs.declared.cause.Cause.TheVariants as cause
-use Rattle.kept_rows.specs.declared.observation.Observation.{Observation}
-use Rattle.kept_rows.specs.Seeing.{seen_in}
-use Rattle.operations.specs.declared.op.Op.{Op}
-use Rattle.operations.specs.Deeds as deed
-use Rattle.operations.specs.Deeds.{Deed}
-use Rattle.operations.specs.Jobs.{Job, position_of, seen_of, with_seen, match_found}
-use Rattle.operations.specs.Targets.{can_attach}
-use Rattle.operations.specs.Turns as attempt
-use Rattle.operations.specs.Turns.{Attempt, next, saw, observed, is_moved, after_status, after_look, after_ask, aim_of, is_reached, until_by, after_until, after_wait_by, after_wait, holds_seen, settles, crossing_of, same_again, by_set, by_match, attach_answer_of, after_answer, after_attach, by_deed}
-use Rattle.operations.proofs.Sights.{seen-at}
-use Rattle.recovery_plans.specs.Named.{spoken_to}
+use Rattle.recovery_reasons.proofs.Prelude.{Ask, AttachFault, Attempt, Coord, Deed, Exchange, Job, Moment, Observation, Op, ServerNo, Status}
+use Rattle.recovery_reasons.proofs.Prelude.{Unreachable, World, after_answer, after_ask, after_attach, after_look, after_status, after_until}
+use Rattle.recovery_reasons.proofs.Prelude.{after_wait, after_wait_by, aim_of, attach_answer_of, by_deed, by_match, by_set, can_attach, crossing_of}
+use Rattle.recovery_reasons.proofs.Prelude.{desk_answer, holds_seen, is_moved, is_reached, match_found, ne_eqb, next, observed, position_of}
+use Rattle.recovery_reasons.proofs.Prelude.{same_again, same_Some, saw, seen-at, seen_in, seen_of, server_at, settles, spoken_to, status, until_by}
+use Rattle.recovery_reasons.proofs.Prelude.{with_seen}
+use Rattle.recovery_reasons.proofs.Prelude.asking
+use Rattle.recovery_reasons.proofs.Prelude.attempt
+use Rattle.recovery_reasons.proofs.Prelude.cause
+use Rattle.recovery_reasons.proofs.Prelude.deed
 
 -- what was seen of a server stays
 abbrev pub SeesOnly : Job → ℕ → Attempt → Type 0

@@ -1,60 +1,24 @@
 -- Each operation of a stage that places a replica speaks with that replica.
-use Rattle.operations.proofs.Sights.{seen-at}
-use Rattle.operations.specs.declared.sight.Position.{Position}
-use Rattle.operations.specs.declared.sight.Sight.{Sight}
+use Rattle.recovery_reasons.proofs.Prelude.{AimsAt, All, All-cons, All-head, All-nil, All-tail, Attach, AttachAuto, AttachFault, Attempt, Bearing}
+use Rattle.recovery_reasons.proofs.Prelude.{BookState, Bridge, Cause, Coord, Decision, Ending, Exchange, Fits, GoesBy, HeldRecovery, HeldRings}
+use Rattle.recovery_reasons.proofs.Prelude.{IsAsked, IsRefusedOn, Job, Keeps, Match, MatchFault, MayDecide, MayEnd, Means, Moment, Observation, Op}
+use Rattle.recovery_reasons.proofs.Prelude.{Position, Purpose, Recovery, ServerNo, ShowsWay, Sight, Speaks, SpeaksWith, Spot, Stage, WaitsFor, Way}
+use Rattle.recovery_reasons.proofs.Prelude.{WentOn, World, after_answer, after_attach, after_match, alone, attach_answer_of, before, begun_recovery}
+use Rattle.recovery_reasons.proofs.Prelude.{borne, bridge_at, by_deed, by_match, by_set, can_attach, cause_by, crossed, crossing_of, decided_by}
+use Rattle.recovery_reasons.proofs.Prelude.{decides-held, deed_of, drain, ended_by, ends, entered, eq-eqb, false≢true, fate_of, fits-step}
+use Rattle.recovery_reasons.proofs.Prelude.{follows_no_more, ground_of, is_going, is_look, is_waiting, kept-along, lead_of, leaver, match_found}
+use Rattle.recovery_reasons.proofs.Prelude.{match_logs, more_on, move, moved, moved-fits, moved-leads, moving, same-head, same-tail, same_Some}
+use Rattle.recovery_reasons.proofs.Prelude.{seen-at, seen_of, server_at, sight_of, speaks_of, spoken_to, standing_at, stepped, tail_of, taken, trail}
+use Rattle.recovery_reasons.proofs.Prelude.{went-of, with_bridge, with_way}
+use Rattle.recovery_reasons.proofs.Prelude.attempt
+use Rattle.recovery_reasons.proofs.Prelude.by
+use Rattle.recovery_reasons.proofs.Prelude.cross
+use Rattle.recovery_reasons.proofs.Prelude.op
+use Rattle.recovery_reasons.proofs.Prelude.purpose
+use Rattle.recovery_reasons.proofs.Prelude.spot
+use Rattle.recovery_reasons.proofs.Prelude.stage
+use Rattle.recovery_reasons.proofs.Prelude.way
 use Rattle.std.proofs.Common.{◌≡◌, ℕ, Bool, true, false, cond, List, [], ◌∷◌, ◌++◌, arith, refl, sym, ◌∙◌, ap, subst, Option, Some, None, option_map, ◌⊎◌, inl, inr, Ok, Err, Result}
-use Rattle.std.specs.List.{All}
-use Rattle.std.proofs.lemmas.Bool.{eq-eqb, false≢true}
-use Rattle.std.proofs.lemmas.Option.{same_Some}
-use Rattle.std.proofs.lemmas.List.Elements.{All-nil, All-cons, All-head, All-tail}
-use Rattle.orch_base.specs.declared.server.Moment.{Moment}
-use Rattle.orch_base.specs.declared.server.ServerNo.{ServerNo}
-use Rattle.server_model.specs.Run.{Exchange, Attach, AttachAuto}
-use Rattle.binlog_coords.specs.declared.Coord.{Coord}
-use Rattle.server_words.specs.declared.attach.Spot.{Spot}
-use Rattle.server_model.specs.Worlds.{World, server_at}
-use Rattle.instance_keeper.specs.declared.bridge.Bridge.{Bridge}
-use Rattle.kept_rows.specs.declared.observation.Observation.{Observation}
-use Rattle.instance_keeper.specs.Book.{BookState}
-use Rattle.operations.specs.declared.op.Op.{Op}
-use Rattle.operations.specs.declared.op.Op.TheVariants as op
-use Rattle.operations.specs.Deeds.{deed_of}
-use Rattle.operations.specs.declared.matching.Match.{Match}
-use Rattle.operations.specs.declared.matching.MatchFault.{MatchFault}
-use Rattle.operations.specs.Jobs.{Job, match_found, seen_of}
-use Rattle.operations.specs.Matching.{match_logs, standing_at}
-use Rattle.operations.specs.Turns as attempt
-use Rattle.commands.specs.declared.cause.Cause.{Cause}
-use Rattle.server_words.specs.declared.attach.Spot.TheVariants as spot
-use Rattle.server_words.specs.declared.attach.AttachFault.{AttachFault}
-use Rattle.operations.specs.declared.op.Crossing.TheVariants as cross
-use Rattle.operations.specs.Targets.{can_attach}
-use Rattle.operations.specs.Turns.{Attempt, by_deed, is_going, after_answer, after_attach, after_match, attach_answer_of, bridge_at, by_match, by_set, cause_by, crossed, crossing_of}
-use Rattle.recovery_plans.specs.declared.means.Means.{Means}
-use Rattle.recovery_plans.specs.declared.purpose.Purpose.{Purpose}
-use Rattle.recovery_plans.specs.declared.purpose.Purpose.TheVariants as purpose
-use Rattle.recovery_plans.specs.declared.stage.Stage.{Stage}
-use Rattle.recovery_plans.specs.declared.stage.Stage.TheVariants as stage
-use Rattle.recovery_plans.specs.declared.task.Way.{Way}
-use Rattle.recovery_plans.specs.declared.task.Way.TheVariants as way
-use Rattle.recovery_plans.specs.Beginning.{begun_recovery}
-use Rattle.recovery_plans.specs.Named.{spoken_to}
-use Rattle.recovery_plans.specs.Recoveries.{Recovery, follows_no_more, sight_of}
-use Rattle.recovery_plans.specs.Stages.{before, drain, ends, leaver, move, moved, trail, with_bridge, is_look, tail_of, with_way}
-use Rattle.recovery_plans.specs.Table.{alone, more_on}
-use Rattle.recovery_plans.specs.Deciding.{ground_of, moving}
-use Rattle.recovery_plans.specs.Taking.{entered, stepped, is_waiting, taken}
-use Rattle.recovery_plans.specs.Moves as by
-use Rattle.recovery_plans.specs.Moves.{Bearing, Decision, Ending, MayDecide, MayEnd, borne, decided_by, ended_by, fate_of}
-use Rattle.recovery_plans.proofs.Leading.{moved-leads}
-use Rattle.recovery_plans.proofs.Walking.{Keeps, kept-along}
-use Rattle.recovery_laws.specs.HeldRecoveries.{HeldRecovery}
-use Rattle.recovery_laws.specs.Rings.{HeldRings}
-use Rattle.recovery_ends.specs.Shapes.{Fits}
-use Rattle.recovery_laws.proofs.Deciding.{decides-held}
-use Rattle.recovery_ends.proofs.Fitting.{went-of}
-use Rattle.recovery_ends.proofs.Shapes.{WentOn, fits-step, moved-fits, same-tail, same-head}
-use Rattle.recovery_reasons.specs.Reasons.{speaks_of, lead_of, WaitsFor, IsAsked, AimsAt, Speaks, SpeaksWith, ShowsWay, GoesBy, IsRefusedOn}
 use Rattle.recovery_reasons.proofs.OnWay.{begun-way, taken-way}
 use Rattle.recovery_reasons.proofs.Sights.{SeesOnly, deed-sees}
 
@@ -291,26 +255,20 @@ match-unwaited j rest n m at (Ok c) = refl
 match-unwaited j rest n m at (Err f) = tt
 
 before-unwaited : (w : World) (read : ℕ) (now : Moment) (j : Job) (rest : List Op) (n : ServerNo) (by : Way) (o : Op) → before by n ≡ o ∷ [] → Unwaited (by_deed w read now j rest (deed_of o))
-before-unwaited w read now j rest n (way.Down b) o e = cc
-before-unwaited w read now j rest n (way.Up b) o e = cc
-before-unwaited w read now j rest n (way.Auto to exec) o e = cc
 before-unwaited w read now j rest n (way.Match to exec every) o e =
     subst (λ (x : Op). Unwaited (by_deed w read now j rest (deed_of x))) (same-head (op.Match n to every) o [] [] e)
     (match-unwaited j rest n to (standing_at (server_at w n.0)) (match_logs w n to every))
+before-unwaited w read now j rest n _ o e = cc
 
 -- it goes by what was seen in whatever the job saw
 before-shows : (by : Way) (n : ServerNo) (o : Op) (xs : List Sight) → before by n ≡ o ∷ [] → ShowsWay xs by
-before-shows (way.Down b) n o xs e = cc
-before-shows (way.Up b) n o xs e = cc
-before-shows (way.Auto to exec) n o xs e = cc
 before-shows (way.Match to exec every) n o xs e = tt
+before-shows _ n o xs e = cc
 
 -- it ends its stage
 move-ends : (n : ServerNo) (by : Way) → ends (stage.Move n by) (deed_of (move by n)) ≡ true
 move-ends n (way.Down b) = refl
-move-ends n (way.Up b) = refl
-move-ends n (way.Auto to exec) = refl
-move-ends n (way.Match to exec every) = refl
+move-ends n _ = refl
 
 -- what stops a job whose attachment is refused
 record Refuses (w : World) (n : ServerNo) (c : Cause) (x : Exchange) : Type 0 where

@@ -1,33 +1,17 @@
 -- Tasks and stages of a recovery on its way.
 use Rattle.std.proofs.Common.{◌≡◌, ◌+◌, ◌≤◌, Bool, true, false, List, [], ◌∷◌, ◌++◌, map, refl, sym, ◌∙◌, ap, Option, Some, None, ◌⊎◌, inl, inr, arith}
-use Rattle.std.specs.List.{All, Contains}
-use Rattle.std.proofs.lemmas.Bool.{false≢true}
-use Rattle.std.proofs.lemmas.Option.{same_Some}
-use Rattle.std.proofs.lemmas.List.Elements.{All-append, All-cons, All-head, All-nil, All-tail, Contains-append_right}
-use Rattle.std.proofs.lemmas.Map.Made.{Contains-tail}
-use Rattle.orch_base.specs.declared.server.ServerNo.{ServerNo}
-use Rattle.commands.specs.declared.line.Line.{Line}
-use Rattle.instance_keeper.specs.declared.bridge.Bridge.{Bridge}
-use Rattle.operations.specs.declared.op.Op.{Op}
-use Rattle.operations.specs.declared.op.Op.TheVariants as op
-use Rattle.recovery_plans.specs.declared.outcome.Stopped.{Stopped}
-use Rattle.recovery_plans.specs.declared.purpose.Purpose.{Purpose}
-use Rattle.recovery_plans.specs.declared.purpose.Purpose.TheVariants as purpose
-use Rattle.recovery_plans.specs.declared.stage.Stage.{Stage}
-use Rattle.recovery_plans.specs.declared.stage.Stage.TheVariants as stage
-use Rattle.recovery_plans.specs.declared.task.Task.{Task}
-use Rattle.recovery_plans.specs.declared.task.Task.TheVariants as task
-use Rattle.recovery_plans.specs.declared.task.Way.{Way}
-use Rattle.recovery_plans.specs.declared.task.Way.TheVariants as way
-use Rattle.recovery_plans.specs.Beginning.{is_takeover}
-use Rattle.recovery_plans.specs.Deciding as deciding
-use Rattle.recovery_plans.specs.Deciding.{Lot, move_of, moves_in}
-use Rattle.recovery_plans.specs.Stages.{moved}
-use Rattle.recovery_plans.specs.Table as table
-use Rattle.recovery_plans.specs.Table.{info, move}
-use Rattle.recovery_ends.specs.Ends.{closes}
-use Rattle.recovery_reasons.specs.OnWay.{IsMeeting, StageOf, TasksOf, Yields, chooses, pauses, pauses_in, pauses_last, suits}
-use Rattle.recovery_plans.specs.Table.{before as before_op}
+use Rattle.recovery_reasons.proofs.Prelude.{All, All-append, All-cons, All-head, All-nil, All-tail, Bridge, Contains, Contains-append_right}
+use Rattle.recovery_reasons.proofs.Prelude.{Contains-tail, IsMeeting, Line, Lot, Op, Purpose, ServerNo, Stage, StageOf, Stopped, Task, TasksOf, Way}
+use Rattle.recovery_reasons.proofs.Prelude.{Yields, chooses, closes, false≢true, info, is_takeover, move_of, moved, moves_in, pauses, pauses_in}
+use Rattle.recovery_reasons.proofs.Prelude.{pauses_last, same_Some, suits}
+use Rattle.recovery_reasons.proofs.Prelude.table.{before as before_op, move}
+use Rattle.recovery_reasons.proofs.Prelude.deciding
+use Rattle.recovery_reasons.proofs.Prelude.op
+use Rattle.recovery_reasons.proofs.Prelude.purpose
+use Rattle.recovery_reasons.proofs.Prelude.stage
+use Rattle.recovery_reasons.proofs.Prelude.table
+use Rattle.recovery_reasons.proofs.Prelude.task
+use Rattle.recovery_reasons.proofs.Prelude.way
 
 -- ---- stages
 
@@ -125,11 +109,8 @@ choosing-apart (purpose.Intermediate s) c t = false≢true c
 choosing-apart (purpose.Takeover d) c t = false≢true c
 
 less-last : (u : Purpose) (swaps : Bool) → pauses_last u false ≤ pauses_last u swaps
-less-last purpose.Regroup swaps = omega arith
 less-last purpose.Master true = omega arith
-less-last purpose.Master false = omega arith
-less-last (purpose.Intermediate s) swaps = omega arith
-less-last (purpose.Takeover d) swaps = omega arith
+less-last _ _ = omega arith
 
 pub pauses-append : (ts us : List Task) → pauses_in (ts ++ us) ≡ pauses_in ts + pauses_in us
 pauses-append [] us = omega arith
@@ -240,6 +221,4 @@ chooses-one u chosen swaps s ts us p h busy k =
 -- one that goes some way has operations
 pub some-op : (n : ServerNo) (by : Way) → before_op by n ++ move by n ∷ op.Start n ∷ [] ≡ [] → ⊥
 some-op n (way.Down b) e = cc
-some-op n (way.Up b) e = cc
-some-op n (way.Auto to exec) e = cc
-some-op n (way.Match to exec every) e = cc
+some-op n _ e = cc

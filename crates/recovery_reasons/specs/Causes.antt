@@ -1,22 +1,10 @@
 -- What a job's cause says of the world in which an operation stopped it.
 use Rattle.std.specs.Prelude.{◌≡◌, ℕ, true, false, ◌||◌, ◌⊎◌, List, Some, Err}
-use Rattle.binlog_coords.specs.declared.Coord.{Coord}
-use Rattle.orch_base.specs.declared.server.ServerNo.{ServerNo}
-use Rattle.gtid_sets.specs.declared.interval.Interval.{Interval}
-use Rattle.server_words.specs.declared.attach.AttachFault.TheVariants as attaching
-use Rattle.server_words.specs.declared.attach.Spot.{Spot}
-use Rattle.server_words.specs.declared.status.Status.{Status}
-use Rattle.kept_rows.specs.Seeing.{seen_in}
-use Rattle.server_model.specs.declared.server.Server.{Server}
-use Rattle.server_model.specs.Attach.{attach_answer, live_spot, same_spot}
-use Rattle.server_model.specs.Desk.{desk_answer}
-use Rattle.server_model.specs.Gtids.{status, attach_auto_answer}
-use Rattle.server_model.specs.Worlds.{World, server_at}
-use Rattle.commands.specs.declared.cause.Cause.{Cause}
-use Rattle.commands.specs.declared.cause.Cause.TheVariants as cause
-use Rattle.operations.specs.declared.matching.MatchFault.{MatchFault}
-use Rattle.operations.specs.Matching.{match_logs}
-use Rattle.operations.specs.Turns.{cause_of_match}
+use Rattle.recovery_reasons.specs.Prelude.{Cause, Coord, Interval, MatchFault, Server, ServerNo, Spot, Status, World, attach_answer}
+use Rattle.recovery_reasons.specs.Prelude.{attach_auto_answer, cause_of_match, desk_answer, live_spot, match_logs, same_spot, seen_in, server_at}
+use Rattle.recovery_reasons.specs.Prelude.{status}
+use Rattle.recovery_reasons.specs.Prelude.attaching
+use Rattle.recovery_reasons.specs.Prelude.cause
 
 abbrev pub IsUnreached : World → ℕ → Type 0
 IsUnreached w n = desk_answer (server_at w n) ≡ Err (record {})

@@ -1,3 +1,4 @@
+pub mod Prelude
 pub mod Causes
 pub mod OnWay
 pub mod Reasons

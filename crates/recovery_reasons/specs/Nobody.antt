@@ -1,14 +1,9 @@
 -- Why a recovery finds nobody who takes the failed server's place.
 use Rattle.std.specs.Prelude.{◌≡◌, Bool, true, false, List, None, All}
-use Rattle.orch_base.specs.declared.server.Moment.{Moment}
-use Rattle.server_model.specs.Worlds.{World}
-use Rattle.instance_keeper.specs.Book.{BookState}
-use Rattle.recovery_plans.specs.declared.task.Task.{Task}
-use Rattle.recovery_plans.specs.declared.task.Task.TheVariants as task
-use Rattle.recovery_plans.specs.Deciding.{ground_of, may_lead}
-use Rattle.recovery_plans.specs.Moves as move
-use Rattle.recovery_plans.specs.Moves.{Decision, Decisions, IsNext, MayDecide, decided_by, follows_lead}
-use Rattle.recovery_plans.specs.Recoveries.{Recovery}
+use Rattle.recovery_reasons.specs.Prelude.{BookState, Decision, Decisions, IsNext, MayDecide, Moment, Recovery, Task, World, decided_by, follows_lead}
+use Rattle.recovery_reasons.specs.Prelude.{ground_of, may_lead}
+use Rattle.recovery_reasons.specs.Prelude.move
+use Rattle.recovery_reasons.specs.Prelude.task
 
 -- nobody is found who takes the failed server's place
 abbrev pub finds_nobody : Decision → Bool

@@ -1,25 +1,14 @@
 -- A recovery on its way: what its tasks, its stage and those that it has lost so far have in common.
 use Rattle.std.specs.Prelude.{◌≡◌, ℕ, ◌+◌, ◌≤◌, Bool, true, false, ◌==◌, not, if◌then◌else◌, List, [], ◌∷◌, Option, Some, None, All, ◌⊎◌}
-use Rattle.std.specs.List.{Contains}
-use Rattle.orch_base.specs.declared.server.ServerNo.{ServerNo}
-use Rattle.commands.specs.declared.line.Lost.TheVariants as lost
-use Rattle.instance_keeper.specs.declared.bridge.Bridge.{Bridge}
-use Rattle.operations.specs.declared.op.Op.{Op}
-use Rattle.operations.specs.declared.op.Op.TheVariants as op
-use Rattle.recovery_ends.specs.Ends.{closes}
-use Rattle.recovery_plans.specs.declared.outcome.LostReplica.{LostReplica}
-use Rattle.recovery_plans.specs.declared.purpose.Purpose.{Purpose}
-use Rattle.recovery_plans.specs.declared.purpose.Purpose.TheVariants as purpose
-use Rattle.recovery_plans.specs.declared.stage.Stage.{Stage}
-use Rattle.recovery_plans.specs.declared.stage.Stage.TheVariants as stage
-use Rattle.recovery_plans.specs.declared.task.Task.{Task}
-use Rattle.recovery_plans.specs.declared.task.Task.TheVariants as task
-use Rattle.recovery_plans.specs.declared.why.Why.{Why}
-use Rattle.recovery_plans.specs.declared.why.Why.TheVariants as why
-use Rattle.recovery_plans.specs.Beginning.{is_takeover}
-use Rattle.recovery_plans.specs.Recoveries.{Recovery}
-use Rattle.recovery_plans.specs.Table as table
-use Rattle.recovery_plans.specs.Table.{info}
+use Rattle.recovery_reasons.specs.Prelude.{Bridge, Contains, LostReplica, Op, Purpose, Recovery, ServerNo, Stage, Task, Why, closes, info}
+use Rattle.recovery_reasons.specs.Prelude.{is_takeover}
+use Rattle.recovery_reasons.specs.Prelude.lost
+use Rattle.recovery_reasons.specs.Prelude.op
+use Rattle.recovery_reasons.specs.Prelude.purpose
+use Rattle.recovery_reasons.specs.Prelude.stage
+use Rattle.recovery_reasons.specs.Prelude.table
+use Rattle.recovery_reasons.specs.Prelude.task
+use Rattle.recovery_reasons.specs.Prelude.why
 
 -- ---- purposes
 

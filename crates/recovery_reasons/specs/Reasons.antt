@@ -1,54 +1,23 @@
 -- Why a replica is lost.
 use Rattle.std.specs.Prelude.{◌≡◌, ℕ, Bool, true, false, ◌&&◌, List, [], ◌∷◌, ◌++◌, Option, Some, None, Err, All, is_some, option_map, ◌⊎◌, filter, map}
-use Rattle.binlog_coords.specs.declared.Coord.{Coord}
-use Rattle.binlog_coords.specs.Log.{is_at_or_before, is_before, same_coord}
-use Rattle.gtid_sets.specs.declared.interval.Interval.{Interval}
-use Rattle.orch_base.specs.declared.server.Moment.{Moment}
-use Rattle.orch_base.specs.declared.server.ServerNo.{ServerNo}
-use Rattle.std.specs.List.{Contains}
-use Rattle.server_words.specs.declared.attach.AttachFault.{AttachFault}
-use Rattle.server_words.specs.declared.attach.AttachFault.TheVariants as attaching
-use Rattle.server_words.specs.declared.attach.Spot.{Spot}
-use Rattle.server_words.specs.declared.attach.Spot.TheVariants as spot
-use Rattle.server_words.specs.declared.status.Status.{Status}
-use Rattle.server_model.specs.Gtids.{status}
-use Rattle.server_model.specs.Run.{Attach, AttachAuto}
-use Rattle.server_model.specs.Worlds.{World, server_at}
-use Rattle.recovery_plans.specs.declared.why.Why.{Why}
-use Rattle.recovery_plans.specs.declared.why.Why.TheVariants as why
-use Rattle.recovery_plans.specs.declared.why.Miss.{Miss}
-use Rattle.recovery_plans.specs.Whys as lost
-use Rattle.commands.specs.declared.line.Lost.TheVariants as word
-use Rattle.instance_keeper.specs.declared.bridge.Bridge.{Bridge}
-use Rattle.instance_keeper.specs.Book.{BookState, rule_at}
-use Rattle.instance_keeper.specs.Bridges.{has_exec, has_own, latest_that, ring_at}
-use Rattle.kept_rows.specs.Seeing.{seen_in}
-use Rattle.operations.specs.declared.sight.Sight.{Sight}
-use Rattle.operations.specs.declared.op.Aim.TheVariants.{ExecOf}
-use Rattle.operations.specs.Deeds as deed
-use Rattle.operations.specs.Deeds.{Deed, deed_of}
-use Rattle.operations.specs.declared.matching.Match.{Match}
-use Rattle.operations.specs.declared.matching.MatchFault.{MatchFault}
-use Rattle.operations.specs.Jobs.{Job, match_found, position_of, seen_of}
-use Rattle.operations.specs.Matching.{match_logs}
-use Rattle.operations.specs.Turns.{attach_answer_of, cause_by, cause_of_match}
-use Rattle.promotion_rules.specs.Choice.{is_barred, is_better, is_eligible, nearer_order}
-use Rattle.promotion_rules.specs.Chosen.{HasExecutedMost, IsChoice}
-use Rattle.recovery_plans.specs.declared.outcome.LostReplica.{LostReplica}
-use Rattle.recovery_plans.specs.declared.outcome.Stopped.{Stopped}
-use Rattle.recovery_plans.specs.declared.stage.Stage.{Stage}
-use Rattle.recovery_plans.specs.declared.stage.Stage.TheVariants as stage
-use Rattle.recovery_plans.specs.declared.task.Task.{Task}
-use Rattle.recovery_plans.specs.declared.task.Task.TheVariants as task
-use Rattle.recovery_plans.specs.declared.task.Way.{Way}
-use Rattle.recovery_plans.specs.declared.task.Way.TheVariants as way
-use Rattle.recovery_plans.specs.Stages.{before, is_look, reads_last, tail_of}
-use Rattle.recovery_plans.specs.Deciding.{ground_of, logs_at, chosen_of, better_of, drained_of, follower_of, may_lead}
-use Rattle.recovery_plans.specs.Moves.{Decisions, IsNext, stopped_at}
-use Rattle.recovery_plans.specs.Named.{spoken_to}
-use Rattle.recovery_plans.specs.Recoveries.{Recovery, sight_of}
-use Rattle.recovery_plans.specs.Table.{info}
-use Rattle.recovery_plans.specs.Taking.{Missed, is_below, loss_of, place_on, spot_by, spot_seen}
+use Rattle.recovery_reasons.specs.Prelude.{Attach, AttachAuto, AttachFault, BookState, Bridge, Contains, Coord, Decisions, Deed, ExecOf}
+use Rattle.recovery_reasons.specs.Prelude.{HasExecutedMost, Interval, IsChoice, IsNext, Job, LostReplica, MatchFault, Miss, Missed, Moment, Recovery}
+use Rattle.recovery_reasons.specs.Prelude.{ServerNo, Sight, Spot, Stage, Status, Stopped, Task, Way, Why, World, attach_answer_of, before, better_of}
+use Rattle.recovery_reasons.specs.Prelude.{cause_by, cause_of_match, chosen_of, deed_of, drained_of, follower_of, ground_of, has_exec, has_own, info}
+use Rattle.recovery_reasons.specs.Prelude.{is_at_or_before, is_barred, is_before, is_below, is_better, is_eligible, is_look, latest_that, logs_at}
+use Rattle.recovery_reasons.specs.Prelude.{loss_of, match_found, match_logs, may_lead, nearer_order, place_on, position_of, reads_last, ring_at}
+use Rattle.recovery_reasons.specs.Prelude.{rule_at, same_coord, seen_in, seen_of, server_at, sight_of, spoken_to, spot_by, spot_seen, status}
+use Rattle.recovery_reasons.specs.Prelude.{stopped_at, tail_of}
+use Rattle.recovery_reasons.specs.Prelude.Operations.{Match}
+use Rattle.recovery_reasons.specs.Prelude.attaching
+use Rattle.recovery_reasons.specs.Prelude.deed
+use Rattle.recovery_reasons.specs.Prelude.lost as word
+use Rattle.recovery_reasons.specs.Prelude.spot
+use Rattle.recovery_reasons.specs.Prelude.stage
+use Rattle.recovery_reasons.specs.Prelude.task
+use Rattle.recovery_reasons.specs.Prelude.way
+use Rattle.recovery_reasons.specs.Prelude.why
+use Rattle.recovery_reasons.specs.Prelude.whys as lost
 use Rattle.recovery_reasons.specs.Causes.{IsRunning, IsUnreached}
 use Rattle.recovery_reasons.specs.OnWay.{IsOnWay, chooses}
 

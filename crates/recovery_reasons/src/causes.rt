@@ -1,16 +1,8 @@
 //! What a job's cause says.
 
 ghost use Rattle.std.specs.Prelude.{◌≡◌, ℕ, List, Option, Some};
-ghost use Rattle.orch_base.specs.declared.server.Moment.{Moment as AMoment};
-ghost use Rattle.orch_base.specs.declared.server.ServerNo.{ServerNo as Number};
-ghost use Rattle.commands.specs.declared.cause.Cause.{Cause as Why};
-ghost use Rattle.kept_rows.specs.declared.observation.Observation.{Observation as AnObservation};
-ghost use Rattle.operations.specs.declared.op.Op.{Op as AnOp};
-ghost use Rattle.operations.specs.Deeds.{Deed, Match};
-ghost use Rattle.operations.specs.Jobs.{Job};
-ghost use Rattle.operations.specs.Turns.{Stops, by_deed};
-ghost use Rattle.server_model.specs.Worlds.{World};
-ghost use Rattle.recovery_plans.specs.Named.{spoken_to};
+ghost use Rattle.recovery_reasons.specs.Prelude.{Cause as Why, Deed, Job, Match, Moment as AMoment, Observation as AnObservation, Op as AnOp};
+ghost use Rattle.recovery_reasons.specs.Prelude.{ServerNo as Number, Stops, World, by_deed, spoken_to};
 ghost use Rattle.recovery_reasons.specs.Causes.{IsMatchCause, IsTrueOf};
 
 /// Where an operation stops its job, the cause names the server that it spoke with, and is true of it in that turn's

@@ -1,21 +1,10 @@
 //! Why replicas are lost, and who is chosen.
 
 ghost use Rattle.std.specs.Prelude.{◌≡◌, ℕ, Bool, true, List, []};
-ghost use Rattle.orch_base.specs.declared.server.Moment.{Moment as AMoment};
-ghost use Rattle.orch_base.specs.declared.server.ServerNo.{ServerNo as Number};
-ghost use Rattle.commands.specs.declared.line.Line.{Line as ALine};
-ghost use Rattle.instance_keeper.specs.Book.{BookState};
-ghost use Rattle.operations.specs.declared.step.JobStep.TheVariants as step;
-ghost use Rattle.operations.specs.Turns.{is_going};
-ghost use Rattle.server_model.specs.Worlds.{World};
-ghost use Rattle.recovery_plans.specs.declared.means.Means.{Means as AMeans};
-ghost use Rattle.recovery_plans.specs.declared.purpose.Purpose.{Purpose as APurpose};
-ghost use Rattle.recovery_plans.specs.Beginning.{begun_recovery};
-ghost use Rattle.recovery_plans.specs.Deciding.{decided, ground_of};
-ghost use Rattle.recovery_plans.specs.Recoveries.{Recovery};
-ghost use Rattle.recovery_plans.specs.Taking.{taken};
-ghost use Rattle.recovery_laws.specs.HeldRecoveries.{HeldRecovery};
-ghost use Rattle.recovery_laws.specs.Rings.{HeldRings};
+ghost use Rattle.recovery_reasons.specs.Prelude.{BookState, HeldRecovery, HeldRings, Line as ALine, Means as AMeans, Moment as AMoment};
+ghost use Rattle.recovery_reasons.specs.Prelude.{Purpose as APurpose, Recovery, ServerNo as Number, World, begun_recovery, decided, ground_of};
+ghost use Rattle.recovery_reasons.specs.Prelude.{is_going, taken};
+ghost use Rattle.recovery_reasons.specs.Prelude.step;
 ghost use Rattle.recovery_reasons.specs.Nobody.{HasNobody};
 ghost use Rattle.recovery_reasons.specs.OnWay.{AllFit};
 ghost use Rattle.recovery_reasons.specs.Reasons.{ExplainsTruly, Fact, IsExplained, Speaks};

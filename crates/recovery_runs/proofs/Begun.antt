@@ -1,76 +1,30 @@
 -- What a turn begins is plans, and recoveries as they begin, which name no replica twice.
 use Rattle.std.proofs.Common.{◌≡◌, ℕ, ◌+◌, ◌<◌, true, List, [], ◌∷◌, length, map, refl, subst, Option, Some, None, Result, Ok, Err, ◌∙◌, ◌⊎◌, inl, inr, ap, arith}
 use Rattle.std.specs.Prelude.{All, IfSome, slice_get, get_or, ◌≤◌}
-use Rattle.std.specs.Option.{option_map}
-use Rattle.std.proofs.lemmas.Bool.{ltb-true}
-use Rattle.std.proofs.lemmas.List.Elements.{All-cons, All-contains, All-head, All-nil, All-tail}
-use Rattle.std.proofs.lemmas.Option.{slice_get_cases}
-use Rattle.orch_base.specs.Names.{HostPort}
-use Rattle.orch_base.specs.declared.code.Code.{Code}
-use Rattle.orch_base.specs.declared.server.ServerNo.{ServerNo}
-use Rattle.server_words.specs.declared.status.Status.{Status as Seen}
-use Rattle.kept_rows.specs.declared.observation.Observation.{Observation}
-use Rattle.instance_keeper.specs.Book.{BookState, IsBook}
-use Rattle.instance_keeper.specs.Leases.{taken}
-use Rattle.commands.specs.declared.line.Line.{Line}
-use Rattle.commands.specs.declared.refusal.Refusal.{Refusal}
-use Rattle.commands.specs.declared.refusal.Refusal.TheVariants.{UnknownInstance}
-use Rattle.commands.specs.declared.turn.Command.{Command}
-use Rattle.commands.specs.declared.turn.CommandTurn.{CommandTurn}
-use Rattle.commands.specs.Turns.{is_within}
-use Rattle.command_routes.specs.declared.route.Planner.{Planner}
-use Rattle.command_routes.specs.declared.route.Planner.TheVariants.{Coordinates, Gtids, Matches, Paths, Regroups}
-use Rattle.command_routes.specs.declared.kinds.Regrouping.TheVariants.{ByBridges, ByMatches}
-use Rattle.command_routes.specs.declared.route.Route.{Route}
-use Rattle.command_routes.specs.declared.route.Route.TheVariants.{Discovers, Forgets, Asks, Decides, Begins, Recovers, TakesOver}
-use Rattle.command_routes.specs.Routes.{route_of}
-use Rattle.command_jobs.specs.Jobs.{job_by, leases_by, refusal_by, regroup_about}
-use Rattle.asking_commands.specs.Answers.{allowed, lines_of, permitted}
-use Rattle.book_views.specs.Sources.{label_at, replicas_of}
-use Rattle.permission.specs.Views.{source_of}
-use Rattle.recovery_permits.specs.Recoveries.{purpose_by}
-use Rattle.recovery_plans.specs.declared.means.Means.{Means}
-use Rattle.recovery_plans.specs.declared.means.Means.TheVariants as means
-use Rattle.recovery_plans.specs.Beginning.{begun_recovery}
-use Rattle.run_laws.proofs.Aims.{scan-each}
-use Rattle.audit_log.specs.Audits.{AuditState}
-use Rattle.audit_log.specs.Audits.{begun as begun_audit}
-use Rattle.book_commands.specs.declared.decided.Decided.{Decided}
-use Rattle.book_commands.specs.Decisions.{decided_of}
-use Rattle.recovery_permits.specs.declared.attempt.Attempt.{Attempt}
-use Rattle.recovery_permits.specs.Recoveries.{recovery_refusal, refusal_by as recovery_refusal_by}
-use Rattle.recovery_permits.specs.Takeovers.{takeover_refusal}
-use Rattle.recovery_core.specs.Begun.{BeginInTurn, IsFresh}
-use Rattle.recovery_core.specs.Tries.{Begins as RecoveryBegins, recovery_begins, recovery_try, takeover_begins, takeover_try}
-use Rattle.recovery_core.proofs.Beginning.{unrefused}
-use Rattle.recovery_core.proofs.Entries.{actionable-entries}
-use Rattle.recovery_core.proofs.InTurn.{scan-in-turn}
-use Rattle.recovery_core.specs.Scans.{IsEntryIn, actionable_in}
-use Rattle.recovery_hooks.specs.Runs.{begun_hooks}
-use Rattle.recovery_permits.specs.Checks.{code_at}
-use Rattle.run_laws.specs.Begins.{NamesReplicasOnce}
-use Rattle.run_laws.proofs.Naming.{recovery-names, regroup-are, scan-names, takeover-names}
-use Rattle.scenarios.specs.Turns.{IsAct, IsCommand, IsTurn}
-use Rattle.server_model.specs.Worlds.{World}
-use Rattle.turns.specs.declared.turn.Act.{Act}
-use Rattle.turns.specs.declared.turn.Act.TheVariants as act
-use Rattle.turns.specs.declared.turn.Turn.{Turn}
-use Rattle.turns.specs.declared.turn.Turn.TheVariants as turn
-use Rattle.unended_jobs.specs.declared.unended.Unended.{Unended}
-use Rattle.command_outcomes.specs.HookTelling.{hooks_by, told_of, told_try, with_told}
-use Rattle.knowledge.specs.Knowing.{recovery_job}
-use Rattle.command_outcomes.specs.declared.configuration.Configuration.{Configuration}
-use Rattle.command_outcomes.specs.Commands.{Outcome, about as given_or, asked, begun, by_hand, decided, discovered, forgotten, outcome_by, outcome_of, question, recovered, recovery_begun, refusal, removal_refusal, taken_over}
-use Rattle.orch_core.specs.Polls.{command_outcome, numbers_of, reading, scan_outcome}
-use Rattle.orch_core.specs.States.{State}
-use Rattle.run_laws.specs.Entries.{attempt_in, scan_in}
-use Rattle.run_laws.specs.Ready.{AreShort, Ready}
-use Rattle.run_laws.proofs.Periods.{short-by}
-use Rattle.run_laws.proofs.ReadyOutcomes.{within-book}
-use Rattle.recovery_runs.specs.Begun.{BeginsOnce, TellsAll, jobs_begun, jobs_of, jobs_in_act, jobs_done, AreHooksOf, HasHooks}
+use Rattle.recovery_runs.proofs.Prelude.{Act, All-cons, All-contains, All-head, All-nil, All-tail, AreHooksOf, AreShort, Asks, AuditState}
+use Rattle.recovery_runs.proofs.Prelude.{BeginInTurn, Begins as RecoveryBegins, BeginsOnce, BookState, ByBridges, ByMatches, Code, Command}
+use Rattle.recovery_runs.proofs.Prelude.{CommandTurn, Configuration, Decided, Decides, Discovers, Forgets, HasHooks, HostPort}
+use Rattle.recovery_runs.proofs.Prelude.{IsAct, IsBook, IsCommand, IsEntryIn, IsFresh, IsTurn, Line, Matches, Means, NamesReplicasOnce, Observation}
+use Rattle.recovery_runs.proofs.Prelude.{Outcome, Planner, Ready, Recovers, Refusal, Regroups, Route, ServerNo, State, Status as Seen}
+use Rattle.recovery_runs.proofs.Prelude.{TakesOver, TellsAll, Turn, Unended, UnknownInstance, World, about as given_or, act-fits, act_in}
+use Rattle.recovery_runs.proofs.Prelude.{actionable-entries, actionable_in, allowed, asked, attempt_in, begun, begun_hooks, begun_recovery, by_hand}
+use Rattle.recovery_runs.proofs.Prelude.{code_at, command_outcome, decided_of, discovered, forgotten, hooks_by, is_within, job_by, jobs_begun}
+use Rattle.recovery_runs.proofs.Prelude.{jobs_done, jobs_in_act, jobs_of, label_at, leases_by, lines_of, ltb-true, numbers_of, option_map, outcome_by}
+use Rattle.recovery_runs.proofs.Prelude.{outcome_of, permitted, purpose_by, question, reading, recovered, recovery-names, recovery_begins}
+use Rattle.recovery_runs.proofs.Prelude.{recovery_begun, recovery_job, recovery_refusal, recovery_try, refusal, refusal_by, regroup-are}
+use Rattle.recovery_runs.proofs.Prelude.{regroup_about, removal_refusal, replicas_of, route_of, scan-each, scan-in-turn, scan-names, scan_in}
+use Rattle.recovery_runs.proofs.Prelude.{scan_outcome, short-by, slice_get_cases, source_of, taken_over, takeover-names, takeover_begins}
+use Rattle.recovery_runs.proofs.Prelude.{takeover_refusal, takeover_try, told_of, told_try, unrefused, with_told, within-book}
+use Rattle.recovery_runs.proofs.Prelude.Audits.{begun as begun_audit}
+use Rattle.recovery_runs.proofs.Prelude.Outcomes.{decided}
+use Rattle.recovery_runs.proofs.Prelude.Leases.{taken}
+use Rattle.recovery_runs.proofs.Prelude.Recoveries.{refusal_by as recovery_refusal_by}
+use Rattle.recovery_runs.proofs.Prelude.RecoveryPermits.{Attempt}
+use Rattle.recovery_runs.proofs.Prelude.TheVariants.{Begins}
+use Rattle.recovery_runs.proofs.Prelude.act
+use Rattle.recovery_runs.proofs.Prelude.means
+use Rattle.recovery_runs.proofs.Prelude.turn
 use Rattle.recovery_runs.proofs.Tellings.{listed, tells-own}
-use Rattle.orch_core.specs.Nodes.{act_in}
-use Rattle.orch_core.proofs.Claims.{act-fits}
 
 -- what an outcome begins in a state
 module _ (state : State) where
@@ -116,12 +70,9 @@ module _ (state : State) where
   regroup-once by id wait (Some i) = record { fresh = refl; replicas = refl; once = regroup-are b i; tells = tells-own None (replicas_of b i); hooks = refl }
 
   job-once : (w : World) (c : Command) (p : Planner) (id wait every : ℕ) → Once (job_by w b c p id wait every)
-  job-once w c (Coordinates kind) id wait every = tt
-  job-once w c (Gtids kind) id wait every = tt
-  job-once w c (Paths kind) id wait every = tt
-  job-once w c (Matches kind) id wait every = tt
   job-once w c (Regroups ByMatches) id wait every = regroup-once (means.Matches every) id wait c.i
   job-once w c (Regroups ByBridges) id wait every = regroup-once means.Bridges id wait c.i
+  job-once w c _ id wait every = tt
 
   -- ---- recoveries
 
@@ -273,21 +224,16 @@ pub scan-once : (count : ℕ) (s : State) → Ready count s → All (BeginsOnce 
 scan-once count s ready = scan-new s ready.book ready.periods
 
 act-once : (count : ℕ) (s : State) (a : Act) → Ready count s → IsAct count a → All (BeginsOnce s) (jobs_in_act s a)
-act-once count s (act.PollRead p n) ready is = none-new s
-act-once count s (act.PollStore p) ready is = none-new s
 act-once count s (act.Command c) ready is = command-once count s ready c is
-act-once count s (act.Job job) ready is = none-new s
 act-once count s act.Scan ready is = scan-once count s ready
-act-once count s act.Restart ready is = none-new s
+act-once count s _ ready is = none-new s
 
 done-once : (count : ℕ) (s : State) (o : Option Act) → Ready count s → IfSome o (IsAct count) → All (BeginsOnce s) (jobs_done s o)
 done-once count s None ready is = none-new s
 done-once count s (Some a) ready is = act-once count s a ready is
 
 pub begun-once : (count : ℕ) (s : State) (t : Turn) → Ready count s → IsTurn count t → All (BeginsOnce s) (jobs_begun s t)
-begun-once count s (turn.Step x) ready is = none-new s
-begun-once count s (turn.Tick seconds) ready is = none-new s
 begun-once count s (turn.Act a) ready is = act-once count s a ready is
 begun-once count s (turn.As node a) ready is = done-once count s (act_in s (turn.As node a)) ready (act-fits count s (turn.As node a) is)
 begun-once count s (turn.Claim node) ready is = done-once count s (act_in s (turn.Claim node)) ready (act-fits count s (turn.Claim node) is)
-begun-once count s (turn.Release node) ready is = none-new s
+begun-once count s _ ready is = none-new s

@@ -1,39 +1,15 @@
 -- Each recovery after a turn was there before it, or begins in it.
 use Rattle.std.proofs.Common.{◌≡◌, ℕ, true, List, [], ◌++◌, refl, Option, Some, None}
 use Rattle.std.specs.Prelude.{◌==◌, All, Contains}
-use Rattle.std.specs.Option.{option_map}
-use Rattle.std.proofs.lemmas.List.Elements.{All-contains_itself, All-nil, All-weaker, Contains-append_left, Contains-append_right}
-use Rattle.orch_base.specs.Memory.{next_count}
-use Rattle.kept_rows.specs.declared.row.Row.{Row}
-use Rattle.job_laws.proofs.Lists.{All-find}
-use Rattle.jobs_in_flight.specs.Jobs.{job_at, jobs_turned}
-use Rattle.operations.specs.Turns.{is_going}
-use Rattle.hook_laws.proofs.Staying.{of-docket}
-use Rattle.recovery_histories.specs.Kept.{SameAim}
-use Rattle.recovery_histories.proofs.Staying.{same-aim, taken-aim}
-use Rattle.recovery_plans.specs.Taking.{taken}
-use Rattle.turns.specs.declared.turn.Act.{Act}
-use Rattle.turns.specs.declared.turn.Act.TheVariants as act
-use Rattle.turns.specs.declared.turn.Turn.{Turn}
-use Rattle.turns.specs.declared.turn.Turn.TheVariants as turn
-use Rattle.unended_jobs.specs.declared.unended.Unended.{Unended}
-use Rattle.unended_jobs.specs.declared.unended.Unended.TheVariants as unended
-use Rattle.unended_jobs.specs.Unended.{IsReady, number_of}
-use Rattle.unended_jobs.specs.Hooked.{promoted_in}
-use Rattle.unended_jobs.proofs.Going.{flown-number}
-use Rattle.unended_jobs.proofs.Hooked.{hooked-has}
-use Rattle.covered_laws.proofs.Turning.{all-turned}
-use Rattle.orch_core.specs.Jobs.{turn_of}
-use Rattle.orch_core.specs.Polls.{command_outcome, scan_outcome}
-use Rattle.orch_core.specs.After.{after_act, step, after_done}
-use Rattle.orch_core.specs.States.{State}
-use Rattle.orch_core.specs.Settling.{known_of}
-use Rattle.knowledge.specs.Knowing.{updated}
-use Rattle.run_laws.specs.Ready.{Ready}
-use Rattle.run_laws.specs.Flights.{moment_at}
-use Rattle.recovery_runs.specs.Begun.{ComesOf, jobs_begun, jobs_of, jobs_in_act, jobs_done}
+use Rattle.recovery_runs.proofs.Prelude.{Act, All-contains_itself, All-find, All-nil, All-weaker, ComesOf, Contains-append_left}
+use Rattle.recovery_runs.proofs.Prelude.{Contains-append_right, IsReady, Ready, Row, SameAim, State, Turn, Unended, act_in, after_act, after_done}
+use Rattle.recovery_runs.proofs.Prelude.{all-turned, command_outcome, flown-number, hooked-has, is_going, job_at, jobs_begun, jobs_done, jobs_in_act}
+use Rattle.recovery_runs.proofs.Prelude.{jobs_of, jobs_turned, known_of, moment_at, next_count, number_of, of-docket, option_map, promoted_in}
+use Rattle.recovery_runs.proofs.Prelude.{same-aim, scan_outcome, step, taken, taken-aim, turn_of, updated}
+use Rattle.recovery_runs.proofs.Prelude.act
+use Rattle.recovery_runs.proofs.Prelude.turn
+use Rattle.recovery_runs.proofs.Prelude.unended
 use Rattle.recovery_runs.proofs.Joining.{command-joins, joined, scan-joins}
-use Rattle.orch_core.specs.Nodes.{act_in}
 
 of-itself : (us : List Unended) (u : Unended) → Contains us u → ComesOf us u
 of-itself us (unended.Plan j) among = tt
@@ -89,9 +65,7 @@ done-come count rows s None ready = all-stay s.jobs []
 done-come count rows s (Some a) ready = act-come count rows s a ready
 
 pub all-come : (count : ℕ) (rows : List Row) (s : State) (t : Turn) → Ready count s → All (ComesOf (s.jobs ++ jobs_begun s t)) (step rows s t).jobs
-all-come count rows s (turn.Step x) ready = all-stay s.jobs []
-all-come count rows s (turn.Tick seconds) ready = all-stay s.jobs []
 all-come count rows s (turn.Act a) ready = act-come count rows s a ready
 all-come count rows s (turn.As node a) ready = done-come count rows s (act_in s (turn.As node a)) ready
 all-come count rows s (turn.Claim node) ready = done-come count rows s (act_in s (turn.Claim node)) ready
-all-come count rows s (turn.Release node) ready = all-stay s.jobs []
+all-come count rows s _ ready = all-stay s.jobs []

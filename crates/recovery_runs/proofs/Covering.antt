@@ -1,48 +1,21 @@
 -- Each turn leaves recoveries covered, kept, speaking and aimed.
 use Rattle.std.proofs.Common.{ℕ, List, refl, sym, subst, Option, Some, None}
 use Rattle.std.specs.Prelude.{All, IfSome}
-use Rattle.std.proofs.lemmas.List.Elements.{All-weaker}
-use Rattle.orch_base.specs.Memory.{next_count}
-use Rattle.kept_rows.specs.declared.row.Row.{Row}
-use Rattle.commands.specs.declared.turn.CommandTurn.{CommandTurn}
-use Rattle.server_model.specs.Worlds.{World}
-use Rattle.turns.specs.declared.turn.Act.{Act}
-use Rattle.turns.specs.declared.turn.Act.TheVariants as act
-use Rattle.turns.specs.declared.turn.Step.{Step}
-use Rattle.turns.specs.declared.turn.Step.TheVariants as step
-use Rattle.turns.specs.declared.turn.Turn.{Turn}
-use Rattle.turns.specs.declared.turn.Turn.TheVariants as turn
-use Rattle.scenarios.specs.Turns.{IsAct, IsCommand, IsTurn}
-use Rattle.scenarios.specs.declared.scenario.Scenario.{Scenario}
-use Rattle.job_laws.specs.Flights.{Flight}
-use Rattle.job_laws.specs.Passages as pass
-use Rattle.jobs_in_flight.specs.Jobs.{job_at}
-use Rattle.recovery_plans.specs.Recoveries.{Recovery}
-use Rattle.unended_jobs.specs.declared.unended.Unended.{Unended}
-use Rattle.unended_jobs.specs.declared.unended.Unended.TheVariants as unended
-use Rattle.covered_laws.specs.Beside.{IsAimedBeside, IsCoveredBeside, IsKeptBeside, IsSpeakingBeside}
-use Rattle.covered_laws.specs.Flights.{CoveredJobs, KeptJobs}
-use Rattle.covered_laws.proofs.Beside.{apart-stays, none-aimed, none-covered, none-kept, none-speak, outside-stays, recovery-covered, recovery-kept, recovery-speaks}
-use Rattle.covered_laws.proofs.Turning.{number-aimed, number-covered, number-kept, number-speaking}
-use Rattle.orch_core.specs.Polls.{command_outcome, scan_outcome}
-use Rattle.orch_core.specs.After.{after_act, step as turn_step, after_done}
-use Rattle.orch_core.specs.Scenarios.{start}
-use Rattle.orch_core.specs.States.{State}
-use Rattle.orch_core.specs.Turns.{exchange_of}
-use Rattle.covered_laws.specs.Passages.{IsOutside}
-use Rattle.orch_core.specs.Settling.{known_of}
-use Rattle.knowledge.specs.Knowing.{updated}
-use Rattle.run_laws.specs.Ready.{Ready}
-use Rattle.run_laws.specs.Flights.{flight_of, moment_at, takes}
-use Rattle.run_laws.specs.States.{HeldState, SoundState}
-use Rattle.run_laws.proofs.Flown.{flown}
-use Rattle.run_laws.proofs.Passing.{step-may}
-use Rattle.recovery_runs.specs.Begun.{BeginsOnce, jobs_begun, jobs_of, jobs_in_act, jobs_done}
-use Rattle.recovery_runs.specs.States.{AimedState, CoveredState, KeptState, SpeakingState}
+use Rattle.recovery_runs.proofs.Prelude.{Act, AimedState, All-weaker, BeginsOnce, CommandTurn, CoveredJobs, CoveredState, Flight, HeldState, IsAct}
+use Rattle.recovery_runs.proofs.Prelude.{IsAimedBeside, IsCommand, IsCoveredBeside, IsKeptBeside, IsOutside, IsSpeakingBeside, IsTurn, KeptJobs}
+use Rattle.recovery_runs.proofs.Prelude.{KeptState, Ready, Recovery, Row, Scenario, SoundState, SpeakingState, State, Step, Turn, Unended, World}
+use Rattle.recovery_runs.proofs.Prelude.{act-fits, act_in, after_act, after_done, apart-stays, command_outcome, exchange_of, flight_of, flown, job_at}
+use Rattle.recovery_runs.proofs.Prelude.{jobs_begun, jobs_done, jobs_in_act, jobs_of, known_of, moment_at, next_count, none-aimed, none-covered}
+use Rattle.recovery_runs.proofs.Prelude.{none-kept, none-speak, number-aimed, number-covered, number-kept, number-speaking, outside-stays}
+use Rattle.recovery_runs.proofs.Prelude.{recovery-covered, recovery-kept, recovery-speaks, scan_outcome, start, step as turn_step, step-may, takes}
+use Rattle.recovery_runs.proofs.Prelude.{updated}
+use Rattle.recovery_runs.proofs.Prelude.act
+use Rattle.recovery_runs.proofs.Prelude.pass
+use Rattle.recovery_runs.proofs.Prelude.turn
+use Rattle.recovery_runs.proofs.Prelude.turns_step as step
+use Rattle.recovery_runs.proofs.Prelude.unended
 use Rattle.recovery_runs.proofs.Begun.{command-once, scan-once}
 use Rattle.recovery_runs.proofs.Joining.{command-joins, joined, scan-joins}
-use Rattle.orch_core.specs.Nodes.{act_in}
-use Rattle.orch_core.proofs.Claims.{act-fits}
 
 -- ---- what begins
 
@@ -73,14 +46,7 @@ module _ (P : Unended → Type 0) (count : ℕ) (s : State) (fits : (u : Unended
 -- what befalls a server is outside, and may pass
 step-outside : (x : Step) → IsOutside (pass.Exchanging (exchange_of x))
 step-outside (step.Write n size) = refl
-step-outside (step.Fetch n) = refl
-step-outside (step.Apply n) = refl
-step-outside (step.Fail n) = refl
-step-outside (step.Heal n) = refl
-step-outside (step.Cut n link) = refl
-step-outside (step.Join n link) = refl
-step-outside (step.Rotate n) = refl
-step-outside (step.Purge n file) = refl
+step-outside _ = refl
 
 -- ---- covered
 
@@ -148,12 +114,10 @@ speaking-done count rows s None ready held is speaking = speaking
 speaking-done count rows s (Some a) ready held is speaking = speaking-act count rows s a ready held is speaking
 
 pub speaking-step : (count : ℕ) (rows : List Row) (s : State) (t : Turn) → Ready count s → HeldState s → IsTurn count t → SpeakingState s → SpeakingState (turn_step rows s t)
-speaking-step count rows s (turn.Step x) ready held is speaking = speaking
-speaking-step count rows s (turn.Tick seconds) ready held is speaking = speaking
 speaking-step count rows s (turn.Act a) ready held is speaking = speaking-act count rows s a ready held is speaking
 speaking-step count rows s (turn.As node a) ready held is speaking = speaking-done count rows s (act_in s (turn.As node a)) ready held (act-fits count s (turn.As node a) is) speaking
 speaking-step count rows s (turn.Claim node) ready held is speaking = speaking-done count rows s (act_in s (turn.Claim node)) ready held (act-fits count s (turn.Claim node) is) speaking
-speaking-step count rows s (turn.Release node) ready held is speaking = speaking
+speaking-step count rows s _ ready held is speaking = speaking
 
 -- ---- aimed
 
@@ -173,12 +137,10 @@ aimed-done begun rows s None held new aimed = aimed
 aimed-done begun rows s (Some a) held new aimed = aimed-act begun rows s a held new aimed
 
 pub aimed-step : (begun : ℕ → Recovery) (rows : List Row) (s : State) (t : Turn) → HeldState s → All (IsAimedBeside begun) (jobs_begun s t) → AimedState begun s → AimedState begun (turn_step rows s t)
-aimed-step begun rows s (turn.Step x) held new aimed = aimed
-aimed-step begun rows s (turn.Tick seconds) held new aimed = aimed
 aimed-step begun rows s (turn.Act a) held new aimed = aimed-act begun rows s a held new aimed
 aimed-step begun rows s (turn.As node a) held new aimed = aimed-done begun rows s (act_in s (turn.As node a)) held new aimed
 aimed-step begun rows s (turn.Claim node) held new aimed = aimed-done begun rows s (act_in s (turn.Claim node)) held new aimed
-aimed-step begun rows s (turn.Release node) held new aimed = aimed
+aimed-step begun rows s _ held new aimed = aimed
 
 -- ---- the opening
 

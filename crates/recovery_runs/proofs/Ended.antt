@@ -1,33 +1,11 @@
 -- A recovery that a hook ended has changed no server.
 use Rattle.std.proofs.Common.{◌≡◌, ℕ, List, subst, Some, None, ◌⊎◌, inl, inr}
 use Rattle.std.specs.Prelude.{◌==◌}
-use Rattle.commands.specs.declared.cause.Cause.{Cause}
-use Rattle.commands.specs.declared.cause.Cause.TheVariants as cause
-use Rattle.commands.specs.declared.line.Line.{Line}
-use Rattle.hook_laws.specs.Tended.{IsEarly}
-use Rattle.instance_keeper.specs.Book.{BookState}
-use Rattle.job_laws.proofs.Lists.{All-find}
-use Rattle.jobs_in_flight.proofs.Numbers.{found-number}
-use Rattle.kept_rows.specs.declared.row.Row.{Row}
-use Rattle.orch_base.specs.Memory.{next_count}
-use Rattle.orch_base.specs.declared.server.Moment.{Moment}
-use Rattle.orch_core.specs.States.{State}
-use Rattle.recovery_hooks.specs.Runs.{HookState}
-use Rattle.recovery_plans.specs.Deciding.{decided, ground_of}
-use Rattle.recovery_plans.specs.Recoveries.{Recovery}
-use Rattle.run_laws.specs.Flights.{moment_at}
-use Rattle.run_laws.specs.Runs.{ComesTo}
-use Rattle.scenarios.specs.declared.scenario.Scenario.{Scenario}
-use Rattle.server_model.specs.Worlds.{World}
-use Rattle.unended_jobs.specs.Hooked.{front_hook}
-use Rattle.unended_jobs.specs.Unended.{number_of}
-use Rattle.unended_jobs.specs.declared.docket.Docket.{Docket}
-use Rattle.unended_jobs.specs.declared.unended.Unended.{Unended}
-use Rattle.unended_jobs.specs.declared.unended.Unended.TheVariants as unended
-use Rattle.recovery_runs.specs.Failing.{FailsTruly, IsEndedByHook, IsFailing, StopsTruly, Nobody, Reached, Sourced, Fatal}
-use Rattle.recovery_runs.specs.Finishes.{IsFailure}
-use Rattle.recovery_runs.specs.Origins.{StaysStill}
-use Rattle.recovery_runs.specs.RunFinishes.{FailsWell}
+use Rattle.recovery_runs.proofs.Prelude.{All-find, BookState, Cause, ComesTo, Docket, FailsTruly, FailsWell, Fatal, HookState, IsEarly, IsEndedByHook}
+use Rattle.recovery_runs.proofs.Prelude.{IsFailing, IsFailure, Line, Moment, Nobody, Reached, Recovery, Row, Scenario, Sourced, State, StaysStill}
+use Rattle.recovery_runs.proofs.Prelude.{StopsTruly, Unended, World, decided, found-number, front_hook, ground_of, moment_at, next_count, number_of}
+use Rattle.recovery_runs.proofs.Prelude.cause
+use Rattle.recovery_runs.proofs.Prelude.unended
 use Rattle.recovery_runs.proofs.Failing.{fail-comes}
 use Rattle.recovery_runs.proofs.HookTellings.{early-still, failure-tells, failure-told}
 use Rattle.recovery_runs.proofs.Origins.{Step}

@@ -1,38 +1,17 @@
 -- The entry of a recovery that is done ends with the server that it promoted.
 use Rattle.std.proofs.Common.{◌≡◌, ◌∙◌, ℕ, Bool, true, false, cond, List, [], ◌∷◌, ◌++◌, map, refl, sym, ap, subst, Option, Some, None}
 use Rattle.std.specs.Prelude.{◌==◌, ◌||◌, Contains, find, if◌then◌else◌}
-use Rattle.std.specs.Option.{option_map, option_to_list}
-use Rattle.std.proofs.lemmas.List.Elements.{Contains-push}
-use Rattle.orch_base.specs.declared.recovery.Ending.{Ending}
-use Rattle.orch_base.specs.declared.recovery.Ending.TheVariants as ending
-use Rattle.orch_base.specs.declared.server.Moment.{Moment}
-use Rattle.orch_base.specs.declared.server.ServerNo.{ServerNo}
-use Rattle.audit_log.specs.Audits.{AuditState, acked_so, acknowledged_at, ended, ended_so, recovery_at}
-use Rattle.commands.specs.declared.line.Line.{Line}
-use Rattle.kept_rows.specs.Recoveries.{put_recovery}
-use Rattle.kept_rows.specs.declared.recovery.Recovery.{Recovery as KeptRecovery}
-use Rattle.kept_rows.specs.declared.row.Change.{Change}
-use Rattle.kept_rows.specs.declared.row.Row.{Row}
-use Rattle.jobs_in_flight.specs.Jobs.{job_observation}
-use Rattle.operations.specs.declared.step.JobStep.{JobStep}
-use Rattle.operations.specs.declared.step.JobStep.TheVariants as job_step
-use Rattle.recovery_core.specs.Endings.{done_with}
-use Rattle.recovery_plans.specs.Beginning.{is_takeover}
-use Rattle.recovery_plans.specs.Recoveries.{Recovery}
-use Rattle.recovery_plans.specs.declared.purpose.Purpose.{Purpose}
-use Rattle.turns.specs.declared.turn.Act.TheVariants as act
-use Rattle.turns.specs.declared.turn.Turn.TheVariants as turn
-use Rattle.unended_jobs.specs.Hooked.{own_turn, Hooked}
-use Rattle.unended_jobs.specs.declared.docket.Docket.{Docket}
-use Rattle.unended_jobs.specs.declared.unended.Unended.{Unended}
-use Rattle.knowledge.specs.Closings.{closed_by, closing_at, closing_changes, closing_for, closing_of}
-use Rattle.orch_core.specs.Jobs.{turn_of, turned_at}
-use Rattle.orch_core.specs.Polls.{changes_of}
-use Rattle.knowledge.specs.Kept.{changes_by}
-use Rattle.orch_core.specs.After.{step}
-use Rattle.orch_core.specs.States.{State}
-use Rattle.run_laws.specs.Flights.{moment_at}
-use Rattle.recovery_runs.specs.Finishes.{finished_so, promoted_then, recovery_after, turn_hooked, turn_taken, IsFinish}
+use Rattle.recovery_runs.proofs.Prelude.{AuditState, Change, Contains-push, Docket, Ending, Hooked, IsFinish, JobStep, Line, Moment, Purpose}
+use Rattle.recovery_runs.proofs.Prelude.{Recovery, Row, ServerNo, State, Unended, acked_so, acknowledged_at, changes_by, changes_of, closed_by}
+use Rattle.recovery_runs.proofs.Prelude.{closing_at, closing_changes, closing_for, closing_of, ended, ended_so, finished_so, is_takeover}
+use Rattle.recovery_runs.proofs.Prelude.{job_observation, moment_at, option_map, option_to_list, own_turn, promoted_then, put_recovery}
+use Rattle.recovery_runs.proofs.Prelude.{recovery_after, recovery_at, step, turn_hooked, turn_of, turn_taken, turned_at}
+use Rattle.recovery_runs.proofs.Prelude.Endings.{done_with}
+use Rattle.recovery_runs.proofs.Prelude.KeptRows.{Recovery as KeptRecovery}
+use Rattle.recovery_runs.proofs.Prelude.act
+use Rattle.recovery_runs.proofs.Prelude.ending
+use Rattle.recovery_runs.proofs.Prelude.job_step
+use Rattle.recovery_runs.proofs.Prelude.turn
 use Rattle.recovery_runs.proofs.Finishing.{aim-at, own-turned}
 
 -- ---- an entry by its id

@@ -1,50 +1,18 @@
 -- The lost of a recovery have reasons, from its beginning on.
 use Rattle.std.proofs.Common.{◌≡◌, ◌∙◌, ℕ, Bool, true, List, ◌++◌, refl, sym, subst, Option, Some, None}
 use Rattle.std.specs.Prelude.{◌==◌, All, IfSome}
-use Rattle.std.specs.Option.{option_map}
-use Rattle.std.proofs.lemmas.List.Elements.{All-nil, All-weaker}
-use Rattle.orch_base.specs.Memory.{next_count}
-use Rattle.kept_rows.specs.declared.row.Row.{Row}
-use Rattle.job_laws.proofs.Lists.{All-find}
-use Rattle.jobs_in_flight.specs.Jobs.{job_at, jobs_turned}
-use Rattle.jobs_in_flight.proofs.Numbers.{found-number}
-use Rattle.operations.specs.Turns.{is_going}
-use Rattle.recovery_plans.specs.Recoveries.{Recovery}
-use Rattle.recovery_reasons.proofs.Facts.{begun-explained}
-use Rattle.recovery_reasons.specs.Reasons.{ExplainsTruly, Fact, IsExplained}
-use Rattle.scenarios.specs.Turns.{IsAct, IsTurn}
-use Rattle.scenarios.specs.declared.scenario.Scenario.{Scenario}
-use Rattle.turns.specs.declared.turn.Act.{Act}
-use Rattle.turns.specs.declared.turn.Act.TheVariants as act
-use Rattle.turns.specs.declared.turn.Turn.{Turn}
-use Rattle.turns.specs.declared.turn.Turn.TheVariants as turn
-use Rattle.unended_jobs.specs.declared.docket.Docket.{Docket}
-use Rattle.unended_jobs.specs.declared.unended.Unended.{Unended}
-use Rattle.unended_jobs.specs.declared.unended.Unended.TheVariants as unended
-use Rattle.unended_jobs.specs.Unended.{IsReady, number_of}
-use Rattle.unended_jobs.specs.Hooked.{promoted_in}
-use Rattle.unended_jobs.proofs.Going.{flown-number}
-use Rattle.unended_jobs.proofs.Hooked.{hooked-has}
-use Rattle.covered_laws.proofs.Turning.{all-turned}
-use Rattle.orch_core.specs.Jobs.{turn_of}
-use Rattle.orch_core.specs.Polls.{command_outcome, scan_outcome}
-use Rattle.orch_core.specs.After.{after_act, step, after_done}
-use Rattle.orch_core.specs.Scenarios.{start}
-use Rattle.orch_core.specs.States.{State}
-use Rattle.orch_core.specs.Settling.{known_of}
-use Rattle.knowledge.specs.Knowing.{updated}
-use Rattle.run_laws.specs.Ready.{Ready}
-use Rattle.run_laws.specs.Flights.{moment_at}
-use Rattle.run_laws.specs.States.{HeldState}
-use Rattle.recovery_runs.specs.Begun.{BeginsOnce, jobs_of}
-use Rattle.recovery_runs.specs.States.{SpeakingState}
+use Rattle.recovery_runs.proofs.Prelude.{Act, All-find, All-nil, All-weaker, BeginsOnce, Docket, ExplainedState, ExplainsAct, ExplainsDone}
+use Rattle.recovery_runs.proofs.Prelude.{ExplainsTruly, ExplainsTurn, Fact, HasFacts, HeldState, IsAct, IsExplained, IsReady, IsTurn, Ready, Recovery}
+use Rattle.recovery_runs.proofs.Prelude.{Row, Scenario, SpeakingState, State, Turn, Unended, act-fits, act_in, after_act, after_done, all-turned}
+use Rattle.recovery_runs.proofs.Prelude.{begun-explained, command_outcome, flown-number, found-number, hooked-has, is_going, job_at, jobs_of}
+use Rattle.recovery_runs.proofs.Prelude.{jobs_turned, known_of, moment_at, next_count, number_of, option_map, promoted_in, recovery_after}
+use Rattle.recovery_runs.proofs.Prelude.{scan_outcome, start, step, turn_of, turn_taken, updated}
+use Rattle.recovery_runs.proofs.Prelude.act
+use Rattle.recovery_runs.proofs.Prelude.turn
+use Rattle.recovery_runs.proofs.Prelude.unended
 use Rattle.recovery_runs.proofs.Begun.{command-once, scan-once}
 use Rattle.recovery_runs.proofs.Joining.{command-joins, joined, scan-joins}
-use Rattle.recovery_runs.specs.Finishes.{recovery_after, turn_taken}
-use Rattle.recovery_runs.specs.Facts.{ExplainedState, ExplainsAct, ExplainsTurn, HasFacts, ExplainsDone}
 use Rattle.recovery_runs.proofs.Finishing.{facts-true}
-use Rattle.orch_core.specs.Nodes.{act_in}
-use Rattle.orch_core.proofs.Claims.{act-fits}
 
 module _ (P : Fact → Bool) (id : ℕ) where
   abbrev Explained : Unended → Type 0
@@ -106,14 +74,12 @@ module _ (P : Fact → Bool) (id : ℕ) where
 
   pub explained-step : (count : ℕ) (rows : List Row) (s : State) (t : Turn) → Ready count s → IsTurn count t → HeldState s → SpeakingState s → ExplainsTurn P id s t
       → ExplainedState P id s → ExplainedState P id (step rows s t)
-  explained-step count rows s (turn.Step x) ready is held speaking explains explained = explained
-  explained-step count rows s (turn.Tick seconds) ready is held speaking explains explained = explained
   explained-step count rows s (turn.Act a) ready is held speaking explains explained = explained-act count rows s a ready is held speaking explains explained
   explained-step count rows s (turn.As node a) ready is held speaking explains explained =
       explained-done count rows s (act_in s (turn.As node a)) ready (act-fits count s (turn.As node a) is) held speaking explains explained
   explained-step count rows s (turn.Claim node) ready is held speaking explains explained =
       explained-done count rows s (act_in s (turn.Claim node)) ready (act-fits count s (turn.Claim node) is) held speaking explains explained
-  explained-step count rows s (turn.Release node) ready is held speaking explains explained = explained
+  explained-step count rows s _ ready is held speaking explains explained = explained
 
   pub explained-start : (s : Scenario) (wait : ℕ) (rows : List Row) → ExplainedState P id (start s wait rows)
   explained-start s wait rows = All-nil Explained

@@ -1,69 +1,25 @@
 -- A recovery fails for what befell it.
 use Rattle.std.proofs.Common.{◌≡◌, ◌∙◌, ◌+◌, ℕ, Bool, true, false, cond, List, [], ◌∷◌, refl, sym, ap, subst, Option, Some, None, ◌⊎◌, inl, inr}
-use Rattle.std.specs.Option.{option_map}
+use Rattle.recovery_runs.proofs.Prelude.{All-find, All-head, Attempt, BookState, Cause, ComesTo, Deed, Docket, Exchange, FailsTruly, Failure, Fate}
+use Rattle.recovery_runs.proofs.Prelude.{Fine, HasNobody, Hook, HookState, HostPort, IsEndedByHook, IsFailing, IsOnWay, IsSpeakingBeside, IsTrueOf}
+use Rattle.recovery_runs.proofs.Prelude.{Job, JobStep, Line, Moment, Observation, Op, ReadsNow, RecoveriesFailForWhatBefell, Recovery, Scenario}
+use Rattle.recovery_runs.proofs.Prelude.{ServerNo, ShowsFailed, ShowsNow, SpeakingState, Stage, State, Status, Taken, Unended, World, acted}
+use Rattle.recovery_runs.proofs.Prelude.{attempted, barred_by, by_deed, cause-true, decided, decided-walks, decides-fine, decisions-keep, deed_of}
+use Rattle.recovery_runs.proofs.Prelude.{eq-eqb, failed_lines, false≢true, fate, finds-nobody, front_hook, front_turn, ground_of, has_source, info}
+use Rattle.recovery_runs.proofs.Prelude.{job_reply, met, next_count, number_of, on_going, option_map, position_of, promoted_in, ran_before, read-now}
+use Rattle.recovery_runs.proofs.Prelude.{rear_hook, rear_turn, same_Some, seen_in, seen_of, source_cause, spoken_to, status, step_before, step_reply}
+use Rattle.recovery_runs.proofs.Prelude.{step_with, still-on, stopped-befell, taken, turn_of, with_hooks}
+use Rattle.recovery_runs.proofs.Prelude.answered
+use Rattle.recovery_runs.proofs.Prelude.attempt
+use Rattle.recovery_runs.proofs.Prelude.cause
+use Rattle.recovery_runs.proofs.Prelude.failing
+use Rattle.recovery_runs.proofs.Prelude.job_step as step
+use Rattle.recovery_runs.proofs.Prelude.op
+use Rattle.recovery_runs.proofs.Prelude.stage
+use Rattle.recovery_runs.proofs.Prelude.table
+use Rattle.recovery_runs.proofs.Prelude.taking
+use Rattle.recovery_runs.proofs.Prelude.unended
 use Rattle.std.specs.Prelude.{◌==◌, IfSome, All}
-use Rattle.std.proofs.lemmas.Bool.{eq-eqb, false≢true}
-use Rattle.std.proofs.lemmas.Option.{same_Some}
-use Rattle.std.proofs.lemmas.List.Elements.{All-head}
-use Rattle.orch_base.specs.Memory.{next_count}
-use Rattle.orch_base.specs.Names.{HostPort}
-use Rattle.orch_base.specs.declared.server.Moment.{Moment}
-use Rattle.orch_base.specs.declared.server.ServerNo.{ServerNo}
-use Rattle.hook_texts.specs.declared.hooks.Hook.{Hook}
-use Rattle.server_words.specs.declared.status.Status.{Status}
-use Rattle.commands.specs.declared.cause.Cause.{Cause}
-use Rattle.commands.specs.declared.cause.Cause.TheVariants as cause
-use Rattle.commands.specs.declared.line.Line.{Line}
-use Rattle.kept_rows.specs.Seeing.{seen_in}
-use Rattle.kept_rows.specs.declared.observation.Observation.{Observation}
-use Rattle.instance_keeper.specs.Book.{BookState}
-use Rattle.server_model.specs.Gtids.{status}
-use Rattle.server_model.specs.Run.{Exchange}
-use Rattle.server_model.specs.Worlds.{World, has_source}
-use Rattle.operations.specs.declared.op.Op.{Op}
-use Rattle.operations.specs.declared.op.Op.TheVariants as op
-use Rattle.operations.specs.declared.step.JobStep.{JobStep}
-use Rattle.operations.specs.declared.step.JobStep.TheVariants as step
-use Rattle.operations.specs.Deeds.{Deed, deed_of}
-use Rattle.operations.specs.Jobs.{Job, position_of, seen_of}
-use Rattle.operations.specs.Turns as attempt
-use Rattle.operations.specs.Turns.{Attempt, by_deed}
-use Rattle.job_laws.proofs.Lists.{All-find}
-use Rattle.cause_laws.proofs.Turning.{stopped-befell}
-use Rattle.recovery_plans.specs.declared.stage.Stage.{Stage}
-use Rattle.recovery_plans.specs.declared.stage.Stage.TheVariants as stage
-use Rattle.recovery_plans.specs.Deciding.{decided, ground_of}
-use Rattle.recovery_plans.specs.Named.{spoken_to}
-use Rattle.recovery_plans.specs.Recoveries.{Recovery}
-use Rattle.recovery_plans.specs.Table as table
-use Rattle.recovery_plans.specs.Table.{info}
-use Rattle.recovery_plans.specs.Taking as taking
-use Rattle.recovery_plans.specs.Taking.{Fate, Taken, acted, attempted, barred_by, fate, met, on_going, source_cause, taken}
-use Rattle.recovery_plans.proofs.Walking.{decided-walks, decisions-keep}
-use Rattle.recovery_hooks.specs.Runs.{HookState, failed_lines, ran_before}
-use Rattle.recovery_reasons.specs.Causes.{IsTrueOf}
-use Rattle.recovery_reasons.specs.Nobody.{HasNobody}
-use Rattle.recovery_reasons.specs.OnWay.{IsOnWay}
-use Rattle.recovery_reasons.proofs.Causing.{cause-true}
-use Rattle.recovery_reasons.proofs.Nobody.{finds-nobody}
-use Rattle.recovery_reasons.proofs.OnWay.{Fine, decides-fine, still-on}
-use Rattle.recovery_reasons.proofs.Readings.{ReadsNow, ShowsNow, read-now}
-use Rattle.turns.specs.declared.reply.Failure.{Failure}
-use Rattle.turns.specs.declared.reply.Reply.TheVariants as answered
-use Rattle.scenarios.specs.declared.scenario.Scenario.{Scenario}
-use Rattle.unended_jobs.specs.declared.docket.Docket.{Docket}
-use Rattle.unended_jobs.specs.declared.unended.Unended.{Unended}
-use Rattle.unended_jobs.specs.declared.unended.Unended.TheVariants as unended
-use Rattle.unended_jobs.specs.Hooked.{front_hook, front_turn, promoted_in, rear_hook, rear_turn, step_before, step_with, with_hooks}
-use Rattle.unended_jobs.specs.Unended.{number_of}
-use Rattle.jobs_in_flight.specs.Jobs.{job_reply, step_reply}
-use Rattle.covered_laws.specs.Beside.{IsSpeakingBeside}
-use Rattle.orch_core.specs.Jobs.{turn_of}
-use Rattle.orch_core.specs.States.{State}
-use Rattle.run_laws.specs.Runs.{ComesTo}
-use Rattle.recovery_runs.specs.Failing as failing
-use Rattle.recovery_runs.specs.Failing.{FailsTruly, IsEndedByHook, IsFailing, RecoveriesFailForWhatBefell, ShowsFailed}
-use Rattle.recovery_runs.specs.States.{SpeakingState}
 use Rattle.recovery_runs.proofs.Origins.{Step}
 use Rattle.recovery_runs.proofs.Tending.{tends-comes}
 
@@ -138,10 +94,7 @@ module _ (w : World) (b : BookState) (read : ℕ) (now : Moment) (r so : Recover
     at-fate : (o : Op) (rest : List Op) (is : so.core.ops ≡ o ∷ rest) (k : Cause) (ob : Option Observation) → by_deed w read now so.core rest (deed_of o) ≡ attempt.Stops k ob → (f : Fate) → fate w so.purpose so.stage k ≡ f
         → Failed (met w so k ob f).step → FailsTruly w b read now r so c
     at-fate o rest is k ob stops taking.Fails e h = let same : k ≡ c = cc in subst (FailsTruly w b read now r so) same (stopped-truly o rest is k ob stops e)
-    at-fate o rest is k ob stops taking.Drops e h = cc
-    at-fate o rest is k ob stops (taking.Loses n y) e h = cc
-    at-fate o rest is k ob stops (taking.Frees n y) e h = cc
-    at-fate o rest is k ob stops (taking.Goes s ops) e h = cc
+    at-fate o rest is k ob stops _ e h = cc
 
     at-bar : (o : Op) (rest : List Op) (is : so.core.ops ≡ o ∷ rest) (ob : Option Observation) (es : List Exchange) (j : Job) → by_deed w read now so.core rest (deed_of o) ≡ attempt.Goes ob es j → (x : Option Cause)
         → barred_by so.stage so.failed j.seen ≡ x → Failed (on_going w so o ob es j x).step → FailsTruly w b read now r so c
@@ -170,12 +123,9 @@ module _ (d : Docket) (promoted : Option HostPort) (r : Recovery) (t : Taken) (f
   OwnFails x = (lines : List Line) × (x ≡ step.Failed f.cause lines)
 
   own-fails : (o : Option HookState) (x : JobStep) → step_reply (step_with o promoted x) ≡ answered.Failed f → OwnFails x
-  own-fails None step.Going h = absurd cc
-  own-fails None (step.Done lines) h = absurd cc
   own-fails None (step.Failed c lines) h = let same : c ≡ f.cause = cc in (lines, ap (λ (k : Cause). step.Failed k lines) same)
-  own-fails (Some s) step.Going h = absurd cc
-  own-fails (Some s) (step.Done lines) h = absurd cc
   own-fails (Some s) (step.Failed c lines) h = let same : c ≡ f.cause = cc in (lines, ap (λ (k : Cause). step.Failed k lines) same)
+  own-fails _ _ h = absurd cc
 
   rear-fails : (o : Option Hook) → step_reply (rear_turn d promoted r t o).taken.step ≡ answered.Failed f → OwnFails t.step
   rear-fails None h = own-fails d.hooks t.step h

@@ -1,44 +1,18 @@
 -- The turn of a recovery in a state is one of its flight.
 use Rattle.std.proofs.Common.{◌≡◌, ◌∙◌, ◌++◌, ℕ, Bool, List, refl, sym, ap, subst, Option, Some}
 use Rattle.std.specs.Prelude.{◌==◌, All}
-use Rattle.std.specs.Option.{option_map}
-use Rattle.orch_base.specs.Memory.{next_count}
-use Rattle.commands.specs.declared.line.Line.{Line}
-use Rattle.kept_rows.specs.declared.row.Row.{Row}
-use Rattle.operations.specs.declared.step.JobStep.{JobStep}
-use Rattle.operations.specs.declared.step.JobStep.TheVariants as job_step
-use Rattle.server_model.specs.Run.{run}
-use Rattle.server_model.specs.Safe.{Safe}
-use Rattle.server_model.specs.Worlds.{World}
-use Rattle.job_laws.proofs.Lists.{All-find}
-use Rattle.jobs_in_flight.specs.Jobs.{job_at, job_exchanges, job_reply, step_reply}
-use Rattle.recovery_covers.specs.Covers.{IsTold}
-use Rattle.recovery_histories.specs.Kept.{IsBeginning, Keeps, SameAim}
-use Rattle.recovery_plans.specs.Named.{IsNamedRecovery}
-use Rattle.recovery_plans.specs.Recoveries.{Recovery}
-use Rattle.recovery_reasons.specs.OnWay.{AllFit}
-use Rattle.recovery_reasons.proofs.OnWay.{done-fit}
-use Rattle.covered_laws.specs.Beside.{IsSpeakingBeside}
-use Rattle.recovery_reasons.specs.Reasons.{ExplainsTruly, Fact, IsExplained}
-use Rattle.turns.specs.declared.reply.Reply.TheVariants as answered
-use Rattle.turns.specs.declared.turn.Act.TheVariants as act
-use Rattle.turns.specs.declared.turn.Turn.TheVariants as turn
-use Rattle.unended_jobs.specs.declared.docket.Docket.{Docket}
-use Rattle.unended_jobs.specs.declared.unended.Unended.{Unended}
-use Rattle.unended_jobs.specs.declared.unended.Unended.TheVariants as unended
-use Rattle.unended_jobs.specs.Unended.{IsReady, number_of}
-use Rattle.unended_jobs.specs.Hooked.{own_turn, Hooked}
-use Rattle.covered_laws.specs.Turns.{RecoveryTurn}
-use Rattle.covered_laws.proofs.Ending.{done-chain, done-named, done-old, done-placed, done-promoted, done-told, last-aim, turn-aim, turn-explained}
-use Rattle.orch_core.specs.Jobs.{turn_of}
-use Rattle.orch_core.specs.Replies.{reply_of}
-use Rattle.orch_core.specs.After.{step}
-use Rattle.orch_core.specs.States.{State}
-use Rattle.run_laws.specs.Ready.{Ready}
-use Rattle.run_laws.specs.Flights.{flight_of, moment_at}
-use Rattle.run_laws.specs.States.{HeldState, SoundState}
-use Rattle.recovery_runs.specs.States.{AimedState, CoveredState, KeptState, SpeakingState}
-use Rattle.recovery_runs.specs.Finishes.{own_lines, promoted_then, ran_lines, recovery_after, turn_hooked, turn_taken, IsFinish, KeepsHistories, OwesNothing}
+use Rattle.recovery_runs.proofs.Prelude.{AimedState, All-find, AllFit, CoveredState, Docket, ExplainsTruly, Fact, HeldState, Hooked, IsBeginning}
+use Rattle.recovery_runs.proofs.Prelude.{IsExplained, IsFinish, IsNamedRecovery, IsReady, IsSpeakingBeside, IsTold, JobStep, Keeps, KeepsHistories}
+use Rattle.recovery_runs.proofs.Prelude.{KeptState, Line, OwesNothing, Ready, Recovery, RecoveryTurn, Row, Safe, SameAim, SoundState, SpeakingState}
+use Rattle.recovery_runs.proofs.Prelude.{State, Unended, World, done-chain, done-fit, done-named, done-old, done-placed, done-promoted, done-told}
+use Rattle.recovery_runs.proofs.Prelude.{flight_of, job_at, job_exchanges, job_reply, last-aim, moment_at, next_count, number_of, option_map}
+use Rattle.recovery_runs.proofs.Prelude.{own_lines, own_turn, promoted_then, ran_lines, recovery_after, reply_of, run, step, step_reply, turn-aim}
+use Rattle.recovery_runs.proofs.Prelude.{turn-explained, turn_hooked, turn_of, turn_taken}
+use Rattle.recovery_runs.proofs.Prelude.act
+use Rattle.recovery_runs.proofs.Prelude.answered
+use Rattle.recovery_runs.proofs.Prelude.job_step
+use Rattle.recovery_runs.proofs.Prelude.turn
+use Rattle.recovery_runs.proofs.Prelude.unended
 use Rattle.recovery_runs.proofs.Hooks.{done-own, done-with}
 
 module _ (s : State) (id : ℕ) (r : Recovery) (docket : Docket) where

@@ -1,34 +1,15 @@
 -- What recoveries tell of their hooks in a state in which these are tended.
 use Rattle.std.proofs.Common.{◌≡◌, ◌∙◌, ◌+◌, ℕ, List, ◌++◌, refl, sym, ap, Option, Some, None}
 use Rattle.std.specs.Prelude.{◌==◌}
-use Rattle.std.specs.Option.{option_map}
-use Rattle.commands.specs.declared.cause.Cause.{Cause}
-use Rattle.commands.specs.declared.line.Line.{Line}
-use Rattle.hook_laws.specs.Tended.{all_before, all_behind, IsEarly, IsTended}
-use Rattle.hook_laws.proofs.Checking.{tended-still}
-use Rattle.hook_laws.proofs.Telling.{done-docket, failed-docket, none-docket, reached-docket}
-use Rattle.job_laws.proofs.Lists.{All-find}
-use Rattle.jobs_in_flight.specs.Jobs.{job_at, job_reply, step_reply}
-use Rattle.kept_rows.specs.declared.row.Row.{Row}
-use Rattle.operations.specs.declared.step.JobStep.{JobStep}
-use Rattle.orch_base.specs.Memory.{next_count}
-use Rattle.orch_core.specs.After.{step}
-use Rattle.orch_core.specs.Jobs.{turn_of}
-use Rattle.orch_core.specs.Replies.{reply_of}
-use Rattle.orch_core.specs.States.{State}
-use Rattle.recovery_hooks.specs.Runs.{HookState}
-use Rattle.recovery_plans.specs.Recoveries.{Recovery}
-use Rattle.run_laws.specs.Flights.{moment_at}
-use Rattle.server_model.specs.Run.{run, Exchange}
-use Rattle.turns.specs.declared.reply.Reply.TheVariants as answered
-use Rattle.turns.specs.declared.turn.Act.TheVariants as act
-use Rattle.turns.specs.declared.turn.Turn.TheVariants as turn
-use Rattle.unended_jobs.specs.Unended.{number_of}
-use Rattle.unended_jobs.specs.declared.docket.Docket.{Docket}
-use Rattle.unended_jobs.specs.declared.unended.Unended.{Unended}
-use Rattle.unended_jobs.specs.declared.unended.Unended.TheVariants as unended
-use Rattle.recovery_runs.specs.Finishes.{done_with, own_lines, promoted_then, ran_lines, told_hooks, IsFailure, IsFinish, TellsFailed}
-use Rattle.recovery_runs.specs.States.{IsTendedBeside, TendedState}
+use Rattle.recovery_runs.proofs.Prelude.{All-find, Cause, Docket, Exchange, HookState, IsEarly, IsFailure, IsFinish, IsTended, IsTendedBeside}
+use Rattle.recovery_runs.proofs.Prelude.{JobStep, Line, Recovery, Row, State, TellsFailed, TendedState, Unended, all_before, all_behind, done-docket}
+use Rattle.recovery_runs.proofs.Prelude.{done_with, failed-docket, job_at, job_reply, moment_at, next_count, none-docket, number_of, option_map}
+use Rattle.recovery_runs.proofs.Prelude.{own_lines, promoted_then, ran_lines, reached-docket, reply_of, run, step, step_reply, tended-still}
+use Rattle.recovery_runs.proofs.Prelude.{told_hooks, turn_of}
+use Rattle.recovery_runs.proofs.Prelude.act
+use Rattle.recovery_runs.proofs.Prelude.answered
+use Rattle.recovery_runs.proofs.Prelude.turn
+use Rattle.recovery_runs.proofs.Prelude.unended
 use Rattle.recovery_runs.proofs.Finishing.{lines-own, world-hooked}
 
 module _ (s : State) (id : ℕ) (r : Recovery) (docket : Docket) (tended : TendedState s) where

@@ -1,19 +1,11 @@
 -- The turn of a recovery with hooks in which it is done.
 use Rattle.std.proofs.Common.{◌≡◌, ◌∙◌, ◌+◌, Bool, true, false, List, ◌++◌, Option, Some, None, refl, sym, cond}
 use Rattle.std.specs.Prelude.{◌==◌}
-use Rattle.std.proofs.lemmas.List.{append-nil}
-use Rattle.commands.specs.declared.cause.Cause.TheVariants as cause
-use Rattle.commands.specs.declared.line.Line.{Line}
-use Rattle.hook_texts.specs.declared.hooks.Hook.{Hook}
-use Rattle.operations.specs.declared.step.JobStep.{JobStep}
-use Rattle.operations.specs.declared.step.JobStep.TheVariants as step
-use Rattle.orch_base.specs.Names.{HostPort}
-use Rattle.recovery_hooks.specs.Runs.{failed_lines, ran_before, HookState}
-use Rattle.recovery_plans.specs.Recoveries.{Recovery}
-use Rattle.recovery_plans.specs.Taking.{Taken}
-use Rattle.unended_jobs.specs.declared.docket.Docket.{Docket}
-use Rattle.unended_jobs.specs.Hooked.{front_hook, front_turn, own_turn, rear_hook, rear_turn, step_before, step_with, with_hooks}
-use Rattle.recovery_runs.specs.Finishes.{done_with, ran_lines}
+use Rattle.recovery_runs.proofs.Prelude.{Docket, Hook, HookState, HostPort, JobStep, Line, Recovery, Taken, append-nil, done_with, failed_lines}
+use Rattle.recovery_runs.proofs.Prelude.{front_hook, front_turn, own_turn, ran_before, ran_lines, rear_hook, rear_turn, step_before, step_with}
+use Rattle.recovery_runs.proofs.Prelude.{with_hooks}
+use Rattle.recovery_runs.proofs.Prelude.cause
+use Rattle.recovery_runs.proofs.Prelude.job_step as step
 
 -- it is its own, and no hook's
 module _ (d : Docket) (promoted : Option HostPort) (r : Recovery) (t : Taken) (lines : List Line) where
@@ -39,9 +31,6 @@ module _ (d : Docket) (promoted : Option HostPort) (r : Recovery) (t : Taken) (l
 -- its lines, and those of the hooks that ran
 pub done-with : (o : Option HookState) (promoted : Option HostPort) (x : JobStep) (lines : List Line) → step_with o promoted x ≡ step.Done lines
     → (x ≡ step.Done (done_with x)) × (lines ≡ done_with x ++ ran_lines o promoted)
-done-with None promoted step.Going lines e = absurd cc
 done-with None promoted (step.Done own) lines e = let same : lines ≡ own = cc in (refl, same ∙ sym (append-nil own))
-done-with None promoted (step.Failed c ls) lines e = absurd cc
-done-with (Some h) promoted step.Going lines e = absurd cc
 done-with (Some h) promoted (step.Done own) lines e = let same : lines ≡ own ++ ran_lines (Some h) promoted = cc in (refl, same)
-done-with (Some h) promoted (step.Failed c ls) lines e = absurd cc
+done-with _ promoted _ lines e = absurd cc

@@ -1,31 +1,14 @@
 -- What begins stands behind what is there.
 use Rattle.std.proofs.Common.{◌≡◌, ℕ, ◌+◌, List, [], ◌++◌, refl, sym, subst, Option, Some, None, Result, Ok, Err}
 use Rattle.std.specs.Prelude.{All}
-use Rattle.std.proofs.lemmas.List.{append-nil}
-use Rattle.std.proofs.lemmas.List.Elements.{All-append}
-use Rattle.orch_base.specs.declared.server.ServerNo.{ServerNo}
-use Rattle.server_words.specs.declared.status.Status.{Status as Seen}
-use Rattle.kept_rows.specs.declared.observation.Observation.{Observation}
-use Rattle.commands.specs.declared.line.Line.{Line}
-use Rattle.commands.specs.declared.refusal.Refusal.{Refusal}
-use Rattle.commands.specs.declared.refusal.Refusal.TheVariants.{UnknownInstance}
-use Rattle.commands.specs.declared.turn.CommandTurn.{CommandTurn}
-use Rattle.command_routes.specs.declared.route.Route.{Route}
-use Rattle.command_routes.specs.declared.route.Route.TheVariants.{Discovers, Forgets, Asks, Decides, Begins, Recovers, TakesOver}
-use Rattle.command_routes.specs.Routes.{route_of}
-use Rattle.command_jobs.specs.Jobs.{job_by, leases_by, refusal_by}
-use Rattle.asking_commands.specs.Answers.{allowed, lines_of, permitted}
-use Rattle.book_commands.specs.declared.decided.Decided.{Decided}
-use Rattle.book_commands.specs.Decisions.{decided_of}
-use Rattle.recovery_core.specs.Tries.{Begins as RecoveryBegins, recovery_try, takeover_try}
-use Rattle.unended_jobs.specs.declared.unended.Unended.{Unended}
-use Rattle.command_outcomes.specs.Commands.{Outcome, about as given_or, asked, begun, by_hand, decided, discovered, forgotten, outcome_by, outcome_of, question, recovered, recovery_begun, refusal, removal_refusal, taken_over}
-use Rattle.orch_core.specs.Polls.{command_outcome, numbers_of, reading, scan_outcome}
-use Rattle.orch_core.specs.States.{State}
-use Rattle.command_outcomes.specs.HookTelling.{told_try}
-use Rattle.orch_core.specs.Settling.{known_of}
-use Rattle.knowledge.specs.Knowing.{updated}
-use Rattle.recovery_runs.specs.Begun.{jobs_of}
+use Rattle.recovery_runs.proofs.Prelude.{All-append, Asks, Begins as RecoveryBegins, CommandTurn, Decided, Decides, Discovers, Forgets, Line}
+use Rattle.recovery_runs.proofs.Prelude.{Observation, Outcome, Recovers, Refusal, Route, ServerNo, State, Status as Seen, TakesOver, Unended}
+use Rattle.recovery_runs.proofs.Prelude.{UnknownInstance, about as given_or, allowed, append-nil, asked, begun, by_hand, command_outcome, decided_of}
+use Rattle.recovery_runs.proofs.Prelude.{discovered, forgotten, job_by, jobs_of, known_of, leases_by, lines_of, numbers_of, outcome_by, outcome_of}
+use Rattle.recovery_runs.proofs.Prelude.{permitted, question, reading, recovered, recovery_begun, recovery_try, refusal, refusal_by, removal_refusal}
+use Rattle.recovery_runs.proofs.Prelude.{route_of, scan_outcome, taken_over, takeover_try, told_try, updated}
+use Rattle.recovery_runs.proofs.Prelude.Outcomes.{decided}
+use Rattle.recovery_runs.proofs.Prelude.TheVariants.{Begins}
 
 pub joined : (P : Unended → Type 0) (us vs ws : List Unended) → ws ≡ us ++ vs → All P us → All P vs → All P ws
 joined P us vs ws is all new = subst (All P) (sym is) (All-append P us vs all new)

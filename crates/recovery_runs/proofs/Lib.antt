@@ -1,3 +1,4 @@
+mod Prelude
 pub mod Tellings
 pub mod Begun
 pub mod Joining
@@ -15,3 +16,6 @@ pub mod Scenarios
 pub mod Tending
 pub mod Failing
 pub mod Ended
+pub use Rattle.run_laws.proofs.NameOrder as NameOrder
+pub use Rattle.run_laws.proofs.OrchCore as OrchCore
+pub mod RunLaws

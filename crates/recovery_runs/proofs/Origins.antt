@@ -1,29 +1,13 @@
 -- Each recovery in flight began in a turn of its run.
 use Rattle.std.proofs.Common.{◌≡◌, ◌∙◌, ℕ, List, [], ◌∷◌, ◌++◌, length, refl, sym, ap, subst, take, Some, ◌⊎◌, inl, inr, zero, suc}
 use Rattle.std.specs.Prelude.{All, Contains, slice_get}
-use Rattle.std.proofs.lemmas.List.Elements.{All-contains, All-weaker, Contains-append_cases}
-use Rattle.book_views.specs.Sources.{replicas_of}
-use Rattle.kept_rows.specs.declared.row.Row.{Row}
-use Rattle.hook_laws.specs.Tended.{IsOfDocket}
-use Rattle.orch_base.specs.declared.server.ServerNo.{ServerNo}
-use Rattle.recovery_plans.specs.Recoveries.{Recovery}
-use Rattle.recovery_plans.specs.declared.purpose.Purpose.{Purpose}
-use Rattle.recovery_histories.specs.Kept.{SameAim}
-use Rattle.recovery_histories.proofs.Staying.{same-aim, then-aim}
-use Rattle.scenarios.specs.Turns.{IsTurn}
-use Rattle.turns.specs.declared.turn.Turn.{Turn}
-use Rattle.unended_jobs.specs.declared.docket.Docket.{Docket}
-use Rattle.unended_jobs.specs.declared.unended.Unended.{Unended}
-use Rattle.unended_jobs.specs.declared.unended.Unended.TheVariants as unended
-use Rattle.orch_core.specs.After.{step}
-use Rattle.orch_core.specs.Runs.{engine, run_turns}
-use Rattle.orch_core.specs.States.{State}
-use Rattle.run_laws.specs.Ready.{Ready}
-use Rattle.recovery_runs.specs.Begun.{jobs_begun, BeginsOnce, ComesOf, HasHooks}
+use Rattle.recovery_runs.proofs.Prelude.{All-contains, All-weaker, Began, BeganIn, BeginsOnce, ComesOf, Contains-append_cases, Docket, HasHooks}
+use Rattle.recovery_runs.proofs.Prelude.{IsOfDocket, IsTurn, Purpose, Ready, Recovery, Row, SameAim, ServerNo, State, Turn, Unended, engine}
+use Rattle.recovery_runs.proofs.Prelude.{jobs_begun, replicas_of, run_turns, same-aim, step, then-aim}
+use Rattle.recovery_runs.proofs.Prelude.unended
 use Rattle.recovery_runs.proofs.Begun.{begun-once}
 use Rattle.recovery_runs.proofs.Tellings.{tells-on}
 use Rattle.recovery_runs.proofs.Coming.{all-come}
-use Rattle.recovery_runs.specs.Origins.{Began, BeganIn}
 
 -- a turn, with the rows that the keeper hands back
 abbrev pub Step : Type 0

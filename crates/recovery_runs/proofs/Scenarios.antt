@@ -1,29 +1,9 @@
 -- The hooks of recoveries are the scenario's.
 use Rattle.std.proofs.Common.{◌≡◌, ◌∙◌, ℕ, List, [], ◌∷◌, refl, sym, ap, take, Option, Some, None}
-use Rattle.std.proofs.lemmas.Option.{none-some, same_Some}
-use Rattle.book_views.specs.Sources.{label_at}
-use Rattle.hook_laws.specs.Tended.{plan_of}
-use Rattle.hook_texts.specs.declared.hooks.Hooks.{Hooks}
-use Rattle.hook_texts.specs.declared.values.Values.{Values}
-use Rattle.kept_rows.specs.declared.row.Row.{Row}
-use Rattle.orch_core.specs.After.{step}
-use Rattle.command_outcomes.specs.HookTelling.{told_of}
-use Rattle.orch_core.specs.Runs.{engine, run_turns}
-use Rattle.orch_core.specs.Scenarios.{configuration_of, start}
-use Rattle.orch_core.specs.States.{State}
-use Rattle.command_outcomes.specs.declared.configuration.Configuration.{Configuration}
-use Rattle.recovery_hooks.specs.Runs.{HookState}
-use Rattle.recovery_plans.specs.Recoveries.{Recovery}
-use Rattle.recovery_plans.specs.declared.purpose.Purpose.{Purpose}
-use Rattle.recovery_plans.specs.declared.purpose.Purpose.TheVariants as purpose
-use Rattle.run_laws.proofs.Periods.{turn-configured}
-use Rattle.scenarios.specs.Aliases.{alias_of}
-use Rattle.scenarios.specs.declared.scenario.Scenario.{Scenario}
-use Rattle.turns.specs.declared.turn.Turn.{Turn}
-use Rattle.unended_jobs.specs.declared.docket.Docket.{Docket}
-use Rattle.recovery_runs.specs.Begun.{AreHooksOf, HasHooks}
-use Rattle.recovery_runs.specs.Origins.{Began}
-use Rattle.recovery_runs.specs.RunFinishes.{AreScenarios}
+use Rattle.recovery_runs.proofs.Prelude.{AreHooksOf, AreScenarios, Began, Configuration, Docket, HasHooks, Hooks, HookState, Purpose, Recovery, Row}
+use Rattle.recovery_runs.proofs.Prelude.{Scenario, State, Turn, Values, alias_of, configuration_of, engine, label_at, none-some, plan_of, run_turns}
+use Rattle.recovery_runs.proofs.Prelude.{same_Some, start, step, told_of, turn-configured}
+use Rattle.recovery_runs.proofs.Prelude.purpose
 
 configured : (s : State) (xs : List (List Row × Turn)) → (run_turns engine s xs).configuration ≡ s.configuration
 configured s [] = refl

@@ -1,49 +1,16 @@
 -- Until all hooks have run before a recovery that are to, none of its turns has changed a server.
 use Rattle.std.proofs.Common.{◌≡◌, ◌∙◌, ℕ, ◌+◌, true, List, [], ◌∷◌, ◌++◌, length, refl, sym, ap, subst, take, Option, Some, None, ◌⊎◌, inl, inr, arith}
 use Rattle.std.specs.Prelude.{◌==◌, All, Contains, slice_get}
-use Rattle.std.specs.Option.{option_map}
-use Rattle.std.proofs.lemmas.List.Elements.{All-contains_itself, All-nil, All-weaker}
-use Rattle.std.proofs.lemmas.Option.{none-some, slice_get_within}
-use Rattle.hook_laws.specs.Tended.{plan_of, IsEarly, IsOfDocket}
-use Rattle.hook_laws.proofs.Staying.{early-turn, of-docket}
-use Rattle.job_laws.proofs.Lists.{All-find}
-use Rattle.jobs_in_flight.specs.Jobs.{job_at, job_exchanges, jobs_turned}
-use Rattle.kept_rows.specs.declared.row.Row.{Row}
-use Rattle.operations.specs.Turns.{is_going}
-use Rattle.orch_base.specs.Memory.{next_count}
-use Rattle.orch_core.specs.After.{step, after_act, after_done}
-use Rattle.orch_core.specs.Jobs.{turn_of}
-use Rattle.orch_core.specs.Nodes.{act_in}
-use Rattle.knowledge.specs.Knowing.{updated}
-use Rattle.orch_core.specs.Polls.{command_outcome, scan_outcome}
-use Rattle.orch_core.specs.Runs.{engine, run_turns}
-use Rattle.orch_core.specs.Settling.{known_of}
-use Rattle.orch_core.specs.States.{State}
-use Rattle.recovery_histories.specs.Kept.{SameAim}
-use Rattle.recovery_histories.proofs.Staying.{same-aim, taken-aim}
-use Rattle.recovery_hooks.specs.Runs.{HookState}
-use Rattle.recovery_plans.specs.Recoveries.{Recovery}
-use Rattle.recovery_plans.specs.Taking.{taken}
-use Rattle.run_laws.specs.Flights.{moment_at}
-use Rattle.run_laws.specs.Ready.{Ready}
-use Rattle.scenarios.specs.Turns.{IsTurn}
-use Rattle.server_model.proofs.Lists.{slice_get-snoc_cases}
-use Rattle.server_model.specs.Run.{run}
-use Rattle.turns.specs.declared.turn.Act.{Act}
-use Rattle.turns.specs.declared.turn.Act.TheVariants as act
-use Rattle.turns.specs.declared.turn.Turn.{Turn}
-use Rattle.turns.specs.declared.turn.Turn.TheVariants as turn
-use Rattle.unended_jobs.proofs.Going.{flown-number}
-use Rattle.unended_jobs.proofs.Hooked.{hooked-has}
-use Rattle.unended_jobs.specs.Hooked.{hooked, promoted_in}
-use Rattle.unended_jobs.specs.Unended.{IsReady, number_of}
-use Rattle.unended_jobs.specs.declared.docket.Docket.{Docket}
-use Rattle.unended_jobs.specs.declared.unended.Unended.{Unended}
-use Rattle.unended_jobs.specs.declared.unended.Unended.TheVariants as unended
-use Rattle.covered_laws.proofs.Turning.{all-turned}
-use Rattle.recovery_runs.specs.Begun.{jobs_begun, jobs_of, jobs_done, jobs_in_act}
-use Rattle.recovery_runs.specs.Origins.{Began, StaysStill, IsStill}
-use Rattle.recovery_runs.specs.States.{TendedState}
+use Rattle.recovery_runs.proofs.Prelude.{Act, All-contains_itself, All-find, All-nil, All-weaker, Began, Docket, HookState, IsEarly, IsOfDocket}
+use Rattle.recovery_runs.proofs.Prelude.{IsReady, IsStill, IsTurn, Ready, Recovery, Row, SameAim, State, StaysStill, TendedState, Turn, Unended}
+use Rattle.recovery_runs.proofs.Prelude.{act_in, after_act, after_done, all-turned, command_outcome, early-turn, engine, flown-number, hooked}
+use Rattle.recovery_runs.proofs.Prelude.{hooked-has, is_going, job_at, job_exchanges, jobs_begun, jobs_done, jobs_in_act, jobs_of, jobs_turned}
+use Rattle.recovery_runs.proofs.Prelude.{known_of, moment_at, next_count, none-some, number_of, of-docket, option_map, plan_of, promoted_in, run}
+use Rattle.recovery_runs.proofs.Prelude.{run_turns, same-aim, scan_outcome, slice_get-snoc_cases, slice_get_within, step, taken, taken-aim, turn_of}
+use Rattle.recovery_runs.proofs.Prelude.{updated}
+use Rattle.recovery_runs.proofs.Prelude.act
+use Rattle.recovery_runs.proofs.Prelude.turn
+use Rattle.recovery_runs.proofs.Prelude.unended
 use Rattle.recovery_runs.proofs.HookTellings.{early-still}
 use Rattle.recovery_runs.proofs.Joining.{command-joins, joined, scan-joins}
 use Rattle.recovery_runs.proofs.Origins.{began-here, goes-on, longer, take-all, take-longer, Step}

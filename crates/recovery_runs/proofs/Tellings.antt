@@ -1,30 +1,12 @@
 -- A recovery tells of all that it owes.
+use Rattle.recovery_runs.proofs.Prelude.{All-contains, BookState, Contains-append_left, Contains-append_right, Contains-push, IsAsNamed, IsTold}
+use Rattle.recovery_runs.proofs.Prelude.{IsToldOf, Line, Purpose, Recovery, SameAim, ServerNo, TellsAll, World, all-told, by_name, comes_below}
+use Rattle.recovery_runs.proofs.Prelude.{eq-eqb, eqb-true, filtered-all, filtered-few, filtered-none, first_source, followers_of, is_replica_of}
+use Rattle.recovery_runs.proofs.Prelude.{leader-told, none-some, ordered-once, owed, replicas_of, same-no as same-server, times, told_by}
+use Rattle.recovery_runs.proofs.Prelude.RecoveryPlans.{Outcome}
+use Rattle.recovery_runs.proofs.Prelude.purpose
 use Rattle.std.proofs.Common.{◌≡◌, ◌∙◌, ℕ, ◌+◌, ◌<◌, Bool, true, false, cond, not, ◌&&◌, ◌||◌, List, [], ◌∷◌, length, refl, sym, ap, subst, Option, Some, ◌⊎◌, inl, inr, arith}
 use Rattle.std.specs.Prelude.{◌==◌, Contains}
-use Rattle.std.proofs.lemmas.Bool.{eq-eqb, eqb-true}
-use Rattle.std.proofs.lemmas.List.Elements.{All-contains, Contains-append_left, Contains-append_right, Contains-push}
-use Rattle.std.proofs.lemmas.Option.{none-some}
-use Rattle.orch_base.specs.declared.server.ServerNo.{ServerNo}
-use Rattle.book_views.specs.Sources.{is_replica_of, replicas_of}
-use Rattle.commands.specs.declared.line.Line.{Line}
-use Rattle.instance_keeper.specs.Book.{BookState}
-use Rattle.name_order.specs.NameOrder.{by_name}
-use Rattle.recovery_covers.specs.Covers.{IsAsNamed, IsTold, owed, times}
-use Rattle.recovery_histories.specs.Kept.{SameAim}
-use Rattle.recovery_outcomes.proofs.Telling.{all-told, leader-told}
-use Rattle.recovery_outcomes.specs.Told.{IsToldOf}
-use Rattle.recovery_permits.specs.Takeovers.{comes_below, followers_of}
-use Rattle.recovery_plans.specs.Beginning.{first_source}
-use Rattle.recovery_plans.specs.Recoveries.{Outcome, Recovery}
-use Rattle.recovery_plans.specs.Telling.{told_by}
-use Rattle.recovery_plans.specs.declared.purpose.Purpose.{Purpose}
-use Rattle.recovery_plans.specs.declared.purpose.Purpose.TheVariants as purpose
-use Rattle.server_model.specs.Worlds.{World}
-use Rattle.run_laws.proofs.Once.{filtered-all, filtered-few, filtered-none, ordered-once}
-use Rattle.recovery_runs.specs.Begun.{TellsAll}
-
-same-server : (k n : ServerNo) → k.0 ≡ n.0 → k ≡ n
-same-server k n e = λ i. record { 0 = e i }
 
 -- who stands in a list at all is one of it
 pub counted : (ks : List ServerNo) (n : ServerNo) → 0 < times n.0 ks → Contains ks n

@@ -1,45 +1,15 @@
 -- Each turn leaves the hooks of recoveries tended.
 use Rattle.std.proofs.Common.{◌≡◌, ◌∙◌, ℕ, true, List, refl, sym, ap, subst, Option, Some, None}
 use Rattle.std.specs.Prelude.{◌==◌, All, IfSome}
-use Rattle.std.specs.Option.{option_map}
-use Rattle.std.proofs.lemmas.List.Elements.{All-nil}
-use Rattle.std.proofs.lemmas.Option.{none-some, same_Some}
-use Rattle.hook_laws.specs.Tended.{plan_of, IsOfDead, IsTended}
-use Rattle.hook_laws.proofs.Staying.{begun-tended, of-docket, tended-turn}
-use Rattle.job_laws.proofs.Lists.{All-find}
-use Rattle.jobs_in_flight.specs.Jobs.{job_at, jobs_turned}
-use Rattle.kept_rows.specs.declared.row.Row.{Row}
-use Rattle.operations.specs.Turns.{is_going}
-use Rattle.orch_base.specs.Memory.{next_count}
-use Rattle.orch_core.specs.After.{after_act, after_done, step as turn_step}
-use Rattle.command_outcomes.specs.HookTelling.{told_of}
-use Rattle.orch_core.specs.Nodes.{act_in}
-use Rattle.orch_core.proofs.Claims.{act-fits}
-use Rattle.orch_core.specs.Jobs.{turn_of}
-use Rattle.orch_core.specs.Scenarios.{start}
-use Rattle.orch_core.specs.States.{State}
-use Rattle.book_views.specs.Sources.{label_at}
-use Rattle.recovery_hooks.specs.Runs.{begun_hooks, HookState}
-use Rattle.recovery_plans.specs.Beginning.{begun_recovery}
-use Rattle.recovery_plans.specs.Recoveries.{Recovery}
-use Rattle.recovery_plans.specs.declared.purpose.Purpose.{Purpose}
-use Rattle.recovery_plans.specs.declared.purpose.Purpose.TheVariants as purpose
-use Rattle.recovery_plans.specs.Taking.{taken}
-use Rattle.run_laws.specs.Flights.{moment_at}
-use Rattle.run_laws.specs.Ready.{Ready}
-use Rattle.scenarios.specs.Turns.{IsAct, IsTurn}
-use Rattle.scenarios.specs.declared.scenario.Scenario.{Scenario}
-use Rattle.turns.specs.declared.turn.Act.{Act}
-use Rattle.turns.specs.declared.turn.Act.TheVariants as act
-use Rattle.turns.specs.declared.turn.Turn.{Turn}
-use Rattle.turns.specs.declared.turn.Turn.TheVariants as turn
-use Rattle.unended_jobs.specs.Hooked.{hooked, promoted_in}
-use Rattle.unended_jobs.specs.Unended.{number_of}
-use Rattle.unended_jobs.specs.declared.unended.Unended.{Unended}
-use Rattle.unended_jobs.specs.declared.unended.Unended.TheVariants as unended
-use Rattle.covered_laws.proofs.Turning.{all-turned}
-use Rattle.recovery_runs.specs.Begun.{AreHooksOf, BeginsOnce, HasHooks}
-use Rattle.recovery_runs.specs.States.{IsTendedBeside, TendedState}
+use Rattle.recovery_runs.proofs.Prelude.{Act, All-find, All-nil, AreHooksOf, BeginsOnce, HasHooks, HookState, IsAct, IsOfDead, IsTended}
+use Rattle.recovery_runs.proofs.Prelude.{IsTendedBeside, IsTurn, Purpose, Ready, Recovery, Row, Scenario, State, TendedState, Turn, Unended, act-fits}
+use Rattle.recovery_runs.proofs.Prelude.{act_in, after_act, after_done, all-turned, begun-tended, begun_hooks, begun_recovery, hooked, is_going}
+use Rattle.recovery_runs.proofs.Prelude.{job_at, jobs_turned, label_at, moment_at, next_count, none-some, number_of, of-docket, option_map, plan_of}
+use Rattle.recovery_runs.proofs.Prelude.{promoted_in, same_Some, start, step as turn_step, taken, tended-turn, told_of, turn_of}
+use Rattle.recovery_runs.proofs.Prelude.act
+use Rattle.recovery_runs.proofs.Prelude.purpose
+use Rattle.recovery_runs.proofs.Prelude.turn
+use Rattle.recovery_runs.proofs.Prelude.unended
 use Rattle.recovery_runs.proofs.Covering.{with-command, with-scan}
 
 -- ---- as they begin
@@ -98,14 +68,12 @@ tended-done count rows s None ready is tended = tended
 tended-done count rows s (Some a) ready is tended = tended-act count rows s a ready is tended
 
 pub tended-step : (count : ℕ) (rows : List Row) (s : State) (t : Turn) → Ready count s → IsTurn count t → TendedState s → TendedState (turn_step rows s t)
-tended-step count rows s (turn.Step x) ready is tended = record { jobs = tended.jobs }
-tended-step count rows s (turn.Tick seconds) ready is tended = record { jobs = tended.jobs }
 tended-step count rows s (turn.Act a) ready is tended = tended-act count rows s a ready is tended
 tended-step count rows s (turn.As node a) ready is tended =
     record { jobs = (tended-done count rows s (act_in s (turn.As node a)) ready (act-fits count s (turn.As node a) is) tended).jobs }
 tended-step count rows s (turn.Claim node) ready is tended =
     record { jobs = (tended-done count rows s (act_in s (turn.Claim node)) ready (act-fits count s (turn.Claim node) is) tended).jobs }
-tended-step count rows s (turn.Release node) ready is tended = record { jobs = tended.jobs }
+tended-step count rows s _ ready is tended = record { jobs = tended.jobs }
 
 pub tended-start : (s : Scenario) (wait : ℕ) (rows : List Row) → TendedState (start s wait rows)
 tended-start s wait rows = record { jobs = All-nil IsTendedBeside }

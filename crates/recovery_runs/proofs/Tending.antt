@@ -1,57 +1,25 @@
 -- What holds of the recoveries in each state of each run.
 use Rattle.std.proofs.Common.{◌≡◌, ◌∙◌, ℕ, ◌<◌, Bool, List, [], ◌∷◌, ◌++◌, length, append_assoc, refl, sym, ap, subst, Some}
-use Rattle.std.specs.Option.{option_map}
+use Rattle.recovery_runs.proofs.Prelude.{All-find, All-head, All-nil, All-tail, AreScenarios, Began, ComesTo, CoveredState, Docket, ExplainedState}
+use Rattle.recovery_runs.proofs.Prelude.{ExplainsAlong, ExplainsTurn, Fact, FinishesWell, Goes, Goes-start, Goes-step, HasFacts, HookState, IsEarly}
+use Rattle.recovery_runs.proofs.Prelude.{IsExplained, IsFinish, IsQuiet, IsToldOf, IsTurn, KeptState, Line, Recovery, Row, Scenario, ServerNo}
+use Rattle.recovery_runs.proofs.Prelude.{SpeakingState, State, TendedState, Turn, Unended, append-nil, engine, exchanges_at, finished_so}
+use Rattle.recovery_runs.proofs.Prelude.{found-number, job_at, moment_at, none-speak, number_of, option_map, owed, own_lines, recovery_after}
+use Rattle.recovery_runs.proofs.Prelude.{recovery_at, run_turns, start, step, times, turns_of, world-turn}
+use Rattle.recovery_runs.proofs.Prelude.act
+use Rattle.recovery_runs.proofs.Prelude.exchanges
+use Rattle.recovery_runs.proofs.Prelude.turn
+use Rattle.recovery_runs.proofs.Prelude.unended
 use Rattle.std.specs.Prelude.{◌==◌, All, slice_get}
-use Rattle.std.proofs.lemmas.List.{append-nil}
-use Rattle.std.proofs.lemmas.List.Elements.{All-head, All-nil, All-tail}
-use Rattle.orch_base.specs.declared.server.ServerNo.{ServerNo}
-use Rattle.audit_log.specs.Audits.{recovery_at}
-use Rattle.commands.specs.declared.line.Line.{Line}
-use Rattle.hook_laws.specs.Tended.{IsEarly}
-use Rattle.recovery_hooks.specs.Runs.{HookState}
-use Rattle.kept_rows.specs.declared.row.Row.{Row}
-use Rattle.job_laws.proofs.Lists.{All-find}
-use Rattle.jobs_in_flight.specs.Jobs.{job_at}
-use Rattle.jobs_in_flight.proofs.Numbers.{found-number}
-use Rattle.recovery_plans.specs.Recoveries.{Recovery}
-use Rattle.recovery_reasons.specs.Reasons.{Fact, IsExplained}
-use Rattle.server_model.specs.Safe.{IsQuiet}
-use Rattle.replication_laws.proofs.Runs as exchanges
-use Rattle.scenarios.specs.Turns.{IsTurn}
-use Rattle.scenarios.specs.declared.scenario.Scenario.{Scenario}
-use Rattle.turns.specs.declared.turn.Turn.{Turn}
-use Rattle.turns.specs.declared.turn.Act.TheVariants as act
-use Rattle.turns.specs.declared.turn.Turn.TheVariants as turn
-use Rattle.unended_jobs.specs.declared.docket.Docket.{Docket}
-use Rattle.unended_jobs.specs.declared.unended.Unended.{Unended}
-use Rattle.unended_jobs.specs.declared.unended.Unended.TheVariants as unended
-use Rattle.unended_jobs.specs.Unended.{number_of}
-use Rattle.orch_core.specs.After.{step}
-use Rattle.orch_core.specs.Runs.{engine, run_turns, turns_of}
-use Rattle.orch_core.specs.Scenarios.{start}
-use Rattle.orch_core.specs.States.{State}
-use Rattle.orch_core.specs.Turns.{exchanges_at}
-use Rattle.run_laws.specs.Flights.{moment_at}
-use Rattle.covered_laws.proofs.Beside.{none-speak}
-use Rattle.recovery_runs.specs.Finishes.{IsFinish, finished_so, own_lines, recovery_after}
-use Rattle.recovery_runs.specs.Facts.{ExplainedState, ExplainsTurn, HasFacts}
-use Rattle.recovery_covers.specs.Covers.{owed, times}
-use Rattle.recovery_outcomes.specs.Told.{IsToldOf}
 use Rattle.recovery_runs.proofs.Entries.{audit-ends}
 use Rattle.recovery_runs.proofs.Tellings.{told-then}
 use Rattle.recovery_runs.proofs.Finishing.{keeps-histories, lost-fit, owes-nothing, reply-told}
 use Rattle.recovery_runs.proofs.Facts.{explained-start, explained-step, last-explained}
-use Rattle.recovery_runs.specs.States.{CoveredState, KeptState, SpeakingState, TendedState}
 use Rattle.recovery_runs.proofs.HookTellings.{early-still, finish-tells}
 use Rattle.recovery_runs.proofs.Scenarios.{are-scenarios}
 use Rattle.recovery_runs.proofs.Still.{still-step, HasStill}
 use Rattle.recovery_runs.proofs.Tended.{tended-start, tended-step}
 use Rattle.recovery_runs.proofs.Covering.{covered-start, covered-step, kept-start, kept-step, speaking-step}
-use Rattle.run_laws.specs.Runs.{ComesTo}
-use Rattle.run_laws.proofs.RunLaws.{Goes, Goes-start, Goes-step}
-use Rattle.run_laws.proofs.Worlds.{world-turn}
-use Rattle.recovery_runs.specs.RunFinishes.{AreScenarios, FinishesWell}
-use Rattle.recovery_runs.specs.Origins.{Began, ExplainsAlong}
 use Rattle.recovery_runs.proofs.Origins.{HasOrigin, Step, origins-step, take-all}
 
 -- ---- one state

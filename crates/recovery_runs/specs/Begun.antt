@@ -1,33 +1,12 @@
 -- The jobs that a turn begins.
 use Rattle.std.specs.Prelude.{◌≡◌, ◌<◌, ◌⊎◌, Contains, List, [], Option, Some, None, slice_get}
-use Rattle.book_views.specs.Sources.{replicas_of, label_at}
-use Rattle.hook_laws.specs.Tended.{IsOfDocket}
-use Rattle.orch_base.specs.Names.{HostPort}
-use Rattle.orch_base.specs.declared.code.Code.{Code}
-use Rattle.command_outcomes.specs.Commands.{Outcome}
-use Rattle.command_outcomes.specs.HookTelling.{told_of}
-use Rattle.knowledge.specs.Knowing.{updated}
-use Rattle.orch_core.specs.Polls.{command_outcome, scan_outcome}
-use Rattle.orch_core.specs.Settling.{known_of}
-use Rattle.orch_core.specs.States.{State}
-use Rattle.recovery_core.specs.Begun.{IsFresh}
-use Rattle.orch_base.specs.declared.server.ServerNo.{ServerNo}
-use Rattle.recovery_covers.specs.Covers.{AreReplicas, owed, times}
-use Rattle.recovery_histories.specs.Kept.{SameAim}
-use Rattle.recovery_plans.specs.Beginning.{first_source}
-use Rattle.recovery_hooks.specs.Runs.{HookState, begun_hooks}
-use Rattle.recovery_permits.specs.Checks.{code_at}
-use Rattle.recovery_plans.specs.Recoveries.{Recovery}
-use Rattle.recovery_plans.specs.declared.purpose.Purpose.{Purpose}
-use Rattle.recovery_plans.specs.declared.purpose.Purpose.TheVariants as purpose
-use Rattle.turns.specs.declared.turn.Act.{Act}
-use Rattle.turns.specs.declared.turn.Act.TheVariants as act
-use Rattle.turns.specs.declared.turn.Turn.{Turn}
-use Rattle.turns.specs.declared.turn.Turn.TheVariants as turn
-use Rattle.unended_jobs.specs.declared.docket.Docket.{Docket}
-use Rattle.unended_jobs.specs.declared.unended.Unended.{Unended}
-use Rattle.unended_jobs.specs.declared.unended.Unended.TheVariants as unended
-use Rattle.orch_core.specs.Nodes.{act_in}
+use Rattle.recovery_runs.specs.Prelude.{Act, AreReplicas, Code, Docket, HookState, HostPort, IsFresh, IsOfDocket, Outcome, Purpose, Recovery, SameAim}
+use Rattle.recovery_runs.specs.Prelude.{ServerNo, State, Turn, Unended, act_in, begun_hooks, code_at, command_outcome, first_source, known_of}
+use Rattle.recovery_runs.specs.Prelude.{label_at, owed, replicas_of, scan_outcome, times, told_of, updated}
+use Rattle.recovery_runs.specs.Prelude.act
+use Rattle.recovery_runs.specs.Prelude.purpose
+use Rattle.recovery_runs.specs.Prelude.turn
+use Rattle.recovery_runs.specs.Prelude.unended
 
 -- those of what a command or a scan answers: the jobs that it leaves where there are none before it
 abbrev pub jobs_of : State → Outcome → List Unended

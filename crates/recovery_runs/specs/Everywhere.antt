@@ -1,23 +1,10 @@
 -- Of the recoveries in each state of each run: where they began, what they tell, and how they finish.
 use Rattle.std.specs.Prelude.{◌≡◌, ℕ, Bool, List, Some, length}
-use Rattle.commands.specs.declared.cause.Cause.{Cause}
-use Rattle.commands.specs.declared.line.Line.{Line}
-use Rattle.hook_laws.specs.Tended.{IsEarly}
-use Rattle.recovery_hooks.specs.Runs.{HookState}
-use Rattle.kept_rows.specs.declared.row.Row.{Row}
-use Rattle.jobs_in_flight.specs.Jobs.{job_at}
-use Rattle.orch_core.specs.After.{step}
-use Rattle.orch_core.specs.Scenarios.{start}
-use Rattle.orch_core.specs.States.{State}
-use Rattle.recovery_plans.specs.Recoveries.{Recovery}
-use Rattle.recovery_reasons.specs.Reasons.{Fact, IsExplained}
-use Rattle.scenarios.specs.declared.scenario.Scenario.{Scenario}
-use Rattle.turns.specs.declared.turn.Turn.{Turn}
-use Rattle.turns.specs.declared.turn.Act.TheVariants as act
-use Rattle.turns.specs.declared.turn.Turn.TheVariants as turn
-use Rattle.unended_jobs.specs.declared.docket.Docket.{Docket}
-use Rattle.unended_jobs.specs.declared.unended.Unended.TheVariants as unended
-use Rattle.run_laws.specs.Runs.{ComesTo}
+use Rattle.recovery_runs.specs.Prelude.{Cause, ComesTo, Docket, Fact, HookState, IsEarly, IsExplained, Line, Recovery, Row, Scenario, State, Turn}
+use Rattle.recovery_runs.specs.Prelude.{job_at, start, step}
+use Rattle.recovery_runs.specs.Prelude.act
+use Rattle.recovery_runs.specs.Prelude.turn
+use Rattle.recovery_runs.specs.Prelude.unended
 use Rattle.recovery_runs.specs.Finishes.{IsFailure, IsFinish, recovery_after}
 use Rattle.recovery_runs.specs.Facts.{ExplainsTurn}
 use Rattle.recovery_runs.specs.Origins.{Began, ExplainsAlong}

@@ -1,19 +1,10 @@
 -- That what a recovery tells is true, from its beginning on.
 use Rattle.std.specs.Prelude.{◌≡◌, ℕ, Bool, All, Option, Some, None}
-use Rattle.run_laws.specs.Flights.{moment_at}
-use Rattle.jobs_in_flight.specs.Jobs.{job_at}
-use Rattle.orch_core.specs.States.{State}
-use Rattle.recovery_plans.specs.Recoveries.{Recovery}
-use Rattle.recovery_reasons.specs.Reasons.{ExplainsTruly, Fact, IsExplained}
-use Rattle.turns.specs.declared.turn.Act.{Act}
-use Rattle.turns.specs.declared.turn.Act.TheVariants as act
-use Rattle.turns.specs.declared.turn.Turn.{Turn}
-use Rattle.turns.specs.declared.turn.Turn.TheVariants as turn
-use Rattle.unended_jobs.specs.declared.docket.Docket.{Docket}
-use Rattle.unended_jobs.specs.declared.unended.Unended.{Unended}
-use Rattle.unended_jobs.specs.declared.unended.Unended.TheVariants as unended
-use Rattle.unended_jobs.specs.Unended.{number_of}
-use Rattle.orch_core.specs.Nodes.{act_in}
+use Rattle.recovery_runs.specs.Prelude.{Act, Docket, ExplainsTruly, Fact, IsExplained, Recovery, State, Turn, Unended, act_in, job_at, moment_at}
+use Rattle.recovery_runs.specs.Prelude.{number_of}
+use Rattle.recovery_runs.specs.Prelude.act
+use Rattle.recovery_runs.specs.Prelude.turn
+use Rattle.recovery_runs.specs.Prelude.unended
 
 -- what a recovery came to so far has facts that count
 abbrev pub HasFacts : (Fact → Bool) → Unended → Type 0

@@ -1,41 +1,16 @@
 -- For what recoveries fail in the states of runs.
 use Rattle.std.specs.Prelude.{◌≡◌, ◌≢◌, ◌⊎◌, ◌+◌, ℕ, true, List, [], ◌∷◌, Option, Some, None, IfSome}
-use Rattle.orch_base.specs.Memory.{next_count}
-use Rattle.orch_base.specs.declared.server.Moment.{Moment}
-use Rattle.orch_base.specs.declared.server.ServerNo.{ServerNo}
-use Rattle.hook_texts.specs.declared.hooks.Hook.{Hook}
-use Rattle.server_words.specs.declared.status.Status.{Status}
-use Rattle.commands.specs.declared.cause.Cause.{Cause}
-use Rattle.commands.specs.declared.cause.Cause.TheVariants as cause
-use Rattle.kept_rows.specs.Seeing.{seen_in}
-use Rattle.kept_rows.specs.declared.observation.Observation.{Observation}
-use Rattle.instance_keeper.specs.Book.{BookState}
-use Rattle.server_model.specs.Gtids.{status}
-use Rattle.server_model.specs.Worlds.{World, has_source}
-use Rattle.operations.specs.declared.op.Op.{Op}
-use Rattle.operations.specs.declared.op.Op.TheVariants as op
-use Rattle.operations.specs.Deeds.{deed_of}
-use Rattle.cause_laws.specs.Events.{Befell}
-use Rattle.recovery_plans.specs.declared.stage.Stage.TheVariants as stage
-use Rattle.recovery_plans.specs.Deciding.{decided, ground_of}
-use Rattle.recovery_plans.specs.Moves.{Stops}
-use Rattle.recovery_plans.specs.Named.{spoken_to}
-use Rattle.recovery_plans.specs.Recoveries.{Recovery}
-use Rattle.recovery_plans.specs.Taking as taking
-use Rattle.recovery_plans.specs.Taking.{fate}
-use Rattle.recovery_hooks.specs.Runs.{due_before, HookState}
-use Rattle.recovery_reasons.specs.Causes.{IsTrueOf}
-use Rattle.recovery_reasons.specs.Nobody.{HasNobody}
-use Rattle.turns.specs.declared.reply.Failure.{Failure}
-use Rattle.turns.specs.declared.reply.Reply.TheVariants as answered
-use Rattle.turns.specs.declared.turn.Act.TheVariants as act
-use Rattle.turns.specs.declared.turn.Turn.TheVariants as turn
-use Rattle.unended_jobs.specs.declared.docket.Docket.{Docket}
-use Rattle.unended_jobs.specs.declared.unended.Unended.TheVariants as unended
-use Rattle.unended_jobs.specs.Hooked.{front_hook}
-use Rattle.jobs_in_flight.specs.Jobs.{job_at}
-use Rattle.orch_core.specs.Replies.{reply_of}
-use Rattle.orch_core.specs.States.{State}
+use Rattle.recovery_runs.specs.Prelude.{Befell, BookState, Cause, Docket, Failure, HasNobody, Hook, HookState, IsTrueOf, Moment, Observation, Op}
+use Rattle.recovery_runs.specs.Prelude.{Recovery, ServerNo, State, Status, Stops, World, decided, deed_of, due_before, fate, front_hook, ground_of}
+use Rattle.recovery_runs.specs.Prelude.{has_source, job_at, next_count, reply_of, seen_in, spoken_to, status}
+use Rattle.recovery_runs.specs.Prelude.act
+use Rattle.recovery_runs.specs.Prelude.answered
+use Rattle.recovery_runs.specs.Prelude.cause
+use Rattle.recovery_runs.specs.Prelude.op
+use Rattle.recovery_runs.specs.Prelude.stage
+use Rattle.recovery_runs.specs.Prelude.taking
+use Rattle.recovery_runs.specs.Prelude.turn
+use Rattle.recovery_runs.specs.Prelude.unended
 
 -- the turn's operation is a status of the failed server, which shows this
 pub record ShowsFailed (w : World) (d : Recovery) (s : Status) : Type 0 where

@@ -1,36 +1,13 @@
 -- What the turn in which a recovery is done leaves, and for what its replicas were lost.
 use Rattle.std.specs.Prelude.{◌≡◌, ◌++◌, ℕ, Bool, Contains, List, Some}
-use Rattle.std.specs.Option.{option_map}
-use Rattle.audit_log.specs.Audits.{recovery_at}
-use Rattle.commands.specs.declared.cause.Cause.{Cause}
-use Rattle.commands.specs.declared.line.Line.{Line}
-use Rattle.hook_laws.specs.Tended.{IsEarly}
-use Rattle.kept_rows.specs.Recoveries.{put_recovery}
-use Rattle.kept_rows.specs.declared.recovery.Recovery.{Recovery as KeptRecovery}
-use Rattle.kept_rows.specs.declared.row.Row.{Row}
-use Rattle.jobs_in_flight.specs.Jobs.{job_at}
-use Rattle.orch_base.specs.declared.server.ServerNo.{ServerNo}
-use Rattle.orch_core.specs.Polls.{changes_of}
-use Rattle.orch_core.specs.Replies.{reply_of}
-use Rattle.orch_core.specs.After.{step}
-use Rattle.orch_core.specs.Scenarios.{start}
-use Rattle.orch_core.specs.States.{State}
-use Rattle.recovery_histories.specs.Kept.{SameAim}
-use Rattle.recovery_hooks.specs.Runs.{HookState}
-use Rattle.recovery_plans.specs.Recoveries.{Recovery}
-use Rattle.recovery_reasons.specs.Reasons.{ExplainsTruly, Fact, IsExplained}
-use Rattle.scenarios.specs.declared.scenario.Scenario.{Scenario}
-use Rattle.scenarios.specs.Turns.{IsTurn}
-use Rattle.server_model.specs.Safe.{Safe}
-use Rattle.turns.specs.declared.reply.Reply.TheVariants as answered
-use Rattle.turns.specs.declared.turn.Turn.{Turn}
-use Rattle.turns.specs.declared.turn.Act.TheVariants as act
-use Rattle.turns.specs.declared.turn.Turn.TheVariants as turn
-use Rattle.unended_jobs.specs.declared.docket.Docket.{Docket}
-use Rattle.unended_jobs.specs.declared.unended.Unended.TheVariants as unended
-use Rattle.run_laws.specs.Flights.{moment_at}
-use Rattle.run_laws.specs.Ready.{Ready}
-use Rattle.run_laws.specs.States.{HeldState, SoundState}
+use Rattle.recovery_runs.specs.Prelude.{Cause, Docket, ExplainsTruly, Fact, HeldState, HookState, IsEarly, IsExplained, IsTurn, Line, Ready, Recovery}
+use Rattle.recovery_runs.specs.Prelude.{Row, Safe, SameAim, Scenario, ServerNo, SoundState, State, Turn, changes_of, job_at, moment_at, option_map}
+use Rattle.recovery_runs.specs.Prelude.{put_recovery, recovery_at, reply_of, start, step}
+use Rattle.recovery_runs.specs.Prelude.KeptRows.{Recovery as KeptRecovery}
+use Rattle.recovery_runs.specs.Prelude.act
+use Rattle.recovery_runs.specs.Prelude.answered
+use Rattle.recovery_runs.specs.Prelude.turn
+use Rattle.recovery_runs.specs.Prelude.unended
 use Rattle.recovery_runs.specs.Finishes.{IsFailure, IsFinish, KeepsHistories, OwesNothing, TellsFailed, finished_so, own_lines, promoted_then, ran_lines, recovery_after, told_hooks}
 use Rattle.recovery_runs.specs.Facts.{ExplainedState, ExplainsTurn}
 use Rattle.recovery_runs.specs.States.{AimedState, CoveredState, KeptState, SpeakingState, TendedState}

@@ -1,34 +1,15 @@
 -- The turn in which a recovery is done, and what it owes then.
 use Rattle.std.specs.Prelude.{◌≡◌, ◌<◌, ◌||◌, ◌++◌, true, false, ℕ, List, [], All, Option, Some, None}
-use Rattle.orch_base.specs.Memory.{next_count}
-use Rattle.orch_base.specs.Names.{HostPort}
-use Rattle.orch_base.specs.declared.recovery.Ending.TheVariants as ending
-use Rattle.orch_base.specs.declared.server.Moment.{Moment}
-use Rattle.orch_base.specs.declared.server.ServerNo.{ServerNo}
-use Rattle.commands.specs.declared.cause.Cause.{Cause}
-use Rattle.commands.specs.declared.cause.Cause.TheVariants as cause
-use Rattle.commands.specs.declared.line.Line.{Line}
-use Rattle.hook_laws.specs.Tended.{all_before, all_behind}
-use Rattle.covered_laws.specs.Turns.{IsNamedOutcome}
-use Rattle.run_laws.specs.Flights.{moment_at}
-use Rattle.kept_rows.specs.declared.recovery.Recovery.{Recovery as KeptRecovery}
-use Rattle.jobs_in_flight.specs.Jobs.{job_at}
-use Rattle.operations.specs.declared.step.JobStep.{JobStep}
-use Rattle.operations.specs.declared.step.JobStep.TheVariants as step
-use Rattle.orch_core.specs.States.{State}
-use Rattle.recovery_covers.specs.Covers.{HasOnePlace, IsTold, times}
-use Rattle.recovery_outcomes.specs.Chains.{IsChain}
-use Rattle.recovery_histories.specs.Kept.{IsBeginning, Keeps, SameAim}
-use Rattle.recovery_hooks.specs.Runs.{HookState, done_lines, unsuccessful_lines}
-use Rattle.recovery_plans.specs.Beginning.{is_takeover}
-use Rattle.recovery_plans.specs.Recoveries.{Recovery}
-use Rattle.recovery_plans.specs.Taking.{Taken, taken}
-use Rattle.recovery_plans.specs.declared.purpose.Purpose.{Purpose}
-use Rattle.recovery_plans.specs.declared.purpose.Purpose.TheVariants as purpose
-use Rattle.server_model.specs.Worlds.{World}
-use Rattle.unended_jobs.specs.declared.docket.Docket.{Docket}
-use Rattle.unended_jobs.specs.Hooked.{Hooked, hooked, promoted_in}
-use Rattle.unended_jobs.specs.declared.unended.Unended.TheVariants as unended
+use Rattle.recovery_runs.specs.Prelude.{Cause, Docket, HasOnePlace, Hooked, HookState, HostPort, IsBeginning, IsChain, IsNamedOutcome, IsTold}
+use Rattle.recovery_runs.specs.Prelude.{JobStep, Keeps, Line, Moment, Purpose, Recovery, SameAim, ServerNo, State, Taken, World, all_before}
+use Rattle.recovery_runs.specs.Prelude.{all_behind, done_lines, hooked, is_takeover, job_at, moment_at, next_count, promoted_in, taken, times}
+use Rattle.recovery_runs.specs.Prelude.{unsuccessful_lines}
+use Rattle.recovery_runs.specs.Prelude.KeptRows.{Recovery as KeptRecovery}
+use Rattle.recovery_runs.specs.Prelude.cause
+use Rattle.recovery_runs.specs.Prelude.ending
+use Rattle.recovery_runs.specs.Prelude.jobstep as step
+use Rattle.recovery_runs.specs.Prelude.purpose
+use Rattle.recovery_runs.specs.Prelude.unended
 
 -- a recovery's own turn in a state
 abbrev pub turn_taken : State → Recovery → Taken

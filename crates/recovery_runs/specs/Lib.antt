@@ -1,6 +1,7 @@
+pub mod Prelude
 pub mod States
 pub mod Begun
-pub mod Turns
+pub mod SingleTurns
 pub mod Finishes
 pub mod Facts
 pub mod Finished
@@ -8,3 +9,27 @@ pub mod Origins
 pub mod RunFinishes
 pub mod Failing
 pub mod Everywhere
+pub use Rattle.run_laws.specs.AuditLog as AuditLog
+pub use Rattle.run_laws.specs.CommandOutcomes as CommandOutcomes
+pub use Rattle.run_laws.specs.CommandRoutes as CommandRoutes
+pub use Rattle.run_laws.specs.Commands as Commands
+pub mod HookLaws
+pub use Rattle.run_laws.specs.InstanceKeeper as InstanceKeeper
+pub use Rattle.run_laws.specs.JobsInFlight as JobsInFlight
+pub use Rattle.run_laws.specs.KeptRows as KeptRows
+pub use Rattle.run_laws.specs.Knowledge as Knowledge
+pub use Rattle.run_laws.specs.NameOrder as NameOrder
+pub use Rattle.run_laws.specs.NodeClaims as NodeClaims
+pub use Rattle.run_laws.specs.OpeningBook as OpeningBook
+pub use Rattle.run_laws.specs.OrchBase as OrchBase
+pub use Rattle.run_laws.specs.OrchCore as OrchCore
+pub use Rattle.run_laws.specs.RecoveryCore as RecoveryCore
+pub use Rattle.run_laws.specs.RecoveryHooks as RecoveryHooks
+pub use Rattle.run_laws.specs.RecoveryPlans as RecoveryPlans
+pub mod RecoveryReasons
+pub mod RunLaws
+pub use Rattle.run_laws.specs.Scenarios as Scenarios
+pub use Rattle.run_laws.specs.ServerModel as ServerModel
+pub use Rattle.run_laws.specs.Turns as Turns
+pub use Rattle.run_laws.specs.UnendedJobs as UnendedJobs
+pub use Rattle.run_laws.specs.WorldOpenings as WorldOpenings

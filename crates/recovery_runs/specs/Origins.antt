@@ -1,19 +1,8 @@
 -- Where the recoveries of a run began, and which facts were true in its turns.
-use Rattle.recovery_reasons.specs.Reasons.{Fact}
+use Rattle.recovery_runs.specs.Prelude.{Docket, Fact, IsOfDocket, Recovery, Row, SameAim, State, Turn, act_in, engine, replicas_of, run_turns, step}
+use Rattle.recovery_runs.specs.Prelude.act
+use Rattle.recovery_runs.specs.Prelude.unended
 use Rattle.std.specs.Prelude.{◌≡◌, ◌<◌, ℕ, Bool, List, Some, Contains, slice_get, take}
-use Rattle.book_views.specs.Sources.{replicas_of}
-use Rattle.hook_laws.specs.Tended.{IsOfDocket}
-use Rattle.kept_rows.specs.declared.row.Row.{Row}
-use Rattle.recovery_histories.specs.Kept.{SameAim}
-use Rattle.recovery_plans.specs.Recoveries.{Recovery}
-use Rattle.turns.specs.declared.turn.Act.TheVariants as act
-use Rattle.turns.specs.declared.turn.Turn.{Turn}
-use Rattle.unended_jobs.specs.declared.docket.Docket.{Docket}
-use Rattle.unended_jobs.specs.declared.unended.Unended.TheVariants as unended
-use Rattle.orch_core.specs.After.{step}
-use Rattle.orch_core.specs.Nodes.{act_in}
-use Rattle.orch_core.specs.Runs.{engine, run_turns}
-use Rattle.orch_core.specs.States.{State}
 use Rattle.recovery_runs.specs.Facts.{ExplainsTurn}
 use Rattle.recovery_runs.specs.Begun.{HasHooks, TellsAll, jobs_begun}
 

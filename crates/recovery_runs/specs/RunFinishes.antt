@@ -1,34 +1,14 @@
 -- What the turn of a run in which a recovery is done owes.
 use Rattle.std.specs.Prelude.{◌≡◌, ◌<◌, ◌++◌, ℕ, Bool, List, Some}
-use Rattle.std.specs.Option.{option_map}
-use Rattle.orch_base.specs.declared.server.ServerNo.{ServerNo}
-use Rattle.audit_log.specs.Audits.{recovery_at}
-use Rattle.commands.specs.declared.cause.Cause.{Cause}
-use Rattle.commands.specs.declared.cause.Cause.TheVariants as cause
-use Rattle.commands.specs.declared.line.Line.{Line}
-use Rattle.kept_rows.specs.declared.row.Row.{Row}
-use Rattle.recovery_covers.specs.Covers.{owed, times}
-use Rattle.recovery_outcomes.specs.Told.{IsToldOf}
-use Rattle.recovery_hooks.specs.Runs.{HookState}
-use Rattle.recovery_plans.specs.Recoveries.{Recovery}
-use Rattle.recovery_reasons.specs.OnWay.{AllFit}
-use Rattle.recovery_reasons.specs.Reasons.{Fact, IsExplained}
-use Rattle.scenarios.specs.Aliases.{alias_of}
-use Rattle.scenarios.specs.declared.scenario.Scenario.{Scenario}
-use Rattle.server_model.specs.Safe.{IsQuiet}
-use Rattle.server_model.specs.Worlds.{World}
-use Rattle.turns.specs.declared.reply.Reply.TheVariants as answered
-use Rattle.turns.specs.declared.turn.Turn.{Turn}
-use Rattle.turns.specs.declared.turn.Act.TheVariants as act
-use Rattle.turns.specs.declared.turn.Turn.TheVariants as turn
-use Rattle.orch_core.specs.Replies.{reply_of}
-use Rattle.orch_core.specs.After.{step}
-use Rattle.orch_core.specs.States.{State}
-use Rattle.run_laws.specs.Flights.{moment_at}
+use Rattle.recovery_runs.specs.Prelude.{AllFit, Cause, Docket, Fact, HookState, IsExplained, IsQuiet, IsToldOf, Line, Recovery, Row, Scenario}
+use Rattle.recovery_runs.specs.Prelude.{ServerNo, State, Turn, World, alias_of, moment_at, option_map, owed, recovery_at, reply_of, step, times}
+use Rattle.recovery_runs.specs.Prelude.act
+use Rattle.recovery_runs.specs.Prelude.answered
+use Rattle.recovery_runs.specs.Prelude.cause
+use Rattle.recovery_runs.specs.Prelude.turn
 use Rattle.recovery_runs.specs.Facts.{ExplainsTurn}
 use Rattle.recovery_runs.specs.Finishes.{KeepsHistories, OwesNothing, TellsFailed, finished_so, own_lines, promoted_then, recovery_after, told_hooks}
 use Rattle.recovery_runs.specs.Origins.{Began, ExplainsAlong, StaysStill}
-use Rattle.unended_jobs.specs.declared.docket.Docket.{Docket}
 
 -- the servers after it
 abbrev pub world_then : List Row → State → ℕ → World

@@ -1,13 +1,7 @@
 -- What holds of a state's recoveries beside what is held and sound.
 use Rattle.std.specs.Prelude.{◌≡◌, ℕ, All, Some}
-use Rattle.covered_laws.specs.Flights.{AimedJobs, CoveredJobs, KeptJobs, SpeakingJobs}
-use Rattle.run_laws.specs.Flights.{flight_of}
-use Rattle.orch_core.specs.States.{State}
-use Rattle.hook_laws.specs.Tended.{IsTended}
-use Rattle.recovery_hooks.specs.Runs.{HookState}
-use Rattle.recovery_plans.specs.Recoveries.{Recovery}
-use Rattle.unended_jobs.specs.declared.unended.Unended.{Unended}
-use Rattle.unended_jobs.specs.declared.unended.Unended.TheVariants as unended
+use Rattle.recovery_runs.specs.Prelude.{AimedJobs, CoveredJobs, HookState, IsTended, KeptJobs, Recovery, SpeakingJobs, State, Unended, flight_of}
+use Rattle.recovery_runs.specs.Prelude.unended
 
 -- in every state, quiet or not
 abbrev pub CoveredState : State → Type 0

@@ -1,6 +1,6 @@
 //! Laws of the recoveries of runs.
 
-ghost use Rattle.run_laws.specs.Runs.{InEveryState};
+ghost use Rattle.recovery_runs.specs.Prelude.{InEveryState};
 ghost use Rattle.recovery_runs.specs.Failing.{RecoveriesFailForWhatBefell};
 ghost use Rattle.recovery_runs.specs.Everywhere.{EarlyTurnsStayStill, HooksAreScenarios, NextAreExplained, RecoveriesAreExplained, RecoveriesBegan, RecoveriesFailWell, RecoveriesFinishWell};
 

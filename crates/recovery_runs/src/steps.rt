@@ -1,8 +1,8 @@
 //! Laws of single turns and of openings.
 
 ghost use Rattle.recovery_runs.specs.States.{CoveredState, KeptState, SpeakingState, TendedState};
-ghost use Rattle.recovery_runs.specs.Turns.{AtAnyOpening, BeginsJobsOnce, OpeningsAreAimed, RecoveriesComeOfThoseBegun, TurnsKeepAims};
-ghost use Rattle.run_laws.specs.Turns.{TurnKeeps, WhereHeld, WhereReady, WhereSound};
+ghost use Rattle.recovery_runs.specs.SingleTurns.{AtAnyOpening, BeginsJobsOnce, OpeningsAreAimed, RecoveriesComeOfThoseBegun, TurnsKeepAims};
+ghost use Rattle.recovery_runs.specs.Prelude.{TurnKeeps, WhereHeld, WhereReady, WhereSound};
 
 /// The jobs that a turn begins are plans, and recoveries as they begin, of the replicas that the book has of their
 /// failed servers, of which none is named twice; and with the scenario's hooks, which are told of the failed server,

@@ -1,12 +1,6 @@
 -- Who is chosen is there.
 use Rattle.std.proofs.Common.{◌≡◌, ℕ, ◌<◌, List, All, sym, subst, Some}
-use Rattle.orch_base.specs.declared.server.ServerNo.{ServerNo}
-use Rattle.orch_base.specs.declared.server.Moment.{Moment}
-use Rattle.server_model.specs.Worlds.{World}
-use Rattle.instance_keeper.specs.Book.{BookState}
-use Rattle.recovery_plans.specs.declared.outcome.Stopped.{Stopped}
-use Rattle.recovery_plans.specs.Deciding.{chosen_of, ground_of}
-use Rattle.recovery_plans.proofs.Choices.{All-chosen}
+use Rattle.recovery_turns.proofs.Prelude.{All-chosen, BookState, Moment, ServerNo, Stopped, World, chosen_of, ground_of}
 
 pub chosen-there : (n : ℕ) (w : World) (b : BookState) (now : Moment) (f : ServerNo) (xs ys : List Stopped) (p : Stopped)
     → ys ≡ xs → chosen_of (ground_of w b now) f ys ≡ Some p → All (λ (d : Stopped). d.no.0 < n) xs → p.no.0 < n

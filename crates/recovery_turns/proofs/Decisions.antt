@@ -1,29 +1,11 @@
 -- What single decisions make of a recovery.
 use Rattle.std.proofs.Common.{◌≡◌, ℕ, ◌+◌, ◌<◌, Bool, true, false, List, [], ◌∷◌, ◌++◌, drop, length, map, Option, Some, None, refl, sym, ◌∙◌, ap, subst, arith}
 use Rattle.std.specs.Prelude.{filter, find, is_some, slice_get, unwrap_or}
-use Rattle.std.proofs.lemmas.Bool.{false≢true}
-use Rattle.std.specs.Option.{option_or}
-use Rattle.std.proofs.lemmas.List.Folds.{find-append}
-use Rattle.std.proofs.lemmas.List.{append_assoc, drop-drop}
-use Rattle.orch_base.specs.declared.server.Moment.{Moment}
-use Rattle.orch_base.specs.declared.server.ServerNo.{ServerNo}
-use Rattle.recovery_plans.specs.declared.why.Why.{Why}
-use Rattle.recovery_plans.specs.Whys as lost
-use Rattle.instance_keeper.specs.Book.{BookState}
-use Rattle.server_model.specs.Worlds.{World}
-use Rattle.operations.specs.declared.op.Op.{Op}
-use Rattle.operations.specs.Jobs.{Job}
-use Rattle.recovery_plans.specs.declared.outcome.LostReplica.{LostReplica}
-use Rattle.recovery_plans.specs.declared.outcome.Stopped.{Stopped}
-use Rattle.recovery_plans.specs.declared.task.Task.{Task}
-use Rattle.recovery_plans.specs.declared.task.Task.TheVariants as task
-use Rattle.recovery_plans.specs.declared.task.Way.{Way}
-use Rattle.recovery_plans.specs.Deciding.{Ground, expels, ground_of, hand, hand_by, releases, sort, once, way_below, why_of}
-use Rattle.recovery_plans.specs.Recoveries.{Recovery, loses}
-use Rattle.recovery_plans.specs.Telling.{follower_line}
-use Rattle.recovery_turns.specs.declared.decided.Decided.{Decided}
-use Rattle.recovery_turns.specs.declared.decided.Work.{Work}
-use Rattle.recovery_turns.specs.Deciding.{IsBusy, decided_on, settled_on, working_on}
+use Rattle.recovery_turns.proofs.Prelude.{BookState, Decided, Ground, IsBusy, Job, LostReplica, Moment, Op, Recovery, ServerNo, Stopped, Task, Way}
+use Rattle.recovery_turns.proofs.Prelude.{Why, Work, World, append_assoc, decided_on, drop-drop, expels, false≢true, find-append, follower_line}
+use Rattle.recovery_turns.proofs.Prelude.{ground_of, hand, hand_by, loses, once, option_or, releases, settled_on, sort, way_below, why_of, working_on}
+use Rattle.recovery_turns.proofs.Prelude.lost
+use Rattle.recovery_turns.proofs.Prelude.task
 
 -- where nothing begins
 pub idle_on : (r : Recovery) (d : Decided) → d.work ≡ None → decided_on r d ≡ settled_on r d

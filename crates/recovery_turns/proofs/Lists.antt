@@ -1,9 +1,7 @@
 -- Lists of what a function gives of each of a list.
 use Rattle.std.proofs.Common.{◌≡◌, ℕ, ◌+◌, ◌<◌, Bool, true, false, cond, List, [], ◌∷◌, ◌++◌, take, length, get_or, map, refl, sym, ◌∙◌, ap, Option, Some, None}
 use Rattle.std.specs.Prelude.{filter, filter_map}
-use Rattle.std.specs.Option.{option_to_list}
-use Rattle.std.proofs.lemmas.List.{take_more, append_assoc, map-append}
-use Rattle.std.proofs.lemmas.List.Elements.{filter_map-append, filter_more}
+use Rattle.recovery_turns.proofs.Prelude.{append_assoc, filter_map-append, filter_more, map-append, option_to_list, take_more}
 
 cons-list : {Y : Type 0} (o : Option Y) → Rattle.std.specs.List.cons_option o [] ≡ option_to_list o
 cons-list None = refl

@@ -1,8 +1,6 @@
 -- A list that is mapped from its front on.
 use Rattle.std.proofs.Common.{◌≡◌, ℕ, ◌+◌, ◌<◌, ◌≤◌, List, [], ◌∷◌, ◌++◌, take, length, get_or, set, map, zero, suc, refl, sym, ◌∙◌, ap, arith}
-use Rattle.std.proofs.Math.Numerals.{add-one}
-use Rattle.std.proofs.Math.Seq.{take-append_seam}
-use Rattle.std.proofs.lemmas.List.{length-map}
+use Rattle.recovery_turns.proofs.Prelude.{add-one, length-map, take-append_seam}
 
 abbrev pub mapped : {A : Type 0} → (A → A) → ℕ → List A → List A
 mapped f zero xs = xs

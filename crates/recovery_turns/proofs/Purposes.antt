@@ -1,14 +1,8 @@
 -- That a recovery's purpose stays.
 use Rattle.std.proofs.Common.{◌≡◌, ◌∙◌, List, Option, Some, None, refl, ap}
-use Rattle.commands.specs.declared.line.Line.{Line}
-use Rattle.operations.specs.declared.step.JobStep.{JobStep}
-use Rattle.operations.specs.declared.step.JobStep.TheVariants as step
-use Rattle.recovery_plans.specs.Recoveries.{Recovery}
-use Rattle.recovery_turns.specs.declared.decided.Decided.{Decided}
-use Rattle.recovery_turns.specs.declared.decided.Work.{Work}
-use Rattle.recovery_turns.specs.declared.look.RecoveryLook.{RecoveryLook}
-use Rattle.recovery_turns.specs.Deciding.{decided_on, settled_on, working_on}
-use Rattle.recovery_turns.specs.Looks.{after_step, foretold}
+use Rattle.recovery_turns.proofs.Prelude.{Decided, JobStep, Line, Recovery, RecoveryLook, Work, after_step, decided_on, foretold, settled_on}
+use Rattle.recovery_turns.proofs.Prelude.{working_on}
+use Rattle.recovery_turns.proofs.Prelude.step
 
 pub decided-purpose : (r : Recovery) (d : Decided) → (decided_on r d).purpose ≡ r.purpose
 decided-purpose r d = go d.work

@@ -1,22 +1,10 @@
 -- How long the lists of a recovery are after single changes.
 use Rattle.std.proofs.Common.{◌≡◌, ◌+◌, ◌-◌, ◌<◌, ◌≤◌, Bool, true, false, cond, List, [], ◌∷◌, ◌++◌, drop, length, length-append, length-drop, Option, Some, None, refl, arith}
 use Rattle.std.specs.Prelude.{filter}
-use Rattle.std.specs.Option.{option_to_list}
-use Rattle.orch_base.specs.declared.server.ServerNo.{ServerNo}
-use Rattle.operations.specs.declared.sight.Position.{Position}
-use Rattle.operations.specs.declared.sight.Sight.{Sight}
-use Rattle.operations.specs.Jobs.{Job, others, with_seen}
-use Rattle.job_plans.specs.Acts.{job_after}
-use Rattle.job_plans.specs.JobsSeen.{seen_after}
-use Rattle.job_plans.specs.declared.act.Act.{Act}
-use Rattle.job_plans.specs.declared.act.Act.TheVariants as act
-use Rattle.recovery_plans.specs.Recoveries.{Recovery, follows_no_more, without_follower}
-use Rattle.recovery_plans.specs.Stages.{leaver, moved}
-use Rattle.recovery_turns.specs.declared.decided.Decided.{Decided}
-use Rattle.recovery_turns.specs.declared.decided.Work.{Work}
-use Rattle.recovery_turns.specs.Deciding.{Fits, decided_on, settled_on, sights_of, working_on}
-use Rattle.recovery_turns.specs.RecoveriesBy.{IsRoomy, room_for}
-use Rattle.recovery_turns.specs.Steps.{stepped_by}
+use Rattle.recovery_turns.proofs.Prelude.{Act, Decided, Fits, IsRoomy, Job, Position, Recovery, ServerNo, Sight, Work, decided_on, follows_no_more}
+use Rattle.recovery_turns.proofs.Prelude.{job_after, leaver, moved, option_to_list, others, room_for, seen_after, settled_on, sights_of, stepped_by}
+use Rattle.recovery_turns.proofs.Prelude.{with_seen, without_follower, working_on}
+use Rattle.recovery_turns.proofs.Prelude.act
 
 pub filter_short : {X : Type 0} (p : X → Bool) (xs : List X) → length (filter p xs) ≤ length xs
 filter_short p [] = omega arith
@@ -40,15 +28,9 @@ more_short xs (y ∷ ys) =
     omega (arith, rest, one)
 
 pub after_short : (j : Job) (a : Act) → length (job_after j a).seen ≤ length j.seen + 1
-after_short j act.Fail = omega arith
-after_short j act.End = omega arith
-after_short j act.Pass = omega arith
 after_short j (act.Keep x) = seen_short j.seen x.no x.seen
-after_short j (act.Found m) = omega arith
 after_short j (act.Wait x) = seen_short j.seen x.no x.seen
-after_short j (act.Ask n a) = omega arith
-after_short j (act.Attach n expect to at) = omega arith
-after_short j (act.Auto n m) = omega arith
+after_short j _ = omega arith
 
 -- there is room after the decisions
 pub roomy_decided : (r : Recovery) (d : Decided) → Fits r d → IsRoomy 2 (decided_on r d)

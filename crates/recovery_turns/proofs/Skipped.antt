@@ -1,7 +1,6 @@
 -- A list without so many of its first.
 use Rattle.std.proofs.Common.{◌≡◌, ℕ, ◌-◌, ◌<◌, List, [], ◌∷◌, drop, zero, suc, ap, arith}
-use Rattle.std.specs.List.{remove}
-use Rattle.std.proofs.lemmas.List.{drop_all}
+use Rattle.recovery_turns.proofs.Prelude.{drop_all, remove}
 
 pub one_less : {X : Type 0} (xs : List X) (n : ℕ) → 0 < n → drop (n - 1) (remove xs 0) ≡ drop n xs
 one_less xs zero some = absurd (omega (arith, some))

@@ -1,16 +1,8 @@
 -- A recovery whose stage goes on.
 use Rattle.std.proofs.Common.{◌≡◌, ◌<◌, Bool, true, false, List, [], ◌∷◌, length, Option, Some, None, refl, sym, ap, subst, ◌∙◌, arith}
-use Rattle.orch_base.specs.declared.server.ServerNo.{ServerNo}
-use Rattle.operations.specs.declared.op.Op.{Op}
-use Rattle.recovery_plans.specs.declared.stage.Stage.{Stage}
-use Rattle.recovery_plans.specs.declared.stage.Stage.TheVariants as stage
-use Rattle.recovery_plans.specs.Recoveries.{Recovery}
-use Rattle.recovery_plans.specs.Stages.{moved}
-use Rattle.recovery_plans.specs.Table as table
-use Rattle.recovery_plans.specs.Table.{info}
-use Rattle.recovery_plans.specs.Taking.{at_end, entered}
-use Rattle.recovery_turns.specs.declared.progress.LastLines.{LastLines}
-use Rattle.recovery_turns.specs.Steps.{IsTold, progressed_by, stepped_by}
+use Rattle.recovery_turns.proofs.Prelude.{IsTold, LastLines, Op, Recovery, ServerNo, Stage, at_end, entered, info, moved, progressed_by, stepped_by}
+use Rattle.recovery_turns.proofs.Prelude.stage
+use Rattle.recovery_turns.proofs.Prelude.table
 
 stays-due : (r : Recovery) (ops : List Op) → 0 < length ops → r ≡ at_end r ops
 stays-due r [] due = absurd (omega (arith, due))

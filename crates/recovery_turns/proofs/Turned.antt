@@ -1,38 +1,17 @@
 -- What a look at a recovery's job tells of the recovery.
 use Rattle.std.proofs.Common.{◌≡◌, ℕ, ◌<◌, Bool, true, false, cond, List, [], ◌∷◌, length, Option, Some, None, IfSome, refl, sym, ◌∙◌, ap, subst}
 use Rattle.std.specs.Prelude.{is_some, unwrap_or}
-use Rattle.std.specs.List.{All}
-use Rattle.std.proofs.lemmas.Bool.{false≢true, lt-ltb}
-use Rattle.std.proofs.lemmas.List.Elements.{All-head, All-tail}
-use Rattle.orch_base.specs.declared.server.Moment.{Moment}
-use Rattle.commands.specs.declared.cause.Cause.{Cause}
-use Rattle.commands.specs.declared.cause.Cause.TheVariants as cause
-use Rattle.server_model.specs.Worlds.{World}
-use Rattle.operations.specs.declared.op.Op.{Op}
-use Rattle.operations.specs.Deeds as deed
-use Rattle.operations.specs.Deeds.{Deed, deed_of}
-use Rattle.operations.specs.Named.{is_named, are_named, IsNamed}
-use Rattle.operations.specs.Turns as attempt
-use Rattle.operations.specs.Turns.{Attempt, by_deed, by_ops, turned}
-use Rattle.operations.proofs.Tests.{both}
-use Rattle.job_plans.specs.declared.act.Look.{Look}
-use Rattle.job_plans.specs.Acts.{foretold}
-use Rattle.instance_keeper.specs.Book.{BookState}
-use Rattle.server_model.specs.Run.{AllAllowed}
-use Rattle.operations.specs.Changes.{server_of}
-use Rattle.recovery_plans.specs.declared.task.Task.{Task}
-use Rattle.recovery_plans.specs.Deciding.{decided, ground_of, once}
-use Rattle.recovery_plans.specs.Named.{IsNamedRecovery, IsOpOf, IsTaskOf, spoken_to}
-use Rattle.recovery_plans.specs.Recoveries.{Recovery}
-use Rattle.recovery_plans.specs.Stages.{ends, moved}
-use Rattle.recovery_plans.specs.Taking.{acted, at_end, attempted, barred_by, entered, fails, goes_on, is_waiting, on_going, progressed, settled, taken, Taken}
-use Rattle.recovery_plans.proofs.Allowed.{taken-allowed}
-use Rattle.recovery_plans.proofs.Naming.{decided-of, once-of, renumbered, taken-of}
-use Rattle.recovery_turns.specs.declared.look.RecoveryLook.{RecoveryLook}
-use Rattle.recovery_turns.specs.Deciding.{Fits, decided_on}
-use Rattle.recovery_turns.specs.Looks.{CanEnd, CanTake, IsSpare, foretold as look_told}
-use Rattle.recovery_turns.specs.Steps.{progressed_by, stepped_by}
-use Rattle.recovery_turns.specs.Turnings.{ending_at, going_unless, looked_by, turned_by}
+use Rattle.recovery_turns.proofs.Prelude.{All, All-head, All-tail, AllAllowed, Attempt, BookState, CanEnd, CanTake, Cause, Deed, Fits, IsNamed}
+use Rattle.recovery_turns.proofs.Prelude.{IsNamedRecovery, IsOpOf, IsSpare, IsTaskOf, Look, Moment, Op, Recovery, RecoveryLook, Taken, Task, World}
+use Rattle.recovery_turns.proofs.Prelude.{acted, are_named, at_end, attempted, barred_by, both, by_deed, by_ops, decided, decided-of, decided_on}
+use Rattle.recovery_turns.proofs.Prelude.{deed_of, ending_at, ends, entered, fails, false≢true, foretold as look_told, goes_on, going_unless}
+use Rattle.recovery_turns.proofs.Prelude.{ground_of, is_named, is_waiting, looked_by, lt-ltb, moved, on_going, once, once-of, progressed}
+use Rattle.recovery_turns.proofs.Prelude.{progressed_by, renumbered, server_of, settled, spoken_to, stepped_by, taken, taken-allowed, taken-of}
+use Rattle.recovery_turns.proofs.Prelude.{turned, turned_by}
+use Rattle.recovery_turns.proofs.Prelude.Acts.{foretold}
+use Rattle.recovery_turns.proofs.Prelude.attempt
+use Rattle.recovery_turns.proofs.Prelude.cause
+use Rattle.recovery_turns.proofs.Prelude.deed
 
 progress-is : (r : Recovery) (o : Op) (b : Bool) → progressed_by r (ends r.stage (deed_of o)) b ≡ progressed r o b
 progress-is r o true = refl

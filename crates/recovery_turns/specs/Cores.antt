@@ -1,6 +1,6 @@
 -- The job of a recovery, by its parts.
 use Rattle.std.specs.Prelude.{◌≡◌, ◌<◌, ◌≤◌, drop, length, vec_capacity}
-use Rattle.operations.specs.Jobs.{Job}
+use Rattle.recovery_turns.specs.Prelude.{Job}
 use Rattle.recovery_turns.specs.declared.job_parts.JobParts.{JobParts}
 
 abbrev pub core_of : JobParts → Job

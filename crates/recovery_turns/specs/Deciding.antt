@@ -1,13 +1,6 @@
 -- What the decisions at the beginning of a turn make of a recovery.
 use Rattle.std.specs.Prelude.{◌+◌, ◌<◌, ◌≤◌, ◌≡◌, List, [], ◌∷◌, ◌++◌, drop, length, Option, Some, None, IfSome}
-use Rattle.std.specs.Option.{option_map, option_to_list}
-use Rattle.instance_keeper.specs.declared.bridge.Bridge.{Bridge}
-use Rattle.operations.specs.declared.sight.Sight.{Sight}
-use Rattle.operations.specs.Jobs.{Job}
-use Rattle.job_plans.specs.JobsSeen.{seen_after}
-use Rattle.recovery_plans.specs.declared.task.Task.{Task}
-use Rattle.recovery_plans.specs.Recoveries.{Recovery, working}
-use Rattle.recovery_plans.specs.Stages.{with_bridge}
+use Rattle.recovery_turns.specs.Prelude.{Bridge, Job, Recovery, Sight, Task, option_map, option_to_list, seen_after, with_bridge, working}
 use Rattle.recovery_turns.specs.declared.decided.Decided.{Decided}
 use Rattle.recovery_turns.specs.declared.decided.Work.{Work}
 use Rattle.recovery_turns.specs.RecoveriesBy.{room_for}

@@ -1,3 +1,4 @@
+pub mod Prelude
 pub mod Cores
 pub mod Deciding
 pub mod Lines

@@ -1,8 +1,6 @@
-use Rattle.orch_base.specs.declared.server.ServerNo.{ServerNo}
-use Rattle.commands.specs.declared.line.Line.{Line}
-use Rattle.commands.specs.declared.line.Line.TheVariants as line
-use Rattle.recovery_plans.specs.declared.purpose.Purpose.{Purpose}
-use Rattle.recovery_plans.specs.declared.purpose.Purpose.TheVariants as purpose
+use Rattle.recovery_turns.specs.Prelude.{Line, Purpose, ServerNo}
+use Rattle.recovery_turns.specs.Prelude.line
+use Rattle.recovery_turns.specs.Prelude.purpose
 
 -- the line of the new source
 abbrev pub source_line : Purpose → ServerNo → Line

@@ -1,24 +1,14 @@
 -- What a turn is to do, as it was looked up before it.
 use Rattle.std.specs.Prelude.{◌≡◌, ◌<◌, ◌≤◌, length, All, true, Option, Some, None, vec_capacity}
-use Rattle.orch_base.specs.declared.server.ServerNo.{ServerNo}
-use Rattle.server_model.specs.Run.{AllAllowed}
-use Rattle.server_model.specs.Worlds.{World}
-use Rattle.operations.specs.Changes.{server_of}
-use Rattle.operations.specs.declared.step.JobStep.{JobStep}
-use Rattle.operations.specs.declared.step.JobStep.TheVariants as step
-use Rattle.operations.specs.Turns.{ended}
-use Rattle.job_plans.specs.Acts.{CanFollow, job_after}
-use Rattle.recovery_plans.specs.declared.stage.Stage.TheVariants as stage
-use Rattle.recovery_plans.specs.Recoveries.{Recovery}
-use Rattle.recovery_plans.specs.Stages.{moved}
-use Rattle.recovery_plans.specs.Taking.{Taken}
-use Rattle.recovery_parts.specs.Doings.{exchanges_of, takes_memory}
-use Rattle.recovery_parts.specs.Fates.{fate_told}
+use Rattle.recovery_turns.specs.Prelude.{AllAllowed, CanFollow, JobStep, Recovery, ServerNo, Taken, World, borne, ended, fate_told, job_after, moved}
+use Rattle.recovery_turns.specs.Prelude.{server_of}
+use Rattle.recovery_turns.specs.Prelude.Doings.{exchanges_of, takes_memory}
+use Rattle.recovery_turns.specs.Prelude.stage
+use Rattle.recovery_turns.specs.Prelude.step
 use Rattle.recovery_turns.specs.declared.look.RecoveryLook.{RecoveryLook}
 use Rattle.recovery_turns.specs.declared.look.Then.{Then}
 use Rattle.recovery_turns.specs.declared.look.Then.TheVariants as then
 use Rattle.recovery_turns.specs.Deciding.{Fits, decided_on}
-use Rattle.recovery_plans.specs.Moves.{borne}
 use Rattle.recovery_turns.specs.Steps.{IsTold, followed}
 
 -- the recovery after what comes behind its decisions, where it goes on

@@ -1,6 +1,5 @@
 use Rattle.std.specs.Prelude.{ℕ, ◌+◌, ◌≤◌, ◌<◌, List, drop, length, vec_capacity}
-use Rattle.orch_base.specs.declared.server.ServerNo.{ServerNo}
-use Rattle.recovery_plans.specs.Recoveries.{Recovery}
+use Rattle.recovery_turns.specs.Prelude.{Recovery, ServerNo}
 use Rattle.recovery_turns.specs.declared.recovery.RecoveryJob.TheInside.{Inside}
 use Rattle.recovery_turns.specs.Cores.{core_of}
 

@@ -1,11 +1,7 @@
 -- A turn after which a recovery goes on, by whether its operation ended the stage.
 use Rattle.std.specs.Prelude.{◌≡◌, Bool, true, false, Option, Some, None}
-use Rattle.operations.specs.Jobs.{Job}
-use Rattle.recovery_plans.specs.Recoveries.{Recovery}
-use Rattle.recovery_plans.specs.Stages.{moved}
-use Rattle.recovery_plans.specs.Telling.{told}
+use Rattle.recovery_turns.specs.Prelude.{Job, Recovery, at_end, entered, is_waiting, moved, told}
 use Rattle.recovery_turns.specs.declared.progress.LastLines.{LastLines}
-use Rattle.recovery_plans.specs.Taking.{at_end, entered, is_waiting}
 
 abbrev pub stepped_by : Recovery → Bool → Recovery
 stepped_by r true = entered r (moved r.stage)

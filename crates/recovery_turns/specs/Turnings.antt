@@ -1,20 +1,8 @@
 -- What a recovery makes of its job's turn.
 use Rattle.std.specs.Prelude.{Bool, [], ◌∷◌, List, Option, Some, None}
-use Rattle.kept_rows.specs.declared.observation.Observation.{Observation}
-use Rattle.server_model.specs.Run.{Exchange}
-use Rattle.server_model.specs.Worlds.{World}
-use Rattle.commands.specs.declared.cause.Cause.{Cause}
-use Rattle.operations.specs.declared.step.JobStep.{JobStep}
-use Rattle.operations.specs.declared.step.JobStep.TheVariants as step
-use Rattle.operations.specs.declared.op.Op.{Op}
-use Rattle.operations.specs.Deeds.{deed_of}
-use Rattle.operations.specs.Jobs.{Job}
-use Rattle.operations.specs.Turns.{Turned, ended}
-use Rattle.job_plans.specs.declared.act.Look.{Look}
-use Rattle.job_plans.specs.Acts.{foretold}
-use Rattle.recovery_plans.specs.Recoveries.{Recovery}
-use Rattle.recovery_plans.specs.Stages.{ends}
-use Rattle.recovery_plans.specs.Taking.{Taken, barred_by, fails, fate, goes_on, met}
+use Rattle.recovery_turns.specs.Prelude.{Cause, Exchange, Job, JobStep, Look, Observation, Op, Recovery, Taken, Turned, World, barred_by, deed_of}
+use Rattle.recovery_turns.specs.Prelude.{ended, ends, fails, fate, foretold, goes_on, met}
+use Rattle.recovery_turns.specs.Prelude.step
 use Rattle.recovery_turns.specs.Steps.{followed}
 
 abbrev pub going_unless : World → Recovery → Bool → Option Observation → List Exchange → Job → Option Cause → Taken

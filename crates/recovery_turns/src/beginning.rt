@@ -1,15 +1,14 @@
 //! Recoveries that begin.
 
 ghost use Rattle.std.specs.Prelude.{◌≡◌, ◌≤◌, ◌++◌, IfOk, OnOk, length, map, vec_capacity};
-ghost use Rattle.operations.specs.Jobs.{job_with};
-ghost use Rattle.recovery_plans.specs.Beginning.{begun_recovery, but, first_ops, first_source, first_stage, first_tasks, is_master};
-ghost use Rattle.recovery_plans.specs.declared.task.Task.{Task as ATask};
+ghost use Rattle.recovery_turns.specs.Prelude.{Task as ATask, begun_recovery, but, first_ops, first_source, first_stage, first_tasks, is_master};
+ghost use Rattle.recovery_turns.specs.Prelude.{job_with};
 ghost use Rattle.recovery_turns.specs.Cores.{core_of};
 
 use crate::RecoveryJob;
 use crate::job_parts::JobParts;
-use operations::Op;
-use orch_base::{Memory, ServerNo};
+use crate::operations_items::Op;
+use crate::orch_base::{Memory, ServerNo};
 use recovery_plans::{Means, Purpose, Stage, Task};
 use std::alloc::Global;
 

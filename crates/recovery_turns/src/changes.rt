@@ -1,16 +1,14 @@
 //! Single changes of a recovery, for each of which there is room.
 
 ghost use Rattle.std.specs.Prelude.{◌≡◌, ◌<◌, ◌∷◌, ◌++◌, [], length, map, vec_capacity};
-ghost use Rattle.operations.specs.Turns.{ended, saw_at};
-ghost use Rattle.job_plans.specs.Acts.{CanFollow, job_after};
-ghost use Rattle.recovery_plans.specs.Recoveries.{follows, follows_no_more, loses, without_follower, working};
-ghost use Rattle.recovery_plans.specs.Taking.{expelled, idle, marked};
+ghost use Rattle.recovery_turns.specs.Prelude.{CanFollow, ended, expelled, follows, follows_no_more, idle, job_after, loses, marked, saw_at};
+ghost use Rattle.recovery_turns.specs.Prelude.{without_follower, working};
 ghost use Rattle.recovery_turns.specs.RecoveriesBy.{room_for};
 
 use crate::RecoveryJob;
+use crate::operations_items::{Op, Sight};
+use crate::orch_base::ServerNo;
 use job_plans::Act;
-use operations::{Op, Sight};
-use orch_base::ServerNo;
 use recovery_plans::{Follower, LostReplica, Stage, Stopped, Why};
 
 // A replica follows no more.

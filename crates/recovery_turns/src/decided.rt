@@ -1,16 +1,14 @@
 //! What the decisions at the beginning of a turn make of a recovery.
 
 ghost use Rattle.std.specs.Prelude.{◌≡◌, ◌<◌, ◌==◌, ◌∷◌, [], IsTrue, None, OnOk, Some, drop, find, length};
-ghost use Rattle.std.specs.Option.{option_copied};
-ghost use Rattle.recovery_plans.specs.Recoveries.{loses, working};
-ghost use Rattle.recovery_plans.specs.Deciding.{moving};
+ghost use Rattle.recovery_turns.specs.Prelude.{loses, moving, option_copied, working};
 ghost use Rattle.recovery_turns.specs.Deciding.{Fits, IsBusy, IsFirst, decided_on, seen_by, sights_of};
 
 use crate::RecoveryJob;
-use instance_keeper::Bridge;
+use crate::instance_keeper_items::Bridge;
+use crate::operations_items::{Op, Sight};
+use crate::orch_base::{Memory, ServerNo};
 use job_plans::JobView;
-use operations::{Op, Sight};
-use orch_base::{Memory, ServerNo};
 use recovery_parts::{moving, one, room, sight_of};
 use recovery_plans::{LostReplica, Stage, Stopped, Task, Way, Why};
 use std::alloc::Global;

@@ -1,16 +1,15 @@
 //! What is decided at the beginning of a turn.
 
 ghost use Rattle.std.specs.Prelude.{◌≡◌, ◌<◌, ◌∷◌, ◌++◌, [], if◌then◌else◌, All, IfOk, IfSome, None, OnOk, Some, drop, filter, length, map};
-ghost use Rattle.recovery_plans.specs.Deciding.{by_task, choose, chosen_of, closing, expels, hand, hand_over, releases, sort, why_of};
-ghost use Rattle.recovery_plans.specs.declared.task.Task.{Task as ATask};
-ghost use Rattle.recovery_parts.specs.Grounds.{ground_by};
+ghost use Rattle.recovery_turns.specs.Prelude.{Task as ATask, by_task, choose, chosen_of, closing, expels, ground_by, hand, hand_over, releases};
+ghost use Rattle.recovery_turns.specs.Prelude.{sort, why_of};
 ghost use Rattle.recovery_turns.specs.Deciding.{IsBusy, decided_on};
 
 use crate::RecoveryJob;
+use crate::commands::Lost;
 use crate::decided::Decided;
-use commands::Lost;
-use operations::Op;
-use orch_base::{Memory, ServerNo};
+use crate::operations_items::Op;
+use crate::orch_base::{Memory, ServerNo};
 use recovery_parts::{
     Ground, chosen_of, divide, expels, leaders, lose_all, releases, way_below, without,
 };

@@ -1,14 +1,13 @@
 //! The job of a recovery, whose operations are those that are left of its stage.
 
 ghost use Rattle.std.specs.Prelude.{◌≡◌, ◌<◌, ◌≤◌, ◌+◌, length, vec_capacity};
-ghost use Rattle.operations.specs.Turns.{ended, hands_after, next, saw_at, with_match};
-ghost use Rattle.job_plans.specs.Acts.{CanFollow, job_after, rest_of};
+ghost use Rattle.recovery_turns.specs.Prelude.{CanFollow, ended, hands_after, job_after, next, rest_of, saw_at, with_match};
 ghost use Rattle.recovery_turns.specs.Cores.{HasRoomFor, IsAsWide, core_of};
 
+use crate::operations_items::{Match, Op, Sight};
+use crate::orch_base::ServerNo;
+use crate::server_words_items::Ask;
 use job_plans::{Act, change_hands, keep};
-use operations::{Match, Op, Sight};
-use orch_base::ServerNo;
-use server_words::Ask;
 
 /// The job of a recovery, by its parts.
 pub(crate) struct JobParts {

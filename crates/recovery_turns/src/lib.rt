@@ -11,10 +11,12 @@ mod next;
 mod progress;
 mod recovery;
 mod telling;
-mod threads;
 mod turn;
 
 pub use look::RecoveryLook;
 pub use recovery::RecoveryJob;
+use recovery_plans::{
+    commands, instance_keeper_items, operations_items, orch_base, server_model, server_words_items,
+};
 /// Want of memory.
-pub use orch_base::Memory;
+pub use recovery_plans::orch_base::Memory;

@@ -1,38 +1,30 @@
 //! What the next turn of a recovery does.
 
 ghost use Rattle.std.specs.Prelude.{◌≡◌, ◌≤◌, IfOk, List, None, Some, length, map, true, vec_capacity};
-ghost use Rattle.std.specs.Option.{option_copied};
-ghost use Rattle.operations.specs.Jobs.{seen_of, with_seen};
-ghost use Rattle.operations.specs.Turns.{ended};
-ghost use Rattle.job_plans.specs.Acts.{CanFollow, IsSpare as IsSpareJob, exchanges_of as made_by, job_after, takes_memory};
-ghost use Rattle.orch_base.specs.declared.server.ServerNo.{ServerNo as Number};
-ghost use Rattle.commands.specs.declared.line.Line.{Line as ALine};
-ghost use Rattle.recovery_plans.specs.Named.{IsNamedRecovery};
-ghost use Rattle.recovery_plans.specs.Recoveries.{Recovery as ARecovery};
-ghost use Rattle.recovery_plans.specs.Stages.{moved};
-ghost use Rattle.recovery_plans.specs.Taking.{back_by, bar_by, fails, fate, goes_back, last_exchanges, met, settled, taken, undone};
-ghost use Rattle.recovery_parts.specs.Doings.{exchange_of};
-ghost use Rattle.recovery_parts.specs.Infos.{back_told, bar_told};
+ghost use Rattle.recovery_turns.specs.Prelude.{CanFollow, IsNamedRecovery, IsSpare as IsSpareJob, Line as ALine, Recovery as ARecovery};
+ghost use Rattle.recovery_turns.specs.Prelude.{ServerNo as Number, back_by, back_told, bar_by, bar_told, exchange_of, exchanges_of as made_by};
+ghost use Rattle.recovery_turns.specs.Prelude.{fails, fate, goes_back, job_after, last_exchanges, met, moved, option_copied, seen_of, settled, taken};
+ghost use Rattle.recovery_turns.specs.Prelude.{takes_memory, undone, with_seen};
 ghost use Rattle.recovery_turns.specs.Deciding.{decided_on};
 ghost use Rattle.recovery_turns.specs.Looks.{CanEnd, CanTake, IsSpare, foretold};
 ghost use Rattle.recovery_turns.specs.Steps.{IsTold};
 ghost use Rattle.recovery_turns.specs.Turnings.{ending_at, going_by, looked_by};
 
 use crate::RecoveryJob;
+use crate::commands::{Cause, Lines};
 use crate::decided::Decided;
+use crate::instance_keeper_items::{Book, Observation};
+use crate::operations_items::{JobStep, Op, Position, Sight};
+use crate::orch_base::{Memory, Moment, ServerNo, SourceState};
 use crate::progress::LastLines;
-use commands::{Cause, Lines};
-use instance_keeper::{Book, Observation};
+use crate::server_model::World;
+use crate::server_words_items::{Ask, Spot};
 use job_plans::{Act, JobView, Look, has_place};
-use operations::{JobStep, Op, Position, Sight};
-use orch_base::{Memory, Moment, ServerNo, SourceState};
 use recovery_parts::{
     Back, Bar, Change, Doing, Fate, Ground, Info, doing_of, ends, fate_of, info_of, only, room,
     then_starts,
 };
 use recovery_plans::{Purpose, Stage};
-use server_model::World;
-use server_words::{Ask, Spot};
 use std::alloc::Global;
 
 /// What comes behind the decisions of a turn after which a recovery goes on.

@@ -1,16 +1,14 @@
 //! What is next, where no operation is left.
 
 ghost use Rattle.std.specs.Prelude.{◌≡◌, ◌<◌, All, IfOk, None, OnOk, Some, drop, length, map};
-ghost use Rattle.recovery_plans.specs.Deciding.{at_last, better_of, by_task, crown, decided, look_at, once, rejoin, stuck, swap, swap_by, swap_or_crown, yield};
-ghost use Rattle.recovery_plans.specs.Named.{IsNamedRecovery};
-ghost use Rattle.recovery_plans.specs.declared.outcome.Follower.{Follower as AFollower};
-ghost use Rattle.recovery_parts.specs.Grounds.{ground_by};
-ghost use Rattle.recovery_turns.specs.Deciding.{IsBusy, IsFirst, decided_on};
+ghost use Rattle.recovery_turns.specs.Prelude.{IsNamedRecovery, at_last, better_of, by_task, crown, decided, ground_by};
+ghost use Rattle.recovery_turns.specs.Prelude.{look_at, once, rejoin, stuck, swap, swap_by, swap_or_crown, yield};
+ghost use Rattle.recovery_turns.specs.Deciding.{IsBusy, decided_on};
 
 use crate::RecoveryJob;
 use crate::decided::Decided;
-use operations::{Crossing, Op};
-use orch_base::{Memory, ServerNo};
+use crate::operations_items::{Crossing, Op};
+use crate::orch_base::{Memory, ServerNo};
 use recovery_parts::{Ground, better_of, drain, level, one, room, two};
 use recovery_plans::{Purpose, Stage, Task};
 use std::alloc::Global;

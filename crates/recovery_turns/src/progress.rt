@@ -1,24 +1,17 @@
 //! A stage that is done, or whose operation failed.
 
 ghost use Rattle.std.specs.Prelude.{◌≡◌, ◌≤◌, vec_capacity};
-ghost use Rattle.orch_base.specs.declared.server.ServerNo.{ServerNo as Number};
-ghost use Rattle.operations.specs.Jobs.{seen_of};
-ghost use Rattle.recovery_plans.specs.Deciding.{closing, moving};
-ghost use Rattle.recovery_plans.specs.Moves.{borne};
-ghost use Rattle.recovery_plans.specs.Stages.{moved};
-ghost use Rattle.recovery_plans.specs.Taking.{completed, frees, gathered, halted, idle, is_below, last_looks, lead_under, looked, made_of, swapped};
-ghost use Rattle.recovery_plans.specs.Recoveries.{follows};
-ghost use Rattle.recovery_parts.specs.Fates.{fate_told};
-ghost use Rattle.recovery_parts.specs.Infos.{made_told};
+ghost use Rattle.recovery_turns.specs.Prelude.{ServerNo as Number, borne, closing, completed, fate_told, follows, frees, gathered, halted, idle};
+ghost use Rattle.recovery_turns.specs.Prelude.{is_below, last_looks, lead_under, looked, made_of, made_told, moved, moving, seen_of, swapped};
 ghost use Rattle.recovery_turns.specs.Deciding.{seen_by};
 ghost use Rattle.recovery_turns.specs.RecoveriesBy.{IsRoomy};
 ghost use Rattle.recovery_turns.specs.Steps.{IsTold, progressed_by, stepped_by};
 
 use crate::RecoveryJob;
-use commands::{Lines, Lost};
-use instance_keeper::Bridge;
-use operations::{Crossing, Op, Position};
-use orch_base::{ServerNo, SourceState};
+use crate::commands::{Lines, Lost};
+use crate::instance_keeper_items::Bridge;
+use crate::operations_items::{Crossing, Op, Position};
+use crate::orch_base::{ServerNo, SourceState};
 use recovery_parts::{
     Fate, Info, Made, info_of, moving, one, shut, sight_of, spot_seen, three, trail, two,
 };

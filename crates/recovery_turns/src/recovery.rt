@@ -1,14 +1,13 @@
 //! A recovery as a job.
 
 ghost use Rattle.std.specs.Prelude.{◌≡◌};
-ghost use Rattle.std.specs.Option.{option_copied};
-ghost use Rattle.operations.specs.Jobs.{seen_of};
+ghost use Rattle.recovery_turns.specs.Prelude.{option_copied, seen_of};
 
+use crate::instance_keeper_items::Bridge;
 use crate::job_parts::JobParts;
-use instance_keeper::Bridge;
+use crate::operations_items::Position;
+use crate::orch_base::ServerNo;
 use job_plans::JobView;
-use operations::Position;
-use orch_base::ServerNo;
 use recovery_plans::{Follower, LostReplica, Means, Purpose, Stage, Stopped, Task};
 use std::marker::Model;
 

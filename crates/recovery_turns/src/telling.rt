@@ -1,16 +1,14 @@
 //! What a recovery tells when it is done.
 
 ghost use Rattle.std.specs.Prelude.{◌≡◌, ◌++◌, IfOk, OnOk, filter_map};
-ghost use Rattle.std.specs.Option.{option_to_list};
-ghost use Rattle.recovery_plans.specs.Telling.{follower_line, lost_line, replica_line, told, told_why};
-ghost use Rattle.recovery_plans.specs.Whys.{cause_of};
+ghost use Rattle.recovery_turns.specs.Prelude.{cause_of, follower_line, lost_line, option_to_list, replica_line, told, told_why};
 ghost use Rattle.recovery_turns.specs.Deciding.{decided_on};
 ghost use Rattle.recovery_turns.specs.Lines.{source_line};
 
 use crate::RecoveryJob;
+use crate::commands::{Cause, Line, Lines};
 use crate::decided::Decided;
-use commands::{Cause, Line, Lines};
-use orch_base::{Memory, ServerNo};
+use crate::orch_base::{Memory, ServerNo};
 use recovery_plans::{Miss, Purpose, Why};
 use std::alloc::Global;
 

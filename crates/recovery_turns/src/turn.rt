@@ -1,21 +1,20 @@
 //! The turn of a recovery.
 
 ghost use Rattle.std.specs.Prelude.{◌≡◌, ◌<◌, ◌≤◌, ◌+◌, ◌++◌, IfOk, None, OnErr, OnOk, drop, length, vec_capacity};
-ghost use Rattle.std.specs.Option.{option_map};
-ghost use Rattle.server_model.specs.Run.{run};
+ghost use Rattle.recovery_turns.specs.Prelude.{option_map, run};
 ghost use Rattle.recovery_turns.specs.Deciding.{Fits, decided_on, list_on, settled_on};
 ghost use Rattle.recovery_turns.specs.Looks.{CanEnd, CanTake, after_then, foretold};
 ghost use Rattle.recovery_turns.specs.RecoveriesBy.{IsRoomy, room_for};
 
 use crate::decided::{Decided, Work};
+use crate::instance_keeper_items::Observation;
 use crate::look::Then;
+use crate::operations_items::JobStep;
+use crate::orch_base::Memory;
+use crate::server_model::World;
 use crate::{RecoveryJob, RecoveryLook};
-use instance_keeper::Observation;
-use operations::JobStep;
-use orch_base::Memory;
 use recovery_parts::perform;
 use recovery_plans::{LostReplica, Task};
-use server_model::World;
 use std::alloc::Global;
 
 // So many of the first are gone.

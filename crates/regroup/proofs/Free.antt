@@ -1,19 +1,9 @@
 -- A command that isn't refused finds the servers free of which its job takes the leases.
 use Rattle.std.proofs.Common.{◌≡◌, Bool, true, false, Option, None}
-use Rattle.orch_base.specs.declared.server.Moment.{Moment}
-use Rattle.orch_base.specs.declared.server.ServerNo.{ServerNo}
-use Rattle.commands.specs.declared.turn.Command.{Command}
-use Rattle.instance_keeper.specs.Book.{BookState}
-use Rattle.instance_keeper.specs.Leases.{first_busy}
-use Rattle.permission.specs.Checks.{busy, first_refusal}
-use Rattle.permission.specs.Lists.{first_about}
-use Rattle.permission.proofs.Free.{neither}
-use Rattle.permission.proofs.Rows.{about-free}
-use Rattle.server_model.specs.Worlds.{World}
-use Rattle.regroup.specs.Commands.{regroup_command}
-use Rattle.regroup.specs.Permits.{case_of, leased_by, list_of, refusal_about, refusal_of, relocate_row, replicas_row, rest_refusal, row_of, row_refusal}
-use Rattle.regroup.specs.declared.command.RegroupCommand.{RegroupCommand}
-use Rattle.regroup.specs.declared.command.RegroupCommand.TheVariants as command
+use Rattle.regroup.proofs.Prelude.{BookState, Command, Moment, RegroupCommand, ServerNo, World, about-free, busy, case_of, first_about, first_busy}
+use Rattle.regroup.proofs.Prelude.{first_refusal, leased_by, list_of, neither, refusal_about, refusal_of, regroup_command, relocate_row, replicas_row}
+use Rattle.regroup.proofs.Prelude.{rest_refusal, row_of, row_refusal}
+use Rattle.regroup.proofs.Prelude.command
 
 module _ (w : World) (b : BookState) (i : ServerNo) where
   checks-free : (c : RegroupCommand) (d : Option ServerNo) → first_refusal w b (case_of w b c i d) (row_of w.gtid c) ≡ None → first_about (busy b) (list_of w b c i d) ≡ None

@@ -1,3 +1,4 @@
+mod Prelude
 pub mod Climbing
 pub mod Named
 pub mod Free

@@ -1,35 +1,14 @@
 -- The operations of a plan, and the leases, are of the book's servers, where the command's instances are.
 use Rattle.std.proofs.Common.{◌≡◌, ℕ, ◌<◌, Bool, true, false, List, [], ◌∷◌, ◌++◌, length, refl, subst, Option, Some, None, zero, suc}
 use Rattle.std.specs.Prelude.{All, IfSome, IsTrue, if◌then◌else◌, nat_lt, option_and_then, option_map, slice_get, ◌==◌}
-use Rattle.std.specs.List.{flat_map}
-use Rattle.std.specs.Option.{option_to_list}
-use Rattle.std.proofs.lemmas.List.Elements.{All-append, All-head, All-tail}
-use Rattle.std.proofs.lemmas.Option.{same_Some}
-use Rattle.orch_base.specs.declared.server.ServerNo.{ServerNo}
-use Rattle.commands.specs.Turns.{is_within}
-use Rattle.commands.specs.declared.turn.Command.{Command}
-use Rattle.instance_keeper.specs.Book.{BookState}
-use Rattle.book_views.specs.Forests.{book_forest, node_at, parent_of, server_at}
-use Rattle.book_views.specs.Sources.{replicas_of}
-use Rattle.book_views.proofs.Reading.{placed-within}
-use Rattle.name_order.specs.NameOrder.{by_name}
-use Rattle.topology_tree.specs.Forests.{above}
-use Rattle.operations.specs.Named.{are_named}
-use Rattle.operations.specs.Plans.{under, up}
-use Rattle.permission.specs.Checks.{is_given}
-use Rattle.permission.specs.Replicas.{replicas_but}
-use Rattle.permission.specs.Views.{source_of}
-use Rattle.permission.proofs.Rows.{about-is}
-use Rattle.permission.proofs.Within.{AllWithin, Within, but-within, cons-within, given-within, none-within, option-within, replicas-within}
-use Rattle.plan_parts.specs.Parts.{following}
-use Rattle.plan_parts.proofs.Named.{again-named, autos-named, finished-named, joined-named, under-named, up-named}
-use Rattle.server_model.specs.Worlds.{World}
-use Rattle.regroup.specs.Commands.{regroup_command}
-use Rattle.regroup.specs.Permits.{leased_by, list_of, moving_list, passed_by}
-use Rattle.regroup.specs.Plans.{arrived, ascended, climbed, moved_by, next_of, ops_of, plan_of, relocated, travelled}
-use Rattle.regroup.specs.Ways.{Path, parent_at, passed_in, path_of, path_to, way_above, way_in, way_on, way_up}
-use Rattle.regroup.specs.declared.command.RegroupCommand.{RegroupCommand}
-use Rattle.regroup.specs.declared.command.RegroupCommand.TheVariants as command
+use Rattle.regroup.proofs.Prelude.{All-append, All-head, All-tail, AllWithin, BookState, Command, Path, RegroupCommand, ServerNo, Within, World}
+use Rattle.regroup.proofs.Prelude.{about-is, above, again-named, are_named, arrived, ascended, autos-named, book_forest, but-within, by_name, climbed}
+use Rattle.regroup.proofs.Prelude.{cons-within, finished-named, flat_map, following, given-within, is_given, is_within, joined-named, leased_by}
+use Rattle.regroup.proofs.Prelude.{list_of, moved_by, moving_list, next_of, node_at, none-within, ops_of, option-within, option_to_list, parent_at}
+use Rattle.regroup.proofs.Prelude.{parent_of, passed_by, passed_in, path_of, path_to, placed-within, plan_of, regroup_command, relocated}
+use Rattle.regroup.proofs.Prelude.{replicas-within, replicas_but, replicas_of, same_Some, server_at, source_of, travelled, under, under-named, up}
+use Rattle.regroup.proofs.Prelude.{up-named, way_above, way_in, way_on, way_up}
+use Rattle.regroup.proofs.Prelude.command
 use Rattle.regroup.proofs.Climbing.{passed-to}
 
 -- ---- what is passed

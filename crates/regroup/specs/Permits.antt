@@ -2,15 +2,15 @@
 use Rattle.std.specs.Prelude.{Bool, true, false, not, is_some, List, [], ◌∷◌, ◌++◌, Option, None}
 use Rattle.std.specs.List.{flat_map}
 use Rattle.std.specs.Option.{option_or, option_to_list}
-use Rattle.orch_base.specs.declared.server.Moment.{Moment}
-use Rattle.orch_base.specs.declared.server.ServerNo.{ServerNo}
-use Rattle.commands.specs.declared.refusal.Refusal.{Refusal}
-use Rattle.commands.specs.declared.refusal.Refusal.TheVariants.{NoPath}
-use Rattle.commands.specs.declared.turn.Command.{Command}
-use Rattle.instance_keeper.specs.Book.{BookState}
-use Rattle.book_views.specs.Sources.{replicas_of}
+use Rattle.permission.specs.OrchBase.declared.server.Moment.{Moment}
+use Rattle.permission.specs.OrchBase.declared.server.ServerNo.{ServerNo}
+use Rattle.permission.specs.Commands.declared.refusal.Refusal.{Refusal}
+use Rattle.permission.specs.Commands.declared.refusal.Refusal.TheVariants.{NoPath}
+use Rattle.permission.specs.Commands.declared.turn.Command.{Command}
+use Rattle.permission.specs.InstanceKeeper.Book.{BookState}
+use Rattle.permission.specs.BookViews.Sources.{replicas_of}
 use Rattle.promotion_candidates.specs.Candidates.{without_candidate}
-use Rattle.server_model.specs.Worlds.{World}
+use Rattle.permission.specs.ServerModel.Worlds.{World}
 use Rattle.permission.specs.Checks.{Case, first_refusal}
 use Rattle.permission.specs.Lists.{first_about, only_if}
 use Rattle.permission.specs.Replicas.{replicas_but}

@@ -1,15 +1,15 @@
 -- The plans of these commands.
 use Rattle.std.specs.Prelude.{Bool, true, false, List, [], ◌∷◌, ◌++◌, Option, Some, None}
 use Rattle.std.specs.List.{flat_map}
-use Rattle.orch_base.specs.declared.server.ServerNo.{ServerNo}
-use Rattle.commands.specs.declared.turn.Command.{Command}
-use Rattle.instance_keeper.specs.Book.{BookState}
-use Rattle.operations.specs.declared.op.Op.{Op}
-use Rattle.operations.specs.Plans.{again, finished, under, up}
+use Rattle.permission.specs.OrchBase.declared.server.ServerNo.{ServerNo}
+use Rattle.permission.specs.Commands.declared.turn.Command.{Command}
+use Rattle.permission.specs.InstanceKeeper.Book.{BookState}
+use Rattle.permission.specs.Operations.declared.op.Op.{Op}
+use Rattle.permission.specs.Operations.Plans.{again, finished, under, up}
 use Rattle.plan_parts.specs.Parts.{autos, following}
 use Rattle.permission.specs.Replicas.{replicas_but}
 use Rattle.permission.specs.Rows.{about}
-use Rattle.server_model.specs.Worlds.{World}
+use Rattle.permission.specs.ServerModel.Worlds.{World}
 use Rattle.regroup.specs.declared.command.RegroupCommand.{RegroupCommand}
 use Rattle.regroup.specs.declared.command.RegroupCommand.TheVariants as command
 use Rattle.regroup.specs.Commands.{regroup_command}

@@ -1,9 +1,9 @@
 -- Ways up the book's forest, and the path of a server to another one by coordinates.
 use Rattle.std.specs.Prelude.{ℕ, ◌==◌, nat_lt, List, [], ◌∷◌, length, Option, Some, None, option_map, if◌then◌else◌, zero, suc}
 use Rattle.std.specs.Option.{option_or}
-use Rattle.orch_base.specs.declared.server.ServerNo.{ServerNo}
-use Rattle.instance_keeper.specs.Book.{BookState}
-use Rattle.book_views.specs.Forests.{parent_of}
+use Rattle.permission.specs.OrchBase.declared.server.ServerNo.{ServerNo}
+use Rattle.permission.specs.InstanceKeeper.Book.{BookState}
+use Rattle.permission.specs.BookViews.Forests.{parent_of}
 use Rattle.permission.specs.Checks.{is_given}
 use Rattle.permission.specs.Views.{attached_of, source_of}
 

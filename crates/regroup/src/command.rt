@@ -3,8 +3,8 @@
 ghost use Rattle.std.specs.Prelude.{◌≡◌};
 ghost use Rattle.regroup.specs.Commands.{regroup_command};
 
+use crate::commands::CommandName;
 use command_routes::{PathCommand, Planner, Regrouping, Route};
-use commands::CommandName;
 
 /// A command that takes servers below another one by whatever path, or sets a server's replicas in order
 /// (orchestrator's documentation, "Executing via command line").

@@ -8,9 +8,13 @@ mod plans;
 mod ways;
 
 pub use command::{RegroupCommand, regroup_command};
+use permission::{
+    book_views, commands, instance_keeper_items, operations_items, orch_base, server_model,
+    topology_tree,
+};
 /// Want of memory.
-pub use orch_base::Memory;
 pub use permission::PermitFault;
+pub use permission::orch_base::Memory;
 pub use permits::{leases, permit};
 pub use plans::plan;
 /// Which drained replicas follow the promoted one, and at which coordinate of its binary log.

@@ -2,26 +2,25 @@
 
 ghost use Rattle.std.specs.Prelude.{◌≡◌, ◌++◌, ◌<◌, All, IfOk, IsSome, IsTrue, length};
 ghost use Rattle.std.specs.Option.{option_to_list};
-ghost use Rattle.orch_base.specs.Gives.{Gives};
-ghost use Rattle.book_views.specs.Forests.{book_forest};
-ghost use Rattle.commands.specs.Turns.{is_within};
+ghost use Rattle.permission.specs.OrchBase.Gives.{Gives};
+ghost use Rattle.permission.specs.BookViews.Forests.{book_forest};
+ghost use Rattle.permission.specs.Commands.Turns.{is_within};
 ghost use Rattle.permission.specs.Checks.{permit_fault, permitted};
-ghost use Rattle.permission.specs.Lists.{first_about};
 ghost use Rattle.regroup.specs.Commands.{regroup_command};
-ghost use Rattle.regroup.specs.Permits.{astray, case_of, crossed_by, last_row_of, leased_by, movers_of, own_refusal, passed_by, refusal_about, refusal_of, relocating, row_of, without_path};
+ghost use Rattle.regroup.specs.Permits.{astray, case_of, crossed_by, last_row_of, leased_by, movers_of, own_refusal, passed_by, refusal_about, refusal_of, relocating, row_of};
 
+use crate::book_views::replicas;
 use crate::command::{RegroupCommand, regroup_command};
+use crate::commands::{Command, Refusal};
+use crate::instance_keeper_items::Book;
+use crate::orch_base::{Moment, ServerNo};
+use crate::server_model::World;
+use crate::topology_tree::Forest;
 use crate::ways::{path_to, push_crossed, push_passed};
 use crate::{Memory, PermitFault};
-use book_views::replicas;
-use commands::{Command, Refusal};
-use instance_keeper::Book;
-use orch_base::{Moment, ServerNo};
 use permission::{Check, Movers, answered, one_or_none, replicas_but, row_refusal, unknown_in};
 use promotion_candidates::without_candidate;
-use server_model::World;
 use std::alloc::Global;
-use topology_tree::Forest;
 
 const RELOCATE: [Check; 10] = [
     Check::SameInstance,

@@ -1,24 +1,24 @@
 //! The plans of the commands.
 
 ghost use Rattle.std.specs.Prelude.{◌≡◌, IfOk, IsTrue, drop, length, true};
-ghost use Rattle.book_views.specs.Forests.{book_forest};
-ghost use Rattle.commands.specs.Turns.{is_within};
-ghost use Rattle.operations.specs.Named.{are_named};
+ghost use Rattle.permission.specs.BookViews.Forests.{book_forest};
+ghost use Rattle.permission.specs.Commands.Turns.{is_within};
+ghost use Rattle.permission.specs.Operations.Named.{are_named};
 ghost use Rattle.regroup.specs.Commands.{has_plan, regroup_command};
 ghost use Rattle.regroup.specs.Plans.{ascended, climbed, moved_by, next_of, ops_of, plan_of, relocated, travelled};
 
 use crate::Memory;
 use crate::command::{RegroupCommand, regroup_command};
+use crate::commands::Command;
+use crate::instance_keeper_items::Book;
+use crate::operations_items::Op;
+use crate::orch_base::ServerNo;
 use crate::permits::movers_of;
+use crate::server_model::World;
+use crate::topology_tree::Forest;
 use crate::ways::{Path, path_of};
-use commands::Command;
-use instance_keeper::Book;
-use operations::Op;
-use orch_base::ServerNo;
 use plan_parts::{again, autos, moved_each, under, up};
-use server_model::World;
 use std::alloc::Global;
-use topology_tree::Forest;
 
 // The source at a place, or the one behind all.
 fn next_of(sources: &[ServerNo], place: usize, to: ServerNo) -> ServerNo

@@ -1,17 +1,17 @@
 //! Ways up the book's forest, and the path of a server to another one by coordinates.
 
 ghost use Rattle.std.specs.Prelude.{◌≡◌, ◌++◌, IfOk, length, option_map};
-ghost use Rattle.book_views.specs.Forests.{book_forest};
+ghost use Rattle.permission.specs.BookViews.Forests.{book_forest};
 ghost use Rattle.regroup.specs.Ways.{crossed_in, parent_at, passed_in, path_beside, path_by, path_of, path_to, way_up};
 
 use crate::Memory;
-use book_views::parent;
-use instance_keeper::Book;
-use orch_base::ServerNo;
+use crate::book_views::parent;
+use crate::instance_keeper_items::Book;
+use crate::orch_base::ServerNo;
+use crate::topology_tree::Forest;
 use permission::{attached_to, source};
 use std::alloc::Global;
 use std::marker::Model;
-use topology_tree::Forest;
 
 /// A path to a destination: up past these sources, and where a server is given under which both are then, below the
 /// destination from there. Contracts see it as a `Path` with a list.

@@ -1,9 +1,9 @@
 -- Where drained replicas of a source go beside the one that is promoted (orchestrator's documentation, "Topology
 -- recovery").
 use Rattle.std.specs.Prelude.{if◌then◌else◌, List, filter_map, Option, None, Some}
-use Rattle.binlog_coords.specs.declared.Coord.{Coord}
-use Rattle.binlog_coords.specs.Log.{is_before, same_coord}
-use Rattle.orch_base.specs.declared.server.ServerNo.{ServerNo}
+use Rattle.instance_keeper.specs.BinlogCoords.declared.Coord.{Coord}
+use Rattle.instance_keeper.specs.BinlogCoords.Log.{is_before, same_coord}
+use Rattle.instance_keeper.specs.OrchBase.declared.server.ServerNo.{ServerNo}
 use Rattle.instance_keeper.specs.declared.bridge.Bridge.{Bridge}
 use Rattle.instance_keeper.specs.Bridges.{has_exec, latest_that, ring_at}
 use Rattle.promotion_rules.specs.declared.drained.Drained.{Drained}

@@ -5,9 +5,9 @@ ghost use Rattle.std.specs.Option.{option_to_list};
 ghost use Rattle.replica_groups.specs.Groups.{ahead_at, ahead_in, behind_at, behind_in, follow_at, follow_in, group_of};
 
 use crate::Memory;
-use binlog_coords::Coord;
+use crate::binlog_coords_items::Coord;
+use crate::orch_base::ServerNo;
 use instance_keeper::Book;
-use orch_base::ServerNo;
 use promotion_rules::Drained;
 use std::alloc::Global;
 

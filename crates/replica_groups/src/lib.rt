@@ -2,8 +2,8 @@
 #![tactic(auto)]
 
 mod groups;
-mod threads;
 
 pub use groups::{Group, Groups, Lines, group_of, split};
+use instance_keeper::{binlog_coords_items, orch_base};
 /// Want of memory.
-pub use orch_base::Memory;
+pub use instance_keeper::orch_base::Memory;

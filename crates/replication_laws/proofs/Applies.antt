@@ -1,28 +1,16 @@
 -- Applies: what an applier can be about to do, and what stays.
 use Rattle.std.proofs.Common.{◌≡◌, ℕ, ◌+◌, ◌<◌, ◌≤◌, Bool, true, false, not, cond, [], ◌∷◌, ◌++◌, length, refl, sym, ◌∙◌, ap, subst, inl, inr, Option, Some, None, arith, take, ◌&&◌, length-append}
 use Rattle.std.specs.Prelude.{slice_get, nat_le}
-use Rattle.std.proofs.lemmas.Option.{same_Some, slice_get_within}
-use Rattle.std.proofs.lemmas.Bool.{and_parts}
-use Rattle.std.proofs.lemmas.Bool.Decides.{nat_tests}
-use Rattle.binlog_coords.specs.declared.Coord.{Coord}
-use Rattle.binlog_coords.specs.declared.Next.{Next}
-use Rattle.binlog_coords.specs.declared.Next.TheVariants as next
-use Rattle.binlog_coords.specs.Log.{place, is_before, is_at_or_before, same_coord, next_after, StepFrom, ReachesBy}
-use Rattle.binlog_coords.proofs.Places.{Laid, next_after-step, next_after-reaches}
-use Rattle.orch_base.specs.declared.server.SourceState.{SourceState}
-use Rattle.orch_base.specs.declared.server.SourceState.TheVariants.{Without, Attached, Detached}
-use Rattle.orch_base.specs.declared.server.Txn.{Txn}
-use Rattle.server_words.specs.declared.answers.ApplyAnswer.TheVariants as answers
-use Rattle.server_model.specs.declared.decisions.ApplyStep.{ApplyStep}
-use Rattle.server_model.specs.declared.decisions.ApplyStep.TheVariants as applying
-use Rattle.server_model.specs.declared.server.Server.{Server}
-use Rattle.server_model.specs.Exchanges.{apply_step, apply_answer, apply_txn, applied, apply_from, after_apply, attached_at, is_attached, is_reached, took}
-use Rattle.orch_base.specs.Histories.{count_own, holds}
-use Rattle.server_model.specs.Safe.{Safe, Placed, StandsIn, AttachedWell}
-use Rattle.server_model.specs.Worlds.{World, server_at, with_server, histories, history_of, source_no}
-use Rattle.server_model.proofs.Lists.{slice_get-take, take-more}
-use Rattle.server_model.proofs.PurgedFiles.{KeepsFrom-took}
-use Rattle.replication_laws.specs.Growth.{GoesOn, Grows}
+use Rattle.replication_laws.proofs.Prelude.{ApplyStep, Attached, AttachedWell, Coord, Detached, GoesOn, Grows, KeepsFrom-took, Laid, Next, Placed}
+use Rattle.replication_laws.proofs.Prelude.{ReachesBy, Safe, Server, SourceState, StandsIn, StepFrom, Txn, Without, World, after_apply, and_parts}
+use Rattle.replication_laws.proofs.Prelude.{applied, apply_answer, apply_from, apply_step, apply_txn, attached_at, count_own, histories, history_of}
+use Rattle.replication_laws.proofs.Prelude.{is_at_or_before, is_attached, is_before, is_reached, nat_tests, next_after, next_after-reaches}
+use Rattle.replication_laws.proofs.Prelude.{next_after-step, place, same_coord, same_Some, server_at, slice_get-take, slice_get_within, source_no}
+use Rattle.replication_laws.proofs.Prelude.{take-more, took, with_server}
+use Rattle.replication_laws.proofs.Prelude.Histories.{holds}
+use Rattle.replication_laws.proofs.Prelude.answers
+use Rattle.replication_laws.proofs.Prelude.applying
+use Rattle.replication_laws.proofs.Prelude.next
 use Rattle.replication_laws.proofs.Histories.{IsKin-extended, IsKin-once, holds-at}
 use Rattle.replication_laws.proofs.Keeping.{Same, Still, Standing-well, Standing-placed, Linked-safe, Safe-linked, Linked-placed, Placed-linked, Placed-safe, Linked-keeps, Linked-same, Linked-still, Grows-refl, Grows-with, Idle-same, Safe-idle}
 use Rattle.replication_laws.proofs.Logs.{GoesOn-took, LaysOut-took, LaysOut-size}
@@ -204,24 +192,20 @@ module _ (w : World) (n : ℕ) (r : Server) (placed : Placed w) (at : server_at 
       }))
 
   Placed-facing : (x : ApplyStep) → Facing w r x → Placed (after_apply w n (Some r) x)
-  Placed-facing x Halts = placed
   Placed-facing x Forgets =
       Placed-linked (with_server w n (record r { applier = false; until = None }))
       (Linked-still StandsIn Standing-placed w n r (record r { applier = false; until = None }) (Linked-placed w placed) at (Still-forgot r))
-  Placed-facing x Idles = placed
   Placed-facing x (Passes to pass) = advanced to pass.number pass.index pass.source pass.from pass.source_at pass.ends pass.order
   Placed-facing x (Skips t to due held) = advanced to due.number (due.index + 1) due.source due.from due.source_at due.ends due.order
-  Placed-facing x (Fills t to due full) = placed
   Placed-facing x (Executes t to due) = executed t to due
+  Placed-facing x _ = placed
 
   Grows-facing : (x : ApplyStep) → Facing w r x → Grows w (after_apply w n (Some r) x)
-  Grows-facing x Halts = Grows-refl w
   Grows-facing x Forgets = (Idle-same w n r (record r { applier = false; until = None }) at (Still-forgot r).same).grows
-  Grows-facing x Idles = Grows-refl w
   Grows-facing x (Passes to pass) = (Idle-same w n r (record r { exec = to }) at (Same-exec r to)).grows
   Grows-facing x (Skips t to due held) = (Idle-same w n r (record r { exec = to }) at (Same-exec r to)).grows
-  Grows-facing x (Fills t to due full) = Grows-refl w
   Grows-facing x (Executes t to due) = Grows-with w n r (record (took r t) { exec = to }) at (executed-on t to due)
+  Grows-facing x _ = Grows-refl w
 
 -- apply keeps a world placed
 pub Placed-apply : (w : World) (n : ℕ) (o : Option Server) → server_at w n ≡ o → Placed w → Placed (after_apply w n o (apply_step w o))
@@ -308,16 +292,14 @@ module _ (w : World) (n : ℕ) (r : Server) (safe : Safe w) (at : server_at w n 
       (record { prefix = well.prefix; exec_place = pass.ends ∙ ap Some index; read_place = well.read_place; order = pass.order })))
 
   Safe-facing : (x : ApplyStep) → Facing w r x → Safe (after_apply w n (Some r) x)
-  Safe-facing x Halts = safe
   Safe-facing x Forgets =
       Safe-idle w (with_server w n (record r { applier = false; until = None })) safe
       (Idle-same w n r (record r { applier = false; until = None }) at (Still-forgot r).same)
       (Linked-still AttachedWell Standing-well w n r (record r { applier = false; until = None }) (Linked-safe w safe) at (Still-forgot r))
-  Safe-facing x Idles = safe
   Safe-facing x (Passes to pass) = Safe-passed to pass
   Safe-facing x (Skips t to due held) = absurd (not_held t to due held)
-  Safe-facing x (Fills t to due full) = safe
   Safe-facing x (Executes t to due) = Safe-executed t to due
+  Safe-facing x _ = safe
 
 -- apply keeps a world safe
 pub Safe-apply : (w : World) (n : ℕ) (o : Option Server) → server_at w n ≡ o → Safe w → Safe (after_apply w n o (apply_step w o))
@@ -329,13 +311,8 @@ pub no_skip : (w : World) (n : ℕ) (to : Coord) → Safe w → apply_step w (se
 no_skip w n to safe h = go (server_at w n) refl h
   where
     by_step : (r : Server) → server_at w n ≡ Some r → (x : ApplyStep) → Facing w r x → x ≡ applying.Skip to → ⊥
-    by_step r at x Halts e = cc
-    by_step r at x Forgets e = cc
-    by_step r at x Idles e = cc
-    by_step r at x (Passes d pass) e = cc
     by_step r at x (Skips t d due held) e = not_held w n r safe at t d due held
-    by_step r at x (Fills t d due full) e = cc
-    by_step r at x (Executes t d due) e = cc
+    by_step r at x _ e = cc
 
     go : (o : Option Server) → server_at w n ≡ o → apply_step w o ≡ applying.Skip to → ⊥
     go None at e = cc
@@ -346,13 +323,8 @@ pub no_skipped : (w : World) (n : ℕ) (to : Coord) → Safe w → apply_answer 
 no_skipped w n to safe h = go (server_at w n) refl h
   where
     by_step : (r : Server) → server_at w n ≡ Some r → (x : ApplyStep) → Facing w r x → apply_answer x ≡ answers.Skipped to → ⊥
-    by_step r at x Halts e = cc
-    by_step r at x Forgets e = cc
-    by_step r at x Idles e = cc
-    by_step r at x (Passes d pass) e = cc
     by_step r at x (Skips t d due held) e = not_held w n r safe at t d due held
-    by_step r at x (Fills t d due full) e = cc
-    by_step r at x (Executes t d due) e = cc
+    by_step r at x _ e = cc
 
     go : (o : Option Server) → server_at w n ≡ o → apply_answer (apply_step w o) ≡ answers.Skipped to → ⊥
     go None at e = cc

@@ -1,30 +1,13 @@
 -- A bridge that stands stands for good, and what it lets cross.
 use Rattle.std.proofs.Common.{◌≡◌, ℕ, ◌≤◌, Bool, true, false, cond, List, ◌++◌, length, take, drop, refl, sym, ◌∙◌, ap, subst, Option, Some, None, Ok, Err, arith, ◌&&◌}
 use Rattle.std.specs.Prelude.{◌==◌}
-use Rattle.std.proofs.lemmas.Bool.{and_parts, eqb-true}
-use Rattle.std.proofs.lemmas.Option.{same_Some}
-use Rattle.std.proofs.lemmas.List.{take-append-le, length-take, take-append-drop}
-use Rattle.std.proofs.Math.Seq.{take-length}
-use Rattle.binlog_coords.specs.declared.Coord.{Coord}
-use Rattle.binlog_coords.specs.Log.{Log, place, end_of, same_coord}
-use Rattle.binlog_coords.proofs.Places.{Laid-Grown, place-of_end, same_coord-true}
-use Rattle.orch_base.specs.declared.server.ServerNo.{ServerNo}
-use Rattle.orch_base.specs.declared.server.SourceState.{SourceState}
-use Rattle.orch_base.specs.declared.server.SourceState.TheVariants.{Without, Attached, Detached}
-use Rattle.orch_base.specs.declared.server.Settings.{Settings}
-use Rattle.orch_base.specs.declared.server.Txn.{Txn}
-use Rattle.server_words.specs.declared.attach.Spot.TheVariants as spot
-use Rattle.server_model.specs.declared.server.Server.{Server}
-use Rattle.server_words.specs.declared.status.Status.{Status}
-use Rattle.server_words.specs.declared.status.StatusFault.TheVariants as seeing
-use Rattle.server_model.specs.Attach.{same_spot, spot_below, live_spot}
-use Rattle.server_model.specs.Gtids.{status, status_in, shown_of, own_end_of}
-use Rattle.server_model.specs.Layout.{LaysOut}
-use Rattle.server_model.specs.Run.{IsJunction, JoinsWell, Attach}
-use Rattle.server_model.specs.Safe.{Safe, AttachedWell}
-use Rattle.server_model.specs.Worlds.{World, server_at, source_no}
-use Rattle.replication_laws.specs.Bridges.{Bridges, Stands}
-use Rattle.replication_laws.specs.Growth.{GoesOn, Grows}
+use Rattle.replication_laws.proofs.Prelude.{Attach, Attached, AttachedWell, Bridges, Coord, Detached, GoesOn, Grows, IsJunction, JoinsWell}
+use Rattle.replication_laws.proofs.Prelude.{Laid-Grown, LaysOut, Log, Safe, Server, ServerNo, Settings, SourceState, Stands, Status, Txn, Without}
+use Rattle.replication_laws.proofs.Prelude.{World, and_parts, end_of, eqb-true, length-take, live_spot, own_end_of, place, place-of_end, same_coord}
+use Rattle.replication_laws.proofs.Prelude.{same_coord-true, same_Some, same_spot, server_at, shown_of, source_no, spot_below, status, status_in}
+use Rattle.replication_laws.proofs.Prelude.{take-append-drop, take-append-le, take-length}
+use Rattle.replication_laws.proofs.Prelude.seeing
+use Rattle.replication_laws.proofs.Prelude.spot
 use Rattle.replication_laws.proofs.Logs.{LaysOut-Grown, LaysOut-length}
 
 -- the beginning of a list that goes on

@@ -1,16 +1,9 @@
 -- Chains of sources: where they end, and when one comes to a server.
 use Rattle.std.proofs.Common.{◌≡◌, ℕ, ◌<◌, ◌≤◌, true, false, List, [], ◌∷◌, length, refl, sym, ◌∙◌, ap, subst, inl, inr, Option, Some, None, arith, zero, suc, ◌||◌, eqb}
 use Rattle.std.specs.Prelude.{◌==◌}
-use Rattle.std.specs.List.{IsDistinct, list_any, AllByRecursion}
-use Rattle.std.proofs.lemmas.Bool.{cases_eq, eq-eqb, ne_eqb, eqb-true, eqb-false, or_cases, or_parts, or_right}
-use Rattle.std.proofs.lemmas.Option.{same_Some, slice_get_within}
-use Rattle.std.proofs.lemmas.Map.Steps.{length-le_from_distinct_below}
-use Rattle.server_model.specs.declared.server.Server.{Server}
-use Rattle.server_model.specs.Attach.{chain_meets, chain_on}
-use Rattle.server_model.specs.Safe.{Placed, Grounded, Root, Under}
-use Rattle.server_model.specs.Worlds.{World, server_at, sources, source_of}
-use Rattle.replication_laws.specs.Below.{Reaches, Here, Up}
-use Rattle.server_model.proofs.Chains.{not_self}
+use Rattle.replication_laws.proofs.Prelude.{AllByRecursion, Grounded, Here, IsDistinct, Placed, Reaches, Root, Server, Under, Up, World, cases_eq}
+use Rattle.replication_laws.proofs.Prelude.{chain_meets, chain_on, eq-eqb, eqb-false, eqb-true, length-le_from_distinct_below, list_any, ne_eqb}
+use Rattle.replication_laws.proofs.Prelude.{not_self, or_cases, or_parts, or_right, same_Some, server_at, slice_get_within, source_of, sources}
 
 -- the chains where one server lost its source
 pub Grounded-cut : (up up' : ℕ → Option ℕ) (n : ℕ) → up' n ≡ None → ((x : ℕ) → (x ≡ n → ⊥) → up' x ≡ up x) → (x : ℕ) → Grounded up x → Grounded up' x

@@ -1,18 +1,9 @@
 -- Attachments that join well whatever happened.
 use Rattle.std.proofs.Common.{◌≡◌, true, ℕ, refl, sym, ◌∙◌, ap, Some, ◌&&◌}
 use Rattle.std.specs.Prelude.{◌==◌}
-use Rattle.std.proofs.lemmas.Bool.{and_parts, eqb-true}
-use Rattle.binlog_coords.specs.declared.Coord.{Coord}
-use Rattle.binlog_coords.specs.Log.{place, same_coord}
-use Rattle.binlog_coords.proofs.Places.{same_coord-true}
-use Rattle.orch_base.specs.declared.server.ServerNo.{ServerNo}
-use Rattle.orch_base.specs.declared.server.SourceState.{SourceState}
-use Rattle.orch_base.specs.declared.server.SourceState.TheVariants.{Without, Attached, Detached}
-use Rattle.server_words.specs.declared.attach.Spot.TheVariants as spot
-use Rattle.server_model.specs.Attach.{same_spot, spot_below}
-use Rattle.server_model.specs.Run.{IsJunction, JoinsWell, Attach}
-use Rattle.server_model.specs.Safe.{Safe}
-use Rattle.server_model.specs.Worlds.{World, source_no}
+use Rattle.replication_laws.proofs.Prelude.{Attach, Attached, Coord, Detached, IsJunction, JoinsWell, Safe, ServerNo, SourceState, Without, World}
+use Rattle.replication_laws.proofs.Prelude.{and_parts, eqb-true, place, same_coord, same_coord-true, same_spot, source_no, spot_below}
+use Rattle.replication_laws.proofs.Prelude.spot
 
 -- a replica goes back to its own source, to where it stands there
 pub joins-same : (w : World) (n : ℕ) (m : ServerNo) (c : Coord) → Safe w → JoinsWell w (Attach n (spot.At m c) m c)

@@ -1,32 +1,17 @@
 -- Which transactions of a log stand in its kept files.
+use Rattle.replication_laws.proofs.Prelude.{Appended, Beyond, Entry, InPurged, IsGone, IsLogged, Laid, Laid-files, Laid-Grown, Log, Next, Placed}
+use Rattle.replication_laws.proofs.Prelude.{Server, Status, StepFrom, Txn, Unlogged, Unreachable, World, and_parts, can_reach, end_coord, ends_by}
+use Rattle.replication_laws.proofs.Prelude.{entry_at_end, eqb-true, false≢true, file_start, get_or_from_slice_get, has_gtid, has_place}
+use Rattle.replication_laws.proofs.Prelude.{has_place-file_start, holds, holds-set_of, is_at_or_before, is_file_start, is_gtid, length-take, list_any}
+use Rattle.replication_laws.proofs.Prelude.{list_any_at, logged_by, logged_in, nat_tests, next_after-entry, next_after-step, place, place-from}
+use Rattle.replication_laws.proofs.Prelude.{place-monotone, purged-place, purged_len, purged_len-few, purged_len-is, purged_of, purged_txns}
+use Rattle.replication_laws.proofs.Prelude.{same_coord, same_coord-refl, same_Some, server_at, set_of, shown, shown_of, slice_get-front}
+use Rattle.replication_laws.proofs.Prelude.{slice_get-snoc_cases, slice_get-take, slice_get_past as none-beyond, slice_get_within, start_coord}
+use Rattle.replication_laws.proofs.Prelude.{touches, uuids}
+use Rattle.replication_laws.proofs.Prelude.Places.{Flushed, Opened}
+use Rattle.replication_laws.proofs.Prelude.next
 use Rattle.std.proofs.Common.{◌≡◌, ℕ, ◌+◌, ◌<◌, ◌≤◌, Bool, true, false, not, cond, List, [], ◌∷◌, get_or, length, take, zero, suc, refl, sym, ◌∙◌, ap, subst, inl, inr, Option, Some, None, arith, ◌&&◌, ◌||◌}
 use Rattle.std.specs.Prelude.{Result, Ok, Err, IsSomeAnd, count_by, nat_lt, nat_le, ◌==◌, option_map, slice_get}
-use Rattle.std.specs.List.{list_any}
-use Rattle.std.proofs.lemmas.Bool.{and_parts, eqb-true, false≢true}
-use Rattle.std.proofs.lemmas.Bool.Decides.{nat_tests}
-use Rattle.std.proofs.lemmas.List.{length-take}
-use Rattle.std.proofs.lemmas.List.Folds.{list_any_at}
-use Rattle.std.proofs.lemmas.Option.{same_Some, slice_get_within, get_or_from_slice_get}
-use Rattle.binlog_coords.specs.declared.Entry.{Entry}
-use Rattle.binlog_coords.specs.declared.Next.{Next}
-use Rattle.binlog_coords.specs.declared.Next.TheVariants as next
-use Rattle.binlog_coords.specs.Log.{Log, end_coord, ends_by, entry_at_end, file_start, has_place, is_at_or_before, is_file_start, place, same_coord, start_coord, touches, StepFrom}
-use Rattle.binlog_coords.proofs.Places.{Laid, Opened, Appended, Flushed, Laid-files, Laid-Grown, next_after-step, place-from, place-monotone, same_coord-refl}
-use Rattle.binlog_coords.proofs.Steps.{next_after-entry}
-use Rattle.gtid_sets.specs.Sets.{holds}
-use Rattle.orch_base.specs.declared.server.Txn.{Txn}
-use Rattle.server_words.specs.declared.answers.Unreachable.{Unreachable}
-use Rattle.server_words.specs.declared.status.Status.{Status}
-use Rattle.server_model.specs.declared.server.Server.{Server}
-use Rattle.server_model.specs.Gtids.{has_gtid, purged_len, purged_of, purged_txns, set_of, shown, shown_of, uuids}
-use Rattle.server_model.specs.Desk.{can_reach}
-use Rattle.server_model.specs.Plains.{logged_by, logged_in}
-use Rattle.server_model.specs.Safe.{Placed}
-use Rattle.server_model.specs.Worlds.{World, server_at}
-use Rattle.server_model.proofs.Lists.{slice_get-front, slice_get-snoc_cases, slice_get-take}
-use Rattle.server_model.proofs.ExecutedSets.{is_gtid, holds-set_of}
-use Rattle.server_model.proofs.PurgedFiles.{has_place-file_start, purged-place, purged_len-few, purged_len-is}
-use Rattle.replication_laws.specs.Purged.{IsGone, Unlogged, Beyond, InPurged, IsLogged}
 use Rattle.replication_laws.proofs.Logs.{LaysOut-Grown, LaysOut-length}
 
 -- each transaction begins behind the header of its file
@@ -156,11 +141,6 @@ logged-read w n k t s placed at up desk entry =
         ∙ ap (λ (x : Server). slice_get x.history.txns k) (sym same) ∙ entry.is
 
 -- nothing is read exactly where there is nothing to read
-
-none-beyond : {X : Type 0} (xs : List X) (k : ℕ) → length xs ≤ k → slice_get xs k ≡ None
-none-beyond [] k h = refl
-none-beyond (x ∷ xs) zero h = absurd (omega arith)
-none-beyond (x ∷ xs) (suc k) h = none-beyond xs k (omega arith)
 
 module _ (w : World) (n : ℕ) (s : Server) (placed : Placed w) (at : server_at w n ≡ Some s) (k : ℕ) where
   in-purged : s.settings.logs ≡ true → k < purged_len s → IsGone s k

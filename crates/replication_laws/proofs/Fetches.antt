@@ -1,20 +1,11 @@
 -- Fetches: the read coordinate of a replica goes on by one step of its source's log.
 use Rattle.std.proofs.Common.{◌≡◌, ℕ, ◌+◌, Bool, true, false, cond, refl, sym, ◌∙◌, ap, subst, inl, Option, Some, None, ◌&&◌}
 use Rattle.std.specs.Prelude.{nat_lt}
-use Rattle.std.proofs.lemmas.Option.{same_Some}
-use Rattle.binlog_coords.specs.declared.Coord.{Coord}
-use Rattle.binlog_coords.specs.declared.Next.{Next}
-use Rattle.binlog_coords.specs.declared.Next.TheVariants as next
-use Rattle.binlog_coords.specs.Log.{place, is_before, next_after, StepFrom}
-use Rattle.binlog_coords.proofs.Places.{Laid, Laid-Grown, next_after-step}
-use Rattle.orch_base.specs.declared.server.SourceState.{SourceState}
-use Rattle.orch_base.specs.declared.server.SourceState.TheVariants.{Without, Attached, Detached}
-use Rattle.server_model.specs.declared.decisions.FetchStep.{FetchStep}
-use Rattle.server_model.specs.declared.decisions.FetchStep.TheVariants as receiving
-use Rattle.server_model.specs.declared.server.Server.{Server}
-use Rattle.server_model.specs.Exchanges.{fetch_step, fetch_from, fetch_kept, after_fetch, attached_at, is_attached}
-use Rattle.server_model.specs.Layout.{LaysOut}
-use Rattle.server_model.specs.Worlds.{World, server_at, with_server, source_no}
+use Rattle.replication_laws.proofs.Prelude.{Attached, Coord, Detached, FetchStep, Laid, Laid-Grown, LaysOut, Next, Server, SourceState, StepFrom}
+use Rattle.replication_laws.proofs.Prelude.{Without, World, after_fetch, attached_at, fetch_from, fetch_kept, fetch_step, is_attached, is_before}
+use Rattle.replication_laws.proofs.Prelude.{next_after, next_after-step, place, same_Some, server_at, source_no, with_server}
+use Rattle.replication_laws.proofs.Prelude.next
+use Rattle.replication_laws.proofs.Prelude.receiving
 use Rattle.replication_laws.proofs.Keeping.{Same, Still, Standing, Linked, Linked-same, Linked-still, Idle, Idle-refl, Idle-same}
 use Rattle.replication_laws.proofs.Logs.{LaysOut-Grown}
 
@@ -45,13 +36,10 @@ Still-refused r = record { same = record { history = refl; log = refl; first = r
 
 -- a fetch writes nothing
 pub Idle-fetch : (w : World) (n : ℕ) (o : Option Server) → server_at w n ≡ o → (a : FetchStep) → Idle w (after_fetch w n o a)
-Idle-fetch w n None at a = Idle-refl w
-Idle-fetch w n (Some r) at receiving.Halt = Idle-refl w
-Idle-fetch w n (Some r) at receiving.Unlinked = Idle-refl w
 Idle-fetch w n (Some r) at (receiving.Refuse first) = Idle-same w n r (record r { receiver = false }) at (Still-refused r).same
 Idle-fetch w n (Some r) at (receiving.Take (next.Entry index to)) = Idle-same w n r (record r { read = to }) at (Same-read r to)
 Idle-fetch w n (Some r) at (receiving.Take (next.Rotate to)) = Idle-same w n r (record r { read = to }) at (Same-read r to)
-Idle-fetch w n (Some r) at (receiving.Take next.End) = Idle-refl w
+Idle-fetch w n _ at _ = Idle-refl w
 
 -- and keeps how each replica stands
 

@@ -1,38 +1,20 @@
 -- New files: each takes one from the room of its server's log.
 use Rattle.std.proofs.Common.{◌≡◌, ℕ, ◌+◌, ◌≤◌, Bool, true, false, cond, not, List, [], ◌∷◌, ◌++◌, take, refl, sym, ap, subst, inl, inr, Option, Some, None, arith, zero, suc, count_by}
 use Rattle.std.specs.Prelude.{◌==◌, slice_get, Result, Ok, Err}
-use Rattle.std.proofs.lemmas.Bool.Decides.{nat_tests}
-use Rattle.std.proofs.lemmas.List.Sums.{sum_by-cons}
-use Rattle.std.proofs.lemmas.Option.{same_Some}
-use Rattle.binlog_coords.specs.declared.Coord.{Coord}
-use Rattle.binlog_coords.specs.declared.Next.TheVariants as next
-use Rattle.binlog_coords.specs.Index.{Index}
-use Rattle.binlog_coords.specs.Log.{push, flush, end_of}
-use Rattle.orch_base.specs.declared.server.ServerNo.{ServerNo}
-use Rattle.orch_base.specs.declared.server.Txn.{Txn}
+use Rattle.replication_laws.proofs.Prelude.{Apply, ApplyStep, Ask, Attach, AttachAuto, AttachFault, Befall, Coord, Exchange, Fetch, FetchStep}
+use Rattle.replication_laws.proofs.Prelude.{HasFiles, Index, Purge, PurgeAnswer, Request, Rotate, RotateAnswer, Server, ServerNo, Txn, Unreachable}
+use Rattle.replication_laws.proofs.Prelude.{World, Write, WriteAnswer, after, after_apply, after_attach, after_attach_auto, after_change, after_desk}
+use Rattle.replication_laws.proofs.Prelude.{after_fetch, after_purge, after_rotate, after_write, apply_step, asked, attach_answer, attach_auto_answer}
+use Rattle.replication_laws.proofs.Prelude.{attached_auto, attached_to, auto_coord, befallen, desk_answer, end_of, fetch_step, flush, is_rotate}
+use Rattle.replication_laws.proofs.Prelude.{nat_tests, own_txn, purge_answer, push, rotate_answer, rotated, run, same_Some, server_at, sum_by-cons}
+use Rattle.replication_laws.proofs.Prelude.{took, uuids, with_server, write_answer}
+use Rattle.replication_laws.proofs.Prelude.applying
+use Rattle.replication_laws.proofs.Prelude.next
+use Rattle.replication_laws.proofs.Prelude.purging
+use Rattle.replication_laws.proofs.Prelude.receiving
+use Rattle.replication_laws.proofs.Prelude.rotating
+use Rattle.replication_laws.proofs.Prelude.wrote
 use Rattle.replication_laws.proofs.Histories.{tick}
-use Rattle.server_model.specs.declared.decisions.ApplyStep.{ApplyStep}
-use Rattle.server_model.specs.declared.decisions.ApplyStep.TheVariants as applying
-use Rattle.server_model.specs.declared.decisions.FetchStep.{FetchStep}
-use Rattle.server_model.specs.declared.decisions.FetchStep.TheVariants as receiving
-use Rattle.server_words.specs.declared.answers.PurgeAnswer.{PurgeAnswer}
-use Rattle.server_words.specs.declared.answers.PurgeAnswer.TheVariants as purging
-use Rattle.server_words.specs.declared.answers.RotateAnswer.{RotateAnswer}
-use Rattle.server_words.specs.declared.answers.RotateAnswer.TheVariants as rotating
-use Rattle.server_words.specs.declared.answers.Unreachable.{Unreachable}
-use Rattle.server_words.specs.declared.answers.WriteAnswer.{WriteAnswer}
-use Rattle.server_words.specs.declared.answers.WriteAnswer.TheVariants as wrote
-use Rattle.server_words.specs.declared.attach.AttachFault.{AttachFault}
-use Rattle.server_words.specs.declared.changes.Ask.{Ask}
-use Rattle.server_model.specs.declared.server.Server.{Server}
-use Rattle.server_model.specs.Attach.{attach_answer, attached_to, after_attach}
-use Rattle.server_model.specs.Desk.{asked, befallen, rotated, desk_answer, rotate_answer, after_change, after_desk, after_rotate}
-use Rattle.server_model.specs.Exchanges.{took, own_txn, write_answer, after_write, fetch_step, after_fetch, apply_step, after_apply}
-use Rattle.server_model.specs.Gtids.{attach_auto_answer, after_attach_auto, attached_auto, auto_coord, uuids}
-use Rattle.server_model.specs.Purging.{purge_answer, after_purge}
-use Rattle.server_model.specs.Run.{Exchange, Write, Fetch, Apply, Request, Befall, Rotate, Purge, Attach, AttachAuto, is_rotate, after, run}
-use Rattle.server_model.specs.Worlds.{World, server_at, with_server}
-use Rattle.replication_laws.specs.Room.{HasFiles}
 use Rattle.replication_laws.proofs.Keeping.{at_cases, Same}
 use Rattle.replication_laws.proofs.Moves.{Same-asked, Same-befallen}
 
@@ -56,31 +38,22 @@ module _ (k : ℕ) (w : World) where
   HasFiles-kept n s s' here has same = HasFiles-with n s s' here has (omega (arith, same, has n s here))
 
   HasFiles-write : (n size : ℕ) (o : Option Server) → server_at w n ≡ o → HasFiles k w → (a : WriteAnswer) → HasFiles k (after_write w n size o a)
-  HasFiles-write n size None at has a = has
-  HasFiles-write n size (Some s) at has wrote.Down = has
-  HasFiles-write n size (Some s) at has wrote.ReadOnly = has
-  HasFiles-write n size (Some s) at has wrote.Full = has
   HasFiles-write n size (Some s) at has (wrote.Done seq) =
       HasFiles-kept n s (took s (own_txn n seq size)) at has (flushes-took s (own_txn n seq size))
+  HasFiles-write n size _ at has _ = has
 
   HasFiles-fetch : (n : ℕ) (o : Option Server) → server_at w n ≡ o → HasFiles k w → (a : FetchStep) → HasFiles k (after_fetch w n o a)
-  HasFiles-fetch n None at has a = has
-  HasFiles-fetch n (Some r) at has receiving.Halt = has
-  HasFiles-fetch n (Some r) at has receiving.Unlinked = has
   HasFiles-fetch n (Some r) at has (receiving.Refuse first) = HasFiles-kept n r (record r { receiver = false }) at has refl
   HasFiles-fetch n (Some r) at has (receiving.Take (next.Entry index to)) = HasFiles-kept n r (record r { read = to }) at has refl
   HasFiles-fetch n (Some r) at has (receiving.Take (next.Rotate to)) = HasFiles-kept n r (record r { read = to }) at has refl
-  HasFiles-fetch n (Some r) at has (receiving.Take next.End) = has
+  HasFiles-fetch n _ at has _ = has
 
   HasFiles-apply : (n : ℕ) (o : Option Server) → server_at w n ≡ o → HasFiles k w → (a : ApplyStep) → HasFiles k (after_apply w n o a)
-  HasFiles-apply n None at has a = has
-  HasFiles-apply n (Some r) at has applying.Halt = has
   HasFiles-apply n (Some r) at has applying.ForgetUntil = HasFiles-kept n r (record r { applier = false; until = None }) at has refl
-  HasFiles-apply n (Some r) at has applying.Idle = has
-  HasFiles-apply n (Some r) at has applying.NoRoom = has
   HasFiles-apply n (Some r) at has (applying.Pass to) = HasFiles-kept n r (record r { exec = to }) at has refl
   HasFiles-apply n (Some r) at has (applying.Skip to) = HasFiles-kept n r (record r { exec = to }) at has refl
   HasFiles-apply n (Some r) at has (applying.Execute t to) = HasFiles-kept n r (record (took r t) { exec = to }) at has (flushes-took r t)
+  HasFiles-apply n _ at has _ = has
 
   HasFiles-change : (n : ℕ) (f : Server → Server) → ((s : Server) → Same s (f s)) → (o : Option Server) → server_at w n ≡ o → HasFiles k w → HasFiles k (after_change w n f o)
   HasFiles-change n f same None at has = has
@@ -91,11 +64,8 @@ module _ (k : ℕ) (w : World) where
   HasFiles-ask n a has (Err e) = has
 
   HasFiles-purge : (n : ℕ) (o : Option Server) → server_at w n ≡ o → HasFiles k w → (answer : PurgeAnswer) → HasFiles k (after_purge w n o answer)
-  HasFiles-purge n None at has answer = has
-  HasFiles-purge n (Some s) at has purging.Down = has
-  HasFiles-purge n (Some s) at has purging.NotLogging = has
-  HasFiles-purge n (Some s) at has purging.NoFile = has
   HasFiles-purge n (Some s) at has (purging.Done first) = HasFiles-kept n s (record s { first = first }) at has refl
+  HasFiles-purge n _ at has _ = has
 
   HasFiles-attach : (n : ℕ) (to : ServerNo) (c : Coord) (o : Option Server) → server_at w n ≡ o → HasFiles k w → (answer : Result (Unit {0}) AttachFault)
       → HasFiles k (after_attach w n to c o answer)
@@ -115,11 +85,8 @@ module _ (k : ℕ) (w : World) where
   HasFiles-same has = λ n s at. omega (arith, has n s at)
 
   HasFiles-rotate : (n : ℕ) (o : Option Server) → server_at w n ≡ o → HasFiles (k + 1) w → (answer : RotateAnswer) → HasFiles k (after_rotate w n o answer)
-  HasFiles-rotate n None at has answer = HasFiles-fewer has
-  HasFiles-rotate n (Some s) at has rotating.Down = HasFiles-fewer has
-  HasFiles-rotate n (Some s) at has rotating.NotLogging = HasFiles-fewer has
-  HasFiles-rotate n (Some s) at has rotating.Full = HasFiles-fewer has
   HasFiles-rotate n (Some s) at has (rotating.Done c) = HasFiles-with n s (rotated s) at (HasFiles-fewer has) (omega (arith, has n s at))
+  HasFiles-rotate n _ at has _ = HasFiles-fewer has
 
 HasFiles-after : (k : ℕ) (w : World) (e : Exchange) → HasFiles (k + tick (is_rotate e)) w → HasFiles k (after w e)
 HasFiles-after k w (Write n size) has = HasFiles-write k w n size (server_at w n) refl (HasFiles-same k w has) (write_answer n (server_at w n))

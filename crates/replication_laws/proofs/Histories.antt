@@ -1,17 +1,9 @@
 use Rattle.std.proofs.Common.{◌≡◌, ℕ, ◌+◌, ◌<◌, ◌≤◌, Bool, true, false, cond, List, [], ◌∷◌, ◌++◌, length, refl, sym, ◌∙◌, ap, subst, inl, inr, ◌⊎◌, Some, arith, length-append, zero, suc, ◌||◌, take}
 use Rattle.std.specs.Prelude.{slice_get, ◌==◌}
-use Rattle.std.proofs.lemmas.Bool.{cases_eq, eq-eqb}
-use Rattle.std.proofs.lemmas.Bool.Decides.{nat_tests}
-use Rattle.std.proofs.lemmas.Option.{slice_get_within}
-use Rattle.std.proofs.lemmas.List.{take-append-le, length-take-le}
-use Rattle.std.proofs.lemmas.List.Sums.{sum_by-take-le}
-use Rattle.std.proofs.Math.Seq.{take-length, take-append_seam}
-use Rattle.orch_base.specs.Histories.{same_txn, count_own, holds}
-use Rattle.server_model.specs.Exchanges.{own_txn}
-use Rattle.server_model.specs.Safe.{IsKin}
-use Rattle.orch_base.specs.declared.server.Txn.{Txn}
-use Rattle.server_model.proofs.Lists.{slice_get-snoc_cases, take-more}
-use Rattle.server_model.proofs.Takes.{count_own-push}
+use Rattle.replication_laws.proofs.Prelude.{IsKin, Txn, cases_eq, count_own, count_own-push, eq-eqb, length-take-le, nat_tests, own_txn, same_txn}
+use Rattle.replication_laws.proofs.Prelude.{slice_get-snoc_cases, slice_get_within, sum_by-take-le, take-append-le, take-append_seam, take-length}
+use Rattle.replication_laws.proofs.Prelude.{take-more}
+use Rattle.replication_laws.proofs.Prelude.Histories.{holds}
 
 -- one or nothing
 abbrev pub tick : Bool → ℕ

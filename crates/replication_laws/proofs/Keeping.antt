@@ -1,23 +1,9 @@
 -- What a change of one server keeps of a world.
 use Rattle.std.proofs.Common.{◌≡◌, ℕ, ◌≤◌, true, List, ◌++◌, length, refl, sym, ◌∙◌, ap, subst, inl, inr, ◌⊎◌, Option, Some, arith, take, drop}
-use Rattle.std.proofs.lemmas.Bool.{cases_eq}
-use Rattle.std.proofs.lemmas.Bool.Decides.{nat_tests}
-use Rattle.std.proofs.lemmas.Option.{same_Some}
-use Rattle.std.proofs.lemmas.List.{length-set, take-append-le, length-take, take-append-drop}
-use Rattle.std.proofs.Math.Seq.{take-length}
-use Rattle.binlog_coords.specs.declared.Coord.{Coord}
-use Rattle.binlog_coords.specs.Index.{Index}
-use Rattle.binlog_coords.specs.Log.{place, is_before, is_at_or_before}
-use Rattle.orch_base.specs.declared.server.Settings.{Settings}
-use Rattle.orch_base.specs.declared.server.Txn.{Txn}
-use Rattle.server_model.specs.declared.server.Server.{Server}
-use Rattle.server_model.specs.Kept.{Kept}
-use Rattle.server_model.specs.Layout.{LaysOut}
-use Rattle.orch_base.specs.declared.server.Settings.{Settings}
-use Rattle.server_model.specs.Safe.{IsKin, Safe, Placed, StandsIn, AttachedWell, Grounded, IsSource, HaveOwnUuids, KeepFiles}
-use Rattle.server_model.specs.Worlds.{World, server_at, with_server, histories, sources, source_of, source_no, KeepsFrom}
-use Rattle.replication_laws.specs.Growth.{GoesOn, Grows}
-use Rattle.server_model.proofs.Chains.{not_self}
+use Rattle.replication_laws.proofs.Prelude.{AttachedWell, Coord, GoesOn, Grounded, Grows, HaveOwnUuids, Index, IsKin, IsSource, KeepFiles, KeepsFrom}
+use Rattle.replication_laws.proofs.Prelude.{Kept, LaysOut, Placed, Safe, Server, Settings, StandsIn, Txn, World, cases_eq, histories, is_at_or_before}
+use Rattle.replication_laws.proofs.Prelude.{is_before, length-set, length-take, nat_tests, not_self, place, same_Some, server_at, source_no}
+use Rattle.replication_laws.proofs.Prelude.{source_of, sources, take-append-drop, take-append-le, take-length, with_server}
 use Rattle.replication_laws.proofs.Worlds.{at_with_same, at_with_other, sources-kept, histories-kept}
 
 pub prefix-trans : (xs ys zs : List Txn) → take (length xs) ys ≡ xs → take (length ys) zs ≡ ys → take (length xs) zs ≡ xs

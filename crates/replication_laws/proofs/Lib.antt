@@ -1,3 +1,4 @@
+mod Prelude
 pub mod Worlds
 pub mod Histories
 pub mod Chains

@@ -1,18 +1,8 @@
 use Rattle.std.proofs.Common.{◌≡◌, ℕ, ◌<◌, Bool, true, false, cond, List, [], ◌∷◌, ◌++◌, ◌+◌, length, length-append, refl, sym, ◌∙◌, ap, subst, inl, inr, Some, arith}
 use Rattle.std.specs.Prelude.{slice_get}
-use Rattle.server_model.proofs.Lists.{slice_get-snoc_cases}
-use Rattle.std.proofs.Math.Seq.{take-append_seam}
-use Rattle.binlog_coords.specs.declared.Coord.{Coord}
-use Rattle.binlog_coords.specs.Grown.{Grown}
-use Rattle.binlog_coords.specs.Grown as grown
-use Rattle.binlog_coords.specs.Log.{Log, place, push}
-use Rattle.binlog_coords.proofs.Places.{stable_push}
-use Rattle.server_model.specs.Exchanges.{took}
-use Rattle.server_model.specs.Layout.{LaysOut, Opened, Took, Flushed}
-use Rattle.server_model.proofs.LogSizes.{length-push}
-use Rattle.replication_laws.specs.Growth.{GoesOn}
-use Rattle.orch_base.specs.declared.server.Txn.{Txn}
-use Rattle.server_model.specs.declared.server.Server.{Server}
+use Rattle.replication_laws.proofs.Prelude.{Coord, Flushed, GoesOn, Grown, LaysOut, Log, Opened, Server, Took, Txn, length-push, place, push}
+use Rattle.replication_laws.proofs.Prelude.{slice_get-snoc_cases, stable_push, take-append_seam, took}
+use Rattle.replication_laws.proofs.Prelude.grown
 
 pub LaysOut-Grown : (history : List Txn) (log : Log) → LaysOut history log → Grown log
 LaysOut-Grown history log (Opened limit) = grown.Opened limit

@@ -1,18 +1,11 @@
 -- When an attachment answers Loop.
-use Rattle.std.proofs.Common.{◌≡◌, ℕ, Bool, true, false, cond, not, List, [], ◌∷◌, length, refl, ◌∙◌, ap, Option, Some, None, ◌&&◌, ◌||◌, arith, ◌<◌}
+use Rattle.std.proofs.Common.{◌≡◌, ℕ, Bool, true, false, cond, not, List, [], length, refl, ◌∙◌, ap, Option, Some, None, ◌&&◌, ◌||◌, arith, ◌<◌}
 use Rattle.std.specs.Prelude.{Result, Ok, Err, nat_lt}
-use Rattle.std.proofs.lemmas.Option.{slice_get_within}
-use Rattle.binlog_coords.specs.declared.Coord.{Coord}
-use Rattle.gtid_sets.specs.declared.interval.Interval.{Interval}
-use Rattle.server_words.specs.declared.attach.AttachFault.{AttachFault}
-use Rattle.server_words.specs.declared.attach.AttachFault.TheVariants as attaching
-use Rattle.server_words.specs.declared.attach.Spot.{Spot}
-use Rattle.server_model.specs.declared.server.Server.{Server}
-use Rattle.server_model.specs.Attach.{spot_below, live_spot, same_spot, chain_meets, first_kept, purged_answer, attach_answer}
-use Rattle.server_model.specs.Gtids.{uuids, held_of, purged_len, errant_set, auto_purged, answer_by_sets, attach_auto_answer}
-use Rattle.server_model.specs.Safe.{Placed}
-use Rattle.server_model.specs.Worlds.{World, server_at, sources}
-use Rattle.replication_laws.specs.Below.{Reaches, IsReadyAt, IsReadyAuto}
+use Rattle.replication_laws.proofs.Prelude.{AttachFault, Coord, Interval, IsReadyAt, IsReadyAuto, Placed, Reaches, Server, Spot, World}
+use Rattle.replication_laws.proofs.Prelude.{answer_by_sets, attach_answer, attach_auto_answer, auto_purged, chain_meets, errant_set, first_kept}
+use Rattle.replication_laws.proofs.Prelude.{held_of, live_spot, purged_answer, purged_len, same_spot, server_at, slice_get_within, sources}
+use Rattle.replication_laws.proofs.Prelude.{spot_below, uuids}
+use Rattle.replication_laws.proofs.Prelude.attaching
 use Rattle.replication_laws.proofs.Chains.{walk-finds_all, walk-met}
 
 -- the answer by the four tests
@@ -48,13 +41,11 @@ loop-only w n expect to at placed h = at_server (server_at w n) refl h
       where
         go : (reached on expected loops : Bool) → (s.up && s.desk) ≡ reached → (s.receiver || s.applier) ≡ on → same_spot expect (live_spot s expect) ≡ expected
             → chain_meets (sources w) (length w.servers) to n ≡ loops → decided s expect (past_loop w to at) reached on expected loops ≡ Err attaching.Loop → IsReadyAt w n expect × Reaches (sources w) n to
-        go false on expected loops a b c d f = cc
-        go true true expected loops a b c d f = cc
-        go true false false loops a b c d f = cc
         go true false true false a b c d f = absurd (purged-no_loop (nat_lt at.file (first_kept (server_at w to))) (first_kept (server_at w to)) f)
         go true false true true a b c d f =
             let within : n < length w.servers = slice_get_within w.servers n s here in
             (record { server = s; there = here; reached = a; still = b; expected = c }, walk-finds_all w placed (omega arith) n to d)
+        go _ _ _ loops a b c d f = cc
 
 -- an attachment by a set asks the same but where the server stands
 
@@ -86,10 +77,8 @@ loop_auto-only w n observed to placed h = at_server (server_at w n) refl h
       where
         go : (reached on loops : Bool) (errant : List Interval) → (s.up && s.desk) ≡ reached → (s.receiver || s.applier) ≡ on
             → chain_meets (sources w) (length w.servers) to n ≡ loops → decided_auto s (auto_purged (uuids w) s (server_at w to)) reached on loops errant ≡ Err attaching.Loop → IsReadyAuto w n × Reaches (sources w) n to
-        go false on loops errant a b d f = cc
-        go true true loops errant a b d f = cc
         go true false false [] a b d f = absurd (auto_purged-no_loop (uuids w) s (server_at w to) f)
-        go true false false (i ∷ is) a b d f = cc
         go true false true errant a b d f =
             let within : n < length w.servers = slice_get_within w.servers n s here in
             (record { server = s; there = here; reached = a; still = b }, walk-finds_all w placed (omega arith) n to d)
+        go _ _ _ _ a b d f = cc

@@ -1,41 +1,22 @@
 -- What orchestrator asks of a server, what befalls it, a new file of its log, and an attachment: what each keeps.
 use Rattle.std.proofs.Common.{◌≡◌, ℕ, Bool, true, false, cond, not, List, [], ◌∷◌, take, length, refl, sym, ◌∙◌, ap, subst, inl, inr, ◌⊎◌, Option, Some, None, ◌||◌, ◌&&◌, count_by, ◌≤◌, arith}
 use Rattle.std.specs.Prelude.{Result, Ok, Err, nat_lt, nat_le, ◌==◌}
-use Rattle.std.proofs.Math.Seq.{take-length}
-use Rattle.std.proofs.lemmas.Bool.Decides.{nat_tests}
-use Rattle.std.proofs.lemmas.Option.{same_Some}
-use Rattle.binlog_coords.specs.declared.Coord.{Coord}
-use Rattle.binlog_coords.specs.Log.{place, ends_by, coord_after, file_start, is_at_or_before}
-use Rattle.binlog_coords.proofs.Places.{stable_flush, place-from, place-coord_after, place-monotone, Laid-Grown}
-use Rattle.gtid_sets.specs.declared.interval.Interval.{Interval}
-use Rattle.orch_base.specs.declared.server.ServerNo.{ServerNo}
-use Rattle.orch_base.specs.declared.server.SourceState.{SourceState}
-use Rattle.orch_base.specs.declared.server.SourceState.TheVariants.{Without, Attached, Detached}
-use Rattle.server_words.specs.declared.answers.RotateAnswer.{RotateAnswer}
-use Rattle.server_words.specs.declared.answers.RotateAnswer.TheVariants as rotating
-use Rattle.server_words.specs.declared.answers.Unreachable.{Unreachable}
-use Rattle.server_words.specs.declared.attach.AttachFault.{AttachFault}
-use Rattle.server_words.specs.declared.attach.AttachFault.TheVariants as attaching
-use Rattle.server_words.specs.declared.attach.Spot.{Spot}
-use Rattle.server_words.specs.declared.changes.Ask.{Ask}
-use Rattle.server_words.specs.declared.changes.Ask.TheVariants as asking
-use Rattle.server_words.specs.declared.changes.Event.{Event}
-use Rattle.server_words.specs.declared.changes.Event.TheVariants as event
-use Rattle.server_words.specs.declared.changes.Link.TheVariants as link
-use Rattle.server_words.specs.declared.changes.Threads.{Threads}
-use Rattle.server_words.specs.declared.changes.Threads.TheVariants as threads
-use Rattle.server_model.specs.declared.server.Server.{Server}
-use Rattle.server_model.specs.Attach.{spot_below, live_spot, same_spot, chain_meets, first_kept, purged_answer, attach_answer, attached_to, after_attach, IsTarget}
-use Rattle.server_model.specs.Desk.{stopped, started, detached, detached_source, reattached, attached_source, is_detached, without_source, asked, healed, befallen, rotated, after_change, after_desk, after_rotate}
-use Rattle.server_model.specs.Exchanges.{is_attached}
-use Rattle.server_model.specs.Gtids.{uuids, set_of, held_len, held_of, purged_len, errant_set, auto_coord, auto_purged, answer_by_sets, attach_auto_answer, after_attach_auto, IsAutoTarget}
-use Rattle.server_model.specs.Layout.{LaysOut, Flushed}
-use Rattle.server_model.proofs.AutoAttached.{held-within}
-use Rattle.server_model.proofs.PurgedFiles.{purged-place}
-use Rattle.server_model.specs.Run.{IsJunction}
-use Rattle.server_model.specs.Safe.{StandsIn, AttachedWell, IsSource, KeepFiles}
-use Rattle.server_model.specs.Worlds.{World, server_at, with_server, sources, source_of, source_no, KeepsFrom}
-use Rattle.replication_laws.specs.Growth.{GoesOn}
+use Rattle.replication_laws.proofs.Prelude.{Ask, Attached, AttachedWell, AttachFault, Coord, Detached, Event, Flushed, GoesOn, Interval, IsAutoTarget}
+use Rattle.replication_laws.proofs.Prelude.{IsJunction, IsSource, IsTarget, KeepFiles, KeepsFrom, Laid-Grown, LaysOut, RotateAnswer, Server, ServerNo}
+use Rattle.replication_laws.proofs.Prelude.{SourceState, Spot, StandsIn, Threads, Unreachable, Without, World, after_attach, after_attach_auto}
+use Rattle.replication_laws.proofs.Prelude.{after_change, after_desk, after_rotate, answer_by_sets, asked, attach_answer, attach_auto_answer}
+use Rattle.replication_laws.proofs.Prelude.{attached_source, attached_to, auto_coord, auto_purged, befallen, chain_meets, coord_after, detached}
+use Rattle.replication_laws.proofs.Prelude.{detached_source, ends_by, errant_set, file_start, first_kept, healed, held-within, held_len, held_of}
+use Rattle.replication_laws.proofs.Prelude.{is_at_or_before, is_attached, is_detached, live_spot, nat_tests, place, place-coord_after, place-from}
+use Rattle.replication_laws.proofs.Prelude.{place-monotone, purged-place, purged_answer, purged_len, reattached, rotated, same_Some, same_spot}
+use Rattle.replication_laws.proofs.Prelude.{server_at, set_of, source_no, source_of, sources, spot_below, stable_flush, started, stopped, take-length}
+use Rattle.replication_laws.proofs.Prelude.{uuids, with_server, without_source}
+use Rattle.replication_laws.proofs.Prelude.asking
+use Rattle.replication_laws.proofs.Prelude.attaching
+use Rattle.replication_laws.proofs.Prelude.event
+use Rattle.replication_laws.proofs.Prelude.link
+use Rattle.replication_laws.proofs.Prelude.rotating
+use Rattle.replication_laws.proofs.Prelude.threads
 use Rattle.replication_laws.proofs.Chains.{Grounded-cut, Grounded-apart, Grounded-joined}
 use Rattle.replication_laws.proofs.Keeping.{at_or_before-refl, Same, Still, Still-refl, Standing, Linked, Linked-still, Linked-keeps, Linked-moves, Idle, Idle-refl, Idle-same, Idle-with}
 use Rattle.replication_laws.proofs.Logs.{LaysOut-Grown, LaysOut-length}
@@ -87,12 +68,10 @@ Still-healed s = go s.up
     go false = record { same = record { history = refl; log = refl; first = refl; settings = refl }; source = refl; exec = refl; read = inl refl }
 
 Still-befallen : (e : Event) (s : Server) → Still s (befallen e s)
-Still-befallen event.Fail s = record { same = record { history = refl; log = refl; first = refl; settings = refl }; source = refl; exec = refl; read = inl refl }
 Still-befallen event.Heal s = Still-healed s
 Still-befallen (event.Cut link.Desk) s = record { same = record { history = refl; log = refl; first = refl; settings = refl }; source = refl; exec = refl; read = inl refl }
-Still-befallen (event.Cut link.Feed) s = record { same = record { history = refl; log = refl; first = refl; settings = refl }; source = refl; exec = refl; read = inl refl }
 Still-befallen (event.Join link.Desk) s = record { same = record { history = refl; log = refl; first = refl; settings = refl }; source = refl; exec = refl; read = inl refl }
-Still-befallen (event.Join link.Feed) s = record { same = record { history = refl; log = refl; first = refl; settings = refl }; source = refl; exec = refl; read = inl refl }
+Still-befallen _ s = record { same = record { history = refl; log = refl; first = refl; settings = refl }; source = refl; exec = refl; read = inl refl }
 
 -- of what orchestrator asks only RESET REPLICA ALL changes the source
 Still-asked : (a : Ask) (s : Server) → Still s (asked a s) ⊎ (asked a s ≡ without_source s)
@@ -141,11 +120,8 @@ pub Idle-befall : (w : World) (n : ℕ) (e : Event) → Idle w (after_change w n
 Idle-befall w n e = Idle-change w n (befallen e) (Same-befallen e) (server_at w n) refl
 
 pub Idle-rotate : (w : World) (n : ℕ) (o : Option Server) → server_at w n ≡ o → (answer : RotateAnswer) → Idle w (after_rotate w n o answer)
-Idle-rotate w n None at answer = Idle-refl w
-Idle-rotate w n (Some s) at rotating.Down = Idle-refl w
-Idle-rotate w n (Some s) at rotating.NotLogging = Idle-refl w
-Idle-rotate w n (Some s) at rotating.Full = Idle-refl w
 Idle-rotate w n (Some s) at (rotating.Done c) = Idle-with w n s (rotated s) at refl (GoesOn-rotated s)
+Idle-rotate w n _ at _ = Idle-refl w
 
 pub Idle-attach : (w : World) (n : ℕ) (to : ServerNo) (c : Coord) (o : Option Server) → server_at w n ≡ o → (answer : Result (Unit {0}) AttachFault) → Idle w (after_attach w n to c o answer)
 Idle-attach w n to c None at answer = Idle-refl w
@@ -195,10 +171,6 @@ module _ (R : Server → Server → Type 0) (standing : Standing R) (w : World) 
   Linked-befall e = Linked-change (befallen e) (λ s here. Linked-still R standing w n s (befallen e s) linked here (Still-befallen e s)) (server_at w n) refl
 
   pub Linked-rotate : (o : Option Server) → server_at w n ≡ o → ((r s : Server) → R r s → R (rotated r) s) → (answer : RotateAnswer) → Linked R (after_rotate w n o answer)
-  Linked-rotate None at on answer = linked
-  Linked-rotate (Some s) at on rotating.Down = linked
-  Linked-rotate (Some s) at on rotating.NotLogging = linked
-  Linked-rotate (Some s) at on rotating.Full = linked
   Linked-rotate (Some s) at on (rotating.Done c) =
       Linked-keeps R standing w n s (rotated s) linked at (record {
         goes_on = GoesOn-rotated s;
@@ -207,6 +179,7 @@ module _ (R : Server → Server → Type 0) (standing : Standing R) (w : World) 
         kept = (let kept = linked.kept n s at in let high = kept.high in record { low = kept.low; high = omega arith; unlogged = kept.unlogged });
         stands = λ m t from at_m stood. on s t stood;
       })
+  Linked-rotate _ at on _ = linked
 
   -- an attachment to a server that isn't below the one that is attached
   Linked-joined : (auto : Bool) (to : ServerNo) (c : Coord) (s t : Server) → server_at w n ≡ Some s → server_at w to.0 ≡ Some t → t.settings.logs ≡ true → R (joined auto to c s) t
@@ -241,15 +214,12 @@ module _ (R : Server → Server → Type 0) (standing : Standing R) (w : World) 
           (cond (not reached) (Err attaching.Unreachable)
           (cond on (Err (attaching.Running (spot_below s s.source)))
           (cond (not expected) (Err (attaching.Interfered expect (live_spot s expect))) (cond loops (Err attaching.Loop) (purged_answer (nat_lt c.file (first_kept (server_at w to.0))) (first_kept (server_at w to.0))))))))
-      go false on expected loops is e = linked
-      go true true expected loops is e = linked
-      go true false false loops is e = linked
-      go true false true true is e = linked
       go true false true false is e = kept (nat_lt c.file (first_kept (server_at w to.0))) (first_kept (server_at w to.0))
         where
           kept : (purged : Bool) (k : ℕ) → Linked R (after_attach w n to c (Some s) (purged_answer purged k))
           kept true k = linked
           kept false k = Linked-joined false to c s target.target here target.there target.logs (stands s target.target here target.there is) e
+      go _ _ _ _ is e = linked
 
   pub Linked-attach_auto : (observed : List Interval) (to : ServerNo) → IsAutoTarget w to.0
       → ((r s : Server) → server_at w n ≡ Some r → server_at w to.0 ≡ Some s → errant_set (uuids w) observed r.history.txns ≡ [] → nat_lt (held_of (uuids w) r s) (purged_len s) ≡ false

@@ -1,22 +1,12 @@
 -- Purges: what each keeps, and how far it goes.
 use Rattle.std.proofs.Common.{◌≡◌, ℕ, ◌<◌, ◌≤◌, ◌⊎◌, inl, inr, Bool, true, false, not, cond, refl, sym, ◌∙◌, ap, Option, Some, None, arith, ◌&&◌}
 use Rattle.std.specs.Prelude.{nat_lt}
-use Rattle.std.proofs.Math.Seq.{take-length}
-use Rattle.std.proofs.lemmas.Bool.{and_parts, eq-eqb, eqb-true, false≢true}
-use Rattle.std.proofs.lemmas.Bool.Decides.{nat_tests}
-use Rattle.orch_base.specs.declared.server.ServerNo.{ServerNo}
-use Rattle.orch_base.specs.declared.server.SourceState.{SourceState}
-use Rattle.orch_base.specs.declared.server.SourceState.TheVariants.{Without, Attached, Detached}
-use Rattle.server_words.specs.declared.answers.PurgeAnswer.{PurgeAnswer}
-use Rattle.server_words.specs.declared.answers.PurgeAnswer.TheVariants as purging
-use Rattle.server_model.specs.declared.server.Server.{Server}
-use Rattle.server_model.specs.Purging.{after_purge, files_read, greater, is_attached_to, is_reading, kept_from, least_read, purge_answer}
-use Rattle.server_model.specs.Safe.{StandsIn, AttachedWell}
-use Rattle.server_model.specs.Worlds.{World, server_at, with_server}
-use Rattle.server_model.proofs.PurgedFiles.{from_file}
-use Rattle.server_model.proofs.Purges.{greater-right, kept_from-rises, kept_from-within, least-each, least-first, least-least, listed-read, read-listed}
-use Rattle.replication_laws.specs.Growth.{GoesOn}
-use Rattle.replication_laws.specs.Purged.{IsActive}
+use Rattle.replication_laws.proofs.Prelude.{Attached, AttachedWell, Detached, GoesOn, IsActive, PurgeAnswer, Server, ServerNo, SourceState, StandsIn}
+use Rattle.replication_laws.proofs.Prelude.{Without, World, after_purge, and_parts, eq-eqb, eqb-true, false≢true, files_read, from_file, greater}
+use Rattle.replication_laws.proofs.Prelude.{greater-right, is_attached_to, is_reading, kept_from, kept_from-rises, kept_from-within, least-each}
+use Rattle.replication_laws.proofs.Prelude.{least-first, least-least, least_read, listed-read, nat_tests, purge_answer, read-listed, server_at}
+use Rattle.replication_laws.proofs.Prelude.{take-length, with_server}
+use Rattle.replication_laws.proofs.Prelude.purging
 use Rattle.replication_laws.proofs.Keeping.{Standing, Linked, Linked-keeps, Idle, Idle-refl, Idle-with}
 
 GoesOn-purged : (s : Server) (first : ℕ) → s.first ≤ first → GoesOn s (from_file first s)
@@ -38,11 +28,9 @@ Idle-purge w n file None at = Idle-refl w
 Idle-purge w n file (Some s) at = go s.up s.settings.logs (nat_lt s.log.log.files file)
   where
     go : (a b c : Bool) → Idle w (after_purge w n (Some s) (answered (kept_from w.servers n file s) a b c))
-    go false b c = Idle-refl w
-    go true false c = Idle-refl w
-    go true true true = Idle-refl w
     go true true false =
         Idle-with w n s (from_file (kept_from w.servers n file s) s) at refl (GoesOn-purged s (kept_from w.servers n file s) (kept_from-rises w.servers n file s))
+    go _ _ _ = Idle-refl w
 
 -- and keeps how each replica stands
 pub Linked-purge : (R : Server → Server → Type 0) → Standing R → (w : World) (n file : ℕ) → Linked R w → ((r s : Server) (first : ℕ) → R r s → R (from_file first r) s)
@@ -51,9 +39,6 @@ Linked-purge R standing w n file linked on None at = linked
 Linked-purge R standing w n file linked on (Some s) at = go s.up s.settings.logs (nat_lt s.log.log.files file) refl refl
   where
     go : (a b c : Bool) → s.settings.logs ≡ b → nat_lt s.log.log.files file ≡ c → Linked R (after_purge w n (Some s) (answered (kept_from w.servers n file s) a b c))
-    go false b c logs past = linked
-    go true false c logs past = linked
-    go true true true logs past = linked
     go true true false logs past =
         let first = kept_from w.servers n file s in
         let more = kept_from-rises w.servers n file s in
@@ -71,6 +56,7 @@ Linked-purge R standing w n file linked on (Some s) at = go s.up s.settings.logs
           };
           stands = λ m t from at_m stood. on s t first stood;
         })
+    go _ _ _ logs past = linked
 
 -- what a purge that is done says
 pub record IsDone (w : World) (n file first : ℕ) (s : Server) : Type 0 where
@@ -82,10 +68,8 @@ pub purge-done : (w : World) (n file first : ℕ) (s : Server) → server_at w n
 purge-done w n file first s at h = go s.up s.settings.logs (nat_lt s.log.log.files file) refl refl (sym (ap (purge_answer w n file) at) ∙ h)
   where
     go : (a b c : Bool) → s.settings.logs ≡ b → nat_lt s.log.log.files file ≡ c → answered (kept_from w.servers n file s) a b c ≡ purging.Done first → IsDone w n file first s
-    go false b c logs past e = cc
-    go true false c logs past e = cc
-    go true true true logs past e = cc
     go true true false logs past e = record { logs = logs; within = grind (arith, nat_tests); is = cc }
+    go _ _ _ logs past e = cc
 
 -- a purge up to the last file is done
 pub purge-does : (w : World) (n file : ℕ) (s : Server) → server_at w n ≡ Some s → s.up ≡ true → s.settings.logs ≡ true → file ≤ s.log.log.files
@@ -106,10 +90,8 @@ pub purge-no_file : (w : World) (n file : ℕ) (s : Server) → server_at w n �
 purge-no_file w n file s at h = go s.up s.settings.logs (nat_lt s.log.log.files file) refl (sym (ap (purge_answer w n file) at) ∙ h)
   where
     go : (a b c : Bool) → nat_lt s.log.log.files file ≡ c → answered (kept_from w.servers n file s) a b c ≡ purging.NoFile → s.log.log.files < file
-    go false b c past e = cc
-    go true false c past e = cc
     go true true true past e = grind (arith, nat_tests)
-    go true true false past e = cc
+    go _ _ _ past e = cc
 
 pub purge-left : (w : World) (n file first : ℕ) (s : Server) → server_at w n ≡ Some s → purge_answer w n file (server_at w n) ≡ purging.Done first
     → after_purge w n (server_at w n) (purge_answer w n file (server_at w n)) ≡ with_server w n (record s { first = first })

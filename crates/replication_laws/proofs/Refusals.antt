@@ -1,32 +1,17 @@
 -- What is read and refused of purged files.
 use Rattle.std.proofs.Common.{◌≡◌, ℕ, ◌<◌, ◌≤◌, Bool, true, false, not, cond, List, [], ◌∷◌, length, refl, sym, ◌∙◌, ap, subst, Option, Some, None, arith, ◌&&◌, ◌||◌}
 use Rattle.std.specs.Prelude.{Result, Ok, Err, nat_lt}
-use Rattle.std.proofs.lemmas.Bool.Decides.{nat_tests}
-use Rattle.std.proofs.lemmas.Option.{same_Some, slice_get_within}
-use Rattle.binlog_coords.specs.declared.Coord.{Coord}
-use Rattle.binlog_coords.specs.declared.Next.{Next}
-use Rattle.binlog_coords.specs.declared.Next.TheVariants as next
-use Rattle.binlog_coords.specs.Log.{coord_after, file_start, next_after, place}
-use Rattle.gtid_sets.specs.declared.interval.Interval.{Interval}
-use Rattle.orch_base.specs.declared.server.ServerNo.{ServerNo}
-use Rattle.orch_base.specs.declared.server.SourceState.{SourceState}
-use Rattle.orch_base.specs.declared.server.SourceState.TheVariants.{Without, Attached, Detached}
-use Rattle.server_words.specs.declared.answers.FetchAnswer.TheVariants as fetching
-use Rattle.server_words.specs.declared.attach.AttachFault.{AttachFault}
-use Rattle.server_words.specs.declared.attach.AttachFault.TheVariants as attaching
-use Rattle.server_words.specs.declared.attach.Spot.{Spot}
-use Rattle.server_model.specs.declared.decisions.FetchStep.{FetchStep}
-use Rattle.server_model.specs.declared.decisions.FetchStep.TheVariants as receiving
-use Rattle.server_model.specs.declared.server.Server.{Server}
-use Rattle.server_model.specs.Attach.{spot_below, live_spot, same_spot, chain_meets, first_kept, purged_answer, attach_answer, after_attach}
-use Rattle.server_model.specs.Exchanges.{fetch_step, fetch_from, fetch_kept, fetch_answer, after_fetch, attached_at, is_attached, is_receiving}
-use Rattle.server_model.specs.Gtids.{uuids, held_of, kept_coord, purged_len, errant_set, auto_coord, auto_purged, answer_by_sets, attach_auto_answer, after_attach_auto, attached_auto, IsAutoTarget}
-use Rattle.server_model.specs.Safe.{Placed}
-use Rattle.server_model.specs.Worlds.{World, server_at, sources, with_server}
-use Rattle.server_model.proofs.Fetched.{fetch_step-on}
-use Rattle.server_model.proofs.PurgedFiles.{purged_len-is}
-use Rattle.replication_laws.specs.Below.{Reaches, IsReadyAt, IsReadyAuto}
-use Rattle.replication_laws.specs.Purged.{IsActive, IsRefused}
+use Rattle.replication_laws.proofs.Prelude.{Attached, AttachFault, Coord, Detached, FetchStep, Interval, IsActive, IsAutoTarget, IsReadyAt}
+use Rattle.replication_laws.proofs.Prelude.{IsReadyAuto, IsRefused, Next, Placed, Reaches, Server, ServerNo, SourceState, Spot, Without, World}
+use Rattle.replication_laws.proofs.Prelude.{after_attach, after_attach_auto, after_fetch, answer_by_sets, attach_answer, attach_auto_answer}
+use Rattle.replication_laws.proofs.Prelude.{attached_at, attached_auto, auto_coord, auto_purged, chain_meets, coord_after, errant_set, fetch_answer}
+use Rattle.replication_laws.proofs.Prelude.{fetch_from, fetch_kept, fetch_step, fetch_step-on, file_start, first_kept, held_of, is_attached}
+use Rattle.replication_laws.proofs.Prelude.{is_receiving, kept_coord, live_spot, nat_tests, next_after, place, purged_answer, purged_len}
+use Rattle.replication_laws.proofs.Prelude.{purged_len-is, same_Some, same_spot, server_at, slice_get_within, sources, spot_below, uuids, with_server}
+use Rattle.replication_laws.proofs.Prelude.attaching
+use Rattle.replication_laws.proofs.Prelude.fetching
+use Rattle.replication_laws.proofs.Prelude.next
+use Rattle.replication_laws.proofs.Prelude.receiving
 use Rattle.replication_laws.proofs.Chains.{walk-finds_all}
 use Rattle.replication_laws.proofs.Moves.{auto-laid, auto-place}
 use Rattle.replication_laws.proofs.Worlds.{at_with_same}
@@ -80,12 +65,9 @@ pub fetch-refused : (w : World) (n first : ℕ) → fetch_answer (fetch_step w (
 fetch-refused w n first h = at_server (server_at w n) refl h
   where
     refuses : (x : FetchStep) → fetch_answer x ≡ fetching.Purged first → x ≡ receiving.Refuse first
-    refuses receiving.Halt e = cc
-    refuses receiving.Unlinked e = cc
     refuses (receiving.Refuse k) e = let same : k ≡ first = cc in ap (λ (j : ℕ). receiving.Refuse j) same
     refuses (receiving.Take (next.Entry index to)) e = cc
-    refuses (receiving.Take (next.Rotate to)) e = cc
-    refuses (receiving.Take next.End) e = cc
+    refuses _ e = cc
 
     not_halted : receiving.Halt ≡ receiving.Refuse first → ⊥
     not_halted e = cc
@@ -135,11 +117,8 @@ fetch-got w n r s server to at from at_s h = go (fetch_step w (server_at w n)) r
   where
     go : (x : FetchStep) → fetch_step w (server_at w n) ≡ x → fetch_answer x ≡ fetching.Got to → s.first ≤ r.read.file
     go receiving.Halt is e = cc
-    go receiving.Unlinked is e = cc
-    go (receiving.Refuse k) is e = cc
     go (receiving.Take (next.Entry index c)) is e = fetch-kept w n r s server (next.Entry index c) at from at_s is
-    go (receiving.Take (next.Rotate c)) is e = cc
-    go (receiving.Take next.End) is e = cc
+    go _ is e = cc
 
 pub fetch-rotated : (w : World) (n : ℕ) (r s : Server) (server : ServerNo) (to : Coord) → server_at w n ≡ Some r → r.source ≡ Attached server → server_at w server.0 ≡ Some s
     → fetch_answer (fetch_step w (server_at w n)) ≡ fetching.Rotated to → s.first ≤ r.read.file
@@ -147,11 +126,8 @@ fetch-rotated w n r s server to at from at_s h = go (fetch_step w (server_at w n
   where
     go : (x : FetchStep) → fetch_step w (server_at w n) ≡ x → fetch_answer x ≡ fetching.Rotated to → s.first ≤ r.read.file
     go receiving.Halt is e = cc
-    go receiving.Unlinked is e = cc
-    go (receiving.Refuse k) is e = cc
-    go (receiving.Take (next.Entry index c)) is e = cc
     go (receiving.Take (next.Rotate c)) is e = fetch-kept w n r s server (next.Rotate c) at from at_s is
-    go (receiving.Take next.End) is e = cc
+    go _ is e = cc
 
 -- an active replica that is to read a purged file of a server that is up is refused
 pub fetch-purged : (w : World) (n : ℕ) (r s : Server) (server : ServerNo) → server_at w n ≡ Some r → server_at w server.0 ≡ Some s → s.up ≡ true → IsActive server r → r.read.file < s.first

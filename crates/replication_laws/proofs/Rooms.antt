@@ -1,38 +1,21 @@
 -- No history of a quiet run gets full.
 use Rattle.std.proofs.Common.{◌≡◌, ℕ, ◌+◌, ◌<◌, ◌≤◌, Bool, true, false, cond, not, List, [], ◌∷◌, length, take, refl, sym, ◌∙◌, ap, subst, inl, inr, Option, Some, None, arith, length-append, zero, suc, count_by}
 use Rattle.std.specs.Prelude.{slice_get, nat_le, Result, Ok, Err}
-use Rattle.std.proofs.lemmas.Bool.Decides.{nat_tests}
-use Rattle.std.proofs.lemmas.List.Sums.{sum_by-cons}
-use Rattle.std.proofs.lemmas.Option.{same_Some, slice_get_within}
-use Rattle.binlog_coords.specs.declared.Coord.{Coord}
-use Rattle.binlog_coords.specs.declared.Next.TheVariants as next
-use Rattle.orch_base.specs.declared.server.ServerNo.{ServerNo}
-use Rattle.orch_base.specs.declared.server.Txn.{Txn}
-use Rattle.server_words.specs.declared.answers.ApplyAnswer.TheVariants as answers
-use Rattle.server_model.specs.declared.decisions.ApplyStep.{ApplyStep}
-use Rattle.server_model.specs.declared.decisions.FetchStep.{FetchStep}
-use Rattle.server_model.specs.declared.decisions.FetchStep.TheVariants as receiving
-use Rattle.server_words.specs.declared.answers.PurgeAnswer.{PurgeAnswer}
-use Rattle.server_words.specs.declared.answers.PurgeAnswer.TheVariants as purging
-use Rattle.server_words.specs.declared.answers.RotateAnswer.{RotateAnswer}
-use Rattle.server_words.specs.declared.answers.RotateAnswer.TheVariants as rotating
-use Rattle.server_words.specs.declared.answers.Unreachable.{Unreachable}
-use Rattle.server_words.specs.declared.answers.WriteAnswer.{WriteAnswer}
-use Rattle.server_words.specs.declared.answers.WriteAnswer.TheVariants as wrote
-use Rattle.server_words.specs.declared.attach.AttachFault.{AttachFault}
-use Rattle.server_words.specs.declared.changes.Ask.{Ask}
-use Rattle.server_model.specs.declared.server.Server.{Server}
-use Rattle.server_model.specs.Attach.{attach_answer, attached_to, after_attach}
-use Rattle.server_model.specs.Desk.{asked, befallen, rotated, desk_answer, rotate_answer, after_change, after_desk, after_rotate}
-use Rattle.server_model.specs.Exchanges.{took, own_txn, write_answer, after_write, fetch_step, after_fetch, apply_step, apply_answer, after_apply}
-use Rattle.orch_base.specs.Histories.{count_own}
-use Rattle.server_model.specs.Gtids.{attach_auto_answer, after_attach_auto, attached_auto, auto_coord, uuids}
-use Rattle.server_model.specs.Purging.{purge_answer, after_purge}
-use Rattle.server_model.specs.Run.{Exchange, Write, Fetch, Apply, Request, Befall, Rotate, Purge, Attach, AttachAuto, is_write, after, run, AllAllowed, AllJoinWell}
-use Rattle.server_model.specs.Safe.{Safe, IsQuiet}
-use Rattle.server_model.specs.Worlds.{World, server_at, with_server}
-use Rattle.replication_laws.specs.Room.{Fitting, AllFit, IsNotFull}
-use Rattle.replication_laws.proofs.Applies.{Taking, Facing, Halts, Forgets, Idles, Passes, Skips, Fills, Executes, Facing-step, after_executed, not_held}
+use Rattle.replication_laws.proofs.Prelude.{AllAllowed, AllFit, AllJoinWell, Apply, ApplyStep, Ask, Attach, AttachAuto, AttachFault, Befall, Coord}
+use Rattle.replication_laws.proofs.Prelude.{Exchange, Fetch, FetchStep, Fitting, IsNotFull, IsQuiet, Purge, PurgeAnswer, Request, Rotate}
+use Rattle.replication_laws.proofs.Prelude.{RotateAnswer, Safe, Server, ServerNo, Txn, Unreachable, World, Write, WriteAnswer, after, after_apply}
+use Rattle.replication_laws.proofs.Prelude.{after_attach, after_attach_auto, after_change, after_desk, after_fetch, after_purge, after_rotate}
+use Rattle.replication_laws.proofs.Prelude.{after_write, apply_answer, apply_step, asked, attach_answer, attach_auto_answer, attached_auto}
+use Rattle.replication_laws.proofs.Prelude.{attached_to, auto_coord, befallen, count_own, desk_answer, fetch_step, is_write, nat_tests, own_txn}
+use Rattle.replication_laws.proofs.Prelude.{purge_answer, rotate_answer, rotated, run, same_Some, server_at, slice_get_within, sum_by-cons, took}
+use Rattle.replication_laws.proofs.Prelude.{uuids, with_server, write_answer}
+use Rattle.replication_laws.proofs.Prelude.answers
+use Rattle.replication_laws.proofs.Prelude.next
+use Rattle.replication_laws.proofs.Prelude.purging
+use Rattle.replication_laws.proofs.Prelude.receiving
+use Rattle.replication_laws.proofs.Prelude.rotating
+use Rattle.replication_laws.proofs.Prelude.wrote
+use Rattle.replication_laws.proofs.Applies.{Taking, Facing, Forgets, Passes, Skips, Fills, Executes, Facing-step, after_executed, not_held}
 use Rattle.replication_laws.proofs.Histories.{tick}
 use Rattle.replication_laws.proofs.Keeping.{at_cases, Same, Placed-safe}
 use Rattle.replication_laws.proofs.Moves.{Same-asked, Same-befallen}
@@ -56,23 +39,17 @@ module _ (room total : ℕ) (w : World) (fit : AllFit room total w) where
       AllFit-with 0 n s s' here (record { room_is = ap (λ h. h.room) same ∙ f.room_is; within = rw same f.within })
 
   AllFit-write : (n size : ℕ) (o : Option Server) → server_at w n ≡ o → (a : WriteAnswer) → AllFit room (total + 1) (after_write w n size o a)
-  AllFit-write n size None at a = AllFit-more 1
-  AllFit-write n size (Some s) at wrote.Down = AllFit-more 1
-  AllFit-write n size (Some s) at wrote.ReadOnly = AllFit-more 1
-  AllFit-write n size (Some s) at wrote.Full = AllFit-more 1
   AllFit-write n size (Some s) at (wrote.Done seq) =
       let f = fit n s at in
       AllFit-with 1 n s (took s (own_txn n seq size)) at
       (record { room_is = f.room_is; within = omega (arith, f.within, length-append s.history.txns (own_txn n seq size ∷ [])) })
+  AllFit-write n size _ at _ = AllFit-more 1
 
   AllFit-fetch : (n : ℕ) (o : Option Server) → server_at w n ≡ o → (a : FetchStep) → AllFit room (total + 0) (after_fetch w n o a)
-  AllFit-fetch n None at a = AllFit-more 0
-  AllFit-fetch n (Some r) at receiving.Halt = AllFit-more 0
-  AllFit-fetch n (Some r) at receiving.Unlinked = AllFit-more 0
   AllFit-fetch n (Some r) at (receiving.Refuse first) = AllFit-still n r (record r { receiver = false }) at refl
   AllFit-fetch n (Some r) at (receiving.Take (next.Entry index to)) = AllFit-still n r (record r { read = to }) at refl
   AllFit-fetch n (Some r) at (receiving.Take (next.Rotate to)) = AllFit-still n r (record r { read = to }) at refl
-  AllFit-fetch n (Some r) at (receiving.Take next.End) = AllFit-more 0
+  AllFit-fetch n _ at _ = AllFit-more 0
 
   AllFit-change : (n : ℕ) (f : Server → Server) → ((s : Server) → Same s (f s)) → (o : Option Server) → server_at w n ≡ o → AllFit room (total + 0) (after_change w n f o)
   AllFit-change n f same None at = AllFit-more 0
@@ -83,18 +60,12 @@ module _ (room total : ℕ) (w : World) (fit : AllFit room total w) where
   AllFit-ask n a (Err e) = AllFit-more 0
 
   AllFit-rotate : (n : ℕ) (o : Option Server) → server_at w n ≡ o → (answer : RotateAnswer) → AllFit room (total + 0) (after_rotate w n o answer)
-  AllFit-rotate n None at answer = AllFit-more 0
-  AllFit-rotate n (Some s) at rotating.Down = AllFit-more 0
-  AllFit-rotate n (Some s) at rotating.NotLogging = AllFit-more 0
-  AllFit-rotate n (Some s) at rotating.Full = AllFit-more 0
   AllFit-rotate n (Some s) at (rotating.Done c) = AllFit-still n s (rotated s) at refl
+  AllFit-rotate n _ at _ = AllFit-more 0
 
   AllFit-purge : (n : ℕ) (o : Option Server) → server_at w n ≡ o → (answer : PurgeAnswer) → AllFit room (total + 0) (after_purge w n o answer)
-  AllFit-purge n None at answer = AllFit-more 0
-  AllFit-purge n (Some s) at purging.Down = AllFit-more 0
-  AllFit-purge n (Some s) at purging.NotLogging = AllFit-more 0
-  AllFit-purge n (Some s) at purging.NoFile = AllFit-more 0
   AllFit-purge n (Some s) at (purging.Done first) = AllFit-still n s (record s { first = first }) at refl
+  AllFit-purge n _ at _ = AllFit-more 0
 
   AllFit-attach : (n : ℕ) (to : ServerNo) (c : Coord) (o : Option Server) → server_at w n ≡ o → (answer : Result (Unit {0}) AttachFault) → AllFit room (total + 0) (after_attach w n to c o answer)
   AllFit-attach n to c None at answer = AllFit-more 0
@@ -112,16 +83,14 @@ module _ (room total : ℕ) (w : World) (fit : AllFit room total w) where
       omega (arith, (fit due.number due.source due.source_at).within, slice_get_within due.source.history.txns (length r.history.txns) t (after_executed w n r safe at t to due))
 
   AllFit-step : (n : ℕ) (r : Server) → server_at w n ≡ Some r → Safe w → (x : ApplyStep) → Facing w r x → AllFit room (total + 0) (after_apply w n (Some r) x)
-  AllFit-step n r at safe x Halts = AllFit-more 0
   AllFit-step n r at safe x Forgets = AllFit-still n r (record r { applier = false; until = None }) at refl
-  AllFit-step n r at safe x Idles = AllFit-more 0
   AllFit-step n r at safe x (Passes to pass) = AllFit-still n r (record r { exec = to }) at refl
   AllFit-step n r at safe x (Skips t to due held) = absurd (not_held w n r safe at t to due held)
-  AllFit-step n r at safe x (Fills t to due full) = AllFit-more 0
   AllFit-step n r at safe x (Executes t to due) =
       let f = fit n r at in
       AllFit-with 0 n r (record (took r t) { exec = to }) at
       (record { room_is = f.room_is; within = omega (arith, due-within n r at safe t to due, length-append r.history.txns (t ∷ [])) })
+  AllFit-step n r at safe x _ = AllFit-more 0
 
   AllFit-apply : (n : ℕ) (o : Option Server) → server_at w n ≡ o → Safe w → AllFit room (total + 0) (after_apply w n o (apply_step w o))
   AllFit-apply n None at safe = AllFit-more 0
@@ -134,22 +103,15 @@ module _ (room total : ℕ) (w : World) (fit : AllFit room total w) where
     where
       go : (up read_only full : Bool) → nat_le s.history.room (length s.history.txns) ≡ full
           → cond (not up) wrote.Down (cond read_only wrote.ReadOnly (cond full wrote.Full (wrote.Done (count_own n s.history.txns + 1)))) ≡ wrote.Full → ⊥
-      go false read_only full is e = cc
-      go true true full is e = cc
-      go true false false is e = cc
       go true false true is e =
           let f = fit n s at in
           let le : s.history.room ≤ length s.history.txns = grind (arith, nat_tests) in
           absurd (omega (arith, le, f.room_is, f.within))
+      go _ _ _ is e = cc
 
   not_full-step : (n : ℕ) (r : Server) → server_at w n ≡ Some r → total ≤ room → Safe w → (x : ApplyStep) → Facing w r x → apply_answer x ≡ answers.Full → ⊥
-  not_full-step n r at more safe x Halts h = cc
-  not_full-step n r at more safe x Forgets h = cc
-  not_full-step n r at more safe x Idles h = cc
-  not_full-step n r at more safe x (Passes to pass) h = cc
-  not_full-step n r at more safe x (Skips t to due held) h = cc
-  not_full-step n r at more safe x (Executes t to due) h = cc
   not_full-step n r at more safe x (Fills t to due full) h = absurd (omega (arith, full, (fit n r at).room_is, due-within n r at safe t to due))
+  not_full-step n r at more safe x _ h = cc
 
   not_full-apply : (n : ℕ) (o : Option Server) → server_at w n ≡ o → total ≤ room → Safe w → apply_answer (apply_step w o) ≡ answers.Full → ⊥
   not_full-apply n None at more safe h = cc
@@ -168,14 +130,8 @@ AllFit-after room total w fit safe (AttachAuto n observed to) = AllFit-attach_au
 
 not_full-here : (room total : ℕ) (w : World) → AllFit room total w → Safe w → (e : Exchange) → total + tick (is_write e) ≤ room → IsNotFull w e
 not_full-here room total w fit safe (Write n size) more = not_full-write room total w fit n (server_at w n) refl (omega arith)
-not_full-here room total w fit safe (Fetch n) more = tt
 not_full-here room total w fit safe (Apply n) more = not_full-apply room total w fit n (server_at w n) refl (omega arith) safe
-not_full-here room total w fit safe (Request n a) more = tt
-not_full-here room total w fit safe (Befall n e) more = tt
-not_full-here room total w fit safe (Rotate n) more = tt
-not_full-here room total w fit safe (Purge n file) more = tt
-not_full-here room total w fit safe (Attach n expect to at) more = tt
-not_full-here room total w fit safe (AttachAuto n observed to) more = tt
+not_full-here room total w fit safe _ more = tt
 
 -- so no exchange of a run finds a history full
 pub not_full-run : (room : ℕ) (es : List Exchange) (k : ℕ) (e : Exchange) (total : ℕ) (w : World) → AllFit room total w → Safe w → AllAllowed w es → AllJoinWell w es

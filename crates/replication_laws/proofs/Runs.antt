@@ -1,24 +1,12 @@
 -- Exchanges and runs: what stays placed, what stays safe, and the count of errant writes.
-use Rattle.std.proofs.Common.{ℕ, ◌+◌, ◌≤◌, Bool, true, false, cond, List, [], ◌∷◌, take, refl, Option, Some, None, arith, zero, suc}
-use Rattle.binlog_coords.specs.declared.Coord.{Coord}
-use Rattle.orch_base.specs.declared.server.ServerNo.{ServerNo}
-use Rattle.server_model.specs.declared.decisions.ApplyStep.{ApplyStep}
-use Rattle.server_model.specs.declared.decisions.ApplyStep.TheVariants as applying
-use Rattle.server_words.specs.declared.answers.WriteAnswer.{WriteAnswer}
-use Rattle.server_words.specs.declared.answers.WriteAnswer.TheVariants as wrote
-use Rattle.server_words.specs.declared.attach.Spot.{Spot}
-use Rattle.server_words.specs.declared.changes.Ask.{Ask}
-use Rattle.server_words.specs.declared.changes.Event.{Event}
-use Rattle.server_model.specs.declared.server.Server.{Server}
-use Rattle.server_model.specs.Attach.{attach_answer}
-use Rattle.server_model.specs.Desk.{desk_answer, rotate_answer}
-use Rattle.server_model.specs.Exchanges.{write_answer, after_write, fetch_step, after_apply, apply_step}
-use Rattle.gtid_sets.specs.declared.interval.Interval.{Interval}
-use Rattle.server_model.specs.Gtids.{attach_auto_answer}
-use Rattle.server_model.specs.Run.{Exchange, Write, Fetch, Apply, Request, Befall, Rotate, Purge, Attach, AttachAuto, after, Allowed, JoinsWell, run, AllAllowed, AllJoinWell}
-use Rattle.server_model.specs.Safe.{Safe, Placed, StandsIn, AttachedWell, IsQuiet}
-use Rattle.server_model.specs.Worlds.{World, server_at, has_source}
-use Rattle.replication_laws.specs.Growth.{Grows}
+use Rattle.std.proofs.Common.{ℕ, ◌+◌, ◌≤◌, Bool, true, false, cond, List, [], ◌∷◌, take, refl, Option, Some, arith, zero, suc}
+use Rattle.replication_laws.proofs.Prelude.{AllAllowed, AllJoinWell, Allowed, Apply, ApplyStep, Ask, Attach, AttachAuto, AttachedWell, Befall, Coord}
+use Rattle.replication_laws.proofs.Prelude.{Event, Exchange, Fetch, Grows, Interval, IsQuiet, JoinsWell, Placed, Purge, Request, Rotate, Safe, Server}
+use Rattle.replication_laws.proofs.Prelude.{ServerNo, Spot, StandsIn, World, Write, WriteAnswer, after, after_apply, after_write, apply_step}
+use Rattle.replication_laws.proofs.Prelude.{attach_answer, attach_auto_answer, desk_answer, fetch_step, has_source, rotate_answer, run, server_at}
+use Rattle.replication_laws.proofs.Prelude.{write_answer}
+use Rattle.replication_laws.proofs.Prelude.applying
+use Rattle.replication_laws.proofs.Prelude.wrote
 use Rattle.replication_laws.proofs.Keeping.{Standing-well, Standing-placed, Linked-safe, Linked-placed, Placed-linked, Idle, Safe-idle, Grows-refl, Grows-trans}
 use Rattle.replication_laws.proofs.Writes.{Safe-write, Placed-write, Grows-write}
 use Rattle.replication_laws.proofs.Fetches.{Linked-fetch, Idle-fetch}
@@ -30,25 +18,16 @@ use Rattle.replication_laws.proofs.Subsets.{prefix-observed, held-prefix}
 -- the count of errant writes never falls
 
 errant-write : (w : World) (n size : ℕ) (o : Option Server) (a : WriteAnswer) → w.errant ≤ (after_write w n size o a).errant
-errant-write w n size None a = omega arith
-errant-write w n size (Some s) wrote.Down = omega arith
-errant-write w n size (Some s) wrote.ReadOnly = omega arith
-errant-write w n size (Some s) wrote.Full = omega arith
 errant-write w n size (Some s) (wrote.Done seq) = go (has_source s.source)
   where
     go : (b : Bool) → w.errant ≤ cond b (w.errant + 1) w.errant
     go true = omega arith
     go false = omega arith
+errant-write w n size _ _ = omega arith
 
 errant-apply : (w : World) (n : ℕ) (o : Option Server) (a : ApplyStep) → w.errant ≤ (after_apply w n o a).errant
-errant-apply w n None a = omega arith
 errant-apply w n (Some r) applying.Halt = omega arith
-errant-apply w n (Some r) applying.ForgetUntil = omega arith
-errant-apply w n (Some r) applying.Idle = omega arith
-errant-apply w n (Some r) applying.NoRoom = omega arith
-errant-apply w n (Some r) (applying.Pass to) = omega arith
-errant-apply w n (Some r) (applying.Skip to) = omega arith
-errant-apply w n (Some r) (applying.Execute t to) = omega arith
+errant-apply w n _ _ = omega arith
 
 errant-idle : (w w' : World) → Idle w w' → w.errant ≤ w'.errant
 errant-idle w w' idle = omega (arith, idle.errant)

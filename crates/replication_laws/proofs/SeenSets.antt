@@ -1,25 +1,9 @@
 -- What a server has executed it has executed for good.
 use Rattle.std.proofs.Common.{◌≡◌, ℕ, ◌<◌, Bool, true, false, cond, List, [], ◌∷◌, ◌++◌, length, take, drop, refl, sym, ◌∙◌, ap, subst, Option, Some, None, Ok, arith, ◌||◌}
-use Rattle.std.specs.List.{list_any}
-use Rattle.std.proofs.lemmas.Bool.{false≢true}
-use Rattle.std.proofs.lemmas.List.{take-append-drop}
-use Rattle.std.proofs.lemmas.List.Folds.{list_any-append}
-use Rattle.std.proofs.lemmas.Option.{same_Some, slice_get_within}
-use Rattle.gtid_sets.specs.Sets.{holds}
-use Rattle.gtid_sets.specs.declared.interval.Interval.{Interval}
-use Rattle.orch_base.specs.declared.server.ServerNo.{ServerNo}
-use Rattle.orch_base.specs.declared.server.Settings.{Settings}
-use Rattle.orch_base.specs.declared.server.Txn.{Txn}
-use Rattle.server_model.specs.declared.server.Server.{Server}
-use Rattle.server_words.specs.declared.status.Status.{Status}
-use Rattle.server_model.specs.Gtids.{uuid_of, uuids, executed_set, status}
-use Rattle.server_model.specs.Run.{Exchange, AttachAuto, after, run, Allowed, JoinsWell, AllAllowed}
-use Rattle.server_model.specs.Safe.{Placed}
-use Rattle.server_model.specs.Worlds.{World, server_at}
-use Rattle.server_model.proofs.Counts.{servers-after}
-use Rattle.server_model.proofs.ExecutedSets.{is_gtid, holds-set_of, set_of-same, server-there}
-use Rattle.replication_laws.specs.Growth.{Grows}
-use Rattle.replication_laws.specs.Observed.{HasExecuted}
+use Rattle.replication_laws.proofs.Prelude.{AllAllowed, Allowed, AttachAuto, Exchange, Grows, HasExecuted, Interval, JoinsWell, Placed, Server}
+use Rattle.replication_laws.proofs.Prelude.{ServerNo, Settings, Status, Txn, World, after, executed_set, false≢true, holds, holds-set_of, is_gtid}
+use Rattle.replication_laws.proofs.Prelude.{list_any, list_any-append, run, same_Some, server-there, server_at, servers-after, set_of-same}
+use Rattle.replication_laws.proofs.Prelude.{slice_get_within, status, take-append-drop, uuid_of, uuids}
 use Rattle.replication_laws.proofs.BridgeLaws.{seen-of}
 use Rattle.replication_laws.proofs.Runs.{Grows-after, Placed-after}
 

@@ -1,26 +1,11 @@
 -- What a status shows has places, for good.
 use Rattle.std.proofs.Common.{◌≡◌, ℕ, Bool, true, false, cond, List, [], refl, sym, ◌∙◌, ap, subst, Option, Some, None, Ok, Err, count_by, ◌&&◌}
 use Rattle.std.specs.Prelude.{option_map}
-use Rattle.std.proofs.lemmas.Bool.{false≢true}
-use Rattle.std.proofs.lemmas.Option.{same_Some}
-use Rattle.binlog_coords.specs.declared.Coord.{Coord}
-use Rattle.binlog_coords.specs.Log.{has_place, ends_by, end_of, is_at_or_before}
-use Rattle.binlog_coords.proofs.Places.{place-parts, place-from, has_place-of_end, Laid-Grown}
-use Rattle.gtid_sets.specs.Sets.{holds}
-use Rattle.gtid_sets.specs.declared.interval.Interval.{Interval}
-use Rattle.orch_base.specs.declared.server.Settings.{Settings}
-use Rattle.orch_base.specs.declared.server.SourceState.{SourceState}
-use Rattle.server_words.specs.declared.status.Status.{Status}
-use Rattle.server_words.specs.declared.status.StatusFault.TheVariants as seeing
-use Rattle.server_model.specs.declared.server.Server.{Server}
-use Rattle.server_model.specs.Attach.{IsTarget}
-use Rattle.server_model.specs.Gtids.{executed_set, own_end_of, shown, shown_of, status, status_in}
-use Rattle.server_model.specs.Run.{Exchange, after, run, Allowed, AllAllowed}
-use Rattle.server_model.specs.Safe.{Placed}
-use Rattle.server_model.specs.Worlds.{World, server_at, source_no}
-use Rattle.replication_laws.specs.Growth.{Grows}
-use Rattle.replication_laws.specs.Observed.{HasExecuted}
-use Rattle.replication_laws.specs.Showing.{IsPosition, Shows}
+use Rattle.replication_laws.proofs.Prelude.{AllAllowed, Allowed, Coord, Exchange, Grows, HasExecuted, Interval, IsPosition, IsTarget, Laid-Grown}
+use Rattle.replication_laws.proofs.Prelude.{Placed, Server, Settings, Shows, SourceState, Status, World, after, end_of, ends_by, executed_set}
+use Rattle.replication_laws.proofs.Prelude.{false≢true, has_place, has_place-of_end, holds, is_at_or_before, own_end_of, place-from, place-parts, run}
+use Rattle.replication_laws.proofs.Prelude.{same_Some, server_at, shown, shown_of, source_no, status, status_in}
+use Rattle.replication_laws.proofs.Prelude.seeing
 use Rattle.replication_laws.proofs.Logs.{LaysOut-Grown}
 use Rattle.replication_laws.proofs.Runs.{Grows-after, Grows-run}
 use Rattle.replication_laws.proofs.SeenSets.{executed-after, executed-run}

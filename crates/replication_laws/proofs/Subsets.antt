@@ -1,23 +1,11 @@
 -- Of kin histories one whose set is within another's is its beginning.
 use Rattle.std.proofs.Common.{◌≡◌, ℕ, ◌+◌, ◌<◌, ◌≤◌, Bool, true, false, cond, List, [], ◌∷◌, length, refl, sym, ◌∙◌, ap, subst, ◌||◌, Option, Some, None, arith, zero, suc, take, get_or}
 use Rattle.std.specs.Prelude.{slice_get, All}
-use Rattle.std.specs.List.{prefix_len}
-use Rattle.std.proofs.lemmas.Bool.{or_right, false_from_ne_true}
-use Rattle.std.proofs.lemmas.Bool.Decides.{nat_tests}
-use Rattle.std.proofs.lemmas.Option.{same_Some, slice_get_within, slice_get-get_or}
-use Rattle.std.proofs.lemmas.List.{length-take, length-take-le, nil_from_length}
-use Rattle.std.proofs.Math.Seq.{take-length}
-use Rattle.gtid_sets.specs.declared.interval.Interval.{Interval}
-use Rattle.server_model.proofs.Lists.{slice_get-take}
-use Rattle.orch_base.specs.Histories.{same_txn, holds}
-use Rattle.orch_base.specs.declared.server.Txn.{Txn}
-use Rattle.server_model.specs.Gtids.{uuids, has_gtid, set_of, held_len, errant_set}
-use Rattle.server_model.specs.Run.{IsObserved}
-use Rattle.server_model.specs.Safe.{IsKin, Safe}
-use Rattle.server_model.specs.Worlds.{World, server_at, histories, history_of}
-use Rattle.server_model.specs.declared.server.Server.{Server}
-use Rattle.server_model.proofs.Errants.{none-errant}
-use Rattle.server_model.proofs.ExecutedSets.{holds-set_of, told-set_of}
+use Rattle.replication_laws.proofs.Prelude.{Interval, IsKin, IsObserved, Safe, Server, Txn, World, errant_set, false_from_ne_true, has_gtid, held_len}
+use Rattle.replication_laws.proofs.Prelude.{histories, history_of, holds-set_of, length-take, length-take-le, nat_tests, nil_from_length, none-errant}
+use Rattle.replication_laws.proofs.Prelude.{or_right, prefix_len, same_Some, same_txn, server_at, set_of, slice_get-get_or, slice_get-take}
+use Rattle.replication_laws.proofs.Prelude.{slice_get_within, take-length, told-set_of, uuids}
+use Rattle.replication_laws.proofs.Prelude.Histories.{holds}
 use Rattle.replication_laws.proofs.Histories.{IsKin-once, holds-at}
 
 -- every transaction of one history is in another

@@ -1,9 +1,7 @@
 use Rattle.std.proofs.Common.{◌≡◌, ℕ, cond, refl, sym, ◌∙◌, ap, inl, inr, Some}
 use Rattle.std.specs.Prelude.{◌==◌}
-use Rattle.std.proofs.lemmas.Bool.{cases_eq, eq-eqb, ne_eqb}
-use Rattle.server_model.proofs.Lists.{slice_get-set}
-use Rattle.server_model.specs.Worlds.{World, server_at, with_server, histories, history_of, sources, source_of, source_no}
-use Rattle.server_model.specs.declared.server.Server.{Server}
+use Rattle.replication_laws.proofs.Prelude.{Server, World, cases_eq, eq-eqb, histories, history_of, ne_eqb, server_at, slice_get-set, source_no}
+use Rattle.replication_laws.proofs.Prelude.{source_of, sources, with_server}
 
 -- the world with another server
 pub at_with : (w : World) (n : ℕ) (s t : Server) → server_at w n ≡ Some s → (m : ℕ) → server_at (with_server w n t) m ≡ cond (m == n) (Some t) (server_at w m)

@@ -1,18 +1,10 @@
 -- Writes: where each server goes on, and what stays safe.
 use Rattle.std.proofs.Common.{◌≡◌, ℕ, ◌+◌, ◌<◌, Bool, true, false, not, cond, List, [], ◌∷◌, ◌++◌, length, refl, sym, ◌∙◌, ap, subst, inl, Option, Some, None, arith}
 use Rattle.std.specs.Prelude.{nat_le}
-use Rattle.orch_base.specs.declared.server.SourceState.{SourceState}
-use Rattle.orch_base.specs.declared.server.SourceState.TheVariants.{Without, Attached, Detached}
-use Rattle.orch_base.specs.declared.server.Txn.{Txn}
-use Rattle.server_words.specs.declared.answers.WriteAnswer.{WriteAnswer}
-use Rattle.server_words.specs.declared.answers.WriteAnswer.TheVariants as wrote
-use Rattle.server_model.specs.declared.server.Server.{Server}
-use Rattle.server_model.specs.Exchanges.{took, own_txn, write_answer, after_write}
-use Rattle.orch_base.specs.Histories.{same_txn, count_own}
-use Rattle.server_model.specs.Safe.{Safe, Placed, StandsIn, AttachedWell, IsQuiet}
-use Rattle.server_model.specs.Worlds.{World, server_at, with_server, histories, history_of, source_no, has_source}
-use Rattle.server_model.proofs.PurgedFiles.{KeepsFrom-took}
-use Rattle.replication_laws.specs.Growth.{Grows}
+use Rattle.replication_laws.proofs.Prelude.{Attached, AttachedWell, Detached, Grows, IsQuiet, KeepsFrom-took, Placed, Safe, Server, SourceState}
+use Rattle.replication_laws.proofs.Prelude.{StandsIn, Txn, Without, World, WriteAnswer, after_write, count_own, has_source, histories, history_of}
+use Rattle.replication_laws.proofs.Prelude.{own_txn, same_txn, server_at, source_no, took, with_server, write_answer}
+use Rattle.replication_laws.proofs.Prelude.wrote
 use Rattle.replication_laws.proofs.Worlds.{at_with_same, at_with_other}
 use Rattle.replication_laws.proofs.Histories.{Extends, IsKin-extended, IsKin-fresh}
 use Rattle.replication_laws.proofs.Keeping.{Grows-refl, Grows-with, Standing-well, Standing-placed, Linked-safe, Safe-linked, Linked-placed, Placed-linked, Linked-keeps, Linked-errant}
@@ -72,20 +64,15 @@ Safe-write w n size (Some s) at some safe quiet = go s.up s.read_only (nat_le s.
     done false has q = Safe-wrote w n size w.errant s safe at some (free_source s.source has)
 
     go : (a b c : Bool) → IsQuiet (after_write w n size (Some s) (answered n s a b c)) → Safe (after_write w n size (Some s) (answered n s a b c))
-    go false b c q = safe
-    go true true c q = safe
-    go true false true q = safe
     go true false false q = done (has_source s.source) refl q
+    go _ _ _ q = safe
 
 -- each server goes on at a write, errant or not, and stays placed
 module _ (w : World) (n size : ℕ) (some : 0 < size) (placed : Placed w) where
   pub Grows-write : (o : Option Server) → server_at w n ≡ o → (a : WriteAnswer) → Grows w (after_write w n size o a)
-  Grows-write None at a = Grows-refl w
-  Grows-write (Some s) at wrote.Down = Grows-refl w
-  Grows-write (Some s) at wrote.ReadOnly = Grows-refl w
-  Grows-write (Some s) at wrote.Full = Grows-refl w
   Grows-write (Some s) at (wrote.Done seq) =
       Grows-with w n s (took s (own_txn n seq size)) at (GoesOn-took s (own_txn n seq size) some (placed.laid n s at))
+  Grows-write _ at _ = Grows-refl w
 
   Placed-wrote : (seq errant : ℕ) (s : Server) → server_at w n ≡ Some s → Placed (record (with_server w n (took s (own_txn n seq size))) { errant = errant })
   Placed-wrote seq errant s here =
@@ -100,8 +87,5 @@ module _ (w : World) (n size : ℕ) (some : 0 < size) (placed : Placed w) where
       })))
 
   pub Placed-write : (o : Option Server) → server_at w n ≡ o → (a : WriteAnswer) → Placed (after_write w n size o a)
-  Placed-write None at a = placed
-  Placed-write (Some s) at wrote.Down = placed
-  Placed-write (Some s) at wrote.ReadOnly = placed
-  Placed-write (Some s) at wrote.Full = placed
   Placed-write (Some s) at (wrote.Done seq) = Placed-wrote seq (cond (has_source s.source) (w.errant + 1) w.errant) s at
+  Placed-write _ at _ = placed

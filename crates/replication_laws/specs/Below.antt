@@ -1,11 +1,8 @@
 -- Who is below whom, by attached and detached sources, and when an attachment comes to ask that.
 use Rattle.std.specs.Prelude.{◌≡◌, ℕ, true, false, ◌&&◌, ◌||◌, Some}
-use Rattle.server_words.specs.declared.attach.Spot.{Spot}
-use Rattle.server_model.specs.declared.server.Server.{Server}
-use Rattle.server_model.specs.Attach.{same_spot, live_spot}
-use Rattle.server_model.specs.Worlds.{World, server_at}
+use Rattle.replication_laws.specs.Prelude.{Server, Spot, World, live_spot, same_spot, server_at}
 -- the chain of sources from a server comes to another: it is that one, or below it
-pub use Rattle.orch_base.specs.Chains.{Reaches, Here, Up}
+pub use Rattle.server_words.specs.OrchBase.Chains.{Reaches, Here, Up}
 
 -- the server is there, within orchestrator's reach, with its threads off, and stands where it is expected: of all that
 -- an attachment asks only a loop is left

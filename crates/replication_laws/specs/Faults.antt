@@ -1,22 +1,13 @@
 -- Answers that say that nothing was done.
 use Rattle.std.specs.Prelude.{Bool, true, false, Result, Ok, Err}
-use Rattle.server_words.specs.declared.answers.ApplyAnswer.{ApplyAnswer}
-use Rattle.server_words.specs.declared.answers.ApplyAnswer.TheVariants as applied_as
-use Rattle.server_words.specs.declared.answers.FetchAnswer.{FetchAnswer}
-use Rattle.server_words.specs.declared.answers.FetchAnswer.TheVariants as fetching
-use Rattle.server_words.specs.declared.answers.PurgeAnswer.{PurgeAnswer}
-use Rattle.server_words.specs.declared.answers.PurgeAnswer.TheVariants as purging
-use Rattle.server_words.specs.declared.answers.RotateAnswer.{RotateAnswer}
-use Rattle.server_words.specs.declared.answers.RotateAnswer.TheVariants as rotating
-use Rattle.server_words.specs.declared.answers.WriteAnswer.{WriteAnswer}
-use Rattle.server_words.specs.declared.answers.WriteAnswer.TheVariants as wrote
-use Rattle.server_model.specs.Attach.{attach_at}
-use Rattle.server_model.specs.Desk.{ask, rotate}
-use Rattle.server_model.specs.Exchanges.{write, fetch, apply}
-use Rattle.server_model.specs.Gtids.{attach_auto}
-use Rattle.server_model.specs.Purging.{purge}
-use Rattle.server_model.specs.Run.{Exchange, Write, Fetch, Apply, Request, Befall, Rotate, Purge, Attach, AttachAuto}
-use Rattle.server_model.specs.Worlds.{World}
+use Rattle.replication_laws.specs.Prelude.{Apply, ApplyAnswer, Attach, AttachAuto, Befall, Exchange, Fetch, FetchAnswer, Purge, PurgeAnswer, Request}
+use Rattle.replication_laws.specs.Prelude.{Rotate, RotateAnswer, World, Write, WriteAnswer, apply, ask, attach_at, attach_auto, fetch, purge, rotate}
+use Rattle.replication_laws.specs.Prelude.{write}
+use Rattle.replication_laws.specs.Prelude.applied_as
+use Rattle.replication_laws.specs.Prelude.fetching
+use Rattle.replication_laws.specs.Prelude.purging
+use Rattle.replication_laws.specs.Prelude.rotating
+use Rattle.replication_laws.specs.Prelude.wrote
 
 -- a client's transaction was not written
 abbrev pub nothing_written : WriteAnswer → Bool

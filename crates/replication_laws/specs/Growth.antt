@@ -1,9 +1,6 @@
 -- How servers go on from one world to a later one.
 use Rattle.std.specs.Prelude.{◌≡◌, ◌≤◌, ℕ, length, take, Some}
-use Rattle.binlog_coords.specs.declared.Coord.{Coord}
-use Rattle.binlog_coords.specs.Log.{place}
-use Rattle.server_model.specs.Worlds.{World, server_at}
-use Rattle.server_model.specs.declared.server.Server.{Server}
+use Rattle.replication_laws.specs.Prelude.{Coord, Server, World, place, server_at}
 
 -- a server that goes on: its settings stay, what it had executed is a beginning of what it has executed now, each place
 -- of its log stays, and what is purged of it stays purged

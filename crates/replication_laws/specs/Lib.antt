@@ -1,3 +1,4 @@
+pub mod Prelude
 pub mod Below
 pub mod Faults
 pub mod Growth

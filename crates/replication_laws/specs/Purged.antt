@@ -1,11 +1,6 @@
 -- Purged files: who reads a log, what a receiver does that is to read a purged file, and what is read of a log.
 use Rattle.std.specs.Prelude.{◌≡◌, ℕ, ◌<◌, ◌≤◌, true, false, length, Some, slice_get}
-use Rattle.binlog_coords.specs.declared.Entry.{Entry}
-use Rattle.orch_base.specs.declared.server.ServerNo.{ServerNo}
-use Rattle.orch_base.specs.declared.server.SourceState.TheVariants.{Attached}
-use Rattle.orch_base.specs.declared.server.Txn.{Txn}
-use Rattle.server_model.specs.declared.server.Server.{Server}
-use Rattle.server_model.specs.Worlds.{World, server_at, with_server}
+use Rattle.replication_laws.specs.Prelude.{Attached, Entry, Server, ServerNo, Txn, World, server_at, with_server}
 
 -- an active replica of a server: it is up and attached to it, and its receiver is on and reaches it
 pub record IsActive (no : ServerNo) (r : Server) : Type 0 where

@@ -1,11 +1,9 @@
 -- How much room histories and new files take in a run.
 use Rattle.std.specs.Prelude.{◌≡◌, ◌≢◌, ℕ, ◌≤◌, length, Some}
-use Rattle.server_words.specs.declared.answers.ApplyAnswer.TheVariants as applied_as
-use Rattle.server_words.specs.declared.answers.WriteAnswer.TheVariants as wrote
-use Rattle.server_model.specs.declared.server.Server.{Server}
-use Rattle.server_model.specs.Exchanges.{write, apply}
-use Rattle.server_model.specs.Run.{Exchange, Write, Fetch, Apply, Request, Befall, Rotate, Purge, Attach, AttachAuto}
-use Rattle.server_model.specs.Worlds.{World, server_at}
+use Rattle.replication_laws.specs.Prelude.{Apply, Attach, AttachAuto, Befall, Exchange, Fetch, Purge, Request, Rotate, Server, World, Write, apply}
+use Rattle.replication_laws.specs.Prelude.{server_at, write}
+use Rattle.replication_laws.specs.Prelude.applied_as
+use Rattle.replication_laws.specs.Prelude.wrote
 
 -- a server with this room for transactions that has executed at most so many
 pub record Fitting (room total : ℕ) (s : Server) : Type 0 where

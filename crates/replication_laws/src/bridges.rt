@@ -1,14 +1,9 @@
 //! Bridges between the logs of a replica and its source.
 
 ghost use Rattle.std.specs.Prelude.{◌≡◌, ℕ, List, Ok, Some};
-ghost use Rattle.binlog_coords.specs.declared.Coord.{Coord as At};
-ghost use Rattle.orch_base.specs.declared.server.ServerNo.{ServerNo};
-ghost use Rattle.server_words.specs.declared.attach.Spot.TheVariants as spot;
-ghost use Rattle.server_words.specs.declared.status.Status.{Status as Seen};
-ghost use Rattle.server_model.specs.Gtids.{status};
-ghost use Rattle.server_model.specs.Run.{Exchange, Attach, after, run, Allowed, JoinsWell, AllAllowed};
-ghost use Rattle.server_model.specs.Safe.{Safe, Placed};
-ghost use Rattle.server_model.specs.Worlds.{World, source_no};
+ghost use Rattle.replication_laws.specs.Prelude.{AllAllowed, Allowed, Attach, Coord as At, Exchange, JoinsWell, Placed, Safe, ServerNo};
+ghost use Rattle.replication_laws.specs.Prelude.{Status as Seen, World, after, run, source_no, status};
+ghost use Rattle.replication_laws.specs.Prelude.spot;
 ghost use Rattle.replication_laws.specs.Bridges.{Stands};
 
 /// In a safe world one status of a server that logs and has a source, attached or detached, shows a bridge that stands:

@@ -1,8 +1,7 @@
 //! What answers say of the world after them.
 
 ghost use Rattle.std.specs.Prelude.{◌≡◌, true};
-ghost use Rattle.server_model.specs.Run.{Exchange, after};
-ghost use Rattle.server_model.specs.Worlds.{World};
+ghost use Rattle.replication_laws.specs.Prelude.{Exchange, World, after};
 ghost use Rattle.replication_laws.specs.Faults.{nothing_done};
 
 /// An exchange that answers a fault (Unreachable, or any fault of an attachment), or Down, ReadOnly, Full, Stopped,

@@ -1,13 +1,8 @@
 //! Sets of GTIDs that were observed of a server.
 
 ghost use Rattle.std.specs.Prelude.{◌≡◌, ℕ, List, Ok};
-ghost use Rattle.gtid_sets.specs.declared.interval.Interval.{Interval};
-ghost use Rattle.orch_base.specs.declared.server.ServerNo.{ServerNo};
-ghost use Rattle.server_words.specs.declared.status.Status.{Status as Seen};
-ghost use Rattle.server_model.specs.Gtids.{status};
-ghost use Rattle.server_model.specs.Run.{Exchange, AttachAuto, after, run, Allowed, JoinsWell, AllAllowed};
-ghost use Rattle.server_model.specs.Safe.{Placed};
-ghost use Rattle.server_model.specs.Worlds.{World};
+ghost use Rattle.replication_laws.specs.Prelude.{AllAllowed, Allowed, AttachAuto, Exchange, Interval, JoinsWell, Placed, ServerNo, Status as Seen};
+ghost use Rattle.replication_laws.specs.Prelude.{World, after, run, status};
 ghost use Rattle.replication_laws.specs.Observed.{HasExecuted};
 
 /// The set that one status of a server shows is one that it has executed, and stays so for good, quiet or not: after

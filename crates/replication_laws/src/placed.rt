@@ -1,16 +1,9 @@
 //! What holds in every world of a run, quiet or not.
 
 ghost use Rattle.std.specs.Prelude.{◌≡◌, ℕ, ◌<◌, List, Some, Err, true, length, take};
-ghost use Rattle.orch_base.specs.declared.server.ServerNo.{ServerNo};
-ghost use Rattle.binlog_coords.specs.declared.Coord.{Coord as At};
-ghost use Rattle.gtid_sets.specs.declared.interval.Interval.{Interval as Those};
-ghost use Rattle.server_words.specs.declared.attach.AttachFault.TheVariants as attaching;
-ghost use Rattle.server_words.specs.declared.attach.Spot.{Spot as ASpot};
-ghost use Rattle.server_model.specs.Attach.{attach_at, chain_meets};
-ghost use Rattle.server_model.specs.Gtids.{attach_auto};
-ghost use Rattle.server_model.specs.Run.{Exchange, after, run, Allowed, AllAllowed};
-ghost use Rattle.server_model.specs.Safe.{Safe, Placed};
-ghost use Rattle.server_model.specs.Worlds.{World, sources};
+ghost use Rattle.replication_laws.specs.Prelude.{AllAllowed, Allowed, Coord as At, Exchange, Interval as Those, Placed, Safe, ServerNo};
+ghost use Rattle.replication_laws.specs.Prelude.{Spot as ASpot, World, after, attach_at, attach_auto, chain_meets, run, sources};
+ghost use Rattle.replication_laws.specs.Prelude.attaching;
 ghost use Rattle.replication_laws.specs.Below.{Reaches, IsReadyAt, IsReadyAuto};
 ghost use Rattle.replication_laws.specs.Growth.{Grows};
 

@@ -1,27 +1,13 @@
 //! What a purge of a binary log leaves (MySQL 8.0 Reference Manual, "PURGE BINARY LOGS Statement").
 
 ghost use Rattle.std.specs.Prelude.{◌≡◌, ℕ, ◌<◌, ◌≤◌, ◌⊎◌, List, [], Err, Ok, Option, Some, None, true, false, slice_get};
-ghost use Rattle.binlog_coords.specs.declared.Coord.{Coord as At};
-ghost use Rattle.binlog_coords.specs.declared.Entry.{Entry as AnEntry};
-ghost use Rattle.binlog_coords.specs.Log.{file_start, place};
-ghost use Rattle.gtid_sets.specs.Sets.{holds};
-ghost use Rattle.gtid_sets.specs.declared.interval.Interval.{Interval as Those};
-ghost use Rattle.orch_base.specs.declared.server.ServerNo.{ServerNo};
-ghost use Rattle.orch_base.specs.declared.server.Txn.{Txn as ATxn};
-ghost use Rattle.server_words.specs.declared.answers.FetchAnswer.TheVariants as fetching;
-ghost use Rattle.server_words.specs.declared.answers.PurgeAnswer.TheVariants as purging;
-ghost use Rattle.server_words.specs.declared.attach.AttachFault.TheVariants as attaching;
-ghost use Rattle.server_words.specs.declared.attach.Spot.{Spot as ASpot};
-ghost use Rattle.server_words.specs.declared.status.Status.{Status as Seen};
-ghost use Rattle.server_model.specs.declared.server.Server.{Server as AServer};
-ghost use Rattle.server_model.specs.Attach.{attach_at};
-ghost use Rattle.server_model.specs.Exchanges.{fetch};
-ghost use Rattle.server_model.specs.Desk.{can_reach};
-ghost use Rattle.server_model.specs.Gtids.{attach_auto, errant_set, has_gtid, held_of, shown, uuids, IsAutoTarget};
-ghost use Rattle.server_model.specs.Plains.{logged};
-ghost use Rattle.server_model.specs.Purging.{purge};
-ghost use Rattle.server_model.specs.Safe.{Safe, Placed};
-ghost use Rattle.server_model.specs.Worlds.{World, server_at, sources, with_server};
+ghost use Rattle.replication_laws.specs.Prelude.{Coord as At, Entry as AnEntry, Interval as Those, IsAutoTarget, Placed, Safe, Server as AServer};
+ghost use Rattle.replication_laws.specs.Prelude.{ServerNo, Spot as ASpot, Status as Seen, Txn as ATxn, World, attach_at, attach_auto, can_reach};
+ghost use Rattle.replication_laws.specs.Prelude.{errant_set, fetch, file_start, has_gtid, held_of, holds, logged, place, purge, server_at, shown};
+ghost use Rattle.replication_laws.specs.Prelude.{sources, uuids, with_server};
+ghost use Rattle.replication_laws.specs.Prelude.attaching;
+ghost use Rattle.replication_laws.specs.Prelude.fetching;
+ghost use Rattle.replication_laws.specs.Prelude.purging;
 ghost use Rattle.replication_laws.specs.Below.{Reaches, IsReadyAt, IsReadyAuto};
 ghost use Rattle.replication_laws.specs.Growth.{Grows};
 ghost use Rattle.replication_laws.specs.Purged.{IsActive, IsGone, IsLogged, IsRefused};

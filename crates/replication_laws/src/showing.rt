@@ -1,11 +1,7 @@
 //! What a status shows has places.
 
 ghost use Rattle.std.specs.Prelude.{◌≡◌, ℕ, List, Ok, Some};
-ghost use Rattle.server_words.specs.declared.status.Status.{Status as Seen};
-ghost use Rattle.server_model.specs.Gtids.{shown, status};
-ghost use Rattle.server_model.specs.Run.{Exchange, after, run, Allowed, AllAllowed};
-ghost use Rattle.server_model.specs.Safe.{Placed};
-ghost use Rattle.server_model.specs.Worlds.{World};
+ghost use Rattle.replication_laws.specs.Prelude.{AllAllowed, Allowed, Exchange, Placed, Status as Seen, World, after, run, shown, status};
 ghost use Rattle.replication_laws.specs.Showing.{Shows};
 
 /// In a placed world, quiet or not, what a status shows of a server, reached or not, has places: its own end in its own

@@ -2,9 +2,9 @@
 use Rattle.std.proofs.Common.{◌≡◌, ℕ, ◌+◌, ◌<◌, List, [], ◌∷◌, ◌++◌, zero, suc, length, map, take, drop, Option, Some, None, refl, sym, ap, ◌∙◌, arith, append_assoc, add-one}
 use Rattle.std.specs.Prelude.{option_map, slice_get, sum_by}
 use Rattle.std.proofs.lemmas.List.Sums.{sum_by-cons}
-use Rattle.orch_base.specs.Names.{HostPort}
-use Rattle.orch_base.specs.declared.server.Settings.{Settings}
-use Rattle.binlog_coords.specs.Index.{Index}
+use Rattle.server_words.specs.OrchBase.Names.{HostPort}
+use Rattle.server_words.specs.OrchBase.declared.server.Settings.{Settings}
+use Rattle.server_words.specs.BinlogCoords.Index.{Index}
 use Rattle.server_words.specs.declared.plain.Plain.{Plain}
 use Rattle.server_model.specs.declared.server.Server.{Server}
 use Rattle.server_model.specs.Plains.{plain_of, log_of}

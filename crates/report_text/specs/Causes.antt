@@ -1,11 +1,11 @@
 -- The texts of causes.
 use Rattle.std.specs.Prelude.{ℕ, List, [], ◌++◌, codes, decimal, Option, Some, None}
-use Rattle.orch_base.specs.Names.{HostPort}
-use Rattle.orch_base.specs.declared.server.ServerNo.{ServerNo}
-use Rattle.orch_base.specs.declared.server.SourceState.{SourceState}
-use Rattle.orch_base.specs.declared.server.SourceState.TheVariants.{Without, Attached, Detached}
-use Rattle.binlog_coords.specs.Text.{coord_text}
-use Rattle.gtid_sets.specs.Printed.{printed}
+use Rattle.server_words.specs.OrchBase.Names.{HostPort}
+use Rattle.server_words.specs.OrchBase.declared.server.ServerNo.{ServerNo}
+use Rattle.server_words.specs.OrchBase.declared.server.SourceState.{SourceState}
+use Rattle.server_words.specs.OrchBase.declared.server.SourceState.TheVariants.{Without, Attached, Detached}
+use Rattle.server_words.specs.BinlogCoords.Text.{coord_text}
+use Rattle.server_words.specs.GtidSets.Printed.{printed}
 use Rattle.server_words.specs.declared.attach.Spot.{Spot}
 use Rattle.server_words.specs.declared.attach.Spot.TheVariants.{At, OwnEnd, Nowhere}
 use Rattle.commands.specs.declared.cause.Cause.{Cause}

@@ -1,6 +1,6 @@
 -- The words of commands.
 use Rattle.std.specs.Prelude.{ℕ, List, ◌++◌, codes}
-use Rattle.orch_base.specs.Names.{HostPort}
+use Rattle.server_words.specs.OrchBase.Names.{HostPort}
 use Rattle.commands.specs.declared.turn.Command.{Command}
 use Rattle.commands.specs.Names.{word_of}
 use Rattle.report_text.specs.Names.{given_text}

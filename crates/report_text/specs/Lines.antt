@@ -1,7 +1,7 @@
 -- The line of a turn with its reply.
 use Rattle.std.specs.Prelude.{ℕ, ◌+◌, Bool, true, false, List, [], ◌∷◌, ◌++◌, codes, decimal, if◌then◌else◌}
-use Rattle.orch_base.specs.Names.{HostPort}
-use Rattle.binlog_coords.specs.Text.{coord_text}
+use Rattle.server_words.specs.OrchBase.Names.{HostPort}
+use Rattle.server_words.specs.BinlogCoords.Text.{coord_text}
 use Rattle.server_words.specs.declared.answers.WriteAnswer.{WriteAnswer}
 use Rattle.server_words.specs.declared.answers.WriteAnswer.TheVariants as wrote
 use Rattle.server_words.specs.declared.answers.FetchAnswer.{FetchAnswer}

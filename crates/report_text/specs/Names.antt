@@ -1,7 +1,7 @@
 -- Servers' names by their numbers.
 use Rattle.std.specs.Prelude.{ℕ, List, [], ◌++◌, codes, slice_get, Option, Some, None}
-use Rattle.orch_base.specs.Names.{HostPort, printed}
-use Rattle.orch_base.specs.declared.server.ServerNo.{ServerNo}
+use Rattle.server_words.specs.OrchBase.Names.{HostPort, printed}
+use Rattle.server_words.specs.OrchBase.declared.server.ServerNo.{ServerNo}
 
 abbrev pub printed_at : Option HostPort → List ℕ
 printed_at None = []

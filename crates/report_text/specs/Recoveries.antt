@@ -1,9 +1,9 @@
 -- The lines of recoveries.
 use Rattle.std.specs.Prelude.{ℕ, List, [], ◌++◌, codes, decimal, Option, Some, None}
-use Rattle.orch_base.specs.Names.{HostPort}
-use Rattle.orch_base.specs.declared.recovery.Ending.{Ending}
-use Rattle.orch_base.specs.declared.recovery.Ending.TheVariants as ending
-use Rattle.orch_base.specs.declared.server.Moment.{Moment}
+use Rattle.server_words.specs.OrchBase.Names.{HostPort}
+use Rattle.server_words.specs.OrchBase.declared.recovery.Ending.{Ending}
+use Rattle.server_words.specs.OrchBase.declared.recovery.Ending.TheVariants as ending
+use Rattle.server_words.specs.OrchBase.declared.server.Moment.{Moment}
 use Rattle.commands.specs.declared.line.RecoveryLine.{RecoveryLine}
 use Rattle.report_text.specs.Names.{name_text}
 use Rattle.report_text.specs.Words.{acked_text, cause_name_text, kind_text}

@@ -1,7 +1,7 @@
 -- The texts of refusals.
 use Rattle.std.specs.Prelude.{ℕ, List, [], ◌++◌, codes, decimal}
-use Rattle.orch_base.specs.Names.{HostPort}
-use Rattle.gtid_sets.specs.Printed.{printed}
+use Rattle.server_words.specs.OrchBase.Names.{HostPort}
+use Rattle.server_words.specs.GtidSets.Printed.{printed}
 use Rattle.commands.specs.declared.refusal.Refusal.{Refusal}
 use Rattle.commands.specs.declared.refusal.Refusal.TheVariants as refused
 use Rattle.commands.specs.Refusals.{number_of}

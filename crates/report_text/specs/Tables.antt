@@ -1,13 +1,13 @@
 -- The tables: a line for each server, each recovery and each unended job, and how many writes servers with a source
 -- accepted.
 use Rattle.std.specs.Prelude.{ℕ, Bool, List, [], ◌∷◌, ◌++◌, length, map, codes, decimal, Option, Some, None, nat_lt, if◌then◌else◌}
-use Rattle.orch_base.specs.Names.{HostPort, printed}
-use Rattle.orch_base.specs.declared.server.SourceState.{SourceState}
-use Rattle.orch_base.specs.declared.server.SourceState.TheVariants.{Without, Attached, Detached}
-use Rattle.binlog_coords.specs.declared.Coord.{Coord}
-use Rattle.binlog_coords.specs.Index.{Index}
-use Rattle.binlog_coords.specs.Log.{end_of}
-use Rattle.binlog_coords.specs.Text.{coord_text}
+use Rattle.server_words.specs.OrchBase.Names.{HostPort, printed}
+use Rattle.server_words.specs.OrchBase.declared.server.SourceState.{SourceState}
+use Rattle.server_words.specs.OrchBase.declared.server.SourceState.TheVariants.{Without, Attached, Detached}
+use Rattle.server_words.specs.BinlogCoords.declared.Coord.{Coord}
+use Rattle.server_words.specs.BinlogCoords.Index.{Index}
+use Rattle.server_words.specs.BinlogCoords.Log.{end_of}
+use Rattle.server_words.specs.BinlogCoords.Text.{coord_text}
 use Rattle.server_words.specs.declared.plain.Plain.{Plain}
 use Rattle.commands.specs.declared.line.Line.{Line}
 use Rattle.server_model.specs.declared.server.Server.{Server}

@@ -1,9 +1,9 @@
 -- The lines of what is done.
 use Rattle.std.specs.Prelude.{ℕ, zero, suc, Bool, List, [], ◌∷◌, ◌++◌, codes, decimal, if◌then◌else◌}
-use Rattle.orch_base.specs.Names.{HostPort}
-use Rattle.orch_base.specs.declared.server.ServerNo.{ServerNo}
-use Rattle.orch_base.specs.declared.server.Version.{Version}
-use Rattle.binlog_coords.specs.Text.{coord_text}
+use Rattle.server_words.specs.OrchBase.Names.{HostPort}
+use Rattle.server_words.specs.OrchBase.declared.server.ServerNo.{ServerNo}
+use Rattle.server_words.specs.OrchBase.declared.server.Version.{Version}
+use Rattle.server_words.specs.BinlogCoords.Text.{coord_text}
 use Rattle.commands.specs.declared.line.Line.{Line}
 use Rattle.commands.specs.declared.line.Line.TheVariants as line
 use Rattle.commands.specs.declared.line.Lost.{Lost}

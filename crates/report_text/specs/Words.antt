@@ -1,13 +1,13 @@
 -- Words that stand for one value each.
 use Rattle.std.specs.Prelude.{ℕ, Bool, List, codes, if◌then◌else◌}
-use Rattle.orch_base.specs.declared.code.Code.{Code}
-use Rattle.orch_base.specs.declared.code.Code.TheVariants as code
-use Rattle.orch_base.specs.declared.recovery.CauseName.{CauseName}
-use Rattle.orch_base.specs.declared.recovery.CauseName.TheVariants as cause
-use Rattle.orch_base.specs.declared.recovery.Kind.{Kind}
-use Rattle.orch_base.specs.declared.recovery.Kind.TheVariants as kind
-use Rattle.orch_base.specs.declared.rule.Rule.{Rule}
-use Rattle.orch_base.specs.declared.rule.Rule.TheVariants as rule
+use Rattle.server_words.specs.OrchBase.declared.code.Code.{Code}
+use Rattle.server_words.specs.OrchBase.declared.code.Code.TheVariants as code
+use Rattle.server_words.specs.OrchBase.declared.recovery.CauseName.{CauseName}
+use Rattle.server_words.specs.OrchBase.declared.recovery.CauseName.TheVariants as cause
+use Rattle.server_words.specs.OrchBase.declared.recovery.Kind.{Kind}
+use Rattle.server_words.specs.OrchBase.declared.recovery.Kind.TheVariants as kind
+use Rattle.server_words.specs.OrchBase.declared.rule.Rule.{Rule}
+use Rattle.server_words.specs.OrchBase.declared.rule.Rule.TheVariants as rule
 use Rattle.commands.specs.declared.line.HookPhase.{HookPhase}
 use Rattle.commands.specs.declared.line.HookPhase.TheVariants as phase
 use Rattle.commands.specs.declared.line.StateWord.{StateWord}

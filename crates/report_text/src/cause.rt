@@ -3,12 +3,12 @@
 ghost use Rattle.std.specs.Prelude.{◌≡◌, ◌++◌, OnOk};
 ghost use Rattle.report_text.specs.Causes.{cause_text, details_text, server_of, source_text, spot_text, spots_text, unnamed_text};
 
+use crate::binlog_coords_items::print_coord;
 use crate::names::{PrintedNames, print_given, print_name};
 use crate::number::print_counted;
+use crate::orch_base::{Memory, ServerNo, SourceState};
 use crate::words::cause_name_word;
-use binlog_coords::print_coord;
 use commands::Cause;
-use orch_base::{Memory, ServerNo, SourceState};
 use server_words::Spot;
 
 /// Where a server stands.

@@ -4,8 +4,8 @@ ghost use Rattle.std.specs.Prelude.{◌≡◌, ◌++◌, OnOk};
 ghost use Rattle.report_text.specs.Commands.{command_text};
 
 use crate::names::{PrintedNames, print_given};
+use crate::orch_base::Memory;
 use commands::Command;
-use orch_base::Memory;
 
 /// `command COMMAND`, then the instance and the destination where they are given.
 pub(crate) fn print_command(

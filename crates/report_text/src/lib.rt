@@ -16,5 +16,6 @@ mod words;
 
 pub use names::PrintedNames;
 pub use replies::{plain_text, reply_text, reply_text_by};
+use server_words::{binlog_coords_items, orch_base};
 pub use table::tables;
 pub use totals::{Tally, summary};

@@ -3,15 +3,15 @@
 ghost use Rattle.std.specs.Prelude.{◌≡◌, ◌++◌, codes, OnOk};
 ghost use Rattle.report_text.specs.Told.{counts_text, depth_text, detached_text, hook_text, levels_text, lost_text, marks_text, named_text, told_lines, told_text, two_text, version_text};
 
+use crate::binlog_coords_items::print_coord;
 use crate::cause::{print_spot, print_unnamed};
 use crate::names::{PrintedNames, print_at_server, print_name};
 use crate::number::{print_counted, print_number};
+use crate::orch_base::{Memory, ServerNo, Version};
 use crate::recovery::print_recovery;
 use crate::refusal::print_refusal;
 use crate::words::{code_word, mode_word, phase_word, rule_word, state_word};
-use binlog_coords::print_coord;
 use commands::{HookPhase, Line, Lost, StateWord};
-use orch_base::{Memory, ServerNo, Version};
 
 fn print_version(version: Version, out: &mut Vec<u8>) -> Result<(), Memory>
     ensures { OnOk result (out.new.items ≡ out.old.items ++ version_text version) }

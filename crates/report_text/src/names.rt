@@ -3,7 +3,7 @@
 ghost use Rattle.std.specs.Prelude.{◌≡◌, ◌++◌, IfOk, OnOk};
 ghost use Rattle.report_text.specs.Names.{name_text, given_text};
 
-use orch_base::{Memory, Name, ServerNo};
+use crate::orch_base::{Memory, Name, ServerNo};
 use std::alloc::Global;
 use std::marker::Model;
 
@@ -16,7 +16,7 @@ pub struct PrintedNames<'a> {
 
 impl<'a> Model for PrintedNames<'a> {
     ghost use Rattle.std.specs.Prelude.{◌≡◌, List, map};
-    ghost use Rattle.orch_base.specs.Names.{HostPort, printed};
+    ghost use Rattle.server_words.specs.OrchBase.Names.{HostPort, printed};
 
     ghost Value = { List HostPort };
 

@@ -5,9 +5,9 @@ ghost use Rattle.report_text.specs.Recoveries.{begun_text, ended_text, ending_te
 
 use crate::names::{PrintedNames, print_at_server};
 use crate::number::print_counted;
+use crate::orch_base::{Ending, Memory, Moment};
 use crate::words::{acked_word, cause_name_word, kind_word};
 use commands::RecoveryLine;
-use orch_base::{Ending, Memory, Moment};
 
 fn print_ended(ended: Option<Moment>, out: &mut Vec<u8>) -> Result<(), Memory>
     ensures { OnOk result (out.new.items ≡ out.old.items ++ ended_text ended) }

@@ -5,9 +5,9 @@ ghost use Rattle.report_text.specs.Refusals.{refusal_name, refusal_text, values_
 
 use crate::names::{PrintedNames, print_at_server};
 use crate::number::{print_counted, print_number};
+use crate::orch_base::Memory;
 use crate::words::code_word;
 use commands::Refusal;
-use orch_base::Memory;
 
 fn name_word(refusal: &Refusal) -> &'static [u8]
     ensures { result.now ≡ refusal_name refusal.now }

@@ -2,17 +2,17 @@
 
 ghost use Rattle.std.specs.Prelude.{◌≡◌, ◌++◌, decimal, OnOk, OnErr};
 ghost use Rattle.report_text.specs.Lines.{behind, plain_text_of, write_text, fetch_text, apply_text, rotate_text, purge_text, answer_text, line_text, own_text};
-ghost use Rattle.binlog_coords.specs.Text.{coord_text};
+ghost use Rattle.server_words.specs.BinlogCoords.Text.{coord_text};
 
+use crate::binlog_coords_items::{Coord, print_coord};
 use crate::cause::print_cause;
 use crate::line::print_told_lines;
 use crate::names::PrintedNames;
 use crate::number::{print_counted, print_number};
+use crate::orch_base::{Memory, Name};
 use crate::refusal::print_refusal;
 use crate::turn::print_words;
-use binlog_coords::{Coord, print_coord};
 use commands::Line;
-use orch_base::{Memory, Name};
 use server_words::{ApplyAnswer, FetchAnswer, PurgeAnswer, RotateAnswer, WriteAnswer};
 use turns::{Reply, Turn};
 

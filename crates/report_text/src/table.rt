@@ -6,13 +6,13 @@ ghost use Rattle.server_model.specs.Worlds.{server_at};
 ghost use Rattle.report_text.specs.Told.{told_lines};
 ghost use Rattle.report_text.specs.Tables.{up_text, on_text, end_text, until_text, auto_text, places_text, threads_text, standing_text, name_text, source_text, state_text, log_text, purged_text, line_at, servers_text, job_text, jobs_text, names_in, errant_text, tables_text};
 
+use crate::binlog_coords_items::{Coord, LogIndex, print_coord};
 use crate::line::print_told_lines;
 use crate::names::PrintedNames;
 use crate::number::{print_counted, print_number};
+use crate::orch_base::{Memory, Name, ServerNo, SourceState};
 use crate::words::mode_word;
-use binlog_coords::{Coord, LogIndex, print_coord};
 use commands::Line;
-use orch_base::{Memory, Name, ServerNo, SourceState};
 use server_model::{Plain, World};
 use std::alloc::Global;
 

@@ -4,9 +4,9 @@ ghost use Rattle.std.specs.Prelude.{◌≡◌, ◌++◌, OnErr, OnOk};
 ghost use Rattle.report_text.specs.Summary.{executed_in, executed_text, recoveries_text, summary_text, tally_text};
 
 use crate::number::print_counted;
+use crate::orch_base::{Memory, ServerNo};
 use crate::table::print_errant;
 use itoa::Buffer;
-use orch_base::{Memory, ServerNo};
 use server_model::World;
 
 /// How many turns were taken, and how many of them were answered by a refusal, or by the failure of a job.

@@ -6,7 +6,7 @@ ghost use Rattle.report_text.specs.Turns.{act_text, amount_text, link_text, link
 use crate::command::print_command;
 use crate::names::{PrintedNames, print_at_server};
 use crate::number::print_counted;
-use orch_base::{Memory, ServerNo};
+use crate::orch_base::{Memory, ServerNo};
 use server_words::Link;
 use turns::{Act, Step, Turn};
 

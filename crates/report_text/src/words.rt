@@ -3,8 +3,8 @@
 ghost use Rattle.std.specs.Prelude.{◌≡◌};
 ghost use Rattle.report_text.specs.Words.{acked_text, cause_name_text, code_text, kind_text, mode_text, phase_text, rule_text, state_text};
 
+use crate::orch_base::{CauseName, Code, Kind, Rule};
 use commands::{HookPhase, StateWord};
-use orch_base::{CauseName, Code, Kind, Rule};
 
 /// How an instance stands.
 pub(crate) fn state_word(state: StateWord) -> &'static [u8]

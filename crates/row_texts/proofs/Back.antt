@@ -1,17 +1,14 @@
 -- From a row back to the value that it was read from.
-use Rattle.std.proofs.Common.{◌≡◌, ℕ, suc, Bool, true, false, cond, ◌<◌, ◌^◌, List, [], ◌∷◌, ◌++◌, Option, Some, None, Result, Ok, Err, refl, sym, ap, ◌∙◌, subst, arith}
+pub use Rattle.std.proofs.lemmas.Option.{cond_some as cond_back}
+pub use Rattle.std.proofs.lemmas.Bool.{and_parts as both}
+use Rattle.std.proofs.Common.{◌≡◌, ℕ, suc, Bool, true, ◌<◌, ◌^◌, List, [], ◌∷◌, ◌++◌, Option, Some, None, Result, Ok, Err, refl, sym, ap, ◌∙◌, subst, arith}
 use Rattle.std.specs.Prelude.{◌&&◌, ⊤, IfSome, codes, nat_eq, nat_le, length, option_map, option_and_then}
-use Rattle.std.proofs.lemmas.Bool.{eqb-true, false≢true, leb-true}
-use Rattle.std.specs.Cmp.Lexicographic.{same_text}
-use Rattle.std.specs.Str.{bytes_eq}
-use Rattle.serde_json.specs.Data.{unsigned, negative, float, Data, null, boolean, number, string, array, object, Items, no_items, item, Members, no_members, member}
-use Rattle.serde_json.specs.Find.{at, get_item, as_bool, as_u64, as_number, as_str, as_array, as_object}
-use Rattle.orch_base.specs.declared.server.Moment.{Moment}
-use Rattle.orch_base.specs.Gives.{◌>>=◌}
-use Rattle.row_texts.specs.declared.fault.RowFault.{RowFault}
-use Rattle.row_texts.specs.Fields.{empty_form, end_at, field_at, moment_form, none_of, none_or, or_else, or_null, small_form, up_to, whole_form}
-use Rattle.row_texts.specs.Reading.{named, pair_of, shape_of, two_of, with_list}
-use Rattle.row_texts.specs.Written.{maybe_data, moment_data, whole}
+use Rattle.row_texts.proofs.Prelude.{Data, Items, Members, Moment, RowFault, array, as_array, as_bool, as_number, as_object, as_str, as_u64, at}
+use Rattle.row_texts.proofs.Prelude.{boolean, bytes_eq, empty_form, end_at, eqb-true, field_at, float, get_item, item, leb-true}
+use Rattle.row_texts.proofs.Prelude.{maybe_data, member, moment_data, moment_form, named, negative, no_items, no_members, none_of, none_or, null}
+use Rattle.row_texts.proofs.Prelude.{number, object, or_else, or_null, pair_of, same_text, shape_of, small_form, string, two_of, unsigned, up_to}
+use Rattle.row_texts.proofs.Prelude.{whole, whole_form, with_list}
+use Rattle.kept_rows.specs.OrchBase.Gives.{◌>>=◌}
 
 -- ---- what a step that went on was
 
@@ -73,10 +70,6 @@ str_back (number n) s e = absurd cc
 str_back (string t) s e = ap string cc
 str_back (array ds) s e = absurd cc
 str_back (object ms) s e = absurd cc
-
-pub cond_back : {A : Type 0} (b : Bool) (x y : A) → cond b (Some x) None ≡ Some y → (b ≡ true) × (x ≡ y)
-cond_back true x y e = (refl, cc)
-cond_back false x y e = absurd cc
 
 pub small_back : (d : Data) (n : ℕ) → small_form d ≡ Some n → (d ≡ whole n) × (n < 2 ^ 32)
 small_back d n e =
@@ -210,10 +203,6 @@ join n [] ys ds front t = t
 join n (x ∷ xs) ys ds front t = (front.0, join (suc n) xs ys ds front.1 t)
 
 -- ---- an object of two members
-
-pub both : (a b : Bool) → (a && b) ≡ true → (a ≡ true) × (b ≡ true)
-both true b e = (refl, e)
-both false b e = absurd (false≢true e)
 
 object_back : (d : Data) (ms : Members) → as_object d ≡ Some ms → d ≡ object ms
 object_back null ms e = absurd cc

@@ -1,15 +1,9 @@
 -- What `parse` says of an id, and an id's text.
+use Rattle.row_texts.proofs.Prelude.{OkIff, ParsesUnsigned, all_ascii_digits, and_parts as both, bytes_eq, decimal-digits_value, digits_decimal}
+use Rattle.row_texts.proofs.Prelude.{digits_value, digits_value-decimal, false≢true, first_decimal, id_printed, is_id, le-leb, leb-true, lt-ltb}
+use Rattle.row_texts.proofs.Prelude.{ltb-true, not_empty, own, parse_plain, result_ok, same_text}
 use Rattle.std.proofs.Common.{◌≡◌, ◌≢◌, ℕ, zero, suc, ◌^◌, ◌<◌, ◌≤◌, Bool, true, false, cond, leb, ltb, List, length, get_or, Some, None, Result, Ok, Err, refl, sym, ap, ◌∙◌, subst, arith}
 use Rattle.std.specs.Prelude.{◌&&◌, ◌||◌, codes, decimal}
-use Rattle.std.specs.Result.{OkIff, result_ok}
-use Rattle.std.specs.Cmp.Lexicographic.{same_text}
-use Rattle.std.specs.Str.{all_ascii_digits, bytes_eq}
-use Rattle.std.specs.Str.Parse.{ParsesUnsigned, digits_value}
-use Rattle.std.proofs.lemmas.Bool.{false≢true, le-leb, leb-true, lt-ltb, ltb-true}
-use Rattle.std.proofs.lemmas.Fmt.{decimal-digits_value, digits_decimal, digits_value-decimal, first_decimal}
-use Rattle.std.proofs.lemmas.Str.Parse.{parse_plain}
-use Rattle.orch_base.proofs.NameLemmas.{not_empty, own}
-use Rattle.row_texts.specs.Words.{id_printed, is_id}
 
 by_tests : {E : Type 0} (a b : Bool) (v : ℕ) (r : Result ℕ E) (P : Type 0) → OkIff r P v → (P → (a ≡ true) × (b ≡ true)) → (a ≡ true → b ≡ true → P) → result_ok r ≡ cond (a && b) (Some v) None
 by_tests true true v (Ok x) P h f g = ap (λ (n : ℕ). Some n) h.1
@@ -61,10 +55,6 @@ id_reads id small =
 
 some_same : (a b : ℕ) → Some a ≡ Some b → a ≡ b
 some_same a b e = cc
-
-both : (a b : Bool) → (a && b) ≡ true → (a ≡ true) × (b ≡ true)
-both true b e = (refl, e)
-both false b e = absurd (false≢true e)
 
 pub id_back : (s : List ℕ) (id : ℕ) → id_printed s ≡ Some id → s ≡ decimal id
 unfolding id_printed

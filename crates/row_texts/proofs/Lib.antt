@@ -1,3 +1,4 @@
+mod Prelude
 pub mod Back
 pub mod Ids
 pub mod Known

@@ -1,11 +1,7 @@
 -- A map's two entries are its first and its last.
 use Rattle.std.proofs.Common.{◌≡◌, ◌≢◌, ◌-◌, List, [], ◌∷◌, length, Some, None, refl}
 use Rattle.std.specs.Prelude.{String, string_bytes}
-use Rattle.std.specs.List.{slice_get}
-use Rattle.std.specs.declared.alloc.Global.{Global}
-use Rattle.serde_json.specs.View.{view, members_view}
-use Rattle.serde_json.specs.declared.value.Value.{Value}
-use Rattle.row_texts.specs.Reading.{pair_of}
+use Rattle.row_texts.proofs.Prelude.{Global, Value, members_view, pair_of, slice_get, view}
 
 pub pair_none : (es : List (String Global × Value)) → length es ≢ 2 → pair_of (members_view es) ≡ None
 pair_none [] other = refl

@@ -1,32 +1,17 @@
 -- What is printed of names, coordinates and sets is ASCII.
+use Rattle.row_texts.proofs.Prelude.{All-head, All-tail, Coord, HostPort, Interval, IsAscii, IsAscii-append, IsAscii-cons, IsAscii-decimal}
+use Rattle.row_texts.proofs.Prelude.{IsAscii-drop, IsAscii-nil, IsInterval, IsName, IsSet, IsUtf8, IsUtf8-from_ascii, and_parts as both, coord_text}
+use Rattle.row_texts.proofs.Prelude.{eqb-true, head_text, hyphenated_ascii, is_host_byte, leb-true, list_all, lower, printed as set_text, range_text}
+use Rattle.row_texts.proofs.Prelude.{six_digits, texts, to_be_bytes, uuid_text, w128}
+use Rattle.row_texts.proofs.Prelude.Names.{printed}
 use Rattle.std.proofs.Common.{◌≡◌, ℕ, ◌^◌, ◌<◌, Bool, true, false, cond, leb, eqb, List, [], ◌∷◌, ◌++◌, All, length, Option, Some, None, inl, arith, refl}
 use Rattle.std.specs.Prelude.{◌&&◌, ◌||◌, codes, decimal}
-use Rattle.std.specs.Int.{to_be_bytes, w128}
-use Rattle.std.specs.List.{list_all}
-use Rattle.std.specs.Str.{IsAscii, IsUtf8}
-use Rattle.std.proofs.lemmas.Bool.{eqb-true, leb-true}
-use Rattle.std.proofs.lemmas.Fmt.{IsAscii-decimal}
-use Rattle.std.proofs.lemmas.List.Elements.{All-head, All-tail}
-use Rattle.std.proofs.lemmas.Str.{IsAscii-append, IsAscii-drop, IsUtf8-from_ascii}
-use Rattle.std.proofs.lemmas.Str.Ascii.{IsAscii-cons, IsAscii-nil}
-use Rattle.uuid.specs.Text.{lower}
-use Rattle.uuid.proofs.TextLemmas.{hyphenated_ascii}
-use Rattle.binlog_coords.specs.declared.Coord.{Coord}
-use Rattle.binlog_coords.specs.Text.{coord_text, six_digits}
-use Rattle.gtid_sets.specs.declared.interval.Interval.{Interval}
-use Rattle.gtid_sets.specs.Printed.{head_text, printed as set_text, range_text, texts, uuid_text}
-use Rattle.gtid_sets.specs.Sets.{IsInterval, IsSet}
-use Rattle.orch_base.specs.Names.{HostPort, is_host_byte, printed, IsName}
 
 -- ---- names
 
 either : (p q : Bool) (P : Type 0) → (p ≡ true → P) → (q ≡ true → P) → (p || q) ≡ true → P
 either true q P f g e = f refl
 either false q P f g e = g e
-
-both : (p q : Bool) → (p && q) ≡ true → (p ≡ true) × (q ≡ true)
-both true q e = (refl, e)
-both false q e = absurd cc
 
 in_range : (low high b : ℕ) → high < 128 → (leb low b && leb b high) ≡ true → b < 128
 in_range low high b small e = omega (arith, small, leb-true b high (both (leb low b) (leb b high) e).1)

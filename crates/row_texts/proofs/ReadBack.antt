@@ -1,51 +1,30 @@
 -- What reads as a row has the value that is written for it, or an older one of it.
 use Rattle.std.proofs.Common.{◌≡◌, ◌≢◌, ℕ, ◌<◌, ◌^◌, inl, inr, arith, Bool, true, false, List, [], ◌∷◌, ◌++◌, length, Option, Some, None, Result, Ok, refl, sym, ap, ◌∙◌, subst}
 use Rattle.std.specs.Prelude.{◌&&◌, ⊤, IfSome, codes, nat_eq, nat_le, if◌then◌else◌}
-use Rattle.std.specs.Cmp.Lexicographic.{same_text}
-use Rattle.std.specs.Str.{bytes_eq}
-use Rattle.std.proofs.lemmas.Bool.{eqb-false, eqb-true, leb-true}
-use Rattle.serde_json.specs.Data.{Data, boolean, string, object, Items, no_members, member}
-use Rattle.serde_json.specs.Find.{as_array, as_bool, as_str, get_item}
-use Rattle.binlog_coords.specs.declared.Coord.{Coord}
-use Rattle.binlog_coords.specs.Grammar.{HasText}
-use Rattle.gtid_sets.specs.declared.interval.Interval.{Interval}
-use Rattle.gtid_sets.specs.Printed.{printed as set_text}
-use Rattle.gtid_sets.specs.Sets.{IsSet}
-use Rattle.orch_base.specs.declared.recovery.Ending.{Ending}
-use Rattle.orch_base.specs.declared.recovery.Ending.TheVariants as ending
-use Rattle.orch_base.specs.declared.server.IoState.{IoState}
-use Rattle.orch_base.specs.declared.server.Moment.{Moment}
-use Rattle.orch_base.specs.declared.server.ServerNo.{ServerNo}
-use Rattle.orch_base.specs.declared.server.SourceState.{SourceState}
-use Rattle.orch_base.specs.declared.server.SourceState.TheVariants as state
-use Rattle.orch_base.specs.Gives.{◌>>=◌}
-use Rattle.orch_base.specs.Names.{HostPort, printed}
-use Rattle.kept_rows.specs.declared.observation.Instance.{Instance}
-use Rattle.kept_rows.specs.declared.recovery.RecoveryRow.{RecoveryRow}
-use Rattle.kept_rows.specs.declared.row.Row.{Row}
-use Rattle.kept_rows.specs.declared.row.Row.TheVariants as row
-use Rattle.kept_rows.specs.declared.row.Table.{Table}
-use Rattle.kept_rows.specs.declared.row.Table.TheVariants as table
-use Rattle.kept_rows.specs.Rows.{key_of, table_of}
-use Rattle.kept_rows.specs.Servers.{are_known, ending_servers, source_servers}
-use Rattle.row_texts.specs.declared.fault.RowFault.{RowFault}
-use Rattle.row_texts.specs.declared.fault.RowFault.TheVariants as fault
-use Rattle.row_texts.specs.declared.word.Outcome.{Outcome}
-use Rattle.row_texts.specs.declared.word.Outcome.TheVariants as outcome
-use Rattle.row_texts.specs.declared.word.Source.{Source}
-use Rattle.row_texts.specs.declared.word.Source.TheVariants as named
-use Rattle.row_texts.specs.declared.word.SourceWord.{SourceWord}
-use Rattle.row_texts.specs.declared.word.SourceWord.TheVariants as source
-use Rattle.row_texts.specs.Fields.{coord_form, empty_form, end_at, field_at, key_id, key_name, key_word, moment_form, name_form, or_else, or_null, outcome_form, server_of, set_form, small_form, whole_form, word_form}
-use Rattle.row_texts.specs.Kept.{CanBeKept, IsValueOf}
-use Rattle.row_texts.specs.Reading.{is_version, read_row, row_at, row_in, shape_of, value_of, version_of}
-use Rattle.row_texts.specs.Tables.{active_at, block_at, candidate_at, downtime_at, ending_of, first_block, first_tail, instance_at, recovery_at, second_block, second_tail, source_at, state_of, switch_at, tail_at}
-use Rattle.row_texts.specs.Words.{io_states, io_text, kind_text, kinds, outcome_text, rule_text, rules, source_text, source_words}
-use Rattle.row_texts.specs.Written.{coord_data, ending_name, key_text, maybe_data, moment_data, name_text, row_data, source_name, source_word, whole, wrapped}
+use Rattle.row_texts.proofs.Prelude.{CanBeKept, Coord, Data, Ending, HasText, HostPort, Instance, Interval, IoState, IsSet, IsValueOf, Items, Moment}
+use Rattle.row_texts.proofs.Prelude.{Outcome, RecoveryRow, Row, RowFault, ServerNo, Source, SourceState, SourceWord, Table, active_at, are_known}
+use Rattle.row_texts.proofs.Prelude.{as_array, as_bool, as_str, block_at, boolean, bytes_eq, candidate_at, coord_data, coord_form, downtime_at}
+use Rattle.row_texts.proofs.Prelude.{empty_form, end_at, ending_name, ending_of, ending_servers, eqb-false, eqb-true, field_at, first_block}
+use Rattle.row_texts.proofs.Prelude.{first_tail, get_item, instance_at, io_states, io_text, is_version, key_id, key_name, key_of, key_text, key_word}
+use Rattle.row_texts.proofs.Prelude.{kind_text, kinds, leb-true, maybe_data, member, moment_data, moment_form, name_form, name_text, no_members}
+use Rattle.row_texts.proofs.Prelude.{object, or_else, or_null, outcome_form, outcome_text, printed as set_text, read_row, recovery_at, row_at}
+use Rattle.row_texts.proofs.Prelude.{row_data, row_in, rule_text, rules, same_text, second_block, second_tail, server_of, set_form, shape_of}
+use Rattle.row_texts.proofs.Prelude.{small_form, source_at, source_name, source_servers, source_text, source_word, source_words, state_of, string}
+use Rattle.row_texts.proofs.Prelude.{switch_at, table_of, tail_at, value_of, version_of, whole, whole_form, word_form, wrapped}
+use Rattle.row_texts.proofs.Prelude.Names.{printed}
+use Rattle.row_texts.proofs.Prelude.ending
+use Rattle.row_texts.proofs.Prelude.fault
+use Rattle.row_texts.proofs.Prelude.outcome
+use Rattle.row_texts.proofs.Prelude.row
+use Rattle.row_texts.proofs.Prelude.source as named
+use Rattle.row_texts.proofs.Prelude.sourceword as source
+use Rattle.row_texts.proofs.Prelude.state
+use Rattle.row_texts.proofs.Prelude.table
 use Rattle.row_texts.proofs.Back.{Begins, bool_back, both, bound, cell, cond_back, empty_back, field_fact, join, list_back, moment_back, no_cell, null_back, null_fact, ok_back, or_back, shape_back, small_back, str_back, then_back, whole_back}
 use Rattle.row_texts.proofs.Ids.{id_back, id_small}
 use Rattle.row_texts.proofs.Sets.{set_from_is}
 use Rattle.row_texts.proofs.WordsBack.{OnlyText, coord_back, coord_fact, name_back, name_form_back, outcome_form_back, server_back, server_known, server_small, set_back, set_fact, word_back}
+use Rattle.kept_rows.specs.OrchBase.Gives.{◌>>=◌}
 
 -- what is known of a row that was read of a list of fields
 record IsRead (t : Table) (v : ℕ) (names : List HostPort) (key : List ℕ) (list : Data) (r : Row) : Type 0 where

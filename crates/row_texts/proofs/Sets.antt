@@ -1,25 +1,11 @@
 -- Whether intervals are a set, as a test; and which set is printed as a text.
+use Rattle.row_texts.proofs.Prelude.{All-cons, All-head, All-tail, AllPairs-cons, AllPass-from_list_all, GtidFault, HasThose, Interval, IsInterval}
+use Rattle.row_texts.proofs.Prelude.{IsSet, and_parts as both, as_set, bytes_eq, eq-eqb, false≢true, high, is_interval, is_set, largest, le-leb}
+use Rattle.row_texts.proofs.Prelude.{leb-true, list_all, list_all-from_AllPass, low, lt-ltb, ltb-true, printed as set_text, same_sets_lem, same_text}
+use Rattle.row_texts.proofs.Prelude.{set_printed, text_at}
+use Rattle.row_texts.proofs.Prelude.RoundTrip.{printed_reads_lem}
 use Rattle.std.proofs.Common.{◌≡◌, ℕ, zero, suc, ◌+◌, ◌<◌, ◌^◌, Bool, true, false, cond, leb, ltb, List, [], ◌∷◌, All, Some, None, Result, Ok, Err, refl, sym, ap, ◌∙◌, arith}
 use Rattle.std.specs.Prelude.{◌&&◌}
-use Rattle.std.specs.List.{list_all}
-use Rattle.std.specs.Cmp.Lexicographic.{same_text}
-use Rattle.std.specs.Str.{bytes_eq}
-use Rattle.std.proofs.lemmas.Bool.{eq-eqb, false≢true, leb-true, le-leb, lt-ltb, ltb-true}
-use Rattle.std.proofs.lemmas.List.Elements.{All-cons, All-head, All-tail}
-use Rattle.std.proofs.lemmas.List.Kept.{AllPairs-cons}
-use Rattle.std.proofs.lemmas.List.Sums.{AllPass-from_list_all, list_all-from_AllPass}
-use Rattle.gtid_sets.proofs.RoundTrip.{printed_reads_lem}
-use Rattle.gtid_sets.proofs.SameSets.{same_sets_lem}
-use Rattle.gtid_sets.specs.declared.fault.GtidFault.{GtidFault}
-use Rattle.gtid_sets.specs.declared.interval.Interval.{Interval}
-use Rattle.gtid_sets.specs.Grammar.{HasThose, text_at}
-use Rattle.gtid_sets.specs.Printed.{printed as set_text}
-use Rattle.gtid_sets.specs.Sets.{high, largest, low, IsInterval, IsSet}
-use Rattle.row_texts.specs.Words.{as_set, is_interval, is_set, set_printed}
-
-both : (a b : Bool) → (a && b) ≡ true → (a ≡ true) × (b ≡ true)
-both true b e = (refl, e)
-both false b e = absurd (false≢true e)
 
 interval_told : (s : Interval) → is_interval s ≡ true → IsInterval s
 interval_told s e =

@@ -1,17 +1,8 @@
 -- What is written has no float and nests twice.
 use Rattle.std.proofs.Common.{◌≡◌, ◌≤◌, ℕ, List, Option, Some, None, false, refl, sym, ap, ◌∙◌, subst, arith}
-use Rattle.std.specs.Str.{IsUtf8}
-use Rattle.std.proofs.lemmas.Str.{is_utf8-from_IsUtf8}
-use Rattle.serde_json.specs.Data.{depth, Data}
-use Rattle.serde_json.specs.Read.{max_depth, read}
-use Rattle.serde_json.specs.Written.{compact_text, has_float}
-use Rattle.binlog_coords.specs.declared.Coord.{Coord}
-use Rattle.orch_base.specs.declared.server.Moment.{Moment}
-use Rattle.orch_base.specs.Names.{HostPort}
-use Rattle.kept_rows.specs.declared.row.Row.{Row}
-use Rattle.kept_rows.specs.declared.row.Row.TheVariants as row
-use Rattle.row_texts.specs.Reading.{value_of}
-use Rattle.row_texts.specs.Written.{row_data, row_text}
+use Rattle.row_texts.proofs.Prelude.{Coord, Data, HostPort, IsUtf8, Moment, Row, compact_text, depth, has_float, is_utf8-from_IsUtf8, max_depth, read}
+use Rattle.row_texts.proofs.Prelude.{row_data, row_text, value_of}
+use Rattle.row_texts.proofs.Prelude.row
 
 pub no_float : (names : List HostPort) (r : Row) → has_float (row_data names r) ≡ false
 no_float names (row.Instance i) = by_end i.seen.own_end refl

@@ -1,33 +1,14 @@
 -- From a word back to its text, and from a number back to its server's name.
 use Rattle.std.proofs.Common.{◌≡◌, ℕ, ◌≤◌, ◌<◌, ◌^◌, arith, Bool, true, false, cond, ltb, List, [], ◌∷◌, ◌++◌, length, get_or, Option, Some, None, Result, Ok, Err, refl, sym, ap, ◌∙◌, subst}
 use Rattle.std.specs.Prelude.{◌&&◌, codes, nat_le, nat_lt, find, position, option_map}
-use Rattle.std.specs.List.{position_or_len, after_first}
-use Rattle.std.specs.Cmp.Lexicographic.{same_text}
-use Rattle.std.specs.Result.{result_ok}
-use Rattle.std.specs.Str.{bytes_eq}
-use Rattle.std.proofs.lemmas.Bool.{eqb-true, leb-true, lt-ltb, ltb-false}
-use Rattle.std.proofs.lemmas.List.{take_all}
-use Rattle.std.proofs.lemmas.List.Sums.{split_at_first}
-use Rattle.std.proofs.lemmas.List.Quantifiers.{position-Some}
-use Rattle.serde_json.specs.Data.{Data, string}
-use Rattle.serde_json.specs.Find.{as_str}
-use Rattle.binlog_coords.specs.declared.Coord.{Coord}
-use Rattle.binlog_coords.specs.Grammar.{HasText, coord_at}
-use Rattle.binlog_coords.specs.Text.{coord_text}
-use Rattle.gtid_sets.specs.declared.fault.GtidFault.{GtidFault}
-use Rattle.gtid_sets.specs.declared.interval.Interval.{Interval}
-use Rattle.gtid_sets.specs.Grammar.{text_at}
-use Rattle.gtid_sets.specs.Printed.{printed as set_text}
-use Rattle.gtid_sets.specs.Sets.{IsSet}
-use Rattle.orch_base.proofs.SameNames.{same_name_tells}
-use Rattle.orch_base.specs.Names.{HostPort, name_at, printed, same_name}
-use Rattle.orch_base.specs.declared.name.NameFault.{NameFault}
-use Rattle.orch_base.specs.declared.server.ServerNo.{ServerNo}
-use Rattle.row_texts.specs.declared.word.Outcome.{Outcome}
-use Rattle.row_texts.specs.declared.word.Outcome.TheVariants as outcome
-use Rattle.row_texts.specs.Words.{as_printed, as_set, cause_text, causes, coord_printed, is_set, is_space, name_printed, named_among, outcome_of, outcome_printed, outcome_text, rest_of, set_printed, word_of}
-use Rattle.row_texts.specs.Fields.{coord_form, name_form, number_within, outcome_form, server_of, set_form, word_form}
-use Rattle.row_texts.specs.Written.{coord_data}
+use Rattle.row_texts.proofs.Prelude.{Coord, Data, GtidFault, HasText, HostPort, Interval, IsSet, NameFault, Outcome, ServerNo, after_first}
+use Rattle.row_texts.proofs.Prelude.{as_printed, as_set, as_str, bytes_eq, cause_text, causes, coord_at, coord_data, coord_form, coord_printed}
+use Rattle.row_texts.proofs.Prelude.{coord_text, eqb-true, is_set, is_space, leb-true, lt-ltb, ltb-false, name_at, name_form, name_printed}
+use Rattle.row_texts.proofs.Prelude.{named_among, number_within, outcome_form, outcome_of, outcome_printed, outcome_text, position-Some}
+use Rattle.row_texts.proofs.Prelude.{position_or_len, printed as set_text, rest_of, result_ok, same_name, same_name_tells, same_text, server_of}
+use Rattle.row_texts.proofs.Prelude.{set_form, set_printed, split_at_first, string, take_all, text_at, word_form, word_of}
+use Rattle.row_texts.proofs.Prelude.Names.{printed}
+use Rattle.row_texts.proofs.Prelude.outcome
 use Rattle.row_texts.proofs.Back.{both, cond_back, map_back, or_back, str_back, then_back}
 use Rattle.row_texts.proofs.Sets.{set_from_is}
 

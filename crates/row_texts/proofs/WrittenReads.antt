@@ -1,51 +1,29 @@
 -- What is written for a row reads as it.
 use Rattle.std.proofs.Common.{◌≡◌, ℕ, ◌<◌, ◌≤◌, ◌^◌, Bool, true, inl, inr, List, [], ◌++◌, length, Option, Some, None, Ok, refl, sym, ap, ◌∙◌, arith}
 use Rattle.std.specs.Prelude.{◌↔◌, IfSome, codes}
-use Rattle.std.specs.List.{position_or_len}
-use Rattle.std.proofs.lemmas.Bool.{le-leb, lt-ltb}
-use Rattle.std.proofs.lemmas.List.Sums.{position_or_len_is}
-use Rattle.serde_json.specs.Data.{Data, array, boolean, item, Items, no_items, string}
-use Rattle.serde_json.specs.Find.{at}
-use Rattle.binlog_coords.specs.declared.Coord.{Coord}
-use Rattle.binlog_coords.specs.Grammar.{HasText, coord_at}
-use Rattle.binlog_coords.specs.Text.{coord_text}
-use Rattle.gtid_sets.specs.declared.interval.Interval.{Interval}
-use Rattle.gtid_sets.specs.Printed.{printed as set_text}
-use Rattle.gtid_sets.specs.Sets.{IsSet}
-use Rattle.orch_base.proofs.RoundTrip.{printed_reads_lem as name_printed_reads}
-use Rattle.orch_base.proofs.SameNames.{same_name_tells}
-use Rattle.orch_base.specs.declared.recovery.CauseName.{CauseName}
-use Rattle.orch_base.specs.declared.recovery.CauseName.TheVariants as cause
-use Rattle.orch_base.specs.declared.recovery.Ending.{Ending}
-use Rattle.orch_base.specs.declared.recovery.Ending.TheVariants as ending
-use Rattle.orch_base.specs.declared.recovery.Kind.{Kind}
-use Rattle.orch_base.specs.declared.recovery.Kind.TheVariants as kind
-use Rattle.orch_base.specs.declared.rule.Rule.{Rule}
-use Rattle.orch_base.specs.declared.rule.Rule.TheVariants as rule
-use Rattle.orch_base.specs.declared.server.IoState.{IoState}
-use Rattle.orch_base.specs.declared.server.IoState.TheVariants as io
-use Rattle.orch_base.specs.declared.server.Moment.{Moment}
-use Rattle.orch_base.specs.declared.server.ServerNo.{ServerNo}
-use Rattle.orch_base.specs.declared.server.SourceState.{SourceState}
-use Rattle.orch_base.specs.declared.server.SourceState.TheVariants as state
-use Rattle.orch_base.specs.Names.{HostPort, printed, same_name, IsName}
-use Rattle.kept_rows.specs.declared.observation.Instance.{Instance}
-use Rattle.kept_rows.specs.declared.recovery.RecoveryRow.{RecoveryRow}
-use Rattle.kept_rows.specs.declared.row.Row.{Row}
-use Rattle.kept_rows.specs.declared.row.Row.TheVariants as row
-use Rattle.kept_rows.specs.declared.row.Table.{Table}
-use Rattle.kept_rows.specs.declared.row.Table.TheVariants as table
-use Rattle.kept_rows.specs.Rows.{key_of, table_of}
-use Rattle.kept_rows.specs.Servers.{are_known, ending_servers, servers_of, source_servers}
-use Rattle.row_texts.specs.declared.word.Outcome.TheVariants as outcome
-use Rattle.row_texts.specs.declared.word.Source.{Source}
-use Rattle.row_texts.specs.declared.word.Source.TheVariants as named
-use Rattle.row_texts.specs.Fields.{coord_form, end_at, field_at, moment_form, or_null, server_of}
-use Rattle.row_texts.specs.Kept.{AreNames, CanBeKept, IsOldValue, IsPrintable, IsTextOf, IsValueOf}
-use Rattle.row_texts.specs.Reading.{is_version, read_row, row_at, row_in, shape_of, two_of, value_of, version_of}
-use Rattle.row_texts.specs.Tables.{active_at, block_at, candidate_at, downtime_at, ending_of, first_block, first_tail, instance_at, recovery_at, second_block, second_tail, source_at, state_of, switch_at, tail_at}
-use Rattle.row_texts.specs.Words.{coord_printed, io_states, io_text, kind_text, kinds, name_printed, named_among, outcome_printed, outcome_text, rule_text, rules, source_text, source_words}
-use Rattle.row_texts.specs.Written.{block_items, block_version, coord_data, ending_name, instance_items, key_text, maybe_data, moment_data, name_of, name_text, old_instance_data, recovery_list, row_data, source_name, source_word, whole, wrapped}
+use Rattle.row_texts.proofs.Prelude.{AreNames, CanBeKept, CauseName, Coord, Data, Ending, HasText, HostPort, Instance, Interval, IoState, IsName}
+use Rattle.row_texts.proofs.Prelude.{IsOldValue, IsPrintable, IsSet, IsTextOf, IsValueOf, Items, Kind, Moment, RecoveryRow, Row, Rule, ServerNo}
+use Rattle.row_texts.proofs.Prelude.{Source, SourceState, Table, active_at, are_known, array, at, block_at, block_items, block_version, boolean}
+use Rattle.row_texts.proofs.Prelude.{candidate_at, coord_at, coord_data, coord_form, coord_printed, coord_text, downtime_at, end_at, ending_name}
+use Rattle.row_texts.proofs.Prelude.{ending_of, ending_servers, field_at, first_block, first_tail, instance_at, instance_items, io_states, io_text}
+use Rattle.row_texts.proofs.Prelude.{is_version, item, key_of, key_text, kind_text, kinds, le-leb, lt-ltb, maybe_data, moment_data, moment_form}
+use Rattle.row_texts.proofs.Prelude.{name_of, name_printed, name_text, named_among, no_items, old_instance_data, or_null, outcome_printed}
+use Rattle.row_texts.proofs.Prelude.{outcome_text, position_or_len, position_or_len_is, printed as set_text, printed_reads_lem as name_printed_reads}
+use Rattle.row_texts.proofs.Prelude.{read_row, recovery_at, recovery_list, row_at, row_data, row_in, rule_text, rules, same_name, same_name_tells}
+use Rattle.row_texts.proofs.Prelude.{second_block, second_tail, server_of, servers_of, shape_of, source_at, source_name, source_servers, source_text}
+use Rattle.row_texts.proofs.Prelude.{source_word, source_words, state_of, string, switch_at, table_of, tail_at, two_of, value_of, version_of, whole}
+use Rattle.row_texts.proofs.Prelude.{wrapped}
+use Rattle.row_texts.proofs.Prelude.Names.{printed}
+use Rattle.row_texts.proofs.Prelude.cause
+use Rattle.row_texts.proofs.Prelude.ending
+use Rattle.row_texts.proofs.Prelude.io
+use Rattle.row_texts.proofs.Prelude.kind
+use Rattle.row_texts.proofs.Prelude.outcome
+use Rattle.row_texts.proofs.Prelude.row
+use Rattle.row_texts.proofs.Prelude.rule
+use Rattle.row_texts.proofs.Prelude.source as named
+use Rattle.row_texts.proofs.Prelude.state
+use Rattle.row_texts.proofs.Prelude.table
 use Rattle.row_texts.proofs.Ids.{id_reads}
 use Rattle.row_texts.proofs.Known.{first_known, rest_known}
 use Rattle.row_texts.proofs.ReadBack.{read_back}
@@ -101,9 +79,7 @@ kind_reads kind.Takeover = refl
 
 rule_reads : (r : Rule) → named_among rule_text rules (rule_text r) ≡ Some r
 rule_reads rule.Prefer = refl
-rule_reads rule.Neutral = refl
-rule_reads rule.PreferNot = refl
-rule_reads rule.MustNot = refl
+rule_reads _ = refl
 
 io_reads : (s : IoState) → named_among io_text io_states (io_text s) ≡ Some s
 io_reads io.Yes = refl
@@ -118,18 +94,7 @@ word_reads (state.Detached n) = refl
 failed_reads : (c : CauseName) → outcome_printed (outcome_text (outcome.Failed c)) ≡ Some (outcome.Failed c)
 unfolding outcome_printed
 failed_reads cause.Unreachable = refl
-failed_reads cause.WaitSpent = refl
-failed_reads cause.Interfered = refl
-failed_reads cause.Running = refl
-failed_reads cause.Loop = refl
-failed_reads cause.Errant = refl
-failed_reads cause.Moved = refl
-failed_reads cause.Reachable = refl
-failed_reads cause.NoCandidate = refl
-failed_reads cause.Purged = refl
-failed_reads cause.NoMark = refl
-failed_reads cause.Mismatch = refl
-failed_reads cause.HookFailed = refl
+failed_reads _ = refl
 
 promoted_reads : (n : HostPort) → IsName n → outcome_printed (outcome_text (outcome.Promoted n)) ≡ Some (outcome.Promoted n)
 unfolding outcome_printed
@@ -150,10 +115,8 @@ outcome_reads names (ending.Failed c) h known = failed_reads c
 outcome_reads names (ending.Promoted n) h known = promoted_reads (name_of names n) (is_name names n h (first_known (length names) n.0 [] known))
 
 ending_reads : (names : List HostPort) (e : Ending) → AreNames names → are_known (length names) (ending_servers e) ≡ true → ending_of names (ending_name names e) ≡ Ok e
-ending_reads names ending.Unended h known = refl
-ending_reads names ending.Interrupted h known = refl
-ending_reads names (ending.Failed c) h known = refl
 ending_reads names (ending.Promoted n) h known = rw (server_reads names n h (first_known (length names) n.0 [] known)) refl
+ending_reads names _ h known = refl
 
 abbrev source_by : List HostPort → SourceState → Source
 source_by names state.Without = named.Without
@@ -295,11 +258,7 @@ old_reads_lem law names i text h can first purged value = rw value (old_in law n
 by_old : TextReads → (names : List HostPort) (r : Row) (text : List ℕ) (d : Data) → AreNames names → CanBeKept names r → value_of text ≡ Some d → IsOldValue names r d
     → read_row (table_of r) names (key_text names (key_of r)) text ≡ Ok r
 by_old law names (row.Instance i) text d h can value old = old_reads_lem law names i text h can old.0 old.1 (value ∙ ap Some old.2)
-by_old law names (row.Downtime k) text d h can value old = absurd old
-by_old law names (row.Candidate k) text d h can value old = absurd old
-by_old law names (row.Recovery k) text d h can value old = absurd old
-by_old law names (row.Switch enabled) text d h can value old = absurd old
-by_old law names (row.Active node until) text d h can value old = absurd old
+by_old law names _ text d h can value old = absurd old
 
 by_value : TextReads → (names : List HostPort) (r : Row) (text : List ℕ) (d : Data) → AreNames names → CanBeKept names r → value_of text ≡ Some d → IsValueOf names r d
     → read_row (table_of r) names (key_text names (key_of r)) text ≡ Ok r

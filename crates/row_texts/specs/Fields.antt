@@ -1,13 +1,6 @@
 -- The forms of fields, of keys and of the servers that they name.
 use Rattle.std.specs.Prelude.{ℕ, ◌==◌, List, length, Option, None, Some, Result, Ok, Err, ⊤, is_some, nat_le, option_map, option_and_then, position, if◌then◌else◌}
-use Rattle.std.specs.Str.{bytes_eq}
-use Rattle.serde_json.specs.Data.{Data}
-use Rattle.serde_json.specs.Find.{at, as_null, as_number, as_str, as_u64}
-use Rattle.binlog_coords.specs.declared.Coord.{Coord}
-use Rattle.gtid_sets.specs.declared.interval.Interval.{Interval}
-use Rattle.orch_base.specs.declared.server.Moment.{Moment}
-use Rattle.orch_base.specs.declared.server.ServerNo.{ServerNo}
-use Rattle.orch_base.specs.Names.{HostPort, same_name}
+use Rattle.row_texts.specs.Prelude.{Coord, Data, HostPort, Interval, Moment, ServerNo, as_null, as_number, as_str, as_u64, at, bytes_eq, same_name}
 use Rattle.row_texts.specs.declared.fault.RowFault.{RowFault}
 use Rattle.row_texts.specs.declared.fault.RowFault.TheVariants as fault
 use Rattle.row_texts.specs.declared.word.Outcome.{Outcome}

@@ -1,16 +1,8 @@
 -- The rows that a book can hold, and which value reads as one.
 use Rattle.std.specs.Prelude.{◌≡◌, ◌<◌, ◌≤◌, ◌^◌, ◌⊎◌, [], ℕ, List, length, false, true, IfSome, Some, ⊤}
-use Rattle.std.specs.List.{All, AllPairs}
-use Rattle.serde_json.specs.Data.{Data}
-use Rattle.binlog_coords.specs.Grammar.{HasText}
-use Rattle.gtid_sets.specs.Sets.{IsSet}
-use Rattle.orch_base.specs.Names.{HostPort, same_name, IsName}
-use Rattle.server_words.specs.declared.status.Status.{Status as Seen}
-use Rattle.kept_rows.specs.declared.row.Row.{Row}
-use Rattle.kept_rows.specs.declared.row.Row.TheVariants as row
-use Rattle.kept_rows.specs.Ranges.{IsKeyInRange}
-use Rattle.kept_rows.specs.Rows.{key_of}
-use Rattle.kept_rows.specs.Servers.{are_known, servers_of}
+use Rattle.row_texts.specs.Prelude.{All, AllPairs, Data, HasText, HostPort, IsKeyInRange, IsName, IsSet, Row, Status as Seen, are_known, key_of}
+use Rattle.row_texts.specs.Prelude.{same_name, servers_of}
+use Rattle.row_texts.specs.Prelude.row
 use Rattle.row_texts.specs.Reading.{value_of}
 use Rattle.row_texts.specs.Written.{old_instance_data, row_data}
 

@@ -1,18 +1,12 @@
 -- What a text is read as: an object of a list of fields, `f`, and a version, `v`.
 use Rattle.std.specs.Prelude.{ℕ, ◌&&◌, List, Bool, Option, None, Some, Result, codes, nat_eq, nat_le, option_and_then, if◌then◌else◌}
-use Rattle.std.specs.Str.{bytes_eq, is_utf8}
-use Rattle.serde_json.specs.Data.{Data, Members, no_members, member}
-use Rattle.serde_json.specs.Find.{as_array, as_object}
-use Rattle.serde_json.specs.Read.{read}
-use Rattle.orch_base.specs.Gives.{◌>>=◌}
-use Rattle.orch_base.specs.Names.{HostPort}
-use Rattle.kept_rows.specs.declared.row.Row.{Row}
-use Rattle.kept_rows.specs.declared.row.Table.{Table}
-use Rattle.kept_rows.specs.declared.row.Table.TheVariants as table
+use Rattle.row_texts.specs.Prelude.{Data, HostPort, Members, Row, Table, as_array, as_object, bytes_eq, is_utf8, member, no_members, read}
+use Rattle.row_texts.specs.Prelude.table
 use Rattle.row_texts.specs.declared.fault.RowFault.{RowFault}
 use Rattle.row_texts.specs.declared.fault.RowFault.TheVariants as fault
 use Rattle.row_texts.specs.Fields.{or_else, whole_form}
 use Rattle.row_texts.specs.Tables.{active_at, candidate_at, downtime_at, instance_at, recovery_at, switch_at}
+use Rattle.kept_rows.specs.OrchBase.Gives.{◌>>=◌}
 
 -- the table of a number
 abbrev pub table_at : ℕ → Option Table

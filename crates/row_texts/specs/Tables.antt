@@ -1,16 +1,10 @@
 -- The tables of kept rows: the list of fields of each, and its key.
 use Rattle.std.specs.Prelude.{ℕ, [], List, Option, None, Some, Result, Ok, codes, nat_eq, if◌then◌else◌}
-use Rattle.serde_json.specs.Data.{Data}
-use Rattle.serde_json.specs.Find.{as_bool, as_str}
-use Rattle.gtid_sets.specs.declared.interval.Interval.{Interval}
-use Rattle.orch_base.specs.declared.recovery.Ending.{Ending}
-use Rattle.orch_base.specs.declared.recovery.Ending.TheVariants as ending
-use Rattle.orch_base.specs.declared.server.SourceState.{SourceState}
-use Rattle.orch_base.specs.declared.server.SourceState.TheVariants as state
-use Rattle.orch_base.specs.Gives.{◌>>=◌}
-use Rattle.orch_base.specs.Names.{HostPort}
-use Rattle.kept_rows.specs.declared.row.Row.{Row}
-use Rattle.kept_rows.specs.declared.row.Row.TheVariants as row
+use Rattle.row_texts.specs.Prelude.{Data, Ending, HostPort, Interval, Row, SourceState, as_bool, as_str}
+use Rattle.row_texts.specs.Prelude.ending
+use Rattle.row_texts.specs.Prelude.row
+use Rattle.row_texts.specs.Prelude.state
+use Rattle.kept_rows.specs.OrchBase.Gives.{◌>>=◌}
 use Rattle.row_texts.specs.declared.fault.RowFault.{RowFault}
 use Rattle.row_texts.specs.declared.word.Outcome.{Outcome}
 use Rattle.row_texts.specs.declared.word.Outcome.TheVariants as outcome

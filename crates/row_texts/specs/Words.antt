@@ -1,26 +1,13 @@
 -- The words of kept rows, and what a text stands for: a word, or what is printed as this text.
 use Rattle.std.specs.Prelude.{ℕ, ◌+◌, ◌^◌, ◌==◌, ◌&&◌, ◌||◌, ◌∷◌, ◌++◌, [], List, Bool, true, Option, Some, None, Result, Ok, Err, codes, find, length, nat_le, nat_lt, option_map, slice_index, if◌then◌else◌}
-use Rattle.std.specs.List.{list_all, position_or_len, before_first, after_first}
-use Rattle.std.specs.Result.{result_ok}
-use Rattle.std.specs.Str.{all_ascii_digits, bytes_eq}
-use Rattle.std.specs.Str.Parse.{digits_value}
-use Rattle.binlog_coords.specs.declared.Coord.{Coord}
-use Rattle.binlog_coords.specs.Grammar.{coord_at}
-use Rattle.gtid_sets.specs.declared.fault.GtidFault.{GtidFault}
-use Rattle.gtid_sets.specs.declared.interval.Interval.{Interval}
-use Rattle.gtid_sets.specs.Grammar.{text_at}
-use Rattle.gtid_sets.specs.Printed.{printed as set_text}
-use Rattle.gtid_sets.specs.Sets.{high, largest, low}
-use Rattle.orch_base.specs.declared.name.NameFault.{NameFault}
-use Rattle.orch_base.specs.declared.recovery.CauseName.{CauseName}
-use Rattle.orch_base.specs.declared.recovery.CauseName.TheVariants as cause
-use Rattle.orch_base.specs.declared.recovery.Kind.{Kind}
-use Rattle.orch_base.specs.declared.recovery.Kind.TheVariants as kind
-use Rattle.orch_base.specs.declared.rule.Rule.{Rule}
-use Rattle.orch_base.specs.declared.rule.Rule.TheVariants as rule
-use Rattle.orch_base.specs.declared.server.IoState.{IoState}
-use Rattle.orch_base.specs.declared.server.IoState.TheVariants as io
-use Rattle.orch_base.specs.Names.{HostPort, name_at, printed}
+use Rattle.row_texts.specs.Prelude.{CauseName, Coord, GtidFault, HostPort, Interval, IoState, Kind, NameFault, Rule, after_first, all_ascii_digits}
+use Rattle.row_texts.specs.Prelude.{before_first, bytes_eq, coord_at, digits_value, high, largest, list_all, low, name_at, position_or_len}
+use Rattle.row_texts.specs.Prelude.{printed as set_text, result_ok, text_at}
+use Rattle.row_texts.specs.Prelude.Names.{printed}
+use Rattle.row_texts.specs.Prelude.cause
+use Rattle.row_texts.specs.Prelude.io
+use Rattle.row_texts.specs.Prelude.kind
+use Rattle.row_texts.specs.Prelude.rule
 use Rattle.row_texts.specs.declared.word.Outcome.{Outcome}
 use Rattle.row_texts.specs.declared.word.Outcome.TheVariants as outcome
 use Rattle.row_texts.specs.declared.word.SourceWord.{SourceWord}

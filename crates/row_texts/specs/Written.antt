@@ -1,24 +1,13 @@
 -- What is written of a row: its value as JSON, and the key's text.
 use Rattle.std.specs.Prelude.{ℕ, [], List, Option, None, Some, codes, decimal, slice_index_or}
-use Rattle.serde_json.specs.Data.{unsigned, Data, null, boolean, number, string, array, object, Items, no_items, item, no_members, member}
-use Rattle.serde_json.specs.Written.{compact_text}
-use Rattle.binlog_coords.specs.declared.Coord.{Coord}
-use Rattle.binlog_coords.specs.Text.{coord_text}
-use Rattle.gtid_sets.specs.Printed.{printed as set_text}
-use Rattle.orch_base.specs.declared.recovery.Ending.{Ending}
-use Rattle.orch_base.specs.declared.recovery.Ending.TheVariants as ending
-use Rattle.orch_base.specs.declared.server.Moment.{Moment}
-use Rattle.orch_base.specs.declared.server.ServerNo.{ServerNo}
-use Rattle.orch_base.specs.declared.server.SourceState.{SourceState}
-use Rattle.orch_base.specs.declared.server.SourceState.TheVariants as state
-use Rattle.orch_base.specs.Names.{HostPort, printed}
-use Rattle.kept_rows.specs.declared.observation.Instance.{Instance}
-use Rattle.kept_rows.specs.declared.recovery.RecoveryRow.{RecoveryRow}
-use Rattle.kept_rows.specs.declared.row.Downtime.{Downtime}
-use Rattle.kept_rows.specs.declared.row.Key.{Key}
-use Rattle.kept_rows.specs.declared.row.Key.TheVariants as key
-use Rattle.kept_rows.specs.declared.row.Row.{Row}
-use Rattle.kept_rows.specs.declared.row.Row.TheVariants as row
+use Rattle.row_texts.specs.Prelude.{Coord, Data, Downtime, Ending, HostPort, Instance, Items, Key, Moment, RecoveryRow, Row, ServerNo, SourceState}
+use Rattle.row_texts.specs.Prelude.{array, boolean, compact_text, coord_text, item, member, no_items, no_members, null, number, object}
+use Rattle.row_texts.specs.Prelude.{printed as set_text, string, unsigned}
+use Rattle.row_texts.specs.Prelude.Names.{printed}
+use Rattle.row_texts.specs.Prelude.ending
+use Rattle.row_texts.specs.Prelude.key
+use Rattle.row_texts.specs.Prelude.row
+use Rattle.row_texts.specs.Prelude.state
 use Rattle.row_texts.specs.declared.word.Outcome.{Outcome}
 use Rattle.row_texts.specs.declared.word.Outcome.TheVariants as outcome
 use Rattle.row_texts.specs.declared.word.SourceWord.{SourceWord}

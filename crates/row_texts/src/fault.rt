@@ -3,7 +3,7 @@
 ghost use Rattle.std.specs.Prelude.{◌≡◌};
 ghost use Rattle.row_texts.specs.declared.fault.RowFault.TheVariants.{Memory as NoMemory};
 
-use orch_base::Memory;
+use crate::orch_base::Memory;
 
 /// Why a text is no row: the first fault in this order.
 #[derive(Clone, Copy, Debug, PartialEq, Eq)]

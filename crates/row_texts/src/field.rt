@@ -1,20 +1,18 @@
 //! The fields of a row, by their numbers, which are counted from 0.
 
 ghost use Rattle.std.specs.Prelude.{◌≡◌};
-ghost use Rattle.serde_json.specs.Find.{as_bool, as_str};
-ghost use Rattle.serde_json.specs.View.{view};
-ghost use Rattle.orch_base.specs.Gives.{Gives};
+ghost use Rattle.row_texts.specs.Prelude.{Gives, as_bool, as_str, view};
 ghost use Rattle.row_texts.specs.Fields.{coord_form, end_at, fault_of, field_at, moment_form, name_form, or_null, outcome_form, set_form, small_form, whole_form, word_form};
 ghost use Rattle.row_texts.specs.Tables.{source_at};
 ghost use Rattle.row_texts.specs.Words.{coord_printed};
 
+use crate::binlog_coords_items::{Coord, read_coord};
 use crate::fault::RowFault;
+use crate::gtid_sets::GtidSet;
+use crate::orch_base::{Moment, Name, OwnedText};
 use crate::word::{
     Outcome, Source, SourceWord, Word, name_printed, named_among, outcome_of, parts, set_printed,
 };
-use binlog_coords::{Coord, read_coord};
-use gtid_sets::GtidSet;
-use orch_base::{Moment, Name, OwnedText};
 use serde_json::Value;
 use std::alloc::Global;
 

@@ -1,20 +1,17 @@
 //! The tables' numbers, keys, and the servers that rows name.
 
 ghost use Rattle.std.specs.Prelude.{◌≡◌, ◌++◌, List, Some, true, length, position, OnErr, OnOk};
-ghost use Rattle.orch_base.specs.Gives.{Gives};
-ghost use Rattle.orch_base.specs.Names.{same_name, HostPort};
-ghost use Rattle.kept_rows.specs.Rows.{table_number};
-ghost use Rattle.kept_rows.specs.Servers.{are_known, key_servers};
+ghost use Rattle.row_texts.specs.Prelude.{Gives, HostPort, are_known, key_servers, same_name, table_number};
 ghost use Rattle.row_texts.specs.Fields.{fault_of, key_id, key_name, key_word, server_of};
 ghost use Rattle.row_texts.specs.Reading.{table_at};
 ghost use Rattle.row_texts.specs.Tables.{ending_of, state_of};
 ghost use Rattle.row_texts.specs.Written.{key_text};
 
 use crate::fault::RowFault;
+use crate::orch_base::{Ending, Memory, Name, ServerNo, SourceState};
 use crate::word::{Outcome, Source, id_printed, is_same, name_printed};
 use itoa::Buffer;
 use kept_rows::{Key, Table};
-use orch_base::{Ending, Memory, Name, ServerNo, SourceState};
 use std::alloc::Global;
 
 /// A table by its number in a database.

@@ -1,15 +1,12 @@
 //! What texts read as which row.
 
 ghost use Rattle.std.specs.Prelude.{◌≡◌, ◌↔◌, ℕ, List, Ok, Some};
-ghost use Rattle.orch_base.specs.Names.{HostPort};
-ghost use Rattle.kept_rows.specs.declared.row.Row.{Row};
-ghost use Rattle.kept_rows.specs.declared.row.Table.{Table};
-ghost use Rattle.kept_rows.specs.Rows.{key_of, table_number, table_of};
+ghost use Rattle.row_texts.specs.Prelude.{HostPort, Row, Table, key_of, table_number, table_of};
 ghost use Rattle.row_texts.specs.Kept.{AreNames, CanBeKept, IsTextOf};
 ghost use Rattle.row_texts.specs.Reading.{read_row, table_at};
 ghost use Rattle.row_texts.specs.Written.{key_text};
 
-use binlog_coords::printed_reads;
+use crate::binlog_coords_items::printed_reads;
 
 /// A table's number is that table's.
 pub fn table_numbers_read()

@@ -13,6 +13,7 @@ mod word;
 mod write;
 
 pub use fault::RowFault;
+use kept_rows::{binlog_coords_items, gtid_sets, orch_base};
 pub use key::{KeyText, TableNumber};
 pub use laws::{read_rows_can_be_kept, table_numbers_read, texts_of_rows_read};
 pub use row_text::RowText;

@@ -1,17 +1,16 @@
 //! Rows from their texts.
 
 ghost use Rattle.std.specs.Prelude.{◌≡◌, option_map};
-ghost use Rattle.serde_json.specs.View.{members_view, view};
-ghost use Rattle.orch_base.specs.Gives.{Gives};
+ghost use Rattle.row_texts.specs.Prelude.{Gives, members_view, view};
 ghost use Rattle.row_texts.specs.declared.fault.RowFault.TheVariants.{NotJson};
 ghost use Rattle.row_texts.specs.Fields.{fault_of, or_else};
 ghost use Rattle.row_texts.specs.Reading.{is_version, pair_of, read_row, row_at, row_in, shape_of, two_of, value_of, version_of};
 
 use crate::fault::RowFault;
+use crate::orch_base::Name;
 use crate::table::{active_at, candidate_at, downtime_at, instance_at, recovery_at, switch_at};
 use crate::word::is_same;
 use kept_rows::{Row, Table};
-use orch_base::Name;
 use serde_json::{Map, Value};
 use std::alloc::Global;
 

@@ -1,21 +1,17 @@
 //! The text of a row.
 
 ghost use Rattle.std.specs.Prelude.{◌≡◌, ◌++◌, List, OnErr, OnOk, Some, is_some, length, true};
-ghost use Rattle.orch_base.specs.Gives.{Gives};
-ghost use Rattle.orch_base.specs.Names.{HostPort};
-ghost use Rattle.kept_rows.specs.declared.row.Table.{Table};
-ghost use Rattle.kept_rows.specs.Rows.{key_of};
-ghost use Rattle.kept_rows.specs.Servers.{are_known, servers_of};
+ghost use Rattle.row_texts.specs.Prelude.{Gives, HostPort, Table, are_known, key_of, servers_of};
 ghost use Rattle.row_texts.specs.Fields.{fault_of};
 ghost use Rattle.row_texts.specs.Reading.{read_row, table_at, value_of};
 ghost use Rattle.row_texts.specs.Written.{key_text, row_data, row_text};
 
 use crate::fault::RowFault;
 use crate::key::{KeyText, TableNumber};
+use crate::orch_base::{Memory, Name};
 use crate::reading::read_row;
 use crate::write::row_value;
 use kept_rows::{Row, Table};
-use orch_base::{Memory, Name};
 use std::alloc::Global;
 
 /// The text of a row, in which servers have their names: compact JSON, an object of the list of its fields, `f`, and

@@ -1,7 +1,6 @@
 //! The tables' rows, field by field.
 
-ghost use Rattle.serde_json.specs.View.{view};
-ghost use Rattle.orch_base.specs.Gives.{Gives};
+ghost use Rattle.row_texts.specs.Prelude.{Gives, view};
 ghost use Rattle.row_texts.specs.Fields.{fault_of};
 ghost use Rattle.row_texts.specs.Tables.{active_at, block_at, candidate_at, downtime_at, instance_at, recovery_at, switch_at, tail_at};
 
@@ -10,11 +9,11 @@ use crate::field::{
     coord_at, end_at, maybe_coord_at, maybe_moment_at, moment_at, name_at, outcome_at, set_at,
     small_at, source_at, text_at, truth_at, whole_at, word_at,
 };
+use crate::gtid_sets::GtidSet;
 use crate::key::{ending_of, key_id, key_name, key_word, server_of, state_of};
+use crate::orch_base::{IoState, Kind, Name, Rule};
 use crate::word::SourceWord;
-use gtid_sets::GtidSet;
 use kept_rows::{Candidate, Downtime, Instance, RecoveryRow, Row, Seen};
-use orch_base::{IoState, Kind, Name, Rule};
 use serde_json::Value;
 use std::alloc::Global;
 

@@ -1,19 +1,16 @@
 //! What is written of a row.
 
 ghost use Rattle.std.specs.Prelude.{◌≡◌, ◌<◌, IfOk, length, string_bytes, true};
-ghost use Rattle.serde_json.specs.View.{view};
-ghost use Rattle.binlog_coords.specs.Text.{coord_text};
-ghost use Rattle.gtid_sets.specs.Printed.{printed as set_text};
-ghost use Rattle.kept_rows.specs.Servers.{are_known, ending_servers, servers_of, source_servers};
+ghost use Rattle.row_texts.specs.Prelude.{are_known, coord_text, ending_servers, printed as set_text, servers_of, source_servers, view};
 ghost use Rattle.row_texts.specs.declared.word.SourceWord.{SourceWord};
-ghost use Rattle.row_texts.specs.Words.{outcome_text, source_text};
+ghost use Rattle.row_texts.specs.Words.{outcome_text};
 ghost use Rattle.row_texts.specs.Written.{coord_data, downtime_list, ending_name, instance_list, maybe_data, moment_data, name_text, recovery_list, row_data, row_list, row_version, source_name, source_word};
 
+use crate::binlog_coords_items::{Coord, print_coord};
+use crate::gtid_sets::GtidSet;
+use crate::orch_base::{Ending, Memory, Moment, Name, ServerNo, SourceState};
 use crate::word::{SourceWord, Word};
-use binlog_coords::{Coord, print_coord};
-use gtid_sets::GtidSet;
 use kept_rows::{Downtime, Instance, RecoveryRow, Row};
-use orch_base::{Ending, Memory, Moment, Name, ServerNo, SourceState};
 use serde_json::{Value, json};
 use std::alloc::Global;
 

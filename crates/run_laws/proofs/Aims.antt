@@ -1,41 +1,18 @@
 -- What a turn begins is about whom it was asked for.
 use Rattle.std.proofs.Common.{◌≡◌, ℕ, ◌+◌, List, [], ◌∷◌, refl, subst, false, Option, Some, None, Result, Ok, Err}
 use Rattle.std.specs.Prelude.{All, Contains}
-use Rattle.std.proofs.lemmas.List.Elements.{All-cons, All-contains_itself, All-head, All-map, All-nil, All-push, All-tail, All-weaker}
-use Rattle.audit_log.specs.Audits.{AuditState}
-use Rattle.command_routes.specs.declared.route.Route.{Route}
-use Rattle.command_routes.specs.declared.route.Route.TheVariants.{Discovers, Forgets, Asks, Decides, Begins, Recovers, TakesOver}
-use Rattle.command_routes.specs.Routes.{route_of}
-use Rattle.commands.specs.declared.refusal.Refusal.{Refusal}
-use Rattle.commands.specs.declared.turn.Command.{Command}
-use Rattle.failure_analysis.specs.declared.entry.Entry.{Entry}
-use Rattle.instance_keeper.specs.Book.{BookState}
-use Rattle.orch_base.specs.declared.server.Moment.{Moment}
-use Rattle.orch_base.specs.declared.server.ServerNo.{ServerNo}
-use Rattle.permission.specs.Views.{source_of}
-use Rattle.orch_base.specs.declared.recovery.Kind.{Kind}
-use Rattle.recovery_plans.specs.Beginning.{is_takeover}
-use Rattle.recovery_core.proofs.Beginning.{unrefused}
-use Rattle.recovery_core.specs.Scans.{Staged, actionable_in, after_try, from_start, scan_step, scanned, scanned_over, staged_refusal}
-use Rattle.recovery_core.specs.Tries.{Begins as RecoveryBegins, kind_by, recovery_begins, recovery_try, takeover_begins, takeover_try, unless_refused}
-use Rattle.recovery_permits.specs.declared.attempt.Attempt.{Attempt}
-use Rattle.recovery_permits.specs.Recoveries.{purpose_by, recovery_refusal}
-use Rattle.recovery_permits.specs.Takeovers.{takeover_refusal}
-use Rattle.recovery_plans.specs.declared.purpose.Purpose.{Purpose}
-use Rattle.recovery_plans.specs.declared.purpose.Purpose.TheVariants as purpose
-use Rattle.server_model.specs.Worlds.{World}
-use Rattle.turns.specs.declared.turn.Act.{Act}
-use Rattle.turns.specs.declared.turn.Act.TheVariants as act
-use Rattle.turns.specs.declared.turn.Turn.{Turn}
-use Rattle.turns.specs.declared.turn.Turn.TheVariants as turn
-use Rattle.command_outcomes.specs.Commands.{by_hand}
-use Rattle.command_outcomes.specs.HookTelling.{told_try, with_told}
-use Rattle.orch_core.specs.Nodes.{act_in}
-use Rattle.orch_core.specs.Polls.{numbers_of}
-use Rattle.command_outcomes.specs.declared.configuration.Configuration.{Configuration}
-use Rattle.orch_core.specs.States.{State}
-use Rattle.run_laws.specs.Aims.{IsAbout, IsAimed, IsAskedBy, IsAskedIn, IsAskedOf, IsFor}
-use Rattle.run_laws.specs.Entries.{attempt_in, recoveries_begun, recoveries_by, recoveries_done, recoveries_in_act, recoveries_of, scan_in, takeovers_by, takeovers_of, tried}
+use Rattle.run_laws.proofs.Prelude.{Act, All-cons, All-contains_itself, All-head, All-map, All-nil, All-push, All-tail, All-weaker, Asks, Attempt}
+use Rattle.run_laws.proofs.Prelude.{AuditState, Begins as RecoveryBegins, BookState, Command, Configuration, Decides, Discovers, Entry, Forgets}
+use Rattle.run_laws.proofs.Prelude.{IsAbout, IsAimed, IsAskedBy, IsAskedIn, IsAskedOf, IsFor, Kind, Moment, Purpose, Recovers, Refusal, Route}
+use Rattle.run_laws.proofs.Prelude.{ServerNo, Staged, State, TakesOver, Turn, World, act_in, actionable_in, after_try, attempt_in, by_hand}
+use Rattle.run_laws.proofs.Prelude.{from_start, is_takeover, kind_by, numbers_of, purpose_by, recoveries_begun, recoveries_by, recoveries_done}
+use Rattle.run_laws.proofs.Prelude.{recoveries_in_act, recoveries_of, recovery_begins, recovery_refusal, recovery_try, route_of, scan_in, scan_step}
+use Rattle.run_laws.proofs.Prelude.{scanned, scanned_over, source_of, staged_refusal, takeover_begins, takeover_refusal, takeover_try, takeovers_by}
+use Rattle.run_laws.proofs.Prelude.{takeovers_of, told_try, tried, unless_refused, unrefused, with_told}
+use Rattle.run_laws.proofs.Prelude.route.{Begins}
+use Rattle.run_laws.proofs.Prelude.act
+use Rattle.run_laws.proofs.Prelude.purpose
+use Rattle.run_laws.proofs.Prelude.turn
 
 -- ---- by a scan
 
@@ -83,13 +60,9 @@ module _ (k : Configuration) (b : BookState) where
   with-told-about x about = record { failed = about.failed; cluster = about.cluster; purpose = about.purpose }
 
   with-told-asked : (c : Command) (r : Route) (x : RecoveryBegins) → IsAskedBy c r x → IsAskedBy c r (with_told k b x)
-  with-told-asked c Discovers x asked = absurd asked
-  with-told-asked c Forgets x asked = absurd asked
-  with-told-asked c (Asks question) x asked = absurd asked
-  with-told-asked c (Decides decision) x asked = absurd asked
-  with-told-asked c (Begins p) x asked = absurd asked
   with-told-asked c Recovers x asked = asked
   with-told-asked c TakesOver x asked = asked
+  with-told-asked c _ x asked = absurd asked
 
 -- ---- by a command
 
@@ -155,9 +128,7 @@ scan-aimed s =
   where
     for : (leases : List (Option ℕ)) (f : ServerNo) (k : Kind) (u : Purpose) → IsFor (record (s.book) { leases = leases }) f k u → IsFor s.book f k u
     for leases f k purpose.Regroup is = is
-    for leases f k purpose.Master is = is
-    for leases f k (purpose.Intermediate m) is = is
-    for leases f k (purpose.Takeover d) is = is
+    for leases f k _ is = is
 
     -- leases make no difference
     along : (leases : List (Option ℕ)) (x : RecoveryBegins) → IsAbout (record (s.book) { leases = leases }) x → IsAbout s.book x

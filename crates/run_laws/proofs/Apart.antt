@@ -1,23 +1,9 @@
 -- What begins keeps the block periods of its cluster's recoveries.
 use Rattle.std.proofs.Common.{◌≡◌, ℕ, ◌+◌, ◌∙◌, List, [], ◌∷◌, ◌++◌, refl, sym, ap, subst, Option, Some, None, Ok}
-use Rattle.orch_base.specs.declared.server.Moment.{Moment}
-use Rattle.orch_base.specs.declared.server.ServerNo.{ServerNo}
-use Rattle.commands.specs.declared.refusal.Refusal.{Refusal}
-use Rattle.instance_keeper.specs.Book.{BookState}
-use Rattle.book_views.specs.Sources.{label_at}
-use Rattle.audit_log.specs.Audits.{AuditState, begun}
-use Rattle.audit_log.proofs.Parting.{apart-begins}
-use Rattle.failure_analysis.specs.declared.entry.Entry.{Entry}
-use Rattle.recovery_permits.specs.declared.attempt.Attempt.{Attempt}
-use Rattle.recovery_permits.specs.Recoveries.{recovery_refusal}
-use Rattle.recovery_permits.specs.Takeovers.{takeover_refusal}
-use Rattle.recovery_core.specs.Begun.{audit_after}
-use Rattle.recovery_core.specs.Scans.{Staged, actionable_in, after_try, from_start, scan_step, scanned, scanned_over, staged_refusal}
-use Rattle.recovery_core.specs.Tries.{Begins, recovery_begins, recovery_try, takeover_begins, takeover_try, unless_refused}
-use Rattle.recovery_core.proofs.Beginning.{unrefused}
-use Rattle.recovery_core.proofs.Trying.{recovery-may, takeover-may}
-use Rattle.server_model.specs.Worlds.{World}
-use Rattle.run_laws.specs.Begins.{entries_of, BeginApartInTurn, BeginsApart}
+use Rattle.run_laws.proofs.Prelude.{Attempt, AuditState, BeginApartInTurn, Begins, BeginsApart, BookState, Entry, Moment, Refusal, ServerNo, Staged}
+use Rattle.run_laws.proofs.Prelude.{World, actionable_in, after_try, apart-begins, audit_after, begun, entries_of, from_start, label_at, recovery-may}
+use Rattle.run_laws.proofs.Prelude.{recovery_begins, recovery_refusal, recovery_try, scan_step, scanned, scanned_over, staged_refusal, takeover-may}
+use Rattle.run_laws.proofs.Prelude.{takeover_begins, takeover_refusal, takeover_try, unless_refused, unrefused}
 
 module _ (w : World) (b : BookState) (audit : AuditState) (a : Attempt) where
   recovery-clear : (wait job : ℕ) (f : ServerNo) → recovery_refusal w b audit a f ≡ None → BeginsApart a.now audit (recovery_begins b audit a.now a.block wait job f).entry

@@ -1,100 +1,45 @@
 -- Kept rows follow the audit of a run.
 use Rattle.std.proofs.Common.{◌≡◌, ◌∙◌, ℕ, ◌+◌, ◌<◌, ◌≤◌, ◌^◌, Bool, true, false, List, [], ◌∷◌, ◌++◌, length, refl, sym, ap, subst, Option, Some, None, Result, Ok, Err, arith}
 use Rattle.std.specs.Prelude.{All, IfSome, fold, nat_lt, if◌then◌else◌}
-use Rattle.std.specs.Option.{option_map, option_to_list}
-use Rattle.std.proofs.lemmas.Bool.{ltb-true}
-use Rattle.std.proofs.lemmas.List.Elements.{All-cons, All-head, All-nil, All-tail}
-use Rattle.std.proofs.lemmas.List.Sums.{fold-append}
-use Rattle.audit_log.specs.Audits.{AuditState, begun as begun_with, closed, longest_block, recovery_at}
-use Rattle.book_commands.specs.declared.decided.Decided.{Decided}
-use Rattle.book_commands.specs.declared.decided.Effect.{Effect}
-use Rattle.book_commands.specs.declared.decided.Effect.TheVariants as effect
-use Rattle.book_commands.specs.Decisions.{audit_after as audit_decided, decided_of, rows_of}
-use Rattle.orch_base.specs.Memory.{next_count}
-use Rattle.orch_base.specs.declared.server.Moment.{Moment}
-use Rattle.orch_base.specs.declared.server.ServerNo.{ServerNo}
-use Rattle.server_words.specs.declared.status.Status.{Status as Seen}
-use Rattle.kept_rows.specs.Servers.{are_known, fits, observed_servers, seen_servers}
-use Rattle.instance_keeper.specs.Book.{BookState, IsBook, discovery_change, first_seen, instance_at, renewed, store_change}
-use Rattle.kept_rows.specs.Ranges.{IsInRange}
-use Rattle.kept_rows.specs.Rows.{changed, changed_by, row_after, row_at, row_in, sort_key, IsRising}
-use Rattle.kept_rows.specs.declared.row.Key.TheVariants as key
-use Rattle.kept_rows.specs.declared.row.Table.TheVariants as table
-use Rattle.kept_rows.proofs.LookUps.{row_in-changed}
-use Rattle.kept_rows.specs.Same.{same_instance}
-use Rattle.kept_rows.specs.declared.observation.Instance.{Instance}
-use Rattle.kept_rows.specs.declared.observation.Observation.{Observation}
-use Rattle.kept_rows.specs.declared.row.Change.{Change}
-use Rattle.kept_rows.specs.declared.row.Change.TheVariants as change
-use Rattle.kept_rows.specs.declared.row.Row.{Row}
-use Rattle.kept_rows.specs.declared.row.Row.TheVariants as row
-use Rattle.opening_book.specs.Following.{Follow, FollowAudit, IsAudited}
-use Rattle.kept_rows.specs.Recoveries.{put_recovery}
-use Rattle.opening_book.specs.Opening.{blocks_given, interrupting, missing_from, registering_from}
-use Rattle.opening_book.proofs.Recoveries.{FollowAudit-acknowledged, FollowAudit-book, FollowAudit-closed, FollowAudit-loaded, FollowAudit-opened, left-alone}
-use Rattle.opening_book.specs.Audits.{audit_of}
-use Rattle.opening_book.specs.Counting.{counted}
-use Rattle.commands.specs.declared.line.Line.{Line}
-use Rattle.commands.specs.declared.refusal.Refusal.{Refusal}
-use Rattle.commands.specs.declared.refusal.Refusal.TheVariants.{UnknownInstance}
-use Rattle.commands.specs.declared.turn.CommandTurn.{CommandTurn}
-use Rattle.commands.specs.Turns.{is_within}
-use Rattle.command_routes.specs.declared.route.Planner.{Planner}
-use Rattle.command_routes.specs.declared.route.Route.{Route}
-use Rattle.command_routes.specs.declared.route.Route.TheVariants.{Discovers, Forgets, Asks, Decides, Begins, Recovers, TakesOver}
-use Rattle.command_routes.specs.Routes.{route_of}
-use Rattle.command_jobs.specs.Jobs.{job_by, leases_by, refusal_by}
-use Rattle.asking_commands.specs.Answers.{allowed, lines_of, permitted}
-use Rattle.jobs_in_flight.specs.Jobs.{job_at, job_observation}
-use Rattle.job_laws.proofs.Lists.{All-at}
+use Rattle.run_laws.proofs.Prelude.{Act, All-at, All-cons, All-head, All-nil, All-tail, Asks, AuditState, BeginApartInTurn, Begins as RecoveryBegins}
+use Rattle.run_laws.proofs.Prelude.{BookState, Change, CommandTurn, Decided, Decides, Discovers, Effect, Follow, FollowAudit}
+use Rattle.run_laws.proofs.Prelude.{FollowAudit-acknowledged, FollowAudit-book, FollowAudit-closed, FollowAudit-loaded, FollowAudit-opened, Forgets}
+use Rattle.run_laws.proofs.Prelude.{Held, Instance, IsAct, IsAudited, IsBook, IsCommand, IsEffectFor, IsInRange, IsRising, IsScenario, IsSlot}
+use Rattle.run_laws.proofs.Prelude.{IsState, IsTurn, Knowledge, Line, Moment, Observation, Outcome, Planner, Ready, Recovers, Refusal, Route, Row}
+use Rattle.run_laws.proofs.Prelude.{Scenario, ServerNo, State, Status as Seen, TakesOver, Turn, Unended, UnknownInstance, about as given_or, act-fits}
+use Rattle.run_laws.proofs.Prelude.{act_changes, act_in, after_act, after_done, all-missing, all-registering, allowed, are_known, asked, audit_after}
+use Rattle.run_laws.proofs.Prelude.{audit_of, begun as begun_with, blocks_given, by_hand, changed, changed_by, changes_by, changes_of, claim_changes}
+use Rattle.run_laws.proofs.Prelude.{closed, closed_by, closing_changes, closing_of, command_outcome, counted, decided, decided-effect, decided_of}
+use Rattle.run_laws.proofs.Prelude.{discovered, discovery_change, done_changes, engine, entries_of, entries_put, first_seen, fits, fold-append}
+use Rattle.run_laws.proofs.Prelude.{forgotten, held_run, held_step, instance_at, interrupted_at, interrupting, is_within, job_at, job_by}
+use Rattle.run_laws.proofs.Prelude.{job_observation, known_of, label_at, last_given, leases_by, left-alone, lines_of, loaded_audit, loaded_book}
+use Rattle.run_laws.proofs.Prelude.{longest_block, ltb-true, missing_from, moment_at, next_count, next_reading, numbers_of, observed}
+use Rattle.run_laws.proofs.Prelude.{observed_servers, one_known, option_map, option_to_list, outcome_by, outcome_of, period_by, period_of, permitted}
+use Rattle.run_laws.proofs.Prelude.{put_recovery, question, recovered, recoveries_begun, recovery_at, recovery_begins, recovery_begun}
+use Rattle.run_laws.proofs.Prelude.{recovery_refusal, refusal, refusal_by, registering_from, release_changes, reloaded_audit, reloaded_rows, removal}
+use Rattle.run_laws.proofs.Prelude.{removal_refusal, renewed, restart_changes, route_of, row_after, row_at, row_in, row_in-changed, rows_of}
+use Rattle.run_laws.proofs.Prelude.{same_instance, seen_servers, servers-start, short-in, slot_at, sort_key, sources-start, start, start_changes}
+use Rattle.run_laws.proofs.Prelude.{start_moment, start_rows, start_world, step, store_change, taken_over, takeover_begins, takeover_refusal}
+use Rattle.run_laws.proofs.Prelude.{told_try, turn_of, turned_at, unless_refused, updated}
+use Rattle.run_laws.proofs.Prelude.Outcomes.{begun}
+use Rattle.run_laws.proofs.Prelude.Decisions.{audit_after as audit_decided}
+use Rattle.run_laws.proofs.Prelude.route.{Begins}
+use Rattle.run_laws.proofs.Prelude.act
+use Rattle.run_laws.proofs.Prelude.change
+use Rattle.run_laws.proofs.Prelude.effect
+use Rattle.run_laws.proofs.Prelude.kept_row as row
+use Rattle.run_laws.proofs.Prelude.key
+use Rattle.run_laws.proofs.Prelude.table
+use Rattle.run_laws.proofs.Prelude.turn
 use Rattle.run_laws.proofs.Readiness.{job-sees}
-use Rattle.unended_jobs.specs.declared.unended.Unended.{Unended}
-use Rattle.operations.specs.Turns.{observed}
-use Rattle.turns.specs.declared.turn.Act.{Act}
-use Rattle.turns.specs.declared.turn.Act.TheVariants as act
-use Rattle.turns.specs.declared.turn.Turn.{Turn}
-use Rattle.turns.specs.declared.turn.Turn.TheVariants as turn
-use Rattle.scenarios.specs.declared.scenario.Scenario.{Scenario}
-use Rattle.scenarios.specs.Scenarios.{IsScenario, period_of}
-use Rattle.scenarios.specs.Turns.{IsAct, IsCommand, IsTurn}
-use Rattle.knowledge.specs.Closings.{closed_by, closing_changes, closing_of}
-use Rattle.command_outcomes.specs.Commands.{Outcome, about as given_or, asked, begun, by_hand, decided, discovered, entries_put, forgotten, next_reading, outcome_by, outcome_of, question, recovered, recovery_begun, refusal, removal, removal_refusal, taken_over}
-use Rattle.recovery_core.specs.Begun.{audit_after}
-use Rattle.recovery_core.specs.Tries.{Begins as RecoveryBegins, recovery_begins, takeover_begins, unless_refused}
-use Rattle.recovery_permits.specs.Recoveries.{recovery_refusal}
-use Rattle.recovery_permits.specs.Takeovers.{takeover_refusal}
-use Rattle.command_outcomes.specs.HookTelling.{told_try}
-use Rattle.orch_core.specs.Jobs.{turn_of, turned_at}
-use Rattle.orch_core.specs.Polls.{act_changes, changes_of, command_outcome, numbers_of, slot_at, done_changes}
-use Rattle.knowledge.specs.Kept.{changes_by}
-use Rattle.orch_core.specs.Restarts.{interrupted_at, last_given, reloaded_audit, reloaded_rows, restart_changes}
-use Rattle.command_outcomes.specs.Periods.{period_by}
-use Rattle.book_views.specs.Sources.{label_at}
-use Rattle.orch_core.specs.After.{after_act, step, after_done}
-use Rattle.orch_core.specs.Runs.{Held, engine, held_run, held_step}
-use Rattle.orch_core.specs.Scenarios.{loaded_audit, loaded_book, start, start_changes, start_moment, start_rows, start_world}
-use Rattle.orch_core.specs.States.{State, IsSlot, IsState}
-use Rattle.orch_core.proofs.Outcomes.{IsEffectFor, decided-effect}
-use Rattle.orch_core.proofs.Periods.{short-in}
-use Rattle.orch_core.proofs.Servers.{servers-start}
-use Rattle.orch_core.proofs.Starts.{all-missing, all-registering, sources-start}
-use Rattle.orch_core.proofs.States.{one_known}
-use Rattle.orch_core.specs.Settling.{known_of}
-use Rattle.knowledge.specs.Knowing.{Knowledge, updated}
-use Rattle.run_laws.specs.Begins.{BeginApartInTurn, entries_of}
 use Rattle.run_laws.proofs.Ready.{observed-known, put-kept, settings-count}
 use Rattle.run_laws.proofs.Readiness.{Ready-start, Ready-step}
-use Rattle.run_laws.specs.Ready.{Ready}
 use Rattle.run_laws.proofs.Periods.{short-by}
 use Rattle.run_laws.proofs.Beginnings.{next-after, turn-apart, turn-short}
 use Rattle.run_laws.proofs.Closings.{follow-end, turned-ends}
 use Rattle.run_laws.proofs.Counting.{next-goes-on}
 use Rattle.run_laws.proofs.Entering.{follow-entry}
 use Rattle.run_laws.proofs.Follows.{Follow-start, Follow-turn, ready-of, reading-known, within-given}
-use Rattle.run_laws.specs.Entries.{recoveries_begun}
-use Rattle.run_laws.specs.Flights.{moment_at}
-use Rattle.orch_core.specs.Nodes.{act_in, claim_changes, release_changes}
-use Rattle.orch_core.proofs.Claims.{act-fits}
 use Rattle.run_laws.proofs.ClaimRows.{FollowAudit-claims, claim-changes-are, release-changes-are}
 
 -- ---- changes of the book's rows

@@ -1,46 +1,19 @@
 -- What begins with a turn can begin, at its moment, and is apart.
 use Rattle.std.proofs.Common.{◌≡◌, ◌∙◌, ℕ, ◌+◌, ◌<◌, ◌≤◌, ◌^◌, true, List, [], ◌∷◌, length, refl, sym, ap, subst, Option, Some, None, Result, Ok, Err, arith}
 use Rattle.std.specs.Prelude.{All, IfSome}
-use Rattle.std.proofs.lemmas.Bool.{ltb-true}
-use Rattle.std.proofs.lemmas.List.Elements.{All-cons, All-map, All-nil, All-weaker}
-use Rattle.audit_log.specs.Audits.{AuditState, begun, longest_block}
-use Rattle.command_routes.specs.declared.route.Route.{Route}
-use Rattle.command_routes.specs.declared.route.Route.TheVariants.{Discovers, Forgets, Asks, Decides, Begins, Recovers, TakesOver}
-use Rattle.command_routes.specs.Routes.{route_of}
-use Rattle.commands.specs.declared.refusal.Refusal.{Refusal}
-use Rattle.commands.specs.declared.turn.Command.{Command}
-use Rattle.commands.specs.declared.turn.CommandTurn.{CommandTurn}
-use Rattle.commands.specs.Turns.{is_within}
-use Rattle.kept_rows.specs.declared.recovery.Recovery.{Recovery as KeptRecovery}
-use Rattle.orch_base.specs.declared.server.Moment.{Moment}
-use Rattle.orch_base.specs.declared.server.ServerNo.{ServerNo}
-use Rattle.book_views.specs.Sources.{label_at}
-use Rattle.recovery_core.proofs.Beginning.{recovery-begins, takeover-begins, unrefused}
-use Rattle.recovery_core.proofs.InTurn.{scan-blocks, scan-in-turn}
-use Rattle.recovery_permits.specs.declared.attempt.Attempt.{Attempt}
-use Rattle.recovery_permits.specs.Recoveries.{recovery_refusal}
-use Rattle.recovery_permits.specs.Takeovers.{takeover_refusal}
-use Rattle.recovery_core.specs.Begun.{BeginInTurn, CanBegin, audit_after}
-use Rattle.recovery_core.specs.Tries.{Begins as RecoveryBegins, recovery_begins, recovery_try, takeover_begins, takeover_try}
-use Rattle.scenarios.specs.Turns.{IsAct, IsCommand, IsTurn}
-use Rattle.turns.specs.declared.turn.Act.{Act}
-use Rattle.turns.specs.declared.turn.Act.TheVariants as act
-use Rattle.turns.specs.declared.turn.Turn.{Turn}
-use Rattle.turns.specs.declared.turn.Turn.TheVariants as turn
-use Rattle.command_outcomes.specs.Commands.{by_hand}
-use Rattle.command_outcomes.specs.HookTelling.{told_try, with_told}
-use Rattle.command_outcomes.specs.Periods.{period_by}
-use Rattle.command_outcomes.proofs.HookTold.{told-can, told-in-turn}
-use Rattle.orch_core.specs.Polls.{numbers_of}
-use Rattle.orch_core.specs.States.{State}
+use Rattle.run_laws.proofs.Prelude.{Act, All-cons, All-map, All-nil, All-weaker, Attempt, AuditState, BeginApartInTurn, BeginInTurn}
+use Rattle.run_laws.proofs.Prelude.{Begins as RecoveryBegins, BeginsApart, CanBegin, Command, CommandTurn, IsAct}
+use Rattle.run_laws.proofs.Prelude.{IsCommand, IsTurn, Moment, Ready, Recovers, Recovery as KeptRecovery, Refusal, Route, ServerNo, State, TakesOver}
+use Rattle.run_laws.proofs.Prelude.{Turn, act-fits, act_in, attempt_in, audit_after, begun, by_hand, entries_begun, entries_of, is_within, label_at}
+use Rattle.run_laws.proofs.Prelude.{longest_block, ltb-true, numbers_of, period_by, recoveries_begun, recoveries_by, recoveries_done}
+use Rattle.run_laws.proofs.Prelude.{recoveries_in_act, recoveries_of, recovery-begins, recovery_begins, recovery_refusal, recovery_try, route_of}
+use Rattle.run_laws.proofs.Prelude.{scan-blocks, scan-in-turn, scan_in, takeover-begins, takeover_begins, takeover_refusal, takeover_try}
+use Rattle.run_laws.proofs.Prelude.{takeovers_by, takeovers_of, told-can, told-in-turn, told_try, tried, unrefused, with_told}
+use Rattle.run_laws.proofs.Prelude.act
+use Rattle.run_laws.proofs.Prelude.turn
 use Rattle.run_laws.proofs.ReadyOutcomes.{within-both}
-use Rattle.run_laws.specs.Ready.{Ready}
 use Rattle.run_laws.proofs.Periods.{short-by}
 use Rattle.run_laws.proofs.Apart.{recovery-apart, scan-apart, takeover-apart}
-use Rattle.run_laws.specs.Begins.{BeginApartInTurn, entries_of, BeginsApart}
-use Rattle.run_laws.specs.Entries.{attempt_in, entries_begun, recoveries_begun, recoveries_by, recoveries_in_act, recoveries_of, takeovers_by, takeovers_of, tried, recoveries_done, scan_in}
-use Rattle.orch_core.specs.Nodes.{act_in}
-use Rattle.orch_core.proofs.Claims.{act-fits}
 use Rattle.run_laws.proofs.Told.{told-entries}
 
 -- ---- what a command begins: nothing, a recovery that isn't refused, or a takeover that isn't
@@ -66,13 +39,9 @@ module _ (s : State) (c : Command) (P : List RecoveryBegins → Type 0) (none : 
   begun-takeover (Some i) at = begun-taken i at c.d refl
 
   pub command-begins : (r : Route) → P (recoveries_by s c r)
-  command-begins Discovers = none
-  command-begins Forgets = none
-  command-begins (Asks q) = none
-  command-begins (Decides d) = none
-  command-begins (Begins p) = none
   command-begins Recovers = begun-recovery c.i refl
   command-begins TakesOver = begun-takeover c.i refl
+  command-begins _ = none
 
 -- ---- each can begin, in turn
 
@@ -99,26 +68,21 @@ command-can count s c ready command =
     one x can = (told-can s.configuration s.book (length s.book.names) s.book.leases s.audit s.last_job x can, tt)
 
 act-can : (count : ℕ) (s : State) (a : Act) → Ready count s → IsAct count a → Can s (recoveries_in_act s a)
-act-can count s (act.PollRead p n) ready is = tt
-act-can count s (act.PollStore p) ready is = tt
 act-can count s (act.Command c) ready is = command-can count s c ready is
-act-can count s (act.Job job) ready is = tt
 act-can count s act.Scan ready is =
     told-in-turn s.configuration s.book (length s.book.names) s.book.leases s.audit s.last_job (scan_in s).begun
     (scan-in-turn s.world s.book (attempt_in s) s.configuration.wait s.audit s.last_job ready.book (λ n. short-by s.configuration ready.periods (label_at s.book n)))
-act-can count s act.Restart ready is = tt
+act-can count s _ ready is = tt
 
 done-can : (count : ℕ) (s : State) (o : Option Act) → Ready count s → IfSome o (IsAct count) → Can s (recoveries_done s o)
 done-can count s None ready is = tt
 done-can count s (Some a) ready is = act-can count s a ready is
 
 pub turn-can : (count : ℕ) (s : State) (t : Turn) → Ready count s → IsTurn count t → Can s (recoveries_begun s t)
-turn-can count s (turn.Step x) ready is = tt
-turn-can count s (turn.Tick seconds) ready is = tt
 turn-can count s (turn.Act a) ready is = act-can count s a ready is
 turn-can count s (turn.As node a) ready is = done-can count s (act_in s (turn.As node a)) ready (act-fits count s (turn.As node a) is)
 turn-can count s (turn.Claim node) ready is = done-can count s (act_in s (turn.Claim node)) ready (act-fits count s (turn.Claim node) is)
-turn-can count s (turn.Release node) ready is = tt
+turn-can count s _ ready is = tt
 
 -- ---- and apart, at the moment of the turn
 
@@ -147,12 +111,10 @@ done-apart s None = tt
 done-apart s (Some a) = act-apart s a
 
 pub turn-apart : (s : State) (t : Turn) → Apart s (recoveries_begun s t)
-turn-apart s (turn.Step x) = tt
-turn-apart s (turn.Tick seconds) = tt
 turn-apart s (turn.Act a) = act-apart s a
 turn-apart s (turn.As node a) = done-apart s (act_in s (turn.As node a))
 turn-apart s (turn.Claim node) = done-apart s (act_in s (turn.Claim node))
-turn-apart s (turn.Release node) = tt
+turn-apart s _ = tt
 
 -- ---- with the block periods of their clusters
 
@@ -182,30 +144,25 @@ module _ (s : State) (i : ServerNo) where
       subst (HasPeriod s) (unrefused (takeover_refusal s.world s.book s.audit attempt i d) (takeover_begins s.book s.audit attempt.now attempt.block s.configuration.wait (s.last_job + 1) i d) x h).1 refl
 
 act-periods : (s : State) (a : Act) → HavePeriods s (recoveries_in_act s a)
-act-periods s (act.PollRead p n) = none-periods s
-act-periods s (act.PollStore p) = none-periods s
 act-periods s (act.Command c) =
     command-begins s c.command (HavePeriods s) (none-periods s)
     (λ i at x is. one-period s (with_told s.configuration s.book x) (recovery-period s i x is))
     (λ i d at by x is. one-period s (with_told s.configuration s.book x) (takeover-period s i d x is))
     (route_of c.command.name)
-act-periods s (act.Job job) = none-periods s
 act-periods s act.Scan =
     All-map (HasPeriod s) (with_told s.configuration s.book) (scan_in s).begun
     (scan-blocks s.world s.book (attempt_in s) s.configuration.wait s.audit s.last_job (period_by s.configuration) (λ n. refl))
-act-periods s act.Restart = none-periods s
+act-periods s _ = none-periods s
 
 done-periods : (s : State) (o : Option Act) → HavePeriods s (recoveries_done s o)
 done-periods s None = none-periods s
 done-periods s (Some a) = act-periods s a
 
 pub turn-periods : (s : State) (t : Turn) → HavePeriods s (recoveries_begun s t)
-turn-periods s (turn.Step x) = none-periods s
-turn-periods s (turn.Tick seconds) = none-periods s
 turn-periods s (turn.Act a) = act-periods s a
 turn-periods s (turn.As node a) = done-periods s (act_in s (turn.As node a))
 turn-periods s (turn.Claim node) = done-periods s (act_in s (turn.Claim node))
-turn-periods s (turn.Release node) = none-periods s
+turn-periods s _ = none-periods s
 
 -- so none is too long
 pub turn-short : (count : ℕ) (s : State) (t : Turn) → Ready count s → All (λ x. x.entry.block ≤ longest_block) (recoveries_begun s t)

@@ -1,26 +1,12 @@
 -- Recoveries that begin in turn leave a book, and jobs whose turns can be taken.
 use Rattle.std.proofs.Common.{◌≡◌, ◌∙◌, ℕ, ◌<◌, Bool, true, false, List, [], ◌∷◌, length, map, refl, sym, subst, Option, Some}
 use Rattle.std.specs.Prelude.{All, IfSome, ◌||◌, ◌==◌, slice_set}
-use Rattle.std.specs.List.{list_any}
-use Rattle.std.proofs.lemmas.Bool.{eqb-true, false≢true}
-use Rattle.std.proofs.lemmas.List.{length-set}
-use Rattle.std.proofs.lemmas.List.Elements.{All-cons, All-head, All-nil, All-tail}
-use Rattle.orch_base.specs.declared.server.ServerNo.{ServerNo}
-use Rattle.instance_keeper.specs.Book.{BookState, IsBook}
-use Rattle.instance_keeper.specs.Leases.{taken}
-use Rattle.instance_keeper.proofs.Books.{leases_set}
-use Rattle.audit_log.specs.Audits.{AuditState, begun}
-use Rattle.recovery_plans.specs.Beginning.{first_source}
-use Rattle.recovery_plans.specs.Named.{IsListOf}
-use Rattle.recovery_plans.specs.Recoveries.{Recovery}
-use Rattle.recovery_plans.specs.declared.purpose.Purpose.{Purpose}
-use Rattle.recovery_plans.specs.declared.purpose.Purpose.TheVariants as purpose
-use Rattle.recovery_ends.proofs.Ended.{begun-shaped}
-use Rattle.recovery_ends.specs.Ends.{IsShaped}
-use Rattle.recovery_core.specs.Begun.{BeginInTurn, CanBegin, IsListed, leases_after}
-use Rattle.recovery_core.specs.Tries.{Begins}
-use Rattle.unended_jobs.specs.Unended.{IsReady}
-use Rattle.knowledge.specs.Knowing.{recovery_job}
+use Rattle.run_laws.proofs.Prelude.{All-cons, All-head, All-nil, All-tail, AuditState, BeginInTurn, Begins, BookState, CanBegin, IsBook, IsListOf}
+use Rattle.run_laws.proofs.Prelude.{IsReady, IsShaped, Purpose, ServerNo, begun, begun-shaped, eqb-true, false≢true, first_source, leases_after}
+use Rattle.run_laws.proofs.Prelude.{leases_set, length-set, list_any, recovery_job, taken}
+use Rattle.run_laws.proofs.Prelude.Begun.{IsListed}
+use Rattle.run_laws.proofs.Prelude.RecoveryPlans.{Recovery}
+use Rattle.run_laws.proofs.Prelude.purpose
 
 -- ---- leases
 

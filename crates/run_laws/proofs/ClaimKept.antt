@@ -1,101 +1,46 @@
 -- Through runs the row at the claim's key is the kept claim's.
 use Rattle.std.proofs.Common.{◌≡◌, ◌∙◌, ℕ, ◌+◌, ◌<◌, ◌≤◌, ◌^◌, inl, inr, Bool, true, false, List, [], ◌∷◌, ◌++◌, length, map, Option, Some, None, Result, Ok, Err, refl, sym, ap, subst, arith, zero, suc}
 use Rattle.std.specs.Prelude.{All, AllPairs, IfSome, nat_lt, ◌==◌, filter, fold, if◌then◌else◌}
-use Rattle.std.specs.Option.{option_map, option_to_list}
-use Rattle.std.proofs.lemmas.Bool.{false≢true, ltb-true, eq-eqb}
-use Rattle.std.proofs.lemmas.List.Elements.{All-append, All-cons, All-filter, All-head, All-map, All-nil, All-tail, All-weaker}
-use Rattle.std.proofs.lemmas.List.Sums.{fold-append}
-use Rattle.orch_base.specs.declared.server.Moment.{Moment}
-use Rattle.orch_base.specs.declared.server.ServerNo.{ServerNo}
-use Rattle.kept_rows.specs.declared.recovery.Recovery.{Recovery}
-use Rattle.kept_rows.specs.declared.row.Change.{Change}
-use Rattle.kept_rows.specs.declared.row.Change.TheVariants as change
-use Rattle.kept_rows.specs.declared.row.Key.{Key}
-use Rattle.kept_rows.specs.declared.row.Key.TheVariants as key
-use Rattle.kept_rows.specs.declared.row.Row.{Row}
-use Rattle.kept_rows.specs.declared.row.Row.TheVariants as row
-use Rattle.kept_rows.specs.declared.row.Table.{Table}
-use Rattle.kept_rows.specs.declared.row.Table.TheVariants as table
-use Rattle.kept_rows.specs.Ranges.{IsInRange, IsKeyInRange}
-use Rattle.kept_rows.specs.Rows.{IsRising, changed, key_number, row_after, row_in, sort_key, sort_key_of}
-use Rattle.kept_rows.specs.Servers.{are_known, fits, is_of_book, key_servers, row_fits, source_servers, observed_servers}
-use Rattle.kept_rows.proofs.Known.{both_true, head_known}
-use Rattle.kept_rows.proofs.Lists.{pairs_head, pairs_tail}
-use Rattle.kept_rows.proofs.LookUps.{row_in-changed}
-use Rattle.node_claims.specs.Claims as claims
-use Rattle.node_claims.specs.Claims.{ClaimState, is_of}
-use Rattle.node_claims.specs.declared.claims.ClaimAnswer.{ClaimAnswer}
-use Rattle.node_claims.specs.declared.claims.ClaimAnswer.TheVariants as claim
-use Rattle.opening_book.proofs.Following.{PutsRecovery, is_eq}
-use Rattle.orch_core.specs.Nodes.{act_in, claim_changes, claim_changes_by, claim_or, is_kept_so, release_changes, release_changes_by}
-use Rattle.orch_core.specs.Polls.{changes_of, done_changes, act_changes, command_outcome, numbers_of, slot_at}
-use Rattle.knowledge.specs.Kept.{changes_by}
-use Rattle.orch_core.specs.After.{after_done, step, after_act}
-use Rattle.orch_core.specs.States.{State, IsSlot}
-use Rattle.run_laws.specs.Claims.{IsClaimRow, claim_key, claim_row, claim_by_row}
-use Rattle.audit_log.specs.Audits.{AuditState, IsAudit, acking, closing, recovery_at}
-use Rattle.book_commands.specs.declared.decided.Decided.{Decided}
-use Rattle.book_commands.specs.declared.decided.Effect.{Effect}
-use Rattle.book_commands.specs.declared.decided.Effect.TheVariants as effect
-use Rattle.book_commands.specs.Decisions.{decided_of, rows_of}
-use Rattle.kept_rows.specs.Recoveries.{put_recovery, as_row}
-use Rattle.opening_book.proofs.Recoveries.{acking-small, audit-loaded, closing-small, last_id-within, puts-loaded}
-use Rattle.std.proofs.lemmas.List.{length-map}
-use Rattle.kept_rows.specs.declared.observation.Observation.{Observation}
-use Rattle.server_words.specs.declared.status.Status.{Status as Seen}
-use Rattle.instance_keeper.specs.Book.{BookState, discovery_change, instance_at, IsBook}
-use Rattle.scenarios.specs.declared.scenario.Scenario.{Scenario}
-use Rattle.turns.specs.declared.turn.Act.{Act}
-use Rattle.turns.specs.declared.turn.Act.TheVariants as act
-use Rattle.turns.specs.declared.turn.Turn.{Turn}
-use Rattle.turns.specs.declared.turn.Turn.TheVariants as turn
-use Rattle.commands.specs.declared.turn.CommandTurn.{CommandTurn}
-use Rattle.jobs_in_flight.specs.Jobs.{job_at, job_observation}
-use Rattle.orch_core.specs.Jobs.{turned_at}
-use Rattle.recovery_core.specs.Tries.{Begins as RecoveryBegins, recovery_try, takeover_try}
-use Rattle.orch_base.specs.declared.recovery.Ending.{Ending}
-use Rattle.knowledge.specs.Closings.{closing_changes, closing_of}
-use Rattle.knowledge.specs.Knowing.{Knowledge, updated}
-use Rattle.command_outcomes.specs.Commands.{Outcome, about as given_or, asked, begun, by_hand, decided, discovered, entries_put, forgotten, next_reading, outcome_by, outcome_of, question, recovered, recovery_begun, refusal, removal, removal_refusal, taken_over}
-use Rattle.command_outcomes.specs.HookTelling.{told_try}
-use Rattle.orch_core.specs.Restarts.{interrupted_at, last_given, reloaded_audit, reloaded_rows, restart_changes}
-use Rattle.command_outcomes.specs.Periods.{period_by}
-use Rattle.opening_book.specs.Opening.{blocks_given, missing_from, registering_from}
-use Rattle.orch_core.proofs.Outcomes.{IsEffectFor, decided-effect}
-use Rattle.command_routes.specs.declared.route.Route.{Route}
-use Rattle.command_routes.specs.declared.route.Route.TheVariants.{Discovers, Forgets, Asks, Decides, Begins, Recovers, TakesOver}
-use Rattle.command_routes.specs.Routes.{route_of}
-use Rattle.commands.specs.declared.line.Line.{Line}
-use Rattle.commands.specs.declared.refusal.Refusal.{Refusal}
-use Rattle.commands.specs.declared.refusal.Refusal.TheVariants.{UnknownInstance}
-use Rattle.commands.specs.Turns.{is_within}
-use Rattle.asking_commands.specs.Answers.{allowed, lines_of, permitted}
-use Rattle.scenarios.specs.Scenarios.{IsScenario, period_of}
-use Rattle.orch_core.specs.Scenarios.{loaded_audit, loaded_book, start, start_changes, start_moment, start_rows, start_world, start_claim}
-use Rattle.opening_book.specs.Counting.{greatest_id, counts}
-use Rattle.scenarios.specs.Turns.{IsAct, IsCommand, IsTurn}
-use Rattle.orch_core.proofs.Servers.{servers-start}
-use Rattle.orch_core.proofs.Starts.{all-missing, all-registering, opened-is, sources-start}
-use Rattle.command_routes.specs.declared.route.Planner.{Planner}
-use Rattle.command_jobs.specs.Jobs.{job_by, leases_by, refusal_by}
-use Rattle.job_laws.proofs.Lists.{All-at}
-use Rattle.orch_core.specs.Settling.{known_of}
-use Rattle.run_laws.specs.Begins.{entries_of}
-use Rattle.run_laws.specs.Ready.{AreShort, Ready}
+use Rattle.run_laws.proofs.Prelude.{Act, All-append, All-at, All-cons, All-filter, All-head, All-map, All-nil, All-tail, All-weaker, AreShort, Asks}
+use Rattle.run_laws.proofs.Prelude.{AuditState, Begins as RecoveryBegins, BookState, Change, ClaimAnswer, ClaimState, CommandTurn, Decided, Decides}
+use Rattle.run_laws.proofs.Prelude.{Discovers, Effect, Ending, Forgets, Held, IsAct, IsAudit, IsBook, IsClaimRow, IsCommand, IsEffectFor, IsInRange}
+use Rattle.run_laws.proofs.Prelude.{IsKeyInRange, IsRising, IsScenario, IsSlot, IsTurn, Key, Knowledge, Line, Moment, Observation, Outcome, Planner}
+use Rattle.run_laws.proofs.Prelude.{PutsRecovery, Ready, Recovers, Recovery, Refusal, Route, Row, RunClaimsAreFollowed, Scenario, ServerNo, State}
+use Rattle.run_laws.proofs.Prelude.{Status as Seen, Table, TakesOver, Turn, UnknownInstance, about as given_or, acking, acking-small, act-fits}
+use Rattle.run_laws.proofs.Prelude.{act_changes, act_in, after_act, after_done, all-missing, all-registering, allowed, are_known, as_row, asked}
+use Rattle.run_laws.proofs.Prelude.{audit-loaded, blocks_given, both_true, by_hand, changed, changes_by, changes_of, claim_by_row, claim_changes}
+use Rattle.run_laws.proofs.Prelude.{claim_changes_by, claim_key, claim_or, claim_row, closing, closing-small, closing_changes, closing_of}
+use Rattle.run_laws.proofs.Prelude.{command_outcome, counts, decided, decided-effect, decided_of, discovered, discovery_change, done_changes, engine}
+use Rattle.run_laws.proofs.Prelude.{entries_of, entries_put, eq-eqb, false≢true, fits, fold-append, forgotten, greatest_id, head_known, held_run}
+use Rattle.run_laws.proofs.Prelude.{held_step, instance_at, interrupted_at, is_eq, is_kept_so, is_of_book, is_within, job_at, job_by, job_observation}
+use Rattle.run_laws.proofs.Prelude.{key_number, key_servers, known_of, last_given, last_id-within, leases_by, length-map, lines_of, loaded_audit}
+use Rattle.run_laws.proofs.Prelude.{loaded_book, ltb-true, map_of-risen, missing_from, moment_at, next_reading, numbers_of, observed_servers}
+use Rattle.run_laws.proofs.Prelude.{one_known, opened-is, option_map, option_to_list, outcome_by, outcome_of, pairs_head, pairs_tail, period_by}
+use Rattle.run_laws.proofs.Prelude.{period_of, permitted, put_recovery, puts-loaded, question, recovered, recoveries_begun, recovery_at}
+use Rattle.run_laws.proofs.Prelude.{recovery_begun, recovery_try, refusal, refusal_by, registering_from, release_changes, release_changes_by}
+use Rattle.run_laws.proofs.Prelude.{reloaded_audit, reloaded_rows, removal, removal_refusal, restart_changes, route_of, row_after, row_fits, row_in}
+use Rattle.run_laws.proofs.Prelude.{row_in-changed, rows_of, servers-start, slot_at, sort_key, sort_key_of, source_servers, sources-start, start}
+use Rattle.run_laws.proofs.Prelude.{start_changes, start_claim, start_moment, start_rows, start_world, step, taken_over, takeover_try, told_try}
+use Rattle.run_laws.proofs.Prelude.{turned_at, updated}
+use Rattle.run_laws.proofs.Prelude.Outcomes.{begun}
+use Rattle.run_laws.proofs.Prelude.claims.{is_of}
+use Rattle.run_laws.proofs.Prelude.route.{Begins}
+use Rattle.run_laws.proofs.Prelude.act
+use Rattle.run_laws.proofs.Prelude.change
+use Rattle.run_laws.proofs.Prelude.claim
+use Rattle.run_laws.proofs.Prelude.claims
+use Rattle.run_laws.proofs.Prelude.effect
+use Rattle.run_laws.proofs.Prelude.kept_row as row
+use Rattle.run_laws.proofs.Prelude.key
+use Rattle.run_laws.proofs.Prelude.table
+use Rattle.run_laws.proofs.Prelude.turn
 use Rattle.run_laws.proofs.Periods.{short-by}
 use Rattle.run_laws.proofs.Beginnings.{small-ids}
 use Rattle.run_laws.proofs.Closings.{end-puts, end-small, end_changes, ended_as, turned-ends}
 use Rattle.run_laws.proofs.Counting.{next-goes-on}
-use Rattle.run_laws.specs.Entries.{recoveries_begun}
-use Rattle.run_laws.specs.Flights.{moment_at}
-use Rattle.orch_core.proofs.Claims.{act-fits}
-use Rattle.orch_core.specs.Runs.{Held, engine, held_run, held_step}
-use Rattle.orch_core.proofs.States.{one_known}
 use Rattle.run_laws.proofs.Follows.{reading-known, within-given, entries-puts}
 use Rattle.run_laws.proofs.Audits.{FollowsBoth, IsBooked, both-run, both-whole, discovery-booked, held-start, job-booked, next-run, one-booked, slot-booked}
 use Rattle.run_laws.proofs.NodeClaims.{act-claims}
-use Rattle.run_laws.specs.KeptRows.{RunClaimsAreFollowed}
-use Rattle.kept_rows.proofs.Rising.{map_of-risen}
 
 -- ---- changes of other rows
 
@@ -128,12 +73,9 @@ key-within key.Global range = omega arith
 key-within key.Active range = omega arith
 
 booked-key : (t : Table) (k : Key) → is_of_book t ≡ true → IsKeyInRange k → sort_key t k < claim_key
-booked-key table.Instance k h range = let n = key-within k range in omega (arith, n)
-booked-key table.Downtime k h range = let n = key-within k range in omega (arith, n)
-booked-key table.Candidate k h range = let n = key-within k range in omega (arith, n)
 booked-key table.Recovery k h range = absurd (false≢true h)
-booked-key table.Switch k h range = let n = key-within k range in omega (arith, n)
 booked-key table.Active k h range = absurd (false≢true h)
+booked-key _ k h range = let n = key-within k range in omega (arith, n)
 
 pub booked-aside : (count : ℕ) → count ≤ 2 ^ 32 → (c : Change) → fits count c ≡ true → IsInRange c → IsAside c
 booked-aside count few (change.Put r) fit range = aside-put r (booked-row count few r fit)
@@ -362,12 +304,10 @@ done-aside count rows s None is audit most within = All-nil IsAside
 done-aside count rows s (Some a) is audit most within = act-aside count rows s a is audit most within
 
 turn-aside : (count : ℕ) (rows : List Row) (s : State) (t : Turn) → Ready count s → IsAudit s.audit → (step rows s t).audit.next ≤ 2 ^ 64 → IsTurn count t → All IsAside (done_changes rows s (act_in s t))
-turn-aside count rows s (turn.Step x) is audit most within = All-nil IsAside
-turn-aside count rows s (turn.Tick seconds) is audit most within = All-nil IsAside
 turn-aside count rows s (turn.Act a) is audit most within = act-aside count rows s a is audit most within
 turn-aside count rows s (turn.As node a) is audit most within = done-aside count rows s (act_in s (turn.As node a)) is audit most (act-fits count s (turn.As node a) within)
 turn-aside count rows s (turn.Claim node) is audit most within = done-aside count rows s (act_in s (turn.Claim node)) is audit most (act-fits count s (turn.Claim node) within)
-turn-aside count rows s (turn.Release node) is audit most within = All-nil IsAside
+turn-aside count rows s _ is audit most within = All-nil IsAside
 
 -- ---- an opening
 
@@ -378,11 +318,7 @@ no-claim (x ∷ xs) kept all = ap (λ (k : Option (ℕ × Moment)). fold claim_o
   where
     other : (r : Row) → claim_key < sort_key_of r → claim_or kept r ≡ kept
     other (row.Active node until) more = absurd (omega (arith, more))
-    other (row.Instance i) more = refl
-    other (row.Downtime d) more = refl
-    other (row.Candidate c) more = refl
-    other (row.Recovery r) more = refl
-    other (row.Switch e) more = refl
+    other _ more = refl
 
 by-counting : (P : Row → Bool) (xs : List Row) → AllPairs (λ a b. sort_key_of a < sort_key_of b) xs → fold claim_or None (filter P xs) ≡ claim_by_row P (row_in xs claim_key)
 by-counting P [] apart = refl
@@ -393,11 +329,7 @@ by-counting P (x ∷ xs) apart = go (sort_key_of x == claim_key) refl (by-counti
 
     other : (r : Row) → (sort_key_of r == claim_key) ≡ false → claim_or None r ≡ None
     other (row.Active node until) off = absurd (false≢true (sym off ∙ eq-eqb claim_key claim_key refl))
-    other (row.Instance i) off = refl
-    other (row.Downtime d) off = refl
-    other (row.Candidate c) off = refl
-    other (row.Recovery r) off = refl
-    other (row.Switch e) off = refl
+    other _ off = refl
 
     one : (b : Bool) → P x ≡ b → sort_key_of x ≡ claim_key → fold claim_or None (if b then x ∷ filter P xs else filter P xs) ≡ (if b then claim_or None x else None)
     one true fits at = no-claim (filter P xs) (claim_or None x) (All-filter P (λ r. claim_key < sort_key_of r) xs (subst (λ (k : ℕ). All (λ r. k < sort_key_of r) xs) at later))

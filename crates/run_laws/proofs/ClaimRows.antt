@@ -1,30 +1,17 @@
 -- What claims change of the kept rows is neither the book's nor the audit's.
 use Rattle.std.proofs.Common.{◌≡◌, ◌∙◌, ℕ, ◌+◌, ◌*◌, ◌<◌, ◌^◌, ◌⊎◌, inl, inr, Bool, true, false, List, [], ◌∷◌, ◌++◌, length, Option, Some, None, refl, sym, ap, subst, append_assoc, arith}
 use Rattle.std.specs.Prelude.{All, ◌==◌, if◌then◌else◌}
-use Rattle.std.specs.Option.{option_map, option_to_list}
-use Rattle.std.proofs.lemmas.List.Elements.{All-append, All-cons, All-head, All-nil, All-tail, All-weaker}
-use Rattle.orch_base.specs.declared.server.Moment.{Moment}
-use Rattle.kept_rows.specs.declared.recovery.Recovery.{Recovery}
-use Rattle.kept_rows.specs.declared.row.Change.{Change}
-use Rattle.kept_rows.specs.declared.row.Change.TheVariants as change
-use Rattle.kept_rows.specs.declared.row.Key.TheVariants as key
-use Rattle.kept_rows.specs.declared.row.Row.{Row}
-use Rattle.kept_rows.specs.declared.row.Row.TheVariants as row
-use Rattle.kept_rows.specs.declared.row.Table.TheVariants as table
-use Rattle.kept_rows.specs.Rows.{changed, changed_by, row_after, row_in, sort_key, sort_key_of}
-use Rattle.kept_rows.proofs.LookUps.{changed_by_rising, row_in-changed_by}
-use Rattle.instance_keeper.specs.Book.{BookState, IsBook, book_rows}
-use Rattle.instance_keeper.proofs.BookLaws.{first, last, second, third, to_third}
-use Rattle.instance_keeper.proofs.NoRecovery.{row_in-elsewhere}
-use Rattle.audit_log.specs.Audits.{AuditState, recovery_at}
-use Rattle.opening_book.proofs.Following.{is_eq}
-use Rattle.opening_book.specs.Following.{Follow, FollowAudit, IsAudited, IsKeptFor}
-use Rattle.node_claims.specs.Claims.{is_of}
-use Rattle.node_claims.specs.declared.claims.ClaimAnswer.{ClaimAnswer}
-use Rattle.node_claims.specs.declared.claims.ClaimAnswer.TheVariants as claim
-use Rattle.orch_core.specs.Nodes.{claim_changes, claim_changes_by, claimed, is_kept_so, release_changes}
-use Rattle.orch_core.specs.States.{State}
-use Rattle.run_laws.specs.Claims.{claim_key}
+use Rattle.run_laws.proofs.Prelude.{All-append, All-cons, All-head, All-nil, All-tail, All-weaker, AuditState, BookState, Change, ClaimAnswer, Follow}
+use Rattle.run_laws.proofs.Prelude.{FollowAudit, IsAudited, IsBook, IsKeptFor, Moment, Recovery, Row, State, book_rows, changed, changed_by}
+use Rattle.run_laws.proofs.Prelude.{changed_by_rising, claim_changes, claim_changes_by, claim_key, claimed, first, is_eq, is_kept_so, last}
+use Rattle.run_laws.proofs.Prelude.{option_map, option_to_list, recovery_at, release_changes, row_after, row_in, row_in-changed_by, row_in-elsewhere}
+use Rattle.run_laws.proofs.Prelude.{second, sort_key, sort_key_of, third, to_third}
+use Rattle.run_laws.proofs.Prelude.claims.{is_of}
+use Rattle.run_laws.proofs.Prelude.change
+use Rattle.run_laws.proofs.Prelude.claim
+use Rattle.run_laws.proofs.Prelude.kept_row as row
+use Rattle.run_laws.proofs.Prelude.key
+use Rattle.run_laws.proofs.Prelude.table
 
 below : (p k : ℕ) → k < p → (k == p) ≡ false
 below p k h = grind arith

@@ -1,48 +1,19 @@
 -- What ends with a job's turn: how, and what is kept of it.
 use Rattle.std.proofs.Common.{◌≡◌, ◌∙◌, ℕ, ◌<◌, ◌≤◌, ◌^◌, Bool, true, false, cond, List, [], ◌∷◌, map, refl, sym, ap, subst, Option, Some, None, arith}
 use Rattle.std.specs.Prelude.{◌==◌, All, AllPairs, IfSome, filter, find, if◌then◌else◌}
-use Rattle.std.specs.Option.{option_map, option_to_list}
-use Rattle.std.proofs.lemmas.Bool.{eqb-true, ne_eqb}
-use Rattle.std.proofs.lemmas.List.Elements.{All-cons, All-head, All-nil, All-tail, All-weaker}
-use Rattle.std.proofs.lemmas.Option.{same_Some}
-use Rattle.audit_log.proofs.Finding.{All-found, found-passes}
-use Rattle.audit_log.proofs.Parting.{acknowledged_at-apart, ended-apart}
-use Rattle.audit_log.specs.Apart.{IsApart}
-use Rattle.audit_log.specs.Audits.{AuditState, IsAudit, acked_so, acknowledged_at, ended, ended_so, is_open, recovery_at}
-use Rattle.commands.specs.Causes.{cause_name}
-use Rattle.kept_rows.proofs.Lists.{pairs_head, pairs_tail}
-use Rattle.kept_rows.specs.Servers.{are_known, ending_servers}
-use Rattle.kept_rows.specs.Rows.{changed}
-use Rattle.kept_rows.specs.declared.recovery.Recovery.{Recovery}
-use Rattle.kept_rows.specs.declared.row.Change.{Change}
-use Rattle.kept_rows.specs.declared.row.Row.{Row}
-use Rattle.job_laws.proofs.Lists.{All-find}
-use Rattle.jobs_in_flight.specs.Jobs.{job_at}
-use Rattle.opening_book.proofs.Recoveries.{FollowAudit-mapped}
-use Rattle.opening_book.specs.Following.{FollowAudit}
-use Rattle.kept_rows.specs.Recoveries.{put_recovery}
-use Rattle.operations.specs.declared.step.JobStep.{JobStep}
-use Rattle.operations.specs.declared.step.JobStep.TheVariants as step
-use Rattle.orch_base.specs.Memory.{next_count}
-use Rattle.orch_base.specs.declared.recovery.Ending.{Ending}
-use Rattle.orch_base.specs.declared.recovery.Ending.TheVariants as ending
-use Rattle.orch_base.specs.declared.server.Moment.{Moment}
-use Rattle.orch_base.specs.declared.server.ServerNo.{ServerNo}
-use Rattle.orch_core.proofs.States.{one_known}
-use Rattle.recovery_core.proofs.Ended.{ending-closed}
-use Rattle.recovery_core.specs.Endings.{done_with, ending_of, is_acknowledged}
-use Rattle.recovery_plans.specs.Recoveries.{Recovery as RecoveryJob}
-use Rattle.recovery_plans.specs.Taking.{taken}
-use Rattle.unended_jobs.proofs.Going.{recovery-promotes}
-use Rattle.unended_jobs.specs.Hooked.{hooked, promoted_in}
-use Rattle.unended_jobs.proofs.Hooked.{hooked-has}
-use Rattle.unended_jobs.specs.Unended.{IsReady, number_of}
-use Rattle.unended_jobs.specs.declared.unended.Unended.{Unended}
-use Rattle.unended_jobs.specs.declared.unended.Unended.TheVariants as unended
-use Rattle.knowledge.specs.Closings.{closed_by, closing_at, closing_by, closing_changes, closing_for, closing_of}
-use Rattle.orch_core.specs.Jobs.{turn_of, turned_at}
-use Rattle.orch_core.specs.States.{State}
-use Rattle.run_laws.specs.Ready.{Ready}
+use Rattle.run_laws.proofs.Prelude.{All-cons, All-find, All-head, All-nil, All-tail, All-weaker, AuditState, Change, Ending, FollowAudit}
+use Rattle.run_laws.proofs.Prelude.{FollowAudit-mapped, IsApart, IsAudit, IsReady, JobStep, Moment, Ready, Recovery, Row, ServerNo, State, Unended}
+use Rattle.run_laws.proofs.Prelude.{acked_so, acknowledged_at, acknowledged_at-apart, are_known, cause_name, changed, closed_by, closing_at}
+use Rattle.run_laws.proofs.Prelude.{closing_by, closing_changes, closing_for, closing_of, done_with, ended, ended-apart, ended_so, ending-closed}
+use Rattle.run_laws.proofs.Prelude.{ending_of, ending_servers, eqb-true, found-passes, hooked, hooked-has, is_acknowledged, is_open, job_at, ne_eqb}
+use Rattle.run_laws.proofs.Prelude.{next_count, number_of, one_known, option_map, option_to_list, pairs_head, pairs_tail, promoted_in, put_recovery}
+use Rattle.run_laws.proofs.Prelude.{recovery-promotes, recovery_at, same_Some, turn_of, turned_at}
+use Rattle.run_laws.proofs.Prelude.Finding.{All-found}
+use Rattle.run_laws.proofs.Prelude.RecoveryPlans.{Recovery as RecoveryJob}
+use Rattle.run_laws.proofs.Prelude.taking.{taken}
+use Rattle.run_laws.proofs.Prelude.ending
+use Rattle.run_laws.proofs.Prelude.jobstep as step
+use Rattle.run_laws.proofs.Prelude.unended
 
 -- ---- the audit and the kept rows with an end
 

@@ -1,62 +1,26 @@
 -- In every state of a run the audit is apart, and each of its recoveries counts at a restart.
 use Rattle.std.proofs.Common.{◌≡◌, ◌∙◌, ℕ, ◌<◌, ◌≤◌, Bool, true, false, leb, List, [], ◌∷◌, get_or, length, map, refl, sym, ap, subst, inl, inr, Option, arith, Some, None}
 use Rattle.std.specs.Prelude.{All, ◌==◌, ◌&&◌, nat_lt, if◌then◌else◌, IfSome}
-use Rattle.std.proofs.lemmas.Bool.{le-leb, leb-true}
-use Rattle.std.proofs.lemmas.List.Elements.{All-head, All-map, All-push, All-tail, All-weaker}
-use Rattle.audit_log.proofs.Parting.{acknowledged-apart, closed-apart}
-use Rattle.audit_log.specs.Apart.{IsApart}
-use Rattle.audit_log.specs.Audits.{AuditState, acked_so, acknowledged, acknowledged_for, begun, closed, ended_so, interrupted, is_of, is_unended, longest_block}
-use Rattle.kept_rows.proofs.Known.{both_true}
-use Rattle.kept_rows.specs.Recoveries.{as_row}
-use Rattle.kept_rows.specs.Servers.{are_known, ending_servers}
-use Rattle.kept_rows.specs.declared.recovery.Recovery.{Recovery}
-use Rattle.kept_rows.specs.declared.row.Row.{Row}
-use Rattle.kept_rows.specs.declared.row.Row.TheVariants as row
-use Rattle.opening_book.specs.Counting.{counts, greatest, greatest_id, is_end_in_range, is_in_range}
-use Rattle.orch_base.specs.declared.recovery.Ending.{Ending}
-use Rattle.orch_base.specs.declared.recovery.Ending.TheVariants as ending
-use Rattle.orch_base.specs.declared.server.Moment.{Moment}
-use Rattle.orch_base.specs.declared.server.ServerNo.{ServerNo}
-use Rattle.recovery_core.proofs.InTurn.{apart-after}
-use Rattle.recovery_core.specs.Begun.{BeginInTurn, CanBegin, audit_after}
-use Rattle.recovery_core.specs.Tries.{Begins}
-use Rattle.scenarios.specs.Scenarios.{IsScenario, period_of}
-use Rattle.scenarios.specs.Turns.{IsAct, IsTurn}
-use Rattle.scenarios.specs.declared.scenario.Scenario.{Scenario}
-use Rattle.turns.specs.declared.turn.Act.{Act}
-use Rattle.turns.specs.declared.turn.Act.TheVariants as act
-use Rattle.turns.specs.declared.turn.Turn.{Turn}
-use Rattle.turns.specs.declared.turn.Turn.TheVariants as turn
-use Rattle.orch_core.proofs.Closed.{closed_by-next}
-use Rattle.orch_core.proofs.Periods.{short-in}
-use Rattle.orch_core.proofs.Recoveries.{reloaded-most}
-use Rattle.orch_core.proofs.Starts.{moment-within, opened-is}
-use Rattle.orch_core.proofs.States.{one_known}
-use Rattle.knowledge.specs.Closings.{closing_of}
-use Rattle.orch_core.specs.Jobs.{turned_at}
-use Rattle.orch_core.specs.Polls.{command_outcome}
-use Rattle.orch_core.specs.Restarts.{interrupted_at, last_given, reloaded_audit, reloaded_moment}
-use Rattle.orch_core.specs.After.{after_act, step, after_done}
-use Rattle.command_outcomes.specs.Periods.{period_by}
-use Rattle.orch_core.specs.Runs.{engine, run_turns, turns_of}
-use Rattle.orch_core.specs.Scenarios.{loaded_audit, start, start_moment, start_rows}
-use Rattle.orch_core.specs.States.{State}
-use Rattle.orch_core.specs.Turns.{later}
-use Rattle.orch_core.specs.Settling.{known_of}
-use Rattle.knowledge.specs.Knowing.{updated}
-use Rattle.run_laws.specs.Begins.{BeginApartInTurn, entries_of}
+use Rattle.run_laws.proofs.Prelude.{Act, All-head, All-map, All-push, All-tail, All-weaker, AuditState, BeginApartInTurn, BeginInTurn, Begins}
+use Rattle.run_laws.proofs.Prelude.{CanBegin, ComesTo, Ending, IsAct, IsApart, IsScenario, IsTurn, Moment, Ready, Recovery, Row, Scenario, ServerNo}
+use Rattle.run_laws.proofs.Prelude.{State, Turn, acked_so, acknowledged, acknowledged-apart, acknowledged_for, act-fits, act_in, after_act}
+use Rattle.run_laws.proofs.Prelude.{after_done, apart-after, are_known, as_row, audit_after, begun, both_true, closed, closed-apart, closed_by-next}
+use Rattle.run_laws.proofs.Prelude.{closing_of, command_outcome, counts, ended_so, ending_servers, engine, entries_of, greatest, greatest_id}
+use Rattle.run_laws.proofs.Prelude.{interrupted, interrupted_at, is_end_in_range, is_in_range, is_of, is_unended, known_of, last_given, later, le-leb}
+use Rattle.run_laws.proofs.Prelude.{leb-true, loaded_audit, longest_block, moment-within, one_known, opened-is, period_by, period_of}
+use Rattle.run_laws.proofs.Prelude.{recoveries_begun, recoveries_scanned, reloaded-most, reloaded_audit, reloaded_moment, run_turns, short-in, start}
+use Rattle.run_laws.proofs.Prelude.{start_moment, start_rows, step, turned_at, turns_of, updated}
+use Rattle.run_laws.proofs.Prelude.act
+use Rattle.run_laws.proofs.Prelude.ending
+use Rattle.run_laws.proofs.Prelude.kept_row as row
+use Rattle.run_laws.proofs.Prelude.turn
 use Rattle.run_laws.proofs.Readiness.{Ready-start, Ready-step}
 use Rattle.run_laws.proofs.Ready.{settings-count}
-use Rattle.run_laws.specs.Ready.{Ready}
 use Rattle.run_laws.proofs.Beginnings.{began-then, next-after, turn-apart, turn-can}
 use Rattle.run_laws.proofs.Closings.{end-apart, ended-map, ended_as, ended_in, ended_with, turned-ends}
 use Rattle.run_laws.proofs.Loads.{audit-of, counted-counts}
 use Rattle.run_laws.proofs.Logged.{Becomes, command-becomes}
 use Rattle.run_laws.proofs.Periods.{short-by}
-use Rattle.run_laws.specs.Entries.{recoveries_begun, recoveries_scanned}
-use Rattle.run_laws.specs.Runs.{ComesTo}
-use Rattle.orch_core.specs.Nodes.{act_in}
-use Rattle.orch_core.proofs.Claims.{act-fits}
 
 -- ---- recoveries that count, whatever their ids
 
@@ -154,12 +118,8 @@ moment-reloaded : (rows : List Row) (s : State) → s.moment ≤ greatest → re
 moment-reloaded rows s most = reloaded-most (period_by s.configuration) (length s.book.settings) (last_given s) s.moment rows most
 
 act-moment : (rows : List Row) (s : State) (a : Act) → s.moment ≤ greatest → (after_act rows s a).moment ≤ greatest
-act-moment rows s (act.PollRead p n) most = most
-act-moment rows s (act.PollStore p) most = most
-act-moment rows s (act.Command c) most = most
-act-moment rows s (act.Job job) most = most
-act-moment rows s act.Scan most = most
 act-moment rows s act.Restart most = moment-reloaded rows s most
+act-moment rows s _ most = most
 
 done-moment : (rows : List Row) (s : State) (o : Option Act) → s.moment ≤ greatest → (after_done rows s o).moment ≤ greatest
 done-moment rows s None most = most
@@ -232,12 +192,10 @@ logged-done count rows s None is fits = record { apart = is.apart; known = is.kn
 logged-done count rows s (Some a) is fits = logged-act count rows s a is fits
 
 logged-step : (count : ℕ) (rows : List Row) (s : State) (t : Turn) → IsReckoned count s → IsTurn count t → IsLogged count (step rows s t).audit
-logged-step count rows s (turn.Step x) is fits = record { apart = is.apart; known = is.known }
-logged-step count rows s (turn.Tick seconds) is fits = record { apart = is.apart; known = is.known }
 logged-step count rows s (turn.Act a) is fits = logged-act count rows s a is fits
 logged-step count rows s (turn.As node a) is fits = logged-done count rows s (act_in s (turn.As node a)) is (act-fits count s (turn.As node a) fits)
 logged-step count rows s (turn.Claim node) is fits = logged-done count rows s (act_in s (turn.Claim node)) is (act-fits count s (turn.Claim node) fits)
-logged-step count rows s (turn.Release node) is fits = record { apart = is.apart; known = is.known }
+logged-step count rows s _ is fits = record { apart = is.apart; known = is.known }
 
 pub reckoned-step : (count : ℕ) (rows : List Row) (s : State) (t : Turn) → IsReckoned count s → IsTurn count t → IsReckoned count (step rows s t)
 reckoned-step count rows s t is fits =
@@ -291,22 +249,18 @@ next-becomes s xs a apart (inr same) =
     omega (arith, next, more)
 
 act-goes-on : (rows : List Row) (s : State) (a : Act) → s.audit.next ≤ (after_act rows s a).audit.next
-act-goes-on rows s (act.PollRead p n) = omega arith
-act-goes-on rows s (act.PollStore p) = omega arith
 act-goes-on rows s (act.Command c) =
     next-becomes s (recoveries_begun s (turn.Act (act.Command c))) (updated (known_of s) (command_outcome s c).book).audit (turn-apart s (turn.Act (act.Command c))) (command-becomes s c)
 act-goes-on rows s (act.Job job) = let same = closed_by-next s.audit (record { 0 = s.moment }) (closing_of (turned_at s job)) in omega (arith, same)
 act-goes-on rows s act.Scan = next-after (record { 0 = s.moment }) s.audit (recoveries_scanned s) (turn-apart s (turn.Act act.Scan))
-act-goes-on rows s act.Restart = omega arith
+act-goes-on rows s _ = omega arith
 
 done-goes-on : (rows : List Row) (s : State) (o : Option Act) → s.audit.next ≤ (after_done rows s o).audit.next
 done-goes-on rows s None = omega arith
 done-goes-on rows s (Some a) = act-goes-on rows s a
 
 pub next-goes-on : (rows : List Row) (s : State) (t : Turn) → s.audit.next ≤ (step rows s t).audit.next
-next-goes-on rows s (turn.Step x) = omega arith
-next-goes-on rows s (turn.Tick seconds) = omega arith
 next-goes-on rows s (turn.Act a) = act-goes-on rows s a
 next-goes-on rows s (turn.As node a) = done-goes-on rows s (act_in s (turn.As node a))
 next-goes-on rows s (turn.Claim node) = done-goes-on rows s (act_in s (turn.Claim node))
-next-goes-on rows s (turn.Release node) = omega arith
+next-goes-on rows s _ = omega arith

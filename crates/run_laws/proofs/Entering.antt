@@ -1,23 +1,13 @@
 -- One more recovery, with the next id, is kept.
 use Rattle.std.proofs.Common.{◌≡◌, ◌≢◌, ◌∙◌, ℕ, ◌+◌, ◌-◌, ◌<◌, ◌≤◌, ◌^◌, Bool, true, false, leb, List, [], ◌∷◌, refl, sym, ap, subst, inl, inr, Option, Some, None, arith}
 use Rattle.std.specs.Prelude.{◌==◌, ◌⊎◌, ◌&&◌, if◌then◌else◌}
-use Rattle.std.specs.Option.{option_or}
-use Rattle.std.proofs.lemmas.Bool.{cases_lt, eq-eqb, eqb-true, false≢true, le-leb, leb-true, ne_eqb}
-use Rattle.std.proofs.lemmas.List.Elements.{All-weaker}
-use Rattle.std.proofs.lemmas.List.Folds.{find-append}
-use Rattle.audit_log.proofs.Changes.{IsAudit-begun, none-at}
-use Rattle.audit_log.specs.Audits.{AuditState, begun, longest_block, recovery_at}
-use Rattle.kept_rows.proofs.LookUps.{row_in-changed_by}
-use Rattle.kept_rows.specs.Servers.{are_known, ending_servers}
-use Rattle.kept_rows.specs.Rows.{changed_by, row_after, row_at, row_in, sort_key, sort_key_of}
-use Rattle.kept_rows.specs.declared.recovery.Recovery.{Recovery}
-use Rattle.kept_rows.specs.declared.row.Key.TheVariants as key
-use Rattle.kept_rows.specs.declared.row.Row.{Row}
-use Rattle.kept_rows.specs.declared.row.Row.TheVariants as row
-use Rattle.kept_rows.specs.declared.row.Table.TheVariants as table
-use Rattle.opening_book.specs.Counting.{counts, greatest, is_block_in_range, is_end_in_range}
-use Rattle.opening_book.specs.Following.{FollowAudit, IsAudited}
-use Rattle.kept_rows.specs.Recoveries.{as_row, put_recovery}
+use Rattle.run_laws.proofs.Prelude.{All-weaker, AuditState, FollowAudit, IsAudit-begun, IsAudited, Recovery, Row, are_known, as_row, begun, cases_lt}
+use Rattle.run_laws.proofs.Prelude.{changed_by, counts, ending_servers, eq-eqb, eqb-true, false≢true, find-append, greatest, is_block_in_range}
+use Rattle.run_laws.proofs.Prelude.{is_end_in_range, le-leb, leb-true, longest_block, ne_eqb, none-at, option_or, put_recovery, recovery_at}
+use Rattle.run_laws.proofs.Prelude.{row_after, row_at, row_in, row_in-changed_by, sort_key, sort_key_of}
+use Rattle.run_laws.proofs.Prelude.kept_row as row
+use Rattle.run_laws.proofs.Prelude.key
+use Rattle.run_laws.proofs.Prelude.table
 
 -- where the recovery of an id stands
 abbrev at : ℕ → ℕ
@@ -48,22 +38,16 @@ leb-on m n other off = go (leb m n) refl (cases_lt m n)
     go true is (inr more) = let low = leb-true m n is in absurd (other (omega (arith, low, more)))
 
 and-on : (a b c d e : Bool) → (d ≡ false → e ≡ false) → (a && ((b && d) && c)) ≡ false → (a && ((b && e) && c)) ≡ false
-and-on false b c d e on off = refl
-and-on true false c d e on off = refl
 and-on true true c false e on off = ap (λ (x : Bool). x && c) (on refl)
 and-on true true c true true on off = off
-and-on true true c true false on off = refl
+and-on _ _ c _ _ on off = refl
 
 counts-on : (count next id : ℕ) (x : Row) → sort_key_of x ≡ at id → id ≢ next → counts count (next - 1) x ≡ false → counts count next x ≡ false
-counts-on count next id (row.Instance i) is other off = off
-counts-on count next id (row.Downtime d) is other off = off
-counts-on count next id (row.Candidate c) is other off = off
-counts-on count next id (row.Switch e) is other off = off
-counts-on count next id (row.Active node end) is other off = off
 counts-on count next id (row.Recovery y) is other off =
     let same : y.id ≡ id = omega (arith, is) in
     and-on (are_known count (y.failed.0 ∷ ending_servers y.outcome)) (leb 1 y.id) (leb y.begun.0 greatest && (is_end_in_range y.ended && is_block_in_range y.block)) (leb y.id (next - 1)) (leb y.id next)
     (leb-on y.id next (λ e. other (sym same ∙ e))) off
+counts-on count next id _ is other off = off
 
 or-none : (o : Option Recovery) → option_or o None ≡ o
 or-none None = refl

@@ -1,71 +1,30 @@
 -- What becomes of an entry of the audit with a turn.
 use Rattle.std.proofs.Common.{◌≡◌, ◌∙◌, ℕ, ◌+◌, Bool, true, false, List, [], ◌∷◌, ◌++◌, append_assoc, length, map, refl, sym, ap, subst, Option, Some, None, Result, Ok, Err}
 use Rattle.std.specs.Prelude.{◌==◌, ◌||◌, if◌then◌else◌}
-use Rattle.std.specs.Option.{option_map}
-use Rattle.std.proofs.lemmas.Bool.{false≢true}
-use Rattle.std.proofs.lemmas.List.{append-nil}
-use Rattle.asking_commands.specs.Answers.{allowed, lines_of, permitted}
-use Rattle.audit_log.specs.Audits.{AuditState, begun, closed}
-use Rattle.book_commands.specs.Decisions.{audit_after as audit_decided, decided_of, effect_by}
-use Rattle.book_commands.specs.declared.decided.Decided.{Decided}
-use Rattle.command_jobs.specs.Jobs.{job_by, leases_by, refusal_by}
-use Rattle.command_routes.specs.declared.route.Decision.{Decision}
-use Rattle.command_routes.specs.declared.route.Decision.TheVariants as decision
-use Rattle.command_routes.specs.declared.route.Route.{Route}
-use Rattle.command_routes.specs.declared.route.Route.TheVariants.{Discovers, Forgets, Asks, Decides, Begins, Recovers, TakesOver}
-use Rattle.command_routes.specs.Routes.{route_of}
-use Rattle.commands.specs.Causes.{cause_name}
-use Rattle.commands.specs.declared.line.Line.{Line}
-use Rattle.commands.specs.declared.refusal.Refusal.{Refusal}
-use Rattle.commands.specs.declared.refusal.Refusal.TheVariants.{UnknownInstance}
-use Rattle.commands.specs.declared.turn.CommandTurn.{CommandTurn}
-use Rattle.instance_keeper.specs.Book.{BookState}
-use Rattle.jobs_in_flight.specs.Jobs.{job_at}
-use Rattle.kept_rows.specs.declared.observation.Observation.{Observation}
-use Rattle.kept_rows.specs.declared.recovery.Recovery.{Recovery as KeptRecovery}
-use Rattle.kept_rows.specs.declared.row.Change.{Change}
-use Rattle.kept_rows.specs.declared.row.Row.{Row}
-use Rattle.operations.specs.declared.step.JobStep.{JobStep}
-use Rattle.operations.specs.declared.step.JobStep.TheVariants as step
-use Rattle.orch_base.specs.Memory.{next_count}
-use Rattle.orch_base.specs.declared.recovery.Ending.{Ending}
-use Rattle.orch_base.specs.declared.recovery.Ending.TheVariants as ending
-use Rattle.orch_base.specs.declared.server.Moment.{Moment}
-use Rattle.orch_base.specs.declared.server.ServerNo.{ServerNo}
-use Rattle.recovery_core.specs.Begun.{audit_after}
-use Rattle.recovery_core.specs.Endings.{done_with}
-use Rattle.recovery_core.specs.Tries.{Begins as RecoveryBegins, recovery_try, takeover_try}
-use Rattle.recovery_plans.specs.Beginning.{is_takeover}
-use Rattle.recovery_plans.specs.Recoveries.{Recovery}
-use Rattle.recovery_plans.specs.Taking.{Taken}
-use Rattle.scenarios.specs.declared.scenario.Scenario.{Scenario}
-use Rattle.server_words.specs.declared.status.Status.{Status as Seen}
-use Rattle.turns.specs.declared.turn.Act.{Act}
-use Rattle.turns.specs.declared.turn.Act.TheVariants as act
-use Rattle.turns.specs.declared.turn.Turn.{Turn}
-use Rattle.turns.specs.declared.turn.Turn.TheVariants as turn
-use Rattle.unended_jobs.specs.Hooked.{hooked}
-use Rattle.unended_jobs.specs.declared.unended.Unended.{Unended}
-use Rattle.unended_jobs.specs.declared.unended.Unended.TheVariants as unended
-use Rattle.orch_core.specs.After.{after_act, after_done}
-use Rattle.orch_core.proofs.Closed.{flown-entry}
-use Rattle.knowledge.specs.Closings.{closed_by, closing_at, closing_for, closing_of}
-use Rattle.command_outcomes.specs.Commands.{Outcome, about as given_or, asked, begun as job_begun, by_hand, decided, discovered, forgotten, next_reading, outcome_by, outcome_of, question, recovered, recovery_begun, refusal, removal_refusal, taken_over}
-use Rattle.command_outcomes.specs.HookTelling.{told_try}
-use Rattle.orch_core.specs.Jobs.{turn_of}
-use Rattle.orch_core.specs.Nodes.{act_in}
-use Rattle.orch_core.specs.Runs.{act_asks, asks, done_asks}
-use Rattle.knowledge.specs.Knowing.{updated}
-use Rattle.orch_core.specs.Polls.{command_outcome, numbers_of}
-use Rattle.orch_core.specs.Restarts.{interrupted_at}
-use Rattle.orch_core.specs.Settling.{known_of}
-use Rattle.orch_core.specs.States.{State}
+use Rattle.run_laws.proofs.Prelude.{Act, Asks, AuditIs, AuditState, Begins as RecoveryBegins, BookState, Change, ComesTo, CommandTurn, Decided}
+use Rattle.run_laws.proofs.Prelude.{Decides, Decision, Discovers, Ending, Forgets, JobStep, Line, Moment, Observation, Outcome, Recovers}
+use Rattle.run_laws.proofs.Prelude.{Recovery as KeptRecovery, Refusal, RestartKeepsAll, Route, Row, Scenario, ServerNo, State, Status as Seen, Taken}
+use Rattle.run_laws.proofs.Prelude.{TakesOver, Turn, Unended, UnknownInstance, about as given_or, acked_in, act_asks, act_in, after_act, after_done}
+use Rattle.run_laws.proofs.Prelude.{allowed, append-nil, asked, asks, audit_after, begun, by_hand, cause_name, closed, closed_by, closing_at}
+use Rattle.run_laws.proofs.Prelude.{closing_for, closing_of, cluster_acked, cluster_decided, cluster_of, command_outcome, decided, decided_of}
+use Rattle.run_laws.proofs.Prelude.{discovered, done_asks, done_with, effect_by, entries_of, entry_by_job, entry_in_act, entry_in_done, entry_of_turn}
+use Rattle.run_laws.proofs.Prelude.{entry_then, false≢true, flown-entry, forgotten, hooked, interrupted_at, is_takeover, job_at, job_by, known_of}
+use Rattle.run_laws.proofs.Prelude.{leases_by, lines_of, next_count, next_reading, numbers_of, option_map, outcome_by, outcome_of, permitted}
+use Rattle.run_laws.proofs.Prelude.{question, recovered, recoveries_by, recoveries_done, recoveries_in_act, recoveries_of, recoveries_scanned}
+use Rattle.run_laws.proofs.Prelude.{recovery_begun, recovery_try, refusal, refusal_by, removal_refusal, route_of, taken_over, takeover_try}
+use Rattle.run_laws.proofs.Prelude.{takeovers_by, takeovers_of, told_try, tried, turn_of, updated}
+use Rattle.run_laws.proofs.Prelude.Outcomes.{begun as job_begun}
+use Rattle.run_laws.proofs.Prelude.Decisions.{audit_after as audit_decided}
+use Rattle.run_laws.proofs.Prelude.RecoveryPlans.{Recovery}
+use Rattle.run_laws.proofs.Prelude.route.{Begins}
+use Rattle.run_laws.proofs.Prelude.act
+use Rattle.run_laws.proofs.Prelude.decision
+use Rattle.run_laws.proofs.Prelude.ending
+use Rattle.run_laws.proofs.Prelude.jobstep as step
+use Rattle.run_laws.proofs.Prelude.turn
+use Rattle.run_laws.proofs.Prelude.unended
 use Rattle.run_laws.proofs.Closings.{ended-map, ended_as, ended_in, ended_with}
 use Rattle.run_laws.proofs.Reloads.{reloaded-comes}
-use Rattle.run_laws.specs.Begins.{entries_of}
-use Rattle.run_laws.specs.Entries.{recoveries_by, recoveries_done, recoveries_in_act, recoveries_of, recoveries_scanned, takeovers_by, takeovers_of, tried}
-use Rattle.run_laws.specs.Fates.{AuditIs, RestartKeepsAll, acked_in, cluster_acked, cluster_decided, cluster_of, entry_by_job, entry_in_act, entry_in_done, entry_then, entry_of_turn}
-use Rattle.run_laws.specs.Runs.{ComesTo}
 
 -- ---- lists
 
@@ -257,12 +216,10 @@ done-fates rows s None off = stays s.audit.recoveries
 done-fates rows s (Some a) off = act-fates rows s a off
 
 pub turn-fates : (rows : List Row) (s : State) (t : Turn) → asks s t ≡ false → AuditIs rows s t
-turn-fates rows s (turn.Step x) off = stays s.audit.recoveries
-turn-fates rows s (turn.Tick seconds) off = stays s.audit.recoveries
 turn-fates rows s (turn.Act a) off = act-fates rows s a off
 turn-fates rows s (turn.As node a) off = done-fates rows s (act_in s (turn.As node a)) off
 turn-fates rows s (turn.Claim node) off = done-fates rows s (act_in s (turn.Claim node)) off
-turn-fates rows s (turn.Release node) off = stays s.audit.recoveries
+turn-fates rows s _ off = stays s.audit.recoveries
 
 pub restart-comes : (s : Scenario) (xs : List (List Row × Turn)) (last : State) (rows : List Row) → ComesTo s xs last → RestartKeepsAll (length s.opening.servers) rows last
 restart-comes s xs last rows comes rising follow = ap (λ (a : AuditState). closed a (interrupted_at rows last)) (reloaded-comes s xs last rows comes rising follow)

@@ -1,54 +1,25 @@
 -- Each turn of a run is its passages.
 use Rattle.std.proofs.Common.{◌≡◌, ◌∙◌, ℕ, Bool, true, false, List, [], ◌∷◌, length, refl, sym, ap, Option, Some, None, zero, suc}
 use Rattle.std.specs.Prelude.{is_some, map, nat_lt, not, replicate, slice_index_or, slice_set, if◌then◌else◌, IfSome}
-use Rattle.std.specs.Option.{option_map}
-use Rattle.std.proofs.lemmas.Bool.{false≢true}
-use Rattle.orch_base.specs.declared.server.Settings.{Settings}
-use Rattle.orch_base.specs.declared.server.ServerNo.{ServerNo}
-use Rattle.orch_base.specs.Memory.{next_count}
-use Rattle.instance_keeper.specs.declared.bridge.Bridge.{Bridge}
-use Rattle.kept_rows.specs.declared.observation.Instance.{Instance}
-use Rattle.kept_rows.specs.declared.observation.Observation.{Observation}
-use Rattle.kept_rows.specs.declared.row.Row.{Row}
-use Rattle.kept_rows.specs.declared.row.Row.TheVariants as row
-use Rattle.kept_rows.specs.Servers.{row_fits}
-use Rattle.instance_keeper.specs.Book.{BookState, after_put, after_row, empty_book, instance_at, renewed, renewed_book, stored_over}
-use Rattle.instance_keeper.specs.Leases.{given_back}
-use Rattle.opening_book.specs.Counting.{counted, loaded}
-use Rattle.server_model.specs.Run.{Exchange, run}
-use Rattle.turns.specs.declared.turn.Act.{Act}
-use Rattle.turns.specs.declared.turn.Act.TheVariants as act
-use Rattle.turns.specs.declared.turn.Turn.{Turn}
-use Rattle.turns.specs.declared.turn.Turn.TheVariants as turn
-use Rattle.scenarios.specs.Turns.{IsAct, IsTurn}
-use Rattle.operations.specs.Jobs.{Job}
-use Rattle.operations.specs.declared.step.JobStep.{JobStep}
-use Rattle.operations.specs.Turns.{is_going, turned}
-use Rattle.recovery_plans.specs.Recoveries.{Recovery}
-use Rattle.recovery_plans.specs.Taking.{taken}
-use Rattle.recovery_laws.specs.Passing.{core_by}
-use Rattle.unended_jobs.specs.declared.unended.Unended.{Unended}
-use Rattle.unended_jobs.specs.declared.unended.Unended.TheVariants as unended
-use Rattle.unended_jobs.specs.Hooked.{hooked}
-use Rattle.unended_jobs.specs.Unended.{core_of}
-use Rattle.unended_laws.proofs.Cores.{core-found, cores-replaced, cores-without}
-use Rattle.job_laws.specs.Flights.{Flight, no_leases, replaced, without_job as without_core, without_leases as no_longer}
-use Rattle.job_laws.specs.Leases.{leases_of, job_at as core_at}
-use Rattle.job_laws.specs.Passages as pass
-use Rattle.job_laws.specs.Passages.{AllMayPass, passing, stored_if, turned_by}
-use Rattle.job_laws.proofs.Listed.{given-leases}
-use Rattle.jobs_in_flight.specs.Jobs.{book_turned, job_at, job_exchanges, jobs_turned, stored, with_job, without_job, without_leases}
-use Rattle.orch_core.specs.Jobs.{turn_of}
-use Rattle.orch_core.specs.Polls.{empty_slots, reading, slot_at}
-use Rattle.orch_core.specs.Restarts.{last_given, reloaded_book}
-use Rattle.orch_core.specs.After.{after_act, after_restart, step, after_done}
-use Rattle.orch_core.specs.States.{State}
-use Rattle.run_laws.specs.Flights.{act_passages, by_job, flight_of, moment_at, passages_of, takes, takes_over, done_passages}
+use Rattle.run_laws.proofs.Prelude.{Act, AllMayPass, BookState, Bridge, Exchange, Flight, Instance, IsAct, IsTurn, Job, JobStep, Observation, Ready}
+use Rattle.run_laws.proofs.Prelude.{Row, ServerNo, Settings, State, Turn, Unended, act-fits, act_in, act_passages, after_act, after_done, after_put}
+use Rattle.run_laws.proofs.Prelude.{after_restart, after_row, book_turned, by_job, core-found, core_by, core_of, cores-replaced, cores-without}
+use Rattle.run_laws.proofs.Prelude.{counted, done_passages, empty_book, empty_slots, false≢true, flight_of, given-leases, given_back, hooked}
+use Rattle.run_laws.proofs.Prelude.{instance_at, is_going, job_at, job_exchanges, jobs_turned, last_given, leases_of, loaded, moment_at, next_count}
+use Rattle.run_laws.proofs.Prelude.{no_leases, option_map, passages_of, passing, reading, reloaded_book, renewed, renewed_book, replaced, row_fits}
+use Rattle.run_laws.proofs.Prelude.{run, slot_at, step, stored, stored_if, stored_over, takes, takes_over, turn_of, turned, turned_by, with_job}
+use Rattle.run_laws.proofs.Prelude.{without_job, without_leases}
+use Rattle.run_laws.proofs.Prelude.Flights.{without_job as without_core, without_leases as no_longer}
+use Rattle.run_laws.proofs.Prelude.JobLaws.{job_at as core_at}
+use Rattle.run_laws.proofs.Prelude.RecoveryPlans.{Recovery}
+use Rattle.run_laws.proofs.Prelude.taking.{taken}
+use Rattle.run_laws.proofs.Prelude.act
+use Rattle.run_laws.proofs.Prelude.kept_row as row
+use Rattle.run_laws.proofs.Prelude.pass
+use Rattle.run_laws.proofs.Prelude.turn
+use Rattle.run_laws.proofs.Prelude.unended
 use Rattle.run_laws.proofs.FlownOutcomes.{Leaves-command, Leaves-scan}
-use Rattle.run_laws.specs.Ready.{Ready}
 use Rattle.run_laws.proofs.Ready.{settings-count}
-use Rattle.orch_core.specs.Nodes.{act_in}
-use Rattle.orch_core.proofs.Claims.{act-fits}
 
 -- ---- a reading that is stored
 
@@ -149,11 +120,7 @@ rings-rows b (r ∷ rows) = rings-rows (after_row b r) rows ∙ one (row_fits (l
   where
     put : (r : Row) → (after_put b r).rings ≡ b.rings
     put (row.Instance i) = refl
-    put (row.Downtime d) = refl
-    put (row.Candidate c) = refl
-    put (row.Recovery r) = refl
-    put (row.Switch enabled) = refl
-    put (row.Active node until) = refl
+    put _ = refl
 
     one : (fit : Bool) (r : Row) → (if fit then after_put b r else b).rings ≡ b.rings
     one true r = put r
@@ -165,11 +132,7 @@ leases-rows b (r ∷ rows) = leases-rows (after_row b r) rows ∙ one (row_fits 
   where
     put : (r : Row) → (after_put b r).leases ≡ b.leases
     put (row.Instance i) = refl
-    put (row.Downtime d) = refl
-    put (row.Candidate c) = refl
-    put (row.Recovery r) = refl
-    put (row.Switch enabled) = refl
-    put (row.Active node until) = refl
+    put _ = refl
 
     one : (fit : Bool) (r : Row) → (if fit then after_put b r else b).leases ≡ b.leases
     one true r = put r
@@ -215,9 +178,7 @@ flown-done count rows s None ready is = refl
 flown-done count rows s (Some a) ready is = flown-act count rows s a ready is
 
 pub flown : (count : ℕ) (rows : List Row) (s : State) (t : Turn) → Ready count s → IsTurn count t → flight_of (step rows s t) ≡ passing (flight_of s) (passages_of s t)
-flown count rows s (turn.Step x) ready is = refl
-flown count rows s (turn.Tick seconds) ready is = refl
 flown count rows s (turn.Act a) ready is = flown-act count rows s a ready is
 flown count rows s (turn.As node a) ready is = flown-done count rows s (act_in s (turn.As node a)) ready (act-fits count s (turn.As node a) is)
 flown count rows s (turn.Claim node) ready is = flown-done count rows s (act_in s (turn.Claim node)) ready (act-fits count s (turn.Claim node) is)
-flown count rows s (turn.Release node) ready is = refl
+flown count rows s _ ready is = refl

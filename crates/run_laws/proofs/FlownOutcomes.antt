@@ -1,97 +1,47 @@
 -- A command or a scan leaves what its passages leave.
 use Rattle.std.proofs.Common.{◌≡◌, ◌∙◌, ℕ, ◌+◌, ◌<◌, ◌≤◌, Bool, true, false, List, [], ◌∷◌, ◌++◌, length, refl, sym, ap, subst, Option, Some, None, Result, Ok, Err}
 use Rattle.std.specs.Prelude.{All, ◌&&◌, ◌==◌, is_some, map, nat_lt, not, if◌then◌else◌}
-use Rattle.std.proofs.lemmas.Bool.{ltb-true}
-use Rattle.orch_base.specs.declared.server.ServerNo.{ServerNo}
-use Rattle.orch_base.specs.Memory.{next_count}
-use Rattle.server_words.specs.declared.status.Status.{Status as Seen}
-use Rattle.kept_rows.specs.declared.observation.Instance.{Instance}
-use Rattle.kept_rows.specs.declared.observation.Observation.{Observation}
-use Rattle.instance_keeper.specs.Book.{BookState, IsBook, added_over, after_change, after_put, discovered_over, downtime_at, instance_at, renewed, renewed_book}
-use Rattle.instance_keeper.specs.declared.bridge.Bridge.{Bridge}
-use Rattle.instance_keeper.specs.Bridges.{bridge_in, ringed}
-use Rattle.commands.specs.declared.line.Line.{Line}
-use Rattle.commands.specs.declared.refusal.Refusal.{Refusal}
-use Rattle.commands.specs.declared.refusal.Refusal.TheVariants.{UnknownInstance, Unreachable}
-use Rattle.command_routes.specs.declared.route.Decision.{Decision}
-use Rattle.command_routes.specs.declared.route.Decision.TheVariants as decision
-use Rattle.command_routes.specs.declared.route.Planner.{Planner}
-use Rattle.command_routes.specs.declared.route.Planner.TheVariants.{Coordinates, Gtids, Matches, Paths, Regroups}
-use Rattle.command_routes.specs.declared.kinds.Regrouping.TheVariants.{ByBridges, ByMatches}
-use Rattle.command_routes.specs.declared.route.Route.{Route}
-use Rattle.command_routes.specs.declared.route.Route.TheVariants.{Discovers, Forgets, Asks, Decides, Begins, Recovers, TakesOver}
-use Rattle.command_routes.specs.Routes.{planner_of, route_of}
-use Rattle.command_jobs.specs.Jobs.{job_by, leases_by, planner_for, refusal_by, regroup_about}
-use Rattle.command_jobs.proofs.Begun.{job-number}
-use Rattle.commands.specs.declared.turn.Command.{Command}
-use Rattle.commands.specs.declared.turn.CommandTurn.{CommandTurn}
-use Rattle.commands.specs.Turns.{is_within}
-use Rattle.asking_commands.specs.Answers.{allowed, lines_of, permitted}
-use Rattle.book_views.specs.Sources.{label_at, replicas_of}
-use Rattle.audit_log.specs.Audits.{AuditState, longest_block}
-use Rattle.book_commands.specs.declared.decided.Decided.{Decided}
-use Rattle.book_commands.specs.declared.decided.Effect.{Effect}
-use Rattle.book_commands.specs.declared.decided.Effect.TheVariants as effect
-use Rattle.book_commands.specs.Decisions.{about, acked, candidate_of, decided_of, downtime_begun, downtime_ended, downtime_of, downtime_removal, effect_by, registered}
-use Rattle.commands.specs.declared.turn.Keys.{Keys}
-use Rattle.orch_base.specs.declared.server.Moment.{Moment}
-use Rattle.instance_keeper.specs.Had.{has_row, put_change}
-use Rattle.kept_rows.specs.declared.row.Change.TheVariants as change
-use Rattle.kept_rows.specs.declared.row.Key.TheVariants as key
-use Rattle.kept_rows.specs.declared.row.Row.{Row}
-use Rattle.kept_rows.specs.declared.row.Row.TheVariants as row
-use Rattle.kept_rows.specs.declared.row.Table.TheVariants as table
-use Rattle.job_laws.specs.Flights.{Flight, leased_to}
-use Rattle.job_laws.specs.Leases.{Begins as JobBegins, Leases, leases_of}
-use Rattle.job_laws.specs.Passages as pass
-use Rattle.job_laws.specs.Passages.{AllMayPass, AllPassWell, Passage, passing}
-use Rattle.job_laws.proofs.Listed.{taken-leases}
-use Rattle.move_laws.proofs.Begun as coords
-use Rattle.move_laws.proofs.BegunGtid as gtids
-use Rattle.move_laws.proofs.BegunMatch as matches
-use Rattle.path_laws.proofs.Begun as paths
-use Rattle.operations.specs.Jobs.{Job}
-use Rattle.permission.specs.Rows.{about as about_given, about_one}
-use Rattle.recovery_plans.specs.declared.means.Means.{Means}
-use Rattle.recovery_plans.specs.declared.means.Means.TheVariants as means
-use Rattle.recovery_plans.specs.declared.purpose.Purpose.TheVariants as purpose
-use Rattle.pseudo_match.specs.Permits.{list_of as match_list}
-use Rattle.pseudo_match.specs.declared.command.PseudoCommand.{PseudoCommand}
-use Rattle.pseudo_match.specs.declared.command.PseudoCommand.TheVariants as matching
-use Rattle.regroup.specs.Permits.{list_of}
-use Rattle.regroup.specs.declared.command.RegroupCommand.{RegroupCommand}
-use Rattle.regroup.specs.declared.command.RegroupCommand.TheVariants as command
-use Rattle.std.specs.List.{list_any}
-use Rattle.server_model.specs.Safe.{IsQuiet}
-use Rattle.server_model.specs.Worlds.{World}
-use Rattle.recovery_core.proofs.Beginning.{recovery-begins, takeover-begins}
-use Rattle.recovery_core.proofs.InTurn.{scan-in-turn}
-use Rattle.recovery_core.specs.Begun.{BeginInTurn, CanBegin, leases_after}
-use Rattle.recovery_core.specs.Tries.{Begins as RecoveryBegins, recovery_try, takeover_try}
-use Rattle.knowledge.specs.Knowing.{recovery_job, updated}
-use Rattle.command_outcomes.specs.Commands.{Outcome, about as given_or, asked, begun, by_hand, decided, discovered, forgotten, outcome_by, outcome_of, question, recovered, recovery_begun, refusal, removal_refusal, taken_over}
-use Rattle.command_outcomes.specs.HookTelling.{told_try, with_told}
-use Rattle.command_outcomes.specs.Periods.{period_by}
-use Rattle.command_outcomes.proofs.HookTold.{told-can, told-in-turn}
-use Rattle.orch_core.specs.Polls.{command_outcome, numbers_of, reading, scan_outcome}
-use Rattle.orch_core.specs.States.{State}
-use Rattle.orch_core.proofs.Beginnings.{may-take}
-use Rattle.orch_core.specs.Settling.{known_of}
-use Rattle.scenarios.specs.Turns.{IsCommand}
-use Rattle.run_laws.specs.Entries.{attempt_in, recoveries_scanned, scan_in}
+use Rattle.run_laws.proofs.Prelude.{AllMayPass, AllPassWell, AreShort, Asks, AuditState, BeginInTurn, Begins as RecoveryBegins, BookState, Bridge}
+use Rattle.run_laws.proofs.Prelude.{ByBridges, ByMatches, CanBegin, Command, CommandTurn, Coordinates, Decided, Decides, Decision, Discovers, Effect}
+use Rattle.run_laws.proofs.Prelude.{Flight, Forgets, Gtids, HeldJobs, HeldState, Instance, IsBook, IsCommand, IsHeldBeside, IsQuiet, IsSoundBeside}
+use Rattle.run_laws.proofs.Prelude.{Job, Keys, Leases, Line, Matches, Means, Moment, Observation, Outcome, Passage, Paths, Planner, PseudoCommand}
+use Rattle.run_laws.proofs.Prelude.{Ready, Recovers, Refusal, RegroupCommand, Regroups, Route, Row, ServerNo, SoundJobs, SoundState, State}
+use Rattle.run_laws.proofs.Prelude.{Status as Seen, TakesOver, UnknownInstance, Unreachable, World, about as given_or, about_one, acked, added_over}
+use Rattle.run_laws.proofs.Prelude.{after_change, after_put, allowed, apart-held, apart-sound, asked, attempt_in, begin-held, begin-sound, bridge_in}
+use Rattle.run_laws.proofs.Prelude.{by_command, by_discovery, by_hand, by_instance, by_permission, by_recoveries, by_recovery, by_removal, by_route}
+use Rattle.run_laws.proofs.Prelude.{by_takeover, by_try, candidate_of, command_outcome, core_of, cores-joined, decided, decided_of, discovered}
+use Rattle.run_laws.proofs.Prelude.{discovered_over, downtime_at, downtime_begun, downtime_ended, downtime_of, downtime_removal, effect_by, flight_of}
+use Rattle.run_laws.proofs.Prelude.{forgotten, has_row, instance_at, is_within, job-number, job_by, known_of, label_at, leased_to, leases_after}
+use Rattle.run_laws.proofs.Prelude.{leases_by, leases_of, lines_of, list_any, list_of, longest_block, ltb-true, may-take, moment_at, next_count}
+use Rattle.run_laws.proofs.Prelude.{no_docket, number_of, numbers_of, outcome_by, outcome_of, passing, period_by, permitted, planner_for, planner_of}
+use Rattle.run_laws.proofs.Prelude.{put_change, question, reading, recovered, recoveries_scanned, recovery-begins, recovery-held, recovery-sound}
+use Rattle.run_laws.proofs.Prelude.{recovery_begun, recovery_job, recovery_try, refusal, refusal_by, regroup_about, removal_refusal, renewed}
+use Rattle.run_laws.proofs.Prelude.{renewed_book, replicas_of, ringed, route_of, scan-in-turn, scan_in, scan_outcome, taken-leases, taken_over}
+use Rattle.run_laws.proofs.Prelude.{takeover-begins, takeover_try, takes_first, told-can, told-in-turn, told_try, updated, with_told}
+use Rattle.run_laws.proofs.Prelude.Outcomes.{begun}
+use Rattle.run_laws.proofs.Prelude.Decisions.{about, registered}
+use Rattle.run_laws.proofs.Prelude.JobLaws.{Begins as JobBegins}
+use Rattle.run_laws.proofs.Prelude.Permits.{list_of as match_list}
+use Rattle.run_laws.proofs.Prelude.Rows.{about as about_given}
+use Rattle.run_laws.proofs.Prelude.route.{Begins}
+use Rattle.run_laws.proofs.Prelude.change
+use Rattle.run_laws.proofs.Prelude.command
+use Rattle.run_laws.proofs.Prelude.coords
+use Rattle.run_laws.proofs.Prelude.decision
+use Rattle.run_laws.proofs.Prelude.effect
+use Rattle.run_laws.proofs.Prelude.gtids
+use Rattle.run_laws.proofs.Prelude.kept_row as row
+use Rattle.run_laws.proofs.Prelude.key
+use Rattle.run_laws.proofs.Prelude.matches
+use Rattle.run_laws.proofs.Prelude.matching
+use Rattle.run_laws.proofs.Prelude.means
+use Rattle.run_laws.proofs.Prelude.pass
+use Rattle.run_laws.proofs.Prelude.paths
+use Rattle.run_laws.proofs.Prelude.purpose
+use Rattle.run_laws.proofs.Prelude.table
 use Rattle.run_laws.proofs.Periods.{short-by}
-use Rattle.run_laws.specs.Flights.{by_command, by_discovery, by_instance, by_permission, by_recoveries, by_recovery, by_removal, by_route, by_takeover, by_try, flight_of, moment_at, takes_first}
-use Rattle.run_laws.specs.States.{HeldState, SoundState}
-use Rattle.run_laws.specs.Ready.{AreShort, Ready}
 use Rattle.run_laws.proofs.ReadyOutcomes.{within-book}
 use Rattle.run_laws.proofs.Routed.{matched-regroups-only, regroups-only}
-use Rattle.unended_jobs.specs.Hooked.{no_docket}
-use Rattle.unended_jobs.specs.Unended.{core_of, number_of}
-use Rattle.unended_laws.specs.Beside.{IsHeldBeside, IsSoundBeside}
-use Rattle.unended_laws.specs.Flights.{HeldJobs, SoundJobs}
-use Rattle.unended_laws.proofs.Cores.{cores-joined}
-use Rattle.unended_laws.proofs.Beside.{apart-held, apart-sound}
-use Rattle.unended_laws.proofs.Begun.{begin-held, begin-sound, recovery-held, recovery-sound}
 use Rattle.run_laws.proofs.Listing.{listed-behind}
 use Rattle.run_laws.proofs.Recoveries.{recoveries-flown, recoveries-held, recoveries-may, recoveries-sound, recoveries-well}
 
@@ -206,26 +156,20 @@ matched-beside w b l c id wait every (Some i) d = recovery-held w l (i ∷ repli
 
 job-beside : (w : World) (b : BookState) (l : Leases) (c : Command) (p : Planner) (id wait every : ℕ) → planner_for c.name ≡ Some p
     → IsHeldBeside w (leased_to l (leases_by w b c p) id) (job_by w b c p id wait every)
-job-beside w b l c (Coordinates kind) id wait every by = tt
-job-beside w b l c (Gtids kind) id wait every by = tt
-job-beside w b l c (Paths kind) id wait every by = tt
-job-beside w b l c (Matches kind) id wait every by = tt
 job-beside w b l c (Regroups ByMatches) id wait every by =
     subst (λ (r : Option PseudoCommand). IsHeldBeside w (leased_to l (about_given [] (match_list b) r c) id) (regroup_about b (means.Matches every) id wait c.i)) (sym (matched-regroups-only c.name by)) (matched-beside w b l c id wait every c.i c.d)
 job-beside w b l c (Regroups ByBridges) id wait every by =
     subst (λ (r : Option RegroupCommand). IsHeldBeside w (leased_to l (about_given [] (list_of w b) r c) id) (regroup_about b means.Bridges id wait c.i)) (sym (regroups-only c.name by)) (regroup-beside w b l c id wait c.i c.d)
+job-beside w b l c _ id wait every by = tt
 
 regroup-sound : (w : World) (b : BookState) (by : Means) (id wait : ℕ) (i : Option ServerNo) → IsSoundBeside w (regroup_about b by id wait i)
 regroup-sound w b by id wait None = tt
 regroup-sound w b by id wait (Some i) = recovery-sound w purpose.Regroup by id wait i (replicas_of b i) (replicas_of b i) no_docket
 
 job-sound : (w : World) (b : BookState) (c : Command) (p : Planner) (id wait every : ℕ) → IsSoundBeside w (job_by w b c p id wait every)
-job-sound w b c (Coordinates kind) id wait every = tt
-job-sound w b c (Gtids kind) id wait every = tt
-job-sound w b c (Paths kind) id wait every = tt
-job-sound w b c (Matches kind) id wait every = tt
 job-sound w b c (Regroups ByMatches) id wait every = regroup-sound w b (means.Matches every) id wait c.i
 job-sound w b c (Regroups ByBridges) id wait every = regroup-sound w b means.Bridges id wait c.i
+job-sound w b c _ id wait every = tt
 
 module _ (s : State) where
   -- what changes neither bridges nor leases nor jobs passes nothing

@@ -1,100 +1,43 @@
 -- Kept rows follow the book of a run.
 use Rattle.std.proofs.Common.{◌≡◌, ◌∙◌, ℕ, ◌+◌, ◌<◌, ◌≤◌, ◌^◌, Bool, true, false, List, [], ◌∷◌, ◌++◌, length, map, refl, sym, ap, subst, Option, Some, None, Result, Ok, Err, zero, suc, arith}
 use Rattle.std.specs.Prelude.{All, IfSome, nat_lt, slice_index_or, slice_set, if◌then◌else◌}
-use Rattle.std.specs.Option.{option_map, option_to_list}
-use Rattle.std.proofs.lemmas.Bool.{ltb-true}
-use Rattle.audit_log.specs.Audits.{AuditState, IsAudit, acking, closing, recovery_at}
-use Rattle.book_commands.specs.declared.decided.Decided.{Decided}
-use Rattle.book_commands.specs.declared.decided.Effect.{Effect}
-use Rattle.book_commands.specs.declared.decided.Effect.TheVariants as effect
-use Rattle.book_commands.specs.Decisions.{book_after as book_decided, decided_of, rows_of}
-use Rattle.kept_rows.specs.Recoveries.{put_recovery}
-use Rattle.opening_book.proofs.Recoveries.{acking-small, audit-loaded, closing-small, last_id-within, puts-loaded, Follow-given}
-use Rattle.kept_rows.specs.declared.recovery.Recovery.{Recovery}
-use Rattle.kept_rows.specs.declared.row.Change.{Change}
-use Rattle.std.proofs.lemmas.List.{length-map}
-use Rattle.kept_rows.specs.declared.observation.Instance.{Instance}
-use Rattle.kept_rows.specs.declared.observation.Observation.{Observation}
-use Rattle.server_words.specs.declared.status.Status.{Status as Seen}
-use Rattle.kept_rows.specs.declared.row.Row.{Row}
-use Rattle.kept_rows.specs.declared.row.Row.TheVariants as row
-use Rattle.kept_rows.specs.declared.row.Change.TheVariants as change
-use Rattle.kept_rows.specs.Servers.{are_known, fits, observed_servers, seen_servers}
-use Rattle.instance_keeper.specs.Book.{BookState, added_over, after_put, discovered_over, discovery_change, first_seen, instance_at, renewal, renewed, renewed_book, store_change, stored_over, IsBook}
-use Rattle.instance_keeper.specs.Bridges.{bridge_in, ringed}
-use Rattle.kept_rows.specs.Rows.{changed, changed_by, IsRising}
-use Rattle.kept_rows.specs.Same.{same_instance}
-use Rattle.kept_rows.proofs.Same.{instance_is}
-use Rattle.opening_book.specs.Following.{Follow}
-use Rattle.opening_book.proofs.Following.{Follow-addition, Follow-change, Follow-loaded, Follow-opened, Follow-recoveries, Follow-rings, PutsRecovery, Takes, length-ringed}
-use Rattle.scenarios.specs.declared.scenario.Scenario.{Scenario}
-use Rattle.turns.specs.declared.turn.Act.{Act}
-use Rattle.turns.specs.declared.turn.Act.TheVariants as act
-use Rattle.turns.specs.declared.turn.Turn.{Turn}
-use Rattle.turns.specs.declared.turn.Turn.TheVariants as turn
-use Rattle.commands.specs.declared.turn.CommandTurn.{CommandTurn}
-use Rattle.orch_core.specs.Polls.{act_changes, changes_of, command_outcome, numbers_of, slot_at, done_changes}
-use Rattle.knowledge.specs.Kept.{changes_by}
-use Rattle.jobs_in_flight.specs.Jobs.{book_turned, job_at, job_observation, stored, without_leases}
-use Rattle.orch_core.specs.Jobs.{turn_of, turned_at}
-use Rattle.recovery_core.specs.Begun.{leases_after}
-use Rattle.recovery_core.specs.Tries.{Begins as RecoveryBegins, recovery_try, takeover_try}
-use Rattle.orch_base.specs.declared.recovery.Ending.{Ending}
-use Rattle.knowledge.specs.Closings.{closing_changes, closing_of}
-use Rattle.knowledge.specs.Knowing.{Knowledge, updated}
-use Rattle.command_outcomes.specs.Commands.{Outcome, about as given_or, asked, begun, by_hand, decided, discovered, entries_put, forgotten, next_reading, outcome_by, outcome_of, question, recovered, recovery_begun, refusal, removal, removal_refusal, taken_over}
-use Rattle.command_outcomes.specs.HookTelling.{told_try}
-use Rattle.orch_core.specs.Restarts.{interrupted_at, last_given, reloaded_audit, reloaded_book, reloaded_rows, restart_changes}
-use Rattle.command_outcomes.specs.Periods.{period_by}
-use Rattle.opening_book.specs.Opening.{blocks_given, loading}
-use Rattle.orch_core.proofs.Outcomes.{IsEffectFor, decided-effect}
-use Rattle.command_routes.specs.declared.route.Route.{Route}
-use Rattle.command_routes.specs.declared.route.Route.TheVariants.{Discovers, Forgets, Asks, Decides, Begins, Recovers, TakesOver}
-use Rattle.command_routes.specs.Routes.{route_of}
-use Rattle.orch_base.specs.declared.server.ServerNo.{ServerNo}
-use Rattle.commands.specs.declared.line.Line.{Line}
-use Rattle.commands.specs.declared.refusal.Refusal.{Refusal}
-use Rattle.commands.specs.declared.refusal.Refusal.TheVariants.{UnknownInstance}
-use Rattle.commands.specs.Turns.{is_within}
-use Rattle.asking_commands.specs.Answers.{allowed, lines_of, permitted}
-use Rattle.scenarios.specs.Scenarios.{IsScenario, period_of, settings_of}
-use Rattle.orch_core.specs.Scenarios.{loaded_audit, loaded_book, start, start_changes, start_moment, start_rows, start_world}
-use Rattle.opening_book.specs.Counting.{greatest_id}
-use Rattle.orch_base.specs.Memory.{next_count}
-use Rattle.orch_core.specs.States.{State, IsState}
-use Rattle.scenarios.specs.Turns.{IsAct, IsCommand, IsTurn}
-use Rattle.orch_core.specs.After.{after_act, step, after_done}
-use Rattle.orch_core.proofs.Servers.{servers-start}
-use Rattle.orch_core.proofs.Starts.{all-missing, all-opening, all-registering, opened-is, sources-start}
-use Rattle.orch_core.proofs.States.{reading_known, names-loaded}
-use Rattle.orch_base.specs.declared.server.Moment.{Moment}
-use Rattle.std.proofs.lemmas.List.Elements.{All-append, All-cons, All-map, All-nil, All-weaker}
-use Rattle.std.proofs.lemmas.List.Sums.{fold-append}
-use Rattle.command_routes.specs.declared.route.Planner.{Planner}
-use Rattle.command_jobs.specs.Jobs.{job_by, leases_by, refusal_by}
-use Rattle.instance_keeper.specs.Leases.{given_back, taken}
-use Rattle.instance_keeper.proofs.Books.{leases_set}
-use Rattle.unended_jobs.specs.declared.unended.Unended.{Unended}
-use Rattle.unended_jobs.specs.Unended.{IsReady, IsUnended, number_of}
-use Rattle.unended_jobs.proofs.Going.{ready-of as job-ready}
+use Rattle.run_laws.proofs.Prelude.{Act, All-append, All-at, All-cons, All-map, All-nil, All-weaker, AreShort, Asks, AuditState}
+use Rattle.run_laws.proofs.Prelude.{Begins as RecoveryBegins, BookState, Change, CommandTurn, Decided, Decides, Discovers, Effect, Ending, Follow}
+use Rattle.run_laws.proofs.Prelude.{Follow-addition, Follow-change, Follow-given, Follow-loaded, Follow-opened, Follow-recoveries, Follow-rings}
+use Rattle.run_laws.proofs.Prelude.{Forgets, Instance, IsAct, IsAudit, IsBook, IsCommand, IsEffectFor, IsReady, IsRising, IsScenario, IsSlot, IsState}
+use Rattle.run_laws.proofs.Prelude.{IsTurn, IsUnended, Knowledge, Line, Moment, Observation, Outcome, Planner, PutsRecovery, Ready, Recovers}
+use Rattle.run_laws.proofs.Prelude.{Recovery, Refusal, Route, Row, Scenario, ServerNo, State, Status as Seen, Takes, TakesOver, Turn, Unended}
+use Rattle.run_laws.proofs.Prelude.{UnknownInstance, about as given_or, acking, acking-small, act-fits, act_changes, act_in, added_over, after_act}
+use Rattle.run_laws.proofs.Prelude.{after_done, after_put, all-missing, all-opening, all-registering, allowed, are_known, asked, audit-loaded}
+use Rattle.run_laws.proofs.Prelude.{blocks_given, book_after as book_decided, book_turned, bridge_in, by_hand, changed, changed_by, changes_by}
+use Rattle.run_laws.proofs.Prelude.{changes_of, claim_changes, closing, closing-small, closing_changes, closing_of, command_outcome, decided}
+use Rattle.run_laws.proofs.Prelude.{decided-effect, decided_of, discovered, discovered_over, discovery_change, done_changes, entries_of, entries_put}
+use Rattle.run_laws.proofs.Prelude.{first_seen, fits, fold-append, forgotten, given_back, greatest_id, instance_at, instance_is, interrupted_at}
+use Rattle.run_laws.proofs.Prelude.{is_going, is_within, job_at, job_by, job_observation, known_of, last_given, last_id-within, leases_after}
+use Rattle.run_laws.proofs.Prelude.{leases_by, leases_set, length-map, length-ringed, lines_of, loaded_audit, loaded_book, loading, ltb-true}
+use Rattle.run_laws.proofs.Prelude.{moment_at, names-loaded, next_count, next_reading, number_of, numbers_of, observed, observed_servers, opened-is}
+use Rattle.run_laws.proofs.Prelude.{option_map, option_to_list, outcome_by, outcome_of, period_by, period_of, permitted, put_recovery, puts-loaded}
+use Rattle.run_laws.proofs.Prelude.{question, reading_known, ready-of as job-ready, recovered, recoveries_begun, recovery_at, recovery_begun}
+use Rattle.run_laws.proofs.Prelude.{recovery_try, refusal, refusal_by, release_changes, reloaded_audit, reloaded_book, reloaded_rows, removal}
+use Rattle.run_laws.proofs.Prelude.{removal_refusal, renewal, renewed, renewed_book, restart_changes, ringed, route_of, rows_of, same_instance}
+use Rattle.run_laws.proofs.Prelude.{seen_servers, servers-start, settings_of, slot_at, sources-start, start, start_changes, start_moment, start_rows}
+use Rattle.run_laws.proofs.Prelude.{start_world, step, store_change, stored, stored_over, taken, taken_over, takeover_try, told_try, turn_of}
+use Rattle.run_laws.proofs.Prelude.{turned_at, updated, without_leases}
+use Rattle.run_laws.proofs.Prelude.Outcomes.{begun}
+use Rattle.run_laws.proofs.Prelude.route.{Begins}
+use Rattle.run_laws.proofs.Prelude.act
+use Rattle.run_laws.proofs.Prelude.change
+use Rattle.run_laws.proofs.Prelude.effect
+use Rattle.run_laws.proofs.Prelude.kept_row as row
+use Rattle.run_laws.proofs.Prelude.turn
 use Rattle.run_laws.proofs.Readiness.{job-sees}
-use Rattle.operations.specs.Turns.{is_going, observed}
-use Rattle.job_laws.proofs.Lists.{All-at}
-use Rattle.orch_core.specs.States.{IsSlot}
-use Rattle.orch_core.specs.Settling.{known_of}
-use Rattle.run_laws.specs.Begins.{entries_of}
 use Rattle.run_laws.proofs.BegunInTurn.{length-after, length-taken}
 use Rattle.run_laws.proofs.ReadyOutcomes.{within-both}
-use Rattle.run_laws.specs.Ready.{AreShort, Ready}
 use Rattle.run_laws.proofs.Periods.{short-by}
 use Rattle.run_laws.proofs.Ready.{observed-known, put-kept}
 use Rattle.run_laws.proofs.Beginnings.{small-ids}
 use Rattle.run_laws.proofs.Closings.{end-puts, end-small, end_changes, ended_as, turned-ends}
 use Rattle.run_laws.proofs.Counting.{next-goes-on}
-use Rattle.run_laws.specs.Entries.{recoveries_begun}
-use Rattle.run_laws.specs.Flights.{moment_at}
-use Rattle.orch_core.specs.Nodes.{act_in, claim_changes, release_changes}
-use Rattle.orch_core.proofs.Claims.{act-fits}
 use Rattle.run_laws.proofs.ClaimRows.{Follow-claims, claim-changes-are, release-changes-are}
 
 -- at the opening

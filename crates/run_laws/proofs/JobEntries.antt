@@ -1,84 +1,34 @@
 -- Each recovery of the audit that isn't ended has its unended job.
 use Rattle.std.proofs.Common.{◌≡◌, ◌∙◌, ℕ, ◌+◌, ◌<◌, ◌≤◌, Bool, true, false, cond, List, [], ◌∷◌, ◌++◌, append_assoc, map, length, refl, sym, ap, subst, Option, Some, None, Result, Ok, Err, arith}
 use Rattle.std.specs.Prelude.{◌==◌, ◌||◌, All, AllPairs, IfSome, filter, fold, is_none, not, if◌then◌else◌}
-use Rattle.std.specs.Option.{option_map, option_to_list}
-use Rattle.std.proofs.lemmas.Bool.{eq-eqb, eqb-true, ne_eqb}
-use Rattle.std.proofs.lemmas.List.{append-nil}
-use Rattle.std.proofs.lemmas.List.Elements.{All-head, All-tail}
-use Rattle.std.proofs.lemmas.Option.{same_Some}
-use Rattle.asking_commands.specs.Answers.{allowed, lines_of, permitted}
-use Rattle.audit_log.specs.Audits.{AuditState, IsAudit, acknowledged, acknowledged_for, begun, closed, ended_so, interrupted, is_of, is_open, is_unended}
-use Rattle.book_commands.specs.Decisions.{audit_after as audit_decided, decided_of}
-use Rattle.book_commands.specs.declared.decided.Decided.{Decided}
-use Rattle.book_commands.specs.declared.decided.Effect.{Effect}
-use Rattle.book_commands.specs.declared.decided.Effect.TheVariants as effect
-use Rattle.command_jobs.proofs.Begun.{job-number}
-use Rattle.command_jobs.specs.Jobs.{job_by, leases_by, refusal_by}
-use Rattle.command_routes.specs.declared.route.Route.{Route}
-use Rattle.command_routes.specs.declared.route.Route.TheVariants.{Discovers, Forgets, Asks, Decides, Begins, Recovers, TakesOver}
-use Rattle.command_routes.specs.Routes.{route_of}
-use Rattle.commands.specs.Causes.{cause_name}
-use Rattle.commands.specs.declared.line.Line.{Line}
-use Rattle.commands.specs.declared.refusal.Refusal.{Refusal}
-use Rattle.commands.specs.declared.refusal.Refusal.TheVariants.{UnknownInstance}
-use Rattle.commands.specs.declared.turn.CommandTurn.{CommandTurn}
-use Rattle.instance_keeper.specs.Book.{BookState}
-use Rattle.jobs_in_flight.proofs.Numbers.{Rise-push, Rise-with, Rise-within, Rise-without, found-number, with-past}
-use Rattle.jobs_in_flight.specs.Jobs.{Rise, job_at, jobs_turned, with_job, without_job}
-use Rattle.job_laws.proofs.Lists.{All-find}
-use Rattle.kept_rows.proofs.Lists.{pairs_head, pairs_tail}
-use Rattle.kept_rows.specs.declared.observation.Observation.{Observation}
-use Rattle.kept_rows.specs.declared.recovery.Recovery.{Recovery}
-use Rattle.kept_rows.specs.declared.row.Row.{Row}
-use Rattle.operations.specs.Turns.{is_going}
-use Rattle.operations.specs.declared.step.JobStep.{JobStep}
-use Rattle.operations.specs.declared.step.JobStep.TheVariants as step
-use Rattle.orch_base.specs.Memory.{next_count}
-use Rattle.orch_base.specs.declared.recovery.Ending.{Ending}
-use Rattle.orch_base.specs.declared.recovery.Ending.TheVariants as ending
-use Rattle.orch_base.specs.declared.server.Moment.{Moment}
-use Rattle.orch_base.specs.declared.server.ServerNo.{ServerNo}
-use Rattle.orch_core.proofs.Beginnings.{job-entry}
-use Rattle.orch_core.proofs.Joining.{joined-rising}
-use Rattle.orch_core.specs.After.{after_act, after_done, after_job, step as turn_step}
-use Rattle.orch_core.proofs.Claims.{act-fits}
-use Rattle.orch_core.proofs.Closed.{flown-entry}
-use Rattle.knowledge.specs.Closings.{closed_by, closing_at, closing_for, closing_of}
-use Rattle.command_outcomes.specs.Commands.{Outcome, about as given_or, asked, begun as job_begun, by_hand, decided, discovered, forgotten, next_reading, outcome_by, outcome_of, question, recovered, recovery_begun, refusal, removal_refusal, taken_over}
-use Rattle.command_outcomes.specs.HookTelling.{told_try}
-use Rattle.orch_core.specs.Jobs.{turn_of}
-use Rattle.knowledge.specs.Knowing.{recovery_job, updated}
-use Rattle.orch_core.specs.Nodes.{act_in}
-use Rattle.orch_core.specs.Polls.{command_outcome, numbers_of}
-use Rattle.orch_core.specs.Restarts.{interrupted_at, reloaded_audit}
-use Rattle.orch_core.specs.Runs.{engine, run_turns, turns_of}
-use Rattle.orch_core.specs.Scenarios.{loaded_audit, start, start_moment}
-use Rattle.orch_core.specs.Settling.{known_of}
-use Rattle.orch_core.specs.States.{State, entry_id}
-use Rattle.recovery_core.proofs.Ended.{ending-closed}
-use Rattle.recovery_core.specs.Begun.{BeginInTurn, audit_after}
-use Rattle.recovery_core.specs.Endings.{done_with, is_acknowledged}
-use Rattle.recovery_core.specs.Tries.{Begins as RecoveryBegins, recovery_try, takeover_try}
-use Rattle.recovery_plans.specs.Recoveries.{Recovery as RecoveryJob}
-use Rattle.scenarios.specs.Turns.{IsAct, IsTurn}
-use Rattle.scenarios.specs.declared.scenario.Scenario.{Scenario}
-use Rattle.server_words.specs.declared.status.Status.{Status as Seen}
-use Rattle.turns.specs.declared.turn.Act.{Act}
-use Rattle.turns.specs.declared.turn.Act.TheVariants as act
-use Rattle.turns.specs.declared.turn.Turn.{Turn}
-use Rattle.turns.specs.declared.turn.Turn.TheVariants as turn
-use Rattle.unended_jobs.proofs.Going.{flown-number}
-use Rattle.unended_jobs.specs.Hooked.{hooked, Hooked}
-use Rattle.unended_jobs.specs.Unended.{IsReady, number_of}
-use Rattle.unended_jobs.specs.declared.docket.Docket.{Docket}
-use Rattle.unended_jobs.specs.declared.unended.Unended.{Unended}
-use Rattle.unended_jobs.specs.declared.unended.Unended.TheVariants as unended
+use Rattle.run_laws.proofs.Prelude.{Act, All-find, All-head, All-tail, Asks, AuditState, BeginInTurn, Begins as RecoveryBegins, BookState, ComesTo}
+use Rattle.run_laws.proofs.Prelude.{CommandTurn, Decided, Decides, Discovers, Docket, Effect, Ending, EntriesHaveJobs, Forgets, Hooked, IsAct}
+use Rattle.run_laws.proofs.Prelude.{IsAudit, IsReady, IsTurn, JobStep, Line, Moment, Observation, Outcome, Recovers, Recovery, Refusal, Rise}
+use Rattle.run_laws.proofs.Prelude.{Rise-push, Rise-with, Rise-within, Rise-without, Route, Row, Scenario, ServerNo, State, Status as Seen, TakesOver}
+use Rattle.run_laws.proofs.Prelude.{Turn, Unended, UnknownInstance, about as given_or, acknowledged, acknowledged_for, act-fits, act_in, after_act}
+use Rattle.run_laws.proofs.Prelude.{after_done, after_job, allowed, append-nil, asked, audit_after, begun, by_hand, cause_name, closed, closed_by}
+use Rattle.run_laws.proofs.Prelude.{closing_at, closing_for, closing_of, command_outcome, decided, decided_of, discovered, done_with, ended_so}
+use Rattle.run_laws.proofs.Prelude.{ending-closed, engine, entries_in, entry_id, eq-eqb, eqb-true, flown-entry, flown-number, forgotten, found-number}
+use Rattle.run_laws.proofs.Prelude.{hooked, interrupted, interrupted_at, is_acknowledged, is_going, is_of, is_open, is_unended, job-entry, job-number}
+use Rattle.run_laws.proofs.Prelude.{job_at, job_by, jobs_turned, joined-rising, known_of, leases_by, lines_of, loaded_audit, ne_eqb, next_count}
+use Rattle.run_laws.proofs.Prelude.{next_reading, number_of, numbers_of, open_ids, option_map, option_to_list, outcome_by, outcome_of, pairs_head}
+use Rattle.run_laws.proofs.Prelude.{pairs_tail, permitted, question, recovered, recoveries_begun, recoveries_by, recoveries_of, recoveries_scanned}
+use Rattle.run_laws.proofs.Prelude.{recovery_begun, recovery_job, recovery_try, refusal, refusal_by, reloaded_audit, removal_refusal, route_of}
+use Rattle.run_laws.proofs.Prelude.{run_turns, same_Some, start, start_moment, step as turn_step, taken_over, takeover_try, takeovers_by}
+use Rattle.run_laws.proofs.Prelude.{takeovers_of, told_try, tried, turn_of, turns_of, updated, with-past, with_job, without_job}
+use Rattle.run_laws.proofs.Prelude.Outcomes.{begun as job_begun}
+use Rattle.run_laws.proofs.Prelude.Decisions.{audit_after as audit_decided}
+use Rattle.run_laws.proofs.Prelude.RecoveryPlans.{Recovery as RecoveryJob}
+use Rattle.run_laws.proofs.Prelude.route.{Begins}
+use Rattle.run_laws.proofs.Prelude.act
+use Rattle.run_laws.proofs.Prelude.effect
+use Rattle.run_laws.proofs.Prelude.ending
+use Rattle.run_laws.proofs.Prelude.jobstep as step
+use Rattle.run_laws.proofs.Prelude.turn
+use Rattle.run_laws.proofs.Prelude.unended
 use Rattle.run_laws.proofs.Beginnings.{turn-can}
 use Rattle.run_laws.proofs.Closings.{ended-map, ended_as, ended_in, ended_with}
 use Rattle.run_laws.proofs.Counting.{IsReckoned, reckoned-start, reckoned-step}
-use Rattle.run_laws.specs.Entries.{recoveries_begun, recoveries_by, recoveries_of, recoveries_scanned, takeovers_by, takeovers_of, tried}
-use Rattle.run_laws.specs.JobEntries.{EntriesHaveJobs, entries_in, open_ids}
-use Rattle.run_laws.specs.Runs.{ComesTo}
 
 -- ---- lists of ids
 
@@ -489,8 +439,6 @@ paired-done low count rows s None ready fits is = is
 paired-done low count rows s (Some a) ready fits is = paired-act low count rows s a ready fits is
 
 paired-step : (low count : ℕ) (rows : List Row) (s : State) (t : Turn) → IsReckoned count s → IsTurn count t → IsPaired low s → IsPaired low (turn_step rows s t)
-paired-step low count rows s (turn.Step x) ready fits is = record { ids = is.ids; rising = is.rising }
-paired-step low count rows s (turn.Tick seconds) ready fits is = record { ids = is.ids; rising = is.rising }
 paired-step low count rows s (turn.Act a) ready fits is = paired-act low count rows s a ready fits is
 paired-step low count rows s (turn.As node a) ready fits is =
     let now = paired-done low count rows s (act_in s (turn.As node a)) ready (act-fits count s (turn.As node a) fits) is in
@@ -498,7 +446,7 @@ paired-step low count rows s (turn.As node a) ready fits is =
 paired-step low count rows s (turn.Claim node) ready fits is =
     let now = paired-done low count rows s (act_in s (turn.Claim node)) ready (act-fits count s (turn.Claim node) fits) is in
     record { ids = now.ids; rising = now.rising }
-paired-step low count rows s (turn.Release node) ready fits is = record { ids = is.ids; rising = is.rising }
+paired-step low count rows s _ ready fits is = record { ids = is.ids; rising = is.rising }
 
 pub paired-run : (low count : ℕ) (s : State) (xs : List (List Row × Turn)) → All (IsTurn count) (turns_of xs) → IsReckoned count s → IsPaired low s → IsPaired low (run_turns engine s xs)
 paired-run low count s [] all ready is = is

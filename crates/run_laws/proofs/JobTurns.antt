@@ -1,35 +1,15 @@
 -- Jobs in the states of runs: they keep to their leases, and leave fewer turns.
 use Rattle.std.proofs.Common.{◌≡◌, ◌∙◌, ℕ, ◌<◌, true, List, refl, sym, ap, subst, Option, Some, None}
 use Rattle.std.specs.Prelude.{◌==◌, is_some, map}
-use Rattle.std.specs.Option.{option_map}
-use Rattle.std.proofs.lemmas.Bool.{false≢true}
-use Rattle.orch_base.specs.Memory.{next_count}
-use Rattle.kept_rows.specs.declared.row.Row.{Row}
-use Rattle.server_model.specs.Run.{run}
-use Rattle.server_model.specs.Worlds.{server_at}
-use Rattle.turns.specs.declared.turn.Act.TheVariants as act
-use Rattle.turns.specs.declared.turn.Turn.TheVariants as turn
-use Rattle.job_laws.specs.Leases.{IsLeased, job_at as core_at, leases_of}
-use Rattle.job_laws.specs.Flights.{job_turned}
-use Rattle.job_laws.proofs.Begun.{others-left}
-use Rattle.job_laws.proofs.Others.{unleased-run}
-use Rattle.operations.specs.Jobs.{Job}
-use Rattle.job_laws.proofs.Lists.{All-find}
-use Rattle.unended_jobs.specs.declared.unended.Unended.{Unended}
-use Rattle.unended_jobs.specs.declared.unended.Unended.TheVariants as unended
-use Rattle.unended_jobs.specs.Unended.{IsReady, core_of, number_of}
-use Rattle.unended_jobs.proofs.Going.{flown-fewer, flown-number}
-use Rattle.unended_laws.proofs.Cores.{core-found}
-use Rattle.jobs_in_flight.proofs.Numbers.{found-number}
-use Rattle.jobs_in_flight.specs.Jobs.{is_open, job_at, job_exchanges, jobs_turned, most_turns}
-use Rattle.orch_core.specs.Jobs.{turn_of}
-use Rattle.orch_core.specs.After.{step}
-use Rattle.orch_core.specs.States.{State}
-use Rattle.orch_core.proofs.Finishing.{fewer}
-use Rattle.job_laws.specs.Passages.{AllMayPass}
-use Rattle.run_laws.specs.Flights.{by_job, flight_of, moment_at}
-use Rattle.run_laws.specs.States.{HeldState}
-use Rattle.run_laws.specs.Ready.{Ready}
+use Rattle.run_laws.proofs.Prelude.{All-find, AllMayPass, HeldState, IsLeased, IsReady, Job, Ready, Row, State, Unended, by_job, core-found, core_of}
+use Rattle.run_laws.proofs.Prelude.{false≢true, fewer, flight_of, flown-fewer, flown-number, found-number, job_at, job_exchanges, job_turned}
+use Rattle.run_laws.proofs.Prelude.{jobs_turned, leases_of, moment_at, most_turns, next_count, number_of, option_map, others-left, run, server_at}
+use Rattle.run_laws.proofs.Prelude.{step, turn_of, unleased-run}
+use Rattle.run_laws.proofs.Prelude.JobLaws.{job_at as core_at}
+use Rattle.run_laws.proofs.Prelude.Jobs.{is_open}
+use Rattle.run_laws.proofs.Prelude.act
+use Rattle.run_laws.proofs.Prelude.turn
+use Rattle.run_laws.proofs.Prelude.unended
 use Rattle.run_laws.proofs.Passing.{job-may}
 
 -- ---- leases

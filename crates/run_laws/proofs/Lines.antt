@@ -1,17 +1,9 @@
 -- The lines of a scan: one for each entry that asks for a recovery.
 use Rattle.std.proofs.Common.{◌≡◌, ℕ, ◌+◌, List, [], ◌∷◌, length, refl, ap, inl, inr, arith}
 use Rattle.std.specs.Prelude.{fold}
-use Rattle.commands.specs.declared.line.Line.{Line}
-use Rattle.failure_analysis.specs.declared.entry.Entry.{Entry}
-use Rattle.recovery_core.specs.Scans.{actionable_in}
-use Rattle.recovery_core.specs.Tries.{Begins}
-use Rattle.answer_laws.specs.Tries.{AreTries, Left, Scan, after_begun}
-use Rattle.answer_laws.proofs.Trying.{tries}
-use Rattle.orch_core.specs.States.{State}
-use Rattle.run_laws.specs.Answering.{ScansTryByTable}
+use Rattle.run_laws.proofs.Prelude.{AreLinesOf, AreTries, Begins, Entry, Left, Line, Scan, ScansTryByTable, State, actionable_in, after_begun}
+use Rattle.run_laws.proofs.Prelude.{attempt_in, recoveries_scanned, scan_in, tries}
 use Rattle.run_laws.proofs.Told.{told-lines, told-tries}
-use Rattle.run_laws.specs.Entries.{attempt_in, recoveries_scanned, scan_in}
-use Rattle.run_laws.specs.Lines.{AreLinesOf}
 
 -- so the numbers of those that begin go on one by one
 counted : (last : ℕ) (es : List Entry) (xs : List Begins) (ls : List Line) → AreLinesOf last es xs ls → fold (λ k x. x.job.core.id) last xs ≡ last + length xs

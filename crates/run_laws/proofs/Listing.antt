@@ -1,11 +1,7 @@
 -- Servers of a list.
 use Rattle.std.proofs.Common.{◌≡◌, Bool, true, false, List, [], ◌∷◌, refl, ap}
 use Rattle.std.specs.Prelude.{All, ◌||◌, ◌==◌}
-use Rattle.std.specs.List.{list_any}
-use Rattle.std.proofs.lemmas.Bool.{eq-eqb}
-use Rattle.std.proofs.lemmas.List.Elements.{All-cons, All-head, All-nil, All-tail}
-use Rattle.orch_base.specs.declared.server.ServerNo.{ServerNo}
-use Rattle.unended_laws.specs.Passages.{IsListed}
+use Rattle.run_laws.proofs.Prelude.{All-cons, All-head, All-nil, All-tail, IsListed, ServerNo, eq-eqb, list_any}
 
 -- servers are of their own list, whatever stands before it
 listed-more : (ns list : List ServerNo) (k : ServerNo) → All (λ n. IsListed list n.0) ns → All (λ n. IsListed (k ∷ list) n.0) ns

@@ -1,23 +1,11 @@
 -- The recoveries of rows that count: they make an audit, whatever the next id, and each of them counts.
 use Rattle.std.proofs.Common.{◌≡◌, ℕ, ◌<◌, ◌≤◌, true, leb, List, [], ◌∷◌, Option, Some, None, arith}
 use Rattle.std.specs.Prelude.{All, ◌&&◌, unwrap_or}
-use Rattle.std.proofs.lemmas.Bool.{le-leb, leb-true}
-use Rattle.std.proofs.lemmas.List.Elements.{All-cons, All-head, All-nil, All-tail, All-weaker, filter_passes}
-use Rattle.std.proofs.lemmas.List.Kept.{AllPairs-filter}
-use Rattle.audit_log.proofs.Loaded.{kept-audit}
-use Rattle.audit_log.specs.Audits.{IsAudit, longest_block}
-use Rattle.audit_log.specs.Loading.{loaded_by, recoveries_in}
-use Rattle.kept_rows.proofs.Known.{both_true}
-use Rattle.kept_rows.proofs.LookUps.{map_of_rising}
-use Rattle.kept_rows.specs.Recoveries.{as_row}
-use Rattle.kept_rows.specs.Servers.{are_known, ending_servers}
-use Rattle.kept_rows.specs.Rows.{map_of, sort_key_of}
-use Rattle.kept_rows.specs.declared.recovery.Recovery.{Recovery}
-use Rattle.kept_rows.specs.declared.recovery.RecoveryRow.{RecoveryRow}
-use Rattle.kept_rows.specs.declared.row.Row.{Row}
-use Rattle.kept_rows.specs.declared.row.Row.TheVariants as row
-use Rattle.opening_book.specs.Audits.{audit_of}
-use Rattle.opening_book.specs.Counting.{counted, counts, greatest, is_block_in_range, is_end_in_range, is_in_range}
+use Rattle.run_laws.proofs.Prelude.{All-cons, All-head, All-nil, All-tail, All-weaker, AllPairs-filter, IsAudit, Recovery, RecoveryRow, Row}
+use Rattle.run_laws.proofs.Prelude.{are_known, as_row, audit_of, both_true, counted, counts, ending_servers, filter_passes, greatest}
+use Rattle.run_laws.proofs.Prelude.{is_block_in_range, is_end_in_range, is_in_range, kept-audit, le-leb, leb-true, loaded_by, longest_block, map_of}
+use Rattle.run_laws.proofs.Prelude.{map_of_rising, recoveries_in, sort_key_of}
+use Rattle.run_laws.proofs.Prelude.kept_row as row
 
 -- the numbers of a recovery whose row counts
 pub record IsCounted (last : ℕ) (r : Recovery) : Type 0 where

@@ -1,36 +1,19 @@
 -- What a command makes of the audit.
 use Rattle.std.proofs.Common.{◌≡◌, ℕ, ◌+◌, List, [], refl, inl, inr, Option, Some, None, Result, Ok, Err}
 use Rattle.std.specs.Prelude.{◌⊎◌}
-use Rattle.asking_commands.specs.Answers.{allowed, lines_of, permitted}
-use Rattle.audit_log.specs.Audits.{AuditState, acknowledged}
-use Rattle.book_commands.specs.Decisions.{audit_after as audit_decided, decided_of}
-use Rattle.book_commands.specs.declared.decided.Decided.{Decided}
-use Rattle.book_commands.specs.declared.decided.Effect.{Effect}
-use Rattle.book_commands.specs.declared.decided.Effect.TheVariants as effect
-use Rattle.command_jobs.specs.Jobs.{job_by, leases_by, refusal_by}
-use Rattle.command_routes.specs.declared.route.Route.{Route}
-use Rattle.command_routes.specs.declared.route.Route.TheVariants.{Discovers, Forgets, Asks, Decides, Begins, Recovers, TakesOver}
-use Rattle.command_routes.specs.Routes.{route_of}
-use Rattle.commands.specs.declared.line.Line.{Line}
-use Rattle.commands.specs.declared.refusal.Refusal.{Refusal}
-use Rattle.commands.specs.declared.refusal.Refusal.TheVariants.{UnknownInstance}
-use Rattle.commands.specs.declared.turn.CommandTurn.{CommandTurn}
-use Rattle.instance_keeper.specs.Book.{BookState}
-use Rattle.kept_rows.specs.declared.observation.Observation.{Observation}
-use Rattle.orch_base.specs.declared.server.ServerNo.{ServerNo}
-use Rattle.server_words.specs.declared.status.Status.{Status as Seen}
-use Rattle.recovery_core.specs.Begun.{audit_after}
-use Rattle.recovery_core.specs.Tries.{Begins as RecoveryBegins, recovery_try, takeover_try}
-use Rattle.turns.specs.declared.turn.Act.TheVariants as act
-use Rattle.turns.specs.declared.turn.Turn.TheVariants as turn
-use Rattle.unended_jobs.specs.declared.unended.Unended.{Unended}
-use Rattle.command_outcomes.specs.Commands.{Outcome, about as given_or, asked, begun as job_begun, by_hand, decided, discovered, forgotten, next_reading, outcome_by, outcome_of, question, recovered, recovery_begun, refusal, removal_refusal, taken_over}
-use Rattle.command_outcomes.specs.HookTelling.{told_try}
-use Rattle.orch_core.specs.Polls.{command_outcome, numbers_of}
-use Rattle.orch_core.specs.States.{State}
-use Rattle.orch_core.specs.Settling.{known_of}
-use Rattle.knowledge.specs.Knowing.{updated}
-use Rattle.run_laws.specs.Entries.{recoveries_begun, recoveries_by, recoveries_of, takeovers_by, takeovers_of, tried}
+use Rattle.run_laws.proofs.Prelude.{Asks, AuditState, Begins as RecoveryBegins, BookState, CommandTurn, Decided, Decides, Discovers, Effect, Forgets}
+use Rattle.run_laws.proofs.Prelude.{Line, Observation, Outcome, Recovers, Refusal, Route, ServerNo, State, Status as Seen, TakesOver, Unended}
+use Rattle.run_laws.proofs.Prelude.{UnknownInstance, about as given_or, acknowledged, allowed, asked, audit_after, by_hand, command_outcome, decided}
+use Rattle.run_laws.proofs.Prelude.{decided_of, discovered, forgotten, job_by, known_of, leases_by, lines_of, next_reading, numbers_of, outcome_by}
+use Rattle.run_laws.proofs.Prelude.{outcome_of, permitted, question, recovered, recoveries_begun, recoveries_by, recoveries_of, recovery_begun}
+use Rattle.run_laws.proofs.Prelude.{recovery_try, refusal, refusal_by, removal_refusal, route_of, taken_over, takeover_try, takeovers_by}
+use Rattle.run_laws.proofs.Prelude.{takeovers_of, told_try, tried, updated}
+use Rattle.run_laws.proofs.Prelude.Outcomes.{begun as job_begun}
+use Rattle.run_laws.proofs.Prelude.Decisions.{audit_after as audit_decided}
+use Rattle.run_laws.proofs.Prelude.route.{Begins}
+use Rattle.run_laws.proofs.Prelude.act
+use Rattle.run_laws.proofs.Prelude.effect
+use Rattle.run_laws.proofs.Prelude.turn
 
 -- what a command makes of an audit: a cluster's recoveries are acknowledged, or these begin
 abbrev pub Becomes : AuditState → List RecoveryBegins → AuditState → Type 0

@@ -1,33 +1,16 @@
 -- What refuses a command has the lowest number of what its checks refuse.
 use Rattle.std.proofs.Common.{◌≡◌, ℕ, ◌≤◌, Bool, true, false, List, [], ◌∷◌, refl, ap, Option, Some, None, arith}
 use Rattle.std.specs.Prelude.{Any, is_some, if◌then◌else◌}
-use Rattle.std.proofs.lemmas.List.Elements.{All-cons, All-nil}
-use Rattle.std.proofs.lemmas.Option.{same_Some}
-use Rattle.answer_laws.proofs.Rising.{coords-lowest, gtid-lowest, match-lowest, path-lowest, recovery-lowest, takeover-lowest}
-use Rattle.answer_laws.specs.Lowest.{IsAnswer, IsNoLower}
-use Rattle.asking_commands.specs.Answers.{is_known, unknown_in}
-use Rattle.command_jobs.specs.Jobs.{refusal_by as planned_refusal}
-use Rattle.command_routes.specs.declared.kinds.Regrouping.TheVariants.{ByBridges, ByMatches}
-use Rattle.command_routes.specs.declared.route.Planner.{Planner}
-use Rattle.command_routes.specs.declared.route.Planner.TheVariants.{Coordinates, Gtids, Matches, Paths, Regroups}
-use Rattle.command_routes.specs.declared.route.Route.{Route}
-use Rattle.command_routes.specs.declared.route.Route.TheVariants.{Discovers, Forgets, Asks, Decides, Begins, Recovers, TakesOver}
-use Rattle.command_routes.specs.Routes.{route_of}
-use Rattle.commands.specs.Refusals.{number_of}
-use Rattle.commands.specs.Unknown.{is_unknown}
-use Rattle.commands.specs.declared.refusal.Refusal.{Refusal}
-use Rattle.commands.specs.declared.refusal.Refusal.TheVariants as refusal
-use Rattle.commands.specs.declared.turn.Command.{Command}
-use Rattle.instance_keeper.specs.Book.{lease_at}
-use Rattle.kept_rows.specs.Seeing.{seen_in}
-use Rattle.orch_base.specs.declared.server.ServerNo.{ServerNo}
-use Rattle.permission.specs.Checks.{busy_by}
-use Rattle.server_model.specs.Gtids.{status}
-use Rattle.command_outcomes.specs.Commands.{busy_given, by_hand, first_of}
-use Rattle.orch_core.specs.Permission.{refusal_by, recovery_refused, takeover_given, takeover_refused, unreached}
-use Rattle.orch_core.specs.Polls.{numbers_of}
-use Rattle.orch_core.specs.States.{State}
-use Rattle.run_laws.specs.Lowest.{RefusedByLowest, checks_by, plan_checks, recover_checks, takeover_checks_by, takes_checks}
+use Rattle.run_laws.proofs.Prelude.{All-cons, All-nil, Asks, ByBridges, ByMatches, Command, Coordinates, Decides, Discovers, Forgets, Gtids, IsAnswer}
+use Rattle.run_laws.proofs.Prelude.{IsNoLower, Matches, Paths, Planner, Recovers, Refusal, RefusedByLowest, Regroups, Route, ServerNo, State}
+use Rattle.run_laws.proofs.Prelude.{TakesOver, busy_by, busy_given, by_hand, checks_by, coords-lowest, first_of, gtid-lowest, is_known, is_unknown}
+use Rattle.run_laws.proofs.Prelude.{lease_at, match-lowest, numbers_of, path-lowest, plan_checks, recover_checks, recovery-lowest, recovery_refused}
+use Rattle.run_laws.proofs.Prelude.{refusal_by as planned_refusal, route_of, same_Some, seen_in, status, takeover-lowest, takeover_checks_by}
+use Rattle.run_laws.proofs.Prelude.{takeover_given, takeover_refused, takes_checks, unknown_in, unreached}
+use Rattle.run_laws.proofs.Prelude.RefusedCommands.{refusal_by}
+use Rattle.run_laws.proofs.Prelude.Refusals.{number_of}
+use Rattle.run_laws.proofs.Prelude.route.{Begins}
+use Rattle.run_laws.proofs.Prelude.commands_refusal as refusal
 
 -- ---- one check, and two
 

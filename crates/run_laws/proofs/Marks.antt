@@ -1,19 +1,8 @@
 -- Matches of logs, in the quiet states of runs.
 use Rattle.std.proofs.Common.{◌≡◌, ℕ, List, [], ◌∷◌, map, Ok}
 use Rattle.std.specs.Prelude.{All}
-use Rattle.std.proofs.lemmas.List.Elements.{All-cons, All-head, All-nil, All-tail, All-weaker}
-use Rattle.binlog_coords.specs.declared.Coord.{Coord}
-use Rattle.job_laws.proofs.Marking.{logs-place, logs-prefix, read-servers}
-use Rattle.job_laws.proofs.Matching.{match-well}
-use Rattle.job_laws.specs.Matched.{AllMeet, Meets}
-use Rattle.operations.specs.Jobs.{Job}
-use Rattle.operations.specs.Matching.{match_logs}
-use Rattle.orch_base.specs.declared.server.ServerNo.{ServerNo}
-use Rattle.server_model.specs.Safe.{Safe}
-use Rattle.server_model.specs.Worlds.{World}
-use Rattle.unended_jobs.specs.Unended.{core_of}
-use Rattle.unended_jobs.specs.declared.unended.Unended.{Unended}
-use Rattle.run_laws.specs.Marks.{EndsAt, EndsStill}
+use Rattle.run_laws.proofs.Prelude.{All-cons, All-head, All-nil, All-tail, All-weaker, AllMeet, Coord, EndsAt, EndsStill, Job, Meets, Safe, ServerNo}
+use Rattle.run_laws.proofs.Prelude.{Unended, World, core_of, logs-place, logs-prefix, match-well, match_logs, read-servers}
 
 pub matches-end : (w : World) → Safe w → (r d : ServerNo) (every : ℕ) (at : Coord) → match_logs w r d every ≡ Ok at → EndsAt w r d at
 matches-end w safe r d every at h =

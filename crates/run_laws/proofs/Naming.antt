@@ -1,49 +1,22 @@
 -- What begins names no replica twice.
+use Rattle.run_laws.proofs.Prelude.{Action, All-nil, All-push, AreCounts, AreReplicas, Attached, Attempt, AuditState, Begins, BookState, Code}
+use Rattle.run_laws.proofs.Prelude.{Detached, Entry, Instance, NamesReplicasOnce, NoCandidate, NotMaster, NotReplica, Refusal, ServerNo, SourceState}
+use Rattle.run_laws.proofs.Prelude.{Staged, UnknownInstance, Without, World, action-of, action_of, actionable_in, after_try, and_parts, attached_in}
+use Rattle.run_laws.proofs.Prelude.{attached_of, by_name, can_succeed, case_of, code_at, code_of, counts_of, entry_of, eqb-true, false≢true}
+use Rattle.run_laws.proofs.Prelude.{first_refusal, from_start, has_log, has_successor, held_back, held_off, instance_at, is_attached_to, is_given}
+use Rattle.run_laws.proofs.Prelude.{is_instance, is_replica_of, is_valid, neither, no_master, no_replica, none-some, none_replicates, not-true}
+use Rattle.run_laws.proofs.Prelude.{only_if, purpose_by, recovery_begins, recovery_purpose, recovery_refusal, recovery_try, refusal_for, replicas_of}
+use Rattle.run_laws.proofs.Prelude.{row, same_label, same_Some, scan_step, scanned, scanned_over, seen_source, source_in, source_of, staged_refusal}
+use Rattle.run_laws.proofs.Prelude.{takeover_begins, takeover_refusal, takeover_try, tally-parts, times, unless_refused, unrefused, without_successor}
+use Rattle.run_laws.proofs.Prelude.Lists.{first_of}
+use Rattle.run_laws.proofs.Prelude.Recoveries.{refusal_by}
+use Rattle.run_laws.proofs.Prelude.action
+use Rattle.run_laws.proofs.Prelude.purpose
 use Rattle.std.proofs.Common.{◌≡◌, ℕ, ◌+◌, ◌<◌, ◌≤◌, ◌∙◌, ◌&&◌, Bool, true, false, cond, not, List, [], ◌∷◌, length, refl, sym, ap, subst, Option, Some, None, Ok, arith}
 use Rattle.std.specs.Prelude.{◌==◌, All, is_some, nat_lt, option_map}
-use Rattle.std.proofs.lemmas.Bool.{and_parts, eqb-true, false≢true}
-use Rattle.std.proofs.lemmas.List.Elements.{All-nil, All-push}
-use Rattle.std.proofs.lemmas.Option.{none-some, same_Some}
-use Rattle.orch_base.specs.declared.code.Code.{Code}
-use Rattle.orch_base.specs.declared.server.ServerNo.{ServerNo}
-use Rattle.orch_base.specs.declared.server.SourceState.{SourceState}
-use Rattle.orch_base.specs.declared.server.SourceState.TheVariants.{Without, Attached, Detached}
-use Rattle.commands.specs.declared.refusal.Refusal.{Refusal}
-use Rattle.commands.specs.declared.refusal.Refusal.TheVariants.{NoCandidate, NotMaster, NotReplica, UnknownInstance}
-use Rattle.name_order.specs.NameOrder.{by_name}
-use Rattle.instance_keeper.specs.Book.{BookState, instance_at}
-use Rattle.kept_rows.specs.declared.observation.Instance.{Instance}
-use Rattle.book_views.specs.Sources.{is_attached_to, is_instance, is_replica_of, replicas_of, seen_source, source_in}
-use Rattle.audit_log.specs.Audits.{AuditState}
-use Rattle.failure_analysis.specs.Analysis.{counts_of, entry_of}
-use Rattle.failure_analysis.specs.Table.{action_of, code_of, none_replicates, AreCounts}
-use Rattle.failure_analysis.specs.declared.code.Action.{Action}
-use Rattle.failure_analysis.specs.declared.code.Action.TheVariants as action
-use Rattle.failure_analysis.specs.declared.entry.Entry.{Entry}
-use Rattle.failure_analysis.proofs.Counting.{tally-parts}
-use Rattle.failure_analysis.proofs.Rows.{action-of}
-use Rattle.permission.specs.Checks.{first_refusal, is_given}
-use Rattle.permission.specs.Lists.{first_of, only_if}
-use Rattle.permission.specs.Views.{attached_in, attached_of, has_log, is_valid, same_label, source_of}
-use Rattle.permission.proofs.Free.{neither}
-use Rattle.recovery_plans.specs.declared.purpose.Purpose.TheVariants as purpose
-use Rattle.recovery_permits.specs.declared.attempt.Attempt.{Attempt}
-use Rattle.recovery_permits.specs.Checks.{can_succeed, code_at, has_successor, held_back, no_master, no_replica, without_successor}
-use Rattle.recovery_permits.specs.Recoveries.{held_off, purpose_by, recovery_purpose, recovery_refusal, refusal_by, refusal_for}
-use Rattle.recovery_permits.specs.Takeovers.{case_of, row, takeover_refusal}
-use Rattle.recovery_core.specs.Scans.{Staged, actionable_in, after_try, from_start, scan_step, scanned, scanned_over, staged_refusal}
-use Rattle.recovery_core.specs.Tries.{Begins, recovery_begins, recovery_try, takeover_begins, takeover_try, unless_refused}
-use Rattle.recovery_core.proofs.Beginning.{unrefused}
-use Rattle.recovery_covers.specs.Covers.{times, AreReplicas}
-use Rattle.server_model.specs.Worlds.{World}
-use Rattle.run_laws.specs.Begins.{NamesReplicasOnce}
 use Rattle.run_laws.proofs.Once.{few-none, filtered-all, filtered-few, filtered-none, hit-few, none-few, ordered-few, ordered-once}
 
 -- ---- single tests
-
-not-true : (b : Bool) → not b ≡ true → b ≡ false
-not-true true h = absurd (false≢true h)
-not-true false h = refl
 
 passed : (b : Bool) (r : Refusal) → only_if (not b) r ≡ None → b ≡ true
 passed true r h = refl
@@ -69,11 +42,7 @@ attached-replica i (Detached m) = refl
 
 last-two : (x1 x2 x3 x4 x5 : Option Refusal) → first_of (x1 ∷ x2 ∷ x3 ∷ x4 ∷ x5 ∷ []) ≡ None → (x4 ≡ None) × (x5 ≡ None)
 last-two None None None None None h = (refl, refl)
-last-two None None None None (Some r) h = cc
-last-two None None None (Some r) x5 h = cc
-last-two None None (Some r) x4 x5 h = cc
-last-two None (Some r) x3 x4 x5 h = cc
-last-two (Some r) x2 x3 x4 x5 h = cc
+last-two _ _ _ _ _ h = cc
 
 -- what is asked for of a server with a source is no master's recovery
 abbrev is_masters : Action → Bool

@@ -1,47 +1,20 @@
 -- Claims through runs of several orchestrators.
 use Rattle.std.proofs.Common.{◌≡◌, ◌≢◌, ◌∙◌, ℕ, ◌<◌, ◌≤◌, Bool, true, false, List, [], ◌∷◌, Option, Some, None, refl, sym, ap, subst, arith, ltb}
 use Rattle.std.specs.Prelude.{All, max, not, ◌==◌, if◌then◌else◌}
-use Rattle.std.proofs.lemmas.Bool.{ltb-false, ltb-true}
-use Rattle.std.proofs.lemmas.List.{length-replicate}
-use Rattle.std.proofs.lemmas.List.Elements.{All-head, All-tail}
-use Rattle.kept_rows.specs.declared.recovery.Recovery.{Recovery}
-use Rattle.kept_rows.specs.declared.row.Row.{Row}
-use Rattle.node_claims.specs.Claims as claims
-use Rattle.node_claims.specs.Claims.{ClaimState, IsNode}
-use Rattle.node_claims.specs.Reached.{IsReached}
-use Rattle.node_claims.specs.Reached.IsReached.{Made, Later, Claimed, Released, Acted}
-use Rattle.node_claims.specs.declared.claims.ClaimAnswer.{ClaimAnswer}
-use Rattle.node_claims.specs.declared.claims.ClaimAnswer.TheVariants as claim
-use Rattle.opening_book.specs.Audits.{latest_recovery}
-use Rattle.opening_book.specs.Counting.{end_or, greatest}
-use Rattle.orch_base.specs.declared.server.Moment.{Moment}
-use Rattle.orch_core.specs.After.{after_act, after_done, after_restart, step}
-use Rattle.orch_core.specs.Nodes.{act_claimed, act_in, acts, claimed, claims_after, holder_by, passes_to, with_claims}
-use Rattle.orch_core.specs.Replies.{claim_reply, done_reply, reply_of}
-use Rattle.orch_core.specs.Restarts.{interrupted_at, reloaded_audit}
-use Rattle.orch_core.specs.Runs.{engine, run_turns, turns_of}
-use Rattle.orch_core.specs.Scenarios.{start, start_claim, start_moment, start_rows}
-use Rattle.orch_core.specs.States.{State, nodes_of}
-use Rattle.orch_core.specs.Turns.{later}
-use Rattle.orch_core.proofs.Claims.{nodes-step, step-lapsed}
-use Rattle.scenarios.specs.Turns.{IsNumberOf, IsTurn, NamesOneOf}
-use Rattle.scenarios.specs.declared.scenario.Scenario.{Scenario}
-use Rattle.turns.specs.declared.reply.Reply.TheVariants as answered
-use Rattle.turns.specs.declared.turn.Act.{Act}
-use Rattle.turns.specs.declared.turn.Act.TheVariants as act
-use Rattle.turns.specs.declared.turn.Turn.{Turn}
-use Rattle.turns.specs.declared.turn.Turn.TheVariants as turn
-use Rattle.jobs_in_flight.specs.Jobs.{Rise}
-use Rattle.jobs_in_flight.proofs.Numbers.{above}
-use Rattle.unended_jobs.specs.declared.unended.Unended.{Unended}
-use Rattle.unended_jobs.specs.Unended.{number_of}
-use Rattle.node_claims.proofs.Owned.{acting_told, kept_of_active, one_active, taken_while_it_lasts}
-use Rattle.orch_core.proofs.Starts.{moment-within}
-use Rattle.opening_book.proofs.Following.{is_eq}
-use Rattle.scenarios.specs.Scenarios.{IsScenario}
+use Rattle.run_laws.proofs.Prelude.{Act, Acted, ActsWhereActive, All-head, All-tail, ClaimAnswer, Claimed, ClaimsAreReached, ClaimState, ClaimsWait}
+use Rattle.run_laws.proofs.Prelude.{ComesBefore, ComesTo, IsNode, IsNumberOf, IsReached, IsScenario, IsTurn, ItsClaimIsKept, LapsedDoesNothing, Later}
+use Rattle.run_laws.proofs.Prelude.{Made, Moment, NamesOneOf, OneIsActive, PassingLeavesNewJobs, PassingLeavesNoJob, PassingStartsAgain, Recovery}
+use Rattle.run_laws.proofs.Prelude.{Released, Rise, Row, Scenario, State, Turn, Unended, above, act_claimed, act_in, acting_told, acts, after_act}
+use Rattle.run_laws.proofs.Prelude.{after_done, after_restart, claim_reply, claimed, claims_after, done_reply, end_or, engine, greatest, holder_by}
+use Rattle.run_laws.proofs.Prelude.{interrupted_at, is_eq, kept_of_active, later, latest_recovery, length-replicate, ltb-false, ltb-true}
+use Rattle.run_laws.proofs.Prelude.{moment-within, nodes-step, nodes_of, number_of, one_active, passes_to, reloaded_audit, reply_of, run_turns, start}
+use Rattle.run_laws.proofs.Prelude.{start_claim, start_moment, start_rows, step, step-lapsed, taken_while_it_lasts, turns_of, with_claims}
+use Rattle.run_laws.proofs.Prelude.act
+use Rattle.run_laws.proofs.Prelude.answered
+use Rattle.run_laws.proofs.Prelude.claim
+use Rattle.run_laws.proofs.Prelude.claims
+use Rattle.run_laws.proofs.Prelude.turn
 use Rattle.run_laws.proofs.JobEntries.{IsPaired, paired-none, paired-run}
-use Rattle.run_laws.specs.Runs.{ComesBefore, ComesTo}
-use Rattle.run_laws.specs.Claims.{ActsWhereActive, ClaimsAreReached, ClaimsWait, ItsClaimIsKept, LapsedDoesNothing, OneIsActive, PassingLeavesNewJobs, PassingLeavesNoJob, PassingStartsAgain}
 use Rattle.run_laws.proofs.Counting.{IsReckoned, moment-stays, reckoned-step}
 
 -- ---- the moment never falls
@@ -55,12 +28,8 @@ raised now (r ∷ rs) = let more = raised (end_or (max now r.begun.0) r.ended) r
     ended (Some e) = omega arith
 
 act-later : (rows : List Row) (s : State) (a : Act) → s.moment ≤ (after_act rows s a).moment
-act-later rows s (act.PollRead p n) = omega arith
-act-later rows s (act.PollStore p) = omega arith
-act-later rows s (act.Command c) = omega arith
-act-later rows s (act.Job job) = omega arith
-act-later rows s act.Scan = omega arith
 act-later rows s act.Restart = raised s.moment (reloaded_audit rows s).recoveries
+act-later rows s _ = omega arith
 
 done-later : (rows : List Row) (s : State) (o : Option Act) → s.moment ≤ (after_done rows s o).moment
 done-later rows s None = omega arith
@@ -71,11 +40,7 @@ tick-later now seconds most = omega (arith, most)
 
 pub act-claims : (rows : List Row) (s : State) (a : Act) → (after_act rows s a).claims ≡ s.claims
 act-claims rows s (act.PollRead p n) = refl
-act-claims rows s (act.PollStore p) = refl
-act-claims rows s (act.Command c) = refl
-act-claims rows s (act.Job job) = refl
-act-claims rows s act.Scan = refl
-act-claims rows s act.Restart = refl
+act-claims rows s _ = refl
 
 -- ---- the claims are reached
 

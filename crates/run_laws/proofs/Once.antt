@@ -1,15 +1,8 @@
 -- How often a server stands in the order by name, and in what a test leaves of a list.
+use Rattle.run_laws.proofs.Prelude.{HostPort, IsOrder-by_name, ServerNo, by_name, cases_lt, eq-eqb, eqb-true, false≢true, length-by_name, ne_eqb}
+use Rattle.run_laws.proofs.Prelude.{range_with_len, same-no as same-server, sum_by, sum_by-cons, sum_by-IsPermutation, times}
 use Rattle.std.proofs.Common.{◌≡◌, ℕ, ◌+◌, ◌<◌, ◌≤◌, ◌∙◌, Bool, true, false, cond, List, [], ◌∷◌, length, map, refl, sym, ap, subst, zero, suc, ◌⊎◌, inl, inr, arith}
 use Rattle.std.specs.Prelude.{◌==◌, filter}
-use Rattle.std.specs.List.{range_with_len, sum_by}
-use Rattle.std.proofs.lemmas.Bool.{cases_lt, eqb-true, eq-eqb, false≢true, ne_eqb}
-use Rattle.std.proofs.lemmas.List.Sums.{sum_by-cons}
-use Rattle.std.proofs.lemmas.List.Sorted.{sum_by-IsPermutation}
-use Rattle.orch_base.specs.Names.{HostPort}
-use Rattle.orch_base.specs.declared.server.ServerNo.{ServerNo}
-use Rattle.name_order.specs.NameOrder.{by_name}
-use Rattle.name_order.proofs.ByName.{IsOrder-by_name, length-by_name}
-use Rattle.recovery_covers.specs.Covers.{times}
 
 -- how much one number adds
 abbrev hit : ℕ → ℕ → ℕ
@@ -110,9 +103,6 @@ filtered-few n p (x ∷ xs) = go (p x) (filtered-few n p xs)
     go : (b : Bool) → times n (filter p xs) ≤ times n xs → times n (cond b (x ∷ filter p xs) (filter p xs)) ≤ times n (x ∷ xs)
     go true rest = omega (arith, rest)
     go false rest = omega (arith, rest)
-
-same-server : (x s : ServerNo) → x.0 ≡ s.0 → x ≡ s
-same-server x s e = λ j. record { 0 = e j }
 
 -- nothing of a server that doesn't pass
 pub filtered-none : (p : ServerNo → Bool) (s : ServerNo) (xs : List ServerNo) → p s ≡ false → times s.0 (filter p xs) ≡ 0

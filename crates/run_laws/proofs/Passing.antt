@@ -2,38 +2,16 @@
 -- and sound where it is.
 use Rattle.std.proofs.Common.{ℕ, Bool, true, false, List, [], ◌∷◌, refl, sym, ap, subst, Option, Some, None}
 use Rattle.std.specs.Prelude.{is_some, if◌then◌else◌, IfSome}
-use Rattle.orch_base.specs.Memory.{next_count}
-use Rattle.orch_base.specs.declared.server.ServerNo.{ServerNo}
-use Rattle.kept_rows.specs.declared.row.Row.{Row}
-use Rattle.instance_keeper.specs.Book.{instance_at}
-use Rattle.server_model.specs.Safe.{IsQuiet}
-use Rattle.turns.specs.declared.turn.Act.{Act}
-use Rattle.turns.specs.declared.turn.Act.TheVariants as act
-use Rattle.turns.specs.declared.turn.Step.{Step}
-use Rattle.turns.specs.declared.turn.Turn.{Turn}
-use Rattle.turns.specs.declared.turn.Turn.TheVariants as turn
-use Rattle.scenarios.specs.Turns.{IsAct, IsStep, IsTurn}
-use Rattle.job_laws.specs.Flights.{Flight}
-use Rattle.job_laws.specs.Passages as pass
-use Rattle.job_laws.specs.Passages.{AllMayPass, AllPassWell, MayPass, passing}
-use Rattle.unended_laws.specs.Flights.{HeldJobs, SoundJobs}
-use Rattle.unended_laws.proofs.Beside.{apart-held, apart-sound, restart-held, restart-sound}
-use Rattle.unended_laws.proofs.Turning.{number-held, number-may, number-sound, number-well}
-use Rattle.jobs_in_flight.specs.Jobs.{job_at, jobs_turned}
-use Rattle.std.specs.Option.{option_map}
-use Rattle.orch_core.specs.Jobs.{turn_of}
-use Rattle.orch_core.specs.Polls.{slot_at}
-use Rattle.orch_core.specs.After.{after_act, step, after_done}
-use Rattle.orch_core.specs.States.{State}
-use Rattle.orch_core.specs.Turns.{exchange_of}
-use Rattle.orch_core.proofs.States.{Allowed-step}
-use Rattle.run_laws.specs.Flights.{act_passages, by_job, flight_of, moment_at, passages_of, takes, done_passages}
-use Rattle.run_laws.specs.States.{HeldState, SoundState}
+use Rattle.run_laws.proofs.Prelude.{Act, AllMayPass, Allowed-step, AllPassWell, Flight, HeldJobs, HeldState, IsAct, IsQuiet, IsStep, IsTurn, MayPass}
+use Rattle.run_laws.proofs.Prelude.{Ready, Row, ServerNo, SoundJobs, SoundState, State, Step, Turn, act-fits, act_in, act_passages, after_act}
+use Rattle.run_laws.proofs.Prelude.{after_done, apart-held, apart-sound, by_job, done_passages, exchange_of, flight_of, instance_at, job_at}
+use Rattle.run_laws.proofs.Prelude.{jobs_turned, moment_at, next_count, number-held, number-may, number-sound, number-well, option_map, passages_of}
+use Rattle.run_laws.proofs.Prelude.{passing, restart-held, restart-sound, slot_at, step, takes, turn_of}
+use Rattle.run_laws.proofs.Prelude.act
+use Rattle.run_laws.proofs.Prelude.pass
+use Rattle.run_laws.proofs.Prelude.turn
 use Rattle.run_laws.proofs.Flown.{flown, poll-may}
 use Rattle.run_laws.proofs.FlownOutcomes.{Leaves-command, Leaves-scan}
-use Rattle.run_laws.specs.Ready.{Ready}
-use Rattle.orch_core.specs.Nodes.{act_in}
-use Rattle.orch_core.proofs.Claims.{act-fits}
 
 -- ---- a job's turn
 

@@ -1,22 +1,9 @@
 -- Block periods of clusters through runs.
 use Rattle.std.proofs.Common.{◌≡◌, ◌∙◌, ℕ, ◌≤◌, List, [], ◌∷◌, refl, ap, Option, Some, None}
-use Rattle.audit_log.specs.Audits.{longest_block}
-use Rattle.kept_rows.specs.declared.row.Row.{Row}
-use Rattle.scenarios.specs.declared.scenario.Scenario.{Scenario}
-use Rattle.turns.specs.declared.turn.Act.{Act}
-use Rattle.turns.specs.declared.turn.Act.TheVariants as act
-use Rattle.turns.specs.declared.turn.Turn.{Turn}
-use Rattle.turns.specs.declared.turn.Turn.TheVariants as turn
-use Rattle.orch_core.specs.After.{after_act, step, after_done}
-use Rattle.command_outcomes.specs.declared.configuration.Configuration.{Configuration}
-use Rattle.command_outcomes.specs.Periods.{period_by}
-use Rattle.orch_core.specs.Runs.{engine, run_turns}
-use Rattle.orch_core.specs.Scenarios.{configuration_of, start}
-use Rattle.orch_core.specs.States.{State}
-use Rattle.orch_core.proofs.Periods.{short-in}
-use Rattle.run_laws.specs.Ready.{AreShort}
-use Rattle.run_laws.specs.Runs.{ComesTo}
-use Rattle.orch_core.specs.Nodes.{act_in}
+use Rattle.run_laws.proofs.Prelude.{Act, AreShort, ComesTo, Configuration, Row, Scenario, State, Turn, act_in, after_act, after_done}
+use Rattle.run_laws.proofs.Prelude.{configuration_of, engine, longest_block, period_by, run_turns, short-in, start, step}
+use Rattle.run_laws.proofs.Prelude.act
+use Rattle.run_laws.proofs.Prelude.turn
 
 -- each is short
 pub short-by : (c : Configuration) → AreShort c → (cluster : List ℕ) → period_by c cluster ≤ longest_block
@@ -26,23 +13,17 @@ short-by c short cluster = short-in c.blocks c.block cluster short.blocks short.
 
 act-configured : (rows : List Row) (s : State) (a : Act) → (after_act rows s a).configuration ≡ s.configuration
 act-configured rows s (act.PollRead p n) = refl
-act-configured rows s (act.PollStore p) = refl
-act-configured rows s (act.Command c) = refl
-act-configured rows s (act.Job job) = refl
-act-configured rows s act.Scan = refl
-act-configured rows s act.Restart = refl
+act-configured rows s _ = refl
 
 done-configured : (rows : List Row) (s : State) (o : Option Act) → (after_done rows s o).configuration ≡ s.configuration
 done-configured rows s None = refl
 done-configured rows s (Some a) = act-configured rows s a
 
 pub turn-configured : (rows : List Row) (s : State) (t : Turn) → (step rows s t).configuration ≡ s.configuration
-turn-configured rows s (turn.Step x) = refl
-turn-configured rows s (turn.Tick seconds) = refl
 turn-configured rows s (turn.Act a) = act-configured rows s a
 turn-configured rows s (turn.As node a) = done-configured rows s (act_in s (turn.As node a))
 turn-configured rows s (turn.Claim node) = done-configured rows s (act_in s (turn.Claim node))
-turn-configured rows s (turn.Release node) = refl
+turn-configured rows s _ = refl
 
 configured : (s : State) (xs : List (List Row × Turn)) → (run_turns engine s xs).configuration ≡ s.configuration
 configured s [] = refl

@@ -1,52 +1,24 @@
 -- Commands answer by the permission table, and a refused one changes nothing.
 use Rattle.std.proofs.Common.{◌≡◌, ◌∙◌, ℕ, ◌+◌, Bool, List, [], ◌∷◌, ◌++◌, refl, sym, ap, subst, Option, Some, None, Ok}
 use Rattle.std.specs.Prelude.{is_some, if◌then◌else◌}
-use Rattle.orch_base.specs.declared.server.ServerNo.{ServerNo}
-use Rattle.kept_rows.specs.declared.observation.Observation.{Observation}
-use Rattle.server_words.specs.declared.status.Status.{Status as Seen}
-use Rattle.kept_rows.specs.declared.row.Row.{Row}
-use Rattle.instance_keeper.specs.Book.{BookState}
-use Rattle.commands.specs.declared.line.Line.{Line}
-use Rattle.commands.specs.declared.line.Line.TheVariants as line
-use Rattle.commands.specs.declared.name.CommandName.{CommandName}
-use Rattle.commands.specs.declared.name.CommandName.TheVariants as name
-use Rattle.commands.specs.declared.refusal.Refusal.{Refusal}
-use Rattle.commands.specs.declared.refusal.Refusal.TheVariants.{UnknownInstance, Unreachable}
-use Rattle.commands.specs.declared.turn.CommandTurn.{CommandTurn}
-use Rattle.commands.specs.Unknown.{unknown_of}
-use Rattle.asking_commands.specs.Answers.{allowed, is_known, lines_of}
-use Rattle.turns.specs.declared.reply.Reply.TheVariants as answered
-use Rattle.turns.specs.declared.turn.Act.TheVariants as act
-use Rattle.turns.specs.declared.turn.Turn.TheVariants as turn
-use Rattle.command_routes.specs.declared.route.Planner.{Planner}
-use Rattle.command_jobs.specs.Jobs.{job_by, leases_by, refusal_by as planned_refusal}
-use Rattle.command_jobs.proofs.Begun.{job-number}
-use Rattle.unended_jobs.specs.declared.unended.Unended.{Unended}
-use Rattle.knowledge.specs.Knowing.{updated}
-use Rattle.command_outcomes.specs.Commands.{Outcome, about as given_or, asked, begun, busy_given, by_hand, decided, discovered, first_of, forgotten, next_reading, outcome_by, outcome_of, recovered, recovery_begun, refusal, stays, taken_over}
-use Rattle.audit_log.specs.Audits.{AuditState}
-use Rattle.book_commands.specs.declared.decided.Decided.{Decided}
-use Rattle.book_commands.specs.Decisions.{decided_of}
-use Rattle.command_routes.specs.declared.route.Route.{Route}
-use Rattle.command_routes.specs.declared.route.Route.TheVariants.{Discovers, Forgets, Asks, Decides, Begins, Recovers, TakesOver}
-use Rattle.command_routes.specs.Routes.{route_of}
-use Rattle.instance_keeper.specs.Leases.{taken}
-use Rattle.command_outcomes.specs.HookTelling.{told_try}
-use Rattle.orch_core.specs.Permission.{IsAnswer, IsDone, recovery_refused, refusal_at, refusal_by, takeover_given, takeover_refused, unreached}
-use Rattle.recovery_core.specs.Tries.{Begins as RecoveryBegins, recovery_begins, takeover_begins, unless_refused}
-use Rattle.recovery_permits.specs.Recoveries.{recovery_refusal}
-use Rattle.recovery_permits.specs.Takeovers.{takeover_refusal}
-use Rattle.turns.specs.declared.reply.Reply.{Reply}
-use Rattle.unended_jobs.specs.Unended.{number_of}
-use Rattle.run_laws.specs.BegunJobs.{BegunJob, begun_by, begun_of, entry_kept, of_plan, of_try, recovering, taking_by, taking_over, with_entry}
-use Rattle.run_laws.specs.Runs.{IsBegun}
-use Rattle.orch_core.specs.Polls.{changes_of, command_outcome, numbers_of}
-use Rattle.orch_core.specs.Replies.{reply_of}
-use Rattle.orch_core.specs.After.{step}
-use Rattle.orch_core.specs.States.{State}
-use Rattle.orch_core.specs.Settling.{known_of, with_known}
-use Rattle.command_outcomes.specs.Periods.{period_by}
-use Rattle.book_views.specs.Sources.{label_at}
+use Rattle.run_laws.proofs.Prelude.{Asks, AuditState, Begins as RecoveryBegins, BegunJob, BookState, CommandName, CommandTurn, Decided, Decides}
+use Rattle.run_laws.proofs.Prelude.{Discovers, Forgets, IsBegun, IsDone, Line, Observation, Outcome, Planner, Recovers, Refusal, Reply, Route, Row}
+use Rattle.run_laws.proofs.Prelude.{ServerNo, State, Status as Seen, TakesOver, Unended, UnknownInstance, Unreachable, about as given_or, allowed}
+use Rattle.run_laws.proofs.Prelude.{asked, begun_by, begun_of, busy_given, by_hand, changes_of, command_outcome, decided, decided_of, discovered}
+use Rattle.run_laws.proofs.Prelude.{entry_kept, first_of, forgotten, is_known, job-number, job_by, known_of, label_at, leases_by, lines_of}
+use Rattle.run_laws.proofs.Prelude.{next_reading, number_of, numbers_of, of_plan, of_try, outcome_by, outcome_of, period_by, recovered, recovering}
+use Rattle.run_laws.proofs.Prelude.{recovery_begins, recovery_begun, recovery_refusal, recovery_refused, refusal, refusal_at}
+use Rattle.run_laws.proofs.Prelude.{refusal_by as planned_refusal, reply_of, route_of, stays, step, taken, taken_over, takeover_begins}
+use Rattle.run_laws.proofs.Prelude.{takeover_given, takeover_refusal, takeover_refused, taking_by, taking_over, told_try, unknown_of, unless_refused}
+use Rattle.run_laws.proofs.Prelude.{unreached, updated, with_entry, with_known}
+use Rattle.run_laws.proofs.Prelude.Outcomes.{begun}
+use Rattle.run_laws.proofs.Prelude.RefusedCommands.{IsAnswer, refusal_by}
+use Rattle.run_laws.proofs.Prelude.route.{Begins}
+use Rattle.run_laws.proofs.Prelude.act
+use Rattle.run_laws.proofs.Prelude.answered
+use Rattle.run_laws.proofs.Prelude.line
+use Rattle.run_laws.proofs.Prelude.name
+use Rattle.run_laws.proofs.Prelude.turn
 
 -- refused exactly with the refusal that applies, else so
 abbrev AnswersBy : (Reply → Type 0) → Option Refusal → Reply → Type 0
@@ -81,52 +53,8 @@ refused_answers reads D r = record { answer = refl; book = λ why refused. refl;
 
 -- only discover reads the server itself
 route_discovers : (n : CommandName) → route_of n ≡ Discovers → n ≡ name.Discover
-route_discovers name.MoveUp is = cc
-route_discovers name.MoveUpReplicas is = cc
-route_discovers name.MoveBelow is = cc
-route_discovers name.Repoint is = cc
-route_discovers name.TakeSiblings is = cc
-route_discovers name.TakeMaster is = cc
-route_discovers name.MoveGtid is = cc
-route_discovers name.MoveReplicasGtid is = cc
-route_discovers name.EnableGtid is = cc
-route_discovers name.DisableGtid is = cc
-route_discovers name.Relocate is = cc
-route_discovers name.RelocateReplicas is = cc
-route_discovers name.RegroupReplicas is = cc
-route_discovers name.Match is = cc
-route_discovers name.MatchUp is = cc
-route_discovers name.MatchReplicas is = cc
-route_discovers name.RegroupReplicasPgtid is = cc
-route_discovers name.DetachReplica is = cc
-route_discovers name.ReattachReplica is = cc
-route_discovers name.ResetReplica is = cc
-route_discovers name.StartReplica is = cc
-route_discovers name.StopReplica is = cc
-route_discovers name.RestartReplica is = cc
-route_discovers name.SetReadOnly is = cc
-route_discovers name.SetWriteable is = cc
 route_discovers name.Discover is = refl
-route_discovers name.Forget is = cc
-route_discovers name.BeginDowntime is = cc
-route_discovers name.EndDowntime is = cc
-route_discovers name.RegisterCandidate is = cc
-route_discovers name.Recover is = cc
-route_discovers name.GracefulMasterTakeover is = cc
-route_discovers name.AckClusterRecoveries is = cc
-route_discovers name.Topology is = cc
-route_discovers name.WhichMaster is = cc
-route_discovers name.WhichReplicas is = cc
-route_discovers name.WhichCluster is = cc
-route_discovers name.WhichClusterInstances is = cc
-route_discovers name.Clusters is = cc
-route_discovers name.AllInstances is = cc
-route_discovers name.Find is = cc
-route_discovers name.ReplicationAnalysis is = cc
-route_discovers name.AuditRecoveries is = cc
-route_discovers name.DisableGlobalRecoveries is = cc
-route_discovers name.EnableGlobalRecoveries is = cc
-route_discovers name.CheckGlobalRecoveries is = cc
+route_discovers _ is = cc
 
 -- and it takes any server
 discover_takes : (n : CommandName) (i : ServerNo) (d : Option ServerNo) (i_known d_known : Bool) → route_of n ≡ Discovers → unknown_of (record { name = n; i = Some i; d = d }) i_known d_known ≡ None

@@ -1,56 +1,28 @@
 -- A job's turn, of a plan or a recovery, makes neither writes nor new files.
 use Rattle.std.proofs.Common.{◌≡◌, ℕ, ◌+◌, Bool, true, false, cond, List, [], ◌∷◌, ◌++◌, refl, ap, subst, Option, Some, None, Ok, Err, Result, arith}
 use Rattle.std.specs.Prelude.{All, count_by, nat_lt}
-use Rattle.std.proofs.lemmas.List.Elements.{All-append, All-nil, All-cons, All-head, All-tail}
-use Rattle.std.proofs.lemmas.List.Sums.{sum_by-cons}
-use Rattle.std.proofs.lemmas.Option.{same_Some}
-use Rattle.orch_base.specs.declared.server.Moment.{Moment}
-use Rattle.orch_base.specs.declared.server.ServerNo.{ServerNo}
-use Rattle.orch_base.specs.declared.server.SourceState.{SourceState}
-use Rattle.orch_base.specs.declared.server.SourceState.TheVariants.{Without, Attached, Detached}
-use Rattle.binlog_coords.specs.declared.Coord.{Coord}
-use Rattle.instance_keeper.specs.declared.bridge.Bridge.{Bridge}
-use Rattle.kept_rows.specs.declared.observation.Observation.{Observation}
-use Rattle.server_words.specs.declared.answers.Unreachable.{Unreachable}
-use Rattle.server_words.specs.declared.attach.AttachFault.{AttachFault}
-use Rattle.server_words.specs.declared.attach.Spot.TheVariants as spot
-use Rattle.server_words.specs.declared.attach.Spot.{Spot}
-use Rattle.server_words.specs.declared.changes.Ask.{Ask}
-use Rattle.server_words.specs.declared.changes.Ask.TheVariants as asking
-use Rattle.server_words.specs.declared.status.Status.{Status}
-use Rattle.kept_rows.specs.Seeing.{seen_in}
-use Rattle.server_model.specs.Desk.{desk_answer}
-use Rattle.server_model.specs.Gtids.{status}
-use Rattle.server_model.specs.Run.{Exchange, Attach, AttachAuto, Request, is_rotate, is_write}
-use Rattle.server_model.specs.Worlds.{World, server_at}
-use Rattle.commands.specs.declared.cause.Cause.{Cause}
-use Rattle.commands.specs.declared.cause.Cause.TheVariants as cause
-use Rattle.instance_keeper.specs.Book.{BookState}
-use Rattle.operations.specs.declared.sight.Position.{Position}
-use Rattle.operations.specs.declared.sight.Sight.{Sight}
-use Rattle.recovery_plans.specs.declared.purpose.Purpose.{Purpose}
-use Rattle.recovery_plans.specs.declared.purpose.Purpose.TheVariants as purpose
-use Rattle.recovery_plans.specs.declared.stage.Stage.{Stage}
-use Rattle.recovery_plans.specs.declared.stage.Stage.TheVariants as stage
-use Rattle.recovery_plans.specs.Deciding.{decided, ground_of}
-use Rattle.recovery_plans.specs.Recoveries.{Recovery}
-use Rattle.recovery_plans.specs.Taking as taking
-use Rattle.unended_jobs.specs.declared.unended.Unended.{Unended}
-use Rattle.unended_jobs.specs.declared.unended.Unended.TheVariants as unended
-use Rattle.unended_jobs.specs.Hooked.{promoted_in}
-use Rattle.unended_jobs.proofs.Hooked.{hooked-has}
-use Rattle.unended_jobs.specs.Unended.{flown}
-use Rattle.operations.specs.declared.matching.Match.{Match}
-use Rattle.operations.specs.declared.matching.MatchFault.{MatchFault}
-use Rattle.operations.specs.declared.op.Op.{Op}
-use Rattle.operations.specs.declared.op.Crossing.{Crossing}
-use Rattle.operations.specs.declared.op.Crossing.TheVariants as cross
-use Rattle.operations.specs.Deeds as deed
-use Rattle.operations.specs.Deeds.{Deed, deed_of}
-use Rattle.operations.specs.Jobs.{Job, match_found, seen_of}
-use Rattle.operations.specs.Matching.{match_logs, standing_at}
-use Rattle.operations.specs.Targets.{can_attach}
-use Rattle.operations.specs.Turns.{Attempt, Turned, bridge_at, Goes, Stops, Ends, crossing_of, settled, next, saw, restarts, observed, is_moved, after_status, after_look, after_ask, aim_of, attached_anew, is_reached, until_by, after_until, after_wait_by, after_wait, holds_seen, settles, read_by, crossed, same_again, by_set, after_match, by_match, attach_answer_of, after_answer, after_attach, by_deed, by_ops, turned}
+use Rattle.run_laws.proofs.Prelude.{All-append, All-cons, All-head, All-nil, All-tail, Ask, Attach, AttachAuto, Attached, AttachFault, BookState}
+use Rattle.run_laws.proofs.Prelude.{Bridge, Cause, Coord, Crossing, Deed, Detached, Ends, Exchange, Goes, Job, Match, MatchFault, Moment, Observation}
+use Rattle.run_laws.proofs.Prelude.{Op, Position, Purpose, Request, ServerNo, Sight, SourceState, Spot, Stage, Status, Stops, Turned, Unended}
+use Rattle.run_laws.proofs.Prelude.{Without, World, after_answer, after_ask, after_attach, after_look, after_match, after_status, after_until}
+use Rattle.run_laws.proofs.Prelude.{after_wait, after_wait_by, aim_of, attach_answer_of, attached_anew, bridge_at, by_deed, by_match, by_ops, by_set}
+use Rattle.run_laws.proofs.Prelude.{can_attach, crossed, crossing_of, deed_of, desk_answer, flown, ground_of, holds_seen, hooked-has, is_moved}
+use Rattle.run_laws.proofs.Prelude.{is_reached, is_rotate, is_write, match_found, match_logs, next, observed, promoted_in, read_by, restarts}
+use Rattle.run_laws.proofs.Prelude.{same_again, same_Some, saw, seen_in, seen_of, server_at, settled, settles, standing_at, status, sum_by-cons}
+use Rattle.run_laws.proofs.Prelude.{turned, until_by}
+use Rattle.run_laws.proofs.Prelude.Deciding.{decided}
+use Rattle.run_laws.proofs.Prelude.RecoveryPlans.{Recovery}
+use Rattle.run_laws.proofs.Prelude.ServerWords.{Unreachable}
+use Rattle.run_laws.proofs.Prelude.Turns.{Attempt}
+use Rattle.run_laws.proofs.Prelude.asking
+use Rattle.run_laws.proofs.Prelude.cause
+use Rattle.run_laws.proofs.Prelude.cross
+use Rattle.run_laws.proofs.Prelude.deed
+use Rattle.run_laws.proofs.Prelude.purpose
+use Rattle.run_laws.proofs.Prelude.spot
+use Rattle.run_laws.proofs.Prelude.stage
+use Rattle.run_laws.proofs.Prelude.taking
+use Rattle.run_laws.proofs.Prelude.unended
 
 -- an exchange that adds neither a transaction of a client nor a file
 pub record IsPlain (e : Exchange) : Type 0 where
@@ -198,20 +170,15 @@ way-back-plain w seen m (stage.Close lines) = All-nil IsPlain
 way-back-plain w seen m s = writes-plain m
 
 undone-plain : (w : World) (u : Purpose) (seen : List Sight) (f : ServerNo) (s : Stage) → All IsPlain (taking.undone w u seen f s)
-undone-plain w purpose.Regroup seen f s = All-nil IsPlain
-undone-plain w purpose.Master seen f s = All-nil IsPlain
-undone-plain w (purpose.Intermediate k) seen f s = All-nil IsPlain
 undone-plain w (purpose.Takeover d) seen f s = way-back-plain w seen f s
+undone-plain w _ seen f s = All-nil IsPlain
 
 last-plain : (w : World) (r : Recovery) → All IsPlain (taking.last_exchanges w r)
 last-plain w r = append-plain (taking.undone w r.purpose r.core.seen r.failed r.stage) (restarts r.core.hands) (undone-plain w r.purpose r.core.seen r.failed r.stage) (restarts-plain r.core.hands)
 
 met-plain : (w : World) (r : Recovery) (c : Cause) (ob : Option Observation) (f : taking.Fate) → All IsPlain (taking.met w r c ob f).exchanges
 met-plain w r c ob taking.Fails = last-plain w r
-met-plain w r c ob taking.Drops = All-nil IsPlain
-met-plain w r c ob (taking.Loses n why) = All-nil IsPlain
-met-plain w r c ob (taking.Frees n why) = All-nil IsPlain
-met-plain w r c ob (taking.Goes s ops) = All-nil IsPlain
+met-plain w r c ob _ = All-nil IsPlain
 
 attempted-plain : (w : World) (r : Recovery) (o : Op) (a : Attempt) → All IsPlain (settled r.core a).exchanges → All IsPlain (taking.attempted w r o a).exchanges
 attempted-plain w r o (Goes ob es j) all = go (taking.barred_by r.stage r.failed j.seen)

@@ -1,58 +1,24 @@
 -- Each turn leaves all that is kept speaking of the servers, and so does an opening.
 use Rattle.std.proofs.Common.{◌≡◌, ◌∙◌, ℕ, ◌<◌, Bool, true, false, List, [], ◌∷◌, length, refl, sym, ap, subst, Option, Some, None, zero, suc, arith}
 use Rattle.std.specs.Prelude.{All, ◌==◌, IsTrue, is_some, not, slice_index_or, slice_set, if◌then◌else◌, IfSome}
-use Rattle.std.specs.Option.{option_map}
-use Rattle.std.proofs.lemmas.List.{length-map, length-replicate, length-set}
-use Rattle.std.proofs.lemmas.List.Elements.{All-cons, All-nil, All-head, All-tail, All-filter, All-replicate, All-set}
-use Rattle.orch_base.specs.Memory.{next_count}
-use Rattle.kept_rows.specs.declared.observation.Observation.{Observation}
-use Rattle.kept_rows.specs.declared.row.Change.{Change}
-use Rattle.kept_rows.specs.declared.row.Change.TheVariants as change
-use Rattle.kept_rows.specs.declared.row.Row.{Row}
-use Rattle.kept_rows.specs.declared.row.Row.TheVariants as row
-use Rattle.instance_keeper.specs.Book.{BookState, IsBook, instance_at, shown_by}
-use Rattle.instance_keeper.proofs.Books.{change_is, put_is}
-use Rattle.audit_log.specs.Audits.{AuditState}
-use Rattle.opening_book.specs.Opening.{after_opening, is_opening_change, loading, opened_book}
-use Rattle.opening_book.specs.Counting.{greatest_id}
-use Rattle.opening_book.proofs.Following.{names-opening}
-use Rattle.server_model.specs.Run.{Exchange, AllAllowed, run}
-use Rattle.turns.specs.declared.turn.Act.{Act}
-use Rattle.turns.specs.declared.turn.Act.TheVariants as act
-use Rattle.turns.specs.declared.turn.Turn.{Turn}
-use Rattle.turns.specs.declared.turn.Turn.TheVariants as turn
-use Rattle.scenarios.specs.declared.scenario.Scenario.{Scenario}
-use Rattle.scenarios.specs.Scenarios.{IsScenario, period_of, settings_of}
-use Rattle.scenarios.specs.Turns.{IsAct, IsTurn, pollers}
-use Rattle.operations.specs.Turns.{is_going}
-use Rattle.unended_jobs.specs.declared.unended.Unended.{Unended}
-use Rattle.unended_jobs.specs.Unended.{Flown, IsReady, number_of}
-use Rattle.unended_jobs.proofs.Going.{flown-allowed, flown-ready, flown-sees}
-use Rattle.operations.specs.Turns.{observed}
-use Rattle.orch_base.specs.declared.server.ServerNo.{ServerNo}
-use Rattle.knowledge.specs.Knowing.{updated}
-use Rattle.command_outcomes.specs.Commands.{Outcome}
-use Rattle.jobs_in_flight.specs.Jobs.{book_turned, job_at, job_exchanges, jobs_turned, stored, with_job, without_job, without_leases}
-use Rattle.orch_core.specs.Jobs.{turn_of}
-use Rattle.orch_core.specs.Polls.{command_outcome, reading, scan_outcome, slot_at}
-use Rattle.orch_core.specs.Restarts.{last_given}
-use Rattle.orch_core.specs.After.{after_act, after_tick, step, after_done}
-use Rattle.orch_core.specs.Scenarios.{loaded_audit, loaded_book, start, start_changes, start_moment, start_rows, start_world}
-use Rattle.orch_core.specs.States.{State, IsSlot}
-use Rattle.orch_core.specs.Turns.{exchange_of}
-use Rattle.server_model.proofs.Counts.{servers-run}
-use Rattle.orch_core.proofs.Servers.{servers-start}
-use Rattle.orch_core.proofs.Sources.{sources-run}
-use Rattle.orch_core.proofs.Starts.{all-loading, fits-opening, sources-start}
-use Rattle.orch_core.proofs.States.{Allowed-step, names-loaded, names-stored, reading_known}
-use Rattle.orch_core.proofs.Turned.{All-found}
-use Rattle.orch_core.specs.Settling.{known_of, settled}
-use Rattle.run_laws.specs.Ready.{Ready}
+use Rattle.run_laws.proofs.Prelude.{Act, All-cons, All-filter, All-found, All-head, All-nil, All-replicate, All-set, All-tail, AllAllowed}
+use Rattle.run_laws.proofs.Prelude.{Allowed-step, AuditState, BookState, Change, ClaimState, Exchange, Flown, IsAct, IsBook, IsReady, IsScenario}
+use Rattle.run_laws.proofs.Prelude.{IsSlot, IsTurn, Observation, Outcome, Ready, Row, Scenario, ServerNo, State, Turn, Unended, act-fits, act_in}
+use Rattle.run_laws.proofs.Prelude.{after_act, after_done, after_opening, after_tick, all-loading, book_turned, change_is, claims_after}
+use Rattle.run_laws.proofs.Prelude.{command_outcome, exchange_of, fits-opening, flown-allowed, flown-ready, flown-sees, greatest_id, holder_after}
+use Rattle.run_laws.proofs.Prelude.{instance_at, is_going, is_opening_change, job_at, job_exchanges, jobs_turned, known_of, last_given, length-map}
+use Rattle.run_laws.proofs.Prelude.{length-replicate, length-set, loaded_audit, loaded_book, loading, names-loaded, names-opening, names-stored}
+use Rattle.run_laws.proofs.Prelude.{next_count, number_of, observed, opened_book, option_map, period_of, pollers, put_is, reading, reading_known, run}
+use Rattle.run_laws.proofs.Prelude.{scan_outcome, servers-run, servers-start, settings_of, shown_by, slot_at, sources-run, sources-start, start}
+use Rattle.run_laws.proofs.Prelude.{start_changes, start_moment, start_rows, start_world, step, stored, turn_of, updated, with_claims, with_job}
+use Rattle.run_laws.proofs.Prelude.{without_job, without_leases}
+use Rattle.run_laws.proofs.Prelude.Settling.{settled}
+use Rattle.run_laws.proofs.Prelude.act
+use Rattle.run_laws.proofs.Prelude.change
+use Rattle.run_laws.proofs.Prelude.kept_row as row
+use Rattle.run_laws.proofs.Prelude.turn
 use Rattle.run_laws.proofs.ReadyOutcomes.{Keeps, command-keeps, scan-keeps}
 use Rattle.run_laws.proofs.Ready.{IsBook-freed, IsBook-loaded, IsBook-observed, IsBook-ringed, IsBook-stored, settings-count}
-use Rattle.orch_core.specs.Nodes.{act_in, claims_after, holder_after, with_claims}
-use Rattle.orch_core.proofs.Claims.{act-fits}
-use Rattle.node_claims.specs.Claims.{ClaimState}
 
 -- ---- exchanges
 

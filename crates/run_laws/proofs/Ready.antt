@@ -1,29 +1,13 @@
 -- What holds of each state of a run, whatever rows a keeper hands back: that all that is kept speaks of its servers.
-use Rattle.run_laws.specs.Ready.{Ready}
+use Rattle.run_laws.proofs.Prelude.{BookState, Bridge, HasKnownSource, Instance, IsBook, IsSlot, Moment, Observation, Ready, Row, ServerNo, Settings}
+use Rattle.run_laws.proofs.Prelude.{State, Status as Seen, added_over, after_put, after_row, are_known, both_true, bridge_in, counted}
+use Rattle.run_laws.proofs.Prelude.{discovered_over, empty_book, empty_is, first_seen, fits, given_back, instance_at, known_at, leases_set}
+use Rattle.run_laws.proofs.Prelude.{length-map, loaded, observed, observed_servers, put_is, reading_known, renewed, ring_at, ringed, rings_set}
+use Rattle.run_laws.proofs.Prelude.{row_fits, seen_servers, shown_by, source_servers, stored, stored_over, with_bridge, without_leases}
+use Rattle.run_laws.proofs.Prelude.change
+use Rattle.run_laws.proofs.Prelude.kept_row as row
 use Rattle.std.proofs.Common.{◌≡◌, ◌∙◌, ℕ, ◌<◌, ◌^◌, Bool, true, false, List, [], ◌∷◌, length, refl, sym, ap, subst, Option, Some, None, zero, suc, arith}
 use Rattle.std.specs.Prelude.{fold, nat_lt, unwrap_or, slice_index_or, slice_set, if◌then◌else◌}
-use Rattle.std.proofs.lemmas.List.{length-map}
-use Rattle.orch_base.specs.declared.server.ServerNo.{ServerNo}
-use Rattle.orch_base.specs.declared.server.Settings.{Settings}
-use Rattle.server_words.specs.declared.status.Status.{Status as Seen}
-use Rattle.instance_keeper.specs.declared.bridge.Bridge.{Bridge}
-use Rattle.kept_rows.specs.declared.observation.Instance.{Instance}
-use Rattle.kept_rows.specs.declared.observation.Observation.{Observation}
-use Rattle.kept_rows.specs.declared.row.Change.TheVariants as change
-use Rattle.kept_rows.specs.declared.row.Row.{Row}
-use Rattle.kept_rows.specs.declared.row.Row.TheVariants as row
-use Rattle.kept_rows.specs.Servers.{are_known, fits, observed_servers, row_fits, seen_servers, source_servers}
-use Rattle.instance_keeper.specs.Book.{BookState, HasKnownSource, IsBook, added_over, after_put, after_row, discovered_over, empty_book, first_seen, instance_at, renewed, shown_by, stored_over}
-use Rattle.instance_keeper.specs.Bridges.{bridge_in, ring_at, ringed, with_bridge}
-use Rattle.instance_keeper.specs.Leases.{given_back}
-use Rattle.kept_rows.proofs.Known.{both_true}
-use Rattle.instance_keeper.proofs.Books.{empty_is, known_at, leases_set, put_is, rings_set}
-use Rattle.opening_book.specs.Counting.{counted, loaded}
-use Rattle.operations.specs.Turns.{observed}
-use Rattle.orch_base.specs.declared.server.Moment.{Moment}
-use Rattle.jobs_in_flight.specs.Jobs.{stored, without_leases}
-use Rattle.orch_core.specs.States.{State, IsSlot}
-use Rattle.orch_core.proofs.States.{reading_known}
 
 -- ---- books stay books
 

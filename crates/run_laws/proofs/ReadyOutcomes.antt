@@ -1,55 +1,20 @@
 -- What a command or a scan makes of a book leaves it one, of the same servers, and each job is of them.
 use Rattle.std.proofs.Common.{◌≡◌, ◌∙◌, ℕ, ◌+◌, ◌<◌, ◌≤◌, true, List, [], ◌∷◌, ◌++◌, length, map, refl, sym, subst, Option, Some, None, Result, Ok, Err}
 use Rattle.std.specs.Prelude.{All, ◌&&◌}
-use Rattle.std.proofs.lemmas.Bool.{ltb-true}
-use Rattle.std.proofs.lemmas.List.Elements.{All-append, All-push}
-use Rattle.orch_base.specs.declared.server.ServerNo.{ServerNo}
-use Rattle.orch_base.specs.Memory.{next_count}
-use Rattle.server_words.specs.declared.status.Status.{Status as Seen}
-use Rattle.kept_rows.specs.declared.observation.Instance.{Instance}
-use Rattle.kept_rows.specs.declared.observation.Observation.{Observation}
-use Rattle.kept_rows.specs.Servers.{are_known, observed_servers}
-use Rattle.instance_keeper.specs.Book.{BookState, IsBook, added_over, discovered_over, instance_at}
-use Rattle.instance_keeper.specs.Leases.{taken}
-use Rattle.kept_rows.proofs.Known.{both_true}
-use Rattle.instance_keeper.proofs.Books.{change_is, leases_set}
-use Rattle.opening_book.proofs.Following.{names-change}
-use Rattle.commands.specs.declared.line.Line.{Line}
-use Rattle.commands.specs.declared.refusal.Refusal.{Refusal}
-use Rattle.commands.specs.declared.refusal.Refusal.TheVariants.{UnknownInstance, Unreachable}
-use Rattle.command_routes.specs.declared.route.Route.{Route}
-use Rattle.command_routes.specs.declared.route.Route.TheVariants.{Discovers, Forgets, Asks, Decides, Begins, Recovers, TakesOver}
-use Rattle.command_routes.specs.Routes.{route_of}
-use Rattle.command_jobs.specs.Jobs.{job_by, leases_by, refusal_by}
-use Rattle.command_jobs.proofs.Begun.{job-ready}
-use Rattle.commands.specs.declared.turn.CommandTurn.{CommandTurn}
-use Rattle.commands.specs.Turns.{has_needed, is_within}
-use Rattle.asking_commands.specs.Answers.{allowed, lines_of, permitted}
-use Rattle.book_views.specs.Sources.{label_at}
-use Rattle.audit_log.specs.Audits.{AuditState, longest_block}
-use Rattle.book_commands.specs.declared.decided.Decided.{Decided}
-use Rattle.book_commands.specs.declared.decided.Effect.{Effect}
-use Rattle.book_commands.specs.declared.decided.Effect.TheVariants as effect
-use Rattle.book_commands.specs.Decisions.{decided_of}
-use Rattle.recovery_core.proofs.Beginning.{recovery-begins, takeover-begins}
-use Rattle.recovery_core.proofs.InTurn.{scan-in-turn}
-use Rattle.recovery_core.specs.Begun.{BeginInTurn, CanBegin}
-use Rattle.recovery_core.specs.Scans.{attempt_of, scanned}
-use Rattle.recovery_core.specs.Tries.{Begins as RecoveryBegins, recovery_try, takeover_try}
-use Rattle.scenarios.specs.Turns.{IsCommand}
-use Rattle.unended_jobs.specs.declared.unended.Unended.{Unended}
-use Rattle.unended_jobs.specs.Unended.{IsReady, number_of}
-use Rattle.knowledge.specs.Knowing.{recovery_job, updated}
-use Rattle.command_outcomes.specs.Commands.{Outcome, about as given_or, asked, begun, by_hand, decided, discovered, forgotten, outcome_by, outcome_of, question, recovered, recovery_begun, refusal, removal, removal_refusal, taken_over, terms_of}
-use Rattle.command_outcomes.specs.HookTelling.{told_try, with_told}
-use Rattle.command_outcomes.specs.Periods.{period_by}
-use Rattle.command_outcomes.proofs.HookTold.{told-can, told-in-turn}
-use Rattle.orch_core.specs.Polls.{command_outcome, numbers_of, reading, scan_outcome}
-use Rattle.orch_core.specs.States.{State}
-use Rattle.orch_core.proofs.Outcomes.{IsEffectFor, decided-effect}
-use Rattle.orch_core.proofs.States.{names-over, one_known, reading_known}
-use Rattle.orch_core.specs.Settling.{known_of}
-use Rattle.run_laws.specs.Ready.{AreShort, Ready}
+use Rattle.run_laws.proofs.Prelude.{All-append, All-push, AreShort, Asks, AuditState, BeginInTurn, Begins as RecoveryBegins, BookState, CanBegin}
+use Rattle.run_laws.proofs.Prelude.{CommandTurn, Decided, Decides, Discovers, Effect, Forgets, Instance, IsBook, IsCommand, IsEffectFor, IsReady}
+use Rattle.run_laws.proofs.Prelude.{Line, Observation, Outcome, Ready, Recovers, Refusal, Route, ServerNo, State, Status as Seen, TakesOver, Unended}
+use Rattle.run_laws.proofs.Prelude.{UnknownInstance, Unreachable, about as given_or, added_over, allowed, are_known, asked, attempt_of, both_true}
+use Rattle.run_laws.proofs.Prelude.{by_hand, change_is, command_outcome, decided, decided-effect, decided_of, discovered, discovered_over, forgotten}
+use Rattle.run_laws.proofs.Prelude.{has_needed, instance_at, is_within, job-ready, job_by, known_of, label_at, leases_by, leases_set, lines_of}
+use Rattle.run_laws.proofs.Prelude.{longest_block, ltb-true, names-change, names-over, next_count, number_of, numbers_of, observed_servers, one_known}
+use Rattle.run_laws.proofs.Prelude.{outcome_by, outcome_of, period_by, permitted, question, reading, reading_known, recovered, recovery-begins}
+use Rattle.run_laws.proofs.Prelude.{recovery_begun, recovery_job, recovery_try, refusal, refusal_by, removal, removal_refusal, route_of, scan-in-turn}
+use Rattle.run_laws.proofs.Prelude.{scan_outcome, scanned, taken, taken_over, takeover-begins, takeover_try, terms_of, told-can, told-in-turn}
+use Rattle.run_laws.proofs.Prelude.{told_try, updated, with_told}
+use Rattle.run_laws.proofs.Prelude.Outcomes.{begun}
+use Rattle.run_laws.proofs.Prelude.route.{Begins}
+use Rattle.run_laws.proofs.Prelude.effect
 use Rattle.run_laws.proofs.Periods.{short-by}
 use Rattle.run_laws.proofs.BegunInTurn.{IsBook-after, all-ready, length-taken}
 use Rattle.run_laws.proofs.Ready.{IsBook-discovered}

@@ -1,66 +1,37 @@
 -- Recoveries that begin one after another leave what their passages leave.
-use Rattle.std.proofs.Common.{◌≡◌, ◌∙◌, ℕ, ◌<◌, true, List, [], ◌∷◌, ◌++◌, length, map, append_assoc, refl, sym, ap, subst, Option, Some}
+use Rattle.run_laws.proofs.Prelude.{AllMayPass, AllPassWell, AuditState, BeginInTurn, Beginning, Begins, CanBegin, Flight, HeldJobs, IsAny}
+use Rattle.run_laws.proofs.Prelude.{IsHeldBeside, IsListed, IsListOf, IsSoundBeside, Job, Leases, Purpose, ServerNo, SoundJobs, Unended, World}
+use Rattle.run_laws.proofs.Prelude.{append-nil, are_held, are_listed, are_matched, begin-held, begin-sound, begun, by_recoveries, core_of}
+use Rattle.run_laws.proofs.Prelude.{cores-joined, first_ops, footing, joined, leased_to, leases_after, leases_of, matched_in, passed, passing}
+use Rattle.run_laws.proofs.Prelude.{recovery-held, recovery-sound, recovery_job, taken, taken-leases}
+use Rattle.run_laws.proofs.Prelude.JobLaws.{Begins as JobBegins}
+use Rattle.run_laws.proofs.Prelude.RecoveryPlans.{Recovery}
+use Rattle.run_laws.proofs.Prelude.purpose
+use Rattle.run_laws.proofs.Prelude.unended
+use Rattle.std.proofs.Common.{◌≡◌, ◌∙◌, ℕ, ◌<◌, true, List, [], ◌∷◌, ◌++◌, length, map, refl, sym, ap, subst, Option, Some}
 use Rattle.std.specs.Prelude.{All}
-use Rattle.std.proofs.lemmas.List.{append-nil}
-use Rattle.orch_base.specs.declared.server.ServerNo.{ServerNo}
-use Rattle.instance_keeper.specs.Leases.{taken}
-use Rattle.audit_log.specs.Audits.{AuditState, begun}
-use Rattle.server_model.specs.Worlds.{World}
-use Rattle.operations.specs.Jobs.{Job}
-use Rattle.job_laws.specs.Flights.{Flight, leased_to}
-use Rattle.job_laws.specs.Footing.{are_held, footing}
-use Rattle.job_laws.specs.Matched.{are_matched, matched_in}
-use Rattle.job_laws.specs.Leases.{Begins as JobBegins, Leases, are_listed, leases_of}
-use Rattle.job_laws.specs.Passages.{AllMayPass, AllPassWell, Beginning, passed, passing}
-use Rattle.job_laws.proofs.Listed.{taken-leases}
-use Rattle.recovery_plans.specs.Beginning.{first_ops}
-use Rattle.recovery_plans.specs.Named.{IsListOf}
-use Rattle.recovery_plans.specs.Recoveries.{Recovery}
-use Rattle.recovery_plans.specs.declared.purpose.Purpose.{Purpose}
-use Rattle.recovery_plans.specs.declared.purpose.Purpose.TheVariants as purpose
-use Rattle.recovery_laws.specs.LeasedRecoveries.{IsAny}
-use Rattle.recovery_core.specs.Begun.{BeginInTurn, CanBegin, leases_after}
-use Rattle.recovery_core.specs.Tries.{Begins}
-use Rattle.unended_jobs.specs.declared.unended.Unended.{Unended}
-use Rattle.unended_jobs.specs.declared.unended.Unended.TheVariants as unended
-use Rattle.unended_jobs.specs.Unended.{core_of}
-use Rattle.unended_laws.specs.Beside.{IsHeldBeside, IsSoundBeside}
-use Rattle.unended_laws.specs.Flights.{HeldJobs, SoundJobs}
-use Rattle.unended_laws.specs.Passages.{IsListed}
-use Rattle.unended_laws.proofs.Begun.{begin-held, begin-sound, recovery-held, recovery-sound}
-use Rattle.unended_laws.proofs.Cores.{cores-joined}
-use Rattle.knowledge.specs.Knowing.{recovery_job}
 use Rattle.run_laws.proofs.BegunInTurn.{length-taken}
-use Rattle.run_laws.specs.Flights.{by_recoveries}
 use Rattle.run_laws.proofs.Listing.{listed-behind}
 
 -- ---- one that begins
 
 first-held : (w : World) (u : Purpose) (f : ServerNo) → are_held (footing w []) (first_ops u f) ≡ true
 first-held w purpose.Regroup f = refl
-first-held w purpose.Master f = refl
-first-held w (purpose.Intermediate s) f = refl
-first-held w (purpose.Takeover d) f = refl
+first-held w _ f = refl
 
 first-matched : (u : Purpose) (f : ServerNo) → are_matched (matched_in []) (first_ops u f) ≡ true
 first-matched purpose.Regroup f = refl
-first-matched purpose.Master f = refl
-first-matched (purpose.Intermediate s) f = refl
-first-matched (purpose.Takeover d) f = refl
+first-matched _ f = refl
 
 -- it only reads at first
 first-listed : (list : List ServerNo) (u : Purpose) (f : ServerNo) → are_listed list (first_ops u f) ≡ true
 first-listed list purpose.Regroup f = refl
-first-listed list purpose.Master f = refl
-first-listed list (purpose.Intermediate s) f = refl
-first-listed list (purpose.Takeover d) f = refl
+first-listed list _ f = refl
 
 -- whatever it may read
 listed-any : (P Q : ℕ → Type 0) (u : Purpose) (f : ServerNo) → IsListOf P Q u f → IsListOf P IsAny u f
-listed-any P Q purpose.Regroup f h = h
-listed-any P Q purpose.Master f h = h
 listed-any P Q (purpose.Intermediate s) f h = tt
-listed-any P Q (purpose.Takeover d) f h = h
+listed-any _ _ _ f h = h
 
 module _ (count : ℕ) (leases : List (Option ℕ)) (a : AuditState) (last : ℕ) (x : Begins) (can : CanBegin count leases a last x) where
   job-begins : (w : World) (js : List Job) (l : Leases) → l ≡ leases_of leases → JobBegins w js l x.list (core_of (recovery_job x))
@@ -96,10 +67,6 @@ module _ (count : ℕ) (leases : List (Option ℕ)) (a : AuditState) (last : ℕ
 -- a flight with these jobs and leases
 abbrev flight_on : Flight → List Unended → List (Option ℕ) → Flight
 flight_on f us leases = record f { jobs = map core_of us; leases = leases_of leases }
-
--- one more, and then the others
-joined : (us : List Unended) (x : Begins) (xs : List Begins) → (us ++ recovery_job x ∷ []) ++ map recovery_job xs ≡ us ++ map recovery_job (x ∷ xs)
-joined us x xs = append_assoc us (recovery_job x ∷ []) (map recovery_job xs)
 
 pub recoveries-well : (f : Flight) (xs : List Begins) → AllPassWell f (by_recoveries xs)
 recoveries-well f [] = tt

@@ -1,21 +1,11 @@
 -- Where the kept rows follow the audit, a restart loads it whole.
 use Rattle.std.proofs.Common.{◌≡◌, ◌∙◌, ℕ, List, length, ap, arith}
-use Rattle.audit_log.specs.Loading.{recoveries_in}
-use Rattle.kept_rows.specs.Rows.{IsRising}
-use Rattle.kept_rows.specs.declared.recovery.Recovery.{Recovery}
-use Rattle.kept_rows.specs.declared.row.Row.{Row}
-use Rattle.opening_book.specs.Counting.{counted}
-use Rattle.opening_book.specs.Following.{FollowAudit}
-use Rattle.scenarios.specs.declared.scenario.Scenario.{Scenario}
-use Rattle.turns.specs.declared.turn.Turn.{Turn}
-use Rattle.command_outcomes.specs.Periods.{period_by}
-use Rattle.orch_core.specs.Restarts.{last_given, reloaded_audit}
-use Rattle.orch_core.specs.States.{State}
+use Rattle.run_laws.proofs.Prelude.{ComesTo, FollowAudit, IsRising, Recovery, Row, Scenario, State, Turn, counted, last_given, period_by}
+use Rattle.run_laws.proofs.Prelude.{recoveries_in, reloaded_audit}
 use Rattle.run_laws.proofs.Ready.{settings-count}
 use Rattle.run_laws.proofs.Counting.{IsReckoned, counting-recoveries, reckoned-comes}
 use Rattle.run_laws.proofs.Periods.{short-by}
 use Rattle.run_laws.proofs.Sameness.{same-loaded}
-use Rattle.run_laws.specs.Runs.{ComesTo}
 
 reloaded-is : (count : ℕ) (rows : List Row) (s : State) → IsReckoned count s → IsRising rows → FollowAudit count rows s.audit → reloaded_audit rows s ≡ s.audit
 reloaded-is count rows s is rising follow = ap (λ (xs : List Recovery). record { recoveries = xs; next = s.audit.next }) loads

@@ -1,13 +1,8 @@
 -- What a command that begins a regroup is.
 use Rattle.std.proofs.Common.{◌≡◌, ap, Some}
-use Rattle.commands.specs.declared.name.CommandName.{CommandName}
-use Rattle.command_routes.specs.declared.kinds.Regrouping.TheVariants.{ByBridges, ByMatches}
-use Rattle.command_routes.specs.declared.route.Planner.TheVariants.{Regroups}
-use Rattle.command_jobs.specs.Jobs.{planner_for}
-use Rattle.pseudo_match.specs.Commands.{pseudo_by, pseudo_command}
-use Rattle.pseudo_match.specs.declared.command.PseudoCommand.TheVariants as matching
-use Rattle.regroup.specs.Commands.{regroup_by, regroup_command}
-use Rattle.regroup.specs.declared.command.RegroupCommand.TheVariants as command
+use Rattle.run_laws.proofs.Prelude.{ByBridges, ByMatches, CommandName, Regroups, planner_for, pseudo_by, pseudo_command, regroup_by, regroup_command}
+use Rattle.run_laws.proofs.Prelude.command
+use Rattle.run_laws.proofs.Prelude.matching
 
 pub regroups-only : (n : CommandName) → planner_for n ≡ Some (Regroups ByBridges) → regroup_command n ≡ Some command.RegroupReplicas
 regroups-only n h = ap regroup_by h

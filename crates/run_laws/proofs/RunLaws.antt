@@ -1,77 +1,32 @@
 -- Runs of turns, state by state: what each turn's exchanges keep.
 use Rattle.std.proofs.Common.{◌≡◌, ℕ, ◌+◌, ◌-◌, ◌≤◌, Bool, cond, List, [], ◌∷◌, ◌++◌, length, take, refl, sym, ◌∙◌, ap, subst, Option, None, Some, false, arith, zero, suc}
 use Rattle.std.specs.Prelude.{All, map, slice_get, count_by}
-use Rattle.std.proofs.Math.Seq.{take-append-add}
-use Rattle.std.proofs.lemmas.List.Sums.{sum_by-append, sum_by-cons}
-use Rattle.std.proofs.lemmas.List.Elements.{All-head, All-tail, All-take}
-use Rattle.std.proofs.lemmas.Option.{get_or_from_slice_get, same_Some, slice_get_within}
-use Rattle.binlog_coords.specs.declared.Coord.{Coord}
-use Rattle.orch_base.specs.declared.server.ServerNo.{ServerNo}
-use Rattle.kept_rows.specs.declared.row.Row.{Row}
-use Rattle.server_words.specs.declared.answers.ApplyAnswer.TheVariants as answers
-use Rattle.server_words.specs.declared.answers.RotateAnswer.TheVariants as rotating
-use Rattle.server_model.specs.Desk.{rotate, rotate_answer}
-use Rattle.server_model.specs.declared.server.Server.{Server}
-use Rattle.world_openings.proofs.Opened.{given-opened}
-use Rattle.server_model.specs.Exchanges.{apply}
-use Rattle.server_model.specs.Run.{Exchange, is_rotate as opens_file, is_write as adds, after, run, AllAllowed, AllJoinWell}
-use Rattle.server_model.specs.Safe.{Safe, Placed, IsQuiet}
-use Rattle.server_model.specs.Worlds.{World, server_at}
-use Rattle.replication_laws.specs.Room.{HasFiles, IsNotFull}
-use Rattle.world_openings.specs.Room.{room_for}
-use Rattle.replication_laws.proofs.Applies.{no_skipped}
-use Rattle.replication_laws.proofs.Files.{not_full-files}
-use Rattle.opening_laws.proofs.Rooms.{not_full-opened}
-use Rattle.replication_laws.proofs.Runs as exchanges
-use Rattle.turns.specs.declared.turn.Act.{Act}
-use Rattle.turns.specs.declared.turn.Act.TheVariants as act
-use Rattle.turns.specs.declared.turn.Step.{Step}
-use Rattle.turns.specs.declared.turn.Step.TheVariants as step
-use Rattle.turns.specs.declared.turn.Turn.{Turn}
-use Rattle.turns.specs.declared.turn.Turn.TheVariants as turn
-use Rattle.scenarios.specs.declared.scenario.Scenario.{Scenario}
-use Rattle.scenarios.specs.Scenarios.{IsScenario, flushes_of, room_of}
-use Rattle.scenarios.specs.Turns.{IsTurn, is_rotate, is_rotate_step, is_write, is_write_step, NamesOneOf}
-use Rattle.scenarios.proofs.Rooms.{longest-at}
-use Rattle.orch_core.specs.After.{step as turn_step}
-use Rattle.orch_core.specs.Runs.{engine, run_turns, turns_of}
-use Rattle.orch_core.specs.Scenarios.{start, start_world}
-use Rattle.orch_core.specs.States.{State}
-use Rattle.orch_core.specs.Turns.{act_exchanges, exchange_of, exchanges_at, done_exchanges}
-use Rattle.orch_core.proofs.States.{Allowed-step}
-use Rattle.orch_base.specs.Memory.{next_count}
+use Rattle.run_laws.proofs.Prelude.{Act, All-find, All-head, All-tail, All-take, AllAllowed, AllBridged, AllJoinWell, AllMeet, Allowed-step, ComesBy}
+use Rattle.run_laws.proofs.Prelude.{ComesTo, ComesWithin, Coord, Exchange, HasFiles, HeldJob, HeldState, IsHeldBeside, IsNotFull, IsQuiet, IsScenario}
+use Rattle.run_laws.proofs.Prelude.{IsSoundBeside, IsTurn, Job, NamesOneOf, Placed, Ready, Row, Safe, Scenario, Server, ServerNo, SoundState, State}
+use Rattle.run_laws.proofs.Prelude.{Step, Turn, Unended, World, act_exchanges, act_in, after, apply, core-found, core_of, done_exchanges, engine}
+use Rattle.run_laws.proofs.Prelude.{exchange_of, exchanges_at, flushes_of, get_or_from_slice_get, given-opened, hooked-has, is_rotate as opens_file}
+use Rattle.run_laws.proofs.Prelude.{is_rotate_step, is_write as adds, is_write_step, job_at, job_exchanges, leases_of, longest-at, moment_at}
+use Rattle.run_laws.proofs.Prelude.{next_count, no_skipped, not_full-files, not_full-opened, number_of, option_map, promoted_in, room_for, room_of}
+use Rattle.run_laws.proofs.Prelude.{rotate, rotate_answer, run, run_turns, same_Some, server_at, slice_get_within, start, start_world}
+use Rattle.run_laws.proofs.Prelude.{step as turn_step, sum_by-append, sum_by-cons, take-append-add, taken-allowed, taken-sound, turn-allowed}
+use Rattle.run_laws.proofs.Prelude.{turn-sound, turn_of, turns_of}
+use Rattle.run_laws.proofs.Prelude.JobLaws.{job_at as core_at}
+use Rattle.run_laws.proofs.Prelude.Scenarios.{is_rotate, is_write}
+use Rattle.run_laws.proofs.Prelude.taking.{taken}
+use Rattle.run_laws.proofs.Prelude.act
+use Rattle.run_laws.proofs.Prelude.answers
+use Rattle.run_laws.proofs.Prelude.exchanges
+use Rattle.run_laws.proofs.Prelude.rotating
+use Rattle.run_laws.proofs.Prelude.turn
+use Rattle.run_laws.proofs.Prelude.turns_step as step
+use Rattle.run_laws.proofs.Prelude.unended
 use Rattle.std.specs.Prelude.{◌==◌}
-use Rattle.std.specs.Option.{option_map}
-use Rattle.operations.specs.Jobs.{Job}
-use Rattle.operations.proofs.Allowing.{turn-allowed}
-use Rattle.job_laws.specs.Leases.{job_at as core_at, leases_of}
-use Rattle.recovery_plans.proofs.Allowed.{taken-allowed}
-use Rattle.recovery_plans.specs.Taking.{taken}
-use Rattle.recovery_laws.proofs.Sounding.{taken-sound}
-use Rattle.unended_jobs.specs.declared.unended.Unended.{Unended}
-use Rattle.unended_jobs.specs.declared.unended.Unended.TheVariants as unended
-use Rattle.unended_jobs.specs.Hooked.{promoted_in}
-use Rattle.unended_jobs.proofs.Hooked.{hooked-has}
-use Rattle.unended_jobs.specs.Unended.{core_of, number_of}
-use Rattle.unended_laws.proofs.Cores.{core-found}
-use Rattle.unended_laws.specs.Beside.{IsHeldBeside, IsSoundBeside}
-use Rattle.job_laws.specs.Held.{HeldJob}
-use Rattle.job_laws.specs.Matched.{AllMeet}
-use Rattle.job_laws.specs.Sound.{AllBridged}
-use Rattle.job_laws.proofs.Lists.{All-find}
-use Rattle.job_laws.proofs.Turns.{turn-sound}
-use Rattle.jobs_in_flight.specs.Jobs.{job_at, job_exchanges}
-use Rattle.orch_core.specs.Jobs.{turn_of}
-use Rattle.run_laws.specs.Flights.{moment_at}
-use Rattle.run_laws.specs.States.{HeldState, SoundState}
-use Rattle.run_laws.specs.Runs.{ComesBy, ComesTo, ComesWithin}
 use Rattle.run_laws.proofs.Passing.{Held-step, Sound-step}
-use Rattle.run_laws.proofs.Openings.{Held-start, Sound-start}
+use Rattle.run_laws.proofs.StartStates.{Held-start, Sound-start}
 use Rattle.run_laws.proofs.Plain.{IsPlain, flown-plain, none-counts}
-use Rattle.run_laws.specs.Ready.{Ready}
 use Rattle.run_laws.proofs.Worlds.{world-turn}
 use Rattle.run_laws.proofs.Readiness.{Ready-start, Ready-step}
-use Rattle.orch_core.specs.Nodes.{act_in}
 
 -- ---- what holds of each state
 
@@ -190,12 +145,8 @@ Fit-none : (w : World) → Fit w []
 Fit-none w = record { allowed = tt; join = tt }
 
 Fit-act : (count : ℕ) (s : State) (a : Act) → Goes count s → IsQuiet s.world → Fit s.world (act_exchanges s a)
-Fit-act count s (act.PollRead p n) goes q = Fit-none s.world
-Fit-act count s (act.PollStore p) goes q = Fit-none s.world
-Fit-act count s (act.Command c) goes q = Fit-none s.world
 Fit-act count s (act.Job job) goes q = Fit-job s job goes.held (goes.sound q) (job_at s.jobs job) refl
-Fit-act count s act.Scan goes q = Fit-none s.world
-Fit-act count s act.Restart goes q = Fit-none s.world
+Fit-act count s _ goes q = Fit-none s.world
 
 Fit-done : (count : ℕ) (s : State) (o : Option Act) → Goes count s → IsQuiet s.world → Fit s.world (done_exchanges s o)
 Fit-done count s None goes q = Fit-none s.world
@@ -237,22 +188,11 @@ adds-writes = record { each = each }
   where
     by-step : (x : Step) → count_by adds (exchange_of x ∷ []) ≡ tick (is_write_step x)
     by-step (step.Write n size) = refl
-    by-step (step.Fetch n) = refl
-    by-step (step.Apply n) = refl
-    by-step (step.Fail n) = refl
-    by-step (step.Heal n) = refl
-    by-step (step.Cut n link) = refl
-    by-step (step.Join n link) = refl
-    by-step (step.Rotate n) = refl
-    by-step (step.Purge n file) = refl
+    by-step _ = refl
 
     by-act : (s : State) (a : Act) → count_by adds (act_exchanges s a) ≡ 0
-    by-act s (act.PollRead p n) = refl
-    by-act s (act.PollStore p) = refl
-    by-act s (act.Command c) = refl
     by-act s (act.Job job) = job-none adds (λ e plain. plain.writes_not) s (job_at s.jobs job)
-    by-act s act.Scan = refl
-    by-act s act.Restart = refl
+    by-act s _ = refl
 
     by-done : (s : State) (o : Option Act) → count_by adds (done_exchanges s o) ≡ 0
     by-done s None = refl
@@ -271,22 +211,11 @@ opens-rotates = record { each = each }
   where
     by-step : (x : Step) → count_by opens_file (exchange_of x ∷ []) ≡ tick (is_rotate_step x)
     by-step (step.Write n size) = refl
-    by-step (step.Fetch n) = refl
-    by-step (step.Apply n) = refl
-    by-step (step.Fail n) = refl
-    by-step (step.Heal n) = refl
-    by-step (step.Cut n link) = refl
-    by-step (step.Join n link) = refl
-    by-step (step.Rotate n) = refl
-    by-step (step.Purge n file) = refl
+    by-step _ = refl
 
     by-act : (s : State) (a : Act) → count_by opens_file (act_exchanges s a) ≡ 0
-    by-act s (act.PollRead p n) = refl
-    by-act s (act.PollStore p) = refl
-    by-act s (act.Command c) = refl
     by-act s (act.Job job) = job-none opens_file (λ e plain. plain.rotates_not) s (job_at s.jobs job)
-    by-act s act.Scan = refl
-    by-act s act.Restart = refl
+    by-act s _ = refl
 
     by-done : (s : State) (o : Option Act) → count_by opens_file (done_exchanges s o) ≡ 0
     by-done s None = refl

@@ -1,25 +1,14 @@
 -- The audit that is loaded of rows which follow one is that one, where its recoveries count.
 use Rattle.std.proofs.Common.{◌≡◌, ◌∙◌, ℕ, ◌-◌, ◌<◌, ◌≤◌, ◌^◌, Bool, true, false, cond, List, [], ◌∷◌, refl, sym, ap, subst, inl, inr, Option, Some, None, arith}
 use Rattle.std.specs.Prelude.{All, AllPairs, IfSome, ◌==◌, ◌⊎◌, find, option_map, if◌then◌else◌}
-use Rattle.std.proofs.lemmas.Bool.{cases_lt, eq-eqb, eqb-true, ne_eqb}
-use Rattle.std.proofs.lemmas.List.Elements.{All-weaker}
-use Rattle.audit_log.proofs.Changes.{none-at}
-use Rattle.audit_log.proofs.Finding.{All-found}
-use Rattle.audit_log.specs.Audits.{AuditState, IsAudit, longest_block}
-use Rattle.audit_log.specs.Loading.{loaded_by, recoveries_in}
-use Rattle.kept_rows.proofs.Lists.{pairs_head, pairs_tail}
-use Rattle.kept_rows.specs.Recoveries.{as_row}
-use Rattle.kept_rows.specs.Rows.{IsRising, row_at}
-use Rattle.kept_rows.specs.declared.recovery.Recovery.{Recovery}
-use Rattle.kept_rows.specs.declared.row.Key.TheVariants as key
-use Rattle.kept_rows.specs.declared.row.Row.{Row}
-use Rattle.kept_rows.specs.declared.row.Row.TheVariants as row
-use Rattle.kept_rows.specs.declared.row.Table.TheVariants as table
-use Rattle.opening_book.proofs.Following.{passing}
-use Rattle.opening_book.proofs.Recoveries.{loaded-at, row-of}
-use Rattle.opening_book.specs.Audits.{audit_of}
-use Rattle.opening_book.specs.Counting.{counted, counts}
-use Rattle.opening_book.specs.Following.{FollowAudit, IsAudited}
+use Rattle.run_laws.proofs.Prelude.{All-weaker, AuditState, FollowAudit, IsAudit, IsAudited, IsRising, Recovery, Row, as_row, audit_of, cases_lt}
+use Rattle.run_laws.proofs.Prelude.{counted, counts, eq-eqb, eqb-true, loaded-at, loaded_by, longest_block, ne_eqb, none-at, pairs_head, pairs_tail}
+use Rattle.run_laws.proofs.Prelude.{recoveries_in, row-of, row_at}
+use Rattle.run_laws.proofs.Prelude.Finding.{All-found}
+use Rattle.run_laws.proofs.Prelude.Following.{passing}
+use Rattle.run_laws.proofs.Prelude.kept_row as row
+use Rattle.run_laws.proofs.Prelude.key
+use Rattle.run_laws.proofs.Prelude.table
 use Rattle.run_laws.proofs.Loads.{audit-of}
 
 -- ---- lists of rising ids with the same recovery at each

@@ -1,16 +1,8 @@
 -- What begins is the same for its lines, its entry and its tries, whatever hooks are told of it.
 use Rattle.std.proofs.Common.{◌≡◌, ℕ, ◌+◌, List, [], ◌∷◌, ap, refl, inl, inr}
 use Rattle.std.specs.Prelude.{map}
-use Rattle.commands.specs.declared.line.Line.{Line}
-use Rattle.failure_analysis.specs.declared.entry.Entry.{Entry}
-use Rattle.instance_keeper.specs.Book.{BookState}
-use Rattle.kept_rows.specs.declared.recovery.Recovery.{Recovery as KeptRecovery}
-use Rattle.recovery_core.specs.Tries.{Begins}
-use Rattle.answer_laws.specs.Tries.{AreTries, Left, Scan, after_begun}
-use Rattle.command_outcomes.specs.HookTelling.{with_told}
-use Rattle.command_outcomes.specs.declared.configuration.Configuration.{Configuration}
-use Rattle.run_laws.specs.Begins.{entries_of}
-use Rattle.run_laws.specs.Lines.{AreLinesOf}
+use Rattle.run_laws.proofs.Prelude.{AreLinesOf, AreTries, Begins, BookState, Configuration, Entry, Left, Line, Recovery as KeptRecovery, Scan}
+use Rattle.run_laws.proofs.Prelude.{after_begun, entries_of, with_told}
 
 module _ (c : Configuration) (b : BookState) where
   abbrev all_told : List Begins → List Begins

@@ -1,27 +1,13 @@
 -- For whom and for what a turn's recoveries begin.
 use Rattle.std.specs.Prelude.{◌≡◌, false, Option, Some, None, Contains}
-use Rattle.book_views.specs.Sources.{label_at}
-use Rattle.command_routes.specs.declared.route.Route.{Route}
-use Rattle.command_routes.specs.declared.route.Route.TheVariants.{Discovers, Forgets, Asks, Decides, Begins, Recovers, TakesOver}
-use Rattle.command_routes.specs.Routes.{route_of}
-use Rattle.commands.specs.declared.turn.Command.{Command}
-use Rattle.failure_analysis.specs.declared.entry.Entry.{Entry}
-use Rattle.instance_keeper.specs.Book.{BookState}
-use Rattle.orch_base.specs.declared.recovery.Kind.{Kind}
-use Rattle.orch_base.specs.declared.recovery.Kind.TheVariants as kind
-use Rattle.orch_base.specs.declared.server.ServerNo.{ServerNo}
-use Rattle.permission.specs.Views.{source_of}
-use Rattle.recovery_plans.specs.Beginning.{is_takeover}
-use Rattle.recovery_core.specs.Scans.{actionable_in}
-use Rattle.recovery_core.specs.Tries.{Begins as RecoveryBegins}
-use Rattle.recovery_plans.specs.declared.purpose.Purpose.{Purpose}
-use Rattle.recovery_plans.specs.declared.purpose.Purpose.TheVariants as purpose
-use Rattle.turns.specs.declared.turn.Act.{Act}
-use Rattle.turns.specs.declared.turn.Act.TheVariants as act
-use Rattle.turns.specs.declared.turn.Turn.{Turn}
-use Rattle.turns.specs.declared.turn.Turn.TheVariants as turn
-use Rattle.orch_core.specs.Nodes.{act_in}
-use Rattle.orch_core.specs.States.{State}
+use Rattle.run_laws.specs.Prelude.{Act, Asks, Begins as RecoveryBegins, BookState, Command, Decides, Discovers, Entry, Forgets, Kind, Purpose}
+use Rattle.run_laws.specs.Prelude.{Recovers, Route, ServerNo, State, TakesOver, Turn, act_in, actionable_in, is_takeover, label_at, route_of}
+use Rattle.run_laws.specs.Prelude.{source_of}
+use Rattle.run_laws.specs.Prelude.TheVariants.{Begins}
+use Rattle.run_laws.specs.Prelude.act
+use Rattle.run_laws.specs.Prelude.kind
+use Rattle.run_laws.specs.Prelude.purpose
+use Rattle.run_laws.specs.Prelude.turn
 
 -- ---- what it is for
 

@@ -1,30 +1,15 @@
 -- What commands and scans answer and begin.
 use Rattle.std.specs.Prelude.{◌≡◌, ℕ, ◌+◌, ◌∷◌, ◌++◌, List, [], Some, length, map}
-use Rattle.command_routes.specs.Routes.{route_of}
-use Rattle.commands.specs.declared.line.Line.{Line}
-use Rattle.commands.specs.declared.refusal.Refusal.{Refusal}
-use Rattle.commands.specs.declared.turn.Command.{Command}
-use Rattle.commands.specs.declared.turn.CommandTurn.{CommandTurn}
-use Rattle.instance_keeper.specs.Leases.{taken}
-use Rattle.kept_rows.specs.declared.row.Row.{Row}
-use Rattle.knowledge.specs.Knowing.{recovery_job}
-use Rattle.command_outcomes.specs.Commands.{entries_put}
-use Rattle.orch_core.specs.Permission.{IsAnswer, refusal_at}
-use Rattle.orch_core.specs.Polls.{changes_of}
-use Rattle.orch_core.specs.Replies.{reply_of}
-use Rattle.orch_core.specs.After.{step}
-use Rattle.orch_core.specs.States.{State}
+use Rattle.run_laws.specs.Prelude.{AreTries, Command, CommandTurn, Line, Refusal, Row, State, actionable_in, changes_of, entries_put, leases_after}
+use Rattle.run_laws.specs.Prelude.{number_of, recovery_job, refusal_at, reply_of, route_of, step, taken}
+use Rattle.run_laws.specs.Prelude.RefusedCommands.{IsAnswer}
+use Rattle.run_laws.specs.Prelude.act
+use Rattle.run_laws.specs.Prelude.answered
+use Rattle.run_laws.specs.Prelude.turn
 use Rattle.run_laws.specs.Lowest.{RefusedByLowest}
-use Rattle.recovery_core.specs.Begun.{leases_after}
-use Rattle.recovery_core.specs.Scans.{actionable_in}
-use Rattle.turns.specs.declared.reply.Reply.TheVariants as answered
-use Rattle.turns.specs.declared.turn.Act.TheVariants as act
-use Rattle.turns.specs.declared.turn.Turn.TheVariants as turn
-use Rattle.unended_jobs.specs.Unended.{number_of}
 use Rattle.run_laws.specs.BegunJobs.{BegunJob, begun_of, entry_kept, with_entry}
 use Rattle.run_laws.specs.Entries.{attempt_in, recoveries_scanned}
 use Rattle.run_laws.specs.Failures.{SpendsWaitsLast}
-use Rattle.answer_laws.specs.Tries.{AreTries}
 use Rattle.run_laws.specs.Lines.{AreLinesOf}
 use Rattle.run_laws.specs.Runs.{IsBegun}
 

@@ -1,16 +1,7 @@
 -- The audit through runs.
 use Rattle.std.specs.Prelude.{◌≡◌, ◌≤◌, All, List, false, length, true}
-use Rattle.kept_rows.specs.Recoveries.{as_row}
-use Rattle.kept_rows.specs.declared.row.Row.{Row}
-use Rattle.kept_rows.specs.declared.row.Row.TheVariants as row
-use Rattle.opening_book.specs.Counting.{counts}
-use Rattle.orch_core.specs.Runs.{asks}
-use Rattle.orch_core.specs.Restarts.{last_given}
-use Rattle.orch_core.specs.After.{step}
-use Rattle.orch_core.specs.States.{State}
-use Rattle.scenarios.specs.declared.scenario.Scenario.{Scenario}
-use Rattle.scenarios.specs.Scenarios.{period_of}
-use Rattle.turns.specs.declared.turn.Turn.{Turn}
+use Rattle.run_laws.specs.Prelude.{Row, Scenario, State, Turn, as_row, asks, counts, last_given, period_of, step}
+use Rattle.run_laws.specs.Prelude.row
 use Rattle.run_laws.specs.Begins.{BeginApartInTurn}
 use Rattle.run_laws.specs.Aims.{IsAimed}
 use Rattle.run_laws.specs.Entries.{entries_begun, recoveries_begun}

@@ -1,16 +1,8 @@
 -- That what begins names no replica twice, and begins apart by the block periods of those before it.
 use Rattle.std.specs.Prelude.{◌≡◌, ◌<◌, ℕ, All, Ok, length}
-use Rattle.orch_base.specs.declared.server.Moment.{Moment}
-use Rattle.orch_base.specs.declared.server.ServerNo.{ServerNo}
-use Rattle.instance_keeper.specs.Book.{BookState}
-use Rattle.book_views.specs.Sources.{replicas_of}
-use Rattle.audit_log.specs.Audits.{AuditState}
-use Rattle.recovery_permits.specs.declared.attempt.Attempt.{Attempt}
-use Rattle.recovery_plans.specs.declared.purpose.Purpose.TheVariants as purpose
-use Rattle.recovery_covers.specs.Covers.{AreReplicas}
-use Rattle.recovery_core.specs.Scans.{scanned}
-use Rattle.recovery_core.specs.Tries.{Begins, recovery_try, takeover_try}
-use Rattle.server_model.specs.Worlds.{World}
+use Rattle.run_laws.specs.Prelude.{AreReplicas, Attempt, AuditState, Begins, BookState, Moment, ServerNo, World, recovery_try, replicas_of, scanned}
+use Rattle.run_laws.specs.Prelude.{takeover_try}
+use Rattle.run_laws.specs.Prelude.purpose
 use Rattle.run_laws.specs.Begins.{BeginApartInTurn, BeginsApart, NamesReplicasOnce, entries_of}
 
 -- ---- the replicas

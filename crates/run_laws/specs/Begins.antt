@@ -1,13 +1,6 @@
 -- Whom a recovery names as it begins, and beside which others it does.
 use Rattle.std.specs.Prelude.{◌≡◌, List, [], ◌∷◌, map, All}
-use Rattle.orch_base.specs.declared.server.Moment.{Moment}
-use Rattle.instance_keeper.specs.Book.{BookState}
-use Rattle.kept_rows.specs.declared.recovery.Recovery.{Recovery as KeptRecovery}
-use Rattle.book_views.specs.Sources.{replicas_of}
-use Rattle.audit_log.specs.Apart.{IsClear}
-use Rattle.audit_log.specs.Audits.{AuditState, begun}
-use Rattle.recovery_covers.specs.Covers.{AreReplicas}
-use Rattle.recovery_core.specs.Tries.{Begins}
+use Rattle.run_laws.specs.Prelude.{AreReplicas, AuditState, Begins, BookState, IsClear, Moment, Recovery as KeptRecovery, begun, replicas_of}
 
 -- the replicas are those that the book has of the failed server, and no server is named twice
 pub record NamesReplicasOnce (b : BookState) (x : Begins) : Type 0 where

@@ -1,24 +1,9 @@
 -- The job that a command begins, by what the command does.
 use Rattle.std.specs.Prelude.{◌+◌, List, [], ◌∷◌, Option, Some, None, Result, Ok, Err}
-use Rattle.audit_log.specs.Audits.{AuditState, begun}
-use Rattle.command_jobs.specs.Jobs.{job_by, leases_by, refusal_by}
-use Rattle.command_routes.specs.declared.route.Planner.{Planner}
-use Rattle.command_routes.specs.declared.route.Route.{Route}
-use Rattle.command_routes.specs.declared.route.Route.TheVariants.{Discovers, Forgets, Asks, Decides, Begins, Recovers, TakesOver}
-use Rattle.command_routes.specs.Routes.{route_of}
-use Rattle.commands.specs.declared.refusal.Refusal.{Refusal}
-use Rattle.commands.specs.declared.turn.Command.{Command}
-use Rattle.kept_rows.specs.Recoveries.{put_recovery}
-use Rattle.kept_rows.specs.declared.recovery.Recovery.{Recovery}
-use Rattle.kept_rows.specs.declared.row.Change.{Change}
-use Rattle.orch_base.specs.declared.server.ServerNo.{ServerNo}
-use Rattle.recovery_core.specs.Tries.{Begins as RecoveryBegins, recovery_try, takeover_try}
-use Rattle.unended_jobs.specs.declared.unended.Unended.{Unended}
-use Rattle.knowledge.specs.Knowing.{recovery_job}
-use Rattle.command_outcomes.specs.Commands.{by_hand}
-use Rattle.command_outcomes.specs.HookTelling.{told_try}
-use Rattle.orch_core.specs.Polls.{numbers_of}
-use Rattle.orch_core.specs.States.{State}
+use Rattle.run_laws.specs.Prelude.{Asks, AuditState, Begins as RecoveryBegins, Change, Command, Decides, Discovers, Forgets, Planner, Recovers}
+use Rattle.run_laws.specs.Prelude.{Recovery, Refusal, Route, ServerNo, State, TakesOver, Unended, begun, by_hand, job_by, leases_by, numbers_of}
+use Rattle.run_laws.specs.Prelude.{put_recovery, recovery_job, recovery_try, refusal_by, route_of, takeover_try, told_try}
+use Rattle.run_laws.specs.Prelude.TheVariants.{Begins}
 
 -- the servers of which it takes the leases, the job, and of a recovery and a takeover its entry in the audit
 pub record BegunJob : Type 0 where

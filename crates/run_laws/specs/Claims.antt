@@ -1,27 +1,13 @@
 -- Several orchestrators through runs: who is active, who takes turns, and what is left where a claim passes.
 use Rattle.std.specs.Prelude.{◌≡◌, ◌≢◌, ℕ, ◌<◌, ◌≤◌, ◌⊎◌, All, Bool, List, [], false, length, Option, None, Some, if◌then◌else◌}
-use Rattle.kept_rows.specs.declared.row.Key.TheVariants as key
-use Rattle.kept_rows.specs.declared.row.Row.{Row}
-use Rattle.kept_rows.specs.declared.row.Row.TheVariants as row
-use Rattle.kept_rows.specs.declared.row.Table.TheVariants as table
-use Rattle.kept_rows.specs.Rows.{sort_key}
-use Rattle.node_claims.specs.Claims.{active}
-use Rattle.node_claims.specs.Reached.{IsActive, IsReached}
-use Rattle.orch_base.specs.declared.server.Moment.{Moment}
-use Rattle.orch_core.specs.After.{after_restart, step}
-use Rattle.opening_book.specs.Counting.{counts, greatest_id}
-use Rattle.orch_core.specs.Nodes.{acts, claim_or, claims_after}
-use Rattle.orch_core.specs.Replies.{reply_of}
-use Rattle.orch_core.specs.Runs.{engine, run_turns, turns_of}
-use Rattle.orch_core.specs.States.{State}
+use Rattle.run_laws.specs.Prelude.{Act, IsActive, IsReached, IsTurn, Moment, Row, Scenario, State, Turn, active, acts, after_restart, claim_or}
+use Rattle.run_laws.specs.Prelude.{claims_after, counts, engine, greatest_id, number_of, reply_of, run_turns, sort_key, step, turns_of}
+use Rattle.run_laws.specs.Prelude.answered
+use Rattle.run_laws.specs.Prelude.key
+use Rattle.run_laws.specs.Prelude.row
+use Rattle.run_laws.specs.Prelude.table
+use Rattle.run_laws.specs.Prelude.turn
 use Rattle.run_laws.specs.Runs.{ComesBefore}
-use Rattle.scenarios.specs.Turns.{IsTurn}
-use Rattle.scenarios.specs.declared.scenario.Scenario.{Scenario}
-use Rattle.turns.specs.declared.reply.Reply.TheVariants as answered
-use Rattle.turns.specs.declared.turn.Act.{Act}
-use Rattle.turns.specs.declared.turn.Turn.{Turn}
-use Rattle.turns.specs.declared.turn.Turn.TheVariants as turn
-use Rattle.unended_jobs.specs.Unended.{number_of}
 
 -- the claims are what nodes that claim, release and act come to, up to the moment
 abbrev pub ClaimsAreReached : State → Type 0

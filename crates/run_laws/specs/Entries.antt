@@ -1,26 +1,12 @@
 -- The recoveries that a turn begins, and their entries in the audit.
 use Rattle.std.specs.Prelude.{◌+◌, List, [], ◌∷◌, map, Option, Some, None, Result, Ok, Err}
-use Rattle.command_routes.specs.declared.route.Route.{Route}
-use Rattle.command_routes.specs.declared.route.Route.TheVariants.{Discovers, Forgets, Asks, Decides, Begins, Recovers, TakesOver}
-use Rattle.command_routes.specs.Routes.{route_of}
-use Rattle.commands.specs.declared.refusal.Refusal.{Refusal}
-use Rattle.commands.specs.declared.turn.Command.{Command}
-use Rattle.kept_rows.specs.declared.recovery.Recovery.{Recovery}
-use Rattle.orch_base.specs.declared.server.ServerNo.{ServerNo}
-use Rattle.recovery_core.specs.Scans.{Staged, attempt_of, scanned}
-use Rattle.recovery_core.specs.Tries.{Begins as RecoveryBegins, recovery_try, takeover_try}
-use Rattle.recovery_permits.specs.declared.attempt.Attempt.{Attempt}
-use Rattle.turns.specs.declared.turn.Act.{Act}
-use Rattle.turns.specs.declared.turn.Act.TheVariants as act
-use Rattle.turns.specs.declared.turn.Turn.{Turn}
-use Rattle.turns.specs.declared.turn.Turn.TheVariants as turn
+use Rattle.run_laws.specs.Prelude.{Act, Asks, Attempt, Begins as RecoveryBegins, Command, Decides, Discovers, Forgets, Recovers, Recovery, Refusal}
+use Rattle.run_laws.specs.Prelude.{Route, ServerNo, Staged, State, TakesOver, Turn, act_in, attempt_of, by_hand, numbers_of, period_by, recovery_try}
+use Rattle.run_laws.specs.Prelude.{route_of, scanned, takeover_try, terms_of, told_try, with_told}
+use Rattle.run_laws.specs.Prelude.TheVariants.{Begins}
+use Rattle.run_laws.specs.Prelude.act
+use Rattle.run_laws.specs.Prelude.turn
 use Rattle.run_laws.specs.Begins.{entries_of}
-use Rattle.command_outcomes.specs.Commands.{by_hand, terms_of}
-use Rattle.command_outcomes.specs.HookTelling.{told_try, with_told}
-use Rattle.command_outcomes.specs.Periods.{period_by}
-use Rattle.orch_core.specs.Polls.{numbers_of}
-use Rattle.orch_core.specs.States.{State}
-use Rattle.orch_core.specs.Nodes.{act_in}
 
 -- ---- by a command
 

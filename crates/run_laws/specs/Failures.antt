@@ -1,26 +1,13 @@
 -- For what jobs fail in the states of runs.
 use Rattle.std.specs.Prelude.{◌≡◌, ℕ, ◌<◌, List, ◌∷◌, length, Some}
-use Rattle.cause_laws.specs.Courses.{AllFree, AllGoing, AreSpent, IsDoneIn, Meeting, job_after, turn_at}
-use Rattle.cause_laws.specs.Events.{Befell}
-use Rattle.commands.specs.declared.line.Line.{Line}
-use Rattle.operations.specs.Ending.{turns_left}
-use Rattle.operations.specs.declared.step.JobStep.TheVariants as step
-use Rattle.unended_jobs.specs.declared.unended.Unended.{Unended}
-use Rattle.commands.specs.declared.cause.Cause.{Cause}
-use Rattle.jobs_in_flight.specs.Jobs.{job_at}
-use Rattle.operations.specs.Deeds.{deed_of}
-use Rattle.operations.specs.Jobs.{Job}
-use Rattle.operations.specs.declared.op.Op.{Op}
-use Rattle.orch_core.specs.Replies.{reply_of}
-use Rattle.orch_core.specs.States.{State}
-use Rattle.server_model.specs.Worlds.{World}
-use Rattle.orch_base.specs.declared.server.ServerNo.{ServerNo}
-use Rattle.commands.specs.declared.cause.Cause.TheVariants as cause
-use Rattle.turns.specs.declared.reply.Failure.{Failure}
-use Rattle.turns.specs.declared.reply.Reply.TheVariants as answered
-use Rattle.turns.specs.declared.turn.Act.TheVariants as act
-use Rattle.turns.specs.declared.turn.Turn.TheVariants as turn
-use Rattle.unended_jobs.specs.declared.unended.Unended.TheVariants as unended
+use Rattle.run_laws.specs.Prelude.{AllFree, AllGoing, AreSpent, Befell, Cause, Failure, IsDoneIn, Job, Line, Meeting, Op, ServerNo, State, Unended}
+use Rattle.run_laws.specs.Prelude.{World, deed_of, job_after, job_at, reply_of, turn_at, turns_left}
+use Rattle.run_laws.specs.Prelude.act
+use Rattle.run_laws.specs.Prelude.answered
+use Rattle.run_laws.specs.Prelude.cause
+use Rattle.run_laws.specs.Prelude.jobstep as step
+use Rattle.run_laws.specs.Prelude.turn
+use Rattle.run_laws.specs.Prelude.unended
 
 -- the operation that is due was befallen by this
 pub record IsBefallen (w : World) (j : Job) (c : Cause) : Type 0 where

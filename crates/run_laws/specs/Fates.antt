@@ -1,43 +1,17 @@
 -- What becomes of an entry of the audit with a turn.
 use Rattle.std.specs.Prelude.{◌≡◌, ℕ, ◌==◌, ◌||◌, ◌++◌, true, if◌then◌else◌, List, map, Option, None, Some, Result, Ok, Err}
-use Rattle.asking_commands.specs.Answers.{permitted}
-use Rattle.audit_log.specs.Audits.{closed, is_of}
-use Rattle.book_views.specs.Sources.{label_at}
-use Rattle.command_routes.specs.declared.route.Decision.{Decision}
-use Rattle.command_routes.specs.declared.route.Decision.TheVariants as decision
-use Rattle.command_routes.specs.declared.route.Route.{Route}
-use Rattle.command_routes.specs.declared.route.Route.TheVariants.{Discovers, Forgets, Asks, Decides, Begins, Recovers, TakesOver}
-use Rattle.command_routes.specs.Routes.{route_of}
-use Rattle.commands.specs.Causes.{cause_name}
-use Rattle.commands.specs.declared.refusal.Refusal.{Refusal}
-use Rattle.commands.specs.declared.turn.CommandTurn.{CommandTurn}
-use Rattle.instance_keeper.specs.Book.{BookState}
-use Rattle.jobs_in_flight.specs.Jobs.{job_at}
-use Rattle.kept_rows.specs.Rows.{IsRising}
-use Rattle.kept_rows.specs.declared.recovery.Recovery.{Recovery as KeptRecovery}
-use Rattle.kept_rows.specs.declared.row.Row.{Row}
-use Rattle.opening_book.specs.Following.{FollowAudit}
-use Rattle.operations.specs.declared.step.JobStep.{JobStep}
-use Rattle.operations.specs.declared.step.JobStep.TheVariants as step
-use Rattle.orch_base.specs.Memory.{next_count}
-use Rattle.orch_base.specs.declared.recovery.Ending.TheVariants as ending
-use Rattle.orch_base.specs.declared.server.Moment.{Moment}
-use Rattle.orch_base.specs.declared.server.ServerNo.{ServerNo}
-use Rattle.recovery_core.specs.Endings.{done_with}
-use Rattle.recovery_plans.specs.Beginning.{is_takeover}
-use Rattle.recovery_plans.specs.Recoveries.{Recovery}
-use Rattle.recovery_plans.specs.Taking.{Taken}
-use Rattle.turns.specs.declared.turn.Act.{Act}
-use Rattle.turns.specs.declared.turn.Act.TheVariants as act
-use Rattle.turns.specs.declared.turn.Turn.{Turn}
-use Rattle.turns.specs.declared.turn.Turn.TheVariants as turn
-use Rattle.unended_jobs.specs.Hooked.{hooked}
-use Rattle.unended_jobs.specs.declared.unended.Unended.{Unended}
-use Rattle.unended_jobs.specs.declared.unended.Unended.TheVariants as unended
-use Rattle.orch_core.specs.After.{step as turn_step}
-use Rattle.orch_core.specs.Nodes.{act_in}
-use Rattle.orch_core.specs.Restarts.{interrupted_at}
-use Rattle.orch_core.specs.States.{State}
+use Rattle.run_laws.specs.Prelude.{Act, Asks, BookState, CommandTurn, Decides, Decision, Discovers, FollowAudit, Forgets, IsRising, JobStep, Moment}
+use Rattle.run_laws.specs.Prelude.{Recovers, Recovery as KeptRecovery, Refusal, Route, Row, ServerNo, State, Taken, TakesOver, Turn, Unended, act_in}
+use Rattle.run_laws.specs.Prelude.{cause_name, closed, done_with, hooked, interrupted_at, is_of, is_takeover, job_at, label_at, next_count, permitted}
+use Rattle.run_laws.specs.Prelude.{route_of, step as turn_step}
+use Rattle.run_laws.specs.Prelude.Recoveries.{Recovery}
+use Rattle.run_laws.specs.Prelude.TheVariants.{Begins}
+use Rattle.run_laws.specs.Prelude.act
+use Rattle.run_laws.specs.Prelude.decision
+use Rattle.run_laws.specs.Prelude.ending
+use Rattle.run_laws.specs.Prelude.jobstep as step
+use Rattle.run_laws.specs.Prelude.turn
+use Rattle.run_laws.specs.Prelude.unended
 use Rattle.run_laws.specs.Entries.{entries_begun}
 
 -- ---- with its job

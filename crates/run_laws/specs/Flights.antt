@@ -1,39 +1,14 @@
 -- A state of a run as a flight, and each turn as passages of it.
 use Rattle.std.specs.Prelude.{ℕ, ◌+◌, ◌&&◌, nat_lt, Bool, true, false, not, is_some, if◌then◌else◌, List, [], ◌∷◌, map, Option, Some, None, Result, Ok, Err}
-use Rattle.orch_base.specs.Memory.{next_count}
-use Rattle.orch_base.specs.declared.server.Moment.{Moment}
-use Rattle.orch_base.specs.declared.server.ServerNo.{ServerNo}
-use Rattle.kept_rows.specs.declared.observation.Instance.{Instance}
-use Rattle.kept_rows.specs.declared.observation.Observation.{Observation}
-use Rattle.instance_keeper.specs.Book.{BookState, instance_at}
-use Rattle.commands.specs.declared.refusal.Refusal.{Refusal}
-use Rattle.command_routes.specs.declared.route.Planner.{Planner}
-use Rattle.command_routes.specs.declared.route.Route.{Route}
-use Rattle.command_routes.specs.declared.route.Route.TheVariants.{Discovers, Forgets, Asks, Decides, Begins, Recovers, TakesOver}
-use Rattle.command_routes.specs.Routes.{route_of}
-use Rattle.command_jobs.specs.Jobs.{job_by, leases_by, refusal_by}
-use Rattle.commands.specs.declared.turn.Command.{Command}
-use Rattle.asking_commands.specs.Answers.{allowed}
-use Rattle.turns.specs.declared.turn.Act.{Act}
-use Rattle.turns.specs.declared.turn.Act.TheVariants as act
-use Rattle.turns.specs.declared.turn.Turn.{Turn}
-use Rattle.turns.specs.declared.turn.Turn.TheVariants as turn
-use Rattle.recovery_core.specs.Tries.{Begins as RecoveryBegins, recovery_try, takeover_try}
-use Rattle.unended_jobs.specs.declared.unended.Unended.{Unended}
-use Rattle.unended_jobs.specs.Unended.{core_of}
-use Rattle.unended_laws.specs.Passages.{passages_by}
-use Rattle.job_laws.specs.Flights.{Flight}
-use Rattle.job_laws.specs.Leases.{leases_of}
-use Rattle.job_laws.specs.Passages.{Passage}
-use Rattle.job_laws.specs.Passages as pass
-use Rattle.knowledge.specs.Knowing.{recovery_job}
-use Rattle.command_outcomes.specs.Commands.{by_hand, removal_refusal}
-use Rattle.command_outcomes.specs.HookTelling.{told_try}
-use Rattle.jobs_in_flight.specs.Jobs.{job_at}
-use Rattle.orch_core.specs.Nodes.{act_in}
-use Rattle.orch_core.specs.Polls.{numbers_of, reading, slot_at}
-use Rattle.orch_core.specs.States.{State}
-use Rattle.orch_core.specs.Turns.{exchange_of}
+use Rattle.run_laws.specs.Prelude.{Act, Asks, Begins as RecoveryBegins, BookState, Command, Decides, Discovers, Flight, Forgets, Instance, Moment}
+use Rattle.run_laws.specs.Prelude.{Observation, Passage, Planner, Recovers, Refusal, Route, ServerNo, State, TakesOver, Turn, Unended, act_in}
+use Rattle.run_laws.specs.Prelude.{allowed, by_hand, core_of, exchange_of, instance_at, job_at, job_by, leases_by, leases_of, next_count, numbers_of}
+use Rattle.run_laws.specs.Prelude.{passages_by, reading, recovery_job, recovery_try, refusal_by, removal_refusal, route_of, slot_at, takeover_try}
+use Rattle.run_laws.specs.Prelude.{told_try}
+use Rattle.run_laws.specs.Prelude.TheVariants.{Begins}
+use Rattle.run_laws.specs.Prelude.act
+use Rattle.run_laws.specs.Prelude.pass
+use Rattle.run_laws.specs.Prelude.turn
 use Rattle.run_laws.specs.Entries.{recoveries_scanned}
 
 -- what is kept beside the instances: the servers, the bridges, the slots, of each job the operations that are left, of

@@ -1,9 +1,6 @@
 -- The recoveries of the audit that aren't ended, and the unended jobs.
 use Rattle.std.specs.Prelude.{◌≡◌, ℕ, List, [], ◌∷◌, ◌++◌, filter, map}
-use Rattle.std.specs.Option.{option_to_list}
-use Rattle.audit_log.specs.Audits.{AuditState, is_unended}
-use Rattle.orch_core.specs.States.{State, entry_id}
-use Rattle.unended_jobs.specs.declared.unended.Unended.{Unended}
+use Rattle.run_laws.specs.Prelude.{AuditState, State, Unended, entry_id, is_unended, option_to_list}
 
 -- the ids of those that aren't ended
 abbrev pub open_ids : AuditState → List ℕ

@@ -1,15 +1,8 @@
 -- Jobs in the states of runs: they keep to their leases, and leave fewer turns.
 use Rattle.std.specs.Prelude.{◌≡◌, ◌<◌, ℕ, List, All, Some, map, true}
-use Rattle.kept_rows.specs.declared.row.Row.{Row}
-use Rattle.job_laws.specs.Leases.{HasLeases, IsLeased, leases_of}
-use Rattle.jobs_in_flight.specs.Jobs.{is_open, job_at, most_turns}
-use Rattle.orch_core.specs.After.{step}
-use Rattle.orch_core.specs.States.{State}
-use Rattle.server_model.specs.Worlds.{server_at}
-use Rattle.turns.specs.declared.turn.Act.TheVariants as act
-use Rattle.turns.specs.declared.turn.Turn.TheVariants as turn
-use Rattle.unended_jobs.specs.declared.unended.Unended.{Unended}
-use Rattle.unended_jobs.specs.Unended.{core_of}
+use Rattle.run_laws.specs.Prelude.{HasLeases, IsLeased, Row, State, Unended, core_of, is_open, job_at, leases_of, most_turns, server_at, step}
+use Rattle.run_laws.specs.Prelude.act
+use Rattle.run_laws.specs.Prelude.turn
 
 -- a lease names a job that isn't ended
 abbrev pub LeasesNameJobs : State → Type 0

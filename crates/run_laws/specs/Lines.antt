@@ -1,10 +1,7 @@
 -- The lines of a scan.
 use Rattle.std.specs.Prelude.{◌≡◌, ◌⊎◌, ℕ, ◌+◌, ⊤, List, [], ◌∷◌}
-use Rattle.commands.specs.declared.line.Line.{Line}
-use Rattle.commands.specs.declared.line.Line.TheVariants as line
-use Rattle.commands.specs.declared.refusal.Refusal.{Refusal}
-use Rattle.failure_analysis.specs.declared.entry.Entry.{Entry}
-use Rattle.recovery_core.specs.Tries.{Begins}
+use Rattle.run_laws.specs.Prelude.{Begins, Entry, Line, Refusal}
+use Rattle.run_laws.specs.Prelude.line
 
 -- this recovery, of the entry's server, begins as the job of a number, and the line tells it
 pub record TellsBegun (job : ℕ) (e : Entry) (x : Begins) (l : Line) : Type 0 where

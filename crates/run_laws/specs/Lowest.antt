@@ -1,21 +1,11 @@
 -- The checks of the permission table for each command, in whatever order they are looked at.
 use Rattle.std.specs.Prelude.{List, [], ◌∷◌, Option, Some, None}
-use Rattle.answer_laws.specs.Lowest.{IsAnswer, coords_checks, gtid_checks, match_checks, path_checks, recovery_checks, takeover_checks}
-use Rattle.asking_commands.specs.Answers.{unknown_in}
-use Rattle.command_routes.specs.declared.kinds.Regrouping.TheVariants.{ByBridges, ByMatches}
-use Rattle.command_routes.specs.declared.route.Planner.{Planner}
-use Rattle.command_routes.specs.declared.route.Planner.TheVariants.{Coordinates, Gtids, Matches, Paths, Regroups}
-use Rattle.command_routes.specs.declared.route.Route.{Route}
-use Rattle.command_routes.specs.declared.route.Route.TheVariants.{Discovers, Forgets, Asks, Decides, Begins, Recovers, TakesOver}
-use Rattle.command_routes.specs.Routes.{route_of}
-use Rattle.commands.specs.declared.refusal.Refusal.{Refusal}
-use Rattle.commands.specs.declared.refusal.Refusal.TheVariants as refusal
-use Rattle.commands.specs.declared.turn.Command.{Command}
-use Rattle.orch_base.specs.declared.server.ServerNo.{ServerNo}
-use Rattle.command_outcomes.specs.Commands.{busy_given, by_hand}
-use Rattle.orch_core.specs.Permission.{refusal_at, unreached}
-use Rattle.orch_core.specs.Polls.{numbers_of}
-use Rattle.orch_core.specs.States.{State}
+use Rattle.run_laws.specs.Prelude.{Asks, ByBridges, ByMatches, Command, Coordinates, Decides, Discovers, Forgets, Gtids, IsAnswer, Matches, Paths}
+use Rattle.run_laws.specs.Prelude.{Planner, Recovers, Refusal, Regroups, Route, ServerNo, State, TakesOver, busy_given, by_hand, coords_checks}
+use Rattle.run_laws.specs.Prelude.{gtid_checks, match_checks, numbers_of, path_checks, recovery_checks, refusal_at, route_of, takeover_checks}
+use Rattle.run_laws.specs.Prelude.{unknown_in, unreached}
+use Rattle.run_laws.specs.Prelude.TheVariants.{Begins}
+use Rattle.run_laws.specs.Prelude.refusal
 
 -- a command that begins the job of a plan
 abbrev pub plan_checks : State → Command → Planner → List (Option Refusal)

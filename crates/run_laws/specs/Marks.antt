@@ -1,15 +1,6 @@
 -- What the logs of two servers that match have in common (Pseudo-GTID), in the states of runs.
 use Rattle.std.specs.Prelude.{◌≡◌, ℕ, true, All, Some, Ok}
-use Rattle.binlog_coords.specs.declared.Coord.{Coord}
-use Rattle.operations.specs.Matching.{match_logs}
-use Rattle.operations.specs.declared.matching.Match.{Match}
-use Rattle.orch_base.specs.declared.server.ServerNo.{ServerNo}
-use Rattle.server_model.specs.Attach.{live_spot, same_spot}
-use Rattle.server_model.specs.Run.{IsJunction}
-use Rattle.server_model.specs.Worlds.{World, server_at}
-use Rattle.server_model.specs.declared.server.Server.{Server}
-use Rattle.unended_jobs.specs.Unended.{core_of}
-use Rattle.orch_core.specs.States.{State}
+use Rattle.run_laws.specs.Prelude.{Coord, IsJunction, Match, Server, ServerNo, State, World, core_of, live_spot, match_logs, same_spot, server_at}
 
 -- both are there: all that server r has executed is a beginning of what server d has, and ends in its log there
 pub record EndsAt (w : World) (r d : ServerNo) (at : Coord) : Type 0 where

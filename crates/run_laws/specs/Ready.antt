@@ -1,12 +1,7 @@
 -- What holds of each state of a run, whatever rows a keeper hands back: that all that is kept speaks of its servers,
 -- and that block periods aren't too long.
 use Rattle.std.specs.Prelude.{◌≡◌, ◌≤◌, ℕ, All, length}
-use Rattle.audit_log.specs.Audits.{longest_block}
-use Rattle.instance_keeper.specs.Book.{IsBook}
-use Rattle.unended_jobs.specs.Unended.{IsReady}
-use Rattle.command_outcomes.specs.declared.configuration.Configuration.{Configuration}
-use Rattle.orch_core.specs.States.{HasKnownSource, IsSlot, State}
-use Rattle.scenarios.specs.Turns.{pollers}
+use Rattle.run_laws.specs.Prelude.{Configuration, HasKnownSource, IsBook, IsReady, IsSlot, State, longest_block, pollers}
 
 -- that of all clusters, and those of single ones
 pub record AreShort (c : Configuration) : Type 0 where

@@ -1,22 +1,11 @@
 -- What no exchange of a run finds: a transaction that was executed before, a history that is full, a log without room.
 use Rattle.std.specs.Prelude.{◌≡◌, ◌≢◌, ℕ, List, Some, slice_get, take}
-use Rattle.binlog_coords.specs.declared.Coord.{Coord}
-use Rattle.kept_rows.specs.declared.row.Row.{Row}
-use Rattle.orch_base.specs.declared.server.ServerNo.{ServerNo}
-use Rattle.orch_core.specs.States.{State}
-use Rattle.orch_core.specs.Turns.{exchanges_at}
-use Rattle.replication_laws.specs.Room.{IsNotFull}
-use Rattle.scenarios.specs.declared.scenario.Scenario.{Scenario}
-use Rattle.scenarios.specs.Turns.{is_rotate, is_write}
-use Rattle.server_model.specs.Desk.{rotate}
-use Rattle.server_model.specs.Exchanges.{apply}
-use Rattle.server_model.specs.Run.{Exchange, run}
-use Rattle.server_model.specs.Safe.{IsQuiet}
-use Rattle.server_words.specs.declared.answers.ApplyAnswer.TheVariants as applied
-use Rattle.server_words.specs.declared.answers.RotateAnswer.TheVariants as rotated
-use Rattle.turns.specs.declared.turn.Turn.{Turn}
-use Rattle.turns.specs.declared.turn.Step.TheVariants as step
-use Rattle.turns.specs.declared.turn.Turn.TheVariants as turn
+use Rattle.run_laws.specs.Prelude.{Coord, Exchange, IsNotFull, IsQuiet, Row, Scenario, ServerNo, State, Turn, apply, exchanges_at, is_rotate}
+use Rattle.run_laws.specs.Prelude.{is_write, rotate, run}
+use Rattle.run_laws.specs.Prelude.applied
+use Rattle.run_laws.specs.Prelude.rotated
+use Rattle.run_laws.specs.Prelude.turn
+use Rattle.run_laws.specs.Prelude.turns_step as step
 use Rattle.run_laws.specs.Runs.{ComesWithin}
 
 -- no applier answers that it skipped a transaction as executed before

@@ -1,19 +1,10 @@
 -- Runs from a scenario's opening state, whatever rows the keeper hands back at the opening and at each turn.
 use Rattle.std.specs.Prelude.{◌≡◌, ◌≤◌, ℕ, Bool, List, [], ◌∷◌, ◌++◌, All, count_by, length, slice_get, take, Some}
-use Rattle.kept_rows.specs.declared.row.Row.{Row}
-use Rattle.server_model.specs.Safe.{IsQuiet}
-use Rattle.commands.specs.declared.turn.CommandTurn.{CommandTurn}
-use Rattle.turns.specs.declared.reply.Reply.TheVariants as answered
-use Rattle.turns.specs.declared.turn.Turn.{Turn}
-use Rattle.turns.specs.declared.turn.Act.TheVariants as act
-use Rattle.turns.specs.declared.turn.Turn.TheVariants as turn
-use Rattle.scenarios.specs.declared.scenario.Scenario.{Scenario}
-use Rattle.scenarios.specs.Scenarios.{IsScenario}
-use Rattle.scenarios.specs.Turns.{IsTurn, NamesOneOf}
-use Rattle.orch_core.specs.Replies.{reply_of}
-use Rattle.orch_core.specs.Runs.{engine, run_turns, turns_of}
-use Rattle.orch_core.specs.Scenarios.{start}
-use Rattle.orch_core.specs.States.{State}
+use Rattle.run_laws.specs.Prelude.{CommandTurn, IsQuiet, IsScenario, IsTurn, NamesOneOf, Row, Scenario, State, Turn, engine, reply_of, run_turns}
+use Rattle.run_laws.specs.Prelude.{start, turns_of}
+use Rattle.run_laws.specs.Prelude.act
+use Rattle.run_laws.specs.Prelude.answered
+use Rattle.run_laws.specs.Prelude.turn
 
 -- so many waits, these rows and these turns over a scenario's servers, by its orchestrators, led to this state
 pub record ComesTo (s : Scenario) (xs : List (List Row × Turn)) (now : State) : Type 0 where

@@ -1,6 +1,5 @@
 -- What holds of a state whose jobs are plans and recoveries: of its flight, and of each recovery beside it.
-use Rattle.unended_laws.specs.Flights.{HeldJobs, SoundJobs}
-use Rattle.orch_core.specs.States.{State}
+use Rattle.run_laws.specs.Prelude.{HeldJobs, SoundJobs, State}
 use Rattle.run_laws.specs.Flights.{flight_of}
 
 -- in every state, quiet or not

@@ -5,7 +5,7 @@ ghost use Rattle.run_laws.specs.Jobs.{JobsHaveLeases, JobsLeaveFewerTurns, JobsL
 ghost use Rattle.run_laws.specs.Marks.{FoundMatchesEnd, MatchesEnd};
 ghost use Rattle.run_laws.specs.Runs.{AtEveryTurn, InEveryQuietState, InEveryState};
 ghost use Rattle.run_laws.specs.States.{HeldState, SoundState};
-ghost use Rattle.run_laws.specs.Turns.{IsItsPassages, TurnMayPass};
+ghost use Rattle.run_laws.specs.SingleTurns.{IsItsPassages, TurnMayPass};
 
 /// In every run each turn is its passages, and each of them may pass: an exchange that is no job's, a poll, a reading
 /// that is stored or passed over, a discovery, an instance that is forgotten, a restart, a job that begins, and a

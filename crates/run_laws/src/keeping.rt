@@ -1,6 +1,6 @@
 //! Laws of the kept rows through runs.
 
-ghost use Rattle.run_laws.specs.KeptRows.{OpeningAuditsAreFollowed, OpeningsAreFollowed, RestartsLoadAll, RunAuditsAreFollowed, RunClaimsAreFollowed, RunsAreFollowed, TurnAuditsAreFollowed, TurnsAreFollowed};
+ghost use Rattle.run_laws.specs.Following.{OpeningAuditsAreFollowed, OpeningsAreFollowed, RestartsLoadAll, RunAuditsAreFollowed, RunClaimsAreFollowed, RunsAreFollowed, TurnAuditsAreFollowed, TurnsAreFollowed};
 
 /// The kept rows follow what orchestrator knows, where nobody else changes them: under each table and key for which
 /// the book has a row that row is kept, and under any other of its tables only rows that don't count. So it is at the

@@ -21,9 +21,18 @@ pub use flights::{
 };
 pub use keeping::kept_rows_follow;
 pub use logging::{every_audit_is_apart, recoveries_begin_apart};
+pub use orch_core::{
+    binlog_coords_items, gtid_sets, instance_keeper_items, kept_rows_items, orch_base,
+    scenarios_items, turns,
+};
 pub use replicas::begins_name_replicas_once;
 pub use runs::{
     every_quiet_state_is_safe, every_state_is_placed, full_never_comes, own_turns_are_turns,
     quiet_runs_were_quiet, skipped_never_comes,
 };
 pub use steps::{openings_are_flights, openings_are_ready, turns_are_flown, turns_leave_all_ready};
+
+/// What is passed on of `orch_core`.
+pub mod orch_core_items {
+    pub use orch_core::Engine;
+}

@@ -1,6 +1,6 @@
 //! Laws of the audit through runs.
 
-ghost use Rattle.audit_log.specs.Apart.{IsApart};
+ghost use Rattle.run_laws.specs.Prelude.{IsApart};
 ghost use Rattle.run_laws.specs.Audits.{AnyTurnAims, AnyTurnBeginsApart, AnyTurnGivesPeriods, EachRecoveryCounts, NextNeverSinks, RestartsKeepAll, TurnsMakeAudits};
 ghost use Rattle.run_laws.specs.JobEntries.{EntriesHaveJobs};
 ghost use Rattle.run_laws.specs.Runs.{InEveryState, InEveryStateOf};

@@ -2,7 +2,7 @@
 
 ghost use Rattle.run_laws.specs.Room.{NoHistoryIsFull, NoLogIsFull, SkipsNothing};
 ghost use Rattle.run_laws.specs.Runs.{InEveryQuietState, InEveryState, OwnTurnsAreFew, OwnTurnsCome, QuietRunsWereQuiet};
-ghost use Rattle.server_model.specs.Safe.{Placed, Safe};
+ghost use Rattle.run_laws.specs.Prelude.{Placed, Safe};
 
 /// From the opening state of a scenario on, each quiet state of each run over its servers is safe: of the scenario's
 /// own run and of any other, whatever rows the keeper hands back at the opening and at each turn.

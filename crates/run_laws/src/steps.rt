@@ -2,8 +2,8 @@
 
 ghost use Rattle.run_laws.specs.Ready.{Ready};
 ghost use Rattle.run_laws.specs.States.{HeldState, SoundState};
-ghost use Rattle.run_laws.specs.Turns.{AtEveryOpening, IsItsPassages, TurnLeaves, TurnMayPass, TurnPassesWell, WhereHeld, WhereReady, WhereSound};
-ghost use Rattle.server_model.specs.Safe.{IsQuiet};
+ghost use Rattle.run_laws.specs.SingleTurns.{AtEveryOpening, IsItsPassages, TurnLeaves, TurnMayPass, TurnPassesWell, WhereHeld, WhereReady, WhereSound};
+ghost use Rattle.run_laws.specs.Prelude.{IsQuiet};
 ghost use Rattle.std.specs.Prelude.{length};
 
 /// Each turn leaves all that is kept speaking of the servers, whatever rows the keeper hands back.

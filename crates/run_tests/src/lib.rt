@@ -7,3 +7,8 @@ mod made;
 mod moves;
 #[cfg(test)]
 mod texts;
+
+use permission::{
+    binlog_coords_items, book_views, commands, gtid_sets, instance_keeper_items, operations_items,
+    orch_base, server_model, server_words_items, topology_tree,
+};

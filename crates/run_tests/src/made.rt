@@ -4,15 +4,17 @@ ghost use Rattle.std.specs.Prelude.{◌≤◌, All, length};
 ghost use Rattle.openings.specs.Listed.{transactions};
 ghost use Rattle.openings.specs.Servers.{parts_of};
 
-use binlog_coords::Coord;
-use gtid_sets::GtidSet;
-use instance_keeper::{Book, Instance, Row};
+use crate::binlog_coords_items::Coord;
+use crate::gtid_sets::GtidSet;
+use crate::instance_keeper_items::{Book, Instance, Row};
+use crate::orch_base::{
+    IoState, Moment, Name, OwnedText, ServerNo, Settings, SourceState, Version,
+};
+use crate::server_model::World;
+use crate::server_words_items::Status;
 use made_openings::are_listed;
 use opening_checks::CheckedOpening;
 use openings::{Counts, Opening, ServerInit, parts_of};
-use orch_base::{IoState, Moment, Name, OwnedText, ServerNo, Settings, SourceState, Version};
-use server_model::World;
-use server_words::Status;
 use std::alloc::Global;
 use std::process::Abort;
 use std::test::*;

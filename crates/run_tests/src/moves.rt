@@ -1,25 +1,25 @@
 //! What refuses commands that move servers, or the leases of their jobs and how many operations these have.
 
 ghost use Rattle.std.specs.Prelude.{◌≡◌, IsSome, IsTrue};
-ghost use Rattle.book_views.specs.Forests.{book_forest};
+ghost use Rattle.permission.specs.BookViews.Forests.{book_forest};
 ghost use Rattle.moves_coords.specs.Commands.{coords_command};
 ghost use Rattle.moves_gtid.specs.Commands.{gtid_command};
-ghost use Rattle.regroup.specs.Commands.{has_plan, regroup_command};
+ghost use Rattle.regroup.specs.Commands.{regroup_command};
 
+use crate::book_views::book_forest;
+use crate::commands::{Command, CommandName};
+use crate::instance_keeper_items::Book;
 use crate::made::{book, world};
-use book_views::book_forest;
-use commands::{Command, CommandName};
-use instance_keeper::Book;
+use crate::operations_items::Op;
+use crate::orch_base::{Moment, ServerNo};
+use crate::server_model::World;
+use crate::topology_tree::Forest;
 use moves_coords::coords_command;
 use moves_gtid::gtid_command;
-use operations::Op;
-use orch_base::{Moment, ServerNo};
 use regroup::{PermitFault, RegroupCommand, regroup_command};
-use server_model::World;
 use std::alloc::Global;
 use std::process::Abort;
 use std::test::*;
-use topology_tree::Forest;
 
 #[derive(Clone, Copy)]
 enum Want {

@@ -1,16 +1,18 @@
 //! The texts of replies and tables: those that no run prints, and each call that prints or copies.
 
-use crate::made::world;
-use binlog_coords::Coord;
-use commands::{
+use crate::binlog_coords_items::Coord;
+use crate::commands::{
     Answers, BoxedSet, Cause, Command, CommandName, CommandTurn, Found, HookPhase, Keys, Line,
     Lines, Lost, RecoveryLine, Refusal,
 };
-use gtid_sets::GtidSet;
-use orch_base::{Ending, Kind, Memory, Moment, Name, OwnedText, Rule, ServerNo};
+use crate::gtid_sets::GtidSet;
+use crate::made::world;
+use crate::orch_base::{Ending, Kind, Memory, Moment, Name, OwnedText, Rule, ServerNo};
+use crate::server_model::World;
+use crate::server_words_items::{
+    ApplyAnswer, FetchAnswer, PurgeAnswer, RotateAnswer, Spot, WriteAnswer,
+};
 use report_text::{PrintedNames, plain_text, reply_text, reply_text_by, tables};
-use server_model::World;
-use server_words::{ApplyAnswer, FetchAnswer, PurgeAnswer, RotateAnswer, Spot, WriteAnswer};
 use std::alloc::Global;
 use std::process::Abort;
 use std::test::*;

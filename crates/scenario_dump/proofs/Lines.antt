@@ -1,34 +1,14 @@
 -- The text is UTF-8 where the texts in it are.
 use Rattle.std.proofs.Common.{inl, ◌≡◌, ◌==◌, ℕ, zero, suc, ◌+◌, ◌/◌, ◌%◌, Bool, true, false, cond, ◌∷◌, List, [], ◌++◌, length, drop, Option, Some, None, refl, arith, decimal}
 use Rattle.std.specs.Prelude.{All, codes, is_some, nat_lt, option_map, slice_get, unwrap_or}
-use Rattle.std.specs.Fmt.{digits, digits_onto, digit_glyph}
-use Rattle.std.specs.Int.{to_be_bytes, w128}
-use Rattle.std.specs.List.{list_all}
-use Rattle.std.specs.Str.{IsUtf8, is_utf8}
-use Rattle.std.proofs.Math.Seq.{drop-nil}
-use Rattle.std.proofs.lemmas.Grind.{common_steps}
-use Rattle.std.proofs.lemmas.Str.{IsUtf8-append, IsUtf8-from_ascii, IsUtf8-nil, is_utf8-from_IsUtf8}
-use Rattle.json.proofs.Printed.Utf8.{IsUtf8-are_ascii, IsUtf8-boolean, IsUtf8-quoted, are_ascii}
-use Rattle.serde_json.specs.Data.{Data, null, boolean, number, string, array, object, unsigned, negative, float, Items, no_items, item, Members, no_members, member}
-use Rattle.serde_json.specs.Written.{comma_if, compact_text, items_text, members_text}
-use Rattle.binlog_coords.specs.declared.Coord.{Coord}
-use Rattle.binlog_coords.specs.Text.{coord_text, six_digits}
-use Rattle.gtid_sets.specs.Printed.{uuid_text}
-use Rattle.orch_base.specs.Names.{HostPort, IsName, is_host_byte, printed}
-use Rattle.orch_base.specs.declared.server.ServerNo.{ServerNo}
-use Rattle.orch_base.specs.declared.server.Version.{Version}
-use Rattle.openings.specs.declared.init.ServerInit.{ServerInit}
-use Rattle.openings.specs.declared.part.Part.{Part}
-use Rattle.hook_texts.specs.declared.hooks.Hook.{Hook}
-use Rattle.scenarios.specs.declared.blocks.Block.{Block}
-use Rattle.scenarios.specs.declared.filters.Alias.{Alias}
-use Rattle.scenarios.specs.declared.scenario.Scenario.{Scenario}
-use Rattle.server_model.specs.Worlds.{World}
-use Rattle.uuid.specs.Text.{lower}
-use Rattle.uuid.proofs.TextLemmas.{hyphenated_ascii}
-use Rattle.scenario_dump.specs.Promises.{HasTexts}
-use Rattle.scenario_dump.specs.Servers.{opening_of}
-use Rattle.scenario_dump.specs.Texts.{aliases_data, blocks_data, coord_data, count_data, dump_data, dump_text, hook_data, items_of, list_data, member_for, member_if, name_text, part_data, server_data, version_text}
+use Rattle.scenario_dump.proofs.Prelude.{Alias, Block, Coord, Data, HasTexts, Hook, HostPort, IsName, IsUtf8, IsUtf8-append, IsUtf8-are_ascii}
+use Rattle.scenario_dump.proofs.Prelude.{IsUtf8-boolean, IsUtf8-from_ascii, IsUtf8-nil, IsUtf8-quoted, Items, Members, Part, Scenario, ServerInit}
+use Rattle.scenario_dump.proofs.Prelude.{ServerNo, Version, World, aliases_data, are_ascii, array, blocks_data, boolean, comma_if, common_steps}
+use Rattle.scenario_dump.proofs.Prelude.{compact_text, coord_data, coord_text, count_data, digit_glyph, digits, digits_onto, drop-nil, dump_data}
+use Rattle.scenario_dump.proofs.Prelude.{dump_text, float, hook_data, hyphenated_ascii, is_host_byte, is_utf8, is_utf8-from_IsUtf8, item, items_of}
+use Rattle.scenario_dump.proofs.Prelude.{items_text, list_all, list_data, lower, member, member_for, member_if, members_text, name_text, negative}
+use Rattle.scenario_dump.proofs.Prelude.{no_items, no_members, null, number, object, opening_of, part_data, printed, server_data, six_digits, string}
+use Rattle.scenario_dump.proofs.Prelude.{to_be_bytes, unsigned, uuid_text, version_text, w128}
 use Rattle.scenario_dump.proofs.ReadBack.{both}
 use Rattle.scenario_dump.proofs.Worlds.{All-at}
 
@@ -65,12 +45,8 @@ utf8_decimal n = IsUtf8-are_ascii (decimal n) (ascii-decimal n)
 
 ascii-zeros : (k : ℕ) → are_ascii (drop k (codes "000000")) ≡ true
 ascii-zeros zero = refl
-ascii-zeros (suc zero) = refl
-ascii-zeros (suc (suc zero)) = refl
-ascii-zeros (suc (suc (suc zero))) = refl
-ascii-zeros (suc (suc (suc (suc zero)))) = refl
-ascii-zeros (suc (suc (suc (suc (suc zero))))) = refl
 ascii-zeros (suc (suc (suc (suc (suc (suc k)))))) = rw (drop-nil k) refl
+ascii-zeros _ = refl
 
 utf8_coord : (c : Coord) → IsUtf8 (coord_text c)
 utf8_coord c =

@@ -1,12 +1,7 @@
 -- Lists and objects, item by item.
 use Rattle.std.proofs.Common.{◌≡◌, ◌∙◌, ◌≤◌, ℕ, suc, ◌+◌, ◌-◌, Bool, true, false, ◌||◌, ◌∷◌, List, [], ◌++◌, length, drop, sym, ap, ap₂, refl, arith, append_assoc}
 use Rattle.std.specs.Prelude.{Some, nat_lt, slice_get, replicate}
-use Rattle.std.proofs.lemmas.Grind.{common_steps}
-use Rattle.std.proofs.lemmas.List.{drop_all}
-use Rattle.serde_json.specs.Data.{Data}
-use Rattle.serde_json.specs.Written.{comma_if, compact_text, items_text}
-use Rattle.server_model.proofs.Lists.{slice_get-drop}
-use Rattle.scenario_dump.specs.Texts.{count_data, items_of}
+use Rattle.scenario_dump.proofs.Prelude.{Data, comma_if, common_steps, compact_text, count_data, drop_all, items_of, items_text, slice_get-drop}
 
 some_behind : (n : ℕ) → nat_lt 0 (n + 1) ≡ true
 some_behind n = grind (arith, common_steps)

@@ -1,14 +1,8 @@
 -- After how many transactions a log was flushed, one transaction after another.
 use Rattle.std.proofs.Common.{◌≡◌, ◌∙◌, ◌<◌, ◌≤◌, ℕ, zero, suc, ◌+◌, ◌-◌, Bool, true, false, ◌||◌, ◌∷◌, List, [], ◌++◌, length, drop, sym, ap, ap₂, refl, arith, append_assoc, append-nil}
 use Rattle.std.specs.Prelude.{Some, nat_le, nat_lt, slice_get, replicate}
-use Rattle.std.proofs.lemmas.Grind.{common_steps}
-use Rattle.std.proofs.lemmas.List.{drop_all}
-use Rattle.serde_json.specs.Written.{compact_text, items_text}
-use Rattle.binlog_coords.specs.declared.Entry.{Entry}
-use Rattle.binlog_coords.specs.Log.{Log, coord_after, end_coord, end_or_first}
-use Rattle.server_model.proofs.Lists.{slice_get-drop}
-use Rattle.scenario_dump.specs.Files.{file_behind, flush_points, flushed_from}
-use Rattle.scenario_dump.specs.Texts.{count_data, items_of, list_data}
+use Rattle.scenario_dump.proofs.Prelude.{Entry, Log, common_steps, compact_text, coord_after, count_data, drop_all, end_coord, end_or_first}
+use Rattle.scenario_dump.proofs.Prelude.{file_behind, flush_points, flushed_from, items_of, items_text, list_data, slice_get-drop}
 
 pub at_below : {A : Type 0} (xs : List A) (k : ℕ) → k < length xs → (x : A) × (slice_get xs k ≡ Some x)
 at_below [] k below = absurd (omega arith)

@@ -1,22 +1,10 @@
 -- What was printed, part by part.
-use Rattle.std.proofs.Common.{Bool, ◌≡◌, ◌∙◌, ℕ, ◌∷◌, List, [], ◌++◌, Result, Ok, Err, sym, ap, ap₂, append_assoc, append-nil, decimal}
-use Rattle.orch_base.specs.declared.server.Version.{Version}
-use Rattle.scenario_dump.specs.Texts.{version_text}
+pub use Rattle.scenario_generator.proofs.Texts.{appended}
+pub use Rattle.std.proofs.lemmas.Result.{on_ok_weaker as map_ok}
+use Rattle.std.proofs.Common.{Bool, ◌≡◌, ◌∙◌, ℕ, ◌∷◌, List, [], ◌++◌, Result, sym, ap, ap₂, append_assoc, append-nil, decimal}
+use Rattle.scenario_dump.proofs.Prelude.{Token, Version, comma_if, escape, print, print_from, quoted, version_text}
+use Rattle.scenario_dump.proofs.Prelude.Json.{string}
 use Rattle.scenario_dump.proofs.Quotes.{escape-version_text}
-use Rattle.std.specs.Prelude.{OnOk, if◌then◌else◌, is_ok}
-use Rattle.json.specs.Print.{escape, print, print_from, quoted}
-use Rattle.json.specs.Token.{Token, string}
-use Rattle.serde_json.specs.Written.{comma_if}
-
--- where it succeeded
-pub map_ok : {T E P Q : Type 0} (r : Result T E) → (P → Q) → OnOk r P → OnOk r Q
-map_ok (Ok x) f ok = f ok
-map_ok (Err e) f ok = tt
-
--- bytes that were added, where they were
-pub appended : {T E : Type 0} (r : Result T E) (new old bytes : List ℕ) → new ≡ (if is_ok r then old ++ bytes else old) → OnOk r (new ≡ old ++ bytes)
-appended (Ok x) new old bytes is = is
-appended (Err e) new old bytes is = tt
 
 -- a text that was put in quotes as it is
 pub in_quotes : (old one two three new before s : List ℕ) → escape s ≡ s → one ≡ old ++ before → two ≡ one ++ 34 ∷ [] → three ≡ two ++ s → new ≡ three ++ 34 ∷ [] → new ≡ old ++ (before ++ quoted s)

@@ -1,22 +1,10 @@
 -- Texts that stand in quotes as they are.
-use Rattle.std.proofs.Common.{◌≡◌, ◌∙◌, ◌==◌, ℕ, zero, suc, ◌+◌, ◌/◌, ◌%◌, ◌<◌, Bool, true, false, cond, ◌&&◌, ◌∷◌, List, [], ◌++◌, length, drop, sym, ap, ap₂, subst, refl, arith, append_assoc, decimal}
+use Rattle.scenario_dump.proofs.Prelude.{Coord, HostPort, IsName, Version, and_parts as both, by_index, common_steps, coord_text, digit_glyph}
+use Rattle.scenario_dump.proofs.Prelude.{digit_place, digits, digits_onto, drop-nil, escape, escape_byte, escape_byte_plain, false≢true, hex_digit}
+use Rattle.scenario_dump.proofs.Prelude.{is_host_byte, is_hyphen_place, list_all, lower, nibble, nibble_small, printed, six_digits, to_be_bytes}
+use Rattle.scenario_dump.proofs.Prelude.{uuid_text, version_text, w128}
+use Rattle.std.proofs.Common.{◌≡◌, ◌∙◌, ◌==◌, ℕ, zero, suc, ◌+◌, ◌/◌, ◌%◌, ◌<◌, Bool, true, false, cond, ◌∷◌, List, [], ◌++◌, length, drop, sym, ap, ap₂, subst, refl, arith, append_assoc, decimal}
 use Rattle.std.specs.Prelude.{codes, if◌then◌else◌}
-use Rattle.std.specs.Fmt.{digits, digits_onto, digit_glyph}
-use Rattle.std.specs.Int.{to_be_bytes, w128}
-use Rattle.std.specs.List.{list_all}
-use Rattle.std.proofs.lemmas.Bool.{false≢true}
-use Rattle.std.proofs.lemmas.Grind.{common_steps}
-use Rattle.std.proofs.Math.Seq.{drop-nil}
-use Rattle.json.specs.Print.{escape, escape_byte}
-use Rattle.json.proofs.Printed.Strings.{escape_byte_plain}
-use Rattle.binlog_coords.specs.declared.Coord.{Coord}
-use Rattle.binlog_coords.specs.Text.{coord_text, six_digits}
-use Rattle.gtid_sets.specs.Printed.{uuid_text}
-use Rattle.orch_base.specs.Names.{HostPort, IsName, is_host_byte, printed}
-use Rattle.orch_base.specs.declared.server.Version.{Version}
-use Rattle.uuid.specs.Text.{by_index, digit_place, hex_digit, is_hyphen_place, lower, nibble}
-use Rattle.uuid.proofs.TextLemmas.{nibble_small}
-use Rattle.scenario_dump.specs.Texts.{version_text}
 
 escape-append : (a b : List ℕ) → escape (a ++ b) ≡ escape a ++ escape b
 escape-append [] b = refl
@@ -55,12 +43,8 @@ escape-decimal n = escape-onto 64 n [] refl
 escape-zeros : (k : ℕ) → escape (drop k (codes "000000")) ≡ drop k (codes "000000")
 unfolding escape_byte
 escape-zeros zero = refl
-escape-zeros (suc zero) = refl
-escape-zeros (suc (suc zero)) = refl
-escape-zeros (suc (suc (suc zero))) = refl
-escape-zeros (suc (suc (suc (suc zero)))) = refl
-escape-zeros (suc (suc (suc (suc (suc zero))))) = refl
 escape-zeros (suc (suc (suc (suc (suc (suc k)))))) = rw (drop-nil k)
+escape-zeros _ = refl
 
 pub escape-coord_text : (c : Coord) → escape (coord_text c) ≡ coord_text c
 unfolding escape_byte
@@ -75,10 +59,6 @@ plain_host b is =
     escape_byte_plain b (λ e. absurd (false≢true (subst (λ (x : ℕ). is_host_byte x ≡ true) e is)))
     (λ e. absurd (false≢true (subst (λ (x : ℕ). is_host_byte x ≡ true) e is))) (grind (arith, common_steps, is))
 
-both : (a b : Bool) → (a && b) ≡ true → (a ≡ true) × (b ≡ true)
-both true b e = (refl, e)
-both false b e = absurd (false≢true e)
-
 escape-host : (host : List ℕ) → list_all is_host_byte host ≡ true → escape host ≡ host
 escape-host [] all = refl
 escape-host (b ∷ host) all = let p = both (is_host_byte b) (list_all is_host_byte host) all in ap₂ (λ (v w : List ℕ). v ++ w) (plain_host b p.0) (escape-host host p.1)
@@ -90,22 +70,8 @@ escape-printed name is = escape-both name.host (58 ∷ decimal name.port) (escap
 plain_digit : (d : ℕ) → d < 16 → escape_byte (hex_digit lower d) ≡ hex_digit lower d ∷ []
 unfolding escape_byte
 plain_digit zero small = refl
-plain_digit (suc zero) small = refl
-plain_digit (suc (suc zero)) small = refl
-plain_digit (suc (suc (suc zero))) small = refl
-plain_digit (suc (suc (suc (suc zero)))) small = refl
-plain_digit (suc (suc (suc (suc (suc zero))))) small = refl
-plain_digit (suc (suc (suc (suc (suc (suc zero)))))) small = refl
-plain_digit (suc (suc (suc (suc (suc (suc (suc zero))))))) small = refl
-plain_digit (suc (suc (suc (suc (suc (suc (suc (suc zero)))))))) small = refl
-plain_digit (suc (suc (suc (suc (suc (suc (suc (suc (suc zero))))))))) small = refl
-plain_digit (suc (suc (suc (suc (suc (suc (suc (suc (suc (suc zero)))))))))) small = refl
-plain_digit (suc (suc (suc (suc (suc (suc (suc (suc (suc (suc (suc zero))))))))))) small = refl
-plain_digit (suc (suc (suc (suc (suc (suc (suc (suc (suc (suc (suc (suc zero)))))))))))) small = refl
-plain_digit (suc (suc (suc (suc (suc (suc (suc (suc (suc (suc (suc (suc (suc zero))))))))))))) small = refl
-plain_digit (suc (suc (suc (suc (suc (suc (suc (suc (suc (suc (suc (suc (suc (suc zero)))))))))))))) small = refl
-plain_digit (suc (suc (suc (suc (suc (suc (suc (suc (suc (suc (suc (suc (suc (suc (suc zero))))))))))))))) small = refl
 plain_digit (suc (suc (suc (suc (suc (suc (suc (suc (suc (suc (suc (suc (suc (suc (suc (suc d)))))))))))))))) small = absurd (omega arith)
+plain_digit _ small = refl
 
 escape-by_index : (n : ℕ) (f : ℕ → ℕ) → ((k : ℕ) → escape_byte (f k) ≡ f k ∷ []) → escape (by_index n f) ≡ by_index n f
 unfolding by_index

@@ -1,23 +1,13 @@
 -- The text reads as JSON, with the value of the world.
+pub use Rattle.std.proofs.lemmas.Bool.{and_parts as both}
 use Rattle.std.proofs.Common.{◌≡◌, ◌∙◌, ◌<◌, ◌≤◌, ℕ, ◌+◌, ◌^◌, Bool, true, false, ◌&&◌, ◌∷◌, List, [], ◌++◌, Option, Some, option_map, option_and_then, refl, sym, ap, arith, append-nil}
-use Rattle.std.specs.Cmp.Lexicographic.{slice_cmp}
-use Rattle.std.specs.Ordering.{nat_cmp}
-use Rattle.std.specs.declared.cmp.Ordering.{Ordering}
-use Rattle.std.specs.declared.cmp.Ordering.TheVariants.{Less, Equal, Greater}
-use Rattle.std.proofs.lemmas.Bool.{false≢true}
-use Rattle.json.specs.Lex.{tokens}
-use Rattle.json.specs.Token.{Token}
-use Rattle.json.specs.Json as json
-use Rattle.json.specs.Tree as tree
-use Rattle.json.specs.Tree.{json_tokens, HasNumbers as HasNumbersIn, ItemsHaveNumbers, MembersHaveNumbers}
-use Rattle.json.proofs.Printed.Decimals.{IsNumber-decimal}
-use Rattle.json.proofs.Printed.Trees.{ArePrintable-json_tokens, value-json_tokens}
-use Rattle.serde_json.specs.Data.{Data, boolean, unsigned, number, string, array, object, Items, no_items, item, Members, no_members, member, put}
-use Rattle.serde_json.specs.Read.{max_depth, of_items, of_json, of_members, read}
-use Rattle.serde_json.specs.Written.{compact_text, items_outline, members_outline, outline}
-use Rattle.serde_json.proofs.Numbers.{number_of-decimal}
-use Rattle.serde_json.proofs.Texts.{print-outline}
-use Rattle.scenario_generator.proofs.Reading.{tokens-line}
+use Rattle.scenario_dump.proofs.Prelude.{ArePrintable-json_tokens, Data, Equal, Greater, HasNumbers as HasNumbersIn, IsNumber-decimal, Items}
+use Rattle.scenario_dump.proofs.Prelude.{ItemsHaveNumbers, Less, Members, MembersHaveNumbers, Ordering, Token, array, boolean, compact_text}
+use Rattle.scenario_dump.proofs.Prelude.{false≢true, item, items_outline, json_tokens, max_depth, member, members_outline, nat_cmp, no_items}
+use Rattle.scenario_dump.proofs.Prelude.{no_members, number, number_of-decimal, object, of_items, of_json, of_members, outline, print-outline, put}
+use Rattle.scenario_dump.proofs.Prelude.{read, slice_cmp, string, tokens, tokens-line, unsigned, value-json_tokens}
+use Rattle.scenario_dump.proofs.Prelude.json
+use Rattle.scenario_dump.proofs.Prelude.tree
 
 -- ---- values that read back, no deeper than this
 
@@ -55,10 +45,6 @@ pub record ReadsMembers (k : ℕ) (found ms : Members) : Type 0 where
   pub back : of_members (members_outline ms) found ≡ Some (behind found ms)
   pub numbers : MembersHaveNumbers (members_outline ms)
   pub shallow : tree.members_depth (members_outline ms) ≤ k
-
-pub both : (a b : Bool) → (a && b) ≡ true → (a ≡ true) × (b ≡ true)
-both true b e = (refl, e)
-both false b e = absurd (false≢true e)
 
 pub reads_string : (k : ℕ) (s : List ℕ) → Reads k (string s)
 reads_string k s = record { back = refl; numbers = tt; shallow = omega arith }

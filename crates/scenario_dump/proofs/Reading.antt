@@ -1,27 +1,12 @@
 -- The value of the world reads back.
 use Rattle.std.proofs.Common.{◌≡◌, ◌∙◌, ◌<◌, ℕ, zero, suc, ◌+◌, ◌^◌, true, ◌∷◌, List, [], Option, Some, None, refl, ap, arith}
 use Rattle.std.specs.Prelude.{All, codes, map, slice_get}
-use Rattle.std.specs.Cmp.Lexicographic.{slice_cmp}
-use Rattle.std.specs.Ordering.{nat_cmp, ordering_reverse}
-use Rattle.std.specs.declared.cmp.Ordering.TheVariants.{Less}
-use Rattle.std.proofs.lemmas.Cmp.{nat_list_cmp_total}
-use Rattle.serde_json.specs.Data.{Data, Members, no_members, member, object, string}
-use Rattle.serde_json.specs.Read.{read}
-use Rattle.binlog_coords.specs.declared.Coord.{Coord}
-use Rattle.orch_base.specs.declared.server.ServerNo.{ServerNo}
-use Rattle.openings.specs.declared.init.ServerInit.{ServerInit}
-use Rattle.openings.specs.declared.part.Part.{Part}
-use Rattle.hook_texts.specs.declared.hooks.Hook.{Hook}
-use Rattle.hook_texts.specs.declared.hooks.Hooks.{Hooks}
-use Rattle.scenarios.specs.declared.blocks.Block.{Block}
-use Rattle.scenarios.specs.declared.filters.Alias.{Alias}
-use Rattle.scenarios.specs.declared.filters.ClusterFilters.{ClusterFilters}
-use Rattle.scenarios.specs.declared.scenario.Scenario.{Scenario}
-use Rattle.server_model.specs.declared.server.Server.{Server}
-use Rattle.server_model.specs.Worlds.{World}
-use Rattle.scenario_dump.specs.Promises.{HasNumbers, IsReadable, IsRising}
-use Rattle.scenario_dump.specs.Servers.{init_by, init_of, opening_of, source_in}
-use Rattle.scenario_dump.specs.Texts.{aliases_data, blocks_data, count_data, dump_data, dump_text, filters_data, hook_data, hooks_data, items_of, list_data, part_data, server_data}
+use Rattle.scenario_dump.proofs.Prelude.{Alias, Block, ClusterFilters, Coord, Data, Hook, Hooks, IsReadable, IsRising, Less, Members, Part, Scenario}
+use Rattle.scenario_dump.proofs.Prelude.{Server, ServerInit, ServerNo, World, aliases_data, blocks_data, count_data, dump_data, dump_text}
+use Rattle.scenario_dump.proofs.Prelude.{filters_data, hook_data, hooks_data, init_by, init_of, items_of, list_data, member, nat_cmp}
+use Rattle.scenario_dump.proofs.Prelude.{nat_list_cmp_total, no_members, object, opening_of, ordering_reverse, part_data, read, server_data}
+use Rattle.scenario_dump.proofs.Prelude.{slice_cmp, source_in, string}
+use Rattle.scenario_dump.proofs.Prelude.Promises.{HasNumbers}
 use Rattle.scenario_dump.proofs.ReadBack.{is_after, EachReads, Reads, ReadsItems, above, behind, both, reads_array, reads_flag, reads_item, reads_no_items, reads_number, reads_object, reads_rising, reads_string, reads_text, rise}
 
 -- ---- lists

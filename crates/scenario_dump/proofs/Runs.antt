@@ -1,16 +1,8 @@
 -- Parts of histories, one transaction after another.
+use Rattle.scenario_dump.proofs.Prelude.{Data, Part, Txn, and_parts as both, behind, comma_if, common_steps, compact_text, drop_all, eqb-true}
+use Rattle.scenario_dump.proofs.Prelude.{is_like, items_of, items_text, list_data, part_of, parts_of, slice_get-drop}
 use Rattle.std.proofs.Common.{◌≡◌, ◌∙◌, ◌==◌, ◌≤◌, ℕ, ◌+◌, Bool, true, false, ◌&&◌, ◌∷◌, List, [], ◌++◌, length, drop, sym, ap, ap₂, refl, arith, append_assoc}
 use Rattle.std.specs.Prelude.{Some, if◌then◌else◌, slice_get}
-use Rattle.std.proofs.lemmas.Bool.{eqb-true, false≢true}
-use Rattle.std.proofs.lemmas.Grind.{common_steps}
-use Rattle.std.proofs.lemmas.List.{drop_all}
-use Rattle.server_model.proofs.Lists.{slice_get-drop}
-use Rattle.orch_base.specs.declared.server.Txn.{Txn}
-use Rattle.openings.specs.declared.part.Part.{Part}
-use Rattle.serde_json.specs.Data.{Data}
-use Rattle.serde_json.specs.Written.{comma_if, compact_text, items_text}
-use Rattle.scenario_dump.specs.Texts.{items_of, list_data}
-use Rattle.scenario_dump.specs.Histories.{behind, is_like, part_of, parts_of}
 
 -- a part before others: the first of them joins it where it is like it
 abbrev alike : Part → Part → Bool
@@ -19,10 +11,6 @@ alike p q = p.origin.0 == q.origin.0 && p.size == q.size
 abbrev pub merged : Part → List Part → List Part
 merged p [] = p ∷ []
 merged p (q ∷ qs) = if alike p q then record p { count = p.count + q.count } ∷ qs else p ∷ q ∷ qs
-
-both : (a b : Bool) → (a && b) ≡ true → (a ≡ true) × (b ≡ true)
-both true b e = (refl, e)
-both false b e = absurd (false≢true e)
 
 flipped : (a b : ℕ) → (a == b) ≡ (b == a)
 flipped a b = grind (arith, common_steps)

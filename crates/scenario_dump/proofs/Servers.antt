@@ -1,26 +1,11 @@
 -- The text of a server, part by part.
 use Rattle.std.proofs.Common.{◌≡◌, ◌∙◌, ℕ, Bool, true, ◌∷◌, List, [], ◌++◌, length, sym, ap, ap₂, refl, append_assoc, decimal}
 use Rattle.std.specs.Prelude.{Option, Some, None, codes, option_map, slice_get}
-use Rattle.std.proofs.lemmas.List.{length-map}
-use Rattle.std.proofs.lemmas.Option.{slice_get-map}
-use Rattle.serde_json.specs.Data.{boolean, string, Members, no_members, member}
-use Rattle.serde_json.specs.Written.{compact_text, members_text}
-use Rattle.json.specs.Print.{escape_byte, quoted}
-use Rattle.binlog_coords.specs.declared.Coord.{Coord}
-use Rattle.binlog_coords.specs.Text.{coord_text}
-use Rattle.orch_base.specs.Names.{printed}
-use Rattle.orch_base.specs.declared.server.ServerNo.{ServerNo}
-use Rattle.orch_base.specs.declared.server.Settings.{Settings}
-use Rattle.orch_base.specs.declared.server.SourceState.TheVariants.{Without}
-use Rattle.server_words.specs.declared.plain.Plain.{Plain}
-use Rattle.server_model.specs.declared.server.Server.{Server}
-use Rattle.server_model.specs.Plains.{plain_of}
-use Rattle.server_model.specs.Worlds.{World, server_at}
-use Rattle.scenario_dump.specs.Parts.{end_text, fixed_text, flag_text, flushes_text, history_text, server_text, until_text}
-use Rattle.gtid_sets.specs.Printed.{uuid_text}
-use Rattle.scenario_dump.specs.Histories.{parts_of}
-use Rattle.scenario_dump.specs.Servers.{init_of, is_detached, opening_of, points_of, source_in}
-use Rattle.scenario_dump.specs.Texts.{coord_data, count_data, list_data, member_for, part_data, version_text, name_text, server_data}
+use Rattle.scenario_dump.proofs.Prelude.{Coord, Members, Plain, Server, ServerNo, Settings, Without, World, boolean, compact_text, coord_data}
+use Rattle.scenario_dump.proofs.Prelude.{coord_text, count_data, end_text, escape_byte, fixed_text, flag_text, flushes_text, history_text, init_of}
+use Rattle.scenario_dump.proofs.Prelude.{is_detached, length-map, list_data, member, member_for, members_text, name_text, no_members, opening_of}
+use Rattle.scenario_dump.proofs.Prelude.{part_data, parts_of, plain_of, points_of, printed, quoted, server_at, server_data, server_text}
+use Rattle.scenario_dump.proofs.Prelude.{slice_get-map, source_in, string, until_text, uuid_text, version_text}
 use Rattle.scenario_dump.proofs.Printed.{joined}
 use Rattle.scenario_dump.proofs.Worlds.{told}
 

@@ -1,14 +1,8 @@
 -- The whole text, part by part.
 use Rattle.std.proofs.Common.{◌≡◌, ℕ, ◌∷◌, List, [], ◌++◌, append_assoc, decimal}
-use Rattle.std.specs.Fmt.{digits}
+use Rattle.scenario_dump.proofs.Prelude.{Scenario, World, aliases_data, blocks_data, compact_text, digits, dump_data, dump_text, escape_byte}
+use Rattle.scenario_dump.proofs.Prelude.{flag_text, hook_data, list_data, object, servers_text, string}
 use Rattle.std.specs.Prelude.{codes}
-use Rattle.json.specs.Print.{escape_byte}
-use Rattle.serde_json.specs.Data.{object, string}
-use Rattle.serde_json.specs.Written.{compact_text}
-use Rattle.scenarios.specs.declared.scenario.Scenario.{Scenario}
-use Rattle.server_model.specs.Worlds.{World}
-use Rattle.scenario_dump.specs.Parts.{flag_text, servers_text}
-use Rattle.scenario_dump.specs.Texts.{aliases_data, blocks_data, dump_data, dump_text, hook_data, list_data}
 use Rattle.scenario_dump.proofs.Printed.{joined}
 
 abbrev pub whole_parts : World → Scenario → ℕ → List (List ℕ)

@@ -1,23 +1,10 @@
 -- What a world's calls tell of a server.
-use Rattle.std.proofs.Common.{◌≡◌, ◌∙◌, ◌<◌, ◌≤◌, ℕ, zero, suc, Bool, true, false, ◌∷◌, List, [], length, sym, ap, ap₂, arith, refl, subst}
+use Rattle.scenario_dump.proofs.Prelude.{Index, Server, Settings, Txn, World, false≢true, flush_points, flushes_of, get_or_from_slice_get, history_of}
+use Rattle.scenario_dump.proofs.Prelude.{init_by, init_of, log_of, name_text, opening_of, printed, same_Some as some-inj, server_at, slice_get-map}
+use Rattle.scenario_dump.proofs.Prelude.{slice_get_past as none_past, slice_get_within, source_in}
+use Rattle.std.proofs.Common.{◌≡◌, ◌∙◌, ◌<◌, ◌≤◌, ℕ, Bool, true, false, List, [], length, sym, ap, ap₂, refl, subst}
 use Rattle.std.specs.Prelude.{All, if◌then◌else◌, is_some, Option, Some, None, option_and_then, option_map, slice_get, unwrap_or}
-use Rattle.std.proofs.lemmas.Option.{get_or_from_slice_get, slice_get-map, slice_get_within}
-use Rattle.std.proofs.lemmas.Bool.{false≢true}
-use Rattle.binlog_coords.specs.Index.{Index}
-use Rattle.orch_base.specs.Names.{printed}
-use Rattle.orch_base.specs.declared.server.Settings.{Settings}
-use Rattle.orch_base.specs.declared.server.Txn.{Txn}
-use Rattle.server_model.specs.declared.server.Server.{Server}
-use Rattle.server_model.specs.Plains.{log_of}
-use Rattle.server_model.specs.Worlds.{World, history_of, server_at}
-use Rattle.scenario_dump.specs.Files.{flush_points}
-use Rattle.scenario_dump.specs.Parts.{flushes_of}
-use Rattle.scenario_dump.specs.Servers.{init_by, init_of, opening_of, source_in}
-use Rattle.scenario_dump.specs.Texts.{name_text}
 use Rattle.scenario_dump.proofs.Points.{at_below}
-
-some-inj : {A : Type 0} (a b : A) → Some a ≡ Some b → a ≡ b
-some-inj a b e = ap (λ o. unwrap_or o a) e
 
 -- the server of a number
 pub there_is : (w : World) (n : ℕ) → n < length w.servers → (s : Server) × (server_at w n ≡ Some s)
@@ -58,11 +45,6 @@ points_by false i j limit limit' same e = absurd (false≢true (sym (ap is_some 
 no_points_by : (b : Bool) (j : Index) (limit : ℕ) → None ≡ (if b then Some j else None) → (if b then flush_points limit j.log else []) ≡ []
 no_points_by true j limit e = absurd (false≢true (ap is_some e))
 no_points_by false j limit e = refl
-
-none_past : {A : Type 0} (xs : List A) (k : ℕ) → length xs ≤ k → slice_get xs k ≡ None
-none_past [] k past = refl
-none_past (x ∷ xs) zero past = absurd (omega arith)
-none_past (x ∷ xs) (suc k) past = none_past xs k (omega arith)
 
 pub logged_points : (w : World) (n : ℕ) (s : Server) (i : Index) (r : Settings) → server_at w n ≡ Some s → option_map log_of (server_at w n) ≡ Some (Some i) → option_map (λ s. s.settings) (server_at w n) ≡ Some r → flushes_of (server_at w n) ≡ flush_points r.limit i.log
 logged_points w n s i r there log settings =

@@ -1,7 +1,6 @@
 -- When a log was flushed, as it shows (MySQL 8.0 Reference Manual, "FLUSH BINARY LOGS").
 use Rattle.std.specs.Prelude.{ℕ, ◌+◌, ◌-◌, List, [], ◌∷◌, ◌++◌, replicate, nat_le, if◌then◌else◌}
-use Rattle.binlog_coords.specs.declared.Entry.{Entry}
-use Rattle.binlog_coords.specs.Log.{Log}
+use Rattle.scenario_dump.specs.Prelude.{Entry, Log}
 
 -- the file in which a log goes on behind a transaction: the next one where its end reaches the limit
 abbrev pub file_behind : ℕ → Entry → ℕ

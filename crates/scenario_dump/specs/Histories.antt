@@ -1,7 +1,6 @@
 -- Histories as parts: transactions of one origin and size that follow one another are one part.
 use Rattle.std.specs.Prelude.{◌+◌, ◌==◌, ◌&&◌, Bool, List, [], ◌∷◌, if◌then◌else◌}
-use Rattle.orch_base.specs.declared.server.Txn.{Txn}
-use Rattle.openings.specs.declared.part.Part.{Part}
+use Rattle.scenario_dump.specs.Prelude.{Part, Txn}
 
 abbrev pub part_of : Txn → Part
 part_of t = record { origin = t.origin; size = t.size; count = 1 }

@@ -1,16 +1,8 @@
 -- What is told of one server, for the texts of its parts.
 use Rattle.std.specs.Prelude.{ℕ, ◌++◌, List, [], codes, decimal, Bool, option_map, Option, Some, None, unwrap_or}
-use Rattle.json.specs.Print.{quoted, token_text}
-use Rattle.json.specs.Token as token
-use Rattle.serde_json.specs.Written.{compact_text}
-use Rattle.binlog_coords.specs.declared.Coord.{Coord}
-use Rattle.binlog_coords.specs.Text.{coord_text}
-use Rattle.gtid_sets.specs.Printed.{uuid_text}
-use Rattle.orch_base.specs.Names.{printed}
-use Rattle.orch_base.specs.declared.server.Settings.{Settings}
-use Rattle.openings.specs.declared.part.Part.{Part}
-use Rattle.server_model.specs.declared.server.Server.{Server}
-use Rattle.server_model.specs.Worlds.{World, history_of, server_at}
+use Rattle.scenario_dump.specs.Prelude.{Coord, Part, Server, Settings, World, compact_text, coord_text, history_of, printed, quoted, server_at}
+use Rattle.scenario_dump.specs.Prelude.{token_text, uuid_text}
+use Rattle.scenario_dump.specs.Prelude.token
 use Rattle.scenario_dump.specs.Histories.{parts_of}
 use Rattle.scenario_dump.specs.Servers.{init_of, opening_of, points_of}
 use Rattle.scenario_dump.specs.Texts.{count_data, list_data, part_data, server_data, version_text}

@@ -1,14 +1,6 @@
 -- When the text can be read.
 use Rattle.std.specs.Prelude.{◌≡◌, ℕ, ◌<◌, ◌^◌, List, All, map, Some, slice_get}
-use Rattle.std.specs.Cmp.Lexicographic.{slice_cmp}
-use Rattle.std.specs.Ordering.{nat_cmp}
-use Rattle.std.specs.Str.{IsUtf8}
-use Rattle.std.specs.declared.cmp.Ordering.TheVariants.{Less}
-use Rattle.orch_base.specs.Names.{IsName}
-use Rattle.openings.specs.declared.init.ServerInit.{ServerInit}
-use Rattle.openings.specs.Servers.{parts_of}
-use Rattle.scenarios.specs.declared.scenario.Scenario.{Scenario}
-use Rattle.server_model.specs.Worlds.{World}
+use Rattle.scenario_dump.specs.Prelude.{IsName, IsUtf8, Less, Scenario, ServerInit, World, nat_cmp, parts_of, slice_cmp}
 use Rattle.scenario_dump.specs.Servers.{opening_of}
 
 -- each label before those behind it, by their bytes

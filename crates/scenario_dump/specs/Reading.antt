@@ -1,14 +1,6 @@
 -- What a dump reads as: a scenario that opens to the very world.
 use Rattle.std.specs.Prelude.{◌≡◌, ℕ, ◌*◌, ◌-◌, ◌≤◌, Bool, true, List, [], length, map, sum_by, All, Option, None}
-use Rattle.orch_base.specs.declared.rule.Rule.{Rule}
-use Rattle.orch_base.specs.declared.source.TheConstants.{MAX_SCENARIO_LEN}
-use Rattle.openings.specs.Listed.{transactions}
-use Rattle.openings.specs.Servers.{parts_of}
-use Rattle.scenarios.specs.declared.scenario.Scenario.{Scenario}
-use Rattle.scenarios.specs.Scenarios.{settings_of}
-use Rattle.server_model.specs.declared.server.Server.{Server}
-use Rattle.server_model.specs.Safe.{Safe, IsQuiet}
-use Rattle.server_model.specs.Worlds.{World}
+use Rattle.scenario_dump.specs.Prelude.{IsQuiet, MAX_SCENARIO_LEN, Rule, Safe, Scenario, Server, World, parts_of, settings_of, transactions}
 use Rattle.scenario_dump.specs.Servers.{opening_of, points_of}
 use Rattle.scenario_dump.specs.Texts.{dump_text}
 use Rattle.scenario_dump.specs.Tidy.{IsTidy}

@@ -1,12 +1,6 @@
 -- The servers of a world as a scenario gives them.
 use Rattle.std.specs.Prelude.{ℕ, Bool, true, false, if◌then◌else◌, List, [], length, map, Option, Some, None}
-use Rattle.orch_base.specs.declared.server.ServerNo.{ServerNo}
-use Rattle.orch_base.specs.declared.server.SourceState.{SourceState}
-use Rattle.orch_base.specs.declared.server.SourceState.TheVariants.{Without, Attached, Detached}
-use Rattle.openings.specs.declared.init.ServerInit.{ServerInit}
-use Rattle.openings.specs.Opening.{Opened, opening}
-use Rattle.server_model.specs.declared.server.Server.{Server}
-use Rattle.server_model.specs.Worlds.{World}
+use Rattle.scenario_dump.specs.Prelude.{Attached, Detached, Opened, Server, ServerInit, ServerNo, SourceState, Without, World, opening}
 use Rattle.scenario_dump.specs.Files.{flush_points}
 use Rattle.scenario_dump.specs.Histories.{parts_of}
 

@@ -1,16 +1,7 @@
 -- Small worlds, of which the whole text is known.
 use Rattle.std.specs.Prelude.{ℕ, true, false, List, [], ◌∷◌, codes, Some, None}
-use Rattle.binlog_coords.specs.Log.{Log, file_start, flush, opened, push}
-use Rattle.orch_base.specs.declared.server.Settings.{Settings}
-use Rattle.orch_base.specs.declared.server.SourceState.TheVariants.{Without, Detached}
-use Rattle.orch_base.specs.declared.server.Txn.{Txn}
-use Rattle.hook_texts.specs.Hooks.{no_hooks}
-use Rattle.hook_texts.specs.declared.hooks.Hooks.{Hooks}
-use Rattle.openings.specs.Opening.{opening}
-use Rattle.scenarios.specs.declared.filters.FilterList.{FilterList}
-use Rattle.scenarios.specs.declared.scenario.Scenario.{Scenario}
-use Rattle.server_model.specs.declared.server.Server.{Server}
-use Rattle.server_model.specs.Worlds.{World}
+use Rattle.scenario_dump.specs.Prelude.{Detached, FilterList, Hooks, Log, Scenario, Server, Settings, Txn, Without, World, file_start, flush}
+use Rattle.scenario_dump.specs.Prelude.{no_hooks, opened, opening, push}
 
 abbrev settings_by : List ℕ → ℕ → ℕ → Settings
 settings_by host id limit = record {

@@ -1,22 +1,9 @@
 -- A world at a moment as a scenario without turns, as JSON: compact, in one line, the keys of each object in the order
 -- of their bytes.
 use Rattle.std.specs.Prelude.{ℕ, ◌++◌, List, [], ◌∷◌, Bool, codes, decimal, if◌then◌else◌, is_some, unwrap_or, option_map, slice_get, Option, Some, None}
-use Rattle.serde_json.specs.Data.{Data, boolean, unsigned, number, string, array, object, Items, no_items, item, Members, no_members, member}
-use Rattle.serde_json.specs.Written.{compact_text}
-use Rattle.binlog_coords.specs.declared.Coord.{Coord}
-use Rattle.binlog_coords.specs.Text.{coord_text}
-use Rattle.orch_base.specs.declared.server.Version.{Version}
-use Rattle.orch_base.specs.Names.{printed}
-use Rattle.hook_texts.specs.declared.hooks.Hook.{Hook}
-use Rattle.hook_texts.specs.declared.hooks.Hooks.{Hooks}
-use Rattle.openings.specs.declared.init.ServerInit.{ServerInit}
-use Rattle.openings.specs.declared.part.Part.{Part}
-use Rattle.gtid_sets.specs.Printed.{uuid_text}
-use Rattle.scenarios.specs.declared.blocks.Block.{Block}
-use Rattle.scenarios.specs.declared.filters.ClusterFilters.{ClusterFilters}
-use Rattle.scenarios.specs.declared.filters.Alias.{Alias}
-use Rattle.scenarios.specs.declared.scenario.Scenario.{Scenario}
-use Rattle.server_model.specs.Worlds.{World}
+use Rattle.scenario_dump.specs.Prelude.{Alias, Block, ClusterFilters, Coord, Data, Hook, Hooks, Items, Members, Part, Scenario, ServerInit, Version}
+use Rattle.scenario_dump.specs.Prelude.{World, array, boolean, compact_text, coord_text, item, member, no_items, no_members, number, object, printed}
+use Rattle.scenario_dump.specs.Prelude.{string, unsigned, uuid_text}
 use Rattle.scenario_dump.specs.Servers.{opening_of}
 
 abbrev pub count_data : ℕ → Data

@@ -1,12 +1,7 @@
 -- What holds of the servers of a run beside that they are placed, and safe where no server with a source accepted a
 -- write: by it they can be given as a scenario.
 use Rattle.std.specs.Prelude.{◌≡◌, ℕ, ◌≤◌, ◌<◌, ◌^◌, true, false, List, [], if◌then◌else◌, All, IfSome, Some, None}
-use Rattle.binlog_coords.specs.declared.Coord.{Coord}
-use Rattle.binlog_coords.specs.Log.{file_start, opened}
-use Rattle.orch_base.specs.declared.server.SourceState.TheVariants.{Without}
-use Rattle.server_model.specs.declared.server.Server.{Server}
-use Rattle.server_model.specs.Fit.{HasSize}
-use Rattle.server_model.specs.Worlds.{World, server_at, source_no}
+use Rattle.scenario_dump.specs.Prelude.{Coord, HasSize, Server, Without, World, file_start, opened, server_at, source_no}
 
 -- a server without a source has nothing of a replica
 pub record IsBare (s : Server) : Type 0 where

@@ -1,15 +1,14 @@
 //! After how many transactions logs were flushed.
 
 ghost use Rattle.std.specs.Prelude.{◌≡◌, ℕ, ◌++◌, ◌<◌, ◌||◌, List, length, nat_lt, replicate, OnOk};
-ghost use Rattle.serde_json.specs.Written.{compact_text, items_text};
-ghost use Rattle.server_model.specs.Worlds.{server_at};
+ghost use Rattle.scenario_dump.specs.Prelude.{compact_text, items_text};
 ghost use Rattle.scenario_dump.specs.Files.{flush_points};
 ghost use Rattle.scenario_dump.specs.Parts.{flushes_text};
 ghost use Rattle.scenario_dump.specs.Texts.{count_data, items_of, list_data};
 
+use crate::binlog_coords_items::LogIndex;
+use crate::orch_base::{Memory, ServerNo};
 use crate::values::{comma, print_number};
-use binlog_coords::LogIndex;
-use orch_base::{Memory, ServerNo};
 use server_model::World;
 
 // A count so many times, before more in a list.

@@ -1,13 +1,13 @@
 //! What servers have executed.
 
 ghost use Rattle.std.specs.Prelude.{◌≡◌, ◌++◌, ◌<◌, length, OnOk};
-ghost use Rattle.serde_json.specs.Written.{comma_if};
+ghost use Rattle.scenario_dump.specs.Prelude.{comma_if};
 ghost use Rattle.scenario_dump.specs.Histories.{is_like, part_of};
 ghost use Rattle.scenario_dump.specs.Parts.{history_text, part_text};
 
+use crate::openings::Part;
+use crate::orch_base::{Memory, ServerNo, Txn};
 use crate::values::{comma, print_named, print_number};
-use openings::Part;
-use orch_base::{Memory, ServerNo, Txn};
 use server_model::World;
 
 fn part_of(t: Txn) -> Part

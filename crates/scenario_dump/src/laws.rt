@@ -1,10 +1,7 @@
 //! Laws of the text.
 
 ghost use Rattle.std.specs.Prelude.{◌≡◌, ℕ, ◌++◌, Some, codes, true};
-ghost use Rattle.std.specs.Str.{is_utf8};
-ghost use Rattle.serde_json.specs.Read.{read};
-ghost use Rattle.scenarios.specs.declared.scenario.Scenario.{Scenario};
-ghost use Rattle.server_model.specs.Worlds.{World};
+ghost use Rattle.scenario_dump.specs.Prelude.{Scenario, World, is_utf8, read};
 ghost use Rattle.scenario_dump.specs.Promises.{HasTexts, IsReadable};
 ghost use Rattle.scenario_dump.specs.Small.{named_scenario, one_server, plain_scenario, two_servers};
 ghost use Rattle.scenario_dump.specs.Texts.{dump_data, dump_text};

@@ -9,4 +9,5 @@ mod values;
 mod whole;
 
 pub use laws::{dumps_read_as_json, small_dumps_are_known};
+use scenarios::{binlog_coords_items, openings, orch_base};
 pub use whole::dump;

@@ -1,19 +1,18 @@
 //! Servers as JSON.
 
 ghost use Rattle.std.specs.Prelude.{◌≡◌, ◌++◌, ◌<◌, length, OnOk, option_map, Some};
-ghost use Rattle.orch_base.specs.declared.server.SourceState.TheVariants.{Without};
-ghost use Rattle.server_model.specs.Worlds.{server_at};
+ghost use Rattle.scenario_dump.specs.Prelude.{Without, server_at};
 ghost use Rattle.scenario_dump.specs.Parts.{end_text, fixed_text, server_text, until_text};
 ghost use Rattle.scenario_dump.specs.Servers.{is_detached, source_in};
 
+use crate::binlog_coords_items::Coord;
 use crate::files::print_flushes;
 use crate::histories::print_history;
+use crate::orch_base::{Memory, ServerNo, Settings, SourceState};
 use crate::values::{
     print_flag, print_name, print_named, print_number, print_place, print_text, print_uuid,
     print_version,
 };
-use binlog_coords::Coord;
-use orch_base::{Memory, ServerNo, Settings, SourceState};
 use server_model::World;
 use std::alloc::Global;
 

@@ -1,19 +1,15 @@
 //! Values as JSON, each behind the bytes that stand before it.
 
 ghost use Rattle.std.specs.Prelude.{◌≡◌, ◌++◌, decimal, OnOk};
-ghost use Rattle.json.specs.Print.{quoted};
-ghost use Rattle.serde_json.specs.Written.{comma_if};
-ghost use Rattle.binlog_coords.specs.Text.{coord_text};
-ghost use Rattle.gtid_sets.specs.Printed.{uuid_text};
-ghost use Rattle.orch_base.specs.Names.{printed};
+ghost use Rattle.scenario_dump.specs.Prelude.{comma_if, coord_text, printed, quoted, uuid_text};
 ghost use Rattle.scenario_dump.specs.Parts.{flag_text};
 ghost use Rattle.scenario_dump.specs.Servers.{opening_of};
 ghost use Rattle.scenario_dump.specs.Texts.{name_text, version_text};
 
-use binlog_coords::{Coord, print_coord};
+use crate::binlog_coords_items::{Coord, print_coord};
+use crate::orch_base::{Memory, Name, ServerNo, Version};
 use itoa::Buffer;
 use json::Writer;
-use orch_base::{Memory, Name, ServerNo, Version};
 use server_model::World;
 use std::alloc::Global;
 use std::mem::replace;

@@ -1,14 +1,13 @@
 //! The whole text.
 
 ghost use Rattle.std.specs.Prelude.{◌≡◌, ◌++◌, IfOk, OnOk, map, string_bytes};
-ghost use Rattle.serde_json.specs.Data.{object, string};
-ghost use Rattle.serde_json.specs.Written.{compact_text};
+ghost use Rattle.scenario_dump.specs.Prelude.{compact_text, object, string};
 ghost use Rattle.scenario_dump.specs.Parts.{servers_text};
 ghost use Rattle.scenario_dump.specs.Texts.{aliases_data, blocks_data, dump_text, hook_data, list_data};
 
+use crate::orch_base::{Memory, Moment, ServerNo};
 use crate::server::print_server;
 use crate::values::{comma, print_flag, print_number, print_text};
-use orch_base::{Memory, Moment, ServerNo};
 use scenarios::{Alias, Block, Hook, Scenario};
 use server_model::World;
 use std::alloc::Global;

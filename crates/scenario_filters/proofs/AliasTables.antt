@@ -8,7 +8,7 @@ use Rattle.std.specs.Str.{bytes_eq}
 use Rattle.std.proofs.lemmas.Option.{same_Some}
 use Rattle.std.proofs.lemmas.Slice.Eq.{bytes_eq-Decides}
 use Rattle.cluster_filters.specs.Forms.{Form, some_matches}
-use Rattle.openings.specs.declared.init.ServerInit.{ServerInit}
+use Rattle.scenarios.specs.Openings.declared.init.ServerInit.{ServerInit}
 use Rattle.scenarios.specs.declared.filters.Alias.{Alias}
 use Rattle.scenarios.specs.declared.filters.FilterList.{FilterList}
 use Rattle.scenario_filters.specs.Aliases.{alias_of}

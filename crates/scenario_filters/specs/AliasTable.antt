@@ -5,7 +5,7 @@ use Rattle.std.specs.Option.{option_map_or}
 use Rattle.std.specs.Str.{bytes_eq}
 use denote.Ref.{Bor}
 use Rattle.cluster_filters.specs.Forms.{Form, forms_of, some_matches}
-use Rattle.openings.specs.declared.init.ServerInit.{ServerInit}
+use Rattle.scenarios.specs.Openings.declared.init.ServerInit.{ServerInit}
 use Rattle.scenarios.specs.declared.filters.Alias.{Alias}
 use Rattle.scenarios.specs.declared.filters.FilterList.{FilterList}
 use Rattle.scenario_filters.specs.Aliases.{alias_of}

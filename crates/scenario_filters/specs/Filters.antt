@@ -2,8 +2,7 @@
 use Rattle.std.specs.Prelude.{◌≡◌, ℕ, ◌∷◌, List, [], Bool, true, map, codes, All, Result, Ok}
 use Rattle.serde_json.specs.Data.{Data}
 use Rattle.cluster_filters.specs.Forms.{form_of, has_pattern, forms_of, some_matches}
-use Rattle.orch_base.specs.Gives.{◌>>=◌}
-use Rattle.openings.specs.declared.init.ServerInit.{ServerInit}
+use Rattle.scenarios.specs.Openings.declared.init.ServerInit.{ServerInit}
 use Rattle.scenarios.specs.declared.filters.Alias.{Alias}
 use Rattle.scenarios.specs.declared.filters.FilterList.{FilterList}
 use Rattle.scenarios.specs.declared.filters.ClusterFilters.{ClusterFilters}
@@ -13,6 +12,7 @@ use Rattle.scenario_values.specs.Faults.{holds, optional, only_keys, each}
 use Rattle.scenario_values.specs.Values.{members_in, items_in, text_in}
 use Rattle.scenario_filters.specs.declared.filters.FilterTexts.{FilterTexts}
 use Rattle.scenario_filters.specs.Aliases.{alias_of}
+use Rattle.scenarios.specs.OrchBase.Gives.{◌>>=◌}
 
 -- the text of a filter, whose regular expression, if it has one, has a pattern
 unfoldable pub filter_in : Data → Result (List ℕ) Fault

@@ -1,13 +1,13 @@
 //! The clusters' aliases.
 
 ghost use Rattle.std.specs.Prelude.{◌≡◌, IfOk};
-ghost use Rattle.orch_base.specs.Gives.{Gives};
+ghost use Rattle.scenarios.specs.OrchBase.Gives.{Gives};
 ghost use Rattle.scenario_json.specs.View.{view, members_view};
 ghost use Rattle.scenario_values.specs.Faults.{fault_of, under as place_under, each_member};
 ghost use Rattle.scenario_filters.specs.Aliases.{alias_in, aliases_in};
 ghost use Rattle.scenario_filters.specs.AliasTable.{alias_at, IsAliasTable};
 
-use orch_base::Memory;
+use crate::orch_base::Memory;
 use scenario_json::Value;
 use scenario_values::{ReadFault, label_or_fails, members_in, text_in, text_within, under};
 use scenarios::{Alias, Aliases};

@@ -7,9 +7,9 @@ ghost use Rattle.scenario_filters.specs.Filters.{HavePatterns, AreRead, answered
 
 use crate::aliases::{alias_of, table_of};
 use crate::filters::FilterTexts;
+use crate::openings::ServerInit;
+use crate::orch_base::Memory;
 use cluster_filters::{FilterFault, Filters};
-use openings::ServerInit;
-use orch_base::Memory;
 use scenarios::{Aliases, Answers, ClusterFilters, FilterList, Texts};
 use std::alloc::Global;
 use std::collections::HashMap;

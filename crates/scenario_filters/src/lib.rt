@@ -8,3 +8,4 @@ mod filters;
 pub use aliases::aliases_in;
 pub use answers::answered;
 pub use filters::{FilterTexts, filters_in, no_filters};
+use scenarios::{openings, orch_base};

@@ -1,7 +1,6 @@
 -- Numbers that are drawn.
 use Rattle.std.proofs.Common.{◌≡◌, ◌+◌, ◌*◌, ◌%◌, ℕ}
-use Rattle.std.proofs.Math.Nat.{mod-add-mod}
-use Rattle.scenario_generator.specs.Numbers.{next}
+use Rattle.scenario_generator.proofs.Prelude.{mod-add-mod, next}
 
 -- the remainder of the product is taken first
 pub next_wraps : (x : ℕ) → (x * 6364136223846793005 % 18446744073709551616 + 1442695040888963407) % 18446744073709551616 ≡ next x

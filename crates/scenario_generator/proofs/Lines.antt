@@ -1,23 +1,12 @@
 -- The text is UTF-8, and not too long.
 use Rattle.std.proofs.Common.{◌≡◌, ◌<◌, ◌≤◌, ℕ, zero, suc, ◌+◌, ◌*◌, ◌^◌, Bool, true, false, ◌∷◌, List, [], ◌++◌, length, drop, refl, sym, ap, subst, arith, decimal}
 use Rattle.std.specs.Prelude.{Some, codes, slice_get}
-use Rattle.std.specs.Str.{IsUtf8, is_utf8}
-use Rattle.std.proofs.Math.Seq.{drop-nil}
-use Rattle.std.proofs.lemmas.Fmt.{IsAscii-decimal, length-decimal-le}
-use Rattle.std.proofs.lemmas.List.{length-append}
-use Rattle.std.proofs.lemmas.Str.{IsUtf8-append, IsUtf8-from_ascii, IsUtf8-nil, is_utf8-from_IsUtf8}
-use Rattle.std.proofs.lemmas.Option.{slice_get_within}
-use Rattle.json.proofs.Printed.Utf8.{IsUtf8-are_ascii, are_ascii}
-use Rattle.serde_json.specs.Data.{Data, Items, no_items, item}
-use Rattle.serde_json.specs.Written.{comma_if, compact_text}
-use Rattle.scenario_generator.specs.declared.server.DrawnServer.{DrawnServer}
-use Rattle.scenario_generator.specs.declared.server.DrawnServer.TheVariants.{Root, Replica}
-use Rattle.scenario_generator.specs.declared.turn.DrawnTurn.{DrawnTurn}
-use Rattle.scenario_generator.specs.declared.turn.DrawnTurn.TheVariants.{Write, Fetch, Apply, Rotate, PollRead, PollStore}
-use Rattle.scenario_generator.specs.Promises.{AreTurnsOf, IsPlaced, IsTurnOf}
-use Rattle.scenario_generator.specs.Servers.{count_at, count_in, count_of, servers_from}
-use Rattle.scenario_generator.specs.Texts.{listed, padded, scenario_text, server_data, server_name, server_text, servers_data, servers_text, turn_data, turn_text, turns_data, turns_text}
-use Rattle.scenario_generator.specs.Turns.{turns_from}
+use Rattle.scenario_generator.proofs.Prelude.{Apply, AreTurnsOf, Data, DrawnServer, DrawnTurn, Fetch, IsAscii-decimal, IsPlaced, IsTurnOf, IsUtf8}
+use Rattle.scenario_generator.proofs.Prelude.{IsUtf8-append, IsUtf8-are_ascii, IsUtf8-from_ascii, IsUtf8-nil, Items, PollRead, PollStore, Replica}
+use Rattle.scenario_generator.proofs.Prelude.{Root, Rotate, Write, are_ascii, comma_if, compact_text, count_at, count_in, count_of, drop-nil, is_utf8}
+use Rattle.scenario_generator.proofs.Prelude.{is_utf8-from_IsUtf8, item, length-append, length-decimal-le, listed, no_items, padded, scenario_text}
+use Rattle.scenario_generator.proofs.Prelude.{server_data, server_name, server_text, servers_data, servers_from, servers_text, slice_get_within}
+use Rattle.scenario_generator.proofs.Prelude.{turn_data, turn_text, turns_data, turns_from, turns_text}
 use Rattle.scenario_generator.proofs.Names.{length-server_name}
 use Rattle.scenario_generator.proofs.Promises.{counts_few, placed, turns_are}
 use Rattle.scenario_generator.proofs.Servers.{servers_from-count}

@@ -1,21 +1,11 @@
 -- Names read as names.
+use Rattle.scenario_generator.proofs.Prelude.{and_parts as both, common_steps, digit_glyph, digits, digits_onto, drop-nil, eqb-true, false≢true}
+use Rattle.scenario_generator.proofs.Prelude.{host_at, host_of, is_colon, is_host_byte, le-ltb, length-append, length-decimal-le, length-drop}
+use Rattle.scenario_generator.proofs.Prelude.{list_all, name_at, ne_eqb, padded, port_of, position_or_len, server_name, take_all}
 use Rattle.std.proofs.Common.{◌≡◌, ◌<◌, ◌≤◌, ◌==◌, ℕ, zero, suc, ◌+◌, ◌/◌, ◌%◌, ◌^◌, Bool, true, false, cond, not, eqb, ltb, ◌∷◌, List, [], ◌++◌, length, drop, None, Ok, refl, subst, arith, decimal}
 use Rattle.std.specs.Prelude.{◌&&◌, codes, position}
-use Rattle.std.specs.Fmt.{digit_glyph, digits, digits_onto}
-use Rattle.std.specs.List.{list_all, position_or_len}
-use Rattle.std.proofs.Math.Seq.{drop-nil}
-use Rattle.std.proofs.lemmas.Bool.{false≢true, le-ltb, eqb-true, ne_eqb}
-use Rattle.std.proofs.lemmas.Fmt.{length-decimal-le}
-use Rattle.std.proofs.lemmas.Grind.{common_steps}
-use Rattle.std.proofs.lemmas.List.{length-append, length-drop, take_all}
-use Rattle.orch_base.specs.Names.{host_at, host_of, is_colon, is_host_byte, name_at, port_of}
-use Rattle.scenario_generator.specs.Texts.{padded, server_name}
 
 -- ---- bytes of a host, each
-
-both : (a b : Bool) → (a && b) ≡ true → (a ≡ true) × (b ≡ true)
-both true b e = (refl, e)
-both false b e = absurd (false≢true e)
 
 alone : (a : Bool) → a ≡ true → (a && true) ≡ true
 alone a e = rw e refl
@@ -26,16 +16,8 @@ hosts-append (x ∷ xs) b first second = let p = both (is_host_byte x) (list_all
 
 digit_is_host : (d : ℕ) → d < 10 → is_host_byte (48 + d) ≡ true
 digit_is_host zero h = refl
-digit_is_host (suc zero) h = refl
-digit_is_host (suc (suc zero)) h = refl
-digit_is_host (suc (suc (suc zero))) h = refl
-digit_is_host (suc (suc (suc (suc zero)))) h = refl
-digit_is_host (suc (suc (suc (suc (suc zero))))) h = refl
-digit_is_host (suc (suc (suc (suc (suc (suc zero)))))) h = refl
-digit_is_host (suc (suc (suc (suc (suc (suc (suc zero))))))) h = refl
-digit_is_host (suc (suc (suc (suc (suc (suc (suc (suc zero)))))))) h = refl
-digit_is_host (suc (suc (suc (suc (suc (suc (suc (suc (suc zero))))))))) h = refl
 digit_is_host (suc (suc (suc (suc (suc (suc (suc (suc (suc (suc d)))))))))) h = absurd (omega arith)
+digit_is_host _ h = refl
 
 glyph_is_host : (n : ℕ) → is_host_byte (digit_glyph false (n % 10)) ≡ true
 glyph_is_host n =
@@ -58,10 +40,8 @@ hosts-decimal n = hosts-onto 64 n [] refl
 
 hosts-zeros : (k : ℕ) → list_all is_host_byte (drop k (codes "0000")) ≡ true
 hosts-zeros zero = refl
-hosts-zeros (suc zero) = refl
-hosts-zeros (suc (suc zero)) = refl
-hosts-zeros (suc (suc (suc zero))) = refl
 hosts-zeros (suc (suc (suc (suc k)))) = rw (drop-nil k) refl
+hosts-zeros _ = refl
 
 pub hosts-server_name : (n : ℕ) → list_all is_host_byte (server_name n) ≡ true
 unfolding server_name

@@ -1,20 +1,10 @@
 -- What is drawn, whatever the seed.
 use Rattle.std.proofs.Common.{◌≡◌, ◌∙◌, ◌≢◌, ◌⊎◌, ◌<◌, ◌≤◌, ◌==◌, ℕ, zero, suc, ◌+◌, ◌%◌, ◌^◌, Bool, true, false, ◌∷◌, List, [], ◌++◌, length, sym, ap, subst, refl, arith, inl, inr}
 use Rattle.std.specs.Prelude.{codes, decimal, drop, if◌then◌else◌, slice_get, Some}
-use Rattle.std.proofs.lemmas.Fmt.{decimal_is_IsNumeral}
-use Rattle.std.proofs.Math.Seq.{drop-nil}
-use Rattle.std.specs.Str.Parse.{digits_value}
-use Rattle.std.proofs.lemmas.Bool.{eqb-true}
-use Rattle.std.proofs.lemmas.Grind.{common_steps}
-use Rattle.std.proofs.lemmas.Option.{slice_get_within}
-use Rattle.scenario_generator.specs.declared.server.DrawnServer.{DrawnServer}
-use Rattle.scenario_generator.specs.declared.server.DrawnServer.TheVariants.{Root, Replica}
-use Rattle.scenario_generator.specs.declared.turn.DrawnTurn.TheVariants.{Write, Fetch, Apply, Rotate, PollRead, PollStore}
-use Rattle.scenario_generator.specs.Numbers.{below, next}
-use Rattle.scenario_generator.specs.Promises.{ArePlaced, AreTurnsOf, IsPlaced, IsTurnOf}
-use Rattle.scenario_generator.specs.Servers.{count_at, count_of, executed_by, root_of, server_by, servers_from, source_by}
-use Rattle.scenario_generator.specs.Texts.{server_name}
-use Rattle.scenario_generator.specs.Turns.{turn_from, turns_from}
+use Rattle.scenario_generator.proofs.Prelude.{Apply, ArePlaced, AreTurnsOf, DrawnServer, Fetch, IsPlaced, IsTurnOf, PollRead, PollStore, Replica}
+use Rattle.scenario_generator.proofs.Prelude.{Root, Rotate, Write, below, common_steps, count_at, count_of, decimal_is_IsNumeral, digits_value}
+use Rattle.scenario_generator.proofs.Prelude.{drop-nil, eqb-true, executed_by, next, root_of, server_by, server_name, servers_from, slice_get_within}
+use Rattle.scenario_generator.proofs.Prelude.{source_by, turn_from, turns_from}
 use Rattle.scenario_generator.proofs.Servers.{below_small, count_at-earlier, servers_from-count, source_within}
 
 pub next_whole : (x : ℕ) → next x < 2 ^ 64
@@ -122,10 +112,8 @@ turns_are servers x (suc n) some = λ k t e.
 -- zeros in front count for nothing
 value_padded : (k : ℕ) (ds : List ℕ) → digits_value 10 (drop k (codes "0000") ++ ds) ≡ digits_value 10 ds
 value_padded zero ds = refl
-value_padded (suc zero) ds = refl
-value_padded (suc (suc zero)) ds = refl
-value_padded (suc (suc (suc zero))) ds = refl
 value_padded (suc (suc (suc (suc k)))) ds = rw (drop-nil k)
+value_padded _ ds = refl
 
 -- the number in a name
 value_of_name : (n : ℕ) → n + 1 < 2 ^ 64 → digits_value 10 (drop 1 (server_name n)) ≡ n + 1

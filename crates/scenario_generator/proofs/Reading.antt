@@ -1,12 +1,9 @@
 -- The text reads as JSON with the value that was drawn.
 use Rattle.std.proofs.Common.{◌≡◌, ◌∙◌, ℕ, Bool, true, false, cond, ◌&&◌, ◌∷◌, List, [], ◌++◌, refl, sym, ap, ap₂, append_assoc, append-nil}
-use Rattle.json.specs.Token.{Token, begin_object, end_object, begin_array, end_array, key, string, number, boolean, null, bad}
-use Rattle.json.specs.Word.{ends_word, word}
-use Rattle.json.specs.Lex.{Lexeme, token, comma, colon, string_token, lex, between, fresh, punctuate, tokens}
-use Rattle.json.specs.Print.{escape, quoted, token_text, begins, ends, separator, print_from, print, IsPrintable, ArePrintable}
-use Rattle.json.proofs.Printed.Strings.{content-escape, lex-escape}
-use Rattle.json.proofs.Printed.Numbers.{lex-number, in_word-ended}
-use Rattle.json.proofs.Printed.Tokens.{tokens-print}
+use Rattle.scenario_generator.proofs.Prelude.{ArePrintable, IsPrintable, Lexeme, Token, bad, begin_array, begin_object, begins, between, boolean}
+use Rattle.scenario_generator.proofs.Prelude.{colon, comma, content-escape, end_array, end_object, ends, ends_word, escape, fresh, in_word-ended, key}
+use Rattle.scenario_generator.proofs.Prelude.{lex, lex-escape, lex-number, null, number, print, print_from, punctuate, quoted, separator, string}
+use Rattle.scenario_generator.proofs.Prelude.{string_token, token, token_text, tokens, tokens-print, word}
 
 -- ---- a newline byte behind the text adds no token
 

@@ -1,11 +1,8 @@
 -- Texts on their way to sinks.
 use Rattle.std.proofs.Common.{◌≡◌, ◌∙◌, ℕ, ◌+◌, ◌≤◌, List, [], ◌++◌, length, take, sym, ap, subst, arith, append_assoc, Option, Some, None, Result, Ok, Err}
 use Rattle.std.specs.Prelude.{OnOk, OnErr}
-use Rattle.std.specs.Io.KnownBytes.{Appends}
-use Rattle.std.proofs.lemmas.List.{append-nil, length-append, take-append-le}
-use Rattle.std.proofs.Math.Seq.{take-append-add, take-length}
-use Rattle.orch_base.specs.Ends.{AppendsFront}
-use Rattle.scenario_generator.specs.Pieces.{IsHanded, Joins, JoinsFront, Stays, StaysFront}
+use Rattle.scenario_generator.proofs.Prelude.{Appends, AppendsFront, IsHanded, Joins, JoinsFront, Stays, StaysFront, append-nil, length-append}
+use Rattle.scenario_generator.proofs.Prelude.{take-append-add, take-append-le, take-length}
 
 -- ---- what sinks take
 

@@ -1,15 +1,10 @@
 -- Servers as they are drawn.
 use Rattle.std.proofs.Common.{◌≡◌, ◌∙◌, ◌≢◌, inl, inr, ◌<◌, ◌≤◌, ◌==◌, ℕ, zero, suc, ◌+◌, ◌-◌, ◌%◌, Bool, true, false, ◌∷◌, List, [], ◌++◌, length, sym, ap, subst, refl, arith, append_assoc}
 use Rattle.std.specs.Prelude.{if◌then◌else◌, nat_lt, slice_index, slice_set}
-use Rattle.std.proofs.lemmas.Bool.Decides.{eqb_tells}
-use Rattle.std.proofs.lemmas.Grind.{common_steps}
-use Rattle.std.proofs.lemmas.List.{append-nil, length-append, get_or-set_same, get_or-set_other}
-use Rattle.serde_json.specs.Written.{comma_if}
-use Rattle.scenario_generator.specs.declared.server.DrawnServer.{DrawnServer}
-use Rattle.scenario_generator.specs.declared.server.DrawnServer.TheVariants.{Root, Replica}
-use Rattle.scenario_generator.specs.Numbers.{Drawing, below, next}
-use Rattle.scenario_generator.specs.Servers.{AreCounts, AreFew, after_server, count_at, count_of, executed_by, root_of, server_by, servers_from, source_by, with_server}
-use Rattle.scenario_generator.specs.Texts.{listed, server_text, servers_data, servers_text}
+use Rattle.scenario_generator.proofs.Prelude.{AreCounts, AreFew, Drawing, DrawnServer, Replica, Root, after_server, append-nil, below, comma_if}
+use Rattle.scenario_generator.proofs.Prelude.{common_steps, count_at, count_of, eqb_tells, executed_by, get_or-set_other, get_or-set_same}
+use Rattle.scenario_generator.proofs.Prelude.{length-append, listed, next, root_of, server_by, server_text, servers_data, servers_from, servers_text}
+use Rattle.scenario_generator.proofs.Prelude.{source_by, with_server}
 use Rattle.scenario_generator.proofs.Texts.{some_before}
 
 -- ---- numbers

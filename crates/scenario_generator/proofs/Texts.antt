@@ -1,14 +1,9 @@
 -- Texts and their parts.
 use Rattle.std.proofs.Common.{◌≡◌, ◌∙◌, ◌==◌, ℕ, zero, suc, ◌+◌, ◌/◌, ◌%◌, Bool, true, false, cond, Result, Ok, Err, subst, ◌∷◌, List, [], ◌++◌, length, drop, sym, ap, refl, arith, append_assoc, decimal}
 use Rattle.std.specs.Prelude.{OnOk, codes, if◌then◌else◌, is_ok, nat_lt}
-use Rattle.std.specs.Fmt.{digits, digits_onto, digit_glyph}
-use Rattle.std.proofs.lemmas.Grind.{common_steps}
-use Rattle.std.proofs.Math.Seq.{drop-nil}
-use Rattle.json.specs.Print.{escape, escape_byte}
-use Rattle.json.proofs.Printed.Strings.{escape_byte_plain}
-use Rattle.scenario_generator.specs.declared.server.DrawnServer.TheVariants.{Root, Replica}
-use Rattle.scenario_generator.specs.declared.turn.DrawnTurn.TheVariants.{Write, Fetch, Apply, Rotate, PollRead, PollStore}
-use Rattle.scenario_generator.specs.Texts.{padded, server_name, server_text, turn_text}
+use Rattle.scenario_generator.proofs.Prelude.{Apply, Fetch, PollRead, PollStore, Replica, Root, Rotate, Write, common_steps, digit_glyph, digits}
+use Rattle.scenario_generator.proofs.Prelude.{digits_onto, drop-nil, escape, escape_byte, escape_byte_plain, padded, server_name, server_text}
+use Rattle.scenario_generator.proofs.Prelude.{turn_text}
 
 -- ---- names are quoted as they are
 
@@ -41,10 +36,8 @@ escape-decimal n = escape-onto 64 n [] refl
 escape-zeros : (k : ℕ) → escape (drop k (codes "0000")) ≡ drop k (codes "0000")
 unfolding escape_byte
 escape-zeros zero = refl
-escape-zeros (suc zero) = refl
-escape-zeros (suc (suc zero)) = refl
-escape-zeros (suc (suc (suc zero))) = refl
 escape-zeros (suc (suc (suc (suc k)))) = rw (drop-nil k)
+escape-zeros _ = refl
 
 escape-padded : (ds : List ℕ) → escape ds ≡ ds → escape (padded ds) ≡ padded ds
 escape-padded ds same = escape-append (drop (length ds) (codes "0000")) ds ∙ rw (escape-zeros (length ds), same)

@@ -1,12 +1,8 @@
 -- Turns as they are drawn.
 use Rattle.std.proofs.Common.{◌≡◌, ◌∙◌, ◌≤◌, ℕ, zero, suc, ◌+◌, ◌-◌, true, ◌∷◌, List, [], ◌++◌, length, sym, ap, refl, arith, append_assoc}
 use Rattle.std.specs.Prelude.{nat_lt}
-use Rattle.std.proofs.lemmas.List.{append-nil, length-append}
-use Rattle.serde_json.specs.Written.{comma_if}
-use Rattle.scenario_generator.specs.declared.turn.DrawnTurn.{DrawnTurn}
-use Rattle.scenario_generator.specs.Numbers.{Drawing}
-use Rattle.scenario_generator.specs.Turns.{after_turn, turn_from, turns_from, with_turn}
-use Rattle.scenario_generator.specs.Texts.{listed, turn_text, turns_data, turns_text}
+use Rattle.scenario_generator.proofs.Prelude.{Drawing, DrawnTurn, after_turn, append-nil, comma_if, length-append, listed, turn_from, turn_text}
+use Rattle.scenario_generator.proofs.Prelude.{turns_data, turns_from, turns_text, with_turn}
 use Rattle.scenario_generator.proofs.Texts.{some_before}
 
 pub turns_from-next : (servers x n : ℕ) → turns_from servers x (n + 1) ≡ with_turn servers (turns_from servers x n)

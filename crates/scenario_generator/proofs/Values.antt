@@ -1,26 +1,15 @@
 -- Values whose text reads back.
 use Rattle.std.proofs.Common.{◌≡◌, ◌∙◌, ◌<◌, ◌≤◌, ℕ, zero, suc, ◌+◌, ◌^◌, ◌∷◌, List, [], ◌++◌, Option, Some, option_map, option_and_then, refl, sym, ap, arith, append-nil}
 use Rattle.std.specs.Prelude.{codes}
-use Rattle.json.specs.Lex.{tokens}
-use Rattle.json.specs.Token.{Token}
-use Rattle.json.specs.Json as json
-use Rattle.json.specs.Tree as tree
-use Rattle.json.specs.Tree.{json_tokens, HasNumbers, ItemsHaveNumbers}
-use Rattle.json.proofs.Printed.Decimals.{IsNumber-decimal}
-use Rattle.json.proofs.Printed.Trees.{ArePrintable-json_tokens, value-json_tokens}
-use Rattle.serde_json.specs.Data.{Data, unsigned, number, string, array, object, Items, no_items, item, no_members, member, put}
-use Rattle.serde_json.specs.Read.{max_depth, of_items, of_json, read}
-use Rattle.serde_json.specs.Written.{compact_text, items_outline, outline}
-use Rattle.serde_json.proofs.Numbers.{number_of-decimal}
-use Rattle.serde_json.proofs.Texts.{print-outline}
-use Rattle.scenario_generator.specs.declared.server.DrawnServer.{DrawnServer}
-use Rattle.scenario_generator.specs.declared.server.DrawnServer.TheVariants.{Root, Replica}
-use Rattle.scenario_generator.specs.declared.turn.DrawnTurn.{DrawnTurn}
-use Rattle.scenario_generator.specs.declared.turn.DrawnTurn.TheVariants.{Write, Fetch, Apply, Rotate, PollRead, PollStore}
-use Rattle.scenario_generator.specs.Promises.{AreTurnsOf, IsTurnOf}
-use Rattle.scenario_generator.specs.Servers.{count_at, count_of, servers_from}
-use Rattle.scenario_generator.specs.Texts.{drawn_data, scenario_text, server_data, server_name, servers_data, turn_data, turns_data}
-use Rattle.scenario_generator.specs.Turns.{turns_from}
+use Rattle.scenario_generator.proofs.Prelude.{Apply, ArePrintable-json_tokens, AreTurnsOf, Data, DrawnServer, DrawnTurn, Fetch, HasNumbers}
+use Rattle.scenario_generator.proofs.Prelude.{IsNumber-decimal, IsTurnOf, Items, ItemsHaveNumbers, PollRead, PollStore, Replica, Root, Rotate, Token}
+use Rattle.scenario_generator.proofs.Prelude.{Write, array, compact_text, count_at, count_of, drawn_data, item, items_outline, json_tokens, max_depth}
+use Rattle.scenario_generator.proofs.Prelude.{member, no_items, no_members, number_of-decimal, object, of_items, of_json, outline, print-outline, put}
+use Rattle.scenario_generator.proofs.Prelude.{read, scenario_text, server_data, server_name, servers_data, servers_from, tokens, turn_data}
+use Rattle.scenario_generator.proofs.Prelude.{turns_data, turns_from, unsigned, value-json_tokens}
+use Rattle.scenario_generator.proofs.Prelude.SerdeJson.{number, string}
+use Rattle.scenario_generator.proofs.Prelude.json
+use Rattle.scenario_generator.proofs.Prelude.tree
 use Rattle.scenario_generator.proofs.Promises.{counts_few, turns_are}
 use Rattle.scenario_generator.proofs.Reading.{tokens-line}
 

@@ -1,16 +1,9 @@
 -- The whole text and its parts.
 use Rattle.std.proofs.Common.{◌≡◌, ◌∙◌, ℕ, Bool, true, false, ◌∷◌, List, [], ◌++◌, Option, sym, ap, subst, refl, append_assoc}
-use Rattle.std.specs.Fmt.{digits}
+use Rattle.scenario_generator.proofs.Prelude.{Appends, AppendsFront, IsHanded, Items, comma_if, compact_text, digits, drawn_data, escape_byte, item}
+use Rattle.scenario_generator.proofs.Prelude.{items_text, listed, no_items, scenario_text, servers_data, servers_from, servers_text, turns_data}
+use Rattle.scenario_generator.proofs.Prelude.{turns_from, turns_text}
 use Rattle.std.specs.Prelude.{codes}
-use Rattle.std.specs.Io.KnownBytes.{Appends}
-use Rattle.json.specs.Print.{escape_byte}
-use Rattle.serde_json.specs.Data.{Items, no_items, item}
-use Rattle.serde_json.specs.Written.{comma_if, compact_text, items_text}
-use Rattle.orch_base.specs.Ends.{AppendsFront}
-use Rattle.scenario_generator.specs.Pieces.{IsHanded}
-use Rattle.scenario_generator.specs.Servers.{servers_from}
-use Rattle.scenario_generator.specs.Texts.{drawn_data, listed, scenario_text, servers_data, servers_text, turns_data, turns_text}
-use Rattle.scenario_generator.specs.Turns.{turns_from}
 use Rattle.scenario_generator.proofs.Sends.{front_more, front_of_longer, takes_more, takes_nothing}
 
 -- the items, and the closing bracket

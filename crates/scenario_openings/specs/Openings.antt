@@ -1,6 +1,5 @@
 -- The opening that the servers of a text make, and where a flaw of them stands in the text.
 use Rattle.std.specs.Prelude.{ℕ, ◌*◌, ◌∷◌, List, [], Bool, length, sum_by, nat_le, codes, decimal, Result, Ok, Err}
-use Rattle.orch_base.specs.Gives.{◌>>=◌}
 use Rattle.openings.specs.declared.init.ServerInit.{ServerInit}
 use Rattle.openings.specs.declared.opening.Flaw.{Flaw}
 use Rattle.openings.specs.declared.opening.Flaw.TheVariants as flaw
@@ -14,6 +13,7 @@ use Rattle.scenario_values.specs.declared.fault.Fault.{Fault}
 use Rattle.scenario_values.specs.declared.fault.FaultCode.{FaultCode}
 use Rattle.scenario_values.specs.declared.fault.FaultCode.TheVariants.{BothGiven, SourceNotLogging, Loop, OtherCluster, TooMany, BadPlace, NotKin, TooLarge}
 use Rattle.scenario_values.specs.Faults.{fails, holds, under}
+use Rattle.orch_base.specs.Gives.{◌>>=◌}
 
 -- ---- flaws
 

@@ -1,35 +1,13 @@
 -- The parts of what is read as a scenario.
 use Rattle.std.proofs.Common.{◌≡◌, ℕ, Bool, true, List, [], ◌∷◌, length, Option, Some, None, Ok, refl, sym, ap, subst}
 use Rattle.std.specs.Prelude.{codes, decimal}
-use Rattle.serde_json.specs.Data.{Data, Items, no_items}
-use Rattle.serde_json.specs.Find.{get}
-use Rattle.orch_base.specs.Names.{HostPort}
-use Rattle.hook_texts.specs.Hooks.{no_hooks}
-use Rattle.hook_texts.specs.declared.hooks.Hook.{Hook}
-use Rattle.hook_texts.specs.declared.hooks.Hooks.{Hooks}
-use Rattle.openings.specs.declared.init.ServerInit.{ServerInit}
-use Rattle.openings.specs.declared.opening.Flaw.{Flaw}
-use Rattle.openings.specs.Flaws.{flaw_in}
-use Rattle.openings.specs.Opening.{Opened, opening}
-use Rattle.opening_checks.specs.Checked.{found_of, opening_or}
-use Rattle.opening_checks.specs.Values.{value_at}
-use Rattle.scenarios.specs.declared.scenario.Scenario.{Scenario}
-use Rattle.turns.specs.declared.turn.Turn.{Turn}
-use Rattle.scenario_values.specs.declared.fault.FaultCode.{FaultCode}
-use Rattle.scenario_values.specs.declared.fault.FaultCode.TheVariants.{BadHook, TooLarge}
-use Rattle.scenario_values.specs.Faults.{holds, under_item, needed, only_keys, optional}
-use Rattle.scenario_values.specs.Values.{items_in, bool_in, members_in, number_in, text_in}
-use Rattle.scenario_servers.specs.declared.given.Given.{Given}
-use Rattle.scenario_servers.specs.Openings.{inits_of, known_of, rules_of}
-use Rattle.scenario_openings.specs.Openings.{listed_count, is_small, code_of, keys_of, fails_at, opening_or_fails, opening_in}
-use Rattle.scenario_servers.specs.Servers.{servers_in}
-use Rattle.scenario_servers.proofs.Steps.{same_Ok, bind-ok, holds-ok, under-ok, needed-ok}
-use Rattle.scenario_filters.specs.Aliases.{aliases_in}
-use Rattle.scenario_filters.specs.Filters.{filters_in, no_filters, answered}
-use Rattle.scenario_reader.specs.declared.head.Head.{Head}
-use Rattle.scenario_reader.specs.Blocks.{blocks_in, period_in}
-use Rattle.scenario_reader.specs.Hooks.{exit_or_fails, hook_in, hook_keys, hook_list_in, hooks_in, is_hook_text, two_of, whole_of}
-use Rattle.scenario_reader.specs.Scenarios.{one_in, keys_in, head_in, turns_in, scenario_with, scenario_from}
+use Rattle.scenario_reader.proofs.Prelude.{BadHook, Data, FaultCode, Flaw, Given, Head, Hook, Hooks, HostPort, Items, Opened, Scenario, ServerInit}
+use Rattle.scenario_reader.proofs.Prelude.{TooLarge, Turn, aliases_in, answered, bind-ok, blocks_in, bool_in, code_of, exit_or_fails, fails_at}
+use Rattle.scenario_reader.proofs.Prelude.{filters_in, flaw_in, found_of, get, head_in, holds, holds-ok, hook_in, hook_keys, hook_list_in, hooks_in}
+use Rattle.scenario_reader.proofs.Prelude.{inits_of, is_hook_text, is_small, items_in, keys_in, keys_of, known_of, listed_count, members_in, needed}
+use Rattle.scenario_reader.proofs.Prelude.{needed-ok, no_filters, no_hooks, no_items, number_in, one_in, only_keys, opening, opening_in, opening_or}
+use Rattle.scenario_reader.proofs.Prelude.{opening_or_fails, optional, period_in, rules_of, same_Ok, scenario_from, scenario_with, servers_in}
+use Rattle.scenario_reader.proofs.Prelude.{text_in, turns_in, two_of, under-ok, under_item, value_at, whole_of}
 
 -- ---- hooks
 

@@ -1,43 +1,17 @@
 -- What is read as a scenario meets the condition of the calls that take one.
+use Rattle.scenario_reader.proofs.Prelude.{All-nil as none_of, All-weaker, AllPass-from_list_all, AreHooks, Block, Data, Given, Head, Hook, Hooks}
+use Rattle.scenario_reader.proofs.Prelude.{HostPort, IsChecked, IsGiven, IsHook, IsListed, IsListedTurn, IsScenario, IsTurn, IsTurnOf, Items}
+use Rattle.scenario_reader.proofs.Prelude.{MAX_SCENARIO_LEN, NamesOneOf, Opened, Scenario, ServerInit, TooLarge, TooLong, Turn, and_parts, bind-ok}
+use Rattle.scenario_reader.proofs.Prelude.{block_in, blocks_in, bounded, each, each_from, each_from-all, each_from-length, each_member-all, eq-eqb}
+use Rattle.scenario_reader.proofs.Prelude.{expanded, expanded-are, false≢true, head_in, holds, holds-ok, hook_in, hook_list_in, hooks_in, in_order}
+use Rattle.scenario_reader.proofs.Prelude.{inits_from, inits_of, is_hook_text, is_printable, is_small, is_write, item, item_count, items_in, json_in}
+use Rattle.scenario_reader.proofs.Prelude.{known_of, label_or_fails, leb-true, length-map, list_all, listed_count, listed_in, listed_names}
+use Rattle.scenario_reader.proofs.Prelude.{listed_uuids, members_in, no_hooks, no_items, number-ok, number_in, opening, opening_in, optional}
+use Rattle.scenario_reader.proofs.Prelude.{optional-ok, order_within, period_in, printed, printed_of, read_given, rules_of, same_Ok, scenario_from}
+use Rattle.scenario_reader.proofs.Prelude.{scenario_in, scenario_with, server_in, server_names, servers_in, turn-has, turn_in, turns_in, under}
+use Rattle.scenario_reader.proofs.Prelude.{under-ok}
 use Rattle.std.proofs.Common.{◌≡◌, ℕ, ◌+◌, ◌*◌, ◌≤◌, ◌⊎◌, inl, inr, ◌∙◌, Bool, true, eqb, leb, List, [], ◌∷◌, length, All, Option, Ok, refl, ap, subst, sym, arith}
 use Rattle.std.specs.Prelude.{◌&&◌, count_by, codes, not}
-use Rattle.std.specs.List.{list_all}
-use Rattle.std.proofs.lemmas.Bool.{and_parts, eq-eqb, false≢true, leb-true}
-use Rattle.std.proofs.lemmas.List.Elements.{All-weaker}
-use Rattle.std.proofs.lemmas.List.Sums.{AllPass-from_list_all}
-use Rattle.std.proofs.lemmas.List.{length-map}
-use Rattle.serde_json.specs.Data.{Data, Items, no_items, item}
-use Rattle.orch_base.specs.declared.source.TheConstants.{MAX_SCENARIO_LEN}
-use Rattle.orch_base.specs.Names.{HostPort, printed}
-use Rattle.hook_texts.specs.Hooks.{no_hooks, AreHooks, IsHook}
-use Rattle.hook_texts.specs.declared.hooks.Hook.{Hook}
-use Rattle.hook_texts.specs.declared.hooks.Hooks.{Hooks}
-use Rattle.openings.specs.declared.init.ServerInit.{ServerInit}
-use Rattle.openings.specs.Opening.{Opened, opening, IsListed, IsChecked}
-use Rattle.scenarios.specs.declared.blocks.Block.{Block}
-use Rattle.scenarios.specs.declared.scenario.Scenario.{Scenario}
-use Rattle.turns.specs.declared.turn.Turn.{Turn}
-use Rattle.scenarios.specs.Scenarios.{IsScenario}
-use Rattle.scenarios.specs.Turns.{IsTurn, IsTurnOf, NamesOneOf, is_write}
-use Rattle.scenario_values.specs.declared.fault.FaultCode.TheVariants.{TooLong, TooLarge}
-use Rattle.scenario_values.specs.Faults.{holds, under, optional, each, each_from, item_count}
-use Rattle.scenario_values.specs.Values.{items_in, label_or_fails, members_in, number_in}
-use Rattle.scenario_servers.specs.declared.given.Given.{Given}
-use Rattle.scenario_servers.specs.Names.{listed_names, listed_uuids}
-use Rattle.scenario_servers.specs.Openings.{inits_from, inits_of, known_of, rules_of, IsGiven}
-use Rattle.scenario_openings.specs.Openings.{listed_count, is_small, opening_in}
-use Rattle.scenario_servers.specs.Servers.{server_in, listed_in, servers_in}
-use Rattle.scenario_servers.proofs.Reading.{read_given}
-use Rattle.scenario_servers.proofs.Steps.{same_Ok, bind-ok, holds-ok, under-ok, optional-ok, number-ok, each_from-length, each_from-all, each_member-all}
-use Rattle.scenario_reader.specs.declared.head.Head.{Head}
-use Rattle.scenario_reader.specs.Blocks.{block_in, blocks_in, period_in}
-use Rattle.scenario_reader.specs.Hooks.{hook_in, hook_list_in, hooks_in, is_hook_text, is_printable}
-use Rattle.scenario_turns.specs.Expansion.{IsListedTurn, server_names, printed_of, in_order, expanded}
-use Rattle.scenario_turns.specs.Turns.{turn_in}
-use Rattle.scenario_reader.specs.Scenarios.{json_in, head_in, bounded, turns_in, scenario_with, scenario_from, scenario_in}
-use Rattle.scenario_turns.proofs.Expansions.{expanded-are}
-use Rattle.scenario_turns.proofs.ReadTurns.{turn-has}
-use Rattle.scenario_turns.proofs.Order.{order_within}
 use Rattle.scenario_reader.proofs.Parts.{from-ok, head-ok, hook-ok, hooks-ok, made_of, opening-ok, with-ok}
 
 -- ---- turns
@@ -121,9 +95,6 @@ opening-has servers gtid o given e =
     subst (IsOpened servers) r.is (record { checked = record { listed = listed; sound = r.sound }; same = refl })
 
 -- ---- the keys before the servers
-
-none_of : {A : Type 0} (P : A → Type 0) → All P []
-none_of P = λ k d less. absurd (omega arith)
 
 record AreSmall (h : Head) : Type 0 where
   moment : h.moment ≤ 1000000000000000

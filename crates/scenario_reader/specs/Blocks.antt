@@ -1,11 +1,7 @@
 -- The block periods of single clusters.
 use Rattle.std.specs.Prelude.{ℕ, List, Result, Ok}
-use Rattle.serde_json.specs.Data.{Data}
-use Rattle.orch_base.specs.Gives.{◌>>=◌}
-use Rattle.scenarios.specs.declared.blocks.Block.{Block}
-use Rattle.scenario_values.specs.declared.fault.Fault.{Fault}
-use Rattle.scenario_values.specs.Faults.{each_member}
-use Rattle.scenario_values.specs.Values.{members_in, label_or_fails, number_in}
+use Rattle.scenario_reader.specs.Prelude.{Block, Data, Fault, each_member, label_or_fails, members_in, number_in}
+use Rattle.scenarios.specs.OrchBase.Gives.{◌>>=◌}
 
 -- a block period in seconds
 abbrev pub period_in : Data → Result ℕ Fault

@@ -1,15 +1,8 @@
 -- The hooks of recoveries.
 use Rattle.std.specs.Prelude.{ℕ, ◌∷◌, ◌&&◌, List, [], Bool, codes, length, nat_eq, nat_le, not, if◌then◌else◌, Option, None, Some, Result, Ok}
-use Rattle.std.specs.List.{list_all}
-use Rattle.serde_json.specs.Data.{Data, Items, no_items, item}
-use Rattle.serde_json.specs.Find.{as_number, as_u64}
-use Rattle.orch_base.specs.Gives.{◌>>=◌}
-use Rattle.hook_texts.specs.declared.hooks.Hook.{Hook}
-use Rattle.hook_texts.specs.declared.hooks.Hooks.{Hooks}
-use Rattle.scenario_values.specs.declared.fault.Fault.{Fault}
-use Rattle.scenario_values.specs.declared.fault.FaultCode.TheVariants.{BadHook, BadNumber, BadType}
-use Rattle.scenario_values.specs.Faults.{each, fails, holds, only_keys, optional, or_fails, under_item}
-use Rattle.scenario_values.specs.Values.{items_in, members_in, text_in}
+use Rattle.scenario_reader.specs.Prelude.{BadHook, BadNumber, BadType, Data, Fault, Hook, Hooks, Items, as_number, as_u64, each, fails, holds, item}
+use Rattle.scenario_reader.specs.Prelude.{items_in, list_all, members_in, no_items, only_keys, optional, or_fails, text_in, under_item}
+use Rattle.scenarios.specs.OrchBase.Gives.{◌>>=◌}
 
 -- two parts
 abbrev pub two_of : Items → Result (Data × Data) Fault

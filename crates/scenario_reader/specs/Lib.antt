@@ -1,3 +1,17 @@
+pub mod Prelude
 pub mod Blocks
 pub mod Hooks
+pub mod ReadScenarios
+pub use Rattle.scenarios.specs.BinlogCoords as BinlogCoords
+pub mod ClusterFilters
+pub use Rattle.scenarios.specs.GtidSets as GtidSets
+pub use Rattle.scenarios.specs.HookTexts as HookTexts
+pub use Rattle.scenarios.specs.Openings as Openings
+pub use Rattle.scenarios.specs.OrchBase as OrchBase
+pub mod ScenarioFilters
+pub mod ScenarioOpenings
+pub mod ScenarioServers
+pub mod ScenarioTurns
+pub mod ScenarioValues
 pub mod Scenarios
+pub use Rattle.scenarios.specs.Turns as Turns

@@ -1,9 +1,7 @@
 //! The block periods of single clusters.
 
 ghost use Rattle.std.specs.Prelude.{◌≡◌};
-ghost use Rattle.orch_base.specs.Gives.{Gives};
-ghost use Rattle.scenario_json.specs.View.{view, members_view};
-ghost use Rattle.scenario_values.specs.Faults.{fault_of, under as place_under, each_member};
+ghost use Rattle.scenario_reader.specs.Prelude.{Gives, each_member, fault_of, members_view, under as place_under, view};
 ghost use Rattle.scenario_reader.specs.Blocks.{block_in, blocks_in};
 
 use scenario_json::Value;

@@ -1,16 +1,11 @@
 //! The keys before the servers.
 
 ghost use Rattle.std.specs.Prelude.{◌≡◌, [], codes, IfOk};
-ghost use Rattle.orch_base.specs.Gives.{Gives};
-ghost use Rattle.hook_texts.specs.Hooks.{no_hooks};
-ghost use Rattle.scenario_json.specs.View.{view};
-ghost use Rattle.scenario_values.specs.Faults.{fault_of, needed, optional};
-ghost use Rattle.scenario_values.specs.Values.{number_in};
-ghost use Rattle.scenario_filters.specs.Aliases.{aliases_in};
-ghost use Rattle.scenario_filters.specs.Filters.{filters_in, no_filters, AreRead};
+ghost use Rattle.scenario_reader.specs.Prelude.{AreRead, Gives, aliases_in, fault_of, filters_in, needed, no_filters, no_hooks, number_in, optional};
+ghost use Rattle.scenario_reader.specs.Prelude.{view};
 ghost use Rattle.scenario_reader.specs.Blocks.{blocks_in};
 ghost use Rattle.scenario_reader.specs.Hooks.{hooks_in};
-ghost use Rattle.scenario_reader.specs.Scenarios.{is_one, one_in, is_there, keys_in, head_in};
+ghost use Rattle.scenario_reader.specs.ReadScenarios.{is_one, one_in, is_there, keys_in, head_in};
 
 use crate::blocks::blocks_in;
 use crate::hooks::hooks_in;
@@ -49,7 +44,7 @@ fn is_there(key: &str, object: &Value) -> bool
 }
 
 /// Nothing, where the top object has no key but the table's, and those that are needed.
-#[tactic(auto, unfolding(crate::specs::Scenarios::keys_in))]
+#[tactic(auto, unfolding(crate::specs::ReadScenarios::keys_in))]
 #[rattlefmt::skip]
 pub(crate) fn keys_in(alloc: Global, value: &Value) -> Result<(), ReadFault>
     ensures { Gives (λ _. tt) fault_of result (keys_in (view value.now)) }
@@ -74,7 +69,7 @@ fn is_one(whole: Option<u64>) -> bool
     }
 }
 
-#[tactic(auto, unfolding(crate::specs::Scenarios::one_in))]
+#[tactic(auto, unfolding(crate::specs::ReadScenarios::one_in))]
 fn one_in(alloc: Global, value: &Value) -> Result<(), ReadFault>
     ensures { Gives (λ _. tt) fault_of result (one_in (view value.now)) }
 {
@@ -144,7 +139,7 @@ fn hooks_at(alloc: Global, object: &Value) -> Result<Hooks, ReadFault>
 }
 
 /// The keys before the servers, in the table's order.
-#[tactic(auto, unfolding(crate::specs::Scenarios::head_in))]
+#[tactic(auto, unfolding(crate::specs::ReadScenarios::head_in))]
 pub(crate) fn head_in(alloc: Global, object: &Value) -> Result<Head, ReadFault>
     ensures exact { Gives (λ h. h) fault_of result (head_in (view object.now)) }
     ensures read { IfOk result (λ h. AreRead h.filters) }

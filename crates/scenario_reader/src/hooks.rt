@@ -1,15 +1,12 @@
 //! The hooks of recoveries.
 
 ghost use Rattle.std.specs.Prelude.{◌≡◌, [], IfOk};
-ghost use Rattle.std.specs.List.{list_all};
-ghost use Rattle.orch_base.specs.Gives.{Gives};
-ghost use Rattle.scenario_json.specs.View.{view, items_view};
-ghost use Rattle.scenario_values.specs.Faults.{each, fault_of, optional, under_item as placed_item};
-ghost use Rattle.scenario_values.specs.Values.{text_in as read_text};
+ghost use Rattle.scenario_reader.specs.Prelude.{Gives, each, fault_of, items_view, list_all, optional, text_in as read_text};
+ghost use Rattle.scenario_reader.specs.Prelude.{under_item as placed_item, view};
 ghost use Rattle.scenario_reader.specs.Hooks.{exit_or_fails, hook_in, hook_list_in, hooks_in, is_hook_text, is_printable, two_of, whole_of};
 
-use hook_texts::{Hook, HookList, Hooks};
-use orch_base::OwnedText;
+use crate::hook_texts::{Hook, HookList, Hooks};
+use crate::orch_base::OwnedText;
 use scenario_json::Value;
 use scenario_values::{
     FaultCode, ReadFault, fails, holds, items_in, members_in, only_keys, text_in, under, under_item,

@@ -7,6 +7,18 @@ mod hooks;
 mod walk;
 
 pub use head::Head;
+pub use scenario_json;
+pub use scenario_openings;
+pub use scenario_servers;
+pub use scenario_turns;
 pub use scenario_turns::{ListedTurn, Word};
+pub use scenario_values;
 pub use scenario_values::{Fault, FaultCode, Path, ReadFault};
+use scenarios::hook_texts;
+pub use scenarios::{binlog_coords_items, commands, openings, orch_base};
 pub use walk::{read, read_is_sound, too_long};
+
+/// What is passed on of `scenarios`.
+pub mod scenarios_items {
+    pub use scenarios::{Alias, Aliases, ClusterFilters, FilterList, Scenario, Texts, Turns};
+}

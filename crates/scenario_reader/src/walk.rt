@@ -1,26 +1,14 @@
 //! The walk over a scenario's text.
 
 ghost use Rattle.std.specs.Prelude.{◌≡◌, ◌+◌, ◌≤◌, ℕ, List, [], Some, Ok, IfOk, codes, count_by, length};
-ghost use Rattle.orch_base.specs.Gives.{Gives};
-ghost use Rattle.serde_json.specs.Data.{no_items};
-ghost use Rattle.scenario_json.specs.View.{view, items_view};
-ghost use Rattle.scenarios.specs.declared.scenario.Scenario.{Scenario as AScenario};
-ghost use Rattle.scenarios.specs.Scenarios.{IsScenario};
-ghost use Rattle.scenarios.specs.Turns.{is_write};
-ghost use Rattle.scenario_values.specs.declared.fault.FaultCode.TheVariants.{TooLong};
-ghost use Rattle.scenario_values.specs.Faults.{fault_of, under as place_under, needed, optional, each};
-ghost use Rattle.scenario_values.specs.Values.{items_in};
-ghost use Rattle.scenario_servers.specs.Openings.{inits_of, IsGiven};
-ghost use Rattle.scenario_openings.specs.Openings.{is_small, listed_count};
-ghost use Rattle.scenario_servers.specs.Servers.{servers_in};
-ghost use Rattle.scenario_filters.specs.Filters.{AreRead};
-ghost use Rattle.scenario_turns.specs.Expansion.{expanded};
-ghost use Rattle.scenario_turns.specs.Turns.{turn_in};
-ghost use Rattle.scenario_reader.specs.Scenarios.{json_in, bounded, turns_in, scenario_with, scenario_from, scenario_in};
+ghost use Rattle.scenario_reader.specs.Prelude.{AreRead, Gives, IsGiven, IsScenario, Scenario as AScenario, TooLong, each, expanded, fault_of};
+ghost use Rattle.scenario_reader.specs.Prelude.{inits_of, is_small, is_write, items_in, items_view, listed_count, needed, no_items, optional};
+ghost use Rattle.scenario_reader.specs.Prelude.{servers_in, turn_in, under as place_under, view};
+ghost use Rattle.scenario_reader.specs.ReadScenarios.{json_in, bounded, turns_in, scenario_with, scenario_from, scenario_in};
 
 use crate::head::{Head, head_in, keys_in};
-use openings::ServerInit;
-use orch_base::{MAX_SCENARIO_LEN, Moment, ServerNo};
+use crate::openings::ServerInit;
+use crate::orch_base::{MAX_SCENARIO_LEN, Moment, ServerNo};
 use scenario_filters::answered;
 use scenario_json::{Arena, JsonFault, Value};
 use scenario_openings::{listed_count, opening_in};
@@ -81,7 +69,7 @@ fn turns_at(
 }
 
 // The turns that the listed ones stand for, where they are not too many.
-#[tactic(auto, unfolding(crate::specs::Scenarios::bounded))]
+#[tactic(auto, unfolding(crate::specs::ReadScenarios::bounded))]
 fn bounded(
     alloc: Global,
     servers: &[ServerInit],
@@ -98,7 +86,7 @@ fn bounded(
 }
 
 // The turns over these servers, of so many orchestrators.
-#[tactic(auto, unfolding(crate::specs::Scenarios::turns_in))]
+#[tactic(auto, unfolding(crate::specs::ReadScenarios::turns_in))]
 fn turns_in(
     alloc: Global,
     names: &Names,
@@ -118,7 +106,7 @@ fn turns_in(
 }
 
 // The scenario of the keys before the servers, the servers, and the items of the turns.
-#[tactic(auto, unfolding(crate::specs::Scenarios::scenario_with))]
+#[tactic(auto, unfolding(crate::specs::ReadScenarios::scenario_with))]
 fn scenario_with(
     alloc: Global,
     head: Head,
@@ -177,7 +165,7 @@ fn listed_turns<'a>(alloc: Global, object: &Value<'a>) -> Result<&'a [Value<'a>]
     }
 }
 
-#[tactic(auto, unfolding(crate::specs::Scenarios::scenario_from))]
+#[tactic(auto, unfolding(crate::specs::ReadScenarios::scenario_from))]
 fn scenario_from(alloc: Global, value: &Value) -> Result<Scenario, ReadFault>
     ensures { Gives (λ s. s) fault_of result (scenario_from (view value.now)) }
 {
@@ -205,7 +193,7 @@ pub fn too_long(alloc: Global) -> ReadFault
     fails(alloc, FaultCode::TooLong)
 }
 
-#[tactic(auto, unfolding(crate::specs::Scenarios::scenario_in))]
+#[tactic(auto, unfolding(crate::specs::ReadScenarios::scenario_in))]
 fn scenario_in(alloc: Global, bytes: &[u8]) -> Result<Scenario, ReadFault>
     ensures { Gives (λ s. s) fault_of result (scenario_in bytes.now) }
 {

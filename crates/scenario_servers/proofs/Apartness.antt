@@ -1,13 +1,7 @@
 -- Servers that differ from all before them differ from all others.
 use Rattle.std.proofs.Common.{◌≡◌, ℕ, ◌<◌, ◌≤◌, inl, inr, Bool, true, List, length, sym, ◌∙◌, Some}
 use Rattle.std.specs.Prelude.{slice_get}
-use Rattle.std.proofs.lemmas.Bool.{cases_order, false≢true}
-use Rattle.orch_base.specs.Names.{same_name}
-use Rattle.orch_base.proofs.SameNames.{same_name_tells}
-use Rattle.openings.specs.Apart.{IsApart}
-use Rattle.openings.specs.Opening.{IsServer}
-use Rattle.openings.specs.declared.init.ServerInit.{ServerInit}
-use Rattle.scenario_servers.specs.Openings.{IsGiven}
+use Rattle.scenario_servers.proofs.Prelude.{IsApart, IsGiven, IsServer, ServerInit, cases_order, false≢true, same_name, same_name_tells}
 
 abbrev AllApart : List ServerInit → Type 0
 AllApart servers = (m n : ℕ) (i j : ServerInit) → m < n → slice_get servers m ≡ Some i → slice_get servers n ≡ Some j → IsApart i j

@@ -1,3 +1,4 @@
+mod Prelude
 pub mod Apartness
 pub mod NameTables
 pub mod Printed

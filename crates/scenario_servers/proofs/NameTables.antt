@@ -1,22 +1,10 @@
 -- The table of the first server of each name, as names are listed one after the other.
 use Rattle.std.proofs.Common.{◌≡◌, ℕ, suc, ◌+◌, ◌<◌, Bool, true, false, cond, List, [], ◌∷◌, ◌++◌, length, get_or, drop, Option, Some, None, refl, sym, ap, ◌∙◌, subst, append_assoc, add-one, add-zero, zero-add, drop-cons, arith, eqb}
 use Rattle.std.specs.Prelude.{if◌then◌else◌, is_some, ◌&&◌}
-use Rattle.std.specs.BTreeMap.{BTreeMap, Updates}
-use Rattle.std.specs.Cmp.Lexicographic.{slice_cmp}
-use Rattle.std.specs.Option.{option_or}
-use Rattle.std.specs.Ordering.{is_eq, nat_cmp, ordering_then}
-use Rattle.std.specs.declared.cmp.Ordering.{Ordering}
-use Rattle.std.specs.declared.cmp.Ordering.TheVariants.{Less, Equal, Greater}
-use Rattle.std.proofs.lemmas.Bool.Decides.{nat_tests}
-use Rattle.std.proofs.lemmas.List.{length_push}
-use Rattle.std.proofs.lemmas.Map.Text.{is_eq-slice_cmp}
-use Rattle.scenario_json.specs.declared.value.Value.{Value}
-use Rattle.scenario_json.specs.View.{view, items_view}
-use Rattle.orch_base.specs.Names.{HostPort, same_name, name_cmp}
-use Rattle.orch_base.proofs.SameNames.{same_name_tells}
-use Rattle.scenario_servers.specs.declared.names.NameKey.{NameKey}
-use Rattle.scenario_servers.specs.Names.{listed_name, listed_names, is_named, first_named}
-use Rattle.scenario_servers.specs.NameTable.{number_at, IsTableOf, AddsName}
+use Rattle.scenario_servers.proofs.Prelude.{AddsName, BTreeMap, Equal, Greater, HostPort, IsTableOf, Less, NameKey, Ordering, Updates, Value}
+use Rattle.scenario_servers.proofs.Prelude.{first_named, is_eq, is_eq-slice_cmp, is_named, items_view, length_push, listed_name, listed_names}
+use Rattle.scenario_servers.proofs.Prelude.{name_cmp, nat_cmp, nat_tests, number_at, option_or, ordering_then, same_name, same_name_tells, slice_cmp}
+use Rattle.scenario_servers.proofs.Prelude.{view}
 
 -- ---- one more name
 

@@ -1,13 +1,8 @@
 -- A name is printed in ASCII.
+use Rattle.scenario_servers.proofs.Prelude.{HostPort, IsAscii, IsAscii-append, IsAscii-cons, IsAscii-decimal, IsAscii-nil, IsName, IsUtf8}
+use Rattle.scenario_servers.proofs.Prelude.{IsUtf8-from_ascii, and_parts as both, eqb-true, is_host_byte, leb-true, list_all, printed}
 use Rattle.std.proofs.Common.{◌≡◌, ℕ, ◌^◌, ◌<◌, Bool, true, false, leb, eqb, List, [], ◌∷◌, arith, refl}
 use Rattle.std.specs.Prelude.{◌&&◌, ◌||◌}
-use Rattle.std.specs.List.{list_all}
-use Rattle.std.specs.Str.{IsAscii, IsUtf8}
-use Rattle.std.proofs.lemmas.Bool.{leb-true, eqb-true}
-use Rattle.std.proofs.lemmas.Fmt.{IsAscii-decimal}
-use Rattle.std.proofs.lemmas.Str.{IsAscii-append, IsUtf8-from_ascii}
-use Rattle.std.proofs.lemmas.Str.Ascii.{IsAscii-nil, IsAscii-cons}
-use Rattle.orch_base.specs.Names.{HostPort, is_host_byte, printed, IsName}
 
 either : (p q : Bool) (P : Type 0) → (p ≡ true → P) → (q ≡ true → P) → (p || q) ≡ true → P
 either true q P f g e = f refl
@@ -34,10 +29,6 @@ host_byte b =
     (is_one 46 b (omega arith)))
     (is_one 45 b (omega arith)))
     (is_one 95 b (omega arith))
-
-both : (p q : Bool) → (p && q) ≡ true → (p ≡ true) × (q ≡ true)
-both true q e = (refl, e)
-both false q e = absurd cc
 
 host_bytes : (bs : List ℕ) → list_all is_host_byte bs ≡ true → IsAscii bs
 host_bytes [] all = IsAscii-nil

@@ -1,27 +1,15 @@
 -- The servers that are read are within the limits of an opening, but for what they list together.
+use Rattle.scenario_servers.proofs.Prelude.{All-nil, BadNumber, Data, DuplicateName, DuplicateUuid, Given, HostPort, IsAlone, IsApart, IsGiven}
+use Rattle.scenario_servers.proofs.Prelude.{IsPart, IsServer, Items, NameFault, Part, ServerInit, ServerNo, and_parts, as_str, auto_in, bool_in}
+use Rattle.scenario_servers.proofs.Prelude.{coord_in, each_from, eq-eqb, fails, false_from_ne_true as not-true, false≢true, first_named, flushes_in}
+use Rattle.scenario_servers.proofs.Prelude.{get, get_item, has_source, has_uuid, history_in, holds, init_of, init_under, inits_from, inits_of}
+use Rattle.scenario_servers.proofs.Prelude.{is_earlier, is_key, is_named, item, item_count, items_in, leb-true, list_any, listed_in, listed_name}
+use Rattle.scenario_servers.proofs.Prelude.{listed_names, listed_uuids, lt-ltb, name_at, name_in, name_or_fails, needed, new_uuid, no_items}
+use Rattle.scenario_servers.proofs.Prelude.{only_keys, or_left, or_right, own_keys, own_name, own_uuid, read_name, read_uuid, replica_keys, same_name}
+use Rattle.scenario_servers.proofs.Prelude.{same_Some, server_in, server_named, servers_in, text_in, uuid_at, whole_in}
 use Rattle.std.proofs.Common.{◌≡◌, ℕ, ◌+◌, ◌<◌, ◌≤◌, ◌⊎◌, inl, inr, Bool, true, false, leb, List, [], ◌∷◌, length, take, refl, sym, ap, subst, ◌∙◌, Option, Some, None, Result, Ok, Err, All, arith, zero, suc}
 use Rattle.std.specs.Prelude.{◌&&◌, ◌++◌, nat_le, codes, is_some, unwrap_or, option_and_then, slice_get, if◌then◌else◌}
-use Rattle.std.specs.List.{list_any}
-use Rattle.std.proofs.lemmas.Bool.{and_parts, eq-eqb, leb-true, lt-ltb, or_left, or_right, false≢true}
-use Rattle.std.proofs.lemmas.List.Elements.{All-nil}
-use Rattle.std.proofs.lemmas.Option.{same_Some}
-use Rattle.serde_json.specs.Data.{Data, Items, no_items, item}
-use Rattle.serde_json.specs.Find.{get, get_item, as_str}
-use Rattle.orch_base.specs.declared.name.NameFault.{NameFault}
-use Rattle.orch_base.specs.declared.server.ServerNo.{ServerNo}
-use Rattle.orch_base.specs.Gives.{◌>>=◌}
-use Rattle.orch_base.specs.Names.{HostPort, name_at, same_name}
-use Rattle.openings.specs.Apart.{IsApart}
-use Rattle.openings.specs.declared.init.ServerInit.{ServerInit}
-use Rattle.openings.specs.declared.part.Part.{Part}
-use Rattle.openings.specs.Opening.{IsAlone, IsPart, IsServer}
-use Rattle.scenario_values.specs.declared.fault.FaultCode.TheVariants.{BadNumber, DuplicateName, DuplicateUuid}
-use Rattle.scenario_values.specs.Faults.{fails, holds, needed, is_key, only_keys, each_from, item_count}
-use Rattle.scenario_values.specs.Values.{items_in, text_in, name_in, name_or_fails, whole_in, coord_in, bool_in}
-use Rattle.scenario_servers.specs.declared.given.Given.{Given}
-use Rattle.scenario_servers.specs.Names.{read_name, listed_name, listed_names, is_named, first_named, server_named, is_earlier, own_name, uuid_at, read_uuid, listed_uuids, has_uuid, new_uuid, own_uuid}
-use Rattle.scenario_servers.specs.Openings.{init_of, init_under, inits_from, inits_of, IsGiven}
-use Rattle.scenario_servers.specs.Servers.{history_in, flushes_in, own_keys, replica_keys, has_source, auto_in, server_in, listed_in, servers_in}
+use Rattle.server_words.specs.OrchBase.Gives.{◌>>=◌}
 use Rattle.scenario_servers.proofs.Apartness.{given-from_apart}
 use Rattle.scenario_servers.proofs.Steps.{Same, same_Ok, bind-ok, or_fails-ok, holds-ok, under-ok, needed-ok, optional-ok, optional-absent, maybe-ok, maybe-absent, no_key, members-ok, each_from-length, each_from-get}
 use Rattle.scenario_servers.proofs.ServerSteps.{named-ok, history-ok, flushes-ok, auto-ok, ReadsServer, server-ok}
@@ -140,10 +128,6 @@ first_named-before name own n (x ∷ xs) m at same = go (is_named name x) refl m
         let named : is_named name x ≡ true = ap (is_named name) (same_Some x (Some own) at) ∙ same in
         absurd (false≢true (sym is ∙ named))
     go false is (suc j) at more = let rest = more j at in let least = rest.2 in (rest.0, rest.1, omega arith)
-
-not-true : (b : Bool) → (b ≡ true → ⊥) → b ≡ false
-not-true true h = absurd (h refl)
-not-true false h = refl
 
 -- of two servers the later one has another name
 later-name : (names : List (Option HostPort)) (m n : ℕ) (c d : Data) (own name : HostPort) → m < n → slice_get names m ≡ Some (listed_name c) → OwnsName names m c own → OwnsName names n d name

@@ -1,23 +1,12 @@
 -- What is read of one server is in its ranges.
 use Rattle.std.proofs.Common.{◌≡◌, ℕ, ◌+◌, ◌<◌, ◌≤◌, ◌⊎◌, inl, inr, Bool, true, false, List, [], ◌∷◌, length, refl, ap, subst, ◌∙◌, Option, Some, None, Ok, All, arith, suc}
 use Rattle.std.specs.Prelude.{◌&&◌, nat_le, not, codes, if◌then◌else◌}
-use Rattle.std.proofs.lemmas.Bool.{leb-true, false≢true}
-use Rattle.std.proofs.lemmas.Option.{same_Some}
-use Rattle.serde_json.specs.Data.{Data, Members}
-use Rattle.orch_base.specs.declared.server.ServerNo.{ServerNo}
-use Rattle.orch_base.specs.Names.{HostPort}
-use Rattle.openings.specs.declared.part.Part.{Part}
-use Rattle.openings.specs.Opening.{IsPart}
-use Rattle.scenario_values.specs.declared.fault.FaultCode.TheVariants.{AutoWithoutGtid, BadNumber}
-use Rattle.scenario_values.specs.Faults.{fails, holds, under_item, needed, optional, maybe, only_keys, item_count}
-use Rattle.scenario_values.specs.Values.{members_in, items_in, bool_in, whole_in, number_in, coord_in, label_in, short_in, version_in, name_in}
-use Rattle.scenario_servers.specs.declared.given.Identity.{Identity}
-use Rattle.scenario_servers.specs.declared.given.Setup.{Setup}
-use Rattle.scenario_servers.specs.declared.given.Replication.{Replication}
-use Rattle.scenario_servers.specs.declared.given.Given.{Given}
-use Rattle.scenario_servers.specs.Names.{is_named, first_named, number_or_fails, server_named, own_name, own_uuid}
-use Rattle.scenario_servers.specs.Rules.{rule_in}
-use Rattle.scenario_servers.specs.Servers.{three_of, part_in, history_in, flushes_in, has_source, server_keys, default_version, identity_in, setup_in, auto_in, replication_in, server_from, server_in}
+use Rattle.scenario_servers.proofs.Prelude.{AutoWithoutGtid, BadNumber, Data, Given, HostPort, Identity, IsPart, Members, Part, Replication, ServerNo}
+use Rattle.scenario_servers.proofs.Prelude.{Setup, auto_in, bool_in, coord_in, default_version, fails, false≢true, first_named, flushes_in}
+use Rattle.scenario_servers.proofs.Prelude.{has_source, history_in, holds, identity_in, is_named, item_count, items_in, label_in, leb-true, maybe}
+use Rattle.scenario_servers.proofs.Prelude.{members_in, name_in, needed, number_in, number_or_fails, only_keys, optional, own_name, own_uuid, part_in}
+use Rattle.scenario_servers.proofs.Prelude.{replication_in, rule_in, same_Some, server_from, server_in, server_keys, server_named, setup_in, short_in}
+use Rattle.scenario_servers.proofs.Prelude.{three_of, under_item, version_in, whole_in}
 use Rattle.scenario_servers.proofs.Steps.{Same, same_Ok, bind-ok, holds-ok, under-ok, optional-ok, number-ok, each_from-length, each_from-all}
 
 -- ---- names

@@ -1,22 +1,13 @@
 -- What it means that reading succeeds, step by step.
 use Rattle.std.proofs.Common.{◌≡◌, ℕ, ◌+◌, ◌≤◌, ◌⊎◌, inl, inr, Bool, true, false, leb, is_eq, List, [], ◌∷◌, length, refl, sym, ap, subst, ◌∙◌, Option, Some, None, Result, Ok, Err, All, arith, zero, suc}
 use Rattle.std.specs.Prelude.{◌&&◌, slice_get, if◌then◌else◌}
-use Rattle.std.specs.Cmp.Lexicographic.{slice_cmp, same_text}
-use Rattle.std.specs.Ordering.{nat_cmp, match_ordering}
-use Rattle.std.specs.declared.cmp.Ordering.{Ordering}
-use Rattle.std.specs.declared.cmp.Ordering.TheVariants.{Less, Equal, Greater}
-use Rattle.std.proofs.lemmas.Bool.{and_parts, leb-true, false≢true}
-use Rattle.std.proofs.lemmas.List.Elements.{All-nil, All-cons}
-use Rattle.std.proofs.lemmas.Map.Text.{is_eq-slice_cmp}
-use Rattle.std.proofs.lemmas.Option.{same_Some}
-use Rattle.serde_json.specs.Data.{Data, null, boolean, number, string, array, object, Items, no_items, item, Members, no_members, member}
-use Rattle.serde_json.specs.Find.{get, get_member, get_item}
-use Rattle.orch_base.specs.Gives.{◌>>=◌}
-use Rattle.scenario_values.specs.declared.fault.Fault.{Fault}
-use Rattle.scenario_values.specs.declared.fault.FaultCode.{FaultCode}
-use Rattle.scenario_values.specs.declared.fault.FaultCode.TheVariants.{BadNumber, UnknownKey}
-use Rattle.scenario_values.specs.Faults.{fails, or_fails, holds, under, under_item, needed_in, needed, optional_in, optional, maybe_in, maybe, is_key, only_keys, each_from, each_member, item_count}
-use Rattle.scenario_values.specs.Values.{within, members_in, whole_in, number_in}
+use Rattle.scenario_servers.proofs.Prelude.{All-cons, All-nil, BadNumber, Data, Equal, Fault, FaultCode, Greater, Items, Less, Members, Ordering}
+use Rattle.scenario_servers.proofs.Prelude.{UnknownKey, and_parts, array, boolean, each_from, each_member, fails, false≢true, get, get_item}
+use Rattle.scenario_servers.proofs.Prelude.{get_member, holds, is_eq-slice_cmp, is_key, item, item_count, leb-true, match_ordering, maybe, maybe_in}
+use Rattle.scenario_servers.proofs.Prelude.{member, members_in, nat_cmp, needed, needed_in, no_items, no_members, null, number, number_in, object}
+use Rattle.scenario_servers.proofs.Prelude.{only_keys, optional, optional_in, or_fails, same_Some, same_text, slice_cmp, string, under, under_item}
+use Rattle.scenario_servers.proofs.Prelude.{whole_in, within}
+use Rattle.server_words.specs.OrchBase.Gives.{◌>>=◌}
 
 -- two readings answer the same
 abbrev pub Same : {A : Type 0} → Result A Fault → Result A Fault → Type 0

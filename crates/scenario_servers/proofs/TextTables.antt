@@ -1,15 +1,8 @@
 -- The texts that name servers, as they are kept.
 use Rattle.std.proofs.Common.{◌≡◌, ℕ, Bool, true, false, cond, List, Option, Some, Ok, refl, sym, subst, ◌∙◌}
 use Rattle.std.specs.Prelude.{String}
-use Rattle.std.specs.HashMap.{HashMap, get_by_text}
-use Rattle.std.specs.Map.{update}
-use Rattle.std.specs.Str.{bytes_eq}
-use Rattle.std.specs.declared.alloc.Global.{Global}
-use Rattle.std.proofs.lemmas.Option.{same_Some}
-use Rattle.std.proofs.lemmas.Slice.Eq.{bytes_eq-Decides}
-use Rattle.orch_base.specs.declared.server.ServerNo.{ServerNo}
-use Rattle.orch_base.specs.Names.{HostPort}
-use Rattle.scenario_servers.specs.NameTable.{AreTexts, text_named}
+use Rattle.scenario_servers.proofs.Prelude.{AreTexts, Global, HashMap, HostPort, ServerNo, bytes_eq, bytes_eq-Decides, get_by_text, same_Some}
+use Rattle.scenario_servers.proofs.Prelude.{text_named, update}
 
 -- one text more
 pub text-more : {S : Type 0} (old new : HashMap (String Global) ℕ S) (listed : List (Option HostPort)) (text : List ℕ) (n : ServerNo) → ((other : List ℕ) → get_by_text new other ≡ update bytes_eq (get_by_text old) text (Some n.0) other)

@@ -1,9 +1,6 @@
 -- UUIDs, listed one after the other.
 use Rattle.std.proofs.Common.{◌≡◌, ℕ, suc, ◌+◌, ◌<◌, List, [], ◌∷◌, ◌++◌, length, get_or, drop, Option, codes, sym, ap, ◌∙◌, append_assoc, add-one, drop-cons}
-use Rattle.scenario_json.specs.declared.value.Value.{Value}
-use Rattle.serde_json.specs.Find.{get}
-use Rattle.scenario_json.specs.View.{view, items_view}
-use Rattle.scenario_servers.specs.Names.{uuid_at, read_uuid, listed_uuids}
+use Rattle.scenario_servers.proofs.Prelude.{Value, get, items_view, listed_uuids, read_uuid, uuid_at, view}
 
 -- the servers before `at` are listed
 abbrev pub IsUuidsTo : List Value → ℕ → List (Option ℕ) → Type 0

@@ -1,16 +1,8 @@
 -- The table of the first server of each UUID, as UUIDs are listed one after the other.
 use Rattle.std.proofs.Common.{◌≡◌, ℕ, zero, suc, ◌+◌, ◌<◌, Bool, true, false, cond, List, [], ◌∷◌, ◌++◌, length, take, get_or, nat_lt, Option, Some, None, refl, sym, ap, ◌∙◌, add-zero, zero-add, arith}
 use Rattle.std.specs.Prelude.{◌==◌, ◌||◌, codes, if◌then◌else◌, is_some}
-use Rattle.std.specs.List.{list_any}
-use Rattle.std.specs.BTreeMap.{BTreeMap}
-use Rattle.std.specs.Option.{option_or}
-use Rattle.std.proofs.lemmas.Bool.Decides.{nat_tests}
-use Rattle.std.proofs.lemmas.List.{length_push}
-use Rattle.scenario_json.specs.declared.value.Value.{Value}
-use Rattle.serde_json.specs.Find.{get as key_at}
-use Rattle.scenario_json.specs.View.{view}
-use Rattle.scenario_servers.specs.Names.{has_uuid, read_uuid, uuid_at}
-use Rattle.scenario_servers.specs.UuidTable.{AddsUuid, IsUuidTable, first_with, is_before}
+use Rattle.scenario_servers.proofs.Prelude.{AddsUuid, BTreeMap, IsUuidTable, Value, first_with, get as key_at, has_uuid, is_before, length_push}
+use Rattle.scenario_servers.proofs.Prelude.{list_any, nat_tests, option_or, read_uuid, uuid_at, view}
 use Rattle.scenario_servers.proofs.UuidLists.{IsUuidsTo, next_uuid}
 
 -- ---- one more UUID

@@ -1,9 +1,6 @@
 -- The servers with their labels, one by one.
 use Rattle.std.proofs.Common.{◌≡◌, ℕ, ◌+◌, List, [], ◌∷◌, map, refl, ap}
-use Rattle.std.specs.List.{zip}
-use Rattle.scenario_servers.specs.declared.given.Given.{Given}
-use Rattle.scenario_servers.specs.Labels.{labels_from}
-use Rattle.scenario_servers.specs.Openings.{init_of, init_under, inits_from}
+use Rattle.scenario_servers.proofs.Prelude.{Given, init_of, init_under, inits_from, labels_from, zip}
 
 pub inits-zipped : (gs : List Given) (n : ℕ) (xs : List Given) → map (λ (p : Given × List ℕ). init_under p.1 p.0) (zip xs (labels_from gs n xs)) ≡ inits_from gs n xs
 inits-zipped gs n [] = refl

@@ -1,14 +1,9 @@
 -- A table of the first server of each name, beside the list of all names.
 use Rattle.std.specs.Prelude.{◌≡◌, ℕ, List, if◌then◌else◌, Option, Some, None, Result, Ok, String}
-use Rattle.std.specs.BTreeMap.{BTreeMap, get}
-use Rattle.std.specs.HashMap.{HashMap, get_by_text}
-use Rattle.std.specs.Option.{option_or}
-use Rattle.std.specs.declared.alloc.Global.{Global}
-use Rattle.orch_base.specs.declared.server.ServerNo.{ServerNo}
-use Rattle.orch_base.specs.Gives.{◌>>=◌}
-use Rattle.orch_base.specs.Names.{HostPort, name_at, name_cmp}
-use Rattle.scenario_values.specs.declared.fault.Fault.{Fault}
-use Rattle.scenario_values.specs.Values.{name_or_fails}
+use Rattle.scenario_servers.specs.Prelude.{BTreeMap, Fault, Global, HashMap, HostPort, ServerNo, get_by_text, name_at, name_cmp, name_or_fails}
+use Rattle.scenario_servers.specs.Prelude.{option_or}
+use Rattle.scenario_servers.specs.Prelude.Std.{get}
+use Rattle.server_words.specs.OrchBase.Gives.{◌>>=◌}
 use Rattle.scenario_servers.specs.declared.names.NameKey.{NameKey}
 use Rattle.scenario_servers.specs.Names.{is_named, first_named, number_or_fails}
 

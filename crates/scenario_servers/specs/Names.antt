@@ -1,17 +1,9 @@
 -- The servers' names and UUIDs, as they are looked up: of every listed server what reads, wherever else the walk may
 -- stop.
 use Rattle.std.specs.Prelude.{ℕ, ◌+◌, ◌==◌, ◌∷◌, List, [], take, Bool, false, nat_lt, if◌then◌else◌, codes, Option, Some, None, option_and_then, Result, Ok, Err}
-use Rattle.std.specs.List.{list_any}
-use Rattle.serde_json.specs.Data.{Data, Items, no_items, item}
-use Rattle.serde_json.specs.Find.{get, as_str}
-use Rattle.orch_base.specs.declared.name.NameFault.{NameFault}
-use Rattle.orch_base.specs.declared.server.ServerNo.{ServerNo}
-use Rattle.orch_base.specs.Gives.{◌>>=◌}
-use Rattle.orch_base.specs.Names.{HostPort, name_at, same_name}
-use Rattle.scenario_values.specs.declared.fault.Fault.{Fault}
-use Rattle.scenario_values.specs.declared.fault.FaultCode.TheVariants.{DuplicateName, DuplicateUuid, UnknownName}
-use Rattle.scenario_values.specs.Faults.{fails, under}
-use Rattle.scenario_values.specs.Values.{name_in, uuid_in}
+use Rattle.scenario_servers.specs.Prelude.{Data, DuplicateName, DuplicateUuid, Fault, HostPort, Items, NameFault, ServerNo, UnknownName, as_str}
+use Rattle.scenario_servers.specs.Prelude.{fails, get, item, list_any, name_at, name_in, no_items, same_name, under, uuid_in}
+use Rattle.server_words.specs.OrchBase.Gives.{◌>>=◌}
 
 abbrev pub read_name : Result HostPort NameFault → Option HostPort
 read_name (Ok name) = Some name

@@ -1,11 +1,6 @@
 -- The servers that the text gives, with the defaults that need other servers.
 use Rattle.std.specs.Prelude.{◌≡◌, ℕ, ◌+◌, ◌<◌, ◌≤◌, ◌∷◌, List, [], Bool, true, not, length, map, Option, Some, None, unwrap_or, slice_get}
-use Rattle.orch_base.specs.declared.server.Settings.{Settings}
-use Rattle.orch_base.specs.declared.rule.Rule.{Rule}
-use Rattle.orch_base.specs.Names.{printed, same_name}
-use Rattle.openings.specs.declared.init.ServerInit.{ServerInit}
-use Rattle.openings.specs.Opening.{IsServer}
-use Rattle.openings.specs.Servers.{number_of, reached_from}
+use Rattle.scenario_servers.specs.Prelude.{IsServer, Rule, ServerInit, Settings, number_of, printed, reached_from, same_name}
 use Rattle.scenario_servers.specs.declared.given.Given.{Given}
 
 -- ---- clusters

@@ -1,21 +1,15 @@
 -- What the text of a server says.
 use Rattle.std.specs.Prelude.{ℕ, ◌+◌, ◌∷◌, ◌++◌, ◌&&◌, List, [], Bool, true, false, not, nat_le, is_some, if◌then◌else◌, codes, Option, Result, Ok}
-use Rattle.serde_json.specs.Data.{Data, Items, no_items, item}
-use Rattle.serde_json.specs.Find.{get}
-use Rattle.orch_base.specs.declared.server.Version.{Version}
-use Rattle.orch_base.specs.Gives.{◌>>=◌}
-use Rattle.orch_base.specs.Names.{HostPort}
-use Rattle.openings.specs.declared.part.Part.{Part}
-use Rattle.scenario_values.specs.declared.fault.Fault.{Fault}
-use Rattle.scenario_values.specs.declared.fault.FaultCode.TheVariants.{BadNumber, AutoWithoutGtid}
+use Rattle.scenario_servers.specs.Prelude.{AutoWithoutGtid, BadNumber, Data, Fault, HostPort, Items, Part, Version, bool_in, coord_in, each}
+use Rattle.scenario_servers.specs.Prelude.{each_from, fails, get, holds, item, item_count, items_in, label_in, maybe, members_in, needed, no_items}
+use Rattle.scenario_servers.specs.Prelude.{number_in, only_keys, optional, short_in, under_item, version_in, whole_in}
 use Rattle.scenario_servers.specs.declared.given.Identity.{Identity}
 use Rattle.scenario_servers.specs.declared.given.Setup.{Setup}
 use Rattle.scenario_servers.specs.declared.given.Replication.{Replication}
 use Rattle.scenario_servers.specs.declared.given.Given.{Given}
-use Rattle.scenario_values.specs.Faults.{fails, holds, under_item, needed, optional, maybe, only_keys, each, each_from, item_count}
-use Rattle.scenario_values.specs.Values.{members_in, items_in, bool_in, whole_in, number_in, coord_in, label_in, short_in, version_in}
 use Rattle.scenario_servers.specs.Rules.{rule_in}
 use Rattle.scenario_servers.specs.Names.{listed_names, server_named, own_name, listed_uuids, own_uuid}
+use Rattle.server_words.specs.OrchBase.Gives.{◌>>=◌}
 
 -- ---- histories and flush points
 

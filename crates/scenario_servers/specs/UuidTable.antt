@@ -1,8 +1,7 @@
 -- A table of the first server of each UUID, beside the list of all UUIDs.
 use Rattle.std.specs.Prelude.{◌≡◌, ℕ, ◌+◌, Bool, false, List, [], ◌∷◌, nat_lt, if◌then◌else◌, Option, Some, None}
-use Rattle.std.specs.BTreeMap.{BTreeMap, get}
-use Rattle.std.specs.Option.{option_or}
-use Rattle.std.specs.Ordering.{nat_cmp}
+use Rattle.scenario_servers.specs.Prelude.{BTreeMap, nat_cmp, option_or}
+use Rattle.scenario_servers.specs.Prelude.Std.{get}
 use Rattle.scenario_servers.specs.Names.{has_uuid}
 
 -- the first server, by number from n on, that has the UUID

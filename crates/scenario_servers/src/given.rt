@@ -3,9 +3,9 @@
 ghost use Rattle.std.specs.Prelude.{◌≡◌, IfOk};
 ghost use Rattle.scenario_servers.specs.Openings.{known_of, rules_of};
 
-use binlog_coords::Coord;
+use crate::binlog_coords_items::Coord;
+use crate::orch_base::{Memory, Name, OwnedText, Rule, ServerNo, Version};
 use openings::{Counts, Parts};
-use orch_base::{Memory, Name, OwnedText, Rule, ServerNo, Version};
 use std::alloc::Global;
 
 /// Who a server is.

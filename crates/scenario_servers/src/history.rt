@@ -1,17 +1,14 @@
 //! Histories and flush points.
 
 ghost use Rattle.std.specs.Prelude.{◌≡◌, nat_le};
-ghost use Rattle.orch_base.specs.Gives.{Gives};
-ghost use Rattle.scenario_json.specs.View.{view, items_view};
-ghost use Rattle.scenario_values.specs.Faults.{fault_of, holds, under_item, each, item_count};
-ghost use Rattle.scenario_values.specs.Values.{number_in, whole_in};
-ghost use Rattle.scenario_values.specs.declared.fault.FaultCode.TheVariants.{BadNumber};
+ghost use Rattle.scenario_servers.specs.Prelude.{BadNumber, Gives, each, fault_of, holds, item_count, items_view, number_in, under_item, view};
+ghost use Rattle.scenario_servers.specs.Prelude.{whole_in};
 ghost use Rattle.scenario_servers.specs.Names.{server_named};
 ghost use Rattle.scenario_servers.specs.Servers.{three_of, part_in, history_in, flushes_in};
 
 use crate::names::{Names, server_named};
+use crate::orch_base::ServerNo;
 use openings::{Counts, Part, Parts};
-use orch_base::ServerNo;
 use scenario_json::Value;
 use scenario_values::{
     FaultCode, ReadFault, fails, holds, items_in, number_in, under_item, whole_in,

@@ -1,17 +1,14 @@
 //! Who a server is.
 
 ghost use Rattle.std.specs.Prelude.{◌≡◌, ◌+◌, ◌<◌, codes};
-ghost use Rattle.orch_base.specs.Gives.{Gives};
-ghost use Rattle.scenario_json.specs.View.{view};
-ghost use Rattle.scenario_values.specs.Faults.{fault_of, needed, optional};
-ghost use Rattle.scenario_values.specs.Values.{number_in};
+ghost use Rattle.scenario_servers.specs.Prelude.{Gives, fault_of, needed, number_in, optional, view};
 ghost use Rattle.scenario_servers.specs.Names.{own_name};
 ghost use Rattle.scenario_servers.specs.Servers.{identity_in};
 
 use crate::given::Identity;
 use crate::names::{Names, own_name};
+use crate::orch_base::{Name, Version};
 use crate::uuids::{Uuids, own_uuid};
-use orch_base::{Name, Version};
 use scenario_json::Value;
 use scenario_values::{FaultCode, ReadFault, fails, maybe_label, number_in, under, version_at};
 use std::alloc::Global;

@@ -5,8 +5,8 @@ ghost use Rattle.scenario_servers.specs.Openings.{init_under, inits_of};
 
 use crate::Given;
 use crate::labels::labels_of;
+use crate::orch_base::{Memory, OwnedText, Settings};
 use openings::ServerInit;
-use orch_base::{Memory, OwnedText, Settings};
 use std::alloc::Global;
 
 // A server of the cluster of this label.

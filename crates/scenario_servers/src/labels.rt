@@ -1,12 +1,12 @@
 //! The labels of the servers' clusters.
 
 ghost use Rattle.std.specs.Prelude.{◌≡◌, IfOk, slice_get};
-ghost use Rattle.orch_base.specs.Names.{printed};
+ghost use Rattle.scenario_servers.specs.Prelude.{printed};
 ghost use Rattle.scenario_servers.specs.Labels.{labels_of};
 ghost use Rattle.scenario_servers.specs.Openings.{label_at, label_of, own_label, root_in, source_in};
 
 use crate::Given;
-use orch_base::{Memory, Name, OwnedText};
+use crate::orch_base::{Memory, Name, OwnedText};
 use std::alloc::Global;
 
 fn source_in(given: &[Given], n: usize) -> Option<u32>

@@ -1,8 +1,7 @@
 //! Laws of reading servers.
 
 ghost use Rattle.std.specs.Prelude.{◌≡◌, Bool, List, Ok, Option};
-ghost use Rattle.serde_json.specs.Data.{Data};
-ghost use Rattle.orch_base.specs.Names.{HostPort};
+ghost use Rattle.scenario_servers.specs.Prelude.{Data, HostPort};
 ghost use Rattle.scenario_servers.specs.declared.given.Given.{Given};
 ghost use Rattle.scenario_servers.specs.Openings.{inits_of, IsGiven};
 ghost use Rattle.scenario_servers.specs.Servers.{servers_in};

@@ -19,4 +19,5 @@ pub use labels::printed_name;
 pub use laws::read_servers_are_sound;
 pub use names::{Names, server_named};
 pub use rule::maybe_rule;
+use server_words::{binlog_coords_items, orch_base};
 pub use servers::{Listed, servers_in};

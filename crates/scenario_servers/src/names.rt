@@ -2,17 +2,12 @@
 
 ghost use Rattle.std.specs.Prelude.{◌≡◌, ◌==◌, Some, IfOk, OnOk, option_map};
 ghost use Rattle.std.proofs.Common.{rules};
-ghost use Rattle.std.specs.Cmp.{partial_order_from_own_ties};
-ghost use Rattle.std.specs.Cmp.Lexicographic.{slice_cmp, pointwise};
-ghost use Rattle.std.specs.Cmp.Rules.{comparing};
-ghost use Rattle.std.specs.Ordering.{nat_cmp, on, then_cmp, eq_of_both, as_partial_cmp};
-ghost use Rattle.orch_base.specs.Gives.{Gives};
-ghost use Rattle.scenario_json.specs.View.{view};
-ghost use Rattle.scenario_values.specs.Faults.{fault_of};
+ghost use Rattle.scenario_servers.specs.Prelude.{Gives, as_partial_cmp, comparing, eq_of_both, fault_of, nat_cmp, on, partial_order_from_own_ties};
+ghost use Rattle.scenario_servers.specs.Prelude.{pointwise, slice_cmp, then_cmp, view};
 ghost use Rattle.scenario_servers.specs.Names.{listed_name, server_named, own_name};
 ghost use Rattle.scenario_servers.specs.NameTable.{AddsName};
 
-use orch_base::{Memory, Name, NameFault, ServerNo};
+use crate::orch_base::{Memory, Name, NameFault, ServerNo};
 use scenario_json::Value;
 use scenario_values::{FaultCode, ReadFault, fails, name_in, text_in};
 use std::alloc::Global;
@@ -74,7 +69,7 @@ pub struct Names {
 
 impl Model for Names {
     ghost use Rattle.std.specs.Prelude.{List, Option};
-    ghost use Rattle.orch_base.specs.Names.{HostPort};
+    ghost use Rattle.server_words.specs.OrchBase.Names.{HostPort};
     ghost use Rattle.scenario_servers.specs.NameTable.{AreTexts, IsTableOf};
 
     ghost Value = { List (Option HostPort) };
@@ -127,7 +122,7 @@ fn listed_text<'a>(value: &Value<'a>) -> Option<&'a str> {
 
 impl Names {
     ghost use Rattle.std.specs.Prelude.{◌≡◌, ◌≤◌, IfOk, length};
-    ghost use Rattle.orch_base.specs.Gives.{Gives};
+    ghost use Rattle.server_words.specs.OrchBase.Gives.{Gives};
     ghost use Rattle.scenario_json.specs.View.{items_view};
     ghost use Rattle.scenario_values.specs.Faults.{fault_of};
     ghost use Rattle.scenario_servers.specs.Names.{first_named, listed_names};

@@ -1,13 +1,11 @@
 //! Rules of promotion in a text.
 
 ghost use Rattle.std.specs.Prelude.{◌≡◌};
-ghost use Rattle.orch_base.specs.Gives.{Gives};
-ghost use Rattle.scenario_json.specs.View.{view};
-ghost use Rattle.scenario_values.specs.Faults.{fault_of, maybe};
+ghost use Rattle.scenario_servers.specs.Prelude.{Gives, fault_of, maybe, view};
 ghost use Rattle.scenario_servers.specs.Rules.{rule_in};
 
+use crate::orch_base::Rule;
 use commands::rule_at;
-use orch_base::Rule;
 use scenario_json::Value;
 use scenario_values::{FaultCode, ReadFault, fails, text_in, under};
 use std::alloc::Global;

@@ -1,10 +1,7 @@
 //! What the text of a server says.
 
 ghost use Rattle.std.specs.Prelude.{◌≡◌, ◌<◌, [], false, map, codes};
-ghost use Rattle.orch_base.specs.Gives.{Gives};
-ghost use Rattle.scenario_json.specs.View.{view, items_view, members_view};
-ghost use Rattle.scenario_values.specs.Faults.{fault_of, only_keys, optional, maybe};
-ghost use Rattle.scenario_values.specs.Values.{number_in, short_in};
+ghost use Rattle.scenario_servers.specs.Prelude.{Gives, fault_of, maybe, members_view, number_in, only_keys, optional, short_in, view};
 ghost use Rattle.scenario_servers.specs.Names.{server_named};
 ghost use Rattle.scenario_servers.specs.Servers.{has_source, server_keys, setup_in, auto_in, replication_in, history_in, flushes_in, server_from, server_in};
 
@@ -12,10 +9,10 @@ use crate::given::{Given, Replication, Setup};
 use crate::history::{flushes_in, history_in};
 use crate::identity::identity_in;
 use crate::names::{Names, server_named};
+use crate::orch_base::{OwnedText, ServerNo};
 use crate::rule::maybe_rule;
 use crate::uuids::Uuids;
 use openings::{Counts, Parts};
-use orch_base::{OwnedText, ServerNo};
 use scenario_json::Value;
 use scenario_values::{
     FaultCode, ReadFault, bool_at, bool_in, fails, maybe_bool, maybe_coord, members_in, number_at,

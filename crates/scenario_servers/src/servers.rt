@@ -1,10 +1,7 @@
 //! The servers of a scenario.
 
 ghost use Rattle.std.specs.Prelude.{◌≡◌, ◌≤◌, ◌&&◌, IfOk, length, nat_le, OnOk, ◌<◌};
-ghost use Rattle.orch_base.specs.Gives.{Gives};
-ghost use Rattle.scenario_json.specs.View.{view, items_view};
-ghost use Rattle.scenario_values.specs.Faults.{fault_of, holds, under_item, each_from, item_count};
-ghost use Rattle.scenario_values.specs.declared.fault.FaultCode.TheVariants.{BadNumber};
+ghost use Rattle.scenario_servers.specs.Prelude.{BadNumber, Gives, each_from, fault_of, holds, item_count, items_view, under_item, view};
 ghost use Rattle.scenario_servers.specs.Servers.{server_in, listed_in, servers_in};
 
 use crate::given::Given;

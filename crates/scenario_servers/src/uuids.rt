@@ -1,14 +1,11 @@
 //! The UUIDs of a scenario's servers.
 
 ghost use Rattle.std.specs.Prelude.{◌≡◌, IfOk, OnOk, codes, option_map};
-ghost use Rattle.orch_base.specs.Gives.{Gives};
-ghost use Rattle.serde_json.specs.Find.{get};
-ghost use Rattle.scenario_json.specs.View.{view};
-ghost use Rattle.scenario_values.specs.Faults.{fault_of};
+ghost use Rattle.scenario_servers.specs.Prelude.{Gives, fault_of, get, view};
 ghost use Rattle.scenario_servers.specs.Names.{uuid_at, read_uuid, new_uuid, unplaced_uuid, own_uuid};
 ghost use Rattle.scenario_servers.specs.UuidTable.{AddsUuid};
 
-use orch_base::Memory;
+use crate::orch_base::Memory;
 use scenario_json::Value;
 use scenario_values::{FaultCode, ReadFault, fails, under, uuid_in};
 use std::alloc::Global;

@@ -1,21 +1,9 @@
 -- How many turns the listed ones stand for, and that each is a turn of the servers.
 use Rattle.std.proofs.Common.{◌≡◌, ℕ, ◌+◌, ◌*◌, ◌<◌, ◌≤◌, List, [], ◌∷◌, ◌++◌, length, take, get_or, All, Option, Some, None, false, leb, refl, arith}
 use Rattle.std.specs.Prelude.{IfSome}
-use Rattle.std.specs.List.{flat_map}
-use Rattle.std.proofs.lemmas.List.{length-append}
-use Rattle.std.proofs.lemmas.Bool.Decides.{nat_tests}
-use Rattle.std.proofs.lemmas.List.Folds.{length-flat_map-take}
-use Rattle.std.proofs.lemmas.List.Elements.{All-nil, All-cons, All-head, All-tail}
-use Rattle.orch_base.specs.declared.server.ServerNo.{ServerNo}
-use Rattle.turns.specs.declared.turn.Act.{Act}
-use Rattle.turns.specs.declared.turn.Turn.{Turn}
-use Rattle.turns.specs.declared.turn.Turn.TheVariants.{Step}
-use Rattle.turns.specs.declared.turn.Step.TheVariants.{Apply, Fetch}
-use Rattle.turns.specs.declared.turn.Act.TheVariants.{PollRead, PollStore}
-use Rattle.scenarios.specs.Turns.{IsAct, IsNumberOf, IsTurnOf}
-use Rattle.scenario_turns.specs.declared.expansion.ListedTurn.{ListedTurn}
-use Rattle.scenario_turns.specs.declared.expansion.ListedTurn.TheVariants.{One, Polls, Round}
-use Rattle.scenario_turns.specs.Expansion.{IsListedTurn, done_by, polls_of, steps_of, expansion_of, expanded}
+use Rattle.scenario_turns.proofs.Prelude.{Act, All-cons, All-head, All-nil, All-tail, Apply, Fetch, IsAct, IsListedTurn, IsNumberOf, IsTurnOf}
+use Rattle.scenario_turns.proofs.Prelude.{ListedTurn, One, PollRead, Polls, PollStore, Round, ServerNo, Step, Turn, done_by, expanded, expansion_of}
+use Rattle.scenario_turns.proofs.Prelude.{flat_map, length-append, length-flat_map-take, nat_tests, polls_of, steps_of}
 
 -- ---- how many
 

@@ -1,19 +1,8 @@
 -- The answers of patterns that are kept are those that a pattern has.
 use Rattle.std.proofs.Common.{◌≡◌, ℕ, Bool, true, false, cond, List, Some, Ok, refl, sym, subst, ◌∙◌}
-use Rattle.std.specs.Map.{update}
-use Rattle.std.specs.BTreeMap.{BTreeMap, get_by_text}
-use Rattle.std.specs.Str.{bytes_eq}
-use Rattle.std.specs.declared.alloc.Global.{Global}
+use Rattle.scenario_turns.proofs.Prelude.{AreKnown, BadPattern, BTreeMap, Found, Global, IsKnown, bind-ok, bytes_eq, bytes_eq-Decides, found_in}
+use Rattle.scenario_turns.proofs.Prelude.{found_of, get_by_text, holds, holds-ok, is_pattern, same_Ok, same_Some, update}
 use Rattle.std.specs.Prelude.{String}
-use Rattle.std.proofs.lemmas.Slice.Eq.{bytes_eq-Decides}
-use Rattle.std.proofs.lemmas.Option.{same_Some}
-use Rattle.cluster_filters.specs.Patterns.{is_pattern}
-use Rattle.commands.specs.declared.turn.Found.{Found}
-use Rattle.scenario_values.specs.declared.fault.FaultCode.TheVariants.{BadPattern}
-use Rattle.scenario_values.specs.Faults.{holds}
-use Rattle.scenario_servers.proofs.Steps.{bind-ok, holds-ok, same_Ok}
-use Rattle.scenario_turns.specs.Found.{found_in, found_of}
-use Rattle.scenario_turns.specs.KnownPatterns.{AreKnown, IsKnown}
 
 -- what is found is known
 found-known : (printed : List (List ℕ)) (text : List ℕ) (f : Found) → found_in printed text ≡ Ok f → IsKnown text f.answers printed

@@ -1,10 +1,6 @@
 -- The order of the servers by name has their numbers alone.
 use Rattle.std.proofs.Common.{ℕ, ◌<◌, List, length, All, subst}
-use Rattle.std.proofs.lemmas.List.{length-map}
-use Rattle.orch_base.specs.declared.server.ServerNo.{ServerNo}
-use Rattle.openings.specs.declared.init.ServerInit.{ServerInit}
-use Rattle.name_order.proofs.Arranged.{by_name-within}
-use Rattle.scenario_turns.specs.Expansion.{server_names, in_order}
+use Rattle.scenario_turns.proofs.Prelude.{ServerInit, ServerNo, by_name-within, in_order, length-map, server_names}
 
 pub order_within : (servers : List ServerInit) → All (λ (n : ServerNo). n.0 < length servers) (in_order servers)
 order_within servers =

@@ -1,33 +1,16 @@
 -- A turn that is read is one of the servers, or stands for such turns.
 use Rattle.std.proofs.Common.{◌≡◌, ℕ, ◌<◌, ◌≤◌, Bool, true, false, cond, List, length, Option, Some, None, Result, Ok, refl, subst, arith}
 use Rattle.std.specs.Prelude.{IfSome, ◌&&◌, nat_le}
-use Rattle.std.proofs.lemmas.Bool.{leb-true}
-use Rattle.serde_json.specs.Data.{Data, Items, no_items, item}
-use Rattle.orch_base.specs.declared.server.ServerNo.{ServerNo}
-use Rattle.orch_base.specs.Names.{HostPort}
-use Rattle.server_words.specs.declared.changes.Link.{Link}
-use Rattle.turns.specs.declared.turn.Act.{Act}
-use Rattle.turns.specs.declared.turn.Turn.{Turn}
-use Rattle.turns.specs.declared.turn.Turn.TheVariants as turn
-use Rattle.turns.specs.declared.turn.Step.TheVariants.{Write, Fetch, Apply, Fail, Heal, Cut, Join, Rotate, Purge}
-use Rattle.turns.specs.declared.turn.Act.TheVariants.{PollRead, PollStore, Command, Job, Scan, Restart}
-use Rattle.scenarios.specs.Turns.{IsAct, IsCommand, IsNumberOf, IsTurnOf}
-use Rattle.scenario_values.specs.declared.fault.Fault.{Fault}
-use Rattle.scenario_values.specs.declared.fault.FaultCode.TheVariants.{BadTurn, NodeTurn}
-use Rattle.scenario_values.specs.Faults.{fails, holds, under_item}
-use Rattle.scenario_values.specs.Values.{items_in, text_in, number_in}
-use Rattle.scenario_servers.specs.Names.{server_named}
-use Rattle.scenario_servers.proofs.ServerSteps.{named-ok}
-use Rattle.scenario_servers.proofs.Steps.{same_Ok, bind-ok, under-ok, number-ok}
-use Rattle.scenario_turns.specs.Commands.{command_in}
-use Rattle.scenario_turns.specs.declared.expansion.ListedTurn.{ListedTurn}
-use Rattle.scenario_turns.specs.declared.expansion.ListedTurn.TheVariants.{One, Polls, Round}
-use Rattle.scenario_turns.specs.declared.word.Word.{Word}
-use Rattle.scenario_turns.specs.declared.word.Word.TheVariants as word
-use Rattle.scenario_turns.specs.Expansion.{IsListedTurn, done_by}
-use Rattle.scenario_turns.specs.Words.{has_parts, stands, word_at}
-use Rattle.scenario_turns.specs.Turns.{one_of, two_of, link_in, poller_in, server_of, amount_of, link_of, seconds_of, poll_of, poller_of, job_of, turn_by, alone}
-use Rattle.scenario_turns.specs.Turns.{whole_or_none, node_or_fails, node_in, node_of, act_of, inner_with, inner_from, inner_in, as_of, turn_of, turn_with, turn_from, turn_in}
+use Rattle.scenario_turns.proofs.Prelude.{Act, Apply, BadTurn, Cut, Data, Fail, Fault, Fetch, Heal, HostPort, IsAct, IsCommand, IsListedTurn}
+use Rattle.scenario_turns.proofs.Prelude.{IsNumberOf, IsTurnOf, Items, Job, Join, Link, ListedTurn, NodeTurn, One, PollRead, Polls, PollStore, Purge}
+use Rattle.scenario_turns.proofs.Prelude.{Restart, Rotate, Round, Scan, ServerNo, Turn, Word, Write, act_of, alone, amount_of, as_of, bind-ok}
+use Rattle.scenario_turns.proofs.Prelude.{command_in, done_by, fails, has_parts, holds, inner_from, inner_in, inner_with, item, items_in, job_of}
+use Rattle.scenario_turns.proofs.Prelude.{leb-true, link_in, link_of, named-ok, no_items, node_in, node_of, node_or_fails, number-ok, number_in}
+use Rattle.scenario_turns.proofs.Prelude.{one_of, poll_of, poller_in, poller_of, same_Ok, seconds_of, server_named, server_of, stands, text_in}
+use Rattle.scenario_turns.proofs.Prelude.{turn_by, turn_from, turn_in, turn_of, turn_with, two_of, under-ok, under_item, whole_or_none, word_at}
+use Rattle.scenario_turns.proofs.Prelude.TheVariants.{Command}
+use Rattle.scenario_turns.proofs.Prelude.turn
+use Rattle.scenario_turns.proofs.Prelude.word
 use Rattle.scenario_turns.proofs.Sound.{both_true, command-has}
 use Rattle.scenario_turns.proofs.Expansions.{done_by-is}
 
@@ -139,20 +122,7 @@ act_of-has names printed nodes by word.Command rest t counts of e =
 act_of-has names printed nodes by word.Job rest t counts of e = done-has (length names) nodes by (λ n. Unit {0}) (λ n. Job n) (job_of rest) t of (λ n is. is) (λ n read. tt) e
 act_of-has names printed nodes by word.Scan rest t counts of e = alone-has (length names) nodes (One (done_by by Scan)) rest t (done_by-is (length names) nodes by Scan of tt) e
 act_of-has names printed nodes by word.Restart rest t counts of e = alone-has (length names) nodes (One (done_by by Restart)) rest t (done_by-is (length names) nodes by Restart of tt) e
-act_of-has names printed nodes by word.Round rest t counts of e = cc
-act_of-has names printed nodes by word.Write rest t counts of e = cc
-act_of-has names printed nodes by word.Fetch rest t counts of e = cc
-act_of-has names printed nodes by word.Apply rest t counts of e = cc
-act_of-has names printed nodes by word.Fail rest t counts of e = cc
-act_of-has names printed nodes by word.Heal rest t counts of e = cc
-act_of-has names printed nodes by word.Rotate rest t counts of e = cc
-act_of-has names printed nodes by word.Purge rest t counts of e = cc
-act_of-has names printed nodes by word.Cut rest t counts of e = cc
-act_of-has names printed nodes by word.Join rest t counts of e = cc
-act_of-has names printed nodes by word.Tick rest t counts of e = cc
-act_of-has names printed nodes by word.Claim rest t counts of e = cc
-act_of-has names printed nodes by word.Release rest t counts of e = cc
-act_of-has names printed nodes by word.As rest t counts of e = cc
+act_of-has names printed nodes by _ rest t counts of e = cc
 
 inner-has : (names : List (Option HostPort)) (printed : List (List ℕ)) (nodes node : ℕ) (d : Data) (t : ListedTurn) → length printed ≡ length names → IsNumberOf nodes node → inner_in names printed node d ≡ Ok t
     → IsListedTurn (length names) nodes t

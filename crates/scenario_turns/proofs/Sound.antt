@@ -1,41 +1,13 @@
 -- A command turn that is read is one over the servers.
+pub use Rattle.std.proofs.lemmas.Bool.{and_parts as both_true}
 use Rattle.std.proofs.Common.{◌≡◌, ℕ, ◌<◌, ◌≤◌, Bool, true, false, List, length, Option, Some, None, Result, Ok, refl, sym, subst, cond, ◌⊎◌, inl, inr, arith}
 use Rattle.std.specs.Prelude.{IfSome, ◌&&◌, ◌*◌, nat_lt, nat_le, codes, option_map}
-use Rattle.std.proofs.lemmas.Bool.{leb-true}
-use Rattle.std.proofs.lemmas.Bool.Decides.{nat_tests}
-use Rattle.std.proofs.lemmas.List.{length-map}
-use Rattle.serde_json.specs.Data.{Data, Items}
-use Rattle.serde_json.specs.Find.{get}
-use Rattle.orch_base.specs.declared.server.ServerNo.{ServerNo}
-use Rattle.orch_base.specs.Names.{HostPort}
-use Rattle.commands.specs.declared.name.CommandName.{CommandName}
-use Rattle.commands.specs.declared.turn.Command.{Command}
-use Rattle.commands.specs.declared.turn.CommandTurn.{CommandTurn}
-use Rattle.commands.specs.declared.turn.Found.{Found}
-use Rattle.commands.specs.declared.turn.Keys.{Keys}
-use Rattle.commands.specs.Names.{needs_of}
-use Rattle.commands.specs.Turns.{is_there, is_within}
-use Rattle.cluster_filters.specs.Patterns.{is_found, is_pattern}
-use Rattle.commands.specs.Values.{number_and_unit, number_at, seconds_at, within}
-use Rattle.scenarios.specs.Turns.{IsCommand}
-use Rattle.scenario_values.specs.declared.fault.Fault.{Fault}
-use Rattle.scenario_values.specs.declared.fault.FaultCode.TheVariants.{BadCommand, BadNumber, BadPattern}
-use Rattle.scenario_values.specs.Faults.{fails, holds, under_item, maybe, only_keys}
-use Rattle.scenario_values.specs.Values.{members_in, short_in, text_in, text_within}
-use Rattle.scenario_servers.specs.Names.{server_named}
-use Rattle.scenario_servers.proofs.ServerSteps.{named-ok}
-use Rattle.scenario_servers.proofs.Steps.{same_Ok, bind-ok, or_fails-ok, holds-ok, under-ok, maybe-ok}
-use Rattle.scenario_turns.specs.Commands.{command_in, command_keys, duration_in, given_in, instances_in, keys_in, name_in, parts_of, pattern_in}
-use Rattle.scenario_servers.specs.Rules.{rule_in}
-use Rattle.scenario_turns.specs.Found.{found_in, found_of}
-
-pub both_true : (a b : Bool) → (a && b) ≡ true → (a ≡ true) × (b ≡ true)
-both_true true true e = (refl, refl)
-both_true true false e = (refl, e)
-both_true false b e = (e, absurd (false_true e))
-  where
-    false_true : false ≡ true → ⊥
-    false_true e = cc
+use Rattle.scenario_turns.proofs.Prelude.{BadCommand, BadNumber, BadPattern, Command, CommandName, CommandTurn, Data, Fault, Found, HostPort}
+use Rattle.scenario_turns.proofs.Prelude.{IsCommand, Items, Keys, ServerNo, bind-ok, command_in, command_keys, duration_in, fails, found_in, found_of}
+use Rattle.scenario_turns.proofs.Prelude.{get, given_in, holds, holds-ok, instances_in, is_found, is_pattern, is_there, is_within, keys_in, leb-true}
+use Rattle.scenario_turns.proofs.Prelude.{length-map, maybe, maybe-ok, members_in, name_in, named-ok, nat_tests, needs_of, number_and_unit, number_at}
+use Rattle.scenario_turns.proofs.Prelude.{only_keys, or_fails-ok, parts_of, pattern_in, rule_in, same_Ok, seconds_at, server_named, short_in, text_in}
+use Rattle.scenario_turns.proofs.Prelude.{text_within, under-ok, under_item, within}
 
 -- what is read where it is given has what each that is read has
 given_has : {A : Type 0} (P : A → Type 0) (key : List ℕ) (read : Data → Result A Fault) (d : Data) (o : Option A) → ((v : Data) (x : A) → read v ≡ Ok x → P x) → maybe key read d ≡ Ok o → IfSome o P

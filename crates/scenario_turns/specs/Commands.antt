@@ -1,23 +1,11 @@
 -- The command turns: the word is followed by a command's name and by what it is given.
 use Rattle.std.specs.Prelude.{ℕ, ◌∷◌, List, [], codes, Option, Result, Ok}
-use Rattle.serde_json.specs.Data.{Data, Items, no_items, item}
-use Rattle.commands.specs.Names.{name_of, needs_of}
-use Rattle.commands.specs.Turns.{is_there}
-use Rattle.commands.specs.declared.name.CommandName.{CommandName}
-use Rattle.commands.specs.declared.turn.Command.{Command}
-use Rattle.commands.specs.declared.turn.CommandTurn.{CommandTurn}
-use Rattle.commands.specs.declared.turn.Found.{Found}
-use Rattle.commands.specs.declared.turn.Keys.{Keys}
-use Rattle.commands.specs.Values.{seconds_at}
-use Rattle.orch_base.specs.Gives.{◌>>=◌}
-use Rattle.orch_base.specs.Names.{HostPort}
+use Rattle.scenario_turns.specs.Prelude.{BadCommand, BadNumber, BadTurn, CommandName, CommandTurn, Data, Fault, Found, HostPort, Items, Keys, fails}
+use Rattle.scenario_turns.specs.Prelude.{holds, is_there, item, maybe, members_in, name_of, needs_of, no_items, only_keys, or_fails, rule_in}
+use Rattle.scenario_turns.specs.Prelude.{seconds_at, server_named, short_in, text_in, under_item}
+use Rattle.scenario_turns.specs.Prelude.Commands.{Command}
 use Rattle.scenario_turns.specs.Found.{found_in}
-use Rattle.scenario_servers.specs.Names.{server_named}
-use Rattle.scenario_servers.specs.Rules.{rule_in}
-use Rattle.scenario_values.specs.declared.fault.Fault.{Fault}
-use Rattle.scenario_values.specs.declared.fault.FaultCode.TheVariants.{BadCommand, BadNumber, BadTurn}
-use Rattle.scenario_values.specs.Faults.{fails, or_fails, holds, under_item, maybe, only_keys}
-use Rattle.scenario_values.specs.Values.{members_in, short_in, text_in}
+use Rattle.scenarios.specs.OrchBase.Gives.{◌>>=◌}
 
 -- a command's name
 unfoldable pub name_in : Data → Result CommandName Fault

@@ -1,17 +1,8 @@
 -- The turns that listed turns stand for.
 use Rattle.std.specs.Prelude.{ℕ, ◌++◌, ◌∷◌, List, [], map, IfSome, Option, None, Some}
-use Rattle.std.specs.List.{flat_map}
-use Rattle.orch_base.specs.declared.server.ServerNo.{ServerNo}
-use Rattle.orch_base.specs.Names.{HostPort, printed}
-use Rattle.openings.specs.declared.init.ServerInit.{ServerInit}
-use Rattle.turns.specs.declared.turn.Act.{Act}
-use Rattle.turns.specs.declared.turn.Turn.{Turn}
-use Rattle.turns.specs.declared.turn.Turn.TheVariants.{Step}
-use Rattle.turns.specs.declared.turn.Turn.TheVariants as turn
-use Rattle.turns.specs.declared.turn.Step.TheVariants.{Apply, Fetch}
-use Rattle.turns.specs.declared.turn.Act.TheVariants.{PollRead, PollStore}
-use Rattle.scenarios.specs.Turns.{IsNumberOf, IsTurnOf}
-use Rattle.name_order.specs.NameOrder.{by_name}
+use Rattle.scenario_turns.specs.Prelude.{Act, Apply, Fetch, HostPort, IsNumberOf, IsTurnOf, PollRead, PollStore, ServerInit, ServerNo, Step, Turn}
+use Rattle.scenario_turns.specs.Prelude.{by_name, flat_map, printed}
+use Rattle.scenario_turns.specs.Prelude.turn
 use Rattle.scenario_turns.specs.declared.expansion.ListedTurn.{ListedTurn}
 use Rattle.scenario_turns.specs.declared.expansion.ListedTurn.TheVariants.{One, Polls, Round}
 

@@ -1,11 +1,7 @@
 -- Patterns, and in which servers' names they are found.
 use Rattle.std.specs.Prelude.{ℕ, List, map, Result, Ok}
-use Rattle.cluster_filters.specs.Patterns.{is_pattern, is_found}
-use Rattle.commands.specs.declared.turn.Found.{Found}
-use Rattle.orch_base.specs.Gives.{◌>>=◌}
-use Rattle.scenario_values.specs.declared.fault.Fault.{Fault}
-use Rattle.scenario_values.specs.declared.fault.FaultCode.TheVariants.{BadPattern}
-use Rattle.scenario_values.specs.Faults.{holds}
+use Rattle.scenario_turns.specs.Prelude.{BadPattern, Fault, Found, holds, is_found, is_pattern}
+use Rattle.scenarios.specs.OrchBase.Gives.{◌>>=◌}
 
 -- a pattern, with an answer for each server's printed name
 abbrev pub found_of : List ℕ → List (List ℕ) → Found

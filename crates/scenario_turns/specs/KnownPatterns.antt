@@ -1,8 +1,6 @@
 -- The answers of patterns, by their texts.
 use Rattle.std.specs.Prelude.{◌≡◌, ℕ, Bool, true, List, map, Some, String}
-use Rattle.std.specs.BTreeMap.{BTreeMap, get_by_text}
-use Rattle.std.specs.declared.alloc.Global.{Global}
-use Rattle.cluster_filters.specs.Patterns.{is_found, is_pattern}
+use Rattle.scenario_turns.specs.Prelude.{BTreeMap, Global, get_by_text, is_found, is_pattern}
 
 -- these are the answers of a pattern over the servers' printed names
 pub record IsKnown (text : List ℕ) (answers : List Bool) (printed : List (List ℕ)) : Type 0 where

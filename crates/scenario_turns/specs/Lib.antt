@@ -1,3 +1,4 @@
+pub mod Prelude
 pub mod Found
 pub mod KnownPatterns
 pub mod Commands

@@ -1,22 +1,11 @@
 -- The turns: of each the word, then the number of parts, then whether it stands among the turns of so many
 -- orchestrators, then the parts from the left.
 use Rattle.std.specs.Prelude.{ℕ, ◌-◌, ◌^◌, ◌&&◌, List, if◌then◌else◌, nat_le, codes, Option, Some, None, Result, Ok}
-use Rattle.serde_json.specs.Data.{Data, Items, no_items, item}
-use Rattle.serde_json.specs.Find.{as_number, as_u64}
-use Rattle.orch_base.specs.declared.server.ServerNo.{ServerNo}
-use Rattle.orch_base.specs.Gives.{◌>>=◌}
-use Rattle.orch_base.specs.Names.{HostPort}
-use Rattle.server_words.specs.declared.changes.Link.{Link}
-use Rattle.server_words.specs.declared.changes.Link.TheVariants.{Desk, Feed}
-use Rattle.turns.specs.declared.turn.Turn.{Turn}
-use Rattle.turns.specs.declared.turn.Turn.TheVariants as turn
-use Rattle.turns.specs.declared.turn.Step.TheVariants.{Write, Fetch, Apply, Fail, Heal, Cut, Join, Rotate, Purge}
-use Rattle.turns.specs.declared.turn.Act.TheVariants.{PollRead, PollStore, Command, Job, Scan, Restart}
-use Rattle.scenario_values.specs.declared.fault.Fault.{Fault}
-use Rattle.scenario_values.specs.declared.fault.FaultCode.TheVariants.{BadTurn, BadNumber, BadType, NodeTurn}
-use Rattle.scenario_values.specs.Faults.{fails, holds, or_fails, under_item}
-use Rattle.scenario_values.specs.Values.{items_in, text_in, number_in}
-use Rattle.scenario_servers.specs.Names.{server_named}
+use Rattle.scenario_turns.specs.Prelude.{Apply, BadNumber, BadTurn, BadType, Command, Cut, Data, Desk, Fail, Fault, Feed, Fetch, Heal, HostPort}
+use Rattle.scenario_turns.specs.Prelude.{Items, Job, Join, Link, NodeTurn, PollRead, PollStore, Purge, Restart, Rotate, Scan, ServerNo, Turn, Write}
+use Rattle.scenario_turns.specs.Prelude.{as_number, as_u64, fails, holds, item, items_in, no_items, number_in, or_fails, server_named, text_in}
+use Rattle.scenario_turns.specs.Prelude.{under_item}
+use Rattle.scenario_turns.specs.Prelude.turn
 use Rattle.scenario_turns.specs.Commands.{command_in}
 use Rattle.scenario_turns.specs.declared.expansion.ListedTurn.{ListedTurn}
 use Rattle.scenario_turns.specs.declared.expansion.ListedTurn.TheVariants.{One, Polls, Round}
@@ -24,6 +13,7 @@ use Rattle.scenario_turns.specs.declared.word.Word.{Word}
 use Rattle.scenario_turns.specs.declared.word.Word.TheVariants as word
 use Rattle.scenario_turns.specs.Expansion.{done_by}
 use Rattle.scenario_turns.specs.Words.{has_parts, is_word, stands, word_at}
+use Rattle.scenarios.specs.OrchBase.Gives.{◌>>=◌}
 
 abbrev pub link_at : List ℕ → Result Link Fault
 link_at text = if is_word (codes "desk") text then Ok Desk else (if is_word (codes "feed") text then Ok Feed else fails BadNumber)

@@ -1,11 +1,6 @@
 -- The words with which turns begin.
 use Rattle.std.specs.Prelude.{ℕ, ◌∷◌, List, [], Bool, true, nat_eq, nat_lt, codes, find, option_map, Option, Some, None, Result, Ok}
-use Rattle.serde_json.specs.Data.{Items}
-use Rattle.std.specs.Cmp.Lexicographic.{pointwise}
-use Rattle.std.specs.Str.{bytes_eq}
-use Rattle.scenario_values.specs.declared.fault.Fault.{Fault}
-use Rattle.scenario_values.specs.declared.fault.FaultCode.TheVariants.{BadTurn}
-use Rattle.scenario_values.specs.Faults.{fails, item_count}
+use Rattle.scenario_turns.specs.Prelude.{BadTurn, Fault, Items, bytes_eq, fails, item_count, pointwise}
 use Rattle.scenario_turns.specs.declared.word.Word.{Word}
 use Rattle.scenario_turns.specs.declared.word.Word.TheVariants.{Write, Fetch, Apply, Fail, Heal, Rotate, Purge, Cut, Join, Tick, PollRead, PollStore, Polls, Round, Command, Job, Scan, Restart, Claim, Release, As}
 

@@ -1,14 +1,12 @@
 //! The command turns.
 
 ghost use Rattle.std.specs.Prelude.{◌≡◌};
-ghost use Rattle.orch_base.specs.Gives.{Gives};
+ghost use Rattle.scenario_turns.specs.Prelude.{Gives, fault_of, items_view, under_item, view};
 ghost use Rattle.scenario_turns.specs.Commands.{name_in, given_in, parts_of, command_in};
-ghost use Rattle.scenario_values.specs.Faults.{fault_of, under_item};
-ghost use Rattle.scenario_json.specs.View.{view, items_view};
 
+use crate::commands::{CommandName, CommandTurn};
 use crate::keys::given_in;
 use crate::patterns::Patterns;
-use commands::{CommandName, CommandTurn};
 use scenario_json::Value;
 use scenario_servers::Names;
 use scenario_values::{FaultCode, ReadFault, fails, text_in, under_item};

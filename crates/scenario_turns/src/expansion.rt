@@ -3,10 +3,10 @@
 ghost use Rattle.std.specs.Prelude.{◌≡◌, ◌++◌, ◌≤◌, IfOk, OnOk, length, nat_le};
 ghost use Rattle.scenario_turns.specs.Expansion.{done_by, printed_of, server_names, in_order, polls_of, steps_of, expansion_of, expanded};
 
+use crate::openings::ServerInit;
+use crate::orch_base::{Memory, Name, OwnedText, ServerNo};
 use crate::pattern::printed_names;
 use name_order::in_name_order;
-use openings::ServerInit;
-use orch_base::{Memory, Name, OwnedText, ServerNo};
 use scenarios::{Act, Step, Turn};
 use std::alloc::Global;
 

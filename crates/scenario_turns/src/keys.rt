@@ -1,16 +1,12 @@
 //! What a command is given.
 
 ghost use Rattle.std.specs.Prelude.{◌≡◌};
-ghost use Rattle.orch_base.specs.Gives.{Gives};
+ghost use Rattle.scenario_turns.specs.Prelude.{Gives, fault_of, maybe, server_named, short_in, view};
 ghost use Rattle.scenario_turns.specs.Commands.{duration_in, pattern_in, instances_in, keys_in, given_in};
-ghost use Rattle.scenario_servers.specs.Names.{server_named};
-ghost use Rattle.scenario_values.specs.Faults.{fault_of, maybe};
-ghost use Rattle.scenario_values.specs.Values.{short_in};
-ghost use Rattle.scenario_json.specs.View.{view};
 
+use crate::commands::{Command, CommandName, CommandTurn, Found, Keys, seconds_at};
+use crate::orch_base::{OwnedText, ServerNo};
 use crate::patterns::Patterns;
-use commands::{Command, CommandName, CommandTurn, Found, Keys, seconds_at};
-use orch_base::{OwnedText, ServerNo};
 use scenario_json::Value;
 use scenario_servers::{Names, maybe_rule, server_named};
 use scenario_values::{

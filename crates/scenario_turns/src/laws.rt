@@ -1,10 +1,7 @@
 //! Laws of reading turns, over their definitions alone.
 
 ghost use Rattle.std.specs.Prelude.{◌≡◌, ℕ, List, Ok, Option, length};
-ghost use Rattle.serde_json.specs.Data.{Data, Items};
-ghost use Rattle.orch_base.specs.Names.{HostPort};
-ghost use Rattle.commands.specs.declared.turn.CommandTurn.{CommandTurn};
-ghost use Rattle.scenarios.specs.Turns.{IsCommand};
+ghost use Rattle.scenario_turns.specs.Prelude.{CommandTurn, Data, HostPort, IsCommand, Items};
 ghost use Rattle.scenario_turns.specs.Commands.{command_in};
 ghost use Rattle.scenario_turns.specs.Expansion.{IsListedTurn};
 ghost use Rattle.scenario_turns.specs.Turns.{turn_in};

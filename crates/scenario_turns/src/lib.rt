@@ -15,5 +15,6 @@ pub use expansion::{ListedTurn, are_few, expanded, in_order, printed_of};
 pub use laws::{read_commands_are_sound, read_turns_are_sound};
 pub use pattern::{found, printed_names};
 pub use patterns::Patterns;
+use scenarios::{commands, openings, orch_base, server_words_items};
 pub use turn_forms::each_turn;
 pub use word::Word;

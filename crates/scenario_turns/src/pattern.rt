@@ -1,15 +1,12 @@
 //! Patterns, and in which servers' names they are found.
 
 ghost use Rattle.std.specs.Prelude.{◌≡◌, IfOk, map};
-ghost use Rattle.cluster_filters.specs.Patterns.{is_found};
-ghost use Rattle.orch_base.specs.Gives.{Gives};
-ghost use Rattle.orch_base.specs.Names.{printed};
+ghost use Rattle.scenario_turns.specs.Prelude.{Gives, fault_of, is_found, printed};
 ghost use Rattle.scenario_turns.specs.Found.{found_in};
-ghost use Rattle.scenario_values.specs.Faults.{fault_of};
 
+use crate::commands::{Answers, Found};
+use crate::orch_base::{Memory, Name, OwnedText};
 use cluster_filters::{FilterFault, Pattern};
-use commands::{Answers, Found};
-use orch_base::{Memory, Name, OwnedText};
 use scenario_servers::printed_name;
 use scenario_values::{FaultCode, ReadFault, fails};
 use std::alloc::Global;

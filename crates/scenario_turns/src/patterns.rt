@@ -1,8 +1,8 @@
 //! The patterns that a scenario's turns ask for, each of which is compiled once.
 
+use crate::commands::{Answers, Found};
+use crate::orch_base::{Memory, OwnedText};
 use crate::pattern::found;
-use commands::{Answers, Found};
-use orch_base::{Memory, OwnedText};
 use scenario_json::Value;
 use scenario_values::ReadFault;
 use std::alloc::Global;
@@ -39,7 +39,7 @@ fn asked<'a>(turn: &Value<'a>) -> Option<&'a str> {
 
 impl Patterns {
     ghost use Rattle.std.specs.Prelude.{◌≡◌, IfOk};
-    ghost use Rattle.orch_base.specs.Gives.{Gives};
+    ghost use Rattle.scenarios.specs.OrchBase.Gives.{Gives};
     ghost use Rattle.scenario_turns.specs.Found.{found_in};
     ghost use Rattle.scenario_values.specs.Faults.{fault_of};
 

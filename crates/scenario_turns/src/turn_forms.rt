@@ -1,15 +1,9 @@
 //! The turns.
 
 ghost use Rattle.std.specs.Prelude.{◌≡◌};
-ghost use Rattle.orch_base.specs.Gives.{Gives};
-ghost use Rattle.scenario_json.specs.View.{view, items_view};
-ghost use Rattle.scenario_values.specs.declared.fault.FaultCode.TheVariants.{BadTurn};
-ghost use Rattle.scenario_values.specs.Faults.{fault_of, holds, under_item, each};
-ghost use Rattle.scenario_values.specs.Values.{text_in, number_in};
-ghost use Rattle.scenario_servers.specs.Names.{server_named};
-ghost use Rattle.turns.specs.declared.turn.Act.TheVariants.{Command, PollRead};
-ghost use Rattle.turns.specs.declared.turn.Step.TheVariants.{Cut, Join, Purge, Write};
-ghost use Rattle.turns.specs.declared.turn.Turn.TheVariants as Turn;
+ghost use Rattle.scenario_turns.specs.Prelude.{BadTurn, Command, Cut, Gives, Join, PollRead, Purge, Write, each, fault_of, holds, items_view};
+ghost use Rattle.scenario_turns.specs.Prelude.{number_in, server_named, text_in, under_item, view};
+ghost use Rattle.scenario_turns.specs.Prelude.turn as Turn;
 ghost use Rattle.scenario_turns.specs.Commands.{command_in};
 ghost use Rattle.scenario_turns.specs.declared.expansion.ListedTurn.TheVariants.{One};
 ghost use Rattle.scenario_turns.specs.Expansion.{done_by};
@@ -19,16 +13,16 @@ ghost use Rattle.scenario_turns.specs.Turns.{whole_or_none, node_or_fails, node_
 
 use crate::command::command_in;
 use crate::expansion::{ListedTurn, done_by};
+use crate::orch_base::ServerNo;
 use crate::patterns::Patterns;
+use crate::server_words_items::Link;
 use crate::word::{Word, is_word, parts_after, stands, word_at};
-use orch_base::ServerNo;
 use scenario_json::Value;
 use scenario_servers::{Names, server_named};
 use scenario_values::{
     FaultCode, ReadFault, fails, holds, items_in, number_in, text_in, under_item,
 };
 use scenarios::{Act, BoxedCommand, Step, Turn};
-use server_words::Link;
 use std::alloc::Global;
 
 #[tactic(auto, unfolding(crate::specs::Turns::link_in))]

@@ -1,8 +1,7 @@
 //! The words with which turns begin.
 
 ghost use Rattle.std.specs.Prelude.{◌≡◌};
-ghost use Rattle.orch_base.specs.Gives.{Gives};
-ghost use Rattle.scenario_values.specs.Faults.{fault_of};
+ghost use Rattle.scenario_turns.specs.Prelude.{Gives, fault_of};
 ghost use Rattle.scenario_turns.specs.Words.{is_word, word_named, parts_after, stands, word_at};
 
 use scenario_values::{FaultCode, ReadFault, fails};

@@ -3,7 +3,7 @@ use Rattle.std.proofs.Common.{◌≡◌, ℕ, suc, ◌+◌, ◌<◌, List, [], �
 use Rattle.serde_json.specs.Data.{Data}
 use Rattle.scenario_json.specs.declared.value.Value.{Value}
 use Rattle.scenario_json.specs.View.{view, items_view, members_view}
-use Rattle.orch_base.specs.Gives.{◌>>=◌}
+use Rattle.binlog_coords.specs.OrchBase.Gives.{◌>>=◌}
 use Rattle.scenario_values.specs.declared.fault.Fault.{Fault}
 use Rattle.scenario_values.specs.Faults.{under_item, each_from, each_member, item_count}
 

@@ -9,7 +9,7 @@ use Rattle.std.specs.Str.Parse.{ParsesUnsigned, digits_value}
 use Rattle.std.proofs.lemmas.Bool.{false≢true, le-leb, leb-true}
 use Rattle.std.proofs.lemmas.Str.Parse.{parse_digits}
 use Rattle.uuid.specs.Text.{parsed, parsed_hyphenated}
-use Rattle.orch_base.proofs.NameLemmas.{own}
+use Rattle.binlog_coords.proofs.OrchBase.NameLemmas.{own}
 use Rattle.scenario_values.specs.declared.fault.FaultCode.TheVariants.{BadUuid}
 use Rattle.scenario_values.specs.Faults.{fails}
 use Rattle.scenario_values.specs.Values.{uuid_or_fails, version_part}

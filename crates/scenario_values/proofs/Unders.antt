@@ -1,6 +1,6 @@
 -- What is read at a key.
 use Rattle.std.proofs.Common.{ℕ, List, Result, Ok, Err, refl, ap}
-use Rattle.orch_base.specs.Gives.{Gives}
+use Rattle.binlog_coords.specs.OrchBase.Gives.{Gives}
 use Rattle.scenario_values.specs.declared.fault.Fault.{Fault}
 use Rattle.scenario_values.specs.declared.fault.ReadFault.{ReadFault}
 use Rattle.scenario_values.specs.declared.fault.ReadFault.TheVariants as read_fault

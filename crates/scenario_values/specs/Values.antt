@@ -10,13 +10,13 @@ use Rattle.serde_json.specs.Find.{as_bool, as_u64, as_number, as_str, as_array, 
 use Rattle.binlog_coords.specs.declared.Coord.{Coord}
 use Rattle.binlog_coords.specs.declared.text.CoordFault.{CoordFault}
 use Rattle.binlog_coords.specs.Grammar.{coord_at}
-use Rattle.orch_base.specs.declared.name.NameFault.{NameFault}
-use Rattle.orch_base.specs.declared.server.Version.{Version}
-use Rattle.orch_base.specs.Gives.{◌>>=◌}
-use Rattle.orch_base.specs.Names.{HostPort, name_at}
+use Rattle.binlog_coords.specs.OrchBase.declared.name.NameFault.{NameFault}
+use Rattle.binlog_coords.specs.OrchBase.declared.server.Version.{Version}
+use Rattle.binlog_coords.specs.OrchBase.Names.{HostPort, name_at}
 use Rattle.scenario_values.specs.declared.fault.Fault.{Fault}
 use Rattle.scenario_values.specs.declared.fault.FaultCode.TheVariants.{BadType, BadNumber, BadName, BadCoord, BadUuid, BadVersion}
 use Rattle.scenario_values.specs.Faults.{fails, or_fails}
+use Rattle.binlog_coords.specs.OrchBase.Gives.{◌>>=◌}
 
 abbrev pub members_in : Data → Result Members Fault
 members_in d = or_fails BadType (as_object d)

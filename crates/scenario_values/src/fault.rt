@@ -3,10 +3,10 @@
 ghost use Rattle.std.specs.Prelude.{◌≡◌, ◌++◌, [], Some, IfOk, IfSome, OnOk, codes, decimal, option_map};
 ghost use Rattle.scenario_values.specs.declared.fault.ReadFault.TheVariants.{Memory as NoMemory};
 ghost use Rattle.scenario_values.specs.Faults.{fault_of, escaped_byte, escaped, placed, holds, IsUnder};
-ghost use Rattle.orch_base.specs.Gives.{Gives};
+ghost use Rattle.binlog_coords.specs.OrchBase.Gives.{Gives};
 
+use crate::orch_base::Memory;
 use itoa::Buffer;
-use orch_base::Memory;
 use std::alloc::{AllocFailed, Global};
 use std::marker::Model;
 

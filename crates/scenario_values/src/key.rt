@@ -1,7 +1,7 @@
 //! Which keys an object has.
 
 ghost use Rattle.std.specs.Prelude.{◌≡◌, map};
-ghost use Rattle.orch_base.specs.Gives.{Gives};
+ghost use Rattle.binlog_coords.specs.OrchBase.Gives.{Gives};
 ghost use Rattle.scenario_json.specs.View.{members_view};
 ghost use Rattle.scenario_values.specs.Faults.{fault_of, is_key, only_keys};
 

@@ -7,6 +7,7 @@ mod field;
 mod key;
 mod value;
 
+use binlog_coords::orch_base;
 pub use fault::{Fault, FaultCode, Path, ReadFault, fails, holds, under, under_item};
 pub use field::{bool_at, maybe_bool, maybe_coord, maybe_label, number_at, version_at, whole_at};
 pub use key::only_keys;

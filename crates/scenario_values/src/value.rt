@@ -4,14 +4,14 @@ ghost use Rattle.std.specs.Prelude.{◌≡◌, ◌≤◌, IfOk};
 ghost use Rattle.std.specs.Char.{is_ascii_digit};
 ghost use Rattle.std.specs.List.{list_all, before_first};
 ghost use Rattle.uuid.specs.Text.{parsed_hyphenated};
-ghost use Rattle.orch_base.specs.Gives.{Gives};
+ghost use Rattle.binlog_coords.specs.OrchBase.Gives.{Gives};
 ghost use Rattle.scenario_json.specs.View.{view, items_view, members_view};
 ghost use Rattle.scenario_values.specs.Faults.{fault_of};
-ghost use Rattle.scenario_values.specs.Values.{members_in, items_in, text_in, bool_in, whole_in, within, number_in, name_in, coord_in, text_within, short_in, label_or_fails, label_in, uuid_or_fails, uuid_in, is_dot, behind_dot, version_part, version_at, version_in};
+ghost use Rattle.scenario_values.specs.Values.{members_in, items_in, text_in, bool_in, whole_in, number_in, name_in, coord_in, text_within, short_in, label_or_fails, label_in, uuid_or_fails, uuid_in, is_dot, behind_dot, version_part, version_at, version_in};
 
 use crate::fault::{FaultCode, ReadFault, fails};
+use crate::orch_base::{Name, NameFault, OwnedText, Version};
 use binlog_coords::{Coord, read_coord};
-use orch_base::{Name, NameFault, OwnedText, Version};
 use scenario_json::Value;
 use std::alloc::Global;
 use uuid::Uuid;

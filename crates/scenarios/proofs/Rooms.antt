@@ -6,7 +6,7 @@ use Rattle.std.proofs.lemmas.Option.{same_Some}
 use Rattle.openings.specs.declared.init.ServerInit.{ServerInit}
 use Rattle.scenarios.specs.declared.scenario.Scenario.{Scenario}
 use Rattle.scenarios.specs.Scenarios.{flushes_of, longest_flushes, room_of, IsScenario}
-use Rattle.scenarios.specs.Turns.{is_rotate}
+use Rattle.scenarios.specs.ValidTurns.{is_rotate}
 
 -- what one server takes is no more than what all take
 le-times : (m n : ℕ) → 0 < m → n ≤ m * n

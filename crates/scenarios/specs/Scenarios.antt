@@ -1,7 +1,7 @@
 -- Scenarios that can be run, and the room that a run takes.
 use Rattle.std.specs.Prelude.{◌≡◌, ℕ, ◌+◌, ◌*◌, ◌≤◌, List, [], ◌∷◌, length, map, All, count_by, sum_by, max}
-use Rattle.orch_base.specs.Names.{HostPort}
-use Rattle.orch_base.specs.declared.server.Settings.{Settings}
+use Rattle.server_words.specs.OrchBase.Names.{HostPort}
+use Rattle.server_words.specs.OrchBase.declared.server.Settings.{Settings}
 use Rattle.openings.specs.declared.init.ServerInit.{ServerInit}
 use Rattle.openings.specs.Listed.{transactions}
 use Rattle.openings.specs.Opening.{IsChecked}
@@ -9,7 +9,7 @@ use Rattle.openings.specs.Servers.{parts_of}
 use Rattle.hook_texts.specs.Hooks.{AreHooks}
 use Rattle.scenarios.specs.declared.scenario.Scenario.{Scenario}
 use Rattle.scenarios.specs.Blocks.{period_in}
-use Rattle.scenarios.specs.Turns.{IsTurn, NamesOneOf, is_rotate, is_write}
+use Rattle.scenarios.specs.ValidTurns.{IsTurn, NamesOneOf, is_rotate, is_write}
 
 -- the transactions that histories list
 abbrev pub listed_in : List ServerInit → ℕ

@@ -4,7 +4,7 @@ ghost use Rattle.std.specs.Prelude.{◌≡◌, ◌↔◌, IfOk, IsTrue, nat_eq};
 ghost use Rattle.std.specs.Cmp.Lexicographic.{pointwise};
 ghost use Rattle.scenarios.specs.Blocks.{period_in};
 
-use orch_base::{Memory, OwnedText};
+use crate::orch_base::{Memory, OwnedText};
 use std::alloc::Global;
 use std::marker::Model;
 

@@ -4,8 +4,8 @@ ghost use Rattle.std.specs.Prelude.{◌≡◌, IfOk, map, nat_eq, string_bytes};
 ghost use Rattle.std.specs.Cmp.Lexicographic.{pointwise};
 ghost use Rattle.scenarios.specs.Aliases.{alias_of};
 
+use crate::orch_base::{Memory, OwnedText};
 use commands::Answers;
-use orch_base::{Memory, OwnedText};
 use std::alloc::Global;
 use std::marker::Model;
 

@@ -8,14 +8,26 @@ mod room;
 mod rules;
 mod same;
 mod scenario;
-mod threads;
 
 pub use blocks::{Block, Blocks};
+pub use commands;
 pub use commands::Answers;
 pub use filters::{Alias, Aliases, ClusterFilters, FilterList, Texts};
+pub use hook_texts;
 pub use hook_texts::{Hook, HookList, Hooks};
+pub use openings;
+pub use server_words::{binlog_coords_items, orch_base};
+pub use turns;
 /// Want of memory.
-pub use orch_base::Memory;
 pub use rules::Rules;
 pub use scenario::{Scenario, Turns};
+pub use server_words::orch_base::Memory;
 pub use turns::{Act, BoxedCommand, Step, Turn};
+
+/// What is passed on of `server_words`.
+pub mod server_words_items {
+    pub use server_words::{
+        ApplyAnswer, Ask, AttachFault, FetchAnswer, Link, PurgeAnswer, RotateAnswer, Spot, Status,
+        StatusFault, Threads, WriteAnswer,
+    };
+}

@@ -2,9 +2,8 @@
 
 ghost use Rattle.std.specs.Prelude.{◌≡◌, ◌≤◌, sum_by, count_by, length};
 ghost use Rattle.openings.specs.Listed.{transactions};
-ghost use Rattle.openings.specs.Servers.{parts_of};
 ghost use Rattle.scenarios.specs.Scenarios.{flushes_of, listed_in, longest_flushes, room_of, IsScenario};
-ghost use Rattle.scenarios.specs.Turns.{is_rotate, is_write};
+ghost use Rattle.scenarios.specs.ValidTurns.{is_rotate, is_write};
 
 use crate::{Scenario, Step, Turn};
 use openings::{ServerInit, transactions};

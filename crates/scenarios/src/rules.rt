@@ -2,7 +2,7 @@
 
 ghost use Rattle.std.specs.Prelude.{◌≡◌, IfOk};
 
-use orch_base::{Memory, Rule};
+use crate::orch_base::{Memory, Rule};
 use std::alloc::Global;
 use std::marker::Model;
 
@@ -14,7 +14,7 @@ pub struct Rules {
 
 impl Model for Rules {
     ghost use Rattle.std.specs.Prelude.{List, Option};
-    ghost use Rattle.orch_base.specs.declared.rule.Rule.{Rule as ARule};
+    ghost use Rattle.server_words.specs.OrchBase.declared.rule.Rule.{Rule as ARule};
 
     ghost Value = { List (Option ARule) };
 

@@ -2,8 +2,8 @@
 
 ghost use Rattle.std.specs.Prelude.{◌≡◌, ◌↔◌, IsTrue, map, string_bytes};
 
+use crate::orch_base::Rule;
 use crate::{Alias, Aliases, ClusterFilters, FilterList, Rules, Scenario, Texts, Turn, Turns};
-use orch_base::Rule;
 
 fn same_aliases(aliases: &[Alias], others: &[Alias]) -> bool
     ensures { IsTrue result ↔ (aliases.now ≡ others.now) }

@@ -2,9 +2,9 @@
 
 ghost use Rattle.std.specs.Prelude.{◌≡◌, IfOk};
 
+use crate::orch_base::{Memory, Moment};
 use crate::{Aliases, Answers, Blocks, ClusterFilters, Hooks, Rules, Turn};
 use openings::Opening;
-use orch_base::{Memory, Moment};
 use std::alloc::Global;
 use std::marker::Model;
 

@@ -1,52 +1,29 @@
 -- Written commands read.
-use Rattle.std.proofs.Common.{◌≡◌, ◌∙◌, ◌≤◌, ℕ, Bool, true, false, List, Option, Some, None, Ok, length, refl, sym, ap, arith}
+use Rattle.std.proofs.Common.{◌≡◌, ◌∙◌, ◌≤◌, ℕ, Bool, true, List, Option, Some, None, Ok, length, refl, sym, ap, arith}
 use Rattle.std.specs.Prelude.{◌&&◌, IfSome, codes, decimal, nat_le, option_map}
-use Rattle.std.proofs.lemmas.Bool.{le-leb, ltb-true}
-use Rattle.serde_json.specs.Data.{Data, string, Members, no_members, item, no_items}
-use Rattle.serde_json.specs.Find.{get_member}
-use Rattle.orch_base.specs.Names.{HostPort}
-use Rattle.orch_base.specs.declared.rule.Rule.{Rule}
-use Rattle.orch_base.specs.declared.rule.Rule.TheVariants as rule
-use Rattle.orch_base.specs.declared.server.ServerNo.{ServerNo}
-use Rattle.commands.specs.Names.{needs_of, word_of}
-use Rattle.commands.specs.Turns.{has_needed, is_there, is_within}
-use Rattle.commands.specs.Values.{rule_at}
-use Rattle.commands.specs.declared.turn.CommandTurn.{CommandTurn}
-use Rattle.commands.specs.declared.turn.Found.{Found}
-use Rattle.commands.proofs.Words.{name_of-word_of}
-use Rattle.scenario_values.specs.Faults.{maybe_in, only_keys}
-use Rattle.scenario_values.specs.Values.{short_in}
-use Rattle.scenario_servers.specs.Names.{server_named}
-use Rattle.scenario_servers.specs.Rules.{rule_in}
-use Rattle.scenario_turns.specs.Commands.{command_in, command_keys, duration_in, given_in, instances_in, keys_in, name_in, pattern_in}
-use Rattle.scenario_turns.specs.Found.{found_in}
-use Rattle.scenario_turns.specs.KnownPatterns.{IsKnown}
-use Rattle.schedules.specs.Turns.{given_data, given_members, name_data, rule_word, with_given}
-use Rattle.schedule_laws.specs.Reading.{IsTold, NamesRead}
+use Rattle.schedule_laws.proofs.Prelude.{CommandTurn, Data, Found, HostPort, IsKnown, IsTold, Members, NamesRead, Rule, ServerNo, command_in}
+use Rattle.schedule_laws.proofs.Prelude.{command_keys, duration_in, found_in, get_member, given_data, given_in, given_members, has_needed}
+use Rattle.schedule_laws.proofs.Prelude.{instances_in, is_there, is_within, item, keys_in, le-leb, ltb-true, maybe_in, name_data, name_in}
+use Rattle.schedule_laws.proofs.Prelude.{name_of-word_of, needs_of, no_items, no_members, only_keys, pattern_in, rule_at, rule_in, rule_word}
+use Rattle.schedule_laws.proofs.Prelude.{server_named, short_in, string, with_given, word_of}
+use Rattle.schedule_laws.proofs.Prelude.rule
 use Rattle.schedule_laws.proofs.Durations.{seconds-read}
 use Rattle.schedule_laws.proofs.Members.{apart, get-given, get-other, keys-given}
 
 three : (a b c : Bool) → (a && b && c) ≡ true → (a ≡ true) × (b ≡ true) × (c ≡ true)
 three true true true e = (refl, refl, refl)
-three true true false e = absurd cc
-three true false c e = absurd cc
-three false b c e = absurd cc
+three _ _ _ e = absurd cc
 
 four : (a b c d : Bool) → (a && b && c && d) ≡ true → (a ≡ true) × (b ≡ true) × (c ≡ true) × (d ≡ true)
 four true true true true e = (refl, refl, refl, refl)
-four true true true false e = absurd cc
-four true true false d e = absurd cc
-four true false c d e = absurd cc
-four false b c d e = absurd cc
+four _ _ _ _ e = absurd cc
 
 -- ---- single values
 
 rule-reads : (r : Rule) → rule_in (string (rule_word r)) ≡ Ok r
 unfolding rule_in rule_at
 rule-reads rule.Prefer = refl
-rule-reads rule.Neutral = refl
-rule-reads rule.PreferNot = refl
-rule-reads rule.MustNot = refl
+rule-reads _ = refl
 
 rules-read : (o : Option Rule) → maybe_in (codes "rule") rule_in (option_map (λ r. string (rule_word r)) o) ≡ Ok o
 rules-read None = refl

@@ -1,23 +1,12 @@
 -- Written durations read.
+use Rattle.schedule_laws.proofs.Prelude.{IsNumeralModel, all_ascii_digits, and_parts as both, before, decimal_is_IsNumeral, decimal_nonempty}
+use Rattle.schedule_laws.proofs.Prelude.{digits_decimal, digits_value, fold, is_ascii_digit, le-leb, leb-true, lt-ltb, ne_eqb, number_and_unit}
+use Rattle.schedule_laws.proofs.Prelude.{number_at, numerals_by_fold, option_map_or, pointwise, seconds_at, tells_all_ascii_digits, within}
 use Rattle.std.proofs.Common.{◌≡◌, ◌∙◌, ℕ, zero, suc, ◌+◌, ◌<◌, ◌≤◌, ◌^◌, ◌-◌, ◌*◌, Bool, true, false, cond, List, [], ◌∷◌, length, take, drop, Option, Some, None, refl, ap, arith}
 use Rattle.std.specs.Prelude.{◌&&◌, decimal, nat_eq, nat_le, nat_lt, option_map}
-use Rattle.std.specs.Char.{is_ascii_digit}
-use Rattle.std.specs.Cmp.Lexicographic.{pointwise}
-use Rattle.std.specs.List.{fold}
-use Rattle.std.specs.Option.{option_map_or}
-use Rattle.std.specs.Str.{all_ascii_digits}
-use Rattle.std.specs.Str.Parse.{digits_value}
-use Rattle.std.proofs.lemmas.Bool.{le-leb, leb-true, lt-ltb, ne_eqb}
-use Rattle.std.proofs.lemmas.Fmt.{decimal_is_IsNumeral, decimal_nonempty, digits_decimal}
-use Rattle.std.proofs.lemmas.Str.Parse.{IsNumeralModel, numerals_by_fold, tells_all_ascii_digits}
-use Rattle.commands.specs.Values.{before, number_and_unit, number_at, seconds_at, within}
 
 own : IsNumeralModel (λ ds. all_ascii_digits ds ≡ true) (λ ds. fold (λ m c. m * 10 + (c - 48)) 0 ds)
 own = numerals_by_fold (λ ds. all_ascii_digits ds ≡ true) tells_all_ascii_digits (λ n ds. fold (λ m c. m * 10 + (c - 48)) n ds) (record { empty = λ n. refl; more = λ n c cs h. refl })
-
-both : (a b : Bool) → (a && b) ≡ true → (a ≡ true) × (b ≡ true)
-both true b e = (refl, e)
-both false b e = absurd cc
 
 drop-digits : (k : ℕ) (ds : List ℕ) → all_ascii_digits ds ≡ true → all_ascii_digits (drop k ds) ≡ true
 drop-digits zero ds all = all

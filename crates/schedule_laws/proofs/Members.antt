@@ -1,16 +1,8 @@
 -- What stands in an object of given members.
 use Rattle.std.proofs.Common.{◌≡◌, ◌∙◌, ℕ, Bool, true, false, List, Option, Some, None, Ok, refl, sym, ap}
 use Rattle.std.specs.Prelude.{nat_eq}
-use Rattle.std.specs.Ordering.{nat_cmp, match_ordering}
-use Rattle.std.specs.Cmp.Lexicographic.{pointwise, slice_cmp}
-use Rattle.std.specs.declared.cmp.Ordering.{Ordering}
-use Rattle.std.specs.declared.cmp.Ordering.TheVariants.{Less, Equal, Greater}
-use Rattle.std.proofs.lemmas.Bool.{false≢true}
-use Rattle.serde_json.specs.Data.{Data, Members, no_members, member, put}
-use Rattle.serde_json.specs.Find.{get_member}
-use Rattle.serde_json.proofs.Views.{get_member-put, get_member-put_other}
-use Rattle.scenario_values.specs.Faults.{is_key, only_keys}
-use Rattle.schedules.specs.Turns.{with_given}
+use Rattle.schedule_laws.proofs.Prelude.{Data, Equal, Greater, Less, Members, Ordering, false≢true, get_member, get_member-put, get_member-put_other}
+use Rattle.schedule_laws.proofs.Prelude.{is_key, match_ordering, member, nat_cmp, no_members, only_keys, pointwise, put, slice_cmp, with_given}
 
 pub apart : (q k : List ℕ) → pointwise nat_eq q k ≡ false → pointwise nat_eq k k ≡ true → q ≡ k → ⊥
 apart q k differs equal same = false≢true (sym differs ∙ ap (λ x. pointwise nat_eq x k) same ∙ equal)

@@ -1,25 +1,13 @@
 -- Written turns read.
 use Rattle.std.proofs.Common.{◌≡◌, ℕ, ◌+◌, ◌-◌, ◌^◌, List, [], ◌∷◌, Option, Ok, All, length, refl, arith}
-use Rattle.std.proofs.lemmas.Bool.{le-leb}
-use Rattle.std.proofs.lemmas.List.Elements.{All-head, All-tail}
+use Rattle.schedule_laws.proofs.Prelude.{Act, All-head, All-tail, HostPort, IsStep, IsToldAct, IsToldTurn, NamesRead, One, Step, Turn, act_data}
+use Rattle.schedule_laws.proofs.Prelude.{amount_of, each_from, items_of, job_of, le-leb, link_in, link_of, listed_of, number_in, poll_of, poller_of}
+use Rattle.schedule_laws.proofs.Prelude.{seconds_of, server_of, step_data, turn_data, turn_in, turn_with, whole_in, word_named}
+use Rattle.schedule_laws.proofs.Prelude.act
+use Rattle.schedule_laws.proofs.Prelude.link
+use Rattle.schedule_laws.proofs.Prelude.step
+use Rattle.schedule_laws.proofs.Prelude.turn
 use Rattle.std.specs.Prelude.{nat_le, true}
-use Rattle.orch_base.specs.Names.{HostPort}
-use Rattle.server_words.specs.declared.changes.Link.TheVariants as link
-use Rattle.turns.specs.declared.turn.Act.{Act}
-use Rattle.turns.specs.declared.turn.Act.TheVariants as act
-use Rattle.turns.specs.declared.turn.Step.{Step}
-use Rattle.turns.specs.declared.turn.Step.TheVariants as step
-use Rattle.turns.specs.declared.turn.Turn.{Turn}
-use Rattle.turns.specs.declared.turn.Turn.TheVariants as turn
-use Rattle.scenarios.specs.Turns.{IsStep}
-use Rattle.scenario_values.specs.Faults.{each_from}
-use Rattle.scenario_values.specs.Values.{number_in, whole_in}
-use Rattle.scenario_turns.specs.Turns.{amount_of, job_of, link_in, link_of, poll_of, poller_of, seconds_of, server_of, turn_in, turn_with}
-use Rattle.scenario_turns.specs.Words.{word_named}
-use Rattle.scenario_turns.specs.declared.expansion.ListedTurn.TheVariants.{One}
-use Rattle.scenario_dump.specs.Texts.{items_of}
-use Rattle.schedules.specs.Turns.{act_data, step_data, turn_data}
-use Rattle.schedule_laws.specs.Reading.{IsToldAct, IsToldTurn, NamesRead, listed_of}
 use Rattle.schedule_laws.proofs.Commands.{command-reads}
 
 module _ (listed : List (Option HostPort)) (names : List HostPort) (printed : List (List ℕ)) (read : NamesRead listed names) where
@@ -69,9 +57,7 @@ module _ (listed : List (Option HostPort)) (names : List HostPort) (printed : Li
       let high : nat_le seconds 1000000000 ≡ true = le-leb seconds 1000000000 is in
       rw (low, high) refl
   turn-reads (turn.Act a) is = act-reads a is
-  turn-reads (turn.As node a) is = absurd is
-  turn-reads (turn.Claim node) is = absurd is
-  turn-reads (turn.Release node) is = absurd is
+  turn-reads _ is = absurd is
 
   reads-from : (n : ℕ) (ts : List Turn) → All (IsToldTurn (length names) printed) ts → each_from (λ k d. turn_in listed printed 1 d) n (items_of (turn_data names) ts) ≡ Ok (listed_of ts)
   reads-from n [] all = refl

@@ -1,13 +1,13 @@
 -- Turns whose texts read.
 use Rattle.std.specs.Prelude.{◌≡◌, ◌<◌, ◌≤◌, ◌^◌, ℕ, List, length, map, Option, IfSome, Ok}
-use Rattle.orch_base.specs.Names.{HostPort}
-use Rattle.orch_base.specs.declared.server.ServerNo.{ServerNo}
-use Rattle.commands.specs.declared.turn.CommandTurn.{CommandTurn}
-use Rattle.turns.specs.declared.turn.Act.{Act}
-use Rattle.turns.specs.declared.turn.Act.TheVariants as act
-use Rattle.turns.specs.declared.turn.Turn.{Turn}
-use Rattle.turns.specs.declared.turn.Turn.TheVariants as turn
-use Rattle.scenarios.specs.Turns.{IsCommand, IsStep, pollers}
+use Rattle.scenarios.specs.OrchBase.Names.{HostPort}
+use Rattle.scenarios.specs.OrchBase.declared.server.ServerNo.{ServerNo}
+use Rattle.scenarios.specs.Commands.declared.turn.CommandTurn.{CommandTurn}
+use Rattle.scenarios.specs.Turns.declared.turn.Act.{Act}
+use Rattle.scenarios.specs.Turns.declared.turn.Act.TheVariants as act
+use Rattle.scenarios.specs.Turns.declared.turn.Turn.{Turn}
+use Rattle.scenarios.specs.Turns.declared.turn.Turn.TheVariants as turn
+use Rattle.scenarios.specs.ValidTurns.{IsCommand, IsStep, pollers}
 use Rattle.scenario_servers.specs.Names.{server_named}
 use Rattle.scenario_turns.specs.KnownPatterns.{IsKnown}
 use Rattle.scenario_turns.specs.declared.expansion.ListedTurn.{ListedTurn}

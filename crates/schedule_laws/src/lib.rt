@@ -2,10 +2,10 @@
 #![tactic(auto)]
 
 ghost use Rattle.std.specs.Prelude.{◌≡◌, ℕ, All, List, Ok, Option, length};
-ghost use Rattle.orch_base.specs.Names.{HostPort};
+ghost use Rattle.scenarios.specs.OrchBase.Names.{HostPort};
 ghost use Rattle.scenario_values.specs.Faults.{each};
 ghost use Rattle.scenario_turns.specs.Turns.{turn_in};
-ghost use Rattle.turns.specs.declared.turn.Turn.{Turn};
+ghost use Rattle.scenarios.specs.Turns.declared.turn.Turn.{Turn};
 ghost use Rattle.scenario_dump.specs.Texts.{items_of};
 ghost use Rattle.schedules.specs.Turns.{turn_data};
 ghost use Rattle.schedule_laws.specs.Reading.{IsToldTurn, NamesRead, listed_of};

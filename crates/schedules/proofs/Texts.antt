@@ -1,29 +1,23 @@
 -- What is written has no float.
-use Rattle.std.proofs.Common.{◌≡◌, ℕ, Bool, true, false, List, Option, Some, None, refl}
-use Rattle.std.specs.Prelude.{◌||◌, codes, option_map, decimal}
+use Rattle.std.proofs.lemmas.Bool.{or_from as none-of}
+use Rattle.std.proofs.lemmas.Bool.{or_parts as neither}
+use Rattle.std.proofs.Common.{◌≡◌, ℕ, false, List, Option, Some, None, refl}
+use Rattle.std.specs.Prelude.{codes, option_map, decimal}
 use Rattle.std.specs.Ordering.{nat_cmp, match_ordering}
 use Rattle.std.specs.Cmp.Lexicographic.{slice_cmp}
 use Rattle.std.specs.declared.cmp.Ordering.{Ordering}
 use Rattle.std.specs.declared.cmp.Ordering.TheVariants.{Less, Equal, Greater}
 use Rattle.serde_json.specs.Data.{Data, string, Members, no_members, member, put}
 use Rattle.serde_json.specs.Written.{has_float, members_have_float}
-use Rattle.orch_base.specs.Names.{HostPort}
-use Rattle.commands.specs.declared.turn.CommandTurn.{CommandTurn}
-use Rattle.turns.specs.declared.turn.Act.{Act}
-use Rattle.turns.specs.declared.turn.Act.TheVariants as act
-use Rattle.turns.specs.declared.turn.Step.{Step}
-use Rattle.turns.specs.declared.turn.Step.TheVariants as step
-use Rattle.turns.specs.declared.turn.Turn.{Turn}
-use Rattle.turns.specs.declared.turn.Turn.TheVariants as turn
+use Rattle.scenarios.specs.OrchBase.Names.{HostPort}
+use Rattle.scenarios.specs.Commands.declared.turn.CommandTurn.{CommandTurn}
+use Rattle.scenarios.specs.Turns.declared.turn.Act.{Act}
+use Rattle.scenarios.specs.Turns.declared.turn.Act.TheVariants as act
+use Rattle.scenarios.specs.Turns.declared.turn.Step.{Step}
+use Rattle.scenarios.specs.Turns.declared.turn.Step.TheVariants as step
+use Rattle.scenarios.specs.Turns.declared.turn.Turn.{Turn}
+use Rattle.scenarios.specs.Turns.declared.turn.Turn.TheVariants as turn
 use Rattle.schedules.specs.Turns.{act_data, given_members, name_text, rule_word, step_data, turn_data, with_given}
-
-neither : (a b : Bool) → (a || b) ≡ false → (a ≡ false) × (b ≡ false)
-neither true b e = absurd cc
-neither false b e = (refl, e)
-
-none-of : (a b : Bool) → a ≡ false → b ≡ false → (a || b) ≡ false
-none-of true b e f = absurd cc
-none-of false b e f = f
 
 put-plain : (k : List ℕ) (d : Data) (ms : Members) → has_float d ≡ false → members_have_float ms ≡ false → members_have_float (put k d ms) ≡ false
 put-plain k d no_members e f = none-of (has_float d) false e refl
@@ -53,27 +47,14 @@ given_plain names t =
 
 step_plain : (names : List HostPort) (x : Step) → has_float (step_data names x) ≡ false
 step_plain names (step.Write n size) = refl
-step_plain names (step.Fetch n) = refl
-step_plain names (step.Apply n) = refl
-step_plain names (step.Fail n) = refl
-step_plain names (step.Heal n) = refl
-step_plain names (step.Cut n l) = refl
-step_plain names (step.Join n l) = refl
-step_plain names (step.Rotate n) = refl
-step_plain names (step.Purge n file) = refl
+step_plain names _ = refl
 
 act_plain : (names : List HostPort) (a : Act) → has_float (act_data names a) ≡ false
-act_plain names (act.PollRead p n) = refl
-act_plain names (act.PollStore p) = refl
 act_plain names (act.Command c) = none-of (members_have_float (given_members names c)) false (given_plain names c) refl
-act_plain names (act.Job job) = refl
-act_plain names act.Scan = refl
-act_plain names act.Restart = refl
+act_plain names _ = refl
 
 pub no_float : (names : List HostPort) (t : Turn) → has_float (turn_data names t) ≡ false
 no_float names (turn.Step x) = step_plain names x
-no_float names (turn.Tick seconds) = refl
 no_float names (turn.Act a) = act_plain names a
 no_float names (turn.As node a) = none-of (has_float (act_data names a)) false (act_plain names a) refl
-no_float names (turn.Claim node) = refl
-no_float names (turn.Release node) = refl
+no_float names _ = refl

@@ -2,21 +2,21 @@
 use Rattle.std.specs.Prelude.{ℕ, List, [], ◌++◌, codes, decimal, option_map, unwrap_or, slice_get, Option, Some, None}
 use Rattle.serde_json.specs.Data.{Data, number, unsigned, string, array, object, no_items, item, Members, no_members, put}
 use Rattle.serde_json.specs.Written.{compact_text}
-use Rattle.orch_base.specs.declared.rule.Rule.{Rule}
-use Rattle.orch_base.specs.declared.rule.Rule.TheVariants as rule
-use Rattle.orch_base.specs.declared.server.ServerNo.{ServerNo}
-use Rattle.orch_base.specs.Names.{HostPort, printed}
-use Rattle.server_words.specs.declared.changes.Link.{Link}
-use Rattle.server_words.specs.declared.changes.Link.TheVariants as link
+use Rattle.scenarios.specs.OrchBase.declared.rule.Rule.{Rule}
+use Rattle.scenarios.specs.OrchBase.declared.rule.Rule.TheVariants as rule
+use Rattle.scenarios.specs.OrchBase.declared.server.ServerNo.{ServerNo}
+use Rattle.scenarios.specs.OrchBase.Names.{HostPort, printed}
+use Rattle.scenarios.specs.ServerWords.declared.changes.Link.{Link}
+use Rattle.scenarios.specs.ServerWords.declared.changes.Link.TheVariants as link
 use Rattle.scenario_dump.specs.Texts.{list_data}
-use Rattle.commands.specs.Names.{word_of}
-use Rattle.commands.specs.declared.turn.CommandTurn.{CommandTurn}
-use Rattle.turns.specs.declared.turn.Act.{Act}
-use Rattle.turns.specs.declared.turn.Act.TheVariants as act
-use Rattle.turns.specs.declared.turn.Step.{Step}
-use Rattle.turns.specs.declared.turn.Step.TheVariants as step
-use Rattle.turns.specs.declared.turn.Turn.{Turn}
-use Rattle.turns.specs.declared.turn.Turn.TheVariants as turn
+use Rattle.scenarios.specs.Commands.Names.{word_of}
+use Rattle.scenarios.specs.Commands.declared.turn.CommandTurn.{CommandTurn}
+use Rattle.scenarios.specs.Turns.declared.turn.Act.{Act}
+use Rattle.scenarios.specs.Turns.declared.turn.Act.TheVariants as act
+use Rattle.scenarios.specs.Turns.declared.turn.Step.{Step}
+use Rattle.scenarios.specs.Turns.declared.turn.Step.TheVariants as step
+use Rattle.scenarios.specs.Turns.declared.turn.Turn.{Turn}
+use Rattle.scenarios.specs.Turns.declared.turn.Turn.TheVariants as turn
 
 abbrev pub whole : ℕ → Data
 whole n = number (unsigned n)

@@ -5,10 +5,10 @@ ghost use Rattle.serde_json.specs.Data.{string};
 ghost use Rattle.serde_json.specs.View.{members_view, view};
 ghost use Rattle.schedules.specs.Turns.{given_data, name_data, rule_word, with_given};
 
+use crate::commands::{CommandTurn, Found};
+use crate::orch_base::{Memory, Name, OwnedText, Rule, ServerNo};
 use crate::words::{name_string, rule_word};
-use commands::{CommandTurn, Found};
 use itoa::Buffer;
-use orch_base::{Memory, Name, OwnedText, Rule, ServerNo};
 use serde_json::{Map, Value, put};
 use std::alloc::Global;
 

@@ -6,4 +6,5 @@ mod schedule;
 mod turn;
 mod words;
 
+use scenarios::{commands, orch_base, server_words_items, turns};
 pub use schedule::schedule_text;

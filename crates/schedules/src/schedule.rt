@@ -5,10 +5,10 @@ ghost use Rattle.serde_json.specs.Written.{comma_if, compact_text};
 ghost use Rattle.scenario_dump.specs.Texts.{list_data};
 ghost use Rattle.schedules.specs.Turns.{schedule_line, turn_data};
 
+use crate::orch_base::{Memory, Name};
 use crate::turn::turn_value;
-use orch_base::{Memory, Name};
+use crate::turns::{Reply, Turn};
 use std::alloc::Global;
-use turns::{Reply, Turn};
 
 // A comma, where something stands before.
 fn comma(later: bool) -> &'static [u8]

@@ -6,13 +6,13 @@ ghost use Rattle.serde_json.specs.View.{view};
 ghost use Rattle.schedules.specs.Turns.{act_data, link_word, name_data, step_data, turn_data, whole, with_one, with_two};
 
 use crate::command::given_value;
+use crate::commands::CommandTurn;
+use crate::orch_base::{Memory, Name, ServerNo};
+use crate::server_words_items::Link;
+use crate::turns::{Act, Step, Turn};
 use crate::words::{link_word, name_string};
-use commands::CommandTurn;
-use orch_base::{Memory, Name, ServerNo};
 use serde_json::{Value, json};
-use server_words::Link;
 use std::alloc::Global;
-use turns::{Act, Step, Turn};
 
 // A word and a server.
 fn at_server(alloc: Global, names: &[Name], word: &str, no: ServerNo) -> Result<Value, Memory>

@@ -1,11 +1,11 @@
 //! Names and words in texts.
 
 ghost use Rattle.std.specs.Prelude.{◌≡◌, IfOk, string_bytes};
-ghost use Rattle.orch_base.specs.Names.{printed};
+ghost use Rattle.scenarios.specs.OrchBase.Names.{printed};
 ghost use Rattle.schedules.specs.Turns.{link_word, name_text, rule_word};
 
-use orch_base::{Memory, Name, Rule, ServerNo};
-use server_words::Link;
+use crate::orch_base::{Memory, Name, Rule, ServerNo};
+use crate::server_words_items::Link;
 use std::alloc::Global;
 
 #[tactic(auto, using(row_texts::proofs::Printed::name_is_utf8))]

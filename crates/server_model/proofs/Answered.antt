@@ -1,12 +1,8 @@
 -- What the code of the exchanges answers and leaves is what the definitions say.
 use Rattle.std.proofs.Common.{◌≡◌, ℕ, ◌+◌, ◌<◌, Bool, true, false, cond, List, length, refl, subst, Some, arith}
 use Rattle.std.specs.Prelude.{slice_get, slice_set, nat_le}
-use Rattle.std.proofs.lemmas.Bool.Decides.{nat_tests}
-use Rattle.orch_base.specs.Histories.{count_own}
-use Rattle.server_model.specs.Worlds.{World, server_at, has_source}
-use Rattle.server_model.specs.Exchanges.{took, own_txn, write_answer, after_write}
-use Rattle.server_words.specs.declared.answers.WriteAnswer.TheVariants as wrote
-use Rattle.server_model.specs.declared.server.Server.{Server}
+use Rattle.server_model.proofs.Prelude.{Server, World, after_write, count_own, has_source, nat_tests, own_txn, server_at, took, write_answer}
+use Rattle.server_model.proofs.Prelude.wrote
 
 pub write-answered : (w : World) (n own : ℕ) (s : Server) → server_at w n ≡ Some s → s.up ≡ true → s.read_only ≡ false → length s.history.txns < s.history.room
     → own ≡ count_own n s.history.txns → wrote.Done (own + 1) ≡ write_answer n (server_at w n)

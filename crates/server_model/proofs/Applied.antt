@@ -1,26 +1,15 @@
 -- What an apply executes, and that it keeps what is kept.
 use Rattle.std.proofs.Common.{◌≡◌, ℕ, ◌<◌, ◌≤◌, Bool, true, false, not, cond, List, length, refl, sym, ◌∙◌, ap, subst, Option, Some, None, arith, ◌&&◌}
 use Rattle.std.specs.Prelude.{slice_get, slice_set, nat_le}
-use Rattle.std.proofs.lemmas.Option.{same_Some}
-use Rattle.binlog_coords.specs.declared.Coord.{Coord}
-use Rattle.binlog_coords.specs.declared.Next.{Next}
-use Rattle.binlog_coords.specs.declared.Next.TheVariants as next
-use Rattle.binlog_coords.specs.Log.{same_coord, next_after}
-use Rattle.orch_base.specs.declared.server.Txn.{Txn}
-use Rattle.orch_base.specs.declared.server.SourceState.{SourceState}
-use Rattle.orch_base.specs.declared.server.SourceState.TheVariants.{Without, Attached, Detached}
-use Rattle.orch_base.specs.Histories.{holds}
-use Rattle.server_words.specs.declared.changes.Ask.TheVariants as asking
-use Rattle.server_words.specs.declared.changes.Threads.TheVariants as threads
-use Rattle.server_model.specs.Worlds.{World, server_at, source_no}
-use Rattle.server_model.specs.Exchanges.{took, apply_step, apply_from, apply_txn, applied, attached_at, is_applying, is_reached, after_apply, IsReady}
-use Rattle.server_model.specs.Fit.{HasPlaces, IsKept}
-use Rattle.server_model.specs.Steps.{applier_did}
-use Rattle.server_model.specs.declared.decisions.ApplyStep.{ApplyStep}
-use Rattle.server_model.specs.declared.decisions.ApplyStep.TheVariants as applying
-use Rattle.server_model.specs.declared.server.Server.{Server}
-use Rattle.gtid_sets.specs.Reserved.{Reserved}
-use Rattle.server_model.specs.Gtids.{IsNumbered, AreGtids}
+use Rattle.server_model.proofs.Prelude.{ApplyStep, AreGtids, Attached, Coord, Detached, HasPlaces, IsKept, IsNumbered, IsReady, Next, Reserved}
+use Rattle.server_model.proofs.Prelude.{Server, SourceState, Txn, Without, World, after_apply, applied, applier_did, apply_from, apply_step}
+use Rattle.server_model.proofs.Prelude.{apply_txn, attached_at, is_applying, is_reached, next_after, same_coord, same_Some, server_at, source_no}
+use Rattle.server_model.proofs.Prelude.{took}
+use Rattle.server_model.proofs.Prelude.Histories.{holds}
+use Rattle.server_model.proofs.Prelude.applying
+use Rattle.server_model.proofs.Prelude.asking
+use Rattle.server_model.proofs.Prelude.next
+use Rattle.server_model.proofs.Prelude.threads
 use Rattle.server_model.proofs.ExecutedSets.{numbered-at}
 use Rattle.server_model.proofs.Lists.{set_self}
 use Rattle.server_model.proofs.Changed.{IsUntouched, moved-asked, IsKept-moved}
@@ -37,13 +26,10 @@ apply_step-on w n r o at on far from =
 
 -- where a step moves the executed coordinate, if it does
 abbrev pub moves_to : ApplyStep → Option Coord
-moves_to applying.Halt = None
-moves_to applying.ForgetUntil = None
-moves_to applying.Idle = None
-moves_to applying.NoRoom = None
 moves_to (applying.Pass to) = Some to
 moves_to (applying.Skip to) = Some to
 moves_to (applying.Execute t to) = Some to
+moves_to _ = None
 
 -- the source of an applier that goes on, and what it makes of what follows there
 pub record IsStep (servers : List Server) (gtid : Bool) (r : Server) (step : ApplyStep) : Type 0 where
@@ -145,13 +131,8 @@ ready_in w servers gtid errant n r step view here ready =
 
 -- what any other step than an execution does leaves the settings, the history and the log
 pub applier-untouched : (step : ApplyStep) (r : Server) → ((t : Txn) (to : Coord) → step ≡ applying.Execute t to → ⊥) → IsUntouched r (applier_did step r)
-applier-untouched applying.Halt r other = record { settings = refl; history = refl; log = refl; first = refl }
-applier-untouched applying.Idle r other = record { settings = refl; history = refl; log = refl; first = refl }
-applier-untouched applying.NoRoom r other = record { settings = refl; history = refl; log = refl; first = refl }
-applier-untouched applying.ForgetUntil r other = record { settings = refl; history = refl; log = refl; first = refl }
-applier-untouched (applying.Pass to) r other = record { settings = refl; history = refl; log = refl; first = refl }
-applier-untouched (applying.Skip to) r other = record { settings = refl; history = refl; log = refl; first = refl }
 applier-untouched (applying.Execute t to) r other = absurd (other t to refl)
+applier-untouched _ r other = record { settings = refl; history = refl; log = refl; first = refl }
 
 module _ (servers : List Server) (gtid : Bool) (errant n : ℕ) (r : Server) (here : slice_get servers n ≡ Some r) where
   abbrev the_world : World
@@ -165,9 +146,6 @@ module _ (servers : List Server) (gtid : Bool) (errant n : ℕ) (r : Server) (he
 
   -- what an applier does keeps what is kept
   applied-kept : (step : ApplyStep) → IsKept servers errant → apply_step the_world (Some r) ≡ step → IsReady (Some r) step → IsKept (slice_set servers n (applier_did step r)) errant
-  applied-kept applying.Halt kept is ready = unchanged kept
-  applied-kept applying.Idle kept is ready = unchanged kept
-  applied-kept applying.NoRoom kept is ready = unchanged kept
   applied-kept applying.ForgetUntil kept is ready =
       IsKept-moved servers errant n r kept here (record r { applier = false; until = None }) (moved-asked r (asking.Stop threads.Applier))
   applied-kept (applying.Pass to) kept is ready =
@@ -176,6 +154,7 @@ module _ (servers : List Server) (gtid : Bool) (errant n : ℕ) (r : Server) (he
       IsKept-exec servers gtid errant n r (applying.Skip to) to refl kept here (on_step (applying.Skip to) to refl is)
   applied-kept (applying.Execute t to) kept is ready =
       IsKept-execute servers gtid errant n r (applying.Execute t to) to refl kept here (on_step (applying.Execute t to) to refl is) t ready.0 ready.1 ready.2
+  applied-kept _ kept is ready = unchanged kept
 
   same_world : record { servers = slice_set servers n r; gtid = gtid; errant = errant } ≡ the_world
   same_world = ap (λ (ss : List Server). record { servers = ss; gtid = gtid; errant = errant }) (set_self servers n r here)
@@ -185,10 +164,7 @@ module _ (servers : List Server) (gtid : Bool) (errant n : ℕ) (r : Server) (he
   left-of applying.Halt = same_world
   left-of applying.Idle = same_world
   left-of applying.NoRoom = same_world
-  left-of applying.ForgetUntil = refl
-  left-of (applying.Pass to) = refl
-  left-of (applying.Skip to) = refl
-  left-of (applying.Execute t to) = refl
+  left-of _ = refl
 
   pub IsKept-applied : (w : World) (step : ApplyStep) → the_world ≡ w → step ≡ apply_step w (server_at w n) → IsReady (server_at w n) step → IsKept servers errant
       → IsKept (slice_set servers n (applier_did step r)) errant

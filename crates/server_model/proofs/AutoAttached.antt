@@ -1,24 +1,13 @@
 -- A change of source by a set.
 use Rattle.std.proofs.Common.{◌≡◌, ℕ, ◌≤◌, Bool, true, false, cond, not, List, [], ◌∷◌, length, get_or, refl, sym, ◌∙◌, ap, subst, Some, Result, Ok, Err, arith, ◌&&◌, ◌||◌}
 use Rattle.std.specs.Prelude.{slice_get, slice_set, option_map, nat_lt, MatchOption, ⊤}
-use Rattle.std.proofs.lemmas.List.Sums.{prefix_len-le-length}
-use Rattle.std.proofs.lemmas.Option.{same_Some, slice_get_within}
-use Rattle.binlog_coords.specs.declared.Coord.{Coord}
-use Rattle.binlog_coords.specs.Log.{coord_after, file_start, has_place}
-use Rattle.binlog_coords.proofs.Places.{Laid-Grown, place-coord_after, place-parts}
-use Rattle.gtid_sets.specs.Reserved.{Reserved}
-use Rattle.gtid_sets.specs.Sets.{holds, IsSet}
-use Rattle.gtid_sets.specs.declared.interval.Interval.{Interval}
-use Rattle.orch_base.specs.Gives.{Gives}
-use Rattle.orch_base.specs.declared.server.ServerNo.{ServerNo}
-use Rattle.orch_base.specs.declared.server.Txn.{Txn}
-use Rattle.server_model.specs.Attach.{chain_meets, purged_answer, spot_below}
-use Rattle.server_model.specs.Gtids.{uuids, uuids_in, set_of, has_gtid, held_len, held_of, kept_coord, purged_len, auto_purged, auto_coord, auto_readiness, auto_decision, answer_by_sets, errant_answer, errant_set, attach_auto_answer, attached_auto, after_attach_auto, attach_fault, IsAutoTarget, IsSetOf}
-use Rattle.server_model.specs.Fit.{IsFit}
-use Rattle.server_model.specs.Worlds.{World, server_at, sources}
-use Rattle.server_words.specs.declared.attach.AttachFault.{AttachFault}
-use Rattle.server_words.specs.declared.attach.AttachFault.TheVariants as attaching
-use Rattle.server_model.specs.declared.server.Server.{Server}
+use Rattle.server_model.proofs.Prelude.{AttachFault, Coord, Gives, Interval, IsAutoTarget, IsFit, IsSet, IsSetOf, Laid-Grown, Reserved, Server}
+use Rattle.server_model.proofs.Prelude.{ServerNo, Txn, World, after_attach_auto, answer_by_sets, attach_auto_answer, attach_fault, attached_auto}
+use Rattle.server_model.proofs.Prelude.{auto_coord, auto_decision, auto_purged, auto_readiness, chain_meets, coord_after, errant_answer, errant_set}
+use Rattle.server_model.proofs.Prelude.{file_start, has_gtid, has_place, held_len, held_of, holds, kept_coord, place-coord_after, place-parts}
+use Rattle.server_model.proofs.Prelude.{prefix_len-le-length, purged_answer, purged_len, same_Some, server_at, set_of, slice_get_within, sources}
+use Rattle.server_model.proofs.Prelude.{spot_below, uuids, uuids_in}
+use Rattle.server_model.proofs.Prelude.attaching
 use Rattle.server_model.proofs.Changed.{chain-apart}
 use Rattle.server_model.proofs.Errants.{errant-is}
 use Rattle.server_model.proofs.Lists.{slice_get-index}
@@ -47,10 +36,8 @@ pub ready-loops : (s : Server) (loops : Bool) → auto_readiness s loops ≡ Ok 
 ready-loops s loops h = go (s.up && s.desk) (s.receiver || s.applier) loops h
   where
     go : (a b d : Bool) → readied s a b d ≡ Ok tt → d ≡ false
-    go false b d h = cc
-    go true true d h = cc
-    go true false true h = cc
     go true false false h = refl
+    go _ _ _ h = cc
 
 decided-ready : (ready : Result (Unit {0}) AttachFault) (errant : List Interval) (later : Result (Unit {0}) AttachFault) → answer_by_sets ready errant later ≡ Ok tt → ready ≡ Ok tt
 decided-ready (Err fault) errant later h = h

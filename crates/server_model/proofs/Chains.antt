@@ -1,10 +1,7 @@
 -- Walks up the sources.
 use Rattle.std.proofs.Common.{◌≡◌, ℕ, ◌+◌, ◌-◌, ◌<◌, true, false, sym, subst, ap, ◌||◌, Option, Some, None, arith, suc, ◌∙◌}
 use Rattle.std.specs.Prelude.{◌==◌}
-use Rattle.std.proofs.lemmas.Bool.{eq-eqb, ne_eqb}
-use Rattle.std.proofs.lemmas.Option.{same_Some}
-use Rattle.orch_base.specs.Chains.{Grounded, Root, Under}
-use Rattle.server_model.specs.Attach.{chain_meets, chain_on}
+use Rattle.server_model.proofs.Prelude.{Grounded, Root, Under, chain_meets, chain_on, eq-eqb, ne_eqb, same_Some}
 
 -- one step of the walk
 pub chain_meets-step : (up : ℕ → Option ℕ) (k i at n : ℕ) → i < k → chain_meets up (k - i) at n ≡ (at == n || chain_on (λ m. chain_meets up (k - (i + 1)) m n) (up at))

@@ -1,39 +1,21 @@
 -- A change of one server that leaves its history and log keeps what is kept; so does a new file of its log.
 use Rattle.std.proofs.Common.{◌≡◌, ℕ, ◌<◌, ◌≤◌, Bool, true, false, not, cond, List, length, take, refl, sym, ◌∙◌, ap, subst, Option, Some, None, Result, Ok, Err, arith, ◌&&◌, ◌||◌, zero, suc}
 use Rattle.std.specs.Prelude.{slice_get, slice_set, ◌==◌, All, nat_lt, unwrap_or}
-use Rattle.std.proofs.lemmas.Bool.{eq-eqb, false≢true}
-use Rattle.std.proofs.lemmas.Option.{same_Some}
-use Rattle.binlog_coords.specs.declared.Coord.{Coord}
-use Rattle.binlog_coords.specs.Grown as grown
-use Rattle.binlog_coords.specs.Log.{place, has_place, file_start, flush, end_of}
-use Rattle.binlog_coords.proofs.Places.{stable_flush}
-use Rattle.orch_base.specs.declared.server.ServerNo.{ServerNo}
-use Rattle.orch_base.specs.declared.server.SourceState.{SourceState}
-use Rattle.orch_base.specs.declared.server.SourceState.TheVariants.{Without, Attached, Detached}
-use Rattle.server_model.specs.Attach.{spot_below, live_spot, same_spot, chain_meets, first_kept, purged_answer, attach_decision, attach_answer, attached_to, after_attach, IsTarget}
-use Rattle.server_words.specs.declared.attach.Spot.{Spot}
-use Rattle.server_words.specs.declared.attach.AttachFault.{AttachFault}
-use Rattle.server_words.specs.declared.attach.AttachFault.TheVariants as attaching
-use Rattle.server_model.specs.Desk.{stopped, started, detached, reattached, without_source, asked, detached_source, attached_source, with_link, healed, befallen, rotated, desk_answer, after_desk, befall, rotate_answer, after_rotate, is_detached}
-use Rattle.server_model.specs.Exchanges.{is_attached}
-use Rattle.server_model.specs.Gtids.{purged_len, AreGtids}
-use Rattle.server_model.specs.Kept.{Kept}
-use Rattle.binlog_coords.specs.Index.{Index}
-use Rattle.gtid_sets.specs.Reserved.{Reserved}
-use Rattle.server_model.specs.Fit.{HasPlaces, HasSize, IsFit, IsKept}
-use Rattle.server_model.specs.Worlds.{World, server_at, source_no, sources}
-use Rattle.server_model.specs.Purging.{after_purge}
-use Rattle.server_words.specs.declared.answers.PurgeAnswer.TheVariants as purging
-use Rattle.server_words.specs.declared.answers.RotateAnswer.TheVariants as rotating
-use Rattle.server_words.specs.declared.changes.Ask.{Ask}
-use Rattle.server_words.specs.declared.changes.Ask.TheVariants as asking
-use Rattle.server_words.specs.declared.changes.Event.{Event}
-use Rattle.server_words.specs.declared.changes.Event.TheVariants as event
-use Rattle.server_words.specs.declared.changes.Link.{Link}
-use Rattle.server_words.specs.declared.changes.Link.TheVariants as link
-use Rattle.server_words.specs.declared.changes.Threads.{Threads}
-use Rattle.server_words.specs.declared.changes.Threads.TheVariants as threads
-use Rattle.server_model.specs.declared.server.Server.{Server}
+use Rattle.server_model.proofs.Prelude.{AreGtids, Ask, Attached, AttachFault, Coord, Detached, Event, HasPlaces, HasSize, Index, IsFit, IsKept}
+use Rattle.server_model.proofs.Prelude.{IsTarget, Kept, Link, Reserved, Server, ServerNo, SourceState, Spot, Threads, Without, World, after_attach}
+use Rattle.server_model.proofs.Prelude.{after_desk, after_purge, after_rotate, asked, attach_answer, attach_decision, attached_source, attached_to}
+use Rattle.server_model.proofs.Prelude.{befall, befallen, chain_meets, desk_answer, detached, detached_source, end_of, eq-eqb, false≢true, file_start}
+use Rattle.server_model.proofs.Prelude.{first_kept, flush, has_place, healed, is_attached, is_detached, live_spot, place, purged_answer, purged_len}
+use Rattle.server_model.proofs.Prelude.{reattached, rotate_answer, rotated, same_Some, same_spot, server_at, source_no, sources, spot_below}
+use Rattle.server_model.proofs.Prelude.{stable_flush, started, stopped, with_link, without_source}
+use Rattle.server_model.proofs.Prelude.asking
+use Rattle.server_model.proofs.Prelude.attaching
+use Rattle.server_model.proofs.Prelude.event
+use Rattle.server_model.proofs.Prelude.grown
+use Rattle.server_model.proofs.Prelude.link
+use Rattle.server_model.proofs.Prelude.purging
+use Rattle.server_model.proofs.Prelude.rotating
+use Rattle.server_model.proofs.Prelude.threads
 use Rattle.server_model.proofs.Keeps.{IsKept-any, IsKept-with}
 use Rattle.server_model.proofs.Lists.{set_self}
 use Rattle.server_model.proofs.ExecutedSets.{AreGtids-still}
@@ -282,11 +264,8 @@ pub joined-loops : (s : Server) (expect : Spot) (loops : Bool) (first : ℕ) (at
 joined-loops s expect loops first at h = go (s.up && s.desk) (s.receiver || s.applier) (same_spot expect (live_spot s expect)) loops h
   where
     go : (a b c d : Bool) → decided s expect (purged_answer (nat_lt at.file first) first) a b c d ≡ Ok tt → d ≡ false
-    go false b c d h = cc
-    go true true c d h = cc
-    go true false false d h = cc
-    go true false true true h = cc
     go true false true false h = refl
+    go _ _ _ _ h = cc
 
 pub attached-left : (w : World) (servers : List Server) (gtid : Bool) (errant n : ℕ) (to : ServerNo) (at : Coord) (s s' : Server) → record { servers = servers; gtid = gtid; errant = errant } ≡ w
     → slice_get servers n ≡ Some s → s' ≡ attached_to to at s

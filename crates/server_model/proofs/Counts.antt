@@ -1,57 +1,35 @@
 -- No exchange adds a server or takes one away.
 use Rattle.std.proofs.Common.{◌≡◌, ◌∙◌, ℕ, false, List, [], ◌∷◌, length, refl, Option, Some, None}
-use Rattle.std.proofs.lemmas.List.{length-set}
+use Rattle.server_model.proofs.Prelude.{Apply, ApplyStep, Ask, Attach, AttachAuto, AttachFault, Befall, Coord, Exchange, Fetch, FetchStep, Purge}
+use Rattle.server_model.proofs.Prelude.{PurgeAnswer, Request, Rotate, RotateAnswer, Server, ServerNo, Unreachable, World, Write, WriteAnswer, after}
+use Rattle.server_model.proofs.Prelude.{after_apply, after_attach, after_attach_auto, after_change, after_desk, after_fetch, after_purge}
+use Rattle.server_model.proofs.Prelude.{after_rotate, after_write, apply_step, asked, attach_answer, attach_auto_answer, attached_auto, attached_to}
+use Rattle.server_model.proofs.Prelude.{auto_coord, befallen, desk_answer, fetch_step, length-set, own_txn, purge_answer, rotate_answer, rotated, run}
+use Rattle.server_model.proofs.Prelude.{server_at, took, uuids, write_answer}
+use Rattle.server_model.proofs.Prelude.applying
+use Rattle.server_model.proofs.Prelude.next
+use Rattle.server_model.proofs.Prelude.purging
+use Rattle.server_model.proofs.Prelude.receiving
+use Rattle.server_model.proofs.Prelude.rotating
+use Rattle.server_model.proofs.Prelude.wrote
 use Rattle.std.specs.Prelude.{Result, Ok, Err}
-use Rattle.binlog_coords.specs.declared.Coord.{Coord}
-use Rattle.binlog_coords.specs.declared.Next.TheVariants as next
-use Rattle.orch_base.specs.declared.server.ServerNo.{ServerNo}
-use Rattle.server_model.specs.declared.decisions.ApplyStep.{ApplyStep}
-use Rattle.server_model.specs.declared.decisions.ApplyStep.TheVariants as applying
-use Rattle.server_model.specs.declared.decisions.FetchStep.{FetchStep}
-use Rattle.server_model.specs.declared.decisions.FetchStep.TheVariants as receiving
-use Rattle.server_words.specs.declared.answers.PurgeAnswer.{PurgeAnswer}
-use Rattle.server_words.specs.declared.answers.PurgeAnswer.TheVariants as purging
-use Rattle.server_words.specs.declared.answers.RotateAnswer.{RotateAnswer}
-use Rattle.server_words.specs.declared.answers.RotateAnswer.TheVariants as rotating
-use Rattle.server_words.specs.declared.answers.Unreachable.{Unreachable}
-use Rattle.server_words.specs.declared.answers.WriteAnswer.{WriteAnswer}
-use Rattle.server_words.specs.declared.answers.WriteAnswer.TheVariants as wrote
-use Rattle.server_words.specs.declared.attach.AttachFault.{AttachFault}
-use Rattle.server_words.specs.declared.changes.Ask.{Ask}
-use Rattle.server_model.specs.declared.server.Server.{Server}
-use Rattle.server_model.specs.Exchanges.{took, own_txn, write_answer, after_write, fetch_step, after_fetch, apply_step, after_apply}
-use Rattle.server_model.specs.Attach.{attach_answer, attached_to, after_attach}
-use Rattle.server_model.specs.Desk.{asked, befallen, rotated, desk_answer, rotate_answer, after_change, after_desk, after_rotate}
-use Rattle.server_model.specs.Gtids.{attach_auto_answer, after_attach_auto, attached_auto, auto_coord, uuids}
-use Rattle.server_model.specs.Purging.{purge_answer, after_purge}
-use Rattle.server_model.specs.Run.{Exchange, Write, Fetch, Apply, Request, Befall, Rotate, Purge, Attach, AttachAuto, after, run}
-use Rattle.server_model.specs.Worlds.{World, server_at}
 
 servers-write : (w : World) (n size : ℕ) (o : Option Server) (a : WriteAnswer) → length (after_write w n size o a).servers ≡ length w.servers
-servers-write w n size None a = refl
-servers-write w n size (Some s) wrote.Down = refl
-servers-write w n size (Some s) wrote.ReadOnly = refl
-servers-write w n size (Some s) wrote.Full = refl
 servers-write w n size (Some s) (wrote.Done seq) = length-set w.servers n (took s (own_txn n seq size))
+servers-write w n size _ _ = refl
 
 servers-fetch : (w : World) (n : ℕ) (o : Option Server) (a : FetchStep) → length (after_fetch w n o a).servers ≡ length w.servers
-servers-fetch w n None a = refl
-servers-fetch w n (Some r) receiving.Halt = refl
-servers-fetch w n (Some r) receiving.Unlinked = refl
 servers-fetch w n (Some r) (receiving.Refuse first) = length-set w.servers n (record r { receiver = false })
 servers-fetch w n (Some r) (receiving.Take (next.Entry index to)) = length-set w.servers n (record r { read = to })
 servers-fetch w n (Some r) (receiving.Take (next.Rotate to)) = length-set w.servers n (record r { read = to })
-servers-fetch w n (Some r) (receiving.Take next.End) = refl
+servers-fetch w n _ _ = refl
 
 servers-apply : (w : World) (n : ℕ) (o : Option Server) (a : ApplyStep) → length (after_apply w n o a).servers ≡ length w.servers
-servers-apply w n None a = refl
-servers-apply w n (Some r) applying.Halt = refl
 servers-apply w n (Some r) applying.ForgetUntil = length-set w.servers n (record r { applier = false; until = None })
-servers-apply w n (Some r) applying.Idle = refl
-servers-apply w n (Some r) applying.NoRoom = refl
 servers-apply w n (Some r) (applying.Pass to) = length-set w.servers n (record r { exec = to })
 servers-apply w n (Some r) (applying.Skip to) = length-set w.servers n (record r { exec = to })
 servers-apply w n (Some r) (applying.Execute t to) = length-set w.servers n (record (took r t) { exec = to })
+servers-apply w n _ _ = refl
 
 servers-change : (w : World) (n : ℕ) (f : Server → Server) (o : Option Server) → length (after_change w n f o).servers ≡ length w.servers
 servers-change w n f None = refl
@@ -62,18 +40,12 @@ servers-ask w n a (Ok t) = servers-change w n (asked a) (server_at w n)
 servers-ask w n a (Err e) = refl
 
 servers-rotate : (w : World) (n : ℕ) (o : Option Server) (answer : RotateAnswer) → length (after_rotate w n o answer).servers ≡ length w.servers
-servers-rotate w n None answer = refl
-servers-rotate w n (Some s) rotating.Down = refl
-servers-rotate w n (Some s) rotating.NotLogging = refl
-servers-rotate w n (Some s) rotating.Full = refl
 servers-rotate w n (Some s) (rotating.Done c) = length-set w.servers n (rotated s)
+servers-rotate w n _ _ = refl
 
 servers-purge : (w : World) (n : ℕ) (o : Option Server) (answer : PurgeAnswer) → length (after_purge w n o answer).servers ≡ length w.servers
-servers-purge w n None answer = refl
-servers-purge w n (Some s) purging.Down = refl
-servers-purge w n (Some s) purging.NotLogging = refl
-servers-purge w n (Some s) purging.NoFile = refl
 servers-purge w n (Some s) (purging.Done first) = length-set w.servers n (record s { first = first })
+servers-purge w n _ _ = refl
 
 servers-attach : (w : World) (n : ℕ) (to : ServerNo) (c : Coord) (o : Option Server) (answer : Result (Unit {0}) AttachFault)
     → length (after_attach w n to c o answer).servers ≡ length w.servers

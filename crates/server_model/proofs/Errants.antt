@@ -1,17 +1,9 @@
 -- What a server has executed beyond an observed set.
+use Rattle.server_model.proofs.Prelude.{All-head, All-nil, All-tail, Interval, IsInterval, IsSet, IsSet-with_pair, Txn, and_parts, eqb-true}
+use Rattle.server_model.proofs.Prelude.{errant_set, false≢true, filter, fold, get_or_from_slice_get, has_gtid, holds, largest, list_any, nat_tests}
+use Rattle.server_model.proofs.Prelude.{or_right, same_sets_lem, set_of, slice_get_within, spans, with_gtid}
 use Rattle.std.proofs.Common.{◌≡◌, ℕ, ◌^◌, ◌<◌, ◌≤◌, Bool, true, false, cond, not, List, [], ◌∷◌, length, refl, sym, ◌∙◌, ap, subst, arith, get_or, zero, suc}
 use Rattle.std.specs.Prelude.{slice_get, Some, ◌==◌, ◌&&◌, ◌||◌, All}
-use Rattle.std.specs.List.{filter, fold, list_any}
-use Rattle.std.proofs.lemmas.Bool.{and_parts, eqb-true, false≢true}
-use Rattle.std.proofs.lemmas.Bool.Decides.{nat_tests}
-use Rattle.std.proofs.lemmas.Option.{get_or_from_slice_get, slice_get_within}
-use Rattle.std.proofs.lemmas.List.Elements.{All-head, All-tail, All-nil}
-use Rattle.gtid_sets.specs.Sets.{holds, spans, largest, IsInterval, IsSet}
-use Rattle.gtid_sets.specs.declared.interval.Interval.{Interval}
-use Rattle.gtid_sets.proofs.Inserts.{IsSet-with_pair}
-use Rattle.gtid_sets.proofs.SameSets.{same_sets_lem}
-use Rattle.orch_base.specs.declared.server.Txn.{Txn}
-use Rattle.server_model.specs.Gtids.{has_gtid, with_gtid, set_of, errant_set}
 use Rattle.server_model.proofs.ExecutedSets.{is_gtid, holds-set_of}
 
 -- a GTID that a set may have
@@ -39,10 +31,6 @@ held_fits (s ∷ xs) u n all h = go (spans u n s) refl h (λ k. held_fits xs u n
 
 self_gtid : (uuid : ℕ → ℕ) (t : Txn) → is_gtid uuid (uuid t.origin.0) t.seq t ≡ true
 self_gtid uuid t = grind (arith, nat_tests)
-
-or_right : (a b : Bool) → b ≡ true → (a || b) ≡ true
-or_right true b e = refl
-or_right false b e = e
 
 any-at : (uuid : ℕ → ℕ) (txns : List Txn) (k : ℕ) (d : Txn) → k < length txns → list_any (is_gtid uuid (uuid (get_or txns k d).origin.0) (get_or txns k d).seq) txns ≡ true
 any-at uuid [] k d h = absurd (omega arith)

@@ -1,28 +1,12 @@
 -- Executed sets: what they hold, and that they are kept as one server changes.
 use Rattle.std.proofs.Common.{◌≡◌, ℕ, ◌+◌, ◌-◌, ◌<◌, ◌≤◌, Bool, true, false, cond, List, [], ◌∷◌, ◌++◌, length, drop, refl, sym, ◌∙◌, ap, subst, inl, inr, Some, arith, zero, suc, length-append}
 use Rattle.std.specs.Prelude.{slice_get, slice_range, slice_set, ◌==◌, ◌&&◌, ◌||◌, All}
-use Rattle.std.specs.List.{fold, list_any}
-use Rattle.std.proofs.lemmas.Bool.{cases_eq, eq-eqb, ne_eqb}
-use Rattle.std.proofs.lemmas.Bool.Decides.{nat_tests}
-use Rattle.std.proofs.lemmas.List.{length-set, length-take}
-use Rattle.std.proofs.lemmas.List.Elements.{All-head, All-tail, All-nil, All-push}
-use Rattle.std.proofs.lemmas.List.Sums.{fold-append}
-use Rattle.std.proofs.lemmas.Option.{slice_get_within, get_or_from_slice_get}
-use Rattle.binlog_coords.specs.declared.Coord.{Coord}
-use Rattle.binlog_coords.specs.Log.{push}
-use Rattle.gtid_sets.specs.Adding.{single, with_pair}
-use Rattle.gtid_sets.specs.Reserved.{Reserved}
-use Rattle.gtid_sets.specs.Sets.{holds}
-use Rattle.gtid_sets.specs.declared.interval.Interval.{Interval}
-use Rattle.gtid_sets.proofs.Inserts.{Rises, Rises-inserted, holds-with_pair, length-inserted}
-use Rattle.orch_base.specs.declared.server.Settings.{Settings}
-use Rattle.orch_base.specs.declared.server.Txn.{Txn}
-use Rattle.orch_base.specs.Histories.{same_txn, holds as txns_hold}
-use Rattle.server_model.specs.Exchanges.{took}
-use Rattle.server_model.specs.Gtids.{uuid_of, uuids_in, has_gtid, held_len, with_gtid, with_gtids, set_of, purged_len, purged_txns, TellsExecuted, IsSetOf, IsNumbered, AreGtids}
-use Rattle.server_model.specs.Kept.{Kept}
-use Rattle.server_model.specs.Fit.{IsFit}
-use Rattle.server_model.specs.declared.server.Server.{Server}
+use Rattle.server_model.proofs.Prelude.{All-head, All-nil, All-push, All-tail, AreGtids, Coord, Interval, IsFit, IsNumbered, IsSetOf, Kept, Reserved}
+use Rattle.server_model.proofs.Prelude.{Rises, Rises-inserted, Server, Settings, TellsExecuted, Txn, cases_eq, eq-eqb, fold, fold-append}
+use Rattle.server_model.proofs.Prelude.{get_or_from_slice_get, has_gtid, held_len, holds, holds-with_pair, length-inserted, length-set, length-take}
+use Rattle.server_model.proofs.Prelude.{list_any, nat_tests, ne_eqb, purged_len, purged_txns, push, same_txn, set_of, single, slice_get_within, took}
+use Rattle.server_model.proofs.Prelude.{uuid_of, uuids_in, with_gtid, with_gtids, with_pair}
+use Rattle.server_model.proofs.Prelude.Histories.{holds as txns_hold}
 use Rattle.server_model.proofs.Lists.{set_cases, set_same, set_other, set_self, slice_get-drop}
 use Rattle.server_model.proofs.LogSizes.{length-push}
 use Rattle.server_model.proofs.PurgedFiles.{from_file, newly_purged, purged_len-later, purged_txns-took, take-range}

@@ -1,22 +1,13 @@
 -- What a fetch reads, and that it keeps what is kept.
 use Rattle.std.proofs.Common.{◌≡◌, ℕ, Bool, true, false, cond, List, refl, sym, ◌∙◌, ap, subst, Option, Some, None, arith, ◌&&◌}
 use Rattle.std.specs.Prelude.{slice_get, slice_set, nat_lt}
-use Rattle.std.proofs.lemmas.Option.{same_Some}
-use Rattle.binlog_coords.specs.declared.Coord.{Coord}
-use Rattle.binlog_coords.specs.declared.Next.{Next}
-use Rattle.binlog_coords.specs.declared.Next.TheVariants as next
-use Rattle.binlog_coords.specs.Log.{next_after}
-use Rattle.orch_base.specs.declared.server.SourceState.{SourceState}
-use Rattle.orch_base.specs.declared.server.SourceState.TheVariants.{Without, Attached, Detached}
-use Rattle.server_words.specs.declared.changes.Ask.TheVariants as asking
-use Rattle.server_words.specs.declared.changes.Threads.TheVariants as threads
-use Rattle.server_model.specs.Worlds.{World, server_at, source_no}
-use Rattle.server_model.specs.Exchanges.{fetch_step, fetch_from, fetch_kept, attached_at, is_attached, is_receiving, after_fetch}
-use Rattle.server_model.specs.Fit.{IsKept}
-use Rattle.server_model.specs.Steps.{receiver_did}
-use Rattle.server_model.specs.declared.decisions.FetchStep.{FetchStep}
-use Rattle.server_model.specs.declared.decisions.FetchStep.TheVariants as receiving
-use Rattle.server_model.specs.declared.server.Server.{Server}
+use Rattle.server_model.proofs.Prelude.{Attached, Coord, Detached, FetchStep, IsKept, Next, Server, SourceState, Without, World, after_fetch}
+use Rattle.server_model.proofs.Prelude.{attached_at, fetch_from, fetch_kept, fetch_step, is_attached, is_receiving, next_after, receiver_did}
+use Rattle.server_model.proofs.Prelude.{same_Some, server_at, source_no}
+use Rattle.server_model.proofs.Prelude.asking
+use Rattle.server_model.proofs.Prelude.next
+use Rattle.server_model.proofs.Prelude.receiving
+use Rattle.server_model.proofs.Prelude.threads
 use Rattle.server_model.proofs.Changed.{IsUntouched, moved-asked, IsKept-moved}
 use Rattle.server_model.proofs.Keeps.{IsKept-with, end_of_step, has_place-step}
 use Rattle.server_model.proofs.Lists.{set_self}
@@ -90,24 +81,20 @@ module _ (servers : List Server) (gtid : Bool) (errant n : ℕ) (r : Server) (he
 
   -- it keeps what is kept
   fetched-kept : (step : FetchStep) → IsKept servers errant → fetch_step the_world (Some r) ≡ step → IsKept (slice_set servers n (receiver_did step r)) errant
-  fetched-kept receiving.Halt kept is = unchanged kept
-  fetched-kept receiving.Unlinked kept is = unchanged kept
   fetched-kept (receiving.Refuse first) kept is = IsKept-moved servers errant n r kept here (record r { receiver = false }) (moved-asked r (asking.Stop threads.Receiver))
   fetched-kept (receiving.Take (next.Entry index to)) kept is = IsKept-read servers errant n r to (next.Entry index to) kept here (take_from the_world r (next.Entry index to) is) refl
   fetched-kept (receiving.Take (next.Rotate to)) kept is = IsKept-read servers errant n r to (next.Rotate to) kept here (take_from the_world r (next.Rotate to) is) refl
-  fetched-kept (receiving.Take next.End) kept is = unchanged kept
+  fetched-kept _ kept is = unchanged kept
 
   same_world : record { servers = slice_set servers n r; gtid = gtid; errant = errant } ≡ the_world
   same_world = ap (λ (ss : List Server). record { servers = ss; gtid = gtid; errant = errant }) (set_self servers n r here)
 
   -- what is left of the world
   left-of : (step : FetchStep) → record { servers = slice_set servers n (receiver_did step r); gtid = gtid; errant = errant } ≡ after_fetch the_world n (Some r) step
-  left-of receiving.Halt = same_world
-  left-of receiving.Unlinked = same_world
   left-of (receiving.Refuse first) = refl
   left-of (receiving.Take (next.Entry index to)) = refl
   left-of (receiving.Take (next.Rotate to)) = refl
-  left-of (receiving.Take next.End) = same_world
+  left-of _ = same_world
 
   pub IsKept-fetched : (w : World) (step : FetchStep) → the_world ≡ w → step ≡ fetch_step w (server_at w n) → IsKept servers errant → IsKept (slice_set servers n (receiver_did step r)) errant
   IsKept-fetched w step view is kept =

@@ -1,18 +1,10 @@
 -- What is kept of the servers stays right as one of them changes.
 use Rattle.std.proofs.Common.{◌≡◌, ℕ, ◌+◌, ◌<◌, ◌≤◌, true, List, length, refl, sym, ◌∙◌, ap, subst, inl, inr, Option, Some, None, arith, get_or}
 use Rattle.std.specs.Prelude.{slice_get, slice_set, sum_by, count_by}
-use Rattle.std.proofs.lemmas.Option.{same_Some, slice_get_within, get_or_from_slice_get}
-use Rattle.std.proofs.lemmas.List.{length-set}
-use Rattle.std.proofs.lemmas.List.Sums.{sum_by-set}
-use Rattle.binlog_coords.specs.declared.Coord.{Coord}
-use Rattle.binlog_coords.specs.declared.Next.{Next}
-use Rattle.binlog_coords.specs.declared.Next.TheVariants as next
-use Rattle.binlog_coords.specs.Grown.{Grown}
-use Rattle.binlog_coords.specs.Log.{Log, ends_by, has_place, next_after, place, StepFrom}
-use Rattle.binlog_coords.proofs.Places.{Laid-Grown, next_after-step, place-from, place-parts}
-use Rattle.server_model.specs.Fit.{HasPlaces, IsFit, IsKept}
-use Rattle.server_model.specs.Worlds.{source_no}
-use Rattle.server_model.specs.declared.server.Server.{Server}
+use Rattle.server_model.proofs.Prelude.{Coord, Grown, HasPlaces, IsFit, IsKept, Laid-Grown, Log, Next, Server, StepFrom, ends_by}
+use Rattle.server_model.proofs.Prelude.{get_or_from_slice_get, has_place, length-set, next_after, next_after-step, place, place-from, place-parts}
+use Rattle.server_model.proofs.Prelude.{same_Some, slice_get_within, source_no, sum_by-set}
+use Rattle.server_model.proofs.Prelude.next
 use Rattle.server_model.proofs.Lists.{set_cases}
 
 place-of : (log : Log) (c : Coord) → has_place log c ≡ true → place log c ≡ Some (count_by (ends_by c) log.entries)

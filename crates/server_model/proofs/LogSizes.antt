@@ -1,7 +1,7 @@
 -- How a log grows with a transaction.
 use Rattle.std.proofs.Common.{◌≡◌, ℕ, ◌+◌, ◌≤◌, Bool, true, false, cond, [], ◌∷◌, length, length-append, arith}
 use Rattle.std.specs.Prelude.{nat_le}
-use Rattle.binlog_coords.specs.Log.{Log, push, flush, appended, entry_at_end}
+use Rattle.server_model.proofs.Prelude.{Log, appended, entry_at_end, flush, push}
 
 pub length-push : (log : Log) (size : ℕ) → length (push log size).entries ≡ length log.entries + 1
 length-push log size = go (nat_le log.limit (log.pos + size)) (length-append log.entries (entry_at_end log size ∷ []))

@@ -1,13 +1,7 @@
 -- How many transactions of its own each server has executed, as servers change.
 use Rattle.std.proofs.Common.{◌≡◌, ℕ, ◌+◌, ◌≤◌, List, [], ◌∷◌, ◌++◌, length, refl, sym, ◌∙◌, ap, Some, arith, zero, suc}
 use Rattle.std.specs.Prelude.{slice_get, slice_set, nat_eq}
-use Rattle.std.proofs.lemmas.List.Sums.{count_by-le-length}
-use Rattle.std.proofs.lemmas.Option.{same_Some}
-use Rattle.orch_base.specs.declared.server.Txn.{Txn}
-use Rattle.orch_base.specs.Histories.{count_own}
-use Rattle.server_model.specs.Fit.{own_counts, own_from}
-use Rattle.server_model.specs.Kept.{Kept}
-use Rattle.server_model.specs.declared.server.Server.{Server}
+use Rattle.server_model.proofs.Prelude.{Kept, Server, Txn, count_by-le-length, count_own, own_counts, own_from, same_Some}
 use Rattle.server_model.proofs.Lists.{set_self}
 
 length-own_from : (n : ℕ) (servers : List Server) → length (own_from n servers) ≡ length servers

@@ -1,20 +1,10 @@
 -- What stands in the purged files of a server's log, and that it stays the same as the log grows.
 use Rattle.std.proofs.Common.{◌≡◌, ℕ, ◌+◌, ◌-◌, ◌<◌, ◌≤◌, Bool, true, false, cond, List, [], ◌∷◌, ◌++◌, length, refl, sym, ◌∙◌, ap, Some, arith, take, drop}
 use Rattle.std.specs.Prelude.{◌||◌, count_by, slice_range, unwrap_or}
-use Rattle.std.specs.List.{list_any}
-use Rattle.std.proofs.lemmas.Bool.{false≢true}
-use Rattle.std.proofs.lemmas.Bool.Decides.{nat_tests}
-use Rattle.std.proofs.lemmas.List.{take-append-drop, take-append-le, take-take, drop-take}
-use Rattle.binlog_coords.specs.declared.Coord.{Coord}
-use Rattle.binlog_coords.specs.Log.{Log, ends_by, file_start, has_place, is_at_or_before, is_file_start, place, push, touches}
-use Rattle.binlog_coords.proofs.Places.{place-from, place-monotone, place-within, stable_flush, stable_push}
-use Rattle.orch_base.specs.declared.server.Txn.{Txn}
-use Rattle.server_model.specs.Desk.{rotated}
-use Rattle.server_model.specs.Exchanges.{took}
-use Rattle.server_model.specs.Gtids.{purged_len, purged_txns}
-use Rattle.server_model.specs.Fit.{IsFit}
-use Rattle.server_model.specs.Worlds.{KeepsFrom}
-use Rattle.server_model.specs.declared.server.Server.{Server}
+use Rattle.server_model.proofs.Prelude.{Coord, IsFit, KeepsFrom, Log, Server, Txn, drop-take, ends_by, false≢true, file_start, has_place}
+use Rattle.server_model.proofs.Prelude.{is_at_or_before, is_file_start, list_any, nat_tests, place, place-from, place-monotone, place-within}
+use Rattle.server_model.proofs.Prelude.{purged_len, purged_txns, push, rotated, stable_flush, stable_push, take-append-drop, take-append-le}
+use Rattle.server_model.proofs.Prelude.{take-take, took, touches}
 use Rattle.server_model.proofs.LogSizes.{files-rise}
 
 -- the beginning of each file has a place

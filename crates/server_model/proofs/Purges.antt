@@ -1,12 +1,9 @@
 -- How far a purge goes.
 use Rattle.std.proofs.Common.{◌≡◌, ℕ, ◌≤◌, Bool, true, false, cond, List, [], ◌∷◌, map, not, refl, sym, ◌∙◌, ap, subst, Some, arith, zero, suc}
 use Rattle.std.specs.Prelude.{slice_get, filter, fold, nat_lt}
-use Rattle.std.proofs.lemmas.Bool.Decides.{nat_tests}
-use Rattle.std.proofs.lemmas.Option.{same_Some}
-use Rattle.server_words.specs.declared.answers.PurgeAnswer.TheVariants as purging
-use Rattle.server_model.specs.Purging.{files_read, greater, is_reading, kept_from, least_read, lesser, purge_answer}
-use Rattle.server_model.specs.Worlds.{World, server_at}
-use Rattle.server_model.specs.declared.server.Server.{Server}
+use Rattle.server_model.proofs.Prelude.{Server, World, files_read, greater, is_reading, kept_from, least_read, lesser, nat_tests, purge_answer}
+use Rattle.server_model.proofs.Prelude.{same_Some, server_at}
+use Rattle.server_model.proofs.Prelude.purging
 
 lesser-left : (a b : ℕ) → lesser a b ≤ a
 lesser-left a b = grind (arith, nat_tests)

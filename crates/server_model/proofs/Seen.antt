@@ -1,12 +1,8 @@
 -- What is seen of a server.
 use Rattle.std.proofs.Common.{◌≡◌, ℕ, Bool, List, sym, ◌∙◌, ap, subst, Option, Some}
 use Rattle.std.specs.Prelude.{option_map}
-use Rattle.gtid_sets.specs.Reserved.{Reserved}
-use Rattle.gtid_sets.specs.declared.interval.Interval.{Interval}
-use Rattle.server_model.specs.Gtids.{uuids_in, purged_txns, seen_set, seen_purged, source_at, shown, shown_of, status_of, IsSetOf}
-use Rattle.server_model.specs.Worlds.{World, server_at}
-use Rattle.server_model.specs.declared.server.Server.{Server}
-use Rattle.server_words.specs.declared.status.Status.{Status}
+use Rattle.server_model.proofs.Prelude.{Interval, IsSetOf, Reserved, Server, Status, World, purged_txns, seen_purged, seen_set, server_at, shown}
+use Rattle.server_model.proofs.Prelude.{shown_of, source_at, status_of, uuids_in}
 
 pub shown-is : (w : World) (n : ℕ) (s : Server) (o : Option Server) (set purged : List Interval) (x : Status) → server_at w n ≡ Some s
     → o ≡ source_at w s → set ≡ seen_set w s → purged ≡ seen_purged w s → x ≡ status_of s o set purged → shown w n ≡ Some x

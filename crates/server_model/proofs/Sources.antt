@@ -1,40 +1,25 @@
 -- No exchange leaves a server under a source that isn't one of the servers.
 use Rattle.std.proofs.Common.{◌≡◌, ℕ, ◌<◌, Bool, true, List, [], ◌∷◌, length, refl, sym, subst, Option, Some, None}
 use Rattle.std.specs.Prelude.{All, IfSome, Result, Ok, Err, ◌||◌, false, slice_get, slice_set, if◌then◌else◌}
-use Rattle.std.proofs.lemmas.List.{length-set}
-use Rattle.std.proofs.lemmas.List.Elements.{All-set}
-use Rattle.std.proofs.lemmas.Option.{get_or_from_slice_get, slice_get_within}
-use Rattle.binlog_coords.specs.declared.Coord.{Coord}
-use Rattle.binlog_coords.specs.declared.Next.TheVariants as next
-use Rattle.orch_base.specs.declared.server.ServerNo.{ServerNo}
-use Rattle.orch_base.specs.declared.server.SourceState.{SourceState}
-use Rattle.orch_base.specs.declared.server.SourceState.TheVariants as source
-use Rattle.server_model.specs.declared.decisions.ApplyStep.{ApplyStep}
-use Rattle.server_model.specs.declared.decisions.ApplyStep.TheVariants as applying
-use Rattle.server_model.specs.declared.decisions.FetchStep.{FetchStep}
-use Rattle.server_model.specs.declared.decisions.FetchStep.TheVariants as receiving
-use Rattle.server_words.specs.declared.answers.PurgeAnswer.{PurgeAnswer}
-use Rattle.server_words.specs.declared.answers.PurgeAnswer.TheVariants as purging
-use Rattle.server_words.specs.declared.answers.RotateAnswer.{RotateAnswer}
-use Rattle.server_words.specs.declared.answers.RotateAnswer.TheVariants as rotating
-use Rattle.server_words.specs.declared.answers.Unreachable.{Unreachable}
-use Rattle.server_words.specs.declared.answers.WriteAnswer.{WriteAnswer}
-use Rattle.server_words.specs.declared.answers.WriteAnswer.TheVariants as wrote
-use Rattle.server_words.specs.declared.attach.AttachFault.{AttachFault}
-use Rattle.server_words.specs.declared.changes.Ask.{Ask}
-use Rattle.server_words.specs.declared.changes.Ask.TheVariants as asking
-use Rattle.server_words.specs.declared.changes.Event.{Event}
-use Rattle.server_words.specs.declared.changes.Event.TheVariants as event
-use Rattle.server_words.specs.declared.changes.Link.TheVariants as link
-use Rattle.server_words.specs.declared.changes.Threads.TheVariants as threads
-use Rattle.server_model.specs.declared.server.Server.{Server}
-use Rattle.server_model.specs.Exchanges.{is_attached, took, own_txn, write_answer, after_write, fetch_step, after_fetch, apply_step, after_apply}
-use Rattle.server_model.specs.Attach.{attach_answer, attached_to, after_attach}
-use Rattle.server_model.specs.Desk.{asked, attached_source, befallen, desk_answer, detached, detached_source, healed, is_detached, reattached, rotate_answer, rotated, started, after_change, after_desk, after_rotate}
-use Rattle.server_model.specs.Gtids.{attach_auto_answer, after_attach_auto, attached_auto, auto_coord, uuids}
-use Rattle.server_model.specs.Purging.{purge_answer, after_purge}
-use Rattle.server_model.specs.Run.{Exchange, Write, Fetch, Apply, Request, Befall, Rotate, Purge, Attach, AttachAuto, after, Allowed, AllAllowed, run}
-use Rattle.server_model.specs.Worlds.{World, server_at, source_no}
+use Rattle.server_model.proofs.Prelude.{All-set, AllAllowed, Allowed, Apply, ApplyStep, Ask, Attach, AttachAuto, AttachFault, Befall, Coord, Event}
+use Rattle.server_model.proofs.Prelude.{Exchange, Fetch, FetchStep, Purge, PurgeAnswer, Request, Rotate, RotateAnswer, Server, ServerNo, SourceState}
+use Rattle.server_model.proofs.Prelude.{Unreachable, World, Write, WriteAnswer, after, after_apply, after_attach, after_attach_auto, after_change}
+use Rattle.server_model.proofs.Prelude.{after_desk, after_fetch, after_purge, after_rotate, after_write, apply_step, asked, attach_answer}
+use Rattle.server_model.proofs.Prelude.{attach_auto_answer, attached_auto, attached_source, attached_to, auto_coord, befallen, desk_answer, detached}
+use Rattle.server_model.proofs.Prelude.{detached_source, fetch_step, get_or_from_slice_get, healed, is_attached, is_detached, length-set, own_txn}
+use Rattle.server_model.proofs.Prelude.{purge_answer, reattached, rotate_answer, rotated, run, server_at, slice_get_within, source_no, started, took}
+use Rattle.server_model.proofs.Prelude.{uuids, write_answer}
+use Rattle.server_model.proofs.Prelude.applying
+use Rattle.server_model.proofs.Prelude.asking
+use Rattle.server_model.proofs.Prelude.event
+use Rattle.server_model.proofs.Prelude.link
+use Rattle.server_model.proofs.Prelude.next
+use Rattle.server_model.proofs.Prelude.purging
+use Rattle.server_model.proofs.Prelude.receiving
+use Rattle.server_model.proofs.Prelude.rotating
+use Rattle.server_model.proofs.Prelude.source
+use Rattle.server_model.proofs.Prelude.threads
+use Rattle.server_model.proofs.Prelude.wrote
 
 -- the server's source, if it has one, is one of so many servers
 abbrev pub HasSourceOf : ℕ → Server → Type 0
@@ -61,30 +46,21 @@ kept w n s s' at same all =
     (subst (λ (from : SourceState). IfSome (source_no from) (λ m. m < length w.servers)) (sym same) (source-at w.servers n s all at))
 
 sources-write : (w : World) (n size : ℕ) (o : Option Server) (a : WriteAnswer) → server_at w n ≡ o → HaveSources w.servers → HaveSources (after_write w n size o a).servers
-sources-write w n size None a at all = all
-sources-write w n size (Some s) wrote.Down at all = all
-sources-write w n size (Some s) wrote.ReadOnly at all = all
-sources-write w n size (Some s) wrote.Full at all = all
 sources-write w n size (Some s) (wrote.Done seq) at all = kept w n s (took s (own_txn n seq size)) at refl all
+sources-write w n size _ _ at all = all
 
 sources-fetch : (w : World) (n : ℕ) (o : Option Server) (a : FetchStep) → server_at w n ≡ o → HaveSources w.servers → HaveSources (after_fetch w n o a).servers
-sources-fetch w n None a at all = all
-sources-fetch w n (Some r) receiving.Halt at all = all
-sources-fetch w n (Some r) receiving.Unlinked at all = all
 sources-fetch w n (Some r) (receiving.Refuse first) at all = kept w n r (record r { receiver = false }) at refl all
 sources-fetch w n (Some r) (receiving.Take (next.Entry index to)) at all = kept w n r (record r { read = to }) at refl all
 sources-fetch w n (Some r) (receiving.Take (next.Rotate to)) at all = kept w n r (record r { read = to }) at refl all
-sources-fetch w n (Some r) (receiving.Take next.End) at all = all
+sources-fetch w n _ _ at all = all
 
 sources-apply : (w : World) (n : ℕ) (o : Option Server) (a : ApplyStep) → server_at w n ≡ o → HaveSources w.servers → HaveSources (after_apply w n o a).servers
-sources-apply w n None a at all = all
-sources-apply w n (Some r) applying.Halt at all = all
 sources-apply w n (Some r) applying.ForgetUntil at all = kept w n r (record r { applier = false; until = None }) at refl all
-sources-apply w n (Some r) applying.Idle at all = all
-sources-apply w n (Some r) applying.NoRoom at all = all
 sources-apply w n (Some r) (applying.Pass to) at all = kept w n r (record r { exec = to }) at refl all
 sources-apply w n (Some r) (applying.Skip to) at all = kept w n r (record r { exec = to }) at refl all
 sources-apply w n (Some r) (applying.Execute t to) at all = kept w n r (record (took r t) { exec = to }) at refl all
+sources-apply w n _ _ at all = all
 
 -- a change of one server that keeps its source one of the servers
 sources-change : (w : World) (n : ℕ) (f : Server → Server) (o : Option Server) → ((s : Server) → HasSourceOf (length w.servers) s → HasSourceOf (length w.servers) (f s)) → server_at w n ≡ o → HaveSources w.servers
@@ -126,14 +102,12 @@ module _ (count : ℕ) where
 
   asked-known : (a : Ask) (s : Server) → HasSourceOf count s → HasSourceOf count (asked a s)
   asked-known (asking.Stop threads.Both) s known = known
-  asked-known (asking.Stop threads.Receiver) s known = known
-  asked-known (asking.Stop threads.Applier) s known = known
   asked-known asking.Start s known = started-known None s known
   asked-known (asking.StartUntil to) s known = started-known (Some to) s known
   asked-known asking.Detach s known = detached-known s known
   asked-known asking.Reattach s known = reattached-known s known
   asked-known asking.Reset s known = tt
-  asked-known (asking.SetReadOnly on) s known = known
+  asked-known _ s known = known
 
   healed-known : (s : Server) → HasSourceOf count s → HasSourceOf count (healed s)
   healed-known s known = go s.up
@@ -143,30 +117,22 @@ module _ (count : ℕ) where
       go false = known
 
   befallen-known : (e : Event) (s : Server) → HasSourceOf count s → HasSourceOf count (befallen e s)
-  befallen-known event.Fail s known = known
   befallen-known event.Heal s known = healed-known s known
   befallen-known (event.Cut link.Desk) s known = known
-  befallen-known (event.Cut link.Feed) s known = known
   befallen-known (event.Join link.Desk) s known = known
-  befallen-known (event.Join link.Feed) s known = known
+  befallen-known _ s known = known
 
 sources-ask : (w : World) (n : ℕ) (a : Ask) (answer : Result (Unit {0}) Unreachable) → HaveSources w.servers → HaveSources (after_desk w n a answer).servers
 sources-ask w n a (Ok t) all = sources-change w n (asked a) (server_at w n) (asked-known (length w.servers) a) refl all
 sources-ask w n a (Err e) all = all
 
 sources-rotate : (w : World) (n : ℕ) (o : Option Server) (answer : RotateAnswer) → server_at w n ≡ o → HaveSources w.servers → HaveSources (after_rotate w n o answer).servers
-sources-rotate w n None answer at all = all
-sources-rotate w n (Some s) rotating.Down at all = all
-sources-rotate w n (Some s) rotating.NotLogging at all = all
-sources-rotate w n (Some s) rotating.Full at all = all
 sources-rotate w n (Some s) (rotating.Done c) at all = kept w n s (rotated s) at refl all
+sources-rotate w n _ _ at all = all
 
 sources-purge : (w : World) (n : ℕ) (o : Option Server) (answer : PurgeAnswer) → server_at w n ≡ o → HaveSources w.servers → HaveSources (after_purge w n o answer).servers
-sources-purge w n None answer at all = all
-sources-purge w n (Some s) purging.Down at all = all
-sources-purge w n (Some s) purging.NotLogging at all = all
-sources-purge w n (Some s) purging.NoFile at all = all
 sources-purge w n (Some s) (purging.Done first) at all = kept w n s (record s { first = first }) at refl all
+sources-purge w n _ _ at all = all
 
 sources-attach : (w : World) (n : ℕ) (to : ServerNo) (c : Coord) (o : Option Server) (answer : Result (Unit {0}) AttachFault) → to.0 < length w.servers → HaveSources w.servers
     → HaveSources (after_attach w n to c o answer).servers

@@ -1,16 +1,8 @@
 -- What is kept of servers that stand, and beside them, is right.
 use Rattle.std.proofs.Common.{◌≡◌, ℕ, ◌≤◌, Bool, true, false, cond, List, [], ◌∷◌, length, refl, sym, ◌∙◌, ap, subst, Some, arith, zero, suc}
 use Rattle.std.specs.Prelude.{slice_get, map}
-use Rattle.std.proofs.lemmas.Option.{same_Some}
-use Rattle.binlog_coords.proofs.Places.{place-parts}
-use Rattle.gtid_sets.specs.Reserved.{Reserved}
-use Rattle.orch_base.specs.declared.server.Txn.{Txn}
-use Rattle.server_model.specs.Gtids.{uuids_in, set_of, purged_txns, reserved_set, IsSetOf, AreGtids}
-use Rattle.server_model.specs.Fit.{HasPlaces, IsKept}
-use Rattle.server_model.specs.Safe.{StandsIn}
-use Rattle.server_model.specs.Standing.{CanStand}
-use Rattle.server_model.specs.Worlds.{source_no}
-use Rattle.server_model.specs.declared.server.Server.{Server}
+use Rattle.server_model.proofs.Prelude.{AreGtids, CanStand, HasPlaces, IsKept, IsSetOf, Reserved, Server, StandsIn, Txn, place-parts, purged_txns}
+use Rattle.server_model.proofs.Prelude.{reserved_set, same_Some, set_of, source_no, uuids_in}
 
 module _ (servers : List Server) (stand : CanStand servers) where
   -- both coordinates of a server have places in its source's log

@@ -1,24 +1,10 @@
 -- What is kept of the servers stays right as one executes one more transaction.
 use Rattle.std.proofs.Common.{◌≡◌, ℕ, ◌+◌, ◌<◌, ◌≤◌, Bool, true, false, cond, List, [], ◌∷◌, ◌++◌, length, length-append, sym, ◌∙◌, ap, Some, arith, get_or}
 use Rattle.std.specs.Prelude.{slice_get, slice_set, nat_eq}
-use Rattle.std.proofs.lemmas.List.Elements.{All-push}
-use Rattle.std.proofs.lemmas.List.Sums.{sum_by-le}
-use Rattle.std.proofs.lemmas.Option.{slice_get-get_or, slice_get_within}
-use Rattle.std.proofs.Math.Nat.{mul-le-mul_right}
-use Rattle.std.proofs.lemmas.List.Sums.{sum_by_push}
-use Rattle.binlog_coords.specs.declared.Coord.{Coord}
-use Rattle.binlog_coords.specs.Grown.{Grown}
-use Rattle.binlog_coords.specs.Grown as grown
-use Rattle.binlog_coords.specs.Index.{Index}
-use Rattle.binlog_coords.specs.Log.{place, push}
-use Rattle.binlog_coords.proofs.Places.{stable_push}
-use Rattle.orch_base.specs.declared.server.Txn.{Txn}
-use Rattle.orch_base.specs.Histories.{count_own}
-use Rattle.server_model.specs.Exchanges.{took, own_txn}
-use Rattle.server_model.specs.Gtids.{IsNumbered}
-use Rattle.server_model.specs.Worlds.{source_no}
-use Rattle.server_model.specs.Fit.{own_counts, HasPlaces, HasSize, IsFit, IsKept}
-use Rattle.server_model.specs.declared.server.Server.{Server}
+use Rattle.server_model.proofs.Prelude.{All-push, Coord, Grown, HasPlaces, HasSize, Index, IsFit, IsKept, IsNumbered, Server, Txn, count_own}
+use Rattle.server_model.proofs.Prelude.{mul-le-mul_right, own_counts, own_txn, place, push, slice_get-get_or, slice_get_within, source_no}
+use Rattle.server_model.proofs.Prelude.{stable_push, sum_by-le, sum_by_push, took}
+use Rattle.server_model.proofs.Prelude.grown
 use Rattle.server_model.proofs.Keeps.{IsChange, IsKept-with}
 use Rattle.server_model.proofs.LogSizes.{length-push, files-push}
 use Rattle.server_model.proofs.OwnCounts.{own-at, own-few, own-set}

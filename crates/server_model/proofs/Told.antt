@@ -1,9 +1,6 @@
 -- What is told of a server, by the list that it holds.
 use Rattle.std.proofs.Common.{◌≡◌, true, cond, [], sym, ap, ◌∙◌}
-use Rattle.binlog_coords.specs.Log.{opened}
-use Rattle.server_model.specs.ServerBy.{server_of}
-use Rattle.server_model.specs.declared.server.Server.{Server}
-use Rattle.server_model.specs.declared.server.Server.TheInside.{Inside}
+use Rattle.server_model.proofs.Prelude.{Inside, Server, opened, server_of}
 
 -- the log of a server that logs is all that it has executed
 pub log-logged : (a : Inside) (s : Server) → server_of a ≡ s → a.settings.logs ≡ true → s.log ≡ a.log

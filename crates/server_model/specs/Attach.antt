@@ -1,14 +1,8 @@
 -- A change of source by a coordinate (MySQL 8.0 Reference Manual, "CHANGE REPLICATION SOURCE TO Statement").
 use Rattle.std.specs.Prelude.{◌≡◌, ℕ, ◌==◌, Bool, true, false, ◌&&◌, ◌||◌, not, nat_lt, if◌then◌else◌, length, Option, Some, None, Result, Ok, Err, zero, suc}
-use Rattle.binlog_coords.specs.declared.Coord.{Coord}
-use Rattle.binlog_coords.specs.Log.{same_coord, end_of, has_place}
-use Rattle.orch_base.specs.declared.server.ServerNo.{ServerNo}
-use Rattle.orch_base.specs.declared.server.SourceState.{SourceState}
-use Rattle.orch_base.specs.declared.server.SourceState.TheVariants.{Without, Attached, Detached}
-use Rattle.server_words.specs.declared.attach.Spot.{Spot}
-use Rattle.server_words.specs.declared.attach.Spot.TheVariants as spot
-use Rattle.server_words.specs.declared.attach.AttachFault.{AttachFault}
-use Rattle.server_words.specs.declared.attach.AttachFault.TheVariants as attaching
+use Rattle.server_model.specs.Prelude.{Attached, AttachFault, Coord, Detached, ServerNo, SourceState, Spot, Without, end_of, has_place, same_coord}
+use Rattle.server_model.specs.Prelude.attaching
+use Rattle.server_model.specs.Prelude.spot
 use Rattle.server_model.specs.declared.server.Server.{Server}
 use Rattle.server_model.specs.Worlds.{World, server_at, sources, with_server}
 

@@ -1,7 +1,6 @@
 -- Bridges: where a replica's own end and its executed coordinate stand for one point of two logs.
 use Rattle.std.specs.Prelude.{◌≡◌, ℕ, ◌≤◌, true, length, take, Some}
-use Rattle.binlog_coords.specs.declared.Coord.{Coord}
-use Rattle.binlog_coords.specs.Log.{place}
+use Rattle.server_model.specs.Prelude.{Coord, place}
 use Rattle.server_model.specs.Worlds.{World, server_at}
 use Rattle.server_model.specs.declared.server.Server.{Server}
 

@@ -1,21 +1,13 @@
 -- What orchestrator asks of a server, what befalls a server, and a new file of its log: each is a change of one server
 -- (MySQL 8.0 Reference Manual, "SQL Statements for Controlling Replica Servers", "FLUSH BINARY LOGS").
 use Rattle.std.specs.Prelude.{ℕ, ◌-◌, ◌==◌, Bool, true, false, ◌&&◌, ◌||◌, not, if◌then◌else◌, Option, Some, None, Result, Ok, Err}
-use Rattle.binlog_coords.specs.declared.Coord.{Coord}
-use Rattle.binlog_coords.specs.Log.{flush, end_of, file_start}
-use Rattle.orch_base.specs.declared.server.SourceState.{SourceState}
-use Rattle.orch_base.specs.declared.server.SourceState.TheVariants.{Without, Attached, Detached}
-use Rattle.server_words.specs.declared.answers.Unreachable.{Unreachable}
-use Rattle.server_words.specs.declared.answers.RotateAnswer.{RotateAnswer}
-use Rattle.server_words.specs.declared.answers.RotateAnswer.TheVariants as rotating
-use Rattle.server_words.specs.declared.changes.Threads.{Threads}
-use Rattle.server_words.specs.declared.changes.Threads.TheVariants as threads
-use Rattle.server_words.specs.declared.changes.Link.{Link}
-use Rattle.server_words.specs.declared.changes.Link.TheVariants as link
-use Rattle.server_words.specs.declared.changes.Ask.{Ask}
-use Rattle.server_words.specs.declared.changes.Ask.TheVariants as asking
-use Rattle.server_words.specs.declared.changes.Event.{Event}
-use Rattle.server_words.specs.declared.changes.Event.TheVariants as event
+use Rattle.server_model.specs.Prelude.{Ask, Attached, Coord, Detached, Event, Link, RotateAnswer, SourceState, Threads, Unreachable, Without, end_of}
+use Rattle.server_model.specs.Prelude.{file_start, flush}
+use Rattle.server_model.specs.Prelude.asking
+use Rattle.server_model.specs.Prelude.event
+use Rattle.server_model.specs.Prelude.link
+use Rattle.server_model.specs.Prelude.rotating
+use Rattle.server_model.specs.Prelude.threads
 use Rattle.server_model.specs.declared.server.Server.{Server}
 use Rattle.server_model.specs.Exchanges.{is_attached}
 use Rattle.server_model.specs.Worlds.{World, server_at, with_server}

@@ -1,25 +1,18 @@
 -- The exchanges with a server: each is a function from a world to an answer and a world
 -- (MySQL 8.0 Reference Manual, "Replication Implementation").
 use Rattle.std.specs.Prelude.{◌<◌, ◌≤◌, ℕ, ◌+◌, Bool, true, false, ◌&&◌, not, if◌then◌else◌, [], ◌∷◌, ◌++◌, length, Option, Some, None, slice_get, nat_le, nat_lt}
-use Rattle.binlog_coords.specs.declared.Coord.{Coord}
-use Rattle.binlog_coords.specs.declared.Next.{Next}
-use Rattle.binlog_coords.specs.declared.Next.TheVariants as next
-use Rattle.binlog_coords.specs.Log.{push, is_at_or_before, same_coord, next_after}
-use Rattle.orch_base.specs.declared.server.Txn.{Txn}
-use Rattle.orch_base.specs.declared.server.SourceState.{SourceState}
-use Rattle.orch_base.specs.declared.server.SourceState.TheVariants.{Without, Attached, Detached}
-use Rattle.server_words.specs.declared.answers.WriteAnswer.{WriteAnswer}
-use Rattle.server_words.specs.declared.answers.WriteAnswer.TheVariants as wrote
-use Rattle.server_words.specs.declared.answers.FetchAnswer.{FetchAnswer}
-use Rattle.server_words.specs.declared.answers.FetchAnswer.TheVariants as fetching
+use Rattle.server_model.specs.Prelude.{ApplyAnswer, Attached, Coord, Detached, FetchAnswer, Next, SourceState, Txn, Without, WriteAnswer, count_own}
+use Rattle.server_model.specs.Prelude.{is_at_or_before, next_after, push, same_coord}
+use Rattle.server_model.specs.Prelude.Histories.{holds}
+use Rattle.server_model.specs.Prelude.applied_as
+use Rattle.server_model.specs.Prelude.fetching
+use Rattle.server_model.specs.Prelude.next
+use Rattle.server_model.specs.Prelude.wrote
 use Rattle.server_model.specs.declared.decisions.FetchStep.{FetchStep}
 use Rattle.server_model.specs.declared.decisions.FetchStep.TheVariants as receiving
 use Rattle.server_model.specs.declared.decisions.ApplyStep.{ApplyStep}
 use Rattle.server_model.specs.declared.decisions.ApplyStep.TheVariants as applying
-use Rattle.server_words.specs.declared.answers.ApplyAnswer.{ApplyAnswer}
-use Rattle.server_words.specs.declared.answers.ApplyAnswer.TheVariants as applied_as
 use Rattle.server_model.specs.declared.server.Server.{Server}
-use Rattle.orch_base.specs.Histories.{count_own, holds}
 use Rattle.server_model.specs.Worlds.{World, server_at, with_server, has_source}
 
 -- a server that has executed one more transaction

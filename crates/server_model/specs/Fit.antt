@@ -1,10 +1,7 @@
 -- What holds of the servers in the code, so that each exchange goes without a search: numbers in their ranges, and
 -- places in the logs of sources.
 use Rattle.std.specs.Prelude.{◌≡◌, ℕ, ◌+◌, ◌<◌, ◌≤◌, true, List, [], ◌∷◌, length, sum_by, All, Some, slice_get}
-use Rattle.binlog_coords.specs.Grown.{Grown}
-use Rattle.binlog_coords.specs.Log.{has_place}
-use Rattle.orch_base.specs.declared.server.Txn.{Txn}
-use Rattle.orch_base.specs.Histories.{count_own}
+use Rattle.server_model.specs.Prelude.{Grown, Txn, count_own, has_place}
 use Rattle.server_model.specs.Worlds.{source_no, KeepsFrom}
 use Rattle.server_model.specs.declared.server.Server.{Server}
 

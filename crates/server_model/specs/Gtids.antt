@@ -1,24 +1,13 @@
 -- What servers tell by GTIDs (MySQL 8.0 Reference Manual, "GTID Format and Storage", "GTID Auto-Positioning"): the set
 -- of what a server has executed, what orchestrator sees of a server in one exchange, and a change of source by a set.
 use Rattle.std.specs.Prelude.{◌≡◌, ℕ, ◌<◌, ◌≤◌, Bool, true, false, ◌&&◌, ◌||◌, not, if◌then◌else◌, List, [], ◌∷◌, length, Option, Some, None, Result, Ok, Err, nat_lt, option_and_then, option_map, slice_get, take, unwrap_or}
-use Rattle.std.specs.List.{filter, fold, prefix_len, All}
-use Rattle.binlog_coords.specs.declared.Coord.{Coord}
-use Rattle.binlog_coords.specs.Log.{coord_after, end_of, file_start, place}
-use Rattle.gtid_sets.specs.declared.interval.Interval.{Interval}
-use Rattle.gtid_sets.specs.Adding.{with_pair}
-use Rattle.gtid_sets.specs.Sets.{holds}
-use Rattle.gtid_sets.specs.Reserved.{Reserved}
-use Rattle.orch_base.specs.Histories.{holds as txns_hold}
-use Rattle.orch_base.specs.declared.server.IoState.{IoState}
-use Rattle.orch_base.specs.declared.server.IoState.TheVariants as io
-use Rattle.orch_base.specs.declared.server.ServerNo.{ServerNo}
-use Rattle.orch_base.specs.declared.server.Txn.{Txn}
-use Rattle.server_words.specs.declared.attach.AttachFault.{AttachFault}
-use Rattle.server_words.specs.declared.attach.AttachFault.TheVariants as attaching
+use Rattle.server_model.specs.Prelude.{All, AttachFault, Coord, Interval, IoState, Reserved, ServerNo, Status, StatusFault, Txn, coord_after, end_of}
+use Rattle.server_model.specs.Prelude.{file_start, filter, fold, holds, place, prefix_len, with_pair}
+use Rattle.server_model.specs.Prelude.Histories.{holds as txns_hold}
+use Rattle.server_model.specs.Prelude.attaching
+use Rattle.server_model.specs.Prelude.io
+use Rattle.server_model.specs.Prelude.seeing
 use Rattle.server_model.specs.declared.server.Server.{Server}
-use Rattle.server_words.specs.declared.status.Status.{Status}
-use Rattle.server_words.specs.declared.status.StatusFault.{StatusFault}
-use Rattle.server_words.specs.declared.status.StatusFault.TheVariants as seeing
 use Rattle.server_model.specs.Attach.{attached_to, chain_meets, purged_answer, spot_below}
 use Rattle.server_model.specs.Worlds.{World, server_at, sources, source_no, with_server}
 

@@ -1,7 +1,6 @@
 -- How a log lays out a history (MySQL 8.0 Reference Manual, "The Binary Log").
 use Rattle.std.specs.Prelude.{ℕ, ◌<◌, List, [], ◌∷◌, ◌++◌}
-use Rattle.binlog_coords.specs.Log.{Log, opened, push, flush}
-use Rattle.orch_base.specs.declared.server.Txn.{Txn}
+use Rattle.server_model.specs.Prelude.{Log, Txn, flush, opened, push}
 
 -- the log lays out the history: it grew by these transactions, in order
 pub data LaysOut : List Txn → Log → Type 0 where

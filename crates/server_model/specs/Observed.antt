@@ -1,7 +1,6 @@
 -- Sets that were observed of a server.
 use Rattle.std.specs.Prelude.{◌≡◌, ℕ, true, List, Some}
-use Rattle.gtid_sets.specs.declared.interval.Interval.{Interval}
-use Rattle.gtid_sets.specs.Sets.{holds}
+use Rattle.server_model.specs.Prelude.{Interval, holds}
 use Rattle.server_model.specs.declared.server.Server.{Server}
 use Rattle.server_model.specs.Gtids.{executed_set}
 use Rattle.server_model.specs.Worlds.{World, server_at}

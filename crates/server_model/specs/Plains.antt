@@ -1,11 +1,8 @@
 -- What is told of a server for the tables.
 use Rattle.std.specs.Prelude.{ℕ, Option, Some, None, Result, Ok, Err, ◌&&◌, not, nat_lt, slice_get, if◌then◌else◌}
-use Rattle.orch_base.specs.declared.server.Txn.{Txn}
-use Rattle.server_words.specs.declared.answers.Unreachable.{Unreachable}
+use Rattle.server_model.specs.Prelude.{Index, Plain, Txn, Unreachable}
 use Rattle.server_model.specs.Gtids.{purged_len}
 use Rattle.server_model.specs.Worlds.{World, server_at}
-use Rattle.binlog_coords.specs.Index.{Index}
-use Rattle.server_words.specs.declared.plain.Plain.{Plain}
 use Rattle.server_model.specs.declared.server.Server.{Server}
 
 abbrev pub plain_of : Server → Plain

@@ -1,10 +1,8 @@
 -- PURGE BINARY LOGS (MySQL 8.0 Reference Manual, "PURGE BINARY LOGS Statement"): the files before one are deleted, but
 -- none that an active replica is reading, nor a later one.
 use Rattle.std.specs.Prelude.{ℕ, ◌==◌, Bool, false, ◌&&◌, not, nat_lt, if◌then◌else◌, List, filter, fold, map, Option, Some, None}
-use Rattle.orch_base.specs.declared.server.SourceState.{SourceState}
-use Rattle.orch_base.specs.declared.server.SourceState.TheVariants.{Without, Attached, Detached}
-use Rattle.server_words.specs.declared.answers.PurgeAnswer.{PurgeAnswer}
-use Rattle.server_words.specs.declared.answers.PurgeAnswer.TheVariants as purging
+use Rattle.server_model.specs.Prelude.{Attached, Detached, PurgeAnswer, SourceState, Without}
+use Rattle.server_model.specs.Prelude.purging
 use Rattle.server_model.specs.declared.server.Server.{Server}
 use Rattle.server_model.specs.Worlds.{World, server_at, with_server}
 

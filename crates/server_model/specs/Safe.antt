@@ -1,13 +1,11 @@
 -- When a world is safe: each replica has executed a beginning of its source's transactions, and stands at its end. And
 -- what holds of it even where it isn't safe: each replica stands in its source's log.
 use Rattle.std.specs.Prelude.{◌≡◌, ℕ, ◌+◌, true, List, length, take, Some, slice_get}
-use Rattle.binlog_coords.specs.Log.{place, is_at_or_before}
-use Rattle.orch_base.specs.declared.server.Txn.{Txn}
-use Rattle.orch_base.specs.Histories.{same_txn, count_own}
+use Rattle.server_model.specs.Prelude.{Txn, count_own, is_at_or_before, place, same_txn}
 use Rattle.server_model.specs.Layout.{LaysOut}
 use Rattle.server_model.specs.Worlds.{World, server_at, histories, sources, source_no, KeepsFrom}
 use Rattle.server_model.specs.declared.server.Server.{Server}
-pub use Rattle.orch_base.specs.Chains.{Grounded, Root, Under}
+pub use Rattle.server_words.specs.OrchBase.Chains.{Grounded, Root, Under}
 
 -- A replica stands well under its source: what it executed is a beginning of what the source executed, its executed
 -- coordinate is where that beginning ends, and what it has read is not behind.

@@ -1,9 +1,6 @@
 -- What contracts see of a server.
 use Rattle.std.specs.Prelude.{ℕ, Bool, Option}
-use Rattle.binlog_coords.specs.declared.Coord.{Coord}
-use Rattle.binlog_coords.specs.Index.{Index}
-use Rattle.orch_base.specs.declared.server.Settings.{Settings}
-use Rattle.orch_base.specs.declared.server.SourceState.{SourceState}
+use Rattle.server_model.specs.Prelude.{Coord, Index, Settings, SourceState}
 use Rattle.server_model.specs.Kept.{Kept}
 
 -- its settings, what it has executed, its binary log, which stays empty where it doesn't log, the first file that the

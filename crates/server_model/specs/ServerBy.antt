@@ -1,7 +1,6 @@
 -- What contracts see of a server, by the one list that it holds.
 use Rattle.std.specs.Prelude.{[], if◌then◌else◌}
-use Rattle.binlog_coords.specs.Index.{Index}
-use Rattle.binlog_coords.specs.Log.{opened}
+use Rattle.server_model.specs.Prelude.{Index, opened}
 use Rattle.server_model.specs.Server.{Server}
 use Rattle.server_model.specs.declared.server.Server.TheInside.{Inside}
 

@@ -1,10 +1,6 @@
 -- What a status shows of a server, in every world of a run.
 use Rattle.std.specs.Prelude.{◌≡◌, ℕ, true, List, Option, Some}
-use Rattle.binlog_coords.specs.declared.Coord.{Coord}
-use Rattle.binlog_coords.specs.Log.{is_at_or_before}
-use Rattle.gtid_sets.specs.declared.interval.Interval.{Interval}
-use Rattle.orch_base.specs.declared.server.SourceState.{SourceState}
-use Rattle.server_words.specs.declared.status.Status.{Status}
+use Rattle.server_model.specs.Prelude.{Coord, Interval, SourceState, Status, is_at_or_before}
 use Rattle.server_model.specs.declared.server.Server.{Server}
 use Rattle.server_model.specs.Attach.{IsTarget}
 use Rattle.server_model.specs.Worlds.{World, server_at, source_no}

@@ -1,6 +1,6 @@
 -- What a step of its receiver or its applier makes of a replica.
 use Rattle.std.specs.Prelude.{false, None}
-use Rattle.binlog_coords.specs.declared.Next.TheVariants as next
+use Rattle.server_model.specs.Prelude.next
 use Rattle.server_model.specs.declared.decisions.FetchStep.{FetchStep}
 use Rattle.server_model.specs.declared.decisions.FetchStep.TheVariants as receiving
 use Rattle.server_model.specs.declared.decisions.ApplyStep.{ApplyStep}

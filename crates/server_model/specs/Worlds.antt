@@ -1,11 +1,8 @@
 -- Servers and the world of them.
 use Rattle.std.specs.Prelude.{◌≡◌, ◌≤◌, ℕ, Bool, true, false, List, [], Option, Some, None, slice_get, slice_set}
-use Rattle.binlog_coords.specs.Log.{Log}
-use Rattle.orch_base.specs.declared.server.Txn.{Txn}
-use Rattle.orch_base.specs.declared.server.SourceState.{SourceState}
-use Rattle.orch_base.specs.declared.server.SourceState.TheVariants.{Without, Attached, Detached}
+use Rattle.server_model.specs.Prelude.{Attached, Detached, Log, SourceState, Txn, Without}
 use Rattle.server_model.specs.declared.server.Server.{Server}
-pub use Rattle.orch_base.specs.Sources.{source_no}
+pub use Rattle.server_words.specs.OrchBase.Sources.{source_no}
 
 -- the servers by their numbers, whether they use GTIDs, and how many writes a server with a source accepted
 pub record World : Type 0 where

@@ -5,8 +5,8 @@ ghost use Rattle.server_model.specs.Attach.{attach_decision, chain_meets, first_
 ghost use Rattle.server_model.specs.Worlds.{sources_in};
 
 use crate::Server;
-use binlog_coords::Coord;
-use orch_base::{ServerNo, SourceState};
+use crate::binlog_coords_items::Coord;
+use crate::orch_base::{ServerNo, SourceState};
 use server_words::{AttachFault, Spot};
 
 fn same_spot(x: Spot, y: Spot) -> bool

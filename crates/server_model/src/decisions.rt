@@ -1,7 +1,7 @@
 //! What a receiver and an applier are to do next.
 
-use binlog_coords::{Coord, Next};
-use orch_base::Txn;
+use crate::binlog_coords_items::{Coord, Next};
+use crate::orch_base::Txn;
 
 /// What a receiver is to do next.
 #[derive(Clone, Copy, Debug, PartialEq, Eq)]

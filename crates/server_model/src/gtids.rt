@@ -1,14 +1,14 @@
 //! Servers by the GTIDs of what they have executed.
 
 ghost use Rattle.std.specs.Prelude.{◌≡◌, ◌+◌, ◌-◌, ◌<◌, ◌≤◌, All, IfOk, length, map, take, slice_range, true, if◌then◌else◌};
-ghost use Rattle.gtid_sets.specs.Adding.{with_pair};
+ghost use Rattle.server_model.specs.Prelude.{with_pair};
 ghost use Rattle.server_model.specs.Gtids.{auto_readiness, held_len, kept_coord, purged_len, purged_txns, reserved_set, uuids_in, with_gtids, IsNumbered};
 
 use crate::attach::spot_below;
+use crate::binlog_coords_items::{Coord, LogIndex};
+use crate::gtid_sets::ReservedSet;
+use crate::orch_base::{Memory, ServerNo};
 use crate::{AttachFault, Server};
-use binlog_coords::{Coord, LogIndex};
-use gtid_sets::ReservedSet;
-use orch_base::{Memory, ServerNo};
 use std::alloc::Global;
 
 /// The UUID of a server, or 0 where there is none.

@@ -1,13 +1,13 @@
 //! How many transactions of its own each server has executed.
 
 ghost use Rattle.std.specs.Prelude.{◌≡◌, ◌≤◌, IfOk, length};
-ghost use Rattle.orch_base.specs.Histories.{count_own};
+ghost use Rattle.server_model.specs.Prelude.{count_own};
 ghost use Rattle.server_model.specs.Fit.{own_counts};
 
 use crate::Server;
+use crate::binlog_coords_items::LogIndex;
+use crate::orch_base::{Memory, ServerNo};
 use crate::steps::own_of;
-use binlog_coords::LogIndex;
-use orch_base::{Memory, ServerNo};
 use std::alloc::Global;
 
 fn count_own(no: ServerNo, log: &LogIndex) -> u64

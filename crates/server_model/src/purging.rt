@@ -4,7 +4,7 @@ ghost use Rattle.std.specs.Prelude.{◌≡◌};
 ghost use Rattle.server_model.specs.Purging.{is_attached_to, is_reading, kept_from, least_read};
 
 use crate::Server;
-use orch_base::{ServerNo, SourceState};
+use crate::orch_base::{ServerNo, SourceState};
 
 fn is_attached_to(no: ServerNo, source: SourceState) -> bool
     ensures { result ≡ is_attached_to no.0 source }

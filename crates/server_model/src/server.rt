@@ -1,9 +1,9 @@
 //! One server.
 
+use crate::binlog_coords_items::{Coord, LogIndex, Next};
+use crate::orch_base::{ServerNo, Settings, SourceState, Txn};
 use crate::steps::is_attached;
 use crate::{ApplyStep, Ask, Event, FetchStep, Link, Threads};
-use binlog_coords::{Coord, LogIndex, Next};
-use orch_base::{ServerNo, Settings, SourceState, Txn};
 use std::marker::Model;
 
 /// A server: what it has executed, its log, and where it stands in its source's log.

@@ -1,13 +1,13 @@
 //! What orchestrator sees of a server in one exchange.
 
 ghost use Rattle.std.specs.Prelude.{◌≡◌, option_and_then, slice_get};
-ghost use Rattle.std.specs.Option.{option_copied};
+ghost use Rattle.server_model.specs.Prelude.{option_copied};
 ghost use Rattle.server_model.specs.Gtids.{io_of, status_of};
 ghost use Rattle.server_model.specs.Worlds.{source_no};
 
 use crate::Server;
-use gtid_sets::GtidSet;
-use orch_base::{IoState, SourceState};
+use crate::gtid_sets::GtidSet;
+use crate::orch_base::{IoState, SourceState};
 use server_words::Status;
 
 /// The server that this one is attached to or detached from.

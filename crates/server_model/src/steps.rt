@@ -1,17 +1,17 @@
 //! What a receiver and an applier are to do next.
 
 ghost use Rattle.std.specs.Prelude.{◌≡◌, ◌<◌, ◌≤◌, All, Some, true, ◌==◌, ◌&&◌, if◌then◌else◌};
-ghost use Rattle.binlog_coords.specs.Log.{has_place, next_after};
+ghost use Rattle.server_model.specs.Prelude.{has_place, next_after};
 ghost use Rattle.server_model.specs.Exchanges.{applied, apply_answer, apply_from, fetch_answer, fetch_from, is_applying, is_attached, is_reached, is_receiving, IsReady};
 ghost use Rattle.server_model.specs.Worlds.{has_source};
 ghost use Rattle.server_model.specs.Gtids.{uuids_in, TellsExecuted};
 ghost use Rattle.server_model.specs.Fit.{HasSize};
 
+use crate::binlog_coords_items::{Coord, Next};
+use crate::gtid_sets::ReservedSet;
 use crate::gtids::uuid_of;
+use crate::orch_base::{ServerNo, SourceState, Txn};
 use crate::{ApplyAnswer, ApplyStep, FetchAnswer, FetchStep, Server};
-use binlog_coords::{Coord, Next};
-use gtid_sets::ReservedSet;
-use orch_base::{ServerNo, SourceState, Txn};
 
 pub(crate) fn is_attached(source: SourceState) -> bool
     ensures { result ≡ is_attached source }

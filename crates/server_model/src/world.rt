@@ -1,8 +1,7 @@
 //! The world of servers.
 
 ghost use Rattle.std.specs.Prelude.{◌≡◌, ◌+◌, ◌<◌, ◌≤◌, true, length, Some, IfOk, IsSomeAnd, option_and_then, option_map, slice_get};
-ghost use Rattle.std.specs.Option.{option_copied};
-ghost use Rattle.orch_base.specs.Gives.{Gives};
+ghost use Rattle.server_model.specs.Prelude.{Gives, option_copied};
 ghost use Rattle.server_model.specs.Worlds.{server_at};
 ghost use Rattle.server_model.specs.Gtids.{attach_auto_answer, after_attach_auto, attach_fault, auto_coord, shown, status as status_of_server, status_fault, uuids, IsAutoTarget};
 ghost use Rattle.server_model.specs.Exchanges.{write_answer, after_write, fetch_step, fetch_answer, after_fetch, attached_at, apply_step, apply_answer, after_apply, IsReady};
@@ -13,10 +12,13 @@ ghost use Rattle.server_model.specs.Purging.{after_purge, purge_answer};
 ghost use Rattle.server_model.specs.Standing.{world_with, CanStand};
 
 use crate::attach::{attach_decision, chain_meets, first_kept, purged_answer};
+use crate::binlog_coords_items::{Coord, LogIndex, Next};
+use crate::gtid_sets::{GtidSet, ReservedSet};
 use crate::gtids::{
     auto_readiness, executed_sets, held_len, keep_gtid, keep_gtids, kept_coord, purged_len,
     purged_sets, uuid_of,
 };
+use crate::orch_base::{Memory, ServerNo, Settings, SourceState, Txn};
 use crate::own::own_counts;
 use crate::purging::kept_from;
 use crate::status::{above, status_of};
@@ -29,9 +31,6 @@ use crate::{
     PurgeAnswer, RotateAnswer, Server, Spot, Status, StatusFault, Threads, Unreachable,
     WriteAnswer,
 };
-use binlog_coords::{Coord, LogIndex, Next};
-use gtid_sets::{GtidSet, ReservedSet};
-use orch_base::{Memory, ServerNo, Settings, SourceState, Txn};
 use std::alloc::Global;
 use std::marker::Model;
 

@@ -3,9 +3,9 @@
 ghost use Rattle.std.specs.Prelude.{◌≡◌};
 ghost use Rattle.server_words.specs.declared.attach.AttachFault.TheVariants.{Memory as NoMemory};
 
+use crate::orch_base::{Memory, ServerNo};
 use binlog_coords::Coord;
 use gtid_sets::GtidSet;
-use orch_base::{Memory, ServerNo};
 use std::fmt;
 
 /// Where a server stands.

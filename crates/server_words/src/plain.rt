@@ -1,7 +1,7 @@
 //! What is told of a server for the tables.
 
+use crate::orch_base::SourceState;
 use binlog_coords::Coord;
-use orch_base::SourceState;
 
 /// A server's state but for what it has executed and logged.
 #[derive(Clone, Copy, Debug, PartialEq, Eq)]

@@ -3,9 +3,9 @@
 ghost use Rattle.std.specs.Prelude.{◌≡◌};
 ghost use Rattle.server_words.specs.declared.status.StatusFault.TheVariants.{Memory as NoMemory};
 
+use crate::orch_base::{IoState, Memory, SourceState};
 use binlog_coords::Coord;
 use gtid_sets::GtidSet;
-use orch_base::{IoState, Memory, SourceState};
 use std::fmt;
 
 /// A server as one exchange shows it (MySQL 8.0 Reference Manual, "SHOW REPLICA STATUS Statement", "SHOW BINARY LOG

@@ -19,9 +19,6 @@ passed_over read e = rw e refl
 -- any other fault stays
 pub passed_on : (f : RowFault) (read : Result Row RowFault) → (f ≡ fault.UnknownServer → ⊥)
     → MatchOption (fault_of f) ⊤ (λ g. read ≡ Err g) → MatchOption (fault_of f) ⊤ (λ g. unless_unknown read ≡ Err g)
-passed_on fault.NotJson read other e = rw e refl
-passed_on fault.BadVersion read other e = rw e refl
-passed_on (fault.BadField n) read other e = rw e refl
-passed_on fault.BadKey read other e = rw e refl
 passed_on fault.UnknownServer read other e = absurd (other refl)
 passed_on fault.Memory read other e = tt
+passed_on _ read other e = rw e refl

@@ -3,9 +3,9 @@
 ghost use Rattle.std.specs.Prelude.{◌≡◌};
 ghost use Rattle.sql_keeper.specs.Backends.{faults_in, kept_in};
 
+use crate::orch_base::Name;
 use crate::sql::SqlKeeper;
 use kept_rows::{Change, Keeper, KeeperFault, MemKeeper, Row};
-use orch_base::Name;
 use std::alloc::Global;
 
 /// Where rows are kept: in memory, or in a database file.

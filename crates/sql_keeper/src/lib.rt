@@ -8,4 +8,5 @@ mod sql;
 mod texts;
 
 pub use backend::Backend;
+use kept_rows::orch_base;
 pub use sql::SqlKeeper;

@@ -5,9 +5,9 @@ ghost use Rattle.kept_rows.specs.Keeping.{HasKeeperCause, KeepsAll};
 ghost use Rattle.kept_rows.specs.Rows.{IsRising};
 
 use crate::fault::SqlFault;
+use crate::orch_base::{Name, OwnedText};
 use crate::texts::{Texts, key_string, row_in, texts_of};
 use kept_rows::{Change, Keeper, KeeperFault, Row, row_map};
-use orch_base::{Name, OwnedText};
 use row_texts::TableNumber;
 use sqlite::{
     Connection, Error as SqlError, ErrorCode, File, FileStore, Row as SqlRow, Transaction, params,

@@ -2,7 +2,7 @@
 
 ghost use Rattle.std.specs.Prelude.{◌≡◌, IfOk, IfSome, Some, is_some, length, string_bytes, true};
 ghost use Rattle.std.specs.Bool.{OnTrue};
-ghost use Rattle.orch_base.specs.Gives.{Gives};
+ghost use Rattle.kept_rows.specs.OrchBase.Gives.{Gives};
 ghost use Rattle.kept_rows.specs.declared.row.Table.{Table};
 ghost use Rattle.kept_rows.specs.Rows.{key_of};
 ghost use Rattle.kept_rows.specs.Servers.{are_known, key_servers, servers_of};
@@ -12,8 +12,8 @@ ghost use Rattle.row_texts.specs.Written.{key_text, row_text};
 ghost use Rattle.sql_keeper.specs.Counting.{unless_unknown, IsOfNoServer};
 
 use crate::fault::SqlFault;
+use crate::orch_base::{Moment, Name, OwnedText, ServerNo};
 use kept_rows::{Ending, Key, Kind, RecoveryRow, Row, Table};
-use orch_base::{Moment, Name, OwnedText, ServerNo};
 use row_texts::{KeyText, RowFault, RowText, TableNumber};
 use std::alloc::Global;
 

@@ -1,58 +1,28 @@
 -- What a turn of a job does to servers.
 use Rattle.std.proofs.Common.{◌≡◌, ℕ, ◌+◌, Bool, true, false, cond, List, [], refl, sym, ◌∙◌, ap, subst, Option, Some, None, Ok, Err, Result, ◌&&◌}
 use Rattle.std.specs.Prelude.{◌==◌, nat_lt}
-use Rattle.std.proofs.lemmas.Bool.{false≢true, and_parts, eqb-true, eq-eqb}
-use Rattle.std.proofs.lemmas.Option.{same_Some}
-use Rattle.binlog_coords.specs.declared.Coord.{Coord}
-use Rattle.gtid_sets.specs.declared.interval.Interval.{Interval}
-use Rattle.orch_base.specs.declared.server.Moment.{Moment}
-use Rattle.orch_base.specs.declared.server.ServerNo.{ServerNo}
-use Rattle.orch_base.specs.declared.server.SourceState.{SourceState}
-use Rattle.orch_base.specs.declared.server.SourceState.TheVariants.{Without, Attached, Detached}
-use Rattle.server_words.specs.declared.answers.Unreachable.{Unreachable}
-use Rattle.server_words.specs.declared.attach.AttachFault.{AttachFault}
-use Rattle.server_words.specs.declared.attach.Spot.{Spot}
-use Rattle.server_words.specs.declared.attach.Spot.TheVariants as spot
-use Rattle.server_words.specs.declared.changes.Ask.{Ask}
-use Rattle.server_words.specs.declared.changes.Ask.TheVariants as asking
-use Rattle.server_words.specs.declared.status.Status.{Status}
-use Rattle.server_words.specs.declared.status.StatusFault.TheVariants as seeing
-use Rattle.server_model.specs.declared.server.Server.{Server}
-use Rattle.server_model.specs.Attach as model
-use Rattle.server_model.specs.Attach.{attached_to, attach_answer}
-use Rattle.server_model.specs.Desk.{asked, desk_answer, after_change, after_desk, detached, detached_source, is_detached}
-use Rattle.server_model.specs.Exchanges.{is_attached}
-use Rattle.server_model.specs.Gtids.{uuids, auto_coord, attached_auto, attach_auto_answer, after_attach_auto, shown_of, status, status_in}
-use Rattle.server_model.specs.Run.{Exchange, Request, Attach, AttachAuto, after, run}
-use Rattle.server_model.specs.Worlds.{World, server_at, with_server, has_source}
-use Rattle.replication_laws.proofs.Worlds.{at_with_same, at_with_other}
-use Rattle.instance_keeper.specs.declared.bridge.Bridge.{Bridge}
-use Rattle.kept_rows.specs.declared.observation.Observation.{Observation}
-use Rattle.kept_rows.specs.Seeing.{seen_in}
-use Rattle.commands.specs.declared.cause.Cause.TheVariants as cause
-use Rattle.operations.specs.declared.op.Crossing.TheVariants as cross
-use Rattle.operations.specs.declared.matching.Match.{Match}
-use Rattle.operations.specs.declared.matching.MatchFault.{MatchFault}
-use Rattle.operations.specs.declared.op.Op.{Op}
-use Rattle.operations.specs.declared.op.Op.TheVariants as op
-use Rattle.operations.specs.declared.sight.Position.{Position}
-use Rattle.operations.specs.Deeds as deed
-use Rattle.operations.specs.Deeds.{Deed, deed_of}
-use Rattle.operations.specs.Jobs.{Job, match_found, position_of, seen_of}
-use Rattle.operations.specs.Turns as attempt
-use Rattle.operations.specs.Matching.{match_logs, standing_at}
-use Rattle.operations.specs.Turns.{bridge_at, Attempt, saw, observed, is_moved, after_status, after_look, after_ask, aim_of, is_reached, until_by, after_until, after_wait_by, after_wait, holds_seen, settles, crossed, by_match, by_set, after_match, attach_answer_of, after_answer, by_deed}
-use Rattle.job_laws.specs.Footing.{footing, finds, is_under, logs_at, source_shown}
-use Rattle.job_laws.specs.Held.{AllShow}
-use Rattle.job_laws.specs.Matched.{ArePlaced, finds_match, matched_in}
-use Rattle.job_laws.proofs.Spanning.{bridge-parts}
-use Rattle.operations.proofs.Sights.{seen-at}
-use Rattle.job_laws.proofs.Trying.{cross-tried, auto-tried, match-tried}
-use Rattle.recovery_plans.specs.declared.task.Way.{Way}
-use Rattle.recovery_plans.specs.declared.task.Way.TheVariants as way
-use Rattle.recovery_plans.specs.Stages.{move, moves, moves_by, target}
-use Rattle.recovery_plans.specs.Taking.{is_waiting}
-use Rattle.standing_laws.specs.Standing.{IsUnder, IsSourced, IsApart, IsFree, IsWritable, KeepsSource, Stays, IsSourcedAsSeen, Reads}
+use Rattle.standing_laws.proofs.Prelude.{AllShow, ArePlaced, Ask, Attach, AttachAuto, Attached, AttachFault, Attempt, Bridge, Coord, Deed, Detached}
+use Rattle.standing_laws.proofs.Prelude.{Exchange, Interval, IsApart, IsFree, IsSourced, IsSourcedAsSeen, IsUnder, IsWritable, Job, KeepsSource}
+use Rattle.standing_laws.proofs.Prelude.{Match, MatchFault, Moment, Observation, Op, Position, Reads, Request, Server, ServerNo, SourceState, Spot}
+use Rattle.standing_laws.proofs.Prelude.{Status, Stays, Unreachable, Way, Without, World, after, after_answer, after_ask, after_attach_auto}
+use Rattle.standing_laws.proofs.Prelude.{after_change, after_desk, after_look, after_match, after_status, after_until, after_wait, after_wait_by}
+use Rattle.standing_laws.proofs.Prelude.{aim_of, and_parts, asked, at_with_other, at_with_same, attach_answer, attach_answer_of, attach_auto_answer}
+use Rattle.standing_laws.proofs.Prelude.{attached_auto, attached_to, auto-tried, auto_coord, bridge-parts, bridge_at, by_deed, by_match, by_set}
+use Rattle.standing_laws.proofs.Prelude.{cross-tried, crossed, deed_of, desk_answer, detached, detached_source, eq-eqb, eqb-true, false≢true, finds}
+use Rattle.standing_laws.proofs.Prelude.{finds_match, footing, has_source, holds_seen, is_attached, is_detached, is_moved, is_reached, is_under}
+use Rattle.standing_laws.proofs.Prelude.{is_waiting, logs_at, match-tried, match_found, match_logs, matched_in, move, moves, moves_by, observed}
+use Rattle.standing_laws.proofs.Prelude.{position_of, run, same_Some, saw, seen-at, seen_in, seen_of, server_at, settles, shown_of, source_shown}
+use Rattle.standing_laws.proofs.Prelude.{standing_at, status, status_in, target, until_by, uuids, with_server}
+use Rattle.standing_laws.proofs.Prelude.asking
+use Rattle.standing_laws.proofs.Prelude.attempt
+use Rattle.standing_laws.proofs.Prelude.cause
+use Rattle.standing_laws.proofs.Prelude.cross
+use Rattle.standing_laws.proofs.Prelude.deed
+use Rattle.standing_laws.proofs.Prelude.model
+use Rattle.standing_laws.proofs.Prelude.op
+use Rattle.standing_laws.proofs.Prelude.seeing
+use Rattle.standing_laws.proofs.Prelude.spot
+use Rattle.standing_laws.proofs.Prelude.way
 use Rattle.standing_laws.proofs.Standing.{Stays-same, Stays-keeps, ask-stays}
 
 -- ---- operations that change no source
@@ -113,12 +83,9 @@ module _ (w : World) (j : Job) (rest : List Op) (m : ℕ) where
   deed-still read now (deed.Await n to) h = wait-stays n (λ s. is_reached (aim_of j.seen to) s.exec) (seen_in (status w n.0))
   deed-still read now (deed.AwaitSet n k) h = wait-stays n (holds_seen (seen_of j.seen k.0)) (seen_in (status w n.0))
   deed-still read now (deed.Settle n) h = wait-stays n (settles j) (seen_in (status w n.0))
-  deed-still read now (deed.Cross c a b) h = absurd (false≢true (sym h))
-  deed-still read now (deed.Same n) h = absurd (false≢true (sym h))
-  deed-still read now (deed.Auto n k) h = absurd (false≢true (sym h))
   deed-still read now (deed.Match n k every) h = match-stays n k (standing_at (server_at w n.0)) (match_logs w n k every)
-  deed-still read now (deed.CrossMatch n k) h = absurd (false≢true (sym h))
   deed-still read now (deed.Finish lines) h = tt
+  deed-still read now _ h = absurd (false≢true (sym h))
 
 -- ---- one that changes a server
 

@@ -1,36 +1,23 @@
 -- What an exchange leaves of how servers stand.
 use Rattle.std.proofs.Common.{◌≡◌, ℕ, Bool, true, false, cond, refl, sym, ◌∙◌, ap, Option, Some, None, Ok, Err, Result, ◌||◌}
 use Rattle.std.specs.Prelude.{◌==◌}
-use Rattle.std.proofs.lemmas.Bool.{false≢true, eqb-true, eq-eqb}
-use Rattle.std.proofs.lemmas.Option.{same_Some}
-use Rattle.binlog_coords.specs.declared.Coord.{Coord}
-use Rattle.binlog_coords.specs.declared.Next.TheVariants as next
-use Rattle.server_model.specs.declared.decisions.ApplyStep.{ApplyStep}
-use Rattle.server_model.specs.declared.decisions.ApplyStep.TheVariants as applying
-use Rattle.server_model.specs.declared.decisions.FetchStep.{FetchStep}
-use Rattle.server_model.specs.declared.decisions.FetchStep.TheVariants as receiving
-use Rattle.server_words.specs.declared.answers.PurgeAnswer.{PurgeAnswer}
-use Rattle.server_words.specs.declared.answers.PurgeAnswer.TheVariants as purging
-use Rattle.server_words.specs.declared.answers.RotateAnswer.{RotateAnswer}
-use Rattle.server_words.specs.declared.answers.RotateAnswer.TheVariants as rotating
-use Rattle.server_words.specs.declared.answers.Unreachable.{Unreachable}
-use Rattle.server_words.specs.declared.answers.WriteAnswer.{WriteAnswer}
-use Rattle.server_words.specs.declared.answers.WriteAnswer.TheVariants as wrote
-use Rattle.server_words.specs.declared.changes.Ask.{Ask}
-use Rattle.server_words.specs.declared.changes.Ask.TheVariants as asking
-use Rattle.server_words.specs.declared.changes.Event.{Event}
-use Rattle.server_words.specs.declared.changes.Event.TheVariants as event
-use Rattle.server_words.specs.declared.changes.Link.TheVariants as link
-use Rattle.server_words.specs.declared.changes.Threads.TheVariants as threads
-use Rattle.server_model.specs.declared.server.Server.{Server}
-use Rattle.server_model.specs.Desk.{asked, befallen, rotate_answer, rotated, after_change, after_desk, after_rotate, started, healed, is_detached}
-use Rattle.server_model.specs.Exchanges.{took, own_txn, write_answer, after_write, fetch_step, after_fetch, apply_step, after_apply, is_attached}
-use Rattle.server_model.specs.Purging.{after_purge, purge_answer}
-use Rattle.server_model.specs.Run.{Exchange, Write, Fetch, Apply, Request, Befall, Rotate, Attach, AttachAuto, Purge, after}
-use Rattle.server_model.specs.Worlds.{World, server_at, with_server, has_source}
-use Rattle.replication_laws.proofs.Worlds.{at_with_same, at_with_other}
-use Rattle.recovery_plans.specs.Stages.{moves_by}
-use Rattle.standing_laws.specs.Standing.{attached_no, IsUnder, IsSourced, IsApart, IsFree, IsWritable, IsRuling, is_outside, KeepsSource, Stays}
+use Rattle.standing_laws.proofs.Prelude.{Apply, ApplyStep, Ask, Befall, Coord, Event, Exchange, Fetch, FetchStep, IsApart, IsFree}
+use Rattle.standing_laws.proofs.Prelude.{IsRuling, IsSourced, IsUnder, IsWritable, KeepsSource, Purge, PurgeAnswer, Rotate, RotateAnswer}
+use Rattle.standing_laws.proofs.Prelude.{Server, Stays, Unreachable, World, Write, WriteAnswer, after, after_apply, after_change, after_desk}
+use Rattle.standing_laws.proofs.Prelude.{after_fetch, after_purge, after_rotate, after_write, apply_step, asked, at_with_other, at_with_same}
+use Rattle.standing_laws.proofs.Prelude.{attached_no, befallen, eq-eqb, eqb-true, false≢true, fetch_step, has_source, healed, is_attached}
+use Rattle.standing_laws.proofs.Prelude.{is_detached, is_outside, moves_by, own_txn, purge_answer, rotate_answer, rotated, same_Some, server_at}
+use Rattle.standing_laws.proofs.Prelude.{started, took, with_server, write_answer}
+use Rattle.standing_laws.proofs.Prelude.applying
+use Rattle.standing_laws.proofs.Prelude.asking
+use Rattle.standing_laws.proofs.Prelude.event
+use Rattle.standing_laws.proofs.Prelude.link
+use Rattle.standing_laws.proofs.Prelude.next
+use Rattle.standing_laws.proofs.Prelude.purging
+use Rattle.standing_laws.proofs.Prelude.receiving
+use Rattle.standing_laws.proofs.Prelude.rotating
+use Rattle.standing_laws.proofs.Prelude.threads
+use Rattle.standing_laws.proofs.Prelude.wrote
 
 -- ---- what stays
 
@@ -79,31 +66,22 @@ module _ (w : World) (n m : ℕ) where
   none = Stays-same w w m refl
 
   write-stays : (size : ℕ) (o : Option Server) → server_at w n ≡ o → (a : WriteAnswer) → Same (after_write w n size o a)
-  write-stays size None at a = none
-  write-stays size (Some s) at wrote.Down = none
-  write-stays size (Some s) at wrote.ReadOnly = none
-  write-stays size (Some s) at wrote.Full = none
   write-stays size (Some s) at (wrote.Done seq) =
       let k = keep w n s (took s (own_txn n seq size)) at refl refl m in record { stays = λ x h. k.stays x h }
+  write-stays size _ at _ = none
 
   fetch-stays : (o : Option Server) → server_at w n ≡ o → (a : FetchStep) → Same (after_fetch w n o a)
-  fetch-stays None at a = none
-  fetch-stays (Some r) at receiving.Halt = none
-  fetch-stays (Some r) at receiving.Unlinked = none
   fetch-stays (Some r) at (receiving.Refuse first) = keep w n r (record r { receiver = false }) at refl refl m
   fetch-stays (Some r) at (receiving.Take (next.Entry index to)) = keep w n r (record r { read = to }) at refl refl m
   fetch-stays (Some r) at (receiving.Take (next.Rotate to)) = keep w n r (record r { read = to }) at refl refl m
-  fetch-stays (Some r) at (receiving.Take next.End) = none
+  fetch-stays _ at _ = none
 
   apply-stays : (o : Option Server) → server_at w n ≡ o → (a : ApplyStep) → Same (after_apply w n o a)
-  apply-stays None at a = none
-  apply-stays (Some r) at applying.Halt = none
   apply-stays (Some r) at applying.ForgetUntil = keep w n r (record r { applier = false; until = None }) at refl refl m
-  apply-stays (Some r) at applying.Idle = none
-  apply-stays (Some r) at applying.NoRoom = none
   apply-stays (Some r) at (applying.Pass to) = keep w n r (record r { exec = to }) at refl refl m
   apply-stays (Some r) at (applying.Skip to) = keep w n r (record r { exec = to }) at refl refl m
   apply-stays (Some r) at (applying.Execute t to) = keep w n r (record (took r t) { exec = to }) at refl refl m
+  apply-stays _ at _ = none
 
   healed-keeps : (s : Server) → (t : Server) → (b : Bool) → cond b s (record s { up = true; until = None; receiver = is_attached s.source || s.receiver; applier = is_attached s.source || s.applier }) ≡ t
       → (t.source ≡ s.source) × (t.read_only ≡ s.read_only)
@@ -120,18 +98,12 @@ module _ (w : World) (n m : ℕ) where
   befall-stays (event.Join link.Feed) (Some s) at = keep w n s (record s { feed = true }) at refl refl m
 
   rotate-stays : (o : Option Server) → server_at w n ≡ o → (a : RotateAnswer) → Same (after_rotate w n o a)
-  rotate-stays None at a = none
-  rotate-stays (Some s) at rotating.Down = none
-  rotate-stays (Some s) at rotating.NotLogging = none
-  rotate-stays (Some s) at rotating.Full = none
   rotate-stays (Some s) at (rotating.Done to) = keep w n s (rotated s) at refl refl m
+  rotate-stays _ at _ = none
 
   purge-stays : (o : Option Server) → server_at w n ≡ o → (a : PurgeAnswer) → Same (after_purge w n o a)
-  purge-stays None at a = none
-  purge-stays (Some s) at purging.Down = none
-  purge-stays (Some s) at purging.NotLogging = none
-  purge-stays (Some s) at purging.NoFile = none
   purge-stays (Some s) at (purging.Done first) = keep w n s (record s { first = first }) at refl refl m
+  purge-stays _ at _ = none
 
   started-keeps : (to : Option Coord) (s t : Server) → (b : Bool) → cond b (record s { receiver = true; applier = true; until = to }) s ≡ t → (t.source ≡ s.source) × (t.read_only ≡ s.read_only)
   started-keeps to s t true h = (ap (λ (y : Server). y.source) (sym h), ap (λ (y : Server). y.read_only) (sym h))
@@ -144,10 +116,7 @@ module _ (w : World) (n m : ℕ) where
   ask-keeps (asking.Stop threads.Applier) s h = (refl, refl)
   ask-keeps asking.Start s h = started-keeps None s (started None s) (is_attached s.source) refl
   ask-keeps (asking.StartUntil to) s h = started-keeps (Some to) s (started (Some to) s) (is_attached s.source) refl
-  ask-keeps asking.Detach s h = absurd (false≢true (sym h))
-  ask-keeps asking.Reattach s h = absurd (false≢true (sym h))
-  ask-keeps asking.Reset s h = absurd (false≢true (sym h))
-  ask-keeps (asking.SetReadOnly on) s h = absurd (false≢true (sym h))
+  ask-keeps _ s h = absurd (false≢true (sym h))
 
   change-stays : (a : Ask) → moves_by a ≡ false → (o : Option Server) → server_at w n ≡ o → Same (after_change w n (asked a) o)
   change-stays a h None at = none
@@ -161,9 +130,7 @@ pub outside-stays : (w : World) (e : Exchange) → is_outside e ≡ true → (m 
 outside-stays w (Write n size) h m = write-stays w n m size (server_at w n) refl (write_answer n (server_at w n))
 outside-stays w (Fetch n) h m = fetch-stays w n m (server_at w n) refl (fetch_step w (server_at w n))
 outside-stays w (Apply n) h m = apply-stays w n m (server_at w n) refl (apply_step w (server_at w n))
-outside-stays w (Request n a) h m = absurd (false≢true h)
 outside-stays w (Befall n e) h m = befall-stays w n m e (server_at w n) refl
 outside-stays w (Rotate n) h m = rotate-stays w n m (server_at w n) refl (rotate_answer (server_at w n))
 outside-stays w (Purge n file) h m = purge-stays w n m (server_at w n) refl (purge_answer w n file (server_at w n))
-outside-stays w (Attach n expect to at) h m = absurd (false≢true h)
-outside-stays w (AttachAuto n observed to) h m = absurd (false≢true h)
+outside-stays w _ h m = absurd (false≢true h)

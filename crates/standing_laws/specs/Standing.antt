@@ -1,15 +1,15 @@
 -- How servers stand.
 use Rattle.std.specs.Prelude.{◌≡◌, ℕ, Bool, true, false, List, Option, Some, None}
-use Rattle.orch_base.specs.declared.server.ServerNo.{ServerNo}
-use Rattle.orch_base.specs.declared.server.SourceState.{SourceState}
-use Rattle.orch_base.specs.declared.server.SourceState.TheVariants.{Without, Attached, Detached}
-use Rattle.server_model.specs.declared.server.Server.{Server}
-use Rattle.server_model.specs.Desk.{is_detached}
-use Rattle.server_model.specs.Run.{Exchange, Write, Fetch, Apply, Request, Befall, Rotate, Attach, AttachAuto, Purge}
-use Rattle.server_model.specs.Worlds.{World, has_source, server_at}
-use Rattle.operations.specs.declared.sight.Position.{Position}
-use Rattle.operations.specs.declared.sight.Sight.{Sight}
-use Rattle.operations.specs.Jobs.{seen_of}
+use Rattle.recovery_plans.specs.OrchBase.declared.server.ServerNo.{ServerNo}
+use Rattle.recovery_plans.specs.OrchBase.declared.server.SourceState.{SourceState}
+use Rattle.recovery_plans.specs.OrchBase.declared.server.SourceState.TheVariants.{Without, Attached, Detached}
+use Rattle.recovery_plans.specs.ServerModel.declared.server.Server.{Server}
+use Rattle.recovery_plans.specs.ServerModel.Desk.{is_detached}
+use Rattle.recovery_plans.specs.ServerModel.Run.{Exchange, Write, Fetch, Apply, Request, Befall, Rotate, Attach, AttachAuto, Purge}
+use Rattle.recovery_plans.specs.ServerModel.Worlds.{World, has_source, server_at}
+use Rattle.recovery_plans.specs.Operations.declared.sight.Position.{Position}
+use Rattle.recovery_plans.specs.Operations.declared.sight.Sight.{Sight}
+use Rattle.recovery_plans.specs.Operations.Jobs.{seen_of}
 use Rattle.job_laws.specs.Footing.{source_shown}
 use Rattle.recovery_plans.specs.declared.task.Way.{Way}
 use Rattle.recovery_plans.specs.declared.task.Way.TheVariants as way

@@ -1,8 +1,8 @@
 //! Exchanges that are no orchestrator's.
 
 ghost use Rattle.std.specs.Prelude.{◌≡◌, ℕ, true};
-ghost use Rattle.server_model.specs.Run.{Exchange, after};
-ghost use Rattle.server_model.specs.Worlds.{World};
+ghost use Rattle.recovery_plans.specs.ServerModel.Run.{Exchange, after};
+ghost use Rattle.recovery_plans.specs.ServerModel.Worlds.{World};
 ghost use Rattle.standing_laws.specs.Standing.{Stays, is_outside};
 
 /// An exchange that is no orchestrator's leaves each server its source, and whether it takes writes.

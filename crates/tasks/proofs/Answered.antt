@@ -1,21 +1,10 @@
 -- A command's plan is answered as the command would be.
 use Rattle.std.proofs.Common.{◌≡◌, ◌∙◌, ℕ, Bool, true, false, cond, refl, sym, ap, subst, Option, Some, None}
-use Rattle.std.specs.Option.{unwrap_or}
-use Rattle.std.proofs.lemmas.Option.{same_Some}
-use Rattle.commands.specs.declared.turn.CommandTurn.{CommandTurn}
-use Rattle.node_claims.specs.Claims.{ClaimState, active, active_by, is_of, may_act}
-use Rattle.node_claims.specs.declared.claims.ClaimAnswer.{ClaimAnswer}
-use Rattle.orch_base.specs.declared.server.Moment.{Moment}
-use Rattle.orch_core.specs.Nodes.{acts}
-use Rattle.orch_core.specs.Replies.{act_reply, done_reply, reply_of}
-use Rattle.orch_core.specs.States.{State}
-use Rattle.turns.specs.declared.reply.Reply.{Reply}
-use Rattle.turns.specs.declared.turn.Act.TheVariants as act
-use Rattle.turns.specs.declared.turn.Turn.{Turn}
-use Rattle.turns.specs.declared.turn.Turn.TheVariants as turn
-use Rattle.tasks.specs.Laws.{PlansAreAnsweredAsCommands, PlansTellClaimsThatLast}
-use Rattle.tasks.specs.Plans.{lasting_by, taken_by}
-use Rattle.tasks.specs.Stages.{active_in, claim_without, command_as, is_alone, taker_by}
+use Rattle.tasks.proofs.Prelude.{ClaimAnswer, ClaimState, CommandTurn, Moment, PlansAreAnsweredAsCommands, PlansTellClaimsThatLast, Reply, State}
+use Rattle.tasks.proofs.Prelude.{Turn, act_reply, active, active_by, active_in, acts, claim_without, command_as, done_reply, is_alone, is_of}
+use Rattle.tasks.proofs.Prelude.{lasting_by, may_act, reply_of, same_Some, taken_by, taker_by, unwrap_or}
+use Rattle.tasks.proofs.Prelude.act
+use Rattle.tasks.proofs.Prelude.turn
 use Rattle.tasks.proofs.Planning.{some_ahead}
 
 -- who is active may act

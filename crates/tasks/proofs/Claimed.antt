@@ -1,21 +1,12 @@
 -- A single command's claim decides whether it is taken.
 use Rattle.std.proofs.Common.{◌≡◌, ◌∙◌, ℕ, Bool, true, false, cond, List, refl, sym, ap, subst, Option, Some, None}
 use Rattle.std.specs.Prelude.{◌==◌, ◌&&◌, nat_lt, not}
-use Rattle.commands.specs.declared.turn.CommandTurn.{CommandTurn}
-use Rattle.kept_rows.specs.declared.row.Row.{Row}
-use Rattle.node_claims.specs.Claims.{ClaimState, active, active_by, after_answer, claim_by, is_of, may_act, until_from}
-use Rattle.node_claims.specs.declared.claims.ClaimAnswer.{ClaimAnswer}
-use Rattle.node_claims.specs.declared.claims.ClaimAnswer.TheVariants as claim
-use Rattle.orch_base.specs.declared.server.Moment.{Moment}
-use Rattle.orch_core.specs.After.{after_done, step}
-use Rattle.orch_core.specs.Nodes.{act_claimed, claimed}
-use Rattle.orch_core.specs.States.{State}
-use Rattle.orch_core.proofs.Claims.{nodes-step}
-use Rattle.turns.specs.declared.turn.Act.TheVariants as act
-use Rattle.turns.specs.declared.turn.Turn.{Turn}
-use Rattle.turns.specs.declared.turn.Turn.TheVariants as turn
-use Rattle.tasks.specs.Laws.{ClaimedCommandsAreTaken, TakenClaimsTakeNoCommand}
-use Rattle.tasks.specs.Stages.{active_in, claim_ahead, claim_without, command_as, is_alone, own_turn, taker, taker_by}
+use Rattle.tasks.proofs.Prelude.{ClaimAnswer, ClaimedCommandsAreTaken, ClaimState, CommandTurn, Moment, Row, State, TakenClaimsTakeNoCommand, Turn}
+use Rattle.tasks.proofs.Prelude.{act_claimed, active, active_by, active_in, after_answer, after_done, claim_ahead, claim_by, claim_without, claimed}
+use Rattle.tasks.proofs.Prelude.{command_as, is_alone, is_of, may_act, nodes-step, own_turn, step, taker, taker_by, until_from}
+use Rattle.tasks.proofs.Prelude.act
+use Rattle.tasks.proofs.Prelude.claim
+use Rattle.tasks.proofs.Prelude.turn
 
 -- who claims ahead is one of several, of whom none is active
 pub several : (s : State) (t : Turn) → claim_ahead s ≡ Some t → is_alone s ≡ false

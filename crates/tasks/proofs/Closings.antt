@@ -1,33 +1,16 @@
 -- The rounds behind a single command's own turn, with their journal.
 use Rattle.std.proofs.Common.{◌≡◌, ◌∙◌, ℕ, zero, suc, ◌<◌, ◌≤◌, Bool, true, false, cond, List, [], ◌∷◌, ◌++◌, refl, sym, ap, subst, arith, append_assoc, Option, Some, None}
 use Rattle.std.specs.Prelude.{All}
-use Rattle.std.specs.List.{flat_map}
-use Rattle.std.specs.Option.{unwrap_or}
-use Rattle.std.proofs.lemmas.Bool.{false≢true}
-use Rattle.std.proofs.lemmas.List.{append-nil}
-use Rattle.std.proofs.lemmas.List.Elements.{All-append, All-cons, All-head, All-nil, All-tail}
-use Rattle.std.proofs.lemmas.List.Sums.{fold-append}
-use Rattle.orch_base.specs.declared.server.ServerNo.{ServerNo}
-use Rattle.kept_rows.specs.declared.row.Row.{Row}
-use Rattle.name_order.specs.NameOrder.{by_name}
-use Rattle.turns.specs.declared.reply.Reply.{Reply}
-use Rattle.turns.specs.declared.turn.Turn.{Turn}
-use Rattle.turns.specs.declared.turn.Act.TheVariants as act
-use Rattle.turns.specs.declared.turn.Step.TheVariants as step
-use Rattle.turns.specs.declared.turn.Turn.TheVariants as turn
-use Rattle.jobs_in_flight.specs.Jobs.{is_open, most_turns}
-use Rattle.orch_core.specs.Keeping.{Ran}
-use Rattle.orch_core.specs.Replies.{reply_of}
-use Rattle.knowledge.specs.declared.fault.TurnFault.{TurnFault}
-use Rattle.orch_core.specs.Rounds.{FinishedBy, IsFinish, WasCutShort, after_rounds, after_turns, round_of, times, told_in}
-use Rattle.jobs_in_flight.specs.Rounds.{polls, replicates, round_over}
-use Rattle.orch_core.specs.After.{step as turn_step}
-use Rattle.orch_core.specs.Runs.{Held, engine, LeadsTo, Recorded, held_run, held_step, record_turn, recorder, run_turns, turns_of}
-use Rattle.orch_core.specs.States.{State}
-use Rattle.orch_core.proofs.Finishing.{AsksNever, AsksNothing, asks-round, step-any}
-use Rattle.tasks.specs.Closing.{begun_by, closing_by, rounds_of, rounds_while}
-use Rattle.tasks.specs.Progress.{ClosesEach, GivesUpEach, GivesUpOn, Point}
-use Rattle.tasks.specs.Report.{is_commands, last_reply, or_reply}
+use Rattle.tasks.proofs.Prelude.{All-append, All-cons, All-head, All-nil, All-tail, AsksNever, AsksNothing, ClosesEach, FinishedBy, GivesUpEach}
+use Rattle.tasks.proofs.Prelude.{GivesUpOn, Held, IsFinish, LeadsTo, Point, Ran, Recorded, Reply, Row, ServerNo, State, Turn, TurnFault, WasCutShort}
+use Rattle.tasks.proofs.Prelude.{after_rounds, after_turns, append-nil, asks-round, begun_by, by_name, closing_by, engine, false≢true, flat_map}
+use Rattle.tasks.proofs.Prelude.{fold-append, held_run, held_step, is_commands, is_open, last_reply, most_turns, or_reply, polls, record_turn}
+use Rattle.tasks.proofs.Prelude.{recorder, replicates, reply_of, round_of, round_over, rounds_of, rounds_while, run_turns, step as turn_step}
+use Rattle.tasks.proofs.Prelude.{step-any, times, turns_of, unwrap_or}
+use Rattle.tasks.proofs.Prelude.Rounds.{told_in}
+use Rattle.tasks.proofs.Prelude.act
+use Rattle.tasks.proofs.Prelude.turn
+use Rattle.tasks.proofs.Prelude.turns_step as step
 use Rattle.tasks.proofs.Courses.{gave_up_on, recorded_at}
 
 -- ---- so many rounds

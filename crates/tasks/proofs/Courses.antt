@@ -1,31 +1,15 @@
 -- Runs with their journals, turn by turn, and the lines of their replies.
 use Rattle.std.proofs.Common.{◌≡◌, ◌∙◌, ℕ, ◌+◌, ◌<◌, ◌≤◌, cond, List, [], ◌∷◌, ◌++◌, length, take, get_or, true, false, refl, sym, ap, subst, arith, append_assoc, Option, Some, None, Bool}
 use Rattle.std.specs.Prelude.{◌||◌, slice_get}
-use Rattle.std.proofs.lemmas.List.{append-nil, length-append, length-take-le, take_more, take-append-le}
-use Rattle.std.proofs.lemmas.List.Folds.{list_any-append}
-use Rattle.std.proofs.lemmas.List.Sums.{count_by-le-length, sum_by_push}
-use Rattle.std.proofs.Math.ListN.{get_or-append}
-use Rattle.std.proofs.lemmas.Option.{get_or_from_slice_get, slice_get-get_or}
-use Rattle.orch_base.specs.Names.{HostPort}
-use Rattle.kept_rows.specs.declared.row.Row.{Row}
-use Rattle.turns.specs.declared.turn.Turn.{Turn}
-use Rattle.turns.specs.declared.reply.Reply.{Reply}
-use Rattle.knowledge.specs.declared.fault.TurnFault.{TurnFault}
-use Rattle.knowledge.specs.declared.fault.TurnFault.TheVariants as fault
-use Rattle.orch_core.specs.Keeping.{Calls, Ran, StepsTo, WasCutOff, kept_by}
-use Rattle.orch_core.specs.Replies.{reply_of}
-use Rattle.orch_core.specs.Runs.{Held, Recorded, engine, held_run, held_step, record_turn, recorder, run_turns}
-use Rattle.orch_core.specs.Scenarios.{without_turns}
-use Rattle.orch_core.specs.States.{State}
-use Rattle.orch_core.proofs.Runs.{Ran-more, Ran-nil, StepsTo-recorded}
-use Rattle.report_text.specs.declared.totals.Tally.{Tally}
-use Rattle.report_text.specs.Lines.{line_text, lines_text}
-use Rattle.tasks.specs.declared.progress.Progress.{Progress}
-use Rattle.tasks.specs.declared.verdict.Verdict.{Verdict}
-use Rattle.tasks.specs.declared.verdict.Verdict.TheVariants as verdict
-use Rattle.tasks.specs.Progress.{Adds, Follows, GivesUp, GivesUpOn, GaveUp, IsFresh, Leads, Point, StopsBefore, StopsBehind, Tallies, point, with_reply}
-use Rattle.tasks.specs.Report.{any_refused, is_failure, is_refusal, is_refused, replies_text, tally_of, verdict_of}
-use Rattle.tasks.specs.Sinks.{Carries, IsOnTheWay, Taken, TakesFront, between}
+use Rattle.tasks.proofs.Prelude.{Adds, Calls, Carries, Follows, GaveUp, GivesUp, GivesUpOn, Held, HostPort, IsFresh, IsOnTheWay, Leads, Point}
+use Rattle.tasks.proofs.Prelude.{Progress, Ran, Ran-more, Ran-nil, Recorded, Reply, Row, State, StepsTo, StepsTo-recorded, StopsBefore, StopsBehind}
+use Rattle.tasks.proofs.Prelude.{Taken, TakesFront, Tallies, Tally, Turn, TurnFault, Verdict, WasCutOff, any_refused, append-nil, between}
+use Rattle.tasks.proofs.Prelude.{count_by-le-length, engine, get_or-append, get_or_from_slice_get, held_run, held_step, is_failure, is_refusal}
+use Rattle.tasks.proofs.Prelude.{is_refused, kept_by, length-append, length-take-le, line_text, lines_text, list_any-append, point, record_turn}
+use Rattle.tasks.proofs.Prelude.{recorder, replies_text, reply_of, run_turns, slice_get-get_or, sum_by_push, take-append-le, take_more, tally_of}
+use Rattle.tasks.proofs.Prelude.{verdict_of, with_reply, without_turns}
+use Rattle.tasks.proofs.Prelude.fault
+use Rattle.tasks.proofs.Prelude.verdict
 use Rattle.tasks.proofs.Sends.{front_of_longer, front_taken, takes_nothing}
 
 -- ---- the lines of a journal

@@ -1,23 +1,11 @@
 -- The lines of a journal, one after another.
 use Rattle.std.proofs.Common.{◌≡◌, ◌∙◌, ℕ, ◌+◌, ◌<◌, Bool, true, false, List, [], ◌∷◌, ◌++◌, length, take, drop, get_or, Result, Ok, Err, refl, sym, ap, subst, arith, append_assoc}
 use Rattle.std.specs.Prelude.{◌||◌, OnErr}
-use Rattle.std.specs.List.{list_any}
-use Rattle.std.proofs.lemmas.List.{append-nil, length-map, length-take-le, map_more, take-append-drop, take-map}
-use Rattle.std.proofs.lemmas.List.Folds.{list_any-append}
-use Rattle.std.proofs.Math.Seq.{take-length}
-use Rattle.orch_base.specs.Names.{HostPort}
-use Rattle.orch_core.specs.Runs.{Recorded}
-use Rattle.turns.specs.declared.turn.Turn.{Turn}
-use Rattle.turns.specs.declared.reply.Reply.{Reply}
-use Rattle.report_text.specs.Lines.{line_text, lines_text}
-use Rattle.tasks.specs.declared.ending.Ending.{Ending}
-use Rattle.tasks.specs.declared.ending.Ending.TheVariants as ends
-use Rattle.tasks.specs.declared.pieces.Pieces.{Pieces}
-use Rattle.tasks.specs.declared.progress.Progress.{Progress}
-use Rattle.tasks.specs.Journals.{JournalStands, Told, ToldSome, headed_text, told_in}
-use Rattle.tasks.specs.Progress.{Adds, EndsWhole}
-use Rattle.tasks.specs.Report.{any_refused, is_refused, replies_text, tables_of}
-use Rattle.tasks.specs.Sinks.{Carries, FailsIn, IsOnTheWay, Stays, Taken, Takes, TakesFront, between}
+use Rattle.tasks.proofs.Prelude.{Adds, Carries, Ending, EndsWhole, FailsIn, HostPort, IsOnTheWay, JournalStands, Pieces, Progress, Recorded, Reply}
+use Rattle.tasks.proofs.Prelude.{Stays, Taken, Takes, TakesFront, Told, ToldSome, Turn, any_refused, append-nil, between, headed_text, is_refused}
+use Rattle.tasks.proofs.Prelude.{length-map, length-take-le, line_text, lines_text, list_any, list_any-append, map_more, replies_text, tables_of}
+use Rattle.tasks.proofs.Prelude.{take-append-drop, take-length, take-map, told_in}
+use Rattle.tasks.proofs.Prelude.ends
 use Rattle.tasks.proofs.Courses.{lines-append}
 use Rattle.tasks.proofs.Sends.{front_of_longer, front_taken, takes_nothing}
 

@@ -1,29 +1,11 @@
 -- Tasks where the keeper tells its rows.
 use Rattle.std.proofs.Common.{◌≡◌, ◌∙◌, ℕ, ◌+◌, ◌≤◌, true, List, [], ◌∷◌, ◌++◌, length, map, None, take, drop, refl, sym, ap, subst, append_assoc, arith, Option, Some, inl, inr}
-use Rattle.std.proofs.lemmas.List.{append-nil, length-map, map-append, take-append-drop, take-append-le}
-use Rattle.std.proofs.Math.Seq.{take-append-add}
-use Rattle.std.proofs.lemmas.List.Sums.{fold-append}
-use Rattle.orch_base.specs.Names.{HostPort}
-use Rattle.kept_rows.specs.declared.row.Row.{Row}
-use Rattle.kept_rows.specs.Rows.{changed}
-use Rattle.scenarios.specs.declared.scenario.Scenario.{Scenario}
-use Rattle.scenarios.specs.Scenarios.{names_of}
-use Rattle.turns.specs.declared.turn.Turn.{Turn}
-use Rattle.turns.specs.declared.reply.Reply.{Reply}
-use Rattle.orch_core.specs.Keeping.{Ran}
-use Rattle.orch_core.specs.Replies.{reply_of}
-use Rattle.orch_core.specs.Runs.{Held, LeadsTo, Recorded, held_run, held_step, record_turn, recorder, run_turns, turns_of}
-use Rattle.orch_core.specs.Scenarios.{StartsBy, kept_at_start, start, start_changes, without_turns}
-use Rattle.orch_core.specs.States.{State}
-use Rattle.report_text.specs.Lines.{lines_text}
-use Rattle.tasks.specs.declared.asked.Asked.{Asked}
-use Rattle.tasks.specs.declared.asked.Asked.TheVariants as asked
-use Rattle.tasks.specs.declared.asked.Task.{Task}
-use Rattle.tasks.specs.Endings.{IsOn, IsWhole, WasCut, course_of}
-use Rattle.tasks.specs.Known.{Begins, IsFixed, all_turns, cut_answer, held_from, opened, task_answer, turns_from}
-use Rattle.tasks.specs.Report.{asked_answer, cut_text, replies_text, tables_of, tally_of}
-use Rattle.tasks.specs.Stages.{AllTaken, SomeTaken, Stage, stages}
-use Rattle.tasks.specs.Works.{Comes, Work}
+use Rattle.tasks.proofs.Prelude.{AllTaken, Asked, Begins, Comes, Held, HostPort, IsFixed, IsOn, IsWhole, LeadsTo, Ran, Recorded, Reply, Row, Scenario}
+use Rattle.tasks.proofs.Prelude.{SomeTaken, Stage, StartsBy, State, Task, Turn, WasCut, Work, all_turns, append-nil, asked_answer, changed, course_of}
+use Rattle.tasks.proofs.Prelude.{cut_answer, cut_text, fold-append, held_from, held_run, held_step, kept_at_start, length-map, lines_text, map-append}
+use Rattle.tasks.proofs.Prelude.{names_of, opened, record_turn, recorder, replies_text, reply_of, run_turns, stages, start, start_changes, tables_of}
+use Rattle.tasks.proofs.Prelude.{take-append-add, take-append-drop, take-append-le, tally_of, task_answer, turns_from, turns_of, without_turns}
+use Rattle.tasks.proofs.Prelude.asked
 use Rattle.tasks.proofs.Courses.{lines-append}
 use Rattle.tasks.proofs.Stages.{all_some, cut_some, some_ran}
 

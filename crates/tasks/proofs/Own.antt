@@ -1,27 +1,15 @@
 -- A single command's claim and its own turn.
 use Rattle.std.proofs.Common.{◌≡◌, ◌∙◌, ℕ, ◌++◌, List, [], ◌∷◌, Bool, true, false, refl, sym, ap, subst, Option, Some, None, cond, inr}
-use Rattle.std.specs.Option.{option_and_then, option_or, option_to_list, unwrap_or}
+use Rattle.tasks.proofs.Prelude.{Answers, ClosesEach, CommandTurn, Ends, EndsEach, GivesUpEach, GivesUpOn, LeadsTo, Point, Ran, Recorded, Reply, Row}
+use Rattle.tasks.proofs.Prelude.{Stage, State, Stops, StopsEach, Turn, TurnFault, WasCutOff, active_in, append-nil, begun_by, claim_ahead}
+use Rattle.tasks.proofs.Prelude.{claim_without, closing, closing_by, command_as, engine, is_alone, is_commands, is_of, last_reply, option_and_then}
+use Rattle.tasks.proofs.Prelude.{option_or, option_to_list, own_stages, own_turn, recorder, reply_of, run_turns, taker, taker_by, turns_of, unwrap_or}
+use Rattle.tasks.proofs.Prelude.{without_turns}
+use Rattle.tasks.proofs.Prelude.act
+use Rattle.tasks.proofs.Prelude.answered
+use Rattle.tasks.proofs.Prelude.fault
+use Rattle.tasks.proofs.Prelude.turn
 use Rattle.std.specs.Prelude.{option_map}
-use Rattle.std.proofs.lemmas.List.{append-nil}
-use Rattle.kept_rows.specs.declared.row.Row.{Row}
-use Rattle.commands.specs.declared.turn.CommandTurn.{CommandTurn}
-use Rattle.node_claims.specs.Claims.{is_of}
-use Rattle.turns.specs.declared.reply.Reply.{Reply}
-use Rattle.turns.specs.declared.reply.Reply.TheVariants as answered
-use Rattle.turns.specs.declared.turn.Act.TheVariants as act
-use Rattle.turns.specs.declared.turn.Turn.TheVariants as turn
-use Rattle.turns.specs.declared.turn.Turn.{Turn}
-use Rattle.knowledge.specs.declared.fault.TurnFault.{TurnFault}
-use Rattle.knowledge.specs.declared.fault.TurnFault.TheVariants as fault
-use Rattle.orch_core.specs.Keeping.{Ran, WasCutOff}
-use Rattle.orch_core.specs.Replies.{reply_of}
-use Rattle.orch_core.specs.Runs.{LeadsTo, Recorded, engine, recorder, run_turns, turns_of}
-use Rattle.orch_core.specs.Scenarios.{without_turns}
-use Rattle.orch_core.specs.States.{State}
-use Rattle.tasks.specs.Closing.{begun_by, closing, closing_by}
-use Rattle.tasks.specs.Progress.{Answers, ClosesEach, Ends, EndsEach, GivesUpEach, GivesUpOn, Point, Stops, StopsEach}
-use Rattle.tasks.specs.Report.{is_commands, last_reply}
-use Rattle.tasks.specs.Stages.{Stage, active_in, claim_ahead, claim_without, command_as, is_alone, own_stages, own_turn, taker, taker_by}
 use Rattle.tasks.proofs.Closings.{last-told}
 use Rattle.tasks.proofs.Courses.{Recording, gave_up_on, recorded, recorded_at}
 use Rattle.tasks.proofs.Stages.{all_behind, all_some, one_stops, one_taken, some_first, stops_behind, stops_first}

@@ -1,41 +1,16 @@
 -- What stands where a command's plan is asked for.
 use Rattle.std.proofs.Common.{◌≡◌, ◌∙◌, ◌<◌, ℕ, Bool, false, cond, List, [], length, get_or, Option, Some, None, refl, sym, ap}
-use Rattle.std.specs.Option.{unwrap_or}
+use Rattle.tasks.proofs.Prelude.{Answer, Asked, ClaimAnswer, ClaimState, Command, CommandTurn, End, Ending, HostPort, Point, Reply, Row, Scenario}
+use Rattle.tasks.proofs.Prelude.{Stands, State, Taken, Task, Turn, TurnFault, Unended, WasCutOff, Writes, act_reply, active_in, asked_answer}
+use Rattle.tasks.proofs.Prelude.{begun_state, between, claim_ahead, claim_answer, claimed, course_from, engine, job_at, lasting, lasting_by}
+use Rattle.tasks.proofs.Prelude.{plan_answer, plan_answer_by, planned_by, planned_in, planned_reply, planned_text, slice_get_read, stages, straight}
+use Rattle.tasks.proofs.Prelude.{taken_by, told_answer, unwrap_or, without_turns}
+use Rattle.tasks.proofs.Prelude.Begun.{begun_by}
+use Rattle.tasks.proofs.Prelude.act
+use Rattle.tasks.proofs.Prelude.asked
+use Rattle.tasks.proofs.Prelude.ends
+use Rattle.tasks.proofs.Prelude.fault
 use Rattle.std.specs.Prelude.{slice_get}
-use Rattle.std.proofs.lemmas.Option.{slice_get_read}
-use Rattle.commands.specs.declared.turn.Command.{Command}
-use Rattle.commands.specs.declared.turn.CommandTurn.{CommandTurn}
-use Rattle.jobs_in_flight.specs.Jobs.{job_at}
-use Rattle.kept_rows.specs.declared.row.Row.{Row}
-use Rattle.node_claims.specs.Claims.{ClaimState, claim_answer}
-use Rattle.node_claims.specs.declared.claims.ClaimAnswer.{ClaimAnswer}
-use Rattle.orch_base.specs.Names.{HostPort}
-use Rattle.scenarios.specs.declared.scenario.Scenario.{Scenario}
-use Rattle.turns.specs.declared.reply.Reply.{Reply}
-use Rattle.turns.specs.declared.turn.Act.TheVariants as act
-use Rattle.turns.specs.declared.turn.Turn.{Turn}
-use Rattle.unended_jobs.specs.declared.unended.Unended.{Unended}
-use Rattle.knowledge.specs.declared.fault.TurnFault.{TurnFault}
-use Rattle.knowledge.specs.declared.fault.TurnFault.TheVariants as fault
-use Rattle.orch_core.specs.Keeping.{WasCutOff}
-use Rattle.orch_core.specs.Nodes.{claimed}
-use Rattle.orch_core.specs.Replies.{act_reply}
-use Rattle.orch_core.specs.Runs.{engine}
-use Rattle.orch_core.specs.Scenarios.{without_turns}
-use Rattle.orch_core.specs.States.{State}
-use Rattle.tasks.specs.declared.asked.Asked.{Asked}
-use Rattle.tasks.specs.declared.asked.Asked.TheVariants as asked
-use Rattle.tasks.specs.declared.asked.Task.{Task}
-use Rattle.tasks.specs.declared.ending.Ending.{Ending}
-use Rattle.tasks.specs.declared.ending.Ending.TheVariants as ends
-use Rattle.tasks.specs.Begun.{begun_by}
-use Rattle.tasks.specs.Endings.{Stands}
-use Rattle.tasks.specs.Plans.{begun_state, lasting, lasting_by, planned_by, planned_in, planned_reply, planned_text, straight, taken_by}
-use Rattle.tasks.specs.Progress.{Point, course_from}
-use Rattle.tasks.specs.Report.{Answer, asked_answer, plan_answer, plan_answer_by, told_answer}
-use Rattle.tasks.specs.Singles.{Writes}
-use Rattle.tasks.specs.Sinks.{End, Taken, between}
-use Rattle.tasks.specs.Stages.{active_in, claim_ahead, stages}
 use Rattle.tasks.proofs.Claimed.{inactive, several}
 use Rattle.tasks.proofs.Courses.{Recording}
 use Rattle.tasks.proofs.Stages.{all_of_none}

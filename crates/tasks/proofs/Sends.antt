@@ -1,13 +1,8 @@
 -- Texts on their way to sinks.
 use Rattle.std.proofs.Common.{◌≡◌, ◌∙◌, ℕ, ◌+◌, ◌≤◌, List, [], ◌++◌, length, take, true, false, sym, ap, subst, arith, append_assoc, Option, Some, None, Result, Ok, Err, Bool}
 use Rattle.std.specs.Prelude.{OnOk, OnErr, is_err}
-use Rattle.std.specs.Io.KnownBytes.{Appends}
-use Rattle.std.proofs.lemmas.List.{append-nil, length-append, take-append-le}
-use Rattle.std.proofs.Math.Seq.{take-append-add, take-length}
-use Rattle.orch_base.specs.Causes.{HasCause, Rose}
-use Rattle.orch_base.specs.Ends.{AppendsFront}
-use Rattle.tasks.specs.declared.pieces.Pieces.{Pieces}
-use Rattle.tasks.specs.Sinks.{Carries, End, FailsIn, IsHanded, IsOnTheWay, Taken, Takes, TakesFront, between}
+use Rattle.tasks.proofs.Prelude.{Appends, AppendsFront, Carries, End, FailsIn, HasCause, IsHanded, IsOnTheWay, Pieces, Rose, Taken, Takes, TakesFront}
+use Rattle.tasks.proofs.Prelude.{append-nil, between, length-append, take-append-add, take-append-le, take-length}
 
 -- ---- what sinks take
 

@@ -1,16 +1,8 @@
 -- Stages that were taken: joined, cut, and as one run of turns.
 use Rattle.std.proofs.Common.{◌≡◌, ◌∙◌, List, [], ◌∷◌, ◌++◌, take, refl, sym, ap, subst, arith, append_assoc, Option, inl, inr}
-use Rattle.kept_rows.specs.declared.row.Row.{Row}
-use Rattle.turns.specs.declared.turn.Turn.{Turn}
-use Rattle.knowledge.specs.declared.fault.TurnFault.{TurnFault}
-use Rattle.knowledge.specs.declared.fault.TurnFault.TheVariants as fault
-use Rattle.orch_core.specs.Keeping.{Ran}
-use Rattle.orch_core.specs.Runs.{Recorded, recorder}
-use Rattle.orch_core.proofs.Finishing.{Ran-append}
-use Rattle.orch_core.proofs.Runs.{Ran-nil}
-use Rattle.tasks.specs.declared.asked.Asked.{Asked}
-use Rattle.tasks.specs.Progress.{GivesUpOn, StopsIn}
-use Rattle.tasks.specs.Stages.{AllTaken, CutTaken, IsEnd, SomeTaken, Stage, stages}
+use Rattle.tasks.proofs.Prelude.{AllTaken, Asked, CutTaken, GivesUpOn, IsEnd, Ran, Ran-append, Ran-nil, Recorded, Row, SomeTaken, Stage, StopsIn}
+use Rattle.tasks.proofs.Prelude.{Turn, TurnFault, recorder, stages}
+use Rattle.tasks.proofs.Prelude.fault
 
 -- ---- nothing is taken
 

@@ -1,36 +1,15 @@
 -- What stands at the ending of a task.
 use Rattle.std.proofs.Common.{◌≡◌, ◌∙◌, ℕ, List, [], ◌++◌, length, take, true, false, refl, sym, ap, subst, arith, Option, Bool, inl, inr}
-use Rattle.std.proofs.lemmas.List.{append-nil}
-use Rattle.std.proofs.Math.Seq.{take-length}
-use Rattle.orch_base.specs.Names.{HostPort}
-use Rattle.kept_rows.specs.declared.row.Row.{Row}
-use Rattle.commands.specs.declared.refusal.Refusal.TheVariants.{UnknownInstance}
-use Rattle.commands.specs.declared.turn.CommandTurn.{CommandTurn}
-use Rattle.scenarios.specs.declared.scenario.Scenario.{Scenario}
-use Rattle.scenarios.specs.Scenarios.{names_of}
-use Rattle.turns.specs.declared.turn.Turn.{Turn}
-use Rattle.turns.specs.declared.reply.Reply.{Reply}
-use Rattle.turns.specs.declared.reply.Reply.TheVariants as answered
-use Rattle.knowledge.specs.declared.fault.TurnFault.{TurnFault}
-use Rattle.knowledge.specs.declared.fault.TurnFault.TheVariants as fault
-use Rattle.orch_core.specs.Keeping.{Ran, WasCutOff}
-use Rattle.orch_core.specs.Runs.{Recorded, engine, recorder}
-use Rattle.orch_core.specs.Scenarios.{StartsBy, kept_at_start, without_turns}
-use Rattle.orch_core.specs.States.{State}
-use Rattle.report_text.specs.declared.totals.Tally.{Tally}
-use Rattle.tasks.specs.declared.asked.Asked.{Asked}
-use Rattle.tasks.specs.declared.asked.Asked.TheVariants as asked
-use Rattle.tasks.specs.declared.asked.Task.{Task}
-use Rattle.tasks.specs.declared.ending.Ending.{Ending}
-use Rattle.tasks.specs.declared.ending.Ending.TheVariants as ends
-use Rattle.tasks.specs.declared.progress.Progress.{Progress}
-use Rattle.tasks.specs.Endings.{Course, IsOn, IsWhole, Stands, Tells, WasCut}
-use Rattle.tasks.specs.Progress.{Answers, EndsCut, EndsWhole, Follows, GaveUp, Gives, GivesUp, Leads, Point, Stops, StopsBefore, StopsIn, Tallies, course_from, point}
-use Rattle.tasks.specs.Report.{Answer, answer_of, asked_answer, cut_text, dump_of, own_answer, replies_text, summary_of, tables_of, told_answer}
-use Rattle.tasks.specs.Singles.{Writes}
-use Rattle.tasks.specs.Sinks.{End, FailsIn, Taken, Takes, TakesFront, between}
-use Rattle.tasks.specs.Stages.{AllTaken, CutTaken, SomeTaken, stages}
-use Rattle.tasks.specs.Works.{Comes, IsCut, Work}
+use Rattle.tasks.proofs.Prelude.{AllTaken, Answer, Answers, Asked, Comes, CommandTurn, Course, CutTaken, End, Ending, EndsCut, EndsWhole, FailsIn}
+use Rattle.tasks.proofs.Prelude.{Follows, GaveUp, Gives, GivesUp, HostPort, IsCut, IsOn, IsWhole, Leads, Point, Progress, Ran, Recorded, Reply, Row}
+use Rattle.tasks.proofs.Prelude.{Scenario, SomeTaken, Stands, StartsBy, State, Stops, StopsBefore, StopsIn, Taken, Takes, TakesFront, Tallies, Tally}
+use Rattle.tasks.proofs.Prelude.{Task, Tells, Turn, TurnFault, UnknownInstance, WasCut, WasCutOff, Work, Writes, answer_of, append-nil, asked_answer}
+use Rattle.tasks.proofs.Prelude.{between, course_from, cut_text, dump_of, engine, kept_at_start, names_of, own_answer, point, recorder, replies_text}
+use Rattle.tasks.proofs.Prelude.{stages, summary_of, tables_of, take-length, told_answer, without_turns}
+use Rattle.tasks.proofs.Prelude.answered
+use Rattle.tasks.proofs.Prelude.asked
+use Rattle.tasks.proofs.Prelude.ends
+use Rattle.tasks.proofs.Prelude.fault
 use Rattle.tasks.proofs.Courses.{Recording, first_gave_up}
 use Rattle.tasks.proofs.Stages.{all_of_none, all_some}
 use Rattle.tasks.proofs.Sends.{front_taken, nothing_is_front, takes_nothing}
@@ -146,12 +125,7 @@ writes_stand c run a out err ends.Memory whole is wrote = record {
 -- nothing is left of it where its turns gave up
 quiet_cut : (a : Asked) (names : List HostPort) (run : Recorded) → (a ≡ asked.Run → ⊥) → cut_text a names run ≡ []
 quiet_cut asked.Run names run other = absurd (other refl)
-quiet_cut asked.Summary names run other = refl
-quiet_cut asked.Dump names run other = refl
-quiet_cut (asked.Turn t) names run other = refl
-quiet_cut (asked.Plan t) names run other = refl
-quiet_cut asked.Unknown names run other = refl
-quiet_cut asked.Nothing names run other = refl
+quiet_cut _ names run other = refl
 
 pub cut_quietly : (c : Task) (names : List HostPort) (scenario : Scenario) (ts : List Turn) (from : Point) (kept : Option (List Row)) (out err : Taken) (run : Recorded) → (c.asked ≡ asked.Run → ⊥) → WasCut (course_from c names scenario ts from kept) run
     → Stands (course_from c names scenario ts from kept) (between out out) (between err err) ends.Keeper

@@ -1,11 +1,8 @@
 -- Who takes a single command is one of the orchestrators.
 use Rattle.std.proofs.Common.{◌≡◌, ℕ, zero, suc, ◌<◌, ◌≤◌, Bool, true, false, cond, List, [], ◌∷◌, length, refl, Option, Some, None, arith}
 use Rattle.std.specs.Prelude.{IfSome, slice_index_or}
-use Rattle.node_claims.specs.Claims.{ClaimState, active, active_by, is_later, is_of, may_act}
-use Rattle.orch_base.specs.declared.server.Moment.{Moment}
-use Rattle.orch_core.specs.States.{State, nodes_of}
-use Rattle.scenarios.specs.Turns.{IsNumberOf}
-use Rattle.tasks.specs.Stages.{active_in, taker, taker_by}
+use Rattle.tasks.proofs.Prelude.{ClaimState, IsNumberOf, Moment, State, active, active_by, active_in, is_later, is_of, may_act, nodes_of, taker}
+use Rattle.tasks.proofs.Prelude.{taker_by}
 
 remembers : (xs : List (Option Moment)) (place now : ℕ) → is_later now (slice_index_or xs place None) ≡ true → place < length xs
 remembers [] place now later = absurd cc

@@ -1,35 +1,14 @@
 -- What words that are taken ask has a turn over the servers.
 use Rattle.std.proofs.Common.{◌≡◌, ◌∙◌, ℕ, ◌+◌, ◌<◌, ◌≤◌, Bool, true, false, List, [], ◌∷◌, length, Option, Some, None, Ok, Err, refl, sym, ap, subst, arith, map, cond}
 use Rattle.std.specs.Prelude.{IfSome, MatchOption, ⊤, ◌&&◌, ◌||◌, not, is_some, nat_lt, option_map}
-use Rattle.std.specs.Option.{option_map_or}
-use Rattle.std.proofs.lemmas.Bool.Decides.{nat_tests}
-use Rattle.std.proofs.lemmas.List.{length-map}
-use Rattle.std.proofs.lemmas.Option.{same_Some}
-use Rattle.orch_base.specs.Names.{HostPort, printed, same_name}
-use Rattle.orch_base.specs.declared.server.ServerNo.{ServerNo}
-use Rattle.commands.specs.declared.name.CommandName.{CommandName}
-use Rattle.commands.specs.declared.turn.Found.{Found}
-use Rattle.commands.specs.Names.{name_of, needs_of, nothing, uses_of}
-use Rattle.commands.specs.Turns.{is_there, is_within}
-use Rattle.commands.proofs.Needed.{needed-used}
-use Rattle.cluster_filters.specs.Patterns.{is_found, is_pattern}
-use Rattle.command_line.specs.Commands.{needs_at, own_at}
-use Rattle.command_line.specs.Places.{drawing_by}
-use Rattle.command_line.specs.Taken.{AreTaken, are_there}
-use Rattle.command_line.specs.declared.command.Own.{Own}
-use Rattle.command_line.specs.declared.command.Own.TheVariants as own
-use Rattle.command_line.specs.declared.parts.Places.{Places}
-use Rattle.command_line.proofs.Named.{taken_have}
-use Rattle.scenarios.specs.Turns.{IsCommand}
-use Rattle.scenario_turns.specs.Found.{found_in, found_of}
-use Rattle.scenario_servers.proofs.Steps.{bind-ok, same_Ok}
-use Rattle.scenario_values.specs.declared.fault.Fault.{Fault}
-use Rattle.scenario_values.specs.declared.fault.FaultCode.TheVariants.{BadPattern}
-use Rattle.scenario_values.specs.declared.fault.ReadFault.{ReadFault}
-use Rattle.scenario_values.specs.declared.fault.ReadFault.TheVariants as reading
-use Rattle.scenario_values.specs.Faults.{fault_of, holds}
-use Rattle.tasks.specs.declared.asked.Asked.TheVariants as asked
-use Rattle.tasks.specs.Asked.{AskOfRead, IsAsked, IsTaken, asked_about, asked_at, asked_named, asked_of, asked_turn, pattern_for, server_from, server_given, server_of, turn_for, used}
+use Rattle.tasks.proofs.Prelude.{AreTaken, AskOfRead, BadPattern, CommandName, Fault, Found, HostPort, IsAsked, IsCommand, IsTaken, Own, Places}
+use Rattle.tasks.proofs.Prelude.{ReadFault, ServerNo, are_there, asked_about, asked_at, asked_named, asked_of, asked_turn, bind-ok, drawing_by}
+use Rattle.tasks.proofs.Prelude.{fault_of, found_in, found_of, holds, is_found, is_pattern, is_there, is_within, length-map, name_of, nat_tests}
+use Rattle.tasks.proofs.Prelude.{needed-used, needs_at, needs_of, nothing, option_map_or, own_at, pattern_for, printed, same_name, same_Ok, same_Some}
+use Rattle.tasks.proofs.Prelude.{server_from, server_given, server_of, taken_have, turn_for, used, uses_of}
+use Rattle.tasks.proofs.Prelude.asked
+use Rattle.tasks.proofs.Prelude.own
+use Rattle.tasks.proofs.Prelude.reading
 
 both_true : (a b : Bool) → (a && b) ≡ true → (a ≡ true) × (b ≡ true)
 both_true true b e = (refl, e)
@@ -221,6 +200,6 @@ pattern_good given t u ps e fault reads there same is told =
     let here : is_pattern u ≡ true = subst (λ (v : List ℕ). is_pattern v ≡ true) (sym same) good in
     absurd (refused (is_pattern u) here at)
   where
-    refused : (b : Bool) → b ≡ true → (Rattle.orch_base.specs.Gives.◌>>=◌ (holds BadPattern b) (λ _. Ok (found_of u ps))) ≡ Err fault → ⊥
+    refused : (b : Bool) → b ≡ true → (Rattle.orch_core.specs.OrchBase.Gives.◌>>=◌ (holds BadPattern b) (λ _. Ok (found_of u ps))) ≡ Err fault → ⊥
     refused true is e = absurd cc
     refused false is e = absurd cc

@@ -1,18 +1,8 @@
 -- What words ask of a scenario's servers.
 use Rattle.std.specs.Prelude.{◌≡◌, ℕ, ◌+◌, ◌∷◌, Bool, true, false, List, [], map, if◌then◌else◌, Option, Some, None, option_map, Ok}
-use Rattle.orch_base.specs.Names.{HostPort, printed, same_name}
-use Rattle.orch_base.specs.declared.server.ServerNo.{ServerNo}
-use Rattle.commands.specs.declared.name.CommandName.{CommandName}
-use Rattle.commands.specs.declared.turn.CommandTurn.{CommandTurn}
-use Rattle.commands.specs.declared.turn.Found.{Found}
-use Rattle.commands.specs.Names.{name_of, uses_of}
-use Rattle.command_line.specs.declared.command.Own.{Own}
-use Rattle.command_line.specs.declared.command.Own.TheVariants as own
-use Rattle.command_line.specs.declared.parts.Places.{Places}
-use Rattle.command_line.specs.Commands.{own_at}
-use Rattle.command_line.specs.Places.{drawing_of, places_of}
-use Rattle.scenarios.specs.Turns.{IsCommand}
-use Rattle.scenario_turns.specs.Found.{found_of}
+use Rattle.tasks.specs.Prelude.{CommandName, CommandTurn, Found, HostPort, IsCommand, Own, Places, ServerNo, drawing_of, found_of, name_of, own_at}
+use Rattle.tasks.specs.Prelude.{places_of, printed, same_name, uses_of}
+use Rattle.tasks.specs.Prelude.own
 use Rattle.tasks.specs.declared.asked.Asked.{Asked}
 use Rattle.tasks.specs.declared.asked.Asked.TheVariants as asked
 use Rattle.tasks.specs.declared.asked.Task.{Task}

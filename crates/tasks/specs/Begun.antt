@@ -1,7 +1,7 @@
 -- Which job a command began.
 use Rattle.std.specs.Prelude.{ℕ, Option, Some, None}
-use Rattle.turns.specs.declared.reply.Reply.{Reply}
-use Rattle.turns.specs.declared.reply.Reply.TheVariants as answered
+use Rattle.tasks.specs.Prelude.{Reply}
+use Rattle.tasks.specs.Prelude.answered
 
 -- the job that a reply tells to have begun
 abbrev pub begun_by : Reply → Option ℕ

@@ -1,11 +1,6 @@
 -- What is taken behind a single command's own turn: the rounds of the job that it began.
 use Rattle.std.specs.Prelude.{ℕ, zero, suc, List, [], ◌++◌, if◌then◌else◌, Option, Some, None}
-use Rattle.std.specs.Option.{option_and_then}
-use Rattle.turns.specs.declared.turn.Turn.{Turn}
-use Rattle.jobs_in_flight.specs.Jobs.{is_open, most_turns}
-use Rattle.orch_core.specs.Rounds.{after_turns, round_of}
-use Rattle.orch_core.specs.Runs.{Recorded}
-use Rattle.orch_core.specs.States.{State}
+use Rattle.tasks.specs.Prelude.{Recorded, State, Turn, after_turns, is_open, most_turns, option_and_then, round_of}
 pub use Rattle.tasks.specs.Begun.{begun_by}
 use Rattle.tasks.specs.Report.{last_reply}
 

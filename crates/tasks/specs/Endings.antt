@@ -1,12 +1,6 @@
 -- How a task ends, and what has been written and kept then.
 use Rattle.std.specs.Prelude.{◌≡◌, ℕ, ◌≤◌, ◌⊎◌, Bool, List, [], length, take, Option}
-use Rattle.kept_rows.specs.declared.row.Row.{Row}
-use Rattle.orch_base.specs.Memory.{next_count}
-use Rattle.orch_base.specs.Names.{HostPort}
-use Rattle.scenarios.specs.declared.scenario.Scenario.{Scenario}
-use Rattle.scenarios.specs.Scenarios.{names_of}
-use Rattle.turns.specs.declared.turn.Turn.{Turn}
-use Rattle.orch_core.specs.Runs.{Recorded}
+use Rattle.tasks.specs.Prelude.{HostPort, Recorded, Row, Scenario, Turn, names_of, next_count}
 use Rattle.tasks.specs.declared.asked.Task.{Task}
 use Rattle.tasks.specs.declared.ending.Ending.{Ending}
 use Rattle.tasks.specs.declared.ending.Ending.TheVariants as ends

@@ -1,12 +1,6 @@
 -- The report of a journal: of turns that were taken, each with the number of the one who took it, and with its reply.
 use Rattle.std.specs.Prelude.{◌≡◌, ℕ, ◌≤◌, ◌||◌, ◌++◌, List, length, map, take}
-use Rattle.std.specs.List.{list_any}
-use Rattle.orch_base.specs.Names.{HostPort}
-use Rattle.orch_core.specs.Runs.{Recorded}
-use Rattle.orch_core.specs.States.{State}
-use Rattle.turns.specs.declared.reply.Reply.{Reply}
-use Rattle.turns.specs.declared.turn.Turn.{Turn}
-use Rattle.report_text.specs.Lines.{lines_text}
+use Rattle.tasks.specs.Prelude.{HostPort, Recorded, Reply, State, Turn, lines_text, list_any}
 use Rattle.tasks.specs.declared.ending.Ending.{Ending}
 use Rattle.tasks.specs.declared.ending.Ending.TheVariants as ends
 use Rattle.tasks.specs.declared.progress.Progress.{Progress}

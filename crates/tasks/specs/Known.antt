@@ -1,12 +1,6 @@
 -- A task where the keeper tells its rows: what it answers is a function of the task, the scenario and the kept rows.
 use Rattle.std.specs.Prelude.{◌≡◌, ◌++◌, ℕ, List, [], ◌∷◌, Option, Some, take}
-use Rattle.kept_rows.specs.declared.row.Row.{Row}
-use Rattle.kept_rows.specs.Rows.{changed}
-use Rattle.scenarios.specs.declared.scenario.Scenario.{Scenario}
-use Rattle.scenarios.specs.Scenarios.{names_of}
-use Rattle.turns.specs.declared.turn.Turn.{Turn}
-use Rattle.orch_core.specs.Runs.{Held, Recorded, held_run, recorder}
-use Rattle.orch_core.specs.Scenarios.{start, start_changes, without_turns}
+use Rattle.tasks.specs.Prelude.{Held, Recorded, Row, Scenario, Turn, changed, held_run, names_of, recorder, start, start_changes, without_turns}
 use Rattle.tasks.specs.declared.asked.Task.{Task}
 use Rattle.tasks.specs.Report.{Answer, answer_of, cut_text}
 use Rattle.tasks.specs.Stages.{Stage, stages}

@@ -1,21 +1,10 @@
 -- Laws of tasks.
 use Rattle.std.specs.Prelude.{◌≡◌, ℕ, List, Option, None, Some, length, map}
-use Rattle.commands.specs.declared.turn.CommandTurn.{CommandTurn}
-use Rattle.kept_rows.specs.declared.row.Row.{Row}
-use Rattle.node_claims.specs.declared.claims.ClaimAnswer.TheVariants as claim
-use Rattle.orch_base.specs.Names.{HostPort}
-use Rattle.orch_base.specs.declared.server.Moment.{Moment}
-use Rattle.orch_core.specs.After.{step}
-use Rattle.orch_core.specs.Nodes.{claimed}
-use Rattle.orch_core.specs.Replies.{reply_of}
-use Rattle.orch_core.specs.Runs.{Recorded}
-use Rattle.orch_core.specs.States.{State}
-use Rattle.command_line.specs.declared.parts.Places.{Places}
-use Rattle.scenarios.specs.declared.scenario.Scenario.{Scenario}
-use Rattle.turns.specs.declared.reply.Reply.TheVariants as answered
-use Rattle.turns.specs.declared.turn.Act.TheVariants as act
-use Rattle.turns.specs.declared.turn.Turn.{Turn}
-use Rattle.turns.specs.declared.turn.Turn.TheVariants as turn
+use Rattle.tasks.specs.Prelude.{CommandTurn, HostPort, Moment, Places, Recorded, Row, Scenario, State, Turn, claimed, reply_of, step}
+use Rattle.tasks.specs.Prelude.act
+use Rattle.tasks.specs.Prelude.answered
+use Rattle.tasks.specs.Prelude.claim
+use Rattle.tasks.specs.Prelude.turn
 use Rattle.tasks.specs.declared.asked.Task.{Task}
 use Rattle.tasks.specs.Asked.{AskOfRead, IsAsked, IsTaken, asked_of}
 use Rattle.tasks.specs.Known.{Begins, IsFixed, cut_answer, task_answer}

@@ -1,29 +1,12 @@
 -- What is answered in place of a single command where its plan is asked for: a function of the state behind the
 -- scenario's turns. Nothing is changed, and nothing is claimed.
 use Rattle.std.specs.Prelude.{ℕ, ◌==◌, List, [], Option, Some, None, if◌then◌else◌}
-use Rattle.std.specs.Option.{unwrap_or}
-use Rattle.commands.specs.declared.turn.Command.{Command}
-use Rattle.commands.specs.declared.turn.CommandTurn.{CommandTurn}
-use Rattle.instance_keeper.specs.Book.{BookState}
-use Rattle.jobs_in_flight.specs.Jobs.{job_at}
-use Rattle.node_claims.specs.Claims.{active}
-use Rattle.node_claims.specs.declared.claims.ClaimAnswer.{ClaimAnswer}
-use Rattle.node_claims.specs.declared.claims.ClaimAnswer.TheVariants as claim
-use Rattle.operations.specs.declared.op.Op.{Op}
-use Rattle.orch_base.specs.Names.{HostPort}
-use Rattle.orch_base.specs.declared.server.ServerNo.{ServerNo}
-use Rattle.orch_core.specs.After.{after_act}
-use Rattle.orch_core.specs.Nodes.{claimed}
-use Rattle.orch_core.specs.Replies.{act_reply}
-use Rattle.orch_core.specs.States.{State, nodes_of}
-use Rattle.permission.specs.Replicas.{replicas_but}
-use Rattle.plan_texts.specs.Takeovers.{takeover_ops}
-use Rattle.plan_texts.specs.Texts.{plan_text}
-use Rattle.turns.specs.declared.reply.Reply.{Reply}
-use Rattle.turns.specs.declared.reply.Reply.TheVariants as answered
-use Rattle.turns.specs.declared.turn.Act.TheVariants as act
-use Rattle.unended_jobs.specs.declared.unended.Unended.{Unended}
-use Rattle.unended_jobs.specs.declared.unended.Unended.TheVariants as unended
+use Rattle.tasks.specs.Prelude.{BookState, ClaimAnswer, Command, CommandTurn, HostPort, Op, Reply, ServerNo, State, Unended, act_reply, active}
+use Rattle.tasks.specs.Prelude.{after_act, claimed, job_at, nodes_of, plan_text, replicas_but, takeover_ops, unwrap_or}
+use Rattle.tasks.specs.Prelude.act
+use Rattle.tasks.specs.Prelude.answered
+use Rattle.tasks.specs.Prelude.claim
+use Rattle.tasks.specs.Prelude.unended
 
 -- ---- what the command is answered
 

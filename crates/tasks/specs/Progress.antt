@@ -1,22 +1,11 @@
 -- A run's report on its way, turn by turn.
 use Rattle.std.specs.Prelude.{◌≡◌, ℕ, ◌+◌, ◌<◌, ◌≤◌, ◌||◌, ◌⊎◌, List, [], false, length, take, slice_get, Option, Some}
-use Rattle.orch_base.specs.Names.{HostPort}
-use Rattle.kept_rows.specs.declared.row.Row.{Row}
-use Rattle.scenarios.specs.declared.scenario.Scenario.{Scenario}
-use Rattle.turns.specs.declared.reply.Reply.{Reply}
-use Rattle.turns.specs.declared.turn.Turn.{Turn}
-use Rattle.knowledge.specs.declared.fault.TurnFault.{TurnFault}
-use Rattle.knowledge.specs.declared.fault.TurnFault.TheVariants as fault
-use Rattle.orch_core.specs.Keeping.{Calls, Ran}
-use Rattle.orch_core.specs.Runs.{Recorded, recorder}
-use Rattle.orch_core.specs.Scenarios.{without_turns}
-use Rattle.orch_core.specs.States.{State}
-use Rattle.commands.specs.declared.turn.CommandTurn.{CommandTurn}
+use Rattle.tasks.specs.Prelude.{Calls, CommandTurn, HostPort, Ran, Recorded, Reply, Row, Scenario, State, Tally, Turn, TurnFault, line_text, recorder}
+use Rattle.tasks.specs.Prelude.{without_turns}
+use Rattle.tasks.specs.Prelude.fault
 use Rattle.tasks.specs.declared.asked.Asked.TheVariants as asked
 use Rattle.tasks.specs.declared.asked.Task.{Task}
 use Rattle.tasks.specs.declared.progress.Progress.{Progress}
-use Rattle.report_text.specs.declared.totals.Tally.{Tally}
-use Rattle.report_text.specs.Lines.{line_text}
 use Rattle.tasks.specs.declared.ending.Ending.{Ending}
 use Rattle.tasks.specs.declared.ending.Ending.TheVariants as ends
 use Rattle.tasks.specs.Closing.{begun_by, closing_by}

@@ -1,25 +1,10 @@
 -- What a task answers: a function of the task and of the last state of its run.
 use Rattle.std.specs.Prelude.{ℕ, ◌==◌, List, [], ◌∷◌, ◌++◌, ◌&&◌, ◌||◌, Bool, true, false, not, if◌then◌else◌, length, map, count_by, Option, Some, None}
-use Rattle.std.specs.List.{list_any}
-use Rattle.orch_base.specs.Names.{HostPort}
-use Rattle.audit_lines.specs.Lines.{recovery_lines}
-use Rattle.commands.specs.declared.refusal.Refusal.TheVariants.{NotQuiet, UnknownInstance}
-use Rattle.commands.specs.declared.turn.CommandTurn.{CommandTurn}
-use Rattle.turns.specs.declared.reply.Reply.{Reply}
-use Rattle.turns.specs.declared.reply.Reply.TheVariants as answered
-use Rattle.turns.specs.declared.turn.Turn.{Turn}
-use Rattle.turns.specs.declared.turn.Act.{Act}
-use Rattle.turns.specs.declared.turn.Act.TheVariants as act
-use Rattle.turns.specs.declared.turn.Turn.TheVariants as turn
-use Rattle.orch_core.specs.Runs.{Recorded}
-use Rattle.orch_core.specs.States.{State}
-use Rattle.scenario_dump.specs.Texts.{dump_text}
-use Rattle.scenarios.specs.declared.scenario.Scenario.{Scenario}
-use Rattle.report_text.specs.declared.totals.Tally.{Tally}
-use Rattle.report_text.specs.Lines.{lines_text, plain_text_of}
-use Rattle.report_text.specs.Summary.{summary_text}
-use Rattle.report_text.specs.Tables.{tables_text}
-use Rattle.unended_jobs.specs.Unended.{number_of}
+use Rattle.tasks.specs.Prelude.{Act, CommandTurn, HostPort, NotQuiet, Recorded, Reply, Scenario, State, Tally, Turn, UnknownInstance, dump_text}
+use Rattle.tasks.specs.Prelude.{lines_text, list_any, number_of, plain_text_of, recovery_lines, summary_text, tables_text}
+use Rattle.tasks.specs.Prelude.act
+use Rattle.tasks.specs.Prelude.answered
+use Rattle.tasks.specs.Prelude.turn
 use Rattle.tasks.specs.Begun.{begun_by}
 use Rattle.tasks.specs.Plans.{Planned, begun_state, planned_in, planned_reply, planned_text}
 use Rattle.tasks.specs.declared.asked.Asked.{Asked}

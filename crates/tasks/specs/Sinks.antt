@@ -1,8 +1,6 @@
 -- What sinks take.
 use Rattle.std.specs.Prelude.{◌≡◌, ℕ, ◌≤◌, ◌⊎◌, ◌++◌, List, Bool, true, false, Option}
-use Rattle.std.specs.Io.KnownBytes.{Appends}
-use Rattle.orch_base.specs.Causes.{Rose}
-use Rattle.orch_base.specs.Ends.{AppendsFront}
+use Rattle.tasks.specs.Prelude.{Appends, AppendsFront, Rose}
 use Rattle.tasks.specs.declared.pieces.Pieces.{Pieces}
 
 -- what a sink has taken, where that is known, and its count of faults

@@ -1,16 +1,9 @@
 -- What is taken behind a scenario's turns, stage by stage: a single command's claim, where several orchestrators share
 -- the kept rows, its own turn, and the rounds of the job that it began.
 use Rattle.std.specs.Prelude.{◌≡◌, ℕ, ◌==◌, ◌≤◌, ◌⊎◌, ◌++◌, Bool, List, [], ◌∷◌, length, take, Option, Some, None, if◌then◌else◌}
-use Rattle.std.specs.Option.{option_to_list}
-use Rattle.commands.specs.declared.turn.CommandTurn.{CommandTurn}
-use Rattle.kept_rows.specs.declared.row.Row.{Row}
-use Rattle.node_claims.specs.Claims.{active, is_of}
-use Rattle.turns.specs.declared.turn.Act.TheVariants as act
-use Rattle.turns.specs.declared.turn.Turn.{Turn}
-use Rattle.turns.specs.declared.turn.Turn.TheVariants as turn
-use Rattle.orch_core.specs.Keeping.{Ran}
-use Rattle.orch_core.specs.Runs.{Recorded, recorder}
-use Rattle.orch_core.specs.States.{State, nodes_of}
+use Rattle.tasks.specs.Prelude.{CommandTurn, Ran, Recorded, Row, State, Turn, active, is_of, nodes_of, option_to_list, recorder}
+use Rattle.tasks.specs.Prelude.act
+use Rattle.tasks.specs.Prelude.turn
 use Rattle.tasks.specs.declared.asked.Asked.{Asked}
 use Rattle.tasks.specs.declared.asked.Asked.TheVariants as asked
 use Rattle.tasks.specs.Closing.{closing}

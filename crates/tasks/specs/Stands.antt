@@ -1,12 +1,6 @@
 -- What the turns of a task are over, and what its report comes to by what is asked.
 use Rattle.std.specs.Prelude.{◌≡◌, Bool, List, All, Option, length}
-use Rattle.commands.specs.declared.turn.CommandTurn.{CommandTurn}
-use Rattle.kept_rows.specs.declared.row.Row.{Row}
-use Rattle.orch_base.specs.Names.{HostPort}
-use Rattle.orch_core.specs.States.{State, nodes_of}
-use Rattle.scenarios.specs.declared.scenario.Scenario.{Scenario}
-use Rattle.scenarios.specs.Turns.{IsCommand, IsTurn, NamesOneOf}
-use Rattle.turns.specs.declared.turn.Turn.{Turn}
+use Rattle.tasks.specs.Prelude.{CommandTurn, HostPort, IsCommand, IsTurn, NamesOneOf, Row, Scenario, State, Turn, nodes_of}
 use Rattle.tasks.specs.declared.asked.Asked.TheVariants as asked
 use Rattle.tasks.specs.declared.asked.Task.{Task}
 use Rattle.tasks.specs.declared.ending.Ending.{Ending}

@@ -1,12 +1,6 @@
 -- Runs of tasks over scenarios, by what the keeper hands back.
 use Rattle.std.specs.Prelude.{◌≡◌, ℕ, ◌<◌, true, List, length, take, slice_get, Option, Some}
-use Rattle.kept_rows.specs.declared.row.Row.{Row}
-use Rattle.scenarios.specs.declared.scenario.Scenario.{Scenario}
-use Rattle.turns.specs.declared.turn.Turn.{Turn}
-use Rattle.orch_core.specs.Keeping.{Calls, Ran}
-use Rattle.orch_core.specs.Runs.{Recorded, recorder}
-use Rattle.orch_core.specs.Scenarios.{StartsBy, kept_at_start, without_turns}
-use Rattle.orch_core.specs.States.{State}
+use Rattle.tasks.specs.Prelude.{Calls, Ran, Recorded, Row, Scenario, StartsBy, State, Turn, kept_at_start, recorder, without_turns}
 use Rattle.tasks.specs.declared.asked.Task.{Task}
 
 -- a task over a scenario, and the kept rows before and after it, where the keeper tells them

@@ -1,16 +1,16 @@
 //! What words ask of a scenario's servers.
 
 ghost use Rattle.std.specs.Prelude.{◌≡◌, ◌≤◌, true, IfOk, IfSome, length};
-ghost use Rattle.cluster_filters.specs.Patterns.{is_pattern};
+ghost use Rattle.tasks.specs.Prelude.{is_pattern};
 ghost use Rattle.tasks.specs.Asked.{IsTaken, asked_about, asked_named, asked_of, asked_turn, pattern_for, server_given, server_of, task_of, turn_for, used};
 
+use crate::commands::{Command, CommandName, CommandTurn, Found, Keys};
+use crate::orch_base::{Memory, Name, OwnedText, ServerNo};
+use crate::turns::BoxedCommand;
 use command_line::{Own, Places};
-use commands::{Command, CommandName, CommandTurn, Found, Keys};
-use orch_base::{Memory, Name, OwnedText, ServerNo};
 use scenario_turns::{found, printed_names};
 use scenario_values::ReadFault;
 use std::alloc::Global;
-use turns::BoxedCommand;
 
 /// What words ask for.
 #[derive(Drop)]

@@ -9,15 +9,15 @@ ghost use Rattle.tasks.specs.Sinks.{across};
 ghost use Rattle.tasks.specs.Stands.{AreNamedIn, AreTurnsIn, DumpStands};
 
 use crate::Ending;
+use crate::commands::Refusal;
+use crate::instance_keeper_items::Keeper;
+use crate::orch_base::{Memory, Name, Sink};
+use crate::scenarios_items::Scenario;
 use crate::single::{Report, told_report, write_report};
-use commands::Refusal;
-use instance_keeper::Keeper;
-use orch_base::{Memory, Name, Sink};
+use crate::turns::{Reply, Turn};
 use orch_core::{Engine, TurnFault};
 use scenario_dump::dump;
-use scenarios::Scenario;
 use std::alloc::Global;
-use turns::{Reply, Turn};
 
 // The servers as a scenario that begins now, or the refusal where a server with a source accepted a write.
 fn dumped(

@@ -5,12 +5,12 @@ ghost use Rattle.tasks.specs.Journals.{JournalStands, Told, ToldSome, told_in, t
 ghost use Rattle.tasks.specs.Sinks.{across, taken};
 
 use crate::Ending;
+use crate::orch_base::{Memory, Name, Sink};
 use crate::progress::Progress;
-use orch_base::{Memory, Name, Sink};
+use crate::turns::{Reply, Turn};
 use orch_core::Engine;
 use report_text::PrintedNames;
 use std::alloc::Global;
-use turns::{Reply, Turn};
 
 // Adds the line of each turn with its reply.
 fn add_entries<O: Sink>(

@@ -25,4 +25,8 @@ pub use laws::{
     known_rows_fix_the_run, plans_are_answered_as_commands, summaries_count_the_turns,
 };
 pub use names::names_of;
+use orch_core::{
+    audit_lines, commands, instance_keeper_items, jobs_in_flight, node_claims, orch_base,
+    permission_items, scenarios_items, turns, unended_jobs_items,
+};
 pub use report::task_report;

@@ -1,10 +1,10 @@
 //! The servers' names.
 
 ghost use Rattle.std.specs.Prelude.{◌≡◌, IfOk};
-ghost use Rattle.scenarios.specs.Scenarios.{names_of};
+ghost use Rattle.tasks.specs.Prelude.{names_of};
 
-use orch_base::{Memory, Name};
-use scenarios::Scenario;
+use crate::orch_base::{Memory, Name};
+use crate::scenarios_items::Scenario;
 use std::alloc::Global;
 
 /// The servers' names, in the scenario's order.

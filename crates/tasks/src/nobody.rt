@@ -1,11 +1,10 @@
 //! A keeper that keeps nothing.
 
 ghost use Rattle.std.specs.Prelude.{None, IfOk};
-ghost use Rattle.kept_rows.specs.Keeping.{KeepsAll, HasKeeperCause};
-ghost use Rattle.kept_rows.specs.Rows.{IsRising};
+ghost use Rattle.tasks.specs.Prelude.{HasKeeperCause, IsRising, KeepsAll};
 
-use instance_keeper::{Change, Keeper, KeeperFault, Row};
-use orch_base::Name;
+use crate::instance_keeper_items::{Change, Keeper, KeeperFault, Row};
+use crate::orch_base::Name;
 use std::alloc::Global;
 
 /// A keeper that keeps nothing and tells of no rows. None of its calls fails.

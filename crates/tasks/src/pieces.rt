@@ -1,16 +1,16 @@
 //! A text on its way to a sink.
 
 ghost use Rattle.std.specs.Prelude.{◌≡◌, ◌++◌, [], OnOk, OnErr, false};
-ghost use Rattle.report_text.specs.Lines.{line_text};
+ghost use Rattle.tasks.specs.Prelude.{line_text};
 ghost use Rattle.tasks.specs.Report.{tables_of};
 ghost use Rattle.tasks.specs.Sinks.{Joins, Stays, taken};
 
-use audit_lines::recovery_lines;
-use orch_base::{Memory, Sink, write_all};
+use crate::audit_lines::recovery_lines;
+use crate::orch_base::{Memory, Sink, write_all};
+use crate::turns::{Reply, Turn};
 use orch_core::Engine;
 use report_text::{PrintedNames, reply_text_by, tables};
 use std::alloc::Global;
-use turns::{Reply, Turn};
 
 /// A piece is handed over once it has so many bytes: 64 KiB.
 const PIECE: usize = 65_536;

@@ -1,8 +1,7 @@
 //! The plan of a single command, told in place of carrying it out.
 
 ghost use Rattle.std.specs.Prelude.{◌≡◌, ◌≤◌, ◌++◌, IfOk, OnOk};
-ghost use Rattle.orch_core.specs.Replies.{act_reply};
-ghost use Rattle.orch_core.specs.States.{nodes_of};
+ghost use Rattle.tasks.specs.Prelude.{act_reply, nodes_of};
 ghost use Rattle.tasks.specs.Endings.{HasKeepersCause};
 ghost use Rattle.tasks.specs.Plans.{begun_state, lasting, planned_in, planned_text, takeover_planned};
 ghost use Rattle.tasks.specs.Progress.{point};
@@ -12,19 +11,19 @@ ghost use Rattle.tasks.specs.Sinks.{across};
 ghost use Rattle.tasks.specs.Stands.{AreNamedIn, AreTurnsIn, IsCommandIn, PlanStands};
 
 use crate::Ending;
+use crate::commands::Command;
+use crate::instance_keeper_items::{Book, Keeper};
+use crate::jobs_in_flight::find;
 use crate::nobody::Nobody;
+use crate::node_claims::ClaimAnswer;
+use crate::orch_base::{Memory, Name, ServerNo, Sink};
+use crate::permission_items::replicas_but;
 use crate::single::{Report, begun_by, claim_ahead, told_report, write_report};
-use commands::Command;
-use instance_keeper::{Book, Keeper};
-use jobs_in_flight::find;
-use node_claims::ClaimAnswer;
-use orch_base::{Memory, Name, ServerNo, Sink};
+use crate::turns::{Act, BoxedCommand, Reply, Turn};
+use crate::unended_jobs_items::Unended;
 use orch_core::{Engine, TurnFault};
-use permission::replicas_but;
 use plan_texts::{print_plan, takeover};
 use std::alloc::Global;
-use turns::{Act, BoxedCommand, Reply, Turn};
-use unended_jobs::Unended;
 
 // Whose claim lasts, where the command would claim ahead in vain.
 fn lasting(engine: &Engine) -> Option<Reply>

@@ -1,21 +1,21 @@
 //! A run's report, written as the turns are taken.
 
 ghost use Rattle.std.specs.Prelude.{◌≡◌, false, IfErr, OnErr, OnOk};
-ghost use Rattle.knowledge.specs.Faults.{HasTurnCause};
+ghost use Rattle.tasks.specs.Prelude.{HasTurnCause};
 ghost use Rattle.tasks.specs.Endings.{HasKeepersCause};
 ghost use Rattle.tasks.specs.Progress.{Adds, EndsCut, EndsWhole, Follows, GaveUp, IsFresh, point};
 ghost use Rattle.tasks.specs.Sinks.{Stays, across, taken};
 ghost use Rattle.tasks.specs.Stands.{AreNamedIn, AreTurnsIn, RunStands};
 
 use crate::Ending;
+use crate::instance_keeper_items::Keeper;
+use crate::orch_base::{Memory, Name, Sink};
 use crate::pieces::Pieces;
+use crate::turns::{Reply, Turn};
 use crate::verdict::is_refused;
-use instance_keeper::Keeper;
-use orch_base::{Memory, Name, Sink};
 use orch_core::{Engine, TurnFault};
 use report_text::PrintedNames;
 use std::alloc::Global;
-use turns::{Reply, Turn};
 
 /// A run's report on its way to out, and whether a reply so far is refused or failed.
 #[derive(Drop)]

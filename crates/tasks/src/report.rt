@@ -1,8 +1,7 @@
 //! The report of a task over a scenario.
 
 ghost use Rattle.std.specs.Prelude.{◌≡◌, ◌≤◌, length};
-ghost use Rattle.orch_core.specs.States.{nodes_of};
-ghost use Rattle.scenarios.specs.Scenarios.{IsScenario, names_of};
+ghost use Rattle.tasks.specs.Prelude.{IsScenario, names_of, nodes_of};
 ghost use Rattle.tasks.specs.Asked.{IsAsked};
 ghost use Rattle.tasks.specs.Endings.{HasKeepersCause, Stands, Tells};
 ghost use Rattle.tasks.specs.Progress.{course_from, point};
@@ -10,17 +9,17 @@ ghost use Rattle.tasks.specs.Sinks.{across};
 ghost use Rattle.tasks.specs.Stands.{AreNamedIn, AreTurnsIn};
 
 use crate::dumped::dump_report;
+use crate::instance_keeper_items::Keeper;
+use crate::orch_base::{Name, Sink};
 use crate::planned::plan_report;
 use crate::progress::run_report;
+use crate::scenarios_items::Scenario;
 use crate::single::{command_report, unknown_report};
 use crate::summary::summary_report;
+use crate::turns::Turn;
 use crate::{Asked, Ending, Task};
-use instance_keeper::Keeper;
-use orch_base::{Name, Sink};
 use orch_core::{Engine, TurnFault};
-use scenarios::Scenario;
 use std::alloc::Global;
-use turns::Turn;
 
 // Takes the scenario's turns and the task's own, and writes the report.
 fn asked_report<O: Sink, E: Sink, K: Keeper>(

@@ -1,13 +1,8 @@
 //! A single command's report, written at its end.
 
 ghost use Rattle.std.specs.Prelude.{◌≡◌, ◌≤◌, [], IfOk, IfErr, IfSome, OnOk, length, option_map, if◌then◌else◌};
-ghost use Rattle.std.specs.Option.{option_to_list};
-ghost use Rattle.scenarios.specs.Turns.{IsNumberOf, IsTurn, NamesOneOf};
-ghost use Rattle.orch_core.specs.Keeping.{Ran, WasCutOff};
-ghost use Rattle.knowledge.specs.Faults.{HasTurnCause};
-ghost use Rattle.orch_core.specs.Replies.{reply_of};
-ghost use Rattle.orch_core.specs.Runs.{engine as plainly};
-ghost use Rattle.orch_core.specs.States.{nodes_of};
+ghost use Rattle.tasks.specs.Prelude.{HasTurnCause, IsNumberOf, IsTurn, NamesOneOf, Ran, WasCutOff, engine as plainly, nodes_of, option_to_list};
+ghost use Rattle.tasks.specs.Prelude.{reply_of};
 ghost use Rattle.tasks.specs.Begun.{begun_by};
 ghost use Rattle.tasks.specs.Endings.{HasKeepersCause};
 ghost use Rattle.tasks.specs.Progress.{Answers, ClosesEach, EndsEach, GivesUpEach, Stops, StopsEach, point};
@@ -18,15 +13,15 @@ ghost use Rattle.tasks.specs.Stages.{claim_ahead, own_stages, own_turn, taker};
 ghost use Rattle.tasks.specs.Stands.{AreNamedIn, AreTurnsIn, CommandStands, IsCommandIn, UnknownStands};
 
 use crate::Ending;
+use crate::commands::Refusal;
+use crate::instance_keeper_items::Keeper;
+use crate::orch_base::{Memory, Name, Sink, write_all};
 use crate::pieces::add_tables;
+use crate::turns::{Act, BoxedCommand, Reply, Turn};
 use crate::verdict::{is_for_err, is_taken};
-use commands::Refusal;
-use instance_keeper::Keeper;
-use orch_base::{Memory, Name, Sink, write_all};
 use orch_core::{Engine, TurnFault};
 use report_text::plain_text;
 use std::alloc::Global;
-use turns::{Act, BoxedCommand, Reply, Turn};
 
 /// What out and err are to take, and whether the reply is refused or failed.
 #[derive(Drop)]

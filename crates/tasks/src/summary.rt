@@ -1,7 +1,7 @@
 //! A run's summary, written at its end.
 
 ghost use Rattle.std.specs.Prelude.{◌≡◌, ◌+◌, ◌<◌, ◌≤◌, ◌^◌, IfErr, IfOk};
-ghost use Rattle.knowledge.specs.Faults.{HasTurnCause};
+ghost use Rattle.tasks.specs.Prelude.{HasTurnCause};
 ghost use Rattle.tasks.specs.Endings.{HasKeepersCause};
 ghost use Rattle.tasks.specs.Progress.{GivesUp, Tallies, point, with_reply};
 ghost use Rattle.tasks.specs.Report.{summary_of, verdict_of};
@@ -10,14 +10,14 @@ ghost use Rattle.tasks.specs.Sinks.{across};
 ghost use Rattle.tasks.specs.Stands.{AreNamedIn, AreTurnsIn, SummaryStands};
 
 use crate::Ending;
+use crate::instance_keeper_items::Keeper;
+use crate::orch_base::Sink;
 use crate::single::{Report, write_report};
+use crate::turns::{Reply, Turn};
 use crate::verdict::{Verdict, verdict_of};
-use instance_keeper::Keeper;
-use orch_base::Sink;
 use orch_core::{Engine, TurnFault};
 use report_text::{Tally, summary};
 use std::alloc::Global;
-use turns::{Reply, Turn};
 
 // With one more reply.
 fn with_reply(tally: Tally, reply: &Reply) -> Tally

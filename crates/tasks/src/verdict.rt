@@ -3,7 +3,7 @@
 ghost use Rattle.std.specs.Prelude.{◌≡◌};
 ghost use Rattle.tasks.specs.Report.{is_for_err, is_refused, is_taken, verdict_of};
 
-use turns::Reply;
+use crate::turns::Reply;
 
 /// Whether a command was refused, a job failed, or another's claim lasts.
 #[derive(Clone, Copy)]

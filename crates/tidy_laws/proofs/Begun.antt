@@ -1,83 +1,43 @@
 -- What a permitted command, a recovery and a takeover begin stays within the cluster.
 use Rattle.std.proofs.Common.{◌≡◌, ℕ, Bool, true, false, not, List, [], ◌∷◌, ◌+◌, ◌++◌, map, refl, sym, ◌∙◌, ap, subst, Option, Some, None, Ok, ◌&&◌}
 use Rattle.std.specs.Prelude.{All}
-use Rattle.std.specs.List.{flat_map}
-use Rattle.std.specs.Option.{option_or}
-use Rattle.std.specs.Cmp.Lexicographic.{same_text}
-use Rattle.std.proofs.lemmas.Bool.{and_parts}
-use Rattle.std.proofs.lemmas.List.Elements.{All-append, All-cons, All-head, All-nil, All-push, All-tail}
-use Rattle.audit_log.specs.Audits.{AuditState}
-use Rattle.book_views.specs.Sources.{is_replica_of, replicas_of}
-use Rattle.orch_base.specs.declared.server.Moment.{Moment}
-use Rattle.orch_base.specs.declared.server.ServerNo.{ServerNo}
-use Rattle.commands.specs.declared.line.Line.{Line}
-use Rattle.commands.specs.declared.line.Line.TheVariants.{Follows, Server}
-use Rattle.commands.specs.declared.refusal.Refusal.{Refusal}
-use Rattle.commands.specs.declared.refusal.Refusal.TheVariants as refusal
-use Rattle.commands.specs.declared.turn.Command.{Command}
-use Rattle.command_jobs.specs.Jobs.{job_by, refusal_by, regroup_about}
-use Rattle.command_routes.specs.declared.kinds.CoordsCommand.{CoordsCommand}
-use Rattle.command_routes.specs.declared.kinds.CoordsCommand.TheVariants as coords
-use Rattle.command_routes.specs.declared.kinds.GtidCommand.{GtidCommand}
-use Rattle.command_routes.specs.declared.kinds.GtidCommand.TheVariants as gtids
-use Rattle.command_routes.specs.declared.kinds.Regrouping.TheVariants.{ByBridges, ByMatches}
-use Rattle.command_routes.specs.declared.route.Planner.{Planner}
-use Rattle.command_routes.specs.declared.route.Planner.TheVariants.{Coordinates, Gtids, Matches, Paths, Regroups}
-use Rattle.failure_analysis.specs.declared.entry.Entry.{Entry}
-use Rattle.instance_keeper.specs.Book.{BookState}
-use Rattle.move_laws.proofs.Firsts.{each-none, neither, not-false, test-false}
-use Rattle.moves_coords.specs.Commands.{coords_command}
-use Rattle.moves_coords.specs.Permits as coords_permits
-use Rattle.moves_coords.specs.Plans as coords_plans
-use Rattle.moves_coords.specs.Plans.{master_taken, moved_below, moved_up, replicas_moved_up, repointed, repointed_auto, repointed_by, siblings_taken}
-use Rattle.moves_gtid.specs.Commands.{gtid_command}
-use Rattle.moves_gtid.specs.Permits as gtid_permits
-use Rattle.moves_gtid.specs.Plans as gtid_plans
-use Rattle.operations.specs.declared.op.Op.{Op}
-use Rattle.operations.specs.declared.op.Op.TheVariants as op
-use Rattle.operations.specs.Deeds as deed
-use Rattle.operations.specs.Deeds.{Deed, deed_of}
-use Rattle.operations.specs.Jobs.{job_with}
-use Rattle.operations.specs.Plans.{again, auto, finished, swap, under, up}
-use Rattle.permission.specs.Checks.{first_refusal, of_other_cluster, refusal_by as check_refusal, unknown_in}
-use Rattle.permission.specs.Lists.{first_about, moves_to}
-use Rattle.permission.specs.Replicas.{replicas_but, siblings_of}
-use Rattle.permission.specs.Rows.{about as about_given, about_one, refused}
-use Rattle.permission.specs.Views.{has_log, is_valid, label_in, same_label, source_above, source_of}
-use Rattle.plan_parts.specs.Parts.{again_auto, autos, matching, matchings, unders, ups}
-use Rattle.pseudo_match.specs.Commands.{pseudo_command}
-use Rattle.pseudo_match.specs.Plans as match_plans
-use Rattle.pseudo_match.specs.declared.command.PseudoCommand.{PseudoCommand}
-use Rattle.pseudo_match.specs.declared.command.PseudoCommand.TheVariants as matches
-use Rattle.recovery_core.specs.Scans.{Staged, actionable_in, after_try, from_start, scan_step, scanned, scanned_over, staged_refusal}
-use Rattle.recovery_core.specs.Tries.{Begins, recovery_begins, recovery_try, takeover_begins, takeover_try, unless_refused}
-use Rattle.recovery_core.proofs.Beginning.{unrefused}
-use Rattle.recovery_permits.specs.declared.attempt.Attempt.{Attempt}
-use Rattle.recovery_permits.specs.Recoveries.{purpose_by, recovery_purpose, recovery_refusal}
-use Rattle.recovery_permits.specs.Takeovers.{followers_of, takeover_refusal}
-use Rattle.recovery_plans.specs.Beginning.{begun_recovery, but}
-use Rattle.recovery_plans.specs.declared.outcome.Stopped.{Stopped}
-use Rattle.recovery_plans.specs.declared.means.Means.{Means}
-use Rattle.recovery_plans.specs.declared.means.Means.TheVariants as means
-use Rattle.recovery_plans.specs.declared.purpose.Purpose.{Purpose}
-use Rattle.recovery_plans.specs.declared.purpose.Purpose.TheVariants as purpose
-use Rattle.recovery_plans.specs.declared.task.Task.{Task}
-use Rattle.recovery_plans.specs.declared.task.Task.TheVariants as task
-use Rattle.regroup.specs.Commands.{regroup_command}
-use Rattle.regroup.specs.declared.command.RegroupCommand.{RegroupCommand}
-use Rattle.regroup.specs.declared.command.RegroupCommand.TheVariants as regroups
-use Rattle.regroup.specs.Permits as path_permits
-use Rattle.regroup.specs.Permits.{relocate_row, replicas_row, rest_refusal}
-use Rattle.regroup.specs.Plans as path_plans
-use Rattle.regroup.specs.Plans.{arrived, ascended, climbed, moved_by, next_of, relocated, travelled}
-use Rattle.regroup.specs.Ways.{Path, path_of}
-use Rattle.server_model.specs.declared.server.Server.{Server as AServer}
-use Rattle.server_model.specs.Worlds.{World, server_at}
-use Rattle.run_laws.proofs.Naming.{succeeds}
-use Rattle.tidy_laws.specs.Clusters.{AreAlike, Clusters, cluster_in, label}
-use Rattle.tidy_laws.specs.Recoveries.{IsRecoveryWithin, IsTaskWithin, IsUnendedWithin}
-use Rattle.tidy_laws.specs.Trim.{IsTrim}
-use Rattle.tidy_laws.specs.Within.{AllWithin, AreDueWithin, IsDueWithin, IsJobWithin}
+use Rattle.tidy_laws.proofs.Prelude.{All-append, All-cons, All-head, All-nil, All-push, All-tail, AllWithin, AreAlike, AreDueWithin, AuditState}
+use Rattle.tidy_laws.proofs.Prelude.{Begins, BookState, ByBridges, ByMatches, Clusters, Command, Coordinates, CoordsCommand, Deed, Follows}
+use Rattle.tidy_laws.proofs.Prelude.{GtidCommand, Gtids, IsDueWithin, IsJobWithin, IsRecoveryWithin, IsTaskWithin, IsTrim, IsUnendedWithin, Line}
+use Rattle.tidy_laws.proofs.Prelude.{Matches, Means, Moment, Op, Path, Paths, Planner, PseudoCommand, Purpose, Refusal, RegroupCommand, Regroups}
+use Rattle.tidy_laws.proofs.Prelude.{Server as AServer, ServerNo, Staged, Stopped, Task, World, about as about_given, about_one, actionable_in}
+use Rattle.tidy_laws.proofs.Prelude.{after_try, again, again_auto, and_parts, arrived, ascended, auto, autos, begun_recovery, but, climbed}
+use Rattle.tidy_laws.proofs.Prelude.{cluster_in, coords_command, deed_of, each-none, finished, first_about, first_refusal, flat_map, followers_of}
+use Rattle.tidy_laws.proofs.Prelude.{from_start, gtid_command, has_log, is_replica_of, is_valid, job_by, job_with, label, label_in, master_taken}
+use Rattle.tidy_laws.proofs.Prelude.{matching, matchings, moved_below, moved_by, moved_up, moves_to, neither, next_of, of_other_cluster, option_or}
+use Rattle.tidy_laws.proofs.Prelude.{path_of, pseudo_command, purpose_by, recovery_begins, recovery_purpose, recovery_refusal, recovery_try}
+use Rattle.tidy_laws.proofs.Prelude.{refusal_by, refused, regroup_about, regroup_command, relocate_row, relocated, replicas_but, replicas_moved_up}
+use Rattle.tidy_laws.proofs.Prelude.{replicas_of, replicas_row, repointed, repointed_auto, repointed_by, rest_refusal, same_label, same_text}
+use Rattle.tidy_laws.proofs.Prelude.{scan_step, scanned, scanned_over, server_at, siblings_of, siblings_taken, source_above, source_of}
+use Rattle.tidy_laws.proofs.Prelude.{staged_refusal, succeeds, swap, takeover_begins, takeover_refusal, takeover_try, test-false, travelled, under}
+use Rattle.tidy_laws.proofs.Prelude.{unders, unknown_in, unless_refused, unrefused, up, ups}
+use Rattle.tidy_laws.proofs.Prelude.Checks.{refusal_by as check_refusal}
+use Rattle.tidy_laws.proofs.Prelude.CommandsTheVariants.{Server}
+use Rattle.tidy_laws.proofs.Prelude.FailureAnalysis.{Entry}
+use Rattle.tidy_laws.proofs.Prelude.Firsts.{not-false}
+use Rattle.tidy_laws.proofs.Prelude.RecoveryPermits.{Attempt}
+use Rattle.tidy_laws.proofs.Prelude.commands_refusal as refusal
+use Rattle.tidy_laws.proofs.Prelude.coords
+use Rattle.tidy_laws.proofs.Prelude.coords_permits
+use Rattle.tidy_laws.proofs.Prelude.coords_plans
+use Rattle.tidy_laws.proofs.Prelude.deed
+use Rattle.tidy_laws.proofs.Prelude.gtid_permits
+use Rattle.tidy_laws.proofs.Prelude.gtid_plans
+use Rattle.tidy_laws.proofs.Prelude.gtids
+use Rattle.tidy_laws.proofs.Prelude.match_plans
+use Rattle.tidy_laws.proofs.Prelude.matches
+use Rattle.tidy_laws.proofs.Prelude.means
+use Rattle.tidy_laws.proofs.Prelude.op
+use Rattle.tidy_laws.proofs.Prelude.path_permits
+use Rattle.tidy_laws.proofs.Prelude.path_plans
+use Rattle.tidy_laws.proofs.Prelude.purpose
+use Rattle.tidy_laws.proofs.Prelude.regroups
+use Rattle.tidy_laws.proofs.Prelude.task
 
 -- ---- labels
 
@@ -252,14 +212,9 @@ module _ (c : Clusters) (w : World) (trim : IsTrim c w) (b : BookState) (i : Ser
   coords-planned coords.Repoint d h = repoint-planned d h
   coords-planned coords.TakeSiblings d h = siblings-planned (siblings_of b i) (source_of b i)
   coords-planned coords.TakeMaster d h = master-planned (source_of b i) (source_above b i)
-  coords-planned coords.DetachReplica d h = (tt, tt)
   coords-planned coords.ReattachReplica d h = (tt, (tt, tt))
-  coords-planned coords.ResetReplica d h = (tt, tt)
-  coords-planned coords.StartReplica d h = (tt, tt)
-  coords-planned coords.StopReplica d h = (tt, tt)
   coords-planned coords.RestartReplica d h = (tt, (tt, tt))
-  coords-planned coords.SetReadOnly d h = (tt, tt)
-  coords-planned coords.SetWriteable d h = (tt, tt)
+  coords-planned _ d h = (tt, tt)
 
   -- ---- by GTIDs
 
@@ -324,10 +279,8 @@ module _ (c : Clusters) (w : World) (trim : IsTrim c w) (b : BookState) (i : Ser
 
 -- what is known of a successor
 abbrev IsAimWithin : Clusters → Purpose → ServerNo → Type 0
-IsAimWithin c purpose.Regroup f = Unit {0}
-IsAimWithin c purpose.Master f = Unit {0}
 IsAimWithin c (purpose.Intermediate s) f = AreAlike c s.0 f.0
-IsAimWithin c (purpose.Takeover d) f = Unit {0}
+IsAimWithin c _ f = Unit {0}
 
 module _ (c : Clusters) (f : ServerNo) where
   mapped-within : (chosen : Option ServerNo) (t : ServerNo → Task) (ns : List ServerNo) → ((n : ServerNo) → IsTaskWithin c f chosen (t n)) → All (IsTaskWithin c f chosen) (map t ns)

@@ -1,56 +1,31 @@
 -- Each exchange in order keeps a world trim.
 use Rattle.std.proofs.Common.{◌≡◌, ℕ, ◌+◌, ◌<◌, ◌≤◌, Bool, true, false, not, cond, List, [], ◌∷◌, ◌++◌, length, length-append, refl, sym, ◌∙◌, ap, subst, inl, inr, Option, Some, None, Result, Ok, Err, arith, ◌&&◌, ◌||◌}
 use Rattle.std.specs.Prelude.{IfSome, slice_get, nat_le, nat_lt, ◌==◌}
-use Rattle.std.proofs.lemmas.Bool.{cases_eq, cond-false, cond-true, false≢true}
-use Rattle.std.proofs.lemmas.Bool.Decides.{nat_tests}
-use Rattle.std.proofs.lemmas.List.Elements.{All-push}
-use Rattle.std.proofs.lemmas.Option.{same_Some}
-use Rattle.binlog_coords.specs.declared.Coord.{Coord}
-use Rattle.binlog_coords.specs.declared.Next.{Next}
-use Rattle.binlog_coords.specs.declared.Next.TheVariants as next
-use Rattle.binlog_coords.specs.Index.{Index}
-use Rattle.binlog_coords.specs.Log.{Log, appended, flush, next_after, opened, push}
-use Rattle.orch_base.specs.declared.server.ServerNo.{ServerNo}
-use Rattle.orch_base.specs.declared.server.SourceState.{SourceState}
-use Rattle.orch_base.specs.declared.server.SourceState.TheVariants.{Without, Attached, Detached}
-use Rattle.orch_base.specs.declared.server.Txn.{Txn}
-use Rattle.orch_base.specs.Histories.{holds}
-use Rattle.server_words.specs.declared.answers.PurgeAnswer.{PurgeAnswer}
-use Rattle.server_words.specs.declared.answers.PurgeAnswer.TheVariants as purging
-use Rattle.server_words.specs.declared.answers.RotateAnswer.{RotateAnswer}
-use Rattle.server_words.specs.declared.answers.RotateAnswer.TheVariants as rotating
-use Rattle.server_words.specs.declared.answers.Unreachable.{Unreachable}
-use Rattle.server_words.specs.declared.answers.WriteAnswer.{WriteAnswer}
-use Rattle.server_words.specs.declared.answers.WriteAnswer.TheVariants as wrote
-use Rattle.server_words.specs.declared.attach.AttachFault.{AttachFault}
-use Rattle.server_words.specs.declared.attach.AttachFault.TheVariants as attaching
-use Rattle.server_words.specs.declared.attach.Spot.{Spot}
-use Rattle.server_words.specs.declared.changes.Ask.{Ask}
-use Rattle.server_words.specs.declared.changes.Ask.TheVariants as asking
-use Rattle.server_words.specs.declared.changes.Event.{Event}
-use Rattle.server_words.specs.declared.changes.Event.TheVariants as event
-use Rattle.server_words.specs.declared.changes.Link.TheVariants as link
-use Rattle.server_words.specs.declared.changes.Threads.{Threads}
-use Rattle.server_words.specs.declared.changes.Threads.TheVariants as threads
-use Rattle.server_model.specs.declared.decisions.ApplyStep.{ApplyStep}
-use Rattle.server_model.specs.declared.decisions.ApplyStep.TheVariants as applying
-use Rattle.server_model.specs.declared.decisions.FetchStep.{FetchStep}
-use Rattle.server_model.specs.declared.decisions.FetchStep.TheVariants as receiving
-use Rattle.server_model.specs.declared.server.Server.{Server}
-use Rattle.server_model.specs.Attach.{IsTarget, after_attach, attach_answer, attached_to, chain_meets, first_kept, live_spot, purged_answer, same_spot, spot_below}
-use Rattle.server_model.specs.Desk.{after_change, after_desk, after_rotate, asked, attached_source, befallen, desk_answer, detached, detached_source, healed, is_detached, reattached, rotate_answer, rotated, started, stopped}
-use Rattle.server_model.specs.Exchanges.{after_apply, after_fetch, after_write, applied, apply_from, apply_step, apply_txn, attached_at, fetch_from, fetch_step, is_attached, is_reached, own_txn, took, write_answer}
-use Rattle.server_model.specs.Fit.{HasSize}
-use Rattle.server_model.specs.Gtids.{IsAutoTarget, after_attach_auto, attach_auto_answer, attached_auto, auto_coord, uuids}
-use Rattle.server_model.specs.Purging.{after_purge, purge_answer}
-use Rattle.server_model.specs.Run.{Exchange, Write, Fetch, Apply, Request, Befall, Rotate, Purge, Attach, AttachAuto, AllAllowed, Allowed, after, run}
-use Rattle.server_model.specs.Worlds.{World, server_at, source_no, with_server}
-use Rattle.server_model.proofs.Applied.{step_from}
-use Rattle.server_model.proofs.LogSizes.{files-push, length-push}
-use Rattle.replication_laws.proofs.Worlds.{at_with_other, at_with_same}
-use Rattle.scenario_dump.specs.Tidy.{IsWritten}
-use Rattle.tidy_laws.specs.Clusters.{AreAlike, Clusters, cluster_in, label}
-use Rattle.tidy_laws.specs.Trim.{AllOrderly, HasOwnOf, IsOrderly, IsOrderlyAsk, IsTrim, ReplicatesOf, StaysWithin}
+use Rattle.tidy_laws.proofs.Prelude.{All-push, AllAllowed, AllOrderly, Allowed, Apply, ApplyStep, AreAlike, Ask, Attach, AttachAuto, Attached}
+use Rattle.tidy_laws.proofs.Prelude.{AttachFault, Befall, Clusters, Coord, Detached, Event, Exchange, Fetch, FetchStep, HasOwnOf, HasSize, Index}
+use Rattle.tidy_laws.proofs.Prelude.{IsAutoTarget, IsOrderly, IsOrderlyAsk, IsTarget, IsTrim, IsWritten, Log, Next, Purge, PurgeAnswer, ReplicatesOf}
+use Rattle.tidy_laws.proofs.Prelude.{Request, Rotate, RotateAnswer, Server, ServerNo, SourceState, Spot, StaysWithin, Threads, Txn, Unreachable}
+use Rattle.tidy_laws.proofs.Prelude.{Without, World, Write, WriteAnswer, after, after_apply, after_attach_auto, after_change, after_desk, after_fetch}
+use Rattle.tidy_laws.proofs.Prelude.{after_purge, after_rotate, after_write, appended, applied, apply_from, apply_step, apply_txn, asked}
+use Rattle.tidy_laws.proofs.Prelude.{at_with_other, at_with_same, attach_answer, attach_auto_answer, attached_at, attached_auto, attached_source}
+use Rattle.tidy_laws.proofs.Prelude.{attached_to, auto_coord, befallen, cases_eq, chain_meets, cluster_in, cond-false, cond-true, desk_answer}
+use Rattle.tidy_laws.proofs.Prelude.{detached, detached_source, false≢true, fetch_from, fetch_step, files-push, first_kept, flush, healed, holds}
+use Rattle.tidy_laws.proofs.Prelude.{is_attached, is_detached, label, length-push, live_spot, nat_tests, next_after, opened, own_txn, purge_answer}
+use Rattle.tidy_laws.proofs.Prelude.{purged_answer, push, reattached, rotate_answer, rotated, run, same_Some, same_spot, server_at, source_no}
+use Rattle.tidy_laws.proofs.Prelude.{spot_below, started, step_from, stopped, took, uuids, with_server, write_answer}
+use Rattle.tidy_laws.proofs.Prelude.Exchanges.{is_reached}
+use Rattle.tidy_laws.proofs.Prelude.ServerModel.{after_attach}
+use Rattle.tidy_laws.proofs.Prelude.applying
+use Rattle.tidy_laws.proofs.Prelude.asking
+use Rattle.tidy_laws.proofs.Prelude.attaching
+use Rattle.tidy_laws.proofs.Prelude.binlog_next as next
+use Rattle.tidy_laws.proofs.Prelude.event
+use Rattle.tidy_laws.proofs.Prelude.link
+use Rattle.tidy_laws.proofs.Prelude.purging
+use Rattle.tidy_laws.proofs.Prelude.receiving
+use Rattle.tidy_laws.proofs.Prelude.rotating
+use Rattle.tidy_laws.proofs.Prelude.threads
+use Rattle.tidy_laws.proofs.Prelude.wrote
 use Rattle.tidy_laws.proofs.Positions.{All-slot}
 
 -- ---- one server changes
@@ -130,23 +105,18 @@ write-room : (n seq : ℕ) (s : Server) → write_answer n (Some s) ≡ wrote.Do
 write-room n seq s h = go s.up s.read_only (nat_le s.history.room (length s.history.txns)) refl h
   where
     go : (up only full : Bool) → nat_le s.history.room (length s.history.txns) ≡ full
-        → cond (not up) wrote.Down (cond only wrote.ReadOnly (cond full wrote.Full (wrote.Done (Rattle.orch_base.specs.Histories.count_own n s.history.txns + 1)))) ≡ wrote.Done seq
+        → cond (not up) wrote.Down (cond only wrote.ReadOnly (cond full wrote.Full (wrote.Done (Rattle.run_laws.specs.OrchBase.Histories.count_own n s.history.txns + 1)))) ≡ wrote.Done seq
         → length s.history.txns < s.history.room
-    go false only full is h = cc
-    go true true full is h = cc
-    go true false true is h = cc
     go true false false is h = grind (arith, nat_tests)
+    go _ _ _ is h = cc
 
 trim-write : (c : Clusters) (w : World) (n size : ℕ) → IsTrim c w → 0 < size → size ≤ 1000000 → (o : Option Server) → server_at w n ≡ o → (a : WriteAnswer) → write_answer n o ≡ a
     → IsTrim c (after_write w n size o a)
-trim-write c w n size trim some few None at a is = trim
-trim-write c w n size trim some few (Some s) at wrote.Down is = trim
-trim-write c w n size trim some few (Some s) at wrote.ReadOnly is = trim
-trim-write c w n size trim some few (Some s) at wrote.Full is = trim
 trim-write c w n size trim some few (Some s) at (wrote.Done seq) is =
     trim-with c w n _ s (took s (own_txn n seq size)) trim at
     (own-took c n s (own_txn n seq size) (trim.own n s at) (some, few) refl (write-room n seq s is))
     (trim.replicates n s at)
+trim-write c w n size trim _ few _ at _ is = trim
 
 -- ---- a fetch
 
@@ -164,9 +134,6 @@ reading : (c : Clusters) (gtid : Bool) (n : ℕ) (r : Server) (read : Coord) (re
 reading c gtid n r read receiver some old = record { bare = λ none. absurd (some none); auto = old.auto; until = old.until; source = old.source }
 
 trim-fetch : (c : Clusters) (w : World) (n : ℕ) → IsTrim c w → (o : Option Server) → server_at w n ≡ o → (a : FetchStep) → fetch_step w o ≡ a → IsTrim c (after_fetch w n o a)
-trim-fetch c w n trim None at a is = trim
-trim-fetch c w n trim (Some r) at receiving.Halt is = trim
-trim-fetch c w n trim (Some r) at receiving.Unlinked is = trim
 trim-fetch c w n trim (Some r) at (receiving.Refuse first) is =
     trim-with c w n w.errant r (record r { receiver = false }) trim at (trim.own n r at)
     (reading c w.gtid n r r.read false (λ none. let e = fetching w r none in cc) (trim.replicates n r at))
@@ -176,7 +143,7 @@ trim-fetch c w n trim (Some r) at (receiving.Take (next.Entry index to)) is =
 trim-fetch c w n trim (Some r) at (receiving.Take (next.Rotate to)) is =
     trim-with c w n w.errant r (record r { read = to }) trim at (trim.own n r at)
     (reading c w.gtid n r to r.receiver (λ none. let e = fetching w r none in cc) (trim.replicates n r at))
-trim-fetch c w n trim (Some r) at (receiving.Take next.End) is = trim
+trim-fetch c w n trim _ at _ is = trim
 
 -- ---- an apply
 
@@ -214,10 +181,6 @@ executes gtid r s (next.Rotate e) t to h = cc
 executes gtid r s next.End t to h = cc
 
 trim-apply : (c : Clusters) (w : World) (n : ℕ) → IsTrim c w → (o : Option Server) → server_at w n ≡ o → (a : ApplyStep) → apply_step w o ≡ a → IsTrim c (after_apply w n o a)
-trim-apply c w n trim None at a is = trim
-trim-apply c w n trim (Some r) at applying.Halt is = trim
-trim-apply c w n trim (Some r) at applying.Idle is = trim
-trim-apply c w n trim (Some r) at applying.NoRoom is = trim
 trim-apply c w n trim (Some r) at applying.ForgetUntil is =
     let old = trim.replicates n r at in
     trim-with c w n w.errant r (record r { applier = false; until = None }) trim at (trim.own n r at)
@@ -238,6 +201,7 @@ trim-apply c w n trim (Some r) at (applying.Execute t to) is =
     trim-with c w n w.errant r (record (took r t) { exec = to }) trim at
     (own-took c n r t (trim.own n r at) size (home ∙ old.source on.number on.from) does.room)
     (moving c w.gtid n r to (λ none. let e = applying-not w r none in cc) old)
+trim-apply c w n trim _ at _ is = trim
 
 -- ---- what is asked of a server, and what befalls it
 
@@ -332,12 +296,10 @@ module _ (c : Clusters) (gtid : Bool) (n : ℕ) (s : Server) (old : ReplicatesOf
       }
 
   befallen-trim : (e : Event) → ReplicatesOf c gtid n (befallen e s)
-  befallen-trim event.Fail = old
   befallen-trim event.Heal = asked-healed
   befallen-trim (event.Cut link.Desk) = old
-  befallen-trim (event.Cut link.Feed) = old
   befallen-trim (event.Join link.Desk) = old
-  befallen-trim (event.Join link.Feed) = old
+  befallen-trim _ = old
 
 -- neither touches what the server has executed, nor its log
 module _ (c : Clusters) (n : ℕ) (s : Server) (own : HasOwnOf c n s) where
@@ -404,17 +366,13 @@ rotates : (s : Server) (end : Coord) → rotate_answer (Some s) ≡ rotating.Don
 rotates s end h = go s.up s.settings.logs (s.log.flushes == 0) refl refl h
   where
     go : (up logs none : Bool) → s.settings.logs ≡ logs → (s.log.flushes == 0) ≡ none
-        → cond (not up) rotating.Down (cond (not logs) rotating.NotLogging (cond none rotating.Full (rotating.Done (Rattle.binlog_coords.specs.Log.end_of (flush s.log.log))))) ≡ rotating.Done end → Rotates s
+        → cond (not up) rotating.Down (cond (not logs) rotating.NotLogging (cond none rotating.Full (rotating.Done (Rattle.run_laws.specs.BinlogCoords.Log.end_of (flush s.log.log))))) ≡ rotating.Done end → Rotates s
     go false logs none l f h = cc
     go true false none l f h = cc
     go true true true l f h = cc
     go true true false l f h = record { logs = l; some = grind (arith, nat_tests) }
 
 trim-rotate : (c : Clusters) (w : World) (n : ℕ) → IsTrim c w → (o : Option Server) → server_at w n ≡ o → (a : RotateAnswer) → rotate_answer o ≡ a → IsTrim c (after_rotate w n o a)
-trim-rotate c w n trim None at a is = trim
-trim-rotate c w n trim (Some s) at rotating.Down is = trim
-trim-rotate c w n trim (Some s) at rotating.NotLogging is = trim
-trim-rotate c w n trim (Some s) at rotating.Full is = trim
 trim-rotate c w n trim (Some s) at (rotating.Done end) is =
     let does = rotates s end is in
     let own = trim.own n s at in
@@ -432,13 +390,11 @@ trim-rotate c w n trim (Some s) at (rotating.Done end) is =
       origins = own.origins;
     })
     (trim.replicates n s at)
+trim-rotate c w n trim _ at _ is = trim
 
 trim-purge : (c : Clusters) (w : World) (n : ℕ) → IsTrim c w → (o : Option Server) → server_at w n ≡ o → (a : PurgeAnswer) → IsTrim c (after_purge w n o a)
-trim-purge c w n trim None at a = trim
-trim-purge c w n trim (Some s) at purging.Down = trim
-trim-purge c w n trim (Some s) at purging.NotLogging = trim
-trim-purge c w n trim (Some s) at purging.NoFile = trim
 trim-purge c w n trim (Some s) at (purging.Done first) = trim-with c w n w.errant s (record s { first = first }) trim at (trim.own n s at) (trim.replicates n s at)
+trim-purge c w n trim _ at _ = trim
 
 -- ---- changes of source
 
@@ -448,12 +404,10 @@ attach-spot w n expect to at s h = go (s.up && s.desk) (s.receiver || s.applier)
   where
     go : (up busy same : Bool)
         → cond (not up) (Err attaching.Unreachable) (cond busy (Err (attaching.Running (spot_below s s.source))) (cond (not same) (Err (attaching.Interfered expect (live_spot s expect)))
-        (cond (chain_meets (Rattle.server_model.specs.Worlds.sources w) (length w.servers) to n) (Err attaching.Loop) (purged_answer (nat_lt at.file (first_kept (server_at w to))) (first_kept (server_at w to)))))) ≡ Ok tt
+        (cond (chain_meets (Rattle.run_laws.specs.ServerModel.Worlds.sources w) (length w.servers) to n) (Err attaching.Loop) (purged_answer (nat_lt at.file (first_kept (server_at w to))) (first_kept (server_at w to)))))) ≡ Ok tt
         → same ≡ true
-    go false busy same h = cc
-    go true true same h = cc
-    go true false false h = cc
     go true false true h = refl
+    go _ _ _ h = cc
 
 -- a server that is there, with the label of another one
 unlabelled : (c : Clusters) (w : World) (n m : ℕ) (s t : Server) → IsTrim c w → server_at w n ≡ Some s → server_at w m ≡ Some t → AreAlike c m n → c m ≡ c n

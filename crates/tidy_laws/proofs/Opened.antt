@@ -1,35 +1,15 @@
 -- The servers of a checked opening are trim.
 use Rattle.std.proofs.Common.{◌≡◌, ℕ, ◌+◌, ◌≤◌, Bool, true, false, not, cond, List, [], ◌∷◌, length, take, refl, sym, ◌∙◌, ap, subst, Option, Some, None, zero, suc, ◌&&◌}
 use Rattle.std.specs.Prelude.{All, IfSome, slice_get, slice_index_or, nat_le, is_some, ◌==◌, count_by}
-use Rattle.std.specs.List.{list_any}
-use Rattle.std.specs.Cmp.Lexicographic.{same_text}
-use Rattle.std.proofs.lemmas.Bool.{not-false, or_parts}
-use Rattle.std.proofs.lemmas.List.Elements.{All-cons, All-nil, All-take}
-use Rattle.std.proofs.lemmas.Option.{same_Some, slice_get-get_or}
-use Rattle.binlog_coords.specs.Log.{Log, appended, flush, opened, push}
-use Rattle.orch_base.specs.Chains.{Grounded, Root, Under}
-use Rattle.orch_base.specs.declared.server.ServerNo.{ServerNo}
-use Rattle.orch_base.specs.declared.server.SourceState.TheVariants.{Without, Attached, Detached}
-use Rattle.orch_base.specs.declared.server.Txn.{Txn}
-use Rattle.openings.specs.declared.init.ServerInit.{ServerInit}
-use Rattle.openings.specs.declared.opening.Flaw.{Flaw}
-use Rattle.openings.specs.declared.part.Part.{Part}
-use Rattle.openings.specs.Flaws.{at_server, at_source, first_flaw, first_met, flaw_or, flaws, of_source, origin_elsewhere, other_cluster, same_cluster}
-use Rattle.openings.specs.Listed.{listed_history, next_txn, singles}
-use Rattle.openings.specs.Logs.{flushed_at, flushed_times, laid, laid_after}
-use Rattle.openings.specs.Opening.{IsChecked, Opened}
-use Rattle.openings.specs.Servers.{exec_of, history_at, log_by, number_of, parts_of, read_of, source_of, sources}
-use Rattle.openings.specs.Sound.{IsSound}
-use Rattle.openings.proofs.Joined.{pair_of}
-use Rattle.openings.proofs.Sizes.{joined_by-each, singles-part}
-use Rattle.openings.proofs.Soundness.{sound_checked}
-use Rattle.server_model.specs.declared.server.Server.{Server}
-use Rattle.world_openings.specs.Opening.{Fits, opened_server, opened_world, source_state}
-use Rattle.world_openings.proofs.Opened.{given-opened, server_at-opened}
-use Rattle.world_openings.proofs.OpenedWorlds.{CanStand-opened, exec_of-root, read_of-root, source-given}
-use Rattle.scenario_dump.specs.Tidy.{IsWritten}
-use Rattle.tidy_laws.specs.Clusters.{Clusters, cluster_at, cluster_in}
-use Rattle.tidy_laws.specs.Trim.{HasOwnOf, IsTrim, ReplicatesOf}
+use Rattle.tidy_laws.proofs.Prelude.{All-cons, All-nil, All-take, Attached, CanStand-opened, Clusters, Detached, Fits, Flaw, Grounded, HasOwnOf}
+use Rattle.tidy_laws.proofs.Prelude.{IsChecked, IsSound, IsTrim, IsWritten, Log, Opened, Part, ReplicatesOf, Root, Server, ServerInit, ServerNo, Txn}
+use Rattle.tidy_laws.proofs.Prelude.{Under, Without, appended, at_server, at_source, cluster_at, cluster_in, exec_of, exec_of-root, first_flaw}
+use Rattle.tidy_laws.proofs.Prelude.{first_met, flaw_or, flaws, flush, flushed_at, flushed_times, given-opened, history_at, joined_by-each, laid}
+use Rattle.tidy_laws.proofs.Prelude.{laid_after, list_any, listed_history, log_by, next_txn, not-false, number_of, of_source, opened, opened_server}
+use Rattle.tidy_laws.proofs.Prelude.{opened_world, or_parts, origin_elsewhere, other_cluster, pair_of, parts_of, push, read_of, read_of-root}
+use Rattle.tidy_laws.proofs.Prelude.{same_cluster, same_Some, same_text, server_at-opened, singles, singles-part, slice_get-get_or, sound_checked}
+use Rattle.tidy_laws.proofs.Prelude.{source-given, source_state, sources}
+use Rattle.tidy_laws.proofs.Prelude.Servers.{source_of}
 use Rattle.tidy_laws.proofs.Positions.{All-slot}
 
 -- ---- no flaw
@@ -143,7 +123,7 @@ module _ (o : Opened) (room flushes : ℕ) (checked : IsChecked o) (untils : All
       of-part : (before : List Txn) (x : ServerNo × ℕ) (p : Part) (k : ℕ) → slice_get (parts_of i) k ≡ Some p → x ≡ pair_of p → IsHome n (next_txn before x)
       of-part before x p k part is =
           let origin : x.0 ≡ p.origin = ap (λ (y : ServerNo × ℕ). y.0) is in
-          let range = All-slot (Rattle.openings.specs.Opening.IsPart (length o.servers)) (parts_of i) k p (checked.listed.each n i at).parts part in
+          let range = All-slot (Rattle.run_laws.specs.Openings.Opening.IsPart (length o.servers)) (parts_of i) k p (checked.listed.each n i at).parts part in
           let there = slice_get-get_or o.servers p.origin.0 i range.origin in
           let j = slice_index_or o.servers p.origin.0 i in
           ap (λ (y : ServerNo). c y.0) origin ∙ cluster-of p.origin.0 j there ∙ ap Some (sym (origin-like o checked n i j p k at part there)) ∙ sym (cluster-of n i at)

@@ -1,27 +1,12 @@
 -- Each neat passage leaves a neat flight.
 use Rattle.std.proofs.Common.{◌≡◌, ℕ, Bool, true, false, List, [], ◌∷◌, length, refl, ◌∙◌, ap, subst, Option, Some, None}
 use Rattle.std.specs.Prelude.{All, IfSome, slice_set}
-use Rattle.std.proofs.lemmas.List.Elements.{All-nil, All-replicate, All-set}
-use Rattle.std.proofs.lemmas.Option.{same_Some}
-use Rattle.orch_base.specs.declared.server.Moment.{Moment}
-use Rattle.orch_base.specs.declared.server.ServerNo.{ServerNo}
-use Rattle.server_words.specs.declared.status.Status.{Status}
-use Rattle.instance_keeper.specs.declared.bridge.Bridge.{Bridge}
-use Rattle.instance_keeper.specs.Bridges.{bridge_in, ring_at, ringed, with_bridge}
-use Rattle.kept_rows.specs.declared.observation.Observation.{Observation}
-use Rattle.replication_laws.proofs.Runs.{Placed-after, Placed-run}
-use Rattle.operations.specs.declared.sight.Position.{Position}
-use Rattle.operations.specs.Jobs.{Job, position_of}
-use Rattle.operations.specs.Turns.{Turned, observed, turned}
-use Rattle.job_laws.specs.Flights.{Flight, after_turn}
-use Rattle.job_laws.specs.Leases.{job_at}
-use Rattle.job_laws.specs.Passages as pass
-use Rattle.job_laws.specs.Passages.{Passage, passed, passing, slot_of, stored_if, turned_by}
-use Rattle.job_laws.proofs.Lists.{All-at, All-ring}
-use Rattle.job_laws.proofs.Spanning.{bridge-parts}
-use Rattle.tidy_laws.specs.Clusters.{Clusters, label}
-use Rattle.tidy_laws.specs.Flights.{AreNeatPassages, IsNeat, IsNeatPassage, IsNeatTurn}
-use Rattle.tidy_laws.specs.Within.{IsReadWithin, IsWithinCluster, StoodWithin}
+use Rattle.tidy_laws.proofs.Prelude.{All-at, All-nil, All-replicate, All-ring, All-set, AreNeatPassages, Bridge, Clusters, Flight, IsNeat}
+use Rattle.tidy_laws.proofs.Prelude.{IsNeatPassage, IsNeatTurn, IsReadWithin, IsWithinCluster, Job, Moment, Observation, Passage, Placed-after}
+use Rattle.tidy_laws.proofs.Prelude.{Placed-run, Position, ServerNo, Status, StoodWithin, Turned, after_turn, bridge-parts, bridge_in, job_at, label}
+use Rattle.tidy_laws.proofs.Prelude.{observed, passed, passing, position_of, ring_at, ringed, same_Some, slot_of, stored_if, turned, turned_by}
+use Rattle.tidy_laws.proofs.Prelude.Bridges.{with_bridge}
+use Rattle.tidy_laws.proofs.Prelude.pass
 use Rattle.tidy_laws.proofs.Exchanged.{trim-after, trim-run}
 use Rattle.tidy_laws.proofs.Turns.{read-within}
 

@@ -1,25 +1,12 @@
 -- Coordinates with a place in a log can be printed: how far a log of so many sized transactions goes.
-use Rattle.std.proofs.Common.{◌≡◌, ℕ, ◌+◌, ◌*◌, ◌≤◌, Bool, true, false, cond, List, [], ◌∷◌, ◌++◌, length, length-append, refl, subst, Some, arith, ◌&&◌, ◌||◌}
-use Rattle.std.specs.Prelude.{All, slice_get, nat_le, ◌==◌}
-use Rattle.std.specs.List.{list_any}
-use Rattle.std.proofs.Math.Seq.{take-append_seam}
-use Rattle.std.proofs.lemmas.Bool.{and_parts, eqb-true, false≢true}
-use Rattle.std.proofs.lemmas.Bool.Decides.{nat_tests}
-use Rattle.std.proofs.lemmas.List.Elements.{All-nil, All-head, All-tail, All-push, All-take, All-weaker}
-use Rattle.std.proofs.lemmas.Option.{get_or_from_slice_get, slice_get_within}
-use Rattle.binlog_coords.specs.declared.Coord.{Coord}
-use Rattle.binlog_coords.specs.declared.Entry.{Entry}
-use Rattle.binlog_coords.specs.Log.{Log, appended, end_coord, entry_at_end, flush, has_place, is_file_start, push, same_coord, start_coord, touches}
-use Rattle.binlog_coords.proofs.Places.{same_coord-true}
-use Rattle.openings.proofs.Members.{get-push_new}
-use Rattle.orch_base.specs.declared.server.Txn.{Txn}
-use Rattle.server_model.specs.Fit.{HasSize}
-use Rattle.server_model.specs.Layout.{LaysOut, Opened, Took, Flushed}
-use Rattle.scenario_dump.specs.Tidy.{IsWritten}
-
--- of one of a list
-pub All-slot : {X : Type 0} (P : X → Type 0) (xs : List X) (i : ℕ) (x : X) → All P xs → slice_get xs i ≡ Some x → P x
-All-slot P xs i x all h = subst P (get_or_from_slice_get xs i x x h) (all i x (slice_get_within xs i x h))
+pub use Rattle.scenario_dump.proofs.Worlds.{All-at as All-slot}
+use Rattle.std.proofs.Common.{◌≡◌, ℕ, ◌+◌, ◌*◌, ◌≤◌, Bool, true, false, cond, List, [], ◌∷◌, ◌++◌, length, length-append, refl, subst, arith, ◌&&◌, ◌||◌}
+use Rattle.std.specs.Prelude.{All, nat_le, ◌==◌}
+use Rattle.tidy_laws.proofs.Prelude.{All-head, All-nil, All-push, All-tail, All-take, All-weaker, Coord, Entry, Flushed, HasSize, IsWritten, LaysOut}
+use Rattle.tidy_laws.proofs.Prelude.{Log, Took, Txn, and_parts, appended, end_coord, entry_at_end, eqb-true, false≢true, flush, get-push_new}
+use Rattle.tidy_laws.proofs.Prelude.{has_place, is_file_start, list_any, nat_tests, push, same_coord, same_coord-true}
+use Rattle.tidy_laws.proofs.Prelude.{start_coord, take-append_seam, touches}
+use Rattle.tidy_laws.proofs.Prelude.Layout.{Opened}
 
 -- a transaction in a log of so many files, whose positions go up to a bound
 pub record LiesIn (bound files : ℕ) (e : Entry) : Type 0 where

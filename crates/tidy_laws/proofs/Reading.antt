@@ -1,34 +1,14 @@
 -- In a scenario that was read each coordinate up to which an applier is to go can be printed.
 use Rattle.std.proofs.Common.{◌≡◌, ℕ, ◌+◌, ◌<◌, ◌≤◌, ◌^◌, ◌&&◌, inl, inr, Bool, true, false, cond, leb, List, [], ◌∷◌, length, Option, Some, None, Result, Ok, Err, refl, sym, subst}
 use Rattle.std.specs.Prelude.{All, IfSome, codes, nat_le, nat_lt, option_and_then}
-use Rattle.std.specs.List.{after_last, before_last, list_any}
-use Rattle.std.specs.Str.Parse.{digits_value}
-use Rattle.std.proofs.lemmas.Bool.{leb-true, ltb-true}
-use Rattle.std.proofs.lemmas.Option.{same_Some}
-use Rattle.std.proofs.lemmas.List.Elements.{All-cons, All-head, All-nil, All-tail}
-use Rattle.serde_json.specs.Data.{Data, Items}
-use Rattle.binlog_coords.specs.declared.Coord.{Coord}
-use Rattle.binlog_coords.specs.declared.text.CoordFault.{CoordFault}
-use Rattle.binlog_coords.specs.declared.text.CoordFault.TheVariants.{NoColon}
-use Rattle.binlog_coords.specs.Grammar.{coord_at, coord_of, extension_of, file_at, is_colon, is_extension, is_plain, number_at, pos_at, value_within}
-use Rattle.orch_base.specs.declared.source.TheConstants.{MAX_SCENARIO_LEN}
-use Rattle.orch_base.specs.Names.{HostPort}
-use Rattle.openings.specs.declared.init.ServerInit.{ServerInit}
-use Rattle.scenarios.specs.declared.scenario.Scenario.{Scenario}
-use Rattle.scenario_values.specs.declared.fault.FaultCode.TheVariants.{TooLong}
-use Rattle.scenario_values.specs.Faults.{each_from, holds, maybe}
-use Rattle.scenario_values.specs.Values.{coord_in, coord_or_fails, text_in}
-use Rattle.scenario_servers.specs.declared.given.Given.{Given}
-use Rattle.scenario_servers.specs.Names.{listed_names, listed_uuids}
-use Rattle.scenario_servers.specs.Openings.{init_of, inits_from, inits_of}
-use Rattle.scenario_servers.specs.Servers.{listed_in, server_in, servers_in}
-use Rattle.scenario_servers.proofs.ServerSteps.{server-ok}
-use Rattle.scenario_servers.proofs.Steps.{bind-ok, each_from-all, maybe-ok, same_Ok}
-use Rattle.scenario_reader.specs.declared.head.Head.{Head}
-use Rattle.scenario_reader.specs.Scenarios.{json_in, scenario_from, scenario_in, scenario_with}
-use Rattle.scenario_dump.specs.Tidy.{IsWritten}
-use Rattle.scenario_reader.proofs.Parts.{from-ok, made_of, opening-same, with-ok}
-use Rattle.tidy_laws.specs.Runs.{UntilsCanBePrinted}
+use Rattle.tidy_laws.proofs.Prelude.{All-cons, All-head, All-nil, All-tail, Coord, CoordFault, Data, Given, Head, HostPort, IsWritten, Items}
+use Rattle.tidy_laws.proofs.Prelude.{MAX_SCENARIO_LEN, NoColon, Scenario, ServerInit, TooLong, UntilsCanBePrinted, after_last, before_last, bind-ok}
+use Rattle.tidy_laws.proofs.Prelude.{coord_at, coord_in, coord_of, coord_or_fails, digits_value, each_from, each_from-all, extension_of, file_at}
+use Rattle.tidy_laws.proofs.Prelude.{from-ok, init_of, inits_from, inits_of, is_colon, is_extension, is_plain, json_in, leb-true, list_any, listed_in}
+use Rattle.tidy_laws.proofs.Prelude.{listed_names, listed_uuids, ltb-true, made_of, maybe, maybe-ok, number_at, opening-same, pos_at, same_Ok}
+use Rattle.tidy_laws.proofs.Prelude.{same_Some, scenario_from, scenario_in, scenario_with, server-ok, server_in, servers_in, text_in, value_within}
+use Rattle.tidy_laws.proofs.Prelude.{with-ok}
+use Rattle.tidy_laws.proofs.Prelude.Faults.{holds}
 
 -- ---- a coordinate
 
@@ -69,9 +49,7 @@ text-written text c e = go (list_any is_colon text) (file_at (before_last is_col
         let two = pos-range (after_last is_colon text) pos place in
         let same : record { file = file; pos = pos } ≡ c = cc in
         subst IsWritten same (record { file = one.0; files = one.1; start = two.0; pos = two.1 })
-    go true (Some file) None at place e = cc
-    go true None pos at place e = cc
-    go false file pos at place e = cc
+    go _ _ _ at place e = cc
 
 coord-written : (d : Data) (c : Coord) → coord_in d ≡ Ok c → IsWritten c
 unfolding coord_in

@@ -1,66 +1,31 @@
 -- A recovery's turn makes exchanges in order, and what it goes by stays within the cluster.
 use Rattle.std.proofs.Common.{◌≡◌, ℕ, Bool, true, false, cond, List, [], ◌∷◌, ◌++◌, map, refl, sym, ◌∙◌, ap, subst, Option, Some, None}
 use Rattle.std.specs.Prelude.{◌==◌, IfSome, filter, option_map}
-use Rattle.std.specs.List.{All}
-use Rattle.std.proofs.lemmas.Option.{same_Some}
-use Rattle.std.proofs.lemmas.List.Elements.{All-nil, All-cons, All-head, All-tail, All-append, All-filter, All-push, All-weaker}
-use Rattle.orch_base.specs.declared.server.Moment.{Moment}
-use Rattle.orch_base.specs.declared.server.ServerNo.{ServerNo}
-use Rattle.server_words.specs.declared.changes.Ask.TheVariants as asking
-use Rattle.server_model.specs.Run.{Exchange, Request, after, run}
-use Rattle.server_model.specs.Safe.{Placed}
-use Rattle.server_model.specs.Worlds.{World, source_no}
-use Rattle.commands.specs.declared.cause.Cause.{Cause}
-use Rattle.recovery_plans.specs.declared.why.Why.{Why}
-use Rattle.instance_keeper.specs.declared.bridge.Bridge.{Bridge}
-use Rattle.kept_rows.specs.declared.observation.Observation.{Observation}
-use Rattle.instance_keeper.specs.Book.{BookState}
-use Rattle.instance_keeper.specs.Bridges.{has_own, latest_that, ring_at}
-use Rattle.operations.specs.declared.op.Crossing.TheVariants as cross
-use Rattle.operations.specs.declared.op.Op.{Op}
-use Rattle.operations.specs.declared.op.Op.TheVariants as op
-use Rattle.operations.specs.declared.sight.Sight.{Sight}
-use Rattle.operations.specs.Deeds.{deed_of}
-use Rattle.operations.specs.Jobs.{Job, seen_of}
-use Rattle.operations.specs.Targets.{can_attach}
-use Rattle.operations.specs.Turns as attempt
-use Rattle.operations.specs.Turns.{Attempt, bridge_at, by_deed, crossing_of, restarts}
-use Rattle.job_laws.proofs.Lists.{All-at}
-use Rattle.job_laws.proofs.Turns.{with-one}
-use Rattle.replica_groups.specs.declared.groups.Group.{Group}
-use Rattle.replica_groups.specs.declared.groups.Group.TheVariants as group
-use Rattle.replica_groups.specs.Groups.{group_of}
-use Rattle.recovery_plans.specs.declared.means.Means.{Means}
-use Rattle.recovery_plans.specs.declared.means.Means.TheVariants as means
-use Rattle.recovery_plans.specs.declared.outcome.Stopped.{Stopped}
-use Rattle.recovery_plans.specs.declared.purpose.Purpose.{Purpose}
-use Rattle.recovery_plans.specs.declared.purpose.Purpose.TheVariants as purpose
-use Rattle.recovery_plans.specs.declared.stage.Stage.{Stage}
-use Rattle.recovery_plans.specs.declared.stage.Stage.TheVariants as stage
-use Rattle.recovery_plans.specs.declared.task.Task.{Task}
-use Rattle.recovery_plans.specs.declared.task.Task.TheVariants as task
-use Rattle.recovery_plans.specs.declared.task.Way.{Way}
-use Rattle.recovery_plans.specs.declared.task.Way.TheVariants as way
-use Rattle.recovery_plans.specs.Recoveries.{Recovery, follows, follows_no_more, loses, sight_of, working}
-use Rattle.recovery_plans.specs.Stages.{before, drain, ends, gather, leaver, level, move, moved, with_bridge, with_way}
-use Rattle.recovery_plans.specs.Telling.{told}
-use Rattle.recovery_plans.specs.Deciding as deciding
-use Rattle.recovery_plans.specs.Deciding.{Lot, chosen_of, ground_of, lot_by, lot_by_group, move_of, moves_in, own_end_of, without_stopped, choose, moving, way_below, way_by_set, why_of, expels, releases, sort}
-use Rattle.recovery_plans.specs.Taking.{Taken, lead_under, last_looks, idle, frees, entered, stepped, swapped, that_can, takes_writes, goes_back, way_back, undone, last_exchanges, taken}
-use Rattle.recovery_plans.specs.Moves as by
-use Rattle.recovery_plans.specs.Moves.{Bearing, Decision, Does, Ending, FailsFor, IsHanding, IsNext, MayDecide, MayEnd, Turning, borne, decided_by, ended_by, fate_of}
-use Rattle.recovery_plans.proofs.Leading.{moved-leads}
-use Rattle.recovery_plans.proofs.Walking.{Keeps, decisions-keep, kept-along, made-along, taken-walks}
-use Rattle.recovery_plans.proofs.Choices.{All-chosen}
-use Rattle.recovery_laws.specs.HeldRecoveries.{HeldRecovery}
-use Rattle.recovery_laws.specs.Rings.{HeldRings}
-use Rattle.recovery_laws.proofs.Choosing.{All-latest}
-use Rattle.recovery_laws.proofs.Deciding.{decides-held}
-use Rattle.recovery_laws.proofs.Taking.{due, source-is}
-use Rattle.tidy_laws.specs.Clusters.{AreAlike, Clusters, label}
-use Rattle.tidy_laws.specs.Recoveries.{IsRecoveryWithin, IsStageWithin, IsTaskWithin, IsWayWithin, KeepsWithin}
-use Rattle.tidy_laws.specs.Trim.{AllOrderly, IsTrim}
-use Rattle.tidy_laws.specs.Within.{AllWithin, AreDueWithin, IsReadWithin, IsTriedWithin, IsWithinCluster, StoodWithin}
+use Rattle.tidy_laws.proofs.Prelude.{All, All-append, All-at, All-chosen, All-cons, All-filter, All-head, All-latest, All-nil, All-push, All-tail}
+use Rattle.tidy_laws.proofs.Prelude.{All-weaker, AllOrderly, AllWithin, AreAlike, AreDueWithin, Attempt, Bearing, BookState, Bridge, Cause, Clusters}
+use Rattle.tidy_laws.proofs.Prelude.{Decision, Does, Ending, Exchange, FailsFor, Group, HeldRecovery, HeldRings, IsHanding, IsNext, IsReadWithin}
+use Rattle.tidy_laws.proofs.Prelude.{IsRecoveryWithin, IsStageWithin, IsTaskWithin, IsTriedWithin, IsTrim, IsWayWithin, IsWithinCluster, Job, Keeps}
+use Rattle.tidy_laws.proofs.Prelude.{KeepsWithin, Lot, MayDecide, MayEnd, Means, Moment, Observation, Op, Placed, Purpose, Recovery, Request}
+use Rattle.tidy_laws.proofs.Prelude.{ServerNo, Sight, Stage, StoodWithin, Stopped, Taken, Task, Turning, Way, Why, World, after, before, borne}
+use Rattle.tidy_laws.proofs.Prelude.{bridge_at, by_deed, can_attach, choose, chosen_of, crossing_of, decided_by, decides-held, decisions-keep}
+use Rattle.tidy_laws.proofs.Prelude.{deed_of, drain, due, ended_by, ends, entered, expels, fate_of, follows, follows_no_more, frees, gather}
+use Rattle.tidy_laws.proofs.Prelude.{goes_back, ground_of, group_of, has_own, idle, kept-along, label, last_exchanges, last_looks, latest_that}
+use Rattle.tidy_laws.proofs.Prelude.{lead_under, leaver, level, loses, lot_by, lot_by_group, made-along, move, move_of, moved, moved-leads, moves_in}
+use Rattle.tidy_laws.proofs.Prelude.{moving, own_end_of, releases, restarts, ring_at, run, same_Some, seen_of, sight_of, sort, source-is, source_no}
+use Rattle.tidy_laws.proofs.Prelude.{stepped, swapped, taken, taken-walks, takes_writes, that_can, told, undone, way_back, way_below, way_by_set}
+use Rattle.tidy_laws.proofs.Prelude.{why_of, with-one, with_bridge, with_way, without_stopped, working}
+use Rattle.tidy_laws.proofs.Prelude.asking
+use Rattle.tidy_laws.proofs.Prelude.attempt
+use Rattle.tidy_laws.proofs.Prelude.by
+use Rattle.tidy_laws.proofs.Prelude.cross
+use Rattle.tidy_laws.proofs.Prelude.deciding
+use Rattle.tidy_laws.proofs.Prelude.group
+use Rattle.tidy_laws.proofs.Prelude.means
+use Rattle.tidy_laws.proofs.Prelude.op
+use Rattle.tidy_laws.proofs.Prelude.purpose
+use Rattle.tidy_laws.proofs.Prelude.stage
+use Rattle.tidy_laws.proofs.Prelude.task
+use Rattle.tidy_laws.proofs.Prelude.way
 use Rattle.tidy_laws.proofs.Turns.{back-within, bridge-within, deed-within, orderly-restarts}
 
 module _ (c : Clusters) where
@@ -108,14 +73,7 @@ module _ (c : Clusters) where
   task-rechosen : (f : ServerNo) (a b : Option ServerNo) → IfSome b (λ s. AreAlike c s.0 f.0) → (t : Task) → IsTaskWithin c f a t → IsTaskWithin c f b t
   task-rechosen f a b fine (task.Moving n by) h = h
   task-rechosen f a b fine task.Handing h = fine
-  task-rechosen f a b fine (task.Reading n) h = tt
-  task-rechosen f a b fine (task.Draining n) h = tt
-  task-rechosen f a b fine task.Choosing h = tt
-  task-rechosen f a b fine task.Sorting h = tt
-  task-rechosen f a b fine (task.Expelling n) h = tt
-  task-rechosen f a b fine (task.Releasing n) h = tt
-  task-rechosen f a b fine (task.Trailing n) h = tt
-  task-rechosen f a b fine task.Yielding h = tt
+  task-rechosen f a b fine _ h = tt
 
   queue-rechosen : (f : ServerNo) (a b : Option ServerNo) (ts : List Task) → IfSome b (λ s. AreAlike c s.0 f.0) → All (IsTaskWithin c f a) ts → All (IsTaskWithin c f b) ts
   queue-rechosen f a b ts fine all = All-weaker (IsTaskWithin c f a) (IsTaskWithin c f b) (task-rechosen f a b fine) ts all
@@ -263,9 +221,7 @@ module _ (c : Clusters) where
 
   looks-due : (r : Recovery) (u : Purpose) (n : ServerNo) → AreDueWithin c (last_looks r u n ++ op.Finish (told r) ∷ [])
   looks-due r purpose.Regroup n = tt
-  looks-due r purpose.Master n = tt
-  looks-due r (purpose.Intermediate s) n = tt
-  looks-due r (purpose.Takeover d) n = tt
+  looks-due r _ n = tt
 
   stage-of : (r : Recovery) (x : Stage) → r.stage ≡ x → IsRecoveryWithin c r → IsStageWithin c x
   stage-of r x is s = subst (λ (y : Stage). IsStageWithin c y) is s.stage
@@ -343,10 +299,8 @@ module _ (c : Clusters) where
   way-back-orderly w seen f x trim all = (tt, tt)
 
   undone-orderly : (w : World) (u : Purpose) (r : Recovery) → IsTrim c w → AllWithin c r.core.seen → AllOrderly c w (undone w u r.core.seen r.failed r.stage)
-  undone-orderly w purpose.Regroup r trim all = tt
-  undone-orderly w purpose.Master r trim all = tt
-  undone-orderly w (purpose.Intermediate k) r trim all = tt
   undone-orderly w (purpose.Takeover d) r trim all = way-back-orderly w r.core.seen r.failed r.stage trim all
+  undone-orderly w _ r trim all = tt
 
   last-orderly : (w : World) (r : Recovery) → IsTrim c w → AllWithin c r.core.seen → AllOrderly c w (last_exchanges w r)
   last-orderly w r trim all =

@@ -1,21 +1,9 @@
 -- Each state of each run is neat, and so tidy.
 use Rattle.std.proofs.Common.{ℕ, List, [], ◌∷◌, length, sym, subst}
 use Rattle.std.specs.Prelude.{All}
-use Rattle.std.proofs.lemmas.List.Elements.{All-head, All-nil, All-tail}
-use Rattle.kept_rows.specs.declared.row.Row.{Row}
-use Rattle.orch_core.specs.After.{step as turn_step}
-use Rattle.orch_core.specs.Runs.{engine, run_turns, turns_of}
-use Rattle.orch_core.specs.Scenarios.{start, start_world}
-use Rattle.orch_core.specs.States.{State}
-use Rattle.scenarios.specs.declared.scenario.Scenario.{Scenario}
-use Rattle.scenarios.specs.Turns.{IsTurn}
-use Rattle.turns.specs.declared.turn.Turn.{Turn}
-use Rattle.run_laws.specs.Runs.{ComesTo}
-use Rattle.run_laws.proofs.RunLaws.{Goes, Goes-start, Goes-step}
-use Rattle.scenario_dump.specs.Tidy.{IsTidy}
-use Rattle.tidy_laws.specs.Clusters.{Clusters, cluster_at}
-use Rattle.tidy_laws.specs.Recoveries.{IsUnendedWithin}
-use Rattle.tidy_laws.specs.Runs.{UntilsCanBePrinted}
+use Rattle.tidy_laws.proofs.Prelude.{All-head, All-nil, All-tail, Clusters, ComesTo, Goes, Goes-start, Goes-step, IsTidy, IsTurn, IsUnendedWithin}
+use Rattle.tidy_laws.proofs.Prelude.{Row, Scenario, State, Turn, UntilsCanBePrinted, cluster_at, engine, run_turns, start, start_world}
+use Rattle.tidy_laws.proofs.Prelude.{step as turn_step, turns_of}
 use Rattle.tidy_laws.proofs.Starting.{neat-start}
 use Rattle.tidy_laws.proofs.States.{IsNeatState, neat-step}
 use Rattle.tidy_laws.proofs.Tidying.{tidied}

@@ -1,31 +1,10 @@
 -- A run begins neat: the bridges of an opening are those that its servers show.
 use Rattle.std.proofs.Common.{◌≡◌, ℕ, List, [], length, sym, subst, Some, None}
 use Rattle.std.specs.Prelude.{All, IfSome}
-use Rattle.std.proofs.lemmas.List.Elements.{All-nil, All-replicate}
-use Rattle.orch_base.specs.declared.server.ServerNo.{ServerNo}
-use Rattle.instance_keeper.specs.declared.bridge.Bridge.{Bridge}
-use Rattle.kept_rows.specs.declared.row.Row.{Row}
-use Rattle.instance_keeper.specs.Bridges.{bridge_in}
-use Rattle.opening_book.specs.Counting.{greatest_id}
-use Rattle.kept_rows.specs.Seeing.{seen_in}
-use Rattle.server_model.specs.Gtids.{status}
-use Rattle.server_model.specs.Safe.{Placed}
-use Rattle.replication_laws.proofs.Keeping.{Placed-safe}
-use Rattle.opening_laws.proofs.Openings.{Safe-opened}
-use Rattle.scenarios.specs.declared.scenario.Scenario.{Scenario}
-use Rattle.scenarios.specs.Scenarios.{IsScenario, flushes_of, room_of, settings_of}
-use Rattle.scenarios.specs.Turns.{pollers}
-use Rattle.scenarios.proofs.Rooms.{flushes_of-few, room_of-few}
-use Rattle.orch_core.specs.Scenarios.{loaded_book, start, start_changes, start_moment, start_world}
-use Rattle.orch_core.proofs.Starts.{Fits-start}
-use Rattle.run_laws.specs.Flights.{flight_of}
-use Rattle.run_laws.proofs.Flown.{rings-loaded}
-use Rattle.run_laws.proofs.Openings.{Opens-start, opened-rings}
-use Rattle.tidy_laws.specs.Clusters.{Clusters, cluster_at}
-use Rattle.tidy_laws.specs.Flights.{IsNeat}
-use Rattle.tidy_laws.specs.Runs.{UntilsCanBePrinted}
-use Rattle.tidy_laws.specs.Trim.{IsTrim}
-use Rattle.tidy_laws.specs.Within.{IsReadWithin, IsWithinCluster}
+use Rattle.tidy_laws.proofs.Prelude.{All-nil, All-replicate, Bridge, Clusters, Fits-start, IsNeat, IsReadWithin, IsScenario, IsTrim, IsWithinCluster}
+use Rattle.tidy_laws.proofs.Prelude.{Opens-start, Placed, Placed-safe, Row, Safe-opened, Scenario, ServerNo, UntilsCanBePrinted, bridge_in}
+use Rattle.tidy_laws.proofs.Prelude.{cluster_at, flight_of, flushes_of, flushes_of-few, greatest_id, loaded_book, opened-rings, pollers, rings-loaded}
+use Rattle.tidy_laws.proofs.Prelude.{room_of, room_of-few, seen_in, settings_of, start, start_changes, start_moment, start_world, status}
 use Rattle.tidy_laws.proofs.Opened.{trim-opened}
 use Rattle.tidy_laws.proofs.Passing.{bridge-read}
 use Rattle.tidy_laws.proofs.Turns.{stood-within}

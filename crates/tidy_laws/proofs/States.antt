@@ -1,85 +1,34 @@
 -- Each turn leaves a neat state neat.
 use Rattle.std.proofs.Common.{◌≡◌, ◌∙◌, ℕ, ◌+◌, Bool, true, false, cond, not, List, [], ◌∷◌, ◌++◌, map, refl, sym, ap, subst, Option, Some, None, Result, Ok, Err}
 use Rattle.std.specs.Prelude.{All, is_some, ◌==◌, if◌then◌else◌}
-use Rattle.std.specs.Option.{option_map}
-use Rattle.std.proofs.lemmas.List.Elements.{All-append, All-cons, All-filter, All-head, All-map, All-nil, All-push, All-tail}
-use Rattle.std.proofs.lemmas.Option.{same_Some}
-use Rattle.orch_base.specs.Memory.{next_count}
-use Rattle.orch_base.specs.declared.server.ServerNo.{ServerNo}
-use Rattle.asking_commands.specs.Answers.{allowed, lines_of, permitted}
-use Rattle.audit_log.specs.Audits.{AuditState}
-use Rattle.book_commands.specs.Decisions.{decided_of}
-use Rattle.book_commands.specs.declared.decided.Decided.{Decided}
-use Rattle.command_jobs.specs.Jobs.{job_by, leases_by, refusal_by}
-use Rattle.command_routes.specs.declared.route.Planner.{Planner}
-use Rattle.command_routes.specs.declared.route.Route.{Route}
-use Rattle.command_routes.specs.declared.route.Route.TheVariants.{Discovers, Forgets, Asks, Decides, Begins, Recovers, TakesOver}
-use Rattle.command_routes.specs.Routes.{route_of}
-use Rattle.commands.specs.declared.line.Line.{Line}
-use Rattle.commands.specs.declared.refusal.Refusal.{Refusal}
-use Rattle.commands.specs.declared.refusal.Refusal.TheVariants.{UnknownInstance}
-use Rattle.commands.specs.declared.turn.Command.{Command}
-use Rattle.commands.specs.declared.turn.CommandTurn.{CommandTurn}
-use Rattle.instance_keeper.specs.Book.{instance_at}
-use Rattle.kept_rows.specs.declared.observation.Observation.{Observation}
-use Rattle.kept_rows.specs.declared.row.Row.{Row}
-use Rattle.server_words.specs.declared.status.Status.{Status}
-use Rattle.operations.specs.Jobs.{Job}
-use Rattle.operations.specs.Turns.{is_going, turned}
-use Rattle.operations.specs.declared.step.JobStep.{JobStep}
-use Rattle.operations.proofs.Allowing.{turn-allowed}
-use Rattle.job_laws.specs.Flights.{Flight}
-use Rattle.job_laws.specs.Held.{HeldJob}
-use Rattle.job_laws.specs.Leases.{job_at as core_at}
-use Rattle.job_laws.specs.Passages as pass
-use Rattle.job_laws.specs.Passages.{Passage, passed}
-use Rattle.job_laws.proofs.Lists.{All-find}
-use Rattle.jobs_in_flight.specs.Jobs.{job_at, jobs_turned, with_job, without_job}
-use Rattle.recovery_core.specs.Tries.{Begins as RecoveryBegins, recovery_try, takeover_try}
-use Rattle.recovery_plans.specs.Recoveries.{Recovery}
-use Rattle.recovery_plans.specs.Taking.{taken, Taken}
-use Rattle.scenarios.specs.Turns.{IsStep, IsTurn}
-use Rattle.turns.specs.declared.turn.Act.{Act}
-use Rattle.turns.specs.declared.turn.Act.TheVariants as act
-use Rattle.turns.specs.declared.turn.Step.{Step}
-use Rattle.turns.specs.declared.turn.Step.TheVariants as step
-use Rattle.turns.specs.declared.turn.Turn.{Turn}
-use Rattle.turns.specs.declared.turn.Turn.TheVariants as turn
-use Rattle.unended_jobs.proofs.Going.{flown-allowed}
-use Rattle.unended_jobs.proofs.Hooked.{hooked-has}
-use Rattle.unended_jobs.specs.Hooked.{hooked, promoted_in}
-use Rattle.unended_jobs.specs.declared.docket.Docket.{Docket}
-use Rattle.unended_jobs.specs.declared.unended.Unended.{Unended}
-use Rattle.unended_jobs.specs.declared.unended.Unended.TheVariants as unended
-use Rattle.unended_jobs.specs.Unended.{Flown, core_of, number_of}
-use Rattle.unended_laws.specs.Beside.{IsHeldBeside}
-use Rattle.unended_laws.proofs.Cores.{core-found}
-use Rattle.job_laws.specs.Leases.{leases_of}
-use Rattle.orch_core.specs.After.{after_act, step as turn_step, after_done}
-use Rattle.command_outcomes.specs.Commands.{Outcome, about, asked, by_hand, begun, decided, discovered, forgotten, next_reading, outcome_by, outcome_of, question, recovered, recovery_begun, refusal, removal_refusal, taken_over}
-use Rattle.orch_core.specs.Jobs.{turn_of}
-use Rattle.command_outcomes.specs.HookTelling.{told_try, with_told}
-use Rattle.knowledge.specs.Knowing.{recovery_job}
-use Rattle.orch_core.specs.Polls.{command_outcome, numbers_of, reading, scan_outcome}
-use Rattle.orch_core.specs.Settling.{settled}
-use Rattle.orch_core.specs.States.{State}
-use Rattle.orch_core.specs.Turns.{exchange_of}
-use Rattle.run_laws.specs.Entries.{attempt_in, recoveries_scanned, scan_in}
-use Rattle.run_laws.specs.Flights.{act_passages, by_discovery, by_instance, by_job, by_permission, by_poll, by_recoveries, by_recovery, by_removal, by_route, by_takeover, by_try, discovers, flight_of, moment_at, passages_of, done_passages}
-use Rattle.run_laws.specs.Ready.{Ready}
-use Rattle.run_laws.specs.States.{HeldState}
-use Rattle.run_laws.proofs.Flown.{flown as step-flown}
-use Rattle.run_laws.proofs.Passing.{step-may}
-use Rattle.tidy_laws.specs.Clusters.{Clusters}
-use Rattle.tidy_laws.specs.Flights.{AreNeatPassages, IsNeat, IsNeatTurn}
-use Rattle.tidy_laws.specs.Recoveries.{IsRecoveryWithin, IsUnendedWithin, KeepsWithin}
-use Rattle.tidy_laws.specs.Trim.{IsOrderly}
-use Rattle.tidy_laws.specs.Within.{IsTurnWithin}
+use Rattle.tidy_laws.proofs.Prelude.{Act, All-append, All-cons, All-filter, All-find, All-head, All-map, All-nil, All-push, All-tail, AreNeatPassages}
+use Rattle.tidy_laws.proofs.Prelude.{Asks, AuditState, Begins as RecoveryBegins, Clusters, Command, CommandTurn, Decided, Decides, Discovers, Docket}
+use Rattle.tidy_laws.proofs.Prelude.{Flight, Flown, Forgets, HeldJob, HeldState, IsHeldBeside, IsNeat, IsNeatTurn, IsOrderly, IsRecoveryWithin}
+use Rattle.tidy_laws.proofs.Prelude.{IsStep, IsTurn, IsTurnWithin, IsUnendedWithin, Job, JobStep, KeepsWithin, Line, Observation, Outcome, Passage}
+use Rattle.tidy_laws.proofs.Prelude.{Planner, Ready, Recovers, Recovery, Refusal, Route, Row, ServerNo, State, Status, Step, Taken, TakesOver, Turn}
+use Rattle.tidy_laws.proofs.Prelude.{Unended, UnknownInstance, act_in, act_passages, after_act, after_done, allowed, attempt_in, begun, by_discovery}
+use Rattle.tidy_laws.proofs.Prelude.{by_hand, by_instance, by_job, by_permission, by_poll, by_recoveries, by_recovery, by_removal, by_route}
+use Rattle.tidy_laws.proofs.Prelude.{by_takeover, by_try, command_outcome, core-found, core_of, decided, decided_of, discovered, discovers}
+use Rattle.tidy_laws.proofs.Prelude.{done_passages, exchange_of, flight_of, flown as step-flown, flown-allowed, forgotten, hooked, hooked-has}
+use Rattle.tidy_laws.proofs.Prelude.{instance_at, is_going, job_at as core_at, job_by, jobs_turned, leases_by, leases_of, lines_of, moment_at}
+use Rattle.tidy_laws.proofs.Prelude.{next_count, next_reading, numbers_of, option_map, outcome_by, outcome_of, passages_of, passed, permitted}
+use Rattle.tidy_laws.proofs.Prelude.{promoted_in, question, reading, recovered, recoveries_scanned, recovery_begun, recovery_job, recovery_try}
+use Rattle.tidy_laws.proofs.Prelude.{refusal, refusal_by, removal_refusal, route_of, same_Some, scan_in, scan_outcome, step as turn_step, step-may}
+use Rattle.tidy_laws.proofs.Prelude.{taken, taken_over, takeover_try, told_try, turn-allowed, turn_of, turned, with_job, with_told, without_job}
+use Rattle.tidy_laws.proofs.Prelude.Outcomes.{about, asked}
+use Rattle.tidy_laws.proofs.Prelude.Jobs.{job_at}
+use Rattle.tidy_laws.proofs.Prelude.Settling.{settled}
+use Rattle.tidy_laws.proofs.Prelude.TheVariants.{Begins}
+use Rattle.tidy_laws.proofs.Prelude.UnendedJobs.{number_of}
+use Rattle.tidy_laws.proofs.Prelude.act
+use Rattle.tidy_laws.proofs.Prelude.pass
+use Rattle.tidy_laws.proofs.Prelude.turn
+use Rattle.tidy_laws.proofs.Prelude.turns_step as step
+use Rattle.tidy_laws.proofs.Prelude.unended
 use Rattle.tidy_laws.proofs.Begun.{job-within, recovery-within, scan-within, takeover-within}
 use Rattle.tidy_laws.proofs.Passing.{neat-passing}
 use Rattle.tidy_laws.proofs.Recovering.{taken-within}
 use Rattle.tidy_laws.proofs.Turns.{turn-within}
-use Rattle.orch_core.specs.Nodes.{act_in}
 
 -- the flight is neat, and each unended job stays within a cluster
 pub record IsNeatState (c : Clusters) (s : State) : Type 0 where
@@ -90,14 +39,7 @@ pub record IsNeatState (c : Clusters) (s : State) : Type 0 where
 
 step-orderly : (c : Clusters) (count : ℕ) (s : State) (x : Step) → IsStep count x → IsOrderly c s.world (exchange_of x)
 step-orderly c count s (step.Write n size) is = (is.1, is.2)
-step-orderly c count s (step.Fetch n) is = tt
-step-orderly c count s (step.Apply n) is = tt
-step-orderly c count s (step.Fail n) is = tt
-step-orderly c count s (step.Heal n) is = tt
-step-orderly c count s (step.Cut n link) is = tt
-step-orderly c count s (step.Join n link) is = tt
-step-orderly c count s (step.Rotate n) is = tt
-step-orderly c count s (step.Purge n file) is = tt
+step-orderly c count s _ is = tt
 
 module _ (c : Clusters) (s : State) (held : HeldState s) (neat : IsNeatState c s) where
   -- ---- a job's turn
@@ -332,12 +274,10 @@ module _ (c : Clusters) (s : State) (held : HeldState s) (neat : IsNeatState c s
   done-jobs rows (Some a) = act-jobs rows a
 
   turn-jobs : (count : ℕ) (rows : List Row) (t : Turn) → IsTurn count t → All P (turn_step rows s t).jobs
-  turn-jobs count rows (turn.Step x) is = neat.jobs
-  turn-jobs count rows (turn.Tick seconds) is = neat.jobs
   turn-jobs count rows (turn.Act a) is = act-jobs rows a
   turn-jobs count rows (turn.As node a) is = done-jobs rows (act_in s (turn.As node a))
   turn-jobs count rows (turn.Claim node) is = done-jobs rows (act_in s (turn.Claim node))
-  turn-jobs count rows (turn.Release node) is = neat.jobs
+  turn-jobs count rows _ is = neat.jobs
 
 pub neat-step : (c : Clusters) (count : ℕ) (rows : List Row) (s : State) (t : Turn) → Ready count s → HeldState s → IsTurn count t → IsNeatState c s → IsNeatState c (turn_step rows s t)
 neat-step c count rows s t ready held is neat = record {

@@ -1,21 +1,8 @@
 -- A placed world that is trim is tidy.
 use Rattle.std.proofs.Common.{◌≡◌, ℕ, ◌+◌, ◌*◌, ◌≤◌, length, refl, sym, ◌∙◌, ap, subst, Option, Some, None, arith, true}
-use Rattle.std.proofs.lemmas.List.Elements.{All-weaker}
-use Rattle.std.proofs.lemmas.Option.{same_Some}
-use Rattle.binlog_coords.specs.declared.Coord.{Coord}
-use Rattle.binlog_coords.specs.Log.{file_start, has_place}
-use Rattle.binlog_coords.proofs.Places.{place-parts}
-use Rattle.orch_base.specs.declared.server.SourceState.{SourceState}
-use Rattle.orch_base.specs.declared.server.SourceState.TheVariants.{Without, Attached, Detached}
-use Rattle.orch_base.specs.declared.server.Txn.{Txn}
-use Rattle.server_model.specs.declared.server.Server.{Server}
-use Rattle.server_model.specs.Attach.{IsTarget}
-use Rattle.server_model.specs.Safe.{Placed}
-use Rattle.server_model.specs.Worlds.{World, server_at, source_no}
-use Rattle.scenario_dump.specs.Tidy.{IsTidy}
-use Rattle.scenario_dump.specs.Tidy.{IsOf, IsTidyServer, IsWritten}
-use Rattle.tidy_laws.specs.Clusters.{Clusters, cluster_in}
-use Rattle.tidy_laws.specs.Trim.{HasOwnOf, IsTrim}
+use Rattle.tidy_laws.proofs.Prelude.{All-weaker, Attached, Clusters, Coord, Detached, HasOwnOf, IsOf, IsTarget, IsTidy, IsTidyServer, IsTrim}
+use Rattle.tidy_laws.proofs.Prelude.{IsWritten, Placed, Server, SourceState, Txn, Without, World, cluster_in, file_start, has_place, place-parts}
+use Rattle.tidy_laws.proofs.Prelude.{same_Some, server_at, source_no}
 use Rattle.tidy_laws.proofs.Positions.{Lies, lies-laid, written-placed}
 
 -- the first position of a log

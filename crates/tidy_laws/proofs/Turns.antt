@@ -1,63 +1,29 @@
 -- An operation that is due makes exchanges in order, and what it leaves goes by servers of one cluster.
 use Rattle.std.proofs.Common.{◌≡◌, ℕ, ◌+◌, Bool, true, false, cond, not, List, [], ◌∷◌, refl, sym, ◌∙◌, ap, subst, Option, Some, None, Ok, Err, Result, ◌&&◌}
 use Rattle.std.specs.Prelude.{◌==◌, IfSome, nat_lt}
-use Rattle.std.specs.Option.{option_and_then, option_map}
-use Rattle.std.proofs.lemmas.Bool.{and_parts, eqb-true}
-use Rattle.std.proofs.lemmas.Option.{same_Some}
-use Rattle.binlog_coords.specs.declared.Coord.{Coord}
-use Rattle.binlog_coords.specs.Log.{is_at_or_before, same_coord}
-use Rattle.orch_base.specs.declared.server.Moment.{Moment}
-use Rattle.orch_base.specs.declared.server.ServerNo.{ServerNo}
-use Rattle.orch_base.specs.declared.server.SourceState.{SourceState}
-use Rattle.orch_base.specs.declared.server.SourceState.TheVariants.{Without, Attached, Detached}
-use Rattle.orch_base.specs.declared.server.Txn.{Txn}
-use Rattle.kept_rows.specs.declared.observation.Observation.{Observation}
-use Rattle.kept_rows.specs.Seeing.{seen_in}
-use Rattle.server_words.specs.declared.status.Status.{Status}
-use Rattle.server_words.specs.declared.status.StatusFault.TheVariants as seeing
-use Rattle.server_words.specs.declared.answers.Unreachable.{Unreachable}
-use Rattle.server_words.specs.declared.attach.AttachFault.{AttachFault}
-use Rattle.server_words.specs.declared.attach.Spot.TheVariants as spot
-use Rattle.server_words.specs.declared.attach.Spot.{Spot}
-use Rattle.server_words.specs.declared.changes.Ask.{Ask}
-use Rattle.server_words.specs.declared.changes.Ask.TheVariants as asking
-use Rattle.server_model.specs.declared.server.Server.{Server}
-use Rattle.server_model.specs.Attach.{live_spot, same_spot, spot_below}
-use Rattle.server_model.specs.Desk.{can_reach, desk_answer}
-use Rattle.server_model.specs.Gtids.{shown_of, status, status_in}
-use Rattle.server_model.specs.Run.{Exchange, Attach, AttachAuto, Request, after}
-use Rattle.server_model.specs.Safe.{Placed}
-use Rattle.server_model.specs.Worlds.{World, server_at, source_no}
-use Rattle.commands.specs.declared.cause.Cause.{Cause}
-use Rattle.commands.specs.declared.cause.Cause.TheVariants as cause
-use Rattle.instance_keeper.specs.declared.bridge.Bridge.{Bridge}
-use Rattle.operations.specs.declared.op.Aim.{Aim}
-use Rattle.operations.specs.declared.op.Aim.TheVariants as aim
-use Rattle.operations.specs.declared.op.Crossing.{Crossing}
-use Rattle.operations.specs.declared.op.Crossing.TheVariants as cross
-use Rattle.operations.specs.declared.matching.Match.{Match}
-use Rattle.operations.specs.declared.matching.MatchFault.{MatchFault}
-use Rattle.operations.specs.declared.matching.MatchFault.TheVariants as fault
-use Rattle.operations.specs.declared.op.Op.{Op}
-use Rattle.operations.specs.declared.sight.Position.{Position}
-use Rattle.operations.specs.declared.sight.Sight.{Sight}
-use Rattle.operations.specs.Deeds as deed
-use Rattle.operations.specs.Deeds.{Deed, deed_of}
-use Rattle.operations.specs.Jobs.{Job, position_of, seen_of, with_seen, match_found}
-use Rattle.operations.specs.Matching.{match_between, match_logs, standing_at}
-use Rattle.operations.specs.Targets.{can_attach}
-use Rattle.operations.specs.Turns.{Attempt, Goes, Stops, after_answer, after_ask, after_attach, after_look, after_status, after_until, after_wait, after_wait_by, aim_of, attach_answer_of, attached_anew, bridge_at, by_deed, by_ops, by_set, after_match, by_match, crossed, failed, holds_seen, is_moved, is_reached, next, observed, read_by, restarts, same_again, saw, settled, settles, turned, until_by}
-use Rattle.job_laws.specs.Footing.{finds, finds_crossing, footing, is_under, logs_at, source_shown}
-use Rattle.job_laws.specs.Held.{AllShow, HeldJob}
-use Rattle.job_laws.proofs.Marking.{match-parts}
-use Rattle.job_laws.proofs.Spanning.{bridge-parts}
-use Rattle.job_laws.proofs.Turns.{due-of, not-moved, with-one}
-use Rattle.tidy_laws.specs.Clusters.{AreAlike, Clusters, label}
-use Rattle.tidy_laws.specs.Trim.{AllOrderly, IsOrderly, IsOrderlyAsk, IsTrim}
-use Rattle.tidy_laws.specs.Within.{AllWithin, AreDueWithin, GoesWithin, IsDueWithin, IsJobWithin, IsReadWithin, IsTriedWithin, IsTurnWithin, IsWithinCluster, StoodWithin}
+use Rattle.tidy_laws.proofs.Prelude.{Aim, AllOrderly, AllShow, AllWithin, AreAlike, AreDueWithin, Ask, Attach, AttachAuto, Attached, AttachFault}
+use Rattle.tidy_laws.proofs.Prelude.{Attempt, Bridge, Cause, Clusters, Coord, Crossing, Deed, Detached, Exchange, GoesWithin, HeldJob, IsDueWithin}
+use Rattle.tidy_laws.proofs.Prelude.{IsJobWithin, IsOrderly, IsOrderlyAsk, IsReadWithin, IsTriedWithin, IsTrim, IsTurnWithin, IsWithinCluster}
+use Rattle.tidy_laws.proofs.Prelude.{IsWritten, Job, Match, MatchFault, Moment, Observation, Op, Placed, Position, Request, Server, ServerNo, Sight}
+use Rattle.tidy_laws.proofs.Prelude.{SourceState, Spot, Status, StoodWithin, Stops, Txn, Unreachable, Without, World, after, after_answer, after_ask}
+use Rattle.tidy_laws.proofs.Prelude.{after_attach, after_look, after_match, after_status, after_until, after_wait, after_wait_by, aim_of, and_parts}
+use Rattle.tidy_laws.proofs.Prelude.{attach_answer_of, attached_anew, bridge-parts, bridge_at, by_deed, by_match, by_ops, by_set, can_attach}
+use Rattle.tidy_laws.proofs.Prelude.{can_reach, crossed, deed_of, desk_answer, due-of, eqb-true, failed, finds, finds_crossing, footing, holds_seen}
+use Rattle.tidy_laws.proofs.Prelude.{is_at_or_before, is_moved, is_reached, is_under, label, live_spot, logs_at, match-parts, match_between}
+use Rattle.tidy_laws.proofs.Prelude.{match_found, match_logs, next, not-moved, observed, option_and_then, option_map, position_of, read_by, restarts}
+use Rattle.tidy_laws.proofs.Prelude.{same_again, same_coord, same_Some, same_spot, saw, seen_in, seen_of, server_at, settled, settles, shown_of}
+use Rattle.tidy_laws.proofs.Prelude.{source_no, source_shown, spot_below, standing_at, status, status_in, turned, until_by, with-one, with_seen}
+use Rattle.tidy_laws.proofs.Prelude.attempt.{Goes}
+use Rattle.tidy_laws.proofs.Prelude.aim
+use Rattle.tidy_laws.proofs.Prelude.asking
+use Rattle.tidy_laws.proofs.Prelude.cause
+use Rattle.tidy_laws.proofs.Prelude.cross
+use Rattle.tidy_laws.proofs.Prelude.deed
+use Rattle.tidy_laws.proofs.Prelude.fault
+use Rattle.tidy_laws.proofs.Prelude.seeing
+use Rattle.tidy_laws.proofs.Prelude.spot
 use Rattle.tidy_laws.proofs.Positions.{All-slot}
 use Rattle.tidy_laws.proofs.Tidying.{written-coords, written-target}
-use Rattle.scenario_dump.specs.Tidy.{IsWritten}
 
 -- ---- what a status shows
 
@@ -329,7 +295,7 @@ failed-within c w j why o all read = record { orderly = orderly-restarts c w j.h
 settled-within : (c : Clusters) (w : World) (j : Job) (a : Attempt) → AllWithin c j.seen → IsTriedWithin c w a → IsTurnWithin c w (settled j a)
 settled-within c w j (Goes o es k) all fine = fine
 settled-within c w j (Stops why o) all fine = failed-within c w j why o all fine
-settled-within c w j (Rattle.operations.specs.Turns.Ends lines) all fine = record { orderly = tt; job = record { seen = all; left = tt }; read = tt }
+settled-within c w j (Rattle.run_laws.specs.Operations.Turns.Ends lines) all fine = record { orderly = tt; job = record { seen = all; left = tt }; read = tt }
 
 pub turn-within : (c : Clusters) (w : World) (read : ℕ) (now : Moment) (j : Job) → Placed w → IsTrim c w → HeldJob w j → IsJobWithin c j → IsTurnWithin c w (turned w read now j)
 turn-within c w read now j placed trim held within = go j.ops refl within.left

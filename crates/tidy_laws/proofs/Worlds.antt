@@ -1,48 +1,16 @@
 -- A quiet state's servers are those of its scenario.
 use Rattle.std.proofs.Common.{◌≡◌, ◌∙◌, ℕ, ◌+◌, Bool, List, [], ◌∷◌, length, map, refl, sym, ap, subst, Option, Some, None, arith, suc}
 use Rattle.std.specs.Prelude.{All, slice_get}
-use Rattle.std.specs.Option.{option_map}
-use Rattle.std.proofs.lemmas.List.Elements.{All-head, All-tail}
-use Rattle.std.proofs.lemmas.Option.{same_Some}
-use Rattle.orch_base.specs.Memory.{next_count}
-use Rattle.orch_base.specs.declared.server.Settings.{Settings}
-use Rattle.kept_rows.specs.declared.row.Row.{Row}
-use Rattle.openings.specs.declared.init.ServerInit.{ServerInit}
-use Rattle.server_model.specs.declared.server.Server.{Server}
-use Rattle.server_model.specs.Run.{AllAllowed, run}
-use Rattle.server_model.specs.Safe.{IsQuiet}
-use Rattle.server_model.specs.Worlds.{World}
-use Rattle.replication_laws.specs.Growth.{Grows}
-use Rattle.replication_laws.proofs.Runs.{Grows-run}
-use Rattle.world_openings.specs.Opening.{opened_from}
-use Rattle.operations.proofs.Allowing.{turn-allowed}
-use Rattle.job_laws.proofs.Modes.{gtid-run}
-use Rattle.jobs_in_flight.specs.Jobs.{job_at, job_exchanges}
-use Rattle.unended_jobs.proofs.Going.{flown-allowed}
-use Rattle.unended_jobs.specs.declared.unended.Unended.{Unended}
-use Rattle.unended_jobs.specs.declared.unended.Unended.TheVariants as unended
-use Rattle.scenarios.specs.declared.scenario.Scenario.{Scenario}
-use Rattle.scenarios.specs.Scenarios.{flushes_of, room_of, settings_of}
-use Rattle.scenarios.specs.Turns.{IsTurn}
-use Rattle.turns.specs.declared.turn.Act.{Act}
-use Rattle.turns.specs.declared.turn.Act.TheVariants as act
-use Rattle.turns.specs.declared.turn.Turn.{Turn}
-use Rattle.turns.specs.declared.turn.Turn.TheVariants as turn
-use Rattle.orch_core.specs.After.{step as turn_step}
-use Rattle.orch_core.specs.Jobs.{turn_of}
-use Rattle.orch_core.specs.Runs.{engine, run_turns, turns_of}
-use Rattle.orch_core.specs.Scenarios.{start}
-use Rattle.orch_core.specs.States.{State}
-use Rattle.orch_core.specs.Turns.{act_exchanges, exchanges_at, done_exchanges}
-use Rattle.orch_core.proofs.States.{Allowed-step}
-use Rattle.run_laws.specs.Flights.{moment_at}
-use Rattle.run_laws.specs.Runs.{ComesTo}
-use Rattle.run_laws.proofs.RunLaws.{Goes, Goes-comes, Goes-start, Goes-step}
-use Rattle.run_laws.proofs.Worlds.{world-turn}
-use Rattle.scenario_dump.specs.Reading.{IsWorldOf}
-use Rattle.tidy_laws.specs.Runs.{UntilsCanBePrinted}
+use Rattle.tidy_laws.proofs.Prelude.{Act, All-head, All-tail, AllAllowed, Allowed-step, ComesTo, Goes, Goes-comes, Goes-start, Goes-step, Grows}
+use Rattle.tidy_laws.proofs.Prelude.{Grows-run, IsQuiet, IsTurn, IsWorldOf, Row, Scenario, Server, ServerInit, Settings, State, Turn, Unended}
+use Rattle.tidy_laws.proofs.Prelude.{UntilsCanBePrinted, World, act_exchanges, act_in, done_exchanges, engine, exchanges_at, flown-allowed}
+use Rattle.tidy_laws.proofs.Prelude.{flushes_of, gtid-run, job_exchanges, moment_at, next_count, opened_from, option_map, room_of, run, run_turns}
+use Rattle.tidy_laws.proofs.Prelude.{same_Some, settings_of, start, step as turn_step, turn-allowed, turn_of, turns_of, world-turn}
+use Rattle.tidy_laws.proofs.Prelude.Jobs.{job_at}
+use Rattle.tidy_laws.proofs.Prelude.act
+use Rattle.tidy_laws.proofs.Prelude.turn
+use Rattle.tidy_laws.proofs.Prelude.unended
 use Rattle.tidy_laws.proofs.Runs.{tidy-comes}
-use Rattle.orch_core.specs.Nodes.{act_in}
 
 abbrev settings_in : List Server → List Settings
 settings_in servers = map (λ x. x.settings) servers
@@ -66,12 +34,8 @@ job-allowed s (Some (unended.Plan j)) = turn-allowed s.world (next_count s.reads
 job-allowed s (Some (unended.Recovery r d)) = flown-allowed s.world s.book (next_count s.reads) (moment_at s) (unended.Recovery r d)
 
 act-allowed : (s : State) (a : Act) → AllAllowed s.world (act_exchanges s a)
-act-allowed s (act.PollRead p n) = tt
-act-allowed s (act.PollStore p) = tt
-act-allowed s (act.Command x) = tt
 act-allowed s (act.Job job) = job-allowed s (job_at s.jobs job)
-act-allowed s act.Scan = tt
-act-allowed s act.Restart = tt
+act-allowed s _ = tt
 
 done-allowed : (s : State) (o : Option Act) → AllAllowed s.world (done_exchanges s o)
 done-allowed s None = tt

@@ -1,7 +1,7 @@
 -- Of which cluster each server is: that never changes.
 use Rattle.std.specs.Prelude.{◌≡◌, ℕ, List, [], Option, Some, None}
-use Rattle.server_model.specs.declared.server.Server.{Server}
-use Rattle.server_model.specs.Worlds.{World, server_at}
+use Rattle.run_laws.specs.ServerModel.declared.server.Server.{Server}
+use Rattle.run_laws.specs.ServerModel.Worlds.{World, server_at}
 
 -- the clusters by the servers' numbers
 abbrev pub Clusters : Type 0

@@ -1,12 +1,12 @@
 -- When what is dumped of a state of a run reads back.
 use Rattle.std.specs.Prelude.{◌≡◌, ℕ, Ok}
-use Rattle.scenarios.specs.declared.scenario.Scenario.{Scenario}
-use Rattle.scenarios.specs.Scenarios.{IsScenario}
+use Rattle.run_laws.specs.Scenarios.declared.scenario.Scenario.{Scenario}
+use Rattle.run_laws.specs.Scenarios.Scenarios.{IsScenario}
 use Rattle.scenario_dump.specs.Reading.{dumped_scenario, refitted}
 use Rattle.scenario_dump.specs.Texts.{dump_text}
-use Rattle.scenario_reader.specs.Scenarios.{scenario_in}
-use Rattle.server_model.specs.Worlds.{World}
-use Rattle.world_openings.specs.Opening.{opened_world}
+use Rattle.scenario_reader.specs.ReadScenarios.{scenario_in}
+use Rattle.run_laws.specs.ServerModel.Worlds.{World}
+use Rattle.run_laws.specs.WorldOpenings.Opening.{opened_world}
 
 -- the text reads without a fault, as the scenario that it tells; this can be run, and its servers open to the very
 -- world

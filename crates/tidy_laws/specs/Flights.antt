@@ -1,14 +1,14 @@
 -- That servers with jobs in flight, and what is kept of them, stay within clusters.
 use Rattle.std.specs.Prelude.{◌≡◌, List, [], ◌∷◌, All, IfSome, Some}
-use Rattle.server_model.specs.Run.{AllAllowed, Allowed}
-use Rattle.server_model.specs.Safe.{Placed}
-use Rattle.server_model.specs.Worlds.{World}
-use Rattle.operations.specs.Jobs.{Job}
-use Rattle.operations.specs.Turns.{Turned, turned}
-use Rattle.job_laws.specs.Flights.{Flight}
-use Rattle.job_laws.specs.Leases.{job_at}
-use Rattle.job_laws.specs.Passages as pass
-use Rattle.job_laws.specs.Passages.{Passage, passed}
+use Rattle.run_laws.specs.ServerModel.Run.{AllAllowed, Allowed}
+use Rattle.run_laws.specs.ServerModel.Safe.{Placed}
+use Rattle.run_laws.specs.ServerModel.Worlds.{World}
+use Rattle.run_laws.specs.Operations.Jobs.{Job}
+use Rattle.run_laws.specs.Operations.Turns.{Turned, turned}
+use Rattle.run_laws.specs.JobLaws.Flights.{Flight}
+use Rattle.run_laws.specs.JobLaws.Leases.{job_at}
+use Rattle.run_laws.specs.JobLaws.Passages as pass
+use Rattle.run_laws.specs.JobLaws.Passages.{Passage, passed}
 use Rattle.tidy_laws.specs.Clusters.{Clusters}
 use Rattle.tidy_laws.specs.Trim.{AllOrderly, IsOrderly, IsTrim}
 use Rattle.tidy_laws.specs.Within.{IsReadWithin, IsWithinCluster}

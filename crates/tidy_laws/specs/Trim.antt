@@ -1,20 +1,20 @@
 -- What every exchange keeps of a server, as long as it goes by clusters and coordinates that are in order.
 use Rattle.std.specs.Prelude.{◌≡◌, ℕ, ◌+◌, ◌≤◌, ◌<◌, Bool, true, false, List, [], ◌∷◌, if◌then◌else◌, length, All, IfSome, Option, Some, None}
-use Rattle.binlog_coords.specs.declared.Coord.{Coord}
-use Rattle.binlog_coords.specs.Index.{Index}
-use Rattle.binlog_coords.specs.Log.{file_start, opened}
-use Rattle.orch_base.specs.declared.server.Settings.{Settings}
-use Rattle.orch_base.specs.declared.server.SourceState.{SourceState}
-use Rattle.orch_base.specs.declared.server.SourceState.TheVariants.{Without}
-use Rattle.server_words.specs.declared.attach.Spot.{Spot}
-use Rattle.server_words.specs.declared.changes.Ask.{Ask}
-use Rattle.server_words.specs.declared.changes.Ask.TheVariants as asking
-use Rattle.server_model.specs.declared.server.Server.{Server}
-use Rattle.server_model.specs.Attach.{live_spot, same_spot}
-use Rattle.server_model.specs.Fit.{HasSize}
-use Rattle.server_model.specs.Kept.{Kept}
-use Rattle.server_model.specs.Run.{Exchange, Write, Fetch, Apply, Request, Befall, Rotate, Purge, Attach, AttachAuto, after}
-use Rattle.server_model.specs.Worlds.{World, server_at, source_no}
+use Rattle.run_laws.specs.BinlogCoords.declared.Coord.{Coord}
+use Rattle.run_laws.specs.BinlogCoords.Index.{Index}
+use Rattle.run_laws.specs.BinlogCoords.Log.{file_start, opened}
+use Rattle.run_laws.specs.OrchBase.declared.server.Settings.{Settings}
+use Rattle.run_laws.specs.OrchBase.declared.server.SourceState.{SourceState}
+use Rattle.run_laws.specs.OrchBase.declared.server.SourceState.TheVariants.{Without}
+use Rattle.run_laws.specs.ServerWords.declared.attach.Spot.{Spot}
+use Rattle.run_laws.specs.ServerWords.declared.changes.Ask.{Ask}
+use Rattle.run_laws.specs.ServerWords.declared.changes.Ask.TheVariants as asking
+use Rattle.run_laws.specs.ServerModel.declared.server.Server.{Server}
+use Rattle.run_laws.specs.ServerModel.Attach.{live_spot, same_spot}
+use Rattle.run_laws.specs.ServerModel.Fit.{HasSize}
+use Rattle.run_laws.specs.ServerModel.Kept.{Kept}
+use Rattle.run_laws.specs.ServerModel.Run.{Exchange, Write, Fetch, Apply, Request, Befall, Rotate, Purge, Attach, AttachAuto, after}
+use Rattle.run_laws.specs.ServerModel.Worlds.{World, server_at, source_no}
 use Rattle.scenario_dump.specs.Tidy.{IsWritten}
 use Rattle.tidy_laws.specs.Clusters.{AreAlike, Clusters, cluster_at}
 

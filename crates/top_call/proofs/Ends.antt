@@ -1,36 +1,14 @@
 -- How calls end.
 use Rattle.std.proofs.Common.{◌≡◌, ◌∙◌, ℕ, ◌≤◌, true, false, List, [], Option, Some, None, Ok, Err, refl, sym, ap, subst, arith, ◌⊎◌, inl, inr}
 use Rattle.std.specs.Prelude.{IfSome, codes, Result}
-use Rattle.std.specs.Io.KnownBytes.{Consumes}
-use Rattle.std.proofs.lemmas.Option.{same_Some}
-use Rattle.orch_base.specs.Causes.{Rose}
-use Rattle.orch_base.specs.Memory.{next_count}
-use Rattle.orch_base.specs.Gives.{Gives}
-use Rattle.kept_rows.specs.declared.row.Row.{Row}
-use Rattle.scenarios.specs.declared.scenario.Scenario.{Scenario}
-use Rattle.scenarios.specs.Scenarios.{names_of}
-use Rattle.scenario_values.specs.declared.fault.Fault.{Fault}
-use Rattle.scenario_reader.specs.Scenarios.{scenario_in}
-use Rattle.command_line.specs.declared.parts.Places.{Places}
-use Rattle.command_line.specs.declared.usage.Usage.{Usage}
-use Rattle.command_line.specs.declared.usage.Usage.TheVariants as usage
-use Rattle.command_line.specs.declared.parts.Drawing.{Drawing}
-use Rattle.command_line.specs.Places.{drawing_of, places_of}
-use Rattle.command_line.specs.Taken.{IsDrawn}
-use Rattle.command_line.specs.Usages.{usage_fault}
-use Rattle.command_line.proofs.Named.{taken_have}
-use Rattle.tasks.specs.declared.ending.Ending.{Ending}
-use Rattle.tasks.specs.declared.ending.Ending.TheVariants as ends
-use Rattle.tasks.specs.Asked.{AskOfRead, IsTaken, task_of}
-use Rattle.tasks.specs.Endings.{HasKeepersCause, Tells}
-use Rattle.tasks.specs.Sinks.{End, Taken, TakesLine, between, taken}
-use Rattle.tasks.specs.Works.{Work}
-use Rattle.tasks.proofs.Sends.{nothing_is_front, takes_nothing}
-use Rattle.top_call.specs.declared.way.Way.{Way}
-use Rattle.top_call.specs.declared.way.Way.TheVariants as way
-use Rattle.top_call.specs.Ends.{AskARead, Asks, AskToDraw, Call, Closes, DrawEnds, Ends, FaultsAs, FaultsFor, Idles, IsComplete, IsGood, IsReported, IsUsage, NoneRose, ReadsWhole, StopsAtFirst, call, drawn_text, status_of}
-use Rattle.top_call.specs.Faults.{fault_text}
-use Rattle.top_call.specs.Reads.{OfRead}
+use Rattle.top_call.proofs.Prelude.{AskARead, AskOfRead, Asks, AskToDraw, Call, Closes, Consumes, DrawEnds, Drawing, End, Ending, Ends, Fault}
+use Rattle.top_call.proofs.Prelude.{FaultsAs, FaultsFor, Gives, HasKeepersCause, Idles, IsComplete, IsDrawn, IsGood, IsReported, IsTaken, IsUsage}
+use Rattle.top_call.proofs.Prelude.{NoneRose, OfRead, Places, ReadsWhole, Rose, Row, Scenario, StopsAtFirst, Taken, TakesLine, Tells, Usage, Way}
+use Rattle.top_call.proofs.Prelude.{Work, between, call, drawing_of, drawn_text, fault_text, names_of, next_count, nothing_is_front, places_of}
+use Rattle.top_call.proofs.Prelude.{same_Some, scenario_in, status_of, taken, taken_have, takes_nothing, task_of, usage_fault}
+use Rattle.top_call.proofs.Prelude.ends
+use Rattle.top_call.proofs.Prelude.usage
+use Rattle.top_call.proofs.Prelude.way
 
 -- ---- of the bytes that were read
 
@@ -90,69 +68,33 @@ faulty words bytes p fault kept out err w taken_as asks_read read_as (inr closed
 module _ where
   pub of_one : (w : Way) → status_of w ≡ 1 → w ≡ way.Usage
   of_one (way.Reported true) e = absurd (omega (arith, e))
-  of_one (way.Reported false) e = absurd (omega (arith, e))
-  of_one way.Drawn e = absurd (omega (arith, e))
   of_one way.Usage e = refl
-  of_one way.Fault e = absurd (omega (arith, e))
-  of_one way.Source e = absurd (omega (arith, e))
-  of_one way.Sink e = absurd (omega (arith, e))
-  of_one way.Keeper e = absurd (omega (arith, e))
-  of_one way.Memory e = absurd (omega (arith, e))
+  of_one _ e = absurd (omega (arith, e))
 
   pub of_two : (w : Way) → status_of w ≡ 2 → w ≡ way.Fault
   of_two (way.Reported true) e = absurd (omega (arith, e))
-  of_two (way.Reported false) e = absurd (omega (arith, e))
-  of_two way.Drawn e = absurd (omega (arith, e))
-  of_two way.Usage e = absurd (omega (arith, e))
   of_two way.Fault e = refl
-  of_two way.Source e = absurd (omega (arith, e))
-  of_two way.Sink e = absurd (omega (arith, e))
-  of_two way.Keeper e = absurd (omega (arith, e))
-  of_two way.Memory e = absurd (omega (arith, e))
+  of_two _ e = absurd (omega (arith, e))
 
   pub of_three : (w : Way) → status_of w ≡ 3 → w ≡ way.Source
   of_three (way.Reported true) e = absurd (omega (arith, e))
-  of_three (way.Reported false) e = absurd (omega (arith, e))
-  of_three way.Drawn e = absurd (omega (arith, e))
-  of_three way.Usage e = absurd (omega (arith, e))
-  of_three way.Fault e = absurd (omega (arith, e))
   of_three way.Source e = refl
-  of_three way.Sink e = absurd (omega (arith, e))
-  of_three way.Keeper e = absurd (omega (arith, e))
-  of_three way.Memory e = absurd (omega (arith, e))
+  of_three _ e = absurd (omega (arith, e))
 
   pub of_four : (w : Way) → status_of w ≡ 4 → w ≡ way.Sink
   of_four (way.Reported true) e = absurd (omega (arith, e))
-  of_four (way.Reported false) e = absurd (omega (arith, e))
-  of_four way.Drawn e = absurd (omega (arith, e))
-  of_four way.Usage e = absurd (omega (arith, e))
-  of_four way.Fault e = absurd (omega (arith, e))
-  of_four way.Source e = absurd (omega (arith, e))
   of_four way.Sink e = refl
-  of_four way.Keeper e = absurd (omega (arith, e))
-  of_four way.Memory e = absurd (omega (arith, e))
+  of_four _ e = absurd (omega (arith, e))
 
   pub of_five : (w : Way) → status_of w ≡ 5 → w ≡ way.Keeper
   of_five (way.Reported true) e = absurd (omega (arith, e))
-  of_five (way.Reported false) e = absurd (omega (arith, e))
-  of_five way.Drawn e = absurd (omega (arith, e))
-  of_five way.Usage e = absurd (omega (arith, e))
-  of_five way.Fault e = absurd (omega (arith, e))
-  of_five way.Source e = absurd (omega (arith, e))
-  of_five way.Sink e = absurd (omega (arith, e))
   of_five way.Keeper e = refl
-  of_five way.Memory e = absurd (omega (arith, e))
+  of_five _ e = absurd (omega (arith, e))
 
   pub of_six : (w : Way) → status_of w ≡ 6 → w ≡ way.Memory
   of_six (way.Reported true) e = absurd (omega (arith, e))
-  of_six (way.Reported false) e = absurd (omega (arith, e))
-  of_six way.Drawn e = absurd (omega (arith, e))
-  of_six way.Usage e = absurd (omega (arith, e))
-  of_six way.Fault e = absurd (omega (arith, e))
-  of_six way.Source e = absurd (omega (arith, e))
-  of_six way.Sink e = absurd (omega (arith, e))
-  of_six way.Keeper e = absurd (omega (arith, e))
   of_six way.Memory e = refl
+  of_six _ e = absurd (omega (arith, e))
 
   pub of_done : (w : Way) → (status_of w ≡ 0) ⊎ (status_of w ≡ 7) → IsReported w ⊎ (w ≡ way.Drawn)
   of_done (way.Reported refused) e = inl tt

@@ -1,23 +1,11 @@
 -- A source with more bytes than a scenario may have.
 use Rattle.std.proofs.Common.{◌≡◌, ◌∙◌, ℕ, ◌+◌, zero, suc, Bool, true, false, List, [], ◌∷◌, length, Option, Some, None, Ok, Err, refl, sym, ap, subst, cond, arith, nat_lt, nat_le}
 use Rattle.std.specs.Prelude.{IfSome, Result}
-use Rattle.std.proofs.lemmas.Bool.Decides.{nat_tests}
-use Rattle.std.proofs.lemmas.Option.{same_Some}
-use Rattle.orch_base.specs.declared.source.TheConstants.{MAX_SCENARIO_LEN}
-use Rattle.orch_base.specs.declared.failed.NotRead.{NotRead}
-use Rattle.orch_base.specs.declared.failed.NotRead.TheVariants as not_read
-use Rattle.orch_base.specs.Gives.{Gives}
-use Rattle.orch_base.specs.Whole.{whole, length_fault}
-use Rattle.scenarios.specs.declared.scenario.Scenario.{Scenario}
-use Rattle.scenario_values.specs.declared.fault.Fault.{Fault}
-use Rattle.scenario_values.specs.declared.fault.FaultCode.TheVariants.{TooLong}
-use Rattle.scenario_values.specs.declared.fault.ReadFault.{ReadFault}
-use Rattle.scenario_values.specs.declared.fault.ReadFault.TheVariants as reading
-use Rattle.scenario_values.specs.Faults.{fault_of}
-use Rattle.scenario_reader.specs.Scenarios.{scenario_in}
-use Rattle.top_call.specs.declared.reading.Stop.{Stop}
-use Rattle.top_call.specs.declared.reading.Stop.TheVariants as stops
-use Rattle.top_call.specs.Reads.{OfRead, ReadsAs, stop_by}
+use Rattle.top_call.proofs.Prelude.{Fault, Gives, MAX_SCENARIO_LEN, NotRead, OfRead, ReadFault, ReadsAs, Scenario, Stop, TooLong, fault_of}
+use Rattle.top_call.proofs.Prelude.{length_fault, nat_tests, same_Some, scenario_in, stop_by, whole}
+use Rattle.top_call.proofs.Prelude.not_read
+use Rattle.top_call.proofs.Prelude.reading
+use Rattle.top_call.proofs.Prelude.stops
 
 abbrev too_long_fault : Fault
 too_long_fault = record { code = TooLong; path = [] }

@@ -1,32 +1,16 @@
 -- How calls end where the keeper tells its rows: against their report.
 use Rattle.std.proofs.Common.{◌≡◌, ◌∙◌, ℕ, ◌≤◌, Bool, true, false, List, [], ◌++◌, length, take, Option, Some, None, Ok, Err, refl, sym, ap, subst, arith, ◌⊎◌, inl, inr}
 use Rattle.std.specs.Prelude.{IfSome, codes, Result}
-use Rattle.kept_rows.specs.declared.row.Row.{Row}
-use Rattle.scenarios.specs.declared.scenario.Scenario.{Scenario}
-use Rattle.scenarios.specs.Scenarios.{names_of}
-use Rattle.scenario_values.specs.declared.fault.Fault.{Fault}
-use Rattle.scenario_reader.specs.Scenarios.{scenario_in}
-use Rattle.command_line.specs.declared.parts.Places.{Places}
-use Rattle.command_line.specs.declared.usage.Usage.{Usage}
-use Rattle.command_line.specs.declared.usage.Usage.TheVariants as usage
-use Rattle.command_line.specs.declared.parts.Drawing.{Drawing}
-use Rattle.command_line.specs.Places.{drawing_of, places_of}
-use Rattle.orch_core.specs.Runs.{Recorded}
-use Rattle.tasks.specs.declared.asked.Task.{Task}
-use Rattle.tasks.specs.declared.ending.Ending.TheVariants as ends
-use Rattle.tasks.specs.Asked.{task_of}
-use Rattle.tasks.specs.Endings.{IsWhole, Tells, WasCut, course_of}
-use Rattle.tasks.specs.Known.{cut_answer, task_answer}
-use Rattle.tasks.specs.Report.{Answer, answer_of, cut_text}
-use Rattle.tasks.specs.Sinks.{End, Taken, Takes, TakesFront, TakesLine, between}
-use Rattle.tasks.specs.Works.{Work}
-use Rattle.tasks.proofs.Known.{cut_begins, cut_is, on_is, whole_is}
-use Rattle.tasks.proofs.Sends.{front_more, front_of_longer, nothing_is_front, rose_later, takes_more, whole_is_front}
-use Rattle.top_call.specs.declared.way.Way.{Way}
-use Rattle.top_call.specs.declared.way.Way.TheVariants as way
-use Rattle.top_call.specs.Ends.{AskARead, Asks, AskToDraw, Call, Closes, Ends, EndsBy, IsReported, call, drawn_text, status_of}
-use Rattle.top_call.specs.Reads.{OfRead}
-use Rattle.top_call.specs.Report.{EndsAs, IsToWrite, KeepsRows, Report, TakesBehind, WritesErr, WritesOut, drawn_report, read_report, report, taken_report, task_report, words_report, written_status}
+use Rattle.top_call.proofs.Prelude.{Answer, AskARead, Asks, AskToDraw, Call, Closes, Drawing, End, Ends, EndsAs, EndsBy, Fault, IsReported, IsToWrite}
+use Rattle.top_call.proofs.Prelude.{IsWhole, KeepsRows, OfRead, Places, Recorded, Report, Row, Scenario, Taken, Takes, TakesBehind, TakesFront}
+use Rattle.top_call.proofs.Prelude.{TakesLine, Task, Tells, Usage, WasCut, Way, Work, WritesErr, WritesOut, answer_of, between, call, course_of}
+use Rattle.top_call.proofs.Prelude.{cut_answer, cut_begins, cut_is, cut_text, drawing_of, drawn_report, drawn_text, front_more, front_of_longer}
+use Rattle.top_call.proofs.Prelude.{names_of, nothing_is_front, on_is, places_of, read_report, report, rose_later, scenario_in, status_of}
+use Rattle.top_call.proofs.Prelude.{taken_report, takes_more, task_answer, task_of, task_report, whole_is, whole_is_front, words_report}
+use Rattle.top_call.proofs.Prelude.{written_status}
+use Rattle.top_call.proofs.Prelude.ends
+use Rattle.top_call.proofs.Prelude.usage
+use Rattle.top_call.proofs.Prelude.way
 use Rattle.top_call.proofs.Ends.{asks_of, of_done, of_five, of_four, of_one, of_six, of_three, of_two}
 
 -- ---- where the bytes and the rows are known

@@ -2,74 +2,27 @@
 -- recoveries begin apart and finish well.
 use Rattle.std.proofs.Common.{◌≡◌, ℕ, zero, suc, ◌<◌, Bool, true, false, cond, List, [], ◌∷◌, ◌++◌, length, Option, Some, None, ◌∙◌, refl, sym, ap, subst, take, inl, inr, arith}
 use Rattle.std.specs.Prelude.{All, IfSome, is_some, ◌^◌, ◌≤◌}
-use Rattle.std.specs.Option.{option_to_list}
-use Rattle.std.proofs.lemmas.List.{length-map}
-use Rattle.std.proofs.lemmas.List.Elements.{All-append, All-cons, All-nil, All-take}
-use Rattle.kept_rows.specs.declared.row.Row.{Row}
-use Rattle.commands.specs.declared.turn.CommandTurn.{CommandTurn}
-use Rattle.commands.specs.declared.line.Line.{Line}
-use Rattle.command_line.specs.declared.parts.Places.{Places}
-use Rattle.orch_base.specs.Names.{HostPort}
-use Rattle.orch_base.specs.declared.server.ServerNo.{ServerNo}
-use Rattle.name_order.specs.NameOrder.{by_name}
-use Rattle.name_order.proofs.Arranged.{by_name-within}
-use Rattle.scenarios.specs.declared.scenario.Scenario.{Scenario}
-use Rattle.scenarios.specs.Scenarios.{IsScenario, names_of}
-use Rattle.scenarios.specs.Turns.{IsCommand, IsNumberOf, IsTurn, IsTurnOf, NamesOneOf}
-use Rattle.turns.specs.declared.turn.Turn.{Turn}
-use Rattle.turns.specs.declared.turn.Act.TheVariants as act
-use Rattle.turns.specs.declared.turn.Turn.TheVariants as turn
-use Rattle.jobs_in_flight.specs.Jobs.{is_open, job_at, most_turns}
-use Rattle.orch_core.specs.Rounds.{after_turns, round_of}
-use Rattle.orch_core.proofs.Finishing.{Ran-append, named-round, turns-round}
-use Rattle.orch_core.specs.Runs.{Held, LeadsTo, Recorded, engine, held_run, held_step, recorder, run_turns, turns_of}
-use Rattle.std.proofs.lemmas.Option.{same_Some}
-use Rattle.kept_rows.specs.Rows.{IsRising, changed, row_in}
-use Rattle.opening_book.specs.Following.{FollowAudit}
-use Rattle.orch_core.specs.Keeping.{Ran}
-use Rattle.run_laws.specs.KeptRows.{held_from}
-use Rattle.run_laws.proofs.Audits.{Follow-whole, FollowAudit-whole}
-use Rattle.orch_core.specs.Scenarios.{StartsBy, kept_at_start, start, start_changes, without_turns}
-use Rattle.orch_core.specs.States.{State, nodes_of}
-use Rattle.run_laws.specs.Ready.{Ready}
-use Rattle.recovery_runs.specs.Finishes.{IsFinish}
-use Rattle.run_laws.specs.Runs.{ComesTo}
-use Rattle.run_laws.proofs.JobTurns.{named-job, others-stay}
-use Rattle.run_laws.proofs.Failures.{plans-done, plans-fail, spends-last}
-use Rattle.run_laws.proofs.Lines.{scan-tries}
-use Rattle.run_laws.proofs.Lowest.{lowest-refuses}
-use Rattle.run_laws.proofs.Counting.{apart-comes, reckoned-comes}
-use Rattle.run_laws.proofs.Marks.{found-end, matches-end}
-use Rattle.run_laws.proofs.Aims.{turn-aimed}
-use Rattle.run_laws.proofs.Fates.{restart-comes, turn-fates}
-use Rattle.run_laws.proofs.JobEntries.{jobs-comes}
-use Rattle.run_laws.proofs.Parts.{apart-in-turn, periods-in-turn}
-use Rattle.run_laws.proofs.Permissions.{answers_by_table, begun_joins, begun_kept, begun_leased, begun_logged, begun_number, begun_there, refused_changes_nothing}
-use Rattle.recovery_plans.specs.Recoveries.{Recovery}
-use Rattle.recovery_runs.proofs.Failing.{fail-comes}
-use Rattle.recovery_runs.proofs.Tending.{began-comes, finish-comes, scenarios-comes, still-comes, told-next}
-use Rattle.recovery_runs.proofs.Ended.{failure-comes}
-use Rattle.run_laws.proofs.RunLaws.{Goes, Goes-comes}
-use Rattle.scenario_reader.proofs.Sound.{scenario_in_sound}
-use Rattle.tasks.specs.declared.asked.Asked.{Asked}
-use Rattle.tasks.specs.declared.asked.Asked.TheVariants as asked
-use Rattle.tasks.specs.declared.asked.Task.{Task}
-use Rattle.tasks.specs.Asked.{AskOfRead, IsAsked, IsTaken, asked_of, task_of}
-use Rattle.tasks.specs.Closing.{closing, closing_by, own_job, rounds_of, rounds_while}
-use Rattle.tasks.specs.Endings.{IsOn, IsOnOwn, IsOnTurns, course_of}
-use Rattle.tasks.specs.Stages.{SomeTaken, Stage, active_in, claim_ahead, claim_without, command_as, is_alone, own_turn, stages, taker}
-use Rattle.tasks.specs.Works.{Comes, Work}
-use Rattle.tasks.proofs.Courses.{run_state}
-use Rattle.tasks.proofs.Stages.{some_ran}
-use Rattle.tasks.proofs.Takers.{taker_is}
-use Rattle.tasks.proofs.Words.{asked_is}
-use Rattle.unended_jobs.specs.declared.docket.Docket.{Docket}
-use Rattle.unended_jobs.specs.declared.unended.Unended.TheVariants as unended
-use Rattle.top_call.specs.Ends.{IsTask}
-use Rattle.top_call.specs.Runs.{BeginApart, BeginsApart, Finishes, FinishWell, IsSafeRun, IsSafeState, OwnClaimRow, OwnRestartKeepsAll, TellTruly, TellsTruly, Obeys, ObeysTable, AreSoFar, Through, ActAlone, IsActiveAlone, TellHooks, TellsHooks}
-use Rattle.run_laws.specs.Claims.{IsClaimRow, claim_key}
-use Rattle.run_laws.proofs.ClaimKept.{claim-row-whole}
-use Rattle.run_laws.proofs.NodeClaims.{acting-alone, begun-since, every-kept, every-many, every-one, every-reached, lapsed-idle, passing-drops, passing-restarts, waits}
+use Rattle.top_call.proofs.Prelude.{ActAlone, All-append, All-cons, All-nil, All-take, AreSoFar, Asked, AskOfRead, BeginApart, BeginsApart, Comes}
+use Rattle.top_call.proofs.Prelude.{ComesTo, CommandTurn, Docket, Finishes, FinishWell, Follow-whole, FollowAudit, FollowAudit-whole, Goes}
+use Rattle.top_call.proofs.Prelude.{Goes-comes, Held, HostPort, IsActiveAlone, IsAsked, IsClaimRow, IsCommand, IsFinish, IsNumberOf, IsOn, IsOnOwn}
+use Rattle.top_call.proofs.Prelude.{IsOnTurns, IsRising, IsSafeRun, IsSafeState, IsScenario, IsTaken, IsTask, IsTurn, IsTurnOf, LeadsTo, Line}
+use Rattle.top_call.proofs.Prelude.{NamesOneOf, Obeys, ObeysTable, OwnClaimRow, OwnRestartKeepsAll, Places, Ran, Ran-append, Ready, Recorded}
+use Rattle.top_call.proofs.Prelude.{Recovery, Row, Scenario, ServerNo, SomeTaken, Stage, StartsBy, State, Task, TellHooks, TellsHooks, TellsTruly}
+use Rattle.top_call.proofs.Prelude.{TellTruly, Through, Turn, Work, acting-alone, active_in, after_turns, answers_by_table, apart-comes}
+use Rattle.top_call.proofs.Prelude.{apart-in-turn, asked_is, asked_of, began-comes, begun-since, begun_joins, begun_kept, begun_leased, begun_logged}
+use Rattle.top_call.proofs.Prelude.{begun_number, begun_there, by_name, by_name-within, changed, claim-row-whole, claim_ahead, claim_key}
+use Rattle.top_call.proofs.Prelude.{claim_without, closing, closing_by, command_as, course_of, engine, every-kept, every-many, every-one}
+use Rattle.top_call.proofs.Prelude.{every-reached, fail-comes, failure-comes, finish-comes, found-end, held_from, held_run, held_step, is_alone}
+use Rattle.top_call.proofs.Prelude.{is_open, job_at, jobs-comes, kept_at_start, lapsed-idle, length-map, lowest-refuses, matches-end, most_turns}
+use Rattle.top_call.proofs.Prelude.{named-job, named-round, names_of, nodes_of, option_to_list, others-stay, own_job, own_turn, passing-drops}
+use Rattle.top_call.proofs.Prelude.{passing-restarts, periods-in-turn, plans-done, plans-fail, reckoned-comes, recorder, refused_changes_nothing}
+use Rattle.top_call.proofs.Prelude.{restart-comes, round_of, rounds_of, rounds_while, row_in, run_state, run_turns, same_Some, scan-tries}
+use Rattle.top_call.proofs.Prelude.{scenario_in_sound, scenarios-comes, some_ran, spends-last, stages, start, start_changes, still-comes, taker}
+use Rattle.top_call.proofs.Prelude.{taker_is, task_of, told-next, turn-aimed, turn-fates, turns-round, turns_of, waits, without_turns}
+use Rattle.top_call.proofs.Prelude.act
+use Rattle.top_call.proofs.Prelude.asked
+use Rattle.top_call.proofs.Prelude.turn
+use Rattle.top_call.proofs.Prelude.unended
 
 -- ---- the turns
 
@@ -305,16 +258,12 @@ module _ (count nodes : ℕ) (some : 1 ≤ nodes) where
       by false None of = tt
 
   stages_over : (a : Asked) → IsAsked count a → AllOver count nodes (stages a)
-  stages_over asked.Run is = tt
-  stages_over asked.Summary is = tt
-  stages_over asked.Dump is = tt
   stages_over (asked.Turn c) is = (
     λ run names here. one_of (claim_ahead run.state) (claim_is run.state),
     (λ run names here. one_of (own_turn c run.state) (own_is c run.state is here), (λ run names here. closing_turns count nodes run names, tt)),
   )
-  stages_over (asked.Plan c) is = tt
-  stages_over asked.Unknown is = tt
   stages_over asked.Nothing is = absurd is
+  stages_over _ is = tt
 
 -- what holds behind any turns over the servers holds behind those so far
 module _ (words : List (List ℕ)) (bytes : List ℕ) (w : Work) (run : Recorded) (is : IsTask words bytes w) (P : List Turn → Type 0)

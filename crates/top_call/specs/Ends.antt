@@ -1,25 +1,9 @@
 -- How a call ends.
 use Rattle.std.specs.Prelude.{◌≡◌, ◌≢◌, ℕ, ◌≤◌, ◌⊎◌, ⊤, Bool, List, [], codes, if◌then◌else◌, IfSome, Option, Some, None, Result, Ok, Err}
-use Rattle.std.specs.Io.KnownBytes.{Consumes}
-use Rattle.kept_rows.specs.declared.row.Row.{Row}
-use Rattle.orch_base.specs.Causes.{Rose}
-use Rattle.orch_base.specs.Memory.{next_count}
-use Rattle.scenarios.specs.declared.scenario.Scenario.{Scenario}
-use Rattle.scenarios.specs.Scenarios.{names_of}
-use Rattle.scenario_values.specs.declared.fault.Fault.{Fault}
-use Rattle.scenario_reader.specs.Scenarios.{scenario_in}
-use Rattle.command_line.specs.declared.parts.Drawing.{Drawing}
-use Rattle.command_line.specs.declared.parts.Places.{Places}
-use Rattle.command_line.specs.declared.usage.Usage.{Usage}
-use Rattle.command_line.specs.declared.usage.Usage.TheVariants.{BadWords}
-use Rattle.command_line.specs.Places.{drawing_of, places_of}
-use Rattle.scenario_generator.specs.Texts.{scenario_text}
-use Rattle.tasks.specs.declared.ending.Ending.{Ending}
-use Rattle.tasks.specs.declared.ending.Ending.TheVariants as ends
-use Rattle.tasks.specs.Asked.{AskOfRead, task_of}
-use Rattle.tasks.specs.Endings.{IsWritten, Tells, course_of}
-use Rattle.tasks.specs.Sinks.{End, Fails, FailsIn, Taken, Takes, TakesFront, TakesLine, between}
-use Rattle.tasks.specs.Works.{Work}
+use Rattle.top_call.specs.Prelude.{AskOfRead, BadWords, Consumes, Drawing, End, Ending, Fails, FailsIn, Fault, IsWritten, Places, Rose, Row, Scenario}
+use Rattle.top_call.specs.Prelude.{Taken, Takes, TakesFront, TakesLine, Tells, Usage, Work, between, course_of, drawing_of, names_of, next_count}
+use Rattle.top_call.specs.Prelude.{places_of, scenario_in, scenario_text, task_of}
+use Rattle.top_call.specs.Prelude.ends
 use Rattle.top_call.specs.Faults.{fault_text}
 use Rattle.top_call.specs.Reads.{OfRead}
 use Rattle.top_call.specs.declared.way.Way.{Way}

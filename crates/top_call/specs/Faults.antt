@@ -1,8 +1,7 @@
 -- The line of a scenario's fault.
 use Rattle.std.specs.Prelude.{ℕ, List, [], ◌∷◌, ◌++◌, codes}
-use Rattle.scenario_values.specs.declared.fault.Fault.{Fault}
-use Rattle.scenario_values.specs.declared.fault.FaultCode.{FaultCode}
-use Rattle.scenario_values.specs.declared.fault.FaultCode.TheVariants as code
+use Rattle.top_call.specs.Prelude.{Fault, FaultCode}
+use Rattle.top_call.specs.Prelude.code
 
 -- a fault's number and name
 abbrev pub code_text : FaultCode → List ℕ

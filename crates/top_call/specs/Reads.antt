@@ -1,9 +1,7 @@
 -- Whether a scenario was read.
 use Rattle.std.specs.Prelude.{◌≡◌, ℕ, ⊤, List, Option, Some, None, Result, Ok, Err}
-use Rattle.scenarios.specs.declared.scenario.Scenario.{Scenario}
-use Rattle.scenario_values.specs.declared.fault.Fault.{Fault}
-use Rattle.scenario_values.specs.declared.fault.ReadFault.{ReadFault}
-use Rattle.scenario_values.specs.declared.fault.ReadFault.TheVariants as reading
+use Rattle.top_call.specs.Prelude.{Fault, ReadFault, Scenario}
+use Rattle.top_call.specs.Prelude.reading
 use Rattle.top_call.specs.declared.reading.Stop.{Stop}
 use Rattle.top_call.specs.declared.reading.Stop.TheVariants as stops
 

@@ -1,19 +1,8 @@
 -- The report of a call where the keeper tells its rows: a function of the words, the bytes of the scenario and the kept
 -- rows.
 use Rattle.std.specs.Prelude.{◌≡◌, ℕ, ◌⊎◌, ◌++◌, ◌≤◌, Bool, true, false, List, [], codes, if◌then◌else◌, length, take, IfSome, Option, Some, None, Result, Ok, Err}
-use Rattle.kept_rows.specs.declared.row.Row.{Row}
-use Rattle.scenarios.specs.declared.scenario.Scenario.{Scenario}
-use Rattle.scenarios.specs.Scenarios.{names_of}
-use Rattle.scenario_values.specs.declared.fault.Fault.{Fault}
-use Rattle.scenario_reader.specs.Scenarios.{scenario_in}
-use Rattle.command_line.specs.declared.parts.Drawing.{Drawing}
-use Rattle.command_line.specs.declared.parts.Places.{Places}
-use Rattle.command_line.specs.declared.usage.Usage.{Usage}
-use Rattle.command_line.specs.Places.{drawing_of, places_of}
-use Rattle.tasks.specs.declared.asked.Task.{Task}
-use Rattle.tasks.specs.Asked.{task_of}
-use Rattle.tasks.specs.Known.{last_held, task_answer}
-use Rattle.tasks.specs.Sinks.{End, Takes, TakesFront, TakesLine}
+use Rattle.top_call.specs.Prelude.{Drawing, End, Fault, Places, Row, Scenario, Takes, TakesFront, TakesLine, Task, Usage, drawing_of, last_held}
+use Rattle.top_call.specs.Prelude.{names_of, places_of, scenario_in, task_answer, task_of}
 use Rattle.top_call.specs.Ends.{drawn_text}
 use Rattle.top_call.specs.Faults.{fault_text}
 

@@ -1,63 +1,21 @@
 -- What holds of each run of the turns that words take over the scenario that bytes are, whatever rows the keeper hands
 -- back: of the run of a call's report, too.
 use Rattle.std.specs.Prelude.{All, ◌≡◌, ℕ, ◌+◌, ◌^◌, ◌≤◌, Bool, false, List, [], ◌∷◌, ◌++◌, length, map, take, ◌⊎◌, Some}
-use Rattle.kept_rows.specs.declared.row.Row.{Row}
-use Rattle.server_model.specs.Safe.{Safe, Placed, IsQuiet}
-use Rattle.audit_log.specs.Apart.{IsApart}
-use Rattle.audit_log.specs.Audits.{closed}
-use Rattle.kept_rows.specs.Rows.{IsRising, row_in}
-use Rattle.orch_core.specs.Restarts.{interrupted_at}
-use Rattle.run_laws.specs.Begins.{BeginApartInTurn}
-use Rattle.run_laws.specs.Marks.{FoundMatchesEnd, MatchesEnd}
-use Rattle.command_routes.specs.Routes.{route_of}
-use Rattle.commands.specs.declared.cause.Cause.{Cause}
-use Rattle.commands.specs.declared.line.Line.{Line}
-use Rattle.commands.specs.declared.refusal.Refusal.{Refusal}
-use Rattle.commands.specs.declared.turn.CommandTurn.{CommandTurn}
-use Rattle.scenarios.specs.declared.scenario.Scenario.{Scenario}
-use Rattle.scenarios.specs.Scenarios.{period_of}
-use Rattle.turns.specs.declared.reply.Reply.TheVariants as answered
-use Rattle.turns.specs.declared.turn.Turn.{Turn}
-use Rattle.turns.specs.declared.turn.Act.TheVariants as act
-use Rattle.turns.specs.declared.turn.Turn.TheVariants as turn
-use Rattle.hook_laws.specs.Tended.{IsEarly}
-use Rattle.recovery_hooks.specs.Runs.{HookState}
-use Rattle.recovery_runs.specs.Finishes.{IsFailure, IsFinish, own_lines, promoted_then, recovery_after, told_hooks}
-use Rattle.recovery_runs.specs.Facts.{ExplainsTurn}
-use Rattle.run_laws.specs.Flights.{moment_at}
-use Rattle.run_laws.specs.States.{HeldState, SoundState}
-use Rattle.instance_keeper.specs.Leases.{taken}
-use Rattle.jobs_in_flight.specs.Jobs.{job_at}
-use Rattle.run_laws.specs.BegunJobs.{BegunJob, begun_of, entry_kept, with_entry}
-use Rattle.recovery_core.specs.Begun.{leases_after}
-use Rattle.command_outcomes.specs.Commands.{entries_put}
-use Rattle.knowledge.specs.Knowing.{recovery_job}
-use Rattle.run_laws.specs.Answering.{TriesByTable}
-use Rattle.run_laws.specs.Aims.{IsAimed}
-use Rattle.run_laws.specs.Entries.{entries_begun, recoveries_begun, recoveries_scanned}
-use Rattle.run_laws.specs.Fates.{AuditIs, RestartKeepsAll}
-use Rattle.run_laws.specs.JobEntries.{EntriesHaveJobs}
-use Rattle.run_laws.specs.Failures.{PlansAreDone, PlansFailForWhatBefell, SpendsWaitsLast}
-use Rattle.run_laws.specs.Lowest.{RefusedByLowest}
-use Rattle.run_laws.specs.Jobs.{JobsHaveLeases, JobsLeaveOthers, LeasesNameJobs}
-use Rattle.orch_core.specs.Permission.{IsAnswer, refusal_at}
-use Rattle.orch_core.specs.Polls.{changes_of}
-use Rattle.orch_core.specs.Replies.{reply_of}
-use Rattle.orch_core.specs.After.{step}
-use Rattle.orch_core.specs.Runs.{Recorded, asks, engine, run_turns, turns_of}
-use Rattle.orch_core.specs.Scenarios.{start}
-use Rattle.orch_core.specs.States.{State}
-use Rattle.recovery_plans.specs.Recoveries.{Recovery}
-use Rattle.recovery_reasons.specs.Reasons.{Fact, IsExplained}
-use Rattle.recovery_runs.specs.Failing.{RecoveriesFailForWhatBefell}
-use Rattle.recovery_runs.specs.RunFinishes.{AreScenarios, FailsWell, FinishesWell}
-use Rattle.recovery_runs.specs.Origins.{Began, ExplainsAlong}
-use Rattle.tasks.specs.Endings.{IsOn, IsOnOwn, IsOnTurns, course_of}
-use Rattle.tasks.specs.Works.{Work}
-use Rattle.unended_jobs.specs.declared.docket.Docket.{Docket}
-use Rattle.unended_jobs.specs.declared.unended.Unended.TheVariants as unended
+use Rattle.top_call.specs.Prelude.{ActsWhereActive, AreScenarios, AuditIs, Began, BeginApartInTurn, BegunJob, Cause, ClaimsWait, CommandTurn, Docket}
+use Rattle.top_call.specs.Prelude.{EntriesHaveJobs, ExplainsAlong, ExplainsTurn, Fact, FailsWell, FinishesWell, FoundMatchesEnd, HeldState, HookState}
+use Rattle.top_call.specs.Prelude.{IsAimed, IsAnswer, IsApart, IsClaimRow, IsEarly, IsExplained, IsFailure, IsFinish, IsOn, IsOnOwn, IsOnTurns}
+use Rattle.top_call.specs.Prelude.{IsQuiet, IsRising, ItsClaimIsKept, JobsHaveLeases, JobsLeaveOthers, LapsedDoesNothing, LeasesNameJobs, Line}
+use Rattle.top_call.specs.Prelude.{MatchesEnd, OneIsActive, PassingLeavesNewJobs, PassingLeavesNoJob, PassingStartsAgain, Placed, PlansAreDone}
+use Rattle.top_call.specs.Prelude.{PlansFailForWhatBefell, Recorded, RecoveriesFailForWhatBefell, Recovery, Refusal, RefusedByLowest, RestartKeepsAll}
+use Rattle.top_call.specs.Prelude.{Row, Safe, Scenario, SoundState, SpendsWaitsLast, State, TriesByTable, Turn, Work, asks, begun_of, changes_of}
+use Rattle.top_call.specs.Prelude.{claim_key, closed, course_of, engine, entries_begun, entries_put, entry_kept, interrupted_at, job_at, leases_after}
+use Rattle.top_call.specs.Prelude.{moment_at, own_lines, period_of, promoted_then, recoveries_begun, recoveries_scanned, recovery_after, recovery_job}
+use Rattle.top_call.specs.Prelude.{refusal_at, reply_of, route_of, row_in, run_turns, start, step, taken, told_hooks, turns_of, with_entry}
+use Rattle.top_call.specs.Prelude.act
+use Rattle.top_call.specs.Prelude.answered
+use Rattle.top_call.specs.Prelude.turn
+use Rattle.top_call.specs.Prelude.unended
 use Rattle.top_call.specs.Ends.{IsTask}
-use Rattle.run_laws.specs.Claims.{ActsWhereActive, ClaimsWait, IsClaimRow, ItsClaimIsKept, LapsedDoesNothing, OneIsActive, PassingLeavesNewJobs, PassingLeavesNoJob, PassingStartsAgain, claim_key}
 
 -- ---- states
 

@@ -3,7 +3,7 @@
 ghost use Rattle.std.specs.Prelude.{◌≡◌, ◌++◌, IfOk, OnOk};
 ghost use Rattle.top_call.specs.Faults.{code_text, path_text, fault_text};
 
-use orch_base::Memory;
+use crate::orch_base::Memory;
 use scenario_reader::{Fault, FaultCode};
 use std::alloc::Global;
 

@@ -1,15 +1,12 @@
 //! The scenario that a source has.
 
 ghost use Rattle.std.specs.Prelude.{◌≡◌, IfOk, IfSome, Err};
-ghost use Rattle.std.specs.Io.KnownBytes.{Consumes};
-ghost use Rattle.orch_base.specs.Causes.{Rose};
-ghost use Rattle.scenarios.specs.Scenarios.{IsScenario};
-ghost use Rattle.scenario_reader.specs.Scenarios.{scenario_in};
+ghost use Rattle.top_call.specs.Prelude.{Consumes, IsScenario, Rose, scenario_in};
 ghost use Rattle.top_call.specs.Reads.{OfRead, ReadsAs, stop_by};
 
-use orch_base::{NotRead, Source, read_all};
+use crate::orch_base::{NotRead, Source, read_all};
+use crate::scenarios_items::Scenario;
 use scenario_reader::{Fault, ReadFault, read, too_long};
-use scenarios::Scenario;
 use std::alloc::Global;
 
 /// Why there is no scenario.

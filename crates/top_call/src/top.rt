@@ -1,30 +1,23 @@
 //! The call that does what the words ask, but for a run in threads.
 
 ghost use Rattle.std.specs.Prelude.{◌≡◌, ◌≤◌, ◌⊎◌, ℕ, List, [], codes, map, IfSome, Option, Some};
-ghost use Rattle.std.specs.Io.KnownBytes.{Consumes};
-ghost use Rattle.command_line.specs.Places.{drawing_of};
-ghost use Rattle.command_line.specs.Taken.{IsDrawn};
-ghost use Rattle.command_line.specs.declared.parts.Drawing.{Drawing};
-ghost use Rattle.orch_base.specs.Causes.{Rose};
-ghost use Rattle.scenarios.specs.Scenarios.{IsScenario, names_of};
-ghost use Rattle.tasks.specs.Asked.{AskOfRead, IsTaken, task_of};
-ghost use Rattle.tasks.specs.Endings.{HasKeepersCause, Tells};
-ghost use Rattle.tasks.specs.Sinks.{FailsIn, Takes, TakesFront, TakesLine, across};
-ghost use Rattle.top_call.specs.Ends.{AskToDraw, DrawEnds, EndsBy, EndsOf, EndsOver, FaultsOf, IsComplete, IsGood, IsReported, IsUsage, NoneRose, ReadsWhole, StopsAtFirst, call, drawn_text, status_of};
+ghost use Rattle.top_call.specs.Prelude.{AskOfRead, Consumes, Drawing, HasKeepersCause, IsDrawn, IsScenario, IsTaken, Rose};
+ghost use Rattle.top_call.specs.Prelude.{TakesLine, Tells, across, drawing_of, names_of, task_of};
+ghost use Rattle.top_call.specs.Ends.{AskToDraw, DrawEnds, EndsBy, EndsOf, EndsOver, FaultsOf, IsComplete, IsGood, IsReported, IsUsage, NoneRose, ReadsWhole, StopsAtFirst, call, status_of};
 ghost use Rattle.top_call.specs.Faults.{fault_text};
 ghost use Rattle.top_call.specs.Reads.{OfRead};
 ghost use Rattle.top_call.specs.Report.{ByReport, EndsAs, KeepsRows, WritesErr, WritesOut};
 ghost use Rattle.top_call.specs.Runs.{ActAlone, BeginApart, FinishWell, IsSafeRun, TellHooks, TellTruly, ObeysTable};
 
 use crate::fault::fault_line;
+use crate::instance_keeper_items::Keeper;
+use crate::orch_base::{Sink, Source, write_all};
 use crate::reading::{Stop, scenario_from};
+use crate::scenarios_items::Scenario;
 use crate::way::Way;
 use command_line::{Drawing, Places, Usage, places};
-use instance_keeper::Keeper;
-use orch_base::{Sink, Source, write_all};
 use scenario_generator::{NotWritten, write_scenario};
 use scenario_reader::Fault;
-use scenarios::Scenario;
 use std::alloc::Global;
 use tasks::{Ending, names_of, task_of, task_report};
 

@@ -1,9 +1,11 @@
 //! Calls of `orch` over objects in memory, and the rows of a keeper as data.
 
-use binlog_coords::Coord;
-use gtid_sets::GtidSet;
-use instance_keeper::{Candidate, Downtime, Instance, Keeper, MemKeeper, RecoveryRow, Row, Seen};
-use orch_base::{
+use crate::binlog_coords_items::Coord;
+use crate::gtid_sets::GtidSet;
+use crate::instance_keeper_items::{
+    Candidate, Downtime, Instance, Keeper, MemKeeper, RecoveryRow, Row, Seen,
+};
+use crate::orch_base::{
     Ending, IoState, Kind, MemSink, MemSource, Moment, OwnedText, Rule, ServerNo, SourceState,
 };
 use std::alloc::Global;

@@ -1,7 +1,7 @@
 //! Runs whose keeper fails at each of its calls in turn, and runs with a restart behind each of their turns.
 
 use crate::calls::{Objects, RUN, Told, WHOLE, Words, call, keeper_of};
-use instance_keeper::{Keeper, Row};
+use crate::instance_keeper_items::{Keeper, Row};
 use std::alloc::Global;
 use std::test::Fail;
 

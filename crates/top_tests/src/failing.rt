@@ -1,7 +1,7 @@
 //! Sources, sinks and keepers that fail at one of their calls.
 
 use crate::calls::{Kept, Objects, RUN, Told, WHOLE, Words, call, keeper_of, keeps};
-use orch_base::MAX_SCENARIO_LEN;
+use crate::orch_base::MAX_SCENARIO_LEN;
 use std::alloc::Global;
 use std::test::Fail;
 

@@ -1,7 +1,7 @@
 //! Rows that the keeper has before a call, by which the run begins.
 
 use crate::calls::{Kept, RUN, WHOLE, Words, call, keeper_of, keeps};
-use orch_base::Rule;
+use crate::orch_base::Rule;
 use std::alloc::Global;
 use std::test::Fail;
 

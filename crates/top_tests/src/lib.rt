@@ -9,3 +9,5 @@ mod every_call;
 mod failing;
 #[cfg(test)]
 mod keeping;
+
+use top_call::{binlog_coords_items, gtid_sets, instance_keeper_items, orch_base};

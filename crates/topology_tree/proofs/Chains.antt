@@ -1,9 +1,7 @@
 -- following, in one step and more
 use Rattle.std.proofs.Common.{◌≡◌, ℕ, ◌<◌, ◌≤◌, List, [], ◌∷◌, length, refl, sym, ◌∙◌, subst, inl, inr, ◌⊎◌, Option, Some, None, arith, zero, suc, get_or}
-use Rattle.std.proofs.lemmas.Option.{same_Some}
-use Rattle.topology_tree.specs.Forests.{above}
-use Rattle.topology_tree.specs.Following.{Follows, Direct, Further, ComesBack, Grounded, Root, Under}
-use Rattle.topology_tree.specs.Marks.{Settles, Ending, Looping, Following, LeadsTo}
+use Rattle.topology_tree.proofs.Prelude.{ComesBack, Direct, Ending, Following, Follows, Further, Grounded, LeadsTo, Looping, Root, Settles, Under}
+use Rattle.topology_tree.proofs.Prelude.{above, same_Some}
 
 pub same_step : (up : ℕ → Option ℕ) (a m k : ℕ) → up a ≡ Some m → up a ≡ Some k → m ≡ k
 same_step up a m k e h = same_Some m k (sym e ∙ h)

@@ -1,10 +1,7 @@
 -- children as lists of siblings
 use Rattle.std.proofs.Common.{◌≡◌, ℕ, ◌+◌, ◌<◌, ◌≤◌, Bool, true, false, List, [], ◌∷◌, ◌++◌, length, filter, reverse, refl, sym, ◌∙◌, ap, subst, inl, inr, Option, Some, None, arith, zero, suc, add-one, get_or}
-use Rattle.std.proofs.lemmas.Bool.{cases_Bool, cond-true, cond-false, eqb-true, eq-eqb}
-use Rattle.std.proofs.lemmas.List.{append-nil, reverse-append}
-use Rattle.std.proofs.lemmas.List.Elements.{filter-append}
-use Rattle.topology_tree.specs.Forests.{above, is_node, is_child, nodes_below, children_of}
-use Rattle.topology_tree.specs.Links.{last_below, IsLinked}
+use Rattle.topology_tree.proofs.Prelude.{IsLinked, above, append-nil, cases_Bool, children_of, cond-false, cond-true, eq-eqb, eqb-true, filter-append}
+use Rattle.topology_tree.proofs.Prelude.{is_child, is_node, last_below, nodes_below, reverse-append}
 use Rattle.topology_tree.proofs.Chains.{read_above, above-within}
 
 -- the children of p among so many first nodes

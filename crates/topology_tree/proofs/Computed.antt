@@ -1,13 +1,9 @@
 -- The computed forest is the forest.
 use Rattle.std.proofs.Common.{◌≡◌, ℕ, ◌<◌, ◌≤◌, Bool, true, false, cond, eqb, List, length, refl, sym, ◌∙◌, ap, subst, inl, inr, ◌⊎◌, ◌||◌, Option, Some, None, arith, zero, suc}
 use Rattle.std.specs.Prelude.{◌==◌}
-use Rattle.std.proofs.lemmas.Bool.{eq-eqb, eqb-true, or_cases, or_right, false≢true}
-use Rattle.std.proofs.lemmas.List.FromFn.{length-map-range_with_len, get_or-map-range_with_len}
-use Rattle.std.proofs.lemmas.Map.Steps.{length-le_from_distinct_below}
-use Rattle.topology_tree.specs.Following.{Follows, ComesBack, Direct, Further, Grounded, Root, Under}
-use Rattle.topology_tree.specs.Forests.{above, IsClosed, IsParent, IsForestOf}
-use Rattle.topology_tree.specs.Making.{comes_back, parent_of, forest_of}
-use Rattle.orch_base.specs.Chains.{is_reached, is_reached_on}
+use Rattle.topology_tree.proofs.Prelude.{ComesBack, Direct, Follows, Further, Grounded, IsClosed, IsForestOf, IsParent, Root, Under, above}
+use Rattle.topology_tree.proofs.Prelude.{comes_back, eq-eqb, eqb-true, false≢true, forest_of, get_or-map-range_with_len, is_reached, is_reached_on}
+use Rattle.topology_tree.proofs.Prelude.{length-le_from_distinct_below, length-map-range_with_len, or_cases, or_right, parent_of}
 use Rattle.topology_tree.proofs.Chains.{next_leads, next_follows}
 use Rattle.topology_tree.proofs.Levels.{chain, chain-follows, chain-distinct}
 use Rattle.topology_tree.proofs.Walking.{one-forest}

@@ -1,10 +1,7 @@
 -- how many steps it is from a node to its root
 use Rattle.std.proofs.Common.{◌≡◌, ℕ, ◌+◌, ◌<◌, ◌≤◌, true, false, List, [], ◌∷◌, length, refl, sym, ◌∙◌, ap, subst, inl, inr, ◌⊎◌, Option, Some, None, arith, zero, suc, ◌||◌, eqb}
-use Rattle.std.specs.List.{IsDistinct, list_any, AllByRecursion}
-use Rattle.std.proofs.lemmas.Bool.{eq-eqb, ne_eqb, eqb-true, or_cases, or_right}
-use Rattle.std.proofs.lemmas.Map.Steps.{length-le_from_distinct_below}
-use Rattle.topology_tree.specs.Following.{Follows, Direct, Further, Grounded, Root, Under}
-use Rattle.topology_tree.specs.Forests.{above, IsClosed}
+use Rattle.topology_tree.proofs.Prelude.{AllByRecursion, Direct, Follows, Further, Grounded, IsClosed, IsDistinct, Root, Under, above, eq-eqb}
+use Rattle.topology_tree.proofs.Prelude.{eqb-true, length-le_from_distinct_below, list_any, ne_eqb, or_cases, or_right}
 use Rattle.topology_tree.proofs.Chains.{Grounded-no_return}
 
 -- the nodes from one to its root

@@ -1,3 +1,4 @@
+mod Prelude
 pub mod Chains
 pub mod Children
 pub mod Levels

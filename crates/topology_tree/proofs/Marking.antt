@@ -1,12 +1,7 @@
 -- one step of the walks that find loops
 use Rattle.std.proofs.Common.{◌≡◌, ℕ, ◌+◌, ◌<◌, Bool, true, false, List, length, refl, sym, ◌∙◌, ap, subst, inl, inr, ◌⊎◌, Option, Some, None, arith, get_or, set, get_or-set_same, get_or-set_other, IfSome, Vec}
-use Rattle.std.proofs.lemmas.Bool.{cases_eq, cases_lt}
-use Rattle.std.proofs.lemmas.Option.{same_Some}
-use Rattle.std.proofs.lemmas.List.{with_items_is}
-use Rattle.std.specs.Vec.{with_items}
-use Rattle.topology_tree.specs.Following.{Follows, ComesBack}
-use Rattle.topology_tree.specs.Forests.{above, IsClosed}
-use Rattle.topology_tree.specs.Marks.{IsMarked, Settles, Looping, MarksLoops, LeadsTo, IsBefore, Walked, Finished}
+use Rattle.topology_tree.proofs.Prelude.{ComesBack, Finished, Follows, IsBefore, IsClosed, IsMarked, LeadsTo, Looping, MarksLoops, Settles, Walked}
+use Rattle.topology_tree.proofs.Prelude.{above, cases_eq, cases_lt, same_Some, with_items, with_items_is}
 use Rattle.topology_tree.proofs.Chains.{LeadsTo-first, LeadsTo-step, Settles-before, Settles-from_Ends, Grounded-no_return, Follows-back, holds_along}
 
 -- so far marked from node on: the last that was met is at

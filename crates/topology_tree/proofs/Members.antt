@@ -1,10 +1,8 @@
 -- nodes among entries, and numbers in lists
 use Rattle.std.proofs.Common.{◌≡◌, ℕ, ◌<◌, Bool, true, false, List, [], ◌∷◌, ◌++◌, filter, map, refl, sym, ◌∙◌, ap, subst, inl, inr, ◌⊎◌, arith, zero, suc, eqb}
-use Rattle.std.specs.List.{flat_map, Contains, IsDistinct, AllByRecursion}
-use Rattle.std.proofs.lemmas.Bool.{cases_Bool, cases_eq, cond-true, cond-false, ne_eqb}
-use Rattle.std.proofs.lemmas.List.Elements.{Contains-append_left, Contains-append_right, Contains-append_cases, Contains-push, Contains-push_cases}
-use Rattle.topology_tree.specs.Forests.{nodes_below}
-use Rattle.topology_tree.specs.Trees.{node_of}
+use Rattle.topology_tree.proofs.Prelude.{AllByRecursion, Contains, Contains-append_cases, Contains-append_left, Contains-append_right, Contains-push}
+use Rattle.topology_tree.proofs.Prelude.{Contains-push_cases, IsDistinct, cases_Bool, cases_eq, cond-false, cond-true, flat_map, ne_eqb, node_of}
+use Rattle.topology_tree.proofs.Prelude.{nodes_below}
 
 -- a number is in a list
 abbrev pub Mem : ℕ → List ℕ → Type 0

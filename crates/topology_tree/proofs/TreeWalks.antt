@@ -1,15 +1,9 @@
 -- what a walk lists
 use Rattle.std.proofs.Common.{◌≡◌, ℕ, ◌+◌, ◌<◌, ◌≤◌, List, [], ◌∷◌, ◌++◌, length, map, refl, sym, ◌∙◌, ap, subst, inl, inr, ◌⊎◌, Option, Some, arith, zero, suc}
 use Rattle.std.specs.Prelude.{slice_get}
-use Rattle.std.specs.List.{flat_map, Contains}
-use Rattle.std.proofs.lemmas.Bool.Decides.{Decides-eqb}
-use Rattle.std.proofs.lemmas.Map.Made.{AllPairs-from_IsDistinct}
-use Rattle.std.proofs.lemmas.List.Elements.{Contains-append_left, Contains-push}
-use Rattle.std.proofs.lemmas.List.{append-nil}
-use Rattle.topology_tree.specs.Following.{Follows, Direct, Further}
-use Rattle.topology_tree.specs.Forests.{above, children_of, walk_at, walk_of, is_child, nodes_below}
-use Rattle.topology_tree.specs.Links.{IsForest}
-use Rattle.topology_tree.specs.Trees.{node_of, HasParentIn, ListsTree}
+use Rattle.topology_tree.proofs.Prelude.{AllPairs-from_IsDistinct, Contains, Contains-append_left, Contains-push, Decides-eqb, Direct, Follows}
+use Rattle.topology_tree.proofs.Prelude.{Further, HasParentIn, IsForest, ListsTree, above, append-nil, children_of, flat_map, is_child, node_of}
+use Rattle.topology_tree.proofs.Prelude.{nodes_below, walk_at, walk_of}
 use Rattle.topology_tree.proofs.Chains.{above-within, next_follows, Follows-further, Grounded-no_return}
 use Rattle.topology_tree.proofs.Children.{is_child-true, child-is_child, one_more_item}
 use Rattle.topology_tree.proofs.Levels.{level, level-above, level-below}

@@ -1,15 +1,10 @@
 -- walks
 use Rattle.std.proofs.Common.{◌≡◌, ℕ, ◌+◌, ◌-◌, ◌<◌, ◌≤◌, true, List, [], ◌∷◌, ◌++◌, length, map, reverse, refl, sym, ◌∙◌, ap, subst, inl, inr, Option, Some, None, arith, zero, suc, append_assoc, Vec, ◌^◌}
 use Rattle.std.specs.Prelude.{slice_get}
-use Rattle.std.specs.List.{flat_map, All, enumerate_from}
-use Rattle.std.proofs.lemmas.List.{append-nil, reverse-append, map-append, with_items_is, ext_get_or}
-use Rattle.std.proofs.lemmas.List.Elements.{All-push, All-map, All-weaker, filter_passes, All-nil, All-cons, All-head, All-tail}
-use Rattle.topology_tree.specs.Following.{Follows, Direct, Further}
-use Rattle.topology_tree.specs.Forests.{above, edges_of, children_of, walk_at, is_child, nodes_below, IsClosed, IsForestOf, IsParent}
-use Rattle.topology_tree.specs.Links.{IsForest, IsLinked}
-use Rattle.topology_tree.specs.Marks.{Settles, Ending}
-use Rattle.std.proofs.lemmas.Bool.{cases_lt}
-use Rattle.std.specs.Vec.{with_items}
+use Rattle.topology_tree.proofs.Prelude.{All, All-cons, All-head, All-map, All-nil, All-push, All-tail, All-weaker, Direct, Ending, Follows, Further}
+use Rattle.topology_tree.proofs.Prelude.{IsClosed, IsForest, IsForestOf, IsLinked, IsParent, Settles, above, append-nil, cases_lt, children_of}
+use Rattle.topology_tree.proofs.Prelude.{edges_of, enumerate_from, ext_get_or, filter_passes, flat_map, is_child, map-append, nodes_below}
+use Rattle.topology_tree.proofs.Prelude.{reverse-append, walk_at, with_items, with_items_is}
 use Rattle.topology_tree.proofs.Chains.{above-within, above-past, Grounded-from_Settles}
 use Rattle.topology_tree.proofs.Children.{is_child-true}
 use Rattle.topology_tree.proofs.Levels.{level, level-above, level-below}

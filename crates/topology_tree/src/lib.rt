@@ -5,7 +5,6 @@ mod forest;
 mod laws;
 mod links;
 mod loops;
-mod threads;
 
 pub use forest::Forest;
 pub use laws::{forests_are_computed, sources_have_one_forest, walks_list_their_tree};

@@ -3,8 +3,8 @@
 
 mod reply;
 mod same;
-mod threads;
 mod turn;
 
 pub use reply::{BoxedFailure, Failure, Reply};
+use server_words::orch_base;
 pub use turn::{Act, BoxedCommand, Step, Turn};

@@ -4,8 +4,8 @@ ghost use Rattle.std.specs.Prelude.{◌≡◌, IfOk, true};
 ghost use Rattle.turns.specs.Plain.{is_plain};
 
 use crate::Turn;
+use crate::orch_base::{Memory, Moment};
 use commands::{Cause, Lines, Refusal};
-use orch_base::{Memory, Moment};
 use server_words::{ApplyAnswer, FetchAnswer, PurgeAnswer, RotateAnswer, WriteAnswer};
 use std::alloc::Global;
 use std::marker::Model;

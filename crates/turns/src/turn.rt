@@ -2,8 +2,8 @@
 
 ghost use Rattle.std.specs.Prelude.{◌≡◌, IfOk};
 
+use crate::orch_base::{Memory, ServerNo};
 use commands::CommandTurn;
-use orch_base::{Memory, ServerNo};
 use server_words::Link;
 use std::alloc::Global;
 use std::marker::Model;

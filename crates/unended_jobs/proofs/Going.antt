@@ -1,25 +1,9 @@
 -- Turns of unended jobs.
 use Rattle.std.proofs.Common.{◌≡◌, ℕ, ◌<◌, ◌^◌, true, length, sym, subst, ◌∙◌, refl, Some, IfSome}
-use Rattle.orch_base.specs.declared.server.Moment.{Moment}
-use Rattle.kept_rows.specs.declared.observation.Observation.{Observation}
-use Rattle.instance_keeper.specs.Book.{BookState}
-use Rattle.server_model.specs.Run.{AllAllowed}
-use Rattle.server_model.specs.Worlds.{World}
-use Rattle.operations.specs.Turns.{is_going}
-use Rattle.operations.proofs.Allowing.{turn-allowed}
-use Rattle.operations.proofs.Ending.{turn-moves}
-use Rattle.operations.proofs.Named.{id-after, named-after, range-after}
-use Rattle.recovery_plans.specs.Recoveries.{Recovery}
-use Rattle.recovery_plans.specs.Taking.{taken}
-use Rattle.recovery_plans.proofs.Allowed.{taken-allowed}
-use Rattle.recovery_plans.proofs.Naming.{renumbered, taken-of}
-use Rattle.recovery_ends.proofs.Ended.{taken-ends, taken-shaped}
-use Rattle.unended_jobs.specs.declared.docket.Docket.{Docket}
-use Rattle.unended_jobs.specs.declared.unended.Unended.{Unended}
-use Rattle.unended_jobs.specs.declared.unended.Unended.TheVariants as unended
-use Rattle.unended_jobs.specs.Hooked.{hooked, promoted_in}
-use Rattle.unended_jobs.specs.Unended.{IsReady, IsReadyRecovery, IsUnended, flown, number_of, turns_of}
-use Rattle.recovery_plans.proofs.Promoting.{taken-leads}
+use Rattle.unended_jobs.proofs.Prelude.{AllAllowed, BookState, Docket, IsReady, IsReadyRecovery, IsUnended, Moment, Observation, Recovery, Unended}
+use Rattle.unended_jobs.proofs.Prelude.{World, flown, hooked, id-after, is_going, named-after, number_of, promoted_in, range-after, renumbered, taken}
+use Rattle.unended_jobs.proofs.Prelude.{taken-allowed, taken-ends, taken-leads, taken-of, taken-shaped, turn-allowed, turn-moves, turns_of}
+use Rattle.unended_jobs.proofs.Prelude.unended
 use Rattle.unended_jobs.proofs.Hooked.{hooked-fewer, hooked-has}
 use Rattle.unended_jobs.proofs.Seeing.{IsSightOf, plan-sees, recovery-sees}
 

@@ -1,26 +1,15 @@
 -- Turns of recoveries with hooks, by those without.
 use Rattle.std.proofs.Common.{◌≡◌, ◌+◌, ◌-◌, ◌<◌, Bool, true, false, refl, sym, ◌∙◌, Option, Some, None, arith}
 use Rattle.std.specs.Prelude.{slice_get, if◌then◌else◌}
-use Rattle.std.specs.Option.{option_map}
-use Rattle.std.proofs.lemmas.Option.{slice_get_within}
-use Rattle.orch_base.specs.Names.{HostPort}
-use Rattle.hook_texts.specs.declared.hooks.Hook.{Hook}
-use Rattle.operations.specs.declared.step.JobStep.{JobStep}
-use Rattle.operations.specs.declared.step.JobStep.TheVariants as step
-use Rattle.operations.specs.Turns.{is_going}
-use Rattle.recovery_plans.specs.Recoveries.{Recovery}
-use Rattle.recovery_plans.specs.Taking.{Taken}
-use Rattle.recovery_ends.specs.Ends.{turns_to_end}
-use Rattle.recovery_hooks.specs.Runs.{checked, due_after, due_before, hooks_left, ran_after, ran_before, HookState}
-use Rattle.unended_jobs.specs.declared.docket.Docket.{Docket}
-use Rattle.unended_jobs.specs.Hooked.{front_hook, front_turn, left_of, quiet, rear_hook, rear_turn, step_before, step_with, with_hooks, Hooked}
+use Rattle.unended_jobs.proofs.Prelude.{Docket, Hook, Hooked, HookState, HostPort, JobStep, Recovery, Taken, checked, due_after, due_before}
+use Rattle.unended_jobs.proofs.Prelude.{front_hook, front_turn, hooks_left, is_going, left_of, option_map, quiet, ran_after, ran_before, rear_hook}
+use Rattle.unended_jobs.proofs.Prelude.{rear_turn, slice_get_within, step_before, step_with, turns_to_end, with_hooks}
+use Rattle.unended_jobs.proofs.Prelude.step
 
 -- whether it goes on stays
 pub step_with-going : (o : Option HookState) (promoted : Option HostPort) (s : JobStep) → is_going (step_with o promoted s) ≡ is_going s
-step_with-going None promoted s = refl
 step_with-going (Some h) promoted step.Going = refl
-step_with-going (Some h) promoted (step.Done lines) = refl
-step_with-going (Some h) promoted (step.Failed c lines) = refl
+step_with-going _ promoted _ = refl
 
 -- what holds of a recovery's own turn, whatever lines it tells, and of one in which nothing is done, holds with hooks
 module _ (P : Taken → Type 0) (d : Docket) (promoted : Option HostPort) (r : Recovery) (t : Taken) where
@@ -56,10 +45,8 @@ front-less None h e = absurd cc
 front-less (Some s) h e = less-before s h e
 
 rear-less : (o : Option HookState) (own : JobStep) (h : Hook) → rear_hook o own ≡ Some h → left_of (option_map ran_after o) < left_of o
-rear-less None own h e = absurd cc
-rear-less (Some s) step.Going h e = absurd cc
 rear-less (Some s) (step.Done lines) h e = less-after s h e
-rear-less (Some s) (step.Failed c lines) h e = absurd cc
+rear-less _ _ h e = absurd cc
 
 checked-left : (o : Option HookState) → left_of (option_map checked o) ≡ left_of o
 checked-left None = refl

@@ -1,4 +1,9 @@
+mod Prelude
 pub mod Seeing
 pub mod Hooked
 pub mod Looking
 pub mod Going
+pub mod RecoveryEnds
+pub mod RecoveryHooks
+pub mod RecoveryPlans
+pub use Rattle.recovery_plans.proofs.ServerModel as ServerModel

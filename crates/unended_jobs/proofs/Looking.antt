@@ -1,46 +1,27 @@
 -- What was looked up of a job, by the kind that it is, and what a turn that was looked up tells.
 use Rattle.std.proofs.Common.{◌≡◌, ◌∙◌, ℕ, ◌<◌, zero, suc, Bool, true, false, List, [], ◌∷◌, length, ap, refl, sym, Option, Some, None, arith}
 use Rattle.std.specs.Prelude.{is_some, slice_get, if◌then◌else◌}
-use Rattle.std.specs.Option.{option_map}
-use Rattle.commands.specs.declared.line.Line.{Line}
-use Rattle.operations.specs.declared.step.JobStep.TheVariants as step
-use Rattle.recovery_plans.specs.Recoveries.{Recovery}
-use Rattle.recovery_turns.specs.declared.look.RecoveryLook.{RecoveryLook}
-use Rattle.recovery_turns.specs.Looks.{after_step, foretold as recovery_foretold}
-use Rattle.recovery_turns.proofs.Purposes.{done-purpose}
-use Rattle.unended_jobs.specs.declared.look.UnendedLook.{UnendedLook}
-use Rattle.unended_jobs.specs.declared.look.UnendedLook.TheVariants as look
-use Rattle.unended_jobs.specs.declared.unended.Unended.{Unended}
-use Rattle.unended_jobs.specs.declared.unended.Unended.TheVariants as unended
-use Rattle.orch_base.specs.Names.{HostPort}
-use Rattle.operations.specs.declared.step.JobStep.{JobStep}
-use Rattle.hook_texts.specs.declared.hooks.Hook.{Hook}
-use Rattle.recovery_hooks.specs.Runs.{ran_after, HookState}
-use Rattle.recovery_plans.specs.Taking.{Taken}
-use Rattle.unended_jobs.specs.declared.look.Place.TheVariants as place
-use Rattle.recovery_turns.specs.declared.look.Then.{Then}
-use Rattle.recovery_turns.specs.Deciding.{decided_on}
-use Rattle.unended_jobs.specs.declared.docket.Docket.{Docket}
-use Rattle.unended_jobs.specs.Hooked.{front_hook, front_turn, own_turn, quiet, rear_hook, rear_turn, step_before, step_with, told_with, with_hooks, with_hooks_of, CanRun}
-use Rattle.unended_jobs.specs.Looks.{foretold, hooked_by, observation_of, step_of}
+use Rattle.unended_jobs.proofs.Prelude.{CanRun, Docket, Hook, HookState, HostPort, JobStep, Line, Recovery, RecoveryLook, Taken, Then, Unended}
+use Rattle.unended_jobs.proofs.Prelude.{UnendedLook, after_step, decided_on, done-purpose, foretold, front_hook, front_turn, hooked_by}
+use Rattle.unended_jobs.proofs.Prelude.{observation_of, option_map, own_turn, quiet, ran_after, rear_hook, rear_turn, step_before, step_of, step_with}
+use Rattle.unended_jobs.proofs.Prelude.{told_with, with_hooks, with_hooks_of}
+use Rattle.unended_jobs.proofs.Prelude.Looks.{foretold as recovery_foretold}
+use Rattle.unended_jobs.proofs.Prelude.look
+use Rattle.unended_jobs.proofs.Prelude.place
+use Rattle.unended_jobs.proofs.Prelude.step
+use Rattle.unended_jobs.proofs.Prelude.unended
 
 -- it tells what was looked up
 
 pub foretold-step : (u : Unended) (x : UnendedLook) → (foretold u x).step ≡ step_of x
 foretold-step (unended.Plan j) (look.Plan l) = refl
-foretold-step (unended.Plan j) (look.Recovery l) = refl
-foretold-step (unended.Plan j) (look.Hook s at) = refl
 foretold-step (unended.Recovery r docket) (look.Plan l) = refl
-foretold-step (unended.Recovery r docket) (look.Recovery l) = refl
-foretold-step (unended.Recovery r docket) (look.Hook s at) = refl
+foretold-step _ _ = refl
 
 pub foretold-observation : (u : Unended) (x : UnendedLook) → (foretold u x).observation ≡ observation_of x
 foretold-observation (unended.Plan j) (look.Plan l) = refl
-foretold-observation (unended.Plan j) (look.Recovery l) = refl
-foretold-observation (unended.Plan j) (look.Hook s at) = refl
 foretold-observation (unended.Recovery r docket) (look.Plan l) = refl
-foretold-observation (unended.Recovery r docket) (look.Recovery l) = refl
-foretold-observation (unended.Recovery r docket) (look.Hook s at) = refl
+foretold-observation _ _ = refl
 
 -- ---- the recovery after it
 
@@ -65,17 +46,13 @@ last-purpose r (look.Hook s at) lines is = refl
 
 -- whether it goes on, is done or fails stays
 after-same : (o : Option HookState) (promoted : Option HostPort) (r : Recovery) (s : JobStep) (what : Option Then) → after_step r (step_with o promoted s) what ≡ after_step r s what
-after-same None promoted r s what = refl
 after-same (Some h) promoted r step.Going what = refl
-after-same (Some h) promoted r (step.Done lines) what = refl
-after-same (Some h) promoted r (step.Failed c lines) what = refl
+after-same _ promoted r _ what = refl
 
 -- only where it is done the promoted server counts
 step-same : (o : Option HookState) (p q : Option HostPort) (s : JobStep) → ((lines : List Line) → s ≡ step.Done lines → q ≡ p) → step_with o q s ≡ step_with o p s
-step-same None p q s same = refl
-step-same (Some h) p q step.Going same = refl
 step-same (Some h) p q (step.Done lines) same = ap (λ (x : Option HostPort). told_with h x (step.Done lines)) (same lines refl)
-step-same (Some h) p q (step.Failed c lines) same = refl
+step-same _ p q _ same = refl
 
 pub own-foretold : (d : Docket) (p q : Option HostPort) (r : Recovery) (l m : RecoveryLook) → m ≡ record l { step = step_with d.hooks q l.step }
     → ((lines : List Line) → l.step ≡ step.Done lines → q ≡ p) → recovery_foretold r m ≡ (own_turn d p (recovery_foretold r l)).taken

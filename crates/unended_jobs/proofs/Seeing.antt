@@ -1,40 +1,16 @@
 -- What a turn observes is a status of a server that is there.
 use Rattle.std.proofs.Common.{◌≡◌, ℕ, ◌+◌, ◌<◌, Bool, true, false, List, [], ◌∷◌, length, refl, sym, ◌∙◌, subst, Option, Some, None, Ok, Err, Result, arith}
 use Rattle.std.specs.Prelude.{All, IfSome, nat_lt, if◌then◌else◌}
-use Rattle.std.proofs.lemmas.Bool.{and_parts}
-use Rattle.std.proofs.lemmas.List.Elements.{All-head}
-use Rattle.binlog_coords.specs.declared.Coord.{Coord}
-use Rattle.orch_base.specs.declared.server.Moment.{Moment}
-use Rattle.orch_base.specs.declared.server.ServerNo.{ServerNo}
-use Rattle.kept_rows.specs.declared.observation.Observation.{Observation}
-use Rattle.instance_keeper.specs.Book.{BookState}
-use Rattle.kept_rows.specs.Seeing.{seen_in}
-use Rattle.server_words.specs.declared.answers.Unreachable.{Unreachable}
-use Rattle.server_words.specs.declared.attach.AttachFault.{AttachFault}
-use Rattle.server_words.specs.declared.attach.Spot.{Spot}
-use Rattle.server_words.specs.declared.changes.Ask.{Ask}
-use Rattle.server_words.specs.declared.changes.Ask.TheVariants as asking
-use Rattle.server_words.specs.declared.status.Status.{Status}
-use Rattle.server_model.specs.Desk.{desk_answer}
-use Rattle.server_model.specs.Gtids.{status}
-use Rattle.server_model.specs.Run.{Exchange}
-use Rattle.server_model.specs.Worlds.{World, server_at}
-use Rattle.commands.specs.declared.cause.Cause.TheVariants as cause
-use Rattle.operations.specs.declared.matching.MatchFault.{MatchFault}
-use Rattle.operations.specs.declared.op.Op.{Op}
-use Rattle.operations.specs.Deeds as deed
-use Rattle.operations.specs.Deeds.{Deed, deed_of}
-use Rattle.operations.specs.Jobs.{Job, match_found, seen_of}
-use Rattle.operations.specs.Named.{are_named, is_named}
-use Rattle.operations.specs.Matching.{match_logs, standing_at}
-use Rattle.operations.specs.Targets.{can_attach}
-use Rattle.operations.specs.Turns.{bridge_at, Attempt, Goes, Stops, after_answer, after_ask, after_attach, after_look, after_status, after_until, after_wait, after_wait_by, aim_of, attach_answer_of, by_deed, by_ops, by_set, after_match, by_match, crossed, holds_seen, is_moved, is_reached, next, observed, read_by, same_again, saw, settled, settles, turned, until_by}
-use Rattle.recovery_plans.specs.Deciding.{decided, ground_of}
-use Rattle.recovery_plans.specs.Named.{IsNamedRecovery, IsOpOf, spoken_to}
-use Rattle.recovery_plans.specs.Recoveries.{Recovery}
-use Rattle.recovery_plans.specs.Taking.{acted, taken}
-use Rattle.recovery_plans.proofs.Naming.{decided-of}
-use Rattle.recovery_ends.proofs.Observing.{attempted-observes}
+use Rattle.unended_jobs.proofs.Prelude.{All-head, Ask, AttachFault, Attempt, BookState, Coord, Deed, Exchange, Goes, IsNamedRecovery, IsOpOf, Job}
+use Rattle.unended_jobs.proofs.Prelude.{MatchFault, Moment, Observation, Op, Recovery, ServerNo, Spot, Status, Stops, Unreachable, World, acted}
+use Rattle.unended_jobs.proofs.Prelude.{after_answer, after_ask, after_attach, after_look, after_match, after_status, after_until, after_wait}
+use Rattle.unended_jobs.proofs.Prelude.{after_wait_by, aim_of, and_parts, are_named, attach_answer_of, attempted-observes, bridge_at, by_deed}
+use Rattle.unended_jobs.proofs.Prelude.{by_match, by_ops, by_set, can_attach, crossed, decided, decided-of, deed_of, desk_answer, ground_of}
+use Rattle.unended_jobs.proofs.Prelude.{holds_seen, is_moved, is_named, is_reached, match_found, match_logs, next, observed, read_by, same_again, saw}
+use Rattle.unended_jobs.proofs.Prelude.{seen_in, seen_of, server_at, settled, settles, spoken_to, standing_at, status, taken, turned, until_by}
+use Rattle.unended_jobs.proofs.Prelude.asking
+use Rattle.unended_jobs.proofs.Prelude.cause
+use Rattle.unended_jobs.proofs.Prelude.deed
 
 abbrev pub IsSightOf : World → ℕ → Moment → Observation → Type 0
 IsSightOf w read now o = (n : ServerNo) × (o ≡ observed w read now n) × (n.0 < length w.servers)

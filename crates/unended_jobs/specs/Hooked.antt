@@ -1,18 +1,9 @@
 -- The turn of a recovery with hooks: a hook's turn, or its own (orchestrator's documentation, "Recovery hooks").
 use Rattle.std.specs.Prelude.{ℕ, ◌+◌, ◌<◌, ◌==◌, ◌++◌, [], length, slice_get, if◌then◌else◌, Option, None, Some}
-use Rattle.std.specs.Option.{option_map}
-use Rattle.orch_base.specs.Names.{HostPort}
-use Rattle.orch_base.specs.declared.server.Moment.{Moment}
-use Rattle.orch_base.specs.declared.server.ServerNo.{ServerNo}
-use Rattle.commands.specs.declared.cause.Cause.TheVariants as cause
-use Rattle.hook_texts.specs.declared.hooks.Hook.{Hook}
-use Rattle.instance_keeper.specs.Book.{BookState}
-use Rattle.server_model.specs.Worlds.{World}
-use Rattle.operations.specs.declared.step.JobStep.{JobStep}
-use Rattle.operations.specs.declared.step.JobStep.TheVariants as step
-use Rattle.recovery_plans.specs.Recoveries.{Recovery}
-use Rattle.recovery_plans.specs.Taking.{Taken, taken}
-use Rattle.recovery_hooks.specs.Runs.{checked, done_lines, due_after, due_before, failed_lines, hooks_left, ran_after, ran_before, HookState}
+use Rattle.unended_jobs.specs.Prelude.{BookState, Hook, HookState, HostPort, JobStep, Moment, Recovery, ServerNo, Taken, World, checked, done_lines}
+use Rattle.unended_jobs.specs.Prelude.{due_after, due_before, failed_lines, hooks_left, option_map, ran_after, ran_before, taken}
+use Rattle.unended_jobs.specs.Prelude.cause
+use Rattle.unended_jobs.specs.Prelude.step
 use Rattle.unended_jobs.specs.declared.docket.Docket.{Docket}
 use Rattle.unended_jobs.specs.declared.look.Place.{Place}
 use Rattle.unended_jobs.specs.declared.look.Place.TheVariants as place

@@ -1,16 +1,11 @@
 -- What a turn is to do, as it was looked up before it.
 use Rattle.std.specs.Prelude.{[], Option, None}
-use Rattle.server_model.specs.Worlds.{World}
-use Rattle.operations.specs.declared.step.JobStep.{JobStep}
-use Rattle.kept_rows.specs.declared.observation.Observation.{Observation}
-use Rattle.job_plans.specs.Acts.{CanTurn, foretold as plan_foretold}
-use Rattle.recovery_turns.specs.Looks.{CanTake, foretold as recovery_foretold}
+use Rattle.unended_jobs.specs.Prelude.{CanTake, CanTurn, JobStep, Observation, Recovery, World, checked, foretold as recovery_foretold}
+use Rattle.unended_jobs.specs.Prelude.Acts.{foretold as plan_foretold}
 use Rattle.unended_jobs.specs.declared.unended.Unended.{Unended}
 use Rattle.unended_jobs.specs.declared.unended.Unended.TheVariants as unended
 use Rattle.unended_jobs.specs.declared.look.UnendedLook.{UnendedLook}
 use Rattle.unended_jobs.specs.declared.look.UnendedLook.TheVariants as look
-use Rattle.recovery_plans.specs.Recoveries.{Recovery}
-use Rattle.recovery_hooks.specs.Runs.{checked}
 use Rattle.unended_jobs.specs.declared.docket.Docket.{Docket}
 use Rattle.unended_jobs.specs.Hooked.{after_place, quiet, with_hooks_of, CanRun, Hooked}
 use Rattle.unended_jobs.specs.Unended.{Flown, by_plan, by_recovery}

@@ -1,18 +1,7 @@
 -- Unended jobs of both kinds, and what a turn of one does.
 use Rattle.std.specs.Prelude.{◌<◌, ◌≤◌, ◌+◌, ◌^◌, ℕ, List, Option, IfSome}
-use Rattle.orch_base.specs.declared.server.Moment.{Moment}
-use Rattle.kept_rows.specs.declared.observation.Observation.{Observation}
-use Rattle.instance_keeper.specs.Book.{BookState}
-use Rattle.server_model.specs.Run.{Exchange}
-use Rattle.server_model.specs.Worlds.{World}
-use Rattle.operations.specs.declared.step.JobStep.{JobStep}
-use Rattle.operations.specs.Ending.{turns_left}
-use Rattle.operations.specs.Jobs.{Job}
-use Rattle.operations.specs.Named.{IsInRange, IsNamed}
-use Rattle.operations.specs.Turns.{Turned, turned}
-use Rattle.recovery_plans.specs.Named.{IsNamedRecovery}
-use Rattle.recovery_plans.specs.Recoveries.{Recovery}
-use Rattle.recovery_ends.specs.Ends.{IsShaped, turns_to_end}
+use Rattle.unended_jobs.specs.Prelude.{BookState, Exchange, IsInRange, IsNamed, IsNamedRecovery, IsShaped, Job, JobStep, Moment, Observation}
+use Rattle.unended_jobs.specs.Prelude.{Recovery, Turned, World, turned, turns_left, turns_to_end}
 use Rattle.unended_jobs.specs.Hooked.{hooked, left_of, Hooked}
 use Rattle.unended_jobs.specs.declared.unended.Unended.{Unended}
 use Rattle.unended_jobs.specs.declared.unended.Unended.TheVariants as unended

@@ -1,14 +1,13 @@
 //! What goes with a recovery.
 
 ghost use Rattle.std.specs.Prelude.{◌≡◌, IfOk, is_some};
-ghost use Rattle.std.specs.Option.{option_copied, option_map};
-ghost use Rattle.recovery_hooks.specs.Runs.{checked};
+ghost use Rattle.unended_jobs.specs.Prelude.{checked, option_copied, option_map};
 ghost use Rattle.unended_jobs.specs.Hooked.{after_place, front_hook, no_docket, rear_hook, step_before, step_with, told_with, with_hooks_of, CanRun};
 
+use crate::commands::Cause;
+use crate::operations_items::JobStep;
+use crate::orch_base::Name;
 use crate::{Memory, Place};
-use commands::Cause;
-use operations::JobStep;
-use orch_base::Name;
 use recovery_hooks::HookRun;
 use std::alloc::Global;
 

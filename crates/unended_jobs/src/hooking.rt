@@ -1,21 +1,18 @@
 //! How the turn of a recovery with hooks is looked up.
 
 ghost use Rattle.std.specs.Prelude.{◌≡◌, IfOk, length};
-ghost use Rattle.std.specs.Option.{option_copied};
-ghost use Rattle.recovery_plans.specs.Recoveries.{Recovery as ARecovery};
-ghost use Rattle.recovery_turns.specs.Looks.{foretold, CanTake};
-ghost use Rattle.server_model.specs.Worlds.{World as AWorld};
+ghost use Rattle.unended_jobs.specs.Prelude.{CanTake, Recovery as ARecovery, World as AWorld, foretold, option_copied};
 ghost use Rattle.unended_jobs.specs.Hooked.{hooked, name_of, own_turn, promoted_in};
 ghost use Rattle.unended_jobs.specs.Looks.{hooked_by, CanGo};
 ghost use Rattle.unended_jobs.specs.Unended.{IsReadyRecovery};
 ghost use Rattle.unended_jobs.specs.declared.unended.Unended.TheVariants as unended;
 
+use crate::instance_keeper_items::Book;
+use crate::operations_items::JobStep;
+use crate::orch_base::{Moment, Name, ServerNo};
+use crate::server_model::World;
 use crate::{Docket, Memory, Place, UnendedLook};
-use instance_keeper::Book;
-use operations::JobStep;
-use orch_base::{Moment, Name, ServerNo};
 use recovery_turns::{RecoveryJob, RecoveryLook};
-use server_model::World;
 use std::alloc::Global;
 use std::mem::replace;
 

@@ -1,15 +1,8 @@
 //! What a turn leaves of what the next one requires.
 
 ghost use Rattle.std.specs.Prelude.{◌≡◌, ◌<◌, ℕ, IfSome, Some, length, true};
-ghost use Rattle.orch_base.specs.declared.server.Moment.{Moment as AMoment};
-ghost use Rattle.orch_base.specs.declared.server.ServerNo.{ServerNo as Number};
-ghost use Rattle.kept_rows.specs.declared.observation.Observation.{Observation as Reading};
-ghost use Rattle.instance_keeper.specs.Book.{BookState};
-ghost use Rattle.server_model.specs.Run.{AllAllowed};
-ghost use Rattle.server_model.specs.Worlds.{World};
-ghost use Rattle.operations.specs.Turns.{is_going, observed};
-ghost use Rattle.recovery_plans.specs.Recoveries.{Recovery};
-ghost use Rattle.recovery_plans.specs.Taking.{taken};
+ghost use Rattle.unended_jobs.specs.Prelude.{AllAllowed, BookState, Moment as AMoment, Observation as Reading, Recovery, ServerNo as Number, World};
+ghost use Rattle.unended_jobs.specs.Prelude.{is_going, observed, taken};
 ghost use Rattle.unended_jobs.specs.declared.unended.Unended.{Unended as AnUnended};
 ghost use Rattle.unended_jobs.specs.Unended.{IsReady, IsReadyRecovery, IsUnended, flown, number_of, turns_of};
 

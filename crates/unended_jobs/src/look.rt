@@ -1,12 +1,12 @@
 //! What the next turn of a job does.
 
 ghost use Rattle.std.specs.Prelude.{◌≡◌};
-ghost use Rattle.std.specs.Option.{option_copied};
+ghost use Rattle.unended_jobs.specs.Prelude.{option_copied};
 ghost use Rattle.unended_jobs.specs.Looks.{observation_of, step_of};
 
-use instance_keeper::Observation;
+use crate::instance_keeper_items::Observation;
+use crate::operations_items::JobStep;
 use job_plans::Look;
-use operations::JobStep;
 use recovery_turns::RecoveryLook;
 
 /// When a hook of a recovery runs.

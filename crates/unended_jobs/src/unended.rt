@@ -1,18 +1,18 @@
 //! A job that isn't ended.
 
 ghost use Rattle.std.specs.Prelude.{◌≡◌, IfOk, None, OnErr, OnOk, length};
-ghost use Rattle.server_model.specs.Run.{run};
+ghost use Rattle.unended_jobs.specs.Prelude.{run};
 ghost use Rattle.unended_jobs.specs.Looks.{CanGo, foretold, observation_of, step_of};
 ghost use Rattle.unended_jobs.specs.Unended.{IsReady, flown, number_of};
 
 use crate::hooking::look_with_hooks;
+use crate::instance_keeper_items::{Book, Observation};
+use crate::operations_items::JobStep;
+use crate::orch_base::Moment;
+use crate::server_model::World;
 use crate::{Docket, Memory, UnendedLook};
-use instance_keeper::{Book, Observation};
 use job_plans::Job;
-use operations::JobStep;
-use orch_base::Moment;
 use recovery_turns::RecoveryJob;
-use server_model::World;
 use std::alloc::Global;
 
 /// A job that isn't ended.

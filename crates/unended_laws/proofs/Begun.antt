@@ -1,31 +1,12 @@
 -- An unended job that begins leaves all held and sound, itself too.
 use Rattle.std.proofs.Common.{◌∙◌, ℕ, Bool, List, [], ◌∷◌, ◌++◌, cond, sym, ap, Some}
 use Rattle.std.specs.Prelude.{All}
-use Rattle.std.proofs.lemmas.List.Elements.{All-push, All-weaker}
-use Rattle.orch_base.specs.declared.server.ServerNo.{ServerNo}
-use Rattle.server_model.specs.Worlds.{World}
-use Rattle.operations.specs.Jobs.{Job}
-use Rattle.job_laws.specs.Flights.{Flight, leased_to}
-use Rattle.job_laws.specs.Leases.{IsLeased, Leases}
-use Rattle.job_laws.specs.Passages as pass
-use Rattle.job_laws.specs.Passages.{MayPass, passed}
-use Rattle.job_laws.proofs.Begun.{Sound-begun}
-use Rattle.job_laws.proofs.Passages.{Held-passed}
-use Rattle.recovery_plans.specs.declared.means.Means.{Means}
-use Rattle.recovery_plans.specs.declared.purpose.Purpose.{Purpose}
-use Rattle.recovery_plans.specs.declared.purpose.Purpose.TheVariants as purpose
-use Rattle.recovery_plans.specs.Beginning.{begun_recovery}
-use Rattle.recovery_plans.specs.Named.{IsListOf}
-use Rattle.recovery_laws.specs.LeasedRecoveries.{IsAny, IsLeasedList}
-use Rattle.recovery_laws.proofs.Begun.{begun-held, begun-sound}
-use Rattle.recovery_laws.proofs.Leasing.{begun-leased}
-use Rattle.unended_jobs.specs.declared.docket.Docket.{Docket}
-use Rattle.unended_jobs.specs.declared.unended.Unended.{Unended}
-use Rattle.unended_jobs.specs.declared.unended.Unended.TheVariants as unended
-use Rattle.unended_jobs.specs.Unended.{core_of, number_of}
-use Rattle.unended_laws.specs.Beside.{IsHeldBeside, IsSoundBeside}
-use Rattle.unended_laws.specs.Flights.{HeldJobs, SoundJobs}
-use Rattle.unended_laws.specs.Passages.{IsListed}
+use Rattle.unended_laws.proofs.Prelude.{All-push, All-weaker, Docket, Flight, Held-passed, HeldJobs, IsAny, IsHeldBeside, IsLeased, IsLeasedList}
+use Rattle.unended_laws.proofs.Prelude.{IsListed, IsListOf, IsSoundBeside, Job, Leases, MayPass, Means, Purpose, ServerNo, Sound-begun, SoundJobs}
+use Rattle.unended_laws.proofs.Prelude.{Unended, World, begun-held, begun-leased, begun-sound, begun_recovery, core_of, leased_to, number_of, passed}
+use Rattle.unended_laws.proofs.Prelude.pass
+use Rattle.unended_laws.proofs.Prelude.purpose
+use Rattle.unended_laws.proofs.Prelude.unended
 use Rattle.unended_laws.proofs.Cores.{cores-joined}
 use Rattle.unended_laws.proofs.Beside.{all-held, all-sound}
 
@@ -55,10 +36,8 @@ listed-leased : (l : Leases) (list : List ServerNo) (id n : ℕ) → IsListed li
 listed-leased l list id n h = ap (λ (b : Bool). cond b (Some id) (l n)) h
 
 listed-of : (l : Leases) (list : List ServerNo) (id : ℕ) (u : Purpose) (f : ServerNo) → IsListOf (IsListed list) IsAny u f → IsLeasedList (leased_to l list id) id u f
-listed-of l list id purpose.Regroup f h = h
-listed-of l list id purpose.Master f h = h
-listed-of l list id (purpose.Intermediate s) f h = h
 listed-of l list id (purpose.Takeover d) f h = (listed-leased l list id f.0 h.0, listed-leased l list id d.0 h.1)
+listed-of l list id _ f h = h
 
 -- its replicas are of the list, and in a takeover the master and the replica that is to take its place
 pub recovery-held : (w : World) (l : Leases) (list : List ServerNo) (u : Purpose) (by : Means) (id wait : ℕ) (f : ServerNo) (replicas order : List ServerNo) (docket : Docket)

@@ -1,29 +1,13 @@
 -- What is no turn of theirs leaves unended jobs held and sound.
 use Rattle.std.proofs.Common.{◌≡◌, ◌∙◌, ℕ, Bool, true, false, List, [], length, refl, Option, Some, None}
 use Rattle.std.specs.Prelude.{All}
-use Rattle.std.proofs.lemmas.List.Elements.{All-nil, All-weaker}
-use Rattle.orch_base.specs.declared.server.Moment.{Moment}
-use Rattle.kept_rows.specs.declared.observation.Observation.{Observation}
-use Rattle.instance_keeper.specs.Bridges.{bridge_in}
-use Rattle.server_model.specs.Safe.{IsQuiet}
-use Rattle.operations.specs.Jobs.{Job}
-use Rattle.operations.specs.Turns.{observed, turned}
-use Rattle.job_laws.specs.Flights.{Flight, Held, after_turn}
-use Rattle.job_laws.specs.Leases.{job_at}
-use Rattle.job_laws.specs.Passages as pass
-use Rattle.job_laws.specs.Passages.{MayPass, Passage, PassesWell, passed, slot_of, stored_if, turned_by}
-use Rattle.job_laws.proofs.Passages.{Held-passed, Sound-passed}
-use Rattle.job_laws.proofs.Passing.{Sound-restarted}
-use Rattle.recovery_laws.specs.Rings.{AreOwn}
-use Rattle.recovery_laws.specs.Staying.{Spares}
-use Rattle.recovery_laws.proofs.Beside.{passage-held, passage-leased, passage-sound}
-use Rattle.recovery_laws.proofs.Ringed.{forgotten-own, fresh-own, kept-own, shown-own}
-use Rattle.unended_jobs.specs.declared.unended.Unended.{Unended}
-use Rattle.unended_jobs.specs.declared.unended.Unended.TheVariants as unended
-use Rattle.unended_jobs.specs.Unended.{number_of}
-use Rattle.unended_laws.specs.Beside.{IsHeldBeside, IsSoundBeside}
-use Rattle.unended_laws.specs.Flights.{HeldJobs, SoundJobs}
-use Rattle.unended_laws.specs.Passages.{IsApart}
+use Rattle.unended_laws.proofs.Prelude.{All-nil, All-weaker, AreOwn, Flight, Held, Held-passed, HeldJobs, IsApart, IsHeldBeside, IsQuiet}
+use Rattle.unended_laws.proofs.Prelude.{IsSoundBeside, Job, MayPass, Moment, Observation, Passage, PassesWell, Sound-passed, Sound-restarted}
+use Rattle.unended_laws.proofs.Prelude.{SoundJobs, Spares, Unended, after_turn, bridge_in, forgotten-own, fresh-own, job_at, kept-own, number_of}
+use Rattle.unended_laws.proofs.Prelude.{observed, passage-held, passage-leased, passage-sound, passed, shown-own, slot_of, stored_if, turned}
+use Rattle.unended_laws.proofs.Prelude.{turned_by}
+use Rattle.unended_laws.proofs.Prelude.pass
+use Rattle.unended_laws.proofs.Prelude.unended
 
 -- ---- one that isn't the passage's stays
 
@@ -55,15 +39,13 @@ turned-own f id read now keeps None own = own
 turned-own f id read now keeps (Some j) own = stored-own keeps (after_turn f id (turned f.world read now j)) (turned f.world read now j).observation own
 
 pub passage-own : (f : Flight) (p : Passage) → AreOwn f.rings → AreOwn (passed f p).rings
-passage-own f (pass.Exchanging e) own = own
-passage-own f (pass.Polling p n read now) own = own
 passage-own f (pass.Storing p keeps) own = stored-own keeps f (slot_of f p) own
 passage-own f (pass.Discovering n read now) own = stored-own true f (Some (observed f.world read now n)) own
 passage-own f (pass.Forgetting n) own = forgotten-own f.rings n own
 passage-own f pass.Restarting own = fresh-own (length f.rings)
-passage-own f (pass.Beginning list j) own = own
 passage-own f (pass.Turning id read now keeps) own = turned-own f id read now keeps (job_at f.jobs id) own
 passage-own f (pass.Taking id t keeps) own = stored-own keeps (after_turn f id t) t.observation own
+passage-own f _ own = own
 
 -- ---- what is no job's
 
@@ -73,38 +55,27 @@ jobs-stored_if true f (Some o) = refl
 jobs-stored_if false f (Some o) = refl
 
 apart-jobs : (f : Flight) (p : Passage) → IsApart p → (passed f p).jobs ≡ f.jobs
-apart-jobs f (pass.Exchanging e) apart = refl
-apart-jobs f (pass.Polling p n read now) apart = refl
 apart-jobs f (pass.Storing p keeps) apart = jobs-stored_if keeps f (slot_of f p)
-apart-jobs f (pass.Discovering n read now) apart = refl
-apart-jobs f (pass.Forgetting n) apart = refl
 apart-jobs f pass.Restarting apart = absurd apart
 apart-jobs f (pass.Beginning list j) apart = absurd apart
 apart-jobs f (pass.Turning id read now keeps) apart = absurd apart
 apart-jobs f (pass.Taking id t keeps) apart = absurd apart
+apart-jobs f _ apart = refl
 
 apart-spares : (p : Passage) (id : ℕ) → IsApart p → Spares id p
-apart-spares (pass.Exchanging e) id apart = tt
-apart-spares (pass.Polling p n read now) id apart = tt
-apart-spares (pass.Storing p keeps) id apart = tt
-apart-spares (pass.Discovering n read now) id apart = tt
-apart-spares (pass.Forgetting n) id apart = tt
 apart-spares pass.Restarting id apart = apart
 apart-spares (pass.Beginning list j) id apart = absurd apart
 apart-spares (pass.Turning k read now keeps) id apart = absurd apart
 apart-spares (pass.Taking k t keeps) id apart = absurd apart
+apart-spares _ id apart = tt
 
 -- it owes a sound flight nothing more
 pub apart-well : (f : Flight) (p : Passage) → IsApart p → PassesWell f p
-apart-well f (pass.Exchanging e) apart = tt
-apart-well f (pass.Polling p n read now) apart = tt
-apart-well f (pass.Storing p keeps) apart = tt
-apart-well f (pass.Discovering n read now) apart = tt
-apart-well f (pass.Forgetting n) apart = tt
 apart-well f pass.Restarting apart = absurd apart
 apart-well f (pass.Beginning list j) apart = absurd apart
 apart-well f (pass.Turning id read now keeps) apart = absurd apart
 apart-well f (pass.Taking id t keeps) apart = absurd apart
+apart-well f _ apart = tt
 
 pub apart-held : (f : Flight) (us : List Unended) (p : Passage) → MayPass f p → IsApart p → HeldJobs f us → HeldJobs (passed f p) us
 apart-held f us p may apart held = record {

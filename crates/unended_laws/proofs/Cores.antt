@@ -1,13 +1,9 @@
 -- The jobs of a flight are the cores of unended jobs.
 use Rattle.std.proofs.Common.{◌≡◌, ℕ, Bool, true, false, List, [], ◌∷◌, ◌++◌, refl, ap, Some}
 use Rattle.std.specs.Prelude.{map, not, if◌then◌else◌, ◌==◌}
-use Rattle.std.specs.Option.{option_map}
-use Rattle.operations.specs.Jobs.{Job}
-use Rattle.job_laws.specs.Flights.{replaced, without_job as without_core}
-use Rattle.job_laws.specs.Leases.{job_at as core_at}
-use Rattle.unended_jobs.specs.declared.unended.Unended.{Unended}
-use Rattle.unended_jobs.specs.Unended.{core_of, number_of}
-use Rattle.jobs_in_flight.specs.Jobs.{job_at, with_job, without_job}
+use Rattle.unended_laws.proofs.Prelude.{Job, Unended, core_of, job_at as core_at, number_of, option_map, replaced, with_job}
+use Rattle.unended_laws.proofs.Prelude.{without_job as without_core}
+use Rattle.unended_laws.proofs.Prelude.Jobs.{job_at, without_job}
 
 pub cores-replaced : (js : List Unended) (id : ℕ) (u : Unended) → map core_of (with_job js id u) ≡ replaced (map core_of js) id (core_of u)
 cores-replaced [] id u = refl

@@ -1,21 +1,8 @@
 -- A turn of a recovery with hooks passes as one without does.
 use Rattle.std.proofs.Common.{◌≡◌, ℕ, Bool, true, false, refl, sym, subst}
-use Rattle.std.proofs.lemmas.List.Elements.{All-nil, All-weaker}
-use Rattle.operations.specs.declared.step.JobStep.{JobStep}
-use Rattle.operations.specs.Changes.{server_of}
-use Rattle.operations.specs.Turns.{is_going}
-use Rattle.job_laws.specs.Flights.{Flight}
-use Rattle.job_laws.specs.Leases.{IsLeased, MayChange}
-use Rattle.job_laws.specs.Matched.{IsPlaced, Meets}
-use Rattle.job_laws.specs.Passages.{MayTake, TakesWell}
-use Rattle.recovery_plans.specs.Named.{IsOpOf}
-use Rattle.recovery_plans.specs.Recoveries.{Recovery}
-use Rattle.recovery_plans.specs.Taking.{Taken}
-use Rattle.recovery_laws.specs.HeldRecoveries.{HeldRecovery}
-use Rattle.recovery_laws.specs.LeasedRecoveries.{IsAny, LeasedRecovery}
-use Rattle.recovery_laws.specs.Passing.{as_turn, core_by}
-use Rattle.recovery_laws.specs.SoundRecoveries.{SoundRecovery}
-use Rattle.unended_jobs.specs.Hooked.{quiet}
+use Rattle.unended_laws.proofs.Prelude.{All-nil, All-weaker, Flight, HeldRecovery, IsAny, IsLeased, IsOpOf, IsPlaced, JobStep, LeasedRecovery}
+use Rattle.unended_laws.proofs.Prelude.{MayChange, MayTake, Meets, Recovery, SoundRecovery, Taken, TakesWell, as_turn, core_by, is_going, quiet}
+use Rattle.unended_laws.proofs.Prelude.{server_of}
 
 -- ---- whatever lines its own turn tells
 

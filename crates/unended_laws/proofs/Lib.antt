@@ -1,3 +1,4 @@
+mod Prelude
 pub mod Hooked
 pub mod Cores
 pub mod Beside

@@ -1,47 +1,17 @@
 -- The turn of an unended job leaves all held and sound.
 use Rattle.std.proofs.Common.{◌≡◌, ◌∙◌, ℕ, Bool, true, false, List, [], ◌∷◌, cond, refl, sym, ap, subst, Option, Some, None}
 use Rattle.std.specs.Prelude.{All, ◌==◌, not, map, if◌then◌else◌}
-use Rattle.std.specs.Option.{option_map}
-use Rattle.std.proofs.lemmas.Bool.{eq-eqb, false≢true}
-use Rattle.std.proofs.lemmas.List.Elements.{All-cons, All-head, All-nil, All-tail}
-use Rattle.orch_base.specs.declared.server.Moment.{Moment}
-use Rattle.instance_keeper.specs.declared.bridge.Bridge.{Bridge}
-use Rattle.kept_rows.specs.declared.observation.Observation.{Observation}
-use Rattle.instance_keeper.specs.Book.{BookState}
-use Rattle.server_model.specs.Run.{run}
-use Rattle.server_model.specs.Safe.{IsQuiet}
-use Rattle.server_model.specs.Worlds.{World}
-use Rattle.operations.specs.Jobs.{Job}
-use Rattle.operations.specs.Turns.{is_going, turned}
-use Rattle.job_laws.specs.Flights.{Flight, StandsIn, after_turn, replaced, without_job as without_core, without_leases}
-use Rattle.job_laws.specs.Held.{Spans}
-use Rattle.job_laws.specs.Leases.{Leases, job_at as core_at}
-use Rattle.job_laws.specs.Passages as pass
-use Rattle.job_laws.specs.Passages.{AllMayPass, AllPassWell, MayPass, MayTake, PassesWell, TakesWell, passed, passing, turned_by}
-use Rattle.job_laws.proofs.Lists.{All-find}
-use Rattle.job_laws.proofs.Passages.{Held-passed, Sound-passed, leases-stored_if, world-stored_if}
-use Rattle.recovery_plans.specs.Recoveries.{Recovery}
-use Rattle.recovery_plans.specs.Taking.{Taken, taken}
-use Rattle.recovery_laws.specs.HeldRecoveries.{HeldRecovery}
-use Rattle.recovery_laws.specs.LeasedRecoveries.{LeasedRecovery}
-use Rattle.recovery_laws.specs.Passing.{as_turn, core_by}
-use Rattle.recovery_laws.specs.Rings.{AreOwn, HeldRings, SoundRings}
-use Rattle.recovery_laws.specs.SoundRecoveries.{SoundRecovery}
-use Rattle.recovery_laws.specs.Staying.{Spares}
-use Rattle.recovery_laws.proofs.Leasing.{taken-leased}
-use Rattle.recovery_laws.proofs.Passing.{recovery-passes, recovery-passes-well}
-use Rattle.recovery_laws.proofs.Sounding.{taken-sound}
-use Rattle.recovery_laws.proofs.Taking.{taken-held}
-use Rattle.unended_jobs.specs.declared.unended.Unended.{Unended}
-use Rattle.unended_jobs.specs.declared.unended.Unended.TheVariants as unended
-use Rattle.unended_jobs.specs.Hooked.{hooked, promoted_in}
-use Rattle.unended_jobs.specs.Unended.{Flown, core_of, flown, number_of}
-use Rattle.unended_jobs.proofs.Hooked.{hooked-has}
-use Rattle.jobs_in_flight.specs.Jobs.{job_at, jobs_turned, with_job, without_job}
-use Rattle.jobs_in_flight.proofs.Numbers.{found-number}
-use Rattle.unended_laws.specs.Beside.{IsHeldBeside, IsSoundBeside}
-use Rattle.unended_laws.specs.Flights.{HeldJobs, SoundJobs}
-use Rattle.unended_laws.specs.Passages.{passage_of, passages_by}
+use Rattle.unended_laws.proofs.Prelude.{All-cons, All-find, All-head, All-nil, All-tail, AllMayPass, AllPassWell, AreOwn, BookState, Bridge, Flight}
+use Rattle.unended_laws.proofs.Prelude.{Flown, Held-passed, HeldJobs, HeldRecovery, HeldRings, IsHeldBeside, IsQuiet, IsSoundBeside, Job}
+use Rattle.unended_laws.proofs.Prelude.{LeasedRecovery, Leases, MayPass, MayTake, Moment, Observation, PassesWell, Recovery, Sound-passed, SoundJobs}
+use Rattle.unended_laws.proofs.Prelude.{SoundRecovery, SoundRings, Spans, Spares, StandsIn, Taken, TakesWell, Unended, World, after_turn, as_turn}
+use Rattle.unended_laws.proofs.Prelude.{core_by, core_of, eq-eqb, false≢true, flown, found-number, hooked, hooked-has, is_going, job_at as core_at}
+use Rattle.unended_laws.proofs.Prelude.{jobs_turned, leases-stored_if, number_of, option_map, passage_of, passages_by, passed, passing, promoted_in}
+use Rattle.unended_laws.proofs.Prelude.{recovery-passes, recovery-passes-well, replaced, run, taken, taken-held, taken-leased, taken-sound, turned}
+use Rattle.unended_laws.proofs.Prelude.{turned_by, with_job, without_job as without_core, without_leases, world-stored_if}
+use Rattle.unended_laws.proofs.Prelude.Jobs.{job_at, without_job}
+use Rattle.unended_laws.proofs.Prelude.pass
+use Rattle.unended_laws.proofs.Prelude.unended
 use Rattle.unended_laws.proofs.Hooked.{own-may, own-well, quiet-may, quiet-well}
 use Rattle.unended_laws.proofs.Cores.{core-found, cores-replaced, cores-without}
 use Rattle.unended_laws.proofs.Beside.{beside-held, beside-sound, jobs-stored_if, passage-own}

@@ -1,11 +1,6 @@
 -- What holds of an unended job beside the flight that has its core.
-use Rattle.server_model.specs.Worlds.{World}
-use Rattle.job_laws.specs.Leases.{Leases}
-use Rattle.recovery_laws.specs.HeldRecoveries.{HeldRecovery}
-use Rattle.recovery_laws.specs.LeasedRecoveries.{LeasedRecovery}
-use Rattle.recovery_laws.specs.SoundRecoveries.{SoundRecovery}
-use Rattle.unended_jobs.specs.declared.unended.Unended.{Unended}
-use Rattle.unended_jobs.specs.declared.unended.Unended.TheVariants as unended
+use Rattle.unended_laws.specs.Prelude.{HeldRecovery, LeasedRecovery, Leases, SoundRecovery, Unended, World}
+use Rattle.unended_laws.specs.Prelude.unended
 
 -- of a plan the flight says all; a recovery finds what is still to do, and has the leases of the servers that it may
 -- change

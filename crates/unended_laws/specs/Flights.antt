@@ -1,9 +1,6 @@
 -- Servers with unended jobs in flight, plans and recoveries alike.
 use Rattle.std.specs.Prelude.{◌≡◌, List, All, map}
-use Rattle.job_laws.specs.Flights.{Flight, Held, Sound}
-use Rattle.recovery_laws.specs.Rings.{AreOwn}
-use Rattle.unended_jobs.specs.declared.unended.Unended.{Unended}
-use Rattle.unended_jobs.specs.Unended.{core_of}
+use Rattle.unended_laws.specs.Prelude.{AreOwn, Flight, Held, Sound, Unended, core_of}
 use Rattle.unended_laws.specs.Beside.{IsHeldBeside, IsSoundBeside}
 
 -- in every state, quiet or not: the flight has the jobs' cores, and each ring has bridges of its own server

@@ -1,3 +1,4 @@
+pub mod Prelude
 pub mod Beside
 pub mod Flights
 pub mod Passages

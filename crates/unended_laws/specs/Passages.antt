@@ -1,17 +1,8 @@
 -- The passages of unended jobs' turns, and those that are no job's.
 use Rattle.std.specs.Prelude.{◌≡◌, ℕ, ◌==◌, Bool, true, List, [], ◌∷◌, Option, Some, None}
-use Rattle.std.specs.List.{list_any}
-use Rattle.orch_base.specs.declared.server.Moment.{Moment}
-use Rattle.orch_base.specs.declared.server.ServerNo.{ServerNo}
-use Rattle.kept_rows.specs.declared.observation.Observation.{Observation}
-use Rattle.instance_keeper.specs.Book.{BookState}
-use Rattle.server_model.specs.Worlds.{World}
-use Rattle.job_laws.specs.Passages.{Passage, Exchanging, Polling, Storing, Discovering, Forgetting, Restarting, Beginning, Turning, Taking}
-use Rattle.recovery_laws.specs.Passing.{as_turn}
-use Rattle.unended_jobs.specs.Hooked.{hooked}
-use Rattle.unended_jobs.specs.declared.unended.Unended.{Unended}
-use Rattle.unended_jobs.specs.declared.unended.Unended.TheVariants as unended
-use Rattle.unended_jobs.specs.Unended.{flown}
+use Rattle.unended_laws.specs.Prelude.{Beginning, BookState, Discovering, Exchanging, Forgetting, Moment, Observation, Passage, Polling, Restarting}
+use Rattle.unended_laws.specs.Prelude.{ServerNo, Storing, Taking, Turning, Unended, World, as_turn, flown, hooked, list_any}
+use Rattle.unended_laws.specs.Prelude.unended
 
 -- the turn of the job of this number: by the operations of its plan, or as its recovery decides it, or by a hook
 abbrev pub passage_of : World → BookState → ℕ → Moment → Bool → ℕ → Unended → Passage

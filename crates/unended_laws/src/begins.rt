@@ -1,20 +1,9 @@
 //! Unended jobs that begin.
 
 ghost use Rattle.std.specs.Prelude.{◌∷◌, ◌++◌, ℕ, All, List, []};
-ghost use Rattle.orch_base.specs.declared.server.ServerNo.{ServerNo as Number};
-ghost use Rattle.server_model.specs.Worlds.{World};
-ghost use Rattle.job_laws.specs.Flights.{Flight, leased_to};
-ghost use Rattle.job_laws.specs.Leases.{Leases};
-ghost use Rattle.job_laws.specs.Passages.{Beginning, MayPass, passed};
-ghost use Rattle.recovery_plans.specs.declared.means.Means.{Means as AMeans};
-ghost use Rattle.recovery_plans.specs.declared.purpose.Purpose.{Purpose as APurpose};
-ghost use Rattle.recovery_plans.specs.Beginning.{begun_recovery};
-ghost use Rattle.recovery_plans.specs.Named.{IsListOf};
-ghost use Rattle.recovery_laws.specs.LeasedRecoveries.{IsAny};
-ghost use Rattle.unended_jobs.specs.declared.docket.Docket.{Docket as ADocket};
-ghost use Rattle.unended_jobs.specs.declared.unended.Unended.{Unended as AnUnended};
-ghost use Rattle.unended_jobs.specs.declared.unended.Unended.TheVariants.{Recovery};
-ghost use Rattle.unended_jobs.specs.Unended.{core_of, number_of};
+ghost use Rattle.unended_laws.specs.Prelude.{Beginning, Docket as ADocket, Flight, IsAny, IsListOf, Leases, MayPass, Means as AMeans};
+ghost use Rattle.unended_laws.specs.Prelude.{Purpose as APurpose, Recovery, ServerNo as Number, Unended as AnUnended, World, begun_recovery, core_of};
+ghost use Rattle.unended_laws.specs.Prelude.{leased_to, number_of, passed};
 ghost use Rattle.unended_laws.specs.Beside.{IsHeldBeside, IsSoundBeside};
 ghost use Rattle.unended_laws.specs.Flights.{HeldJobs, SoundJobs};
 ghost use Rattle.unended_laws.specs.Passages.{IsListed};

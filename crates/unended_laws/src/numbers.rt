@@ -1,16 +1,8 @@
 //! Turns of jobs by their numbers.
 
 ghost use Rattle.std.specs.Prelude.{◌≡◌, ℕ, Bool, List, Option};
-ghost use Rattle.std.specs.Option.{option_map};
-ghost use Rattle.orch_base.specs.declared.server.Moment.{Moment as AMoment};
-ghost use Rattle.kept_rows.specs.declared.observation.Observation.{Observation as Reading};
-ghost use Rattle.instance_keeper.specs.Book.{BookState};
-ghost use Rattle.server_model.specs.Safe.{IsQuiet};
-ghost use Rattle.job_laws.specs.Flights.{Flight};
-ghost use Rattle.job_laws.specs.Passages.{AllMayPass, AllPassWell, passing};
-ghost use Rattle.jobs_in_flight.specs.Jobs.{job_at, jobs_turned};
-ghost use Rattle.unended_jobs.specs.declared.unended.Unended.{Unended as AnUnended};
-ghost use Rattle.unended_jobs.specs.Unended.{flown};
+ghost use Rattle.unended_laws.specs.Prelude.{AllMayPass, AllPassWell, BookState, Flight, IsQuiet, Moment as AMoment, Observation as Reading};
+ghost use Rattle.unended_laws.specs.Prelude.{Unended as AnUnended, flown, job_at, jobs_turned, option_map, passing};
 ghost use Rattle.unended_laws.specs.Flights.{HeldJobs, SoundJobs};
 ghost use Rattle.unended_laws.specs.Passages.{passages_by};
 

@@ -1,10 +1,7 @@
 //! Unended jobs while others take their turns.
 
 ghost use Rattle.std.specs.Prelude.{List, []};
-ghost use Rattle.server_model.specs.Safe.{IsQuiet};
-ghost use Rattle.job_laws.specs.Flights.{Flight};
-ghost use Rattle.job_laws.specs.Passages.{MayPass, Passage, Restarting, passed};
-ghost use Rattle.unended_jobs.specs.declared.unended.Unended.{Unended as AnUnended};
+ghost use Rattle.unended_laws.specs.Prelude.{Flight, IsQuiet, MayPass, Passage, Restarting, Unended as AnUnended, passed};
 ghost use Rattle.unended_laws.specs.Flights.{HeldJobs, SoundJobs};
 ghost use Rattle.unended_laws.specs.Passages.{IsApart};
 

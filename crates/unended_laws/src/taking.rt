@@ -1,14 +1,8 @@
 //! Turns of unended jobs.
 
 ghost use Rattle.std.specs.Prelude.{◌≡◌, ℕ, Bool, List, Some};
-ghost use Rattle.orch_base.specs.declared.server.Moment.{Moment as AMoment};
-ghost use Rattle.instance_keeper.specs.Book.{BookState};
-ghost use Rattle.server_model.specs.Safe.{IsQuiet};
-ghost use Rattle.job_laws.specs.Flights.{Flight};
-ghost use Rattle.job_laws.specs.Passages.{MayPass, PassesWell, passed};
-ghost use Rattle.jobs_in_flight.specs.Jobs.{job_at, jobs_turned};
-ghost use Rattle.unended_jobs.specs.declared.unended.Unended.{Unended as AnUnended};
-ghost use Rattle.unended_jobs.specs.Unended.{flown};
+ghost use Rattle.unended_laws.specs.Prelude.{BookState, Flight, IsQuiet, MayPass, Moment as AMoment, PassesWell, Unended as AnUnended, flown, job_at};
+ghost use Rattle.unended_laws.specs.Prelude.{jobs_turned, passed};
 ghost use Rattle.unended_laws.specs.Flights.{HeldJobs, SoundJobs};
 ghost use Rattle.unended_laws.specs.Passages.{passage_of};
 

@@ -1,25 +1,10 @@
 -- How long the log of a server is at the opening, and how many files it has.
 use Rattle.std.proofs.Common.{◌≡◌, ℕ, ◌+◌, ◌-◌, ◌≤◌, Bool, true, false, cond, List, [], ◌∷◌, length, refl, ◌∙◌, ap, arith, zero, suc}
 use Rattle.std.specs.Prelude.{All, count_by, is_some, nat_le, ◌==◌, ◌&&◌}
-use Rattle.std.proofs.lemmas.Bool.Decides.{nat_tests}
-use Rattle.std.proofs.lemmas.List.Elements.{All-head, All-tail}
-use Rattle.std.proofs.lemmas.List.Sums.{sum_by-cons, count_by-le-length}
-use Rattle.binlog_coords.specs.Grown.{Grown}
-use Rattle.binlog_coords.specs.Grown as grown
-use Rattle.binlog_coords.specs.Index.{Index}
-use Rattle.binlog_coords.specs.Log.{Log, file_start, opened, push}
-use Rattle.orch_base.specs.declared.server.Txn.{Txn}
-use Rattle.openings.specs.declared.init.ServerInit.{ServerInit}
-use Rattle.openings.specs.Logs.{flushed_times, flushed_at, laid_after, laid}
-use Rattle.openings.specs.Servers.{history_at, log_by, logged_by}
-use Rattle.orch_base.specs.declared.server.Settings.{Settings}
-use Rattle.orch_base.specs.declared.server.SourceState.{SourceState}
-use Rattle.server_model.specs.Kept.{Kept}
-use Rattle.server_model.specs.ServerBy.{server_of}
-use Rattle.world_openings.specs.Makings.{bare_server}
-use Rattle.world_openings.specs.Opening.{source_state}
-use Rattle.server_model.specs.Fit.{HasSize}
-use Rattle.server_model.proofs.LogSizes.{length-push, files-push}
+use Rattle.world_openings.proofs.Prelude.{All-head, All-tail, Grown, HasSize, Index, Kept, Log, ServerInit, Settings, SourceState, Txn, bare_server}
+use Rattle.world_openings.proofs.Prelude.{count_by-le-length, file_start, files-push, flushed_at, flushed_times, history_at, laid, laid_after}
+use Rattle.world_openings.proofs.Prelude.{length-push, log_by, logged_by, nat_tests, opened, push, server_of, source_state, sum_by-cons}
+use Rattle.world_openings.proofs.Prelude.grown
 
 entries-flushed_times : (n : ℕ) (log : Log) → length (flushed_times n log).entries ≡ length log.entries
 entries-flushed_times zero log = refl

@@ -1,12 +1,7 @@
 -- The servers of a world that an opening opens.
 use Rattle.std.proofs.Common.{◌≡◌, ℕ, ◌+◌, List, [], ◌∷◌, length, refl, sym, ◌∙◌, ap, Some, arith, zero, suc, zero-add}
 use Rattle.std.specs.Prelude.{slice_get}
-use Rattle.std.proofs.lemmas.Option.{same_Some}
-use Rattle.openings.specs.declared.init.ServerInit.{ServerInit}
-use Rattle.openings.specs.Opening.{Opened}
-use Rattle.world_openings.specs.Opening.{opened_server, opened_from, opened_world}
-use Rattle.server_model.specs.Worlds.{server_at}
-use Rattle.server_model.specs.declared.server.Server.{Server}
+use Rattle.world_openings.proofs.Prelude.{Opened, Server, ServerInit, opened_from, opened_server, opened_world, same_Some, server_at}
 
 pub slice_get-opened_from : (servers : List ServerInit) (room flushes k : ℕ) (is : List ServerInit) (j : ℕ) (i : ServerInit) → slice_get is j ≡ Some i
     → slice_get (opened_from servers room flushes k is) j ≡ Some (opened_server servers room flushes (k + j) i)

@@ -1,32 +1,13 @@
 -- The servers of an opening can stand in a world.
 use Rattle.std.proofs.Common.{◌≡◌, ℕ, ◌+◌, ◌≤◌, true, false, Bool, cond, List, length, take, refl, sym, ◌∙◌, ap, subst, Option, Some, None, arith, get_or}
 use Rattle.std.specs.Prelude.{slice_get, All, unwrap_or, ◌==◌}
-use Rattle.std.proofs.lemmas.Option.{same_Some, slice_get_within, get_or_from_slice_get, slice_get-get_or}
-use Rattle.std.proofs.lemmas.List.{length-take}
-use Rattle.std.proofs.lemmas.List.Sums.{count_by-le-length}
-use Rattle.binlog_coords.specs.declared.Coord.{Coord}
-use Rattle.binlog_coords.specs.Log.{Log, opened, place, is_at_or_before, file_start}
-use Rattle.binlog_coords.proofs.Places.{place-monotone}
-use Rattle.orch_base.specs.declared.server.ServerNo.{ServerNo}
-use Rattle.orch_base.specs.declared.server.Txn.{Txn}
-use Rattle.orch_base.specs.Histories.{count_own}
-use Rattle.openings.specs.declared.init.ServerInit.{ServerInit}
-use Rattle.openings.specs.Listed.{transactions, listed_history}
-use Rattle.openings.specs.Logs.{laid}
-use Rattle.openings.specs.Opening.{Opened, IsListed, IsChecked, IsAlone}
-use Rattle.openings.specs.Servers.{sources, source_of, number_of, parts_of, parts_at, count_at, root_of, history_at, log_by, log_at, log_in, exec_of, read_of}
-use Rattle.openings.specs.Sound.{IsSound, IsUnder}
-use Rattle.openings.proofs.ListedCounts.{length-listed_history}
-use Rattle.openings.proofs.ServerHistories.{history_of, history_numbered}
-use Rattle.openings.proofs.Soundness.{sound_checked}
-use Rattle.server_model.specs.Gtids.{IsNumbered}
-use Rattle.server_model.specs.Fit.{HasSize, IsFit}
-use Rattle.server_model.specs.Standing.{IsServer, IsSourceOf, CanStand}
-use Rattle.server_model.specs.Worlds.{source_no, KeepsFrom}
-use Rattle.server_model.specs.declared.server.Server.{Server}
-use Rattle.server_model.proofs.Chains.{not_self}
-use Rattle.world_openings.specs.Makings.{exec_in, read_in, IsPlacedIn}
-use Rattle.world_openings.specs.Opening.{source_state, opened_server, opened_from, Fits}
+use Rattle.world_openings.proofs.Prelude.{CanStand, Coord, Fits, HasSize, IsAlone, IsChecked, IsFit, IsListed, IsNumbered, IsPlacedIn, IsServer}
+use Rattle.world_openings.proofs.Prelude.{IsSound, IsSourceOf, IsUnder, KeepsFrom, Log, Opened, Server, ServerInit, ServerNo, Txn, count_at}
+use Rattle.world_openings.proofs.Prelude.{count_by-le-length, count_own, exec_in, exec_of, file_start, get_or_from_slice_get, history_at}
+use Rattle.world_openings.proofs.Prelude.{history_numbered, history_of, is_at_or_before, laid, length-listed_history, length-take, listed_history}
+use Rattle.world_openings.proofs.Prelude.{log_at, log_by, log_in, not_self, number_of, opened, opened_from, opened_server, parts_at, parts_of, place}
+use Rattle.world_openings.proofs.Prelude.{place-monotone, read_in, read_of, root_of, same_Some, slice_get-get_or, slice_get_within, sound_checked}
+use Rattle.world_openings.proofs.Prelude.{source_no, source_of, source_state, sources, transactions}
 use Rattle.world_openings.proofs.LaidLogs.{IsLaid, IsLaid-log_by, entries-log_by}
 use Rattle.world_openings.proofs.Opened.{given-opened, server_at-opened, length-opened_from}
 

@@ -1,18 +1,9 @@
 -- The servers of an opening, made one after another.
+use Rattle.world_openings.proofs.Prelude.{AreBare, ArePlaced, Coord, HaveLogs, Index, Opened, Server, ServerInit, bare_server, cases_eq, cases_lt}
+use Rattle.world_openings.proofs.Prelude.{exec_of, get-push_new as slice_get-last, length-set, log_at, opened_from, placed_by, read_of, same_Some}
+use Rattle.world_openings.proofs.Prelude.{set_other, set_same, slice_get_within}
 use Rattle.std.proofs.Common.{◌≡◌, ℕ, ◌+◌, ◌<◌, List, [], ◌∷◌, ◌++◌, length, length-append, refl, sym, ◌∙◌, ap, inl, inr, Option, Some, None, arith, zero, suc}
 use Rattle.std.specs.Prelude.{option_map, slice_get, slice_set}
-use Rattle.std.proofs.lemmas.Bool.{cases_eq, cases_lt}
-use Rattle.std.proofs.lemmas.Option.{same_Some, slice_get_within}
-use Rattle.std.proofs.lemmas.List.{length-set}
-use Rattle.binlog_coords.specs.declared.Coord.{Coord}
-use Rattle.binlog_coords.specs.Index.{Index}
-use Rattle.openings.specs.declared.init.ServerInit.{ServerInit}
-use Rattle.openings.specs.Opening.{Opened}
-use Rattle.openings.specs.Servers.{exec_of, log_at, read_of}
-use Rattle.server_model.specs.declared.server.Server.{Server}
-use Rattle.server_model.proofs.Lists.{set_same, set_other}
-use Rattle.world_openings.specs.Makings.{bare_server, placed_by, AreBare, ArePlaced, HaveLogs}
-use Rattle.world_openings.specs.Opening.{opened_from}
 use Rattle.world_openings.proofs.Opened.{server_at-opened, length-opened_from}
 use Rattle.world_openings.proofs.OpenedWorlds.{log_at-is}
 
@@ -31,10 +22,6 @@ slice_get-before : {X : Type 0} (xs : List X) (y : X) (k : ℕ) → k < length x
 slice_get-before [] y k h = absurd (omega arith)
 slice_get-before (x ∷ xs) y zero h = refl
 slice_get-before (x ∷ xs) y (suc k) h = slice_get-before xs y k (omega arith)
-
-slice_get-last : {X : Type 0} (xs : List X) (y : X) → slice_get (xs ++ y ∷ []) (length xs) ≡ Some y
-slice_get-last [] y = refl
-slice_get-last (x ∷ xs) y = slice_get-last xs y
 
 there : {X : Type 0} (xs : List X) (k : ℕ) → k < length xs → (x : X) × (slice_get xs k ≡ Some x)
 there [] k h = absurd (omega arith)

@@ -1,7 +1,7 @@
 -- How the servers of an opening are made: each with its log first, and then all with their coordinates.
 use Rattle.std.specs.Prelude.{◌≡◌, ℕ, ◌<◌, ◌≤◌, List, length, Some, unwrap_or, slice_get}
-use Rattle.binlog_coords.specs.declared.Coord.{Coord}
-use Rattle.binlog_coords.specs.Log.{Log, file_start, place, coord_after}
+use Rattle.server_words.specs.BinlogCoords.declared.Coord.{Coord}
+use Rattle.server_words.specs.BinlogCoords.Log.{Log, file_start, place, coord_after}
 use Rattle.openings.specs.declared.init.ServerInit.{ServerInit}
 use Rattle.openings.specs.Opening.{Opened}
 use Rattle.openings.specs.Servers.{log_at, exec_of, read_of}

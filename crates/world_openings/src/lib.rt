@@ -4,4 +4,5 @@
 mod making;
 mod world;
 
+use server_words::{binlog_coords_items, orch_base};
 pub use world::OpenedWorld;

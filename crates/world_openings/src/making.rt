@@ -5,9 +5,9 @@ ghost use Rattle.openings.specs.Servers.{exec_of, read_of};
 ghost use Rattle.world_openings.specs.Opening.{opened_from, source_state, Fits};
 ghost use Rattle.world_openings.specs.Makings.{bare_server, exec_in, read_in, AreBare, ArePlaced, HaveLogs, IsPlacedIn};
 
-use binlog_coords::{Coord, LogIndex};
+use crate::binlog_coords_items::{Coord, LogIndex};
+use crate::orch_base::{Memory, ServerNo, SourceState};
 use openings::{Opening, ServerInit, history_at, laid_history};
-use orch_base::{Memory, ServerNo, SourceState};
 use server_model::Server;
 use std::alloc::Global;
 

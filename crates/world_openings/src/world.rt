@@ -4,8 +4,8 @@ ghost use Rattle.std.specs.Prelude.{◌≡◌, ◌≤◌, IfOk, length};
 ghost use Rattle.world_openings.specs.Opening.{opened_world, Fits};
 
 use crate::making::servers_of;
+use crate::orch_base::Memory;
 use openings::Opening;
-use orch_base::Memory;
 use server_model::World;
 use std::alloc::Global;
 

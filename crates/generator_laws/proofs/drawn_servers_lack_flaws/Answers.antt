@@ -1,5 +1,4 @@
-use Rattle.scenario_generator.specs.Servers.{servers_from}
-use Rattle.scenario_generator.proofs.Promises.{counts_few, placed}
+use Rattle.generator_laws.proofs.Prelude.{counts_few, placed, servers_from}
 use Rattle.generator_laws.proofs.Scenarios.{flawless}
 use Rattle.generator_laws.proofs.drawn_servers_lack_flaws.Goals as goal
 

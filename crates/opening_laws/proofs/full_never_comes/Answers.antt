@@ -1,4 +1,4 @@
-use Rattle.replication_laws.proofs.Files.{not_full-files}
+use Rattle.opening_laws.proofs.Prelude.{not_full-files}
 use Rattle.opening_laws.proofs.Rooms.{not_full-opened, HasFiles-opened, not_full-rotations}
 use Rattle.opening_laws.proofs.full_never_comes.Goals as goal
 

@@ -1,6 +1,5 @@
 use Rattle.std.proofs.Common.{refl}
-use Rattle.world_openings.specs.Opening.{opened_world}
-use Rattle.replication_laws.proofs.Keeping.{Placed-safe}
+use Rattle.opening_laws.proofs.Prelude.{Placed-safe, opened_world}
 use Rattle.opening_laws.proofs.Openings.{Safe-opened}
 use Rattle.opening_laws.proofs.openings_are_safe.Goals as goal
 

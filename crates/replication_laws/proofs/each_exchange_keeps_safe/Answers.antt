@@ -1,5 +1,5 @@
 use Rattle.std.proofs.Common.{refl}
-use Rattle.server_model.specs.Worlds.{server_at}
+use Rattle.replication_laws.proofs.Prelude.{server_at}
 use Rattle.replication_laws.proofs.Applies.{Safe-apply}
 use Rattle.replication_laws.proofs.Keeping.{Placed-safe}
 use Rattle.replication_laws.proofs.Runs.{Safe-fetched, Grows-after}

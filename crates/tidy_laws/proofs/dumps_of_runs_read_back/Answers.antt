@@ -1,6 +1,4 @@
-use Rattle.scenario_dump.specs.Reading.{dumped_scenario}
-use Rattle.scenario_dump.specs.Texts.{dump_text}
-use Rattle.scenario_reader.proofs.Sound.{scenario_in_sound}
+use Rattle.tidy_laws.proofs.Prelude.{dump_text, dumped_scenario, scenario_in_sound}
 use Rattle.tidy_laws.proofs.Reading.{read-written}
 use Rattle.tidy_laws.proofs.Worlds.{world-comes}
 use Rattle.tidy_laws.proofs.dumps_of_runs_read_back.Goals as goal

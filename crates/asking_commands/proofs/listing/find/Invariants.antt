@@ -1,6 +1,6 @@
 use Rattle.std.proofs.Common.{◌≡◌, map, take}
 use Rattle.std.specs.Prelude.{filter, ◌&&◌, slice_index_or, false}
-use Rattle.orch_base.specs.declared.server.ServerNo.{ServerNo}
+use Rattle.instance_keeper.specs.OrchBase.declared.server.ServerNo.{ServerNo}
 use Rattle.commands.specs.declared.line.Line.TheVariants as line
 use Rattle.book_views.specs.Sources.{is_instance}
 use Rattle.asking_commands.proofs.listing.find.Given as goal

@@ -1,5 +1,5 @@
 use Rattle.std.proofs.Common.{sym, ◌∙◌, ap}
-use Rattle.binlog_coords.specs.Grammar.{is_extension}
+use Rattle.binlog_coords.proofs.Prelude.{is_extension}
 use Rattle.binlog_coords.proofs.Numbers.{number_at-refused}
 use Rattle.binlog_coords.proofs.text.read_number.Goals as goal
 

@@ -1,5 +1,5 @@
 use Rattle.std.proofs.Common.{sym, ◌∙◌, ap}
-use Rattle.binlog_coords.specs.Grammar.{is_plain}
+use Rattle.binlog_coords.proofs.Prelude.{is_plain}
 use Rattle.binlog_coords.proofs.Numbers.{pos_at-refused}
 use Rattle.binlog_coords.proofs.text.read_pos.Goals as goal
 

@@ -1,5 +1,5 @@
 use Rattle.std.proofs.Common.{◌≡◌, map}
-use Rattle.kept_rows.specs.Recoveries.{put_recovery}
+use Rattle.instance_keeper.specs.KeptRows.Recoveries.{put_recovery}
 use Rattle.book_commands.proofs.deciding.acked_rows.Given as goal
 
 abbrev pub invariant-acked : goal.invariant-acked

@@ -1,7 +1,7 @@
 use Rattle.std.proofs.Common.{ℕ, ◌<◌, ◌≤◌, List, sym, ◌∙◌, ap, subst, arith}
 use Rattle.std.specs.Prelude.{All}
-use Rattle.kept_rows.specs.Rows.{IsRising}
-use Rattle.kept_rows.specs.declared.recovery.Recovery.{Recovery}
+use Rattle.instance_keeper.specs.KeptRows.Rows.{IsRising}
+use Rattle.instance_keeper.specs.KeptRows.declared.recovery.Recovery.{Recovery}
 use Rattle.audit_log.specs.Audits.{longest_block, IsAudit}
 use Rattle.audit_log.specs.Loading.{recoveries_in}
 use Rattle.book_tests.proofs.deciding.loaded.Goals as goal

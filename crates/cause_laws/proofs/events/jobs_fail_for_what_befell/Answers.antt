@@ -1,6 +1,5 @@
 use Rattle.std.proofs.Common.{ap, ◌∙◌}
-use Rattle.operations.specs.Deeds.{deed_of}
-use Rattle.operations.specs.Turns.{by_ops, settled, turned}
+use Rattle.cause_laws.proofs.Prelude.{by_ops, deed_of, settled, turned}
 use Rattle.cause_laws.proofs.Stopping.{befallen-stops}
 use Rattle.cause_laws.proofs.Turning.{failed-befell, stopped-befell, turn-taken}
 use Rattle.cause_laws.proofs.events.jobs_fail_for_what_befell.Goals as goal

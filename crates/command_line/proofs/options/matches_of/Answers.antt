@@ -1,9 +1,5 @@
 use Rattle.std.proofs.Common.{◌≡◌, ◌∙◌, map, sym, ap, List, Bor}
-use Rattle.clap.specs.Faults.{fault_of, is_simple_and_free}
-use Rattle.clap.specs.Values.{kind_of}
-use Rattle.clap.specs.Simple.{App, app_of, is_simple, matches_of}
-use Rattle.clap.specs.Walk.{Text}
-use Rattle.command_line.specs.Options.{orch, rows_in}
+use Rattle.command_line.proofs.Prelude.{App, Text, app_of, fault_of, is_simple, is_simple_and_free, kind_of, matches_of, orch, rows_in}
 use Rattle.command_line.proofs.Matches.{is_plain, is_plain_and_free, matches_given, no_matches}
 use Rattle.command_line.proofs.options.matches_of.Goals as goal
 

@@ -1,6 +1,5 @@
 use Rattle.std.proofs.Common.{◌∙◌}
-use Rattle.clap.proofs.WalkLemmas.{first_value-rows}
-use Rattle.clap.specs.Matches.{found_of}
+use Rattle.command_line.proofs.Prelude.{first_value-rows, found_of}
 use Rattle.command_line.proofs.options.text_of.Goals as goal
 
 pub returns : goal.returns

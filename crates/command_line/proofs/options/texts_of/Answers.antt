@@ -1,5 +1,5 @@
 use Rattle.std.proofs.Common.{◌≡◌, ◌∙◌, get_or, ap, subst}
-use Rattle.std.specs.Str.{IsUtf8}
+use Rattle.command_line.proofs.Prelude.{IsUtf8}
 use Rattle.command_line.proofs.Steps.{all_texts, bad_word, no_texts, one_more_text, utf8_behind}
 use Rattle.command_line.proofs.options.texts_of.Goals as goal
 

@@ -1,6 +1,5 @@
 use Rattle.std.proofs.Common.{◌≡◌, ◌++◌, map, drop}
-use Rattle.std.specs.List.{list_all}
-use Rattle.std.specs.Str.{is_utf8}
+use Rattle.command_line.proofs.Prelude.{is_utf8, list_all}
 use Rattle.command_line.proofs.options.texts_of.Given as goal
 
 abbrev pub invariant-loop-word : goal.invariant-loop-word

@@ -1,4 +1,4 @@
-use Rattle.clap.specs.Simple.{app_of}
+use Rattle.command_line.proofs.Prelude.{app_of}
 use Rattle.command_line.proofs.Steps.{one_more_option}
 use Rattle.command_line.proofs.options.with_options.Goals as goal
 

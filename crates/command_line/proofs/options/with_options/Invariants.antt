@@ -1,6 +1,5 @@
 use Rattle.std.proofs.Common.{◌≡◌, map, drop}
-use Rattle.clap.specs.Simple.{app_of}
-use Rattle.command_line.specs.Options.{with_options}
+use Rattle.command_line.proofs.Prelude.{app_of, with_options}
 use Rattle.command_line.proofs.options.with_options.Given as goal
 
 abbrev pub invariant-loop-name : goal.invariant-loop-name

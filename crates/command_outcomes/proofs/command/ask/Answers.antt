@@ -1,7 +1,7 @@
 use Rattle.std.proofs.Common.{◌∙◌, List, ap}
 use Rattle.asking_commands.specs.Answers.{answer_of, lines_of, permitted}
-use Rattle.kept_rows.specs.declared.recovery.Recovery.{Recovery}
-use Rattle.command_outcomes.specs.Commands.{asked}
+use Rattle.recovery_permits.specs.KeptRows.declared.recovery.Recovery.{Recovery}
+use Rattle.command_outcomes.specs.Outcomes.{asked}
 use Rattle.command_outcomes.proofs.Outcomes.{asked_refused}
 use Rattle.command_outcomes.proofs.command.ask.Goals as goal
 

@@ -3,7 +3,7 @@ use Rattle.std.proofs.lemmas.Result.{IfOk-weaker}
 use Rattle.asking_commands.specs.Answers.{lines_of, permitted}
 use Rattle.book_commands.specs.Decisions.{decided_of}
 use Rattle.command_jobs.specs.Jobs.{job_by, leases_by, refusal_by}
-use Rattle.command_outcomes.specs.Commands.{Outcome, begun_by, decision, discovered, next_reading, question}
+use Rattle.command_outcomes.specs.Outcomes.{Outcome, begun_by, decision, discovered, next_reading, question}
 use Rattle.command_outcomes.specs.Ids.{LeavesIds}
 use Rattle.command_outcomes.specs.CommandsBy.{outcome}
 use Rattle.command_outcomes.specs.declared.command.Outcome.{Outcome as Inside}

@@ -1,5 +1,5 @@
 use Rattle.std.proofs.Common.{◌≡◌, take}
-use Rattle.command_outcomes.specs.Commands.{entries_put}
+use Rattle.command_outcomes.specs.Outcomes.{entries_put}
 use Rattle.command_outcomes.proofs.recovering.entries_put.Given as goal
 
 abbrev pub invariant-loop-one : goal.invariant-loop-one

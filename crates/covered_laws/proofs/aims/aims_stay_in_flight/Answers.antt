@@ -1,5 +1,5 @@
 use Rattle.std.proofs.Common.{refl}
-use Rattle.jobs_in_flight.specs.Jobs.{job_at}
+use Rattle.covered_laws.proofs.Prelude.{job_at}
 use Rattle.covered_laws.proofs.Beside.{begin-aimed, none-aimed}
 use Rattle.covered_laws.proofs.Turning.{number-aimed}
 use Rattle.covered_laws.proofs.Ending.{last-aim}

@@ -1,5 +1,5 @@
 use Rattle.std.proofs.Common.{refl}
-use Rattle.jobs_in_flight.specs.Jobs.{job_at}
+use Rattle.covered_laws.proofs.Prelude.{job_at}
 use Rattle.covered_laws.proofs.Turning.{number-covered, number-kept, number-speaking}
 use Rattle.covered_laws.proofs.numbers.covered_jobs_take_turns.Goals as goal
 

@@ -1,4 +1,4 @@
-use Rattle.job_laws.specs.Passages.{Restarting, passed}
+use Rattle.covered_laws.proofs.Prelude.{Restarting, passed}
 use Rattle.covered_laws.proofs.Beside.{none-covered, none-kept, none-speak}
 use Rattle.covered_laws.proofs.others.restarts_leave_none_covered.Goals as goal
 

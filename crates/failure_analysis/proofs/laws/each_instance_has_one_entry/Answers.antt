@@ -1,4 +1,4 @@
-use Rattle.name_order.specs.NameOrder.{by_name}
+use Rattle.instance_keeper.specs.NameOrder.NameOrder.{by_name}
 use Rattle.failure_analysis.specs.Analysis.{analysis}
 use Rattle.failure_analysis.proofs.Counting.{tally-parts}
 use Rattle.failure_analysis.proofs.Entries.{count-is-length, entries-servers}

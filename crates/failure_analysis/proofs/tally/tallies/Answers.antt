@@ -1,6 +1,6 @@
 use Rattle.std.proofs.Common.{◌<◌, length, get_or, take, None, sym, ◌∙◌, ap, subst, arith}
 use Rattle.std.proofs.lemmas.List.{length-set}
-use Rattle.orch_base.specs.declared.server.ServerNo.{ServerNo}
+use Rattle.instance_keeper.specs.OrchBase.declared.server.ServerNo.{ServerNo}
 use Rattle.book_views.specs.Sources.{is_attached_to, seen_source}
 use Rattle.book_views.proofs.Reading.{known-below}
 use Rattle.failure_analysis.specs.declared.tally.Tally.{Tally}

@@ -1,7 +1,6 @@
 use Rattle.std.proofs.Common.{◌≡◌, length, ap, ◌∙◌, arith}
 use Rattle.std.specs.Prelude.{unwrap_or}
-use Rattle.std.specs.List.{position_or_len}
-use Rattle.gtid_sets.specs.Grammar.{is_comma}
+use Rattle.gtid_sets.proofs.Prelude.{is_comma, position_or_len}
 use Rattle.gtid_sets.proofs.Pieces.{position_is, length_within}
 use Rattle.gtid_sets.proofs.grammar.first_comma.Goals as goal
 

@@ -1,7 +1,6 @@
 use Rattle.std.proofs.Common.{◌≡◌, length, ap, ◌∙◌, arith}
 use Rattle.std.specs.Prelude.{unwrap_or}
-use Rattle.std.specs.List.{position_or_len}
-use Rattle.gtid_sets.specs.Grammar.{is_dash}
+use Rattle.gtid_sets.proofs.Prelude.{is_dash, position_or_len}
 use Rattle.gtid_sets.proofs.Pieces.{position_is, length_within}
 use Rattle.gtid_sets.proofs.grammar.first_dash.Goals as goal
 

@@ -1,6 +1,6 @@
 use Rattle.std.proofs.Common.{◌≡◌, length, not, ap, ◌∙◌, arith}
 use Rattle.std.specs.Prelude.{unwrap_or}
-use Rattle.gtid_sets.specs.Grammar.{is_blank, leading}
+use Rattle.gtid_sets.proofs.Prelude.{is_blank, leading}
 use Rattle.gtid_sets.proofs.Pieces.{position_is, length_within}
 use Rattle.gtid_sets.proofs.grammar.leading.Goals as goal
 

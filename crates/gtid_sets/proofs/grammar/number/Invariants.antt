@@ -1,7 +1,5 @@
 use Rattle.std.proofs.Common.{◌≡◌, ◌-◌, ◌^◌, min, take, true}
-use Rattle.std.specs.List.{list_all}
-use Rattle.std.specs.Char.{is_ascii_digit}
-use Rattle.gtid_sets.specs.Grammar.{value_of}
+use Rattle.gtid_sets.proofs.Prelude.{is_ascii_digit, list_all, value_of}
 use Rattle.gtid_sets.proofs.grammar.number.Given as goal
 
 abbrev pub invariant-digits : goal.invariant-digits

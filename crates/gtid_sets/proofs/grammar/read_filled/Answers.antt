@@ -1,8 +1,5 @@
 use Rattle.std.proofs.Common.{◌+◌, List, ℕ, Result, subst, sym, ap, ◌∙◌, arith}
-use Rattle.gtid_sets.specs.declared.interval.Interval.{Interval}
-use Rattle.gtid_sets.specs.declared.fault.GtidFault.{GtidFault}
-use Rattle.gtid_sets.specs.Gives.{Gives}
-use Rattle.gtid_sets.specs.Grammar.{fault_of, behind, intervals_at, pieces, is_colon}
+use Rattle.gtid_sets.proofs.Prelude.{Gives, GtidFault, Interval, behind, fault_of, intervals_at, is_colon, pieces}
 use Rattle.gtid_sets.proofs.Pieces.{filled_fails, filled_goes, listed_none, listed_some, fault_given}
 use Rattle.gtid_sets.proofs.grammar.read_filled.Goals as goal
 

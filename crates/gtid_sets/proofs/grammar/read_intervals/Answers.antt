@@ -1,6 +1,5 @@
 use Rattle.std.proofs.Common.{◌+◌, List, ℕ, Ok, drop, sym, ap, ◌∙◌, arith}
-use Rattle.gtid_sets.specs.declared.interval.Interval.{Interval}
-use Rattle.gtid_sets.specs.Grammar.{behind, intervals_at, pieces, is_colon}
+use Rattle.gtid_sets.proofs.Prelude.{Interval, behind, intervals_at, is_colon, pieces}
 use Rattle.gtid_sets.proofs.Pieces.{interval_last, interval_more, interval_fails, fault_given, intervals_step}
 use Rattle.gtid_sets.proofs.grammar.read_intervals.Goals as goal
 

@@ -1,7 +1,5 @@
 use Rattle.std.proofs.Common.{◌≡◌, ◌+◌, ◌-◌, ◌≤◌, length, drop}
-use Rattle.std.specs.List.{All}
-use Rattle.gtid_sets.specs.Sets.{IsInterval}
-use Rattle.gtid_sets.specs.Grammar.{behind, intervals_at, pieces, is_colon}
+use Rattle.gtid_sets.proofs.Prelude.{All, IsInterval, behind, intervals_at, is_colon, pieces}
 use Rattle.gtid_sets.proofs.grammar.read_intervals.Given as goal
 
 abbrev pub invariant-intervals : goal.invariant-intervals

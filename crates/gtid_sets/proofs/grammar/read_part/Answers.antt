@@ -1,8 +1,5 @@
 use Rattle.std.proofs.Common.{◌+◌, List, ℕ, Result, subst, sym, ap, ◌∙◌, arith}
-use Rattle.gtid_sets.specs.declared.interval.Interval.{Interval}
-use Rattle.gtid_sets.specs.declared.fault.GtidFault.{GtidFault}
-use Rattle.gtid_sets.specs.Gives.{Gives}
-use Rattle.gtid_sets.specs.Grammar.{fault_of, behind, filled_at, inner}
+use Rattle.gtid_sets.proofs.Prelude.{Gives, GtidFault, Interval, behind, fault_of, filled_at, inner}
 use Rattle.gtid_sets.proofs.Pieces.{part_blank, part_filled}
 use Rattle.gtid_sets.proofs.grammar.read_part.Goals as goal
 

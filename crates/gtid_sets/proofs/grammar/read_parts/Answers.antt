@@ -1,5 +1,5 @@
 use Rattle.std.proofs.Common.{◌+◌, List, ℕ, take, drop, sym, ap, ◌∙◌, arith}
-use Rattle.gtid_sets.specs.Grammar.{behind, part_at, parts_at, pieces, is_comma}
+use Rattle.gtid_sets.proofs.Prelude.{behind, is_comma, part_at, parts_at, pieces}
 use Rattle.gtid_sets.proofs.Pieces.{part_last, part_more, part_fails, fault_along, parts_step}
 use Rattle.gtid_sets.proofs.grammar.read_parts.Goals as goal
 

@@ -1,7 +1,5 @@
 use Rattle.std.proofs.Common.{◌≡◌, ◌-◌, ◌≤◌, length, drop}
-use Rattle.std.specs.List.{All}
-use Rattle.gtid_sets.specs.Sets.{IsInterval}
-use Rattle.gtid_sets.specs.Grammar.{behind, parts_at, pieces, is_comma}
+use Rattle.gtid_sets.proofs.Prelude.{All, IsInterval, behind, is_comma, parts_at, pieces}
 use Rattle.gtid_sets.proofs.grammar.read_parts.Given as goal
 
 abbrev pub invariant-parts : goal.invariant-parts

@@ -1,6 +1,5 @@
 use Rattle.std.proofs.Common.{List, Ok, sym, ap, ◌∙◌, arith}
-use Rattle.gtid_sets.specs.declared.interval.Interval.{Interval}
-use Rattle.gtid_sets.specs.Grammar.{behind, parts_at, pieces, is_comma}
+use Rattle.gtid_sets.proofs.Prelude.{Interval, behind, is_comma, parts_at, pieces}
 use Rattle.gtid_sets.proofs.Pieces.{text_blank, text_filled, fault_along}
 use Rattle.gtid_sets.proofs.grammar.read_text.Goals as goal
 

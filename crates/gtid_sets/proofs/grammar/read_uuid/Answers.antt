@@ -1,4 +1,4 @@
-use Rattle.std.proofs.lemmas.Bool.{false≢true}
+use Rattle.gtid_sets.proofs.Prelude.{false≢true}
 use Rattle.gtid_sets.proofs.Pieces.{uuid_none}
 use Rattle.gtid_sets.proofs.grammar.read_uuid.Goals as goal
 

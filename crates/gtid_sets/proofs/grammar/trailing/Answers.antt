@@ -1,7 +1,6 @@
 use Rattle.std.proofs.Common.{◌≡◌, length, reverse, not, ap, sym, ◌∙◌, arith}
 use Rattle.std.specs.Prelude.{unwrap_or, position}
-use Rattle.std.proofs.lemmas.List.{length-reverse}
-use Rattle.gtid_sets.specs.Grammar.{is_blank, trailing}
+use Rattle.gtid_sets.proofs.Prelude.{is_blank, length-reverse, trailing}
 use Rattle.gtid_sets.proofs.Pieces.{position_is, length_within}
 use Rattle.gtid_sets.proofs.grammar.trailing.Goals as goal
 

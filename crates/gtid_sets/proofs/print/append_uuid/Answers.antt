@@ -1,5 +1,5 @@
 use Rattle.std.proofs.Common.{◌++◌, List, ℕ, ap, ◌∙◌}
-use Rattle.uuid.specs.Text.{hyphenated_text, lower}
+use Rattle.gtid_sets.proofs.Prelude.{hyphenated_text, lower}
 use Rattle.gtid_sets.proofs.print.append_uuid.Goals as goal
 
 pub returns : goal.returns

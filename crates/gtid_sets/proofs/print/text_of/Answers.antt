@@ -1,6 +1,5 @@
 use Rattle.std.proofs.Common.{◌+◌, ◌∷◌, ◌++◌, Some, List, ℕ, get_or, drop, ap, ◌∙◌}
-use Rattle.gtid_sets.specs.declared.interval.Interval.{Interval}
-use Rattle.gtid_sets.specs.Printed.{printed, texts, head_text, range_text}
+use Rattle.gtid_sets.proofs.Prelude.{Interval, head_text, printed, range_text, texts}
 use Rattle.gtid_sets.proofs.Texts.{texts_more, texts_all, texts_step, texts_end}
 use Rattle.gtid_sets.proofs.print.text_of.Goals as goal
 

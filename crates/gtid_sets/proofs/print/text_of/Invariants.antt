@@ -1,5 +1,5 @@
 use Rattle.std.proofs.Common.{◌≡◌, ◌++◌, drop}
-use Rattle.gtid_sets.specs.Printed.{printed, texts}
+use Rattle.gtid_sets.proofs.Prelude.{printed, texts}
 use Rattle.gtid_sets.proofs.print.text_of.Given as goal
 
 abbrev pub invariant-intervals : goal.invariant-intervals

@@ -1,9 +1,6 @@
 use Rattle.std.proofs.Common.{◌≡◌, ◌<◌, ◌≤◌, List, length, drop, true, false, arith, rules, sym, ◌∙◌, ap, subst}
 use Rattle.std.specs.Prelude.{◌-◌}
-use Rattle.std.specs.List.{All, AllWithin}
-use Rattle.gtid_sets.specs.declared.interval.Interval.{Interval}
-use Rattle.gtid_sets.specs.Adding.{touches_first}
-use Rattle.gtid_sets.specs.Sets.{point, high, IsInterval}
+use Rattle.gtid_sets.proofs.Prelude.{All, AllWithin, Interval, IsInterval, high, point, touches_first}
 use Rattle.gtid_sets.proofs.Inserts.{IsOnTheWay-first, IsOnTheWay-next, IsOnTheWay-last, touches-there}
 use Rattle.gtid_sets.proofs.reserved.insert_gtid.Goals as goal
 

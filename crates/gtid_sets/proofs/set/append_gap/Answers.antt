@@ -1,7 +1,6 @@
 use Rattle.std.proofs.Common.{◌≡◌, Bool, sym, ap, ◌∙◌, arith}
 use Rattle.std.specs.Prelude.{◌||◌}
-use Rattle.std.proofs.lemmas.Bool.{ltb-true}
-use Rattle.gtid_sets.specs.Sets.{point, low, on_line}
+use Rattle.gtid_sets.proofs.Prelude.{low, ltb-true, on_line, point}
 use Rattle.gtid_sets.proofs.Search.{same_point}
 use Rattle.gtid_sets.proofs.Sweep.{gap_is, gap_test}
 use Rattle.gtid_sets.proofs.set.append_gap.Goals as goal

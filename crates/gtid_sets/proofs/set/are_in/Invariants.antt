@@ -1,5 +1,5 @@
 use Rattle.std.proofs.Common.{◌≡◌, ℕ, true, take}
-use Rattle.gtid_sets.specs.Sets.{on_line}
+use Rattle.gtid_sets.proofs.Prelude.{on_line}
 use Rattle.gtid_sets.proofs.set.are_in.Given as goal
 
 abbrev pub invariant-parts : goal.invariant-parts

@@ -1,5 +1,5 @@
 use Rattle.std.proofs.Common.{◌≡◌, ◌*◌, ◌^◌, ◌≤◌, take}
-use Rattle.gtid_sets.specs.Sets.{size}
+use Rattle.gtid_sets.proofs.Prelude.{size}
 use Rattle.gtid_sets.proofs.set.count_of.Given as goal
 
 abbrev pub invariant-intervals : goal.invariant-intervals

@@ -1,8 +1,6 @@
 use Rattle.std.proofs.Common.{◌≡◌, ◌+◌, ◌<◌, ◌≤◌, get_or, length, leb, max, sym, ap, ◌∙◌, arith}
 use Rattle.std.specs.Prelude.{◌||◌, ◌&&◌}
-use Rattle.std.proofs.lemmas.Bool.{ltb-true, ltb-false}
-use Rattle.gtid_sets.specs.declared.interval.Interval.{Interval}
-use Rattle.gtid_sets.specs.Sets.{point, low, high, on_line}
+use Rattle.gtid_sets.proofs.Prelude.{Interval, high, low, ltb-false, ltb-true, on_line, point}
 use Rattle.gtid_sets.proofs.Line.{low_high, point_behind}
 use Rattle.gtid_sets.proofs.Search.{same_point, ends_before}
 use Rattle.gtid_sets.proofs.Sweep.{whole_piece, gap_piece, settled, none_before, part_is, part_low, past_more}

@@ -1,7 +1,6 @@
 use Rattle.std.proofs.Common.{length, ltb, not, ◌-◌, ◌≡◌, ℕ, ◌<◌, ◌≤◌, ◌+◌}
 use Rattle.std.specs.Prelude.{◌&&◌}
-use Rattle.std.specs.List.{All, AllWithin}
-use Rattle.gtid_sets.specs.Sets.{point, low, high, on_line}
+use Rattle.gtid_sets.proofs.Prelude.{All, AllWithin, high, low, on_line, point}
 use Rattle.gtid_sets.proofs.set.difference.Given as goal
 
 abbrev pub invariant-sweep : goal.invariant-sweep

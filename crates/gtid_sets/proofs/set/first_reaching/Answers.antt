@@ -1,7 +1,5 @@
 use Rattle.std.proofs.Common.{◌+◌, ◌-◌, ◌/◌, sym, ◌∙◌, arith}
-use Rattle.std.proofs.lemmas.Bool.{ltb-true, ltb-false}
-use Rattle.gtid_sets.specs.Sets.{point}
-use Rattle.gtid_sets.specs.declared.interval.Interval.{Interval}
+use Rattle.gtid_sets.proofs.Prelude.{Interval, ltb-false, ltb-true, point}
 use Rattle.gtid_sets.proofs.Search.{ends_before, ends_behind}
 use Rattle.gtid_sets.proofs.set.first_reaching.Goals as goal
 

@@ -1,6 +1,5 @@
 use Rattle.std.proofs.Common.{length, ◌-◌, ◌<◌, ◌≤◌}
-use Rattle.std.specs.List.{AllWithin}
-use Rattle.gtid_sets.specs.Sets.{point, high}
+use Rattle.gtid_sets.proofs.Prelude.{AllWithin, high, point}
 use Rattle.gtid_sets.proofs.set.first_reaching.Given as goal
 
 abbrev pub invariant-halves : goal.invariant-halves

@@ -1,7 +1,5 @@
 use Rattle.std.proofs.Common.{◌≡◌, get_or, sym, ◌∙◌, arith}
-use Rattle.std.proofs.lemmas.Bool.{ltb-true, ltb-false}
-use Rattle.gtid_sets.specs.Sets.{low, high, point}
-use Rattle.gtid_sets.specs.declared.interval.Interval.{Interval}
+use Rattle.gtid_sets.proofs.Prelude.{Interval, high, low, ltb-false, ltb-true, point}
 use Rattle.gtid_sets.proofs.Search.{misses_all, misses_first, misses_last, on_false_not, same_point}
 use Rattle.gtid_sets.proofs.set.includes.Goals as goal
 

@@ -1,7 +1,5 @@
 use Rattle.std.proofs.Common.{◌≡◌, get_or, not, ltb, ap, arith, ◌∙◌}
-use Rattle.std.proofs.lemmas.Bool.{le-ltb}
-use Rattle.gtid_sets.specs.Sets.{point, low}
-use Rattle.gtid_sets.specs.declared.interval.Interval.{Interval}
+use Rattle.gtid_sets.proofs.Prelude.{Interval, le-ltb, low, point}
 use Rattle.gtid_sets.proofs.Search.{found_at, found_not, same_point, holds_at}
 use Rattle.gtid_sets.proofs.set.is_in.Goals as goal
 

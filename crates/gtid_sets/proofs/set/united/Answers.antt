@@ -1,7 +1,5 @@
 use Rattle.std.proofs.Common.{◌+◌, ◌<◌, ◌≤◌, length, get_or, arith}
-use Rattle.std.specs.List.{AllWithin}
-use Rattle.gtid_sets.specs.declared.interval.Interval.{Interval}
-use Rattle.gtid_sets.specs.Sets.{low}
+use Rattle.gtid_sets.proofs.Prelude.{AllWithin, Interval, low}
 use Rattle.gtid_sets.proofs.Points.{first_more, second_more, order_more, rises, rises_past}
 use Rattle.gtid_sets.proofs.set.united.Goals as goal
 

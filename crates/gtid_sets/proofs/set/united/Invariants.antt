@@ -1,7 +1,6 @@
 use Rattle.std.proofs.Common.{length, take, ◌-◌, ◌≡◌, ℕ, ◌≤◌, ◌+◌}
 use Rattle.std.specs.Prelude.{◌||◌}
-use Rattle.std.specs.List.{All, AllWithin}
-use Rattle.gtid_sets.specs.Sets.{low, on_line}
+use Rattle.gtid_sets.proofs.Prelude.{All, AllWithin, low, on_line}
 use Rattle.gtid_sets.proofs.set.united.Given as goal
 
 abbrev pub invariant-merge : goal.invariant-merge

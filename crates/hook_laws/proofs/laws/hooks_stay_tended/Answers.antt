@@ -1,5 +1,4 @@
-use Rattle.recovery_plans.specs.Taking.{taken}
-use Rattle.unended_jobs.specs.Hooked.{promoted_in}
+use Rattle.hook_laws.proofs.Prelude.{promoted_in, taken}
 use Rattle.hook_laws.proofs.Staying.{begun-tended, early-turn, of-docket, tended-turn}
 use Rattle.hook_laws.proofs.laws.hooks_stay_tended.Goals as goal
 

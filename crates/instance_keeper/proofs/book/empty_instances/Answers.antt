@@ -1,5 +1,5 @@
 use Rattle.std.proofs.Common.{None, ◌∷◌, [], ◌∙◌, sym, ap, length, length-append, subst, arith}
-use Rattle.instance_keeper.specs.Counts.{CountsUp}
+use Rattle.instance_keeper.proofs.Prelude.{CountsUp}
 use Rattle.instance_keeper.proofs.Counts.{put_next, push_counts, values_push}
 use Rattle.instance_keeper.proofs.book.empty_instances.Goals as goal
 

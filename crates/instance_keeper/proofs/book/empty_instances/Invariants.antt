@@ -1,7 +1,6 @@
 use Rattle.std.proofs.Common.{◌≡◌, None, length}
 use Rattle.std.specs.Prelude.{replicate}
-use Rattle.indexmap.specs.IndexMap.{values}
-use Rattle.instance_keeper.specs.Counts.{CountsUp}
+use Rattle.instance_keeper.proofs.Prelude.{CountsUp, values}
 use Rattle.instance_keeper.proofs.book.empty_instances.Given as goal
 
 abbrev pub invariant-loop-no : goal.invariant-loop-no

@@ -1,9 +1,7 @@
 use Rattle.std.proofs.Common.{ap, sym, ◌∙◌, Some}
-use Rattle.std.proofs.lemmas.Bool.{false≢true}
-use Rattle.kept_rows.specs.declared.observation.Instance.{Instance}
-use Rattle.kept_rows.specs.declared.row.Row.TheVariants as row
-use Rattle.kept_rows.specs.declared.row.Change.TheVariants as change
-use Rattle.instance_keeper.specs.Book.{renewed}
+use Rattle.instance_keeper.proofs.Prelude.{Instance, false≢true, renewed}
+use Rattle.instance_keeper.proofs.Prelude.change
+use Rattle.instance_keeper.proofs.Prelude.row
 use Rattle.instance_keeper.proofs.Renewal.{renewal_none, renewal_some}
 use Rattle.instance_keeper.proofs.book.renewal.Goals as goal
 

@@ -1,5 +1,5 @@
 use Rattle.std.proofs.Common.{◌≡◌, drop}
-use Rattle.instance_keeper.specs.Leases.{first_busy}
+use Rattle.instance_keeper.proofs.Prelude.{first_busy}
 use Rattle.instance_keeper.proofs.lease.first_busy.Given as goal
 
 abbrev pub invariant-loop-no : goal.invariant-loop-no

@@ -1,5 +1,5 @@
 use Rattle.std.proofs.Common.{◌≡◌, take, length}
-use Rattle.instance_keeper.specs.Leases.{taken}
+use Rattle.instance_keeper.proofs.Prelude.{taken}
 use Rattle.instance_keeper.proofs.lease.take.Given as goal
 
 abbrev pub invariant-loop-no : goal.invariant-loop-no

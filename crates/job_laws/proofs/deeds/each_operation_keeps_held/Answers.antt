@@ -1,4 +1,4 @@
-use Rattle.operations.proofs.Allowing.{turn-allowed}
+use Rattle.job_laws.proofs.Prelude.{turn-allowed}
 use Rattle.job_laws.proofs.Turns.{goes-kept, turn-kept, deed-kept, Held-run}
 use Rattle.job_laws.proofs.Leased.{turn-leased}
 use Rattle.job_laws.proofs.deeds.each_operation_keeps_held.Goals as goal

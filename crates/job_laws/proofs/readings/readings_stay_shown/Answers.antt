@@ -1,4 +1,4 @@
-use Rattle.replication_laws.proofs.ShownCoords.{Shows-run}
+use Rattle.job_laws.proofs.Prelude.{Shows-run}
 use Rattle.job_laws.proofs.Showing.{Bridged-run, ShowsAt-run, Spans-run}
 use Rattle.job_laws.proofs.readings.readings_stay_shown.Goals as goal
 

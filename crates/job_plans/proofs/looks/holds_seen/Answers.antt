@@ -1,7 +1,5 @@
 use Rattle.std.proofs.Common.{◌≡◌, ℕ, true, ap, ◌∙◌, sym, option_copied}
-use Rattle.gtid_sets.specs.Sets.{holds}
-use Rattle.operations.specs.Turns.{holds_seen, is_within}
-use Rattle.operations.proofs.Sets.{decided, within-holds, holds-within}
+use Rattle.job_plans.proofs.Prelude.{decided, holds, holds-within, holds_seen, is_within, within-holds}
 use Rattle.job_plans.proofs.looks.holds_seen.Goals as goal
 
 pub returns-in-Some : goal.returns-in-Some

@@ -1,11 +1,6 @@
 use Rattle.std.proofs.Common.{◌≡◌, false, ap, length, sym, ◌∙◌, Some}
-use Rattle.std.specs.Option.{option_copied}
-use Rattle.orch_base.specs.declared.server.Txn.{Txn}
-use Rattle.server_model.specs.Plains.{logged_by}
-use Rattle.server_model.specs.Worlds.{server_at}
-use Rattle.server_model.specs.declared.server.Server.{Server}
-use Rattle.operations.specs.Matching.{is_mark_there, is_same_there, last_mark, place_of_mark}
-use Rattle.operations.proofs.Marks.{last-is, mark-there, match-behind, match-of-both, match-unlogged, same-there}
+use Rattle.job_plans.proofs.Prelude.{Server, Txn, is_mark_there, is_same_there, last-is, last_mark, logged_by, mark-there, match-behind}
+use Rattle.job_plans.proofs.Prelude.{match-of-both, match-unlogged, option_copied, place_of_mark, same-there, server_at}
 use Rattle.job_plans.proofs.Entries.{IsKept, kept-is, entry-kept, server-there, told-none, txn-of}
 use Rattle.job_plans.proofs.matching.match_logs.Goals.{In-Some-last_mark, In-Some-place_of_mark}
 use Rattle.job_plans.proofs.matching.match_logs.Goals as goal

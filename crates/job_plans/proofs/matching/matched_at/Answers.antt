@@ -1,7 +1,5 @@
 use Rattle.std.proofs.Common.{◌≡◌, ℕ, ◌+◌, ◌-◌, ◌≤◌, Bool, true, false, arith, ap, length, sym, ◌∙◌}
-use Rattle.server_model.specs.Plains.{logged_by}
-use Rattle.operations.specs.Matching.{alike, matched_at}
-use Rattle.job_plans.specs.Entries.{kept_from}
+use Rattle.job_plans.proofs.Prelude.{alike, kept_from, logged_by, matched_at}
 use Rattle.job_plans.proofs.Entries.{alike-at, alike-short, count-of, first-after, first-here, txn-of}
 use Rattle.job_plans.proofs.matching.matched_at.Goals.{then-more-at-via-then-more-at, then-more-at-via-else-more-at+then-not-shows_same}
 use Rattle.job_plans.proofs.matching.matched_at.Goals as goal

@@ -1,4 +1,4 @@
-use Rattle.job_plans.specs.Compared.{Compared}
+use Rattle.job_plans.proofs.Prelude.{Compared}
 use Rattle.job_plans.proofs.matching.matched_at.Given as goal
 
 abbrev pub invariant-loop-k : goal.invariant-loop-k

@@ -1,10 +1,5 @@
 use Rattle.std.proofs.Common.{◌≡◌, ℕ, ◌+◌, ◌-◌, ◌≤◌, Bool, arith, refl, sym, ◌∙◌, Some}
-use Rattle.server_model.specs.Plains.{logged_by}
-use Rattle.server_model.specs.Worlds.{server_at}
-use Rattle.server_model.specs.declared.server.Server.{Server}
-use Rattle.operations.specs.Matching.{is_same_there}
-use Rattle.operations.proofs.Marks.{last-none}
-use Rattle.job_plans.specs.Entries.{kept_from}
+use Rattle.job_plans.proofs.Prelude.{Server, is_same_there, kept_from, last-none, logged_by, server_at}
 use Rattle.job_plans.proofs.Entries.{last-before, last-here, test-gone, test-kept, txn-of}
 use Rattle.job_plans.proofs.matching.place_of_mark.Goals.{After-is_same_txn}
 use Rattle.job_plans.proofs.matching.place_of_mark.Goals as goal

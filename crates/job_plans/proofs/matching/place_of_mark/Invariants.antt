@@ -1,8 +1,5 @@
 use Rattle.std.proofs.Common.{◌≡◌, Some, length}
-use Rattle.server_model.specs.Plains.{logged_by}
-use Rattle.server_model.specs.Worlds.{server_at}
-use Rattle.server_model.specs.declared.server.Server.{Server}
-use Rattle.operations.specs.Matching.{is_same_there, last_below}
+use Rattle.job_plans.proofs.Prelude.{Server, is_same_there, last_below, logged_by, server_at}
 use Rattle.job_plans.proofs.matching.place_of_mark.Given as goal
 
 -- none was found behind

@@ -1,7 +1,5 @@
 use Rattle.std.proofs.Common.{◌≡◌, List, [], ◌∷◌, ◌++◌, rules, ap, ◌∙◌}
-use Rattle.std.proofs.lemmas.Fn.{filter_same}
-use Rattle.operations.specs.declared.sight.Sight.{Sight}
-use Rattle.operations.specs.Jobs.{others}
+use Rattle.job_plans.proofs.Prelude.{Sight, filter_same, others}
 use Rattle.job_plans.proofs.turns.keep.Goals as goal
 
 pub returns-clause-items : goal.returns-clause-items

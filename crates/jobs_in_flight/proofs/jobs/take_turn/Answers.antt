@@ -4,7 +4,7 @@ use Rattle.unended_jobs.specs.Looks.{CanGo, observation_of}
 use Rattle.unended_jobs.specs.Unended.{Flown}
 use Rattle.unended_jobs.specs.declared.unended.Unended.{Unended}
 use Rattle.unended_jobs.proofs.Looking.{foretold-observation}
-use Rattle.server_model.specs.Run.{run}
+use Rattle.unended_jobs.specs.ServerModel.Run.{run}
 use Rattle.jobs_in_flight.specs.Jobs.{job_exchanges, job_observation, reads_with}
 use Rattle.jobs_in_flight.proofs.Turning.{book-after, found-here, jobs-after, turn-here}
 use Rattle.jobs_in_flight.proofs.jobs.take_turn.Goals as goal

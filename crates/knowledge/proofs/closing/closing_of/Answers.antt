@@ -1,12 +1,12 @@
 use Rattle.std.proofs.Common.{◌≡◌, ◌∙◌, List, Some, None, sym, ap, subst, refl, inl, inr}
 use Rattle.std.specs.Option.{option_map}
-use Rattle.commands.specs.declared.line.Line.{Line}
-use Rattle.operations.specs.declared.step.JobStep.TheVariants as step
-use Rattle.recovery_core.specs.Endings.{ending_with, is_acknowledged_for}
-use Rattle.recovery_plans.specs.declared.purpose.Purpose.{Purpose}
-use Rattle.unended_jobs.proofs.Looking.{recovery_after}
-use Rattle.unended_jobs.specs.Looks.{step_of}
-use Rattle.unended_jobs.specs.declared.look.UnendedLook.{UnendedLook}
+use Rattle.command_outcomes.specs.Commands.declared.line.Line.{Line}
+use Rattle.command_outcomes.specs.Operations.declared.step.JobStep.TheVariants as step
+use Rattle.command_outcomes.specs.RecoveryCore.Endings.{ending_with, is_acknowledged_for}
+use Rattle.command_outcomes.specs.RecoveryPlans.declared.purpose.Purpose.{Purpose}
+use Rattle.command_outcomes.proofs.UnendedJobs.Looking.{recovery_after}
+use Rattle.command_outcomes.specs.UnendedJobs.Looks.{step_of}
+use Rattle.command_outcomes.specs.UnendedJobs.declared.look.UnendedLook.{UnendedLook}
 use Rattle.knowledge.specs.declared.closing.Closing.{Closing}
 use Rattle.knowledge.proofs.Closings.{closing-same, closing-told, closing_as}
 use Rattle.knowledge.proofs.closing.closing_of.Goals as goal

@@ -1,9 +1,6 @@
 use Rattle.std.proofs.Common.{Err, inl, refl, subst}
-use Rattle.top_call.specs.declared.reading.Stop.{Stop}
-use Rattle.top_call.specs.Reads.{OfRead, ReadsAs}
-use Rattle.top_call.specs.declared.way.Way.TheVariants as way
-use Rattle.top_call.proofs.Ends.{each, idles, lifted, told_of_faults, unmoved}
-use Rattle.live_calls.specs.Reads.{live_scenario}
+use Rattle.live_calls.proofs.Prelude.{OfRead, ReadsAs, Stop, each, idles, lifted, live_scenario, told_of_faults, unmoved}
+use Rattle.live_calls.proofs.Prelude.way
 use Rattle.live_calls.proofs.Ends.{faulty}
 use Rattle.live_calls.proofs.answering.answer.Goals as goal
 

@@ -1,6 +1,5 @@
-use Rattle.tasks.specs.declared.ending.Ending.TheVariants as ends
-use Rattle.tasks.proofs.Sends.{takes_nothing}
-use Rattle.top_call.proofs.Ends.{counted}
+use Rattle.live_calls.proofs.Prelude.{counted, takes_nothing}
+use Rattle.live_calls.proofs.Prelude.ends
 use Rattle.live_calls.proofs.Ends.{keeper_failed, sink_rose, unwritten, wanting, written}
 use Rattle.live_calls.proofs.answering.report.Goals as goal
 

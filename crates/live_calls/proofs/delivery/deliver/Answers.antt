@@ -1,8 +1,5 @@
 use Rattle.std.proofs.Common.{◌∙◌, ℕ, List, ◌++◌, ap}
-use Rattle.live_desk.specs.Entries.{turns_in}
-use Rattle.schedules.specs.Turns.{schedule_line}
-use Rattle.tasks.specs.Journals.{told_run}
-use Rattle.tasks.specs.Sinks.{across}
+use Rattle.live_calls.proofs.Prelude.{across, schedule_line, told_run, turns_in}
 use Rattle.live_calls.proofs.Reports.{delivered}
 use Rattle.live_calls.proofs.delivery.deliver.Goals as goal
 

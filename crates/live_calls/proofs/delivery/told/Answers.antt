@@ -1,6 +1,5 @@
 use Rattle.std.proofs.Common.{◌≡◌, ◌∙◌, ◌≤◌, List, arith, inl, subst, sym}
-use Rattle.live_desk.specs.Ends.{IsLive, rows_after, state_after}
-use Rattle.live_desk.specs.Entries.{Entry}
+use Rattle.live_calls.proofs.Prelude.{Entry, IsLive, rows_after, state_after}
 use Rattle.live_calls.proofs.Ends.{few_threads}
 use Rattle.live_calls.proofs.Reports.{tells}
 use Rattle.live_calls.proofs.delivery.told.Goals as goal

@@ -1,9 +1,5 @@
 use Rattle.std.proofs.Common.{Err, subst, sym}
-use Rattle.std.proofs.lemmas.Result.{err_from_is_err_and}
-use Rattle.top_call.specs.declared.reading.Stop.{Stop}
-use Rattle.top_call.specs.Reads.{ReadsAs}
-use Rattle.top_call.proofs.Ends.{lifted}
-use Rattle.live_calls.specs.Reads.{live_scenario}
+use Rattle.live_calls.proofs.Prelude.{ReadsAs, Stop, err_from_is_err_and, lifted, live_scenario}
 use Rattle.live_calls.proofs.LiveScenarios.{one_read, several_read, stays_read}
 use Rattle.live_calls.proofs.reading.live_scenario_from.Goals as goal
 

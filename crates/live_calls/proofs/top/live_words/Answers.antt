@@ -1,5 +1,5 @@
 use Rattle.std.proofs.Common.{map, sym}
-use Rattle.top_call.proofs.Ends.{bad_words}
+use Rattle.live_calls.proofs.Prelude.{bad_words}
 use Rattle.live_calls.proofs.Ends.{bad_is_plain, is_plain}
 use Rattle.live_calls.proofs.top.live_words.Goals as goal
 

@@ -1,11 +1,8 @@
 use Rattle.std.proofs.Common.{◌∙◌, ℕ, List, inl, map, refl, subst, sym}
-use Rattle.tasks.specs.Sinks.{End, between, taken}
-use Rattle.top_call.specs.declared.way.Way.TheVariants as way
-use Rattle.top_call.specs.Ends.{DrawEnds, FaultsBy, IsComplete, IsUsage, StopsAtFirst, call}
-use Rattle.top_call.proofs.Ends.{each, idles, lifted, keeper_rose, known, no_usage, of_four, of_three, undrawn, unmoved}
-use Rattle.top_call.proofs.Reports.{both, err_by, kept_by_report, out_by, status_told}
-use Rattle.top_call.proofs.Runs.{active_alone, begin_apart, finish_well, tell_hooks, tell_truly, obeys, safe_run}
-use Rattle.live_calls.specs.Reads.{live_scenario}
+use Rattle.live_calls.proofs.Prelude.{DrawEnds, End, FaultsBy, IsComplete, IsUsage, StopsAtFirst, active_alone, begin_apart, between, both, call}
+use Rattle.live_calls.proofs.Prelude.{each, err_by, finish_well, idles, keeper_rose, kept_by_report, known, lifted, live_scenario, no_usage, obeys}
+use Rattle.live_calls.proofs.Prelude.{of_four, of_three, out_by, safe_run, status_told, taken, tell_hooks, tell_truly, undrawn, unmoved}
+use Rattle.live_calls.proofs.Prelude.way
 use Rattle.live_calls.proofs.Ends.{are_live, are_plain, complete, faults, follows, live_draws_nothing, never_both, read_whole}
 use Rattle.live_calls.proofs.Runs.{goes_well}
 use Rattle.live_calls.proofs.top.orch.Goals as goal

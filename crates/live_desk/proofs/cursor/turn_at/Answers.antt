@@ -1,7 +1,5 @@
 use Rattle.std.proofs.Common.{sym, subst}
-use Rattle.turns.specs.declared.turn.Turn.{Turn}
-use Rattle.live_desk.specs.DeskBy.{left_from}
-use Rattle.live_desk.specs.Desks.{IsNext}
+use Rattle.live_desk.proofs.Prelude.{IsNext, Turn, left_from}
 use Rattle.live_desk.proofs.Cursors.{next-here}
 use Rattle.live_desk.proofs.cursor.turn_at.Goals as goal
 

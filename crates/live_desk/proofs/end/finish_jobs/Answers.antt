@@ -1,8 +1,6 @@
 use Rattle.std.proofs.Common.{◌≡◌, ◌∙◌, List, Some, length, sym, ap, subst, arith}
 use Rattle.std.specs.Prelude.{All, ◌<◌, slice_get}
-use Rattle.unended_jobs.specs.declared.unended.Unended.{Unended}
-use Rattle.jobs_in_flight.specs.Jobs.{is_open}
-use Rattle.orch_core.proofs.Others.{without-less}
+use Rattle.live_desk.proofs.Prelude.{Unended, is_open, without-less}
 use Rattle.live_desk.proofs.Ends.{RunsOn-finished, RunsOn-none, first-open}
 use Rattle.live_desk.proofs.end.finish_jobs.Goals as goal
 

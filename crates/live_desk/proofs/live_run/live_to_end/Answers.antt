@@ -1,7 +1,6 @@
 use Rattle.std.proofs.Common.{◌≡◌, ℕ, subst}
 use Rattle.std.specs.Prelude.{IfOk}
-use Rattle.scenarios.specs.declared.scenario.Scenario.{Scenario}
-use Rattle.live_desk.specs.Ends.{rows_after, state_after}
+use Rattle.live_desk.proofs.Prelude.{Scenario, rows_after, state_after}
 use Rattle.live_desk.proofs.live_run.live_to_end.Goals as goal
 
 pub returns-clause-rows : goal.returns-clause-rows

@@ -1,7 +1,5 @@
 use Rattle.std.proofs.Common.{◌≡◌, ap, ◌∙◌, true, length}
-use Rattle.std.proofs.lemmas.Result.{IfOk-weaker}
-use Rattle.operations.specs.Named.{are_named}
-use Rattle.moves_gtid.specs.Plans.{plan_of}
+use Rattle.moves_gtid.proofs.Prelude.{IfOk-weaker, are_named, plan_of}
 use Rattle.moves_gtid.proofs.Named.{plan-named}
 use Rattle.moves_gtid.proofs.plans.plan.Goals as goal
 

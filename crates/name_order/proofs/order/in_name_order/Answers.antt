@@ -1,10 +1,6 @@
 use Rattle.std.proofs.Common.{rules, ◌≡◌, ℕ, Vec, Global, Bor, map, length, ap, sym, ◌∙◌, subst}
 use Rattle.std.specs.Prelude.{All, ◌<◌}
-use Rattle.std.proofs.lemmas.Result.{IfOk-weaker}
-use Rattle.std.proofs.lemmas.List.Sorted.{answers_always}
-use Rattle.orch_base.specs.Names.{HostPort}
-use Rattle.orch_base.specs.declared.server.ServerNo.{ServerNo}
-use Rattle.name_order.specs.NameOrder.{by_name, IsOrder}
+use Rattle.name_order.proofs.Prelude.{HostPort, IfOk-weaker, IsOrder, ServerNo, answers_always, by_name}
 use Rattle.name_order.proofs.ByName.{length-by_name, IsOrder-by_name}
 use Rattle.name_order.proofs.Arranged.{by_name-within, less, less_weak, sorted_is_by_name}
 use Rattle.name_order.proofs.order.in_name_order.Goals as goal

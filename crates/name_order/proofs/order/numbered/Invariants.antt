@@ -1,6 +1,5 @@
 use Rattle.std.proofs.Common.{◌≡◌, map, take, Bor, ℕ}
-use Rattle.std.specs.List.{enumerate_from}
-use Rattle.orch_base.specs.Names.{HostPort}
+use Rattle.name_order.proofs.Prelude.{HostPort, enumerate_from}
 use Rattle.name_order.proofs.order.numbered.Given as goal
 
 abbrev pub invariant-loop-no : goal.invariant-loop-no

@@ -1,5 +1,5 @@
 use Rattle.std.proofs.Common.{◌≡◌, map, take, Bor, ℕ}
-use Rattle.orch_base.specs.Names.{HostPort}
+use Rattle.name_order.proofs.Prelude.{HostPort}
 use Rattle.name_order.proofs.order.numbers_of.Given as goal
 
 abbrev pub invariant-loop-server : goal.invariant-loop-server

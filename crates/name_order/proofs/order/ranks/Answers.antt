@@ -1,5 +1,5 @@
 use Rattle.std.proofs.Common.{◌∙◌, arith}
-use Rattle.std.proofs.lemmas.List.{length-set}
+use Rattle.name_order.proofs.Prelude.{length-set}
 use Rattle.name_order.proofs.Placing.{number_below, one_placed, all_placed}
 use Rattle.name_order.proofs.order.ranks.Goals as goal
 

@@ -1,5 +1,5 @@
 use Rattle.std.proofs.Common.{◌≡◌, ◌<◌, ℕ, length, get_or}
-use Rattle.orch_base.specs.declared.server.ServerNo.{ServerNo}
+use Rattle.name_order.proofs.Prelude.{ServerNo}
 use Rattle.name_order.proofs.order.ranks.Given as goal
 
 abbrev pub invariant-loop-rank : goal.invariant-loop-rank

@@ -1,10 +1,6 @@
 use Rattle.std.proofs.Common.{◌∙◌, ◌≤◌, true, not, length, ap, sym, arith}
-use Rattle.std.proofs.Math.Seq.{drop-length}
-use Rattle.std.proofs.lemmas.List.Quantifiers.{position-Some}
-use Rattle.kept_rows.specs.declared.row.Row.{Row}
-use Rattle.kept_rows.specs.declared.row.Row.TheVariants as row
-use Rattle.opening_book.specs.Audits.{audit_of, is_instance}
-use Rattle.opening_book.specs.Opening.{loading}
+use Rattle.opening_book.proofs.Prelude.{Row, audit_of, drop-length, is_instance, loading, position-Some}
+use Rattle.opening_book.proofs.Prelude.row
 use Rattle.opening_book.proofs.Beyond.{before_none, rest_from, same_audit, same_loading}
 use Rattle.opening_book.proofs.audit.beyond_instances.Goals as goal
 

@@ -1,5 +1,5 @@
 use Rattle.std.proofs.Common.{◌≡◌, take}
-use Rattle.opening_book.specs.Audits.{latest_recovery}
+use Rattle.opening_book.proofs.Prelude.{latest_recovery}
 use Rattle.opening_book.proofs.audit.latest_recovery.Given as goal
 
 abbrev pub invariant-recoveries : goal.invariant-recoveries

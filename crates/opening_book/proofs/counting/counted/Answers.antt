@@ -1,7 +1,6 @@
 use Rattle.std.proofs.Common.{◌∙◌, List, ap}
 use Rattle.std.specs.Prelude.{filter}
-use Rattle.kept_rows.specs.declared.row.Row.{Row}
-use Rattle.opening_book.specs.Counting.{counts}
+use Rattle.opening_book.proofs.Prelude.{Row, counts}
 use Rattle.opening_book.proofs.counting.counted.Goals as goal
 
 pub returns : goal.returns

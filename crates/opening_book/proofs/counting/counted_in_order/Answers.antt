@@ -1,8 +1,6 @@
 use Rattle.std.proofs.Common.{◌∙◌, List, ap, sym}
 use Rattle.std.specs.Prelude.{filter}
-use Rattle.kept_rows.proofs.Rising.{map_of-risen}
-use Rattle.kept_rows.specs.declared.row.Row.{Row}
-use Rattle.opening_book.specs.Counting.{counts}
+use Rattle.opening_book.proofs.Prelude.{Row, counts, map_of-risen}
 use Rattle.opening_book.proofs.counting.counted_in_order.Goals as goal
 
 pub returns : goal.returns

@@ -1,7 +1,5 @@
 use Rattle.std.proofs.Common.{◌≡◌, ◌∙◌, true, ap, rules, sym}
-use Rattle.std.specs.List.{list_all}
-use Rattle.std.proofs.lemmas.Fn.{filter_same}
-use Rattle.opening_book.specs.Counting.{counts}
+use Rattle.opening_book.proofs.Prelude.{counts, filter_same, list_all}
 use Rattle.opening_book.proofs.Whole.{filter_whole}
 use Rattle.opening_book.proofs.counting.counting.Goals as goal
 

@@ -1,5 +1,5 @@
 use Rattle.std.proofs.Common.{◌≡◌, take}
-use Rattle.opening_book.specs.Counting.{latest}
+use Rattle.opening_book.proofs.Prelude.{latest}
 use Rattle.opening_book.proofs.counting.latest_moment.Given as goal
 
 abbrev pub invariant-rows : goal.invariant-rows

@@ -1,6 +1,5 @@
 use Rattle.std.specs.Prelude.{◌+◌, ◌-◌}
-use Rattle.opening_book.specs.Audits.{audit_of, last_id}
-use Rattle.opening_book.specs.Counting.{counted, greatest_id}
+use Rattle.opening_book.proofs.Prelude.{audit_of, counted, greatest_id, last_id}
 use Rattle.opening_book.proofs.Recoveries.{FollowAudit-acknowledged, FollowAudit-book, FollowAudit-closed, FollowAudit-loaded, FollowAudit-loading, FollowAudit-opened}
 use Rattle.opening_book.proofs.laws.kept_rows_follow_the_audit.Goals as goal
 

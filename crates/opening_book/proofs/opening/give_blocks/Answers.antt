@@ -1,8 +1,5 @@
 use Rattle.std.proofs.Common.{◌++◌, ◌∙◌, ap, sym, take, List}
-use Rattle.std.specs.Option.{option_to_list}
-use Rattle.kept_rows.specs.declared.row.Change.{Change}
-use Rattle.kept_rows.specs.declared.row.Row.{Row}
-use Rattle.opening_book.specs.Opening.{block_given, blocks_given}
+use Rattle.opening_book.proofs.Prelude.{Change, Row, block_given, blocks_given, option_to_list}
 use Rattle.opening_book.proofs.Missing.{map-more}
 use Rattle.opening_book.proofs.opening.give_blocks.Goals as goal
 

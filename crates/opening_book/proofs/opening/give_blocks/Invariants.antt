@@ -1,5 +1,5 @@
 use Rattle.std.proofs.Common.{◌≡◌, take}
-use Rattle.opening_book.specs.Opening.{blocks_given}
+use Rattle.opening_book.proofs.Prelude.{blocks_given}
 use Rattle.opening_book.proofs.opening.give_blocks.Given as goal
 
 abbrev pub invariant-loop-row : goal.invariant-loop-row

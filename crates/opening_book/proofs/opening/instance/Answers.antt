@@ -1,14 +1,6 @@
 use Rattle.std.proofs.Common.{◌≡◌, ℕ, Bool, Option, Some, None, sym, ◌∙◌, ap}
 use Rattle.std.specs.Prelude.{IfSome, option_map}
-use Rattle.std.proofs.lemmas.Option.{same_Some}
-use Rattle.kept_rows.specs.declared.observation.Instance.{Instance}
-use Rattle.orch_base.specs.declared.server.Moment.{Moment}
-use Rattle.server_model.specs.Desk.{can_reach}
-use Rattle.server_model.specs.Gtids.{shown_of}
-use Rattle.server_model.specs.Worlds.{World, server_at}
-use Rattle.server_model.specs.declared.server.Server.{Server}
-use Rattle.server_words.specs.declared.status.Status.{Status}
-use Rattle.opening_book.specs.Opening.{opening_instance}
+use Rattle.opening_book.proofs.Prelude.{Instance, Moment, Server, Status, World, can_reach, opening_instance, same_Some, server_at, shown_of}
 use Rattle.opening_book.proofs.opening.instance.Goals as goal
 
 -- an instance that was never read

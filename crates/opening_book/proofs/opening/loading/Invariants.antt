@@ -1,5 +1,5 @@
 use Rattle.std.proofs.Common.{◌≡◌, ◌++◌, map}
-use Rattle.kept_rows.specs.Recoveries.{put_recovery}
+use Rattle.opening_book.proofs.Prelude.{put_recovery}
 use Rattle.opening_book.proofs.opening.loading.Given as goal
 
 abbrev pub invariant-closed : goal.invariant-closed

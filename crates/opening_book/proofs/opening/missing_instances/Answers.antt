@@ -1,7 +1,5 @@
 use Rattle.std.proofs.Common.{◌++◌, ◌∙◌, ap, sym, take, false, List, Option, arith}
-use Rattle.std.specs.Option.{option_to_list}
-use Rattle.kept_rows.specs.declared.row.Change.{Change}
-use Rattle.opening_book.specs.Opening.{missing, missing_from}
+use Rattle.opening_book.proofs.Prelude.{Change, missing, missing_from, option_to_list}
 use Rattle.opening_book.proofs.Missing.{from-more}
 use Rattle.opening_book.proofs.opening.missing_instances.Goals as goal
 

@@ -1,5 +1,5 @@
 use Rattle.std.proofs.Common.{◌≡◌, take}
-use Rattle.opening_book.specs.Opening.{missing_from}
+use Rattle.opening_book.proofs.Prelude.{missing_from}
 use Rattle.opening_book.proofs.opening.missing_instances.Given as goal
 
 abbrev pub invariant-loop-no : goal.invariant-loop-no

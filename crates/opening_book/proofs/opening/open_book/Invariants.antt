@@ -1,5 +1,5 @@
 use Rattle.std.proofs.Common.{◌≡◌}
-use Rattle.opening_book.specs.Opening.{opened_book}
+use Rattle.opening_book.proofs.Prelude.{opened_book}
 use Rattle.opening_book.proofs.opening.open_book.Given as goal
 
 abbrev pub invariant-changes : goal.invariant-changes

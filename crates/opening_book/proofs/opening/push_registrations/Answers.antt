@@ -1,7 +1,5 @@
 use Rattle.std.proofs.Common.{◌++◌, ◌∙◌, ap, sym, take, List, Option, None, arith, append_assoc}
-use Rattle.std.specs.Option.{option_to_list}
-use Rattle.kept_rows.specs.declared.row.Change.{Change}
-use Rattle.opening_book.specs.Opening.{registering, registering_from}
+use Rattle.opening_book.proofs.Prelude.{Change, option_to_list, registering, registering_from}
 use Rattle.opening_book.proofs.Missing.{from-more}
 use Rattle.opening_book.proofs.opening.push_registrations.Goals as goal
 

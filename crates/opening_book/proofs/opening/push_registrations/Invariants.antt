@@ -1,5 +1,5 @@
 use Rattle.std.proofs.Common.{◌≡◌, ◌++◌, take}
-use Rattle.opening_book.specs.Opening.{registering_from}
+use Rattle.opening_book.proofs.Prelude.{registering_from}
 use Rattle.opening_book.proofs.opening.push_registrations.Given as goal
 
 abbrev pub invariant-loop-no : goal.invariant-loop-no

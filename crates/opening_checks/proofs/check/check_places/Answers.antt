@@ -1,5 +1,5 @@
 use Rattle.std.proofs.Common.{◌∙◌, sym}
-use Rattle.openings.specs.declared.opening.Flaw.TheVariants.{BadPlace}
+use Rattle.opening_checks.proofs.Prelude.{BadPlace}
 use Rattle.opening_checks.proofs.Flawed.{files-good}
 use Rattle.opening_checks.proofs.Told.{without-none}
 use Rattle.opening_checks.proofs.check.check_places.Goals as goal

@@ -1,6 +1,5 @@
 use Rattle.std.proofs.Common.{◌≡◌, drop}
-use Rattle.openings.specs.Flaws.{bad_files, first_met}
-use Rattle.opening_checks.specs.SourceLogs.{AreLogs}
+use Rattle.opening_checks.proofs.Prelude.{AreLogs, bad_files, first_met}
 use Rattle.opening_checks.proofs.files.first_bad_files.Given as goal
 
 abbrev pub invariant-loop-n : goal.invariant-loop-n

@@ -1,6 +1,5 @@
 use Rattle.std.proofs.Common.{◌≡◌, drop}
-use Rattle.openings.specs.Flaws.{falls_or_passes}
-use Rattle.opening_checks.specs.Values.{first_bad_flush}
+use Rattle.opening_checks.proofs.Prelude.{falls_or_passes, first_bad_flush}
 use Rattle.opening_checks.proofs.files.first_bad_flush.Given as goal
 
 abbrev pub invariant-loop-k : goal.invariant-loop-k

@@ -1,5 +1,5 @@
 use Rattle.std.proofs.Common.{sym, arith}
-use Rattle.std.proofs.lemmas.Option.{slice_get_within}
+use Rattle.opening_checks.proofs.Prelude.{slice_get_within}
 use Rattle.opening_checks.proofs.HeldLogs.{AreLogs-put}
 use Rattle.opening_checks.proofs.Purgings.{bad_purged-first}
 use Rattle.opening_checks.proofs.files.is_badly_purged.Goals as goal

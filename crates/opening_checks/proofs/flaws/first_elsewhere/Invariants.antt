@@ -1,6 +1,5 @@
 use Rattle.std.proofs.Common.{◌≡◌, drop}
-use Rattle.std.specs.List.{list_any}
-use Rattle.opening_checks.specs.Values.{elsewhere, first_elsewhere}
+use Rattle.opening_checks.proofs.Prelude.{elsewhere, first_elsewhere, list_any}
 use Rattle.opening_checks.proofs.flaws.first_elsewhere.Given as goal
 
 abbrev pub invariant-loop-k : goal.invariant-loop-k

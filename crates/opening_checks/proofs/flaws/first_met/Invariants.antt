@@ -1,6 +1,5 @@
 use Rattle.std.proofs.Common.{◌≡◌, drop}
-use Rattle.openings.specs.Flaws.{first_met}
-use Rattle.opening_checks.specs.ServerTests.{met_by}
+use Rattle.opening_checks.proofs.Prelude.{first_met, met_by}
 use Rattle.opening_checks.proofs.flaws.first_met.Given as goal
 
 abbrev pub invariant-loop-n : goal.invariant-loop-n

@@ -1,6 +1,5 @@
 use Rattle.std.proofs.Common.{◌≡◌, ◌-◌, length}
-use Rattle.openings.specs.Flaws.{below_itself, is_reached}
-use Rattle.openings.specs.Servers.{sources}
+use Rattle.opening_checks.proofs.Prelude.{below_itself, is_reached, sources}
 use Rattle.opening_checks.proofs.flaws.is_below_itself.Given as goal
 
 abbrev pub invariant-loop : goal.invariant-loop

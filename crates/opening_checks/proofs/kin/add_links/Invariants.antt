@@ -1,6 +1,5 @@
 use Rattle.std.proofs.Common.{◌≡◌, drop}
-use Rattle.openings.specs.Kin.{links_after, links}
-use Rattle.opening_checks.specs.KinTable.{with_links}
+use Rattle.opening_checks.proofs.Prelude.{links, links_after, with_links}
 use Rattle.opening_checks.proofs.kin.add_links.Given as goal
 
 abbrev pub invariant-loop-t : goal.invariant-loop-t

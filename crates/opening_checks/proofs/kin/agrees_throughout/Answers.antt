@@ -1,9 +1,6 @@
 use Rattle.std.proofs.Common.{◌<◌, ◌+◌, ◌∙◌, ap, sym, get_or, length, drop, Some}
 use Rattle.std.specs.Prelude.{◌&&◌}
-use Rattle.std.specs.List.{list_all}
-use Rattle.orch_base.specs.declared.server.Txn.{Txn}
-use Rattle.openings.specs.Kin.{links_after}
-use Rattle.opening_checks.specs.KinTable.{agrees_at}
+use Rattle.opening_checks.proofs.Prelude.{Txn, agrees_at, links_after, list_all}
 use Rattle.opening_checks.proofs.KinSteps.{agrees-on}
 use Rattle.opening_checks.proofs.kin.agrees_throughout.Goals as goal
 

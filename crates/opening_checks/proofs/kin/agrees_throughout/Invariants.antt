@@ -1,7 +1,5 @@
 use Rattle.std.proofs.Common.{◌≡◌, drop}
-use Rattle.std.specs.List.{list_all}
-use Rattle.openings.specs.Kin.{links_after}
-use Rattle.opening_checks.specs.KinTable.{agrees_at, agrees_throughout}
+use Rattle.opening_checks.proofs.Prelude.{agrees_at, agrees_throughout, links_after, list_all}
 use Rattle.opening_checks.proofs.kin.agrees_throughout.Given as goal
 
 abbrev pub invariant-loop-t : goal.invariant-loop-t

@@ -1,9 +1,6 @@
 use Rattle.std.proofs.Common.{◌≡◌, ◌∙◌, ap, sym, subst, true, List, ◌+◌, Some, length, refl}
 use Rattle.std.specs.Prelude.{slice_get, is_some, not}
-use Rattle.std.proofs.lemmas.Option.{slice_get_read}
-use Rattle.openings.specs.Flaws.{not_kin}
-use Rattle.opening_checks.specs.KinTable.{IsTable}
-use Rattle.opening_checks.specs.declared.kin_row.Link.{Link}
+use Rattle.opening_checks.proofs.Prelude.{IsTable, Link, not_kin, slice_get_read}
 use Rattle.opening_checks.proofs.KinTables.{first_met-on, not_kin-kin, not_kin-skip, source-there, IsTable-skip}
 use Rattle.opening_checks.proofs.kin.first_not_kin.Goals.{then-is_none+in_ok-is_kin+else-not-is_kin, else-is_none}
 use Rattle.opening_checks.proofs.kin.first_not_kin.Goals as goal

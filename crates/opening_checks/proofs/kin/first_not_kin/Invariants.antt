@@ -1,6 +1,5 @@
 use Rattle.std.proofs.Common.{◌≡◌, drop}
-use Rattle.openings.specs.Flaws.{first_met, not_kin}
-use Rattle.opening_checks.specs.KinTable.{IsTable}
+use Rattle.opening_checks.proofs.Prelude.{IsTable, first_met, not_kin}
 use Rattle.opening_checks.proofs.kin.first_not_kin.Given as goal
 
 abbrev pub invariant-loop-n : goal.invariant-loop-n

@@ -1,6 +1,5 @@
 use Rattle.std.proofs.Common.{◌≡◌, ℕ, ◌<◌, length, get_or}
-use Rattle.orch_base.specs.Histories.{count_own}
-use Rattle.openings.specs.Servers.{history_at}
+use Rattle.opening_checks.proofs.Prelude.{count_own, history_at}
 use Rattle.opening_checks.proofs.kin.own_counts.Given as goal
 
 abbrev pub invariant-loop-n : goal.invariant-loop-n

@@ -1,10 +1,5 @@
 use Rattle.std.proofs.Common.{◌≡◌, ◌∙◌, ap, sym, subst, true, false, refl, List, ◌+◌}
-use Rattle.std.specs.List.{list_all}
-use Rattle.opening_checks.specs.declared.kin_row.Link.{Link}
-use Rattle.openings.specs.Kin.{links}
-use Rattle.opening_checks.specs.KinTable.{agrees_throughout, is_counted, with_links, IsTable}
-use Rattle.openings.specs.Listed.{listed_history}
-use Rattle.openings.specs.Servers.{parts_of}
+use Rattle.opening_checks.proofs.Prelude.{IsTable, Link, agrees_throughout, is_counted, links, list_all, listed_history, parts_of, with_links}
 use Rattle.opening_checks.proofs.KinTables.{told-kin, history-of_servers, table-after}
 use Rattle.opening_checks.proofs.kin.take_root.Goals.{then-not-agrees_throughout-via-then-not-agrees_throughout, then-not-agrees_throughout-via-else-not-agrees_throughout+then-not-are_counted}
 use Rattle.opening_checks.proofs.kin.take_root.Goals as goal

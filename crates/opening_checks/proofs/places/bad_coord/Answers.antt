@@ -1,10 +1,6 @@
 use Rattle.std.proofs.Common.{◌≡◌, ◌∙◌, subst, Some, arith}
-use Rattle.std.proofs.lemmas.Bool.{or_parts}
-use Rattle.std.proofs.lemmas.Grind.{common_steps}
-use Rattle.std.proofs.lemmas.Option.{gets}
+use Rattle.opening_checks.proofs.Prelude.{FlawedValue, bad_flushes, bad_purged, common_steps, gets, or_parts}
 use Rattle.std.specs.Prelude.{IfSome, slice_get}
-use Rattle.openings.specs.Flaws.{bad_flushes, bad_purged}
-use Rattle.opening_checks.specs.declared.fault.FlawedValue.{FlawedValue}
 use Rattle.opening_checks.proofs.HeldLogs.{AreLogs-put}
 use Rattle.opening_checks.proofs.Standings.{coords-under, value-under}
 use Rattle.opening_checks.proofs.places.bad_coord.Goals as goal

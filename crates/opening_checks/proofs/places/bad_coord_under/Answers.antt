@@ -1,8 +1,6 @@
 use Rattle.std.proofs.Common.{◌≡◌, ap, subst, ◌∙◌}
 use Rattle.std.specs.Prelude.{IfSome, unwrap_or}
-use Rattle.binlog_coords.specs.declared.Coord.{Coord}
-use Rattle.openings.specs.Flaws.{bad_coords_in}
-use Rattle.opening_checks.specs.Values.{coord_value_in, exec_in, read_in}
+use Rattle.opening_checks.proofs.Prelude.{Coord, bad_coords_in, coord_value_in, exec_in, read_in}
 use Rattle.opening_checks.proofs.places.bad_coord_under.Goals as goal
 
 pub returns-clause-met : goal.returns-clause-met

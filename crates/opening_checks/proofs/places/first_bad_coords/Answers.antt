@@ -1,8 +1,6 @@
 use Rattle.std.proofs.Common.{◌≡◌, ◌∙◌, length, refl, subst, Some, Option}
 use Rattle.std.specs.Prelude.{IfSome, slice_get}
-use Rattle.std.proofs.lemmas.Option.{slice_get_read}
-use Rattle.opening_checks.specs.Values.{coord_value}
-use Rattle.opening_checks.specs.declared.fault.FlawedValue.{FlawedValue}
+use Rattle.opening_checks.proofs.Prelude.{FlawedValue, coord_value, slice_get_read}
 use Rattle.opening_checks.proofs.Purgings.{coords-blamed_at}
 use Rattle.opening_checks.proofs.places.first_bad_coords.Goals as goal
 

@@ -1,6 +1,5 @@
 use Rattle.std.proofs.Common.{◌≡◌, drop}
-use Rattle.openings.specs.Flaws.{bad_coords, first_met}
-use Rattle.opening_checks.specs.SourceLogs.{AreLogs}
+use Rattle.opening_checks.proofs.Prelude.{AreLogs, bad_coords, first_met}
 use Rattle.opening_checks.proofs.places.first_bad_coords.Given as goal
 
 abbrev pub invariant-loop-n : goal.invariant-loop-n

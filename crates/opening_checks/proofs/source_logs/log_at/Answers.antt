@@ -1,9 +1,6 @@
 use Rattle.std.proofs.Common.{◌≡◌, ◌∙◌, ap, sym, subst}
 use Rattle.std.specs.Prelude.{All}
-use Rattle.std.proofs.lemmas.Result.{IfOk-weaker}
-use Rattle.openings.specs.Servers.{history_at, log_by, log_in}
-use Rattle.openings.specs.Taking.{HasSize}
-use Rattle.openings.proofs.Sizes.{history_at-sized}
+use Rattle.opening_checks.proofs.Prelude.{HasSize, IfOk-weaker, history_at, history_at-sized, log_by, log_in}
 use Rattle.opening_checks.proofs.source_logs.log_at.Goals as goal
 
 pub laid_log-requires-clause-sizes : goal.laid_log-requires-clause-sizes

@@ -1,7 +1,5 @@
 use Rattle.std.proofs.Common.{◌≤◌, ap, sym, subst, arith, length, ℕ}
-use Rattle.std.proofs.lemmas.Result.{IfOk-weaker}
-use Rattle.openings.specs.Listed.{transactions}
-use Rattle.openings.specs.Servers.{history_at, root_of}
+use Rattle.openings.proofs.Prelude.{IfOk-weaker, history_at, root_of, transactions}
 use Rattle.openings.proofs.Sizes.{root-parts, length-history_at, parts_at-few}
 use Rattle.openings.proofs.histories.executed_by.Goals as goal
 

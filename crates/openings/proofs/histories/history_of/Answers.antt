@@ -1,7 +1,5 @@
 use Rattle.std.proofs.Common.{◌≡◌, ◌<◌, ◌∙◌, ap, arith, rules, replicate, length, drop, ◌∷◌, ◌+◌, subst, get_or, ℕ, ◌-◌, min}
-use Rattle.std.proofs.lemmas.List.{drop_more, length-replicate}
-use Rattle.openings.specs.Listed.{joined_by}
-use Rattle.openings.specs.declared.part.Part.{Part}
+use Rattle.openings.proofs.Prelude.{Part, drop_more, joined_by, length-replicate}
 use Rattle.openings.proofs.Joined.{Takes, Takes-none, Takes-more, Takes-all, Takes-fits, CountsOwn-none, pair_of}
 use Rattle.openings.proofs.histories.history_of.Goals as goal
 

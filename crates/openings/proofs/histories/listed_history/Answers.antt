@@ -1,5 +1,5 @@
 use Rattle.std.proofs.Common.{◌∙◌, ap, arith, length}
-use Rattle.std.proofs.lemmas.Result.{IfOk-weaker}
+use Rattle.openings.proofs.Prelude.{IfOk-weaker}
 use Rattle.openings.proofs.Sizes.{length-listed, listed-all}
 use Rattle.openings.proofs.histories.listed_history.Goals as goal
 

@@ -1,6 +1,5 @@
 use Rattle.std.proofs.Common.{ℕ, ◌<◌, get_or}
-use Rattle.openings.specs.Opening.{IsPart}
-use Rattle.openings.specs.declared.part.Part.{Part}
+use Rattle.openings.proofs.Prelude.{IsPart, Part}
 use Rattle.openings.proofs.histories.past_origins.Given as goal
 
 abbrev pub invariant-loop-part : goal.invariant-loop-part

@@ -1,5 +1,5 @@
 use Rattle.std.proofs.Common.{◌≡◌, ◌-◌, length}
-use Rattle.openings.specs.Servers.{reached_from, root_of, sources}
+use Rattle.openings.proofs.Prelude.{reached_from, root_of, sources}
 use Rattle.openings.proofs.histories.root_of.Given as goal
 
 abbrev pub invariant-loop : goal.invariant-loop

@@ -1,6 +1,6 @@
 use Rattle.std.proofs.Common.{◌≤◌, ℕ, ap, sym, subst, arith, length}
 use Rattle.std.specs.Prelude.{All}
-use Rattle.binlog_coords.specs.Index.{Index}
+use Rattle.openings.proofs.Prelude.{Index}
 use Rattle.openings.proofs.Laid.{good-points}
 use Rattle.openings.proofs.logs.laid_history.Goals as goal
 

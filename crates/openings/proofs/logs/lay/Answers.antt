@@ -1,6 +1,5 @@
 use Rattle.std.proofs.Common.{◌≡◌, ◌+◌, ◌<◌, ◌∷◌, ℕ, ap, arith, length, drop, get_or, subst, ◌∙◌}
-use Rattle.std.proofs.lemmas.List.{drop_more}
-use Rattle.orch_base.specs.declared.server.Txn.{Txn}
+use Rattle.openings.proofs.Prelude.{Txn, drop_more}
 use Rattle.openings.proofs.Laid.{Lays, Lays-more, Lays-all, all_flushed, txns-count, txns-more, txns-all}
 use Rattle.openings.proofs.logs.lay.Goals as goal
 

@@ -1,5 +1,5 @@
 use Rattle.std.proofs.Common.{◌≡◌, take}
-use Rattle.orch_core.specs.Nodes.{kept_claim}
+use Rattle.orch_core.proofs.Prelude.{kept_claim}
 use Rattle.orch_core.proofs.claiming.kept_claim.Given as goal
 
 abbrev pub invariant-loop-row : goal.invariant-loop-row

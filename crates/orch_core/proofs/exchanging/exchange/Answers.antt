@@ -1,7 +1,5 @@
 use Rattle.std.proofs.Common.{◌∙◌, length, ap}
-use Rattle.server_model.specs.Run.{Apply}
-use Rattle.server_model.specs.Worlds.{World}
-use Rattle.server_model.proofs.Counts.{servers-after}
+use Rattle.orch_core.proofs.Prelude.{Apply, World, servers-after}
 use Rattle.orch_core.proofs.exchanging.exchange.Goals as goal
 
 pub returns-in-Apply-clause-servers : goal.returns-in-Apply-clause-servers

@@ -1,8 +1,6 @@
 use Rattle.std.proofs.Common.{◌∙◌, ℕ, List, Option, None, add-one, ap, replicate, sym, arith}
 use Rattle.std.specs.Prelude.{slice_set}
-use Rattle.std.proofs.lemmas.List.{length-set}
-use Rattle.kept_rows.specs.declared.observation.Observation.{Observation}
-use Rattle.instance_keeper.proofs.Cleared.{cleared, cleared_all, cleared_next}
+use Rattle.orch_core.proofs.Prelude.{Observation, cleared, cleared_all, cleared_next, length-set}
 use Rattle.orch_core.proofs.opening.empty_slots.Goals as goal
 
 pub loop-poller-preserved : goal.loop-poller-preserved

@@ -1,5 +1,5 @@
 use Rattle.std.proofs.Common.{◌≡◌, None, length}
-use Rattle.instance_keeper.proofs.Cleared.{cleared}
+use Rattle.orch_core.proofs.Prelude.{cleared}
 use Rattle.orch_core.proofs.opening.empty_slots.Given as goal
 
 abbrev pub invariant-loop-poller : goal.invariant-loop-poller

@@ -1,6 +1,5 @@
 use Rattle.std.proofs.Common.{◌≡◌, drop}
-use Rattle.permission.specs.Checks.{busy}
-use Rattle.permission.specs.Lists.{first_about}
+use Rattle.permission.proofs.Prelude.{busy, first_about}
 use Rattle.permission.proofs.by_book.busy.Given as goal
 
 abbrev pub invariant-loop-no : goal.invariant-loop-no

@@ -1,6 +1,5 @@
 use Rattle.std.proofs.Common.{◌≡◌, drop}
-use Rattle.permission.specs.Checks.{place_purged}
-use Rattle.permission.specs.Lists.{first_about}
+use Rattle.permission.proofs.Prelude.{first_about, place_purged}
 use Rattle.permission.proofs.by_book.first_place_purged.Given as goal
 
 abbrev pub invariant-loop-no : goal.invariant-loop-no

@@ -1,6 +1,5 @@
 use Rattle.std.proofs.Common.{◌≡◌, drop}
-use Rattle.permission.specs.Checks.{set_purged}
-use Rattle.permission.specs.Lists.{first_about}
+use Rattle.permission.proofs.Prelude.{first_about, set_purged}
 use Rattle.permission.proofs.by_book.first_set_purged.Given as goal
 
 abbrev pub invariant-loop-one : goal.invariant-loop-one

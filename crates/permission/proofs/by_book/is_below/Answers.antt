@@ -1,11 +1,6 @@
 use Rattle.std.proofs.Common.{◌<◌, length, subst, arith}
 use Rattle.std.specs.Prelude.{nat_lt}
-use Rattle.std.proofs.lemmas.Bool.Decides.{nat_tests}
-use Rattle.topology_tree.specs.Forests.{above}
-use Rattle.topology_tree.specs.Links.{IsForest}
-use Rattle.orch_base.specs.Chains.{is_reached}
-use Rattle.book_views.specs.Forests.{book_forest, node_at}
-use Rattle.book_views.proofs.Nodes.{length-forest, rank-below}
+use Rattle.permission.proofs.Prelude.{IsForest, above, book_forest, is_reached, length-forest, nat_tests, node_at, rank-below}
 use Rattle.permission.proofs.Below.{below-test, tested}
 use Rattle.permission.proofs.by_book.is_below.Goals as goal
 

@@ -1,7 +1,6 @@
 use Rattle.std.proofs.Common.{◌≡◌, ℕ, true}
-use Rattle.gtid_sets.specs.Sets.{holds}
-use Rattle.operations.specs.Turns.{is_within}
-use Rattle.operations.proofs.Sets.{decided, holds-within, within-holds}
+use Rattle.permission.proofs.Prelude.{decided, holds, holds-within, within-holds}
+use Rattle.permission.proofs.Prelude.Turns.{is_within}
 use Rattle.permission.proofs.by_book.is_within.Goals as goal
 
 pub returns : goal.returns

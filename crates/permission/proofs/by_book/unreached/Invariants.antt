@@ -1,6 +1,5 @@
 use Rattle.std.proofs.Common.{◌≡◌, drop}
-use Rattle.permission.specs.Checks.{unreached}
-use Rattle.permission.specs.Lists.{first_about}
+use Rattle.permission.proofs.Prelude.{first_about, unreached}
 use Rattle.permission.proofs.by_book.unreached.Given as goal
 
 abbrev pub invariant-loop-no : goal.invariant-loop-no

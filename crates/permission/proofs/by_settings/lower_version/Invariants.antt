@@ -1,6 +1,5 @@
 use Rattle.std.proofs.Common.{◌≡◌, drop}
-use Rattle.permission.specs.Checks.{of_lower_version}
-use Rattle.permission.specs.Lists.{first_about}
+use Rattle.permission.proofs.Prelude.{first_about, of_lower_version}
 use Rattle.permission.proofs.by_settings.lower_version.Given as goal
 
 abbrev pub invariant-loop-one : goal.invariant-loop-one

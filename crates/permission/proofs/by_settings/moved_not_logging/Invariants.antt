@@ -1,6 +1,5 @@
 use Rattle.std.proofs.Common.{◌≡◌, drop}
-use Rattle.permission.specs.Checks.{unlogged}
-use Rattle.permission.specs.Lists.{first_about}
+use Rattle.permission.proofs.Prelude.{first_about, unlogged}
 use Rattle.permission.proofs.by_settings.moved_not_logging.Given as goal
 
 abbrev pub invariant-loop-one : goal.invariant-loop-one

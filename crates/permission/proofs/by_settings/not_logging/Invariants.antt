@@ -1,6 +1,5 @@
 use Rattle.std.proofs.Common.{◌≡◌, drop}
-use Rattle.permission.specs.Checks.{without_log}
-use Rattle.permission.specs.Lists.{first_about}
+use Rattle.permission.proofs.Prelude.{first_about, without_log}
 use Rattle.permission.proofs.by_settings.not_logging.Given as goal
 
 abbrev pub invariant-loop-no : goal.invariant-loop-no

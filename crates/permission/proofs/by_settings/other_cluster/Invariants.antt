@@ -1,6 +1,5 @@
 use Rattle.std.proofs.Common.{◌≡◌, drop}
-use Rattle.permission.specs.Checks.{of_other_cluster}
-use Rattle.permission.specs.Lists.{first_about}
+use Rattle.permission.proofs.Prelude.{first_about, of_other_cluster}
 use Rattle.permission.proofs.by_settings.other_cluster.Given as goal
 
 abbrev pub invariant-loop-one : goal.invariant-loop-one

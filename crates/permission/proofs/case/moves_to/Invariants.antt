@@ -1,5 +1,5 @@
 use Rattle.std.proofs.Common.{◌≡◌, take, Some}
-use Rattle.permission.specs.Lists.{moves_to}
+use Rattle.permission.proofs.Prelude.{moves_to}
 use Rattle.permission.proofs.case.moves_to.Given as goal
 
 abbrev pub invariant-loop-no : goal.invariant-loop-no

@@ -1,6 +1,5 @@
 use Rattle.std.proofs.Common.{◌≡◌, drop}
-use Rattle.permission.specs.Checks.{errant}
-use Rattle.permission.specs.Lists.{first_about}
+use Rattle.permission.proofs.Prelude.{errant, first_about}
 use Rattle.permission.proofs.row.first_errant.Given as goal
 
 abbrev pub invariant-loop-one : goal.invariant-loop-one

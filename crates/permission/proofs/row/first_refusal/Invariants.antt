@@ -1,6 +1,5 @@
 use Rattle.std.proofs.Common.{◌≡◌, drop}
-use Rattle.permission.specs.Checks.{refusal_by}
-use Rattle.permission.specs.Lists.{first_about}
+use Rattle.permission.proofs.Prelude.{first_about, refusal_by}
 use Rattle.permission.proofs.row.first_refusal.Given as goal
 
 abbrev pub invariant-loop-check : goal.invariant-loop-check

@@ -1,8 +1,6 @@
 use Rattle.std.proofs.Common.{◌≡◌, ◌<◌, length, List, subst, sym}
 use Rattle.std.specs.Prelude.{All}
-use Rattle.std.proofs.lemmas.Result.{IfOk-weaker}
-use Rattle.orch_base.specs.declared.server.ServerNo.{ServerNo}
-use Rattle.pseudo_match.specs.Permits.{leased_by}
+use Rattle.pseudo_match.proofs.Prelude.{IfOk-weaker, ServerNo, leased_by}
 use Rattle.pseudo_match.proofs.Named.{leases-within}
 use Rattle.pseudo_match.proofs.permits.leases.Goals as goal
 

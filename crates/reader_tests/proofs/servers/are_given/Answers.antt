@@ -1,6 +1,6 @@
 use Rattle.std.proofs.Common.{◌<◌, length, arith}
 use Rattle.std.proofs.lemmas.Bool.Decides.{nat_tests}
-use Rattle.scenario_servers.proofs.Apartness.{given-from_apart}
+use Rattle.scenario_reader.proofs.ScenarioServers.Apartness.{given-from_apart}
 use Rattle.reader_tests.proofs.servers.are_given.Goals as goal
 
 pub returns : goal.returns

@@ -1,7 +1,6 @@
 use Rattle.std.proofs.Common.{◌∙◌, ap}
 use Rattle.std.specs.Prelude.{◌==◌, find}
-use Rattle.std.specs.Option.{option_map}
-use Rattle.failure_analysis.specs.declared.entry.Entry.{Entry}
+use Rattle.recovery_core.proofs.Prelude.{Entry, option_map}
 use Rattle.recovery_core.proofs.Entries.{code_found}
 use Rattle.recovery_core.proofs.codes.code_at.Goals as goal
 

@@ -1,8 +1,6 @@
 use Rattle.std.proofs.Common.{◌≡◌, ◌∙◌, true, sym, ap, subst, take}
-use Rattle.std.proofs.lemmas.List.{take_all}
+use Rattle.recovery_core.proofs.Prelude.{are_known, is_replica_of, source_servers, take_all}
 use Rattle.std.specs.Prelude.{filter}
-use Rattle.kept_rows.specs.Servers.{are_known, source_servers}
-use Rattle.book_views.specs.Sources.{is_replica_of}
 use Rattle.recovery_core.proofs.Grouping.{AreGrouped, more-grouped, none-grouped}
 use Rattle.recovery_core.proofs.groups.groups.Goals as goal
 

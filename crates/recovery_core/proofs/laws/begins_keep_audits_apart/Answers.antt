@@ -1,4 +1,4 @@
-use Rattle.audit_log.proofs.Parting.{begun-apart}
+use Rattle.recovery_core.proofs.Prelude.{begun-apart}
 use Rattle.recovery_core.proofs.InTurn.{apart-after, scan-apart, scan-next}
 use Rattle.recovery_core.proofs.laws.begins_keep_audits_apart.Goals as goal
 

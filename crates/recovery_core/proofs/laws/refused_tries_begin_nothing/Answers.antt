@@ -1,5 +1,5 @@
 use Rattle.std.proofs.Common.{ap}
-use Rattle.recovery_core.specs.Scans.{after_try}
+use Rattle.recovery_core.proofs.Prelude.{after_try}
 use Rattle.recovery_core.proofs.InTurn.{scan-idle}
 use Rattle.recovery_core.proofs.laws.refused_tries_begin_nothing.Goals as goal
 

@@ -1,9 +1,6 @@
 use Rattle.std.proofs.Common.{◌<◌, ◌≤◌, ap, arith, sym, subst}
 use Rattle.std.specs.Prelude.{All}
-use Rattle.std.proofs.lemmas.List.Elements.{All-nil}
-use Rattle.recovery_permits.specs.declared.attempt.Attempt.{Attempt}
-use Rattle.recovery_core.specs.Scans.{Staged, attempt_of, from_start}
-use Rattle.recovery_core.specs.Tries.{Begins}
+use Rattle.recovery_core.proofs.Prelude.{All-nil, Attempt, Begins, Staged, attempt_of, from_start}
 use Rattle.recovery_core.proofs.Steps.{more-ready, step-more}
 use Rattle.recovery_core.proofs.scanning.scan.Goals as goal
 

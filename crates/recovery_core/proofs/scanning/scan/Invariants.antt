@@ -1,5 +1,5 @@
 use Rattle.std.proofs.Common.{◌≡◌, take}
-use Rattle.recovery_core.specs.Scans.{attempt_of, from_start, scanned_over, HasRoom, IsReady}
+use Rattle.recovery_core.proofs.Prelude.{HasRoom, IsReady, attempt_of, from_start, scanned_over}
 use Rattle.recovery_core.proofs.scanning.scan.Given as goal
 
 abbrev pub invariant-loop-entry : goal.invariant-loop-entry

@@ -1,8 +1,6 @@
 use Rattle.std.proofs.Common.{◌≡◌, drop, None}
 use Rattle.std.specs.Prelude.{slice_index_or}
-use Rattle.orch_base.specs.declared.server.ServerNo.{ServerNo}
-use Rattle.permission.specs.Checks.{busy_by}
-use Rattle.permission.specs.Lists.{first_about}
+use Rattle.recovery_core.proofs.Prelude.{ServerNo, busy_by, first_about}
 use Rattle.recovery_core.proofs.stage.busy.Given as goal
 
 abbrev pub invariant-loop-no : goal.invariant-loop-no

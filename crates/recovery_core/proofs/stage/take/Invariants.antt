@@ -1,5 +1,5 @@
 use Rattle.std.proofs.Common.{◌≡◌, take, length}
-use Rattle.instance_keeper.specs.Leases.{taken}
+use Rattle.recovery_core.proofs.Prelude.{taken}
 use Rattle.recovery_core.proofs.stage.take.Given as goal
 
 abbrev pub invariant-loop-no : goal.invariant-loop-no

@@ -1,11 +1,5 @@
 use Rattle.std.proofs.Common.{◌≡◌, subst, Ok, Err}
-use Rattle.std.proofs.lemmas.Result.{err_from_is_err_and}
-use Rattle.orch_base.specs.Gives.{Gives}
-use Rattle.permission.specs.Checks.{permit_fault, permitted}
-use Rattle.recovery_permits.specs.declared.attempt.Attempt.{Attempt}
-use Rattle.recovery_permits.specs.Takeovers.{takeover_refusal}
-use Rattle.recovery_core.specs.Asks.{attempt_by}
-use Rattle.recovery_core.specs.Tries.{takeover_begins}
+use Rattle.recovery_core.proofs.Prelude.{Attempt, Gives, attempt_by, err_from_is_err_and, permit_fault, permitted, takeover_begins, takeover_refusal}
 use Rattle.recovery_core.proofs.Trying.{passed-try, refused-try}
 use Rattle.recovery_core.proofs.takeover.try_takeover.Goals as goal
 

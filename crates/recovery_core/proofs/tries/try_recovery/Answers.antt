@@ -1,9 +1,5 @@
 use Rattle.std.proofs.Common.{◌≡◌, subst, Ok}
-use Rattle.permission.specs.Checks.{permitted}
-use Rattle.recovery_permits.specs.declared.attempt.Attempt.{Attempt}
-use Rattle.recovery_permits.specs.Recoveries.{recovery_refusal}
-use Rattle.recovery_core.specs.Asks.{attempt_by}
-use Rattle.recovery_core.specs.Tries.{recovery_begins}
+use Rattle.recovery_core.proofs.Prelude.{Attempt, attempt_by, permitted, recovery_begins, recovery_refusal}
 use Rattle.recovery_core.proofs.Trying.{passed-try}
 use Rattle.recovery_core.proofs.tries.try_recovery.Goals as goal
 

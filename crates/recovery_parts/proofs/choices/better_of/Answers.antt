@@ -1,8 +1,8 @@
 use Rattle.std.proofs.Common.{◌<◌, List, All, ap, sym, subst, ◌∙◌, length}
 use Rattle.std.proofs.lemmas.Simd.{map-map}
-use Rattle.orch_base.specs.Names.{HostPort}
-use Rattle.promotion_rules.specs.declared.drained.Drained.{Drained}
-use Rattle.promotion_rules.specs.Choice.{better}
+use Rattle.recovery_plans.specs.OrchBase.Names.{HostPort}
+use Rattle.recovery_plans.specs.PromotionRules.declared.drained.Drained.{Drained}
+use Rattle.recovery_plans.specs.PromotionRules.Choice.{better}
 use Rattle.recovery_plans.specs.Deciding.{follower_of}
 use Rattle.recovery_plans.specs.declared.outcome.Follower.{Follower}
 use Rattle.recovery_parts.specs.Grounds.{ground_by}

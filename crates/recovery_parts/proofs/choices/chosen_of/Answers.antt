@@ -1,7 +1,7 @@
 use Rattle.std.proofs.Common.{◌<◌, List, All, ap, sym, subst, ◌∙◌, length}
-use Rattle.orch_base.specs.Names.{HostPort}
-use Rattle.promotion_rules.specs.declared.drained.Drained.{Drained}
-use Rattle.promotion_rules.specs.Choice.{most_advanced}
+use Rattle.recovery_plans.specs.OrchBase.Names.{HostPort}
+use Rattle.recovery_plans.specs.PromotionRules.declared.drained.Drained.{Drained}
+use Rattle.recovery_plans.specs.PromotionRules.Choice.{most_advanced}
 use Rattle.recovery_plans.specs.Deciding.{drained_of, stopped_in}
 use Rattle.recovery_parts.specs.Grounds.{ground_by}
 use Rattle.recovery_parts.proofs.Lists.{all-made}

@@ -1,5 +1,5 @@
 use Rattle.std.proofs.Common.{◌≡◌, map, take}
-use Rattle.operations.specs.Turns.{restarts}
+use Rattle.recovery_plans.specs.Operations.Turns.{restarts}
 use Rattle.recovery_parts.specs.Doings.{exchange_of}
 use Rattle.recovery_parts.proofs.doing.starts.Given as goal
 

@@ -1,5 +1,5 @@
 use Rattle.std.proofs.Common.{◌<◌}
-use Rattle.recovery_plans.specs.Taking.{taken}
+use Rattle.recovery_plans.proofs.Prelude.{taken}
 use Rattle.recovery_plans.proofs.Begun.{begun-of}
 use Rattle.recovery_plans.proofs.Naming.{taken-of, renumbered}
 use Rattle.recovery_plans.proofs.laws.recoveries_stay_named.Goals as goal

@@ -1,14 +1,8 @@
 use Rattle.std.proofs.Common.{◌≡◌, Bool, true, false, cond, List, [], ◌∷◌, ◌++◌, map, refl, sym, ◌∙◌, ap, subst, Some, arith}
 use Rattle.std.specs.Prelude.{filter, option_map}
-use Rattle.std.specs.List.{All, Contains}
-use Rattle.std.proofs.lemmas.List.Elements.{All-nil, All-cons, All-weaker, All-contains, Contains-append_left, Contains-append_right}
-use Rattle.orch_base.specs.declared.server.ServerNo.{ServerNo}
-use Rattle.recovery_plans.specs.declared.outcome.LostReplica.{LostReplica}
-use Rattle.recovery_plans.specs.declared.purpose.Purpose.{Purpose}
-use Rattle.recovery_plans.specs.declared.task.Task.TheVariants as task
-use Rattle.recovery_plans.specs.declared.why.Why.{Why}
-use Rattle.recovery_plans.specs.Deciding.{expels, is_reached, releases, why_of}
-use Rattle.recovery_plans.specs.Telling.{told_why}
+use Rattle.recovery_plans.proofs.Prelude.{All, All-cons, All-contains, All-nil, All-weaker, Contains, Contains-append_left, Contains-append_right}
+use Rattle.recovery_plans.proofs.Prelude.{LostReplica, Purpose, ServerNo, Why, expels, is_reached, releases, told_why, why_of}
+use Rattle.recovery_plans.proofs.Prelude.task
 use Rattle.recovery_plans.proofs.laws.unmatched_replicas_are_started.Goals as goal
 
 module _ (p : ServerNo → Bool) where

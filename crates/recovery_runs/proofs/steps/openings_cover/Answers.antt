@@ -1,4 +1,4 @@
-use Rattle.covered_laws.proofs.Beside.{none-aimed, none-speak}
+use Rattle.recovery_runs.proofs.Prelude.{none-aimed, none-speak}
 use Rattle.recovery_runs.proofs.Covering.{covered-start, kept-start}
 use Rattle.recovery_runs.proofs.Tended.{tended-start}
 use Rattle.recovery_runs.proofs.steps.openings_cover.Goals as goal

@@ -1,5 +1,5 @@
 use Rattle.std.proofs.Common.{◌≡◌, ◌++◌, map, take}
-use Rattle.recovery_plans.specs.declared.task.Task.TheVariants as task
+use Rattle.recovery_turns.proofs.Prelude.task
 use Rattle.recovery_turns.proofs.beginning.add_drains.Given as goal
 
 abbrev pub invariant-loop-no : goal.invariant-loop-no

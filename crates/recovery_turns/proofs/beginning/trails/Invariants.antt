@@ -1,6 +1,6 @@
 use Rattle.std.proofs.Common.{◌≡◌, map, take}
-use Rattle.recovery_plans.specs.Beginning.{but}
-use Rattle.recovery_plans.specs.declared.task.Task.TheVariants as task
+use Rattle.recovery_turns.proofs.Prelude.{but}
+use Rattle.recovery_turns.proofs.Prelude.task
 use Rattle.recovery_turns.proofs.beginning.trails.Given as goal
 
 abbrev pub invariant-loop-no : goal.invariant-loop-no

@@ -1,5 +1,5 @@
 use Rattle.std.proofs.Common.{rules}
-use Rattle.std.proofs.lemmas.Fn.{filter_same}
+use Rattle.recovery_turns.proofs.Prelude.{filter_same}
 use Rattle.recovery_turns.proofs.changes.let_go.Goals as goal
 
 pub returns-clause-items : goal.returns-clause-items

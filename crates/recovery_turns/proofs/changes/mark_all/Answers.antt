@@ -1,5 +1,5 @@
 use Rattle.std.proofs.Common.{ap, length, arith}
-use Rattle.recovery_plans.specs.Taking.{marked}
+use Rattle.recovery_turns.proofs.Prelude.{marked}
 use Rattle.recovery_turns.proofs.Marked.{mapped_vec}
 use Rattle.recovery_turns.proofs.changes.mark_all.Goals as goal
 

@@ -1,7 +1,5 @@
 use Rattle.std.proofs.Common.{Bool, cond, sym, ap, ◌∙◌, Some}
-use Rattle.std.proofs.lemmas.Bool.{eq-eqb, ne_eqb}
-use Rattle.operations.specs.Jobs.{seen_of}
-use Rattle.operations.proofs.Sights.{seen-at}
+use Rattle.recovery_turns.proofs.Prelude.{eq-eqb, ne_eqb, seen-at, seen_of}
 use Rattle.recovery_turns.proofs.look.kept.Goals as goal
 
 pub returns-then-sight-no : goal.returns-then-sight-no

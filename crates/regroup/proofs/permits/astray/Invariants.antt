@@ -1,6 +1,5 @@
 use Rattle.std.proofs.Common.{◌≡◌, drop}
-use Rattle.permission.specs.Lists.{first_about}
-use Rattle.regroup.specs.Permits.{without_path}
+use Rattle.regroup.proofs.Prelude.{first_about, without_path}
 use Rattle.regroup.proofs.permits.astray.Given as goal
 
 abbrev pub invariant-loop-no : goal.invariant-loop-no

@@ -1,7 +1,5 @@
 use Rattle.std.proofs.Common.{◌≡◌, ◌++◌, take}
-use Rattle.std.specs.List.{flat_map}
-use Rattle.std.specs.Option.{option_to_list}
-use Rattle.regroup.specs.Ways.{passed_in, path_to}
+use Rattle.regroup.proofs.Prelude.{flat_map, option_to_list, passed_in, path_to}
 use Rattle.regroup.proofs.permits.beside_of.Given as goal
 
 abbrev pub invariant-loop-no : goal.invariant-loop-no

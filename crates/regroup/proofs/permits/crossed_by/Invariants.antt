@@ -1,6 +1,5 @@
 use Rattle.std.proofs.Common.{◌≡◌, take}
-use Rattle.std.specs.List.{flat_map}
-use Rattle.regroup.specs.Ways.{crossed_in, path_to}
+use Rattle.regroup.proofs.Prelude.{crossed_in, flat_map, path_to}
 use Rattle.regroup.proofs.permits.crossed_by.Given as goal
 
 abbrev pub invariant-loop-no : goal.invariant-loop-no

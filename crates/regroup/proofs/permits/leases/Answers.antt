@@ -1,8 +1,6 @@
 use Rattle.std.proofs.Common.{◌≡◌, ◌<◌, length, List, subst, sym}
 use Rattle.std.specs.Prelude.{All}
-use Rattle.std.proofs.lemmas.Result.{IfOk-weaker}
-use Rattle.orch_base.specs.declared.server.ServerNo.{ServerNo}
-use Rattle.regroup.specs.Permits.{leased_by}
+use Rattle.regroup.proofs.Prelude.{IfOk-weaker, ServerNo, leased_by}
 use Rattle.regroup.proofs.Named.{leases-within}
 use Rattle.regroup.proofs.permits.leases.Goals as goal
 

@@ -1,10 +1,6 @@
 use Rattle.std.proofs.Common.{◌≡◌, Bool, List, Option, None, Some, refl, ap, sym, ◌∙◌}
-use Rattle.std.specs.Option.{option_or}
-use Rattle.std.proofs.lemmas.Result.{IfOk-weaker}
-use Rattle.commands.specs.declared.refusal.Refusal.{Refusal}
-use Rattle.permission.specs.Checks.{Case, first_refusal}
-use Rattle.permission.specs.declared.case.Check.{Check}
-use Rattle.regroup.specs.Permits.{case_of, last_refusal, last_row_of, own_refusal, refusal_about, row_of, row_refusal}
+use Rattle.regroup.proofs.Prelude.{Case, Check, IfOk-weaker, Refusal, case_of, first_refusal, last_refusal, last_row_of, option_or, own_refusal}
+use Rattle.regroup.proofs.Prelude.{refusal_about, row_of, row_refusal}
 use Rattle.regroup.proofs.permits.refusal_about.Goals as goal
 
 -- where nothing refuses before, what comes last does

@@ -1,5 +1,5 @@
 use Rattle.std.proofs.Common.{◌≡◌, ◌++◌, drop}
-use Rattle.regroup.specs.Plans.{climbed}
+use Rattle.regroup.proofs.Prelude.{climbed}
 use Rattle.regroup.proofs.plans.climbed.Given as goal
 
 abbrev pub invariant-loop-k : goal.invariant-loop-k

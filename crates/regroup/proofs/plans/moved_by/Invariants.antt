@@ -1,7 +1,5 @@
 use Rattle.std.proofs.Common.{◌≡◌, take}
-use Rattle.std.specs.List.{flat_map}
-use Rattle.regroup.specs.Plans.{travelled}
-use Rattle.regroup.specs.Ways.{path_of}
+use Rattle.regroup.proofs.Prelude.{flat_map, path_of, travelled}
 use Rattle.regroup.proofs.plans.moved_by.Given as goal
 
 abbrev pub invariant-loop-no : goal.invariant-loop-no

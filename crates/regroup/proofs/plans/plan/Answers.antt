@@ -1,7 +1,5 @@
 use Rattle.std.proofs.Common.{◌≡◌, ap, ◌∙◌, true, length}
-use Rattle.std.proofs.lemmas.Result.{IfOk-weaker}
-use Rattle.operations.specs.Named.{are_named}
-use Rattle.regroup.specs.Plans.{plan_of}
+use Rattle.regroup.proofs.Prelude.{IfOk-weaker, are_named, plan_of}
 use Rattle.regroup.proofs.Named.{plan-named}
 use Rattle.regroup.proofs.plans.plan.Goals as goal
 

@@ -1,6 +1,6 @@
 use Rattle.std.proofs.Common.{◌≡◌, ◌++◌}
 use Rattle.std.specs.Prelude.{option_map}
-use Rattle.regroup.specs.Ways.{parent_at, way_in, way_up}
+use Rattle.regroup.proofs.Prelude.{parent_at, way_in, way_up}
 use Rattle.regroup.proofs.ways.way_up.Given as goal
 
 abbrev pub invariant-climb : goal.invariant-climb

@@ -1,6 +1,6 @@
 use Rattle.std.proofs.Common.{ap, ◌∙◌, ◌++◌, get_or, None, false}
 use Rattle.std.specs.Option.{option_to_list}
-use Rattle.orch_base.specs.declared.rule.Rule.TheVariants.{Prefer}
+use Rattle.instance_keeper.specs.OrchBase.declared.rule.Rule.TheVariants.{Prefer}
 use Rattle.promotion_rules.specs.declared.drained.Drained.{Drained}
 use Rattle.replica_groups.specs.Groups.{ahead_at, behind_at, follow_at, group_of}
 use Rattle.replica_groups.specs.declared.groups.Group.{Group}

@@ -1,4 +1,4 @@
-use Rattle.server_model.specs.Run.{after, run}
+use Rattle.replication_laws.proofs.Prelude.{after, run}
 use Rattle.replication_laws.proofs.BridgeLaws.{Stands-grows}
 use Rattle.replication_laws.proofs.Runs.{Grows-after, Grows-run}
 use Rattle.replication_laws.proofs.bridges.bridges_stand.Goals as goal

@@ -1,5 +1,5 @@
 use Rattle.std.proofs.Common.{length}
-use Rattle.server_model.specs.Worlds.{sources}
+use Rattle.replication_laws.proofs.Prelude.{sources}
 use Rattle.replication_laws.proofs.Chains.{walk-finds_all, walk-met}
 use Rattle.replication_laws.proofs.Loops.{loop-answered, loop-only, loop_auto-answered, loop_auto-only}
 use Rattle.replication_laws.proofs.placed.loops_are_found.Goals as goal

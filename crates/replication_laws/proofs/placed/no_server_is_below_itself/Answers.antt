@@ -1,4 +1,4 @@
-use Rattle.server_model.specs.Worlds.{sources}
+use Rattle.replication_laws.proofs.Prelude.{sources}
 use Rattle.replication_laws.proofs.Chains.{Grounded-no_cycle}
 use Rattle.replication_laws.proofs.placed.no_server_is_below_itself.Goals as goal
 

@@ -3,7 +3,7 @@ use Rattle.std.specs.Prelude.{OnOk, slice_get}
 use Rattle.std.proofs.lemmas.List.{append-nil}
 use Rattle.std.proofs.lemmas.Grind.{common_steps}
 use Rattle.std.proofs.lemmas.Option.{gets}
-use Rattle.orch_base.specs.Names.{HostPort}
+use Rattle.server_words.specs.OrchBase.Names.{HostPort}
 use Rattle.report_text.specs.Names.{name_text}
 use Rattle.report_text.proofs.NameTexts.{no_text_at, text_at}
 use Rattle.report_text.proofs.names.print_name.Goals as goal

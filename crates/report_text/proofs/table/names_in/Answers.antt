@@ -1,5 +1,5 @@
 use Rattle.std.proofs.Common.{◌∷◌, [], ◌++◌, ap, ◌∙◌}
-use Rattle.orch_base.specs.Names.{HostPort}
+use Rattle.server_words.specs.OrchBase.Names.{HostPort}
 use Rattle.report_text.proofs.ServerLines.{names_go_on}
 use Rattle.report_text.proofs.table.names_in.Goals as goal
 

@@ -1,6 +1,6 @@
 use Rattle.std.proofs.Common.{refl}
 use Rattle.run_laws.proofs.Lines.{scan-told, scan-tries, scanned-counts}
-use Rattle.run_laws.specs.Entries.{scan_in}
+use Rattle.run_laws.proofs.Prelude.{scan_in}
 use Rattle.run_laws.proofs.answering.scans_tell_each_try.Goals as goal
 
 pub returns-clause-lines : goal.returns-clause-lines

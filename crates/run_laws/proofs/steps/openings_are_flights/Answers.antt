@@ -1,4 +1,4 @@
-use Rattle.run_laws.proofs.Openings.{Held-start, Sound-start}
+use Rattle.run_laws.proofs.StartStates.{Held-start, Sound-start}
 use Rattle.run_laws.proofs.steps.openings_are_flights.Goals as goal
 
 pub returns-clause-held : goal.returns-clause-held

@@ -1,8 +1,6 @@
 use Rattle.std.proofs.Common.{◌∙◌, ◌++◌, [], ◌∷◌, ap, sym}
 use Rattle.std.specs.Prelude.{Some}
-use Rattle.std.specs.Option.{option_copied}
-use Rattle.serde_json.specs.Written.{compact_text}
-use Rattle.scenario_dump.specs.Texts.{count_data, list_data}
+use Rattle.scenario_dump.proofs.Prelude.{compact_text, count_data, list_data, option_copied}
 use Rattle.scenario_dump.proofs.Printed.{appended, map_ok}
 use Rattle.scenario_dump.proofs.Worlds.{logged_points, there_is, unlogged_points}
 use Rattle.scenario_dump.proofs.files.print_flushes.Goals as goal

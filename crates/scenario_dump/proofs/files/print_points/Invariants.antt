@@ -1,7 +1,5 @@
 use Rattle.std.proofs.Common.{◌≡◌, ◌++◌, drop}
-use Rattle.serde_json.specs.Written.{compact_text, items_text}
-use Rattle.scenario_dump.specs.Files.{flush_points, flushed_from}
-use Rattle.scenario_dump.specs.Texts.{count_data, items_of, list_data}
+use Rattle.scenario_dump.proofs.Prelude.{compact_text, count_data, flush_points, flushed_from, items_of, items_text, list_data}
 use Rattle.scenario_dump.proofs.files.print_points.Given as goal
 
 abbrev pub invariant-loop-count : goal.invariant-loop-count

@@ -1,6 +1,6 @@
 use Rattle.std.proofs.Common.{◌≡◌, ◌∙◌, ◌++◌, ◌||◌, ap, arith, decimal}
 use Rattle.std.specs.Prelude.{nat_lt}
-use Rattle.serde_json.specs.Written.{comma_if}
+use Rattle.scenario_dump.proofs.Prelude.{comma_if}
 use Rattle.scenario_dump.proofs.Lists.{repeated_goes_on}
 use Rattle.scenario_dump.proofs.Points.{either_first, either_last}
 use Rattle.scenario_dump.proofs.files.print_repeated.Goals.{then-later, else-later}

@@ -1,7 +1,6 @@
 use Rattle.std.proofs.Common.{◌≡◌, ◌++◌, ◌-◌, ◌||◌, ℕ, List}
 use Rattle.std.specs.Prelude.{nat_lt, replicate}
-use Rattle.serde_json.specs.Written.{items_text}
-use Rattle.scenario_dump.specs.Texts.{count_data, items_of}
+use Rattle.scenario_dump.proofs.Prelude.{count_data, items_of, items_text}
 use Rattle.scenario_dump.proofs.files.print_repeated.Given as goal
 
 abbrev pub invariant-loop-n : goal.invariant-loop-n

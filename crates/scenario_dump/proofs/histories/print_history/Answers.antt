@@ -1,9 +1,5 @@
 use Rattle.std.proofs.Common.{◌+◌, ap₂, drop, ◌∙◌, ◌++◌, [], ◌∷◌, ap, arith, length, sym}
-use Rattle.serde_json.specs.Written.{items_text}
-use Rattle.server_model.specs.Worlds.{history_of, server_at}
-use Rattle.scenario_dump.specs.Histories.{parts_of}
-use Rattle.scenario_dump.specs.Servers.{opening_of}
-use Rattle.scenario_dump.specs.Texts.{items_of, part_data}
+use Rattle.scenario_dump.proofs.Prelude.{history_of, items_of, items_text, opening_of, part_data, parts_of, server_at}
 use Rattle.scenario_dump.proofs.Printed.{appended, map_ok}
 use Rattle.scenario_dump.proofs.Runs.{merged, history_begins, history_ends, history_joins, history_none, history_turns}
 use Rattle.scenario_dump.proofs.Worlds.{history_there, there_is, told, txn_there}

@@ -1,10 +1,5 @@
 use Rattle.std.proofs.Common.{◌≡◌, ◌++◌, ◌≤◌, drop}
-use Rattle.serde_json.specs.Written.{items_text}
-use Rattle.server_model.specs.Worlds.{history_of, server_at}
-use Rattle.scenario_dump.specs.Histories.{parts_of}
-use Rattle.scenario_dump.specs.Parts.{history_text}
-use Rattle.scenario_dump.specs.Servers.{opening_of}
-use Rattle.scenario_dump.specs.Texts.{items_of, part_data}
+use Rattle.scenario_dump.proofs.Prelude.{history_of, history_text, items_of, items_text, opening_of, part_data, parts_of, server_at}
 use Rattle.scenario_dump.proofs.Runs.{merged}
 use Rattle.scenario_dump.proofs.histories.print_history.Given as goal
 

@@ -1,5 +1,5 @@
 use Rattle.std.proofs.Common.{[], ◌∷◌}
-use Rattle.orch_base.specs.Names.{printed}
+use Rattle.scenario_dump.proofs.Prelude.{printed}
 use Rattle.scenario_dump.proofs.Printed.{appended, in_quotes, map_ok}
 use Rattle.scenario_dump.proofs.Quotes.{escape-printed}
 use Rattle.scenario_dump.proofs.values.print_name.Goals as goal

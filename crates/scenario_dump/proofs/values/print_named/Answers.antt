@@ -1,5 +1,5 @@
 use Rattle.std.proofs.Common.{◌∙◌, ◌++◌, List, ℕ, [], ◌∷◌, ap, append_assoc, arith, sym}
-use Rattle.json.specs.Print.{quoted}
+use Rattle.scenario_dump.proofs.Prelude.{quoted}
 use Rattle.scenario_dump.proofs.Printed.{appended, map_ok, quoted_as}
 use Rattle.scenario_dump.proofs.Worlds.{name_past, name_there}
 use Rattle.scenario_dump.proofs.values.print_named.Goals as goal

@@ -1,5 +1,5 @@
 use Rattle.std.proofs.Common.{[], ◌∷◌}
-use Rattle.binlog_coords.specs.Text.{coord_text}
+use Rattle.scenario_dump.proofs.Prelude.{coord_text}
 use Rattle.scenario_dump.proofs.Printed.{appended, in_quotes, map_ok}
 use Rattle.scenario_dump.proofs.Quotes.{escape-coord_text}
 use Rattle.scenario_dump.proofs.values.print_place.Goals as goal

@@ -1,5 +1,5 @@
 use Rattle.std.proofs.Common.{◌∙◌, ◌++◌, ap, append_assoc}
-use Rattle.json.specs.Print.{quoted}
+use Rattle.scenario_dump.proofs.Prelude.{quoted}
 use Rattle.scenario_dump.proofs.Printed.{text_written}
 use Rattle.scenario_dump.proofs.values.print_text.Goals as goal
 

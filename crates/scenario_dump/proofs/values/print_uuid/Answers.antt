@@ -1,5 +1,5 @@
 use Rattle.std.proofs.Common.{[], ◌∷◌, ◌∙◌, ◌++◌, ap}
-use Rattle.gtid_sets.specs.Printed.{uuid_text}
+use Rattle.scenario_dump.proofs.Prelude.{uuid_text}
 use Rattle.scenario_dump.proofs.Printed.{appended, in_quotes, map_ok}
 use Rattle.scenario_dump.proofs.Quotes.{escape-uuid_text}
 use Rattle.scenario_dump.proofs.values.print_uuid.Goals as goal

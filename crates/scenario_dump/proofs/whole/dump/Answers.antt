@@ -1,9 +1,6 @@
 use Rattle.std.proofs.Common.{◌∙◌, ◌++◌, [], ap, sym}
 use Rattle.std.specs.Prelude.{codes}
-use Rattle.serde_json.specs.Data.{object, string}
-use Rattle.serde_json.specs.Written.{compact_text}
-use Rattle.scenario_dump.specs.Parts.{flag_text}
-use Rattle.scenario_dump.specs.Texts.{aliases_data, blocks_data, hook_data, list_data}
+use Rattle.scenario_dump.proofs.Prelude.{aliases_data, blocks_data, compact_text, flag_text, hook_data, list_data, object, string}
 use Rattle.scenario_dump.proofs.Printed.{First, Once, grew_by, number_as}
 use Rattle.scenario_dump.proofs.Wholes.{whole_parts, whole_text}
 use Rattle.scenario_dump.proofs.whole.dump.Goals as goal

@@ -1,8 +1,6 @@
 use Rattle.std.proofs.Common.{◌≡◌, ◌++◌, drop}
 use Rattle.std.specs.Prelude.{nat_lt}
-use Rattle.serde_json.specs.Data.{object}
-use Rattle.serde_json.specs.Written.{compact_text, members_text}
-use Rattle.scenario_dump.specs.Texts.{blocks_data}
+use Rattle.scenario_dump.proofs.Prelude.{blocks_data, compact_text, members_text, object}
 use Rattle.scenario_dump.proofs.whole.print_blocks.Given as goal
 
 abbrev pub invariant-loop-n : goal.invariant-loop-n

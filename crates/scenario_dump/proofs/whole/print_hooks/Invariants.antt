@@ -1,7 +1,6 @@
 use Rattle.std.proofs.Common.{◌≡◌, ◌++◌, drop}
 use Rattle.std.specs.Prelude.{nat_lt}
-use Rattle.serde_json.specs.Written.{compact_text, items_text}
-use Rattle.scenario_dump.specs.Texts.{hook_data, items_of, list_data}
+use Rattle.scenario_dump.proofs.Prelude.{compact_text, hook_data, items_of, items_text, list_data}
 use Rattle.scenario_dump.proofs.whole.print_hooks.Given as goal
 
 abbrev pub invariant-loop-n : goal.invariant-loop-n

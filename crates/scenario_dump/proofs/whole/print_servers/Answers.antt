@@ -1,7 +1,5 @@
 use Rattle.std.proofs.Common.{[], ◌∷◌, arith}
-use Rattle.scenario_dump.specs.Servers.{init_of, opening_of}
-use Rattle.scenario_dump.specs.Texts.{server_data}
-use Rattle.scenario_dump.specs.Parts.{server_text}
+use Rattle.scenario_dump.proofs.Prelude.{init_of, opening_of, server_data, server_text}
 use Rattle.scenario_dump.proofs.Lists.{list_ends, list_goes_on}
 use Rattle.scenario_dump.proofs.Printed.{appended, map_ok, two_first}
 use Rattle.scenario_dump.proofs.Servers.{init_there, inits_count, text_there}

@@ -1,9 +1,6 @@
 use Rattle.std.proofs.Common.{◌≡◌, ◌++◌, drop}
 use Rattle.std.specs.Prelude.{nat_lt}
-use Rattle.serde_json.specs.Written.{items_text}
-use Rattle.scenario_dump.specs.Parts.{servers_text}
-use Rattle.scenario_dump.specs.Servers.{opening_of}
-use Rattle.scenario_dump.specs.Texts.{items_of, server_data}
+use Rattle.scenario_dump.proofs.Prelude.{items_of, items_text, opening_of, server_data, servers_text}
 use Rattle.scenario_dump.proofs.whole.print_servers.Given as goal
 
 abbrev pub invariant-loop-no : goal.invariant-loop-no

@@ -1,8 +1,6 @@
 use Rattle.std.proofs.Common.{◌∙◌, ap, length, refl}
 use Rattle.std.specs.Prelude.{map, option_map, string_bytes}
-use Rattle.std.proofs.lemmas.Option.{slice_get-map, slice_get_read}
-use Rattle.json.specs.Print.{quoted}
-use Rattle.serde_json.specs.Data.{string}
+use Rattle.scenario_dump.proofs.Prelude.{quoted, slice_get-map, slice_get_read, string}
 use Rattle.scenario_dump.proofs.Lists.{list_goes_on}
 use Rattle.scenario_dump.proofs.Printed.{quoted_behind}
 use Rattle.scenario_dump.proofs.whole.print_texts.Goals as goal

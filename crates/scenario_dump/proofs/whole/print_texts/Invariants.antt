@@ -1,8 +1,6 @@
 use Rattle.std.proofs.Common.{◌≡◌, ◌++◌, drop}
 use Rattle.std.specs.Prelude.{map, nat_lt, string_bytes}
-use Rattle.serde_json.specs.Data.{string}
-use Rattle.serde_json.specs.Written.{compact_text, items_text}
-use Rattle.scenario_dump.specs.Texts.{items_of, list_data}
+use Rattle.scenario_dump.proofs.Prelude.{compact_text, items_of, items_text, list_data, string}
 use Rattle.scenario_dump.proofs.whole.print_texts.Given as goal
 
 abbrev pub invariant-loop-n : goal.invariant-loop-n

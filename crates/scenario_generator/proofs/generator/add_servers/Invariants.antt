@@ -1,7 +1,5 @@
 use Rattle.std.proofs.Common.{◌≡◌, ◌≤◌}
-use Rattle.scenario_generator.specs.Pieces.{Joins}
-use Rattle.scenario_generator.specs.Servers.{AreCounts, AreFew, servers_from}
-use Rattle.scenario_generator.specs.Texts.{servers_text}
+use Rattle.scenario_generator.proofs.Prelude.{AreCounts, AreFew, Joins, servers_from, servers_text}
 use Rattle.scenario_generator.proofs.generator.add_servers.Given as goal
 
 abbrev pub invariant-loop-no : goal.invariant-loop-no

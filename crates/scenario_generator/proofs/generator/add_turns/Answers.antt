@@ -1,8 +1,6 @@
 use Rattle.std.proofs.Common.{◌+◌, ◌++◌, arith, refl}
 use Rattle.std.specs.Prelude.{nat_lt}
-use Rattle.serde_json.specs.Written.{comma_if}
-use Rattle.scenario_generator.specs.Turns.{turns_from}
-use Rattle.scenario_generator.specs.Texts.{turn_text, turns_text}
+use Rattle.scenario_generator.proofs.Prelude.{comma_if, turn_text, turns_from, turns_text}
 use Rattle.scenario_generator.proofs.Sends.{joins_front, joins_more, joins_nothing, on_err, stays_front}
 use Rattle.scenario_generator.proofs.Texts.{two_printed}
 use Rattle.scenario_generator.proofs.Turns.{number_next, text_next, turns_from-within}

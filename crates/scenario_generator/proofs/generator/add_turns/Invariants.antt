@@ -1,7 +1,5 @@
 use Rattle.std.proofs.Common.{◌≡◌, ◌≤◌}
-use Rattle.scenario_generator.specs.Pieces.{Joins}
-use Rattle.scenario_generator.specs.Turns.{turns_from}
-use Rattle.scenario_generator.specs.Texts.{turns_text}
+use Rattle.scenario_generator.proofs.Prelude.{Joins, turns_from, turns_text}
 use Rattle.scenario_generator.proofs.generator.add_turns.Given as goal
 
 abbrev pub invariant-loop-at : goal.invariant-loop-at

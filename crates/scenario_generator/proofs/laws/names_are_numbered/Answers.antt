@@ -1,6 +1,5 @@
 use Rattle.std.proofs.Common.{refl}
-use Rattle.std.specs.Fmt.{digits}
-use Rattle.scenario_generator.specs.Texts.{server_name}
+use Rattle.scenario_generator.proofs.Prelude.{digits, server_name}
 use Rattle.scenario_generator.proofs.Names.{name_reads}
 use Rattle.scenario_generator.proofs.Promises.{names_apart}
 use Rattle.scenario_generator.proofs.laws.names_are_numbered.Goals as goal

@@ -1,10 +1,5 @@
 use Rattle.std.proofs.Common.{refl}
-use Rattle.std.specs.Fmt.{digits}
-use Rattle.json.specs.Print.{escape_byte}
-use Rattle.scenario_generator.specs.Numbers.{below, next}
-use Rattle.scenario_generator.specs.Servers.{servers_from}
-use Rattle.scenario_generator.specs.Texts.{drawn_data, scenario_text, server_name}
-use Rattle.scenario_generator.specs.Turns.{turns_from}
+use Rattle.scenario_generator.proofs.Prelude.{below, digits, drawn_data, escape_byte, next, scenario_text, server_name, servers_from, turns_from}
 use Rattle.scenario_generator.proofs.laws.small_scenarios_are_known.Goals as goal
 
 pub returns-clause-one : goal.returns-clause-one

@@ -1,5 +1,5 @@
 use Rattle.std.proofs.Common.{◌∙◌, ap}
-use Rattle.scenario_generator.specs.Texts.{server_text}
+use Rattle.scenario_generator.proofs.Prelude.{server_text}
 use Rattle.scenario_generator.proofs.Texts.{printed, replica_text, root_text, two_printed}
 use Rattle.scenario_generator.proofs.server.print_server.Goals as goal
 

@@ -1,9 +1,6 @@
 use Rattle.std.proofs.Common.{◌≡◌, ℕ, ◌≤◌, ◌⊎◌, inl, inr, Ok, arith}
 use Rattle.std.specs.Prelude.{codes}
-use Rattle.serde_json.specs.Data.{Data}
-use Rattle.scenario_json.specs.View.{view}
-use Rattle.scenario_values.specs.Values.{number_in}
-use Rattle.scenario_servers.proofs.Steps.{number-ok, optional-ok}
+use Rattle.scenario_reader.proofs.Prelude.{Data, number-ok, number_in, optional-ok, view}
 use Rattle.scenario_reader.proofs.head.nodes_at.Goals as goal
 
 few : (n : ℕ) → (n ≡ 1) ⊎ ((v : Data) × (number_in 1 16 v ≡ Ok n)) → n ≤ 16

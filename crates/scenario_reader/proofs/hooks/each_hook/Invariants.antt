@@ -1,5 +1,4 @@
-use Rattle.scenario_values.proofs.Each.{IsReadTo}
-use Rattle.scenario_reader.specs.Hooks.{hook_in}
+use Rattle.scenario_reader.proofs.Prelude.{IsReadTo, hook_in}
 use Rattle.scenario_reader.proofs.hooks.each_hook.Given as goal
 
 abbrev pub invariant-loop-number : goal.invariant-loop-number

@@ -1,9 +1,5 @@
 use Rattle.std.proofs.Common.{◌≡◌, ◌∙◌, ap, Err, ℕ, Bool, true, false, cond, List, None, refl}
-use Rattle.std.specs.Str.{IsUtf8, is_utf8}
-use Rattle.std.proofs.lemmas.Str.{is_utf8-from_IsUtf8, IsUtf8-from_is_utf8}
-use Rattle.serde_json.specs.Read.{read}
-use Rattle.scenario_values.specs.declared.fault.FaultCode.TheVariants.{NotJson}
-use Rattle.scenario_values.specs.Faults.{fails, or_fails}
+use Rattle.scenario_reader.proofs.Prelude.{IsUtf8, IsUtf8-from_is_utf8, NotJson, fails, is_utf8, is_utf8-from_IsUtf8, or_fails, read}
 use Rattle.scenario_reader.proofs.walk.json_in.Goals as goal
 
 none_at : (b : Bool) (bytes : List ℕ) → is_utf8 bytes ≡ b → (IsUtf8 bytes → read bytes ≡ None) → or_fails NotJson (cond b (read bytes) None) ≡ fails NotJson

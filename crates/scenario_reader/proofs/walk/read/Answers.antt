@@ -1,11 +1,6 @@
 use Rattle.std.proofs.Common.{ℕ, List, Result, Ok, Err}
 use Rattle.std.specs.Prelude.{IfOk}
-use Rattle.orch_base.specs.Gives.{Gives}
-use Rattle.scenarios.specs.declared.scenario.Scenario.{Scenario}
-use Rattle.scenarios.specs.Scenarios.{IsScenario}
-use Rattle.scenario_values.specs.declared.fault.ReadFault.{ReadFault}
-use Rattle.scenario_values.specs.Faults.{fault_of}
-use Rattle.scenario_reader.specs.Scenarios.{scenario_in}
+use Rattle.scenario_reader.proofs.Prelude.{Gives, IsScenario, ReadFault, Scenario, fault_of, scenario_in}
 use Rattle.scenario_reader.proofs.Sound.{scenario_in_sound}
 use Rattle.scenario_reader.proofs.walk.read.Goals as goal
 

@@ -1,8 +1,5 @@
 use Rattle.std.specs.Prelude.{codes}
-use Rattle.scenario_json.specs.View.{view}
-use Rattle.scenario_servers.specs.Servers.{servers_in}
-use Rattle.scenario_servers.proofs.Reading.{read_given}
-use Rattle.scenario_servers.proofs.Steps.{needed-ok}
+use Rattle.scenario_reader.proofs.Prelude.{needed-ok, read_given, servers_in, view}
 use Rattle.scenario_reader.proofs.walk.scenario_from.Goals as goal
 
 pub scenario_with-requires-clause-given : goal.scenario_with-requires-clause-given

@@ -1,6 +1,6 @@
 use Rattle.std.proofs.Common.{◌≡◌, ◌≤◌, take}
 use Rattle.std.specs.Prelude.{count_by}
-use Rattle.scenarios.specs.Turns.{is_write}
+use Rattle.scenario_reader.proofs.Prelude.{is_write}
 use Rattle.scenario_reader.proofs.walk.writes.Given as goal
 
 abbrev pub invariant-loop-turn : goal.invariant-loop-turn

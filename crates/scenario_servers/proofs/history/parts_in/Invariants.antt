@@ -1,5 +1,4 @@
-use Rattle.scenario_values.proofs.Each.{IsReadTo}
-use Rattle.scenario_servers.specs.Servers.{part_in}
+use Rattle.scenario_servers.proofs.Prelude.{IsReadTo, part_in}
 use Rattle.scenario_servers.proofs.history.parts_in.Given as goal
 
 abbrev pub invariant-loop-number : goal.invariant-loop-number

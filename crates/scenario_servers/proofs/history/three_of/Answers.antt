@@ -1,9 +1,5 @@
 use Rattle.std.proofs.Common.{◌≡◌, List, [], ◌∷◌, length, refl}
-use Rattle.scenario_json.specs.declared.value.Value.{Value}
-use Rattle.scenario_json.specs.View.{items_view}
-use Rattle.scenario_values.specs.declared.fault.FaultCode.TheVariants.{BadNumber}
-use Rattle.scenario_values.specs.Faults.{fails}
-use Rattle.scenario_servers.specs.Servers.{three_of}
+use Rattle.scenario_servers.proofs.Prelude.{BadNumber, Value, fails, items_view, three_of}
 use Rattle.scenario_servers.proofs.history.three_of.Goals as goal
 
 -- a list of another length

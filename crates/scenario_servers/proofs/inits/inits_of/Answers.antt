@@ -1,11 +1,5 @@
 use Rattle.std.proofs.Common.{◌≡◌, ℕ, List, map, sym, ap, ◌∙◌}
-use Rattle.std.specs.List.{zip}
-use Rattle.std.proofs.lemmas.Iterator.{YieldsList-from_zip}
-use Rattle.std.proofs.lemmas.Iterator.Adapters.{YieldsList-from_vec}
-use Rattle.std.proofs.lemmas.Iterator.Consumers.{YieldsList-end}
-use Rattle.scenario_servers.specs.declared.given.Given.{Given}
-use Rattle.scenario_servers.specs.Labels.{labels_of}
-use Rattle.scenario_servers.specs.Openings.{init_under}
+use Rattle.scenario_servers.proofs.Prelude.{Given, YieldsList-end, YieldsList-from_vec, YieldsList-from_zip, init_under, labels_of, zip}
 use Rattle.scenario_servers.proofs.Zipped.{inits-zipped, map-pairs}
 use Rattle.scenario_servers.proofs.inits.inits_of.Goals as goal
 

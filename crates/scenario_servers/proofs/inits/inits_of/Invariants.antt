@@ -1,5 +1,5 @@
 use Rattle.std.proofs.Common.{◌≡◌, map}
-use Rattle.scenario_servers.specs.Openings.{init_under}
+use Rattle.scenario_servers.proofs.Prelude.{init_under}
 use Rattle.scenario_servers.proofs.inits.inits_of.Given as goal
 
 abbrev pub invariant-loop-one : goal.invariant-loop-one

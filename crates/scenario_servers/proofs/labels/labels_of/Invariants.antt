@@ -1,5 +1,5 @@
 use Rattle.std.proofs.Common.{◌≡◌, ◌++◌, drop}
-use Rattle.scenario_servers.specs.Labels.{labels_from, labels_of}
+use Rattle.scenario_servers.proofs.Prelude.{labels_from, labels_of}
 use Rattle.scenario_servers.proofs.labels.labels_of.Given as goal
 
 abbrev pub invariant-loop-n : goal.invariant-loop-n

@@ -1,7 +1,6 @@
 use Rattle.std.proofs.Common.{◌≡◌, ℕ, ◌<◌, ◌∙◌, sym, Some, Option, length, arith}
 use Rattle.std.specs.Prelude.{slice_get}
-use Rattle.openings.proofs.Chains.{reached_from-on}
-use Rattle.scenario_servers.specs.Openings.{source_in}
+use Rattle.scenario_servers.proofs.Prelude.{reached_from-on, source_in}
 use Rattle.scenario_servers.proofs.labels.root_in.Goals as goal
 
 pub loop-preserved : goal.loop-preserved

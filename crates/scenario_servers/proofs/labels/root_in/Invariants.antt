@@ -1,7 +1,6 @@
 use Rattle.std.proofs.Common.{◌≡◌, ◌-◌, length}
 use Rattle.std.specs.Prelude.{slice_get}
-use Rattle.openings.specs.Servers.{reached_from}
-use Rattle.scenario_servers.specs.Openings.{root_in, source_in}
+use Rattle.scenario_servers.proofs.Prelude.{reached_from, root_in, source_in}
 use Rattle.scenario_servers.proofs.labels.root_in.Given as goal
 
 abbrev pub invariant-loop : goal.invariant-loop

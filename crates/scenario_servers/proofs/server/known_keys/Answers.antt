@@ -1,6 +1,5 @@
 use Rattle.std.proofs.Common.{◌≡◌, true, false, rules}
-use Rattle.scenario_json.specs.View.{view}
-use Rattle.scenario_servers.specs.Servers.{has_source}
+use Rattle.scenario_servers.proofs.Prelude.{has_source, view}
 use Rattle.scenario_servers.proofs.server.known_keys.Goals as goal
 
 pub returns-then-has_source : goal.returns-then-has_source

@@ -1,5 +1,5 @@
 use Rattle.std.proofs.Common.{arith}
-use Rattle.scenario_json.specs.View.{view}
+use Rattle.scenario_servers.proofs.Prelude.{view}
 use Rattle.scenario_servers.proofs.ServerSteps.{purged-ok}
 use Rattle.scenario_servers.proofs.server.purged_at.Goals as goal
 

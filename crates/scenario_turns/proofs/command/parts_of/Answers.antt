@@ -1,9 +1,5 @@
 use Rattle.std.proofs.Common.{◌≡◌, List, [], ◌∷◌, length, refl}
-use Rattle.scenario_json.specs.declared.value.Value.{Value}
-use Rattle.scenario_json.specs.View.{items_view}
-use Rattle.scenario_values.specs.declared.fault.FaultCode.TheVariants.{BadTurn}
-use Rattle.scenario_values.specs.Faults.{fails}
-use Rattle.scenario_turns.specs.Commands.{parts_of}
+use Rattle.scenario_turns.proofs.Prelude.{BadTurn, Value, fails, items_view, parts_of}
 use Rattle.scenario_turns.proofs.command.parts_of.Goals as goal
 
 -- a list of another length

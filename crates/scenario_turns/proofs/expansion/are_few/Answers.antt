@@ -1,5 +1,5 @@
 use Rattle.std.proofs.Common.{length, ap, ◌∙◌}
-use Rattle.scenario_turns.specs.Expansion.{expansion_of}
+use Rattle.scenario_turns.proofs.Prelude.{expansion_of}
 use Rattle.scenario_turns.proofs.Expansions.{too_many}
 use Rattle.scenario_turns.proofs.expansion.are_few.Goals as goal
 

@@ -1,5 +1,5 @@
 use Rattle.std.proofs.Common.{◌≡◌, ◌≤◌, length, take}
-use Rattle.scenario_turns.specs.Expansion.{expanded}
+use Rattle.scenario_turns.proofs.Prelude.{expanded}
 use Rattle.scenario_turns.proofs.expansion.are_few.Given as goal
 
 abbrev pub invariant-loop-one : goal.invariant-loop-one

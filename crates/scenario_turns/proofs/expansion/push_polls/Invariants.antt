@@ -1,5 +1,5 @@
 use Rattle.std.proofs.Common.{◌≡◌, ◌++◌, take}
-use Rattle.scenario_turns.specs.Expansion.{polls_of}
+use Rattle.scenario_turns.proofs.Prelude.{polls_of}
 use Rattle.scenario_turns.proofs.expansion.push_polls.Given as goal
 
 abbrev pub invariant-loop-no : goal.invariant-loop-no

@@ -1,5 +1,5 @@
 use Rattle.std.proofs.Common.{◌≡◌, map, take}
-use Rattle.cluster_filters.specs.Patterns.{is_found}
+use Rattle.scenario_turns.proofs.Prelude.{is_found}
 use Rattle.scenario_turns.proofs.pattern.answers.Given as goal
 
 abbrev pub invariant-loop-name : goal.invariant-loop-name

@@ -1,5 +1,5 @@
 use Rattle.std.proofs.Common.{◌≡◌, map, take}
-use Rattle.orch_base.specs.Names.{printed}
+use Rattle.scenario_turns.proofs.Prelude.{printed}
 use Rattle.scenario_turns.proofs.pattern.printed_names.Given as goal
 
 abbrev pub invariant-loop-name : goal.invariant-loop-name

@@ -1,10 +1,5 @@
 use Rattle.std.proofs.Common.{◌≡◌, List, [], ◌∷◌, length, refl, rules}
-use Rattle.scenario_json.specs.declared.value.Value.{Value}
-use Rattle.scenario_json.specs.View.{items_view}
-use Rattle.scenario_values.specs.declared.fault.FaultCode.TheVariants.{BadTurn}
-use Rattle.scenario_values.specs.Faults.{fails}
-use Rattle.scenario_turns.specs.declared.expansion.ListedTurn.{ListedTurn}
-use Rattle.scenario_turns.specs.Turns.{alone}
+use Rattle.scenario_turns.proofs.Prelude.{BadTurn, ListedTurn, Value, alone, fails, items_view}
 use Rattle.scenario_turns.proofs.turn_forms.alone.Goals as goal
 
 -- something follows

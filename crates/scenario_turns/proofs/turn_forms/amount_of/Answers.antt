@@ -1,7 +1,5 @@
 use Rattle.std.proofs.Common.{◌≡◌, arith, rules}
-use Rattle.scenario_json.specs.View.{view}
-use Rattle.scenario_values.specs.Values.{number_in}
-use Rattle.scenario_servers.proofs.Steps.{number-ok, under-ok}
+use Rattle.scenario_turns.proofs.Prelude.{number-ok, number_in, under-ok, view}
 use Rattle.scenario_turns.proofs.turn_forms.amount_of.Goals as goal
 
 pub overflow_cast-result : goal.overflow_cast-result

@@ -1,5 +1,4 @@
-use Rattle.scenario_values.proofs.Each.{IsReadTo}
-use Rattle.scenario_turns.specs.Turns.{turn_in}
+use Rattle.scenario_turns.proofs.Prelude.{IsReadTo, turn_in}
 use Rattle.scenario_turns.proofs.turn_forms.each_turn.Given as goal
 
 abbrev pub invariant-loop-number : goal.invariant-loop-number

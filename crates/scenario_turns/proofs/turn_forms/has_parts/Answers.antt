@@ -1,11 +1,6 @@
 use Rattle.std.proofs.Common.{◌≡◌, ℕ, List, [], ◌∷◌, length, refl, subst, arith}
 use Rattle.std.specs.Prelude.{nat_eq}
-use Rattle.orch_base.specs.Gives.{Gives}
-use Rattle.scenario_json.specs.declared.value.Value.{Value}
-use Rattle.scenario_json.specs.View.{items_view}
-use Rattle.scenario_values.specs.declared.fault.FaultCode.TheVariants.{BadTurn}
-use Rattle.scenario_values.specs.Faults.{fault_of, holds, item_count}
-use Rattle.scenario_turns.specs.Words.{parts_after}
+use Rattle.scenario_turns.proofs.Prelude.{BadTurn, Gives, Value, fault_of, holds, item_count, items_view, parts_after}
 use Rattle.scenario_turns.proofs.turn_forms.has_parts.Goals as goal
 
 count : (vs : List Value) → length vs ≡ item_count (items_view vs)

@@ -3,8 +3,8 @@ use Rattle.std.specs.Prelude.{option_map}
 use Rattle.std.proofs.lemmas.Option.{slice_get-map, slice_get_read}
 use Rattle.serde_json.specs.Written.{compact_text}
 use Rattle.scenario_dump.proofs.Lists.{list_goes_on}
-use Rattle.turns.specs.declared.turn.Turn.{Turn}
-use Rattle.turns.specs.declared.reply.Reply.{Reply}
+use Rattle.scenarios.specs.Turns.declared.turn.Turn.{Turn}
+use Rattle.scenarios.specs.Turns.declared.reply.Reply.{Reply}
 use Rattle.schedules.specs.Turns.{turn_data}
 use Rattle.schedules.proofs.schedule.add_turns.Goals as goal
 

@@ -1,6 +1,5 @@
 use Rattle.std.proofs.Common.{◌≡◌, ◌-◌, length}
-use Rattle.server_model.specs.Worlds.{sources_in}
-use Rattle.server_model.specs.Attach.{chain_meets}
+use Rattle.server_model.proofs.Prelude.{chain_meets, sources_in}
 use Rattle.server_model.proofs.attach.chain_meets.Given as goal
 
 abbrev pub invariant-loop-i : goal.invariant-loop-i

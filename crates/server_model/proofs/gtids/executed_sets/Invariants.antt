@@ -1,6 +1,6 @@
 use Rattle.std.proofs.Common.{◌≡◌, take}
 use Rattle.std.specs.Prelude.{map}
-use Rattle.server_model.specs.Gtids.{reserved_set, uuids_in}
+use Rattle.server_model.proofs.Prelude.{reserved_set, uuids_in}
 use Rattle.server_model.proofs.gtids.executed_sets.Given as goal
 
 abbrev pub invariant-loop-s : goal.invariant-loop-s

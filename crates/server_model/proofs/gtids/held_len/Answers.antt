@@ -1,7 +1,6 @@
 use Rattle.std.proofs.Common.{◌≡◌, Some, arith, ap, sym, ◌∙◌}
 use Rattle.std.specs.Prelude.{slice_get}
-use Rattle.gtid_sets.specs.Sets.{holds}
-use Rattle.server_model.specs.Gtids.{has_gtid, uuids_in}
+use Rattle.server_model.proofs.Prelude.{has_gtid, holds, uuids_in}
 use Rattle.server_model.proofs.ExecutedSets.{held_len-first}
 use Rattle.server_model.proofs.gtids.held_len.Goals.{After-contains}
 use Rattle.server_model.proofs.gtids.held_len.Goals as goal

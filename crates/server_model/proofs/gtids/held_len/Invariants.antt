@@ -1,5 +1,5 @@
 use Rattle.std.proofs.Common.{◌≡◌, ◌+◌, drop}
-use Rattle.server_model.specs.Gtids.{held_len, uuids_in}
+use Rattle.server_model.proofs.Prelude.{held_len, uuids_in}
 use Rattle.server_model.proofs.gtids.held_len.Given as goal
 
 abbrev pub invariant-loop-k : goal.invariant-loop-k

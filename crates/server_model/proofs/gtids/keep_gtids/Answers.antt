@@ -1,9 +1,6 @@
 use Rattle.std.proofs.Common.{◌≡◌, ◌+◌, List, Some, arith, ap, sym, ◌∙◌}
 use Rattle.std.specs.Prelude.{slice_get, slice_range}
-use Rattle.gtid_sets.specs.Adding.{with_pair}
-use Rattle.gtid_sets.specs.Reserved.{Reserved}
-use Rattle.gtid_sets.specs.declared.interval.Interval.{Interval}
-use Rattle.server_model.specs.Gtids.{uuids_in, with_gtids}
+use Rattle.server_model.proofs.Prelude.{Interval, Reserved, uuids_in, with_gtids, with_pair}
 use Rattle.server_model.proofs.ExecutedSets.{length-range, with_gtids-push}
 use Rattle.server_model.proofs.Lists.{range-more}
 use Rattle.server_model.proofs.gtids.keep_gtids.Goals as goal

@@ -1,6 +1,6 @@
 use Rattle.std.proofs.Common.{◌≡◌}
 use Rattle.std.specs.Prelude.{slice_range}
-use Rattle.server_model.specs.Gtids.{uuids_in, with_gtids}
+use Rattle.server_model.proofs.Prelude.{uuids_in, with_gtids}
 use Rattle.server_model.proofs.gtids.keep_gtids.Given as goal
 
 abbrev pub invariant-loop-k : goal.invariant-loop-k

@@ -1,8 +1,5 @@
 use Rattle.std.proofs.Common.{◌≡◌, ◌+◌, List, [], ◌∷◌, ◌++◌, map, take, ap, sym, ◌∙◌}
-use Rattle.std.proofs.lemmas.List.{map-append, take_more}
-use Rattle.gtid_sets.specs.Reserved.{Reserved}
-use Rattle.server_model.specs.Gtids.{purged_txns, reserved_set, uuids_in}
-use Rattle.server_model.specs.declared.server.Server.{Server}
+use Rattle.server_model.proofs.Prelude.{Reserved, Server, map-append, purged_txns, reserved_set, take_more, uuids_in}
 use Rattle.server_model.proofs.gtids.purged_sets.Goals as goal
 
 pub loop-s-preserved : goal.loop-s-preserved

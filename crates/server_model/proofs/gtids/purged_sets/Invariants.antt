@@ -1,6 +1,6 @@
 use Rattle.std.proofs.Common.{◌≡◌, take}
 use Rattle.std.specs.Prelude.{map}
-use Rattle.server_model.specs.Gtids.{purged_txns, reserved_set, uuids_in}
+use Rattle.server_model.proofs.Prelude.{purged_txns, reserved_set, uuids_in}
 use Rattle.server_model.proofs.gtids.purged_sets.Given as goal
 
 abbrev pub invariant-loop-s : goal.invariant-loop-s

@@ -1,6 +1,6 @@
 use Rattle.std.proofs.Common.{◌≡◌, Some, take, ap, sym, ◌∙◌, ◌+◌}
 use Rattle.std.specs.Prelude.{slice_get}
-use Rattle.orch_base.specs.Histories.{count_own}
+use Rattle.server_model.proofs.Prelude.{count_own}
 use Rattle.server_model.proofs.Lists.{take-more}
 use Rattle.server_model.proofs.Takes.{count_own-push}
 use Rattle.server_model.proofs.own.count_own.Goals as goal

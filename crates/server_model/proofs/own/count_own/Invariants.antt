@@ -1,5 +1,5 @@
 use Rattle.std.proofs.Common.{◌≡◌, take}
-use Rattle.orch_base.specs.Histories.{count_own}
+use Rattle.server_model.proofs.Prelude.{count_own}
 use Rattle.server_model.proofs.own.count_own.Given as goal
 
 abbrev pub invariant-loop-k : goal.invariant-loop-k

@@ -1,7 +1,5 @@
 use Rattle.std.proofs.Common.{◌≡◌, ◌+◌, length, take, ap, sym, ◌∙◌, arith}
-use Rattle.std.proofs.lemmas.List.{length-take}
-use Rattle.orch_base.specs.Histories.{count_own}
-use Rattle.server_model.specs.declared.server.Server.{Server}
+use Rattle.server_model.proofs.Prelude.{Server, count_own, length-take}
 use Rattle.server_model.proofs.Lists.{slice_get-index, take-more}
 use Rattle.server_model.proofs.OwnCounts.{own_from-snoc}
 use Rattle.server_model.proofs.own.own_counts.Goals as goal

@@ -1,5 +1,5 @@
 use Rattle.std.proofs.Common.{◌≡◌, take}
-use Rattle.server_model.specs.Fit.{own_counts}
+use Rattle.server_model.proofs.Prelude.{own_counts}
 use Rattle.server_model.proofs.own.own_counts.Given as goal
 
 abbrev pub invariant-loop-n : goal.invariant-loop-n

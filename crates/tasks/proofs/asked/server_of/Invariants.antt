@@ -1,5 +1,5 @@
 use Rattle.std.proofs.Common.{◌≡◌, drop}
-use Rattle.tasks.specs.Asked.{server_from, server_of}
+use Rattle.tasks.proofs.Prelude.{server_from, server_of}
 use Rattle.tasks.proofs.asked.server_of.Given as goal
 
 abbrev pub invariant-loop-no : goal.invariant-loop-no

@@ -1,4 +1,4 @@
-use Rattle.tasks.specs.Progress.{point}
+use Rattle.tasks.proofs.Prelude.{point}
 use Rattle.tasks.proofs.Courses.{recorded}
 use Rattle.tasks.proofs.Stands.{dump_keeper, dump_memory, dump_stands}
 use Rattle.tasks.proofs.dumped.dump_report.Goals as goal

@@ -1,8 +1,5 @@
 use Rattle.std.proofs.Common.{ℕ, ◌+◌, arith, subst}
-use Rattle.turns.specs.declared.turn.Turn.{Turn}
-use Rattle.turns.specs.declared.reply.Reply.{Reply}
-use Rattle.tasks.specs.Progress.{Adds}
-use Rattle.tasks.specs.Sinks.{taken}
+use Rattle.tasks.proofs.Prelude.{Adds, Reply, Turn, taken}
 use Rattle.tasks.proofs.Journals.{Told-next, Told-nil, Told-wanting, on_err}
 use Rattle.tasks.proofs.journal.add_entries.Goals as goal
 

@@ -1,5 +1,4 @@
-use Rattle.tasks.specs.Journals.{Told, told_in}
-use Rattle.tasks.specs.Sinks.{taken}
+use Rattle.tasks.proofs.Prelude.{Told, taken, told_in}
 use Rattle.tasks.proofs.journal.add_entries.Given as goal
 
 abbrev pub invariant-loop-i : goal.invariant-loop-i

@@ -1,7 +1,5 @@
 use Rattle.std.proofs.Common.{List, subst}
-use Rattle.orch_base.specs.Names.{HostPort}
-use Rattle.tasks.specs.Journals.{JournalStands, headed_text, told_run}
-use Rattle.tasks.specs.Sinks.{End, between, taken}
+use Rattle.tasks.proofs.Prelude.{End, HostPort, JournalStands, between, headed_text, taken, told_run}
 use Rattle.tasks.proofs.Sends.{nothing_is_front, takes_nothing}
 use Rattle.tasks.proofs.journal.journal_report.Goals as goal
 

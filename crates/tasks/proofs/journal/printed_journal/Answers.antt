@@ -1,6 +1,5 @@
 use Rattle.std.proofs.Common.{refl}
-use Rattle.tasks.specs.Journals.{told_run}
-use Rattle.tasks.specs.Sinks.{taken}
+use Rattle.tasks.proofs.Prelude.{taken, told_run}
 use Rattle.tasks.proofs.Journals.{journal_ends, journal_wants}
 use Rattle.tasks.proofs.journal.printed_journal.Goals as goal
 

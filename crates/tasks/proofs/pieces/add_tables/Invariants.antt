@@ -1,5 +1,5 @@
 use Rattle.std.proofs.Common.{◌≡◌, map, take}
-use Rattle.unended_jobs.specs.Unended.{number_of}
+use Rattle.tasks.proofs.Prelude.{number_of}
 use Rattle.tasks.proofs.pieces.add_tables.Given as goal
 
 abbrev pub invariant-loop-job : goal.invariant-loop-job

@@ -1,9 +1,6 @@
 use Rattle.std.proofs.Common.{◌≡◌, ◌∙◌, Err, ap, arith}
-use Rattle.commands.specs.declared.turn.CommandTurn.{CommandTurn}
-use Rattle.orch_base.specs.Memory.{next_count}
-use Rattle.orch_core.specs.Replies.{act_reply}
-use Rattle.turns.specs.declared.turn.Act.TheVariants as act
-use Rattle.tasks.specs.Plans.{begun_state}
+use Rattle.tasks.proofs.Prelude.{CommandTurn, act_reply, begun_state, next_count}
+use Rattle.tasks.proofs.Prelude.act
 use Rattle.tasks.proofs.planned.begin.Goals as goal
 
 pub returns-in-Ok-clause-reply : goal.returns-in-Ok-clause-reply

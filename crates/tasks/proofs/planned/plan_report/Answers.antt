@@ -1,4 +1,4 @@
-use Rattle.tasks.specs.Progress.{point}
+use Rattle.tasks.proofs.Prelude.{point}
 use Rattle.tasks.proofs.Courses.{recorded}
 use Rattle.tasks.proofs.Planning.{plan_keeper, plan_memory, plan_stands}
 use Rattle.tasks.proofs.planned.plan_report.Goals as goal

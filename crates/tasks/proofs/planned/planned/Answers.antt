@@ -1,9 +1,6 @@
 use Rattle.std.proofs.Common.{◌≡◌, ◌∙◌, ◌++◌, List, ℕ, ap, subst, sym}
 use Rattle.std.specs.Prelude.{IfOk}
-use Rattle.commands.specs.declared.turn.CommandTurn.{CommandTurn}
-use Rattle.tasks.specs.Plans.{planned_in, planned_text}
-use Rattle.tasks.specs.Report.{Answer}
-use Rattle.tasks.specs.Singles.{view}
+use Rattle.tasks.proofs.Prelude.{Answer, CommandTurn, planned_in, planned_text, view}
 use Rattle.tasks.proofs.Planning.{planned_in_place, replied_by, told_in_place}
 use Rattle.tasks.proofs.planned.planned.Goals as goal
 

@@ -1,8 +1,6 @@
 use Rattle.std.proofs.Common.{◌≡◌, ◌∙◌, ◌++◌, Some, ap, subst, sym}
 use Rattle.std.specs.Prelude.{OnOk}
-use Rattle.instance_keeper.specs.Book.{BookState}
-use Rattle.unended_jobs.specs.declared.unended.Unended.{Unended}
-use Rattle.tasks.specs.Plans.{Planned, planned_by, planned_text, straight, takeover_planned}
+use Rattle.tasks.proofs.Prelude.{BookState, Planned, Unended, planned_by, planned_text, straight, takeover_planned}
 use Rattle.tasks.proofs.Planning.{found_planned, none_planned}
 use Rattle.tasks.proofs.planned.print_planned.Goals as goal
 

@@ -1,5 +1,4 @@
-use Rattle.tasks.specs.Progress.{point}
-use Rattle.tasks.specs.Sinks.{taken}
+use Rattle.tasks.proofs.Prelude.{point, taken}
 use Rattle.tasks.proofs.Stands.{cut_stands, gave_keeper, whole_stands}
 use Rattle.tasks.proofs.progress.printed_report.Goals as goal
 

@@ -1,12 +1,6 @@
 use Rattle.std.proofs.Common.{List, refl, arith, subst}
-use Rattle.orch_base.specs.Names.{HostPort}
-use Rattle.knowledge.specs.declared.fault.TurnFault.TheVariants as fault
-use Rattle.orch_core.specs.Runs.{recorder}
-use Rattle.orch_core.specs.Scenarios.{without_turns}
-use Rattle.orch_core.proofs.Runs.{Ran-nil}
-use Rattle.tasks.specs.Endings.{Stands}
-use Rattle.tasks.specs.Progress.{course_from, point}
-use Rattle.tasks.specs.Sinks.{between, taken}
+use Rattle.tasks.proofs.Prelude.{HostPort, Ran-nil, Stands, between, course_from, point, recorder, taken, without_turns}
+use Rattle.tasks.proofs.Prelude.fault
 use Rattle.tasks.proofs.Stands.{memory_stands}
 use Rattle.tasks.proofs.progress.run_report.Goals as goal
 

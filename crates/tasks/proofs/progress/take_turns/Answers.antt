@@ -1,11 +1,5 @@
 use Rattle.std.proofs.Common.{◌≡◌, ◌∙◌, ◌+◌, ap, arith, Err, refl, subst, true}
-use Rattle.std.proofs.lemmas.Result.{err_from_is_err_and}
-use Rattle.turns.specs.declared.turn.Turn.{Turn}
-use Rattle.orch_core.specs.Keeping.{Calls, StepsTo, kept_by}
-use Rattle.orch_core.specs.Replies.{reply_of}
-use Rattle.orch_core.specs.Runs.{engine}
-use Rattle.tasks.specs.Progress.{Adds, point}
-use Rattle.tasks.specs.Sinks.{taken}
+use Rattle.tasks.proofs.Prelude.{Adds, Calls, StepsTo, Turn, engine, err_from_is_err_and, kept_by, point, reply_of, taken}
 use Rattle.tasks.proofs.Courses.{Follows-next, Follows-nil, gave_up, line_wanting, same_point}
 use Rattle.tasks.proofs.progress.take_turns.Goals as goal
 

@@ -1,7 +1,5 @@
 use Rattle.std.proofs.Common.{◌≡◌, length, take}
-use Rattle.orch_core.specs.States.{nodes_of}
-use Rattle.tasks.specs.Progress.{Follows, point}
-use Rattle.tasks.specs.Sinks.{between, taken}
+use Rattle.tasks.proofs.Prelude.{Follows, between, nodes_of, point, taken}
 use Rattle.tasks.proofs.progress.take_turns.Given as goal
 
 abbrev pub invariant-loop-i : goal.invariant-loop-i

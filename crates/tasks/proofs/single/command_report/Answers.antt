@@ -1,4 +1,4 @@
-use Rattle.tasks.specs.Progress.{point}
+use Rattle.tasks.proofs.Prelude.{point}
 use Rattle.tasks.proofs.Stands.{own_keeper, own_memory, own_stands}
 use Rattle.tasks.proofs.single.command_report.Goals as goal
 

@@ -1,6 +1,5 @@
 use Rattle.std.proofs.Common.{sym}
-use Rattle.std.proofs.lemmas.Result.{err_from_is_err_and}
-use Rattle.tasks.specs.Progress.{point}
+use Rattle.tasks.proofs.Prelude.{err_from_is_err_and, point}
 use Rattle.tasks.proofs.Closings.{rounds_cut, rounds_left}
 use Rattle.tasks.proofs.single.finish.Goals as goal
 

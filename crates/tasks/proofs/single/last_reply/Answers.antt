@@ -1,15 +1,7 @@
 use Rattle.std.proofs.Common.{List, Option, Result, Ok, Err, inl}
 use Rattle.std.specs.Prelude.{IfOk, IfErr}
-use Rattle.std.proofs.lemmas.Result.{err_from_is_err_and}
-use Rattle.commands.specs.declared.turn.CommandTurn.{CommandTurn}
-use Rattle.kept_rows.specs.declared.row.Row.{Row}
-use Rattle.orch_core.specs.Keeping.{Ran}
-use Rattle.orch_core.specs.Runs.{engine}
-use Rattle.knowledge.specs.declared.fault.TurnFault.{TurnFault}
-use Rattle.turns.specs.declared.reply.Reply.{Reply}
-use Rattle.turns.specs.declared.turn.Turn.{Turn}
-use Rattle.tasks.specs.Progress.{Answers, ClosesEach, EndsEach, GivesUpEach, Point, Stops, point}
-use Rattle.tasks.specs.Stages.{own_stages}
+use Rattle.tasks.proofs.Prelude.{Answers, ClosesEach, CommandTurn, EndsEach, GivesUpEach, Point, Ran, Reply, Row, Stops, Turn, TurnFault, engine}
+use Rattle.tasks.proofs.Prelude.{err_from_is_err_and, own_stages, point}
 use Rattle.tasks.proofs.Own.{own_gave_up, rounds_answer, rounds_gave_up}
 use Rattle.tasks.proofs.Stands.{whole_gave_up}
 use Rattle.tasks.proofs.single.last_reply.Goals as goal

@@ -1,9 +1,6 @@
 use Rattle.std.proofs.Common.{◌∙◌, ap, Option}
-use Rattle.std.specs.Option.{unwrap_or}
-use Rattle.std.proofs.lemmas.Result.{err_from_is_err_and}
-use Rattle.turns.specs.declared.reply.Reply.{Reply}
-use Rattle.turns.specs.declared.reply.Reply.TheVariants as answered
-use Rattle.tasks.specs.Progress.{point}
+use Rattle.tasks.proofs.Prelude.{Reply, err_from_is_err_and, point, unwrap_or}
+use Rattle.tasks.proofs.Prelude.answered
 use Rattle.tasks.proofs.Own.{claim_stops_by, ends_by, own_stops_by, own_wanting_by}
 use Rattle.tasks.proofs.single.own_reply.Goals as goal
 

@@ -1,10 +1,5 @@
 use Rattle.std.proofs.Common.{[], ◌∷◌, Err, Option, ap, arith, sym, subst}
-use Rattle.std.specs.Option.{option_to_list}
-use Rattle.std.proofs.lemmas.Result.{err_from_is_err_and}
-use Rattle.turns.specs.declared.turn.Turn.{Turn}
-use Rattle.orch_core.specs.Keeping.{Ran, WasCutOff}
-use Rattle.orch_core.specs.Runs.{engine}
-use Rattle.orch_core.proofs.Runs.{Ran-more, Ran-nil, cut-at}
+use Rattle.tasks.proofs.Prelude.{Ran, Ran-more, Ran-nil, Turn, WasCutOff, cut-at, engine, err_from_is_err_and, option_to_list}
 use Rattle.tasks.proofs.single.take_one.Goals as goal
 
 pub returns-in_err-turn-in-Some-clause-err : goal.returns-in_err-turn-in-Some-clause-err

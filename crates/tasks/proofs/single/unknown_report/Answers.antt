@@ -1,4 +1,4 @@
-use Rattle.tasks.specs.Progress.{point}
+use Rattle.tasks.proofs.Prelude.{point}
 use Rattle.tasks.proofs.Courses.{recorded}
 use Rattle.tasks.proofs.Stands.{unknown_keeper, unknown_memory, unknown_stands}
 use Rattle.tasks.proofs.single.unknown_report.Goals as goal

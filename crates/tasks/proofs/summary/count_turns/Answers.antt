@@ -1,11 +1,5 @@
 use Rattle.std.proofs.Common.{◌≡◌, ◌∙◌, ap, arith, length, take, Err, refl, subst, true}
-use Rattle.std.proofs.lemmas.List.{length-take-le}
-use Rattle.std.proofs.lemmas.Result.{err_from_is_err_and}
-use Rattle.turns.specs.declared.turn.Turn.{Turn}
-use Rattle.orch_core.specs.Keeping.{Calls, StepsTo, kept_by}
-use Rattle.orch_core.specs.Replies.{reply_of}
-use Rattle.orch_core.specs.Runs.{engine}
-use Rattle.tasks.specs.Progress.{point}
+use Rattle.tasks.proofs.Prelude.{Calls, StepsTo, Turn, engine, err_from_is_err_and, kept_by, length-take-le, point, reply_of}
 use Rattle.tasks.proofs.Courses.{Tallies-counted, Tallies-next, Tallies-nil, same_point, tally_gave_up}
 use Rattle.tasks.proofs.summary.count_turns.Goals as goal
 

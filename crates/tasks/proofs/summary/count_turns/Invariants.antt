@@ -1,6 +1,5 @@
 use Rattle.std.proofs.Common.{◌≡◌, length, take}
-use Rattle.orch_core.specs.States.{nodes_of}
-use Rattle.tasks.specs.Progress.{Tallies, point}
+use Rattle.tasks.proofs.Prelude.{Tallies, nodes_of, point}
 use Rattle.tasks.proofs.summary.count_turns.Given as goal
 
 abbrev pub invariant-loop-t : goal.invariant-loop-t

@@ -1,4 +1,4 @@
-use Rattle.tasks.specs.Progress.{point}
+use Rattle.tasks.proofs.Prelude.{point}
 use Rattle.tasks.proofs.Stands.{summary_keeper, summary_memory, summary_stands}
 use Rattle.tasks.proofs.summary.summary_report.Goals as goal
 

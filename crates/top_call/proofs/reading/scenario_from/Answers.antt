@@ -1,6 +1,5 @@
 use Rattle.std.proofs.Common.{ℕ, List, subst}
-use Rattle.scenario_reader.specs.Scenarios.{scenario_in}
-use Rattle.top_call.specs.Reads.{ReadsAs}
+use Rattle.top_call.proofs.Prelude.{ReadsAs, scenario_in}
 use Rattle.top_call.proofs.Ends.{each}
 use Rattle.top_call.proofs.Long.{of_read, too_long_read}
 use Rattle.top_call.proofs.reading.scenario_from.Goals as goal

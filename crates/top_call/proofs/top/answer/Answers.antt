@@ -1,8 +1,6 @@
 use Rattle.std.proofs.Common.{Err, inl, refl, subst}
-use Rattle.scenario_reader.specs.Scenarios.{scenario_in}
-use Rattle.top_call.specs.declared.reading.Stop.{Stop}
-use Rattle.top_call.specs.Reads.{OfRead, ReadsAs}
-use Rattle.top_call.specs.declared.way.Way.TheVariants as way
+use Rattle.top_call.proofs.Prelude.{OfRead, ReadsAs, Stop, scenario_in}
+use Rattle.top_call.proofs.Prelude.way
 use Rattle.top_call.proofs.Ends.{each, faulty, idles, lifted, told_of_faults, unmoved}
 use Rattle.top_call.proofs.top.answer.Goals as goal
 

@@ -1,5 +1,5 @@
 use Rattle.std.proofs.Common.{◌∙◌, ℕ, List, inl, refl, subst}
-use Rattle.tasks.specs.Sinks.{End, TakesLine, between, taken}
+use Rattle.top_call.proofs.Prelude.{End, TakesLine, between, taken}
 use Rattle.top_call.proofs.top.close_fault.Goals as goal
 
 pub returns-in-Ok : goal.returns-in-Ok

@@ -1,5 +1,5 @@
 use Rattle.std.proofs.Common.{◌∙◌, ap, inl, inr, refl, Err}
-use Rattle.tasks.proofs.Sends.{takes_nothing}
+use Rattle.top_call.proofs.Prelude.{takes_nothing}
 use Rattle.top_call.proofs.top.draw.Goals as goal
 
 pub returns-in-Ok-clause-ends : goal.returns-in-Ok-clause-ends

@@ -1,9 +1,6 @@
 use Rattle.std.proofs.Common.{◌∙◌, ℕ, List, inl, map, refl, subst, sym}
-use Rattle.command_line.specs.Places.{places_of}
-use Rattle.scenario_reader.specs.Scenarios.{scenario_in}
-use Rattle.tasks.specs.Sinks.{End, between, taken}
-use Rattle.top_call.specs.declared.way.Way.TheVariants as way
-use Rattle.top_call.specs.Ends.{DrawEnds, FaultsAs, IsComplete, IsUsage, StopsAtFirst, call}
+use Rattle.top_call.proofs.Prelude.{DrawEnds, End, FaultsAs, IsComplete, IsUsage, StopsAtFirst, between, call, places_of, scenario_in, taken}
+use Rattle.top_call.proofs.Prelude.way
 use Rattle.top_call.proofs.Ends.{bad_words, complete, draws_at, each, faults, idles, lifted, keeper_rose, known, no_usage, not_asked, of_four, of_three, read_whole, undrawn, unmoved}
 use Rattle.top_call.proofs.Reports.{both, err_by, kept_by_report, out_by, status_told}
 use Rattle.top_call.proofs.Runs.{active_alone, begin_apart, finish_well, tell_truly, obeys, safe_run, tell_hooks}

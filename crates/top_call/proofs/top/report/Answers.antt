@@ -1,5 +1,5 @@
-use Rattle.tasks.specs.declared.ending.Ending.TheVariants as ends
-use Rattle.tasks.specs.Sinks.{taken}
+use Rattle.top_call.proofs.Prelude.{taken}
+use Rattle.top_call.proofs.Prelude.ends
 use Rattle.top_call.proofs.Ends.{counted, failing, wanting}
 use Rattle.top_call.proofs.top.report.Goals as goal
 

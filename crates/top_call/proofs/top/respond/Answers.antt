@@ -1,8 +1,5 @@
 use Rattle.std.proofs.Common.{inl, refl, sym}
-use Rattle.command_line.specs.declared.parts.Drawing.{Drawing}
-use Rattle.command_line.specs.Places.{drawing_of}
-use Rattle.tasks.specs.Sinks.{End, between, taken}
-use Rattle.top_call.specs.Ends.{DrawEnds, status_of}
+use Rattle.top_call.proofs.Prelude.{DrawEnds, Drawing, End, between, drawing_of, status_of, taken}
 use Rattle.top_call.proofs.Ends.{draw_rose, draw_way, drawing_sound, drawn_once, drew, each, none_or_some, unmoved}
 use Rattle.top_call.proofs.top.respond.Goals as goal
 

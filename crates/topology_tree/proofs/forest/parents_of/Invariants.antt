@@ -1,5 +1,5 @@
 use Rattle.std.proofs.Common.{◌≡◌, ℕ, ◌<◌, length}
-use Rattle.topology_tree.specs.Forests.{above, IsParent}
+use Rattle.topology_tree.proofs.Prelude.{IsParent, above}
 use Rattle.topology_tree.proofs.forest.parents_of.Given as goal
 
 abbrev pub invariant-loop-node : goal.invariant-loop-node

@@ -1,6 +1,5 @@
 use Rattle.std.proofs.Common.{◌≡◌, ℕ, ◌<◌, length, Some}
-use Rattle.topology_tree.specs.Forests.{above}
-use Rattle.topology_tree.specs.Links.{last_below}
+use Rattle.topology_tree.proofs.Prelude.{above, last_below}
 use Rattle.topology_tree.proofs.links.link.Given as goal
 
 abbrev pub invariant-loop-node : goal.invariant-loop-node

@@ -1,6 +1,5 @@
 use Rattle.std.proofs.Common.{◌≡◌, ◌<◌, arith, subst, length}
-use Rattle.std.proofs.lemmas.Grind.{common_steps}
-use Rattle.topology_tree.specs.Marks.{Walked}
+use Rattle.topology_tree.proofs.Prelude.{Walked, common_steps}
 use Rattle.topology_tree.proofs.Marking.{Walked-begin, Walked-step, above-closed, in_range}
 use Rattle.topology_tree.proofs.loops.follow.Goals as goal
 

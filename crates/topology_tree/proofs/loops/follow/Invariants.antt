@@ -1,6 +1,6 @@
 use Rattle.std.proofs.Common.{◌≡◌, ◌<◌, length, IfSome, get_or}
 use Rattle.std.specs.Prelude.{count_by, ◌==◌}
-use Rattle.topology_tree.specs.Marks.{Walked}
+use Rattle.topology_tree.proofs.Prelude.{Walked}
 use Rattle.topology_tree.proofs.loops.follow.Given as goal
 
 abbrev pub invariant-loop-at : goal.invariant-loop-at

@@ -1,6 +1,5 @@
 use Rattle.std.proofs.Common.{◌≡◌, Some, arith, length}
-use Rattle.std.proofs.lemmas.Grind.{common_steps}
-use Rattle.topology_tree.specs.Forests.{above}
+use Rattle.topology_tree.proofs.Prelude.{above, common_steps}
 use Rattle.topology_tree.proofs.Chains.{next_comes_back, same_step}
 use Rattle.topology_tree.proofs.Marking.{Marking-step}
 use Rattle.topology_tree.proofs.loops.mark_loop.Goals as goal

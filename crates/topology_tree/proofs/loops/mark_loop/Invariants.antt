@@ -1,6 +1,6 @@
 use Rattle.std.proofs.Common.{◌≡◌, ◌<◌, length}
 use Rattle.std.specs.Prelude.{count_by, not}
-use Rattle.topology_tree.specs.Forests.{above}
+use Rattle.topology_tree.proofs.Prelude.{above}
 use Rattle.topology_tree.proofs.Marking.{Marking}
 use Rattle.topology_tree.proofs.loops.mark_loop.Given as goal
 

@@ -1,5 +1,5 @@
 use Rattle.std.proofs.Common.{◌≡◌, ◌<◌, Some, None, sym, length, get_or}
-use Rattle.topology_tree.specs.Marks.{IsMarked}
+use Rattle.topology_tree.proofs.Prelude.{IsMarked}
 use Rattle.topology_tree.proofs.Marking.{named, Finished-next}
 use Rattle.topology_tree.proofs.loops.walk_from.Goals as goal
 

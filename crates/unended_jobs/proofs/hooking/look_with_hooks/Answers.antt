@@ -1,6 +1,6 @@
 use Rattle.std.proofs.Common.{rules, ◌≡◌, true}
 use Rattle.std.specs.Prelude.{is_some}
-use Rattle.unended_jobs.specs.Hooked.{rear_hook}
+use Rattle.unended_jobs.proofs.Prelude.{rear_hook}
 use Rattle.unended_jobs.proofs.Looking.{behind-can, behind-turn}
 use Rattle.unended_jobs.proofs.hooking.look_with_hooks.Goals as goal
 

@@ -1,6 +1,5 @@
 use Rattle.std.proofs.Common.{rules, ◌≡◌, ap}
-use Rattle.operations.specs.declared.step.JobStep.{JobStep}
-use Rattle.unended_jobs.specs.Hooked.{name_of, step_with}
+use Rattle.unended_jobs.proofs.Prelude.{JobStep, name_of, step_with}
 use Rattle.unended_jobs.proofs.Looking.{own-foretold}
 use Rattle.unended_jobs.proofs.hooking.told.Goals as goal
 

@@ -1,5 +1,5 @@
 use Rattle.std.proofs.Common.{refl}
-use Rattle.jobs_in_flight.specs.Jobs.{job_at}
+use Rattle.unended_laws.proofs.Prelude.Jobs.{job_at}
 use Rattle.unended_laws.proofs.Turning.{number-held, number-may, number-sound, number-well}
 use Rattle.unended_laws.proofs.numbers.numbered_turns_pass.Goals as goal
 

@@ -1,12 +1,8 @@
 use Rattle.std.proofs.Common.{◌≡◌, ◌≤◌, List, length, ap, subst, sym, ◌∙◌, ◌-◌, arith, rules}
 use Rattle.std.specs.Prelude.{All}
-use Rattle.orch_base.specs.declared.server.Txn.{Txn}
-use Rattle.openings.specs.Servers.{count_of, history_at}
-use Rattle.openings.specs.declared.init.ServerInit.{ServerInit}
-use Rattle.openings.proofs.Soundness.{sound_checked}
-use Rattle.openings.specs.Taking.{HasSize, PartsInRange}
+use Rattle.world_openings.proofs.Prelude.{PartsInRange, ServerInit, Txn, count_of, history_at, laid, sound_checked}
+use Rattle.world_openings.proofs.Prelude.Taking.{HasSize}
 use Rattle.world_openings.proofs.OpenedWorlds.{Fits-at, length-history_at}
-use Rattle.openings.specs.Logs.{laid}
 use Rattle.world_openings.proofs.LaidLogs.{bare_server-is, index-is}
 use Rattle.world_openings.proofs.making.bare_server.Goals as goal
 

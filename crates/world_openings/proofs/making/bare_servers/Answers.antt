@@ -1,8 +1,6 @@
 use Rattle.std.proofs.Common.{◌≡◌, ℕ, List, length, Some, ap, subst, arith}
 use Rattle.std.specs.Prelude.{slice_get}
-use Rattle.openings.specs.declared.init.ServerInit.{ServerInit}
-use Rattle.world_openings.specs.Makings.{bare_server, AreBare}
-use Rattle.server_model.proofs.Lists.{slice_get-index}
+use Rattle.world_openings.proofs.Prelude.{AreBare, ServerInit, bare_server, slice_get-index}
 use Rattle.world_openings.proofs.Placings.{AreBare-more}
 use Rattle.world_openings.proofs.making.bare_servers.Goals as goal
 

@@ -1,4 +1,4 @@
-use Rattle.world_openings.specs.Makings.{AreBare}
+use Rattle.world_openings.proofs.Prelude.{AreBare}
 use Rattle.world_openings.proofs.making.bare_servers.Given as goal
 
 abbrev pub invariant-loop-n : goal.invariant-loop-n

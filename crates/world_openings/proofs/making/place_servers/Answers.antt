@@ -1,11 +1,6 @@
 use Rattle.std.proofs.Common.{◌≡◌, ℕ, ◌+◌, ◌<◌, List, length, ap, subst, sym, ◌∙◌, arith}
 use Rattle.std.specs.Prelude.{slice_set}
-use Rattle.openings.specs.Servers.{exec_of, read_of}
-use Rattle.openings.specs.declared.init.ServerInit.{ServerInit}
-use Rattle.server_model.specs.ServerBy.{server_of}
-use Rattle.server_model.specs.declared.server.Server.{Server}
-use Rattle.server_model.proofs.Lists.{slice_get-index}
-use Rattle.world_openings.specs.Makings.{ArePlaced}
+use Rattle.world_openings.proofs.Prelude.{ArePlaced, Server, ServerInit, exec_of, read_of, server_of, slice_get-index}
 use Rattle.world_openings.proofs.Placings.{listed-by, ArePlaced-none, ArePlaced-more, HaveLogs-placed}
 use Rattle.world_openings.proofs.making.place_servers.Goals as goal
 

@@ -1,4 +1,4 @@
-use Rattle.world_openings.specs.Makings.{ArePlaced, HaveLogs}
+use Rattle.world_openings.proofs.Prelude.{ArePlaced, HaveLogs}
 use Rattle.world_openings.proofs.making.place_servers.Given as goal
 
 abbrev pub invariant-loop-n : goal.invariant-loop-n

@@ -1,7 +1,5 @@
 use Rattle.std.proofs.Common.{◌≡◌, ℕ, List, ◌++◌, length, take, drop, sym, ◌∙◌, ap, subst, arith}
-use Rattle.std.proofs.lemmas.List.{append-nil, drop_all, take_all}
-use Rattle.server_model.specs.declared.server.Server.{Server}
-use Rattle.world_openings.specs.Makings.{ArePlaced, HaveLogs}
+use Rattle.world_openings.proofs.Prelude.{ArePlaced, HaveLogs, Server, append-nil, drop_all, take_all}
 use Rattle.world_openings.proofs.Placings.{HaveLogs-bare, ArePlaced-all}
 use Rattle.world_openings.proofs.making.servers_of.Goals as goal
 

@@ -1,17 +1,7 @@
 use Rattle.std.proofs.Common.{◌≡◌, ℕ, ◌<◌, List, length, Some, ap, subst, sym, ◌∙◌, arith, get_or, true}
 use Rattle.std.specs.Prelude.{option_map, slice_get}
-use Rattle.std.proofs.lemmas.Option.{slice_get_within}
-use Rattle.binlog_coords.specs.Index.{Index}
-use Rattle.binlog_coords.specs.Log.{Log}
-use Rattle.orch_base.specs.declared.server.Settings.{Settings}
-use Rattle.server_model.proofs.Told.{log-logged}
-use Rattle.openings.specs.Servers.{log_at, exec_of, read_of}
-use Rattle.openings.specs.Sound.{IsUnder}
-use Rattle.openings.specs.declared.init.ServerInit.{ServerInit}
-use Rattle.openings.proofs.Soundness.{sound_checked}
-use Rattle.server_model.specs.declared.server.Server.{Server}
-use Rattle.server_model.proofs.Lists.{slice_get-index}
-use Rattle.world_openings.specs.Makings.{exec_in, read_in, IsPlacedIn}
+use Rattle.world_openings.proofs.Prelude.{Index, IsPlacedIn, IsUnder, Log, Server, ServerInit, Settings, exec_in, exec_of, log-logged, log_at}
+use Rattle.world_openings.proofs.Prelude.{read_in, read_of, slice_get-index, slice_get_within, sound_checked}
 use Rattle.world_openings.proofs.OpenedWorlds.{placed-under, exec_of-under, read_of-under, read_of-root}
 use Rattle.world_openings.proofs.making.standing_of.Goals.{After-source}
 use Rattle.world_openings.proofs.making.standing_of.Goals as goal

@@ -1,5 +1,5 @@
 use Rattle.std.proofs.Common.{ap}
-use Rattle.binlog_coords.specs.Index.{Index}
+use Rattle.binlog_coords.proofs.Prelude.{Index}
 use Rattle.binlog_coords.proofs.Halves.{coord_after-last}
 use Rattle.binlog_coords.proofs.index.LogIndex.coord_after.Goals as goal
 

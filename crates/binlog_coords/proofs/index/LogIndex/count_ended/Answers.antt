@@ -1,6 +1,5 @@
 use Rattle.std.proofs.Common.{◌∙◌, rules, sym, ap}
-use Rattle.std.proofs.lemmas.List.Sorted.{IsPartitionPoint-from_clause}
-use Rattle.binlog_coords.specs.Index.{Index}
+use Rattle.binlog_coords.proofs.Prelude.{Index, IsPartitionPoint-from_clause}
 use Rattle.binlog_coords.proofs.Halves.{slot_ends, ended-before, boundary-by, count-at_last}
 use Rattle.binlog_coords.proofs.index.LogIndex.count_ended.Goals as goal
 

@@ -1,7 +1,6 @@
 use Rattle.std.proofs.Common.{refl, ap}
 use Rattle.std.specs.Prelude.{map}
-use Rattle.binlog_coords.specs.Index.{Index}
-use Rattle.binlog_coords.specs.Slots.{entry_of}
+use Rattle.binlog_coords.proofs.Prelude.{Index, entry_of}
 use Rattle.binlog_coords.proofs.Halves.{has_place-by}
 use Rattle.binlog_coords.proofs.index.LogIndex.has_place.Goals as goal
 

@@ -1,7 +1,6 @@
 use Rattle.std.proofs.Common.{ap}
 use Rattle.std.specs.Prelude.{map}
-use Rattle.binlog_coords.specs.Index.{Index}
-use Rattle.binlog_coords.specs.Slots.{entry_of}
+use Rattle.binlog_coords.proofs.Prelude.{Index, entry_of}
 use Rattle.binlog_coords.proofs.Halves.{next_after-begun, next_after-elsewhere, next_after-past}
 use Rattle.binlog_coords.proofs.index.LogIndex.next_after.Goals as goal
 use Rattle.binlog_coords.proofs.index.LogIndex.next_after.Goals.{in_default-via-in-Some+else-is_same, in_default-via-in_default}

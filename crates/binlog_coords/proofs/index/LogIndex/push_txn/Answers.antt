@@ -1,7 +1,5 @@
 use Rattle.std.proofs.Common.{◌<◌, ◌+◌, arith, ap, length, rules}
-use Rattle.std.proofs.lemmas.List.{length-map}
-use Rattle.binlog_coords.specs.Index.{Index}
-use Rattle.binlog_coords.specs.Slots.{txn_of}
+use Rattle.binlog_coords.proofs.Prelude.{Index, length-map, txn_of}
 use Rattle.binlog_coords.proofs.Halves.{LieBetween-appended, LieBetween-filled, entries-count, entries-pushed}
 use Rattle.binlog_coords.proofs.index.LogIndex.push_txn.Goals as goal
 

@@ -1,7 +1,5 @@
 use Rattle.std.proofs.Common.{◌<◌, length, arith, sym, subst}
-use Rattle.gtid_sets.specs.Adding.{single}
-use Rattle.gtid_sets.specs.Reserved.{Reserved}
-use Rattle.gtid_sets.specs.Sets.{IsSet}
+use Rattle.gtid_sets.proofs.Prelude.{IsSet, Reserved, single}
 use Rattle.gtid_sets.proofs.Inserts.{IsSet-with_pair, IsInterval-single, length-inserted}
 use Rattle.gtid_sets.proofs.reserved.ReservedSet.add.Goals as goal
 

@@ -1,6 +1,5 @@
 use Rattle.std.proofs.Common.{arith, sym, ◌∙◌}
-use Rattle.std.proofs.lemmas.Bool.Decides.{nat_tests}
-use Rattle.gtid_sets.specs.Sets.{low}
+use Rattle.gtid_sets.proofs.Prelude.{low, nat_tests}
 use Rattle.gtid_sets.proofs.Joins.{joined_set, apart_set, joined_order}
 use Rattle.gtid_sets.proofs.set.GtidSet.append.Goals as goal
 

@@ -1,8 +1,6 @@
 use Rattle.std.proofs.Common.{◌≡◌, List, [], false, refl, sym, subst, arith}
 use Rattle.std.specs.Prelude.{◌↔◌, IsTrue}
-use Rattle.std.proofs.lemmas.Grind.{common_steps}
-use Rattle.gtid_sets.specs.declared.interval.Interval.{Interval}
-use Rattle.gtid_sets.specs.Sets.{holds, IsSet}
+use Rattle.gtid_sets.proofs.Prelude.{Interval, IsSet, common_steps, holds}
 use Rattle.gtid_sets.proofs.Search.{none_held}
 use Rattle.gtid_sets.proofs.set.GtidSet.is_empty.Goals as goal
 

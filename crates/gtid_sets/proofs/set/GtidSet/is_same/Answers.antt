@@ -1,9 +1,6 @@
 use Rattle.std.proofs.Common.{◌≡◌, true, eqb, subst, arith}
 use Rattle.std.specs.Prelude.{◌&&◌}
-use Rattle.std.specs.Bool.{Decides}
-use Rattle.std.proofs.lemmas.Bool.Decides.{nat_tests}
-use Rattle.std.proofs.lemmas.Slice.Eq.{slice_eq-Decides}
-use Rattle.gtid_sets.specs.declared.interval.Interval.{Interval}
+use Rattle.gtid_sets.proofs.Prelude.{Decides, Interval, nat_tests, slice_eq-Decides}
 use Rattle.gtid_sets.proofs.set.GtidSet.is_same.Goals as goal
 
 same_parts : (a b : Interval) → (eqb a.uuid b.uuid && (eqb a.first b.first && eqb a.last b.last)) ≡ true → a ≡ b

@@ -1,6 +1,5 @@
 use Rattle.std.proofs.Common.{◌≡◌, ℕ, ◌==◌, ◌&&◌, List, filter, sym, subst}
-use Rattle.gtid_sets.specs.declared.interval.Interval.{Interval}
-use Rattle.gtid_sets.specs.Sets.{holds, IsSet}
+use Rattle.gtid_sets.proofs.Prelude.{Interval, IsSet, holds}
 use Rattle.gtid_sets.proofs.Parts.{part_is_set, part_holds}
 use Rattle.gtid_sets.proofs.set.GtidSet.of_uuid.Goals as goal
 

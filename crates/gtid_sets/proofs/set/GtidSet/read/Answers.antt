@@ -1,7 +1,5 @@
 use Rattle.std.proofs.Common.{◌≡◌, List, Ok, rules, sym, ap, subst, ◌∙◌}
-use Rattle.gtid_sets.specs.declared.interval.Interval.{Interval}
-use Rattle.gtid_sets.specs.Grammar.{HasThose, text_at}
-use Rattle.gtid_sets.specs.Sets.{on_line, IsSet}
+use Rattle.gtid_sets.proofs.Prelude.{HasThose, Interval, IsSet, on_line, text_at}
 use Rattle.gtid_sets.proofs.Points.{gathered_holds}
 use Rattle.gtid_sets.proofs.set.GtidSet.read.Goals as goal
 

@@ -1,6 +1,5 @@
 use Rattle.std.proofs.Common.{◌∙◌, ℕ, List, Option, [], None, length, ap}
-use Rattle.std.proofs.lemmas.List.{length-replicate}
-use Rattle.instance_keeper.specs.declared.bridge.Bridge.{Bridge}
+use Rattle.instance_keeper.proofs.Prelude.{Bridge, length-replicate}
 use Rattle.instance_keeper.proofs.Reloads.{rest_cleared}
 use Rattle.instance_keeper.proofs.book.Book.clear_rest.Goals as goal
 

@@ -1,8 +1,5 @@
 use Rattle.std.proofs.Common.{◌≡◌, ◌∙◌, ℕ, suc, List, Option, None, ap, add-one, length, arith}
-use Rattle.std.proofs.lemmas.List.{length-set}
-use Rattle.kept_rows.specs.declared.observation.Instance.{Instance}
-use Rattle.instance_keeper.specs.Book.{BookState}
-use Rattle.instance_keeper.specs.Reloads.{first_set}
+use Rattle.instance_keeper.proofs.Prelude.{BookState, Instance, first_set, length-set}
 use Rattle.instance_keeper.proofs.Reloads.{first_emptied}
 use Rattle.instance_keeper.proofs.book.Book.empty_between.Goals as goal
 

@@ -1,5 +1,5 @@
 use Rattle.std.proofs.Common.{◌≡◌, ◌≤◌, length}
-use Rattle.instance_keeper.specs.Reloads.{first_set}
+use Rattle.instance_keeper.proofs.Prelude.{first_set}
 use Rattle.instance_keeper.proofs.book.Book.empty_between.Given as goal
 
 abbrev pub invariant-loop-no : goal.invariant-loop-no

@@ -1,6 +1,6 @@
 use Rattle.std.proofs.Common.{◌≡◌, take}
 use Rattle.std.specs.Prelude.{fold}
-use Rattle.instance_keeper.specs.Book.{after_row, empty_book, names_of}
+use Rattle.instance_keeper.proofs.Prelude.{after_row, empty_book, names_of}
 use Rattle.instance_keeper.proofs.book.Book.make.Given as goal
 
 abbrev pub invariant-rows : goal.invariant-rows

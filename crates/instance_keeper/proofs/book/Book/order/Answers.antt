@@ -1,8 +1,5 @@
 use Rattle.std.proofs.Common.{◌≡◌, ◌<◌, All, length, ap, sym, ◌∙◌, subst, rules}
-use Rattle.orch_base.specs.declared.server.ServerNo.{ServerNo}
-use Rattle.name_order.specs.NameOrder.{by_name, IsOrder}
-use Rattle.name_order.proofs.Arranged.{by_name-within}
-use Rattle.name_order.proofs.ByName.{IsOrder-by_name, length-by_name}
+use Rattle.instance_keeper.proofs.Prelude.{IsOrder, IsOrder-by_name, ServerNo, by_name, by_name-within, length-by_name}
 use Rattle.instance_keeper.proofs.book.Book.order.Goals as goal
 
 pub returns-clause-count : goal.returns-clause-count

@@ -1,7 +1,6 @@
 use Rattle.std.proofs.Common.{◌∙◌, ap, sym, zero}
 use Rattle.std.specs.Prelude.{fold}
-use Rattle.instance_keeper.specs.Book.{BookState, after_row}
-use Rattle.instance_keeper.specs.Reloads.{first_set}
+use Rattle.instance_keeper.proofs.Prelude.{BookState, after_row, first_set}
 use Rattle.instance_keeper.proofs.Reloads.{all_set, none_set}
 use Rattle.instance_keeper.proofs.book.Book.reload.Goals as goal
 

@@ -1,7 +1,6 @@
 use Rattle.std.proofs.Common.{◌≡◌, ◌≤◌, length}
 use Rattle.std.specs.Prelude.{fold}
-use Rattle.instance_keeper.specs.Book.{after_row}
-use Rattle.instance_keeper.specs.Reloads.{first_set}
+use Rattle.instance_keeper.proofs.Prelude.{after_row, first_set}
 use Rattle.instance_keeper.proofs.book.Book.set_all.Given as goal
 
 abbrev pub invariant-rows : goal.invariant-rows

@@ -1,7 +1,5 @@
 use Rattle.std.proofs.Common.{◌≡◌, ◌∙◌, ℕ, suc, Some, None, ap, sym, add-one, length, arith}
-use Rattle.kept_rows.specs.Servers.{row_fits}
-use Rattle.instance_keeper.specs.Book.{BookState, after_row}
-use Rattle.instance_keeper.specs.Reloads.{first_set, place_from}
+use Rattle.instance_keeper.proofs.Prelude.{BookState, after_row, first_set, place_from, row_fits}
 use Rattle.instance_keeper.proofs.Reloads.{placed, unplaced}
 use Rattle.instance_keeper.proofs.book.Book.set_next.Goals as goal
 

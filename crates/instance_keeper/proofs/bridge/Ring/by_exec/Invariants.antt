@@ -1,5 +1,5 @@
 use Rattle.std.proofs.Common.{◌≡◌, take}
-use Rattle.instance_keeper.specs.Bridges.{latest_that, has_exec}
+use Rattle.instance_keeper.proofs.Prelude.{has_exec, latest_that}
 use Rattle.instance_keeper.proofs.bridge.Ring.by_exec.Given as goal
 
 abbrev pub invariant-loop-k : goal.invariant-loop-k

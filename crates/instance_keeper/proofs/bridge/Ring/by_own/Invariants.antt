@@ -1,5 +1,5 @@
 use Rattle.std.proofs.Common.{◌≡◌, take}
-use Rattle.instance_keeper.specs.Bridges.{latest_that, has_own}
+use Rattle.instance_keeper.proofs.Prelude.{has_own, latest_that}
 use Rattle.instance_keeper.proofs.bridge.Ring.by_own.Given as goal
 
 abbrev pub invariant-loop-k : goal.invariant-loop-k

@@ -1,8 +1,5 @@
 use Rattle.std.proofs.Common.{ap, ◌∙◌, sym, List, drop, ◌+◌}
-use Rattle.orch_base.specs.declared.server.ServerNo.{ServerNo}
-use Rattle.operations.specs.Jobs.{Job}
-use Rattle.operations.specs.Turns.{hands_after}
-use Rattle.job_plans.specs.JobsBy.{job_of}
+use Rattle.job_plans.proofs.Prelude.{Job, ServerNo, hands_after, job_of}
 use Rattle.job_plans.proofs.Views.{hands-view}
 use Rattle.job_plans.proofs.job.Job.follow_asking.Goals as goal
 

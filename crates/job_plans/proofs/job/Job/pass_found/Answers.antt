@@ -1,7 +1,5 @@
 use Rattle.std.proofs.Common.{ap, ◌∙◌, sym, List, [], ◌∷◌, ◌++◌, drop, ◌+◌}
-use Rattle.operations.specs.declared.matching.Match.{Match}
-use Rattle.operations.specs.Jobs.{Job}
-use Rattle.job_plans.specs.JobsBy.{job_of}
+use Rattle.job_plans.proofs.Prelude.{Job, Match, job_of}
 use Rattle.job_plans.proofs.Views.{matches-view}
 use Rattle.job_plans.proofs.job.Job.pass_found.Goals as goal
 

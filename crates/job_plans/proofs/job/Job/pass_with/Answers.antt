@@ -1,7 +1,5 @@
 use Rattle.std.proofs.Common.{ap, ◌∙◌, sym, List, drop, ◌+◌}
-use Rattle.operations.specs.declared.sight.Sight.{Sight}
-use Rattle.operations.specs.Jobs.{with_seen}
-use Rattle.job_plans.specs.JobsBy.{job_of}
+use Rattle.job_plans.proofs.Prelude.{Sight, job_of, with_seen}
 use Rattle.job_plans.proofs.Views.{seen-view}
 use Rattle.job_plans.proofs.job.Job.pass_with.Goals as goal
 

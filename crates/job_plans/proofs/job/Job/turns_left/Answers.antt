@@ -1,5 +1,5 @@
 use Rattle.std.proofs.Common.{ap, ◌∙◌, length}
-use Rattle.operations.specs.Jobs.{Job}
+use Rattle.job_plans.proofs.Prelude.{Job}
 use Rattle.job_plans.proofs.Views.{turns-view}
 use Rattle.job_plans.proofs.job.Job.turns_left.Goals as goal
 

@@ -1,7 +1,5 @@
 use Rattle.std.proofs.Common.{ap, ◌∙◌, sym, Option, option_copied}
-use Rattle.operations.specs.declared.sight.Position.{Position}
-use Rattle.operations.specs.Jobs.{Job, seen_of}
-use Rattle.job_plans.specs.JobsSeen.{or_seen}
+use Rattle.job_plans.proofs.Prelude.{Job, Position, or_seen, seen_of}
 use Rattle.job_plans.proofs.Sights.{seen-later}
 use Rattle.job_plans.proofs.view.JobView.sight.Goals as goal
 

@@ -1,10 +1,5 @@
 use Rattle.std.proofs.Common.{◌≡◌, ◌∙◌, ℕ, List, length, map, ap, sym, subst}
-use Rattle.turns.specs.declared.turn.Turn.{Turn}
-use Rattle.turns.specs.declared.reply.Reply.{Reply}
-use Rattle.orch_core.specs.Due.{IsDue}
-use Rattle.live_desk.specs.DeskBy.{desk_of}
-use Rattle.live_desk.specs.Desks.{DeskState}
-use Rattle.live_desk.specs.Entries.{turns_in}
+use Rattle.live_desk.proofs.Prelude.{DeskState, IsDue, Reply, Turn, desk_of, turns_in}
 use Rattle.live_desk.proofs.Entries.{turns-pairs}
 use Rattle.live_desk.proofs.desk.Desk.due.Goals as goal
 

@@ -1,9 +1,5 @@
 use Rattle.std.proofs.Common.{◌≡◌, ◌∙◌, ℕ, List, length, sym, ap, subst}
-use Rattle.kept_rows.specs.declared.row.Row.{Row}
-use Rattle.orch_core.specs.Runs.{Held, Recorded}
-use Rattle.live_desk.specs.Desks.{held_of}
-use Rattle.live_desk.specs.Ends.{IsLive, RunsOn, rows_after, state_after}
-use Rattle.live_desk.specs.Entries.{Entry, entries_of}
+use Rattle.live_desk.proofs.Prelude.{Entry, Held, IsLive, Recorded, Row, RunsOn, entries_of, held_of, rows_after, state_after}
 use Rattle.live_desk.proofs.Ends.{ended-run, live-end}
 use Rattle.live_desk.proofs.desk.Desk.into_ended.Goals as goal
 

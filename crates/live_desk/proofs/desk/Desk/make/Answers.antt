@@ -1,13 +1,6 @@
 use Rattle.std.proofs.Common.{◌≡◌, ◌∙◌, ℕ, true, false, List, length, sym, ap, subst}
-use Rattle.std.proofs.lemmas.Option.{same_Some}
-use Rattle.kept_rows.specs.Rows.{changed}
-use Rattle.scenarios.specs.declared.scenario.Scenario.{Scenario}
-use Rattle.scenarios.specs.Scenarios.{IsScenario}
-use Rattle.turns.specs.declared.turn.Turn.{Turn}
-use Rattle.turns.specs.declared.reply.Reply.{Reply}
-use Rattle.orch_core.specs.Scenarios.{start, start_changes}
-use Rattle.live_desk.specs.DeskBy.{IsAt, left_from}
-use Rattle.live_desk.specs.Entries.{commands_in, others_in}
+use Rattle.live_desk.proofs.Prelude.{IsAt, IsScenario, Reply, Scenario, Turn, changed, commands_in, left_from, others_in, same_Some, start}
+use Rattle.live_desk.proofs.Prelude.{start_changes}
 use Rattle.live_desk.proofs.Desks.{made-desk, shown, shown-made}
 use Rattle.live_desk.proofs.desk.Desk.make.Goals as goal
 

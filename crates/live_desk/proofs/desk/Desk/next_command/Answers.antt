@@ -1,9 +1,6 @@
 use Rattle.std.proofs.Common.{length, List, subst, sym}
 use Rattle.std.specs.Prelude.{All}
-use Rattle.std.proofs.lemmas.Option.{IfSome_then}
-use Rattle.scenarios.specs.Turns.{IsTurn, NamesOneOf}
-use Rattle.turns.specs.declared.turn.Turn.{Turn}
-use Rattle.live_desk.specs.Desks.{DeskState}
+use Rattle.live_desk.proofs.Prelude.{DeskState, IfSome_then, IsTurn, NamesOneOf, Turn}
 use Rattle.live_desk.proofs.desk.Desk.next_command.Goals as goal
 
 pub returns-clause-turn : goal.returns-clause-turn

@@ -1,16 +1,6 @@
 use Rattle.std.proofs.Common.{◌≡◌, ◌∙◌, ℕ, List, [], ◌∷◌, ◌++◌, Bool, true, false, cond, drop, length, sym, ap, subst, arith}
-use Rattle.std.proofs.lemmas.List.{length-append}
-use Rattle.std.proofs.lemmas.Option.{same_Some}
-use Rattle.scenarios.specs.Turns.{IsTurn, NamesOneOf}
-use Rattle.orch_core.specs.States.{nodes_of}
-use Rattle.turns.specs.declared.turn.Turn.{Turn}
-use Rattle.turns.specs.declared.reply.Reply.{Reply}
-use Rattle.orch_core.specs.Runs.{Recorded}
-use Rattle.orch_core.specs.Replies.{reply_of}
-use Rattle.live_desk.specs.Kinds.{is_command}
-use Rattle.live_desk.specs.DeskBy.{IsAt, desk_of, left_from}
-use Rattle.live_desk.specs.Desks.{DeskState, IsDesk, MayTake, taken}
-use Rattle.live_desk.specs.Entries.{Entry, Stands, drives, entries_of}
+use Rattle.live_desk.proofs.Prelude.{DeskState, Entry, IsAt, IsDesk, IsTurn, MayTake, NamesOneOf, Recorded, Reply, Stands, Turn, desk_of, drives}
+use Rattle.live_desk.proofs.Prelude.{entries_of, is_command, left_from, length-append, nodes_of, reply_of, same_Some, taken}
 use Rattle.live_desk.proofs.Desks.{shown, shown-taken, taken-desk}
 use Rattle.live_desk.proofs.Entries.{length-entries, stands-push}
 use Rattle.live_desk.proofs.desk.Desk.turn.Goals as goal

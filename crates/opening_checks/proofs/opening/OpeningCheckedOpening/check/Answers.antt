@@ -1,5 +1,5 @@
 use Rattle.std.proofs.Common.{sym, subst}
-use Rattle.opening_checks.specs.Checks.{InRange}
+use Rattle.opening_checks.proofs.Prelude.{InRange}
 use Rattle.opening_checks.proofs.Flawed.{in_range}
 use Rattle.opening_checks.proofs.opening.OpeningCheckedOpening.check.Goals as goal
 

@@ -1,8 +1,6 @@
 -- The parts' own `==` decides whether they are equal, and so the lists' does.
 use Rattle.std.proofs.Common.{◌≡◌, Decides, rules, sym, ◌∙◌}
-use Rattle.std.proofs.lemmas.Slice.Eq.{slice_eq-Decides}
-use Rattle.openings.specs.declared.part.Part.{Part}
-use Rattle.openings.specs.contracts.part.PartPartialEq.TheImpl.{eq-value}
+use Rattle.openings.proofs.Prelude.{Part, eq-value, slice_eq-Decides}
 use Rattle.openings.proofs.part.Parts.is_same.Goals as goal
 
 part_decides : (a b : Part) → Decides (eq-value.it a b) (a ≡ b)

@@ -1,13 +1,7 @@
 use Rattle.std.proofs.Common.{◌≡◌, ◌∙◌, [], false, true, Result, Ok, Err, ap, subst, sym}
 use Rattle.std.specs.Prelude.{OnOk}
-use Rattle.node_claims.specs.Claims.{ClaimState}
-use Rattle.turns.specs.declared.turn.Turn.TheVariants as turn
-use Rattle.orch_core.specs.EngineBy.{state_of}
-use Rattle.orch_core.specs.Keeping.{StepsTo}
-use Rattle.orch_core.specs.Nodes.{acts}
-use Rattle.orch_core.specs.Polls.{act_changes, changes_of}
-use Rattle.orch_core.specs.Runs.{asks, engine}
-use Rattle.orch_core.specs.States.{State}
+use Rattle.orch_core.proofs.Prelude.{ClaimState, State, StepsTo, act_changes, acts, asks, changes_of, engine, state_of}
+use Rattle.orch_core.proofs.Prelude.turn
 use Rattle.orch_core.proofs.Claims.{StepsTo-same, asks-acting, changes-acting, same-claims, step-acting}
 use Rattle.orch_core.proofs.engine.Engine.act_as.Goals as goal
 

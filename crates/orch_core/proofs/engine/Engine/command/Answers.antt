@@ -1,15 +1,7 @@
 use Rattle.std.proofs.Common.{◌≡◌, ◌∙◌, ℕ, ◌<◌, ◌≤◌, ◌^◌, length, sym, ap, subst, true}
 use Rattle.std.specs.Prelude.{IfSome}
-use Rattle.commands.specs.declared.turn.CommandTurn.{CommandTurn}
-use Rattle.commands.specs.Turns.{is_within}
-use Rattle.scenarios.specs.Turns.{IsCommand}
-use Rattle.command_outcomes.specs.Commands.{outcome_of}
-use Rattle.command_outcomes.specs.CommandsBy.{outcome}
-use Rattle.command_outcomes.specs.declared.command.Numbers.{Numbers}
-use Rattle.orch_core.specs.Polls.{command_outcome, numbers_of}
-use Rattle.orch_core.specs.Settling.{CanSettle}
-use Rattle.orch_core.specs.States.{State}
-use Rattle.orch_core.specs.EngineBy.{state_of}
+use Rattle.orch_core.proofs.Prelude.{CanSettle, CommandTurn, IsCommand, Numbers, State, command_outcome, is_within, numbers_of, outcome, outcome_of}
+use Rattle.orch_core.proofs.Prelude.{state_of}
 use Rattle.orch_core.proofs.Outcomes.{command-settles, destination-within, given-duration, given-within}
 use Rattle.orch_core.proofs.engine.Engine.command.Goals as goal
 

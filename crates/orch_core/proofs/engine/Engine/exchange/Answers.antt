@@ -1,7 +1,5 @@
 use Rattle.std.proofs.Common.{length, sym, subst}
-use Rattle.scenarios.specs.Turns.{IsStep}
-use Rattle.orch_core.specs.States.{State}
-use Rattle.orch_core.specs.EngineBy.{state_of}
+use Rattle.orch_core.proofs.Prelude.{IsStep, State, state_of}
 use Rattle.orch_core.proofs.States.{IsState-step}
 use Rattle.orch_core.proofs.engine.Engine.exchange.Goals as goal
 

@@ -1,18 +1,9 @@
 use Rattle.std.proofs.Common.{◌≡◌, ◌∙◌, ◌+◌, ◌<◌, ◌∷◌, ◌++◌, refl, sym, ap, subst, length, List}
 use Rattle.std.specs.Prelude.{All}
-use Rattle.std.specs.List.{flat_map}
-use Rattle.std.proofs.lemmas.List.Elements.{All-tail}
-use Rattle.orch_base.specs.declared.server.ServerNo.{ServerNo}
-use Rattle.name_order.specs.NameOrder.{by_name}
-use Rattle.scenarios.specs.Turns.{IsTurn, NamesOneOf}
-use Rattle.turns.specs.declared.turn.Turn.{Turn}
-use Rattle.turns.specs.declared.turn.Act.TheVariants as act
-use Rattle.turns.specs.declared.turn.Turn.TheVariants as turn
-use Rattle.orch_core.specs.Keeping.{Ran, WasCutOff}
-use Rattle.orch_core.specs.Rounds.{round_of}
-use Rattle.jobs_in_flight.specs.Rounds.{polls, replicates}
-use Rattle.orch_core.specs.Runs.{engine}
-use Rattle.orch_core.specs.States.{State, nodes_of}
+use Rattle.orch_core.proofs.Prelude.{All-tail, IsTurn, NamesOneOf, Ran, ServerNo, State, Turn, WasCutOff, by_name, engine, flat_map, nodes_of, polls}
+use Rattle.orch_core.proofs.Prelude.{replicates, round_of}
+use Rattle.orch_core.proofs.Prelude.act
+use Rattle.orch_core.proofs.Prelude.turn
 use Rattle.orch_core.proofs.Finishing.{FinishedBy-told, Rounds-more, Rounds-none, cut-first, cut-round, named-others, round-less, told-more, turns-round}
 use Rattle.orch_core.proofs.engine.Engine.finish.Goals as goal
 

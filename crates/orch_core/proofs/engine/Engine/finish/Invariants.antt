@@ -1,8 +1,5 @@
 use Rattle.std.proofs.Common.{ℕ, ◌≡◌, length}
-use Rattle.jobs_in_flight.specs.Jobs.{most_turns}
-use Rattle.orch_core.specs.Rounds.{told_in}
-use Rattle.orch_core.specs.Runs.{engine}
-use Rattle.orch_core.specs.States.{nodes_of}
+use Rattle.orch_core.proofs.Prelude.{engine, most_turns, nodes_of, told_in}
 use Rattle.orch_core.proofs.Finishing.{Rounds}
 use Rattle.orch_core.proofs.engine.Engine.finish.Given as goal
 

@@ -1,21 +1,9 @@
 use Rattle.std.proofs.Common.{◌≡◌, ◌∙◌, ◌<◌, ◌++◌, [], rules, sym, ap, subst, length, Bool, true, false, Option}
 use Rattle.std.specs.Prelude.{IfSome, is_ok, slice_get}
-use Rattle.unended_jobs.specs.declared.unended.Unended.{Unended}
-use Rattle.unended_jobs.specs.Looks.{CanGo, observation_of, step_of}
-use Rattle.unended_jobs.proofs.Going.{ready-of}
-use Rattle.turns.specs.declared.reply.Reply.{Reply}
-use Rattle.turns.specs.declared.turn.Act.TheVariants as act
-use Rattle.turns.specs.declared.turn.Turn.TheVariants as turn
-use Rattle.jobs_in_flight.specs.Jobs.{job_at, step_reply}
-use Rattle.knowledge.specs.Closings.{closed_by, closing_changes}
-use Rattle.knowledge.specs.Kept.{changes_by, kept_if}
-use Rattle.orch_core.specs.Polls.{changes_of}
-use Rattle.orch_core.specs.Replies.{reply_of}
-use Rattle.knowledge.specs.Replies.{AreReply}
-use Rattle.orch_core.specs.After.{step}
-use Rattle.orch_core.specs.States.{IsOpenAt, State}
-use Rattle.orch_core.specs.EngineBy.{state_of}
-use Rattle.knowledge.specs.declared.closing.Closing.{Closing}
+use Rattle.orch_core.proofs.Prelude.{AreReply, CanGo, Closing, IsOpenAt, Reply, State, Unended, changes_by, changes_of, closed_by, closing_changes}
+use Rattle.orch_core.proofs.Prelude.{job_at, kept_if, observation_of, ready-of, reply_of, state_of, step, step_of, step_reply}
+use Rattle.orch_core.proofs.Prelude.act
+use Rattle.orch_core.proofs.Prelude.turn
 use Rattle.orch_core.proofs.Turned.{Looked, IsState-taken, changes-here, ends, ends-open, found-one, here, looked-as, none-kept, observed-book, observed-place, reply-is, servers-taken, step-here}
 use Rattle.orch_core.proofs.engine.Engine.job_at.Goals as goal
 

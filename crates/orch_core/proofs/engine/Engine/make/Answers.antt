@@ -1,20 +1,8 @@
 use Rattle.std.proofs.Common.{◌≡◌, ◌∙◌, ◌+◌, ℕ, Bool, false, List, length, ap, refl, subst, sym, arith, rules}
-use Rattle.std.proofs.lemmas.List.{length-map}
-use Rattle.std.proofs.lemmas.Result.{err_from_is_err_and}
+use Rattle.orch_core.proofs.Prelude.{Change, Row, ServerInit, World, audit_of, counted, err_from_is_err_and, greatest_id, holder_of}
+use Rattle.orch_core.proofs.Prelude.{is_opening_change, kept_at_start, kept_claim, kept_if, last_id, last_id-within, length-map, loading}
+use Rattle.orch_core.proofs.Prelude.{made as claims_made, opening_changes, period_by}
 use Rattle.std.specs.Prelude.{All, IsTrue, is_ok, map}
-use Rattle.opening_book.proofs.Recoveries.{last_id-within}
-use Rattle.opening_book.specs.Audits.{audit_of, last_id}
-use Rattle.opening_book.specs.Counting.{counted, greatest_id}
-use Rattle.kept_rows.specs.declared.row.Change.{Change}
-use Rattle.kept_rows.specs.declared.row.Row.{Row}
-use Rattle.opening_book.specs.Opening.{is_opening_change, loading, opening_changes}
-use Rattle.knowledge.specs.Kept.{kept_if}
-use Rattle.node_claims.specs.Claims.{made as claims_made}
-use Rattle.orch_core.specs.Nodes.{holder_of, kept_claim}
-use Rattle.command_outcomes.specs.Periods.{period_by}
-use Rattle.orch_core.specs.Scenarios.{kept_at_start}
-use Rattle.openings.specs.declared.init.ServerInit.{ServerInit}
-use Rattle.server_model.specs.Worlds.{World}
 use Rattle.orch_core.proofs.Sources.{KnowsSources}
 use Rattle.orch_core.proofs.Starts.{Fits-start, cause-carried, cause-stays, IsOpening, all-loading, IsState-made, StartsBy-made, book-names, kept_made, moment-within, opened-by, sources-start, world_made}
 use Rattle.orch_core.proofs.engine.Engine.make.Goals as goal

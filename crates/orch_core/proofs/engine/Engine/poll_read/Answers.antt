@@ -1,6 +1,5 @@
 use Rattle.std.proofs.Common.{◌<◌, length, sym, subst}
-use Rattle.orch_core.specs.States.{State}
-use Rattle.orch_core.specs.EngineBy.{state_of}
+use Rattle.orch_core.proofs.Prelude.{State, state_of}
 use Rattle.orch_core.proofs.States.{IsState-read}
 use Rattle.orch_core.proofs.engine.Engine.poll_read.Goals as goal
 

@@ -1,8 +1,7 @@
 use Rattle.std.proofs.Common.{[], ◌∷◌, Err, ap, arith}
-use Rattle.std.proofs.lemmas.Result.{err_from_is_err_and}
-use Rattle.turns.specs.declared.turn.Act.TheVariants as act
-use Rattle.turns.specs.declared.turn.Turn.TheVariants as turn
-use Rattle.orch_core.specs.Runs.{engine}
+use Rattle.orch_core.proofs.Prelude.{engine, err_from_is_err_and}
+use Rattle.orch_core.proofs.Prelude.act
+use Rattle.orch_core.proofs.Prelude.turn
 use Rattle.orch_core.proofs.Finishing.{Ran-append, cut-behind}
 use Rattle.orch_core.proofs.Runs.{Ran-more, Ran-nil, cut-at}
 use Rattle.orch_core.proofs.engine.Engine.round.Goals as goal

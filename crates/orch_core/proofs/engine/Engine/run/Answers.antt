@@ -1,7 +1,5 @@
 use Rattle.std.proofs.Common.{◌≡◌, ◌∙◌, true, subst, arith}
-use Rattle.turns.specs.declared.turn.Turn.{Turn}
-use Rattle.orch_core.specs.Keeping.{StepsTo, kept_by}
-use Rattle.orch_core.specs.Runs.{engine}
+use Rattle.orch_core.proofs.Prelude.{StepsTo, Turn, engine, kept_by}
 use Rattle.orch_core.proofs.Runs.{Ran-next}
 use Rattle.orch_core.proofs.engine.Engine.run.Goals as goal
 

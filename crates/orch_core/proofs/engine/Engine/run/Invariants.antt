@@ -1,7 +1,5 @@
 use Rattle.std.proofs.Common.{◌≡◌, length, take}
-use Rattle.orch_core.specs.Keeping.{Ran}
-use Rattle.orch_core.specs.Runs.{engine}
-use Rattle.orch_core.specs.States.{nodes_of}
+use Rattle.orch_core.proofs.Prelude.{Ran, engine, nodes_of}
 use Rattle.orch_core.proofs.engine.Engine.run.Given as goal
 
 abbrev pub invariant-loop-t : goal.invariant-loop-t

@@ -1,15 +1,8 @@
 use Rattle.std.proofs.Common.{◌≡◌, ◌≢◌, ◌∙◌, ◌≤◌, ◌^◌, [], Err, sym, ap, subst}
 use Rattle.std.specs.Prelude.{IfOk, OnOk, is_ok}
-use Rattle.command_outcomes.specs.Commands.{Outcome, scan_by}
-use Rattle.command_outcomes.specs.CommandsBy.{outcome}
-use Rattle.command_outcomes.specs.declared.command.Numbers.{Numbers}
-use Rattle.knowledge.specs.Kept.{kept_if}
-use Rattle.orch_core.specs.Polls.{numbers_of, scan_outcome}
-use Rattle.knowledge.specs.Replies.{AreReply}
-use Rattle.orch_core.specs.Settling.{CanSettle, settled}
-use Rattle.knowledge.specs.declared.fault.TurnFault.TheVariants as fault
-use Rattle.orch_core.specs.States.{State}
-use Rattle.orch_core.specs.EngineBy.{state_of}
+use Rattle.orch_core.proofs.Prelude.{AreReply, CanSettle, Numbers, Outcome, State, kept_if, numbers_of, outcome, scan_by, scan_outcome, settled}
+use Rattle.orch_core.proofs.Prelude.{state_of}
+use Rattle.orch_core.proofs.Prelude.fault
 use Rattle.orch_core.proofs.Outcomes.{scan-settles}
 use Rattle.orch_core.proofs.Periods.{period-short}
 use Rattle.orch_core.proofs.engine.Engine.scan.Goals as goal

@@ -1,10 +1,5 @@
 use Rattle.std.proofs.Common.{◌≡◌, ◌∙◌, sym, ap, subst}
-use Rattle.command_outcomes.specs.CommandsBy.{outcome}
-use Rattle.orch_core.specs.EngineBy.{state_of}
-use Rattle.knowledge.specs.Knowing.{IsUpdate, Knowledge, updated}
-use Rattle.knowledge.specs.KnowingBy.{known}
-use Rattle.orch_core.specs.Settling.{CanSettle, known_of, settled, with_known}
-use Rattle.orch_core.specs.States.{State}
+use Rattle.orch_core.proofs.Prelude.{CanSettle, IsUpdate, Knowledge, State, known, known_of, outcome, settled, state_of, updated, with_known}
 use Rattle.orch_core.proofs.Outcomes.{IsState-settled}
 use Rattle.orch_core.proofs.engine.Engine.settle.Goals as goal
 

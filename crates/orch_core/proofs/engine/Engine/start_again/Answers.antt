@@ -1,21 +1,9 @@
 use Rattle.std.proofs.Common.{◌≡◌, ◌∙◌, ◌-◌, ◌≤◌, ◌^◌, ◌++◌, ℕ, true, List, Option, length, ap, arith, rules, subst, sym}
-use Rattle.audit_log.specs.Audits.{AuditState, IsAudit, closed}
-use Rattle.instance_keeper.specs.Book.{book_made}
-use Rattle.kept_rows.specs.declared.row.Change.{Change}
-use Rattle.kept_rows.specs.declared.row.Row.{Row}
-use Rattle.opening_book.specs.Audits.{audit_of, latest_recovery}
-use Rattle.opening_book.specs.Counting.{counted}
-use Rattle.opening_book.specs.Opening.{loading}
-use Rattle.command_outcomes.specs.Periods.{period_by}
-use Rattle.orch_base.specs.declared.server.Moment.{Moment}
-use Rattle.turns.specs.declared.turn.Act.TheVariants as act
-use Rattle.turns.specs.declared.turn.Turn.TheVariants as turn
-use Rattle.orch_core.specs.Keeping.{StepsTo, kept_with}
-use Rattle.knowledge.specs.Kept.{kept_if}
-use Rattle.orch_core.specs.Restarts.{interrupted_at, last_given, reloaded_audit, reloaded_moment, reloaded_rows, restart_changes}
-use Rattle.orch_core.specs.Runs.{engine}
-use Rattle.orch_core.specs.States.{State}
-use Rattle.orch_core.specs.EngineBy.{state_of}
+use Rattle.orch_core.proofs.Prelude.{AuditState, Change, IsAudit, Moment, Row, State, StepsTo, audit_of, book_made, closed, counted, engine}
+use Rattle.orch_core.proofs.Prelude.{interrupted_at, kept_if, kept_with, last_given, latest_recovery, loading, period_by, reloaded_audit}
+use Rattle.orch_core.proofs.Prelude.{reloaded_moment, reloaded_rows, restart_changes, state_of}
+use Rattle.orch_core.proofs.Prelude.act
+use Rattle.orch_core.proofs.Prelude.turn
 use Rattle.orch_core.proofs.States.{IsRestarted, IsState-restart, StepsTo-given, reloaded-is, step-restart, with_given}
 use Rattle.orch_core.proofs.engine.Engine.start_again.Goals as goal
 

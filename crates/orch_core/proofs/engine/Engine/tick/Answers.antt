@@ -1,4 +1,4 @@
-use Rattle.orch_core.specs.EngineBy.{state_of}
+use Rattle.orch_core.proofs.Prelude.{state_of}
 use Rattle.orch_core.proofs.States.{IsState-tick}
 use Rattle.orch_core.proofs.engine.Engine.tick.Goals as goal
 

@@ -1,15 +1,7 @@
 use Rattle.std.proofs.Common.{◌≡◌, ◌∙◌, ◌+◌, ◌<◌, refl, sym, ap, subst, length, List}
 use Rattle.std.specs.Prelude.{All}
-use Rattle.orch_base.specs.declared.server.ServerNo.{ServerNo}
-use Rattle.name_order.specs.NameOrder.{by_name}
-use Rattle.scenarios.specs.Turns.{IsTurn, NamesOneOf}
-use Rattle.turns.specs.declared.turn.Turn.{Turn}
-use Rattle.instance_keeper.specs.Book.{BookState}
-use Rattle.orch_core.specs.Keeping.{Ran, WasCutOff}
-use Rattle.orch_core.specs.Rounds.{round_of}
-use Rattle.jobs_in_flight.specs.Rounds.{round_over}
-use Rattle.orch_core.specs.Runs.{Recorded, recorder}
-use Rattle.orch_core.specs.States.{nodes_of}
+use Rattle.orch_core.proofs.Prelude.{BookState, IsTurn, NamesOneOf, Ran, Recorded, ServerNo, Turn, WasCutOff, by_name, nodes_of, recorder, round_of}
+use Rattle.orch_core.proofs.Prelude.{round_over}
 use Rattle.orch_core.proofs.Others.{closed-others}
 use Rattle.orch_core.proofs.Finishing.{Finished-others, Rounds-more, cut-first, cut-round, named-round, round-less, turns-round}
 use Rattle.orch_core.proofs.orch.Orch.finish.Goals as goal

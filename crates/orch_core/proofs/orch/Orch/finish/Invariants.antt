@@ -1,7 +1,5 @@
 use Rattle.std.proofs.Common.{ℕ, ◌≡◌, length}
-use Rattle.jobs_in_flight.specs.Jobs.{most_turns}
-use Rattle.orch_core.specs.Runs.{recorder}
-use Rattle.orch_core.specs.States.{nodes_of}
+use Rattle.orch_core.proofs.Prelude.{most_turns, nodes_of, recorder}
 use Rattle.orch_core.proofs.Finishing.{Rounds}
 use Rattle.orch_core.proofs.orch.Orch.finish.Given as goal
 

@@ -1,8 +1,5 @@
 use Rattle.std.proofs.Common.{◌≡◌, ◌∙◌, true, Err, ap, subst, arith}
-use Rattle.std.proofs.lemmas.Result.{err_from_is_err_and}
-use Rattle.turns.specs.declared.turn.Turn.{Turn}
-use Rattle.orch_core.specs.Keeping.{Calls, StepsTo, kept_by}
-use Rattle.orch_core.specs.Runs.{recorder}
+use Rattle.orch_core.proofs.Prelude.{Calls, StepsTo, Turn, err_from_is_err_and, kept_by, recorder}
 use Rattle.orch_core.proofs.Runs.{Ran-next, cut-at}
 use Rattle.orch_core.proofs.orch.Orch.run.Goals as goal
 

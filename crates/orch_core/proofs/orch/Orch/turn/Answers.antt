@@ -1,14 +1,6 @@
 use Rattle.std.proofs.Common.{◌≡◌, ◌∙◌, ◌+◌, ◌<◌, ◌≤◌, ℕ, ◌++◌, ◌∷◌, [], List, Result, Err, length, map, ap, subst, sym, arith}
-use Rattle.std.proofs.lemmas.List.{length-map, map-append}
-use Rattle.std.proofs.lemmas.Option.{same_Some}
-use Rattle.std.proofs.lemmas.Result.{err_from_is_err_and}
-use Rattle.turns.specs.declared.reply.Reply.{Reply}
-use Rattle.knowledge.specs.declared.fault.TurnFault.{TurnFault}
-use Rattle.turns.specs.declared.turn.Turn.{Turn}
-use Rattle.orch_core.specs.Due.{last_poll, polled_at}
-use Rattle.orch_core.specs.Keeping.{Calls, StepsTo}
-use Rattle.orch_core.specs.Replies.{reply_of}
-use Rattle.orch_core.specs.Runs.{Recorded, recorder}
+use Rattle.orch_core.proofs.Prelude.{Calls, Recorded, Reply, StepsTo, Turn, TurnFault, err_from_is_err_and, last_poll, length-map, map-append}
+use Rattle.orch_core.proofs.Prelude.{polled_at, recorder, reply_of, same_Some}
 use Rattle.orch_core.proofs.LastPolls.{last_poll-push}
 use Rattle.orch_core.proofs.Runs.{StepsTo-recorded}
 use Rattle.orch_core.proofs.orch.Orch.turn.Goals as goal

@@ -1,12 +1,6 @@
 use Rattle.std.proofs.Common.{◌≡◌, ℕ, ◌<◌, ◌∙◌, List, Option, None, length, sym, ap, subst}
 use Rattle.std.specs.Prelude.{All, slice_index_or}
-use Rattle.commands.specs.declared.refusal.Refusal.{Refusal}
-use Rattle.orch_base.specs.declared.server.ServerNo.{ServerNo}
-use Rattle.permission.specs.Checks.{busy_by}
-use Rattle.permission.specs.Lists.{first_about}
-use Rattle.failure_analysis.specs.Table.{action_of}
-use Rattle.recovery_permits.specs.Recoveries.{recovery_list, refusal_for}
-use Rattle.recovery_core.specs.Scans.{Staged}
+use Rattle.recovery_core.proofs.Prelude.{Refusal, ServerNo, Staged, action_of, busy_by, first_about, recovery_list, refusal_for}
 use Rattle.recovery_core.proofs.Trying.{list-within, refused-busy, refused-else}
 use Rattle.recovery_core.proofs.stage.Stage.refusal.Goals as goal
 

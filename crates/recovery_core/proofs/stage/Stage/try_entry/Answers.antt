@@ -1,9 +1,6 @@
 use Rattle.std.proofs.Common.{◌≡◌, ◌<◌, ◌∙◌, None, length, sym, ap, subst}
 use Rattle.std.specs.Prelude.{All}
-use Rattle.orch_base.specs.declared.server.ServerNo.{ServerNo}
-use Rattle.recovery_permits.specs.Recoveries.{recovery_list}
-use Rattle.recovery_core.specs.Scans.{Staged, staged_refusal}
-use Rattle.recovery_core.specs.Tries.{Begins, entry_of, recovery_kind}
+use Rattle.recovery_core.proofs.Prelude.{Begins, ServerNo, Staged, entry_of, recovery_kind, recovery_list, staged_refusal}
 use Rattle.recovery_core.proofs.Trying.{entry-may, list-within, none-there, on-ok, recovery-may, room-kept}
 use Rattle.recovery_core.proofs.stage.Stage.try_entry.Goals as goal
 

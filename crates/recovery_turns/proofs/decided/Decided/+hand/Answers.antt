@@ -1,11 +1,7 @@
 use Rattle.std.proofs.Common.{◌≡◌, ◌+◌, ◌∷◌, drop, refl, sym, ap, ◌∙◌, rules, arith}
 use Rattle.std.specs.Prelude.{slice_get}
-use Rattle.std.proofs.lemmas.Result.{on_ok_weaker}
-use Rattle.recovery_plans.specs.Whys as lost
-use Rattle.recovery_plans.specs.Deciding.{hand, moving}
-use Rattle.recovery_plans.specs.Recoveries.{Recovery}
-use Rattle.recovery_parts.specs.Grounds.{ground_by}
-use Rattle.recovery_turns.specs.Deciding.{decided_on}
+use Rattle.recovery_turns.proofs.Prelude.{Recovery, decided_on, ground_by, hand, moving, on_ok_weaker}
+use Rattle.recovery_turns.proofs.Prelude.lost
 use Rattle.recovery_turns.proofs.Decisions.{first_is, hand_goes, hand_loses, hand_way, handed_on, left_fewer, left_on, left_task}
 use Rattle.recovery_turns.proofs.decided.Decided.+hand.Goals as goal
 

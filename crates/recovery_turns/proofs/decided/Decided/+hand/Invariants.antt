@@ -1,5 +1,5 @@
 use Rattle.std.proofs.Common.{length}
-use Rattle.recovery_turns.specs.Deciding.{decided_on}
+use Rattle.recovery_turns.proofs.Prelude.{decided_on}
 use Rattle.recovery_turns.proofs.decided.Decided.+hand.Given as goal
 
 abbrev pub decreases-hand : goal.decreases-hand

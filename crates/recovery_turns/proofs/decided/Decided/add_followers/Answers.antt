@@ -1,6 +1,5 @@
 use Rattle.std.proofs.Common.{get_or, ◌∙◌}
-use Rattle.recovery_plans.specs.Telling.{follower_line}
-use Rattle.recovery_turns.specs.Deciding.{decided_on}
+use Rattle.recovery_turns.proofs.Prelude.{decided_on, follower_line}
 use Rattle.recovery_turns.proofs.Decisions.{follower_on}
 use Rattle.recovery_turns.proofs.Lists.{given-onto}
 use Rattle.recovery_turns.proofs.decided.Decided.add_followers.Goals as goal

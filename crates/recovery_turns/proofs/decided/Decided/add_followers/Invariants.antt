@@ -1,7 +1,6 @@
 use Rattle.std.proofs.Common.{◌≡◌, ◌++◌, take}
 use Rattle.std.specs.Prelude.{filter_map}
-use Rattle.recovery_plans.specs.Telling.{follower_line}
-use Rattle.recovery_turns.specs.Deciding.{decided_on}
+use Rattle.recovery_turns.proofs.Prelude.{decided_on, follower_line}
 use Rattle.recovery_turns.proofs.decided.Decided.add_followers.Given as goal
 
 abbrev pub invariant-loop-no : goal.invariant-loop-no

@@ -1,5 +1,4 @@
-use Rattle.recovery_plans.specs.Telling.{lost_line}
-use Rattle.recovery_turns.specs.Deciding.{decided_on}
+use Rattle.recovery_turns.proofs.Prelude.{decided_on, lost_line}
 use Rattle.recovery_turns.proofs.Lists.{given-onto}
 use Rattle.recovery_turns.proofs.decided.Decided.add_lost.Goals as goal
 

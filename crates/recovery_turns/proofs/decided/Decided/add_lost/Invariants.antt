@@ -1,7 +1,6 @@
 use Rattle.std.proofs.Common.{◌≡◌, ◌++◌, take}
 use Rattle.std.specs.Prelude.{filter_map}
-use Rattle.recovery_plans.specs.Telling.{lost_line}
-use Rattle.recovery_turns.specs.Deciding.{decided_on}
+use Rattle.recovery_turns.proofs.Prelude.{decided_on, lost_line}
 use Rattle.recovery_turns.proofs.decided.Decided.add_lost.Given as goal
 
 abbrev pub invariant-loop-no : goal.invariant-loop-no

@@ -1,11 +1,6 @@
 use Rattle.std.proofs.Common.{◌≡◌, ap, sym, ◌∙◌}
-use Rattle.std.proofs.lemmas.Result.{IfOk-weaker}
-use Rattle.job_plans.specs.Acts.{foretold as job_told}
-use Rattle.recovery_plans.specs.declared.purpose.Purpose.{Purpose}
-use Rattle.recovery_plans.specs.Taking.{fate, met}
-use Rattle.recovery_turns.specs.Deciding.{decided_on}
-use Rattle.recovery_turns.specs.Looks.{foretold}
-use Rattle.recovery_turns.specs.Turnings.{looked_by, stepped_to}
+use Rattle.recovery_turns.proofs.Prelude.{IfOk-weaker, Purpose, decided_on, fate, foretold, looked_by, met, stepped_to}
+use Rattle.recovery_turns.proofs.Prelude.Acts.{foretold as job_told}
 use Rattle.recovery_turns.proofs.Purposes.{decided-purpose}
 use Rattle.recovery_turns.proofs.decided.Decided.by_look.Goals as goal
 

@@ -1,5 +1,5 @@
 use Rattle.std.proofs.Common.{sym, ◌∙◌, length}
-use Rattle.recovery_turns.specs.Deciding.{decided_on}
+use Rattle.recovery_turns.proofs.Prelude.{decided_on}
 use Rattle.recovery_turns.proofs.Chosen.{chosen-there}
 use Rattle.recovery_turns.proofs.decided.Decided.choose.Goals as goal
 

@@ -1,5 +1,5 @@
 use Rattle.std.proofs.Common.{length}
-use Rattle.recovery_turns.specs.Deciding.{decided_on}
+use Rattle.recovery_turns.proofs.Prelude.{decided_on}
 use Rattle.recovery_turns.proofs.Decisions.{idle_busy}
 use Rattle.recovery_turns.proofs.Turned.{once-named}
 use Rattle.recovery_turns.proofs.decided.Decided.decide.Goals as goal

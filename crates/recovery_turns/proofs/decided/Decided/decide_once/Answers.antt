@@ -1,9 +1,5 @@
 use Rattle.std.proofs.Common.{◌≡◌, ◌-◌, ◌<◌, Option, drop, length, length-drop, sym, subst, ◌∙◌, arith}
-use Rattle.recovery_plans.specs.declared.task.Task.{Task}
-use Rattle.recovery_plans.specs.Deciding.{once}
-use Rattle.recovery_plans.specs.Recoveries.{Recovery}
-use Rattle.recovery_parts.specs.Grounds.{ground_by}
-use Rattle.recovery_turns.specs.Deciding.{IsFirst, decided_on}
+use Rattle.recovery_turns.proofs.Prelude.{IsFirst, Recovery, Task, decided_on, ground_by, once}
 use Rattle.recovery_turns.proofs.Decisions.{busy_due, idle_due, once_busy}
 use Rattle.recovery_turns.proofs.Turned.{begun-named}
 use Rattle.recovery_turns.proofs.decided.Decided.decide_once.Goals as goal

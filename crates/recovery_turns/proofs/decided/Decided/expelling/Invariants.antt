@@ -1,8 +1,7 @@
 use Rattle.std.proofs.Common.{◌≡◌, map, take}
 use Rattle.std.specs.Prelude.{filter}
-use Rattle.recovery_plans.specs.Deciding.{expels, why_of}
-use Rattle.recovery_plans.specs.declared.task.Task.TheVariants as task
-use Rattle.recovery_turns.specs.Deciding.{decided_on}
+use Rattle.recovery_turns.proofs.Prelude.{decided_on, expels, why_of}
+use Rattle.recovery_turns.proofs.Prelude.task
 use Rattle.recovery_turns.proofs.decided.Decided.expelling.Given as goal
 
 abbrev pub invariant-loop-no : goal.invariant-loop-no

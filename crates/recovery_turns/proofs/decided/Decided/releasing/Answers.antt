@@ -1,9 +1,6 @@
 use Rattle.std.proofs.Common.{◌≡◌, ◌<◌, ◌++◌, ◌∷◌, [], cond, List, length, get_or, ap, subst, ◌∙◌}
-use Rattle.orch_base.specs.declared.server.ServerNo.{ServerNo}
-use Rattle.recovery_plans.specs.Deciding.{releases, why_of}
-use Rattle.recovery_plans.specs.Recoveries.{Recovery}
-use Rattle.recovery_plans.specs.declared.task.Task.TheVariants as task
-use Rattle.recovery_turns.specs.Deciding.{decided_on}
+use Rattle.recovery_turns.proofs.Prelude.{Recovery, ServerNo, decided_on, releases, why_of}
+use Rattle.recovery_turns.proofs.Prelude.task
 use Rattle.recovery_turns.proofs.Lists.{passing-onto}
 use Rattle.recovery_turns.proofs.decided.Decided.releasing.Goals as goal
 

@@ -1,14 +1,7 @@
 use Rattle.std.proofs.Common.{◌≡◌, None, length, subst, sym, ◌∙◌}
-use Rattle.std.proofs.lemmas.Result.{IfOk-weaker}
-use Rattle.commands.specs.declared.cause.Cause.TheVariants as cause
-use Rattle.job_plans.specs.Acts.{foretold as job_told}
-use Rattle.operations.specs.Jobs.{Job}
-use Rattle.operations.specs.Named.{IsNamed}
-use Rattle.operations.specs.Turns.{turned}
-use Rattle.recovery_plans.specs.Taking.{fails, settled}
-use Rattle.recovery_turns.specs.Deciding.{decided_on}
-use Rattle.recovery_turns.specs.Looks.{foretold}
-use Rattle.recovery_turns.specs.Turnings.{looked_by}
+use Rattle.recovery_turns.proofs.Prelude.{IfOk-weaker, IsNamed, Job, decided_on, fails, foretold, looked_by, settled, turned}
+use Rattle.recovery_turns.proofs.Prelude.Acts.{foretold as job_told}
+use Rattle.recovery_turns.proofs.Prelude.cause
 use Rattle.recovery_turns.proofs.Turned.{job-named, look-ends, none-ends}
 use Rattle.recovery_turns.proofs.decided.Decided.settle.Goals as goal
 

@@ -1,5 +1,5 @@
 use Rattle.std.proofs.Common.{◌++◌, List, refl, ap, ◌∙◌, Some}
-use Rattle.recovery_plans.specs.declared.task.Task.{Task}
+use Rattle.recovery_turns.proofs.Prelude.{Task}
 use Rattle.recovery_turns.proofs.Decisions.{sort_from}
 use Rattle.recovery_turns.proofs.decided.Decided.sort.Goals as goal
 

@@ -1,6 +1,5 @@
 use Rattle.std.proofs.Common.{sym, subst}
-use Rattle.recovery_plans.specs.Recoveries.{Recovery}
-use Rattle.recovery_turns.specs.RecoveriesBy.{IsRoomy}
+use Rattle.recovery_turns.proofs.Prelude.{IsRoomy, Recovery}
 use Rattle.recovery_turns.proofs.Rooms.{roomy_after}
 use Rattle.recovery_turns.proofs.recovery.RecoveryJob.go_ahead.Goals as goal
 

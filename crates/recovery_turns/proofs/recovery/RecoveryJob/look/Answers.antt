@@ -1,7 +1,5 @@
 use Rattle.std.proofs.Common.{ap, sym, refl, ◌∙◌, length}
-use Rattle.recovery_plans.specs.Deciding.{decided, ground_of}
-use Rattle.recovery_plans.specs.Taking.{settled}
-use Rattle.recovery_turns.specs.Deciding.{decided_on}
+use Rattle.recovery_turns.proofs.Prelude.{decided, decided_on, ground_of, settled}
 use Rattle.recovery_turns.proofs.Turned.{can-take, decided-named, same-named}
 use Rattle.recovery_turns.proofs.recovery.RecoveryJob.look.Goals as goal
 

@@ -1,5 +1,5 @@
 use Rattle.std.proofs.Common.{None, ap, ◌∙◌}
-use Rattle.recovery_plans.specs.Beginning.{first_tasks}
+use Rattle.recovery_turns.proofs.Prelude.{first_tasks}
 use Rattle.recovery_turns.proofs.recovery.RecoveryJob.make.Goals as goal
 
 pub returns : goal.returns

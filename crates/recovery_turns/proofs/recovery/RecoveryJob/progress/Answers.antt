@@ -1,10 +1,6 @@
 use Rattle.std.proofs.Common.{◌≡◌, ◌-◌, ◌<◌, drop, length, length-drop, sym, ap, subst, ◌∙◌, arith}
-use Rattle.recovery_plans.specs.Recoveries.{Recovery}
-use Rattle.recovery_plans.specs.Table as table
-use Rattle.recovery_plans.specs.Table.{info}
-use Rattle.recovery_parts.specs.Infos.{made_told}
-use Rattle.recovery_turns.specs.RecoveriesBy.{IsRoomy}
-use Rattle.recovery_turns.specs.Steps.{IsTold, progressed_by, stepped_by}
+use Rattle.recovery_turns.proofs.Prelude.{IsRoomy, IsTold, Recovery, info, made_told, progressed_by, stepped_by}
+use Rattle.recovery_turns.proofs.Prelude.table
 use Rattle.recovery_turns.proofs.Rooms.{roomy_stepped}
 use Rattle.recovery_turns.proofs.Stepped.{opened-told, stays}
 use Rattle.recovery_turns.proofs.recovery.RecoveryJob.progress.Goals as goal

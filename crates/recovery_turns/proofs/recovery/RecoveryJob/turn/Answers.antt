@@ -1,6 +1,5 @@
 use Rattle.std.proofs.Common.{◌<◌, length, sym, subst}
-use Rattle.recovery_plans.specs.Recoveries.{Recovery}
-use Rattle.recovery_turns.specs.RecoveriesBy.{IsRoomy, room_for}
+use Rattle.recovery_turns.proofs.Prelude.{IsRoomy, Recovery, room_for}
 use Rattle.recovery_turns.proofs.Rooms.{hands_decided, matches_decided, roomy_decided}
 use Rattle.recovery_turns.proofs.recovery.RecoveryJob.turn.Goals as goal
 

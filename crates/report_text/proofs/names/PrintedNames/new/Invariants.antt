@@ -1,5 +1,5 @@
 use Rattle.std.proofs.Common.{◌≡◌, map, take}
-use Rattle.orch_base.specs.Names.{printed}
+use Rattle.server_words.specs.OrchBase.Names.{printed}
 use Rattle.report_text.proofs.names.PrintedNames.new.Given as goal
 
 abbrev pub invariant-loop-name : goal.invariant-loop-name

@@ -1,7 +1,6 @@
 use Rattle.std.proofs.Common.{◌∙◌, Result, Ok, Err, subst}
 use Rattle.std.specs.Prelude.{OnOk, string_bytes}
-use Rattle.std.specs.Str.{IsUtf8}
-use Rattle.serde_json.specs.View.{view}
+use Rattle.row_texts.proofs.Prelude.{IsUtf8, view}
 use Rattle.row_texts.proofs.Texts.{written_value}
 use Rattle.row_texts.proofs.row_text.RowRowText.text.Goals as goal
 

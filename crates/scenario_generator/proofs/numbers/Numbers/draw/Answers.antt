@@ -1,4 +1,4 @@
-use Rattle.scenario_generator.specs.Numbers.{below}
+use Rattle.scenario_generator.proofs.Prelude.{below}
 use Rattle.scenario_generator.proofs.Draws.{next_wraps}
 use Rattle.scenario_generator.proofs.numbers.Numbers.draw.Goals as goal
 

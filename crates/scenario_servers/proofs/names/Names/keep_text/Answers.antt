@@ -1,8 +1,6 @@
 use Rattle.std.proofs.Common.{◌≡◌, Ok, List, Option, subst, sym}
 use Rattle.std.specs.Prelude.{string_bytes}
-use Rattle.std.proofs.lemmas.Map.Text.{hash_map_updates_text}
-use Rattle.orch_base.specs.Names.{HostPort}
-use Rattle.scenario_servers.specs.NameTable.{text_named}
+use Rattle.scenario_servers.proofs.Prelude.{HostPort, hash_map_updates_text, text_named}
 use Rattle.scenario_servers.proofs.TextTables.{text-more}
 use Rattle.scenario_servers.proofs.names.Names.keep_text.Goals as goal
 

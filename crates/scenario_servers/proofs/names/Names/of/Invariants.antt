@@ -1,6 +1,5 @@
 use Rattle.std.proofs.Common.{◌≡◌}
-use Rattle.scenario_json.specs.View.{items_view}
-use Rattle.scenario_servers.specs.Names.{listed_names}
+use Rattle.scenario_servers.proofs.Prelude.{items_view, listed_names}
 use Rattle.scenario_servers.proofs.names.Names.of.Given as goal
 
 abbrev pub invariant-loop-value : goal.invariant-loop-value

@@ -1,6 +1,5 @@
 use Rattle.std.proofs.Common.{◌≡◌, ◌∙◌, Ok, List, Option, subst, sym}
-use Rattle.orch_base.specs.Names.{HostPort}
-use Rattle.scenario_servers.specs.NameTable.{text_named}
+use Rattle.scenario_servers.proofs.Prelude.{HostPort, text_named}
 use Rattle.scenario_servers.proofs.names.Names.server_of.Goals as goal
 
 pub returns-in-Some : goal.returns-in-Some

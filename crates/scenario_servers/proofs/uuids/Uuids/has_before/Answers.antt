@@ -1,9 +1,6 @@
 use Rattle.std.proofs.Common.{◌≡◌, ◌∙◌, Some, None, ap, sym, take, zero-add}
-use Rattle.std.specs.BTreeMap.{get}
-use Rattle.std.specs.List.{list_any}
-use Rattle.std.specs.Ordering.{nat_cmp}
-use Rattle.scenario_servers.specs.Names.{has_uuid}
-use Rattle.scenario_servers.specs.UuidTable.{first_with, is_before}
+use Rattle.scenario_servers.proofs.Prelude.{first_with, has_uuid, is_before, list_any, nat_cmp}
+use Rattle.scenario_servers.proofs.Prelude.Std.{get}
 use Rattle.scenario_servers.proofs.UuidTables.{taken_before}
 use Rattle.scenario_servers.proofs.uuids.Uuids.has_before.Goals as goal
 

@@ -1,5 +1,5 @@
 use Rattle.std.proofs.Common.{◌≡◌, Ok, List, ℕ, subst, rules}
-use Rattle.scenario_turns.specs.Found.{found_in}
+use Rattle.scenario_turns.proofs.Prelude.{found_in}
 use Rattle.scenario_turns.proofs.KnownPatterns.{known-found}
 use Rattle.scenario_turns.proofs.patterns.Patterns.found.Goals as goal
 

@@ -2,7 +2,7 @@ use Rattle.std.proofs.Common.{◌≡◌, ◌+◌, ◌≤◌, ℕ, List, ap, sym,
 use Rattle.std.specs.Prelude.{count_by}
 use Rattle.turns.specs.declared.turn.Turn.{Turn}
 use Rattle.scenarios.specs.Scenarios.{longest_flushes, flushes_of}
-use Rattle.scenarios.specs.Turns.{is_rotate}
+use Rattle.scenarios.specs.ValidTurns.{is_rotate}
 use Rattle.scenarios.proofs.Rooms.{flushes_of-few}
 use Rattle.scenarios.proofs.scenario.Scenario.flushes.Goals as goal
 

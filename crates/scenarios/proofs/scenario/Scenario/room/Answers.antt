@@ -2,7 +2,7 @@ use Rattle.std.proofs.Common.{◌+◌, ◌≤◌, ℕ, List, ap, sym, subst, ◌
 use Rattle.std.specs.Prelude.{count_by}
 use Rattle.turns.specs.declared.turn.Turn.{Turn}
 use Rattle.scenarios.specs.Scenarios.{listed_in}
-use Rattle.scenarios.specs.Turns.{is_write}
+use Rattle.scenarios.specs.ValidTurns.{is_write}
 use Rattle.scenarios.proofs.Rooms.{room_of-few}
 use Rattle.scenarios.proofs.scenario.Scenario.room.Goals as goal
 

@@ -1,10 +1,7 @@
 use Rattle.std.proofs.Common.{◌≡◌, ◌<◌, List, length, ap, subst, sym, ◌∙◌, Some, arith}
 use Rattle.std.specs.Prelude.{slice_get}
-use Rattle.server_model.specs.Gtids.{uuids_in}
-use Rattle.server_model.specs.Steps.{applier_did}
-use Rattle.server_model.specs.Worlds.{World}
-use Rattle.server_model.specs.declared.decisions.ApplyStep.TheVariants as applying
-use Rattle.server_model.specs.declared.server.Server.{Server}
+use Rattle.server_model.proofs.Prelude.{Server, World, applier_did, uuids_in}
+use Rattle.server_model.proofs.Prelude.applying
 use Rattle.server_model.proofs.Applied.{applier-untouched, applied-left, executes-in, Executes, IsKept-applied}
 use Rattle.server_model.proofs.Changed.{AreGtids-untouched}
 use Rattle.server_model.proofs.ExecutedSets.{AreGtids-took, set-room, uuids_in-set}

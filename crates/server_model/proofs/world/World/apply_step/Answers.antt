@@ -1,14 +1,10 @@
 use Rattle.std.proofs.Common.{◌≡◌, ◌<◌, length, Some, subst, sym, ap, ◌∙◌, arith}
 use Rattle.std.specs.Prelude.{slice_get}
-use Rattle.std.specs.Option.{option_copied}
-use Rattle.server_model.specs.Worlds.{World, server_at}
-use Rattle.server_model.specs.Exchanges.{apply_from}
+use Rattle.server_model.proofs.Prelude.{Server, TellsExecuted, World, apply_from, option_copied, server_at, uuids_in}
 use Rattle.server_model.proofs.Lists.{slice_get-index}
 use Rattle.server_model.proofs.Fetched.{attached_from}
 use Rattle.server_model.proofs.Applied.{apply_step-on, ready_at}
 use Rattle.std.proofs.Common.{List}
-use Rattle.server_model.specs.Gtids.{uuids_in, TellsExecuted}
-use Rattle.server_model.specs.declared.server.Server.{Server}
 use Rattle.server_model.proofs.ExecutedSets.{tells}
 use Rattle.server_model.proofs.world.World.apply_step.Goals as goal
 

@@ -1,8 +1,7 @@
 use Rattle.std.proofs.Common.{◌≡◌, ◌<◌, length, Some, subst, sym, ◌∙◌}
-use Rattle.server_model.specs.Worlds.{World, server_at}
+use Rattle.server_model.proofs.Prelude.{World, asked, server_at}
 use Rattle.server_model.proofs.Lists.{slice_get-index}
 use Rattle.server_model.proofs.Changed.{moved-asked, AreGtids-untouched, IsKept-moved, desk-reached, desk-unreached, asked-left, unasked-left}
-use Rattle.server_model.specs.Desk.{asked}
 use Rattle.server_model.proofs.OwnCounts.{own-still}
 use Rattle.server_model.proofs.world.World.ask.Goals as goal
 

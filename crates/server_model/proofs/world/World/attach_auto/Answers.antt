@@ -1,8 +1,6 @@
 use Rattle.std.proofs.Common.{◌≡◌, ◌<◌, length, Some, subst, sym, ap, ◌∙◌, refl, true}
 use Rattle.std.specs.Prelude.{slice_get}
-use Rattle.binlog_coords.specs.Log.{has_place}
-use Rattle.server_model.specs.Gtids.{attached_auto, uuids}
-use Rattle.server_model.specs.Worlds.{World, server_at}
+use Rattle.server_model.proofs.Prelude.{World, attached_auto, has_place, server_at, uuids}
 use Rattle.server_model.proofs.Lists.{slice_get-index}
 use Rattle.server_model.proofs.Changed.{IsKept-attached}
 use Rattle.server_model.proofs.AutoAttached.{auto-apart, auto-placed, auto-coord-at, auto-left}

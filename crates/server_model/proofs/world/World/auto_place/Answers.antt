@@ -1,14 +1,7 @@
 use Rattle.std.proofs.Common.{◌≡◌, ◌<◌, List, Some, Err, length, ap, subst, sym, ◌∙◌, arith, true}
 use Rattle.std.specs.Prelude.{nat_lt, slice_get}
-use Rattle.std.proofs.lemmas.Bool.{false≢true}
-use Rattle.std.proofs.lemmas.Option.{slice_get_within}
-use Rattle.std.proofs.lemmas.Result.{err_from_is_err_and}
-use Rattle.server_model.specs.Attach.{chain_meets, purged_answer}
-use Rattle.server_model.specs.Gtids.{auto_readiness, errant_set, held_len, kept_coord, purged_len, uuids, uuids_in}
-use Rattle.server_model.specs.Worlds.{World, server_at, sources_in}
-use Rattle.server_model.specs.declared.server.Server.{Server}
-use Rattle.binlog_coords.specs.Index.{Index}
-use Rattle.binlog_coords.specs.Log.{coord_after}
+use Rattle.server_model.proofs.Prelude.{Index, Server, World, auto_readiness, chain_meets, coord_after, err_from_is_err_and, errant_set, false≢true}
+use Rattle.server_model.proofs.Prelude.{held_len, kept_coord, purged_answer, purged_len, server_at, slice_get_within, sources_in, uuids, uuids_in}
 use Rattle.server_model.proofs.Told.{log-logged}
 use Rattle.server_model.proofs.Lists.{slice_get-index}
 use Rattle.server_model.proofs.AutoAttached.{auto-ends, auto-errant, auto-found, auto-held, auto-refused, auto-target, errant-kept, fault-given, held-within, purged-fault}

@@ -1,8 +1,7 @@
 use Rattle.std.proofs.Common.{◌<◌, length, subst, sym}
-use Rattle.server_model.specs.Worlds.{World}
+use Rattle.server_model.proofs.Prelude.{World, befallen}
 use Rattle.server_model.proofs.Lists.{slice_get-index}
 use Rattle.server_model.proofs.Changed.{moved-befallen, AreGtids-untouched, IsKept-moved, befallen-left}
-use Rattle.server_model.specs.Desk.{befallen}
 use Rattle.server_model.proofs.OwnCounts.{own-still}
 use Rattle.server_model.proofs.world.World.befall.Goals as goal
 

@@ -1,6 +1,5 @@
 use Rattle.std.proofs.Common.{◌<◌, length, subst, sym}
-use Rattle.server_model.specs.Steps.{receiver_did}
-use Rattle.server_model.specs.Worlds.{World}
+use Rattle.server_model.proofs.Prelude.{World, receiver_did}
 use Rattle.server_model.proofs.Changed.{AreGtids-untouched}
 use Rattle.server_model.proofs.Fetched.{receiver-untouched, fetched-left, IsKept-fetched}
 use Rattle.server_model.proofs.Lists.{slice_get-index}

@@ -1,12 +1,6 @@
 use Rattle.std.proofs.Common.{◌≡◌, ℕ, ◌<◌, ◌≤◌, List, Option, Some, true, length, refl, arith, ap, subst, sym, ◌∙◌}
 use Rattle.std.specs.Prelude.{All, IsSomeAnd, slice_get, slice_range, slice_set}
-use Rattle.std.proofs.lemmas.List.{length-set}
-use Rattle.std.proofs.lemmas.Option.{same_Some}
-use Rattle.orch_base.specs.declared.server.Txn.{Txn}
-use Rattle.server_model.specs.Gtids.{purged_len, uuids_in, IsNumbered}
-use Rattle.server_model.specs.ServerBy.{server_of}
-use Rattle.server_model.specs.Worlds.{World, server_at}
-use Rattle.server_model.specs.declared.server.Server.{Server}
+use Rattle.server_model.proofs.Prelude.{IsNumbered, Server, Txn, World, length-set, purged_len, same_Some, server_at, server_of, uuids_in}
 use Rattle.server_model.proofs.Changed.{IsKept-purged, purged-left}
 use Rattle.server_model.proofs.ExecutedSets.{purged_with, purge-room, uuids_in-set, AreGtids-purged}
 use Rattle.server_model.proofs.Lists.{set_same, slice_get-index}

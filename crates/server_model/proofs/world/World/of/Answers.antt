@@ -1,9 +1,6 @@
 use Rattle.std.proofs.Common.{◌≤◌, List, length, ap, subst, sym, ◌∙◌}
 use Rattle.std.specs.Prelude.{All}
-use Rattle.std.proofs.lemmas.Option.{slice_get-get_or}
-use Rattle.server_model.specs.Fit.{own_counts}
-use Rattle.server_model.specs.Gtids.{purged_len, IsNumbered}
-use Rattle.server_model.specs.declared.server.Server.{Server}
+use Rattle.server_model.proofs.Prelude.{IsNumbered, Server, own_counts, purged_len, slice_get-get_or}
 use Rattle.server_model.proofs.PurgedFiles.{purged_len-within}
 use Rattle.server_model.proofs.Standing.{IsKept-standing, AreGtids-standing}
 use Rattle.server_model.proofs.world.World.of.Goals as goal

@@ -1,9 +1,6 @@
 use Rattle.std.proofs.Common.{◌≡◌, ℕ, ◌<◌, ◌≤◌, List, Option, Some, length, arith, ap, subst, sym, ◌∙◌}
 use Rattle.std.specs.Prelude.{IsSomeAnd}
-use Rattle.binlog_coords.specs.Index.{Index}
-use Rattle.server_model.specs.Purging.{kept_from}
-use Rattle.server_model.specs.Worlds.{World, server_at}
-use Rattle.server_model.specs.declared.server.Server.{Server}
+use Rattle.server_model.proofs.Prelude.{Index, Server, World, kept_from, server_at}
 use Rattle.server_model.proofs.Lists.{slice_get-index}
 use Rattle.server_model.proofs.Purges.{kept_from-rises, kept_from-within, purge-answered}
 use Rattle.server_model.proofs.Told.{log-logged}

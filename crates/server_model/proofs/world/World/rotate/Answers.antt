@@ -1,9 +1,5 @@
 use Rattle.std.proofs.Common.{◌≡◌, ℕ, ◌<◌, length, Some, subst, sym, ap, ◌∙◌, arith, true}
-use Rattle.std.proofs.lemmas.Bool.{ne_eqb}
-use Rattle.binlog_coords.specs.Index.{Index}
-use Rattle.binlog_coords.specs.Log.{end_of}
-use Rattle.server_model.specs.Worlds.{World, server_at}
-use Rattle.server_model.specs.declared.server.Server.{Server}
+use Rattle.server_model.proofs.Prelude.{Index, Server, World, end_of, ne_eqb, rotated, server_at}
 use Rattle.server_model.proofs.Lists.{slice_get-index}
 use Rattle.server_model.proofs.Changed.{IsKept-rotated, rotated-left, rotate-answered}
 use Rattle.std.proofs.Common.{refl}
@@ -11,7 +7,6 @@ use Rattle.server_model.proofs.ExecutedSets.{AreGtids-still}
 use Rattle.server_model.proofs.OwnCounts.{own-still}
 use Rattle.server_model.proofs.PurgedFiles.{purged_txns-rotated}
 use Rattle.server_model.proofs.Told.{log-logged}
-use Rattle.server_model.specs.Desk.{rotated}
 use Rattle.server_model.proofs.world.World.rotate.Goals.{After-flushes_left}
 use Rattle.server_model.proofs.world.World.rotate.Goals as goal
 

@@ -1,11 +1,6 @@
 use Rattle.std.proofs.Common.{◌≡◌, ◌+◌, ◌<◌, length, refl, Some, ap, arith, subst, sym, ◌∙◌}
 use Rattle.std.specs.Prelude.{slice_get}
-use Rattle.std.proofs.lemmas.Bool.{eq-eqb}
-use Rattle.orch_base.specs.Histories.{count_own}
-use Rattle.server_model.specs.Exchanges.{own_txn}
-use Rattle.server_model.specs.Gtids.{uuids_in}
-use Rattle.server_model.specs.Worlds.{World, server_at}
-use Rattle.server_model.specs.declared.server.Server.{Server}
+use Rattle.server_model.proofs.Prelude.{Server, World, count_own, eq-eqb, own_txn, server_at, uuids_in}
 use Rattle.server_model.proofs.Answered.{write-answered, write-left}
 use Rattle.server_model.proofs.ExecutedSets.{AreGtids-took, set-room, uuids_in-at}
 use Rattle.server_model.proofs.Lists.{slice_get-index}

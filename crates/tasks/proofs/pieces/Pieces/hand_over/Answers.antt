@@ -1,4 +1,4 @@
-use Rattle.tasks.specs.Sinks.{taken}
+use Rattle.tasks.proofs.Prelude.{taken}
 use Rattle.tasks.proofs.Sends.{carried}
 use Rattle.tasks.proofs.pieces.Pieces.hand_over.Goals as goal
 

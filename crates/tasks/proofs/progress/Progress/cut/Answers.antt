@@ -1,6 +1,5 @@
 use Rattle.std.proofs.Common.{subst, sym}
-use Rattle.std.proofs.lemmas.List.{append-nil}
-use Rattle.tasks.specs.Sinks.{Carries}
+use Rattle.tasks.proofs.Prelude.{Carries, append-nil}
 use Rattle.tasks.proofs.Sends.{all_taken, sink_failed}
 use Rattle.tasks.proofs.progress.Progress.cut.Goals as goal
 

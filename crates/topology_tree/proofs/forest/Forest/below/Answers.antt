@@ -1,6 +1,5 @@
 use Rattle.std.proofs.Common.{◌≡◌, ◌+◌, Some, arith, refl, ◌∙◌, inl, inr, ap}
-use Rattle.topology_tree.specs.Following.{Follows, Direct, Further}
-use Rattle.topology_tree.specs.Forests.{above}
+use Rattle.topology_tree.proofs.Prelude.{Direct, Follows, Further, above}
 use Rattle.topology_tree.proofs.Levels.{level, level-above}
 use Rattle.topology_tree.proofs.Chains.{next_follows, read_above}
 use Rattle.topology_tree.proofs.forest.Forest.below.Goals as goal

@@ -1,6 +1,5 @@
 use Rattle.std.proofs.Common.{◌<◌, length}
-use Rattle.topology_tree.specs.Following.{Follows}
-use Rattle.topology_tree.specs.Forests.{above}
+use Rattle.topology_tree.proofs.Prelude.{Follows, above}
 use Rattle.topology_tree.proofs.Levels.{level}
 use Rattle.topology_tree.proofs.forest.Forest.below.Given as goal
 

@@ -1,5 +1,5 @@
 use Rattle.std.proofs.Common.{◌≡◌, ◌++◌, reverse}
-use Rattle.topology_tree.specs.Forests.{children_of}
+use Rattle.topology_tree.proofs.Prelude.{children_of}
 use Rattle.topology_tree.proofs.Children.{end_of, children_below, IsLast}
 use Rattle.topology_tree.proofs.forest.Forest.children.Given as goal
 

@@ -1,5 +1,5 @@
 use Rattle.std.proofs.Common.{arith, subst}
-use Rattle.topology_tree.specs.Links.{IsLinked}
+use Rattle.topology_tree.proofs.Prelude.{IsLinked}
 use Rattle.topology_tree.proofs.Walking.{IsForest-made, IsLinked-items}
 use Rattle.topology_tree.proofs.forest.Forest.make.Goals as goal
 

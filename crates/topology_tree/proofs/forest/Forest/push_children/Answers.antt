@@ -1,6 +1,5 @@
 use Rattle.std.proofs.Common.{◌≡◌, ◌∷◌, ◌++◌, length, map, reverse, Some, arith, sym, ap, ◌∙◌}
-use Rattle.topology_tree.specs.Forests.{above}
-use Rattle.topology_tree.specs.Links.{last_below}
+use Rattle.topology_tree.proofs.Prelude.{above, last_below}
 use Rattle.topology_tree.proofs.Children.{end_of, children_below, IsLast-at, falling-step, end-falls, IsLast-from, all_children, last-read, earlier-read, one_more_item}
 use Rattle.topology_tree.proofs.forest.Forest.push_children.Goals as goal
 

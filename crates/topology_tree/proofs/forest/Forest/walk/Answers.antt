@@ -1,8 +1,5 @@
 use Rattle.std.proofs.Common.{◌≡◌, ◌<◌, ◌+◌, [], ◌∷◌, ◌++◌, length, map, reverse, arith, sym, subst, ap, ◌∙◌}
-use Rattle.std.specs.List.{All}
-use Rattle.std.proofs.lemmas.List.Elements.{All-append}
-use Rattle.topology_tree.specs.Forests.{children_of}
-use Rattle.topology_tree.specs.Links.{IsForest}
+use Rattle.topology_tree.proofs.Prelude.{All, All-append, IsForest, children_of}
 use Rattle.topology_tree.proofs.Children.{one_more_item}
 use Rattle.topology_tree.proofs.Walking.{pending_walk, InPlace, InPlace-depth, InPlace-children, pending-next, All-waiting, All-top}
 use Rattle.topology_tree.proofs.forest.Forest.walk.Goals as goal

@@ -1,6 +1,5 @@
 use Rattle.std.proofs.Common.{◌≡◌, ◌++◌, length}
-use Rattle.std.specs.List.{All}
-use Rattle.topology_tree.specs.Forests.{walk_of}
+use Rattle.topology_tree.proofs.Prelude.{All, walk_of}
 use Rattle.topology_tree.proofs.Walking.{pending_walk, InPlace}
 use Rattle.topology_tree.proofs.forest.Forest.walk.Given as goal
 

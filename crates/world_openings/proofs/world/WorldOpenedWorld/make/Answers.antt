@@ -1,8 +1,6 @@
 use Rattle.std.proofs.Common.{◌≡◌, List, length, sym, ◌∙◌, ap, subst}
 use Rattle.std.specs.Prelude.{Result, Ok, Err, IfOk}
-use Rattle.server_model.specs.Standing.{world_with, CanStand}
-use Rattle.server_model.specs.Worlds.{World}
-use Rattle.server_model.specs.declared.server.Server.{Server}
+use Rattle.world_openings.proofs.Prelude.{CanStand, Server, World, world_with}
 use Rattle.world_openings.proofs.Opened.{length-opened_from}
 use Rattle.world_openings.proofs.OpenedWorlds.{CanStand-opened}
 use Rattle.world_openings.proofs.world.WorldOpenedWorld.make.Goals as goal

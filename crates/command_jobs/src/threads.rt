@@ -1,9 +1,0 @@
-//! The types of this crate can be moved between threads, and shared by them.
-
-use crate::RegroupJob;
-
-fn crosses_threads<T: Send + Sync>() {}
-
-fn all_cross_threads() {
-    crosses_threads::<RegroupJob>();
-}

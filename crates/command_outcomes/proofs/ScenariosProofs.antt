@@ -1,0 +1,2 @@
+-- What is passed on of scenarios: lemmas that are cited above.
+pub use Rattle.scenarios.proofs.Rooms

@@ -1,0 +1,4 @@
+-- What is passed on of unended_jobs: lemmas that are cited above.
+pub use Rattle.unended_jobs.proofs.Going
+pub use Rattle.unended_jobs.proofs.Hooked
+pub use Rattle.unended_jobs.proofs.Looking

@@ -1,0 +1,34 @@
+-- What this crate's definitions and contracts cite of others.
+pub use Rattle.std.specs.Option.{option_map}
+pub use Rattle.unended_jobs.specs.Commands.declared.line.Line.{Line}
+pub use Rattle.unended_jobs.specs.InstanceKeeper.Book.{BookState}
+pub use Rattle.recovery_covers.specs.JobLaws.Flights.{Flight}
+pub use Rattle.recovery_covers.specs.JobLaws.Passages.{Beginning, Discovering, Exchanging, Forgetting, MayPass, Passage, Polling, Restarting, Storing, Taking}
+pub use Rattle.recovery_covers.specs.JobLaws.Passages.{Turning, passed, passing}
+pub use Rattle.jobs_in_flight.specs.Jobs.{job_at, jobs_turned}
+pub use Rattle.unended_jobs.specs.KeptRows.declared.observation.Observation.{Observation}
+pub use Rattle.unended_jobs.specs.Operations.declared.step.JobStep.TheVariants as step
+pub use Rattle.unended_jobs.specs.OrchBase.declared.server.Moment.{Moment}
+pub use Rattle.unended_jobs.specs.OrchBase.declared.server.ServerNo.{ServerNo}
+pub use Rattle.recovery_covers.specs.Covers.{AreReplicas, HasOnePlace, IsTold, times}
+pub use Rattle.recovery_covers.specs.SoFar.{CoversSoFar}
+pub use Rattle.recovery_histories.specs.Kept.{IsBeginning, Keeps, KeptByChosen, SameAim}
+pub use Rattle.recovery_outcomes.specs.Chains.{IsChain}
+pub use Rattle.unended_jobs.specs.RecoveryPlans.Beginning.{begun_recovery}
+pub use Rattle.unended_jobs.specs.RecoveryPlans.Named.{IsNamedRecovery}
+pub use Rattle.unended_jobs.specs.RecoveryPlans.Recoveries.{Outcome, Recovery}
+pub use Rattle.unended_jobs.specs.RecoveryPlans.Taking.{Taken, taken}
+pub use Rattle.unended_jobs.specs.RecoveryPlans.declared.means.Means.{Means}
+pub use Rattle.unended_jobs.specs.RecoveryPlans.declared.purpose.Purpose.{Purpose}
+pub use Rattle.unended_jobs.specs.RecoveryPlans.declared.purpose.Purpose.TheVariants as purpose
+pub use Rattle.recovery_reasons.specs.Reasons.{ExplainsTruly, Fact, IsExplained, Speaks}
+pub use Rattle.unended_jobs.specs.ServerModel.Run.{run}
+pub use Rattle.unended_jobs.specs.ServerModel.Safe.{Safe}
+pub use Rattle.unended_jobs.specs.ServerModel.Worlds.{World}
+pub use Rattle.recovery_covers.specs.StandingLaws.Standing.{is_outside}
+pub use Rattle.unended_jobs.specs.Unended.{core_of, flown}
+pub use Rattle.unended_jobs.specs.declared.docket.Docket.{Docket}
+pub use Rattle.unended_jobs.specs.declared.unended.Unended.{Unended}
+pub use Rattle.unended_jobs.specs.declared.unended.Unended.TheVariants as unended
+pub use Rattle.unended_laws.specs.Flights.{HeldJobs, SoundJobs}
+pub use Rattle.unended_laws.specs.Passages.{IsApart, passages_by}

@@ -1,0 +1,2 @@
+-- What is passed on of server_words: its types and definitions.
+pub use Rattle.server_words.specs.declared

@@ -1,0 +1,22 @@
+-- What is passed on of server_model: its types and definitions.
+pub use Rattle.server_model.specs.declared
+pub use Rattle.server_model.specs.Attach
+pub use Rattle.server_model.specs.Bridges
+pub use Rattle.server_model.specs.Desk
+pub use Rattle.server_model.specs.Exchanges
+pub use Rattle.server_model.specs.Fit
+pub use Rattle.server_model.specs.Gtids
+pub use Rattle.server_model.specs.Kept
+pub use Rattle.server_model.specs.Layout
+pub use Rattle.server_model.specs.Observed
+pub use Rattle.server_model.specs.Plains
+pub use Rattle.server_model.specs.Purging
+pub use Rattle.server_model.specs.Run
+pub use Rattle.server_model.specs.Safe
+pub use Rattle.server_model.specs.Server
+pub use Rattle.server_model.specs.ServerBy
+pub use Rattle.server_model.specs.Showing
+pub use Rattle.server_model.specs.Standing
+pub use Rattle.server_model.specs.Steps
+pub use Rattle.server_model.specs.Worlds
+pub use Rattle.server_model.specs.WorldsBy

@@ -1,0 +1,122 @@
+-- What its proofs cite of others.
+pub use Rattle.std.proofs.lemmas.Bool.{eq-eqb, eqb-true, false≢true, ltb-false, ne_eqb}
+pub use Rattle.std.proofs.lemmas.List.Elements.{All-append, All-cons, All-contains, All-contains_itself, All-filter, All-head, All-nil, All-push}
+pub use Rattle.std.proofs.lemmas.List.Elements.{All-tail, Contains-append_right}
+pub use Rattle.std.proofs.lemmas.Map.Made.{Contains-tail}
+pub use Rattle.std.proofs.lemmas.Option.{same_Some}
+pub use Rattle.std.specs.List.{All, Contains}
+pub use Rattle.recovery_laws.specs.BinlogCoords.Log.{is_at_or_before, is_before, same_coord}
+pub use Rattle.recovery_laws.specs.BinlogCoords.declared.Coord.{Coord}
+pub use Rattle.recovery_laws.specs.Commands.declared.cause.Cause.{Cause}
+pub use Rattle.recovery_laws.specs.Commands.declared.cause.Cause.TheVariants as cause
+pub use Rattle.recovery_laws.specs.Commands.declared.line.Line.{Line}
+pub use Rattle.recovery_laws.specs.GtidSets.declared.interval.Interval.{Interval}
+pub use Rattle.recovery_laws.specs.InstanceKeeper.Book.{BookState, rule_at}
+pub use Rattle.recovery_laws.specs.InstanceKeeper.Bridges.{bridge_by, has_exec, has_own, latest_that, ring_at}
+pub use Rattle.recovery_laws.specs.InstanceKeeper.declared.bridge.Bridge.{Bridge}
+pub use Rattle.recovery_laws.specs.KeptRows.Seeing.{seen_in}
+pub use Rattle.recovery_laws.specs.KeptRows.declared.observation.Observation.{Observation}
+pub use Rattle.recovery_laws.proofs.OperationsProofs.Sights.{seen-at}
+pub use Rattle.recovery_laws.specs.Operations.Deeds.{Deed, deed_of}
+pub use Rattle.recovery_laws.specs.Operations.Deeds as deed
+pub use Rattle.recovery_laws.specs.Operations.Jobs.{Job, match_found, position_of, seen_of, with_seen}
+pub use Rattle.recovery_laws.specs.Operations.Matching.{match_logs, standing_at}
+pub use Rattle.recovery_laws.specs.Operations.Targets.{can_attach}
+pub use Rattle.recovery_laws.specs.Operations.Turns.{Attempt, after_answer, after_ask, after_attach, after_look, after_match, after_status, after_until, after_wait}
+pub use Rattle.recovery_laws.specs.Operations.Turns.{after_wait_by, aim_of, attach_answer_of, attached_anew, bridge_at, by_deed, by_match, by_set, cause_by}
+pub use Rattle.recovery_laws.specs.Operations.Turns.{crossed, crossing_of, ended, holds_seen, is_going, is_moved, is_reached, next, observed, read_by, same_again}
+pub use Rattle.recovery_laws.specs.Operations.Turns.{saw, settles, until_by}
+pub use Rattle.recovery_laws.specs.Operations.Turns as attempt
+pub use Rattle.recovery_laws.specs.Operations.declared.matching.Match.{Match}
+pub use Rattle.recovery_laws.specs.Operations.declared.matching.MatchFault.{MatchFault}
+pub use Rattle.recovery_laws.specs.Operations.declared.op.Aim.{Aim}
+pub use Rattle.recovery_laws.specs.Operations.declared.op.Aim.TheVariants.{ExecOf}
+pub use Rattle.recovery_laws.specs.Operations.declared.op.Crossing.{Crossing}
+pub use Rattle.recovery_laws.specs.Operations.declared.op.Crossing.TheVariants as cross
+pub use Rattle.recovery_laws.specs.Operations.declared.op.Op.{Op}
+pub use Rattle.recovery_laws.specs.Operations.declared.op.Op.TheVariants as op
+pub use Rattle.recovery_laws.specs.Operations.declared.sight.Position.{Position}
+pub use Rattle.recovery_laws.specs.Operations.declared.sight.Sight.{Sight}
+pub use Rattle.recovery_laws.specs.Operations.declared.step.JobStep.TheVariants as step
+pub use Rattle.recovery_laws.specs.OrchBase.declared.server.Moment.{Moment}
+pub use Rattle.recovery_laws.specs.OrchBase.declared.server.ServerNo.{ServerNo}
+pub use Rattle.recovery_laws.specs.OrchBase.declared.server.SourceState.{SourceState}
+pub use Rattle.recovery_laws.specs.OrchBase.declared.server.SourceState.TheVariants.{Attached, Detached}
+pub use Rattle.recovery_laws.specs.OrchBase.declared.server.SourceState.TheVariants as source
+pub use Rattle.recovery_laws.proofs.PromotionRules.Choosing.{chosen-first, first-furthest, none-chosen}
+pub use Rattle.recovery_laws.proofs.PromotionRules.Orders.{advance_total}
+pub use Rattle.recovery_laws.specs.PromotionRules.Choice.{advance_order, is_barred, is_better, is_eligible, most_advanced, nearer_order}
+pub use Rattle.recovery_laws.specs.PromotionRules.Chosen.{HasExecutedMost}
+pub use Rattle.recovery_laws.specs.PromotionRules.declared.drained.Drained.{Drained}
+pub use Rattle.recovery_laws.proofs.RecoveryEnds.Fitting.{IsFit, decides-fits, stepped-fits, went-of}
+pub use Rattle.recovery_laws.proofs.RecoveryEnds.Shapes.{WentOn, fits-step, moved-fits, same-head, same-tail}
+pub use Rattle.recovery_laws.specs.RecoveryEnds.Ends.{closes}
+pub use Rattle.recovery_laws.specs.RecoveryEnds.Shapes.{Fits}
+pub use Rattle.recovery_laws.proofs.Deciding.{decides-held}
+pub use Rattle.recovery_laws.specs.HeldRecoveries.{HeldRecovery}
+pub use Rattle.recovery_laws.specs.Rings.{HeldRings}
+pub use Rattle.recovery_laws.proofs.RecoveryPlans.Leading.{moved-leads}
+pub use Rattle.recovery_laws.proofs.RecoveryPlans.Walking.{Keeps, decided-walks, decisions-keep, joined, kept-along, kept-whole, once-walks, taken-walks}
+pub use Rattle.recovery_laws.specs.RecoveryPlans.Beginning.{begun_recovery, but, first_source, is_takeover}
+pub use Rattle.recovery_laws.specs.RecoveryPlans.Deciding.{Lot, at_last, better_of, by_queue, by_task, choose, chosen_of, crown, decided, drained_of, expels}
+pub use Rattle.recovery_laws.specs.RecoveryPlans.Deciding.{follower_of, ground_of, hand, hand_by, hand_over, logs_at, look_at, losses_in, lot_by, lot_by_group}
+pub use Rattle.recovery_laws.specs.RecoveryPlans.Deciding.{lot_of, may_lead, move_of, moves_in, moving, once, own_end_of, rejoin, releases, stay_of, stopped_in}
+pub use Rattle.recovery_laws.specs.RecoveryPlans.Deciding.{swap, swap_by, swap_or_crown, unfit, way_below, way_by_set, why_of, without_stopped, yield}
+pub use Rattle.recovery_laws.specs.RecoveryPlans.Deciding as deciding
+pub use Rattle.recovery_laws.specs.RecoveryPlans.Moves.{Bearing, Decision, Decisions, Ending, IsNext, MayBear, MayDecide, MayEnd, Turning, WasRead, borne}
+pub use Rattle.recovery_laws.specs.RecoveryPlans.Moves.{decided_by, ended_by, fate_of, follows_lead, late, rests, stopped_at, stray}
+pub use Rattle.recovery_laws.specs.RecoveryPlans.Moves as by
+pub use Rattle.recovery_laws.specs.RecoveryPlans.Named.{spoken_to}
+pub use Rattle.recovery_laws.specs.RecoveryPlans.Recoveries.{Recovery, follows_no_more, loses, sight_of}
+pub use Rattle.recovery_laws.specs.RecoveryPlans.Stages.{before, drain, ends, is_look, leaver, move, moved, reads_last, tail_of, trail, with_bridge, with_way}
+pub use Rattle.recovery_laws.specs.RecoveryPlans.Table.{alone, info, more_on}
+pub use Rattle.recovery_laws.specs.RecoveryPlans.Table as table
+pub use Rattle.recovery_laws.specs.RecoveryPlans.Taking.{Fate, Loss, Taken, entered, exec_by, fate, fate_of_drain, fate_of_errant, fate_of_move, fate_of_trail}
+pub use Rattle.recovery_laws.specs.RecoveryPlans.Taking.{is_below, is_waiting, last_looks, lead_under, loss_of, lost_on_way, marked, match_fate, met, missed_fate}
+pub use Rattle.recovery_laws.specs.RecoveryPlans.Taking.{move_fate, place_on, spot_by, spot_seen, stepped, taken, way_fate}
+pub use Rattle.recovery_laws.specs.RecoveryPlans.Taking as taking
+pub use Rattle.recovery_laws.specs.RecoveryPlans.Whys as lost
+pub use Rattle.recovery_laws.specs.RecoveryPlans.declared.means.Means.{Means}
+pub use Rattle.recovery_laws.specs.RecoveryPlans.declared.means.Means.TheVariants as means
+pub use Rattle.recovery_laws.specs.RecoveryPlans.declared.outcome.LostReplica.{LostReplica}
+pub use Rattle.recovery_laws.specs.RecoveryPlans.declared.outcome.Stopped.{Stopped}
+pub use Rattle.recovery_laws.specs.RecoveryPlans.declared.purpose.Purpose.{Purpose}
+pub use Rattle.recovery_laws.specs.RecoveryPlans.declared.purpose.Purpose.TheVariants as purpose
+pub use Rattle.recovery_laws.specs.RecoveryPlans.declared.stage.Stage.{Stage}
+pub use Rattle.recovery_laws.specs.RecoveryPlans.declared.stage.Stage.TheVariants as stage
+pub use Rattle.recovery_laws.specs.RecoveryPlans.declared.task.Task.{Task}
+pub use Rattle.recovery_laws.specs.RecoveryPlans.declared.task.Task.TheVariants as task
+pub use Rattle.recovery_laws.specs.RecoveryPlans.declared.task.Way.{Way}
+pub use Rattle.recovery_laws.specs.RecoveryPlans.declared.task.Way.TheVariants as way
+pub use Rattle.recovery_laws.specs.RecoveryPlans.declared.why.Miss.{Miss}
+pub use Rattle.recovery_laws.specs.RecoveryPlans.declared.why.Miss.TheVariants as miss
+pub use Rattle.recovery_laws.specs.RecoveryPlans.declared.why.Why.{Why}
+pub use Rattle.recovery_reasons.specs.Causes.{IsMatchCause, IsTrueOf, IsUnreached}
+pub use Rattle.recovery_reasons.specs.Nobody.{DecisionsElse, HasNobody, finds_nobody}
+pub use Rattle.recovery_reasons.specs.Nobody as nobody
+pub use Rattle.recovery_reasons.specs.OnWay.{AllFit, IsMeeting, IsOnCourse, IsOnWay, StageOf, TasksOf, Yields, chooses, is_beside, is_unfit, pauses}
+pub use Rattle.recovery_reasons.specs.OnWay.{pauses_in, pauses_last, suits}
+pub use Rattle.recovery_reasons.specs.Reasons.{AimsAt, AllDrained, AllLost, Below, BelowSuccessor, Beside, Betters, Chooses, Drains, Errant}
+pub use Rattle.recovery_reasons.specs.Reasons.{ExplainsTruly, Fact, GoesBy, Halted, Interfered, IsAsked, IsBetter, IsChosen, IsDrained, IsDue}
+pub use Rattle.recovery_reasons.specs.Reasons.{IsExplained, IsLost, IsPromoted, IsRefusedOn, IsSwapping, IsTrailing, Late, Loses, Purged, Reason}
+pub use Rattle.recovery_reasons.specs.Reasons.{Running, ShowsWay, Speaks, SpeaksWith, Strayed, Unattached, Unmatched, Unreached, WaitsFor, Without}
+pub use Rattle.recovery_reasons.specs.Reasons.{lead_of, speaks_of}
+pub use Rattle.recovery_laws.specs.ReplicaGroups.Groups.{by_bridge, group_of}
+pub use Rattle.recovery_laws.specs.ReplicaGroups.declared.groups.Group.{Group}
+pub use Rattle.recovery_laws.specs.ReplicaGroups.declared.groups.Group.TheVariants as group
+pub use Rattle.recovery_laws.specs.ServerModel.Attach.{attach_answer, chain_meets, first_kept, live_spot, purged_answer, same_spot, spot_below}
+pub use Rattle.recovery_laws.specs.ServerModel.Desk.{desk_answer}
+pub use Rattle.recovery_laws.specs.ServerModel.Gtids.{answer_by_sets, attach_auto_answer, auto_purged, errant_answer, errant_set, held_of, purged_len, shown_of}
+pub use Rattle.recovery_laws.specs.ServerModel.Gtids.{status, status_in, uuids}
+pub use Rattle.recovery_laws.specs.ServerModel.Run.{Attach, AttachAuto, Exchange}
+pub use Rattle.recovery_laws.specs.ServerModel.Worlds.{World, server_at, sources}
+pub use Rattle.recovery_laws.specs.ServerModel.declared.server.Server.{Server}
+pub use Rattle.recovery_laws.specs.ServerWords.declared.answers.Unreachable.{Unreachable}
+pub use Rattle.recovery_laws.specs.ServerWords.declared.attach.AttachFault.{AttachFault}
+pub use Rattle.recovery_laws.specs.ServerWords.declared.attach.AttachFault.TheVariants as attaching
+pub use Rattle.recovery_laws.specs.ServerWords.declared.attach.Spot.{Spot}
+pub use Rattle.recovery_laws.specs.ServerWords.declared.attach.Spot.TheVariants as spot
+pub use Rattle.recovery_laws.specs.ServerWords.declared.changes.Ask.{Ask}
+pub use Rattle.recovery_laws.specs.ServerWords.declared.changes.Ask.TheVariants as asking
+pub use Rattle.recovery_laws.specs.ServerWords.declared.status.Status.{Status}
+pub use Rattle.recovery_laws.specs.ServerWords.declared.status.StatusFault.TheVariants as seeing

@@ -1,0 +1,192 @@
+-- What its proofs cite of others.
+pub use Rattle.std.proofs.lemmas.Bool.{eq-eqb, eqb-true, false≢true, ltb-true}
+pub use Rattle.std.proofs.lemmas.List.{append-nil}
+pub use Rattle.std.proofs.lemmas.List.Elements.{All-append, All-cons, All-contains, All-contains_itself, All-head, All-nil, All-tail, All-weaker}
+pub use Rattle.std.proofs.lemmas.List.Elements.{Contains-append_cases, Contains-append_left, Contains-append_right, Contains-push}
+pub use Rattle.std.proofs.lemmas.Option.{none-some, same_Some, slice_get_cases, slice_get_within}
+pub use Rattle.std.specs.Option.{option_map, option_to_list}
+pub use Rattle.run_laws.specs.AskingCommands.Answers.{allowed, lines_of, permitted}
+pub use Rattle.run_laws.specs.AuditLog.Audits.{AuditState, acked_so, acknowledged_at, ended, ended_so, recovery_at}
+pub use Rattle.run_laws.specs.AuditLog.Audits
+pub use Rattle.run_laws.specs.BookCommands.Decisions.{decided_of}
+pub use Rattle.run_laws.specs.BookCommands.declared.decided.Decided.{Decided}
+pub use Rattle.run_laws.specs.BookViews.Sources.{is_replica_of, label_at, replicas_of}
+pub use Rattle.run_laws.proofs.CauseLaws.Turning.{stopped-befell}
+pub use Rattle.run_laws.specs.CommandJobs.Jobs.{job_by, leases_by, refusal_by, regroup_about}
+pub use Rattle.run_laws.specs.CommandOutcomes.Outcomes.{Outcome, about, asked, begun, by_hand, discovered, forgotten, outcome_by, question, recovered}
+pub use Rattle.run_laws.specs.CommandOutcomes.Outcomes.{recovery_begun, refusal, removal_refusal, taken_over}
+unfoldable pub use Rattle.run_laws.specs.CommandOutcomes.Outcomes.{outcome_of}
+pub use Rattle.run_laws.specs.CommandOutcomes.Outcomes
+pub use Rattle.run_laws.specs.CommandOutcomes.HookTelling.{hooks_by, told_of, told_try, with_told}
+pub use Rattle.run_laws.specs.CommandOutcomes.declared.configuration.Configuration.{Configuration}
+pub use Rattle.run_laws.specs.CommandRoutes.Routes.{route_of}
+pub use Rattle.run_laws.specs.CommandRoutes.declared.kinds.Regrouping.TheVariants.{ByBridges, ByMatches}
+pub use Rattle.run_laws.specs.CommandRoutes.declared.route.Planner.{Planner}
+pub use Rattle.run_laws.specs.CommandRoutes.declared.route.Planner.TheVariants.{Matches, Regroups}
+pub use Rattle.run_laws.specs.CommandRoutes.declared.route.Route.{Route}
+pub use Rattle.run_laws.specs.CommandRoutes.declared.route.Route.TheVariants.{Asks, Decides, Discovers, Forgets, Recovers, TakesOver}
+pub use Rattle.run_laws.specs.CommandRoutes.declared.route.Route.TheVariants
+pub use Rattle.run_laws.specs.Commands.Turns.{is_within}
+pub use Rattle.run_laws.specs.Commands.declared.cause.Cause.{Cause}
+pub use Rattle.run_laws.specs.Commands.declared.cause.Cause.TheVariants as cause
+pub use Rattle.run_laws.specs.Commands.declared.line.Line.{Line}
+pub use Rattle.run_laws.specs.Commands.declared.refusal.Refusal.{Refusal}
+pub use Rattle.run_laws.specs.Commands.declared.refusal.Refusal.TheVariants.{UnknownInstance}
+pub use Rattle.run_laws.specs.Commands.declared.turn.Command.{Command}
+pub use Rattle.run_laws.specs.Commands.declared.turn.CommandTurn.{CommandTurn}
+pub use Rattle.covered_laws.proofs.Beside.{apart-stays, none-aimed, none-covered, none-kept, none-speak, outside-stays, recovery-covered}
+pub use Rattle.covered_laws.proofs.Beside.{recovery-kept, recovery-speaks}
+pub use Rattle.covered_laws.proofs.Ending.{done-chain, done-named, done-old, done-placed, done-promoted, done-told, last-aim, turn-aim}
+pub use Rattle.covered_laws.proofs.Ending.{turn-explained}
+pub use Rattle.covered_laws.proofs.Turning.{all-turned, number-aimed, number-covered, number-kept, number-speaking}
+pub use Rattle.covered_laws.specs.Beside.{IsAimedBeside, IsCoveredBeside, IsKeptBeside, IsSpeakingBeside}
+pub use Rattle.covered_laws.specs.Flights.{CoveredJobs, KeptJobs}
+pub use Rattle.covered_laws.specs.Passages.{IsOutside}
+pub use Rattle.covered_laws.specs.Turns.{RecoveryTurn}
+pub use Rattle.hook_laws.proofs.Checking.{tended-still}
+pub use Rattle.hook_laws.proofs.Staying.{begun-tended, early-turn, of-docket, tended-turn}
+pub use Rattle.hook_laws.proofs.Telling.{done-docket, failed-docket, none-docket, reached-docket}
+pub use Rattle.hook_laws.specs.Tended.{IsEarly, IsOfDead, IsOfDocket, IsTended, all_before, all_behind, plan_of}
+pub use Rattle.run_laws.specs.HookTexts.declared.hooks.Hook.{Hook}
+pub use Rattle.run_laws.specs.HookTexts.declared.hooks.Hooks.{Hooks}
+pub use Rattle.run_laws.specs.HookTexts.declared.values.Values.{Values}
+pub use Rattle.run_laws.specs.InstanceKeeper.Book.{BookState, IsBook}
+pub use Rattle.run_laws.specs.InstanceKeeper.Leases
+pub use Rattle.run_laws.proofs.JobLaws.Lists.{All-find}
+pub use Rattle.run_laws.specs.JobLaws.Flights.{Flight}
+pub use Rattle.run_laws.specs.JobLaws.Passages as pass
+pub use Rattle.run_laws.proofs.JobsInFlight.Numbers.{found-number}
+pub use Rattle.run_laws.specs.JobsInFlight.Jobs.{job_at, job_exchanges, job_observation, job_reply, jobs_turned, step_reply}
+pub use Rattle.run_laws.specs.KeptRows.Recoveries.{put_recovery}
+pub use Rattle.run_laws.specs.KeptRows.Seeing.{seen_in}
+pub use Rattle.run_laws.specs.KeptRows.declared.observation.Observation.{Observation}
+pub use Rattle.run_laws.specs.KeptRows.declared.recovery.Recovery as KeptRows
+pub use Rattle.run_laws.specs.KeptRows.declared.row.Change.{Change}
+pub use Rattle.run_laws.specs.KeptRows.declared.row.Row.{Row}
+pub use Rattle.run_laws.specs.Knowledge.Closings.{closed_by, closing_at, closing_changes, closing_for, closing_of}
+pub use Rattle.run_laws.specs.Knowledge.Kept.{changes_by}
+pub use Rattle.run_laws.specs.Knowledge.Knowing.{recovery_job, updated}
+unfoldable pub use Rattle.run_laws.specs.NameOrder.NameOrder.{by_name}
+pub use Rattle.run_laws.specs.Operations.Deeds.{Deed, deed_of}
+pub use Rattle.run_laws.specs.Operations.Jobs.{Job, position_of, seen_of}
+pub use Rattle.run_laws.specs.Operations.Turns.{Attempt, by_deed, is_going}
+pub use Rattle.run_laws.specs.Operations.Turns as attempt
+pub use Rattle.run_laws.specs.Operations.declared.op.Op.{Op}
+pub use Rattle.run_laws.specs.Operations.declared.op.Op.TheVariants as op
+pub use Rattle.run_laws.specs.Operations.declared.step.JobStep.{JobStep}
+pub use Rattle.run_laws.specs.Operations.declared.step.JobStep.TheVariants as job_step
+pub use Rattle.run_laws.specs.OrchBase.Memory.{next_count}
+pub use Rattle.run_laws.specs.OrchBase.Names.{HostPort}
+pub use Rattle.run_laws.specs.OrchBase.declared.code.Code.{Code}
+pub use Rattle.run_laws.specs.OrchBase.declared.recovery.Ending.{Ending}
+pub use Rattle.run_laws.specs.OrchBase.declared.recovery.Ending.TheVariants as ending
+pub use Rattle.run_laws.specs.OrchBase.declared.server.Moment.{Moment}
+pub use Rattle.run_laws.specs.OrchBase.declared.server.ServerNo.{ServerNo}
+pub use Rattle.run_laws.proofs.OrchCore.Claims.{act-fits}
+pub use Rattle.run_laws.specs.OrchCore.After.{after_act, after_done, step}
+pub use Rattle.run_laws.specs.OrchCore.Jobs.{turn_of, turned_at}
+pub use Rattle.run_laws.specs.OrchCore.Nodes.{act_in}
+pub use Rattle.run_laws.specs.OrchCore.Polls.{changes_of, command_outcome, numbers_of, reading, scan_outcome}
+pub use Rattle.run_laws.specs.OrchCore.Replies.{reply_of}
+pub use Rattle.run_laws.specs.OrchCore.Runs.{engine, run_turns, turns_of}
+pub use Rattle.run_laws.specs.OrchCore.Starts.{configuration_of, start}
+pub use Rattle.run_laws.specs.OrchCore.Settling.{known_of}
+pub use Rattle.run_laws.specs.OrchCore.States.{State}
+pub use Rattle.run_laws.specs.OrchCore.TurnExchanges.{exchange_of, exchanges_at}
+pub use Rattle.run_laws.specs.Permission.Views.{source_of}
+pub use Rattle.run_laws.proofs.RecoveryCore.Beginning.{unrefused}
+pub use Rattle.run_laws.proofs.RecoveryCore.Entries.{actionable-entries}
+pub use Rattle.run_laws.proofs.RecoveryCore.InTurn.{scan-in-turn}
+pub use Rattle.run_laws.specs.RecoveryCore.Begun.{BeginInTurn, IsFresh}
+pub use Rattle.run_laws.specs.RecoveryCore.Endings
+pub use Rattle.run_laws.specs.RecoveryCore.Scans.{IsEntryIn, actionable_in}
+pub use Rattle.run_laws.specs.RecoveryCore.Tries.{Begins, recovery_begins, recovery_try, takeover_begins, takeover_try}
+pub use Rattle.run_laws.specs.RecoveryCovers.Covers.{IsAsNamed, IsTold, owed, times}
+pub use Rattle.recovery_histories.proofs.Staying.{same-aim, taken-aim, then-aim}
+pub use Rattle.recovery_histories.specs.Kept.{IsBeginning, Keeps, SameAim}
+pub use Rattle.run_laws.specs.RecoveryHooks.Runs.{HookState, begun_hooks, failed_lines, ran_before}
+pub use Rattle.recovery_outcomes.proofs.Telling.{all-told, leader-told}
+pub use Rattle.recovery_outcomes.specs.Told.{IsToldOf}
+pub use Rattle.run_laws.specs.RecoveryPermits.Checks.{code_at}
+pub use Rattle.run_laws.specs.RecoveryPermits.Recoveries.{purpose_by, recovery_refusal}
+pub use Rattle.run_laws.specs.RecoveryPermits.Recoveries
+pub use Rattle.run_laws.specs.RecoveryPermits.Takeovers.{comes_below, followers_of, takeover_refusal}
+pub use Rattle.run_laws.specs.RecoveryPermits.declared.attempt.Attempt as RecoveryPermits
+pub use Rattle.run_laws.proofs.RecoveryPlans.Choices.{same-no}
+pub use Rattle.run_laws.proofs.RecoveryPlans.Walking.{decided-walks, decisions-keep}
+pub use Rattle.run_laws.specs.RecoveryPlans.Beginning.{begun_recovery, first_source, is_takeover}
+pub use Rattle.run_laws.specs.RecoveryPlans.Deciding.{decided, ground_of}
+pub use Rattle.run_laws.specs.RecoveryPlans.Named.{IsNamedRecovery, spoken_to}
+pub use Rattle.run_laws.specs.RecoveryPlans.Recoveries.{Recovery}
+pub use Rattle.run_laws.specs.RecoveryPlans.Recoveries as RecoveryPlans
+pub use Rattle.run_laws.specs.RecoveryPlans.Table.{info}
+pub use Rattle.run_laws.specs.RecoveryPlans.Table as table
+pub use Rattle.run_laws.specs.RecoveryPlans.Taking.{Fate, Taken, acted, attempted, barred_by, fate, met, on_going, source_cause, taken}
+pub use Rattle.run_laws.specs.RecoveryPlans.Taking as taking
+pub use Rattle.run_laws.specs.RecoveryPlans.Telling.{told_by}
+pub use Rattle.run_laws.specs.RecoveryPlans.declared.means.Means.{Means}
+pub use Rattle.run_laws.specs.RecoveryPlans.declared.means.Means.TheVariants as means
+pub use Rattle.run_laws.specs.RecoveryPlans.declared.purpose.Purpose.{Purpose}
+pub use Rattle.run_laws.specs.RecoveryPlans.declared.purpose.Purpose.TheVariants as purpose
+pub use Rattle.run_laws.specs.RecoveryPlans.declared.stage.Stage.{Stage}
+pub use Rattle.run_laws.specs.RecoveryPlans.declared.stage.Stage.TheVariants as stage
+pub use Rattle.recovery_reasons.proofs.Causing.{cause-true}
+pub use Rattle.recovery_reasons.proofs.Facts.{begun-explained}
+pub use Rattle.recovery_reasons.proofs.Nobody.{finds-nobody}
+pub use Rattle.recovery_reasons.proofs.OnWay.{Fine, decides-fine, done-fit, still-on}
+pub use Rattle.recovery_reasons.proofs.Readings.{ReadsNow, ShowsNow, read-now}
+pub use Rattle.recovery_reasons.specs.Causes.{IsTrueOf}
+pub use Rattle.recovery_reasons.specs.Nobody.{HasNobody}
+pub use Rattle.recovery_reasons.specs.OnWay.{AllFit, IsOnWay}
+pub use Rattle.recovery_reasons.specs.Reasons.{ExplainsTruly, Fact, IsExplained}
+pub use Rattle.recovery_runs.specs.Begun.{AreHooksOf, BeginsOnce, ComesOf, HasHooks, TellsAll, jobs_begun, jobs_done, jobs_in_act, jobs_of}
+pub use Rattle.recovery_runs.specs.Facts.{ExplainedState, ExplainsAct, ExplainsDone, ExplainsTurn, HasFacts}
+pub use Rattle.recovery_runs.specs.Failing.{FailsTruly, Fatal, IsEndedByHook, IsFailing, Nobody, Reached, RecoveriesFailForWhatBefell, ShowsFailed}
+pub use Rattle.recovery_runs.specs.Failing.{Sourced, StopsTruly}
+pub use Rattle.recovery_runs.specs.Failing as failing
+pub use Rattle.recovery_runs.specs.Finishes.{IsFailure, IsFinish, KeepsHistories, OwesNothing, TellsFailed, done_with, finished_so, own_lines}
+pub use Rattle.recovery_runs.specs.Finishes.{promoted_then, ran_lines, recovery_after, told_hooks, turn_hooked, turn_taken}
+pub use Rattle.recovery_runs.specs.Origins.{Began, BeganIn, ExplainsAlong, IsStill, StaysStill}
+pub use Rattle.recovery_runs.specs.RunFinishes.{AreScenarios, FailsWell, FinishesWell}
+pub use Rattle.recovery_runs.specs.States.{AimedState, CoveredState, IsTendedBeside, KeptState, SpeakingState, TendedState}
+pub use Rattle.run_laws.proofs.ReplicationLaws.Runs as exchanges
+pub use Rattle.run_laws.proofs.Aims.{scan-each}
+pub use Rattle.run_laws.proofs.Flown.{flown}
+pub use Rattle.run_laws.proofs.Naming.{recovery-names, regroup-are, scan-names, takeover-names}
+pub use Rattle.run_laws.proofs.Once.{filtered-all, filtered-few, filtered-none, ordered-once}
+pub use Rattle.run_laws.proofs.Passing.{step-may}
+pub use Rattle.run_laws.proofs.Periods.{short-by, turn-configured}
+pub use Rattle.run_laws.proofs.ReadyOutcomes.{within-book}
+pub use Rattle.run_laws.proofs.RunLaws.{Goes, Goes-start, Goes-step}
+pub use Rattle.run_laws.proofs.Worlds.{world-turn}
+pub use Rattle.run_laws.specs.Begins.{NamesReplicasOnce}
+pub use Rattle.run_laws.specs.Entries.{attempt_in, scan_in}
+pub use Rattle.run_laws.specs.Flights.{flight_of, moment_at, takes}
+pub use Rattle.run_laws.specs.Ready.{AreShort, Ready}
+pub use Rattle.run_laws.specs.Runs.{ComesTo}
+pub use Rattle.run_laws.specs.States.{HeldState, SoundState}
+pub use Rattle.run_laws.specs.Scenarios.Aliases.{alias_of}
+pub use Rattle.run_laws.specs.Scenarios.ValidTurns.{IsAct, IsCommand, IsTurn}
+pub use Rattle.run_laws.specs.Scenarios.declared.scenario.Scenario.{Scenario}
+pub use Rattle.run_laws.proofs.ServerModel.Lists.{slice_get-snoc_cases}
+pub use Rattle.run_laws.specs.ServerModel.Gtids.{status}
+pub use Rattle.run_laws.specs.ServerModel.Run.{Exchange, run}
+pub use Rattle.run_laws.specs.ServerModel.Safe.{IsQuiet, Safe}
+pub use Rattle.run_laws.specs.ServerModel.Worlds.{World, has_source}
+pub use Rattle.run_laws.specs.ServerWords.declared.status.Status.{Status}
+pub use Rattle.run_laws.specs.Turns.declared.reply.Failure.{Failure}
+pub use Rattle.run_laws.specs.Turns.declared.reply.Reply.TheVariants as answered
+pub use Rattle.run_laws.specs.Turns.declared.turn.Act.{Act}
+pub use Rattle.run_laws.specs.Turns.declared.turn.Act.TheVariants as act
+pub use Rattle.run_laws.specs.Turns.declared.turn.Step.{Step}
+pub use Rattle.run_laws.specs.Turns.declared.turn.Step.TheVariants as turns_step
+pub use Rattle.run_laws.specs.Turns.declared.turn.Turn.{Turn}
+pub use Rattle.run_laws.specs.Turns.declared.turn.Turn.TheVariants as turn
+pub use Rattle.run_laws.proofs.UnendedJobs.Going.{flown-number}
+pub use Rattle.run_laws.proofs.UnendedJobs.Hooked.{hooked-has}
+pub use Rattle.run_laws.specs.UnendedJobs.Hooked.{Hooked, front_hook, front_turn, hooked, own_turn, promoted_in, rear_hook, rear_turn, step_before, step_with}
+pub use Rattle.run_laws.specs.UnendedJobs.Hooked.{with_hooks}
+pub use Rattle.run_laws.specs.UnendedJobs.Unended.{IsReady, number_of}
+pub use Rattle.run_laws.specs.UnendedJobs.declared.docket.Docket.{Docket}
+pub use Rattle.run_laws.specs.UnendedJobs.declared.unended.Unended.{Unended}
+pub use Rattle.run_laws.specs.UnendedJobs.declared.unended.Unended.TheVariants as unended

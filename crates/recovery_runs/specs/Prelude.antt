@@ -1,0 +1,86 @@
+-- What this crate's definitions and contracts cite of others.
+pub use Rattle.std.specs.Option.{option_map}
+pub use Rattle.run_laws.specs.AuditLog.Audits.{recovery_at}
+pub use Rattle.run_laws.specs.BookViews.Sources.{label_at, replicas_of}
+pub use Rattle.run_laws.specs.CauseLaws.Events.{Befell}
+pub use Rattle.run_laws.specs.CommandOutcomes.Outcomes.{Outcome}
+pub use Rattle.run_laws.specs.CommandOutcomes.HookTelling.{told_of}
+pub use Rattle.run_laws.specs.Commands.declared.cause.Cause.{Cause}
+pub use Rattle.run_laws.specs.Commands.declared.cause.Cause.TheVariants as cause
+pub use Rattle.run_laws.specs.Commands.declared.line.Line.{Line}
+pub use Rattle.covered_laws.specs.Beside.{IsAimedBeside}
+pub use Rattle.covered_laws.specs.Flights.{AimedJobs, CoveredJobs, KeptJobs, SpeakingJobs}
+pub use Rattle.covered_laws.specs.Turns.{IsNamedOutcome}
+pub use Rattle.hook_laws.specs.Tended.{IsEarly, IsOfDocket, IsTended, all_before, all_behind}
+pub use Rattle.run_laws.specs.HookTexts.declared.hooks.Hook.{Hook}
+pub use Rattle.run_laws.specs.InstanceKeeper.Book.{BookState}
+pub use Rattle.run_laws.specs.JobsInFlight.Jobs.{job_at}
+pub use Rattle.run_laws.specs.KeptRows.Recoveries.{put_recovery}
+pub use Rattle.run_laws.specs.KeptRows.Seeing.{seen_in}
+pub use Rattle.run_laws.specs.KeptRows.declared.observation.Observation.{Observation}
+pub use Rattle.run_laws.specs.KeptRows.declared.recovery.Recovery as KeptRows
+pub use Rattle.run_laws.specs.KeptRows.declared.row.Row.{Row}
+pub use Rattle.run_laws.specs.Knowledge.Knowing.{updated}
+pub use Rattle.run_laws.specs.Operations.Deeds.{deed_of}
+pub use Rattle.run_laws.specs.Operations.declared.op.Op.{Op}
+pub use Rattle.run_laws.specs.Operations.declared.op.Op.TheVariants as op
+pub use Rattle.run_laws.specs.Operations.declared.step.JobStep.{JobStep}
+pub use Rattle.run_laws.specs.Operations.declared.step.JobStep.TheVariants as jobstep
+pub use Rattle.run_laws.specs.OrchBase.Memory.{next_count}
+pub use Rattle.run_laws.specs.OrchBase.Names.{HostPort}
+pub use Rattle.run_laws.specs.OrchBase.declared.code.Code.{Code}
+pub use Rattle.run_laws.specs.OrchBase.declared.recovery.Ending.TheVariants as ending
+pub use Rattle.run_laws.specs.OrchBase.declared.server.Moment.{Moment}
+pub use Rattle.run_laws.specs.OrchBase.declared.server.ServerNo.{ServerNo}
+pub use Rattle.run_laws.specs.OrchCore.After.{step}
+pub use Rattle.run_laws.specs.OrchCore.Nodes.{act_in}
+pub use Rattle.run_laws.specs.OrchCore.Polls.{changes_of, command_outcome, scan_outcome}
+pub use Rattle.run_laws.specs.OrchCore.Replies.{reply_of}
+pub use Rattle.run_laws.specs.OrchCore.Runs.{engine, run_turns}
+pub use Rattle.run_laws.specs.OrchCore.Starts.{start}
+pub use Rattle.run_laws.specs.OrchCore.Settling.{known_of}
+pub use Rattle.run_laws.specs.OrchCore.States.{State}
+pub use Rattle.run_laws.specs.RecoveryCore.Begun.{IsFresh}
+pub use Rattle.run_laws.specs.RecoveryCovers.Covers.{AreReplicas, HasOnePlace, IsTold, owed, times}
+pub use Rattle.recovery_histories.specs.Kept.{IsBeginning, Keeps, SameAim}
+pub use Rattle.run_laws.specs.RecoveryHooks.Runs.{HookState, begun_hooks, done_lines, due_before, unsuccessful_lines}
+pub use Rattle.recovery_outcomes.specs.Chains.{IsChain}
+pub use Rattle.recovery_outcomes.specs.Told.{IsToldOf}
+pub use Rattle.run_laws.specs.RecoveryPermits.Checks.{code_at}
+pub use Rattle.run_laws.specs.RecoveryPlans.Beginning.{first_source, is_takeover}
+pub use Rattle.run_laws.specs.RecoveryPlans.Deciding.{decided, ground_of}
+pub use Rattle.run_laws.specs.RecoveryPlans.Moves.{Stops}
+pub use Rattle.run_laws.specs.RecoveryPlans.Named.{spoken_to}
+pub use Rattle.run_laws.specs.RecoveryPlans.Recoveries.{Recovery}
+pub use Rattle.run_laws.specs.RecoveryPlans.Taking.{Taken, fate, taken}
+pub use Rattle.run_laws.specs.RecoveryPlans.Taking as taking
+pub use Rattle.run_laws.specs.RecoveryPlans.declared.purpose.Purpose.{Purpose}
+pub use Rattle.run_laws.specs.RecoveryPlans.declared.purpose.Purpose.TheVariants as purpose
+pub use Rattle.run_laws.specs.RecoveryPlans.declared.stage.Stage.TheVariants as stage
+pub use Rattle.recovery_reasons.specs.Causes.{IsTrueOf}
+pub use Rattle.recovery_reasons.specs.Nobody.{HasNobody}
+pub use Rattle.recovery_reasons.specs.OnWay.{AllFit}
+pub use Rattle.recovery_reasons.specs.Reasons.{ExplainsTruly, Fact, IsExplained}
+pub use Rattle.run_laws.specs.Flights.{flight_of, moment_at}
+pub use Rattle.run_laws.specs.Ready.{Ready}
+pub use Rattle.run_laws.specs.Runs.{ComesTo, InEveryState}
+pub use Rattle.run_laws.specs.States.{HeldState, SoundState}
+pub use Rattle.run_laws.specs.SingleTurns.{TurnKeeps, WhereHeld, WhereReady, WhereSound}
+pub use Rattle.run_laws.specs.Scenarios.Aliases.{alias_of}
+pub use Rattle.run_laws.specs.Scenarios.ValidTurns.{IsTurn}
+pub use Rattle.run_laws.specs.Scenarios.declared.scenario.Scenario.{Scenario}
+pub use Rattle.run_laws.specs.ServerModel.Gtids.{status}
+pub use Rattle.run_laws.specs.ServerModel.Safe.{IsQuiet, Safe}
+pub use Rattle.run_laws.specs.ServerModel.Worlds.{World, has_source}
+pub use Rattle.run_laws.specs.ServerWords.declared.status.Status.{Status}
+pub use Rattle.run_laws.specs.Turns.declared.reply.Failure.{Failure}
+pub use Rattle.run_laws.specs.Turns.declared.reply.Reply.TheVariants as answered
+pub use Rattle.run_laws.specs.Turns.declared.turn.Act.{Act}
+pub use Rattle.run_laws.specs.Turns.declared.turn.Act.TheVariants as act
+pub use Rattle.run_laws.specs.Turns.declared.turn.Turn.{Turn}
+pub use Rattle.run_laws.specs.Turns.declared.turn.Turn.TheVariants as turn
+pub use Rattle.run_laws.specs.UnendedJobs.Hooked.{Hooked, front_hook, hooked, promoted_in}
+pub use Rattle.run_laws.specs.UnendedJobs.Unended.{number_of}
+pub use Rattle.run_laws.specs.UnendedJobs.declared.docket.Docket.{Docket}
+pub use Rattle.run_laws.specs.UnendedJobs.declared.unended.Unended.{Unended}
+pub use Rattle.run_laws.specs.UnendedJobs.declared.unended.Unended.TheVariants as unended

@@ -1,0 +1,23 @@
+-- What is passed on of run_laws: its types and definitions.
+pub use Rattle.run_laws.specs.Aims
+pub use Rattle.run_laws.specs.Answering
+pub use Rattle.run_laws.specs.Audits
+pub use Rattle.run_laws.specs.Beginnings
+pub use Rattle.run_laws.specs.Begins
+pub use Rattle.run_laws.specs.BegunJobs
+pub use Rattle.run_laws.specs.Claims
+pub use Rattle.run_laws.specs.Entries
+pub use Rattle.run_laws.specs.Failures
+pub use Rattle.run_laws.specs.Fates
+pub use Rattle.run_laws.specs.Flights
+pub use Rattle.run_laws.specs.Following
+pub use Rattle.run_laws.specs.JobEntries
+pub use Rattle.run_laws.specs.Jobs
+pub use Rattle.run_laws.specs.Lines
+pub use Rattle.run_laws.specs.Lowest
+pub use Rattle.run_laws.specs.Marks
+pub use Rattle.run_laws.specs.Ready
+pub use Rattle.run_laws.specs.Room
+pub use Rattle.run_laws.specs.Runs
+pub use Rattle.run_laws.specs.SingleTurns
+pub use Rattle.run_laws.specs.States

@@ -1,0 +1,5 @@
+-- What is passed on of orch_core: lemmas that are cited above.
+pub use Rattle.orch_core.proofs.Claims
+pub use Rattle.orch_core.proofs.Finishing
+pub use Rattle.orch_core.proofs.Starts
+pub use Rattle.orch_core.proofs.States

@@ -1,0 +1,359 @@
+-- What its proofs cite of others.
+pub use Rattle.std.proofs.Math.Seq.{take-append-add}
+pub use Rattle.std.proofs.lemmas.Bool.{and_parts, cases_lt, eq-eqb, eqb-true, false≢true, le-leb, leb-true, ltb-false, ltb-true, ne_eqb, not-true}
+pub use Rattle.std.proofs.lemmas.List.{append-nil, length-map, length-replicate, length-set}
+pub use Rattle.std.proofs.lemmas.List.Elements.{All-append, All-cons, All-contains_itself, All-filter, All-head, All-map, All-nil, All-push}
+pub use Rattle.std.proofs.lemmas.List.Elements.{All-replicate, All-set, All-tail, All-take, All-weaker, filter_passes}
+pub use Rattle.std.proofs.lemmas.List.Folds.{find-append}
+pub use Rattle.std.proofs.lemmas.List.Kept.{AllPairs-filter}
+pub use Rattle.std.proofs.lemmas.List.Sorted.{sum_by-IsPermutation}
+pub use Rattle.std.proofs.lemmas.List.Sums.{fold-append, sum_by-append, sum_by-cons}
+pub use Rattle.std.proofs.lemmas.Option.{get_or_from_slice_get, none-some, same_Some, slice_get_within}
+pub use Rattle.std.specs.List.{list_any, range_with_len, sum_by}
+pub use Rattle.std.specs.Option.{option_map, option_or, option_to_list}
+pub use Rattle.answer_laws.proofs.Rising.{coords-lowest, gtid-lowest, match-lowest, path-lowest, recovery-lowest, takeover-lowest}
+pub use Rattle.answer_laws.proofs.Trying.{tries}
+pub use Rattle.answer_laws.specs.Lowest.{IsAnswer, IsNoLower}
+pub use Rattle.answer_laws.specs.Tries.{AreTries, Left, Scan, after_begun}
+pub use Rattle.orch_core.specs.AskingCommands.Answers.{allowed, is_known, lines_of, permitted, unknown_in}
+pub use Rattle.orch_core.proofs.AuditLog.Changes.{IsAudit-begun, none-at}
+pub use Rattle.orch_core.proofs.AuditLog.Finding.{found-passes}
+pub use Rattle.orch_core.proofs.AuditLog.Finding
+pub use Rattle.orch_core.proofs.AuditLog.Loaded.{kept-audit}
+pub use Rattle.orch_core.proofs.AuditLog.Parting.{acknowledged-apart, acknowledged_at-apart, apart-begins, closed-apart, ended-apart}
+pub use Rattle.orch_core.specs.AuditLog.Apart.{IsApart}
+pub use Rattle.orch_core.specs.AuditLog.Audits.{AuditState, IsAudit, acked_so, acking, acknowledged, acknowledged_at, acknowledged_for, begun, closed, closing}
+pub use Rattle.orch_core.specs.AuditLog.Audits.{ended, ended_so, interrupted, is_of, is_open, is_unended, longest_block, recovery_at}
+pub use Rattle.orch_core.specs.AuditLog.Loading.{loaded_by, recoveries_in}
+pub use Rattle.orch_core.specs.BinlogCoords.declared.Coord.{Coord}
+pub use Rattle.orch_core.specs.BookCommands.Decisions.{acked, book_after, candidate_of, decided_of, downtime_begun, downtime_ended, downtime_of}
+pub use Rattle.orch_core.specs.BookCommands.Decisions.{downtime_removal, effect_by, rows_of}
+pub use Rattle.orch_core.specs.BookCommands.Decisions
+pub use Rattle.orch_core.specs.BookCommands.declared.decided.Decided.{Decided}
+pub use Rattle.orch_core.specs.BookCommands.declared.decided.Effect.{Effect}
+pub use Rattle.orch_core.specs.BookCommands.declared.decided.Effect.TheVariants as effect
+pub use Rattle.orch_core.specs.BookViews.Sources.{is_attached_to, is_instance, is_replica_of, label_at, replicas_of, seen_source, source_in}
+pub use Rattle.cause_laws.proofs.Turning.{failed-befell, spent-last, turn-idle, turn-taken, undisturbed-done}
+pub use Rattle.cause_laws.specs.Events.{Befell}
+pub use Rattle.orch_core.proofs.CommandJobs.Begun.{job-number, job-ready}
+pub use Rattle.orch_core.specs.CommandJobs.Jobs.{job_by, leases_by, planner_for, refusal_by, regroup_about}
+pub use Rattle.orch_core.proofs.CommandOutcomes.HookTold.{told-can, told-in-turn}
+pub use Rattle.orch_core.specs.CommandOutcomes.Outcomes.{Outcome, about, asked, busy_given, by_hand, decided, discovered, entries_put, first_of, forgotten}
+pub use Rattle.orch_core.specs.CommandOutcomes.Outcomes.{next_reading, outcome_by, question, recovered, recovery_begun, refusal, removal, removal_refusal}
+pub use Rattle.orch_core.specs.CommandOutcomes.Outcomes.{stays, taken_over, terms_of}
+unfoldable pub use Rattle.orch_core.specs.CommandOutcomes.Outcomes.{outcome_of}
+pub use Rattle.orch_core.specs.CommandOutcomes.Outcomes
+pub use Rattle.orch_core.specs.CommandOutcomes.HookTelling.{told_try, with_told}
+pub use Rattle.orch_core.specs.CommandOutcomes.Periods.{period_by}
+pub use Rattle.orch_core.specs.CommandOutcomes.declared.configuration.Configuration.{Configuration}
+pub use Rattle.orch_core.specs.CommandRoutes.Routes.{planner_of, route_of}
+pub use Rattle.orch_core.specs.CommandRoutes.declared.kinds.Regrouping.TheVariants.{ByBridges, ByMatches}
+pub use Rattle.orch_core.specs.CommandRoutes.declared.route.Decision.{Decision}
+pub use Rattle.orch_core.specs.CommandRoutes.declared.route.Decision.TheVariants as decision
+pub use Rattle.orch_core.specs.CommandRoutes.declared.route.Planner.{Planner}
+pub use Rattle.orch_core.specs.CommandRoutes.declared.route.Planner.TheVariants.{Coordinates, Gtids, Matches, Paths, Regroups}
+pub use Rattle.orch_core.specs.CommandRoutes.declared.route.Planner.TheVariants as planner
+pub use Rattle.orch_core.specs.CommandRoutes.declared.route.Route.{Route}
+pub use Rattle.orch_core.specs.CommandRoutes.declared.route.Route.TheVariants.{Asks, Decides, Discovers, Forgets, Recovers, TakesOver}
+pub use Rattle.orch_core.specs.CommandRoutes.declared.route.Route.TheVariants as route
+pub use Rattle.orch_core.specs.Commands.Causes.{cause_name}
+pub use Rattle.orch_core.specs.Commands.Refusals
+pub use Rattle.orch_core.specs.Commands.Turns.{has_needed, is_within}
+pub use Rattle.orch_core.specs.Commands.Unknown.{is_unknown, unknown_of}
+pub use Rattle.orch_core.specs.Commands.declared.cause.Cause.{Cause}
+pub use Rattle.orch_core.specs.Commands.declared.cause.Cause.TheVariants as cause
+pub use Rattle.orch_core.specs.Commands.declared.line.Line.{Line}
+pub use Rattle.orch_core.specs.Commands.declared.line.Line.TheVariants as line
+pub use Rattle.orch_core.specs.Commands.declared.name.CommandName.{CommandName}
+pub use Rattle.orch_core.specs.Commands.declared.name.CommandName.TheVariants as name
+pub use Rattle.orch_core.specs.Commands.declared.refusal.Refusal.{Refusal}
+pub use Rattle.orch_core.specs.Commands.declared.refusal.Refusal.TheVariants.{NoCandidate, NotMaster, NotReplica, UnknownInstance, Unreachable}
+pub use Rattle.orch_core.specs.Commands.declared.refusal.Refusal.TheVariants as commands_refusal
+pub use Rattle.orch_core.specs.Commands.declared.turn.Command.{Command}
+pub use Rattle.orch_core.specs.Commands.declared.turn.CommandTurn.{CommandTurn}
+pub use Rattle.orch_core.specs.Commands.declared.turn.Keys.{Keys}
+pub use Rattle.orch_core.proofs.FailureAnalysis.Counting.{tally-parts}
+pub use Rattle.orch_core.proofs.FailureAnalysis.Rows.{action-of}
+pub use Rattle.orch_core.specs.FailureAnalysis.Analysis.{counts_of, entry_of}
+pub use Rattle.orch_core.specs.FailureAnalysis.Table.{AreCounts, action_of, none_replicates}
+unfoldable pub use Rattle.orch_core.specs.FailureAnalysis.Table.{code_of}
+pub use Rattle.orch_core.specs.FailureAnalysis.declared.code.Action.{Action}
+pub use Rattle.orch_core.specs.FailureAnalysis.declared.code.Action.TheVariants as action
+pub use Rattle.orch_core.specs.FailureAnalysis.declared.entry.Entry.{Entry}
+pub use Rattle.orch_core.proofs.InstanceKeeper.BookLaws.{first, last, second, third, to_third}
+pub use Rattle.orch_core.proofs.InstanceKeeper.Books.{change_is, empty_is, known_at, leases_set, put_is, rings_set}
+pub use Rattle.orch_core.proofs.InstanceKeeper.NoRecovery.{row_in-elsewhere}
+pub use Rattle.orch_core.specs.InstanceKeeper.Book.{BookState, HasKnownSource, IsBook, added_over, after_change, after_put, after_row, book_rows}
+pub use Rattle.orch_core.specs.InstanceKeeper.Book.{discovered_over, discovery_change, downtime_at, empty_book, first_seen, instance_at, lease_at, renewal}
+pub use Rattle.orch_core.specs.InstanceKeeper.Book.{renewed, renewed_book, shown_by, store_change, stored_over}
+pub use Rattle.orch_core.specs.InstanceKeeper.Bridges.{bridge_in, ring_at, ringed, with_bridge}
+pub use Rattle.orch_core.specs.InstanceKeeper.Had.{has_row, put_change}
+pub use Rattle.orch_core.specs.InstanceKeeper.Leases.{given_back, taken}
+pub use Rattle.orch_core.specs.InstanceKeeper.declared.bridge.Bridge.{Bridge}
+pub use Rattle.recovery_covers.proofs.JobLaws.Begun.{others-left}
+pub use Rattle.recovery_covers.proofs.JobLaws.Bridging.{stands-by}
+pub use Rattle.recovery_covers.proofs.JobLaws.Listed.{given-leases, taken-leases}
+pub use Rattle.recovery_covers.proofs.JobLaws.Lists.{All-at, All-find, All-ring}
+pub use Rattle.recovery_covers.proofs.JobLaws.Marking.{logs-place, logs-prefix, read-servers}
+pub use Rattle.recovery_covers.proofs.JobLaws.Matching.{match-well}
+pub use Rattle.recovery_covers.proofs.JobLaws.Others.{unleased-run}
+pub use Rattle.recovery_covers.proofs.JobLaws.Showing.{Bridged-seen, Shows-seen}
+pub use Rattle.recovery_covers.proofs.JobLaws.Spanning.{spans-by}
+pub use Rattle.recovery_covers.proofs.JobLaws.Turns.{turn-sound}
+pub use Rattle.recovery_covers.specs.JobLaws.Flights.{Flight, IsShown, IsShownBridged, Sound, StandsIn, job_turned, leased_to, no_leases, replaced}
+pub use Rattle.recovery_covers.specs.JobLaws.Flights
+pub use Rattle.recovery_covers.specs.JobLaws.Footing.{are_held, footing}
+pub use Rattle.recovery_covers.specs.JobLaws.Held.{HeldJob, Spans}
+pub use Rattle.recovery_covers.specs.JobLaws.Leases.{HasLeases, IsLeased, Leases, are_listed, leases_of}
+pub use Rattle.recovery_covers.specs.JobLaws.Leases as JobLaws
+pub use Rattle.recovery_covers.specs.JobLaws.Matched.{AllMeet, Meets, are_matched, matched_in}
+pub use Rattle.recovery_covers.specs.JobLaws.Passages.{AllMayPass, AllPassWell, Beginning, MayPass, Passage, passed, passing, stored_if, turned_by}
+pub use Rattle.recovery_covers.specs.JobLaws.Passages as pass
+pub use Rattle.recovery_covers.specs.JobLaws.Sound.{AllBridged}
+pub use Rattle.orch_core.proofs.JobsInFlight.Numbers.{Rise-push, Rise-with, Rise-within, Rise-without, above, found-number, with-past}
+pub use Rattle.orch_core.specs.JobsInFlight.Jobs.{Rise, book_turned, job_at, job_exchanges, job_observation, job_reply, jobs_turned, most_turns, step_reply}
+pub use Rattle.orch_core.specs.JobsInFlight.Jobs.{stored, with_job, without_job, without_leases}
+pub use Rattle.orch_core.specs.JobsInFlight.Jobs
+pub use Rattle.orch_core.proofs.KeptRows.Known.{both_true, head_known}
+pub use Rattle.orch_core.proofs.KeptRows.Lists.{pairs_head, pairs_tail}
+pub use Rattle.orch_core.proofs.KeptRows.LookUps.{changed_by_rising, map_of_rising, row_in-changed, row_in-changed_by}
+pub use Rattle.orch_core.proofs.KeptRows.Rising.{map_of-risen}
+pub use Rattle.orch_core.proofs.KeptRows.Same.{instance_is}
+pub use Rattle.orch_core.specs.KeptRows.Ranges.{IsInRange, IsKeyInRange}
+pub use Rattle.orch_core.specs.KeptRows.Recoveries.{as_row, put_recovery}
+pub use Rattle.orch_core.specs.KeptRows.Rows.{IsRising, changed, changed_by, key_number, map_of, row_after, row_at, row_in, sort_key, sort_key_of}
+pub use Rattle.orch_core.specs.KeptRows.Same.{same_instance}
+pub use Rattle.orch_core.specs.KeptRows.Seeing.{seen_in}
+pub use Rattle.orch_core.specs.KeptRows.Servers.{are_known, ending_servers, fits, is_of_book, key_servers, observed_servers, row_fits, seen_servers}
+pub use Rattle.orch_core.specs.KeptRows.Servers.{source_servers}
+pub use Rattle.orch_core.specs.KeptRows.declared.observation.Instance.{Instance}
+pub use Rattle.orch_core.specs.KeptRows.declared.observation.Observation.{Observation}
+pub use Rattle.orch_core.specs.KeptRows.declared.recovery.Recovery.{Recovery}
+pub use Rattle.orch_core.specs.KeptRows.declared.recovery.RecoveryRow.{RecoveryRow}
+pub use Rattle.orch_core.specs.KeptRows.declared.row.Change.{Change}
+pub use Rattle.orch_core.specs.KeptRows.declared.row.Change.TheVariants as change
+pub use Rattle.orch_core.specs.KeptRows.declared.row.Key.{Key}
+pub use Rattle.orch_core.specs.KeptRows.declared.row.Key.TheVariants as key
+pub use Rattle.orch_core.specs.KeptRows.declared.row.Row.{Row}
+pub use Rattle.orch_core.specs.KeptRows.declared.row.Row.TheVariants as kept_row
+pub use Rattle.orch_core.specs.KeptRows.declared.row.Table.{Table}
+pub use Rattle.orch_core.specs.KeptRows.declared.row.Table.TheVariants as table
+pub use Rattle.orch_core.proofs.KnowledgeProofs.Remaining.{joined}
+pub use Rattle.orch_core.specs.Knowledge.Closings.{closed_by, closing_at, closing_by, closing_changes, closing_for, closing_of}
+pub use Rattle.orch_core.specs.Knowledge.Kept.{changes_by}
+pub use Rattle.orch_core.specs.Knowledge.Knowing.{Knowledge, recovery_job, updated}
+pub use Rattle.move_laws.proofs.Begun as coords
+pub use Rattle.move_laws.proofs.BegunGtid as gtids
+pub use Rattle.move_laws.proofs.BegunMatch as matches
+pub use Rattle.orch_core.proofs.NameOrder.ByName.{IsOrder-by_name, length-by_name}
+unfoldable pub use Rattle.orch_core.specs.NameOrder.NameOrder.{by_name}
+pub use Rattle.orch_core.proofs.NodeClaims.Owned.{acting_told, kept_of_active, one_active, taken_while_it_lasts}
+pub use Rattle.orch_core.specs.NodeClaims.Claims.{ClaimState, IsNode}
+pub use Rattle.orch_core.specs.NodeClaims.Claims as claims
+pub use Rattle.orch_core.specs.NodeClaims.Reached.{IsReached}
+pub use Rattle.orch_core.specs.NodeClaims.Reached.IsReached.{Acted, Claimed, Later, Made, Released}
+pub use Rattle.orch_core.specs.NodeClaims.declared.claims.ClaimAnswer.{ClaimAnswer}
+pub use Rattle.orch_core.specs.NodeClaims.declared.claims.ClaimAnswer.TheVariants as claim
+pub use Rattle.orch_core.proofs.OpeningBook.Following.{Follow-addition, Follow-change, Follow-loaded, Follow-opened, Follow-recoveries, Follow-rings}
+pub use Rattle.orch_core.proofs.OpeningBook.Following.{PutsRecovery, Takes, is_eq, length-ringed, names-change, names-opening}
+pub use Rattle.orch_core.proofs.OpeningBook.Following
+pub use Rattle.orch_core.proofs.OpeningBook.Recoveries.{Follow-given, FollowAudit-acknowledged, FollowAudit-book, FollowAudit-closed, FollowAudit-loaded}
+pub use Rattle.orch_core.proofs.OpeningBook.Recoveries.{FollowAudit-mapped, FollowAudit-opened, acking-small, audit-loaded, closing-small, last_id-within}
+pub use Rattle.orch_core.proofs.OpeningBook.Recoveries.{left-alone, loaded-at, puts-loaded, row-of}
+pub use Rattle.orch_core.specs.OpeningBook.Audits.{audit_of, latest_recovery}
+pub use Rattle.orch_core.specs.OpeningBook.Counting.{counted, counts, end_or, greatest, greatest_id, is_block_in_range, is_end_in_range, is_in_range, loaded}
+pub use Rattle.orch_core.specs.OpeningBook.Following.{Follow, FollowAudit, IsAudited, IsKeptFor}
+pub use Rattle.orch_core.specs.OpeningBook.Opening.{after_opening, blocks_given, interrupting, is_opening_change, loading, missing, missing_from, opened_book}
+pub use Rattle.orch_core.specs.OpeningBook.Opening.{opening_instance, put_instance, registered, registering, registering_from}
+pub use Rattle.opening_laws.proofs.Openings.{Safe-opened}
+pub use Rattle.opening_laws.proofs.Rooms.{not_full-opened}
+pub use Rattle.orch_core.proofs.OperationsProofs.Allowing.{turn-allowed}
+pub use Rattle.orch_core.specs.Operations.Deeds.{Deed, deed_of}
+pub use Rattle.orch_core.specs.Operations.Deeds as deed
+pub use Rattle.orch_core.specs.Operations.Jobs.{Job, match_found, seen_of}
+pub use Rattle.orch_core.specs.Operations.Matching.{match_logs, standing_at}
+pub use Rattle.orch_core.specs.Operations.Targets.{can_attach}
+pub use Rattle.orch_core.specs.Operations.Turns.{Ends, Goes, Stops, Turned, after_answer, after_ask, after_attach, after_look, after_match, after_status}
+pub use Rattle.orch_core.specs.Operations.Turns.{after_until, after_wait, after_wait_by, aim_of, attach_answer_of, attached_anew, bridge_at, by_deed, by_match}
+pub use Rattle.orch_core.specs.Operations.Turns.{by_ops, by_set, crossed, crossing_of, holds_seen, is_going, is_moved, is_reached, next, observed, read_by}
+pub use Rattle.orch_core.specs.Operations.Turns.{restarts, same_again, saw, settled, settles, turned, until_by}
+pub use Rattle.orch_core.specs.Operations.Turns
+pub use Rattle.orch_core.specs.Operations.declared.matching.Match.{Match}
+pub use Rattle.orch_core.specs.Operations.declared.matching.MatchFault.{MatchFault}
+pub use Rattle.orch_core.specs.Operations.declared.op.Crossing.{Crossing}
+pub use Rattle.orch_core.specs.Operations.declared.op.Crossing.TheVariants as cross
+pub use Rattle.orch_core.specs.Operations.declared.op.Op.{Op}
+pub use Rattle.orch_core.specs.Operations.declared.sight.Position.{Position}
+pub use Rattle.orch_core.specs.Operations.declared.sight.Sight.{Sight}
+pub use Rattle.orch_core.specs.Operations.declared.step.JobStep.{JobStep}
+pub use Rattle.orch_core.specs.Operations.declared.step.JobStep.TheVariants as jobstep
+pub use Rattle.orch_core.specs.OrchBase.Memory.{next_count}
+pub use Rattle.orch_core.specs.OrchBase.Names.{HostPort}
+pub use Rattle.orch_core.specs.OrchBase.declared.code.Code.{Code}
+pub use Rattle.orch_core.specs.OrchBase.declared.recovery.Ending.{Ending}
+pub use Rattle.orch_core.specs.OrchBase.declared.recovery.Ending.TheVariants as ending
+pub use Rattle.orch_core.specs.OrchBase.declared.recovery.Kind.{Kind}
+pub use Rattle.orch_core.specs.OrchBase.declared.rule.Rule.{Rule}
+pub use Rattle.orch_core.specs.OrchBase.declared.server.Moment.{Moment}
+pub use Rattle.orch_core.specs.OrchBase.declared.server.ServerNo.{ServerNo}
+pub use Rattle.orch_core.specs.OrchBase.declared.server.Settings.{Settings}
+pub use Rattle.orch_core.specs.OrchBase.declared.server.SourceState.{SourceState}
+pub use Rattle.orch_core.specs.OrchBase.declared.server.SourceState.TheVariants.{Attached, Detached, Without}
+pub use Rattle.orch_core.proofs.Beginnings.{job-entry, may-take}
+pub use Rattle.orch_core.proofs.Claims.{act-fits, nodes-step, step-lapsed}
+pub use Rattle.orch_core.proofs.Closed.{closed_by-next, flown-entry}
+pub use Rattle.orch_core.proofs.Finishing.{fewer}
+pub use Rattle.orch_core.proofs.Joining.{joined-rising}
+pub use Rattle.orch_core.proofs.Outcomes.{IsEffectFor, decided-effect}
+pub use Rattle.orch_core.proofs.Periods.{short-in}
+pub use Rattle.orch_core.proofs.Recoveries.{reloaded-most}
+pub use Rattle.orch_core.proofs.Servers.{servers-start}
+pub use Rattle.orch_core.proofs.Sources.{sources-run}
+pub use Rattle.orch_core.proofs.Starts.{all-from, all-loading, all-missing, all-opening, all-registering, fits-opening, moment-within, opened-is}
+pub use Rattle.orch_core.proofs.Starts.{sources-start}
+pub use Rattle.orch_core.proofs.States.{Allowed-step, names-loaded, names-over, names-stored, one_known, reading_known}
+pub use Rattle.orch_core.proofs.Turned.{All-found}
+pub use Rattle.orch_core.specs.After.{after_act, after_done, after_job, after_restart, after_tick, step}
+pub use Rattle.orch_core.specs.Jobs.{turn_of, turned_at}
+pub use Rattle.orch_core.specs.Nodes.{act_claimed, act_in, acts, claim_changes, claim_changes_by, claim_or, claimed, claims_after, holder_after}
+pub use Rattle.orch_core.specs.Nodes.{holder_by, is_kept_so, passes_to, release_changes, release_changes_by, with_claims}
+pub use Rattle.orch_core.specs.RefusedCommands.{IsDone, recovery_refused, refusal_at, takeover_given, takeover_refused, unreached}
+pub use Rattle.orch_core.specs.RefusedCommands
+pub use Rattle.orch_core.specs.Polls.{act_changes, changes_of, command_outcome, done_changes, empty_slots, numbers_of, reading, scan_outcome, slot_at}
+pub use Rattle.orch_core.specs.Replies.{claim_reply, done_reply, reply_of}
+pub use Rattle.orch_core.specs.Restarts.{interrupted_at, last_given, reloaded_audit, reloaded_book, reloaded_moment, reloaded_rows, restart_changes}
+pub use Rattle.orch_core.specs.Runs.{Held, act_asks, asks, done_asks, engine, held_run, held_step, run_turns, turns_of}
+pub use Rattle.orch_core.specs.Starts.{configuration_of, loaded_audit, loaded_book, start, start_changes, start_claim, start_moment, start_rows}
+pub use Rattle.orch_core.specs.Starts.{start_world}
+pub use Rattle.orch_core.specs.Settling.{known_of, with_known}
+pub use Rattle.orch_core.specs.Settling
+pub use Rattle.orch_core.specs.States.{IsSlot, IsState, State, entry_id, nodes_of}
+pub use Rattle.orch_core.specs.TurnExchanges.{act_exchanges, done_exchanges, exchange_of, exchanges_at, later}
+pub use Rattle.path_laws.proofs.Begun as paths
+pub use Rattle.orch_core.proofs.PermissionProofs.Free.{neither}
+pub use Rattle.orch_core.specs.Permission.Checks.{busy_by, first_refusal, is_given}
+pub use Rattle.orch_core.specs.Permission.Lists.{only_if}
+pub use Rattle.orch_core.specs.Permission.Lists
+pub use Rattle.orch_core.specs.Permission.Rows.{about_one}
+pub use Rattle.orch_core.specs.Permission.Rows
+pub use Rattle.orch_core.specs.Permission.Views.{attached_in, attached_of, has_log, is_valid, same_label, source_of}
+pub use Rattle.orch_core.specs.PseudoMatch.Commands.{pseudo_by, pseudo_command}
+pub use Rattle.orch_core.specs.PseudoMatch.Permits
+pub use Rattle.orch_core.specs.PseudoMatch.declared.command.PseudoCommand.{PseudoCommand}
+pub use Rattle.orch_core.specs.PseudoMatch.declared.command.PseudoCommand.TheVariants as matching
+pub use Rattle.orch_core.proofs.RecoveryCore.Beginning.{recovery-begins, takeover-begins, unrefused}
+pub use Rattle.orch_core.proofs.RecoveryCore.Ended.{ending-closed}
+pub use Rattle.orch_core.proofs.RecoveryCore.InTurn.{apart-after, scan-blocks, scan-in-turn}
+pub use Rattle.orch_core.proofs.RecoveryCore.Trying.{recovery-may, takeover-may}
+pub use Rattle.orch_core.specs.RecoveryCore.Begun.{BeginInTurn, CanBegin, audit_after, leases_after}
+pub use Rattle.orch_core.specs.RecoveryCore.Begun
+pub use Rattle.orch_core.specs.RecoveryCore.Endings.{done_with, ending_of, is_acknowledged}
+pub use Rattle.orch_core.specs.RecoveryCore.Scans.{Staged, actionable_in, after_try, attempt_of, from_start, scan_step, scanned, scanned_over, staged_refusal}
+pub use Rattle.orch_core.specs.RecoveryCore.Tries.{Begins, kind_by, recovery_begins, recovery_try, takeover_begins, takeover_try, unless_refused}
+pub use Rattle.recovery_covers.specs.Covers.{AreReplicas, times}
+pub use Rattle.orch_core.proofs.RecoveryEnds.Ended.{begun-shaped}
+pub use Rattle.orch_core.specs.RecoveryEnds.Ends.{IsShaped}
+pub use Rattle.recovery_covers.proofs.RecoveryLaws.Ringed.{fresh-own, kept-own, shown-own}
+pub use Rattle.recovery_covers.proofs.RecoveryLaws.Sounding.{taken-sound}
+pub use Rattle.recovery_covers.specs.RecoveryLaws.LeasedRecoveries.{IsAny}
+pub use Rattle.recovery_covers.specs.RecoveryLaws.Passing.{core_by}
+pub use Rattle.recovery_covers.specs.RecoveryLaws.Rings.{AreOwn}
+pub use Rattle.orch_core.specs.RecoveryPermits.Checks.{can_succeed, code_at, has_successor, held_back, no_master, no_replica, without_successor}
+pub use Rattle.orch_core.specs.RecoveryPermits.Recoveries.{held_off, purpose_by, recovery_purpose, recovery_refusal, refusal_for}
+pub use Rattle.orch_core.specs.RecoveryPermits.Recoveries
+pub use Rattle.orch_core.specs.RecoveryPermits.Takeovers.{case_of, row, takeover_refusal}
+pub use Rattle.orch_core.specs.RecoveryPermits.declared.attempt.Attempt.{Attempt}
+pub use Rattle.orch_core.proofs.RecoveryPlans.Allowed.{taken-allowed}
+pub use Rattle.orch_core.proofs.RecoveryPlans.Choices.{same-no}
+pub use Rattle.orch_core.specs.RecoveryPlans.Beginning.{first_ops, first_source, is_takeover}
+pub use Rattle.orch_core.specs.RecoveryPlans.Deciding.{ground_of}
+pub use Rattle.orch_core.specs.RecoveryPlans.Deciding
+pub use Rattle.orch_core.specs.RecoveryPlans.Named.{IsListOf}
+pub use Rattle.orch_core.specs.RecoveryPlans.Recoveries as RecoveryPlans
+pub use Rattle.orch_core.specs.RecoveryPlans.Taking.{Taken}
+pub use Rattle.orch_core.specs.RecoveryPlans.Taking as taking
+pub use Rattle.orch_core.specs.RecoveryPlans.declared.means.Means.{Means}
+pub use Rattle.orch_core.specs.RecoveryPlans.declared.means.Means.TheVariants as means
+pub use Rattle.orch_core.specs.RecoveryPlans.declared.purpose.Purpose.{Purpose}
+pub use Rattle.orch_core.specs.RecoveryPlans.declared.purpose.Purpose.TheVariants as purpose
+pub use Rattle.orch_core.specs.RecoveryPlans.declared.stage.Stage.{Stage}
+pub use Rattle.orch_core.specs.RecoveryPlans.declared.stage.Stage.TheVariants as stage
+pub use Rattle.orch_core.specs.Regroup.Commands.{regroup_by, regroup_command}
+pub use Rattle.orch_core.specs.Regroup.Permits.{list_of}
+pub use Rattle.orch_core.specs.Regroup.declared.command.RegroupCommand.{RegroupCommand}
+pub use Rattle.orch_core.specs.Regroup.declared.command.RegroupCommand.TheVariants as command
+pub use Rattle.recovery_covers.proofs.ReplicationLaws.Applies.{no_skipped}
+pub use Rattle.recovery_covers.proofs.ReplicationLaws.Files.{not_full-files}
+pub use Rattle.recovery_covers.proofs.ReplicationLaws.Keeping.{Placed-safe}
+pub use Rattle.recovery_covers.proofs.ReplicationLaws.Runs as exchanges
+pub use Rattle.recovery_covers.specs.ReplicationLaws.Room.{HasFiles, IsNotFull}
+pub use Rattle.run_laws.specs.Aims.{IsAbout, IsAimed, IsAskedBy, IsAskedIn, IsAskedOf, IsFor}
+pub use Rattle.run_laws.specs.Answering.{ScansTryByTable}
+pub use Rattle.run_laws.specs.Begins.{BeginApartInTurn, BeginsApart, NamesReplicasOnce, entries_of}
+pub use Rattle.run_laws.specs.BegunJobs.{BegunJob, begun_by, begun_of, entry_kept, of_plan, of_try, recovering, taking_by, taking_over, with_entry}
+pub use Rattle.run_laws.specs.Claims.{ActsWhereActive, ClaimsAreReached, ClaimsWait, IsClaimRow, ItsClaimIsKept, LapsedDoesNothing, OneIsActive}
+pub use Rattle.run_laws.specs.Claims.{PassingLeavesNewJobs, PassingLeavesNoJob, PassingStartsAgain, claim_by_row, claim_key, claim_row}
+pub use Rattle.run_laws.specs.Entries.{attempt_in, entries_begun, recoveries_begun, recoveries_by, recoveries_done, recoveries_in_act, recoveries_of}
+pub use Rattle.run_laws.specs.Entries.{recoveries_scanned, scan_in, takeovers_by, takeovers_of, tried}
+pub use Rattle.run_laws.specs.Failures.{IsBefallen, PlansAreDone, PlansFailForWhatBefell, SpendsWaitsLast}
+pub use Rattle.run_laws.specs.Fates.{AuditIs, RestartKeepsAll, acked_in, cluster_acked, cluster_decided, cluster_of, entry_by_job, entry_in_act}
+pub use Rattle.run_laws.specs.Fates.{entry_in_done, entry_of_turn, entry_then}
+pub use Rattle.run_laws.specs.Flights.{act_passages, by_command, by_discovery, by_instance, by_job, by_permission, by_recoveries, by_recovery}
+pub use Rattle.run_laws.specs.Flights.{by_removal, by_route, by_takeover, by_try, done_passages, flight_of, moment_at, passages_of, takes}
+pub use Rattle.run_laws.specs.Flights.{takes_first, takes_over}
+pub use Rattle.run_laws.specs.JobEntries.{EntriesHaveJobs, entries_in, open_ids}
+pub use Rattle.run_laws.specs.Following.{RunClaimsAreFollowed}
+pub use Rattle.run_laws.specs.Lines.{AreLinesOf}
+pub use Rattle.run_laws.specs.Lowest.{RefusedByLowest, checks_by, plan_checks, recover_checks, takeover_checks_by, takes_checks}
+pub use Rattle.run_laws.specs.Marks.{EndsAt, EndsStill}
+pub use Rattle.run_laws.specs.Ready.{AreShort, Ready}
+pub use Rattle.run_laws.specs.Runs.{ComesBefore, ComesBy, ComesTo, ComesWithin, IsBegun}
+pub use Rattle.run_laws.specs.States.{HeldState, SoundState}
+pub use Rattle.orch_core.proofs.ScenariosProofs.Rooms.{longest-at}
+pub use Rattle.orch_core.specs.Scenarios.Scenarios.{IsScenario, flushes_of, period_of, room_of, settings_of}
+pub use Rattle.orch_core.specs.Scenarios.ValidTurns.{IsAct, IsCommand, IsNumberOf, IsStep, IsTurn, NamesOneOf, is_rotate_step, is_write_step, pollers}
+pub use Rattle.orch_core.specs.Scenarios.ValidTurns as Scenarios
+pub use Rattle.orch_core.specs.Scenarios.declared.scenario.Scenario.{Scenario}
+pub use Rattle.orch_core.proofs.ServerModel.Counts.{servers-run}
+pub use Rattle.orch_core.specs.ServerModel.Desk.{desk_answer, rotate, rotate_answer}
+pub use Rattle.orch_core.specs.ServerModel.Exchanges.{apply}
+pub use Rattle.orch_core.specs.ServerModel.Gtids.{shown_of, status}
+pub use Rattle.orch_core.specs.ServerModel.Run.{AllAllowed, AllJoinWell, Attach, AttachAuto, Exchange, Request, after, is_rotate, is_write, run}
+pub use Rattle.orch_core.specs.ServerModel.Safe.{IsQuiet, Placed, Safe}
+pub use Rattle.orch_core.specs.ServerModel.Worlds.{World, server_at}
+pub use Rattle.orch_core.specs.ServerModel.declared.server.Server.{Server}
+pub use Rattle.orch_core.specs.ServerWords.declared.answers.ApplyAnswer.TheVariants as answers
+pub use Rattle.orch_core.specs.ServerWords.declared.answers.RotateAnswer.TheVariants as rotating
+pub use Rattle.orch_core.specs.ServerWords.declared.answers.Unreachable as ServerWords
+pub use Rattle.orch_core.specs.ServerWords.declared.attach.AttachFault.{AttachFault}
+pub use Rattle.orch_core.specs.ServerWords.declared.attach.Spot.{Spot}
+pub use Rattle.orch_core.specs.ServerWords.declared.attach.Spot.TheVariants as spot
+pub use Rattle.orch_core.specs.ServerWords.declared.changes.Ask.{Ask}
+pub use Rattle.orch_core.specs.ServerWords.declared.changes.Ask.TheVariants as asking
+pub use Rattle.orch_core.specs.ServerWords.declared.status.Status.{Status}
+pub use Rattle.orch_core.specs.ServerWords.declared.status.StatusFault.TheVariants as seeing
+pub use Rattle.orch_core.specs.Turns.declared.reply.Failure.{Failure}
+pub use Rattle.orch_core.specs.Turns.declared.reply.Reply.{Reply}
+pub use Rattle.orch_core.specs.Turns.declared.reply.Reply.TheVariants as answered
+pub use Rattle.orch_core.specs.Turns.declared.turn.Act.{Act}
+pub use Rattle.orch_core.specs.Turns.declared.turn.Act.TheVariants as act
+pub use Rattle.orch_core.specs.Turns.declared.turn.Step.{Step}
+pub use Rattle.orch_core.specs.Turns.declared.turn.Step.TheVariants as turns_step
+pub use Rattle.orch_core.specs.Turns.declared.turn.Turn.{Turn}
+pub use Rattle.orch_core.specs.Turns.declared.turn.Turn.TheVariants as turn
+pub use Rattle.orch_core.proofs.UnendedJobs.Going.{flown-allowed, flown-fewer, flown-number, flown-ready, flown-sees, ready-of, recovery-promotes}
+pub use Rattle.orch_core.proofs.UnendedJobs.Hooked.{hooked-has}
+pub use Rattle.orch_core.specs.UnendedJobs.Hooked.{Hooked, hooked, no_docket, promoted_in}
+pub use Rattle.orch_core.specs.UnendedJobs.Unended.{Flown, IsReady, IsUnended, core_of, flown, number_of}
+pub use Rattle.orch_core.specs.UnendedJobs.declared.docket.Docket.{Docket}
+pub use Rattle.orch_core.specs.UnendedJobs.declared.unended.Unended.{Unended}
+pub use Rattle.orch_core.specs.UnendedJobs.declared.unended.Unended.TheVariants as unended
+pub use Rattle.unended_laws.proofs.Begun.{begin-held, begin-sound, recovery-held, recovery-sound}
+pub use Rattle.unended_laws.proofs.Beside.{apart-held, apart-sound, restart-held, restart-sound}
+pub use Rattle.unended_laws.proofs.Cores.{core-found, cores-joined, cores-replaced, cores-without}
+pub use Rattle.unended_laws.proofs.Turning.{number-held, number-may, number-sound, number-well}
+pub use Rattle.unended_laws.specs.Beside.{IsHeldBeside, IsSoundBeside}
+pub use Rattle.unended_laws.specs.Flights.{HeldJobs, SoundJobs}
+pub use Rattle.unended_laws.specs.Passages.{IsListed}
+pub use Rattle.orch_core.proofs.WorldOpenings.Opened.{given-opened}
+pub use Rattle.orch_core.specs.WorldOpenings.Room.{room_for}

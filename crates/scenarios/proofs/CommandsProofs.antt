@@ -1,0 +1,3 @@
+-- What is passed on of commands: lemmas that are cited above.
+pub use Rattle.commands.proofs.Needed
+pub use Rattle.commands.proofs.Words
