@@ -1,15 +1,27 @@
 """Each operation of orch's jobs as statements that are sent, and the plans of its commands and recoveries written anew from what
 docs/COMMANDS.md says of them, not from the program: what the servers do by them is compared with what the program foretells."""
-import time
+from __future__ import annotations
 
-from binary_log import groups_of
-from client import Coord, Down, Servers, address
+import time
+from collections.abc import Callable, Sequence
+from typing import Any
+
+from orch_tools.binary_log import groups_of
+from orch_tools.client import Client, Coord, Down, Seen, Servers, address, pick
+from orch_tools.plan import for_server
 
 RULES = ["prefer", "neutral", "prefer_not", "must_not"]
 
 
+Bridges = dict[str, list[tuple[Coord, str, Coord]]]
+Lost = dict[str, str]
+Spot = tuple[Any, ...]
+
+
 class Failed(Exception):
-    def __init__(self, cause):
+    """A job fails with this cause."""
+
+    def __init__(self, cause: str) -> None:
         super().__init__(cause)
         self.cause = cause
 
@@ -18,23 +30,32 @@ class Job:
     """`bridges` are kept pairs of own end, source and executed coordinate. `places` has, where a dead server's log is known, of each of its files
     the ends of its transactions: events that are no transaction take no room by it."""
 
-    def __init__(self, client, aliases, login, wait=400):
-        self.servers, self.login, self.wait = Servers(client, aliases), login, wait
-        self.seen, self.hands, self.lines, self.remarks, self.sent = {}, set(), [], [], []
-        self.before_operation, self.rules, self.places = None, {}, None
+    def __init__(self, client: Client, aliases: dict[str, str], login: tuple[str, str], wait: int = 400, more: str = "") -> None:
+        self.servers, self.login, self.wait, self.more = Servers(client, aliases), login, wait, more
+        self.seen: dict[str, Seen] = {}
+        self.hands: set[str] = set()
+        self.lines: list[str] = []
+        self.remarks: list[str] = []
+        self.sent: list[tuple[str | None, str]] = []
+        self.before_operation: Callable[[str], None] | None = None
+        self.rules: dict[str, str] = {}
+        self.places: dict[int, list[int]] | None = None
 
-    def send(self, name, statement):
+    def send(self, name: str, statement: str) -> list[dict[str, str]]:
+        """A statement of MySQL 8, in the words of the server."""
         self.sent.append((name, statement))
         try:
-            return self.servers.ask(name, statement)
+            return self.servers.ask(name, for_server(self.servers.kind(name), statement))
         except Down:
             raise Failed("Unreachable %s" % name) from None
 
-    def begin(self, operation):
+    def begin(self, operation: str) -> None:
+        """What a story does before an operation."""
         if self.before_operation:
             self.before_operation(operation)
 
-    def look(self, name):
+    def look(self, name: str) -> Seen:
+        """The status of a server, which must be reached."""
         try:
             return self.servers.look(name)
         except Down:
@@ -42,35 +63,41 @@ class Job:
 
     # ---- operations
 
-    def status(self, name, source=None):
+    def status(self, name: str, source: str | None = None) -> Seen:
+        """Notes a status; the server must be below that source."""
         self.begin("Status")
         seen = self.seen[name] = self.look(name)
         if source is not None and (seen.source != source or seen.detached):
             raise Failed("Moved %s %s" % (name, seen.source or "none"))
         return seen
 
-    def stop(self, name):
+    def stop(self, name: str) -> None:
+        """Both threads off."""
         self.begin("Stop")
-        self.send(name, "STOP SLAVE")
+        self.send(name, "STOP REPLICA")
         self.hands.add(name)
 
-    def stop_receiver(self, name):
+    def stop_receiver(self, name: str) -> None:
+        """The receiver off."""
         self.begin("StopReceiver")
-        self.send(name, "STOP SLAVE IO_THREAD")
+        self.send(name, "STOP REPLICA IO_THREAD")
         self.hands.add(name)
 
-    def start(self, name):
+    def start(self, name: str) -> None:
+        """Both threads on, where it has a source."""
         self.begin("Start")
         if self.look(name).source:
-            self.send(name, "START SLAVE")
+            self.send(name, "START REPLICA")
         self.hands.discard(name)
 
-    def until(self, name, aim):
+    def until(self, name: str, aim: Coord) -> None:
+        """It goes on up to a coordinate of its source."""
         self.begin("Until")
         if self.seen[name].exec < aim:
-            self.send(name, "START SLAVE UNTIL MASTER_LOG_FILE='%s', MASTER_LOG_POS=%d" % (aim.file, aim.position))
+            self.send(name, "START REPLICA UNTIL SOURCE_LOG_FILE='%s', SOURCE_LOG_POS=%d" % (aim.file, aim.position))
 
-    def wait_for(self, name, aim):
+    def wait_for(self, name: str, aim: Coord) -> None:
+        """Waits until it has executed up to there."""
         self.begin("Await")
         for _ in range(self.wait + 1):
             seen = self.seen[name] = self.look(name)
@@ -79,29 +106,33 @@ class Job:
             time.sleep(0.02)
         raise Failed("WaitSpent %s" % name)
 
-    def is_same_place(self, name, one, other):
+    def is_same_place(self, name: str, one: Coord, other: Coord) -> bool:
         """Whether no transaction of the server's log ends between two coordinates."""
         low, high = min(one, other), max(one, other)
         for log in self.send(name, "SHOW BINARY LOGS") if low < high else []:
             if low.number <= int(log["Log_name"].rsplit(".", 1)[1]) <= high.number:
                 events = self.send(name, "SHOW BINLOG EVENTS IN '%s'" % log["Log_name"])
-                if any(low < group.last <= high for group in groups_of(events, True)):
+                if any(low < group.last <= high for group in groups_of(events, self.servers.kind(name).maria)):
                     return False
         return True
 
-    def check_spot(self, name, live, expected):
+    def check_spot(self, name: str, live: Seen, expected: Spot) -> None:
+        """The server stands where it is expected, with both threads off."""
         spot = "%s %s" % (live.source, live.exec) if live.source else "nowhere"
         if not live.stopped:
             raise Failed("Running %s" % name)
         if expected[0] == "at" and (live.source, live.exec) != expected[1:]:
-            raise Failed("Interfered %s expected %s %s found %s" % (name, expected[1], expected[2], spot))
+            if live.source != expected[1] or not self.is_same_place(live.source, live.exec, expected[2]):
+                raise Failed("Interfered %s expected %s %s found %s" % (name, expected[1], expected[2], spot))
+            self.remarks.append("%s: it stands at %s, which is the place of %s" % (name, live.exec, expected[2]))
         if expected[0] == "end" and live.end != expected[1]:
             if not self.is_same_place(name, live.end, expected[1]):
                 raise Failed("Interfered %s expected end %s found end %s" % (name, expected[1], live.end))
             self.remarks.append("%s: its log's end went from %s to %s without a transaction" % (name, expected[1], live.end))
 
-    def check_loop(self, name, up):
-        seen = set()
+    def check_loop(self, name: str, up: str | None) -> None:
+        """The new source isn't below the server itself."""
+        seen: set[str] = set()
         while up and up not in seen:
             if up == name:
                 raise Failed("Loop %s" % name)
@@ -111,52 +142,60 @@ class Job:
             except Failed:
                 return
 
-    def attach(self, name, expected, to, at, login=False):
+    def attach(self, name: str, expected: Spot, to: str, at: Coord, login: bool = False) -> None:
         """`expected` is ("at", source, executed) or ("end", own end). The test and the change are two statements."""
         self.begin("Attach")
         live = self.look(name)
         self.check_spot(name, live, expected)
         self.check_loop(name, to)
-        who = ", MASTER_USER='%s', MASTER_PASSWORD='%s'" % self.login if login or not live.source else ""
+        who = ", SOURCE_USER='%s', SOURCE_PASSWORD='%s'" % self.login + self.more if login or not live.source else ""
         host, port = address(to)
-        self.send(name, "CHANGE MASTER TO MASTER_HOST='%s', MASTER_PORT=%d, MASTER_LOG_FILE='%s', MASTER_LOG_POS=%d, MASTER_USE_GTID=no%s"
+        self.send(name, "CHANGE REPLICATION SOURCE TO SOURCE_HOST='%s', SOURCE_PORT=%d, SOURCE_LOG_FILE='%s', SOURCE_LOG_POS=%d, SOURCE_AUTO_POSITION=0%s"
                   % (host, port, at.file, at.position, who))
 
-    def up(self, r, x):
+    def up(self, r: str, x: str) -> None:
         """r, at the end of x's log, goes to x's source."""
         self.attach(r, ("at", x, self.seen[x].end), self.seen[x].source, self.seen[x].exec)
 
-    def down(self, r, d):
+    def down(self, r: str, d: str) -> None:
         """r, which stands with d, goes below d."""
         self.attach(r, ("at", self.seen[d].source, self.seen[d].exec), d, self.seen[d].end)
 
-    def about(self, s, x, seen=None):
+    def about(self, s: str, x: str, seen: Seen | None = None) -> None:
         """s, the source of x, goes below x."""
         seen = seen or self.seen[x]
         self.attach(s, ("end", seen.exec), x, seen.end)
 
-    def same(self, r):
+    def same(self, r: str) -> None:
+        """r goes on where it stands."""
         self.attach(r, ("at", self.seen[r].source, self.seen[r].exec), self.seen[r].source, self.seen[r].exec)
 
-    def reset(self, name):
+    def reset(self, name: str) -> None:
+        """It has no source any more."""
         self.begin("Reset")
-        self.send(name, "STOP SLAVE")
-        self.send(name, "RESET SLAVE ALL")
+        self.send(name, "STOP REPLICA")
+        self.send(name, "RESET REPLICA ALL")
 
-    def detach(self, name):
+    def detach(self, name: str) -> None:
+        """Two slashes before its source's host. One that goes by auto position keeps that, and any other its coordinate."""
         self.begin("Detach")
-        self.send(name, "STOP SLAVE")
+        self.send(name, "STOP REPLICA")
         seen = self.look(name)
         if seen.source and not seen.detached:
-            host, port = seen.row["Master_Host"], seen.row["Master_Port"]
-            self.send(name, "CHANGE MASTER TO MASTER_HOST='//%s', MASTER_PORT=%s, MASTER_LOG_FILE='%s', MASTER_LOG_POS=%d, MASTER_USE_GTID=no"
-                      % (host, port, seen.exec.file, seen.exec.position))
+            host, port = pick(seen.row, "Master_Host", "Source_Host"), pick(seen.row, "Master_Port", "Source_Port")
+            at = "" if seen.row.get("Auto_Position") == "1" else ", SOURCE_LOG_FILE='%s', SOURCE_LOG_POS=%d, SOURCE_AUTO_POSITION=0" % (
+                seen.exec.file, seen.exec.position)
+            self.send(name, "CHANGE REPLICATION SOURCE TO SOURCE_HOST='//%s', SOURCE_PORT=%s%s" % (host, port, at))
 
-    def set_read_only(self, name, on):
+    def set_read_only(self, name: str, on: bool) -> None:
+        """Whether it refuses clients' writes."""
         self.begin("ReadOnly")
+        if not self.servers.kind(name).maria:
+            self.send(name, "SET GLOBAL super_read_only=%s" % ("ON" if on else "OFF"))
         self.send(name, "SET GLOBAL read_only=%s" % ("ON" if on else "OFF"))
 
-    def passing(self, operation, *words):
+    def passing(self, operation: Callable[..., None], *words: Any) -> None:
+        """An operation whose failure changes nothing."""
         try:
             operation(*words)
         except Failed:
@@ -164,11 +203,13 @@ class Job:
 
     # ---- plans of moves
 
-    def level(self, r, aim):
+    def level(self, r: str, aim: Coord) -> None:
+        """r comes to that coordinate."""
         self.until(r, aim)
         self.wait_for(r, aim)
 
-    def move_up(self, i, x, g):
+    def move_up(self, i: str, x: str, g: str) -> None:
+        """i goes from x to x's source g."""
         self.stop(i)
         self.stop(x)
         self.status(x, g)
@@ -181,7 +222,8 @@ class Job:
         self.status(i)
         self.lines.append("%s<%s" % (i, g))
 
-    def move_below(self, i, d, s):
+    def move_below(self, i: str, d: str, s: str) -> None:
+        """i goes below its sibling d; s is the source of both."""
         self.stop(i)
         self.stop(d)
         self.status(i, s)
@@ -197,7 +239,8 @@ class Job:
         self.status(i)
         self.lines.append("%s<%s" % (i, d))
 
-    def take_master(self, i, x, g):
+    def take_master(self, i: str, x: str, g: str) -> None:
+        """i and its source x change places below g."""
         self.stop(i)
         self.stop(x)
         self.status(x, g)
@@ -213,7 +256,8 @@ class Job:
         self.status(x)
         self.lines += ["%s<%s" % (i, g), "%s<%s" % (x, i)]
 
-    def repoint(self, i, x):
+    def repoint(self, i: str, x: str) -> None:
+        """i goes on below its source x."""
         self.stop(i)
         self.status(i, x)
         self.same(i)
@@ -221,7 +265,7 @@ class Job:
         self.status(i)
         self.lines.append("%s<%s" % (i, x))
 
-    def run(self, plan, *words):
+    def run(self, plan: Callable[..., None], *words: Any) -> tuple[str, Any]:
         """Done lines, or the cause: a plan that fails starts the servers that it has stopped."""
         try:
             plan(*words)
@@ -233,7 +277,8 @@ class Job:
 
     # ---- plans of recoveries
 
-    def drain(self, r, failed, lost):
+    def drain(self, r: str, failed: str, lost: Lost) -> Seen | None:
+        """r executes what it has received, and stops."""
         try:
             self.stop_receiver(r)
             for _ in range(self.wait):
@@ -251,30 +296,32 @@ class Job:
             return None
         return seen
 
-    def key(self, at):
+    def key(self, at: Coord) -> Coord:
         """A coordinate by the transactions that end at or before it."""
         if self.places is None:
             return at
         return Coord(at.number, sum(1 for end in self.places.get(at.number, []) if end <= at.position))
 
-    def rule(self, name):
+    def rule(self, name: str) -> int:
+        """The rank of a server's promotion rule."""
         return RULES.index(self.rules.get(name, "neutral"))
 
-    def chosen(self, drained):
+    def chosen(self, drained: dict[str, Seen]) -> str:
+        """The one that has executed most, then by rule and name."""
         fit = [r for r in drained if drained[r].end and self.rule(r) < 3]
         if not fit:
             for r in drained:
                 self.passing(self.start, r)
             raise Failed("NoCandidate")
 
-        def rank(key):
+        def rank(key: Callable[[Coord], Coord]) -> str:
             return min(fit, key=lambda r: (-key(drained[r].exec).number, -key(drained[r].exec).position, self.rule(r), r))
         found, raw = rank(self.key), rank(lambda at: at)
         if found != raw:
             self.remarks.append("by coordinates as they are %s would be chosen; it stands at the place of %s" % (raw, found))
         return found
 
-    def place_below(self, failed, p, seen, bridges):
+    def place_below(self, failed: str, p: str, seen: Seen, bridges: Bridges) -> Coord | None:
         """Where a drained replica goes on below the chosen one: at its end, by a kept bridge, or nowhere."""
         own, most = self.key(seen.exec), self.key(self.seen[p].exec)
         if own == most:
@@ -283,9 +330,10 @@ class Job:
             return None
         return next((end for end, source, at in reversed(bridges.get(p, [])) if source == failed and self.key(at) == own), None)
 
-    def gather(self, failed, replicas, bridges, lost):
+    def gather(self, failed: str, replicas: Sequence[str], bridges: Bridges, lost: Lost) -> tuple[str, list[str], dict[str, Seen]]:
         """Drain all, choose one, attach the others."""
-        drained, followers = {}, []
+        drained: dict[str, Seen] = {}
+        followers: list[str] = []
         for r in sorted(replicas):
             seen = self.drain(r, failed, lost)
             if seen:
@@ -307,8 +355,9 @@ class Job:
                 lost[r] = "unreachable" if reason.cause.startswith("Unreach") else "moved"
         return p, followers, drained
 
-    def regroup(self, failed, replicas, bridges):
-        lost = {}
+    def regroup(self, failed: str, replicas: Sequence[str], bridges: Bridges) -> None:
+        """The plan of regroup-replicas."""
+        lost: Lost = {}
         p, followers, _ = self.gather(failed, replicas, bridges, lost)
         for r in sorted(lost):
             self.passing(self.start, r)
@@ -316,16 +365,17 @@ class Job:
         self.lines.append(p)
         self.lines += ["%s<%s" % (r, p) if r in followers else "%s %s" % (r, lost[r]) for r in sorted(replicas) if r != p]
 
-    def check_dead(self, failed):
+    def check_dead(self, failed: str) -> None:
+        """The failed server isn't reached."""
         try:
             self.status(failed)
         except Failed:
             return
         raise Failed("Reachable %s" % failed)
 
-    def expel(self, lost):
+    def expel(self, lost: Lost) -> set[str]:
         """Detaches those that stand ahead or behind, and starts those that stand elsewhere."""
-        gone = set()
+        gone: set[str] = set()
         for r in sorted(lost):
             if lost[r].startswith(("ahead", "behind")):
                 self.passing(self.detach, r)
@@ -334,7 +384,7 @@ class Job:
                 self.passing(self.start, r)
         return gone
 
-    def swap(self, p, q):
+    def swap(self, p: str, q: str) -> bool:
         """Whether q, which follows p, has taken its place."""
         try:
             self.status(p)
@@ -355,8 +405,9 @@ class Job:
             self.start(q)
             return False
 
-    def recover_master(self, failed, replicas, bridges):
-        lost = {}
+    def recover_master(self, failed: str, replicas: Sequence[str], bridges: Bridges) -> None:
+        """The plan of recover, of a master."""
+        lost: Lost = {}
         self.check_dead(failed)
         p, followers, drained = self.gather(failed, replicas, bridges, lost)
         gone = self.expel(lost)
@@ -371,8 +422,10 @@ class Job:
         self.lines += ["%s<%s" % pair for pair in sorted(pairs)]
         self.lines += ["%s %s%s" % (r, lost[r], " detached" if r in gone else "") for r in sorted(lost)]
 
-    def recover_intermediate(self, failed, source, replicas, bridges):
-        lost, followers = {}, []
+    def recover_intermediate(self, failed: str, source: str, replicas: Sequence[str], bridges: Bridges) -> None:
+        """The plan of recover, of an intermediate master."""
+        lost: Lost = {}
+        followers: list[str] = []
         self.check_dead(failed)
         self.status(source)
         drained = {r: self.drain(r, failed, lost) for r in sorted(replicas)}
@@ -392,7 +445,7 @@ class Job:
 
     # ---- a takeover
 
-    def trail(self, r, m, d, lost, followers):
+    def trail(self, r: str, m: str, d: str, lost: Lost, followers: list[str]) -> None:
         """r comes to where d has stopped, and goes below it."""
         at = self.seen[d].exec
         try:
@@ -411,7 +464,8 @@ class Job:
             lost[r] = "unreachable" if reason.cause.startswith("Unreach") else "behind"
             self.passing(self.start, r)
 
-    def gather_takeover(self, m, d, replicas, lost, followers):
+    def gather_takeover(self, m: str, d: str, replicas: Sequence[str], lost: Lost, followers: list[str]) -> None:
+        """All come to where m has stopped, and go below d."""
         self.status(m)
         self.status(d, m)
         self.level(d, self.seen[m].end)
@@ -422,8 +476,10 @@ class Job:
                 self.trail(r, m, d, lost, followers)
         self.reset(d)
 
-    def takeover(self, m, d, replicas):
-        lost, followers = {}, []
+    def takeover(self, m: str, d: str, replicas: Sequence[str]) -> None:
+        """The plan of graceful-master-takeover."""
+        lost: Lost = {}
+        followers: list[str] = []
         if self.status(m).source:
             raise Failed("Moved %s" % m)
         self.set_read_only(m, True)

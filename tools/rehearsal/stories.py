@@ -1,23 +1,32 @@
 """The stories: each makes a topology, reads it, and names a command and its plan by hand."""
+from __future__ import annotations
+
 import time
+from collections.abc import Callable
+from typing import Any
 
-from rehearsal.by_hand import Job
-from rehearsal.story import Differs, Writes
+from orch_tools.client import Coord
+from rehearsal.by_hand import Job, Spot
+from rehearsal.story import Differs, Story, Writes
 
-STORIES = []
+# A command with its instance and destination, or none; and a plan by hand, the name of a refusal, or nothing for a printed plan.
+Told = tuple[tuple[str, str, str | None] | None, Any]
+Made = Callable[[Story], Told]
+STORIES: list[Made] = []
 
 
-def story(made):
+def story(made: Made) -> Made:
+    """A story of the list."""
     STORIES.append(made)
     return made
 
 
-def moved(command, i, d=None):
+def moved(command: str, i: str, d: str | None = None) -> Told:
     """A story that ends in a command with a straight plan."""
     return (command, i, d), None
 
 
-def chain(s):
+def chain(s: Story) -> None:
     """a over b over c; b's log is divided otherwise than a's."""
     s.root("a")
     s.below("b", "a")
@@ -29,7 +38,7 @@ def chain(s):
     s.settle("b", "c")
 
 
-def siblings(s, behind, ahead):
+def siblings(s: Story, behind: str, ahead: str) -> None:
     """b and c below a: one lags by three transactions, the other has all."""
     s.root("a")
     s.below("b", "a")
@@ -49,7 +58,7 @@ def siblings(s, behind, ahead):
 
 
 @story
-def move_up(s):
+def move_up(s: Story) -> Told:
     """c, which lags below b, goes up to a"""
     chain(s)
     s.flush("a")
@@ -63,7 +72,7 @@ def move_up(s):
 
 
 @story
-def move_up_stopped_relay(s):
+def move_up_stopped_relay(s: Story) -> Told:
     """b itself lags behind a with its applier off; c goes up to a at what b has executed"""
     chain(s)
     s.write("a", 2)
@@ -76,7 +85,7 @@ def move_up_stopped_relay(s):
 
 
 @story
-def move_up_replicas(s):
+def move_up_replicas(s: Story) -> Told:
     """c and d below b go up one after another; d lags"""
     chain(s)
     s.below("d", "b")
@@ -92,7 +101,7 @@ def move_up_replicas(s):
 
 
 @story
-def move_below_behind(s):
+def move_below_behind(s: Story) -> Told:
     """c, which lags three transactions behind its sibling b, goes below b"""
     siblings(s, "c", "b")
     s.read()
@@ -100,7 +109,7 @@ def move_below_behind(s):
 
 
 @story
-def move_below_ahead(s):
+def move_below_ahead(s: Story) -> Told:
     """c goes below its sibling b, which lags three transactions behind c"""
     siblings(s, "b", "c")
     s.read()
@@ -108,7 +117,7 @@ def move_below_ahead(s):
 
 
 @story
-def move_below_stuck(s):
+def move_below_stuck(s: Story) -> Told:
     """the sibling's applier is on but stands still when the move begins, and goes on a second later"""
     s.root("a")
     s.below("b", "a")
@@ -124,7 +133,7 @@ def move_below_stuck(s):
 
 
 @story
-def take_siblings(s):
+def take_siblings(s: Story) -> Told:
     """c and d, one behind and one level, go below b"""
     siblings(s, "c", "b")
     s.below("d", "a")
@@ -134,7 +143,7 @@ def take_siblings(s):
 
 
 @story
-def take_master(s):
+def take_master(s: Story) -> Told:
     """c and its source b change places; c lags"""
     chain(s)
     s.only("c", 4)
@@ -145,7 +154,7 @@ def take_master(s):
 
 
 @story
-def take_master_after_flush(s):
+def take_master_after_flush(s: Story) -> Told:
     """as before, and b's log has just been rotated, so that its end stands behind a file's head"""
     chain(s)
     s.write("a", 2)
@@ -158,7 +167,7 @@ def take_master_after_flush(s):
 
 
 @story
-def repoint(s):
+def repoint(s: Story) -> Told:
     """c lags below a, two files back, and is repointed to a"""
     s.root("a")
     s.below("c", "a")
@@ -175,7 +184,7 @@ def repoint(s):
 
 
 @story
-def relocate(s):
+def relocate(s: Story) -> Told:
     """e, three levels down (a, b, c, e), goes below d, which stands below a: twice up, then below"""
     chain(s)
     s.below("d", "a")
@@ -186,11 +195,12 @@ def relocate(s):
     s.write("a", 2)
     s.settle("b", "c", "e")
     s.read()
+    s.waits = 20 if s.farm.make.gtid else None
     return moved("relocate", "e", "d")
 
 
 @story
-def relocate_replicas(s):
+def relocate_replicas(s: Story) -> Told:
     """d and e, replicas of c, go below b, c's source; d lags"""
     chain(s)
     s.below("d", "c")
@@ -205,7 +215,7 @@ def relocate_replicas(s):
 
 
 @story
-def purged_logs(s):
+def purged_logs(s: Story) -> Told:
     """a's and b's oldest files are purged: the scenario begins at the first transaction that all logs have"""
     chain(s)
     s.flush("a")
@@ -233,7 +243,7 @@ def purged_logs(s):
 
 
 @story
-def stop_and_start(s):
+def stop_and_start(s: Story) -> Told:
     """c, which runs, is started again by restart-replica"""
     chain(s)
     s.read()
@@ -241,7 +251,7 @@ def stop_and_start(s):
 
 
 @story
-def stopped(s):
+def stopped(s: Story) -> Told:
     """c is stopped, and has all that b has"""
     chain(s)
     s.read()
@@ -249,10 +259,10 @@ def stopped(s):
 
 
 @story
-def started(s):
+def started(s: Story) -> Told:
     """c, which was stopped while its source went on, runs again"""
     chain(s)
-    s.farm.ask(s.n("c"), "STOP SLAVE")
+    s.farm.tell(s.n("c"), "STOP REPLICA")
     s.write("a", 2)
     s.settle("b")
     s.read()
@@ -260,7 +270,7 @@ def started(s):
 
 
 @story
-def detached(s):
+def detached(s: Story) -> Told:
     """c is detached from b, which it keeps"""
     chain(s)
     s.read()
@@ -268,7 +278,7 @@ def detached(s):
 
 
 @story
-def attached_again(s):
+def attached_again(s: Story) -> Told:
     """c, which was detached while b went on, is attached to it again"""
     chain(s)
     s.detach("c")
@@ -279,7 +289,7 @@ def attached_again(s):
 
 
 @story
-def reset(s):
+def reset(s: Story) -> Told:
     """c has no source any more"""
     chain(s)
     s.read()
@@ -287,7 +297,7 @@ def reset(s):
 
 
 @story
-def writable(s):
+def writable(s: Story) -> Told:
     """c takes clients' writes"""
     chain(s)
     s.read()
@@ -295,7 +305,7 @@ def writable(s):
 
 
 @story
-def read_only(s):
+def read_only(s: Story) -> Told:
     """c, which took clients' writes, refuses them"""
     chain(s)
     s.farm.ask(s.n("c"), "SET GLOBAL read_only=OFF")
@@ -306,7 +316,7 @@ def read_only(s):
 # ---- what is read
 
 
-def five(s):
+def five(s: Story) -> None:
     """a over b and d, b over c and e."""
     s.root("a")
     for r, x in (("b", "a"), ("c", "b"), ("d", "a"), ("e", "b")):
@@ -320,7 +330,7 @@ def five(s):
 
 
 @story
-def imported(s):
+def imported(s: Story) -> Told:
     """five servers are read, of which one lags, one is detached and one takes writes: the tables tell of each what SHOW tells"""
     five(s)
     s.only("c", 4)
@@ -333,7 +343,7 @@ def imported(s):
 
 
 @story
-def imported_loaded(s):
+def imported_loaded(s: Story) -> Told:
     """five servers are read while a client writes to the root all the time"""
     five(s)
     s.writer = Writes(s, "a")
@@ -347,7 +357,7 @@ def imported_loaded(s):
 
 
 @story
-def refused_not_sibling(s):
+def refused_not_sibling(s: Story) -> Told:
     """d, below b, can't go below c, which is below a"""
     s.root("a")
     s.below("b", "a")
@@ -360,7 +370,7 @@ def refused_not_sibling(s):
 
 
 @story
-def refused_below(s):
+def refused_below(s: Story) -> Told:
     """b can't go below c, its own replica"""
     chain(s)
     s.read()
@@ -368,7 +378,7 @@ def refused_below(s):
 
 
 @story
-def refused_source_is_root(s):
+def refused_source_is_root(s: Story) -> Told:
     """b, right below the root, can't go up"""
     chain(s)
     s.read()
@@ -376,14 +386,14 @@ def refused_source_is_root(s):
 
 
 @story
-def refused_same_id(s):
+def refused_same_id(s: Story) -> Told:
     """c and b have one server id: c can't go below b"""
     s.root("a")
     s.farm.ask(s.n("c"), "SET GLOBAL server_id=%d" % s.farm.ids[s.n("b")])
     s.below("b", "a")
     s.write("a", 3)
     s.settle("b")
-    s.farm.ask(s.n("b"), "STOP SLAVE IO_THREAD")
+    s.farm.tell(s.n("b"), "STOP REPLICA IO_THREAD")
     s.below("c", "a")
     s.settle("c")
     s.read()
@@ -391,7 +401,7 @@ def refused_same_id(s):
 
 
 @story
-def refused_takeover(s):
+def refused_takeover(s: Story) -> Told:
     """c isn't a replica of a itself: no takeover"""
     chain(s)
     s.read()
@@ -401,7 +411,7 @@ def refused_takeover(s):
 # ---- recoveries
 
 
-def below_dead(s):
+def below_dead(s: Story) -> None:
     """a over b, c, d, e, whose links are cut one after another: b has executed 5 when it is read and 6 later, c 5, d 4, e 6"""
     s.root("a")
     for letter in "bcde":
@@ -418,7 +428,7 @@ def below_dead(s):
 
 
 @story
-def regroup(s):
+def regroup(s: Story) -> Told:
     """the master dies with unequal replicas: b, read before and after a transaction, takes c by a kept bridge; d is behind, e level"""
     below_dead(s)
     s.rules[s.n("e")] = "must_not"
@@ -435,7 +445,7 @@ def regroup(s):
 
 
 @story
-def recover_swap(s):
+def recover_swap(s: Story) -> Told:
     """the master dies: c has executed most, d is preferred and takes its place once it stands level"""
     s.root("a")
     for letter in "bcd":
@@ -457,7 +467,7 @@ def recover_swap(s):
 
 
 @story
-def recover_ahead(s):
+def recover_ahead(s: Story) -> Told:
     """the master dies: e has executed most but must not be promoted: it is ahead and detached"""
     below_dead(s)
     s.rules[s.n("e")] = "must_not"
@@ -477,8 +487,8 @@ def recover_ahead(s):
 
 
 @story
-def recover_read_after_death(s):
-    """the topology is read when the master is dead already: its log is what its replicas tell, relay logs too"""
+def recover_read_after_death(s: Story) -> Told:
+    """the topology is read when the master is dead already: its log is what its replicas tell, relay logs too; MySQL without GTIDs can't tell it"""
     s.root("a")
     for letter in "bcd":
         s.below(letter, "a", proxy=True)
@@ -492,16 +502,18 @@ def recover_read_after_death(s):
     s.applier_off("b")
     s.write("a", 2)
     time.sleep(0.5)
-    s.farm.ask(s.n("b"), "START SLAVE UNTIL MASTER_LOG_FILE='mysql-bin.000001', MASTER_LOG_POS=4")
+    s.farm.tell(s.n("b"), "START REPLICA UNTIL SOURCE_LOG_FILE='mysql-bin.000001', SOURCE_LOG_POS=4")
     time.sleep(0.5)
     s.fail("a")
     s.join("b", "c", "d")
+    if s.farm.make.kind == "mysql" and not s.farm.make.gtid:
+        s.no_scenario = "has no GTIDs in its log"
     s.read()
     return ("recover", "a", None), lambda j: (j.recover_master, s.n("a"), s.names("bcd"), s.bridges)
 
 
 @story
-def recover_drain(s):
+def recover_drain(s: Story) -> Told:
     """the master dies: b has fetched most but its applier stands still for a while; it is drained, then promoted"""
     s.root("a")
     for letter in "bc":
@@ -521,7 +533,7 @@ def recover_drain(s):
 
 
 @story
-def recover_at_file_end(s):
+def recover_at_file_end(s: Story) -> Told:
     """the master's last act is a rotation, which b has passed and c hasn't: both have executed all, and yet c is behind on both sides"""
     s.root("a")
     for letter in "bc":
@@ -540,7 +552,7 @@ def recover_at_file_end(s):
 
 
 @story
-def recover_intermediate(s):
+def recover_intermediate(s: Story) -> Told:
     """the intermediate b dies: c stands where b was read and goes to a; d was never seen at that place and is behind"""
     s.root("a")
     s.below("b", "a", proxy=True)
@@ -569,7 +581,7 @@ def recover_intermediate(s):
 
 
 @story
-def takeover(s):
+def takeover(s: Story) -> Told:
     """b takes a's place; its sibling c lags and goes along; a comes below b with its threads off"""
     siblings(s, "c", "b")
     s.read()
@@ -577,15 +589,15 @@ def takeover(s):
 
 
 @story
-def takeover_and_back(s):
+def takeover_and_back(s: Story) -> Told:
     """after a takeover b writes, and a, started, has it all; then a takes its place again"""
     siblings(s, "c", "b")
-    s.farm.ask(s.n("c"), "START SLAVE")
+    s.farm.tell(s.n("c"), "START REPLICA")
     s.settle("c")
     job = s.job()
     if job.run(job.takeover, s.n("a"), s.n("b"), s.names("bc"))[0] != "done":
         raise Differs("the takeover before it failed")
-    s.farm.ask(s.n("a"), "START SLAVE")
+    s.farm.tell(s.n("a"), "START REPLICA")
     s.write("b", 3)
     s.settle("a", "c")
     s.read()
@@ -598,7 +610,8 @@ RESTARTED = {"c files": "a restart begins a new file of the own log; the model h
              "c ro": "SET GLOBAL read_only doesn't outlive a restart; in the model it does"}
 
 
-def restarted(s, at):
+def restarted(s: Story, at: int) -> Told:
+    """c goes up to a, and restarts before the turn of this number."""
     chain(s)
     s.write("a", 2)
     s.settle("b", "c")
@@ -608,13 +621,13 @@ def restarted(s, at):
 
 
 @story
-def restart_in_mid_move(s):
+def restart_in_mid_move(s: Story) -> Told:
     """c restarts just before it would be attached: by itself its threads run again, and the move fails on both sides"""
     return restarted(s, 8)
 
 
 @story
-def restart_before_stop(s):
+def restart_before_stop(s: Story) -> Told:
     """c restarts before its second stop: harmless on both sides"""
     return restarted(s, 7)
 
@@ -622,7 +635,8 @@ def restart_before_stop(s):
 # ---- under load
 
 
-def loaded(s, *below):
+def loaded(s: Story, *below: tuple[str, str]) -> None:
+    """These replicas, while a client writes to a all the time."""
     s.root("a")
     for r, x in below:
         s.below(r, x)
@@ -636,35 +650,35 @@ def loaded(s, *below):
 
 
 @story
-def move_up_loaded(s):
+def move_up_loaded(s: Story) -> Told:
     """move-up while a client writes to the root all the time"""
     loaded(s, ("b", "a"), ("c", "b"))
     return moved("move-up", "c")
 
 
 @story
-def move_below_loaded(s):
+def move_below_loaded(s: Story) -> Told:
     """move-below while a client writes to the root all the time"""
     loaded(s, ("b", "a"), ("c", "a"))
     return moved("move-below", "c", "b")
 
 
 @story
-def take_master_loaded(s):
+def take_master_loaded(s: Story) -> Told:
     """take-master while a client writes to the root all the time"""
     loaded(s, ("b", "a"), ("c", "b"))
     return moved("take-master", "c")
 
 
 @story
-def takeover_loaded(s):
+def takeover_loaded(s: Story) -> Told:
     """a takeover while a client writes to the master: each acknowledged row is on all servers once"""
     loaded(s, ("b", "a"), ("c", "a"))
     return moved("graceful-master-takeover", "a", "b")
 
 
 @story
-def recover_loaded(s):
+def recover_loaded(s: Story) -> Told:
     """the master is killed while a client writes: each replica has a beginning, each row once"""
     loaded(s, ("b", "a"), ("c", "a"))
     s.poll()
@@ -679,10 +693,11 @@ def recover_loaded(s):
 class NoLevel(Job):
     """Nobody is brought level, and what is attached isn't tested."""
 
-    def level(self, r, aim):
-        pass
+    def level(self, r: str, aim: Coord) -> None:
+        """Nothing is waited for."""
 
-    def attach(self, name, expected, to, at, login=False):
+    def attach(self, name: str, expected: Spot, to: str, at: Coord, login: bool = False) -> None:
+        """It is attached wherever it stands."""
         live = self.look(name)
         expected = ("at", live.source, live.exec) if expected[0] == "at" else ("end", live.end)
         Job.attach(self, name, expected, to, at, login)
@@ -691,7 +706,8 @@ class NoLevel(Job):
 class TwoReadings(Job):
     """The source's end from one status, and its executed coordinate from an earlier one, taken while it ran."""
 
-    def move_up(self, i, x, g):
+    def move_up(self, i: str, x: str, g: str) -> None:
+        """x's coordinate is taken while it runs, and its end later."""
         earlier = self.status(x, g)
         time.sleep(0.3)
         self.stop(i)
@@ -710,12 +726,15 @@ class TwoReadings(Job):
 class StaysWritable(Job):
     """A takeover whose master goes on taking writes."""
 
-    def set_read_only(self, name, on):
+    def set_read_only(self, name: str, on: bool) -> None:
+        """Only back."""
         if not on:
             Job.set_read_only(self, name, on)
 
-    def is_same_place(self, name, one, other):
+    def is_same_place(self, name: str, one: Coord, other: Coord) -> bool:
+        """Whatever comes between isn't looked at."""
         return True
 
 
-WRONG = [(take_master, NoLevel), (move_below_ahead, NoLevel), (move_up_loaded, TwoReadings), (takeover_loaded, StaysWritable)]
+# A story, a wrong plan of it, and whether that is harmless where what has been executed is passed over by its GTID.
+WRONG = [(take_master, NoLevel, False), (move_below_ahead, NoLevel, True), (move_up_loaded, TwoReadings, True), (takeover_loaded, StaysWritable, False)]

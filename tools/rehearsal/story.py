@@ -1,18 +1,31 @@
 """One story: what is done to the servers, the same as turns of a scenario, the program's answer, and the comparison."""
+from __future__ import annotations
+
 import json
 import subprocess
 import threading
 import time
+from collections.abc import Callable, Sequence
+from typing import Any
 
-from client import Down, Servers
-from read_topology import Writer
-from reading import Server
-from rehearsal.by_hand import Job
-from rehearsal.farm import REPLICATION, Farm, Proxy, free_ports
-from topology import ModelLog, Topology, model_coord, model_text
+from orch_tools.client import Down, Seen, Servers
+from orch_tools.exact_scenario import Writer
+from orch_tools.reading import Server
+from orch_tools.topology import Topology
+from rehearsal.by_gtids import GtidJob
+from rehearsal.by_hand import Bridges, Job
+from rehearsal.compare import Exactly, Loosely
+from rehearsal.farm import Farm, Proxy, free_ports
+from rehearsal.kinds import REPLICATION
 
 LOGIN = (REPLICATION, REPLICATION)
 TABLE = "CREATE TABLE d.t (id BIGINT NOT NULL AUTO_INCREMENT, o INT, s INT, part INT, pad VARCHAR(4000), KEY(id)) ENGINE=InnoDB"
+
+
+Turn = list[Any]
+Answer = tuple[str | None, Any]
+Tables = dict[str, str]
+Check = Exactly | Loosely
 
 
 class Differs(Exception):
@@ -20,46 +33,70 @@ class Differs(Exception):
 
 
 class Story:
-    """Servers are named by letters. Until `read` a story is made; from then on it is noted as turns, too."""
-    interrupt, loose, known = None, False, {}
+    """Servers are named by letters. Until `read` a story is made; from then on it is noted as turns, too. `no_scenario` are words of the reason for
+    which the exact import refuses what a story has made."""
+    before: Topology
+    scenario: dict[str, Any]
+    interrupt: tuple[str, int] | None = None
+    loose = False
+    known: dict[str, str] = {}
+    errants = 0
+    waits: int | None = None
+    no_scenario = ""
 
-    def __init__(self, farm, program):
+    def __init__(self, farm: Farm, program: str) -> None:
         self.farm, self.program = farm, program
-        self.servers_of_proxies, self.proxies, self.used = {}, {}, []
-        self.transactions, self.numbers, self.more_sizes, self.turns = [], {}, [], None
-        self.rules, self.bridges, self.down, self.last, self.offset = {}, {}, set(), {}, 0
-        self.before, self.scenario, self.writer = None, None, None
+        self.servers_of_proxies: dict[str, str] = {}
+        self.proxies: dict[str, Proxy] = {}
+        self.used: list[str] = []
+        self.transactions: list[tuple[int, int, int] | None] = []
+        self.numbers: dict[str, int] = {}
+        self.more_sizes: list[int] = []
+        self.turns: list[Turn] = []
+        self.noting = False
+        self.rules: dict[str, str] = {}
+        self.bridges: Bridges = {}
+        self.down: set[str] = set()
+        self.last: dict[str, Server] = {}
+        self.offset = 0
+        self.writer: Writes | None = None
         farm.fresh()
 
-    def letter(self, name):
+    def letter(self, name: str) -> str:
+        """The letter of a server."""
         return Farm.LETTERS[self.farm.names.index(name)]
 
-    def spell(self, text):
+    def spell(self, text: str) -> str:
+        """A text with letters in place of names."""
         for name in self.farm.names:
             text = text.replace(name, self.letter(name))
         return text
 
-    def n(self, letter):
+    def n(self, letter: str) -> str:
+        """The server of a letter, which is used from now on."""
         name = self.farm.names[Farm.LETTERS.index(letter)]
         if name not in self.used:
             self.used.append(name)
         return name
 
-    def names(self, letters):
+    def names(self, letters: Sequence[str]) -> list[str]:
+        """The servers of letters."""
         return [self.n(letter) for letter in letters]
 
-    def turn(self, *turn):
-        if self.turns is not None:
+    def turn(self, *turn: Any) -> None:
+        """Notes what is done as a turn of the scenario."""
+        if self.noting:
             self.turns.append(list(turn))
 
     # ---- making a topology
 
-    def root(self, a):
+    def root(self, a: str) -> None:
+        """A server without a source, with the table."""
         self.farm.ask(self.n(a), "CREATE DATABASE d")
         self.farm.ask(self.n(a), TABLE)
         self.transactions += [None, None]
 
-    def write(self, a, count=1, parts=1, pad=1):
+    def write(self, a: str, count: int = 1, parts: int = 1, pad: int = 1) -> None:
         """So many transactions of so many rows."""
         a = self.n(a)
         for _ in range(count):
@@ -69,15 +106,16 @@ class Story:
             if error:
                 raise Differs("a write to %s: error %d" % (self.letter(a), error))
             self.transactions.append((self.farm.ids[a], number, parts))
-            if self.turns is not None:
+            if self.noting:
                 self.turn("write", a, 200)
                 self.more_sizes.append(200)
 
-    def flush(self, a):
+    def flush(self, a: str) -> None:
+        """Its log goes on in a new file."""
         self.farm.ask(self.n(a), "FLUSH BINARY LOGS")
         self.turn("rotate", self.n(a))
 
-    def purge(self, a, first):
+    def purge(self, a: str, first: int) -> None:
         """Until it is so: a file that a replica reads, or that a checkpoint needs, stays."""
         for _ in range(100):
             self.farm.ask(self.n(a), "PURGE BINARY LOGS TO 'mysql-bin.%06d'" % first)
@@ -86,36 +124,45 @@ class Story:
             time.sleep(0.05)
         raise Differs("%s keeps its files" % a)
 
-    def below(self, r, s, proxy=False):
+    def below(self, r: str, s: str, proxy: bool = False, auto: bool = False) -> None:
+        """r replicates from s, from the beginning, by coordinates or by GTIDs; through a link that can be cut, if asked for."""
         r, s = self.n(r), self.n(s)
         port = int(s.rpartition(":")[2])
         if proxy:
             self.proxies[r] = Proxy(free_ports(1)[0], port)
             port = self.proxies[r].port
             self.servers_of_proxies["127.0.0.1:%d" % port] = s
-        self.farm.ask(r, "CHANGE MASTER TO MASTER_HOST='127.0.0.1', MASTER_PORT=%d, MASTER_USER='%s', MASTER_PASSWORD='%s', "
-                         "MASTER_LOG_FILE='mysql-bin.000001', MASTER_LOG_POS=4, MASTER_USE_GTID=no, MASTER_CONNECT_RETRY=1" % ((port,) + LOGIN))
+        make = self.farm.make
+        at = "SOURCE_AUTO_POSITION=1" if auto else "SOURCE_LOG_FILE='mysql-bin.000001', SOURCE_LOG_POS=4, SOURCE_AUTO_POSITION=0"
+        if make.by_gtids:
+            at = "MASTER_USE_GTID=slave_pos"
+        self.farm.tell(r, "CHANGE REPLICATION SOURCE TO SOURCE_HOST='127.0.0.1', SOURCE_PORT=%d, SOURCE_USER='%s', SOURCE_PASSWORD='%s', "
+                          "%s, SOURCE_CONNECT_RETRY=1%s" % ((port,) + LOGIN + (at, make.login_words)))
         self.farm.ask(r, "SET GLOBAL read_only=ON")
-        self.farm.ask(r, "START SLAVE")
+        self.farm.tell(r, "START REPLICA")
 
-    def state(self, name):
+    def state(self, name: str) -> Seen:
+        """A server's status now."""
         return Servers(self.farm.client, self.servers_of_proxies).look(name)
 
-    def reading(self, name):
+    def reading(self, name: str) -> Server:
+        """A server with its log, as it is read now."""
         return Server(name, self.farm.client, self.servers_of_proxies).read()
 
-    def wait_until(self, holds, what, seconds=20):
+    def wait_until(self, holds: Callable[[], bool], what: str, seconds: float = 30) -> None:
+        """Waits until something holds; Differs with these words if it doesn't come."""
         end = time.monotonic() + seconds
         while not holds():
             if time.monotonic() > end:
                 raise Differs(what)
             time.sleep(0.05)
 
-    def has_all(self, r):
+    def has_all(self, r: str) -> bool:
+        """Whether a replica has executed all that its source has."""
         seen = self.state(r)
         return seen.exec >= self.state(seen.source).end and seen.read == seen.exec
 
-    def settle(self, *letters):
+    def settle(self, *letters: str) -> None:
         """Until each has executed all that its source has."""
         for r in self.names(letters):
             self.wait_until(lambda: self.has_all(r), "%s does not catch up" % r)
@@ -124,42 +171,48 @@ class Story:
                 self.turn("fetch", self.n(letter))
                 self.turn("apply", self.n(letter))
 
-    def applier_off(self, r):
-        self.farm.ask(self.n(r), "STOP SLAVE SQL_THREAD")
+    def applier_off(self, r: str) -> None:
+        """Its applier stops; its receiver goes on."""
+        self.farm.tell(self.n(r), "STOP REPLICA SQL_THREAD")
 
-    def detach(self, r):
+    def detach(self, r: str) -> None:
         """r keeps its source behind two slashes, and where it stood."""
         r = self.n(r)
-        self.farm.ask(r, "STOP SLAVE")
+        self.farm.tell(r, "STOP REPLICA")
         seen = self.state(r)
         host, _, port = seen.source.rpartition(":")
-        self.farm.ask(r, "CHANGE MASTER TO MASTER_HOST='//%s', MASTER_PORT=%s, MASTER_LOG_FILE='mysql-bin.%06d', MASTER_LOG_POS=%d"
-                      % (host, port, seen.exec.number, seen.exec.position))
+        self.farm.tell(r, "CHANGE REPLICATION SOURCE TO SOURCE_HOST='//%s', SOURCE_PORT=%s, SOURCE_LOG_FILE='mysql-bin.%06d', SOURCE_LOG_POS=%d, "
+                          "SOURCE_AUTO_POSITION=0" % (host, port, seen.exec.number, seen.exec.position))
 
-    def only(self, r, count):
-        """r executes the first so many transactions of its source and stops its applier; the receiver goes on."""
+    def only(self, r: str, count: int) -> None:
+        """r executes the first so many transactions of its source and stops its applier; the receiver goes on. With MariaDB's GTIDs an applier that is
+        at that coordinate stops only when the next event comes."""
         r = self.n(r)
-        self.farm.ask(r, "STOP SLAVE")
+        self.farm.tell(r, "STOP REPLICA")
         group = self.reading(self.state(r).source).groups[count - 1]
-        self.farm.ask(r, "START SLAVE UNTIL MASTER_LOG_FILE='mysql-bin.%06d', MASTER_LOG_POS=%d" % (group.file, group.end))
+        self.farm.tell(r, "START REPLICA UNTIL SOURCE_LOG_FILE='mysql-bin.%06d', SOURCE_LOG_POS=%d" % (group.file, group.end))
 
-        def is_there():
+        def is_there() -> bool:
             seen = self.state(r)
-            return not seen.sql and seen.exec >= group.last
+            return seen.exec >= group.last and (not seen.sql or seen.read == seen.exec)
         self.wait_until(is_there, "%s did not come to %d" % (r, count))
+        if self.state(r).sql:
+            self.farm.tell(r, "STOP REPLICA SQL_THREAD")
 
-    def cut(self, *letters):
+    def cut(self, *letters: str) -> None:
+        """Cuts links, and waits until the receivers know it."""
         for r in self.names(letters):
             self.proxies[r].cut()
             self.wait_until(lambda: self.state(r).io == "Connecting", "%s keeps its link" % r)
             self.turn("cut", r, "feed")
 
-    def join(self, *letters):
+    def join(self, *letters: str) -> None:
+        """Joins links."""
         for r in self.names(letters):
             self.proxies[r].join()
             self.turn("join", r, "feed")
 
-    def poll(self):
+    def poll(self) -> None:
         """What orchestrator's polls keep: the pair of own end and executed coordinate of each."""
         for name in self.used:
             seen = self.state(name) if self.farm.is_up(name) else None
@@ -169,7 +222,8 @@ class Story:
                     kept.append(pair)
         self.turn("polls")
 
-    def fail(self, a):
+    def fail(self, a: str) -> None:
+        """Kills a server; what its log had is remembered."""
         a = self.n(a)
         self.last[a] = self.reading(a)
         self.farm.kill(a)
@@ -179,8 +233,16 @@ class Story:
 
     # ---- the program
 
-    def read(self):
-        """From here on what is done is noted."""
+    def is_connecting(self, name: str) -> bool:
+        """Whether a replica's receiver will connect in a moment: its link isn't cut, and its source is up."""
+        if name in self.down or not self.farm.is_up(name) or name in self.proxies and not self.proxies[name].open:
+            return False
+        seen = self.state(name)
+        return bool(seen.source in self.used and self.farm.is_up(seen.source) and not seen.detached and seen.io not in ("Yes", "No"))
+
+    def read(self) -> None:
+        """From here on what is done is noted. A receiver that is just connecting would be read as one whose link is cut."""
+        self.wait_until(lambda: not any([self.is_connecting(name) for name in self.used]), "a receiver doesn't connect")
         names = sorted(self.used, key=self.farm.names.index)
         self.before = Topology(self.farm.client, names, self.servers_of_proxies)
         self.scenario = Writer(self.before).scenario()
@@ -188,34 +250,38 @@ class Story:
             if server["name"] in self.rules:
                 server["rule"] = self.rules[server["name"]]
         self.poll()
-        self.turns = []
+        self.turns, self.more_sizes, self.noting = [], [], True
 
-    def ran(self, words, turns):
+    def ran(self, words: list[str], turns: Sequence[Turn]) -> tuple[int, str, str]:
         """The program's status, standard output and standard error over the scenario with these turns."""
         text = json.dumps(dict(self.scenario, turns=turns)).encode()
+        words = words + (["--wait", str(self.waits)] if self.waits else [])
         done = subprocess.run([self.program] + words, input=text, capture_output=True, timeout=120)
         return done.returncode, done.stdout.decode(), done.stderr.decode()
 
-    def keys(self, i, d):
+    def keys(self, i: str | None, d: str | None) -> dict[str, str]:
+        """The instance and the destination of a command as a turn has them."""
         return {key: self.n(letter) for key, letter in (("i", i), ("d", d)) if letter}
 
-    def words(self, command, i, d):
+    def words(self, command: str, i: str | None, d: str | None) -> list[str]:
+        """The same as words of a command line."""
         return ["-c", command] + [word for key, name in self.keys(i, d).items() for word in ("-" + key, name)]
 
-    def run(self, turns):
+    def run(self, turns: Sequence[Turn]) -> tuple[list[str], Tables]:
+        """The lines of a run of the scenario with these turns, and of each server its table."""
         status, out, err = self.ran(["-c", "run"], turns)
         if status not in (0, 7):
             raise Differs("the program: status %d: %s" % (status, err.strip()))
         lines = out.split("\n")
         tables = {line.split()[1]: line for line in lines if line.startswith("server ")}
         errant = next(line for line in lines if line.startswith("errant "))
-        if errant != "errant 0":
+        if errant != "errant %d" % self.errants:
             raise Differs("the program: " + errant)
         return lines, tables
 
-    def rehearse(self, command, i=None, d=None):
+    def rehearse(self, command: str, i: str | None = None, d: str | None = None) -> tuple[str | None, Any, Tables]:
         """The program's answer: done with its lines, failed with the cause, or refused; and the tables once all is quiet."""
-        rounds = [["job", 1], ["round"]] * 70
+        rounds: list[Turn] = [["job", 1], ["round"]] * 70
         lines, tables = self.run(self.turns + [["command", command, self.keys(i, d)]] + rounds + [["round"]] * 30)
         kind, got = answer_in(lines, command)
         single = self.ran(self.words(command, i, d), self.turns)
@@ -223,18 +289,22 @@ class Story:
             raise Differs("the single command answers otherwise: %r and %r" % (single[1], got))
         return kind, got, tables
 
-    def rehearse_restart(self, command, i):
+    def rehearse_restart(self, command: str, i: str) -> tuple[str | None, Any, Tables]:
         """The same of a move during which a server restarts, before the turn of its job that the story names."""
+        assert self.interrupt
         name, at = self.n(self.interrupt[0]), self.interrupt[1]
-        restart = [["fail", name], ["heal", name], ["fetch", name], ["apply", name]]
+        restart: list[Turn] = [["fail", name], ["heal", name], ["fetch", name], ["apply", name]]
         lines, tables = self.run([["command", command, self.keys(i, None)]] + [["job", 1]] * (at - 1) + restart
                                  + [["job", 1], ["round"]] * 10 + [["round"]] * 20)
         return answer_in(lines, command) + (tables,)
 
-    def job(self, kind=Job):
-        job = kind(self.farm.client, self.servers_of_proxies, LOGIN)
+    def job(self, kind: type[Job] = Job) -> Job:
+        """A job by hand on the servers. Under load it isn't known which transactions the dead server's log had at last."""
+        more = self.farm.make.login_words
+        kind = GtidJob if kind is Job and self.farm.make.gtid else kind
+        job = kind(self.farm.client, self.servers_of_proxies, LOGIN, more=more)
         job.rules = self.rules
-        for dead in self.last.values():
+        for dead in [] if self.loose else self.last.values():
             job.places = {}
             for group in dead.groups:
                 job.places.setdefault(group.file, []).append(group.end)
@@ -242,7 +312,8 @@ class Story:
 
     # ---- the comparison
 
-    def is_busy(self, name):
+    def is_busy(self, name: str) -> bool:
+        """Whether a replica will go on by itself."""
         if name in self.down or not self.farm.is_up(name):
             return False
         seen = self.state(name)
@@ -253,21 +324,23 @@ class Story:
             return seen.io == "Connecting" and seen.exec < seen.read
         return seen.io == "Connecting" or seen.io == "Yes" and (seen.exec < self.state(seen.source).end or seen.read != seen.exec)
 
-    def quiet(self, seconds=12):
+    def quiet(self, seconds: float = 20) -> None:
         """Until each running replica has executed all that its source has."""
         end = time.monotonic() + seconds
         while time.monotonic() < end and any([self.is_busy(name) for name in self.used]):
             time.sleep(0.05)
 
-    def again(self):
+    def again(self) -> Topology:
         """The servers as they are now, counted as before."""
-        topology = Topology.__new__(Topology)
-        topology.client, topology.aliases, topology.last_files, topology.notes, topology.servers = self.farm.client, self.servers_of_proxies, None, [], {}
+        servers: dict[str, Server] = {}
         for name in self.before.servers:
             try:
-                topology.servers[name] = self.reading(name)
+                servers[name] = self.reading(name)
             except Down:
-                topology.servers[name] = self.last.get(name) or self.before.servers[name]
+                servers[name] = self.last.get(name) or self.before.servers[name]
+        topology = Topology.of(servers)
+        for server in servers.values():
+            topology.place_by_set(server)
         if self.before.start:
             topology.number(self.before.start)
         else:
@@ -275,24 +348,31 @@ class Story:
             topology.total = {name: len(server.groups) for name, server in topology.servers.items()}
         return topology
 
-    def compare(self, tables):
+    def compare(self, tables: Tables) -> tuple[list[str], list[str]]:
         """What differs between the program's tables and the servers, and what is to be told beside."""
         now = self.again()
         check = self.compared(now, Loosely(self, now) if self.loose else Exactly(self, now, tables), tables)
-        return check.bad + self.rows(now), check.told()
+        return check.bad + self.rows(now) + self.tries(), check.told()
 
-    def compare_reading(self, tables):
+    def tries(self) -> list[str]:
+        """Which replicas of MySQL don't try as often as those of every story do at first: a change of source keeps that number."""
+        seen = {name: self.state(name) for name in self.used if self.farm.is_up(name)} if self.farm.make.kind == "mysql" else {}
+        return ["%s tries %s times" % (self.letter(name), one.row["Source_Retry_Count"]) for name, one in seen.items()
+                if one.source and one.row["Source_Retry_Count"] != "86400"]
+
+    def compare_reading(self, tables: Tables) -> tuple[list[str], list[str]]:
         """The same of the tables and what the servers told as they were read."""
         check = self.compared(self.before, Exactly(self, self.before, tables), tables)
         return check.bad, check.told()
 
-    def compared(self, topology, check, tables):
+    def compared(self, topology: Topology, check: Check, tables: Tables) -> Check:
+        """Compares each server that is up."""
         for name, line in tables.items():
             if name not in self.down:
                 check.server(name, line.split(), topology.servers[name])
         return check
 
-    def rows(self, now):
+    def rows(self, now: Topology) -> list[str]:
         """Each server has the rows of each transaction that it executed exactly once."""
         bad = []
         for name, server in now.servers.items():
@@ -308,101 +388,14 @@ class Story:
                 bad.append("%s rows: too often %s, missing %s" % (self.letter(name), twice[:5], lost[:5]))
         return bad
 
-    def close(self):
+    def close(self) -> None:
+        """Ends what the story has started."""
         for proxy in self.proxies.values():
             proxy.close()
         self.farm.let_go()
 
 
-def behind(words, key, start=0):
-    return words[words.index(key, start) + 1]
-
-
-class Exactly:
-    """Compares a server's line of the tables, value by value; coordinates by places."""
-
-    def __init__(self, story, now, tables):
-        self.story, self.now, self.bad, self.exact, self.same = story, now, [], 0, 0
-        self.sizes = story.before.sizes() + story.more_sizes
-        self.executed = {name: int(behind(line.split(), "executed")) for name, line in tables.items()}
-        self.flushes = {server["name"]: list(server.get("flushes", [])) for server in story.scenario["servers"]}
-        for turn in story.turns:
-            if turn[0] == "rotate":
-                self.flushes[turn[1]].append(self.executed[turn[1]])
-
-    def told(self):
-        return ["coordinates: %d the same by the map, %d of the same place" % (self.exact, self.same)]
-
-    def log(self, name):
-        return ModelLog(self.sizes[:self.executed[name]], self.flushes[name])
-
-    def differ(self, name, what, program, server):
-        if program != server:
-            self.bad.append("%s %s %s, the server %s" % (self.story.letter(name), what, program, server))
-        return program != server
-
-    def server(self, name, words, server):
-        status = server.status
-        self.differ(name, "executed", self.executed[name], self.now.before[name] + len(server.groups) - self.now.start)
-        source = behind(words, "source")
-        if self.differ(name, "source", source, status.source if status else "none"):
-            return
-        self.differ(name, "ro" if words[3] == "ro" else "rw", "", "" if (words[3] == "ro") == server.read_only else "not")
-        if status:
-            self.replica(name, words, status, source)
-        end = model_coord(behind(words, "end"))
-        self.differ(name, "files", end.number, server.files[-1] - self.now.first_file(name) + 1)
-        self.differ(name, "end", model_text(end), model_text(self.log(name).end()))
-
-    def replica(self, name, words, status, source):
-        start = words.index("source")
-        self.differ(name, "detached", "detached" in words, status.detached)
-        for key, real in (("at", status.exec), ("read", status.read)):
-            self.spot(name, key, model_coord(behind(words, key, start)), real, source)
-        self.differ(name, "io", behind(words, "io"), "on" if status.io != "No" else "off")
-        self.differ(name, "sql", behind(words, "sql"), "on" if status.sql else "off")
-
-    def spot(self, name, key, model, real, source):
-        log, now = self.log(source), self.now
-        place = log.place(model)
-        if self.differ(name, "%s of %s at place" % (key, self.story.letter(source)), place, now.place_of(source, real)):
-            return
-        file, own = now.first_file(source) + model.number - 1, now.own(source)
-        head = now.servers[source].headers.get(file, 4)
-        mapped = (file, head) if not place or place == log.first(model.number) else (own[place - 1].file, own[place - 1].end)
-        if mapped == (real.number, real.position):
-            self.exact += 1
-        else:
-            self.same += 1
-
-
-class Loosely:
-    """Under load: who is below whom, threads, read_only; and each replica stands at its source's end."""
-
-    def __init__(self, story, now):
-        self.story, self.now, self.bad = story, now, []
-
-    def told(self):
-        return []
-
-    def server(self, name, words, server):
-        status, letter = server.status, self.story.letter(name)
-        source = behind(words, "source")
-        if source != (status.source if status else "none"):
-            self.bad.append("%s source %s, the server %s" % (letter, source, status.source if status else "none"))
-            return
-        if (words[3] == "ro") != server.read_only:
-            self.bad.append("%s %s, the server not" % (letter, words[3]))
-        if status:
-            above = self.now.servers[source]
-            if len(server.groups) != above.place(status.exec) or (status.sql and len(server.groups) != len(above.groups)):
-                self.bad.append("%s executed %d, stands at %d of %d of its source" % (letter, len(server.groups), above.place(status.exec),
-                                                                                    len(above.groups)))
-            if (behind(words, "sql") == "on") != status.sql:
-                self.bad.append("%s sql %s, the server not" % (letter, behind(words, "sql")))
-
-
-def answer_in(lines, command):
+def answer_in(lines: list[str], command: str) -> Answer:
     """Of a run's lines what its first job or its refused command came to."""
     for number, line in enumerate(lines):
         if " command %s" % command in line and ": refused " in line:
@@ -422,11 +415,12 @@ def answer_in(lines, command):
 class Writes(threading.Thread):
     """An ordinary client that writes to one server, one row after another, until it is refused or stopped."""
 
-    def __init__(self, story, a):
+    def __init__(self, story: Story, a: str) -> None:
         super().__init__(daemon=True)
         self.story, self.a, self.over, self.refused, self.count = story, story.n(a), False, 0, 0
 
-    def run(self):
+    def run(self) -> None:
+        """Writes until it is refused or stopped."""
         story = self.story
         while not self.over:
             number = story.numbers[self.a] = story.numbers.get(self.a, 0) + 1
@@ -439,7 +433,8 @@ class Writes(threading.Thread):
                 return
             self.count += 1
 
-    def stop(self):
+    def stop(self) -> str:
+        """Stops it, and says how much it wrote."""
         time.sleep(0.3)
         self.over = True
         self.join(20)

@@ -1,4 +1,7 @@
 """A command line client that answers from texts: in this process, and as a program in a folder of its own."""
+from __future__ import annotations
+
+import argparse
 import contextlib
 import copy
 import io
@@ -6,16 +9,19 @@ import json
 import os
 import shutil
 import stat
-import subprocess
 import sys
 import tempfile
 import unittest.mock
+from types import ModuleType
+from typing import Any
 
 HERE = os.path.dirname(os.path.abspath(__file__))
 TOOLS = os.path.dirname(HERE)
 sys.path.insert(0, TOOLS)
 
-from client import Client
+from orch_tools.client import Client
+
+Answers = dict[str, Any]
 
 SCRIPT = """#!%s
 import json, os, sys
@@ -36,19 +42,19 @@ sys.exit(status)
 """ % sys.executable
 
 
-def recorded(name):
+def recorded(name: str) -> Any:
     """Answers of real servers: server to statement to one answer after another, each with standard error and the status."""
     with open(os.path.join(HERE, "recorded", name + ".json"), encoding="utf-8") as file:
         return json.load(file)
 
 
-def table(*rows):
+def table(*rows: dict[str, Any]) -> list[list[Any]]:
     """An answer to one statement, as the client writes it with --batch."""
     lines = ["\t".join(rows[0])] + ["\t".join(str(value) for value in row.values()) for row in rows] if rows else []
     return [["".join(line + "\n" for line in lines), "", 0]]
 
 
-def changed(answers, server, statement, column, value, row=1):
+def changed(answers: Answers, server: str, statement: str, column: str, value: str, row: int = 1) -> Answers:
     """The same answers but for one value: of a row, and of each answer to that statement."""
     answers = copy.deepcopy(answers)
     for answer in answers[server][statement]:
@@ -61,14 +67,17 @@ def changed(answers, server, statement, column, value, row=1):
 class Texts(Client):
     """The client in this process: the next of the answers that a server has for a statement, and the last one again and again."""
 
-    def __init__(self, answers):
+    def __init__(self, answers: Answers) -> None:
         Client.__init__(self, "none", "me")
-        self.answers, self.asked, self.counts = answers, [], {}
+        self.answers = answers
+        self.asked: list[tuple[str, str]] = []
+        self.counts: dict[tuple[str, str], int] = {}
 
-    def __call__(self, program, user, options=(), password=None, timeout=120):
+    def __call__(self, *_: Any, **__: Any) -> Texts:
         return self
 
-    def ran(self, host, port, statements):
+    def ran(self, host: str, port: int, statements: str) -> tuple[int, str, str]:
+        """The next answer."""
         server = "%s:%d" % (host, port)
         self.asked.append((server, statements))
         if server not in self.answers:
@@ -80,23 +89,30 @@ class Texts(Client):
         out, err, status = found[min(count, len(found) - 1)]
         return status, out, err
 
-    def changing(self):
+    def changing(self) -> list[tuple[str, str]]:
         """What was asked that is neither SELECT nor SHOW."""
         return [one for one in self.asked if not one[1].startswith(("SELECT ", "SHOW "))]
 
 
-def ran(main, answers, words, given=""):
-    """A tool's status, standard output and standard error over these answers, and the client."""
+def arguments_of(module: ModuleType, words: list[str]) -> argparse.Namespace:
+    """The words of a subcommand as the front reads them."""
+    parser = argparse.ArgumentParser()
+    module.add_arguments(parser)
+    return parser.parse_args(words)
+
+
+def ran(module: ModuleType, answers: Answers, words: list[str], given: str = "") -> tuple[int, str, str, Texts]:
+    """A subcommand's status, standard output and standard error over these answers, and the client."""
     client, out, err = Texts(answers), io.StringIO(), io.StringIO()
     with unittest.mock.patch("sys.stdin", io.StringIO(given)), contextlib.redirect_stdout(out), contextlib.redirect_stderr(err):
-        status = main(words, client)
+        status: int = module.run(arguments_of(module, words), client)
     return status, out.getvalue(), err.getvalue(), client
 
 
 class Fake:
     """The client as a program in a folder of its own."""
 
-    def __init__(self, answers):
+    def __init__(self, answers: Answers) -> None:
         self.folder = tempfile.mkdtemp(prefix="fake.")
         self.program = os.path.join(self.folder, "client")
         with open(os.path.join(self.folder, "answers"), "w", encoding="utf-8") as file:
@@ -105,13 +121,8 @@ class Fake:
             file.write(SCRIPT)
         os.chmod(self.program, stat.S_IRWXU)
 
-    def __enter__(self):
+    def __enter__(self) -> Fake:
         return self
 
-    def __exit__(self, *_):
+    def __exit__(self, *_: Any) -> None:
         shutil.rmtree(self.folder)
-
-    def ran(self, tool, words, given=""):
-        done = subprocess.run([sys.executable, "-B", os.path.join(TOOLS, tool), "--client", self.program, "--user", "me"] + words, input=given,
-                              capture_output=True, text=True, timeout=300)
-        return done.returncode, done.stdout, done.stderr

@@ -1,20 +1,23 @@
 """The plans of print_plan.py are those of the program: cases/plans.table has the program's, which .ci/tables runs it for."""
+from __future__ import annotations
+
 import json
 import os
 import shlex
 import sys
 import unittest
+from collections.abc import Iterator
 
 TOOLS = os.path.dirname(os.path.dirname(os.path.abspath(__file__)))
 sys.path.insert(0, TOOLS)
 
-from client import full
-from print_plan import plan_text, sources_in
+from orch_tools.client import full
+from rehearsal.print_plan import plan_text, sources_in
 
 TABLE = os.path.join(os.path.dirname(TOOLS), "cases", "plans.table")
 
 
-def rows():
+def rows() -> Iterator[tuple[int, list[str], str, str]]:
     """Of each command that has a plan: its number in the table, its words, its scenario and its plan."""
     with open(TABLE, encoding="utf-8") as file:
         for number, line in enumerate(file.read().split("\n"), 1):
@@ -24,7 +27,7 @@ def rows():
                     yield number, shlex.split(words), scenario, plan.replace("\\n", "\n") + "\n"
 
 
-def told(words, scenario):
+def told(words: list[str], scenario: str) -> str | None:
     """The plan of print_plan.py, where it has one."""
     if json.loads(scenario).get("pseudo"):
         return None
@@ -36,7 +39,9 @@ def told(words, scenario):
 
 
 class Plans(unittest.TestCase):
-    def test_both_tell_the_same(self):
+    """Both printers of plans."""
+
+    def test_both_tell_the_same(self) -> None:
         compared = 0
         for number, words, scenario, plan in rows():
             text = told(words, scenario)
