@@ -124,6 +124,7 @@ class Farm:
         self.names = ["127.0.0.1:%d" % port for port in free_ports(count)]
         self.ids = {name: number for number, name in enumerate(self.names, 1)}
         self.process: dict[str, "subprocess.Popen[bytes]"] = {}
+        self.altered: dict[str, bool] = {}
         self.held: list["subprocess.Popen[bytes]"] = []
         self.client = Sessions(self.make.client, BOSS, ["--no-defaults"], BOSS)
         self.clients = Sessions(self.make.client, APP, ["--no-defaults"], APP)
@@ -163,7 +164,8 @@ class Farm:
             "--pid-file=" + data + "/pid", "--tmpdir=" + self.folder]
 
     def launch(self, name: str, more: Sequence[str] = ()) -> None:
-        """Starts a server's process."""
+        """Starts a server's process. What it is given besides the usual options holds until it is emptied."""
+        self.altered[name] = bool(more)
         for client in (self.client, self.clients):
             client.end("127.0.0.1", int(name.rpartition(":")[2]))
         with open(os.path.join(self.folder, "s%d.log" % self.ids[name]), "ab") as out, held():
@@ -266,6 +268,8 @@ class Farm:
 
     def empty(self, name: str) -> None:
         """A server loses all that a story has left."""
+        if self.altered[name]:
+            self.restart(name)
         self.ready(name)
         self.ask(name, "SET GLOBAL server_id=%d" % self.ids[name])
         self.ask(name, self.make.empty)

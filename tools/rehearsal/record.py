@@ -176,8 +176,6 @@ def record(farm: Farm, made: Setup, given: argparse.Namespace) -> str:
         if story.writer:
             story.writer.stop()
         tidy(farm, story)
-        if made.name == "not_logging":
-            farm.restart(story.n("d"))
     path = os.path.join(given.to, "%s_%s%s.json" % (farm.make.kind, "gtids_" if given.gtids else "", made.name))
     with open(path, "w", encoding="utf-8") as file:
         file.write(text + "\n")
