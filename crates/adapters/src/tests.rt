@@ -1,6 +1,8 @@
-use crate::{FileSource, Input, StreamSink, TRIES};
+use crate::{FileSource, Input, StreamFault, StreamSink, TRIES};
 use orch_base::{Sink, Source};
+use std::fs::{self, File};
 use std::io::{self, ErrorKind, Read, Write};
+use std::test::Fail;
 
 // A pipe whose other end is closed.
 #[derive(Drop)]
@@ -111,4 +113,76 @@ fn faults_are_counted(rt: HostRuntime) {
             [(None, 1), (None, 2), (None, 3)]
         )
     );
+}
+
+const FOLDER: &str = "adapters_files";
+
+#[test]
+fn a_sink_holds_what_was_written(rt: HostRuntime) -> Result<(), Fail> {
+    let _ = fs::remove_dir_all(&rt, FOLDER);
+    fs::create_dir(&rt, FOLDER)?;
+    let mut sink = StreamSink::new(File::create(&rt, "adapters_files/written")?);
+    let written = (sink.write(b"1 tick 5: "), sink.write(b"done\n"));
+    assert_eq!(rt;
+        (written, sink.faults, sink.fault().is_none()),
+        ((Ok(10), Ok(5)), 0, true)
+    );
+    drop(sink);
+    let held = fs::read(&rt, "adapters_files/written")?;
+    assert_eq!(rt; held.as_slice(), b"1 tick 5: done\n".as_slice());
+    // A file that is open for reading alone takes nothing, and says why.
+    let mut closed = StreamSink::new(File::open(&rt, "adapters_files/written")?);
+    let failed = (closed.write(b"x").is_err(), closed.faults);
+    assert_eq!(rt; failed, (true, 1));
+    assert!(rt; matches!(closed.fault(), Some(StreamFault::Write(_))));
+    fs::remove_dir_all(&rt, FOLDER)?;
+    // A slice without room takes nothing.
+    let mut room = [0; 0];
+    let mut full = StreamSink::new(room.as_mut_slice());
+    assert!(rt;
+        full.write(b"x").is_err() && matches!(full.fault(), Some(StreamFault::TookNothing))
+    );
+    Ok(())
+}
+
+#[test]
+fn a_source_gives_what_a_file_holds(rt: HostRuntime) -> Result<(), Fail> {
+    let path = "adapters_held";
+    fs::write(&rt, path, b"{\"version\":1}".as_slice())?;
+    let mut source = FileSource::new(Input::Opened(File::open(&rt, path)?));
+    let mut bytes = [0; 16];
+    let counts = (source.read(&mut bytes).ok(), source.read(&mut [0; 16]).ok());
+    assert_eq!(rt;
+        (
+            counts,
+            &bytes[..13],
+            source.faults,
+            source.fault().is_none()
+        ),
+        ((Some(13), Some(0)), b"{\"version\":1}".as_slice(), 0, true)
+    );
+    fs::remove_file(&rt, path)?;
+    // A file that isn't there can't be opened: each read fails, by that cause.
+    let Err(why) = File::open(&rt, path) else {
+        return Err(Fail::new("the file is there"));
+    };
+    let mut missing = FileSource::unopened(Input::Missing, why);
+    let mut buf = [0; 4];
+    assert_eq!(rt;
+        (
+            missing.read(&mut buf).is_err(),
+            missing.read(&mut buf).is_err(),
+            missing.faults
+        ),
+        (true, true, 2)
+    );
+    assert!(rt;
+        matches!(missing.fault(), Some(StreamFault::Open(why)) if why.kind() == ErrorKind::NotFound)
+    );
+    // A read that fails.
+    let mut broken = FileSource::new(Broken);
+    assert!(rt;
+        broken.read(&mut buf).is_err() && matches!(broken.fault(), Some(StreamFault::Read(_)))
+    );
+    Ok(())
 }

@@ -1,7 +1,7 @@
 -- What words that are taken have.
 use Rattle.command_line.proofs.Prelude.{AreTaken, BadWords, Counts, Dump, Generate, Instances, IsDrawn, Live, Own, Places, Row, Run, Text, Texts}
 use Rattle.command_line.proofs.Prelude.{Usage, and_parts as both_true, bounded_in, command_in, counts_in, drawing_by, duration_in, first_of, has_flag}
-use Rattle.command_line.proofs.Prelude.{has_needed, instances_in, is_drawable, is_given, is_pattern, is_straight_word, is_taken_word, is_within_bound}
+use Rattle.command_line.proofs.Prelude.{has_needed, instances_in, is_drawable, is_given, is_pattern, is_plan_word, is_taken_word, is_within_bound}
 use Rattle.command_line.proofs.Prelude.{leb-true, maybe, name_in, needs_at, number_and_unit, number_at, number_in, number_within}
 use Rattle.command_line.proofs.Prelude.{or_bad as or_bad_value, or_default, own_at, pattern_in, places_in, places_of, plan_in, rows_of_texts, rule_in}
 use Rattle.command_line.proofs.Prelude.{seconds_at, text_in, text_within, texts_in, texts_of, within}
@@ -184,13 +184,13 @@ drawing_has (Some Generate) p c servers turns some within = record { servers = s
 
 -- ---- plans
 
-plan_has : (word : Text) (asked plan : Bool) → plan_in word asked ≡ Ok plan → plan ≡ true → is_straight_word word ≡ true
+plan_has : (word : Text) (asked plan : Bool) → plan_in word asked ≡ Ok plan → plan ≡ true → is_plan_word word ≡ true
 plan_has word false plan e is = cc
-plan_has word true plan e is = go (is_straight_word word) refl e
+plan_has word true plan e is = go (is_plan_word word) refl e
   where
-    go : (b : Bool) → is_straight_word word ≡ b → cond {A = Result Bool Usage} b (Ok true) (Err BadWords) ≡ Ok plan → is_straight_word word ≡ true
-    go true straight e = straight
-    go false straight e = cc
+    go : (b : Bool) → is_plan_word word ≡ b → cond {A = Result Bool Usage} b (Ok true) (Err BadWords) ≡ Ok plan → is_plan_word word ≡ true
+    go true planned e = planned
+    go false planned e = cc
 
 -- ---- all of them
 

@@ -5,8 +5,6 @@ use Rattle.std.specs.Str.{bytes_eq}
 use Rattle.clap.specs.Walk.{Row, Text, first_of}
 use Rattle.commands.specs.declared.needs.Needs.{Needs}
 use Rattle.commands.specs.Names.{name_of, needs_of, nothing}
-use Rattle.command_routes.specs.declared.route.Planner.{Planner}
-use Rattle.command_routes.specs.declared.route.Planner.TheVariants as planner
 use Rattle.command_routes.specs.declared.route.Route.{Route}
 use Rattle.command_routes.specs.declared.route.Route.TheVariants.{Discovers, Forgets, Asks, Decides, Begins, Recovers, TakesOver}
 use Rattle.command_routes.specs.Routes.{route_of}
@@ -51,29 +49,21 @@ command_in rows = do
 
 -- ---- plans
 
--- the job's operations are known when it begins; those of a regroup go by what its replicas turn out to have
-abbrev pub is_straight_planner : Planner → Bool
-is_straight_planner (planner.Coordinates c) = true
-is_straight_planner (planner.Gtids c) = true
-is_straight_planner (planner.Paths c) = true
-is_straight_planner (planner.Regroups c) = false
-is_straight_planner (planner.Matches c) = true
-
--- a command that begins a job which goes one way, where nothing fails; a takeover does
-abbrev pub is_straight : Route → Bool
-is_straight Discovers = false
-is_straight Forgets = false
-is_straight (Asks question) = false
-is_straight (Decides decision) = false
-is_straight (Begins planner) = is_straight_planner planner
-is_straight Recovers = false
-is_straight TakesOver = true
+-- a command that begins a job: that of a recovery or a regroup has several branches, of which the expected one is told
+abbrev pub has_plan : Route → Bool
+has_plan Discovers = false
+has_plan Forgets = false
+has_plan (Asks question) = false
+has_plan (Decides decision) = false
+has_plan (Begins planner) = true
+has_plan Recovers = true
+has_plan TakesOver = true
 
 -- the word of such a command
-abbrev pub is_straight_word : Text → Bool
-is_straight_word word = option_map_or (λ name. is_straight (route_of name)) (name_of word) false
+abbrev pub is_plan_word : Text → Bool
+is_plan_word word = option_map_or (λ name. has_plan (route_of name)) (name_of word) false
 
 -- whether a plan is asked for, which only such a command has
 abbrev pub plan_in : Text → Bool → Result Bool Usage
 plan_in word false = Ok false
-plan_in word true = if is_straight_word word then Ok true else Err BadWords
+plan_in word true = if is_plan_word word then Ok true else Err BadWords

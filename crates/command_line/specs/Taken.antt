@@ -5,7 +5,7 @@ use Rattle.commands.specs.declared.needs.Needs.{Needs}
 use Rattle.scenario_generator.specs.Bounds.{is_drawable}
 use Rattle.command_line.specs.declared.parts.Drawing.{Drawing}
 use Rattle.command_line.specs.declared.parts.Places.{Places}
-use Rattle.command_line.specs.Commands.{is_straight_word, is_taken_word, needs_at}
+use Rattle.command_line.specs.Commands.{is_plan_word, is_taken_word, needs_at}
 use Rattle.command_line.specs.Places.{drawing_of}
 
 -- each option that is needed is there
@@ -29,4 +29,4 @@ pub record AreTaken (p : Places) : Type 0 where
   pub pollers : (1 ≤ p.pollers) × (p.pollers ≤ 16)
   pub workers : (1 ≤ p.workers) × (p.workers ≤ 16)
   pub drawn : IfSome (drawing_of p) IsDrawn
-  pub plan : p.plan ≡ true → is_straight_word p.command ≡ true
+  pub plan : p.plan ≡ true → is_plan_word p.command ≡ true

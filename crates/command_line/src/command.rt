@@ -2,14 +2,14 @@
 
 ghost use Rattle.std.specs.Prelude.{◌≡◌};
 ghost use Rattle.orch_base.specs.Gives.{Gives};
-ghost use Rattle.command_line.specs.Commands.{command_in, has_needed, is_straight, is_straight_word, is_taken_word, needs_at, own_at, plan_in};
+ghost use Rattle.command_line.specs.Commands.{command_in, has_needed, has_plan, is_plan_word, is_taken_word, needs_at, own_at, plan_in};
 ghost use Rattle.command_line.specs.Options.{rows_in};
 ghost use Rattle.command_line.specs.Usages.{usage_fault};
 
 use crate::options::text_of;
 use crate::usage::Usage;
 use clap::ArgMatches;
-use command_routes::{Planner, Route};
+use command_routes::Route;
 use commands::{CommandName, Needs};
 use orch_base::OwnedText;
 use std::alloc::Global;
@@ -94,30 +94,22 @@ pub(crate) fn command_in(alloc: Global, matches: &ArgMatches<'_>) -> Result<Owne
     Ok(OwnedText::new(String::from_str(alloc, command)?))
 }
 
-// Whether it begins a job which goes one way, where nothing fails.
-fn is_straight(route: Route) -> bool
-    ensures { result ≡ is_straight route }
+// Whether it begins a job.
+fn has_plan(route: Route) -> bool
+    ensures { result ≡ has_plan route }
 {
     match route {
-        Route::Begins(
-            Planner::Coordinates(_) | Planner::Gtids(_) | Planner::Paths(_) | Planner::Matches(_),
-        )
-        | Route::TakesOver => true,
-        Route::Begins(Planner::Regroups(_))
-        | Route::Discovers
-        | Route::Forgets
-        | Route::Asks(_)
-        | Route::Decides(_)
-        | Route::Recovers => false,
+        Route::Begins(_) | Route::Recovers | Route::TakesOver => true,
+        Route::Discovers | Route::Forgets | Route::Asks(_) | Route::Decides(_) => false,
     }
 }
 
 // Whether the word is that of such a command.
-fn is_straight_word(word: &str) -> bool
-    ensures { result ≡ is_straight_word word.now }
+fn is_plan_word(word: &str) -> bool
+    ensures { result ≡ is_plan_word word.now }
 {
     match CommandName::read(word) {
-        Some(name) => is_straight(Route::of(name)),
+        Some(name) => has_plan(Route::of(name)),
         None => false,
     }
 }
@@ -126,7 +118,7 @@ fn is_straight_word(word: &str) -> bool
 pub(crate) fn plan_in(word: &str, asked: bool) -> Result<bool, Usage>
     ensures { Gives (λ b. b) usage_fault result (plan_in word.now asked) }
 {
-    if asked && !is_straight_word(word) {
+    if asked && !is_plan_word(word) {
         return Err(Usage::BadWords);
     }
     Ok(asked)

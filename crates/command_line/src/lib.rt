@@ -10,6 +10,7 @@ mod value;
 mod words;
 
 pub use command::{Own, is_taken_word};
+pub use command_routes;
 pub use laws::taken_words_are_sound;
 /// Want of memory.
 pub use orch_base::Memory;

@@ -9,6 +9,7 @@ use Rattle.covered_laws.proofs.Prelude.{KeptJobs, Line, LostReplica, Outcome, Pu
 use Rattle.covered_laws.proofs.Prelude.{SpeakingJobs, Unended, World, eqb-true, first_source, follower_nos, found-number, leader, listed, lost_nos}
 use Rattle.covered_laws.proofs.Prelude.{old-begins, outcome_then, owed, promoted-keeps, recovery_then, replica-placed, same_Some, self-all}
 use Rattle.covered_laws.proofs.Prelude.{self-times, taken-aim, taken-explained, taken-kept, then-aim, times, turn-chain, turn-done, world_then}
+use Rattle.covered_laws.proofs.Prelude.{ChoosesAmongAll, Decisions, MakesWell, decided-chooses, ground_of, is_going, taken_in, turn-makes}
 use Rattle.covered_laws.proofs.Prelude.purpose
 use Rattle.covered_laws.proofs.Prelude.unended
 use Rattle.covered_laws.proofs.Turning.{found, rings-held, rings-sound}
@@ -105,6 +106,12 @@ module _ (f : Flight) (us : List Unended) (t : RecoveryTurn f us) where
     module _ (covered : CoveredJobs f us) where
       so-far : CoversSoFar f.world t.recovery
       so-far = here (IsCoveredBeside f.world) covered.jobs
+
+      pub turn-chooses : (d : Recovery) → Decisions (ground_of f.world t.book t.at_moment) t.recovery d → ChoosesAmongAll d
+      turn-chooses d so = decided-chooses f.world t.book t.at_read t.at_moment t.recovery held.flight.placed rings mine so-far d so
+
+      pub turn-changes : is_going (taken_in f us t).step ≡ true → MakesWell f.world (ground_of f.world t.book t.at_moment) t.recovery (taken_in f us t).exchanges
+      turn-changes going = turn-makes f.world t.book t.at_read t.at_moment t.recovery held.flight.placed rings mine so-far going
 
       turn-keeps : SoundJobs f us → KeptJobs f us → KeptByChosen (world_then f us t) (recovery_then f us t)
       turn-keeps sound kept =

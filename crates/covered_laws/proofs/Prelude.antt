@@ -8,7 +8,7 @@ pub use Rattle.unended_jobs.specs.Commands.declared.line.Line.{Line}
 pub use Rattle.covered_laws.specs.Beside.{IsAimedBeside, IsCoveredBeside, IsKeptBeside, IsSpeakingBeside}
 pub use Rattle.covered_laws.specs.Flights.{AimedJobs, CoveredJobs, KeptJobs, SpeakingJobs}
 pub use Rattle.covered_laws.specs.Passages.{IsOutside}
-pub use Rattle.covered_laws.specs.Turns.{IsDoneIn, IsNamedOutcome, RecoveryTurn, outcome_then, recovery_then, world_then}
+pub use Rattle.covered_laws.specs.Turns.{IsDoneIn, IsNamedOutcome, RecoveryTurn, outcome_then, recovery_then, taken_in, world_then}
 pub use Rattle.unended_jobs.specs.InstanceKeeper.Book.{BookState}
 pub use Rattle.unended_jobs.specs.InstanceKeeper.declared.bridge.Bridge.{Bridge}
 pub use Rattle.recovery_covers.proofs.JobLaws.Leased.{turn-leased}
@@ -42,12 +42,16 @@ pub use Rattle.recovery_covers.specs.RecoveryLaws.HeldRecoveries.{HeldRecovery}
 pub use Rattle.recovery_covers.specs.RecoveryLaws.LeasedRecoveries.{KeepsLeased, LeasedRecovery}
 pub use Rattle.recovery_covers.specs.RecoveryLaws.Passing.{as_turn}
 pub use Rattle.recovery_covers.specs.RecoveryLaws.Rings.{AreOwn, HeldRings, SoundRings}
+pub use Rattle.recovery_outcomes.proofs.Doing.{decided-chooses, turn-makes}
+pub use Rattle.recovery_outcomes.specs.Doing.{ChoosesAmongAll, MakesWell}
 pub use Rattle.recovery_outcomes.proofs.Done.{turn-chain, turn-done}
 pub use Rattle.recovery_outcomes.proofs.Placing.{replica-placed}
 pub use Rattle.recovery_outcomes.specs.Chains.{IsChain}
 pub use Rattle.unended_jobs.specs.RecoveryPlans.Beginning.{begun_recovery, first_source}
 pub use Rattle.unended_jobs.specs.RecoveryPlans.Named.{AreSourcesOf, IsNamedRecovery}
 pub use Rattle.unended_jobs.specs.RecoveryPlans.Recoveries.{Outcome, Recovery}
+pub use Rattle.unended_jobs.specs.RecoveryPlans.Deciding.{ground_of}
+pub use Rattle.unended_jobs.specs.RecoveryPlans.Moves.{Decisions}
 pub use Rattle.unended_jobs.specs.RecoveryPlans.Taking.{taken}
 pub use Rattle.unended_jobs.specs.RecoveryPlans.declared.means.Means.{Means}
 pub use Rattle.unended_jobs.specs.RecoveryPlans.declared.outcome.Follower.{Follower}

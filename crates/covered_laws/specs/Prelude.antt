@@ -7,6 +7,7 @@ pub use Rattle.recovery_covers.specs.JobLaws.Passages.{Beginning, Discovering, E
 pub use Rattle.recovery_covers.specs.JobLaws.Passages.{Turning, passed, passing}
 pub use Rattle.jobs_in_flight.specs.Jobs.{job_at, jobs_turned}
 pub use Rattle.unended_jobs.specs.KeptRows.declared.observation.Observation.{Observation}
+pub use Rattle.unended_jobs.specs.Operations.Turns.{is_going}
 pub use Rattle.unended_jobs.specs.Operations.declared.step.JobStep.TheVariants as step
 pub use Rattle.unended_jobs.specs.OrchBase.declared.server.Moment.{Moment}
 pub use Rattle.unended_jobs.specs.OrchBase.declared.server.ServerNo.{ServerNo}
@@ -14,7 +15,10 @@ pub use Rattle.recovery_covers.specs.Covers.{AreReplicas, HasOnePlace, IsTold, t
 pub use Rattle.recovery_covers.specs.SoFar.{CoversSoFar}
 pub use Rattle.recovery_histories.specs.Kept.{IsBeginning, Keeps, KeptByChosen, SameAim}
 pub use Rattle.recovery_outcomes.specs.Chains.{IsChain}
+pub use Rattle.recovery_outcomes.specs.Doing.{ChoosesAmongAll, MakesWell}
 pub use Rattle.unended_jobs.specs.RecoveryPlans.Beginning.{begun_recovery}
+pub use Rattle.unended_jobs.specs.RecoveryPlans.Deciding.{ground_of}
+pub use Rattle.unended_jobs.specs.RecoveryPlans.Moves.{Decisions}
 pub use Rattle.unended_jobs.specs.RecoveryPlans.Named.{IsNamedRecovery}
 pub use Rattle.unended_jobs.specs.RecoveryPlans.Recoveries.{Outcome, Recovery}
 pub use Rattle.unended_jobs.specs.RecoveryPlans.Taking.{Taken, taken}

@@ -1,15 +1,16 @@
 //! Recoveries in flight that are done.
 
-ghost use Rattle.std.specs.Prelude.{◌≡◌, ◌<◌, ℕ, List, All, Some};
-ghost use Rattle.covered_laws.specs.Prelude.{Flight, HasOnePlace, HeldJobs, IsBeginning, IsChain, IsNamedRecovery, IsTold, Keeps, Line as ALine};
-ghost use Rattle.covered_laws.specs.Prelude.{Safe, SameAim, ServerNo as Number, SoundJobs, Unended as AnUnended, times};
+ghost use Rattle.std.specs.Prelude.{◌≡◌, ◌<◌, ℕ, List, All, Some, true};
+ghost use Rattle.covered_laws.specs.Prelude.{ChoosesAmongAll, Decisions, Flight, HasOnePlace, HeldJobs, IsBeginning, IsChain, IsNamedRecovery, IsTold, Keeps, Line as ALine, MakesWell};
+ghost use Rattle.covered_laws.specs.Prelude.{Recovery, Safe, SameAim, ServerNo as Number, SoundJobs, Unended as AnUnended, ground_of, is_going, times};
 ghost use Rattle.covered_laws.specs.Prelude.purpose;
 ghost use Rattle.covered_laws.specs.Flights.{CoveredJobs, KeptJobs};
-ghost use Rattle.covered_laws.specs.Turns.{IsDoneIn, IsNamedOutcome, RecoveryTurn, outcome_then, recovery_then, world_then};
+ghost use Rattle.covered_laws.specs.Turns.{IsDoneIn, IsNamedOutcome, RecoveryTurn, outcome_then, recovery_then, taken_in, world_then};
 
 /// A turn leaves a recovery its purpose, its failed server and its replicas; and one in which it is done leaves these
 /// replicas covered, with the outcome's lines, each in one place, and its followers a chain only after a swap; and the
-/// servers of the outcome are there.
+/// servers of the outcome are there. Where it decides whom to choose each replica is drained, or lost; and a turn after
+/// which it goes on changes what it may.
 pub fn finished_recoveries_cover()
     ensures aim { (f : Flight) (us : List AnUnended) (t : RecoveryTurn f us) →
         SameAim t.recovery (recovery_then f us t) }
@@ -29,6 +30,13 @@ pub fn finished_recoveries_cover()
         (lines : List ALine) (count : ℕ) →
         IsDoneIn f us t lines → HeldJobs f us → CoveredJobs f us →
         IsNamedRecovery count t.recovery → IsNamedOutcome count (outcome_then f us t) }
+    ensures chooses { (f : Flight) (us : List AnUnended) (t : RecoveryTurn f us)
+        (d : Recovery) →
+        HeldJobs f us → CoveredJobs f us →
+        Decisions (ground_of f.world t.book t.at_moment) t.recovery d → ChoosesAmongAll d }
+    ensures changes { (f : Flight) (us : List AnUnended) (t : RecoveryTurn f us) →
+        HeldJobs f us → CoveredJobs f us → is_going (taken_in f us t).step ≡ true →
+        MakesWell f.world (ground_of f.world t.book t.at_moment) t.recovery (taken_in f us t).exchanges }
 {}
 
 /// Where a recovery in flight is done in a safe world the promoted server has what each that might have been chosen had

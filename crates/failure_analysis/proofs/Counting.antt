@@ -1,9 +1,8 @@
 -- Replicas are counted in one pass.
-use Rattle.std.proofs.Common.{◌≡◌, ℕ, ◌+◌, ◌<◌, ◌≤◌, Bool, true, false, cond, ◌&&◌, List, length, get_or, set, take, refl, sym, ◌∙◌, ap, subst, Option, None, Some, Bor, arith}
+use Rattle.std.proofs.Common.{◌≡◌, ℕ, zero, suc, ◌+◌, ◌<◌, ◌≤◌, Bool, true, false, cond, ◌&&◌, List, [], ◌∷◌, length, map, get_or, set, take, refl, sym, ◌∙◌, ap, subst, Option, None, Some, Bor, arith}
 use Rattle.std.specs.Prelude.{◌==◌}
-use Rattle.std.specs.Option.{option_copied}
 use Rattle.std.proofs.lemmas.Bool.{eqb-true, eq-eqb, false≢true}
-use Rattle.std.proofs.lemmas.List.{get_or_default, get_or-set_other, length-take}
+use Rattle.std.proofs.lemmas.List.{get_or_default, get_or-set_other, length-map, length-take}
 use Rattle.std.proofs.lemmas.Grind.{get_or-set_at}
 use Rattle.std.proofs.Math.Nat.{add-zero}
 use Rattle.std.proofs.lemmas.List.Sums.{count_by-le-length, sum_by-le-sum_by, sum_by_more}
@@ -11,7 +10,11 @@ use Rattle.instance_keeper.specs.OrchBase.declared.server.ServerNo.{ServerNo}
 use Rattle.instance_keeper.specs.OrchBase.declared.server.SourceState.{SourceState}
 use Rattle.instance_keeper.specs.OrchBase.declared.server.SourceState.TheVariants.{Without, Attached, Detached}
 use Rattle.instance_keeper.specs.KeptRows.declared.observation.Instance.{Instance}
+use Rattle.instance_keeper.specs.KeptRows.Servers.{are_known, source_servers}
+use Rattle.instance_keeper.specs.Book.{BookState, HasKnownSource, IsBook}
+use Rattle.instance_keeper.proofs.Books.{known_at}
 use Rattle.book_views.specs.Sources.{is_attached_to, seen_source}
+use Rattle.book_views.proofs.Reading.{known-below}
 use Rattle.failure_analysis.specs.declared.tally.Tally.{Tally}
 use Rattle.failure_analysis.specs.Analysis.{count_of, is_any, is_replica_that, is_valid, lags, replicates}
 use Rattle.failure_analysis.specs.Tallies.{no_replicas, raised, tally_of, AreParts}
@@ -113,7 +116,20 @@ not-attached n Without no-source = refl
 not-attached n (Attached s) no-source = absurd (no-source s refl)
 not-attached n (Detached s) no-source = refl
 
-pub no-instance : (n : ServerNo) (found : Option (Bor Instance)) (x : Option Instance) → option_copied found ≡ x → ((i : Bor Instance) → found ≡ Some i → ⊥)
-    → is_attached_to n (seen_source x) ≡ false
-no-instance n None x is none = ap (λ y. is_attached_to n (seen_source y)) (sym is)
-no-instance n (Some i) x is none = absurd (none i refl)
+-- what is known of a server, among references to all that is known
+place-in : (ps : List (Bor (Option Instance))) (i : ℕ) (p : Bor (Option Instance)) → i < length ps → p ≡ get_or ps i p → get_or (map (λ q. q.now) ps) i None ≡ p.now
+place-in [] i p within is = absurd (omega (arith, within))
+place-in (q ∷ ps) zero p within is = ap (λ r. r.now) (sym is)
+place-in (q ∷ ps) (suc i) p within is = place-in ps i p (omega (arith, within)) is
+
+pub place-at : (b : BookState) (ps : List (Bor (Option Instance))) (i : ℕ) (p : Bor (Option Instance)) → map (λ q. q.now) ps ≡ b.instances → i < length ps → p ≡ get_or ps i p → get_or b.instances i None ≡ p.now
+place-at b ps i p all within is = ap (λ xs. get_or xs i None) (sym all) ∙ place-in ps i p within is
+
+pub places-all : (b : BookState) (ps : List (Bor (Option Instance))) → map (λ q. q.now) ps ≡ b.instances → length ps ≡ length b.instances
+places-all b ps all = sym (length-map ps (λ q. q.now)) ∙ ap length all
+
+-- its source is one of the servers
+pub source-known : (b : BookState) (i : ℕ) (r : Instance) (s : ServerNo) → IsBook b → get_or b.instances i None ≡ Some r → r.seen.source ≡ Attached s → s.0 < length b.names
+source-known b i r s is at attached =
+    let known : HasKnownSource (length b.names) (Some r) = subst (HasKnownSource (length b.names)) at (known_at b i is) in
+    known-below (length b.names) s.0 (subst (λ (x : SourceState). are_known (length b.names) (source_servers x) ≡ true) attached known)

@@ -1,8 +1,8 @@
 -- One entry for each instance, in name order.
-use Rattle.std.proofs.Common.{◌≡◌, ℕ, ◌+◌, ◌<◌, cond, List, [], ◌∷◌, ◌++◌, length, map, get_or, take, suc, refl, sym, ◌∙◌, ap, Bor, Option, None, Some, arith, zero-add}
+use Rattle.std.proofs.Common.{◌≡◌, ℕ, ◌+◌, ◌<◌, cond, List, [], ◌∷◌, ◌++◌, length, map, get_or, take, suc, refl, sym, ◌∙◌, ap, Option, None, Some, arith, zero-add}
 use Rattle.std.specs.Prelude.{count_by, filter, filter_map, is_some}
 use Rattle.std.specs.List.{cons_option, range_with_len, sum_by}
-use Rattle.std.specs.Option.{option_copied, option_map, option_to_list}
+use Rattle.std.specs.Option.{option_map, option_to_list}
 use Rattle.std.proofs.Math.Bool.{and-true}
 use Rattle.std.proofs.Math.Nat.{add-zero}
 use Rattle.std.proofs.lemmas.List.Sorted.{sum_by-IsPermutation}
@@ -46,12 +46,10 @@ entries-pushed b order i d x t e within at tally named counts code =
     is = λ j. record { no = named j; code = (code ∙ ap code_of counted) j; counts = counted j }
 
 -- one that isn't
-pub entries-passed : (b : BookState) (order : List ServerNo) (i : ℕ) (d : ServerNo) (found : Option (Bor Instance)) → i < length order
-    → option_copied found ≡ instance_at b (get_or order i d) → ((x : Bor Instance) → found ≡ Some x → ⊥)
+pub entries-passed : (b : BookState) (order : List ServerNo) (i : ℕ) (d : ServerNo) → i < length order → instance_at b (get_or order i d) ≡ None
     → filter_map (entry_at b) (take i order) ≡ filter_map (entry_at b) (take (i + 1) order)
-entries-passed b order i d None within at none =
-    sym (entries-more b order i d None within (ap (option_map (entry_of b (get_or order i d))) (sym at)) ∙ append-nil (filter_map (entry_at b) (take i order)))
-entries-passed b order i d (Some x) within at none = absurd (none x refl)
+entries-passed b order i d within none =
+    sym (entries-more b order i d None within (ap (option_map (entry_of b (get_or order i d))) none) ∙ append-nil (filter_map (entry_at b) (take i order)))
 
 -- ---- laws
 

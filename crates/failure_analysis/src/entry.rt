@@ -55,11 +55,14 @@ fn entry_of(no: ServerNo, instance: &Instance, tally: Tally) -> Entry
 pub fn analyse(alloc: Global, book: &Book) -> Result<Vec<Entry>, Memory>
     ensures { IfOk result (λ entries. entries.items ≡ analysis book.now) }
 {
-    let tallies = tallies(alloc, book)?;
+    // shows the proof that each server has its place
+    let _ = book.servers();
+    let instances = book.instances(alloc)?;
+    let tallies = tallies(alloc, book, &instances)?;
     let mut entries = Vec::new(alloc);
     let order = book.order();
     for no in order {
-        if let Some(instance) = book.instance(*no) {
+        if let Some(instance) = instances[no.0 as usize] {
             entries.push(entry_of(*no, instance, tallies[no.0 as usize]))?;
         }
     }

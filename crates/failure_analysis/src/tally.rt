@@ -1,13 +1,12 @@
 //! Replicas, counted for each server in one pass over the instances.
 
-ghost use Rattle.std.specs.Prelude.{◌≡◌, ℕ, ◌+◌, ◌<◌, ◌^◌, IfOk, length, replicate, slice_index_or};
+ghost use Rattle.std.specs.Prelude.{◌≡◌, ℕ, ◌+◌, ◌<◌, ◌^◌, IfOk, length, map, replicate, slice_index_or};
 ghost use Rattle.instance_keeper.specs.OrchBase.declared.server.ServerNo.{ServerNo as Number};
 ghost use Rattle.failure_analysis.specs.Analysis.{lags, replicates};
 ghost use Rattle.failure_analysis.specs.Tallies.{no_replicas, raised, tally_of, AreParts};
 
 use crate::Memory;
-use crate::orch_base::{IoState, ServerNo, SourceState};
-use book_views::seen_source;
+use crate::orch_base::{IoState, SourceState};
 use instance_keeper::{Book, Instance};
 use std::alloc::Global;
 
@@ -61,18 +60,22 @@ fn no_tallies(alloc: Global, count: u32) -> Result<Vec<Tally>, Memory>
     Ok(tallies)
 }
 
-/// The counts of each server, by number.
-pub(crate) fn tallies(alloc: Global, book: &Book) -> Result<Vec<Tally>, Memory>
+/// The counts of each server, by number, of all that is known.
+pub(crate) fn tallies(
+    alloc: Global,
+    book: &Book,
+    instances: &[&Option<Instance>],
+) -> Result<Vec<Tally>, Memory>
+    requires { map (λ place. place.now) instances.now ≡ book.now.instances }
     ensures count { IfOk result (λ tallies. length tallies.items ≡ length book.now.names) }
     ensures tallies { IfOk result (λ tallies. (n : Number) → n.0 < length book.now.names →
         slice_index_or tallies.items n.0 no_replicas ≡ tally_of book.now.instances n) }
 {
     let count = book.servers();
     let mut tallies = no_tallies(alloc, count)?;
-    for number in 0..count {
-        let no = ServerNo(number);
-        if let Some(replica) = book.instance(no) {
-            if let SourceState::Attached(source) = seen_source(book, no) {
+    for place in instances {
+        if let Some(replica) = place {
+            if let SourceState::Attached(source) = replica.seen.source {
                 tallies[source.0 as usize].raise(replica);
             }
         }

@@ -1,9 +1,9 @@
 -- What keeps a book a book.
 use Rattle.std.proofs.Common.{◌≡◌, ℕ, suc, zero, ◌+◌, ◌<◌, ◌^◌, Bool, true, List, [], ◌∷◌, length, get_or, replicate, Option, None, Some, refl, sym, ap, ◌∙◌, subst, All, zero-add, add-zero, arith}
-use Rattle.std.specs.Prelude.{IfSome, slice_get, slice_set, option_map, unwrap_or}
+use Rattle.std.specs.Prelude.{IfSome, slice_set, option_map, unwrap_or}
 use Rattle.instance_keeper.proofs.Prelude.{All-head, All-replicate, All-set, All-tail, BookState, Bridge, Candidate, Change, Downtime, HasKnownSource}
 use Rattle.instance_keeper.proofs.Prelude.{Instance, IsBook, IsNumbered, Key, Observation, Row, ServerNo, Settings, Status as Seen, Table}
-use Rattle.instance_keeper.proofs.Prelude.{after_change, after_put, after_removal, are_known, empty_book, fits, get_or_from_slice_get, instance_at}
+use Rattle.instance_keeper.proofs.Prelude.{after_change, after_put, after_removal, are_known, empty_book, fits, instance_at}
 use Rattle.instance_keeper.proofs.Prelude.{length-map, length-replicate, length-set, names_of, observed_servers, renewed, rest_known, row_fits}
 use Rattle.instance_keeper.proofs.Prelude.{seen_servers, source_servers}
 use Rattle.instance_keeper.proofs.Prelude.change
@@ -206,26 +206,18 @@ known_at b n is = known_in (length b.names) n b.instances is.sources
 abbrev pub renewed_at : BookState → Observation → Option Instance
 renewed_at b o = option_map (λ i. renewed i o) (instance_at b o.no)
 
-renewal_values : (b : BookState) (o : Observation) (place next : Option Instance) (now : List (Option Instance))
-    → slice_get b.instances o.no.0 ≡ Some place → next ≡ option_map (λ i. renewed i o) place → now ≡ slice_set b.instances o.no.0 next
-    → now ≡ slice_set b.instances o.no.0 (renewed_at b o)
-renewal_values b o place next now at n e =
-    e ∙ ap (slice_set b.instances o.no.0) (n ∙ ap (λ q. option_map (λ i. renewed i o) q) (sym (get_or_from_slice_get b.instances o.no.0 place None at)))
-
-pub renewal_kept : (b view : BookState) (o : Observation) (place next : Option Instance) (now : List (Option Instance)) → b ≡ view → IsBook b → are_known (length view.names) (observed_servers o) ≡ true
-    → slice_get b.instances o.no.0 ≡ Some place → next ≡ option_map (λ i. renewed i o) place → now ≡ slice_set b.instances o.no.0 next
+pub renewal_kept : (b view : BookState) (o : Observation) (now : List (Option Instance)) → b ≡ view → IsBook b → are_known (length view.names) (observed_servers o) ≡ true → now ≡ slice_set b.instances o.no.0 (renewed_at b o)
     → IsBook (record b { instances = now })
-renewal_kept b view o place next now same is h at n e =
+renewal_kept b view o now same is h e =
     let h2 : are_known (length b.names) (observed_servers o) ≡ true = subst (λ v. are_known (length v.names) (observed_servers o) ≡ true) (sym same) h in
     let g : are_known (length b.names) (seen_servers o.seen) ≡ true = rest_known (length b.names) o.no.0 (seen_servers o.seen) h2 in
-    subst (λ l. IsBook (record b { instances = l })) (sym (renewal_values b o place next now at n e))
+    subst (λ l. IsBook (record b { instances = l })) (sym e)
     (instance_set b o.no.0 (renewed_at b o) is (renewed_own o (instance_at b o.no)) (renewed_known (length b.names) o (instance_at b o.no) (known_at b o.no.0 is) g))
 
-pub renewal_gives : (b view : BookState) (o : Observation) (place next : Option Instance) (now : List (Option Instance)) → b ≡ view
-    → slice_get b.instances o.no.0 ≡ Some place → next ≡ option_map (λ i. renewed i o) place → now ≡ slice_set b.instances o.no.0 next
+pub renewal_gives : (b view : BookState) (o : Observation) (now : List (Option Instance)) → b ≡ view → now ≡ slice_set b.instances o.no.0 (renewed_at b o)
     → record b { instances = now } ≡ record view { instances = slice_set view.instances o.no.0 (renewed_at view o) }
-renewal_gives b view o place next now same at n e =
-    ap (λ (l : List (Option Instance)). record b { instances = l }) (renewal_values b o place next now at n e)
+renewal_gives b view o now same e =
+    ap (λ (l : List (Option Instance)). record b { instances = l }) e
     ∙ ap (λ (v : BookState). record v { instances = slice_set v.instances o.no.0 (renewed_at v o) }) same
 
 pub change_is : (b : BookState) (c : Change) → IsBook b → fits (length b.names) c ≡ true → IsBook (after_change b c)

@@ -7,7 +7,7 @@ pub use Rattle.std.proofs.lemmas.List.Elements.{All-append, All-cons, All-head, 
 pub use Rattle.std.proofs.lemmas.List.Elements.{filter_map-append}
 pub use Rattle.std.proofs.lemmas.List.FromFn.{get_or-map-range_with_len, length-map-range_with_len}
 pub use Rattle.std.proofs.lemmas.List.Kept.{AllPairs-cons}
-pub use Rattle.std.proofs.lemmas.Option.{get_or_from_slice_get}
+pub use Rattle.std.proofs.lemmas.Option.{slice_get-get_or}
 pub use Rattle.std.specs.Cmp.Lexicographic.{pointwise, same_text}
 pub use Rattle.std.specs.List.{AllPairs, slice_set}
 pub use Rattle.std.specs.Option.{option_flatten, option_to_list}

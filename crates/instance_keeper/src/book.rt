@@ -54,7 +54,9 @@ fn put_at(instances: &mut Instances, no: u32, instance: Option<Instance>)
     ensures keys { CountsUp 0 instances.new.entries }
     ensures values { values instances.new ≡ slice_set (values instances.old) no instance }
 {
-    instances[no as usize] = instance;
+    if let Some(place) = instances.get_mut(&no) {
+        *place = instance;
+    }
 }
 
 fn instance_in(instances: &Instances, no: u32) -> Option<&Instance>
@@ -62,7 +64,7 @@ fn instance_in(instances: &Instances, no: u32) -> Option<&Instance>
     requires within { no < length (values instances.now) }
     ensures { option_copied result ≡ slice_index_or (values instances.now) no None }
 {
-    instances[no as usize].as_ref()
+    instances.get(&no)?.as_ref()
 }
 
 // The place that a row sets, where a book of so many servers takes it and its place doesn't stand before this one.
@@ -100,6 +102,20 @@ fn renew_place(place: &mut Option<Instance>, o: Observation)
         if let Some(seen) = o.seen {
             kept.seen = seen;
         }
+    }
+}
+
+// Renews what is known of an instance, at its number.
+#[inline(always)]
+fn renew_at(instances: &mut Instances, o: Observation)
+    requires keys { CountsUp 0 instances.old.entries }
+    requires within { o.no.0 < length (values instances.old) }
+    ensures keys { CountsUp 0 instances.new.entries }
+    ensures values { values instances.new ≡ slice_set (values instances.old) o.no.0
+        (option_map (λ i. renewed i o) (slice_index_or (values instances.old) o.no.0 None)) }
+{
+    if let Some(place) = instances.get_mut(&o.no.0) {
+        renew_place(place, o);
     }
 }
 
@@ -328,6 +344,13 @@ impl Book {
         ensures { option_copied result ≡ instance_at self.now no }
     {
         instance_in(&self.instances, no.0)
+    }
+
+    /// What is known of each server, by number: none where it is no instance. `Err` is want of memory.
+    pub fn instances(&self, alloc: Global) -> Result<Vec<&Option<Instance>>, Memory>
+        ensures { IfOk result (λ v. map (λ place. place.now) v.items ≡ self.now.instances) }
+    {
+        self.instances.values().collect(alloc)
     }
 
     /// A server's downtime as it is kept, whether or not it still lasts.
@@ -578,8 +601,7 @@ impl Book {
         requires { are_known (length self.old.names) (observed_servers o) ≡ true }
         ensures { self.new ≡ record self.old { instances = slice_set self.old.instances o.no.0 (option_map (λ i. renewed i o) (instance_at self.old o.no)) } }
     {
-        let no = o.no.0 as usize;
-        renew_place(&mut self.instances[no], o);
+        renew_at(&mut self.instances, o);
     }
 
     /// How storing this reading changes the kept rows: not at all where it isn't stored, or the instance stays equal.

@@ -153,3 +153,6 @@ puts_rising rows (r ∷ rs) h = puts_rising (put rows r) rs (put_rising rows r h
 
 pub map_of_rising : (rows : List Row) → IsRising (map_of rows)
 map_of_rising rows = puts_rising [] rows (record { apart = λ i j d less within. absurd (omega (arith, within)) })
+
+pub map_rises : (rows map : List Row) → map ≡ map_of rows → IsRising map
+map_rises rows map e = rw e (map_of_rising rows)

@@ -28,6 +28,9 @@ puts_behind front (r ∷ rows) across rises =
 pub map_of-risen : (rows : List Row) → IsRising rows → map_of rows ≡ rows
 map_of-risen rows rising = puts_behind [] rows (All-nil (λ x. All (Before x) rows)) rising.apart
 
+pub given_back : (rows given : List Row) → IsRising rows → given ≡ rows → map_of given ≡ rows
+given_back rows given rising e = ap map_of e ∙ map_of-risen rows rising
+
 steps : (rows : List Row) → AllAdjacentBelow (λ x y. true ≡ nat_lt (sort_key_of x) (sort_key_of y)) rows (length rows)
     → (i n : ℕ) (d : Row) → i + suc n < length rows → sort_key_of (get_or rows i d) < sort_key_of (get_or rows (i + suc n) d)
 steps rows each i zero d within = ltb-true _ _ (sym (each i d within))

@@ -1,9 +1,8 @@
 //! Keepers of rows.
 
-ghost use Rattle.std.specs.Prelude.{◌≡◌, ℕ, List, Option, IfSome, IfOk};
+ghost use Rattle.std.specs.Prelude.{◌≡◌, ℕ, List, Option, IfOk};
 ghost use Rattle.kept_rows.specs.declared.row.Row.{Row};
-ghost use Rattle.kept_rows.specs.Keeping.{KeepsAll, HasKeeperCause};
-ghost use Rattle.kept_rows.specs.Rows.{IsRising};
+ghost use Rattle.kept_rows.specs.Keeping.{GivesAll, HasKeeperCause, KeepsAll};
 
 use crate::Memory;
 use crate::orch_base::Name;
@@ -40,23 +39,23 @@ impl fmt::Display for KeeperFault {
     }
 }
 
-/// A keeper of rows, by the rows that it keeps in rising order, where they are known, and its count of faults.
+/// A keeper of rows, by the rows that it keeps in rising order, where they are known, and its count of faults, which never
+/// falls.
 pub trait Keeper {
     ghost kept: { Self → Option (List Row) };
 
     ghost faults: { Self → ℕ };
 
     /// Makes all the changes, one after another, or, at a fault, none. The names are those of the servers by number.
-    /// `Failed` is counted as one fault, and nothing else is.
+    /// `Failed` comes only where the count of faults rose.
     fn keep(&mut self, alloc: Global, names: &[Name], changes: &[Change]) -> Result<(), KeeperFault>
         ensures kept { KeepsAll (kept self.old) (kept self.new) changes.now result }
         ensures cause { HasKeeperCause (faults self.old) (faults self.new) result };
 
-    /// Gives all rows, in rising order by table, then key, one of each, and changes none. The names are those of the
-    /// servers by number. `Failed` is counted as one fault, and nothing else is.
+    /// Gives all rows, in any order, and changes none: of two with one table and key the last stands. The names are those
+    /// of the servers by number. `Failed` comes only where the count of faults rose.
     fn rows(&mut self, alloc: Global, names: &[Name]) -> Result<Vec<Row>, KeeperFault>
-        ensures told { IfSome (kept self.old) (λ rows. IfOk result (λ given. given.items ≡ rows)) }
-        ensures rising { IfOk result (λ given. IsRising given.items) }
+        ensures told { IfOk result (λ given. GivesAll (kept self.old) given.items) }
         ensures same { kept self.new ≡ kept self.old }
         ensures cause { HasKeeperCause (faults self.old) (faults self.new) result };
 }

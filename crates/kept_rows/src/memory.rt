@@ -1,10 +1,10 @@
 //! A keeper in memory, which fails at the calls that are listed.
 
-ghost use Rattle.std.specs.Prelude.{◌≡◌, ◌<◌, ◌≤◌, ◌+◌, ◌↔◌, Some, IfSome, fold, true, IfOk, OnOk, OnErr, Err, length, nat_lt, vec_len, vec_capacity};
+ghost use Rattle.std.specs.Prelude.{◌≡◌, ◌<◌, ◌≤◌, ◌+◌, ◌↔◌, Some, fold, true, IfOk, OnOk, OnErr, Err, length, nat_lt, vec_len, vec_capacity};
 ghost use Rattle.std.specs.Bool.{OnTrue, OnFalse};
 ghost use Rattle.std.specs.List.{HoldsAt};
 ghost use Rattle.server_words.specs.OrchBase.Memory.{fails_next, next_count};
-ghost use Rattle.kept_rows.specs.Keeping.{KeepsAll, HasKeeperCause, after_call};
+ghost use Rattle.kept_rows.specs.Keeping.{CountsFailures, GivesAll, HasKeeperCause, KeepsAll, after_call};
 ghost use Rattle.kept_rows.specs.SortKeys.{at, IsFirstFrom};
 ghost use Rattle.kept_rows.specs.Rows.{changed, changed_by, map_of, sort_key, sort_key_of, put, remove, IsRising};
 
@@ -364,6 +364,7 @@ impl Keeper for MemKeeper {
     ) -> Result<(), KeeperFault>
         ensures kept { KeepsAll (Some self.old.rows) (Some self.new.rows) changes.now result }
         ensures cause { HasKeeperCause self.old.faults self.new.faults result }
+        ensures counts { CountsFailures self.old.faults self.new.faults result }
         ensures failed { (result ≡ Err KeeperFault.Failed) ↔ (fails_next self.old.fail_at self.old.calls ≡ true) }
         ensures ok { OnOk result (self.new ≡ record (after_call self.old) { rows = changed self.old.rows changes.now }) }
         ensures err { OnErr result (self.new ≡ after_call self.old) }
@@ -383,10 +384,12 @@ impl Keeper for MemKeeper {
 
     /// Gives copies of all rows, by table, then key.
     fn rows(&mut self, alloc: Global, _names: &[Name]) -> Result<Vec<Row>, KeeperFault>
-        ensures told { IfSome (Some self.old.rows) (λ rows. IfOk result (λ given. given.items ≡ rows)) }
+        ensures told { IfOk result (λ given. GivesAll (Some self.old.rows) given.items) }
+        ensures given { IfOk result (λ given. given.items ≡ self.old.rows) }
         ensures rising { IfOk result (λ given. IsRising given.items) }
         ensures same { Some self.new.rows ≡ Some self.old.rows }
         ensures cause { HasKeeperCause self.old.faults self.new.faults result }
+        ensures counts { CountsFailures self.old.faults self.new.faults result }
         ensures failed { (result ≡ Err KeeperFault.Failed) ↔ (fails_next self.old.fail_at self.old.calls ≡ true) }
         ensures after { self.new ≡ after_call self.old }
     {

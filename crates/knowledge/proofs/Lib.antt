@@ -1,3 +1,5 @@
+pub mod Given
+pub mod Causes
 pub mod Newer
 pub mod Closings
 pub mod Remaining

@@ -14,6 +14,7 @@ ghost use Rattle.command_outcomes.specs.Turns.Plain.{is_plain};
 
 use crate::TurnFault;
 use crate::instance_keeper_items::{Book, Change, Instance, Keeper, Observation, Row, StoreAnswer};
+use crate::kept_rows_items::row_map;
 use crate::orch_base::{Name, ServerNo};
 use crate::turns::Reply;
 use std::alloc::Global;
@@ -202,7 +203,7 @@ pub fn keep_some<K: Keeper>(
     keep(alloc, keeper, names, changes)
 }
 
-/// The rows that the keeper hands back, in rising order.
+/// The rows that the keeper hands back, in rising order: of two with one table and key the last that it gave.
 pub fn given_rows<K: Keeper>(
     alloc: Global,
     keeper: &mut K,
@@ -213,7 +214,8 @@ pub fn given_rows<K: Keeper>(
     ensures kept { K.kept keeper.new ≡ K.kept keeper.old }
     ensures cause { HasTurnCause (K.faults keeper.old) (K.faults keeper.new) result }
 {
-    Ok(keeper.rows(alloc, names)?)
+    let given = keeper.rows(alloc, names)?;
+    Ok(row_map(alloc, given)?)
 }
 
 fn reply_by(answer: StoreAnswer) -> Reply

@@ -43,7 +43,7 @@ pub use Rattle.top_call.specs.Tasks.declared.asked.Task.{Task}
 pub use Rattle.top_call.specs.Tasks.declared.ending.Ending.{Ending}
 pub use Rattle.top_call.specs.Tasks.declared.ending.Ending.TheVariants as ends
 pub use Rattle.top_call.specs.Ends.{AskToDraw, Call, DrawEnds, EndsBy, FaultsBy, FaultsOf, Idles, IsComplete, IsGood, IsReported, IsUsage, NoneRose}
-pub use Rattle.top_call.specs.Ends.{ReadsWhole, StopsAtFirst, call, status_of}
+pub use Rattle.top_call.specs.Ends.{ReadsWhole, FailsByKeeper, call, status_of}
 pub use Rattle.top_call.specs.Faults.{fault_text}
 pub use Rattle.top_call.specs.Reads.{OfRead, ReadsAs}
 pub use Rattle.top_call.specs.Report.{ByReport, EndsAs, KeepsRows, WritesErr, WritesOut}
@@ -54,3 +54,4 @@ pub use Rattle.top_call.specs.declared.way.Way.TheVariants as way
 pub use Rattle.top_call.specs.Turns.declared.turn.Turn.{Turn}
 pub use Rattle.top_call.specs.UnendedJobs.declared.docket.Docket.{Docket}
 pub use Rattle.top_call.specs.UnendedJobs.declared.unended.Unended.TheVariants as unended
+pub use Rattle.top_call.specs.Promises.{Promises}

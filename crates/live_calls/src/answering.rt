@@ -1,7 +1,7 @@
 //! What is answered to words that ask for a live run.
 
 ghost use Rattle.std.specs.Prelude.{◌≡◌, IfSome, true};
-ghost use Rattle.live_calls.specs.Prelude.{Consumes, IsReported, IsScenario, IsTaken, Rose, StopsAtFirst, across, is_live, status_of};
+ghost use Rattle.live_calls.specs.Prelude.{Consumes, IsReported, IsScenario, IsTaken, Rose, FailsByKeeper, across, is_live, status_of};
 ghost use Rattle.live_calls.specs.Ends.{LiveEndsOf, LiveEndsOver};
 
 use crate::command_line::Places;
@@ -36,7 +36,7 @@ fn report<R: Threads + Wait + Sync, G: Gate + Sync, O: Sink, E: Sink, K: Keeper>
         (across (E.written err.old) (E.faults err.old) (E.written err.new) (E.faults err.new))
         result }
     ensures sink { result ≡ Way.Sink → Rose (O.faults out.old) (O.faults out.new) }
-    ensures keeper { StopsAtFirst (K.faults keeper.old) (K.faults keeper.new) (status_of result) }
+    ensures keeper { FailsByKeeper (K.faults keeper.old) (K.faults keeper.new) (status_of result) }
     ensures not_source { result ≡ Way.Source → ⊥ }
     ensures not_usage { result ≡ Way.Usage → ⊥ }
 {
@@ -85,7 +85,7 @@ pub(crate) fn answer<
     ensures not_usage { result ≡ Way.Usage → ⊥ }
     ensures source { result ≡ Way.Source → Rose (S.faults source.old) (S.faults source.new) }
     ensures sink { result ≡ Way.Sink → Rose (O.faults out.old) (O.faults out.new) }
-    ensures keeper { StopsAtFirst (K.faults keeper.old) (K.faults keeper.new) (status_of result) }
+    ensures keeper { FailsByKeeper (K.faults keeper.old) (K.faults keeper.new) (status_of result) }
     ensures read { IsReported result
         → IfSome (S.left source.old)
         (λ bytes. Consumes (S.left source.old) (S.left source.new) bytes) }

@@ -1,9 +1,9 @@
 //! The top call.
 
 ghost use Rattle.std.specs.Prelude.{◌≡◌, ◌⊎◌, ℕ, List, map, IfOk, IfSome};
-ghost use Rattle.live_calls.specs.Prelude.{ActAlone, AskToDraw, BeginApart, ByReport, DrawEnds, Drawing, EndsAs, EndsBy, FaultsOf, FinishWell};
-ghost use Rattle.live_calls.specs.Prelude.{IsComplete, IsGood, IsSafeRun, IsUsage, KeepsRows, NoneRose, ObeysTable, OfRead, ReadsWhole, Rose};
-ghost use Rattle.live_calls.specs.Prelude.{StopsAtFirst, TellHooks, TellTruly, WritesErr, WritesOut, across, call};
+ghost use Rattle.live_calls.specs.Prelude.{AskToDraw, ByReport, DrawEnds, Drawing, EndsAs, EndsBy, FaultsOf};
+ghost use Rattle.live_calls.specs.Prelude.{IsComplete, IsGood, IsUsage, KeepsRows, NoneRose, OfRead, Promises, ReadsWhole, Rose};
+ghost use Rattle.live_calls.specs.Prelude.{FailsByKeeper, WritesErr, WritesOut, across, call};
 ghost use Rattle.live_calls.specs.Ends.{AskLive, IsPlain, LiveEndsBy, LiveFaultsOf, LiveWords, RunsAlone};
 ghost use Rattle.live_calls.specs.Runs.{LiveGoesWell};
 
@@ -72,7 +72,7 @@ pub fn orch<R: Threads + Wait + Sync, G: Gate + Sync, S: Source, O: Sink, E: Sin
     ensures source { result ≡ 3 → Rose (S.faults scenario.old) (S.faults scenario.new) }
     ensures sink { result ≡ 4 → Rose (O.faults out.old) (O.faults out.new)
         ⊎ Rose (E.faults err.old) (E.faults err.new) }
-    ensures keeper { StopsAtFirst (K.faults keeper.old) (K.faults keeper.new) result }
+    ensures keeper { FailsByKeeper (K.faults keeper.old) (K.faults keeper.new) result }
     ensures read { IfSome (S.left scenario.old) (λ bytes. ReadsWhole
         (map (λ w. w.items) words.now) bytes result (S.left scenario.old) (S.left scenario.new)) }
 
@@ -129,29 +129,10 @@ pub fn orch<R: Threads + Wait + Sync, G: Gate + Sync, S: Source, O: Sink, E: Sin
         (across (E.written err.old) (E.faults err.old) (E.written err.new) (E.faults err.new))
         → IsComplete result) }
 
-    // Whatever bytes the source has, also where it doesn't tell them, elsewhere than in a live run: every state of each
-    // run of the words' turns over the scenario that they are, of the report's too, is held with its jobs in flight,
-    // its recoveries are apart, each that isn't ended has its unended job, a job's turn leaves the servers of others as
-    // they are, and every quiet state is sound and so safe, whatever rows the keeper hands back; and every command turn
-    // of such a run answers by the permission table, with the lowest number that applies, a refused one changing
-    // nothing.
-    ensures safe { (bytes : List ℕ) → IsSafeRun (map (λ w. w.items) words.now) bytes }
-    ensures commands { (bytes : List ℕ) → ObeysTable (map (λ w. w.items) words.now) bytes }
-
-    // In every such state recoveries begin apart by their block periods, as a command or a scan asked for them, and no
-    // entry is changed but by its own job's end or an acknowledgement. One that is done, by whatever turns and rows it
-    // came so far, leaves each replica that the book had attached to the failed server when it began promoted,
-    // following or lost for a true reason, and tells so; whom it drained, chose and promoted is so by what its turns
-    // showed and by the book that they had. One that ends tells the scenario's hooks that ran, in order; and until all
-    // before it have run it changes no server.
-    ensures begins { (bytes : List ℕ) → BeginApart (map (λ w. w.items) words.now) bytes }
-    ensures finishes { (bytes : List ℕ) → FinishWell (map (λ w. w.items) words.now) bytes }
-    ensures losses { (bytes : List ℕ) → TellTruly (map (λ w. w.items) words.now) bytes }
-
-    // In every such state at most one of several orchestrators is active, and takes their turns; where a claim passes
-    // from one to another, nothing of the other is left.
-    ensures alone { (bytes : List ℕ) → ActAlone (map (λ w. w.items) words.now) bytes }
-    ensures hooks { (bytes : List ℕ) → TellHooks (map (λ w. w.items) words.now) bytes }
+    // Whatever bytes the source has, also where it doesn't tell them, elsewhere than in a live run: what is promised of
+    // every run of the words' turns over the scenario that they are, of the report's too, whatever rows the keeper hands
+    // back.
+    ensures promises { (bytes : List ℕ) → Promises (map (λ w. w.items) words.now) bytes }
 
     // So it is in a live run, whatever turns its threads take.
     ensures well { (bytes : List ℕ) → LiveGoesWell (map (λ w. w.items) words.now) bytes }

@@ -1,8 +1,7 @@
 //! The kept rows of a live run: they lie in memory, and their keeper never fails.
 
-ghost use Rattle.std.specs.Prelude.{◌≡◌, [], Some, IfSome, IfOk};
-ghost use Rattle.orch_core.specs.KeptRows.Keeping.{KeepsAll, HasKeeperCause};
-ghost use Rattle.orch_core.specs.KeptRows.Rows.{IsRising};
+ghost use Rattle.std.specs.Prelude.{◌≡◌, [], Some, IfOk};
+ghost use Rattle.orch_core.specs.KeptRows.Keeping.{GivesAll, HasKeeperCause, KeepsAll};
 
 use crate::kept_rows_items::{Change, Keeper, KeeperFault, MemKeeper, Row};
 use crate::orch_base::{Memory, Name};
@@ -38,10 +37,11 @@ impl DeskRows {
 
 impl DeskRows {
     /// Copies of the rows, in rising order.
+    #[tactic(auto, using(crate::proofs::Unfailing::never_fails, crate::proofs::Unfailing::after_unfailing))]
     pub(crate) fn copied(&mut self, alloc: Global) -> Result<Vec<Row>, Memory>
         ensures { IfOk result (λ v. v.items ≡ self.old) }
     {
-        match self.rows(alloc, &[]) {
+        match self.keeper.rows(alloc, &[]) {
             Ok(rows) => Ok(rows),
             Err(KeeperFault::Memory) => Err(Memory),
             Err(KeeperFault::Failed) => unreachable!(),
@@ -68,8 +68,7 @@ impl Keeper for DeskRows {
 
     #[tactic(auto, using(crate::proofs::Unfailing::never_fails, crate::proofs::Unfailing::after_unfailing))]
     fn rows(&mut self, alloc: Global, names: &[Name]) -> Result<Vec<Row>, KeeperFault>
-        ensures told { IfSome (Some self.old) (λ rows. IfOk result (λ given. given.items ≡ rows)) }
-        ensures rising { IfOk result (λ given. IsRising given.items) }
+        ensures told { IfOk result (λ given. GivesAll (Some self.old) given.items) }
         ensures same { Some self.new ≡ Some self.old }
         ensures cause { HasKeeperCause 0 0 result }
     {

@@ -6,4 +6,4 @@ mod live;
 #[cfg(test)]
 mod meeting;
 
-use orch_core::{orch_base, scenarios_items, turns};
+use orch_core::{commands, orch_base, scenarios_items, turns};

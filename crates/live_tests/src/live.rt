@@ -3,8 +3,9 @@
 ghost use Rattle.std.specs.Prelude.{IfOk};
 ghost use Rattle.orch_core.specs.Scenarios.Scenarios.{IsScenario};
 
+use crate::commands::Refusal;
 use crate::meeting::Meeting;
-use crate::orch_base::Memory;
+use crate::orch_base::{Memory, ServerNo};
 use crate::scenarios_items::Scenario;
 use crate::turns::{Act, Reply, Step, Turn};
 use gates::NoGate;
@@ -89,7 +90,7 @@ fn the_caller_does_it_all(rt: HostRuntime) -> Result<(), Fail> {
     assert!(rt; entries.len() > 2);
     assert!(rt; entries.iter().all(|e| is_by(e, 0)));
     assert!(rt; matches!(&entries[0].2, Reply::Begun(1)));
-    assert!(rt; matches!(&entries[1].2, Reply::Refused(_)));
+    assert!(rt; matches!(&entries[1].2, Reply::Refused(Refusal::Busy(ServerNo(1), 1))));
     Ok(())
 }
 

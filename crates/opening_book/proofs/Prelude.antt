@@ -4,8 +4,8 @@ pub use Rattle.std.proofs.lemmas.Bool.{eq-eqb, false≢true, le-leb, leb-true, n
 pub use Rattle.std.proofs.lemmas.Fn.{filter_same}
 pub use Rattle.std.proofs.lemmas.Grind.{common_steps}
 pub use Rattle.std.proofs.lemmas.List.{length-drop, length-map, length-set, length-take, take_more}
-pub use Rattle.std.proofs.lemmas.List.Elements.{All-append, All-cons, All-filter, All-head, All-map, All-nil, All-tail, All-weaker, filter_map-append}
-pub use Rattle.std.proofs.lemmas.List.Elements.{filter_passes}
+pub use Rattle.std.proofs.lemmas.List.Elements.{All-append, All-cons, All-filter, All-head, All-map, All-nil, All-replicate, All-set, All-tail, All-weaker}
+pub use Rattle.std.proofs.lemmas.List.Elements.{filter_map-append, filter_passes}
 pub use Rattle.std.proofs.lemmas.List.Kept.{AllPairs-filter}
 pub use Rattle.std.proofs.lemmas.List.Quantifiers.{position-Some}
 pub use Rattle.std.proofs.lemmas.List.Sums.{fails_before_first, fold-append}
@@ -22,7 +22,8 @@ pub use Rattle.instance_keeper.proofs.BookLaws.{book_change, book_put}
 pub use Rattle.instance_keeper.proofs.Books.{change_is, empty_is}
 pub use Rattle.instance_keeper.proofs.NoRecovery.{no_recovery, row_in-elsewhere}
 pub use Rattle.instance_keeper.proofs.Steady.{same-change, same-put}
-pub use Rattle.instance_keeper.specs.Book.{BookState, IsBook, after_addition, after_change, after_put, after_row, book_rows, empty_book, shown_by}
+pub use Rattle.instance_keeper.specs.Book.{BookState, IsBook, after_addition, after_change, after_put, after_removal, after_row, book_rows, empty_book, shown_by}
+pub use Rattle.instance_keeper.specs.Had.{has_row}
 pub use Rattle.instance_keeper.specs.Bridges.{ring_at, ringed, with_bridge}
 pub use Rattle.instance_keeper.specs.declared.bridge.Bridge.{Bridge}
 pub use Rattle.instance_keeper.proofs.KeptRows.Known.{both_true, head_known}
@@ -49,12 +50,14 @@ pub use Rattle.instance_keeper.specs.KeptRows.declared.row.Table.{Table}
 pub use Rattle.instance_keeper.specs.KeptRows.declared.row.Table.TheVariants as table
 pub use Rattle.opening_book.specs.Audits.{audit_of, id_in, is_instance, last_id, later_id, latest_recovery}
 pub use Rattle.opening_book.specs.Counting.{counted, counts, greatest, greatest_id, is_block_in_range, is_end_in_range, is_in_range, last_read}
-pub use Rattle.opening_book.specs.Counting.{latest, loaded}
+pub use Rattle.opening_book.specs.Counting.{later_read, latest, loaded}
 pub use Rattle.opening_book.specs.Following.{Follow, FollowAudit, IsAudited, IsIdInRange, IsKeptFor, is_for_book}
-pub use Rattle.opening_book.specs.Opening.{after_opening, block_given, blocks_given, changes_from, interrupting, is_opening_change, loading, missing}
-pub use Rattle.opening_book.specs.Opening.{missing_from, opened_book, opening_instance, registering, registering_from}
+pub use Rattle.opening_book.specs.Opening.{after_first, after_opening, block_given, blocks_given, changes_from, interrupting, is_opening_change, loading, missing}
+pub use Rattle.opening_book.specs.Opening.{missing_from, opened_book, opening_changes, opening_instance, put_instance, registered, registering, registering_from}
+pub use Rattle.opening_book.specs.Reads.{AreReadWithin}
 pub use Rattle.instance_keeper.specs.OrchBase.Names.{HostPort}
 pub use Rattle.instance_keeper.specs.OrchBase.declared.recovery.Ending.TheVariants as ending
+pub use Rattle.instance_keeper.specs.OrchBase.declared.rule.Rule.{Rule}
 pub use Rattle.instance_keeper.specs.OrchBase.declared.server.Moment.{Moment}
 pub use Rattle.instance_keeper.specs.OrchBase.declared.server.ServerNo.{ServerNo}
 pub use Rattle.instance_keeper.specs.OrchBase.declared.server.Settings.{Settings}

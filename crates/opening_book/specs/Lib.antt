@@ -3,3 +3,4 @@ pub mod Counting
 pub mod Audits
 pub mod Opening
 pub mod Following
+pub mod Reads

@@ -1,12 +1,14 @@
 //! What holds of kept rows and the book.
 
-ghost use Rattle.std.specs.Prelude.{◌≡◌, ◌+◌, ◌-◌, ◌<◌, ◌≤◌, ◌^◌, ℕ, All, true, length, map, List};
-ghost use Rattle.opening_book.specs.Prelude.{AuditState, BookState, Change, IsInRange, IsRising, Moment as AMoment, Recovery, Row, Settings, acking};
+ghost use Rattle.std.specs.Prelude.{◌≡◌, ◌+◌, ◌-◌, ◌<◌, ◌≤◌, ◌^◌, ℕ, All, Bool, true, length, map, List, Option};
+ghost use Rattle.opening_book.specs.Prelude.{AuditState, BookState, Change, IsInRange, IsRising, Moment as AMoment, Recovery, Row, Rule as ARule, Settings, World as AWorld};
+ghost use Rattle.opening_book.specs.Prelude.{acking};
 ghost use Rattle.opening_book.specs.Prelude.{acknowledged, after_change, changed, changed_by, closed, fits, put_recovery};
 ghost use Rattle.opening_book.specs.Audits.{last_id};
-ghost use Rattle.opening_book.specs.Counting.{counted, greatest_id, loaded};
+ghost use Rattle.opening_book.specs.Counting.{counted, greatest_id, last_read, loaded};
 ghost use Rattle.opening_book.specs.Following.{AreShort, Follow, FollowAudit, FollowOnceLoaded, IsIdInRange};
-ghost use Rattle.opening_book.specs.Opening.{after_opening, blocks_given, interrupting, is_opening_change};
+ghost use Rattle.opening_book.specs.Opening.{after_opening, blocks_given, interrupting, is_opening_change, loading, opened_book, opening_changes};
+ghost use Rattle.opening_book.specs.Reads.{AreReadWithin};
 
 /// Kept rows follow the book that is loaded of them, and go on to do so after each change of both that the book takes,
 /// at the opening and later: under each table and key for which the book has a row that row is kept, and under any
@@ -46,4 +48,14 @@ pub fn recoveries_are_no_rows_of_the_book()
         Follow rows b → Follow (changed rows (map put_recovery rs)) b }
     ensures given { (period : List ℕ → ℕ) (rows given : List Row) (b : BookState) (servers last : ℕ) → servers ≤ 2 ^ 32 → last < 2 ^ 64 →
         Follow rows b → Follow (changed rows (blocks_given period (counted servers last given))) b }
+{}
+
+/// Behind an opening no instance has a greater read number than the count of readings, whatever rows were handed back: it
+/// begins at the greatest number of those that count, and an instance that the opening adds was read never.
+pub fn openings_count_readings()
+    ensures loaded { (settings : List Settings) (last : ℕ) (rows : List Row) →
+        AreReadWithin (last_read (counted (length settings) last rows)) (loaded settings last rows) }
+    ensures opened { (reads : ℕ) (w : AWorld) (at : AMoment) (b : BookState) (known : List Bool) (rules : List (Option ARule)) (period : List ℕ → ℕ) (rows : List Row) (a : AuditState) →
+        AreReadWithin reads b →
+        AreReadWithin reads (opened_book b (opening_changes w at b known rules (loading period rows a at))) }
 {}

@@ -33,13 +33,13 @@ fn in_closed_places(rt: &HostRuntime) -> [io::Result<File>; 3] {
 }
 
 // What the scenario is read from: standard input, or the file of this path.
-fn input(rt: &HostRuntime, path: Option<OwnedText>) -> Input {
+fn source(rt: &HostRuntime, path: Option<OwnedText>) -> FileSource<Input> {
     let Some(path) = path else {
-        return Input::Standard(rt.stdin());
+        return FileSource::new(Input::Standard(rt.stdin()));
     };
     match File::open(rt, path.as_str()) {
-        Ok(file) => Input::Opened(file),
-        Err(_) => Input::Missing,
+        Ok(file) => FileSource::new(Input::Opened(file)),
+        Err(why) => FileSource::unopened(Input::Missing, why),
     }
 }
 
@@ -71,7 +71,7 @@ fn main(rt: HostRuntime) -> ExitCode {
         Err(Usage::BadWords) => (None, None),
         Err(Usage::Memory) => return no_memory(&mut err),
     };
-    let mut source = FileSource::new(input(&rt, scenario));
+    let mut source = source(&rt, scenario);
     let mut out = StreamSink::new(rt.stdout());
     let mut keeper = match backend(&rt, alloc, db) {
         Ok(keeper) => keeper,

@@ -107,6 +107,7 @@ pub use Rattle.opening_book.proofs.Following.{names-change, names-opening}
 pub use Rattle.opening_book.proofs.Recoveries.{audit-loaded, audit-opened, last_id-within}
 pub use Rattle.opening_book.specs.Audits.{audit_of, last_id, latest_recovery, recovery_raised}
 pub use Rattle.opening_book.specs.Counting.{counted, counts, end_or, greatest, greatest_id, is_block_in_range, is_end_in_range, is_in_range}
+pub use Rattle.opening_book.specs.Reads.{AreReadWithin}
 pub use Rattle.opening_book.specs.Counting.{last_read, latest, loaded, raised}
 pub use Rattle.opening_book.specs.Opening.{after_opening, block_given, blocks_given, changes_from, interrupting, is_opening_change, loading, missing}
 pub use Rattle.opening_book.specs.Opening.{missing_from, opened_book, opening_changes, opening_instance, put_instance, registered, registering}
@@ -117,6 +118,7 @@ pub use Rattle.knowledge.specs.Openings.declared.init.ServerInit.{ServerInit}
 pub use Rattle.knowledge.specs.Operations.Turns.{is_going}
 pub use Rattle.knowledge.specs.Operations.declared.step.JobStep.{JobStep}
 pub use Rattle.knowledge.specs.Operations.declared.step.JobStep.TheVariants as jobstep
+pub use Rattle.knowledge.specs.OrchBase.Causes.{Rose}
 pub use Rattle.knowledge.specs.OrchBase.Memory.{next_count}
 pub use Rattle.knowledge.specs.OrchBase.declared.recovery.Ending.{Ending}
 pub use Rattle.knowledge.specs.OrchBase.declared.recovery.Ending.TheVariants as ending

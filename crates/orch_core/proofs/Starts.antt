@@ -1,21 +1,20 @@
 -- The state with which a scenario's run begins.
 use Rattle.std.proofs.Common.{◌≡◌, ◌∙◌, ℕ, ◌+◌, ◌<◌, ◌≤◌, ◌^◌, Bool, true, false, List, [], ◌∷◌, ◌++◌, length, get_or, refl, sym, ap, subst, Option, Some, None, Result, Err, arith}
 use Rattle.std.specs.Prelude.{All, IfSome, IsTrue, ◌&&◌, is_none, nat_lt, slice_index_or, if◌then◌else◌}
-use Rattle.orch_core.proofs.Prelude.{All-append, All-cons, All-map, All-nil, All-replicate, Attached, AuditState, BookState, Candidate, Change}
-use Rattle.orch_core.proofs.Prelude.{ClaimState, Configuration, Detached, Fits, HasKnownSource, HasTurnCause, HaveEntries, Instance, IsAudit}
+use Rattle.orch_core.proofs.Prelude.{All-append, All-cons, All-map, All-nil, All-replicate, AreReadWithin, Attached, AuditState, BookState, Candidate, Change}
+use Rattle.orch_core.proofs.Prelude.{ClaimState, Configuration, Detached, Fits, HasKnownSource, HaveEntries, Instance, IsAudit}
 use Rattle.orch_core.proofs.Prelude.{IsScenario, IsSlot, IsState, IsUnended, Moment, Observation, Recovery, Rise, Row, Rule, Scenario, Server}
-use Rattle.orch_core.proofs.Prelude.{ServerNo, Settings, StartsBy, State, TurnFault, Unended, World, after_change, after_opening, are_known}
+use Rattle.orch_core.proofs.Prelude.{ServerNo, Settings, StartsBy, State, Unended, World, after_change, after_opening, are_known}
 use Rattle.orch_core.proofs.Prelude.{audit-opened, audit_of, block_given, blocks_given, book_made, changed, changes_from, closed, closing}
 use Rattle.orch_core.proofs.Prelude.{configuration_of, cons_option, counted, empty_slots, flushes_of, get_or-le-sum_by, given-opened, greatest}
 use Rattle.orch_core.proofs.Prelude.{greatest_id, has_row, holder_of, interrupting, is_opening_change, kept_at_start, kept_claim, kept_if, last_id}
 use Rattle.orch_core.proofs.Prelude.{last_id-within, last_read, latest, length-map, length-replicate, loaded_audit, loaded_book, loaded_by, loading}
-use Rattle.orch_core.proofs.Prelude.{longest-at, longest_block, made as claims_made, missing, missing_from, names-opening, next_count, opened_book}
+use Rattle.orch_core.proofs.Prelude.{longest-at, longest_block, made as claims_made, missing, missing_from, names-opening, opened_book}
 use Rattle.orch_core.proofs.Prelude.{opened_world, opening_changes, opening_instance, parts_of, period_by, period_of, pollers, put_instance}
 use Rattle.orch_core.proofs.Prelude.{put_recovery, registered, registering, registering_from, room_of, row_fits, server_at, settings_of}
 use Rattle.orch_core.proofs.Prelude.{slice_get-get_or, slice_get_within, source_servers, source_state, start, start_changes, start_moment, start_rows}
 use Rattle.orch_core.proofs.Prelude.{start_world, transactions}
 use Rattle.orch_core.proofs.Prelude.change
-use Rattle.orch_core.proofs.Prelude.fault
 use Rattle.orch_core.proofs.Prelude.key
 use Rattle.orch_core.proofs.Prelude.row
 use Rattle.orch_core.proofs.Prelude.table
@@ -24,6 +23,8 @@ use Rattle.orch_core.proofs.Servers.{servers-start}
 use Rattle.orch_core.proofs.Sources.{KnowsSources, source-at}
 use Rattle.orch_core.proofs.Recoveries.{HasBegun, closed-begun, closed-is, counted-begun, latest-most}
 use Rattle.orch_core.proofs.States.{both_known, names-made, one_known, settings-made, settings-put}
+pub use Rattle.opening_book.proofs.Changes.{all-from, all-loading, all-opening}
+use Rattle.opening_book.proofs.ReadNumbers.{loaded-within, opening-within}
 
 -- ---- the servers
 
@@ -60,15 +61,6 @@ sources-start s is = λ k d within.
 
 -- ---- what holds of each change of an opening
 
-module _ (P : Change → Type 0) where
-  all-option : (o : Option Change) (cs : List Change) → IfSome o P → All P cs → All P (cons_option o cs)
-  all-option None cs here rest = rest
-  all-option (Some c) cs here rest = All-cons P c cs here rest
-
-  pub all-from : {A : Type 0} (f : ℕ → A → Option Change) (n : ℕ) (xs : List A) → ((k : ℕ) (x : A) → k < n + length xs → IfSome (f k x) P) → All P (changes_from f n xs)
-  all-from f n [] each = All-nil P
-  all-from f n (x ∷ xs) each = all-option (f n x) (changes_from f (n + 1) xs) (each n x (omega arith)) (all-from f (n + 1) xs (λ k y h. each k y (omega (arith, h))))
-
 module _ (P : Change → Type 0) (count : ℕ) (instances : (i : Instance) → row_fits count (row.Instance i) ≡ true → P (change.Put (row.Instance i)))
     (w : World) (at : Moment) (b : BookState) (sources : KnowsSources w.servers) (servers : length w.servers ≡ count) where
   at-instance : (n : ℕ) (o : Option Server) → server_at w n ≡ o → IfSome (put_instance w at n o) P
@@ -99,28 +91,6 @@ module _ (P : Change → Type 0) (count : ℕ) (candidates : (c : Candidate) →
 
   pub all-registering : (rules : List (Option Rule)) → length rules ≡ count → All P (registering_from at b 0 rules)
   all-registering rules there = all-from P (registering at b) 0 rules (λ n rule h. at-registering n rule (omega (arith, h, there)))
-
--- what holds of each part holds of all
-pub all-opening : (P : Change → Type 0) (w : World) (at : Moment) (b : BookState) (known : List Bool) (rules : List (Option Rule)) (recoveries : List Change) → All P (missing_from w at b 0 known) → All P (registering_from at b 0 rules)
-    → All P recoveries → All P (opening_changes w at b known rules recoveries)
-all-opening P w at b known rules recoveries instances candidates kept =
-    All-append P (missing_from w at b 0 known) (registering_from at b 0 rules ++ recoveries) instances (All-append P (registering_from at b 0 rules) recoveries candidates kept)
-
--- of what a load keeps of recoveries
-pub all-loading : (P : Change → Type 0) (period : List ℕ → ℕ) (rows : List Row) (a : AuditState) (at : Moment) → ((r : Recovery) → P (put_recovery r)) → All P (loading period rows a at)
-all-loading P period rows a at each = All-append P (blocks_given period rows) (interrupting a at) (given rows) (All-map P put_recovery (closing a at) (λ k d h. each _))
-  where
-    one : (r : Row) → IfSome (block_given period r) P
-    one (row.Recovery k) = go (is_none k.block)
-      where
-        go : (none : Bool) → IfSome (if none then Some (put_recovery (loaded_by period k)) else None) P
-        go true = each (loaded_by period k)
-        go false = tt
-    one _ = tt
-
-    given : (rows : List Row) → All P (blocks_given period rows)
-    given [] = All-nil P
-    given (r ∷ rows) = all-option P (block_given period r) (blocks_given period rows) (one r) (given rows)
 
 -- each is a change of an opening
 pub fits-opening : (w : World) (at : Moment) (b : BookState) (known : List Bool) (rules : List (Option Rule)) (recoveries : List Change) → KnowsSources w.servers → length b.names ≡ length w.servers → length rules ≡ length w.servers
@@ -296,20 +266,13 @@ module _ (s : Scenario) (given : List Row) (w : World) (settings : List Settings
   kept_made (Some rows) told =
       ap (λ (cs : List Change). Some (changed rows cs)) (changes_are ∙ ap (start_changes s) told)
 
--- memory ran out between the keeper's calls
-pub cause-stays : {A : Type 0} (before now : ℕ) → now ≡ before → HasTurnCause {A = A} before now (Err fault.Memory)
-cause-stays before now same = record {
-  later = omega (arith, same);
-  ok = tt;
-  failed = λ k. cc;
-  memory = λ k. same;
-}
+-- none of its instances has a greater read number than the count of readings
+pub start-reads : (s : Scenario) (wait : ℕ) (rows : List Row) → AreReadWithin (start s wait rows).reads (start s wait rows).book
+start-reads s wait rows =
+    let same : length (settings_of s) ≡ length s.opening.servers = length-map s.opening.servers (λ i. i.settings) in
+    opening-within (last_read (start_rows s rows)) (start_world s) (start_moment s rows) (loaded_book s rows) s.known s.rules (period_of s) (start_rows s rows) (loaded_audit s rows)
+    (subst (λ (n : ℕ). AreReadWithin (last_read (counted n greatest_id rows)) (loaded_book s rows)) same (loaded-within (settings_of s) greatest_id rows))
 
--- a fault that is handed on has the cause that it had
-pub cause-carried : {A B : Type 0} (before mid now : ℕ) (r : Result B TurnFault) (e : TurnFault) → mid ≡ before → r ≡ Err e → HasTurnCause mid now r → HasTurnCause {A = A} before now (Err e)
-cause-carried before mid now r e stays was h = record {
-  later = subst (λ (n : ℕ). n ≤ now) stays h.later;
-  ok = tt;
-  failed = λ k. let same : e ≡ fault.Keeper = cc in h.failed (was ∙ ap (λ (x : TurnFault). Err x) same) ∙ ap next_count stays;
-  memory = λ k. let same : e ≡ fault.Memory = cc in h.memory (was ∙ ap (λ (x : TurnFault). Err x) same) ∙ stays;
-}
+pub starts-reads : (kept : Option (List Row)) (s : Scenario) (wait : ℕ) (now : State) → StartsBy kept s wait now → AreReadWithin now.reads now.book
+starts-reads None s wait now is = subst (λ (x : State). AreReadWithin x.reads x.book) (sym is.1) (start-reads s wait is.0)
+starts-reads (Some rows) s wait now is = subst (λ (x : State). AreReadWithin x.reads x.book) (sym is) (start-reads s wait rows)

@@ -50,6 +50,7 @@ pub use Rattle.node_claims.specs.declared.claims.ClaimAnswer.TheVariants as clai
 pub use Rattle.node_claims.specs.declared.claims.ReleaseAnswer.{ReleaseAnswer}
 pub use Rattle.node_claims.specs.declared.claims.ReleaseAnswer.TheVariants as release
 pub use Rattle.opening_book.specs.Audits.{audit_of, last_id, latest_recovery}
+pub use Rattle.opening_book.specs.Reads.{AreReadWithin}
 pub use Rattle.opening_book.specs.Counting.{counted, greatest_id, last_read, latest, loaded}
 pub use Rattle.opening_book.specs.Opening.{is_opening_change, loading, opened_book, opening_changes}
 pub use Rattle.knowledge.specs.OrchBase.Memory.{next_count}

@@ -2,7 +2,7 @@
 //! journal.
 
 ghost use Rattle.std.specs.Prelude.{◌≡◌, ◌≢◌, ◌<◌, ◌≤◌, ◌^◌, [], ◌∷◌, All, Some, None, IfOk, IfErr, OnOk, OnErr, Err, true, false, if◌then◌else◌, is_ok, length, slice_get};
-ghost use Rattle.orch_core.specs.Prelude.{AreReply, HasTurnCause, IsAct, IsCommand, IsStep, IsTurn, LeavesIds, NamesOneOf, Rise, is_open, is_plain};
+ghost use Rattle.orch_core.specs.Prelude.{AreReadWithin, AreReply, HasTurnCause, IsAct, IsCommand, IsStep, IsTurn, LeavesIds, NamesOneOf, Rise, is_open, is_plain};
 ghost use Rattle.orch_core.specs.Prelude.{job_at, kept_if, outcome as outcome_in, pollers};
 ghost use Rattle.orch_core.specs.Polls.{act_changes, changes_of, command_outcome, job_changes, numbers_of, scan_outcome};
 ghost use Rattle.orch_core.specs.Replies.{act_reply, reply_of, step_reply};
@@ -407,7 +407,8 @@ impl Engine {
     /// is to wait at most `wait` times. Each server gets room for all transactions of the listed histories and one more
     /// for each write turn, and for the longest list of flush points and one more new file for each rotate turn. What
     /// there is beyond the rows is kept first; where there is nothing beyond them, only the rows are asked for. Keeper
-    /// comes only where the keeper's count of faults rose; after it, and after Memory, the kept rows are as before.
+    /// comes only where the keeper's count of faults rose; after it, and after Memory, the kept rows are as before. No
+    /// instance has a greater read number than the count of readings.
     pub fn make<K: Keeper>(
         alloc: Global,
         s: &Scenario,
@@ -418,6 +419,7 @@ impl Engine {
         ensures ok { IfOk result (λ e. StartsBy (K.kept keeper.old) s.now wait e) }
         ensures kept { K.kept keeper.new ≡ kept_at_start (is_ok result) (K.kept keeper.old) s.now }
         ensures cause { HasTurnCause (K.faults keeper.old) (K.faults keeper.new) result }
+        ensures reads { IfOk result (λ e. AreReadWithin e.reads e.book) }
         ensures servers { IfOk result (λ e. length e.world.servers ≡ length s.now.opening.servers) }
         ensures nodes { IfOk result (λ e. nodes_of e ≡ s.now.nodes) }
     {

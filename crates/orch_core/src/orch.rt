@@ -1,7 +1,7 @@
 //! A run with the journal of its turns.
 
 ghost use Rattle.std.specs.Prelude.{◌≡◌, ◌<◌, ◌≤◌, ◌^◌, [], All, IfOk, IfErr, OnOk, OnErr, Err, false, is_ok, length, map};
-ghost use Rattle.orch_core.specs.Prelude.{HasTurnCause, IsScenario, IsTurn, NamesOneOf, Rise, active, by_name, is_open, without_job};
+ghost use Rattle.orch_core.specs.Prelude.{AreReadWithin, HasTurnCause, IsScenario, IsTurn, NamesOneOf, Rise, active, by_name, is_open, without_job};
 ghost use Rattle.orch_core.specs.Due.{IsDue};
 ghost use Rattle.orch_core.specs.Polls.{changes_of};
 ghost use Rattle.orch_core.specs.Rounds.{Finished, WasCutShort};
@@ -71,6 +71,7 @@ impl Orch {
         ensures servers { IfOk result
             (λ o. length o.state.world.servers ≡ length s.now.opening.servers) }
         ensures nodes { IfOk result (λ o. nodes_of o.state ≡ s.now.nodes) }
+        ensures reads { IfOk result (λ o. AreReadWithin o.state.reads o.state.book) }
     {
         let polls = make_polls(alloc, s.opening.servers().len())?;
         let engine = Engine::make(alloc, s, keeper, wait)?;

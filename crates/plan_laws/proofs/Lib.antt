@@ -1,2 +1,11 @@
+mod Below
+mod Conditions
 mod Jobs
+mod Lost
+mod Meeting
+mod Parted
+mod Scripts
+mod Steps
 mod Telling
+mod Tied
+mod Turns

@@ -5,11 +5,15 @@ use Rattle.run_laws.specs.OrchBase.declared.server.ServerNo.{ServerNo}
 use Rattle.run_laws.specs.Commands.declared.turn.CommandTurn.{CommandTurn}
 use Rattle.run_laws.specs.Operations.Jobs.{Job}
 use Rattle.run_laws.specs.OrchCore.States.{IsState, State}
-use Rattle.run_laws.specs.Permission.Replicas.{replicas_but}
-use Rattle.plan_texts.specs.Takeovers.{takeover_ops}
+use Rattle.plan_lines.specs.Branches.{has_branches, recovery_plan}
+use Rattle.plan_lines.specs.Prelude.{but, replicas_of}
+use Rattle.plan_lines.specs.Straight.{straight_lines}
+use Rattle.plan_lines.specs.Takeovers.{takeover_lines}
+use Rattle.run_laws.specs.CommandRoutes.Routes.{route_of}
 use Rattle.run_laws.specs.RecoveryPlans.Recoveries.{Recovery}
+use Rattle.run_laws.specs.RecoveryPlans.declared.purpose.Purpose.TheVariants as purpose
 use Rattle.run_laws.specs.BegunJobs.{BegunJob, begun_of}
-use Rattle.tasks.specs.Plans.{Planned, begun_state, lasting, straight, yielding}
+use Rattle.tasks.specs.Plans.{Planned, begun_state, ground_in, lasting, means_of, straight}
 use Rattle.tasks.specs.Report.{plan_answer, told_plan}
 use Rattle.run_laws.specs.UnendedJobs.declared.docket.Docket.{Docket}
 use Rattle.run_laws.specs.UnendedJobs.declared.unended.Unended.{Unended}
@@ -27,12 +31,22 @@ pub record WouldBegin (s : State) (c : CommandTurn) (job : Unended) : Type 0 whe
 abbrev pub IsToldAs : List HostPort → State → CommandTurn → Planned → Type 0
 IsToldAs names s c p = plan_answer c names s ≡ told_plan names p
 
--- a move's has the operations of its job
+-- a move's has a line for each operation of its job
 abbrev pub MovesAreToldWhole : Type 0
-MovesAreToldWhole = (names : List HostPort) (s : State) (c : CommandTurn) (job : Job) → WouldBegin s c (unended.Plan job) → IsToldAs names s c (straight job.ops)
+MovesAreToldWhole = (names : List HostPort) (s : State) (c : CommandTurn) (job : Job) → WouldBegin s c (unended.Plan job)
+    → IsToldAs names s c (straight (straight_lines (begun_state c s).book job.ops))
 
--- and a takeover's those of a whole one
+-- a recovery's is of the branch that is expected, for its purpose, by the book and the moment of its beginning
+abbrev pub RecoveriesAreToldAsExpected : Type 0
+RecoveriesAreToldAsExpected = (names : List HostPort) (s : State) (c : CommandTurn) (r : Recovery) (k : Docket) (f : ServerNo) → WouldBegin s c (unended.Recovery r k)
+    → c.command.i ≡ Some f
+    → IsToldAs names s c (record {
+      branches = has_branches r.purpose;
+      lines = recovery_plan (ground_in (begun_state c s)) r.purpose (means_of (route_of c.command.name)) f;
+    })
+
+-- and a takeover's is that of one in which nobody is lost, with the replicas that the book has then
 abbrev pub TakeoversAreToldWhole : Type 0
 TakeoversAreToldWhole = (names : List HostPort) (s : State) (c : CommandTurn) (r : Recovery) (k : Docket) (m d : ServerNo) → WouldBegin s c (unended.Recovery r k)
-    → c.command.i ≡ Some m → c.command.d ≡ Some d
-    → IsToldAs names s c (yielding m (takeover_ops m d (replicas_but (begun_state c s).book m (Some d))))
+    → c.command.i ≡ Some m → r.purpose ≡ purpose.Takeover d
+    → IsToldAs names s c (straight (takeover_lines m d (but (replicas_of (begun_state c s).book m) d)))

@@ -1,1 +1,4 @@
 pub mod Begun
+pub mod Followed
+pub mod Conditions
+pub mod Doing

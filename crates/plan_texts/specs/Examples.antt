@@ -1,9 +1,13 @@
--- Examples: three plans as texts, and lines of operations that these don't have.
-use Rattle.std.specs.Prelude.{ℕ, List, [], ◌∷◌, ◌++◌, codes, Some}
+-- Examples: two plans as texts, and lines of operations and expectations that these don't have.
+use Rattle.std.specs.Prelude.{ℕ, true, false, List, [], ◌∷◌, ◌++◌, codes, map, Some, None}
 use Rattle.plan_texts.specs.Prelude.{About, Back, Cross, CrossMatch, Detach, Finish, HostPort, Match, Op, Reattach, Same, ServerNo, Settle, Status}
 use Rattle.plan_texts.specs.Prelude.{StopReceiver, Up, auto, up}
-use Rattle.plan_texts.specs.Takeovers.{takeover_ops}
-use Rattle.plan_texts.specs.Texts.{warning}
+use Rattle.plan_texts.specs.Prelude.{Down}
+use Rattle.plan_texts.specs.declared.line.Apart.TheVariants as apart
+use Rattle.plan_texts.specs.declared.line.Expect.TheVariants as expect
+use Rattle.plan_texts.specs.declared.line.Line.{Line}
+use Rattle.plan_texts.specs.declared.line.Line.TheVariants as line
+use Rattle.plan_texts.specs.Texts.{branch_words, warning}
 
 abbrev pub no : ℕ → ServerNo
 no n = record { 0 = n }
@@ -13,6 +17,10 @@ at_home host = record { host = host; port = 3306 }
 
 abbrev pub three_names : List HostPort
 three_names = at_home (codes "m") ∷ at_home (codes "s") ∷ at_home (codes "r") ∷ []
+
+-- operations that expect nothing else
+abbrev pub as_told : List Op → List Line
+as_told ops = map (λ o. line.Does o expect.AsTold) ops
 
 -- r, which is below s, goes to m
 abbrev pub move_up_ops : List Op
@@ -36,37 +44,6 @@ move_up_text =
     ++ (codes "10 B START REPLICA;\n"
     ++ codes "11 A SHOW REPLICA STATUS; SHOW BINARY LOG STATUS; -- note A\n")))))))))))))
 
--- s takes the place of m, whose other replica is r
-abbrev pub take_over_ops : List Op
-take_over_ops = takeover_ops (no 0) (no 1) (no 2 ∷ []) ++ Finish [] ∷ []
-
-abbrev pub take_over_text : List ℕ
-take_over_text =
-    warning
-    ++ (codes "server A m:3306\n"
-    ++ (codes "server B s:3306\n"
-    ++ (codes "server C r:3306\n"
-    ++ (codes "1 A SHOW REPLICA STATUS; SHOW BINARY LOG STATUS; -- note A; must be below nothing\n"
-    ++ (codes "2 A SET PERSIST super_read_only=ON;\n"
-    ++ (codes "3 A SHOW REPLICA STATUS; SHOW BINARY LOG STATUS; -- note A\n"
-    ++ (codes "4 B SHOW REPLICA STATUS; SHOW BINARY LOG STATUS; -- note B; must be below A\n"
-    ++ (codes "5 B START REPLICA UNTIL SOURCE_LOG_FILE=:A.end.file, SOURCE_LOG_POS=:A.end.pos; -- not where B.exec >= A.end\n"
-    ++ (codes "6 B SHOW REPLICA STATUS; SHOW BINARY LOG STATUS; -- note B; again until B.exec >= A.end\n"
-    ++ (codes "7 B STOP REPLICA;\n"
-    ++ (codes "8 B SHOW REPLICA STATUS; SHOW BINARY LOG STATUS; -- note B; must be below A\n"
-    ++ (codes "9 C SHOW REPLICA STATUS; SHOW BINARY LOG STATUS; -- note C; must be below A\n"
-    ++ (codes "10 C START REPLICA UNTIL SOURCE_LOG_FILE=:B.exec.file, SOURCE_LOG_POS=:B.exec.pos; -- not where C.exec >= B.exec\n"
-    ++ (codes "11 C SHOW REPLICA STATUS; SHOW BINARY LOG STATUS; -- note C; again until C.exec >= B.exec\n"
-    ++ (codes "12 C STOP REPLICA;\n"
-    ++ (codes "13 C SHOW REPLICA STATUS; SHOW BINARY LOG STATUS; -- note C; must be below A\n"
-    ++ (codes "14 C CHANGE REPLICATION SOURCE TO SOURCE_HOST='s', SOURCE_PORT=3306, SOURCE_LOG_FILE=:B.end.file, SOURCE_LOG_POS=:B.end.pos, SOURCE_AUTO_POSITION=0; -- only where C is below A at B.exec, stopped\n"
-    ++ (codes "15 C START REPLICA;\n"
-    ++ (codes "16 B STOP REPLICA; RESET REPLICA ALL;\n"
-    ++ (codes "17 A CHANGE REPLICATION SOURCE TO SOURCE_HOST='s', SOURCE_PORT=3306, SOURCE_LOG_FILE=:B.end.file, SOURCE_LOG_POS=:B.end.pos, SOURCE_AUTO_POSITION=0, SOURCE_USER=:user, SOURCE_PASSWORD=:password; -- only where A ends at B.exec, stopped\n"
-    ++ (codes "18 B SET PERSIST super_read_only=OFF; SET PERSIST read_only=OFF;\n"
-    ++ (codes "19 A SHOW REPLICA STATUS; SHOW BINARY LOG STATUS; -- note A\n"
-    ++ codes "20 B SHOW REPLICA STATUS; SHOW BINARY LOG STATUS; -- note B\n"))))))))))))))))))))))
-
 -- r goes below m, by what was executed
 abbrev pub move_gtid_ops : List Op
 move_gtid_ops = auto (no 2) (no 0) ++ Finish [] ∷ []
@@ -78,9 +55,9 @@ move_gtid_text =
     ++ (codes "server B m:3306\n"
     ++ (codes "1 A STOP REPLICA;\n"
     ++ (codes "2 A SHOW REPLICA STATUS; SHOW BINARY LOG STATUS; -- note A\n"
-    ++ (codes "3 B SELECT WAIT_FOR_EXECUTED_GTID_SET(':A.gtids', 1); -- again until it answers 0\n"
+    ++ (codes "3 B SELECT WAIT_FOR_EXECUTED_GTID_SET(':A.gtids', 1); -- again until it answers 0; until then its applier must be on\n"
     ++ (codes "4 B SHOW REPLICA STATUS; SHOW BINARY LOG STATUS; -- note B\n"
-    ++ (codes "5 A CHANGE REPLICATION SOURCE TO SOURCE_HOST='m', SOURCE_PORT=3306, SOURCE_AUTO_POSITION=1; -- only where A.gtids are in B.gtids, stopped\n"
+    ++ (codes "5 A CHANGE REPLICATION SOURCE TO SOURCE_HOST='m', SOURCE_PORT=3306, SOURCE_AUTO_POSITION=1; -- only where A.gtids are in B.gtids, stopped; only where B.purged is in A.gtids\n"
     ++ (codes "6 A START REPLICA;\n"
     ++ codes "7 A SHOW REPLICA STATUS; SHOW BINARY LOG STATUS; -- note A\n"))))))))
 
@@ -99,7 +76,7 @@ other_text =
     ++ (codes "1 A STOP REPLICA IO_THREAD;\n"
     ++ (codes "2 A SHOW REPLICA STATUS; SHOW BINARY LOG STATUS; -- note A; again until A.exec = A.read or its applier is off\n"
     ++ (codes "3 A STOP REPLICA; SHOW REPLICA STATUS; SHOW BINARY LOG STATUS; CHANGE REPLICATION SOURCE TO SOURCE_HOST='//:A.source.host', SOURCE_PORT=:A.source.port, SOURCE_LOG_FILE=:A.exec.file, SOURCE_LOG_POS=:A.exec.pos, SOURCE_AUTO_POSITION=0; -- note A; only where A is attached, stopped\n"
-    ++ (codes "4 A SHOW REPLICA STATUS; SHOW BINARY LOG STATUS; CHANGE REPLICATION SOURCE TO SOURCE_HOST=':A.source.host', SOURCE_PORT=:A.source.port, SOURCE_LOG_FILE=:A.exec.file, SOURCE_LOG_POS=:A.exec.pos, SOURCE_AUTO_POSITION=0; -- note A; only where A is detached, stopped\n"
+    ++ (codes "4 A STOP REPLICA; SHOW REPLICA STATUS; SHOW BINARY LOG STATUS; CHANGE REPLICATION SOURCE TO SOURCE_HOST=':A.source.host', SOURCE_PORT=:A.source.port, SOURCE_LOG_FILE=:A.exec.file, SOURCE_LOG_POS=:A.exec.pos, SOURCE_AUTO_POSITION=0; -- note A; only where A is detached, stopped\n"
     ++ (codes "5 A SHOW REPLICA STATUS; SHOW BINARY LOG STATUS; -- note A; must be below B\n"
     ++ (codes "6 A SHOW REPLICA STATUS; SHOW BINARY LOG STATUS; -- note A; must be below C\n"
     ++ (codes "7 A CHANGE REPLICATION SOURCE TO SOURCE_HOST='m', SOURCE_PORT=3306, SOURCE_LOG_FILE=:A.exec.file, SOURCE_LOG_POS=:A.exec.pos, SOURCE_AUTO_POSITION=0; -- only where A is below C at A.exec, stopped\n"
@@ -108,3 +85,37 @@ other_text =
     ++ (codes "10 A CHANGE REPLICATION SOURCE TO SOURCE_HOST=':B.source.host', SOURCE_PORT=:B.source.port, SOURCE_LOG_FILE=:B.exec.file, SOURCE_LOG_POS=:B.exec.pos, SOURCE_AUTO_POSITION=0; -- only where A is below B at B.end, stopped\n"
     ++ (codes "11 A CHANGE REPLICATION SOURCE TO SOURCE_HOST='s', SOURCE_PORT=3306, SOURCE_LOG_FILE=:B.end.file, SOURCE_LOG_POS=:B.end.pos, SOURCE_AUTO_POSITION=0; -- only where A ends at B.exec, stopped\n"
     ++ codes "12 A CHANGE REPLICATION SOURCE TO SOURCE_HOST='s', SOURCE_PORT=3306, SOURCE_LOG_FILE=:A.exec.file, SOURCE_LOG_POS=:A.exec.pos, SOURCE_AUTO_POSITION=0, SOURCE_USER=:user, SOURCE_PASSWORD=:password; -- only where A ends at A.end, stopped\n"))))))))))))))
+
+-- m has failed; its replicas are s, which is chosen, and r, which is behind, and goes below s where a hand finds it
+abbrev pub branch_plan : List Line
+branch_plan =
+    line.Does (Status (no 0) None) expect.Away ∷ line.Does (Status (no 1) None) (expect.Below (no 0))
+    ∷ line.Does (Status (no 2) None) (expect.Below (no 0)) ∷ line.Chosen (no 1) (no 2) false ∷ line.Chosen (no 1) (no 2) true
+    ∷ line.Does (Cross Down (no 2) (no 1)) (expect.Behind (no 1)) ∷ line.Does (Cross Down (no 2) (no 1)) expect.AsTold
+    ∷ line.Does (Cross Up (no 2) (no 0)) (expect.ByHand (no 1)) ∷ line.Lost (no 2) (no 1) apart.Behind ∷ line.Lost (no 2) (no 1) apart.Ahead
+    ∷ line.Lost (no 2) (no 0) apart.Unpaired ∷ line.Does (StopReceiver (no 2)) expect.Gone ∷ line.Does (Cross About (no 1) (no 2)) expect.AsTold
+    ∷ line.Does (Status (no 1) None) expect.Root ∷ line.Does (Detach (no 2)) expect.AttachedByAuto ∷ line.Does (Reattach (no 2)) expect.DetachedByAuto ∷ []
+
+abbrev pub branch_text : List ℕ
+branch_text =
+    warning
+    ++ (branch_words
+    ++ (codes "server A m:3306\n"
+    ++ (codes "server B s:3306\n"
+    ++ (codes "server C r:3306\n"
+    ++ (codes "1 A SHOW REPLICA STATUS; SHOW BINARY LOG STATUS; -- only while it isn't reached\n"
+    ++ (codes "2 B SHOW REPLICA STATUS; SHOW BINARY LOG STATUS; -- note B; must be below A\n"
+    ++ (codes "3 C SHOW REPLICA STATUS; SHOW BINARY LOG STATUS; -- note C; must be below A\n"
+    ++ (codes "4 B -- chosen before C; only where B.exec >= C.exec\n"
+    ++ (codes "5 B -- chosen before C; only where B.exec > C.exec\n"
+    ++ (codes "6 C SHOW BINLOG EVENTS; CHANGE REPLICATION SOURCE TO SOURCE_HOST='s', SOURCE_PORT=3306, SOURCE_LOG_FILE=:C.match.file, SOURCE_LOG_POS=:C.match.pos, SOURCE_AUTO_POSITION=0; -- note C.match, by hand: the place in the log of B behind the last transaction that C has executed; only where B.exec > C.exec; only where C is below A at C.exec, stopped\n"
+    ++ (codes "7 C CHANGE REPLICATION SOURCE TO SOURCE_HOST='s', SOURCE_PORT=3306, SOURCE_LOG_FILE=:B.end.file, SOURCE_LOG_POS=:B.end.pos, SOURCE_AUTO_POSITION=0; -- only where C is below A at B.exec, stopped\n"
+    ++ (codes "8 C SHOW BINLOG EVENTS; CHANGE REPLICATION SOURCE TO SOURCE_HOST='s', SOURCE_PORT=3306, SOURCE_LOG_FILE=:C.match.file, SOURCE_LOG_POS=:C.match.pos, SOURCE_AUTO_POSITION=0; -- note C.match, by hand: the place in the log of B behind the last transaction that C has executed; only where C is below A at C.exec, stopped\n"
+    ++ (codes "9 C -- lost, behind B; only where B.exec > C.exec\n"
+    ++ (codes "10 C -- lost, ahead of B; only where C.exec > B.exec\n"
+    ++ (codes "11 C -- lost, no kept pair of A\n"
+    ++ (codes "12 C SHOW REPLICA STATUS; SHOW BINARY LOG STATUS; -- lost, unreachable; only while it isn't reached\n"
+    ++ (codes "13 B CHANGE REPLICATION SOURCE TO SOURCE_HOST='r', SOURCE_PORT=3306, SOURCE_LOG_FILE=:C.end.file, SOURCE_LOG_POS=:C.end.pos, SOURCE_AUTO_POSITION=0; -- only where B ends at C.exec, stopped\n"
+    ++ (codes "14 B SHOW REPLICA STATUS; SHOW BINARY LOG STATUS; -- note B; must be below nothing\n"
+    ++ (codes "15 C STOP REPLICA; SHOW REPLICA STATUS; SHOW BINARY LOG STATUS; CHANGE REPLICATION SOURCE TO SOURCE_HOST='//:C.source.host', SOURCE_PORT=:C.source.port; -- note C; only where C is attached by auto position, stopped\n"
+    ++ codes "16 C STOP REPLICA; SHOW REPLICA STATUS; SHOW BINARY LOG STATUS; CHANGE REPLICATION SOURCE TO SOURCE_HOST=':C.source.host', SOURCE_PORT=:C.source.port; -- note C; only where C is detached by auto position, stopped\n")))))))))))))))))))

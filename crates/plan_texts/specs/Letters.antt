@@ -2,6 +2,10 @@
 use Rattle.std.specs.Prelude.{ℕ, ◌+◌, ◌/◌, ◌%◌, ◌==◌, nat_lt, List, [], ◌∷◌, ◌++◌, decimal, fold, position, if◌then◌else◌, Option, Some, None}
 use Rattle.plan_texts.specs.Prelude.{Aim, EndOf, ExecOf, Op, ServerNo, list_any}
 use Rattle.plan_texts.specs.Prelude.op
+use Rattle.plan_texts.specs.declared.line.Expect.{Expect}
+use Rattle.plan_texts.specs.declared.line.Expect.TheVariants as expect
+use Rattle.plan_texts.specs.declared.line.Line.{Line}
+use Rattle.plan_texts.specs.declared.line.Line.TheVariants as line
 
 -- ---- the order in which servers are first spoken of
 
@@ -58,12 +62,27 @@ other (op.Match n m every) = Some m
 other (op.CrossMatch n m) = Some m
 other (op.Finish lines) = None
 
-unfoldable pub with_spoken : List ServerNo → Op → List ServerNo
-with_spoken order o = with_given (with_given order (subject o)) (other o)
+-- the server of which an expectation speaks
+abbrev pub expected_of : Expect → Option ServerNo
+expected_of expect.AsTold = None
+expected_of (expect.Below n) = Some n
+expected_of expect.Root = None
+expected_of expect.Away = None
+expected_of expect.Gone = None
+expected_of expect.AttachedByAuto = None
+expected_of expect.DetachedByAuto = None
+expected_of (expect.ByHand n) = Some n
+expected_of (expect.Behind n) = Some n
 
--- the servers of which operations speak, each once, in the order in which they are first spoken of; behind a master
-abbrev pub order_of : Option ServerNo → List Op → List ServerNo
-order_of master ops = fold with_spoken (with_given [] master) ops
+-- with the servers of which a line speaks
+unfoldable pub with_spoken : List ServerNo → Line → List ServerNo
+with_spoken order (line.Does o e) = with_given (with_given (with_given order (subject o)) (other o)) (expected_of e)
+with_spoken order (line.Chosen n before less) = with_server (with_server order n) before
+with_spoken order (line.Lost n beside apart) = with_server (with_server order n) beside
+
+-- the servers of which lines speak, each once, in the order in which they are first spoken of
+abbrev pub order_of : List Line → List ServerNo
+order_of lines = fold with_spoken [] lines
 
 -- ---- letters
 

@@ -3,5 +3,4 @@ pub mod Conditions
 pub mod Examples
 pub mod Letters
 pub mod Statements
-pub mod Takeovers
 pub mod Texts

@@ -4,9 +4,13 @@ use Rattle.std.specs.Prelude.{ℕ, ◌==◌, Bool, true, false, List, [], ◌++�
 use Rattle.plan_texts.specs.Prelude.{Aim, Crossing, EndOf, ExecOf, HostPort, Op, ServerNo, option_or}
 use Rattle.plan_texts.specs.Prelude.cross
 use Rattle.plan_texts.specs.Prelude.op
-use Rattle.plan_texts.specs.Letters.{letter}
+use Rattle.plan_texts.specs.declared.line.Expect.{Expect}
+use Rattle.plan_texts.specs.declared.line.Expect.TheVariants as expect
+use Rattle.plan_texts.specs.declared.line.Line.{Line}
+use Rattle.plan_texts.specs.declared.line.Line.TheVariants as line
+use Rattle.plan_texts.specs.Letters.{letter, subject}
 
--- ---- the sources that operations before tell
+-- ---- the sources that lines before tell
 
 -- that of a server, where the operation reads it and names one
 abbrev pub told_by : ServerNo → Op → Option ServerNo
@@ -29,9 +33,31 @@ told_by n (op.Match m d every) = None
 told_by n (op.CrossMatch m d) = None
 told_by n (op.Finish lines) = None
 
+-- the source that an expectation names
+abbrev pub below_in : Expect → Option ServerNo
+below_in expect.AsTold = None
+below_in (expect.Below m) = Some m
+below_in expect.Root = None
+below_in expect.Away = None
+below_in expect.Gone = None
+below_in expect.AttachedByAuto = None
+below_in expect.DetachedByAuto = None
+below_in (expect.ByHand m) = None
+below_in (expect.Behind m) = None
+
+-- that of a server, where the operation is sent to it
+abbrev pub expected_by : ServerNo → Option ServerNo → Expect → Option ServerNo
+expected_by n None e = None
+expected_by n (Some m) e = if m.0 == n.0 then below_in e else None
+
+abbrev pub told_in : ServerNo → Line → Option ServerNo
+told_in n (line.Does o e) = option_or (told_by n o) (expected_by n (subject o) e)
+told_in n (line.Chosen m before less) = None
+told_in n (line.Lost m beside apart) = None
+
 -- the latest that is told
-abbrev pub told : List Op → ServerNo → Option ServerNo
-told before n = fold (λ found o. option_or (told_by n o) found) None before
+abbrev pub told : List Line → ServerNo → Option ServerNo
+told before n = fold (λ found l. option_or (told_in n l) found) None before
 
 -- ---- words of statements
 
@@ -79,22 +105,36 @@ read_only_words false = codes "SET PERSIST super_read_only=OFF; SET PERSIST read
 
 -- ---- statements
 
-abbrev pub cross_statement : List HostPort → List ServerNo → List Op → Crossing → ServerNo → ServerNo → List ℕ
+abbrev pub cross_statement : List HostPort → List ServerNo → List Line → Crossing → ServerNo → ServerNo → List ℕ
 cross_statement names order before cross.Up a b = change_words order (source_words names order b (told before b)) (ExecOf b)
 cross_statement names order before cross.Down a b = change_words order (named_words names b) (EndOf b)
 cross_statement names order before cross.About a b = change_words order (named_words names b) (EndOf b) ++ login_words (told before a)
 cross_statement names order before cross.Back a b = change_words order (named_words names b) (ExecOf a) ++ login_words None
 
--- what is sent for an operation, behind these; nothing for the end of a job
-abbrev pub statement : List HostPort → List ServerNo → List Op → Op → List ℕ
+-- a server is stopped and read, and its source changes, which is the one that was noted, behind so many slashes: by the
+-- coordinate that was noted too; or, in auto position, alone
+abbrev pub own_change : List ServerNo → List ℕ → ServerNo → List ℕ
+own_change order slashes n = codes "STOP REPLICA; " ++ reading_words ++ codes "; " ++ change_words order (own_words order slashes n) (ExecOf n)
+
+abbrev pub auto_change : List ServerNo → List ℕ → ServerNo → List ℕ
+auto_change order slashes n =
+    codes "STOP REPLICA; " ++ reading_words ++ codes "; CHANGE REPLICATION SOURCE TO " ++ own_words order slashes n
+
+-- another source, by a coordinate of its log that was found
+abbrev pub match_change : List HostPort → List ServerNo → ServerNo → ServerNo → List ℕ
+match_change names order n m =
+    codes "CHANGE REPLICATION SOURCE TO " ++ named_words names m ++ codes ", SOURCE_LOG_FILE=:" ++ letter order n
+    ++ codes ".match.file, SOURCE_LOG_POS=:" ++ letter order n ++ codes ".match.pos, SOURCE_AUTO_POSITION=0"
+
+-- what is sent for an operation, behind these lines; nothing for the end of a job
+abbrev pub statement : List HostPort → List ServerNo → List Line → Op → List ℕ
 statement names order before (op.Status n from) = reading_words
 statement names order before (op.Stop n) = codes "STOP REPLICA"
 statement names order before (op.StopReceiver n) = codes "STOP REPLICA IO_THREAD"
 statement names order before (op.Start n) = codes "START REPLICA"
 statement names order before (op.Reset n) = codes "STOP REPLICA; RESET REPLICA ALL"
-statement names order before (op.Detach n) =
-    codes "STOP REPLICA; " ++ reading_words ++ codes "; " ++ change_words order (own_words order (codes "//") n) (ExecOf n)
-statement names order before (op.Reattach n) = reading_words ++ codes "; " ++ change_words order (own_words order [] n) (ExecOf n)
+statement names order before (op.Detach n) = own_change order (codes "//") n
+statement names order before (op.Reattach n) = own_change order [] n
 statement names order before (op.ReadOnly n on) = read_only_words on
 statement names order before (op.Until n aim) = codes "START REPLICA UNTIL " ++ spot_words order aim
 statement names order before (op.Await n aim) = reading_words
@@ -104,7 +144,17 @@ statement names order before (op.Cross c a b) = cross_statement names order befo
 statement names order before (op.Same n) = change_words order (source_words names order n (told before n)) (ExecOf n)
 statement names order before (op.Auto n m) = codes "CHANGE REPLICATION SOURCE TO " ++ named_words names m ++ codes ", SOURCE_AUTO_POSITION=1"
 statement names order before (op.Match n m every) = codes "SHOW BINLOG EVENTS"
-statement names order before (op.CrossMatch n m) =
-    codes "CHANGE REPLICATION SOURCE TO " ++ named_words names m ++ codes ", SOURCE_LOG_FILE=:" ++ letter order n
-    ++ codes ".match.file, SOURCE_LOG_POS=:" ++ letter order n ++ codes ".match.pos, SOURCE_AUTO_POSITION=0"
+statement names order before (op.CrossMatch n m) = match_change names order n m
 statement names order before (op.Finish lines) = []
+
+-- and where this is expected of its server
+abbrev pub expected_statement : List HostPort → List ServerNo → List Line → Op → ServerNo → Expect → List ℕ
+expected_statement names order before o n expect.AsTold = statement names order before o
+expected_statement names order before o n (expect.Below m) = statement names order before o
+expected_statement names order before o n expect.Root = statement names order before o
+expected_statement names order before o n expect.Away = reading_words
+expected_statement names order before o n expect.Gone = reading_words
+expected_statement names order before o n expect.AttachedByAuto = auto_change order (codes "//") n
+expected_statement names order before o n expect.DetachedByAuto = auto_change order [] n
+expected_statement names order before o n (expect.ByHand m) = codes "SHOW BINLOG EVENTS; " ++ match_change names order n m
+expected_statement names order before o n (expect.Behind m) = codes "SHOW BINLOG EVENTS; " ++ match_change names order n m

@@ -1,9 +1,12 @@
 -- The text of a plan: a warning, the servers by their letters, and a numbered line for each operation.
-use Rattle.std.specs.Prelude.{ℕ, ◌+◌, List, [], ◌∷◌, ◌++◌, codes, decimal, slice_get, Option, Some, None}
+use Rattle.std.specs.Prelude.{ℕ, ◌+◌, Bool, true, false, List, [], ◌∷◌, ◌++◌, codes, decimal, slice_get, Option, Some, None}
 use Rattle.plan_texts.specs.Prelude.{HostPort, Op, ServerNo, printed}
-use Rattle.plan_texts.specs.Conditions.{condition, note_words}
+use Rattle.plan_texts.specs.declared.line.Expect.{Expect}
+use Rattle.plan_texts.specs.declared.line.Line.{Line}
+use Rattle.plan_texts.specs.declared.line.Line.TheVariants as line
+use Rattle.plan_texts.specs.Conditions.{chosen_words, expected_condition, lost_words}
 use Rattle.plan_texts.specs.Letters.{letter, order_of, subject}
-use Rattle.plan_texts.specs.Statements.{reading_words, statement}
+use Rattle.plan_texts.specs.Statements.{expected_statement}
 
 -- what a plan doesn't say
 unfoldable pub warning : List ℕ
@@ -30,42 +33,48 @@ server_lines names order (n ∷ ns) = server_line names order n ++ server_lines 
 
 -- ---- lines
 
+-- N LETTER
+abbrev pub head_words : List ServerNo → ℕ → ServerNo → List ℕ
+head_words order number n = decimal number ++ codes " " ++ letter order n
+
 -- N LETTER STATEMENTS; -- WHAT
-abbrev pub line : List ServerNo → ℕ → ServerNo → List ℕ → List ℕ → List ℕ
-line order number n statements words = decimal number ++ codes " " ++ letter order n ++ codes " " ++ statements ++ codes ";" ++ words ++ codes "\n"
+abbrev pub op_line : List HostPort → List ServerNo → List Line → ℕ → Op → Expect → Option ServerNo → List ℕ
+op_line names order before number o e None = []
+op_line names order before number o e (Some n) =
+    head_words order number n ++ codes " " ++ expected_statement names order before o n e ++ codes ";" ++ expected_condition order before o n e ++ codes "\n"
 
-abbrev pub line_for : List HostPort → List ServerNo → List Op → ℕ → Op → Option ServerNo → List ℕ
-line_for names order before number o None = []
-line_for names order before number o (Some n) = line order number n (statement names order before o) (condition order before o)
+-- a line behind these, with its number
+abbrev pub line_text : List HostPort → List ServerNo → List Line → ℕ → Line → List ℕ
+line_text names order before number (line.Does o e) = op_line names order before number o e (subject o)
+line_text names order before number (line.Chosen n other less) = head_words order number n ++ chosen_words order n other less ++ codes "\n"
+line_text names order before number (line.Lost n beside apart) = head_words order number n ++ lost_words order n beside apart ++ codes "\n"
 
--- the line of an operation behind these, with its number
-abbrev pub op_line : List HostPort → List ServerNo → List Op → ℕ → Op → List ℕ
-op_line names order before number o = line_for names order before number o (subject o)
-
--- those of the operations behind these, from a number on
-abbrev pub op_lines : List HostPort → List ServerNo → ℕ → List Op → List Op → List ℕ
-op_lines names order number before [] = []
-op_lines names order number before (o ∷ ops) =
-    op_line names order before number o ++ op_lines names order (number + 1) (before ++ o ∷ []) ops
-
--- ---- a master that has no source
-
-abbrev pub master_line : List ServerNo → Option ServerNo → List ℕ
-master_line order None = []
-master_line order (Some m) = line order 1 m reading_words (note_words order m ++ codes "; must be below nothing")
-
--- the number of the line behind it
-abbrev pub next_number : Option ServerNo → ℕ
-next_number None = 1
-next_number (Some m) = 2
+-- the lines behind these, from a number on
+abbrev pub line_texts : List HostPort → List ServerNo → ℕ → List Line → List Line → List ℕ
+line_texts names order number before [] = []
+line_texts names order number before (l ∷ ls) =
+    line_text names order before number l ++ line_texts names order (number + 1) (before ++ l ∷ []) ls
 
 -- ---- the whole
 
--- the lines, by servers in an order
-unfoldable pub ordered_text : List HostPort → List ServerNo → Option ServerNo → List Op → List ℕ
-ordered_text names order master ops =
-    warning ++ (server_lines names order order ++ (master_line order master ++ op_lines names order (next_number master) [] ops))
+-- what the plan of a recovery or a regroup says, and what it can't know
+unfoldable pub branch_words : List ℕ
+branch_words =
+    codes "# This is one branch: the expected one, as the book stands. Lines with \"chosen\" or \"lost\" say on what noted coordinates it depends.\n"
+    ++ (codes "# Where a condition fails, start the replicas that are stopped, read the servers again, and print the plan anew.\n"
+    ++ (codes "# A server that is reached again hasn't failed: don't go on.\n"
+    ++ (codes "# A line \"by hand\" wants a coordinate of the new source's log. Find it there: a pair that was kept of a working server may be wrong.\n"
+    ++ codes "# No plan knows what the failed server executed and no replica received.\n")))
 
--- a plan's operations as text, for servers of these names; behind the reading of a master, which must have no source
-unfoldable pub plan_text : List HostPort → Option ServerNo → List Op → List ℕ
-plan_text names master ops = ordered_text names (order_of master ops) master ops
+abbrev pub branch_lines : Bool → List ℕ
+branch_lines false = []
+branch_lines true = branch_words
+
+-- the lines, by servers in an order
+unfoldable pub ordered_text : List HostPort → List ServerNo → Bool → List Line → List ℕ
+ordered_text names order branches lines =
+    warning ++ (branch_lines branches ++ (server_lines names order order ++ line_texts names order 1 [] lines))
+
+-- a plan's lines as text, for servers of these names; where it is one of several branches it says so
+unfoldable pub plan_text : List HostPort → Bool → List Line → List ℕ
+plan_text names branches lines = ordered_text names (order_of lines) branches lines

@@ -1,19 +1,20 @@
 //! What stands behind a line's statements.
 
-ghost use Rattle.std.specs.Prelude.{◌≡◌, ◌++◌, codes, OnOk};
-ghost use Rattle.plan_texts.specs.Conditions.{below_words, condition, cross_condition, ends_words, note_words, reaches_words, source_letter, stands_words};
+ghost use Rattle.std.specs.Prelude.{◌≡◌, ◌++◌, codes, true, OnOk};
+ghost use Rattle.plan_texts.specs.Conditions.{below_at_words, below_words, by_hand_words, chosen_words, condition, contained_words, cross_condition, ends_words, expected_condition, lost_words, note_words, noted_words, over_words, passes_words, reaches_words, source_letter, stands_words, still_words};
 ghost use Rattle.plan_texts.specs.Letters.{letter};
 ghost use Rattle.plan_texts.specs.Statements.{told};
 
 use crate::Memory;
 use crate::letters::print_letter;
+use crate::line::{Apart, Expect, Line};
 use crate::orch_base::ServerNo;
 use crate::told::told;
 use crate::words::{print_aim, print_lettered};
 use operations::{Aim, Crossing, Op};
 
-/// What is read of the server is noted.
-pub(crate) fn print_note(order: &[ServerNo], no: ServerNo, out: &mut Vec<u8>) -> Result<(), Memory>
+// What is read of the server is noted.
+fn print_note(order: &[ServerNo], no: ServerNo, out: &mut Vec<u8>) -> Result<(), Memory>
     ensures { OnOk result (out.new.items ≡ out.old.items ++ note_words order.now no) }
 {
     print_lettered(b" -- note ", order, no, out)
@@ -43,8 +44,7 @@ fn print_noted(
     word: &[u8],
     out: &mut Vec<u8>,
 ) -> Result<(), Memory>
-    ensures { OnOk result (out.new.items ≡ out.old.items
-        ++ (note_words order.now no ++ codes "; only where " ++ letter order.now no ++ word.now)) }
+    ensures { OnOk result (out.new.items ≡ out.old.items ++ noted_words order.now no word.now) }
 {
     print_note(order, no, out)?;
     print_lettered(b"; only where ", order, no, out)?;
@@ -112,6 +112,26 @@ fn print_source_letter(
 }
 
 // The server is below the source of another, so far, and stopped.
+#[tactic(auto, unfolding(crate::specs::Conditions::below_at_words))]
+fn print_below_at(
+    order: &[ServerNo],
+    no: ServerNo,
+    of: ServerNo,
+    told: Option<ServerNo>,
+    aim: Aim,
+    out: &mut Vec<u8>,
+) -> Result<(), Memory>
+    ensures { OnOk result (out.new.items ≡ out.old.items
+        ++ below_at_words order.now no (source_letter order.now of told) aim) }
+{
+    print_lettered(b"only where ", order, no, out)?;
+    out.extend_from_slice(b" is below ")?;
+    print_source_letter(order, of, told, out)?;
+    out.extend_from_slice(b" at ")?;
+    print_aim(order, aim, out)?;
+    out.extend_from_slice(b", stopped")
+}
+
 fn print_stands(
     order: &[ServerNo],
     no: ServerNo,
@@ -123,12 +143,8 @@ fn print_stands(
     ensures { OnOk result (out.new.items ≡ out.old.items
         ++ stands_words order.now no (source_letter order.now of told) aim) }
 {
-    print_lettered(b" -- only where ", order, no, out)?;
-    out.extend_from_slice(b" is below ")?;
-    print_source_letter(order, of, told, out)?;
-    out.extend_from_slice(b" at ")?;
-    print_aim(order, aim, out)?;
-    out.extend_from_slice(b", stopped")
+    out.extend_from_slice(b" -- ")?;
+    print_below_at(order, no, of, told, aim, out)
 }
 
 // The server's own log ends there, and it is stopped.
@@ -141,9 +157,32 @@ fn print_ends(order: &[ServerNo], no: ServerNo, aim: Aim, out: &mut Vec<u8>) -> 
     out.extend_from_slice(b", stopped")
 }
 
+// The first has executed all that the second has, or more.
+#[tactic(auto, unfolding(crate::specs::Conditions::passes_words))]
+fn print_passes(
+    order: &[ServerNo],
+    no: ServerNo,
+    other: ServerNo,
+    more: bool,
+    out: &mut Vec<u8>,
+) -> Result<(), Memory>
+    ensures { OnOk result (out.new.items ≡ out.old.items ++ passes_words order.now no other more) }
+{
+    print_lettered(b"; only where ", order, no, out)?;
+    out.extend_from_slice(over(more))?;
+    print_letter(order, other, out)?;
+    out.extend_from_slice(b".exec")
+}
+
+fn over(more: bool) -> &'static [u8]
+    ensures { result.now ≡ over_words more }
+{
+    if more { b".exec > " } else { b".exec >= " }
+}
+
 fn print_crossing(
     order: &[ServerNo],
-    before: &[Op],
+    before: &[Line],
     crossing: Crossing,
     a: ServerNo,
     b: ServerNo,
@@ -160,20 +199,20 @@ fn print_crossing(
     }
 }
 
-// All that the first has executed is of the second.
+// All that the first has executed is of the second, and all that the second has purged is of the first.
 fn print_contained(
     order: &[ServerNo],
     no: ServerNo,
     of: ServerNo,
     out: &mut Vec<u8>,
 ) -> Result<(), Memory>
-    ensures { OnOk result (out.new.items ≡ out.old.items
-        ++ (codes " -- only where " ++ letter order.now no ++ codes ".gtids are in "
-        ++ letter order.now of ++ codes ".gtids, stopped")) }
+    ensures { OnOk result (out.new.items ≡ out.old.items ++ contained_words order.now no of) }
 {
     print_lettered(b" -- only where ", order, no, out)?;
     print_lettered(b".gtids are in ", order, of, out)?;
-    out.extend_from_slice(b".gtids, stopped")
+    print_lettered(b".gtids, stopped; only where ", order, of, out)?;
+    print_lettered(b".purged is in ", order, no, out)?;
+    out.extend_from_slice(b".gtids")
 }
 
 // Where the logs match, to be found by hand.
@@ -208,10 +247,10 @@ fn print_matched(order: &[ServerNo], no: ServerNo, out: &mut Vec<u8>) -> Result<
     out.extend_from_slice(b" stands as it did then, stopped")
 }
 
-/// What stands behind an operation's statements.
-pub(crate) fn print_condition(
+// What stands behind an operation's statements.
+fn print_condition(
     order: &[ServerNo],
-    before: &[Op],
+    before: &[Line],
     op: &Op,
     out: &mut Vec<u8>,
 ) -> Result<(), Memory>
@@ -224,7 +263,7 @@ pub(crate) fn print_condition(
         Op::Reattach(no) => print_noted(order, *no, b" is detached, stopped", out),
         Op::Until(no, aim) => print_unless(order, *no, *aim, out),
         Op::Await(no, aim) => print_again(order, *no, *aim, out),
-        Op::AwaitSet(_, _) => out.extend_from_slice(b" -- again until it answers 0"),
+        Op::AwaitSet(_, _) => out.extend_from_slice(awaiting()),
         Op::Settle(no) => print_settled(order, *no, out),
         Op::Cross(crossing, a, b) => print_crossing(order, before, *crossing, *a, *b, out),
         Op::Same(no) => print_stands(order, *no, *no, told(before, *no), Aim::ExecOf(*no), out),
@@ -237,5 +276,148 @@ pub(crate) fn print_condition(
         | Op::Reset(_)
         | Op::ReadOnly(_, _)
         | Op::Finish(_) => Ok(()),
+    }
+}
+
+fn awaiting() -> &'static [u8]
+    ensures { result.now ≡ codes " -- again until it answers 0; until then its applier must be on" }
+{
+    b" -- again until it answers 0; until then its applier must be on"
+}
+
+// The server has no source.
+fn print_root(order: &[ServerNo], no: ServerNo, out: &mut Vec<u8>) -> Result<(), Memory>
+    ensures { OnOk result (out.new.items
+        ≡ out.old.items ++ (note_words order.now no ++ codes "; must be below nothing")) }
+{
+    print_note(order, no, out)?;
+    out.extend_from_slice(b"; must be below nothing")
+}
+
+// The place of a server in the log of its new source is found by hand.
+fn print_by_hand(
+    order: &[ServerNo],
+    no: ServerNo,
+    to: ServerNo,
+    out: &mut Vec<u8>,
+) -> Result<(), Memory>
+    ensures { OnOk result (out.new.items ≡ out.old.items ++ by_hand_words order.now no to) }
+{
+    print_note(order, no, out)?;
+    print_lettered(b".match, by hand: the place in the log of ", order, to, out)?;
+    print_lettered(b" behind the last transaction that ", order, no, out)?;
+    out.extend_from_slice(b" has executed")
+}
+
+// The server is still below its source, where it was noted.
+fn print_still(
+    order: &[ServerNo],
+    before: &[Line],
+    no: ServerNo,
+    out: &mut Vec<u8>,
+) -> Result<(), Memory>
+    ensures { OnOk result (out.new.items ≡ out.old.items ++ still_words order.now before.now no) }
+{
+    out.extend_from_slice(b"; ")?;
+    print_below_at(order, no, no, told(before, no), Aim::ExecOf(no), out)
+}
+
+fn print_by_hand_still(
+    order: &[ServerNo],
+    before: &[Line],
+    no: ServerNo,
+    to: ServerNo,
+    out: &mut Vec<u8>,
+) -> Result<(), Memory>
+    ensures { OnOk result (out.new.items ≡ out.old.items
+        ++ (by_hand_words order.now no to ++ still_words order.now before.now no)) }
+{
+    print_by_hand(order, no, to, out)?;
+    print_still(order, before, no, out)
+}
+
+// The same of one that is behind its new source.
+fn print_behind(
+    order: &[ServerNo],
+    before: &[Line],
+    no: ServerNo,
+    to: ServerNo,
+    out: &mut Vec<u8>,
+) -> Result<(), Memory>
+    ensures { OnOk result (out.new.items ≡ out.old.items
+        ++ (by_hand_words order.now no to ++ passes_words order.now to no true
+        ++ still_words order.now before.now no)) }
+{
+    print_by_hand(order, no, to, out)?;
+    print_passes(order, to, no, true, out)?;
+    print_still(order, before, no, out)
+}
+
+/// What stands behind an operation's statements, where this is expected of the server to which they are sent.
+pub(crate) fn print_expectation(
+    order: &[ServerNo],
+    before: &[Line],
+    op: &Op,
+    no: ServerNo,
+    expect: Expect,
+    out: &mut Vec<u8>,
+) -> Result<(), Memory>
+    ensures { OnOk result (out.new.items
+        ≡ out.old.items ++ expected_condition order.now before.now op.now no expect) }
+{
+    match expect {
+        Expect::AsTold => print_condition(order, before, op, out),
+        Expect::Below(source) => print_read(order, no, Some(source), out),
+        Expect::Root => print_root(order, no, out),
+        Expect::Away => out.extend_from_slice(b" -- only while it isn't reached"),
+        Expect::Gone => {
+            out.extend_from_slice(b" -- lost, unreachable; only while it isn't reached")
+        }
+        Expect::AttachedByAuto => {
+            print_noted(order, no, b" is attached by auto position, stopped", out)
+        }
+        Expect::DetachedByAuto => {
+            print_noted(order, no, b" is detached by auto position, stopped", out)
+        }
+        Expect::ByHand(to) => print_by_hand_still(order, before, no, to, out),
+        Expect::Behind(to) => print_behind(order, before, no, to, out),
+    }
+}
+
+/// Whom a server is chosen before, and what must be so of what was noted.
+#[tactic(auto, unfolding(crate::specs::Conditions::chosen_words))]
+pub(crate) fn print_chosen(
+    order: &[ServerNo],
+    no: ServerNo,
+    before: ServerNo,
+    less: bool,
+    out: &mut Vec<u8>,
+) -> Result<(), Memory>
+    ensures { OnOk result (out.new.items ≡ out.old.items ++ chosen_words order.now no before less) }
+{
+    print_lettered(b" -- chosen before ", order, before, out)?;
+    print_passes(order, no, before, less, out)
+}
+
+/// Why a replica is lost, and what must be so of what was noted.
+pub(crate) fn print_lost(
+    order: &[ServerNo],
+    no: ServerNo,
+    beside: ServerNo,
+    apart: Apart,
+    out: &mut Vec<u8>,
+) -> Result<(), Memory>
+    ensures { OnOk result (out.new.items ≡ out.old.items ++ lost_words order.now no beside apart) }
+{
+    match apart {
+        Apart::Behind => {
+            print_lettered(b" -- lost, behind ", order, beside, out)?;
+            print_passes(order, beside, no, true, out)
+        }
+        Apart::Ahead => {
+            print_lettered(b" -- lost, ahead of ", order, beside, out)?;
+            print_passes(order, no, beside, true, out)
+        }
+        Apart::Unpaired => { print_lettered(b" -- lost, no kept pair of ", order, beside, out) }
     }
 }

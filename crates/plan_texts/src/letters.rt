@@ -2,9 +2,10 @@
 
 ghost use Rattle.std.specs.Prelude.{◌≡◌, ◌++◌, ◌==◌, IfOk, OnOk, position};
 ghost use Rattle.plan_texts.specs.Prelude.{list_any};
-ghost use Rattle.plan_texts.specs.Letters.{letter, letter_at, order_of, other, server_of, subject, with_given, with_server, with_spoken};
+ghost use Rattle.plan_texts.specs.Letters.{expected_of, letter, letter_at, order_of, other, server_of, subject, with_given, with_server, with_spoken};
 
 use crate::Memory;
+use crate::line::{Expect, Line};
 use crate::orch_base::ServerNo;
 use crate::words::print_number;
 use operations::{Aim, Op};
@@ -95,26 +96,54 @@ fn other(op: &Op) -> Option<ServerNo>
     }
 }
 
-#[tactic(auto, unfolding(crate::specs::Letters::with_spoken))]
-fn add_spoken(order: &mut Vec<ServerNo>, op: &Op) -> Result<(), Memory>
-    ensures { OnOk result (order.new.items ≡ with_spoken order.old.items op.now) }
+// The server of which an expectation speaks.
+fn expected_of(expect: Expect) -> Option<ServerNo>
+    ensures { result ≡ expected_of expect }
 {
-    add_given(order, subject(op))?;
-    add_given(order, other(op))
+    match expect {
+        Expect::Below(no) | Expect::ByHand(no) | Expect::Behind(no) => Some(no),
+        Expect::AsTold
+        | Expect::Root
+        | Expect::Away
+        | Expect::Gone
+        | Expect::AttachedByAuto
+        | Expect::DetachedByAuto => None,
+    }
 }
 
-/// The servers of which operations speak, each once, in the order in which they are first spoken of; behind a master.
-pub(crate) fn order_of(
-    alloc: Global,
-    master: Option<ServerNo>,
-    ops: &[Op],
-) -> Result<Vec<ServerNo>, Memory>
-    ensures { IfOk result (λ order. order.items ≡ order_of master ops.now) }
+#[tactic(auto, unfolding(crate::specs::Letters::with_spoken))]
+fn add_spoken(order: &mut Vec<ServerNo>, line: &Line) -> Result<(), Memory>
+    ensures { OnOk result (order.new.items ≡ with_spoken order.old.items line.now) }
+{
+    match line {
+        Line::Does(op, expect) => {
+            add_given(order, subject(op))?;
+            add_given(order, other(op))?;
+            add_given(order, expected_of(*expect))
+        }
+        Line::Chosen {
+            no,
+            before: other,
+            ..
+        }
+        | Line::Lost {
+            no,
+            beside: other,
+            ..
+        } => {
+            add_server(order, *no)?;
+            add_server(order, *other)
+        }
+    }
+}
+
+/// The servers of which lines speak, each once, in the order in which they are first spoken of.
+pub(crate) fn order_of(alloc: Global, lines: &[Line]) -> Result<Vec<ServerNo>, Memory>
+    ensures { IfOk result (λ order. order.items ≡ order_of lines.now) }
 {
     let mut order = Vec::new(alloc);
-    add_given(&mut order, master)?;
-    for op in ops {
-        add_spoken(&mut order, op)?;
+    for line in lines {
+        add_spoken(&mut order, line)?;
     }
     Ok(order)
 }

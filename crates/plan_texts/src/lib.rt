@@ -6,15 +6,15 @@
 mod conditions;
 mod laws;
 mod letters;
+mod line;
 mod lines;
 mod statements;
-mod takeovers;
 mod told;
 mod words;
 
 pub use laws::plans_are_told_so;
+pub use line::{Apart, Expect, Line};
 pub use lines::print_plan;
 use operations::orch_base;
 /// Want of memory.
 pub use operations::orch_base::Memory;
-pub use takeovers::takeover;

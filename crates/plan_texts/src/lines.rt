@@ -1,14 +1,17 @@
 //! Numbered lines, and the whole.
 
 ghost use Rattle.std.specs.Prelude.{◌≡◌, ◌++◌, [], codes, decimal, slice_get, OnOk};
-ghost use Rattle.plan_texts.specs.Letters.{letter, order_of};
-ghost use Rattle.plan_texts.specs.Texts.{line, master_line, next_number, op_line, op_lines, ordered_text, plan_text, printed_at, server_line, server_lines, warning};
+ghost use Rattle.plan_texts.specs.Conditions.{expected_condition};
+ghost use Rattle.plan_texts.specs.Letters.{letter, order_of, subject};
+ghost use Rattle.plan_texts.specs.Statements.{expected_statement};
+ghost use Rattle.plan_texts.specs.Texts.{branch_lines, branch_words, head_words, line_text, line_texts, op_line, ordered_text, plan_text, printed_at, server_line, server_lines, warning};
 
 use crate::Memory;
-use crate::conditions::{print_condition, print_note};
+use crate::conditions::{print_chosen, print_expectation, print_lost};
 use crate::letters::{order_of, print_letter, subject};
+use crate::line::{Expect, Line};
 use crate::orch_base::{Name, ServerNo};
-use crate::statements::{Told, print_statement, reading};
+use crate::statements::{Told, print_expected};
 use crate::words::{print_lettered, print_number};
 use operations::Op;
 use std::alloc::Global;
@@ -68,73 +71,110 @@ fn print_head(
     no: ServerNo,
     out: &mut Vec<u8>,
 ) -> Result<(), Memory>
-    ensures { OnOk result (out.new.items ≡ out.old.items
-        ++ (decimal number ++ codes " " ++ letter order.now no ++ codes " ")) }
+    ensures { OnOk result (out.new.items ≡ out.old.items ++ head_words order.now number no) }
 {
     print_number(number, out)?;
-    print_lettered(b" ", order, no, out)?;
-    out.extend_from_slice(b" ")
+    print_lettered(b" ", order, no, out)
+}
+
+// What is behind the head of an operation's line.
+fn print_rest(
+    told: &Told<'_>,
+    op: &Op,
+    no: ServerNo,
+    expect: Expect,
+    out: &mut Vec<u8>,
+) -> Result<(), Memory>
+    ensures { OnOk result (out.new.items ≡ out.old.items
+        ++ (codes " " ++ expected_statement told.now.names.now told.now.order.now
+        told.now.before.now op.now no expect ++ codes ";"
+        ++ expected_condition told.now.order.now told.now.before.now op.now no expect)) }
+{
+    out.extend_from_slice(b" ")?;
+    print_expected(told, op, no, expect, out)?;
+    out.extend_from_slice(b";")?;
+    print_expectation(told.order, told.before, op, no, expect, out)
 }
 
 // The line of an operation, if it has one.
-fn print_op(told: &Told<'_>, number: u128, op: &Op, out: &mut Vec<u8>) -> Result<(), Memory>
+fn print_op(
+    told: &Told<'_>,
+    number: u128,
+    op: &Op,
+    expect: Expect,
+    out: &mut Vec<u8>,
+) -> Result<(), Memory>
     ensures { OnOk result (out.new.items ≡ out.old.items
-        ++ op_line told.now.names.now told.now.order.now told.now.before.now number op.now) }
+        ++ op_line told.now.names.now told.now.order.now told.now.before.now number op.now expect
+        (subject op.now)) }
 {
     let Some(no) = subject(op) else {
         return Ok(());
     };
     print_head(told.order, number, no, out)?;
-    print_statement(told, op, out)?;
-    out.extend_from_slice(b";")?;
-    print_condition(told.order, told.before, op, out)?;
+    print_rest(told, op, no, expect, out)?;
     out.extend_from_slice(b"\n")
 }
 
-// The lines of operations, from a number on.
-fn print_ops(
+fn print_line(told: &Told<'_>, number: u128, line: &Line, out: &mut Vec<u8>) -> Result<(), Memory>
+    ensures { OnOk result (out.new.items ≡ out.old.items
+        ++ line_text told.now.names.now told.now.order.now told.now.before.now number line.now) }
+{
+    match line {
+        Line::Does(op, expect) => print_op(told, number, op, *expect, out),
+        Line::Chosen { no, before, less } => {
+            print_head(told.order, number, *no, out)?;
+            print_chosen(told.order, *no, *before, *less, out)?;
+            out.extend_from_slice(b"\n")
+        }
+        Line::Lost { no, beside, apart } => {
+            print_head(told.order, number, *no, out)?;
+            print_lost(told.order, *no, *beside, *apart, out)?;
+            out.extend_from_slice(b"\n")
+        }
+    }
+}
+
+fn print_lines(
     names: &[Name],
     order: &[ServerNo],
-    number: u64,
-    ops: &[Op],
+    lines: &[Line],
     out: &mut Vec<u8>,
 ) -> Result<(), Memory>
     ensures { OnOk result (out.new.items
-        ≡ out.old.items ++ op_lines names.now order.now number [] ops.now) }
+        ≡ out.old.items ++ line_texts names.now order.now 1 [] lines.now) }
 {
-    for (at, op) in ops.iter().enumerate() {
+    for (at, line) in lines.iter().enumerate() {
         let told = Told {
             names,
             order,
-            before: &ops[..at],
+            before: &lines[..at],
         };
-        print_op(&told, u128::from(number) + at as u128, op, out)?;
+        print_line(&told, 1 + at as u128, line, out)?;
     }
     Ok(())
 }
 
-// The reading of a master, which must have no source.
-fn print_master(
-    order: &[ServerNo],
-    master: Option<ServerNo>,
-    out: &mut Vec<u8>,
-) -> Result<(), Memory>
-    ensures { OnOk result (out.new.items ≡ out.old.items ++ master_line order.now master) }
+// What the plan of a recovery says, and what it can't know.
+#[tactic(auto, unfolding(crate::specs::Texts::branch_words))]
+fn branch() -> &'static [u8]
+    ensures { result.now ≡ branch_words }
 {
-    let Some(no) = master else {
-        return Ok(());
-    };
-    print_head(order, 1, no, out)?;
-    out.extend_from_slice(reading())?;
-    out.extend_from_slice(b";")?;
-    print_note(order, no, out)?;
-    out.extend_from_slice(b"; must be below nothing\n")
+    b"# This is one branch: the expected one, as the book stands. Lines with \"chosen\" or \"lost\" say on what noted coordinates it depends.\n\
+# Where a condition fails, start the replicas that are stopped, read the servers again, and print the plan anew.\n\
+# A server that is reached again hasn't failed: don't go on.\n\
+# A line \"by hand\" wants a coordinate of the new source's log. Find it there: a pair that was kept of a working server may be wrong.\n\
+# No plan knows what the failed server executed and no replica received.\n"
 }
 
-fn next_number(master: Option<ServerNo>) -> u64
-    ensures { result ≡ next_number master }
+fn print_branch(branches: bool, out: &mut Vec<u8>) -> Result<(), Memory>
+    ensures { OnOk result (out.new.items ≡ out.old.items ++ branch_lines branches) }
 {
-    if master.is_some() { 2 } else { 1 }
+    if branches {
+        out.extend_from_slice(branch())
+    } else {
+        Ok(())
+    }
 }
 
 // The plan, by servers in an order.
@@ -142,33 +182,33 @@ fn next_number(master: Option<ServerNo>) -> u64
 fn print_ordered(
     names: &[Name],
     order: &[ServerNo],
-    master: Option<ServerNo>,
-    ops: &[Op],
+    branches: bool,
+    lines: &[Line],
     out: &mut Vec<u8>,
 ) -> Result<(), Memory>
     ensures { OnOk result (out.new.items
-        ≡ out.old.items ++ ordered_text names.now order.now master ops.now) }
+        ≡ out.old.items ++ ordered_text names.now order.now branches lines.now) }
 {
     out.extend_from_slice(warning())?;
+    print_branch(branches, out)?;
     print_servers(names, order, out)?;
-    print_master(order, master, out)?;
-    print_ops(names, order, next_number(master), ops, out)
+    print_lines(names, order, lines, out)
 }
 
-/// Appends the text of a plan's operations, for servers of these names: statements of MySQL 8 with what must be true
-/// before each (MySQL 8.0 Reference Manual, "Replication Statements"). Where a master is given its reading comes first,
-/// and it must have no source. `Memory` comes only for want of memory; `out` may have a part of it then.
+/// Appends the text of a plan's lines, for servers of these names: statements of MySQL 8 with what must be true before
+/// each (MySQL 8.0 Reference Manual, "Replication Statements"). Where the plan is one of several branches, which a
+/// recovery may go, it says so. `Memory` comes only for want of memory; `out` may have a part of it then.
 #[tactic(auto, unfolding(crate::specs::Texts::plan_text))]
 pub fn print_plan(
     alloc: Global,
     names: &[Name],
-    master: Option<ServerNo>,
-    ops: &[Op],
+    branches: bool,
+    lines: &[Line],
     out: &mut Vec<u8>,
 ) -> Result<(), Memory>
     ensures { OnOk result (out.new.items
-        ≡ out.old.items ++ plan_text names.now master ops.now) }
+        ≡ out.old.items ++ plan_text names.now branches lines.now) }
 {
-    let order = order_of(alloc, master, ops)?;
-    print_ordered(names, &order, master, ops, out)
+    let order = order_of(alloc, lines)?;
+    print_ordered(names, &order, branches, lines, out)
 }

@@ -1,22 +1,23 @@
 //! What is sent for each operation.
 
 ghost use Rattle.std.specs.Prelude.{◌≡◌, ◌++◌, [], codes, OnOk};
-ghost use Rattle.plan_texts.specs.Prelude.{CrossMatch, ExecOf};
+ghost use Rattle.plan_texts.specs.Prelude.{ExecOf};
 ghost use Rattle.plan_texts.specs.Letters.{letter};
-ghost use Rattle.plan_texts.specs.Statements.{change_words, cross_statement, named_words, own_words, read_only_words, reading_words, source_words, spot_words, statement};
+ghost use Rattle.plan_texts.specs.Statements.{auto_change, change_words, cross_statement, expected_statement, match_change, named_words, own_change, own_words, read_only_words, reading_words, source_words, spot_words, statement};
 
 use crate::Memory;
+use crate::line::{Expect, Line};
 use crate::orch_base::{Name, ServerNo};
 use crate::told::told as told_source;
 use crate::words::{login, print_lettered, print_named, print_own, print_source, print_spot};
 use operations::{Aim, Crossing, Op};
 
-/// The servers of a plan by their names and their letters, and the operations before the one that is told.
+/// The servers of a plan by their names and their letters, and the lines before the one that is told.
 #[derive(Clone, Copy)]
 pub(crate) struct Told<'a> {
     pub(crate) names: &'a [Name],
     pub(crate) order: &'a [ServerNo],
-    pub(crate) before: &'a [Op],
+    pub(crate) before: &'a [Line],
 }
 
 /// A reading of a server.
@@ -127,7 +128,7 @@ fn print_auto(names: &[Name], no: ServerNo, out: &mut Vec<u8>) -> Result<(), Mem
     out.extend_from_slice(b", SOURCE_AUTO_POSITION=1")
 }
 
-// Another source, where the logs match.
+// Another source, by a coordinate of its log that was found.
 fn print_matched(
     told: &Told<'_>,
     no: ServerNo,
@@ -135,7 +136,7 @@ fn print_matched(
     out: &mut Vec<u8>,
 ) -> Result<(), Memory>
     ensures { OnOk result (out.new.items ≡ out.old.items
-        ++ statement told.now.names.now told.now.order.now told.now.before.now (CrossMatch no to)) }
+        ++ match_change told.now.names.now told.now.order.now no to) }
 {
     out.extend_from_slice(b"CHANGE REPLICATION SOURCE TO ")?;
     print_named(told.names, to, out)?;
@@ -144,27 +145,36 @@ fn print_matched(
     out.extend_from_slice(b".match.pos, SOURCE_AUTO_POSITION=0")
 }
 
-// The server is stopped, read, and detached.
-fn print_detach(order: &[ServerNo], no: ServerNo, out: &mut Vec<u8>) -> Result<(), Memory>
-    ensures { OnOk result (out.new.items ≡ out.old.items
-        ++ (codes "STOP REPLICA; " ++ reading_words ++ codes "; "
-        ++ change_words order.now (own_words order.now (codes "//") no) (ExecOf no))) }
+// A server is stopped and read, and its source changes: the one that was noted, behind so many slashes.
+fn print_own_change(
+    order: &[ServerNo],
+    slashes: &[u8],
+    no: ServerNo,
+    out: &mut Vec<u8>,
+) -> Result<(), Memory>
+    ensures { OnOk result (out.new.items
+        ≡ out.old.items ++ own_change order.now slashes.now no) }
 {
     out.extend_from_slice(b"STOP REPLICA; ")?;
     out.extend_from_slice(reading())?;
     out.extend_from_slice(b"; ")?;
-    print_to_own(order, b"//", no, out)
+    print_to_own(order, slashes, no, out)
 }
 
-// The server is read and attached again.
-fn print_reattach(order: &[ServerNo], no: ServerNo, out: &mut Vec<u8>) -> Result<(), Memory>
-    ensures { OnOk result (out.new.items ≡ out.old.items
-        ++ (reading_words ++ codes "; "
-        ++ change_words order.now (own_words order.now [] no) (ExecOf no))) }
+// The same in auto position, without a coordinate.
+fn print_auto_change(
+    order: &[ServerNo],
+    slashes: &[u8],
+    no: ServerNo,
+    out: &mut Vec<u8>,
+) -> Result<(), Memory>
+    ensures { OnOk result (out.new.items
+        ≡ out.old.items ++ auto_change order.now slashes.now no) }
 {
+    out.extend_from_slice(b"STOP REPLICA; ")?;
     out.extend_from_slice(reading())?;
-    out.extend_from_slice(b"; ")?;
-    print_to_own(order, b"", no, out)
+    out.extend_from_slice(b"; CHANGE REPLICATION SOURCE TO ")?;
+    print_own(order, slashes, no, out)
 }
 
 // The statement that waits for a server's GTIDs.
@@ -186,8 +196,8 @@ fn print_until(order: &[ServerNo], aim: Aim, out: &mut Vec<u8>) -> Result<(), Me
     print_spot(order, aim, out)
 }
 
-/// What is sent for an operation; nothing for the end of a job.
-pub(crate) fn print_statement(told: &Told<'_>, op: &Op, out: &mut Vec<u8>) -> Result<(), Memory>
+// What is sent for an operation; nothing for the end of a job.
+fn print_statement(told: &Told<'_>, op: &Op, out: &mut Vec<u8>) -> Result<(), Memory>
     ensures { OnOk result (out.new.items ≡ out.old.items
         ++ statement told.now.names.now told.now.order.now told.now.before.now op.now) }
 {
@@ -197,8 +207,8 @@ pub(crate) fn print_statement(told: &Told<'_>, op: &Op, out: &mut Vec<u8>) -> Re
         Op::StopReceiver(_) => out.extend_from_slice(b"STOP REPLICA IO_THREAD"),
         Op::Start(_) => out.extend_from_slice(b"START REPLICA"),
         Op::Reset(_) => out.extend_from_slice(b"STOP REPLICA; RESET REPLICA ALL"),
-        Op::Detach(no) => print_detach(told.order, *no, out),
-        Op::Reattach(no) => print_reattach(told.order, *no, out),
+        Op::Detach(no) => print_own_change(told.order, b"//", *no, out),
+        Op::Reattach(no) => print_own_change(told.order, b"", *no, out),
         Op::ReadOnly(_, on) => out.extend_from_slice(read_only(*on)),
         Op::Until(_, aim) => print_until(told.order, *aim, out),
         Op::AwaitSet(_, of) => print_wait(told.order, *of, out),
@@ -211,5 +221,41 @@ pub(crate) fn print_statement(told: &Told<'_>, op: &Op, out: &mut Vec<u8>) -> Re
         Op::Match(_, _, _) => out.extend_from_slice(b"SHOW BINLOG EVENTS"),
         Op::CrossMatch(no, to) => print_matched(told, *no, *to, out),
         Op::Finish(_) => Ok(()),
+    }
+}
+
+// Another source, where a hand finds the coordinate.
+fn print_by_hand(
+    told: &Told<'_>,
+    no: ServerNo,
+    to: ServerNo,
+    out: &mut Vec<u8>,
+) -> Result<(), Memory>
+    ensures { OnOk result (out.new.items ≡ out.old.items
+        ++ (codes "SHOW BINLOG EVENTS; "
+        ++ match_change told.now.names.now told.now.order.now no to)) }
+{
+    out.extend_from_slice(b"SHOW BINLOG EVENTS; ")?;
+    print_matched(told, no, to, out)
+}
+
+/// What is sent to a server for an operation, where this is expected of it.
+pub(crate) fn print_expected(
+    told: &Told<'_>,
+    op: &Op,
+    no: ServerNo,
+    expect: Expect,
+    out: &mut Vec<u8>,
+) -> Result<(), Memory>
+    ensures { OnOk result (out.new.items ≡ out.old.items
+        ++ expected_statement told.now.names.now told.now.order.now told.now.before.now
+        op.now no expect) }
+{
+    match expect {
+        Expect::AsTold | Expect::Below(_) | Expect::Root => print_statement(told, op, out),
+        Expect::Away | Expect::Gone => out.extend_from_slice(reading()),
+        Expect::AttachedByAuto => print_auto_change(told.order, b"//", no, out),
+        Expect::DetachedByAuto => print_auto_change(told.order, b"", no, out),
+        Expect::ByHand(to) | Expect::Behind(to) => print_by_hand(told, no, to, out),
     }
 }

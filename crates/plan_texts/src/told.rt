@@ -1,8 +1,10 @@
-//! The sources that operations tell.
+//! The sources that lines tell.
 
 ghost use Rattle.std.specs.Prelude.{◌≡◌};
-ghost use Rattle.plan_texts.specs.Statements.{told, told_by};
+ghost use Rattle.plan_texts.specs.Statements.{below_in, expected_by, told, told_by, told_in};
 
+use crate::letters::subject;
+use crate::line::{Expect, Line};
 use crate::orch_base::ServerNo;
 use operations::Op;
 
@@ -32,13 +34,55 @@ fn told_by(op: &Op, no: ServerNo) -> Option<ServerNo>
     }
 }
 
-/// The latest source of a server that these operations tell.
-pub(crate) fn told(before: &[Op], no: ServerNo) -> Option<ServerNo>
+// The source that an expectation names.
+fn below_in(expect: Expect) -> Option<ServerNo>
+    ensures { result ≡ below_in expect }
+{
+    match expect {
+        Expect::Below(source) => Some(source),
+        Expect::AsTold
+        | Expect::Root
+        | Expect::Away
+        | Expect::Gone
+        | Expect::AttachedByAuto
+        | Expect::DetachedByAuto
+        | Expect::ByHand(_)
+        | Expect::Behind(_) => None,
+    }
+}
+
+// That of a server, where the operation is sent to it.
+fn expected_by(no: ServerNo, sent: Option<ServerNo>, expect: Expect) -> Option<ServerNo>
+    ensures { result ≡ expected_by no sent expect }
+{
+    match sent {
+        Some(sent) => {
+            if sent.0 == no.0 {
+                below_in(expect)
+            } else {
+                None
+            }
+        }
+        None => None,
+    }
+}
+
+fn told_in(line: &Line, no: ServerNo) -> Option<ServerNo>
+    ensures { result ≡ told_in no line.now }
+{
+    match line {
+        Line::Does(op, expect) => told_by(op, no).or(expected_by(no, subject(op), *expect)),
+        Line::Chosen { .. } | Line::Lost { .. } => None,
+    }
+}
+
+/// The latest source of a server that these lines tell.
+pub(crate) fn told(before: &[Line], no: ServerNo) -> Option<ServerNo>
     ensures { result ≡ told before.now no }
 {
     let mut found = None;
-    for op in before {
-        found = told_by(op, no).or(found);
+    for line in before {
+        found = told_in(line, no).or(found);
     }
     found
 }

@@ -5,7 +5,7 @@ use crate::orch_base::{Name, OwnedText, Rule, ServerNo};
 use crate::scenario_servers::Names;
 use crate::scenario_turns::{Patterns, command_in, found, printed_names};
 use crate::scenario_values::{ReadFault, items_in};
-use scenario_json::{Arena, Value};
+use serde_json::Value;
 use std::alloc::Global;
 
 const SERVERS: &str = r#"[{"name":"db-a"},{"name":"db-b:3307"},{"name":7}]"#;
@@ -62,10 +62,9 @@ fn is_kept(alloc: Global, servers: &[Value], rest: &[Value]) -> Result<bool, Rea
 }
 
 fn is_read(alloc: Global) -> Result<bool, ReadFault> {
-    let (mut first, mut second) = (Arena::new(alloc), Arena::new(alloc));
     let (Ok(servers), Ok(rest)) = (
-        Value::from_slice(alloc, SERVERS.as_bytes(), &mut first),
-        Value::from_slice(alloc, FIND.as_bytes(), &mut second),
+        Value::from_str(alloc, SERVERS),
+        Value::from_str(alloc, FIND),
     ) else {
         return Ok(false);
     };

@@ -9,7 +9,7 @@ use crate::scenario_openings::opening_in;
 use crate::scenario_servers::{Given, inits_of, known_of, rules_of, servers_in};
 use crate::scenario_values::{FaultCode, ReadFault};
 use made_openings::{are_apart, are_servers};
-use scenario_json::{Arena, Value};
+use serde_json::Value;
 use std::alloc::Global;
 
 const TWO: &str =
@@ -62,8 +62,7 @@ fn are_default(master: &Given, replica: &Given) -> bool {
 
 // Whether the two servers of `TWO` have what is given, or else what stands for it.
 fn have_defaults(alloc: Global) -> Result<bool, ReadFault> {
-    let mut arena = Arena::new(alloc);
-    let Ok(value) = Value::from_slice(alloc, TWO.as_bytes(), &mut arena) else {
+    let Ok(value) = Value::from_str(alloc, TWO) else {
         return Ok(false);
     };
     let given = servers_in(alloc, true, &value)?.given;
@@ -106,8 +105,7 @@ fn are_labelled(servers: &[ServerInit], label: &str) -> bool {
 
 // How many servers the opening of these has, all of the cluster of `m`.
 fn opened(alloc: Global, text: &str) -> Result<usize, ReadFault> {
-    let mut arena = Arena::new(alloc);
-    let Ok(value) = Value::from_slice(alloc, text.as_bytes(), &mut arena) else {
+    let Ok(value) = Value::from_str(alloc, text) else {
         return Ok(0);
     };
     let inits = inits_of(alloc, servers_in(alloc, false, &value)?.given)?;

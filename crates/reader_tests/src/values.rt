@@ -6,7 +6,7 @@ use crate::scenario_values::{
     FaultCode, ReadFault, coord_in, fails, items_in, label_in, name_in, number_in, short_in,
     text_within, under, uuid_in, version_in,
 };
-use scenario_json::{Arena, Value};
+use serde_json::Value;
 use std::alloc::Global;
 
 const VALUES: &str =
@@ -44,8 +44,7 @@ fn are_texts(alloc: Global, values: &[Value]) -> Result<bool, ReadFault> {
 
 // Whether the values of `VALUES` are read.
 fn are_read(alloc: Global) -> Result<bool, ReadFault> {
-    let mut arena = Arena::new(alloc);
-    let Ok(value) = Value::from_slice(alloc, VALUES.as_bytes(), &mut arena) else {
+    let Ok(value) = Value::from_str(alloc, VALUES) else {
         return Ok(false);
     };
     let values = items_in(alloc, &value)?;

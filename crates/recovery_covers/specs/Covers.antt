@@ -3,6 +3,7 @@ use Rattle.std.specs.Prelude.{◌≡◌, ℕ, ◌+◌, ◌≤◌, Bool, true, fa
 use Rattle.recovery_covers.specs.Prelude.{Follower, IsApart, IsRuling, IsUnder, Line, LostReplica, Outcome, Purpose, Recovery, ServerNo, World}
 use Rattle.recovery_covers.specs.Prelude.{is_master, told}
 use Rattle.recovery_covers.specs.Prelude.purpose
+use Rattle.recovery_covers.specs.Prelude.stage
 
 -- how often a server stands in a list
 abbrev pub times : ℕ → List ServerNo → ℕ
@@ -103,8 +104,9 @@ pub record HasSwapped (r : Recovery) : Type 0 where
   pub follows : Contains r.outcome.followers (record { no = was; source = is })
 
 -- a recovery that is done covers its replicas, and its lines are those of its outcome; the chosen one is promoted, or
--- was
+-- was; and nothing comes after that stage
 pub record IsTold (w : World) (r : Recovery) (lines : List Line) : Type 0 where
+  pub closed : r.stage ≡ stage.Close lines
   pub covers : Covers w r.purpose r.failed r.replicas r.outcome
   pub told : lines ≡ told r
   pub leads : (r.outcome.promoted ≡ r.chosen) ⊎ HasSwapped r

@@ -7,9 +7,9 @@ use Rattle.recovery_outcomes.proofs.Prelude.{IsStuck, IsTold, Job, JobStep, Lead
 use Rattle.recovery_outcomes.proofs.Prelude.{Placed, Purpose, Recovery, ServerNo, Spot, Stage, Status, Taken, Turning, Unreachable, World}
 use Rattle.recovery_outcomes.proofs.Prelude.{after_answer, after_ask, after_attach, after_look, after_match, after_status, after_until, after_wait}
 use Rattle.recovery_outcomes.proofs.Prelude.{after_wait_by, aim_of, attach_answer_of, by_deed, by_match, by_set, can_attach, covered, crossing_of}
-use Rattle.recovery_outcomes.proofs.Prelude.{decides-before, decisions-keep, deed_of, desk_answer, ended, ends, false≢true, first_source, fits}
+use Rattle.recovery_outcomes.proofs.Prelude.{decides-before, decisions-keep, deed_of, desk_answer, end, ended, ends, false≢true, first_source, fits}
 use Rattle.recovery_outcomes.proofs.Prelude.{fits-step, holds_seen, is_master, is_moved, is_reached, match_found, match_logs, next, observed}
-use Rattle.recovery_outcomes.proofs.Prelude.{of_queue, reads_last, run, same-head, same_again, same_Some, saw, seen_in, seen_of, server_at, settles}
+use Rattle.recovery_outcomes.proofs.Prelude.{of_queue, reads_last, run, same-head, same_Some, same_again, saw, seen_in, seen_of, server_at, settles}
 use Rattle.recovery_outcomes.proofs.Prelude.{standing_at, status, stopped_nos, swapped-on, tail_of, taken, taken-walks, times, until_by}
 use Rattle.recovery_outcomes.proofs.Prelude.asking
 use Rattle.recovery_outcomes.proofs.Prelude.attempt
@@ -166,8 +166,8 @@ module _ (w : World) (read : ℕ) (now : Moment) (r : Recovery) (o : Op) (rest :
   abbrev ends-so : Op → Type 0
   ends-so x = deed_of x ≡ deed.Finish lines
 
-  finishing : ends-so o → (s : Stage) → o ∷ rest ≡ tail_of s → CoversAt w r s → IsClosing w r lines
-  finishing d s e at = go s e at
+  finishing : ends-so o → (s : Stage) → r.stage ≡ s → o ∷ rest ≡ tail_of s → CoversAt w r s → IsClosing w r lines
+  finishing d s here e at = go s here e at
     where
       first : (x : Op) (xs : List Op) → o ∷ rest ≡ x ∷ xs → ends-so x
       first x xs h = sym (ap deed_of (same-head o x rest xs h)) ∙ d
@@ -176,28 +176,31 @@ module _ (w : World) (read : ℕ) (now : Moment) (r : Recovery) (o : Op) (rest :
       leader-of ls (inl l) = inl l
       leader-of ls (inr l) = inr l.1
 
-      go : (x : Stage) → o ∷ rest ≡ tail_of x → CoversAt w r x → IsClosing w r lines
-      go (stage.Close ls) t a = record {
-        told = record { covers = close-covers w r ls a; told = (let same = first (op.Finish ls) [] t in let e : lines ≡ ls = cc in e) ∙ a.stage.1; leads = leader-of ls a.leads };
-        chain = close-chain w r ls a;
-      }
-      go (stage.Drain n) t a = let bad = first (op.Status n None) _ t in cc
-      go (stage.Look n b) t a = let bad = first (op.Status n None) _ t in cc
-      go (stage.Trail n b) t a = let bad = first (op.Status n None) _ t in cc
-      go (stage.Move n (way.Down b)) t a = let bad = first (op.Cross cross.Down n b.no) _ t in cc
-      go (stage.Move n (way.Up b)) t a = let bad = first (op.Cross cross.Up n b.no) _ t in cc
-      go (stage.Move n (way.Auto to exec)) t a = let bad = first (op.Auto n to) _ t in cc
-      go (stage.Move n (way.Match to exec every)) t a = let bad = first (op.CrossMatch n to) _ t in cc
-      go (stage.Expel n) t a = let bad = first (op.Detach n) _ t in cc
-      go (stage.Level p q) t a = let bad = first (op.Reset q) _ t in cc
-      go (stage.Swap p q) t a = let bad = first (op.Cross cross.About p q) _ t in cc
-      go (stage.Return p q) t a = let bad = first (op.Cross cross.Back q p) _ t in cc
-      go (stage.Crown n) t a = let bad = first (op.Reset n) _ t in cc
-      go (stage.Open n) t a = let bad = first (op.ReadOnly n false) _ t in cc
-      go (stage.Shut m d) t a = let bad = first (op.ReadOnly m true) _ t in cc
-      go (stage.Yield m d) t a = let bad = first (op.Reset d) _ t in cc
-      go (stage.Switch m d) t a = let bad = first (op.Cross cross.About m d) _ t in cc
-      go _ t a = cc
+      go : (x : Stage) → r.stage ≡ x → o ∷ rest ≡ tail_of x → CoversAt w r x → IsClosing w r lines
+      go (stage.Close ls) here t a =
+          let ends = first (op.Finish ls) [] t in
+          let same : lines ≡ ls = cc in
+          record {
+            told = record { closed = here ∙ ap stage.Close (sym same); covers = close-covers w r ls a; told = same ∙ a.stage.1; leads = leader-of ls a.leads };
+            chain = close-chain w r ls a;
+          }
+      go (stage.Drain n) here t a = let bad = first (op.Status n None) _ t in cc
+      go (stage.Look n b) here t a = let bad = first (op.Status n None) _ t in cc
+      go (stage.Trail n b) here t a = let bad = first (op.Status n None) _ t in cc
+      go (stage.Move n (way.Down b)) here t a = let bad = first (op.Cross cross.Down n b.no) _ t in cc
+      go (stage.Move n (way.Up b)) here t a = let bad = first (op.Cross cross.Up n b.no) _ t in cc
+      go (stage.Move n (way.Auto to exec)) here t a = let bad = first (op.Auto n to) _ t in cc
+      go (stage.Move n (way.Match to exec every)) here t a = let bad = first (op.CrossMatch n to) _ t in cc
+      go (stage.Expel n) here t a = let bad = first (op.Detach n) _ t in cc
+      go (stage.Level p q) here t a = let bad = first (op.Reset q) _ t in cc
+      go (stage.Swap p q) here t a = let bad = first (op.Cross cross.About p q) _ t in cc
+      go (stage.Return p q) here t a = let bad = first (op.Cross cross.Back q p) _ t in cc
+      go (stage.Crown n) here t a = let bad = first (op.Reset n) _ t in cc
+      go (stage.Open n) here t a = let bad = first (op.ReadOnly n false) _ t in cc
+      go (stage.Shut m d) here t a = let bad = first (op.ReadOnly m true) _ t in cc
+      go (stage.Yield m d) here t a = let bad = first (op.Reset d) _ t in cc
+      go (stage.Switch m d) here t a = let bad = first (op.Cross cross.About m d) _ t in cc
+      go _ here t a = cc
 
   at-finish : ends-so o → IsClosing w r lines
   at-finish d = go (fits-step r.stage o rest (fits w read now r o rest placed held is))
@@ -208,13 +211,13 @@ module _ (w : World) (read : ℕ) (now : Moment) (r : Recovery) (o : Op) (rest :
 
       go : ((ends r.stage (deed_of o) ≡ false) × Fits r.stage rest) ⊎ (o ∷ rest ≡ tail_of r.stage) → IsClosing w r lines
       go (inl p) = absurd (false≢true (sym p.0 ∙ ap (ends r.stage) d ∙ or-true (reads_last r.stage)))
-      go (inr e) = finishing d r.stage e c.at
+      go (inr e) = finishing d r.stage refl e c.at
 
   -- in the turn whose operation says so
   done-told : by_deed w read now r.core rest (deed_of o) ≡ attempt.Ends lines → IsClosing w (record r { core = ended r.core }) lines
   done-told e =
       let is = at-finish (finish-of r.core rest w read now (deed_of o) lines e) in
-      record { told = record { covers = is.told.covers; told = is.told.told; leads = ended-leads is.told.leads }; chain = ended-chain is.chain }
+      record { told = record { closed = is.told.closed; covers = is.told.covers; told = is.told.told; leads = ended-leads is.told.leads }; chain = ended-chain is.chain }
     where
       ended-chain : IsChain r → IsChain (record r { core = ended r.core })
       ended-chain (inl direct) = inl direct

@@ -4,3 +4,4 @@ pub mod Running
 pub mod Placing
 pub mod Examples
 pub mod Telling
+pub mod Doing

@@ -2,3 +2,4 @@ pub mod Prelude
 pub mod Chains
 pub mod Between
 pub mod Told
+pub mod Doing

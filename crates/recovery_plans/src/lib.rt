@@ -18,7 +18,7 @@ pub use operations::{
     binlog_coords_items, commands, gtid_sets, instance_keeper_items, orch_base, server_model,
     server_words_items,
 };
-pub use outcome::{Follower, LostReplica, Stopped};
+pub use outcome::{Follower, LostReplica, Outcome, Stopped};
 pub use promotion_rules;
 pub use purpose::Purpose;
 pub use replica_groups;

@@ -34,3 +34,14 @@ pub struct LostReplica {
     /// Whether it was detached from its source.
     pub detached: bool,
 }
+
+/// What a recovery comes to.
+#[derive(Drop)]
+pub struct Outcome {
+    /// The server that is promoted, or below which the others go: none where there is none.
+    pub promoted: Option<ServerNo>,
+    /// Who follows, in the order in which they came below their sources.
+    pub followers: Vec<Follower>,
+    /// Who is lost, in the order in which that was decided.
+    pub lost: Vec<LostReplica>,
+}

@@ -1,49 +1,28 @@
 -- What a recovery drained, chose and promoted so far has facts that count.
-use Rattle.std.proofs.Common.{◌≡◌, ℕ, Bool, true, false, cond, List, [], ◌∷◌, filter, map, refl, sym, ◌∙◌, ap, subst, Option, Some, None, inl, inr}
+use Rattle.std.proofs.Common.{◌≡◌, ℕ, Bool, true, false, cond, List, [], ◌∷◌, filter, map, refl, sym, ◌∙◌, ap, subst, Option, Some, None, ◌⊎◌, inl, inr}
 use Rattle.recovery_reasons.proofs.Prelude.{All-filter, All-nil, All-push, All-tail, AllDrained, Bearing, Betters, BookState, Chooses, Decision}
-use Rattle.recovery_reasons.proofs.Prelude.{Decisions, Drains, Ending, ExplainsTruly, Fact, HeldRecovery, HeldRings, IsBetter, IsChosen, IsDrained}
-use Rattle.recovery_reasons.proofs.Prelude.{IsExplained, IsPromoted, IsSwapping, Keeps, MayDecide, MayEnd, Means, Moment, Op, Position, Purpose}
-use Rattle.recovery_reasons.proofs.Prelude.{Recovery, ServerNo, Speaks, Stage, Stopped, World, begun_recovery, borne, chooses, chosen-first}
-use Rattle.recovery_reasons.proofs.Prelude.{decided_by, decides-held, deed_of, ended, ended_by, ends, entered, false≢true, fate_of, follower_of}
-use Rattle.recovery_reasons.proofs.Prelude.{follows_no_more, ground_of, is_below, is_better, joined, kept-whole, leaver, may_lead, moved}
-use Rattle.recovery_reasons.proofs.Prelude.{nearer_order, position_of, same_Some, seen_of, stepped, stopped_at, taken}
+use Rattle.recovery_reasons.proofs.Prelude.{Decisions, Drains, Ending, ExplainsTruly, Fact, Fits, HeldRecovery, HeldRings, IsBetter, IsChosen}
+use Rattle.recovery_reasons.proofs.Prelude.{IsDrained, IsExplained, IsFit, IsGivenUp, IsOnCourse, IsOnWay, IsPromoted, IsSeenSo, IsSwapped}
+use Rattle.recovery_reasons.proofs.Prelude.{IsSwapping, Keeps, Line, MayDecide, MayEnd, Means, Moment, Op, Position, Purpose, Recovery, ServerNo}
+use Rattle.recovery_reasons.proofs.Prelude.{Speaks, Stopped, SwapOf, WasCrowned, WasLooked, World, begun_recovery, borne, chooses, chosen-first}
+use Rattle.recovery_reasons.proofs.Prelude.{closes, decided_by, decides-held, deed_of, ended, ended_by, ends, entered, false≢true, fate_of}
+use Rattle.recovery_reasons.proofs.Prelude.{follower_of, follows_no_more, ground_of, is_below, is_better, joined, kept-whole, leaver, may_lead}
+use Rattle.recovery_reasons.proofs.Prelude.{moved, nearer_order, position_of, same_Some, seen_of, stepped, stepped-fits, stopped_at, taken, went-of}
 use Rattle.recovery_reasons.proofs.Prelude.by
 use Rattle.recovery_reasons.proofs.Prelude.purpose
 use Rattle.recovery_reasons.proofs.Prelude.stage
+use Rattle.recovery_reasons.proofs.Prelude.step
+use Rattle.recovery_reasons.proofs.Prelude.way
 use Rattle.recovery_reasons.proofs.Readings.{Reading, fits-of, reader_of, stepped-reading}
-use Rattle.recovery_reasons.proofs.Choosing.{chosen-most}
+use Rattle.recovery_reasons.proofs.Caring.{begun-cared, taken-cared}
+use Rattle.recovery_reasons.proofs.Choosing.{best-of, chosen-comes, chosen-most}
+use Rattle.recovery_reasons.proofs.Dealing.{begun-dealt, taken-dealt}
+use Rattle.recovery_reasons.proofs.Looking.{Looked, borne-looked, completes-looked, decided-looked, looked-as, stepped-looked}
+use Rattle.recovery_reasons.proofs.OnWay.{Fine, bears-way, completes-way, decides-fine, done-swap, still-on, stepped-course}
+use Rattle.recovery_reasons.proofs.Seeing.{taken-seen}
+use Rattle.recovery_reasons.proofs.Starting.{taken-up}
+use Rattle.recovery_reasons.proofs.Tasks.{calm, moved-swaps, swap_in, swaps-so}
 use Rattle.recovery_reasons.proofs.Reasoning.{taken-lost}
-
--- ---- changes of place
-
--- who takes whose place in a stage
-abbrev swap_in : Stage → Option (ServerNo × ServerNo)
-swap_in (stage.Level p q) = Some (p, q)
-swap_in (stage.Swap p q) = Some (p, q)
-swap_in (stage.Swapped p q) = Some (p, q)
-swap_in s = None
-
-swaps-so : (s : Stage) (p q : ServerNo) → IsSwapping s p q → swap_in s ≡ Some (p, q)
-swaps-so s p q (inl at) = ap swap_in at
-swaps-so s p q (inr (inl at)) = ap swap_in at
-swaps-so s p q (inr (inr at)) = ap swap_in at
-
-abbrev no-pair : Option (ServerNo × ServerNo)
-no-pair = None
-
-nothing : (x : ServerNo × ServerNo) → no-pair ≡ Some x → ⊥
-nothing x e = cc
-
--- in no other stage
-calm : (s : Stage) → swap_in s ≡ None → (p q : ServerNo) → IsSwapping s p q → ⊥
-calm s none p q h = nothing (p, q) (sym none ∙ swaps-so s p q h)
-
--- a stage that follows another changes the same places, or none
-moved-swaps : (s : Stage) (p q : ServerNo) → IsSwapping (moved s) p q → IsSwapping s p q
-moved-swaps (stage.Level m n) p q h = let same = same_Some (m, n) (p, q) (swaps-so (stage.Swap m n) p q h) in inl (ap (λ (x : ServerNo × ServerNo). stage.Level x.0 x.1) same)
-moved-swaps (stage.Swap m n) p q h = let same = same_Some (m, n) (p, q) (swaps-so (stage.Swapped m n) p q h) in inr (inl (ap (λ (x : ServerNo × ServerNo). stage.Swap x.0 x.1) same))
-moved-swaps (stage.Swapped m n) p q h = h
-moved-swaps s p q h = absurd (nothing (p, q) (swaps-so (moved s) p q h))
 
 module _ (w : World) (b : BookState) (now : Moment) (r : Recovery) (P : Fact → Bool) (why : ExplainsTruly w b now r P) where
   -- all but the lost and those that change places
@@ -84,7 +63,7 @@ module _ (w : World) (b : BookState) (now : Moment) (r : Recovery) (P : Fact →
   module _ (x : Recovery) (so : Decisions (ground_of w b now) r x) where
     decided-stands : (d : Decision) → MayDecide (ground_of w b now) x d → Going x → Going (decided_by (ground_of w b now) x d)
     decided-stands (by.Chooses p ts) m h =
-        let told : P (IsChosen p.no (filter (may_lead (ground_of w b now)) x.drained)) ≡ true = why x (IsChosen p.no (filter (may_lead (ground_of w b now)) x.drained)) so (Chooses p (ts, m.0) m.1 (chosen-most w b now x.failed x.drained p m.1)) in
+        let told : P (IsChosen p.no (filter (may_lead (ground_of w b now)) x.drained)) ≡ true = why x (IsChosen p.no (filter (may_lead (ground_of w b now)) x.drained)) so (Chooses p (ts, m.0) m.1 (chosen-most w b now x.failed x.drained p m.1) (chosen-comes w b now x.failed x.drained p m.1)) in
         let this : (n : ServerNo) → Some p.no ≡ Some n → P (IsChosen n (filter (may_lead (ground_of w b now)) x.drained)) ≡ true =
         λ n e. subst (λ (k : ServerNo). P (IsChosen k (filter (may_lead (ground_of w b now)) x.drained)) ≡ true) (same_Some p.no n e) told in
         rests x _ (record {
@@ -123,7 +102,7 @@ module _ (w : World) (b : BookState) (now : Moment) (r : Recovery) (P : Fact →
       λ busy m' n' e.
           let same = same_Some (p, q) (m', n') (swaps-so (stage.Level p q) m' n' e) in
           subst (λ (y : ServerNo × ServerNo). (P (IsChosen y.0 x.eligible) ≡ true) × (P (IsBetter y.0 y.1) ≡ true)) same
-          (h.0.chosen p (ap chooses m.0.purpose) m.2, why x (IsBetter p q) so (Betters m.2 m.3 (chosen-first (nearer_order b.names) (is_better (follower_of (ground_of w b now) x.failed p)) (map (follower_of (ground_of w b now) x.failed) (map (λ y. y.no) x.outcome.followers)) q m.3))),
+          (h.0.chosen p (ap chooses m.0.purpose) m.2, why x (IsBetter p q) so (Betters m.2 m.3 (chosen-first (nearer_order b.names) (is_better (follower_of (ground_of w b now) x.failed p)) (map (follower_of (ground_of w b now) x.failed) (map (λ y. y.no) x.outcome.followers)) q m.3) (best-of w b now x.failed p x.outcome.followers q m.3))),
     )
     decided-stands (by.Passes ts) m h = rests x _ (like x _ refl refl refl refl refl h.0) m.0.rests
     decided-stands (by.Sorts ts) m h = rests x _ (like x _ refl refl refl refl refl h.0) m.rests
@@ -178,34 +157,84 @@ module _ (w : World) (b : BookState) (now : Moment) (r : Recovery) (P : Fact →
   busy-with : (o : Op) (rest ops : List Op) → ops ≡ o ∷ rest → ops ≡ [] → ⊥
   busy-with o rest ops is none = let bad : o ∷ rest ≡ [] = sym is ∙ none in cc
 
-  abbrev Before : Recovery → Type 0
-  Before x = HeldRecovery w x × (Decisions (ground_of w b now) r x × Going x)
+  abbrev Opened : Recovery → Type 0
+  Opened x = x.purpose ≡ purpose.Master → closes x.stage ≡ true → x.swaps ≡ false
 
-  keeps-stands : (read : ℕ) → HeldRings w b.rings → Keeps w b read now Before (λ v x. Reading w b now r x × (Stands x × Swaps x)) (λ v x. Going x)
+  opened-on : (x : Recovery) → IsOnWay x → Opened x
+  opened-on x way m h = way.course.swap.closed m (inr h)
+
+  opened-fine : (x : Recovery) → Fine x → Opened x
+  opened-fine x (inl way) = opened-on x way
+  opened-fine x (inr s) = λ m h. absurd (false≢true (sym (ap closes s.stage) ∙ h))
+
+  abbrev Whole : Recovery → Type 0
+  Whole x = Going x × Looked P x
+
+  abbrev Before : Recovery → Type 0
+  Before x = HeldRecovery w x × (Fine x × (Decisions (ground_of w b now) r x × Whole x))
+
+  keeps-stands : (read : ℕ) → HeldRings w b.rings
+      → Keeps w b read now Before (λ v x. IsFit x × (IsOnCourse x × (Reading w b now r x × (Stands x × (Swaps x × Looked P x))))) (λ v x. Whole x × Opened x)
   keeps-stands read rings = record {
-    decides = λ x d may h. (decides-held w b now rings x d may h.0, (joined w b now h.1.0 (by.Then d may by.Still), decided-stands x h.1.0 d may h.1.1));
-    waits = λ x o rest ob es j did e h. (like x (record x { core = j }) refl refl refl refl refl h.1.1.0, λ busy. h.1.1.1 (busy-with o rest x.core.ops did.ops));
-    acts = λ x o rest ob es j did e h. (
-      stepped-reading w b now r read x h.1.0 o rest (fits-of w x o rest did.ops h.0) ob es j did.goes,
-      stepped-stands (record x { core = j }) o (like x (record x { core = j }) refl refl refl refl refl h.1.1.0) (h.1.1.1 (busy-with o rest x.core.ops did.ops)),
+    decides = λ x d may h. (
+      decides-held w b now rings x d may h.0,
+      (
+        decides-fine w b now x d may h.1.0,
+        (joined w b now h.1.1.0 (by.Then d may by.Still), (decided-stands x h.1.1.0 d may h.1.1.1.0, decided-looked w b now r P why x h.1.1.0 h.1.0 d may h.1.1.1.1)),
+      ),
     );
-    continues = λ v x y ys is whole. (whole.1.0, λ busy. whole.1.1);
-    completes = λ v x e none may whole. completes-stands x e may whole.0 whole.1.0 whole.1.1;
-    bears = λ x o rest c ob e stops is may h. borne-stands x e h.1.1.0;
+    waits = λ x o rest ob es j did e h. (
+      (
+        (like x (record x { core = j }) refl refl refl refl refl h.1.1.1.0.0, λ busy. h.1.1.1.0.1 (busy-with o rest x.core.ops did.ops)),
+        looked-as P x (record x { core = j }) refl refl refl refl (λ p q at. at) h.1.1.1.1,
+      ),
+      opened-fine x h.1.0,
+    );
+    acts = λ x o rest ob es j did e h.
+        let fits = fits-of w x o rest did.ops h.0 in
+        let left = (went-of w read now x o rest ob es j did).done e in
+        let two = stepped-stands (record x { core = j }) o (like x (record x { core = j }) refl refl refl refl refl h.1.1.1.0.0) (h.1.1.1.0.1 (busy-with o rest x.core.ops did.ops)) in (
+          stepped-fits x o rest j fits left,
+          (
+            stepped-course w read now x o rest did.ops fits (still-on x o rest did.ops h.1.0).course ob es j did.goes left,
+            (
+              stepped-reading w b now r read x h.1.1.0 o rest fits ob es j did.goes,
+              (two.0, (two.1, stepped-looked P (record x { core = j }) o (looked-as P x (record x { core = j }) refl refl refl refl (λ p q at. at) h.1.1.1.1))),
+            ),
+          ),
+        );
+    continues = λ v x y ys is whole. (((whole.1.1.1.0, λ busy. whole.1.1.1.1.0), whole.1.1.1.1.1), λ m h. whole.1.0.swap.closed m (inr h));
+    completes = λ v x e none may whole. (
+      (
+        completes-stands x e may whole.1.1.0 whole.1.1.1.0 whole.1.1.1.1.0,
+        completes-looked P x e may (subst (λ (xs : List Op). Fits x.stage xs) none whole.0) whole.1.0 (λ p q at. (whole.1.1.1.1.0 p q at).1) whole.1.1.1.1.1,
+      ),
+      opened-on (ended_by x e) (completes-way x none whole.1.0 whole.0 e may),
+    );
+    bears = λ x o rest c ob e stops is may h. (
+      (borne-stands x e h.1.1.1.0.0, borne-looked w b now r P why x h.1.1.0 h.1.0 read o rest c ob stops e may h.1.1.1.1),
+      opened-on (borne x (fate_of e)) (bears-way w x (still-on x o rest stops.ops h.1.0) c e is may),
+    );
   }
 
   over-stands : (x : Recovery) → Stands x → Going (record x { core = ended x.core })
   over-stands x s = rests x _ (like x (record x { core = ended x.core }) refl refl refl refl refl s) refl
 
-  taken-stands : (read : ℕ) → HeldRings w b.rings → HeldRecovery w r → Going r → Going (taken w b read now r).recovery
-  taken-stands read rings held going =
-      kept-whole w b read now Before (λ v x. Reading w b now r x × (Stands x × Swaps x)) (λ v x. Going x) (keeps-stands read rings)
-      (record { fails = λ x c ob f h. over-stands x h.1.1.0; finishes = λ x o rest lines is e h. over-stands x h.1.1.0 }) r (held, (by.Still, going))
+  over-whole : (x : Recovery) → Before x → Whole (record x { core = ended x.core }) × Opened (record x { core = ended x.core })
+  over-whole x h = ((over-stands x h.1.1.1.0.0, looked-as P x (record x { core = ended x.core }) refl refl refl refl (λ p q at. at) h.1.1.1.1), opened-fine x h.1.0)
+
+  taken-stands : (read : ℕ) → HeldRings w b.rings → HeldRecovery w r → IsOnWay r → Whole r → Whole (taken w b read now r).recovery × Opened (taken w b read now r).recovery
+  taken-stands read rings held way whole =
+      kept-whole w b read now Before (λ v x. IsFit x × (IsOnCourse x × (Reading w b now r x × (Stands x × (Swaps x × Looked P x))))) (λ v x. Whole x × Opened x) (keeps-stands read rings)
+      (record { fails = λ x c ob f h. over-whole x h; finishes = λ x o rest lines is e h. over-whole x h }) r (held, (inl way, (by.Still, whole)))
 
 pub taken-explained : (w : World) (b : BookState) (read : ℕ) (now : Moment) (r : Recovery) (P : Fact → Bool) → HeldRings w b.rings → HeldRecovery w r → Speaks r → ExplainsTruly w b now r P
     → IsExplained P r → IsExplained P (taken w b read now r).recovery
 taken-explained w b read now r P rings held speaks why x =
-    let y = taken-stands w b now r P why read rings held (record { drained = x.drained; among = x.among; chosen = x.chosen; promoted = x.promoted }, λ busy p q h. x.swaps p q h busy) in
+    let after = taken-stands w b now r P why read rings held speaks.way ((record { drained = x.drained; among = x.among; chosen = x.chosen; promoted = x.promoted }, λ busy p q h. x.swaps p q h busy), x.looked) in
+    let whole = after.0 in
+    let y = whole.0 in
+    let ups = taken-up w b now r P why read rings held speaks x.started x.below in
     record {
       lost = taken-lost w b read now r P rings held speaks why x.lost;
       drained = y.0.drained;
@@ -213,7 +242,39 @@ taken-explained w b read now r P rings held speaks why x =
       chosen = y.0.chosen;
       promoted = y.0.promoted;
       swaps = λ p q h busy. y.1 busy p q h;
+      seen = taken-seen w b now r P why read x.seen;
+      started = ups.0;
+      below = ups.1;
+      care = taken-cared w b now r P why read rings held x.care;
+      dealt = taken-dealt w b now r P why read rings held speaks x.care x.dealt;
+      opened = after.1;
+      looked = whole.1;
     }
+
+-- whom a master's recovery that is at its end has promoted
+pub done-crowned : (w : World) (b : BookState) (read : ℕ) (now : Moment) (r : Recovery) (P : Fact → Bool) → Speaks r → IsExplained P (taken w b read now r).recovery → (lines : List Line) → (taken w b read now r).step ≡ step.Done lines
+    → closes (taken w b read now r).recovery.stage ≡ true → (p : ServerNo) → (taken w b read now r).recovery.purpose ≡ purpose.Master → (taken w b read now r).recovery.chosen ≡ Some p
+    → WasCrowned P p (taken w b read now r).recovery.outcome.promoted
+done-crowned w b read now r P speaks x lines done ends p m chosen = go (x.looked p m chosen (swap.closed m (inr ends)))
+  where
+    after : Recovery
+    after = (taken w b read now r).recovery
+
+    swap : SwapOf after.purpose after.stage after.chosen after.outcome.promoted after.swaps
+    swap = done-swap w b read now r speaks.way lines done
+
+    still : (q : ServerNo) → IsSwapping after.stage p q → ⊥
+    still q (inl at) = false≢true (sym (ap closes at) ∙ ends)
+    still q (inr (inl at)) = false≢true (sym (ap closes at) ∙ ends)
+    still q (inr (inr at)) = false≢true (sym (ap closes at) ∙ ends)
+
+    which : (q : ServerNo) → IsSwapped P after p q → (after.outcome.promoted ≡ Some q) ⊎ ((after.outcome.promoted ≡ Some p) × (P (IsGivenUp p q) ≡ true))
+    which q (inl at) = absurd (still q at)
+    which q (inr is) = is
+
+    go : WasLooked P after p → WasCrowned P p after.outcome.promoted
+    go (inl none) = inl none
+    go (inr one) = inr (one.0, one.1, which one.0 one.2)
 
 pub begun-explained : (P : Fact → Bool) (u : Purpose) (by : Means) (id wait : ℕ) (f : ServerNo) (ns order : List ServerNo) → IsExplained P (begun_recovery u by id wait f ns order)
 begun-explained P u by id wait f ns order = by-purpose u
@@ -232,6 +293,13 @@ begun-explained P u by id wait f ns order = by-purpose u
       chosen = λ n u' e. absurd (nowhere n e);
       promoted = λ n u' e. absurd (nowhere n e);
       swaps = λ p q h busy. absurd (calm stage.Idle refl p q h);
+      seen = All-nil (IsSeenSo P);
+      started = λ sound. All-nil _;
+      below = λ m d at. cc;
+      care = begun-cared P purpose.Regroup by id wait f ns order;
+      dealt = begun-dealt P purpose.Regroup by id wait f ns order;
+      opened = λ m h. cc;
+      looked = λ p m c t. cc;
     }
     by-purpose purpose.Master = record {
       lost = All-nil _;
@@ -240,6 +308,13 @@ begun-explained P u by id wait f ns order = by-purpose u
       chosen = λ n u' e. absurd (nowhere n e);
       promoted = λ n u' e. absurd (nowhere n e);
       swaps = λ p q h busy. absurd (calm _ refl p q h);
+      seen = All-nil (IsSeenSo P);
+      started = λ sound. All-nil _;
+      below = λ m d at. cc;
+      care = begun-cared P purpose.Master by id wait f ns order;
+      dealt = begun-dealt P purpose.Master by id wait f ns order;
+      opened = λ m h. cc;
+      looked = λ p m c t. cc;
     }
     by-purpose (purpose.Intermediate s) = record {
       lost = All-nil _;
@@ -248,6 +323,13 @@ begun-explained P u by id wait f ns order = by-purpose u
       chosen = λ n u' e. absurd (false≢true u');
       promoted = λ n u' e. absurd (false≢true u');
       swaps = λ p q h busy. absurd (calm _ refl p q h);
+      seen = All-nil (IsSeenSo P);
+      started = λ sound. All-nil _;
+      below = λ m d at. cc;
+      care = begun-cared P (purpose.Intermediate s) by id wait f ns order;
+      dealt = begun-dealt P (purpose.Intermediate s) by id wait f ns order;
+      opened = λ m h. cc;
+      looked = λ p m c t. cc;
     }
     by-purpose (purpose.Takeover d) = record {
       lost = All-nil _;
@@ -256,4 +338,11 @@ begun-explained P u by id wait f ns order = by-purpose u
       chosen = λ n u' e. absurd (false≢true u');
       promoted = λ n u' e. absurd (false≢true u');
       swaps = λ p q h busy. absurd (calm _ refl p q h);
+      seen = All-nil (IsSeenSo P);
+      started = λ sound. All-nil _;
+      below = λ m d at. cc;
+      care = begun-cared P (purpose.Takeover d) by id wait f ns order;
+      dealt = begun-dealt P (purpose.Takeover d) by id wait f ns order;
+      opened = λ m h. cc;
+      looked = λ p m c t. cc;
     }

@@ -1,15 +1,19 @@
 -- What its proofs cite of others.
-pub use Rattle.std.proofs.lemmas.Bool.{eq-eqb, eqb-true, false≢true, ltb-false, ne_eqb}
-pub use Rattle.std.proofs.lemmas.List.Elements.{All-append, All-cons, All-contains, All-contains_itself, All-filter, All-head, All-nil, All-push}
-pub use Rattle.std.proofs.lemmas.List.Elements.{All-tail, Contains-append_right}
+pub use Rattle.std.proofs.lemmas.Bool.{and_parts, eq-eqb, eqb-true, false≢true, le-ltb, lt-ltb, ltb-false, ltb-true, ne_eqb}
+pub use Rattle.std.proofs.lemmas.List.Elements.{All-append, All-cons, All-contains, All-contains_itself, All-filter, All-head, All-map, All-nil, All-push, All-weaker, filter_passes}
+pub use Rattle.std.proofs.lemmas.List.{append-nil}
+pub use Rattle.std.proofs.lemmas.List.Elements.{All-tail, Contains-append_left, Contains-append_right}
 pub use Rattle.std.proofs.lemmas.Map.Made.{Contains-tail}
 pub use Rattle.std.proofs.lemmas.Option.{same_Some}
+pub use Rattle.std.specs.Cmp.Lexicographic.{other_text, same_text}
 pub use Rattle.std.specs.List.{All, Contains}
+pub use Rattle.recovery_laws.proofs.BinlogCoords.Places.{same_coord-true}
 pub use Rattle.recovery_laws.specs.BinlogCoords.Log.{is_at_or_before, is_before, same_coord}
 pub use Rattle.recovery_laws.specs.BinlogCoords.declared.Coord.{Coord}
 pub use Rattle.recovery_laws.specs.Commands.declared.cause.Cause.{Cause}
 pub use Rattle.recovery_laws.specs.Commands.declared.cause.Cause.TheVariants as cause
 pub use Rattle.recovery_laws.specs.Commands.declared.line.Line.{Line}
+pub use Rattle.recovery_laws.specs.Commands.declared.line.Lost.TheVariants as word
 pub use Rattle.recovery_laws.specs.GtidSets.declared.interval.Interval.{Interval}
 pub use Rattle.recovery_laws.specs.InstanceKeeper.Book.{BookState, rule_at}
 pub use Rattle.recovery_laws.specs.InstanceKeeper.Bridges.{bridge_by, has_exec, has_own, latest_that, ring_at}
@@ -19,7 +23,7 @@ pub use Rattle.recovery_laws.specs.KeptRows.declared.observation.Observation.{Ob
 pub use Rattle.recovery_laws.proofs.OperationsProofs.Sights.{seen-at}
 pub use Rattle.recovery_laws.specs.Operations.Deeds.{Deed, deed_of}
 pub use Rattle.recovery_laws.specs.Operations.Deeds as deed
-pub use Rattle.recovery_laws.specs.Operations.Jobs.{Job, match_found, position_of, seen_of, with_seen}
+pub use Rattle.recovery_laws.specs.Operations.Jobs.{Job, match_found, others, position_of, seen_of, with_seen}
 pub use Rattle.recovery_laws.specs.Operations.Matching.{match_logs, standing_at}
 pub use Rattle.recovery_laws.specs.Operations.Targets.{can_attach}
 pub use Rattle.recovery_laws.specs.Operations.Turns.{Attempt, after_answer, after_ask, after_attach, after_look, after_match, after_status, after_until, after_wait}
@@ -38,36 +42,39 @@ pub use Rattle.recovery_laws.specs.Operations.declared.op.Op.TheVariants as op
 pub use Rattle.recovery_laws.specs.Operations.declared.sight.Position.{Position}
 pub use Rattle.recovery_laws.specs.Operations.declared.sight.Sight.{Sight}
 pub use Rattle.recovery_laws.specs.Operations.declared.step.JobStep.TheVariants as step
+pub use Rattle.recovery_laws.specs.OrchBase.declared.rule.Rule.{Rule}
+pub use Rattle.recovery_laws.specs.OrchBase.declared.rule.Rule.TheVariants as rule
 pub use Rattle.recovery_laws.specs.OrchBase.declared.server.Moment.{Moment}
 pub use Rattle.recovery_laws.specs.OrchBase.declared.server.ServerNo.{ServerNo}
 pub use Rattle.recovery_laws.specs.OrchBase.declared.server.SourceState.{SourceState}
 pub use Rattle.recovery_laws.specs.OrchBase.declared.server.SourceState.TheVariants.{Attached, Detached}
 pub use Rattle.recovery_laws.specs.OrchBase.declared.server.SourceState.TheVariants as source
 pub use Rattle.recovery_laws.proofs.PromotionRules.Choosing.{chosen-first, first-furthest, none-chosen}
-pub use Rattle.recovery_laws.proofs.PromotionRules.Orders.{advance_total}
-pub use Rattle.recovery_laws.specs.PromotionRules.Choice.{advance_order, is_barred, is_better, is_eligible, most_advanced, nearer_order}
-pub use Rattle.recovery_laws.specs.PromotionRules.Chosen.{HasExecutedMost}
+pub use Rattle.recovery_laws.proofs.PromotionRules.Orders.{advance_total, nearer_total}
+pub use Rattle.recovery_laws.specs.PromotionRules.Choice.{advance_order, coord_order, is_barred, is_better, is_eligible, most_advanced, nearer_order, precedence, server_order}
+pub use Rattle.recovery_laws.specs.PromotionRules.Chosen.{HasExecutedMost, IsFirst}
 pub use Rattle.recovery_laws.specs.PromotionRules.declared.drained.Drained.{Drained}
 pub use Rattle.recovery_laws.proofs.RecoveryEnds.Fitting.{IsFit, decides-fits, stepped-fits, went-of}
 pub use Rattle.recovery_laws.proofs.RecoveryEnds.Shapes.{WentOn, fits-step, moved-fits, same-head, same-tail}
 pub use Rattle.recovery_laws.specs.RecoveryEnds.Ends.{closes}
 pub use Rattle.recovery_laws.specs.RecoveryEnds.Shapes.{Fits}
 pub use Rattle.recovery_laws.proofs.Deciding.{decides-held}
+pub use Rattle.recovery_laws.proofs.StaysRead as sights
 pub use Rattle.recovery_laws.specs.HeldRecoveries.{HeldRecovery}
 pub use Rattle.recovery_laws.specs.Rings.{HeldRings}
 pub use Rattle.recovery_laws.proofs.RecoveryPlans.Leading.{moved-leads}
-pub use Rattle.recovery_laws.proofs.RecoveryPlans.Walking.{Keeps, decided-walks, decisions-keep, joined, kept-along, kept-whole, once-walks, taken-walks}
-pub use Rattle.recovery_laws.specs.RecoveryPlans.Beginning.{begun_recovery, but, first_source, is_takeover}
-pub use Rattle.recovery_laws.specs.RecoveryPlans.Deciding.{Lot, at_last, better_of, by_queue, by_task, choose, chosen_of, crown, decided, drained_of, expels}
+pub use Rattle.recovery_laws.proofs.RecoveryPlans.Walking.{Keeps, decided-walks, decides-idle, decisions-keep, joined, kept-along, kept-whole, once-walks, taken-walks}
+pub use Rattle.recovery_laws.specs.RecoveryPlans.Beginning.{begun_recovery, but, first_source, first_stage, first_tasks, is_master, is_takeover}
+pub use Rattle.recovery_laws.specs.RecoveryPlans.Deciding.{Lot, at_last, better_of, by_queue, by_task, center_in, choose, chosen_of, crown, decided, drained_of, expels, is_near}
 pub use Rattle.recovery_laws.specs.RecoveryPlans.Deciding.{follower_of, ground_of, hand, hand_by, hand_over, logs_at, look_at, losses_in, lot_by, lot_by_group}
 pub use Rattle.recovery_laws.specs.RecoveryPlans.Deciding.{lot_of, may_lead, move_of, moves_in, moving, once, own_end_of, rejoin, releases, stay_of, stopped_in}
 pub use Rattle.recovery_laws.specs.RecoveryPlans.Deciding.{swap, swap_by, swap_or_crown, unfit, way_below, way_by_set, why_of, without_stopped, yield}
 pub use Rattle.recovery_laws.specs.RecoveryPlans.Deciding as deciding
-pub use Rattle.recovery_laws.specs.RecoveryPlans.Moves.{Bearing, Decision, Decisions, Ending, IsNext, MayBear, MayDecide, MayEnd, Turning, WasRead, borne}
+pub use Rattle.recovery_laws.specs.RecoveryPlans.Moves.{Bearing, Decision, Decisions, Does, Ending, IsHanding, IsNext, MayBear, MayDecide, MayEnd, Turning, WasRead, borne}
 pub use Rattle.recovery_laws.specs.RecoveryPlans.Moves.{decided_by, ended_by, fate_of, follows_lead, late, rests, stopped_at, stray}
 pub use Rattle.recovery_laws.specs.RecoveryPlans.Moves as by
 pub use Rattle.recovery_laws.specs.RecoveryPlans.Named.{spoken_to}
-pub use Rattle.recovery_laws.specs.RecoveryPlans.Recoveries.{Recovery, follows_no_more, loses, sight_of}
+pub use Rattle.recovery_laws.specs.RecoveryPlans.Recoveries.{Recovery, follows_no_more, loses, sight_of, without_follower, working}
 pub use Rattle.recovery_laws.specs.RecoveryPlans.Stages.{before, drain, ends, is_look, leaver, move, moved, reads_last, tail_of, trail, with_bridge, with_way}
 pub use Rattle.recovery_laws.specs.RecoveryPlans.Table.{alone, info, more_on}
 pub use Rattle.recovery_laws.specs.RecoveryPlans.Table as table
@@ -78,6 +85,7 @@ pub use Rattle.recovery_laws.specs.RecoveryPlans.Taking as taking
 pub use Rattle.recovery_laws.specs.RecoveryPlans.Whys as lost
 pub use Rattle.recovery_laws.specs.RecoveryPlans.declared.means.Means.{Means}
 pub use Rattle.recovery_laws.specs.RecoveryPlans.declared.means.Means.TheVariants as means
+pub use Rattle.recovery_laws.specs.RecoveryPlans.declared.outcome.Follower.{Follower}
 pub use Rattle.recovery_laws.specs.RecoveryPlans.declared.outcome.LostReplica.{LostReplica}
 pub use Rattle.recovery_laws.specs.RecoveryPlans.declared.outcome.Stopped.{Stopped}
 pub use Rattle.recovery_laws.specs.RecoveryPlans.declared.purpose.Purpose.{Purpose}
@@ -91,14 +99,17 @@ pub use Rattle.recovery_laws.specs.RecoveryPlans.declared.task.Way.TheVariants a
 pub use Rattle.recovery_laws.specs.RecoveryPlans.declared.why.Miss.{Miss}
 pub use Rattle.recovery_laws.specs.RecoveryPlans.declared.why.Miss.TheVariants as miss
 pub use Rattle.recovery_laws.specs.RecoveryPlans.declared.why.Why.{Why}
+pub use Rattle.recovery_laws.specs.RecoveryPlans.declared.why.Why.TheVariants as why
 pub use Rattle.recovery_reasons.specs.Causes.{IsMatchCause, IsTrueOf, IsUnreached}
+pub use Rattle.recovery_reasons.specs.Choices.{ComesBefore, ComesFirst, IsBestOne, IsBetterOne, IsFirstOf, IsNear, IsPreferred, MayBePromoted}
 pub use Rattle.recovery_reasons.specs.Nobody.{DecisionsElse, HasNobody, finds_nobody}
+pub use Rattle.recovery_reasons.specs.Fatal.{CanEnd, IsMissed}
 pub use Rattle.recovery_reasons.specs.Nobody as nobody
-pub use Rattle.recovery_reasons.specs.OnWay.{AllFit, IsMeeting, IsOnCourse, IsOnWay, StageOf, TasksOf, Yields, chooses, is_beside, is_unfit, pauses}
+pub use Rattle.recovery_reasons.specs.OnWay.{AllFit, IsMeeting, IsOnCourse, IsOnWay, IsRead, IsSwapping, StageOf, SwapOf, TasksOf, Yields, chooses, hands, is_beside, is_unfit, pauses}
 pub use Rattle.recovery_reasons.specs.OnWay.{pauses_in, pauses_last, suits}
-pub use Rattle.recovery_reasons.specs.Reasons.{AimsAt, AllDrained, AllLost, Below, BelowSuccessor, Beside, Betters, Chooses, Drains, Errant}
-pub use Rattle.recovery_reasons.specs.Reasons.{ExplainsTruly, Fact, GoesBy, Halted, Interfered, IsAsked, IsBetter, IsChosen, IsDrained, IsDue}
-pub use Rattle.recovery_reasons.specs.Reasons.{IsExplained, IsLost, IsPromoted, IsRefusedOn, IsSwapping, IsTrailing, Late, Loses, Purged, Reason}
+pub use Rattle.recovery_reasons.specs.Reasons.{AimsAt, GivesUp, HasNoBetter, Remains, AllDrained, AllLost, Below, BelowSuccessor, Beside, Betters, Chooses, Drains, Errant}
+pub use Rattle.recovery_reasons.specs.Reasons.{ExplainsTruly, Fact, GoesBy, Halted, AreDealtWith, AreSorted, Expels, HasNotFailed, IsDetachedSo, IsPassed, IsReleased, IsReleasedSo, IsToRelease, Passes, Releases, is_settling, leads_on, IsCaredFor, IsExpelled, IsOutSo, IsSeenSo, IsToDetach, IsShown, IsStarted, IsSwitched, IsToStart, IsUp, Reads, Starts, Switches, WasCrowned, Interfered, IsAsked, IsBetter, IsChosen, IsDrained, IsDue}
+pub use Rattle.recovery_reasons.specs.Reasons.{IsExplained, IsLost, IsBefallen, IsGivenUp, IsPromoted, IsRefusedOn, IsSwapped, IsTrailing, Late, Loses, Purged, Reason, WasLooked}
 pub use Rattle.recovery_reasons.specs.Reasons.{Running, ShowsWay, Speaks, SpeaksWith, Strayed, Unattached, Unmatched, Unreached, WaitsFor, Without}
 pub use Rattle.recovery_reasons.specs.Reasons.{lead_of, speaks_of}
 pub use Rattle.recovery_laws.specs.ReplicaGroups.Groups.{by_bridge, group_of}

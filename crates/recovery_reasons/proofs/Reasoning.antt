@@ -2,20 +2,20 @@
 use Rattle.recovery_reasons.proofs.Prelude.{Aim, AimsAt, All, All-append, All-cons, All-contains_itself, All-filter, All-head, All-nil, All-push}
 use Rattle.recovery_reasons.proofs.Prelude.{All-tail, AllLost, Ask, AttachFault, Attempt, Below, BelowSuccessor, Beside, BookState, Bridge, Cause}
 use Rattle.recovery_reasons.proofs.Prelude.{Contains, Coord, Decision, Decisions, Deed, Ending, Errant, Exchange, ExecOf, ExplainsTruly, Fact, Fate}
-use Rattle.recovery_reasons.proofs.Prelude.{Fits, Halted, HeldRecovery, HeldRings, Interfered, Interval, IsAsked, IsDue, IsLost, IsOnCourse, IsOnWay}
-use Rattle.recovery_reasons.proofs.Prelude.{IsRefusedOn, IsTrailing, IsTrueOf, IsUnreached, Job, Keeps, Late, Loses, Loss, LostReplica, Lot}
-use Rattle.recovery_reasons.proofs.Prelude.{MayDecide, MayEnd, Means, Miss, Moment, Observation, Op, Purged, Purpose, Reason, Recovery, Running}
-use Rattle.recovery_reasons.proofs.Prelude.{Server, ServerNo, Sight, Speaks, SpeaksWith, Stage, Status, Stopped, Strayed, Unattached, Unmatched}
-use Rattle.recovery_reasons.proofs.Prelude.{Unreachable, Unreached, WaitsFor, WasRead, Way, Why, Without, World, after_answer, after_ask}
+use Rattle.recovery_reasons.proofs.Prelude.{Fits, Halted, HeldRecovery, HeldRings, Interfered, Interval, IsAsked, IsDue, IsLost, IsOnCourse}
+use Rattle.recovery_reasons.proofs.Prelude.{IsOnWay, IsRefusedOn, IsTrailing, IsTrueOf, IsUnreached, Job, Keeps, Late, Loses, Loss, LostReplica}
+use Rattle.recovery_reasons.proofs.Prelude.{Lot, MayDecide, MayEnd, Means, Miss, Moment, Observation, Op, Purged, Purpose, Reason, Recovery}
+use Rattle.recovery_reasons.proofs.Prelude.{Running, Server, ServerNo, Sight, Speaks, SpeaksWith, Stage, Status, Stopped, Strayed, Unattached}
+use Rattle.recovery_reasons.proofs.Prelude.{Unmatched, Unreachable, Unreached, WaitsFor, WasRead, Way, Why, Without, World, after_answer, after_ask}
 use Rattle.recovery_reasons.proofs.Prelude.{after_attach, after_look, after_status, after_until, after_wait, after_wait_by, aim_of, alone}
 use Rattle.recovery_reasons.proofs.Prelude.{attach_answer_of, before, borne, by_bridge, by_deed, by_match, by_set, can_attach, cause_by, chosen_of}
-use Rattle.recovery_reasons.proofs.Prelude.{crossing_of, decided_by, decides-held, deed_of, desk_answer, ended_by, ends, entered, exec_by, false≢true}
-use Rattle.recovery_reasons.proofs.Prelude.{fate, fate_of, fate_of_drain, fate_of_errant, fate_of_move, fate_of_trail, follows_no_more, ground_of}
-use Rattle.recovery_reasons.proofs.Prelude.{group_of, has_exec, has_own, info, is_at_or_before, is_barred, is_before, is_below, is_look, is_moved}
-use Rattle.recovery_reasons.proofs.Prelude.{is_reached, joined, kept-whole, latest_that, lead_of, leaver, logs_at, loses, loss_of, losses_in}
-use Rattle.recovery_reasons.proofs.Prelude.{lost_on_way, lot_by, lot_by_group, marked, match_fate, match_found, may_lead, met, more_on, move}
-use Rattle.recovery_reasons.proofs.Prelude.{move_fate, moved, next, observed, own_end_of, place_on, position_of, ring_at, rule_at, same-head}
-use Rattle.recovery_reasons.proofs.Prelude.{same_again, same_coord, same_Some, saw, seen_in, seen_of, server_at, shown_of, speaks_of, spoken_to}
+use Rattle.recovery_reasons.proofs.Prelude.{crossing_of, decided_by, decides-held, deed_of, desk_answer, ended_by, ends, entered, exec_by}
+use Rattle.recovery_reasons.proofs.Prelude.{false≢true, fate, fate_of, fate_of_drain, fate_of_errant, fate_of_move, fate_of_trail, follows_no_more}
+use Rattle.recovery_reasons.proofs.Prelude.{ground_of, group_of, has_exec, has_own, info, is_at_or_before, is_barred, is_before, is_below, is_look}
+use Rattle.recovery_reasons.proofs.Prelude.{is_moved, is_reached, joined, kept-whole, latest_that, lead_of, leaver, logs_at, loses, loss_of}
+use Rattle.recovery_reasons.proofs.Prelude.{losses_in, lost_on_way, lot_by, lot_by_group, marked, match_fate, match_found, may_lead, met, more_on}
+use Rattle.recovery_reasons.proofs.Prelude.{move, move_fate, moved, next, observed, own_end_of, place_on, position_of, ring_at, rule_at, same-head}
+use Rattle.recovery_reasons.proofs.Prelude.{same_Some, same_again, same_coord, saw, seen_in, seen_of, server_at, shown_of, speaks_of, spoken_to}
 use Rattle.recovery_reasons.proofs.Prelude.{spot_by, spot_seen, status, status_in, stay_of, stepped, tail_of, taken, unfit, until_by, way_below}
 use Rattle.recovery_reasons.proofs.Prelude.{way_by_set, went-of, without_stopped}
 use Rattle.recovery_reasons.proofs.Prelude.asking
@@ -39,7 +39,7 @@ use Rattle.std.proofs.Common.{◌≡◌, ℕ, Bool, true, false, cond, not, List
 use Rattle.std.specs.Prelude.{◌==◌, is_some, option_map, nat_lt}
 use Rattle.recovery_reasons.proofs.Causing.{StopsTruly, deed-true, match-cause}
 use Rattle.recovery_reasons.proofs.Coordinates.{before-other}
-use Rattle.recovery_reasons.proofs.OnWay.{Fine, decides-fine, still-on, stepped-course}
+use Rattle.recovery_reasons.proofs.OnWay.{Fine, decides-fine, handing, next-on, still-on, stepped-course}
 use Rattle.recovery_reasons.proofs.Readings.{Reading, fits-of, reader_of, stepped-reading}
 use Rattle.recovery_reasons.proofs.Speaking.{decides-speaks, due-speaks, stepped-speaks, due-waits, due-asked, due-looks, due-goes, match-refused, move-refused}
 use Rattle.recovery_reasons.proofs.Choosing.{none-may}
@@ -151,12 +151,12 @@ look-unspent w read now j rest (deed.Request n a) h = absurd (false≢true h)
 look-unspent w read now j rest _ h = absurd (false≢true h)
 
 -- what is asked of a server stops a job where the server isn't reached
-abbrev StopsUnreached : World → ServerNo → Attempt → Type 0
+abbrev pub StopsUnreached : World → ServerNo → Attempt → Type 0
 StopsUnreached w n (attempt.Goes o es k) = Unit {0}
 StopsUnreached w n (attempt.Stops c o) = IsUnreached w n.0
 StopsUnreached w n (attempt.Ends lines) = Unit {0}
 
-asked-unreached : (w : World) (read : ℕ) (now : Moment) (j : Job) (rest : List Op) (d : Deed) (n : ServerNo) → spoken_to d ≡ Some n → IsAsked d → StopsUnreached w n (by_deed w read now j rest d)
+pub asked-unreached : (w : World) (read : ℕ) (now : Moment) (j : Job) (rest : List Op) (d : Deed) (n : ServerNo) → spoken_to d ≡ Some n → IsAsked d → StopsUnreached w n (by_deed w read now j rest d)
 asked-unreached w read now j rest d n on asked = go d on asked
   where
     ask : (a : Ask) (r : Result (Unit {0}) Unreachable) → desk_answer (server_at w n.0) ≡ r → StopsUnreached w n (after_ask j rest n a r)
@@ -184,19 +184,20 @@ shown-exec w n s h = go (server_at w n) h
 
 module _ (w : World) (b : BookState) (now : Moment) where
   -- a drained one that doesn't go below the successor
-  below-of : (seen : List Sight) (f n : ServerNo) (s : Stopped) → way_below (ground_of w b now) seen f n s ≡ None → BelowSuccessor w b seen f n s
-  below-of seen f n s h = go w.gtid refl h
+  below-of : (seen : List Sight) (f n : ServerNo) (s : Stopped) → is_some (seen_of seen n.0) ≡ true → way_below (ground_of w b now) seen f n s ≡ None → BelowSuccessor w b f n s
+  below-of seen f n s read h = go w.gtid refl h
     where
-      by-set : (a : Bool) → cond a (Some (way.Auto n s.exec)) None ≡ None → a ≡ false
-      by-set true e = cc
-      by-set false e = refl
+      by-set : (a c : Bool) → a ≡ true → cond (a && c) (Some (way.Auto n s.exec)) None ≡ None → c ≡ false
+      by-set true true on e = cc
+      by-set true false on e = refl
+      by-set false c on e = absurd (false≢true on)
 
       by-log : (o : Option Bridge) → option_map way.Up o ≡ None → o ≡ None
       by-log None e = refl
       by-log (Some y) e = cc
 
-      go : (g : Bool) → w.gtid ≡ g → cond g (way_by_set w seen n s) (option_map way.Up (latest_that (has_own n s.exec) (ring_at b.rings f))) ≡ None → BelowSuccessor w b seen f n s
-      go true e f' = inr (e, by-set (is_some (seen_of seen n.0) && logs_at w n) f')
+      go : (g : Bool) → w.gtid ≡ g → cond g (way_by_set w seen n s) (option_map way.Up (latest_that (has_own n s.exec) (ring_at b.rings f))) ≡ None → BelowSuccessor w b f n s
+      go true e f' = inr (e, by-set (is_some (seen_of seen n.0)) (logs_at w n) read f')
       go false e f' = inl (e, by-log (latest_that (has_own n s.exec) (ring_at b.rings f)) f')
 
 module _ (w : World) (b : BookState) (now : Moment) (r : Recovery) (P : Fact → Bool) (why : ExplainsTruly w b now r P) where
@@ -226,26 +227,26 @@ module _ (w : World) (b : BookState) (now : Moment) (r : Recovery) (P : Fact →
 
     lot-explained : (m : Means) (p s : Stopped) → IsDue task.Choosing x → chosen_of (ground_of w b now) x.failed x.drained ≡ Some p → Contains x.drained s → MayStay s (lot_by m (ground_of w b now) x.failed p s)
     lot-explained (means.Matches every) p s due is there = tt
-    lot-explained means.Bridges p s due is there = go w.gtid
+    lot-explained means.Bridges p s due is there = go w.gtid refl
       where
-        kept : same_coord s.exec p.exec ≡ false → is_before p.exec s.exec ≡ false → (o : Option Bridge) → latest_that (has_exec x.failed s.exec) (ring_at b.rings p.no) ≡ o
+        kept : w.gtid ≡ false → same_coord s.exec p.exec ≡ false → is_before p.exec s.exec ≡ false → (o : Option Bridge) → latest_that (has_exec x.failed s.exec) (ring_at b.rings p.no) ≡ o
             → MayStay s (lot_by_group p.no x.failed s (by_bridge o))
-        kept other later None e = because s.no (lost.behind s.exec) (Beside p s due is there (refl, before-other s.exec p.exec later other, e))
-        kept other later (Some y) e = tt
+        kept off other later None e = because s.no (lost.behind s.exec) (Beside p s due is there (off, refl, before-other s.exec p.exec later other, e))
+        kept off other later (Some y) e = tt
 
-        later : same_coord s.exec p.exec ≡ false → (a : Bool) → is_before p.exec s.exec ≡ a
+        later : w.gtid ≡ false → same_coord s.exec p.exec ≡ false → (a : Bool) → is_before p.exec s.exec ≡ a
             → MayStay s (lot_by_group p.no x.failed s (cond a group.Ahead (by_bridge (latest_that (has_exec x.failed s.exec) (ring_at b.rings p.no)))))
-        later other true e = because s.no (lost.ahead s.exec) (Beside p s due is there (refl, e))
-        later other false e = kept other e (latest_that (has_exec x.failed s.exec) (ring_at b.rings p.no)) refl
+        later off other true e = because s.no (lost.ahead s.exec) (Beside p s due is there (off, refl, e))
+        later off other false e = kept off other e (latest_that (has_exec x.failed s.exec) (ring_at b.rings p.no)) refl
 
-        level : (a : Bool) → same_coord s.exec p.exec ≡ a
+        level : w.gtid ≡ false → (a : Bool) → same_coord s.exec p.exec ≡ a
             → MayStay s (lot_by_group p.no x.failed s (cond a (group.Follow (own_end_of p)) (cond (is_before p.exec s.exec) group.Ahead (by_bridge (latest_that (has_exec x.failed s.exec) (ring_at b.rings p.no))))))
-        level true e = tt
-        level false e = later e (is_before p.exec s.exec) refl
+        level off true e = tt
+        level off false e = later off e (is_before p.exec s.exec) refl
 
-        go : (g : Bool) → MayStay s (cond g (deciding.Goes (way.Auto p.no s.exec)) (lot_by_group p.no x.failed s (group_of b.rings p.no (own_end_of p) p.exec x.failed s.exec)))
-        go true = tt
-        go false = level (same_coord s.exec p.exec) refl
+        go : (g : Bool) → w.gtid ≡ g → MayStay s (cond g (deciding.Goes (way.Auto p.no s.exec)) (lot_by_group p.no x.failed s (group_of b.rings p.no (own_end_of p) p.exec x.failed s.exec)))
+        go true e = tt
+        go false e = level e (same_coord s.exec p.exec) refl
 
     lots-explained : (p : Stopped) (ss : List Stopped) → IsDue task.Choosing x → chosen_of (ground_of w b now) x.failed x.drained ≡ Some p → All (Contains x.drained) ss
         → All (λ s. MayStay s (lot_by x.means (ground_of w b now) x.failed p s)) ss
@@ -272,18 +273,19 @@ module _ (w : World) (b : BookState) (now : Moment) (r : Recovery) (P : Fact →
         go true e h = because s.no lost.must_not (Without s due is mine (e, barred (is_barred (rule_at b s.no now)) h))
         go false e h = because s.no lost.not_logging (Without s due is mine e)
 
-    decision-explained : (d : Decision) → MayDecide (ground_of w b now) x d → Good x → Good (decided_by (ground_of w b now) x d)
-    decision-explained (by.Chooses p ts) m good =
+    decision-explained : (d : Decision) → Fine x → MayDecide (ground_of w b now) x d → Good x → Good (decided_by (ground_of w b now) x d)
+    decision-explained (by.Chooses p ts) fine m good =
         All-append Each x.outcome.lost (losses_in (lot_by x.means (ground_of w b now) x.failed p) (without_stopped x.drained p.no)) good
         (losses-explained (lot_by x.means (ground_of w b now) x.failed p) (without_stopped x.drained p.no)
         (lots-explained p (without_stopped x.drained p.no) (ts, m.0) m.1 (All-filter (λ s. not (s.no.0 == p.no.0)) (Contains x.drained) x.drained (All-contains_itself x.drained))))
-    decision-explained (by.ChoosesNobody ts) m good =
+    decision-explained (by.ChoosesNobody ts) fine m good =
         All-append Each x.outcome.lost (map (unfit w) x.drained) good
         (unfit-explained x.drained (ts, m.0) m.1 (All-contains_itself x.drained) (none-may w b now x.failed x.drained m.1))
-    decision-explained (by.Leaves d ds ts) m good =
+    decision-explained (by.Leaves d ds ts) fine m good =
+        let one = handing w b now x d ds None ts (next-on x task.Handing ts m.next fine) m in
         All-push Each x.outcome.lost _ good
-        (because d.no (lost.behind d.exec) (Below m.source d ds (ts, m.next) m.chosen m.drained (below-of w b now x.core.seen x.failed m.source d m.way)))
-    decision-explained d m good = good
+        (because d.no (lost.behind d.exec) (Below m.source d ds (ts, m.next) one.0 m.chosen m.drained (below-of w b now x.core.seen x.failed m.source d one.1 m.way)))
+    decision-explained d fine m good = good
 
   -- ---- the operation
 
@@ -358,11 +360,11 @@ module _ (w : World) (b : BookState) (now : Moment) (r : Recovery) (P : Fact →
       drain-met n on (cause.Unreachable m) t = missed n lost.unreachable (Unreached on t.1)
       drain-met n on y t = good
 
-      errant-met : (n : ServerNo) (by : Way) (set : List Interval) → x.stage ≡ stage.Move n by → IsRefusedOn w n by (attaching.Errant set) → Met (fate_of_errant x.purpose n by)
+      errant-met : (n : ServerNo) (by : Way) (set : List Interval) → x.stage ≡ stage.Move n by → IsRefusedOn w x.core.seen n by (attaching.Errant set) → Met (fate_of_errant x.purpose n by)
       errant-met n (way.Auto to exec) set at refused = by-purpose x.purpose n (lost.ahead exec) (Errant to exec set at refused)
       errant-met n _ set at refused = good
 
-      move-met : (n : ServerNo) (by : Way) → x.stage ≡ stage.Move n by → alone by n ≡ Some n → (f : AttachFault) → IsRefusedOn w n by f → IsTrueOf w n (cause_by n f)
+      move-met : (n : ServerNo) (by : Way) → x.stage ≡ stage.Move n by → alone by n ≡ Some n → (f : AttachFault) → IsRefusedOn w x.core.seen n by f → IsTrueOf w n (cause_by n f)
           → Met (move_fate w x.purpose n by (loss_of (cause_by n f)))
       move-met n by at spoken attaching.Unreachable refused t = by-purpose x.purpose n lost.unreachable (Unreached (ap speaks_of at ∙ spoken) t.1)
       move-met n by at spoken (attaching.Running spot) refused t = by-purpose x.purpose n (lost.moved (spot_by (server_at w n.0))) (Running by spot at refused t.1)
@@ -469,7 +471,7 @@ module _ (w : World) (b : BookState) (now : Moment) (r : Recovery) (P : Fact →
     decides = λ x d may h. (
       decides-held w b now rings x d may h.0,
       decides-speaks w b now x d may h.1,
-      (decides-fine w b now x d may h.2.0, (joined w b now h.2.1.0 (by.Then d may by.Still), decision-explained x h.2.1.0 d may h.2.1.1)),
+      (decides-fine w b now x d may h.2.0, (joined w b now h.2.1.0 (by.Then d may by.Still), decision-explained x h.2.1.0 d h.2.0 may h.2.1.1)),
     );
     waits = λ x o rest ob es j did e h. h.2.1.1;
     acts = λ x o rest ob es j did e h.

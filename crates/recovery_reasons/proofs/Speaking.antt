@@ -6,10 +6,10 @@ use Rattle.recovery_reasons.proofs.Prelude.{Position, Purpose, Recovery, ServerN
 use Rattle.recovery_reasons.proofs.Prelude.{WentOn, World, after_answer, after_attach, after_match, alone, attach_answer_of, before, begun_recovery}
 use Rattle.recovery_reasons.proofs.Prelude.{borne, bridge_at, by_deed, by_match, by_set, can_attach, cause_by, crossed, crossing_of, decided_by}
 use Rattle.recovery_reasons.proofs.Prelude.{decides-held, deed_of, drain, ended_by, ends, entered, eq-eqb, false≢true, fate_of, fits-step}
-use Rattle.recovery_reasons.proofs.Prelude.{follows_no_more, ground_of, is_going, is_look, is_waiting, kept-along, lead_of, leaver, match_found}
-use Rattle.recovery_reasons.proofs.Prelude.{match_logs, more_on, move, moved, moved-fits, moved-leads, moving, same-head, same-tail, same_Some}
-use Rattle.recovery_reasons.proofs.Prelude.{seen-at, seen_of, server_at, sight_of, speaks_of, spoken_to, standing_at, stepped, tail_of, taken, trail}
-use Rattle.recovery_reasons.proofs.Prelude.{went-of, with_bridge, with_way}
+use Rattle.recovery_reasons.proofs.Prelude.{follows_no_more, ground_of, info, is_going, is_look, is_waiting, kept-along, lead_of, leaver}
+use Rattle.recovery_reasons.proofs.Prelude.{match_found, match_logs, more_on, move, moved, moved-fits, moved-leads, moving, same-head, same-tail}
+use Rattle.recovery_reasons.proofs.Prelude.{same_Some, seen-at, seen_of, server_at, sight_of, speaks_of, spoken_to, standing_at, stepped, tail_of}
+use Rattle.recovery_reasons.proofs.Prelude.{taken, trail, went-of, with_bridge, with_way}
 use Rattle.recovery_reasons.proofs.Prelude.attempt
 use Rattle.recovery_reasons.proofs.Prelude.by
 use Rattle.recovery_reasons.proofs.Prelude.cross
@@ -17,9 +17,11 @@ use Rattle.recovery_reasons.proofs.Prelude.op
 use Rattle.recovery_reasons.proofs.Prelude.purpose
 use Rattle.recovery_reasons.proofs.Prelude.spot
 use Rattle.recovery_reasons.proofs.Prelude.stage
+use Rattle.recovery_reasons.proofs.Prelude.table
 use Rattle.recovery_reasons.proofs.Prelude.way
 use Rattle.std.proofs.Common.{◌≡◌, ℕ, Bool, true, false, cond, List, [], ◌∷◌, ◌++◌, arith, refl, sym, ◌∙◌, ap, subst, Option, Some, None, option_map, ◌⊎◌, inl, inr, Ok, Err, Result}
-use Rattle.recovery_reasons.proofs.OnWay.{begun-way, taken-way}
+use Rattle.recovery_reasons.proofs.Beginning.{begun-way}
+use Rattle.recovery_reasons.proofs.OnWay.{taken-way}
 use Rattle.recovery_reasons.proofs.Sights.{SeesOnly, deed-sees}
 
 abbrev With : ServerNo → Op → Type 0
@@ -48,8 +50,8 @@ same-way j n m x y e h =
     subst (λ (k : ServerNo). GoesBy j k y) (same_Some n m (ap mover e)) (subst (λ (way : Way). GoesBy j n way) (same_Some x y (ap way_in e)) h)
 
 -- of a stage that places none
-silent : (r : Recovery) → speaks_of r.stage ≡ None → mover r.stage ≡ None → lead_of r.stage ≡ None → SpeaksWith r
-silent r none still led = record {
+silent : (r : Recovery) → speaks_of r.stage ≡ None → mover r.stage ≡ None → lead_of r.stage ≡ None → ((n p : ServerNo) → (info r.stage).made ≡ table.Follows n p → ⊥) → SpeaksWith r
+silent r none still led off = record {
   ops = λ n e. let bad : None ≡ Some n = sym none ∙ e in cc;
   lead = λ x e. let bad : None ≡ Some x = sym led ∙ e in cc;
   waits = λ x e. let bad : None ≡ Some x = sym led ∙ e in cc;
@@ -57,19 +59,21 @@ silent r none still led = record {
   goes = λ n way e. let bad : None ≡ Some n = sym still ∙ ap mover e in cc;
   asked = λ n p e. let bad : None ≡ Some n = sym none ∙ ap speaks_of e in cc;
   looks = λ n x e. let bad : None ≡ Some x = sym led ∙ ap lead_of e in cc;
+  starts = λ n p e. absurd (off n p e);
 }
 
 -- of one that does
 speaking : (r : Recovery) (m : ServerNo) → speaks_of r.stage ≡ Some m → All (With m) r.core.ops → lead_of r.stage ≡ None
-    → ((n : ServerNo) (way : Way) → r.stage ≡ stage.Move n way → GoesBy r.core n way) → ((n p : ServerNo) → r.stage ≡ stage.Join n p → ⊥) → SpeaksWith r
+    → ((n : ServerNo) (way : Way) → r.stage ≡ stage.Move n way → GoesBy r.core n way) → ((n p : ServerNo) → (info r.stage).made ≡ table.Follows n p → ⊥) → SpeaksWith r
 speaking r m is all led goes apart = record {
   ops = λ n e. subst (λ (x : ServerNo). All (With x) r.core.ops) (same_Some m n (sym is ∙ e)) all;
   lead = λ x e. let bad : None ≡ Some x = sym led ∙ e in cc;
   waits = λ x e. let bad : None ≡ Some x = sym led ∙ e in cc;
   aims = λ n x e. let bad : None ≡ Some x = sym led ∙ ap lead_of e in cc;
   goes = goes;
-  asked = λ n p e. absurd (apart n p e);
+  asked = λ n p e. absurd (apart n p (ap (λ (s : Stage). (info s).made) e));
   looks = λ n x e. let bad : None ≡ Some x = sym led ∙ ap lead_of e in cc;
+  starts = λ n p e. absurd (apart n p e);
 }
 
 -- the same in a recovery with the same job, stage and bridge
@@ -82,6 +86,7 @@ alike r r' core at lead s = record {
   goes = λ n way e. subst (λ (j : Job). GoesBy j n way) (sym core) (s.goes n way (sym at ∙ e));
   asked = λ n p e. subst (λ (j : Job). All Asked j.ops) (sym core) (s.asked n p (sym at ∙ e));
   looks = λ n x e. subst (λ (j : Job). All Looks j.ops) (sym core) (s.looks n x (sym at ∙ e));
+  starts = λ n p e. subst (λ (j : Job). (j.ops ≡ op.Start n ∷ []) ⊎ (j.ops ≡ [])) (sym core) (s.starts n p (sym (ap (λ (k : Stage). (info k).made) at) ∙ e));
 }
 
 drain-speaks : (n : ServerNo) → All (With n) (drain n)
@@ -131,17 +136,18 @@ moving-speaks r n by = record {
   goes = λ m to e. same-way (moving r n by).core n m by to e (inr refl, way-shows r.core.seen by);
   asked = λ m p e. cc;
   looks = λ m x e. cc;
+  starts = λ m p e. cc;
 }
 
 -- ---- what is decided
 
 module _ (w : World) (b : BookState) (now : Moment) where
   pub decides-speaks : (r : Recovery) (d : Decision) → MayDecide (ground_of w b now) r d → SpeaksWith r → SpeaksWith (decided_by (ground_of w b now) r d)
-  decides-speaks r (by.Reads n ts) may s = silent _ refl refl refl
+  decides-speaks r (by.Reads n ts) may s = silent _ refl refl refl (λ m p e. cc)
   decides-speaks r (by.Drains n ts) may s = speaking _ n refl (drain-speaks n) refl (λ m way e. cc) (λ m p e. cc)
   decides-speaks r (by.Sends n way ts) may s = moving-speaks (record r { queue = ts }) n way
-  decides-speaks r (by.Expels n ts) may s = silent _ refl refl refl
-  decides-speaks r (by.Releases n ts) may s = silent _ refl refl refl
+  decides-speaks r (by.Expels n ts) may s = silent _ refl refl refl (λ m p e. cc)
+  decides-speaks r (by.Releases n ts) may s = silent _ refl refl refl (λ m p e. cc)
   decides-speaks r (by.Looks n x ts) may s = record {
     ops = λ m f. subst (λ (k : ServerNo). All (With k) (op.Status n None ∷ [])) (same_Some n m f) (All-cons (With n) (op.Status n None) [] refl (All-nil (With n)));
     lead = λ y f. may.1 ∙ f;
@@ -150,13 +156,14 @@ module _ (w : World) (b : BookState) (now : Moment) where
     goes = λ m way f. cc;
     asked = λ m p f. cc;
     looks = λ m y f. All-cons Looks (op.Status n None) [] refl (All-nil Looks);
+    starts = λ m p f. cc;
   }
-  decides-speaks r (by.Yields x ts) may s = silent _ refl refl refl
+  decides-speaks r (by.Yields x ts) may s = silent _ refl refl refl (λ m p e. cc)
   decides-speaks r (by.Hands d ds way ts) may s = moving-speaks (record r { drained = ds }) d.no way
-  decides-speaks r (by.Levels p q) may s = silent _ refl refl refl
-  decides-speaks r (by.Crowns p) may s = silent _ refl refl refl
-  decides-speaks r (by.Rejoins p) may s = silent _ refl refl refl
-  decides-speaks r by.Closes may s = silent _ refl refl refl
+  decides-speaks r (by.Levels p q) may s = silent _ refl refl refl (λ m p e. cc)
+  decides-speaks r (by.Crowns p) may s = silent _ refl refl refl (λ m p e. cc)
+  decides-speaks r (by.Rejoins p) may s = silent _ refl refl refl (λ m p e. cc)
+  decides-speaks r by.Closes may s = silent _ refl refl refl (λ m p e. cc)
   decides-speaks r d may s = alike r _ refl refl refl s
 
 -- ---- the end of a stage
@@ -172,13 +179,14 @@ completes-speaks r (by.Trails n b) may s =
       goes = λ m way e. cc;
       asked = λ m p e. cc;
       looks = λ m x e. cc;
+      starts = λ m p e. cc;
     }
 completes-speaks r (by.Joins n b) may s = moving-speaks r n (way.Down b)
-completes-speaks r e may s = silent _ refl refl refl
+completes-speaks r e may s = silent _ refl refl refl (λ m p e. cc)
 
 bears-speaks : (r : Recovery) (e : Bearing) → SpeaksWith (borne r (fate_of e))
-bears-speaks r by.Drops = silent _ refl refl refl
-bears-speaks r e = silent _ refl refl refl
+bears-speaks r by.Drops = silent _ refl refl refl (λ m p e. cc)
+bears-speaks r e = silent _ refl refl refl (λ m p e. cc)
 
 -- what is left of a stage that places a replica, once it is ended, speaks with that one
 moved-with : (s : Stage) (o : Op) (rest : List Op) (n : ServerNo) → o ∷ rest ≡ tail_of s → speaks_of (moved s) ≡ Some n → All (With n) rest
@@ -206,6 +214,24 @@ moved-joins (stage.Move m by) o rest n p e h =
     subst (λ (xs : List Op). All Asked xs) (sym (same-tail o (move by m) rest (op.Start m ∷ []) e)) (All-cons Asked (op.Start m) [] tt (All-nil Asked))
 moved-joins (stage.Join m q) o rest n p e h = cc
 moved-joins s o rest n p e h = cc
+
+-- what leads to a follower's start leaves that
+pub moved-starts : (s : Stage) (o : Op) (rest : List Op) (n p : ServerNo) → o ∷ rest ≡ tail_of s → (info (moved s)).made ≡ table.Follows n p → rest ≡ op.Start n ∷ []
+moved-starts (stage.Move m by) o rest n p t h =
+    let same : m ≡ n = ap follower_in h in same-tail o (move by m) rest (op.Start m ∷ []) t ∙ ap (λ (k : ServerNo). op.Start k ∷ []) same
+  where
+    follower_in : table.Made → ServerNo
+    follower_in (table.Follows k x) = k
+    follower_in _ = m
+moved-starts (stage.Return q k) o rest n p t h =
+    let same : k ≡ n = ap follower_in h in same-tail o (op.Cross cross.Back k q) rest (op.Start k ∷ []) t ∙ ap (λ (i : ServerNo). op.Start i ∷ []) same
+  where
+    follower_in : table.Made → ServerNo
+    follower_in (table.Follows i x) = i
+    follower_in _ = k
+moved-starts (stage.Join m q) o rest n p t h = cc
+moved-starts (stage.Resume q k) o rest n p t h = cc
+moved-starts s o rest n p t h = cc
 
 -- nothing leads to where another stopped but a reading
 moved-trails : (s : Stage) (n : ServerNo) (x : Bridge) → moved s ≡ stage.Trail n x → ⊥
@@ -294,18 +320,18 @@ attach-refuses w j rest n x c ob e = by (can_attach w x) e
 
 -- a replica that is to go some way stops its job only where that attachment is refused
 pub move-refused : (w : World) (read : ℕ) (now : Moment) (j : Job) (rest : List Op) (n : ServerNo) (by : Way) (c : Cause) (ob : Option Observation) → more_on by ≡ 1 → ShowsWay j.seen by
-    → by_deed w read now j rest (deed_of (move by n)) ≡ attempt.Stops c ob → (f : AttachFault) × (c ≡ cause_by n f) × IsRefusedOn w n by f
+    → by_deed w read now j rest (deed_of (move by n)) ≡ attempt.Stops c ob → (f : AttachFault) × (c ≡ cause_by n f) × IsRefusedOn w j.seen n by f
 move-refused w read now j rest n (way.Down b) c ob more shown e =
     let h = attach-refuses w j rest n (Attach n.0 (spot.At b.source b.exec) b.no b.own) c ob (sym (ap (λ o. after_attach w j rest n (crossed cross.Down n (bridge_at b.no o))) shown) ∙ e) in
     (h.fault, h.cause, h.answer)
 move-refused w read now j rest n (way.Up b) c ob more shown e =
     let h = attach-refuses w j rest n (Attach n.0 (spot.At b.no b.own) b.source b.exec) c ob (sym (ap (λ o. after_attach w j rest n (crossed cross.Up n (bridge_at b.no o))) shown) ∙ e) in
     (h.fault, h.cause, h.answer)
-move-refused w read now j rest n (way.Auto to exec) c ob more shown e = go (seen_of j.seen to.0) e
+move-refused w read now j rest n (way.Auto to exec) c ob more shown e = go (seen_of j.seen to.0) refl e
   where
-    go : (o : Option Position) → after_attach w j rest n (by_set n to o) ≡ attempt.Stops c ob → (f : AttachFault) × (c ≡ cause_by n f) × IsRefusedOn w n (way.Auto to exec) f
-    go None h = cc
-    go (Some s) h = let y = attach-refuses w j rest n (AttachAuto n.0 s.set to) c ob h in (y.fault, y.cause, (s.set, y.answer))
+    go : (o : Option Position) → seen_of j.seen to.0 ≡ o → after_attach w j rest n (by_set n to o) ≡ attempt.Stops c ob → (f : AttachFault) × (c ≡ cause_by n f) × IsRefusedOn w j.seen n (way.Auto to exec) f
+    go None is h = cc
+    go (Some s) is h = let y = attach-refuses w j rest n (AttachAuto n.0 s.set to) c ob h in (y.fault, y.cause, record { last = s; read = is; refused = y.answer })
 move-refused w read now j rest n (way.Match to exec every) c ob more shown e = absurd (omega (arith, more))
 
 -- by the match that was found
@@ -375,8 +401,9 @@ module _ (w : World) (read : ℕ) (now : Moment) (r : Recovery) (o : Op) (rest :
         go (inl f) = absurd (false≢true (sym not-yet ∙ (ap (λ (x : Stage). ends x (deed_of o)) at ∙ ap (λ (y : Op). ends (stage.Move n by) (deed_of y)) f ∙ move-ends n by)))
         go (inr f) = (inl (left ∙ f.1), before-shows by n o k.seen f.0)
 
-    same-speaks : (xs : List Op) → k.ops ≡ xs → ((n : ServerNo) (way : Way) → r.stage ≡ stage.Move n way → GoesBy k n way) → ((Q : Op → Type 0) → All Q r.core.ops → All Q xs) → SpeaksWith later
-    same-speaks xs left goes on = record {
+    same-speaks : (xs : List Op) → k.ops ≡ xs → ((n : ServerNo) (way : Way) → r.stage ≡ stage.Move n way → GoesBy k n way) → ((Q : Op → Type 0) → All Q r.core.ops → All Q xs)
+        → ((n : ServerNo) → (r.core.ops ≡ op.Start n ∷ []) ⊎ (r.core.ops ≡ []) → (xs ≡ op.Start n ∷ []) ⊎ (xs ≡ [])) → SpeaksWith later
+    same-speaks xs left goes on begins = record {
       ops = λ n h. subst (λ (ys : List Op). All (With n) ys) (sym left) (on (With n) (s.ops n h));
       lead = s.lead;
       waits = λ x h. subst (λ (ys : List Op). All (Waits x) ys) (sym left) (on (Waits x) (s.waits x h));
@@ -384,7 +411,13 @@ module _ (w : World) (read : ℕ) (now : Moment) (r : Recovery) (o : Op) (rest :
       goes = goes;
       asked = λ n p h. subst (λ (ys : List Op). All Asked ys) (sym left) (on Asked (s.asked n p h));
       looks = λ n x h. subst (λ (ys : List Op). All Looks ys) (sym left) (on Looks (s.looks n x h));
+      starts = λ n p h. subst (λ (ys : List Op). (ys ≡ op.Start n ∷ []) ⊎ (ys ≡ [])) (sym left) (begins n (s.starts n p h));
     }
+
+    -- once it is started nothing is left
+    nothing-left : (n : ServerNo) → (r.core.ops ≡ op.Start n ∷ []) ⊎ (r.core.ops ≡ []) → (rest ≡ op.Start n ∷ []) ⊎ (rest ≡ [])
+    nothing-left n (inl h) = inr (same-tail o (op.Start n) rest [] (sym is ∙ h))
+    nothing-left n (inr h) = let bad : o ∷ rest ≡ [] = sym is ∙ h in cc
 
     pub stepped-speaks : is_waiting k ≡ false → SpeaksWith (stepped later o)
     stepped-speaks done = go (fits-step r.stage o rest fits)
@@ -393,7 +426,7 @@ module _ (w : World) (read : ℕ) (now : Moment) (r : Recovery) (o : Op) (rest :
         on Q all = subst (λ (j : Job). All Q j.ops) (sym (entered-core later (moved r.stage))) (subst (λ (xs : List Op). All Q xs) (sym (went.done done)) all)
 
         go : ((ends r.stage (deed_of o) ≡ false) × Fits r.stage rest) ⊎ (o ∷ rest ≡ tail_of r.stage) → SpeaksWith (stepped later o)
-        go (inl p) = subst (λ (x : Bool). SpeaksWith (cond x (entered later (moved r.stage)) later)) (sym p.0) (same-speaks rest (went.done done) (goes-on (went.done done) p.0) behind)
+        go (inl p) = subst (λ (x : Bool). SpeaksWith (cond x (entered later (moved r.stage)) later)) (sym p.0) (same-speaks rest (went.done done) (goes-on (went.done done) p.0) behind nothing-left)
         go (inr t) =
             subst (λ (x : Bool). SpeaksWith (cond x (entered later (moved r.stage)) later)) (sym (moved-fits r.stage o rest t).0)
             (record {
@@ -404,6 +437,8 @@ module _ (w : World) (read : ℕ) (now : Moment) (r : Recovery) (o : Op) (rest :
               goes = λ n way h. absurd (moved-goes r.stage n way h);
               asked = λ n p h. on Asked (moved-joins r.stage o rest n p t h);
               looks = λ n x h. absurd (moved-looks r.stage n x h);
+              starts = λ n p h.
+                  subst (λ (j : Job). (j.ops ≡ op.Start n ∷ []) ⊎ (j.ops ≡ [])) (sym (entered-core later (moved r.stage))) (inl (went.done done ∙ moved-starts r.stage o rest n p t h));
             })
 
 module _ (w : World) (b : BookState) (read : ℕ) (now : Moment) (rings : HeldRings w b.rings) where
@@ -415,7 +450,7 @@ module _ (w : World) (b : BookState) (read : ℕ) (now : Moment) (rings : HeldRi
     decides = λ r d may h. (decides-held w b now rings r d may h.0, decides-speaks w b now r d may h.1);
     waits = λ r o rest ob es j did e h.
         let on = went-of w read now r o rest ob es j did in
-        same-speaks w read now r o rest (fits-of r o rest did.ops h.0) h.1 did.ops ob es j did.goes on r.core.ops (on.waits e).0 (λ n way at. absurd (false≢true (sym (unwaited w read now r o rest (fits-of r o rest did.ops h.0) h.1 did.ops ob es j did.goes on n way at) ∙ e))) (λ Q all. all);
+        same-speaks w read now r o rest (fits-of r o rest did.ops h.0) h.1 did.ops ob es j did.goes on r.core.ops (on.waits e).0 (λ n way at. absurd (false≢true (sym (unwaited w read now r o rest (fits-of r o rest did.ops h.0) h.1 did.ops ob es j did.goes on n way at) ∙ e))) (λ Q all. all) (λ n h. h);
     acts = λ r o rest ob es j did e h.
         stepped-speaks w read now r o rest (fits-of r o rest did.ops h.0) h.1 did.ops ob es j did.goes (went-of w read now r o rest ob es j did) e;
     continues = λ v r x xs is s. s;
@@ -431,10 +466,10 @@ taken-speaks w b read now r rings held s going = record {
 }
 
 begun-says : (u : Purpose) (by : Means) (id wait : ℕ) (f : ServerNo) (ns order : List ServerNo) → SpeaksWith (begun_recovery u by id wait f ns order)
-begun-says purpose.Regroup by id wait f ns order = silent (begun_recovery purpose.Regroup by id wait f ns order) refl refl refl
-begun-says purpose.Master by id wait f ns order = silent (begun_recovery purpose.Master by id wait f ns order) refl refl refl
-begun-says (purpose.Intermediate s) by id wait f ns order = silent (begun_recovery (purpose.Intermediate s) by id wait f ns order) refl refl refl
-begun-says (purpose.Takeover d) by id wait f ns order = silent (begun_recovery (purpose.Takeover d) by id wait f ns order) refl refl refl
+begun-says purpose.Regroup by id wait f ns order = silent (begun_recovery purpose.Regroup by id wait f ns order) refl refl refl (λ n p e. cc)
+begun-says purpose.Master by id wait f ns order = silent (begun_recovery purpose.Master by id wait f ns order) refl refl refl (λ n p e. cc)
+begun-says (purpose.Intermediate s) by id wait f ns order = silent (begun_recovery (purpose.Intermediate s) by id wait f ns order) refl refl refl (λ n p e. cc)
+begun-says (purpose.Takeover d) by id wait f ns order = silent (begun_recovery (purpose.Takeover d) by id wait f ns order) refl refl refl (λ n p e. cc)
 
 pub begun-speaks : (u : Purpose) (by : Means) (id wait : ℕ) (f : ServerNo) (ns order : List ServerNo) → Speaks (begun_recovery u by id wait f ns order)
 begun-speaks u by id wait f ns order = record { says = begun-says u by id wait f ns order; way = begun-way u by id wait f ns order }

@@ -1,10 +1,9 @@
 -- Tasks and stages of a recovery on its way.
 use Rattle.std.proofs.Common.{◌≡◌, ◌+◌, ◌≤◌, Bool, true, false, List, [], ◌∷◌, ◌++◌, map, refl, sym, ◌∙◌, ap, Option, Some, None, ◌⊎◌, inl, inr, arith}
 use Rattle.recovery_reasons.proofs.Prelude.{All, All-append, All-cons, All-head, All-nil, All-tail, Bridge, Contains, Contains-append_right}
-use Rattle.recovery_reasons.proofs.Prelude.{Contains-tail, IsMeeting, Line, Lot, Op, Purpose, ServerNo, Stage, StageOf, Stopped, Task, TasksOf, Way}
-use Rattle.recovery_reasons.proofs.Prelude.{Yields, chooses, closes, false≢true, info, is_takeover, move_of, moved, moves_in, pauses, pauses_in}
-use Rattle.recovery_reasons.proofs.Prelude.{pauses_last, same_Some, suits}
-use Rattle.recovery_reasons.proofs.Prelude.table.{before as before_op, move}
+use Rattle.recovery_reasons.proofs.Prelude.{Contains-tail, IsMeeting, IsSwapping, Line, Lot, Op, Purpose, ServerNo, Stage, StageOf, Stopped, SwapOf}
+use Rattle.recovery_reasons.proofs.Prelude.{Task, TasksOf, Way, Yields, chooses, closes, false≢true, info, is_takeover, move_of, moved, moves_in}
+use Rattle.recovery_reasons.proofs.Prelude.{pauses, pauses_in, pauses_last, same_Some, suits}
 use Rattle.recovery_reasons.proofs.Prelude.deciding
 use Rattle.recovery_reasons.proofs.Prelude.op
 use Rattle.recovery_reasons.proofs.Prelude.purpose
@@ -12,6 +11,7 @@ use Rattle.recovery_reasons.proofs.Prelude.stage
 use Rattle.recovery_reasons.proofs.Prelude.table
 use Rattle.recovery_reasons.proofs.Prelude.task
 use Rattle.recovery_reasons.proofs.Prelude.way
+use Rattle.recovery_reasons.proofs.Prelude.table.{before as before_op, move}
 
 -- ---- stages
 
@@ -63,6 +63,74 @@ gives-so s (inl x) = by x.2
     by (inr (inl at)) = ap gives at
     by (inr (inr at)) = ap gives at
 gives-so s (inr h) = closes-so s h
+
+pub yields-back : (s : Stage) → gives s ≡ true → Yields s
+yields-back (stage.Yield m d) h = inl (m, d, inl refl)
+yields-back (stage.Switch m d) h = inl (m, d, inr (inl refl))
+yields-back (stage.Switched m d) h = inl (m, d, inr (inr refl))
+yields-back s h = inr h
+
+-- only such a stage leads to one
+gives-back : (s : Stage) → gives (moved s) ≡ true → gives s ≡ true
+gives-back (stage.Yield m d) h = refl
+gives-back (stage.Switch m d) h = refl
+gives-back (stage.Switched m d) h = refl
+gives-back (stage.Crown n) h = refl
+gives-back (stage.Open n) h = refl
+gives-back (stage.Opened n) h = refl
+gives-back (stage.Close lines) h = refl
+gives-back s h = h
+
+-- who takes whose place in a stage
+abbrev pub swap_in : Stage → Option (ServerNo × ServerNo)
+swap_in (stage.Level p q) = Some (p, q)
+swap_in (stage.Swap p q) = Some (p, q)
+swap_in (stage.Swapped p q) = Some (p, q)
+swap_in s = None
+
+pub swaps-so : (s : Stage) (p q : ServerNo) → IsSwapping s p q → swap_in s ≡ Some (p, q)
+swaps-so s p q (inl at) = ap swap_in at
+swaps-so s p q (inr (inl at)) = ap swap_in at
+swaps-so s p q (inr (inr at)) = ap swap_in at
+
+-- in no other stage
+pub calm : (s : Stage) → swap_in s ≡ None → (p q : ServerNo) → IsSwapping s p q → ⊥
+calm s none p q h = no-meeting (p, q) (sym none ∙ swaps-so s p q h)
+
+-- a stage that follows another changes the same places, or none
+pub moved-swaps : (s : Stage) (p q : ServerNo) → IsSwapping (moved s) p q → IsSwapping s p q
+moved-swaps (stage.Level m n) p q h = let same = same_Some (m, n) (p, q) (swaps-so (stage.Swap m n) p q h) in inl (ap (λ (x : ServerNo × ServerNo). stage.Level x.0 x.1) same)
+moved-swaps (stage.Swap m n) p q h = let same = same_Some (m, n) (p, q) (swaps-so (stage.Swapped m n) p q h) in inr (inl (ap (λ (x : ServerNo × ServerNo). stage.Swap x.0 x.1) same))
+moved-swaps (stage.Swapped m n) p q h = h
+moved-swaps s p q h = absurd (no-meeting (p, q) (swaps-so (moved s) p q h))
+
+-- and such a stage leads to one
+pub swaps-on : (s : Stage) (p q : ServerNo) → IsSwapping s p q → IsSwapping (moved s) p q
+swaps-on (stage.Level m n) p q h = let same = same_Some (m, n) (p, q) (swaps-so (stage.Level m n) p q h) in inr (inl (ap (λ (x : ServerNo × ServerNo). stage.Swap x.0 x.1) same))
+swaps-on (stage.Swap m n) p q h = let same = same_Some (m, n) (p, q) (swaps-so (stage.Swap m n) p q h) in inr (inr (ap (λ (x : ServerNo × ServerNo). stage.Swapped x.0 x.1) same))
+swaps-on (stage.Swapped m n) p q h = h
+swaps-on s p q h = absurd (no-meeting (p, q) (swaps-so s p q h))
+
+module _ (u : Purpose) (chosen promoted : Option ServerNo) (swaps : Bool) where
+  -- another stage begins, in which no places change and nothing is opened
+  pub plain-swap : (s t : Stage) → SwapOf u s chosen promoted swaps → swap_in t ≡ None → gives t ≡ false → SwapOf u t chosen promoted swaps
+  plain-swap s t h none off = record {
+    first = h.first;
+    taking = λ p q e. absurd (calm t none p q e);
+    closed = λ m y. absurd (false≢true (sym off ∙ gives-so t y));
+  }
+
+  -- the stage that follows
+  pub next-swap : (s : Stage) → SwapOf u s chosen promoted swaps → SwapOf u (moved s) chosen promoted swaps
+  next-swap s h = record {
+    first = h.first;
+    taking = λ p q e. h.taking p q (moved-swaps s p q e);
+    closed = λ m y. h.closed m (yields-back s (gives-back s (gives-so (moved s) y)));
+  }
+
+  -- nothing is left but to open the promoted one
+  pub last-swap : (s t : Stage) → SwapOf u s chosen promoted swaps → swap_in t ≡ None → Yields s → SwapOf u t chosen promoted swaps
+  last-swap s t h none y = record { first = h.first; taking = λ p q e. absurd (calm t none p q e); closed = λ m x. h.closed m y }
 
 -- what follows a stage is barred as it is, and meets whom it meets
 pub moved-bar : (s : Stage) → (info (moved s)).bar ≡ (info s).bar
@@ -161,13 +229,13 @@ module _ (u : Purpose) (chosen : Option ServerNo) (swaps : Bool) where
 
     -- any stage begins
     pub restage : (t : Stage) → TasksOf u t ts chosen swaps
-    restage t = record { few = h.few; suited = h.suited; chosen = h.chosen; yields = λ over. inl (to-yield over) }
+    restage t = record { few = h.few; suited = h.suited; chosen = h.chosen; yields = λ over. inl (to-yield over); named = h.named; over = h.over }
 
-    pub unswaps : (t : Stage) → TasksOf u t ts chosen false
-    unswaps t =
+    pub unswaps : ts ≡ [] → (t : Stage) → TasksOf u t ts chosen false
+    unswaps none t =
         let a = h.few in
         let b = less-last u swaps in
-        record { few = omega (arith, a, b); suited = h.suited; chosen = h.chosen; yields = λ over. inl (to-yield over) }
+        record { few = omega (arith, a, b); suited = h.suited; chosen = h.chosen; yields = λ over. inl (to-yield over); named = h.named; over = λ m e. none }
 
   -- the next task begins
   module _ (s : Stage) (t : Task) (ts : List Task) (h : TasksOf u s (t ∷ ts) chosen swaps) (idle : s ≡ stage.Idle) where
@@ -180,12 +248,18 @@ module _ (u : Purpose) (chosen : Option ServerNo) (swaps : Bool) where
     pub suit-rest : All (Suits u) ts
     suit-rest = All-tail (Suits u) t ts h.suited
 
+    -- a better one isn't looked for yet
+    pub unlooked : {A : Type 0} → u ≡ purpose.Master → swaps ≡ false → A
+    unlooked m e = let bad : t ∷ ts ≡ [] = h.over m e in cc
+
     pub behind : (t ≡ task.Choosing → ⊥) → (t ≡ task.Yielding → ⊥) → (k : Stage) → TasksOf u k ts chosen swaps
     behind apart other k = record {
       few = fewer;
       suited = suit-rest;
       chosen = λ c none. Contains-tail t ts task.Choosing apart (h.chosen c none);
       yields = λ over. inl (Contains-tail t ts task.Yielding other (to-yield s (t ∷ ts) h idle over));
+      named = h.named;
+      over = unlooked;
     }
 
     -- with others before those behind it
@@ -200,6 +274,8 @@ module _ (u : Purpose) (chosen : Option ServerNo) (swaps : Bool) where
           suited = All-append (Suits u) us ts busy.suited suit-rest;
           chosen = λ c none. Contains-append_right us ts task.Choosing (rest.chosen c none);
           yields = λ over. inl (Contains-append_right us ts task.Yielding (Contains-tail t ts task.Yielding other (to-yield s (t ∷ ts) h idle over)));
+          named = h.named;
+          over = unlooked;
         }
 
 -- one of the drained is chosen
@@ -214,6 +290,8 @@ chooses-one u chosen swaps s ts us p h busy k =
       suited = All-append (Suits u) us ts busy.suited (All-tail (Suits u) task.Choosing ts h.suited);
       chosen = λ c none. let bad : Some p ≡ None = none in cc;
       yields = λ over. absurd (choosing-apart u (All-head (Suits u) task.Choosing ts h.suited) over);
+      named = λ n e. absurd (false≢true (ap chooses (sym e) ∙ All-head (Suits u) task.Choosing ts h.suited));
+      over = λ m e. let bad : task.Choosing ∷ ts ≡ [] = h.over m e in cc;
     }
 
 -- ---- operations

@@ -1,7 +1,7 @@
 -- A recovery on its way: what its tasks, its stage and those that it has lost so far have in common.
-use Rattle.std.specs.Prelude.{◌≡◌, ℕ, ◌+◌, ◌≤◌, Bool, true, false, ◌==◌, not, if◌then◌else◌, List, [], ◌∷◌, Option, Some, None, All, ◌⊎◌}
-use Rattle.recovery_reasons.specs.Prelude.{Bridge, Contains, LostReplica, Op, Purpose, Recovery, ServerNo, Stage, Task, Why, closes, info}
-use Rattle.recovery_reasons.specs.Prelude.{is_takeover}
+use Rattle.std.specs.Prelude.{◌≡◌, ℕ, ◌+◌, ◌≤◌, Bool, true, false, ◌==◌, not, if◌then◌else◌, List, [], ◌∷◌, Option, Some, None, All, is_some, ◌⊎◌}
+use Rattle.recovery_reasons.specs.Prelude.{Bridge, Contains, LostReplica, Op, Purpose, Recovery, ServerNo, Sight, Stage, Task, Why, closes, info}
+use Rattle.recovery_reasons.specs.Prelude.{is_takeover, seen_of}
 use Rattle.recovery_reasons.specs.Prelude.lost
 use Rattle.recovery_reasons.specs.Prelude.op
 use Rattle.recovery_reasons.specs.Prelude.purpose
@@ -18,6 +18,13 @@ chooses purpose.Regroup = true
 chooses purpose.Master = true
 chooses (purpose.Intermediate s) = false
 chooses (purpose.Takeover d) = false
+
+-- recoveries that hand over what is drained to a successor
+abbrev pub hands : Purpose → Bool
+hands purpose.Regroup = false
+hands purpose.Master = false
+hands (purpose.Intermediate s) = true
+hands (purpose.Takeover d) = false
 
 -- a server beside the designated one
 abbrev pub is_beside : Purpose → ServerNo → Bool
@@ -55,11 +62,11 @@ pauses_last (purpose.Takeover d) swaps = 1
 -- a task that a recovery for this purpose may have
 abbrev pub suits : Purpose → Task → Bool
 suits u task.Choosing = chooses u
+suits u task.Handing = hands u
 suits u (task.Trailing n) = is_beside u n
 suits u task.Yielding = is_takeover u
 suits u (task.Reading n) = true
 suits u (task.Draining n) = true
-suits u task.Handing = true
 suits u (task.Moving n by) = true
 suits u task.Sorting = true
 suits u (task.Expelling n) = true
@@ -76,6 +83,10 @@ Yields s =
 -- a master that is to give up its place is read and refuses writes, and its replica comes to the end of its log
 abbrev pub IsMeeting : Stage → ServerNo → ServerNo → Type 0
 IsMeeting s m d = (s ≡ stage.Meet m d) ⊎ ((s ≡ stage.Shut m d) ⊎ (s ≡ stage.Gather m d))
+
+-- the second is to take the first one's place
+abbrev pub IsSwapping : Stage → ServerNo → ServerNo → Type 0
+IsSwapping s p q = (s ≡ stage.Level p q) ⊎ ((s ≡ stage.Swap p q) ⊎ (s ≡ stage.Swapped p q))
 
 -- ---- the lost
 
@@ -95,13 +106,29 @@ AllFit xs = All (λ l. is_unfit l.why ≡ false) xs
 
 -- ---- on its way
 
--- At most four decisions without an operation come one behind another. Where nobody is chosen the choice is to come;
--- and in a takeover the designated one is to take its master's place, or takes it.
+-- At most four decisions without an operation come one behind another. Where nobody is chosen the choice is to come, and
+-- a successor is chosen from the beginning; in a takeover the designated one is to take its master's place, or takes it;
+-- and a master's recovery that has looked for a better one has no task left.
 pub record TasksOf (u : Purpose) (s : Stage) (ts : List Task) (source : Option ServerNo) (swaps : Bool) : Type 0 where
   pub few : pauses_in ts + pauses_last u swaps ≤ 4
   pub suited : All (λ t. suits u t ≡ true) ts
   pub chosen : chooses u ≡ true → source ≡ None → Contains ts task.Choosing
   pub yields : is_takeover u ≡ true → Contains ts task.Yielding ⊎ Yields s
+  pub named : (n : ServerNo) → u ≡ purpose.Intermediate n → source ≡ Some n
+  pub over : u ≡ purpose.Master → swaps ≡ false → ts ≡ []
+
+-- In a master's recovery the chosen one is promoted until a better one was looked for. That is done where another is to
+-- take its place, which is promoted until then, and where nothing is left but to open the promoted one.
+pub record SwapOf (u : Purpose) (s : Stage) (chosen promoted : Option ServerNo) (swaps : Bool) : Type 0 where
+  pub first : u ≡ purpose.Master → swaps ≡ true → promoted ≡ chosen
+  pub taking : (p q : ServerNo) → IsSwapping s p q → (swaps ≡ false) × (chosen ≡ Some p) × (promoted ≡ Some p)
+  pub closed : u ≡ purpose.Master → Yields s → swaps ≡ false
+
+-- the successor was read, or is to be read before anything else
+abbrev pub IsRead : Purpose → Stage → List Op → List Task → List Sight → Type 0
+IsRead u s ops ts seen =
+    (n : ServerNo) → u ≡ purpose.Intermediate n
+    → (is_some (seen_of seen n.0) ≡ true) ⊎ (((xs : List Task) × (ts ≡ task.Reading n ∷ xs)) ⊎ ((s ≡ stage.Read n) × (ops ≡ op.Status n None ∷ [])))
 
 -- Where what is seen may end the recovery its operations read the failed server; a master that is to give up its place
 -- is that one, for the designated one; whose stop was seen is the designated one; and who goes where that one stopped
@@ -116,6 +143,8 @@ pub record StageOf (u : Purpose) (f : ServerNo) (s : Stage) (ops : List Op) (o :
 pub record IsOnCourse (r : Recovery) : Type 0 where
   pub tasks : TasksOf r.purpose r.stage r.queue r.chosen r.swaps
   pub stage : StageOf r.purpose r.failed r.stage r.core.ops r.lead
+  pub swap : SwapOf r.purpose r.stage r.chosen r.outcome.promoted r.swaps
+  pub read : IsRead r.purpose r.stage r.core.ops r.queue r.core.seen
   pub fit : AllFit r.outcome.lost
 
 -- and where no operation is left it has no stage

@@ -20,29 +20,35 @@ pub use Rattle.recovery_laws.specs.Operations.Turns.{Stops, attach_answer_of, by
 pub use Rattle.recovery_laws.specs.Operations.declared.matching.Match as Operations
 pub use Rattle.recovery_laws.specs.Operations.declared.matching.MatchFault.{MatchFault}
 pub use Rattle.recovery_laws.specs.Operations.declared.op.Aim.TheVariants.{ExecOf}
+pub use Rattle.recovery_laws.specs.Operations.declared.op.Crossing.TheVariants as cross
 pub use Rattle.recovery_laws.specs.Operations.declared.op.Op.{Op}
 pub use Rattle.recovery_laws.specs.Operations.declared.op.Op.TheVariants as op
+pub use Rattle.recovery_laws.specs.Operations.declared.sight.Position.{Position}
 pub use Rattle.recovery_laws.specs.Operations.declared.sight.Sight.{Sight}
 pub use Rattle.recovery_laws.specs.Operations.declared.step.JobStep.TheVariants as step
+pub use Rattle.recovery_laws.specs.OrchBase.declared.rule.Rule.TheVariants as rule
 pub use Rattle.recovery_laws.specs.OrchBase.declared.server.Moment.{Moment}
 pub use Rattle.recovery_laws.specs.OrchBase.declared.server.ServerNo.{ServerNo}
-pub use Rattle.recovery_laws.specs.PromotionRules.Choice.{is_barred, is_better, is_eligible, nearer_order}
+pub use Rattle.recovery_laws.specs.PromotionRules.Choice.{is_barred, is_better, is_eligible, nearer_order, precedence, server_order}
 pub use Rattle.recovery_laws.specs.PromotionRules.Chosen.{HasExecutedMost, IsChoice}
 pub use Rattle.recovery_laws.specs.RecoveryEnds.Ends.{closes}
 pub use Rattle.recovery_laws.specs.HeldRecoveries.{HeldRecovery}
 pub use Rattle.recovery_laws.specs.Rings.{HeldRings}
 pub use Rattle.recovery_laws.specs.RecoveryPlans.Beginning.{begun_recovery, is_takeover}
-pub use Rattle.recovery_laws.specs.RecoveryPlans.Deciding.{better_of, chosen_of, decided, drained_of, follower_of, ground_of, logs_at, may_lead}
-pub use Rattle.recovery_laws.specs.RecoveryPlans.Moves.{Decision, Decisions, IsNext, MayDecide, decided_by, follows_lead, stopped_at}
+pub use Rattle.recovery_laws.specs.RecoveryPlans.Deciding.{better_of, center_in, chosen_of, decided, drained_of, follower_of, ground_of, logs_at, may_lead, why_of}
+pub use Rattle.recovery_laws.specs.RecoveryPlans.Moves.{Decision, Decisions, IsNext, IsOver, MayDecide, decided_by, follows_lead, stopped_at}
 pub use Rattle.recovery_laws.specs.RecoveryPlans.Moves as move
 pub use Rattle.recovery_laws.specs.RecoveryPlans.Named.{spoken_to}
 pub use Rattle.recovery_laws.specs.RecoveryPlans.Recoveries.{Recovery, sight_of}
 pub use Rattle.recovery_laws.specs.RecoveryPlans.Stages.{before, is_look, reads_last, tail_of}
 pub use Rattle.recovery_laws.specs.RecoveryPlans.Table.{info}
 pub use Rattle.recovery_laws.specs.RecoveryPlans.Table as table
-pub use Rattle.recovery_laws.specs.RecoveryPlans.Taking.{Missed, is_below, loss_of, place_on, spot_by, spot_seen, taken}
+pub use Rattle.recovery_laws.specs.RecoveryPlans.Taking as taking
+pub use Rattle.recovery_laws.specs.RecoveryPlans.Taking.{Missed, fate, is_below, loss_of, place_on, spot_by, spot_seen, taken}
 pub use Rattle.recovery_laws.specs.RecoveryPlans.Whys as whys
 pub use Rattle.recovery_laws.specs.RecoveryPlans.declared.means.Means.{Means}
+pub use Rattle.recovery_laws.specs.RecoveryPlans.declared.means.Means.TheVariants as means
+pub use Rattle.recovery_laws.specs.RecoveryPlans.declared.outcome.Follower.{Follower}
 pub use Rattle.recovery_laws.specs.RecoveryPlans.declared.outcome.LostReplica.{LostReplica}
 pub use Rattle.recovery_laws.specs.RecoveryPlans.declared.outcome.Stopped.{Stopped}
 pub use Rattle.recovery_laws.specs.RecoveryPlans.declared.purpose.Purpose.{Purpose}

@@ -4,7 +4,7 @@ use Rattle.std.specs.Prelude.{All, IfSome, slice_get, get_or, ◌≤◌}
 use Rattle.recovery_runs.proofs.Prelude.{Act, All-cons, All-contains, All-head, All-nil, All-tail, AreHooksOf, AreShort, Asks, AuditState}
 use Rattle.recovery_runs.proofs.Prelude.{BeginInTurn, Begins as RecoveryBegins, BeginsOnce, BookState, ByBridges, ByMatches, Code, Command}
 use Rattle.recovery_runs.proofs.Prelude.{CommandTurn, Configuration, Decided, Decides, Discovers, Forgets, HasHooks, HostPort}
-use Rattle.recovery_runs.proofs.Prelude.{IsAct, IsBook, IsCommand, IsEntryIn, IsFresh, IsTurn, Line, Matches, Means, NamesReplicasOnce, Observation}
+use Rattle.recovery_runs.proofs.Prelude.{IsAct, IsBook, IsCommand, IsEntryIn, IsFresh, IsTurn, Line, Means, NamesReplicasOnce, Observation}
 use Rattle.recovery_runs.proofs.Prelude.{Outcome, Planner, Ready, Recovers, Refusal, Regroups, Route, ServerNo, State, Status as Seen}
 use Rattle.recovery_runs.proofs.Prelude.{TakesOver, TellsAll, Turn, Unended, UnknownInstance, World, about as given_or, act-fits, act_in}
 use Rattle.recovery_runs.proofs.Prelude.{actionable-entries, actionable_in, allowed, asked, attempt_in, begun, begun_hooks, begun_recovery, by_hand}

@@ -17,7 +17,7 @@ module _ (w : World) (b : BookState) (read : ℕ) (now : Moment) (r d : Recovery
   no-hook c is (Nobody none has) = cc
   no-hook c is (Reached seen at shows) = cc
   no-hook c is (Sourced x seen at shows has) = cc
-  no-hook c is (Fatal stops fatal) = (subst (λ (k : Cause). StopsTruly w read now d k) is stops).befell
+  no-hook c is (Fatal stops fatal ends) = (subst (λ (k : Cause). StopsTruly w read now d k) is stops).befell
 
 module _ (s : Scenario) (xs : List Step) (now : State) (comes : ComesTo s xs now) where
   -- one of the hooks before it was due

@@ -20,6 +20,7 @@ use Rattle.recovery_runs.proofs.Prelude.table
 use Rattle.recovery_runs.proofs.Prelude.taking
 use Rattle.recovery_runs.proofs.Prelude.unended
 use Rattle.std.specs.Prelude.{◌==◌, IfSome, All}
+use Rattle.recovery_runs.proofs.Prelude.{fatal-ends}
 use Rattle.recovery_runs.proofs.Origins.{Step}
 use Rattle.recovery_runs.proofs.Tending.{tends-comes}
 
@@ -86,6 +87,7 @@ module _ (w : World) (b : BookState) (read : ℕ) (now : Moment) (r so : Recover
           truth = true-of (deed_of o) c ob stops (spoken_to (deed_of o)) refl;
         })
         fatal
+        (fatal-ends w so.purpose so.stage c fatal)
 
   module _ (c : Cause) (lines : List Line) where
     abbrev Failed : JobStep → Type 0

@@ -17,7 +17,7 @@ use Rattle.recovery_runs.proofs.Hooks.{done-own, done-with}
 
 module _ (s : State) (id : ℕ) (r : Recovery) (docket : Docket) where
   module _ (found : job_at s.jobs id ≡ Some (unended.Recovery r docket)) where
-    abbrev turn_in : RecoveryTurn (flight_of s) s.jobs
+    abbrev pub turn_in : RecoveryTurn (flight_of s) s.jobs
     turn_in = record { id = id; recovery = r; docket = docket; found = found; book = s.book; rings = refl; at_read = next_count s.reads; at_moment = moment_at s }
 
     pub world-hooked : (rows : List Row) → (step rows s (turn.Act (act.Job id))).world ≡ run s.world (turn_hooked s r docket).taken.exchanges

@@ -1,5 +1,5 @@
 -- What recoveries tell of their hooks in a state in which these are tended.
-use Rattle.std.proofs.Common.{◌≡◌, ◌∙◌, ◌+◌, ℕ, List, ◌++◌, refl, sym, ap, Option, Some, None}
+use Rattle.std.proofs.Common.{◌≡◌, ◌∙◌, ℕ, List, ◌++◌, refl, sym, ap, Option, Some, None}
 use Rattle.std.specs.Prelude.{◌==◌}
 use Rattle.recovery_runs.proofs.Prelude.{All-find, Cause, Docket, Exchange, HookState, IsEarly, IsFailure, IsFinish, IsTended, IsTendedBeside}
 use Rattle.recovery_runs.proofs.Prelude.{JobStep, Line, Recovery, Row, State, TellsFailed, TendedState, Unended, all_before, all_behind, done-docket}

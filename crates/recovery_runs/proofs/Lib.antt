@@ -15,7 +15,10 @@ pub mod Still
 pub mod Scenarios
 pub mod Tending
 pub mod Failing
+pub mod TurningWell
 pub mod Ended
+pub mod Looking
+pub mod Looks
 pub use Rattle.run_laws.proofs.NameOrder as NameOrder
 pub use Rattle.run_laws.proofs.OrchCore as OrchCore
 pub mod RunLaws

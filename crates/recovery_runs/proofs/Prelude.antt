@@ -37,7 +37,7 @@ pub use Rattle.run_laws.specs.Commands.declared.turn.CommandTurn.{CommandTurn}
 pub use Rattle.covered_laws.proofs.Beside.{apart-stays, none-aimed, none-covered, none-kept, none-speak, outside-stays, recovery-covered}
 pub use Rattle.covered_laws.proofs.Beside.{recovery-kept, recovery-speaks}
 pub use Rattle.covered_laws.proofs.Ending.{done-chain, done-named, done-old, done-placed, done-promoted, done-told, last-aim, turn-aim}
-pub use Rattle.covered_laws.proofs.Ending.{turn-explained}
+pub use Rattle.covered_laws.proofs.Ending.{turn-changes, turn-chooses, turn-explained}
 pub use Rattle.covered_laws.proofs.Turning.{all-turned, number-aimed, number-covered, number-kept, number-speaking}
 pub use Rattle.covered_laws.specs.Beside.{IsAimedBeside, IsCoveredBeside, IsKeptBeside, IsSpeakingBeside}
 pub use Rattle.covered_laws.specs.Flights.{CoveredJobs, KeptJobs}
@@ -132,6 +132,7 @@ pub use Rattle.run_laws.specs.RecoveryPlans.declared.stage.Stage.{Stage}
 pub use Rattle.run_laws.specs.RecoveryPlans.declared.stage.Stage.TheVariants as stage
 pub use Rattle.recovery_reasons.proofs.Causing.{cause-true}
 pub use Rattle.recovery_reasons.proofs.Facts.{begun-explained}
+pub use Rattle.recovery_reasons.proofs.Fatal.{fatal-ends}
 pub use Rattle.recovery_reasons.proofs.Nobody.{finds-nobody}
 pub use Rattle.recovery_reasons.proofs.OnWay.{Fine, decides-fine, done-fit, still-on}
 pub use Rattle.recovery_reasons.proofs.Readings.{ReadsNow, ShowsNow, read-now}
@@ -144,6 +145,7 @@ pub use Rattle.recovery_runs.specs.Facts.{ExplainedState, ExplainsAct, ExplainsD
 pub use Rattle.recovery_runs.specs.Failing.{FailsTruly, Fatal, IsEndedByHook, IsFailing, Nobody, Reached, RecoveriesFailForWhatBefell, ShowsFailed}
 pub use Rattle.recovery_runs.specs.Failing.{Sourced, StopsTruly}
 pub use Rattle.recovery_runs.specs.Failing as failing
+pub use Rattle.recovery_runs.specs.TurnsWell.{RecoveriesTurnWell}
 pub use Rattle.recovery_runs.specs.Finishes.{IsFailure, IsFinish, KeepsHistories, OwesNothing, TellsFailed, done_with, finished_so, own_lines}
 pub use Rattle.recovery_runs.specs.Finishes.{promoted_then, ran_lines, recovery_after, told_hooks, turn_hooked, turn_taken}
 pub use Rattle.recovery_runs.specs.Origins.{Began, BeganIn, ExplainsAlong, IsStill, StaysStill}
@@ -190,3 +192,19 @@ pub use Rattle.run_laws.specs.UnendedJobs.Unended.{IsReady, number_of}
 pub use Rattle.run_laws.specs.UnendedJobs.declared.docket.Docket.{Docket}
 pub use Rattle.run_laws.specs.UnendedJobs.declared.unended.Unended.{Unended}
 pub use Rattle.run_laws.specs.UnendedJobs.declared.unended.Unended.TheVariants as unended
+pub use Rattle.run_laws.specs.RecoveryPlans.Deciding.{by_queue, once}
+pub use Rattle.run_laws.specs.Operations.Turns.{after_look, next, observed, saw}
+pub use Rattle.run_laws.specs.RecoveryPlans.Recoveries.{follows_no_more, working}
+pub use Rattle.run_laws.specs.RecoveryPlans.Beginning.{first_ops, first_stage}
+pub use Rattle.run_laws.specs.RecoveryPlans.Taking.{entered}
+pub use Rattle.run_laws.specs.RecoveryPlans.Stages.{leaver, moved}
+pub use Rattle.run_laws.specs.RecoveryPlans.Moves.{borne, decided_by, ended_by, fate_of}
+pub use Rattle.run_laws.specs.RecoveryPlans.Moves as by
+pub use Rattle.run_laws.proofs.RecoveryPlans.Walking.{KeepsAlways, always, kept-whole}
+pub use Rattle.run_laws.specs.UnendedJobs.Hooked.{due_at, told_before, told_with}
+pub use Rattle.run_laws.specs.RecoveryHooks.Runs.{Passes, checked, due_before, ran_after}
+pub use Rattle.run_laws.proofs.OperationsProofs.Sights.{seen-at}
+pub use Rattle.std.proofs.lemmas.Bool.{eqb-false, false_from_ne_true, ne_eqb}
+pub use Rattle.hook_laws.specs.Tended.{IsAtCheck}
+pub use Rattle.recovery_runs.specs.Looks.{AnswersHook, FirstFoundAway, LooksBefore, LooksFirst, MeetsMaster, NoneWas, RecoveriesLookBefore, unsuccessful}
+pub use Rattle.run_laws.specs.CauseLaws.Events.{Befell}

@@ -1,4 +1,5 @@
 -- What is passed on of run_laws: lemmas that are cited above.
+pub use Rattle.run_laws.proofs.Acting
 pub use Rattle.run_laws.proofs.Aims
 pub use Rattle.run_laws.proofs.Audits
 pub use Rattle.run_laws.proofs.ClaimKept
@@ -10,7 +11,10 @@ pub use Rattle.run_laws.proofs.JobTurns
 pub use Rattle.run_laws.proofs.Lines
 pub use Rattle.run_laws.proofs.Lowest
 pub use Rattle.run_laws.proofs.Marks
+pub use Rattle.run_laws.proofs.Moments
 pub use Rattle.run_laws.proofs.NodeClaims
 pub use Rattle.run_laws.proofs.Parts
 pub use Rattle.run_laws.proofs.Permissions
+pub use Rattle.run_laws.proofs.Readings
 pub use Rattle.run_laws.proofs.RunLaws
+pub use Rattle.run_laws.proofs.Waits

@@ -60,7 +60,7 @@ module _ (count : ℕ) (from : State) where
     pub origins : All (HasOrigin from xs) s.jobs
     pub stills : All (HasStill from xs) s.jobs
 
-  tends-step : (xs : List Step) (s : State) (x : Step) → IsTurn count x.1 → Tends xs s → Tends (xs ++ x ∷ []) (step x.0 s x.1)
+  pub tends-step : (xs : List Step) (s : State) (x : Step) → IsTurn count x.1 → Tends xs s → Tends (xs ++ x ∷ []) (step x.0 s x.1)
   tends-step xs s x is t = record {
     here = ap (λ (z : State). step x.0 z x.1) t.here ∙ sym (run-push from xs x);
     goes = Goes-step count x.0 s x.1 is t.goes;
@@ -96,7 +96,7 @@ module _ (s : Scenario) (xs : List Step) (now : State) (comes : ComesTo s xs now
   abbrev pub begun : State
   begun = start s comes.wait comes.rows
 
-  opened : Tends (length s.opening.servers) begun [] begun
+  pub opened : Tends (length s.opening.servers) begun [] begun
   opened = record {
     here = refl;
     goes = Goes-start s comes.wait comes.rows comes.scenario;

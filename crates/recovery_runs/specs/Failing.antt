@@ -1,8 +1,8 @@
 -- For what recoveries fail in the states of runs.
 use Rattle.std.specs.Prelude.{◌≡◌, ◌≢◌, ◌⊎◌, ◌+◌, ℕ, true, List, [], ◌∷◌, Option, Some, None, IfSome}
-use Rattle.recovery_runs.specs.Prelude.{Befell, BookState, Cause, Docket, Failure, HasNobody, Hook, HookState, IsTrueOf, Moment, Observation, Op}
-use Rattle.recovery_runs.specs.Prelude.{Recovery, ServerNo, State, Status, Stops, World, decided, deed_of, due_before, fate, front_hook, ground_of}
-use Rattle.recovery_runs.specs.Prelude.{has_source, job_at, next_count, reply_of, seen_in, spoken_to, status}
+use Rattle.recovery_runs.specs.Prelude.{Befell, BookState, CanEnd, Cause, Docket, Failure, HasNobody, Hook, HookState, IsTrueOf, Moment}
+use Rattle.recovery_runs.specs.Prelude.{Observation, Op, Recovery, ServerNo, State, Status, Stops, World, decided, deed_of, due_before, fate}
+use Rattle.recovery_runs.specs.Prelude.{front_hook, ground_of, has_source, job_at, next_count, reply_of, seen_in, spoken_to, status}
 use Rattle.recovery_runs.specs.Prelude.act
 use Rattle.recovery_runs.specs.Prelude.answered
 use Rattle.recovery_runs.specs.Prelude.cause
@@ -28,13 +28,14 @@ pub record StopsTruly (w : World) (read : ℕ) (now : Moment) (d : Recovery) (c 
   pub truth : IfSome (spoken_to (deed_of op)) (λ n. IsTrueOf w n c)
 
 -- Why a turn fails in which a recovery was decided so: nobody is found; its check reaches the failed server; the master
--- that is to give up its place is seen with a source; or its operation stops so where it can't go on without it.
+-- that is to give up its place is seen with a source; or its operation stops so where it can't go on without it, for none
+-- of the causes that end no recovery.
 pub data FailsTruly (w : World) (b : BookState) (read : ℕ) (now : Moment) (r d : Recovery) : Cause → Type 0 where
   Nobody : d.core.ops ≡ [] → HasNobody w b now r d → FailsTruly w b read now r d cause.NoCandidate
   Reached : (s : Status) → d.stage ≡ stage.Check → ShowsFailed w d s → FailsTruly w b read now r d (cause.Reachable d.failed)
   Sourced : (x : ServerNo) (s : Status) → d.stage ≡ stage.Meet d.failed x → ShowsFailed w d s → has_source s.source ≡ true
       → FailsTruly w b read now r d (cause.Moved d.failed s.source)
-  Fatal : {c : Cause} → StopsTruly w read now d c → fate w d.purpose d.stage c ≡ taking.Fails → FailsTruly w b read now r d c
+  Fatal : {c : Cause} → StopsTruly w read now d c → fate w d.purpose d.stage c ≡ taking.Fails → CanEnd d.stage c → FailsTruly w b read now r d c
 
 -- as it is decided in the turn, it fails for this
 abbrev pub IsFailing : World → BookState → ℕ → Moment → Recovery → Cause → Type 0

@@ -7,7 +7,9 @@ pub mod Facts
 pub mod Finished
 pub mod Origins
 pub mod RunFinishes
+pub mod TurnsWell
 pub mod Failing
+pub mod Looks
 pub mod Everywhere
 pub use Rattle.run_laws.specs.AuditLog as AuditLog
 pub use Rattle.run_laws.specs.CommandOutcomes as CommandOutcomes

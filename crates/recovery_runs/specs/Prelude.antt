@@ -11,7 +11,7 @@ pub use Rattle.run_laws.specs.Commands.declared.line.Line.{Line}
 pub use Rattle.covered_laws.specs.Beside.{IsAimedBeside}
 pub use Rattle.covered_laws.specs.Flights.{AimedJobs, CoveredJobs, KeptJobs, SpeakingJobs}
 pub use Rattle.covered_laws.specs.Turns.{IsNamedOutcome}
-pub use Rattle.hook_laws.specs.Tended.{IsEarly, IsOfDocket, IsTended, all_before, all_behind}
+pub use Rattle.hook_laws.specs.Tended.{IsEarly, IsOfDead, IsOfDocket, IsTended, all_before, all_behind}
 pub use Rattle.run_laws.specs.HookTexts.declared.hooks.Hook.{Hook}
 pub use Rattle.run_laws.specs.InstanceKeeper.Book.{BookState}
 pub use Rattle.run_laws.specs.JobsInFlight.Jobs.{job_at}
@@ -22,6 +22,7 @@ pub use Rattle.run_laws.specs.KeptRows.declared.recovery.Recovery as KeptRows
 pub use Rattle.run_laws.specs.KeptRows.declared.row.Row.{Row}
 pub use Rattle.run_laws.specs.Knowledge.Knowing.{updated}
 pub use Rattle.run_laws.specs.Operations.Deeds.{deed_of}
+pub use Rattle.run_laws.specs.Operations.Turns.{is_going}
 pub use Rattle.run_laws.specs.Operations.declared.op.Op.{Op}
 pub use Rattle.run_laws.specs.Operations.declared.op.Op.TheVariants as op
 pub use Rattle.run_laws.specs.Operations.declared.step.JobStep.{JobStep}
@@ -43,13 +44,14 @@ pub use Rattle.run_laws.specs.OrchCore.States.{State}
 pub use Rattle.run_laws.specs.RecoveryCore.Begun.{IsFresh}
 pub use Rattle.run_laws.specs.RecoveryCovers.Covers.{AreReplicas, HasOnePlace, IsTold, owed, times}
 pub use Rattle.recovery_histories.specs.Kept.{IsBeginning, Keeps, SameAim}
-pub use Rattle.run_laws.specs.RecoveryHooks.Runs.{HookState, begun_hooks, done_lines, due_before, unsuccessful_lines}
+pub use Rattle.run_laws.specs.RecoveryHooks.Runs.{HookState, Passes, begun_hooks, done_lines, due_before, unsuccessful_lines}
 pub use Rattle.recovery_outcomes.specs.Chains.{IsChain}
+pub use Rattle.recovery_outcomes.specs.Doing.{ChoosesAmongAll, MakesWell}
 pub use Rattle.recovery_outcomes.specs.Told.{IsToldOf}
 pub use Rattle.run_laws.specs.RecoveryPermits.Checks.{code_at}
 pub use Rattle.run_laws.specs.RecoveryPlans.Beginning.{first_source, is_takeover}
 pub use Rattle.run_laws.specs.RecoveryPlans.Deciding.{decided, ground_of}
-pub use Rattle.run_laws.specs.RecoveryPlans.Moves.{Stops}
+pub use Rattle.run_laws.specs.RecoveryPlans.Moves.{Decisions, Stops}
 pub use Rattle.run_laws.specs.RecoveryPlans.Named.{spoken_to}
 pub use Rattle.run_laws.specs.RecoveryPlans.Recoveries.{Recovery}
 pub use Rattle.run_laws.specs.RecoveryPlans.Taking.{Taken, fate, taken}
@@ -58,6 +60,7 @@ pub use Rattle.run_laws.specs.RecoveryPlans.declared.purpose.Purpose.{Purpose}
 pub use Rattle.run_laws.specs.RecoveryPlans.declared.purpose.Purpose.TheVariants as purpose
 pub use Rattle.run_laws.specs.RecoveryPlans.declared.stage.Stage.TheVariants as stage
 pub use Rattle.recovery_reasons.specs.Causes.{IsTrueOf}
+pub use Rattle.recovery_reasons.specs.Fatal.{CanEnd}
 pub use Rattle.recovery_reasons.specs.Nobody.{HasNobody}
 pub use Rattle.recovery_reasons.specs.OnWay.{AllFit}
 pub use Rattle.recovery_reasons.specs.Reasons.{ExplainsTruly, Fact, IsExplained}

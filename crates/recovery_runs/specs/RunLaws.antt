@@ -1,4 +1,5 @@
 -- What is passed on of run_laws: its types and definitions.
+pub use Rattle.run_laws.specs.Acting
 pub use Rattle.run_laws.specs.Aims
 pub use Rattle.run_laws.specs.Answering
 pub use Rattle.run_laws.specs.Audits
@@ -16,8 +17,11 @@ pub use Rattle.run_laws.specs.Jobs
 pub use Rattle.run_laws.specs.Lines
 pub use Rattle.run_laws.specs.Lowest
 pub use Rattle.run_laws.specs.Marks
+pub use Rattle.run_laws.specs.Moments
+pub use Rattle.run_laws.specs.Readings
 pub use Rattle.run_laws.specs.Ready
 pub use Rattle.run_laws.specs.Room
 pub use Rattle.run_laws.specs.Runs
 pub use Rattle.run_laws.specs.SingleTurns
 pub use Rattle.run_laws.specs.States
+pub use Rattle.run_laws.specs.Waits

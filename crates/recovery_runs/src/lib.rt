@@ -15,7 +15,7 @@ pub use run_laws::{
     orch_core_items, scenarios_items, turns,
 };
 pub use runs::{
-    recoveries_began, recoveries_finish_well, recoveries_have_true_facts,
+    recoveries_began, recoveries_finish_well, recoveries_have_true_facts, recoveries_look_first,
     recoveries_tell_hooks_in_runs,
 };
 pub use steps::{

@@ -1,7 +1,9 @@
 //! Laws of the recoveries of runs.
 
 ghost use Rattle.recovery_runs.specs.Prelude.{InEveryState};
+ghost use Rattle.recovery_runs.specs.Looks.{RecoveriesLookBefore};
 ghost use Rattle.recovery_runs.specs.Failing.{RecoveriesFailForWhatBefell};
+ghost use Rattle.recovery_runs.specs.TurnsWell.{RecoveriesTurnWell};
 ghost use Rattle.recovery_runs.specs.Everywhere.{EarlyTurnsStayStill, HooksAreScenarios, NextAreExplained, RecoveriesAreExplained, RecoveriesBegan, RecoveriesFailWell, RecoveriesFinishWell};
 
 /// A recovery in flight began in one of the turns of its run, a command's or a scan's, with its entry in the audit. It
@@ -14,11 +16,13 @@ pub fn recoveries_began()
 /// turn of the recovery counts, all that it came to so far count, and so do all to which it comes in its next turn. One
 /// that answers a failure fails for what befell it in that turn: no candidate only where a decision of it found nobody;
 /// reachable only where its check reached the failed server; moved where the master was seen with a source; else its
-/// operation stopped so; or the hook that was due before it ended it.
+/// operation stopped so; or the hook that was due before it ended it. In each turn whoever it chooses is chosen among
+/// all replicas that aren't lost, and a turn after which it goes on changes only what it may.
 pub fn recoveries_have_true_facts()
     ensures before { RecoveriesAreExplained }
     ensures after { NextAreExplained }
     ensures failed { InEveryState RecoveriesFailForWhatBefell }
+    ensures turns { InEveryState RecoveriesTurnWell }
 {}
 
 /// The turn of a run in which a recovery is done leaves nothing owed, whatever rows the keeper hands back and in
@@ -34,4 +38,12 @@ pub fn recoveries_tell_hooks_in_runs()
     ensures failed { RecoveriesFailWell }
     ensures still { EarlyTurnsStayStill }
     ensures own { HooksAreScenarios }
+{}
+
+/// The first turn of a dead master's or intermediate master's recovery looks at it: one that is reached ends the recovery,
+/// with no hook before it, and one that isn't lets it go on; no later turn answers that it is reached. Then comes a hook
+/// a turn, which goes on exactly where its exit is 0; so all had it where the recovery is done. The first turn of a
+/// takeover ends it where the master isn't reached, or has a source.
+pub fn recoveries_look_first()
+    ensures { RecoveriesLookBefore }
 {}

@@ -18,7 +18,7 @@ recovery_of a = record {
   lead = a.lead;
   eligible = a.eligible.items;
   swaps = a.swaps;
-  outcome = record { promoted = a.promoted; followers = a.followers.items; lost = a.lost.items };
+  outcome = record { promoted = a.outcome.promoted; followers = a.outcome.followers.items; lost = a.outcome.lost.items };
 }
 
 -- one entry for each replica, and some for the servers beside them
@@ -33,8 +33,8 @@ pub record HasRoom (a : Inside) : Type 0 where
   pub matches : room_for a.replicas.items ≤ vec_capacity a.core.matches
   pub hands : room_for a.replicas.items ≤ vec_capacity a.core.hands
   pub drained : room_for a.replicas.items ≤ vec_capacity a.drained
-  pub followers : room_for a.replicas.items ≤ vec_capacity a.followers
-  pub lost : room_for a.replicas.items ≤ vec_capacity a.lost
+  pub followers : room_for a.replicas.items ≤ vec_capacity a.outcome.followers
+  pub lost : room_for a.replicas.items ≤ vec_capacity a.outcome.lost
 
 -- the lists that a stage's end makes longer are shorter than that, the sights by so many
 pub record IsRoomy (more : ℕ) (r : Recovery) : Type 0 where

@@ -9,7 +9,7 @@ use crate::RecoveryJob;
 use crate::job_parts::JobParts;
 use crate::operations_items::Op;
 use crate::orch_base::{Memory, ServerNo};
-use recovery_plans::{Means, Purpose, Stage, Task};
+use recovery_plans::{Means, Outcome, Purpose, Stage, Task};
 use std::alloc::Global;
 
 fn first_stage(purpose: Purpose, failed: ServerNo) -> Stage
@@ -161,9 +161,11 @@ impl RecoveryJob {
             lead: None,
             eligible: Vec::new(alloc),
             swaps: is_master(purpose),
-            promoted: chosen,
-            followers: Vec::with_capacity(alloc, room)?,
-            lost: Vec::with_capacity(alloc, room)?,
+            outcome: Outcome {
+                promoted: chosen,
+                followers: Vec::with_capacity(alloc, room)?,
+                lost: Vec::with_capacity(alloc, room)?,
+            },
         })
     }
 }

@@ -108,7 +108,7 @@ impl RecoveryJob {
             why,
             detached: false,
         };
-        self.lost.push_reserved(replica);
+        self.outcome.lost.push_reserved(replica);
     }
 
     // A replica is below a source.
@@ -116,7 +116,9 @@ impl RecoveryJob {
         requires { length self.old.outcome.followers < room_for self.old.replicas }
         ensures { self.new ≡ follows self.old no source }
     {
-        self.followers.push_reserved(Follower { no, source });
+        self.outcome
+            .followers
+            .push_reserved(Follower { no, source });
     }
 
     // A replica has lost its source.
@@ -125,7 +127,7 @@ impl RecoveryJob {
     {
         match no {
             None => {}
-            Some(no) => let_go(&mut self.followers, no),
+            Some(no) => let_go(&mut self.outcome.followers, no),
         }
     }
 
@@ -133,6 +135,6 @@ impl RecoveryJob {
     pub(crate) fn mark(&mut self, no: ServerNo)
         ensures { self.new ≡ expelled self.old no }
     {
-        mark_all(&mut self.lost, no);
+        mark_all(&mut self.outcome.lost, no);
     }
 }

@@ -78,7 +78,7 @@ impl RecoveryJob {
             chosen: self.chosen,
             eligible: None,
             swaps: self.swaps,
-            promoted: self.promoted,
+            promoted: self.outcome.promoted,
             lost: Vec::new(alloc),
             work: None,
         }
@@ -95,9 +95,9 @@ impl RecoveryJob {
             && self.core.matches.len() < room
             && self.core.hands.len() < room
             && self.drained.len() < room
-            && self.followers.len() < room
-            && self.lost.len() < room
-            && decided.lost.len() < room - self.lost.len()
+            && self.outcome.followers.len() < room
+            && self.outcome.lost.len() < room
+            && decided.lost.len() < room - self.outcome.lost.len()
     }
 }
 
@@ -148,7 +148,7 @@ impl Decided {
     pub(crate) fn lost_one(&self, of: &RecoveryJob, no: ServerNo) -> Option<LostReplica>
         ensures { result ≡ find (λ l. l.no.0 == no.0) (decided_on of.now self.now).outcome.lost }
     {
-        match lost_in(&of.lost, no) {
+        match lost_in(&of.outcome.lost, no) {
             Some(replica) => Some(replica),
             None => lost_in(&self.lost, no),
         }

@@ -48,7 +48,7 @@ impl Decided {
         match self.chosen {
             None => Ok(()),
             Some(promoted) => {
-                let better = better_of(alloc, by, of.failed, promoted, &of.followers)?;
+                let better = better_of(alloc, by, of.failed, promoted, &of.outcome.followers)?;
                 self.swap_by(alloc, of, promoted, better)
             }
         }

@@ -85,7 +85,7 @@ impl RecoveryJob {
         ensures { self.new ≡ swapped self.old p q }
     {
         self.follow(p, q);
-        self.promoted = Some(q);
+        self.outcome.promoted = Some(q);
     }
 
     // Where the designated replica stopped.

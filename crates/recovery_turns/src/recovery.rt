@@ -8,7 +8,7 @@ use crate::job_parts::JobParts;
 use crate::operations_items::Position;
 use crate::orch_base::ServerNo;
 use job_plans::JobView;
-use recovery_plans::{Follower, LostReplica, Means, Purpose, Stage, Stopped, Task};
+use recovery_plans::{Means, Outcome, Purpose, Stage, Stopped, Task};
 use std::marker::Model;
 
 /// What is done with the replicas of a server that failed, or that gives up its place.
@@ -37,11 +37,8 @@ pub struct RecoveryJob {
     pub(crate) eligible: Vec<Stopped>,
     // Whether a better one is still to be looked for.
     pub(crate) swaps: bool,
-    // What it comes to so far: which server is promoted, who follows in the order in which they came there, and who is
-    // lost.
-    pub(crate) promoted: Option<ServerNo>,
-    pub(crate) followers: Vec<Follower>,
-    pub(crate) lost: Vec<LostReplica>,
+    // What it comes to so far.
+    pub(crate) outcome: Outcome,
 }
 
 impl Drop for RecoveryJob {
@@ -61,9 +58,7 @@ impl Drop for RecoveryJob {
             lead: _,
             eligible: _eligible,
             swaps: _,
-            promoted: _,
-            followers: _followers,
-            lost: _lost,
+            outcome: _outcome,
         } = self;
     }
 }
@@ -92,7 +87,16 @@ impl RecoveryJob {
     pub fn promoted(&self) -> Option<ServerNo>
         ensures { result ≡ self.now.outcome.promoted }
     {
-        self.promoted
+        self.outcome.promoted
+    }
+
+    /// What it comes to so far: which server is promoted, who follows, and who is lost. It takes no memory.
+    pub fn outcome(&self) -> &Outcome
+        ensures promoted { result.now.promoted ≡ self.now.outcome.promoted }
+        ensures followers { result.now.followers.items ≡ self.now.outcome.followers }
+        ensures lost { result.now.lost.items ≡ self.now.outcome.lost }
+    {
+        &self.outcome
     }
 
     /// The number of its job.

@@ -15,7 +15,7 @@ use std::alloc::Global;
 fn follower_line(of: &RecoveryJob, no: ServerNo) -> Option<Line>
     ensures { result ≡ follower_line of.now.outcome no }
 {
-    let follower = of.followers.iter().find(|x| x.no.0 == no.0)?;
+    let follower = of.outcome.followers.iter().find(|x| x.no.0 == no.0)?;
     Some(Line::Follows(follower.no, follower.source))
 }
 

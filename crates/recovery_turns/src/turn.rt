@@ -62,7 +62,7 @@ impl RecoveryJob {
               { lost = self.old.outcome.lost ++ more.items };
         } }
     {
-        if self.lost.append(&mut more).is_err() {
+        if self.outcome.lost.append(&mut more).is_err() {
             unreachable!();
         }
     }
@@ -92,7 +92,7 @@ impl RecoveryJob {
             self.eligible = eligible;
         }
         self.swaps = swaps;
-        self.promoted = promoted;
+        self.outcome.promoted = promoted;
         work
     }
 

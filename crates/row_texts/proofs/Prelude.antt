@@ -61,7 +61,7 @@ pub use Rattle.kept_rows.specs.OrchBase.declared.server.SourceState.TheVariants 
 pub use Rattle.row_texts.specs.Fields.{coord_form, empty_form, key_id, key_name, key_word, moment_form, name_form, none_of, none_or, number_within}
 pub use Rattle.row_texts.specs.Fields.{or_else, or_null, outcome_form, set_form, small_form, up_to, whole_form, word_form}
 unfoldable pub use Rattle.row_texts.specs.Fields.{end_at, field_at, server_of}
-pub use Rattle.row_texts.specs.Kept.{AreNames, CanBeKept, IsOldValue, IsPrintable, IsTextOf, IsValueOf}
+pub use Rattle.row_texts.specs.Kept.{AreNames, CanBeKept, IsOldValue, IsPrintable, IsTextOf, IsValueOf, ends_recoveries, is_end}
 pub use Rattle.row_texts.specs.Reading.{is_version, named, pair_of, row_at, value_of, with_list}
 unfoldable pub use Rattle.row_texts.specs.Reading.{read_row, row_in, shape_of, two_of, version_of}
 pub use Rattle.row_texts.specs.Tables.{block_at, ending_of, state_of, tail_at}

@@ -5,7 +5,7 @@ use Rattle.row_texts.proofs.Prelude.{CanBeKept, Coord, Data, Ending, HasText, Ho
 use Rattle.row_texts.proofs.Prelude.{Outcome, RecoveryRow, Row, RowFault, ServerNo, Source, SourceState, SourceWord, Table, active_at, are_known}
 use Rattle.row_texts.proofs.Prelude.{as_array, as_bool, as_str, block_at, boolean, bytes_eq, candidate_at, coord_data, coord_form, downtime_at}
 use Rattle.row_texts.proofs.Prelude.{empty_form, end_at, ending_name, ending_of, ending_servers, eqb-false, eqb-true, field_at, first_block}
-use Rattle.row_texts.proofs.Prelude.{first_tail, get_item, instance_at, io_states, io_text, is_version, key_id, key_name, key_of, key_text, key_word}
+use Rattle.row_texts.proofs.Prelude.{first_tail, get_item, instance_at, io_states, io_text, is_end, is_version, key_id, key_name, key_of, key_text, key_word}
 use Rattle.row_texts.proofs.Prelude.{kind_text, kinds, leb-true, maybe_data, member, moment_data, moment_form, name_form, name_text, no_members}
 use Rattle.row_texts.proofs.Prelude.{object, or_else, or_null, outcome_form, outcome_text, printed as set_text, read_row, recovery_at, row_at}
 use Rattle.row_texts.proofs.Prelude.{row_data, row_in, rule_text, rules, same_text, second_block, second_tail, server_of, set_form, shape_of}
@@ -23,7 +23,7 @@ use Rattle.row_texts.proofs.Prelude.table
 use Rattle.row_texts.proofs.Back.{Begins, bool_back, both, bound, cell, cond_back, empty_back, field_fact, join, list_back, moment_back, no_cell, null_back, null_fact, ok_back, or_back, shape_back, small_back, str_back, then_back, whole_back}
 use Rattle.row_texts.proofs.Ids.{id_back, id_small}
 use Rattle.row_texts.proofs.Sets.{set_from_is}
-use Rattle.row_texts.proofs.WordsBack.{OnlyText, coord_back, coord_fact, name_back, name_form_back, outcome_form_back, server_back, server_known, server_small, set_back, set_fact, word_back}
+use Rattle.row_texts.proofs.WordsBack.{OnlyText, coord_back, coord_fact, name_back, name_form_back, outcome_ends, outcome_fact, outcome_form_back, server_back, server_known, server_small, set_back, set_fact, word_back}
 use Rattle.kept_rows.specs.OrchBase.Gives.{◌>>=◌}
 
 -- what is known of a row that was read of a list of fields
@@ -59,6 +59,16 @@ ending_back names (outcome.Promoted n) e is =
       ap (λ (x : HostPort). outcome.Promoted x) (sym (server_back names n s.0 nobody s.1)) ∙ ap (λ (x : Ending). ending_name names x) k,
       subst (λ (x : Ending). are_known (length names) (ending_servers x) ≡ true) k (one_known names n s.0 s.1),
     )
+
+-- its end is one that recoveries have
+ending_fact : (names : List HostPort) (how : Outcome) (e : Ending) → ending_of names how ≡ Ok e → outcome_ends how ≡ true → is_end e ≡ true
+ending_fact names outcome.Unended e is ends = let k : ending.Unended ≡ e = ok_back _ _ is in subst (λ (x : Ending). is_end x ≡ true) k refl
+ending_fact names outcome.Interrupted e is ends = let k : ending.Interrupted ≡ e = ok_back _ _ is in subst (λ (x : Ending). is_end x ≡ true) k refl
+ending_fact names (outcome.Failed c) e is ends = let k : ending.Failed c ≡ e = ok_back _ _ is in subst (λ (x : Ending). is_end x ≡ true) k ends
+ending_fact names (outcome.Promoted n) e is ends =
+    let s = bound (server_of names n) _ e is in
+    let k : ending.Promoted s.0 ≡ e = ok_back _ _ s.2 in
+    subst (λ (x : Ending). is_end x ≡ true) k refl
 
 -- the word and the text of a source by its name
 abbrev word_by : Source → SourceWord
@@ -390,7 +400,7 @@ recovery_back v names key list ds r is_v is e =
       value = inl (by_block names k v list ds (nat_eq v 1) is refl is_v s7.1 cells);
       of_table = refl;
       at_key = sym (id_back key s8.0 (or_back _ _ s8.0 s8.1));
-      kept = record { known = rw (server_known names s2.0 s9.0 s9.1) by.1; key = id_small key s8.0 (or_back _ _ s8.0 s8.1); form = tt };
+      kept = record { known = rw (server_known names s2.0 s9.0 s9.1) by.1; key = id_small key s8.0 (or_back _ _ s8.0 s8.1); form = ending_fact names s5.0 s10.0 s10.1 (field_fact outcome_form (λ (x : Outcome). outcome_ends x ≡ true) outcome_fact 5 list s5.0 s5.1) };
     })
 
 -- ---- all tables

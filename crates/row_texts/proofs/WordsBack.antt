@@ -1,9 +1,9 @@
 -- From a word back to its text, and from a number back to its server's name.
 use Rattle.std.proofs.Common.{◌≡◌, ℕ, ◌≤◌, ◌<◌, ◌^◌, arith, Bool, true, false, cond, ltb, List, [], ◌∷◌, ◌++◌, length, get_or, Option, Some, None, Result, Ok, Err, refl, sym, ap, ◌∙◌, subst}
 use Rattle.std.specs.Prelude.{◌&&◌, codes, nat_le, nat_lt, find, position, option_map}
-use Rattle.row_texts.proofs.Prelude.{Coord, Data, GtidFault, HasText, HostPort, Interval, IsSet, NameFault, Outcome, ServerNo, after_first}
+use Rattle.row_texts.proofs.Prelude.{CauseName, Coord, Data, GtidFault, HasText, HostPort, Interval, IsSet, NameFault, Outcome, ServerNo, after_first}
 use Rattle.row_texts.proofs.Prelude.{as_printed, as_set, as_str, bytes_eq, cause_text, causes, coord_at, coord_data, coord_form, coord_printed}
-use Rattle.row_texts.proofs.Prelude.{coord_text, eqb-true, is_set, is_space, leb-true, lt-ltb, ltb-false, name_at, name_form, name_printed}
+use Rattle.row_texts.proofs.Prelude.{coord_text, ends_recoveries, eqb-true, is_set, is_space, leb-true, list_all, lt-ltb, ltb-false, name_at, name_form, name_printed}
 use Rattle.row_texts.proofs.Prelude.{named_among, number_within, outcome_form, outcome_of, outcome_printed, outcome_text, position-Some}
 use Rattle.row_texts.proofs.Prelude.{position_or_len, printed as set_text, rest_of, result_ok, same_name, same_name_tells, same_text, server_of}
 use Rattle.row_texts.proofs.Prelude.{set_form, set_printed, split_at_first, string, take_all, text_at, word_form, word_of}
@@ -74,6 +74,52 @@ by_rest s (Some r) o is e = with_space s r is ∙ two_words (bytes_eq (word_of s
 pub outcome_back : (s : List ℕ) (o : Outcome) → outcome_printed s ≡ Some o → s ≡ outcome_text o
 unfolding outcome_printed
 outcome_back s o e = by_rest s (rest_of s) o refl e
+
+-- a cause that is read is one that ends recoveries
+abbrev pub outcome_ends : Outcome → Bool
+outcome_ends outcome.Unended = true
+outcome_ends outcome.Interrupted = true
+outcome_ends (outcome.Promoted n) = true
+outcome_ends (outcome.Failed c) = ends_recoveries c
+
+among_step : {X : Type 0} (test : X → Bool) (y x : X) (rest : Option X) (b : Bool) → test y ≡ true → (rest ≡ Some x → test x ≡ true) → cond b (Some y) rest ≡ Some x → test x ≡ true
+among_step test y x rest true is later e = let here : y ≡ x = cc in subst (λ (z : _). test z ≡ true) here is
+among_step test y x rest false is later e = later e
+
+among : {X : Type 0} (p test : X → Bool) (xs : List X) (x : X) → list_all test xs ≡ true → find p xs ≡ Some x → test x ≡ true
+among p test [] x all e = absurd cc
+among p test (y ∷ ys) x all e =
+    let each = both (test y) (list_all test ys) all in
+    among_step test y x (find p ys) (p y) each.0 (among p test ys x each.1) e
+
+cause_ends : (s : List ℕ) (c : CauseName) → named_among cause_text causes s ≡ Some c → ends_recoveries c ≡ true
+cause_ends s c e = among (λ (k : CauseName). bytes_eq (cause_text k) s) ends_recoveries causes c refl e
+
+one_ends : (b c : Bool) (o : Outcome) → cond b (Some outcome.Unended) (cond c (Some outcome.Interrupted) None) ≡ Some o → outcome_ends o ≡ true
+one_ends true c o e = let k : outcome.Unended ≡ o = cc in subst (λ (x : Outcome). outcome_ends x ≡ true) k refl
+one_ends false true o e = let k : outcome.Interrupted ≡ o = cc in subst (λ (x : Outcome). outcome_ends x ≡ true) k refl
+one_ends false false o e = absurd cc
+
+two_ends : (b c : Bool) (r : List ℕ) (o : Outcome)
+    → cond b (option_map (λ n. outcome.Promoted n) (name_printed r)) (cond c (option_map (λ k. outcome.Failed k) (named_among cause_text causes r)) None) ≡ Some o → outcome_ends o ≡ true
+two_ends true c r o e =
+    let m = map_back (λ n. outcome.Promoted n) (name_printed r) o e in
+    subst (λ (x : Outcome). outcome_ends x ≡ true) m.2 refl
+two_ends false true r o e =
+    let m = map_back (λ k. outcome.Failed k) (named_among cause_text causes r) o e in
+    subst (λ (x : Outcome). outcome_ends x ≡ true) m.2 (cause_ends r m.0 m.1)
+two_ends false false r o e = absurd cc
+
+rest_ends : (word : List ℕ) (rest : Option (List ℕ)) (o : Outcome) → outcome_of word rest ≡ Some o → outcome_ends o ≡ true
+rest_ends word None o e = one_ends (bytes_eq word (codes "unended")) (bytes_eq word (codes "interrupted")) o e
+rest_ends word (Some r) o e = two_ends (bytes_eq word (codes "promoted")) (bytes_eq word (codes "failed")) r o e
+
+printed_ends : (s : List ℕ) (o : Outcome) → outcome_printed s ≡ Some o → outcome_ends o ≡ true
+unfolding outcome_printed
+printed_ends s o e = rest_ends (word_of s) (rest_of s) o e
+
+pub outcome_fact : (d : Data) (o : Outcome) → outcome_form d ≡ Some o → outcome_ends o ≡ true
+outcome_fact d o e = let t = then_back (as_str d) outcome_printed o e in printed_ends t.0 o t.2
 
 -- ---- the forms of fields
 

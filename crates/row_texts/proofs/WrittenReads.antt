@@ -5,8 +5,8 @@ use Rattle.row_texts.proofs.Prelude.{AreNames, CanBeKept, CauseName, Coord, Data
 use Rattle.row_texts.proofs.Prelude.{IsOldValue, IsPrintable, IsSet, IsTextOf, IsValueOf, Items, Kind, Moment, RecoveryRow, Row, Rule, ServerNo}
 use Rattle.row_texts.proofs.Prelude.{Source, SourceState, Table, active_at, are_known, array, at, block_at, block_items, block_version, boolean}
 use Rattle.row_texts.proofs.Prelude.{candidate_at, coord_at, coord_data, coord_form, coord_printed, coord_text, downtime_at, end_at, ending_name}
-use Rattle.row_texts.proofs.Prelude.{ending_of, ending_servers, field_at, first_block, first_tail, instance_at, instance_items, io_states, io_text}
-use Rattle.row_texts.proofs.Prelude.{is_version, item, key_of, key_text, kind_text, kinds, le-leb, lt-ltb, maybe_data, moment_data, moment_form}
+use Rattle.row_texts.proofs.Prelude.{ending_of, ending_servers, ends_recoveries, field_at, first_block, first_tail, instance_at, instance_items, io_states, io_text}
+use Rattle.row_texts.proofs.Prelude.{is_end, is_version, item, key_of, key_text, kind_text, kinds, le-leb, lt-ltb, maybe_data, moment_data, moment_form}
 use Rattle.row_texts.proofs.Prelude.{name_of, name_printed, name_text, named_among, no_items, old_instance_data, or_null, outcome_printed}
 use Rattle.row_texts.proofs.Prelude.{outcome_text, position_or_len, position_or_len_is, printed as set_text, printed_reads_lem as name_printed_reads}
 use Rattle.row_texts.proofs.Prelude.{read_row, recovery_at, recovery_list, row_at, row_data, row_in, rule_text, rules, same_name, same_name_tells}
@@ -91,10 +91,11 @@ word_reads state.Without = refl
 word_reads (state.Attached n) = refl
 word_reads (state.Detached n) = refl
 
-failed_reads : (c : CauseName) → outcome_printed (outcome_text (outcome.Failed c)) ≡ Some (outcome.Failed c)
+failed_reads : (c : CauseName) → ends_recoveries c ≡ true → outcome_printed (outcome_text (outcome.Failed c)) ≡ Some (outcome.Failed c)
 unfolding outcome_printed
-failed_reads cause.Unreachable = refl
-failed_reads _ = refl
+failed_reads cause.NoMark ends = absurd cc
+failed_reads cause.Mismatch ends = absurd cc
+failed_reads _ ends = refl
 
 promoted_reads : (n : HostPort) → IsName n → outcome_printed (outcome_text (outcome.Promoted n)) ≡ Some (outcome.Promoted n)
 unfolding outcome_printed
@@ -108,11 +109,11 @@ interrupted_reads : outcome_printed (codes "interrupted") ≡ Some outcome.Inter
 unfolding outcome_printed
 interrupted_reads = refl
 
-outcome_reads : (names : List HostPort) (e : Ending) → AreNames names → are_known (length names) (ending_servers e) ≡ true → outcome_printed (outcome_text (ending_name names e)) ≡ Some (ending_name names e)
-outcome_reads names ending.Unended h known = unended_reads
-outcome_reads names ending.Interrupted h known = interrupted_reads
-outcome_reads names (ending.Failed c) h known = failed_reads c
-outcome_reads names (ending.Promoted n) h known = promoted_reads (name_of names n) (is_name names n h (first_known (length names) n.0 [] known))
+outcome_reads : (names : List HostPort) (e : Ending) → AreNames names → are_known (length names) (ending_servers e) ≡ true → is_end e ≡ true → outcome_printed (outcome_text (ending_name names e)) ≡ Some (ending_name names e)
+outcome_reads names ending.Unended h known ends = unended_reads
+outcome_reads names ending.Interrupted h known ends = interrupted_reads
+outcome_reads names (ending.Failed c) h known ends = failed_reads c ends
+outcome_reads names (ending.Promoted n) h known ends = promoted_reads (name_of names n) (is_name names n h (first_known (length names) n.0 [] known))
 
 ending_reads : (names : List HostPort) (e : Ending) → AreNames names → are_known (length names) (ending_servers e) ≡ true → ending_of names (ending_name names e) ≡ Ok e
 ending_reads names (ending.Promoted n) h known = rw (server_reads names n h (first_known (length names) n.0 [] known)) refl
@@ -204,17 +205,17 @@ has_version : (block : Option ℕ) → is_version table.Recovery (block_version 
 has_version None = refl
 has_version (Some b) = refl
 
-recovery_reads : (names : List HostPort) (key : List ℕ) (r : RecoveryRow) → AreNames names → r.id < 2 ^ 64 → are_known (length names) (servers_of (row.Recovery r)) ≡ true
+recovery_reads : (names : List HostPort) (key : List ℕ) (r : RecoveryRow) → AreNames names → r.id < 2 ^ 64 → are_known (length names) (servers_of (row.Recovery r)) ≡ true → is_end r.outcome ≡ true
     → recovery_at (block_version r.block) names (key_text names (key_of (row.Recovery r))) (recovery_list names r) ≡ Ok (row.Recovery r)
 unfolding recovery_at field_at
-recovery_reads names key r h id can =
+recovery_reads names key r h id can ends =
     let own = first_known (length names) r.failed.0 (ending_servers r.outcome) can in
     let known = rest_known (length names) r.failed.0 (ending_servers r.outcome) can in
     rw (
       kind_reads r.kind,
       named_reads names r.failed h own,
       ended_reads r.ended,
-      outcome_reads names r.outcome h known,
+      outcome_reads names r.outcome h known ends,
       block_reads _ _ _ _ _ _ _ r.block,
       id_reads r.id id,
       server_reads names r.failed h own,
@@ -233,7 +234,7 @@ written_in law names (row.Downtime d) h can =
 written_in law names (row.Candidate c) h can =
     wrapped_reads table.Candidate 1 names (name_text names c.no) _ refl ∙ candidate_reads names c.no c.rule c.until h (first_known (length names) c.no.0 [] can.known)
 written_in law names (row.Recovery r) h can =
-    wrapped_reads table.Recovery (block_version r.block) names (key_text names (key_of (row.Recovery r))) _ (has_version r.block) ∙ recovery_reads names [] r h can.key can.known
+    wrapped_reads table.Recovery (block_version r.block) names (key_text names (key_of (row.Recovery r))) _ (has_version r.block) ∙ recovery_reads names [] r h can.key can.known can.form
 written_in law names (row.Switch enabled) h can = wrapped_reads table.Switch 1 names (codes "global") _ refl ∙ switch_reads enabled
 written_in law names (row.Active node until) h can = wrapped_reads table.Active 1 names (codes "active") _ refl ∙ active_reads node until can.form
 

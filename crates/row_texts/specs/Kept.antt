@@ -1,7 +1,9 @@
 -- The rows that a book can hold, and which value reads as one.
-use Rattle.std.specs.Prelude.{◌≡◌, ◌<◌, ◌≤◌, ◌^◌, ◌⊎◌, [], ℕ, List, length, false, true, IfSome, Some, ⊤}
-use Rattle.row_texts.specs.Prelude.{All, AllPairs, Data, HasText, HostPort, IsKeyInRange, IsName, IsSet, Row, Status as Seen, are_known, key_of}
-use Rattle.row_texts.specs.Prelude.{same_name, servers_of}
+use Rattle.std.specs.Prelude.{◌≡◌, ◌<◌, ◌≤◌, ◌^◌, ◌⊎◌, [], ℕ, Bool, List, length, false, true, IfSome, Some, ⊤}
+use Rattle.row_texts.specs.Prelude.{All, AllPairs, CauseName, Data, Ending, HasText, HostPort, IsKeyInRange, IsName, IsSet, Row, Status as Seen}
+use Rattle.row_texts.specs.Prelude.{are_known, key_of, same_name, servers_of}
+use Rattle.row_texts.specs.Prelude.cause
+use Rattle.row_texts.specs.Prelude.ending
 use Rattle.row_texts.specs.Prelude.row
 use Rattle.row_texts.specs.Reading.{value_of}
 use Rattle.row_texts.specs.Written.{old_instance_data, row_data}
@@ -21,15 +23,39 @@ pub record IsPrintable (s : Seen) : Type 0 where
   pub first : s.first < 2 ^ 32
   pub purged : IsSet s.purged
 
+-- whether a recovery can end by the cause: by each but those of a match
+abbrev pub ends_recoveries : CauseName → Bool
+ends_recoveries cause.Unreachable = true
+ends_recoveries cause.WaitSpent = true
+ends_recoveries cause.Interfered = true
+ends_recoveries cause.Running = true
+ends_recoveries cause.Loop = true
+ends_recoveries cause.Errant = true
+ends_recoveries cause.Moved = true
+ends_recoveries cause.Reachable = true
+ends_recoveries cause.NoCandidate = true
+ends_recoveries cause.Purged = true
+ends_recoveries cause.NoMark = false
+ends_recoveries cause.Mismatch = false
+ends_recoveries cause.HookFailed = true
+
+-- whether a recovery can end so
+abbrev pub is_end : Ending → Bool
+is_end ending.Unended = true
+is_end (ending.Promoted n) = true
+is_end (ending.Failed c) = ends_recoveries c
+is_end ending.Interrupted = true
+
 abbrev pub HasForm : Row → Type 0
 HasForm (row.Instance i) = IsPrintable i.seen
 HasForm (row.Downtime d) = ⊤
 HasForm (row.Candidate c) = ⊤
-HasForm (row.Recovery r) = ⊤
+HasForm (row.Recovery r) = is_end r.outcome ≡ true
 HasForm (row.Switch enabled) = ⊤
 HasForm (row.Active node until) = node < 2 ^ 32
 
--- a row whose servers have these names, with numbers and texts in their types' ranges
+-- a row whose servers have these names, with numbers and texts in their types' ranges; a recovery's end is one that
+-- recoveries have
 pub record CanBeKept (names : List HostPort) (r : Row) : Type 0 where
   pub known : are_known (length names) (servers_of r) ≡ true
   pub key : IsKeyInRange (key_of r)

@@ -68,9 +68,10 @@ cause_text cause.NoMark = codes "NoMark"
 cause_text cause.Mismatch = codes "Mismatch"
 cause_text cause.HookFailed = codes "HookFailed"
 
+-- the causes that a recovery can end by; no recovery matches logs
 abbrev pub causes : List CauseName
 causes = cause.Unreachable ∷ cause.WaitSpent ∷ cause.Interfered ∷ cause.Running ∷ cause.Loop ∷ cause.Errant ∷ cause.Moved ∷ cause.Reachable
-    ∷ cause.NoCandidate ∷ cause.Purged ∷ cause.NoMark ∷ cause.Mismatch ∷ cause.HookFailed ∷ []
+    ∷ cause.NoCandidate ∷ cause.Purged ∷ cause.HookFailed ∷ []
 
 -- the first of these that has this word
 abbrev pub named_among : {W : Type 0} → (W → List ℕ) → List W → List ℕ → Option W

@@ -215,8 +215,6 @@ fn cause_named(text: &str) -> Option<CauseName>
         CauseName::Reachable,
         CauseName::NoCandidate,
         CauseName::Purged,
-        CauseName::NoMark,
-        CauseName::Mismatch,
         CauseName::HookFailed,
     ];
     named_among(&causes, text)

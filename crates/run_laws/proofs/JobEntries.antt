@@ -454,7 +454,7 @@ paired-run low count s (x ∷ xs) all ready is =
     let fits = All-head (IsTurn count) x.1 (turns_of xs) all in
     paired-run low count (turn_step x.0 s x.1) xs (All-tail (IsTurn count) x.1 (turns_of xs) all) (reckoned-step count x.0 s x.1 ready fits) (paired-step low count x.0 s x.1 ready fits is)
 
-paired-comes : (s : Scenario) (xs : List (List Row × Turn)) (last : State) → ComesTo s xs last → IsPaired 0 last
+pub paired-comes : (s : Scenario) (xs : List (List Row × Turn)) (last : State) → ComesTo s xs last → IsPaired 0 last
 paired-comes s xs last comes =
     subst (IsPaired 0) (sym comes.state)
     (paired-run 0 (length s.opening.servers) (start s comes.wait comes.rows) xs comes.turns (reckoned-start s comes.wait comes.rows comes.scenario)

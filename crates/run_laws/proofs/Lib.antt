@@ -37,6 +37,13 @@ pub mod Plain
 pub mod Marks
 pub mod RunLaws
 pub mod NodeClaims
+pub mod Acting
+pub mod Making
+pub mod Readings
+pub mod Moments
+pub mod Waits
+pub mod Tables
+pub mod Stopping
 pub mod ClaimKept
 pub mod JobTurns
 pub mod Lowest
@@ -52,6 +59,7 @@ pub use Rattle.orch_core.proofs.OpeningsProofs as OpeningsProofs
 pub use Rattle.orch_core.proofs.OperationsProofs as OperationsProofs
 pub mod OrchCore
 pub use Rattle.orch_core.proofs.RecoveryCore as RecoveryCore
+pub use Rattle.recovery_covers.proofs.RecoveryEnds as RecoveryEnds
 pub use Rattle.recovery_covers.proofs.RecoveryLaws as RecoveryLaws
 pub use Rattle.orch_core.proofs.RecoveryPlans as RecoveryPlans
 pub use Rattle.recovery_covers.proofs.ReplicationLaws as ReplicationLaws

@@ -19,7 +19,7 @@ use Rattle.run_laws.proofs.Counting.{IsReckoned, moment-stays, reckoned-step}
 
 -- ---- the moment never falls
 
-raised : (now : ℕ) (rs : List Recovery) → now ≤ latest_recovery now rs
+pub raised : (now : ℕ) (rs : List Recovery) → now ≤ latest_recovery now rs
 raised now [] = omega arith
 raised now (r ∷ rs) = let more = raised (end_or (max now r.begun.0) r.ended) rs in let here = ended r.ended in omega (arith, more, here)
   where
@@ -27,15 +27,15 @@ raised now (r ∷ rs) = let more = raised (end_or (max now r.begun.0) r.ended) r
     ended None = omega arith
     ended (Some e) = omega arith
 
-act-later : (rows : List Row) (s : State) (a : Act) → s.moment ≤ (after_act rows s a).moment
+pub act-later : (rows : List Row) (s : State) (a : Act) → s.moment ≤ (after_act rows s a).moment
 act-later rows s act.Restart = raised s.moment (reloaded_audit rows s).recoveries
 act-later rows s _ = omega arith
 
-done-later : (rows : List Row) (s : State) (o : Option Act) → s.moment ≤ (after_done rows s o).moment
+pub done-later : (rows : List Row) (s : State) (o : Option Act) → s.moment ≤ (after_done rows s o).moment
 done-later rows s None = omega arith
 done-later rows s (Some a) = act-later rows s a
 
-tick-later : (now seconds : ℕ) → now ≤ greatest → now ≤ later now seconds
+pub tick-later : (now seconds : ℕ) → now ≤ greatest → now ≤ later now seconds
 tick-later now seconds most = omega (arith, most)
 
 pub act-claims : (rows : List Row) (s : State) (a : Act) → (after_act rows s a).claims ≡ s.claims
@@ -120,7 +120,7 @@ lapsed-idle s t rows node a is none =
 
 -- ---- claims
 
-held-answer : (a : ClaimAnswer) (until : Moment) → claim_reply a ≡ answered.Held until → a ≡ claim.Held until
+pub held-answer : (a : ClaimAnswer) (until : Moment) → claim_reply a ≡ answered.Held until → a ≡ claim.Held until
 held-answer (claim.Taken other end) until e = absurd cc
 held-answer (claim.Held end) until e = ap claim.Held (same e)
   where
@@ -141,7 +141,7 @@ pub waits : (s : State) (t : Turn) → ClaimsWait s t
 waits s t node other until end is e kept differs =
     held-waits s.claims node s.moment other until end (held-answer (claimed s node) until (ap (reply_of s) (sym is) ∙ e)) kept differs
 
-passes-on : (last node : ℕ) → last ≢ node → not (last == node) ≡ true
+pub passes-on : (last node : ℕ) → last ≢ node → not (last == node) ≡ true
 passes-on last node differs = go (last == node) refl
   where
     go : (b : Bool) → (last == node) ≡ b → not b ≡ true

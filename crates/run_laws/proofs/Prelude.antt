@@ -287,6 +287,8 @@ pub use Rattle.recovery_covers.proofs.ReplicationLaws.Files.{not_full-files}
 pub use Rattle.recovery_covers.proofs.ReplicationLaws.Keeping.{Placed-safe}
 pub use Rattle.recovery_covers.proofs.ReplicationLaws.Runs as exchanges
 pub use Rattle.recovery_covers.specs.ReplicationLaws.Room.{HasFiles, IsNotFull}
+pub use Rattle.run_laws.specs.Acting.{ActiveActAlike, HeldLastAMinute, IsRestartAndClaim, LapsedKeepNothing, PassingRestarts, RenewingClaimsAlone}
+pub use Rattle.run_laws.specs.Acting.{TakenChangeNothing}
 pub use Rattle.run_laws.specs.Aims.{IsAbout, IsAimed, IsAskedBy, IsAskedIn, IsAskedOf, IsFor}
 pub use Rattle.run_laws.specs.Answering.{ScansTryByTable}
 pub use Rattle.run_laws.specs.Begins.{BeginApartInTurn, BeginsApart, NamesReplicasOnce, entries_of}
@@ -357,3 +359,68 @@ pub use Rattle.unended_laws.specs.Flights.{HeldJobs, SoundJobs}
 pub use Rattle.unended_laws.specs.Passages.{IsListed}
 pub use Rattle.orch_core.proofs.WorldOpenings.Opened.{given-opened}
 pub use Rattle.orch_core.specs.WorldOpenings.Room.{room_for}
+pub use Rattle.std.proofs.lemmas.Bool.{eqb-false}
+pub use Rattle.orch_core.specs.BookCommands.Decisions.{book_after as book_decided}
+pub use Rattle.orch_core.specs.CommandOutcomes.Outcomes.{about as given_or}
+pub use Rattle.orch_core.specs.CommandOutcomes.declared.command.Update.{Update}
+pub use Rattle.orch_core.specs.CommandOutcomes.declared.command.Update.TheVariants as update
+pub use Rattle.orch_core.specs.HookTexts.declared.hooks.Hook.{Hook}
+pub use Rattle.orch_core.specs.InstanceKeeper.Book.{after_discovery, after_store}
+pub use Rattle.orch_core.specs.JobsInFlight.Jobs.{reads_with}
+pub use Rattle.orch_core.specs.OpeningBook.Counting.{last_read, later_read}
+pub use Rattle.orch_core.specs.RecoveryHooks.Runs.{HookState}
+pub use Rattle.orch_core.specs.RecoveryPlans.Recoveries.{Recovery as RecoveryJob}
+pub use Rattle.orch_core.specs.Settling.{settled as state_settled}
+pub use Rattle.orch_core.specs.UnendedJobs.Hooked.{front_hook, front_turn, rear_hook, rear_turn}
+pub use Rattle.run_laws.specs.Readings.{DiscoveriesRead, IsDiscovered, IsKeptSo, JobsStore, OpeningsGiveNumbers, PollsRead, PollsStore, ReadingsNeverSink}
+pub use Rattle.run_laws.specs.Readings.{as_read, deed_in, first_op, shown_at, unless_hook}
+pub use Rattle.orch_core.specs.OpeningBook.Counting.{raised as row_raised}
+pub use Rattle.run_laws.specs.Moments.{IsPast, JobsRise, LastJobNeverSinks, NothingIsToCome, PassesTime}
+pub use Rattle.orch_core.proofs.RecoveryPlans.Walking.{KeepsAlways, always, kept-whole}
+pub use Rattle.orch_core.specs.RecoveryPlans.Moves.{Does, borne, decided_by, ended_by, fate_of}
+pub use Rattle.orch_core.specs.RecoveryPlans.Moves as move
+pub use Rattle.orch_core.specs.RecoveryPlans.Stages.{leaver, moved}
+pub use Rattle.orch_core.specs.RecoveryPlans.Recoveries.{follows_no_more}
+pub use Rattle.orch_core.specs.RecoveryPlans.Taking.{entered}
+pub use Rattle.cause_laws.specs.Events.{IsTaken}
+pub use Rattle.cause_laws.specs.Events as events
+pub use Rattle.cause_laws.proofs.Taking.{deed-taken}
+pub use Rattle.orch_core.specs.Operations.Turns.{going}
+pub use Rattle.run_laws.specs.Waits.{BegunMayWait, JobsMayWait, MayWait}
+pub use Rattle.orch_core.specs.BinlogCoords.Log.{is_before}
+pub use Rattle.orch_core.specs.FailureAnalysis.Analysis.{is_connected, is_replica_that, lags, replicates}
+pub use Rattle.orch_core.specs.InstanceKeeper.Book.{end_after, rule_after, rule_at}
+pub use Rattle.orch_core.specs.JobsInFlight.Rounds.{polls, replicates as replicates_turns}
+pub use Rattle.orch_core.specs.OrchBase.declared.server.IoState.{IoState}
+pub use Rattle.orch_core.specs.OrchBase.declared.server.IoState.TheVariants as io
+pub use Rattle.orch_core.specs.OrchBase.declared.rule.Rule.TheVariants as rule
+pub use Rattle.orch_core.specs.Rounds.{round_of}
+pub use Rattle.orch_core.specs.ServerModel.Desk.{after_change as changed_server, healed}
+pub use Rattle.orch_core.specs.ServerModel.Exchanges.{after_write, is_attached, own_txn, took, write, write_answer}
+pub use Rattle.orch_core.specs.ServerWords.declared.answers.WriteAnswer.{WriteAnswer}
+pub use Rattle.orch_core.specs.ServerWords.declared.answers.WriteAnswer.TheVariants as wrote
+pub use Rattle.std.specs.List.{flat_map}
+pub use Rattle.std.proofs.lemmas.List.{drop-append-le, length-append}
+pub use Rattle.std.proofs.lemmas.List.Elements.{All-contains, Contains-append_left, Contains-append_right, Contains-get_or}
+pub use Rattle.orch_core.specs.OrchBase.Histories.{count_own}
+pub use Rattle.run_laws.specs.Tables.{AnswersWrites, CountsByInstances, CountsReplicas, EndsInTime, KeepsSixteen, Replicates, RunsAllServers, ServersByTable}
+pub use Rattle.run_laws.specs.Tables.{StartsAgain, ThreadsByTable, WritesByTable}
+pub use Rattle.orch_core.specs.CommandRoutes.declared.kinds.CoordsCommand.{CoordsCommand}
+pub use Rattle.orch_core.specs.CommandRoutes.declared.kinds.CoordsCommand.TheVariants as coords_kind
+pub use Rattle.orch_core.specs.CommandRoutes.declared.kinds.GtidCommand.{GtidCommand}
+pub use Rattle.orch_core.specs.CommandRoutes.declared.kinds.GtidCommand.TheVariants as gtid_kind
+pub use Rattle.orch_core.specs.MovesCoords.Commands.{coords_command}
+pub use Rattle.orch_core.specs.MovesCoords.Permits.{by_gtids}
+pub use Rattle.orch_core.specs.MovesCoords.Plans as coords_plans
+pub use Rattle.orch_core.specs.MovesGtid.Commands.{gtid_command}
+pub use Rattle.orch_core.specs.MovesGtid.Plans as gtid_plans
+pub use Rattle.orch_core.specs.Operations.Plans.{again, auto, finished, swap, under, up}
+pub use Rattle.orch_core.specs.Operations.declared.op.Op.TheVariants as op
+pub use Rattle.orch_core.specs.Permission.Replicas.{replicas_but, siblings_of}
+pub use Rattle.orch_core.specs.Permission.Rows.{about as about_kind}
+pub use Rattle.orch_core.specs.Permission.Views.{source_above}
+pub use Rattle.orch_core.specs.PlanParts.Parts.{again_auto, autos, matching as matching_plan, matchings, unders, ups}
+pub use Rattle.orch_core.specs.PseudoMatch.Plans as match_plans
+pub use Rattle.orch_core.specs.Regroup.Plans as path_plans
+pub use Rattle.orch_core.specs.Regroup.Ways.{Path, path_of}
+pub use Rattle.run_laws.specs.Stopping.{PlansStartAgain, StartsWhatItStops, after_deed, left_stopped}

@@ -24,8 +24,9 @@ pub record Shows (w : World) (at : Moment) (c : Change) : Type 0 where
   pub there : server_at w n ≡ Some server
   pub is : c ≡ change.Put (row.Instance (opening_instance w at n server))
 
--- a change that leaves bridges and leases
+-- a change that leaves instances, bridges and leases
 pub record LeavesBridges (c : Change) : Type 0 where
+  pub instances : (b : BookState) → (after_opening b c).instances ≡ b.instances
   pub rings : (b : BookState) → (after_opening b c).rings ≡ b.rings
   pub leases : (b : BookState) → (after_opening b c).leases ≡ b.leases
 
@@ -50,7 +51,7 @@ Opens-registering w at b n (Some rule) = go (has_row b (row.Candidate (registere
   where
     go : (had : Bool) → IfSome (if had then None else Some (change.Put (row.Candidate (registered at n rule)))) (Opens w at)
     go true = tt
-    go false = inr (record { rings = λ b. refl; leases = λ b. refl })
+    go false = inr (record { instances = λ b. refl; rings = λ b. refl; leases = λ b. refl })
 
 pub Opens-start : (s : Scenario) (rows : List Row) → All (Opens (start_world s) (start_moment s rows)) (start_changes s rows)
 Opens-start s rows =
@@ -60,7 +61,7 @@ Opens-start s rows =
     let P : Change → Type 0 = Opens w at in
     let a = loaded_audit s rows in
     all-opening P w at b s.known s.rules (loading (period_of s) (start_rows s rows) a at) (all-from P (missing w at b) 0 s.known (λ n k h. Opens-missing w at b n k)) (all-from P (registering at b) 0 s.rules (λ n rule h. Opens-registering w at b n rule))
-    (all-loading P (period_of s) (start_rows s rows) a at (λ r. inr (record { rings = λ b. refl; leases = λ b. refl })))
+    (all-loading P (period_of s) (start_rows s rows) a at (λ r. inr (record { instances = λ b. refl; rings = λ b. refl; leases = λ b. refl })))
 
 -- ---- the rings
 

@@ -39,9 +39,10 @@ pub use Rattle.recovery_covers.specs.JobLaws.Flights.{Flight}
 pub use Rattle.recovery_covers.specs.JobLaws.Leases.{HasLeases, IsLeased, leases_of}
 pub use Rattle.recovery_covers.specs.JobLaws.Passages.{AllMayPass, AllPassWell, Passage, passing}
 pub use Rattle.recovery_covers.specs.JobLaws.Passages as pass
-pub use Rattle.orch_core.specs.JobsInFlight.Jobs.{is_open, job_at, most_turns}
+pub use Rattle.orch_core.specs.JobsInFlight.Jobs.{Rise, is_open, job_at, most_turns}
 pub use Rattle.orch_core.specs.KeptRows.Recoveries.{as_row, put_recovery}
 pub use Rattle.orch_core.specs.KeptRows.Rows.{IsRising, changed, row_in, sort_key}
+pub use Rattle.orch_core.specs.KeptRows.Seeing.{seen_in}
 pub use Rattle.orch_core.specs.KeptRows.declared.observation.Instance.{Instance}
 pub use Rattle.orch_core.specs.KeptRows.declared.observation.Observation.{Observation}
 pub use Rattle.orch_core.specs.KeptRows.declared.recovery.Recovery.{Recovery}
@@ -55,7 +56,8 @@ pub use Rattle.orch_core.specs.NodeClaims.Claims.{active}
 pub use Rattle.orch_core.specs.NodeClaims.Reached.{IsActive, IsReached}
 pub use Rattle.orch_core.specs.OpeningBook.Counting.{counts, greatest_id}
 pub use Rattle.orch_core.specs.OpeningBook.Following.{Follow, FollowAudit}
-pub use Rattle.orch_core.specs.Operations.Deeds.{deed_of}
+pub use Rattle.orch_core.specs.Operations.Deeds.{Deed, deed_of}
+pub use Rattle.orch_core.specs.Operations.Deeds as deed
 pub use Rattle.orch_core.specs.Operations.Ending.{turns_left}
 pub use Rattle.orch_core.specs.Operations.Jobs.{Job}
 pub use Rattle.orch_core.specs.Operations.Matching.{match_logs}
@@ -70,7 +72,7 @@ pub use Rattle.orch_core.specs.OrchBase.declared.recovery.Kind.TheVariants as ki
 pub use Rattle.orch_core.specs.OrchBase.declared.server.Moment.{Moment}
 pub use Rattle.orch_core.specs.OrchBase.declared.server.ServerNo.{ServerNo}
 pub use Rattle.orch_core.specs.After.{after_restart, step}
-pub use Rattle.orch_core.specs.Nodes.{act_in, acts, claim_or, claims_after}
+pub use Rattle.orch_core.specs.Nodes.{act_in, acts, claim_changes, claim_or, claims_after, with_claims}
 pub use Rattle.orch_core.specs.RefusedCommands.{refusal_at, unreached}
 pub use Rattle.orch_core.specs.RefusedCommands
 pub use Rattle.orch_core.specs.Polls.{changes_of, numbers_of, reading, slot_at}
@@ -88,6 +90,7 @@ pub use Rattle.orch_core.specs.RecoveryCore.Tries.{Begins, recovery_try, takeove
 pub use Rattle.recovery_covers.specs.Covers.{AreReplicas}
 pub use Rattle.orch_core.specs.RecoveryPermits.declared.attempt.Attempt.{Attempt}
 pub use Rattle.orch_core.specs.RecoveryPlans.Beginning.{is_takeover}
+pub use Rattle.orch_core.specs.RecoveryPlans.Deciding.{decided, ground_of}
 pub use Rattle.orch_core.specs.RecoveryPlans.Recoveries
 pub use Rattle.orch_core.specs.RecoveryPlans.Taking.{Taken}
 pub use Rattle.orch_core.specs.RecoveryPlans.declared.purpose.Purpose.{Purpose}
@@ -99,12 +102,14 @@ pub use Rattle.orch_core.specs.Scenarios.declared.scenario.Scenario.{Scenario}
 pub use Rattle.orch_core.specs.ServerModel.Attach.{live_spot, same_spot}
 pub use Rattle.orch_core.specs.ServerModel.Desk.{rotate}
 pub use Rattle.orch_core.specs.ServerModel.Exchanges.{apply}
+pub use Rattle.orch_core.specs.ServerModel.Gtids.{status}
 pub use Rattle.orch_core.specs.ServerModel.Run.{Exchange, IsJunction, run}
 pub use Rattle.orch_core.specs.ServerModel.Safe.{IsQuiet, Placed, Safe}
 pub use Rattle.orch_core.specs.ServerModel.Worlds.{World, server_at}
 pub use Rattle.orch_core.specs.ServerModel.declared.server.Server.{Server}
 pub use Rattle.orch_core.specs.ServerWords.declared.answers.ApplyAnswer.TheVariants as applied
 pub use Rattle.orch_core.specs.ServerWords.declared.answers.RotateAnswer.TheVariants as rotated
+pub use Rattle.orch_core.specs.ServerWords.declared.status.Status.{Status}
 pub use Rattle.orch_core.specs.Turns.declared.reply.Failure.{Failure}
 pub use Rattle.orch_core.specs.Turns.declared.reply.Reply.TheVariants as answered
 pub use Rattle.orch_core.specs.Turns.declared.turn.Act.{Act}
@@ -112,9 +117,36 @@ pub use Rattle.orch_core.specs.Turns.declared.turn.Act.TheVariants as act
 pub use Rattle.orch_core.specs.Turns.declared.turn.Step.TheVariants as turns_step
 pub use Rattle.orch_core.specs.Turns.declared.turn.Turn.{Turn}
 pub use Rattle.orch_core.specs.Turns.declared.turn.Turn.TheVariants as turn
-pub use Rattle.orch_core.specs.UnendedJobs.Hooked.{hooked}
+pub use Rattle.orch_core.specs.UnendedJobs.Hooked.{front_hook, hooked}
 pub use Rattle.orch_core.specs.UnendedJobs.Unended.{IsReady, core_of, number_of}
 pub use Rattle.orch_core.specs.UnendedJobs.declared.unended.Unended.{Unended}
 pub use Rattle.orch_core.specs.UnendedJobs.declared.unended.Unended.TheVariants as unended
 pub use Rattle.unended_laws.specs.Flights.{HeldJobs, SoundJobs}
 pub use Rattle.unended_laws.specs.Passages.{passages_by}
+pub use Rattle.orch_core.specs.BinlogCoords.Log.{is_before}
+pub use Rattle.orch_core.specs.FailureAnalysis.Analysis.{counts_of, is_replica_that, lags, replicates}
+pub use Rattle.orch_core.specs.InstanceKeeper.Book.{downtime_at, rule_at}
+pub use Rattle.orch_core.specs.InstanceKeeper.Bridges.{with_bridge}
+pub use Rattle.orch_core.specs.InstanceKeeper.Had.{candidate_kept, downtime_kept}
+pub use Rattle.orch_core.specs.InstanceKeeper.declared.bridge.Bridge.{Bridge}
+pub use Rattle.orch_core.specs.KeptRows.declared.row.Candidate.{Candidate}
+pub use Rattle.orch_core.specs.KeptRows.declared.row.Downtime.{Downtime}
+unfoldable pub use Rattle.orch_core.specs.NameOrder.NameOrder.{by_name}
+pub use Rattle.orch_core.specs.OrchBase.declared.server.IoState.TheVariants as io
+pub use Rattle.orch_core.specs.OrchBase.declared.rule.Rule.TheVariants as rule
+pub use Rattle.orch_core.specs.Rounds.{round_of}
+pub use Rattle.orch_core.specs.ServerModel.Desk.{asked}
+pub use Rattle.orch_core.specs.ServerModel.Exchanges.{is_attached, write}
+pub use Rattle.orch_core.specs.ServerModel.Run.{after}
+pub use Rattle.orch_core.specs.ServerModel.Run as exchange
+pub use Rattle.orch_core.specs.ServerWords.declared.answers.WriteAnswer.TheVariants as wrote
+pub use Rattle.orch_core.specs.ServerWords.declared.changes.Ask.TheVariants as asking
+pub use Rattle.orch_core.specs.ServerWords.declared.changes.Event.TheVariants as event
+pub use Rattle.orch_core.specs.ServerWords.declared.changes.Threads.TheVariants as threads
+pub use Rattle.orch_core.specs.CommandRoutes.declared.kinds.CoordsCommand.TheVariants as coords_kind
+pub use Rattle.orch_core.specs.MovesCoords.Commands.{coords_command}
+pub use Rattle.orch_core.specs.MovesCoords.Plans as coords_plans
+pub use Rattle.orch_core.specs.MovesGtid.Plans as gtid_plans
+pub use Rattle.orch_core.specs.PseudoMatch.Plans as match_plans
+pub use Rattle.orch_core.specs.Regroup.Plans as path_plans
+pub use Rattle.orch_core.specs.ServerWords.declared.changes.Ask.{Ask}

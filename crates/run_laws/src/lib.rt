@@ -7,6 +7,7 @@ mod blocks;
 mod claims;
 mod flights;
 mod keeping;
+mod knowing;
 mod logging;
 mod replicas;
 mod runs;
@@ -20,6 +21,9 @@ pub use flights::{
     jobs_leave_fewer_turns, turns_are_passages,
 };
 pub use keeping::kept_rows_follow;
+pub use knowing::{
+    jobs_wait_as_told, readings_are_stored, tables_hold_row_by_row, time_and_numbers_rise,
+};
 pub use logging::{every_audit_is_apart, recoveries_begin_apart};
 pub use orch_core::{
     binlog_coords_items, gtid_sets, instance_keeper_items, kept_rows_items, orch_base,

@@ -2,15 +2,15 @@
 
 ghost use Rattle.std.specs.Prelude.{◌≡◌, IfOk};
 ghost use Rattle.scenarios.specs.OrchBase.Gives.{Gives};
-ghost use Rattle.scenario_json.specs.View.{view, members_view};
+ghost use Rattle.serde_json.specs.View.{view, members_view};
 ghost use Rattle.scenario_values.specs.Faults.{fault_of, under as place_under, each_member};
 ghost use Rattle.scenario_filters.specs.Aliases.{alias_in, aliases_in};
 ghost use Rattle.scenario_filters.specs.AliasTable.{alias_at, IsAliasTable};
 
 use crate::orch_base::Memory;
-use scenario_json::Value;
 use scenario_values::{ReadFault, label_or_fails, members_in, text_in, text_within, under};
 use scenarios::{Alias, Aliases};
+use serde_json::{Map, Value};
 use std::alloc::Global;
 use std::collections::HashMap;
 
@@ -31,12 +31,12 @@ fn alias_at(alloc: Global, label: &str, value: &Value) -> Result<Alias, ReadFaul
     under(alloc, label.as_bytes(), alias_in(alloc, label, value))
 }
 
-fn aliases_from(alloc: Global, members: &[(&str, Value)]) -> Result<Vec<Alias>, ReadFault>
-    ensures { Gives (λ v. v.items) fault_of result (each_member alias_in (members_view members.now)) }
+fn aliases_from(alloc: Global, members: &Map<String, Value>) -> Result<Vec<Alias>, ReadFault>
+    ensures { Gives (λ v. v.items) fault_of result (each_member alias_in (members_view members.now.entries)) }
 {
     let mut aliases = Vec::new(alloc);
     for (label, value) in members {
-        aliases.push(alias_at(alloc, label, value)?)?;
+        aliases.push(alias_at(alloc, label.as_str(), value)?)?;
     }
     Ok(aliases)
 }

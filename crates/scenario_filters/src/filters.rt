@@ -2,7 +2,7 @@
 
 ghost use Rattle.std.specs.Prelude.{◌≡◌, true, map, string_bytes, IfOk, OnOk};
 ghost use Rattle.scenarios.specs.OrchBase.Gives.{Gives};
-ghost use Rattle.scenario_json.specs.View.{view, items_view};
+ghost use Rattle.serde_json.specs.View.{view, items_view};
 ghost use Rattle.cluster_filters.specs.Forms.{form_of, has_pattern};
 ghost use Rattle.scenario_values.specs.declared.fault.FaultCode.TheVariants.{BadPattern};
 ghost use Rattle.scenario_values.specs.Faults.{fault_of, holds, optional, under_item, each};
@@ -10,11 +10,11 @@ ghost use Rattle.scenario_filters.specs.Filters.{filter_in, list_in, everything,
 
 use crate::orch_base::Memory;
 use cluster_filters::{FilterFault, Filters};
-use scenario_json::Value;
 use scenario_values::{
     FaultCode, ReadFault, fails, items_in, members_in, only_keys, text_in, under, under_item,
 };
 use scenarios::Texts;
+use serde_json::Value;
 use std::alloc::Global;
 
 /// The texts of the two lists of filters.

@@ -21,8 +21,6 @@ pub use Rattle.scenarios.specs.OrchBase.declared.source.TheConstants.{MAX_SCENAR
 unfoldable pub use Rattle.scenario_filters.specs.Aliases.{aliases_in}
 pub use Rattle.scenario_filters.specs.Filters.{answered, no_filters}
 unfoldable pub use Rattle.scenario_filters.specs.Filters.{filters_in}
-pub use Rattle.scenario_json.specs.View.{items_view, view}
-pub use Rattle.scenario_json.specs.declared.value.Value.{Value}
 pub use Rattle.scenario_openings.specs.Openings.{code_of, fails_at, is_small, keys_of, listed_count, opening_or_fails}
 unfoldable pub use Rattle.scenario_openings.specs.Openings.{opening_in}
 pub use Rattle.scenario_reader.specs.Blocks.{period_in}
@@ -59,4 +57,6 @@ pub use Rattle.scenarios.specs.declared.scenario.Scenario.{Scenario}
 pub use Rattle.serde_json.specs.Data.{Data, Items, item, no_items}
 pub use Rattle.serde_json.specs.Find.{get}
 pub use Rattle.serde_json.specs.Read.{read}
+pub use Rattle.serde_json.specs.View.{items_view, view}
+pub use Rattle.serde_json.specs.declared.value.Value.{Value}
 pub use Rattle.scenarios.specs.Turns.declared.turn.Turn.{Turn}

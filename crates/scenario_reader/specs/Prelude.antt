@@ -11,7 +11,6 @@ pub use Rattle.scenarios.specs.OrchBase.declared.source.TheConstants.{MAX_SCENAR
 unfoldable pub use Rattle.scenario_filters.specs.Aliases.{aliases_in}
 pub use Rattle.scenario_filters.specs.Filters.{AreRead, answered, no_filters}
 unfoldable pub use Rattle.scenario_filters.specs.Filters.{filters_in}
-pub use Rattle.scenario_json.specs.View.{items_view, members_view, view}
 pub use Rattle.scenario_openings.specs.Openings.{is_small, listed_count}
 unfoldable pub use Rattle.scenario_openings.specs.Openings.{opening_in}
 pub use Rattle.scenario_servers.specs.Openings.{IsGiven, inits_of, known_of, rules_of}
@@ -32,4 +31,5 @@ pub use Rattle.scenarios.specs.declared.scenario.Scenario.{Scenario}
 pub use Rattle.serde_json.specs.Data.{Data, Items, item, no_items}
 pub use Rattle.serde_json.specs.Find.{as_number, as_u64, get}
 pub use Rattle.serde_json.specs.Read.{read}
+pub use Rattle.serde_json.specs.View.{items_view, members_view, view}
 pub use Rattle.scenarios.specs.Turns.declared.turn.Turn.{Turn}

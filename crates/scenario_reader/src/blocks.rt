@@ -4,9 +4,9 @@ ghost use Rattle.std.specs.Prelude.{◌≡◌};
 ghost use Rattle.scenario_reader.specs.Prelude.{Gives, each_member, fault_of, members_view, under as place_under, view};
 ghost use Rattle.scenario_reader.specs.Blocks.{block_in, blocks_in};
 
-use scenario_json::Value;
 use scenario_values::{ReadFault, label_or_fails, members_in, number_in, under};
 use scenarios::{Block, Blocks};
+use serde_json::{Map, Value};
 use std::alloc::Global;
 
 #[tactic(auto, unfolding(crate::specs::Blocks::block_in))]
@@ -25,12 +25,12 @@ fn block_at(alloc: Global, label: &str, value: &Value) -> Result<Block, ReadFaul
     under(alloc, label.as_bytes(), block_in(alloc, label, value))
 }
 
-fn blocks_from(alloc: Global, members: &[(&str, Value)]) -> Result<Vec<Block>, ReadFault>
-    ensures { Gives (λ v. v.items) fault_of result (each_member block_in (members_view members.now)) }
+fn blocks_from(alloc: Global, members: &Map<String, Value>) -> Result<Vec<Block>, ReadFault>
+    ensures { Gives (λ v. v.items) fault_of result (each_member block_in (members_view members.now.entries)) }
 {
     let mut blocks = Vec::new(alloc);
     for (label, value) in members {
-        blocks.push(block_at(alloc, label, value)?)?;
+        blocks.push(block_at(alloc, label.as_str(), value)?)?;
     }
     Ok(blocks)
 }

@@ -10,11 +10,11 @@ ghost use Rattle.scenario_reader.specs.ReadScenarios.{is_one, one_in, is_there, 
 use crate::blocks::blocks_in;
 use crate::hooks::hooks_in;
 use scenario_filters::{FilterTexts, aliases_in, filters_in, no_filters};
-use scenario_json::Value;
 use scenario_values::{
     FaultCode, ReadFault, bool_at, fails, holds, members_in, number_at, only_keys, under,
 };
 use scenarios::{Aliases, Blocks, Hooks};
+use serde_json::Value;
 use std::alloc::Global;
 
 /// What stands before the servers: when the scenario begins, whether it uses GTIDs, which transactions are marks, how

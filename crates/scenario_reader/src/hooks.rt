@@ -7,16 +7,13 @@ ghost use Rattle.scenario_reader.specs.Hooks.{exit_or_fails, hook_in, hook_list_
 
 use crate::hook_texts::{Hook, HookList, Hooks};
 use crate::orch_base::OwnedText;
-use scenario_json::Value;
 use scenario_values::{
     FaultCode, ReadFault, fails, holds, items_in, members_in, only_keys, text_in, under, under_item,
 };
+use serde_json::Value;
 use std::alloc::Global;
 
-fn two_of<'a, 'v>(
-    alloc: Global,
-    items: &'v [Value<'a>],
-) -> Result<(&'v Value<'a>, &'v Value<'a>), ReadFault>
+fn two_of(alloc: Global, items: &[Value]) -> Result<(&Value, &Value), ReadFault>
     ensures { Gives (λ t. (view t.0.now, view t.1.now)) fault_of result (two_of (items_view items.now)) }
 {
     if items.len() != 2 {
@@ -44,7 +41,7 @@ fn is_hook_text(text: &str) -> bool
 }
 
 #[tactic(auto, using(scenario_values::proofs::Unders::gives_under))]
-fn text_at<'a>(alloc: Global, value: &Value<'a>) -> Result<&'a str, ReadFault>
+fn text_at(alloc: Global, value: &Value) -> Result<&str, ReadFault>
     ensures { Gives (λ s. s.now) fault_of result (placed_item 0 (read_text (view value.now))) }
 {
     under_item(alloc, 0, text_in(alloc, value))

@@ -7,7 +7,6 @@ mod hooks;
 mod walk;
 
 pub use head::Head;
-pub use scenario_json;
 pub use scenario_openings;
 pub use scenario_servers;
 pub use scenario_turns;

@@ -10,12 +10,12 @@ use crate::head::{Head, head_in, keys_in};
 use crate::openings::ServerInit;
 use crate::orch_base::{MAX_SCENARIO_LEN, Moment, ServerNo};
 use scenario_filters::answered;
-use scenario_json::{Arena, JsonFault, Value};
 use scenario_openings::{listed_count, opening_in};
 use scenario_servers::{Listed, Names, inits_of, known_of, rules_of, servers_in};
 use scenario_turns::{ListedTurn, Patterns, are_few, each_turn, expanded, in_order, printed_of};
 use scenario_values::{FaultCode, ReadFault, fails, holds, items_in, under};
 use scenarios::{Answers, Rules, Scenario, Step, Turn, Turns};
+use serde_json::Value;
 use std::alloc::Global;
 
 const MOST: u64 = 4_000_000;
@@ -152,7 +152,7 @@ fn servers_at(alloc: Global, gtid: bool, object: &Value) -> Result<Listed, ReadF
 }
 
 #[tactic(auto, using(scenario_values::proofs::Unders::gives_under))]
-fn listed_turns<'a>(alloc: Global, object: &Value<'a>) -> Result<&'a [Value<'a>], ReadFault>
+fn listed_turns(alloc: Global, object: &Value) -> Result<&[Value], ReadFault>
     ensures { Gives (λ v. items_view v.now) fault_of result
         (optional (codes "turns") items_in no_items (view object.now)) }
 {
@@ -176,13 +176,18 @@ fn scenario_from(alloc: Global, value: &Value) -> Result<Scenario, ReadFault>
     scenario_with(alloc, head, listed, items)
 }
 
-fn json_in<'a>(alloc: Global, bytes: &'a [u8], arena: &'a mut Arena) -> Result<Value<'a>, ReadFault>
+fn json_in(alloc: Global, bytes: &[u8]) -> Result<Value, ReadFault>
     ensures { Gives view fault_of result (json_in bytes.now) }
 {
-    match Value::from_slice(alloc, bytes, arena) {
+    match Value::from_slice(alloc, bytes) {
         Ok(value) => Ok(value),
-        Err(JsonFault::NotJson) => Err(fails(alloc, FaultCode::NotJson)),
-        Err(JsonFault::Memory) => Err(ReadFault::Memory),
+        Err(e) => {
+            if e.is_memory() {
+                Err(ReadFault::Memory)
+            } else {
+                Err(fails(alloc, FaultCode::NotJson))
+            }
+        }
     }
 }
 
@@ -198,8 +203,7 @@ fn scenario_in(alloc: Global, bytes: &[u8]) -> Result<Scenario, ReadFault>
     ensures { Gives (λ s. s) fault_of result (scenario_in bytes.now) }
 {
     holds(alloc, FaultCode::TooLong, bytes.len() <= MAX_SCENARIO_LEN)?;
-    let mut arena = Arena::new(alloc);
-    let value = json_in(alloc, bytes, &mut arena)?;
+    let value = json_in(alloc, bytes)?;
     scenario_from(alloc, &value)
 }
 

@@ -35,8 +35,6 @@ pub use Rattle.server_words.specs.OrchBase.Names.{HostPort, IsName, is_host_byte
 unfoldable pub use Rattle.server_words.specs.OrchBase.Names.{name_at}
 pub use Rattle.server_words.specs.OrchBase.declared.name.NameFault.{NameFault}
 pub use Rattle.server_words.specs.OrchBase.declared.server.ServerNo.{ServerNo}
-pub use Rattle.scenario_json.specs.View.{items_view, view}
-pub use Rattle.scenario_json.specs.declared.value.Value.{Value}
 pub use Rattle.scenario_servers.specs.Labels.{labels_from, labels_of}
 pub use Rattle.scenario_servers.specs.NameTable.{AddsName, AreTexts, IsTableOf, number_at, text_named}
 pub use Rattle.scenario_servers.specs.Names.{first_named, has_uuid, is_earlier, is_named, listed_name, listed_names, listed_uuids, new_uuid}
@@ -63,3 +61,5 @@ pub use Rattle.scenario_values.specs.declared.fault.FaultCode.{FaultCode}
 pub use Rattle.scenario_values.specs.declared.fault.FaultCode.TheVariants.{AutoWithoutGtid, BadNumber, DuplicateName, DuplicateUuid, UnknownKey}
 pub use Rattle.serde_json.specs.Data.{Data, Items, Members, array, boolean, item, member, no_items, no_members, null, number, object, string}
 pub use Rattle.serde_json.specs.Find.{as_str, get, get_item, get_member}
+pub use Rattle.serde_json.specs.View.{items_view, view}
+pub use Rattle.serde_json.specs.declared.value.Value.{Value}

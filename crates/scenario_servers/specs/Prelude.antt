@@ -22,7 +22,6 @@ pub use Rattle.server_words.specs.OrchBase.declared.rule.Rule.{Rule}
 pub use Rattle.server_words.specs.OrchBase.declared.server.ServerNo.{ServerNo}
 pub use Rattle.server_words.specs.OrchBase.declared.server.Settings.{Settings}
 pub use Rattle.server_words.specs.OrchBase.declared.server.Version.{Version}
-pub use Rattle.scenario_json.specs.View.{items_view, members_view, view}
 pub use Rattle.scenario_values.specs.Faults.{each, each_from, fails, fault_of, holds, item_count, maybe, needed, only_keys, optional, or_fails, under}
 pub use Rattle.scenario_values.specs.Faults.{under_item}
 pub use Rattle.scenario_values.specs.Values.{bool_in, items_in, members_in, name_or_fails, text_in}
@@ -31,3 +30,4 @@ pub use Rattle.scenario_values.specs.declared.fault.Fault.{Fault}
 pub use Rattle.scenario_values.specs.declared.fault.FaultCode.TheVariants.{AutoWithoutGtid, BadNumber, DuplicateName, DuplicateUuid, UnknownName}
 pub use Rattle.serde_json.specs.Data.{Data, Items, item, no_items}
 pub use Rattle.serde_json.specs.Find.{as_str, get}
+pub use Rattle.serde_json.specs.View.{items_view, members_view, view}

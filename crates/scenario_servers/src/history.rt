@@ -9,16 +9,13 @@ ghost use Rattle.scenario_servers.specs.Servers.{three_of, part_in, history_in, 
 use crate::names::{Names, server_named};
 use crate::orch_base::ServerNo;
 use openings::{Counts, Part, Parts};
-use scenario_json::Value;
 use scenario_values::{
     FaultCode, ReadFault, fails, holds, items_in, number_in, under_item, whole_in,
 };
+use serde_json::Value;
 use std::alloc::Global;
 
-fn three_of<'a, 'v>(
-    alloc: Global,
-    items: &'v [Value<'a>],
-) -> Result<(&'v Value<'a>, &'v Value<'a>, &'v Value<'a>), ReadFault>
+fn three_of(alloc: Global, items: &[Value]) -> Result<(&Value, &Value, &Value), ReadFault>
     ensures { Gives (λ t. (view t.0.now, view t.1.now, view t.2.now)) fault_of result (three_of (items_view items.now)) }
 {
     if items.len() != 3 {

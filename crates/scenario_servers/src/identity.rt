@@ -9,8 +9,8 @@ use crate::given::Identity;
 use crate::names::{Names, own_name};
 use crate::orch_base::{Name, Version};
 use crate::uuids::{Uuids, own_uuid};
-use scenario_json::Value;
 use scenario_values::{FaultCode, ReadFault, fails, maybe_label, number_in, under, version_at};
+use serde_json::Value;
 use std::alloc::Global;
 
 /// The version of a server that gives none.

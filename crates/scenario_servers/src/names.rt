@@ -8,8 +8,8 @@ ghost use Rattle.scenario_servers.specs.Names.{listed_name, server_named, own_na
 ghost use Rattle.scenario_servers.specs.NameTable.{AddsName};
 
 use crate::orch_base::{Memory, Name, NameFault, ServerNo};
-use scenario_json::Value;
 use scenario_values::{FaultCode, ReadFault, fails, name_in, text_in};
+use serde_json::Value;
 use std::alloc::Global;
 use std::cmp::Ordering;
 use std::collections::{BTreeMap, HashMap};
@@ -116,14 +116,14 @@ fn add_name(
 }
 
 // The text with which a server is listed.
-fn listed_text<'a>(value: &Value<'a>) -> Option<&'a str> {
+fn listed_text(value: &Value) -> Option<&str> {
     value.get("name")?.as_str()
 }
 
 impl Names {
     ghost use Rattle.std.specs.Prelude.{◌≡◌, ◌≤◌, IfOk, length};
     ghost use Rattle.server_words.specs.OrchBase.Gives.{Gives};
-    ghost use Rattle.scenario_json.specs.View.{items_view};
+    ghost use Rattle.serde_json.specs.View.{items_view};
     ghost use Rattle.scenario_values.specs.Faults.{fault_of};
     ghost use Rattle.scenario_servers.specs.Names.{first_named, listed_names};
     ghost use Rattle.scenario_servers.specs.NameTable.{text_named};

@@ -6,8 +6,8 @@ ghost use Rattle.scenario_servers.specs.Rules.{rule_in};
 
 use crate::orch_base::Rule;
 use commands::rule_at;
-use scenario_json::Value;
 use scenario_values::{FaultCode, ReadFault, fails, text_in, under};
+use serde_json::Value;
 use std::alloc::Global;
 
 #[tactic(auto, unfolding(crate::specs::Rules::rule_in))]

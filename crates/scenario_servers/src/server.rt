@@ -13,11 +13,11 @@ use crate::orch_base::{OwnedText, ServerNo};
 use crate::rule::maybe_rule;
 use crate::uuids::Uuids;
 use openings::{Counts, Parts};
-use scenario_json::Value;
 use scenario_values::{
     FaultCode, ReadFault, bool_at, bool_in, fails, maybe_bool, maybe_coord, members_in, number_at,
     only_keys, short_in, under, whole_at,
 };
+use serde_json::{Map, Value};
 use std::alloc::Global;
 
 fn has_source(object: &Value) -> bool
@@ -177,8 +177,8 @@ const SERVER_KEYS: [&str; 26] = [
     "until",
 ];
 
-fn known_keys(alloc: Global, object: &Value, members: &[(&str, Value)]) -> Result<(), ReadFault>
-    ensures { Gives (λ _. tt) fault_of result (only_keys (server_keys (view object.now)) (members_view members.now)) }
+fn known_keys(alloc: Global, object: &Value, members: &Map<String, Value>) -> Result<(), ReadFault>
+    ensures { Gives (λ _. tt) fault_of result (only_keys (server_keys (view object.now)) (members_view members.now.entries)) }
 {
     if has_source(object) {
         only_keys(alloc, members, &SERVER_KEYS)

@@ -8,8 +8,8 @@ use crate::given::Given;
 use crate::names::Names;
 use crate::server::server_in;
 use crate::uuids::Uuids;
-use scenario_json::Value;
 use scenario_values::{FaultCode, ReadFault, holds, items_in, under_item};
+use serde_json::Value;
 use std::alloc::Global;
 
 /// The servers as a scenario's text lists them, and the names by which the rest of the text names them.
@@ -33,9 +33,9 @@ fn some_servers(alloc: Global, items: &[Value]) -> Result<(), ReadFault>
 }
 
 #[tactic(auto, unfolding(crate::specs::Servers::listed_in))]
-fn listed_in<'a>(alloc: Global, value: &Value<'a>) -> Result<&'a [Value<'a>], ReadFault>
-    ensures value { Gives (λ v. items_view v.now) fault_of result (listed_in (view value.now)) }
-    ensures few { IfOk result (λ v. length v.now ≤ 1000) }
+fn listed_in(alloc: Global, value: &Value) -> Result<&Vec<Value>, ReadFault>
+    ensures value { Gives (λ v. items_view v.now.items) fault_of result (listed_in (view value.now)) }
+    ensures few { IfOk result (λ v. length v.now.items ≤ 1000) }
 {
     let items = items_in(alloc, value)?;
     some_servers(alloc, items)?;

@@ -6,8 +6,8 @@ ghost use Rattle.scenario_servers.specs.Names.{uuid_at, read_uuid, new_uuid, unp
 ghost use Rattle.scenario_servers.specs.UuidTable.{AddsUuid};
 
 use crate::orch_base::Memory;
-use scenario_json::Value;
 use scenario_values::{FaultCode, ReadFault, fails, under, uuid_in};
+use serde_json::Value;
 use std::alloc::Global;
 use std::collections::BTreeMap;
 use std::marker::Model;
@@ -71,7 +71,7 @@ impl Model for Uuids {
 impl Uuids {
     ghost use Rattle.std.specs.Prelude.{◌≡◌, ◌≤◌, IfOk, length, take};
     ghost use Rattle.std.specs.List.{list_any};
-    ghost use Rattle.scenario_json.specs.View.{items_view};
+    ghost use Rattle.serde_json.specs.View.{items_view};
     ghost use Rattle.scenario_servers.specs.Names.{has_uuid, listed_uuids};
 
     /// Those of the servers that are listed, of which there are at most 1,000.

@@ -26,8 +26,6 @@ pub use Rattle.scenarios.specs.Openings.declared.init.ServerInit.{ServerInit}
 pub use Rattle.scenarios.specs.OrchBase.Gives.{Gives}
 pub use Rattle.scenarios.specs.OrchBase.Names.{HostPort, printed}
 pub use Rattle.scenarios.specs.OrchBase.declared.server.ServerNo.{ServerNo}
-pub use Rattle.scenario_json.specs.View.{items_view, view}
-pub use Rattle.scenario_json.specs.declared.value.Value.{Value}
 pub use Rattle.scenario_servers.proofs.ServerSteps.{named-ok}
 pub use Rattle.scenario_servers.proofs.Steps.{bind-ok, holds-ok, maybe-ok, number-ok, or_fails-ok, same_Ok, under-ok}
 unfoldable pub use Rattle.scenario_servers.specs.Names.{server_named}
@@ -55,6 +53,8 @@ pub use Rattle.scenario_values.specs.declared.fault.FaultCode.TheVariants.{BadCo
 pub use Rattle.scenarios.specs.ValidTurns.{IsAct, IsCommand, IsNumberOf, IsTurnOf}
 pub use Rattle.serde_json.specs.Data.{Data, Items, item, no_items}
 pub use Rattle.serde_json.specs.Find.{get}
+pub use Rattle.serde_json.specs.View.{items_view, view}
+pub use Rattle.serde_json.specs.declared.value.Value.{Value}
 pub use Rattle.scenarios.specs.ServerWords.declared.changes.Link.{Link}
 pub use Rattle.scenarios.specs.Turns.declared.turn.Act.{Act}
 pub use Rattle.scenarios.specs.Turns.declared.turn.Act.TheVariants.{Job, PollRead, PollStore, Restart, Scan}

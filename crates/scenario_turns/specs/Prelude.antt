@@ -19,7 +19,6 @@ pub use Rattle.scenarios.specs.Openings.declared.init.ServerInit.{ServerInit}
 pub use Rattle.scenarios.specs.OrchBase.Gives.{Gives}
 pub use Rattle.scenarios.specs.OrchBase.Names.{HostPort, printed}
 pub use Rattle.scenarios.specs.OrchBase.declared.server.ServerNo.{ServerNo}
-pub use Rattle.scenario_json.specs.View.{items_view, view}
 unfoldable pub use Rattle.scenario_servers.specs.Names.{server_named}
 unfoldable pub use Rattle.scenario_servers.specs.Rules.{rule_in}
 pub use Rattle.scenario_values.specs.Faults.{each, fails, fault_of, holds, item_count, maybe, only_keys, or_fails, under_item}
@@ -30,6 +29,7 @@ pub use Rattle.scenario_values.specs.declared.fault.FaultCode.TheVariants.{BadCo
 pub use Rattle.scenarios.specs.ValidTurns.{IsCommand, IsNumberOf, IsTurnOf}
 pub use Rattle.serde_json.specs.Data.{Data, Items, item, no_items}
 pub use Rattle.serde_json.specs.Find.{as_number, as_u64}
+pub use Rattle.serde_json.specs.View.{items_view, view}
 pub use Rattle.scenarios.specs.ServerWords.declared.changes.Link.{Link}
 pub use Rattle.scenarios.specs.ServerWords.declared.changes.Link.TheVariants.{Desk, Feed}
 pub use Rattle.scenarios.specs.Turns.declared.turn.Act.{Act}

@@ -7,9 +7,9 @@ ghost use Rattle.scenario_turns.specs.Commands.{name_in, given_in, parts_of, com
 use crate::commands::{CommandName, CommandTurn};
 use crate::keys::given_in;
 use crate::patterns::Patterns;
-use scenario_json::Value;
 use scenario_servers::Names;
 use scenario_values::{FaultCode, ReadFault, fails, text_in, under_item};
+use serde_json::Value;
 use std::alloc::Global;
 
 #[tactic(auto, unfolding(crate::specs::Commands::name_in))]
@@ -43,10 +43,7 @@ fn given_at(
     under_item(alloc, 2, given_in(alloc, names, patterns, name, value))
 }
 
-fn parts_of<'a, 'v>(
-    alloc: Global,
-    rest: &'v [Value<'a>],
-) -> Result<(&'v Value<'a>, &'v Value<'a>), ReadFault>
+fn parts_of(alloc: Global, rest: &[Value]) -> Result<(&Value, &Value), ReadFault>
     ensures { Gives (λ p. (view p.0.now, view p.1.now)) fault_of result (parts_of (items_view rest.now)) }
 {
     if rest.len() != 2 {

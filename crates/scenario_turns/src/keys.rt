@@ -7,11 +7,11 @@ ghost use Rattle.scenario_turns.specs.Commands.{duration_in, pattern_in, instanc
 use crate::commands::{Command, CommandName, CommandTurn, Found, Keys, seconds_at};
 use crate::orch_base::{OwnedText, ServerNo};
 use crate::patterns::Patterns;
-use scenario_json::Value;
 use scenario_servers::{Names, maybe_rule, server_named};
 use scenario_values::{
     FaultCode, ReadFault, fails, holds, members_in, only_keys, short_in, text_in, under,
 };
+use serde_json::Value;
 use std::alloc::Global;
 
 #[tactic(auto, unfolding(crate::specs::Commands::duration_in))]

@@ -3,8 +3,8 @@
 use crate::commands::{Answers, Found};
 use crate::orch_base::{Memory, OwnedText};
 use crate::pattern::found;
-use scenario_json::Value;
 use scenario_values::ReadFault;
+use serde_json::Value;
 use std::alloc::Global;
 use std::collections::BTreeMap;
 use std::marker::Model;
@@ -29,7 +29,7 @@ impl Model for Patterns {
 
 // The text of the pattern that a listed turn asks for, if it looks like one that does: its last part gives it, or that
 // of the turn in it.
-fn asked<'a>(turn: &Value<'a>) -> Option<&'a str> {
+fn asked(turn: &Value) -> Option<&str> {
     let last = turn.as_array()?.get(2)?;
     match last.as_array() {
         Some(inner) => inner.get(2)?.get("pattern")?.as_str(),

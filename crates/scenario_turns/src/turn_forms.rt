@@ -17,12 +17,12 @@ use crate::orch_base::ServerNo;
 use crate::patterns::Patterns;
 use crate::server_words_items::Link;
 use crate::word::{Word, is_word, parts_after, stands, word_at};
-use scenario_json::Value;
 use scenario_servers::{Names, server_named};
 use scenario_values::{
     FaultCode, ReadFault, fails, holds, items_in, number_in, text_in, under_item,
 };
 use scenarios::{Act, BoxedCommand, Step, Turn};
+use serde_json::Value;
 use std::alloc::Global;
 
 #[tactic(auto, unfolding(crate::specs::Turns::link_in))]
@@ -39,7 +39,7 @@ fn link_in(alloc: Global, value: &Value) -> Result<Link, ReadFault>
     Err(fails(alloc, FaultCode::BadNumber))
 }
 
-fn one_of<'a, 'v>(alloc: Global, rest: &'v [Value<'a>]) -> Result<&'v Value<'a>, ReadFault>
+fn one_of(alloc: Global, rest: &[Value]) -> Result<&Value, ReadFault>
     ensures { Gives (λ v. view v.now) fault_of result (one_of (items_view rest.now)) }
 {
     if rest.len() != 1 {
@@ -48,10 +48,7 @@ fn one_of<'a, 'v>(alloc: Global, rest: &'v [Value<'a>]) -> Result<&'v Value<'a>,
     Ok(&rest[0])
 }
 
-fn two_of<'a, 'v>(
-    alloc: Global,
-    rest: &'v [Value<'a>],
-) -> Result<(&'v Value<'a>, &'v Value<'a>), ReadFault>
+fn two_of(alloc: Global, rest: &[Value]) -> Result<(&Value, &Value), ReadFault>
     ensures { Gives (λ p. (view p.0.now, view p.1.now)) fault_of result (two_of (items_view rest.now)) }
 {
     if rest.len() != 2 {
@@ -93,7 +90,7 @@ fn link_at(alloc: Global, value: &Value) -> Result<Link, ReadFault>
 }
 
 #[tactic(auto, using(scenario_values::proofs::Unders::gives_under))]
-fn text_at<'a>(alloc: Global, value: &Value<'a>) -> Result<&'a str, ReadFault>
+fn text_at(alloc: Global, value: &Value) -> Result<&str, ReadFault>
     ensures { Gives (λ s. s.now) fault_of result (under_item 0 (text_in (view value.now))) }
 {
     under_item(alloc, 0, text_in(alloc, value))

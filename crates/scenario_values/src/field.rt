@@ -2,7 +2,7 @@
 
 ghost use Rattle.std.specs.Prelude.{◌≡◌, option_map};
 ghost use Rattle.binlog_coords.specs.OrchBase.Gives.{Gives};
-ghost use Rattle.scenario_json.specs.View.{view};
+ghost use Rattle.serde_json.specs.View.{view};
 ghost use Rattle.scenario_values.specs.Faults.{fault_of, optional, maybe};
 ghost use Rattle.scenario_values.specs.Values.{bool_in, whole_in, number_in, coord_in, label_in, version_in};
 
@@ -10,7 +10,7 @@ use crate::fault::{ReadFault, under};
 use crate::orch_base::{OwnedText, Version};
 use crate::value::{bool_in, coord_in, label_in, number_in, version_in, whole_in};
 use binlog_coords::Coord;
-use scenario_json::Value;
+use serde_json::Value;
 use std::alloc::Global;
 
 /// The truth value at a key that may be absent.

@@ -5,23 +5,20 @@ ghost use Rattle.std.specs.Char.{is_ascii_digit};
 ghost use Rattle.std.specs.List.{list_all, before_first};
 ghost use Rattle.uuid.specs.Text.{parsed_hyphenated};
 ghost use Rattle.binlog_coords.specs.OrchBase.Gives.{Gives};
-ghost use Rattle.scenario_json.specs.View.{view, items_view, members_view};
+ghost use Rattle.serde_json.specs.View.{view, items_view, members_view};
 ghost use Rattle.scenario_values.specs.Faults.{fault_of};
 ghost use Rattle.scenario_values.specs.Values.{members_in, items_in, text_in, bool_in, whole_in, number_in, name_in, coord_in, text_within, short_in, label_or_fails, label_in, uuid_or_fails, uuid_in, is_dot, behind_dot, version_part, version_at, version_in};
 
 use crate::fault::{FaultCode, ReadFault, fails};
 use crate::orch_base::{Name, NameFault, OwnedText, Version};
 use binlog_coords::{Coord, read_coord};
-use scenario_json::Value;
+use serde_json::{Map, Value};
 use std::alloc::Global;
 use uuid::Uuid;
 
 /// An object's members; a value of another kind is `BadType`.
-pub fn members_in<'a>(
-    alloc: Global,
-    value: &Value<'a>,
-) -> Result<&'a [(&'a str, Value<'a>)], ReadFault>
-    ensures { Gives (λ m. members_view m.now) fault_of result (members_in (view value.now)) }
+pub fn members_in(alloc: Global, value: &Value) -> Result<&Map<String, Value>, ReadFault>
+    ensures { Gives (λ m. members_view m.now.entries) fault_of result (members_in (view value.now)) }
 {
     match value.as_object() {
         Some(members) => Ok(members),
@@ -30,8 +27,8 @@ pub fn members_in<'a>(
 }
 
 /// A list's items; a value of another kind is `BadType`.
-pub fn items_in<'a>(alloc: Global, value: &Value<'a>) -> Result<&'a [Value<'a>], ReadFault>
-    ensures { Gives (λ v. items_view v.now) fault_of result (items_in (view value.now)) }
+pub fn items_in(alloc: Global, value: &Value) -> Result<&Vec<Value>, ReadFault>
+    ensures { Gives (λ v. items_view v.now.items) fault_of result (items_in (view value.now)) }
 {
     match value.as_array() {
         Some(items) => Ok(items),
@@ -40,7 +37,7 @@ pub fn items_in<'a>(alloc: Global, value: &Value<'a>) -> Result<&'a [Value<'a>],
 }
 
 /// A text; a value of another kind is `BadType`.
-pub fn text_in<'a>(alloc: Global, value: &Value<'a>) -> Result<&'a str, ReadFault>
+pub fn text_in(alloc: Global, value: &Value) -> Result<&str, ReadFault>
     ensures { Gives (λ s. s.now) fault_of result (text_in (view value.now)) }
 {
     match value.as_str() {

@@ -1,7 +1,7 @@
 //! A keeper over a database file.
 
 ghost use Rattle.std.specs.Prelude.{◌≡◌, None, Ok, IfOk};
-ghost use Rattle.kept_rows.specs.Keeping.{HasKeeperCause, KeepsAll};
+ghost use Rattle.kept_rows.specs.Keeping.{CountsFailures, HasKeeperCause, KeepsAll};
 ghost use Rattle.kept_rows.specs.Rows.{IsRising};
 
 use crate::fault::SqlFault;
@@ -182,6 +182,7 @@ impl SqlKeeper {
     fn counted<T>(&mut self, done: Result<T, KeeperFault>) -> Result<T, KeeperFault>
         ensures same { result ≡ done }
         ensures cause { HasKeeperCause self.old.faults self.new.faults result }
+        ensures counts { CountsFailures self.old.faults self.new.faults result }
     {
         if let Err(KeeperFault::Failed) = done {
             self.faults = self.faults.saturating_add(1);
@@ -208,6 +209,7 @@ impl Keeper for SqlKeeper {
     fn keep(&mut self, alloc: Global, names: &[Name], changes: &[Change]) -> Result<(), KeeperFault>
         ensures kept { KeepsAll None None changes.now result }
         ensures cause { HasKeeperCause self.old.faults self.new.faults result }
+        ensures counts { CountsFailures self.old.faults self.new.faults result }
     {
         let done = match opened(&self.rt, self.path.as_str(), &mut self.store) {
             Ok(conn) => told(make_all(alloc, conn, names, changes)),
@@ -216,10 +218,11 @@ impl Keeper for SqlKeeper {
         self.counted(done)
     }
 
-    /// Gives all rows. One that names a server that isn't known is passed over; one that doesn't read is a fault.
+    /// Gives all rows, by table, then key. One that names a server that isn't known is passed over; one that doesn't read is a fault.
     fn rows(&mut self, alloc: Global, names: &[Name]) -> Result<Vec<Row>, KeeperFault>
         ensures rising { IfOk result (λ given. IsRising given.items) }
         ensures cause { HasKeeperCause self.old.faults self.new.faults result }
+        ensures counts { CountsFailures self.old.faults self.new.faults result }
     {
         let done = match opened(&self.rt, self.path.as_str(), &mut self.store) {
             Ok(conn) => told(all_rows(alloc, conn, names)),

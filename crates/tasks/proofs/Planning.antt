@@ -32,12 +32,12 @@ answered_ahead s k now t a ahead claims moment answer =
 module _ (s : State) (c : Command) (id : ℕ) (jobs : List Unended) (same : jobs ≡ s.jobs) where
   -- of no job
   pub none_planned : job_at jobs id ≡ None → straight [] ≡ planned_in s c id
-  none_planned none = ap (planned_by s.book c) (sym (ap (λ (js : List Unended). job_at js id) (sym same) ∙ none))
+  none_planned none = ap (planned_by s c) (sym (ap (λ (js : List Unended). job_at js id) (sym same) ∙ none))
 
   -- of the job that was found
-  pub found_planned : (at : ℕ) (j : Unended) → at < length jobs → job_at jobs id ≡ slice_get jobs at → j ≡ get_or jobs at j → planned_by s.book c (Some j) ≡ planned_in s c id
+  pub found_planned : (at : ℕ) (j : Unended) → at < length jobs → job_at jobs id ≡ slice_get jobs at → j ≡ get_or jobs at j → planned_by s c (Some j) ≡ planned_in s c id
   found_planned at j within found item =
-      ap (planned_by s.book c) (sym (ap (λ (js : List Unended). job_at js id) (sym same) ∙ (found ∙ slice_get_read jobs (length jobs) at j refl within item)))
+      ap (planned_by s c) (sym (ap (λ (js : List Unended). job_at js id) (sym same) ∙ (found ∙ slice_get_read jobs (length jobs) at j refl within item)))
 
 -- ---- what is answered in place of the command
 

@@ -44,7 +44,6 @@ pub use Rattle.orch_core.specs.NodeClaims.declared.claims.ClaimAnswer.{ClaimAnsw
 pub use Rattle.orch_core.specs.NodeClaims.declared.claims.ClaimAnswer.TheVariants as claim
 pub use Rattle.orch_core.specs.OrchBase.Causes.{HasCause, Rose}
 pub use Rattle.orch_core.specs.OrchBase.Ends.{AppendsFront}
-pub use Rattle.orch_core.specs.OrchBase.Memory.{next_count}
 pub use Rattle.orch_core.specs.OrchBase.Names.{HostPort, printed, same_name}
 pub use Rattle.orch_core.specs.OrchBase.declared.server.Moment.{Moment}
 pub use Rattle.orch_core.specs.OrchBase.declared.server.ServerNo.{ServerNo}
@@ -84,8 +83,12 @@ pub use Rattle.tasks.specs.Endings.{Course, IsOn, IsWhole, Stands, Tells, WasCut
 pub use Rattle.tasks.specs.Journals.{JournalStands, Told, ToldSome, headed_text, told_in, told_run}
 pub use Rattle.tasks.specs.Known.{Begins, IsFixed, all_turns, cut_answer, held_from, opened, task_answer, turns_from}
 pub use Rattle.tasks.specs.Laws.{ClaimedCommandsAreTaken, PlansAreAnsweredAsCommands, PlansTellClaimsThatLast, TakenClaimsTakeNoCommand}
-pub use Rattle.tasks.specs.Plans.{Planned, begun_state, lasting, lasting_by, planned_by, planned_in, planned_reply, planned_text, straight, taken_by}
-pub use Rattle.tasks.specs.Plans.{takeover_planned}
+pub use Rattle.orch_core.specs.Operations.declared.op.Op.{Op}
+pub use Rattle.orch_core.specs.RecoveryPlans.declared.purpose.Purpose.{Purpose}
+pub use Rattle.orch_core.specs.RecoveryPlans.Deciding.{Ground}
+pub use Rattle.orch_core.specs.RecoveryPlans.declared.means.Means.{Means}
+pub use Rattle.plan_lines.specs.Straight.{straight_lines}
+pub use Rattle.tasks.specs.Plans.{Planned, begun_state, ground_in, lasting, lasting_by, means_of, planned_by, planned_in, planned_reply, planned_text, recovery_planned, straight, taken_by}
 pub use Rattle.tasks.specs.Progress.{Adds, Answers, ClosesEach, Ends, EndsCut, EndsEach, EndsWhole, Follows, GaveUp, Gives, GivesUp, GivesUpEach}
 pub use Rattle.tasks.specs.Progress.{GivesUpOn, IsFresh, Leads, Point, Stops, StopsBefore, StopsBehind, StopsEach, StopsIn, Tallies, course_from}
 pub use Rattle.tasks.specs.Progress.{point, with_reply}

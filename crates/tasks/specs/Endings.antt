@@ -1,6 +1,6 @@
 -- How a task ends, and what has been written and kept then.
 use Rattle.std.specs.Prelude.{◌≡◌, ℕ, ◌≤◌, ◌⊎◌, Bool, List, [], length, take, Option}
-use Rattle.tasks.specs.Prelude.{HostPort, Recorded, Row, Scenario, Turn, names_of, next_count}
+use Rattle.tasks.specs.Prelude.{HostPort, Recorded, Rose, Row, Scenario, Turn, names_of}
 use Rattle.tasks.specs.declared.asked.Task.{Task}
 use Rattle.tasks.specs.declared.ending.Ending.{Ending}
 use Rattle.tasks.specs.declared.ending.Ending.TheVariants as ends
@@ -127,11 +127,7 @@ course_of w = record { task = w.task; names = names_of w.scenario; scenario = w.
 abbrev pub Tells : Work → End → End → Ending → Type 0
 Tells w out err ending = NeverBegan w out err ending ⊎ Stands (course_of w) out err ending
 
--- The keeper's first fault stops a task: its count rose once then, and elsewhere it didn't, but for a run whose replies
--- so far couldn't be written; it never falls.
+-- The keeper's fault stops a task only where its count rose; it never falls.
 pub record HasKeepersCause (before now : ℕ) (result : Ending) : Type 0 where
   pub later : before ≤ now
-  pub written : (refused : Bool) → result ≡ ends.Written refused → now ≡ before
-  pub unwritten : result ≡ ends.Unwritten → (now ≡ before) ⊎ (now ≡ next_count before)
-  pub failed : result ≡ ends.Keeper → now ≡ next_count before
-  pub memory : result ≡ ends.Memory → now ≡ before
+  pub failed : result ≡ ends.Keeper → Rose before now

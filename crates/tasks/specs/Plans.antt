@@ -1,11 +1,16 @@
 -- What is answered in place of a single command where its plan is asked for: a function of the state behind the
 -- scenario's turns. Nothing is changed, and nothing is claimed.
-use Rattle.std.specs.Prelude.{ℕ, ◌==◌, List, [], Option, Some, None, if◌then◌else◌}
-use Rattle.tasks.specs.Prelude.{BookState, ClaimAnswer, Command, CommandTurn, HostPort, Op, Reply, ServerNo, State, Unended, act_reply, active}
-use Rattle.tasks.specs.Prelude.{after_act, claimed, job_at, nodes_of, plan_text, replicas_but, takeover_ops, unwrap_or}
+use Rattle.std.specs.Prelude.{ℕ, ◌==◌, Bool, false, List, [], Option, Some, None, if◌then◌else◌}
+use Rattle.tasks.specs.Prelude.{ClaimAnswer, Command, CommandTurn, Ground, HostPort, Line, Means, Planner, Purpose, Regrouping, Reply, Route}
+use Rattle.tasks.specs.Prelude.{ServerNo, State, Unended, act_reply, active, after_act, claimed, has_branches, job_at, nodes_of, plan_text}
+use Rattle.tasks.specs.Prelude.{recovery_plan, route_of, straight_lines, unwrap_or}
 use Rattle.tasks.specs.Prelude.act
 use Rattle.tasks.specs.Prelude.answered
 use Rattle.tasks.specs.Prelude.claim
+use Rattle.tasks.specs.Prelude.means
+use Rattle.tasks.specs.Prelude.planner
+use Rattle.tasks.specs.Prelude.regrouping
+use Rattle.tasks.specs.Prelude.route
 use Rattle.tasks.specs.Prelude.unended
 
 -- ---- what the command is answered
@@ -33,33 +38,54 @@ begun_state c s = after_act [] s (act.Command c)
 
 -- ---- what is planned
 
--- a master that gives up its place, where one does, and the operations
+-- lines, and whether they are one of several branches
 pub record Planned : Type 0 where
-  pub master : Option ServerNo
-  pub ops : List Op
+  pub branches : Bool
+  pub lines : List Line
 
-abbrev pub straight : List Op → Planned
-straight ops = record { master = None; ops = ops }
+abbrev pub straight : List Line → Planned
+straight lines = record { branches = false; lines = lines }
 
-abbrev pub yielding : ServerNo → List Op → Planned
-yielding m ops = record { master = Some m; ops = ops }
+-- how the replicas of a regroup go below the best of them; how far marks stand apart isn't told
+abbrev pub means_by : Regrouping → Means
+means_by regrouping.ByBridges = means.Bridges
+means_by regrouping.ByMatches = means.Matches 0
 
--- a takeover by its instance and its destination
-abbrev pub takeover_planned : BookState → Option ServerNo → Option ServerNo → Planned
-takeover_planned b None d = straight []
-takeover_planned b (Some m) None = straight []
-takeover_planned b (Some m) (Some d) = yielding m (takeover_ops m d (replicas_but b m (Some d)))
+abbrev pub means_of_planner : Planner → Means
+means_of_planner (planner.Coordinates kind) = means.Bridges
+means_of_planner (planner.Gtids kind) = means.Bridges
+means_of_planner (planner.Paths kind) = means.Bridges
+means_of_planner (planner.Regroups by) = means_by by
+means_of_planner (planner.Matches kind) = means.Bridges
 
--- of a plan its operations; of a takeover those that it comes to where nobody is lost on the way
-abbrev pub planned_by : BookState → Command → Option Unended → Planned
-planned_by b c None = straight []
-planned_by b c (Some (unended.Plan job)) = straight job.ops
-planned_by b c (Some (unended.Recovery r docket)) = takeover_planned b c.i c.d
+abbrev pub means_of : Route → Means
+means_of route.Discovers = means.Bridges
+means_of route.Forgets = means.Bridges
+means_of (route.Asks question) = means.Bridges
+means_of (route.Decides decision) = means.Bridges
+means_of (route.Begins planner) = means_of_planner planner
+means_of route.Recovers = means.Bridges
+means_of route.TakesOver = means.Bridges
+
+-- by what is planned
+abbrev pub ground_in : State → Ground
+ground_in s = record { world = s.world; book = s.book; moment = record { 0 = s.moment } }
+
+-- a recovery for a purpose, by its instance
+abbrev pub recovery_planned : Ground → Purpose → Means → Option ServerNo → Planned
+recovery_planned g u by None = straight []
+recovery_planned g u by (Some i) = record { branches = has_branches u; lines = recovery_plan g u by i }
+
+-- of a plan its operations; of a recovery the branch that is expected
+abbrev pub planned_by : State → Command → Option Unended → Planned
+planned_by s c None = straight []
+planned_by s c (Some (unended.Plan job)) = straight (straight_lines s.book job.ops)
+planned_by s c (Some (unended.Recovery r docket)) = recovery_planned (ground_in s) r.purpose (means_of (route_of c.name)) c.i
 
 -- what is planned by the job of a number
 abbrev pub planned_in : State → Command → ℕ → Planned
-planned_in s c job = planned_by s.book c (job_at s.jobs job)
+planned_in s c job = planned_by s c (job_at s.jobs job)
 
 -- its text, for servers of these names
 abbrev pub planned_text : List HostPort → Planned → List ℕ
-planned_text names p = plan_text names p.master p.ops
+planned_text names p = plan_text names p.branches p.lines

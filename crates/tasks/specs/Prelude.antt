@@ -28,10 +28,8 @@ pub use Rattle.orch_core.specs.Knowledge.declared.fault.TurnFault.TheVariants as
 pub use Rattle.orch_core.specs.NodeClaims.Claims.{active, is_of}
 pub use Rattle.orch_core.specs.NodeClaims.declared.claims.ClaimAnswer.{ClaimAnswer}
 pub use Rattle.orch_core.specs.NodeClaims.declared.claims.ClaimAnswer.TheVariants as claim
-pub use Rattle.orch_core.specs.Operations.declared.op.Op.{Op}
 pub use Rattle.orch_core.specs.OrchBase.Causes.{Rose}
 pub use Rattle.orch_core.specs.OrchBase.Ends.{AppendsFront}
-pub use Rattle.orch_core.specs.OrchBase.Memory.{next_count}
 pub use Rattle.orch_core.specs.OrchBase.Names.{HostPort, printed, same_name}
 pub use Rattle.orch_core.specs.OrchBase.declared.server.Moment.{Moment}
 pub use Rattle.orch_core.specs.OrchBase.declared.server.ServerNo.{ServerNo}
@@ -43,9 +41,22 @@ pub use Rattle.orch_core.specs.Rounds.{after_turns, round_of}
 pub use Rattle.orch_core.specs.Runs.{Held, Recorded, engine, held_run, recorder}
 pub use Rattle.orch_core.specs.Starts.{StartsBy, kept_at_start, start, start_changes, without_turns}
 pub use Rattle.orch_core.specs.States.{State, nodes_of}
-pub use Rattle.orch_core.specs.Permission.Replicas.{replicas_but}
-pub use Rattle.plan_texts.specs.Takeovers.{takeover_ops}
-unfoldable pub use Rattle.plan_texts.specs.Texts.{plan_text}
+pub use Rattle.plan_lines.specs.Branches.{has_branches, recovery_plan}
+pub use Rattle.plan_lines.specs.RecoveryGrounds.Grounds.{ground_by}
+pub use Rattle.plan_lines.specs.PlanTexts.declared.line.Line.{Line}
+unfoldable pub use Rattle.plan_lines.specs.PlanTexts.Texts.{plan_text}
+pub use Rattle.plan_lines.specs.Straight.{straight_lines}
+pub use Rattle.orch_core.specs.RecoveryPlans.Deciding.{Ground}
+pub use Rattle.orch_core.specs.RecoveryPlans.declared.means.Means.{Means}
+pub use Rattle.orch_core.specs.RecoveryPlans.declared.means.Means.TheVariants as means
+pub use Rattle.orch_core.specs.RecoveryPlans.declared.purpose.Purpose.{Purpose}
+pub use Rattle.orch_core.specs.CommandRoutes.Routes.{route_of}
+pub use Rattle.orch_core.specs.CommandRoutes.declared.kinds.Regrouping.{Regrouping}
+pub use Rattle.orch_core.specs.CommandRoutes.declared.kinds.Regrouping.TheVariants as regrouping
+pub use Rattle.orch_core.specs.CommandRoutes.declared.route.Planner.{Planner}
+pub use Rattle.orch_core.specs.CommandRoutes.declared.route.Planner.TheVariants as planner
+pub use Rattle.orch_core.specs.CommandRoutes.declared.route.Route.{Route}
+pub use Rattle.orch_core.specs.CommandRoutes.declared.route.Route.TheVariants as route
 pub use Rattle.report_text.specs.Lines.{lines_text}
 unfoldable pub use Rattle.report_text.specs.Lines.{line_text, plain_text_of}
 pub use Rattle.report_text.specs.Summary.{summary_text}

@@ -18,6 +18,7 @@ mod summary;
 mod verdict;
 
 pub use asked::{Asked, Task, task_of};
+use command_line::command_routes;
 pub use ending::Ending;
 pub use journal::journal_report;
 pub use laws::{
@@ -27,6 +28,6 @@ pub use laws::{
 pub use names::names_of;
 use orch_core::{
     audit_lines, commands, instance_keeper_items, jobs_in_flight, node_claims, orch_base,
-    permission_items, scenarios_items, turns, unended_jobs_items,
+    scenarios_items, turns, unended_jobs_items,
 };
 pub use report::task_report;

@@ -1,7 +1,7 @@
 //! A keeper that keeps nothing.
 
-ghost use Rattle.std.specs.Prelude.{None, IfOk};
-ghost use Rattle.tasks.specs.Prelude.{HasKeeperCause, IsRising, KeepsAll};
+ghost use Rattle.std.specs.Prelude.{None};
+ghost use Rattle.tasks.specs.Prelude.{HasKeeperCause, KeepsAll};
 
 use crate::instance_keeper_items::{Change, Keeper, KeeperFault, Row};
 use crate::orch_base::Name;
@@ -29,7 +29,6 @@ impl Keeper for Nobody {
     }
 
     fn rows(&mut self, alloc: Global, _names: &[Name]) -> Result<Vec<Row>, KeeperFault>
-        ensures rising { IfOk result (λ given. IsRising given.items) }
         ensures cause { HasKeeperCause 0 0 result }
     {
         Ok(Vec::new(alloc))

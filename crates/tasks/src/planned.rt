@@ -1,9 +1,9 @@
 //! The plan of a single command, told in place of carrying it out.
 
 ghost use Rattle.std.specs.Prelude.{◌≡◌, ◌≤◌, ◌++◌, IfOk, OnOk};
-ghost use Rattle.tasks.specs.Prelude.{act_reply, nodes_of};
+ghost use Rattle.tasks.specs.Prelude.{act_reply, ground_by, nodes_of, straight_lines};
 ghost use Rattle.tasks.specs.Endings.{HasKeepersCause};
-ghost use Rattle.tasks.specs.Plans.{begun_state, lasting, planned_in, planned_text, takeover_planned};
+ghost use Rattle.tasks.specs.Plans.{begun_state, ground_in, lasting, means_of, planned_in, planned_text, recovery_planned, straight};
 ghost use Rattle.tasks.specs.Progress.{point};
 ghost use Rattle.tasks.specs.Report.{plan_answer};
 ghost use Rattle.tasks.specs.Singles.{Writes, view};
@@ -11,18 +11,20 @@ ghost use Rattle.tasks.specs.Sinks.{across};
 ghost use Rattle.tasks.specs.Stands.{AreNamedIn, AreTurnsIn, IsCommandIn, PlanStands};
 
 use crate::Ending;
+use crate::command_routes::{Planner, Regrouping, Route};
 use crate::commands::Command;
 use crate::instance_keeper_items::{Book, Keeper};
 use crate::jobs_in_flight::find;
 use crate::nobody::Nobody;
 use crate::node_claims::ClaimAnswer;
 use crate::orch_base::{Memory, Name, ServerNo, Sink};
-use crate::permission_items::replicas_but;
 use crate::single::{Report, begun_by, claim_ahead, told_report, write_report};
 use crate::turns::{Act, BoxedCommand, Reply, Turn};
 use crate::unended_jobs_items::Unended;
 use orch_core::{Engine, TurnFault};
-use plan_texts::{print_plan, takeover};
+use plan_lines::{
+    Ground, Means, Op, Purpose, has_branches, print_plan, recovery_plan, straight_lines,
+};
 use std::alloc::Global;
 
 // Whose claim lasts, where the command would claim ahead in vain.
@@ -52,26 +54,72 @@ fn begin(alloc: Global, engine: &mut Engine, own: &BoxedCommand) -> Result<Reply
     }
 }
 
-// A takeover, by its instance and its destination.
-fn print_takeover(
+// How the replicas of a regroup go below the best of them; how far marks stand apart isn't told.
+fn means_of(route: Route) -> Means
+    ensures { result ≡ means_of route }
+{
+    match route {
+        Route::Begins(Planner::Regroups(Regrouping::ByMatches)) => Means::Matches(0),
+        Route::Begins(Planner::Regroups(Regrouping::ByBridges))
+        | Route::Begins(Planner::Coordinates(_))
+        | Route::Begins(Planner::Gtids(_))
+        | Route::Begins(Planner::Paths(_))
+        | Route::Begins(Planner::Matches(_))
+        | Route::Discovers
+        | Route::Forgets
+        | Route::Asks(_)
+        | Route::Decides(_)
+        | Route::Recovers
+        | Route::TakesOver => Means::Bridges,
+    }
+}
+
+// By what is planned.
+fn ground(engine: &Engine) -> Ground<'_>
+    ensures { ground_by result ≡ ground_in engine.now }
+{
+    Ground {
+        world: engine.world(),
+        book: engine.book(),
+        moment: engine.now(),
+    }
+}
+
+// A recovery for a purpose, by its instance.
+fn print_recovery(
+    alloc: Global,
+    names: &[Name],
+    by: &Ground<'_>,
+    purpose: Purpose,
+    means: Means,
+    i: Option<ServerNo>,
+    out: &mut Vec<u8>,
+) -> Result<(), Memory>
+    ensures { OnOk result (out.new.items ≡ out.old.items
+        ++ planned_text names.now (recovery_planned (ground_by by.now) purpose means i)) }
+{
+    match i {
+        Some(i) => {
+            let lines = recovery_plan(alloc, by, purpose, means, i)?;
+            print_plan(alloc, names, has_branches(purpose), &lines, out)
+        }
+        None => print_plan(alloc, names, false, &[], out),
+    }
+}
+
+// A job that goes one way, by its operations.
+fn print_straight(
     alloc: Global,
     names: &[Name],
     book: &Book,
-    i: Option<ServerNo>,
-    d: Option<ServerNo>,
+    ops: &[Op],
     out: &mut Vec<u8>,
 ) -> Result<(), Memory>
-    ensures { OnOk result (out.new.items
-        ≡ out.old.items ++ planned_text names.now (takeover_planned book.now i d)) }
+    ensures { OnOk result (out.new.items ≡ out.old.items
+        ++ planned_text names.now (straight (straight_lines book.now ops.now))) }
 {
-    match (i, d) {
-        (Some(m), Some(d)) => {
-            let others = replicas_but(alloc, book, m, Some(d))?;
-            let ops = takeover(alloc, m, d, &others)?;
-            print_plan(alloc, names, Some(m), &ops, out)
-        }
-        (None, _) | (Some(_), None) => print_plan(alloc, names, None, &[], out),
-    }
+    let lines = straight_lines(alloc, book, ops)?;
+    print_plan(alloc, names, false, &lines, out)
 }
 
 // What the job of a number plans, which the command began.
@@ -88,12 +136,13 @@ fn print_planned(
 {
     let jobs = engine.open_jobs();
     let Some(at) = find(jobs, job) else {
-        return print_plan(alloc, names, None, &[], out);
+        return print_plan(alloc, names, false, &[], out);
     };
     match &jobs[at] {
-        Unended::Plan(job) => print_plan(alloc, names, None, job.left(), out),
-        Unended::Recovery(_, _) => {
-            print_takeover(alloc, names, engine.book(), command.i, command.d, out)
+        Unended::Plan(job) => print_straight(alloc, names, engine.book(), job.left(), out),
+        Unended::Recovery(job, _) => {
+            let (by, means) = (ground(engine), means_of(Route::of(command.name)));
+            print_recovery(alloc, names, &by, job.purpose(), means, command.i, out)
         }
     }
 }

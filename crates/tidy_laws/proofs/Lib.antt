@@ -8,6 +8,7 @@ pub mod Recovering
 pub mod Begun
 pub mod Passing
 pub mod Reading
+pub mod Saying
 pub mod Starting
 pub mod States
 pub mod Runs

@@ -1,5 +1,5 @@
 -- When what is dumped of a state of a run reads back.
-use Rattle.std.specs.Prelude.{◌≡◌, ℕ, Ok}
+use Rattle.std.specs.Prelude.{◌≡◌, ℕ, List, [], map, Ok}
 use Rattle.run_laws.specs.Scenarios.declared.scenario.Scenario.{Scenario}
 use Rattle.run_laws.specs.Scenarios.Scenarios.{IsScenario}
 use Rattle.scenario_dump.specs.Reading.{dumped_scenario, refitted}
@@ -8,9 +8,25 @@ use Rattle.scenario_reader.specs.ReadScenarios.{scenario_in}
 use Rattle.run_laws.specs.ServerModel.Worlds.{World}
 use Rattle.run_laws.specs.WorldOpenings.Opening.{opened_world}
 
--- the text reads without a fault, as the scenario that it tells; this can be run, and its servers open to the very
--- world
+-- What a scenario says is what was dumped: the moment, whether GTIDs are used, each server's name, UUID, number, version,
+-- label, data centre and log, and the orchestrators, marks, block periods, aliases, filters and hooks. It has no turns.
+pub record SaysWhatWasDumped (w : World) (s : Scenario) (now : ℕ) (x : Scenario) : Type 0 where
+  pub moment : x.moment.0 ≡ now
+  pub gtid : x.opening.gtid ≡ w.gtid
+  pub servers : map (λ i. i.settings) x.opening.servers ≡ map (λ v. v.settings) w.servers
+  pub nodes : x.nodes ≡ s.nodes
+  pub pseudo : x.pseudo ≡ s.pseudo
+  pub block : x.block ≡ s.block
+  pub blocks : x.blocks ≡ s.blocks
+  pub aliases : x.aliases ≡ s.aliases
+  pub filters : x.filters ≡ s.filters
+  pub hooks : x.hooks ≡ s.hooks
+  pub turns : x.turns ≡ []
+
+-- the text reads without a fault, as the scenario that it tells, which says what was dumped; it can be run, and its
+-- servers open to the very world
 pub record ReadsBack (w : World) (s : Scenario) (now : ℕ) : Type 0 where
   pub reads : scenario_in (dump_text w s now) ≡ Ok (dumped_scenario w s now)
   pub runs : IsScenario (dumped_scenario w s now)
   pub opens : (room flushes : ℕ) → opened_world (dumped_scenario w s now).opening room flushes ≡ refitted room flushes w
+  pub says : (x : Scenario) → scenario_in (dump_text w s now) ≡ Ok x → SaysWhatWasDumped w s now x

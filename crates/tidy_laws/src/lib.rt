@@ -39,8 +39,8 @@ pub fn read_scenarios_can_be_printed()
 {}
 
 /// What is dumped of a quiet state of a run over a scenario that was read, and keeps the limits of scenarios, reads
-/// without a fault, as a scenario that can be run; and its servers open to the very world that was dumped: the history
-/// of each server, its log, first kept file, source, coordinates, threads and settings.
+/// without a fault, as a scenario that can be run and says what was dumped; and its servers open to the very world: the
+/// history of each server, its log, first kept file, source, coordinates, threads and settings.
 pub fn dumps_of_runs_read_back()
     ensures { InEveryStateOf (λ s now. (bytes : List ℕ) → scenario_in bytes ≡ Ok s
         → IsQuiet now.world → IsWithinLimits now.world s now.moment

@@ -3,8 +3,8 @@ use Rattle.std.proofs.Common.{◌≡◌, ◌∙◌, ℕ, ◌≤◌, true, false,
 use Rattle.std.specs.Prelude.{IfSome, codes, Result}
 use Rattle.top_call.proofs.Prelude.{AskARead, AskOfRead, Asks, AskToDraw, Call, Closes, Consumes, DrawEnds, Drawing, End, Ending, Ends, Fault}
 use Rattle.top_call.proofs.Prelude.{FaultsAs, FaultsFor, Gives, HasKeepersCause, Idles, IsComplete, IsDrawn, IsGood, IsReported, IsTaken, IsUsage}
-use Rattle.top_call.proofs.Prelude.{NoneRose, OfRead, Places, ReadsWhole, Rose, Row, Scenario, StopsAtFirst, Taken, TakesLine, Tells, Usage, Way}
-use Rattle.top_call.proofs.Prelude.{Work, between, call, drawing_of, drawn_text, fault_text, names_of, next_count, nothing_is_front, places_of}
+use Rattle.top_call.proofs.Prelude.{NoneRose, OfRead, Places, ReadsWhole, Rose, Row, Scenario, FailsByKeeper, Taken, TakesLine, Tells, Usage, Way}
+use Rattle.top_call.proofs.Prelude.{Work, between, call, drawing_of, drawn_text, fault_text, names_of, nothing_is_front, places_of}
 use Rattle.top_call.proofs.Prelude.{same_Some, scenario_in, status_of, taken, taken_have, takes_nothing, task_of, usage_fault}
 use Rattle.top_call.proofs.Prelude.ends
 use Rattle.top_call.proofs.Prelude.usage
@@ -114,12 +114,11 @@ module _ where
 
 -- ---- the keeper's count
 
-pub unmoved : (before now : ℕ) (w : Way) → (w ≡ way.Keeper → ⊥) → now ≡ before → StopsAtFirst before now (status_of w)
+pub unmoved : (before now : ℕ) (w : Way) → (w ≡ way.Keeper → ⊥) → now ≡ before → FailsByKeeper before now (status_of w)
 unmoved before now w other same = record {
   later = omega (arith, same);
   failed = λ five. absurd (other (of_five w five));
-  sink = λ four. inl same;
-  others = λ not_four not_five. same;
+  idle = λ low. same;
 }
 
 pub told_of_faults : (w : Way) (P Q : Type 0) → ((w ≡ way.Fault) × P) ⊎ ((w ≡ way.Memory) × Q) → w ≡ way.Keeper → ⊥
@@ -133,26 +132,34 @@ way_of ends.Unwritten = way.Sink
 way_of ends.Keeper = way.Keeper
 way_of ends.Memory = way.Memory
 
-pub counted : (before now : ℕ) (e : Ending) → HasKeepersCause before now e → StopsAtFirst before now (status_of (way_of e))
-counted before now (ends.Written refused) cause = unmoved before now (way.Reported refused) (λ is. absurd cc) (cause.written refused refl)
-counted before now ends.Unwritten cause = record {
+pub counted : (before now : ℕ) (e : Ending) → HasKeepersCause before now e → FailsByKeeper before now (status_of (way_of e))
+counted before now e cause = record {
   later = cause.later;
-  failed = λ five. absurd (omega (arith, five));
-  sink = λ four. cause.unwritten refl;
-  others = λ not_four not_five. absurd (not_four refl);
+  failed = λ five. cause.failed (at_five e five);
+  idle = λ low. absurd (asked e low);
 }
-counted before now ends.Keeper cause = record {
-  later = cause.later;
-  failed = λ five. cause.failed refl;
-  sink = λ four. absurd (omega (arith, four));
-  others = λ not_four not_five. absurd (not_five refl);
-}
-counted before now ends.Memory cause = unmoved before now way.Memory (λ is. absurd cc) (cause.memory refl)
+  where
+    at_five : (e : Ending) → status_of (way_of e) ≡ 5 → e ≡ ends.Keeper
+    at_five (ends.Written true) five = absurd (omega (arith, five))
+    at_five (ends.Written false) five = absurd (omega (arith, five))
+    at_five ends.Unwritten five = absurd (omega (arith, five))
+    at_five ends.Keeper five = refl
+    at_five ends.Memory five = absurd (omega (arith, five))
 
-pub keeper_rose : (before now : ℕ) (w : Way) → StopsAtFirst before now (status_of w) → w ≡ way.Keeper → Rose before now
-keeper_rose before now w stops is =
-    let same : now ≡ next_count before = stops.failed (ap status_of is) in
-    subst (λ (n : ℕ). next_count before ≤ n) (sym same) (omega arith)
+    is_low : (n : ℕ) → (n ≡ 1) ⊎ (n ≡ 2) ⊎ (n ≡ 3) → (1 ≤ n) × (n ≤ 3)
+    is_low n (inl e) = (omega (arith, e), omega (arith, e))
+    is_low n (inr (inl e)) = (omega (arith, e), omega (arith, e))
+    is_low n (inr (inr e)) = (omega (arith, e), omega (arith, e))
+
+    asked : (e : Ending) → (status_of (way_of e) ≡ 1) ⊎ (status_of (way_of e) ≡ 2) ⊎ (status_of (way_of e) ≡ 3) → ⊥
+    asked (ends.Written true) low = let is = is_low 7 low in omega (arith, is.1)
+    asked (ends.Written false) low = let is = is_low 0 low in omega (arith, is.0)
+    asked ends.Unwritten low = let is = is_low 4 low in omega (arith, is.1)
+    asked ends.Keeper low = let is = is_low 5 low in omega (arith, is.1)
+    asked ends.Memory low = let is = is_low 6 low in omega (arith, is.1)
+
+pub keeper_rose : (before now : ℕ) (w : Way) → FailsByKeeper before now (status_of w) → w ≡ way.Keeper → Rose before now
+keeper_rose before now w stops is = stops.failed (ap status_of is)
 
 -- ---- what words ask
 

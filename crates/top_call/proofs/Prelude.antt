@@ -24,7 +24,6 @@ unfoldable pub use Rattle.recovery_runs.specs.NameOrder.NameOrder.{by_name}
 pub use Rattle.recovery_runs.specs.OpeningBook.Following.{FollowAudit}
 pub use Rattle.recovery_runs.specs.OrchBase.Causes.{Rose}
 pub use Rattle.recovery_runs.specs.OrchBase.Gives.{Gives}
-pub use Rattle.recovery_runs.specs.OrchBase.Memory.{next_count}
 pub use Rattle.recovery_runs.specs.OrchBase.Names.{HostPort}
 pub use Rattle.recovery_runs.specs.OrchBase.Whole.{length_fault, whole}
 pub use Rattle.recovery_runs.specs.OrchBase.declared.failed.NotRead.{NotRead}
@@ -40,6 +39,7 @@ pub use Rattle.recovery_runs.specs.OrchCore.States.{State, nodes_of}
 pub use Rattle.recovery_runs.specs.RecoveryPlans.Recoveries.{Recovery}
 pub use Rattle.recovery_runs.proofs.Ended.{failure-comes}
 pub use Rattle.recovery_runs.proofs.Failing.{fail-comes}
+pub use Rattle.recovery_runs.proofs.TurningWell.{turn-comes}
 pub use Rattle.recovery_runs.proofs.Tending.{began-comes, finish-comes, scenarios-comes, still-comes, told-next}
 pub use Rattle.recovery_runs.specs.Finishes.{IsFinish}
 pub use Rattle.recovery_runs.proofs.RunLaws.Aims.{turn-aimed}
@@ -95,7 +95,7 @@ pub use Rattle.tasks.specs.declared.asked.Task.{Task}
 pub use Rattle.tasks.specs.declared.ending.Ending.{Ending}
 pub use Rattle.tasks.specs.declared.ending.Ending.TheVariants as ends
 pub use Rattle.top_call.specs.Ends.{AskARead, Asks, AskToDraw, Call, Closes, DrawEnds, Ends, EndsBy, FaultsAs, FaultsFor, Idles, IsComplete, IsGood}
-pub use Rattle.top_call.specs.Ends.{IsReported, IsTask, IsUsage, NoneRose, ReadsWhole, StopsAtFirst, call, drawn_text, status_of}
+pub use Rattle.top_call.specs.Ends.{IsReported, IsTask, IsUsage, NoneRose, ReadsWhole, FailsByKeeper, call, drawn_text, status_of}
 pub use Rattle.top_call.specs.Faults.{fault_text}
 pub use Rattle.top_call.specs.Reads.{OfRead, ReadsAs, stop_by}
 pub use Rattle.top_call.specs.Report.{EndsAs, IsToWrite, KeepsRows, Report, TakesBehind, WritesErr, WritesOut, drawn_report, read_report, report}
@@ -111,3 +111,10 @@ pub use Rattle.recovery_runs.specs.Turns.declared.turn.Turn.{Turn}
 pub use Rattle.recovery_runs.specs.Turns.declared.turn.Turn.TheVariants as turn
 pub use Rattle.recovery_runs.specs.UnendedJobs.declared.docket.Docket.{Docket}
 pub use Rattle.recovery_runs.specs.UnendedJobs.declared.unended.Unended.TheVariants as unended
+pub use Rattle.recovery_runs.proofs.Looks.{looks-before}
+pub use Rattle.recovery_runs.proofs.RunLaws.Acting.{active-alike, held-last, lapsed-keep-nothing, passing-is-restart, renewing-alone, taken-nothing}
+pub use Rattle.recovery_runs.proofs.RunLaws.Moments.{jobs-rise, last-never-sinks, passes-time, past-comes}
+pub use Rattle.recovery_runs.proofs.RunLaws.Readings.{discoveries-read, jobs-store, openings-give-numbers, polls-read, polls-store, readings-never-sink}
+pub use Rattle.recovery_runs.proofs.RunLaws.Waits.{begun-may-wait, jobs-may-wait}
+pub use Rattle.top_call.specs.Promises.{Promises}
+pub use Rattle.top_call.specs.Runs.{KeepTime, KeepsTime, LookFirst, LooksFirstIn, StoresReadings}

@@ -2,6 +2,7 @@
 -- recoveries begin apart and finish well.
 use Rattle.std.proofs.Common.{◌≡◌, ℕ, zero, suc, ◌<◌, Bool, true, false, cond, List, [], ◌∷◌, ◌++◌, length, Option, Some, None, ◌∙◌, refl, sym, ap, subst, take, inl, inr, arith}
 use Rattle.std.specs.Prelude.{All, IfSome, is_some, ◌^◌, ◌≤◌}
+use Rattle.top_call.proofs.Prelude.{turn-comes}
 use Rattle.top_call.proofs.Prelude.{ActAlone, All-append, All-cons, All-nil, All-take, AreSoFar, Asked, AskOfRead, BeginApart, BeginsApart, Comes}
 use Rattle.top_call.proofs.Prelude.{ComesTo, CommandTurn, Docket, Finishes, FinishWell, Follow-whole, FollowAudit, FollowAudit-whole, Goes}
 use Rattle.top_call.proofs.Prelude.{Goes-comes, Held, HostPort, IsActiveAlone, IsAsked, IsClaimRow, IsCommand, IsFinish, IsNumberOf, IsOn, IsOnOwn}
@@ -19,6 +20,10 @@ use Rattle.top_call.proofs.Prelude.{passing-restarts, periods-in-turn, plans-don
 use Rattle.top_call.proofs.Prelude.{restart-comes, round_of, rounds_of, rounds_while, row_in, run_state, run_turns, same_Some, scan-tries}
 use Rattle.top_call.proofs.Prelude.{scenario_in_sound, scenarios-comes, some_ran, spends-last, stages, start, start_changes, still-comes, taker}
 use Rattle.top_call.proofs.Prelude.{taker_is, task_of, told-next, turn-aimed, turn-fates, turns-round, turns_of, waits, without_turns}
+use Rattle.top_call.proofs.Prelude.{KeepTime, KeepsTime, LookFirst, LooksFirstIn, Promises, StoresReadings, active-alike, begun-may-wait}
+use Rattle.top_call.proofs.Prelude.{discoveries-read, held-last, jobs-may-wait, jobs-rise, jobs-store, lapsed-keep-nothing, last-never-sinks}
+use Rattle.top_call.proofs.Prelude.{looks-before, openings-give-numbers, passes-time, passing-is-restart, past-comes, polls-read, polls-store}
+use Rattle.top_call.proofs.Prelude.{readings-never-sink, renewing-alone, taken-nothing}
 use Rattle.top_call.proofs.Prelude.act
 use Rattle.top_call.proofs.Prelude.asked
 use Rattle.top_call.proofs.Prelude.turn
@@ -119,6 +124,7 @@ module _ (w : Work) (ts : List Turn) (kept : Option (List Row)) (run : Recorded)
     fails = plans-fail run.state;
     done = plans-done (length w.scenario.opening.servers) run.state goes.ready;
     failed = fail-comes w.scenario found.xs run.state comes_to;
+    turns = turn-comes w.scenario found.xs run.state comes_to;
     sound = goes.sound;
     safe = λ q. (goes.sound q).flight.safe;
     matched = λ q. matches-end run.state.world (goes.sound q).flight.safe;
@@ -177,7 +183,31 @@ module _ (w : Work) (ts : List Turn) (kept : Option (List Row)) (run : Recorded)
         jobs = λ t. passing-drops run.state t;
         since = λ t. begun-since (length w.scenario.opening.servers) run.state t (reckoned-comes w.scenario found.xs run.state comes_to);
         row = own_row is;
+        alike = active-alike run.state;
+        keeps_nothing = lapsed-keep-nothing run.state;
+        passing = passing-is-restart run.state;
+        renewing = renewing-alone run.state;
+        minute = held-last run.state;
+        taken = taken-nothing run.state;
       }
+
+  pub keeps : KeepsTime w run.state
+  unfolding comes_to comes_by
+  keeps =
+      let may = jobs-may-wait w.scenario found.xs run.state comes_to in
+      record {
+        time = λ t. passes-time run.state t;
+        past = past-comes w.scenario found.xs run.state comes_to;
+        rising = jobs-rise w.scenario found.xs run.state comes_to;
+        last = λ rows t. last-never-sinks rows run.state t;
+        wait = may.0;
+        waits = may.1;
+        begun = begun-may-wait run.state;
+      }
+
+  pub looks : (id : ℕ) (r : Recovery) (docket : Docket) → job_at run.state.jobs id ≡ Some (unended.Recovery r docket) → LooksFirstIn w ts run.state id r docket
+  unfolding comes_by
+  looks id r docket at = record { through = found; looks = λ by. looks-before w.scenario by.xs run.state (comes_by by) id r docket at }
 
   pub finishes : (rows : List Row) (id : ℕ) (r : Recovery) (docket : Docket) (lines : List Line) → IsFinish run.state id r docket lines → Finishes w ts rows run.state id r docket lines
   unfolding comes_by
@@ -356,3 +386,34 @@ obeys words bytes = λ w run rows c is on. obeys_at rows run.state c
 
 pub active_alone : (words : List (List ℕ)) (bytes : List ℕ) → ActAlone words bytes
 active_alone words bytes = λ w run is on. on_each words bytes w run is (IsActiveAlone w run.state) (λ ts scenario all comes. alone w ts w.new run scenario all comes refl) on
+
+pub look_first : (words : List (List ℕ)) (bytes : List ℕ) → LookFirst words bytes
+look_first words bytes = λ w run ts id r docket is on at.
+    so_far words bytes w run is (λ us. LooksFirstIn w us run.state id r docket) (λ us scenario all comes. looks w us w.new run scenario all comes id r docket at) ts on
+
+pub keep_time : (words : List (List ℕ)) (bytes : List ℕ) → KeepTime words bytes
+keep_time words bytes = λ w run is on. on_each words bytes w run is (KeepsTime w run.state) (λ ts scenario all comes. keeps w ts w.new run scenario all comes) on
+
+stores_readings : StoresReadings
+stores_readings = record {
+  polls = polls-read;
+  stores = polls-store;
+  discoveries = discoveries-read;
+  jobs = jobs-store;
+  never_sink = readings-never-sink;
+  openings = openings-give-numbers;
+}
+
+pub promised : (words : List (List ℕ)) (bytes : List ℕ) → Promises words bytes
+promised words bytes = record {
+  safe = safe_run words bytes;
+  commands = obeys words bytes;
+  begins = begin_apart words bytes;
+  looks = look_first words bytes;
+  finishes = finish_well words bytes;
+  losses = tell_truly words bytes;
+  hooks = tell_hooks words bytes;
+  alone = active_alone words bytes;
+  readings = stores_readings;
+  keeps_time = keep_time words bytes;
+}

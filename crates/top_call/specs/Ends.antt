@@ -1,7 +1,7 @@
 -- How a call ends.
 use Rattle.std.specs.Prelude.{◌≡◌, ◌≢◌, ℕ, ◌≤◌, ◌⊎◌, ⊤, Bool, List, [], codes, if◌then◌else◌, IfSome, Option, Some, None, Result, Ok, Err}
 use Rattle.top_call.specs.Prelude.{AskOfRead, BadWords, Consumes, Drawing, End, Ending, Fails, FailsIn, Fault, IsWritten, Places, Rose, Row, Scenario}
-use Rattle.top_call.specs.Prelude.{Taken, Takes, TakesFront, TakesLine, Tells, Usage, Work, between, course_of, drawing_of, names_of, next_count}
+use Rattle.top_call.specs.Prelude.{Taken, Takes, TakesFront, TakesLine, Tells, Usage, Work, between, course_of, drawing_of, names_of}
 use Rattle.top_call.specs.Prelude.{places_of, scenario_in, scenario_text, task_of}
 use Rattle.top_call.specs.Prelude.ends
 use Rattle.top_call.specs.Faults.{fault_text}
@@ -158,14 +158,11 @@ FaultsAs (Err usage) read status = status ≡ 2 → ⊥
 abbrev pub FaultsOf : List (List ℕ) → Option (List ℕ) → ℕ → Type 0
 FaultsOf words left status = IfSome left (λ bytes. FaultsAs (places_of words) (scenario_in bytes) status)
 
--- The keeper's first fault ends the call: its count rose once at 5, so not before the turn that met the fault, nor
--- after it; perhaps at 4, where what was left of the report couldn't be written; and with any other status it didn't
--- rise.
-pub record StopsAtFirst (before now status : ℕ) : Type 0 where
+-- 5 only where the keeper's count rose, which never falls; with 1, 2 and 3 it isn't asked
+pub record FailsByKeeper (before now status : ℕ) : Type 0 where
   pub later : before ≤ now
-  pub failed : status ≡ 5 → now ≡ next_count before
-  pub sink : status ≡ 4 → (now ≡ before) ⊎ (now ≡ next_count before)
-  pub others : status ≢ 4 → status ≢ 5 → now ≡ before
+  pub failed : status ≡ 5 → Rose before now
+  pub idle : (status ≡ 1) ⊎ (status ≡ 2) ⊎ (status ≡ 3) → now ≡ before
 
 -- no count of faults rose: of the source, of the keeper, of out or of err
 pub record NoneRose (source_before source_after keeper_before keeper_after : ℕ) (out err : End) : Type 0 where

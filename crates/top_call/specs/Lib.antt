@@ -4,6 +4,7 @@ pub mod Faults
 pub mod Reads
 pub mod Report
 pub mod Runs
+pub mod Promises
 pub use Rattle.recovery_runs.specs.AuditLog as AuditLog
 pub mod CommandLine
 pub use Rattle.recovery_runs.specs.Commands as Commands

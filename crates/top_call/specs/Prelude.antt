@@ -22,7 +22,6 @@ pub use Rattle.recovery_runs.specs.KeptRows.Rows.{IsRising, row_in}
 pub use Rattle.recovery_runs.specs.KeptRows.declared.row.Row.{Row}
 pub use Rattle.recovery_runs.specs.Knowledge.Knowing.{recovery_job}
 pub use Rattle.recovery_runs.specs.OrchBase.Causes.{Rose}
-pub use Rattle.recovery_runs.specs.OrchBase.Memory.{next_count}
 pub use Rattle.recovery_runs.specs.OrchCore.After.{step}
 pub use Rattle.recovery_runs.specs.OrchCore.RefusedCommands.{IsAnswer, refusal_at}
 pub use Rattle.recovery_runs.specs.OrchCore.Polls.{changes_of}
@@ -40,6 +39,7 @@ pub use Rattle.recovery_runs.specs.Failing.{RecoveriesFailForWhatBefell}
 pub use Rattle.recovery_runs.specs.Finishes.{IsFailure, IsFinish, own_lines, promoted_then, recovery_after, told_hooks}
 pub use Rattle.recovery_runs.specs.Origins.{Began, ExplainsAlong}
 pub use Rattle.recovery_runs.specs.RunFinishes.{AreScenarios, FailsWell, FinishesWell}
+pub use Rattle.recovery_runs.specs.TurnsWell.{RecoveriesTurnWell}
 pub use Rattle.recovery_runs.specs.RunLaws.Aims.{IsAimed}
 pub use Rattle.recovery_runs.specs.RunLaws.Answering.{TriesByTable}
 pub use Rattle.recovery_runs.specs.RunLaws.Begins.{BeginApartInTurn}
@@ -79,3 +79,8 @@ pub use Rattle.recovery_runs.specs.Turns.declared.turn.Turn.{Turn}
 pub use Rattle.recovery_runs.specs.Turns.declared.turn.Turn.TheVariants as turn
 pub use Rattle.recovery_runs.specs.UnendedJobs.declared.docket.Docket.{Docket}
 pub use Rattle.recovery_runs.specs.UnendedJobs.declared.unended.Unended.TheVariants as unended
+pub use Rattle.recovery_runs.specs.Looks.{LooksBefore}
+pub use Rattle.recovery_runs.specs.RunLaws.Acting.{ActiveActAlike, HeldLastAMinute, LapsedKeepNothing, PassingRestarts, RenewingClaimsAlone, TakenChangeNothing}
+pub use Rattle.recovery_runs.specs.RunLaws.Moments.{JobsRise, NothingIsToCome, PassesTime}
+pub use Rattle.recovery_runs.specs.RunLaws.Readings.{DiscoveriesRead, JobsStore, OpeningsGiveNumbers, PollsRead, PollsStore, ReadingsNeverSink}
+pub use Rattle.recovery_runs.specs.RunLaws.Waits.{BegunMayWait, MayWait}

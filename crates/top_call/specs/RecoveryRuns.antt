@@ -5,6 +5,7 @@ pub use Rattle.recovery_runs.specs.Facts
 pub use Rattle.recovery_runs.specs.Failing
 pub use Rattle.recovery_runs.specs.Finished
 pub use Rattle.recovery_runs.specs.Finishes
+pub use Rattle.recovery_runs.specs.Looks
 pub use Rattle.recovery_runs.specs.Origins
 pub use Rattle.recovery_runs.specs.RunFinishes
 pub use Rattle.recovery_runs.specs.SingleTurns

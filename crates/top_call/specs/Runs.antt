@@ -1,6 +1,7 @@
 -- What holds of each run of the turns that words take over the scenario that bytes are, whatever rows the keeper hands
 -- back: of the run of a call's report, too.
 use Rattle.std.specs.Prelude.{All, ◌≡◌, ℕ, ◌+◌, ◌^◌, ◌≤◌, Bool, false, List, [], ◌∷◌, ◌++◌, length, map, take, ◌⊎◌, Some}
+use Rattle.top_call.specs.Prelude.{RecoveriesTurnWell}
 use Rattle.top_call.specs.Prelude.{ActsWhereActive, AreScenarios, AuditIs, Began, BeginApartInTurn, BegunJob, Cause, ClaimsWait, CommandTurn, Docket}
 use Rattle.top_call.specs.Prelude.{EntriesHaveJobs, ExplainsAlong, ExplainsTurn, Fact, FailsWell, FinishesWell, FoundMatchesEnd, HeldState, HookState}
 use Rattle.top_call.specs.Prelude.{IsAimed, IsAnswer, IsApart, IsClaimRow, IsEarly, IsExplained, IsFailure, IsFinish, IsOn, IsOnOwn, IsOnTurns}
@@ -11,6 +12,9 @@ use Rattle.top_call.specs.Prelude.{Row, Safe, Scenario, SoundState, SpendsWaitsL
 use Rattle.top_call.specs.Prelude.{claim_key, closed, course_of, engine, entries_begun, entries_put, entry_kept, interrupted_at, job_at, leases_after}
 use Rattle.top_call.specs.Prelude.{moment_at, own_lines, period_of, promoted_then, recoveries_begun, recoveries_scanned, recovery_after, recovery_job}
 use Rattle.top_call.specs.Prelude.{refusal_at, reply_of, route_of, row_in, run_turns, start, step, taken, told_hooks, turns_of, with_entry}
+use Rattle.top_call.specs.Prelude.{ActiveActAlike, BegunMayWait, DiscoveriesRead, HeldLastAMinute, JobsRise, JobsStore, LapsedKeepNothing, LooksBefore}
+use Rattle.top_call.specs.Prelude.{MayWait, NothingIsToCome, OpeningsGiveNumbers, PassesTime, PassingRestarts, PollsRead, PollsStore, ReadingsNeverSink}
+use Rattle.top_call.specs.Prelude.{RenewingClaimsAlone, TakenChangeNothing}
 use Rattle.top_call.specs.Prelude.act
 use Rattle.top_call.specs.Prelude.answered
 use Rattle.top_call.specs.Prelude.turn
@@ -23,7 +27,8 @@ use Rattle.top_call.specs.Ends.{IsTask}
 -- are apart: each cluster has at most one that isn't ended. Each of these has its unended job, and each job's entry
 -- isn't ended. A lease names an unended job, a job has the leases of all that it may still change, and its turn leaves
 -- every other server as it is; a plan's job that fails was befallen by its cause in that turn, one that nothing befalls
--- is done, and a recovery fails for what befell it, too. Where the state is quiet it is sound, and its servers are
+-- is done, and a recovery fails for what befell it, too, and owes nothing in its next turn. Where the state is quiet it
+-- is sound, and its servers are
 -- safe; where the log of one matches another's, all that the first has executed is a beginning of what the other has
 -- and ends at that coordinate, and so it is of each match that a job found, as long as its server stands there.
 pub record IsSafeState (s : State) : Type 0 where
@@ -37,6 +42,7 @@ pub record IsSafeState (s : State) : Type 0 where
   pub fails : PlansFailForWhatBefell s
   pub done : PlansAreDone s
   pub failed : RecoveriesFailForWhatBefell s
+  pub turns : RecoveriesTurnWell s
   pub sound : IsQuiet s.world → SoundState s
   pub safe : IsQuiet s.world → Safe s.world
   pub matched : IsQuiet s.world → MatchesEnd s
@@ -121,7 +127,10 @@ OwnClaimRow w s = (old new : List Row) → w.old ≡ Some old → w.new ≡ Some
 -- At most one of them is active, and the kept claim is then its own. Each of their turns that doesn't lapse is the
 -- active one's, and one that lapsed does nothing. No claim is granted before another's has run out, and where one
 -- passes orchestrator starts again, so that no job is left, and the jobs of all later states were begun since. Where
--- the keeper tells its rows, the claim's row is the kept claim's.
+-- the keeper tells its rows, the claim's row is the kept claim's. A turn of one that remembers that it is active answers,
+-- keeps and does what the same turn without several orchestrators does; a lapsed one keeps nothing. A claim that passes
+-- is the restart and the claim, one of the node that held the last is the claim alone, each lasts 60 seconds, and one
+-- that is taken changes nothing.
 pub record IsActiveAlone (w : Work) (s : State) : Type 0 where
   pub one : OneIsActive s
   pub kept : ItsClaimIsKept s
@@ -132,6 +141,12 @@ pub record IsActiveAlone (w : Work) (s : State) : Type 0 where
   pub jobs : (t : Turn) → PassingLeavesNoJob s t
   pub since : (t : Turn) → PassingLeavesNewJobs (length w.scenario.opening.servers) s t
   pub row : OwnClaimRow w s
+  pub alike : ActiveActAlike s
+  pub keeps_nothing : LapsedKeepNothing s
+  pub passing : PassingRestarts s
+  pub renewing : RenewingClaimsAlone s
+  pub minute : HeldLastAMinute s
+  pub taken : TakenChangeNothing s
 
 -- so it is in every state of the run
 abbrev pub ActAlone : List (List ℕ) → List ℕ → Type 0
@@ -206,3 +221,44 @@ pub record TellsHooks (w : Work) (ts : List Turn) (rows : List Row) (s : State) 
 abbrev pub TellHooks : List (List ℕ) → List ℕ → Type 0
 TellHooks words bytes = (w : Work) (run : Recorded) (ts : List Turn) (rows : List Row) (id : ℕ) (r : Recovery) (docket : Docket) → IsTask words bytes w → AreSoFar w run ts
     → job_at run.state.jobs id ≡ Some (unended.Recovery r docket) → TellsHooks w ts rows run.state id r docket
+
+-- ---- how recoveries begin their work
+
+-- The first turn of a recovery in flight looks at its failed server; what it answers, and what the hooks before it
+-- answer, is so by the servers as they are then. So it is by whatever rows the turns lead there.
+pub record LooksFirstIn (w : Work) (ts : List Turn) (s : State) (id : ℕ) (r : Recovery) (docket : Docket) : Type 0 where
+  pub through : Through w.scenario w.task.waits ts s
+  pub looks : (by : Through w.scenario w.task.waits ts s) → LooksBefore (start w.scenario w.task.waits by.rows) by.xs s id r docket
+
+-- so each does, in the scenario's turns and in the rounds
+abbrev pub LookFirst : List (List ℕ) → List ℕ → Type 0
+LookFirst words bytes = (w : Work) (run : Recorded) (ts : List Turn) (id : ℕ) (r : Recovery) (docket : Docket) → IsTask words bytes w → AreSoFar w run ts
+    → job_at run.state.jobs id ≡ Some (unended.Recovery r docket) → LooksFirstIn w ts run.state id r docket
+
+-- ---- time, waits and numbers
+
+-- Only a tick lets time pass, and no recovery is of a later moment; the numbers of jobs rise; and each operation of each
+-- job may wait as often as the command line says, from its beginning on.
+pub record KeepsTime (w : Work) (s : State) : Type 0 where
+  pub time : (t : Turn) → PassesTime s t
+  pub past : NothingIsToCome s
+  pub rising : JobsRise s
+  pub last : (rows : List Row) (t : Turn) → s.last_job ≤ (step rows s t).last_job
+  pub wait : s.configuration.wait ≡ w.task.waits
+  pub waits : All (MayWait w.task.waits) s.jobs
+  pub begun : BegunMayWait s
+
+-- so it is in every state of the run
+abbrev pub KeepTime : List (List ℕ) → List ℕ → Type 0
+KeepTime words bytes = (w : Work) (run : Recorded) → IsTask words bytes w → IsOn (course_of w) run → KeepsTime w run.state
+
+-- ---- what is read
+
+-- in any state what is read of a server is what one status shows then, and it is stored, with numbers that rise
+pub record StoresReadings : Type 0 where
+  pub polls : PollsRead
+  pub stores : PollsStore
+  pub discoveries : DiscoveriesRead
+  pub jobs : JobsStore
+  pub never_sink : ReadingsNeverSink
+  pub openings : OpeningsGiveNumbers

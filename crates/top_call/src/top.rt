@@ -3,11 +3,11 @@
 ghost use Rattle.std.specs.Prelude.{◌≡◌, ◌≤◌, ◌⊎◌, ℕ, List, [], codes, map, IfSome, Option, Some};
 ghost use Rattle.top_call.specs.Prelude.{AskOfRead, Consumes, Drawing, HasKeepersCause, IsDrawn, IsScenario, IsTaken, Rose};
 ghost use Rattle.top_call.specs.Prelude.{TakesLine, Tells, across, drawing_of, names_of, task_of};
-ghost use Rattle.top_call.specs.Ends.{AskToDraw, DrawEnds, EndsBy, EndsOf, EndsOver, FaultsOf, IsComplete, IsGood, IsReported, IsUsage, NoneRose, ReadsWhole, StopsAtFirst, call, status_of};
+ghost use Rattle.top_call.specs.Ends.{AskToDraw, DrawEnds, EndsBy, EndsOf, EndsOver, FaultsOf, IsComplete, IsGood, IsReported, IsUsage, NoneRose, ReadsWhole, FailsByKeeper, call, status_of};
 ghost use Rattle.top_call.specs.Faults.{fault_text};
 ghost use Rattle.top_call.specs.Reads.{OfRead};
 ghost use Rattle.top_call.specs.Report.{ByReport, EndsAs, KeepsRows, WritesErr, WritesOut};
-ghost use Rattle.top_call.specs.Runs.{ActAlone, BeginApart, FinishWell, IsSafeRun, TellHooks, TellTruly, ObeysTable};
+ghost use Rattle.top_call.specs.Promises.{Promises};
 
 use crate::fault::fault_line;
 use crate::instance_keeper_items::Keeper;
@@ -85,7 +85,7 @@ fn report<O: Sink, E: Sink, K: Keeper>(
         result }
     ensures sink { result ≡ Way.Sink → Rose (O.faults out.old) (O.faults out.new)
         ⊎ Rose (E.faults err.old) (E.faults err.new) }
-    ensures keeper { StopsAtFirst (K.faults keeper.old) (K.faults keeper.new) (status_of result) }
+    ensures keeper { FailsByKeeper (K.faults keeper.old) (K.faults keeper.new) (status_of result) }
     ensures not_source { result ≡ Way.Source → ⊥ }
     ensures not_usage { result ≡ Way.Usage → ⊥ }
 {
@@ -146,7 +146,7 @@ fn answer<S: Source, O: Sink, E: Sink, K: Keeper>(
     ensures source { result ≡ Way.Source → Rose (S.faults source.old) (S.faults source.new) }
     ensures sink { result ≡ Way.Sink → Rose (O.faults out.old) (O.faults out.new)
         ⊎ Rose (E.faults err.old) (E.faults err.new) }
-    ensures keeper { StopsAtFirst (K.faults keeper.old) (K.faults keeper.new) (status_of result) }
+    ensures keeper { FailsByKeeper (K.faults keeper.old) (K.faults keeper.new) (status_of result) }
     ensures read { IsReported result
         → IfSome (S.left source.old)
         (λ bytes. Consumes (S.left source.old) (S.left source.new) bytes) }
@@ -204,7 +204,7 @@ fn respond<S: Source, O: Sink, E: Sink, K: Keeper>(
     ensures source { result ≡ Way.Source → Rose (S.faults source.old) (S.faults source.new) }
     ensures sink { result ≡ Way.Sink → Rose (O.faults out.old) (O.faults out.new)
         ⊎ Rose (E.faults err.old) (E.faults err.new) }
-    ensures keeper { StopsAtFirst (K.faults keeper.old) (K.faults keeper.new) (status_of result) }
+    ensures keeper { FailsByKeeper (K.faults keeper.old) (K.faults keeper.new) (status_of result) }
     ensures read { IsReported result
         → IfSome (S.left source.old)
         (λ bytes. Consumes (S.left source.old) (S.left source.new) bytes) }
@@ -258,7 +258,7 @@ pub fn orch_plain<S: Source, O: Sink, E: Sink, K: Keeper>(
     ensures source { result ≡ 3 → Rose (S.faults scenario.old) (S.faults scenario.new) }
     ensures sink { result ≡ 4 → Rose (O.faults out.old) (O.faults out.new)
         ⊎ Rose (E.faults err.old) (E.faults err.new) }
-    ensures keeper { StopsAtFirst (K.faults keeper.old) (K.faults keeper.new) result }
+    ensures keeper { FailsByKeeper (K.faults keeper.old) (K.faults keeper.new) result }
     ensures read { IfSome (S.left scenario.old) (λ bytes. ReadsWhole
         (map (λ w. w.items) words.now) bytes result (S.left scenario.old) (S.left scenario.new)) }
 
@@ -302,28 +302,9 @@ pub fn orch_plain<S: Source, O: Sink, E: Sink, K: Keeper>(
         (across (E.written err.old) (E.faults err.old) (E.written err.new) (E.faults err.new))
         → IsComplete result) }
 
-    // Whatever bytes the source has, also where it doesn't tell them: every state of each run of the words' turns over
-    // the scenario that they are, of the report's too, is held with its jobs in flight, its recoveries are apart, each
-    // that isn't ended has its unended job, a job's turn leaves the servers of others as they are, and every quiet
-    // state is sound and so safe, whatever rows the keeper hands back; and every command turn of such a run answers by
-    // the permission table, with the lowest number that applies, a refused one changing nothing.
-    ensures safe { (bytes : List ℕ) → IsSafeRun (map (λ w. w.items) words.now) bytes }
-    ensures commands { (bytes : List ℕ) → ObeysTable (map (λ w. w.items) words.now) bytes }
-
-    // In every such state recoveries begin apart by their block periods, as a command or a scan asked for them, and no
-    // entry is changed but by its own job's end or an acknowledgement. One that is done, by whatever turns and rows it
-    // came so far, leaves each replica that the book had attached to the failed server when it began promoted,
-    // following or lost for a true reason, and tells so; whom it drained, chose and promoted is so by what its turns
-    // showed and by the book that they had. One that ends tells the scenario's hooks that ran, in order; and until all
-    // before it have run it changes no server.
-    ensures begins { (bytes : List ℕ) → BeginApart (map (λ w. w.items) words.now) bytes }
-    ensures finishes { (bytes : List ℕ) → FinishWell (map (λ w. w.items) words.now) bytes }
-    ensures losses { (bytes : List ℕ) → TellTruly (map (λ w. w.items) words.now) bytes }
-
-    // In every such state at most one of several orchestrators is active, and takes their turns; where a claim passes
-    // from one to another, nothing of the other is left.
-    ensures alone { (bytes : List ℕ) → ActAlone (map (λ w. w.items) words.now) bytes }
-    ensures hooks { (bytes : List ℕ) → TellHooks (map (λ w. w.items) words.now) bytes }
+    // Whatever bytes the source has, also where it doesn't tell them: what is promised of every run of the words'
+    // turns over the scenario that they are, of the report's too, whatever rows the keeper hands back.
+    ensures promises { (bytes : List ℕ) → Promises (map (λ w. w.items) words.now) bytes }
 {
     match places(alloc, words) {
         Ok(places) => respond(alloc, &places, scenario, out, err, keeper).status(),

@@ -47,6 +47,10 @@ pub(crate) enum Kept {
     Candidate(Rule, u64),
     /// A recovery of the master m, its begin and, where the second server was promoted, its end.
     Recovery(u64, u64, Option<u64>),
+    /// Recovery 1 of the master m, begun at 0 and unended, as a row without a block period tells it.
+    Unblocked,
+    /// The same, interrupted at 0, with a block period.
+    Interrupted(u64),
     Switch(bool),
 }
 
@@ -107,7 +111,13 @@ fn instance(alloc: Global, no: u32, read: u64, moment: u64) -> Row {
     })
 }
 
-fn recovery(cluster: String, id: u64, begun: u64, ended: Option<u64>) -> Row {
+fn recovery(
+    cluster: String,
+    id: u64,
+    (begun, ended): (u64, Option<u64>),
+    outcome: Ending,
+    block: Option<u64>,
+) -> Row {
     Row::Recovery(RecoveryRow {
         id,
         cluster: OwnedText::new(cluster),
@@ -115,12 +125,9 @@ fn recovery(cluster: String, id: u64, begun: u64, ended: Option<u64>) -> Row {
         failed: ServerNo(0),
         begun: Moment(begun),
         ended: ended.map(Moment),
-        outcome: match ended {
-            Some(_) => Ending::Promoted(ServerNo(1)),
-            None => Ending::Unended,
-        },
+        outcome,
         acked: false,
-        block: Some(3600),
+        block,
     })
 }
 
@@ -140,7 +147,20 @@ fn row(alloc: Global, kept: Kept) -> Result<Row, Fail> {
             until: Moment(until),
         }),
         Kept::Recovery(id, begun, ended) => {
-            recovery(String::from_str(alloc, "m:3306")?, id, begun, ended)
+            let outcome = match ended {
+                Some(_) => Ending::Promoted(ServerNo(1)),
+                None => Ending::Unended,
+            };
+            let cluster = String::from_str(alloc, "m:3306")?;
+            recovery(cluster, id, (begun, ended), outcome, Some(3600))
+        }
+        Kept::Unblocked => {
+            let cluster = String::from_str(alloc, "m:3306")?;
+            recovery(cluster, 1, (0, None), Ending::Unended, None)
+        }
+        Kept::Interrupted(block) => {
+            let cluster = String::from_str(alloc, "m:3306")?;
+            recovery(cluster, 1, (0, Some(0)), Ending::Interrupted, Some(block))
         }
         Kept::Switch(enabled) => Row::Switch(enabled),
     })
@@ -198,13 +218,13 @@ fn sink_of(alloc: Global, room: usize, fails: u64) -> Result<MemSink, Fail> {
 }
 
 // The status of a call. What the call's contract says ends here, so that the proof of a test carries none of it.
-fn status_of(
+fn status_of<K: Keeper>(
     alloc: Global,
     words: &[Vec<u8>],
     source: &mut MemSource,
     out: &mut MemSink,
     err: &mut MemSink,
-    keeper: &mut MemKeeper,
+    keeper: &mut K,
 ) -> u8 {
     orch_plain(alloc, words, source, out, err, keeper)
 }
@@ -218,9 +238,20 @@ pub(crate) fn call(
     keeper: &mut MemKeeper,
 ) -> Result<Told, Fail> {
     let words = words_of(alloc, words)?;
+    call_by(alloc, &words, text, objects, keeper)
+}
+
+/// Calls `orch` by these words.
+pub(crate) fn call_by<K: Keeper>(
+    alloc: Global,
+    words: &[Vec<u8>],
+    text: &[u8],
+    objects: Objects,
+    keeper: &mut K,
+) -> Result<Told, Fail> {
     let mut source = source_of(alloc, text, objects.source_fails)?;
     let mut out = sink_of(alloc, objects.out_room, objects.out_fails)?;
     let mut err = sink_of(alloc, objects.err_room, 0)?;
-    let status = status_of(alloc, &words, &mut source, &mut out, &mut err, keeper);
+    let status = status_of(alloc, words, &mut source, &mut out, &mut err, keeper);
     Ok(Told { status, out, err })
 }

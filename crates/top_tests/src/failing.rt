@@ -89,8 +89,8 @@ const POLLED_ONE: &str = "1 poll-read 0 m:3306: read 1
 3 poll-read 0 r:3306: read 2
 ";
 
-// A recovery is interrupted by a restart, and blocks the next.
-const RESTARTS: &str =
+/// A recovery is interrupted by a restart, and blocks the next.
+pub(crate) const RESTARTS: &str =
     r#"{"version":1,"servers":[{"name":"m","history":[["m",100,1]]},{"name":"a","source":"m","executed":1}],"turns":[["fail","m"],["polls"],["command","recover",{"i":"m"}],["restart"],["command","recover",{"i":"m"}]]}"#;
 
 // The switch is enabled as it is, enabled again, disabled; then one more turn.

@@ -25,6 +25,10 @@ const ASKED: &str = "1 tick 0: now 11
 const REGISTERED: &str =
     r#"{"version":1,"servers":[{"name":"m"},{"name":"a","source":"m","rule":"must_not"}],"turns":[["tick",1]]}"#;
 
+// A cluster with a block period of its own.
+const BLOCKS: &str =
+    r#"{"version":1,"servers":[{"name":"m"},{"name":"a","source":"m"}],"blocks":{"m:3306":60}}"#;
+
 const PAIR: &str = r#"{"version":1,"servers":[{"name":"m"},{"name":"a","source":"m"}]}"#;
 
 // Too late to count: the number of a reading or a moment, and the number of a recovery.
@@ -163,7 +167,14 @@ fn begins(
 fn runs_begin_with_the_kept_rows(rt: HostRuntime) -> Result<(), Fail> {
     let alloc = rt.alloc();
     // The scenario, the rows, how the report begins, how many rows are kept then, and some of them.
-    let cases: [(&str, &[Kept], &str, (usize, &[Kept])); 3] = [
+    let cases: [(&str, &[Kept], &str, (usize, &[Kept])); 4] = [
+        // A recovery that was kept without a block period has its cluster's from then on, and is interrupted.
+        (
+            BLOCKS,
+            &[Kept::Unblocked],
+            "server m:3306 ",
+            (3, &[Kept::Interrupted(60)]),
+        ),
         // The number of the master's reading counts. That of the replica, which isn't known, doesn't, and there is no
         // third server.
         (

@@ -1,4 +1,5 @@
-//! Tests of the top call over objects in memory: what sources, sinks and keepers that fail make of it, and kept rows.
+//! Tests of the top call over objects in memory: the worked examples, what sources, sinks and keepers that fail make
+//! of it, and kept rows.
 #![tactic(auto)]
 
 #[cfg(test)]
@@ -6,7 +7,17 @@ mod calls;
 #[cfg(test)]
 mod every_call;
 #[cfg(test)]
+mod examples;
+#[cfg(test)]
+mod examples_moves;
+#[cfg(test)]
+mod examples_recoveries;
+#[cfg(test)]
+mod examples_refused;
+#[cfg(test)]
 mod failing;
+#[cfg(test)]
+mod files;
 #[cfg(test)]
 mod keeping;
 

@@ -1,5 +1,6 @@
 use Rattle.tidy_laws.proofs.Prelude.{dump_text, dumped_scenario, scenario_in_sound}
 use Rattle.tidy_laws.proofs.Reading.{read-written}
+use Rattle.tidy_laws.proofs.Saying.{says-what-was-dumped}
 use Rattle.tidy_laws.proofs.Worlds.{world-comes}
 use Rattle.tidy_laws.proofs.dumps_of_runs_read_back.Goals as goal
 
@@ -14,4 +15,5 @@ returns c = λ s xs now comes bytes read quiet within.
       reads = reads;
       runs = scenario_in_sound (dump_text w s now.moment) (dumped_scenario w s now.moment) reads;
       opens = λ room flushes. c.dumped_worlds_open.ensures s w room flushes is_world;
+      says = says-what-was-dumped w s now.moment reads;
     }

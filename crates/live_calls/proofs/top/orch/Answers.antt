@@ -1,7 +1,7 @@
 use Rattle.std.proofs.Common.{◌∙◌, ℕ, List, inl, map, refl, subst, sym}
-use Rattle.live_calls.proofs.Prelude.{DrawEnds, End, FaultsBy, IsComplete, IsUsage, StopsAtFirst, active_alone, begin_apart, between, both, call}
-use Rattle.live_calls.proofs.Prelude.{each, err_by, finish_well, idles, keeper_rose, kept_by_report, known, lifted, live_scenario, no_usage, obeys}
-use Rattle.live_calls.proofs.Prelude.{of_four, of_three, out_by, safe_run, status_told, taken, tell_hooks, tell_truly, undrawn, unmoved}
+use Rattle.live_calls.proofs.Prelude.{DrawEnds, End, FaultsBy, IsComplete, IsUsage, FailsByKeeper, between, both, call}
+use Rattle.live_calls.proofs.Prelude.{each, err_by, idles, keeper_rose, kept_by_report, known, lifted, live_scenario, no_usage}
+use Rattle.live_calls.proofs.Prelude.{of_four, of_three, out_by, promised, status_told, taken, undrawn, unmoved}
 use Rattle.live_calls.proofs.Prelude.way
 use Rattle.live_calls.proofs.Ends.{are_live, are_plain, complete, faults, follows, live_draws_nothing, never_both, read_whole}
 use Rattle.live_calls.proofs.Runs.{goes_well}
@@ -30,7 +30,7 @@ pub returns-in-Ok-Some-clause-sink : goal.returns-in-Ok-Some-clause-sink
 returns-in-Ok-Some-clause-sink g c = λ four. inl (c.answer.ensures.sink (of_four c.answer.result (sym c.status.ensures ∙ four)))
 
 pub returns-in-Ok-Some-clause-keeper : goal.returns-in-Ok-Some-clause-keeper
-returns-in-Ok-Some-clause-keeper g c = subst (λ (n : ℕ). StopsAtFirst (g.K.Keeper.faults c.args.keeper.now) (g.K.Keeper.faults c.answer.new.keeper) n) (sym c.status.ensures) c.answer.ensures.keeper
+returns-in-Ok-Some-clause-keeper g c = subst (λ (n : ℕ). FailsByKeeper (g.K.Keeper.faults c.args.keeper.now) (g.K.Keeper.faults c.answer.new.keeper) n) (sym c.status.ensures) c.answer.ensures.keeper
 
 pub returns-in-Ok-Some-clause-read : goal.returns-in-Ok-Some-clause-read
 returns-in-Ok-Some-clause-read g c =
@@ -71,26 +71,8 @@ returns-in-Ok-Some-clause-complete g c =
     (λ bytes e good alone none. subst IsComplete (sym c.status.ensures) (complete (call words bytes _ _ _ _) c.answer.result _ _ _ _ (record { places = c.in-Ok-Some.places; taken = (are_live _ _ _ c.in-Ok-Some.field-0-is c.in-Ok-Some.ensures).0; live = (are_live _ _ _ c.in-Ok-Some.field-0-is c.in-Ok-Some.ensures).1 }) c.answer.ensures.source c.answer.ensures.sink (keeper_rose _ _ c.answer.result c.answer.ensures.keeper) e good alone none))
     (c.answer.ensures.ends words (are_live _ _ _ c.in-Ok-Some.field-0-is c.in-Ok-Some.ensures).0)
 
-pub returns-in-Ok-Some-clause-safe : goal.returns-in-Ok-Some-clause-safe
-returns-in-Ok-Some-clause-safe g c = safe_run (map (λ w. w.items) c.args.words.now)
-
-pub returns-in-Ok-Some-clause-commands : goal.returns-in-Ok-Some-clause-commands
-returns-in-Ok-Some-clause-commands g c = obeys (map (λ w. w.items) c.args.words.now)
-
-pub returns-in-Ok-Some-clause-begins : goal.returns-in-Ok-Some-clause-begins
-returns-in-Ok-Some-clause-begins g c = begin_apart (map (λ w. w.items) c.args.words.now)
-
-pub returns-in-Ok-Some-clause-finishes : goal.returns-in-Ok-Some-clause-finishes
-returns-in-Ok-Some-clause-finishes g c = finish_well (map (λ w. w.items) c.args.words.now)
-
-pub returns-in-Ok-Some-clause-losses : goal.returns-in-Ok-Some-clause-losses
-returns-in-Ok-Some-clause-losses g c = tell_truly (map (λ w. w.items) c.args.words.now)
-
-pub returns-in-Ok-Some-clause-alone : goal.returns-in-Ok-Some-clause-alone
-returns-in-Ok-Some-clause-alone g c = active_alone (map (λ w. w.items) c.args.words.now)
-
-pub returns-in-Ok-Some-clause-hooks : goal.returns-in-Ok-Some-clause-hooks
-returns-in-Ok-Some-clause-hooks g c = tell_hooks (map (λ w. w.items) c.args.words.now)
+pub returns-in-Ok-Some-clause-promises : goal.returns-in-Ok-Some-clause-promises
+returns-in-Ok-Some-clause-promises g c = promised (map (λ w. w.items) c.args.words.now)
 
 pub returns-in-Ok-Some-clause-well : goal.returns-in-Ok-Some-clause-well
 returns-in-Ok-Some-clause-well g c = goes_well (map (λ w. w.items) c.args.words.now)
@@ -124,26 +106,8 @@ returns-in-Ok-None-clause-err g c = λ plain. c.orch_plain.ensures.err
 pub returns-in-Ok-None-clause-kept : goal.returns-in-Ok-None-clause-kept
 returns-in-Ok-None-clause-kept g c = λ plain. c.orch_plain.ensures.kept
 
-pub returns-in-Ok-None-clause-safe : goal.returns-in-Ok-None-clause-safe
-returns-in-Ok-None-clause-safe g c = safe_run (map (λ w. w.items) c.args.words.now)
-
-pub returns-in-Ok-None-clause-commands : goal.returns-in-Ok-None-clause-commands
-returns-in-Ok-None-clause-commands g c = obeys (map (λ w. w.items) c.args.words.now)
-
-pub returns-in-Ok-None-clause-begins : goal.returns-in-Ok-None-clause-begins
-returns-in-Ok-None-clause-begins g c = begin_apart (map (λ w. w.items) c.args.words.now)
-
-pub returns-in-Ok-None-clause-finishes : goal.returns-in-Ok-None-clause-finishes
-returns-in-Ok-None-clause-finishes g c = finish_well (map (λ w. w.items) c.args.words.now)
-
-pub returns-in-Ok-None-clause-losses : goal.returns-in-Ok-None-clause-losses
-returns-in-Ok-None-clause-losses g c = tell_truly (map (λ w. w.items) c.args.words.now)
-
-pub returns-in-Ok-None-clause-alone : goal.returns-in-Ok-None-clause-alone
-returns-in-Ok-None-clause-alone g c = active_alone (map (λ w. w.items) c.args.words.now)
-
-pub returns-in-Ok-None-clause-hooks : goal.returns-in-Ok-None-clause-hooks
-returns-in-Ok-None-clause-hooks g c = tell_hooks (map (λ w. w.items) c.args.words.now)
+pub returns-in-Ok-None-clause-promises : goal.returns-in-Ok-None-clause-promises
+returns-in-Ok-None-clause-promises g c = promised (map (λ w. w.items) c.args.words.now)
 
 pub returns-in-Ok-None-clause-well : goal.returns-in-Ok-None-clause-well
 returns-in-Ok-None-clause-well g c = goes_well (map (λ w. w.items) c.args.words.now)
@@ -151,7 +115,7 @@ returns-in-Ok-None-clause-well g c = goes_well (map (λ w. w.items) c.args.words
 -- ---- memory ran out
 
 pub returns-in-Err-clause-keeper : goal.returns-in-Err-clause-keeper
-returns-in-Err-clause-keeper g c = subst (λ (n : ℕ). StopsAtFirst (g.K.Keeper.faults c.args.keeper.now) (g.K.Keeper.faults c.args.keeper.now) n) (sym c.status-in-Err.ensures) (unmoved _ _ way.Memory (λ is. absurd cc) refl)
+returns-in-Err-clause-keeper g c = subst (λ (n : ℕ). FailsByKeeper (g.K.Keeper.faults c.args.keeper.now) (g.K.Keeper.faults c.args.keeper.now) n) (sym c.status-in-Err.ensures) (unmoved _ _ way.Memory (λ is. absurd cc) refl)
 
 pub returns-in-Err-clause-live : goal.returns-in-Err-clause-live
 returns-in-Err-clause-live g c = λ ask.
@@ -169,26 +133,8 @@ returns-in-Err-clause-drawn g c = λ d ask.
     let err : End = between (taken (g.E.Sink.written c.args.err.now) (g.E.Sink.faults c.args.err.now)) (taken (g.E.Sink.written c.close.new.err) (g.E.Sink.faults c.close.new.err)) in
     subst (λ (n : ℕ). DrawEnds d n (between out out) err) (sym c.status-in-Err.ensures) (undrawn d out err c.close.ensures.took)
 
-pub returns-in-Err-clause-safe : goal.returns-in-Err-clause-safe
-returns-in-Err-clause-safe g c = safe_run (map (λ w. w.items) c.args.words.now)
-
-pub returns-in-Err-clause-commands : goal.returns-in-Err-clause-commands
-returns-in-Err-clause-commands g c = obeys (map (λ w. w.items) c.args.words.now)
-
-pub returns-in-Err-clause-begins : goal.returns-in-Err-clause-begins
-returns-in-Err-clause-begins g c = begin_apart (map (λ w. w.items) c.args.words.now)
-
-pub returns-in-Err-clause-finishes : goal.returns-in-Err-clause-finishes
-returns-in-Err-clause-finishes g c = finish_well (map (λ w. w.items) c.args.words.now)
-
-pub returns-in-Err-clause-losses : goal.returns-in-Err-clause-losses
-returns-in-Err-clause-losses g c = tell_truly (map (λ w. w.items) c.args.words.now)
-
-pub returns-in-Err-clause-alone : goal.returns-in-Err-clause-alone
-returns-in-Err-clause-alone g c = active_alone (map (λ w. w.items) c.args.words.now)
-
-pub returns-in-Err-clause-hooks : goal.returns-in-Err-clause-hooks
-returns-in-Err-clause-hooks g c = tell_hooks (map (λ w. w.items) c.args.words.now)
+pub returns-in-Err-clause-promises : goal.returns-in-Err-clause-promises
+returns-in-Err-clause-promises g c = promised (map (λ w. w.items) c.args.words.now)
 
 pub returns-in-Err-clause-well : goal.returns-in-Err-clause-well
 returns-in-Err-clause-well g c = goes_well (map (λ w. w.items) c.args.words.now)

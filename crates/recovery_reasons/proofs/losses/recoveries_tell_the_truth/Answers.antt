@@ -1,4 +1,5 @@
-use Rattle.recovery_reasons.proofs.Facts.{begun-explained, taken-explained}
+use Rattle.recovery_reasons.proofs.Facts.{begun-explained, done-crowned, taken-explained}
+use Rattle.recovery_reasons.proofs.Fatal.{fatal-ends}
 use Rattle.recovery_reasons.proofs.Nobody.{finds-nobody}
 use Rattle.recovery_reasons.proofs.OnWay.{done-fit}
 use Rattle.recovery_reasons.proofs.Speaking.{taken-speaks, begun-speaks}
@@ -21,3 +22,9 @@ returns-clause-nobody c = λ w b now r speaks none. finds-nobody w b now r speak
 
 pub returns-clause-fit : goal.returns-clause-fit
 returns-clause-fit c = λ w b read now r speaks lines done. done-fit w b read now r speaks.way lines done
+
+pub returns-clause-crowned : goal.returns-clause-crowned
+returns-clause-crowned c = done-crowned
+
+pub returns-clause-fatal : goal.returns-clause-fatal
+returns-clause-fatal c = fatal-ends

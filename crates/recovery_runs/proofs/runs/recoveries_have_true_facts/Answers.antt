@@ -1,5 +1,6 @@
 use Rattle.recovery_runs.proofs.Failing.{fail-comes}
 use Rattle.recovery_runs.proofs.Tending.{told-comes, told-next}
+use Rattle.recovery_runs.proofs.TurningWell.{turn-comes}
 use Rattle.recovery_runs.proofs.runs.recoveries_have_true_facts.Goals as goal
 
 pub returns-clause-before : goal.returns-clause-before
@@ -10,3 +11,6 @@ returns-clause-after c = λ s xs now comes P id r docket holds here at. told-nex
 
 pub returns-clause-failed : goal.returns-clause-failed
 returns-clause-failed c = λ s xs now comes. fail-comes s xs now comes
+
+pub returns-clause-turns : goal.returns-clause-turns
+returns-clause-turns c = λ s xs now comes. turn-comes s xs now comes

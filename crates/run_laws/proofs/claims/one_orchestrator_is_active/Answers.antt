@@ -1,3 +1,4 @@
+use Rattle.run_laws.proofs.Acting.{active-alike, lapsed-keep-nothing}
 use Rattle.run_laws.proofs.NodeClaims.{every-acting, every-kept, every-one, every-reached, lapsed-idle}
 use Rattle.run_laws.proofs.claims.one_orchestrator_is_active.Goals as goal
 
@@ -15,3 +16,9 @@ returns-clause-acting c = every-acting
 
 pub returns-clause-lapsed : goal.returns-clause-lapsed
 returns-clause-lapsed c = λ s xs now t comes. lapsed-idle now t
+
+pub returns-clause-alike : goal.returns-clause-alike
+returns-clause-alike c = active-alike
+
+pub returns-clause-keeps_nothing : goal.returns-clause-keeps_nothing
+returns-clause-keeps_nothing c = lapsed-keep-nothing

@@ -3,4 +3,4 @@ use Rattle.scenario_filters.specs.Aliases.{alias_in}
 use Rattle.scenario_filters.proofs.aliases.aliases_from.Given as goal
 
 abbrev pub invariant-loop-label : goal.invariant-loop-label
-invariant-loop-label l = AreReadTo alias_in l.fn.members l.label-index l.aliases.items
+invariant-loop-label l = AreReadTo alias_in l.members.entries l.label-iterator l.aliases.items

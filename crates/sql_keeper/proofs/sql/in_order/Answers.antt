@@ -1,4 +1,4 @@
-use Rattle.sql_keeper.proofs.Order.{map_rises}
+use Rattle.kept_rows.proofs.LookUps.{map_rises}
 use Rattle.sql_keeper.proofs.sql.in_order.Goals as goal
 
 -- src/sql.rt:118:1

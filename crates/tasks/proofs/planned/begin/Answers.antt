@@ -1,5 +1,5 @@
 use Rattle.std.proofs.Common.{◌≡◌, ◌∙◌, Err, ap, arith}
-use Rattle.tasks.proofs.Prelude.{CommandTurn, act_reply, begun_state, next_count}
+use Rattle.tasks.proofs.Prelude.{CommandTurn, Rose, act_reply, begun_state}
 use Rattle.tasks.proofs.Prelude.act
 use Rattle.tasks.proofs.planned.begin.Goals as goal
 
@@ -13,5 +13,5 @@ returns-in-Ok-clause-state c = c.in-Ok.ensures.ok.1 ∙ ap (λ (t : CommandTurn)
 -- nobody fails
 pub unreachable-requires : goal.unreachable-requires
 unreachable-requires c =
-    let risen : 0 ≡ next_count 0 = c.in-Err-Keeper.ensures.cause.failed (ap Err c.in-Err-Keeper.field-0-is) in
+    let risen : Rose 0 0 = c.in-Err-Keeper.ensures.cause.failed (ap Err c.in-Err-Keeper.field-0-is) in
     omega (arith, risen)

@@ -1,12 +1,13 @@
 use Rattle.std.proofs.Common.{◌≡◌, ◌∙◌, ◌+◌, ap, arith, Err, refl, subst, true}
 use Rattle.tasks.proofs.Prelude.{Adds, Calls, StepsTo, Turn, engine, err_from_is_err_and, kept_by, point, reply_of, taken}
+use Rattle.orch_core.proofs.KnowledgeProofs.Causes.{cause-fine, cause-later, cause-stays}
 use Rattle.tasks.proofs.Courses.{Follows-next, Follows-nil, gave_up, line_wanting, same_point}
 use Rattle.tasks.proofs.progress.take_turns.Goals as goal
 
 pub loop-i-init : goal.loop-i-init
 loop-i-init g c = record {
   follows = Follows-nil c.args.names.now (point (g.K.Keeper.kept c.args.keeper.now) c.args.engine.now) c.args.turns.now (taken (g.O.Sink.written c.args.out.now) (g.O.Sink.faults c.args.out.now)) c.args.progress.now c.requires.fresh;
-  same = refl;
+  later = omega arith;
   servers = refl;
   nodes = refl;
 }
@@ -37,7 +38,22 @@ loop-i-preserved g c = record {
       (subst (λ (t : Turn). g.K.Keeper.kept c.turn.new.keeper ≡ kept_by engine true (g.K.Keeper.kept c.loop-i.keeper) c.loop-i.engine t) c.index-turns-i.is c.in_ok-reply.ensures.kept)
       (subst (λ (t : Turn). c.in_ok-reply.reply ≡ reply_of c.loop-i.engine t) c.index-turns-i.is c.in_ok-reply.ensures.reply)
       (subst (λ (t : Turn). Adds c.args.names.now (c.loop-i.i + 1) t c.in_ok-reply.reply c.loop-i.progress c.add.new.self (taken (g.O.Sink.written c.loop-i.out) (g.O.Sink.faults c.loop-i.out)) (taken (g.O.Sink.written c.add.new.out) (g.O.Sink.faults c.add.new.out))) c.index-turns-i.is c.in_ok-add.ensures.ok);
-  same = c.in_ok-reply.ensures.cause.ok ∙ c.loop-i.invariant.same;
+  later = omega (arith, c.loop-i.invariant.later, c.in_ok-reply.ensures.cause.later);
   servers = c.turn.ensures.servers ∙ c.loop-i.invariant.servers;
   nodes = c.turn.ensures.nodes ∙ c.loop-i.invariant.nodes;
 }
+
+pub returns-in_err-reply-clause-cause : goal.returns-in_err-reply-clause-cause
+returns-in_err-reply-clause-cause g c =
+    let p = err_from_is_err_and c.from_residual.result c.from_residual.ensures.1 in
+    rw (p.1, p.2) (cause-later _ _ _ _ c.loop-i.invariant.later c.in_err-reply.ensures.cause)
+
+pub returns-in_err-add-clause-cause : goal.returns-in_err-add-clause-cause
+returns-in_err-add-clause-cause g c =
+    let p = err_from_is_err_and c.from_residual-in_err-add.result c.from_residual-in_err-add.ensures.1 in
+    let before = c.loop-i.invariant.later in
+    let now = c.in_ok-reply.ensures.cause.later in
+    rw (p.1, p.2) (cause-stays _ _ (omega (arith, before, now)))
+
+pub returns-clause-cause : goal.returns-clause-cause
+returns-clause-cause g c = cause-fine _ _ _ c.loop-i.invariant.later

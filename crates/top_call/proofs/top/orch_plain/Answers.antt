@@ -1,9 +1,9 @@
 use Rattle.std.proofs.Common.{◌∙◌, ℕ, List, inl, map, refl, subst, sym}
-use Rattle.top_call.proofs.Prelude.{DrawEnds, End, FaultsAs, IsComplete, IsUsage, StopsAtFirst, between, call, places_of, scenario_in, taken}
+use Rattle.top_call.proofs.Prelude.{DrawEnds, End, FaultsAs, IsComplete, IsUsage, FailsByKeeper, between, call, places_of, scenario_in, taken}
 use Rattle.top_call.proofs.Prelude.way
 use Rattle.top_call.proofs.Ends.{bad_words, complete, draws_at, each, faults, idles, lifted, keeper_rose, known, no_usage, not_asked, of_four, of_three, read_whole, undrawn, unmoved}
 use Rattle.top_call.proofs.Reports.{both, err_by, kept_by_report, out_by, status_told}
-use Rattle.top_call.proofs.Runs.{active_alone, begin_apart, finish_well, tell_truly, obeys, safe_run, tell_hooks}
+use Rattle.top_call.proofs.Runs.{promised}
 use Rattle.top_call.proofs.top.orch_plain.Goals as goal
 
 -- ---- the words are taken
@@ -26,7 +26,7 @@ pub returns-in-Ok-clause-sink : goal.returns-in-Ok-clause-sink
 returns-in-Ok-clause-sink g c = λ four. c.respond.ensures.sink (of_four c.respond.result (sym c.status.ensures ∙ four))
 
 pub returns-in-Ok-clause-keeper : goal.returns-in-Ok-clause-keeper
-returns-in-Ok-clause-keeper g c = subst (λ (n : ℕ). StopsAtFirst (g.K.Keeper.faults c.args.keeper.now) (g.K.Keeper.faults c.respond.new.keeper) n) (sym c.status.ensures) c.respond.ensures.keeper
+returns-in-Ok-clause-keeper g c = subst (λ (n : ℕ). FailsByKeeper (g.K.Keeper.faults c.args.keeper.now) (g.K.Keeper.faults c.respond.new.keeper) n) (sym c.status.ensures) c.respond.ensures.keeper
 
 pub returns-in-Ok-clause-read : goal.returns-in-Ok-clause-read
 returns-in-Ok-clause-read g c =
@@ -57,36 +57,18 @@ returns-in-Ok-clause-complete g c =
     (λ bytes e good none. subst IsComplete (sym c.status.ensures) (complete (call words bytes _ _ _ _) c.respond.result _ _ _ _ c.respond.ensures.source c.respond.ensures.sink (keeper_rose _ _ c.respond.result c.respond.ensures.keeper) e good none))
     (c.respond.ensures.ends words c.in-Ok.ensures)
 
-pub returns-in-Ok-clause-safe : goal.returns-in-Ok-clause-safe
-returns-in-Ok-clause-safe g c = safe_run (map (λ w. w.items) c.args.words.now)
-
-pub returns-in-Ok-clause-commands : goal.returns-in-Ok-clause-commands
-returns-in-Ok-clause-commands g c = obeys (map (λ w. w.items) c.args.words.now)
-
-pub returns-in-Ok-clause-begins : goal.returns-in-Ok-clause-begins
-returns-in-Ok-clause-begins g c = begin_apart (map (λ w. w.items) c.args.words.now)
-
-pub returns-in-Ok-clause-finishes : goal.returns-in-Ok-clause-finishes
-returns-in-Ok-clause-finishes g c = finish_well (map (λ w. w.items) c.args.words.now)
-
-pub returns-in-Ok-clause-alone : goal.returns-in-Ok-clause-alone
-returns-in-Ok-clause-alone g c = active_alone (map (λ w. w.items) c.args.words.now)
-
-pub returns-in-Ok-clause-losses : goal.returns-in-Ok-clause-losses
-returns-in-Ok-clause-losses g c = tell_truly (map (λ w. w.items) c.args.words.now)
-
-pub returns-in-Ok-clause-hooks : goal.returns-in-Ok-clause-hooks
-returns-in-Ok-clause-hooks g c = tell_hooks (map (λ w. w.items) c.args.words.now)
+pub returns-in-Ok-clause-promises : goal.returns-in-Ok-clause-promises
+returns-in-Ok-clause-promises g c = promised (map (λ w. w.items) c.args.words.now)
 
 -- ---- they aren't, or memory ran out
 
 pub returns-in-Err-BadWords-clause-keeper : goal.returns-in-Err-BadWords-clause-keeper
 returns-in-Err-BadWords-clause-keeper g c =
-    subst (λ (n : ℕ). StopsAtFirst (g.K.Keeper.faults c.args.keeper.now) (g.K.Keeper.faults c.args.keeper.now) n) (sym c.status-in-Err-BadWords.ensures) (unmoved _ _ way.Usage (λ is. absurd cc) refl)
+    subst (λ (n : ℕ). FailsByKeeper (g.K.Keeper.faults c.args.keeper.now) (g.K.Keeper.faults c.args.keeper.now) n) (sym c.status-in-Err-BadWords.ensures) (unmoved _ _ way.Usage (λ is. absurd cc) refl)
 
 pub returns-in-Err-Memory-clause-keeper : goal.returns-in-Err-Memory-clause-keeper
 returns-in-Err-Memory-clause-keeper g c =
-    subst (λ (n : ℕ). StopsAtFirst (g.K.Keeper.faults c.args.keeper.now) (g.K.Keeper.faults c.args.keeper.now) n) (sym c.status-in-Err-Memory.ensures) (unmoved _ _ way.Memory (λ is. absurd cc) refl)
+    subst (λ (n : ℕ). FailsByKeeper (g.K.Keeper.faults c.args.keeper.now) (g.K.Keeper.faults c.args.keeper.now) n) (sym c.status-in-Err-Memory.ensures) (unmoved _ _ way.Memory (λ is. absurd cc) refl)
 
 pub returns-in-Err-BadWords-clause-ends : goal.returns-in-Err-BadWords-clause-ends
 returns-in-Err-BadWords-clause-ends g c =
@@ -108,47 +90,11 @@ returns-in-Err-Memory-clause-drawn g c = λ d ask.
     let err : End = between (taken (g.E.Sink.written c.args.err.now) (g.E.Sink.faults c.args.err.now)) (taken (g.E.Sink.written c.close-in-Err-Memory.new.err) (g.E.Sink.faults c.close-in-Err-Memory.new.err)) in
     subst (λ (n : ℕ). DrawEnds d n (between out out) err) (sym c.status-in-Err-Memory.ensures) (undrawn d out err c.close-in-Err-Memory.ensures.took)
 
-pub returns-in-Err-BadWords-clause-safe : goal.returns-in-Err-BadWords-clause-safe
-returns-in-Err-BadWords-clause-safe g c = safe_run (map (λ w. w.items) c.args.words.now)
+pub returns-in-Err-BadWords-clause-promises : goal.returns-in-Err-BadWords-clause-promises
+returns-in-Err-BadWords-clause-promises g c = promised (map (λ w. w.items) c.args.words.now)
 
-pub returns-in-Err-BadWords-clause-commands : goal.returns-in-Err-BadWords-clause-commands
-returns-in-Err-BadWords-clause-commands g c = obeys (map (λ w. w.items) c.args.words.now)
-
-pub returns-in-Err-BadWords-clause-begins : goal.returns-in-Err-BadWords-clause-begins
-returns-in-Err-BadWords-clause-begins g c = begin_apart (map (λ w. w.items) c.args.words.now)
-
-pub returns-in-Err-BadWords-clause-finishes : goal.returns-in-Err-BadWords-clause-finishes
-returns-in-Err-BadWords-clause-finishes g c = finish_well (map (λ w. w.items) c.args.words.now)
-
-pub returns-in-Err-BadWords-clause-alone : goal.returns-in-Err-BadWords-clause-alone
-returns-in-Err-BadWords-clause-alone g c = active_alone (map (λ w. w.items) c.args.words.now)
-
-pub returns-in-Err-BadWords-clause-losses : goal.returns-in-Err-BadWords-clause-losses
-returns-in-Err-BadWords-clause-losses g c = tell_truly (map (λ w. w.items) c.args.words.now)
-
-pub returns-in-Err-BadWords-clause-hooks : goal.returns-in-Err-BadWords-clause-hooks
-returns-in-Err-BadWords-clause-hooks g c = tell_hooks (map (λ w. w.items) c.args.words.now)
-
-pub returns-in-Err-Memory-clause-safe : goal.returns-in-Err-Memory-clause-safe
-returns-in-Err-Memory-clause-safe g c = safe_run (map (λ w. w.items) c.args.words.now)
-
-pub returns-in-Err-Memory-clause-commands : goal.returns-in-Err-Memory-clause-commands
-returns-in-Err-Memory-clause-commands g c = obeys (map (λ w. w.items) c.args.words.now)
-
-pub returns-in-Err-Memory-clause-begins : goal.returns-in-Err-Memory-clause-begins
-returns-in-Err-Memory-clause-begins g c = begin_apart (map (λ w. w.items) c.args.words.now)
-
-pub returns-in-Err-Memory-clause-finishes : goal.returns-in-Err-Memory-clause-finishes
-returns-in-Err-Memory-clause-finishes g c = finish_well (map (λ w. w.items) c.args.words.now)
-
-pub returns-in-Err-Memory-clause-alone : goal.returns-in-Err-Memory-clause-alone
-returns-in-Err-Memory-clause-alone g c = active_alone (map (λ w. w.items) c.args.words.now)
-
-pub returns-in-Err-Memory-clause-losses : goal.returns-in-Err-Memory-clause-losses
-returns-in-Err-Memory-clause-losses g c = tell_truly (map (λ w. w.items) c.args.words.now)
-
-pub returns-in-Err-Memory-clause-hooks : goal.returns-in-Err-Memory-clause-hooks
-returns-in-Err-Memory-clause-hooks g c = tell_hooks (map (λ w. w.items) c.args.words.now)
+pub returns-in-Err-Memory-clause-promises : goal.returns-in-Err-Memory-clause-promises
+returns-in-Err-Memory-clause-promises g c = promised (map (λ w. w.items) c.args.words.now)
 
 -- ---- against the report
 

@@ -1,10 +1,11 @@
-use Rattle.std.proofs.Common.{◌≡◌, ◌∙◌, ◌+◌, ◌<◌, ◌∷◌, ◌++◌, refl, sym, ap, subst, length, List}
+use Rattle.std.proofs.Common.{◌≡◌, ◌∙◌, ◌+◌, ◌<◌, ◌∷◌, ◌++◌, refl, sym, ap, subst, length, List, arith}
 use Rattle.std.specs.Prelude.{All}
 use Rattle.orch_core.proofs.Prelude.{All-tail, IsTurn, NamesOneOf, Ran, ServerNo, State, Turn, WasCutOff, by_name, engine, flat_map, nodes_of, polls}
 use Rattle.orch_core.proofs.Prelude.{replicates, round_of}
 use Rattle.orch_core.proofs.Prelude.act
 use Rattle.orch_core.proofs.Prelude.turn
 use Rattle.orch_core.proofs.Finishing.{FinishedBy-told, Rounds-more, Rounds-none, cut-first, cut-round, named-others, round-less, told-more, turns-round}
+use Rattle.knowledge.proofs.Causes.{cause-fine, cause-later}
 use Rattle.orch_core.proofs.engine.Engine.finish.Goals as goal
 
 pub rounds-preserved : goal.rounds-preserved
@@ -21,7 +22,7 @@ rounds-preserved g c =
         Rounds-more engine (λ (s : State). s) (λ rows a t. refl) (g.K.Keeper.kept c.args.keeper.now) (g.K.Keeper.kept c.rounds.keeper) (g.K.Keeper.kept c.round.new.keeper) c.args.self.now c.rounds.self c.round.new.self c.args.job before.0 c.shows_state-in-rounds.ensures before.1 opened ran,
         told-more c.args.self.now c.rounds.self c.args.job before.0 _ before.1.here c.in-Ok-round.ensures.reply,
       );
-      same = c.in-Ok-round.ensures.cause.ok ∙ c.rounds.invariant.same;
+      later = omega (arith, c.rounds.invariant.later, c.in-Ok-round.ensures.cause.later);
       servers = c.round.ensures.servers ∙ c.rounds.invariant.servers;
       nodes = c.round.ensures.nodes ∙ c.rounds.invariant.nodes;
     }
@@ -76,3 +77,9 @@ returns-then-not-is_open-clause-ok g c =
     let kept = g.K.Keeper.kept c.args.keeper.now in
     let closed = sym c.is_open.ensures ∙ c.if-not-is_open.true in
     FinishedBy-told kept kept c.args.self.now c.args.self.now c.args.job 0 _ (Rounds-none engine (λ (s : State). s) (λ rows a t. refl) kept c.args.self.now c.args.job) closed refl
+
+pub returns-in-Err-clause-cause : goal.returns-in-Err-clause-cause
+returns-in-Err-clause-cause g c = cause-later _ _ _ _ c.rounds.invariant.later c.in-Err.ensures.cause
+
+pub returns-clause-cause : goal.returns-clause-cause
+returns-clause-cause g c = cause-fine _ _ _ c.rounds.invariant.later

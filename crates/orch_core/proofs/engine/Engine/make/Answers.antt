@@ -3,8 +3,9 @@ use Rattle.orch_core.proofs.Prelude.{Change, Row, ServerInit, World, audit_of, c
 use Rattle.orch_core.proofs.Prelude.{is_opening_change, kept_at_start, kept_claim, kept_if, last_id, last_id-within, length-map, loading}
 use Rattle.orch_core.proofs.Prelude.{made as claims_made, opening_changes, period_by}
 use Rattle.std.specs.Prelude.{All, IsTrue, is_ok, map}
+use Rattle.knowledge.proofs.Causes.{cause-carried, cause-fine, cause-stays}
 use Rattle.orch_core.proofs.Sources.{KnowsSources}
-use Rattle.orch_core.proofs.Starts.{Fits-start, cause-carried, cause-stays, IsOpening, all-loading, IsState-made, StartsBy-made, book-names, kept_made, moment-within, opened-by, sources-start, world_made}
+use Rattle.orch_core.proofs.Starts.{Fits-start, IsOpening, all-loading, IsState-made, StartsBy-made, book-names, kept_made, moment-within, opened-by, sources-start, starts-reads, world_made}
 use Rattle.orch_core.proofs.engine.Engine.make.Goals as goal
 
 pub make-requires-clause-fits : goal.make-requires-clause-fits
@@ -113,6 +114,9 @@ returns-clause-ok g c =
     } in
     StartsBy-made _ _ _ _ _ _ _ _ _ _ _ _ _ _ _ _ _ _ opening (g.K.Keeper.kept c.args.keeper.now) c.in_ok-given.ensures.told
 
+pub returns-clause-reads : goal.returns-clause-reads
+returns-clause-reads g c = starts-reads (g.K.Keeper.kept c.args.keeper.now) c.args.s.now c.args.wait _ (returns-clause-ok g c)
+
 pub returns-clause-kept : goal.returns-clause-kept
 returns-clause-kept g c =
     let given = c.in_ok-given.given.items in
@@ -165,8 +169,7 @@ returns-in_err-book-2-clause-kept g c =
 pub returns-in_err-book-2-clause-cause : goal.returns-in_err-book-2-clause-cause
 returns-in_err-book-2-clause-cause g c =
     let p = err_from_is_err_and c.from_residual-in_err-book-2.result c.from_residual-in_err-book-2.ensures.1 in
-    let same : g.K.Keeper.faults c.given_rows.new.keeper ≡ g.K.Keeper.faults c.args.keeper.now = c.in_ok-given.ensures.cause.ok in
-    rw (p.1, p.2) (cause-carried _ _ _ c.complete.result _ same c.in_err-book-2.was c.complete.ensures.cause)
+    rw (p.1, p.2) (cause-carried _ _ _ c.complete.result _ c.in_ok-given.ensures.cause.later c.in_err-book-2.was c.complete.ensures.cause)
 
 pub returns-in_err-claims-clause-kept : goal.returns-in_err-claims-clause-kept
 returns-in_err-claims-clause-kept g c =
@@ -183,5 +186,30 @@ returns-in_err-book-clause-kept g c =
 pub returns-in_err-book-clause-cause : goal.returns-in_err-book-clause-cause
 returns-in_err-book-clause-cause g c =
     let p = err_from_is_err_and c.from_residual-in_err-book.result c.from_residual-in_err-book.ensures.1 in
-    let same : g.K.Keeper.faults c.given_rows.new.keeper ≡ g.K.Keeper.faults c.args.keeper.now = c.in_ok-given.ensures.cause.ok in
-    rw (p.1, p.2) (cause-stays _ _ same)
+    rw (p.1, p.2) (cause-stays _ _ c.in_ok-given.ensures.cause.later)
+
+pub returns-in_err-rows-clause-cause : goal.returns-in_err-rows-clause-cause
+returns-in_err-rows-clause-cause g c =
+    let p = err_from_is_err_and c.from_residual-in_err-rows.result c.from_residual-in_err-rows.ensures.1 in
+    rw (p.1, p.2) (cause-stays _ _ c.in_ok-given.ensures.cause.later)
+
+pub returns-in_err-audit-clause-cause : goal.returns-in_err-audit-clause-cause
+returns-in_err-audit-clause-cause g c =
+    let p = err_from_is_err_and c.from_residual-in_err-audit.result c.from_residual-in_err-audit.ensures.1 in
+    rw (p.1, p.2) (cause-stays _ _ c.in_ok-given.ensures.cause.later)
+
+pub returns-in_err-recoveries-clause-cause : goal.returns-in_err-recoveries-clause-cause
+returns-in_err-recoveries-clause-cause g c =
+    let p = err_from_is_err_and c.from_residual-in_err-recoveries.result c.from_residual-in_err-recoveries.ensures.1 in
+    rw (p.1, p.2) (cause-stays _ _ c.in_ok-given.ensures.cause.later)
+
+pub returns-in_err-claims-clause-cause : goal.returns-in_err-claims-clause-cause
+returns-in_err-claims-clause-cause g c =
+    let p = err_from_is_err_and c.from_residual-in_err-claims.result c.from_residual-in_err-claims.ensures.1 in
+    rw (p.1, p.2) (cause-stays _ _ c.in_ok-given.ensures.cause.later)
+
+pub returns-clause-cause : goal.returns-clause-cause
+returns-clause-cause g c =
+    let first = c.in_ok-given.ensures.cause.later in
+    let second = c.in_ok-book-2.ensures.cause.later in
+    cause-fine _ _ _ (omega (arith, first, second))

@@ -4,6 +4,8 @@ use Rattle.orch_core.proofs.Prelude.{interrupted_at, kept_if, kept_with, last_gi
 use Rattle.orch_core.proofs.Prelude.{reloaded_moment, reloaded_rows, restart_changes, state_of}
 use Rattle.orch_core.proofs.Prelude.act
 use Rattle.orch_core.proofs.Prelude.turn
+use Rattle.std.proofs.lemmas.Result.{err_from_is_err_and}
+use Rattle.knowledge.proofs.Causes.{cause-fine, cause-later, cause-stays}
 use Rattle.orch_core.proofs.States.{IsRestarted, IsState-restart, StepsTo-given, reloaded-is, step-restart, with_given}
 use Rattle.orch_core.proofs.engine.Engine.start_again.Goals as goal
 
@@ -114,3 +116,29 @@ returns-clause-kept g c =
     c.in_ok-keep_some.ensures.kept ∙ ap (λ (k : Option (List Row)). kept_if true k c.deref-2.result.now) c.in_ok-given.ensures.kept
     ∙ ap (λ (cs : List Change). kept_if true kept cs) changes ∙ with_given c.args.more.items kept given before c.in_ok-given.ensures.told
     ∙ ap (λ (s : State). kept_with c.args.more.items true kept s) c.self.view_is
+
+pub returns-in_err-audit-clause-cause : goal.returns-in_err-audit-clause-cause
+returns-in_err-audit-clause-cause g c =
+    let p = err_from_is_err_and c.from_residual-in_err-audit.result c.from_residual-in_err-audit.ensures.1 in
+    rw (p.1, p.2) (cause-stays _ _ c.in_ok-given.ensures.cause.later)
+
+pub returns-in_err-changes-clause-cause : goal.returns-in_err-changes-clause-cause
+returns-in_err-changes-clause-cause g c =
+    let p = err_from_is_err_and c.from_residual-in_err-changes.result c.from_residual-in_err-changes.ensures.1 in
+    rw (p.1, p.2) (cause-stays _ _ c.in_ok-given.ensures.cause.later)
+
+pub returns-in_err-append-clause-cause : goal.returns-in_err-append-clause-cause
+returns-in_err-append-clause-cause g c =
+    let p = err_from_is_err_and c.from_residual-in_err-append.result c.from_residual-in_err-append.ensures.1 in
+    rw (p.1, p.2) (cause-stays _ _ c.in_ok-given.ensures.cause.later)
+
+pub returns-in_err-keep_some-clause-cause : goal.returns-in_err-keep_some-clause-cause
+returns-in_err-keep_some-clause-cause g c =
+    let p = err_from_is_err_and c.from_residual-in_err-keep_some.result c.from_residual-in_err-keep_some.ensures.1 in
+    rw (p.1, p.2) (cause-later _ _ _ _ c.in_ok-given.ensures.cause.later c.in_err-keep_some.ensures.cause)
+
+pub returns-clause-cause : goal.returns-clause-cause
+returns-clause-cause g c =
+    let first = c.in_ok-given.ensures.cause.later in
+    let second = c.in_ok-keep_some.ensures.cause.later in
+    cause-fine _ _ _ (omega (arith, first, second))

@@ -1,9 +1,10 @@
-use Rattle.std.proofs.Common.{◌≡◌, ◌∙◌, ◌+◌, ◌<◌, refl, sym, ap, subst, length, List}
+use Rattle.std.proofs.Common.{◌≡◌, ◌∙◌, ◌+◌, ◌<◌, refl, sym, ap, subst, length, List, arith}
 use Rattle.std.specs.Prelude.{All}
 use Rattle.orch_core.proofs.Prelude.{BookState, IsTurn, NamesOneOf, Ran, Recorded, ServerNo, Turn, WasCutOff, by_name, nodes_of, recorder, round_of}
 use Rattle.orch_core.proofs.Prelude.{round_over}
 use Rattle.orch_core.proofs.Others.{closed-others}
 use Rattle.orch_core.proofs.Finishing.{Finished-others, Rounds-more, cut-first, cut-round, named-round, round-less, turns-round}
+use Rattle.knowledge.proofs.Causes.{cause-fine, cause-later}
 use Rattle.orch_core.proofs.orch.Orch.finish.Goals as goal
 
 pub rounds-preserved : goal.rounds-preserved
@@ -19,7 +20,7 @@ rounds-preserved g c =
         before.0 + 1,
         Rounds-more recorder (λ (r : Recorded). r.state) (λ rows a t. refl) (g.K.Keeper.kept c.args.keeper.now) (g.K.Keeper.kept c.rounds.keeper) (g.K.Keeper.kept c.run.new.keeper) c.args.self.now c.rounds.self c.run.new.self c.args.job before.0 c.shows_state-in-rounds.ensures before.1 opened ran,
       );
-      same = c.in_default-run.ensures.cause.ok ∙ c.rounds.invariant.same;
+      later = omega (arith, c.rounds.invariant.later, c.in_default-run.ensures.cause.later);
       servers = c.run.ensures.servers ∙ c.rounds.invariant.servers;
       nodes = c.run.ensures.nodes ∙ c.rounds.invariant.nodes;
     }
@@ -70,3 +71,9 @@ returns-clause-others g c =
 
 pub returns-then-not-is_open-clause-others : goal.returns-then-not-is_open-clause-others
 returns-then-not-is_open-clause-others g c = sym (closed-others c.args.self.now.state.jobs c.args.job (sym c.is_open.ensures ∙ c.if-not-is_open.true))
+
+pub returns-in-Err-clause-cause : goal.returns-in-Err-clause-cause
+returns-in-Err-clause-cause g c = cause-later _ _ _ _ c.rounds.invariant.later c.in-Err.ensures.cause
+
+pub returns-clause-cause : goal.returns-clause-cause
+returns-clause-cause g c = cause-fine _ _ _ c.rounds.invariant.later

@@ -1,0 +1,106 @@
+-- Single turns, and what comes after them.
+use Rattle.std.proofs.Common.{◌≡◌, ◌∙◌, inl, inr, Bool, true, false, List, [], ◌∷◌, ◌++◌, map, None, refl, sym, ap, append_assoc}
+use Rattle.std.proofs.lemmas.Bool.{false≢true}
+use Rattle.run_laws.specs.Commands.declared.line.Line.{Line as Told}
+use Rattle.run_laws.specs.InstanceKeeper.Book.{BookState}
+use Rattle.run_laws.specs.Operations.Jobs.{Job}
+use Rattle.run_laws.specs.Operations.declared.op.Op.{Op}
+use Rattle.run_laws.specs.Operations.declared.op.Op.TheVariants as op
+use Rattle.run_laws.specs.OrchBase.declared.server.ServerNo.{ServerNo}
+use Rattle.run_laws.specs.RecoveryPlans.Beginning.{is_takeover}
+use Rattle.run_laws.specs.RecoveryPlans.Recoveries.{Recovery}
+use Rattle.run_laws.specs.RecoveryPlans.Taking.{progressed}
+use Rattle.run_laws.specs.RecoveryPlans.declared.purpose.Purpose.{Purpose}
+use Rattle.run_laws.specs.RecoveryPlans.declared.purpose.Purpose.TheVariants as purpose
+use Rattle.run_laws.specs.RecoveryPlans.declared.stage.Stage.{Stage}
+use Rattle.run_laws.specs.RecoveryPlans.declared.stage.Stage.TheVariants as stage
+use Rattle.run_laws.specs.RecoveryPlans.declared.task.Task.{Task}
+use Rattle.run_laws.specs.RecoveryPlans.declared.task.Task.TheVariants as task
+use Rattle.run_laws.specs.RecoveryEnds.Shapes.{are_still}
+use Rattle.plan_lines.specs.Courses.{Course, Event, Done, Missed, Place}
+use Rattle.plan_laws.specs.Followed.{GoesAsPlanned, gathers}
+use Rattle.plan_laws.proofs.Meeting.{done-first, last-of, left, walk-on}
+use Rattle.plan_laws.proofs.Parted.{detached, started}
+use Rattle.plan_laws.proofs.Scripts.{goes}
+
+-- ---- what turns do
+
+-- turns do these, and then the recovery ends
+abbrev pub Ends : List Event → List Event → Type 0
+Ends es evs = (told : List Told) × (es ≡ evs ++ Done (op.Finish told) ∷ [])
+
+pub next : (e : Event) (es later evs : List Event) → es ≡ e ∷ later → Ends later evs → Ends es (e ∷ evs)
+next e es later evs is rest = (rest.0, is ∙ ap (λ l. e ∷ l) rest.1)
+
+pub onto : (es later more evs : List Event) → es ≡ more ++ later → Ends later evs → Ends es (more ++ evs)
+onto es later more evs is rest =
+    (rest.0, is ∙ (ap (λ l. more ++ l) rest.1 ∙ sym (append_assoc more evs (Done (op.Finish rest.0) ∷ []))))
+
+-- the task that parts a lost one
+abbrev pub parting : Purpose → ServerNo → Task
+parting purpose.Regroup n = task.Releasing n
+parting purpose.Master n = task.Expelling n
+parting (purpose.Intermediate s) n = task.Expelling n
+parting (purpose.Takeover d) n = task.Expelling n
+
+pub parting-is : (u : Purpose) (ks : List ServerNo) → map task.Expelling (detached u ks) ++ (map task.Releasing (started u ks) ++ []) ≡ map (parting u) ks ++ []
+parting-is purpose.Regroup ks = refl
+parting-is purpose.Master ks = refl
+parting-is (purpose.Intermediate s) ks = refl
+parting-is (purpose.Takeover d) ks = refl
+
+pub no-takeover : (u : Purpose) → gathers u ≡ true → is_takeover u ≡ false
+no-takeover purpose.Regroup is = refl
+no-takeover purpose.Master is = refl
+no-takeover (purpose.Intermediate s) is = absurd (false≢true is)
+no-takeover (purpose.Takeover d) is = absurd (false≢true is)
+
+-- a list doesn't end with more than it has
+pub longer : {X : Type 0} (xs : List X) (x : X) → xs ++ x ∷ [] ≡ xs → ⊥
+longer {X = X} [] x h = cc
+longer {X = X} (y ∷ ys) x h = longer ys x (ap tail h)
+  where
+    tail : List X → List X
+    tail [] = []
+    tail (z ∷ zs) = zs
+
+-- whose receiver an operation stops
+abbrev pub stopped_by : ServerNo → Op → ServerNo
+stopped_by d (op.StopReceiver n) = n
+stopped_by d _ = d
+
+-- whether an operation may be missed in a stage
+abbrev pub asks : Stage → Op → Bool
+asks stage.Check o = true
+asks (stage.Drain n) (op.StopReceiver k) = true
+asks (stage.Drain n) _ = false
+asks _ o = false
+
+module _ (b : BookState) (G : Place → Recovery → Type 0) where
+  abbrev pub Runs : Recovery → List Event → Type 0
+  Runs r es = Course G (GoesAsPlanned b) r es
+
+  pub misses-no : (x : Recovery) (o : Op) (rest : List Op) → asks x.stage o ≡ false → (c : Job) (later : Recovery) → GoesAsPlanned b (left x c (o ∷ rest)) (Missed o) later → ⊥
+  misses-no x o rest off c later (inl h) = false≢true (sym off ∙ ap (λ s. asks s o) h.checks)
+  misses-no x o rest off c later (inr m) = false≢true (sym off ∙ (λ i. asks (m.1.drains i) (m.1.asks i)))
+
+  pub does : (x : Recovery) (o : Op) (rest : List Op) → asks x.stage o ≡ false → ((told : List Told) → o ≡ op.Finish told → ⊥) → (evs : List Event)
+      → ((j : Job) (later : List Event) → Runs (progressed (left x j rest) o false) later → Ends later evs)
+      → (c : Job) (es : List Event) → Runs (left x c (o ∷ rest)) es → Ends es (Done o ∷ evs)
+  does x o rest off ending evs further c es goes =
+      let one = done-first G (GoesAsPlanned b) x c o rest ending (misses-no x o rest off) es goes in
+      next (Done o) es one.later evs one.is (further one.job one.later one.goes)
+
+  pub walks : (x : Recovery) (ops : List Op) (o : Op) (rest : List Op) → are_still x.stage ops ≡ true → ((p : Op) → asks x.stage p ≡ false) → (evs : List Event)
+      → ((j : Job) (later : List Event) → Runs (left x j (o ∷ rest)) later → Ends later evs)
+      → (c : Job) (es : List Event) → Runs (left x c (ops ++ o ∷ rest)) es → Ends es (map Done ops ++ evs)
+  walks x ops o rest still off evs further c es goes =
+      let to = walk-on G (GoesAsPlanned b) x ops o rest still (λ p ps. misses-no x p ps (off p)) c es goes in
+      onto es to.later (map Done ops) evs to.is (further to.job to.later to.goes)
+
+  never-ends : (told : List Told) (s : Recovery) (later : Recovery) → GoesAsPlanned b s (Missed (op.Finish told)) later → ⊥
+  never-ends told s later (inl h) = let e : op.Finish told ≡ op.Status s.failed None = h.asks in cc
+  never-ends told s later (inr m) = let e : op.Finish told ≡ op.StopReceiver m.0 = m.1.asks in cc
+
+  pub finishes : (x : Recovery) (told : List Told) (c : Job) (es : List Event) → Runs (left x c (op.Finish told ∷ [])) es → Ends es []
+  finishes x told c es goes = (told, last-of G (GoesAsPlanned b) x c told [] (never-ends told (left x c (op.Finish told ∷ []))) es goes)

@@ -1,0 +1,23 @@
+-- On what a plan's choice depends.
+use Rattle.std.specs.Prelude.{◌≡◌, true, List, [], ◌∷◌, All, Contains, Some}
+use Rattle.run_laws.specs.OrchBase.declared.server.ServerNo.{ServerNo}
+use Rattle.run_laws.specs.RecoveryPlans.Deciding.{Ground, chosen_of, without_stopped}
+use Rattle.run_laws.specs.RecoveryPlans.declared.means.Means.{Means}
+use Rattle.run_laws.specs.RecoveryPlans.declared.outcome.Stopped.{Stopped}
+use Rattle.run_laws.specs.RecoveryPlans.declared.purpose.Purpose.{Purpose}
+use Rattle.plan_lines.specs.Branches.{recovery_lines, wins}
+use Rattle.plan_lines.specs.Expected.{expected}
+use Rattle.plan_lines.specs.PlanTexts.declared.line.Line.{Line}
+use Rattle.plan_lines.specs.PlanTexts.declared.line.Line.TheVariants as line
+use Rattle.plan_laws.specs.Followed.{gathers}
+
+-- p is chosen only if another one has executed no more. It must have executed less, if it would be chosen of two that
+-- have executed as much.
+abbrev pub condition : Ground → ServerNo → Stopped → Stopped → Line
+condition g f p s = line.Chosen p.no s.no (wins g f s (p ∷ record s { exec = p.exec } ∷ []))
+
+-- the plan of a choice has this line for each of the others that might be chosen
+abbrev pub ChoicesHaveTheirConditions : Type 0
+ChoicesHaveTheirConditions = (g : Ground) (u : Purpose) (by : Means) (f : ServerNo) (ns : List ServerNo) (p : Stopped) → gathers u ≡ true
+    → chosen_of g f (expected g.book ns) ≡ Some p
+    → All (λ s. wins g f s (s ∷ []) ≡ true → Contains (recovery_lines g u by f ns) (condition g f p s)) (without_stopped (expected g.book ns) p.no)

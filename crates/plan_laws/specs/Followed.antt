@@ -1,0 +1,121 @@
+-- The turns of recoveries and regroups in which everything is found as their plans assume.
+use Rattle.std.specs.Prelude.{◌≡◌, ◌==◌, ◌⊎◌, ℕ, Bool, true, false, List, [], ◌∷◌, ◌++◌, map, All, Option, Some, None}
+use Rattle.run_laws.specs.InstanceKeeper.Book.{BookState, instance_at}
+use Rattle.run_laws.specs.Operations.declared.op.Op.{Op}
+use Rattle.run_laws.specs.Operations.declared.op.Op.TheVariants as op
+use Rattle.run_laws.specs.OrchBase.declared.server.ServerNo.{ServerNo}
+use Rattle.run_laws.specs.RecoveryPlans.Beginning.{begun_recovery, is_takeover}
+use Rattle.run_laws.specs.RecoveryPlans.Deciding.{Ground, Lot, better_of, chosen_of, lot_by, way_below, without_stopped}
+use Rattle.run_laws.specs.RecoveryPlans.Deciding as lot
+use Rattle.run_laws.specs.RecoveryPlans.Moves.{IsNext}
+use Rattle.run_laws.specs.RecoveryPlans.Recoveries.{Recovery}
+use Rattle.run_laws.specs.RecoveryPlans.Stages.{before, move}
+use Rattle.run_laws.specs.RecoveryPlans.Whys as why
+use Rattle.run_laws.specs.RecoveryPlans.declared.means.Means.{Means}
+use Rattle.run_laws.specs.RecoveryPlans.declared.outcome.LostReplica.{LostReplica}
+use Rattle.run_laws.specs.RecoveryPlans.declared.outcome.Stopped.{Stopped}
+use Rattle.run_laws.specs.RecoveryPlans.declared.purpose.Purpose.{Purpose}
+use Rattle.run_laws.specs.RecoveryPlans.declared.purpose.Purpose.TheVariants as purpose
+use Rattle.run_laws.specs.RecoveryPlans.declared.stage.Stage.TheVariants as stage
+use Rattle.run_laws.specs.RecoveryPlans.declared.task.Task.{Task}
+use Rattle.run_laws.specs.RecoveryPlans.declared.task.Task.TheVariants as task
+use Rattle.run_laws.specs.RecoveryPlans.declared.task.Way.{Way}
+use Rattle.plan_lines.specs.Branches.{recovery_lines, way_of}
+use Rattle.plan_lines.specs.Courses.{Course, Event, Done, Missed, Follows, Place, ground_at}
+use Rattle.plan_lines.specs.Expected.{expected, expected_at}
+use Rattle.plan_lines.specs.Prelude.{is_valid}
+
+-- ---- branches
+
+-- the operations of a way
+abbrev pub steps_of : ServerNo → Option Way → Option (List Op)
+steps_of n None = None
+steps_of n (Some by) = Some (before by n ++ move by n ∷ [])
+
+abbrev pub way_in : Lot → Option Way
+way_in (lot.Goes by) = Some by
+way_in (lot.Stays why) = None
+
+-- a replica beside the chosen one, with the operations of its way; one without is lost
+pub record Fork : Type 0 where
+  pub no : ServerNo
+  pub steps : Option (List Op)
+
+abbrev pub fork_of : Stopped → Lot → Fork
+fork_of s l = record { no = s.no; steps = steps_of s.no (way_in l) }
+
+-- the chosen one, and what becomes of the others, in their order
+pub record Branch : Type 0 where
+  pub chosen : ServerNo
+  pub others : List Fork
+
+abbrev pub branch_at : Ground → Means → ServerNo → List Stopped → Option Stopped → Option Branch
+branch_at g by f ds None = None
+branch_at g by f ds (Some p) = Some (record { chosen = p.no; others = map (λ s. fork_of s (lot_by by g f p s)) (without_stopped ds p.no) })
+
+abbrev pub branch_of : Ground → Means → ServerNo → List Stopped → Option Branch
+branch_of g by f ds = branch_at g by f ds (chosen_of g f ds)
+
+-- the operations that bring a replica below a successor, if it is expected to stop somewhere
+abbrev pub steps_below : Ground → ServerNo → ServerNo → ServerNo → Option Stopped → Option (List Op)
+steps_below g f s n None = None
+steps_below g f s n (Some d) = steps_of n (way_of g f s d)
+
+abbrev pub steps_to : Ground → ServerNo → ServerNo → ServerNo → Option (List Op)
+steps_to g f s n = steps_below g f s n (expected_at n (instance_at g.book n))
+
+-- ---- what a plan assumes
+
+-- What a plan assumes as a turn begins. Of any followers the same one is better than any server as for the plan. If a
+-- replica is to be chosen, the branch is the expected one. If replicas are to be handed over to a successor, each of
+-- them goes the way that the plan expects.
+pub record IsAsPlanned (g : Ground) (by : Means) (f : ServerNo) (ns : List ServerNo) (a : Place) (r : Recovery) : Type 0 where
+  pub better : (p : ServerNo) (qs : List ServerNo) → better_of (ground_at a) f p qs ≡ better_of g f p qs
+  pub chosen : (ts : List Task) → IsNext r task.Choosing ts → branch_of (ground_at a) by f r.drained ≡ branch_of g by f (expected g.book ns)
+  pub handed : (ts : List Task) (s : ServerNo) → IsNext r task.Handing ts → r.chosen ≡ Some s
+      → All (λ d. steps_of d.no (way_below (ground_at a) r.core.seen f s d) ≡ steps_to g f s d.no) r.drained
+
+-- An operation is done, and nobody is lost by what it shows. It stops the receivers of those replicas alone that the
+-- book reaches.
+pub record GoesWell (b : BookState) (before : Recovery) (o : Op) (later : Recovery) : Type 0 where
+  pub keeps : later.outcome.lost ≡ before.outcome.lost
+  pub reached : (n : ServerNo) → o ≡ op.StopReceiver n → is_valid b n ≡ true
+
+abbrev pub gone : ServerNo → LostReplica
+gone n = record { no = n; why = why.unreachable; detached = false }
+
+-- the failed server is asked first
+pub record IsAsked (before : Recovery) (o : Op) : Type 0 where
+  pub checks : before.stage ≡ stage.Check
+  pub asks : o ≡ op.Status before.failed None
+
+-- a replica isn't reached that the book doesn't reach, and is lost for that
+pub record IsGone (b : BookState) (n : ServerNo) (before : Recovery) (o : Op) (later : Recovery) : Type 0 where
+  pub drains : before.stage ≡ stage.Drain n
+  pub asks : o ≡ op.StopReceiver n
+  pub away : is_valid b n ≡ false
+  pub lost : later.outcome.lost ≡ before.outcome.lost ++ gone n ∷ []
+
+-- the failed server isn't reached, nor such a replica; all else goes well
+abbrev pub GoesAsPlanned : BookState → Recovery → Event → Recovery → Type 0
+GoesAsPlanned b before (Done o) later = GoesWell b before o later
+GoesAsPlanned b before (Missed o) later = IsAsked before o ⊎ ((n : ServerNo) × IsGone b n before o later)
+
+-- the purposes for which one of the replicas is chosen
+abbrev pub gathers : Purpose → Bool
+gathers purpose.Regroup = true
+gathers purpose.Master = true
+gathers (purpose.Intermediate s) = false
+gathers (purpose.Takeover d) = false
+
+-- no server is named twice
+abbrev pub AreApart : List ServerNo → Type 0
+AreApart [] = Unit {0}
+AreApart (n ∷ ns) = All (λ m. (n.0 == m.0) ≡ false) ns × AreApart ns
+
+-- the turns of a recovery or a regroup do the plan's operations, if everything is found as the plan assumes
+abbrev pub RecoveriesFollowTheirPlans : Type 0
+RecoveriesFollowTheirPlans = (g : Ground) (u : Purpose) (by : Means) (id wait : ℕ) (f : ServerNo) (ns order : List ServerNo) (es : List Event)
+    → is_takeover u ≡ false → AreApart ns
+    → Course (IsAsPlanned g by f ns) (GoesAsPlanned g.book) (begun_recovery u by id wait f ns order) es
+    → Follows es (recovery_lines g u by f ns)

@@ -1,0 +1,4 @@
+mod Lists
+mod Peeling
+mod TakenOver
+mod Within

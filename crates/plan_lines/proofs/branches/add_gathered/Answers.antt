@@ -1,0 +1,8 @@
+use Rattle.std.proofs.Common.{◌∙◌, subst, sym}
+use Rattle.std.specs.Prelude.{All}
+use Rattle.plan_lines.proofs.Within.{IsThere, expected-there}
+use Rattle.plan_lines.proofs.branches.add_gathered.Goals as goal
+
+pub add_choice-requires : goal.add_choice-requires
+add_choice-requires c =
+    subst (All (IsThere c.args.by.now.book.now)) (sym (c.deref.ensures.value ∙ c.in_ok-list.ensures)) (expected-there c.args.by.now.book.now c.args.replicas.now c.requires)

@@ -1,0 +1,10 @@
+use Rattle.std.proofs.Common.{◌≡◌, ◌++◌, take}
+use Rattle.std.specs.Prelude.{filter_map}
+use Rattle.plan_lines.specs.Prelude.{ground_by}
+use Rattle.plan_lines.specs.Branches.{left, way_of}
+use Rattle.plan_lines.proofs.branches.add_left.Given as goal
+
+abbrev pub invariant-loop-replica : goal.invariant-loop-replica
+invariant-loop-replica l =
+    l.lines.items
+    ≡ l.initial.lines.items ++ filter_map (λ d. left d (way_of (ground_by l.by) l.failed l.successor d)) (take l.replica-index l.list)

@@ -1,0 +1,9 @@
+pub mod Prelude
+pub mod Pieces
+pub mod Straight
+pub mod Takeovers
+pub mod Expected
+pub mod Branches
+pub mod Courses
+pub mod PlanTexts
+pub mod RecoveryGrounds

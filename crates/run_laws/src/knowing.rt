@@ -1,0 +1,56 @@
+//! Laws of what is read of servers, of time, and of how often jobs may wait.
+
+ghost use Rattle.run_laws.specs.Moments.{JobsRise, LastJobNeverSinks, NothingIsToCome, PassesTime};
+ghost use Rattle.run_laws.specs.Readings.{DiscoveriesRead, JobsStore, OpeningsGiveNumbers, PollsRead, PollsStore, ReadingsNeverSink};
+ghost use Rattle.run_laws.specs.Runs.{InEveryState};
+ghost use Rattle.run_laws.specs.Stopping.{PlansStartAgain};
+ghost use Rattle.run_laws.specs.Tables.{CountsByInstances, CountsReplicas, EndsInTime, KeepsSixteen, RunsAllServers, ServersByTable, ThreadsByTable, WritesByTable};
+ghost use Rattle.run_laws.specs.Waits.{BegunMayWait, JobsMayWait};
+ghost use Rattle.run_laws.specs.Prelude.{BookState, Bridge, Instance as AnInstance, Moment as AMoment, ServerNo as Number, State, Turn};
+ghost use Rattle.std.specs.Prelude.{List, ℕ};
+
+/// A poll, a discovery and a look of a job read what one status of the server shows then, with the next read number, and
+/// it is stored: the book has it, valid exactly where the server was reached, unless it has a later reading. A reading
+/// that didn't reach its server keeps what was seen before. No instance goes back to an earlier reading but by a restart,
+/// and behind an opening no kept number is above those that were given.
+pub fn readings_are_stored()
+    ensures polls { PollsRead }
+    ensures stores { PollsStore }
+    ensures discoveries { DiscoveriesRead }
+    ensures jobs { JobsStore }
+    ensures never_sink { ReadingsNeverSink }
+    ensures openings { OpeningsGiveNumbers }
+{}
+
+/// Only a tick lets time pass, by its seconds; a restart never turns it back, and in no state of any run a recovery began
+/// or ended later than now. The numbers of unended jobs rise up to that of the last job, which never sinks.
+pub fn time_and_numbers_rise()
+    ensures time { (s : State) (t : Turn) → PassesTime s t }
+    ensures past { InEveryState NothingIsToCome }
+    ensures jobs { InEveryState JobsRise }
+    ensures last { LastJobNeverSinks }
+{}
+
+/// Each operation of each job of each run may wait exactly as often as the run is told, from the job's beginning on: of
+/// a plan, a regroup, a recovery, a takeover, and of what a scan begins.
+pub fn jobs_wait_as_told()
+    ensures begun { (s : State) → BegunMayWait s }
+    ensures always { JobsMayWait }
+{}
+
+/// The analysis counts a replica as replicating exactly where it was reached, its receiver is connected and its applier
+/// is on. A ring keeps the latest 16 bridges. A downtime and a registration end at their moment. A round of a single
+/// command is a turn of its job, and each server fetches, applies and is polled. A write is refused by a server that is
+/// down or read-only; one that starts again starts a replica's threads; a start and a stop drop an end of the applier.
+/// The plan of each command but stop-replica starts each server again that it stops.
+pub fn tables_hold_row_by_row()
+    ensures counts { (i : AnInstance) → CountsReplicas i }
+    ensures instances { (b : BookState) (n : Number) (i : AnInstance) → CountsByInstances b n i }
+    ensures rings { (ring : List Bridge) (b : Bridge) → KeepsSixteen ring b }
+    ensures ends { (b : BookState) (n : Number) (now : AMoment) → EndsInTime b n now }
+    ensures rounds { (s : State) (job : ℕ) → RunsAllServers s job }
+    ensures writes { WritesByTable }
+    ensures starts { ServersByTable }
+    ensures threads { ThreadsByTable }
+    ensures plans { PlansStartAgain }
+{}
