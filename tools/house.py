@@ -16,7 +16,7 @@ TOP = os.path.dirname(os.path.dirname(os.path.abspath(__file__)))
 
 
 def libraries(text: str) -> Dict[str, List[str]]:
-    """Of each crate of crates.txt the crates of this repository that it names."""
+    """For each crate of crates.txt the crates of this repository that it names."""
     lines = [it.partition("#")[0].partition(":") for it in text.split("\n")]
     named = {name.split()[0]: uses.split() for name, colon, uses in lines if colon}
     return {name: [it for it in uses if it in named] for name, uses in named.items()}

@@ -1,12 +1,12 @@
 #!/usr/bin/env python3
-"""Checks the documents: sentences, table cells, words, links, names, and the commands that they print.
+"""Checks the documents: sentences, table cells, terms, links, names, and the commands that they print.
 
     tools/prose.py [--no-run] [FILE ..]
 
 Without FILE it reads README.md, CONTRIBUTING.md, CHANGELOG.md and docs/*.md. It reports:
 
-- a sentence of more than 30 words, outside of tables and code;
-- a table cell of more than 25 words;
+- a sentence that is longer than MOST_WORDS, outside of tables and code;
+- a table cell that is longer than MOST_IN_CELL;
 - in the documents for operators a word for which the project has another term (docs/GLOSSARY.md);
 - a relative link whose file or heading doesn't exist;
 - a command of a `console` block whose output is not the printed one;
@@ -37,7 +37,7 @@ MOST_WORDS, MOST_IN_CELL, SECONDS = 30, 25, 120
 # The documents whose names in code are those of the sources.
 OF_SOURCES = ("docs/PROVED.md", "docs/CONTRACTS.md", "docs/DEFINITIONS.md", "docs/ARCHITECTURE.md")
 
-# The documents for operators, in which the words below aren't used.
+# The documents for operators, in which what RULED_OUT has isn't used.
 PLAIN = ("README.md", "docs/START.md", "docs/COMMANDS.md", "docs/REFUSALS.md", "docs/SCENARIO.md", "docs/REAL.md", "docs/PROVED.md")
 RULED_OUT = {
     r"front|beginning": "prefix",
@@ -60,13 +60,13 @@ RULED_OUT = {
     r"the papers": "the specification",
     r"keepers?": "row store",
 }
-# The headings that are the program's own words.
+# The headings that are the program's own.
 PRINTED = r"(refused|failed|lost|analysis|scenario fault) "
 CONDITIONS = re.compile(r"(?:^|[,(] ?)where\b|(?<=[.:] )Where\b|^Where\b|(?:^|(?<=[.:] ))Of (?:a|an|the|each|all|several|two)\b")
 
 
 class Block(NamedTuple):
-    """A part of a document: its kind (`text`, `cell`, `heading`, `code`), its line, its text, and of code the words after the fence."""
+    """A part of a document: its kind (`text`, `cell`, `heading`, `code`), its line, its text, and the text after a code's fence."""
     kind: str
     line: int
     text: str
@@ -132,7 +132,7 @@ def sentences_of(text: str) -> List[str]:
 
 
 def count(text: str) -> int:
-    """How many words a text has."""
+    """How long a text is: the parts between blanks that have a letter or a digit."""
     return len([it for it in plain(text).split() if re.search(r"\w", it)])
 
 
@@ -148,7 +148,7 @@ def lengths(blocks: List[Block]) -> Iterator[Tuple[int, str]]:
 
 
 def ruled_out(blocks: List[Block]) -> Iterator[Tuple[int, str]]:
-    """The words for which the project has another term."""
+    """Each word for which the project has another term."""
     for block in blocks:
         if block.kind == "code" or block.kind == "heading" and re.match(PRINTED, block.text):
             continue
@@ -275,7 +275,7 @@ def tour(top: str, program: str) -> List[str]:
 
 
 def unrun(blocks: List[Block]) -> Iterator[Tuple[int, str]]:
-    """The commands that could run and stand in a block that isn't."""
+    """The commands that could run and are in a block that isn't."""
     for block in blocks:
         if block.kind == "code" and not block.info.startswith(("console", "json")):
             for line in block.text.split("\n"):
@@ -299,7 +299,7 @@ def names_printed(top: str) -> List[str]:
 
 
 def losses_in(text: str) -> List[str]:
-    """The words of a lost replica's line."""
+    """The reasons in a lost replica's line."""
     arms = re.findall(r"Lost::\w+(?:\(\w+\))? => (.*?)(?=Lost::|\Z)", text, re.DOTALL)
     return [re.sub(r"^ | $", "", it[1]) for it in (re.search(r'b"( [a-z ]+?) ?"', arm) for arm in arms) if it]
 
@@ -321,7 +321,7 @@ def unexplained(top: str) -> Iterator[Tuple[int, str]]:
 
 @functools.lru_cache(None)
 def names_in_sources(top: str) -> Set[str]:
-    """The words of the crates' sources, their files and the crates themselves."""
+    """The names in the crates' sources, of their files and of the crates themselves."""
     found: Set[str] = set()
     for folder, inner, files in os.walk(os.path.join(top, "crates")):
         inner[:] = [it for it in inner if it != "out"]

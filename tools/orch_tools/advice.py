@@ -31,7 +31,7 @@ def lost_lines(death: Death, notes: Notes) -> list[str]:
 
 
 def perhaps_level(death: Death, notes: Notes) -> str:
-    """What an import adds to a replica that is behind: an earlier poll of the real orchestrator may have kept the pair that tells its place."""
+    """What an import adds to a replica that is lost as `behind`. An earlier poll of the real orchestrator may have kept the pair of its position."""
     return " (or level, by a pair that was polled earlier)" if notes.about("earlier pairs unknown", server=death.dead) else ""
 
 
@@ -60,7 +60,7 @@ def by_reason(death: Death) -> dict[str, list[str]]:
 
 
 def amounts(gone: Gone, names: list[str], form: str) -> list[str]:
-    """Of each server how many transactions it has more, or lacks. Of many in one row."""
+    """For each server how many transactions it has more, or lacks. Many servers are in one row."""
     death = gone.death
     level = death.after[death.chosen].executed if death.chosen else 0
     counts = {name: gone.measure(*sorted((death.after[name].executed, level))) for name in names}
@@ -71,7 +71,7 @@ def amounts(gone: Gone, names: list[str], form: str) -> list[str]:
 
 
 def behind(gone: Gone, names: list[str]) -> list[str]:
-    """What to do with those that are behind."""
+    """What to do with those that are lost as `behind`."""
     chosen = gone.death.chosen
     return [*amounts(gone, names, "%s: %s behind %s"),
             "  No kept pair of coordinates tells the position in the log of %s. Find the last transaction there" % chosen,

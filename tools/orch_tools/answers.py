@@ -20,7 +20,7 @@ REPLY = re.compile(r"\d+ (?P<turn>.+?): (?P<reply>(?:refused|failed) .*)$")
 
 @dataclasses.dataclass(frozen=True)
 class Server:
-    """A line of the tables. Of a server without a source `at` to `until` are None."""
+    """A line of the tables. If a server has no source, `at` to `until` are None."""
     name: str
     state: str
     mode: str
@@ -118,7 +118,7 @@ def tables_of(out: str) -> Tables:
 
 
 def lost_of(line: str) -> Lost | None:
-    """The lost replica of a line, where it is one."""
+    """The lost replica of a line, if it is one."""
     found = LOST.match(line)
     return Lost(found["name"], found["why"], (found["value"] or "").strip(), bool(found["detached"])) if found else None
 

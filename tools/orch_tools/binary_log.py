@@ -3,6 +3,7 @@ from __future__ import annotations
 
 import dataclasses
 import re
+import zlib
 from collections.abc import Iterable
 
 from orch_tools.client import Coord, Row, number_of
@@ -15,13 +16,15 @@ ASIDE = (*HEADS, "Rotate", "Stop")
 
 @dataclasses.dataclass
 class Group:
-    """One transaction as one log holds it: where it begins and ends, the server that it comes from, its GTID, and its statement if it is one alone."""
+    """One transaction as one log holds it: where it begins and ends, the server that it comes from, its GTID, and its statement if it is one alone.
+    `shape` is a checksum of what all logs have alike of it."""
     file: int
     start: int
     origin: int
     gtid: str | None
     end: int = 0
     what: str = ""
+    shape: int = 0
 
     @property
     def last(self) -> Coord:
@@ -55,6 +58,16 @@ def gtid_of(info: str, maria: bool) -> str | None:
     """The GTID that an event begins; None of an anonymous one."""
     found = re.search(r"GTID (\d+-\d+-\d+)" if maria else r"'([0-9a-fA-F-]{36}:(?:[^:']*:)?\d+)'", info)
     return found.group(1) if found else None
+
+
+def alike(event: Row) -> str:
+    """What a source's and a replica's log have alike of an event: the length of rows, a table's name, a statement without its number."""
+    kind, info = event["Event_type"], event.get("Info", "")
+    if kind == "Table_map":
+        return info.partition("(")[2]
+    if kind.startswith("Query"):
+        return re.sub(r"/\* xid=\d+ \*/", "", info).strip()
+    return "%s %d" % (kind, int(event["End_log_pos"]) - int(event["Pos"])) if "_rows" in kind else kind
 
 
 class Reader:
@@ -93,6 +106,7 @@ class Reader:
         if kind in BEGINS:
             self.begin(event)
         elif self.open is not None and kind not in ASIDE:
+            self.open.shape = zlib.crc32(alike(event).encode(), self.open.shape)
             ended = self.is_end(self.open, kind, event.get("Info", ""))
             self.is_first = False
             if ended:

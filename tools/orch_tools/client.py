@@ -10,6 +10,11 @@ from collections.abc import Iterable
 
 Row = dict[str, str]
 
+# What SHOW PROCESSLIST reports of an applier that has taken all of its relay log, of workers without work, and of receivers.
+READ_ALL = "has read all relay log"
+IDLE = ("Waiting for an event from Coordinator", "Waiting for work from SQL thread", "Waiting for source", "Waiting for master", "Connecting to ",
+        "Reconnecting after", "Waiting to reconnect")
+
 NOT_REACHED = r"ERROR (2002|2003|2005|2006|2013|2026)\b"
 
 
@@ -80,8 +85,8 @@ def alias(text: str) -> tuple[str, str]:
 
 
 class Client:
-    """The command line client. A password comes from the environment MYSQL_PWD or from an option file, never from an argument of a command
-    line, and statements go by the client's standard input, so that no list of processes shows them."""
+    """The command line client. A password comes from the environment MYSQL_PWD or from an option file, never from an argument of a command line.
+    Statements go by the client's standard input. So no list of processes has them."""
 
     def __init__(self, program: str, user: str, options: Iterable[str] = (), password: str | None = None, timeout: float = 120) -> None:
         self.program, self.user, self.options, self.timeout = program, user, list(options), timeout
@@ -115,12 +120,12 @@ class Client:
 
 
 def is_not_reached(err: str) -> bool:
-    """Whether the client's standard error says that it didn't reach the server, or lost it."""
+    """Whether the client reports on standard error that it didn't reach the server, or lost it."""
     return bool(re.search(NOT_REACHED, err))
 
 
 def hidden(statements: str) -> str:
-    """Statements as they may be shown."""
+    """Statements without their secrets, for a message."""
     return re.sub(r"PASSWORD='(?:[^'\\]|\\.)*'", "PASSWORD='..'", statements)
 
 
@@ -236,6 +241,17 @@ def receiver_in(row: Row) -> str:
 def applier_in(row: Row) -> bool:
     """Whether its applier is on."""
     return pick(row, "Slave_SQL_Running", "Replica_SQL_Running") == "Yes"
+
+
+def has_read_all(row: Row) -> bool:
+    """Whether its applier has nothing more to take from its relay log. A worker of it may still execute what was taken."""
+    return READ_ALL in (pick(row, "Replica_SQL_Running_State", "Slave_SQL_Running_State", "Slave_SQL_State") or "")
+
+
+def are_idle(threads: Iterable[Row]) -> bool:
+    """Whether SHOW PROCESSLIST reports the applier's threads, and none of them executes anything. Without the right to see them nobody knows."""
+    states = [row.get("State") or "" for row in threads if row.get("User") == "system user"]
+    return any(READ_ALL in state for state in states) and all(READ_ALL in state or state.startswith(IDLE) for state in states)
 
 
 class Servers:

@@ -28,7 +28,7 @@ def label_of(servers: dict[str, dict[str, Any]], name: str) -> str:
 
 
 def labels(data: dict[str, Any]) -> dict[str, str]:
-    """Of each server the label of its cluster."""
+    """For each server the label of its cluster."""
     servers = {full(server["name"]): server for server in data["servers"]}
     return {name: label_of(servers, name) for name in servers}
 
@@ -50,7 +50,7 @@ def named_in(turn: list[Any]) -> set[str] | None:
 
 
 def parts_of(data: dict[str, Any]) -> dict[str, dict[str, Any]]:
-    """Of each server the scenario in which its cluster is alone; the whole one where turns can't be told apart."""
+    """For each server the scenario in which its cluster is alone. It is the whole scenario if turns can't be assigned to a cluster."""
     label, turns = labels(data), data.get("turns", [])
     if data.get("nodes", 1) > 1 or any(named_in(turn) is None for turn in turns):
         return dict.fromkeys(label, data)

@@ -75,7 +75,7 @@ class CommandLine:
 
     @property
     def known(self) -> table.Command | None:
-        """The command that -c names, where the program has it."""
+        """The command that -c names, if the program has it."""
         return table.BY_NAME.get(self.command or "")
 
     def reads_scenario(self) -> bool:

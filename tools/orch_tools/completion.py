@@ -21,7 +21,7 @@ def add_arguments(parser: argparse.ArgumentParser) -> None:
 
 
 def options_of(subcommand: str) -> list[tuple[str, str, tuple[str, ...]]]:
-    """The options of a subcommand: name, help, and the words that may be its value."""
+    """The options of a subcommand: name, help, and what may be its value."""
     found = []
     for action in wrapper.parser_of(subcommand)._actions:
         names = [name for name in action.option_strings if name.startswith("--")]
@@ -31,7 +31,7 @@ def options_of(subcommand: str) -> list[tuple[str, str, tuple[str, ...]]]:
 
 
 def operands_of(subcommand: str) -> tuple[str, ...]:
-    """The words that may be the first argument of a subcommand."""
+    """What may be the first argument of a subcommand."""
     if subcommand == "help":
         return (*wrapper.SUBCOMMANDS, *table.BY_NAME)
     actions = wrapper.parser_of(subcommand)._actions
@@ -39,7 +39,7 @@ def operands_of(subcommand: str) -> tuple[str, ...]:
 
 
 def values_of(option: table.Option) -> tuple[str, ...]:
-    """The words that may be an option's value."""
+    """What may be an option's value."""
     return {"command": tuple(table.BY_NAME), "rule": table.RULES}.get(option.kind, ())
 
 

@@ -59,7 +59,7 @@ class Known:
 
 
 class Dead:
-    """A dead source and what its replicas know. Cant if these have transactions without GTIDs: nothing says which are the same."""
+    """A dead source and what its replicas know. Cant if these have transactions without GTIDs, because then nothing identifies them."""
 
     def __init__(self, server: Server, replicas: list[Server]) -> None:
         self.server = server

@@ -12,9 +12,8 @@ from orch_tools.scenario import more_turns, short
 
 @dataclasses.dataclass
 class Death:
-    """What becomes of a topology in which a server dies and is recovered. `refusal` is the program's line where nothing was done, and
-    `also` are the servers that die with it, and `amount` is how much is
-    gone where a map tells it."""
+    """What becomes of a topology in which a server dies and is recovered. `refusal` is the program's line if nothing was done.
+    `also` are the servers that die with it. `amount` is how much is gone, if a map has it."""
     dead: str
     also: tuple[str, ...]
     refusal: str | None
@@ -37,7 +36,7 @@ class Death:
 
     @property
     def gone_text(self) -> str:
-        """How much is gone, in words: what an import's map tells of it, else transactions."""
+        """How much is gone, as a text: what an import's map has of it, else transactions."""
         return "%s gone" % (self.amount or counted(self.gone, "transaction"))
 
     @property

@@ -1,11 +1,11 @@
-"""Draws the trees of a scenario as an SVG picture of 800 pixels' width: as they are after its turns, and with --command beside
-them as they are after that command.
+"""Draws the trees of a scenario as an SVG picture of 800 pixels' width, as they are after its turns. With --command the trees
+after that command are beside them.
 
   orch draw now.json > now.svg
   orch draw --command '-c recover -i db1' now.json > failover.svg
 
 Each server has a box below its source: green takes writes, blue replicates, amber is stopped or detached, red is down. On the right
-of a box is how many transactions the server is behind the one of its cluster that has executed most. A bar on the left marks what
+of a box is its lag in transactions, against the server of its cluster that has executed most. A bar on the left marks what
 the command changed.
 """
 from __future__ import annotations
@@ -31,7 +31,7 @@ LEGEND = {"writes": "takes writes", "replicates": "replicates", "stopped": "stop
 
 @dataclasses.dataclass
 class Box:
-    """A server of a picture: how deep it is, its kind, its notes, how far it is behind, and whether it was changed."""
+    """A server of a picture: how deep it is, its kind, its notes, its lag, and whether it was changed."""
     name: str
     depth: int
     above: int | None
@@ -96,7 +96,7 @@ def text(left: float, top: float, words: str, size: int, **more: str) -> str:
 
 
 def fitted(words: str, width: float, size: int) -> str:
-    """Words cut off so that they fit into a width."""
+    """A text that is cut off so that it fits into a width."""
     most = max(4, int(width / (size * 0.62)))
     return words if len(words) <= most else words[:most - 1] + "\u2026"
 

@@ -43,7 +43,7 @@ class Writer:
             self.notes.append("transactions of %d bytes and more; a scenario's have at most so many" % MAX_SIZE)
 
     def server(self, server: Server) -> Told:
-        """What the scenario says of one server."""
+        """What the scenario has of one server."""
         told: Told = {"name": server.name}
         if not server.up:
             told["up"] = False
@@ -72,12 +72,12 @@ class Writer:
         return runs
 
     def replica(self, server: Server) -> Told:
-        """What the scenario says of a server as a replica."""
+        """What the scenario has of a server as a replica."""
         topology, status = self.topology, server.status
         assert status
         source = topology.servers[status.source]
         if not topology.told(source.name):
-            raise Cant("%s: its source %s isn't reached, and nothing tells its log" % (server.name, source.name))
+            raise Cant("%s: its source %s isn't reached, and no replica has its log" % (server.name, source.name))
         if topology.before[source.name] + source.place(status.exec) < topology.start:
             raise Cant("%s: it has executed less of %s than lies before the first transaction that all logs have" % (server.name, source.name))
         told: Told = {"source": source.name, "executed": topology.place_of(source.name, status.exec), "at": self.coord(source.name, status.exec),
@@ -108,7 +108,7 @@ class Writer:
             self.notes.append("%s has received a part of transaction %s; a scenario's receivers read whole ones" % (server.name, part.gtid))
 
     def map(self) -> Told:
-        """Of each server that logs, after each transaction: its number, the scenario's coordinate, the server's, and the GTID."""
+        """For each server that logs, after each transaction: its number, the scenario's coordinate, the server's, and the GTID."""
         found = {}
         for name in self.topology.total:
             server, log, first = self.topology.servers[name], self.topology.model_log(name, self.sizes), self.topology.first_file(name)

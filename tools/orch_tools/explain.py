@@ -1,5 +1,5 @@
-"""Explains a line of the program, or a name in it, and what to do: a refusal, a cause of failure, a reason of a lost
-replica, an analysis code or a scenario fault.
+"""Explains a line of the program, or a name in it, and what to do. The name is of a refusal, a cause of failure, a reason
+of a lost replica, an analysis code or a scenario fault.
 
   orch explain 'refused 16 VersionLower db7:3306'
   orch explain DeadMaster

@@ -44,7 +44,7 @@ class Fault:
 
     @property
     def place(self) -> Place:
-        """Where the value is in the text."""
+        """The place of the value in the text."""
         return self.places.get(self.path, Place(0, 0, 0))
 
     def shown(self) -> str:
@@ -97,7 +97,7 @@ def bad_type(fault: Fault) -> str:
 
 
 def wanted_here(fault: Fault) -> str:
-    """What may be at the fault's place, in words."""
+    """What may be at the fault's place, as a text."""
     found = re.fullmatch(r"/turns/(\d+)/(\d+)", fault.path)
     turn = value_at(fault.data, "/turns/" + found[1]) if found else None
     if isinstance(turn, list) and turn and turn[0] in fault.schema.turns():

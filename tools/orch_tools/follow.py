@@ -1,18 +1,22 @@
 """Carries a plan out that `orch .. --plan` printed, line by line.
 
-    orch follow [options] < plan.txt              a dry run: it asks by SELECT and SHOW alone, and shows what it would send
+    orch follow [options] < plan.txt              a dry run: it asks by SELECT and SHOW alone, and prints what it would send
     orch follow --execute [options] < plan.txt    it sends the statements
 
-The whole plan is read before anything is sent, and it has no statements but those of plans. Statements are sent in the words of the server's kind
+The whole plan is read before anything is sent, and it has only statements of plans. Statements are sent in the syntax of the server's kind
 and version. Each coordinate is one that a line of the plan noted. Before each statement that has a condition the servers are asked whether it holds.
-After each START the threads are looked at. At the first condition that fails, and at the first error, the run stops and says what to undo.
+After each START the threads are looked at. At the first condition that fails, and at the first error, the run stops and prints what to undo.
 
-A dry run can't see what the lines before would have changed. It checks that each server is reached, who is below whom, that the new source keeps
-what is to be read, and that a login is given where one is needed. It shows each statement with the names of what will be noted: a coordinate
-that a running server shows now is none that may be sent.
+A dry run can't see what the lines before would have changed. It checks that each server is reached and who is below whom. It checks that the new
+source keeps what is to be read, and that a login is given if one is needed. It prints each statement with the names of what will be noted.
+A coordinate that a running server reports now is none that may be sent.
 
-Exit status: 0 carried out, or a dry run found nothing that stops the plan; 1 it stopped at a line; 2 no plan, or wrong arguments; 3 a server
-isn't reached at the beginning, and nothing was sent.
+Exit status:
+
+- 0 carried out, or a dry run found nothing that stops the plan;
+- 1 it stopped at a line;
+- 2 no plan, or wrong arguments;
+- 3 a server wasn't reached before the first line, and nothing was sent.
 """
 from __future__ import annotations
 
@@ -24,11 +28,14 @@ import time
 from collections.abc import Callable, Iterator
 
 from orch_tools.binary_log import ASIDE
-from orch_tools.client import BadName, Client, Coord, Down, Refused, Seen, Servers, add_options, aliases_in, count, full, hidden, number_of
+from orch_tools.client import (BadName, Client, Coord, Down, Refused, Seen, Servers, add_options, aliases_in, are_idle, count, full, has_read_all,
+                               hidden, number_of)
 from orch_tools.plan import CHANGES, Line, Plan, Statement, Unread, for_server, read_plan
 
 HELP = "carry a printed plan out line by line; dry unless --execute is given"
 PAUSE, SOON, TRIES = 0.05, 3, 86400
+# After so many seconds in which an applier has no work, what is left of its relay log is taken for a part of a transaction.
+STILL = 2
 
 # Errors of a receiver that doesn't come to its source, which it tries again. All others are a refusal.
 UNREACHED = (2002, 2003, 2005, 2006, 2013, 1040, 1152, 1158, 1159, 1160, 1161)
@@ -68,8 +75,8 @@ class Debts:
             self.reset.clear()
             self.refusing.remove(letter)
 
-    def told(self, number: int) -> Iterator[str]:
-        """What to undo, in order, where the plan stopped at the line of this number."""
+    def told(self, number: int, noted: dict[str, Seen]) -> Iterator[str]:
+        """What to undo, in order, if the plan stopped at the line of this number. A detached server isn't started: its threads would run without a source."""
         names = self.plan.names
         for letter, seen in self.reset.items():
             if self.plan.is_recovery:
@@ -78,7 +85,8 @@ class Debts:
                 yield "%s: it has no source any more; it was below %s at %s: back by CHANGE REPLICATION SOURCE with that file and position, and the login" % (
                     names[letter], seen.source, seen.exec)
         for letter in self.stopped:
-            yield "%s: START REPLICA" % names[letter]
+            if letter not in noted or not noted[letter].detached:
+                yield "%s: START REPLICA" % names[letter]
         for letter in self.refusing:
             yield "%s: SET PERSIST super_read_only=OFF, SET PERSIST read_only=OFF: it refuses writes" % names[letter]
 
@@ -97,6 +105,7 @@ class Runner:
         self.servers, self.plan, self.login, self.more, self.wait, self.say = servers, plan, login, more, wait, say
         self.places = places or {}
         self.noted: dict[str, Seen] = {}
+        self.still: dict[str, tuple[Coord, float]] = {}
         self.debts = Debts(plan)
 
     # ---- what is noted
@@ -124,7 +133,7 @@ class Runner:
         return self.servers.look(self.name(letter))
 
     def filled(self, letter: str, text: str) -> str:
-        """A statement with what was noted in place of its words."""
+        """A statement with what was noted in place of its `:` names."""
         def put(found: re.Match[str]) -> str:
             noted, what, part = found.groups()
             if what == "source":
@@ -181,7 +190,7 @@ class Runner:
         if at:
             wanted, aim = self.seen(at[1]).source if at[2] else self.name(at[1]), self.coord(at[3])
             if live.source != wanted or live.exec != aim and not self.is_same_place(wanted, live.exec, aim):
-                raise Stopped("%s stands at %s of %s, not at %s of %s" % (self.name(line.letter), live.exec, live.source, aim, wanted))
+                raise Stopped("%s is at %s of %s, not at %s of %s" % (self.name(line.letter), live.exec, live.source, aim, wanted))
 
     def check_end(self, line: Line, live: Seen) -> None:
         """Whether the server's own log ends where the line wants it."""
@@ -218,7 +227,7 @@ class Runner:
                 raise Stopped("%s doesn't go by auto position" % self.name(line.letter))
 
     def check_spot(self, line: Line, live: Seen) -> None:
-        """Whether the server stands where the line wants it."""
+        """Whether the server is at the position that the line wants."""
         for check in (self.check_at, self.check_end, self.check_sets, self.check_attached):
             check(line, live)
         if line.condition("unmoved") and live.exec != self.seen(line.letter).exec:
@@ -284,8 +293,20 @@ class Runner:
         again, idle = line.condition("again"), line.condition("idle")
         if idle:
             seen = self.seen(line.letter)
-            return not seen.sql or seen.exec == seen.read
+            return not seen.sql or seen.exec == seen.read or self.has_part(line, seen)
         return not again or self.coord(again[0]) >= self.coord(again[1])
+
+    def has_part(self, line: Line, seen: Seen) -> bool:
+        """Whether what is left of its relay log is a part of a transaction. Then its receiver is off, its applier makes no progress for a while, and none
+        of its threads executes anything."""
+        at, since = self.still.get(line.letter, (None, 0.0))
+        if seen.io != "No" or not has_read_all(seen.row) or at != seen.exec:
+            self.still[line.letter] = seen.exec, time.monotonic()
+            return False
+        if time.monotonic() - since < STILL or not are_idle(self.servers.ask(self.name(line.letter), "SHOW PROCESSLIST")):
+            return False
+        self.say("%d %s: it has received a part of a transaction, up to %s, which is never executed" % (line.number, self.name(line.letter), seen.read))
+        return True
 
     def check_applier(self, line: Line, seen: Seen) -> None:
         """Whether an applier that is waited for met no error."""
@@ -397,12 +418,12 @@ class Runner:
         return None
 
     def run(self) -> None:
-        """Takes all lines; at the first that fails Stopped tells why and what to undo."""
+        """Carries out all lines. At the first that fails, Stopped has the reason and what to undo."""
         for line in self.plan.lines:
             try:
                 self.step(line)
             except (Stopped, Down, Refused) as reason:
-                left = list(self.debts.told(line.number)) or ["nothing"]
+                left = list(self.debts.told(line.number, self.noted)) or ["nothing"]
                 raise Stopped("stopped at line %d: %s\nto undo, in this order:\n%s" % (line.number, reason, "\n".join("  " + it for it in left))) from None
 
 
@@ -421,7 +442,7 @@ class DryRunner(Runner):
             Runner.check_source(self, line, seen)
 
     def note(self, line: Line) -> None:
-        """Says who is below whom."""
+        """Prints who is below whom."""
         seen = self.noted[line.letter] = self.look(line.letter)
         self.check_source(line, seen)
         below = "below %s%s" % (seen.source, ", detached" if seen.detached else "") if seen.source else "below nothing"

@@ -14,7 +14,7 @@ COMMENT = re.compile(r'"(?:[^"\\\n]|\\.)*"|//[^\n]*', re.S)
 
 @dataclasses.dataclass(frozen=True)
 class Place:
-    """Where a value is in a text: its key or the value itself begins at `start`, the value is `first` to `last`."""
+    """The place of a value in a text: its key or the value itself begins at `start`, the value is `first` to `last`."""
     start: int
     first: int
     last: int
@@ -81,7 +81,7 @@ class Scanner:
         return at + 1
 
     def behind(self, at: int, bracket: str) -> int:
-        """Where the next member begins, or the closing bracket is."""
+        """The place at which the next member begins, or of the closing bracket."""
         at = self.blank(at)
         if self.sign(at) == ",":
             return self.blank(at + 1)

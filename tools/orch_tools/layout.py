@@ -22,7 +22,7 @@ class Layout:
 
     @staticmethod
     def flushed(here: tuple[int, int], left: list[int], number: int) -> tuple[int, int]:
-        """Where the log goes on after a transaction and the flushes that follow it."""
+        """The coordinate at which the log goes on after a transaction and the flushes that follow it."""
         while left and left[0] == number:
             left.pop(0)
             here = (here[0] + 1, 4)

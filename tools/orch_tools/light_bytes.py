@@ -9,9 +9,11 @@ GUESSED = 200
 
 
 class Bytes:
-    """The root's log in bytes, 0 at the beginning of the first file that some server reports: `starts` has where each file begins, `total` is its end, `at`
-    has where each server has come. `known` are coordinates of which sets say how many transactions lie before them, None without sets; `unseen` has of files
-    whose ends aren't known how many transactions lie after the last coordinate that is known there."""
+    """The root's log in bytes, 0 at the start of the first file that some server reports.
+
+    `starts` has the first byte of each file, `total` is the log's end, `at` has the byte to which each server has come.
+    `known` has coordinates, and how many transactions are before each by the servers' sets. It is None without sets.
+    `unseen` is about files whose ends aren't known: how many transactions are after the last coordinate that is known there."""
 
     def __init__(self, servers: dict[str, Status], members: list[Status], lower: dict[str, list[Status]], known: list[Coord] | None, unseen: dict[int,
                                                                                                                                                   int]) -> None:
@@ -30,7 +32,7 @@ class Bytes:
         return found + ([server.end] if server.end else [])
 
     def lay_root(self, unseen: dict[int, int]) -> int:
-        """Lays the files of the root's log one behind another, and returns the byte at which the last one ends. The end of a purged file isn't known."""
+        """Lays the files of the root's log one after another, and returns the byte at which the last one ends. The end of a purged file isn't known."""
         byte, last = 0, self.points[-1].number
         for number in range(self.first, last + 1):
             self.starts[number] = byte
@@ -49,7 +51,7 @@ class Bytes:
         return self.starts[at.number] + at.position - 4 if at.number in self.starts else self.total
 
     def end_in(self, server: Status, number: int) -> int:
-        """Where a file of a server's log ends; of a purged file, or of a dead server's, the last coordinate that some server reports, and a byte more."""
+        """The end of a file of a server's log. If it is purged or a dead server's, it is a byte after the last coordinate that some server reports."""
         known = server.file_end(number)
         if known is None:
             known = max([server.norm(at).position for at in self.spoken(server) if at.number == number] + [4]) + (0 if self.gtid else 1)

@@ -2,6 +2,7 @@
 from __future__ import annotations
 
 import dataclasses
+import time
 from concurrent.futures import Executor, ThreadPoolExecutor
 
 from orch_tools.client import NOWHERE, Client
@@ -13,6 +14,8 @@ from orch_tools.progress import Progress
 
 # A coordinate within so many bytes from a file's first may be in its head.
 NEAR = 16384
+# How many seconds a status may be late: replica_checkpoint_period is 0.3 by default.
+LATE = 0.5
 
 
 @dataclasses.dataclass
@@ -27,7 +30,7 @@ class Wanted:
 
 
 class Light:
-    """Servers as they were read. `gtid` says whether all that are up have GTID mode on."""
+    """Servers as they were read. `gtid`: whether all that are up have GTID mode on."""
 
     def __init__(self, servers: dict[str, Status], below: dict[str, str] | None = None) -> None:
         self.servers, self.below, self.notes = servers, below or {}, Notes()
@@ -43,6 +46,7 @@ class Light:
             light.notes.take(discovery.notes)
             light.put_below()
             light.read_sources_again(asker, pool, progress)
+            light.leave_parts(asker, pool, progress)
             if not wanted.only_named:
                 missing_replicas(light.servers)
             list(pool.map(lambda server: light.probe(asker, server), light.servers.values()))
@@ -74,7 +78,7 @@ class Light:
         return [server for server in self.servers.values() if server.source == name]
 
     def put_below(self) -> None:
-        """Puts those that aren't reached below whom the operator says."""
+        """Puts those that aren't reached below the sources that the operator gave."""
         for name, source in self.below.items():
             server = self.servers.setdefault(name, Status(name))
             if server.up:
@@ -99,11 +103,36 @@ class Light:
                 levels.setdefault(self.depth(name), []).append(name)
         for depth in sorted(levels, reverse=True):
             progress.tell("read sources again, %d servers" % len(levels[depth]))
-            for server in pool.map(asker.read, sorted(levels[depth])):
-                for note in self.servers[server.name].notes.about("not found", "other"):
-                    server.note(note.code, note.text)
-                self.servers[server.name] = server
+            self.renew(asker, pool, sorted(levels[depth]))
         self.put_below()
+
+    def renew(self, asker: Asker, pool: Executor, names: list[str]) -> None:
+        """Reads servers again. What was noted of how they were found stays."""
+        for server in pool.map(asker.read, names):
+            for note in self.servers[server.name].notes.about("not found", "other"):
+                server.note(note.code, note.text)
+            self.servers[server.name] = server
+
+    def has_part(self, server: Status) -> bool:
+        """Whether a dead source's replica has received more than it has executed, and its applier finds nothing more to execute."""
+        above = self.servers.get(server.source or "")
+        is_left = server.up and above is not None and not above.up and server.sql and server.idle
+        return is_left and server.exec.number == server.read.number and server.exec < server.read
+
+    def leave_parts(self, asker: Asker, pool: Executor, progress: Progress) -> None:
+        """Leaves out what was received of a transaction whose rest never came: no applier executes it. A status that is only late is read again."""
+        names = [server.name for server in self.servers.values() if self.has_part(server)]
+        while names:
+            progress.tell("read dead sources' replicas again, %d servers" % len(names))
+            before = {name: self.servers[name].exec for name in names}
+            time.sleep(LATE)
+            self.renew(asker, pool, names)
+            for server in [self.servers[name] for name in names]:
+                if self.has_part(server) and server.exec == before[server.name] and asker.is_idle(server):
+                    server.note("received in part", "it has received a part of a transaction, %d bytes after %s: left out, because the rest never comes"
+                                % (server.read.position - server.exec.position, server.exec))
+                    server.read = server.exec
+            names = [name for name in names if self.has_part(self.servers[name]) and self.servers[name].exec != before[name]]
 
     def tell_dead(self) -> None:
         """Takes what is known of a source that isn't reached from its replicas."""

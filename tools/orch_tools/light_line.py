@@ -13,7 +13,7 @@ def pieces(gap: int) -> int:
 
 
 class Line:
-    """Transactions of these sizes and origins, and the byte at which each ends, from a first byte on. Bytes are those of the root's log, 0 at the beginning
+    """Transactions of these sizes and origins, and the byte at which each ends, from a first byte on. Bytes are those of the root's log, 0 at the start
     of the first file that some server reports."""
 
     def __init__(self, start: int) -> None:

@@ -4,8 +4,8 @@ from __future__ import annotations
 import dataclasses
 
 from orch_tools.binary_log import HEADS
-from orch_tools.client import (NOWHERE, BadName, Client, Coord, Down, Kind, NoClient, Refused, Row, address, applier_in, coord, count, executed_in,
-                               is_not_reached, is_on,
+from orch_tools.client import (NOWHERE, BadName, Client, Coord, Down, Kind, NoClient, Refused, Row, address, applier_in, are_idle, coord, count, executed_in,
+                               has_read_all, is_not_reached, is_on,
                                number_of, pick, read_in, receiver_in, source_of)
 from orch_tools.gtid_sets import GtidSet
 from orch_tools.notes import Notes
@@ -23,15 +23,15 @@ ENCRYPTED = 512
 
 @dataclasses.dataclass
 class Problem:
-    """Why a scenario can't have a server. `broken` ones are accepted if the operator says so."""
+    """Why a scenario can't have a server. `broken` ones are accepted if the operator asks for it."""
     text: str
     broken: bool = False
 
 
 @dataclasses.dataclass
 class Status:
-    """A server as it reports itself. `source` is the name of the one above it, `files` the size of each file of its binary log by number,
-    `logged` (of MariaDB) the last number that its log has of each domain and server id."""
+    """A server as it reports itself. `source` is the name of the one above it, `files` the size of each file of its binary log by number.
+    `logged` (of MariaDB) is the last number that its log has of each domain and server id. `idle` is true if its applier has read its whole relay log."""
     name: str
     up: bool = False
     version: str | None = None
@@ -59,6 +59,7 @@ class Status:
     read: Coord = NOWHERE
     io: str = "No"
     sql: bool = False
+    idle: bool = False
     source_id: int | None = None
     source_uuid: str | None = None
     problems: list[Problem] = dataclasses.field(default_factory=list)
@@ -125,8 +126,8 @@ def settings_of(kind: Kind) -> str:
 
 
 def statements(kind: Kind) -> list[tuple[str, str]]:
-    """What a server is asked, by parts: first the status as a replica, then its sets and the end of its own log, so that these have all that it counts. What
-    may be refused without harm comes last."""
+    """What a server is asked, by parts. Its status as a replica comes first, its sets and the end of its own log after it. So these have all that the
+    status counts. What may be refused without harm comes last."""
     more = "SHOW GLOBAL VARIABLES WHERE Variable_name IN ('binlog_format', 'hostname', 'port')"
     return [("version", "SELECT @@version v"), ("status", kind.status), ("own", settings_of(kind)), ("end", kind.end), ("more", more), ("logs",
                                                                                                                                         "SHOW BINARY LOGS"),
@@ -206,6 +207,13 @@ class Asker:
         if told["status"] and count(told["own"][0]["w"]) > 1:
             server.note("parallel appliers", "%s parallel appliers; a scenario has one" % told["own"][0]["w"])
 
+    def is_idle(self, server: Status) -> bool:
+        """Whether no thread of its applier executes anything."""
+        try:
+            return are_idle(self.ask(server.name, [("threads", "SHOW PROCESSLIST")])[0].get("threads", []))
+        except Down:
+            return False
+
     def probe(self, server: Status, numbers: set[int]) -> None:
         """How long the heads of these files are, by their first events alone."""
         for number in sorted(numbers):
@@ -268,7 +276,7 @@ def fill_replica(server: Status, rows: list[Row], aliases: dict[str, str]) -> No
         server.problems += [Problem(text) for text in [channel_in(row)] if text] + [Problem(text, broken=True) for text in broken_in(row)]
         server.source, server.detached = source_of(row, aliases)
         server.exec, server.read, server.io, server.sql = executed_in(row), read_in(row), receiver_in(row), applier_in(row)
-        server.auto = row.get("Auto_Position") == "1"
+        server.auto, server.idle = row.get("Auto_Position") == "1", has_read_all(row)
         server.retrieved = GtidSet.read(row.get("Retrieved_Gtid_Set") or "")
         server.source_id, server.source_uuid = count(pick(row, "Master_Server_Id", "Source_Server_Id")) or None, pick(row, "Master_UUID", "Source_UUID") or None
         server.until = until_of(row, server.sql)
@@ -276,7 +284,7 @@ def fill_replica(server: Status, rows: list[Row], aliases: dict[str, str]) -> No
 
 
 def note_replica(server: Status, row: Row) -> None:
-    """What of its status no scenario says."""
+    """What of its status no scenario has."""
     if count(row.get("SQL_Delay")):
         server.note("delayed", "a delayed replica (%s seconds): a scenario has no clock between servers" % row["SQL_Delay"])
     for key in FILTERS:

@@ -52,7 +52,7 @@ class LightWriter:
         return dict(head, servers=list(servers.values()), turns=turns)
 
     def server(self, server: Status) -> Told:
-        """What the scenario says of one server."""
+        """What the scenario has of one server."""
         told: Told = {"name": server.name} if server.up else {"name": server.name, "up": False}
         tree, lead = self.tree_of[server.name], self.lead_of.get(server.name)
         if not self.is_told(tree):
@@ -77,7 +77,7 @@ class LightWriter:
         return told
 
     def replica(self, tree: Tree, server: Status) -> Told:
-        """What the scenario says of a server as a replica."""
+        """What the scenario has of a server as a replica."""
         above = self.light.servers[server.source or ""]
         executed, at, read = tree.coordinates(server)
         told: Told = {"source": above.name, "executed": executed}
@@ -97,7 +97,7 @@ class LightWriter:
         return told
 
     def kin(self, lead: Tree, server: Status) -> Told:
-        """Another root that has executed a prefix of a tree's history, and perhaps more of its own."""
+        """Another root that has executed a prefix of a tree's history. It may have more of its own."""
         assert lead.chain
         shared, own = lead.place_of(server.executed), server.executed - lead.chain.whole
         many = min(own.size, MOST_OWN)
@@ -144,7 +144,7 @@ class LightWriter:
     # ---- the map
 
     def map(self) -> Told:
-        """Of each coordinate that some server reports: whose log it is of, the scenario's, the server's, and who is there; and what the transactions
+        """For each coordinate that some server reports: whose log it is of, the scenario's, the server's, and who is there. Then what the transactions
         are."""
         coordinates: list[list[str | None]] = []
         clusters: Told = {}
@@ -226,5 +226,5 @@ def runs_of(origins: list[str], sizes: list[int]) -> list[list[Any]]:
 
 
 def problem_line(name: str, problem: Problem) -> str:
-    """A reason as it is shown."""
+    """A reason as it is printed."""
     return "%s: %s" % (name, problem.text) if name else problem.text

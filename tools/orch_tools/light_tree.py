@@ -71,8 +71,8 @@ class Tree:
         return sorted(found)
 
     def unseen(self) -> dict[int, int]:
-        """Of files of the root's log whose ends aren't known, how many transactions lie after the last coordinate that is known there, by the sets
-        tell."""
+        """How many transactions are after the last known coordinate, for files of the root's log whose ends aren't known. The servers' sets give
+        it."""
         found = {}
         for (_, before), (at, number) in zip([(Coord(1, 4), 0), *self.known()], self.known()):
             if at.position == 4 and number > before:
@@ -274,7 +274,7 @@ class Tree:
 
 
 def trees_of(servers: dict[str, Status], gtid: bool) -> list[Tree]:
-    """A tree of each root, the largest first. What other roots are kin of one is put to its tree."""
+    """A tree of each root, the largest first. A root that shares the history of another one is put into its tree."""
     lower: dict[str, list[Status]] = {}
     for server in servers.values():
         if server.source:

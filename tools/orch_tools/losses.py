@@ -118,7 +118,7 @@ def dumped(program: Program, data: dict[str, Any]) -> dict[str, Any] | None:
 
 
 def received_by(death: Death, layout: Layout | None, lowest: int) -> dict[str, int]:
-    """Of each replica of the dead one that had received more than it has executed: how many of its source's transactions that were."""
+    """For each replica of the dead one that had received more than it has executed: how many of its source's transactions these are."""
     found = {}
     for server in death.before.values():
         if layout and server.source == death.dead and server.read and server.at != server.read:

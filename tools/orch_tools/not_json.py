@@ -48,7 +48,7 @@ def reason_in(text: str) -> tuple[int, int, str]:
 
 
 def deepest(text: str) -> tuple[int, int, str]:
-    """Where brackets are nested too deeply; else what Python's reader doesn't see."""
+    """The place at which brackets are nested too deeply, else what Python's reader doesn't see."""
     depth = 0
     for found in re.finditer(r'"(?:[^"\\]|\\.)*"|[\[{\]}]', text):
         depth += {"[": 1, "{": 1, "]": -1, "}": -1}.get(found.group(), 0)

@@ -38,7 +38,7 @@ CODES = {
 
 @dataclasses.dataclass(frozen=True)
 class Note:
-    """One thing that the scenario doesn't say, or says otherwise. `server` is None if it is about all of them."""
+    """One thing that the scenario doesn't have, or has otherwise. `server` is None if it is about all of them."""
     code: str
     text: str
     server: str | None = None

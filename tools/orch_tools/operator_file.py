@@ -173,7 +173,7 @@ def take_orchestrators(operator: Operator, told: dict[str, Any], path: str) -> N
 
 
 def note_placeholders(operator: Operator) -> None:
-    """Says which placeholders of hooks have no values."""
+    """Prints which placeholders of hooks have no values."""
     found = {word for hooks in operator.settings.get("hooks", {}).values() for text, _ in hooks for word in re.findall(r"\{(\w+)\}", text)}
     left = sorted(found - set(PLACEHOLDERS))
     if left:

@@ -1,5 +1,5 @@
-"""Reports what becomes of a topology if SERVER dies now: who is promoted, who follows, who is lost and why, which transactions are
-gone and where each still is, what to do with each lost server, and which one change would have helped most.
+"""Reports what becomes of a topology if SERVER dies now: who is promoted, who follows, who is lost and why. It lists which
+transactions are gone and where each still is, what to do with each lost server, and which one change would have helped most.
 
   orch outage db1 now.json
 

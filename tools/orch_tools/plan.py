@@ -11,7 +11,7 @@ LETTER = r"([A-Z]\d*)"
 VALUE = r"([A-Z]\d*\.(?:exec|read|end))"
 WARNING = "# Rehearsed on a model"
 
-# What may come after the -- of a line. docs/REAL.md says what each means.
+# What may come after the -- of a line. docs/REAL.md explains each.
 CONDITIONS = {
     "note": "note %s" % LETTER,
     "by hand": r"note ([A-Z]\d*)\.match, by hand: (.+)",
@@ -113,7 +113,7 @@ class Plan:
 
     @property
     def by_hand(self) -> dict[str, Line]:
-        """Of each letter for which a hand finds a coordinate the line that says so."""
+        """For each letter whose coordinate is found by hand, the line that asks for it."""
         return {line.letter: line for line in self.lines if line.condition("by hand")}
 
 
@@ -148,7 +148,7 @@ def letters_in(line: Line) -> Iterable[str]:
 
 
 def refuse_other_texts(text: str) -> None:
-    """Says what a text is that is often given in place of a plan."""
+    """Refuses a text that is often given in place of a plan, with what it is."""
     if not text.strip():
         raise Unread("no plan: the text is empty")
     if text.lstrip()[0] in "{[":
@@ -166,7 +166,7 @@ def checked(plan: Plan, has_warning: bool) -> Plan:
             raise Unread("line %d of the plan is missing: %d comes in its place" % (number, line.number))
         for letter in letters_in(line):
             if letter not in plan.names:
-                raise Unread("line %d of the plan speaks of %s, of which no line `server %s HOST:PORT` tells" % (number, letter, letter))
+                raise Unread("line %d of the plan speaks of %s, but no line `server %s HOST:PORT` names it" % (number, letter, letter))
     return plan
 
 
@@ -186,7 +186,7 @@ def read_plan(text: str) -> Plan:
 
 
 def for_server(kind: Kind, statement: str) -> str | None:
-    """A statement in the words of a server of this kind, or None where it has none that does something."""
+    """A statement in the syntax of a server of this kind, or None if it has none that does something."""
     if kind.since(8, 0, 23):
         return statement
     if kind.maria and statement == "SET PERSIST read_only=OFF":

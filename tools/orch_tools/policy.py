@@ -89,7 +89,7 @@ def read(path: str) -> list[Rule]:
 
 
 def centres_of(data: dict[str, Any]) -> dict[str, str]:
-    """Of each server its data centre."""
+    """For each server its data centre."""
     return {full(server["name"]): server.get("dc", "") for server in data["servers"]}
 
 

@@ -77,7 +77,7 @@ class Program:
         return Answer(done.returncode, done.stdout.decode("utf-8", "replace"), done.stderr.decode("utf-8", "replace"))
 
     def report(self, scenario: Any, *words: str) -> Answer:
-        """The same, where a report is needed: a fault of the scenario or of the program is no answer."""
+        """The same, if a report is needed: a fault of the scenario or of the program is no answer."""
         answer = self.ask(scenario, *words)
         if not answer.has_report:
             raise NoAnswer(answer.reason)

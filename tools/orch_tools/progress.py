@@ -1,4 +1,4 @@
-"""A line on a terminal that says how far a long work has come."""
+"""A line on a terminal that reports how far a long work has come."""
 from __future__ import annotations
 
 import sys

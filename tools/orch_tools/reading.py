@@ -2,6 +2,7 @@
 from __future__ import annotations
 
 import dataclasses
+import time
 
 from orch_tools.binary_log import Group, count_until, groups_of, head_of
 from orch_tools.client import (NOWHERE, Client, Coord, Down, Kind, Refused, Row, address, applier_in, coord, count, executed_in, is_on, number_of, pick,
@@ -12,6 +13,10 @@ from orch_tools.gtid_sets import GtidSet
 FILTERS = ("Replicate_Do_DB", "Replicate_Ignore_DB", "Replicate_Do_Table", "Replicate_Ignore_Table", "Replicate_Wild_Do_Table",
            "Replicate_Wild_Ignore_Table", "Replicate_Rewrite_DB", "Replicate_Ignore_Server_Ids", "Replicate_Do_Domain_Ids",
            "Replicate_Ignore_Domain_Ids")
+
+
+# A status of MySQL may be late by replica_checkpoint_period and so many seconds more; and that period if the server doesn't report it.
+MORE, PERIOD = 0.2, 0.3
 
 
 class Cant(Exception):
@@ -87,11 +92,12 @@ def replica_of(row: Row, aliases: dict[str, str]) -> Replica:
 
 
 class Server:
-    """One server. What isn't reached has `up` false; `rebuilt` says that its log was made of its replicas'. With `broken_ok` broken threads are notes."""
+    """One server. What isn't reached has `up` false; `rebuilt`: its log was made of its replicas'. With `broken_ok` broken threads are notes.
+    `steady` means that its log has just what its status counts. That is asked if its transactions have no GTIDs."""
 
     def __init__(self, name: str, client: Client, aliases: dict[str, str] | None = None, last_files: int | None = None, broken_ok: bool = False) -> None:
         self.name, self.client, self.aliases, self.last_files, self.broken_ok = name, client, aliases or {}, last_files, broken_ok
-        self.up, self.rebuilt, self.logs, self.maria, self.gtid_mode = False, False, False, False, False
+        self.up, self.rebuilt, self.logs, self.maria, self.gtid_mode, self.steady = False, False, False, False, False, True
         self.files: list[int] = []
         self.headers: dict[int, int] = {}
         self.groups: list[Group] = []
@@ -120,7 +126,7 @@ class Server:
         return self
 
     def read_all(self) -> None:
-        """All but its version."""
+        """All except its version."""
         self.maria, self.version = self.kind.maria, self.kind.version
         row = self.read_settings()
         rows = self.ask(self.kind.status)
@@ -137,6 +143,7 @@ class Server:
         self.logs = binary and (is_on(row["u"]) or self.status is None)
         if binary:
             self.read_logs()
+            self.steady = self.is_steady()
         self.up = True
 
     def read_settings(self) -> Row:
@@ -166,6 +173,36 @@ class Server:
             for key in ("Binlog_Do_DB", "Binlog_Ignore_DB"):
                 if end.get(key):
                     raise Cant("a filter of its binary log (%s %s)" % (key, end[key]))
+
+    @property
+    def anonymous(self) -> bool:
+        """Whether its log ends with a transaction without a GTID."""
+        return bool(self.groups) and self.groups[-1].gtid is None
+
+    def is_steady(self) -> bool:
+        """Whether its log ends at what its status reports. MySQL's status may be late by replica_checkpoint_period. It is right if the applier is off, if
+        all that was received is executed both before and after the log is read, or if nothing changes for that period."""
+        status = self.status
+        if status is None or not status.sql or not self.anonymous:
+            return True
+        again = self.replica_now()
+        if again.exec == again.read == status.exec == status.read:
+            return True
+        time.sleep(self.period() + MORE)
+        end = self.ask(self.kind.end)[0]
+        return self.replica_now().exec == status.exec and coord(end["File"], end["Position"]) == self.end
+
+    def replica_now(self) -> Replica:
+        """Its status as a replica now."""
+        rows = self.ask(self.kind.status)
+        if not rows:
+            raise Cant("it has no source any more")
+        return replica_of(rows[0], self.aliases)
+
+    def period(self) -> float:
+        """How many seconds its status may be late."""
+        rows = self.ask("SHOW GLOBAL VARIABLES LIKE '%_checkpoint_period'")
+        return max([int(row["Value"]) / 1000 for row in rows if row["Variable_name"].startswith(("replica_", "slave_"))] + [PERIOD])
 
     def place(self, at: Coord) -> int:
         """How many transactions of its log end at or before this coordinate."""

@@ -89,6 +89,6 @@ def spoken_of(line: str) -> list[tuple[str, str]]:
 
 
 def question(text: str, sections: Sections) -> str:
-    """What may have been meant, where a text speaks of nothing that the document has."""
+    """What may have been meant, if a text speaks of nothing that the document has."""
     words = re.findall(r"[A-Za-z]\w+", text)
     return next((asked for asked in (did_you_mean(word, sections.names()) for word in reversed(words)) if asked), "")

@@ -1,5 +1,5 @@
-"""Prints what to type, step by step, if SERVER has died: the statements of the program's own plan of that recovery, with the
-conditions before each step and a check after it. Nothing is sent to any server.
+"""Prints what to type, step by step, if SERVER has died. It has the statements of the program's own plan of that recovery, with
+the conditions before each step and a check after it. Nothing is sent to any server.
 
   orch runbook db1 now.json                        the recovery of db1's death
   orch runbook --regroup db3 now.json              gather the replicas of db3 below the best of them

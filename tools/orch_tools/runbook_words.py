@@ -1,4 +1,4 @@
-"""The statements and conditions of a printed plan in words for a hand: what a step does, what to check after it, when to stop."""
+"""The statements and conditions of a printed plan, explained for an operator: what a step does, what to check after it, when to stop."""
 from __future__ import annotations
 
 import re
@@ -32,7 +32,7 @@ LEGEND = ("Of each reading write down: exec (Relay_Source_Log_File, Exec_Source_
 ORDER = "Go on only if {0} is %s {1}."
 ATTACHED = "Go on only if Source_Host of {0} %s with //, Auto_Position is %s, and both its threads are No."
 
-# What a condition says. The groups are the servers' names; `V` stands for a noted coordinate.
+# What a condition means. The groups are the servers' names. `V` is a noted coordinate.
 CONDITIONS = (
     (r"note L", "Write down exec, read, end and gtids of {0}."),
     (r"must be below nothing", "Stop if it has a source: SHOW REPLICA STATUS answers a row."),
@@ -96,7 +96,7 @@ def word_of(group: str | None, names: dict[str, str]) -> str:
 
 
 def condition(text: str, names: dict[str, str]) -> str:
-    """A condition in words; one that isn't known stays as it is."""
+    """A condition, explained. One that isn't known stays as it is."""
     for form, says in FORMS:
         found = form.fullmatch(text)
         if found:
@@ -105,12 +105,12 @@ def condition(text: str, names: dict[str, str]) -> str:
 
 
 def hand_words(text: str, names: dict[str, str]) -> str:
-    """A text of a plan in which letters stand alone, with the servers' names."""
+    """A text of a plan whose letters are alone, with the servers' names."""
     return re.sub(r"\b([A-Z]\d*)\b", lambda found: names.get(found[1], found[1]), named(text, names))
 
 
 def texts_of(statements: list[str], part: int) -> list[str]:
-    """Of each statement one of its texts, where it has one."""
+    """For each statement one of its texts, if it has one."""
     rows = [next((row for row in STATEMENTS if re.fullmatch(row[0], statement, re.S)), ("", "", "")) for statement in statements]
     return [row[part] for row in rows if row[part]]
 

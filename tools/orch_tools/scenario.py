@@ -130,7 +130,7 @@ def read_notes(path: str | None, scenario: str) -> notes.Notes:
 
 
 def read_map(scenario: str) -> LightMap | None:
-    """The map beside a scenario's file, where there is one."""
+    """The map beside a scenario's file, if there is one."""
     try:
         return None if scenario == "-" else LightMap.beside(scenario)
     except (OSError, ValueError, KeyError, TypeError) as fault:

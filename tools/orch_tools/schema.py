@@ -52,7 +52,7 @@ class Schema:
         return "source" in self.resolved(self.rules["definitions"]["server"]).get("dependencies", {}).get(key, [])
 
     def wanted(self, path: str) -> str:
-        """What may be at this place, in words."""
+        """What may be at this place, as a text."""
         return wanted_by(self.at(path))
 
     def turns(self) -> dict[str, list[dict[str, Any]]]:
@@ -100,7 +100,7 @@ def part_text(part: dict[str, Any]) -> str:
 
 
 def wanted_by(rule: dict[str, Any]) -> str:
-    """What a rule asks for, in words; nothing where it says nothing."""
+    """What a rule asks for, as a text. It is empty if the rule asks for nothing."""
     if "const" in rule:
         return json.dumps(rule["const"])
     if "enum" in rule:

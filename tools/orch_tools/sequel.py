@@ -101,7 +101,7 @@ def step_of(program: Program, data: dict[str, Any], words: list[str]) -> Step:
 
 
 def steps_of(program: Program, data: dict[str, Any], commands: list[list[str]], ended: Callable[[], None]) -> list[Step]:
-    """Commands one after another. The last step is the first one that wasn't carried out, where there is one."""
+    """Commands one after another. The last step is the first one that wasn't carried out, if there is one."""
     steps: list[Step] = []
     for words in commands:
         steps.append(step_of(program, steps[-1].data if steps else data, words))

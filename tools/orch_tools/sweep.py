@@ -1,16 +1,16 @@
-"""Lets each server of a scenario die in turn, and with --pairs each two of a cluster, and prints what becomes of each death: one line
-each. With --policy FILE the exit status is 1 where a death doesn't keep a rule.
+"""Lets each server of a scenario die in turn, and with --pairs each two of a cluster. It prints what becomes of each death, one line
+each. With --policy FILE the exit status is 1 if a death doesn't keep a rule.
 
   orch sweep --pairs --policy policy.json now.json
 
-A policy is a JSON file. Each rule says of which deaths it speaks, and what they must come to:
+A policy is a JSON file. Each rule has the deaths that it is about, and what they must come to:
 
   {"version": 1, "rules": [
     {"name": "a master's death promotes in ams and loses nobody", "deaths": "masters", "promotes_in": ["ams"], "lost": 0},
     {"name": "no pair of deaths leaves a cluster without a master", "deaths": "pairs", "servers": ["db1"], "promotes": true}]}
 
-`deaths` is masters, intermediates, all or pairs; `clusters` and `servers` are lists of names with `*`; `promotes` is true where somebody
-must be promoted, `promotes_in` the data centres of the promoted one, `lost` and `gone` the most lost servers and gone transactions.
+`deaths` is masters, intermediates, all or pairs. `clusters` and `servers` are lists of names with `*`. `promotes` is true if somebody
+must be promoted. `promotes_in` has the data centres of the promoted one. `lost` and `gone` are the most lost servers and gone transactions.
 """
 from __future__ import annotations
 
@@ -55,7 +55,7 @@ class Sweep:
         self.replicas = {server.source for server in before.values() if not server.detached}
 
     def death(self, names: tuple[str, ...]) -> Death:
-        """What becomes of these deaths. Of a server without replicas the program needn't be asked."""
+        """What becomes of these deaths. The program needn't be asked about a server without replicas."""
         part = self.parts[names[0]]
         before = {scenario.full(server["name"]): self.before[scenario.full(server["name"])] for server in part["servers"]}
         if names[0] not in self.replicas:

@@ -1,8 +1,9 @@
 """A topology whose logs were listed, with its transactions numbered through, and what it is as a scenario."""
 from __future__ import annotations
 
-from collections.abc import Iterable
+from collections.abc import Iterable, Iterator
 from concurrent.futures import ThreadPoolExecutor
+from itertools import islice
 
 from orch_tools.binary_log import Group, count_until
 from orch_tools.client import NOWHERE, Client, Coord, Down
@@ -14,9 +15,21 @@ from orch_tools.reading import Cant, Replica, Server
 MAX_SIZE = 1000000
 
 
+def places_by_shape(own: list[int], source: list[int], least: int) -> Iterator[int]:
+    """After how many of a source's transactions, at least so many, a replica's log may end: those before are the replica's last ones, as far as both logs
+    have them."""
+    for place in range(least, len(source) + 1):
+        both = min(place, len(own))
+        near = min(both, 50)
+        if source[place - near:place] == own[len(own) - near:] and source[place - both:place] == own[len(own) - both:]:
+            yield place
+
+
 class Topology:
-    """Servers that were read. `before` is of each server how many transactions, of all from the first one that any log lists, lie before
-    the first one that its own log lists; `start` is how many lie before the scenario's first one. `labels` has of roots of one history the one that leads."""
+    """Servers that were read. All counts begin at the first transaction that any log lists.
+
+    `before` has for each server how many transactions are before the first one that its own log lists.
+    `start` is how many are before the scenario's first one. `labels` has the leading root for roots of one history."""
     servers: dict[str, Server]
     cached: dict[str, tuple[list[int], ModelLog]] | None = None
 
@@ -44,8 +57,8 @@ class Topology:
         return topology
 
     def read(self, names: Iterable[str]) -> list[Server]:
-        """Reads servers, several at a time. A running topology moves between two readings, so whoever has replicas is read again after them, the lowest first:
-        each log has all that the replicas below it had when they were read."""
+        """Reads servers, several at a time. A running topology moves between two readings. So whoever has replicas is read again after them, the lowest first.
+        Then each log has all that the replicas below it had when they were read."""
         with ThreadPoolExecutor(self.jobs) as pool:
             return list(pool.map(self.read_one, names))
 
@@ -63,7 +76,7 @@ class Topology:
         return [server for server in self.servers.values() if server.status and server.status.source == name]
 
     def rebuild_dead(self) -> None:
-        """Makes the logs of servers that aren't reached of their replicas', and gives them the sources that the operator says."""
+        """Makes the logs of servers that aren't reached of their replicas', and gives them the sources that the operator gave."""
         for server in list(self.servers.values()):
             replicas = [replica for replica in self.replicas(server.name) if replica.up] if not server.up else []
             logging = [replica for replica in replicas if replica.logs]
@@ -81,7 +94,7 @@ class Topology:
             raise Cant("--below %s=%s: both must be among the servers that are read" % (name, source))
         server, above = self.servers[name], self.servers[source]
         if server.up:
-            raise Cant("--below %s=%s: %s is reached, and tells its source itself" % (name, source, name))
+            raise Cant("--below %s=%s: %s is reached, and reports its source itself" % (name, source, name))
         listed = {group.gtid: group for group in above.groups if group.gtid}
         last = next((listed[group.gtid] for group in reversed(server.groups) if group.gtid in listed), None)
         at = last.last if last else Coord(above.files[0] if above.files else 1, 4)
@@ -90,7 +103,7 @@ class Topology:
         server.read_only = True
 
     def place_by_set(self, server: Server) -> None:
-        """A replica that was told to go by auto position shows no coordinate until its receiver has run: its place goes by its set."""
+        """A replica that was set to auto position reports no coordinate until its receiver has run. Its place goes by its set."""
         status = server.status
         if status is None or status.exec != NOWHERE or not status.executed or not self.told(status.source):
             return
@@ -162,7 +175,7 @@ class Topology:
         if status is None or source is None or not self.told(server.name) or not self.told(status.source):
             return None
         if source.stands_before(status.exec):
-            raise Cant("%s: it stands at %s of %s, before the first file that was read" % (server.name, status.exec, source.name))
+            raise Cant("%s: it is at %s of %s, before the first file that was read" % (server.name, status.exec, source.name))
         if not server.logs:
             return None
         place = self.place_now(server, source, source.place(status.exec))
@@ -170,20 +183,32 @@ class Topology:
         return status.source, place - len(server.groups)
 
     def place_now(self, server: Server, source: Server, place: int) -> int:
-        """How many of its source's listed transactions a replica has executed. Its log, which is read after its status, may have more than that says:
-        MySQL's status is up to 0.3 seconds behind. Then its log says where it stands."""
-        listed = {group.gtid: number for number, group in enumerate(source.groups, 1) if group.gtid}
-        late = listed.get(server.groups[-1].gtid, 0) - place if server.groups else 0
+        """How many of its source's listed transactions a replica has executed. Its log is read after its status, and may have more than the status:
+        MySQL's status is up to 0.3 seconds old. Then its position is taken from its log."""
+        late = self.late(server, source, place)
         if late > 0 and server.status:
             if not server.status.sql:
-                raise Cant("%s: its applier is off, and its log has %d transactions of %s from behind the place at which it stands"
+                listed = {group.gtid: number for number, group in enumerate(source.groups, 1) if group.gtid}
+                raise Cant("%s: its applier is off, and its log has %d transactions of %s from after the position at which it is"
                            % (server.name, sum(1 for group in server.groups if listed.get(group.gtid, 0) > place), source.name))
             server.status.exec = source.groups[place + late - 1].last
             server.status.read = max(server.status.read, server.status.exec)
-        if any(group.gtid is None for group in server.groups):
-            self.notes.append("%s: transactions without GTIDs; its log is matched from its end, which is right only while its applier is idle"
-                              % server.name)
-        return place + max(late, 0)
+        return place + late
+
+    def late(self, server: Server, source: Server, place: int) -> int:
+        """How many more of its source's transactions a replica's log has than its status reports."""
+        if not server.anonymous:
+            listed = {group.gtid: number for number, group in enumerate(source.groups, 1) if group.gtid}
+            return max(0, listed.get(server.groups[-1].gtid, 0) - place) if server.groups else 0
+        if server.steady:
+            self.notes.append("%s: transactions without GTIDs; its log is matched from its end, as its applier was idle" % server.name)
+            return 0
+        fits = list(islice(places_by_shape([group.shape for group in server.groups], [group.shape for group in source.groups], place), 2))
+        if len(fits) != 1:
+            raise Cant("%s: its applier works, its transactions have no GTIDs, and its log fits that of %s %s: read it while its applier is "
+                       "idle, or without --exact" % (server.name, source.name, "at several places" if fits else "nowhere"))
+        self.notes.append("%s: transactions without GTIDs; its log is matched by its events, as its applier was working" % server.name)
+        return fits[0] - place
 
     def check_beginning(self, server: Server, source: Server, place: int) -> None:
         """The replica's log must be a prefix of its source's: anything else is a transaction of its own."""
@@ -192,7 +217,7 @@ class Topology:
             own, other = server.groups[-back], source.groups[place - back]
             if own.gtid != other.gtid or own.origin != other.origin:
                 odd = next((group for group in reversed(server.groups) if group.gtid not in listed), own)
-                raise Cant("%s: its log is no beginning of that of %s: transaction %s (server id %d, %06d:%d%s)" % (
+                raise Cant("%s: its log is no prefix of that of %s: transaction %s (server id %d, %06d:%d%s)" % (
                     server.name, source.name, odd.gtid or "without a GTID", odd.origin, odd.file, odd.start, ", " + odd.what if odd.what else ""))
 
     def place_before(self, name: str, base: dict[str, tuple[str, int] | None]) -> int:
@@ -244,7 +269,7 @@ class Topology:
         return server.groups[skipped].file if 0 <= skipped < len(server.groups) else server.files[-1]
 
     def flushes(self, name: str) -> list[int]:
-        """Behind how many transactions each of its files but the last one ends."""
+        """The number of transactions at the end of each of its files except the last one."""
         first, server, skipped = self.first_file(name), self.servers[name], max(0, self.start - self.before[name])
         ends = [count_until(server.groups, Coord(file + 1, 0)) - skipped for file in server.files if first <= file]
         return [max(0, end) for end in ends[:-1]]

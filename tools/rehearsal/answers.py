@@ -59,7 +59,7 @@ def about(words: list[str]) -> str:
 
 
 def light_speak(told: dict[str, Any]) -> Speak:
-    """Those of a light import: of a root's log they are the server's own; of another, where somebody stands there, by the map."""
+    """Those of a light import. In a root's log they are the server's own. In another they are by the map, if somebody is there."""
     found = LightMap(told)
 
     def speak(server: str, text: str) -> str:
@@ -68,7 +68,7 @@ def light_speak(told: dict[str, Any]) -> Speak:
 
 
 def exact_speak(told: dict[str, Any]) -> Speak:
-    """Those of an exact import, by its map: behind a transaction, or behind the head of a file."""
+    """Those of an exact import, by its map: after a transaction, or after the head of a file."""
     places = {(name, row[1]): row[2] for name, log in told.items() for row in log["transactions"]}
 
     def speak(server: str, text: str) -> str:
@@ -89,7 +89,7 @@ def spoken(told: Answer, speak: Speak, server: str) -> Answer:
 
 
 def plain(told: Answer, heads: set[str]) -> Answer:
-    """An answer in which the position behind a file's head is that at its beginning, and the numbers of errant transactions, which are the scenario's, are
+    """An answer in which the position after a file's head is that at its start. The numbers of errant transactions, which are the scenario's, are
     left out."""
     def put(found: re.Match[str]) -> str:
         return found.group(1) + ":4" if found.group(0) in heads else found.group(0)

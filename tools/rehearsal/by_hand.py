@@ -1,14 +1,15 @@
-"""Each operation of orch's jobs as statements that are sent, and the plans of its commands and recoveries written anew from what
-docs/COMMANDS.md says of them, not from the program: what the servers do by them is compared with what the program foretells."""
+"""Each operation of orch's jobs as statements that are sent, and the plans of its commands and recoveries. They are written anew from
+docs/COMMANDS.md, not from the program. What the servers do by them is compared with what the program foretells."""
 from __future__ import annotations
 
 import time
 from collections.abc import Callable, Sequence
 from typing import Any
 
-from orch_tools.binary_log import groups_of
-from orch_tools.client import Client, Coord, Down, Seen, Servers, address, pick
+from orch_tools.binary_log import Group, groups_of
+from orch_tools.client import Client, Coord, Down, Seen, Servers, address, are_idle, has_read_all, pick
 from orch_tools.plan import for_server
+from orch_tools.reading import Server
 
 RULES = ["prefer", "neutral", "prefer_not", "must_not"]
 
@@ -27,8 +28,8 @@ class Failed(Exception):
 
 
 class Job:
-    """`bridges` are kept pairs of own end, source and executed coordinate. `places` has, where a dead server's log is known, of each of its files
-    the ends of its transactions: events that are no transaction take no room by it."""
+    """`bridges` are kept pairs of own end, source and executed coordinate. If a dead server's log is known, `places` has the ends of the transactions
+    of each of its files: events that are no transaction take no room by it."""
 
     def __init__(self, client: Client, aliases: dict[str, str], login: tuple[str, str], wait: int = 400, more: str = "") -> None:
         self.servers, self.login, self.wait, self.more = Servers(client, aliases), login, wait, more
@@ -42,7 +43,7 @@ class Job:
         self.places: dict[int, list[int]] | None = None
 
     def send(self, name: str, statement: str) -> list[dict[str, str]]:
-        """A statement of MySQL 8, in the words of the server."""
+        """A statement of MySQL 8, in the syntax of the server."""
         self.sent.append((name, statement))
         try:
             return self.servers.ask(name, for_server(self.servers.kind(name), statement))
@@ -84,7 +85,7 @@ class Job:
         self.hands.add(name)
 
     def start(self, name: str) -> None:
-        """Both threads on, where it has a source."""
+        """Both threads on, if it has a source."""
         self.begin("Start")
         if self.look(name).source:
             self.send(name, "START REPLICA")
@@ -117,7 +118,7 @@ class Job:
         return True
 
     def check_spot(self, name: str, live: Seen, expected: Spot) -> None:
-        """The server stands where it is expected, with both threads off."""
+        """The server is at the expected position, with both threads off."""
         spot = "%s %s" % (live.source, live.exec) if live.source else "nowhere"
         if not live.stopped:
             raise Failed("Running %s" % name)
@@ -158,7 +159,7 @@ class Job:
         self.attach(r, ("at", x, self.seen[x].end), self.seen[x].source, self.seen[x].exec)
 
     def down(self, r: str, d: str) -> None:
-        """r, which stands with d, goes below d."""
+        """r, which is at d's position, goes below d."""
         self.attach(r, ("at", self.seen[d].source, self.seen[d].exec), d, self.seen[d].end)
 
     def about(self, s: str, x: str, seen: Seen | None = None) -> None:
@@ -167,7 +168,7 @@ class Job:
         self.attach(s, ("end", seen.exec), x, seen.end)
 
     def same(self, r: str) -> None:
-        """r goes on where it stands."""
+        """r goes on at its position."""
         self.attach(r, ("at", self.seen[r].source, self.seen[r].exec), self.seen[r].source, self.seen[r].exec)
 
     def reset(self, name: str) -> None:
@@ -277,15 +278,22 @@ class Job:
 
     # ---- plans of recoveries
 
+    def wait_for_relay(self, r: str) -> None:
+        """Until r has executed all that it has received, except a part of a transaction. There its applier finds nothing more to execute, and waits."""
+        at, still = None, 0
+        for _ in range(self.wait):
+            seen = self.look(r)
+            still = still + 1 if has_read_all(seen.row) and seen.exec == at else 0
+            if not seen.sql or seen.read == seen.exec or still > 50 and are_idle(self.servers.ask(r, "SHOW PROCESSLIST")):
+                return
+            at = seen.exec
+            time.sleep(0.02)
+
     def drain(self, r: str, failed: str, lost: Lost) -> Seen | None:
         """r executes what it has received, and stops."""
         try:
             self.stop_receiver(r)
-            for _ in range(self.wait):
-                seen = self.look(r)
-                if not seen.sql or seen.read == seen.exec:
-                    break
-                time.sleep(0.02)
+            self.wait_for_relay(r)
             self.stop(r)
             seen = self.status(r)
         except Failed:
@@ -322,7 +330,7 @@ class Job:
         return found
 
     def place_below(self, failed: str, p: str, seen: Seen, bridges: Bridges) -> Coord | None:
-        """Where a drained replica goes on below the chosen one: at its end, by a kept bridge, or nowhere."""
+        """The coordinate at which a drained replica goes on below the chosen one: its end, by a kept bridge, or none."""
         own, most = self.key(seen.exec), self.key(self.seen[p].exec)
         if own == most:
             return self.seen[p].end
@@ -365,6 +373,24 @@ class Job:
         self.lines.append(p)
         self.lines += ["%s<%s" % (r, p) if r in followers else "%s %s" % (r, lost[r]) for r in sorted(replicas) if r != p]
 
+    def regroup_by_marks(self, failed: str, replicas: Sequence[str]) -> None:
+        """The plan of regroup-replicas-pgtid over replicas that all find their place: after as many transactions of the best one's log as their own has."""
+        drained = {r: self.drain(r, failed, {}) for r in sorted(replicas)}
+        p = self.chosen({r: seen for r, seen in drained.items() if seen})
+        self.lines.append(p)
+        log = self.read_log(p)
+        for r, seen in drained.items():
+            if r != p and seen:
+                at = log[len(self.read_log(r)) - 1].last
+                self.attach(r, ("at", failed, seen.exec), p, Coord(at.number, at.position, "mysql-bin.%06d" % at.number))
+                self.start(r)
+                self.lines.append("%s<%s" % (r, p))
+        self.start(p)
+
+    def read_log(self, name: str) -> list[Group]:
+        """The transactions of a server's log."""
+        return Server(name, self.servers.client, self.servers.aliases).read().groups
+
     def check_dead(self, failed: str) -> None:
         """The failed server isn't reached."""
         try:
@@ -374,7 +400,7 @@ class Job:
         raise Failed("Reachable %s" % failed)
 
     def expel(self, lost: Lost) -> set[str]:
-        """Detaches those that stand ahead or behind, and starts those that stand elsewhere."""
+        """Detaches those that are lost as `ahead` or `behind`, and starts those that are elsewhere."""
         gone: set[str] = set()
         for r in sorted(lost):
             if lost[r].startswith(("ahead", "behind")):

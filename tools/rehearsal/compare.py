@@ -30,7 +30,7 @@ class Exactly:
                 self.flushes[turn[1]].append(self.executed[turn[1]])
 
     def told(self) -> list[str]:
-        """What is told of a comparison besides what differs."""
+        """What is reported of a comparison besides what differs."""
         return ["coordinates: %d the same by the map, %d of the same place" % (self.exact, self.same)]
 
     def log(self, name: str) -> ModelLog:
@@ -88,14 +88,14 @@ class Exactly:
 
 
 class Loosely:
-    """Under load: who is below whom, threads, read_only; and each replica stands at its source's end."""
+    """Under load: who is below whom, threads, read_only; and each replica is at its source's end."""
 
     def __init__(self, story: "Story", now: Topology) -> None:
         self.story, self.now = story, now
         self.bad: list[str] = []
 
     def told(self) -> list[str]:
-        """Nothing is told besides."""
+        """Nothing is reported besides."""
         return []
 
     def server(self, name: str, words: list[str], server: Server) -> None:
@@ -108,9 +108,16 @@ class Loosely:
         if (words[3] == "ro") != server.read_only:
             self.bad.append("%s %s, the server not" % (letter, words[3]))
         if status:
-            above = self.now.servers[source]
+            self.replica(letter, words, server, status)
+
+    def replica(self, letter: str, words: list[str], server: Server, status: Replica) -> None:
+        """Compares it as a replica. Which transactions a dead source's log had at last isn't known."""
+        above = self.now.servers[status.source]
+        if status.source not in self.story.down:
             if len(server.groups) != above.place(status.exec) or (status.sql and len(server.groups) != len(above.groups)):
                 self.bad.append("%s executed %d, stands at %d of %d of its source" % (letter, len(server.groups), above.place(status.exec),
                                                                                     len(above.groups)))
-            if (behind(words, "sql") == "on") != status.sql:
-                self.bad.append("%s sql %s, the server not" % (letter, behind(words, "sql")))
+        if (behind(words, "sql") == "on") != status.sql:
+            self.bad.append("%s sql %s, the server not" % (letter, behind(words, "sql")))
+        if ("detached" in words) != status.detached:
+            self.bad.append("%s is%s detached, the server not" % (letter, "" if "detached" in words else "n't"))

@@ -51,10 +51,11 @@ def end_quietly(one: socket.socket) -> None:
 
 
 class Proxy:
-    """The link of one replica to its source, which can be cut and joined."""
+    """The link of one replica to its source, which can be cut and joined, or cut after so many more bytes of the source, which are `left`."""
 
     def __init__(self, port: int, target: int) -> None:
         self.port, self.target, self.open = port, target, True
+        self.left: int | None = None
         self.pairs: list[tuple[socket.socket, socket.socket]] = []
         self.server = socket.socket()
         self.server.setsockopt(socket.SOL_SOCKET, socket.SO_REUSEADDR, 1)
@@ -74,8 +75,8 @@ class Proxy:
                 near.close()
                 continue
             self.pairs.append((near, far))
-            for ends in ((near, far), (far, near)):
-                threading.Thread(target=self.pump, args=ends, daemon=True).start()
+            threading.Thread(target=self.pump, args=(near, far, False), daemon=True).start()
+            threading.Thread(target=self.pump, args=(far, near, True), daemon=True).start()
 
     def reached(self) -> socket.socket | None:
         """A connection to the source, if it takes one."""
@@ -86,11 +87,15 @@ class Proxy:
         far.settimeout(None)
         return far
 
-    def pump(self, near: socket.socket, far: socket.socket) -> None:
-        """Hands on what one end sends, to its end."""
+    def pump(self, near: socket.socket, far: socket.socket, is_source: bool) -> None:
+        """Hands on what one end sends, to its end or as far as it may."""
         try:
             while data := near.recv(65536):
+                if is_source and self.left is not None:
+                    data, self.left, self.open = data[:self.left], max(0, self.left - len(data)), self.left > len(data)
                 far.sendall(data)
+                if not self.open:
+                    break
         except OSError:
             pass
         end_quietly(near)
@@ -107,7 +112,7 @@ class Proxy:
 
     def join(self) -> None:
         """Takes connections again."""
-        self.open = True
+        self.open, self.left = True, None
 
     def close(self) -> None:
         """Ends the link for good."""
@@ -222,12 +227,12 @@ class Farm:
         self.ready(name)
 
     def ask(self, name: str, statements: str) -> list[dict[str, str]]:
-        """A server's answer to statements in its own words."""
+        """A server's answer to statements in its own syntax."""
         host, _, port = name.rpartition(":")
         return self.client.ask(host, int(port), statements)
 
     def tell(self, name: str, statement: str) -> list[dict[str, str]]:
-        """The same of one statement in the words of MySQL 8."""
+        """The same for one statement in the syntax of MySQL 8."""
         words = for_server(self.kinds.kind(name), statement)
         return self.ask(name, words) if words else []
 

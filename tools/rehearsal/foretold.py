@@ -2,15 +2,9 @@
 from __future__ import annotations
 
 import argparse
-import contextlib
-import io
-import json
-import os
-import re
 from typing import Any
 
-from orch_tools import importing
-from rehearsal.both_ways import answers_differ, heads_of, standing_differs
+from rehearsal.both_ways import Checkpoints, answers_differ, heads_of, standing_differs
 from rehearsal.farm import Farm
 from rehearsal.play import Say, There, follow, played
 from rehearsal.setups import SETUPS, Setup
@@ -21,24 +15,8 @@ REFUSED = {"errant": "Errant", "purged_gtids": "Purged", "old_master_back": "Err
 STOPPED = {"broken_applier": "its applier stopped: error"}
 
 
-def imported(s: Story, made: Setup) -> None:
-    """The story's scenario is the one that the light import writes of the servers."""
-    parser, err, out = argparse.ArgumentParser(), io.StringIO(), os.path.join(s.farm.folder, "now.json")
-    importing.add_arguments(parser)
-    words = [re.sub(r"\b([a-e])\b", lambda found: s.n(found.group(1)), word) if "=" in word else word for word in made.words]
-    words += [word for link, name in s.servers_of_proxies.items() for word in ("--alias", "%s=%s" % (link, name))]
-    given = parser.parse_args([*sorted(s.used, key=s.farm.names.index), "--only-named", *words, "--out", out])
-    with contextlib.redirect_stderr(err):
-        status = importing.run(given, lambda *_, **__: s.farm.client)
-    if status != 0:
-        raise Differs("the import: status %d: %s" % (status, err.getvalue()))
-    with open(out, encoding="utf-8") as file:
-        s.scenario = json.load(file)
-    s.turns = s.scenario["turns"]
-
-
 def foretold(s: Story, told: Any) -> tuple[str, Any, dict[str, list[str]]]:
-    """The program's answer, and of each server its table once all is quiet. Each command among the scenario's own turns has a job."""
+    """The program's answer, and each server's table once nothing moves. Each command among the scenario's own turns has a job."""
     status, out, err = s.ran(s.words(*told), s.turns)
     job = 1 + sum(turn[0] == "command" for turn in s.turns)
     rounds = [["job", job], ["round"]] * 70 + [["round"]] * 30
@@ -98,9 +76,8 @@ def compared(s: Story, made: Setup, many: int, say: Say) -> list[str]:
     bad = answers_differ(s, made, s.program, many, said) if many else []
     for line in said:
         say(line)
-    s.bridges.clear()
     s.poll()
-    imported(s, made)
+    s.read_light(made.words)
     heads = heads_of(s)
     kind, got, tables = foretold(s, told)
     say("foretold of %s: %s %s" % (" ".join(word for word in told if word), kind, s.spell(got if isinstance(got, str) else "; ".join(got))))
@@ -115,7 +92,11 @@ def compared(s: Story, made: Setup, many: int, say: Say) -> list[str]:
     bad += ["line %s, the servers %s" % (mine, other) for mine, other in zip(got, there[1]) if shape(mine.split()) != shape(other.split())]
     s.quiet()
     bad += [] if len(got) == len(there[1]) else ["lines %s, the servers %s" % (got, there[1])]
-    return bad + tables_differ(s, tables) + standing_differs(s, tables, heads)
+    checkpoints = Checkpoints(s)
+    bad += tables_differ(s, tables) + standing_differs(s, tables, heads, checkpoints)
+    for line in checkpoints.seen:
+        say("checkpoints: " + s.spell(line))
+    return bad
 
 
 def one_foretold(farm: Farm, given: argparse.Namespace, made: Setup) -> bool | None:

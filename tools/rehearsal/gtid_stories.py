@@ -3,7 +3,7 @@ from __future__ import annotations
 
 import time
 
-from rehearsal.stories import Made, Told, moved
+from rehearsal.stories import Made, Told, dying, killed, moved
 from rehearsal.story import Story, Writes
 
 GTID_STORIES: list[Made] = []
@@ -58,7 +58,7 @@ def chain(s: Story) -> None:
 
 @story
 def move_gtid(s: Story) -> Told:
-    """c, three transactions behind its sibling b, goes below b by its set; it went by coordinates"""
+    """c, which lags three transactions after its sibling b, goes below b by its set; it went by coordinates"""
     siblings(s, "c", "b", auto=False)
     s.read()
     return moved("move-gtid", "c", "b")
@@ -98,7 +98,7 @@ def move_gtid_waits_in_vain(s: Story) -> Told:
 
 @story
 def move_replicas_gtid(s: Story) -> Told:
-    """c and d, replicas of b, one of them behind, go below e, their source's sibling"""
+    """c and d, replicas of b, one of them with a lag, go below e, their source's sibling"""
     s.root("a")
     for r, x in (("b", "a"), ("c", "b"), ("d", "b"), ("e", "a")):
         s.below(r, x, auto=True)
@@ -113,7 +113,7 @@ def move_replicas_gtid(s: Story) -> Told:
 
 @story
 def enable_gtid(s: Story) -> Told:
-    """c, two files behind below b, goes over to auto position"""
+    """c, which lags two files below b, goes over to auto position"""
     s.root("a")
     s.below("b", "a")
     s.below("c", "b")
@@ -130,7 +130,7 @@ def enable_gtid(s: Story) -> Told:
 
 @story
 def disable_gtid(s: Story) -> Told:
-    """c, by auto position and a file behind, goes over to coordinates"""
+    """c, by auto position and with a lag of a file, goes over to coordinates"""
     chain(s)
     s.only("c", 7)
     s.flush("b")
@@ -171,7 +171,7 @@ def move_up_auto(s: Story) -> Told:
 
 @story
 def move_below_auto(s: Story) -> Told:
-    """c, by auto position and behind, goes below its sibling b by coordinates"""
+    """c, by auto position and with a lag, goes below its sibling b by coordinates"""
     siblings(s, "c", "b")
     s.read()
     return moved("move-below", "c", "b")
@@ -203,7 +203,7 @@ def reset_auto(s: Story) -> Told:
 
 @story
 def stopped_after_change(s: Story) -> Told:
-    """c was told to go by auto position, and hasn't been started since: it is read so, and started"""
+    """c was set to auto position, and hasn't been started after that: it is read so, and started"""
     s.root("a")
     s.below("b", "a")
     s.below("c", "b")
@@ -218,7 +218,7 @@ def stopped_after_change(s: Story) -> Told:
 
 @story
 def stopped_after_move(s: Story) -> Told:
-    """c was told to go by auto position, with its source's host and port, and hasn't been started since: it shows no coordinate"""
+    """c was set to auto position, with its source's host and port, and hasn't been started after that: it reports no coordinate"""
     s.root("a")
     s.below("b", "a")
     s.below("c", "b")
@@ -277,13 +277,18 @@ def takeover_gtid_loaded(s: Story) -> Told:
 
 @story
 def recover_gtid_loaded(s: Story) -> Told:
-    """the master is killed while a client writes, all by auto position: nobody is lost, each row is there once"""
+    """the master is killed while a client writes, all by auto position, and read afterwards: nobody is lost, each row is there once"""
     level(s, "b", "c")
     s.read()
     under_load(s)
-    s.poll()
-    s.fail("a")
-    s.poll()
+    killed(s, "b", "c")
+    return ("recover", "a", None), lambda j: (j.recover_master, s.n("a"), s.names("bc"), s.bridges)
+
+
+@story
+def recover_gtid_part(s: Story) -> Told:
+    """the master dies while it sends a large transaction, of which c, by auto position, has received a part: that counts for nothing"""
+    dying(s, True)
     return ("recover", "a", None), lambda j: (j.recover_master, s.n("a"), s.names("bc"), s.bridges)
 
 
@@ -346,7 +351,7 @@ def dead_gtid(s: Story) -> None:
 
 @story
 def recover_gtid(s: Story) -> Told:
-    """the master dies; replicas by auto position stand at four places; e has executed most, d is preferred and takes its place"""
+    """the master dies; replicas by auto position are at four positions; e has executed most, d is preferred and takes its place"""
     dead_gtid(s)
     s.rules[s.n("d")] = "prefer"
     s.read()
@@ -373,7 +378,7 @@ def recover_gtid_ahead(s: Story) -> Told:
 
 @story
 def regroup_gtid(s: Story) -> Told:
-    """the master dies with unequal replicas: all go below the best by their sets; nobody is behind"""
+    """the master dies with unequal replicas: all go below the best by their sets; nobody is lost"""
     dead_gtid(s)
     s.read()
     s.poll()
@@ -404,7 +409,7 @@ def recover_gtid_read_after_death(s: Story) -> Told:
 
 @story
 def recover_intermediate_gtid(s: Story) -> Told:
-    """the intermediate b dies: c and d, at two places, go to a by their sets; nobody is behind"""
+    """the intermediate b dies: c and d, at two places, go to a by their sets; nobody is lost"""
     s.root("a")
     s.below("b", "a", auto=True)
     s.below("c", "b", proxy=True, auto=True)

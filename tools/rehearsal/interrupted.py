@@ -18,7 +18,7 @@ ABOUT = "a rehearsal that gets Ctrl-C while its servers run leaves no process, n
 
 
 def command_lines() -> Iterator[tuple[int, list[str]]]:
-    """Of each process its number and its command line."""
+    """The number and the command line of each process."""
     for file_name in glob.glob("/proc/[0-9]*/cmdline"):
         try:
             with open(file_name, "rb") as file:
@@ -28,7 +28,7 @@ def command_lines() -> Iterator[tuple[int, list[str]]]:
 
 
 def servers_in(folder: str) -> dict[int, int]:
-    """Of each server whose data are in a folder its process and its port."""
+    """The process and the port of each server whose data are in a folder."""
     found = {}
     for number, words in command_lines():
         if any(word.startswith("--datadir=" + folder) for word in words):

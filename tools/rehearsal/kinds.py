@@ -26,7 +26,7 @@ class Missing(Exception):
 
 @dataclasses.dataclass(frozen=True)
 class Programs:
-    """A server, its client, and the folder of its files, where that isn't the one that it was built for."""
+    """A server, its client, and the folder of its files, if that isn't the one that it was built for."""
     server: str
     client: str
     base: str | None
@@ -69,8 +69,8 @@ def programs_of(kind: str, folder: str) -> Programs:
 
 
 class Make:
-    """How servers of a kind are made. `gtid` says that they are in GTID mode as the program knows it, which MariaDB hasn't; `by_gtids` that
-    replicas of MariaDB go by MariaDB's GTIDs. `login` goes behind a login in a plan's statement, `login_words` behind that of a story."""
+    """How servers of a kind are made. `gtid`: they are in GTID mode as the program knows it, which MariaDB hasn't. `by_gtids`:
+    replicas of MariaDB go by MariaDB's GTIDs. `login` goes after a login in a plan's statement, `login_words` after that of a story."""
     kind, empty, login, login_words = "", "", "", ""
 
     def __init__(self, programs: Programs, given: argparse.Namespace) -> None:
@@ -144,7 +144,7 @@ class MariaDB(Make):
 
 class MySQL(Make):
     """MySQL from 8.0.26 on. A login goes by caching_sha2_password: a replica asks for its source's public key, or the first login without TLS is
-    refused. From 8.4 on a receiver gives up after ten tries unless SOURCE_RETRY_COUNT says otherwise."""
+    refused. From 8.4 on a receiver gives up after ten tries unless SOURCE_RETRY_COUNT is another number."""
     kind = "mysql"
     login, login_words = "GET_SOURCE_PUBLIC_KEY=1", ", GET_SOURCE_PUBLIC_KEY=1, SOURCE_RETRY_COUNT=86400"
 

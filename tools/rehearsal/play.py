@@ -16,39 +16,47 @@ from orch_tools.follow import Runner, Stopped
 from orch_tools.plan import Unread, read_plan
 from orch_tools.reading import Cant, Server
 from orch_tools.topology import ModelLog, model_coord
+from rehearsal import recovery_plan
 from rehearsal.by_hand import Job
 from rehearsal.farm import Farm
-from rehearsal.print_plan import Sources, moves, plan_text
+from rehearsal.print_plan import NoPlan, Sources, moves, plan_text
 from rehearsal.stories import Made
 from rehearsal.story import LOGIN, Differs, Story
 
 Say = Callable[[str], None]
 There = tuple[str | None, Any]
+AHEAD = "the runner stops at the replica that is ahead, which a plan by GTIDs attaches like the others"
 TROUBLES = (Differs, Down, Refused, Cant, Unread, RuntimeError, ValueError, subprocess.TimeoutExpired)
 
 
-class NoPlan(Exception):
-    """The program prints no plan of this command."""
-
-
 def sources(story: Story) -> Sources:
-    """Of each server of the scenario its source."""
+    """The source of each server of the scenario."""
     return {server["name"]: server.get("source") for server in story.scenario["servers"]}
 
 
-def attached(story: Story) -> Sources:
-    """Of each server its source, unless it is detached from it."""
-    return {server["name"]: None if server.get("detached") else server.get("source") for server in story.scenario["servers"]}
+def detached(story: Story) -> set[str]:
+    """The servers that are detached from their source."""
+    return {server["name"] for server in story.scenario["servers"] if server.get("detached")}
 
 
 def goes_by_sets(story: Story, command: str) -> bool:
-    """Whether the program plans this command by GTIDs, of which no plan is written anew."""
-    return bool(story.scenario.get("gtid")) and (command.endswith("gtid") or command.startswith(("relocate", "repoint")))
+    """Whether the program's plan of this command may go by GTIDs or keep auto position."""
+    return bool(story.scenario.get("gtid")) and (command.endswith("gtid") or command.startswith(("relocate", "repoint", "detach", "reattach")))
+
+
+def written_plan(story: Story, command: str, i: str, d: str | None) -> str | None:
+    """The plan as it is written anew, of moves and commands of one server, and of recoveries and moves by GTIDs over logs of one file; else none."""
+    to = story.n(d) if d else None
+    own = None if goes_by_sets(story, command) else plan_text(command, story.n(i), to, sources(story), detached(story))
+    try:
+        return own or recovery_plan.plan_text(command, story.n(i), to, json.dumps(dict(story.scenario, turns=story.turns)))
+    except recovery_plan.Unwritten:
+        return None
 
 
 def printed_plan(story: Story, command: str, i: str, d: str | None) -> str:
-    """The plan as the program prints it; it must be the one that is written anew, where there is one."""
-    own = None if goes_by_sets(story, command) else plan_text(command, story.n(i), story.n(d) if d else None, attached(story))
+    """The plan as the program prints it; it must be the one that is written anew, if there is one."""
+    own = written_plan(story, command, i, d)
     status, out, err = story.ran(story.words(command, i, d) + ["--plan"], story.turns)
     if status == 1:
         raise NoPlan("the program prints no plan of %s" % command)
@@ -58,7 +66,7 @@ def printed_plan(story: Story, command: str, i: str, d: str | None) -> str:
 
 
 class ByHand(Runner):
-    """A runner that finds itself what a line wants of a hand: the place in a log behind as many transactions as the replica has executed."""
+    """A runner that finds itself what a line wants of a hand: the place in a log after as many transactions as the replica has executed."""
 
     def coord(self, word: str) -> Coord:
         """The coordinate of A.exec, A.read, A.end or A.match."""
@@ -75,12 +83,12 @@ class ByHand(Runner):
 def runner_of(story: Story, text: str, say: Say) -> Runner:
     """A runner of a printed plan over the story's servers."""
     more = ", " + story.farm.make.login if story.farm.make.login else ""
-    return ByHand(Servers(story.farm.client, story.servers_of_proxies), read_plan(text), LOGIN, more, wait=20, say=say)
+    return ByHand(Servers(story.farm.client, story.servers_of_proxies), read_plan(text), LOGIN, more, wait=60, say=say)
 
 
 def follow(story: Story, text: str, say: Say, done: Any) -> There:
-    """Carries a plan out by the runner alone: done with the lines that the program told, or failed with the runner's words. Whom a plan that
-    fails has stopped is started again, as the runner says."""
+    """Carries a plan out by the runner alone: done with the lines that the program printed, or failed with the runner's reason. Whom a plan that
+    fails has stopped is started again, as the runner asks."""
     try:
         runner_of(story, text, say).run()
         return "done", done
@@ -118,14 +126,15 @@ def by_statements(story: Story, command: str, i: str, d: str | None, job: Job) -
 
 
 def lines_differ(story: Story, got: list[str], there: list[str]) -> list[str]:
-    """Lines word for word, but coordinates of lost replicas by their places."""
+    """Lines word for word, but coordinates of lost replicas by their places, unless the scenario has the servers' own."""
     if len(got) != len(there):
         return ["lines %s, the servers %s" % (got, there)]
-    return ["line %s, the servers %s" % (mine, other) for mine, other in zip(got, there) if mine != other and not is_same_lost(story, mine, other)]
+    return ["line %s, the servers %s" % (mine, other) for mine, other in zip(got, there)
+            if mine != other and (story.is_light or not is_same_lost(story, mine, other))]
 
 
 def is_same_lost(story: Story, mine: str, other: str) -> bool:
-    """Whether two lines of a lost replica differ in nothing but coordinates of one place."""
+    """Whether two lines of a lost replica differ only in coordinates of one place."""
     ours, theirs = mine.split(), other.split()
     if len(ours) < 3 or len(ours) != len(theirs) or ours[1] not in ("ahead", "behind") or ours[:2] + ours[3:] != theirs[:2] + theirs[3:]:
         return False
@@ -139,13 +148,19 @@ def is_same_lost(story: Story, mine: str, other: str) -> bool:
 
 
 def outcome_differs(story: Story, kind: str | None, got: Any, there: There) -> list[str]:
-    """What differs between the program's end of a job and the servers'. Of a plan that the runner stopped, only that it did is compared."""
+    """What differs between the program's end of a job and the servers'. If the runner stopped a plan, only that it did is compared."""
     if kind != there[0]:
         return ["%s %s, the servers %s %s" % (kind, got, there[0], there[1])]
     if kind == "failed":
         same = got.split()[:2] == there[1].split()[:2] or there[1].startswith("by the runner: ")
         return [] if same else ["%s, the servers %s" % (got, there[1])]
     return lines_differ(story, got, there[1])
+
+
+def stops_at_ahead(story: Story, got: Any, there: There) -> bool:
+    """Whether the runner stopped a recovery's plan at a replica that the program calls ahead: by GTIDs the plan attaches it like the others."""
+    is_ahead = bool(story.scenario.get("gtid")) and any(" ahead " in line for line in got)
+    return is_ahead and there[0] == "failed" and "has executed what" in there[1]
 
 
 def without_known(story: Story, lines: list[str], say: Say) -> list[str]:
@@ -164,7 +179,7 @@ def without_known(story: Story, lines: list[str], say: Say) -> list[str]:
 
 
 class Playing:
-    """One playing of a story. `wrong` is the job of a wrong plan; `by_plan` says that the printed plan is followed where a story has one by hand."""
+    """One playing of a story. `wrong` is the job of a wrong plan; `by_plan`: the printed plan is followed if a story has one by hand."""
 
     def __init__(self, story: Story, wrong: type[Job] | None, by_plan: bool, say: Say) -> None:
         self.story, self.wrong, self.by_plan, self.say = story, wrong, by_plan, say
@@ -187,10 +202,12 @@ class Playing:
         return follow(story, text, lambda line: None, done)
 
     def imported(self) -> list[str]:
-        """What differs between the servers as they were read and the program's tables of the scenario that was made of it."""
+        """What differs between the servers as they were read and the program's tables of the scenario that was made of it. All logs begin with the
+        first transaction."""
         story = self.story
         _, tables = story.run([])
         bad, beside = story.compare_reading(tables)
+        bad += ["%s: its log is taken to begin at transaction %d" % (name, 1 + before) for name, before in story.before.before.items() if before]
         for line in beside + ([story.writer.stop()] if story.writer else []):
             self.say(line)
         return bad
@@ -219,6 +236,9 @@ class Playing:
         else:
             there = self.carried_out(told, plan, got)
             self.say("servers: %s %s" % (there[0], story.spell(there[1] if isinstance(there[1], str) else "; ".join(there[1]))))
+            if self.by_plan and stops_at_ahead(story, got, there):
+                self.say("known: " + AHEAD)
+                return bad
             bad += outcome_differs(story, kind, got, there)
         if story.writer:
             self.say(story.writer.stop())

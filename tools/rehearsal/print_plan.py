@@ -3,11 +3,11 @@
 
     tools/rehearsal/print_plan.py -c COMMAND -i HOST[:PORT] [-d HOST[:PORT]] < scenario.json > plan.txt
 
-The program is asked first: what it refuses, or what fails in its rehearsal, has no plan, and its words and its status are passed on. Plans are there
+The program is asked first: what it refuses, or what fails in its rehearsal, has no plan, and its output and its status are passed on. Plans are there
 of commands that go one straight way: moves and relocations by coordinates, commands of one server, and a takeover. Plans of recoveries and
 of GTIDs aren't.
 
-Exit status: 0 printed; 1 the words aren't taken, or the command has no straight plan; 2 no scenario as orch import --exact writes it; 7 refused.
+Exit status: 0 printed; 1 a wrong command line, or the command has no straight plan; 2 no scenario as orch import --exact writes it; 7 refused.
 """
 from __future__ import annotations
 
@@ -16,7 +16,7 @@ import json
 import os
 import subprocess
 import sys
-from collections.abc import Callable, Sequence
+from collections.abc import Callable, Collection, Sequence
 from typing import Any
 
 sys.path.insert(0, os.path.dirname(os.path.dirname(os.path.abspath(__file__))))
@@ -39,8 +39,12 @@ HEAD = """\
 """
 
 
+class NoPlan(Exception):
+    """A command has no plan over these servers."""
+
+
 class Paper:
-    """Lines of operations, one for each. `told` has of a server the source that a line before has told."""
+    """Lines of operations, one for each. `told` has for a server the source that an earlier line has."""
 
     def __init__(self) -> None:
         self.lines: list[str] = []
@@ -109,7 +113,7 @@ class Paper:
         self.change(s, x, b + ".end", s not in self.told, "%s ends at %s.exec" % (a, b))
 
     def same(self, r: str) -> None:
-        """r goes on where it stands."""
+        """r goes on at its position."""
         a, s = self.letter(r), self.letter(self.told[r])
         self.change(r, self.told[r], a + ".exec", False, "%s is below %s at %s.exec" % (a, s, a))
 
@@ -122,8 +126,7 @@ class Paper:
         a = self.letter(name)
         change = ("CHANGE REPLICATION SOURCE TO SOURCE_HOST='%s:%s.source.host', SOURCE_PORT=:%s.source.port, SOURCE_LOG_FILE=:%s.exec.file, "
                   "SOURCE_LOG_POS=:%s.exec.pos, SOURCE_AUTO_POSITION=0" % (host, a, a, a, a))
-        first = "STOP REPLICA; " if host else ""
-        self.line(name, first + STATUS + "; " + change, "note " + a, "only where %s is %s, stopped" % (a, word))
+        self.line(name, "STOP REPLICA; " + STATUS + "; " + change, "note " + a, "only where %s is %s, stopped" % (a, word))
 
     def detach(self, name: str) -> None:
         """Two slashes before its source's host."""
@@ -215,21 +218,24 @@ class Paper:
         self.status(d)
 
 
-def path_of(source: Sources, i: str, d: str) -> tuple[int, bool] | None:
-    """The way of a relocation by coordinates: how many times up, and whether below d then; or None."""
+def path_of(source: Sources, d_source: str | None, i: str, d: str) -> tuple[int, bool]:
+    """The way of a relocation by coordinates: how many times up, and whether below d then. It goes over detached servers, too, but not below a sibling that
+    is detached: `d_source` is the source to which d is attached. NoPlan if there is no way."""
     above, up = [], source[i]
     while up:
         above.append(up)
         up = source[up]
     if d in above:
         return above.index(d), False
-    return (above.index(source[d]), True) if source[d] in above else None
+    if d_source not in above:
+        raise NoPlan("no path from %s to %s" % (i, d))
+    return above.index(d_source), True
 
 
-def relocated(plan: Any, source: Sources, i: str, d: str) -> None:
+def relocated(plan: Any, source: Sources, d_source: str | None, i: str, d: str) -> None:
     """The plan's moves of a relocation; `plan` is a paper or a job."""
     x = source[i]
-    ups, below = path_of(source, i, d)
+    ups, below = path_of(source, d_source, i, d)
     if ups == 0 and not below:
         plan.repoint(i, x)
     for _ in range(ups):
@@ -271,24 +277,23 @@ def moves(plan: Any, command: str, i: str, d: str | None, source: Sources, below
         plan.take_master(i, x, source[x])
     elif command == "repoint":
         plan.repoint(i, x)
-    elif command == "relocate":
-        relocated(plan, source, i, d)
-    elif command == "relocate-replicas":
-        for r in below(i):
+    elif command in ("relocate", "relocate-replicas") and d:
+        d_source = source[d] if d in below(source[d] or "") else None
+        for r in [i] if command == "relocate" else below(i):
             if r != d:
-                relocated(plan, source, r, d)
+                relocated(plan, source, d_source, r, d)
     else:
         return False
     return True
 
 
-def plan_text(command: str, i: str, d: str | None, source: Sources) -> str | None:
-    """The plan of a command over servers with these sources; None where it has none that is straight."""
+def plan_text(command: str, i: str, d: str | None, source: Sources, detached: Collection[str] = ()) -> str | None:
+    """The plan of a command over servers with these sources, from which some are detached; None where it has none that is straight."""
     paper = Paper()
 
     def below(name: str) -> list[str]:
-        """The replicas of a server in name order."""
-        return sorted((r for r in source if source[r] == name), key=address)
+        """The attached replicas of a server in name order."""
+        return sorted((r for r in source if source[r] == name and r not in detached), key=address)
     if command == "graceful-master-takeover":
         paper.takeover(i, d, [r for r in below(i) if r != d])
         return paper.text()
@@ -305,12 +310,14 @@ def options() -> argparse.ArgumentParser:
     return parser
 
 
-def sources_in(text: str) -> Sources:
-    """Of each server of a scenario its source, unless it is detached from it."""
+def sources_in(text: str) -> tuple[Sources, set[str]]:
+    """The source of each server of a scenario, and who is detached from it."""
     scenario = json.loads(text)
     if scenario.get("turns") or scenario.get("gtid"):
         raise ValueError("it has turns, or uses GTIDs")
-    return {full(server["name"]): full(server["source"]) if "source" in server and not server.get("detached") else None for server in scenario["servers"]}
+    servers = scenario["servers"]
+    return ({full(server["name"]): full(server["source"]) if "source" in server else None for server in servers},
+            {full(server["name"]) for server in servers if server.get("detached")})
 
 
 def main(words: Sequence[str] | None = None) -> int:
@@ -318,7 +325,7 @@ def main(words: Sequence[str] | None = None) -> int:
     given = options().parse_args(words)
     text = sys.stdin.read()
     try:
-        source = sources_in(text)
+        source, detached = sources_in(text)
     except (ValueError, KeyError, TypeError, AttributeError) as reason:
         print("no scenario of a topology: %s" % reason, file=sys.stderr)
         return 2
@@ -327,7 +334,7 @@ def main(words: Sequence[str] | None = None) -> int:
     if asked.returncode != 0:
         sys.stderr.write(asked.stderr.decode())
         return asked.returncode
-    plan = plan_text(given.c, given.i, given.d, source)
+    plan = plan_text(given.c, given.i, given.d, source, detached)
     if plan is None:
         print("no straight plan: %s" % given.c, file=sys.stderr)
         return 1

@@ -1,4 +1,4 @@
-"""Servers that aren't quiet: what comes between the lines of a plan, and files that are gone. The program with these turns, and the servers."""
+"""Servers with other events: what comes between the lines of a plan, and files that are gone. The program with these turns, and the servers."""
 from __future__ import annotations
 
 import argparse
@@ -14,13 +14,13 @@ from rehearsal.farm import Farm
 from rehearsal.play import Say, played, runner_of
 from rehearsal.story import Differs, Story, Turn
 
-# What the program tells, what the servers do, and whether that is the same.
+# What the program prints, what the servers do, and whether that is the same.
 Told = tuple[str, str, bool]
 
 
 @dataclasses.dataclass(frozen=True)
 class Race:
-    """A race; `with_gtids` says that it is one of GTID mode."""
+    """A race. `with_gtids`: it is one of GTID mode."""
     made: Callable[[Story], Told]
     with_gtids: bool
 
@@ -49,7 +49,7 @@ def plan_of(s: Story, command: str, i: str, d: str | None = None) -> str:
 
 
 def line_with(text: str, words: str) -> int:
-    """The number of the first line of a plan that has these words."""
+    """The number of the first line of a plan that has this text."""
     return int(next(line for line in text.split("\n") if words in line and line[0].isdigit()).split()[0])
 
 
@@ -104,7 +104,7 @@ def flush_and_purge(s: Story, name: str) -> None:
 
 
 def is_stopped(told: str, cause: str, there: str, words: str) -> bool:
-    """Whether the program's job failed with that cause, and the runner stopped with these words."""
+    """Whether the program's job failed with that cause, and the runner stopped with this reason."""
     return told.split()[:2] == ["failed", cause] and there.startswith("stopped") and words in there
 
 

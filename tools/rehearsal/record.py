@@ -101,7 +101,7 @@ def followed(program: str, plan: str, words: list[str]) -> dict[str, Any]:
 
 
 def record_run(farm: Farm, made: Run, given: argparse.Namespace) -> str:
-    """Records one run, and tells how it went."""
+    """Records one run, and prints how it went."""
     story = Story(farm, given.orch)
     try:
         plan, words = made.make(story)
@@ -159,7 +159,7 @@ def words_of(story: Story, made: Setup) -> list[str]:
 
 
 def record(farm: Farm, made: Setup, given: argparse.Namespace) -> str:
-    """Records one set-up, and tells how it went."""
+    """Records one set-up, and prints how it went."""
     story = Story(farm, "")
     try:
         command = made.make(story)

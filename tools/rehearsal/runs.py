@@ -19,7 +19,7 @@ Given = tuple[str, tuple[str, ...]]
 
 @dataclasses.dataclass(frozen=True)
 class Run:
-    """A run; `on` says of which servers it is: both kinds, mysql, or gtids of MySQL alone."""
+    """A run. `on` is for which servers it is: both kinds, mysql, or gtids of MySQL alone."""
     make: Callable[[Story], Given]
     on: str
 
@@ -45,7 +45,7 @@ def printed(s: Story, command: str, i: str, d: str | None = None) -> str:
 
 
 def written(s: Story, letters: str, *lines: str) -> str:
-    """A plan with servers A, B, .. for these letters. In its lines `host A` and `port A` stand for a server's."""
+    """A plan with servers A, B, .. for these letters. In its lines `host A` and `port A` are a server's."""
     names = s.names(letters)
     text = WARNING + "".join("server %s %s\n" % ("ABCDEFGH"[number], name) for number, name in enumerate(names))
     for number, line in enumerate(lines, 1):

@@ -20,7 +20,7 @@ class Gone(Exception):
 
 
 class Session:
-    """One process of the client. Its answers come one after another, each with the words that end it behind it."""
+    """One process of the client. Its answers come one after another, each with the text that ends it after it."""
 
     def __init__(self, words: Sequence[str], environment: dict[str, str], timeout: float) -> None:
         self.process = subprocess.Popen([*words, "--force", "--unbuffered", "--skip-reconnect"], env=environment, stdin=subprocess.PIPE,
@@ -33,7 +33,7 @@ class Session:
             self.selector.register(pipe, selectors.EVENT_READ)
 
     def more(self, found: dict[Any, bytes], until: float) -> None:
-        """What has come since."""
+        """What has come after that."""
         for key, _ in self.selector.select(max(0.0, until - time.monotonic())):
             data = os.read(key.fd, 65536)
             if not data:
@@ -83,7 +83,7 @@ class Sessions(Client):
         return told or super().ran(host, port, statements)
 
     def by_session(self, host: str, port: int, statement: str) -> tuple[int, str, str] | None:
-        """The same by a session; nothing if the server has gone away, which a process of its own then tells."""
+        """The same by a session; nothing if the server has gone away, which a process of its own then reports."""
         session = self.sessions.get((host, port))
         if session is None:
             session = self.sessions.setdefault((host, port), Session(self.words(host, port), self.environment, self.timeout))

@@ -1,5 +1,5 @@
-"""Set-ups of servers that are imported: each makes one, and tells the command that an operator would give then. `with_gtids` and `without` say on which
-servers a set-up is made; `words` are arguments of the import besides the servers."""
+"""Set-ups of servers that are imported: each makes one, and returns the command that an operator would give then. `with_gtids` and `without` are on which
+servers a set-up is made. `words` are arguments of the import besides the servers."""
 from __future__ import annotations
 
 import dataclasses
@@ -84,7 +84,7 @@ def flat(s: Story) -> Command:
 
 @setup("off")
 def two_levels(s: Story) -> Command:
-    """a over b and e, b over c and d; c stands at its sixth transaction"""
+    """a over b and e, b over c and d; c is at its sixth transaction"""
     s.root("a")
     replicas(s, "ba", "cb", "db", "ea")
     s.write("a", 5)
@@ -118,7 +118,7 @@ def three_levels(s: Story) -> Command:
 
 @setup("both")
 def rotated(s: Story) -> Command:
-    """b stands at the end of a's file 3, c at the head of file 4, d in file 2; b and d are stopped"""
+    """b is at the end of a's file 3, c at the head of file 4, d in file 2; b and d are stopped"""
     s.root("a")
     replicas(s, "ba", "ca", "da")
     s.write("a", 3)
@@ -216,7 +216,7 @@ def dead_master(s: Story) -> Command:
 
 @setup("off")
 def dead_at_file_end(s: Story) -> Command:
-    """the master dies behind a rotation of which c has seen nothing"""
+    """the master dies after a rotation of which c has seen nothing"""
     s.root("a")
     for replica in "bc":
         s.below(replica, "a", proxy=True)
@@ -358,7 +358,7 @@ def clean_master_back(s: Story) -> Command:
 
 @setup("on")
 def never_ran(s: Story) -> Command:
-    """c was told to go by GTIDs below b and hasn't run since; its applier and receiver are off"""
+    """c was set to GTIDs below b and hasn't run after that; its applier and receiver are off"""
     s.root("a")
     replicas(s, "ba", "ca", "da")
     s.write("a", 4)
@@ -372,7 +372,7 @@ def never_ran(s: Story) -> Command:
 
 @setup("off")
 def errant_unseen(s: Story) -> Command:
-    """b, between a and c, has a transaction of its own: without GTIDs coordinates don't tell it"""
+    """b, between a and c, has a transaction of its own: without GTIDs coordinates don't have it"""
     s.root("a")
     replicas(s, "ba", "cb", "da")
     s.write("a", 4)

@@ -73,7 +73,7 @@ def move_up(s: Story) -> Told:
 
 @story
 def move_up_stopped_relay(s: Story) -> Told:
-    """b itself lags behind a with its applier off; c goes up to a at what b has executed"""
+    """b itself lags with its applier off; c goes up to a at what b has executed"""
     chain(s)
     s.write("a", 2)
     s.settle("b", "c")
@@ -102,7 +102,7 @@ def move_up_replicas(s: Story) -> Told:
 
 @story
 def move_below_behind(s: Story) -> Told:
-    """c, which lags three transactions behind its sibling b, goes below b"""
+    """c, which lags three transactions after its sibling b, goes below b"""
     siblings(s, "c", "b")
     s.read()
     return moved("move-below", "c", "b")
@@ -110,7 +110,7 @@ def move_below_behind(s: Story) -> Told:
 
 @story
 def move_below_ahead(s: Story) -> Told:
-    """c goes below its sibling b, which lags three transactions behind c"""
+    """c goes below its sibling b, which lags three transactions after c"""
     siblings(s, "b", "c")
     s.read()
     return moved("move-below", "c", "b")
@@ -118,7 +118,7 @@ def move_below_ahead(s: Story) -> Told:
 
 @story
 def move_below_stuck(s: Story) -> Told:
-    """the sibling's applier is on but stands still when the move begins, and goes on a second later"""
+    """the sibling's applier is on but waits when the move begins, and goes on a second later"""
     s.root("a")
     s.below("b", "a")
     s.below("c", "a")
@@ -134,7 +134,7 @@ def move_below_stuck(s: Story) -> Told:
 
 @story
 def take_siblings(s: Story) -> Told:
-    """c and d, one behind and one level, go below b"""
+    """c and d, one with a lag and one level, go below b"""
     siblings(s, "c", "b")
     s.below("d", "a")
     s.settle("d")
@@ -155,7 +155,7 @@ def take_master(s: Story) -> Told:
 
 @story
 def take_master_after_flush(s: Story) -> Told:
-    """as before, and b's log has just been rotated, so that its end stands behind a file's head"""
+    """as before, and b's log has just been rotated, so that its end is after a file's head"""
     chain(s)
     s.write("a", 2)
     s.settle("b", "c")
@@ -185,7 +185,7 @@ def repoint(s: Story) -> Told:
 
 @story
 def relocate(s: Story) -> Told:
-    """e, three levels down (a, b, c, e), goes below d, which stands below a: twice up, then below"""
+    """e, three levels down (a, b, c, e), goes below d, which is below a: twice up, then below"""
     chain(s)
     s.below("d", "a")
     s.below("e", "c")
@@ -331,7 +331,7 @@ def five(s: Story) -> None:
 
 @story
 def imported(s: Story) -> Told:
-    """five servers are read, of which one lags, one is detached and one takes writes: the tables tell of each what SHOW tells"""
+    """five servers are read, of which one lags, one is detached and one takes writes: the tables print of each what SHOW reports"""
     five(s)
     s.only("c", 4)
     s.detach("e")
@@ -429,7 +429,7 @@ def below_dead(s: Story) -> None:
 
 @story
 def regroup(s: Story) -> Told:
-    """the master dies with unequal replicas: b, read before and after a transaction, takes c by a kept bridge; d is behind, e level"""
+    """the master dies with unequal replicas: b, read before and after a transaction, takes c by a kept bridge; d is lost, e level"""
     below_dead(s)
     s.rules[s.n("e")] = "must_not"
     s.read()
@@ -444,9 +444,46 @@ def regroup(s: Story) -> Told:
     return ("regroup-replicas", "a", None), lambda j: (j.regroup, s.n("a"), s.names("bcde"), s.bridges)
 
 
+def unequal(s: Story) -> None:
+    """a, which lives, over b, c and d: c lags, and its place was never seen."""
+    s.root("a")
+    for letter in "bcd":
+        s.below(letter, "a")
+    s.write("a", 4)
+    s.settle("b", "c", "d")
+    s.only("c", 5)
+    s.write("a", 2)
+    s.settle("b", "d")
+    s.flush("b")
+    s.read()
+
+
+@story
+def regroup_alive(s: Story) -> Told:
+    """the master lives: its replicas go below the best one; without GTIDs c, which lags, can't, and goes on below a"""
+    unequal(s)
+    return ("regroup-replicas", "a", None), lambda j: (j.regroup, s.n("a"), s.names("bcd"), s.bridges)
+
+
+@story
+def regroup_marks(s: Story) -> Told:
+    """the same by Pseudo-GTID, with each second transaction a mark: c finds its place in the log of b"""
+    s.pseudo = 2
+    unequal(s)
+    return ("regroup-replicas-pgtid", "a", None), lambda j: (j.regroup_by_marks, s.n("a"), s.names("bcd"))
+
+
+@story
+def match(s: Story) -> Told:
+    """c, which lags, goes below b by Pseudo-GTID"""
+    s.pseudo = 2
+    unequal(s)
+    return moved("match", "c", "b")
+
+
 @story
 def recover_swap(s: Story) -> Told:
-    """the master dies: c has executed most, d is preferred and takes its place once it stands level"""
+    """the master dies: c has executed most, d is preferred and takes its place once it is level"""
     s.root("a")
     for letter in "bcd":
         s.below(letter, "a", proxy=True)
@@ -488,7 +525,7 @@ def recover_ahead(s: Story) -> Told:
 
 @story
 def recover_read_after_death(s: Story) -> Told:
-    """the topology is read when the master is dead already: its log is what its replicas tell, relay logs too; MySQL without GTIDs can't tell it"""
+    """the topology is read when the master is dead already: its log is what its replicas have, relay logs too; MySQL without GTIDs can't have it"""
     s.root("a")
     for letter in "bcd":
         s.below(letter, "a", proxy=True)
@@ -514,7 +551,7 @@ def recover_read_after_death(s: Story) -> Told:
 
 @story
 def recover_drain(s: Story) -> Told:
-    """the master dies: b has fetched most but its applier stands still for a while; it is drained, then promoted"""
+    """the master dies: b has fetched most but its applier waits for a while; it is drained, then promoted"""
     s.root("a")
     for letter in "bc":
         s.below(letter, "a", proxy=True)
@@ -534,7 +571,7 @@ def recover_drain(s: Story) -> Told:
 
 @story
 def recover_at_file_end(s: Story) -> Told:
-    """the master's last act is a rotation, which b has passed and c hasn't: both have executed all, and yet c is behind on both sides"""
+    """the master's last act is a rotation, which b has passed and c hasn't: both have executed all, and yet c is lost as `behind` on both sides"""
     s.root("a")
     for letter in "bc":
         s.below(letter, "a", proxy=True)
@@ -553,7 +590,7 @@ def recover_at_file_end(s: Story) -> Told:
 
 @story
 def recover_intermediate(s: Story) -> Told:
-    """the intermediate b dies: c stands where b was read and goes to a; d was never seen at that place and is behind"""
+    """the intermediate b dies: c is at the position at which b was read and goes to a; d was never seen at that place and is lost"""
     s.root("a")
     s.below("b", "a", proxy=True)
     s.below("c", "b", proxy=True)
@@ -679,12 +716,43 @@ def takeover_loaded(s: Story) -> Told:
 
 @story
 def recover_loaded(s: Story) -> Told:
-    """the master is killed while a client writes: each replica has a beginning, each row once"""
+    """the master is killed while a client writes, and read afterwards: who is promoted and who is lost is as foretold, and each row is there once"""
     loaded(s, ("b", "a"), ("c", "a"))
-    s.poll()
-    s.fail("a")
-    s.poll()
+    killed(s, "b", "c")
     return ("recover", "a", None), lambda j: (j.recover_master, s.n("a"), s.names("bc"), s.bridges)
+
+
+@story
+def recover_part(s: Story) -> Told:
+    """the master dies while it sends a large transaction, of which c has received a part and b nothing: that part counts for nothing"""
+    dying(s, False)
+    return ("recover", "a", None), lambda j: (j.recover_master, s.n("a"), s.names("bc"), s.bridges)
+
+
+def dying(s: Story, auto: bool) -> None:
+    """a sends a transaction of 240 kB, of which c receives a third, and dies; then its replicas are imported."""
+    s.root("a")
+    for letter in "bc":
+        s.below(letter, "a", proxy=True, auto=auto)
+    s.write("a", 3)
+    s.settle("b", "c")
+    s.read()
+    s.loose = True
+    s.cut("b")
+    s.proxies[s.n("c")].left = 80000
+    s.write("a", 1, parts=60, pad=4000)
+    s.wait_until(lambda: s.state(s.n("c")).io != "Yes", "c's link isn't cut")
+    if s.state(s.n("c")).read == s.state(s.n("c")).exec:
+        raise Differs("c has received no part")
+    killed(s, "b", "c")
+
+
+def killed(s: Story, *letters: str) -> None:
+    """The master is killed, these replicas notice it, and then they are imported."""
+    s.fail("a")
+    for name in s.names(letters):
+        s.wait_until(lambda: s.state(name).io != "Yes", "%s doesn't see that its source is gone" % name)
+    s.read_light()
 
 
 # ---- wrong plans, which must differ
@@ -697,7 +765,7 @@ class NoLevel(Job):
         """Nothing is waited for."""
 
     def attach(self, name: str, expected: Spot, to: str, at: Coord, login: bool = False) -> None:
-        """It is attached wherever it stands."""
+        """It is attached in its place."""
         live = self.look(name)
         expected = ("at", live.source, live.exec) if expected[0] == "at" else ("end", live.end)
         Job.attach(self, name, expected, to, at, login)

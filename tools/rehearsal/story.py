@@ -1,13 +1,19 @@
 """One story: what is done to the servers, the same as turns of a scenario, the program's answer, and the comparison."""
 from __future__ import annotations
 
+import argparse
+import contextlib
+import io
 import json
+import os
+import re
 import subprocess
 import threading
 import time
 from collections.abc import Callable, Sequence
 from typing import Any
 
+from orch_tools import importing
 from orch_tools.client import Down, Seen, Servers
 from orch_tools.exact_scenario import Writer
 from orch_tools.reading import Server
@@ -33,15 +39,17 @@ class Differs(Exception):
 
 
 class Story:
-    """Servers are named by letters. Until `read` a story is made; from then on it is noted as turns, too. `no_scenario` are words of the reason for
+    """Servers are named by letters. Until `read` a story is made; from then on it is noted as turns, too. `no_scenario` is a part of the reason for
     which the exact import refuses what a story has made."""
     before: Topology
     scenario: dict[str, Any]
     interrupt: tuple[str, int] | None = None
     loose = False
+    is_light = False
     known: dict[str, str] = {}
     errants = 0
     waits: int | None = None
+    pseudo = 0
     no_scenario = ""
 
     def __init__(self, farm: Farm, program: str) -> None:
@@ -125,7 +133,7 @@ class Story:
         raise Differs("%s keeps its files" % a)
 
     def below(self, r: str, s: str, proxy: bool = False, auto: bool = False) -> None:
-        """r replicates from s, from the beginning, by coordinates or by GTIDs; through a link that can be cut, if asked for."""
+        """r replicates from s, from the start, by coordinates or by GTIDs; through a link that can be cut, if asked for."""
         r, s = self.n(r), self.n(s)
         port = int(s.rpartition(":")[2])
         if proxy:
@@ -150,7 +158,7 @@ class Story:
         return Server(name, self.farm.client, self.servers_of_proxies).read()
 
     def wait_until(self, holds: Callable[[], bool], what: str, seconds: float = 30) -> None:
-        """Waits until something holds; Differs with these words if it doesn't come."""
+        """Waits until something holds; Differs with this text if it doesn't come."""
         end = time.monotonic() + seconds
         while not holds():
             if time.monotonic() > end:
@@ -176,7 +184,7 @@ class Story:
         self.farm.tell(self.n(r), "STOP REPLICA SQL_THREAD")
 
     def detach(self, r: str) -> None:
-        """r keeps its source behind two slashes, and where it stood."""
+        """r keeps its source after two slashes, and its position."""
         r = self.n(r)
         self.farm.tell(r, "STOP REPLICA")
         seen = self.state(r)
@@ -246,11 +254,35 @@ class Story:
         names = sorted(self.used, key=self.farm.names.index)
         self.before = Topology(self.farm.client, names, self.servers_of_proxies)
         self.scenario = Writer(self.before).scenario()
+        if self.pseudo:
+            self.scenario["pseudo"] = self.pseudo
+        self.put_rules()
+        self.poll()
+        self.turns, self.more_sizes, self.noting = [], [], True
+
+    def read_light(self, words: Sequence[str] = ()) -> None:
+        """The scenario is the one that `orch import` writes of the servers as they are now. Nobody knows pairs that were polled before. In its arguments
+        letters are servers."""
+        parser, err, out = argparse.ArgumentParser(), io.StringIO(), os.path.join(self.farm.folder, "now.json")
+        importing.add_arguments(parser)
+        spelled = [re.sub(r"\b([a-e])\b", lambda found: self.n(found.group(1)), word) if "=" in word else word for word in words]
+        spelled += [word for link, name in self.servers_of_proxies.items() for word in ("--alias", "%s=%s" % (link, name))]
+        given = parser.parse_args([*sorted(self.used, key=self.farm.names.index), "--only-named", *spelled, "--out", out])
+        with contextlib.redirect_stderr(err):
+            status = importing.run(given, lambda *_, **__: self.farm.client)
+        if status != 0:
+            raise Differs("the import: status %d: %s" % (status, err.getvalue()))
+        with open(out, encoding="utf-8") as file:
+            self.scenario = json.load(file)
+        self.put_rules()
+        self.turns, self.is_light = self.scenario["turns"], True
+        self.bridges.clear()
+
+    def put_rules(self) -> None:
+        """Puts the promotion rules of the story into the scenario."""
         for server in self.scenario["servers"]:
             if server["name"] in self.rules:
                 server["rule"] = self.rules[server["name"]]
-        self.poll()
-        self.turns, self.more_sizes, self.noting = [], [], True
 
     def ran(self, words: list[str], turns: Sequence[Turn]) -> tuple[int, str, str]:
         """The program's status, standard output and standard error over the scenario with these turns."""
@@ -264,7 +296,7 @@ class Story:
         return {key: self.n(letter) for key, letter in (("i", i), ("d", d)) if letter}
 
     def words(self, command: str, i: str | None, d: str | None) -> list[str]:
-        """The same as words of a command line."""
+        """The same as arguments of a command line."""
         return ["-c", command] + [word for key, name in self.keys(i, d).items() for word in ("-" + key, name)]
 
     def run(self, turns: Sequence[Turn]) -> tuple[list[str], Tables]:
@@ -279,9 +311,14 @@ class Story:
             raise Differs("the program: " + errant)
         return lines, tables
 
+    def lag(self) -> int:
+        """How many transactions the last replica lacks: in a round it executes one."""
+        total = max(sum(run[2] for run in server.get("history", [])) for server in self.scenario["servers"])
+        return max(total - server.get("executed", total) for server in self.scenario["servers"])
+
     def rehearse(self, command: str, i: str | None = None, d: str | None = None) -> tuple[str | None, Any, Tables]:
-        """The program's answer: done with its lines, failed with the cause, or refused; and the tables once all is quiet."""
-        rounds: list[Turn] = [["job", 1], ["round"]] * 70
+        """The program's answer: done with its lines, failed with the cause, or refused; and the tables once nothing moves."""
+        rounds: list[Turn] = [["job", 1], ["round"]] * (70 + self.lag())
         lines, tables = self.run(self.turns + [["command", command, self.keys(i, d)]] + rounds + [["round"]] * 30)
         kind, got = answer_in(lines, command)
         single = self.ran(self.words(command, i, d), self.turns)
@@ -349,7 +386,7 @@ class Story:
         return topology
 
     def compare(self, tables: Tables) -> tuple[list[str], list[str]]:
-        """What differs between the program's tables and the servers, and what is to be told beside."""
+        """What differs between the program's tables and the servers, and what is to be reported beside."""
         now = self.again()
         check = self.compared(now, Loosely(self, now) if self.loose else Exactly(self, now, tables), tables)
         return check.bad + self.rows(now) + self.tries(), check.told()
@@ -361,7 +398,7 @@ class Story:
                 if one.source and one.row["Source_Retry_Count"] != "86400"]
 
     def compare_reading(self, tables: Tables) -> tuple[list[str], list[str]]:
-        """The same of the tables and what the servers told as they were read."""
+        """The same of the tables and what the servers reported as they were read."""
         check = self.compared(self.before, Exactly(self, self.before, tables), tables)
         return check.bad, check.told()
 
@@ -396,7 +433,7 @@ class Story:
 
 
 def answer_in(lines: list[str], command: str) -> Answer:
-    """Of a run's lines what its first job or its refused command came to."""
+    """What the first job or the refused command of a run's lines came to."""
     for number, line in enumerate(lines):
         if " command %s" % command in line and ": refused " in line:
             return "refused", line.split(": refused ", 1)[1]
@@ -434,7 +471,7 @@ class Writes(threading.Thread):
             self.count += 1
 
     def stop(self) -> str:
-        """Stops it, and says how much it wrote."""
+        """Stops it, and returns how much it wrote."""
         time.sleep(0.3)
         self.over = True
         self.join(20)

@@ -8,7 +8,8 @@ import time
 from typing import Any
 
 from rehearsal.farm import Farm
-from rehearsal.play import TROUBLES, NoPlan, Say, There, follow, outcome_differs, printed_plan, sources, tell
+from rehearsal.play import AHEAD, TROUBLES, Say, There, follow, outcome_differs, printed_plan, sources, stops_at_ahead, tell
+from rehearsal.print_plan import NoPlan
 from rehearsal.story import Differs, Story, Writes
 
 COMMANDS = ["move-up", "move-below", "take-siblings", "take-master", "repoint", "relocate", "relocate-replicas", "move-up-replicas", "stop-replica",
@@ -40,7 +41,7 @@ class Walk:
         return bool(seen.source and not seen.detached and seen.sql and seen.io != "No" and not self.story.has_all(name))
 
     def settle(self, names: list[str]) -> None:
-        """Until none of them is behind."""
+        """Until none of them lags."""
         for name in names:
             self.story.wait_until(lambda: not self.is_behind(name), "%s does not catch up" % name)
 
@@ -160,7 +161,7 @@ class Death:
     """A random tree whose master or intermediate master dies; under load a client writes until then."""
 
     def __init__(self, story: Story, dice: random.Random, say: Say) -> None:
-        self.story, self.dice, self.say = story, dice, say
+        self.story, self.dice, self.say, self.is_stopped = story, dice, say, False
         self.above: dict[str, str] = {}
 
     def topology(self) -> None:
@@ -204,8 +205,8 @@ class Death:
         s.writer.start()
         time.sleep(0.2 + self.dice.random())
 
-    def played(self, loaded: bool) -> list[str]:
-        """What differs."""
+    def played(self, loaded: bool, by_plan: bool) -> list[str]:
+        """What differs. Under load the servers are imported after the death: what was known before doesn't have who has received most."""
         s, dice = self.story, self.dice
         self.topology()
         if not loaded:
@@ -217,14 +218,18 @@ class Death:
         victim = dice.choice(inner) if inner and dice.random() < 0.4 and not loaded else "a"
         replicas = [s.n(letter) for letter in "bcde" if self.above[letter] == victim]
         s.fail(victim)
+        if loaded:
+            for name in replicas:
+                s.wait_until(lambda: s.state(name).io != "Yes", "a receiver doesn't see that its source is gone")
+            s.read_light()
         s.poll()
         kind, got, tables = s.rehearse("recover", victim)
         self.say("%s dies%s: %s %s" % (victim, " under load" if loaded else "", kind, s.spell(got if isinstance(got, str) else "; ".join(got))))
-        bad = self.refusal(got, victim, replicas) if kind == "refused" else self.recovered(kind, got, victim, replicas, loaded)
+        bad = self.refusal(got, victim, replicas) if kind == "refused" else self.recovered(kind, got, victim, replicas, by_plan)
         if s.writer:
             self.say(s.writer.stop())
         s.quiet()
-        return bad + (s.rows(s.again()) if loaded else s.compare(tables)[0])
+        return bad + (s.rows(s.again()) if self.is_stopped else s.compare(tables)[0])
 
     def refusal(self, got: str, victim: str, replicas: list[str]) -> list[str]:
         """A recovery is refused where nobody may be promoted."""
@@ -236,7 +241,7 @@ class Death:
         s, bad = self.story, []
         for line in there[1]:
             words = line.split()
-            seen = s.state(words[1] if words[0] == "promoted" else re.split("[< ]", line)[0])
+            seen = s.state(words[1] if words[0] in ("promoted", "successor") else re.split("[< ]", line)[0])
             if words[0] == "promoted":
                 bad += [] if not seen.source and not seen.read_only else [line + ": it has a source, or refuses writes"]
             elif "<" in line:
@@ -245,28 +250,33 @@ class Death:
                 bad += [] if seen.detached else [line + ": it isn't"]
         return bad
 
-    def recovered(self, kind: str | None, got: Any, victim: str, replicas: list[str], loaded: bool) -> list[str]:
-        """The recovery by hand on the servers. Under load the scenario lags behind them: only that it ends in the same way is compared, and
-        that the servers are what the recovery's lines say."""
+    def recovered(self, kind: str | None, got: Any, victim: str, replicas: list[str], by_plan: bool) -> list[str]:
+        """The recovery on the servers, by the printed plan or by statements that are written anew: its lines, and that the servers are what they say."""
         s = self.story
-        job = s.job()
-        there = job.run(job.recover_master, s.n(victim), replicas, s.bridges) if victim == "a" else job.run(
-            job.recover_intermediate, s.n(victim), s.n(self.above[victim]), replicas, s.bridges)
-        for remark in dict.fromkeys(job.remarks):
-            self.say("remark: " + s.spell(remark))
-        if loaded:
-            return self.stands(there) if kind == there[0] else ["%s, the servers %s" % (kind, there)]
-        return outcome_differs(s, kind, got, there)
+        if by_plan:
+            there = follow(s, printed_plan(s, "recover", victim, None), lambda line: None, got)
+        else:
+            job = s.job()
+            there = job.run(job.recover_master, s.n(victim), replicas, s.bridges) if victim == "a" else job.run(
+                job.recover_intermediate, s.n(victim), s.n(self.above[victim]), replicas, s.bridges)
+            for remark in dict.fromkeys(job.remarks):
+                self.say("remark: " + s.spell(remark))
+        self.say("by the printed plan" if by_plan else "by hand")
+        if by_plan and stops_at_ahead(s, got, there):
+            self.say("known: " + AHEAD)
+            self.is_stopped = True
+            return []
+        return outcome_differs(s, kind, got, there) + (self.stands(there) if there[0] == "done" else [])
 
 
 def deaths(farm: Farm, given: argparse.Namespace, results: list[bool | None]) -> None:
-    """So many random deaths, each second one under load."""
+    """So many random deaths, each second one under load, and two of four recovered by the printed plan."""
     dice = random.Random(given.seed)
     for number in range(1, given.deaths + 1):
         said: list[str] = []
         story, began = Story(farm, given.orch), time.monotonic()
         try:
-            bad = [story.spell(line) for line in Death(story, dice, said.append).played(number % 2 == 0)]
+            bad = [story.spell(line) for line in Death(story, dice, said.append).played(number % 2 == 0, number % 4 in (2, 3))]
         except TROUBLES + (Differs,) as reason:
             bad = ["%s: %s" % (type(reason).__name__, story.spell(str(reason)))]
         finally:

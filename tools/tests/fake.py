@@ -55,7 +55,7 @@ def table(*rows: dict[str, Any]) -> list[list[Any]]:
 
 
 def changed(answers: Answers, server: str, statement: str, column: str, value: str, row: int = 1) -> Answers:
-    """The same answers but for one value: of a row, and of each answer to that statement."""
+    """The same answers except for one value: of a row, and of each answer to that statement."""
     answers = copy.deepcopy(answers)
     for answer in answers[server][statement]:
         lines = [line.split("\t") for line in answer[0].split("\n")]
@@ -95,7 +95,7 @@ class Texts(Client):
 
 
 def arguments_of(module: ModuleType, words: list[str]) -> argparse.Namespace:
-    """The words of a subcommand as the front reads them."""
+    """The arguments of a subcommand as `orch` reads them."""
     parser = argparse.ArgumentParser()
     module.add_arguments(parser)
     return parser.parse_args(words)

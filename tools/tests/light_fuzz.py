@@ -1,12 +1,12 @@
 #!/usr/bin/env python3
-"""Draws modelled trees, tells their status to the light import as servers would, and asks both scenarios the same: no server is needed.
+"""Draws modelled trees, reports their status to the light import as servers would, and asks both scenarios the same: no server is needed.
 
     tools/tests/light_fuzz.py [--seed N] [--count N] [--questions N] [--gtid] [--dead] [--middle] [--orch PROGRAM]
 
 The drawn scenario is the reality: its tables give each server's status, and its coordinates are the servers'. The scenario that the import makes of them must
-answer each question the same, but that a coordinate of a replica's log may be another one, and that a replica of a dead intermediate master that is level by a
-pair that was polled before is told as behind. What nobody can know of a dead server (version, first kept file, threads, read_only) is drawn as the import takes
-it. A line for each difference, and the counts; the status is 1 where there is one.
+answer each question the same, with two exceptions. A coordinate of a replica's log may be another one. A replica of a dead intermediate master that is level by
+a pair that was polled before is lost as `behind`. What nobody can know of a dead server (version, first kept file, threads, read_only) is drawn as the import
+takes it. It prints a line for each difference, and the counts. The status is 1 if there is a difference.
 """
 from __future__ import annotations
 
@@ -107,7 +107,7 @@ class Reality:
         self.told = {server["name"]: server for server in self.dump["servers"]}
 
     def word(self, name: str, key: str) -> str:
-        """What stands behind a word of a server's line; of words that its end has too, behind its source."""
+        """What follows a key in a server's line. If the line's end has the key too, what follows it after the source."""
         words = self.lines[name]
         return words[words.index(key, words.index("source") if key in ("at", "read", "io", "sql") else 0) + 1]
 
@@ -124,11 +124,11 @@ class Reality:
         return ModelLog(self.sizes[:self.executed(name)], self.told[name]["flushes"])
 
     def statuses(self) -> dict[str, Status]:
-        """What the servers tell of themselves."""
+        """What the servers report of themselves."""
         return {name: self.status(name) for name in self.told}
 
     def status(self, name: str) -> Status:
-        """What one server tells of itself; of one that is down only its source is known."""
+        """What one server reports of itself. Only the source is known of a server that is down."""
         told = self.told[name]
         server = Status(name, up=told["up"], source=told.get("source"))
         server.longest_head = 4
@@ -173,7 +173,7 @@ class Reality:
 
 
 def kind_of(mine: Answer, theirs: Answer, words: list[str], without_pairs: set[str]) -> str:
-    """Whether two answers are the same, the same but for what can't be known, or different. Of some dead servers no pair is known."""
+    """Whether two answers are the same, the same except for what can't be known, or different. No pair is known of some dead servers."""
     if mine == theirs:
         return "same"
     if words[1] in ("recover", "regroup-replicas") and words[3] in without_pairs and " behind " in mine[1]:

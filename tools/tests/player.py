@@ -1,4 +1,4 @@
-"""Stands for the program in the tests: answers what it was recorded to answer to the same arguments and the same input.
+"""Takes the program's place in the tests: answers what it was recorded to answer to the same arguments and the same input.
 
 With ORCH_REAL=PROGRAM and ORCH_RECORDS=FOLDER it asks the program, and keeps the answer as a file of that folder.
 """

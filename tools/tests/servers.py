@@ -21,7 +21,7 @@ def uuid(number: int) -> str:
 
 
 def replica_row(source: str, at: int = 1000, read: int | None = None, **more: Any) -> dict[str, Any]:
-    """A status as a replica that stands at a position of its source's first file. `more` has columns that are otherwise."""
+    """A status as a replica that is at a position of its source's first file. `more` has columns that are otherwise."""
     host, _, port = source.partition(":")
     row: dict[str, Any] = {
         "Source_Host": host, "Source_Port": port or 3306, "Source_Log_File": "binlog.000001", "Read_Source_Log_Pos": read or at, "Relay_Source_Log_File":

@@ -67,7 +67,7 @@ def made(example: Example, folder: str) -> str:
 
 
 def text_of(path: str) -> str:
-    """What stands in a file."""
+    """What a file has."""
     with open(path, encoding="utf-8") as file:
         return file.read()
 

@@ -11,7 +11,7 @@ import unittest
 import unittest.mock
 from typing import Any
 
-from fake import HERE, arguments_of, ran
+from fake import HERE, arguments_of, ran, table
 
 from orch_tools import follow
 
@@ -19,7 +19,7 @@ FOLDER = os.path.join(HERE, "recorded", "follow")
 KINDS = ("mysql", "mariadb")
 DRY = "a dry run: nothing was sent\n"
 
-# Of a run that stops: the line, and the words of its reason. On MySQL and on MariaDB, or on MySQL with GTIDs alone.
+# For each run that stops: the line, and its reason. On MySQL and on MariaDB, or on MySQL with GTIDs alone.
 STOPS = {
     "broken_applier": (1, "its applier stopped: error 1146 "),
     "refused_receiver": (1, "its receiver stopped: error "),
@@ -52,8 +52,15 @@ def all_names() -> list[str]:
     return sorted(name[:-5] for name in os.listdir(FOLDER))
 
 
+def threads(*states: str) -> list[list[Any]]:
+    """What SHOW PROCESSLIST prints of an applier and its worker, and of a client."""
+    rows: list[list[Any]] = table(*({"Id": number, "User": user, "State": state} for number, (user, state) in enumerate(
+        [("system user", state) for state in states] + [("me", "init")], 5)))
+    return rows
+
+
 def changed(told: dict[str, Any], server: str, statement: str, column: str, value: str, at: int = -1) -> dict[str, Any]:
-    """The same run but for one value of one answer to a statement."""
+    """The same run except for one value of one answer to a statement."""
     told = copy.deepcopy(told)
     answer = told["run"]["answers"][server][statement][at]
     lines = [line.split("\t") for line in answer[0].split("\n")]
@@ -100,6 +107,38 @@ class Replays(unittest.TestCase):
             self.assertIn(words, err)
             self.assertIn("to undo, in this order:\n", err)
             self.assertNotIn("carried out", out)
+
+    def test_a_detached_server_is_not_to_be_started(self) -> None:
+        """The source of the server that moves up is detached, and was stopped: its threads would run, to no source."""
+        told = recorded("mysql_move_up")
+        many = len(told["run"]["answers"]["127.0.0.1:3312"]["SHOW REPLICA STATUS"])
+        for at in range(many):
+            told = changed(told, "127.0.0.1:3312", "SHOW REPLICA STATUS", "Source_Host", "//127.0.0.1", at)
+        status, _, err, _ = self.played(told)
+        self.assertEqual((status, err.split("to undo, in this order:\n")[1]), (1, "  127.0.0.1:3313: START REPLICA\n"), err)
+
+    def test_a_drain_ends_if_only_a_part_of_a_transaction_is_left(self) -> None:
+        """The chosen one has received a part of a transaction when its source dies: its applier finds nothing more to execute."""
+        told = recorded("mysql_recovered")
+        state = "Replica has read all relay log; waiting for more updates"
+        for column, value in (("Read_Source_Log_Pos", "2000"), ("Replica_SQL_Running_State", state), ("Replica_SQL_Running", "Yes")):
+            told = changed(told, "127.0.0.1:3313", "SHOW REPLICA STATUS", column, value, 1)
+        answers = told["run"]["answers"]["127.0.0.1:3313"]
+        answers["SHOW REPLICA STATUS"][1:2] = answers["SHOW REPLICA STATUS"][1:2] * 5
+        answers["SHOW PROCESSLIST"] = threads(state, "Applying batch of row changes") + threads(state, "Waiting for an event from Coordinator")
+        with unittest.mock.patch.object(follow, "STILL", 0), unittest.mock.patch.object(follow, "PAUSE", 0):
+            status, out, err, sent = self.played(told)
+        self.assertEqual((status, err, sent), (0, "", self.played(recorded("mysql_recovered"))[3]))
+        self.assertIn("7 127.0.0.1:3313: it has received a part of a transaction, up to mysql-bin.000001:2000, which is never executed\n", out)
+
+    def test_a_drain_goes_on_while_the_applier_works(self) -> None:
+        told = changed(recorded("mysql_recovered"), "127.0.0.1:3313", "SHOW REPLICA STATUS", "Read_Source_Log_Pos", "2000", 1)
+        told = changed(told, "127.0.0.1:3313", "SHOW REPLICA STATUS", "Replica_SQL_Running", "Yes", 1)
+        told = changed(told, "127.0.0.1:3313", "SHOW REPLICA STATUS", "Replica_SQL_Running_State", "Reading event from the relay log", 1)
+        told["run"]["answers"]["127.0.0.1:3313"]["SHOW REPLICA STATUS"][2:] = []
+        with unittest.mock.patch.object(follow, "STILL", 0), unittest.mock.patch.object(follow, "PAUSE", 0):
+            status, _, err, _ = self.played(told, words=[*told["run"]["words"], "--wait", "0"])
+        self.assertEqual((status, "stopped at line 7: 127.0.0.1:3313 doesn't come so far" in err), (1, True), err)
 
     # ---- a dry run
 

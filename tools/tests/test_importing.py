@@ -31,7 +31,7 @@ def read(answers: Answers, *words: str) -> tuple[int, Any, str]:
 
 
 def notes_in(err: str) -> list[str]:
-    """The notes of an import, but the one about what no operator told."""
+    """The notes of an import, except the one about what no operator gave."""
     return [line for line in err.split("\n") if line and not line.startswith("note: not given: ")]
 
 
@@ -40,7 +40,7 @@ def server_of(scenario: Any, name: str) -> Any:
     return next(server for server in scenario["servers"] if server["name"] == name)
 
 
-# A value of an answer that is another: server, statement, column, value, and what the reason tells.
+# A value of an answer that is another: server, statement, column, value, and the reason.
 REFUSED = [
     (C, STATUS, "SQL_Delay", "30", "a delayed replica"),
     (C, STATUS, "Replicate_Do_DB", "shop", "a replication filter (Replicate_Do_DB shop)"),
@@ -49,7 +49,7 @@ REFUSED = [
     (C, STATUS, "Connection_name", "other", "its source has a name of its own"),
     (C, STATUS, "Master_Port", "3399", "its source 127.0.0.1:3399 is none of the servers that were named"),
     (A, END, "Binlog_Do_DB", "shop", "a filter of its binary log"),
-    (C, STATUS, "Exec_Master_Log_Pos", "4", "its applier is off, and its log has 2 transactions of 127.0.0.1:3312 from behind"),
+    (C, STATUS, "Exec_Master_Log_Pos", "4", "its applier is off, and its log has 2 transactions of 127.0.0.1:3312 from after"),
 ]
 
 
@@ -111,7 +111,7 @@ class RecordedTest(unittest.TestCase):
                 answer[0] = answer[0].replace("GTID 0-1-9", "GTID 0-2-9")
         status, _, err = read(answers)
         self.assertEqual(status, 3)
-        self.assertRegex(err, r"127\.0\.0\.1:3312: its log is no beginning of that of 127\.0\.0\.1:3311: transaction 0-2-9 \(server id 1, \d+:\d+")
+        self.assertRegex(err, r"127\.0\.0\.1:3312: its log is no prefix of that of 127\.0\.0\.1:3311: transaction 0-2-9 \(server id 1, \d+:\d+")
 
     def test_a_server_that_is_not_reached_is_down(self) -> None:
         status, scenario, err = read(self.answers, A, B, C, "127.0.0.1:3314")
@@ -137,7 +137,7 @@ class RecordedTest(unittest.TestCase):
         settings = "SELECT @@server_id i, @@global.read_only r, @@log_bin b, @@global.log_slave_updates u"
         status, _, err = read(changed({C: self.answers[C]}, C, settings, "u", "0"), B, C)
         self.assertEqual(status, 3)
-        self.assertIn("its source 127.0.0.1:3312 isn't reached, and nothing tells its log", err)
+        self.assertIn("its source 127.0.0.1:3312 isn't reached, and no replica has its log", err)
 
     def test_what_a_server_refuses_to_tell_is_told(self) -> None:
         answers = copy.deepcopy(self.answers)
@@ -162,7 +162,7 @@ GTID = "00000000-0000-0000-0000-0000000000%02d"
 
 
 def log_of(server_id: int, version: str, gtids: bool, sizes: list[int], file: str = "binlog.000001") -> tuple[list[dict[str, Any]], int]:
-    """SHOW BINLOG EVENTS of a file in which each transaction has its GTID, a statement and its Xid."""
+    """SHOW BINLOG EVENTS of a file in which each transaction has its GTID, a row and its Xid."""
     rows: list[dict[str, Any]] = []
     at = 4
 
@@ -175,7 +175,8 @@ def log_of(server_id: int, version: str, gtids: bool, sizes: list[int], file: st
     for number, size in enumerate(sizes, 1):
         kind, info = ("Gtid", "SET @@SESSION.GTID_NEXT= '%s:%d'" % (GTID % 1, number)) if gtids else ("Anonymous_Gtid", "SET @@SESSION.GTID_NEXT= 'ANONYMOUS'")
         event(kind, 79, 1, info)
-        event("Query", size - 79 - 31, 1, "BEGIN")
+        event("Query", 70, 1, "BEGIN")
+        event("Write_rows", size - 79 - 70 - 31, 1, "table_id: %d flags: STMT_END_F" % (80 + server_id))
         event("Xid", 31, 1, "COMMIT /* xid=%d */" % number)
     return rows, at
 
@@ -199,7 +200,19 @@ def mysql(number: int, gtids: bool, sizes: list[int], source: str | None = None,
         "SHOW BINARY LOGS": table({"Log_name": "binlog.000001", "File_size": end, "Encrypted": "No"}),
         "SHOW BINLOG EVENTS IN 'binlog.000001'": table(*rows),
         "SHOW BINARY LOG STATUS": table({"File": "binlog.000001", "Position": end, "Binlog_Do_DB": "", "Binlog_Ignore_DB": "", "Executed_Gtid_Set": set_of}),
+        "SHOW GLOBAL VARIABLES LIKE '%_checkpoint_period'": table({"Variable_name": "replica_checkpoint_period", "Value": 300}),
     }
+
+
+def working(answers: Answers, *executed: int) -> Answers:
+    """The same server while its applier works: of each status what it has executed, one status after another."""
+    first = answers["SHOW REPLICA STATUS"][0][0]
+    lines = [line.split("\t") for line in first.split("\n")]
+    column, texts = lines[0].index("Exec_Source_Log_Pos"), []
+    for at in executed:
+        lines[1][column] = str(at)
+        texts.append(["\n".join("\t".join(line) for line in lines), "", 0])
+    return dict(answers, **{"SHOW REPLICA STATUS": texts})
 
 
 class MySqlTest(unittest.TestCase):
@@ -220,6 +233,29 @@ class MySqlTest(unittest.TestCase):
         status, scenario, err = read(answers, "m", "r")
         self.assertEqual((status, server_of(scenario, "r:3306")["executed"], scenario.get("gtid")), (0, 1, None))
         self.assertIn("transactions without GTIDs", err)
+
+    def test_without_gtids_a_late_status_is_put_right_by_the_events(self) -> None:
+        """r's log has five transactions. Its status counts two, and later three: MySQL's is up to 0.3 seconds late. q below it has executed four."""
+        sizes = [300, 310, 320, 305, 330, 340]
+        late = working(mysql(2, False, sizes[:5], "m", 5), *[157 + 610, 157 + 930, 157 + 930] * 2)
+        answers = {"m:3306": mysql(1, False, sizes), "r:3306": late, "q:3306": mysql(3, False, sizes[:4], "r", 4)}
+        status, scenario, err = read(answers, "m", "r", "q")
+        self.assertEqual((status, [server_of(scenario, name)["executed"] for name in ("r:3306", "q:3306")]), (0, [5, 4]), err)
+        self.assertEqual(server_of(scenario, "r:3306")["at"], "mysql-bin.000001:%d" % (4 + sum(sizes[:5])))
+        self.assertIn("its log is matched by its events, as its applier was working", err)
+
+    def test_without_gtids_what_fits_at_several_places_is_refused(self) -> None:
+        sizes = [300] * 6
+        late = working(mysql(2, False, sizes[:5], "m", 5), 157 + 600, 157 + 900)
+        status, scenario, err = read({"m:3306": mysql(1, False, sizes), "r:3306": late}, "m", "r")
+        self.assertEqual((status, scenario), (3, None))
+        self.assertIn("r:3306: its applier works, its transactions have no GTIDs, and its log fits that of m:3306 at several places", err)
+
+    def test_without_gtids_an_applier_that_stands_still_is_taken_by_its_status(self) -> None:
+        sizes = [300] * 6
+        held = working(mysql(2, False, sizes[:2], "m", 4), 157 + 600)
+        status, scenario, err = read({"m:3306": mysql(1, False, sizes), "r:3306": held}, "m", "r")
+        self.assertEqual((status, server_of(scenario, "r:3306")["executed"]), (0, 2), err)
 
     def test_it_is_linear_in_transactions(self) -> None:
         """Eight times as many transactions take less than twice eight times as long; four times as long for each would be 64."""

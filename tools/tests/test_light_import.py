@@ -1,4 +1,4 @@
-"""The light import over servers that are made of texts: what it finds, tells, notes and refuses."""
+"""The light import over servers that are made of texts: what it finds, prints, notes and refuses."""
 from __future__ import annotations
 
 import io
@@ -11,10 +11,10 @@ import unittest.mock
 from typing import Any
 
 from fake import arguments_of, ran
-from servers import ASKED, Slow, listed, replica_row, server, uuid
+from servers import ASKED, Slow, answer_of, listed, replica_row, server, uuid
 
 from light_fuzz import Fuzz
-from orch_tools import importing, notes
+from orch_tools import importing, light_import, notes
 from orch_tools.light_map import LightMap
 from orch_tools.progress import Progress
 from rehearsal.answers import PROGRAM, answer, is_built
@@ -51,7 +51,28 @@ def gtids(last: int, number: int = 1, first: int = 1) -> str:
 
 
 class TellsTest(unittest.TestCase):
-    """What a scenario says of servers."""
+    """What a scenario has of servers."""
+
+    def test_a_part_of_a_transaction_counts_for_nothing(self) -> None:
+        """The master is dead. r has executed what q has, and received a part of a transaction besides: its applier finds no more work."""
+        state = "Replica has read all relay log; waiting for more updates"
+        part = server(2, replica_row("m", 3000, 3400, Replica_IO_Running="Connecting", Replica_SQL_Running_State=state), end=2900)
+        answers = {"r:3306": part, "q:3306": server(3, replica_row("m", 3000, Replica_IO_Running="Connecting"), end=2950)}
+        for worker, read in (("Waiting for an event from Coordinator", 3000), ("Waiting for table metadata lock", 3400), (None, 3400)):
+            states = [state, worker] if worker else []
+            part["SELECT 'threads' orch_part; SHOW PROCESSLIST"] = [[answer_of({"threads": [{"User": "system user", "State": one} for one in states]}), "", 0]]
+            with unittest.mock.patch.object(light_import, "LATE", 0):
+                status, scenario, err = imported(answers, "m:3306", "r:3306", "q:3306", "--only-named")
+            found = [one_of(scenario, name)["read"] for name in ("r:3306", "q:3306")]
+            self.assertEqual((status, found), (0, ["mysql-bin.000001:%d" % read, "mysql-bin.000001:3000"]), err)
+            self.assertEqual("r:3306: it has received a part of a transaction, 400 bytes after binlog.000001:3000: left out" in err, read == 3000)
+
+    def test_what_an_applier_has_still_to_execute_counts(self) -> None:
+        """The same, except that r's applier works, or is off."""
+        for more in ({"Replica_SQL_Running_State": "Applying batch of row changes"}, {"Replica_SQL_Running": "No"}):
+            works = server(2, replica_row("m", 3000, 3400, Replica_IO_Running="Connecting", **more), end=2900)
+            _, scenario, err = imported({"r:3306": works}, "m:3306", "r:3306", "--only-named")
+            self.assertEqual(one_of(scenario, "r:3306")["read"], "mysql-bin.000001:3400", err)
 
     def test_coordinates_are_the_servers(self) -> None:
         answers = {"m:3306": server(1, end=5000), "r:3306": server(2, replica_row("m", 3000, 4000, Replica_SQL_Running="No"), end=2900)}
@@ -117,7 +138,7 @@ class TellsTest(unittest.TestCase):
             self.assertIn("end mysql-bin.000001:9000000 ", answer(PROGRAM, scenario or {}, ["-c", "run"])[1])
 
     def test_a_master_that_logs_no_applied_ones_is_a_source(self) -> None:
-        """log_replica_updates says nothing of a server without a source."""
+        """log_replica_updates means nothing for a server without a source."""
         status, scenario, _ = imported({"m:3306": server(1, u=0), "r:3306": server(2, replica_row("m"), u=0)})
         self.assertEqual((status, one_of(scenario, "m:3306").get("logs"), one_of(scenario, "r:3306")["logs"]), (0, None, False))
 
@@ -315,7 +336,7 @@ class FilesTest(unittest.TestCase):
 
 
 class FuzzedTest(unittest.TestCase):
-    """Modelled trees tell their status to the light import, and both scenarios answer the same; FUZZ in the environment says how many of each kind."""
+    """Modelled trees report their status to the light import, and both scenarios answer the same. FUZZ in the environment is how many of each kind."""
 
     @unittest.skipUnless(is_built(), "no built program")
     def test_modelled_trees_answer_the_same(self) -> None:

@@ -83,7 +83,7 @@ class OperatorTest(unittest.TestCase):
         self.assertIn("no hook runs in a scenario", err)
 
     def test_both_and_arguments(self) -> None:
-        """Later files stand over earlier ones, and arguments over files."""
+        """Later files win over earlier ones, and arguments over files."""
         scenario, _ = self.told("--operator", self.file(ORCHESTRATORS, "a.json"), "--operator", self.file(OWN), "--rule", "db3-fra=prefer_not", "--dc",
                                 "db1-ams=par")
         self.assertEqual([(one.get("dc"), one.get("rule")) for one in scenario["servers"]], [("par", None), ("ams", "prefer"), ("fra", "prefer_not")])

@@ -1,4 +1,4 @@
-"""Plans as they are read, and statements in a server's words."""
+"""Plans as they are read, and statements in a server's syntax."""
 from __future__ import annotations
 
 import os
@@ -58,7 +58,7 @@ UNREAD = [
 CHANGE = "CHANGE REPLICATION SOURCE TO SOURCE_HOST='b', SOURCE_PORT=2, SOURCE_LOG_FILE='x.000001', SOURCE_LOG_POS=4, SOURCE_AUTO_POSITION=0"
 OLD = "CHANGE MASTER TO MASTER_HOST='b', MASTER_PORT=2, MASTER_LOG_FILE='x.000001', MASTER_LOG_POS=4, "
 
-# A version, a statement of MySQL 8, and the same in that server's words.
+# A version, a statement of MySQL 8, and the same in that server's syntax.
 WORDS = [
     ("8.4.3", CHANGE, CHANGE), ("8.0.23", CHANGE, CHANGE), ("8.0.22", CHANGE, OLD + "MASTER_AUTO_POSITION=0"),
     ("10.11.19-MariaDB-0+deb12u1", CHANGE, OLD + "MASTER_USE_GTID=no"), ("10.11.19-MariaDB", "STOP REPLICA IO_THREAD", "STOP SLAVE IO_THREAD"),

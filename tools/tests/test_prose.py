@@ -1,4 +1,4 @@
-"""Documents: what is reported of their sentences, words, links, names and commands."""
+"""Documents: what is reported of their sentences, terms, links, names and commands."""
 import contextlib
 import io
 import os
@@ -28,7 +28,7 @@ def found_in(text: str) -> List[str]:
 
 
 def ruled_out_in(text: str) -> List[str]:
-    """The words of a document for which there is another term."""
+    """What a document has for which there is another term."""
     return [what for _, what in prose.ruled_out(prose.blocks_of(text))]
 
 

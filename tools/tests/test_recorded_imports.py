@@ -91,7 +91,7 @@ class RecordedTest(unittest.TestCase):
 
     @unittest.skipUnless(is_built(), "no built program")
     def test_both_ways_answer_the_same(self) -> None:
-        """Where both have a scenario: each death, and some commands, with coordinates as the servers have them."""
+        """If both have a scenario: each death, and some commands, with coordinates as the servers have them."""
         compared = 0
         for name in names():
             told = recorded(name)
@@ -189,7 +189,7 @@ class LettersTest(unittest.TestCase):
     def test_what_coordinates_do_not_show_is_said(self) -> None:
         told = recorded("mysql_errant_unseen")
         self.assertIn("no GTIDs: a replica's own transactions aren't seen", told["light"]["err"])
-        self.assertIn("%s: its log is no beginning of that of" % told["letters"]["b"], told["exact"]["err"])
+        self.assertIn("%s: its log is no prefix of that of" % told["letters"]["b"], told["exact"]["err"])
 
 
 def write() -> None:

@@ -22,7 +22,7 @@ def sources() -> list[str]:
 
 
 def functions_in(tree: ast.Module) -> Iterator[tuple[ast.FunctionDef, bool, bool]]:
-    """Each function of a file, whether it is a method, and whether it stands inside a function."""
+    """Each function of a file, whether it is a method, and whether it is inside a function."""
     def inside(node: ast.AST, in_class: bool, in_function: bool) -> Iterator[tuple[ast.FunctionDef, bool, bool]]:
         for child in ast.iter_child_nodes(node):
             if isinstance(child, Function):

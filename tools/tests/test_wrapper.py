@@ -49,7 +49,7 @@ class HandedOnTest(WrapperTest):
             self.assertEqual(self.told(0, "-c", "run", given=given).out, plain)
 
     def test_places_are_those_of_the_file(self) -> None:
-        """Behind comments a fault's line and column are the file's, and its line is shown as it is."""
+        """After comments a fault's line and column are the file's, and its line is printed as it is."""
         told = self.told(2, "--explain", "-c", "run", given='// a\n{"version":1,\n "servers":[{"name":"m", // b\n  "sorce":"x"}]}')
         self.assert_lines(told.err, "scenario fault 5 UnknownKey /servers/0/sorce",
                           "standard input:4:3: there is no key `sorce` here. Did you mean `source`?", '      "sorce":"x"}]}', "      ^")
@@ -68,7 +68,7 @@ class HandedOnTest(WrapperTest):
             self.assertIn("refused 11 SourceHasNoSource (docs/REFUSALS.md):", told.err)
 
     def test_without_a_program_the_status_is_3(self) -> None:
-        """And the reason says how to build it."""
+        """And the reason has how to build it."""
         told = self.told(3, "-c", "run", given=CHAIN, ORCH="/nowhere/orch_cli")
         self.assertIn("/nowhere/orch_cli can't be run: No such file or directory", told.err)
         if not os.path.exists(BUILT):
@@ -76,7 +76,7 @@ class HandedOnTest(WrapperTest):
             self.assertIn("the program orch_cli isn't built. Build it:", told.err)
 
     def test_every_option_form_is_known(self) -> None:
-        """Values behind a blank, behind `=` and joined to a letter."""
+        """Values after a blank, after `=` and joined to a letter."""
         for words in (["-c", "topology", "-i", "m"], ["-ctopology", "-im"], ["-c=topology", "-i=m"]):
             line = command_line.CommandLine(words)
             self.assertEqual((line.values, line.every_mistake()), ({"-c": "topology", "-i": "m"}, []))
@@ -223,7 +223,7 @@ class RecordedTest(unittest.TestCase):
 
     @unittest.skipUnless(os.path.exists(BUILT), "the program isn't built")
     def test_the_program_still_gives_them(self) -> None:
-        """Each of them, where the program is built. tools/tests/record.py records them anew."""
+        """Each of them, if the program is built. tools/tests/record.py records them anew."""
         self.addCleanup(remove_logs)
         with open(RECORDED, encoding="ascii") as file:
             rows = json.load(file).values()

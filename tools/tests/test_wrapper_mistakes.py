@@ -1,4 +1,4 @@
-"""A newcomer's mistakes: what the wrapper says of each names the argument or the place that is wrong."""
+"""A newcomer's mistakes: what the wrapper prints for each names the argument or the place that is wrong."""
 from __future__ import annotations
 
 import dataclasses
@@ -19,12 +19,12 @@ class Mistake:
     says: str
 
     def told(self) -> Told:
-        """What the wrapper says."""
+        """What the wrapper prints."""
         return inside("--explain", *self.words, given=self.given.encode() if isinstance(self.given, str) else self.given)
 
 
 def line(name: str, words: str, status: int, says: str) -> Mistake:
-    """A mistake in the command line, beside a scenario without a fault. `_` stands for a blank inside an argument."""
+    """A mistake in the command line, beside a scenario without a fault. `_` is a blank inside an argument."""
     return Mistake(name, tuple(word.replace("_", " ") if word == "r_" else word for word in words.split()), GOOD, status, says)
 
 

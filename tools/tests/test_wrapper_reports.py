@@ -10,10 +10,17 @@ import xml.dom.minidom
 from wrapped import HERE, SHOP, TOP, WrapperTest
 
 from orch_tools import clusters, runbook, runbook_words, scenario
+from orch_tools.deaths import dying
+from orch_tools.plan import read_plan
 from orch_tools.program import BUILT, Answer, NoAnswer, Program
+from rehearsal.recovery_plan import plan_text
 
 DEAD = ('{"version":1,"gtid":true,"servers":[{"name":"m","history":[["m",100,3]]},{"name":"a","source":"m","executed":2,"auto":true},'
         '{"name":"b","source":"m","executed":2,"auto":true,"version":"5.7.44"}]}')
+
+NIGHT = ('{"version":1,"servers":[{"name":"db1","history":[["db1",100,5]]},{"name":"db2","source":"db1","executed":4,'
+         '"read":"mysql-bin.000001:504"},{"name":"db3","source":"db1","executed":4},{"name":"db4","source":"db1","executed":3}]}')
+NIGHT_BY_GTIDS = NIGHT.replace('"version":1,', '"version":1,"gtid":true,')
 
 
 def plan_in(name: str) -> str:
@@ -271,7 +278,52 @@ class RunbookTest(WrapperTest):
         self.assertIn("server A db1:3306\n", self.told(0, "runbook", "--plan", "--takeover", "db3", "db1", SHOP).out)
         self.assertEqual(self.told(0, "runbook", "--json", "--takeover", "db3", "db1", SHOP).json["servers"]["A"], "db1:3306")
 
-    def test_a_recovery(self) -> None:
+    def test_a_recovery_is_planned_by_the_program(self) -> None:
+        """The runbook of a death: the failed server first, the choice, a line by hand, a loss, the way back that ends."""
+        told = self.told(0, "runbook", "db1", given=NIGHT)
+        self.assert_lines(
+            told.out, "Runbook: orch -c recover -i db1:3306", "A server that is reached again hasn't failed: don't go on.",
+            "Servers: db1:3306, db2:3306, db3:3306, db4:3306",
+            "1. db1:3306: Read.", "     before: Try to reach it, now. Stop if it answers: a server that is reached hasn't failed.",
+            "2. db2:3306: Stop the receiver.", "     db2> STOP REPLICA IO_THREAD;",
+            "14. db2:3306: Nothing is sent; only compare.", "     before: It is chosen, and not db3:3306.",
+            "     before: Go on only if exec of db2:3306 is at or after exec of db3:3306.",
+            "16. db3:3306: Give it its source, at a coordinate.",
+            "18. db4:3306: Nothing is sent; only compare.",
+            "19. db4:3306: Stop both threads. Read. Detach: with // in front of its source's host nobody starts it by mistake.",
+            "20. db2:3306: Stop both threads. Take its source away. From here on there is no way back: go on to the end.",
+            "21. db2:3306: Take writes.")
+        self.assertNotIn("mysql-bin", told.out)
+
+    def test_recoveries_and_regroups_as_the_second_hand_plans_them(self) -> None:
+        """--plan prints the program's plan, which is the one that is written anew, and which `orch follow` reads."""
+        for given in (NIGHT, NIGHT_BY_GTIDS):
+            data = json.loads(given)
+            for words, command, turned in (([], "recover", dying(data, ("db1:3306",))), (["--regroup"], "regroup-replicas", data)):
+                told = self.told(0, "runbook", "--plan", *words, "db1", given=given)
+                self.assertEqual(told.out, plan_text(command, "db1:3306", None, json.dumps(turned)))
+                self.assertEqual(read_plan(told.out).is_recovery, command == "recover")
+
+    def test_a_recovery_as_json(self) -> None:
+        """Each step with its statements, its conditions and their explanation."""
+        steps = self.told(0, "runbook", "--json", "db1", given=NIGHT_BY_GTIDS).json["steps"]
+        self.assertEqual(len(steps), 22)
+        self.assertEqual((steps[15]["server"], steps[15]["conditions"]),
+                         ("db3:3306", ["only where C.gtids are in B.gtids, stopped", "only where B.purged is in C.gtids"]))
+
+    def test_a_regroup_is_planned_by_the_program(self) -> None:
+        """Nobody dies for it, and nobody is detached or reset."""
+        told = self.told(0, "runbook", "--regroup", "db1", given=NIGHT)
+        self.assert_lines(told.out, "Runbook: orch -c regroup-replicas -i db1:3306", "1. db2:3306: Stop the receiver.",
+                          "13. db2:3306: Nothing is sent; only compare.", "18. db4:3306: Start both threads.", "19. db2:3306: Start both threads.")
+        self.assertNotIn("RESET", told.out)
+        self.assertNotIn("no way back", told.out)
+
+    def test_a_recovery_that_is_refused(self) -> None:
+        """The death of a server without replicas is no recovery: no answer, with the program's line."""
+        self.assertIn("refused 20 NotActionable", self.told(3, "runbook", "db4", given=NIGHT).err)
+
+    def test_a_recovery_in_a_recorded_plan(self) -> None:
         """A recorded plan of a recovery, step by step."""
         plan = runbook.plan_of(plan_in("recover.plan.txt"))
         text = "\n".join(runbook.text_of(plan, ["-c", "recover", "-i", "m"]))
@@ -281,7 +333,7 @@ class RunbookTest(WrapperTest):
                           "20. b:3306: Stop both threads. Take its source away. From here on there is no way back: go on to the end.")
 
     def test_every_condition_and_statement_is_known(self) -> None:
-        """Of the plans of the repository's cases."""
+        """The plans of the repository's cases."""
         with open(os.path.join(TOP, "cases", "plans.table"), encoding="utf-8") as file:
             lines = file.read().replace("\\n", "\n").splitlines() + plan_in("recover.plan.txt").splitlines()
         for found in filter(None, map(runbook.LINE.match, lines)):
@@ -290,7 +342,7 @@ class RunbookTest(WrapperTest):
             self.assertTrue(not found[3] or runbook_words.purposes(found[3].split("; ")) or "BINLOG EVENTS" in found[3], found[3])
 
     def test_a_program_with_and_without_such_plans(self) -> None:
-        """Where the program prints none it says `usage`, and there is no answer, with the reason."""
+        """If the program prints none, it answers `usage`, and there is no answer, with the reason."""
         words = ["-c", "recover", "-i", "m"]
         self.assertEqual(runbook.printed_plan(Printing(Answer(0, "a plan", "")), {}, words), "a plan")
         for answer, says in ((Answer(1, "", "usage\n"), "this build of the program prints no plan of `recover`"),
