@@ -28,7 +28,7 @@ MOST_COLUMNS = 120
 
 # The folders of Python files that are checked, and the parts of each crate.
 CHECKED: Tuple[str, ...] = (".ci", "tools", "tools/orch_tools", "tools/rehearsal", "tools/tests")
-CRATES: Tuple[str, ...] = ()
+CRATES: Tuple[str, ...] = ("src", "specs", "proofs")
 
 MARKS = {".rt": r"//[/!]?", ".antt": r"--"}
 ERROR = re.compile(r"`\w+|[Mm]emory|[Ff]ault|[Rr]efus|[Ff]ail")

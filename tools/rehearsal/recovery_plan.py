@@ -146,8 +146,11 @@ class RecoveryPaper(Paper):
             self.line(a, "SHOW BINLOG EVENTS", "note %s.match, by hand: the place in the log of %s behind all that %s shows behind its last mark"
                       % (self.letter(a), self.letter(b), self.letter(a)))
             self.by_match(a, b, "", "only where %s stands as it did then, stopped" % self.letter(a))
-        elif self.book.gtid:
+        elif self.book.gtid and one.expected <= chosen.expected:
             self.by_set(a, b)
+        elif self.book.gtid:
+            self.nothing(a, "lost, ahead of " + self.letter(b), self.passes(a, b, True))
+            return False
         elif one.expected == chosen.expected:
             self.down(a, b)
         elif one.expected < chosen.expected and chosen.seen and one.expected == chosen.executed:

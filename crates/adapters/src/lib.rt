@@ -34,10 +34,10 @@ pub enum StreamFault {
     TookNothing,
 }
 
-/// A read or a write is made at most so many times where signals interrupt it; the last interruption counts as a fault.
+/// A read or a write is made at most so many times if signals interrupt it. The last interruption counts as a fault.
 const TRIES: u32 = 100;
 
-// Reads; what a signal interrupts is tried again.
+// Reads. What a signal interrupts is tried again.
 fn read_again<R: Read>(reader: &mut R, buf: &mut [u8]) -> io::Result<usize>
     ensures bound { ReadsAtMost result buf.new }
     ensures bytes { ReadConsumes (R.remaining reader.old) (R.remaining reader.new) result buf.new }
@@ -51,7 +51,7 @@ fn read_again<R: Read>(reader: &mut R, buf: &mut [u8]) -> io::Result<usize>
     reader.read(buf)
 }
 
-// Writes; what a signal interrupts is tried again.
+// Writes. What a signal interrupts is tried again.
 fn write_again<W: Write>(writer: &mut W, piece: &[u8]) -> io::Result<usize>
     ensures bound { WritesAtMost result piece.now }
     ensures bytes { WriteAppends (W.contents writer.old) (W.contents writer.new) result piece.now }
@@ -93,6 +93,7 @@ pub struct FileSource<R> {
 }
 
 impl<R: Read> FileSource<R> {
+    /// Over this reader, before its first read.
     pub fn new(inner: R) -> Self
         ensures { result ≡ record { inner = inner; faults = 0; fault = None } }
     {
@@ -157,6 +158,7 @@ pub struct StreamSink<W> {
 }
 
 impl<W: Write> StreamSink<W> {
+    /// Over this writer, before its first write.
     pub fn new(inner: W) -> Self
         ensures { result ≡ record { inner = inner; faults = 0; fault = None } }
     {

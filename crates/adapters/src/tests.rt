@@ -24,7 +24,7 @@ impl Write for Broken {
     }
 }
 
-// Reads zeros and takes all, but for so many interruptions first.
+// Reads zeros and takes all, except for so many interruptions first.
 #[derive(Drop)]
 struct Interrupted {
     left: u32,
@@ -130,7 +130,7 @@ fn a_sink_holds_what_was_written(rt: HostRuntime) -> Result<(), Fail> {
     drop(sink);
     let held = fs::read(&rt, "adapters_files/written")?;
     assert_eq!(rt; held.as_slice(), b"1 tick 5: done\n".as_slice());
-    // A file that is open for reading alone takes nothing, and says why.
+    // A file that is open for reading alone takes nothing, and reports why.
     let mut closed = StreamSink::new(File::open(&rt, "adapters_files/written")?);
     let failed = (closed.write(b"x").is_err(), closed.faults);
     assert_eq!(rt; failed, (true, 1));

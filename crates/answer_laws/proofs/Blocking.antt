@@ -1,4 +1,4 @@
--- Which recovery is told as the one that blocks.
+-- Which recovery the answer names as the one that blocks.
 use Rattle.std.proofs.Common.{◌≡◌, ℕ, ◌+◌, ◌-◌, ◌≤◌, Bool, true, false, cond, not, ◌&&◌, List, [], ◌∷◌, ◌++◌, refl, sym, ◌∙◌, ap, subst, append_assoc, Option, Some, None, Result, Ok, Err, ◌⊎◌, inl, inr}
 use Rattle.std.specs.Prelude.{All, find, nat_eq, nat_lt, reverse}
 use Rattle.answer_laws.proofs.Prelude.{All-cons, All-nil, All-reverse, All-weaker, AuditState, Held, IsClosed, IsFree, IsHeldBack, IsLastBlock}
@@ -28,7 +28,7 @@ first-found p (x ∷ xs) y e = go (p x) refl e (first-found p xs y)
         let f = rest e in
         record { before = x ∷ f.before; behind = f.behind; split = ap (λ ys. x ∷ ys) f.split; passed = f.passed; none = All-cons (λ x. p x ≡ false) x f.before is f.none }
 
--- from the end it is the last, and none behind it does
+-- from the end it is the last, and none after it does
 turned-round : (xs before behind : List Recovery) (y : Recovery) → reverse xs ≡ before ++ y ∷ behind → xs ≡ reverse behind ++ y ∷ reverse before
 turned-round xs before behind y e =
     sym (reverse-reverse xs) ∙ (ap reverse e ∙ (reverse-append before (y ∷ behind)

@@ -32,7 +32,7 @@ apart x y notless other = go (order x y) refl
     go Equal e = absurd (false≢true (sym other ∙ (texts_ties x y ∙ ap is_eq e)))
     go Greater e = absurd (false≢true (sym notless ∙ ap is_lt (total.antisymm y x ∙ ap ordering_reverse e)))
 
--- one stands before whatever isn't before one behind it
+-- one is before whatever isn't before one after it
 further : (x y z : List ℕ) → IsBefore x y → is_lt (order z y) ≡ false → IsBefore x z
 further x y z before notless = go (order z y) refl
   where
@@ -115,7 +115,7 @@ module _ (b : BookState) where
   abbrev numbered : ℕ → ServerNo
   numbered n = record { 0 = n }
 
-  -- each number below the names' count stands in name order
+  -- each number below the names' count is in name order
   at_each : (Q : ServerNo → Type 0) → All Q (by_name b.names) → (server : ServerNo) → server.0 < length b.names → Q server
   at_each Q all server within =
       let order_of_all = by_name b.names in

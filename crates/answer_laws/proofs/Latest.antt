@@ -11,7 +11,7 @@ module _ (passes : Bridge → Bool) where
   abbrev Fails : Bridge → Type 0
   Fails x = passes x ≡ false
 
-  -- what was found before stays where none passes
+  -- what was found before stays if none passes
   none-over : (found : Option Bridge) (ring : List Bridge) → All Fails ring → over found ring ≡ found
   none-over found [] all = refl
   none-over found (b ∷ ring) all =

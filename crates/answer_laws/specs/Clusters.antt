@@ -3,7 +3,7 @@ use Rattle.std.specs.Prelude.{◌≡◌, ◌<◌, ℕ, true, List, length, map, 
 use Rattle.answer_laws.specs.Prelude.{BookState, Less, Line, ServerNo, is_instance, label_at, nat_cmp, slice_cmp}
 use Rattle.answer_laws.specs.Prelude.line
 
--- one label stands before another by its bytes
+-- one label is before another by its bytes
 abbrev pub IsBefore : List ℕ → List ℕ → Type 0
 IsBefore one other = slice_cmp nat_cmp one other ≡ Less
 
@@ -14,7 +14,7 @@ pub record IsLabelled (b : BookState) (label : List ℕ) : Type 0 where
   pub is : is_instance b server ≡ true
   pub has : label_at b server ≡ label
 
--- The lines name labels, each before those behind it, and so each once: that of each instance's cluster, and no other.
+-- The lines name labels, each before those after it, and so each once: that of each instance's cluster, and no other.
 pub record ListsEachOnce (b : BookState) (lines : List Line) : Type 0 where
   pub labels : List (List ℕ)
   pub told : lines ≡ map line.Cluster labels

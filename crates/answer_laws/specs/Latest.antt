@@ -3,7 +3,7 @@ use Rattle.std.specs.Prelude.{◌≡◌, ℕ, Bool, true, false, List, ◌∷◌
 use Rattle.answer_laws.specs.Prelude.{Bridge, IsFree, IsHeldBack, Moment, Recovery, is_unended}
 use Rattle.answer_laws.specs.Prelude.held
 
--- the bridge is of the ring and passes, and none behind it does
+-- the bridge is of the ring and passes, and none after it does
 pub record IsLatest (passes : Bridge → Bool) (ring : List Bridge) (b : Bridge) : Type 0 where
   pub before : List Bridge
   pub behind : List Bridge
@@ -15,7 +15,7 @@ pub record IsLatest (passes : Bridge → Bool) (ring : List Bridge) (b : Bridge)
 abbrev pub IsClosed : List ℕ → Recovery → Type 0
 IsClosed cluster r = r.cluster ≡ cluster → is_unended r ≡ false
 
--- the recovery with this id blocks others of its cluster until then, and none behind it does; none of the cluster is
+-- the recovery with this id blocks others of its cluster until then, and none after it does; none of the cluster is
 -- unended
 pub record IsLastBlock (cluster : List ℕ) (now id : ℕ) (until : Moment) (recoveries : List Recovery) : Type 0 where
   pub before : List Recovery

@@ -21,7 +21,7 @@ pub record IsLowest (checks : List (Option Refusal)) (r : Refusal) : Type 0 wher
   pub one : Any (λ x. x ≡ Some r) checks
   pub lowest : All (IsNoLower r) checks
 
--- what is answered: nothing exactly where each check passes, else the refusal with the lowest number
+-- what is answered: nothing exactly if each check passes, else the refusal with the lowest number
 abbrev pub IsAnswer : List (Option Refusal) → Option Refusal → Type 0
 IsAnswer checks None = All (λ x. x ≡ None) checks
 IsAnswer checks (Some r) = IsLowest checks r
@@ -53,7 +53,7 @@ match_checks w b now every given =
     (λ c i d. row_checks w b (matches.case_of b c i d) (matches.row_of c) ++ matches.own_refusal w b now c i ∷ row_checks w b (matches.case_of b c i d) (matches.last_row_of every c))
     (pseudo_command given.name) given
 
--- what keeps a recovery from beginning by itself
+-- what holds a recovery back that begins by itself
 abbrev pub own_checks : BookState → Attempt → ServerNo → Bool → List (Option Refusal)
 own_checks b a f passes = if a.by_hand then [] else disabled a ∷ downtimed b a f ∷ filtered passes ∷ []
 

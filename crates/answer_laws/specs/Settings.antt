@@ -1,4 +1,4 @@
--- Worlds that differ only in how their servers stand.
+-- Worlds that differ only in their servers' states.
 use Rattle.std.specs.Prelude.{◌≡◌, ℕ, option_map}
 use Rattle.answer_laws.specs.Prelude.{World, server_at}
 

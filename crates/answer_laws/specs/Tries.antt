@@ -24,14 +24,14 @@ after_begun at x = record { leases = taken at.leases x.list (at.last + 1); audit
 abbrev pub checks_at : Scan → Left → Entry → List (Option Refusal)
 checks_at s at e = recovery_checks s.world (record s.book { leases = at.leases }) at.audit (s.by e.no) e.no
 
--- no check refuses it: this recovery of its server begins as the next job, and the line tells it
+-- no check refuses it: this recovery of its server begins as the next job, and the line reports it
 pub record IsBegunTry (s : Scan) (at : Left) (e : Entry) (x : Begins) (l : Line) : Type 0 where
   pub passed : All (λ c. c ≡ None) (checks_at s at e)
   pub failed : x.job.failed ≡ e.no
   pub number : x.job.core.id ≡ at.last + 1
   pub told : l ≡ line.Begun e.no e.code (at.last + 1)
 
--- a check refuses it: the line tells what refuses it with the lowest number
+-- a check refuses it: the line reports what refuses it with the lowest number
 pub record IsRefusedTry (s : Scan) (at : Left) (e : Entry) (l : Line) : Type 0 where
   pub why : Refusal
   pub lowest : IsLowest (checks_at s at e) why

@@ -6,8 +6,8 @@ ghost use Rattle.answer_laws.specs.Prelude.{with_bridge};
 ghost use Rattle.answer_laws.specs.Prelude.held;
 ghost use Rattle.answer_laws.specs.Latest.{IsLastBlock, IsLatest};
 
-/// A look-up of bridges answers exactly the latest that fits, and none exactly where none fits. A bridge that is kept
-/// and wasn't the latest is the latest then.
+/// A look-up of bridges answers exactly the latest that fits, and none exactly if none fits. A bridge that is kept and
+/// wasn't the latest is the latest then.
 pub fn latest_bridges_are_found()
     ensures found { (passes : ABridge → Bool) (ring : List ABridge) (b : ABridge) →
         latest_that passes ring ≡ Some b → IsLatest passes ring b }
@@ -22,7 +22,7 @@ pub fn latest_bridges_are_found()
         latest_that passes (with_bridge ring b) ≡ Some b }
 {}
 
-/// Where a recovery may not begin for a block, none of its cluster is unended, and the one that is told is the last
+/// If a recovery may not begin because of a block, none of its cluster is unended. The one that is named is the last
 /// that blocks.
 pub fn last_blocks_are_told()
     ensures { (a : AuditState) (cluster : List ℕ) (now id : ℕ) (until : AMoment) →

@@ -1,5 +1,6 @@
-//! Laws of what is answered by the book, the audit and the settings: the lowest refusal and whole plans, however the
-//! servers stand, the latest bridge and block that are kept, the clusters, each once, and the tries of a scan.
+//! Laws of what is answered by the book, the audit and the settings: the lowest refusal and whole plans, whatever the
+//! servers' states are. Then the latest bridge and block that are kept, the clusters, each once, and the tries of a
+//! scan.
 #![tactic(auto)]
 
 mod kept;

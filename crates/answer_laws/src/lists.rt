@@ -11,9 +11,9 @@ pub fn clusters_are_listed_once()
     ensures { (b : BookState) → ListsEachOnce b (clusters_of b) }
 {}
 
-/// A scan tells a line for each instance whose analysis asks for a recovery, tried on the leases and the audit that
-/// those before it left: it begins exactly where no check of the permission table refuses it, and a refused one is told
-/// the refusal with the lowest number.
+/// A scan has a line for each instance whose analysis asks for a recovery, tried on the leases and the audit that those
+/// before it left. It begins exactly if no check of the permission table refuses it. A refused one has the refusal with
+/// the lowest number.
 pub fn scans_refuse_by_the_table()
     ensures { (w : World) (b : BookState) (audit : AuditState) (by : Number → AnAttempt)
         (wait last : ℕ) →

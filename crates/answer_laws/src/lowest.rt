@@ -9,9 +9,9 @@ ghost use Rattle.answer_laws.specs.Prelude.paths;
 ghost use Rattle.std.specs.Prelude.{ℕ};
 ghost use Rattle.answer_laws.specs.Lowest.{IsAnswer, coords_checks, gtid_checks, match_checks, path_checks, recovery_checks, takeover_checks};
 
-/// What refuses a command is what one of its checks refuses, and none of its checks refuses with a lower number;
-/// nothing refuses it exactly where each of its checks passes. So it is of every command that begins a job, of
-/// recoveries and of takeovers, in whatever order the checks are looked at.
+/// What refuses a command is what one of its checks refuses, and none of its checks refuses with a lower number.
+/// Nothing refuses it exactly if each of its checks passes. So it is for every command that begins a job, for
+/// recoveries and for takeovers, in whatever order the checks are looked at.
 pub fn the_lowest_number_is_answered()
     ensures coords { (w : World) (b : BookState) (given : ACommand) →
         IsAnswer (coords_checks w b given) (coords.refusal_of w b given) }

@@ -5,8 +5,8 @@ ghost use Rattle.answer_laws.specs.Prelude.{BookState, Detach, Finish, Follows, 
 ghost use Rattle.answer_laws.specs.Prelude.{Stop, World, again, auto, by_gtids, finished, given, plan_of, refusal_of, source_of};
 ghost use Rattle.answer_laws.specs.Prelude.name;
 
-/// A repoint without a destination, where it is permitted, goes on under the source that the book shows: by
-/// coordinates, or by GTIDs where the instance finds its place by them.
+/// A permitted repoint without a destination goes on under the source in the book: by coordinates, or by GTIDs if the
+/// instance finds its place by them.
 pub fn repoints_go_on_under_their_source()
     ensures again { (w : World) (b : BookState) (i : Number) → by_gtids w b i ≡ false →
         refusal_of w b (given name.Repoint i None) ≡ None →

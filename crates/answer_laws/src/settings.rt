@@ -11,8 +11,8 @@ ghost use Rattle.answer_laws.specs.Prelude.path_plans;
 ghost use Rattle.answer_laws.specs.Prelude.paths;
 ghost use Rattle.answer_laws.specs.Settings.{SameSettings};
 
-/// What refuses a command, a recovery or a takeover is the same over all servers with the same settings, however they
-/// stand: whether they are up, what they have executed and whom they follow is asked of the book alone.
+/// What refuses a command, a recovery or a takeover is the same over all servers with the same settings, whatever their
+/// states are. Whether they are up, what they have executed and whom they follow is asked only of the book.
 pub fn permits_go_by_the_book()
     ensures coords { (w v : World) (b : BookState) (given : ACommand) → SameSettings w v →
         coords.refusal_of w b given ≡ coords.refusal_of v b given }

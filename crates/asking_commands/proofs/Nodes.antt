@@ -61,7 +61,7 @@ range-more a (suc n) =
     let same : (a + 1) + n ≡ a + suc n = omega arith in
     ap (λ (xs : List ℕ). a ∷ xs) (range-more (a + 1) n ∙ ap (λ (i : ℕ). range_with_len (a + 1) n ++ i ∷ []) same)
 
--- one more node: its tree where it passes
+-- one more node: its tree if it passes
 pub trees-more : (tree : ℕ → List Line) (passes : ℕ → Bool) (place : ℕ) (passed : Bool) → passed ≡ passes place
     → flat_map tree (filter passes (range_with_len 0 (place + 1))) ≡ flat_map tree (filter passes (range_with_len 0 place)) ++ cond passed (tree place) []
 trees-more tree passes place passed test =
@@ -81,7 +81,7 @@ trees-more tree passes place passed test =
 pub rest_of : {X : Type 0} (xs : List X) (k : ℕ) → take (length xs - k) (drop k xs) ≡ drop k xs
 rest_of xs k = take_all (length xs - k) (drop k xs) (omega (arith, length-drop k xs))
 
--- behind the last place
+-- after the last place
 pub all-once : (lines : List Line) (labels : List (Bor (List ℕ))) (k : ℕ) → length labels ≤ k
     → lines ++ map line.Cluster (each_once (map seen (drop k labels))) ≡ map line.Cluster (each_once (map seen labels)) → lines ≡ map line.Cluster (each_once (map seen labels))
 all-once lines labels k past so_far =

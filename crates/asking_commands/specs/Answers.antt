@@ -58,7 +58,7 @@ abbrev pub answers_of : Option Found → List Bool
 answers_of None = []
 answers_of (Some f) = f.answers
 
--- the lines about the instance, where one is given
+-- the lines about the instance, if one is given
 abbrev pub about : (ServerNo → List Line) → Option ServerNo → List Line
 about lines None = []
 about lines (Some i) = lines i
@@ -97,7 +97,7 @@ unless_refused (Ok permit) lines = Ok lines
 unfoldable pub answer_of : BookState → List Recovery → CommandTurn → Result (List Line) AnswerFault
 answer_of b rs t = unless_refused (permitted b t.command) (lines_of b rs t t.command.name)
 
--- the fault of an answer, and nothing at want of memory
+-- the fault of an answer, and nothing if memory runs out
 abbrev pub answer_fault : AnswerFault → Option AnswerFault
 answer_fault (fault.Refused refusal) = Some (fault.Refused refusal)
 answer_fault fault.Memory = None

@@ -1,4 +1,4 @@
--- What a book tells of its instances.
+-- What a book has of its instances.
 use Rattle.std.specs.Prelude.{ℕ, Bool, false, true, ◌&&◌, List, [], ◌∷◌, map, filter, slice_index_or, nat_eq, unwrap_or, if◌then◌else◌}
 use Rattle.std.specs.Cmp.Lexicographic.{pointwise}
 use Rattle.instance_keeper.specs.OrchBase.declared.server.ServerNo.{ServerNo}

@@ -9,7 +9,7 @@ use Rattle.commands.specs.declared.line.Line.{Line}
 use Rattle.commands.specs.declared.line.Line.TheVariants as line
 use Rattle.book_views.specs.Sources.{is_instance, label_at}
 
--- it is the same as the first behind it
+-- it is the same as the first after it
 abbrev pub is_again : List ℕ → List (List ℕ) → Bool
 is_again one [] = false
 is_again one (other ∷ rest) = pointwise nat_eq one other

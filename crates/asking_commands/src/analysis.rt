@@ -47,7 +47,8 @@ fn problem_line(entry: &Entry) -> Line
     }
 }
 
-/// The analysis of each instance that has a problem, in name order, with the counts of its replicas.
+/// The analysis of each instance that has a problem, in name order, with the counts of its replicas. `Err` means out of
+/// memory.
 pub fn replication_analysis(alloc: Global, book: &Book) -> Result<Lines, Memory>
     ensures { IfOk result (λ lines. lines ≡ analysis_lines book.now) }
 {

@@ -27,7 +27,7 @@ use std::fmt;
 pub enum AnswerFault {
     /// The command is refused.
     Refused(Refusal),
-    /// Want of memory.
+    /// Out of memory.
     Memory,
 }
 
@@ -76,7 +76,7 @@ fn is_known(book: &Book, given: Option<ServerNo>) -> bool
 }
 
 /// Refuses a command that uses an instance or a destination which isn't one of the book's, by
-/// `commands::unknown_instance`; what it doesn't use isn't tested.
+/// `commands::unknown_instance`. What it doesn't use isn't tested.
 pub fn permit(book: &Book, command: Command) -> Result<(), Refusal>
     requires i { IsTrue (is_within (length book.now.names) command.i) }
     requires d { IsTrue (is_within (length book.now.names) command.d) }
@@ -154,8 +154,8 @@ fn lines_of(
     }
 }
 
-/// The lines of a command that only asks the book or the audit's recoveries, or `UnknownInstance` exactly where it uses
-/// an instance or a destination that the book hasn't. Any other command has no lines here.
+/// The lines of a command that only asks the book or the audit's recoveries. `UnknownInstance` exactly if it uses an
+/// instance or a destination that the book hasn't. Any other command has no lines here.
 #[tactic(auto, unfolding(crate::specs::Answers::answer_of))]
 pub fn answer(
     alloc: Global,

@@ -39,7 +39,7 @@ fn sorted_labels<'a>(alloc: Global, book: &'a Book) -> Result<Vec<&'a OwnedText>
     Ok(labels)
 }
 
-// Whether no label behind it is the same, where they are in order.
+// Whether no label after it is the same, if they are in order.
 fn is_last(label: &OwnedText, rest: &[&OwnedText]) -> bool
     ensures { result ≡ not (is_again label.now (map (λ l. l.now) rest.now)) }
 {
@@ -49,7 +49,7 @@ fn is_last(label: &OwnedText, rest: &[&OwnedText]) -> bool
     }
 }
 
-/// The labels of the clusters of the book's instances, each once, by their bytes.
+/// The labels of the clusters of the book's instances, each once, by their bytes. `Err` means out of memory.
 pub fn clusters(alloc: Global, book: &Book) -> Result<Lines, Memory>
     ensures { IfOk result (λ lines. lines ≡ clusters_of book.now) }
 {

@@ -15,6 +15,6 @@ pub use listing::{
     all_instances, find, global_switch, switch_line, which_cluster, which_cluster_instances,
     which_master, which_replicas,
 };
-/// Want of memory.
+/// Out of memory.
 pub use instance_keeper::orch_base::Memory;
 pub use trees::topology;

@@ -11,7 +11,7 @@ use commands::{Line, Lines};
 use instance_keeper::Book;
 use std::alloc::Global;
 
-/// The instances of the book, in name order.
+/// The instances of the book, in name order. `Err` means out of memory.
 pub fn all_instances(alloc: Global, book: &Book) -> Result<Lines, Memory>
     ensures { IfOk result (λ lines. lines ≡ all_instances book.now) }
 {
@@ -32,8 +32,8 @@ fn is_found(book: &Book, answers: &[bool], no: ServerNo) -> bool
     is_instance(book, no) && answers.get(no.0 as usize).copied().unwrap_or(false)
 }
 
-/// The instances whose answer is true, in name order. The answers stand by the servers' numbers; a server without one
-/// has false.
+/// The instances whose answer is true, in name order. The answers are in the order of the servers' numbers. A server
+/// without one has false. `Err` means out of memory.
 pub fn find(alloc: Global, book: &Book, answers: &[bool]) -> Result<Lines, Memory>
     ensures { IfOk result (λ lines. lines ≡ found book.now answers.now) }
 {
@@ -56,7 +56,7 @@ fn source_line(source: SourceState) -> Line
     }
 }
 
-/// The instance's source, attached or detached, or `none`.
+/// The instance's source, attached or detached, or `none`. `Err` means out of memory.
 pub fn which_master(alloc: Global, book: &Book, i: ServerNo) -> Result<Lines, Memory>
     requires { i.0 < length book.now.names }
     ensures { IfOk result (λ lines. lines ≡ master_of book.now i) }
@@ -66,7 +66,7 @@ pub fn which_master(alloc: Global, book: &Book, i: ServerNo) -> Result<Lines, Me
     Ok(Lines::new(lines))
 }
 
-/// The instances that are attached to the instance, in name order.
+/// The instances that are attached to the instance, in name order. `Err` means out of memory.
 pub fn which_replicas(alloc: Global, book: &Book, i: ServerNo) -> Result<Lines, Memory>
     ensures { IfOk result (λ lines. lines ≡ replica_lines book.now i) }
 {
@@ -78,7 +78,7 @@ pub fn which_replicas(alloc: Global, book: &Book, i: ServerNo) -> Result<Lines, 
     Ok(Lines::new(lines))
 }
 
-/// The label of the server's cluster.
+/// The label of the server's cluster. `Err` means out of memory.
 pub fn which_cluster(alloc: Global, book: &Book, i: ServerNo) -> Result<Lines, Memory>
     requires { i.0 < length book.now.names }
     ensures { IfOk result (λ lines. lines ≡ cluster_of book.now i) }
@@ -96,7 +96,7 @@ pub(crate) fn is_of_cluster(book: &Book, label: &OwnedText, no: ServerNo) -> boo
     is_instance(book, no) && label_at(book, no).is_same(label)
 }
 
-/// The instances whose cluster is the instance's, in name order.
+/// The instances whose cluster is the instance's, in name order. `Err` means out of memory.
 pub fn which_cluster_instances(alloc: Global, book: &Book, i: ServerNo) -> Result<Lines, Memory>
     requires { i.0 < length book.now.names }
     ensures { IfOk result (λ lines. lines ≡ cluster_instances book.now i) }
@@ -112,7 +112,7 @@ pub fn which_cluster_instances(alloc: Global, book: &Book, i: ServerNo) -> Resul
     Ok(Lines::new(lines))
 }
 
-/// Whether recoveries are enabled.
+/// Whether recoveries are enabled. `Err` means out of memory.
 pub fn global_switch(alloc: Global, book: &Book) -> Result<Lines, Memory>
     ensures { IfOk result (λ lines. lines ≡ switch_of book.now) }
 {

@@ -47,7 +47,7 @@ fn instance_line(book: &Book, depth: u32, no: ServerNo, instance: &Instance) -> 
     }
 }
 
-// The line of a server, where it is an instance.
+// The line of a server, if it is an instance.
 fn server_line(book: &Book, depth: u32, no: ServerNo) -> Option<Line>
     requires { no.0 < length book.now.names }
     ensures { result ≡ option_map (instance_line book.now depth no) (instance_at book.now no) }
@@ -96,8 +96,8 @@ fn is_root_of(book: &Book, forest: &Forest, label: &OwnedText, node: u32, no: Se
     forest.parent(node).is_none() && is_of_cluster(book, label, no)
 }
 
-/// All trees of the instance's cluster: the roots of its label in name order, each with all below it, children in name
-/// order and one deeper.
+/// All trees of the instance's cluster: the roots of its label in name order, each with all below it. Children are in
+/// name order and one deeper. `Err` means out of memory.
 pub fn topology(alloc: Global, book: &Book, i: ServerNo) -> Result<Lines, Memory>
     requires { i.0 < length book.now.names }
     ensures { IfOk result (λ lines. lines ≡ topology_of book.now i) }

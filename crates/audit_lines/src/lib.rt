@@ -1,4 +1,4 @@
-//! The lines that tell of an audit's recoveries: those of a command and those of the tables are the same.
+//! The lines of an audit's recoveries: those of a command and those of the tables are the same.
 #![tactic(auto)]
 
 ghost use Rattle.std.specs.Prelude.{◌≡◌, IfOk};
@@ -6,7 +6,7 @@ ghost use Rattle.audit_lines.specs.Lines.{line_of, recovery_lines};
 
 use commands::{Line, Lines, RecoveryLine};
 use kept_rows::Recovery;
-/// Want of memory.
+/// Out of memory.
 pub use kept_rows::orch_base::Memory;
 use std::alloc::Global;
 
@@ -25,7 +25,7 @@ fn line_of(alloc: Global, recovery: &Recovery) -> Result<RecoveryLine, Memory>
     })
 }
 
-/// A line for each of these recoveries, in their order. `Err` is want of memory.
+/// A line for each of these recoveries, in their order. `Err` means out of memory.
 pub fn recovery_lines(alloc: Global, recoveries: &[Recovery]) -> Result<Lines, Memory>
     ensures { IfOk result (λ lines. lines ≡ recovery_lines recoveries.now) }
 {

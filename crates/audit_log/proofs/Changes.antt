@@ -10,7 +10,7 @@ use Rattle.std.proofs.lemmas.List.Quantifiers.{all_pairs_push}
 use Rattle.kept_rows.specs.declared.recovery.Recovery.{Recovery}
 use Rattle.audit_log.specs.Audits.{AuditState, begun, longest_block, IsAudit}
 
--- ---- a list that is mapped from its front on
+-- ---- a list that is mapped from its first element on
 
 abbrev pub mapped : {A : Type 0} → (A → A) → ℕ → List A → List A
 mapped f zero xs = xs
@@ -22,7 +22,7 @@ mapped_next f k [] d within = absurd (omega (arith, within))
 mapped_next f zero (x ∷ xs) d within = refl
 mapped_next f (suc k) (x ∷ xs) d within = ap (λ ys. f x ∷ ys) (mapped_next f k xs d (omega (arith, within)))
 
--- what stands at the front is as it was
+-- what is mapped already is as it was
 pub mapped_at : {A : Type 0} (f : A → A) (k : ℕ) (xs : List A) (d : A) → get_or (mapped f k xs) k d ≡ get_or xs k d
 mapped_at f zero xs d = refl
 mapped_at f (suc k) [] d = refl
@@ -115,7 +115,7 @@ found-at id (x ∷ xs) (suc i) d rising within is =
     let other : (x.id == id) ≡ false = ne_eqb x.id id (λ e. absurd (omega (arith, less, e, is))) in
     ap (λ b. cond b (Some x) (find (λ r. r.id == id) xs)) other ∙ found-at id xs i d (pairs-tail x xs rising) (omega (arith, within)) is
 
--- a loop's step that changes what stands there
+-- a loop's step that changes the element there
 pub mapped_step : {A : Type 0} (f : A → A) (xs ys : List A) (k : ℕ) (now d : A) → ys ≡ mapped f k xs → k < length xs → now ≡ f (get_or ys k d) → set ys k now ≡ mapped f (k + 1) xs
 mapped_step f xs ys k now d so_far within is =
     (λ i. set (so_far i) k ((is ∙ ap (λ zs. f (get_or zs k d)) so_far ∙ ap f (mapped_at f k xs d)) i))

@@ -64,7 +64,7 @@ module _ {X : Type 0} (p : X → Bool) where
   none-found (x ∷ xs) all =
       ap (λ b. cond b (Some x) (find p xs)) (All-head (λ y. p y ≡ false) x xs all) ∙ none-found xs (All-tail (λ y. p y ≡ false) x xs all)
 
--- behind the last one that passes none does
+-- after the last one that passes none does
 module _ (p : Recovery → Bool) where
   abbrev FailsBehind : Recovery → Recovery → Type 0
   FailsBehind r y = r.id < y.id → p y ≡ false
@@ -97,7 +97,7 @@ rising-sorted xs rising k d low within = later (get_or xs k d).id (get_or xs (k 
     later : (m n : ℕ) → m < n → is_lt (nat_cmp n m) ≡ false
     later m n less = grind (arith, nat_tests)
 
--- by where the search ended, none has the id
+-- by the index at which the search ended, none has the id
 none-there : (id : ℕ) (xs : List Recovery) (i k : ℕ) (d : Recovery) → k < length xs → (k < i) ⊎ (i ≤ k)
     → AllWithin (λ (y : Recovery). nat_cmp y.id id ≡ Less) xs 0 i → AllWithin (λ (y : Recovery). nat_cmp y.id id ≡ Greater) xs i (length xs) → ((get_or xs k d).id == id) ≡ false
 none-there id xs i k d short (inl before) less greater =

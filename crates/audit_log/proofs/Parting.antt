@@ -1,4 +1,4 @@
--- Recoveries of a cluster are apart.
+-- Recoveries of a cluster don't overlap.
 use Rattle.std.proofs.Common.{◌≡◌, ℕ, ◌+◌, ◌-◌, ◌<◌, ◌≤◌, Bool, true, false, cond, not, ◌&&◌, List, [], ◌∷◌, ◌++◌, get_or, map, zero, refl, sym, ◌∙◌, ap, subst, Option, Some, None, Result, Ok, Err, ◌⊎◌, inl, inr, arith}
 use Rattle.std.specs.Prelude.{◌==◌, All, Any, Contains, nat_eq, nat_lt, reverse}
 use Rattle.std.specs.Cmp.Lexicographic.{nat_list_eq_equiv, pointwise, same_text}
@@ -18,7 +18,7 @@ use Rattle.audit_log.proofs.Changes.{IsAudit-begun, IsAudit-map}
 use Rattle.audit_log.proofs.Finding.{All-found, All-reverse, All-reversed, found-passes, last-found, none-found, none-passes}
 use Rattle.audit_log.proofs.Kept.{acknowledged-block, acknowledged-id, interrupted-block, interrupted-id}
 
--- ---- clusters are told apart by their texts
+-- ---- different clusters have different texts
 
 of-cluster : (cluster : List ℕ) (r : Recovery) → is_of cluster r ≡ true → r.cluster ≡ cluster
 of-cluster cluster r e = same_text r.cluster cluster (sym e)
@@ -146,7 +146,7 @@ module _ (cluster : List ℕ) (now : ℕ) where
           (λ x h later. free-of x (h (omega (arith, same, later)))) a.recoveries (last-found blocking-one a.recoveries r is.rising g)
       go None None g e = cc
 
--- ---- what stays apart
+-- ---- what keeps recoveries of a cluster from overlapping
 
 -- how much one recovery adds
 abbrev tick : List ℕ → Recovery → ℕ

@@ -1,4 +1,4 @@
--- Recoveries of a cluster are apart.
+-- Recoveries of a cluster don't overlap.
 use Rattle.std.specs.Prelude.{◌≡◌, ℕ, ◌+◌, ◌-◌, ◌<◌, ◌≤◌, ◌&&◌, ◌⊎◌, true, false, List, count_by, Ok}
 use Rattle.kept_rows.specs.declared.recovery.Recovery.{Recovery}
 use Rattle.audit_log.specs.declared.held.Held.{Held}

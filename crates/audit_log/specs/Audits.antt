@@ -42,7 +42,7 @@ is_open (ending.Promoted n) = false
 is_open (ending.Failed cause) = false
 is_open ending.Interrupted = false
 
--- it has no end yet, or none that says how
+-- it has no moment of its end yet, or no outcome
 abbrev pub is_unended : Recovery → Bool
 is_unended r = is_none r.ended || is_open r.outcome
 
@@ -65,7 +65,7 @@ held_by a (Some r) last = Err (held.Unended r.id)
 held_by a None (Some r) = Err (held.Blocked r.id (record { 0 = r.begun.0 + r.block }))
 held_by a None None = Ok a.next
 
--- the next id, where no recovery of the cluster holds it back: one that isn't ended, else the last one that blocks
+-- the next id, if no recovery of the cluster holds it back: one that isn't ended, else the last one that blocks
 abbrev pub may_begin : AuditState → List ℕ → ℕ → Result ℕ Held
 may_begin a cluster now = held_by a (unended_of a cluster) (last_blocking a cluster now)
 
@@ -74,7 +74,7 @@ may_begin a cluster now = held_by a (unended_of a cluster) (last_blocking a clus
 abbrev pub recovery_at : AuditState → ℕ → Option Recovery
 recovery_at a id = find (λ r. r.id == id) a.recoveries
 
--- whether and where the recovery of an id stands
+-- whether the recovery of an id is there, and at which index
 abbrev pub StandsAt : ℕ → List Recovery → Option ℕ → Type 0
 StandsAt id recoveries None = All (λ r. (r.id == id) ≡ false) recoveries
 StandsAt id recoveries (Some i) = (i < length recoveries) × HoldsAt (λ r. r.id ≡ id) recoveries i

@@ -70,7 +70,7 @@ fn is_new(recovery: &Recovery, cluster: &str) -> bool
     is_of(recovery, cluster) && !recovery.acked
 }
 
-// Acknowledges a recovery of the cluster, and counts it where it wasn't acknowledged before.
+// Acknowledges a recovery of the cluster, and counts it if it wasn't acknowledged before.
 fn acknowledge(recovery: &mut Recovery, cluster: &str) -> u64
     ensures after { recovery.new ≡ acknowledged_for cluster.now recovery.old }
     ensures count { result ≡ (if is_new cluster.now recovery.old then 1 else 0) }
@@ -140,7 +140,7 @@ impl Audit {
         self.next
     }
 
-    /// The same audit once more.
+    /// The same audit once more. `Err` means out of memory.
     pub fn copy(&self, alloc: Global) -> Result<Audit, Memory>
         ensures { IfOk result (λ a. a.audit ≡ self.now.audit) }
     {
@@ -164,7 +164,7 @@ impl Audit {
         }
     }
 
-    // Where the recovery of an id stands.
+    // The index of the recovery of an id.
     fn index_of(&self, id: u64) -> Option<usize>
         ensures { StandsAt id self.now.audit.recoveries result }
     {
@@ -190,9 +190,9 @@ impl Audit {
             .find(|r| is_of(r, cluster) && is_blocking(r, now))
     }
 
-    /// The id of a recovery of a cluster that begins now. `Unended` names the cluster's recovery that isn't ended; else
-    /// `Blocked` names its last one that isn't acknowledged and began less than its own block period ago, and the first
-    /// moment at which it no longer blocks. Moments are at most 2^63. It takes no memory.
+    /// The id of a recovery of a cluster that begins now. `Unended` names the cluster's recovery that isn't ended. Else
+    /// `Blocked` names its last one that isn't acknowledged and began less than its own block period ago. It also has
+    /// the first moment at which that one no longer blocks. Moments are at most 2^63. It takes no memory.
     pub fn may_begin(&self, cluster: &str, now: Moment) -> Result<u64, Held>
         requires { All (λ r. r.begun.0 ≤ 2 ^ 63) self.now.audit.recoveries }
         ensures { result ≡ may_begin self.now.audit cluster.now now.0 }
@@ -209,7 +209,7 @@ impl Audit {
         }
     }
 
-    /// Makes room for one more recovery. `Err` is want of memory.
+    /// Makes room for one more recovery. `Err` means out of memory.
     pub fn reserve(&mut self) -> Result<(), Memory>
         ensures ok { OnOk result (1 ≤ self.new.spare) }
         ensures audit { self.new.audit ≡ self.old.audit }
@@ -218,7 +218,7 @@ impl Audit {
         Ok(())
     }
 
-    /// Makes room for so many more recoveries. `Err` is want of memory.
+    /// Makes room for so many more recoveries. `Err` means out of memory.
     pub fn reserve_for(&mut self, count: usize) -> Result<(), Memory>
         ensures ok { OnOk result (count ≤ self.new.spare) }
         ensures audit { self.new.audit ≡ self.old.audit }
@@ -270,7 +270,7 @@ impl Audit {
         acknowledge_all(&mut self.recoveries, cluster)
     }
 
-    /// The recoveries that `ack` would change, as they would be then, by rising id. `Err` is want of memory.
+    /// The recoveries that `ack` would change, as they would be then, by rising id. `Err` means out of memory.
     pub fn acking(&self, alloc: Global, cluster: &str) -> Result<Vec<Recovery>, Memory>
         ensures { IfOk result (λ list. list.items ≡ acking self.now.audit cluster.now) }
     {
@@ -285,7 +285,7 @@ impl Audit {
         Ok(list)
     }
 
-    /// The recoveries that `close` would change, as they would be then, by rising id. `Err` is want of memory.
+    /// The recoveries that `close` would change, as they would be then, by rising id. `Err` means out of memory.
     pub fn closing(&self, alloc: Global, at: Moment) -> Result<Vec<Recovery>, Memory>
         ensures { IfOk result (λ list. list.items ≡ closing self.now.audit at) }
     {

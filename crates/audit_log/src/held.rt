@@ -1,4 +1,4 @@
-//! What keeps a recovery from beginning.
+//! What holds a recovery back.
 
 use crate::orch_base::Moment;
 

@@ -12,9 +12,9 @@ ghost use Rattle.audit_log.specs.Loading.{recoveries_in};
 ghost use Rattle.audit_log.specs.declared.held.Held.{Held as AHeld};
 ghost use Rattle.audit_log.specs.declared.held.Held.TheVariants as held;
 
-/// A recovery of a cluster may begin exactly where each one of the cluster is ended, and is acknowledged or began at
-/// least its own block period ago; it gets the next id. Where it may not, the answer names a recovery that holds it
-/// back, and where that one blocks it, no later one does.
+/// A recovery of a cluster may begin exactly if each one of the cluster is ended, and is acknowledged or began at least
+/// its own block period ago. It gets the next id. If it may not, the answer names a recovery that holds it back. If
+/// that one blocks it, no later one does.
 pub fn begins_are_apart()
     ensures apart { (a : AuditState) (cluster : List ℕ) (now id : ℕ) →
         may_begin a cluster now ≡ Ok id → (id ≡ a.next) × All (IsClear cluster now) a.recoveries }
@@ -47,8 +47,8 @@ pub fn restarts_end_recoveries()
         All (λ r. is_unended r ≡ false) (closed a at).recoveries }
 {}
 
-/// The recoveries of kept rows make an audit, where their ids are from 1 on and below the next id, and their block
-/// periods aren't too long.
+/// The recoveries of kept rows make an audit, if their ids are from 1 on and below the next id, and their block periods
+/// aren't too long.
 pub fn kept_recoveries_make_an_audit()
     ensures { (period : List ℕ → ℕ) (rows : List Row) (next : ℕ) → IsRising rows → 1 ≤ next →
         All (λ r. (1 ≤ r.id) × (r.id < next) × (r.block ≤ longest_block)) (recoveries_in period rows) →

@@ -14,6 +14,6 @@ pub use laws::{
     audits_stay_apart, begins_are_apart, kept_recoveries_make_an_audit, restarts_end_recoveries,
 };
 pub use loading::{loaded_by, recoveries_in};
-/// Want of memory.
+/// Out of memory.
 pub use kept_rows::orch_base::Memory;
 pub use periods::Periods;

@@ -22,7 +22,7 @@ fn recovery_row_in(row: &Row) -> Option<&RecoveryRow>
     }
 }
 
-/// The recovery that a row keeps, by its cluster's block period for a row that has none. `Err` is want of memory.
+/// The recovery that a row keeps, by its cluster's block period for a row that has none. `Err` means out of memory.
 pub fn loaded_by<P: Periods>(
     alloc: Global,
     periods: &P,
@@ -34,8 +34,8 @@ pub fn loaded_by<P: Periods>(
     Ok(kept.copy(alloc)?.into_recovery(period))
 }
 
-/// The recoveries among some rows, in their order, by their clusters' block periods for rows that have none. `Err` is
-/// want of memory.
+/// The recoveries among some rows, in their order, by their clusters' block periods for rows that have none. `Err`
+/// means out of memory.
 pub fn recoveries_in<P: Periods>(
     alloc: Global,
     periods: &P,

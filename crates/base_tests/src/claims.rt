@@ -24,10 +24,10 @@ enum Answer {
     Acts(bool),
 }
 
-// What one of two nodes asks for at a moment, and what it is answered; the kept claim and the active node behind it.
+// What one of two nodes asks for at a moment, and what it is answered; the kept claim and the active node after it.
 type Step = (Ask, u32, u64, Answer, Option<(u32, u64)>, Option<u32>);
 
-// What a node asks for, or nothing where it is none of the two.
+// What a node asks for, or nothing if it is none of the two.
 #[tactic(auto, using(node_claims::proofs::Owned::answered_long, node_claims::proofs::Owned::released_long, node_claims::proofs::Owned::acted_long))]
 fn told(claims: &mut Claims, ask: Ask, node: u32, now: u64) -> Option<Answer>
     requires { length claims.old.remembered ≡ 2 }

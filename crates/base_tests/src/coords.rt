@@ -107,7 +107,7 @@ fn filled(alloc: Global) -> Result<LogIndex, Memory>
     Ok(log)
 }
 
-// The first transaction behind which the log shows another place, coordinate or next step.
+// The first transaction after which the log has another place, coordinate or next step.
 fn misplaced(log: &LogIndex) -> Option<u32>
     requires { length log.now.log.entries ≡ 1000000 }
 {
@@ -127,7 +127,7 @@ fn misplaced(log: &LogIndex) -> Option<u32>
     None
 }
 
-// The end of the long log, and where it is misplaced.
+// The end of the long log, and the first transaction that is misplaced.
 fn filled_end(alloc: Global) -> Result<(Coord, Option<u32>), Memory> {
     let log = filled(alloc)?;
     Ok((log.end(), misplaced(&log)))

@@ -1,4 +1,4 @@
-//! Drawn scenarios: what two implementations that were written apart from each other drew from the same numbers.
+//! Drawn scenarios: what two implementations that were written separately drew from the same numbers.
 
 ghost use Rattle.std.specs.Prelude.{◌<◌};
 
@@ -94,7 +94,7 @@ fn draws(rt: HostRuntime) {
     }
 }
 
-// What a sink of so much room took of 1,000 servers and 2,000 turns, where its second call fails or none.
+// What a sink of so much room took of 1,000 servers and 2,000 turns, if its second call fails or none.
 fn taken(
     alloc: Global,
     room: usize,
@@ -109,7 +109,7 @@ fn taken(
     ))
 }
 
-// A sink that fails at its second piece took the first, one that has no more room took what fits, and both tell it.
+// A sink that fails at its second piece took the first, one that has no more room took what fits, and both report it.
 fn tells(alloc: Global) -> Result<bool, Memory> {
     let whole = taken(alloc, 200_000, false)?;
     let cut = taken(alloc, 200_000, true)?;

@@ -45,7 +45,7 @@ fn reads(rt: HostRuntime) {
     }
 }
 
-// How a copy of the name `m` stands to this one, and whether the two are the same.
+// How a copy of the name `m` compares to this one, and whether the two are the same.
 fn compared(alloc: Global, other: &str) -> Result<(Ordering, bool), NameFault> {
     let name = Name::read(alloc, "m")?.copy(alloc)?;
     let other = Name::read(alloc, other)?;

@@ -8,12 +8,12 @@ use Rattle.binlog_coords.proofs.Prelude.{not_from_false, or_from, or_right, suff
 abbrev pub NoColons : List ℕ → Type 0
 NoColons text = (i : ℕ) → i < length text → get_or text i 0 ≢ 58
 
--- what stands before and behind the last colon of a text
+-- what is before and after the last colon of a text
 pub record IsDivided (text front back : List ℕ) : Type 0 where
   pub whole : text ≡ front ++ 58 ∷ back
   pub last : NoColons back
 
--- behind the last colon each byte is another
+-- after the last colon each byte is another
 suffix_len-colon : (front back : List ℕ) → NoColons back → suffix_len (λ b. not (is_colon b)) (front ++ 58 ∷ back) ≡ length back
 suffix_len-colon front back none =
     let text = front ++ 58 ∷ back in
@@ -56,7 +56,7 @@ divides (b ∷ text) = ⊎_elim
     (λ p. inr (b ∷ p.0, p.1, record { whole = ap (λ (l : List ℕ). b ∷ l) p.2.whole; last = p.2.last }))
     (divides text)
 
--- a text with a colon is what stands before the last one, that colon, and what stands behind it
+-- a text with a colon is what is before the last one, that colon, and what is after it
 pub rejoined : (text : List ℕ) → list_any is_colon text ≡ true → text ≡ before_last is_colon text ++ 58 ∷ after_last is_colon text
 rejoined text some = ⊎_elim
     (λ none. absurd (false≢true (sym (list_any-NoColons text none) ∙ some)))
@@ -66,7 +66,7 @@ rejoined text some = ⊎_elim
     p.2.whole ∙ (λ i. sym front i ++ 58 ∷ sym back i))
     (divides text)
 
--- what `rsplit_once(':')` says
+-- what `rsplit_once(':')` answers
 abbrev pub IsSplit : List ℕ → Option (Bor (List ℕ) × Bor (List ℕ)) → Type 0
 IsSplit text r = MatchOption r (RFindsChar 58 text None) (λ x. (i : ℕ) × (j : ℕ) × RFindsChar 58 text (Some (i, j)) × (x.0.now ≡ take i text) × (x.1.now ≡ drop j text) × (i ≤ j) × (length x.0.now ≡ i) × (length x.1.now + j ≡ length text))
 

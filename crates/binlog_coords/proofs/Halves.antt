@@ -20,7 +20,7 @@ pub LieBetween-later : (from to to' : Coord) (es : List Entry) → LieBetween fr
 LieBetween-later from to to' [] h l = is_at_or_before-trans from to to' h l
 LieBetween-later from to to' (x ∷ es) h l = (h.0, h.1, LieBetween-later (end_coord x) to to' es h.2 l)
 
--- a file's head is behind all of the file before it
+-- a file's head is after all of the file before it
 pub before-next : (file pos : ℕ) → is_at_or_before (record { file = file; pos = pos }) (file_start (file + 1)) ≡ true
 before-next file pos = grind (arith, nat_tests)
 
@@ -45,7 +45,7 @@ pub LieBetween-filled : (file start end : ℕ) (es es' : List Entry) → LieBetw
 LieBetween-filled file start end es es' h some more =
     LieBetween-later (file_start 1) (record { file = file; pos = end }) (file_start (file + 1)) es' (LieBetween-appended file start end es es' h some more) (before-next file end)
 
--- nothing has ended where the first begins, and nothing touches what lies before it
+-- nothing has ended at the start of the first, and nothing touches what lies before it
 none-ended : (c from to : Coord) (es : List Entry) → LieBetween from to es → is_at_or_before c from ≡ true → count_by (ends_by c) es ≡ 0
 none-ended c from to [] h l = refl
 none-ended c from to (x ∷ es) h l =
@@ -76,7 +76,7 @@ none-begins c from to k (x ∷ es) none h l =
     let rest = none-begins c (end_coord x) to (suc k) es none h.2 within in
     rw (not_here, rest) refl
 
--- those that end by a coordinate stand in front
+-- those that end by a coordinate come first
 count-is-prefix : (c from to : Coord) (es : List Entry) → LieBetween from to es → count_by (ends_by c) es ≡ prefix_len (ends_by c) es
 count-is-prefix c from to [] h = refl
 count-is-prefix c from to (x ∷ es) h =
@@ -90,7 +90,7 @@ count-is-prefix c from to (x ∷ es) h =
           rw (count_by-cons (ends_by c) x es, later, rest) refl
     ]
 
--- each begins behind where the list does, and takes bytes
+-- each begins after the list's start, and takes bytes
 lies-behind : (from to : Coord) (es : List Slot) → LieBetween from to (map entry_of es) → (j : ℕ) (d : Slot) → j < length es
     → (is_at_or_before from (start_coord (entry_of (get_or es j d))) ≡ true) × ((entry_of (get_or es j d)).start < (entry_of (get_or es j d)).end)
 lies-behind from to [] h j d below = absurd (omega arith)
@@ -109,7 +109,7 @@ ended-with c from e behind some by = grind (arith, nat_tests)
 abbrev pub slot_ends : Coord → Slot → Bool
 slot_ends c s = ends_by c (entry_of s)
 
--- those that have ended stand before those that have not
+-- those that have ended are before those that have not
 pub ended-before : (c from to : Coord) (es : List Slot) → LieBetween from to (map entry_of es) → IsPartitionedBy (slot_ends c) es
 ended-before c from to [] h i j d order below by = absurd (omega arith)
 ended-before c from to (x ∷ es) h zero zero d order below by = by
@@ -129,7 +129,7 @@ prefix_len-entries c (x ∷ es) = let rest = prefix_len-entries c es in go (slot
     go true rest = ap (λ n. 1 + n) rest
     go false rest = refl
 
--- the boundary that a search by halves finds is their number; equal lists stand for what is searched
+-- the boundary that a search by halves finds is their number; the list that is searched is replaced by an equal one
 pub boundary-by : (c to : Coord) (items : List Slot) (seen : List Entry) (es : List Slot) (i : ℕ) → map entry_of items ≡ seen → LieBetween (file_start 1) to (map entry_of items) → es ≡ items
     → i ≤ length es → IsPartitionPoint (λ s. slot_ends c s ≡ true) (λ s. slot_ends c s ≡ false) es i → i ≡ count_by (ends_by c) seen
 boundary-by c to items seen es i view h same within point =
@@ -139,7 +139,7 @@ boundary-by c to items seen es i view h same within point =
     sym found ∙ ap (prefix_len (slot_ends c)) same ∙ sym (prefix_len-entries c items) ∙ sym (count-is-prefix c (file_start 1) to (map entry_of items) h)
     ∙ ap (count_by (ends_by c)) view
 
--- where the last has begun, all before it have ended
+-- all before the last have ended if it has begun
 ended-at_last : (c from to : Coord) (es : List Slot) → LieBetween from to (map entry_of es) → (i : ℕ) (last : Slot) → length es ≡ suc i → ((d : Slot) → last ≡ get_or es i d)
     → is_at_or_before (start_coord (entry_of last)) c ≡ true → count_by (ends_by c) (map entry_of es) ≡ i + cond (slot_ends c last) 1 0
 ended-at_last c from to [] h i last count is begun = absurd (omega arith)
@@ -156,7 +156,7 @@ as_number : (b : Bool) → from_bool b ≡ cond b 1 0
 as_number true = refl
 as_number false = refl
 
--- the same where equal values stand for the parts
+-- the same with equal values for the parts
 pub count-at_last : (c to start : Coord) (items : List Slot) (seen : List Entry) (es : List Slot) (last : Slot) (n : ℕ) (begun ended : Bool) → map entry_of items ≡ seen
     → LieBetween (file_start 1) to (map entry_of items) → es ≡ items → (0 < length es) × ((d : Slot) → last ≡ get_or es (length es - 1) d) → length es ≡ n
     → start ≡ start_coord (entry_of last) → begun ≡ is_at_or_before start c → begun ≡ true → ended ≡ slot_ends c last
@@ -222,7 +222,7 @@ any-touches c from to (x ∷ es) h k e = go k (ends_by c x) refl (e ∙ count_by
         let within : is_at_or_before c (end_coord x) ≡ true = grind (arith, nat_tests) in
         let none = none-ended c (end_coord x) to es h.2 within in absurd (omega arith)
 
--- a coordinate has a place exactly where a file begins, the k-th transaction ends, or the next begins
+-- a coordinate has a place exactly if a file begins, the k-th transaction ends, or the next begins
 pub has_place-at : (log : Log) (c : Coord) → LieBetween (file_start 1) (end_of log) log.entries → (k : ℕ) → k ≡ count_by (ends_by c) log.entries
     → has_place log c ≡ (is_file_start log c || (same_coord (coord_after log k) c || starts_at c (slice_get log.entries k)))
 has_place-at log c h k e = go k (is_file_start log c) refl (any-touches c (file_start 1) (end_of log) log.entries h k e)
@@ -246,12 +246,12 @@ has_place-at log c h k e = go k (is_file_start log c) refl (any-touches c (file_
     go k true is any = refl
     go k false other any = any ∙ ap (λ b. b || starts_at c (slice_get log.entries k)) (ended k other)
 
--- what follows where this transaction, numbered k, may begin; else what is given
+-- what follows at the coordinate at which this transaction, numbered k, may begin; else what is given
 abbrev next_at : Coord → ℕ → Option Entry → Next → Next
 next_at c k None none = none
 next_at c k (Some e) none = cond (same_coord (start_coord e) c) (next.Entry k (end_coord e)) none
 
--- the first that begins at a coordinate is the one behind those that have ended
+-- the first that begins at a coordinate is the one after those that have ended
 pub entry_from-at : (c from to : Coord) (i : ℕ) (es : List Entry) (none : Next) → LieBetween from to es → (k n : ℕ) → k ≡ count_by (ends_by c) es → n ≡ i + k
     → entry_from c i es none ≡ next_at c n (slice_get es k) none
 entry_from-at c from to i [] none h k n e m = refl
@@ -279,7 +279,7 @@ entry_from-at c from to i (x ∷ es) none h k n e m =
         let within : is_at_or_before c (end_coord x) ≡ true = grind (arith, nat_tests) in
         let none = none-ended c (end_coord x) to es h.2 within in absurd (omega arith)
 
--- the same where equal values stand for the parts
+-- the same with equal values for the parts
 pub has_place-by : (log seen : Log) (c d : Coord) (k : ℕ) (es : List Entry) (heads ends begins : Bool) → log ≡ seen → LieBetween (file_start 1) (end_of log) log.entries
     → k ≡ count_by (ends_by c) seen.entries → heads ≡ is_file_start log c → d ≡ coord_after seen k → ends ≡ same_coord d c → es ≡ log.entries → begins ≡ starts_at c (slice_get es k)
     → has_place seen c ≡ (heads || (ends || begins))
@@ -287,7 +287,7 @@ has_place-by log seen c d k es heads ends begins view h count at_head at at_end 
     rw (at_head, at_end, at, at_start, same, ← view)
     (has_place-at log c h k (count ∙ ap (λ (x : Log). count_by (ends_by c) x.entries) (sym view)))
 
--- what follows, by what stands behind those that have ended
+-- what follows, by what is after those that have ended
 next_after-at : (log seen : Log) (c : Coord) (k : ℕ) (es : List Slot) (o : Option Entry) (none : Next) → log ≡ seen → LieBetween (file_start 1) (end_of log) log.entries
     → k ≡ count_by (ends_by c) seen.entries → map entry_of es ≡ log.entries → slice_get (map entry_of es) k ≡ o → none ≡ next_file log c
     → next_at c k o none ≡ next_after seen c
@@ -326,7 +326,7 @@ next_after-past log seen c k es none view h count same past other =
     let size = entries-count es in
     next_after-at log seen c k es None none view h count same (slice_get_past (map entry_of es) k (omega arith)) other
 
--- where the first transactions end is where the last of them does
+-- the first transactions end at the end of the last of them
 pub coord_after-last : (log : Log) (es : List Slot) (k : ℕ) (t : Slot) (to : Coord) → map entry_of es ≡ log.entries → (k ≡ 0 → ⊥) → k ≤ length log.entries → t ≡ get_or es (k - 1) t
     → to ≡ end_coord (entry_of t) → to ≡ coord_after log k
 coord_after-last log es zero t to same some within at ends = absurd (some refl)

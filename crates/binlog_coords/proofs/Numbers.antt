@@ -13,7 +13,7 @@ tells_digits = search rules
 pub own : IsNumeralModel (λ ds. list_all is_ascii_digit ds ≡ true) (digits_value 10)
 own = numerals_by_value (λ ds. list_all is_ascii_digit ds ≡ true) tells_digits
 
--- zeros in front change neither the value nor that all are digits
+-- leading zeros change neither the value nor that all are digits
 value_behind_zeros : (z : ℕ) (ds : List ℕ) → digits_value 10 (replicate z 48 ++ ds) ≡ digits_value 10 ds
 value_behind_zeros zero ds = refl
 value_behind_zeros (suc z) ds = value_behind_zeros z ds
@@ -22,7 +22,7 @@ digits_behind_zeros : (z : ℕ) (ds : List ℕ) → list_all is_ascii_digit ds �
 digits_behind_zeros zero ds e = e
 digits_behind_zeros (suc z) ds e = digits_behind_zeros z ds e
 
--- digits are zeros in front of the decimal of their value, which is not zero
+-- digits are leading zeros and the decimal of their value, which is not zero
 zeros_in_front : (ds : List ℕ) → list_all is_ascii_digit ds ≡ true → 0 < digits_value 10 ds → digits_value 10 ds < 2 ^ 64 → (z : ℕ) × (ds ≡ replicate z 48 ++ decimal (digits_value 10 ds))
 zeros_in_front [] all some fits = absurd (omega arith)
 zeros_in_front (d ∷ ds) all some fits = ⊎_elim
@@ -104,7 +104,7 @@ is_extension-six_digits n some fits =
     (cases_eq (length ds) 6) in
     rw digits long
 
--- the value, where it is within its bounds
+-- the value, if it is within its bounds
 pub value_within_is : (low limit : ℕ) (ds : List ℕ) → low ≤ digits_value 10 ds → digits_value 10 ds < limit → value_within low limit ds ≡ Some (digits_value 10 ds)
 value_within_is low limit ds above below = rw (le-leb low (digits_value 10 ds) above, lt-ltb (digits_value 10 ds) limit below) refl
 

@@ -1,4 +1,4 @@
--- A text reads as a coordinate exactly where it is what is printed of it.
+-- A text reads as a coordinate exactly if it is what is printed of it.
 use Rattle.std.proofs.Common.{◌≡◌, ℕ, ◌^◌, ◌<◌, ◌≤◌, Bool, true, false, cond, List, [], ◌∷◌, ◌++◌, take, drop, Option, Some, None, Ok, Err, refl, sym, ap, ◌∙◌, arith}
 use Rattle.std.specs.Prelude.{codes, decimal, nat_eq, option_and_then}
 use Rattle.binlog_coords.proofs.Prelude.{Coord, HasText, NoColon, after_last, append_assoc, before_last, coord_at, coord_of, coord_text}
@@ -63,7 +63,7 @@ pos_at_some digits n e =
     let q = value_within_some 4 (2 ^ 64) digits n p.1 in
     (sym (decimal-is_plain digits p.0 (omega (arith, q.1, q.2))) ∙ ap decimal q.2, q.0, q.1)
 
--- both numbers, where both were read
+-- both numbers, if both were read
 numbers_read : (some : Bool) (file pos : Option ℕ) (c : Coord) → cond some (coord_of file pos) (Err NoColon) ≡ Ok c → (some ≡ true) × (file ≡ Some c.file) × (pos ≡ Some c.pos)
 numbers_read true (Some file) (Some pos) c e =
     let same : record { file = file; pos = pos } ≡ c = cc in

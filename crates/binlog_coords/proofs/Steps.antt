@@ -1,4 +1,4 @@
--- What follows a coordinate, in the words of the log: a transaction, the next file, or nothing.
+-- What follows a coordinate, by the log's entries: a transaction, the next file, or nothing.
 use Rattle.std.proofs.Common.{◌≡◌, ℕ, ◌+◌, ◌<◌, ◌≤◌, Bool, true, false, cond, List, [], ◌∷◌, ◌++◌, length, refl, sym, zero-add, ◌∙◌, ap, subst, inl, inr, ◌⊎◌, Some, None, arith, length-append, zero, suc, get_or}
 use Rattle.std.specs.Prelude.{◌↔◌, IsSomeAnd, Option, count_by, slice_get}
 use Rattle.binlog_coords.proofs.Prelude.{Coord, EndsFile, Entry, Log, Next, Spans, StepFrom, appended, cases_lt, end_coord, end_of, ends_by}
@@ -35,7 +35,7 @@ entry_from-new log size g none =
     ∙ ap (λ b. cond b (next.Entry (0 + length log.entries) (end_of (appended log size))) none) (same_coord-refl (end_of log))
     ∙ ap (λ n. next.Entry n (end_of (appended log size))) (zero-add (length log.entries))
 
--- each transaction is found where it begins
+-- each transaction is found at its start
 entry_from-begins : (log : Log) → Laid log → (i : ℕ) (t : Entry) → slice_get log.entries i ≡ Some t → (none : Next)
     → entry_from (start_coord t) 0 log.entries none ≡ next.Entry i (end_coord t)
 entry_from-begins log (Opened limit) i t h none = cc
@@ -58,7 +58,7 @@ entry_from-begins log (Appended old size some g) i t h none =
 abbrev SpansIn : List Entry → ℕ → Coord → Coord → Type 0
 SpansIn es n c e = IsSomeAnd (slice_get es n) (λ t. (start_coord t ≡ c) × (end_coord t ≡ e))
 
--- what is found stands in the list
+-- what is found is in the list
 entry_from-spans : (c : Coord) (k : ℕ) (es : List Entry) (none : Next) (i : ℕ) (e : Coord) → entry_from c k es none ≡ next.Entry i e
     → (none ≡ next.Entry i e) ⊎ ((n : ℕ) × (i ≡ k + n) × SpansIn es n c e)
 entry_from-spans c k [] none i e h = inl h
@@ -82,7 +82,7 @@ next_file-no_entry log c i e h = elim (cases_lt c.file log.files) [
   | inr last ↦ let r = next_file-last log c last in cc
 ]
 
--- an entry follows exactly where it begins
+-- an entry follows exactly at its start
 pub next_after-entry : (log : Log) → Laid log → (c : Coord) (i : ℕ) (e : Coord) → (next_after log c ≡ next.Entry i e) ↔ Spans log i c e
 next_after-entry log g c i e = (spans, found)
   where
@@ -101,7 +101,7 @@ next_after-entry log g c i e = (spans, found)
     found : Spans log i c e → next_after log c ≡ next.Entry i e
     found s = at (slice_get log.entries i) refl s
 
--- where the later of two coordinates has no more transactions before it, the same ones end by both
+-- if the later of two coordinates has no more transactions before it, the same ones end by both
 count-same : (es : List Entry) (c d : Coord) → is_at_or_before c d ≡ true → count_by (ends_by d) es ≤ count_by (ends_by c) es
     → (i : ℕ) (t : Entry) → slice_get es i ≡ Some t → ends_by d t ≡ true → ends_by c t ≡ true
 count-same [] c d order le i t h by = cc
@@ -146,7 +146,7 @@ EndsFile-at : (log : Log) (c : Coord) → EndsFile log c → (i : ℕ) (t : Entr
 EndsFile-at log c all i t h =
     subst (λ (x : Entry). x.file ≡ c.file → ends_by c x ≡ true) (get_or_from_slice_get log.entries i t t h) (all i t (slice_get_within log.entries i t h))
 
--- the next file follows exactly where a file ends that isn't the last
+-- the next file follows exactly at the end of a file that isn't the last
 pub next_after-rotate : (log : Log) → Laid log → (c d : Coord) (k : ℕ) → place log c ≡ Some k
     → (next_after log c ≡ next.Rotate d) ↔ (EndsFile log c × (c.file < log.files) × (d ≡ file_start (c.file + 1)))
 next_after-rotate log g c d k p = (ends, follows)

@@ -30,7 +30,7 @@ two-after_end = refl
 two-after_head : next_after two (at 2 4) ≡ next.End
 two-after_head = refl
 
--- the first transaction, and where each of the two ends
+-- the first transaction, and the end of each of the two
 two-after_start : next_after two (at 1 4) ≡ next.Entry 0 (at 1 104)
 two-after_start = refl
 

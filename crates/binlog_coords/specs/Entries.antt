@@ -4,7 +4,7 @@ use Rattle.binlog_coords.specs.declared.Coord.{Coord}
 use Rattle.binlog_coords.specs.declared.Entry.{Entry}
 use Rattle.binlog_coords.specs.Log.{is_at_or_before, same_coord, start_coord, end_coord}
 
--- the transactions lie one behind another from one coordinate to another, and none is empty
+-- the transactions lie one after another from one coordinate to another, and none is empty
 abbrev pub LieBetween : Coord → Coord → List Entry → Type 0
 LieBetween from to [] = is_at_or_before from to ≡ true
 LieBetween from to (e ∷ es) = (is_at_or_before from (start_coord e) ≡ true) × (e.start < e.end) × LieBetween (end_coord e) to es

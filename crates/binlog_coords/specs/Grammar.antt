@@ -23,11 +23,11 @@ is_plain digits = begins_above_zero digits && list_all is_ascii_digit digits
 abbrev pub is_extension : List ℕ → Bool
 is_extension digits = list_all is_ascii_digit digits && (length digits == 6 || (nat_lt 6 (length digits) && begins_above_zero digits))
 
--- the number that the digits write, where it is at least `low` and below `limit`
+-- the number that the digits write, if it is at least `low` and below `limit`
 abbrev pub value_within : ℕ → ℕ → List ℕ → Option ℕ
 value_within low limit digits = if nat_le low (digits_value 10 digits) && nat_lt (digits_value 10 digits) limit then Some (digits_value 10 digits) else None
 
--- what stands behind `mysql-bin.`
+-- what is after `mysql-bin.`
 abbrev pub extension_of : List ℕ → Option (List ℕ)
 extension_of name = if starts_with nat_eq name (codes "mysql-bin.") then Some (drop 10 name) else None
 

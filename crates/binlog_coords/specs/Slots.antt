@@ -4,7 +4,7 @@ use Rattle.binlog_coords.specs.declared.Entry.{Entry}
 use Rattle.binlog_coords.specs.declared.index.Slot.{Slot}
 use Rattle.orch_base.specs.declared.server.Txn.{Txn}
 
--- where its transaction lies
+-- the coordinates of its transaction
 abbrev pub entry_of : Slot → Entry
 entry_of s = record { file = s.file; start = s.start; end = s.start + s.size }
 

@@ -12,7 +12,7 @@ use itoa::Buffer;
 use std::alloc::AllocError as Memory;
 use std::fmt;
 
-/// The position of a file's first event, behind the four magic bytes.
+/// The position of a file's first event, after the four magic bytes.
 const FIRST_POSITION: u64 = 4;
 
 /// What is wrong with a text that is no coordinate: the first fault in this order.
@@ -23,7 +23,7 @@ pub enum CoordFault {
     /// Before the last `:` no `mysql-bin.` and number of a file: exactly six digits, or more without a
     /// leading zero, 1 to 4294967295.
     BadFile,
-    /// Behind the last `:` no decimal without a leading zero, 4 to 2^64 - 1.
+    /// After the last `:` no decimal without a leading zero, 4 to 2^64 - 1.
     BadPos,
 }
 
@@ -49,9 +49,8 @@ fn missing_zeros(digits: &[u8]) -> &'static [u8]
     }
 }
 
-/// Appends `mysql-bin.`, the file in at least six digits, `:` and the position, in decimal
-/// (MySQL 8.0 Reference Manual, "The Binary Log"). For want of memory `out` stays as it was;
-/// with room for the text the call succeeds.
+/// Appends `mysql-bin.`, the file in at least six digits, `:` and the position, in decimal (MySQL 8.0 Reference Manual,
+/// "The Binary Log"). If memory runs out, `out` stays as it was. With room for the text the call succeeds.
 pub fn print_coord(c: Coord, out: &mut Vec<u8>) -> Result<(), Memory>
     ensures ok { OnOk result (out.new.items ≡ out.old.items ++ coord_text c) }
     ensures err { OnErr result (out.new.items ≡ out.old.items) }
@@ -72,7 +71,7 @@ pub fn print_coord(c: Coord, out: &mut Vec<u8>) -> Result<(), Memory>
     out.extend_from_slice(pos)
 }
 
-// What stands before the last colon and what behind it, if there is one.
+// What is before the last colon and what after it, if there is one.
 fn halves(text: &str) -> Option<(&str, &str)>
     ensures { MatchOption result (list_any is_colon text.now ≡ false) (λ p.
         (list_any is_colon text.now ≡ true)
@@ -106,7 +105,7 @@ fn is_extension(digits: &[u8]) -> bool
     are_digits(digits) && (digits.len() == 6 || (digits.len() > 6 && begins_above_zero(digits)))
 }
 
-// What stands behind `mysql-bin.` in a file's name.
+// What is after `mysql-bin.` in a file's name.
 fn extension(name: &str) -> Option<&str>
     ensures { option_map (λ s. s.now) result ≡ extension_of name.now }
 {

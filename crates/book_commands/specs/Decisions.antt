@@ -17,7 +17,7 @@ use Rattle.book_commands.specs.declared.decided.Effect.TheVariants as effect
 abbrev pub after : Moment → ℕ → Moment
 after now seconds = record { 0 = now.0 + seconds }
 
--- a change, or nothing where what is kept says so already
+-- a change, or nothing if it is kept already
 abbrev pub effect_by : Option Change → Effect
 effect_by None = effect.Stays
 effect_by (Some c) = effect.Change c

@@ -7,7 +7,7 @@ use instance_keeper::Change;
 /// What a decision makes of what is known.
 #[derive(Drop)]
 pub enum Effect {
-    /// Nothing: what is kept says so already, or no recovery is kept of which it speaks.
+    /// Nothing: it is kept already, or no recovery is kept that it is about.
     Stays,
     /// This change of the book.
     Change(Change),

@@ -163,9 +163,8 @@ fn ack(alloc: Global, book: &Book, audit: &Audit, no: ServerNo) -> Result<Decide
     )
 }
 
-/// What a decision answers and makes of what is known, by what the command is given: the row that it keeps isn't put
-/// anew where the book has that very row. The moment is at most 2^63, a duration at most 31,536,000 seconds. `Err` is
-/// want of memory.
+/// What a decision answers and makes of what is known, by what the command is given. A row isn't put anew if the book
+/// has that very row. The moment is at most 2^63, a duration at most 31,536,000 seconds. `Err` means out of memory.
 pub fn decide(
     alloc: Global,
     book: &Book,
@@ -212,7 +211,7 @@ fn acked_rows(alloc: Global, audit: &Audit, cluster: &str) -> Result<Vec<Change>
     Ok(rows)
 }
 
-/// The changes of the kept rows that an effect makes. `Err` is want of memory.
+/// The changes of the kept rows that an effect makes. `Err` means out of memory.
 pub fn rows_of(alloc: Global, audit: &Audit, effect: &Effect) -> Result<Vec<Change>, Memory>
     ensures { IfOk result (λ v. v.items ≡ rows_of audit.now.audit effect.now) }
 {

@@ -8,5 +8,5 @@ mod deciding;
 pub use decided::{Decided, Effect};
 pub use deciding::{decide, rows_of};
 use instance_keeper::orch_base;
-/// Want of memory.
+/// Out of memory.
 pub use instance_keeper::orch_base::Memory;

@@ -30,7 +30,7 @@ const INSTANCES: [Given; 7] = [
     Given::Instance(7, SourceState::Attached(ServerNo(0)), 0, 0),
 ];
 
-// A command turn; the pattern of `find` is found in each third server.
+// A command turn. The pattern of `find` is found in each third server.
 fn turn(alloc: Global, name: CommandName, i: Option<u32>) -> Result<CommandTurn, Memory> {
     let found = [true, false, false, true, false, false, true, false];
     let answers = Vec::from_array(alloc, found)?;
@@ -56,7 +56,7 @@ fn turn(alloc: Global, name: CommandName, i: Option<u32>) -> Result<CommandTurn,
 // The servers' names by number.
 const LETTERS: [u8; 8] = *b"mxbcdzae";
 
-// The name of the server that a line names; a dash where it names none.
+// The name of the server that a line names; a dash if it names none.
 fn letter(line: &Line) -> u8 {
     let no = match line {
         Line::Server(no) => *no,
@@ -75,7 +75,7 @@ fn are_named(lines: &[Line], want: &str) -> bool {
     lines.len() == want.len()
 }
 
-// Whether the lines that are answered name these servers; none where the command is to be refused.
+// Whether the lines that are answered name these servers; none if the command is to be refused.
 fn is_answered(alloc: Global, book: &Book, turn: &CommandTurn, want: Option<&str>) -> bool {
     if !asks(turn.command.name) || !turn.fits(book.servers()) {
         return false;
@@ -90,7 +90,7 @@ fn is_answered(alloc: Global, book: &Book, turn: &CommandTurn, want: Option<&str
     is_wanted
 }
 
-// A command, its instance, and the servers that its lines name; none where it is refused.
+// A command, its instance, and the servers that its lines name; none if it is refused.
 type Ask = (CommandName, Option<u32>, Option<&'static str>);
 
 // The first question that is answered otherwise, counted from 0.

@@ -33,7 +33,7 @@ const GOOD: [Given; 11] = [
     Given::Instance(1, SourceState::Attached(ServerNo(0)), 7, 0),
 ];
 
-// The same in order: of the two rows of one server the last stands.
+// The same in order: of the two rows of one server the last counts.
 const IN_ORDER: [Given; 10] = [
     Given::Instance(0, SourceState::Detached(ServerNo(1)), MOST, MOST),
     Given::Instance(1, SourceState::Attached(ServerNo(0)), 7, 0),
@@ -59,7 +59,7 @@ fn counts(
     are_rows(alloc, &rows, want)
 }
 
-// Rows that don't count, since a server is unknown or a number is past its greatest.
+// Rows that don't count, because a server is unknown or a number is past its greatest.
 const HOSTILE: [Given; 19] = [
     Given::Instance(2, ROOT, 0, 0),
     Given::Instance(0, SourceState::Attached(ServerNo(2)), 0, 0),
@@ -97,7 +97,7 @@ fn hostile_rows_do_not_count(rt: HostRuntime) {
     assert_eq!(rt; first_counted(rt.alloc()), Ok(None));
 }
 
-// Recoveries by ids. The next id is behind each that is in range, and at a restart the ids that were given count.
+// Recoveries by ids. The next id is after each that is in range, and at a restart the ids that were given count.
 const RECOVERIES: [Given; 4] = [
     Given::Recovery(MOST_ID + 7, 0, None, Ending::Unended),
     Given::Recovery(9, 0, None, Ending::Unended),

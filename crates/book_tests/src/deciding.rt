@@ -56,7 +56,7 @@ fn is_short(duration: Option<u64>) -> bool
     }
 }
 
-// None where the server is unknown, or the moment or the duration too late.
+// None if the server is unknown, or the moment or the duration too late.
 fn decided(
     alloc: Global,
     book: &Book,
@@ -197,7 +197,7 @@ fn are_in_range(list: &[Recovery], next: u64) -> bool
         .all(|r| (r.id >= 1 && r.id < next) && r.block <= 1_000_000_000)
 }
 
-/// The audit of some kept rows, by a block period for those that have none; none where their ids aren't from 1 on and
+/// The audit of some kept rows, by a block period for those that have none. `None` if their ids aren't from 1 on and
 /// below the next one, or a period is too long.
 pub(crate) fn loaded(
     alloc: Global,
@@ -263,7 +263,7 @@ fn surprise_of(alloc: Global, audit: &mut Audit, steps: &[Step]) -> Result<Optio
     found
 }
 
-// The same of the audit of the recoveries; the step 0, too, where there is no audit.
+// The same of the audit of the recoveries; the step 0, too, if there is no audit.
 fn surprise(alloc: Global, steps: &[Step]) -> Result<Option<usize>, Memory> {
     match audit(alloc)? {
         Some(mut audit) => {
@@ -300,8 +300,8 @@ const WHY: Asked = Asked {
     ..BEGIN
 };
 
-// Ten minutes where no duration is given; the same again keeps nothing, another reason does. One that no longer lasts
-// is removed, too.
+// Ten minutes if no duration is given. The same again keeps nothing, another reason does. One that no longer lasts is
+// removed, too.
 const DOWNTIMES: [Step; 9] = [
     (END, Want::Server(0), &[]),
     (BEGIN, Want::Downtime(0, 600), &[MASTER]),

@@ -1,4 +1,4 @@
-//! The book, its rows and the keeper in memory: each public call once, with ample memory.
+//! The book, its rows and the row store in memory: each public call once, with ample memory.
 
 use crate::binlog_coords_items::Coord;
 use crate::orch_base::{Memory, Moment, ServerNo, SourceState};
@@ -27,12 +27,12 @@ const ROWS: [Given; 10] = [
     Given::Switch(false),
 ];
 
-// When a downtime ends as it is told at two moments, and a rule at two moments.
+// When a downtime ends by the book at two moments, and a rule at two moments.
 type Told = ([Option<Moment>; 2], [Rule; 2]);
 
 const MADE_OF_ROWS: Told = ([Some(Moment(20)), None], [Rule::Prefer, Rule::Neutral]);
 
-// What a book of two servers tells of the second's downtime at moments 19 and 20, and of its rule at 59 and 60.
+// What a book of two servers has of the second's downtime at moments 19 and 20, and of its rule at 59 and 60.
 fn told(book: &Book) -> Option<Told> {
     if book.servers() != 2 {
         return None;
@@ -91,7 +91,7 @@ fn shown(book: &Book) -> Shown {
 enum Act {
     Put(Given),
     Remove(Table, Key),
-    // Stores a reading of a server: its number, and the file of the server's own end where it was reached.
+    // Stores a reading of a server: its number, and the file of the server's own end if it was reached.
     Store(u32, u64, Option<u32>),
     // Takes in a reading of server 1.
     Discover(u64, Option<u32>),
@@ -100,7 +100,7 @@ enum Act {
     Reload,
 }
 
-// `Stored` where a change was made; none where it doesn't fit.
+// `Stored` if a change was made; none if it doesn't fit.
 type Answer = Option<StoreAnswer>;
 
 const MADE: Answer = Some(StoreAnswer::Stored);
@@ -184,10 +184,10 @@ fn answer(alloc: Global, book: &mut Book, act: Act) -> Result<Answer, Memory> {
     }
 }
 
-// An act, its answer, and what is shown behind it.
+// An act, its answer, and the book after it.
 type Step = (Act, Answer, Shown);
 
-// The first step that is answered or shown otherwise, counted from 0.
+// The first step with another answer or another book after it, counted from 0.
 fn surprise_in(alloc: Global, book: &mut Book, steps: &[Step]) -> Result<Option<usize>, Memory> {
     for (place, (act, want, after)) in steps.iter().enumerate() {
         let answer = answer(alloc, book, *act)?;
@@ -243,7 +243,7 @@ const BRIDGES: [Step; 8] = [
         MADE,
         (None, Some((5, true, 3)), Some(3), false),
     ),
-    // an earlier reading is passed over, as at a store; a later one stands
+    // an earlier reading is passed over, as at a store; a later one counts
     (
         Act::Discover(4, Some(7)),
         MADE,
@@ -254,7 +254,7 @@ const BRIDGES: [Step; 8] = [
         MADE,
         (None, Some((6, true, 9)), Some(9), false),
     ),
-    // an instance that was forgotten has no bridge, and is added again where its server is reached
+    // an instance that was forgotten has no bridge, and is added again if its server is reached
     (
         Act::Remove(Table::Instance, REPLICA),
         MADE,
@@ -326,7 +326,7 @@ fn book_is_changed(rt: HostRuntime) {
     assert_eq!(rt; first_surprise(rt.alloc()), Ok(None));
 }
 
-// The rows in order: of two with one table and key the later stands.
+// The rows in order: of two with one table and key the later counts.
 const KEPT: [Given; 8] = [
     Given::Instance(0, SourceState::Detached(ServerNo(2)), 4, 7),
     Given::Instance(1, BY_MASTER, 3, 7),
@@ -338,7 +338,7 @@ const KEPT: [Given; 8] = [
     Given::Claim(3, 50),
 ];
 
-// What is kept behind the removal of the recovery and a change of the switch.
+// What is kept after the removal of the recovery and a change of the switch.
 const CHANGED: [Given; 7] = [
     Given::Instance(0, SourceState::Detached(ServerNo(2)), 4, 7),
     Given::Instance(1, BY_MASTER, 3, 7),
@@ -378,7 +378,7 @@ fn keep<K: Keeper>(alloc: Global, keeper: &mut K) -> Kept {
     Ok(true)
 }
 
-// A call by what the trait says.
+// A call of the trait.
 fn make_call<K: Keeper>(alloc: Global, keeper: &mut K, call: Call) -> Kept {
     match call {
         Call::Rows(given) => gives(alloc, keeper, given),
@@ -386,14 +386,14 @@ fn make_call<K: Keeper>(alloc: Global, keeper: &mut K, call: Call) -> Kept {
     }
 }
 
-// A keeper whose second and fourth call fail.
+// A row store whose second and fourth call fail.
 fn keeper(alloc: Global) -> Result<MemKeeper, Memory> {
     let fail_at = Vec::from_array(alloc, [2, 4])?;
     let rows = rows(alloc, &ROWS)?;
     MemKeeper::new(alloc, rows, fail_at)
 }
 
-// The first call that is answered otherwise, or behind which another number of calls has failed, counted from 0.
+// The first call that is answered otherwise, or after which another number of calls has failed, counted from 0.
 fn first_wrong(
     alloc: Global,
     keeper: &mut MemKeeper,

@@ -1,4 +1,4 @@
-//! Tests of the book: its rows and keepers, the rows that count, what commands ask of it, and what operators decide.
+//! Tests of the book: its rows and row stores, the rows that count, what commands ask of it, and what operators decide.
 #![tactic(auto)]
 
 #[cfg(test)]

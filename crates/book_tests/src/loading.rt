@@ -26,7 +26,7 @@ fn changes(
     loading(alloc, &OnePeriod(PERIOD), &counting, audit, at)
 }
 
-// What a load of these rows keeps at this moment; none where they make no audit.
+// What a load of these rows keeps at this moment; none if they make no audit.
 fn kept(alloc: Global, given: &[Given], at: Moment) -> Result<Option<Vec<Change>>, Memory> {
     let next = last_id(&rows(alloc, given)?).saturating_add(1);
     match loaded(alloc, counting(alloc, given)?, PERIOD, next)? {
@@ -85,7 +85,7 @@ const LOADED: [Given; 5] = [
     Given::Claim(16, 90),
 ];
 
-// A moment, rows that are kept, and those that are kept behind a load at it.
+// A moment, rows that are kept, and those that are kept after a load at it.
 const LOADS: [(Moment, &[Given], &[Given]); 2] = [
     (
         Moment(0),

@@ -46,7 +46,7 @@ pub(crate) fn label(alloc: Global, text: &str) -> Result<OwnedText, Memory> {
     Ok(OwnedText::new(String::from_str(alloc, text)?))
 }
 
-/// What is seen of a server whose own log ends at the beginning of this file.
+/// What is seen of a server whose own log ends at the start of this file.
 pub(crate) fn seen(alloc: Global, source: SourceState, file: u32) -> Seen {
     let start = Coord { file: 1, pos: 4 };
     Seen {

@@ -12,11 +12,11 @@ use Rattle.book_views.specs.Sources.{is_instance, seen_source, source_in}
 abbrev pub node_at : BookState → ServerNo → ℕ
 node_at b server = rank_of (by_name b.names) server.0
 
--- a server's node, where it is an instance
+-- a server's node, if it is an instance
 abbrev pub node_of : BookState → ServerNo → Option ℕ
 node_of b server = if is_instance b server then Some (node_at b server) else None
 
--- the node of the seen source, attached or detached, where that is an instance
+-- the node of the seen source, attached or detached, if that is an instance
 abbrev pub source_node : BookState → ServerNo → Option ℕ
 source_node b server = option_and_then (node_of b) (source_in (seen_source (instance_at b server)))
 

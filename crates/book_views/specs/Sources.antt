@@ -1,4 +1,4 @@
--- What a book tells of its servers, instances and their sources.
+-- What a book has of its servers, instances and their sources.
 use Rattle.std.specs.Prelude.{ℕ, Bool, false, ◌==◌, List, [], filter, slice_get, Option, Some, None, is_some}
 use Rattle.instance_keeper.specs.OrchBase.declared.server.ServerNo.{ServerNo}
 use Rattle.instance_keeper.specs.OrchBase.declared.server.Settings.{Settings}

@@ -11,7 +11,7 @@ use instance_keeper::Book;
 use std::alloc::Global;
 use topology_tree::Forest;
 
-// A server's node, where it is an instance.
+// A server's node, if it is an instance.
 fn node_of(book: &Book, no: ServerNo) -> Option<u32>
     requires { no.0 < length book.now.names }
     ensures { result ≡ node_of book.now no }
@@ -23,7 +23,7 @@ fn node_of(book: &Book, no: ServerNo) -> Option<u32>
     }
 }
 
-// The node of a server's source, where that is an instance.
+// The node of a server's source, if that is an instance.
 fn source_node(book: &Book, no: ServerNo) -> Option<u32>
     requires { no.0 < length book.now.names }
     ensures { result ≡ source_node book.now no }
@@ -46,9 +46,9 @@ fn source_nodes(alloc: Global, book: &Book) -> Result<Vec<Option<u32>>, Memory>
     Ok(nodes)
 }
 
-/// The forest of the book: a node for each server, by its rank in name order, whose parent is its seen source, attached
-/// or detached, where that is an instance of the book and the node doesn't come back to itself by following such
-/// sources. `Err` is want of memory.
+/// The forest of the book: a node for each server, by its rank in name order. Its parent is its seen source, attached
+/// or detached, if that is an instance of the book. The parent is left out if the node comes back to itself by
+/// following such sources. `Err` means out of memory.
 pub fn book_forest(alloc: Global, book: &Book) -> Result<Forest, Memory>
     ensures forest { IfOk result (λ f. f ≡ book_forest book.now) }
     ensures edges { IfOk result (λ f. IsForestOf (source_nodes book.now) f) }
@@ -60,7 +60,7 @@ pub fn book_forest(alloc: Global, book: &Book) -> Result<Forest, Memory>
     Forest::make(alloc, &nodes)
 }
 
-/// The server at a node of the forest: none where there are fewer servers.
+/// The server at a node of the forest: none if there are fewer servers.
 pub fn server_at(book: &Book, node: u32) -> Option<ServerNo>
     ensures server { result ≡ server_at book.now node }
     ensures within { IfSome result (λ server. server.0 < length book.now.names) }

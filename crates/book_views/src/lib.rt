@@ -6,6 +6,6 @@ mod sources;
 
 pub use forest::{book_forest, is_below, parent, server_at};
 use instance_keeper::orch_base;
-/// Want of memory.
+/// Out of memory.
 pub use instance_keeper::orch_base::Memory;
 pub use sources::{is_instance, label_at, replicas, seen_source};

@@ -49,7 +49,7 @@ fn is_attached_to(source: SourceState, i: ServerNo) -> bool
     }
 }
 
-/// The instances that are attached to a server, in name order. `Err` is want of memory.
+/// The instances that are attached to a server, in name order. `Err` means out of memory.
 pub fn replicas(alloc: Global, book: &Book, i: ServerNo) -> Result<Vec<ServerNo>, Memory>
     ensures { IfOk result (λ replicas. replicas.items ≡ replicas_of book.now i) }
 {

@@ -49,7 +49,7 @@ IsTold _ = Unit {0}
 abbrev fault : AttachFault → Result (Unit {0}) AttachFault
 fault f = Err f
 
--- what is answered by tests, each of which tells a fault or goes on
+-- what is answered by tests, each of which gives a fault or goes on
 module _ (f : AttachFault) where
   told-as : (g : AttachFault) → fault g ≡ fault f → IsTold g → IsTold f
   told-as g e h = let same : g ≡ f = cc in subst IsTold same h

@@ -58,7 +58,7 @@ part n (Request k a) = go (cases_Bool (k == n))
 part n (Write k size) = Other (λ h. cc) (λ b. refl)
 part n _ = Other (λ h. cc) (λ b. refl)
 
--- the last stop is found, or nothing but what was so before
+-- the last stop is found, or nothing that wasn't so before
 last-stop : (n : ℕ) (b : Bool) (es : List Exchange) → left_on n b es ≡ true → ((b ≡ true) × All (IsNoStart n) es) ⊎ IsLeftStopped n es
 last-stop n b [] h = inl (h, All-nil (IsNoStart n))
 last-stop n b (e ∷ es) h = go (part n e) (last-stop n (one_on n b e) es h)

@@ -1,4 +1,4 @@
--- What befalls an operation stops its job, for that cause.
+-- What happens to an operation stops its job, for that cause.
 use Rattle.std.proofs.Common.{◌≡◌, ℕ, ◌+◌, ◌≤◌, Bool, true, false, cond, not, List, [], refl, sym, ◌∙◌, ap, subst, Option, Some, None, Err}
 use Rattle.std.specs.Prelude.{is_some}
 use Rattle.cause_laws.proofs.Prelude.{Ask, AttachFault, Befell, Cause, Coord, Deed, Exchange, Goes, IsAnswered, IsMoved, IsSpent, IsUnmatched, Job}

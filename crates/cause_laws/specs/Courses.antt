@@ -42,8 +42,8 @@ abbrev pub AllWait : Op → ServerNo → Job → List Meeting → Type 0
 AllWait op n j [] = Unit {0}
 AllWait op n j (m ∷ ms) = IsWait op n j m × AllWait op n (turn_at j m).job ms
 
--- the turns so far end with the waits of one operation for a server, which was due for the first time behind those
--- before; with the wait that this turn is they are as many as the job has
+-- The turns so far end with the waits of one operation for a server, which was due for the first time after those
+-- before. With the wait that this turn is they are as many as the job has.
 pub record AreSpent (j : Job) (ms : List Meeting) (n : ServerNo) : Type 0 where
   pub before : List Meeting
   pub waits : List Meeting
@@ -55,7 +55,7 @@ pub record AreSpent (j : Job) (ms : List Meeting) (n : ServerNo) : Type 0 where
 
 -- ---- the end
 
--- nothing befalls the operation that is due
+-- nothing happens to the operation that is due
 abbrev pub IsFree : Job → Meeting → Type 0
 IsFree j m = (op : Op) (rest : List Op) (c : Cause) → j.ops ≡ op ∷ rest → Befell m.world j (deed_of op) c → ⊥
 

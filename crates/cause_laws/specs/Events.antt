@@ -1,4 +1,4 @@
--- Why a job stops: what befalls the operation that is due, in the world of that turn. And what a turn does else.
+-- Why a job stops: what happens to the operation that is due, in the world of that turn. And what a turn does else.
 use Rattle.std.specs.Prelude.{◌≡◌, ℕ, ◌+◌, ◌<◌, ◌≤◌, Bool, true, false, if◌then◌else◌, List, [], ◌∷◌, map, Option, Some, None, is_some, Err}
 use Rattle.cause_laws.specs.Prelude.{Apply, Attach, AttachAuto, Attached, AttachFault, Befall, Cause, Coord, Deed, Exchange, Fetch, Job, Line}
 use Rattle.cause_laws.specs.Prelude.{MatchFault, Op, Position, Purge, Request, Rotate, ServerNo, SourceState, Spot, Status, Turned, World, Write}
@@ -20,12 +20,12 @@ tries w (Some e) = can_attach w e
 abbrev pub only_where : Bool → ServerNo → Option ServerNo
 only_where b n = if b then Some n else None
 
--- the first of two servers, where it isn't reached, else the second
+-- the first of two servers, if it isn't reached, else the second
 abbrev pub first_away : World → ServerNo → ServerNo → ServerNo
 first_away w n m = if can_reach (server_at w n.0) then m else n
 
--- the server with which an operation has an exchange, a match with the first of two that isn't reached: nobody where it
--- is passed over, or ends the job
+-- the server with which an operation has an exchange, a match with the first of two that isn't reached: nobody if it is
+-- passed over, or ends the job
 abbrev pub speaks_with : World → Job → Deed → Option ServerNo
 speaks_with w j (deed.Look n from) = Some n
 speaks_with w j (deed.Request n a) = Some n
@@ -40,7 +40,7 @@ speaks_with w j (deed.Match n m every) = Some (first_away w n m)
 speaks_with w j (deed.CrossMatch n m) = only_where (tries w (attachment_of j (deed.CrossMatch n m))) n
 speaks_with w j (deed.Finish lines) = None
 
--- ---- what befalls an operation
+-- ---- what happens to an operation
 
 -- it speaks with the server, which is down or can't be reached
 pub record IsUnreached (w : World) (j : Job) (d : Deed) (n : ServerNo) : Type 0 where
@@ -76,7 +76,7 @@ pub record IsMoved (w : World) (d : Deed) (n : ServerNo) (source : SourceState) 
   pub is : seen.source ≡ source
   pub other : source ≡ Attached named → ⊥
 
--- no coordinate is known to which the server is to come, or it stands before it
+-- no coordinate is known to which the server is to come, or it is before it
 abbrev pub IsBefore : Option Coord → Coord → Type 0
 IsBefore None exec = Unit {0}
 IsBefore (Some to) exec = is_at_or_before to exec ≡ false
@@ -86,8 +86,8 @@ abbrev pub LacksSome : Option Position → Status → Type 0
 LacksSome None s = Unit {0}
 LacksSome (Some m) s = (uuid : ℕ) × (k : ℕ) × (holds m.set uuid k ≡ true) × (holds s.set uuid k ≡ false)
 
--- a status shows that the server isn't yet what the job waits for: it hasn't come so far, lacks what was seen of
--- another, or its applier is on and hasn't executed all that was read
+-- By a status the server isn't yet what the job waits for. It hasn't come so far, lacks what was seen of another, or
+-- its applier is on and hasn't executed all that was read.
 abbrev pub Misses : Job → Deed → Status → Type 0
 Misses j (deed.Await n to) s = IsBefore (aim_of j.seen to) s.exec
 Misses j (deed.AwaitSet n m) s = LacksSome (seen_of j.seen m.0) s
@@ -137,7 +137,7 @@ pub record IsUnmatched (w : World) (d : Deed) (n : ServerNo) (fault : MatchFault
   pub match : d ≡ deed.Match n other every
   pub answer : match_logs w n other every ≡ Err fault
 
--- what befell an operation that stopped its job, by the cause that is told; no operation meets three of them
+-- what happened to an operation that stopped its job, by the cause; no operation meets three of them
 abbrev pub Befell : World → Job → Deed → Cause → Type 0
 Befell w j d (cause.Unreachable n) = IsUnreached w j d n
 Befell w j d (cause.WaitSpent n) = IsSpent w j d n
@@ -155,7 +155,7 @@ Befell w j d (cause.HookFailed number exit) = ⊥
 
 -- ---- what a turn does
 
--- a change of source, where it can be made
+-- a change of source, if it can be made
 abbrev pub made : World → Option Exchange → List Exchange
 made w None = []
 made w (Some e) = if can_attach w e then e ∷ [] else []
@@ -179,8 +179,8 @@ changes_by w j (deed.Match n m every) = []
 changes_by w j (deed.CrossMatch n m) = made w (attachment_of j (deed.CrossMatch n m))
 changes_by w j (deed.Finish lines) = []
 
--- the operation is done, and those behind it are left; a wait is done where its server isn't short, or at its last one
--- where that fails nothing
+-- the operation is done, and those after it are left; a wait is done if its server isn't short, or at its last one if
+-- that fails nothing
 pub record IsDone (w : World) (j : Job) (rest : List Op) (d : Deed) (t : Turned) : Type 0 where
   pub going : t.step ≡ step.Going
   pub left : t.job.ops ≡ rest
@@ -207,7 +207,7 @@ pub record IsEnded (d : Deed) (t : Turned) : Type 0 where
   pub done : t.step ≡ step.Done lines
   pub changes : t.exchanges ≡ []
 
--- the job fails for what befell the operation, and starts what it has in its hands
+-- the job fails for what happened to the operation, and starts what it has in its hands
 pub record IsStopped (w : World) (j : Job) (d : Deed) (t : Turned) : Type 0 where
   pub cause : Cause
   pub befell : Befell w j d cause

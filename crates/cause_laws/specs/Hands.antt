@@ -9,7 +9,7 @@ is_in_hands j n = list_any (λ k. k.0 == n) j.hands
 abbrev pub IsNoStart : ℕ → Exchange → Type 0
 IsNoStart n e = e ≡ Request n asking.Start → ⊥
 
--- of these exchanges one stops the server, and none behind it starts it; a start up to a coordinate is no start
+-- of these exchanges one stops the server, and none after it starts it; a start up to a coordinate is no start
 pub record IsLeftStopped (n : ℕ) (es : List Exchange) : Type 0 where
   pub which : Threads
   pub before : List Exchange

@@ -15,8 +15,8 @@ pub fn waits_are_spent_last()
         AreSpent j ms n }
 {}
 
-/// A job none of whose operations is befallen by anything is done, within the turns that it has left, with the lines of
-/// its last operation.
+/// A job is done, within the turns that it has left, with the lines of its last operation, if nothing happens to its
+/// operations.
 pub fn undisturbed_jobs_are_done()
     ensures done { (j : Job) (ms : List Meeting) → j.waited ≤ j.wait → turns_left j < length ms →
         AllFree j ms → IsDoneIn j ms }

@@ -6,8 +6,8 @@ ghost use Rattle.cause_laws.specs.Prelude.{World, by_deed, deed_of, turned};
 ghost use Rattle.cause_laws.specs.Prelude.step;
 ghost use Rattle.cause_laws.specs.Events.{Befell, IsTaken};
 
-/// A job fails exactly for what befell the operation that was due, in that very turn: its server wasn't reached, was
-/// moved, answered the attachment so, or was short at the last wait. The same is so of an operation of any job.
+/// A job fails exactly for what happened to the operation that was due, in that very turn. Its server wasn't reached,
+/// was moved, answered the attachment so, or was short at the last wait. The same is so of an operation of any job.
 pub fn jobs_fail_for_what_befell()
     ensures only { (w : World) (read : ℕ) (now : AMoment) (j : Job) (op : AnOp) (rest : List AnOp)
         (c : Why) (lines : List ALine) → j.ops ≡ op ∷ rest →
@@ -22,8 +22,8 @@ pub fn jobs_fail_for_what_befell()
         (o : Option Reading) × (by_deed w read now j rest d ≡ Stops c o) }
 {}
 
-/// A turn of a job does the operation that is due, is one more wait of it, ends the job with its lines, or fails for
-/// what befell that operation. Without an operation the job is done, with no lines.
+/// A turn of a job does the operation that is due, or is one more wait of it. Or it ends the job with its lines, or
+/// fails for what happened to that operation. Without an operation the job is done, with no lines.
 pub fn turns_do_one_operation()
     ensures one { (w : World) (read : ℕ) (now : AMoment) (j : Job) (op : AnOp) (rest : List AnOp) →
         j.ops ≡ op ∷ rest → IsTaken w j rest (deed_of op) (turned w read now j) }

@@ -7,8 +7,9 @@ ghost use Rattle.cause_laws.specs.Prelude.step;
 ghost use Rattle.cause_laws.specs.Courses.{AllGoing, Meeting, exchanges_in, job_after, turn_at};
 ghost use Rattle.cause_laws.specs.Hands.{IsLeftStopped, is_in_hands};
 
-/// Over a job's turns a server is in its hands exactly where one of them stopped it and none has started it since. Each
-/// is there once. A job that fails starts each of them, and does nothing else. What is in its hands is leased to it.
+/// Over a job's turns a server is in its hands exactly if one of them stopped it and none has started it after that.
+/// Each is there once. A job that fails starts each of them, and does nothing else. What is in its hands is leased to
+/// it.
 pub fn hands_are_what_is_left_stopped()
     ensures left { (j : Job) (ms : List Meeting) (n : ℕ) → j.hands ≡ [] → AllGoing j ms →
         is_in_hands (job_after j ms) n ≡ true → IsLeftStopped n (exchanges_in j ms) }

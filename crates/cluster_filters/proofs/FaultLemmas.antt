@@ -1,4 +1,4 @@
--- The fault of one form is that of the list, where the forms before it have their patterns.
+-- The fault of one form is that of the list, if the forms before it have their patterns.
 use Rattle.std.proofs.Common.{◌≡◌, ℕ, ◌<◌, Bool, false, not, List, length, take, get_or, Some, None, IfSome, String, string_bytes, sym, ap, ◌∙◌}
 use Rattle.std.specs.List.{position}
 use Rattle.cluster_filters.specs.Faults.{bad_place}

@@ -32,7 +32,7 @@ position_or_len-map-at p f (y ∷ ys) zero x lt is before passes = rw (← is, p
 position_or_len-map-at p f (y ∷ ys) (suc i) x lt is before passes =
     passed_over (p (f y)) _ _ i before (λ e. position_or_len-map-at p f ys i x (omega arith) is e passes)
 
--- where none before it passes, the place is its own
+-- if none before it passes, the place is its own
 pub position-map-at : {A B : Type 0} (p : B → Bool) (f : A → B) (xs : List A) (i : ℕ) (x : A) → i < length xs →
     x ≡ get_or xs i x → position p (map f (take i xs)) ≡ None → p (f x) ≡ true → position p (map f xs) ≡ Some i
 position-map-at {A} p f xs i x lt is none passes =

@@ -1,4 +1,4 @@
--- What `regex` promises of a text, in this crate's words.
+-- What `regex` promises of a text, by this crate's definitions.
 use Rattle.std.proofs.Common.{◌≡◌, ◌≢◌, ℕ, ◌<◌, ◌≤◌, true, false, nat_le, List, length, get_or, Option, Some, None, option_map, is_some, IsSomeAnd, IfSome, refl, inl, inr, arith}
 use Rattle.std.proofs.lemmas.Bool.Decides.{nat_tests}
 use Rattle.std.specs.Option.{option_map_or}

@@ -1,4 +1,4 @@
--- What `strip_prefix` gives, in this crate's words.
+-- What `strip_prefix` gives, by this crate's definitions.
 use Rattle.std.proofs.Common.{◌≡◌, ℕ, true, false, List, drop, Option, Some, None, option_map, MatchOption, sym, ap, subst, ◌∙◌, Bor}
 use Rattle.std.specs.Str.Pattern.{FindsTextPrefix, StripsPrefix}
 use Rattle.std.specs.Str.{IsCharBoundary}

@@ -23,7 +23,7 @@ form_of text = if pointwise nat_eq text (codes "*") then Everything else
     option_map_or AliasIs (behind (codes "alias=") text)
     (option_map_or AliasHas (behind (codes "alias~=") text) (NameHas text))
 
--- the form's regular expression, where it has one, has a pattern
+-- the form's regular expression, if it has one, has a pattern
 abbrev pub has_pattern : Form → Bool
 has_pattern Everything = true
 has_pattern (AliasIs text) = true

@@ -1,4 +1,4 @@
--- Regular expressions: what `regex` reads in a text, and where it is found. Rust's regex syntax, "Syntax".
+-- Regular expressions: what `regex` reads in a text, and the place at which it is found. Rust's regex syntax, "Syntax".
 use Rattle.std.specs.Prelude.{ℕ, Bool, false, List, Option, option_map, is_some, nat_le}
 use Rattle.std.specs.Option.{option_map_or}
 use Rattle.std.specs.Str.{chars}
@@ -6,7 +6,7 @@ use Rattle.regex_syntax.specs.Brackets.{Nested}
 use Rattle.regex_syntax.specs.Grammar.{read}
 use Rattle.regex.specs.Patterns.{Re, find_str, default_config}
 
--- the text's pattern, and how deep it nests; nothing where the text is no regular expression
+-- the text's pattern, and how deep it nests; nothing if the text is no regular expression
 unfoldable pub pattern_of : List ℕ → Option (Nested Re)
 pattern_of text = option_map (λ p. p.0) (read default_config (chars text))
 

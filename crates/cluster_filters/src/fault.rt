@@ -12,7 +12,7 @@ pub enum FilterFault {
     /// The text at this index, from 0, is the first that is no regular expression, or nests past the
     /// limit of `regex`.
     BadPattern(usize),
-    /// Want of memory, or a compiled regular expression past the room that `regex` grants one.
+    /// Out of memory, or a compiled regular expression past the room that `regex` grants one.
     Memory,
 }
 

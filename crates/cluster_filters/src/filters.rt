@@ -26,11 +26,14 @@ impl Model for Filters {
 }
 
 impl Filters {
-    /// Reads each form: `*` for every cluster, `alias=TEXT` for the cluster whose alias is exactly the
-    /// text, `alias~=REGEX` where the regular expression is found in the alias; any other form is a
-    /// regular expression that is found anywhere in the cluster's name. `BadPattern` tells the index of
-    /// the first form whose regular expression is none, or nests past the limit of `regex`; no list with
-    /// such a form is read.
+    /// Reads each form.
+    /// - `*` is for every cluster.
+    /// - `alias=TEXT` is for the cluster whose alias is exactly the text.
+    /// - `alias~=REGEX` is for clusters in whose alias the regular expression is found.
+    /// - Any other form is a regular expression that is found anywhere in the cluster's name.
+    ///
+    /// `BadPattern` has the index of the first form whose regular expression is none, or nests past the limit of
+    /// `regex`. No list with such a form is read.
     pub fn read(alloc: Global, forms: &[String]) -> Result<Filters, FilterFault>
         ensures value { IfOk result (λ filters. filters ≡ forms_of (texts_of forms.now)) }
         ensures taken { OnOk result (first_bad (forms_of (texts_of forms.now)) ≡ None) }
@@ -44,8 +47,9 @@ impl Filters {
         Ok(Filters { filters })
     }
 
-    /// Whether a list may have this form: nothing, or `BadPattern(0)` where its regular expression is none, or nests
-    /// past the limit of `regex`.
+    /// Whether a list may have this form: nothing, or `BadPattern(0)` if its regular expression is none, or nests past
+    /// the limit of `regex`. `Memory` comes only if memory runs out, or for a compiled regular expression past the room
+    /// that `regex` grants one.
     pub fn test(alloc: Global, form: &str) -> Result<(), FilterFault>
         ensures taken { OnOk result (has_pattern (form_of form.now) ≡ true) }
         ensures refused { IfErr result (λ fault. IfSome (bad_place fault)
@@ -55,8 +59,7 @@ impl Filters {
         Ok(())
     }
 
-    /// Whether some form matches the cluster with this name and this alias. `Memory` only for want of
-    /// memory.
+    /// Whether some form matches the cluster with this name and this alias. `Memory` only if memory runs out.
     pub fn matches(&self, alloc: Global, name: &str, alias: &str) -> Result<bool, Memory>
         ensures { IfOk result (λ matched. matched ≡ some_matches name.now alias.now self.now) }
     {

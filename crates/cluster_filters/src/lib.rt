@@ -9,5 +9,5 @@ mod pattern;
 pub use fault::FilterFault;
 pub use filters::Filters;
 pub use pattern::Pattern;
-/// Want of memory.
+/// Out of memory.
 pub use std::alloc::AllocError as Memory;

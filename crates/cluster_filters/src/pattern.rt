@@ -29,8 +29,9 @@ impl Model for Pattern {
 }
 
 impl Pattern {
-    /// Compiles a regular expression in the syntax of Rust's `regex`. `BadPattern(0)` only where the text
-    /// is none, or nests past the limit of `regex`; no such text is read.
+    /// Compiles a regular expression in the syntax of Rust's `regex`. `BadPattern(0)` only if the text is none, or
+    /// nests past the limit of `regex`. No such text is read. `Memory` comes only if memory runs out, or for a compiled
+    /// regular expression past the room that `regex` grants one.
     pub fn read(alloc: Global, text: &str) -> Result<Pattern, FilterFault>
         ensures value { IfOk result (λ pattern. pattern ≡ text.now) }
         ensures taken { OnOk result (is_pattern text.now ≡ true) }
@@ -40,7 +41,7 @@ impl Pattern {
         Pattern::read_at(alloc, 0, text)
     }
 
-    /// The same, with the index that a bad pattern is told by.
+    /// The same, with the index that `BadPattern` reports.
     pub(crate) fn read_at(alloc: Global, index: usize, text: &str) -> Result<Pattern, FilterFault>
         ensures value { IfOk result (λ pattern. pattern ≡ text.now) }
         ensures taken { OnOk result (is_pattern text.now ≡ true) }
@@ -54,7 +55,7 @@ impl Pattern {
         }
     }
 
-    /// Whether it is found anywhere in the text. `Memory` only for want of memory.
+    /// Whether it is found anywhere in the text. `Memory` only if memory runs out.
     pub fn found(&self, alloc: Global, text: &str) -> Result<bool, Memory>
         ensures { IfOk result (λ found. found ≡ is_found self.now text.now) }
     {

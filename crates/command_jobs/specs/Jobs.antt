@@ -15,7 +15,7 @@ use Rattle.command_jobs.specs.Prelude.paths
 use Rattle.command_jobs.specs.Prelude.purpose
 use Rattle.command_jobs.specs.Prelude.unended
 
--- by which permission and plan the command's job goes; none where it begins no job
+-- by which permission and plan the command's job goes; none if it begins no job
 abbrev pub planner_for : CommandName → Option Planner
 planner_for name = planner_of (route_of name)
 

@@ -16,9 +16,9 @@ use permission::PermitFault;
 use std::alloc::Global;
 use unended_jobs::Unended;
 
-/// `Refused` exactly with the lowest refusal of the permission table that applies to the command, where each
-/// transaction is a mark whose number is divisible by `every`, and none where that is 0. It changes nothing. `Memory`
-/// comes only for want of memory.
+/// `Refused` exactly with the lowest refusal of the permission table that applies to the command. Each transaction is a
+/// mark whose number is divisible by `every`, and none is if that is 0. It changes nothing. `Memory` comes only if
+/// memory runs out.
 #[tactic(auto, using(crate::proofs::Planned::planned))]
 pub fn permit(
     alloc: Global,
@@ -47,7 +47,7 @@ pub fn permit(
     }
 }
 
-/// The servers of which the command's job takes the leases.
+/// The servers of which the command's job takes the leases. `Err` means out of memory.
 #[tactic(auto, using(crate::proofs::Planned::planned))]
 pub fn leases(
     alloc: Global,
@@ -73,7 +73,7 @@ pub fn leases(
     }
 }
 
-// The replicas of an instance are regrouped; where none is given, nothing is.
+// The replicas of an instance are regrouped. If none is given, nothing is.
 fn regroup_about(
     alloc: Global,
     book: &Book,
@@ -92,8 +92,9 @@ fn regroup_about(
     }
 }
 
-/// The command's job, with this number, whose operations may wait so often each, and by marks of this distance: the
-/// operations of its plan, ended by its lines, or of a regroup what is done with the replicas. `Err` is want of memory.
+/// The command's job, with this number, whose operations may wait so often each, and by marks of this distance. It has
+/// the operations of its plan, ended by its lines, or for a regroup what is done with the replicas. `Err` means out of
+/// memory.
 #[tactic(auto, using(crate::proofs::Planned::planned))]
 pub fn job(
     alloc: Global,

@@ -11,7 +11,7 @@ use unended_jobs::{
     commands, instance_keeper_items, job_plans, operations_items, orch_base, recovery_plans_items,
     recovery_turns, server_model,
 };
-/// Want of memory.
+/// Out of memory.
 pub use permission::PermitFault;
 pub use regrouping::RegroupJob;
 pub use unended_jobs::orch_base::Memory;

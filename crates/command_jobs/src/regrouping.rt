@@ -42,8 +42,8 @@ fn means_by(by: Regrouping, every: u64) -> Means
 }
 
 impl RegroupJob {
-    /// The regroup of an instance's replicas, as the job of this number, whose operations may wait so often each: by
-    /// bridges of the book or by GTIDs, or by marks of this distance. `Err` is want of memory.
+    /// The regroup of an instance's replicas, as the job of this number, whose operations may wait so often each. It
+    /// goes by bridges of the book or by GTIDs, or by marks of this distance. `Err` means out of memory.
     pub fn make(
         alloc: Global,
         book: &Book,
@@ -66,7 +66,8 @@ impl RegroupJob {
     }
 
     /// What the next turn does on this world and with this book, and observes with this read number at this moment. It
-    /// changes nothing. The servers that the regroup names are there, and the book is of these servers.
+    /// changes nothing. The servers that the regroup names are there, and the book is of these servers. `Err` means out
+    /// of memory.
     pub fn look(
         &self,
         alloc: Global,
@@ -88,8 +89,8 @@ impl RegroupJob {
         self.job.look(alloc, world, book, read, moment)
     }
 
-    /// Does what was looked up on this regroup and this world, and hands on what the look told. At want of memory
-    /// nothing has changed; it comes only where the regroup goes on and nothing is observed.
+    /// Does what was looked up on this regroup and this world, and hands on what the look foretold. If memory runs out,
+    /// nothing has changed. That comes only if the regroup goes on and nothing is observed.
     pub fn turn(
         &mut self,
         alloc: Global,

@@ -7,7 +7,7 @@ next f [] i d lt = absurd (omega arith)
 next f (x ∷ xs) zero d lt = refl
 next f (x ∷ xs) (suc i) d lt = next f xs i d (omega arith)
 
--- the item at a place, and those behind it
+-- the item at a place, and those after it
 pub item_then : {A B : Type 0} (f : A → B) (xs : List A) (i : ℕ) (d : A) → i < length xs → map f (drop i xs) ≡ f (slice_index_or xs i d) ∷ map f (drop (i + 1) xs)
 item_then f xs i d lt =
     let one_more : suc i ≡ i + 1 = omega arith in

@@ -20,7 +20,7 @@ some_kind : (kinds : Kinds) (k : ErrorKind) (rows : List Row) → IsAmong k kind
 some_kind [] k rows h = absurd h
 some_kind (x ∷ xs) k rows h = refl
 
--- an error of another kind than memory comes of the words
+-- an error of another kind than memory comes from the command line
 pub no_matches : (app : App) (texts : List Text) (k : ErrorKind) → app ≡ orch → (k ≡ OutOfMemory → ⊥) → (k ≡ OutOfMemory) ⊎ IsAmong k (fault_of app texts) → rows_of_texts texts ≡ Err BadWords
 unfolding rows_of_texts
 no_matches app texts k is other (inl m) = absurd (other m)

@@ -1,4 +1,4 @@
--- What words that are taken have.
+-- What an accepted command line has.
 use Rattle.command_line.proofs.Prelude.{AreTaken, BadWords, Counts, Dump, Generate, Instances, IsDrawn, Live, Own, Places, Row, Run, Text, Texts}
 use Rattle.command_line.proofs.Prelude.{Usage, and_parts as both_true, bounded_in, command_in, counts_in, drawing_by, duration_in, first_of, has_flag}
 use Rattle.command_line.proofs.Prelude.{has_needed, instances_in, is_drawable, is_given, is_pattern, is_plan_word, is_taken_word, is_within_bound}
@@ -22,14 +22,14 @@ bind_ok (Err u) f y e = cc
 
 -- ---- one option
 
--- what is read where it is given has what each that is read has
+-- what is read if it is given has what each that is read has
 has_read : {A : Type 0} (P : A → Type 0) (read : List ℕ → Result A Usage) (o : Option Text) (x : Option A) → ((text : Text) (y : A) → read text ≡ Ok y → P y) → maybe read o ≡ Ok x → IfSome x P
 has_read P read None x has e = subst (λ o. IfSome o P) (same_ok None x e) tt
 has_read P read (Some text) x has e =
     let y = bind_ok (read text) _ x e in
     subst (λ o. IfSome o P) (same_ok (Some y.0) x y.2) (has text y.0 y.1)
 
--- it is there where it is given
+-- it is there if it is given
 read_there : {A : Type 0} (read : List ℕ → Result A Usage) (o : Option Text) (x : Option A) → maybe read o ≡ Ok x → is_some x ≡ is_some o
 read_there read None x e = ap is_some (sym (same_ok None x e))
 read_there read (Some text) x e =

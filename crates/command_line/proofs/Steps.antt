@@ -36,7 +36,7 @@ and_true : (b c : Bool) → b ≡ true → c ≡ (b && c)
 and_true true c e = refl
 and_true false c e = absurd cc
 
--- a word that is UTF-8 leaves it to those behind it
+-- an argument that is UTF-8 leaves it to those after it
 pub utf8_behind : (words : List (Vec ℕ Global)) (i : ℕ) (d : Vec ℕ Global) → i < length words → IsUtf8 (get_or words i d).items
     → list_all is_utf8 (map bytes (drop i words)) ≡ list_all is_utf8 (map bytes words) → list_all is_utf8 (map bytes (drop (i + 1) words)) ≡ list_all is_utf8 (map bytes words)
 utf8_behind words i d lt good so_far =

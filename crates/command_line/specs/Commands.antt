@@ -1,4 +1,4 @@
--- What words name, whether it has the options that it needs, and whether it has a plan.
+-- What `-c` names, whether it has the options that it needs, and whether it has a plan.
 use Rattle.std.specs.Prelude.{Bool, true, false, List, ◌&&◌, ◌||◌, not, codes, is_some, Option, Some, None, Result, Ok, Err, if◌then◌else◌}
 use Rattle.std.specs.Option.{option_map_or}
 use Rattle.std.specs.Str.{bytes_eq}
@@ -15,7 +15,7 @@ use Rattle.command_line.specs.declared.usage.Usage.TheVariants.{BadWords}
 use Rattle.command_line.specs.Usages.{or_bad}
 use Rattle.orch_base.specs.Gives.{◌>>=◌}
 
--- what the program itself does by this word, where it is none of the commands'
+-- what the program itself does by this name, if it is none of the commands'
 abbrev pub own_at : Text → Option Own
 own_at word =
     if bytes_eq word (codes "run") then Some Run else
@@ -27,7 +27,7 @@ own_at word =
 abbrev pub is_taken_word : Text → Bool
 is_taken_word word = is_some (own_at word) || is_some (name_of word)
 
--- what the command of this word needs; the program's own words need nothing
+-- what the command of this name needs; the program's own need nothing
 unfoldable pub needs_at : Text → Needs
 needs_at word = option_map_or needs_of (name_of word) nothing
 
@@ -49,7 +49,8 @@ command_in rows = do
 
 -- ---- plans
 
--- a command that begins a job: that of a recovery or a regroup has several branches, of which the expected one is told
+-- a command that begins a job: that of a recovery or a regroup has several branches, of which the expected one is
+-- printed
 abbrev pub has_plan : Route → Bool
 has_plan Discovers = false
 has_plan Forgets = false

@@ -46,15 +46,15 @@ orch =
 abbrev pub rows_in : ArgMatches → List Row
 rows_in matches = rows_of (found_of matches)
 
--- the words as texts
+-- the arguments as texts
 unfoldable pub texts_of : List (List ℕ) → Result (List Text) Usage
 texts_of words = if list_all is_utf8 words then Ok words else Err BadWords
 
--- the matches, where no kind of error comes
+-- the matches, if no kind of error comes
 abbrev pub unless_faulty : Kinds → List Row → Result (List Row) Usage
 unless_faulty [] rows = Ok rows
 unless_faulty (kind ∷ kinds) rows = Err BadWords
 
--- clap's matches, where it gives some
+-- clap's matches, if it gives some
 unfoldable pub rows_of_texts : List Text → Result (List Row) Usage
 rows_of_texts texts = unless_faulty (fault_of orch texts) (matches_of orch texts)

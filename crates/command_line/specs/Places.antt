@@ -1,4 +1,4 @@
--- What the words mean.
+-- What the command line means.
 use Rattle.std.specs.Prelude.{ℕ, ◌-◌, ◌^◌, List, codes, Bool, true, false, Option, Some, None, Result, Ok, Err, if◌then◌else◌}
 use Rattle.std.specs.Option.{option_map_or}
 use Rattle.std.specs.Str.{bytes_eq}
@@ -95,9 +95,9 @@ places_in rows = do
     plan = plan;
   })
 
--- what the words mean, where they are taken: they are UTF-8, clap gives matches, `-c` names what the program itself
--- does or a command and has the options that it needs, each value reads, what is to be drawn is within its bound, and
--- a plan is asked for of a command that has one
+-- What the command line means, if it is accepted. The arguments are UTF-8, clap gives matches, and `-c` names what the
+-- program itself does or a command and has the options that it needs. Each value reads, what is to be drawn is within
+-- its bound, and a plan is asked for only for a command that has one.
 unfoldable pub places_of : List (List ℕ) → Result Places Usage
 places_of words = do
   texts ← texts_of words
@@ -112,7 +112,7 @@ drawing_by (Some Generate) p = Some (record { seed = p.seed; servers = p.servers
 drawing_by (Some Dump) p = None
 drawing_by (Some Live) p = None
 
--- the scenario that the words ask to draw; elsewhere they ask for one that is read
+-- the scenario that the command line asks to draw; if none, it asks for one that is read
 abbrev pub drawing_of : Places → Option Drawing
 drawing_of p = drawing_by (own_at p.command) p
 
@@ -123,6 +123,6 @@ is_live_word (Some Generate) = false
 is_live_word (Some Dump) = false
 is_live_word (Some Live) = true
 
--- the words ask to run the scenario in threads
+-- the command line asks to run the scenario in threads
 abbrev pub is_live : Places → Bool
 is_live p = is_live_word (own_at p.command)

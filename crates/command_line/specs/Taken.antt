@@ -1,4 +1,4 @@
--- What words that are taken have.
+-- What an accepted command line has.
 use Rattle.std.specs.Prelude.{◌≡◌, ◌≤◌, Bool, true, ◌&&◌, ◌||◌, not, is_some, length, IfSome}
 use Rattle.cluster_filters.specs.Patterns.{is_pattern}
 use Rattle.commands.specs.declared.needs.Needs.{Needs}
@@ -17,8 +17,8 @@ pub record IsDrawn (d : Drawing) : Type 0 where
   pub servers : 1 ≤ d.servers
   pub bound : is_drawable d.servers d.turns ≡ true
 
--- The word is the program's own or a command's, what it needs is there, each number, text and pattern is in its range,
--- and so is what is to be drawn; where a plan is asked for the command has one.
+-- The name is the program's own or a command's, and what it needs is there. Each number, text and pattern is in its
+-- range, and so is what is to be drawn. If a plan is asked for, the command has one.
 pub record AreTaken (p : Places) : Type 0 where
   pub word : is_taken_word p.command ≡ true
   pub needs : are_there (needs_at p.command) p ≡ true

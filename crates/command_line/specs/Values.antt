@@ -38,7 +38,7 @@ name_or_bad (Err e) = Err BadWords
 abbrev pub name_in : List ℕ → Result HostPort Usage
 name_in text = name_or_bad (name_at text)
 
--- what reads, or words that aren't taken
+-- what reads, or `BadWords`
 abbrev pub or_bad : {A : Type 0} → Option A → Result A Usage
 or_bad None = Err BadWords
 or_bad (Some x) = Ok x

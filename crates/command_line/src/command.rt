@@ -1,4 +1,4 @@
-//! What words name.
+//! What `-c` names.
 
 ghost use Rattle.std.specs.Prelude.{◌≡◌};
 ghost use Rattle.orch_base.specs.Gives.{Gives};
@@ -21,14 +21,14 @@ pub enum Own {
     Run,
     /// `generate`: a scenario is drawn.
     Generate,
-    /// `dump`: the servers of a scenario behind its turns, as a scenario.
+    /// `dump`: the servers of a scenario after its turns, as a scenario.
     Dump,
     /// `live`: a scenario is run in threads.
     Live,
 }
 
 impl Own {
-    /// What the program itself does by this word; None for the commands' words, and for any other text.
+    /// What the program itself does by this name. `None` for the commands' names, and for any other text.
     pub fn read(word: &str) -> Option<Own>
         ensures { result ≡ own_at word.now }
     {
@@ -53,7 +53,7 @@ pub fn is_taken_word(word: &str) -> bool
     Own::read(word).is_some() || CommandName::read(word).is_some()
 }
 
-// What the command of this word needs; the program's own words need nothing.
+// What the command of this name needs; the program's own need nothing.
 #[tactic(auto, unfolding(crate::specs::Commands::needs_at))]
 fn needs_at(word: &str) -> Needs
     ensures { result ≡ needs_at word.now }
@@ -114,7 +114,7 @@ fn is_plan_word(word: &str) -> bool
     }
 }
 
-/// Whether a plan is asked for. Of a command that has none it is `BadWords`.
+/// Whether a plan is asked for. For a command that has none it is `BadWords`.
 pub(crate) fn plan_in(word: &str, asked: bool) -> Result<bool, Usage>
     ensures { Gives (λ b. b) usage_fault result (plan_in word.now asked) }
 {

@@ -1,13 +1,13 @@
-//! Laws of the words that are taken, over their definitions alone.
+//! Laws of accepted command lines, over their definitions alone.
 
 ghost use Rattle.std.specs.Prelude.{◌≡◌, ℕ, List, Ok};
 ghost use Rattle.command_line.specs.declared.parts.Places.{Places};
 ghost use Rattle.command_line.specs.Places.{places_of};
 ghost use Rattle.command_line.specs.Taken.{AreTaken};
 
-/// Words that are taken name what the program itself does or a command; each option that the command needs is there,
-/// each number, text and pattern is in its range, what is to be drawn is within its bound, and a command of which a
-/// plan is asked for has one.
+/// An accepted command line names what the program itself does or a command. Each option that the command needs is
+/// there. Each number, text and pattern is in its range, and what is to be drawn is within its bound. A command of
+/// which a plan is asked for has one.
 pub fn taken_words_are_sound()
     ensures { (words : List (List ℕ)) (p : Places) → places_of words ≡ Ok p → AreTaken p }
 {}

@@ -1,4 +1,4 @@
-//! The words of the command line, read over `clap`.
+//! The command line, read over `clap`.
 #![tactic(auto)]
 
 mod command;
@@ -12,7 +12,7 @@ mod words;
 pub use command::{Own, is_taken_word};
 pub use command_routes;
 pub use laws::taken_words_are_sound;
-/// Want of memory.
+/// Out of memory.
 pub use orch_base::Memory;
 pub use parts::{Drawing, Places};
 pub use usage::Usage;

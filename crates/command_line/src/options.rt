@@ -1,4 +1,4 @@
-//! The command line as `clap` knows it, and what it finds in the words.
+//! The command line as `clap` knows it, and what it finds in the arguments.
 
 ghost use Rattle.std.specs.Prelude.{◌≡◌, IfOk, map, option_map};
 ghost use Rattle.clap.specs.Simple.{app_of, with_rule};
@@ -80,7 +80,7 @@ fn orch<'a>(alloc: Global) -> Result<Command<'a>, Memory>
     with_flag(alloc, command, "plan")
 }
 
-/// The words as texts; bytes that aren't UTF-8 are `BadWords`.
+/// The arguments as texts. Bytes that aren't UTF-8 are `BadWords`.
 pub(crate) fn texts_of(alloc: Global, words: &[Vec<u8>]) -> Result<Vec<&str>, Usage>
     ensures { Gives (λ v. map (λ s. s.now) v.items) usage_fault result (texts_of (map (λ w. w.items) words.now)) }
 {
@@ -94,7 +94,7 @@ pub(crate) fn texts_of(alloc: Global, words: &[Vec<u8>]) -> Result<Vec<&str>, Us
     Ok(texts)
 }
 
-/// clap's matches; where it gives none, `BadWords`.
+/// clap's matches; if it gives none, `BadWords`.
 pub(crate) fn matches_of<'a>(alloc: Global, texts: &'a [&'a str]) -> Result<ArgMatches<'a>, Usage>
     ensures { Gives rows_in usage_fault result (rows_of_texts (map (λ s. s.now) texts.entry.now)) }
 {
@@ -108,7 +108,7 @@ pub(crate) fn matches_of<'a>(alloc: Global, texts: &'a [&'a str]) -> Result<ArgM
     }
 }
 
-/// The text of an option, where it is given.
+/// The text of an option, if it is given.
 pub(crate) fn text_of<'a>(matches: &ArgMatches<'a>, id: &str) -> Option<&'a str>
     ensures { option_map (λ s. s.now) result ≡ first_of id.now (rows_in matches.now) }
 {

@@ -72,7 +72,7 @@ pub struct Drawing {
 }
 
 impl Places {
-    /// The scenario that the words ask to draw; elsewhere they ask for one that is read.
+    /// The scenario that the command line asks to draw. If none, it asks for one that is read.
     pub fn drawing(&self) -> Option<Drawing>
         ensures { result ≡ drawing_of self.now }
     {
@@ -86,7 +86,7 @@ impl Places {
         }
     }
 
-    /// Whether the words ask to run the scenario in threads.
+    /// Whether the command line asks to run the scenario in threads.
     pub fn is_live(&self) -> bool
         ensures { result ≡ is_live self.now }
     {

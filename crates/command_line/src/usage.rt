@@ -1,4 +1,4 @@
-//! Why words give nothing.
+//! Why a command line gives nothing.
 
 ghost use Rattle.std.specs.Prelude.{◌≡◌};
 ghost use Rattle.command_line.specs.declared.usage.Usage.TheVariants.{Memory as NoMemory};
@@ -7,12 +7,12 @@ use crate::Memory;
 use std::alloc::AllocFailed;
 use std::fmt;
 
-/// Why the words of a command line give nothing.
+/// Why a command line gives nothing.
 #[derive(Clone, Copy, Debug, PartialEq, Eq)]
 pub enum Usage {
-    /// The words aren't taken.
+    /// The command line isn't accepted.
     BadWords,
-    /// Want of memory.
+    /// Out of memory.
     Memory,
 }
 

@@ -21,7 +21,7 @@ fn name_in(alloc: Global, text: &str) -> Result<Name, Usage>
     }
 }
 
-/// A server's name, where one is given.
+/// A server's name, if one is given.
 pub(crate) fn maybe_name(alloc: Global, text: Option<&str>) -> Result<Option<Name>, Usage>
     ensures { Gives (λ n. n) usage_fault result (maybe name_in (option_map (λ s. s.now) text.entry)) }
 {
@@ -40,7 +40,7 @@ fn rule_in(text: &str) -> Result<Rule, Usage>
     }
 }
 
-/// A rule of promotion, where one is given.
+/// A rule of promotion, if one is given.
 pub(crate) fn maybe_rule(text: Option<&str>) -> Result<Option<Rule>, Usage>
     ensures { Gives (λ r. r) usage_fault result (maybe rule_in (option_map (λ s. s.now) text.entry)) }
 {
@@ -50,7 +50,7 @@ pub(crate) fn maybe_rule(text: Option<&str>) -> Result<Option<Rule>, Usage>
     }
 }
 
-/// A text, where one is given.
+/// A text, if one is given.
 pub(crate) fn maybe_text(alloc: Global, text: Option<&str>) -> Result<Option<OwnedText>, Usage>
     ensures { Gives (λ l. l) usage_fault result (maybe text_in (option_map (λ s. s.now) text.entry)) }
 {
@@ -60,7 +60,7 @@ pub(crate) fn maybe_text(alloc: Global, text: Option<&str>) -> Result<Option<Own
     }
 }
 
-/// A text of at most `most` bytes, where one is given.
+/// A text of at most `most` bytes, if one is given.
 pub(crate) fn maybe_text_within(
     alloc: Global,
     most: usize,
@@ -87,7 +87,7 @@ fn pattern_in(alloc: Global, text: &str) -> Result<OwnedText, Usage>
     }
 }
 
-/// A regular expression as its text, where one is given.
+/// A regular expression as its text, if one is given.
 pub(crate) fn maybe_pattern(alloc: Global, text: Option<&str>) -> Result<Option<OwnedText>, Usage>
     ensures { Gives (λ l. l) usage_fault result (maybe pattern_in (option_map (λ s. s.now) text.entry)) }
 {
@@ -107,7 +107,7 @@ fn number_in(low: u64, high: u64, text: &str) -> Result<u64, Usage>
     }
 }
 
-/// A number from `low` to `high`, or its default where none is given.
+/// A number from `low` to `high`, or its default if none is given.
 pub(crate) fn number_or(default: u64, low: u64, high: u64, text: Option<&str>) -> Result<u64, Usage>
     ensures { Gives (λ n. n) usage_fault result (or_default default (number_in low high) (option_map (λ s. s.now) text.entry)) }
 {
@@ -139,7 +139,7 @@ fn duration_in(text: &str) -> Result<u64, Usage>
     }
 }
 
-/// A duration in seconds, where one is given: a number, and at most one letter of s, m, h, d and w; at most 365 days.
+/// A duration in seconds, if one is given: a number, and at most one letter of s, m, h, d and w; at most 365 days.
 pub(crate) fn maybe_duration(text: Option<&str>) -> Result<Option<u64>, Usage>
     ensures { Gives (λ n. n) usage_fault result (maybe duration_in (option_map (λ s. s.now) text.entry)) }
 {

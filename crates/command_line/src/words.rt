@@ -1,4 +1,4 @@
-//! What the words mean.
+//! What the command line means.
 
 ghost use Rattle.std.specs.Prelude.{◌≡◌, map};
 ghost use Rattle.orch_base.specs.Gives.{Gives};
@@ -10,10 +10,14 @@ use crate::parts::{Places, places_in};
 use crate::usage::Usage;
 use std::alloc::Global;
 
-/// Reads the words of a command line, of which the first is the program's name. They are taken where they are UTF-8,
-/// `clap` gives matches, `-c` names what the program itself does or a command and has the options that it needs, each
-/// value reads, what is to be drawn is within its bound, and a plan is asked for of a command that has one; else it is
-/// `BadWords`. `Memory` comes only for want of memory.
+/// Reads a command line, whose first argument is the program's name. It is accepted if all this holds, else it is
+/// `BadWords`:
+/// - the arguments are UTF-8, and `clap` gives matches;
+/// - `-c` names what the program itself does or a command, and has the options that it needs;
+/// - each value reads, and what is to be drawn is within its bound;
+/// - a plan is asked for only for a command that has one.
+///
+/// `Memory` comes only if memory runs out.
 #[tactic(auto, unfolding(crate::specs::Places::places_of))]
 pub fn places(alloc: Global, words: &[Vec<u8>]) -> Result<Places, Usage>
     ensures { Gives (λ p. p) usage_fault result (places_of (map (λ w. w.items) words.now)) }

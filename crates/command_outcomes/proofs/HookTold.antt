@@ -1,4 +1,4 @@
--- Hooks that are told of what begins change nothing else of it.
+-- Hooks that get what begins change nothing else of it.
 use Rattle.std.proofs.Common.{◌<◌, ◌-◌, ◌^◌, ℕ, List, [], ◌∷◌, Option}
 use Rattle.std.specs.Prelude.{map}
 use Rattle.std.proofs.lemmas.List.Elements.{All-map}

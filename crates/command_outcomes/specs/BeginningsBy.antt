@@ -1,6 +1,6 @@
 use Rattle.command_outcomes.specs.Beginnings.{Beginning as Start}
 use Rattle.command_outcomes.specs.declared.command.Beginning.TheInside.{Inside}
 
--- what contracts see of a beginning
+-- what begins, as contracts see it
 abbrev pub beginning_of : Inside → Start
 beginning_of a = record { list = a.list.items; job = a.job }

@@ -1,4 +1,4 @@
--- What the hooks of a recovery that begins are told.
+-- What the hooks of a recovery that begins get.
 use Rattle.std.specs.Prelude.{ℕ, false, List, slice_get, Option, None, Some, Result, Ok, Err}
 use Rattle.command_outcomes.specs.Prelude.{Begins, BookState, Code, HookState, HostPort, Refusal, Values, alias_of, begun_hooks, code_text}
 use Rattle.command_outcomes.specs.Prelude.{option_map}

@@ -79,7 +79,7 @@ abbrev pub asked : ℕ → Result Unit Refusal → List Line → Outcome
 asked reads (Err r) lines = refusal reads r
 asked reads (Ok permit) lines = told reads lines
 
--- a command that does nothing else has the lines of its question, and none where it asks nothing
+-- a command that does nothing else has the lines of its question, and none if it asks nothing
 abbrev pub question : BookState → AuditState → ℕ → CommandTurn → Outcome
 question b a reads t = asked reads (permitted b t.command) (lines_of b a.recoveries t t.command.name)
 
@@ -132,7 +132,7 @@ begun_by_hand w b a c n what i d = recovery_begun n (told_try c b (kind_try w b 
 abbrev pub terms_of : BookState → Numbers → Terms
 terms_of b n = record { enabled = unwrap_or b.switch true; wait = n.wait; now = n.moment }
 
--- a scan tries what the analysis asks for, and tells of each try; hooks are told of what begins
+-- a scan tries what the analysis asks for, and answers for each try; hooks get what begins
 abbrev pub with_hooks : Configuration → BookState → Staged → Staged
 with_hooks c b s = record s { begun = map (with_told c b) s.begun }
 
@@ -148,7 +148,7 @@ scan_by w b a c n = scan_told n (with_hooks c b (scanned w b a (attempt_of c.mas
 abbrev pub next_reading : World → Numbers → ServerNo → Observation
 next_reading w n i = reading_by w i (next_count n.reads) n.moment.0
 
--- about the instance, where one is given
+-- about the instance, if one is given
 abbrev pub about : Outcome → (ServerNo → Outcome) → Option ServerNo → Outcome
 about none some None = none
 about none some (Some i) = some i

@@ -133,7 +133,7 @@ fn named(alloc: Global, no: ServerNo) -> Result<Reply, Memory>
     Ok(Reply::Told(Lines::new(lines)))
 }
 
-// A list of the change, where there is one.
+// A list of the change, if there is one.
 fn listed(alloc: Global, change: Option<Change>) -> Result<Vec<Change>, Memory>
     ensures { IfOk result (λ v. v.items ≡ option_to_list change) }
 {
@@ -301,7 +301,7 @@ fn decision(
     })
 }
 
-// Begins the job of a command, unless it is refused. Where no number is left for a job, memory wants.
+// Begins the job of a command, unless it is refused. `Memory` also comes if no number is left for a job.
 fn begin_by(
     alloc: Global,
     world: &World,
@@ -353,7 +353,7 @@ fn begin_by(
     })
 }
 
-/// The outcome of a command, by the numbers that it goes by. It changes nothing. Memory comes, too, where no number is
+/// The outcome of a command, by the numbers that it goes by. It changes nothing. `Memory` comes, too, if no number is
 /// left for a job, or no id in the audit.
 #[tactic(auto, unfolding(crate::specs::Outcomes::outcome_of))]
 pub fn outcome_of(

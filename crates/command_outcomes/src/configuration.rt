@@ -22,7 +22,7 @@ pub struct Configuration {
     pub intermediate: Answers,
     /// The hooks of recoveries that a command or a scan begins.
     pub hooks: Hooks,
-    /// The clusters' aliases, of which hooks are told.
+    /// The clusters' aliases, for the hooks.
     pub aliases: Aliases,
 }
 

@@ -1,5 +1,5 @@
 //! What a command or a scan comes to: what it answers, and what it makes of the book, the audit and the jobs. It is
-//! only told here; nothing is changed.
+//! only computed here. Nothing is changed.
 #![tactic(auto)]
 
 mod command;

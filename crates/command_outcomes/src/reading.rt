@@ -8,7 +8,7 @@ use crate::orch_base::{Memory, Moment, ServerNo};
 use crate::server_model::World;
 use std::alloc::Global;
 
-/// A reading of a server, with this number, at this moment.
+/// A reading of a server, with this number, at this moment. `Err` means out of memory.
 pub fn read_server(
     alloc: Global,
     world: &World,

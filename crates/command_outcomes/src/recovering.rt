@@ -75,7 +75,7 @@ fn recovery_begun(
     }
 }
 
-// The number of the next job. Where none is left, memory wants.
+// The number of the next job. `Memory` comes if none is left.
 fn next_job(numbers: Numbers) -> Result<u64, Memory>
     ensures { IfOk result (λ n. n ≡ numbers.last_job + 1) }
 {
@@ -83,7 +83,7 @@ fn next_job(numbers: Numbers) -> Result<u64, Memory>
 }
 
 /// What an operator asks for begins, unless it is refused: the recovery of a server, or the takeover of its place by a
-/// replica. The switch, downtimes and filters make no difference. Memory comes, too, where no number is left for a job,
+/// replica. The switch, downtimes and filters make no difference. `Memory` comes, too, if no number is left for a job,
 /// or no id in the audit.
 pub(crate) fn begin_by_hand(
     alloc: Global,
@@ -136,7 +136,7 @@ fn terms_of(book: &Book, numbers: Numbers) -> Terms
     }
 }
 
-/// What a scan tells and begins. It changes nothing. Memory comes, too, where no number is left for a job, or no id in
+/// What a scan answers and begins. It changes nothing. `Memory` comes, too, if no number is left for a job, or no id in
 /// the audit.
 pub fn scan_by(
     alloc: Global,

@@ -1,4 +1,4 @@
-//! What the hooks of recoveries that begin are told.
+//! What the hooks of recoveries that begin get.
 
 ghost use Rattle.std.specs.Prelude.{◌≡◌, IfOk, map};
 ghost use Rattle.command_outcomes.specs.HookTelling.{hooks_by, told_of, with_told};
@@ -55,7 +55,7 @@ fn hooks_of(
     Ok(Some(HookRun::begin(alloc, &configuration.hooks, told)?))
 }
 
-/// The recovery with its hooks, which are told of its failed server.
+/// The recovery with its hooks, which get its failed server.
 pub(crate) fn with_told(
     alloc: Global,
     configuration: &Configuration,

@@ -9,7 +9,7 @@ pub enum CoordsCommand {
     MoveUpReplicas,
     /// `move-below`: a replica goes below its sibling.
     MoveBelow,
-    /// `repoint`: a replica is pointed at a source anew, by GTIDs where they are used and it finds its place by them.
+    /// `repoint`: a replica is pointed at a source anew, by GTIDs if they are used and it finds its place by them.
     Repoint,
     /// `take-siblings`: the siblings of a replica go below it.
     TakeSiblings,
@@ -51,7 +51,7 @@ pub enum GtidCommand {
 /// command line").
 #[derive(Clone, Copy, Debug, PartialEq, Eq)]
 pub enum PathCommand {
-    /// `relocate`: a server goes below another, by GTIDs where they are used, else by its path of moves by coordinates.
+    /// `relocate`: a server goes below another, by GTIDs if they are used, else by its path of moves by coordinates.
     Relocate,
     /// `relocate-replicas`: the replicas of a server go below another, each by its path.
     RelocateReplicas,
@@ -62,11 +62,11 @@ pub enum PathCommand {
 pub enum Regrouping {
     /// `regroup-replicas`: by bridges of the book, or by GTIDs.
     ByBridges,
-    /// `regroup-replicas-pgtid`: where their logs match.
+    /// `regroup-replicas-pgtid`: if their logs match.
     ByMatches,
 }
 
-/// A command that takes servers below another one where their logs match (orchestrator's documentation, "Pseudo GTID").
+/// A command that takes servers below another one if their logs match (orchestrator's documentation, "Pseudo GTID").
 #[derive(Clone, Copy, Debug, PartialEq, Eq)]
 pub enum MatchCommand {
     /// `match`: a server goes below another.

@@ -61,7 +61,7 @@ pub enum Planner {
     Paths(PathCommand),
     /// The commands that take replicas of one server below the best of them.
     Regroups(Regrouping),
-    /// The commands that take servers below another one where their logs match.
+    /// The commands that take servers below another one if their logs match.
     Matches(MatchCommand),
 }
 
@@ -169,7 +169,7 @@ impl Route {
         }
     }
 
-    /// Which permission and plan the job of the command goes by: none where it begins no job, or a recovery.
+    /// Which permission and plan the job of the command goes by: none if it begins no job, or a recovery.
     pub fn planner(self) -> Option<Planner>
         ensures { result ≡ planner_of self }
     {

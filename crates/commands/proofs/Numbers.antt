@@ -14,7 +14,7 @@ use Rattle.std.proofs.lemmas.Str.Parse.{parse_digits}
 use Rattle.server_words.proofs.OrchBase.NameLemmas.{own}
 use Rattle.commands.specs.Values.{before, number_at}
 
--- `r` is `Ok v` exactly where both tests hold
+-- `r` is `Ok v` exactly if both tests hold
 by_tests : {E : Type 0} (a b : Bool) (v : ℕ) (r : Result ℕ E) (P : Type 0) → OkIff r P v → (P → (a ≡ true) × (b ≡ true)) → (a ≡ true → b ≡ true → P) → result_ok r ≡ cond (a && b) (Some v) None
 by_tests true true v (Ok x) P h f g = ap (λ (n : ℕ). Some n) h.1
 by_tests true true v (Err e) P h f g = absurd (h (g refl refl))

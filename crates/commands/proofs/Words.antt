@@ -1,4 +1,4 @@
--- The commands' words are read as the commands.
+-- The commands' names are read as the commands.
 use Rattle.std.proofs.Common.{◌≡◌, ℕ, List, [], ◌∷◌, cond, subst, Some, Option, Bool, true, false, refl, sym}
 use Rattle.std.specs.Prelude.{find}
 use Rattle.std.specs.Str.{bytes_eq}

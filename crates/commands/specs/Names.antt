@@ -1,4 +1,4 @@
--- The commands' words, and what each command needs and uses.
+-- The commands' names, and what each command needs and uses.
 use Rattle.std.specs.Prelude.{ℕ, Bool, true, false, ◌&&◌, ◌||◌, not, List, [], ◌∷◌, codes, find, Option}
 use Rattle.std.specs.Str.{bytes_eq}
 use Rattle.commands.specs.declared.name.CommandName.{CommandName}
@@ -118,7 +118,7 @@ needs_of CheckGlobalRecoveries = nothing
 abbrev pub unused : Uses
 unused = record { i = false; d = false; rule = false; duration = false; reason = false; owner = false; pattern = false }
 
--- the keys that make a difference where they are there
+-- the keys that make a difference if they are there
 abbrev pub uses_of : CommandName → Uses
 uses_of MoveUp = record unused { i = true }
 uses_of MoveUpReplicas = record unused { i = true }

@@ -32,7 +32,7 @@ number_within low high text = within low high (number_at text)
 
 -- ---- durations: a number, and at most one letter of s, m, h, d and w for its unit
 
--- what stands before the letter, where the text ends with it
+-- what is before the letter, if the text ends with it
 abbrev pub before : ℕ → List ℕ → Option (List ℕ)
 before letter text =
     if ends_with nat_eq text (letter ∷ []) then Some (take (length text - 1) text) else None

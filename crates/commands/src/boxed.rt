@@ -28,7 +28,7 @@ impl Model for BoxedSet {
 }
 
 impl BoxedSet {
-    /// This set.
+    /// This set. `Err` means out of memory.
     pub fn new(alloc: Global, set: GtidSet) -> Result<BoxedSet, Memory>
         ensures { IfOk result (λ s. s ≡ set) }
     {
@@ -44,7 +44,7 @@ impl BoxedSet {
         &self.set
     }
 
-    /// The same set once more.
+    /// The same set once more. `Err` means out of memory.
     pub fn copy(&self, alloc: Global) -> Result<BoxedSet, Memory>
         ensures { IfOk result (λ s. s ≡ self.now) }
     {

@@ -15,7 +15,7 @@ pub enum Cause {
     Unreachable(ServerNo),
     /// The last wait for this server was spent.
     WaitSpent(ServerNo),
-    /// This server was expected at one spot and found at another.
+    /// This server was expected at one position and found at another.
     Interfered {
         no: ServerNo,
         expected: Spot,
@@ -33,13 +33,13 @@ pub enum Cause {
     Reachable(ServerNo),
     /// No replica may be promoted.
     NoCandidate,
-    /// This server was to go on in a file that its new source has purged; the new source keeps its log from this file
+    /// This server was to go on in a file that its new source has purged. The new source keeps its log from this file
     /// on.
     Purged(ServerNo, u32),
     /// This server's log has no mark by which it could be matched, or its new source's log lacks the last one.
     NoMark(ServerNo),
-    /// This server's log differs from its new source's at this entry, counted from 1, behind the mark by which they
-    /// were matched.
+    /// This server's log differs from its new source's at this entry, counted from 1, after the mark by which they were
+    /// matched.
     Mismatch(ServerNo, u64),
     /// The hook of this number, counted from 1, that ran before the recovery had this exit, which isn't 0.
     HookFailed {
@@ -70,7 +70,7 @@ impl Cause {
         }
     }
 
-    /// The same cause once more.
+    /// The same cause once more. `Err` means out of memory.
     pub fn copy(&self, alloc: Global) -> Result<Cause, Memory>
         ensures { IfOk result (λ c. c ≡ self.now) }
     {

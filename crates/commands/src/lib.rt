@@ -21,7 +21,7 @@ pub use line::{HookPhase, Line, Lines, Lost, RecoveryLine, StateWord};
 pub use name::CommandName;
 pub use needs::{Needs, Uses};
 use server_words::{binlog_coords_items, gtid_sets, orch_base};
-/// Want of memory.
+/// Out of memory.
 pub use refusal::Refusal;
 pub use server_words::orch_base::Memory;
 pub use turn::{Answers, Command, CommandTurn, Found, Keys};

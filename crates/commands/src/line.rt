@@ -9,7 +9,7 @@ use server_words::Spot;
 use std::alloc::Global;
 use std::marker::Model;
 
-/// How an instance stands.
+/// The state of an instance.
 #[derive(Clone, Copy, Debug, PartialEq, Eq)]
 pub enum StateWord {
     /// `ok`: none of the others.
@@ -29,11 +29,11 @@ pub enum Lost {
     Ahead(Coord),
     /// It executed less of the failed server's log than the promoted one: up to here.
     Behind(Coord),
-    /// It was to go on at this coordinate, in a file that its new source has purged; by GTIDs, it executed up to here.
+    /// It was to go on at this coordinate, in a file that its new source has purged. By GTIDs, it executed up to here.
     Purged(Coord),
     /// It wasn't reached.
     Unreachable,
-    /// It stands elsewhere than below the failed server.
+    /// It isn't below the failed server, but at this position.
     Moved(Spot),
     /// It writes no binary log.
     NotLogging,
@@ -52,7 +52,7 @@ pub enum HookPhase {
     PostUnsuccessful,
 }
 
-/// What a line says of a recovery.
+/// What a line reports of a recovery.
 pub struct RecoveryLine {
     /// Its number, counted from 1.
     pub id: u64,
@@ -85,7 +85,7 @@ impl Drop for RecoveryLine {
 }
 
 impl RecoveryLine {
-    /// The same line once more.
+    /// The same line once more. `Err` means out of memory.
     pub fn copy(&self, alloc: Global) -> Result<RecoveryLine, Memory>
         ensures { IfOk result (λ l. l ≡ self.now) }
     {
@@ -102,7 +102,7 @@ impl RecoveryLine {
     }
 }
 
-/// What a line says.
+/// What a line reports.
 #[derive(Drop)]
 pub enum Line {
     /// A server's name.
@@ -113,7 +113,7 @@ pub enum Line {
     Cluster(OwnedText),
     /// An instance in its tree.
     Instance {
-        /// How far it stands below the tree's root.
+        /// How far it is below the tree's root.
         depth: u32,
         no: ServerNo,
         state: StateWord,
@@ -178,7 +178,7 @@ pub enum Line {
     /// A hook of a recovery ran.
     Hook {
         phase: HookPhase,
-        /// What ran, with the values in place of its words.
+        /// What ran, with the values in place of its placeholders.
         text: OwnedText,
         exit: u8,
     },
@@ -190,7 +190,7 @@ pub enum Line {
 }
 
 impl Line {
-    /// The same line once more.
+    /// The same line once more. `Err` means out of memory.
     pub fn copy(&self, alloc: Global) -> Result<Line, Memory>
         ensures { IfOk result (λ l. l ≡ self.now) }
     {
@@ -310,7 +310,7 @@ impl Lines {
         lines
     }
 
-    /// The same lines once more.
+    /// The same lines once more. `Err` means out of memory.
     pub fn copy(&self, alloc: Global) -> Result<Lines, Memory>
         ensures { IfOk result (λ l. l ≡ self.now) }
     {

@@ -33,13 +33,13 @@ pub enum CommandName {
     RelocateReplicas,
     /// `regroup-replicas`: a server's replicas go below the one of them that is furthest on.
     RegroupReplicas,
-    /// `match`: a server goes below another where their logs match.
+    /// `match`: a server goes below another if their logs match.
     Match,
-    /// `match-up`: a replica goes up, to its source's source, where their logs match.
+    /// `match-up`: a replica goes up, to its source's source, if their logs match.
     MatchUp,
-    /// `match-replicas`: a server's replicas go below another where their logs match.
+    /// `match-replicas`: a server's replicas go below another if their logs match.
     MatchReplicas,
-    /// `regroup-replicas-pgtid`: a server's replicas go below the one of them that is furthest on, where logs match.
+    /// `regroup-replicas-pgtid`: a server's replicas go below the one of them that is furthest on, if logs match.
     RegroupReplicasPgtid,
     /// `detach-replica`: a replica is detached from its source.
     DetachReplica,

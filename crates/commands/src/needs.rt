@@ -5,7 +5,7 @@ ghost use Rattle.commands.specs.Names.{needs_of, uses_of};
 
 use crate::CommandName;
 
-/// The keys that must be there; any other may be.
+/// The keys that must be there. Any other may be.
 #[derive(Clone, Copy, Debug, PartialEq, Eq)]
 pub struct Needs {
     /// The instance.
@@ -18,7 +18,7 @@ pub struct Needs {
     pub pattern: bool,
 }
 
-/// The keys that make a difference where they are there.
+/// The keys that make a difference if they are there.
 #[derive(Clone, Copy, Debug, PartialEq, Eq)]
 pub struct Uses {
     /// The instance.
@@ -120,8 +120,8 @@ impl CommandName {
         }
     }
 
-    /// The keys that the command uses: those that it needs, `repoint` its destination where it is given, and
-    /// `begin-downtime` the duration, the reason and the owner where they are given.
+    /// The keys that the command uses: those that it needs. `repoint` also uses its destination if it is given, and
+    /// `begin-downtime` the duration, the reason and the owner if they are given.
     pub fn uses(self) -> Uses
         ensures { result ≡ uses_of self }
     {

@@ -7,7 +7,7 @@ use crate::orch_base::{Code, Moment, ServerNo};
 use crate::{BoxedSet, Memory};
 use std::alloc::Global;
 
-/// Why a command is refused, by its number: where several apply, the lowest number is answered.
+/// Why a command is refused, by its number: if several apply, the lowest number is answered.
 #[derive(Drop)]
 pub enum Refusal {
     /// 2: the instance isn't known.

@@ -60,7 +60,7 @@ impl Answers {
         answers
     }
 
-    /// The same answers once more.
+    /// The same answers once more. `Err` means out of memory.
     pub fn copy(&self, alloc: Global) -> Result<Answers, Memory>
         ensures { IfOk result (λ a. a ≡ self.now) }
     {
@@ -79,7 +79,7 @@ pub struct Found {
 }
 
 impl Found {
-    /// The same once more.
+    /// The same once more. `Err` means out of memory.
     pub fn copy(&self, alloc: Global) -> Result<Found, Memory>
         ensures { IfOk result (λ f. f ≡ self.now) }
     {
@@ -134,7 +134,7 @@ fn copy_pattern(alloc: Global, pattern: &Option<Found>) -> Result<Option<Found>,
 }
 
 impl Keys {
-    /// The same keys once more.
+    /// The same keys once more. `Err` means out of memory.
     pub fn copy(&self, alloc: Global) -> Result<Keys, Memory>
         ensures { IfOk result (λ k. k ≡ self.now) }
     {
@@ -173,7 +173,7 @@ fn is_within(no: Option<ServerNo>, servers: u32) -> bool
 }
 
 impl CommandTurn {
-    /// The same once more.
+    /// The same once more. `Err` means out of memory.
     pub fn copy(&self, alloc: Global) -> Result<CommandTurn, Memory>
         ensures { IfOk result (λ t. t ≡ self.now) }
     {

@@ -78,9 +78,9 @@ fn is_unknown(command: Command, i_known: bool, d_known: bool) -> bool
         || is_missing(needs.d, uses.d, command.d, d_known)
 }
 
-/// `UnknownInstance`, exactly where the instance or the destination that the command uses isn't known: where one that
-/// it needs isn't given, or one that it uses is given and isn't known. `discover` takes any server. Whether the given
-/// instance and the given destination are known is told by `i_known` and `d_known`.
+/// `UnknownInstance`, exactly if the instance or the destination that the command uses isn't known. That is: one that
+/// it needs isn't given, or one that it uses is given and isn't known. `discover` takes any server. `i_known` and
+/// `d_known` are whether the given instance and the given destination are known.
 pub fn unknown_instance(command: Command, i_known: bool, d_known: bool) -> Option<Refusal>
     ensures { result ≡ unknown_of command i_known d_known }
 {

@@ -47,7 +47,7 @@ fn within(low: u64, high: u64, number: Option<u64>) -> Option<u64>
     }
 }
 
-/// The number of a text of decimal digits, from `low` to `high`; zeros may lead. None for any other text.
+/// The number of a text of decimal digits, from `low` to `high`. Zeros may lead. None for any other text.
 pub fn number_within(low: u64, high: u64, text: &str) -> Option<u64>
     ensures value { result ≡ number_within low high text.now }
     ensures range { IfSome result (λ n. (low ≤ n) × (n ≤ high)) }
@@ -55,7 +55,7 @@ pub fn number_within(low: u64, high: u64, text: &str) -> Option<u64>
     within(low, high, number_at(text))
 }
 
-// What stands before the letter, where the text ends with it.
+// What is before the letter, if the text ends with it.
 fn before(letter: char, text: &str) -> Option<&str>
     requires { letter < 128 }
     ensures { option_map (λ s. s.now) result ≡ before letter text.now }
@@ -83,8 +83,8 @@ fn number_and_unit(text: &str) -> (&str, u64)
     }
 }
 
-/// The seconds of a duration, from 1 to 31,536,000: decimal digits, zeros may lead, and at most one letter for the
-/// unit: s, m, h, d or w; without one they are seconds. None for any other text.
+/// The seconds of a duration, from 1 to 31,536,000. The text is decimal digits, zeros may lead, and at most one letter
+/// for the unit: s, m, h, d or w. Without a letter they are seconds. `None` for any other text.
 pub fn seconds_at(text: &str) -> Option<u64>
     ensures value { result ≡ seconds_at text.now }
     ensures range { IfSome result (λ n. (1 ≤ n) × (n ≤ 31536000)) }

@@ -10,7 +10,7 @@ use Rattle.covered_laws.proofs.Prelude.unended
 
 -- ---- no orchestrator's
 
--- a property of the world alone stays where the world does
+-- a property of the world alone stays if the world does
 stored-same : (P : World → Type 0) (f : Flight) (p : ℕ) (keeps : Bool) → P f.world → P (passed f (pass.Storing p keeps)).world
 stored-same P f p keeps h = subst P (sym (world-stored_if keeps f (slot_of f p))) h
 
@@ -61,7 +61,7 @@ none-speak = record { jobs = All-nil IsSpeakingBeside }
 pub none-aimed : (begun : ℕ → Recovery) → AimedJobs begun []
 none-aimed begun = record { jobs = All-nil (IsAimedBeside begun) }
 
--- ---- a beginning
+-- ---- a job that begins
 
 pub begin-covered : (f : Flight) (us : List Unended) (list : List ServerNo) (u : Unended) → IsCoveredBeside f.world u → CoveredJobs f us → CoveredJobs (passed f (pass.Beginning list (core_of u))) (us ++ u ∷ [])
 begin-covered f us list u new covered = record { jobs = All-push (IsCoveredBeside f.world) us u covered.jobs new }

@@ -1,4 +1,4 @@
--- Recoveries in flight that are done have covered their replicas, and what they owe beside.
+-- Unended recoveries that are done have covered their replicas, and what they owe beside.
 use Rattle.std.proofs.Common.{◌≡◌, ◌∙◌, ℕ, ◌+◌, ◌<◌, Bool, true, false, List, [], ◌∷◌, cond, refl, sym, ap, subst, Option, Some, None, inl, inr, arith}
 use Rattle.std.specs.Prelude.{All, IfSome, ◌==◌}
 use Rattle.covered_laws.proofs.Prelude.{AimedJobs, All-cons, All-contains, All-head, All-tail, All-weaker, AreSourcesOf, CoveredJobs, Covers}
@@ -17,7 +17,7 @@ use Rattle.covered_laws.proofs.Turning.{found, rings-held, rings-sound}
 -- ---- the servers of an outcome are those of the recovery
 
 module _ (count : ℕ) where
-  -- who stands in a list of servers that are there is there
+  -- who is in a list of servers that are there is there
   listed-there : (ns : List ServerNo) → All (λ n. n.0 < count) ns → (n : ℕ) → 0 < times n ns → n < count
   listed-there [] all n h = absurd (omega (arith, h))
   listed-there (k ∷ ks) all n h = go (k.0 == n) refl h (listed-there ks (All-tail (λ (m : ServerNo). m.0 < count) k ks all) n)
@@ -139,7 +139,7 @@ module _ (f : Flight) (us : List Unended) (t : RecoveryTurn f us) where
         done-named count named =
             outcome-there count (world_then f us t) t.recovery.purpose t.recovery.failed t.recovery.replicas (outcome_then f us t) done-covers named.failed named.replicas successor
           where
-            -- a successor was chosen from the beginning
+            -- a successor was chosen from the start
             successor : (s : ServerNo) → t.recovery.purpose ≡ purpose.Intermediate s → s.0 < count
             successor s is =
                 let chosen : t.recovery.chosen ≡ Some s = subst (λ (u : Purpose). IfSome (first_source u) (λ n. t.recovery.chosen ≡ Some n)) is so-far.at.named in

@@ -146,7 +146,7 @@ module _ (f : Flight) (us : List Unended) (b : BookState) (id read : ℕ) (now :
         (next-aimed begun u at (found (IsAimedBeside begun) aimed.jobs u at)) aimed.jobs;
   }
 
-  -- the passage's world is that after the turn's exchanges
+  -- the `Passage`'s world is that after the turn's exchanges
   world-then : (keeps : Bool) (u : Unended) → job_at us id ≡ Some u → (passed f (passage_of f.world b read now keeps id u)).world ≡ then u
   world-then keeps (unended.Plan j) at =
       ap (λ (o : Option Job). (turned_by f id read now keeps o).world) (core-here (unended.Plan j) at)
@@ -155,7 +155,7 @@ module _ (f : Flight) (us : List Unended) (b : BookState) (id read : ℕ) (now :
       let t = (hooked f.world b read now r d).taken in
       world-stored_if keeps (after_turn f id (as_turn id t)) t.observation
 
-  -- ---- the turn of a number, where there may be no such job
+  -- ---- the turn of a number, if there may be no such job
 
   pub number-covered : (keeps : Option Observation → Bool) (o : Option Unended) → job_at us id ≡ o → CoveredJobs f us
       → CoveredJobs (passing f (passages_by f.world b read now keeps id o)) (jobs_turned us id (option_map (flown f.world b read now) o))

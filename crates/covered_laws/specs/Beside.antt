@@ -1,4 +1,4 @@
--- What holds of an unended job beside what is held and sound.
+-- What holds for an unended job beside `Held` and `Sound`.
 use Rattle.std.specs.Prelude.{ℕ}
 use Rattle.covered_laws.specs.Prelude.{CoversSoFar, KeptByChosen, Recovery, SameAim, Speaks, Unended, World}
 use Rattle.covered_laws.specs.Prelude.unended

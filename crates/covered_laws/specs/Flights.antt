@@ -1,13 +1,13 @@
--- Servers with unended jobs in flight, whose recoveries cover their replicas so far.
+-- Servers with unended jobs, whose recoveries cover their replicas so far.
 use Rattle.std.specs.Prelude.{ℕ, List, All}
 use Rattle.covered_laws.specs.Prelude.{Flight, Recovery, Unended}
 use Rattle.covered_laws.specs.Beside.{IsAimedBeside, IsCoveredBeside, IsKeptBeside, IsSpeakingBeside}
 
--- in every state, quiet or not, beside HeldJobs
+-- in every state, with errant writes or without, beside HeldJobs
 pub record CoveredJobs (f : Flight) (us : List Unended) : Type 0 where
   pub jobs : All (IsCoveredBeside f.world) us
 
--- in every quiet one, beside SoundJobs
+-- in every one without errant writes, beside SoundJobs
 pub record KeptJobs (f : Flight) (us : List Unended) : Type 0 where
   pub jobs : All (IsKeptBeside f.world) us
 

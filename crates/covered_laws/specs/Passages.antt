@@ -1,4 +1,4 @@
--- Passages that are no orchestrator's exchange, no job's turn, no beginning and no restart.
+-- A `Passage` that is no orchestrator's exchange, no job's turn, no job's start and no restart.
 use Rattle.std.specs.Prelude.{◌≡◌, true, ⊤}
 use Rattle.covered_laws.specs.Prelude.{Beginning, Discovering, Exchanging, Forgetting, Passage, Polling, Restarting, Storing, Taking, Turning}
 use Rattle.covered_laws.specs.Prelude.{is_outside}

@@ -1,11 +1,10 @@
--- Turns of recoveries in flight.
+-- Turns of unended recoveries.
 use Rattle.std.specs.Prelude.{◌≡◌, ℕ, ◌<◌, List, Some, IfSome, All}
 use Rattle.covered_laws.specs.Prelude.{BookState, Docket, Flight, Line, Moment, Outcome, Recovery, Taken, Unended, World, job_at, run, taken}
 use Rattle.covered_laws.specs.Prelude.step
 use Rattle.covered_laws.specs.Prelude.unended
 
--- the turn of a recovery in flight by its number, on a book with the flight's bridges: with this read number, at this
--- moment
+-- the turn of an unended recovery by its number, on a book with the same bridges: with this read number, at this moment
 pub record RecoveryTurn (f : Flight) (us : List Unended) : Type 0 where
   pub id : ℕ
   pub recovery : Recovery

@@ -1,4 +1,4 @@
-//! What recoveries in flight are about.
+//! What unended recoveries are about.
 
 ghost use Rattle.std.specs.Prelude.{◌≡◌, ◌∷◌, ◌++◌, ℕ, List, Option, []};
 ghost use Rattle.covered_laws.specs.Prelude.{BookState, Flight, HeldJobs, Moment as AMoment, Recovery, SameAim, Unended as AnUnended, flown, job_at};
@@ -7,8 +7,8 @@ ghost use Rattle.covered_laws.specs.Beside.{IsAimedBeside};
 ghost use Rattle.covered_laws.specs.Flights.{AimedJobs};
 ghost use Rattle.covered_laws.specs.Turns.{RecoveryTurn, recovery_then};
 
-/// A recovery keeps its number and what it is about, from its beginning to its last turn: purpose, failed server,
-/// replicas, and of whom it tells.
+/// A recovery keeps its number and what it is about, from its start to its last turn: purpose, failed server, replicas,
+/// and those that it reports.
 pub fn aims_stay_in_flight()
     ensures begun { (begun : ℕ → Recovery) (us : List AnUnended) (u : AnUnended) →
         IsAimedBeside begun u → AimedJobs begun us → AimedJobs begun (us ++ u ∷ []) }

@@ -7,7 +7,7 @@ ghost use Rattle.covered_laws.specs.Prelude.unended.{Recovery};
 ghost use Rattle.covered_laws.specs.Beside.{IsCoveredBeside, IsKeptBeside, IsSpeakingBeside};
 ghost use Rattle.covered_laws.specs.Flights.{CoveredJobs, KeptJobs, SpeakingJobs};
 
-/// A job that begins changes no server: it leaves all covered and kept, itself too where it begins so.
+/// A job that begins changes no server: it leaves all covered and kept, itself too if it begins so.
 pub fn covered_jobs_begin()
     ensures covered { (f : Flight) (us : List AnUnended) (list : List Number) (u : AnUnended) →
         IsCoveredBeside f.world u → CoveredJobs f us →
@@ -19,7 +19,7 @@ pub fn covered_jobs_begin()
         SpeakingJobs us → SpeakingJobs (us ++ u ∷ []) }
 {}
 
-/// A recovery begins so, where none of its replicas is named twice.
+/// A recovery begins so, if none of its replicas is named twice.
 pub fn recoveries_begin_covered_beside()
     ensures covered { (w : World) (u : APurpose) (by : AMeans) (id wait : ℕ) (f : Number)
         (replicas order : List Number) (docket : ADocket) →

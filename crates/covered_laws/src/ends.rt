@@ -1,4 +1,4 @@
-//! Recoveries in flight that are done.
+//! Unended recoveries that are done.
 
 ghost use Rattle.std.specs.Prelude.{◌≡◌, ◌<◌, ℕ, List, All, Some, true};
 ghost use Rattle.covered_laws.specs.Prelude.{ChoosesAmongAll, Decisions, Flight, HasOnePlace, HeldJobs, IsBeginning, IsChain, IsNamedRecovery, IsTold, Keeps, Line as ALine, MakesWell};
@@ -7,10 +7,10 @@ ghost use Rattle.covered_laws.specs.Prelude.purpose;
 ghost use Rattle.covered_laws.specs.Flights.{CoveredJobs, KeptJobs};
 ghost use Rattle.covered_laws.specs.Turns.{IsDoneIn, IsNamedOutcome, RecoveryTurn, outcome_then, recovery_then, taken_in, world_then};
 
-/// A turn leaves a recovery its purpose, its failed server and its replicas; and one in which it is done leaves these
-/// replicas covered, with the outcome's lines, each in one place, and its followers a chain only after a swap; and the
-/// servers of the outcome are there. Where it decides whom to choose each replica is drained, or lost; and a turn after
-/// which it goes on changes what it may.
+/// A turn leaves a recovery its purpose, its failed server and its replicas. One in which it is done leaves these
+/// replicas covered, with the outcome's lines, each in one place. Its followers are a chain only after a swap. The
+/// servers of the outcome are there. If it decides whom to choose each replica is drained, or lost. A turn after which
+/// it goes on changes what it may.
 pub fn finished_recoveries_cover()
     ensures aim { (f : Flight) (us : List AnUnended) (t : RecoveryTurn f us) →
         SameAim t.recovery (recovery_then f us t) }
@@ -39,8 +39,8 @@ pub fn finished_recoveries_cover()
         MakesWell f.world (ground_of f.world t.book t.at_moment) t.recovery (taken_in f us t).exchanges }
 {}
 
-/// Where a recovery in flight is done in a safe world the promoted server has what each that might have been chosen had
-/// when it was drained; and what the old master of a takeover has is a beginning of what the designated one has.
+/// If an unended recovery is done in a `Safe` world the promoted server has what each that might have been chosen had
+/// when it was drained. What the old master of a takeover has is a prefix of what the designated one has.
 pub fn finished_recoveries_keep_histories()
     ensures promoted { (f : Flight) (us : List AnUnended) (t : RecoveryTurn f us)
         (lines : List ALine) (n : Number) →

@@ -1,4 +1,4 @@
-//! Recoveries in flight cover their replicas, whatever happens beside them, and so they end.
+//! Unended recoveries cover their replicas, whatever happens beside them, and so they end.
 #![tactic(auto)]
 
 mod aims;

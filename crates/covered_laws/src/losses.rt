@@ -1,13 +1,13 @@
-//! Why recoveries in flight lose replicas, and whom they choose.
+//! Why unended recoveries lose replicas, and whom they choose.
 
 ghost use Rattle.std.specs.Prelude.{Bool, List};
 ghost use Rattle.covered_laws.specs.Prelude.{ExplainsTruly, Fact, Flight, HeldJobs, IsExplained, Unended as AnUnended};
 ghost use Rattle.covered_laws.specs.Flights.{SpeakingJobs};
 ghost use Rattle.covered_laws.specs.Turns.{RecoveryTurn, recovery_then};
 
-/// What a recovery in flight came to was true before the turn, or is true of the world and the book of the turn that
-/// tells it: what holds of what was so and of each fact that is true in this turn holds of all afterwards, whether the
-/// recovery goes on, is done or fails.
+/// What an unended recovery came to was true before the turn, or is true of the world and the book of the turn that
+/// reports it. So what holds for what was so, and for each fact that is true in this turn, holds for all afterwards.
+/// That is so whether the recovery goes on, is done or fails.
 pub fn facts_in_flight_are_true()
     ensures { (f : Flight) (us : List AnUnended) (t : RecoveryTurn f us)
         (P : Fact → Bool) →

@@ -5,8 +5,8 @@ ghost use Rattle.covered_laws.specs.Prelude.{BookState, Flight, HeldJobs, Moment
 ghost use Rattle.covered_laws.specs.Prelude.{flown, job_at, jobs_turned, option_map, passages_by, passing};
 ghost use Rattle.covered_laws.specs.Flights.{CoveredJobs, KeptJobs, SpeakingJobs};
 
-/// The turn of a job's number leaves all covered, the job itself too where it goes on, and kept where all was sound,
-/// whichever readings are stored: where there is no such job nothing is passed.
+/// The turn of a job's number leaves all covered, the job itself too if it goes on. It leaves all kept if all was
+/// `Sound`, whichever readings are stored. If there is no such job nothing happens.
 pub fn covered_jobs_take_turns()
     ensures covered { (f : Flight) (us : List AnUnended) (b : BookState) (id read : ℕ)
         (now : AMoment) (keeps : Option Reading → Bool) →

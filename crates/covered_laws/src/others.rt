@@ -5,8 +5,8 @@ ghost use Rattle.covered_laws.specs.Prelude.{Flight, HeldJobs, IsApart, MayPass,
 ghost use Rattle.covered_laws.specs.Flights.{CoveredJobs, KeptJobs, SpeakingJobs};
 ghost use Rattle.covered_laws.specs.Passages.{IsOutside};
 
-/// What is no orchestrator's exchange, no job's turn, no beginning and no restart leaves all covered; and histories
-/// stay kept through exchanges of any kind.
+/// What is no orchestrator's exchange, no job's turn, no job's start and no restart leaves all covered. Histories stay
+/// kept through exchanges of any kind.
 pub fn covered_jobs_stay()
     ensures covered { (f : Flight) (us : List AnUnended) (p : Passage) → IsOutside p →
         CoveredJobs f us → CoveredJobs (passed f p) us }

@@ -7,7 +7,7 @@ use Rattle.dump_laws.proofs.Prelude.{encodes, eqb-true, inside_one, is_digit, is
 use Rattle.dump_laws.proofs.Prelude.{len_utf8_bounds, length-encode, lt-ltb, ltb-true, nat_tests, ne_eqb, plain, prepend, scalar, scalars}
 use Rattle.dump_laws.proofs.Prelude.{short_escape, surrogate_pair}
 
--- what stands behind an ASCII byte
+-- what is after an ASCII byte
 pub behind-ascii : (x : ℕ) (xs : List ℕ) → x < 128 → IsUtf8 (x ∷ xs) → IsUtf8 xs
 behind-ascii x xs small u = IsUtf8-drop (x ∷ xs) 1 u (IsCharBoundary-after_ascii (x ∷ xs) 0 u (omega arith) small)
 

@@ -1,4 +1,4 @@
--- A dump of a quiet world of a scenario that was read reads as the scenario that it tells.
+-- A dump of a world without errant writes of a scenario that was read reads as the scenario that it has.
 use Rattle.std.proofs.Common.{◌≡◌, ℕ, true, List, length, Some, Ok, leb}
 use Rattle.dump_laws.proofs.Prelude.{HasTexts, IsChecked, IsReadable, IsWithinLimits, IsWorldOf, MAX_SCENARIO_LEN, Scenario, World, dump_data}
 use Rattle.dump_laws.proofs.Prelude.{dump_text, dumped_scenario, is_utf8, le-leb, opening_of, read, scenario_in}
@@ -8,7 +8,7 @@ use Rattle.dump_laws.proofs.Texts.{dump-numbers, dump-texts}
 use Rattle.dump_laws.proofs.Values.{CoordsRead}
 use Rattle.dump_laws.proofs.Wholes.{data-reads}
 
--- a text whose numbers have 64 bits and whose labels rise is JSON, and where its texts are UTF-8 so is the whole
+-- a text whose numbers have 64 bits and whose labels rise is JSON, and if its texts are UTF-8 so is the whole
 abbrev pub TextsRead : Type 0
 TextsRead = (w : World) (s : Scenario) (now : ℕ) → IsReadable w s now → read (dump_text w s now) ≡ Some (dump_data w s now)
 

@@ -1,4 +1,4 @@
--- What a dump says before its servers reads as the scenario has it.
+-- What a dump has before its servers reads as the scenario has it.
 use Rattle.std.proofs.Common.{◌≡◌, ◌≤◌, ◌+◌, ℕ, true, List, [], ◌∷◌, length, map, All, Ok, IsUtf8, refl, arith, leb}
 use Rattle.dump_laws.proofs.Prelude.{Alias, All-head, All-tail, Block, ClusterFilters, FilterTexts, HavePatterns, Head, Hook, Hooks, Scenario, World}
 use Rattle.dump_laws.proofs.Prelude.{alias_in, aliases_data, aliases_in, block_in, blocks_data, blocks_in, count_data, dump_data, each_from}

@@ -1,11 +1,11 @@
--- What stands at a key of an object whose members are there or not, and what is read of it.
+-- What is at a key of an object whose members are there or not, and what is read of it.
 use Rattle.std.proofs.Common.{◌≡◌, ◌∙◌, ℕ, Bool, true, false, List, [], ◌∷◌, Option, Some, None, Result, Ok, IfSome, refl, sym, ap}
 use Rattle.std.specs.Prelude.{◌&&◌, ◌||◌, is_none, if◌then◌else◌, option_map}
 use Rattle.dump_laws.proofs.Prelude.{Data, Equal, Fault, Greater, Less, Members, Ordering, get, get_member, is_key, match_ordering, maybe, maybe_in}
 use Rattle.dump_laws.proofs.Prelude.{member_for, member_if, nat_cmp, needed, needed_in, no_members, only_keys, option_or, optional, optional_in}
 use Rattle.dump_laws.proofs.Prelude.{slice_cmp, under}
 
--- a key, and the value that stands there, if any
+-- a key, and the value that is there, if any
 abbrev pub Field : Type 0
 Field = List ℕ × Option Data
 
@@ -71,7 +71,7 @@ needed-Ok key read d v x there e = ap (needed_in key read) there ∙ ap (under k
 pub optional-Ok : {A : Type 0} (key : List ℕ) (read : Data → Result A Fault) (default : A) (d v : Data) (x : A) → get key d ≡ Some v → read v ≡ Ok x → optional key read default d ≡ Ok x
 optional-Ok key read default d v x there e = ap (optional_in key read default) there ∙ ap (under key) e
 
--- where it is absent, the value is the default
+-- if it is absent, the value is the default
 pub optional-when : {A : Type 0} (key : List ℕ) (read : Data → Result A Fault) (default : A) (d v : Data) (x : A) (there : Bool) → get key d ≡ when there v → (there ≡ false → x ≡ default) → read v ≡ Ok x
     → optional key read default d ≡ Ok x
 optional-when key read default d v x true at none e = ap (optional_in key read default) at ∙ ap (under key) e

@@ -147,7 +147,7 @@ members-are (object os) ms all e = subst MembersFromText (same_Ok os ms e) all
 
 -- ---- what is read at a key
 
--- the value at the key was read as this, or nothing stands there
+-- the value at the key was read as this, or nothing is there
 pub data IsAt {A : Type 0} (key : List ℕ) (read : Data → Result A Fault) (default : A) (d : Data) (x : A) : Type 0 where
   absent : x ≡ default → IsAt key read default d x
   there : (v : Data) → get key d ≡ Some v → read v ≡ Ok x → IsAt key read default d x

@@ -1,4 +1,4 @@
--- What was read of a scenario reads back: what it says before its servers, its filters' answers, and its settings.
+-- What was read of a scenario reads back: what it has before its servers, its filters' answers, and its settings.
 use Rattle.std.proofs.Common.{◌≡◌, ◌∙◌, ◌≤◌, ℕ, Bool, true, false, leb, List, [], map, All, Ok, Option, Some, None, IsUtf8, refl, sym, ap, subst, arith}
 use Rattle.std.specs.Prelude.{codes, decimal, if◌then◌else◌}
 use Rattle.dump_laws.proofs.Prelude.{Alias, All-cons, All-nil, BadHook, BadPattern, Block, Data, FilterTexts, Head, Hook, Hooks, IsUtf8-are_ascii}

@@ -33,7 +33,7 @@ if-written : CoordsRead → (o : Option Coord) → IfSome o IsWritten → IfSome
 if-written law None is = tt
 if-written law (Some c) is = coord-reads law c is
 
--- what is told of one server alone
+-- what is printed of one server alone
 record TellsReadable (i : ServerInit) : Type 0 where
   at : IfSome i.at Reads
   read : IfSome i.read Reads

@@ -20,7 +20,7 @@ module _ (o : Opened) (checked : IsChecked o) where
       let few = few-at n in
       omega arith
 
-  -- no flush point is behind what was executed
+  -- no flush point is after what was executed
   pub points-within : (n : ℕ) (i : ServerInit) → slice_get o.servers n ≡ Some i → All (λ k. k ≤ count_of i) i.flushes
   points-within n i at = (good-points i ((sound_checked o checked).flushes n i at)).1
 

@@ -32,7 +32,7 @@ LexemesUtf8 (l ∷ ls) = LexemeUtf8 l × LexemesUtf8 ls
 
 -- ---- lexemes
 
--- what stands behind each quote is UTF-8
+-- what is after each quote is UTF-8
 abbrev AfterQuotes : List ℕ → Type 0
 AfterQuotes xs = (n : ℕ) → n < length xs → get_or xs n 0 ≡ 34 → IsUtf8 (drop (suc n) xs)
 

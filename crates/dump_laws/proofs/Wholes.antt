@@ -1,4 +1,4 @@
--- A dump's value reads as the scenario that it tells.
+-- A dump's value reads as the scenario that it has.
 use Rattle.std.proofs.Common.{◌≡◌, ◌∙◌, ◌+◌, ◌≤◌, ℕ, Bool, true, List, [], ◌∷◌, length, map, Option, Some, None, Ok, refl, sym, ap, arith, leb}
 use Rattle.dump_laws.proofs.Prelude.{Alias, IsChecked, IsListed, IsWorldOf, Scenario, Server, ServerInit, ServerNo, Settings, World, alias_of}
 use Rattle.dump_laws.proofs.Prelude.{all_known, answered, bounded, dump_data, dumped_scenario, forms_of, init_by, init_of, is_small, known_of, le-leb}
@@ -55,7 +55,7 @@ same-answers s is own same =
     })
     ∙ own
 
--- ---- what is told of each server
+-- ---- what is known of each server
 
 all-known : (xs : List Server) → known_of (map given_of (map init_of xs)) ≡ all_known xs
 all-known [] = refl

@@ -1,4 +1,4 @@
-//! Laws of dumps that read: a dump reads without a fault, as the scenario that it tells.
+//! Laws of dumps that read: a dump reads without a fault, as the scenario that it has.
 #![tactic(auto)]
 
 ghost use Rattle.std.specs.Prelude.{◌≡◌, ℕ, List, Ok};
@@ -13,7 +13,8 @@ ghost use Rattle.server_model.specs.Worlds.{World};
 use scenario_dump::dumps_read_as_json;
 use scenario_reader::binlog_coords_items;
 
-/// What is dumped of a quiet world of a scenario that was read reads without a fault, as the scenario of that world.
+/// What is dumped of a world without errant writes of a scenario that was read reads without a fault, as the scenario
+/// of that world.
 pub fn dumps_read()
     ensures { (bytes : List ℕ) (s : Scenario) (w : World) (now : ℕ) → scenario_in bytes ≡ Ok s
         → IsWorldOf s w → IsWithinLimits w s now → IsChecked (opening_of w)

@@ -1,4 +1,4 @@
--- A chain that ends doesn't come back to where it began.
+-- A chain that ends doesn't come back to its start.
 use Rattle.std.proofs.Common.{◌≡◌, ◌∙◌, ℕ, false, refl, sym, ap, subst, inl, inr, ◌⊎◌, Option, Some, None}
 use Rattle.dump_openings.proofs.Prelude.{Direct, Follows, Further, Grounded, Root, Under, false_from_ne_true, is_reached, reached-follows, same_Some}
 

@@ -1,4 +1,4 @@
--- The servers of a dump are an opening, where the limits of scenarios are kept.
+-- The servers of a dump are an opening, if the limits of scenarios are kept.
 use Rattle.std.proofs.Common.{◌≡◌, ◌∙◌, ℕ, ◌*◌, ◌<◌, ◌≤◌, true, length, All, refl, sym, ap, subst, Option, Some, None, arith, get_or, sum_by}
 use Rattle.std.specs.Prelude.{option_map, slice_get}
 use Rattle.dump_openings.proofs.Prelude.{IsAlone, IsChecked, IsListed, IsPart, IsScenario, IsServer, IsTidy, IsWithinLimits, IsWorldOf, Part}

@@ -60,7 +60,7 @@ pub init-count : (s : Server) → count_of (init_of s) ≡ length s.history.txns
 unfolding init_of
 init-count s = count-by s (source_in s.source)
 
--- its parts, where it has no source
+-- its parts, if it has no source
 parts-by : (s : Server) (o : Option ServerNo) → number_of o ≡ None → listed.parts_of (init_by s o) ≡ parts_of s.history.txns
 parts-by s None none = refl
 parts-by s (Some m) none = cc

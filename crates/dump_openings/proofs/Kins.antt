@@ -1,4 +1,4 @@
--- Histories that are kin agree link by link, and each transaction is at home.
+-- Histories that agree do so link by link, and each transaction is in its origin's history.
 use Rattle.dump_openings.proofs.Prelude.{IsKin, Safe, Server, ServerNo, Txn, World, agrees_with, all_below, and_from}
 use Rattle.dump_openings.proofs.Prelude.{any_passes_from_place as list_any-found, cases_Bool, eq-eqb, histories, histories_agree, history_of, holds}
 use Rattle.dump_openings.proofs.Prelude.{init_of, is_home, is_kin, length-take-le, links, links_after, links_agree, list_all, list_all-from_get}
@@ -34,7 +34,7 @@ same_before-itself None = refl
 same_before-itself (Some t) = and_from (t.origin.0 == t.origin.0) (t.seq == t.seq) (eq-eqb t.origin.0 t.origin.0 refl) (eq-eqb t.seq t.seq refl)
 
 module _ (h : ℕ → List Txn) (kin : IsKin h) where
-  -- a transaction that two histories share stands at one place in both
+  -- a transaction that two histories share is at one place in both
   place-shared : (a b i j : ℕ) (x y : Txn) → slice_get (h a) i ≡ Some x → slice_get (h b) j ≡ Some y → same_txn x y ≡ true → i ≡ j
   place-shared a b i j x y at_a at_b same =
       let within_a : i < length (h a) = slice_get_within (h a) i x at_a in
@@ -42,7 +42,7 @@ module _ (h : ℕ → List Txn) (kin : IsKin h) where
       let lengths : length (take (i + 1) (h a)) ≡ length (take (j + 1) (h b)) = ap length (kin.alike a b i j x y at_a at_b same) in
       omega (arith, lengths, length-take-le (i + 1) (h a), length-take-le (j + 1) (h b))
 
-  -- what stands no further than it in one stands there in the other
+  -- what is no further than it in one is there in the other
   front-shared : (a b i j : ℕ) (x y : Txn) → slice_get (h a) i ≡ Some x → slice_get (h b) j ≡ Some y → same_txn x y ≡ true
       → (k : ℕ) (t : Txn) → k ≤ i → slice_get (h a) k ≡ Some t → slice_get (h b) k ≡ Some t
   front-shared a b i j x y at_a at_b same k t low at =
@@ -81,7 +81,7 @@ module _ (h : ℕ → List Txn) (kin : IsKin h) where
             (eq-eqb k.1.size l.1.size (ap (λ (t : Txn). t.size) whole)))
       ]
 
-  -- histories that are kin agree
+  -- histories with `IsKin` agree
   pub agree-kin : (a b : ℕ) → histories_agree (h a) (h b) ≡ true
   agree-kin a b =
       list_all-from_get (λ l. list_all (λ k. links_agree k l) (links (h a))) (links (h b))
@@ -119,7 +119,7 @@ module _ (w : World) (safe : Safe w) where
       ap (holds t) (history-given w safe t.origin.0)
       ∙ list_any-found (λ x. same_txn x t) (histories w t.origin.0) home.0 t home.1 (same_txn-itself t)
 
-  -- what a server has executed is kin to what is listed
+  -- what a server has executed agrees with what is listed
   pub kin-own : (n : ℕ) (s : Server) → server_at w n ≡ Some s → is_kin (inits w) n s.history.txns ≡ true
   kin-own n s at =
       and_from (all_below (λ m. agrees_with s.history.txns (slice_get (inits w) m)) n) (list_all (is_home (inits w)) s.history.txns)

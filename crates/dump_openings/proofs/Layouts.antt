@@ -12,7 +12,7 @@ own_points log = flush_points log.limit log
 
 -- ---- flush points of longer logs
 
--- the file in which a log goes on behind these transactions, before which file `file` goes on
+-- the file in which a log goes on after these transactions, if it goes on in `file` before them
 abbrev goes_on : ℕ → ℕ → List Entry → ℕ
 goes_on limit file [] = file
 goes_on limit file (e ∷ es) = goes_on limit (file_behind limit e) es
@@ -48,7 +48,7 @@ goes_on-push : (limit file : ℕ) (es : List Entry) (e : Entry) → goes_on limi
 goes_on-push limit file [] e = refl
 goes_on-push limit file (d ∷ ds) e = goes_on-push limit (file_behind limit d) ds e
 
--- the flush points of a log before its last transaction, and those behind it
+-- the flush points of a log before its last transaction, and those after it
 own_points-inner : (log : Log) → own_points log ≡ inner log.limit 0 1 log.entries ++ replicate (log.files - goes_on log.limit 1 log.entries) (length log.entries)
 unfolding flush_points
 own_points-inner log =
@@ -60,7 +60,7 @@ pub own_points-opened : (limit : ℕ) → own_points (opened limit) ≡ []
 unfolding flush_points
 own_points-opened limit = refl
 
--- behind a transaction that begins no file but by its size no flush point stands
+-- after a transaction that begins no file except by its size no flush point is
 last-flushed : (log longer : Log) (size : ℕ) → longer.limit ≡ log.limit → longer.entries ≡ log.entries ++ entry_at_end log size ∷ [] → longer.files ≡ file_behind log.limit (entry_at_end log size)
     → own_points longer ≡ own_points log
 last-flushed log longer size limit entries files =

@@ -7,7 +7,7 @@ use Rattle.dump_openings.proofs.Histories.{history-own}
 use Rattle.dump_openings.proofs.Inits.{init-at, init-log, inits}
 use Rattle.dump_openings.proofs.Layouts.{laid-own_points}
 
--- where a server without a source stands
+-- the position of a server without a source
 pub bare-exec : (inits : List ServerInit) (s : Server) (o : Option ServerNo) → (o ≡ None → IsBare s) → exec_of inits (init_by s o) ≡ s.exec
 bare-exec inits s None bare = sym (bare refl).exec
 bare-exec inits s (Some m) bare = refl

@@ -11,8 +11,8 @@ ghost use Rattle.scenarios.specs.Scenarios.{IsScenario};
 ghost use Rattle.server_model.specs.Worlds.{World};
 ghost use Rattle.world_openings.specs.Opening.{opened_world};
 
-/// The servers of a dump have none of the flaws that servers of a scenario may have. Where the world that was dumped
-/// keeps the limits of scenarios, they are an opening.
+/// The servers of a dump have none of the flaws that servers of a scenario may have. If the world that was dumped keeps
+/// the limits of scenarios, they are an opening.
 pub fn dumped_worlds_lack_flaws()
     ensures flaws { (s : Scenario) (w : World) → IsWorldOf s w
         → flaw_in (opening_of w).servers ≡ None }
@@ -21,7 +21,7 @@ pub fn dumped_worlds_lack_flaws()
 {}
 
 /// The servers of a dump open to the very world that was dumped: the history of each server, its log, first kept file,
-/// source, coordinates, threads and settings; only the room is that of the new run.
+/// source, coordinates, threads and settings. Only the room is that of the new run.
 pub fn dumped_worlds_open()
     ensures { (s : Scenario) (w : World) (room flushes : ℕ) → IsWorldOf s w
         → opened_world (opening_of w) room flushes ≡ refitted room flushes w }

@@ -1,4 +1,4 @@
--- Of the rows of the table exactly one applies.
+-- Exactly one of the table's rows applies.
 use Rattle.std.proofs.Common.{◌≡◌, ℕ, ◌≤◌, Bool, true, false, cond, List, [], ◌∷◌, Option, None, Some, refl, sym, ◌∙◌, ap, arith}
 use Rattle.std.specs.Prelude.{◌↔◌, All, count_by, find, unwrap_or}
 use Rattle.std.proofs.lemmas.Bool.{false≢true}

@@ -1,4 +1,4 @@
--- What a book tells of each of its instances.
+-- What a book has of each of its instances.
 use Rattle.std.specs.Prelude.{ℕ, ◌&&◌, Bool, true, false, List, count_by, filter_map, Option, Some, None, is_some, option_map}
 use Rattle.instance_keeper.specs.BinlogCoords.Log.{is_before}
 use Rattle.instance_keeper.specs.OrchBase.declared.server.IoState.{IoState}
@@ -57,7 +57,7 @@ counts_of b n i = record {
 abbrev pub entry_of : BookState → ServerNo → Instance → Entry
 entry_of b n i = record { no = n; code = code_of (counts_of b n i); counts = counts_of b n i }
 
--- the entry of a server, where it is an instance
+-- the entry of a server, if it is an instance
 abbrev pub entry_at : BookState → ServerNo → Option Entry
 entry_at b n = option_map (entry_of b n) (instance_at b n)
 

@@ -1,4 +1,4 @@
--- The table of analyses: what each code says of an instance and its replicas.
+-- The table of analyses: what each code means for an instance and its replicas.
 use Rattle.std.specs.Prelude.{◌≤◌, ◌==◌, ◌&&◌, nat_le, nat_lt, not, Bool, false, List, [], ◌∷◌, ◌++◌, map, find, unwrap_or, if◌then◌else◌}
 use Rattle.std.specs.List.{list_any}
 use Rattle.instance_keeper.specs.OrchBase.declared.code.Code.{Code}
@@ -114,7 +114,7 @@ action_of UnreachableIntermediateMasterWithLaggingReplicas = Nothing
 action_of UnreachableIntermediateMaster = Nothing
 action_of NoProblem = Nothing
 
--- what is asked for, by the counts alone: a server that wasn't reached is recovered where some of its replicas were
+-- what is asked for, by the counts alone: a server that wasn't reached is recovered if some of its replicas were
 -- reached and none replicates
 abbrev pub action_by : Counts → Action
 action_by c = if not c.valid && (nat_lt 0 c.valid_replicas && none_replicates c)

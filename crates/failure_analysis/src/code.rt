@@ -6,7 +6,7 @@ ghost use Rattle.failure_analysis.specs.Table.{action_of, code_of, is_dead_inter
 
 use crate::orch_base::Code;
 
-/// What a book tells of an instance and of its replicas: the instances whose seen source is attached to it.
+/// What a book has of an instance and of its replicas: the instances whose seen source is attached to it.
 #[derive(Clone, Copy, Debug, PartialEq, Eq)]
 pub struct Counts {
     /// Whether it has a source, attached or detached.
@@ -134,7 +134,7 @@ pub fn code_of(c: Counts) -> Code
     }
 }
 
-/// What a code asks for: a recovery of a master or of an intermediate master where the server is dead and has replicas
+/// What a code asks for: a recovery of a master or of an intermediate master if the server is dead and has replicas
 /// that were reached, and none that replicates. It takes no memory.
 pub fn actionable(code: Code) -> Action
     ensures { result ≡ action_of code }

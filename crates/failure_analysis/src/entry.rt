@@ -12,7 +12,7 @@ use crate::tally::{Tally, tallies};
 use instance_keeper::{Book, Instance};
 use std::alloc::Global;
 
-/// What an analysis says of an instance.
+/// The analysis of an instance.
 #[derive(Clone, Copy, Debug, PartialEq, Eq)]
 pub struct Entry {
     /// The instance.
@@ -50,7 +50,7 @@ fn entry_of(no: ServerNo, instance: &Instance, tally: Tally) -> Entry
     }
 }
 
-/// One entry for each instance of the book, in name order. The time is linear in the number of servers. `Err` is want
+/// One entry for each instance of the book, in name order. The time is linear in the number of servers. `Err` means out
 /// of memory.
 pub fn analyse(alloc: Global, book: &Book) -> Result<Vec<Entry>, Memory>
     ensures { IfOk result (λ entries. entries.items ≡ analysis book.now) }

@@ -12,8 +12,8 @@ ghost use Rattle.failure_analysis.specs.Table.{action_by, action_of, code_of, co
 ghost use Rattle.failure_analysis.specs.declared.code.Counts.{Counts as SomeCounts};
 ghost use Rattle.instance_keeper.specs.OrchBase.declared.code.Code.TheVariants.{NoProblem};
 
-/// Of the rows of the table exactly one applies to any counts: the rows exclude one another and leave nothing out. A
-/// row whose condition holds gives the code, and the last row is exactly for what no condition holds of.
+/// Exactly one of the table's rows applies to any counts: the rows exclude one another and leave nothing out. A row
+/// whose condition holds gives the code. The last row is exactly for counts of which no condition holds.
 pub fn one_row_applies()
     ensures one { (c : SomeCounts) → AreCounts c → count_by (λ b. b) (conditions c) ≡ 1 }
     ensures code { (c : SomeCounts) (code : ACode) → AreCounts c →
@@ -22,8 +22,8 @@ pub fn one_row_applies()
         (code_of c ≡ NoProblem) ↔ All (λ code. is_of_row code c ≡ false) problems }
 {}
 
-/// A recovery is asked for exactly where an instance wasn't reached, some of its replicas were, and none replicates: of
-/// an intermediate master where it has a source.
+/// A recovery is asked for exactly if an instance wasn't reached, some of its replicas were, and none replicates. It is
+/// one of an intermediate master if the instance has a source.
 pub fn the_dead_are_recovered()
     ensures { (c : SomeCounts) → AreCounts c → action_of (code_of c) ≡ action_by c }
 {}

@@ -1,4 +1,4 @@
-//! What a book tells of the failures of its servers.
+//! The analysis of the book: which of its servers failed, and how.
 #![tactic(auto)]
 
 mod code;
@@ -10,5 +10,5 @@ pub use code::{Action, Counts, actionable, code_of};
 pub use entry::{Entry, analyse};
 use instance_keeper::orch_base;
 pub use laws::{each_instance_has_one_entry, one_row_applies, the_dead_are_recovered};
-/// Want of memory.
+/// Out of memory.
 pub use instance_keeper::orch_base::{Code, Memory};

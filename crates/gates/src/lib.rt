@@ -1,4 +1,4 @@
-//! Gates: where a thread may be held up before its turn.
+//! Gates: a thread may wait at one before its turn.
 #![tactic(auto)]
 
 /// What each thread of a live run passes before each of its turns, by its number and outside the lock. It changes

@@ -1,4 +1,4 @@
--- Where drawn replicas stand in their sources' logs.
+-- The positions of drawn replicas in their sources' logs.
 use Rattle.std.proofs.Common.{◌≡◌, ◌∙◌, ◌<◌, ◌≤◌, ◌==◌, ◌+◌, ℕ, zero, suc, Bool, true, false, cond, ◌∷◌, List, [], length, Some, None, refl, sym, ap, subst, arith, length-append}
 use Rattle.std.specs.Prelude.{get_or, nat_le, nat_lt, slice_get}
 use Rattle.generator_laws.proofs.Prelude.{ArePlaced, Coord, DrawnServer, Given, Grown, IsPlaced, Laid-Grown, Log, Opened, Pushed, Replica, Root, Txn}

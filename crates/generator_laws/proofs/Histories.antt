@@ -40,7 +40,7 @@ own_txn n k t e = joined_by-each (IsOwn n) [] (singles (own_parts n)) (λ j u h.
 
 -- ---- the root above a server
 
--- a chain that falls ends, at or before where it began
+-- a chain that falls ends, at or before its start
 ends_on : (up : ℕ → Option ℕ) (go : ℕ → ℕ) (n : ℕ) (o : Option ℕ) → up n ≡ o → ((a b : ℕ) → up a ≡ Some b → b < a) → ((m : ℕ) → m < n → (up (go m) ≡ None) × (go m ≤ m))
     → (up (follow_on go n o) ≡ None) × (follow_on go n o ≤ n)
 ends_on up go n None is down below = (is, omega arith)

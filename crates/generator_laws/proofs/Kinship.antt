@@ -1,4 +1,4 @@
--- What drawn roots list is kin.
+-- What drawn roots list agrees.
 use Rattle.std.proofs.Common.{◌≡◌, ◌∙◌, ◌≢◌, ◌<◌, ◌==◌, ℕ, zero, suc, true, false, ◌∷◌, List, [], Option, Some, None, refl, sym, ap, subst, arith}
 use Rattle.std.specs.Prelude.{not, slice_get}
 use Rattle.generator_laws.proofs.Prelude.{DrawnServer, Given, Replica, Root, ServerInit, Txn, agrees_with, all_below, all_below-from_each, and_from}
@@ -47,7 +47,7 @@ own_home ss n there k t e =
     ap (λ m. holds t (history_at (inits_from_drawn ss) m)) own.origin
     ∙ (ap (holds t) (root_history ss n there) ∙ any_passes_from_place (λ x. same_txn x t) (listed_history (own_parts n)) k t e (same_itself t))
 
--- ---- no root isn't kin
+-- ---- no root disagrees
 
 root_kin : (ss : List DrawnServer) (n : ℕ) → slice_get ss n ≡ Some Root → is_kin (inits_from_drawn ss) n (listed_history (own_parts n)) ≡ true
 root_kin ss n there =

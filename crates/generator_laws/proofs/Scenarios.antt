@@ -40,7 +40,7 @@ turns_bounded ss are ts fits few =
     let short : nat_le (length (map turn_of ts)) 1000000 ≡ true = le-leb _ _ (omega (arith, few, length-map ts turn_of)) in
     rw short (rw (turns_small ss are ts fits) refl)
 
--- ---- what is told of each server
+-- ---- what is known of each server
 
 all_known : (n : ℕ) (ss : List DrawnServer) → known_of (givens_from n ss) ≡ replicate (length ss) true
 all_known n [] = refl

@@ -6,7 +6,7 @@ use Rattle.generator_laws.proofs.Prelude.{givens_from, init_of, inits_from, init
 use Rattle.generator_laws.proofs.Prelude.{length-map, listed_count, mul-le, parts_of, sum_by-cons, transactions, turn_of}
 use Rattle.generator_laws.proofs.Flaws.{length-inits}
 
--- a root stands at a ten, and no replica does
+-- a root is at a ten, and no replica is
 abbrev IsAtTen : ℕ → DrawnServer → Type 0
 IsAtTen n Root = n % 10 ≡ 0
 IsAtTen n (Replica source executed) = n % 10 ≢ 0

@@ -1,4 +1,4 @@
--- What stands before the servers of a drawn scenario, and the whole.
+-- What is before the servers of a drawn scenario, and the whole.
 use Rattle.std.specs.Prelude.{ℕ, ◌∷◌, [], true, false, None, codes, map, replicate}
 use Rattle.generator_laws.specs.Prelude.{FilterList, Head, Scenario, no_filters, no_hooks, opening, servers_from, turns_from}
 use Rattle.generator_laws.specs.Drawn.{inits_from_drawn, turn_of}
@@ -21,8 +21,8 @@ drawn_head = record {
 abbrev pub passed_by_all : ℕ → FilterList
 passed_by_all servers = record { texts = codes "*" ∷ []; passes = replicate servers true }
 
--- The scenario of a seed, so many servers and so many turns: it begins at moment 0 with the drawn servers, without
--- GTIDs; the book knows each of them, and none has a rule; then come the drawn turns.
+-- The scenario of a seed, so many servers and so many turns. It begins at moment 0 with the drawn servers, without
+-- GTIDs. The book knows each of them, and none has a rule. Then come the drawn turns.
 abbrev pub drawn_scenario : ℕ → ℕ → ℕ → Scenario
 drawn_scenario seed servers turns =
     let first = servers_from seed servers in

@@ -32,14 +32,14 @@ pub fn drawn_texts_read()
         (turns_data (turns_from servers (servers_from seed servers).number turns).drawn) }
 {}
 
-/// Servers that are drawn have no flaw, however many there are: each replica's source logs, is of its cluster, counts
-/// no less and has a place for where the replica stands; no chain of sources comes back; and what roots list is kin.
+/// Servers that are drawn have no flaw, however many there are. Each replica's source logs, is of its cluster, counts
+/// no less and has a place for the replica's position. No chain of sources comes back, and what roots list agrees.
 pub fn drawn_servers_lack_flaws()
     ensures { (seed servers : ℕ) →
         flaw_in (inits_from_drawn (servers_from seed servers).drawn) ≡ None }
 {}
 
-/// What is drawn within the bound reads without a fault, as the whole scenario that was drawn, so it meets the
+/// What is drawn within the bound reads without a fault, as the whole scenario that was drawn. So it meets the
 /// condition of the calls that take a scenario. The bound is the reader's, with one transaction for each turn.
 pub fn drawn_scenarios_read()
     ensures whole { (seed servers turns : ℕ) → 0 < servers → servers ≤ 1000 → turns ≤ 1000000

@@ -34,7 +34,7 @@ run_rises a (suc n) =
     let behind = run_within (a + 1) n (a + 1) (a + 1 + n) (omega arith) (omega arith) in
     AllPairs-cons (λ (x y : ℕ). x < y) a (range_with_len (a + 1) n) (λ k d within. let b = (behind k d within).0 in omega arith) (run_rises (a + 1) n)
 
--- one rising list behind another
+-- one rising list after another
 rise_both : (xs ys : List ℕ) (m : ℕ) → AllPairs (λ (x y : ℕ). x < y) xs → All (λ (x : ℕ). x < m) xs → AllPairs (λ (x y : ℕ). x < y) ys → All (λ (y : ℕ). m ≤ y) ys
     → AllPairs (λ (x y : ℕ). x < y) (xs ++ ys)
 rise_both [] ys m up below more above = more

@@ -48,7 +48,7 @@ or_swap true true c = refl
 or_swap true false c = refl
 or_swap false b c = refl
 
--- where a list goes by the two tests of an insertion
+-- a list goes by the two tests of an insertion
 module _ (s t : Interval) (xs : List Interval) where
   pub by_tests : (P : List Interval → Type 0) → (touches s t ≡ true → P (inserted (merged s t) xs)) → (touches s t ≡ false → is_before s t ≡ true → P (s ∷ t ∷ xs))
       → (touches s t ≡ false → is_before s t ≡ false → P (t ∷ inserted s xs)) → P (inserted s (t ∷ xs))
@@ -209,8 +209,8 @@ inserted-past (t ∷ xs) (suc i) s is one le past =
     ∙ ap (λ b. cond b (s ∷ t ∷ xs) (t ∷ inserted s xs)) tests.1
     ∙ ap (λ ys. t ∷ ys) (inserted-past xs i s (set_rest t xs is) one (omega arith) (λ k d l r. past (suc k) d (omega arith) (omega arith)))
 
--- an interval that touches the first is merged with it, and one that touches none and comes after none of the others
--- stands first
+-- An interval that touches the first is merged with it. One that touches none, and comes after none of the others,
+-- comes first.
 pub inserted-touching : (s t : Interval) (xs : List Interval) → touches s t ≡ true → inserted s (t ∷ xs) ≡ inserted (merged s t) xs
 inserted-touching s t xs e = ap (λ b. cond b (inserted (merged s t) xs) (cond (is_before s t) (s ∷ t ∷ xs) (t ∷ inserted s xs))) e
 
@@ -227,7 +227,7 @@ inserted-alone s (t ∷ xs) one each reach e =
         let r : low s ≤ high t + 1 = All-head (λ t. low s ≤ high t + 1) t xs reach in
         absurd (omega arith)
 
--- where an interval touches the one at a point, that point is there
+-- if an interval touches the one at a point, that point is there
 pub touches-there : (xs : List Interval) (i : ℕ) (s : Interval) → touches_first s (drop i xs) ≡ true → i < length xs
 touches-there [] zero s e = absurd (false≢true e)
 touches-there [] (suc i) s e = absurd (false≢true e)
@@ -240,7 +240,7 @@ touches-at [] (suc i) s d e = absurd (false≢true e)
 touches-at (t ∷ xs) zero s d e = e
 touches-at (t ∷ xs) (suc i) s d e = touches-at xs i s d e
 
--- what stands from a point on, once the interval there is taken out
+-- what is from a point on, once the interval there is taken out
 pub drop-remove : (xs : List Interval) (i : ℕ) → i < length xs → drop i (remove xs i) ≡ drop (i + 1) xs
 drop-remove [] i h = absurd (omega arith)
 drop-remove (x ∷ xs) zero h = refl

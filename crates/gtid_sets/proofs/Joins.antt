@@ -37,13 +37,13 @@ set_push ys t is it below = record {
   apart = all_pairs_push (λ s t. high s + 1 < low t) ys t is.apart below;
 }
 
--- the last interval gives way to one that begins where it does
+-- the last interval gives way to one that begins at its start
 pub joined_set : (xs ys zs : List Interval) (l j : Interval) → IsSet xs → xs ≡ ys ++ l ∷ [] → IsInterval j → low j ≡ low l → zs ≡ ys ++ j ∷ [] → IsSet zs
 joined_set xs ys zs l j is e ij same z =
     let f = front_of ys l (subst IsSet e is) in
     subst IsSet (sym z) (set_push ys j f.front ij (λ k d h. let b = f.below k d h in omega arith))
 
--- an interval behind the last one
+-- an interval after the last one
 pub apart_set : (xs ys ws zs : List Interval) (l t : Interval) → IsSet xs → xs ≡ ys ++ l ∷ [] → IsInterval t → high l + 1 < low t
     → ws ≡ ys ++ l ∷ [] → zs ≡ ws ++ t ∷ [] → IsSet zs
 apart_set xs ys ws zs l t is e it gap w z =

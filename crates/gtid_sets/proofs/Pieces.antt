@@ -91,7 +91,7 @@ either_way : (u p a b : ℕ) (zero_one : Bool)
 either_way u p a b true = refl
 either_way u p a b false = large_or_not u p a b
 
--- numbers past the largest of 64 bits are too large as they stand
+-- numbers past the largest of 64 bits are too large without a cut, too
 capped : (u p a b : ℕ) → interval_of u p (min a (2 ^ 64 - 1)) (min b (2 ^ 64 - 1)) ≡ interval_of u p a b
 capped u p a b =
     let zero_a : eqb (min a (2 ^ 64 - 1)) 0 ≡ eqb a 0 = grind (arith, nat_tests) in

@@ -49,7 +49,7 @@ rise_highs xs i j d is l h = elim (cases_lt i j) [
       subst (λ (k : ℕ). high (get_or xs i d) ≤ high (get_or xs k d)) (sym here) (omega arith)
 ]
 
--- what follows in one list, where the next of the other comes first
+-- what follows in one list, if the next of the other comes first
 pub rises_past : (ys : List Interval) (j : ℕ) (d s : Interval) → IsSet ys → (j < length ys → low s ≤ low (get_or ys j d)) → AllWithin (λ t. low s ≤ low t) ys j (length ys)
 rises_past ys j d s is h k e l r =
     let first = h (omega arith) in

@@ -52,7 +52,7 @@ digit_word b e = grind (arith, nat_tests)
 digit_dash : (b : ℕ) → is_ascii_digit b ≡ true → not (is_dash b) ≡ true
 digit_dash b e = grind (arith, nat_tests)
 
--- where a text is cut
+-- the place at which a text is cut
 place_of : (p : ℕ → Bool) (d : ℕ) (a rest : List ℕ) → p d ≡ true → list_all (λ b. not (p b)) a ≡ true → position_or_len p (a ++ d ∷ rest) ≡ length a
 place_of p d [] rest cuts e = rw cuts refl
 place_of p d (b ∷ a) rest cuts e =
@@ -241,7 +241,7 @@ part_back p u name r xs word clean uuid read =
     let whole : list_all in_part (name ++ 58 ∷ r) ≡ true = all_append in_part name (58 ∷ r) (all_imply in_word in_part word_part name word) behind_colon in
     part_filled p (name ++ 58 ∷ r) whole (omega (arith, length-append name (58 ∷ r))) ∙ filled_back p u name r xs word uuid read
 
--- What is printed behind an interval of this UUID: more intervals of it, then parts of others.
+-- What is printed after an interval of this UUID: more intervals of it, then parts of others.
 record Tail (u : ℕ) (xs : List Interval) : Type 0 where
   here : List ℕ
   rest : List (List ℕ)
@@ -340,7 +340,7 @@ tail_same s xs is t = record {
   reads_others = t.reads_others;
 }
 
--- a UUID with its intervals, and the parts behind it
+-- a UUID with its intervals, and the parts after it
 heads : (s : Interval) (xs : List Interval) → IsInterval s → (t : Tail s.uuid xs) → (p : ℕ) → parts_at p (((uuid_text s.uuid ++ 58 ∷ range_text s) ++ t.here) ∷ t.rest) ≡ Ok (s ∷ xs)
 heads s xs is t p =
     let name = uuid_text s.uuid in

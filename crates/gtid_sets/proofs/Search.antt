@@ -1,4 +1,4 @@
--- Where a set's intervals stand beside a pair.
+-- The intervals of a set beside a pair: which are before it, which after.
 use Rattle.gtid_sets.proofs.Prelude.{All, AllWithin, Interval, IsInterval, IsSet, Misses, OnFalse, between, cases_lt, false≢true, get_or_default}
 use Rattle.gtid_sets.proofs.Prelude.{high, holds, le-leb as at_or_above, list_any_at, list_any_none, low, lt-leb as not_above, nat_tests, on_line}
 use Rattle.gtid_sets.proofs.Prelude.{point, spans, take_all}
@@ -16,7 +16,7 @@ below a b x l = grind (arith, nat_tests)
 pub above : (a b x : ℕ) → b < x → (leb a x && leb x b) ≡ false
 above a b x l = grind (arith, nat_tests)
 
--- where all intervals below i end before x and the one at i does not
+-- all intervals below i end before x, and the one at i does not
 pub line_at : (xs : List Interval) (i : ℕ) (d : Interval) (x : ℕ) → IsSet xs → i < length xs → AllWithin (λ s. high s < x) xs 0 i → x ≤ high (get_or xs i d)
     → on_line xs x ≡ leb (low (get_or xs i d)) x
 line_at xs i d x is h past up =
@@ -70,7 +70,7 @@ misses_first xs i d s is it h past before =
     let up = low_high (get_or xs i d) (is.each i d h) in
     (s.first, first_in s it, holds_line xs s.uuid s.first is.each (omega arith) ∙ (line_at xs i d (low s) is h past (omega arith) ∙ not_above _ _ before))
 
--- just behind an interval stands nothing of the set
+-- the set has nothing just after an interval
 behind_none : (xs : List Interval) (i : ℕ) (d : Interval) (x : ℕ) → IsSet xs → i < length xs → x ≡ high (get_or xs i d) + 1 → on_line xs x ≡ false
 behind_none xs i d x is h at =
     list_any_none (between x) xs (λ k e r. elim (cases_lt i k) [
@@ -128,7 +128,7 @@ none_held (s ∷ xs) is none =
 pub same_point : {u v n m : ℕ} → u ≡ v → n ≡ m → point u n ≡ point v m
 same_point {u} {v} {n} {m} e f = subst (λ (w : ℕ). point u n ≡ point w m) e (subst (λ (k : ℕ). point u n ≡ point u k) f refl)
 
--- where the search finds no interval
+-- the search finds no interval
 pub found_not : (xs : List Interval) (i u n : ℕ) → IsSet xs → n < 2 ^ 64 → length xs ≤ i → AllWithin (λ s. high s < point u n) xs 0 i → holds xs u n ≡ false
 found_not xs i u n is fits out past = holds_line xs u n is.each fits ∙ line_past xs (point u n) (λ k d l r. past k d l (omega arith))
 

@@ -1,4 +1,4 @@
--- One set without another, from the front on.
+-- One set without another, from the first interval on.
 use Rattle.std.proofs.Common.{◌≡◌, ℕ, ◌+◌, ◌-◌, ◌^◌, ◌<◌, ◌≤◌, inl, inr, Bool, true, false, ltb, leb, max, not, List, [], length, get_or, refl, sym, ap, ◌∙◌, subst, arith}
 use Rattle.std.specs.Prelude.{◌&&◌, ◌||◌}
 use Rattle.gtid_sets.proofs.Prelude.{AllWithin, Interval, IsInterval, IsSet, between, cases_lt, high, holds, le-ltb, list_any_none, low, lt-ltb}
@@ -15,7 +15,7 @@ minus_holds xs ys zs ix iy iz same u n =
       | inr past ↦ rw (holds_past zs u n iz.each past, holds_past xs u n ix.each past) refl
     ]
 
--- what stands before the next interval
+-- what is before the next interval
 before_next : (ys : List Interval) (j : ℕ) (d : Interval) (f x : ℕ) → IsSet ys → AllWithin (λ s. high s < f) ys 0 j → f ≤ x → (j < length ys → x < low (get_or ys j d)) → on_line ys x ≡ false
 before_next ys j d f x is past h next =
     list_any_none (between x) ys (λ k e r. elim (cases_lt k j) [
@@ -57,7 +57,7 @@ gap_low from t x l = grind (arith, nat_tests)
 gap_high : (from t x : ℕ) → t ≤ x → (leb from x && ltb x t) ≡ false
 gap_high from t x l = grind (arith, nat_tests)
 
--- an interval that the other set does not meet, from the front on
+-- an interval that the other set does not meet, from the first one on
 pub whole_piece : (xs ys old new : List Interval) (i j : ℕ) (d : Interval) (f from g : ℕ) → IsSet xs → IsSet ys → i < length xs
     → AllWithin (λ s. high s < f) xs 0 i → AllWithin (λ s. high s < f) ys 0 j → (j < length ys → high (get_or xs i d) < low (get_or ys j d))
     → from ≡ max f (low (get_or xs i d)) → g ≡ high (get_or xs i d) + 1 → from ≤ high (get_or xs i d)
@@ -104,7 +104,7 @@ gap_piece xs ys old new i j d f from g ix iy h k past_x past_y meets is_from is_
     ])
     (λ past. gap_high from (low t) x (omega arith))
 
--- where all of the set is settled
+-- all of the set is settled
 pub settled : (xs ys zs : List Interval) (i f : ℕ) → length xs ≤ i → AllWithin (λ s. high s < f) xs 0 i
     → ((x : ℕ) → on_line zs x ≡ (ltb x f && (on_line xs x && not (on_line ys x)))) → (x : ℕ) → on_line zs x ≡ (on_line xs x && not (on_line ys x))
 settled xs ys zs i f h past has x =

@@ -6,7 +6,7 @@ use Rattle.gtid_sets.specs.declared.interval.Interval.{Interval}
 abbrev pub single : ℕ → ℕ → Interval
 single uuid n = record { uuid = uuid; first = n; last = n }
 
--- two intervals of one server overlap, or one begins just behind the other
+-- two intervals of one server overlap, or one begins just after the other
 abbrev pub touches : Interval → Interval → Bool
 touches s t = (s.uuid == t.uuid) && (nat_le t.first (s.last + 1) && nat_le s.first (t.last + 1))
 

@@ -10,7 +10,7 @@ use Rattle.gtid_sets.specs.declared.fault.GtidFault.TheVariants.{BadUuid, BadInt
 use Rattle.gtid_sets.specs.Sets.{largest, holds}
 use Rattle.gtid_sets.specs.Gives.{◌>>=◌}
 
--- the fault that a text has, and nothing at want of memory
+-- the fault that a text has, and nothing if memory runs out
 abbrev pub fault_of : GtidFault → Option GtidFault
 fault_of (BadUuid offset) = Some (BadUuid offset)
 fault_of (BadInterval offset) = Some (BadInterval offset)
@@ -31,7 +31,7 @@ is_comma b = b == 44
 abbrev pub is_dash : ℕ → Bool
 is_dash b = b == 45
 
--- a byte in front of the first piece
+-- a byte before the first piece
 abbrev pub onto_first : ℕ → List (List ℕ) → List (List ℕ)
 onto_first b [] = (b ∷ []) ∷ []
 onto_first b (piece ∷ pieces) = (b ∷ piece) ∷ pieces
@@ -72,14 +72,14 @@ interval_of uuid offset first last =
     else if nat_lt last first then Err (BadInterval offset)
     else Ok (record { uuid = uuid; first = first; last = last })
 
--- the first number of an interval's text, and the last, which is the same where there is no dash
+-- the first number of an interval's text, and the last, which is the same if there is no dash
 abbrev pub begin_of : List ℕ → List ℕ
 begin_of text = before_first is_dash text
 
 abbrev pub end_of : List ℕ → List ℕ
 end_of text = if nat_lt (position_or_len is_dash text) (length text) then after_first is_dash text else text
 
--- an interval, whose first byte stands at this offset
+-- an interval, whose first byte is at this offset
 unfoldable pub interval_at : ℕ → ℕ → List ℕ → Result Interval GtidFault
 interval_at uuid offset text = do
   first ← number_or offset (number_at (begin_of text))
@@ -97,7 +97,7 @@ abbrev pub uuid_or : ℕ → Option (List ℕ) → Result ℕ GtidFault
 uuid_or offset None = Err (BadUuid offset)
 uuid_or offset (Some bytes) = Ok (from_be_bytes w128 bytes)
 
--- the intervals behind the first colon
+-- the intervals after the first colon
 abbrev pub listed_at : ℕ → ℕ → List ℕ → Result (List Interval) GtidFault
 listed_at uuid offset text =
     if nat_lt (position_or_len is_colon text) (length text)
@@ -110,7 +110,7 @@ filled_at offset text = do
   uuid ← uuid_or offset (parsed_hyphenated (before_first is_colon text))
   listed_at uuid offset text
 
--- what stands between two commas
+-- what is between two commas
 unfoldable pub part_at : ℕ → List ℕ → Result (List Interval) GtidFault
 part_at offset text = if nat_lt (leading text) (length text) then filled_at (offset + leading text) (inner text) else Err (BadUuid (offset + length text))
 
@@ -125,7 +125,7 @@ parts_at offset (text ∷ texts) = do
 unfoldable pub text_at : List ℕ → Result (List Interval) GtidFault
 text_at text = if nat_lt (leading text) (length text) then parts_at 0 (pieces is_comma text) else Ok []
 
--- behind those that are found already
+-- after those that are found already
 abbrev pub behind : List Interval → Result (List Interval) GtidFault → Result (List Interval) GtidFault
 behind found read = do
   more ← read

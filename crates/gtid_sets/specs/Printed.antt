@@ -12,7 +12,7 @@ uuid_text uuid = hyphenated_text lower (to_be_bytes w128 uuid)
 abbrev pub range_text : Interval → List ℕ
 range_text s = if s.first == s.last then decimal s.first else decimal s.first ++ 45 ∷ decimal s.last
 
--- the UUID, with a comma before it unless it is the first, and nothing where the interval before had it
+-- the UUID, with a comma before it unless it is the first, and nothing if the interval before had it
 abbrev pub head_text : Option ℕ → ℕ → List ℕ
 head_text None uuid = uuid_text uuid
 head_text (Some before) uuid = if uuid == before then [] else 44 ∷ uuid_text uuid

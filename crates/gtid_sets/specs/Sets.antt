@@ -7,7 +7,7 @@ use Rattle.gtid_sets.specs.declared.interval.Interval.{Interval}
 abbrev pub largest : ℕ
 largest = 9223372036854775806
 
--- where a pair stands in the order of pairs: by the UUID, then by the number
+-- a pair's rank in the order of pairs: by the UUID, then by the number
 unfoldable pub point : ℕ → ℕ → ℕ
 point uuid n = uuid * 2 ^ 64 + n
 

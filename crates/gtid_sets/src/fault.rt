@@ -10,16 +10,17 @@ use std::fmt;
 /// The first fault of a text that is no set of GTIDs, with the offset of its byte.
 #[derive(Clone, Copy, Debug, PartialEq, Eq)]
 pub enum GtidFault {
-    /// No hyphenated UUID, placed at its first byte; an empty part beside a comma, placed at the comma
-    /// or the end that follows it.
+    /// No hyphenated UUID, with the offset of its first byte. For an empty part beside a comma it is the offset of the
+    /// comma or the end that follows it.
     BadUuid(usize),
-    /// No `n` or `n-m`, or n above m, placed at the interval's first byte; a UUID alone, placed behind it.
+    /// No `n` or `n-m`, or n above m, with the offset of the interval's first byte. For a UUID alone it is the offset
+    /// after it.
     BadInterval(usize),
-    /// A number 0, placed at the interval's first byte.
+    /// A number 0, with the offset of the interval's first byte.
     Zero(usize),
-    /// A number above `LARGEST`, placed at the interval's first byte.
+    /// A number above `LARGEST`, with the offset of the interval's first byte.
     TooLarge(usize),
-    /// Want of memory.
+    /// Out of memory.
     Memory,
 }
 

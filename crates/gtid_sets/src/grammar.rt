@@ -86,7 +86,7 @@ fn first_dash(text: &[u8]) -> usize
     find_dash(text).unwrap_or(text.len())
 }
 
-// The number that these digits write, or the largest of 64 bits where that is smaller.
+// The number that these digits write, or the largest of 64 bits if that is smaller.
 fn number(digits: &[u8]) -> Option<u64>
     ensures { result ≡ option_map (λ n. min n (2 ^ 64 - 1)) (number_at digits.now) }
 {
@@ -120,7 +120,7 @@ fn interval_of(uuid: u128, offset: usize, first: u64, last: u64) -> Result<Inter
     }
 }
 
-// What stands before the first dash and behind it, or all of the text twice.
+// What is before the first dash and after it, or all of the text twice.
 fn ends(text: &[u8]) -> (&[u8], &[u8])
     ensures begin { result.0.now ≡ begin_of text.now }
     ensures end { result.1.now ≡ end_of text.now }
@@ -178,7 +178,7 @@ fn rest_of(text: &[u8], from: usize) -> &[u8]
     &text[from..]
 }
 
-// The intervals of a text, which colons divide, behind those that are found.
+// The intervals of a text, which colons divide, after those that are found.
 fn read_intervals(
     found: &mut Vec<Interval>,
     uuid: u128,
@@ -214,7 +214,7 @@ fn inner(text: &[u8]) -> &[u8]
     &rest[..rest.len() - trailing(rest)]
 }
 
-// A UUID and its intervals, behind those that are found.
+// A UUID and its intervals, after those that are found.
 fn read_filled(found: &mut Vec<Interval>, offset: usize, text: &[u8]) -> Result<(), GtidFault>
     requires fits { offset + length text.now < 2 ^ 64 }
     requires each { All IsInterval found.old.items }
@@ -234,7 +234,7 @@ fn read_filled(found: &mut Vec<Interval>, offset: usize, text: &[u8]) -> Result<
     }
 }
 
-// What stands between two commas, behind what is found.
+// Reads what is between two commas, and appends it to what is found.
 fn read_part(found: &mut Vec<Interval>, offset: usize, text: &[u8]) -> Result<(), GtidFault>
     requires fits { offset + length text.now < 2 ^ 64 }
     requires each { All IsInterval found.old.items }

@@ -26,7 +26,7 @@ pub struct Gtid {
 }
 
 impl Gtid {
-    /// Whether it stands before the other: by the UUID, then by the number.
+    /// Whether it is before the other: by the UUID, then by the number.
     #[tactic(auto, using(crate::proofs::Line::point_lt))]
     pub fn is_before(self, other: Gtid) -> bool
         ensures { result ≡ nat_lt (point self.uuid self.n) (point other.uuid other.n) }
@@ -34,7 +34,7 @@ impl Gtid {
         self.uuid < other.uuid || (self.uuid == other.uuid && self.n < other.n)
     }
 
-    /// The one that stands behind the other.
+    /// The one that is after the other.
     pub fn later(self, other: Gtid) -> Gtid
         ensures { point result.uuid result.n ≡ max (point self.uuid self.n) (point other.uuid other.n) }
     {
@@ -65,21 +65,21 @@ impl Interval {
         }
     }
 
-    /// The first GTID, or the given one where that is later.
+    /// The first GTID, or the given one if that is later.
     pub fn start_from(&self, front: Gtid) -> Gtid
         ensures { point result.uuid result.n ≡ max (point front.uuid front.n) (low self.now) }
     {
         front.later(self.start())
     }
 
-    /// Whether the last GTID stands before this one.
+    /// Whether the last GTID is before this one.
     pub fn ends_before(&self, gtid: Gtid) -> bool
         ensures { result ≡ nat_lt (high self.now) (point gtid.uuid gtid.n) }
     {
         self.end().is_before(gtid)
     }
 
-    /// The GTID behind the last one.
+    /// The GTID after the last one.
     pub fn behind(&self) -> Gtid
         requires { IsInterval self.now }
         ensures uuid { result.uuid ≡ self.now.uuid }
@@ -91,7 +91,7 @@ impl Interval {
         }
     }
 
-    /// Whether the next interval begins in this one or just behind it, or before it.
+    /// Whether the next interval begins in this one or just after it, or before it.
     #[tactic(auto, using(crate::proofs::Line::point_behind))]
     pub fn reaches(&self, next: &Interval) -> bool
         requires this { IsInterval self.now }
@@ -101,7 +101,7 @@ impl Interval {
         !self.behind().is_before(next.start())
     }
 
-    /// Whether the two overlap, or one begins just behind the other.
+    /// Whether the two overlap, or one begins just after the other.
     pub fn touches(&self, other: &Interval) -> bool
         requires this { IsInterval self.now }
         requires other { IsInterval other.now }
@@ -110,7 +110,7 @@ impl Interval {
         self.uuid == other.uuid && (other.first <= self.last + 1 && self.first <= other.last + 1)
     }
 
-    /// Both as one, where they touch.
+    /// Both as one, if they touch.
     pub fn merged(&self, other: &Interval) -> Interval
         ensures { result ≡ merged self.now other.now }
     {

@@ -14,5 +14,5 @@ pub use interval::{Interval, LARGEST};
 pub use print::printed_reads;
 pub use reserved::{ReservedSet, added_is_had};
 pub use set::{GtidSet, count_is_pairs, same_sets};
-/// Want of memory.
+/// Out of memory.
 pub use std::alloc::AllocError as Memory;

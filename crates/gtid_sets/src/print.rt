@@ -65,7 +65,7 @@ fn append_range(text: &mut Vec<u8>, interval: &Interval) -> Result<(), Memory>
     Ok(())
 }
 
-/// The canonical text of these intervals.
+/// The canonical text of these intervals. `Err` means out of memory.
 pub fn text_of(alloc: Global, intervals: &[Interval]) -> Result<Vec<u8>, Memory>
     ensures { IfOk result (λ text. text.items ≡ printed intervals.now) }
 {

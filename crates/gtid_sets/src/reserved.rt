@@ -39,7 +39,7 @@ impl Model for ReservedSet {
 }
 
 impl ReservedSet {
-    /// The empty set, with room for so many intervals.
+    /// The empty set, with room for so many intervals. `Err` means out of memory.
     pub fn with_room(alloc: Global, room: u64) -> Result<ReservedSet, Memory>
         ensures { IfOk result (λ s. s ≡ record { intervals = []; room = room }) }
     {
@@ -54,14 +54,15 @@ impl ReservedSet {
         is_in(&self.intervals, Gtid { uuid, n })
     }
 
-    /// The same set, without the room.
+    /// The same set, without the room. `Err` means out of memory.
     pub fn copy(&self, alloc: Global) -> Result<GtidSet, Memory>
         ensures { IfOk result (λ copy. copy ≡ self.now.intervals) }
     {
         GtidSet::of_intervals(alloc, &self.intervals)
     }
 
-    /// The GTIDs that are in this set and not in the other. It takes time in the number of their intervals.
+    /// The GTIDs that are in this set and not in the other. It takes time in the number of their intervals. `Err` means
+    /// out of memory.
     pub fn minus(&self, alloc: Global, other: &GtidSet) -> Result<GtidSet, Memory>
         ensures rest { IfOk result (λ rest. (uuid n : ℕ) → holds rest uuid n ≡ (holds self.now.intervals uuid n && not (holds other.now uuid n))) }
         ensures sets { IfOk result (λ rest. IsSet self.now.intervals × IsSet rest) }

@@ -52,9 +52,9 @@ impl GtidSet {
         }
     }
 
-    /// Reads a set: parts with `,` between, each a hyphenated UUID in either case and one or more of `:`
-    /// and `n` or `n-m`. Blanks may stand round commas and at the ends, and the text without a part is the
-    /// empty set. The fault is the first in the text (MySQL 8.0 Reference Manual, "GTID Format and Storage").
+    /// Reads a set: parts with `,` between, each a hyphenated UUID in either case and one or more of `:` and `n` or
+    /// `n-m`. There may be blanks round commas and at the ends. The text without a part is the empty set. The fault is
+    /// the first in the text (MySQL 8.0 Reference Manual, "GTID Format and Storage").
     pub fn read(alloc: Global, text: &str) -> Result<GtidSet, GtidFault>
         ensures reads { Reads result (text_at text.now) }
         ensures set { IfOk result IsSet }
@@ -98,7 +98,7 @@ impl GtidSet {
         count_of(&self.intervals)
     }
 
-    /// The same set once more.
+    /// The same set once more. `Err` means out of memory.
     #[inline(always)]
     pub fn copy(&self) -> Result<GtidSet, Memory>
         ensures { IfOk result (λ copy. copy ≡ self.now) }
@@ -143,8 +143,8 @@ impl GtidSet {
         self.intervals == other.intervals
     }
 
-    /// Adds a GTID, `n` from 1 to `LARGEST`, and says whether it was new. At want of memory the set stays
-    /// as it was. It takes time in the number of intervals.
+    /// Adds a GTID, `n` from 1 to `LARGEST`, and answers whether it was new. If memory runs out, the set stays as it
+    /// was. It takes time in the number of intervals.
     #[tactic(auto, using(crate::proofs::Points::add_holds))]
     pub fn add(&mut self, uuid: u128, n: u64) -> Result<bool, Memory>
         requires above_zero { 1 ≤ n }
@@ -167,8 +167,8 @@ impl GtidSet {
         Ok(was_new)
     }
 
-    /// Appends the one canonical text: rising UUIDs in lower case with `,` between them, and behind each
-    /// its intervals, each after a `:`. At want of memory it appends nothing.
+    /// Appends the one canonical text: rising UUIDs in lower case with `,` between them, and after each its intervals,
+    /// each after a `:`. If memory runs out, it appends nothing.
     pub fn print(&self, out: &mut Vec<u8>) -> Result<(), Memory>
         ensures ok { OnOk result (out.new.items ≡ out.old.items ++ printed self.now) }
         ensures err { OnErr result (out.new.items ≡ out.old.items) }
@@ -177,7 +177,7 @@ impl GtidSet {
         out.extend_from_slice(&text)
     }
 
-    /// Both sets as one. It takes time in the number of their intervals.
+    /// Both sets as one. It takes time in the number of their intervals. `Err` means out of memory.
     #[tactic(auto, using(crate::proofs::Points::union_holds))]
     pub fn union(&self, other: &GtidSet) -> Result<GtidSet, Memory>
         ensures has { IfOk result (λ both. (uuid n : ℕ) → holds both uuid n ≡ (holds self.now uuid n || holds other.now uuid n)) }
@@ -189,7 +189,8 @@ impl GtidSet {
         Ok(both)
     }
 
-    /// The GTIDs that are in this set and not in the other. It takes time in the number of their intervals.
+    /// The GTIDs that are in this set and not in the other. It takes time in the number of their intervals. `Err` means
+    /// out of memory.
     #[tactic(auto, using(crate::proofs::Sweep::minus_holds))]
     pub fn minus(&self, other: &GtidSet) -> Result<GtidSet, Memory>
         ensures has { IfOk result (λ rest. (uuid n : ℕ) → holds rest uuid n ≡ (holds self.now uuid n && not (holds other.now uuid n))) }
@@ -201,7 +202,7 @@ impl GtidSet {
         Ok(rest)
     }
 
-    /// The GTIDs of one UUID. It takes time in the number of intervals.
+    /// The GTIDs of one UUID. It takes time in the number of intervals. `Err` means out of memory.
     pub fn of_uuid(&self, uuid: u128) -> Result<GtidSet, Memory>
         ensures part { IfOk result (λ part. part ≡ filter (λ s. s.uuid == uuid) self.now) }
         ensures has { IfOk result (λ part. (u n : ℕ) → holds part u n ≡ ((u == uuid) && holds self.now u n)) }
@@ -213,7 +214,7 @@ impl GtidSet {
         Ok(part)
     }
 
-    /// Shows to proofs that a set's intervals stand in order, and that no two of them overlap or touch. It takes no
+    /// Shows to proofs that a set's intervals are in order, and that no two of them overlap or touch. It takes no
     /// memory.
     pub fn show_order(&self)
         ensures { IsSet self.now }
@@ -221,8 +222,7 @@ impl GtidSet {
         let _intervals = self.intervals.len();
     }
 
-    // Appends an interval that begins nowhere before those of the set, joined to the last one where
-    // they overlap or touch.
+    // Appends an interval that begins nowhere before those of the set, joined to the last one if they overlap or touch.
     fn append(&mut self, next: Interval) -> Result<(), Memory>
         requires next { IsInterval next }
         requires order { All (λ s. low s ≤ low next) self.old }
@@ -426,7 +426,7 @@ fn difference(alloc: Global, these: &[Interval], those: &[Interval]) -> Result<G
     let mut rest = GtidSet::empty(alloc);
     let mut i = 0;
     let mut j = 0;
-    // What stands before it is settled.
+    // What is before it is settled.
     let mut front = Gtid { uuid: 0, n: 0 };
     'sweep: while i < these.len() {
         let this = these[i];
@@ -455,8 +455,8 @@ pub fn same_sets()
     ensures { (xs ys : List Interval) → IsSet xs → IsSet ys → ((uuid n : ℕ) → holds xs uuid n ≡ holds ys uuid n) → xs ≡ ys }
 {}
 
-/// The count is the number of pairs: the list of a set's pairs has so many, rises, so that it has no pair
-/// twice, and has exactly the pairs that the set holds.
+/// The count is the number of pairs. The list of a set's pairs is that long, rises, and so has no pair twice. It has
+/// exactly the pairs that are in the set.
 pub fn count_is_pairs()
     ensures count { (xs : List Interval) → IsSet xs → length (pairs xs) ≡ size xs }
     ensures rises { (xs : List Interval) → IsSet xs → AllPairs (λ (a b : ℕ). a < b) (pairs xs) }

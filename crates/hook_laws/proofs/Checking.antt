@@ -80,7 +80,7 @@ tended-still w b read now r d s has is early =
     ap (λ (h : Option HookState). (with_hooks (record d { hooks = h }) (promoted_in b t) r t).taken.exchanges) has
     ∙ early-still d s (promoted_in b t) r t early (λ never. check-still w b read now r (is.first never))
 
--- ---- a recovery that fails tells no lines of its own
+-- ---- a recovery that fails has no lines of its own
 
 module _ (w : World) (c : Cause) (lines : List Line) where
   by-fate : (r : Recovery) (k : Cause) (o : Option Observation) (f : Fate) → (met w r k o f).step ≡ step.Failed c lines → lines ≡ []

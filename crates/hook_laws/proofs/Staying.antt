@@ -55,7 +55,7 @@ module _ (s : HookState) where
   behind-checked : (h : Hook) → due_after s ≡ Some h → s.checked ≡ true
   behind-checked h e = when s.checked (slice_get s.hooks.post_failover s.after) h e
 
-  -- behind it none is left before it
+  -- after it none is left before it
   none-left : s.checked ≡ true → due_before s ≡ None → length s.hooks.pre_failover ≤ s.before
   none-left checked none = past s.hooks.pre_failover s.before (sym (ap (λ (b : Bool). cond b (slice_get s.hooks.pre_failover s.before) None) checked) ∙ none)
 
@@ -146,7 +146,7 @@ module _ (d : Docket) (s : HookState) (promoted : Option HostPort) (r : Recovery
   pub hooked-was : WasEarly (with_hooks own promoted r t)
   hooked-was = front-was (due_before s) refl
 
--- ---- with a docket
+-- ---- with a `Docket`
 
 pub tended-turn : (w : World) (b : BookState) (read : ℕ) (now : Moment) (r : Recovery) (d : Docket) (s k : HookState) → d.hooks ≡ Some s → IsTended r s
     → is_going (hooked w b read now r d).taken.step ≡ true → (hooked w b read now r d).docket.hooks ≡ Some k → IsTended (hooked w b read now r d).taken.recovery k
@@ -163,7 +163,7 @@ early-turn w b read now r d s k has =
     subst (λ (o : Option HookState). (with_hooks (record d { hooks = o }) (promoted_in b t) r t).docket.hooks ≡ Some k → IsEarly k → IsEarly s)
     (sym has) (hooked-was d s (promoted_in b t) r t k)
 
--- ---- dockets
+-- ---- the states of recoveries' hooks
 
 same-checked : (o : Option HookState) → plan_of (option_map checked o) ≡ plan_of o
 same-checked None = refl

@@ -80,7 +80,7 @@ module _ (d : Docket) (s : HookState) (promoted : Option HostPort) (r : Recovery
   abbrev Looks : JobStep → Type 0
   Looks x = (x ≡ step.Going) ⊎ (x ≡ step.Failed (cause.Reachable r.failed) [])
 
-  -- no hook before it is due, and none behind it
+  -- no hook before it is due, and none after it
   unlooked : (y : JobStep) → s.checked ≡ false → (with_hooks own promoted r t).taken.step ≡ y → (x : JobStep) → t.step ≡ x → (rear_turn own promoted r (record t { step = x }) (due_at s x)).taken.step ≡ y
   unlooked y never e x is =
       subst (λ (z : JobStep). (rear_turn own promoted r (record t { step = z }) (due_at s z)).taken.step ≡ y) is
@@ -101,7 +101,7 @@ module _ (d : Docket) (s : HookState) (promoted : Option HostPort) (r : Recovery
       go true is = done-tells is lines e
       go false is = absurd (looked-first (looks is) lines is e)
 
--- ---- with a docket
+-- ---- with a `Docket`
 
 module _ (w : World) (b : BookState) (read : ℕ) (now : Moment) (r : Recovery) (d : Docket) (s : HookState) (has : d.hooks ≡ Some s) (is : IsTended r s) where
   abbrev turn : Taken
@@ -124,7 +124,7 @@ module _ (w : World) (b : BookState) (read : ℕ) (now : Moment) (r : Recovery) 
       let same = subst (λ (o : Option HookState). told o ≡ step.Failed c lines) has e in
       (reached-so d s (promoted_in b turn) r turn is.order (check-tells w b read now r (is.first fresh)) lines c fresh same, reached-tells d s (promoted_in b turn) r turn is.order fresh lines c same)
 
--- one without hooks tells what the recovery does, which is nothing where it fails
+-- one without hooks reports what the recovery does, which is nothing if it fails
 pub none-docket : (w : World) (b : BookState) (read : ℕ) (now : Moment) (r : Recovery) (d : Docket) (c : Cause) (lines : List Line) → d.hooks ≡ None
     → (hooked w b read now r d).taken.step ≡ step.Failed c lines → lines ≡ []
 none-docket w b read now r d c lines has e =

@@ -1,4 +1,4 @@
--- What holds of a recovery and its hooks, from its beginning on.
+-- What holds for a recovery and its hooks, from its start on.
 use Rattle.std.specs.Prelude.{◌≡◌, ◌⊎◌, false, List, [], ◌∷◌, Option, None, Some}
 use Rattle.std.specs.Option.{option_map}
 use Rattle.unended_jobs.specs.Commands.declared.line.HookPhase.TheVariants as phase
@@ -29,7 +29,7 @@ pub record IsAtCheck (r : Recovery) : Type 0 where
   pub ops : r.core.ops ≡ op.Status r.failed None ∷ []
   pub hands : r.core.hands ≡ []
 
--- its hooks are in order, and it hasn't looked yet where it is as it began
+-- its hooks are in order, and it hasn't looked yet if it is as it began
 pub record IsTended (r : Recovery) (s : HookState) : Type 0 where
   pub order : AreInOrder s
   pub first : s.checked ≡ false → IsAtCheck r
@@ -42,17 +42,17 @@ IsEarly s = (s.checked ≡ false) ⊎ ((h : Hook) × (due_before s ≡ Some h))
 abbrev pub all_before : HookState → List Line
 all_before s = lines_of phase.PreFailover s.told (running_before s.hooks.pre_failover)
 
--- and of all that run behind it
+-- and of all that run after it
 abbrev pub all_behind : HookState → Option HostPort → List Line
 all_behind s promoted = lines_of phase.PostFailover (when_done s.told promoted) s.hooks.post_failover
 
 -- ---- along its turns
 
--- its hooks, and what they are told
+-- its hooks, and their values
 abbrev pub plan_of : Option HookState → Option (Hooks × Values)
 plan_of o = option_map (λ s. (s.hooks, s.told)) o
 
--- one that has come of another: with its entry and its hooks, which are told the same
+-- one that has come of another: with its entry and its hooks, which have the same values
 pub record IsOfDocket (had d : Docket) : Type 0 where
   pub entry : d.entry ≡ had.entry
   pub hooks : plan_of d.hooks ≡ plan_of had.hooks

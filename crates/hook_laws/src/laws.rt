@@ -22,8 +22,8 @@ ghost use Rattle.unended_jobs.specs.Hooked.{hooked, promoted_in};
 ghost use Rattle.unended_jobs.specs.declared.docket.Docket.{Docket as ADocket};
 ghost use Rattle.hook_laws.specs.Tended.{all_before, all_behind, IsEarly, IsOfDead, IsOfDocket, IsTended};
 
-/// Until all hooks have run before it that are to, a recovery changes no server: neither in the turn in which it looks
-/// at its failed server, nor in the turn of such a hook, whatever its exit.
+/// Until all hooks have run before it that are to, a recovery changes no server. It changes none in the turn in which
+/// it looks at its failed server, nor in the turn of such a hook, whatever its exit.
 pub fn hooks_before_recoveries_leave_servers()
     ensures { (w : World) (b : BookState) (read : ℕ) (now : AMoment) (r : Recovery)
         (d : ADocket) (s : HookState) →
@@ -31,9 +31,9 @@ pub fn hooks_before_recoveries_leave_servers()
         (hooked w b read now r d).taken.exchanges ≡ [] }
 {}
 
-/// A recovery that is done tells, behind its own lines, those of all hooks before it and of all behind it; one that
-/// fails tells those before it up to the one that ended it, and all that run then. One that hasn't looked at its failed
-/// server fails just where that is reached, and tells none before it. One without hooks tells none.
+/// A recovery that is done has, after its own lines, those of all hooks before it and of all after it. One that fails
+/// has those before it up to the one that ended it, and all that run then. One that hasn't looked at its failed server
+/// fails exactly if that is reached, and has none before it. One without hooks has none.
 pub fn recoveries_tell_their_hooks()
     ensures done { (w : World) (b : BookState) (read : ℕ) (now : AMoment) (r : Recovery)
         (d : ADocket) (s : HookState) (lines : List ALine) →
@@ -56,7 +56,7 @@ pub fn recoveries_tell_their_hooks()
         (hooked w b read now r d).taken.step ≡ step.Failed c lines → lines ≡ [] }
 {}
 
-/// Hooks of a recovery that begins are in order, and it is to look at its failed server; so they stay along its turns.
+/// Hooks of a recovery that begins are in order, and it is to look at its failed server. So they stay along its turns.
 /// Once all have run before it that are to, none is left to run before it in any later turn.
 pub fn hooks_stay_tended()
     ensures begun { (u : APurpose) (by : AMeans) (id wait : ℕ) (f : Number)

@@ -1,4 +1,4 @@
--- A text that is divided before an opening brace, or behind a closing one.
+-- A text that is divided before an opening brace, or after a closing one.
 use Rattle.std.proofs.Common.{◌≡◌, ℕ, ◌+◌, ◌≤◌, false, List, [], ◌∷◌, ◌++◌, length, zero, suc, Option, Some, None, refl, sym, ap, ◌∙◌, append_assoc, arith}
 use Rattle.std.specs.Prelude.{◌&&◌, ◌==◌, nat_eq}
 use Rattle.std.specs.List.{starts_with}
@@ -9,7 +9,7 @@ use Rattle.hook_texts.specs.declared.values.Values.{Values}
 use Rattle.hook_texts.specs.Expanded.{expanded, expanded_behind, given_at, placeholder_at, placeholder_text, placeholders, value_of, word_text, Lacks}
 use Rattle.hook_texts.proofs.Reading.{and_head, find_same, none_unopened, placeholder_fits, read_byte, words_unclosed, words_unopened}
 
--- what stands behind an opening brace decides nothing before it
+-- what is after an opening brace decides nothing before it
 open_at : (w xs rest : List ℕ) → Lacks 123 w → starts_with nat_eq (xs ++ 123 ∷ rest) w ≡ starts_with nat_eq xs w
 open_at [] [] rest lacks = refl
 open_at [] (x ∷ xs) rest lacks = refl
@@ -23,7 +23,7 @@ same_before b front rest =
     (λ p. ap (λ c. nat_eq 123 b && c) (open_at (word_text p ++ 125 ∷ []) front rest (All-push (λ b. (b == 123) ≡ false) (word_text p) 125 (words_unopened p) refl)))
     placeholders
 
--- nor does what stands behind a closing one
+-- nor does what is after a closing one
 close_at : (w xs rest : List ℕ) → Lacks 125 w → starts_with nat_eq (xs ++ 125 ∷ rest) (w ++ 125 ∷ []) ≡ starts_with nat_eq (xs ++ 125 ∷ []) (w ++ 125 ∷ [])
 close_at [] [] rest lacks = refl
 close_at [] (x ∷ xs) rest lacks = refl

@@ -18,7 +18,7 @@ use Rattle.hook_texts.specs.declared.values.Placeholder.TheVariants as place
 use Rattle.hook_texts.specs.declared.values.Values.{Values}
 use Rattle.hook_texts.specs.Expanded.{braced, expanded, expanded_behind, given_at, placeholder_at, placeholder_named, placeholder_text, placeholders, value_of, word_text, IsOtherWord, IsPlain, Lacks}
 
--- ---- a byte behind a text that lacks it
+-- ---- a byte after a text that lacks it
 
 front_fails : (p : ℕ → Bool) (text : List ℕ) → position_or_len p text ≤ length text → All (λ b. p b ≡ false) (before_first p text)
 front_fails p text within k d below =
@@ -29,7 +29,7 @@ front_fails p text within k d below =
     get-take : (n : ℕ) (xs : List ℕ) (k d : ℕ) → k < n → p (get_or xs k d) ≡ false → p (get_or (take n xs) k d) ≡ false
     get-take n xs k d before fails = ap p (get_or-take n xs k d before) ∙ fails
 
--- what `split_once` tells: a text lacks the byte, or is parted by it
+-- what `split_once` answers: a text lacks the byte, or is divided by it
 pub parted_told : (byte : ℕ) (text : List ℕ) (r : Option (Bor (List ℕ) × Bor (List ℕ)))
     → MatchOption r (position_or_len (λ b. eqb b byte) text ≡ length text)
     (λ x. (position_or_len (λ b. eqb b byte) text < length text) × (x.0.now ≡ before_first (λ b. eqb b byte) text) × (x.1.now ≡ after_first (λ b. eqb b byte) text))
@@ -68,7 +68,7 @@ find_passes p (x ∷ xs) y e = found_passes p (p x) x y (find p xs) refl (find_p
 flipped : (a b : ℕ) → eqb a b ≡ false → eqb b a ≡ false
 flipped a b e = ne_eqb b a (λ same. eqb-false a b e (sym same))
 
--- a word that is closed begins with another where the two are the same
+-- a word that is closed begins with another if the two are the same
 named_at : (w word left : List ℕ) → Lacks 125 w → Lacks 125 word → starts_with nat_eq (word ++ 125 ∷ left) (w ++ 125 ∷ []) ≡ bytes_eq w word
 named_at [] [] left own other = refl
 named_at [] (x ∷ word) left own other =
@@ -151,7 +151,7 @@ placeholder_fits b text p e =
     let size = length-append (word_text p) (125 ∷ []) in
     omega (arith, long, least, size)
 
--- where a closing brace follows, the word before it decides
+-- if a closing brace follows, the name before it decides
 pub at_word : (behind word left : List ℕ) → Lacks 125 word → behind ≡ word ++ 125 ∷ left → placeholder_at (123 ∷ behind) ≡ placeholder_named word
 at_word behind word left lacks e = ap (λ t. placeholder_at (123 ∷ t)) e ∙ word_behind word left lacks
 

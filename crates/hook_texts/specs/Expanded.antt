@@ -9,7 +9,7 @@ use Rattle.hook_texts.specs.declared.values.Values.{Values}
 
 -- ---- placeholders
 
--- what stands between the braces of each
+-- what is between the braces of each
 abbrev pub word_text : Placeholder → List ℕ
 word_text place.FailureType = codes "failureType"
 word_text place.FailedHost = codes "failedHost"
@@ -37,7 +37,7 @@ placeholder_text p = braced (word_text p)
 
 -- ---- values
 
--- the host of a server, and its port; empty where there is none
+-- the host of a server, and its port; empty if there is none
 abbrev pub host_in : Option HostPort → List ℕ
 host_in None = []
 host_in (Some name) = name.host
@@ -86,7 +86,7 @@ Lacks byte text = All (λ b. (b == byte) ≡ false) text
 abbrev pub IsPlain : List ℕ → Type 0
 IsPlain text = Lacks 123 text
 
--- it stands between braces, and is the word of no placeholder
+-- it is between braces, and is the name of no placeholder
 pub record IsOtherWord (word : List ℕ) : Type 0 where
   pub unopened : Lacks 123 word
   pub unclosed : Lacks 125 word

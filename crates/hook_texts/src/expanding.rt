@@ -7,7 +7,7 @@ use crate::values::{Placeholder, Values, placeholder_named};
 use orch_base::Memory;
 use std::alloc::Global;
 
-// What stands before the first such byte, and what behind it.
+// What is before the first such byte, and what after it.
 fn parted(text: &str, byte: char) -> Option<(&str, &str)>
     requires { byte < 128 }
     ensures { MatchOption result (Lacks byte text.now)
@@ -16,7 +16,7 @@ fn parted(text: &str, byte: char) -> Option<(&str, &str)>
     text.split_once(byte)
 }
 
-// The placeholder that an opening brace begins, and what stands behind it.
+// The placeholder that an opening brace begins, and what is after it.
 fn placeholder_behind(behind: &str) -> Option<(Placeholder, &str)>
     ensures { MatchOption result (placeholder_at (123 ∷ behind.now) ≡ None)
         (λ p. (placeholder_at (123 ∷ behind.now) ≡ Some p.0)
@@ -50,8 +50,8 @@ fn push_opened<'a>(
     }
 }
 
-/// The text with its placeholders' values in it, read from the left; what is no placeholder stays as it is, and a value
-/// isn't read again (orchestrator's documentation, "Hooks", "Parameters").
+/// The text with its placeholders' values in it, read from the left. What is no placeholder stays as it is, and a value
+/// isn't read again (orchestrator's documentation, "Hooks", "Parameters"). `Err` means out of memory.
 pub fn expand(alloc: Global, text: &str, values: &Values) -> Result<String, Memory>
     ensures { IfOk result (λ s. string_bytes s ≡ expanded values.now text.now) }
 {

@@ -1,4 +1,4 @@
-//! Hooks: what a recovery tells the outside, and how that answers.
+//! Hooks: what a recovery passes to commands outside, and how these end.
 
 ghost use Rattle.std.specs.Prelude.{◌≡◌, ◌↔◌, [], IfOk, IsTrue};
 
@@ -9,7 +9,7 @@ use std::marker::Model;
 /// A hook of a recovery (orchestrator's documentation, "Recovery hooks"). No process is started: what it answers is
 /// given beside it.
 pub struct Hook {
-    /// What runs, with words in braces for the values of the recovery: 1 to 1,000 bytes, none of them a control
+    /// What runs. A name in braces is replaced by that value of the recovery. 1 to 1,000 bytes, none of them a control
     /// character.
     pub text: OwnedText,
     /// The exit that it answers.
@@ -26,7 +26,7 @@ impl Drop for Hook {
 }
 
 impl Hook {
-    /// The same hook once more.
+    /// The same hook once more. `Err` means out of memory.
     pub fn copy(&self, alloc: Global) -> Result<Hook, Memory>
         ensures { IfOk result (λ h. h ≡ self.now) }
     {
@@ -87,7 +87,7 @@ impl HookList {
         hooks
     }
 
-    /// The same hooks once more.
+    /// The same hooks once more. `Err` means out of memory.
     pub fn copy(&self, alloc: Global) -> Result<HookList, Memory>
         ensures { IfOk result (λ h. h ≡ self.now) }
     {
@@ -163,7 +163,7 @@ impl Hooks {
         }
     }
 
-    /// The same hooks once more.
+    /// The same hooks once more. `Err` means out of memory.
     pub fn copy(&self, alloc: Global) -> Result<Hooks, Memory>
         ensures { IfOk result (λ h. h ≡ self.now) }
     {

@@ -6,8 +6,8 @@ ghost use Rattle.hook_texts.specs.declared.values.Placeholder.{Placeholder as AP
 ghost use Rattle.hook_texts.specs.declared.values.Values.{Values as AValues};
 ghost use Rattle.hook_texts.specs.Expanded.{braced, expanded, placeholder_text, value_of, IsOtherWord, IsPlain, Lacks};
 
-/// Each placeholder gives its value, and behind it reading goes on in the text: a value isn't read again. The failed
-/// server is told as its name is printed, and so is the promoted one, of which nothing is told where there is none.
+/// Each placeholder gives its value, and reading goes on in the text after it: a value isn't read again. The failed
+/// server is printed by its name, and so is the promoted one. If none is promoted, that value is empty.
 pub fn placeholders_give_values()
     ensures value { (v : AValues) (p : APlaceholder) (rest : List ℕ) →
         expanded v (placeholder_text p ++ rest) ≡ value_of v p ++ expanded v rest }
@@ -26,8 +26,8 @@ pub fn placeholders_give_values()
         expanded v (codes "{isSuccessful}") ≡ codes "false" }
 {}
 
-/// What is no placeholder stays as it is: a text without an opening brace, or without a closing one; what stands before
-/// a placeholder and between two; and other words in braces.
+/// What is no placeholder stays as it is: a text without an opening brace, or without a closing one. So does what is
+/// before a placeholder and between two, and so do other names in braces.
 pub fn other_texts_stay()
     ensures plain { (v : AValues) (text : List ℕ) → IsPlain text → expanded v text ≡ text }
     ensures unclosed { (v : AValues) (text : List ℕ) → Lacks 125 text → expanded v text ≡ text }
@@ -40,7 +40,7 @@ pub fn other_texts_stay()
         expanded v (braced word ++ rest) ≡ braced word ++ expanded v rest }
 {}
 
-/// A text that is divided before an opening brace or behind a closing one gives what its parts give.
+/// A text that is divided before an opening brace or after a closing one gives what its parts give.
 pub fn texts_are_read_part_by_part()
     ensures opened { (v : AValues) (front rest : List ℕ) →
         expanded v (front ++ 123 ∷ rest) ≡ expanded v front ++ expanded v (123 ∷ rest) }

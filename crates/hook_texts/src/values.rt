@@ -1,4 +1,4 @@
-//! What a hook is told of a recovery.
+//! The values that a hook gets from a recovery.
 
 ghost use Rattle.std.specs.Prelude.{◌≡◌, find, IfOk, option_copied, string_bytes};
 ghost use Rattle.std.specs.Str.{bytes_eq};
@@ -8,7 +8,7 @@ use itoa::Buffer;
 use orch_base::{Memory, Name, OwnedText};
 use std::alloc::Global;
 
-/// A word in braces that stands for a value of the recovery (orchestrator's documentation, "Hooks", "Parameters").
+/// A word in braces that is a value of the recovery (orchestrator's documentation, "Hooks", "Parameters").
 #[derive(Clone, Copy, Debug, PartialEq, Eq)]
 pub enum Placeholder {
     /// `{failureType}`: the analysis of the failed server when the recovery began.
@@ -41,7 +41,7 @@ const PLACEHOLDERS: [Placeholder; 8] = [
 ];
 
 impl Placeholder {
-    // What stands between its braces.
+    // The name between its braces.
     fn word(self) -> &'static str
         ensures { result.now ≡ word_text self }
     {
@@ -77,7 +77,7 @@ pub(crate) fn placeholder_named(word: &str) -> Option<Placeholder>
     first_named(&PLACEHOLDERS, word).copied()
 }
 
-/// What the hooks of a recovery are told of it.
+/// The values that the hooks of a recovery get.
 pub struct Values {
     /// The analysis of the failed server when the recovery began, by orchestrator's name.
     pub failure_type: OwnedText,
@@ -85,9 +85,9 @@ pub struct Values {
     pub failed: Name,
     /// The label of its cluster.
     pub cluster: OwnedText,
-    /// The alias of its cluster; empty where it has none.
+    /// The alias of its cluster; empty if it has none.
     pub alias: OwnedText,
-    /// The promoted server; only a hook behind a recovery that is done has one.
+    /// The promoted server; only a hook after a recovery that is done has one.
     pub successor: Option<Name>,
     /// Whether the recovery is done.
     pub successful: bool,
@@ -133,7 +133,7 @@ impl Values {
     ghost use Rattle.std.specs.Prelude.{◌≡◌, IfOk, string_bytes};
     ghost use Rattle.hook_texts.specs.Expanded.{value_of};
 
-    /// What a placeholder stands for.
+    /// What a placeholder is.
     pub(crate) fn value(&self, alloc: Global, placeholder: Placeholder) -> Result<String, Memory>
         ensures { IfOk result (λ s. string_bytes s ≡ value_of self.now placeholder) }
     {

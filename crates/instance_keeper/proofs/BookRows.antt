@@ -89,7 +89,7 @@ module _ {A : Type 0} (wrap : A → Row) (no_of : A → ServerNo) (base : ℕ) (
             let p = placed a in
             All-cons (λ r. sort_key_of r ≡ base + n) (wrap a) [] (omega (arith, p, h)) (All-nil (λ r. sort_key_of r ≡ base + n))
 
-    -- the rows of all tables, by what stands before and behind the sort key
+    -- the rows of all tables, by what is before and after the sort key
     regroup : (x : Option A) → first ++ (rows_in (take n xs ++ x ∷ drop (suc n) xs) ++ last) ≡ (first ++ rows_in (take n xs)) ++ (one x ++ (rows_in (drop (suc n) xs) ++ last))
     regroup x =
         ap (λ l. first ++ (l ++ last)) (rows_parts (take n xs) x (drop (suc n) xs)) ∙ joined first (rows_in (take n xs)) (one x) (rows_in (drop (suc n) xs)) last

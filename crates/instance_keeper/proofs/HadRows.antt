@@ -1,4 +1,4 @@
--- Rows that a book has are those that the code tells it has.
+-- Rows that a book has are those that the code finds in it.
 use Rattle.std.proofs.Common.{◌≡◌, ℕ, Bool, true, false, List, [], ◌∷◌, Option, None, Some, refl, sym, ap, subst, zero, suc}
 use Rattle.std.specs.Prelude.{◌==◌, ◌&&◌, ◌↔◌, IsTrue, nat_eq, slice_index_or, slice_set}
 use Rattle.instance_keeper.proofs.Prelude.{BookState, Candidate, Downtime, Instance, Moment, Row, Rule, ServerNo, after_put, bool_is, both_true}
@@ -69,7 +69,7 @@ candidate_is a b h =
     let until = eq_is a.until.0 b.until.0 f.1 in
     cc (candidate_eta a, candidate_eta b, moment_eta a.until, moment_eta b.until)
 
--- an answer that tells equal values apart is the test
+-- an answer that is true exactly for equal values is the test
 
 told : {A : Type 0} (same : A → A → Bool) (a b : A) (answer : Bool) → (a ≡ b → same a b ≡ true) → (same a b ≡ true → a ≡ b) → IsTrue answer ↔ (a ≡ b) → answer ≡ same a b
 told same a b true there back is = sym (there (is.0 refl))

@@ -15,7 +15,7 @@ is_there p q h = grind arith
 is_not : (p q : ℕ) → (q ≡ p → ⊥) → (q == p) ≡ false
 is_not p q h = grind arith
 
--- no row stands at a sort key before all rows
+-- no row is at a sort key before all rows
 none_above : (p : ℕ) (rows : List Row) → All (λ r. p < sort_key_of r) rows → row_in rows p ≡ None
 none_above p [] all = refl
 none_above p (r ∷ rows) all =

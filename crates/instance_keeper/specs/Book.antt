@@ -77,7 +77,7 @@ after_change b (change.Remove t k) = after_removal b t k
 abbrev pub after_row : BookState → Row → BookState
 after_row b r = if row_fits (length b.names) r then after_put b r else b
 
--- the book of these rows: of two with one table and key the last stands
+-- the book of these rows: of two with one table and key the last counts
 abbrev pub book_made : List Settings → List Row → BookState
 book_made settings rows = fold after_row (empty_book settings) rows
 
@@ -88,7 +88,7 @@ instance_at b n = slice_index_or b.instances n.0 None
 abbrev pub renewed : Instance → Observation → Instance
 renewed kept o = record { no = o.no; read = o.read; moment = o.moment; valid = is_some o.seen; seen = unwrap_or o.seen kept.seen }
 
--- a reading is old where the kept one is later
+-- a reading is old if the kept one is later
 abbrev pub store_answer : Option Instance → Observation → StoreAnswer
 store_answer None o = answer.Unknown
 store_answer (Some kept) o = if nat_lt o.read kept.read then answer.Old kept.read else answer.Stored
@@ -108,7 +108,7 @@ after_store b o = stored_over b o (instance_at b o.no)
 abbrev pub first_seen : Observation → Seen → Instance
 first_seen o seen = record { no = o.no; read = o.read; moment = o.moment; valid = true; seen = seen }
 
--- the bridge that an instance shows where it is valid
+-- the bridge that an instance shows if it is valid
 abbrev pub shown_by : Instance → Option Bridge
 shown_by i = if i.valid then bridge_in i.no (Some i.seen) else None
 
@@ -120,7 +120,7 @@ abbrev pub added_over : BookState → Observation → Option Seen → BookState
 added_over b o None = b
 added_over b o (Some seen) = after_addition b (first_seen o seen)
 
--- an instance that the book lacks is added where its server was reached; one that it has is stored as any reading is
+-- an instance that the book lacks is added if its server was reached; one that it has is stored as any reading is
 abbrev pub discovered_over : BookState → Observation → Option Instance → BookState
 discovered_over b o None = added_over b o o.seen
 discovered_over b o (Some kept) = stored_over b o (Some kept)
@@ -128,7 +128,7 @@ discovered_over b o (Some kept) = stored_over b o (Some kept)
 abbrev pub after_discovery : BookState → Observation → BookState
 after_discovery b o = discovered_over b o (instance_at b o.no)
 
--- the change of the kept rows: none where the instance stays equal
+-- the change of the kept rows: none if the instance stays equal
 abbrev pub renewal : Instance → Instance → Option Change
 renewal kept now = if same_instance kept now then None else Some (change.Put (row.Instance now))
 
@@ -176,7 +176,7 @@ book_rows b = filter_map (option_map row.Instance) b.instances
     ++ (filter_map (option_map row.Candidate) b.candidates
     ++ option_to_list (option_map row.Switch b.switch)))
 
--- what stands at a place has the place's number
+-- what is at a place has the place's number
 abbrev pub IsNumbered : {A : Type 0} → (A → ServerNo) → ℕ → List (Option A) → Type 0
 IsNumbered no_of from [] = ⊤
 IsNumbered no_of from (x ∷ xs) = IfSome x (λ a. (no_of a).0 ≡ from) × IsNumbered no_of (from + 1) xs

@@ -1,4 +1,4 @@
--- Bridges: pairs of coordinates that stand for one point of a server's log and of its source's.
+-- Bridges: pairs of coordinates that are one point of a server's log and of its source's.
 use Rattle.std.specs.Prelude.{ℕ, ◌==◌, ◌&&◌, Bool, false, if◌then◌else◌, List, [], ◌∷◌, ◌++◌, fold, slice_set, slice_index_or, Option, None, Some}
 use Rattle.instance_keeper.specs.Prelude.{Coord, ServerNo, SourceState, Status as Seen, keep_last, last_item, same_coord}
 use Rattle.instance_keeper.specs.Prelude.source
@@ -45,7 +45,7 @@ ringed rings n (Some b) = slice_set rings n.0 (with_bridge (ring_at rings n) b)
 abbrev pub latest_that : (Bridge → Bool) → List Bridge → Option Bridge
 latest_that passes ring = fold (λ found b. if passes b then Some b else found) None ring
 
--- the bridge, if there is one, where it passes, else what was found before it
+-- the bridge, if there is one, if it passes, else what was found before it
 abbrev pub over : (Bridge → Bool) → Option Bridge → Option Bridge → Option Bridge
 over passes found None = found
 over passes found (Some b) = if passes b then Some b else found

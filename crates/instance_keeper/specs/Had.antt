@@ -1,4 +1,4 @@
--- Rows that a book has, as the code tells it.
+-- Rows that a book has, as the code tests it.
 use Rattle.std.specs.Prelude.{◌==◌, ◌&&◌, Bool, true, false, if◌then◌else◌, nat_eq, slice_index_or, Option, None, Some}
 use Rattle.instance_keeper.specs.Prelude.{Candidate, Change, Downtime, Row, Rule, ServerNo, pointwise, same_bool, same_instance}
 use Rattle.instance_keeper.specs.Prelude.change
@@ -52,6 +52,6 @@ has_row b (row.Recovery r) = false
 has_row b (row.Switch enabled) = had same_bool b.switch enabled
 has_row b (row.Active node until) = false
 
--- the change by which the book gets a row: none where it has it
+-- the change by which the book gets a row: none if it has it
 abbrev pub put_change : BookState → Row → Option Change
 put_change b r = if has_row b r then None else Some (change.Put r)

@@ -14,7 +14,7 @@ first_of (suc k) (x ∷ xs) = x ∷ first_of k xs
 abbrev pub first_set : ℕ → BookState → BookState
 first_set k b = record b { instances = first_of k b.instances }
 
--- the place that a row sets in a book of so many servers, unless it stands before the next one
+-- the place that a row sets in a book of so many servers, unless it is before the next one
 abbrev pub place_from : ℕ → ℕ → Row → Option ℕ
 place_from next count (row.Instance i) = if nat_le next i.no.0 && row_fits count (row.Instance i) then Some i.no.0 else None
 place_from next count (row.Downtime d) = None

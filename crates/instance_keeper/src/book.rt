@@ -67,7 +67,7 @@ fn instance_in(instances: &Instances, no: u32) -> Option<&Instance>
     instances.get(&no)?.as_ref()
 }
 
-// The place that a row sets, where a book of so many servers takes it and its place doesn't stand before this one.
+// The place that a row sets, if a book of so many servers takes it and its place isn't before this one.
 #[inline(always)]
 fn place_from(next: u32, count: u32, row: &Row) -> Option<u32>
     ensures { result ≡ place_from next count row.now }
@@ -89,7 +89,7 @@ fn place_from(next: u32, count: u32, row: &Row) -> Option<u32>
     }
 }
 
-// Renews what is known of an instance, where it stands.
+// Renews what is known of an instance, in its place.
 #[inline(always)]
 fn renew_place(place: &mut Option<Instance>, o: Observation)
     ensures { place.new ≡ option_map (λ i. renewed i o) place.old }
@@ -198,7 +198,7 @@ fn empty_places<T: Drop>(alloc: Global, count: u32) -> Result<Vec<Option<T>>, Me
     Ok(places)
 }
 
-// Empties a place, where something is there.
+// Empties a place, if something is there.
 #[inline(always)]
 fn clear_place<T: Drop>(place: &mut Option<T>)
     ensures { place.new ≡ None }
@@ -239,7 +239,7 @@ fn empty_rings(alloc: Global, count: u32) -> Result<Vec<Ring>, Memory>
     Ok(rings)
 }
 
-// The bridge that a reading shows: none where the server wasn't reached.
+// The bridge that a reading shows: none if the server wasn't reached.
 #[inline(always)]
 fn bridge_shown(o: &Observation) -> Option<Bridge>
     ensures { result ≡ bridge_in o.now.no o.now.seen }
@@ -250,7 +250,7 @@ fn bridge_shown(o: &Observation) -> Option<Bridge>
     }
 }
 
-// The bridge that an instance shows: none where it isn't valid.
+// The bridge that an instance shows: none if it isn't valid.
 fn bridge_of(instance: &Instance) -> Option<Bridge>
     ensures { result ≡ shown_by instance.now }
 {
@@ -338,7 +338,7 @@ impl Book {
         self.servers.rank(no)
     }
 
-    /// What is known of a server: none where it is no instance.
+    /// What is known of a server: none if it is no instance.
     pub fn instance(&self, no: ServerNo) -> Option<&Instance>
         requires { no.0 < length self.now.names }
         ensures { option_copied result ≡ instance_at self.now no }
@@ -346,7 +346,7 @@ impl Book {
         instance_in(&self.instances, no.0)
     }
 
-    /// What is known of each server, by number: none where it is no instance. `Err` is want of memory.
+    /// What is known of each server, by number: none if it is no instance. `Err` means out of memory.
     pub fn instances(&self, alloc: Global) -> Result<Vec<&Option<Instance>>, Memory>
         ensures { IfOk result (λ v. map (λ place. place.now) v.items ≡ self.now.instances) }
     {
@@ -376,14 +376,14 @@ impl Book {
         self.switch
     }
 
-    /// Whether recoveries are enabled, as they are where no row says otherwise.
+    /// Whether recoveries are enabled. They are if no row decides otherwise.
     pub fn enabled(&self) -> bool
         ensures { result ≡ unwrap_or self.now.switch true }
     {
         self.switch.unwrap_or(true)
     }
 
-    /// When a server's downtime ends: none where it has none that lasts longer than now.
+    /// When a server's downtime ends: none if it has none that lasts longer than now.
     pub fn downtime(&self, no: ServerNo, now: Moment) -> Option<Moment>
         requires { no.0 < length self.now.names }
         ensures { result ≡ downtime_at self.now no now }
@@ -407,8 +407,8 @@ impl Book {
 }
 
 impl Book {
-    /// The book of these servers and rows: of two rows with one table and key the later stands. A row of the recovery
-    /// table or the claim's, and one that names an unknown server, are passed over.
+    /// The book of these servers and rows: of two rows with one table and key the later counts. A row of the recovery
+    /// table or the claim's, and one that names an unknown server, are passed over. `Err` means out of memory.
     pub fn make(alloc: Global, settings: &[Settings], rows: &[Row]) -> Result<Book, Memory>
         requires { length settings.now < 2 ^ 32 }
         ensures made { IfOk result (λ b. b ≡ book_made settings.now rows.now) }
@@ -423,8 +423,8 @@ impl Book {
         Ok(book)
     }
 
-    /// Forgets all but the servers, and takes these rows as `make` does: of two with one table and key the later
-    /// stands; a row of the recovery table or the claim's, and one that names an unknown server, are passed over.
+    /// Forgets all except the servers, and takes these rows as `make` does: of two with one table and key the later
+    /// counts. A row of the recovery table or the claim's, and one that names an unknown server, are passed over.
     /// Bridges and leases are dropped. It takes no memory.
     pub fn reload(&mut self, rows: Vec<Row>)
         ensures made { self.new ≡ book_made self.old.settings rows.items }
@@ -437,8 +437,8 @@ impl Book {
         self.empty_between(next, count);
     }
 
-    // Puts these rows, where a book takes them, while all places of instances are still to be set. It gives the next
-    // one that is to be set then.
+    // Puts these rows, if a book takes them, while all places of instances are still to be set. It gives the next one
+    // that is to be set then.
     fn set_all(&mut self, rows: Vec<Row>) -> u32
         ensures within { result ≤ length self.new.names }
         ensures after { first_set result self.new ≡
@@ -453,7 +453,7 @@ impl Book {
         next
     }
 
-    // Forgets all but the servers and their instances.
+    // Forgets all except the servers and their instances.
     fn clear_rest(&mut self)
         ensures after { self.new ≡
             record (empty_book self.old.settings) { instances = self.old.instances } }
@@ -468,8 +468,8 @@ impl Book {
         clear_places(&mut self.leases);
     }
 
-    // Puts a row, where a book takes it, while the places of instances from the next one on are still to be set. It
-    // gives the next one that is to be set then.
+    // Puts a row, if a book takes it, while the places of instances from the next one on are still to be set. It gives
+    // the next one that is to be set then.
     #[inline(always)]
     fn set_next(&mut self, next: u32, row: Row) -> u32
         requires { next ≤ length self.old.names }
@@ -513,7 +513,7 @@ impl Book {
         put_at(&mut self.instances, no, None);
     }
 
-    // Puts a row, where a book takes it.
+    // Puts a row, if a book takes it.
     fn take(&mut self, row: Row)
         ensures after { self.new ≡ after_row self.old row }
         ensures settings { self.new.settings ≡ self.old.settings }
@@ -604,7 +604,8 @@ impl Book {
         renew_at(&mut self.instances, o);
     }
 
-    /// How storing this reading changes the kept rows: not at all where it isn't stored, or the instance stays equal.
+    /// How storing this reading changes the kept rows: not at all if it isn't stored, or the instance stays equal.
+    /// `Err` means out of memory.
     pub fn change_by(&self, o: &Observation) -> Result<Option<Change>, Memory>
         requires { o.now.no.0 < length self.now.names }
         ensures { IfOk result (λ c. c ≡ store_change (instance_at self.now o.now.no) o.now) }
@@ -616,7 +617,7 @@ impl Book {
     }
 
     /// Stores a reading, unless the kept one of that instance is later. One that reached its server replaces the
-    /// instance; one that didn't keeps what was seen earlier, which is no longer valid. The bridge that it shows goes
+    /// instance. One that didn't keeps what was seen earlier, which is no longer valid. The bridge that it shows goes
     /// into the server's ring. It takes no memory.
     pub fn store_observation(&mut self, o: Observation) -> StoreAnswer
         requires { IsTrue (are_known (length self.old.names) (observed_servers o)) }
@@ -649,7 +650,7 @@ impl Book {
         }
     }
 
-    /// Adds an instance in its server's place, and the bridge that it shows where it is valid. It takes no memory.
+    /// Adds an instance in its server's place, and the bridge that it shows if it is valid. It takes no memory.
     #[inline(always)]
     pub fn add(&mut self, instance: Instance)
         requires { IsTrue (are_known (length self.old.names) (servers_of (Row.Instance instance))) }
@@ -663,8 +664,8 @@ impl Book {
         self.add_shown(no, shown);
     }
 
-    /// Takes in what a server showed when it was read to be known: an instance that the book lacks is added where the
-    /// server was reached, and one that it has is stored as any reading is. It takes no memory.
+    /// Takes in the reading of a server that `discover` asked for. An instance that the book lacks is added if the
+    /// server was reached. One that it has is stored as any reading is. It takes no memory.
     pub fn discover(&mut self, o: Observation)
         requires { IsTrue (are_known (length self.old.names) (observed_servers o)) }
         ensures after { self.new ≡ after_discovery self.old o }
@@ -717,7 +718,7 @@ impl Book {
         self.rings[no.0 as usize].by_own(source, own)
     }
 
-    /// The job that has a server's lease: none exactly where none has.
+    /// The job that has a server's lease: none exactly if none has.
     pub fn lease(&self, no: ServerNo) -> Option<u64>
         requires { no.0 < length self.now.names }
         ensures { result ≡ lease_at self.now no }
@@ -725,8 +726,8 @@ impl Book {
         self.leases[no.0 as usize]
     }
 
-    /// Gives a job the leases of all these servers, or, where one of them has a lease, of none: Busy names the first
-    /// that has one. It takes no memory.
+    /// Gives a job the leases of all these servers. If one of them has a lease already, the job gets none, and `Busy`
+    /// names the first such server. It takes no memory.
     pub fn take_leases(&mut self, list: &[ServerNo], job: u64) -> Result<(), LeaseFault>
         requires { All (λ k. k.0 < length self.old.names) list.now }
         ensures result { result ≡ lease_result (first_busy self.old.leases list.now) }

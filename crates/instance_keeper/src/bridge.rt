@@ -14,8 +14,8 @@ use std::marker::Model;
 /// So many bridges are kept of a server.
 const RING_SIZE: usize = 16;
 
-/// The own end and the executed coordinate that one status of a replica showed: they stand for one point of its binary
-/// log and of its source's.
+/// The own end and the executed coordinate that one status of a replica reported. They are one point of its binary log
+/// and of its source's.
 #[derive(Clone, Copy, Debug, PartialEq, Eq)]
 pub struct Bridge {
     /// The replica.
@@ -131,7 +131,7 @@ impl Ring {
     }
 }
 
-// The bridge where it is under this source with this executed coordinate, else what was found before.
+// The bridge, if it is under this source with this executed coordinate, else what was found before.
 fn exec_over(
     found: Option<Bridge>,
     bridge: Option<Bridge>,

@@ -74,7 +74,7 @@ impl Book {
         }
     }
 
-    /// Whether the book has this very row. Of the recovery table and the claim's it has none.
+    /// Whether the book has this very row. It has no row of the recovery table or the claim's.
     pub fn has(&self, row: &Row) -> bool
         requires { row_fits (length self.now.names) row.now ≡ true }
         ensures { result ≡ has_row self.now row.now }
@@ -88,7 +88,7 @@ impl Book {
         }
     }
 
-    /// The change by which the book gets a row: none where it has this very row.
+    /// The change by which the book gets a row: none if it has this very row.
     pub fn putting(&self, row: Row) -> Option<Change>
         requires { row_fits (length self.now.names) row ≡ true }
         ensures { result ≡ put_change self.now row }

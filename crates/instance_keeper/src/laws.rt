@@ -21,8 +21,8 @@ pub fn had_rows_change_nothing()
     ensures { (b : BookState) (r : Row) → has_row b r ≡ true → after_put b r ≡ b }
 {}
 
-/// What a book knows of a server is its row: the instance is the row of table instance under the server's number, and
-/// there is no such row exactly where the server is no instance.
+/// What a book knows of a server is its row. The instance is the row of table instance under the server's number. There
+/// is no such row exactly if the server is no instance.
 pub fn instances_are_rows()
     ensures { (b : BookState) (n : ServerNo) → IsBook b → n.0 < length b.names → row_at (book_rows b) table.Instance (key.Server n) ≡ option_map row.Instance (instance_at b n) }
 {}

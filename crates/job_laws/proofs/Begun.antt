@@ -138,7 +138,7 @@ module _ (f : Flight) (id : ℕ) (t : Turned) (held : Held f) (keeps : KeepsHeld
         met = All-filter (λ k. not (k.id == id)) (λ j. AllMeet (run f.world t.exchanges) j.matches) f.jobs meeting;
       }
 
--- a job of the flight has what leases it needs, under its number
+-- a job has what leases it needs, under its number
 leases-of : (f : Flight) (read : ℕ) (now : Moment) (id : ℕ) (j : Job) → Held f → job_at f.jobs id ≡ Some j → KeepsLeases f.leases id (turned f.world read now j)
 leases-of f read now id j held at =
     subst (λ (i : ℕ). KeepsLeases f.leases i (turned f.world read now j)) (found-id f.jobs id j at)
@@ -259,7 +259,7 @@ others-left f read now id m held apart = go (job_at f.jobs id) refl
     go None at = refl
     go (Some j) at = unleased-run f.leases id f.world (turned f.world read now j).exchanges m (leases-of f read now id j held at).exchanges apart
 
--- ---- what a job's turn observed is shown in the world after it
+-- ---- what a job's turn observed is in the statuses of the world after it
 
 pub turn-shown : (w : World) (read : ℕ) (now : Moment) (j : Job) (o : Observation) → Placed w → HeldJob w j → (turned w read now j).observation ≡ Some o → IsShown (run w (turned w read now j).exchanges) o
 turn-shown w read now j o placed held h s is =
@@ -274,7 +274,7 @@ turn-bridged w read now j o safe placed held h s is =
     let bridged : IsBridged w o.no.0 (position_of s) = subst (λ (x : Observation). IsShownBridged w x) (sym n.1) (observed-bridged w read now n.0 safe) s is in
     Bridged-run w (turned w read now j).exchanges o.no.0 (position_of s) placed (turn-kept w read now j placed held).allowed bridged
 
--- ---- where a run begins
+-- ---- the start of a run
 
 pub Held-opened : (w : World) (rings slots : ℕ) → Placed w → Held (opened_flight w rings slots)
 Held-opened w rings slots placed = record {

@@ -11,7 +11,7 @@ use Rattle.job_laws.proofs.Prelude.cross
 use Rattle.job_laws.proofs.Prelude.spot
 use Rattle.job_laws.proofs.Spanning.{bridge-parts, seen-spans}
 
--- a bridge that was seen stands
+-- a bridge that was seen is right
 pub stands-at : (w : World) (n : ServerNo) (o : Option Position) (b : Bridge) → ((s : Position) → o ≡ Some s → IsBridged w n.0 s) → bridge_at n o ≡ Some b → Stands w b.no.0 b.source.0 b.own b.exec
 stands-at w n o b bridged h =
     let p = bridge-parts n o b h in
@@ -29,7 +29,7 @@ module _ (w : World) (xs : List Sight) where
   stands : AllBridged w xs → (n : ServerNo) (b : Bridge) → bridge_at n (seen_of xs n.0) ≡ Some b → Stands w b.no.0 b.source.0 b.own b.exec
   stands bridged n b h = stands-at w n (seen_of xs n.0) b (bridged n.0) h
 
-  -- a crossing can be made, and is allowed
+  -- a reattachment can be made, and is allowed
   pub crossing-can : AllShow w xs → (c : Crossing) (a b : ServerNo) (e : Exchange) → crossed c a (bridge_at (read_by c a b) (seen_of xs (read_by c a b).0)) ≡ Some e → can_attach w e ≡ true
   crossing-can shown c a b e h = go c (bridge_at (read_by c a b) (seen_of xs (read_by c a b).0)) (λ x is. seen-spans w xs (read_by c a b) x shown is) h
     where
@@ -49,7 +49,7 @@ module _ (w : World) (xs : List Sight) where
       let p = bridge-parts b (seen_of xs b.0) x h in
       eqb-true x.source.0 a.0 (sym (ap (λ o. is_under o a.0) (ap source_shown p.is ∙ p.from)) ∙ under)
 
-  -- a crossing joins well
+  -- a reattachment joins well
   pub crossing-joins : Safe w → AllBridged w xs → (c : Crossing) (a b : ServerNo) (e : Exchange) → finds_crossing (footing w xs) c a b ≡ true
       → crossed c a (bridge_at (read_by c a b) (seen_of xs (read_by c a b).0)) ≡ Some e → JoinsWell w e
   crossing-joins safe bridged cross.Up a b e found h = go (bridge_at b (seen_of xs b.0)) refl h
@@ -141,7 +141,7 @@ module _ (w : World) (xs : List Sight) where
       go None is h = cc
       go (Some s) is h = subst (λ (y : Exchange). JoinsWell w y) (same_Some (AttachAuto n.0 s.set m) e h) (joins-auto w n.0 s.set m (shown m.0 s is).set)
 
-  -- a crossing that finds what it uses makes an attachment
+  -- a reattachment that finds what it uses makes an attachment
   bridge-there : AllShow w xs → (n : ServerNo) (m : ℕ) → source_shown (seen_of xs n.0) ≡ Some m → logs_at w n.0 ≡ true → (b : Bridge) × (bridge_at n (seen_of xs n.0) ≡ Some b)
   bridge-there shown n m from logs = go (seen_of xs n.0) refl from
     where

@@ -1,4 +1,4 @@
--- What one may count on grows, and the operations that are left stay held.
+-- What one may count on grows, and the operations that are left keep `Held`.
 use Rattle.std.proofs.Common.{◌≡◌, ℕ, Bool, true, false, cond, List, [], ◌∷◌, refl, ◌∙◌, ap, Option, Some, None, ◌&&◌, ◌||◌}
 use Rattle.std.specs.Prelude.{◌==◌, is_some}
 use Rattle.job_laws.proofs.Prelude.{Aim, Crossing, Deed, Footing, Op, Position, ServerNo, Sight, Within, World, and_parts, are_held, both, cond-mono}
@@ -76,7 +76,7 @@ learn-mono f g le (deed.AwaitSet n m) = reading-mono f g le n None
 learn-mono f g le (deed.Settle n) = reading-mono f g le n None
 learn-mono f g le _ = le
 
--- held operations stay held where one may count on more
+-- operations with `Held` keep it if one may count on more
 pub held-mono : (f g : Footing) → Within f g → (ops : List Op) → are_held f ops ≡ true → are_held g ops ≡ true
 held-mono f g le [] h = refl
 held-mono f g le (op ∷ ops) h =

@@ -4,7 +4,7 @@ use Rattle.std.specs.Prelude.{◌==◌, slice_index_or, find}
 use Rattle.job_laws.proofs.Prelude.{All, All-cons, All-drop, All-head, All-nil, All-push, All-tail, Bridge, Job, eq-eqb, eqb-true, is_same, job_at}
 use Rattle.job_laws.proofs.Prelude.{keep_last, last_item, ne_eqb, replaced, ring_size, same_Some, with_bridge, without_job}
 
--- at a place of the list, or where there is none
+-- at a place of the list, or if there is none
 pub All-at : {X : Type 0} (P : X → Type 0) (xs : List X) (i : ℕ) (d : X) → P d → All P xs → P (slice_index_or xs i d)
 All-at P [] i d none all = none
 All-at P (x ∷ xs) zero d none all = All-head P x xs all
@@ -36,7 +36,7 @@ All-replaced P (k ∷ ks) id j one all =
     go true = one
     go false = All-head P k ks all
 
--- its number is found where it was
+-- its number is found in the same place
 pub found-replaced : (jobs : List Job) (id : ℕ) (j : Job) → j.id ≡ id → (n : ℕ) (k : Job) → job_at jobs n ≡ Some k → (m : Job) × (job_at (replaced jobs id j) n ≡ Some m)
 found-replaced [] id j same n k h = cc
 found-replaced (x ∷ xs) id j same n k h = go (x.id == n) refl (x.id == id) refl h (found-replaced xs id j same n k)

@@ -1,4 +1,4 @@
--- What a match tells of two histories in a safe world.
+-- What a match means for two histories in a `Safe` world.
 use Rattle.std.proofs.Common.{◌≡◌, ℕ, zero, suc, ◌+◌, ◌-◌, ◌<◌, ◌≤◌, Bool, true, false, cond, not, List, [], ◌∷◌, length, take, refl, sym, ◌∙◌, ap, Option, Some, None, Result, Ok, Err, arith, ◌&&◌}
 use Rattle.std.specs.Prelude.{◌==◌, slice_get}
 use Rattle.job_laws.proofs.Prelude.{Coord, IsEntry, IsKin, IsKin-once, KeepsMark, Laid-Grown, LaysOut-Grown, LaysOut-length, Safe, Server, ServerNo}
@@ -10,7 +10,7 @@ use Rattle.job_laws.proofs.Prelude.{nat_tests, none-first, place, place-coord_af
 use Rattle.job_laws.proofs.Prelude.{slice_get_within, take-length}
 use Rattle.job_laws.proofs.Prelude.fault
 
--- a match by its parts: the last mark of the first, where the second keeps it, and the entries behind it
+-- a match by its parts: the last mark of the first, if the second keeps it, and the entries after it
 pub record ByMark (every : ℕ) (x y : Server) (c : Coord) : Type 0 where
   pub i : ℕ
   pub j : ℕ
@@ -74,13 +74,13 @@ alike-parts every (Some a) (Some b) h = record {
   origin = eqb-true a.origin.0 b.origin.0 (and_parts (a.origin.0 == b.origin.0) (a.size == b.size && cond (is_mark every a) (is_mark every b) (not (is_mark every b))) h).0;
 }
 
--- ---- in histories that are kin
+-- ---- in histories that agree
 
 module _ (h : ℕ → List Txn) (kin : IsKin h) (r d i j : ℕ) (t u : Txn) (at_r : slice_get (h r) i ≡ Some t) (at_d : slice_get (h d) j ≡ Some u) (same : same_txn u t ≡ true) where
   pub up-to-mark : take (i + 1) (h r) ≡ take (j + 1) (h d)
   up-to-mark = let turned : same_txn t u ≡ true = grind (arith, nat_tests) in kin.alike r d i j t u at_r at_d turned
 
-  -- a mark stands at one place of both
+  -- a mark is at one place of both
   pub one-place : i ≡ j
   one-place =
       let within_i : i < length (h r) = slice_get_within (h r) i t at_r in
@@ -88,7 +88,7 @@ module _ (h : ℕ → List Txn) (kin : IsKin h) (r d i j : ℕ) (t u : Txn) (at_
       let lengths : length (take (i + 1) (h r)) ≡ length (take (j + 1) (h d)) = ap length up-to-mark in
       omega (arith, lengths, length-take-le (i + 1) (h r), length-take-le (j + 1) (h d))
 
--- two transactions of one origin behind the same beginning are the same
+-- two transactions of one origin after the same prefix are the same
 next-same : (h : ℕ → List Txn) → IsKin h → (r d k : ℕ) (a b : Txn) → take k (h r) ≡ take k (h d) → slice_get (h r) k ≡ Some a → slice_get (h d) k ≡ Some b → a.origin.0 ≡ b.origin.0
     → take (k + 1) (h r) ≡ take (k + 1) (h d)
 next-same h kin r d k a b alike at_r at_d origin =
@@ -166,7 +166,7 @@ pub logs-prefix : (w : World) (r d : ServerNo) (every : ℕ) (c : Coord) (x y : 
     → take (length x.history.txns) y.history.txns ≡ x.history.txns
 logs-prefix w r d every c x y safe at_r at_d h = match-prefix w safe r.0 d.0 x y at_r at_d every c (logs-match w r d every c x y at_r at_d h)
 
--- ---- where they should match
+-- ---- the place at which they should match
 
 -- what is read of a log that is reached
 logged-there : (w : World) (n k : ℕ) (s : Server) (t : Txn) → server_at w n ≡ Some s → logged w n k ≡ Ok (Some t) → (can_reach (server_at w n) ≡ true) × (logged_by s k ≡ Some t)

@@ -26,7 +26,7 @@ module _ (has more : Matched) (le : (n m : ServerNo) → has n m ≡ true → mo
   matched_by-mono (deed.Match n m every) a b h = or-mono (n.0 == a.0 && m.0 == b.0) (has a b) (more a b) (le a b) h
   matched_by-mono _ a b h = le a b h
 
--- operations that go by matches still do where more were found
+-- operations that go by matches still do if more were found
 pub matched-mono : (has more : Matched) → ((n m : ServerNo) → has n m ≡ true → more n m ≡ true) → (ops : List Op) → are_matched has ops ≡ true → are_matched more ops ≡ true
 matched-mono has more le [] h = refl
 matched-mono has more le (op ∷ ops) h =
@@ -34,7 +34,7 @@ matched-mono has more le (op ∷ ops) h =
     both (finds_match more (deed_of op)) (are_matched (matched_by more (deed_of op)) ops) (finds_match-mono has more le (deed_of op) parts.0)
     (matched-mono (matched_by has (deed_of op)) (matched_by more (deed_of op)) (matched_by-mono has more le (deed_of op)) ops parts.1)
 
--- and behind any of them
+-- and after any of them
 pub matched-behind : (has : Matched) (op : Op) (ops : List Op) → are_matched has (op ∷ ops) ≡ true → (finds_match has (deed_of op) ≡ true) × (are_matched (matched_by has (deed_of op)) ops ≡ true)
 matched-behind has op ops h = and_parts (finds_match has (deed_of op)) (are_matched (matched_by has (deed_of op)) ops) h
 
@@ -106,9 +106,9 @@ module _ (w : World) (es : List Exchange) (placed : Placed w) (allowed : AllAllo
   pub AllMeet-run : (xs : List Match) → AllMeet w xs → AllMeet (run w es) xs
   AllMeet-run xs all = All-weaker (Meets w) (Meets (run w es)) (λ x h. meets-on x.no x.to x.at x.spot h) xs all
 
--- ---- a crossing by a match
+-- ---- a reattachment by a match
 
--- where the server stands as it did, all that it has executed ends at the coordinate
+-- if the server's position is unchanged, all that it has executed ends at the coordinate
 meets-join : (w : World) (n m k to : ServerNo) (c : Coord) (s : Spot) → Safe w → MeetsAt w k to c s → k.0 ≡ n.0 → to.0 ≡ m.0 → JoinsWell w (Attach n.0 s m c)
 meets-join w n m k to c (spot.At source exec) safe meets from onto = joins-down w n.0 m source c exec safe (subst (λ l. Stands w l source.0 c exec) onto meets)
 meets-join w n m k to c (spot.OwnEnd end) safe meets from onto =
@@ -151,7 +151,7 @@ match-there xs n m h = go (match_found xs n m) h
 -- ---- a match that is found now
 
 module _ (w : World) (n m : ServerNo) (every : ℕ) (c : Coord) (h : match_logs w n m every ≡ Ok c) where
-  -- quiet or not, its coordinate has a place
+  -- with errant writes or without, its coordinate has a place
   pub match-placed : Placed w → IsTarget w m.0 c
   match-placed placed =
       let s = read-servers w n m every c h in
@@ -188,7 +188,7 @@ module _ (w : World) (n m : ServerNo) (every : ℕ) (c : Coord) (h : match_logs 
             more x y i j (length x.history.txns - 1) last from (like (length x.history.txns - 1) from (omega (arith, here)))
       ]
 
-  -- in a safe world it meets where the server stands
+  -- in a `Safe` world it meets the server's position
   pub match-meets : Safe w → MeetsAt w n m c (standing_at (server_at w n.0))
   match-meets safe =
       let s = read-servers w n m every c h in

@@ -1,4 +1,4 @@
--- Every state of a run is held, and every quiet one is sound.
+-- Every state of a run has `Held`, and every one without errant writes has `Sound`.
 use Rattle.std.proofs.Common.{◌≡◌, ℕ, Bool, true, false, List, [], ◌∷◌, refl, sym, ◌∙◌, ap, subst, Option, Some, None, IfSome}
 use Rattle.job_laws.proofs.Prelude.{AllMayPass, AllPassWell, Flight, Held, IsQuiet, IsShown, IsShownBridged, Job, MayPass, MayTake, Moment}
 use Rattle.job_laws.proofs.Prelude.{Observation, Passage, PassesWell, Sound, TakesWell, Turned, World, after_turn, job_at, job_turned, observed}

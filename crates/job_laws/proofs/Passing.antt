@@ -1,4 +1,4 @@
--- What each turn keeps of servers with jobs in flight.
+-- What each turn keeps of servers with jobs.
 use Rattle.std.proofs.Common.{◌≡◌, ℕ, List, [], length, refl, Option, Some, None, IfSome}
 use Rattle.job_laws.proofs.Prelude.{All, All-nil, All-replicate, All-set, All-weaker, AllAllowed, AllBridged, AllJoinWell, AllMeet, Bridge, Exchange}
 use Rattle.job_laws.proofs.Prelude.{Flight, Grows-run, HasLeases, Held, HeldJob, IsQuiet, IsShown, IsShownBridged, Job, Moment, Observation, Placed}

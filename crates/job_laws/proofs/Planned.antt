@@ -1,4 +1,4 @@
--- Plans leave operations that are held.
+-- Plans leave operations with `Held`.
 use Rattle.job_laws.proofs.Prelude.{Deed, Finish, Footing, Line, Op, SameBase, ServerNo, again, and_parts, are_held, asking, auto, both, deed_of}
 use Rattle.job_laws.proofs.Prelude.{eq_refl as self, finds, finished, learn, looking, or_right as or-more, swap, under, up}
 use Rattle.job_laws.proofs.Prelude.op.{Status}
@@ -13,7 +13,7 @@ any-true false = refl
 pub up-held : (f : Footing) (i x g : ServerNo) → (i.0 == x.0) ≡ false → are_held f (up i x g) ≡ true
 up-held f i x g apart = simp (self, apart) refl
 
--- a server that is its own source has no plan that is held: the wait forgets what was seen of it
+-- a server that is its own source has no plan with `Held`: the wait forgets what was seen of it
 pub up-itself : (f : Footing) (i g : ServerNo) → are_held f (up i i g) ≡ false
 up-itself f i g = simp (self, any-true) refl
 
@@ -46,7 +46,7 @@ base-learn f _ = record { gtid = λ h. h; logs = λ k h. h }
 base-trans : (f g h : Footing) → SameBase f g → SameBase g h → SameBase f h
 base-trans f g h p q = record { gtid = λ e. q.gtid (p.gtid e); logs = λ n e. q.logs n (p.logs n e) }
 
--- operations that are held, and behind them some that are held whatever was read
+-- operations with `Held`, and after them some that have `Held` whatever was read
 pub held-append : (f : Footing) (ps qs : List Op) → are_held f ps ≡ true → ((g : Footing) → SameBase f g → are_held g qs ≡ true) → are_held f (ps ++ qs) ≡ true
 held-append f [] qs h then = then f (record { gtid = λ e. e; logs = λ n e. e })
 held-append f (p ∷ ps) qs h then =
@@ -54,6 +54,6 @@ held-append f (p ∷ ps) qs h then =
     both (finds f (deed_of p)) (are_held (learn f (deed_of p)) (ps ++ qs)) parts.0
     (held-append (learn f (deed_of p)) ps qs parts.1 (λ g base. then g (base-trans f (learn f (deed_of p)) g (base-learn f (deed_of p)) base)))
 
--- the last operation tells what was done
+-- the last operation has the lines of what was done
 pub finished-held : (f : Footing) (ops : List Op) (lines : List Line) → are_held f ops ≡ true → are_held f (finished ops lines) ≡ true
 finished-held f ops lines h = held-append f ops (Finish lines ∷ []) h (λ g base. refl)

@@ -1,4 +1,4 @@
--- What a status shows, and that it goes on being shown.
+-- What a status has, and that it still holds later.
 use Rattle.std.proofs.Common.{◌≡◌, ℕ, true, List, refl, ◌∙◌, ap, Option, Some, None, Ok, Err, Result, count_by}
 use Rattle.job_laws.proofs.Prelude.{AllAllowed, Bridge, Coord, Exchange, Grows, Grows-run, IsBridged, IsTarget, Placed, Position, Position-run, Safe}
 use Rattle.job_laws.proofs.Prelude.{Server, Settings, Shows, Shows-seen as Shows-answered, ShowsAt, Spans, Stands-grows, Stands-seen, Status}

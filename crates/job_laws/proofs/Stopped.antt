@@ -1,4 +1,4 @@
--- A job is stopped by a purged file exactly where its attachment is answered so.
+-- A job is stopped by a purged file exactly if its attachment is answered so.
 use Rattle.std.proofs.Common.{◌≡◌, ℕ, ◌+◌, Bool, true, false, cond, List, [], refl, ◌∙◌, ap, Option, Some, None, Ok, Err, Result}
 use Rattle.std.specs.Prelude.{nat_lt}
 use Rattle.job_laws.proofs.Prelude.{Ask, AttachFault, Attempt, Coord, Deed, Exchange, Goes, IsPurged, Job, MatchFault, Moment, Observation, Op}

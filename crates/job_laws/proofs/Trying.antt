@@ -1,4 +1,4 @@
--- A held job passes over no change of source.
+-- A job with `Held` passes over no change of source.
 use Rattle.std.proofs.Common.{◌≡◌, ℕ, true, List, [], refl, ◌∙◌, ap, cond, Option, Some, None, ◌&&◌}
 use Rattle.std.specs.Prelude.{is_some}
 use Rattle.job_laws.proofs.Prelude.{AllShow, ArePlaced, Attached, Auto, Cross, Crossing, CrossMatch, Detached, Exchange, Goes, IsTried, Job, Moment}

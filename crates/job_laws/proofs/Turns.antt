@@ -1,4 +1,5 @@
--- A turn of a job: its exchanges are allowed and join well, and it leaves the job held, whatever operations are left.
+-- A turn of a job: its exchanges are allowed and join well, and the job has `Held` after it, whatever operations are
+-- left.
 use Rattle.std.proofs.Common.{◌≡◌, ℕ, ◌+◌, Bool, true, false, cond, not, List, [], ◌∷◌, ◌++◌, refl, sym, ◌∙◌, ap, subst, Option, Some, None, Ok, Err, Result}
 use Rattle.std.specs.Prelude.{◌==◌, nat_lt}
 use Rattle.job_laws.proofs.Prelude.{All-push, AllAllowed, AllBridged, AllJoinWell, AllMeet, Allowed, AllShow, ArePlaced, Ask, Attached, AttachFault}
@@ -40,7 +41,7 @@ Within-run w es xs placed allowed = record {
   under = λ n m h. h;
 }
 
--- a job that others' exchanges pass by stays held
+-- a job that others' exchanges pass by keeps `Held`
 pub Held-run : (w : World) (es : List Exchange) (j : Job) → Placed w → AllAllowed w es → HeldJob w j → HeldJob (run w es) j
 Held-run w es j placed allowed held = record {
   left = held-mono (footing w j.seen) (footing (run w es) j.seen) (Within-run w es j.seen placed allowed) j.ops held.left;
@@ -229,7 +230,7 @@ due-of w j op rest is held matched =
       still = matched;
     }
 
--- a turn of a held job
+-- a turn of a job with `Held`
 pub turn-kept : (w : World) (read : ℕ) (now : Moment) (j : Job) → Placed w → HeldJob w j → KeepsHeld w (turned w read now j)
 turn-kept w read now j placed held = go j.ops refl
   where

@@ -1,4 +1,4 @@
--- Servers with jobs in flight: what is kept of a run beside the instances of the book, on which no crossing rests.
+-- Servers with jobs: what is kept of a run beside the instances of the book, on which no reattachment rests.
 use Rattle.std.specs.Prelude.{◌≡◌, ℕ, ◌==◌, not, if◌then◌else◌, List, [], ◌∷◌, ◌++◌, length, map, filter, replicate, slice_set, Option, Some, None, IfSome, All}
 use Rattle.job_laws.specs.Prelude.{Bridge, Exchange, Job, Moment, Observation, Placed, Safe, ServerNo, Shows, Stands, Status, Turned, World, after}
 use Rattle.job_laws.specs.Prelude.{bridge_in, freed, is_going, list_any, position_of, ringed, run, turned}
@@ -28,7 +28,7 @@ IsShownBridged w o = (seen : Status) → o.seen ≡ Some seen → IsBridged w o.
 abbrev pub StandsIn : World → Bridge → Type 0
 StandsIn w b = Stands w b.no.0 b.source.0 b.own b.exec
 
--- what holds in every state, quiet or not
+-- what holds in every state, with errant writes or without
 pub record Held (f : Flight) : Type 0 where
   pub placed : Placed f.world
   pub rings : All (All (Spans f.world)) f.rings
@@ -36,7 +36,7 @@ pub record Held (f : Flight) : Type 0 where
   pub jobs : All (HeldJob f.world) f.jobs
   pub leased : AreLeased f.leases f.jobs
 
--- what holds in every quiet state beside
+-- what holds in every state without errant writes, beside
 pub record Sound (f : Flight) : Type 0 where
   pub safe : Safe f.world
   pub rings : All (All (StandsIn f.world)) f.rings
@@ -102,7 +102,7 @@ after_turn f id t = record f {
   leases = if is_going t.step then f.leases else without_leases f.leases id;
 }
 
--- a turn of a job; what it observed is stored apart
+-- a turn of a job; what it observed is stored separately
 abbrev pub job_turned : Flight → ℕ → Moment → ℕ → Option Job → Flight
 job_turned f read now id None = f
 job_turned f read now id (Some j) = after_turn f id (turned f.world read now j)

@@ -5,15 +5,15 @@ use Rattle.job_laws.specs.Prelude.aim
 use Rattle.job_laws.specs.Prelude.cross
 use Rattle.job_laws.specs.Prelude.deed
 
--- whether the servers use GTIDs, which servers log for sure, which were read, and the source that the last reading of
--- each is sure to have shown
+-- Whether the servers use GTIDs, which servers log for sure, and which were read. Then the source that the last reading
+-- of each has for sure.
 pub record Footing : Type 0 where
   pub gtid : Bool
   pub logs : ℕ → Bool
   pub read : ℕ → Bool
   pub under : ℕ → Option ℕ
 
--- one may count on all of the first where one may count on the second
+-- one may count on all of the first if one may count on the second
 pub record Within (f g : Footing) : Type 0 where
   pub gtid : f.gtid ≡ true → g.gtid ≡ true
   pub logs : (n : ℕ) → f.logs n ≡ true → g.logs n ≡ true
@@ -29,8 +29,8 @@ abbrev pub finds_aim : Footing → Aim → Bool
 finds_aim f (aim.EndOf n) = f.read n.0 && f.logs n.0
 finds_aim f (aim.ExecOf n) = f.read n.0
 
--- the server by which it goes logs, and its last reading shows a source: the one that is named, where the crossing
--- attaches that server, or goes by its own end
+-- The server by which it goes logs, and its last reading has a source. That is the one that is named, if the
+-- reattachment attaches that server, or goes by its own end.
 abbrev pub finds_crossing : Footing → Crossing → ServerNo → ServerNo → Bool
 finds_crossing f cross.Up a b = is_some (f.under b.0) && f.logs b.0
 finds_crossing f cross.Down a b = is_some (f.under b.0) && f.logs b.0

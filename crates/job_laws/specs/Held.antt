@@ -1,4 +1,4 @@
--- What holds of jobs and readings in every world, quiet or not.
+-- What holds for jobs and readings in every world, with errant writes or without.
 use Rattle.std.specs.Prelude.{◌≡◌, ℕ, true, List, Option, Some, None, Err}
 use Rattle.job_laws.specs.Prelude.{AllAllowed, Attempt, Bridge, Deed, Exchange, IsPosition, IsTarget, Job, Op, Placed, Position, ServerNo, Sight}
 use Rattle.job_laws.specs.Prelude.{Turned, World, after_answer, attach_answer_of, by_match, by_set, can_attach, crossing_of, match_found, run}
@@ -8,16 +8,16 @@ use Rattle.job_laws.specs.Prelude.deed
 use Rattle.job_laws.specs.Footing.{Footing, footing, finds, learn, are_held}
 use Rattle.job_laws.specs.Matched.{ArePlaced, are_matched, finds_match, matched_by, matched_in}
 
--- where a server stood is shown
+-- a server's observed position was a true one
 abbrev pub ShowsAt : World → ℕ → Position → Type 0
 ShowsAt w n seen = IsPosition w n seen.own_end seen.source seen.exec seen.set
 
--- what was seen of each server is shown
+-- what was seen of each server was true
 abbrev pub AllShow : World → List Sight → Type 0
 AllShow w xs = (n : ℕ) (seen : Position) → seen_of xs n ≡ Some seen → ShowsAt w n seen
 
--- A job in flight: each operation that is left finds what it uses, and the match by which it goes; what the job saw is
--- shown, and the matches that it found have their places.
+-- A job's invariant: each operation that is left finds what it uses, and the match by which it goes. What the job saw
+-- was true, and the matches that it found have their places.
 pub record HeldJob (w : World) (j : Job) : Type 0 where
   pub left : are_held (footing w j.seen) j.ops ≡ true
   pub shown : AllShow w j.seen
@@ -29,14 +29,14 @@ pub record Spans (w : World) (b : Bridge) : Type 0 where
   pub own : IsTarget w b.no.0 b.own
   pub exec : IsTarget w b.source.0 b.exec
 
--- a turn of a job makes exchanges that are allowed, each in the world to which those before it led, and leaves the job
--- held
+-- a turn of a job makes exchanges that are allowed, each in the world to which those before it led, and the job has
+-- `Held` after it
 pub record KeepsHeld (w : World) (t : Turned) : Type 0 where
   pub allowed : AllAllowed w t.exchanges
   pub held : HeldJob (run w t.exchanges) t.job
 
--- what is due: the operation finds what it uses, and the match by which it goes, and those behind it once it is done;
--- where it is due again, and finds what it uses, so it is with all that is left
+-- What is due: the operation finds what it uses, and the match by which it goes, and those after it once it is done. If
+-- it is due again, and finds what it uses, so it is with all that is left.
 pub record IsDue (w : World) (j : Job) (rest : List Op) (d : Deed) : Type 0 where
   pub found : finds (footing w j.seen) d ≡ true
   pub left : are_held (learn (footing w j.seen) d) rest ≡ true
@@ -45,8 +45,8 @@ pub record IsDue (w : World) (j : Job) (rest : List Op) (d : Deed) : Type 0 wher
   pub matched : are_matched (matched_by (matched_in j.matches) d) rest ≡ true
   pub still : are_matched (matched_in j.matches) j.ops ≡ true
 
--- a job may take a turn by this operation, before those: its world is placed, what it saw is shown, and the matches
--- that it found have their places
+-- A job may take a turn by this operation, before those. Its world has `Placed`, what it saw was true, and the matches
+-- that it found have their places.
 pub record IsNext (w : World) (j : Job) (rest : List Op) (d : Deed) : Type 0 where
   pub placed : Placed w
   pub shown : AllShow w j.seen

@@ -48,8 +48,8 @@ abbrev pub are_listed : List ServerNo → List Op → Bool
 are_listed list [] = true
 are_listed list (op ∷ ops) = is_in list (change_of (deed_of op)) && are_listed list ops
 
--- a job begins: it saw and found nothing yet, its operations are held, and the servers that they may change are of its
--- list, of which nobody has a lease
+-- a job begins: it saw and found nothing yet, its operations have `Held`, and the servers that they may change are of
+-- its list, of which nobody has a lease
 pub record Begins (w : World) (jobs : List Job) (leases : Leases) (list : List ServerNo) (j : Job) : Type 0 where
   pub seen : j.seen ≡ []
   pub hands : j.hands ≡ []

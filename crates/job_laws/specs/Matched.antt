@@ -60,8 +60,8 @@ IsPlaced w x = IsTarget w x.to.0 x.at
 abbrev pub ArePlaced : World → List Match → Type 0
 ArePlaced w xs = All (IsPlaced w) xs
 
--- its coordinate and where the server stood are one point of two logs: that of the server that it goes to, and that of
--- its source, or its own
+-- its coordinate and the server's position then are one point of two logs: that of the server that it goes to, and that
+-- of its source, or its own
 abbrev pub MeetsAt : World → ServerNo → ServerNo → Coord → Spot → Type 0
 MeetsAt w n to at (spot.At source exec) = Stands w to.0 source.0 at exec
 MeetsAt w n to at (spot.OwnEnd end) = Stands w to.0 n.0 at end

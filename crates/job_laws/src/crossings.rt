@@ -11,8 +11,8 @@ ghost use Rattle.job_laws.specs.Held.{AllShow, IsPurged, IsTried, Spans, attachm
 ghost use Rattle.job_laws.specs.Matched.{ArePlaced, matched_in};
 ghost use Rattle.job_laws.specs.Sound.{AllBridged};
 
-/// A crossing that finds what it uses makes an attachment, which is allowed, and joins well in a safe world where
-/// what was seen is bridged; so do an attachment anew to a server's own source, and one by a set that was seen.
+/// A reattachment that finds what it uses makes an attachment, which is allowed. It joins well in a `Safe` world if
+/// what was seen is bridged. So do an attachment anew to a server's own source, and one by a set that was seen.
 pub fn crossings_are_well()
     ensures crossing_found { (w : World) (xs : List ASight) (c : ACrossing) (a b : Number) →
         AllShow w xs → finds_crossing (footing w xs) c a b ≡ true →
@@ -35,8 +35,8 @@ pub fn crossings_are_well()
         AllShow w xs → by_set n m (seen_of xs m.0) ≡ Some e → JoinsWell w e }
 {}
 
-/// Each change of source that is found by what was seen can be made: the coordinate has its place in the log of the new
-/// source, and by a set GTIDs are used and the new source logs.
+/// Each change of source that is found by what was seen can be made. The coordinate has its place in the log of the new
+/// source. By a set, GTIDs are used and the new source logs.
 pub fn found_attachments_can_be_made()
     ensures crossing { (w : World) (xs : List ASight) (c : ACrossing) (a b : Number) (e : Exchange) →
         AllShow w xs → crossing_of xs c a b ≡ Some e → can_attach w e ≡ true }
@@ -71,8 +71,8 @@ pub fn held_attachments_are_tried()
         (by_deed w read now j rest (CrossMatch n m)) }
 {}
 
-/// A job is stopped by Purged, with the server that was to go on in a purged file and the first file that its new
-/// source keeps, exactly where this turn's attachment of that server is answered so.
+/// A job is stopped by `Purged` exactly if this turn's attachment of a server is answered so. `Purged` names that
+/// server, which was to go on in a purged file, and the first file that its new source keeps.
 pub fn purged_files_stop_jobs()
     ensures stops { (w : World) (read : ℕ) (now : AMoment) (j : Job) (rest : List AnOp) (d : Deed)
         (n : Number) (first : ℕ) →

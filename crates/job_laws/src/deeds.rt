@@ -10,9 +10,10 @@ ghost use Rattle.job_laws.specs.Matched.{AllMeet};
 ghost use Rattle.job_laws.specs.Sound.{AllBridged, KeepsSound, IsNextSafely};
 ghost use Rattle.job_laws.specs.Leases.{Leases, HasLeases, KeepsLeases};
 
-/// A turn of a held job makes allowed exchanges and leaves it held, quiet or not, by whatever operation is due and
-/// whatever held operations are left behind it. It changes only servers that are leased to the job. What others do
-/// meanwhile leaves it held. The exchanges are allowed for any job, held or not.
+/// A turn of a job with `Held` makes allowed exchanges and the job has `Held` after it, with errant writes or without.
+/// It doesn't matter which operation is due, and which operations with `Held` are left after it. It changes only
+/// servers that are leased to the job. The job keeps `Held` through what others do meanwhile. The exchanges are allowed
+/// for any job, with `Held` or without.
 pub fn each_operation_keeps_held()
     ensures allowed { (w : World) (read : ℕ) (now : AMoment) (j : Job) →
         AllAllowed w (turned w read now j).exchanges }
@@ -29,7 +30,8 @@ pub fn each_operation_keeps_held()
         HeldJob w j → HeldJob (run w es) j }
 {}
 
-/// In a safe world each attachment that a turn makes joins well, and every bridge that the job saw stands afterwards.
+/// In a `Safe` world each attachment that a turn makes joins well, and every bridge that the job saw is right
+/// afterwards.
 pub fn each_operation_keeps_sound()
     ensures turn { (w : World) (read : ℕ) (now : AMoment) (j : Job) → Safe w → Placed w →
         HeldJob w j → AllBridged w j.seen → AllMeet w j.matches →
@@ -42,8 +44,8 @@ pub fn each_operation_keeps_sound()
         KeepsSound w (going o es k) }
 {}
 
-/// The wait for a server that has a settled applier ends where the applier is off or has executed all that was read,
-/// and by its last wait in any case; it fails only where the server isn't reached.
+/// The wait for a server that has a settled applier ends if the applier is off or has executed all that was read. It
+/// ends by its last wait in any case. It fails only if the server isn't reached.
 pub fn settling_ends()
     ensures unreached { (w : World) (read : ℕ) (now : AMoment) (j : Job) (rest : List AnOp)
         (n : Number) →

@@ -1,4 +1,4 @@
-//! Turns over servers with jobs in flight.
+//! Turns over servers with jobs.
 
 ghost use Rattle.std.specs.Prelude.{◌≡◌, ℕ, List, Option, IfSome, Some, ◌≤◌};
 ghost use Rattle.job_laws.specs.Prelude.{All, Allowed, Exchange, IsQuiet, Job, JoinsWell, Moment as AMoment, Observation as Reading};
@@ -7,9 +7,9 @@ ghost use Rattle.job_laws.specs.Held.{HeldJob};
 ghost use Rattle.job_laws.specs.Flights.{Flight, Held, Sound, IsShown, IsShownBridged, exchanged, slotted, stored, forgotten, restarted, opened_flight, begun, after_job};
 ghost use Rattle.job_laws.specs.Leases.{Leases, IsLeased, Begins};
 
-/// What is no job's turn keeps a flight held, quiet or not, and sound where it is quiet afterwards: an exchange, a
-/// poll's reading that is put into its slot, a slot that is emptied, a reading that is stored, an instance that is
-/// forgotten, and a restart.
+/// What is no job's turn keeps `Held`, with errant writes or without, and `Sound` if there are none afterwards. These
+/// are an exchange, a poll's reading that is put into its slot, and a slot that is emptied. So are a reading that is
+/// stored, an instance that is forgotten, and a restart.
 pub fn other_turns_keep_sound()
     ensures held_exchange { (f : Flight) (e : Exchange) → Allowed f.world e → Held f →
         Held (exchanged f e) }
@@ -33,7 +33,8 @@ pub fn other_turns_keep_sound()
     ensures sound_restart { (f : Flight) → Sound f → Sound (restarted f) }
 {}
 
-/// A job that begins with held operations, over servers of which nobody has a lease, leaves the flight held and sound.
+/// A job that begins with operations that have `Held`, over servers of which nobody has a lease, keeps `Held` and
+/// `Sound`.
 pub fn jobs_begin_held()
     ensures held { (f : Flight) (list : List Number) (j : Job) →
         Begins f.world f.jobs f.leases list j → Held f → Held (begun f list j) }
@@ -41,8 +42,8 @@ pub fn jobs_begin_held()
         Begins f.world f.jobs f.leases list j → Sound f → Sound (begun f list j) }
 {}
 
-/// A turn of any job keeps a flight held, quiet or not, and sound where it is quiet afterwards: the other jobs too.
-/// What it observed is shown afterwards, so that it may be stored.
+/// A turn of any job keeps `Held`, with errant writes or without, and `Sound` if there are none afterwards: for the
+/// other jobs too. What it observed is true afterwards, so that it may be stored.
 pub fn jobs_keep_sound()
     ensures held { (f : Flight) (read : ℕ) (now : AMoment) (id : ℕ) → Held f →
         Held (after_job f read now id) }
@@ -67,7 +68,7 @@ pub fn others_are_left_alone()
         server_at (after_job f read now id).world m ≡ server_at f.world m }
 {}
 
-/// A run begins held and sound, with no job.
+/// A run begins with `Held` and `Sound`, and with no job.
 pub fn flights_open_sound()
     ensures held { (w : World) (rings slots : ℕ) → Placed w → Held (opened_flight w rings slots) }
     ensures sound { (w : World) (rings slots : ℕ) → Safe w → Sound (opened_flight w rings slots) }

@@ -5,7 +5,7 @@ ghost use Rattle.job_laws.specs.Prelude.{ServerNo as Number, given_back, taken};
 ghost use Rattle.job_laws.specs.Flights.{leased_to, without_leases};
 ghost use Rattle.job_laws.specs.Leases.{leases_of};
 
-/// Leases that are taken and given back in the list are so as flights have them.
+/// Leases that are taken and given back in the list are so as `Flight` has them.
 pub fn leases_are_listed()
     ensures taken { (xs : List (Option ℕ)) (list : List Number) (id : ℕ) →
         All (λ k. k.0 < length xs) list →

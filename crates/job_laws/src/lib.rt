@@ -1,4 +1,4 @@
-//! Laws of jobs in flight: what is kept of servers, of what was seen of them and of jobs, by every turn.
+//! Laws of jobs: what every turn keeps of servers, of what was seen of them and of jobs.
 #![tactic(auto)]
 
 mod crossings;

@@ -7,9 +7,10 @@ ghost use Rattle.job_laws.specs.Prelude.{place, server_at, standing_at};
 ghost use Rattle.job_laws.specs.Marked.{KeepsMark};
 ghost use Rattle.job_laws.specs.Matched.{AllMeet, ArePlaced, Meets, MeetsAt};
 
-/// In a safe world, as every quiet state of a run is, the coordinate at which the log of a server matches another's has
-/// as place there all that the server has executed, which is a beginning of what the other has. And where it is a
-/// beginning, and the last mark of what the server has executed is read in both logs, they match, and at its end.
+/// In a `Safe` world, as every state of a run without errant writes is, take the coordinate at which the log of a
+/// server matches another's. Its place is the length of all that the server has executed, which is a prefix of what the
+/// other has. If it is a prefix, and the last mark of what the server has executed is read in both logs, they match,
+/// and at its end.
 pub fn matched_logs_agree()
     ensures place { (w : World) (r d : Number) (every : ℕ) (c : At) (x y : AServer) → Safe w →
         server_at w r.0 ≡ Some x → server_at w d.0 ≡ Some y → match_logs w r d every ≡ Ok c →
@@ -23,9 +24,9 @@ pub fn matched_logs_agree()
         match_logs w r d every ≡ Ok (coord_after y.log.log (length x.history.txns)) }
 {}
 
-/// A change of source by a match that was found can be made, is allowed, and joins well in a safe world where the match
-/// stands: there it is well as long as the server stands where it was matched. In a safe world each match that is found
-/// stands; in any world of a run its coordinate has a place.
+/// A change of source by a match that was found can be made, is allowed, and joins well in a `Safe` world in which the
+/// match is right. There it is well as long as the server is at the position at which it was matched. In a `Safe` world
+/// each match that is found is right. In any world of a run its coordinate has a place.
 pub fn matches_cross_well()
     ensures can { (w : World) (xs : List AMatch) (n m : Number) (e : Exchange) → ArePlaced w xs →
         by_match n m (match_found xs n m) ≡ Some e → can_attach w e ≡ true }

@@ -1,13 +1,13 @@
-//! Plans leave operations that are held.
+//! Plans leave operations with `Held`.
 
 ghost use Rattle.std.specs.Prelude.{◌≡◌, ◌==◌, ◌++◌, List, true, false};
 ghost use Rattle.job_laws.specs.Prelude.{Line as ALine, Op as AnOp, ServerNo as Number, again, asking, auto, deed_of, finished, swap, under, up};
 ghost use Rattle.job_laws.specs.Footing.{Footing, SameBase, finds, are_held};
 ghost use Rattle.job_laws.specs.Matched.{Matched, are_matched};
 
-/// The plans' operations are held whatever was read before: a move up of a server that isn't its own source, a move
-/// below a server that logs, an attachment anew, one by GTIDs to a server that logs, and a swap of a server that logs
-/// and its source.
+/// The plans' operations have `Held` whatever was read before. They are a move up of a server that isn't its own
+/// source, a move below a server that logs, and an attachment anew. Also one by GTIDs to a server that logs, and a swap
+/// of a server that logs and its source.
 pub fn plans_are_held()
     ensures up { (f : Footing) (i x g : Number) → (i.0 == x.0) ≡ false →
         are_held f (up i x g) ≡ true }
@@ -23,8 +23,8 @@ pub fn plans_are_held()
         are_held f (asking op i) ≡ true }
 {}
 
-/// Plans one after another are held where each is held whatever was read, and so they are with the lines behind them;
-/// and so it is with the matches by which they go.
+/// Plans one after another have `Held` if each has it whatever was read, and so they do with the lines after them. So
+/// it is with the matches by which they go.
 pub fn plans_join()
     ensures append { (f : Footing) (ps qs : List AnOp) → are_held f ps ≡ true →
         ((g : Footing) → SameBase f g → are_held g qs ≡ true) → are_held f (ps ++ qs) ≡ true }

@@ -6,7 +6,7 @@ ghost use Rattle.job_laws.specs.Prelude.{World, position_of, run, seen_in, statu
 ghost use Rattle.job_laws.specs.Held.{ShowsAt, Spans};
 ghost use Rattle.job_laws.specs.Sound.{IsBridged};
 
-/// A status shows what the server has; in a safe world it shows a bridge that stands.
+/// A status has what the server has. In a `Safe` world it has a right bridge.
 pub fn readings_are_shown()
     ensures shown { (w : World) (n : ℕ) (seen : Reading) → Placed w →
         seen_in (status w n) ≡ Some seen → Shows w n seen }
@@ -14,7 +14,7 @@ pub fn readings_are_shown()
         seen_in (status w n) ≡ Some seen → IsBridged w n (position_of seen) }
 {}
 
-/// What was shown stays shown, and what stands stands, over any exchanges, quiet or not.
+/// What was observed stays true, and right bridges stay right, over any exchanges, with errant writes or without.
 pub fn readings_stay_shown()
     ensures shown { (w : World) (es : List Exchange) (n : ℕ) (seen : Reading) → Placed w →
         AllAllowed w es → Shows w n seen → Shows (run w es) n seen }

@@ -1,12 +1,12 @@
-//! Runs of turns, with jobs in flight.
+//! Runs of turns, with jobs.
 
 ghost use Rattle.std.specs.Prelude.{List};
 ghost use Rattle.job_laws.specs.Prelude.{IsQuiet};
 ghost use Rattle.job_laws.specs.Flights.{Flight, Held, Sound};
 ghost use Rattle.job_laws.specs.Passages.{Passage, passed, MayPass, PassesWell, passing, AllMayPass, AllPassWell};
 
-/// Each turn keeps a flight held, quiet or not, and sound where it is quiet afterwards. So every state of a run is
-/// held, and every quiet one is sound.
+/// Each turn keeps `Held`, with errant writes or without, and `Sound` if there are none afterwards. So every state of a
+/// run has `Held`, and every one without errant writes has `Sound`.
 pub fn runs_are_sound()
     ensures held { (f : Flight) (p : Passage) → MayPass f p → Held f → Held (passed f p) }
     ensures sound { (f : Flight) (p : Passage) → MayPass f p → PassesWell f p →

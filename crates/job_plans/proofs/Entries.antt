@@ -57,7 +57,7 @@ module _ (s : Server) (f : Option Txn → Bool) where
   pub test-gone : (k : ℕ) → k < kept_from s → f None ≡ false → f (logged_by s k) ≡ false
   test-gone k lt none = ap f (entry-gone s k lt) ∙ none
 
--- the transaction of an index, as the world tells it
+-- the transaction of an index, as the world answers it
 pub txn-of : (w : World) (n k : ℕ) (s : Server) (t : Txn) → server_at w n ≡ Some s → option_and_then (λ x. slice_get x.history.txns k) (server_at w n) ≡ Some t → slice_get s.history.txns k ≡ Some t
 txn-of w n k s t at h = sym (ap (λ o. option_and_then (λ x. slice_get x.history.txns k) o) at) ∙ h
 
@@ -103,7 +103,7 @@ kept-is s k t h =
 pub server-there : (w : World) (n : ℕ) → n < length w.servers → (s : Server) × (server_at w n ≡ Some s)
 server-there w n h = nth-there w.servers n h
 
--- a server of which no log is told doesn't log
+-- a server of which no log is given doesn't log
 log-none : (s : Server) → log_of s ≡ None → s.settings.logs ≡ false
 log-none s h = go s.settings.logs h
   where

@@ -7,7 +7,7 @@ use Rattle.job_plans.specs.declared.act.Look.{Look}
 use Rattle.job_plans.specs.declared.act.Act.{Act}
 use Rattle.job_plans.specs.declared.act.Act.TheVariants as act
 
--- the operations behind the one that is due
+-- the operations after the one that is due
 abbrev pub rest_of : Job → List Op
 rest_of j = drop 1 j.ops
 
@@ -35,7 +35,7 @@ job_after j (act.Ask n a) = record (next j (rest_of j)) { hands = hands_after j.
 job_after j (act.Attach n expect to at) = next j (rest_of j)
 job_after j (act.Auto n m) = next j (rest_of j)
 
--- the turn that a look tells
+-- the turn that a look foretells
 abbrev pub foretold : Job → Look → Turned
 foretold j l = record { step = l.step; observation = l.observation; exchanges = exchanges_of j l.act; job = job_after j l.act }
 
@@ -66,7 +66,7 @@ CanFollow j (act.Ask n a) = 0 < length j.ops
 CanFollow j (act.Attach n expect to at) = 0 < length j.ops
 CanFollow j (act.Auto n m) = 0 < length j.ops
 
--- after an operation is looked up where one is due
+-- after an operation is looked up if one is due
 abbrev pub IsNext : Job → Option Op → Type 0
 IsNext j None = j.ops ≡ []
 IsNext j (Some op) = j.ops ≡ op ∷ rest_of j
@@ -83,7 +83,7 @@ takes_memory (act.Ask n a) = true
 takes_memory (act.Attach n expect to at) = false
 takes_memory (act.Auto n m) = true
 
--- memory may be wanted only where the job goes on and nothing is observed
+-- memory may be wanted only if the job goes on and nothing is observed
 abbrev pub IsSpare : JobStep → Option Observation → Act → Type 0
 IsSpare s o a = takes_memory a ≡ true → (s ≡ step.Going) × (o ≡ None)
 
@@ -97,7 +97,7 @@ pub record MayLook (w : World) (j : Job) : Type 0 where
   pub due : 0 < length j.ops
   pub hands : All (IsOneOf (length w.servers)) j.hands
 
--- a look tells the turn that an attempt comes to, and the turn may be taken
+-- a look foretells the turn that an attempt comes to, and the turn may be taken
 pub record Tells (w : World) (j : Job) (a : Attempt) (l : Look) : Type 0 where
   pub turn : foretold j l ≡ settled j a
   pub can : CanTurn w j l

@@ -23,7 +23,7 @@ pub enum Act {
     Wait(Sight),
     /// The operation is done: this is asked of a server.
     Ask(ServerNo, Ask),
-    /// The first server, which stands at the spot, goes below the second, at the coordinate.
+    /// The first server, which is at this position, goes below the second, at the coordinate.
     Attach(ServerNo, Spot, ServerNo, Coord),
     /// The first server goes below the second, by the GTIDs that were seen of it.
     Auto(ServerNo, ServerNo),

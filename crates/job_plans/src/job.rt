@@ -60,7 +60,7 @@ impl Model for Job {
 }
 
 impl Job {
-    /// A job of this number and these operations, each of which may wait so often.
+    /// A job of this number and these operations, each of which may wait so often. `Err` means out of memory.
     pub fn make(alloc: Global, id: u64, ops: Vec<Op>, wait: u32) -> Result<Job, Memory>
         ensures { IfOk result (λ j. j ≡ job_with id wait ops.items) }
     {
@@ -132,7 +132,8 @@ impl Job {
     }
 
     /// What the next turn does on this world, and observes with this read number at this moment. It changes nothing.
-    /// The servers that the job names are there. An attachment that can't be made is passed over.
+    /// The servers that the job names are there. An attachment that can't be made is passed over. `Err` means out of
+    /// memory.
     pub fn look(
         &self,
         alloc: Global,
@@ -270,8 +271,8 @@ impl Job {
         Ok(())
     }
 
-    /// Does what was looked up on this job and this world, and hands on what the look told. At want of memory nothing
-    /// has changed; it comes only where the job goes on and nothing is observed.
+    /// Does what was looked up on this job and this world, and hands on what the look foretold. If memory runs out,
+    /// nothing has changed. That comes only if the job goes on and nothing is observed.
     pub fn turn(
         &mut self,
         alloc: Global,

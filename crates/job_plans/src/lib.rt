@@ -18,7 +18,7 @@ use operations::{
     server_words_items,
 };
 pub use operations::{Aim, Crossing, JobStep, Match, MatchFault, Op, Position, Sight};
-/// Want of memory.
+/// Out of memory.
 pub use operations::orch_base::Memory;
 pub use turns::{change_hands, keep};
 pub use view::JobView;

@@ -55,7 +55,7 @@ pub(crate) fn latest_of_more(more: &[Sight], no: ServerNo) -> Option<&Position>
     }
 }
 
-/// Where a server stood by this status.
+/// A server's position, by this status.
 pub(crate) fn position_of(seen: Status) -> Position
     ensures { result ≡ position_of seen }
 {
@@ -117,7 +117,7 @@ pub(crate) fn is_settled(seen: &Status) -> bool
     !(seen.sql && seen.read != seen.exec)
 }
 
-/// The server whose reading a crossing goes by.
+/// The server whose reading a reattachment goes by.
 pub(crate) fn read_by(crossing: Crossing, a: ServerNo, b: ServerNo) -> ServerNo
     ensures { result ≡ read_by crossing a b }
 {
@@ -239,7 +239,7 @@ pub(crate) fn takes_sets(world: &World, to: ServerNo) -> bool
     world.gtid() && to.0 < world.servers() && world.settings(to).logs
 }
 
-// Where a server stands that is matched: under its source, attached or detached, else at its own end.
+// The position of a server that is matched: under its source, attached or detached, else at its own end.
 fn standing(world: &World, no: ServerNo) -> Spot
     ensures { result ≡ standing_at (server_at world.now no.0) }
 {
@@ -278,7 +278,7 @@ pub(crate) fn look_match(
     }
 }
 
-// Why a job fails where the logs don't match.
+// Why a job fails if the logs don't match.
 fn cause_of_match(no: ServerNo, fault: MatchFault) -> Cause
     ensures { result ≡ cause_of_match no fault }
 {
@@ -289,7 +289,7 @@ fn cause_of_match(no: ServerNo, fault: MatchFault) -> Cause
     }
 }
 
-/// An attachment. It is passed over where the coordinate has no place in the log of the new source.
+/// An attachment. It is passed over if the coordinate has no place in the log of the new source.
 pub(crate) fn look_attach(
     alloc: Global,
     world: &World,
@@ -311,7 +311,7 @@ pub(crate) fn look_attach(
     }
 }
 
-/// An attachment by the bridge of a crossing.
+/// An attachment by the bridge of a reattachment.
 pub(crate) fn look_bridge(
     alloc: Global,
     world: &World,

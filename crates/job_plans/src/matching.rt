@@ -28,7 +28,7 @@ fn shows_same(every: u64, x: Txn, y: Txn) -> bool
     x.origin.0 == y.origin.0 && (x.size == y.size && is_mark(every, x) == is_mark(every, y))
 }
 
-// The index of the first transaction that the log of a server keeps; where it doesn't log, how many it has executed.
+// The index of the first transaction that the log of a server keeps. If it doesn't log, how many it has executed.
 fn kept_from(world: &World, no: ServerNo) -> u64
     requires { no.0 < length world.now.servers }
     ensures { (s : AServer) → server_at world.now no.0 ≡ Some s → result ≡ kept_from s }
@@ -42,7 +42,7 @@ fn kept_from(world: &World, no: ServerNo) -> u64
     }
 }
 
-// The last mark that the log of a server keeps. The time is that of the entries behind it.
+// The last mark that the log of a server keeps. The time is that of the entries after it.
 fn last_mark(world: &World, no: ServerNo, every: u64) -> Option<u64>
     requires { no.0 < length world.now.servers }
     ensures { (s : AServer) → server_at world.now no.0 ≡ Some s → result ≡ last_mark every s }
@@ -56,7 +56,7 @@ fn last_mark(world: &World, no: ServerNo, every: u64) -> Option<u64>
     None
 }
 
-// Where the log of a server keeps a mark. The time is that of the entries behind it.
+// The place of a mark in the log of a server. The time is that of the entries after it.
 fn place_of_mark(world: &World, no: ServerNo, mark: Txn) -> Option<u64>
     requires { no.0 < length world.now.servers }
     ensures { (s : AServer) → server_at world.now no.0 ≡ Some s →
@@ -71,7 +71,7 @@ fn place_of_mark(world: &World, no: ServerNo, mark: Txn) -> Option<u64>
     None
 }
 
-// Where so many transactions of a log end; without so many, at its beginning.
+// The end of so many transactions of a log. If it has fewer, the log's start.
 fn end_after(log: &LogIndex, count: u64) -> Coord
     ensures { result ≡ coord_after log.now.log count }
 {
@@ -81,8 +81,8 @@ fn end_after(log: &LogIndex, count: u64) -> Coord
     log.coord_after(count)
 }
 
-// Where all that the first server has executed ends in the log of the second, by a mark that both keep: an entry of the
-// first is compared with that in its place in the second.
+// The end of all that the first server has executed, in the log of the second, by a mark that both keep. Each entry of
+// the first is compared with that in its place in the second.
 fn matched_at(
     world: &World,
     r: ServerNo,
@@ -121,12 +121,14 @@ fn is_reached(world: &World, no: ServerNo) -> bool
     no.0 < world.servers() && world.is_reached(no)
 }
 
-/// Where all that server `r` has executed ends in the log of `d`, by the last mark that the log of `r` keeps: a
-/// transaction whose number is divisible by `every`, of which there are none at 0. Unreachable with the first of the
-/// two that is down or whose desk link is cut. NoMark where the log of `r` keeps no mark, or that of `d` doesn't keep
-/// the last one of `r`. Mismatch with the first entry of `r`, counted from 1, behind the mark for which `d` has none in
-/// its place, or one that shows another origin, another size or a mark. The time is that of the entries behind the
-/// mark. It takes no memory.
+/// The end of all that server `r` has executed, in the log of `d`, by the last mark that the log of `r` keeps. A mark
+/// is a transaction whose number is divisible by `every`. There are none at 0.
+/// - `Unreachable` has the first of the two that is down or whose desk link is cut.
+/// - `NoMark`: the log of `r` keeps no mark, or that of `d` doesn't keep the last one of `r`.
+/// - `Mismatch` has the first entry of `r` after the mark, counted from 1, for which `d` has none in its place. It also
+///   comes if the entry there has another origin or another size, or is a mark.
+///
+/// The time is that of the entries after the mark. It takes no memory.
 pub fn match_logs(world: &World, r: ServerNo, d: ServerNo, every: u64) -> Result<Coord, MatchFault>
     ensures { result ≡ match_logs world.now r d every }
 {

@@ -46,7 +46,7 @@ pub fn change_hands(hands: &mut Vec<ServerNo>, no: ServerNo, ask: Ask)
     }
 }
 
-/// Starts each of the servers; one that isn't reached is passed over.
+/// Starts each of the servers. One that isn't reached is passed over.
 pub(crate) fn restart(world: &mut World, hands: &[ServerNo])
     requires { All (IsOneOf (length world.old.servers)) hands.now }
     ensures { world.new ≡ run world.old (restarts hands.now) }

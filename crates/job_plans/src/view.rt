@@ -23,7 +23,7 @@ use operations::{Aim, Crossing, Match, Op, Position, Sight};
 use std::alloc::Global;
 use std::marker::Model;
 
-/// A job as its turn is looked up: its parts, wherever they stand.
+/// A job as its turn is looked up: its parts, borrowed from wherever they are.
 #[derive(Drop)]
 pub struct JobView<'a> {
     /// The job's number.
@@ -88,7 +88,7 @@ impl<'a> JobView<'a> {
         }
     }
 
-    // Where the server is to go, where it was seen before it.
+    // The coordinate to which the server is to go, if it was seen before it.
     fn until(&self, no: ServerNo, aim: Aim) -> Option<Coord>
         ensures { result ≡ until_by (latest_of self.now.seen no.0) (aim_of self.now.seen aim) }
     {
@@ -200,7 +200,7 @@ impl<'a> JobView<'a> {
         Ok(self.look_wait(alloc, world, no, seen, over))
     }
 
-    /// The bridge that was seen of a server: none where it doesn't log or has no source.
+    /// The bridge that was seen of a server: none if it doesn't log or has no source.
     pub fn bridge(&self, no: ServerNo) -> Option<Bridge>
         ensures { result ≡ bridge_at no (latest_of self.now.seen no.0) }
     {
@@ -344,7 +344,8 @@ impl<'a> JobView<'a> {
     }
 
     /// What the next turn does on this world, and observes with this read number at this moment. It changes nothing.
-    /// The servers that the job names are there. An attachment that can't be made is passed over.
+    /// The servers that the job names are there. An attachment that can't be made is passed over. `Err` means out of
+    /// memory.
     pub fn look(
         &self,
         alloc: Global,

@@ -43,7 +43,7 @@ mono low (j ∷ js) high (suc i) (suc k) d r h within = mono (number_of j) js hi
 apart : (m n : ℕ) → n < m → (m == n) ≡ false
 apart m n h = grind arith
 
--- where no job has the number
+-- if no job has the number
 pub none-at : (jobs : List Unended) (id : ℕ) → ((k : ℕ) (d : Unended) → k < length jobs → number_of (get_or jobs k d) ≢ id) → job_at jobs id ≡ None
 none-at [] id none = refl
 none-at (j ∷ js) id none = go (number_of j == id) refl (none-at js id (λ k d h. none (suc k) d (omega (arith, h))))
@@ -52,7 +52,7 @@ none-at (j ∷ js) id none = go (number_of j == id) refl (none-at js id (λ k d 
     go true e rest = absurd (none 0 j (omega arith) (eqb-true (number_of j) id e))
     go false e rest = rest
 
--- where the job at a place has it
+-- if the job at a place has it
 pub found-at : (low : ℕ) (jobs : List Unended) (high id at : ℕ) (d : Unended) → Rise low jobs high → at < length jobs → number_of (get_or jobs at d) ≡ id → job_at jobs id ≡ slice_get jobs at
 found-at low [] high id at d r h e = absurd (omega (arith, h))
 found-at low (j ∷ js) high id zero d r h e = ap (λ b. cond b (Some j) (job_at js id)) (eq-eqb (number_of j) id e)

@@ -35,7 +35,7 @@ module _ (jobs : List Unended) (high id at : ℕ) (rise : Rise 0 jobs high) (poi
   pub found-there : (j : Unended) → at < length jobs → j ≡ get_or jobs at j → number_of j ≡ id → (at < length jobs) × (job_at jobs id ≡ slice_get jobs at)
   found-there j within item same = (within, found-at 0 jobs high id at j rise within (ap (λ (x : Unended). number_of x) (sym item) ∙ same))
 
-  -- each has another number, where that at the place, if there is one, has
+  -- each has another number, if that at the place, if there is one, has
   pub none-there : ((d : Unended) → at < length jobs → number_of (get_or jobs at d) ≢ id) → job_at jobs id ≡ None
   none-there other = none-at jobs id each
     where
@@ -57,7 +57,7 @@ module _ (jobs : List Unended) (high id at : ℕ) (rise : Rise 0 jobs high) (poi
               let there : at < length jobs = omega (arith, here, within) in
               other d there (ap (λ n. number_of (get_or jobs n d)) (sym here) ∙ same)
 
--- the job at a place, whatever stands for those past the end
+-- the job at a place, whatever the default past the end is
 pub item-any : (jobs : List Unended) (at : ℕ) (j d : Unended) → at < length jobs → j ≡ get_or jobs at j → get_or jobs at d ≡ j
 item-any jobs at j d within item = same_Some (get_or jobs at d) j (sym (slice_get-get_or jobs at d within) ∙ slice_get-get_or jobs at j within ∙ ap (λ (x : Unended). Some x) (sym item))
 

@@ -45,7 +45,7 @@ most_turns jobs id = most_turns_by (job_at jobs id)
 
 -- ---- the turn that was looked up for a job
 
--- none where there is no such job
+-- none if there is no such job
 abbrev pub turn_by : List Unended → ℕ → UnendedLook → Option Flown
 turn_by jobs id look = option_map (λ j. foretold j look) (job_at jobs id)
 

@@ -1,4 +1,4 @@
-//! Jobs in flight: how one is found, what its turn answers, and what becomes of it.
+//! Jobs: how one is found, what its turn answers, and what becomes of it.
 
 ghost use Rattle.std.specs.Prelude.{◌≡◌, ◌<◌, ℕ, true, false, length, slice_get, None, Some, IfOk, IfSome, OnOk, OnErr, MatchOption};
 ghost use Rattle.std.specs.List.{remove};
@@ -16,14 +16,14 @@ use std::alloc::Global;
 use turns::{BoxedFailure, Failure, Reply};
 use unended_jobs::{Unended, UnendedLook};
 
-/// Where a job stands among those by rising number, and its number.
+/// The index of a job among those by rising number, and its number.
 #[derive(Clone, Copy)]
 pub struct FoundJob {
     pub at: usize,
     pub id: u64,
 }
 
-/// Where the job of a number stands among jobs by rising number, found by halves.
+/// The index of the job of a number among jobs by rising number, found by halves.
 pub fn find(jobs: &[Unended], id: u64) -> Option<usize>
     requires { (high : ℕ) × Rise 0 jobs.now high }
     ensures { MatchOption result (job_at jobs.now id ≡ None)
@@ -36,7 +36,7 @@ pub fn find(jobs: &[Unended], id: u64) -> Option<usize>
     if jobs[at].id() == id { Some(at) } else { None }
 }
 
-/// What a job's turn answers.
+/// What a job's turn answers. `Err` means out of memory.
 pub fn answer(alloc: Global, step: &JobStep) -> Result<Reply, Memory>
     ensures { IfOk result (λ r. r ≡ step_reply step.now) }
 {
@@ -90,8 +90,8 @@ fn drop_ended(jobs: &mut Vec<Unended>, book: &mut Book, at: usize, id: u64, step
 }
 
 /// Does what was looked up for this job: the world after its exchanges, what it observed stored, and the job as it is
-/// then or, where it is ended, dropped, with its leases free. At want of memory nothing has changed; it comes only
-/// where the job goes on and nothing is observed.
+/// then. If the job is ended, it is dropped, with its leases free. If memory runs out, nothing has changed. That comes
+/// only if the job goes on and nothing is observed.
 pub fn take_turn(
     alloc: Global,
     jobs: &mut Vec<Unended>,

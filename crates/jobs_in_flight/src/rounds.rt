@@ -33,6 +33,7 @@ fn add_polls(turns: &mut Vec<Turn>, servers: &[ServerNo]) -> Result<(), Memory>
 }
 
 /// What follows the job's turn in a round: fetch and apply on each of the servers, then a poll of each, in their order.
+/// `Err` means out of memory.
 pub fn others_over(alloc: Global, servers: &[ServerNo]) -> Result<Vec<Turn>, Memory>
     ensures { IfOk result (λ turns.
         turns.items ≡ flat_map replicates servers.now ++ flat_map polls servers.now) }
@@ -43,7 +44,8 @@ pub fn others_over(alloc: Global, servers: &[ServerNo]) -> Result<Vec<Turn>, Mem
     Ok(turns)
 }
 
-/// One turn of the job, then fetch and apply on each of the servers, then a poll of each, in their order.
+/// One turn of the job, then fetch and apply on each of the servers, then a poll of each, in their order. `Err` means
+/// out of memory.
 pub fn round_over(alloc: Global, servers: &[ServerNo], job: u64) -> Result<Vec<Turn>, Memory>
     ensures { IfOk result (λ turns. turns.items ≡ round_over servers.now job) }
 {

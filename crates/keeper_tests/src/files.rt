@@ -1,4 +1,4 @@
-//! A keeper over a real file.
+//! A row store over a real file.
 
 use crate::orch_base::{Memory, Moment, Name, OwnedText, ServerNo};
 use kept_rows::{Candidate, Change, Keeper, KeeperFault, Key, Row, Rule, Table};
@@ -30,7 +30,7 @@ fn open(rt: &HostRuntime, path: &str) -> Result<SqlKeeper, Memory> {
     Ok(SqlKeeper::open(rt, path))
 }
 
-// The servers and moments of the registrations that a keeper gives.
+// The servers and moments of the registrations that a row store gives.
 fn given(
     keeper: &mut SqlKeeper,
     alloc: Global,

@@ -1,4 +1,4 @@
-//! Tests of the keeper over real files, and of the texts of its rows.
+//! Tests of the row store over real files, and of the texts of its rows.
 #![tactic(auto)]
 
 #[cfg(test)]

@@ -69,7 +69,7 @@ module _ (rows : List Row) (q p : ℕ) where
   behind_not : p ≤ q → row_in (rows_behind rows q) p ≡ None
   behind_not h = find_lost (λ r. sort_key_of r == p) (λ r. nat_lt q (sort_key_of r)) (λ x e. more_not (sort_key_of x) p q (is_eq (sort_key_of x) p e) h) rows
 
-  -- what stands before and behind a sort key, with something at it
+  -- what is before and after a sort key, with something at it
   around : (middle : List Row) → row_in (rows_before rows q ++ (middle ++ rows_behind rows q)) p ≡ option_or (row_in (rows_before rows q) p) (option_or (row_in middle p) (row_in (rows_behind rows q) p))
   around middle = find-append _ (rows_before rows q) (middle ++ rows_behind rows q) ∙ ap (option_or (row_in (rows_before rows q) p)) (find-append _ middle (rows_behind rows q))
 
@@ -89,7 +89,7 @@ module _ (rows : List Row) (q p : ℕ) where
       around middle ∙ (ap (λ x. option_or x (option_or (row_in middle p) (row_in (rows_behind rows q) p))) (before_not (omega (arith, h)))
       ∙ (ap (λ x. option_or (row_in middle p) x) (behind_not (omega (arith, h))) ∙ or_none (row_in middle p)))
 
--- the new row stands at its sort key, and all others as before
+-- the new row is at its sort key, and all others as before
 pub row_in-put : (rows : List Row) (r : Row) (p : ℕ) → row_in (put rows r) p ≡ row_after p (row_in rows p) (change.Put r)
 unfolding put
 row_in-put rows r p = elim (cases_lt p (sort_key_of r)) [

@@ -40,7 +40,7 @@ steps rows each i (suc n) d within =
     let at : i + suc n + 1 ≡ i + suc (suc n) = omega arith in
     subst (λ k. sort_key_of (get_or rows i d) < sort_key_of (get_or rows k d)) at (omega (arith, before, next))
 
--- where each row stands before the next, the rows rise
+-- if each row is before the next, the rows rise
 pub adjacent_rise : (rows : List Row) (b : Bool) → IsAllAdjacentAnswer (λ x y b. b ≡ nat_lt (sort_key_of x) (sort_key_of y)) rows b → OnTrue b (IsRising rows)
 adjacent_rise rows true each = record {
   apart = λ i j d less within.

@@ -1,4 +1,4 @@
--- Equal instances are those that the code tells to be equal.
+-- Equal instances are those that the code finds equal.
 use Rattle.server_words.proofs.BinlogCoords.Places.{same_coord-refl as coord_refl}
 use Rattle.server_words.proofs.BinlogCoords.Places.{same_coord-true as coord_is}
 use Rattle.std.proofs.Common.{◌≡◌, ℕ, Bool, true, false, List, [], ◌∷◌, Option, None, Some, refl, sym, ap, subst, arith}

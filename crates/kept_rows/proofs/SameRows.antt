@@ -1,4 +1,4 @@
--- Rising lists of rows with the same look-ups are equal, and sort keys tell tables and keys apart.
+-- Rising lists of rows with the same look-ups are equal, and different tables or keys have different sort keys.
 use Rattle.std.proofs.Common.{◌≡◌, ℕ, ◌^◌, ◌<◌, ◌≤◌, true, false, cond, List, [], ◌∷◌, None, Some, refl, sym, ap, ◌∙◌, inl, inr, All, arith}
 use Rattle.std.specs.Prelude.{◌==◌}
 use Rattle.std.specs.List.{AllPairs}

@@ -57,7 +57,7 @@ pub behind_parts : (front back : List Row) (p : ℕ) → All (λ x. sort_key_of 
 behind_parts front back p below above =
     filter-append _ front back ∙ (ap (λ l. l ++ rows_behind back p) (behind_none front p below) ∙ behind_all back p above)
 
--- of three parts, what stands before and behind the middle one
+-- of three parts, what is before and after the middle one
 pub before_middle : (front middle back : List Row) (p : ℕ) → All (λ x. sort_key_of x < p) front → All (λ x. sort_key_of x ≡ p) middle → All (λ x. p < sort_key_of x) back → rows_before (front ++ (middle ++ back)) p ≡ front
 before_middle front middle back p below at above =
     before_parts front (middle ++ back) p below
@@ -84,7 +84,7 @@ module _ (front middle back : List Row) (p : ℕ) (below : All (λ x. sort_key_o
       let f : rows_behind (front ++ (middle ++ back)) (sort_key t k) ≡ back = ap (rows_behind (front ++ (middle ++ back))) here ∙ behind_middle front middle back p below at above in
       ap (λ l. l ++ rows_behind (front ++ (middle ++ back)) (sort_key t k)) e ∙ ap (λ l. front ++ l) f
 
--- a row that stands behind all others
+-- a row that is after all others
 pub put_last : (rows : List Row) (r : Row) → All (λ x. sort_key_of x < sort_key_of r) rows → put rows r ≡ rows ++ r ∷ []
 unfolding put
 put_last rows r below =
@@ -112,7 +112,7 @@ rises_above rows p i rising within here = λ k d low h.
     above_or_at : (k i a b p : ℕ) → (i < k → b < a) → (k ≡ i → a ≡ b) → p ≤ b → i ≤ k → p ≤ a
     above_or_at k i a b p behind same at h = elim (le_cases i k h) [ inl less ↦ omega (arith, behind less) | inr e ↦ omega (arith, same (sym e)) ]
 
--- the row at a sort key is the first that doesn't stand before it
+-- the row at a sort key is the first that isn't before it
 pub first_at : (rows : List Row) (p i : ℕ) → IsRising rows → i < length rows → HoldsAt (λ x. sort_key_of x ≡ p) rows i → IsFirstFrom rows p i
 first_at rows p i rising within here = record {
   within = omega (arith, within);
@@ -123,7 +123,7 @@ first_at rows p i rising within here = record {
   above = rises_above rows p i rising within (λ d. let at = here d in let goal : p ≤ sort_key_of (get_or rows i d) = omega (arith, at) in goal);
 }
 
--- behind a row at or behind a sort key all rows are behind it
+-- after a row at or after a sort key all rows are after it
 pub past_first : (rows : List Row) (p i : ℕ) → IsRising rows → i < length rows → HoldsAt (λ x. p ≤ sort_key_of x) rows i → All (λ x. p < sort_key_of x) (drop (suc i) rows)
 past_first rows p i rising within here = All_drop (λ x. p < sort_key_of x) rows (suc i) (λ k d low h.
     let at = here d in

@@ -1,4 +1,4 @@
--- What a keeper does with its rows.
+-- What a row store does with its rows.
 use Rattle.std.specs.Prelude.{◌≡◌, ◌≤◌, ℕ, List, Option, Result, Err, IfSome, MatchResult, OnOk, if◌then◌else◌}
 use Rattle.std.specs.Option.{option_map}
 use Rattle.server_words.specs.OrchBase.Causes.{Rose}
@@ -13,11 +13,11 @@ use Rattle.kept_rows.specs.Rows.{changed, map_of}
 abbrev pub KeepsAll : Option (List Row) → Option (List Row) → List Change → {A : Type 0} → Result A KeeperFault → Type 0
 KeepsAll before now changes result = MatchResult result (λ _. now ≡ option_map (λ rows. changed rows changes) before) (λ _. now ≡ before)
 
--- the rows that are kept, where they are known, in any order; of two with one table and key the last stands
+-- the rows that are kept, if they are known, in any order; of two with one table and key the last counts
 abbrev pub GivesAll : Option (List Row) → List Row → Type 0
 GivesAll kept given = IfSome kept (λ rows. map_of given ≡ rows)
 
--- Failed comes only where the count rose, by one or more; it never falls
+-- Failed comes only if the count rose, by one or more. It never falls
 pub record HasKeeperCause {A : Type 0} (before now : ℕ) (result : Result A KeeperFault) : Type 0 where
   pub later : before ≤ now
   pub failed : result ≡ Err fault.Failed → Rose before now

@@ -48,7 +48,7 @@ sort_key t k = table_number t * 2 ^ 65 + key_number k
 abbrev pub sort_key_of : Row → ℕ
 sort_key_of r = sort_key (table_of r) (key_of r)
 
--- each row stands before those that follow it
+-- each row is before those that follow it
 pub record IsRising (rows : List Row) : Type 0 where
   pub apart : AllPairs (λ a b. sort_key_of a < sort_key_of b) rows
 
@@ -81,7 +81,7 @@ changed_by rows (change.Remove t k) = remove rows t k
 abbrev pub changed : List Row → List Change → List Row
 changed rows changes = fold changed_by rows changes
 
--- the map of any list of rows: of two with one table and key the last stands
+-- the map of any list of rows: of two with one table and key the last counts
 abbrev pub map_of : List Row → List Row
 map_of rows = fold put [] rows
 

@@ -1,4 +1,4 @@
--- Whether instances are equal, as the code tells it.
+-- Whether instances are equal, as the code tests it.
 use Rattle.std.specs.Prelude.{◌==◌, ◌&&◌, Bool, true, false, not, if◌then◌else◌, List, [], ◌∷◌, Option, None, Some}
 use Rattle.server_words.specs.BinlogCoords.declared.Coord.{Coord}
 use Rattle.server_words.specs.GtidSets.declared.interval.Interval.{Interval}

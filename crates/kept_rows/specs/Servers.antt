@@ -53,7 +53,7 @@ key_servers key.Active = []
 abbrev pub are_known : ℕ → List ℕ → Bool
 are_known count servers = list_all (λ n. nat_lt n count) servers
 
--- the recoveries stand in the audit, and the claim beside both
+-- the recoveries are in the audit, and the claim beside both
 abbrev pub is_of_book : Table → Bool
 is_of_book table.Instance = true
 is_of_book table.Downtime = true

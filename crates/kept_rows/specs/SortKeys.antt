@@ -8,7 +8,7 @@ use Rattle.kept_rows.specs.Rows.{sort_key, sort_key_of}
 abbrev pub at : SortKey → ℕ
 at p = sort_key p.table p.key
 
--- the rows before this index stand before the sort key, and the others don't
+-- the rows before this index are before the sort key, and the others aren't
 pub record IsFirstFrom (rows : List Row) (p i : ℕ) : Type 0 where
   pub within : i ≤ length rows
   pub below : AllWithin (λ r. sort_key_of r < p) rows 0 i

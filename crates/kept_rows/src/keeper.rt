@@ -1,4 +1,4 @@
-//! Keepers of rows.
+//! Row stores.
 
 ghost use Rattle.std.specs.Prelude.{◌≡◌, ℕ, List, Option, IfOk};
 ghost use Rattle.kept_rows.specs.declared.row.Row.{Row};
@@ -10,12 +10,12 @@ use crate::row::{Change, Row};
 use std::alloc::Global;
 use std::fmt;
 
-/// Why a keeper gave up.
+/// Why a row store gave up.
 #[derive(Clone, Copy, Debug, PartialEq, Eq)]
 pub enum KeeperFault {
-    /// The keeper failed, and counted it.
+    /// The row store failed, and counted it.
     Failed,
-    /// Want of memory.
+    /// Out of memory.
     Memory,
 }
 
@@ -39,7 +39,7 @@ impl fmt::Display for KeeperFault {
     }
 }
 
-/// A keeper of rows, by the rows that it keeps in rising order, where they are known, and its count of faults, which never
+/// A row store, by the rows that it keeps in rising order, if they are known, and its count of faults, which never
 /// falls.
 pub trait Keeper {
     ghost kept: { Self → Option (List Row) };
@@ -47,13 +47,13 @@ pub trait Keeper {
     ghost faults: { Self → ℕ };
 
     /// Makes all the changes, one after another, or, at a fault, none. The names are those of the servers by number.
-    /// `Failed` comes only where the count of faults rose.
+    /// `Failed` comes only if the count of faults rose.
     fn keep(&mut self, alloc: Global, names: &[Name], changes: &[Change]) -> Result<(), KeeperFault>
         ensures kept { KeepsAll (kept self.old) (kept self.new) changes.now result }
         ensures cause { HasKeeperCause (faults self.old) (faults self.new) result };
 
-    /// Gives all rows, in any order, and changes none: of two with one table and key the last stands. The names are those
-    /// of the servers by number. `Failed` comes only where the count of faults rose.
+    /// Gives all rows, in any order, and changes none: of two with one table and key the last counts. The names are
+    /// those of the servers by number. `Failed` comes only if the count of faults rose.
     fn rows(&mut self, alloc: Global, names: &[Name]) -> Result<Vec<Row>, KeeperFault>
         ensures told { IfOk result (λ given. GivesAll (kept self.old) given.items) }
         ensures same { kept self.new ≡ kept self.old }

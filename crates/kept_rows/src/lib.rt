@@ -1,4 +1,4 @@
-//! The rows that are kept of what orchestrator knows, and the keeper that keeps them (orchestrator's documentation,
+//! The rows that are kept of what orchestrator knows, and the row store that keeps them (orchestrator's documentation,
 //! "Backend database").
 #![tactic(auto)]
 
@@ -17,7 +17,7 @@ pub use laws::{
 pub use memory::{MemKeeper, row_map};
 pub use observation::{Instance, Observation};
 pub use server_words::{binlog_coords_items, gtid_sets, orch_base};
-/// Want of memory.
+/// Out of memory.
 pub use recovery::{Recovery, RecoveryRow};
 pub use row::{Candidate, Change, Downtime, Key, Row, Table};
 pub use server_words::orch_base::{CauseName, Ending, Kind, Memory, Rule};

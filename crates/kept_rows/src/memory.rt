@@ -1,4 +1,4 @@
-//! A keeper in memory, which fails at the calls that are listed.
+//! A row store in memory, which fails at the calls that are listed.
 
 ghost use Rattle.std.specs.Prelude.{◌≡◌, ◌<◌, ◌≤◌, ◌+◌, ◌↔◌, Some, fold, true, IfOk, OnOk, OnErr, Err, length, nat_lt, vec_len, vec_capacity};
 ghost use Rattle.std.specs.Bool.{OnTrue, OnFalse};
@@ -15,7 +15,7 @@ use crate::row::{Change, Key, Row, SortKey, Table};
 use std::alloc::Global;
 use std::marker::Model;
 
-/// A keeper in memory.
+/// A row store in memory.
 pub struct MemKeeper {
     rows: Vec<Row>,
     fail_at: Vec<u64>,
@@ -45,7 +45,7 @@ impl Model for MemKeeper {
     ghost invariant = { λ k. IsRising k.rows.items };
 }
 
-// Which of these rows to look at next: an instance's row mostly stands at its server's number.
+// Which of these rows to look at next. An instance's row is mostly at its server's number.
 fn next_look(from: usize, to: usize, guess: usize) -> usize
     requires { from < to }
     ensures from { from ≤ result }
@@ -60,7 +60,7 @@ fn next_look(from: usize, to: usize, guess: usize) -> usize
     from + (to - from) / 2
 }
 
-// Whether the row of this index is there, and stands at this sort key.
+// Whether the row of this index is there, and is at this sort key.
 #[inline(always)]
 fn stands_at(rows: &[Row], index: usize, sort_key: SortKey) -> bool
     ensures there { OnTrue result (index < length rows.now) }
@@ -72,7 +72,7 @@ fn stands_at(rows: &[Row], index: usize, sort_key: SortKey) -> bool
     }
 }
 
-// The first row that doesn't stand before this sort key.
+// The first row that isn't before this sort key.
 fn first_from(rows: &[Row], sort_key: SortKey) -> usize
     requires { IsRising rows.now }
     ensures { IsFirstFrom rows.now (at sort_key) result }
@@ -94,7 +94,7 @@ fn first_from(rows: &[Row], sort_key: SortKey) -> usize
     from
 }
 
-// Whether there is a row of this index that doesn't stand behind this sort key.
+// Whether there is a row of this index that isn't after this sort key.
 #[inline(always)]
 fn is_there(rows: &[Row], index: usize, sort_key: SortKey) -> bool
     ensures there { OnTrue result (index < length rows.now) }
@@ -125,7 +125,7 @@ fn put_row(rows: &mut Vec<Row>, row: Row)
     }
 }
 
-// Removes the row of this sort key, where there is one.
+// Removes the row of this sort key, if there is one.
 fn remove_row(rows: &mut Vec<Row>, sort_key: SortKey)
     requires rising { IsRising rows.old.items }
     ensures items { rows.new.items ≡ remove rows.old.items sort_key.table sort_key.key }
@@ -208,7 +208,7 @@ fn is_instance_at(rows: &[Row], index: usize, no: ServerNo) -> bool
     }
 }
 
-// Puts a copy of a row: an instance's mostly stands at its server's number. It changes nothing at want of memory.
+// Puts a copy of a row. An instance's row is mostly at its server's number. It changes nothing if memory runs out.
 #[inline(always)]
 fn put_copy(alloc: Global, rows: &mut Vec<Row>, row: &Row) -> Result<(), Memory>
     requires rising { IsRising rows.old.items }
@@ -226,7 +226,7 @@ fn put_copy(alloc: Global, rows: &mut Vec<Row>, row: &Row) -> Result<(), Memory>
     put_copy_by_key(alloc, rows, row)
 }
 
-// Puts a copy of a row, whose place is searched. It changes nothing at want of memory.
+// Puts a copy of a row, whose place is searched. It changes nothing if memory runs out.
 #[inline(never)]
 fn put_copy_by_key(alloc: Global, rows: &mut Vec<Row>, row: &Row) -> Result<(), Memory>
     requires rising { IsRising rows.old.items }
@@ -246,7 +246,7 @@ fn put_copy_by_key(alloc: Global, rows: &mut Vec<Row>, row: &Row) -> Result<(), 
     Ok(())
 }
 
-// Makes a change, whose row is copied. It changes nothing at want of memory.
+// Makes a change, whose row is copied. It changes nothing if memory runs out.
 fn change_one(alloc: Global, rows: &mut Vec<Row>, change: &Change) -> Result<(), Memory>
     requires rising { IsRising rows.old.items }
     ensures ok { OnOk result (rows.new.items ≡ changed_by rows.old.items change.now) }
@@ -280,7 +280,7 @@ fn copy_rows(alloc: Global, rows: &[Row]) -> Result<Vec<Row>, Memory>
     Ok(copies)
 }
 
-// Whether the row stands before the next: of two instances by their servers' numbers alone.
+// Whether the row is before the next: of two instances by their servers' numbers alone.
 #[inline(always)]
 fn is_before(row: &Row, next: &Row) -> bool
     ensures { result ≡ nat_lt (sort_key_of row.now) (sort_key_of next.now) }
@@ -291,14 +291,15 @@ fn is_before(row: &Row, next: &Row) -> bool
     row.sort_key().is_before(next.sort_key())
 }
 
-// Whether each row stands before the next.
+// Whether each row is before the next.
 fn is_rising(rows: &[Row]) -> bool
     ensures { OnTrue result (IsRising rows.now) }
 {
     rows.is_sorted_by(|row, next| is_before(row, next))
 }
 
-/// The map of any list of rows, in rising order: of two with one table and key the last stands.
+/// The map of any list of rows, in rising order: of two with one table and key the last counts. `Err` means out of
+/// memory.
 pub fn row_map(alloc: Global, rows: Vec<Row>) -> Result<Vec<Row>, Memory>
     ensures { IfOk result (λ map. map.items ≡ map_of rows.items) }
 {
@@ -311,7 +312,7 @@ pub fn row_map(alloc: Global, rows: Vec<Row>) -> Result<Vec<Row>, Memory>
 }
 
 impl MemKeeper {
-    /// A keeper of these rows: of two with one table and key the last is kept. The calls of `keep` and `rows` whose
+    /// A row store of these rows: of two with one table and key the last is kept. The calls of `keep` and `rows` whose
     /// numbers, from 1, are listed fail, and no other.
     pub fn new(alloc: Global, rows: Vec<Row>, fail_at: Vec<u64>) -> Result<MemKeeper, Memory>
         ensures { IfOk result (λ k. k ≡ record { rows = map_of rows.items; calls = 0; fail_at = fail_at.items; faults = 0 }) }
@@ -355,7 +356,7 @@ impl Keeper for MemKeeper {
 
     ghost faults = { λ k. k.faults };
 
-    /// Makes all the changes, or none where it fails by its number or there is want of memory.
+    /// Makes all the changes, or none if it fails by its number or memory runs out.
     fn keep(
         &mut self,
         alloc: Global,

@@ -12,14 +12,14 @@ pub struct Observation {
     pub read: u64,
     /// The moment of the reading.
     pub moment: Moment,
-    /// What was seen: none where the server wasn't reached.
+    /// What was seen: none if the server wasn't reached.
     pub seen: Option<Seen>,
 }
 
 impl Observation {
     ghost use Rattle.std.specs.Prelude.{◌≡◌, IfOk};
 
-    /// The same observation once more.
+    /// The same observation once more. `Err` means out of memory.
     pub fn copy(&self) -> Result<Observation, Memory>
         ensures { IfOk result (λ o. o ≡ self.now) }
     {
@@ -54,7 +54,7 @@ pub struct Instance {
 impl Instance {
     ghost use Rattle.std.specs.Prelude.{◌≡◌, ◌↔◌, IfOk, IsTrue, OnOk, OnErr};
 
-    /// The same instance once more.
+    /// The same instance once more. `Err` means out of memory.
     #[inline(always)]
     pub fn copy(&self) -> Result<Instance, Memory>
         ensures { IfOk result (λ i. i ≡ self.now) }
@@ -69,7 +69,7 @@ impl Instance {
         })
     }
 
-    /// Becomes the same as the other. At want of memory it stays as it was.
+    /// Becomes the same as the other. If memory runs out, it stays as it was.
     pub(crate) fn set_to(&mut self, other: &Instance) -> Result<(), Memory>
         ensures ok { OnOk result (self.new ≡ other.now) }
         ensures err { OnErr result (self.new ≡ self.old) }

@@ -48,7 +48,7 @@ impl Drop for Recovery {
 impl Recovery {
     ghost use Rattle.std.specs.Prelude.{◌≡◌, ◌↔◌, IfOk, IsTrue};
 
-    /// The same recovery once more.
+    /// The same recovery once more. `Err` means out of memory.
     pub fn copy(&self, alloc: Global) -> Result<Recovery, Memory>
         ensures { IfOk result (λ r. r ≡ self.now) }
     {
@@ -146,7 +146,7 @@ impl Drop for RecoveryRow {
 impl RecoveryRow {
     ghost use Rattle.std.specs.Prelude.{◌≡◌, ◌↔◌, IfOk, IsTrue};
 
-    /// The same row once more.
+    /// The same row once more. `Err` means out of memory.
     pub fn copy(&self, alloc: Global) -> Result<RecoveryRow, Memory>
         ensures { IfOk result (λ r. r ≡ self.now) }
     {

@@ -38,7 +38,7 @@ impl Drop for Downtime {
 impl Downtime {
     ghost use Rattle.std.specs.Prelude.{◌≡◌, ◌↔◌, IfOk, IsTrue};
 
-    /// The same downtime once more.
+    /// The same downtime once more. `Err` means out of memory.
     pub fn copy(&self, alloc: Global) -> Result<Downtime, Memory>
         ensures { IfOk result (λ d. d ≡ self.now) }
     {
@@ -92,13 +92,13 @@ pub enum Table {
 /// The key of a row in its table.
 #[derive(Clone, Copy, Debug, PartialEq, Eq)]
 pub enum Key {
-    /// Of an instance, a downtime or a candidate.
+    /// The key of an instance, a downtime or a candidate.
     Server(ServerNo),
-    /// Of a recovery.
+    /// The key of a recovery.
     Id(u64),
-    /// Of the switch.
+    /// The key of the switch.
     Global,
-    /// Of the claim.
+    /// The key of the claim.
     Active,
 }
 
@@ -124,7 +124,7 @@ fn number_of(table: Table) -> u8
 }
 
 impl Key {
-    // Whether it stands before the other in one table.
+    // Whether it is before the other in one table.
     fn is_before(self, other: Key) -> bool
         ensures { result ≡ nat_lt (key_number self) (key_number other) }
     {
@@ -139,7 +139,7 @@ impl Key {
         }
     }
 
-    /// Where its row stands if each server with a lower number has a row of the first table: past all rows for a key of
+    /// The index of its row if each server with a lower number has a row of the first table: past all rows for a key of
     /// no server.
     pub(crate) fn guess(self) -> usize {
         match self {
@@ -150,7 +150,7 @@ impl Key {
 }
 
 impl SortKey {
-    /// Whether it stands before the other.
+    /// Whether it is before the other.
     pub(crate) fn is_before(self, other: SortKey) -> bool
         ensures { result ≡ nat_lt (sort_key self.table self.key) (sort_key other.table other.key) }
     {
@@ -227,7 +227,7 @@ impl Row {
         }
     }
 
-    /// The same row once more.
+    /// The same row once more. `Err` means out of memory.
     #[inline]
     pub fn copy(&self, alloc: Global) -> Result<Row, Memory>
         ensures { IfOk result (λ r. r ≡ self.now) }
@@ -245,7 +245,7 @@ impl Row {
         })
     }
 
-    /// Becomes the same as the other. At want of memory it stays as it was.
+    /// Becomes the same as the other. If memory runs out, it stays as it was.
     #[inline(always)]
     pub(crate) fn set_to(&mut self, alloc: Global, other: &Row) -> Result<(), Memory>
         ensures ok { OnOk result (self.new ≡ other.now) }
@@ -301,7 +301,7 @@ pub enum Change {
 impl Change {
     ghost use Rattle.std.specs.Prelude.{◌≡◌, IfOk};
 
-    /// The same change once more.
+    /// The same change once more. `Err` means out of memory.
     pub fn copy(&self, alloc: Global) -> Result<Change, Memory>
         ensures { IfOk result (λ c. c ≡ self.now) }
     {

@@ -1,4 +1,4 @@
--- Causes of several calls of a keeper, one after the other.
+-- Causes of several calls of a row store, one after the other.
 use Rattle.std.proofs.Common.{◌≡◌, ℕ, ◌≤◌, Result, Ok, Err, ap, subst, arith}
 use Rattle.command_outcomes.specs.OrchBase.Causes.{Rose}
 use Rattle.knowledge.specs.Faults.{HasTurnCause}
@@ -9,7 +9,7 @@ use Rattle.knowledge.specs.declared.fault.TurnFault.TheVariants as fault
 pub cause-fine : {A : Type 0} (before now : ℕ) (x : A) → before ≤ now → HasTurnCause {A = A} before now (Ok x)
 cause-fine before now x later = record { later = later; failed = λ k. absurd cc }
 
--- memory ran out behind a call
+-- memory ran out after a call
 pub cause-stays : {A : Type 0} (before now : ℕ) → before ≤ now → HasTurnCause {A = A} before now (Err fault.Memory)
 cause-stays before now later = record { later = later; failed = λ k. absurd cc }
 

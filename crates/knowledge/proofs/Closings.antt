@@ -27,7 +27,7 @@ closing_as id u s e = record { id = id; outcome = e; acked = is_acknowledged_for
 abbrev pub closing_with : ℕ → Purpose → JobStep → Option ServerNo → Option Closing
 closing_with id u s p = option_map (closing_as id u s) (ending_with p s)
 
--- they are the recovery's where the turn is the last one
+-- they are the recovery's if the turn is the last one
 with-recovery : (id : ℕ) (u : Purpose) (s : JobStep) (p : Option ServerNo) (r : Recovery) → ((lines : List Line) → s ≡ step.Done lines → u ≡ r.purpose) → ((lines : List Line) → s ≡ step.Done lines → p ≡ r.outcome.promoted)
     → closing_with id u s p ≡ closing_at r s id
 with-recovery id u step.Going p r same leads = refl

@@ -1,4 +1,4 @@
--- The rows that a keeper gave, in rising order.
+-- The rows that a row store gave, in rising order.
 use Rattle.std.proofs.Common.{◌≡◌, ◌∙◌, List, Option, None, Some}
 use Rattle.std.specs.Prelude.{IfSome}
 use Rattle.command_outcomes.specs.KeptRows.Keeping.{GivesAll}

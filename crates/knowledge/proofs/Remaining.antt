@@ -13,7 +13,7 @@ use Rattle.knowledge.specs.Knowing.{Knowledge, recovery_job, updated}
 pub joined : (jobs : List Unended) (x : Begins) (xs : List Begins) → (jobs ++ recovery_job x ∷ []) ++ map recovery_job xs ≡ jobs ++ map recovery_job (x ∷ xs)
 joined jobs x xs = append_assoc jobs (recovery_job x ∷ []) (map recovery_job xs)
 
--- those that are left lead from here to what all lead to from the beginning, and there is room for them
+-- those that are left lead from here to what all lead to from the start, and there is room for them
 pub record Remains (all : List Begins) (from : Knowledge) (xs : List Begins) (k : Knowledge) (spare len cap : ℕ) : Type 0 where
   pub can : BeginInTurn (length k.book.names) k.book.leases k.audit k.last_job xs
   pub ids : HasRoom xs

@@ -14,7 +14,7 @@ use Rattle.command_outcomes.specs.UnendedJobs.declared.unended.Unended.TheVarian
 use Rattle.command_outcomes.specs.UnendedJobs.Unended.{Flown}
 use Rattle.knowledge.specs.declared.closing.Closing.{Closing}
 
--- the entry of this id, where the turn ends it
+-- the entry of this id, if the turn ends it
 abbrev pub closing_at : Recovery → JobStep → ℕ → Option Closing
 closing_at r step id = option_map (λ e. record { id = id; outcome = e; acked = is_acknowledged r step }) (ending_of r step)
 

@@ -1,4 +1,4 @@
--- What a keeper's fault is to a turn.
+-- What a row store's fault is to a turn.
 use Rattle.std.specs.Prelude.{◌≡◌, ◌≤◌, ℕ, Result, Err}
 use Rattle.command_outcomes.specs.OrchBase.Causes.{Rose}
 use Rattle.command_outcomes.specs.KeptRows.declared.keeper.KeeperFault.{KeeperFault}
@@ -10,7 +10,7 @@ abbrev pub fault_by : KeeperFault → TurnFault
 fault_by keeper.Failed = fault.Keeper
 fault_by keeper.Memory = fault.Memory
 
--- Keeper comes only where the count rose; it never falls
+-- `Keeper` comes only if the count rose. It never falls
 pub record HasTurnCause {A : Type 0} (before now : ℕ) (result : Result A TurnFault) : Type 0 where
   pub later : before ≤ now
   pub failed : result ≡ Err fault.Keeper → Rose before now

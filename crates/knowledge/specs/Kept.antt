@@ -7,7 +7,7 @@ use Rattle.command_outcomes.specs.KeptRows.declared.observation.Observation.{Obs
 use Rattle.command_outcomes.specs.KeptRows.declared.row.Change.{Change}
 use Rattle.command_outcomes.specs.KeptRows.declared.row.Row.{Row}
 
--- the kept rows with these changes, where they are made and the keeper tells its rows
+-- the kept rows with these changes, if they are made and the row store's rows are known
 abbrev pub kept_if : Bool → Option (List Row) → List Change → Option (List Row)
 kept_if made kept changes = if made then option_map (λ rows. changed rows changes) kept else kept
 

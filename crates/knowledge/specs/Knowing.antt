@@ -27,8 +27,8 @@ pub record Knowledge : Type 0 where
 abbrev pub recovery_job : RecoveryBegins → Unended
 recovery_job x = unended.Recovery x.job (record { entry = Some x.entry.id; hooks = x.hooks })
 
--- after what a command or a scan makes of it: a job that begins has the leases of its list, a decision may acknowledge
--- recoveries, and a recovery that begins has its leases and its entry in the audit
+-- After what a command or a scan makes of it: a job that begins has the leases of its list, and a decision may
+-- acknowledge recoveries. A recovery that begins has its leases and its entry in the audit.
 abbrev pub updated : Knowledge → Update → Knowledge
 updated k update.Stays = k
 updated k (update.Change c) = record k { book = after_change k.book c }

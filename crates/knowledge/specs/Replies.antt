@@ -8,7 +8,7 @@ use Rattle.command_outcomes.specs.Turns.declared.reply.Reply.{Reply}
 use Rattle.command_outcomes.specs.Turns.declared.reply.Reply.TheVariants as answered
 use Rattle.knowledge.specs.declared.replies.Replies.{Replies}
 
--- this reply, and once more for the journal where it is written
+-- this reply, and once more for the journal if it is written
 pub record AreReply (written : Bool) (r : Reply) (both : Replies) : Type 0 where
   pub told : both.told ≡ r
   pub written_too : both.written ≡ (if written then Some r else None)

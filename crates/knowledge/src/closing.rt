@@ -31,7 +31,7 @@ pub struct Closing {
     pub acked: bool,
 }
 
-/// The entry that ends with this turn of a job: none where the job goes on, or has no entry.
+/// The entry that ends with this turn of a job: none if the job goes on, or has no entry.
 pub fn closing_of(job: &Unended, look: &UnendedLook) -> Option<Closing>
     ensures { result ≡ closing_of (Some (foretold job.now look.now)) }
 {
@@ -108,7 +108,7 @@ fn job_changes(
     Ok(changes)
 }
 
-// What a job's turn answers, and once more for a journal, where it is written.
+// What a job's turn answers, and once more for a journal, if it is written.
 fn answered(alloc: Global, step: &JobStep, written: bool) -> Result<Replies, Memory>
     ensures { IfOk result (λ r. AreReply written (step_reply step.now) r) }
 {
@@ -117,7 +117,8 @@ fn answered(alloc: Global, step: &JobStep, written: bool) -> Result<Replies, Mem
     Ok(Replies { told, written })
 }
 
-/// Keeps how the kept rows change with a turn of a job, and tells what it answers.
+/// Keeps how the kept rows change with a turn of a job, and returns its answer. `Keeper` comes only if the row store's
+/// count of faults rose.
 pub fn keep_turn<K: Keeper>(
     alloc: Global,
     keeper: &mut K,
@@ -146,7 +147,7 @@ pub fn keep_turn<K: Keeper>(
     Ok(replies)
 }
 
-/// Ends the entry, and acknowledges it where that is due. It takes no memory.
+/// Ends the entry, and acknowledges it if that is due. It takes no memory.
 pub fn close_entry(audit: &mut Audit, now: Moment, closing: Option<Closing>)
     requires { IfSome closing (λ c. IsSomeAnd (recovery_at audit.old.audit c.id)
         (λ r. is_unended r ≡ true)) }

@@ -7,9 +7,9 @@ use std::fmt;
 /// Why a turn, or the opening, gave up.
 #[derive(Clone, Copy, Debug, PartialEq, Eq)]
 pub enum TurnFault {
-    /// The keeper failed, and counted it.
+    /// The row store failed, and counted it.
     Keeper,
-    /// Want of memory.
+    /// Out of memory.
     Memory,
 }
 

@@ -1,4 +1,4 @@
-//! What is kept: the changes of rows, which are kept before they are made, and the rows that a keeper hands back.
+//! What is kept: the changes of rows, which are kept before they are made, and the rows that a row store hands back.
 
 ghost use Rattle.std.specs.Prelude.{◌≡◌, ◌≢◌, ◌<◌, [], ◌∷◌, IfOk, IfSome, OnOk, OnErr, IsSomeAnd, None, Some, Err, is_ok, length, true};
 ghost use Rattle.std.specs.Bool.{OnTrue};
@@ -21,8 +21,8 @@ use std::alloc::Global;
 use std::slice::from_ref;
 
 #[tactic(auto, using(crate::proofs::Newer::newer))]
-/// Keeps the changes that storing the slot's reading makes, where it makes any, and then stores it and empties the
-/// slot. After a fault nothing has changed.
+/// Keeps the changes that storing the slot's reading makes, if it makes any, and then stores it and empties the slot.
+/// After a fault nothing has changed.
 pub fn store_slot<K: Keeper>(
     alloc: Global,
     keeper: &mut K,
@@ -62,7 +62,7 @@ fn has_earlier(book: &Book, no: ServerNo, read: u64) -> bool
     }
 }
 
-// Takes the slot's reading as the instance that it makes, where it reached its server and the book has an earlier one.
+// Takes the slot's reading as the instance that it makes, if it reached its server and the book has an earlier one.
 #[inline(always)]
 fn take_newer(book: &Book, slot: &mut Option<Observation>) -> Option<Instance>
     requires { IfSome slot.old (λ o. o.no.0 < length book.now.names) }
@@ -96,7 +96,7 @@ fn take_newer(book: &Book, slot: &mut Option<Observation>) -> Option<Instance>
     }
 }
 
-// Keeps an instance, and then puts it into the book; where it isn't kept, its reading stays in the slot.
+// Keeps an instance, and then puts it into the book. If it isn't kept, its reading stays in the slot.
 #[inline(always)]
 fn put_newer<K: Keeper>(
     alloc: Global,
@@ -148,7 +148,7 @@ fn reading_of(instance: Instance) -> Observation
     }
 }
 
-// Keeps the changes that storing the slot's reading makes, where it makes any.
+// Keeps the changes that storing the slot's reading makes, if it makes any.
 fn keep_store<K: Keeper>(
     alloc: Global,
     keeper: &mut K,
@@ -185,7 +185,7 @@ fn keep<K: Keeper>(
     Ok(())
 }
 
-/// Keeps the changes, where there are any.
+/// Keeps the changes, if there are any. `Keeper` comes only if the row store's count of faults rose.
 pub fn keep_some<K: Keeper>(
     alloc: Global,
     keeper: &mut K,
@@ -203,7 +203,8 @@ pub fn keep_some<K: Keeper>(
     keep(alloc, keeper, names, changes)
 }
 
-/// The rows that the keeper hands back, in rising order: of two with one table and key the last that it gave.
+/// The rows that the row store hands back, in rising order: of two with one table and key the last that it gave.
+/// `Keeper` comes only if the row store's count of faults rose.
 pub fn given_rows<K: Keeper>(
     alloc: Global,
     keeper: &mut K,
@@ -229,7 +230,7 @@ fn reply_by(answer: StoreAnswer) -> Reply
     }
 }
 
-// Empties the slot and stores its reading, where it has one. It takes no memory.
+// Empties the slot and stores its reading, if it has one. It takes no memory.
 fn store(book: &mut Book, slot: Option<Observation>) -> Reply
     requires { IfSome slot (λ o. are_known (length book.old.names) (observed_servers o) ≡ true) }
     ensures reply { result ≡ stored_reply book.old slot }

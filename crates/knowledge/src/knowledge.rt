@@ -98,7 +98,7 @@ impl Knowledge {
         }
     }
 
-    // Makes room for the jobs that begin, and for the entries of recoveries. `Err` is want of memory.
+    // Makes room for the jobs that begin, and for the entries of recoveries. `Err` means out of memory.
     fn make_room(&mut self, update: &Update) -> Result<(), Memory>
         ensures room { OnOk result (HasRoomFor
             (vec_capacity self.new.jobs - vec_len self.new.jobs) self.new.audit.spare update.now) }
@@ -116,8 +116,8 @@ impl Knowledge {
         Ok(())
     }
 
-    /// Keeps the changes of an outcome, where there are any, when there is room for what it makes of what is known; and
-    /// tells the reply for a journal, where it is written.
+    /// Keeps the changes of an outcome, if there are any, when there is room for what it makes of what is known. It
+    /// returns the reply for a journal, if one is written. `Keeper` comes only if the row store's count of faults rose.
     pub fn keep_outcome<K: Keeper>(
         &mut self,
         alloc: Global,

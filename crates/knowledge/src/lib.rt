@@ -1,5 +1,5 @@
-//! What orchestrator knows, and how it changes: a change is kept first, by a call of the keeper that may fail, and then
-//! made.
+//! What orchestrator knows, and how it changes: a change is kept first, by a call of the row store that may fail, and
+//! then made.
 #![tactic(auto)]
 
 mod closing;

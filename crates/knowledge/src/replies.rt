@@ -11,13 +11,13 @@ use std::alloc::Global;
 /// What a turn answers.
 #[derive(Drop)]
 pub struct Replies {
-    /// To be told.
+    /// The reply.
     pub told: Reply,
-    /// Once more for a journal, where one is written.
+    /// Once more for a journal, if one is written.
     pub written: Option<Reply>,
 }
 
-/// A reply that holds nothing on the heap, and once more for a journal, where it is written.
+/// A reply that has nothing on the heap, and once more for a journal, if it is written.
 pub fn plain(reply: Reply, written: bool) -> Replies
     requires { is_plain reply ≡ true }
     ensures { AreReply written reply result }
@@ -29,7 +29,7 @@ pub fn plain(reply: Reply, written: bool) -> Replies
     }
 }
 
-/// The reply's copy for a journal, where it is written.
+/// The reply's copy for a journal, if it is written. `Err` means out of memory.
 pub fn copied(alloc: Global, reply: &Reply, written: bool) -> Result<Option<Reply>, Memory>
     ensures { IfOk result (λ r. r ≡ (if written then Some reply.now else None)) }
 {

@@ -24,7 +24,7 @@ fn counts((has_source, valid, of_replicas): Given) -> Counts {
     }
 }
 
-// The code of these counts: none where they aren't each a part of the one before it.
+// The code of these counts: none if they aren't each a part of the one before it.
 fn code(c: Counts) -> Option<Code> {
     let replicating = c.lagging <= c.replicating && c.replicating <= c.valid_replicas;
     if replicating && c.valid_replicas <= c.replicas {
@@ -277,7 +277,7 @@ fn settings(alloc: Global, names: &[&str]) -> Result<Vec<Settings>, Memory> {
 #[derive(Clone, Copy)]
 struct Look {
     source: SourceState,
-    // How far it is behind what it has read.
+    // Its lag after what it has read.
     behind: u64,
     valid: bool,
     io: IoState,
@@ -329,7 +329,7 @@ fn rows(alloc: Global, looks: &[(u32, Look)]) -> Result<Vec<Row>, Memory> {
     Ok(rows)
 }
 
-// The analysis of the book of these servers and rows; no test has more servers.
+// The analysis of the book of these servers and rows. No test has more servers.
 fn analysed(alloc: Global, settings: &[Settings], rows: &[Row]) -> Result<Vec<Entry>, Memory> {
     if settings.len() > 50_000 {
         return Err(AllocError);
@@ -420,7 +420,8 @@ fn many_settings(alloc: Global) -> Result<Vec<Settings>, Memory> {
     Ok(settings)
 }
 
-// Of a master all behind it with an even number are replicas, and of the second server those with an odd one.
+// All servers after a master with an even number are its replicas, and those with an odd one are replicas of the second
+// server.
 fn many_rows(alloc: Global) -> Result<Vec<Row>, Memory> {
     let mut rows = Vec::new(alloc);
     for no in 0..MANY {

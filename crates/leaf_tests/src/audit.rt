@@ -50,10 +50,10 @@ fn recovery(
     })
 }
 
-// An id, or a count of recoveries; none where there is nothing to be done.
+// An id, or a count of recoveries; none if there is nothing to be done.
 type Answer = Option<Result<u64, Held>>;
 
-// What `may_begin` answers; none where a recovery began past 2^63.
+// What `may_begin` answers; none if a recovery began past 2^63.
 fn asked(audit: &Audit, cluster: &str, now: u64) -> Answer
     ensures { IfSome result (λ answer. answer ≡ may_begin audit.now.audit cluster.now now) }
 {
@@ -68,7 +68,7 @@ fn asked(audit: &Audit, cluster: &str, now: u64) -> Answer
     }
 }
 
-// Begins a recovery of a cluster, with a block period that isn't too long, where it may.
+// Begins a recovery of a cluster, with a block period that isn't too long, if it may.
 fn begin(
     alloc: Global,
     audit: &mut Audit,
@@ -115,7 +115,7 @@ struct Opening {
     next: u64,
 }
 
-// The audit of some kept rows; none where their ids aren't from 1 on and below the next one, or a period is too long.
+// The audit of some kept rows; none if their ids aren't from 1 on and below the next one, or a period is too long.
 fn loaded(alloc: Global, rows: Vec<Row>, period: u64, next: u64) -> Result<Option<Audit>, Memory> {
     let rows = row_map(alloc, rows)?;
     let list = recoveries_in(alloc, &OnePeriod(period), &rows)?;
@@ -184,7 +184,7 @@ fn surprise_in(
     Ok(None)
 }
 
-// The same of acts on the audit of these recoveries; the act 0, too, where they make none.
+// The same of acts on the audit of these recoveries; the act 0, too, if they make none.
 fn surprise(
     alloc: Global,
     opening: Opening,
@@ -204,7 +204,7 @@ const APART: [(Act, Answer); 18] = [
     (Act::Ask("m:3306", 0), Some(Ok(1))),
     (Act::Begin("m:3306", 0, BLOCK), Some(Ok(1))),
     (Act::Ask("m:3306", 0), Some(Err(Held::Unended(1)))),
-    // another cluster's isn't held back
+    // another cluster's may begin
     (Act::Ask("m:3307", 0), Some(Ok(2))),
     (Act::End(1, 7, Ending::Promoted(ServerNo(3))), Some(Ok(1))),
     // the period counts from the begin
@@ -346,7 +346,7 @@ const OWN_ACTS: [(Act, Answer); 4] = [
     (Act::Ask("a", 100), Some(Ok(4))),
 ];
 
-// A period of its own counts, whatever the scenario's is; another cluster's has another.
+// A period of its own counts, whatever the scenario's is. Another cluster's has another.
 const MINUTE: [(Act, Answer); 8] = [
     (Act::Begin("m:3306", 0, 60), Some(Ok(1))),
     (
@@ -447,7 +447,7 @@ const RESTARTED: Opening = Opening {
 
 const RESTART: Moment = Moment(20);
 
-// What is told of a recovery: its id, end and outcome, and whether it is acknowledged.
+// What is compared of a recovery: its id, end and outcome, and whether it is acknowledged.
 type Told = (u64, Option<Moment>, Ending, bool);
 
 const CLOSING: [Told; 3] = [
@@ -472,7 +472,7 @@ fn are_told(list: &[Recovery], want: &[Told]) -> bool {
     list.len() == want.len()
 }
 
-// Whether the restart closes what it should, and whether a copy of the audit behind it is as it should be.
+// Whether the restart closes what it should, and whether a copy of the audit after it is as it should be.
 fn restart(alloc: Global, audit: &mut Audit) -> Result<(bool, bool), Memory> {
     let closing = audit.closing(alloc, RESTART)?;
     audit.close(RESTART);

@@ -7,7 +7,7 @@ use crate::orch_base::{Memory, Name, Rule, ServerNo};
 use promotion_rules::{Drained, better, most_advanced};
 use std::alloc::{AllocError, Global};
 
-// A drained replica: its number, file and position, rule, whether it logs, and whether it stands in the failed server's
+// A drained replica: its number, file and position, rule, whether it logs, and whether it is in the failed server's
 // data centre.
 type Given = (u32, u32, u64, Rule, bool, bool);
 
@@ -57,10 +57,10 @@ fn are_known(list: &[Drained], names: &[Name]) -> bool
     list.iter().all(|d| (d.no.0 as usize) < names.len())
 }
 
-// The rule of one that was promoted already, and whether it stands in the failed server's data centre.
+// The rule of one that was promoted already, and whether it is in the failed server's data centre.
 type Promoted = (Rule, bool);
 
-// The most advanced one or, behind a promoted one, the better follower; none where one isn't among the names.
+// The most advanced one or, after a promoted one, the better follower; none if one isn't among the names.
 fn choice(of: Option<Promoted>, list: &[Drained], names: &[Name]) -> Option<Option<ServerNo>> {
     if !are_known(list, names) {
         return None;
@@ -246,7 +246,7 @@ const CHOICES: [(Option<Promoted>, [Option<Given>; 3], Option<ServerNo>); 25] = 
         ],
         Some(ServerNo(0)),
     ),
-    // where none stands there the first name
+    // if none is there, the first name
     (
         None,
         [
@@ -256,13 +256,13 @@ const CHOICES: [(Option<Promoted>, [Option<Given>; 3], Option<ServerNo>); 25] = 
         ],
         Some(ServerNo(0)),
     ),
-    // a follower of a better rule, though it stands elsewhere
+    // a follower of a better rule, though it is in another data centre
     (
         Some((Rule::PreferNot, true)),
         [Some((0, 1, 204, Rule::Neutral, true, false)), None, None],
         Some(ServerNo(0)),
     ),
-    // one of the same rule that stands in the data centre, behind a promoted one that doesn't
+    // one of the same rule that is in the data centre, after a promoted one that isn't
     (
         Some((Rule::Neutral, false)),
         [
@@ -272,7 +272,7 @@ const CHOICES: [(Option<Promoted>, [Option<Given>; 3], Option<ServerNo>); 25] = 
         ],
         Some(ServerNo(1)),
     ),
-    // none where the promoted one stands there
+    // none if the promoted one is there
     (
         Some((Rule::Neutral, true)),
         [Some((0, 1, 204, Rule::Neutral, true, false)), None, None],

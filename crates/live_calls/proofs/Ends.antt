@@ -12,9 +12,9 @@ use Rattle.live_calls.proofs.Prelude.usage
 use Rattle.live_calls.proofs.Prelude.way
 use Rattle.live_calls.proofs.LiveScenarios.{alone_read}
 
--- ---- the words
+-- ---- the command line
 
--- the words name `live`, where they do
+-- the command line names `live`, if it does
 pub are_live : (words : List (List ℕ)) (o : Option Places) (p : Places) → o ≡ Some p → LiveWords words o → (places_of words ≡ Ok p) × (is_live p ≡ true)
 are_live words o p same h = subst (LiveWords words) same h
 
@@ -26,7 +26,7 @@ not_drawn None p is = refl
 not_drawn (Some own.Generate) p is = absurd cc
 not_drawn _ p is = refl
 
--- words that ask for a live run ask of a scenario that is read
+-- a command line that asks for a live run asks something of a scenario that is read
 pub live_reads : (p : Places) → is_live p ≡ true → drawing_of p ≡ None
 live_reads p is = not_drawn (own_at p.command) p is
 
@@ -38,7 +38,7 @@ unlike : (b : Bool) → b ≡ true → b ≡ false → ⊥
 unlike true e f = cc
 unlike false e f = cc
 
--- words that don't name `live` don't ask for such a run
+-- a command line that doesn't name `live` doesn't ask for such a run
 pub never_both : (words : List (List ℕ)) → IsPlain words → AskLive words → ⊥
 never_both words plain ask = unlike (is_live ask.places) ask.live (plain ask.places ask.taken)
 
@@ -145,7 +145,7 @@ complete c way.Sink sb sa kb ka ask source sink keeper ends_so good alone none =
 complete c way.Keeper sb sa kb ka ask source sink keeper ends_so good alone none = absurd (none.no_keeper (keeper refl))
 complete c way.Memory sb sa kb ka ask source sink keeper ends_so good alone none = inr (inr refl)
 
--- where the bytes are known, what follows
+-- if the bytes are known, what follows
 pub follows : (left : Option (List ℕ)) (P Q : List ℕ → Type 0) → ((bytes : List ℕ) → P bytes → Q bytes) → IfSome left P → IfSome left Q
 follows None P Q f h = tt
 follows (Some bytes) P Q f h = f bytes h

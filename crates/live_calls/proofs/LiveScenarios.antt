@@ -24,6 +24,6 @@ module _ (bytes : List ℕ) (s : Scenario) (read : scenario_in bytes ≡ Ok s) w
   several_read reading.Memory gives = tt
   several_read (reading.Fault f) gives = with_nodes (Err f) gives
 
--- where the bytes are a scenario of one orchestrator
+-- if the bytes are a scenario of one orchestrator
 pub alone_read : (bytes : List ℕ) (s : Scenario) → scenario_in bytes ≡ Ok s → s.nodes ≡ 1 → live_scenario bytes ≡ Ok s
 alone_read bytes s read one = one_read bytes s read (ap one_node one)

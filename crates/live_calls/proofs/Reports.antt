@@ -5,7 +5,7 @@ use Rattle.live_calls.proofs.Prelude.{State, Turn, live_report, names_of, rows_a
 use Rattle.live_calls.proofs.Prelude.{turns_in}
 use Rattle.live_calls.proofs.Prelude.ends
 
--- the rows are kept, and behind that it is written
+-- the rows are kept, and after that it is written
 pub delivered : (names : List HostPort) (ts : List Turn) (run : Recorded) (rows : List Row) (head : List ℕ) (old new : Option (List Row)) (out : End) (ending : Ending) → head ≡ schedule_line names ts → new ≡ (run_report names ts run rows old).kept
     → JournalStands head names run out ending → Delivers (run_report names ts run rows old) old new out ending
 delivered names ts run rows head old new out ending line kept stands = go ending (subst (λ (h : List ℕ). JournalStands h names run out ending) line stands)

@@ -6,24 +6,24 @@ use Rattle.live_calls.specs.Prelude.way
 use Rattle.live_calls.specs.Reads.{live_scenario}
 use Rattle.live_calls.specs.Reports.{LiveReport, live_report}
 
--- the words aren't taken, or they don't name `live`
+-- the command line isn't accepted, or it doesn't name `live`
 abbrev pub IsPlain : List (List ℕ) → Type 0
 IsPlain words = (p : Places) → places_of words ≡ Ok p → is_live p ≡ false
 
--- the words are taken, and name it
+-- the command line is accepted, and names it
 pub record AskLive (words : List (List ℕ)) : Type 0 where
   pub places : Places
   pub taken : places_of words ≡ Ok places
   pub live : is_live places ≡ true
 
--- these are they, where the words name it
+-- this is it, if it names `live`
 abbrev pub LiveWords : List (List ℕ) → Option Places → Type 0
 LiveWords words None = IsPlain words
 LiveWords words (Some p) = (places_of words ≡ Ok p) × (is_live p ≡ true)
 
--- The call's scenario was run in threads, and this holds of the report of what came of it: of a journal that is a run
--- of the scenario's opening, with each of its commands once and in order, with all its other turns in order, and
--- without a job that isn't ended.
+-- The call's scenario was run in threads, and this holds for the report of what came of it. The report is of a journal
+-- that is a run of the scenario's opening. The journal has each of its commands once and in order, all its other turns
+-- in order, and no job that isn't ended.
 pub record Lives (c : Call) (P : LiveReport → Type 0) : Type 0 where
   pub asks : AskLive c.words
   pub scenario : Scenario
@@ -44,7 +44,7 @@ LiveEnds c way.Keeper = Lives c (λ r. Idles c (codes "keeper fault\n"))
 LiveEnds c way.Memory =
     Idles c (codes "out of memory\n") ⊎ Lives c (λ r. ((c.kept_now ≡ c.kept) ⊎ (c.kept_now ≡ r.kept)) × TakesFront c.out r.out × TakesLine c.err (codes "out of memory\n"))
 
--- so ends a call of any words that these places are, over the bytes that were read
+-- so ends a call of any command line that these places are, over the bytes that were read
 abbrev pub LiveEndsOf : Places → Option (List ℕ) → Option (List Row) → Option (List Row) → End → End → Way → Type 0
 LiveEndsOf p left kept kept_now out err w = (words : List (List ℕ)) → places_of words ≡ Ok p → OfRead left (λ bytes. LiveEnds (call words bytes kept kept_now out err) w)
 
@@ -56,11 +56,11 @@ LiveEndsOver p s kept kept_now out err w = (words : List (List ℕ)) (bytes : Li
 abbrev pub LiveEndsBy : Call → ℕ → Type 0
 LiveEndsBy c status = (w : Way) × (status ≡ status_of w) × LiveEnds c w
 
--- 2 exactly where the bytes that the source had, where they are known, have a fault for a live run, unless the source
--- failed or memory ran out
+-- 2 exactly if the bytes that the source had, if they are known, have a fault for a live run, unless the source failed
+-- or memory ran out
 abbrev pub LiveFaultsOf : Option (List ℕ) → ℕ → Type 0
 LiveFaultsOf left status = IfSome left (λ bytes. FaultsBy (live_scenario bytes) status)
 
--- where the words name `live` the bytes aren't a scenario of several orchestrators
+-- if the command line names `live` the bytes aren't a scenario of several orchestrators
 abbrev pub RunsAlone : List (List ℕ) → List ℕ → Type 0
 RunsAlone words bytes = AskLive words → (s : Scenario) → scenario_in bytes ≡ Ok s → s.nodes ≡ 1

@@ -12,7 +12,7 @@ of_one s = do
   one ← one_node s.nodes
   Ok s
 
--- the scenario that the bytes are, or their first fault; that it has several orchestrators is met behind all others
+-- the scenario that the bytes are, or their first fault; that it has several orchestrators is met after all others
 abbrev pub live_scenario : List ℕ → Result Scenario Fault
 live_scenario bytes = do
   s ← scenario_in bytes

@@ -4,7 +4,7 @@ use Rattle.live_calls.specs.Prelude.{Change, End, Ending, Entry, FailsIn, HostPo
 use Rattle.live_calls.specs.Prelude.{any_refused, changed, names_of, option_map, report_text, rows_after, run_of, schedule_line, turns_in}
 use Rattle.live_calls.specs.Prelude.ends
 
--- what is to be written, whether a reply in it is refused or failed, and the keeper's rows then, where it tells them
+-- what is to be written, whether a reply in it is refused or failed, and the row store's rows then, if they are known
 pub record LiveReport : Type 0 where
   pub out : List ℕ
   pub is_refused : Bool
@@ -13,7 +13,7 @@ pub record LiveReport : Type 0 where
 abbrev pub puts : List Row → List Change
 puts rows = map (λ r. Put r) rows
 
--- The line of a schedule, and behind it the report that `run` gives of its turns; and the rows that the keeper had,
+-- The line of a schedule, and after it the report that `run` gives of its turns. Also the rows that the row store had,
 -- with the run's last rows put over them.
 abbrev pub run_report : List HostPort → List Turn → Recorded → List Row → Option (List Row) → LiveReport
 run_report names ts run rows old = record {

@@ -5,12 +5,12 @@ use Rattle.live_calls.specs.Prelude.{Recorded, Recovery, Row, Scenario, TellsHoo
 use Rattle.live_calls.specs.Prelude.{run_of, scenario_in, task_of}
 use Rattle.live_calls.specs.Prelude.unended
 
--- the words' task over the scenario, by rows in memory
+-- the command line's task over the scenario, by rows in memory
 abbrev pub live_work : Places → Scenario → List Turn → Work
 live_work p s ts = record { task = task_of p (names_of s); scenario = s; old = Some []; new = Some (run_of s p.wait ts).rows }
 
--- The state is safe; a command would answer by the permission table; any turn's recoveries would begin apart; at most
--- one orchestrator is active; and a recovery that is done, or fails, tells of each replica what is true, and of its
+-- The state is safe. A command would answer by the permission table. Any turn's recoveries would begin without overlap.
+-- At most one orchestrator is active. A recovery that is done, or fails, reports of each replica what is true, and its
 -- hooks.
 pub record GoesWell (w : Work) (ts : List Turn) (run : Recorded) : Type 0 where
   pub safe : IsSafeState run.state
@@ -21,7 +21,7 @@ pub record GoesWell (w : Work) (ts : List Turn) (run : Recorded) : Type 0 where
   pub losses : (id : ℕ) (r : Recovery) (docket : Docket) → job_at run.state.jobs id ≡ Some (unended.Recovery r docket) → TellsTruly w ts run.state id r docket
   pub hooks : (rows : List Row) (id : ℕ) (r : Recovery) (docket : Docket) → job_at run.state.jobs id ≡ Some (unended.Recovery r docket) → TellsHooks w ts rows run.state id r docket
 
--- So it is behind any turns over the servers and orchestrators of the scenario that the bytes are, where the words ask
--- for a live run: behind those of its schedule, and behind any that its threads take first.
+-- If the command line asks for a live run, so it is after any turns over the servers and orchestrators of the scenario
+-- that the bytes are. That includes the turns of its schedule, and any that its threads take first.
 abbrev pub LiveGoesWell : List (List ℕ) → List ℕ → Type 0
 LiveGoesWell words bytes = (p : Places) (s : Scenario) (ts : List Turn) → places_of words ≡ Ok p → is_live p ≡ true → scenario_in bytes ≡ Ok s → All (IsTurnOf (length s.opening.servers) s.nodes) ts → GoesWell (live_work p s ts) ts (run_of s p.wait ts).state

@@ -1,4 +1,4 @@
-//! What is answered to words that ask for a live run.
+//! What is answered to a command line that asks for a live run.
 
 ghost use Rattle.std.specs.Prelude.{◌≡◌, IfSome, true};
 ghost use Rattle.live_calls.specs.Prelude.{Consumes, IsReported, IsScenario, IsTaken, Rose, FailsByKeeper, across, is_live, status_of};
@@ -17,7 +17,7 @@ use std::sync::Wait;
 use std::thread::Threads;
 use top_call::{Stop, Way, close, close_fault};
 
-// Runs the scenario in threads, and writes what the words ask.
+// Runs the scenario in threads, and writes what the command line asks.
 fn report<R: Threads + Wait + Sync, G: Gate + Sync, O: Sink, E: Sink, K: Keeper>(
     rt: &R,
     alloc: Global,
@@ -57,8 +57,8 @@ fn report<R: Threads + Wait + Sync, G: Gate + Sync, O: Sink, E: Sink, K: Keeper>
     }
 }
 
-/// Answers words that are taken and ask to run the scenario that the source has in threads. Several orchestrators are
-/// a fault of it, behind all others.
+/// Answers an accepted command line that asks to run the scenario that the source has in threads. Several orchestrators
+/// are a fault of it, after all others.
 pub(crate) fn answer<
     R: Threads + Wait + Sync,
     G: Gate + Sync,

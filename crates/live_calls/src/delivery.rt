@@ -50,8 +50,8 @@ fn deliver<O: Sink, K: Keeper>(
     }
 }
 
-/// Runs the scenario in threads, keeps the last rows by one call, and then writes the line of its schedule and the
-/// report of the schedule's turns on out. Where the keeper fails nothing is written.
+/// Runs the scenario in threads, and keeps the last rows by one call. Then it writes the line of its schedule and the
+/// report of the schedule's turns on out. If the row store fails nothing is written.
 pub(crate) fn told<R: Threads + Wait + Sync, G: Gate + Sync, O: Sink, K: Keeper>(
     rt: &R,
     alloc: Global,

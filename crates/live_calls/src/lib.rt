@@ -1,4 +1,4 @@
-//! The top call: it does all that the words of the command line ask, a run in threads too.
+//! The top call: it does all that the command line asks, a run in threads too.
 #![tactic(auto)]
 
 mod answering;

@@ -10,7 +10,7 @@ use crate::scenarios_items::Scenario;
 use std::alloc::Global;
 use top_call::{Stop, scenario_from, stop_by};
 
-// Nothing, where there is one orchestrator.
+// Nothing, if there is one orchestrator.
 #[tactic(auto, using(crate::proofs::Prelude::gives_under))]
 fn one_node(alloc: Global, nodes: u32) -> Result<(), ReadFault>
     ensures { Gives (λ _. tt) fault_of result (one_node nodes) }
@@ -23,7 +23,7 @@ fn one_node(alloc: Global, nodes: u32) -> Result<(), ReadFault>
 }
 
 /// Reads the source to its end: the scenario of one orchestrator that its bytes are, or their fault. That there are
-/// several is met behind all other faults.
+/// several is met after all other faults.
 pub(crate) fn live_scenario_from<S: Source>(alloc: Global, source: &mut S) -> Result<Scenario, Stop>
     ensures read { OfRead (S.left source.old) (λ bytes. ReadsAs (live_scenario bytes) result) }
     ensures sound { IfOk result IsScenario }

@@ -1,4 +1,4 @@
-//! The rows of a live run, for the caller's keeper.
+//! The rows of a live run, for the caller's row store.
 
 ghost use Rattle.std.specs.Prelude.{◌≡◌, IfOk};
 ghost use Rattle.live_calls.specs.Prelude.{HasKeeperCause, KeepsAll};

@@ -61,7 +61,7 @@ places-push by k (f ∷ es) e = go (f.0 == by) (places-push by (k + 1) es e ∙ 
     go true h = ap (λ (ns : List ℕ). (k + 1) ∷ ns) h
     go false h = h
 
--- a pass that stands, stands after its turn
+-- a pass that is in a journal is in it after its turn, too
 pub stands-push : (by seen seen' : ℕ) (mine mine' : List ℕ) (es es' : List Entry) (t : Turn) (r : Reply) → es' ≡ es ++ (by, t, r) ∷ [] → seen' ≡ length es' → mine' ≡ mine ++ length es' ∷ [] → Stands by seen mine es
     → Stands by seen' mine' es'
 stands-push by seen seen' mine mine' es es' t r joined saw took stands =

@@ -1,4 +1,4 @@
--- A keeper in memory that is to fail at no call.
+-- A row store in memory that is to fail at no call.
 use Rattle.std.proofs.Common.{◌≡◌, List, [], Bool, false, cond, ℕ, ap}
 use Rattle.live_desk.proofs.Prelude.{Kept, after_call, fails_next, next_count}
 

@@ -11,14 +11,14 @@ use Rattle.orch_core.specs.States.{State}
 use Rattle.live_desk.specs.Entries.{Entry, turns_in, pairs_in, commands_in, others_in, driver_list, entries_of}
 use Rattle.live_desk.specs.Desks.{run_of}
 
--- these jobs were finished, one after another: each by its rounds, from where those of the job before led
+-- these jobs were finished, one after another: each by its rounds, from the state to which those of the job before led
 abbrev pub Finishes : Held Recorded → List ℕ → List Turn → Type 0
 Finishes h [] ts = ts ≡ []
 Finishes h (job ∷ jobs) ts =
     (k : ℕ) × (rest : List Turn) × IsFinish h.state.state job k × (ts ≡ times k (round_of h.state.state job) ++ rest)
     × Finishes (held_run recorder h (times k (round_of h.state.state job))) jobs rest
 
--- all of the scenario's turns are taken in a front of the journal, and behind it the caller, whose number is 0,
+-- all of the scenario's turns are taken in the first part of the journal, and after it the caller, whose number is 0,
 -- finished jobs
 pub record IsEnded (s : Scenario) (wait : ℕ) (es : List Entry) : Type 0 where
   pub front : List Entry
@@ -29,9 +29,9 @@ pub record IsEnded (s : Scenario) (wait : ℕ) (es : List Entry) : Type 0 where
   pub listed : (extra : List Turn) × (driver_list front ≡ others_in s.turns ++ extra)
   pub rounds : Finishes (run_of s wait (turns_in front)) jobs (map (λ p. p.0) last)
 
--- it is a run of the scenario's opening, over its servers and its orchestrators; its commands are the scenario's, each
--- once, in order; the turns of the driver and the caller that are no command begin with all such turns of the scenario,
--- in order; the caller took what was left of either before it finished the jobs; and no job is unended
+-- It is a run of the scenario's opening, over its servers and its orchestrators. Its commands are the scenario's, each
+-- once, in order. The turns of the driver and the caller that are no command begin with all such turns of the scenario,
+-- in order. The caller took what was left of either before it finished the jobs. No job is unended.
 pub record IsLive (s : Scenario) (wait : ℕ) (es : List Entry) : Type 0 where
   pub run : pairs_in es ≡ (run_of s wait (turns_in es)).state.journal
   pub turns : All (IsTurn (length s.opening.servers)) (turns_in es)

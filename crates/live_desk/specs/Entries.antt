@@ -45,7 +45,7 @@ driver_entries es = filter (λ e. drives e.0 e.1) es
 abbrev pub driver_list : List Entry → List Turn
 driver_list es = turns_in (driver_entries es)
 
--- the places, from 1, of a number's turns, behind so many turns
+-- the places, from 1, of a number's turns, after so many turns
 abbrev pub places_from : ℕ → ℕ → List Entry → List ℕ
 places_from by k [] = []
 places_from by k (e ∷ es) = if e.0 == by then (k + 1) ∷ places_from by (k + 1) es else places_from by (k + 1) es
@@ -53,7 +53,7 @@ places_from by k (e ∷ es) = if e.0 == by then (k + 1) ∷ places_from by (k + 
 abbrev pub places_of : ℕ → List Entry → List ℕ
 places_of by es = places_from by 0 es
 
--- a pass stands in a journal: it has seen no more than there is, and its own turns are exactly those of its number, in
+-- a pass is in a journal: it has seen no more than there is, and its own turns are exactly those of its number, in
 -- order
 pub record Stands (by seen : ℕ) (mine : List ℕ) (es : List Entry) : Type 0 where
   pub behind : seen ≤ length es

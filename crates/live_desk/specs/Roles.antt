@@ -17,7 +17,7 @@ pub record Takes (d : DeskState) (by : ℕ) (P : Turn → Type 0) (now : DeskSta
   pub is : P t
   pub after : now ≡ taken d by t
 
--- where there is more, such a turn was taken; else nothing was left, and nothing changed
+-- if there is more, such a turn was taken; else nothing was left, and nothing changed
 abbrev pub TakesOrEnds : DeskState → ℕ → (Turn → Type 0) → Type 0 → DeskState → Bool → Type 0
 TakesOrEnds d by P Over now true = Takes d by P now
 TakesOrEnds d by P Over now false = Over × (now ≡ d)
@@ -32,7 +32,7 @@ abbrev pub IsPoll : DeskState → ℕ → Bool → Turn → Type 0
 IsPoll d poller true t = t ≡ turn.Act (act.PollStore poller)
 IsPoll d poller false t = (n : ServerNo) × IsDue (length d.scenario.opening.servers) (turns_in d.entries) n.0 × (t ≡ turn.Act (act.PollRead poller n))
 
--- a worker without a job takes the next command, and ends where none is left; with a job it takes the job's turn
+-- a worker without a job takes the next command, and ends if none is left; with a job it takes the job's turn
 abbrev pub Works : DeskState → ℕ → Option ℕ → DeskState → Work → Type 0
 Works d by None now work.Over = (d.commands ≡ []) × (now ≡ d)
 Works d by None now work.Free = Takes d by (λ t. IsNextOf true t d.commands) now

@@ -49,7 +49,7 @@ pub(crate) fn next_at(turns: &[Turn], from: usize, commands: bool) -> usize
     turns.len()
 }
 
-/// The next place, where it moves on.
+/// The next place, if it moves on.
 pub(crate) fn moved(turns: &[Turn], at: usize, commands: bool, moves: bool) -> usize
     requires { IsAt commands turns.now at }
     ensures at { IsAt commands turns.now result }

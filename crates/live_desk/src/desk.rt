@@ -27,7 +27,7 @@ pub struct Desk {
     orch: Orch,
     // who took the turns of the journal
     numbers: Vec<u32>,
-    // where the next command stands, and the next turn that is none
+    // the index of the next command, and of the next turn that is none
     command: usize,
     listed: usize,
 }
@@ -52,7 +52,7 @@ fn drives(by: u32, t: &Turn) -> bool
 }
 
 impl Desk {
-    /// The opening state without kept rows, and an empty journal.
+    /// The opening state without kept rows, and an empty journal. `Err` means out of memory.
     pub fn make(alloc: Global, s: &Scenario, wait: u32) -> Result<Desk, Memory>
         requires { IsScenario s.now }
         ensures { IfOk result (λ d. d ≡ made s.now wait) }
@@ -78,15 +78,15 @@ impl Desk {
     }
 
     /// What the desk keeps: its state and every reply in its journal are those of its scenario's run over the journal's
-    /// turns; the commands in the journal are the first of the scenario's; and of the turns that the driver and the
-    /// caller took and the scenario's turns that are no command one list begins with the other.
+    /// turns. The commands in the journal are the first of the scenario's. Compare the turns that the driver and the
+    /// caller took with the scenario's turns that are no command: one list begins with the other.
     pub fn keeps(&self)
         ensures { IsDesk self.now }
     {
         let _wait = self.wait;
     }
 
-    /// The scenario's first command that hasn't been taken; none where none is left.
+    /// The scenario's first command that hasn't been taken; none if none is left.
     pub fn next_command(&self) -> Option<&Turn>
         ensures next { MatchOption result (self.now.commands ≡ [])
             (λ t. IsNext t.now self.now.commands) }
@@ -98,7 +98,7 @@ impl Desk {
         turn_at(turns, self.command, true)
     }
 
-    /// The scenario's first turn that is no command and hasn't been taken; none where none is left.
+    /// The scenario's first turn that is no command and hasn't been taken; none if none is left.
     pub fn next_listed(&self) -> Option<&Turn>
         ensures next { MatchOption result (self.now.listed ≡ [])
             (λ t. IsNext t.now self.now.listed) }
@@ -110,8 +110,8 @@ impl Desk {
         turn_at(turns, self.listed, false)
     }
 
-    /// The server with the least number among those that had no poll-read turn yet; where each had one, the server
-    /// whose last poll-read turn is the earliest.
+    /// The server with the least number among those that had no poll-read turn yet. If each had one, the server whose
+    /// last poll-read turn is the earliest.
     pub fn due(&self) -> ServerNo
         ensures { IsDue (length self.now.scenario.opening.servers)
             (turns_in self.now.entries) result.0 }
@@ -155,7 +155,7 @@ impl Desk {
     }
 
     /// One turn, which joins the journal with the pass's number and its reply. The pass has then seen the whole
-    /// journal. After Memory nothing has changed.
+    /// journal. After Memory nothing has changed. `Err` means out of memory.
     pub fn turn(&mut self, alloc: Global, pass: &mut Pass, t: Turn) -> Result<Reply, Memory>
         requires turn { IsTurn (length self.old.scenario.opening.servers) t }
         requires named { NamesOneOf self.old.scenario.nodes t }

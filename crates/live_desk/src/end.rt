@@ -78,7 +78,7 @@ fn finish_jobs(alloc: Global, orch: &mut Orch, rows: &mut DeskRows) -> Result<()
     Ok(())
 }
 
-/// The desk, where it is that of this scenario, whose jobs wait so often; else a new one.
+/// The desk, if it is that of this scenario, whose jobs wait so often; else a new one.
 pub(crate) fn desk_for(alloc: Global, desk: Desk, s: &Scenario, wait: u32) -> Result<Desk, Memory>
     requires { IsScenario s.now }
     ensures scenario { IfOk result (λ d. d.scenario ≡ s.now) }
@@ -142,8 +142,8 @@ impl Desk {
         })
     }
 
-    /// Takes what is left of the scenario's turns, first those that are no command, then the commands; finishes the
-    /// jobs by their rounds; and gives the journal, the state and the kept rows.
+    /// Takes what is left of the scenario's turns, first those that are no command, then the commands. It finishes the
+    /// jobs by their rounds, and gives the journal, the state and the kept rows. `Err` means out of memory.
     pub(crate) fn finish(self, alloc: Global) -> Result<Ended, Memory>
         ensures live { IfOk result (λ e.
             IsLive self.scenario self.wait e.journal.entries.items) }

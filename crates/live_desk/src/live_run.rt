@@ -30,12 +30,16 @@ fn count_listed(turns: &[Turn]) -> usize
     count
 }
 
-/// Runs a scenario in threads: one driver takes the scenario's turns that are no command, in order, and then fetch and
-/// apply of each server in name order; a poller reads and stores the server that is due; a worker takes the next
-/// command, and then the turns of its job. Each ends where nothing is left to do. A poller or a worker also ends after
-/// `budget` turns, and the driver after so many more than its listed ones. After the join the caller, whose number is
-/// 0, takes what is left, and finishes all jobs. It answers the journal, which is a run of the scenario's opening
-/// without kept rows, the state after it, and the rows that are kept then.
+/// Runs a scenario in threads.
+/// - One driver takes the scenario's turns that are no command, in order, and then fetch and apply of each server in
+///   name order.
+/// - A poller reads and stores the server that is due.
+/// - A worker takes the next command, and then the turns of its job.
+///
+/// Each ends if nothing is left to do. A poller or a worker also ends after `budget` turns, and the driver after so
+/// many more than its listed ones. After the join the caller, whose number is 0, takes what is left, and finishes all
+/// jobs. The answer is the journal, the state after it, and the rows that are kept then. The journal is a run of the
+/// scenario's opening without kept rows. `Err` means out of memory.
 pub fn live_to_end<R: Threads + Wait + Sync, G: Gate + Sync>(
     rt: &R,
     alloc: Global,
@@ -71,7 +75,7 @@ pub fn live_to_end<R: Threads + Wait + Sync, G: Gate + Sync>(
     desk.finish(alloc)
 }
 
-/// A live run, as `live_to_end`'s: its journal alone.
+/// A live run, as `live_to_end`'s: its journal alone. `Err` means out of memory.
 pub fn live<R: Threads + Wait + Sync, G: Gate + Sync>(
     rt: &R,
     alloc: Global,

@@ -43,7 +43,7 @@ fn after_job(job: u64, reply: &Reply) -> Work
 }
 
 impl Desk {
-    /// Takes the scenario's next turn that is no command, and says whether there was one.
+    /// Takes the scenario's next turn that is no command, and answers whether there was one.
     pub(crate) fn take_listed(&mut self, alloc: Global, pass: &mut Pass) -> Result<bool, Memory>
         ensures took { IfOk result (TakesOrEnds self.old pass.old.by
             (λ t. IsNextOf false t self.old.listed) (self.old.listed ≡ []) self.new) }
@@ -59,7 +59,7 @@ impl Desk {
     }
 
     /// The turn of the driver: the next listed one while one is left, and then those of the servers in name order. It
-    /// says whether anything was left to do.
+    /// answers whether anything was left to do.
     pub(crate) fn drive(
         &mut self,
         alloc: Global,
@@ -111,8 +111,8 @@ impl Desk {
         }
     }
 
-    /// The turn of a poller: it reads the server that is due, or stores what it read. It says whether anything was left
-    /// to do.
+    /// The turn of a poller: it reads the server that is due, or stores what it read. It answers whether anything was
+    /// left to do.
     pub(crate) fn poll(
         &mut self,
         alloc: Global,
@@ -135,7 +135,7 @@ impl Desk {
         Ok(true)
     }
 
-    /// Takes the scenario's next command, and says what it comes to.
+    /// Takes the scenario's next command, and returns what it comes to.
     pub(crate) fn take_command(&mut self, alloc: Global, pass: &mut Pass) -> Result<Work, Memory>
         ensures took { IfOk result (Works self.old pass.old.by None self.new) }
         ensures err { OnErr result (self.new ≡ self.old) }

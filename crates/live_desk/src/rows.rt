@@ -1,4 +1,4 @@
-//! The kept rows of a live run: they lie in memory, and their keeper never fails.
+//! The kept rows of a live run: they are in memory, and their row store never fails.
 
 ghost use Rattle.std.specs.Prelude.{◌≡◌, [], Some, IfOk};
 ghost use Rattle.orch_core.specs.KeptRows.Keeping.{GivesAll, HasKeeperCause, KeepsAll};

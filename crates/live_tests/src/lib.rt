@@ -1,4 +1,4 @@
-//! Tests of live runs: what no clause says of their threads.
+//! Tests of live runs: what no clause has of their threads.
 #![tactic(auto)]
 
 #[cfg(test)]

@@ -79,7 +79,7 @@ fn a_poller_and_a_worker_take_turns(rt: HostRuntime) -> Result<(), Fail> {
     Ok(())
 }
 
-// A command that begins a job, and one that is refused since its server is in the job's hands.
+// A command that begins a job, and one that is refused because its server is in the job's hands.
 #[test]
 fn the_caller_does_it_all(rt: HostRuntime) -> Result<(), Fail> {
     let alloc = rt.alloc();
@@ -94,7 +94,7 @@ fn the_caller_does_it_all(rt: HostRuntime) -> Result<(), Fail> {
     Ok(())
 }
 
-// The driver takes the listed turns whatever the budget, and no others where it is 0.
+// The driver takes the listed turns whatever the budget, and no others if it is 0.
 #[test]
 fn the_driver_takes_what_is_listed(rt: HostRuntime) -> Result<(), Fail> {
     let alloc = rt.alloc();
@@ -109,7 +109,7 @@ fn the_driver_takes_what_is_listed(rt: HostRuntime) -> Result<(), Fail> {
     Ok(())
 }
 
-// Sixteen pollers and sixteen workers end, also where a restart drops their jobs.
+// Sixteen pollers and sixteen workers end, even if a restart drops their jobs.
 #[test]
 fn a_full_crew_ends(rt: HostRuntime) -> Result<(), Fail> {
     let alloc = rt.alloc();

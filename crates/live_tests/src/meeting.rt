@@ -7,8 +7,8 @@ use std::thread;
 /// How often a thread looks before it gives up.
 const MOST: u64 = 1_000_000_000;
 
-/// The first pass of number 2 and the first pass of number 3 each wait until the other has begun, and the second pass
-/// of number 3 waits until the second pass of number 2 has begun.
+/// A gate for three passes. The first pass of number 2 and the first pass of number 3 each wait until the other has
+/// begun. The second pass of number 3 waits until the second pass of number 2 has begun.
 #[derive(Drop)]
 pub struct Meeting {
     second: AtomicU64,
@@ -27,6 +27,7 @@ fn wait_for(passes: &AtomicU64, least: u64, gave_up: &AtomicU64) {
 }
 
 impl Meeting {
+    /// A gate that no pass has begun.
     pub fn new() -> Meeting {
         Meeting {
             second: AtomicU64::new(0),

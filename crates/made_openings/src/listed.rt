@@ -133,8 +133,8 @@ fn are_few(servers: &[ServerInit]) -> bool
     }
 }
 
-/// Whether the servers are 1 to 1,000 of different names and UUIDs, each with its numbers in their ranges, with at most
-/// 4,000,000 for their number times the listed transactions. The time is that of the servers, squared.
+/// Whether the servers are 1 to 1,000 of different names and UUIDs, each with its numbers in their ranges. Also whether
+/// their number times the listed transactions is at most 4,000,000. The time is that of the servers, squared.
 pub fn are_listed(servers: &[ServerInit], gtid: bool) -> bool
     ensures { IsTrue result → IsListed (opening servers.now gtid) }
 {

@@ -1,4 +1,4 @@
-//! What a test asks of a server, and what it is told.
+//! What a test asks of a server, and what it is answered.
 
 ghost use Rattle.std.specs.Prelude.{◌≡◌, ◌<◌, length};
 
@@ -20,7 +20,7 @@ pub enum Step {
     Stop(Threads),
     Start,
     StartUntil(Coord),
-    /// From where it is expected, to the server at the coordinate.
+    /// From the expected position, to the server at the coordinate.
     AttachAt(Spot, ServerNo, Coord),
     /// To the server, by the set that its status shows.
     AttachAuto(ServerNo),
@@ -166,7 +166,7 @@ fn attached(answer: Result<(), AttachFault>) -> Answer {
     }
 }
 
-// What the attachment answers, where it answers what it would have answered.
+// What the attachment answers, if it answers what it would have answered.
 fn attach_at(world: &mut World, no: ServerNo, expect: Spot, to: ServerNo, at: Coord) -> Answer
     requires { no.0 < length world.old.servers }
 {
@@ -194,7 +194,7 @@ fn logged(world: &World, no: ServerNo, k: u64) -> Answer
     }
 }
 
-// What the attachment answers, where it answers what it would have answered.
+// What the attachment answers, if it answers what it would have answered.
 fn attach_by(
     alloc: Global,
     world: &mut World,

@@ -15,7 +15,7 @@ use std::alloc::Global;
 use std::test::Fail;
 use world_openings::OpenedWorld;
 
-/// A server of a test; all are of one cluster.
+/// A server of a test. All are of one cluster.
 #[derive(Clone, Copy)]
 pub struct Given {
     pub name: &'static str,
@@ -23,7 +23,7 @@ pub struct Given {
     pub logs: bool,
     /// The bytes that a file of its log holds.
     pub limit: u64,
-    /// What it has executed, where it has no source.
+    /// What it has executed, if it has no source.
     pub history: &'static [Part],
     /// After how many of its transactions its log was flushed.
     pub flushes: &'static [u64],
@@ -121,7 +121,7 @@ fn inits(alloc: Global, given: &[Given]) -> Result<Vec<ServerInit>, Fail> {
     Ok(inits)
 }
 
-/// What the check of these servers answers.
+/// What the check of these servers answers. `Err` fails the test.
 pub fn checked(
     alloc: Global,
     given: &[Given],
@@ -166,7 +166,7 @@ fn fits(opening: &Opening, room: u64, flushes: u64) -> bool
     true
 }
 
-/// The world of these servers, each with room for so many transactions and flushes.
+/// The world of these servers, each with room for so many transactions and flushes. `Err` fails the test.
 pub fn world_of(
     alloc: Global,
     given: &[Given],

@@ -89,7 +89,7 @@ const APART: &[Given] = &[
 
 /// The servers, whether GTIDs are used, and the cause for which a job fails there.
 const MET: [(&[Given], bool, CauseName); 5] = [
-    // B is attached with its threads on, and where it doesn't stand.
+    // B is attached with its threads on, and at a position at which it isn't.
     (CHAIN, false, CauseName::Running),
     (CHAIN, false, CauseName::Interfered),
     // A goes below its own replica.
@@ -108,7 +108,7 @@ enum End {
     Failed(CauseName),
 }
 
-/// What each turn tells, with the server that it observes for the book.
+/// What each turn answers, with the server that it observes for the book.
 const TOLD: [(End, Option<ServerNo>); 16] = [
     (End::Going, None),
     (End::Going, None),
@@ -235,7 +235,7 @@ fn replicate(world: &mut World) {
     }
 }
 
-// The first turn, counted from 0, that tells something else.
+// The first turn, counted from 0, with another answer.
 fn differing(alloc: Global, world: &mut World, job: &mut Job) -> Result<Option<usize>, Fail>
     requires { IsNamed 3 job.old }
 {
@@ -248,7 +248,7 @@ fn differing(alloc: Global, world: &mut World, job: &mut Job) -> Result<Option<u
     Ok(None)
 }
 
-// Where B stands, and whether both its threads are on.
+// The position of B, and whether both its threads are on.
 fn standing(world: &World) -> Option<(SourceState, Coord, bool)> {
     if B.0 >= world.servers() {
         return None;
@@ -257,7 +257,7 @@ fn standing(world: &World) -> Option<(SourceState, Coord, bool)> {
     Some((plain.source, plain.exec, plain.receiver && plain.applier))
 }
 
-// The first turn that differs, whether the job ends, and where B stands then.
+// The first turn that differs, whether the job ends, and the position of B then.
 fn outcome(
     alloc: Global,
     world: &mut World,
@@ -276,7 +276,7 @@ fn a_job_goes_to_its_end(rt: HostRuntime) -> Result<(), Fail> {
     Ok(())
 }
 
-// What the first of three turns that doesn't go on tells.
+// The answer of the first of three turns that doesn't go on.
 fn first_end(alloc: Global, world: &mut World, cause: CauseName) -> Result<End, Fail> {
     let ops = failing(alloc, cause)?;
     let mut job = Job::make(alloc, 7, ops, 20)?;

@@ -63,7 +63,8 @@ const NO_MARK: Result<Coord, MatchFault> = Err(MatchFault::NoMark);
 
 const NOT_THE_THIRD: Result<Coord, MatchFault> = Err(MatchFault::Mismatch(3));
 
-/// A server, the one with whose log its log is matched, the distance of marks, and where it ends there.
+/// A server, the one with whose log its log is matched, the distance of marks, and the coordinate at which it ends
+/// there.
 const ROWS: [(ServerNo, ServerNo, u64, Result<Coord, MatchFault>); 12] = [
     (X, M, 2, NOT_THE_THIRD),
     (M, X, 2, NOT_THE_THIRD),

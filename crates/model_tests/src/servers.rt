@@ -30,7 +30,7 @@ const THREE: &[Part] = &[Part {
     count: 3,
 }];
 
-/// The beginning of a log, and the ends of its first transactions of 100 bytes, where they are in one file.
+/// The start of a log, and the ends of its first transactions of 100 bytes, if they are in one file.
 const START: Coord = Coord { file: 1, pos: 4 };
 
 const FIRST: Coord = Coord { file: 1, pos: 104 };
@@ -73,8 +73,8 @@ const ROTATED: Plain = Plain {
     first: 1,
 };
 
-/// A source with files of 200 bytes and a flush after its first transaction; a replica without a log that has read one
-/// transaction more than it has executed, over a rotation; and a detached server.
+/// A source with files of 200 bytes and a flush after its first transaction. A replica without a log that has read one
+/// transaction more than it has executed, over a rotation. And a detached server.
 const OPENS: Story = Story {
     servers: &[
         Given {
@@ -133,7 +133,7 @@ const OPENS: Story = Story {
     ],
 };
 
-/// A replica goes on at the beginning of its source's log once it has stopped where it is expected.
+/// A replica goes on at the start of its source's log once it has stopped at the expected position.
 const ATTACHES: Story = Story {
     servers: &[
         Given {
@@ -173,7 +173,7 @@ const ATTACHES: Story = Story {
     ],
 };
 
-/// An applier stops where it was to stop.
+/// An applier stops at the position at which it was to stop.
 const STOPS: Story = Story {
     servers: &[
         Given {
@@ -195,7 +195,7 @@ const STOPS: Story = Story {
     ],
 };
 
-/// A replica goes below its sibling by GTIDs, and skips what it has executed; the sibling has a transaction of its own.
+/// A replica goes below its sibling by GTIDs, and skips what it has executed. The sibling has a transaction of its own.
 const BY_SETS: Story = Story {
     servers: &[
         Given {
@@ -298,7 +298,7 @@ const UNREACHED: Story = Story {
     ],
 };
 
-/// A file that a replica reads stays, until the replica doesn't reach its source; then it is purged, and the replica is
+/// A file that a replica reads stays, until the replica doesn't reach its source. Then it is purged, and the replica is
 /// refused. What is purged already isn't purged again.
 const PURGES: Story = Story {
     servers: &[
@@ -342,8 +342,8 @@ const PURGES: Story = Story {
     ],
 };
 
-/// By a set a replica goes on at the beginning of the first kept file where it has executed all that is purged; one
-/// that has not is attached neither by the set nor at a purged coordinate.
+/// By a set a replica goes on at the start of the first kept file if it has executed all that is purged. One that has
+/// not is attached neither by the set nor at a purged coordinate.
 const PURGED_SETS: Story = Story {
     servers: &[
         Given {

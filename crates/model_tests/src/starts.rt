@@ -9,7 +9,7 @@ use std::alloc::Global;
 use std::test::Fail;
 
 /// A server that has executed two of its own transactions and one of its replica's between them, with files of 200
-/// bytes, and flushes behind the first and the third; and its replica, which has executed two of them.
+/// bytes, and flushes after the first and the third. And its replica, which has executed two of them.
 const MIXED: &[Given] = &[
     Given {
         limit: 200,

@@ -1,4 +1,4 @@
--- When a job begins, and what the checks of a permitted command tell of the book and of the servers.
+-- When a job begins, and what the checks of a permitted command mean for the book and the servers.
 use Rattle.std.proofs.Common.{◌≡◌, ℕ, Bool, true, false, not, List, [], ◌∷◌, refl, sym, ◌∙◌, ap, Option, Some, None}
 use Rattle.std.specs.Prelude.{◌==◌, All, slice_index_or}
 use Rattle.move_laws.proofs.Prelude.{All-cons, All-head, All-nil, All-tail, Attached, Begins, BookState, Detached, Job, Op, ServerNo, SourceState}
@@ -10,7 +10,7 @@ use Rattle.move_laws.proofs.Prelude.ServerModel.{Server as AServer}
 use Rattle.move_laws.proofs.Prelude.refusal
 use Rattle.move_laws.proofs.Firsts.{free-of, neither, not-false, test-false}
 
--- with operations that are held and listed, over a list that is free
+-- with operations that have `Held` and are listed, over a list that is free
 pub begins-with : (w : World) (b : BookState) (jobs : List Job) (list : List ServerNo) (id wait : ℕ) (ops : List Op)
     → are_held (footing w []) ops ≡ true → are_matched (matched_in []) ops ≡ true → are_listed list ops ≡ true → first_about (busy b) list ≡ None
     → Begins w jobs (leases_of b.leases) list (job_with id wait ops)
@@ -35,7 +35,7 @@ attached-source (Detached k) m h = cc
 pub known-source : (b : BookState) (n m : ServerNo) → attached_of b n ≡ Some m → source_of b n ≡ Some m
 known-source b n m h = attached-source (seen_source (instance_at b n)) m h
 
--- the source of the source, where that one is attached
+-- the source of the source, if that one is attached
 pub above-by : (b : BookState) (i x g : ServerNo) → source_of b i ≡ Some x → option_and_then (attached_of b) (source_of b i) ≡ Some g → source_above b i ≡ Some g
 above-by b i x g at_x at_g =
     let here : attached_of b x ≡ Some g = sym (ap (option_and_then (attached_of b)) at_x) ∙ at_g in

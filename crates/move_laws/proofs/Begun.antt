@@ -1,4 +1,4 @@
--- Permitted commands by coordinates begin with operations that are held, over servers that are free.
+-- Permitted commands by coordinates begin with operations that have `Held`, over servers that are free.
 use Rattle.std.proofs.Common.{◌≡◌, ℕ, Bool, true, false, List, [], ◌∷◌, refl, sym, ◌∙◌, ap, Option, Some, None}
 use Rattle.std.specs.Prelude.{◌==◌, map}
 use Rattle.move_laws.proofs.Prelude.{Begins, BookState, Case, Check, Command, CoordsCommand, Follows, Job, Move, Op, ServerNo, World}
@@ -22,7 +22,7 @@ self : (n : ℕ) → (n == n) ≡ true
 self n = eq-eqb n n refl
 
 module _ (w : World) (b : BookState) (jobs : List Job) (id wait : ℕ) (i : ServerNo) where
-  -- a command's job begins, where each check of its row passes
+  -- a command's job begins, if each check of its row passes
   abbrev Permitted : CoordsCommand → Option ServerNo → Type 0
   Permitted c d = first_refusal w b (case_of b c i d) (row_of (by_gtids w b i) c) ≡ None
 

@@ -1,4 +1,4 @@
--- Permitted commands by GTIDs begin with operations that are held, over servers that are free.
+-- Permitted commands by GTIDs begin with operations that have `Held`, over servers that are free.
 use Rattle.std.proofs.Common.{◌≡◌, ℕ, true, not, List, [], ◌∷◌, ◌++◌, refl, Option, Some, None}
 use Rattle.std.specs.Prelude.{map}
 use Rattle.move_laws.proofs.Prelude.{Begins, BookState, Command, Follows, GtidCommand, Job, Server, ServerNo, World, about as about_given, about_one}
@@ -55,7 +55,7 @@ module _ (w : World) (b : BookState) (jobs : List Job) (id wait : ℕ) where
       refl
       (finished-listed (i ∷ []) (again i x) (Server i ∷ []) (again-listed (i ∷ []) i x (among-first i []))) free
 
-  -- a command's job begins, where each check of its row passes
+  -- a command's job begins, if each check of its row passes
   about : (c : GtidCommand) (i : ServerNo) (d : Option ServerNo) → first_refusal w b (case_of b c i d) (row_of c) ≡ None
       → Begins w jobs (leases_of b.leases) (list_of b c i d) (job_with id wait (ops_of b c i d))
   about command.MoveGtid i d h =

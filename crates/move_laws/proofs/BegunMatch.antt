@@ -1,4 +1,4 @@
--- Permitted commands by matches begin with operations that are held and have their matches, over servers that are free.
+-- Permitted commands by matches begin with operations that have `Held` and their matches, over servers that are free.
 use Rattle.std.proofs.Common.{◌≡◌, ℕ, List, [], ◌∷◌, ◌++◌, refl, Option, Some, None}
 use Rattle.std.specs.Prelude.{map}
 use Rattle.move_laws.proofs.Prelude.{Begins, BookState, Command, Follows, Job, Moment, PseudoCommand, ServerNo, World, about as about_given}
@@ -33,7 +33,7 @@ module _ (w : World) (b : BookState) (jobs : List Job) (id wait every : ℕ) whe
       (finished-matched (matched_in []) (matchings rs d every) (following rs d) (each-matched (λ r. matching r d every) rs (λ more r. matching-matched more r d every) (matched_in [])))
       (finished-listed (rs ++ d ∷ []) (matchings rs d every) (following rs d) (matchings-listed (rs ++ d ∷ []) rs d every (among-before rs (d ∷ [])))) free
 
-  -- a command's job begins, where each check of its row passes
+  -- a command's job begins, if each check of its row passes
   about : (c : PseudoCommand) (i : ServerNo) (d : Option ServerNo) → first_refusal w b (case_of b c i d) (row_of c) ≡ None
       → Begins w jobs (leases_of b.leases) (list_of b c i d) (job_with id wait (ops_of b every c i d))
   about command.Match i d h =

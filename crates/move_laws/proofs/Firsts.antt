@@ -1,4 +1,4 @@
--- Where nothing is first, each is nothing.
+-- If nothing is first, each is nothing.
 pub use Rattle.permission.proofs.Free.{neither}
 pub use Rattle.std.proofs.lemmas.Bool.{not-false}
 use Rattle.std.proofs.Common.{◌≡◌, ℕ, Bool, true, false, not, List, [], ◌∷◌, refl, sym, ◌∙◌, ap, Option, Some, None, ◌||◌}
@@ -10,7 +10,7 @@ abbrev pub Nothing : {A : Type 0} → List (Option A) → Type 0
 Nothing [] = Unit {0}
 Nothing (x ∷ xs) = (x ≡ None) × Nothing xs
 
--- where nothing refuses, each check passes
+-- if nothing refuses, each check passes
 pub each-none : {A : Type 0} (xs : List (Option A)) → first_of xs ≡ None → Nothing xs
 each-none [] h = tt
 each-none (x ∷ xs) h = let parts = neither x (first_of xs) h in (parts.0, each-none xs parts.1)

@@ -1,4 +1,4 @@
--- Plans of several servers, one after another: they are held and listed where each part is.
+-- Plans of several servers, one after another: they have `Held` and are listed if each part does.
 use Rattle.move_laws.proofs.Prelude.{All-cons, All-head, All-nil, All-tail, All-weaker, Finish, Footing, Line, Matched, Op, SameBase, ServerNo, again}
 use Rattle.move_laws.proofs.Prelude.{again_auto, and_parts, are_held, are_listed, are_matched, auto, auto-held, autos, both, change_of, deed_of}
 use Rattle.move_laws.proofs.Prelude.{eq-eqb, finished, first_about, flat_map, held-append, is_in, list_any, list_any-append, matching, matchings}
@@ -30,11 +30,11 @@ all-among [] = All-nil (Among [])
 all-among (k ∷ ks) =
     All-cons (Among (k ∷ ks)) k ks (among-first k ks) (All-weaker (Among ks) (Among (k ∷ ks)) (λ n h. among-more k n ks h) ks (all-among ks))
 
--- and one of the list with others in front
+-- and one of the list with others before it
 pub among-behind : (k : ServerNo) (list : List ServerNo) → All (Among (k ∷ list)) list
 among-behind k list = All-weaker (Among list) (Among (k ∷ list)) (λ n h. among-more k n list h) list (all-among list)
 
--- and with others behind it
+-- and with others after it
 pub among-before : (list others : List ServerNo) → All (Among (list ++ others)) list
 among-before list others =
     All-weaker (Among list) (Among (list ++ others))
@@ -93,7 +93,7 @@ module _ (list : List ServerNo) where
   pub matchings-listed : (rs : List ServerNo) (d : ServerNo) (every : ℕ) → All (Among list) rs → are_listed list (matchings rs d every) ≡ true
   matchings-listed rs d every among = each-listed (λ r. matching r d every) (λ r at_r. matching-listed r d every at_r) rs among
 
--- ---- operations that are held
+-- ---- operations with `Held`
 
 base-self : (f : Footing) → SameBase f f
 base-self f = record { gtid = λ e. e; logs = λ n e. e }
@@ -101,7 +101,7 @@ base-self f = record { gtid = λ e. e; logs = λ n e. e }
 base-trans : (f g h : Footing) → SameBase f g → SameBase g h → SameBase f h
 base-trans f g h p q = record { gtid = λ e. q.gtid (p.gtid e); logs = λ n e. q.logs n (p.logs n e) }
 
--- where each part is held whatever was read before it
+-- if each part has `Held` whatever was read before it
 each-held : (P : ServerNo → Type 0) (part : ServerNo → List Op) (f : Footing) (rs : List ServerNo)
     → ((g : Footing) (r : ServerNo) → SameBase f g → P r → are_held g (part r) ≡ true) → All P rs → are_held f (flat_map part rs) ≡ true
 each-held P part f [] held all = refl

@@ -5,8 +5,8 @@ ghost use Rattle.move_laws.specs.Prelude.{Begins, BookState, Command as ACommand
 ghost use Rattle.move_laws.specs.Prelude.Permits.{leased_by, refusal_of};
 ghost use Rattle.move_laws.specs.Prelude.Plans.{plan_of};
 
-/// Where nothing refuses one of the commands by coordinates, the job of its plan may begin: its operations are held,
-/// each server that one of them may change is in the command's list, and nobody has a lease of a server of that list.
+/// If nothing refuses one of the commands by coordinates, the job of its plan may begin. Its operations have `Held`,
+/// and each server that one of them may change is in the command's list. Nobody has a lease of a server of that list.
 /// So it is for every book and for servers in any state.
 pub fn permitted_commands_begin()
     ensures { (w : World) (b : BookState) (jobs : List Job) (given : ACommand) (id wait : ℕ) →

@@ -5,9 +5,9 @@ ghost use Rattle.move_laws.specs.Prelude.{Begins, BookState, Command as ACommand
 ghost use Rattle.move_laws.specs.Prelude.PseudoMatch.{leased_by, refusal_of};
 ghost use Rattle.move_laws.specs.Prelude.PseudoMatchPlans.{plan_of};
 
-/// Where nothing refuses one of the commands that match logs, the job of its plan may begin: its operations are held,
-/// each change of source has its match, each server that one of them may change is in the command's list, and nobody
-/// has a lease of a server of that list. So it is for every book and for servers in any state.
+/// If nothing refuses one of the commands that match logs, the job of its plan may begin. Its operations have `Held`,
+/// and each change of source has its match. Each server that one of them may change is in the command's list, and
+/// nobody has a lease of a server of that list. So it is for every book and for servers in any state.
 pub fn permitted_matches_begin()
     ensures { (w : World) (b : BookState) (jobs : List Job) (now : AMoment) (every : ℕ)
         (given : ACommand) (id wait : ℕ) →

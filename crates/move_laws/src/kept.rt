@@ -6,9 +6,10 @@ ghost use Rattle.move_laws.specs.Prelude.Permits.{refusal_of};
 ghost use Rattle.move_laws.specs.Prelude.Plans.{plan_of};
 ghost use Rattle.move_laws.specs.ByKept.{AllGoByKept};
 
-/// Where nothing refuses a command, no operation of its plan goes up by the coordinate of a server, or on by its own,
-/// whose source was seen to have purged that coordinate's file, and none goes by GTIDs to a source that was seen to
-/// have purged what wasn't seen of the server that moves (MySQL 8.0 Reference Manual, "PURGE BINARY LOGS Statement").
+/// If nothing refuses a command, the moves of its plan go by what is kept (MySQL 8.0 Reference Manual, "PURGE BINARY
+/// LOGS Statement"). No operation goes up by the coordinate of a server, or on by its own, whose source was seen to
+/// have purged that coordinate's file. None goes by GTIDs to a source that was seen to have purged what wasn't seen of
+/// the server that moves.
 pub fn permitted_moves_go_by_what_is_kept()
     ensures coordinates { (w : World) (b : BookState) (given : ACommand) →
         refusal_of w b given ≡ None → AllGoByKept b (plan_of w b given) }

@@ -7,8 +7,8 @@ ghost use Rattle.move_laws.specs.Prelude.Permits.{row_of};
 ghost use Rattle.move_laws.specs.Prelude.PseudoMatch.{row_of as match_row_of};
 ghost use Rattle.move_laws.specs.Numbers.{check_number, rises_from};
 
-/// What a row of checks answers: nothing exactly where each check passes, else the refusal of one of its checks, and of
-/// a row whose numbers rise each check of a lower number passes. A check's refusal has the check's number.
+/// What a row of checks answers: nothing exactly if each check passes, else the refusal of one of its checks. If the
+/// row's numbers rise, each check of a lower number passes. A check's refusal has the check's number.
 pub fn rows_answer_the_lowest()
     ensures number { (w : World) (b : BookState) (c : Case) (check : Check) (r : Refusal) →
         refusal_by w b c check ≡ Some r → number_of r ≡ check_number check }
@@ -33,7 +33,7 @@ pub fn gtid_numbers_rise()
     ensures { (command : GtidCommand) → rises_from 2 (gtid_row_of command) ≡ true }
 {}
 
-/// So do those of the rows of commands by matches, and of the rows behind their own checks.
+/// So do those of the rows of commands by matches, and of the rows after their own checks.
 pub fn match_numbers_rise()
     ensures row { (command : PseudoCommand) → rises_from 2 (match_row_of command) ≡ true }
     ensures last { (every : ℕ) (command : PseudoCommand) →

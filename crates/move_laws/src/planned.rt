@@ -8,10 +8,10 @@ ghost use Rattle.move_laws.specs.Prelude.Permits.{refusal_of};
 ghost use Rattle.move_laws.specs.Prelude.Plans.{plan_of};
 ghost use Rattle.move_laws.specs.Given.{given};
 
-/// A permitted move has its whole plan, by the sources that the book shows: up to the source to which the instance's
-/// source is attached, below a sibling under their source, or anew under the same source, by coordinates, or below any
-/// server by GTIDs; each replica of the instance up to its source, each sibling below it, or the instance and its
-/// source in each other's place.
+/// A permitted move has its whole plan, by the sources in the book. The instance goes up to the source to which its
+/// source is attached. Or it goes below a sibling under their source, or anew under the same source, by coordinates. Or
+/// it goes below any server by GTIDs. Or each replica of the instance goes up to its source, each sibling below it, or
+/// the instance and its source change places.
 pub fn permitted_moves_have_plans()
     ensures up { (w : World) (b : BookState) (i : Number) → refusal_of w b (given MoveUp i None) ≡ None →
         (x : Number) × (g : Number) × (source_of b i ≡ Some x) × (attached_of b x ≡ Some g) ×

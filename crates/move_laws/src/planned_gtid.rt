@@ -5,8 +5,8 @@ ghost use Rattle.move_laws.specs.Prelude.{BookState, DisableGtid, EnableGtid, Fo
 ghost use Rattle.move_laws.specs.Prelude.{again, again_auto, auto, autos, finished, following, plan_of, refusal_of, replicas_but, source_of};
 ghost use Rattle.move_laws.specs.Given.{given};
 
-/// A permitted command by GTIDs has its whole plan: the instance, or each of its replicas but the destination, goes
-/// below the destination; or the instance finds its place under its source by GTIDs, or goes on there by coordinates.
+/// A permitted command by GTIDs has its whole plan. The instance, or each of its replicas except the destination, goes
+/// below the destination. Or the instance finds its place under its source by GTIDs, or goes on there by coordinates.
 pub fn permitted_gtid_moves_have_plans()
     ensures auto { (b : BookState) (i d : Number) →
         plan_of b (given MoveGtid i (Some d)) ≡ finished (auto i d) (Follows i d ∷ []) }

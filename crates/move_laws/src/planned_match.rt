@@ -7,8 +7,8 @@ ghost use Rattle.move_laws.specs.Prelude.PseudoMatch.{refusal_of};
 ghost use Rattle.move_laws.specs.Prelude.PseudoMatchPlans.{plan_of};
 ghost use Rattle.move_laws.specs.Given.{given};
 
-/// A permitted command by matches has its whole plan: the instance, or each of its replicas but the destination, goes
-/// below the destination; or the instance goes up to the source to which its source is attached.
+/// A permitted command by matches has its whole plan. The instance, or each of its replicas except the destination,
+/// goes below the destination. Or the instance goes up to the source to which its source is attached.
 pub fn permitted_matches_have_plans()
     ensures one { (b : BookState) (every : ℕ) (i d : Number) →
         plan_of b every (given Match i (Some d)) ≡

@@ -17,7 +17,7 @@ use Rattle.command_routes.specs.declared.kinds.CoordsCommand.{CoordsCommand}
 use Rattle.command_routes.specs.declared.kinds.CoordsCommand.TheVariants as command
 use Rattle.moves_coords.specs.Commands.{coords_command}
 
--- a repoint goes by GTIDs where they are used and the instance was seen to find its place by them
+-- a repoint goes by GTIDs if they are used and the instance was seen to find its place by them
 abbrev pub by_gtids : World → BookState → ServerNo → Bool
 by_gtids w b i = w.gtid && is_auto b i
 
@@ -30,7 +30,7 @@ repoint_row false = SameInstance ∷ Busy ∷ Unreachable ∷ NoSource ∷ Alrea
 abbrev pub attached_row : List Check
 attached_row = Busy ∷ Unreachable ∷ NoSource ∷ AlreadyDetached ∷ []
 
--- the row of a command, behind the check that its instances are known; a repoint has two
+-- the row of a command, after the check that its instances are known; a repoint has two
 abbrev pub row_of : Bool → CoordsCommand → List Check
 row_of gtids command.MoveUp = Busy ∷ Unreachable ∷ NoSource ∷ AlreadyDetached ∷ SourceHasNoSource ∷ SameServerId ∷ VersionLower ∷ PurgedPlace ∷ []
 row_of gtids command.MoveUpReplicas = Busy ∷ Unreachable ∷ NoSource ∷ AlreadyDetached ∷ SameServerId ∷ VersionLower ∷ PurgedPlace ∷ []
@@ -49,8 +49,8 @@ row_of gtids command.RestartReplica = attached_row
 row_of gtids command.SetReadOnly = Busy ∷ Unreachable ∷ []
 row_of gtids command.SetWriteable = Busy ∷ Unreachable ∷ []
 
--- which servers move to which source, by the destination that is given, of which the job takes the leases, and by whose
--- coordinates the moves go: a server goes up by that of its source, and goes on or lets its replicas up by its own
+-- Which servers move to which source, by the destination that is given, of which the job takes the leases, and by whose
+-- coordinates the moves go. A server goes up by that of its source, and goes on or lets its replicas up by its own.
 abbrev pub case_of : BookState → CoordsCommand → ServerNo → Option ServerNo → Case
 case_of b command.MoveUp i d = going_by (option_to_list (source_of b i)) (moving i (i ∷ []) (source_above b i) (i ∷ option_to_list (source_of b i)))
 case_of b command.MoveUpReplicas i d = going_by (i ∷ []) (moving i (replicas_of b i) (source_of b i) (i ∷ replicas_of b i))

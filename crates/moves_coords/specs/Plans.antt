@@ -86,6 +86,6 @@ ops_of w b command.RestartReplica i d = asked_started (op.Stop i) i
 ops_of w b command.SetReadOnly i d = asked (op.ReadOnly i true) i
 ops_of w b command.SetWriteable i d = asked (op.ReadOnly i false) i
 
--- the operations of one of these commands, where nothing refuses it
+-- the operations of one of these commands, if nothing refuses it
 abbrev pub plan_of : World → BookState → Command → List Op
 plan_of w b given = about [] (ops_of w b) (coords_command given.name) given

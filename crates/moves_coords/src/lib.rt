@@ -10,7 +10,7 @@ use permission::{
     book_views, commands, instance_keeper_items, operations_items, orch_base, server_model,
     topology_tree,
 };
-/// Want of memory.
+/// Out of memory.
 pub use permission::PermitFault;
 pub use permission::orch_base::Memory;
 pub use permits::{leases, permit};

@@ -130,7 +130,7 @@ pub(crate) fn by_gtids(book: &Book, world: &World, i: ServerNo) -> bool
     world.gtid() && is_auto(book, i)
 }
 
-// The checks of a command, by rising number, behind the one that its instances are known.
+// The checks of a command, by rising number, after the one that its instances are known.
 fn row_of(by_gtids: bool, command: CoordsCommand) -> &'static [Check]
     ensures { result.now ≡ row_of by_gtids command }
 {
@@ -225,8 +225,8 @@ pub fn permit(
     answered(row_refusal(alloc, book, forest, world, &movers, row)?)
 }
 
-/// The servers of which the job of one of these commands takes the leases: servers of the book, where the command's
-/// instances are. `Err` is want of memory.
+/// The servers of which the job of one of these commands takes the leases: servers of the book, if the command's
+/// instances are. `Err` means out of memory.
 pub fn leases(alloc: Global, book: &Book, command: Command) -> Result<Vec<ServerNo>, Memory>
     requires { IsSome (coords_command command.name) }
     ensures list { IfOk result (λ list. list.items ≡ leased_by book.now command) }

@@ -1,4 +1,4 @@
--- The operations of a plan, and the leases, are of the book's servers, where the command's instances are.
+-- The operations of a plan, and the leases, are of the book's servers, if the command's instances are.
 use Rattle.std.proofs.Common.{◌≡◌, ◌<◌, true, List, [], ◌∷◌, length, refl, Option, Some, None}
 use Rattle.std.specs.Prelude.{All, IsTrue}
 use Rattle.moves_gtid.proofs.Prelude.{All-append, AllWithin, BookState, Command, Follows, GtidCommand, IsBook, Server, ServerNo, Within, about-is}

@@ -20,15 +20,15 @@ use Rattle.moves_gtid.specs.Commands.{gtid_command}
 abbrev pub move_row : List Check
 move_row = SameInstance ∷ Busy ∷ Unreachable ∷ OtherCluster ∷ Below ∷ DestNotLogging ∷ SameServerId ∷ VersionLower ∷ GtidOff ∷ Errant ∷ PurgedSet ∷ []
 
--- the row of a command, behind the check that its instances are known
+-- the row of a command, after the check that its instances are known
 abbrev pub row_of : GtidCommand → List Check
 row_of command.MoveGtid = move_row
 row_of command.MoveReplicasGtid = move_row
 row_of command.EnableGtid = Busy ∷ Unreachable ∷ NoSource ∷ AlreadyDetached ∷ GtidOff ∷ Errant ∷ PurgedSet ∷ []
 row_of command.DisableGtid = Busy ∷ Unreachable ∷ NoSource ∷ AlreadyDetached ∷ GtidOff ∷ PurgedPlace ∷ []
 
--- which servers move to which source, by the destination that is given, and of which the job takes the leases; one that
--- finds its place anew keeps its source, and one that goes on by coordinates goes by its own
+-- Which servers move to which source, by the destination that is given, and of which the job takes the leases. One that
+-- finds its place anew keeps its source, and one that goes on by coordinates goes by its own.
 abbrev pub case_of : BookState → GtidCommand → ServerNo → Option ServerNo → Case
 case_of b command.MoveGtid i d = moving i (i ∷ []) d (i ∷ option_to_list d)
 case_of b command.MoveReplicasGtid i d = moving i (replicas_but b i d) d (replicas_but b i d ++ option_to_list d)

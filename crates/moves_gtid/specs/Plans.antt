@@ -41,6 +41,6 @@ ops_of b command.MoveReplicasGtid i d = replicas_moved (replicas_but b i d) d
 ops_of b command.EnableGtid i d = enabled i (source_of b i)
 ops_of b command.DisableGtid i d = disabled i (source_of b i)
 
--- the operations of one of these commands, where nothing refuses it
+-- the operations of one of these commands, if nothing refuses it
 abbrev pub plan_of : BookState → Command → List Op
 plan_of b given = about [] (ops_of b) (gtid_command given.name) given

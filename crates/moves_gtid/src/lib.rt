@@ -9,7 +9,7 @@ pub use command::gtid_command;
 use permission::{
     commands, instance_keeper_items, operations_items, orch_base, server_model, topology_tree,
 };
-/// Want of memory.
+/// Out of memory.
 pub use permission::PermitFault;
 pub use permission::orch_base::Memory;
 pub use permits::{leases, permit};

@@ -54,7 +54,7 @@ const DISABLE: [Check; 6] = [
     Check::PurgedPlace,
 ];
 
-// The checks of a command, by rising number, behind the one that its instances are known.
+// The checks of a command, by rising number, after the one that its instances are known.
 fn row_of(command: GtidCommand) -> &'static [Check]
     ensures { result.now ≡ row_of command }
 {
@@ -114,8 +114,8 @@ pub fn permit(
     answered(row_refusal(alloc, book, forest, world, &movers, row_of(kind))?)
 }
 
-/// The servers of which the job of one of these commands takes the leases: servers of the book, where the command's
-/// instances are. `Err` is want of memory.
+/// The servers of which the job of one of these commands takes the leases: servers of the book, if the command's
+/// instances are. `Err` means out of memory.
 pub fn leases(alloc: Global, book: &Book, command: Command) -> Result<Vec<ServerNo>, Memory>
     requires { IsSome (gtid_command command.name) }
     ensures list { IfOk result (λ list. list.items ≡ leased_by book.now command) }

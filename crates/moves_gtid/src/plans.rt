@@ -93,8 +93,8 @@ fn plan_of(alloc: Global, book: &Book, command: Command) -> Result<Vec<Op>, Memo
 }
 
 /// The operations of one of these commands, ended by its lines: `r<s` of each move in order, else the instance's name.
-/// Of a command that is refused for want of a source or a destination there are none. Where its instances are servers
-/// of the book, so are all servers of the operations. `Err` is want of memory.
+/// A command that is refused because it has no source or destination has none. If its instances are servers of the
+/// book, so are all servers of the operations. `Err` means out of memory.
 pub fn plan(
     alloc: Global,
     book: &Book,

@@ -96,7 +96,7 @@ sorted_rises n (x ∷ xs) =
     (All-permutation (λ (z : ℕ × HostPort). n < z.0) (enumerate_from (n + 1) xs) (sort_by order_of (enumerate_from (n + 1) xs)) (sorted_permutes order_of (enumerate_from (n + 1) xs)) (later_numbers n (n + 1) xs (omega arith)))
     (sorted_rises (n + 1) xs)
 
--- one more name, behind all others
+-- one more name, after all others
 pub enumerated_more : (n : ℕ) (xs : List HostPort) (y : HostPort) → enumerate_from n (xs ++ y ∷ []) ≡ enumerate_from n xs ++ (n + length xs, y) ∷ []
 enumerated_more n [] y =
     let index : n ≡ n + 0 = omega arith in

@@ -1,4 +1,4 @@
--- Sorting by a total order that tells elements apart gives one list.
+-- Sorting by a total order in which only equal elements compare as equal gives one list.
 use Rattle.std.proofs.Common.{Bool, true, zero, ◌≡◌, ℕ, ◌+◌, ◌<◌, false, cond, List, [], ◌∷◌, get_or, refl, sym, ap, subst, suc, arith}
 use Rattle.std.specs.Prelude.{All}
 use Rattle.name_order.proofs.Prelude.{All-cons, All-head, All-nil, All-permutation, All-tail, All-weaker, Equal, Greater, IsPermutation}
@@ -6,11 +6,11 @@ use Rattle.name_order.proofs.Prelude.{IsPermutation-cons, IsPermutation-middle, 
 use Rattle.name_order.proofs.Prelude.{IsSortedBy, IsStrictWeakOrder, IsTotalOrder, Less, Ordering, false≢true, insert_by, is_eq, is_gt, is_lt}
 use Rattle.name_order.proofs.Prelude.{ordering_reverse, ranks_by, sort_by, sorted_far, sum_by, sum_by-cons, sum_by-IsPermutation, tied_itself}
 
--- elements are equal where the order doesn't tell them apart
+-- elements that compare as equal are equal
 abbrev pub IsTight : {X : Type 0} → (X → X → Ordering) → Type 0
 IsTight {X} R = (x y : X) → R x y ≡ Equal → x ≡ y
 
--- no element stands before the first
+-- no element is before the first
 abbrev pub IsFirst : {X : Type 0} → (X → X → Ordering) → X → List X → Type 0
 IsFirst R x xs = All (λ y. is_lt (R y x) ≡ false) xs
 
@@ -32,7 +32,7 @@ module _ {X : Type 0} (R : X → X → Ordering) (o : IsTotalOrder R) where
     among_case P z y rest Equal e some here further = subst P (tight z y e) here
     among_case P z y rest Greater e some here further = further (omega (arith, some))
 
-    -- what holds of each element holds of one that stands there
+    -- what holds for each element holds for one that is there
     among : (P : X → Type 0) (y : X) (xs : List X) → 0 < sum_by (λ z. cond (is_eq (R z y)) 1 0) xs → All P xs → P y
     among P y [] some all = absurd (omega (arith, some))
     among P y (z ∷ zs) some all =
@@ -53,7 +53,7 @@ module _ {X : Type 0} (R : X → X → Ordering) (o : IsTotalOrder R) where
     firsts : (x y : X) → is_lt (R x y) ≡ false → is_lt (R y x) ≡ false → x ≡ y
     firsts x y a b = tight x y (level (R x y) (R y x) (o.antisymm x y) a b)
 
-    -- two sorted lists in which each element stands equally often
+    -- two sorted lists that have each element equally often
     pub one_sorted : (xs ys : List X) → ((f : X → ℕ) → sum_by f ys ≡ sum_by f xs) → IsSortedBy (λ x y. is_lt (R x y)) xs → IsSortedBy (λ x y. is_lt (R x y)) ys → ys ≡ xs
     one_sorted [] [] same up down = refl
     one_sorted [] (y ∷ ys) same up down =

@@ -9,7 +9,7 @@ use Rattle.orch_base.specs.Names.{HostPort, name_cmp}
 use Rattle.orch_base.specs.declared.server.ServerNo.{ServerNo}
 use Rattle.name_order.specs.Sorts.{sort_by}
 
--- which of two servers, each by number and name, stands first: by name, of equal names by number
+-- which of two servers, each by number and name, comes first: by name, of equal names by number
 abbrev pub order_of : ℕ × HostPort → ℕ × HostPort → Ordering
 order_of one other = ordering_then (name_cmp one.1 other.1) (nat_cmp one.0 other.0)
 
@@ -20,7 +20,7 @@ server_of server = record { 0 = server.0 }
 unfoldable pub by_name : List HostPort → List ServerNo
 by_name names = map server_of (sort_by order_of (enumerate_from 0 names))
 
--- each number below the length stands once
+-- each number below the length is once
 abbrev pub IsOrder : List ServerNo → Type 0
 IsOrder order = IsPermutation (range_with_len 0 (length order)) (map (λ server. server.0) order)
 
@@ -36,6 +36,6 @@ ranks_of order = map (rank_of order) (range_with_len 0 (length order))
 abbrev pub named : List HostPort → ServerNo → ℕ × HostPort
 named names server = (server.0, slice_index_or names server.0 (record { host = []; port = 0 }))
 
--- each server stands before those behind it, by name, and by number where the names are equal
+-- each server is before those after it, by name, and by number if the names are equal
 abbrev pub IsRising : List HostPort → List ServerNo → Type 0
 IsRising names order = AllPairs (λ one other. order_of (named names one) (named names other) ≡ Less) order

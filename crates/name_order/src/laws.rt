@@ -4,8 +4,8 @@ ghost use Rattle.std.specs.Prelude.{◌≡◌, List, length};
 ghost use Rattle.orch_base.specs.Names.{HostPort};
 ghost use Rattle.name_order.specs.NameOrder.{by_name, IsOrder, IsRising};
 
-/// The order of some names has each server once, and each stands before those behind it: by name, and by number where
-/// the names are equal.
+/// The order of some names has each server once, and each is before those after it: by name, and by number if the names
+/// are equal.
 pub fn servers_stand_in_name_order()
     ensures count { (names : List HostPort) → length (by_name names) ≡ length names }
     ensures once { (names : List HostPort) → IsOrder (by_name names) }

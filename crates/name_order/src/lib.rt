@@ -5,6 +5,6 @@ mod laws;
 mod order;
 
 pub use laws::servers_stand_in_name_order;
-/// Want of memory.
+/// Out of memory.
 pub use orch_base::Memory;
 pub use order::{in_name_order, ranks};

@@ -37,9 +37,9 @@ fn numbers_of(alloc: Global, servers: &[(u32, &Name)]) -> Result<Vec<ServerNo>, 
     Ok(numbers)
 }
 
-/// The servers' numbers in the order of their names: by the host's bytes, then by the port; of equal names the lower
-/// number comes first. The names stand by the servers' numbers, of which there are at most 2^32 - 1. The time is that
-/// of std's sort.
+/// The servers' numbers in the order of their names: by the host's bytes, then by the port. Of equal names the lower
+/// number comes first. `names` has each name at its server's number. There are at most 2^32 - 1. The time is that of
+/// std's sort. `Err` means out of memory.
 pub fn in_name_order(alloc: Global, names: &[Name]) -> Result<Vec<ServerNo>, Memory>
     requires { length names.now < 2 ^ 32 }
     ensures order { IfOk result (λ order. order.items ≡ by_name names.now) }
@@ -52,7 +52,8 @@ pub fn in_name_order(alloc: Global, names: &[Name]) -> Result<Vec<ServerNo>, Mem
     numbers_of(alloc, &servers)
 }
 
-/// The place of each server in the order of the names, by the servers' numbers; `order` is that order.
+/// The place of each server in the order of the names, by the servers' numbers; `order` is that order. `Err` means out
+/// of memory.
 pub fn ranks(alloc: Global, order: &[ServerNo]) -> Result<Vec<u32>, Memory>
     requires few { length order.now < 2 ^ 32 }
     requires order { IsOrder order.now }

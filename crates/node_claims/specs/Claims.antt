@@ -7,8 +7,8 @@ use Rattle.node_claims.specs.declared.claims.ClaimAnswer.TheVariants as claim
 use Rattle.node_claims.specs.declared.claims.ReleaseAnswer.{ReleaseAnswer}
 use Rattle.node_claims.specs.declared.claims.ReleaseAnswer.TheVariants as release
 
--- the kept claim, a node and the first moment at which it no longer lasts; and of each node, the first of them node 1,
--- until when it remembers that it is active
+-- the kept claim: a node and the first moment at which it no longer lasts. `remembered` has for each node, the first of
+-- them node 1, until when it remembers that it is active.
 pub record ClaimState : Type 0 where
   pub kept : Option (ℕ × Moment)
   pub remembered : List (Option Moment)
@@ -28,7 +28,7 @@ abbrev pub remembered_by : ClaimState → ℕ → Option Moment
 remembered_by s zero = None
 remembered_by s (suc place) = slice_index_or s.remembered place None
 
--- the same claims, where the node remembers this
+-- the same claims, if the node remembers this
 abbrev pub with_remembered : ClaimState → ℕ → Option Moment → ClaimState
 with_remembered s zero until = s
 with_remembered s (suc place) until = record s { remembered = slice_set s.remembered place until }
@@ -44,7 +44,7 @@ is_later now (Some until) = nat_lt now until.0
 abbrev pub until_from : ℕ → Moment
 until_from now = record { 0 = now + 60 }
 
--- taken exactly where the kept claim is another node's and lasts
+-- taken exactly if the kept claim is another node's and lasts
 abbrev pub claim_by : Option (ℕ × Moment) → ℕ → ℕ → ClaimAnswer
 claim_by None node now = claim.Held (until_from now)
 claim_by (Some kept) node now =
@@ -53,7 +53,7 @@ claim_by (Some kept) node now =
 abbrev pub claim_answer : ClaimState → ℕ → ℕ → ClaimAnswer
 claim_answer s node now = claim_by s.kept node now
 
--- what is held is kept and remembered
+-- a claim that a node gets is kept and remembered
 abbrev pub after_answer : ClaimState → ℕ → ClaimAnswer → ClaimState
 after_answer s node (claim.Taken other until) = s
 after_answer s node (claim.Held until) = record (with_remembered s node (Some until)) { kept = Some (node, until) }
@@ -82,7 +82,7 @@ may_act s node now = is_later now (remembered_by s node)
 abbrev pub after_act : ClaimState → ℕ → ℕ → ClaimState
 after_act s node now = if may_act s node now then s else with_remembered s node None
 
--- the node whose claim is kept, where it may act
+-- the node whose claim is kept, if it may act
 abbrev pub active_by : ClaimState → ℕ → Option (ℕ × Moment) → Option ℕ
 active_by s now None = None
 active_by s now (Some kept) = if may_act s kept.0 now then Some kept.0 else None

@@ -33,7 +33,7 @@ pub enum ReleaseAnswer {
 }
 
 /// The kept claim, and until when each node remembers that it is active. A node is active as long as it remembers a
-/// moment that hasn't come; it remembers by itself, so it may act without a look at the kept claim.
+/// moment that hasn't come. It remembers by itself, so it may act without a look at the kept claim.
 pub struct Claims {
     kept: Option<(u32, Moment)>,
     remembered: Vec<Option<Moment>>,
@@ -60,7 +60,7 @@ impl Claims {
     ghost use Rattle.std.specs.Prelude.{◌≡◌, ◌==◌, ◌≤◌, ◌^◌, IfOk, IsTrue, length};
     ghost use Rattle.node_claims.specs.Claims.{active, after_act, after_claim, after_release, claim_answer, made, may_act, release_answer, remembered_by, IsNode};
 
-    /// So many nodes, 1 to 16, of which none remembers anything, and the claim that is kept.
+    /// So many nodes, 1 to 16, of which none remembers anything, and the claim that is kept. `Err` means out of memory.
     pub fn make(alloc: Global, nodes: u32, kept: Option<(u32, Moment)>) -> Result<Claims, Memory>
         requires some { 1 ≤ nodes }
         requires few { nodes ≤ 16 }
@@ -80,7 +80,7 @@ impl Claims {
         *self.remembered.get(place as usize)?
     }
 
-    /// What the node, counted from 1, would be answered that claims to be the active one; nothing changes. Moments are
+    /// What the node, counted from 1, would be answered that claims to be the active one. Nothing changes. Moments are
     /// at most 2^63. It takes no memory.
     pub fn answer(&self, node: u32, now: Moment) -> ClaimAnswer
         requires early { now.0 ≤ 2 ^ 63 }
@@ -94,9 +94,9 @@ impl Claims {
         ClaimAnswer::Held(Moment(now.0 + CLAIM_SECONDS))
     }
 
-    /// Claims that the node, counted from 1, is the active one: `Taken` exactly where the kept claim is another node's
-    /// and lasts; nothing has changed then. Else `Held`: the claim of 60 seconds from now on is kept and remembered,
-    /// and what other nodes remember stays. Moments are at most 2^63. It takes no memory.
+    /// Claims that the node, counted from 1, is the active one: `Taken` exactly if the kept claim is another node's and
+    /// lasts. Nothing has changed then. Else `Held`: the claim of 60 seconds from now on is kept and remembered, and
+    /// what other nodes remember stays. Moments are at most 2^63. It takes no memory.
     pub fn claim(&mut self, node: u32, now: Moment) -> ClaimAnswer
         requires node { IsNode self.old node }
         requires early { now.0 ≤ 2 ^ 63 }
@@ -111,8 +111,8 @@ impl Claims {
         answer
     }
 
-    /// Gives the node's claim back: `NotHeld` exactly where the kept claim isn't its own; nothing has changed then.
-    /// Else no claim is kept, and the node remembers nothing. It takes no memory.
+    /// Gives the node's claim back: `NotHeld` exactly if the kept claim isn't its own. Nothing has changed then. Else
+    /// no claim is kept, and the node remembers nothing. It takes no memory.
     pub fn release(&mut self, node: u32, _now: Moment) -> ReleaseAnswer
         requires { IsNode self.old node }
         ensures answer { result ≡ release_answer self.old node }
@@ -128,8 +128,8 @@ impl Claims {
         }
     }
 
-    /// Whether the node may act: exactly where it remembers a moment that hasn't come; else it remembers nothing from
-    /// now on. It doesn't look at the kept claim, and takes no memory.
+    /// Whether the node may act: exactly if it remembers a moment that hasn't come; else it remembers nothing from now
+    /// on. It doesn't look at the kept claim, and takes no memory.
     pub fn may_act(&mut self, node: u32, now: Moment) -> bool
         requires { IsNode self.old node }
         ensures answer { result ≡ may_act self.old node now.0 }
@@ -156,7 +156,7 @@ impl Claims {
         self.kept
     }
 
-    /// The active node: the one whose claim is kept, where it remembers a moment that hasn't come. It takes no memory.
+    /// The active node: the one whose claim is kept, if it remembers a moment that hasn't come. It takes no memory.
     pub fn active(&self, now: Moment) -> Option<u32>
         ensures { result ≡ active self.now now.0 }
     {

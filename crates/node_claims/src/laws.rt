@@ -7,9 +7,9 @@ ghost use Rattle.node_claims.specs.declared.claims.ReleaseAnswer.TheVariants as 
 ghost use Rattle.node_claims.specs.Claims.{active, after_act, after_claim, after_release, claim_answer, may_act, release_answer, remembered_by, until_from, ClaimState, IsNode};
 ghost use Rattle.node_claims.specs.Reached.{IsActive, IsReached};
 
-/// Whatever nodes claim, release and do, at any moment at most one is active, and the kept claim is its own, with the
+/// Whatever nodes claim, release and do, at any moment at most one is active. The kept claim is its own, with the
 /// moment that it remembers. So a node that may act is the active one, and it is active for no more than 60 seconds
-/// behind its last claim.
+/// after its last claim.
 pub fn one_node_is_active()
     ensures one { (s : ClaimState) (now a b : ℕ) → IsReached s now →
         IsActive s a now → IsActive s b now → a ≡ b }
@@ -25,8 +25,8 @@ pub fn one_node_is_active()
         is.until.0 ≤ now + 60 }
 {}
 
-/// A node gets the claim of another only when that one's has run out; until then it is refused, and nothing changes. A
-/// node gets its own claim again at any time. Who gets it is active for 60 seconds, and the kept claim says so.
+/// A node gets the claim of another only when that one's has run out. Until then it is refused, and nothing changes. A
+/// node gets its own claim again at any time. Who gets it is active for 60 seconds, and the kept claim has that end.
 pub fn claims_wait_for_the_end()
     ensures waits { (s : ClaimState) (node now other : ℕ) (until end : AMoment) →
         claim_answer s node now ≡ claim.Held until → s.kept ≡ Some (other, end) →
@@ -70,7 +70,7 @@ pub fn other_nodes_stay()
         length (after_act s node now).remembered ≡ length s.remembered }
 {}
 
-/// A node that releases its claim isn't active any more, and each node may claim at once; who doesn't hold the kept
+/// A node that releases its claim isn't active any more, and each node may claim at once. Who doesn't hold the kept
 /// claim releases nothing.
 pub fn releases_free_the_claim()
     ensures released { (s : ClaimState) (node : ℕ) → release_answer s node ≡ release.Released →

@@ -8,5 +8,5 @@ pub use claims::{ClaimAnswer, Claims, ReleaseAnswer};
 pub use laws::{
     claims_wait_for_the_end, one_node_is_active, other_nodes_stay, releases_free_the_claim,
 };
-/// Want of memory.
+/// Out of memory.
 pub use orch_base::Memory;

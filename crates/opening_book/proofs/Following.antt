@@ -231,7 +231,7 @@ Follow-addition rows b i follow fit =
     Follow-rings (changed_by rows (change.Put (row.Instance i))) (after_put b (row.Instance i)) (ringed b.rings i.no (shown_by i)) (length-ringed b.rings i.no (shown_by i) ∙ follow.book.rings)
     (Follow-change rows b (change.Put (row.Instance i)) follow fit tt)
 
--- a recovery stands in no book
+-- no book has a recovery
 pub Follow-recovery : (rows : List Row) (b : BookState) (k : RecoveryRow) → k.id < 2 ^ 64 → Follow rows b → Follow (changed_by rows (change.Put (row.Recovery k))) b
 Follow-recovery rows b k small follow = record {
   rising = changed_by_rising rows (change.Put (row.Recovery k)) follow.rising;

@@ -1,4 +1,4 @@
--- Behind an opening no instance has a greater read number than the count of readings.
+-- After an opening no instance has a greater read number than the count of readings.
 use Rattle.std.proofs.Common.{ℕ, ◌≤◌, Bool, true, false, List, [], ◌∷◌, length, Option, Some, None, arith}
 use Rattle.std.specs.Prelude.{⊤, ◌&&◌, All, IfSome, fold, is_none, slice_index_or, if◌then◌else◌}
 use Rattle.opening_book.proofs.Prelude.{All-head, All-replicate, All-set, All-tail, All-weaker, AreReadWithin, AuditState, BookState}

@@ -19,7 +19,7 @@ use Rattle.opening_book.proofs.Prelude.row
 use Rattle.opening_book.proofs.Prelude.table
 use Rattle.opening_book.proofs.Following.{is_eq, map_of-rising, passing, rest_rising, Follow-puts, PutsRecovery}
 
--- where the recovery of an id stands
+-- the index of an id's recovery
 abbrev at : ℕ → ℕ
 at id = sort_key table.Recovery (key.Id id)
 
@@ -29,7 +29,7 @@ less-off k p h = grind arith
 more-off : (k p : ℕ) → p < k → (k == p) ≡ false
 more-off k p h = grind arith
 
--- two recoveries stand at one key where their ids are equal
+-- two recoveries are at one key if their ids are equal
 same-key : (m n : ℕ) → (at m == at n) ≡ (m == n)
 same-key m n = go (m == n) refl
   where
@@ -88,7 +88,7 @@ module _ (period : List ℕ → ℕ) where
   given-by kept None = kept
   given-by kept (Some k) = if is_none k.block then Some (row.Recovery (as_row (loaded_by period k))) else kept
 
-  -- the recovery of an id, and what the blocks that are given change under it, by the row that stands there
+  -- the recovery of an id, and what the blocks that are given change under it, by the row that is there
   record IsFound (id : ℕ) (xs : List Row) : Type 0 where
     pub found : find (λ r. r.id == id) (recoveries_in period xs) ≡ option_map (loaded_by period) (row-of (row_in xs (at id)))
     pub given : (kept : Option Row) → fold (row_after (at id)) kept (blocks_given period xs) ≡ given-by kept (row-of (row_in xs (at id)))
@@ -266,7 +266,7 @@ module _ (period : List ℕ → ℕ) (short : (cluster : List ℕ) → period cl
     counted-at : IsRising rows → (p : ℕ) → row_in (counted count until rows) p ≡ passing (counts count until) (row_in rows p)
     counted-at rising p = row_in-filter (counts count until) p (map_of rows) (map_of_rising rows) ∙ ap (passing (counts count until)) (map_of-rising rows p rising)
 
-    -- a recovery that is loaded is that of the row that is kept under its id, where that one counts
+    -- a recovery that is loaded is that of the row that is kept under its id, if that one counts
     pub loaded-at : IsRising rows → (id : ℕ) → id < 2 ^ 64
         → recovery_at (audit_of period next (counted count until rows)) id ≡ option_map (loaded_by period) (row-of (passing (counts count until) (row_in rows (at id))))
     loaded-at rising id small =

@@ -4,7 +4,7 @@ use Rattle.opening_book.specs.Prelude.{AuditState, Recovery, Row, recoveries_in}
 use Rattle.opening_book.specs.Prelude.row
 use Rattle.opening_book.specs.Counting.{end_or, greatest_id}
 
--- the id of a recovery, where it is in the range of an opening
+-- the id of a recovery, if it is in the range of an opening
 abbrev pub id_in : Row → ℕ
 id_in (row.Instance i) = 0
 id_in (row.Downtime d) = 0

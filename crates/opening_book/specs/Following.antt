@@ -14,7 +14,7 @@ use Rattle.opening_book.specs.Opening.{loading}
 abbrev pub is_for_book : ℕ → Row → Bool
 is_for_book servers r = is_of_book (table_of r) && counts servers greatest_id r
 
--- the book's row is kept; where the book has none, a row that is kept is of another table or doesn't count
+-- the book's row is kept; if the book has none, a row that is kept is of another table or doesn't count
 abbrev pub IsKeptFor : ℕ → Option Row → Option Row → Type 0
 IsKeptFor servers kept (Some r) = kept ≡ Some r
 IsKeptFor servers kept None = IfSome kept (λ r. is_for_book servers r ≡ false)
@@ -35,8 +35,8 @@ IsIdInRange (change.Put (row.Switch enabled)) = ⊤
 IsIdInRange (change.Put (row.Active node until)) = ⊤
 IsIdInRange (change.Remove t k) = ⊤
 
--- the audit's recovery is kept, with its block period; where the audit has none, a row that is kept doesn't count by
--- the next id
+-- the audit's recovery is kept, with its block period; if the audit has none, a row that is kept doesn't count by the
+-- next id
 abbrev pub IsAudited : ℕ → ℕ → Option Row → Option Recovery → Type 0
 IsAudited servers next kept (Some r) = kept ≡ Some (row.Recovery (as_row r))
 IsAudited servers next kept None = IfSome kept (λ r. counts servers (next - 1) r ≡ false)

@@ -1,6 +1,6 @@
--- What is kept at an opening beyond the rows that count: an instance of each known server that has none, the
--- registrations that the scenario gives, the block periods of recoveries whose rows have none, and the recoveries that
--- it interrupts.
+-- What is kept at an opening beyond the rows that count. These are an instance of each known server that has none, and
+-- the registrations that the scenario gives. Then the block periods of recoveries whose rows have none, and the
+-- recoveries that the opening interrupts.
 use Rattle.std.specs.Prelude.{ℕ, ◌+◌, ◌&&◌, Bool, true, false, if◌then◌else◌, List, [], ◌∷◌, ◌++◌, filter_map, fold, map, Option, None, Some, is_none, slice_index_or}
 use Rattle.opening_book.specs.Prelude.{AuditState, BookState, Candidate, Change, Instance, Moment, Row, Rule, Server, World, after_addition}
 use Rattle.opening_book.specs.Prelude.{after_put, after_removal, closing, cons_option, fits, loaded_by, put_change, put_recovery, row_fits, server_at}
@@ -8,7 +8,7 @@ use Rattle.opening_book.specs.Prelude.{shown_of}
 use Rattle.opening_book.specs.Prelude.change
 use Rattle.opening_book.specs.Prelude.row
 
--- a server as it is known at the opening: valid where orchestrator reaches it
+-- a server as it is known at the opening: valid if orchestrator reaches it
 abbrev pub opening_instance : World → Moment → ℕ → Server → Instance
 opening_instance w at n s = record { no = record { 0 = n }; read = 0; moment = at; valid = s.up && s.desk; seen = shown_of w s }
 
@@ -16,7 +16,7 @@ abbrev pub put_instance : World → Moment → ℕ → Option Server → Option 
 put_instance w at n None = None
 put_instance w at n (Some s) = Some (change.Put (row.Instance (opening_instance w at n s)))
 
--- what is put for server n: its instance, where it is known and the book has none
+-- what is put for server n: its instance, if it is known and the book has none
 abbrev pub missing : World → Moment → BookState → ℕ → Bool → Option Change
 missing w at b n known = if known && is_none (slice_index_or b.instances n None) then put_instance w at n (server_at w n) else None
 
@@ -36,7 +36,7 @@ registered_for = 3600
 abbrev pub registered : Moment → ℕ → Rule → Candidate
 registered at n rule = record { no = record { 0 = n }; rule = rule; until = record { 0 = at.0 + registered_for } }
 
--- what is put for server n: its registration, where the scenario gives it a rule, unless it is kept already
+-- what is put for server n: its registration, if the scenario gives it a rule, unless it is kept already
 abbrev pub registering : Moment → BookState → ℕ → Option Rule → Option Change
 registering at b n None = None
 registering at b n (Some rule) = put_change b (row.Candidate (registered at n rule))
@@ -68,7 +68,7 @@ loading period rows a at = blocks_given period rows ++ interrupting a at
 abbrev pub opening_changes : World → Moment → BookState → List Bool → List (Option Rule) → List Change → List Change
 opening_changes w at b known rules recoveries = missing_from w at b 0 known ++ (registering_from at b 0 rules ++ recoveries)
 
--- a change of an opening: one that the book takes, or of a recovery, which stands in the audit
+-- a change of an opening: one that the book takes, or of a recovery, which is in the audit
 abbrev pub is_opening_row : ℕ → Row → Bool
 is_opening_row count (row.Instance i) = row_fits count (row.Instance i)
 is_opening_row count (row.Downtime d) = row_fits count (row.Downtime d)
@@ -81,7 +81,7 @@ abbrev pub is_opening_change : ℕ → Change → Bool
 is_opening_change count (change.Put r) = is_opening_row count r
 is_opening_change count (change.Remove t k) = fits count (change.Remove t k)
 
--- a row that is put at the opening: an instance is added with the bridge that it shows where it is valid
+-- a row that is put at the opening: an instance is added with the bridge that it shows if it is valid
 abbrev pub after_first : BookState → Row → BookState
 after_first b (row.Instance i) = after_addition b i
 after_first b (row.Downtime d) = after_put b (row.Downtime d)

@@ -31,8 +31,8 @@ fn later_id(last: u64, row: &Row) -> u64
     last.max(id_in(row))
 }
 
-/// The greatest id, up to `GREATEST_ID`, of all recoveries of these rows, or 0: of those that don't count too, so that
-/// no row is written over that was handed back.
+/// The greatest id, up to `GREATEST_ID`, of all recoveries of these rows, or 0. Those that don't count are looked at
+/// too, so that no row is written over that was handed back.
 pub fn last_id(rows: &[Row]) -> u64
     ensures { result ≡ last_id rows.now }
 {
@@ -76,7 +76,7 @@ pub fn beyond_instances(rows: &[Row]) -> &[Row]
 }
 
 /// The audit of the recoveries of these rows, by their clusters' block periods for rows that have none, with the next
-/// id.
+/// id. `Err` means out of memory.
 pub fn loaded_audit<P: Periods>(
     alloc: Global,
     periods: &P,

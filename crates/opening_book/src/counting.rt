@@ -87,10 +87,11 @@ fn counting(servers: u32, last: u64, mut rows: Vec<Row>) -> Vec<Row>
     rows
 }
 
-/// The rows that count, by table, then key: of two with one table and key the last is looked at. A row counts where
-/// each server that it names is one of so many, its read number and moments are at most 2^63, and, for a recovery, its
-/// id is 1 to this last one, `GREATEST_ID` at an opening, and at a restart the last id that was given, and its block
-/// period, if it has one, is at most 1,000,000,000 seconds, and, for a claim, its node is 1 to 16.
+/// The rows that count, by table, then key: of two with one table and key the last is looked at.
+///
+/// A row counts if each server that it names is one of so many, and its read number and moments are at most 2^63. A
+/// recovery's id is 1 to this last one: `GREATEST_ID` at an opening, and at a restart the last id that was given. Its
+/// block period, if it has one, is at most 1,000,000,000 seconds. A claim's node is 1 to 16. `Err` means out of memory.
 pub fn counted(alloc: Global, servers: u32, last: u64, rows: Vec<Row>) -> Result<Vec<Row>, Memory>
     ensures { IfOk result (λ counting. counting.items ≡ counted servers last rows.items) }
 {
@@ -98,7 +99,7 @@ pub fn counted(alloc: Global, servers: u32, last: u64, rows: Vec<Row>) -> Result
     Ok(counting(servers, last, map))
 }
 
-/// The rows that count, as `counted` gives them, of rows that stand by table, then key, one of each. It takes no
+/// The rows that count, as `counted` gives them. The rows are in order by table, then key, one of each. It takes no
 /// memory.
 pub fn counted_in_order(servers: u32, last: u64, rows: Vec<Row>) -> Vec<Row>
     requires { IsRising rows.items }
@@ -159,7 +160,7 @@ pub fn last_read(rows: &[Row]) -> u64
     last
 }
 
-/// The book of these servers, by number, and of these rows.
+/// The book of these servers, by number, and of these rows. `Err` means out of memory.
 pub fn loaded_book(alloc: Global, settings: &[Settings], rows: &[Row]) -> Result<Book, Memory>
     requires { length settings.now < 2 ^ 32 }
     ensures { IfOk result (λ b. b ≡ book_made settings.now rows.now) }

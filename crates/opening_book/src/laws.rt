@@ -10,20 +10,20 @@ ghost use Rattle.opening_book.specs.Following.{AreShort, Follow, FollowAudit, Fo
 ghost use Rattle.opening_book.specs.Opening.{after_opening, blocks_given, interrupting, is_opening_change, loading, opened_book, opening_changes};
 ghost use Rattle.opening_book.specs.Reads.{AreReadWithin};
 
-/// Kept rows follow the book that is loaded of them, and go on to do so after each change of both that the book takes,
-/// at the opening and later: under each table and key for which the book has a row that row is kept, and under any
-/// other of its tables only rows that don't count.
+/// Kept rows follow the book that is loaded of them. They go on to do so after each change of both that the book takes,
+/// at the opening and later. Under each table and key for which the book has a row that row is kept. Under any other of
+/// its tables only rows that don't count are kept.
 pub fn kept_rows_follow_the_book()
     ensures loaded { (settings : List Settings) (last : ℕ) (rows : List Row) → length settings < 2 ^ 32 → IsRising rows → Follow rows (loaded settings last rows) }
     ensures changed { (rows : List Row) (b : BookState) (c : Change) → Follow rows b → fits (length b.names) c ≡ true → IsInRange c → Follow (changed_by rows c) (after_change b c) }
     ensures opening { (rows : List Row) (b : BookState) (c : Change) → Follow rows b → is_opening_change (length b.names) c ≡ true → IsInRange c → IsIdInRange c → Follow (changed_by rows c) (after_opening b c) }
 {}
 
-/// Kept rows follow the audit that is loaded of them, at an opening and at a restart, once what the load keeps is kept:
-/// each recovery whose row has no block period with its cluster's, and each unended one as interrupted. They go on to
-/// do so after each change of the book that is kept, after each end of the unended recoveries, and after each
-/// acknowledgement: under each id of which the audit has a recovery that recovery is kept, and under any other id only
-/// what doesn't count.
+/// Kept rows follow the audit that is loaded of them, at an opening and at a restart, once what the load keeps is kept.
+/// That is each recovery whose row has no block period, with its cluster's, and each unended one, as interrupted. They
+/// go on to do so after each change of the book that is kept, after each end of the unended recoveries, and after each
+/// acknowledgement. Under each id of which the audit has a recovery that recovery is kept. Under any other id only what
+/// doesn't count is kept.
 pub fn kept_rows_follow_the_audit()
     ensures opened { (period : List ℕ → ℕ) (servers : ℕ) (rows : List Row) (at : AMoment) →
         AreShort period → servers ≤ 2 ^ 32 → IsRising rows →
@@ -50,8 +50,8 @@ pub fn recoveries_are_no_rows_of_the_book()
         Follow rows b → Follow (changed rows (blocks_given period (counted servers last given))) b }
 {}
 
-/// Behind an opening no instance has a greater read number than the count of readings, whatever rows were handed back: it
-/// begins at the greatest number of those that count, and an instance that the opening adds was read never.
+/// After an opening no instance has a greater read number than the count of readings, whatever rows were handed back.
+/// The count begins at the greatest number of those that count. An instance that the opening adds was never read.
 pub fn openings_count_readings()
     ensures loaded { (settings : List Settings) (last : ℕ) (rows : List Row) →
         AreReadWithin (last_read (counted (length settings) last rows)) (loaded settings last rows) }

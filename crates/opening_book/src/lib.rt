@@ -14,5 +14,5 @@ pub use laws::{
     recoveries_are_no_rows_of_the_book,
 };
 pub use opening::{loading, open_book, opening_changes};
-/// Want of memory.
+/// Out of memory.
 pub use instance_keeper::orch_base::Memory;

@@ -30,7 +30,7 @@ fn instance(alloc: Global, world: &World, moment: Moment, no: ServerNo) -> Resul
     })
 }
 
-// What is put for a server: its instance, where it is known and the book has none.
+// What is put for a server: its instance, if it is known and the book has none.
 fn missing(
     alloc: Global,
     world: &World,
@@ -91,7 +91,7 @@ fn registered(at: Moment, no: ServerNo, rule: Rule) -> Candidate
     }
 }
 
-// What is put for a server: its registration, where it has a rule, unless the book has it already.
+// What is put for a server: its registration, if it has a rule, unless the book has it already.
 fn registering(at: Moment, book: &Book, no: ServerNo, rule: Option<Rule>) -> Option<Change>
     requires moment { at.0 ≤ 2 ^ 63 }
     requires server { no.0 < length book.now.names }
@@ -156,8 +156,8 @@ fn give_blocks<P: Periods>(alloc: Global, periods: &P, rows: &[Row]) -> Result<V
     Ok(changes)
 }
 
-/// What a load of these rows keeps of recoveries, at this moment: first each one whose row has no block period, with
-/// its cluster's, then each unended one of their audit, as interrupted.
+/// What a load of these rows keeps of recoveries, at this moment. First each one whose row has no block period, with
+/// its cluster's. Then each unended one of their audit, as interrupted. `Err` means out of memory.
 pub fn loading<P: Periods>(
     alloc: Global,
     periods: &P,
@@ -175,10 +175,14 @@ pub fn loading<P: Periods>(
     Ok(changes)
 }
 
-/// The changes of the opening. First the instance of each known server that the book has none of, with read number 0
-/// and this moment, valid exactly where orchestrator reaches the server, and as seen what a status would show, reached
-/// or not. Then the registration of each server that has a rule, which lasts 3600 seconds from this moment, unless the
-/// book has that very registration. Then what is kept of recoveries. Moments are at most 2^63.
+/// The changes of the opening.
+/// 1. The instance of each known server that the book has none of, with read number 0 and this moment. It is valid
+///   exactly if orchestrator reaches the server. As seen it has what a status would report, reached or not.
+/// 2. The registration of each server that has a rule, which lasts 3600 seconds from this moment, unless the book has
+///   that very registration.
+/// 3. What is kept of recoveries.
+///
+/// Moments are at most 2^63. `Err` means out of memory.
 pub fn opening_changes(
     alloc: Global,
     world: &World,
@@ -203,7 +207,7 @@ pub fn opening_changes(
     Ok(changes)
 }
 
-// Makes a change of an opening. Recoveries stand in the audit.
+// Makes a change of an opening. Recoveries are in the audit.
 fn open(book: &mut Book, change: Change)
     requires { IsTrue (is_opening_change (length book.old.names) change) }
     ensures after { book.new ≡ after_opening book.old change }

@@ -66,7 +66,7 @@ listed-of_servers servers parts all j t h =
 pub all-of_servers : (servers : ℕ) (parts : List Part) → All (IsPart servers) parts → All (IsOfServers servers) (listed_history parts)
 all-of_servers servers parts all = λ k d h. listed-of_servers servers parts all k _ (slice_get-get_or (listed_history parts) k d h)
 
--- the counts tell whether each origin has executed its own
+-- the counts answer whether each origin has executed its own
 pub counted-home : (servers : List ServerInit) (own : List ℕ) (history : List Txn) → CountsHome servers own → ((j : ℕ) (t : Txn) → slice_get history j ≡ Some t → IsOfServers (length servers) t)
     → list_all (is_counted own) history ≡ list_all (is_home servers) history
 counted-home servers own history counts each = list_all-same (is_counted own) (is_home servers) history (λ j t h.
@@ -90,7 +90,7 @@ table-after servers n rows i there root all table agrees =
     IsTable-more servers n rows (with_links rows (links history)) i history there root refl table
     (Takes-all history rows (listed_numbered (parts_of i)) (λ j t h. let of = (listed-of_servers (length servers) (parts_of i) all j t h).origin in let count = table.count in omega arith) agrees)
 
--- what the two tests tell of a history that a server lists
+-- what the two tests answer for a history that a server lists
 pub told-kin : (servers : List ServerInit) (n : ℕ) (rows : List (List Link)) (own : List ℕ) (i : ServerInit) (history : List Txn) (a b : Bool) → history ≡ listed_history (parts_of i) → All (IsPart (length servers)) (parts_of i)
     → IsTable servers n rows → CountsHome servers own → a ≡ agrees_throughout rows history → b ≡ list_all (is_counted own) history → (a && b) ≡ is_kin servers n (listed_history (parts_of i))
 told-kin servers n rows own i history a b is all table counts agrees counted =

@@ -54,7 +54,7 @@ agrees_with-from servers history m each = at (slice_get servers m) refl
     at None e = refl
     at (Some i) e = root i i.source e refl
 
--- (a) the table agrees with a history exactly where what the first n servers list does
+-- (a) the table agrees with a history exactly if what the first n servers list does
 pub decides : (servers : List ServerInit) (n : ℕ) (rows : List (List Link)) (history : List Txn) → IsTable servers n rows → IsNumberedFromOne history
     → agrees_throughout rows history ≡ all_below (λ m. agrees_with history (slice_get servers m)) n
 decides servers n rows history table numbered =

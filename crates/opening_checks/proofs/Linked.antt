@@ -79,7 +79,7 @@ pub alike-trans : (k l m : Link) → alike k l ≡ true → alike l m ≡ true �
 alike-trans k l m g h =
     let one = alike-parts k l g in let two = alike-parts l m h in alike-from k m (same_before-trans k.before l.before m.before one.0 two.0) (one.1 ∙ two.1)
 
--- links of one transaction agree where they say the same
+-- links of one transaction agree if they say the same
 pub links_agree-alike : (b c : Option Txn) (t u : Txn) → links_agree (b, t) (c, u) ≡ true → same_txn t u ≡ true → alike (link_of b t) (link_of c u) ≡ true
 links_agree-alike b c t u h same = elim (or_cases (not (same_txn t u)) (alike (link_of b t) (link_of c u)) h) [
   | inl apart ↦ absurd (false≢true (sym (not_from_true (same_txn t u) same) ∙ apart))

@@ -23,7 +23,7 @@ number-below history j at u numbered h less =
     let same = ap (count_own u.origin.0) front in
     omega arith
 
--- a transaction with a number is in the history exactly where its number is counted
+-- a transaction with a number is in the history exactly if its number is counted
 abbrev HoldsCounted : List Txn → Type 0
 HoldsCounted history = (t : Txn) → 1 ≤ t.seq → holds t history ≡ nat_le t.seq (count_own t.origin.0 history)
 

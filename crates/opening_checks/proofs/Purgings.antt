@@ -21,7 +21,7 @@ coords-blamed : (servers : List ServerInit) (n : ℕ) (i : ServerInit) → bad_f
 coords-blamed servers n i good kept =
     ap (λ b. cond b (flush_value i) (cond (bad_purged servers n i) value.Purged (coord_value servers i))) good ∙ ap (λ b. cond b value.Purged (coord_value servers i)) kept
 
--- where all files are good, a coordinate is
+-- if all files are good, a coordinate is to blame
 pub coords-blamed_at : (servers : List ServerInit) (n : ℕ) (i : ServerInit) → FilesGood servers → slice_get servers n ≡ Some i → coord_value servers i ≡ value_at servers BadPlace n
 coords-blamed_at servers n i files there =
     let good = or_parts (bad_flushes i) (bad_purged servers n i) (files.each n i there) in

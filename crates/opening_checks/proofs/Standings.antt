@@ -1,4 +1,4 @@
--- Where a replica stands in its source's log.
+-- The positions of replicas in their sources' logs.
 use Rattle.std.proofs.Common.{◌≡◌, List, cond, refl, sym, ap, ◌∙◌, Some}
 use Rattle.std.specs.Prelude.{slice_get, unwrap_or}
 use Rattle.opening_checks.proofs.Prelude.{Coord, Log, ServerInit, ServerNo, at_server, at_source, bad_coords, bad_coords_in, bad_coords_under}
@@ -18,7 +18,7 @@ bad_coords-at servers i source m log exec read some there same at_exec at_read =
     ∙ sym (ap (at_server (λ s. bad_coords_in (log_at servers m.0) i.executed (exec_of servers i) (read_of servers i))) there)
     ∙ sym (ap (at_source servers (λ k s. bad_coords_in (log_at servers k) i.executed (exec_of servers i) (read_of servers i))) (ap number_of some))
 
--- where its log is a server's, whether the executed coordinate of its replica is out of place
+-- if its log is a server's, whether the executed coordinate of its replica is out of place
 pub bad_exec-at : (servers : List ServerInit) (i source : ServerInit) (m : ServerNo) (log : Log) → i.source ≡ Some m → slice_get servers m.0 ≡ Some source → log ≡ log_at servers m.0
     → bad_exec_in log i.executed (exec_in log i) ≡ bad_exec servers i
 bad_exec-at servers i source m log some there same =

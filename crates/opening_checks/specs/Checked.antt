@@ -28,7 +28,7 @@ opening_or o (Some f) = Err f
 abbrev pub checked : List ServerInit → Bool → Result Opened Found
 checked servers gtid = opening_or (opening servers gtid) (found_of servers (flaw_in servers))
 
--- the flaw that a fault names, and nothing at want of memory
+-- the flaw that a fault names, and nothing if memory runs out
 abbrev pub flaw_of : OpeningFault → Option Found
 flaw_of (Flawed flaw n value) = Some (record { flaw = flaw; server = n.0; value = value })
 flaw_of Memory = None

@@ -27,15 +27,15 @@ server_of (Some f) = Some f.0.0
 abbrev pub IsToBlame : List ServerInit → Flaw → Option (ServerNo × FlawedValue) → Type 0
 IsToBlame servers flaw first = IfSome first (λ f. f.1 ≡ value_at servers flaw f.0.0)
 
--- A success says that there is no flaw; a fault says which one there is, unless memory ran out.
+-- A success means that there is no flaw. A fault has the flaw, unless memory ran out.
 abbrev pub Tells : Result (Unit {0}) OpeningFault → Option Found → Type 0
 Tells result found = MatchResult result (λ _. found ≡ None) (λ e. MatchOption (flaw_of e) ⊤ (λ f. found ≡ Some f))
 
--- the first flaw of those that need no memory, which stand before the others
+-- the first flaw of those that need no memory, which are before the others
 abbrev pub plain_flaw_in : List ServerInit → Option (Flaw × ℕ)
 plain_flaw_in servers = first_flaw servers (take 5 (flaws servers))
 
--- the first flaw of those that are looked for in logs, which stand behind them
+-- the first flaw of those that are looked for in logs, which are after them
 abbrev pub place_flaw_in : List ServerInit → Option (Flaw × ℕ)
 place_flaw_in servers = first_flaw servers (take 2 (drop 5 (flaws servers)))
 

@@ -4,7 +4,7 @@ use Rattle.std.specs.Prelude.{◌≡◌, ℕ, ◌+◌, ◌-◌, ◌<◌, ◌≤�
 use Rattle.opening_checks.specs.Prelude.{ServerInit, Txn, count_own, history_at, links, list_all, listed_history, parts_of, same_before}
 use Rattle.opening_checks.specs.declared.kin_row.Link.{Link}
 
--- what a history says of a transaction beside its origin and number
+-- what a history has of a transaction beside its origin and number
 abbrev pub link_of : Option Txn → Txn → Link
 link_of before t = record { before = before; size = t.size }
 
@@ -12,7 +12,7 @@ link_of before t = record { before = before; size = t.size }
 abbrev pub alike : Link → Link → Bool
 alike k l = same_before k.before l.before && k.size == l.size
 
--- there is no link, or one that says the same
+-- there is no link, or an equal one
 abbrev pub agrees_where : Option Link → Link → Bool
 agrees_where None x = true
 agrees_where (Some e) x = alike e x
@@ -32,7 +32,7 @@ agrees_at rows l = agrees_in (row_at rows l.1.origin.0) l.1.seq (link_of l.0 l.1
 abbrev pub agrees_throughout : List (List Link) → List Txn → Bool
 agrees_throughout rows history = list_all (agrees_at rows) (links history)
 
--- the row with a link for this number, where it is the next one
+-- the row with a link for this number, if it is the next one
 abbrev pub extended : List Link → ℕ → Link → List Link
 extended row number x = if length row + 1 == number then row ++ x ∷ [] else row
 
@@ -64,8 +64,8 @@ pub record Lists (servers : List ServerInit) (m : ℕ) (history : List Txn) : Ty
   pub root : init.source ≡ None
   pub is : history ≡ listed_history (parts_of init)
 
--- There is a row for each server. Each link is of a history that one of the first n servers lists, and each transaction
--- of those histories has a link that says the same.
+-- There is a row for each server. Each link is of a history that one of the first n servers lists. Each transaction of
+-- those histories has an equal link.
 pub record IsTable (servers : List ServerInit) (n : ℕ) (rows : List (List Link)) : Type 0 where
   pub count : length rows ≡ length servers
   pub sound : (o k : ℕ) (e : Link) → slice_get (row_at rows o) k ≡ Some e → (m : ℕ) × (m < n) × (history : List Txn) × Lists servers m history × (j : ℕ) × StandsAt history j o k e

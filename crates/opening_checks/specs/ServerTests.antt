@@ -10,7 +10,7 @@ abbrev pub named_in : List ServerInit → Option ServerNo → Option ServerInit
 named_in servers None = None
 named_in servers (Some m) = slice_get servers m.0
 
--- what a test says of a server
+-- what a test answers for a server
 abbrev pub met_by : List ServerInit → Test → ℕ → ServerInit → Bool
 met_by servers test.BothGiven n i = both_given i
 met_by servers test.SourceNotLogging n i = source_not_logging servers i

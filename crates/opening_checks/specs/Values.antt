@@ -17,7 +17,7 @@ first_elsewhere servers i k (p ∷ ps) = if elsewhere servers i p then k else fi
 abbrev pub source_elsewhere : List ServerInit → ServerInit → Bool
 source_elsewhere servers i = of_source servers (λ m s. not (same_cluster i s)) i
 
--- the source, where that is of another cluster, and else the first such origin
+-- the source, if that is of another cluster, and else the first such origin
 abbrev pub cluster_value : List ServerInit → ServerInit → FlawedValue
 cluster_value servers i = if source_elsewhere servers i then value.Source else value.Origin (first_elsewhere servers i 0 (parts_of i))
 
@@ -37,7 +37,7 @@ bad_exec_in log executed exec = not (has_place_of (place log exec) executed)
 abbrev pub bad_exec : List ServerInit → ServerInit → Bool
 bad_exec servers i = of_source servers (λ m s. bad_exec_in (log_at servers m) i.executed (exec_of servers i)) i
 
--- where a replica of a server with this log has executed to, and what it has read
+-- the coordinates to which a replica of a server with this log has executed and read
 abbrev pub exec_in : Log → ServerInit → Coord
 exec_in log i = unwrap_or i.at (coord_after log i.executed)
 
@@ -53,11 +53,11 @@ coord_value_in log executed exec = if bad_exec_in log executed exec then value.A
 abbrev pub coord_value_under : Log → ServerInit → FlawedValue
 coord_value_under log i = coord_value_in log i.executed (exec_in log i)
 
--- the executed coordinate, where that is out of place in the source's log, and else the read one
+-- the executed coordinate, if that is out of place in the source's log, and else the read one
 abbrev pub coord_value : List ServerInit → ServerInit → FlawedValue
 coord_value servers i = if bad_exec servers i then value.At else value.Read
 
--- the bad flush points, else the first kept file, where that is none of the log's, and else a coordinate
+-- the bad flush points, else the first kept file, if that is none of the log's, and else a coordinate
 abbrev pub place_value : List ServerInit → ℕ → ServerInit → FlawedValue
 place_value servers n i = if bad_flushes i then flush_value i else (if bad_purged servers n i then value.Purged else coord_value servers i)
 

@@ -17,7 +17,7 @@ use crate::source_logs::no_logs;
 use openings::{Flaw, ServerInit};
 use std::alloc::Global;
 
-// A fault where a server has the flaw; this one is the first, and this value of it is to blame.
+// A fault if a server has the flaw; this one is the first, and this value of it is to blame.
 fn refuse(flaw: Flaw, first: Option<(ServerNo, FlawedValue)>) -> Result<(), OpeningFault>
     ensures { result ≡ without flaw first }
 {
@@ -27,7 +27,7 @@ fn refuse(flaw: Flaw, first: Option<(ServerNo, FlawedValue)>) -> Result<(), Open
     }
 }
 
-// A fault where a server meets the test.
+// A fault if a server meets the test.
 fn refuse_met(servers: &[ServerInit], test: Test) -> Result<(), OpeningFault>
     requires { InRange servers.now }
     ensures { result ≡ refused servers.now (flaw_by test) (first_met (met_by servers.now test) 0 servers.now) }
@@ -47,7 +47,7 @@ fn check_each(servers: &[ServerInit]) -> Result<(), OpeningFault>
     refuse_met(servers, Test::TooMany)
 }
 
-// The flaws of places in logs. Each log is laid once at most, and none is kept behind them.
+// The flaws of places in logs. Each log is laid once at most, and none is kept after them.
 fn check_places(alloc: Global, servers: &[ServerInit]) -> Result<(), OpeningFault>
     requires { InRange servers.now }
     ensures { Tells result (found_of servers.now (place_flaw_in servers.now)) }

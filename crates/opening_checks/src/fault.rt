@@ -33,13 +33,15 @@ pub enum FlawedValue {
 /// Why servers were refused.
 #[derive(Clone, Copy, Debug, PartialEq, Eq)]
 pub enum OpeningFault {
-    /// The first flaw, the first server that has it, and the value of that server that is to blame. This is the source
-    /// for `BothGiven`, `SourceNotLogging` and `Loop`, the executed count for `TooMany`, and the history for `NotKin`.
-    /// For `OtherCluster` it is the source, or the first origin of another cluster. For `BadPlace` it is all flush
-    /// points of a server without a log, the first flush point that falls or passes the count, the first kept file, or
-    /// the first coordinate out of place.
+    /// The first flaw, the first server that has it, and the value of that server that is to blame.
+    /// - `BothGiven`, `SourceNotLogging`, `Loop`: the source.
+    /// - `TooMany`: the executed count.
+    /// - `NotKin`: the history.
+    /// - `OtherCluster`: the source, or the first origin of another cluster.
+    /// - `BadPlace`: all flush points of a server without a log, or the first flush point that falls or passes the
+    ///   count. Else the first kept file, or the first coordinate out of place.
     Flawed(Flaw, ServerNo, FlawedValue),
-    /// Want of memory.
+    /// Out of memory.
     Memory,
 }
 

@@ -30,7 +30,7 @@ fn first_bad_flush(bound: u64, counts: &[u64]) -> Option<usize>
     None
 }
 
-// The first bad flush point, or all of them where the server has no log.
+// The first bad flush point, or all of them if the server has no log.
 fn bad_flush(init: &ServerInit) -> Option<FlawedValue>
     requires { transactions (parts_of init.now) < 2 ^ 64 }
     ensures met { is_some result ≡ bad_flushes init.now }
@@ -47,7 +47,7 @@ fn bad_flush(init: &ServerInit) -> Option<FlawedValue>
     }
 }
 
-// Whether the first kept file of a server is none of its log's. The log is laid only where files are purged.
+// Whether the first kept file of a server is none of its log's. The log is laid only if files are purged.
 fn is_badly_purged(
     alloc: Global,
     servers: &[ServerInit],
@@ -75,7 +75,7 @@ fn is_badly_purged(
     Ok(is_passed)
 }
 
-// The bad flush points of a server, and else its first kept file, where that is none of its log's.
+// The bad flush points of a server, and else its first kept file, if that is none of its log's.
 fn bad_files(
     alloc: Global,
     servers: &[ServerInit],

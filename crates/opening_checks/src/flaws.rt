@@ -141,7 +141,7 @@ pub(crate) fn flaw_by(test: Test) -> Flaw
     }
 }
 
-// The value that is to blame, where a server meets a test.
+// The value that is to blame, if a server meets a test.
 fn met(servers: &[ServerInit], n: u32, init: &ServerInit, test: Test) -> Option<FlawedValue>
     requires parts { PartsInRange servers.now }
     requires at { slice_get servers.now n ≡ Some init.now }

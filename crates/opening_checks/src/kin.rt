@@ -1,4 +1,4 @@
-//! Whether listed histories are kin.
+//! Whether listed histories agree.
 
 ghost use Rattle.std.specs.Prelude.{◌≡◌, ◌+◌, ◌<◌, ◌≤◌, [], All, IfOk, None, Some, true, length, replicate, slice_get};
 ghost use Rattle.opening_checks.specs.Prelude.{NotKin, PartsInRange, count_own, first_met, history_at, is_kin, links, list_all, listed_history};
@@ -110,7 +110,7 @@ fn empty_rows(alloc: Global, count: usize) -> Result<Vec<Row>, Memory>
     Ok(rows)
 }
 
-// Whether what server n lists is kin to what the servers before it list. If so, it joins the table.
+// Whether what server n lists agrees with what the servers before it list. If so, it joins the table.
 fn take_root(
     alloc: Global,
     servers: &[ServerInit],
@@ -136,7 +136,7 @@ fn take_root(
     Ok(true)
 }
 
-// The first server whose listed history isn't kin to those before it. The history is to blame.
+// The first server whose listed history doesn't agree with those before it. The history is to blame.
 pub(crate) fn first_not_kin(
     alloc: Global,
     servers: &[ServerInit],

@@ -7,7 +7,7 @@ use crate::orch_base::{Memory, Txn};
 use std::alloc::Global;
 use std::marker::Model;
 
-/// What a history says of a transaction beside its origin and number: the transaction before it, if there is one, and
+/// What a history has of a transaction beside its origin and number: the transaction before it, if there is one, and
 /// its size.
 #[derive(Clone, Copy)]
 pub(crate) struct Link {
@@ -53,7 +53,7 @@ impl Row {
         }
     }
 
-    /// Whether the transaction of this number has no link here, or one that says the same.
+    /// Whether the transaction of this number has no link here, or an equal one.
     pub(crate) fn agrees(&self, number: u64, link: Link) -> bool
         requires { 1 ≤ number }
         ensures { result ≡ agrees_in self.now number link }

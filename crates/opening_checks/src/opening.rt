@@ -19,9 +19,11 @@ pub trait CheckedOpening: Sized {
     ghost check_gives: { List ServerInit → Bool → Result Self OpeningFault → Type 0 };
 
     /// The opening of these servers, whose numbers are in their ranges, if they have no flaw. Each flaw is looked for
-    /// at all servers before the next one. The time is that of the servers, squared, of the servers times the listed
-    /// transactions, and of the flush points; the log of each source, and of each server with purged files, is laid
-    /// once. For that these logs are kept until all places are looked at.
+    /// at all servers before the next one.
+    ///
+    /// The time is that of the servers, squared, of the servers times the listed transactions, and of the flush points.
+    /// The log of each source, and of each server with purged files, is laid once. For that these logs are kept until
+    /// all places are looked at.
     fn check(alloc: Global, servers: Vec<ServerInit>, gtid: bool) -> Result<Self, OpeningFault>
         requires { may_check servers.items gtid }
         ensures { check_gives servers.items gtid result };

@@ -1,4 +1,4 @@
-//! Where replicas stand in their sources' logs.
+//! The positions of replicas in their sources' logs.
 
 ghost use Rattle.std.specs.Prelude.{◌≡◌, ◌≤◌, IfOk, IfSome, is_some, length};
 ghost use Rattle.opening_checks.specs.Prelude.{BadPlace, PartsInRange, bad_coords, bad_coords_in, coord_after, first_met};
@@ -14,7 +14,7 @@ use binlog_coords::{Coord, LogIndex};
 use openings::ServerInit;
 use std::alloc::Global;
 
-// Where the first `k` transactions of the log end, or its beginning, where it has fewer.
+// The end of the first `k` transactions of the log, or its start if it has fewer.
 fn coord_after(log: &LogIndex, k: u64) -> Coord
     ensures { result ≡ coord_after log.now.log k }
 {
@@ -32,8 +32,8 @@ fn is_bad_exec(log: &LogIndex, executed: u64, exec: Coord) -> bool
     log.place(exec) != Some(executed)
 }
 
-// The executed coordinate, where it hasn't the place of what was executed, or the read one, where it has none or stands
-// before it.
+// The executed coordinate, if it hasn't the place of what was executed, or the read one, if it has none or is before
+// it.
 fn bad_coord_in(log: &LogIndex, executed: u64, exec: Coord, read: Coord) -> Option<FlawedValue>
     ensures met { is_some result ≡ bad_coords_in log.now.log executed exec read }
     ensures value { IfSome result (λ v. v ≡ coord_value_in log.now.log executed exec) }
@@ -84,7 +84,7 @@ fn bad_coord(
     Ok(bad)
 }
 
-// The first replica that has no place in its source's log, where all files are in order, and the coordinate that is to
+// The first replica that has no place in its source's log, if all files are in order, and the coordinate that is to
 // blame.
 pub(crate) fn first_bad_coords(
     alloc: Global,

@@ -21,7 +21,7 @@ pub(crate) fn no_logs(alloc: Global, servers: usize) -> Result<Vec<Option<LogInd
     Ok(logs)
 }
 
-// The log of a server, where its flush points are in order.
+// The log of a server, if its flush points are in order.
 fn log_at(
     alloc: Global,
     servers: &[ServerInit],
@@ -39,7 +39,7 @@ fn log_at(
     laid_log(alloc, init, &history, history.len() as u64, flushes)
 }
 
-/// Takes the log of a server, where its flush points are in order, out of the table. It is laid, if it isn't there.
+/// Takes the log of a server, if its flush points are in order, out of the table. It is laid, if it isn't there.
 pub(crate) fn take_log(
     alloc: Global,
     servers: &[ServerInit],

@@ -1,4 +1,4 @@
--- The histories of a sound opening are kin.
+-- The histories of a `Sound` opening agree.
 use Rattle.std.proofs.Common.{◌≡◌, ℕ, ◌+◌, ◌<◌, ◌≤◌, true, List, [], ◌∷◌, ◌++◌, length, take, refl, sym, ◌∙◌, ap, subst, inl, inr, Option, Some, None, arith, zero, suc, add-one}
 use Rattle.std.specs.Prelude.{slice_get, ◌==◌, ◌&&◌, ◌||◌, not}
 use Rattle.opening_laws.proofs.Prelude.{Grounded, IsKin, IsNumbered, IsSound, Root, ServerInit, ServerNo, Txn, Under, agree-get, and_parts, cases_eq}
@@ -50,7 +50,7 @@ links-at before (t ∷ ts) zero x h = ap (λ y. Some (before, y)) (same_Some t x
 links-at before (t ∷ ts) (suc zero) x h = links-at (Some t) ts zero x h
 links-at before (t ∷ ts) (suc (suc i)) x h = links-at (Some t) ts (suc i) x h
 
--- a transaction that stands in both follows the same one in both, and is whole the same
+-- a transaction that is in both follows the same one in both, and is whole the same
 record IsLinked (a b : List Txn) (i j : ℕ) (x y : Txn) : Type 0 where
   before : same_before (before_at None a i) (before_at None b j) ≡ true
   size : x.size ≡ y.size
@@ -99,7 +99,7 @@ agree-alike a b agree (suc i) (suc j) x y at_i at_j same =
     let front : take (suc i) a ≡ take (suc j) b = agree-alike a b agree i j last_a.0 last_b.0 last_a.1 last_b.1 last_same in
     take-suc a (suc i) x at_i ∙ ap (λ xs. xs ++ x ∷ []) front ∙ ap (λ z. take (suc j) b ++ z ∷ []) (same_whole x y same link.size) ∙ sym (take-suc b (suc j) y at_j)
 
--- what a server has executed is a beginning of what a server without a source lists
+-- what a server has executed is a prefix of what a server without a source lists
 record IsFront (servers : List ServerInit) (history : List Txn) : Type 0 where
   root : ℕ
   init : ServerInit
@@ -108,7 +108,7 @@ record IsFront (servers : List ServerInit) (history : List Txn) : Type 0 where
   top : init.source ≡ None
   front : history ≡ take count (listed_history (parts_of init))
 
--- a transaction that a server has executed stands at the same place there
+-- a transaction that a server has executed is at the same place there
 record Stands (servers : List ServerInit) (history : List Txn) (k : ℕ) (t : Txn) : Type 0 where
   root : ℕ
   init : ServerInit
@@ -180,7 +180,7 @@ module _ (servers : List ServerInit) (sound : IsSound servers) where
           cc
       go (Some i) at = by (fronts n i (sound.ends n) at)
 
-  -- where two histories hold the same transaction they are equal up to and including it
+  -- if two histories have the same transaction, they are equal up to and including it
   histories-alike : (a b i j : ℕ) (x y : Txn) → slice_get (history_at servers a) i ≡ Some x → slice_get (history_at servers b) j ≡ Some y → same_txn x y ≡ true
       → take (i + 1) (history_at servers a) ≡ take (j + 1) (history_at servers b)
   histories-alike a b i j x y at_a at_b same =
@@ -213,6 +213,6 @@ module _ (servers : List ServerInit) (sound : IsSound servers) where
       let same = same_from_push (take held.0 (history_at servers x.origin.0)) (take i (history_at servers a)) held.1 x pushed in
       (held.0, held.2 ∙ ap Some same.1)
 
-  -- the histories of a sound opening are kin
+  -- the histories of a `Sound` opening agree
   pub IsKin-opening : IsKin (history_at servers)
   IsKin-opening = record { alike = histories-alike; numbered = history_numbered servers; home = histories-home }

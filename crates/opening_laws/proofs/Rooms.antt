@@ -1,4 +1,4 @@
--- No history of a quiet run from an opening gets full.
+-- No history of a run from an opening gets full without errant writes.
 use Rattle.std.proofs.Common.{◌≡◌, ℕ, ◌+◌, ◌≤◌, length, take, refl, sym, subst, Some, arith, count_by, sum_by}
 use Rattle.std.specs.Prelude.{slice_get, List}
 use Rattle.opening_laws.proofs.Prelude.{AllAllowed, AllFit, AllJoinWell, Exchange, Fits, Fitting, HasFiles, IsChecked, IsNotFull, IsQuiet}

@@ -12,19 +12,19 @@ ghost use Rattle.world_openings.specs.Opening.{opened_world};
 ghost use Rattle.world_openings.specs.Room.{room_for, LeavesFiles};
 ghost use Rattle.replication_laws.specs.Room.{HasFiles, IsNotFull};
 
-/// The world that a checked opening opens is safe, so every server with a source, attached or detached, stands in the
-/// log of its source, and no errant write is counted in it.
+/// The world that a checked opening opens is `Safe`. So every server with a source, attached or detached, is in the log
+/// of its source, and no errant write is counted in it.
 pub fn openings_are_safe()
     ensures safe { (o : Opened) (room flushes : ℕ) → IsChecked o → Safe (opened_world o room flushes) }
     ensures placed { (o : Opened) (room flushes : ℕ) → IsChecked o → Placed (opened_world o room flushes) }
     ensures quiet { (o : Opened) (room flushes : ℕ) → IsQuiet (opened_world o room flushes) }
 {}
 
-/// From the world of a checked opening, with room at each server for all transactions that the opening lists and one
-/// more for each write of the run, no exchange of the run finds a history full where the state before it is quiet.
-/// Where each server of a world has room for as many new files as a run asks for, none of them finds a log full, in any
-/// run. An opened server has the room that its own flushes leave: with room for them and for the new files of a run,
-/// none of the run finds a log full.
+/// Start from the world of a checked opening, with room at each server for all transactions that the opening lists and
+/// one more for each write of the run. Then no exchange of the run finds a history full if the state before it has no
+/// errant writes. If each server of a world has room for as many new files as a run asks for, none of them finds a log
+/// full, in any run. An opened server has the room that its own flushes leave. With room for them and for the new files
+/// of a run, none of the run finds a log full.
 pub fn full_never_comes()
     ensures histories { (o : Opened) (room flushes : ℕ) (es : List Exchange) (k : ℕ) (e : Exchange) → IsChecked o → AllAllowed (opened_world o room flushes) es → AllJoinWell (opened_world o room flushes) es → room_for o es ≤ room → slice_get es k ≡ Some e → IsQuiet (run (opened_world o room flushes) (take k es)) → IsNotFull (run (opened_world o room flushes) (take k es)) e }
     ensures files { (w : World) (es : List Exchange) (k n : ℕ) → HasFiles (count_by is_rotate es) w → slice_get es k ≡ Some (Rotate n) → (rotate (run w (take k es)) n).0 ≢ rotating.Full }

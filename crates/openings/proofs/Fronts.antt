@@ -19,14 +19,14 @@ slice_get-take (z ∷ xs) zero i x h = cc
 slice_get-take (z ∷ xs) (suc n) zero x h = h
 slice_get-take (z ∷ xs) (suc n) (suc i) x h = slice_get-take xs n i x h
 
--- an element of a front stands within it
+-- an element of a prefix is within it
 pub slice_get-take_within : {X : Type 0} (xs : List X) (n i : ℕ) (x : X) → slice_get (take n xs) i ≡ Some x → i < n
 slice_get-take_within xs zero i x h = cc
 slice_get-take_within [] (suc n) i x h = cc
 slice_get-take_within (z ∷ xs) (suc n) zero x h = omega arith
 slice_get-take_within (z ∷ xs) (suc n) (suc i) x h = let within : i < n = slice_get-take_within xs n i x h in omega arith
 
--- a front of a list has what the list has there
+-- a prefix of a list has what the list has there
 pub slice_get-front : {X : Type 0} (xs : List X) (n i : ℕ) (x : X) → i < n → slice_get xs i ≡ Some x → slice_get (take n xs) i ≡ Some x
 slice_get-front [] n i x h e = cc
 slice_get-front (y ∷ ys) zero i x h e = absurd (omega arith)

@@ -19,7 +19,7 @@ length-joined_by done (x ∷ xs) =
     let rest = length-joined_by (done ++ next_txn done x ∷ []) xs in
     let longer = length-append done (next_txn done x ∷ []) in omega arith
 
--- what was done stands in front
+-- what was done comes first
 pub joined_by-front : (done : List Txn) (xs : List (ServerNo × ℕ)) → take (length done) (joined_by done xs) ≡ done
 joined_by-front done [] = take_all (length done) done (omega arith)
 joined_by-front done (x ∷ xs) =
@@ -115,7 +115,7 @@ Adds-more x taken so_far before now counts seq more adds is =
 pub Adds-all : (x : ServerNo × ℕ) (taken : ℕ) (before now : List Txn) (counts : List ℕ) → Adds x taken taken before now counts → now ≡ joined_by before (replicate taken x)
 Adds-all x taken before now counts adds = let none : taken - taken ≡ 0 = omega arith in sym (ap (λ k. joined_by now (replicate k x)) none) ∙ adds.rest
 
--- a front of two joined lists
+-- a prefix of two joined lists
 take-append : {X : Type 0} (k : ℕ) (xs ys : List X) → take k (xs ++ ys) ≡ take k xs ++ take (k - length xs) ys
 take-append zero [] ys = refl
 take-append zero (x ∷ xs) ys = let e : 0 - suc (length xs) ≡ 0 = omega arith in rw e refl
@@ -152,7 +152,7 @@ taken-part parts count at p now k here is =
     ∙ ap (λ xs. xs ++ take (k - length (replicate p.count (pair_of p))) (singles (drop (at + 1) parts))) (take-replicate_min k p.count (pair_of p))
     ∙ ap (λ m. replicate (min p.count k) (pair_of p) ++ take (k - m) (singles (drop (at + 1) parts))) len
 
--- they fit where all do
+-- they fit if all do
 pub Takes-fits : (parts : List Part) (count at : ℕ) (p : Part) (now : List Txn) (counts : List ℕ) → drop at parts ≡ p ∷ drop (at + 1) parts → Takes parts count at now counts
     → length now + min p.count (count - length now) ≤ length (joined_by [] (take count (singles parts)))
 Takes-fits parts count at p now counts here takes =

@@ -74,7 +74,7 @@ later_than n m h apart = elim (cases_order n m) [
   | inr (inr more) ↦ omega arith
 ]
 
--- nothing more stands at this count
+-- nothing more is at this count
 pub Flushes-end : (flushes : List ℕ) (next count at : ℕ) (before now : Log) → (at < length flushes → get_or flushes at 0 ≡ count → ⊥) → Flushes flushes next count at before now
     → (now ≡ flushed_at (drop next flushes) count before) × (rises_from (count + 1) (drop at flushes) ≡ true)
 Flushes-end flushes next count at before now apart f = elim (cases_lt at (length flushes)) [
@@ -99,7 +99,7 @@ laid_after-same xs ys count log (t ∷ ts) same =
     ap (λ l. laid_after xs (count + 1) (push l t.size) ts) (ap (λ n. flushed_times n log) (same count (omega arith)))
     ∙ laid_after-same xs ys (count + 1) (push (flushed_at ys count log) t.size) ts (λ j h. same j (omega arith))
 
--- one transaction more, behind the flush points at this count
+-- one transaction more, after the flush points at this count
 pub laid_after-on : (xs ys : List ℕ) (count : ℕ) (log now : Log) (t : Txn) (ts : List Txn) → now ≡ flushed_at xs count log → SameBehind count xs ys
     → laid_after ys (count + 1) (push now t.size) ts ≡ laid_after xs count log (t ∷ ts)
 laid_after-on xs ys count log now t ts is behind =
@@ -124,7 +124,7 @@ within-from_good bound least (x ∷ xs) h =
     each here rest zero d l = here
     each here rest (suc k) d l = rest k d (omega arith)
 
--- rising counts above a bound are none, where all are within it
+-- rising counts above a bound are none, if all are within it
 pub none_behind : (bound : ℕ) (xs : List ℕ) → rises_from (bound + 1) xs ≡ true → All (λ k. k ≤ bound) xs → length xs ≡ 0
 none_behind bound [] rises all = refl
 none_behind bound (x ∷ xs) rises all =
@@ -155,7 +155,7 @@ Lays-all flushes history next before now flushed lays is =
     let none : drop (length history) history ≡ no_more = drop_all (length history) history (omega arith) in
     is ∙ ap (laid_after (drop next flushes) (length history) now) (sym none) ∙ lays.log
 
--- all flush points are done where none is behind the history
+-- all flush points are done if none is after the history
 pub all_flushed : (flushes : List ℕ) (count at : ℕ) → at ≤ length flushes → rises_from (count + 1) (drop at flushes) ≡ true → All (λ k. k ≤ count) flushes → at ≡ length flushes
 all_flushed flushes count at within rises all =
     let rest : All (λ k. k ≤ count) (drop at flushes) = λ k d l. let size = length-drop at flushes in let inside : at + k < length flushes = omega arith in
@@ -171,7 +171,7 @@ good_silent i silent good =
     let none : nat_lt 0 (length i.flushes) ≡ false = sym (ap (λ b. cond b (falls_or_passes (count_of i) 0 i.flushes) (nat_lt 0 (length i.flushes))) silent) ∙ good in
     let h = ltb-false 0 (length i.flushes) none in omega arith
 
--- flush points that are not bad rise, and none is behind the history
+-- flush points that are not bad rise, and none is after the history
 pub good-points : (i : ServerInit) → bad_flushes i ≡ false → (rises_from 0 i.flushes ≡ true) × All (λ k. k ≤ count_of i) i.flushes
 good-points i good = elim (cases_Bool i.settings.logs) [
   | inl logs ↦ (rises-from_good (count_of i) 0 i.flushes (good_logged i logs good), within-from_good (count_of i) 0 i.flushes (good_logged i logs good))
@@ -182,7 +182,7 @@ good-points i good = elim (cases_Bool i.settings.logs) [
     no_points [] none = (refl, λ k d l. absurd (omega arith))
     no_points (x ∷ xs) none = absurd (omega arith)
 
--- so many transactions of the history stand in the log, then one more, and at the end all
+-- so many transactions of the history are in the log, then one more, and at the end all
 pub txns-count : (history before now : List Txn) (count : ℕ) → count < length history → now ≡ before ++ take count history → length now ≡ length before + count
 txns-count history before now count within is =
     let size = length-take-le count history (omega arith) in

@@ -1,4 +1,4 @@
--- What stands at a place of a longer list.
+-- What is at a place of a longer list.
 use Rattle.std.proofs.Common.{◌≡◌, ℕ, ◌+◌, ◌<◌, List, [], ◌∷◌, ◌++◌, length, take, replicate, refl, sym, ap, ◌∙◌, inl, inr, ◌⊎◌, Some, arith, suc, zero, subst}
 use Rattle.std.specs.Prelude.{slice_get}
 use Rattle.openings.proofs.Prelude.{cases_order, same_Some}
@@ -19,7 +19,7 @@ pub get-push_new : {X : Type 0} (xs : List X) (y : X) → slice_get (xs ++ y ∷
 get-push_new [] y = refl
 get-push_new (x ∷ xs) y = get-push_new xs y
 
--- an element of a front is one of the list
+-- an element of a prefix is one of the list
 pub get-take : {X : Type 0} (n : ℕ) (xs : List X) (z : X) (k : ℕ) → slice_get (take n xs) k ≡ Some z → (k < n) × (slice_get xs k ≡ Some z)
 get-take zero [] z k h = absurd (no_item k z h)
   where

@@ -1,4 +1,4 @@
--- Where no number comes back to itself, each chain ends.
+-- If no number comes back to itself, each chain ends.
 use Rattle.std.proofs.Common.{◌≡◌, ℕ, ◌<◌, ◌≤◌, true, false, List, [], ◌∷◌, length, refl, sym, ◌∙◌, ap, subst, inl, inr, ◌⊎◌, Option, Some, None, arith, zero, suc, ◌||◌, eqb}
 use Rattle.std.specs.Prelude.{◌==◌}
 use Rattle.openings.proofs.Prelude.{AllByRecursion, Grounded, IsDistinct, Root, Under, eq-eqb, eqb-true, follow_on, is_reached, is_reached_on}
@@ -13,7 +13,7 @@ abbrev walk : (ℕ → Option ℕ) → ℕ → ℕ → List ℕ
 walk up zero n = n ∷ []
 walk up (suc steps) n = n ∷ walk_on (λ m. walk up steps m) (up n)
 
--- who is met after the beginning is reached
+-- who is met after the start is reached
 met-reached : (up : ℕ → Option ℕ) (q k n : ℕ) → list_any (eqb q) (walk up k n) ≡ true → (n == q || is_reached up k q n) ≡ true
 met-reached up q zero n h =
     elim (or_cases (eqb q n) false h) [ inl same ↦ or_left (n == q) false (eq-eqb n q (sym (eqb-true q n same))) | inr more ↦ cc ]
@@ -123,7 +123,7 @@ walk-stays up (suc k) n ends = go (up n) ends (λ m. walk-stays up k m)
     go None ends further = refl
     go (Some m) ends further = further m ends
 
--- a walk from one above ends where the walk from below it does
+-- a walk from one above ends at the server at which the walk from below it does
 pub same-end : (up : ℕ → Option ℕ) (bound : ℕ) → IsLoopless up bound → (n m : ℕ) → n < bound → up n ≡ Some m → reached_from up bound n ≡ reached_from up bound m
 same-end up zero loopless n m lt e = absurd (omega arith)
 same-end up (suc k) loopless n m lt e =

@@ -1,4 +1,4 @@
--- An opening without a flaw is sound.
+-- An opening without a flaw is `Sound`.
 use Rattle.std.proofs.Common.{◌≡◌, ℕ, ◌+◌, ◌<◌, ◌≤◌, Bool, true, false, List, [], ◌∷◌, length, take, refl, sym, ◌∙◌, ap, subst, inl, inr, Option, Some, None, arith, zero, suc, ◌||◌, ◌&&◌, cond}
 use Rattle.std.specs.Prelude.{slice_get, is_some, is_none, ◌==◌, nat_lt, not, get_or}
 use Rattle.openings.proofs.Prelude.{Coord, Flaw, Grounded, IsChecked, IsListed, IsSound, IsUnder, Log, Opened, Part, Root, ServerInit, ServerNo, Txn}
@@ -65,7 +65,7 @@ flawless servers none = record {
   kin = clear servers none 7 _ refl;
 }
 
--- what a test says of a server's source
+-- what a test finds of a server's source
 of_source-is : (servers : List ServerInit) (test : ℕ → ServerInit → Bool) (i s : ServerInit) (m : ServerNo) → i.source ≡ Some m → slice_get servers m.0 ≡ Some s → of_source servers test i ≡ test m.0 s
 of_source-is servers test i s m from there = ap (λ o. at_source servers test (number_of o)) from ∙ ap (at_server (test m.0)) there
 
@@ -224,7 +224,7 @@ module _ (o : Opened) (listed : IsListed o) (fair : IsFlawless o.servers) where
       ∙ sym (take-take i.executed (count_of source.source) above source.executed)
       ∙ ap (take i.executed) (sym (history-is m.0 source.source source.there))
 
-  -- what a server without a source lists is kin
+  -- what a server without a source lists agrees with the others
   kin : (n : ℕ) (i : ServerInit) → slice_get o.servers n ≡ Some i → i.source ≡ None → is_kin o.servers n (listed_history (parts_of i)) ≡ true
   kin n i at from =
       not-false (is_kin o.servers n (listed_history (parts_of i))) (ap (λ (x : Option ServerNo). is_none x && not (is_kin o.servers n (listed_history (parts_of i)))) (sym from) ∙ fair.kin n i at)
@@ -290,7 +290,7 @@ module _ (o : Opened) (listed : IsListed o) (fair : IsFlawless o.servers) where
     kept = kept;
   }
 
--- an opening without a flaw is sound
+-- an opening without a flaw is `Sound`
 pub sound : (o : Opened) → IsListed o → flaw_in o.servers ≡ None → IsSound o.servers
 sound o listed none = sound-flawless o listed (flawless o.servers none)
 

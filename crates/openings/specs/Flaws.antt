@@ -12,7 +12,7 @@ use Rattle.openings.specs.Servers.{number_of, sources, parts_of, count_of, log_a
 use Rattle.openings.specs.Kin.{is_kin}
 pub use Rattle.binlog_coords.specs.OrchBase.Chains.{is_reached, is_reached_on}
 
--- a test of the server that stands at a number
+-- a test of the server that is at a number
 abbrev pub at_server : (ServerInit → Bool) → Option ServerInit → Bool
 at_server test None = false
 at_server test (Some i) = test i
@@ -67,7 +67,7 @@ abbrev pub has_place_of : Option ℕ → ℕ → Bool
 has_place_of None k = false
 has_place_of (Some j) k = j == k
 
--- the executed coordinate hasn't the place of what was executed, or the read one has none or stands before it
+-- the executed coordinate hasn't the place of what was executed, or the read one has none or is before it
 abbrev pub bad_coords_in : Log → ℕ → Coord → Coord → Bool
 bad_coords_in log executed exec read = not (has_place_of (place log exec) executed) || is_none (place log read) || is_before read exec
 

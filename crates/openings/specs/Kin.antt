@@ -1,5 +1,5 @@
--- When listed histories are kin: in all of them a transaction follows the same transaction, or stands first, and has
--- the same size; and its origin's history has it.
+-- Listed histories agree. In all of them a transaction follows the same transaction, or comes first, and has the same
+-- size. Its origin's history has it.
 use Rattle.std.specs.Prelude.{ℕ, ◌==◌, ◌&&◌, ◌||◌, not, Bool, true, false, List, [], ◌∷◌, Option, Some, None, is_some, slice_get, zero, suc}
 use Rattle.std.specs.List.{list_all}
 use Rattle.binlog_coords.specs.OrchBase.declared.server.Txn.{Txn}
@@ -21,7 +21,7 @@ same_before None None = true
 same_before (Some x) (Some y) = same_txn x y
 same_before _ _ = false
 
--- two links are of different transactions, or of one size behind the same transaction
+-- two links are of different transactions, or of one size after the same transaction
 abbrev pub links_agree : Option Txn × Txn → Option Txn × Txn → Bool
 links_agree k l = not (same_txn k.1 l.1) || (same_before k.0 l.0 && k.1.size == l.1.size)
 

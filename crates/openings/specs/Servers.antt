@@ -1,4 +1,4 @@
--- What each server has executed at an opening, and where it stands.
+-- What each server has executed at an opening, and its position.
 use Rattle.std.specs.Prelude.{ℕ, if◌then◌else◌, List, [], take, Option, Some, None, unwrap_or, slice_get, length, zero, suc}
 use Rattle.binlog_coords.specs.declared.Coord.{Coord}
 use Rattle.binlog_coords.specs.Log.{Log, opened, file_start, coord_after}
@@ -54,8 +54,8 @@ abbrev pub count_at : Option ServerInit → ℕ
 count_at None = 0
 count_at (Some i) = count_of i
 
--- What a server has executed: the first transactions of the history at the top of its sources, as many as it counts.
--- No server counts more than its source in a sound opening, so these are the first of its source's.
+-- What a server has executed: the first transactions of the history at the top of its sources, as many as it counts. In
+-- a `Sound` opening no server counts more than its source, so these are the first of its source's.
 abbrev pub history_at : List ServerInit → ℕ → List Txn
 history_at servers n = take (count_at (slice_get servers n)) (listed_history (parts_at (slice_get servers (root_of servers n))))
 
@@ -63,7 +63,7 @@ history_at servers n = take (count_at (slice_get servers n)) (listed_history (pa
 abbrev pub log_by : ServerInit → List Txn → Log
 log_by i history = if i.settings.logs then laid i.settings.limit i.flushes history else opened i.settings.limit
 
--- the transactions that stand in it
+-- the transactions that are in it
 abbrev pub logged_by : ServerInit → List Txn → List Txn
 logged_by i history = if i.settings.logs then history else []
 
@@ -74,7 +74,7 @@ log_in servers n (Some i) = log_by i (history_at servers n)
 abbrev pub log_at : List ServerInit → ℕ → Log
 log_at servers n = log_in servers n (slice_get servers n)
 
--- where a server stands in its source's log: its executed coordinate
+-- a server's position in its source's log: its executed coordinate
 abbrev pub exec_under : List ServerInit → ServerInit → Option ServerNo → Coord
 exec_under servers i None = file_start 1
 exec_under servers i (Some m) = unwrap_or i.at (coord_after (log_at servers m.0) i.executed)

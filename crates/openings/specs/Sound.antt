@@ -21,9 +21,9 @@ pub record IsUnder (servers : List ServerInit) (m : ℕ) (i : ServerInit) : Type
   pub read_place : (k : ℕ) × (place (log_at servers m) (read_of servers i) ≡ Some k)
   pub order : is_at_or_before (exec_of servers i) (read_of servers i) ≡ true
 
--- Each server with a source stands under it, and no chain of sources comes back. What a server executed is the history
--- that is listed of it, or the first of its source's transactions, as many as it counts. Listed histories agree with
--- one another and with the origins of their transactions.
+-- Each server with a source is below it, and no chain of sources comes back. What a server executed is the history that
+-- is listed of it, or the first of its source's transactions, as many as it counts. Listed histories agree with one
+-- another and with the origins of their transactions.
 pub record IsSound (servers : List ServerInit) : Type 0 where
   pub alone : (n : ℕ) (i : ServerInit) (m : ServerNo) → slice_get servers n ≡ Some i → i.source ≡ Some m → i.history ≡ None
   pub under : (n : ℕ) (i : ServerInit) (m : ServerNo) → slice_get servers n ≡ Some i → i.source ≡ Some m → IsUnder servers m.0 i

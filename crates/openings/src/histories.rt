@@ -18,7 +18,7 @@ pub fn source_no(servers: &[ServerInit], n: u32) -> Option<u32>
     Some(init.source?.0)
 }
 
-// The server at the top of the sources above one; each is followed once at most.
+// The server at the top of the sources above one. Each is followed once at most.
 #[tactic(auto, using(crate::proofs::Chains::root_steps))]
 fn root_of(servers: &[ServerInit], n: u32) -> u32
     ensures { result ≡ root_of servers.now n }
@@ -133,7 +133,7 @@ fn history_of(
 }
 
 /// What a server has executed, in order, with room for `room` transactions: at most 4,000,000. The time is that of the
-/// servers, the parts and the transactions. `Err` is want of memory.
+/// servers, the parts and the transactions. `Err` means out of memory.
 pub fn history_at(
     alloc: Global,
     servers: &[ServerInit],
@@ -153,7 +153,7 @@ pub fn history_at(
 }
 
 /// What a server has executed, in order. The time is that of the servers and of what is listed at the top of its
-/// sources. `Err` is want of memory.
+/// sources. `Err` means out of memory.
 pub fn executed_by(alloc: Global, servers: &[ServerInit], n: ServerNo) -> Result<Vec<Txn>, Memory>
     requires { PartsInRange servers.now }
     ensures history { IfOk result (λ v. v.items ≡ history_at servers.now n.0) }
@@ -163,7 +163,7 @@ pub fn executed_by(alloc: Global, servers: &[ServerInit], n: ServerNo) -> Result
     history_at(alloc, servers, n, listed)
 }
 
-/// All that these parts list, of so many servers. `Err` is want of memory.
+/// All that these parts list, of so many servers. `Err` means out of memory.
 pub fn listed_history(alloc: Global, servers: usize, parts: &[Part]) -> Result<Vec<Txn>, Memory>
     requires parts { All (IsPart servers) parts.now }
     requires few { transactions parts.now ≤ 4000000 }

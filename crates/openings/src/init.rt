@@ -17,14 +17,14 @@ pub struct ServerInit {
     pub desk: bool,
     /// Whether the server reaches its source.
     pub feed: bool,
-    /// What a server without a source has executed, where the scenario lists it.
+    /// What a server without a source has executed, if the scenario lists it.
     pub history: Option<Parts>,
     pub source: Option<ServerNo>,
     /// How many of its source's transactions the server has executed, from the first on.
     pub executed: u64,
-    /// The executed coordinate in the source's log; where it isn't given, the end of what was executed.
+    /// The executed coordinate in the source's log. If it isn't given, the end of what was executed.
     pub at: Option<Coord>,
-    /// The read coordinate; where it isn't given, the executed one.
+    /// The read coordinate. If it isn't given, the executed one.
     pub read: Option<Coord>,
     /// Whether the receiver is on.
     pub io: bool,
@@ -90,7 +90,7 @@ impl ServerInit {
     ghost use Rattle.std.specs.Prelude.{◌≡◌, ◌↔◌, IfOk, IsTrue};
     ghost use Rattle.openings.specs.SameInits.{IsSameServer, IsSameReplica};
 
-    /// The same server once more.
+    /// The same server once more. `Err` means out of memory.
     pub fn copy(&self, alloc: Global) -> Result<ServerInit, Memory>
         ensures { IfOk result (λ i. i ≡ self.now) }
     {

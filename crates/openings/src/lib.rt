@@ -1,4 +1,4 @@
-//! The servers as a scenario gives them, before any turn: what each has executed, and whether they are sound.
+//! The servers as a scenario gives them, before any turn: what each has executed, and whether they are `Sound`.
 #![tactic(auto)]
 
 mod histories;

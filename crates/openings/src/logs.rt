@@ -12,7 +12,7 @@ use crate::orch_base::{Memory, Txn};
 use binlog_coords::LogIndex;
 use std::alloc::Global;
 
-// Flushes the log once for each flush point at this count, from the one at `next` on. The answer is the first behind
+// Flushes the log once for each flush point at this count, from the one at `next` on. The answer is the first after
 // them.
 fn flush_at(log: &mut LogIndex, flushes: &[u64], next: usize, count: u64) -> usize
     requires next { next ≤ length flushes.now }
@@ -54,8 +54,8 @@ fn lay(log: &mut LogIndex, flushes: &[u64], history: &[Txn])
     flush_at(log, flushes, next, history.len() as u64);
 }
 
-/// What a server has executed, laid with its flush points as its log lays it, also where it doesn't log; a flush point
-/// behind it all is none. There is room for so many transactions and flushes, with those that are laid. `Err` is want
+/// What a server has executed, laid with its flush points as its log lays it, even if it doesn't log. A flush point
+/// after it all is none. There is room for so many transactions and flushes, with those that are laid. `Err` means out
 /// of memory.
 pub fn laid_history(
     alloc: Global,
@@ -83,8 +83,8 @@ pub fn laid_history(
     Ok(log)
 }
 
-/// The log of a server that has executed these transactions, as `log_of` makes it, where a flush point behind them all
-/// is none. `Err` is want of memory.
+/// The log of a server that has executed these transactions, as `log_of` makes it. A flush point after them all is
+/// none. `Err` means out of memory.
 pub fn laid_log(
     alloc: Global,
     init: &ServerInit,
@@ -114,8 +114,8 @@ pub fn laid_log(
 }
 
 /// The log of a server that has executed this history, with room for `room` transactions, and for `flushes` flushes
-/// with those that the opening lists: at most 4,000,000 each. The time is that of the history and the flushes. `Err` is
-/// want of memory.
+/// with those that the opening lists: at most 4,000,000 each. The time is that of the history and the flushes. `Err`
+/// means out of memory.
 pub fn log_of(
     alloc: Global,
     init: &ServerInit,

@@ -22,11 +22,13 @@ pub enum Flaw {
     OtherCluster,
     /// The server has executed more transactions than its source.
     TooMany,
-    /// The flush points fall, pass the number of transactions, or stand at a server without a log; or the first kept
-    /// file is above the last one of the log, or above 1 at a server without a log; or the executed coordinate hasn't
-    /// the place of what was executed, or the read one has no place or stands before it.
+    /// A coordinate or a file is out of place. One of these holds:
+    /// - The flush points fall, pass the number of transactions, or are given for a server without a log.
+    /// - The first kept file is above the last one of the log, or above 1 for a server without a log.
+    /// - The executed coordinate hasn't the place of what was executed.
+    /// - The read coordinate has no place, or is before the executed one.
     BadPlace,
-    /// The server's history isn't kin to those of the others.
+    /// The server's history doesn't agree with those of the others.
     NotKin,
 }
 
@@ -71,7 +73,7 @@ fn same_servers(servers: &[ServerInit], others: &[ServerInit]) -> bool
     true
 }
 
-/// The servers of a scenario, sound and within the limits.
+/// The servers of a scenario, without a flaw and within the limits.
 #[derive(Drop)]
 pub struct Opening {
     servers: Vec<ServerInit>,
@@ -117,7 +119,7 @@ impl Opening {
         self.gtid
     }
 
-    /// The same opening once more. `Err` is want of memory.
+    /// The same opening once more. `Err` means out of memory.
     pub fn copy(&self, alloc: Global) -> Result<Opening, Memory>
         ensures { IfOk result (λ o. o ≡ self.now) }
     {

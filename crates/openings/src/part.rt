@@ -53,7 +53,7 @@ impl Parts {
         &self.parts
     }
 
-    /// The same parts once more.
+    /// The same parts once more. `Err` means out of memory.
     pub fn copy(&self, alloc: Global) -> Result<Parts, Memory>
         ensures { IfOk result (λ p. p ≡ self.now) }
     {
@@ -111,7 +111,7 @@ impl Counts {
         &self.counts
     }
 
-    /// The same counts once more.
+    /// The same counts once more. `Err` means out of memory.
     pub fn copy(&self, alloc: Global) -> Result<Counts, Memory>
         ensures { IfOk result (λ c. c ≡ self.now) }
     {

@@ -73,7 +73,7 @@ module _ (P : List Op → Type 0) (none : P []) (j : Job) (rest : List Op) (left
   deed-left w read now (deed.CrossMatch n m) = attach-left w n (by_match n m (match_found j.matches n m))
   deed-left w read now (deed.Finish lines) = none
 
--- what holds of a list of operations, and then of what is behind its first and of none, holds of what a turn leaves
+-- what holds of a list of operations, and then of what is after its first and of none, holds of what a turn leaves
 pub turn-left : (P : List Op → Type 0) → P [] → ((op : Op) (ops : List Op) → P (op ∷ ops) → P ops) → (w : World) (read : ℕ) (now : Moment) (j : Job) → P j.ops → P (turned w read now j).job.ops
 turn-left P none behind w read now j all = go j.ops refl
   where

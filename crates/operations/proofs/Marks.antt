@@ -8,7 +8,7 @@ use Rattle.operations.proofs.Prelude.fault
 
 -- ---- the last of the numbers below one
 
--- it passes, and those behind it don't
+-- it passes, and those after it don't
 pub record IsLast (p : ℕ → Bool) (n k : ℕ) : Type 0 where
   pub below : k < n
   pub passes : p k ≡ true

@@ -11,7 +11,7 @@ turns_for wait (op ∷ ops) = (wait + 1) + turns_for wait ops
 abbrev pub turns_left : Job → ℕ
 turns_left j = turns_for j.wait j.ops - j.waited
 
--- after a turn the waits are within the job's bound, which is the same; where the job goes on it has fewer turns left
+-- after a turn the waits are within the job's bound, which is the same; if the job goes on it has fewer turns left
 pub record MovesOn (j : Job) (t : Turned) : Type 0 where
   pub waited : t.job.waited ≤ t.job.wait
   pub wait : t.job.wait ≡ j.wait

@@ -1,4 +1,4 @@
--- Jobs in flight, and what they saw.
+-- Jobs, and what they saw.
 use Rattle.std.specs.Prelude.{ℕ, Bool, ◌==◌, ◌&&◌, not, if◌then◌else◌, List, [], ◌∷◌, ◌++◌, filter, find, reverse, Option, Some, None}
 use Rattle.operations.specs.Prelude.{ServerNo, Status}
 use Rattle.operations.specs.declared.matching.Match.{Match}
@@ -6,9 +6,9 @@ use Rattle.operations.specs.declared.op.Op.{Op}
 use Rattle.operations.specs.declared.sight.Position.{Position}
 use Rattle.operations.specs.declared.sight.Sight.{Sight}
 
--- A job: its number, how many waits one operation has, the operations that are left, the latest that it saw of each
--- server that it read, the matches that it found, the waits of the present operation so far, and the servers that it
--- stopped and hasn't started.
+-- A job: its number, how many waits one operation has, the operations that are left, and the latest that it saw of each
+-- server that it read. Then the matches that it found, the waits of the present operation so far, and the servers that
+-- it stopped and hasn't started.
 pub record Job : Type 0 where
   pub id : ℕ
   pub wait : ℕ
@@ -18,7 +18,7 @@ pub record Job : Type 0 where
   pub waited : ℕ
   pub hands : List ServerNo
 
--- where a server stood, by one status
+-- a server's position, by one status
 abbrev pub position_of : Status → Position
 position_of s = record { own_end = s.own_end; source = s.source; exec = s.exec; set = s.set }
 

@@ -1,5 +1,5 @@
 -- How the log of a server matches another's (Pseudo-GTID): by its last mark, which is an entry that no other is equal
--- to, and by what the entries behind that one show.
+-- to, and by the entries after that one.
 use Rattle.std.specs.Prelude.{ℕ, zero, suc, ◌+◌, ◌-◌, ◌%◌, Bool, false, ◌==◌, ◌&&◌, not, if◌then◌else◌, length, Option, Some, None, Result, Ok, Err}
 use Rattle.operations.specs.Prelude.{Attached, Coord, Detached, Server, ServerNo, SourceState, Spot, Txn, Without, World, can_reach, coord_after}
 use Rattle.operations.specs.Prelude.{end_of, logged_by, same_txn, server_at}
@@ -51,17 +51,17 @@ first_not p k (suc more) = if p k then first_not p (suc k) more else Some k
 abbrev pub last_mark : ℕ → Server → Option ℕ
 last_mark every r = last_below (λ k. is_mark_there every (logged_by r k)) (length r.history.txns)
 
--- where the log of another keeps the same one
+-- the place of the same mark in the log of another server
 abbrev pub place_of_mark : Server → Option Txn → Option ℕ
 place_of_mark d None = None
 place_of_mark d (Some t) = last_below (λ k. is_same_there t (logged_by d k)) (length d.history.txns)
 
--- the first entry of r behind its mark i that isn't like the one in its place behind the mark j of d
+-- the first entry of r after its mark i that isn't like the one in its place after the mark j of d
 abbrev pub first_unlike : ℕ → Server → Server → ℕ → ℕ → Option ℕ
 first_unlike every r d i j = first_not (λ k. alike every (logged_by r k) (logged_by d ((k + j) - i))) (i + 1) (length r.history.txns - (i + 1))
 
--- by that one; entries are told of from 1 on. All that r has executed ends where as many transactions of d end, behind
--- the mark.
+-- By that one; entries are counted from 1 on. The end of all that r has executed is the end of as many transactions of
+-- d after the mark.
 abbrev pub matched_at : Server → Server → ℕ → ℕ → Option ℕ → Result Coord MatchFault
 matched_at r d i j None = Ok (coord_after d.log.log ((length r.history.txns + j) - i))
 matched_at r d i j (Some k) = Err (fault.Mismatch (k + 1))
@@ -74,7 +74,7 @@ abbrev pub matched_from : ℕ → Server → Server → Option ℕ → Result Co
 matched_from every r d None = Err fault.NoMark
 matched_from every r d (Some i) = matched_behind every r d i (place_of_mark d (logged_by r i))
 
--- where all that server r has executed ends in the log of server d, or why their logs don't match
+-- the end of all that server r has executed in the log of server d, or why their logs don't match
 abbrev pub match_of : ℕ → Server → Server → Result Coord MatchFault
 match_of every r d = matched_from every r d (last_mark every r)
 
@@ -92,7 +92,7 @@ match_logs w r d every =
     else if not (can_reach (server_at w d.0)) then Err (fault.Unreachable d)
     else match_between every (server_at w r.0) (server_at w d.0)
 
--- where a server stands that is matched: under its source, attached or detached, else at its own end
+-- the position of a server that is matched: under its source, attached or detached, else at its own end
 abbrev pub standing : Server → SourceState → Spot
 standing s Without = if s.settings.logs then spot.OwnEnd (end_of s.log.log) else spot.Nowhere
 standing s (Attached m) = spot.At m s.exec

@@ -65,14 +65,14 @@ ended j = record j { ops = []; hands = [] }
 abbrev pub failed : Job → Cause → Option Observation → Turned
 failed j c o = record { step = step.Failed c []; observation = o; exchanges = restarts j.hands; job = ended j }
 
--- What an operation comes to: the job goes on, after what was observed and these exchanges; it stops for a cause, with
--- what was observed, and nothing is done; or it ends.
+-- What an operation comes to: the job goes on, after what was observed and these exchanges. Or it stops for a cause,
+-- with what was observed, and nothing is done. Or it ends.
 pub data Attempt : Type 0 where
   Goes : (o : Option Observation) (es : List Exchange) (j : Job) → Attempt
   Stops : (c : Cause) (o : Option Observation) → Attempt
   Ends : (lines : List Line) → Attempt
 
--- what a plan's job makes of it: it fails where it is stopped
+-- what a plan's job makes of it: it fails if it is stopped
 abbrev pub settled : Job → Attempt → Turned
 settled j (Goes o es k) = going o es k
 settled j (Stops c o) = failed j c o
@@ -124,7 +124,7 @@ abbrev pub is_reached : Option Coord → Coord → Bool
 is_reached None exec = false
 is_reached (Some to) exec = is_at_or_before to exec
 
--- where a server is to go, where it was seen before it
+-- the coordinate to which a server is to go, if it was seen before it
 abbrev pub until_by : Option Position → Option Coord → Option Coord
 until_by None to = None
 until_by (Some s) None = None
@@ -190,14 +190,14 @@ settles j s = is_settled s || not (nat_lt (j.waited + 1) j.wait)
 
 -- ---- changes of source
 
--- the server of a crossing whose reading it goes by
+-- the server of a reattachment whose reading it goes by
 abbrev pub read_by : Crossing → ServerNo → ServerNo → ServerNo
 read_by cross.Up a b = b
 read_by cross.Down a b = b
 read_by cross.About a b = b
 read_by cross.Back a b = a
 
--- the attachment of a crossing, by the bridge that the reading shows
+-- the attachment of a reattachment, by the bridge that the reading has
 abbrev pub crossed : Crossing → ServerNo → Option Bridge → Option Exchange
 crossed c a None = None
 crossed cross.Up a (Some b) = Some (Attach a.0 (spot.At b.no b.own) b.source b.exec)
@@ -210,7 +210,7 @@ abbrev pub bridge_at : ServerNo → Option Position → Option Bridge
 bridge_at n None = None
 bridge_at n (Some s) = bridge_by n s.own_end s.source s.exec
 
--- what a crossing makes of what was seen
+-- what a reattachment makes of what was seen
 abbrev pub crossing_of : List Sight → Crossing → ServerNo → ServerNo → Option Exchange
 crossing_of xs c a b = crossed c a (bridge_at (read_by c a b) (seen_of xs (read_by c a b).0))
 
@@ -219,7 +219,7 @@ attached_anew n exec Without = None
 attached_anew n exec (Attached m) = Some (Attach n.0 (spot.At m exec) m exec)
 attached_anew n exec (Detached m) = Some (Attach n.0 (spot.At m exec) m exec)
 
--- a server goes on under its own source, where it was seen
+-- a server goes on under its own source, if it was seen
 abbrev pub same_again : ServerNo → Option Position → Option Exchange
 same_again n None = None
 same_again n (Some s) = attached_anew n s.exec s.source
@@ -245,7 +245,7 @@ attach_answer_of w (Befall n e) = Ok tt
 attach_answer_of w (Rotate n) = Ok tt
 attach_answer_of w (Purge n file) = Ok tt
 
--- why a job stops whose attachment answered a fault; no world answers the last one, which is want of memory
+-- why a job stops whose attachment answered a fault; no world answers the last one, which is out of memory
 abbrev pub cause_by : ServerNo → AttachFault → Cause
 cause_by n attaching.Unreachable = cause.Unreachable n
 cause_by n (attaching.Running at) = cause.Running n
@@ -259,7 +259,8 @@ abbrev pub after_answer : Job → List Op → ServerNo → Exchange → Result (
 after_answer j rest n e (Ok t) = Goes None (e ∷ []) (next j rest)
 after_answer j rest n e (Err fault) = Stops (cause_by n fault) None
 
--- a change of source for which nothing was seen, or that can't be made, is passed over: a held job has none
+-- A change of source for which nothing was seen, or that can't be made, is passed over. A job with the invariant `Held`
+-- has none.
 abbrev pub after_attach : World → Job → List Op → ServerNo → Option Exchange → Attempt
 after_attach w j rest n None = Goes None [] (next j rest)
 after_attach w j rest n (Some e) = if can_attach w e then after_answer j rest n e (attach_answer_of w e) else Goes None [] (next j rest)

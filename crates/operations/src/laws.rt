@@ -7,8 +7,8 @@ ghost use Rattle.operations.specs.Turns.{turned};
 ghost use Rattle.operations.specs.Named.{IsNamed, IsInRange};
 ghost use Rattle.operations.specs.Ending.{MovesOn};
 
-/// After a turn a job has its number still, its bound and its waits are in their ranges, and its operations and hands
-/// are of servers that are there, as before.
+/// After a turn a job has its number still. Its bound and its waits are in their ranges. Its operations, and the
+/// servers that it stopped, are of servers that are there, as before.
 pub fn jobs_stay_in_range()
     ensures number { (count : ℕ) (w : World) (read : ℕ) (now : AMoment) (j : Job) →
         IsNamed count j → (turned w read now j).job.id ≡ j.id }
@@ -18,8 +18,8 @@ pub fn jobs_stay_in_range()
         IsInRange count j → IsInRange count (turned w read now j).job }
 {}
 
-/// Each exchange of a turn is allowed in the world to which those before it led, whatever the job saw and however the
-/// servers stand: an attachment's coordinate has a place in the log of its new source.
+/// Each exchange of a turn is allowed in the world to which those before it led, whatever the job saw and whatever the
+/// servers' states are. An attachment's coordinate has a place in the log of its new source.
 pub fn turns_are_allowed()
     ensures { (w : World) (read : ℕ) (now : AMoment) (j : Job) →
         AllAllowed w (turned w read now j).exchanges }

@@ -11,8 +11,8 @@ pub enum MatchFault {
     Unreachable(ServerNo),
     /// The first server's log keeps no mark, or the second's doesn't keep the last one of it.
     NoMark,
-    /// This entry of the first server, counted from 1, is the first behind the mark for which the second has none in
-    /// its place, or one that shows something else.
+    /// This entry of the first server, counted from 1, is the first after the mark for which the second has none in its
+    /// place, or a different one.
     Mismatch(u64),
 }
 
@@ -23,8 +23,8 @@ pub struct Match {
     pub no: ServerNo,
     /// The one whose log its log matches.
     pub to: ServerNo,
-    /// Where the server stood.
+    /// The server's position.
     pub spot: Spot,
-    /// Where all that it had executed ends in the other's log.
+    /// The end of all that it had executed, in the other's log.
     pub at: Coord,
 }

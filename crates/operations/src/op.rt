@@ -12,13 +12,13 @@ pub enum Aim {
     ExecOf(ServerNo),
 }
 
-/// A change of source by one status of a replica: the end of its own binary log and its executed coordinate stand for
-/// one point of two logs.
+/// A change of source by one status of a replica: the end of its own binary log and its executed coordinate are one
+/// point of two logs.
 #[derive(Clone, Copy, Debug, PartialEq, Eq)]
 pub enum Crossing {
-    /// The first server, which stands at the own end of the second, goes to the second's source.
+    /// The first server, which is at the own end of the second, goes to the second's source.
     Up,
-    /// The first server, which stands with the second under one source, goes below the second.
+    /// The first server goes below the second, which has the same source and is at the same position.
     Down,
     /// The first server, the source of the second, goes below the second.
     About,
@@ -29,7 +29,7 @@ pub enum Crossing {
 /// An operation of a plan. An exchange that doesn't reach its server fails the job.
 #[derive(Drop)]
 pub enum Op {
-    /// Reads the server's status, for the book too. Where a source is named the job fails unless the server is attached
+    /// Reads the server's status, for the book too. If a source is named, the job fails unless the server is attached
     /// to it.
     Status(ServerNo, Option<ServerNo>),
     /// Stops both threads of the server.
@@ -46,8 +46,8 @@ pub enum Op {
     Reattach(ServerNo),
     /// Makes the server refuse clients' writes, or take them (`read_only`).
     ReadOnly(ServerNo, bool),
-    /// Starts the server; its applier is to stop at the aim. It is passed over where the server was seen at the aim or
-    /// behind it.
+    /// Starts the server; its applier is to stop at the aim. It is passed over if the server was seen at the aim or
+    /// after it.
     Until(ServerNo, Aim),
     /// Waits until the server has executed up to the aim. The last wait fails the job.
     Await(ServerNo, Aim),
@@ -57,7 +57,7 @@ pub enum Op {
     Settle(ServerNo),
     /// Changes the first server's source, by what was seen of the one of the two that is the replica.
     Cross(Crossing, ServerNo, ServerNo),
-    /// Attaches the server to its own source anew, by coordinates, where it was seen.
+    /// Attaches the server to its own source anew, by coordinates, if it was seen.
     Same(ServerNo),
     /// Attaches the first server to the second, by the GTIDs that were seen of the second.
     Auto(ServerNo, ServerNo),

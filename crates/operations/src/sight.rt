@@ -4,15 +4,15 @@ use crate::binlog_coords_items::Coord;
 use crate::gtid_sets::GtidSet;
 use crate::orch_base::{ServerNo, SourceState};
 
-/// Where a server stood by one status.
+/// A server's position, by one status.
 #[derive(Drop)]
 pub struct Position {
-    /// The end of its own binary log; none where it doesn't log.
+    /// The end of its own binary log; none if it doesn't log.
     pub own_end: Option<Coord>,
     pub source: SourceState,
     /// How far it had executed its source's log.
     pub exec: Coord,
-    /// What it had executed, where GTIDs are used.
+    /// What it had executed, if GTIDs are used.
     pub set: GtidSet,
 }
 
@@ -21,6 +21,6 @@ pub struct Position {
 pub struct Sight {
     /// The server.
     pub no: ServerNo,
-    /// Where it stood.
+    /// Its position.
     pub seen: Position,
 }

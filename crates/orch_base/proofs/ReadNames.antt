@@ -22,7 +22,7 @@ not_found : (c : Bool) (n : ℕ) → cond c (Some n) None ≡ None → c ≡ fal
 not_found true n h = absurd (cc)
 not_found false n h = refl
 
--- the host and its three tests, where they all pass
+-- the host and its three tests, if they all pass
 tests_passed : (empty long : Bool) (place : Option ℕ) (host h : List ℕ) → cond empty (Err Empty) (cond long (Err TooLong) (without_bad host place)) ≡ Ok h → (empty ≡ false) × (long ≡ false) × (place ≡ None) × (host ≡ h)
 tests_passed false false None host h e = (refl, refl, refl, cc)
 tests_passed _ _ _ host h e = absurd (cc)
@@ -44,7 +44,7 @@ read_host text h e =
     let p = tests_passed (eqb (length text) 0) (ltb 255 (length text)) (position (λ b. not (is_host_byte b)) text) text h e in
     subst IsHost p.3 (host_is text (p.0, p.1, p.2))
 
--- digits that begin above zero write no zero, since a zero is written `0`
+-- digits that begin above zero write no zero, because a zero is written `0`
 not_zero : (digits : List ℕ) (n : ℕ) → decimal n ≡ digits → 49 ≤ get_or digits 0 0 → 0 < n
 not_zero digits zero e first =
     let is_digit_zero : get_or digits 0 0 ≡ 48 = subst (λ (ds : List ℕ). get_or ds 0 0 ≡ 48) e (ap (λ (ds : List ℕ). get_or ds 0 0) (decimal_digit 0 (omega arith))) in
@@ -56,7 +56,7 @@ above_zero digits first all small =
     let no_zero : get_or digits 0 0 ≡ 48 → length digits ≡ 1 = λ e. absurd (omega arith) in
     not_zero digits _ (decimal-digits_value own digits all (not_empty digits first) no_zero (omega arith)) first
 
--- the value and its tests, where they all pass
+-- the value and its tests, if they all pass
 value_passed : (first all small : Bool) (n port : ℕ) → port_or_fault (cond (first && all && small) (Some n) None) ≡ Ok port → (first ≡ true) × (all ≡ true) × (small ≡ true) × (n ≡ port)
 value_passed true true true n port e = (refl, refl, refl, cc)
 value_passed _ _ _ n port e = absurd (cc)

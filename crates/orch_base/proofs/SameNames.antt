@@ -1,4 +1,4 @@
--- Names are the same exactly where they are equal.
+-- Names are the same exactly if they are equal.
 use Rattle.std.proofs.lemmas.Bool.{and_parts as both}
 use Rattle.std.proofs.Common.{◌≡◌, true, eqb, refl, sym, subst, eq-eqb}
 use Rattle.std.specs.Prelude.{◌↔◌, nat_eq, IsTrue}

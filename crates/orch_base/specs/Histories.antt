@@ -3,7 +3,7 @@ use Rattle.std.specs.Prelude.{ℕ, Bool, ◌==◌, ◌&&◌, List, count_by}
 use Rattle.std.specs.List.{list_any}
 use Rattle.orch_base.specs.declared.server.Txn.{Txn}
 
--- two transactions are the same where origin and number are
+-- two transactions are the same if origin and number are
 abbrev pub same_txn : Txn → Txn → Bool
 same_txn x y = x.origin.0 == y.origin.0 && x.seq == y.seq
 

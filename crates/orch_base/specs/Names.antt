@@ -23,7 +23,7 @@ same_name a b = pointwise nat_eq a.host b.host && (a.port == b.port)
 abbrev pub name_cmp : HostPort → HostPort → Ordering
 name_cmp a b = ordering_then (slice_cmp nat_cmp a.host b.host) (nat_cmp a.port b.port)
 
--- the fault that a text has, and nothing at want of memory
+-- the fault that a text has, and nothing if memory runs out
 abbrev pub fault_of : NameFault → Option NameFault
 fault_of Empty = Some Empty
 fault_of TooLong = Some TooLong
@@ -42,7 +42,7 @@ is_host_byte b = (nat_le 97 b && nat_le b 122) || (nat_le 65 b && nat_le b 90) |
 abbrev pub host_of : List ℕ → List ℕ
 host_of text = before_first is_colon text
 
--- behind the first colon, if there is one
+-- after the first colon, if there is one
 abbrev pub port_of : List ℕ → Option (List ℕ)
 port_of text = if nat_lt (position_or_len is_colon text) (length text) then Some (after_first is_colon text) else None
 
@@ -53,7 +53,7 @@ abbrev pub port_value : Option (List ℕ) → Option ℕ
 port_value None = Some 3306
 port_value (Some digits) = if is_port digits then Some (digits_value 10 digits) else None
 
--- the host, where it has no bad byte
+-- the host, if it has no bad byte
 abbrev pub without_bad : List ℕ → Option ℕ → Result (List ℕ) NameFault
 without_bad host None = Ok host
 without_bad host (Some place) = Err (BadByte place)

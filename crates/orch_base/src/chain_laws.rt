@@ -3,8 +3,8 @@
 ghost use Rattle.std.specs.Prelude.{◌≡◌, ◌⊎◌, ℕ, Option, true};
 ghost use Rattle.orch_base.specs.Chains.{Follows, Reaches, is_reached};
 
-/// The forms of being reached agree: a number reaches another where it is that one or the chain above it comes there,
-/// and the test of so many steps finds just what the chain comes to.
+/// The forms of being reached agree. A number reaches another if it is that one, or if the chain above it comes there.
+/// The test of so many steps finds exactly what the chain comes to.
 pub fn chains_come_to_what_is_found()
     ensures cases { (up : ℕ → Option ℕ) (b a : ℕ) → Reaches up b a → (a ≡ b) ⊎ Follows up b a }
     ensures further { (up : ℕ → Option ℕ) (b a : ℕ) → Follows up b a → Reaches up b a }

@@ -1,4 +1,4 @@
-//! What an analysis says of a server.
+//! The analysis of a server.
 
 /// An analysis, by orchestrator's names (orchestrator's documentation, "Failure detection scenarios").
 #[derive(Clone, Copy, Debug, PartialEq, Eq)]

@@ -1,4 +1,4 @@
-//! What every layer stands on: servers by name and number, and sources and sinks that count their faults.
+//! What every layer uses: servers by name and number, and sources and sinks that count their faults.
 #![tactic(auto)]
 
 mod chain_laws;
@@ -24,5 +24,5 @@ pub use server::{IoState, Moment, ServerNo, Settings, SourceState, Txn, Version}
 pub use sink::{Sink, write_all};
 pub use source::{MAX_SCENARIO_LEN, Source, read_all};
 pub use text::OwnedText;
-/// Want of memory.
+/// Out of memory.
 pub use std::alloc::AllocError as Memory;

@@ -23,7 +23,7 @@ pub enum NameFault {
     BadByte(usize),
     /// No decimal of 1 to 65535 without leading zero.
     BadPort,
-    /// Want of memory.
+    /// Out of memory.
     Memory,
 }
 
@@ -79,7 +79,7 @@ fn is_host_byte(b: u8) -> bool
     matches!(b, b'a'..=b'z' | b'A'..=b'Z' | b'0'..=b'9' | b'.' | b'-' | b'_')
 }
 
-// The text before the first colon, and the text behind it.
+// The text before the first colon, and the text after it.
 fn parts(text: &str) -> (&str, Option<&str>)
     ensures host { result.0.now ≡ host_of text.now }
     ensures port { option_map (λ s. s.now) result.1 ≡ port_of text.now }
@@ -152,7 +152,7 @@ impl Name {
         Ok(Name { host, port })
     }
 
-    /// The same name once more.
+    /// The same name once more. `Err` means out of memory.
     pub fn copy(&self, alloc: Global) -> Result<Name, Memory>
         ensures { IfOk result (λ n. n ≡ self.now) }
     {
@@ -194,7 +194,7 @@ impl Name {
         hosts.then(self.port.cmp(&other.port))
     }
 
-    /// Appends HOST:PORT, or nothing at want of memory.
+    /// Appends HOST:PORT, or nothing if memory runs out.
     pub fn print(&self, out: &mut Vec<u8>) -> Result<(), Memory>
         ensures ok { OnOk result (out.new.items ≡ out.old.items ++ printed self.now) }
         ensures err { OnErr result (out.new.items ≡ out.old.items) }

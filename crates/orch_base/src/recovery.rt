@@ -38,7 +38,7 @@ pub enum CauseName {
     Purged,
     /// The logs have no unique entry in common by which they could be matched.
     NoMark,
-    /// The logs differ behind the unique entry by which they were matched.
+    /// The logs differ after the unique entry by which they were matched.
     Mismatch,
     /// A hook that ran before the recovery answered that it isn't to go on.
     HookFailed,

@@ -9,7 +9,7 @@ use std::alloc::Global;
 #[derive(Clone, Copy, Debug, PartialEq, Eq, PartialOrd, Ord, Hash)]
 pub struct ServerNo(pub u32);
 
-/// A moment, in seconds. Only the scenario says from when they count.
+/// A moment, in seconds. The scenario decides which moment is 0.
 #[derive(Clone, Copy, Debug, PartialEq, Eq, PartialOrd, Ord)]
 pub struct Moment(pub u64);
 
@@ -50,7 +50,7 @@ impl SourceState {
     ghost use Rattle.std.specs.Prelude.{◌≡◌};
     ghost use Rattle.orch_base.specs.Sources.{source_no};
 
-    /// The source's number, attached or detached: none where the server has no source.
+    /// The source's number, attached or detached: none if the server has no source.
     pub fn number(self) -> Option<u32>
         ensures { result ≡ source_no self }
     {
@@ -61,8 +61,7 @@ impl SourceState {
     }
 }
 
-/// What a replica says of its receiver (MySQL 8.0 Reference Manual, "SHOW REPLICA STATUS Statement",
-/// Replica_IO_Running).
+/// The state of a replica's receiver (MySQL 8.0 Reference Manual, "SHOW REPLICA STATUS Statement", Replica_IO_Running).
 #[derive(Clone, Copy, Debug, PartialEq, Eq)]
 pub enum IoState {
     /// The receiver is on and connected to the source.
@@ -88,7 +87,7 @@ pub struct Settings {
     pub logs: bool,
     /// The size at which a file of the binary log is full, `max_binlog_size`: 100 to 1,073,741,824 bytes.
     pub limit: u64,
-    /// The data centre that the server stands in: 0 to 255 bytes, empty where none is told.
+    /// The server's data centre: 0 to 255 bytes, empty if none is given.
     pub dc: OwnedText,
 }
 
@@ -110,7 +109,7 @@ impl Drop for Settings {
 impl Settings {
     ghost use Rattle.std.specs.Prelude.{◌≡◌, ◌↔◌, IfOk, IsTrue};
 
-    /// The same settings once more.
+    /// The same settings once more. `Err` means out of memory.
     pub fn copy(&self, alloc: Global) -> Result<Settings, Memory>
         ensures { IfOk result (λ s. s ≡ self.now) }
     {

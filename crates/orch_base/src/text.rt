@@ -41,7 +41,7 @@ impl OwnedText {
         &self.text
     }
 
-    /// The same label once more.
+    /// The same label once more. `Err` means out of memory.
     pub fn copy(&self, alloc: Global) -> Result<OwnedText, Memory>
         ensures { IfOk result (λ l. l ≡ self.now) }
     {

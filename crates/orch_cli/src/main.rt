@@ -1,4 +1,4 @@
-//! Does what the words of the command line ask with a scenario.
+//! Does what the command line asks with a scenario.
 #![tactic(auto)]
 
 use crate::command_line::{Usage, places};
@@ -23,7 +23,7 @@ fn words_of(rt: &HostRuntime, alloc: Global) -> io::Result<Vec<Vec<u8>>> {
 }
 
 // Handles that take the places of standard streams that were closed at the start, so that no file which is opened later
-// stands in one of them. A folder is neither read nor written.
+// is in one of them. A folder is neither read nor written.
 fn in_closed_places(rt: &HostRuntime) -> [io::Result<File>; 3] {
     [
         File::open(rt, "/"),
@@ -43,7 +43,7 @@ fn source(rt: &HostRuntime, path: Option<OwnedText>) -> FileSource<Input> {
     }
 }
 
-// Where rows are kept: in the database file of this path, or in memory.
+// The place of kept rows: the database file of this path, or memory.
 fn backend(rt: &HostRuntime, alloc: Global, path: Option<OwnedText>) -> Result<Backend, Memory> {
     Ok(match path {
         Some(path) => Backend::File(SqlKeeper::open(rt, path)),
@@ -62,7 +62,7 @@ fn main(rt: HostRuntime) -> ExitCode {
     let mut err = StreamSink::new(rt.stderr());
     let words = match words_of(&rt, alloc) {
         Ok(words) => words,
-        // A word that is no text: the words aren't taken.
+        // An argument that is no text: the command line isn't accepted.
         Err(fault) if fault.kind() == io::ErrorKind::InvalidData => Vec::new(alloc),
         Err(_) => return no_memory(&mut err),
     };

@@ -152,7 +152,7 @@ times-more : (k : ℕ) (ts : List Turn) → times k ts ++ ts ≡ times (k + 1) t
 times-more zero ts = sym (append-nil ts)
 times-more (suc k) ts = append_assoc ts (times k ts) ts ∙ ap (λ (x : List Turn). ts ++ x) (times-more k ts) ∙ (let same : suc (k + 1) ≡ suc k + 1 = omega arith in ap (λ (n : ℕ). times n ts) same)
 
--- so many rounds were taken, each where the job was open, and left it so many turns less, and the other jobs
+-- so many rounds were taken, each while the job was open, and left it so many turns less, and the other jobs
 pub record Rounds {A : Type 0} (m : Machine A) (state : A → State) (kept : Option (List Row)) (a : A) (job : ℕ) (kept' : Option (List Row)) (now : A) (k : ℕ) : Type 0 where
   pub here : state now ≡ after_rounds (state a) job k
   pub goes_on : (i : ℕ) → i < k → is_open (after_rounds (state a) job i).jobs job ≡ true
@@ -266,7 +266,7 @@ slice-past [] ys n i e = ap (slice_get ys) (omega (arith, e))
 slice-past (x ∷ xs) ys n zero e = absurd (omega (arith, e))
 slice-past (x ∷ xs) ys n (suc i) e = slice-past xs ys n i (omega (arith, e))
 
--- a run over a front of some turns that was cut off at one of those behind it
+-- a run over a prefix of some turns that was cut off at one of those after it
 pub cut-behind : {A : Type 0} (m : Machine A) (kept kept' kept'' : Option (List Row)) (a b c : A) (ts us : List Turn) (why : TurnFault) → Ran m kept a ts kept' b → WasCutOff m kept' b us kept'' c why
     → WasCutOff m kept a (ts ++ us) kept'' c why
 cut-behind m kept kept' kept'' a b c ts us why ran cut = record {

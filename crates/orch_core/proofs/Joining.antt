@@ -28,7 +28,7 @@ module _ (count : ℕ) where
       go true e any rest = subst (λ (m : ℕ). m < count) (eqb-true k.0 n e) (All-head (λ (m : ServerNo). m.0 < count) k ks all)
       go false e any rest = rest any
 
-  -- the source that is known from the beginning is there
+  -- the source that is known from the start is there
   first-within : (P : ℕ → Type 0) (u : Purpose) (f : ServerNo) → ((n : ℕ) → P n → n < count) → IsListOf P (λ n. n < count) u f → IfSome (first_source u) (λ n. n.0 < count)
   first-within P purpose.Regroup f within h = tt
   first-within P purpose.Master f within h = tt

@@ -215,7 +215,7 @@ settings-updated k _ = refl
 abbrev NextBy : ℕ → ℕ → Outcome → Type 0
 NextBy count last o = IsNext count last o.book
 
--- what a command begins is so, where its number is one
+-- what a command begins is so, if its number is one
 next-begun : (count : ℕ) (k : Knowledge) (n : Numbers) (refusal : Option Refusal) (list : List ServerNo) (job : Unended) → number_of job ≡ n.last_job + 1 → entry_id job ≡ None → (n.last_job + 1 < 2 ^ 64 → JobRange count job)
     → (updated k (begun n refusal list job).book).last_job < 2 ^ 64 → IsNext count n.last_job (begun n refusal list job).book
 next-begun count k n None list job number entry range few = record { number = number; range = range (subst (λ (m : ℕ). m < 2 ^ 64) number few); entry = entry }
@@ -407,7 +407,7 @@ begun-updated k (update.Decides (effect.Acks cluster)) time all = acked-begun k.
 begun-updated k (update.Recovers xs) time all = joined-begun k.audit xs time all
 begun-updated k _ time all = all
 
--- what a command or a scan leaves, where the number of the last job fits its type
+-- what a command or a scan leaves, if the number of the last job fits its type
 pub IsState-settled : (s : State) (o : Outcome) (now : Knowledge) → IsState s → CanSettle s o → LeavesIds o.book → now.last_job < 2 ^ 64 → now ≡ updated (known_of s) o.book
     → IsState (with_known (record s { reads = o.reads }) now)
 IsState-settled s o now is can ids fits settles =

@@ -9,7 +9,7 @@ set-own [] n x h = refl
 set-own (y ∷ ys) zero x h = ap (λ z. z ∷ ys) h
 set-own (y ∷ ys) (suc n) x h = ap (λ zs. y ∷ zs) (set-own ys n x h)
 
--- where the book and the slot stay
+-- if the book and the slot stay
 pub slot-stays : (s : State) (p : ℕ) (b : BookState) (slot left : Option Observation) → slot ≡ get_or s.slots p slot → b ≡ s.book → left ≡ slot
     → record s { book = b; slots = slice_set s.slots p left } ≡ s
 slot-stays s p b slot left at same stays =

@@ -1,4 +1,4 @@
--- Each server's source is one of the servers, in the book's words.
+-- Each server's source is one of the servers, by the book's definitions.
 use Rattle.std.proofs.Common.{◌≡◌, ℕ, ◌<◌, true, List, length, refl, subst, Some, arith}
 use Rattle.std.specs.Prelude.{All, IfSome, slice_get, nat_lt}
 use Rattle.orch_core.proofs.Prelude.{AllAllowed, Exchange, HasKnownSource, Server, SourceState, World, are_known, get_or_from_slice_get, nat_tests}

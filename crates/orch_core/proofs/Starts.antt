@@ -1,17 +1,17 @@
 -- The state with which a scenario's run begins.
-use Rattle.std.proofs.Common.{◌≡◌, ◌∙◌, ℕ, ◌+◌, ◌<◌, ◌≤◌, ◌^◌, Bool, true, false, List, [], ◌∷◌, ◌++◌, length, get_or, refl, sym, ap, subst, Option, Some, None, Result, Err, arith}
+use Rattle.std.proofs.Common.{◌≡◌, ◌∙◌, ℕ, ◌+◌, ◌<◌, ◌≤◌, ◌^◌, Bool, true, false, List, [], ◌∷◌, length, get_or, refl, sym, ap, subst, Option, Some, None, arith}
 use Rattle.std.specs.Prelude.{All, IfSome, IsTrue, ◌&&◌, is_none, nat_lt, slice_index_or, if◌then◌else◌}
-use Rattle.orch_core.proofs.Prelude.{All-append, All-cons, All-map, All-nil, All-replicate, AreReadWithin, Attached, AuditState, BookState, Candidate, Change}
+use Rattle.orch_core.proofs.Prelude.{All-nil, All-replicate, AreReadWithin, Attached, AuditState, BookState, Candidate, Change}
 use Rattle.orch_core.proofs.Prelude.{ClaimState, Configuration, Detached, Fits, HasKnownSource, HaveEntries, Instance, IsAudit}
 use Rattle.orch_core.proofs.Prelude.{IsScenario, IsSlot, IsState, IsUnended, Moment, Observation, Recovery, Rise, Row, Rule, Scenario, Server}
 use Rattle.orch_core.proofs.Prelude.{ServerNo, Settings, StartsBy, State, Unended, World, after_change, after_opening, are_known}
-use Rattle.orch_core.proofs.Prelude.{audit-opened, audit_of, block_given, blocks_given, book_made, changed, changes_from, closed, closing}
-use Rattle.orch_core.proofs.Prelude.{configuration_of, cons_option, counted, empty_slots, flushes_of, get_or-le-sum_by, given-opened, greatest}
-use Rattle.orch_core.proofs.Prelude.{greatest_id, has_row, holder_of, interrupting, is_opening_change, kept_at_start, kept_claim, kept_if, last_id}
-use Rattle.orch_core.proofs.Prelude.{last_id-within, last_read, latest, length-map, length-replicate, loaded_audit, loaded_book, loaded_by, loading}
+use Rattle.orch_core.proofs.Prelude.{audit-opened, audit_of, book_made, changed, closed}
+use Rattle.orch_core.proofs.Prelude.{configuration_of, counted, empty_slots, flushes_of, get_or-le-sum_by, given-opened, greatest}
+use Rattle.orch_core.proofs.Prelude.{greatest_id, has_row, holder_of, is_opening_change, kept_at_start, kept_claim, kept_if, last_id}
+use Rattle.orch_core.proofs.Prelude.{last_id-within, last_read, latest, length-map, length-replicate, loaded_audit, loaded_book, loading}
 use Rattle.orch_core.proofs.Prelude.{longest-at, longest_block, made as claims_made, missing, missing_from, names-opening, opened_book}
 use Rattle.orch_core.proofs.Prelude.{opened_world, opening_changes, opening_instance, parts_of, period_by, period_of, pollers, put_instance}
-use Rattle.orch_core.proofs.Prelude.{put_recovery, registered, registering, registering_from, room_of, row_fits, server_at, settings_of}
+use Rattle.orch_core.proofs.Prelude.{registered, registering, registering_from, room_of, row_fits, server_at, settings_of}
 use Rattle.orch_core.proofs.Prelude.{slice_get-get_or, slice_get_within, source_servers, source_state, start, start_changes, start_moment, start_rows}
 use Rattle.orch_core.proofs.Prelude.{start_world, transactions}
 use Rattle.orch_core.proofs.Prelude.change
@@ -159,7 +159,7 @@ moment-within s rows items moment is counting made =
     let early : s.moment.0 ≤ greatest = few s.moment.0 is.moment in
     subst (λ (n : ℕ). n ≤ greatest) (sym (made ∙ ap (latest s.moment.0) counting)) (latest-most (length s.opening.servers) greatest_id s.moment.0 rows early)
 
--- the pieces of an opening, as they were made one after another of the rows that the keeper gave
+-- the pieces of an opening, as they were made one after another of the rows that the row store gave
 pub record IsOpening (s : Scenario) (given : List Row) (w : World) (settings : List Settings) (items : List Row) (moment : Moment) (b b' : BookState) (a a' : AuditState) (recoveries : List Change) (slots : List (Option Observation)) (reads : ℕ) (jobs : List Unended) (wait : ℕ) (configuration : Configuration) (claims : ClaimState) (holder : Option ℕ) : Type 0 where
   pub world : w ≡ start_world s
   pub settings_made : settings ≡ settings_of s

@@ -204,7 +204,7 @@ reloaded-is rows s is few =
     let first = is.audit.first in
     audit-loaded (period_by s.configuration) (period-short s is) (length s.book.settings) s.audit.next (last_given s) rows few first (omega (arith, is.next)) (omega (arith, first))
 
--- what a restart makes of a state, by the rows that the keeper gave
+-- what a restart makes of a state, by the rows that the row store gave
 pub record IsRestarted (rows : List Row) (s : State) (b : BookState) (a : AuditState) (moment : Moment) (slots : List (Option Observation)) (jobs : List Unended) : Type 0 where
   pub book : b ≡ reloaded_book rows s
   pub audit : a ≡ closed (reloaded_audit rows s) moment
@@ -245,7 +245,7 @@ module _ (rows : List Row) (s : State) (b : BookState) (a : AuditState) (moment 
       ∙ ap (λ (x : List (Option Observation)). record s { moment = reloaded_moment rows s; book = reloaded_book rows s; audit = closed (reloaded_audit rows s) (interrupted_at rows s); slots = x; jobs = jobs }) re.empty
       ∙ ap (λ (x : List Unended). record s { moment = reloaded_moment rows s; book = reloaded_book rows s; audit = closed (reloaded_audit rows s) (interrupted_at rows s); slots = empty_slots; jobs = x }) re.dropped
 
--- a turn by the rows that the keeper gave
+-- a turn by the rows that the row store gave
 pub StepsTo-given : (kept : Option (List Row)) (given : List Row) (s now : State) (t : Turn) → IfSome kept (λ rows. given ≡ rows) → now ≡ turn_step given s t → StepsTo engine kept s t now
 StepsTo-given None given s now t told is = (given, is)
 StepsTo-given (Some rows) given s now t told is = subst (λ (x : List Row). now ≡ turn_step x s t) told is
@@ -260,4 +260,4 @@ with_none more true None s none = refl
 with_none more true (Some rows) s none = ap (λ (xs : List Change). Some (changed rows (restart_changes rows s ++ xs))) none ∙ ap (λ (xs : List Change). Some (changed rows xs)) (append-nil (restart_changes rows s))
 with_none more false kept s none = refl
 
--- a turn that asks the keeper for nothing
+-- a turn that asks the row store for nothing

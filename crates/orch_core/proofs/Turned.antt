@@ -145,7 +145,7 @@ found-one s id at j is within found item =
 
 -- ---- what was looked up
 
--- a look at the job of this number, which stands at this place
+-- a look at the job of this number, which is at this place
 pub record Looked (s : State) (id at : ℕ) (j : Unended) (look : UnendedLook) : Type 0 where
   pub within : at < length s.jobs
   pub found : job_at s.jobs id ≡ slice_get s.jobs at
@@ -206,7 +206,7 @@ module _ (s : State) (id at : ℕ) (j : Unended) (look : UnendedLook) (is : IsSt
       ap (λ (o : Option Observation). changes_by s.book o ++ closing_changes s.audit now_is ends) (sym observation-is)
       ∙ ap (λ (c : Option Closing). changes_by s.book (job_observation (turned_at s id)) ++ closing_changes s.audit now_is c) (sym ends-is)
 
-  -- where the job goes on and observes nothing, nothing is kept
+  -- if the job goes on and observes nothing, nothing is kept
   pub none-kept : observation_of look ≡ None → step_of look ≡ step.Going → changes_by s.book (observation_of look) ++ closing_changes s.audit now_is ends ≡ []
   none-kept none going =
       ap (λ (o : Option Observation). changes_by s.book o ++ closing_changes s.audit now_is ends) none

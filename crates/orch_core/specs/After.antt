@@ -31,7 +31,7 @@ after_read s p n = record s {
 abbrev pub after_store : State → ℕ → State
 after_store s p = record s { book = stored s.book (slot_at s p); slots = slice_set s.slots p None }
 
--- the exchanges of the job's turn are made, what it observed is stored, and where it is ended it is dropped, its leases
+-- the exchanges of the job's turn are made, what it observed is stored, and if it is ended it is dropped, its leases
 -- are free and its entry ends
 abbrev pub after_job : State → ℕ → State
 after_job s job = record s {
@@ -42,8 +42,9 @@ after_job s job = record s {
   jobs = jobs_turned s.jobs job (turned_at s job);
 }
 
--- the rows that count are loaded, without bridges and leases, the unended recoveries are ended as interrupted, all
--- slots are empty and all jobs dropped; the moment is raised to those of the recoveries that the keeper's rows bring
+-- The rows that count are loaded, without bridges and leases. The unended recoveries are ended as interrupted, all
+-- slots are empty and all jobs dropped. The moment is raised to those of the recoveries that the row store's rows
+-- bring.
 abbrev pub after_restart : List Row → State → State
 after_restart rows s = record s {
   moment = reloaded_moment rows s;
@@ -53,7 +54,7 @@ after_restart rows s = record s {
   jobs = [];
 }
 
--- after what orchestrator does; a restart has these rows from the keeper
+-- after what orchestrator does; a restart has these rows from the row store
 abbrev pub after_act : List Row → State → Act → State
 after_act rows s (act.PollRead p n) = after_read s p n
 after_act rows s (act.PollStore p) = after_store s p

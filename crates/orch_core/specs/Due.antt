@@ -4,7 +4,7 @@ use Rattle.orch_core.specs.Prelude.{Act, Turn}
 use Rattle.orch_core.specs.Prelude.act
 use Rattle.orch_core.specs.Prelude.turn
 
--- the place of a turn, where it is a poll-read of this server, and else what was there before
+-- the place of a turn, if it is a poll-read of this server, and else what was there before
 abbrev pub act_polled : ℕ → ℕ → ℕ → Act → ℕ
 act_polled n before place (act.PollRead p m) = if m.0 == n then place else before
 act_polled n before place (act.PollStore p) = before
@@ -21,17 +21,17 @@ polled_at n before place (turn.As node a) = act_polled n before place a
 polled_at n before place (turn.Claim node) = before
 polled_at n before place (turn.Release node) = before
 
--- the place, from 1, of the last poll-read turn of a server behind so many turns, or what was there before
+-- the place, from 1, of the last poll-read turn of a server after so many turns, or what was there before
 abbrev pub last_poll_from : ℕ → ℕ → ℕ → List Turn → ℕ
 last_poll_from n before place [] = before
 last_poll_from n before place (t ∷ ts) = last_poll_from n (polled_at n before (place + 1) t) (place + 1) ts
 
--- the place in a list of turns, from 1, of the last poll-read turn of a server, or 0 where it had none
+-- the place in a list of turns, from 1, of the last poll-read turn of a server, or 0 if it had none
 abbrev pub last_poll : ℕ → List Turn → ℕ
 last_poll n ts = last_poll_from n 0 0 ts
 
--- of so many servers, the one with the least number among those that had no poll-read turn yet; where each had one, the
--- one whose last poll-read turn is the earliest
+-- Of so many servers, the one with the least number among those that had no poll-read turn yet. If each had one, the
+-- one whose last poll-read turn is the earliest.
 pub record IsDue (count : ℕ) (ts : List Turn) (n : ℕ) : Type 0 where
   pub known : n < count
   pub earliest : (m : ℕ) → m < count → last_poll n ts ≤ last_poll m ts

@@ -7,6 +7,6 @@ use Rattle.orch_core.specs.States.{State}
 abbrev pub turn_of : State → Unended → Flown
 turn_of s u = flown s.world s.book (next_count s.reads) (record { 0 = s.moment }) u
 
--- none where there is no such job
+-- none if there is no such job
 abbrev pub turned_at : State → ℕ → Option Flown
 turned_at s id = option_map (turn_of s) (job_at s.jobs id)

@@ -35,7 +35,7 @@ holder_of kept = option_map (λ k. k.0) kept
 abbrev pub claimed : State → ℕ → ClaimAnswer
 claimed s node = claims.claim_answer s.claims node s.moment
 
--- a claim that is held passes to this node where another one held the last
+-- a claim that was got passes to this node if another one had the last
 abbrev pub passes_to : Option ℕ → ℕ → Bool
 passes_to None node = false
 passes_to (Some last) node = not (last == node)
@@ -45,7 +45,7 @@ abbrev pub is_kept_so : Option (ℕ × Moment) → ℕ → Moment → Bool
 is_kept_so None node until = false
 is_kept_so (Some kept) node until = (kept.0 == node) && (kept.1.0 == until.0)
 
--- the change of the kept rows that a claim makes: a held one's row is put, where it isn't kept so already
+-- the change of the kept rows that a claim makes: the row of one that was got is put, if it isn't kept already
 abbrev pub claim_changes_by : Option (ℕ × Moment) → ℕ → ClaimAnswer → List Change
 claim_changes_by kept node (claim.Taken other until) = []
 claim_changes_by kept node (claim.Held until) = if is_kept_so kept node until then [] else change.Put (row.Active node until) ∷ []
@@ -66,12 +66,12 @@ release_changes s node = release_changes_by s.claims.kept node
 abbrev pub acts : State → ℕ → Bool
 acts s node = claims.may_act s.claims node s.moment
 
--- where a claim passes to another node, orchestrator starts again
+-- if a claim passes to another node, orchestrator starts again
 abbrev pub act_claimed : Option ℕ → ℕ → ClaimAnswer → Option Act
 act_claimed last node (claim.Taken other until) = None
 act_claimed last node (claim.Held until) = if passes_to last node then Some act.Restart else None
 
--- What orchestrator does in a turn, if anything: one of several only where it remembers that it is active.
+-- What orchestrator does in a turn, if anything: one of several only if it remembers that it is active.
 abbrev pub act_in : State → Turn → Option Act
 act_in s (turn.Step x) = None
 act_in s (turn.Tick seconds) = None

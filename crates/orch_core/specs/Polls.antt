@@ -27,7 +27,7 @@ numbers_of s = record { reads = s.reads; last_job = s.last_job; wait = s.configu
 abbrev pub command_outcome : State → CommandTurn → Outcome
 command_outcome s c = outcome_of s.world s.book s.audit s.configuration (numbers_of s) c
 
--- what a scan tells and begins
+-- what a scan answers and begins
 abbrev pub scan_outcome : State → Outcome
 scan_outcome s = scan_by s.world s.book s.audit s.configuration (numbers_of s)
 
@@ -35,7 +35,7 @@ scan_outcome s = scan_by s.world s.book s.audit s.configuration (numbers_of s)
 abbrev pub job_changes : State → ℕ → List Change
 job_changes s job = changes_by s.book (job_observation (turned_at s job)) ++ closing_changes s.audit (record { 0 = s.moment }) (closing_of (turned_at s job))
 
--- those of what orchestrator does, by the rows that the keeper has
+-- those of what orchestrator does, by the rows that the row store has
 abbrev pub act_changes : List Row → State → Act → List Change
 act_changes rows s (act.PollRead p n) = []
 act_changes rows s (act.PollStore p) = changes_by s.book (slot_at s p)

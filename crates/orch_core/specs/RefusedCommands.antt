@@ -13,7 +13,7 @@ abbrev pub unreached : World → Option ServerNo → Option Refusal
 unreached w None = None
 unreached w (Some i) = if is_some (seen_in (status w i.0)) then None else Some (Unreachable i)
 
--- the row of a recovery, and of a takeover; 2 where what it needs isn't given
+-- the row of a recovery, and of a takeover; 2 if what it needs isn't given
 abbrev pub recovery_refused : World → BookState → AuditState → Configuration → Numbers → Option ServerNo → Option Refusal
 recovery_refused w b a c n None = Some UnknownInstance
 recovery_refused w b a c n (Some i) = recovery_refusal w b a (by_hand b c n i) i
@@ -26,8 +26,8 @@ abbrev pub takeover_refused : World → BookState → AuditState → Configurati
 takeover_refused w b a c n None d = Some UnknownInstance
 takeover_refused w b a c n (Some i) d = takeover_given w b a c n i d
 
--- 2, an instance that the command uses isn't in the book; and 5 where it reads the server itself, 4 where it removes
--- the instance, or the row of a command that begins a job
+-- 2: an instance that the command uses isn't in the book. Else 5 if it reads the server itself, 4 if it removes the
+--   instance, or the row of a command that begins a job.
 abbrev pub refusal_by : World → BookState → AuditState → Configuration → Numbers → Command → Route → Option Refusal
 refusal_by w b a by n c Discovers = first_of (unknown_in b c) (unreached w c.i)
 refusal_by w b a by n c Forgets = removal_refusal b c

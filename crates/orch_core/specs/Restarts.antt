@@ -19,7 +19,7 @@ reloaded_rows rows s = counted (length s.book.settings) (last_given s) rows
 abbrev pub reloaded_audit : List Row → State → AuditState
 reloaded_audit rows s = audit_of (period_by s.configuration) s.audit.next (reloaded_rows rows s)
 
--- the latest begun or ended moment of its recoveries, where that is later
+-- the latest begun or ended moment of its recoveries, if that is later
 abbrev pub reloaded_moment : List Row → State → ℕ
 reloaded_moment rows s = latest_recovery s.moment (reloaded_audit rows s).recoveries
 

@@ -38,7 +38,7 @@ BeginInTime (update.Decides e) = ⊤
 BeginInTime (update.Begins x) = ⊤
 BeginInTime (update.Recovers xs) = All (λ x. x.entry.begun.0 ≤ 2 ^ 63) xs
 
--- a state can take an outcome, where the number of its last job fits its type
+-- a state can take an outcome, if the number of its last job fits its type
 pub record CanSettle (s : State) (o : Outcome) : Type 0 where
   pub update : IsUpdate (known_of s) o.book
   pub next : (updated (known_of s) o.book).last_job < 2 ^ 64 → IsNext (length s.world.servers) s.last_job o.book

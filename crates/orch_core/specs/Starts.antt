@@ -28,8 +28,8 @@ loaded_book s rows = loaded (settings_of s) greatest_id rows
 abbrev pub loaded_audit : Scenario → List Row → AuditState
 loaded_audit s rows = audit_of (period_of s) (last_id rows + 1) (start_rows s rows)
 
--- what is kept anew: the instances of the known servers that no row that counts has, the scenario's registrations, the
--- recoveries whose rows have no block period with their clusters', and the unended ones as interrupted
+-- What is kept anew: the instances of the known servers that no row that counts has, and the scenario's registrations.
+-- Then the recoveries whose rows have no block period with their clusters', and the unended ones as interrupted.
 abbrev pub start_changes : Scenario → List Row → List Change
 start_changes s rows = opening_changes (start_world s) (start_moment s rows) (loaded_book s rows) s.known s.rules (loading (period_of s) (start_rows s rows) (loaded_audit s rows) (start_moment s rows))
 
@@ -42,8 +42,8 @@ configuration_of wait s = record { wait = wait; every = s.pseudo; block = s.bloc
 abbrev pub start_claim : Scenario → List Row → Option (ℕ × Moment)
 start_claim s rows = kept_claim (start_rows s rows)
 
--- the state with which the scenario's run begins, by the rows of its keeper: an instance that the opening puts brings
--- the bridge that it shows where it is valid, and a kept row brings none; no node remembers a claim
+-- The state with which the scenario's run begins, by the rows of its row store. An instance that the opening puts
+-- brings the bridge of its status if it is valid, and a kept row brings none. No node remembers a claim.
 abbrev pub start : Scenario → ℕ → List Row → State
 start s wait rows = record {
   world = start_world s;
@@ -63,11 +63,11 @@ start s wait rows = record {
 abbrev pub without_turns : State → Recorded
 without_turns s = record { state = s; journal = [] }
 
--- the run begins by the kept rows, where the keeper tells them, and by some rows where it doesn't
+-- the run begins by the kept rows, if they are known, and else by some rows
 abbrev pub StartsBy : Option (List Row) → Scenario → ℕ → State → Type 0
 StartsBy None s wait now = (rows : List Row) × (now ≡ start s wait rows)
 StartsBy (Some rows) s wait now = now ≡ start s wait rows
 
--- the kept rows with the opening's changes, where the keeper tells them
+-- the kept rows with the opening's changes, if they are known
 abbrev pub kept_at_start : Bool → Option (List Row) → Scenario → Option (List Row)
 kept_at_start made kept s = if made then option_map (λ rows. changed rows (start_changes s rows)) kept else kept

@@ -4,9 +4,9 @@ use Rattle.orch_core.specs.Prelude.{AuditState, BookState, ClaimState, Configura
 use Rattle.orch_core.specs.Prelude.{are_known, is_unended, longest_block, observed_servers, pollers, recovery_at, source_servers}
 use Rattle.orch_core.specs.Prelude.unended
 
--- the servers, the moment, what orchestrator knows, the recoveries that were begun, the pollers' slots, the greatest
--- read number so far, the unended jobs by rising number, the number of the last job that was begun, what holds
--- throughout the run, which of the orchestrators claims to be the active one, and which got a claim last
+-- The servers, the moment, what orchestrator knows, the recoveries that were begun, the pollers' slots, and the
+-- greatest read number so far. Then the unended jobs by rising number, the number of the last job that was begun, and
+-- what is fixed for the run. Last which of the orchestrators claims to be the active one, and which got a claim last.
 pub record State : Type 0 where
   pub world : World
   pub moment : ℕ
@@ -50,10 +50,10 @@ abbrev pub HaveEntries : AuditState → ℕ → List Unended → Type 0
 HaveEntries a low [] = ⊤
 HaveEntries a low (j ∷ jobs) = HasEntry a low (entry_id j) × HaveEntries a (unwrap_or (entry_id j) low) jobs
 
--- every server is in the book's lists, every poller has its slot, each reading, each source and each job is of the
--- servers, the jobs' numbers rise from 1 on up to that of the last job, and so do their entries, which aren't ended,
--- the ids of recoveries rise from 1 on below the next one, which is in its type's range, each recovery began by 2^63,
--- time stands still then, and block periods are at most 1,000,000,000 seconds
+-- Every server is in the book's lists, every poller has its slot, and each reading, each source and each job is of the
+-- servers. The jobs' numbers rise from 1 on up to that of the last job, and so do their entries, which aren't ended.
+-- The ids of recoveries rise from 1 on below the next one, which is in its type's range. Each recovery began by 2^63,
+-- and the moment never passes that. Block periods are at most 1,000,000,000 seconds.
 pub record IsState (s : State) : Type 0 where
   pub names : length s.book.names ≡ length s.world.servers
   pub settings : length s.book.settings ≡ length s.world.servers

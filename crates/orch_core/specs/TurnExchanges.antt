@@ -9,7 +9,7 @@ use Rattle.orch_core.specs.Jobs.{turned_at}
 use Rattle.orch_core.specs.Nodes.{act_in}
 use Rattle.orch_core.specs.States.{State}
 
--- what befalls a server is one exchange
+-- what happens to a server is one exchange
 abbrev pub exchange_of : Step → Exchange
 exchange_of (step.Write n size) = Write n.0 size
 exchange_of (step.Fetch n) = Fetch n.0
@@ -43,6 +43,6 @@ exchanges_at s (turn.As node a) = done_exchanges s (act_in s (turn.As node a))
 exchanges_at s (turn.Claim node) = done_exchanges s (act_in s (turn.Claim node))
 exchanges_at s (turn.Release node) = []
 
--- so many seconds later; the moment stands still at 2^63
+-- so many seconds later; the moment never passes 2^63
 abbrev pub later : ℕ → ℕ → ℕ
 later now seconds = min (now + seconds) (2 ^ 63)

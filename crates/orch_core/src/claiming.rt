@@ -46,7 +46,7 @@ pub(crate) fn holder_of(kept: Option<(u32, Moment)>) -> Option<u32>
     }
 }
 
-/// Whether a claim that is held passes to this node from the one that held the last.
+/// Whether a claim that this node got passes to it from the one that had the last.
 pub(crate) fn passes_to(last: Option<u32>, node: u32) -> bool
     ensures { result ≡ passes_to last node }
 {
@@ -90,7 +90,7 @@ fn is_of(node: u32, kept: Option<(u32, Moment)>) -> bool
     }
 }
 
-/// How the kept rows change where the node gives its claim back.
+/// How the kept rows change if the node gives its claim back.
 pub(crate) fn release_changes(
     alloc: Global,
     kept: Option<(u32, Moment)>,

@@ -85,7 +85,7 @@ fn is_bound(_wait: u32)
 impl Engine {
     ghost use Rattle.orch_core.specs.After.{after_job, after_read, after_step, after_store, after_tick};
 
-    // A step befalls a server.
+    // A step that happens to a server.
     fn exchange(&mut self, x: Step) -> Reply
         requires { IsStep (length self.old.world.servers) x }
         ensures reply { result ≡ step_reply self.old.world x }
@@ -170,7 +170,7 @@ impl Engine {
         Ok(Reply::Done)
     }
 
-    /// Orchestrator starts again; these changes are kept with its own, behind them.
+    /// Orchestrator starts again; these changes are kept with its own, after them.
     pub(crate) fn start_again<K: Keeper>(
         &mut self,
         alloc: Global,
@@ -401,14 +401,19 @@ impl Engine {
     ghost use Rattle.knowledge.specs.Scenarios.Scenarios.{IsScenario};
     ghost use Rattle.orch_core.specs.Starts.{StartsBy, kept_at_start};
 
-    /// The opening state of a scenario, by the rows that the keeper hands back: its servers as they begin, the book of
-    /// the rows that count and of the known servers that none of these is of, with the bridges that these servers show
-    /// and the scenario's registrations, and the recoveries of these rows, each unended one ended as interrupted. A job
-    /// is to wait at most `wait` times. Each server gets room for all transactions of the listed histories and one more
-    /// for each write turn, and for the longest list of flush points and one more new file for each rotate turn. What
-    /// there is beyond the rows is kept first; where there is nothing beyond them, only the rows are asked for. Keeper
-    /// comes only where the keeper's count of faults rose; after it, and after Memory, the kept rows are as before. No
-    /// instance has a greater read number than the count of readings.
+    /// The opening state of a scenario, by the rows that the row store hands back.
+    /// - Its servers are as they begin.
+    /// - Its book has the rows that count, and the known servers of which there are none. It has the bridges of these
+    ///   servers' statuses and the scenario's registrations.
+    /// - Its recoveries are those of these rows, each unended one ended as interrupted.
+    ///
+    /// A job is to wait at most `wait` times. Each server gets room for all transactions of the listed histories and
+    /// one more for each write turn. It gets room for the longest list of flush points and one more new file for each
+    /// rotate turn.
+    ///
+    /// What there is beyond the rows is kept first. If there is nothing beyond them, only the rows are asked for.
+    /// `Keeper` comes only if the row store's count of faults rose. After it, and after `Memory`, the kept rows are as
+    /// before. No instance has a greater read number than the count of readings.
     pub fn make<K: Keeper>(
         alloc: Global,
         s: &Scenario,
@@ -457,7 +462,7 @@ impl Engine {
         })
     }
 
-    /// What orchestrator does, with its reply once more where it is written.
+    /// What orchestrator does, with its reply once more if it is written.
     #[inline(always)]
     pub(crate) fn act<K: Keeper>(
         &mut self,
@@ -490,7 +495,7 @@ impl Engine {
         }
     }
 
-    /// One turn, with its reply once more where it is written.
+    /// One turn, with its reply once more if it is written.
     pub(crate) fn replies<K: Keeper>(
         &mut self,
         alloc: Global,
@@ -522,9 +527,9 @@ impl Engine {
         }
     }
 
-    /// One turn. What it changes of the kept rows is kept first, and a refused command changes nothing. Keeper comes
-    /// only where the keeper's count of faults rose, at a turn that calls the keeper; after it, and after Memory,
-    /// nothing has changed. The keeper is called only where orchestrator starts again and where a kept row changes.
+    /// One turn. What it changes of the kept rows is kept first, and a refused command changes nothing. `Keeper` comes
+    /// only if the row store's count of faults rose, at a turn that calls the row store. After it, and after `Memory`,
+    /// nothing has changed. The row store is called only if orchestrator starts again or a kept row changes.
     pub fn turn<K: Keeper>(
         &mut self,
         alloc: Global,
@@ -549,9 +554,9 @@ impl Engine {
         Ok(replies.told)
     }
 
-    /// All of the turns, in order, to the first fault: after it the turns before the one that gave up are done, and
-    /// nothing of that one or of those after it. No turn takes memory that outlives it, but for what the servers and
-    /// the book hold.
+    /// All of the turns, in order, to the first fault. After it the turns before the one that gave up are done, and
+    /// nothing of that one or of those after it. No turn takes memory that outlives it, except for what the servers and
+    /// the book have.
     pub fn run<K: Keeper>(
         &mut self,
         alloc: Global,
@@ -600,10 +605,12 @@ impl Engine {
         Ok(reply)
     }
 
-    /// Rounds until the job has ended; none where it isn't open. It answers what the job's last turn answered. A round
-    /// is one turn of the job, then fetch and apply on each server in name order, then a poll-read and a poll-store by
-    /// poller 0 of each server in name order. There are at most as many rounds as the job has turns left. They run to
-    /// the first fault, as `run` does. Beside what the servers and the book hold, they take memory for one round only.
+    /// Rounds until the job has ended; none if it isn't open. It answers what the job's last turn answered.
+    ///
+    /// A round is one turn of the job, then fetch and apply on each server in name order. Last come a poll-read and a
+    /// poll-store by poller 0 of each server in name order. There are at most as many rounds as the job has turns left.
+    /// They run to the first fault, as `run` does. Beside what the servers and the book have, they take memory for one
+    /// round only.
     pub fn finish<K: Keeper>(
         &mut self,
         alloc: Global,

@@ -12,7 +12,7 @@ use crate::orch_base::Moment;
 use crate::server_model::World;
 use crate::turns::Step;
 
-/// The last moment: where it would be passed, time stands still.
+/// The last moment: the moment never passes it.
 const LAST_MOMENT: u64 = 1 << 63;
 
 /// The moment, so many seconds later.
@@ -22,7 +22,7 @@ pub(crate) fn later(now: Moment, seconds: u64) -> Moment
     Moment(now.0.saturating_add(seconds).min(LAST_MOMENT))
 }
 
-/// Does the exchange that a step is, and tells its reply.
+/// Does the exchange that a step is, and returns its reply.
 pub(crate) fn exchange(world: &mut World, step: Step) -> Reply
     requires { IsStep (length world.old.servers) step }
     ensures reply { result ≡ step_reply world.old step }

@@ -18,7 +18,7 @@ use node_claims::ClaimAnswer;
 use std::alloc::Global;
 
 impl Engine {
-    /// What one of several orchestrators does, where it remembers that it is active; else it forgets its claim.
+    /// What one of several orchestrators does, if it remembers that it is active; else it forgets its claim.
     pub(crate) fn act_as<K: Keeper>(
         &mut self,
         alloc: Global,
@@ -49,8 +49,7 @@ impl Engine {
         self.act(alloc, keeper, act, written)
     }
 
-    /// The node's claim is kept first, and where it passes from another one orchestrator starts again, by the same
-    /// call.
+    /// The node's claim is kept first, and if it passes from another one orchestrator starts again, by the same call.
     pub(crate) fn claim<K: Keeper>(
         &mut self,
         alloc: Global,
@@ -83,7 +82,7 @@ impl Engine {
         Ok(claim_reply(answer))
     }
 
-    // Keeps a claim that the node holds until this moment, and starts again where it passes from another one.
+    // Keeps a claim that the node holds until this moment, and starts again if it passes from another one.
     fn keep_claim<K: Keeper>(
         &mut self,
         alloc: Global,

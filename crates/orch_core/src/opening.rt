@@ -63,7 +63,7 @@ pub(crate) fn make_slots(alloc: Global) -> Result<Vec<Option<Observation>>, Memo
     Ok(slots)
 }
 
-// Empties a slot, where something is there.
+// Empties a slot, if something is there.
 fn empty_slot(slot: &mut Option<Observation>)
     ensures { slot.new ≡ None }
 {

@@ -54,9 +54,9 @@ impl Model for Orch {
 }
 
 impl Orch {
-    /// The opening state of a scenario, by the rows that the keeper hands back, as `Engine::make`'s, and an empty
-    /// journal. Keeper comes only where the keeper's count of faults rose; after it, and after Memory, the kept rows
-    /// are as before.
+    /// The opening state of a scenario, by the rows that the row store hands back, as `Engine::make`'s, and an empty
+    /// journal. `Keeper` comes only if the row store's count of faults rose. After it, and after `Memory`, the kept
+    /// rows are as before.
     pub fn make<K: Keeper>(
         alloc: Global,
         s: &Scenario,
@@ -83,9 +83,9 @@ impl Orch {
     }
 
     /// One turn, which joins the journal with its reply. What it changes of the kept rows is kept first, and a refused
-    /// command changes nothing. Keeper comes only where the keeper's count of faults rose, at a turn that calls the
-    /// keeper; after it, and after Memory, nothing has changed. The keeper is called only where orchestrator starts
-    /// again and where a kept row changes.
+    /// command changes nothing. `Keeper` comes only if the row store's count of faults rose, at a turn that calls the
+    /// row store. After it, and after `Memory`, nothing has changed. The row store is called only if orchestrator
+    /// starts again or a kept row changes.
     pub fn turn<K: Keeper>(
         &mut self,
         alloc: Global,
@@ -115,7 +115,7 @@ impl Orch {
         Ok(replies.told)
     }
 
-    /// All of the turns, in order, to the first fault: after it the turns before the one that gave up are done, and
+    /// All of the turns, in order, to the first fault. After it the turns before the one that gave up are done, and
     /// nothing of that one or of those after it.
     pub fn run<K: Keeper>(
         &mut self,
@@ -141,8 +141,8 @@ impl Orch {
         Ok(())
     }
 
-    /// Rounds until the job has ended, as `Engine::finish`'s; each of their turns joins the journal with its reply. The
-    /// other jobs stay as they are.
+    /// Rounds until the job has ended, as `Engine::finish`'s. Each of their turns joins the journal with its reply. The
+    /// other jobs stay as they are. `Keeper` and `Memory` as `run`'s.
     pub fn finish<K: Keeper>(
         &mut self,
         alloc: Global,
@@ -206,7 +206,7 @@ impl Orch {
         &self.journal
     }
 
-    /// The state and the journal apart. It takes no memory.
+    /// The state and the journal, separately. It takes no memory.
     pub fn into_parts(self) -> (Engine, Vec<(Turn, Reply)>)
         ensures state { result.0 ≡ self.state }
         ensures journal { result.1.items ≡ self.journal }
@@ -230,8 +230,8 @@ impl Orch {
         self.engine.book().order()
     }
 
-    /// The server with the least number among those that had no poll-read turn yet; where each had one, the server
-    /// whose last poll-read turn is the earliest. It takes no memory.
+    /// The server with the least number among those that had no poll-read turn yet. If each had one, the server whose
+    /// last poll-read turn is the earliest. It takes no memory.
     pub fn due(&self) -> ServerNo
         ensures { IsDue (length self.now.state.world.servers)
             (map (λ e. e.0) self.now.journal) result.0 }
@@ -247,7 +247,7 @@ impl Orch {
         self.engine.now()
     }
 
-    /// The active one of several orchestrators: who remembers that its claim lasts; there is no other.
+    /// The active one of several orchestrators: who remembers that its claim lasts. There is no other.
     pub fn active(&self) -> Option<u32>
         ensures { result ≡ active self.now.state.claims self.now.state.moment }
     {

@@ -18,8 +18,7 @@ pub(crate) fn make_polls(alloc: Global, count: usize) -> Result<Vec<u64>, Memory
     Ok(polls)
 }
 
-// What orchestrator does at this place, from 1: where it is a poll-read, it is the last one of the server that it
-// reads.
+// What orchestrator does at this place, from 1: if it is a poll-read, it is the last one of the server that it reads.
 fn note_act(polls: &mut Vec<u64>, place: u64, act: &Act)
     ensures count { length polls.new.items ≡ length polls.old.items }
     ensures each { NotesAct polls.old.items polls.new.items place act.now }
@@ -35,7 +34,7 @@ fn note_act(polls: &mut Vec<u64>, place: u64, act: &Act)
     }
 }
 
-/// A turn at this place, from 1: where it is a poll-read, it is the last one of the server that it reads.
+/// A turn at this place, from 1: if it is a poll-read, it is the last one of the server that it reads.
 pub(crate) fn note_poll(polls: &mut Vec<u64>, place: u64, t: &Turn)
     ensures count { length polls.new.items ≡ length polls.old.items }
     ensures each { NotesPoll polls.old.items polls.new.items place t.now }

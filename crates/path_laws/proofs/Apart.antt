@@ -4,7 +4,7 @@ use Rattle.std.specs.Prelude.{◌==◌, All, IfSome, option_map, if◌then◌els
 use Rattle.path_laws.proofs.Prelude.{All-cons, All-nil, All-weaker, BookState, ServerNo, eqb-true, is_given, parent_at, passed-of, passed_in, path_of}
 use Rattle.path_laws.proofs.Prelude.{same_Some, source_of, way_above, way_in, way_on, way_up}
 
--- both are there only where they are equal
+-- both are there only if they are equal
 abbrev Agree : Option (List ServerNo) → Option (List ServerNo) → Type 0
 Agree None o = Unit {0}
 Agree (Some xs) None = Unit {0}

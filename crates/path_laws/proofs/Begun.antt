@@ -1,4 +1,4 @@
--- Permitted commands begin with operations that are held, over servers that are free.
+-- Permitted commands begin with operations that have `Held`, over servers that are free.
 use Rattle.std.proofs.Common.{◌≡◌, ℕ, Bool, true, false, List, [], ◌∷◌, ◌++◌, refl, Option, Some, None}
 use Rattle.std.specs.Prelude.{map}
 use Rattle.path_laws.proofs.Prelude.{Begins, BookState, Command, Job, Moment, RegroupCommand, ServerNo, World, about as about_given, about_one}
@@ -37,7 +37,7 @@ module _ (w : World) (b : BookState) (now : Moment) (jobs : List Job) (id wait :
   relocated-begin movers None logs free = begins-with w b jobs (moving_list w b movers None) id wait [] refl refl refl free
   relocated-begin movers (Some d) logs free = moved-begin movers d logs w.gtid refl free
 
-  -- the checks that a job stands on
+  -- the checks on which a job rests
   abbrev Checked : RegroupCommand → ServerNo → Option ServerNo → Type 0
   Checked c i d = (first_about (busy b) (list_of w b c i d) ≡ None) × (first_about (without_log w) (option_to_list d) ≡ None)
 

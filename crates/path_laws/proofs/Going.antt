@@ -1,4 +1,4 @@
--- There is a way up exactly where the book's forest has one server above another.
+-- There is a way up exactly if the book's forest has one server above another.
 use Rattle.std.proofs.Common.{◌≡◌, ℕ, ◌<◌, Bool, true, false, List, [], ◌∷◌, length, get_or, refl, sym, ◌∙◌, ap, subst, Option, Some, None, arith, inl, inr, zero, suc, ◌||◌}
 use Rattle.std.specs.Prelude.{◌==◌, ◌&&◌, is_some, nat_lt, option_and_then, option_map, if◌then◌else◌}
 use Rattle.path_laws.proofs.Prelude.{Attached, BookState, Detached, IsBook, IsForestOf, IsForestOf-computed, IsOrder-by_name, Path, ServerNo}

@@ -1,4 +1,4 @@
--- A server's path to a destination: its operations are held, and change only servers of the list.
+-- A server's path to a destination: its operations have `Held`, and change only servers of the list.
 use Rattle.std.proofs.Common.{◌≡◌, true, false, List, [], ◌∷◌, ◌++◌, refl, Option, Some, None}
 use Rattle.std.specs.Prelude.{◌==◌, All}
 use Rattle.path_laws.proofs.Prelude.{All-cons, All-head, All-nil, All-tail, Among, BookState, Footing, Matched, Op, Path, ServerNo, again-held}
@@ -7,7 +7,7 @@ use Rattle.path_laws.proofs.Prelude.{climbed, deed_of, flat_map, held-append, is
 use Rattle.path_laws.proofs.Prelude.{under, under-held, under-listed, up, up-held, up-listed}
 use Rattle.path_laws.proofs.Apart.{path-apart}
 
--- ---- operations that are held
+-- ---- operations with `Held`
 
 abbrev Apart : ServerNo → ServerNo → Type 0
 Apart n x = (n.0 == x.0) ≡ false
@@ -93,7 +93,7 @@ module _ (list : List ServerNo) where
   all-right [] ys h = h
   all-right (x ∷ xs) ys h = all-right xs ys (All-tail (Among list) x (xs ++ ys) h)
 
-  -- where the servers that move, the destination and all that is passed are of the list
+  -- if the servers that move, the destination and all that is passed are of the list
   pub each-listed : (b : BookState) (rs : List ServerNo) (d : ServerNo) → All (Among list) rs → Among list d
       → All (Among list) (flat_map (λ n. passed_in (path_to b (Some d) n)) rs) → are_listed list (flat_map (λ n. travelled n d (path_of b n d)) rs) ≡ true
   each-listed b [] d among at_d passed = refl
@@ -104,12 +104,12 @@ module _ (list : List ServerNo) where
       (each-listed b rs d (All-tail (Among list) r rs among) at_d
       (all-right (passed_in (path_of b r d)) (flat_map (λ n. passed_in (path_to b (Some d) n)) rs) passed))
 
--- a server with others in front and behind is one of the list
+-- a server with others before and after it is one of the list
 pub among-middle : (xs ys : List ServerNo) (d : ServerNo) → Among (xs ++ d ∷ ys) d
 among-middle xs ys d =
     All-head (Among (xs ++ d ∷ ys)) d ys (all-right (xs ++ d ∷ ys) xs (d ∷ ys) (all-among (xs ++ d ∷ ys)))
 
--- and so are those behind it
+-- and so are those after it
 pub among-last : (xs ys : List ServerNo) (d : ServerNo) → All (Among (xs ++ d ∷ ys)) ys
 among-last xs ys d =
     All-tail (Among (xs ++ d ∷ ys)) d ys (all-right (xs ++ d ∷ ys) xs (d ∷ ys) (all-among (xs ++ d ∷ ys)))

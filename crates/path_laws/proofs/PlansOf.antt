@@ -9,7 +9,7 @@ use Rattle.path_laws.proofs.Prelude.command
 use Rattle.path_laws.proofs.Prelude.name
 use Rattle.path_laws.proofs.Prelude.refusal
 
--- where none is astray, each has a path
+-- if none is astray, each has a path
 found-each : (b : BookState) (d : ServerNo) (rs : List ServerNo) → first_about (without_path b (Some d)) rs ≡ None → All (λ r. IsSome (path_of b r d)) rs
 found-each b d [] h = All-nil (λ (r : ServerNo). IsSome (path_of b r d))
 found-each b d (r ∷ rs) h =

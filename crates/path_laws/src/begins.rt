@@ -4,8 +4,8 @@ ghost use Rattle.std.specs.Prelude.{◌≡◌, ℕ, List, None};
 ghost use Rattle.path_laws.specs.Prelude.{Begins, BookState, Command as ACommand, Job, Moment as AMoment, World, job_with, leased_by, leases_of};
 ghost use Rattle.path_laws.specs.Prelude.{plan_of, refusal_of};
 
-/// Where nothing refuses one of these commands, the job of its plan may begin: its operations are held, each server
-/// that one of them may change is in the command's list, and nobody has a lease of a server of that list. So it is for
+/// If nothing refuses one of these commands, the job of its plan may begin. Its operations have `Held`, and each server
+/// that one of them may change is in the command's list. Nobody has a lease of a server of that list. So it is for
 /// every book and for servers in any state.
 pub fn permitted_relocations_begin()
     ensures { (w : World) (b : BookState) (now : AMoment) (jobs : List Job) (given : ACommand) (id wait : ℕ) →

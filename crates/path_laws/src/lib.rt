@@ -1,4 +1,4 @@
-//! Laws of the commands that take servers below another one by whatever path: a permitted command's job may begin, and
+//! Laws of the commands that take servers below another one by whatever path. A permitted command's job may begin, and
 //! has its whole plan, by the ways that the book's forest has.
 #![tactic(auto)]
 

@@ -6,7 +6,7 @@ ghost use Rattle.path_laws.specs.Prelude.{arrived, auto, autos, finished, flat_m
 ghost use Rattle.path_laws.specs.Prelude.{travelled};
 
 /// A permitted relocation has its whole plan. By coordinates the instance, or each of its replicas but the destination,
-/// has a path and goes it; with GTIDs each goes below the destination at once.
+/// has a path and goes it. With GTIDs each goes below the destination at once.
 pub fn permitted_relocations_have_plans()
     ensures path { (w : World) (b : BookState) (now : AMoment) (i d : Number) → w.gtid ≡ false →
         refusal_of w b now (given Relocate i (Some d)) ≡ None →

@@ -11,7 +11,7 @@ pub fn ways_do_not_come_back()
     ensures path { (b : BookState) (n d : Number) → All (λ x. (n.0 == x.0) ≡ false) (passed_in (path_of b n d)) }
 {}
 
-/// The level next above a server is its own source, whatever the book knows of that: so there is always a path to it,
+/// The level next above a server is its own source, whatever the book knows of that. So there is always a path to it,
 /// and below each server that is attached to it, and nothing is passed on the way there. The levels above go from
 /// parent to parent by the book's forest.
 pub fn ways_climb()
@@ -24,8 +24,8 @@ pub fn ways_climb()
         way_up b n to ≡ Some passed → GoesUp b n passed to }
 {}
 
-/// There is a way up to another server exactly where that is the server's source, or the forest has it above, and a
-/// path to a destination exactly where there is one to the destination, or to the source to which it is attached.
+/// There is a way up to another server exactly if that is the server's source, or the forest has it above. There is a
+/// path to a destination exactly if there is a way to it, or to the source to which it is attached.
 pub fn ways_go_where_the_forest_does()
     ensures way { (b : BookState) (n to : Number) → IsBook b → n.0 < length b.names → to.0 < length b.names →
         is_some (way_up b n to) ≡ is_under b n to }

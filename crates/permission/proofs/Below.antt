@@ -20,7 +20,7 @@ reached-from ups is n x k (Further x' m e rest) lt le =
     go later (suc k) at le =
         ap (is_reached_on (λ y. y == n || is_reached (above ups) k n y)) e ∙ or_right (m == n) (is_reached (above ups) k n m) (later k (omega (arith, at, le)))
 
--- a test that says the same is the same
+-- a test with the same meaning is the same
 pub same-test : (P : Type 0) (a b : Bool) → IsTrue a ↔ P → (P → b ≡ true) → (b ≡ true → P) → a ≡ b
 same-test P true true a to from = refl
 same-test P false false a to from = refl
@@ -34,7 +34,7 @@ below-test ups is n x a lt means =
     (λ way. reached-from ups is n x (length ups) way lt (omega (arith, level-below ups x is.ends is.closed lt)))
     (λ h. reached-follows (above ups) (length ups) n x h)
 
--- behind the tests that both are servers
+-- after the tests that both are servers
 pub tested : (a b x y : Bool) → a ≡ true → b ≡ true → x ≡ y → x ≡ (a && b && y)
 tested true true x y ea eb e = e
 tested false b x y ea eb e = absurd (false≢true ea)

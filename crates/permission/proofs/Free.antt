@@ -1,4 +1,4 @@
--- Where no server of a list is busy, none has a lease.
+-- If no server of a list is busy, none has a lease.
 use Rattle.std.proofs.Common.{◌≡◌, ℕ, List, [], ◌∷◌, refl, ◌∙◌, ap, Option, Some, None}
 use Rattle.permission.proofs.Prelude.{BookState, ServerNo, busy, busy_by as refused_by_lease, first_about, first_busy, lease_at, option_or}
 use Rattle.permission.proofs.Prelude.Leases.{busy_by}

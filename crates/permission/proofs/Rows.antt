@@ -14,7 +14,7 @@ about-is P none f b given at_none at_i each (Some c) = go given.i at_i
     go None at = at_none
     go (Some i) at = each c i at
 
--- where what doesn't refuse a command finds its servers free, a command that isn't refused does
+-- If what doesn't refuse a command finds its servers free, a command that isn't refused does so too.
 pub about-free : {K : Type 0} (by : K → ServerNo → Option ServerNo → Option Refusal) (list : K → ServerNo → Option ServerNo → List ServerNo) (b : BookState) (given : Command)
     → ((c : K) (i : ServerNo) → by c i given.d ≡ None → first_about (busy b) (list c i given.d) ≡ None) → (kind : Option K)
     → refused b by kind given ≡ None → first_busy b.leases (about [] list kind given) ≡ None

@@ -1,4 +1,4 @@
--- Servers that the book names are its servers, where the instances of a command are.
+-- Servers that the book names are its servers, if the instances of a command are.
 use Rattle.std.proofs.Common.{◌≡◌, ◌<◌, true, List, [], ◌∷◌, length, Option, Some, None, arith}
 use Rattle.std.specs.Prelude.{All, IfSome, IsTrue, not}
 use Rattle.permission.proofs.Prelude.{All-cons, All-filter, All-nil, Attached, BookState, Detached, IsBook, ServerNo, SourceState, Without, are_known}

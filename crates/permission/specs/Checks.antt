@@ -13,8 +13,8 @@ use Rattle.permission.specs.Lists.{first_about, only_if}
 use Rattle.permission.specs.Views.{attached_of, exec_seen, first_seen, has_log, is_attached_in, is_below, is_detached_in, is_lower, is_valid, purged_seen, same_id, same_label, set_seen, source_of, uuid_of}
 
 -- What the checks of a command are about: the instance, its new source, the servers of which the job takes the leases,
--- those that must be reached, which servers move to which source, the new sources, which must log, and the servers by
--- whose coordinates under their sources the moves go.
+-- and those that must be reached. Then which servers move to which source, the new sources, which must log, and the
+-- servers by whose coordinates under their sources the moves go.
 pub record Case : Type 0 where
   pub i : ServerNo
   pub to : Option ServerNo
@@ -86,8 +86,8 @@ place_purged b n = purged_under b n (source_of b n)
 abbrev pub set_purged : BookState → Move → Option Refusal
 set_purged b m = only_if (not (is_within (purged_seen b m.source) (set_seen b m.no))) (refusal.Purged m.source (first_seen b m.source))
 
--- the refusal of a check, none where it passes; over several servers that of the first. 31 stands in the rows of
--- scenarios without marks alone.
+-- The refusal of a check, none if it passes. Over several servers it is that of the first. 31 is only in the rows of
+-- scenarios without marks.
 abbrev pub refusal_by : World → BookState → Case → Check → Option Refusal
 refusal_by w b c check.SameInstance = only_if (is_given c.i c.to) refusal.SameInstance
 refusal_by w b c check.Busy = first_about (busy b) c.leased
@@ -129,7 +129,7 @@ abbrev pub permitted : Option Refusal → Result Unit Refusal
 permitted None = Ok tt
 permitted (Some r) = Err r
 
--- nothing at want of memory
+-- nothing if memory runs out
 abbrev pub permit_fault : PermitFault → Option Refusal
 permit_fault (fault.Refused r) = Some r
 permit_fault fault.Memory = None

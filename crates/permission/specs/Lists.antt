@@ -15,7 +15,7 @@ first_about about xs = first_of (map about xs)
 abbrev pub only_if : {A : Type 0} → Bool → A → Option A
 only_if b x = if b then Some x else None
 
--- these servers move to one source, where there is one
+-- these servers move to one source, if there is one
 abbrev pub moves_to : List ServerNo → Option ServerNo → List Move
 moves_to servers None = []
 moves_to servers (Some source) = map (λ n. record { no = n; source = source }) servers

@@ -4,7 +4,7 @@ use Rattle.permission.specs.Prelude.{BookState, ServerNo, replicas_of}
 use Rattle.permission.specs.Checks.{is_given}
 use Rattle.permission.specs.Views.{source_of}
 
--- the servers of a list, without one where one is given
+-- the servers of a list, without one if one is given
 abbrev pub without : Option ServerNo → List ServerNo → List ServerNo
 without one list = filter (λ n. not (is_given n one)) list
 

@@ -6,8 +6,8 @@ use Rattle.permission.specs.Lists.{moves_to}
 use Rattle.permission.specs.Views.{is_before}
 use Rattle.permission.specs.declared.case.Move.{Move}
 
--- servers move to a new source, where there is one, which is looked at also where none moves; the job takes the leases
--- of a list
+-- Servers move to a new source, if there is one, which is looked at even if none moves. The job takes the leases of a
+-- list.
 abbrev pub moving : ServerNo → List ServerNo → Option ServerNo → List ServerNo → Case
 moving i movers to leased = record {
   i = i;
@@ -19,7 +19,7 @@ moving i movers to leased = record {
   crossed = [];
 }
 
--- moves of which the first are by name before the others, or behind them
+-- moves of which the first are by name before the others, or after them
 abbrev pub in_order : Bool → List Move → List Move → List Move
 in_order true ms ns = ms ++ ns
 in_order false ms ns = ns ++ ms
@@ -50,8 +50,8 @@ abbrev pub about_one : {A : Type 0} → A → (ServerNo → Option ServerNo → 
 about_one none f None d = none
 about_one none f (Some i) d = f i d
 
--- what is so of a command by its kind, its instance and the destination that is given: `none` where it has no such
--- kind, or no instance is given
+-- what is so of a command by its kind, its instance and the destination that is given: `none` if it has no such kind,
+-- or no instance is given
 abbrev pub about : {K A : Type 0} → A → (K → ServerNo → Option ServerNo → A) → Option K → Command → A
 about none f None given = none
 about none f (Some c) given = about_one none (f c) given.i given.d
@@ -60,8 +60,8 @@ about none f (Some c) given = about_one none (f c) given.i given.d
 abbrev pub refused : {K : Type 0} → BookState → (K → ServerNo → Option ServerNo → Option Refusal) → Option K → Command → Option Refusal
 refused b by kind given = option_or (unknown_in b given) (about None by kind given)
 
--- ---- what a row is made of: the instance where it stays, servers that move, others beside them; these change places
--- with the instance where it is said whether that one is the first by name
+-- ---- what a row is made of: the instance if it stays, servers that move, others beside them. These change places with
+-- the instance if it is given whether that one is the first by name.
 
 abbrev pub moves_by : Option Bool → List Move → List Move → List Move
 moves_by None ms ns = ms

@@ -1,4 +1,4 @@
--- What the book and the settings tell of a server. A number that no server has is no instance; its settings are empty.
+-- What the book and the settings have of a server. A number that no server has is no instance; its settings are empty.
 use Rattle.std.specs.Prelude.{ℕ, Bool, true, false, ◌==◌, ◌&&◌, ◌||◌, nat_eq, nat_lt, List, [], length, Option, Some, None}
 use Rattle.permission.specs.Prelude.{Attached, BookState, Coord, Detached, Instance, Interval, Server, ServerNo, SourceState, Version, Without, World}
 use Rattle.permission.specs.Prelude.{above, book_forest, instance_at, is_reached, node_at, option_and_then, pointwise, seen_source, server_at}
@@ -15,7 +15,7 @@ attached_in Without = None
 attached_in (Attached m) = Some m
 attached_in (Detached m) = None
 
--- the seen source, where the server is attached to it
+-- the seen source, if the server is attached to it
 abbrev pub attached_of : BookState → ServerNo → Option ServerNo
 attached_of b n = attached_in (seen_source (instance_at b n))
 
@@ -87,7 +87,7 @@ is_below b one other =
     nat_lt one.0 (length b.names) && nat_lt other.0 (length b.names)
     && is_reached (above (book_forest b)) (length (book_forest b)) (node_at b other) (node_at b one)
 
--- one server stands before another by name
+-- one server is before another by name
 abbrev pub is_before : BookState → ServerNo → ServerNo → Bool
 is_before b one other =
     nat_lt one.0 (length b.names) && nat_lt other.0 (length b.names) && nat_lt (node_at b one) (node_at b other)

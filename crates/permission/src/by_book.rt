@@ -1,4 +1,4 @@
-//! What the book tells of a server, and the checks that go by it alone. A number that no server has is no instance.
+//! What the book has of a server, and the checks that go by it alone. A number that no server has is no instance.
 
 ghost use Rattle.std.specs.Prelude.{◌≡◌, ◌↔◌, ◌<◌, [], IsTrue, length};
 ghost use Rattle.permission.specs.Prelude.{IsBelow, book_forest, instance_at, is_instance, is_within, lease_at, option_copied, seen_source};
@@ -230,7 +230,7 @@ pub fn is_below(book: &Book, forest: &Forest, no: ServerNo, other: ServerNo) -> 
     no.0 < count && other.0 < count && book_views::is_below(book, forest, no, other)
 }
 
-/// Whether a server of the book stands before another by name.
+/// Whether a server of the book is before another by name.
 pub fn is_before(book: &Book, one: ServerNo, other: ServerNo) -> bool
     ensures { result ≡ is_before book.now one other }
 {

@@ -44,12 +44,12 @@ pub enum Check {
     GtidOff,
     /// 18: each server that moves was seen to have executed nothing of its own that wasn't seen of its new source.
     Errant,
-    /// 30: no source was seen to have purged the file of the coordinate that was seen of its replica, where a move goes
-    /// by that coordinate.
+    /// 30: no source was seen to have purged the file of the coordinate that was seen of its replica, if a move goes by
+    ///   that coordinate.
     PurgedPlace,
     /// 30: no new source was seen to have purged what wasn't seen of the server that moves.
     PurgedSet,
-    /// 31: transactions are marked. This check never passes: it stands in the rows of scenarios without marks alone.
+    /// 31: transactions are marked. This check never passes: it is only in the rows of scenarios without marks.
     PseudoOff,
     /// 32: each server that moves writes a binary log.
     MovedNotLogging,
@@ -65,8 +65,8 @@ pub struct Move {
 }
 
 /// What the checks of a command are about: the instance, its new source, the servers of which the job takes the leases,
-/// those that must be reached, which servers move to which source, the new sources, which must log, and the servers by
-/// whose coordinates under their sources the moves go. Contracts see it as a `Case` of lists.
+/// and those that must be reached. Then which servers move to which source, the new sources, which must log, and the
+/// servers by whose coordinates under their sources the moves go. Contracts see it as a `Case` of lists.
 #[derive(Drop)]
 pub struct Case {
     pub(crate) i: ServerNo,
@@ -86,7 +86,7 @@ impl Model for Case {
     ghost view = { λ c. record { i = c.i; to = c.to; leased = c.leased.items; reached = c.reached.items; moves = c.moves.items; sources = c.sources.items; crossed = c.crossed.items } };
 }
 
-/// The list of one server, where there is one.
+/// The list of one server, if there is one. `Err` means out of memory.
 pub fn one_or_none(alloc: Global, no: Option<ServerNo>) -> Result<Vec<ServerNo>, Memory>
     ensures { IfOk result (λ list. list.items ≡ option_to_list no) }
 {
@@ -97,7 +97,7 @@ pub fn one_or_none(alloc: Global, no: Option<ServerNo>) -> Result<Vec<ServerNo>,
     Ok(list)
 }
 
-/// These servers move to one source, where there is one.
+/// These servers move to one source, if there is one. `Err` means out of memory.
 pub fn moves_to(
     alloc: Global,
     servers: &[ServerNo],

@@ -19,7 +19,7 @@ pub use operations::{
     server_model, server_words_items,
 };
 pub use topology_tree;
-/// Want of memory.
+/// Out of memory.
 pub use operations::orch_base::Memory;
 pub use replicas::{replicas_but, siblings};
 pub use row::{PermitFault, answered, first_refusal, row_refusal, unknown_in};

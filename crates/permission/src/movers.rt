@@ -12,18 +12,18 @@ use crate::orch_base::ServerNo;
 use std::alloc::Global;
 use std::marker::Model;
 
-/// The servers that a command is about: its instance, those that move, their new source, and those beside them of which
-/// the job takes the leases too, and those by whose coordinates the moves go. All that are leased must be reached.
-/// Contracts see it as the `Case` of its checks.
+/// The servers that a command is about: its instance, those that move, and their new source. Then those beside them of
+/// which the job takes the leases too, and those by whose coordinates the moves go. All that are leased must be
+/// reached. Contracts see it as the `Case` of its checks.
 #[derive(Drop)]
 pub struct Movers {
     i: ServerNo,
     to: Option<ServerNo>,
-    // the instance, where it is leased and stays
+    // the instance, if it is leased and stays
     before: Option<ServerNo>,
     movers: Vec<ServerNo>,
     beside: Vec<ServerNo>,
-    // where those beside go below the instance: whether it is the first by name
+    // if those beside go below the instance: whether it is the first by name
     swap: Option<bool>,
     crossed: Vec<ServerNo>,
 }
@@ -49,7 +49,7 @@ impl Model for Movers {
 }
 
 impl Movers {
-    /// Servers move to a new source, where there is one, with others beside them. It takes no memory.
+    /// Servers move to a new source, if there is one, with others beside them. It takes no memory.
     pub fn new(
         alloc: Global,
         i: ServerNo,
@@ -70,7 +70,7 @@ impl Movers {
         }
     }
 
-    /// The instance moves to a new source, where there is one, with another server beside it. `Err` is want of memory.
+    /// The instance moves to a new source, if there is one, with another server beside it. `Err` means out of memory.
     pub fn one(
         alloc: Global,
         i: ServerNo,
@@ -83,7 +83,7 @@ impl Movers {
         Ok(Movers::new(alloc, i, to, movers, one_or_none(alloc, beside)?))
     }
 
-    /// Servers move to a new source, where there is one, and the instance stays. It takes no memory.
+    /// Servers move to a new source, if there is one, and the instance stays. It takes no memory.
     pub fn round(alloc: Global, i: ServerNo, to: Option<ServerNo>, movers: Vec<ServerNo>) -> Movers
         ensures { result ≡ moving i movers.items to (i ∷ movers.items) }
     {
@@ -98,7 +98,7 @@ impl Movers {
         }
     }
 
-    /// The instance goes to its source's source, and its source below it. `Err` is want of memory.
+    /// The instance goes to its source's source, and its source below it. `Err` means out of memory.
     pub fn swap(
         alloc: Global,
         book: &Book,
@@ -131,7 +131,7 @@ impl Movers {
         self
     }
 
-    /// The servers of which the job takes the leases. `Err` is want of memory.
+    /// The servers of which the job takes the leases. `Err` means out of memory.
     pub fn leases(&self, alloc: Global) -> Result<Vec<ServerNo>, Memory>
         ensures { IfOk result (λ list. list.items ≡ self.now.leased) }
     {

@@ -11,7 +11,7 @@ use crate::row::is_given;
 use book_views::replicas;
 use std::alloc::Global;
 
-// The servers of a list, without one where one is given.
+// The servers of a list, without one if one is given.
 fn without(alloc: Global, list: &[ServerNo], no: Option<ServerNo>) -> Result<Vec<ServerNo>, Memory>
     ensures { IfOk result (λ rest. rest.items ≡ without no list.now) }
 {
@@ -21,7 +21,7 @@ fn without(alloc: Global, list: &[ServerNo], no: Option<ServerNo>) -> Result<Vec
         .collect(alloc)
 }
 
-/// The instances that are attached to a server, in name order, without one where one is given. `Err` is want of memory.
+/// The instances that are attached to a server, in name order, without one if one is given. `Err` means out of memory.
 pub fn replicas_but(
     alloc: Global,
     book: &Book,
@@ -34,7 +34,7 @@ pub fn replicas_but(
 }
 
 /// The other instances that are attached to a server's source, in name order: none of a server without a source. `Err`
-/// is want of memory.
+/// means out of memory.
 pub fn siblings(alloc: Global, book: &Book, i: ServerNo) -> Result<Vec<ServerNo>, Memory>
     ensures { IfOk result (λ rest. rest.items ≡ siblings_of book.now i) }
 {

@@ -31,7 +31,7 @@ use topology_tree::Forest;
 pub enum PermitFault {
     /// It is refused: of the refusals that apply this has the lowest number.
     Refused(Refusal),
-    /// Want of memory.
+    /// Out of memory.
     Memory,
 }
 
@@ -79,7 +79,7 @@ fn are_one(one: Option<ServerNo>, other: Option<ServerNo>) -> bool
     }
 }
 
-// The source that a server is attached to, where the server is given.
+// The source that a server is attached to, if the server is given.
 fn attached_if(book: &Book, no: Option<ServerNo>) -> Option<ServerNo>
     ensures { result ≡ option_and_then (attached_of book.now) no }
 {
@@ -135,7 +135,7 @@ fn first_errant(
     Ok(None)
 }
 
-// The refusal of a check, none where it passes.
+// The refusal of a check, none if it passes.
 fn refusal_by(
     alloc: Global,
     book: &Book,
@@ -180,7 +180,7 @@ fn refusal_by(
     })
 }
 
-/// The refusal of the first check of a row that doesn't pass. `Err` is want of memory.
+/// The refusal of the first check of a row that doesn't pass. `Err` means out of memory.
 pub fn first_refusal(
     alloc: Global,
     book: &Book,
@@ -209,7 +209,7 @@ fn is_known(book: &Book, no: Option<ServerNo>) -> bool
     }
 }
 
-/// `UnknownInstance`, exactly where an instance that the command uses isn't given or isn't in the book.
+/// `UnknownInstance`, exactly if an instance that the command uses isn't given or isn't in the book.
 pub fn unknown_in(book: &Book, command: Command) -> Option<Refusal>
     ensures { result ≡ unknown_in book.now command }
 {
@@ -220,7 +220,7 @@ pub fn unknown_in(book: &Book, command: Command) -> Option<Refusal>
     )
 }
 
-/// The refusal of the first check of a row that doesn't pass, about these servers. `Err` is want of memory.
+/// The refusal of the first check of a row that doesn't pass, about these servers. `Err` means out of memory.
 pub fn row_refusal(
     alloc: Global,
     book: &Book,

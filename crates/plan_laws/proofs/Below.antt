@@ -2,7 +2,9 @@
 use Rattle.std.proofs.Common.{◌≡◌, ◌∙◌, Bool, true, false, cond, List, [], ◌∷◌, ◌++◌, map, Option, Some, None, refl, sym, ap}
 use Rattle.std.specs.Prelude.{filter, filter_map}
 use Rattle.std.specs.List.{cons_option, flat_map}
+use Rattle.std.specs.Option.{option_or}
 use Rattle.std.proofs.lemmas.Bool.{false≢true}
+use Rattle.std.proofs.lemmas.List.{append-nil}
 use Rattle.std.proofs.lemmas.List.Elements.{filter_map-append}
 use Rattle.std.proofs.lemmas.Option.{same_Some}
 use Rattle.run_laws.specs.InstanceKeeper.Book.{BookState, instance_at}
@@ -23,7 +25,7 @@ use Rattle.plan_lines.specs.Expected.{expected, expected_at, stopped_of}
 use Rattle.plan_lines.specs.Prelude.{is_valid}
 use Rattle.plan_laws.specs.Followed.{AreApart, steps_below, steps_of, steps_to}
 use Rattle.plan_laws.proofs.Lost.{Found, There, Gone, drained_in, filter-own, gone_in, lost_by, lost_in, no_of, why_in}
-use Rattle.plan_laws.proofs.Scripts.{go_events, lost_of, way-events}
+use Rattle.plan_laws.proofs.Scripts.{detach-event, go_events, lost_of, way-events}
 
 -- ---- whom the book reaches
 
@@ -91,16 +93,17 @@ module _ (g : Ground) (f s : ServerNo) where
           ∙ (λ i. (handed-events d (way_of g f s d) ∙ ap (go_events d.no) (sym (steps-are n d is))) i ++ told i)
 
   abbrev LeftTold : List Stopped → Type 0
-  LeftTold ds = events_of (filter_map (λ d. left d (way_of g f s d)) ds) ≡ map (λ n. Done (op.Detach n)) (left_nos (numbers ds))
+  LeftTold ds = events_of (filter_map (λ d. left g.book d (way_of g f s d)) ds) ≡ map (λ n. Done (op.Detach n)) (left_nos (numbers ds))
 
-  left-told : (ns : List ServerNo) → events_of (filter_map (λ d. left d (way_of g f s d)) (expected g.book ns)) ≡ map (λ n. Done (op.Detach n)) (left_nos (numbers (expected g.book ns)))
+  left-told : (ns : List ServerNo) → events_of (filter_map (λ d. left g.book d (way_of g f s d)) (expected g.book ns)) ≡ map (λ n. Done (op.Detach n)) (left_nos (numbers (expected g.book ns)))
   left-told [] = refl
   left-told (n ∷ ns) = go (expected_at n (instance_at g.book n)) refl (left-told ns)
     where
       by : (d : Stopped) (o : Option Way) → LeftTold (expected g.book ns)
-          → events_of (cons_option (left d o) (filter_map (λ d. left d (way_of g f s d)) (expected g.book ns)))
+          → events_of (cons_option (left g.book d o) (filter_map (λ d. left g.book d (way_of g f s d)) (expected g.book ns)))
           ≡ map (λ n. Done (op.Detach n)) (cons_option (lost_of d.no (steps_of d.no o)) (left_nos (numbers (expected g.book ns))))
-      by d None told = ap (λ (es : List Event). Done (op.Detach d.no) ∷ es) told
+      by d None told =
+          detach-event g.book d.no (filter_map (λ d. left g.book d (way_of g f s d)) (expected g.book ns)) ∙ ap (λ (es : List Event). Done (op.Detach d.no) ∷ es) told
       by d (Some y) told = told
 
       go : (o : Option Stopped) → expected_at n (instance_at g.book n) ≡ o → LeftTold (expected g.book ns) → LeftTold (cons_option o (expected g.book ns))
@@ -112,7 +115,7 @@ module _ (g : Ground) (f s : ServerNo) where
   pub told-below : (ns : List ServerNo) → events_of (handed_over g f s (expected g.book ns))
       ≡ below_events (numbers (expected g.book ns)) ++ map (λ n. Done (op.Detach n)) (left_nos (numbers (expected g.book ns)))
   told-below ns =
-      filter_map-append event_of (flat_map (λ d. handed f d (way_of g f s d)) (expected g.book ns)) (filter_map (λ d. left d (way_of g f s d)) (expected g.book ns))
+      filter_map-append event_of (flat_map (λ d. handed f d (way_of g f s d)) (expected g.book ns)) (filter_map (λ d. left g.book d (way_of g f s d)) (expected g.book ns))
       ∙ (λ i. handed-told ns i ++ left-told ns i)
 
   -- ---- who is lost
@@ -120,6 +123,15 @@ module _ (g : Ground) (f s : ServerNo) where
   abbrev pub behind_by : Stopped → Option (List Op) → Option Why
   behind_by d None = Some (why.behind d.exec)
   behind_by d (Some ops) = None
+
+  -- none is lost later
+  abbrev pub never : Stopped → Option Why
+  never d = None
+
+  never-lost : (fs : List Found) → filter_map (lost_in never) fs ≡ []
+  never-lost [] = refl
+  never-lost (There d ∷ fs) = never-lost fs
+  never-lost (Gone n ∷ fs) = never-lost fs
 
   -- one without a way
   abbrev pub not_handed : Stopped → Option Why
@@ -131,25 +143,25 @@ module _ (g : Ground) (f s : ServerNo) where
   lost-drained (Gone n ∷ fs) = lost-drained fs
 
   picks-left : (k : ServerNo) (fs : List Found)
-      → filter_map (λ x. cond (expels (purpose.Intermediate k) (why_in not_handed x)) (Some (no_of x)) None) fs ≡ left_nos (numbers (filter_map drained_in fs))
+      → filter_map (λ x. cond (expels (purpose.Intermediate k) (why_in not_handed never x)) (Some (no_of x)) None) fs ≡ left_nos (numbers (filter_map drained_in fs))
   picks-left k [] = refl
   picks-left k (Gone n ∷ fs) = picks-left k fs
   picks-left k (There d ∷ fs) = go (steps_to g f s d.no) (picks-left k fs)
     where
       go : (o : Option (List Op))
-          → filter_map (λ x. cond (expels (purpose.Intermediate k) (why_in not_handed x)) (Some (no_of x)) None) fs ≡ left_nos (numbers (filter_map drained_in fs))
-          → cons_option (cond (expels (purpose.Intermediate k) (behind_by d o)) (Some d.no) None) (filter_map (λ x. cond (expels (purpose.Intermediate k) (why_in not_handed x)) (Some (no_of x)) None) fs)
+          → filter_map (λ x. cond (expels (purpose.Intermediate k) (why_in not_handed never x)) (Some (no_of x)) None) fs ≡ left_nos (numbers (filter_map drained_in fs))
+          → cons_option (cond (expels (purpose.Intermediate k) (option_or (behind_by d o) None)) (Some d.no) None) (filter_map (λ x. cond (expels (purpose.Intermediate k) (why_in not_handed never x)) (Some (no_of x)) None) fs)
           ≡ cons_option (lost_of d.no o) (left_nos (numbers (filter_map drained_in fs)))
       go None same = ap (λ (ks : List ServerNo). d.no ∷ ks) same
       go (Some ops) same = same
 
-  picks-no : (k : ServerNo) (fs : List Found) → filter_map (λ x. cond (releases (purpose.Intermediate k) (why_in not_handed x)) (Some (no_of x)) None) fs ≡ []
+  picks-no : (k : ServerNo) (fs : List Found) → filter_map (λ x. cond (releases (purpose.Intermediate k) (why_in not_handed never x)) (Some (no_of x)) None) fs ≡ []
   picks-no k [] = refl
   picks-no k (Gone n ∷ fs) = picks-no k fs
   picks-no k (There d ∷ fs) = go (steps_to g f s d.no) (picks-no k fs)
     where
-      go : (o : Option (List Op)) → filter_map (λ x. cond (releases (purpose.Intermediate k) (why_in not_handed x)) (Some (no_of x)) None) fs ≡ []
-          → cons_option (cond (releases (purpose.Intermediate k) (behind_by d o)) (Some d.no) None) (filter_map (λ x. cond (releases (purpose.Intermediate k) (why_in not_handed x)) (Some (no_of x)) None) fs) ≡ []
+      go : (o : Option (List Op)) → filter_map (λ x. cond (releases (purpose.Intermediate k) (why_in not_handed never x)) (Some (no_of x)) None) fs ≡ []
+          → cons_option (cond (releases (purpose.Intermediate k) (option_or (behind_by d o) None)) (Some d.no) None) (filter_map (λ x. cond (releases (purpose.Intermediate k) (why_in not_handed never x)) (Some (no_of x)) None) fs) ≡ []
       go None same = same
       go (Some ops) same = same
 
@@ -157,11 +169,11 @@ module _ (g : Ground) (f s : ServerNo) where
     abbrev lost_then : List LostReplica
     lost_then = filter_map gone_in fs ++ filter_map (lost_by not_handed) (filter_map drained_in fs)
 
-    as-found : (of : Option Why → Bool) → filter (λ n. of (why_of lost_then n)) ns ≡ filter_map (λ x. cond (of (why_in not_handed x)) (Some (no_of x)) None) fs
+    as-found : (of : Option Why → Bool) → filter (λ n. of (why_of lost_then n)) ns ≡ filter_map (λ x. cond (of (why_in not_handed never x)) (Some (no_of x)) None) fs
     as-found of =
         ap (λ (ks : List ServerNo). filter (λ n. of (why_of lost_then n)) ks) (sym all)
-        ∙ (ap (λ (ls : List LostReplica). filter (λ n. of (why_of (filter_map gone_in fs ++ ls) n)) (map no_of fs)) (sym (lost-drained fs))
-        ∙ filter-own not_handed fs once of)
+        ∙ (ap (λ (ls : List LostReplica). filter (λ n. of (why_of (filter_map gone_in fs ++ ls) n)) (map no_of fs)) (sym (lost-drained fs) ∙ (sym (append-nil (filter_map (lost_in not_handed) fs)) ∙ ap (λ (ls : List LostReplica). filter_map (lost_in not_handed) fs ++ ls) (sym (never-lost fs))))
+        ∙ filter-own not_handed never fs once of)
 
     pub left-detached : filter (λ n. expels (purpose.Intermediate k) (why_of lost_then n)) ns ≡ left_nos (numbers (filter_map drained_in fs))
     left-detached = as-found (expels (purpose.Intermediate k)) ∙ picks-left k fs

@@ -1,5 +1,7 @@
+mod Barred
 mod Below
 mod Conditions
+mod Handing
 mod Jobs
 mod Lost
 mod Meeting

@@ -83,21 +83,13 @@ module _ (h : Found → Option LostReplica) (named : (x : Found) (l : LostReplic
 -- ---- the reasons
 
 module _ (lose : Stopped → Option Why) where
-  -- a drained one, lost where a reason is given
+  -- a drained one, lost if a reason is given
   abbrev pub lost_by : Stopped → Option LostReplica
   lost_by s = option_map (λ why. let k : LostReplica = record { no = s.no; why = why; detached = false } in k) (lose s)
 
   abbrev pub lost_in : Found → Option LostReplica
   lost_in (There s) = lost_by s
   lost_in (Gone n) = None
-
-  abbrev pub why_in : Found → Option Why
-  why_in (There s) = lose s
-  why_in (Gone n) = Some (gone n).why
-
-  gone-named : (x : Found) (l : LostReplica) → gone_in x ≡ Some l → l.no ≡ no_of x
-  gone-named (There s) l h = cc
-  gone-named (Gone n) l h = ap (λ (k : LostReplica). k.no) (sym (same_Some (gone n) l h))
 
   lost-named : (x : Found) (l : LostReplica) → lost_in x ≡ Some l → l.no ≡ no_of x
   lost-named (Gone n) l h = cc
@@ -107,40 +99,54 @@ module _ (lose : Stopped → Option Why) where
       go None h = cc
       go (Some why) h = ap (λ (k : LostReplica). k.no) (sym (same_Some _ l h))
 
-  -- of those that are gone, and those that are lost later
+gone-named : (x : Found) (l : LostReplica) → gone_in x ≡ Some l → l.no ≡ no_of x
+gone-named (There s) l h = cc
+gone-named (Gone n) l h = ap (λ (k : LostReplica). k.no) (sym (same_Some (gone n) l h))
+
+-- some are lost as the choice is made, others later
+module _ (lose late : Stopped → Option Why) where
+  abbrev pub why_in : Found → Option Why
+  why_in (There s) = option_or (lose s) (late s)
+  why_in (Gone n) = Some (gone n).why
+
+  -- of those that are gone, and those that are lost then
   abbrev pub losses : List Found → List LostReplica
-  losses fs = filter_map gone_in fs ++ filter_map lost_in fs
+  losses fs = filter_map gone_in fs ++ (filter_map (lost_in lose) fs ++ filter_map (lost_in late) fs)
 
   module _ (fs : List Found) (apart : AreApart (map no_of fs)) where
-    why-own : (x : Found) → find (λ l. l.no.0 == (no_of x).0) (filter_map gone_in fs) ≡ gone_in x → find (λ l. l.no.0 == (no_of x).0) (filter_map lost_in fs) ≡ lost_in x
-        → why_of (losses fs) (no_of x) ≡ why_in x
-    why-own x one two =
-        ap (option_map (λ (l : LostReplica). l.why)) (find-append (λ (l : LostReplica). l.no.0 == (no_of x).0) (filter_map gone_in fs) (filter_map lost_in fs)
-        ∙ (ap (λ (o : Option LostReplica). option_or o (find (λ l. l.no.0 == (no_of x).0) (filter_map lost_in fs))) one
-        ∙ ap (option_or (gone_in x)) two))
+    -- what is found of a named one is its own
+    abbrev IsOwn : (Found → Option LostReplica) → Found → Type 0
+    IsOwn h x = find (λ l. l.no.0 == (no_of x).0) (filter_map h fs) ≡ h x
+
+    why-own : (x : Found) → IsOwn gone_in x → IsOwn (lost_in lose) x → IsOwn (lost_in late) x → why_of (losses fs) (no_of x) ≡ why_in x
+    why-own x one two three =
+        ap (option_map (λ (l : LostReplica). l.why))
+        (find-append (λ (l : LostReplica). l.no.0 == (no_of x).0) (filter_map gone_in fs) (filter_map (lost_in lose) fs ++ filter_map (lost_in late) fs)
+        ∙ (λ i. option_or (one i) ((find-append (λ (l : LostReplica). l.no.0 == (no_of x).0) (filter_map (lost_in lose) fs) (filter_map (lost_in late) fs)
+        ∙ (λ k. option_or (two k) (three k))) i)))
         ∙ go x
       where
-        reason : (s : Stopped) (o : Option Why)
-            → option_map (λ (l : LostReplica). l.why) (option_map (λ why. let k : LostReplica = record { no = s.no; why = why; detached = false } in k) o) ≡ o
-        reason s None = refl
-        reason s (Some why) = refl
+        reason : (s : Stopped) (o v : Option Why)
+            → option_map (λ (l : LostReplica). l.why)
+            (option_or (option_map (λ why. let k : LostReplica = record { no = s.no; why = why; detached = false } in k) o)
+            (option_map (λ why. let k : LostReplica = record { no = s.no; why = why; detached = false } in k) v)) ≡ option_or o v
+        reason s None None = refl
+        reason s None (Some why) = refl
+        reason s (Some why) v = refl
 
-        go : (y : Found) → option_map (λ (l : LostReplica). l.why) (option_or (gone_in y) (lost_in y)) ≡ why_in y
-        go (There s) = reason s (lose s)
+        go : (y : Found) → option_map (λ (l : LostReplica). l.why) (option_or (gone_in y) (option_or (lost_in lose y) (lost_in late y))) ≡ why_in y
+        go (There s) = reason s (lose s) (late s)
         go (Gone n) = refl
 
     pub all-own : All (λ x. why_of (losses fs) (no_of x) ≡ why_in x) fs
-    all-own = go fs (find-own gone_in gone-named fs apart) (find-own lost_in lost-named fs apart)
+    all-own = go fs (find-own gone_in gone-named fs apart) (find-own (lost_in lose) (lost-named lose) fs apart) (find-own (lost_in late) (lost-named late) fs apart)
       where
-        go : (xs : List Found) → All (λ x. find (λ l. l.no.0 == (no_of x).0) (filter_map gone_in fs) ≡ gone_in x) xs
-            → All (λ x. find (λ l. l.no.0 == (no_of x).0) (filter_map lost_in fs) ≡ lost_in x) xs → All (λ x. why_of (losses fs) (no_of x) ≡ why_in x) xs
-        go [] one two = All-nil (λ (x : Found). why_of (losses fs) (no_of x) ≡ why_in x)
-        go (x ∷ xs) one two =
+        go : (xs : List Found) → All (IsOwn gone_in) xs → All (IsOwn (lost_in lose)) xs → All (IsOwn (lost_in late)) xs → All (λ x. why_of (losses fs) (no_of x) ≡ why_in x) xs
+        go [] one two three = All-nil (λ (x : Found). why_of (losses fs) (no_of x) ≡ why_in x)
+        go (x ∷ xs) one two three =
             All-cons (λ (y : Found). why_of (losses fs) (no_of y) ≡ why_in y) x xs
-            (why-own x (All-head (λ (y : Found). find (λ l. l.no.0 == (no_of y).0) (filter_map gone_in fs) ≡ gone_in y) x xs one)
-            (All-head (λ (y : Found). find (λ l. l.no.0 == (no_of y).0) (filter_map lost_in fs) ≡ lost_in y) x xs two))
-            (go xs (All-tail (λ (y : Found). find (λ l. l.no.0 == (no_of y).0) (filter_map gone_in fs) ≡ gone_in y) x xs one)
-            (All-tail (λ (y : Found). find (λ l. l.no.0 == (no_of y).0) (filter_map lost_in fs) ≡ lost_in y) x xs two))
+            (why-own x (All-head (IsOwn gone_in) x xs one) (All-head (IsOwn (lost_in lose)) x xs two) (All-head (IsOwn (lost_in late)) x xs three))
+            (go xs (All-tail (IsOwn gone_in) x xs one) (All-tail (IsOwn (lost_in lose)) x xs two) (All-tail (IsOwn (lost_in late)) x xs three))
 
     -- those of some reason
     pub filter-own : (of : Option Why → Bool) → filter (λ n. of (why_of (losses fs) n)) (map no_of fs) ≡ filter_map (λ x. cond (of (why_in x)) (Some (no_of x)) None) fs

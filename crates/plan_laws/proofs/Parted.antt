@@ -1,20 +1,26 @@
 -- Those whom a choice loses are detached, or started again: who they are, in their order.
-use Rattle.std.proofs.Common.{◌≡◌, ◌∙◌, Bool, true, false, cond, not, List, [], ◌∷◌, ◌++◌, map, Option, Some, None, refl, sym, ap, subst}
+use Rattle.std.proofs.Common.{◌≡◌, ◌∙◌, Bool, true, false, cond, not, List, [], ◌∷◌, ◌++◌, map, Option, Some, None, refl, sym, ap}
 use Rattle.std.specs.Prelude.{◌==◌, filter, filter_map}
 use Rattle.std.specs.List.{cons_option}
-use Rattle.std.specs.Option.{option_map}
+use Rattle.std.specs.Option.{option_map, option_or}
 use Rattle.std.proofs.lemmas.Bool.{false≢true}
+use Rattle.run_laws.specs.BinlogCoords.Log.{is_before}
+use Rattle.run_laws.specs.Operations.declared.op.Op.TheVariants as op
 use Rattle.run_laws.specs.OrchBase.declared.server.ServerNo.{ServerNo}
-use Rattle.run_laws.specs.RecoveryPlans.Deciding.{Lot, expels, losses_in, releases, stay_of, why_of, without_stopped}
+use Rattle.run_laws.specs.RecoveryPlans.Deciding.{Lot, care_of, expels, losses_in, releases, stay_of, why_of, without_stopped}
 use Rattle.run_laws.specs.RecoveryPlans.Deciding as lot
 use Rattle.run_laws.specs.RecoveryPlans.declared.outcome.LostReplica.{LostReplica}
 use Rattle.run_laws.specs.RecoveryPlans.declared.outcome.Stopped.{Stopped}
 use Rattle.run_laws.specs.RecoveryPlans.declared.purpose.Purpose.{Purpose}
 use Rattle.run_laws.specs.RecoveryPlans.declared.purpose.Purpose.TheVariants as purpose
+use Rattle.run_laws.specs.RecoveryPlans.declared.task.Way.TheVariants as way
 use Rattle.run_laws.specs.RecoveryPlans.declared.why.Why.{Why}
+use Rattle.run_laws.specs.RecoveryPlans.Whys as whys
+use Rattle.plan_lines.specs.Branches.{is_refused}
 use Rattle.plan_laws.specs.Followed.{AreApart, fork_of, gathers, gone}
-use Rattle.plan_laws.proofs.Lost.{Found, There, Gone, drained_in, filter-own, gone_in, lost_in, no_of, why_in}
-use Rattle.plan_laws.proofs.Scripts.{StaysApart, forks, stays}
+use Rattle.plan_laws.specs.Followed as path
+use Rattle.plan_laws.proofs.Lost.{Found, There, Gone, drained_in, filter-own, gone_in, lost_by, lost_in, no_of, why_in}
+use Rattle.plan_laws.proofs.Scripts.{Parts, StaysApart, forks, loser_of, stays}
 
 -- those of the lost ones that are detached, and those that are started
 abbrev pub detached : Purpose → List ServerNo → List ServerNo
@@ -29,23 +35,35 @@ started purpose.Master ks = []
 started (purpose.Intermediate s) ks = []
 started (purpose.Takeover d) ks = []
 
-module _ (p : ServerNo) (lots : Stopped → Lot) where
-  -- why a choice of p loses a drained one
-  abbrev pub left_why : Lot → Option Why
-  left_why (lot.Goes by) = None
-  left_why (lot.Stays why) = Some why
+-- why a choice loses a drained one
+abbrev pub left_why : Lot → Option Why
+left_why (lot.Goes by) = None
+left_why (lot.Stays why) = Some why
 
+-- and why it is lost as it goes
+abbrev pub refused_why : Stopped → Stopped → Lot → Option Why
+refused_why p s (lot.Goes by) = cond (is_refused p s by) (Some (whys.ahead s.exec)) None
+refused_why p s (lot.Stays why) = None
+
+module _ (p : Stopped) (lots : Stopped → Lot) where
   abbrev pub lose : Stopped → Option Why
-  lose s = cond (s.no.0 == p.0) None (left_why (lots s))
+  lose s = cond (s.no.0 == p.no.0) None (left_why (lots s))
+
+  abbrev pub late : Stopped → Option Why
+  late s = cond (s.no.0 == p.no.0) None (refused_why p s (lots s))
+
+  -- those that are lost on their way
+  abbrev pub late_of : List Stopped → List LostReplica
+  late_of ss = filter_map (lost_by (λ s. refused_why p s (lots s))) ss
 
   -- those beside the chosen one
   abbrev pub beside : List Found → List Stopped
-  beside fs = without_stopped (filter_map drained_in fs) p
+  beside fs = without_stopped (filter_map drained_in fs) p.no
 
   pub losses-are : (fs : List Found) → losses_in lots (beside fs) ≡ filter_map (lost_in lose) fs
   losses-are [] = refl
   losses-are (Gone n ∷ fs) = losses-are fs
-  losses-are (There s ∷ fs) = go (s.no.0 == p.0) (losses-are fs)
+  losses-are (There s ∷ fs) = go (s.no.0 == p.no.0) (losses-are fs)
     where
       left : (l : Lot) → losses_in lots (beside fs) ≡ filter_map (lost_in lose) fs
           → stay_of s l ++ losses_in lots (beside fs)
@@ -59,77 +77,106 @@ module _ (p : ServerNo) (lots : Stopped → Lot) where
       go true rest = rest
       go false rest = left (lots s) rest
 
+  pub late-are : (fs : List Found) → late_of (beside fs) ≡ filter_map (lost_in late) fs
+  late-are [] = refl
+  late-are (Gone n ∷ fs) = late-are fs
+  late-are (There s ∷ fs) = go (s.no.0 == p.no.0) (late-are fs)
+    where
+      go : (b : Bool) → late_of (beside fs) ≡ filter_map (lost_in late) fs
+          → late_of (cond (not b) (s ∷ beside fs) (beside fs))
+          ≡ cons_option (option_map (λ why. let k : LostReplica = record { no = s.no; why = why; detached = false } in k) (cond b None (refused_why p s (lots s)))) (filter_map (lost_in late) fs)
+      go true rest = rest
+      go false rest = ap (λ (ls : List LostReplica). cons_option (lost_by (λ s. refused_why p s (lots s)) s) ls) rest
+
   -- ---- a test of reasons
 
-  module _ (of : Option Why → Bool) (none : of None ≡ false) (away : (n : ServerNo) → of (Some (gone n).why) ≡ false) where
+  module _ (apart : (s : Stopped) → StaysApart p s (lots s)) (of : Option Why → Bool) (none : of None ≡ false) (away : (n : ServerNo) → of (Some (gone n).why) ≡ false) where
     abbrev pub of_kind : Found → Option ServerNo
-    of_kind x = cond (of (why_in lose x)) (Some (no_of x)) None
+    of_kind x = cond (of (why_in lose late x)) (Some (no_of x)) None
 
-    abbrev tested : ServerNo → Option Why → Option ServerNo
-    tested n o = cond (of o) (Some n) None
+    -- a replica's own
+    abbrev own_why : Stopped → Lot → Option Why
+    own_why s l = option_or (left_why l) (refused_why p s l)
 
-    -- which the lost ones pass
-    pub picks-lost : ((s : Stopped) (why : Why) → lots s ≡ lot.Stays why → of (Some why) ≡ true) → (fs : List Found) → filter_map of_kind fs ≡ filter_map stays (forks lots (beside fs))
-    picks-lost kept [] = refl
-    picks-lost kept (Gone n ∷ fs) = ap (λ (b : Bool). cons_option (cond b (Some n) None) (filter_map of_kind fs)) (away n) ∙ picks-lost kept fs
-    picks-lost kept (There s ∷ fs) = go (s.no.0 == p.0) (picks-lost kept fs)
-      where
-        left : (l : Lot) → lots s ≡ l → filter_map of_kind fs ≡ filter_map stays (forks lots (beside fs))
-            → cons_option (tested s.no (left_why l)) (filter_map of_kind fs) ≡ cons_option (stays (fork_of s l)) (filter_map stays (forks lots (beside fs)))
-        left (lot.Goes by) is rest = ap (λ (b : Bool). cons_option (cond b (Some s.no) None) (filter_map of_kind fs)) none ∙ rest
-        left (lot.Stays why) is rest =
-            ap (λ (b : Bool). cons_option (cond b (Some s.no) None) (filter_map of_kind fs)) (kept s why is) ∙ ap (λ (ks : List ServerNo). s.no ∷ ks) rest
+    unmet : (n : ServerNo) (ks : List ServerNo) → cons_option (cond (of None) (Some n) None) ks ≡ ks
+    unmet n ks = ap (λ (b : Bool). cons_option (cond b (Some n) None) ks) none
 
-        go : (b : Bool) → filter_map of_kind fs ≡ filter_map stays (forks lots (beside fs))
-            → cons_option (tested s.no (cond b None (left_why (lots s)))) (filter_map of_kind fs) ≡ filter_map stays (forks lots (cond (not b) (s ∷ beside fs) (beside fs)))
-        go true rest = ap (λ (b : Bool). cons_option (cond b (Some s.no) None) (filter_map of_kind fs)) none ∙ rest
-        go false rest = left (lots s) refl rest
+    -- the lost ones pass
+    module _ (kept : (why : Why) → Parts (care_of why) → of (Some why) ≡ true) where
+      meets : (s : Stopped) (l : Lot) → StaysApart p s l → (ks hs : List ServerNo) → ks ≡ hs
+          → cons_option (cond (of (own_why s l)) (Some s.no) None) ks ≡ cons_option (stays (fork_of p s l)) hs
+      meets s (lot.Stays why) fits ks hs rest = ap (λ (b : Bool). cons_option (cond b (Some s.no) None) ks) (kept why fits) ∙ ap (λ (l : List ServerNo). s.no ∷ l) rest
+      meets s (lot.Goes (way.Down b)) fits ks hs rest = unmet s.no ks ∙ rest
+      meets s (lot.Goes (way.Up b)) fits ks hs rest = unmet s.no ks ∙ rest
+      meets s (lot.Goes (way.Match to exec every)) fits ks hs rest = unmet s.no ks ∙ rest
+      meets s (lot.Goes (way.Auto to exec)) fits ks hs rest = go (is_before p.exec s.exec)
+        where
+          go : (v : Bool) → cons_option (cond (of (cond v (Some (whys.ahead s.exec)) None)) (Some s.no) None) ks
+              ≡ cons_option (loser_of s.no (cond v (path.Refused (op.Auto s.no to)) (path.Goes (op.Auto s.no to ∷ [])))) hs
+          go true = ap (λ (b : Bool). cons_option (cond b (Some s.no) None) ks) (kept (whys.ahead s.exec) (refl, refl, refl)) ∙ ap (λ (l : List ServerNo). s.no ∷ l) rest
+          go false = unmet s.no ks ∙ rest
 
-    -- which none of them passes
-    pub picks-none : ((s : Stopped) (why : Why) → lots s ≡ lot.Stays why → of (Some why) ≡ false) → (fs : List Found) → filter_map of_kind fs ≡ []
-    picks-none off [] = refl
-    picks-none off (Gone n ∷ fs) = ap (λ (b : Bool). cons_option (cond b (Some n) None) (filter_map of_kind fs)) (away n) ∙ picks-none off fs
-    picks-none off (There s ∷ fs) = ap (λ (b : Bool). cons_option (cond b (Some s.no) None) (filter_map of_kind fs)) (go (s.no.0 == p.0)) ∙ picks-none off fs
-      where
-        left : (l : Lot) → lots s ≡ l → of (left_why l) ≡ false
-        left (lot.Goes by) is = none
-        left (lot.Stays why) is = off s why is
+      pub picks-lost : (fs : List Found) → filter_map of_kind fs ≡ filter_map stays (forks p lots (beside fs))
+      picks-lost [] = refl
+      picks-lost (Gone n ∷ fs) = ap (λ (b : Bool). cons_option (cond b (Some n) None) (filter_map of_kind fs)) (away n) ∙ picks-lost fs
+      picks-lost (There s ∷ fs) = go (s.no.0 == p.no.0) (picks-lost fs)
+        where
+          go : (b : Bool) → filter_map of_kind fs ≡ filter_map stays (forks p lots (beside fs))
+              → cons_option (cond (of (option_or (cond b None (left_why (lots s))) (cond b None (refused_why p s (lots s))))) (Some s.no) None) (filter_map of_kind fs)
+              ≡ filter_map stays (forks p lots (cond (not b) (s ∷ beside fs) (beside fs)))
+          go true rest = unmet s.no (filter_map of_kind fs) ∙ rest
+          go false rest = meets s (lots s) (apart s) (filter_map of_kind fs) (filter_map stays (forks p lots (beside fs))) rest
 
-        go : (b : Bool) → of (cond b None (left_why (lots s))) ≡ false
-        go true = none
-        go false = left (lots s) refl
+    -- none of them passes
+    module _ (off : (why : Why) → Parts (care_of why) → of (Some why) ≡ false) where
+      fails : (s : Stopped) (l : Lot) → StaysApart p s l → of (own_why s l) ≡ false
+      fails s (lot.Stays why) fits = off why fits
+      fails s (lot.Goes (way.Down b)) fits = none
+      fails s (lot.Goes (way.Up b)) fits = none
+      fails s (lot.Goes (way.Match to exec every)) fits = none
+      fails s (lot.Goes (way.Auto to exec)) fits = go (is_before p.exec s.exec)
+        where
+          go : (v : Bool) → of (cond v (Some (whys.ahead s.exec)) None) ≡ false
+          go true = off (whys.ahead s.exec) (refl, refl, refl)
+          go false = none
+
+      pub picks-none : (fs : List Found) → filter_map of_kind fs ≡ []
+      picks-none [] = refl
+      picks-none (Gone n ∷ fs) = ap (λ (b : Bool). cons_option (cond b (Some n) None) (filter_map of_kind fs)) (away n) ∙ picks-none fs
+      picks-none (There s ∷ fs) = ap (λ (b : Bool). cons_option (cond b (Some s.no) None) (filter_map of_kind fs)) (go (s.no.0 == p.no.0)) ∙ picks-none fs
+        where
+          go : (b : Bool) → of (option_or (cond b None (left_why (lots s))) (cond b None (refused_why p s (lots s)))) ≡ false
+          go true = none
+          go false = fails s (lots s) (apart s)
 
   -- ---- who is detached, who is started
 
-  module _ (apart : (s : Stopped) → StaysApart (lots s)) where
-    stays-apart : (s : Stopped) (why : Why) → lots s ≡ lot.Stays why → StaysApart (lot.Stays why)
-    stays-apart s why is = subst StaysApart is (apart s)
-
+  module _ (apart : (s : Stopped) → StaysApart p s (lots s)) where
     abbrev lost_nos : List Found → List ServerNo
-    lost_nos fs = filter_map stays (forks lots (beside fs))
+    lost_nos fs = filter_map stays (forks p lots (beside fs))
 
-    who-detached : (u : Purpose) → gathers u ≡ true → (fs : List Found) → filter_map (λ x. cond (expels u (why_in lose x)) (Some (no_of x)) None) fs ≡ detached u (lost_nos fs)
-    who-detached purpose.Regroup is fs = picks-none (expels purpose.Regroup) refl (λ n. refl) (λ s why at. refl) fs
-    who-detached purpose.Master is fs = picks-lost (expels purpose.Master) refl (λ n. refl) (λ s why at. (stays-apart s why at).0) fs
+    who-detached : (u : Purpose) → gathers u ≡ true → (fs : List Found) → filter_map (λ x. cond (expels u (why_in lose late x)) (Some (no_of x)) None) fs ≡ detached u (lost_nos fs)
+    who-detached purpose.Regroup is fs = picks-none apart (expels purpose.Regroup) refl (λ n. refl) (λ why h. refl) fs
+    who-detached purpose.Master is fs = picks-lost apart (expels purpose.Master) refl (λ n. refl) (λ why h. h.0) fs
     who-detached (purpose.Intermediate k) is fs = absurd (false≢true is)
     who-detached (purpose.Takeover k) is fs = absurd (false≢true is)
 
-    who-started : (u : Purpose) → gathers u ≡ true → (fs : List Found) → filter_map (λ x. cond (releases u (why_in lose x)) (Some (no_of x)) None) fs ≡ started u (lost_nos fs)
-    who-started purpose.Regroup is fs = picks-lost (releases purpose.Regroup) refl (λ n. refl) (λ s why at. (stays-apart s why at).2) fs
-    who-started purpose.Master is fs = picks-none (releases purpose.Master) refl (λ n. refl) (λ s why at. (stays-apart s why at).1) fs
+    who-started : (u : Purpose) → gathers u ≡ true → (fs : List Found) → filter_map (λ x. cond (releases u (why_in lose late x)) (Some (no_of x)) None) fs ≡ started u (lost_nos fs)
+    who-started purpose.Regroup is fs = picks-lost apart (releases purpose.Regroup) refl (λ n. refl) (λ why h. h.2) fs
+    who-started purpose.Master is fs = picks-none apart (releases purpose.Master) refl (λ n. refl) (λ why h. h.1) fs
     who-started (purpose.Intermediate k) is fs = absurd (false≢true is)
     who-started (purpose.Takeover k) is fs = absurd (false≢true is)
 
-    -- of all replicas, once one is chosen
+    -- of all replicas, once one is chosen and the others went their ways
     module _ (u : Purpose) (is : gathers u ≡ true) (fs : List Found) (once : AreApart (map no_of fs)) (ns : List ServerNo) (all : map no_of fs ≡ ns) where
       abbrev lost_then : List LostReplica
-      lost_then = filter_map gone_in fs ++ losses_in lots (beside fs)
+      lost_then = filter_map gone_in fs ++ (losses_in lots (beside fs) ++ late_of (beside fs))
 
-      as-found : (of : Option Why → Bool) → filter (λ n. of (why_of lost_then n)) ns ≡ filter_map (λ x. cond (of (why_in lose x)) (Some (no_of x)) None) fs
+      as-found : (of : Option Why → Bool) → filter (λ n. of (why_of lost_then n)) ns ≡ filter_map (λ x. cond (of (why_in lose late x)) (Some (no_of x)) None) fs
       as-found of =
           ap (λ (ks : List ServerNo). filter (λ n. of (why_of lost_then n)) ks) (sym all)
-          ∙ (ap (λ (ls : List LostReplica). filter (λ n. of (why_of (filter_map gone_in fs ++ ls) n)) (map no_of fs)) (losses-are fs)
-          ∙ filter-own lose fs once of)
+          ∙ ((λ i. filter (λ n. of (why_of (filter_map gone_in fs ++ (losses-are fs i ++ late-are fs i)) n)) (map no_of fs))
+          ∙ filter-own lose late fs once of)
 
       pub are-detached : filter (λ n. expels u (why_of lost_then n)) ns ≡ detached u (lost_nos fs)
       are-detached = as-found (expels u) ∙ who-detached u is fs

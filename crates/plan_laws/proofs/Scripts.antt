@@ -1,11 +1,11 @@
 -- What the lines of a branch say that turns do.
-use Rattle.std.proofs.Common.{◌≡◌, ◌∙◌, Bool, true, false, cond, List, [], ◌∷◌, ◌++◌, map, Option, Some, None, refl, ap}
+use Rattle.std.proofs.Common.{◌≡◌, ◌∙◌, Bool, true, false, cond, List, [], ◌∷◌, ◌++◌, map, Option, Some, None, refl, sym, ap}
 use Rattle.std.specs.Prelude.{filter_map}
 use Rattle.std.specs.List.{cons_option, flat_map}
-use Rattle.std.specs.Option.{option_map}
 use Rattle.std.proofs.lemmas.Bool.{false≢true}
 use Rattle.std.proofs.lemmas.List.Elements.{filter_map-append}
-use Rattle.run_laws.specs.BinlogCoords.Log.{same_coord}
+use Rattle.run_laws.specs.BinlogCoords.Log.{is_before, same_coord}
+use Rattle.run_laws.specs.InstanceKeeper.Book.{BookState}
 use Rattle.run_laws.specs.Operations.declared.op.Op.{Op}
 use Rattle.run_laws.specs.Operations.declared.op.Op.TheVariants as op
 use Rattle.run_laws.specs.OrchBase.declared.server.ServerNo.{ServerNo}
@@ -23,12 +23,18 @@ use Rattle.run_laws.specs.RecoveryPlans.declared.purpose.Purpose.{Purpose}
 use Rattle.run_laws.specs.RecoveryPlans.declared.purpose.Purpose.TheVariants as purpose
 use Rattle.run_laws.specs.RecoveryPlans.declared.task.Way.{Way}
 use Rattle.run_laws.specs.RecoveryPlans.declared.task.Way.TheVariants as way
+use Rattle.run_laws.specs.RecoveryPlans.declared.why.Why.{Why}
+use Rattle.run_laws.specs.RecoveryPlans.Whys as whys
+use Rattle.plan_lines.specs.PlanTexts.declared.line.Apart.TheVariants as apart
 use Rattle.plan_lines.specs.PlanTexts.declared.line.Line.{Line}
 use Rattle.plan_lines.specs.PlanTexts.declared.line.Line.TheVariants as line
-use Rattle.plan_lines.specs.Branches.{chosen_line, chosen_lines, crowned, follower_in, last_lines, lot_lines, parted, way_lines, wins}
-use Rattle.plan_lines.specs.Courses.{Event, Done, event_of, events_of}
+use Rattle.plan_lines.specs.Branches.{chosen_line, chosen_lines, crowned, detach_line, follower_in, last_lines, lot_lines, lot_told, parted, way_lines, wins}
+use Rattle.plan_lines.specs.Straight.{attached_as}
+use Rattle.plan_lines.specs.Prelude.{is_auto}
+use Rattle.plan_lines.specs.Courses.{Event, Done, Missed, event_of, events_of}
 use Rattle.plan_lines.specs.Pieces.{as_told}
-use Rattle.plan_laws.specs.Followed.{Fork, fork_of, gathers, steps_of}
+use Rattle.plan_laws.specs.Followed.{Fork, Path, fork_of, gathers, steps_of}
+use Rattle.plan_laws.specs.Followed as path
 
 -- ---- what turns do in a branch
 
@@ -36,8 +42,13 @@ abbrev pub go_events : ServerNo → Option (List Op) → List Event
 go_events n None = []
 go_events n (Some ops) = map Done (ops ++ op.Start n ∷ [])
 
+abbrev pub path_events : ServerNo → Path → List Event
+path_events n (path.Goes ops) = map Done (ops ++ op.Start n ∷ [])
+path_events n (path.Refused o) = Missed o ∷ []
+path_events n path.Left = []
+
 abbrev pub fork_events : Fork → List Event
-fork_events x = go_events x.no x.steps
+fork_events x = path_events x.no x.path
 
 -- a lost one is detached, or started again
 abbrev pub part : Purpose → ServerNo → Op
@@ -50,15 +61,21 @@ abbrev pub lost_of : ServerNo → Option (List Op) → Option ServerNo
 lost_of n None = Some n
 lost_of n (Some ops) = None
 
-abbrev pub stays : Fork → Option ServerNo
-stays x = lost_of x.no x.steps
+abbrev pub loser_of : ServerNo → Path → Option ServerNo
+loser_of n (path.Goes ops) = None
+loser_of n (path.Refused o) = Some n
+loser_of n path.Left = Some n
 
-abbrev pub goer_of : ServerNo → Option (List Op) → Option ServerNo
-goer_of n None = None
-goer_of n (Some ops) = Some n
+abbrev pub stays : Fork → Option ServerNo
+stays x = loser_of x.no x.path
+
+abbrev pub goer_of : ServerNo → Path → Option ServerNo
+goer_of n (path.Goes ops) = Some n
+goer_of n (path.Refused o) = None
+goer_of n path.Left = None
 
 abbrev pub goes : Fork → Option ServerNo
-goes x = goer_of x.no x.steps
+goes x = goer_of x.no x.path
 
 abbrev pub crown_events : ServerNo → Option ServerNo → List Event
 crown_events p None = map Done (op.Reset p ∷ op.ReadOnly p false ∷ op.Status p None ∷ [])
@@ -79,24 +96,31 @@ script g u f p xs = flat_map fork_events xs ++ (map (λ n. Done (part u n)) (fil
 abbrev pub Parts : Care → Type 0
 Parts c = (c.apart ≡ true) × (c.elsewhere ≡ false) × (c.reached ≡ true)
 
-abbrev pub StaysApart : Lot → Type 0
-StaysApart (lot.Goes by) = Unit {0}
-StaysApart (lot.Stays why) = Parts (care_of why)
+-- by GTIDs it goes below the chosen one, from where it stopped
+abbrev pub WayFits : Stopped → Stopped → Way → Type 0
+WayFits p s (way.Down b) = Unit {0}
+WayFits p s (way.Up b) = Unit {0}
+WayFits p s (way.Auto to exec) = (to ≡ p.no) × (exec ≡ s.exec)
+WayFits p s (way.Match to exec every) = Unit {0}
+
+abbrev pub StaysApart : Stopped → Stopped → Lot → Type 0
+StaysApart p s (lot.Goes by) = WayFits p s by
+StaysApart p s (lot.Stays why) = Parts (care_of why)
 
 module _ (g : Ground) (by : Means) (f : ServerNo) where
-  pub lots-apart : (p s : Stopped) → StaysApart (lot_by by g f p s)
+  pub lots-apart : (p s : Stopped) → StaysApart p s (lot_by by g f p s)
   lots-apart p s = go by
     where
-      grouped : (x : Group) → StaysApart (lot_by_group p.no f s x)
+      grouped : (x : Group) → StaysApart p s (lot_by_group p.no f s x)
       grouped (group.Follow at) = tt
       grouped group.Ahead = (refl, refl, refl)
       grouped group.Behind = (refl, refl, refl)
 
-      bridged : (b : Bool) → StaysApart (cond b (lot.Goes (way.Auto p.no s.exec)) (lot_by_group p.no f s (group_of g.book.rings p.no (own_end_of p) p.exec f s.exec)))
-      bridged true = tt
+      bridged : (b : Bool) → StaysApart p s (cond b (lot.Goes (way.Auto p.no s.exec)) (lot_by_group p.no f s (group_of g.book.rings p.no (own_end_of p) p.exec f s.exec)))
+      bridged true = (refl, refl)
       bridged false = grouped (group_of g.book.rings p.no (own_end_of p) p.exec f s.exec)
 
-      go : (m : Means) → StaysApart (lot_by m g f p s)
+      go : (m : Means) → StaysApart p s (lot_by m g f p s)
       go means.Bridges = bridged g.world.gtid
       go (means.Matches every) = tt
 
@@ -122,48 +146,84 @@ way-events false n (way.Auto to exec) = refl
 way-events true n (way.Match to exec every) = refl
 way-events false n (way.Match to exec every) = refl
 
-lot-events : (p s : Stopped) (l : Lot) → events_of (lot_lines p s l) ≡ fork_events (fork_of s l)
-lot-events p s (lot.Goes by) = way-events (same_coord s.exec p.exec) s.no by
-lot-events p s (lot.Stays why) = refl
+lot-events : (p s : Stopped) (l : Lot) → StaysApart p s l → events_of (lot_lines p s l) ≡ fork_events (fork_of p s l)
+lot-events p s (lot.Stays why) fits = go (is_before p.exec s.exec)
+  where
+    go : (b : Bool) → events_of (line.Lost s.no p.no (cond b apart.Ahead apart.Behind) ∷ []) ≡ []
+    go true = refl
+    go false = refl
+lot-events p s (lot.Goes (way.Down b)) fits = way-events (same_coord s.exec p.exec) s.no (way.Down b)
+lot-events p s (lot.Goes (way.Up b)) fits = way-events (same_coord s.exec p.exec) s.no (way.Up b)
+lot-events p s (lot.Goes (way.Match to exec every)) fits = way-events (same_coord s.exec p.exec) s.no (way.Match to exec every)
+lot-events p s (lot.Goes (way.Auto to exec)) fits = go (is_before p.exec s.exec)
+  where
+    go : (b : Bool) → events_of (cond b (line.Lost s.no p.no apart.Refused ∷ []) (way_lines (same_coord s.exec p.exec) s.no (way.Auto to exec)))
+        ≡ path_events s.no (cond b (path.Refused (op.Auto s.no to)) (path.Goes (op.Auto s.no to ∷ [])))
+    go true = ap (λ (k : ServerNo). Missed (op.Auto s.no k) ∷ []) (sym fits.0)
+    go false = way-events (same_coord s.exec p.exec) s.no (way.Auto to exec)
 
-part-line : (u : Purpose) → gathers u ≡ true → (s : Stopped) (l : Lot) → StaysApart l → parted u s l ≡ option_map (λ n. as_told (part u n)) (stays (fork_of s l))
-part-line u is s (lot.Goes by) apart = refl
-part-line purpose.Regroup is s (lot.Stays why) apart = ap (λ (b : Bool). cond b (Some (as_told (op.Start s.no))) None) apart.2
-part-line purpose.Master is s (lot.Stays why) apart =
-    ap (λ (b : Bool). cond b (Some (as_told (op.Detach s.no))) (cond (care_of why).elsewhere (Some (as_told (op.Start s.no))) None)) apart.0
-part-line (purpose.Intermediate k) is s (lot.Stays why) apart = absurd (false≢true is)
-part-line (purpose.Takeover k) is s (lot.Stays why) apart = absurd (false≢true is)
+-- a detachment in auto position or not
+pub detach-event : (b : BookState) (n : ServerNo) (ls : List Line) → events_of (detach_line b n ∷ ls) ≡ Done (op.Detach n) ∷ events_of ls
+detach-event b n ls = go (is_auto b n)
+  where
+    go : (v : Bool) → events_of (line.Does (op.Detach n) (attached_as v) ∷ ls) ≡ Done (op.Detach n) ∷ events_of ls
+    go true = refl
+    go false = refl
 
-module _ (lots : Stopped → Lot) where
+why-event : (b : BookState) (u : Purpose) → gathers u ≡ true → (s : Stopped) (why : Why) → Parts (care_of why) → (ls : List Line)
+    → events_of (cons_option (parted b u s (lot.Stays why)) ls) ≡ Done (part u s.no) ∷ events_of ls
+why-event b purpose.Regroup is s why apart ls = ap (λ (v : Bool). events_of (cons_option (cond v (Some (as_told (op.Start s.no))) None) ls)) apart.2
+why-event b purpose.Master is s why apart ls =
+    ap (λ (v : Bool). events_of (cons_option (cond v (Some (detach_line b s.no)) (cond (care_of why).elsewhere (Some (as_told (op.Start s.no))) None)) ls)) apart.0
+    ∙ detach-event b s.no ls
+why-event b (purpose.Intermediate k) is s why apart ls = absurd (false≢true is)
+why-event b (purpose.Takeover k) is s why apart ls = absurd (false≢true is)
+
+module _ (b : BookState) (u : Purpose) (is : gathers u ≡ true) (p s : Stopped) (ls : List Line) (ks : List ServerNo) (rest : events_of ls ≡ map (λ n. Done (part u n)) ks) where
+  parted-event : (l : Lot) → StaysApart p s l → events_of (cons_option (parted b u s (lot_told p s l)) ls) ≡ map (λ n. Done (part u n)) (cons_option (stays (fork_of p s l)) ks)
+  parted-event (lot.Stays why) apart = why-event b u is s why apart ls ∙ ap (λ (l : List Event). Done (part u s.no) ∷ l) rest
+  parted-event (lot.Goes (way.Down x)) apart = rest
+  parted-event (lot.Goes (way.Up x)) apart = rest
+  parted-event (lot.Goes (way.Match to exec every)) apart = rest
+  parted-event (lot.Goes (way.Auto to exec)) apart = go (is_before p.exec s.exec)
+    where
+      go : (v : Bool) → events_of (cons_option (parted b u s (cond v (lot.Stays (whys.ahead s.exec)) (lot.Goes (way.Auto to exec)))) ls)
+          ≡ map (λ n. Done (part u n)) (cons_option (loser_of s.no (cond v (path.Refused (op.Auto s.no to)) (path.Goes (op.Auto s.no to ∷ [])))) ks)
+      go true = why-event b u is s (whys.ahead s.exec) (refl, refl, refl) ls ∙ ap (λ (l : List Event). Done (part u s.no) ∷ l) rest
+      go false = rest
+
+module _ (p : Stopped) (lots : Stopped → Lot) where
   abbrev pub forks : List Stopped → List Fork
-  forks ss = map (λ s. fork_of s (lots s)) ss
+  forks ss = map (λ s. fork_of p s (lots s)) ss
 
-  flat-events : (p : Stopped) (ss : List Stopped) → events_of (flat_map (λ s. lot_lines p s (lots s)) ss) ≡ flat_map fork_events (forks ss)
-  flat-events p [] = refl
-  flat-events p (s ∷ ss) =
+  flat-events : ((s : Stopped) → StaysApart p s (lots s)) → (ss : List Stopped) → events_of (flat_map (λ s. lot_lines p s (lots s)) ss) ≡ flat_map fork_events (forks ss)
+  flat-events apart [] = refl
+  flat-events apart (s ∷ ss) =
       filter_map-append event_of (lot_lines p s (lots s)) (flat_map (λ t. lot_lines p t (lots t)) ss)
-      ∙ (λ i. lot-events p s (lots s) i ++ flat-events p ss i)
+      ∙ (λ i. lot-events p s (lots s) (apart s) i ++ flat-events apart ss i)
 
-  part-events : (u : Purpose) → gathers u ≡ true → ((s : Stopped) → StaysApart (lots s)) → (ss : List Stopped)
-      → events_of (filter_map (λ s. parted u s (lots s)) ss) ≡ map (λ n. Done (part u n)) (filter_map stays (forks ss))
-  part-events u is apart [] = refl
-  part-events u is apart (s ∷ ss) =
-      ap (λ (o : Option Line). events_of (cons_option o (filter_map (λ t. parted u t (lots t)) ss))) (part-line u is s (lots s) (apart s))
-      ∙ go (stays (fork_of s (lots s))) (part-events u is apart ss)
-    where
-      go : (o : Option ServerNo) → events_of (filter_map (λ t. parted u t (lots t)) ss) ≡ map (λ n. Done (part u n)) (filter_map stays (forks ss))
-          → events_of (cons_option (option_map (λ n. as_told (part u n)) o) (filter_map (λ t. parted u t (lots t)) ss)) ≡ map (λ n. Done (part u n)) (cons_option o (filter_map stays (forks ss)))
-      go None rest = rest
-      go (Some n) rest = ap (λ (l : List Event). Done (part u n) ∷ l) rest
+  part-events : (b : BookState) (u : Purpose) → gathers u ≡ true → ((s : Stopped) → StaysApart p s (lots s)) → (ss : List Stopped)
+      → events_of (filter_map (λ s. parted b u s (lot_told p s (lots s))) ss) ≡ map (λ n. Done (part u n)) (filter_map stays (forks ss))
+  part-events b u is apart [] = refl
+  part-events b u is apart (s ∷ ss) =
+      parted-event b u is p s (filter_map (λ t. parted b u t (lot_told p t (lots t))) ss) (filter_map stays (forks ss)) (part-events b u is apart ss) (lots s) (apart s)
 
-  goers-are : (p : ServerNo) (ss : List Stopped) → map (λ x. x.no) (filter_map (λ s. follower_in p s (lots s)) ss) ≡ filter_map goes (forks ss)
-  goers-are p [] = refl
-  goers-are p (s ∷ ss) = go (lots s) (goers-are p ss)
+  goers-are : (ss : List Stopped) → map (λ x. x.no) (filter_map (λ s. follower_in p.no s (lot_told p s (lots s))) ss) ≡ filter_map goes (forks ss)
+  goers-are [] = refl
+  goers-are (s ∷ ss) = go (lots s) (goers-are ss)
     where
-      go : (l : Lot) → map (λ x. x.no) (filter_map (λ t. follower_in p t (lots t)) ss) ≡ filter_map goes (forks ss)
-          → map (λ x. x.no) (cons_option (follower_in p s l) (filter_map (λ t. follower_in p t (lots t)) ss)) ≡ cons_option (goes (fork_of s l)) (filter_map goes (forks ss))
-      go (lot.Goes by) rest = ap (λ (l : List ServerNo). s.no ∷ l) rest
+      go : (l : Lot) → map (λ x. x.no) (filter_map (λ t. follower_in p.no t (lot_told p t (lots t))) ss) ≡ filter_map goes (forks ss)
+          → map (λ x. x.no) (cons_option (follower_in p.no s (lot_told p s l)) (filter_map (λ t. follower_in p.no t (lot_told p t (lots t))) ss)) ≡ cons_option (goes (fork_of p s l)) (filter_map goes (forks ss))
       go (lot.Stays why) rest = rest
+      go (lot.Goes (way.Down b)) rest = ap (λ (l : List ServerNo). s.no ∷ l) rest
+      go (lot.Goes (way.Up b)) rest = ap (λ (l : List ServerNo). s.no ∷ l) rest
+      go (lot.Goes (way.Match to exec every)) rest = ap (λ (l : List ServerNo). s.no ∷ l) rest
+      go (lot.Goes (way.Auto to exec)) rest = by (is_before p.exec s.exec)
+        where
+          by : (v : Bool) → map (λ x. x.no) (cons_option (follower_in p.no s (cond v (lot.Stays (whys.ahead s.exec)) (lot.Goes (way.Auto to exec)))) (filter_map (λ t. follower_in p.no t (lot_told p t (lots t))) ss))
+              ≡ cons_option (goer_of s.no (cond v (path.Refused (op.Auto s.no to)) (path.Goes (op.Auto s.no to ∷ [])))) (filter_map goes (forks ss))
+          by true = rest
+          by false = ap (λ (l : List ServerNo). s.no ∷ l) rest
 
 last-told : (g : Ground) (u : Purpose) → gathers u ≡ true → (f p : ServerNo) (xs : List Follower)
     → events_of (last_lines g u f p xs) ≡ last_events g u f p (map (λ x. x.no) xs)
@@ -184,21 +244,21 @@ module _ (g : Ground) (u : Purpose) (is : gathers u ≡ true) (by : Means) (f : 
   below = flat_map (λ s. lot_lines p s (lots s)) others
 
   abbrev lost : List Line
-  lost = filter_map (λ s. parted u s (lots s)) others
+  lost = filter_map (λ s. parted g.book u s (lot_told p s (lots s))) others
 
   abbrev followers : List Follower
-  followers = filter_map (λ s. follower_in p.no s (lots s)) others
+  followers = filter_map (λ s. follower_in p.no s (lot_told p s (lots s))) others
 
   abbrev last : List Line
   last = last_lines g u f p.no followers
 
-  pub told-branch : events_of (chosen_lines g u by f p others) ≡ script g u f p.no (forks lots others)
+  pub told-branch : events_of (chosen_lines g u by f p others) ≡ script g u f p.no (forks p lots others)
   told-branch =
       filter_map-append event_of (filter_map (chosen_line g f p) others) (below ++ (lost ++ last))
       ∙ (ap (λ (l : List Event). l ++ events_of (below ++ (lost ++ last))) (chosen-none g f p others)
       ∙ (filter_map-append event_of below (lost ++ last)
-      ∙ (ap (λ (l : List Event). l ++ events_of (lost ++ last)) (flat-events lots p others)
-      ∙ ap (λ (l : List Event). flat_map fork_events (forks lots others) ++ l)
+      ∙ (ap (λ (l : List Event). l ++ events_of (lost ++ last)) (flat-events p lots (lots-apart g by f p) others)
+      ∙ ap (λ (l : List Event). flat_map fork_events (forks p lots others) ++ l)
       (filter_map-append event_of lost last
-      ∙ (λ i. part-events lots u is (lots-apart g by f p) others i ++ last-told g u is f p.no followers i)
-      ∙ ap (λ (ns : List ServerNo). map (λ n. Done (part u n)) (filter_map stays (forks lots others)) ++ last_events g u f p.no ns) (goers-are lots p.no others)))))
+      ∙ (λ i. part-events p lots g.book u is (lots-apart g by f p) others i ++ last-told g u is f p.no followers i)
+      ∙ ap (λ (ns : List ServerNo). map (λ n. Done (part u n)) (filter_map stays (forks p lots others)) ++ last_events g u f p.no ns) (goers-are p lots others)))))

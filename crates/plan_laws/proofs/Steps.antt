@@ -18,7 +18,7 @@ use Rattle.run_laws.specs.RecoveryPlans.declared.task.Task.{Task}
 use Rattle.run_laws.specs.RecoveryPlans.declared.task.Task.TheVariants as task
 use Rattle.run_laws.specs.RecoveryEnds.Shapes.{are_still}
 use Rattle.plan_lines.specs.Courses.{Course, Event, Done, Missed, Place}
-use Rattle.plan_laws.specs.Followed.{GoesAsPlanned, gathers}
+use Rattle.plan_laws.specs.Followed.{GoesAsPlanned, IsMissed, gathers}
 use Rattle.plan_laws.proofs.Meeting.{done-first, last-of, left, walk-on}
 use Rattle.plan_laws.proofs.Parted.{detached, started}
 use Rattle.plan_laws.proofs.Scripts.{goes}
@@ -74,6 +74,8 @@ abbrev pub asks : Stage → Op → Bool
 asks stage.Check o = true
 asks (stage.Drain n) (op.StopReceiver k) = true
 asks (stage.Drain n) _ = false
+asks (stage.Move n by) (op.Auto k m) = true
+asks (stage.Move n by) _ = false
 asks _ o = false
 
 module _ (b : BookState) (G : Place → Recovery → Type 0) where
@@ -82,7 +84,11 @@ module _ (b : BookState) (G : Place → Recovery → Type 0) where
 
   pub misses-no : (x : Recovery) (o : Op) (rest : List Op) → asks x.stage o ≡ false → (c : Job) (later : Recovery) → GoesAsPlanned b (left x c (o ∷ rest)) (Missed o) later → ⊥
   misses-no x o rest off c later (inl h) = false≢true (sym off ∙ ap (λ s. asks s o) h.checks)
-  misses-no x o rest off c later (inr m) = false≢true (sym off ∙ (λ i. asks (m.1.drains i) (m.1.asks i)))
+  misses-no x o rest off c later (inr m) = go m.1
+    where
+      go : IsMissed b m.0 (left x c (o ∷ rest)) o later → ⊥
+      go (inl h) = false≢true (sym off ∙ (λ i. asks (h.drains i) (h.asks i)))
+      go (inr h) = false≢true (sym off ∙ (λ i. asks (h.moves i) (h.asks i)))
 
   pub does : (x : Recovery) (o : Op) (rest : List Op) → asks x.stage o ≡ false → ((told : List Told) → o ≡ op.Finish told → ⊥) → (evs : List Event)
       → ((j : Job) (later : List Event) → Runs (progressed (left x j rest) o false) later → Ends later evs)
@@ -100,7 +106,11 @@ module _ (b : BookState) (G : Place → Recovery → Type 0) where
 
   never-ends : (told : List Told) (s : Recovery) (later : Recovery) → GoesAsPlanned b s (Missed (op.Finish told)) later → ⊥
   never-ends told s later (inl h) = let e : op.Finish told ≡ op.Status s.failed None = h.asks in cc
-  never-ends told s later (inr m) = let e : op.Finish told ≡ op.StopReceiver m.0 = m.1.asks in cc
+  never-ends told s later (inr m) = go m.1
+    where
+      go : IsMissed b m.0 s (op.Finish told) later → ⊥
+      go (inl h) = let e : op.Finish told ≡ op.StopReceiver m.0 = h.asks in cc
+      go (inr h) = let e : op.Finish told ≡ op.Auto m.0 h.to = h.asks in cc
 
   pub finishes : (x : Recovery) (told : List Told) (c : Job) (es : List Event) → Runs (left x c (op.Finish told ∷ [])) es → Ends es []
   finishes x told c es goes = (told, last-of G (GoesAsPlanned b) x c told [] (never-ends told (left x c (op.Finish told ∷ []))) es goes)

@@ -1,4 +1,4 @@
--- What is told is the job that the command begins.
+-- What is printed is the job that the command begins.
 use Rattle.std.proofs.Common.{◌≡◌, ◌∙◌, ◌+◌, List, [], Option, Some, ap, arith}
 use Rattle.std.specs.Option.{unwrap_or}
 use Rattle.run_laws.specs.OrchBase.Names.{HostPort}

@@ -1,5 +1,5 @@
 -- The recovery that a command begins is one of its instance.
-use Rattle.std.proofs.Common.{◌≡◌, ◌∙◌, ℕ, ◌+◌, ◌≤◌, Bool, true, false, cond, List, [], ◌∷◌, Option, Some, None, Ok, Err, refl, sym, ap, subst, arith}
+use Rattle.std.proofs.Common.{◌≡◌, ◌∙◌, ℕ, ◌+◌, ◌≤◌, Bool, true, false, cond, List, [], ◌∷◌, Option, Some, None, refl, sym, ap, subst, arith}
 use Rattle.std.specs.Prelude.{◌==◌, All}
 use Rattle.std.proofs.lemmas.Bool.{eq-eqb}
 use Rattle.std.proofs.lemmas.List.Elements.{All-cons, All-nil}
@@ -28,7 +28,7 @@ use Rattle.run_laws.specs.RecoveryCore.Tries.{Begins, recovery_begins, takeover_
 use Rattle.run_laws.specs.RecoveryCovers.Covers.{times}
 use Rattle.run_laws.specs.RecoveryPermits.Recoveries.{recovery_purpose, recovery_refusal}
 use Rattle.run_laws.specs.RecoveryPermits.Takeovers.{followers_of, takeover_refusal}
-use Rattle.run_laws.specs.RecoveryPlans.Beginning.{begun_recovery, is_takeover}
+use Rattle.run_laws.specs.RecoveryPlans.Beginning.{begun_recovery}
 use Rattle.run_laws.specs.RecoveryPlans.Recoveries.{Recovery}
 use Rattle.run_laws.specs.RecoveryPlans.declared.means.Means.{Means}
 use Rattle.run_laws.specs.RecoveryPlans.declared.means.Means.TheVariants as means
@@ -42,13 +42,12 @@ use Rattle.run_laws.specs.BegunJobs.{BegunJob, begun_by, of_plan, of_try, recove
 use Rattle.run_laws.specs.Prelude.{numbers_of}
 use Rattle.run_laws.proofs.Naming.{regroup-are}
 use Rattle.plan_lines.specs.Prelude.{replicas_of}
-use Rattle.plan_lines.specs.Courses.{Course, Event, Follows}
+use Rattle.plan_lines.specs.Courses.{Course}
 use Rattle.tasks.specs.Plans.{begun_state, ground_in, means_of}
-use Rattle.plan_laws.specs.Begun.{WouldBegin}
 use Rattle.plan_laws.specs.Doing.{IsOf, RecoveriesAreDoneAsTold, RecoveriesAreOfTheirInstances, told_means}
 use Rattle.plan_laws.specs.Followed.{AreApart, GoesAsPlanned, IsAsPlanned}
 use Rattle.plan_laws.proofs.Lost.{differs}
-use Rattle.plan_laws.proofs.Turns.{recoveries-follow}
+use Rattle.plan_laws.proofs.Handing.{recoveries-follow}
 
 -- ---- none is named twice
 

@@ -5,7 +5,7 @@ use Rattle.std.specs.List.{cons_option, flat_map}
 use Rattle.std.specs.Option.{option_map}
 use Rattle.std.proofs.lemmas.Bool.{false≢true}
 use Rattle.std.proofs.lemmas.List.{append-nil, map-append}
-use Rattle.std.proofs.lemmas.List.Elements.{All-head, All-tail, filter_map-append}
+use Rattle.std.proofs.lemmas.List.Elements.{filter_map-append}
 use Rattle.std.proofs.lemmas.Option.{same_Some}
 use Rattle.run_laws.specs.Commands.declared.cause.Cause.{Cause}
 use Rattle.run_laws.specs.Commands.declared.cause.Cause.TheVariants as cause
@@ -14,19 +14,18 @@ use Rattle.run_laws.specs.KeptRows.declared.observation.Observation.{Observation
 use Rattle.run_laws.specs.Operations.Jobs.{Job, job_with, seen_of}
 use Rattle.run_laws.specs.Operations.declared.op.Aim.TheVariants.{EndOf}
 use Rattle.run_laws.specs.Operations.declared.op.Crossing.TheVariants as cross
-use Rattle.run_laws.specs.Operations.declared.op.Op.{Op}
 use Rattle.run_laws.specs.Operations.declared.op.Op.TheVariants as op
 use Rattle.run_laws.specs.Operations.declared.sight.Position.{Position}
 use Rattle.run_laws.specs.OrchBase.declared.server.ServerNo.{ServerNo}
 use Rattle.run_laws.specs.ServerModel.Worlds.{World}
-use Rattle.run_laws.specs.RecoveryPlans.Deciding.{Ground, Lot, better_of, choose, chosen_of, expels, losses_in, lot_by, may_lead, move_of, moves_in, once, releases}
-use Rattle.run_laws.specs.RecoveryPlans.Deciding.{hand, hand_by, swap_by, way_below, why_of, without_stopped}
+use Rattle.run_laws.specs.RecoveryPlans.Deciding.{Ground, Lot, better_of, choose, chosen_of, expels, losses_in, lot_by, may_lead, move_of, moves_in, once, releases, stopped_in}
+use Rattle.run_laws.specs.RecoveryPlans.Deciding.{swap_by, why_of, without_stopped}
 use Rattle.run_laws.specs.RecoveryPlans.Deciding as lot
 use Rattle.run_laws.specs.RecoveryPlans.Beginning.{first_source, is_master, is_takeover}
 use Rattle.run_laws.specs.RecoveryPlans.Recoveries.{Outcome, Recovery, loses, without_follower}
 use Rattle.run_laws.specs.RecoveryPlans.Stages as ways
 use Rattle.run_laws.specs.RecoveryPlans.Stages.{drain, level, target, with_way}
-use Rattle.run_laws.specs.RecoveryPlans.Taking.{Loss, drain_fate, fate, idle, is_away, is_below, judged, loss_of, marked, met, progressed, spot_seen, swapped}
+use Rattle.run_laws.specs.RecoveryPlans.Taking.{Loss, drain_fate, fate, idle, is_away, is_below, judged, loss_of, marked, met, spot_seen, swapped, Fate}
 use Rattle.run_laws.specs.RecoveryPlans.Taking as taking
 use Rattle.run_laws.specs.RecoveryPlans.Telling.{told_by}
 use Rattle.run_laws.specs.RecoveryPlans.declared.means.Means.{Means}
@@ -46,21 +45,24 @@ use Rattle.run_laws.proofs.RecoveryEnds.Shapes.{same-head}
 use Rattle.plan_lines.specs.PlanTexts.declared.line.Expect.TheVariants as expect
 use Rattle.plan_lines.specs.PlanTexts.declared.line.Line.{Line}
 use Rattle.plan_lines.specs.PlanTexts.declared.line.Line.TheVariants as line
-use Rattle.plan_lines.specs.Branches.{choice_lines, gathered, handed_over}
+use Rattle.plan_lines.specs.Branches.{choice_lines, gathered}
 use Rattle.plan_lines.specs.Courses.{Course, Event, Done, Missed, Place, event_of, events_of, ground_at, set_out}
 use Rattle.plan_lines.specs.Courses as course
 use Rattle.plan_lines.specs.Expected.{all_drained, drained, expected}
 use Rattle.plan_lines.specs.Pieces.{judged as judged_lines}
 use Rattle.plan_lines.specs.Prelude.{is_valid}
-use Rattle.plan_laws.specs.Followed.{AreApart, Branch, Fork, GoesAsPlanned, IsAsPlanned, RecoveriesFollowTheirPlans, branch_at, fork_of, gathers, gone, steps_of, steps_to}
-use Rattle.plan_laws.proofs.Lost.{Found, There, Gone, drained_in, gone_in, lost_by, no_of}
+use Rattle.run_laws.specs.BinlogCoords.Log.{is_before}
+use Rattle.run_laws.specs.BinlogCoords.declared.Coord.{Coord}
+use Rattle.run_laws.proofs.RecoveryPlans.Choices.{chosen-may}
+use Rattle.plan_laws.specs.Followed as path
+use Rattle.plan_laws.specs.Followed.{AreApart, Branch, GoesAsPlanned, IsAsPlanned, branch_at, fork_of, gathers, gone, steps_of, IsMissed, is_after, path_by}
+use Rattle.plan_laws.proofs.Lost.{Found, There, Gone, drained_in, gone_in, no_of}
 use Rattle.plan_laws.proofs.Meeting.{Did, Missing, decides, done-first, first-of, left, none-goes, stopped-after}
-use Rattle.plan_laws.proofs.Below.{below_events, behind_by, expected-gone, expected-valid, left-detached, left_nos, none-started, not_handed, numbers, told-below}
-use Rattle.plan_laws.proofs.Parted.{are-detached, are-started, detached, started}
-use Rattle.plan_laws.proofs.Scripts.{crown_events, fork_events, forks, go_events, goes, last_events, lots-apart, part, script, stays, told-branch}
+use Rattle.plan_laws.proofs.Below.{expected-gone, expected-valid, numbers}
+use Rattle.plan_laws.proofs.Parted.{are-detached, are-started, detached, started, late_of, refused_why}
+use Rattle.plan_laws.proofs.Scripts.{crown_events, fork_events, forks, go_events, goes, last_events, lots-apart, part, script, stays, told-branch, StaysApart, goer_of, path_events}
 use Rattle.plan_laws.proofs.Steps.{Ends, does, finishes, longer, misses-no, next, no-takeover, parting, parting-is, stopped_by, walks}
-
--- ---- after the choice
+use Rattle.plan_laws.proofs.Barred.{NotFrees, exec_in, find-filter, mover_in, named-so, not-frees}
 
 module _ (g : Ground) (by : Means) (f : ServerNo) (ns order : List ServerNo) where
   -- of any followers the same one is better as for the plan
@@ -112,15 +114,32 @@ module _ (g : Ground) (by : Means) (f : ServerNo) (ns order : List ServerNo) whe
     joins to further = does g.book G (moving-at (stage.Join n to) F) (op.Start n) [] refl (λ told e. cc) evs further
 
     -- a replica goes some way, and is started
-    goes-by : (by : Way) → Behind (target by) → (c : Job) (es : List Event)
+    -- by GTIDs it isn't ahead of the chosen one
+    abbrev pub Free : Way → Type 0
+    Free (way.Down b) = Unit {0}
+    Free (way.Up b) = Unit {0}
+    Free (way.Auto to exec) = is_after (stopped_in el ch) exec ≡ false
+    Free (way.Match to exec every) = Unit {0}
+
+    not-barred : (to : ServerNo) (exec : Coord) → is_after (stopped_in el ch) exec ≡ false → (c : Job) (later : Recovery)
+        → GoesAsPlanned g.book (left (moving-at (stage.Move n (way.Auto to exec)) F) c (op.Auto n to ∷ op.Start n ∷ [])) (Missed (op.Auto n to)) later → ⊥
+    not-barred to exec free c later (inl h) = let e : stage.Move n (way.Auto to exec) ≡ stage.Check = h.checks in cc
+    not-barred to exec free c later (inr m) = go m.1
+      where
+        go : IsMissed g.book m.0 (left (moving-at (stage.Move n (way.Auto to exec)) F) c (op.Auto n to ∷ op.Start n ∷ [])) (op.Auto n to) later → ⊥
+        go (inl h) = let e : stage.Move n (way.Auto to exec) ≡ stage.Drain m.0 = h.drains in cc
+        go (inr h) = false≢true (sym free ∙ (ap (λ (x : Coord). is_after (stopped_in el ch) x) (ap (exec_in exec) h.moves) ∙ h.ahead))
+
+    pub goes-by : (by : Way) → Behind (target by) → Free by → (c : Job) (es : List Event)
         → Runs-so (left (moving-at (stage.Move n by) F) c (ways.before by n ++ ways.move by n ∷ op.Start n ∷ [])) es → Ends es (go_events n (steps_of n (Some by)) ++ evs)
-    goes-by (way.Down b) further =
+    goes-by (way.Down b) further free =
         does g.book G (moving-at (stage.Move n (way.Down b)) F) (op.Cross cross.Down n b.no) (op.Start n ∷ []) refl (λ told e. cc) (Done (op.Start n) ∷ evs) (joins b.no further)
-    goes-by (way.Up b) further =
+    goes-by (way.Up b) further free =
         does g.book G (moving-at (stage.Move n (way.Up b)) F) (op.Cross cross.Up n b.no) (op.Start n ∷ []) refl (λ told e. cc) (Done (op.Start n) ∷ evs) (joins b.source further)
-    goes-by (way.Auto to exec) further =
-        does g.book G (moving-at (stage.Move n (way.Auto to exec)) F) (op.Auto n to) (op.Start n ∷ []) refl (λ told e. cc) (Done (op.Start n) ∷ evs) (joins to further)
-    goes-by (way.Match to exec every) further =
+    goes-by (way.Auto to exec) further free = λ c es goes.
+        let one = done-first G (GoesAsPlanned g.book) (moving-at (stage.Move n (way.Auto to exec)) F) c (op.Auto n to) (op.Start n ∷ []) (λ told e. cc) (not-barred to exec free) es goes in
+        next (Done (op.Auto n to)) es one.later (Done (op.Start n) ∷ evs) one.is (joins to further one.job one.later one.goes)
+    goes-by (way.Match to exec every) further free =
         does g.book G (moving-at (stage.Move n (way.Match to exec every)) F) (op.Match n to every) (op.CrossMatch n to ∷ op.Start n ∷ []) refl (λ told e. cc)
         (Done (op.CrossMatch n to) ∷ Done (op.Start n) ∷ evs)
         (does g.book G (moving-at (stage.Move n (way.Match to exec every)) F) (op.CrossMatch n to) (op.Start n ∷ []) refl (λ told e. cc) (Done (op.Start n) ∷ evs) (joins to further))
@@ -264,7 +283,7 @@ module _ (g : Ground) (by : Means) (f : ServerNo) (ns order : List ServerNo) whe
   abbrev sorted-at : Purpose → ServerNo → List Stopped → List Follower → List LostReplica → Job → List ServerNo → List ServerNo → Recovery
   sorted-at u p el F L c xs ys = chosen-at u (map task.Expelling xs ++ (map task.Releasing ys ++ [])) p el F L c
 
-  settles : (u : Purpose) → is_takeover u ≡ false → (a : Place) (p : ServerNo) (el : List Stopped) (F : List Follower) (L : List LostReplica) (c : Job) (xs ys : List ServerNo)
+  pub settles : (u : Purpose) → is_takeover u ≡ false → (a : Place) (p : ServerNo) (el : List Stopped) (F : List Follower) (L : List LostReplica) (c : Job) (xs ys : List ServerNo)
       → once (ground_at a) (once (ground_at a) (sorted-at u p el F L c xs ys))
       ≡ once (ground_at a) (once (ground_at a) (once (ground_at a) (sorted-at u p el F L c xs ys)))
   settles u is a p el F L c (x ∷ xs) ys = refl
@@ -279,7 +298,7 @@ module _ (g : Ground) (by : Means) (f : ServerNo) (ns order : List ServerNo) whe
   settles (purpose.Intermediate s) is a p el F L c [] [] = refl
   settles (purpose.Takeover d) is a p el F L c [] [] = absurd (false≢true (sym is))
 
-  sorts : (u : Purpose) → is_takeover u ≡ false → (p : ServerNo) (el : List Stopped) (F : List Follower) (L : List LostReplica) (ks : List ServerNo)
+  pub sorts : (u : Purpose) → is_takeover u ≡ false → (p : ServerNo) (el : List Stopped) (F : List Follower) (L : List LostReplica) (ks : List ServerNo)
       → filter (λ n. expels u (why_of L n)) ns ≡ detached u ks → filter (λ n. releases u (why_of L n)) ns ≡ started u ks
       → (c : Job) (es : List Event) → Goes (chosen-at u (task.Sorting ∷ []) p el F L c) es
       → Ends es (map (λ n. Done (part u n)) ks ++ last_events g u f p (map (λ x. x.no) F))
@@ -292,45 +311,125 @@ module _ (g : Ground) (by : Means) (f : ServerNo) (ns order : List ServerNo) whe
       (subst (λ (ts : List Task). Goes (chosen-at u ts p el F L c) later)
       ((λ i. map task.Expelling (out i) ++ (map task.Releasing (in_again i) ++ [])) ∙ parting-is u ks) on)) es goes
 
+  -- ---- a replica that is ahead is refused
+
+  module _ (u : Purpose) (rest : is_takeover u ≡ false) (p : ServerNo) (el : List Stopped) (F : List Follower) (L : List LostReplica) (n to : ServerNo) (exec : Coord) (q : List Task)
+      (evs : List Event) (ahead : is_after (stopped_in el (Some p)) exec ≡ true) where
+    abbrev asking : Recovery
+    asking = at u (stage.Move n (way.Auto to exec)) q [] (Some p) el (is_master u) (record { promoted = Some p; followers = F; lost = L })
+
+    abbrev late_one : LostReplica
+    late_one = record { no = n; why = why.ahead exec; detached = false }
+
+    abbrev Lost : Type 0
+    Lost = (c : Job) (es : List Event) → Goes (chosen-at u q p el F (L ++ late_one ∷ []) c) es → Ends es evs
+
+    fates : Lost → (w : World) (was : Job) (x : Cause) (ob : Option Observation) (es : List Event) (o : Fate) → NotFrees o
+        → (met w (left asking was (op.Auto n to ∷ op.Start n ∷ [])) x ob o).recovery.outcome.lost ≡ L ++ late_one ∷ []
+        → Goes (met w (left asking was (op.Auto n to ∷ op.Start n ∷ [])) x ob o).recovery es → Ends es evs
+    fates further w was x ob es taking.Fails not lost on = absurd (longer L late_one (sym lost))
+    fates further w was x ob es taking.Drops not lost on = absurd (longer L late_one (sym lost))
+    fates further w was x ob es (taking.Goes s ops) not lost on = absurd (longer L late_one (sym lost))
+    fates further w was x ob es (taking.Frees k y) not lost on = absurd not
+    fates further w was x ob es (taking.Loses k y) not lost on =
+        further (record was { waited = 0 }) es (subst (λ (ls : List LostReplica). Goes (chosen-at u q p el F ls (record was { waited = 0 })) es) lost on)
+
+    refused-one : Lost → (c : Job) (es : List Event) → Goes (chosen-at u (task.Moving n (way.Auto to exec) ∷ q) p el F L c) es → Ends es (Missed (op.Auto n to) ∷ evs)
+    refused-one further c es goes =
+        begins (chosen-at u (task.Moving n (way.Auto to exec) ∷ q) p el F L c) (λ a. refl) (Missed (op.Auto n to) ∷ evs)
+        (λ a sees later on. go later
+        (first-of Sees (GoesAsPlanned g.book) asking (record c { waited = 0 }) (op.Auto n to) (op.Start n ∷ []) (λ told e. cc) later on)) es goes
+      where
+        go : (later : List Event) → Did Sees (GoesAsPlanned g.book) asking (op.Auto n to) (op.Start n ∷ []) later
+            ⊎ Missing Sees (GoesAsPlanned g.book) asking (op.Auto n to) (op.Start n ∷ []) later → Ends later (Missed (op.Auto n to) ∷ evs)
+        go later (inl one) = absurd (false≢true (sym (one.held.allowed n to exec refl refl) ∙ ahead))
+        go later (inr m) = missed m.held
+          where
+            missed : GoesAsPlanned g.book (left asking m.before (op.Auto n to ∷ op.Start n ∷ [])) (Missed (op.Auto n to))
+                (met m.at.world (left asking m.before (op.Auto n to ∷ op.Start n ∷ [])) m.cause m.saw (fate m.at.world u (stage.Move n (way.Auto to exec)) m.cause)).recovery
+                → Ends later (Missed (op.Auto n to) ∷ evs)
+            missed (inl h) = let e : stage.Move n (way.Auto to exec) ≡ stage.Check = h.checks in cc
+            missed (inr k) = told-of k.1
+              where
+                told-of : IsMissed g.book k.0 (left asking m.before (op.Auto n to ∷ op.Start n ∷ [])) (op.Auto n to)
+                    (met m.at.world (left asking m.before (op.Auto n to ∷ op.Start n ∷ [])) m.cause m.saw (fate m.at.world u (stage.Move n (way.Auto to exec)) m.cause)).recovery
+                    → Ends later (Missed (op.Auto n to) ∷ evs)
+                told-of (inl h) = let e : stage.Move n (way.Auto to exec) ≡ stage.Drain k.0 = h.drains in cc
+                told-of (inr h) =
+                    let one : k.0 ≡ n = sym (ap (mover_in n) h.moves) in
+                    let two : h.exec ≡ exec = sym (ap (exec_in exec) h.moves) in
+                    next (Missed (op.Auto n to)) later m.later evs m.is
+                    (fates further m.at.world m.before m.cause m.saw m.later (fate m.at.world u (stage.Move n (way.Auto to exec)) m.cause)
+                    (not-frees m.at.world u rest n to exec (loss_of m.cause))
+                    (h.lost ∙ (λ i. L ++ record { no = one i; why = why.ahead (two i); detached = false } ∷ [])) m.goes)
+
   -- ---- each of the others goes its way
 
-  module _ (u : Purpose) (p : ServerNo) (el : List Stopped) (L : List LostReplica) where
-    moved-one : (n : ServerNo) (F : List Follower) (q : List Task) (evs : List Event) (by : Way)
-        → ((c : Job) (es : List Event) → Goes (chosen-at u q p el (F ++ record { no = n; source = target by } ∷ []) L c) es → Ends es evs)
-        → (c : Job) (es : List Event) → Goes (chosen-at u (task.Moving n by ∷ q) p el F L c) es → Ends es (go_events n (steps_of n (Some by)) ++ evs)
-    moved-one n F q evs by further c es goes =
-        begins (chosen-at u (task.Moving n by ∷ q) p el F L c) (λ a. same a by) (go_events n (steps_of n (Some by)) ++ evs)
-        (λ a sees later on. goes-by Sees u n q [] (Some p) el (is_master u) (Some p) F L evs by further (record c { seen = with_way c.seen by; waited = 0 }) later on) es goes
+  module _ (u : Purpose) (rest : is_takeover u ≡ false) (p : Stopped) (el : List Stopped) (lead : stopped_in el (Some p.no) ≡ Some p) where
+    moved-one : (L : List LostReplica) (n : ServerNo) (F : List Follower) (q : List Task) (evs : List Event) (by : Way)
+        → ((c : Job) (es : List Event) → Goes (chosen-at u q p.no el (F ++ record { no = n; source = target by } ∷ []) L c) es → Ends es evs)
+        → Free Sees u n q [] (Some p.no) el (is_master u) (Some p.no) F L evs by
+        → (c : Job) (es : List Event) → Goes (chosen-at u (task.Moving n by ∷ q) p.no el F L c) es → Ends es (go_events n (steps_of n (Some by)) ++ evs)
+    moved-one L n F q evs by further free c es goes =
+        begins (chosen-at u (task.Moving n by ∷ q) p.no el F L c) (λ a. same a by) (go_events n (steps_of n (Some by)) ++ evs)
+        (λ a sees later on. goes-by Sees u n q [] (Some p.no) el (is_master u) (Some p.no) F L evs by further free (record c { seen = with_way c.seen by; waited = 0 }) later on) es goes
       where
-        same : (a : Place) (y : Way) → set_out a (chosen-at u (task.Moving n y ∷ q) p el F L c) ≡ set_out a (once (ground_at a) (chosen-at u (task.Moving n y ∷ q) p el F L c))
+        same : (a : Place) (y : Way) → set_out a (chosen-at u (task.Moving n y ∷ q) p.no el F L c) ≡ set_out a (once (ground_at a) (chosen-at u (task.Moving n y ∷ q) p.no el F L c))
         same a (way.Down b) = refl
         same a (way.Up b) = refl
         same a (way.Auto to exec) = refl
         same a (way.Match to exec every) = refl
 
-    module _ (lots : Stopped → Lot) (q : List Task) (evs : List Event) where
-      -- the others follow, as many as go
-      abbrev Followed : List ServerNo → List Fork → Type 0
-      Followed before xs = (E : List Follower) → map (λ x. x.no) E ≡ before ++ filter_map goes xs → (c : Job) (es : List Event) → Goes (chosen-at u q p el E L c) es → Ends es evs
+    module _ (lots : Stopped → Lot) (fits : (s : Stopped) → StaysApart p s (lots s)) (q : List Task) (evs : List Event) where
+      -- the others follow, as many as go, and the late ones are lost
+      abbrev Followed : List ServerNo → List LostReplica → Type 0
+      Followed nos ls = (E : List Follower) → map (λ x. x.no) E ≡ nos → (c : Job) (es : List Event) → Goes (chosen-at u q p.no el E ls c) es → Ends es evs
 
       abbrev AllMove : List Stopped → Type 0
-      AllMove ss = (F : List Follower) → Followed (map (λ x. x.no) F) (forks lots ss) → (c : Job) (es : List Event)
-          → Goes (chosen-at u (moves_in lots ss ++ q) p el F L c) es → Ends es (flat_map fork_events (forks lots ss) ++ evs)
+      AllMove ss = (F : List Follower) (L : List LostReplica) → Followed (map (λ x. x.no) F ++ filter_map goes (forks p lots ss)) (L ++ late_of p lots ss) → (c : Job) (es : List Event)
+          → Goes (chosen-at u (moves_in lots ss ++ q) p.no el F L c) es → Ends es (flat_map fork_events (forks p lots ss) ++ evs)
 
       moves-all : (ss : List Stopped) → AllMove ss
-      moves-all [] F further c es run = further F (sym (append-nil (map (λ x. x.no) F))) c es run
-      moves-all (s ∷ ss) F further c es run = go (lots s) (moves-all ss) further run
+      moves-all [] F L further c es run =
+          further F (sym (append-nil (map (λ x. x.no) F))) c es (subst (λ (ls : List LostReplica). Goes (chosen-at u q p.no el F ls c) es) (sym (append-nil L)) run)
+      moves-all (s ∷ ss) F L further c es run = go (lots s) (fits s) (moves-all ss) further run
         where
-          go : (l : Lot) → AllMove ss → Followed (map (λ x. x.no) F) (fork_of s l ∷ forks lots ss) → Goes (chosen-at u ((move_of s l ++ moves_in lots ss) ++ q) p el F L c) es
-              → Ends es (flat_map fork_events (fork_of s l ∷ forks lots ss) ++ evs)
-          go (lot.Goes by) others onward on =
-              subst (Ends es) (sym (append_assoc (go_events s.no (steps_of s.no (Some by))) (flat_map fork_events (forks lots ss)) evs))
-              (moved-one s.no F (moves_in lots ss ++ q) (flat_map fork_events (forks lots ss) ++ evs) by
-              (others (F ++ record { no = s.no; source = target by } ∷ [])
-              (λ E numbers. onward E (numbers
-              ∙ (ap (λ (ks : List ServerNo). ks ++ filter_map goes (forks lots ss)) (map-append (λ (x : Follower). x.no) F (record { no = s.no; source = target by } ∷ []))
-              ∙ append_assoc (map (λ x. x.no) F) (s.no ∷ []) (filter_map goes (forks lots ss)))))) c es on)
-          go (lot.Stays why) others onward on = others F onward c es on
+          taken : (y : Way) → Free Sees u s.no (moves_in lots ss ++ q) [] (Some p.no) el (is_master u) (Some p.no) F L (flat_map fork_events (forks p lots ss) ++ evs) y → AllMove ss
+              → Followed (map (λ x. x.no) F ++ s.no ∷ filter_map goes (forks p lots ss)) (L ++ late_of p lots ss)
+              → Goes (chosen-at u (task.Moving s.no y ∷ (moves_in lots ss ++ q)) p.no el F L c) es
+              → Ends es ((go_events s.no (steps_of s.no (Some y)) ++ flat_map fork_events (forks p lots ss)) ++ evs)
+          taken y free others onward on =
+              subst (Ends es) (sym (append_assoc (go_events s.no (steps_of s.no (Some y))) (flat_map fork_events (forks p lots ss)) evs))
+              (moved-one L s.no F (moves_in lots ss ++ q) (flat_map fork_events (forks p lots ss) ++ evs) y
+              (others (F ++ record { no = s.no; source = target y } ∷ []) L
+              (λ E nos. onward E (nos
+              ∙ (ap (λ (ks : List ServerNo). ks ++ filter_map goes (forks p lots ss)) (map-append (λ (x : Follower). x.no) F (record { no = s.no; source = target y } ∷ []))
+              ∙ append_assoc (map (λ x. x.no) F) (s.no ∷ []) (filter_map goes (forks p lots ss)))))) free c es on)
+
+          go : (l : Lot) → StaysApart p s l → AllMove ss
+              → Followed (map (λ x. x.no) F ++ cons_option (goer_of s.no (path_by p s l)) (filter_map goes (forks p lots ss)))
+              (L ++ cons_option (option_map (λ why. let k : LostReplica = record { no = s.no; why = why; detached = false } in k) (refused_why p s l)) (late_of p lots ss))
+              → Goes (chosen-at u ((move_of s l ++ moves_in lots ss) ++ q) p.no el F L c) es → Ends es (flat_map fork_events (fork_of p s l ∷ forks p lots ss) ++ evs)
+          go (lot.Stays why) fit others onward on = others F L onward c es on
+          go (lot.Goes (way.Down b)) fit others onward on = taken (way.Down b) tt others onward on
+          go (lot.Goes (way.Up b)) fit others onward on = taken (way.Up b) tt others onward on
+          go (lot.Goes (way.Match to exec every)) fit others onward on = taken (way.Match to exec every) tt others onward on
+          go (lot.Goes (way.Auto to exec)) fit others onward on = either (is_before p.exec s.exec) refl onward
+            where
+              ahead-is : (v : Bool) → is_before p.exec s.exec ≡ v → is_after (stopped_in el (Some p.no)) exec ≡ v
+              ahead-is v is = ap (λ (o : Option Stopped). is_after o exec) lead ∙ (ap (is_before p.exec) fit.1 ∙ is)
+
+              either : (v : Bool) → is_before p.exec s.exec ≡ v
+                  → Followed (map (λ x. x.no) F ++ cons_option (goer_of s.no (cond v (path.Refused (op.Auto s.no to)) (path.Goes (op.Auto s.no to ∷ [])))) (filter_map goes (forks p lots ss)))
+                  (L ++ cons_option (option_map (λ why. let k : LostReplica = record { no = s.no; why = why; detached = false } in k) (cond v (Some (why.ahead s.exec)) None)) (late_of p lots ss))
+                  → Ends es ((path_events s.no (cond v (path.Refused (op.Auto s.no to)) (path.Goes (op.Auto s.no to ∷ []))) ++ flat_map fork_events (forks p lots ss)) ++ evs)
+              either true is onward =
+                  refused-one u rest p.no el F L s.no to exec (moves_in lots ss ++ q) (flat_map fork_events (forks p lots ss) ++ evs) (ahead-is true is)
+                  (others F (L ++ record { no = s.no; why = why.ahead exec; detached = false } ∷ [])
+                  (λ E nos d later more. onward E nos d later (subst (λ (ls : List LostReplica). Goes (chosen-at u q p.no el E ls d) later)
+                  (append_assoc L (record { no = s.no; why = why.ahead exec; detached = false } ∷ []) (late_of p lots ss)
+                  ∙ (λ i. L ++ record { no = s.no; why = why.ahead (fit.1 i); detached = false } ∷ late_of p lots ss)) more))) c es on
+              either false is onward = taken (way.Auto to exec) (ahead-is false is) others onward on
 
   -- ---- the choice
 
@@ -375,6 +474,10 @@ module _ (g : Ground) (by : Means) (f : ServerNo) (ns order : List ServerNo) whe
   none-chosen (purpose.Intermediate s) is a ds L c es goes = absurd (false≢true is)
   none-chosen (purpose.Takeover d) is a ds L c es goes = absurd (false≢true is)
 
+  -- the chosen one is found among those that might be
+  leads : (a : Place) (ds : List Stopped) (p : Stopped) → chosen_of (ground_at a) f ds ≡ Some p → stopped_in (filter (may_lead (ground_at a)) ds) (Some p.no) ≡ Some p
+  leads a ds p chosen = find-filter p.no (may_lead (ground_at a)) ds p (named-so ds p _ chosen) (chosen-may a.world a.book a.now f ds p chosen)
+
   module _ (u : Purpose) (is : gathers u ≡ true) (fs : List Found) (apart : AreApart (map no_of fs)) (all : map no_of fs ≡ ns) where
     abbrev ds : List Stopped
     ds = filter_map drained_in fs
@@ -383,25 +486,33 @@ module _ (g : Ground) (by : Means) (f : ServerNo) (ns order : List ServerNo) whe
     gone_first = filter_map gone_in fs
 
     -- one is chosen
-    module _ (a : Place) (p : Stopped) where
+    module _ (a : Place) (p : Stopped) (chosen : chosen_of (ground_at a) f ds ≡ Some p) where
       abbrev lots : Stopped → Lot
       lots s = lot_by by (ground_at a) f p s
 
       abbrev others : List Stopped
       others = without_stopped ds p.no
 
+      abbrev may : List Stopped
+      may = filter (may_lead (ground_at a)) ds
+
       abbrev lost_then : List LostReplica
-      lost_then = gone_first ++ losses_in lots others
+      lost_then = gone_first ++ (losses_in lots others ++ late_of p lots others)
+
+      -- what comes once the others went their ways
+      abbrev parts-last : List ServerNo → List Event
+      parts-last qs = map (λ n. Done (part u n)) (filter_map stays (forks p lots others)) ++ last_events g u f p.no qs
 
       chosen-on : (c : Job) (es : List Event) → Goes (choose (ground_at a) (undecided u (task.Sorting ∷ []) ds gone_first c) (Some p)) es
-          → Ends es (script g u f p.no (forks lots others))
+          → Ends es (script g u f p.no (forks p lots others))
       chosen-on c es run =
-          moves-all u p.no (filter (may_lead (ground_at a)) ds) lost_then lots (task.Sorting ∷ [])
-          (map (λ n. Done (part u n)) (filter_map stays (forks lots others)) ++ last_events g u f p.no (filter_map goes (forks lots others))) others []
-          (λ F numbers d more on.
-          subst (λ (qs : List ServerNo). Ends more (map (λ n. Done (part u n)) (filter_map stays (forks lots others)) ++ last_events g u f p.no qs)) numbers
-          (sorts u (no-takeover u is) p.no (filter (may_lead (ground_at a)) ds) F lost_then (filter_map stays (forks lots others))
-          (are-detached p.no lots (lots-apart (ground_at a) by f p) u is fs apart ns all) (are-started p.no lots (lots-apart (ground_at a) by f p) u is fs apart ns all) d more on)) c es run
+          moves-all u (no-takeover u is) p may (leads a ds p chosen) lots (lots-apart (ground_at a) by f p) (task.Sorting ∷ []) (parts-last (filter_map goes (forks p lots others))) others []
+          (gone_first ++ losses_in lots others)
+          (λ F nos d more on.
+          subst (λ (qs : List ServerNo). Ends more (parts-last qs)) nos
+          (sorts u (no-takeover u is) p.no may F lost_then (filter_map stays (forks p lots others))
+          (are-detached p lots (lots-apart (ground_at a) by f p) u is fs apart ns all) (are-started p lots (lots-apart (ground_at a) by f p) u is fs apart ns all) d more
+          (subst (λ (ls : List LostReplica). Goes (chosen-at u (task.Sorting ∷ []) p.no may F ls d) more) (append_assoc gone_first (losses_in lots others) (late_of p lots others)) on))) c es run
 
     abbrev Planned : Recovery → List Event → Type 0
     Planned r es = Course (IsAsPlanned g by f ns) (GoesAsPlanned g.book) r es
@@ -413,28 +524,28 @@ module _ (g : Ground) (by : Means) (f : ServerNo) (ns order : List ServerNo) whe
         let d = decides (IsAsPlanned g by f ns) Sees (GoesAsPlanned g.book) (λ a s h. h.better) (λ a. once (ground_at a) (undecided u (task.Choosing ∷ task.Sorting ∷ []) ds gone_first c))
         (undecided u (task.Choosing ∷ task.Sorting ∷ []) ds gone_first c) (λ a h. h.better)
         (λ a h. choice-same u is a ds gone_first c (chosen_of (ground_at a) f ds)) es goes in
-        go d.at (chosen_of (ground_at d.at) f ds) (chosen_of g f (expected g.book ns)) (d.sees.chosen (task.Sorting ∷ []) (record { rests = refl; queue = refl })) d.goes
+        go d.at (chosen_of (ground_at d.at) f ds) refl (chosen_of g f (expected g.book ns)) (d.sees.chosen (task.Sorting ∷ []) (record { rests = refl; queue = refl })) d.goes
       where
-        go : (a : Place) (o x : Option Stopped) → branch_at (ground_at a) by f ds o ≡ branch_at g by f (expected g.book ns) x
+        go : (a : Place) (o : Option Stopped) → chosen_of (ground_at a) f ds ≡ o → (x : Option Stopped) → branch_at (ground_at a) by f ds o ≡ branch_at g by f (expected g.book ns) x
             → Goes (choose (ground_at a) (undecided u (task.Sorting ∷ []) ds gone_first c) o) es → Ends es (events_of (choice_lines g u by f (expected g.book ns) x))
-        go a None x same on = absurd (none-chosen u is a ds gone_first c es on)
-        go a (Some p) None same on = cc
-        go a (Some p) (Some k) same on =
+        go a None chosen x same on = absurd (none-chosen u is a ds gone_first c es on)
+        go a (Some p) chosen None same on = cc
+        go a (Some p) chosen (Some k) same on =
             subst (Ends es)
             (ap (λ (b : Branch). script g u f b.chosen b.others) (same_Some _ _ same)
             ∙ sym (told-branch g u is by f k (without_stopped (expected g.book ns) k.no)))
-            (chosen-on a p c es on)
+            (chosen-on a p chosen c es on)
 
   -- ---- the replicas are drained
 
   -- if an operation is due, no choice is made
-  busy : (a : Place) (r s : Recovery) → (s.core.ops ≡ [] → ⊥) → IsAsPlanned g by f ns a r → IsAsPlanned g by f ns a s
+  pub busy : (a : Place) (r s : Recovery) → (s.core.ops ≡ [] → ⊥) → IsAsPlanned g by f ns a r → IsAsPlanned g by f ns a s
   busy a r s due sees = record { better = sees.better; chosen = λ ts after. absurd (due after.rests); handed = λ ts k after is. absurd (due after.rests) }
 
   abbrev pub Plans : Recovery → List Event → Type 0
   Plans r es = Course (IsAsPlanned g by f ns) (GoesAsPlanned g.book) r es
 
-  begins-to : (r : Recovery) → ((a : Place) → (once (ground_at a) r).core.ops ≡ [] → ⊥) → ((a : Place) → set_out a r ≡ set_out a (once (ground_at a) r)) → (evs : List Event)
+  pub begins-to : (r : Recovery) → ((a : Place) → (once (ground_at a) r).core.ops ≡ [] → ⊥) → ((a : Place) → set_out a r ≡ set_out a (once (ground_at a) r)) → (evs : List Event)
       → ((a : Place) (es : List Event) → Plans (once (ground_at a) r) es → Ends es evs) → (es : List Event) → Plans r es → Ends es evs
   begins-to r due same evs further es goes =
       let d = decides (IsAsPlanned g by f ns) (IsAsPlanned g by f ns) (GoesAsPlanned g.book) (λ a s h. h) (λ a. once (ground_at a) r) r (λ a h. busy a r (once (ground_at a) r) (due a) h) (λ a h. same a) es goes in
@@ -518,10 +629,16 @@ module _ (g : Ground) (by : Means) (f : ServerNo) (ns order : List ServerNo) whe
                 (met m.at.world (left (draining (stage.Drain n)) m.before (drain n)) m.cause m.saw (fate m.at.world u (stage.Drain n) m.cause)).recovery
                 → Ends later (events_of (drained g.book f n) ++ evs)
             missed (inl h) = let e : stage.Drain n ≡ stage.Check = h.checks in cc
-            missed (inr k) =
-                let same : n ≡ k.0 = ap (stopped_by n) k.1.asks in
-                subst (λ (b : Bool). Ends later (events_of (lines_if b) ++ evs)) (sym (ap (is_valid g.book) same ∙ k.1.away))
-                (next (Missed (op.StopReceiver n)) later m.later evs m.is (missed-on away (ap (is_valid g.book) same ∙ k.1.away) m.at.world m.before m.cause m.saw k.0 m.later (loss_of m.cause) k.1.lost m.goes))
+            missed (inr k) = told-of k.1
+              where
+                told-of : IsMissed g.book k.0 (left (draining (stage.Drain n)) m.before (drain n)) (op.StopReceiver n)
+                    (met m.at.world (left (draining (stage.Drain n)) m.before (drain n)) m.cause m.saw (fate m.at.world u (stage.Drain n) m.cause)).recovery
+                    → Ends later (events_of (drained g.book f n) ++ evs)
+                told-of (inr h) = let e : stage.Drain n ≡ stage.Move k.0 (way.Auto h.to h.exec) = h.moves in cc
+                told-of (inl h) =
+                    let same : n ≡ k.0 = ap (stopped_by n) h.asks in
+                    subst (λ (b : Bool). Ends later (events_of (lines_if b) ++ evs)) (sym (ap (is_valid g.book) same ∙ h.away))
+                    (next (Missed (op.StopReceiver n)) later m.later evs m.is (missed-on away (ap (is_valid g.book) same ∙ h.away) m.at.world m.before m.cause m.saw k.0 m.later (loss_of m.cause) h.lost m.goes))
 
   module _ (u : Purpose) (q : List Task) (evs : List Event) where
     abbrev AllDrained : List ServerNo → Type 0
@@ -530,7 +647,7 @@ module _ (g : Ground) (by : Means) (f : ServerNo) (ns order : List ServerNo) whe
         → Plans (undecided u q (ds ++ filter_map drained_in xs) (L ++ filter_map gone_in xs) c) es → Ends es evs)
         → (c : Job) (es : List Event) → Plans (undecided u (map task.Draining ks ++ q) ds L c) es → Ends es (events_of (all_drained g.book f ks) ++ evs)
 
-    drains : (ks : List ServerNo) → AllDrained ks
+    pub drains : (ks : List ServerNo) → AllDrained ks
     drains [] ds L further c es goes =
         further [] refl refl c es (subst (λ (ls : List LostReplica). Plans (undecided u q (ds ++ []) ls c) es) (sym (append-nil L))
         (subst (λ (xs : List Stopped). Plans (undecided u q xs L c) es) (sym (append-nil ds)) goes))
@@ -557,7 +674,7 @@ module _ (g : Ground) (by : Means) (f : ServerNo) (ns order : List ServerNo) whe
   -- ---- whole recoveries
 
   -- the failed server isn't reached
-  checks-first : (u : Purpose) (q : List Task) (evs : List Event) → ((c : Job) (es : List Event) → Plans (undecided u q [] [] c) es → Ends es evs) → (c : Job) (es : List Event)
+  pub checks-first : (u : Purpose) (q : List Task) (evs : List Event) → ((c : Job) (es : List Event) → Plans (undecided u q [] [] c) es → Ends es evs) → (c : Job) (es : List Event)
       → Plans (left (at u stage.Check q [] (first_source u) [] (is_master u) (record { promoted = first_source u; followers = []; lost = [] })) c (op.Status f None ∷ [])) es
       → Ends es (Missed (op.Status f None) ∷ evs)
   checks-first u q evs further c es (course.Waits a sees p ps ob xs j does_so waits goes) = let h : Some (cause.Reachable f) ≡ None = does_so.free in cc
@@ -570,175 +687,9 @@ module _ (g : Ground) (by : Means) (f : ServerNo) (ns order : List ServerNo) whe
       let h : op.Status f None ≡ op.Finish told = same-head (op.Status f None) (op.Finish told) [] ps due in cc
 
   -- the replicas of a server are drained, and one of them is chosen
-  gathers-all : (u : Purpose) → gathers u ≡ true → AreApart ns → (c : Job) (es : List Event)
+  pub gathers-all : (u : Purpose) → gathers u ≡ true → AreApart ns → (c : Job) (es : List Event)
       → Plans (undecided u (map task.Draining ns ++ task.Choosing ∷ task.Sorting ∷ []) [] [] c) es → Ends es (events_of (gathered g u by f ns))
   gathers-all u is apart c es goes =
       subst (Ends es) (sym (filter_map-append event_of (all_drained g.book f ns) (choice_lines g u by f (expected g.book ns) (chosen_of g f (expected g.book ns)))))
       (drains u (task.Choosing ∷ task.Sorting ∷ []) (events_of (choice_lines g u by f (expected g.book ns) (chosen_of g f (expected g.book ns)))) ns [] []
       (λ xs named same d later on. gathered-on u is xs (subst AreApart (sym named) apart) named d later on) c es goes)
-
-  -- ---- the drained ones are handed over to a successor
-
-  module _ (s : ServerNo) where
-    abbrev handing : List Stopped → List Follower → List LostReplica → Job → Recovery
-    handing ds F L c = left (at (purpose.Intermediate s) stage.Idle (task.Handing ∷ task.Sorting ∷ []) ds (Some s) [] false (record { promoted = Some s; followers = F; lost = L })) c []
-
-    -- with the task begun
-    abbrev begun : List Stopped → List Follower → List LostReplica → Job → Recovery
-    begun ds F L c = left (at (purpose.Intermediate s) stage.Idle (task.Sorting ∷ []) ds (Some s) [] false (record { promoted = Some s; followers = F; lost = L })) c []
-
-    abbrev left_behind : Stopped → LostReplica
-    left_behind d = record { no = d.no; why = why.behind d.exec; detached = false }
-
-    -- what is handed over doesn't hang on who was drained
-    hand-drained : (a : Place) (r : Recovery) (xs ds : List Stopped) → hand (ground_at a) s (record r { drained = xs }) ds ≡ hand (ground_at a) s r ds
-    hand-drained a r xs [] = refl
-    hand-drained a r xs (d ∷ ds) =
-        ap (hand_by (record r { drained = xs }) d ds (way_below (ground_at a) r.core.seen r.failed s d)) (hand-drained a (loses r d.no (why.behind d.exec)) xs ds)
-        ∙ either (way_below (ground_at a) r.core.seen r.failed s d)
-      where
-        either : (o : Option Way) → hand_by (record r { drained = xs }) d ds o (hand (ground_at a) s (loses r d.no (why.behind d.exec)) ds)
-            ≡ hand_by r d ds o (hand (ground_at a) s (loses r d.no (why.behind d.exec)) ds)
-        either None = refl
-        either (Some by) = refl
-
-    module _ (d : Stopped) (ds : List Stopped) (F : List Follower) (L : List LostReplica) (c : Job) where
-      -- one without a way is lost, and the others are handed over in the same turn
-      left-same : (a : Place) → way_below (ground_at a) c.seen f s d ≡ None → once (ground_at a) (handing (d ∷ ds) F L c) ≡ once (ground_at a) (handing ds F (L ++ left_behind d ∷ []) c)
-      left-same a none =
-          ap (λ (o : Option Way). hand_by (begun (d ∷ ds) F L c) d ds o (hand (ground_at a) s (begun (d ∷ ds) F (L ++ left_behind d ∷ []) c) ds)) none
-          ∙ sym (hand-drained a (begun (d ∷ ds) F (L ++ left_behind d ∷ []) c) ds ds)
-
-      left-keeps : (a : Place) → IsAsPlanned g by f ns a (handing (d ∷ ds) F L c) → IsAsPlanned g by f ns a (handing ds F (L ++ left_behind d ∷ []) c)
-      left-keeps a sees = record {
-        better = sees.better;
-        chosen = λ ts due. let h : task.Handing ∷ task.Sorting ∷ [] ≡ task.Choosing ∷ ts = due.queue in cc;
-        handed = λ ts k due is.
-            All-tail (λ (x : Stopped). steps_of x.no (way_below (ground_at a) c.seen f k x) ≡ steps_to g f k x.no) d ds (sees.handed ts k (record { rests = refl; queue = due.queue }) is);
-      }
-
-      -- its way is the one that is expected
-      way-is : (a : Place) → IsAsPlanned g by f ns a (handing (d ∷ ds) F L c) → steps_of d.no (way_below (ground_at a) c.seen f s d) ≡ steps_to g f s d.no
-      way-is a sees =
-          All-head (λ (x : Stopped). steps_of x.no (way_below (ground_at a) c.seen f s x) ≡ steps_to g f s x.no) d ds
-          (sees.handed (task.Sorting ∷ []) s (record { rests = refl; queue = refl }) refl)
-
-      module _ (a : Place) (ops : List Op) where
-        abbrev gone_on : Option Way → Recovery
-        gone_on o = hand_by (begun (d ∷ ds) F L c) d ds o (hand (ground_at a) s (begun (d ∷ ds) F (L ++ left_behind d ∷ []) c) ds)
-
-        hand-due : (o : Option Way) → steps_of d.no o ≡ Some ops → (gone_on o).core.ops ≡ [] → ⊥
-        hand-due None h e = cc
-        hand-due (Some (way.Down b)) h e = cc
-        hand-due (Some (way.Up b)) h e = cc
-        hand-due (Some (way.Auto to exec)) h e = cc
-        hand-due (Some (way.Match to exec every)) h e = cc
-
-        hand-same : (o : Option Way) → steps_of d.no o ≡ Some ops
-            → once (ground_at a) (once (ground_at a) (once (ground_at a) (gone_on o))) ≡ once (ground_at a) (once (ground_at a) (once (ground_at a) (once (ground_at a) (gone_on o))))
-        hand-same None h = cc
-        hand-same (Some (way.Down b)) h = refl
-        hand-same (Some (way.Up b)) h = refl
-        hand-same (Some (way.Auto to exec)) h = refl
-        hand-same (Some (way.Match to exec every)) h = refl
-
-    none-of : (n : ServerNo) (o : Option Way) → steps_of n o ≡ None → o ≡ None
-    none-of n None h = refl
-    none-of n (Some by) h = cc
-
-    -- those that are lost in this way
-    abbrev left_of : List Stopped → List LostReplica
-    left_of ds = filter_map (lost_by (not_handed g f s)) ds
-
-    left-first : (d : Stopped) (o : Option (List Op)) → steps_to g f s d.no ≡ o → (ds : List Stopped)
-        → left_of (d ∷ ds) ≡ cons_option (option_map (λ why. let k : LostReplica = record { no = d.no; why = why; detached = false } in k) (behind_by g f s d o)) (left_of ds)
-    left-first d o is ds =
-        ap (λ (x : Option (List Op)). cons_option (option_map (λ why. let k : LostReplica = record { no = d.no; why = why; detached = false } in k) (behind_by g f s d x)) (left_of ds)) is
-
-    abbrev AllHanded : List Event → List Stopped → Type 0
-    AllHanded evs ds = (F : List Follower) (L : List LostReplica) → ((E : List Follower) (c : Job) (es : List Event) → Plans (handing [] E (L ++ left_of ds) c) es → Ends es evs)
-        → (c : Job) (es : List Event) → Plans (handing ds F L c) es → Ends es (below_events g f s (numbers ds) ++ evs)
-
-    hands-all : (evs : List Event) (ds : List Stopped) → AllHanded evs ds
-    hands-all evs [] F L further c es goes = further F c es (subst (λ (ls : List LostReplica). Plans (handing [] F ls c) es) (sym (append-nil L)) goes)
-    hands-all evs (d ∷ ds) F L further c es goes = go (hands-all evs ds) (steps_to g f s d.no) refl
-      where
-        go : AllHanded evs ds → (o : Option (List Op)) → steps_to g f s d.no ≡ o → Ends es (below_events g f s (numbers (d ∷ ds)) ++ evs)
-        go others None is =
-            let x = decides (IsAsPlanned g by f ns) (IsAsPlanned g by f ns) (GoesAsPlanned g.book) (λ a r h. h) (λ a. handing ds F (L ++ left_behind d ∷ []) c) (handing (d ∷ ds) F L c)
-            (left-keeps d ds F L c)
-            (λ a sees. ap (λ (r : Recovery). once (ground_at a) (once (ground_at a) (once (ground_at a) r)))
-            (left-same d ds F L c a (none-of d.no (way_below (ground_at a) c.seen f s d) (way-is d ds F L c a sees ∙ is)))) es goes in
-            subst (λ (l : List Event). Ends es ((l ++ below_events g f s (numbers ds)) ++ evs)) (ap (go_events d.no) (sym is))
-            (others F (L ++ left_behind d ∷ [])
-            (λ E j later on. further E j later (subst (λ (ls : List LostReplica). Plans (handing [] E ls j) later)
-            (append_assoc L (left_behind d ∷ []) (left_of ds) ∙ ap (λ (ls : List LostReplica). L ++ ls) (sym (left-first d None is ds))) on)) c es x.goes)
-        go others (Some ops) is =
-            let x = decides (IsAsPlanned g by f ns) (IsAsPlanned g by f ns) (GoesAsPlanned g.book) (λ a r h. h) (λ a. once (ground_at a) (handing (d ∷ ds) F L c)) (handing (d ∷ ds) F L c)
-            (λ a sees. busy a (handing (d ∷ ds) F L c) (once (ground_at a) (handing (d ∷ ds) F L c))
-            (hand-due d ds F L c a ops (way_below (ground_at a) c.seen f s d) (way-is d ds F L c a sees ∙ is)) sees)
-            (λ a sees. hand-same d ds F L c a ops (way_below (ground_at a) c.seen f s d) (way-is d ds F L c a sees ∙ is)) es goes in
-            on_way x.at (way_below (ground_at x.at) c.seen f s d) (way-is d ds F L c x.at x.sees) x.goes
-          where
-            more : (E : List Follower) (j : Job) (later : List Event) → Plans (handing ds E L j) later → Ends later (below_events g f s (numbers ds) ++ evs)
-            more E =
-                others E L (λ K j later on. further K j later (subst (λ (ls : List LostReplica). Plans (handing [] K ls j) later)
-                (ap (λ (ls : List LostReplica). L ++ ls) (sym (left-first d (Some ops) is ds))) on))
-
-            on_way : (a : Place) (o : Option Way) → steps_of d.no o ≡ steps_to g f s d.no → Plans (gone_on d ds F L c a ops o) es → Ends es (below_events g f s (numbers (d ∷ ds)) ++ evs)
-            on_way a None h on = let e : None ≡ Some ops = h ∙ is in cc
-            on_way a (Some y) h on =
-                subst (Ends es) (sym (append_assoc (go_events d.no (steps_to g f s d.no)) (below_events g f s (numbers ds)) evs))
-                (subst (λ (o : Option (List Op)). Ends es (go_events d.no o ++ (below_events g f s (numbers ds) ++ evs))) h
-                (goes-by (IsAsPlanned g by f ns) (purpose.Intermediate s) d.no (task.Handing ∷ task.Sorting ∷ []) ds (Some s) [] false (Some s) F L (below_events g f s (numbers ds) ++ evs) y
-                (more (F ++ record { no = d.no; source = target y } ∷ [])) (record c { seen = with_way c.seen y; waited = 0 }) es on))
-
-    -- all are handed over
-    handed-over : (F : List Follower) (L : List LostReplica) (ks : List ServerNo)
-        → filter (λ n. expels (purpose.Intermediate s) (why_of L n)) ns ≡ ks → filter (λ n. releases (purpose.Intermediate s) (why_of L n)) ns ≡ []
-        → (c : Job) (es : List Event) → Plans (handing [] F L c) es → Ends es (map (λ n. Done (op.Detach n)) ks ++ [])
-    handed-over F L ks out none c es goes =
-        let x = decides (IsAsPlanned g by f ns) Sees (GoesAsPlanned g.book) (λ a r h. h.better) (λ a. chosen-at (purpose.Intermediate s) (task.Sorting ∷ []) s [] F L c) (handing [] F L c)
-        (λ a h. h.better)
-        (λ a h. settles (purpose.Intermediate s) refl a s [] F L c (filter (λ n. expels (purpose.Intermediate s) (why_of L n)) ns) (filter (λ n. releases (purpose.Intermediate s) (why_of L n)) ns))
-        es goes in
-        sorts (purpose.Intermediate s) refl s [] F L ks out none c es x.goes
-
-    -- the successor is read
-    reads-successor : (q : List Task) (evs : List Event) → ((c : Job) (es : List Event) → Plans (undecided (purpose.Intermediate s) q [] [] c) es → Ends es evs)
-        → (c : Job) (es : List Event) → Plans (undecided (purpose.Intermediate s) (task.Reading s ∷ q) [] [] c) es → Ends es (Done (op.Status s None) ∷ evs)
-    reads-successor q evs further c es goes =
-        begins-to (undecided (purpose.Intermediate s) (task.Reading s ∷ q) [] [] c) (λ a e. cc) (λ a. refl) (Done (op.Status s None) ∷ evs)
-        (λ a later on.
-        does g.book (IsAsPlanned g by f ns) (at (purpose.Intermediate s) (stage.Read s) q [] (Some s) [] false (record { promoted = Some s; followers = []; lost = [] }))
-        (op.Status s None) [] refl (λ told e. cc) evs further (record c { waited = 0 }) later on) es goes
-
-    -- those that are handed over are the plan's
-    hands-told : AreApart ns → (xs : List Found) → map no_of xs ≡ ns → numbers (filter_map drained_in xs) ≡ numbers (expected g.book ns) → (c : Job) (es : List Event)
-        → Plans (undecided (purpose.Intermediate s) (task.Handing ∷ task.Sorting ∷ []) (filter_map drained_in xs) (filter_map gone_in xs) c) es
-        → Ends es (events_of (handed_over g f s (expected g.book ns)))
-    hands-told apart xs named same c es goes =
-        subst (Ends es)
-        ((λ i. below_events g f s (same i) ++ append-nil (map (λ n. Done (op.Detach n)) (left_nos g f s (same i))) i) ∙ sym (told-below g f s ns))
-        (hands-all (map (λ n. Done (op.Detach n)) (left_nos g f s (numbers (filter_map drained_in xs))) ++ []) (filter_map drained_in xs) [] (filter_map gone_in xs)
-        (λ E j later on. handed-over E (filter_map gone_in xs ++ left_of (filter_map drained_in xs)) (left_nos g f s (numbers (filter_map drained_in xs)))
-        (left-detached g f s s xs (subst AreApart (sym named) apart) ns named) (none-started g f s s xs (subst AreApart (sym named) apart) ns named) j later on) c es goes)
-
-    intermediates : AreApart ns → (c : Job) (es : List Event)
-        → Plans (undecided (purpose.Intermediate s) (task.Reading s ∷ (map task.Draining ns ++ task.Handing ∷ task.Sorting ∷ [])) [] [] c) es
-        → Ends es (Done (op.Status s None) ∷ events_of (all_drained g.book f ns ++ handed_over g f s (expected g.book ns)))
-    intermediates apart c es goes =
-        subst (λ (l : List Event). Ends es (Done (op.Status s None) ∷ l)) (sym (filter_map-append event_of (all_drained g.book f ns) (handed_over g f s (expected g.book ns))))
-        (reads-successor (map task.Draining ns ++ task.Handing ∷ task.Sorting ∷ []) (events_of (all_drained g.book f ns) ++ events_of (handed_over g f s (expected g.book ns)))
-        (drains (purpose.Intermediate s) (task.Handing ∷ task.Sorting ∷ []) (events_of (handed_over g f s (expected g.book ns))) ns [] []
-        (λ xs named same j later on. hands-told apart xs named same j later on)) c es goes)
-
-pub recoveries-follow : RecoveriesFollowTheirPlans
-recoveries-follow g purpose.Regroup by id wait f ns order es is apart goes = gathers-all g by f ns order purpose.Regroup refl apart (job_with id wait []) es goes
-recoveries-follow g purpose.Master by id wait f ns order es is apart goes =
-    checks-first g by f ns order purpose.Master (map task.Draining ns ++ task.Choosing ∷ task.Sorting ∷ []) (events_of (gathered g purpose.Master by f ns))
-    (gathers-all g by f ns order purpose.Master refl apart) (job_with id wait []) es goes
-recoveries-follow g (purpose.Intermediate s) by id wait f ns order es is apart goes =
-    checks-first g by f ns order (purpose.Intermediate s) (task.Reading s ∷ (map task.Draining ns ++ task.Handing ∷ task.Sorting ∷ []))
-    (Done (op.Status s None) ∷ events_of (all_drained g.book f ns ++ handed_over g f s (expected g.book ns))) (intermediates g by f ns order s apart) (job_with id wait []) es goes
-recoveries-follow g (purpose.Takeover d) by id wait f ns order es is apart goes = absurd (false≢true (sym is))

@@ -1,4 +1,4 @@
--- What a plan tells, beside the job that its command would begin.
+-- What a plan has, beside the job that its command would begin.
 use Rattle.std.specs.Prelude.{◌≡◌, List, Some, None}
 use Rattle.run_laws.specs.OrchBase.Names.{HostPort}
 use Rattle.run_laws.specs.OrchBase.declared.server.ServerNo.{ServerNo}
@@ -27,7 +27,7 @@ pub record WouldBegin (s : State) (c : CommandTurn) (job : Unended) : Type 0 whe
   pub is_begun : begun_of s c.command ≡ Some begun
   pub job_is : begun.job ≡ job
 
--- its plan is told so, for servers of these names
+-- its plan is printed so, for servers of these names
 abbrev pub IsToldAs : List HostPort → State → CommandTurn → Planned → Type 0
 IsToldAs names s c p = plan_answer c names s ≡ told_plan names p
 
@@ -36,7 +36,7 @@ abbrev pub MovesAreToldWhole : Type 0
 MovesAreToldWhole = (names : List HostPort) (s : State) (c : CommandTurn) (job : Job) → WouldBegin s c (unended.Plan job)
     → IsToldAs names s c (straight (straight_lines (begun_state c s).book job.ops))
 
--- a recovery's is of the branch that is expected, for its purpose, by the book and the moment of its beginning
+-- a recovery's is of the branch that is expected, for its purpose, by the book and the moment of its start
 abbrev pub RecoveriesAreToldAsExpected : Type 0
 RecoveriesAreToldAsExpected = (names : List HostPort) (s : State) (c : CommandTurn) (r : Recovery) (k : Docket) (f : ServerNo) → WouldBegin s c (unended.Recovery r k)
     → c.command.i ≡ Some f

@@ -1,11 +1,13 @@
 -- The turns of recoveries and regroups in which everything is found as their plans assume.
-use Rattle.std.specs.Prelude.{◌≡◌, ◌==◌, ◌⊎◌, ℕ, Bool, true, false, List, [], ◌∷◌, ◌++◌, map, All, Option, Some, None}
+use Rattle.std.specs.Prelude.{◌≡◌, ◌==◌, ◌⊎◌, if◌then◌else◌, ℕ, Bool, true, false, List, [], ◌∷◌, ◌++◌, map, All, Option, Some, None}
+use Rattle.run_laws.specs.BinlogCoords.Log.{is_before}
+use Rattle.run_laws.specs.BinlogCoords.declared.Coord.{Coord}
 use Rattle.run_laws.specs.InstanceKeeper.Book.{BookState, instance_at}
 use Rattle.run_laws.specs.Operations.declared.op.Op.{Op}
 use Rattle.run_laws.specs.Operations.declared.op.Op.TheVariants as op
 use Rattle.run_laws.specs.OrchBase.declared.server.ServerNo.{ServerNo}
 use Rattle.run_laws.specs.RecoveryPlans.Beginning.{begun_recovery, is_takeover}
-use Rattle.run_laws.specs.RecoveryPlans.Deciding.{Ground, Lot, better_of, chosen_of, lot_by, way_below, without_stopped}
+use Rattle.run_laws.specs.RecoveryPlans.Deciding.{Ground, Lot, better_of, chosen_of, lot_by, stopped_in, way_below, without_stopped}
 use Rattle.run_laws.specs.RecoveryPlans.Deciding as lot
 use Rattle.run_laws.specs.RecoveryPlans.Moves.{IsNext}
 use Rattle.run_laws.specs.RecoveryPlans.Recoveries.{Recovery}
@@ -20,7 +22,8 @@ use Rattle.run_laws.specs.RecoveryPlans.declared.stage.Stage.TheVariants as stag
 use Rattle.run_laws.specs.RecoveryPlans.declared.task.Task.{Task}
 use Rattle.run_laws.specs.RecoveryPlans.declared.task.Task.TheVariants as task
 use Rattle.run_laws.specs.RecoveryPlans.declared.task.Way.{Way}
-use Rattle.plan_lines.specs.Branches.{recovery_lines, way_of}
+use Rattle.run_laws.specs.RecoveryPlans.declared.task.Way.TheVariants as way
+use Rattle.plan_lines.specs.Branches.{is_refused, recovery_lines, way_of}
 use Rattle.plan_lines.specs.Courses.{Course, Event, Done, Missed, Follows, Place, ground_at}
 use Rattle.plan_lines.specs.Expected.{expected, expected_at}
 use Rattle.plan_lines.specs.Prelude.{is_valid}
@@ -32,17 +35,23 @@ abbrev pub steps_of : ServerNo → Option Way → Option (List Op)
 steps_of n None = None
 steps_of n (Some by) = Some (before by n ++ move by n ∷ [])
 
-abbrev pub way_in : Lot → Option Way
-way_in (lot.Goes by) = Some by
-way_in (lot.Stays why) = None
+-- what becomes of a replica beside the chosen one: it goes by these operations; this one is refused; it is lost before
+pub data Path : Type 0 where
+  Goes : (ops : List Op) → Path
+  Refused : (o : Op) → Path
+  Left : Path
 
--- a replica beside the chosen one, with the operations of its way; one without is lost
+abbrev pub path_by : Stopped → Stopped → Lot → Path
+path_by p s (lot.Goes by) = if is_refused p s by then Refused (move by s.no) else Goes (before by s.no ++ move by s.no ∷ [])
+path_by p s (lot.Stays why) = Left
+
+-- a replica beside the chosen one
 pub record Fork : Type 0 where
   pub no : ServerNo
-  pub steps : Option (List Op)
+  pub path : Path
 
-abbrev pub fork_of : Stopped → Lot → Fork
-fork_of s l = record { no = s.no; steps = steps_of s.no (way_in l) }
+abbrev pub fork_of : Stopped → Stopped → Lot → Fork
+fork_of p s l = record { no = s.no; path = path_by p s l }
 
 -- the chosen one, and what becomes of the others, in their order
 pub record Branch : Type 0 where
@@ -51,7 +60,7 @@ pub record Branch : Type 0 where
 
 abbrev pub branch_at : Ground → Means → ServerNo → List Stopped → Option Stopped → Option Branch
 branch_at g by f ds None = None
-branch_at g by f ds (Some p) = Some (record { chosen = p.no; others = map (λ s. fork_of s (lot_by by g f p s)) (without_stopped ds p.no) })
+branch_at g by f ds (Some p) = Some (record { chosen = p.no; others = map (λ s. fork_of p s (lot_by by g f p s)) (without_stopped ds p.no) })
 
 abbrev pub branch_of : Ground → Means → ServerNo → List Stopped → Option Branch
 branch_of g by f ds = branch_at g by f ds (chosen_of g f ds)
@@ -75,11 +84,20 @@ pub record IsAsPlanned (g : Ground) (by : Means) (f : ServerNo) (ns : List Serve
   pub handed : (ts : List Task) (s : ServerNo) → IsNext r task.Handing ts → r.chosen ≡ Some s
       → All (λ d. steps_of d.no (way_below (ground_at a) r.core.seen f s d) ≡ steps_to g f s d.no) r.drained
 
+-- a coordinate is after that of the chosen one
+abbrev pub is_after : Option Stopped → Coord → Bool
+is_after None exec = false
+is_after (Some p) exec = is_before p.exec exec
+
+abbrev pub is_ahead : Recovery → Coord → Bool
+is_ahead r exec = is_after (stopped_in r.eligible r.chosen) exec
+
 -- An operation is done, and nobody is lost by what it shows. It stops the receivers of those replicas alone that the
 -- book reaches.
 pub record GoesWell (b : BookState) (before : Recovery) (o : Op) (later : Recovery) : Type 0 where
   pub keeps : later.outcome.lost ≡ before.outcome.lost
   pub reached : (n : ServerNo) → o ≡ op.StopReceiver n → is_valid b n ≡ true
+  pub allowed : (n to : ServerNo) (exec : Coord) → before.stage ≡ stage.Move n (way.Auto to exec) → o ≡ op.Auto n to → is_ahead before exec ≡ false
 
 abbrev pub gone : ServerNo → LostReplica
 gone n = record { no = n; why = why.unreachable; detached = false }
@@ -96,10 +114,23 @@ pub record IsGone (b : BookState) (n : ServerNo) (before : Recovery) (o : Op) (l
   pub away : is_valid b n ≡ false
   pub lost : later.outcome.lost ≡ before.outcome.lost ++ gone n ∷ []
 
--- the failed server isn't reached, nor such a replica; all else goes well
+-- a replica that is ahead of the chosen one is refused by GTIDs, and is lost for that
+pub record IsBarred (n : ServerNo) (before : Recovery) (o : Op) (later : Recovery) : Type 0 where
+  pub to : ServerNo
+  pub exec : Coord
+  pub moves : before.stage ≡ stage.Move n (way.Auto to exec)
+  pub asks : o ≡ op.Auto n to
+  pub ahead : is_ahead before exec ≡ true
+  pub lost : later.outcome.lost ≡ before.outcome.lost ++ record { no = n; why = why.ahead exec; detached = false } ∷ []
+
+-- what isn't answered
+abbrev pub IsMissed : BookState → ServerNo → Recovery → Op → Recovery → Type 0
+IsMissed b n before o later = IsGone b n before o later ⊎ IsBarred n before o later
+
+-- the failed server isn't reached, nor such a replica, and one that is ahead is refused; all else goes well
 abbrev pub GoesAsPlanned : BookState → Recovery → Event → Recovery → Type 0
 GoesAsPlanned b before (Done o) later = GoesWell b before o later
-GoesAsPlanned b before (Missed o) later = IsAsked before o ⊎ ((n : ServerNo) × IsGone b n before o later)
+GoesAsPlanned b before (Missed o) later = IsAsked before o ⊎ ((n : ServerNo) × IsMissed b n before o later)
 
 -- the purposes for which one of the replicas is chosen
 abbrev pub gathers : Purpose → Bool

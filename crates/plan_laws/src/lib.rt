@@ -7,8 +7,8 @@ ghost use Rattle.plan_laws.specs.Doing.{RecoveriesAreDoneAsTold, RecoveriesAreOf
 ghost use Rattle.plan_laws.specs.Followed.{RecoveriesFollowTheirPlans};
 
 /// If a command would begin its job, and nobody's claim lasts, its plan prints the operations of that job, in their
-/// order. For a recovery or a regroup these are those of the expected branch, by its own choices over the book then. For
-/// a takeover they are those of one that loses no replica, with the replicas that the book has then.
+/// order. For a recovery or a regroup these are those of the expected branch, by its own choices over the book then.
+/// For a takeover they are those of one that loses no replica, with the replicas that the book has then.
 pub fn plans_tell_begun_jobs()
     ensures moves { MovesAreToldWhole }
     ensures recoveries { RecoveriesAreToldAsExpected }

@@ -1,4 +1,4 @@
--- The first operation of a course.
+-- The first operation of a recovery's turns.
 use Rattle.std.proofs.Common.{◌≡◌, ◌∙◌, Bool, true, false, cond, not, List, [], ◌∷◌, ◌++◌, map, Option, refl, sym, ap, subst}
 use Rattle.std.specs.Prelude.{◌||◌, ◌&&◌}
 use Rattle.std.proofs.lemmas.Bool.{and_parts, false≢true}
@@ -95,7 +95,7 @@ module _ (r : Recovery) (x : Place → Recovery) (c : Place → Job) (o : Place 
       (same-left (x a) (c a) j (rest a) ((job-went a p ps ob xs j does).done done ∙ sym (same-tail (o a) p (rest a) ps (ops-at a p ps does.ops))))))
 
 module _ (G : Place → Recovery → Type 0) (Q : Recovery → Event → Recovery → Type 0) where
-  -- the first operation is done, from what the first turn decided; the rest of the course goes on behind it
+  -- the first operation is done, from what the first turn decided; the rest of the turns goes on after it
   pub record Peeled (r : Recovery) (x : Place → Recovery) (o : Place → Op) (rest : Place → List Op) (es : List Event) : Type 0 where
     pub at : Place
     pub sees : G at r
@@ -133,7 +133,7 @@ module _ (G : Place → Recovery → Type 0) (Q : Recovery → Event → Recover
   peel r x c o rest is ending misses _ (course.Ends a sees told ps due) =
       absurd (ending a told (same-head (o a) (op.Finish told) (rest a) ps (ops-at r x c o rest is a (op.Finish told) ps due)))
 
-  -- where nothing is decided
+  -- if nothing is decided
   pub peel-on : (x : Recovery) (c : Job) (o : Op) (rest : List Op) → ((told : List Told) → o ≡ op.Finish told → ⊥) → ((s later : Recovery) → Q s (Missed o) later → ⊥)
       → (es : List Event) → Course G Q (left x c (o ∷ rest)) es → Peeled (left x c (o ∷ rest)) (λ a. x) (λ a. o) (λ a. rest) es
   peel-on x c o rest ending misses es goes = peel (left x c (o ∷ rest)) (λ a. x) (λ a. c) (λ a. o) (λ a. rest) (λ a. refl) (λ a. ending) (λ a. misses) es goes

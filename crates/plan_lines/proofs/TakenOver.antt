@@ -66,7 +66,7 @@ Runs r es = Course Anywhere LosesNobody r es
 never : (o : Op) (s later : Recovery) → LosesNobody s (Missed o) later → ⊥
 never o s later h = h
 
--- a turn does what the next line says, and the others do what the rest says
+-- a turn does what is in the next line, and the others do what is in the rest
 next : (o : Op) (es later : List Event) (lines : List Line) → es ≡ Done o ∷ later → Follows later lines → Follows es (as_told o ∷ lines)
 next o es later lines is rest = (rest.0, is ∙ ap (λ l. Done o ∷ l) rest.1)
 
@@ -136,7 +136,7 @@ module _ (m d : ServerNo) (by : Means) (replicas order : List ServerNo) where
         (as_told (op.Cross cross.About m b.no) ∷ as_told (op.ReadOnly b.no false) ∷ as_told (op.Status m None) ∷ as_told (op.Status b.no None) ∷ []) one.is
         (switches one.job one.later one.goes)
 
-  -- ---- another replica comes to where it stopped
+  -- ---- another replica comes to the position at which it stopped
 
   -- another replica goes on to these lines once it is below the one that stopped
   module _ (b : Bridge) (n : ServerNo) (q : List Task) (lines : List Line) where
@@ -216,19 +216,19 @@ module _ (m d : ServerNo) (by : Means) (replicas order : List ServerNo) where
         next (op.Status n None) es one.later (judged m (trail n b.no) ++ joined) one.is
         (looks further oc one.job one.later (seen_of one.job.seen n.0) one.held one.goes)
 
-  -- the others come to where it stopped, one after another
+  -- the others come to the position at which it stopped, one after another
   trails : (ns : List ServerNo) (b : Bridge) (oc : Outcome) (c : Job) (es : List Event) → Runs (left (at stage.Idle (map task.Trailing ns ++ task.Yielding ∷ []) (Some b) oc) c []) es
       → Follows es (flat_map (λ n. led m b.no n) ns ++ yielded m b.no)
   trails [] b oc c es goes = yields b oc c es goes
   trails (n ∷ ns) b oc c es goes =
       trails-one b n (map task.Trailing ns ++ task.Yielding ∷ []) (flat_map (λ k. led m b.no k) ns ++ yielded m b.no) (trails ns b) oc c es goes
 
-  -- it isn't known where it stopped: nothing is done
+  -- it isn't known at which position it stopped: nothing is done
   nowhere : (ns : List ServerNo) (oc : Outcome) (c : Job) (es : List Event) → Runs (left (at stage.Idle (map task.Trailing ns ++ task.Yielding ∷ []) None oc) c []) es → ⊥
   nowhere [] oc c es goes = none-goes Anywhere LosesNobody (left (at stage.Idle (task.Yielding ∷ []) None oc) c []) (λ a. refl) es goes
   nowhere (n ∷ ns) oc c es goes = none-goes Anywhere LosesNobody (left (at stage.Idle (task.Trailing n ∷ (map task.Trailing ns ++ task.Yielding ∷ [])) None oc) c []) (λ a. refl) es goes
 
-  -- where it stopped
+  -- the position at which it stopped
   gathers : (ns : List ServerNo) (oc : Outcome) (c : Job) (es : List Event) (o : Option Bridge) → bridge_at d (seen_of c.seen d.0) ≡ o
       → Runs (left (at stage.Idle (map task.Trailing ns ++ task.Yielding ∷ []) (lead_under m o) oc) c []) es
       → Follows es (flat_map (λ n. led m d n) ns ++ yielded m d)
@@ -241,7 +241,7 @@ module _ (m d : ServerNo) (by : Means) (replicas order : List ServerNo) where
       go true goes =
           subst (λ k. Follows es (flat_map (λ n. led m k n) ns ++ yielded m k)) (sym (own-bridge d (seen_of c.seen d.0) b e)) (trails ns b oc c es goes)
 
-  -- ---- from the beginning
+  -- ---- from the start
 
   abbrev all_but : List Task
   all_but = map task.Trailing (but replicas d) ++ task.Yielding ∷ []

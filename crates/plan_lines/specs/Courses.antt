@@ -1,5 +1,5 @@
--- The turns of a recovery one behind another, each over the servers and the book of its moment, whatever comes between
--- them; and which of them do what a plan's lines say.
+-- The turns of a recovery one after another, each over the servers and the book of its moment, whatever comes between
+-- them. Also which of them do what is in a plan's lines.
 use Rattle.std.specs.Prelude.{◌≡◌, ℕ, true, false, List, [], ◌∷◌, ◌++◌, filter_map, Option, Some, None}
 use Rattle.recovery_plans.specs.Commands.declared.cause.Cause.{Cause}
 use Rattle.recovery_plans.specs.Commands.declared.line.Line.{Line as Told}
@@ -19,6 +19,8 @@ use Rattle.recovery_plans.specs.Recoveries.{Recovery}
 use Rattle.recovery_plans.specs.Taking.{is_waiting, taken}
 use Rattle.recovery_plans.specs.declared.means.Means.{Means}
 use Rattle.recovery_plans.specs.declared.purpose.Purpose.TheVariants as purpose
+use Rattle.plan_texts.specs.declared.line.Apart.{Apart}
+use Rattle.plan_texts.specs.declared.line.Apart.TheVariants as apart
 use Rattle.plan_texts.specs.declared.line.Expect.{Expect}
 use Rattle.plan_texts.specs.declared.line.Expect.TheVariants as expect
 use Rattle.plan_texts.specs.declared.line.Line.{Line}
@@ -78,11 +80,18 @@ met_as o expect.DetachedByAuto = Done o
 met_as o (expect.ByHand n) = Done o
 met_as o (expect.Behind n) = Done o
 
--- what a line says that a turn does; a choice and a loss take none
+-- a replica that is refused below another asks for it; any other loss takes no turn
+abbrev pub lost_as : ServerNo → ServerNo → Apart → Option Event
+lost_as n beside apart.Behind = None
+lost_as n beside apart.Ahead = None
+lost_as n beside apart.Refused = Some (Missed (op.Auto n beside))
+lost_as n beside apart.Unpaired = None
+
+-- what a turn does by a line; a choice takes none
 abbrev pub event_of : Line → Option Event
 event_of (line.Does o e) = Some (met_as o e)
 event_of (line.Chosen n before less) = None
-event_of (line.Lost n beside apart) = None
+event_of (line.Lost n beside why) = lost_as n beside why
 
 abbrev pub events_of : List Line → List Event
 events_of lines = filter_map event_of lines
@@ -93,7 +102,7 @@ Follows es lines = (told : List Told) × (es ≡ events_of lines ++ Done (op.Fin
 
 -- ---- takeovers
 
--- nothing befalls an operation, and nobody is lost by what it shows
+-- nothing happens to an operation, and nobody is lost by what it shows
 abbrev pub LosesNobody : Recovery → Event → Recovery → Type 0
 LosesNobody before (Done o) later = later.outcome.lost ≡ before.outcome.lost
 LosesNobody before (Missed o) later = ⊥
@@ -101,7 +110,7 @@ LosesNobody before (Missed o) later = ⊥
 abbrev pub Anywhere : Place → Recovery → Type 0
 Anywhere a r = Unit {0}
 
--- the turns of a takeover in which nothing befalls an operation and nobody is lost do what its plan says
+-- the turns of a takeover in which nothing happens to an operation and nobody is lost do what is in its plan
 abbrev pub TakeoversFollowTheirPlans : Type 0
 TakeoversFollowTheirPlans = (m d : ServerNo) (by : Means) (id wait : ℕ) (replicas order : List ServerNo) (es : List Event)
     → Course Anywhere LosesNobody (begun_recovery (purpose.Takeover d) by id wait m replicas order) es

@@ -1,4 +1,4 @@
--- What is expected of the replicas of a failed server, as the book stands.
+-- What is expected of the replicas of a failed server, by the book as it is.
 use Rattle.std.specs.Prelude.{List, [], ◌∷◌, if◌then◌else◌, filter_map, Option, Some, None}
 use Rattle.plan_lines.specs.Prelude.{BookState, Coord, Instance, Line, ServerNo, Status, Stopped, drain, flat_map, instance_at, is_valid}
 use Rattle.plan_lines.specs.Prelude.expect
@@ -6,7 +6,7 @@ use Rattle.plan_lines.specs.Prelude.line
 use Rattle.plan_lines.specs.Prelude.op
 use Rattle.plan_lines.specs.Pieces.{judged}
 
--- how far a replica comes that is drained: where its applier is on, to the end of what it has received
+-- how far a replica comes that is drained: if its applier is on, to the end of what it has received
 abbrev pub comes_to : Status → Coord
 comes_to s = if s.sql then s.read else s.exec
 

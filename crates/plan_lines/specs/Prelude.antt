@@ -14,6 +14,7 @@ pub use Rattle.recovery_plans.specs.Operations.declared.op.Op.TheVariants as op
 pub use Rattle.recovery_plans.specs.OrchBase.declared.server.ServerNo.{ServerNo}
 pub use Rattle.recovery_plans.specs.ServerWords.declared.status.Status.{Status}
 pub use Rattle.recovery_parts.specs.Grounds.{ground_by}
+pub use Rattle.recovery_parts.specs.Lots.{by_lot}
 pub use Rattle.permission.specs.BookViews.Sources.{replicas_of}
 pub use Rattle.permission.specs.Views.{is_auto, is_valid}
 pub use Rattle.plan_texts.specs.declared.line.Apart.{Apart}
@@ -34,3 +35,4 @@ pub use Rattle.recovery_plans.specs.declared.purpose.Purpose.TheVariants as purp
 pub use Rattle.recovery_plans.specs.declared.task.Way.{Way}
 pub use Rattle.recovery_plans.specs.declared.task.Way.TheVariants as way
 pub use Rattle.recovery_plans.specs.declared.why.Why.{Why}
+pub use Rattle.recovery_plans.specs.Whys as whys

@@ -11,7 +11,7 @@ use Rattle.plan_lines.specs.Pieces.{all_as_told, judged}
 abbrev pub shut : ServerNo → ServerNo → List Line
 shut m d = line.Does (op.Status m None) expect.Root ∷ all_as_told (op.ReadOnly m true ∷ gather m d)
 
--- another replica n comes to where d stopped, and goes below d
+-- another replica n comes to the position at which d stopped, and goes below d
 abbrev pub led : ServerNo → ServerNo → ServerNo → List Line
 led m d n = judged m (op.Status n None ∷ []) ++ (judged m (trail n d) ++ all_as_told (op.Cross cross.Down n d ∷ op.Start n ∷ []))
 

@@ -13,6 +13,7 @@ use crate::instance_keeper_items::Bridge;
 use crate::operations_items::Op;
 use crate::orch_base::ServerNo;
 use crate::pieces::{as_told, push_some};
+use crate::straight::detach_line;
 use crate::takeovers::takeover_lines;
 use permission::has_log;
 use plan_texts::{Apart, Expect, Line};
@@ -20,7 +21,7 @@ use recovery_parts::{Ground, chosen_of, without};
 use recovery_plans::{Means, Purpose, Stopped, Way};
 use std::alloc::Global;
 
-// One of the replicas is chosen, where they stopped.
+// One of the replicas is chosen, if they stopped.
 fn add_choice(
     alloc: Global,
     by: &Ground<'_>,
@@ -63,7 +64,8 @@ fn add_gathered(
     add_choice(alloc, by, purpose, means, failed, &list, lines)
 }
 
-// The latest kept bridge of the failed server under the successor where the replica is expected to stop.
+// The latest kept bridge of the failed server under the successor at the position at which the replica is expected to
+// stop.
 fn kept_for(
     by: &Ground<'_>,
     failed: ServerNo,
@@ -79,7 +81,7 @@ fn kept_for(
     }
 }
 
-// How a replica goes below the successor, where it is expected to stop.
+// How a replica goes below the successor, if it is expected to stop.
 fn way_of(by: &Ground<'_>, failed: ServerNo, successor: ServerNo, replica: &Stopped) -> Option<Way>
     ensures { result ≡ way_of (ground_by by.now) failed successor replica.now }
 {
@@ -116,11 +118,12 @@ fn handed(
 
 fn left(by: &Ground<'_>, failed: ServerNo, successor: ServerNo, replica: &Stopped) -> Option<Line>
     ensures { result
-        ≡ left replica.now (way_of (ground_by by.now) failed successor replica.now) }
+        ≡ left by.now.book.now replica.now
+        (way_of (ground_by by.now) failed successor replica.now) }
 {
     match way_of(by, failed, successor, replica) {
         Some(_) => None,
-        None => Some(as_told(Op::Detach(replica.no))),
+        None => Some(detach_line(by.book, replica.no)),
     }
 }
 
@@ -151,7 +154,8 @@ fn add_left(
     lines: &mut Vec<Line>,
 ) -> Result<(), Memory>
     ensures { OnOk result (lines.new.items ≡ lines.old.items
-        ++ filter_map (λ d. left d (way_of (ground_by by.now) failed successor d)) list.now) }
+        ++ filter_map (λ d. left by.now.book.now d (way_of (ground_by by.now) failed successor d))
+        list.now) }
 {
     for replica in list {
         push_some(lines, left(by, failed, successor, replica))?;
@@ -214,8 +218,8 @@ fn recovery_lines(
     Ok(lines)
 }
 
-/// The lines of the branch of a recovery that is expected, by the servers' settings and the book: of what is done for
-/// this purpose with the replicas of a server, which go by these means. `Memory` comes only for want of memory.
+/// The lines of the branch of a recovery that is expected, by the servers' settings and the book. It is what is done
+/// for this purpose with the replicas of a server, which go by these means. `Memory` comes only if memory runs out.
 pub fn recovery_plan(
     alloc: Global,
     by: &Ground<'_>,

@@ -3,15 +3,17 @@
 ghost use Rattle.std.specs.Prelude.{◌≡◌, ◌<◌, ◌++◌, All, IfOk, OnOk, filter_map, length};
 ghost use Rattle.std.specs.List.{flat_map};
 ghost use Rattle.std.specs.Option.{option_to_list};
-ghost use Rattle.plan_lines.specs.Prelude.{ground_by, lot_by};
-ghost use Rattle.plan_lines.specs.Branches.{apart_from, chosen_line, chosen_lines, crowned, expect_on, follower_in, is_no, last_lines, lot_lines, parted, way_lines, wins};
+ghost use Rattle.plan_lines.specs.Prelude.{by_lot, ground_by, lot_by};
+ghost use Rattle.plan_lines.specs.Branches.{apart_from, chosen_line, chosen_lines, crowned, expect_on, follower_in, is_no, is_refused, last_lines, lot_for, lot_lines, parted, way_lines, wins};
 
 use crate::Memory;
 use crate::operations_items::{Aim, Crossing, Op};
 use crate::orch_base::ServerNo;
 use crate::pieces::{as_told, push_some};
+use crate::straight::detach_line;
 use plan_texts::{Apart, Expect, Line};
 use recovery_parts::{Ground, better_of, chosen_of, expels, lot_by, releases};
+use recovery_plans::commands::Lost;
 use recovery_plans::{Follower, Means, Purpose, Stopped, Way, Why};
 use std::alloc::Global;
 
@@ -39,8 +41,8 @@ fn wins(
     Ok(is_no(other.no, chosen_of(alloc, by, failed, list)?))
 }
 
-// `p` is chosen before another one that may be promoted. That one has executed less, where it would be chosen of two
-// that stand alike.
+// `p` is chosen before another one that may be promoted. That one has executed less, if it would be chosen of two at
+// the same position.
 fn chosen_line(
     alloc: Global,
     by: &Ground<'_>,
@@ -68,7 +70,7 @@ fn chosen_line(
     }))
 }
 
-// The new source's coordinate was noted where both stand alike; else it isn't known.
+// The new source's coordinate was noted if both are at the same position; else it isn't known.
 fn expect_on(level: bool, way: Way) -> Expect
     ensures { result ≡ expect_on level way }
 {
@@ -135,6 +137,45 @@ fn apart_from(p: &Stopped, other: &Stopped) -> Apart
     }
 }
 
+// By GTIDs one that has executed more is refused below the chosen one.
+fn is_refused(p: &Stopped, other: &Stopped, way: Way) -> bool
+    ensures { result ≡ is_refused p.now other.now way }
+{
+    match way {
+        Way::Auto { to: _, exec: _ } => p.exec < other.exec,
+        Way::Down(_)
+        | Way::Up(_)
+        | Way::Match {
+            to: _,
+            exec: _,
+            every: _,
+        } => false,
+    }
+}
+
+// A replica that is refused is lost.
+fn lot_for(
+    by: &Ground<'_>,
+    means: Means,
+    failed: ServerNo,
+    p: &Stopped,
+    other: &Stopped,
+) -> Result<Way, Why>
+    requires { p.now.no.0 < length by.now.book.now.names }
+    ensures { result ≡ by_lot (lot_for means (ground_by by.now) failed p.now other.now) }
+{
+    match lot_by(by, means, failed, p, other) {
+        Ok(way) => {
+            if is_refused(p, other, way) {
+                Err(Why::Lost(Lost::Ahead(other.exec)))
+            } else {
+                Ok(way)
+            }
+        }
+        Err(why) => Err(why),
+    }
+}
+
 // How a drained replica goes below the chosen one, or that it is lost.
 fn lot_lines(
     alloc: Global,
@@ -149,7 +190,13 @@ fn lot_lines(
         ≡ lot_lines p.now other.now (lot_by means (ground_by by.now) failed p.now other.now)) }
 {
     match lot_by(by, means, failed, p, other) {
-        Ok(way) => way_lines(alloc, other.exec == p.exec, other.no, way),
+        Ok(way) => {
+            if is_refused(p, other, way) {
+                let (no, beside, apart) = (other.no, p.no, Apart::Refused);
+                return Ok(vec![in alloc; Line::Lost { no, beside, apart }]?);
+            }
+            way_lines(alloc, other.exec == p.exec, other.no, way)
+        }
         Err(_) => {
             let apart = apart_from(p, other);
             Ok(vec![in alloc;
@@ -174,11 +221,12 @@ fn parted(
 ) -> Option<Line>
     requires { p.now.no.0 < length by.now.book.now.names }
     ensures { result
-        ≡ parted purpose other.now (lot_by means (ground_by by.now) failed p.now other.now) }
+        ≡ parted by.now.book.now purpose other.now
+        (lot_for means (ground_by by.now) failed p.now other.now) }
 {
-    match lot_by(by, means, failed, p, other) {
+    match lot_for(by, means, failed, p, other) {
         Ok(_) => None,
-        Err(why) if expels(purpose, Some(why)) => Some(as_told(Op::Detach(other.no))),
+        Err(why) if expels(purpose, Some(why)) => Some(detach_line(by.book, other.no)),
         Err(why) if releases(purpose, Some(why)) => Some(as_told(Op::Start(other.no))),
         Err(_) => None,
     }
@@ -193,9 +241,9 @@ fn follower(
 ) -> Option<Follower>
     requires { p.now.no.0 < length by.now.book.now.names }
     ensures { result ≡ follower_in p.now.no other.now
-        (lot_by means (ground_by by.now) failed p.now other.now) }
+        (lot_for means (ground_by by.now) failed p.now other.now) }
 {
-    match lot_by(by, means, failed, p, other) {
+    match lot_for(by, means, failed, p, other) {
         Ok(_) => Some(Follower {
             no: other.no,
             source: p.no,
@@ -223,7 +271,7 @@ fn followers(
 ) -> Result<Vec<Follower>, Memory>
     requires { p.now.no.0 < length by.now.book.now.names }
     ensures { IfOk result (λ list. list.items
-        ≡ filter_map (λ s. follower_in p.now.no s (lot_by means (ground_by by.now) failed p.now s))
+        ≡ filter_map (λ s. follower_in p.now.no s (lot_for means (ground_by by.now) failed p.now s))
         others.now) }
 {
     let mut list = Vec::new(alloc);
@@ -332,8 +380,8 @@ fn add_parted(
 ) -> Result<(), Memory>
     requires { p.now.no.0 < length by.now.book.now.names }
     ensures { OnOk result (lines.new.items ≡ lines.old.items
-        ++ filter_map (λ s. parted purpose s (lot_by means (ground_by by.now) failed p.now s))
-        others.now) }
+        ++ filter_map (λ s. parted by.now.book.now purpose s
+        (lot_for means (ground_by by.now) failed p.now s)) others.now) }
 {
     for other in others {
         push_some(lines, parted(by, purpose, means, failed, p, other))?;

@@ -3,7 +3,7 @@
 ghost use Rattle.std.specs.Prelude.{◌≡◌, ◌<◌, ◌++◌, All, IfOk, OnOk, length};
 ghost use Rattle.std.specs.Option.{option_to_list};
 ghost use Rattle.plan_lines.specs.Prelude.{instance_at};
-ghost use Rattle.plan_lines.specs.Expected.{all_drained, comes_to, drained, expected, expected_at};
+ghost use Rattle.plan_lines.specs.Expected.{all_drained, drained, expected, expected_at};
 
 use crate::Memory;
 use crate::instance_keeper_items::{Book, Instance};
@@ -15,7 +15,7 @@ use plan_texts::{Expect, Line};
 use recovery_plans::Stopped;
 use std::alloc::Global;
 
-// Where an instance stops that is drained; none of one that wasn't reached.
+// The position at which an instance stops that is drained; none for one that wasn't reached.
 fn expected_of(no: ServerNo, instance: &Instance) -> Option<Stopped>
     ensures { result ≡ expected_at no (Some instance.now) }
 {
@@ -46,7 +46,7 @@ fn push_some(list: &mut Vec<Stopped>, stopped: Option<Stopped>) -> Result<(), Me
     Ok(())
 }
 
-/// Where these replicas are expected to stop.
+/// The positions at which these replicas are expected to stop.
 pub(crate) fn expected(
     alloc: Global,
     book: &Book,

@@ -2,8 +2,8 @@
 
 ghost use Rattle.plan_lines.specs.Courses.{TakeoversFollowTheirPlans};
 
-/// The turns of a takeover in which nothing befalls an operation and nobody is lost do exactly the operations of its
-/// plan's lines, in their order, whatever comes between the turns.
+/// The turns of a takeover do exactly the operations of its plan's lines, in their order, whatever comes between the
+/// turns. So it is if nothing happens to an operation and nobody is lost.
 pub fn plans_are_followed()
     ensures { TakeoversFollowTheirPlans }
 {}

@@ -1,5 +1,5 @@
-//! The lines of plans: a job's operations as they stand, those of a takeover in which nobody is lost, and of a recovery
-//! or a regroup the branch that is expected as the book stands.
+//! The lines of plans: a job's operations as they are, and those of a takeover in which nobody is lost. For a recovery
+//! or a regroup it is the branch that is expected by the book as it is.
 #![tactic(auto)]
 
 mod branches;
@@ -18,6 +18,6 @@ pub use recovery_parts::Ground;
 pub use recovery_plans::operations_items::Op;
 use recovery_plans::{instance_keeper_items, operations_items, orch_base};
 pub use recovery_plans::{Means, Purpose};
-/// Want of memory.
+/// Out of memory.
 pub use recovery_plans::orch_base::Memory;
 pub use straight::straight_lines;

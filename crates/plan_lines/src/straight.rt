@@ -1,11 +1,13 @@
 //! The plan of a job that goes one way.
 
 ghost use Rattle.std.specs.Prelude.{◌≡◌, IfOk};
+ghost use Rattle.plan_lines.specs.Branches.{detach_line};
 ghost use Rattle.plan_lines.specs.Straight.{attached_as, detached_as, straight_line, straight_lines};
 
 use crate::Memory;
 use crate::instance_keeper_items::Book;
 use crate::operations_items::Op;
+use crate::orch_base::ServerNo;
 use crate::pieces::{as_told, push_some};
 use permission::is_auto;
 use plan_texts::{Expect, Line};
@@ -30,6 +32,13 @@ fn detached_as(auto: bool) -> Expect
     } else {
         Expect::AsTold
     }
+}
+
+/// The line of a detachment.
+pub(crate) fn detach_line(book: &Book, no: ServerNo) -> Line
+    ensures { result ≡ detach_line book.now no }
+{
+    Line::Does(Op::Detach(no), attached_as(is_auto(book, no)))
 }
 
 // The line of an operation; none of the end.
@@ -58,7 +67,7 @@ fn straight_line(book: &Book, op: &Op) -> Option<Line>
     })
 }
 
-/// The lines of a job's operations, by what the book knows of their servers. `Memory` comes only for want of memory.
+/// The lines of a job's operations, by what the book knows of their servers. `Memory` comes only if memory runs out.
 pub fn straight_lines(alloc: Global, book: &Book, ops: &[Op]) -> Result<Vec<Line>, Memory>
     ensures { IfOk result (λ lines. lines.items ≡ straight_lines book.now ops.now) }
 {

@@ -27,7 +27,7 @@ fn shut(alloc: Global, m: ServerNo, d: ServerNo) -> Result<Vec<Line>, Memory>
     ]?)
 }
 
-// Another replica comes to where that one stopped, and goes below it.
+// Another replica comes to the position at which that one stopped, and goes below it.
 fn led(alloc: Global, m: ServerNo, d: ServerNo, no: ServerNo) -> Result<Vec<Line>, Memory>
     ensures { IfOk result (λ lines. lines.items ≡ led m d no) }
 {
@@ -55,7 +55,7 @@ fn yielded(alloc: Global, m: ServerNo, d: ServerNo) -> Result<Vec<Line>, Memory>
     ]?)
 }
 
-/// The lines by which `d` takes the place of its master `m`, which has these replicas, where nobody is lost on the way.
+/// The lines by which `d` takes the place of its master `m`, which has these replicas, if nobody is lost on the way.
 pub(crate) fn takeover_lines(
     alloc: Global,
     m: ServerNo,

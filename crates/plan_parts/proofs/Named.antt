@@ -1,4 +1,4 @@
--- The operations of plans are of servers that are there, where those of their parts are.
+-- The operations of plans are of servers that are there, if those of their parts are.
 use Rattle.std.proofs.Common.{◌≡◌, ℕ, ◌<◌, true, List, [], ◌∷◌, ◌++◌, refl, ◌∙◌, ap, arith}
 use Rattle.std.specs.Prelude.{All, ◌&&◌, nat_lt}
 use Rattle.std.specs.List.{flat_map}

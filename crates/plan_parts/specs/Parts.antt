@@ -29,10 +29,10 @@ following replicas source = map (λ r. Follows r source) replicas
 abbrev pub again_auto : ServerNo → ServerNo → List Op
 again_auto i x = Stop i ∷ Status i (Some x) ∷ Status x None ∷ Auto i x ∷ Start i ∷ Status i None ∷ []
 
--- r goes below d, where its log matches that of d by marks of this distance
+-- r goes below d, if its log matches that of d by marks of this distance
 abbrev pub matching : ServerNo → ServerNo → ℕ → List Op
 matching r d every = Stop r ∷ Status r None ∷ Match r d every ∷ CrossMatch r d ∷ Start r ∷ Status r None ∷ []
 
--- replicas go below d, where their logs match
+-- replicas go below d, if their logs match
 abbrev pub matchings : List ServerNo → ServerNo → ℕ → List Op
 matchings replicas d every = flat_map (λ r. matching r d every) replicas

@@ -10,7 +10,7 @@ use crate::orch_base::ServerNo;
 use operations::Op;
 use std::alloc::Global;
 
-/// These operations, and at last the end with these lines.
+/// These operations, and at last the end with these lines. `Err` means out of memory.
 pub fn finished(mut ops: Vec<Op>, lines: Lines) -> Result<Vec<Op>, Memory>
     ensures { IfOk result (λ all. all.items ≡ finished ops.items lines) }
 {
@@ -26,21 +26,21 @@ fn one_line(alloc: Global, line: Line) -> Result<Lines, Memory>
     Ok(Lines::new(lines))
 }
 
-/// The operations of a move, and its line at the end.
+/// The operations of a move, and its line at the end. `Err` means out of memory.
 pub fn moved(alloc: Global, ops: Vec<Op>, no: ServerNo, source: ServerNo) -> Result<Vec<Op>, Memory>
     ensures { IfOk result (λ all. all.items ≡ finished ops.items (Line.Follows no source ∷ [])) }
 {
     finished(ops, one_line(alloc, Line::Follows(no, source))?)
 }
 
-/// The operations about an instance, and its name at the end.
+/// The operations about an instance, and its name at the end. `Err` means out of memory.
 pub fn told(alloc: Global, ops: Vec<Op>, no: ServerNo) -> Result<Vec<Op>, Memory>
     ensures { IfOk result (λ all. all.items ≡ finished ops.items (Line.Server no ∷ [])) }
 {
     finished(ops, one_line(alloc, Line::Server(no))?)
 }
 
-/// The lines of moves to one source, in order.
+/// The lines of moves to one source, in order. `Err` means out of memory.
 pub fn following(alloc: Global, replicas: &[ServerNo], source: ServerNo) -> Result<Lines, Memory>
     ensures { IfOk result (λ lines. lines ≡ following replicas.now source) }
 {
@@ -51,7 +51,7 @@ pub fn following(alloc: Global, replicas: &[ServerNo], source: ServerNo) -> Resu
     Ok(Lines::new(lines))
 }
 
-/// The operations of moves to one source, and their lines at the end, in order.
+/// The operations of moves to one source, and their lines at the end, in order. `Err` means out of memory.
 pub fn moved_each(
     alloc: Global,
     ops: Vec<Op>,

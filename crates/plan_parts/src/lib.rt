@@ -8,6 +8,6 @@ mod parts;
 pub use ends::{finished, following, moved, moved_each, told};
 pub use lists::{autos, matchings, unders, ups};
 use operations::{commands, orch_base};
-/// Want of memory.
+/// Out of memory.
 pub use operations::orch_base::Memory;
 pub use parts::{again, again_auto, asking, auto, matching, restarted, swap, under, up};

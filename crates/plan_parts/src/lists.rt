@@ -9,7 +9,7 @@ use crate::parts::{auto, matching, under, up};
 use operations::Op;
 use std::alloc::Global;
 
-/// Replicas of `i`, which is below `x`, go to `x`.
+/// Replicas of `i`, which is below `x`, go to `x`. `Err` means out of memory.
 pub fn ups(
     alloc: Global,
     replicas: &[ServerNo],
@@ -25,7 +25,7 @@ pub fn ups(
     Ok(ops)
 }
 
-/// Siblings of `d`, all below `s`, go below `d`.
+/// Siblings of `d`, all below `s`, go below `d`. `Err` means out of memory.
 pub fn unders(
     alloc: Global,
     siblings: &[ServerNo],
@@ -41,7 +41,7 @@ pub fn unders(
     Ok(ops)
 }
 
-/// Replicas go below `d`, by what was executed.
+/// Replicas go below `d`, by what was executed. `Err` means out of memory.
 pub fn autos(alloc: Global, replicas: &[ServerNo], d: ServerNo) -> Result<Vec<Op>, Memory>
     ensures { IfOk result (λ ops. ops.items ≡ autos replicas.now d) }
 {
@@ -52,7 +52,7 @@ pub fn autos(alloc: Global, replicas: &[ServerNo], d: ServerNo) -> Result<Vec<Op
     Ok(ops)
 }
 
-/// Replicas go below `d`, where their logs match that of `d` by marks of this distance.
+/// Replicas go below `d`, if their logs match that of `d` by marks of this distance. `Err` means out of memory.
 pub fn matchings(
     alloc: Global,
     replicas: &[ServerNo],

@@ -9,7 +9,7 @@ use crate::orch_base::ServerNo;
 use operations::{Aim, Crossing, Op};
 use std::alloc::Global;
 
-/// `i`, which is below `x`, goes to `x`'s source `g`.
+/// `i`, which is below `x`, goes to `x`'s source `g`. `Err` means out of memory.
 pub fn up(alloc: Global, i: ServerNo, x: ServerNo, g: ServerNo) -> Result<Vec<Op>, Memory>
     ensures { IfOk result (λ ops. ops.items ≡ up i x g) }
 {
@@ -28,7 +28,7 @@ pub fn up(alloc: Global, i: ServerNo, x: ServerNo, g: ServerNo) -> Result<Vec<Op
     ]?)
 }
 
-/// `i` goes below its sibling `d`: both are below `s`, and are levelled first.
+/// `i` goes below its sibling `d`: both are below `s`, and are levelled first. `Err` means out of memory.
 pub fn under(alloc: Global, i: ServerNo, d: ServerNo, s: ServerNo) -> Result<Vec<Op>, Memory>
     ensures { IfOk result (λ ops. ops.items ≡ under i d s) }
 {
@@ -51,7 +51,7 @@ pub fn under(alloc: Global, i: ServerNo, d: ServerNo, s: ServerNo) -> Result<Vec
     ]?)
 }
 
-/// `i` goes on under its source `x`, by coordinates.
+/// `i` goes on under its source `x`, by coordinates. `Err` means out of memory.
 pub fn again(alloc: Global, i: ServerNo, x: ServerNo) -> Result<Vec<Op>, Memory>
     ensures { IfOk result (λ ops. ops.items ≡ again i x) }
 {
@@ -64,7 +64,7 @@ pub fn again(alloc: Global, i: ServerNo, x: ServerNo) -> Result<Vec<Op>, Memory>
     ]?)
 }
 
-/// `r` goes below `d`, by what was executed.
+/// `r` goes below `d`, by what was executed. `Err` means out of memory.
 pub fn auto(alloc: Global, r: ServerNo, d: ServerNo) -> Result<Vec<Op>, Memory>
     ensures { IfOk result (λ ops. ops.items ≡ auto r d) }
 {
@@ -79,7 +79,7 @@ pub fn auto(alloc: Global, r: ServerNo, d: ServerNo) -> Result<Vec<Op>, Memory>
     ]?)
 }
 
-/// `i` finds its place under its source `x` by what was executed, from now on.
+/// `i` finds its place under its source `x` by what was executed, from now on. `Err` means out of memory.
 pub fn again_auto(alloc: Global, i: ServerNo, x: ServerNo) -> Result<Vec<Op>, Memory>
     ensures { IfOk result (λ ops. ops.items ≡ again_auto i x) }
 {
@@ -93,7 +93,7 @@ pub fn again_auto(alloc: Global, i: ServerNo, x: ServerNo) -> Result<Vec<Op>, Me
     ]?)
 }
 
-/// `r` goes below `d`, where its log matches that of `d` by marks of this distance.
+/// `r` goes below `d`, if its log matches that of `d` by marks of this distance. `Err` means out of memory.
 pub fn matching(alloc: Global, r: ServerNo, d: ServerNo, every: u64) -> Result<Vec<Op>, Memory>
     ensures { IfOk result (λ ops. ops.items ≡ matching r d every) }
 {
@@ -107,7 +107,7 @@ pub fn matching(alloc: Global, r: ServerNo, d: ServerNo, every: u64) -> Result<V
     ]?)
 }
 
-/// `i`, which is below `x`, and `x` change places under `x`'s source `g`.
+/// `i`, which is below `x`, and `x` change places under `x`'s source `g`. `Err` means out of memory.
 pub fn swap(alloc: Global, i: ServerNo, x: ServerNo, g: ServerNo) -> Result<Vec<Op>, Memory>
     ensures { IfOk result (λ ops. ops.items ≡ swap i x g) }
 {
@@ -129,14 +129,14 @@ pub fn swap(alloc: Global, i: ServerNo, x: ServerNo, g: ServerNo) -> Result<Vec<
     ]?)
 }
 
-/// One operation of `i`, which is read then.
+/// One operation of `i`, which is read then. `Err` means out of memory.
 pub fn asking(alloc: Global, op: Op, i: ServerNo) -> Result<Vec<Op>, Memory>
     ensures { IfOk result (λ ops. ops.items ≡ asking op i) }
 {
     Ok(vec![in alloc; op, Op::Status(i, None)]?)
 }
 
-/// One operation of `i`, which is started and read then.
+/// One operation of `i`, which is started and read then. `Err` means out of memory.
 pub fn restarted(alloc: Global, op: Op, i: ServerNo) -> Result<Vec<Op>, Memory>
     ensures { IfOk result (λ ops. ops.items ≡ op ∷ asking (Op.Start i) i) }
 {

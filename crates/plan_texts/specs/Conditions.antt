@@ -1,5 +1,5 @@
--- Conditions: what stands behind a line's statements: what to note, when to repeat, and the condition under which alone
--- they may be sent.
+-- Conditions: what is after a line's statements. They are what to note, when to repeat, and the condition under which
+-- alone the statements may be sent.
 use Rattle.std.specs.Prelude.{ℕ, Bool, true, false, List, [], ◌++◌, codes, Option, Some, None}
 use Rattle.plan_texts.specs.Prelude.{Aim, Crossing, EndOf, ExecOf, Op, ServerNo}
 use Rattle.plan_texts.specs.Prelude.cross
@@ -23,7 +23,7 @@ below_words order (Some source) = codes "; must be below " ++ letter order sourc
 abbrev pub noted_words : List ServerNo → ServerNo → List ℕ → List ℕ
 noted_words order n word = note_words order n ++ codes "; only where " ++ letter order n ++ word
 
--- the source of a server: by its letter where it was told, else as it was noted
+-- the source of a server: by its letter if an earlier line has it, else as it was noted
 abbrev pub source_letter : List ServerNo → ServerNo → Option ServerNo → List ℕ
 source_letter order n None = letter order n ++ codes ".source"
 source_letter order n (Some source) = letter order source
@@ -64,7 +64,7 @@ contained_words order n m =
     codes " -- only where " ++ letter order n ++ codes ".gtids are in " ++ letter order m ++ codes ".gtids, stopped; only where "
     ++ letter order m ++ codes ".purged is in " ++ letter order n ++ codes ".gtids"
 
--- what stands behind the statements of an operation, behind these lines
+-- what is after the statements of an operation, after these lines
 abbrev pub condition : List ServerNo → List Line → Op → List ℕ
 condition order before (op.Status n from) = note_words order n ++ below_words order from
 condition order before (op.Stop n) = []
@@ -90,7 +90,7 @@ condition order before (op.Finish lines) = []
 
 -- ---- what is expected
 
--- the place of a server in the log of its new source is found by hand; it is still below its source, where it was noted
+-- the place of a server in the log of its new source is found by hand; it is still below its source, if it was noted
 abbrev pub by_hand_words : List ServerNo → ServerNo → ServerNo → List ℕ
 by_hand_words order n m =
     note_words order n ++ codes ".match, by hand: the place in the log of " ++ letter order m ++ codes " behind the last transaction that "
@@ -99,7 +99,7 @@ by_hand_words order n m =
 abbrev pub still_words : List ServerNo → List Line → ServerNo → List ℕ
 still_words order before n = codes "; " ++ below_at_words order n (source_letter order n (told before n)) (ExecOf n)
 
--- what stands behind the statements of an operation where this is expected of its server
+-- what is after the statements of an operation if this is expected of its server
 abbrev pub expected_condition : List ServerNo → List Line → Op → ServerNo → Expect → List ℕ
 expected_condition order before o n expect.AsTold = condition order before o
 expected_condition order before o n (expect.Below m) = note_words order n ++ below_words order (Some m)
@@ -116,8 +116,9 @@ expected_condition order before o n (expect.Behind m) = by_hand_words order n m 
 unfoldable pub chosen_words : List ServerNo → ServerNo → ServerNo → Bool → List ℕ
 chosen_words order n before less = codes " -- chosen before " ++ letter order before ++ passes_words order n before less
 
--- why a replica is lost, beside this one; where that is by what was noted, it must be so
+-- why a replica is lost, beside this one; if that is by what was noted, it must be so
 abbrev pub lost_words : List ServerNo → ServerNo → ServerNo → Apart → List ℕ
 lost_words order n beside apart.Behind = codes " -- lost, behind " ++ letter order beside ++ passes_words order beside n true
 lost_words order n beside apart.Ahead = codes " -- lost, ahead of " ++ letter order beside ++ passes_words order n beside true
+lost_words order n beside apart.Refused = codes " -- lost, ahead of " ++ letter order beside ++ passes_words order n beside true
 lost_words order n beside apart.Unpaired = codes " -- lost, no kept pair of " ++ letter order beside

@@ -86,7 +86,8 @@ other_text =
     ++ (codes "11 A CHANGE REPLICATION SOURCE TO SOURCE_HOST='s', SOURCE_PORT=3306, SOURCE_LOG_FILE=:B.end.file, SOURCE_LOG_POS=:B.end.pos, SOURCE_AUTO_POSITION=0; -- only where A ends at B.exec, stopped\n"
     ++ codes "12 A CHANGE REPLICATION SOURCE TO SOURCE_HOST='s', SOURCE_PORT=3306, SOURCE_LOG_FILE=:A.exec.file, SOURCE_LOG_POS=:A.exec.pos, SOURCE_AUTO_POSITION=0, SOURCE_USER=:user, SOURCE_PASSWORD=:password; -- only where A ends at A.end, stopped\n"))))))))))))))
 
--- m has failed; its replicas are s, which is chosen, and r, which is behind, and goes below s where a hand finds it
+-- m has failed; its replicas are s, which is chosen, and r, which has executed less and goes below s at the coordinate
+-- that is found by hand
 abbrev pub branch_plan : List Line
 branch_plan =
     line.Does (Status (no 0) None) expect.Away ∷ line.Does (Status (no 1) None) (expect.Below (no 0))
@@ -94,7 +95,8 @@ branch_plan =
     ∷ line.Does (Cross Down (no 2) (no 1)) (expect.Behind (no 1)) ∷ line.Does (Cross Down (no 2) (no 1)) expect.AsTold
     ∷ line.Does (Cross Up (no 2) (no 0)) (expect.ByHand (no 1)) ∷ line.Lost (no 2) (no 1) apart.Behind ∷ line.Lost (no 2) (no 1) apart.Ahead
     ∷ line.Lost (no 2) (no 0) apart.Unpaired ∷ line.Does (StopReceiver (no 2)) expect.Gone ∷ line.Does (Cross About (no 1) (no 2)) expect.AsTold
-    ∷ line.Does (Status (no 1) None) expect.Root ∷ line.Does (Detach (no 2)) expect.AttachedByAuto ∷ line.Does (Reattach (no 2)) expect.DetachedByAuto ∷ []
+    ∷ line.Does (Status (no 1) None) expect.Root ∷ line.Does (Detach (no 2)) expect.AttachedByAuto ∷ line.Does (Reattach (no 2)) expect.DetachedByAuto
+    ∷ line.Lost (no 2) (no 1) apart.Refused ∷ []
 
 abbrev pub branch_text : List ℕ
 branch_text =
@@ -118,4 +120,5 @@ branch_text =
     ++ (codes "13 B CHANGE REPLICATION SOURCE TO SOURCE_HOST='r', SOURCE_PORT=3306, SOURCE_LOG_FILE=:C.end.file, SOURCE_LOG_POS=:C.end.pos, SOURCE_AUTO_POSITION=0; -- only where B ends at C.exec, stopped\n"
     ++ (codes "14 B SHOW REPLICA STATUS; SHOW BINARY LOG STATUS; -- note B; must be below nothing\n"
     ++ (codes "15 C STOP REPLICA; SHOW REPLICA STATUS; SHOW BINARY LOG STATUS; CHANGE REPLICATION SOURCE TO SOURCE_HOST='//:C.source.host', SOURCE_PORT=:C.source.port; -- note C; only where C is attached by auto position, stopped\n"
-    ++ codes "16 C STOP REPLICA; SHOW REPLICA STATUS; SHOW BINARY LOG STATUS; CHANGE REPLICATION SOURCE TO SOURCE_HOST=':C.source.host', SOURCE_PORT=:C.source.port; -- note C; only where C is detached by auto position, stopped\n")))))))))))))))))))
+    ++ (codes "16 C STOP REPLICA; SHOW REPLICA STATUS; SHOW BINARY LOG STATUS; CHANGE REPLICATION SOURCE TO SOURCE_HOST=':C.source.host', SOURCE_PORT=:C.source.port; -- note C; only where C is detached by auto position, stopped\n"
+    ++ codes "17 C -- lost, ahead of B; only where C.exec > B.exec\n"))))))))))))))))))))

@@ -1,4 +1,4 @@
--- Statements: what is sent for each operation (MySQL 8.0 Reference Manual, "Replication Statements"), with words in
+-- Statements: what is sent for each operation (MySQL 8.0 Reference Manual, "Replication Statements"), with names in
 -- place of coordinates that earlier lines noted.
 use Rattle.std.specs.Prelude.{ℕ, ◌==◌, Bool, true, false, List, [], ◌++◌, codes, decimal, fold, if◌then◌else◌, slice_get, Option, Some, None}
 use Rattle.plan_texts.specs.Prelude.{Aim, Crossing, EndOf, ExecOf, HostPort, Op, ServerNo, option_or}
@@ -10,9 +10,9 @@ use Rattle.plan_texts.specs.declared.line.Line.{Line}
 use Rattle.plan_texts.specs.declared.line.Line.TheVariants as line
 use Rattle.plan_texts.specs.Letters.{letter, subject}
 
--- ---- the sources that lines before tell
+-- ---- the sources that earlier lines have
 
--- that of a server, where the operation reads it and names one
+-- that of a server, if the operation reads it and names one
 abbrev pub told_by : ServerNo → Op → Option ServerNo
 told_by n (op.Status m from) = if m.0 == n.0 then from else None
 told_by n (op.Stop m) = None
@@ -45,7 +45,7 @@ below_in expect.DetachedByAuto = None
 below_in (expect.ByHand m) = None
 below_in (expect.Behind m) = None
 
--- that of a server, where the operation is sent to it
+-- that of a server, if the operation is sent to it
 abbrev pub expected_by : ServerNo → Option ServerNo → Expect → Option ServerNo
 expected_by n None e = None
 expected_by n (Some m) e = if m.0 == n.0 then below_in e else None
@@ -55,11 +55,11 @@ told_in n (line.Does o e) = option_or (told_by n o) (expected_by n (subject o) e
 told_in n (line.Chosen m before less) = None
 told_in n (line.Lost m beside apart) = None
 
--- the latest that is told
+-- the latest that a line has
 abbrev pub told : List Line → ServerNo → Option ServerNo
 told before n = fold (λ found l. option_or (told_in n l) found) None before
 
--- ---- words of statements
+-- ---- texts of statements
 
 -- what is noted of a server: A.end, A.exec
 unfoldable pub aim_words : List ServerNo → Aim → List ℕ
@@ -77,12 +77,12 @@ address_words (Some name) = codes "SOURCE_HOST='" ++ name.host ++ codes "', SOUR
 unfoldable pub named_words : List HostPort → ServerNo → List ℕ
 named_words names n = address_words (slice_get names n.0)
 
--- the source that was noted of a server, behind so many slashes
+-- the source that was noted of a server, after so many slashes
 unfoldable pub own_words : List ServerNo → List ℕ → ServerNo → List ℕ
 own_words order slashes n =
     codes "SOURCE_HOST='" ++ slashes ++ codes ":" ++ letter order n ++ codes ".source.host', SOURCE_PORT=:" ++ letter order n ++ codes ".source.port"
 
--- the source of a server: by its name where it was told, else as it was noted
+-- the source of a server: by its name if an earlier line has it, else as it was noted
 abbrev pub source_words : List HostPort → List ServerNo → ServerNo → Option ServerNo → List ℕ
 source_words names order n None = own_words order [] n
 source_words names order n (Some source) = named_words names source
@@ -111,8 +111,8 @@ cross_statement names order before cross.Down a b = change_words order (named_wo
 cross_statement names order before cross.About a b = change_words order (named_words names b) (EndOf b) ++ login_words (told before a)
 cross_statement names order before cross.Back a b = change_words order (named_words names b) (ExecOf a) ++ login_words None
 
--- a server is stopped and read, and its source changes, which is the one that was noted, behind so many slashes: by the
--- coordinate that was noted too; or, in auto position, alone
+-- A server is stopped and read, and its source changes. The new source is the one that was noted, after so many
+-- slashes: by the coordinate that was noted too; or, in auto position, alone.
 abbrev pub own_change : List ServerNo → List ℕ → ServerNo → List ℕ
 own_change order slashes n = codes "STOP REPLICA; " ++ reading_words ++ codes "; " ++ change_words order (own_words order slashes n) (ExecOf n)
 
@@ -126,7 +126,7 @@ match_change names order n m =
     codes "CHANGE REPLICATION SOURCE TO " ++ named_words names m ++ codes ", SOURCE_LOG_FILE=:" ++ letter order n
     ++ codes ".match.file, SOURCE_LOG_POS=:" ++ letter order n ++ codes ".match.pos, SOURCE_AUTO_POSITION=0"
 
--- what is sent for an operation, behind these lines; nothing for the end of a job
+-- what is sent for an operation, after these lines; nothing for the end of a job
 abbrev pub statement : List HostPort → List ServerNo → List Line → Op → List ℕ
 statement names order before (op.Status n from) = reading_words
 statement names order before (op.Stop n) = codes "STOP REPLICA"
@@ -147,7 +147,7 @@ statement names order before (op.Match n m every) = codes "SHOW BINLOG EVENTS"
 statement names order before (op.CrossMatch n m) = match_change names order n m
 statement names order before (op.Finish lines) = []
 
--- and where this is expected of its server
+-- and if this is expected of its server
 abbrev pub expected_statement : List HostPort → List ServerNo → List Line → Op → ServerNo → Expect → List ℕ
 expected_statement names order before o n expect.AsTold = statement names order before o
 expected_statement names order before o n (expect.Below m) = statement names order before o

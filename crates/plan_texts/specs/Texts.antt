@@ -43,13 +43,13 @@ op_line names order before number o e None = []
 op_line names order before number o e (Some n) =
     head_words order number n ++ codes " " ++ expected_statement names order before o n e ++ codes ";" ++ expected_condition order before o n e ++ codes "\n"
 
--- a line behind these, with its number
+-- a line after these, with its number
 abbrev pub line_text : List HostPort → List ServerNo → List Line → ℕ → Line → List ℕ
 line_text names order before number (line.Does o e) = op_line names order before number o e (subject o)
 line_text names order before number (line.Chosen n other less) = head_words order number n ++ chosen_words order n other less ++ codes "\n"
 line_text names order before number (line.Lost n beside apart) = head_words order number n ++ lost_words order n beside apart ++ codes "\n"
 
--- the lines behind these, from a number on
+-- the lines after these, from a number on
 abbrev pub line_texts : List HostPort → List ServerNo → ℕ → List Line → List Line → List ℕ
 line_texts names order number before [] = []
 line_texts names order number before (l ∷ ls) =
@@ -57,7 +57,7 @@ line_texts names order number before (l ∷ ls) =
 
 -- ---- the whole
 
--- what the plan of a recovery or a regroup says, and what it can't know
+-- what the plan of a recovery or a regroup is, and what it can't know
 unfoldable pub branch_words : List ℕ
 branch_words =
     codes "# This is one branch: the expected one, as the book stands. Lines with \"chosen\" or \"lost\" say on what noted coordinates it depends.\n"
@@ -75,6 +75,6 @@ unfoldable pub ordered_text : List HostPort → List ServerNo → Bool → List 
 ordered_text names order branches lines =
     warning ++ (branch_lines branches ++ (server_lines names order order ++ line_texts names order 1 [] lines))
 
--- a plan's lines as text, for servers of these names; where it is one of several branches it says so
+-- a plan's lines as text, for servers of these names; if it is one of several branches, the text has that
 unfoldable pub plan_text : List HostPort → Bool → List Line → List ℕ
 plan_text names branches lines = ordered_text names (order_of lines) branches lines

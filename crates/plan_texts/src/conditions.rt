@@ -1,4 +1,4 @@
-//! What stands behind a line's statements.
+//! What is after a line's statements.
 
 ghost use Rattle.std.specs.Prelude.{◌≡◌, ◌++◌, codes, true, OnOk};
 ghost use Rattle.plan_texts.specs.Conditions.{below_at_words, below_words, by_hand_words, chosen_words, condition, contained_words, cross_condition, ends_words, expected_condition, lost_words, note_words, noted_words, over_words, passes_words, reaches_words, source_letter, stands_words, still_words};
@@ -20,7 +20,7 @@ fn print_note(order: &[ServerNo], no: ServerNo, out: &mut Vec<u8>) -> Result<(),
     print_lettered(b" -- note ", order, no, out)
 }
 
-// What is read of the server is noted; it must be below its source, where one is named.
+// What is read of the server is noted. It must be below its source, if one is named.
 fn print_read(
     order: &[ServerNo],
     no: ServerNo,
@@ -93,7 +93,7 @@ fn print_settled(order: &[ServerNo], no: ServerNo, out: &mut Vec<u8>) -> Result<
     out.extend_from_slice(b".read or its applier is off")
 }
 
-// The source of a server: by its letter where it was told, else as it was noted.
+// The source of a server: by its letter if an earlier line has it, else as it was noted.
 fn print_source_letter(
     order: &[ServerNo],
     no: ServerNo,
@@ -215,7 +215,7 @@ fn print_contained(
     out.extend_from_slice(b".gtids")
 }
 
-// Where the logs match, to be found by hand.
+// The place at which the logs match, to be found by hand.
 fn print_match(
     order: &[ServerNo],
     no: ServerNo,
@@ -247,7 +247,7 @@ fn print_matched(order: &[ServerNo], no: ServerNo, out: &mut Vec<u8>) -> Result<
     out.extend_from_slice(b" stands as it did then, stopped")
 }
 
-// What stands behind an operation's statements.
+// What is after an operation's statements.
 fn print_condition(
     order: &[ServerNo],
     before: &[Line],
@@ -309,7 +309,7 @@ fn print_by_hand(
     out.extend_from_slice(b" has executed")
 }
 
-// The server is still below its source, where it was noted.
+// The server is still below its source, if it was noted.
 fn print_still(
     order: &[ServerNo],
     before: &[Line],
@@ -336,7 +336,7 @@ fn print_by_hand_still(
     print_still(order, before, no, out)
 }
 
-// The same of one that is behind its new source.
+// The same of one that has executed less than its new source.
 fn print_behind(
     order: &[ServerNo],
     before: &[Line],
@@ -353,7 +353,7 @@ fn print_behind(
     print_still(order, before, no, out)
 }
 
-/// What stands behind an operation's statements, where this is expected of the server to which they are sent.
+/// What is after an operation's statements, if this is expected of the server to which they are sent.
 pub(crate) fn print_expectation(
     order: &[ServerNo],
     before: &[Line],
@@ -415,6 +415,10 @@ pub(crate) fn print_lost(
             print_passes(order, beside, no, true, out)
         }
         Apart::Ahead => {
+            print_lettered(b" -- lost, ahead of ", order, beside, out)?;
+            print_passes(order, no, beside, true, out)
+        }
+        Apart::Refused => {
             print_lettered(b" -- lost, ahead of ", order, beside, out)?;
             print_passes(order, no, beside, true, out)
         }

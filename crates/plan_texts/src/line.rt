@@ -3,10 +3,10 @@
 use crate::orch_base::ServerNo;
 use operations::Op;
 
-/// What a plan expects where it does an operation.
+/// What a plan expects if it does an operation.
 #[derive(Clone, Copy, Debug, PartialEq, Eq)]
 pub enum Expect {
-    /// What the operation says itself.
+    /// What the operation itself expects.
     AsTold,
     /// The server that is read is below this one.
     Below(ServerNo),
@@ -22,18 +22,20 @@ pub enum Expect {
     DetachedByAuto,
     /// The coordinate at which it goes below this server is found by hand, in that one's log.
     ByHand(ServerNo),
-    /// The same of one that is behind this server, its sibling.
+    /// The same of one that has executed less than this server, its sibling.
     Behind(ServerNo),
 }
 
 /// Why a replica is lost before anything was found.
 #[derive(Clone, Copy, Debug, PartialEq, Eq)]
 pub enum Apart {
-    /// It stands before the other.
+    /// It has executed less than the other.
     Behind,
-    /// It stands after the other.
+    /// It has executed more than the other.
     Ahead,
-    /// No pair of the other's coordinates is kept where it stands.
+    /// It has executed what the other lacks, so the change below it is refused.
+    Refused,
+    /// No pair of the other's coordinates is kept at its position.
     Unpaired,
 }
 
@@ -42,7 +44,7 @@ pub enum Apart {
 pub enum Line {
     /// An operation, and what is expected there.
     Does(Op, Expect),
-    /// The server is chosen before the other, which has executed no more; or, where so told, less.
+    /// The server is chosen before the other, which has executed no more. If `less` is set, it has executed less.
     Chosen {
         no: ServerNo,
         before: ServerNo,

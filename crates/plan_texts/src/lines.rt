@@ -2,7 +2,7 @@
 
 ghost use Rattle.std.specs.Prelude.{◌≡◌, ◌++◌, [], codes, decimal, slice_get, OnOk};
 ghost use Rattle.plan_texts.specs.Conditions.{expected_condition};
-ghost use Rattle.plan_texts.specs.Letters.{letter, order_of, subject};
+ghost use Rattle.plan_texts.specs.Letters.{order_of, subject};
 ghost use Rattle.plan_texts.specs.Statements.{expected_statement};
 ghost use Rattle.plan_texts.specs.Texts.{branch_lines, branch_words, head_words, line_text, line_texts, op_line, ordered_text, plan_text, printed_at, server_line, server_lines, warning};
 
@@ -77,7 +77,7 @@ fn print_head(
     print_lettered(b" ", order, no, out)
 }
 
-// What is behind the head of an operation's line.
+// What is after the head of an operation's line.
 fn print_rest(
     told: &Told<'_>,
     op: &Op,
@@ -155,7 +155,7 @@ fn print_lines(
     Ok(())
 }
 
-// What the plan of a recovery says, and what it can't know.
+// What the plan of a recovery is, and what it can't know.
 #[tactic(auto, unfolding(crate::specs::Texts::branch_words))]
 fn branch() -> &'static [u8]
     ensures { result.now ≡ branch_words }
@@ -196,8 +196,8 @@ fn print_ordered(
 }
 
 /// Appends the text of a plan's lines, for servers of these names: statements of MySQL 8 with what must be true before
-/// each (MySQL 8.0 Reference Manual, "Replication Statements"). Where the plan is one of several branches, which a
-/// recovery may go, it says so. `Memory` comes only for want of memory; `out` may have a part of it then.
+/// each (MySQL 8.0 Reference Manual, "Replication Statements"). If the plan is one of several branches, which a
+/// recovery may go, the text has that. `Memory` comes only if memory runs out; `out` may have a part of it then.
 #[tactic(auto, unfolding(crate::specs::Texts::plan_text))]
 pub fn print_plan(
     alloc: Global,

@@ -12,7 +12,7 @@ use crate::told::told as told_source;
 use crate::words::{login, print_lettered, print_named, print_own, print_source, print_spot};
 use operations::{Aim, Crossing, Op};
 
-/// The servers of a plan by their names and their letters, and the lines before the one that is told.
+/// The servers of a plan by their names and their letters, and the lines before the one that is printed.
 #[derive(Clone, Copy)]
 pub(crate) struct Told<'a> {
     pub(crate) names: &'a [Name],
@@ -37,7 +37,7 @@ fn read_only(on: bool) -> &'static [u8]
     }
 }
 
-// Behind the source of a change: the coordinate that was noted.
+// After the source of a change: the coordinate that was noted.
 fn print_place(order: &[ServerNo], aim: Aim, out: &mut Vec<u8>) -> Result<(), Memory>
     ensures { OnOk result (out.new.items
         ≡ out.old.items
@@ -75,7 +75,7 @@ fn print_to_server(told: &Told<'_>, no: ServerNo, aim: Aim, out: &mut Vec<u8>) -
     print_place(told.order, aim, out)
 }
 
-// A change to the source that was noted, behind so many slashes.
+// A change to the source that was noted, after so many slashes.
 fn print_to_own(
     order: &[ServerNo],
     slashes: &[u8],
@@ -145,7 +145,7 @@ fn print_matched(
     out.extend_from_slice(b".match.pos, SOURCE_AUTO_POSITION=0")
 }
 
-// A server is stopped and read, and its source changes: the one that was noted, behind so many slashes.
+// A server is stopped and read, and its source changes: the one that was noted, after so many slashes.
 fn print_own_change(
     order: &[ServerNo],
     slashes: &[u8],
@@ -196,7 +196,7 @@ fn print_until(order: &[ServerNo], aim: Aim, out: &mut Vec<u8>) -> Result<(), Me
     print_spot(order, aim, out)
 }
 
-// What is sent for an operation; nothing for the end of a job.
+// What is sent for an operation. Nothing for the end of a job.
 fn print_statement(told: &Told<'_>, op: &Op, out: &mut Vec<u8>) -> Result<(), Memory>
     ensures { OnOk result (out.new.items ≡ out.old.items
         ++ statement told.now.names.now told.now.order.now told.now.before.now op.now) }
@@ -224,7 +224,7 @@ fn print_statement(told: &Told<'_>, op: &Op, out: &mut Vec<u8>) -> Result<(), Me
     }
 }
 
-// Another source, where a hand finds the coordinate.
+// Another source, if the coordinate is found by hand.
 fn print_by_hand(
     told: &Told<'_>,
     no: ServerNo,
@@ -239,7 +239,7 @@ fn print_by_hand(
     print_matched(told, no, to, out)
 }
 
-/// What is sent to a server for an operation, where this is expected of it.
+/// What is sent to a server for an operation, if this is expected of it.
 pub(crate) fn print_expected(
     told: &Told<'_>,
     op: &Op,

@@ -1,4 +1,4 @@
-//! The sources that lines tell.
+//! The sources that lines have.
 
 ghost use Rattle.std.specs.Prelude.{◌≡◌};
 ghost use Rattle.plan_texts.specs.Statements.{below_in, expected_by, told, told_by, told_in};
@@ -8,7 +8,7 @@ use crate::line::{Expect, Line};
 use crate::orch_base::ServerNo;
 use operations::Op;
 
-// That of a server, where the operation reads it and names one.
+// That of a server, if the operation reads it and names one.
 fn told_by(op: &Op, no: ServerNo) -> Option<ServerNo>
     ensures { result ≡ told_by no op.now }
 {
@@ -51,7 +51,7 @@ fn below_in(expect: Expect) -> Option<ServerNo>
     }
 }
 
-// That of a server, where the operation is sent to it.
+// That of a server, if the operation is sent to it.
 fn expected_by(no: ServerNo, sent: Option<ServerNo>, expect: Expect) -> Option<ServerNo>
     ensures { result ≡ expected_by no sent expect }
 {
@@ -76,7 +76,7 @@ fn told_in(line: &Line, no: ServerNo) -> Option<ServerNo>
     }
 }
 
-/// The latest source of a server that these lines tell.
+/// The latest source of a server that these lines have.
 pub(crate) fn told(before: &[Line], no: ServerNo) -> Option<ServerNo>
     ensures { result ≡ told before.now no }
 {

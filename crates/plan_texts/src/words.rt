@@ -1,4 +1,4 @@
-//! The words of statements.
+//! The texts of statements.
 
 ghost use Rattle.std.specs.Prelude.{◌≡◌, ◌++◌, decimal, OnOk, Some};
 ghost use Rattle.plan_texts.specs.Letters.{letter};
@@ -80,7 +80,7 @@ pub(crate) fn print_named(names: &[Name], no: ServerNo, out: &mut Vec<u8>) -> Re
     }
 }
 
-/// The source that was noted of a server, behind so many slashes.
+/// The source that was noted of a server, after so many slashes.
 pub(crate) fn print_own(
     order: &[ServerNo],
     slashes: &[u8],
@@ -96,7 +96,7 @@ pub(crate) fn print_own(
     out.extend_from_slice(b".source.port")
 }
 
-/// The source of a server: by its name where it was told, else as it was noted.
+/// The source of a server: by its name if an earlier line has it, else as it was noted.
 pub(crate) fn print_source(
     names: &[Name],
     order: &[ServerNo],

@@ -49,7 +49,7 @@ pub fn has_candidate(book: &Book, world: &World, servers: &[ServerNo], now: Mome
     servers.iter().any(|no| is_candidate(book, world, *no, now))
 }
 
-/// `NoCandidate`, exactly where none of a server's replicas may be promoted at a moment. `Err` is want of memory.
+/// `NoCandidate`, exactly if none of a server's replicas may be promoted at a moment. `Err` means out of memory.
 pub fn without_candidate(
     alloc: Global,
     book: &Book,

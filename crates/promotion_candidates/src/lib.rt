@@ -5,5 +5,5 @@ mod candidates;
 
 pub use candidates::{has_candidate, is_candidate, without_candidate};
 use permission::{book_views, commands, instance_keeper_items, orch_base, server_model};
-/// Want of memory.
+/// Out of memory.
 pub use permission::orch_base::Memory;

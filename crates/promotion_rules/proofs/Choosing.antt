@@ -17,7 +17,7 @@ use Rattle.promotion_rules.specs.Choice.{advance_order, coord_order, first_by, n
 use Rattle.promotion_rules.specs.Chosen.{HasExecutedMost, IsChoice}
 use Rattle.promotion_rules.proofs.Firsts.{All-first, first_is_least, no_first}
 
--- what is filtered is empty exactly where nothing passes
+-- what is filtered is empty exactly if nothing passes
 pub none-filtered : {X : Type 0} (p : X → Bool) (xs : List X) → filter p xs ≡ [] → All (λ x. p x ≡ false) xs
 none-filtered p [] e = All-nil (λ x. p x ≡ false)
 none-filtered {X} p (x ∷ xs) e = go (p x) refl e (none-filtered p xs)
@@ -90,7 +90,7 @@ not-less Less s e = e
 not-less Equal s e = refl
 not-less Greater s e = refl
 
--- who stands first has executed most
+-- who comes first has executed most
 pub first-furthest : (names : List HostPort) (p : Drained → Bool) (list : List Drained) (n : ServerNo) → IsChoice (advance_order names) p list n → HasExecutedMost p list n
 first-furthest names p list n (k, d, within, at, is) = (
   k,

@@ -36,7 +36,7 @@ module _ {X : Type 0} (p : X → Bool) where
       go true g rest = subst P (same_Some x y g) (All-head P x xs all)
       go false g rest = rest g
 
-  -- where nothing is found nothing passes
+  -- if nothing is found nothing passes
   pub none_passes : (xs : List X) → find p xs ≡ None → All (λ x. p x ≡ false) xs
   none_passes [] e = All-nil (λ x. p x ≡ false)
   none_passes (x ∷ xs) e = go (p x) refl e (none_passes xs)
@@ -61,7 +61,7 @@ module _ {X : Type 0} (p : X → Bool) where
   pass_all (x ∷ xs) all =
       ap (λ b. b && list_all p xs) (All-head (λ y. p y ≡ true) x xs all) ∙ pass_all xs (All-tail (λ y. p y ≡ true) x xs all)
 
-  -- a stricter test finds the same where what was found passes it too
+  -- a stricter test finds the same if what was found passes it too
   still_found : (q : X → Bool) → ((x : X) → p x ≡ false → q x ≡ false) → (xs : List X) (y : X) → find p xs ≡ Some y → q y ≡ true → find q xs ≡ Some y
   still_found q stricter [] y e h = cc
   still_found q stricter (x ∷ xs) y e h = go (p x) refl e (λ g. still_found q stricter xs y g h)
@@ -74,7 +74,7 @@ Contains-there : {X : Type 0} (x : X) (xs : List X) (y : X) → Contains xs y �
 Contains-there x xs y (k, within, at) = (suc k, omega (arith, within), at)
 
 module _ {X : Type 0} (R : X → X → Ordering) where
-  -- none of a list stands before it
+  -- none of a list is before it
   abbrev pub IsLeast : List X → X → Type 0
   IsLeast xs x = All (λ y. is_lt (R y x) ≡ false) xs
 
@@ -89,7 +89,7 @@ module _ {X : Type 0} (R : X → X → Ordering) where
   stays_least xs x e =
       All-weaker (λ y. not (is_lt (R y x)) ≡ true) (λ y. is_lt (R y x) ≡ false) (λ y. not-false (is_lt (R y x))) xs (all_pass (λ y. not (is_lt (R y x))) xs e)
 
-  -- the first is one of the list, and none of the list stands before it
+  -- the first is one of the list, and none of the list is before it
   pub All-first : (P : X → Type 0) (xs : List X) (x : X) → All P xs → first_by R xs ≡ Some x → P x
   All-first P xs x all e = All-found (stays xs) P xs x all e
 
@@ -133,7 +133,7 @@ module _ {X : Type 0} (R : X → X → Ordering) where
     stays_push : (xs : List X) (x y : X) → stays (xs ++ x ∷ []) y ≡ (stays xs y && (not (is_lt (R x y)) && true))
     stays_push xs x y = list_all-append (λ z. not (is_lt (R z y))) xs (x ∷ [])
 
-    -- one more: it is the first where it stands before the first so far
+    -- one more: it is the first if it is before the first so far
     pub first_by-push : (xs : List X) (x : X) → first_by R (xs ++ x ∷ []) ≡ cond (comes_first R x (first_by R xs)) (Some x) (first_by R xs)
     first_by-push xs x = go (first_by R xs) refl
       where

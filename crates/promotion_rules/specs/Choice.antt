@@ -11,7 +11,7 @@ use Rattle.binlog_coords.specs.OrchBase.declared.server.ServerNo.{ServerNo}
 use Rattle.name_order.specs.NameOrder.{named, order_of}
 use Rattle.promotion_rules.specs.declared.drained.Drained.{Drained}
 
--- ---- orders: what stands first
+-- ---- orders: what is first
 
 -- by file, then by position
 abbrev pub coord_order : Coord → Coord → Ordering
@@ -23,7 +23,7 @@ precedence rule.Neutral = 1
 precedence rule.PreferNot = 2
 precedence rule.MustNot = 3
 
--- of one rule, those that stand in the failed server's data centre come first
+-- of one rule, those that are in the failed server's data centre come first
 abbrev pub rank : Drained → ℕ
 rank d = 2 * precedence d.rule + (if d.near then 0 else 1)
 
@@ -45,11 +45,11 @@ advance_order names a b = ordering_then (coord_order b.exec a.exec) (nearer_orde
 
 -- ---- choices
 
--- the first of a list that none of it stands before
+-- the first of a list that none of it is before
 abbrev pub first_by : {X : Type 0} → (X → X → Ordering) → List X → Option X
 first_by order xs = find (λ x. list_all (λ y. not (is_lt (order y x))) xs) xs
 
--- whether one more stands before the first so far
+-- whether one more is before the first so far
 abbrev pub comes_first : {X : Type 0} → (X → X → Ordering) → X → Option X → Bool
 comes_first order x None = true
 comes_first order x (Some y) = is_lt (order x y)

@@ -1,4 +1,4 @@
--- What a choice is, in words that don't tell how it is found.
+-- What a choice is, without how it is found.
 use Rattle.std.specs.Prelude.{◌≡◌, All, Any, Bool, true, false, List}
 use Rattle.std.specs.Ordering.{is_lt}
 use Rattle.std.specs.declared.cmp.Ordering.{Ordering}
@@ -6,7 +6,7 @@ use Rattle.binlog_coords.specs.Log.{is_before}
 use Rattle.binlog_coords.specs.OrchBase.declared.server.ServerNo.{ServerNo}
 use Rattle.promotion_rules.specs.declared.drained.Drained.{Drained}
 
--- the replica has this number and passes, and none of the list that passes stands before it
+-- the replica has this number and passes, and none of the list that passes is before it
 pub record IsFirst (order : Drained → Drained → Ordering) (test : Drained → Bool) (list : List Drained) (n : ServerNo) (d : Drained) : Type 0 where
   pub named : d.no ≡ n
   pub passes : test d ≡ true

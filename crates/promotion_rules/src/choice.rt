@@ -27,7 +27,7 @@ fn precedence(rule: Rule) -> u8
     }
 }
 
-// Its rank: by its rule, then by whether it stands in the failed server's data centre.
+// Its rank: by its rule, then by whether it is in the failed server's data centre.
 fn rank(drained: &Drained) -> u8
     ensures { result ≡ rank drained.now }
 {
@@ -79,7 +79,7 @@ fn is_better(of: &Drained, drained: &Drained) -> bool
     drained.logs && compare_ranks(drained, of) == Ordering::Less
 }
 
-// Whether it may be promoted, and stands before the first so far.
+// Whether it may be promoted, and is before the first so far.
 fn leads(names: &[Name], one: &Drained, first: Option<Drained>) -> bool
     requires one { one.now.no.0 < length names.now }
     requires first { ForSome first (λ d. d.no.0 < length names.now) }
@@ -93,7 +93,7 @@ fn leads(names: &[Name], one: &Drained, first: Option<Drained>) -> bool
         }
 }
 
-// Whether it may take the place of the promoted one, and stands before the first so far.
+// Whether it may take the place of the promoted one, and is before the first so far.
 fn replaces(names: &[Name], of: &Drained, one: &Drained, first: Option<Drained>) -> bool
     requires one { one.now.no.0 < length names.now }
     requires first { ForSome first (λ d. d.no.0 < length names.now) }
@@ -107,10 +107,10 @@ fn replaces(names: &[Name], of: &Drained, one: &Drained, first: Option<Drained>)
         }
 }
 
-/// The replica that is promoted: among those that log and may be promoted, the one that has executed most of the failed
-/// server's log; of several such ones one of the lowest rank, then the first by name. The rank is the better rule's,
-/// and of one rule that of those in the failed server's data centre. None exactly where none logs and may be promoted.
-/// `names` are the servers' names by number. It takes no memory.
+/// The replica that is promoted, among those that log and may be promoted. It has executed most of the failed server's
+/// log. If several have, it has the lowest rank, and then it is the first by name. The better rule has the lower rank,
+/// and of one rule the failed server's data centre. `None` exactly if none logs and may be promoted. `names` are the
+/// servers' names by number. It takes no memory.
 pub fn most_advanced(list: &[Drained], names: &[Name]) -> Option<ServerNo>
     requires { All (λ d. d.no.0 < length names.now) list.now }
     ensures { result ≡ most_advanced names.now list.now }
@@ -124,9 +124,9 @@ pub fn most_advanced(list: &[Drained], names: &[Name]) -> Option<ServerNo>
     first.map(|drained| drained.no)
 }
 
-/// The follower that takes the promoted one's place: among those that log and have a strictly lower rank than `of`, the
-/// promoted one, one of the lowest rank; of several such ones the first by name. None exactly where none logs and has a
-/// strictly lower rank. `names` are the servers' names by number. It takes no memory.
+/// The follower that takes the promoted one's place, among those that log and have a strictly lower rank than `of`, the
+/// promoted one. It has the lowest rank, and of several such ones it is the first by name. `None` exactly if none logs
+/// and has a strictly lower rank. `names` are the servers' names by number. It takes no memory.
 pub fn better(of: &Drained, followers: &[Drained], names: &[Name]) -> Option<ServerNo>
     requires { All (λ d. d.no.0 < length names.now) followers.now }
     ensures { result ≡ better names.now of.now followers.now }

@@ -10,12 +10,12 @@ pub struct Drained {
     pub no: ServerNo,
     /// How far it has executed the failed server's log.
     pub exec: Coord,
-    /// The end of its own binary log: none where it doesn't log.
+    /// The end of its own binary log: none if it doesn't log.
     pub own_end: Option<Coord>,
     /// Its rule of promotion.
     pub rule: Rule,
     /// Whether it writes a binary log.
     pub logs: bool,
-    /// Whether it stands in the failed server's data centre.
+    /// Whether it is in the failed server's data centre.
     pub near: bool,
 }

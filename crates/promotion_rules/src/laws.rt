@@ -8,8 +8,8 @@ ghost use Rattle.promotion_rules.specs.Choice.{advance_order, better, is_better,
 ghost use Rattle.promotion_rules.specs.Chosen.{HasExecutedMost, IsChoice};
 ghost use Rattle.promotion_rules.specs.declared.drained.Drained.{Drained as ADrained};
 
-/// The most advanced is one of the drained replicas that log and may be promoted, and none of these stands before it,
-/// so none of them has executed more. There is none exactly where none of them logs and may be promoted.
+/// The most advanced is one of the drained replicas that log and may be promoted. None of these is before it, so none
+/// of them has executed more. There is none exactly if none of them logs and may be promoted.
 pub fn most_advanced_is_the_first()
     ensures chosen { (names : List HostPort) (list : List ADrained) (n : Number) →
         most_advanced names list ≡ Some n → IsChoice (advance_order names) is_eligible list n }
@@ -19,8 +19,8 @@ pub fn most_advanced_is_the_first()
         (most_advanced names list ≡ None) ↔ All (λ d. is_eligible d ≡ false) list }
 {}
 
-/// The better one is one of the followers that log and have a strictly lower rank than the promoted one, and none of
-/// these stands before it. There is none exactly where none of them logs and has a strictly lower rank.
+/// The better one is one of the followers that log and have a strictly lower rank than the promoted one. None of these
+/// is before it. There is none exactly if none of them logs and has a strictly lower rank.
 pub fn better_is_the_first()
     ensures chosen { (names : List HostPort) (of : ADrained) (followers : List ADrained) (n : Number) →
         better names of followers ≡ Some n →
@@ -29,15 +29,15 @@ pub fn better_is_the_first()
         (better names of followers ≡ None) ↔ All (λ d. is_better of d ≡ false) followers }
 {}
 
-/// Of any two drained replicas one stands first, whatever their names.
+/// Of any two drained replicas one comes first, whatever their names.
 pub fn orders_are_total()
     ensures advance { (names : List HostPort) → IsTotalOrder (advance_order names) }
     ensures nearer { (names : List HostPort) → IsTotalOrder (nearer_order names) }
 {}
 
-/// A better rule stands before a worse one, wherever the two stand; of one rule, the one that stands in the failed
-/// server's data centre stands first; and where both stand there, or neither does, they are ordered by their rules and
-/// then by name alone.
+/// A better rule comes before a worse one, in whatever data centres the two are. Of one rule, the one in the failed
+/// server's data centre comes first. If both are there, or neither is, they are ordered by their rules and then by name
+/// alone.
 pub fn ranks_go_by_rule_first()
     ensures rule { (a b : ADrained) → precedence a.rule < precedence b.rule → rank a < rank b }
     ensures near { (a b : ADrained) → a.rule ≡ b.rule → a.near ≡ true → b.near ≡ false →

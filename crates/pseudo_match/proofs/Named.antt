@@ -1,4 +1,4 @@
--- The operations of a plan, and the leases, are of the book's servers, where the command's instances are.
+-- The operations of a plan, and the leases, are of the book's servers, if the command's instances are.
 use Rattle.std.proofs.Common.{◌≡◌, ℕ, ◌<◌, true, List, [], ◌∷◌, length, refl, Option, Some, None}
 use Rattle.std.specs.Prelude.{All, IsTrue}
 use Rattle.pseudo_match.proofs.Prelude.{All-append, AllWithin, BookState, Command, Follows, IsBook, PseudoCommand, ServerNo, Within, about-is}

@@ -1,4 +1,4 @@
--- The commands that take servers below another one where their logs match.
+-- The commands that take servers below another one if their logs match.
 use Rattle.std.specs.Prelude.{Bool, true, false, Option, Some, None}
 use Rattle.permission.specs.Commands.declared.name.CommandName.{CommandName}
 use Rattle.command_routes.specs.declared.kinds.MatchCommand.TheVariants as matching

@@ -23,15 +23,14 @@ use Rattle.pseudo_match.specs.Commands.{pseudo_command}
 abbrev pub match_row : List Check
 match_row = SameInstance ∷ Busy ∷ Unreachable ∷ OtherCluster ∷ Below ∷ DestNotLogging ∷ SameServerId ∷ VersionLower ∷ []
 
--- the row of a command, behind the check that its instances are known and before its own one
+-- the row of a command, after the check that its instances are known and before its own one
 abbrev pub row_of : PseudoCommand → List Check
 row_of command.Match = match_row
 row_of command.MatchUp = Busy ∷ Unreachable ∷ NoSource ∷ AlreadyDetached ∷ SourceHasNoSource ∷ DestNotLogging ∷ SameServerId ∷ VersionLower ∷ []
 row_of command.MatchReplicas = match_row
 row_of command.RegroupReplicas = Busy ∷ []
 
--- the checks of marks, of servers that move and of replicas that are regrouped, where there are none and where there
--- are
+-- the checks of marks, of servers that move and of replicas that are regrouped, if there are none and if there are
 abbrev pub moved_row : Bool → List Check
 moved_row true = PseudoOff ∷ MovedNotLogging ∷ []
 moved_row false = MovedNotLogging ∷ []
@@ -46,7 +45,7 @@ marks_row none command.MatchUp = moved_row none
 marks_row none command.MatchReplicas = moved_row none
 marks_row none command.RegroupReplicas = regrouped_row none
 
--- the row behind a command's own check: there are no marks at the distance 0
+-- the row after a command's own check: there are no marks at the distance 0
 abbrev pub last_row_of : ℕ → PseudoCommand → List Check
 last_row_of every c = marks_row (every == 0) c
 
@@ -72,11 +71,11 @@ own_refusal w b now command.RegroupReplicas i = without_candidate w b now i
 abbrev pub row_refusal : World → BookState → PseudoCommand → ServerNo → Option ServerNo → Option Refusal
 row_refusal w b c i d = first_refusal w b (case_of b c i d) (row_of c)
 
--- the first check behind a command's own that doesn't pass
+-- the first check after a command's own that doesn't pass
 abbrev pub last_refusal : World → BookState → ℕ → PseudoCommand → ServerNo → Option ServerNo → Option Refusal
 last_refusal w b every c i d = first_refusal w b (case_of b c i d) (last_row_of every c)
 
--- what refuses a command behind its row
+-- what refuses a command after its row
 abbrev pub rest_refusal : World → BookState → Moment → ℕ → PseudoCommand → ServerNo → Option ServerNo → Option Refusal
 rest_refusal w b now every c i d = option_or (own_refusal w b now c i) (last_refusal w b every c i d)
 

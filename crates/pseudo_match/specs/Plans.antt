@@ -32,6 +32,6 @@ ops_of b every command.MatchUp i d = moved i every (source_above b i)
 ops_of b every command.MatchReplicas i d = replicas_moved (replicas_but b i d) every d
 ops_of b every command.RegroupReplicas i d = []
 
--- the operations of one of these commands, where nothing refuses it, with marks at this distance
+-- the operations of one of these commands, if nothing refuses it, with marks at this distance
 abbrev pub plan_of : BookState → ℕ → Command → List Op
 plan_of b every given = about [] (ops_of b every) (pseudo_command given.name) given

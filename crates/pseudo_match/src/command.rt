@@ -6,7 +6,7 @@ ghost use Rattle.pseudo_match.specs.Commands.{pseudo_command};
 use crate::commands::CommandName;
 use command_routes::{MatchCommand, Planner, Regrouping, Route};
 
-/// A command that takes servers below another one where their logs match, or sets a server's replicas in order so
+/// A command that takes servers below another one if their logs match, or sets a server's replicas in order so
 /// (orchestrator's documentation, "Pseudo GTID").
 #[derive(Clone, Copy, Debug, PartialEq, Eq)]
 pub enum PseudoCommand {

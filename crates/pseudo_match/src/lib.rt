@@ -1,5 +1,5 @@
-//! The commands that take servers below another one where their logs match (Pseudo-GTID): what refuses each, of which
-//! servers its job takes the leases, and the plans of those whose operations are known before.
+//! The commands that take servers below another one if their logs match (Pseudo-GTID). It has what refuses each, of
+//! which servers its job takes the leases, and the plans of those whose operations are known before.
 #![tactic(auto)]
 
 mod command;
@@ -11,7 +11,7 @@ use permission::{
     book_views, commands, instance_keeper_items, operations_items, orch_base, server_model,
     topology_tree,
 };
-/// Want of memory.
+/// Out of memory.
 pub use permission::PermitFault;
 pub use permission::orch_base::Memory;
 pub use permits::{leases, permit};

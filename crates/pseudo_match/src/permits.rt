@@ -64,7 +64,7 @@ const MOVED_WITHOUT_MARKS: [Check; 2] = [Check::PseudoOff, Check::MovedNotLoggin
 
 const REGROUPED_WITHOUT_MARKS: [Check; 1] = [Check::PseudoOff];
 
-// The checks behind a command's own one.
+// The checks after a command's own one.
 fn last_row_of(every: u64, command: PseudoCommand) -> &'static [Check]
     ensures { result.now ≡ last_row_of every command }
 {
@@ -170,8 +170,8 @@ fn refusal_about(
     )
 }
 
-/// Refuses one of these commands with the refusal of the lowest number that applies, where each transaction is a mark
-/// whose number is divisible by `every`, and none where that is 0. It goes by the book with its rules of promotion at a
+/// Refuses one of these commands with the refusal of the lowest number that applies. Each transaction is a mark whose
+/// number is divisible by `every`, and none is if that is 0. It goes by the book with its rules of promotion at a
 /// moment and the servers' settings, and changes nothing.
 pub fn permit(
     alloc: Global,
@@ -196,8 +196,8 @@ pub fn permit(
     answered(refusal_about(alloc, book, forest, world, kind, i, command.d, now, every)?)
 }
 
-/// The servers of which the job of one of these commands takes the leases: servers of the book, where the command's
-/// instances are. `Err` is want of memory.
+/// The servers of which the job of one of these commands takes the leases: servers of the book, if the command's
+/// instances are. `Err` means out of memory.
 pub fn leases(alloc: Global, book: &Book, command: Command) -> Result<Vec<ServerNo>, Memory>
     requires { IsSome (pseudo_command command.name) }
     ensures list { IfOk result (λ list. list.items ≡ leased_by book.now command) }

@@ -74,9 +74,9 @@ fn plan_of(alloc: Global, book: &Book, command: Command, every: u64) -> Result<V
 }
 
 /// The operations of `match`, `match-up` or `match-replicas`, ended by its lines: `r<d` of each server that moves, in
-/// name order. Each transaction is a mark whose number is divisible by `every`. Of a command that is refused for want
-/// of a destination there are none. Where the command's instances are servers of the book, so are all servers of the
-/// operations. `Err` is want of memory.
+/// name order. Each transaction is a mark whose number is divisible by `every`. A command that is refused because it
+/// has no destination has none. If the command's instances are servers of the book, so are all servers of the
+/// operations. `Err` means out of memory.
 pub fn plan(
     alloc: Global,
     book: &Book,

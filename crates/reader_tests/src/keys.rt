@@ -51,7 +51,7 @@ fn is_find(turn: &CommandTurn) -> bool {
         && is_found(pattern, "3306$", [true, false, true])
 }
 
-// Whether this list is the command `FIND`, where these are the servers.
+// Whether this list is the command `FIND`, if these are the servers.
 fn is_kept(alloc: Global, servers: &[Value], rest: &[Value]) -> Result<bool, ReadFault> {
     if servers.len() > 1000 {
         return Ok(false);

@@ -1,6 +1,5 @@
-//! Tests of the calls that read scenarios, their values, servers and commands, and the words of the command line: one
-//! of each call with ample memory, and what no run of the program shows. What runs show stands in the repository's
-//! cases.
+//! Tests of the calls that read scenarios, their values, servers and commands, and the command line. There is one of
+//! each call with ample memory, and what no run of the program has. What runs have is in the repository's cases.
 #![tactic(auto)]
 
 #[cfg(test)]

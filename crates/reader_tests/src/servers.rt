@@ -60,7 +60,7 @@ fn are_default(master: &Given, replica: &Given) -> bool {
         && (place(master), place(replica)) == ((1, ""), (3, "west"))
 }
 
-// Whether the two servers of `TWO` have what is given, or else what stands for it.
+// Whether the two servers of `TWO` have what is given, or else what differs.
 fn have_defaults(alloc: Global) -> Result<bool, ReadFault> {
     let Ok(value) = Value::from_str(alloc, TWO) else {
         return Ok(false);

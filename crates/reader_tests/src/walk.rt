@@ -7,7 +7,7 @@ use crate::scenarios_items::Scenario;
 use scenario_reader::read;
 use std::alloc::Global;
 
-// A code, where the text of so many spaces has a fault.
+// A code, if the text of so many spaces has a fault.
 fn code_of(alloc: Global, len: usize) -> Result<Option<FaultCode>, Memory> {
     let bytes = vec![in alloc; b' '; len]?;
     match read(alloc, &bytes) {

@@ -9,7 +9,7 @@ use Rattle.recovery_core.proofs.Prelude.{length-range_with_len, none-passes, opt
 use Rattle.recovery_core.proofs.Prelude.Analysis.{entry_of}
 
 module _ (b : BookState) where
-  -- an entry stands for its server
+  -- an entry has its server's number
   abbrev IsEntryAt : Entry → Type 0
   IsEntryAt e = entry_at b e.no ≡ Some e
 

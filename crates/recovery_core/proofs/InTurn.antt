@@ -10,13 +10,13 @@ use Rattle.recovery_core.proofs.Beginning.{recovery-begins}
 use Rattle.recovery_core.proofs.Entries.{actionable-entries}
 use Rattle.recovery_core.proofs.Steps.{length-taken}
 
--- what begins where this refuses it
+-- what begins if this refuses it
 abbrev begun_by : Option Refusal → Begins → List Begins
 begun_by None x = x ∷ []
 begun_by (Some r) x = []
 
 module _ (w : World) (b : BookState) (by : ServerNo → Attempt) (wait : ℕ) where
-  -- what refuses an entry, and what begins where nothing does
+  -- what refuses an entry, and what begins if nothing does
   abbrev refusal_at : Staged → Entry → Option Refusal
   refusal_at s e = staged_refusal w b (by e.no) s e.no
 
@@ -180,7 +180,7 @@ module _ (w : World) (b : BookState) (by : ServerNo → Attempt) (wait : ℕ) wh
             (unasked (action_of x.code) (All-head (λ (e : Entry). action_of e.code ≡ Nothing) x xs all))
             ∙ none-asked xs (All-tail (λ (e : Entry). action_of e.code ≡ Nothing) x xs all)
 
--- ---- audits stay apart
+-- ---- the recoveries of an audit still don't overlap
 
 pub apart-after : (count : ℕ) (leases : List (Option ℕ)) (audit : AuditState) (last : ℕ) (xs : List Begins) → BeginInTurn count leases audit last xs → IsApart audit
     → IsApart (audit_after audit xs)

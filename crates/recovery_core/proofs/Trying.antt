@@ -1,4 +1,4 @@
--- What refuses a try, and what may begin where nothing does.
+-- What refuses a try, and what may begin if nothing does.
 pub use Rattle.std.proofs.lemmas.Result.{on_ok_weaker as on-ok}
 use Rattle.std.proofs.Common.{◌≡◌, ℕ, ◌<◌, ◌≤◌, Bool, List, length, refl, sym, ◌∙◌, ap, subst, Option, Some, None, Result, Ok, Err}
 use Rattle.std.specs.Prelude.{All, slice_index_or}

@@ -11,8 +11,8 @@ IsListed list n = list_any (λ k. k.0 == n) list ≡ true
 abbrev pub IsFresh : Recovery → Type 0
 IsFresh r = r ≡ begun_recovery r.purpose r.means r.core.id r.core.wait r.failed r.replicas r.order
 
--- A recovery can begin over so many servers, on these leases and this audit, after the job of this number: its list has
--- the failed server, its replicas and what its purpose lets it change, of which nobody has a lease; its entry has no
+-- A recovery can begin over so many servers, on these leases and this audit, after the job of this number. Its list has
+-- the failed server, its replicas and what its purpose lets it change, of which nobody has a lease. Its entry has no
 -- end.
 pub record CanBegin (count : ℕ) (leases : List (Option ℕ)) (audit : AuditState) (last : ℕ) (x : Begins) : Type 0 where
   pub within : All (λ n. n.0 < count) x.list

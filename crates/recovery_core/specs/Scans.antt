@@ -20,7 +20,7 @@ pub record IsEntryIn (b : BookState) (e : Entry) : Type 0 where
   pub within : e.no.0 < length b.names
   pub code : code_at b e.no ≡ Some e.code
 
--- no operator asks for a scan's recoveries; the filters' answers stand by server number, the block periods by the
+-- no operator asks for a scan's recoveries; the filters' answers are by server number, the block periods by the
 -- clusters' labels
 abbrev pub attempt_of : List Bool → List Bool → (List ℕ → ℕ) → BookState → Terms → ServerNo → Attempt
 attempt_of masters intermediates period b t n = record {
@@ -33,7 +33,7 @@ attempt_of masters intermediates period b t n = record {
 }
 
 -- how far a scan has come: the leases and the audit with what it has begun, the number of the last job, and what it
--- tells and begins, in order
+-- answers and begins, in order
 pub record Staged : Type 0 where
   pub leases : List (Option ℕ)
   pub audit : AuditState
@@ -64,7 +64,7 @@ after_try s e (Ok x) = record {
 }
 after_try s e (Err r) = record s { lines = s.lines ++ line.Refused e.no e.code r ∷ [] }
 
--- as it is tried where a scan has come so far
+-- as it is tried if a scan has come so far
 abbrev pub staged_refusal : World → BookState → Attempt → Staged → ServerNo → Option Refusal
 staged_refusal w b a s f = recovery_refusal w (record b { leases = s.leases }) s.audit a f
 

@@ -9,8 +9,8 @@ use Rattle.recovery_core.specs.Prelude.kind
 use Rattle.recovery_core.specs.Prelude.means
 use Rattle.recovery_core.specs.Prelude.purpose
 
--- What begins: the servers of which the job takes the leases, the job, its entry in the audit, the analysis of the
--- failed server, of which hooks are told, none for a takeover, which runs no hooks; and its hooks, once they are told.
+-- What begins: the servers of which the job takes the leases, the job, and its entry in the audit. Then the analysis of
+-- the failed server for the hooks, which a takeover hasn't, because it runs none. Last its hooks, with their values.
 pub record Begins : Type 0 where
   pub list : List ServerNo
   pub job : Recovery
@@ -50,7 +50,7 @@ recovery_begins b audit now block wait job f = record {
   hooks = None;
 }
 
--- a replica's takeover of a master's place; it tells of the master, too
+-- a replica's takeover of a master's place; it reports the master, too
 abbrev pub takeover_begins : BookState → AuditState → Moment → ℕ → ℕ → ℕ → ServerNo → ServerNo → Begins
 takeover_begins b audit now block wait job i d = record {
   list = recovery_list b i;
@@ -71,7 +71,7 @@ recovery_try w b audit a wait job f = unless_refused (recovery_refusal w b audit
 abbrev pub takeover_try : World → BookState → AuditState → Attempt → ℕ → ℕ → ServerNo → ServerNo → Result Begins Refusal
 takeover_try w b audit a wait job i d = unless_refused (takeover_refusal w b audit a i d) (takeover_begins b audit a.now a.block wait job i d)
 
--- where a replica is given
+-- if a replica is given
 abbrev pub given_try : World → BookState → AuditState → Attempt → ℕ → ℕ → ServerNo → Option ServerNo → Result Begins Refusal
 given_try w b audit a wait job i None = Err UnknownInstance
 given_try w b audit a wait job i (Some d) = takeover_try w b audit a wait job i d

@@ -19,9 +19,9 @@ use std::alloc::Global;
 /// With what the recovery of a server, or the takeover of its place, is asked to begin. Moments are at most 2^63.
 #[derive(Clone, Copy)]
 pub struct Ask<'a> {
-    /// Of the servers their settings are read.
+    /// The world: only the servers' settings are read.
     pub world: &'a World,
-    /// Of the servers of this world.
+    /// The book that it goes by, of the servers of this world.
     pub book: &'a Book,
     /// The forest of this book.
     pub forest: &'a Forest,
@@ -41,8 +41,8 @@ pub struct Ask<'a> {
     pub failed: ServerNo,
     /// The replica that is to take the master's place.
     pub designated: Option<ServerNo>,
-    /// For how many seconds it blocks others of its cluster once it is begun, unless it is acknowledged: the period of
-    /// its cluster, at most 1,000,000,000.
+    /// For how many seconds it blocks others of its cluster once it is begun, unless it is acknowledged. It is the
+    /// period of its cluster, at most 1,000,000,000.
     pub block: u64,
     /// How often each of its operations may wait.
     pub wait: u32,
@@ -69,7 +69,7 @@ impl Ask<'_> {
 }
 
 /// What begins as it is asked for, or the refusal of the lowest number that applies. It changes nothing: the caller
-/// takes the leases and begins the entry in the audit in the same turn. `Memory` comes, too, where the audit has no id
+/// takes the leases and begins the entry in the audit in the same turn. `Memory` comes, too, if the audit has no id
 /// left.
 pub fn try_begin(alloc: Global, ask: &Ask<'_>) -> Result<Begun, PermitFault>
     requires failed { ask.now.failed.0 < length ask.now.book.now.names }

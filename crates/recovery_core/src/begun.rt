@@ -8,9 +8,9 @@ use recovery_hooks::HookRun;
 use recovery_turns::RecoveryJob;
 use std::marker::Model;
 
-/// A recovery, or a takeover, that may begin: the servers of which its job takes the leases, the job, its entry in the
-/// audit, the analysis of the failed server, of which hooks are told, none for a takeover, which runs no hooks; and its
-/// hooks, once they are told.
+/// A recovery, or a takeover, that may begin: the servers of which its job takes the leases, the job, and its entry in
+/// the audit. Then the analysis of the failed server for the hooks, which a takeover hasn't, because it runs none. Last
+/// its hooks, with their values.
 #[derive(Drop)]
 pub struct Begun {
     list: Vec<ServerNo>,
@@ -67,7 +67,7 @@ impl Begun {
         &self.entry
     }
 
-    /// The analysis of the failed server, of which hooks are told: none where none run.
+    /// The analysis of the failed server, for the hooks: none if none run.
     pub fn code(&self) -> Option<Code>
         ensures { result ≡ self.now.code }
     {

@@ -1,4 +1,4 @@
-//! What the analysis says of the instances of a book.
+//! The analysis of the instances of a book.
 
 ghost use Rattle.std.specs.Prelude.{◌≡◌, ◌<◌, ◌==◌, All, IfOk, filter, find, length, option_map};
 ghost use Rattle.recovery_core.specs.Prelude.{action_of, code_at};

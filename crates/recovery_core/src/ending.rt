@@ -17,9 +17,9 @@ fn done_with(promoted: Option<ServerNo>) -> Ending
     }
 }
 
-/// How the entry of a recovery with this promoted server ends after a turn that came to this step: not while the
-/// recovery goes on; with the promoted server where it is done, and as without a candidate where none was promoted; and
-/// by the cause's name where it failed. It takes no memory.
+/// How the entry of a recovery with this promoted server ends after a turn that came to this step. While the recovery
+/// goes on it doesn't end. If it is done, it ends with the promoted server, or without a candidate if none was
+/// promoted. If it failed, it ends with the cause's name. It takes no memory.
 pub fn ending_of(promoted: Option<ServerNo>, step: &JobStep) -> Option<Ending>
     ensures { result ≡ ending_with promoted step.now }
 {

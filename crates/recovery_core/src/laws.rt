@@ -61,8 +61,8 @@ pub fn scans_begin_in_turn()
         All (λ x. x.entry.block ≡ period x.entry.cluster) (scanned w b audit by wait last).begun }
 {}
 
-/// An audit that is apart stays apart through what begins: one that can, and each of several in turn. The next id never
-/// sinks.
+/// Recoveries of an audit that don't overlap stay so through what begins: one that can, and each of several in turn.
+/// The next id never sinks.
 pub fn begins_keep_audits_apart()
     ensures one { (count : ℕ) (leases : List (Option ℕ)) (audit : AuditState) (last : ℕ)
         (x : Begins) →
@@ -78,8 +78,8 @@ pub fn begins_keep_audits_apart()
         (wait last : ℕ) → audit.next ≤ (scanned w b audit by wait last).audit.next }
 {}
 
-/// A try that is refused leaves where a scan has come as it was, and tells the refusal. A scan of a book whose analysis
-/// asks for no recovery tells and begins nothing.
+/// A try that is refused leaves a scan as it was, and answers the refusal. A scan of a book whose analysis asks for no
+/// recovery answers and begins nothing.
 pub fn refused_tries_begin_nothing()
     ensures refused { (w : World) (b : BookState) (a : AnAttempt) (wait : ℕ) (s : Staged)
         (e : AnEntry) (why : ARefusal) →
@@ -91,8 +91,8 @@ pub fn refused_tries_begin_nothing()
         scanned w b audit by wait last ≡ from_start b audit last }
 {}
 
-/// The end of a recovery says how it ended, and leaves the audit apart; while the recovery goes on there is none. Just
-/// a takeover is acknowledged so, and none that goes on.
+/// The end of a recovery has its outcome, and leaves the audit's recoveries not overlapping. While the recovery goes on
+/// there is none. Exactly a takeover is acknowledged so, and none that goes on.
 pub fn endings_close_entries()
     ensures closed { (r : Recovery) (s : AStep) (e : Ending) →
         ending_of r s ≡ Some e → is_open e ≡ false }

@@ -24,7 +24,7 @@ use recovery_permits::{
     audit_log, book_views, commands, failure_analysis, instance_keeper_items, operations_items,
     orch_base, permission_items, recovery_plans_items, server_model, topology_tree,
 };
-/// Want of memory.
+/// Out of memory.
 pub use recovery_permits::orch_base::Memory;
 pub use recovery_permits::permission_items::PermitFault;
 pub use scanning::{Terms, scan};

@@ -59,11 +59,11 @@ fn attempt_of<P: Periods>(
     }
 }
 
-/// Tries a recovery of each instance whose analysis asks for one, in name order, each on the leases and the audit that
-/// the tries before it left, and with the next number after the last job. The filters' answers for recoveries of
-/// masters and of intermediate masters stand by server number, the block periods by the clusters' labels. It changes
-/// nothing. Moments are at most 2^63, and block periods at most 1,000,000,000 seconds. `Memory` comes, too, where no
-/// number is left for a job, or no id in the audit.
+/// Tries a recovery of each instance whose analysis asks for one, in name order. Each is tried on the leases and the
+/// audit that the tries before it left, and with the next number after the last job. The filters' answers for
+/// recoveries of masters and of intermediate masters are by server number, the block periods by the clusters' labels.
+/// It changes nothing. Moments are at most 2^63, and block periods at most 1,000,000,000 seconds. `Memory` comes, too,
+/// if no number is left for a job, or no id in the audit.
 pub fn scan<P: Periods>(
     alloc: Global,
     book: &Book,

@@ -53,7 +53,7 @@ fn take(leases: &mut [Option<u64>], servers: &[ServerNo], job: u64)
     }
 }
 
-/// What a scan tells of each instance whose analysis asks for a recovery, in name order, and the recoveries that may
+/// The scan's answer for each instance whose analysis asks for a recovery, in name order. Also the recoveries that may
 /// begin, each after those before it.
 #[derive(Drop)]
 pub struct Scan {
@@ -64,7 +64,7 @@ pub struct Scan {
 }
 
 /// How far a scan has come: the leases and the audit with what it has begun, the number of the last job, and what it
-/// tells and begins.
+/// answers and begins.
 #[derive(Drop)]
 pub(crate) struct Stage {
     leases: Vec<Option<u64>>,

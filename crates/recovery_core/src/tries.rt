@@ -17,7 +17,8 @@ use recovery_permits::{permit_recovery, recovery_purpose, recovery_servers};
 use recovery_turns::RecoveryJob;
 use std::alloc::Global;
 
-/// The entry of a recovery that begins, with this block period. Where the audit has no id left, memory wants.
+/// The entry of a recovery that begins, with this block period. `Err` means out of memory. It also comes if the audit
+/// has no id left.
 pub(crate) fn entry_of(
     alloc: Global,
     book: &Book,
@@ -57,8 +58,8 @@ fn recovery_kind(book: &Book, failed: ServerNo) -> Kind
     }
 }
 
-/// The recovery of a server with this analysis, with the servers of which it takes the leases and its replicas, as the
-/// job of this number, whose operations may wait so often each.
+/// The recovery of a server with this analysis, as the job of this number, whose operations may wait so often each. It
+/// has the servers of which it takes the leases, and its replicas.
 pub(crate) fn recovery_begins(
     alloc: Global,
     book: &Book,

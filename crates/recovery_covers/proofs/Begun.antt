@@ -38,7 +38,7 @@ module _ (t : Task) where
   draining-all P [] d c s = All-cons P t (task.Sorting ∷ []) c (All-cons P task.Sorting [] s (All-nil P))
   draining-all P (k ∷ ks) d c s = All-cons P (task.Draining k) _ (d k) (draining-all P ks d c s)
 
--- replicas that are to come to where the designated one stops
+-- replicas that are to come to the position at which the designated one stops
 trailing-times : (f : ServerNo) (n : ℕ) (ns : List ServerNo) → times n (of_queue f (map task.Trailing ns ++ task.Yielding ∷ [])) ≡ times n ns + one n f
 trailing-times f n [] = omega arith
 trailing-times f n (k ∷ ks) = let e = trailing-times f n ks in omega (arith, e)
@@ -175,7 +175,7 @@ module _ (w : World) (by : Means) (id wait : ℕ) (f : ServerNo) (ns order : Lis
 pub outside-covers : (w : World) (e : Exchange) (r : Recovery) → is_outside e ≡ true → CoversSoFar w r → CoversSoFar (after w e) r
 outside-covers w e r h c = covers-stays w (after w e) r (λ n some. outside-stays w e h n) c
 
--- a server that stands in a list of leased ones is leased
+-- a server that is in a list of leased ones is leased
 leased-times : (l : Leases) (id : ℕ) (n : ℕ) (ns : List ServerNo) → All (λ k. IsLeased l id k.0) ns → 0 < times n ns → IsLeased l id n
 leased-times l id n [] all h = let bad : 0 < 0 = h in absurd (omega (arith, bad))
 leased-times l id n (k ∷ ks) all h = go (k.0 == n) refl h (leased-times l id n ks (All-tail (λ (m : ServerNo). IsLeased l id m.0) k ks all))

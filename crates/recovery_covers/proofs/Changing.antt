@@ -11,7 +11,7 @@ use Rattle.recovery_covers.proofs.Prelude.stage
 use Rattle.recovery_covers.proofs.Times.{one, times-out, self-times}
 use Rattle.recovery_covers.proofs.Covering.{attached-on, sourced-on, apart-on, drained-on, queue-on, master-crowns, takeover-crowns, crowned-leader, last-on, crowned-on, giving-on, carried, carried-keeping}
 
--- one server alone may stand otherwise than before
+-- only one server may have another state than before
 abbrev pub AllButOne : World → World → ℕ → Type 0
 AllButOne w w' m = (k : ℕ) → (k ≡ m → ⊥) → Stays w w' k
 
@@ -19,7 +19,7 @@ pub old-master : (u : Purpose) (f : ServerNo) (xs : List Follower) → is_master
 old-master (purpose.Takeover d) f xs h = absurd (false≢true h)
 old-master _ f xs h = tt
 
--- the server stands in no list
+-- the server is in no list
 pub record IsAlone (r : Recovery) (m : ℕ) : Type 0 where
   pub followers : times m (follower_nos r.outcome.followers) ≡ 0
   pub lost : times m (lost_nos r.outcome.lost) ≡ 0
@@ -48,7 +48,7 @@ module _ (w : World) (r : Recovery) (s : Stage) (c : CoversAt w r s) where
         omega (arith, e, most, here),
       )
 
--- two servers of which one stands somewhere and the other doesn't
+-- two servers of which one is in some place and the other isn't
 apart-by : (x : ℕ → ℕ) (n m : ℕ) → 0 < x n → x m ≡ 0 → n ≡ m → ⊥
 apart-by x n m some none same = let bad : 0 < x m = subst (λ (i : ℕ). 0 < x i) same some in omega (arith, bad, none)
 

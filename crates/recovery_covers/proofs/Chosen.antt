@@ -1,4 +1,4 @@
--- What is decided covers the replicas as far as before: the choice, and where the others go.
+-- What is decided covers the replicas as far as before: the choice, and how the others go.
 use Rattle.std.proofs.Common.{◌≡◌, ℕ, ◌+◌, ◌<◌, Bool, true, false, cond, not, List, [], ◌∷◌, ◌++◌, refl, sym, ◌∙◌, ap, subst, Option, Some, None, inl, inr, arith}
 use Rattle.std.specs.Prelude.{◌==◌, IfSome}
 use Rattle.recovery_covers.proofs.Prelude.{All, All-append, All-chosen, All-cons, All-filter, All-head, All-nil, All-tail, All-weaker, Awaits}
@@ -16,7 +16,7 @@ use Rattle.recovery_covers.proofs.Prelude.task
 use Rattle.recovery_covers.proofs.Prelude.way
 use Rattle.recovery_covers.proofs.Times.{one, times-append, times-join, times-parted, self-all}
 
--- ---- a new source that isn't named at the beginning
+-- ---- a new source that isn't named at the start
 
 pub unnamed : (u : Purpose) (o : Option ServerNo) → o ≡ None → IfSome (first_source u) (λ n. o ≡ Some n) → first_source u ≡ None
 unnamed purpose.Regroup o e h = refl
@@ -40,7 +40,7 @@ unled : (o : Option Bridge) (chosen : Option ServerNo) → chosen ≡ None → I
 unled None chosen e h P = tt
 unled (Some b) chosen e h P = let bad : None ≡ Some b.no = sym e ∙ h in cc
 
--- ---- where a drained one goes
+-- ---- how a drained one goes
 
 -- below the chosen one, or it is lost
 abbrev pub IsLotOf : ServerNo → Lot → Type 0

@@ -96,7 +96,7 @@ module _ (w : World) where
 
   -- ---- a replica that was stopped and read
 
-  -- where it isn't below the failed server it stays as it is
+  -- if it isn't below the failed server it stays as it is
   stray-leaves : (u : Purpose) (f : ServerNo) (o : Option Position) (why : Why) → by.stray f o ≡ Some why → expels u (Some why) ≡ false
   stray-leaves u f None why h = subst (λ (y : Why). expels u (Some y) ≡ false) (same_Some lost.unreachable why h) (expels-unreachable u)
   stray-leaves u f (Some s) why h = go (is_below s f) h
@@ -389,7 +389,7 @@ module _ (w : World) where
         go (inr is) = let at = covers-as (stage.Resume p n) is in joined r (stage.Resume p n) n p at refl refl at.stage.1.chosen at.stage.2
     completes-covers (by.Marks n) may = at-rest w (idle (expelled r n)) refl (expelled-covers r n (covers-as (stage.Expelled n) may))
     completes-covers (by.Leads d) may = at-rest w (idle (gathered r d)) refl (gather-covers r may.0 d (covers-as (stage.Gather may.0 d) may.1))
-    -- a replica that comes to where the designated one stopped
+    -- a replica that comes to the position at which the designated one stopped
     completes-covers (by.Trails n x) may =
         let at = covers-as (stage.Looked n x) may.0 in
         let seen = not-stray r.failed (seen_of r.core.seen n.0) may.1 in

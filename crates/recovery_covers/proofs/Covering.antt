@@ -1,4 +1,4 @@
--- What a recovery covers so far stays covered where its servers stand as before.
+-- What a recovery covers so far stays covered if its servers' states are as before.
 use Rattle.std.proofs.Common.{◌≡◌, ℕ, ◌+◌, ◌<◌, Bool, true, false, List, [], ◌∷◌, refl, sym, ◌∙◌, ap, subst, Option, Some, inl, inr, arith}
 use Rattle.recovery_covers.proofs.Prelude.{All, All-cons, All-head, All-nil, All-tail, Apart-keeps, Awaits, CoversAt, CoversSoFar, Follower}
 use Rattle.recovery_covers.proofs.Prelude.{Free-keeps, HasSwapped, IsApart, IsCrowned, IsGiving, IsLast, IsPromoted, IsSourced, IsSourcedAsSeen}
@@ -103,7 +103,7 @@ module _ (w w' : World) (r : Recovery) (s s' : Stage) (core : Job) (c : CoversAt
   leads-on late (inl e) = inl e
   leads-on late (inr x) = inr (late x.0, swapped-on r s' core x.1)
 
-  -- where the followers, who is to move and the lost stand as they did
+  -- if the states of the followers, of those that are to move and of the lost are as before
   pub carried : of_stage s' ≡ of_stage s → (is_late s ≡ true → is_late s' ≡ true)
       → ((n m : ℕ) → 0 < times n (follower_nos r.outcome.followers) → IsUnder w n m → IsUnder w' n m)
       → ((n : ℕ) → 0 < times n (of_queue r.failed r.queue) + (times n (stopped_nos r.drained) + times n (lost_nos r.outcome.lost)) → IsSourced w n → IsSourced w' n)
@@ -138,7 +138,7 @@ pub restaged : (w : World) (r : Recovery) (s s' : Stage) (core : Job) → Covers
     → Stands w (record r { stage = s'; core = core }) s' → CoversAt w (record r { stage = s'; core = core }) s'
 restaged w r s s' core c same late stands = carried w w r s s' core c same late (λ n m h u. u) (λ n h u. u) (λ n h u. u) stands
 
--- ---- where each server of the recovery stands as before
+-- ---- if the state of each server of the recovery is as before
 
 -- the stages that rest on what was seen
 abbrev pub is_seen : Stage → Bool
@@ -155,7 +155,7 @@ module _ (w w' : World) (r : Recovery) (core : Job) (keeps : (n : ℕ) → 0 < t
   lost-keeps : (s : Stage) → CoversAt w r s → (n : ℕ) → 0 < times n (lost_nos r.outcome.lost) → Stays w w' n
   lost-keeps s c n h = keeps n (let e = c.once n in omega (arith, e, h))
 
-  -- the promoted one is a replica, where it comes in a master's place
+  -- the promoted one is a replica, if it comes in a master's place
   leader-keeps : (s : Stage) → CoversAt w r s → crowns r.purpose ≡ true → (n : ServerNo) → r.outcome.promoted ≡ Some n → Stays w w' n.0
   leader-keeps s c crowned n is =
       keeps n.0 (
@@ -227,7 +227,7 @@ module _ (w w' : World) (r : Recovery) (core : Job) (keeps : (n : ℕ) → 0 < t
   )
   stands-on s0 _ c seen h = tt
 
-  -- a stage goes on, perhaps with another job
+  -- a stage goes on, with the same job or another
   pub stage-on : (s : Stage) → CoversAt w r s → (is_seen s ≡ true → core.seen ≡ r.core.seen) → CoversAt w' (record r { stage = s; core = core }) s
   stage-on s c seen =
       carried w w' r s s core c refl (λ h. h)
@@ -236,6 +236,6 @@ module _ (w w' : World) (r : Recovery) (core : Job) (keeps : (n : ℕ) → 0 < t
       (λ n h u. Apart-keeps w w' n (Stays-keeps w w' n (keeps n (let e = c.once n in omega (arith, e, h)))) u)
       (stands-on s s c seen c.stage)
 
--- what others do where each server of the recovery stands as before
+-- what others do if the state of each server of the recovery is as before
 pub covers-stays : (w w' : World) (r : Recovery) → ((n : ℕ) → 0 < times n (owed r.purpose r.failed r.replicas) → Stays w w' n) → CoversSoFar w r → CoversSoFar w' r
 covers-stays w w' r stays c = record { at = stage-on w w' r r.core stays r.stage c.at (λ h. refl); rests = c.rests; moves = c.moves }

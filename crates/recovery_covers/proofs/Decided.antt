@@ -1,4 +1,4 @@
--- What is decided at the beginning of a turn covers the replicas as far as before, or nobody leads.
+-- What is decided at the start of a turn covers the replicas as far as before, or nobody leads.
 use Rattle.std.proofs.Common.{◌≡◌, ℕ, ◌+◌, ◌<◌, Bool, true, false, cond, List, [], ◌∷◌, ◌++◌, map, refl, sym, ◌∙◌, ap, subst, Option, Some, None, ◌⊎◌, inl, inr, arith}
 use Rattle.std.specs.Prelude.{◌==◌, IfSome, filter, find, option_map}
 use Rattle.recovery_covers.proofs.Prelude.{All, All-append, All-better, All-cons, All-head, All-map, All-nil, All-tail, Awaits, BookState, Bridge}
@@ -32,7 +32,7 @@ takeover-apart : (u : Purpose) → is_takeover u ≡ true → is_intermediate u 
 takeover-apart (purpose.Intermediate s) h = absurd (false≢true h)
 takeover-apart _ h = refl
 
--- in the recovery of an intermediate master the successor leads from the beginning
+-- in the recovery of an intermediate master the successor leads from the start
 intermediate-named : (u : Purpose) (o : Option ServerNo) → is_intermediate u ≡ true → IfSome (first_source u) (λ n. o ≡ Some n) → (n : ServerNo) × (o ≡ Some n)
 intermediate-named (purpose.Intermediate s) o h k = (s, k)
 intermediate-named _ o h k = absurd (false≢true h)
@@ -218,7 +218,7 @@ module _ (w : World) where
           go (inl e) = e
           go (inr x) = absurd (false≢true x.0)
 
-      -- the lines are told, where nobody takes a master's place
+      -- the lines are given, if nobody takes a master's place
       closes : (x : Op) (xs : List Op) → (n : ServerNo) → r.chosen ≡ Some n → crowns r.purpose ≡ false → OldFollows r.purpose r.failed r.outcome.followers
           → CoversSoFar w (working r (stage.Close (told r)) (x ∷ xs))
       closes x xs n is crownless old =
@@ -267,7 +267,7 @@ module _ (w : World) where
     awaited : (r : Recovery) (t : Task) (ts : List Task) → IsNext r t ts → CoversAt w r stage.Idle → Awaits w (record r { queue = t ∷ ts }) t
     awaited r t ts next c = All-head (Awaits w (record r { queue = t ∷ ts })) t ts (next-covers r t ts next c).queue
 
-    -- where one is designated its lead is the chosen one's
+    -- if one is designated its lead is the chosen one's
     lead-chosen : (r : Recovery) (x : Bridge) → r.lead ≡ Some x → CoversAt w r stage.Idle → r.chosen ≡ Some x.no
     lead-chosen r x e c = subst (λ (o : Option Bridge). IfSome o (λ y. r.chosen ≡ Some y.no)) e c.lead
 
@@ -337,7 +337,7 @@ module _ (w : World) where
     decides-at r (by.Rejoins p) g none idle c = inl (rejoins r none idle g.0.queue c p g.0.purpose g.1)
     decides-at r by.Closes g none idle c = inl (finishing r none idle g.1.queue c g.0 g.1.purpose)
 
-    -- where nobody leads and nothing is left to do, only that no better one is looked for
+    -- if nobody leads and nothing is left to do, only that no better one is looked for
     no-next : (r : Recovery) (t : Task) (ts : List Task) → IsStuck r → IsNext r t ts → ⊥
     no-next r t ts x next = let bad : [] ≡ t ∷ ts = sym x.queue ∙ next.queue in cc
 

@@ -1,4 +1,4 @@
--- How often a server stands in a list.
+-- How often a server is in a list.
 use Rattle.std.proofs.Common.{◌≡◌, ℕ, ◌+◌, ◌<◌, Bool, true, false, cond, not, List, [], ◌∷◌, ◌++◌, map, refl, sym, ◌∙◌, ap, arith}
 use Rattle.std.specs.Prelude.{◌==◌}
 use Rattle.recovery_covers.proofs.Prelude.{All, All-cons, All-head, All-nil, All-tail, ServerNo, eq-eqb, eqb-true, false≢true, filter, ne_eqb, times}
@@ -46,7 +46,7 @@ times-out {X} key n m (x ∷ xs) = go ((key x).0 == m) refl (n == m) refl (times
         none a b z y = omega (arith, z, y)
     go false e false f h = ap (λ k. cond ((key x).0 == n) 1 0 + k) h
 
--- a list in which a server stands once, with that one apart
+-- a list that has a server once, divided at that one
 pub times-parted : {X : Type 0} (key : X → ServerNo) (n : ℕ) (p : ServerNo) (xs : List X) → times p.0 (map key xs) ≡ 1
     → times n (map key xs) ≡ one n p + times n (map key (filter (λ x. not ((key x).0 == p.0)) xs))
 times-parted {X} key n p xs once = go (n == p.0) refl (times-out key n p.0 xs)
@@ -84,7 +84,7 @@ self-times k ks = positive (cond (k.0 == k.0) 1 0) (times k.0 ks) (ap (λ b. con
     positive : (a b : ℕ) → a ≡ 1 → 0 < a + b
     positive a b z = omega (arith, z)
 
--- each of a list stands there
+-- each of a list is there
 pub self-all : {X : Type 0} (key : X → ServerNo) (xs : List X) → All (λ x. 0 < times (key x).0 (map key xs)) xs
 self-all {X} key xs = All-counted key (λ (x : X). Unit {0}) (λ x. 0 < times (key x).0 (map key xs)) xs (units xs) (λ x h u. h)
   where

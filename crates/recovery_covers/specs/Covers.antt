@@ -5,7 +5,7 @@ use Rattle.recovery_covers.specs.Prelude.{is_master, told}
 use Rattle.recovery_covers.specs.Prelude.purpose
 use Rattle.recovery_covers.specs.Prelude.stage
 
--- how often a server stands in a list
+-- how often a server is in a list
 abbrev pub times : ℕ → List ServerNo → ℕ
 times n [] = 0
 times n (k ∷ ks) = (if k.0 == n then 1 else 0) + times n ks
@@ -20,7 +20,7 @@ abbrev pub listed : Option ServerNo → List ServerNo
 listed None = []
 listed (Some n) = n ∷ []
 
--- ---- who is placed
+-- ---- who has a place
 
 -- the replicas, and in a takeover the old master, too
 abbrev pub owed : Purpose → ServerNo → List ServerNo → List ServerNo
@@ -49,7 +49,7 @@ pub record AreReplicas (u : Purpose) (f : ServerNo) (replicas : List ServerNo) :
   pub distinct : (n : ℕ) → times n (owed u f replicas) ≤ 1
   pub placed : IsPlaced u replicas
 
--- ---- where they are
+-- ---- the positions of the promoted server and the followers
 
 -- the promoted server takes its master's place
 abbrev pub crowns : Purpose → Bool
@@ -64,7 +64,7 @@ Follows u o x =
     (o.promoted ≡ Some x.source)
     ⊎ ((n : ServerNo) × (o.promoted ≡ Some n) × (is_master u ≡ true) × Contains o.followers (record { no = x.source; source = n }))
 
--- the new source that was named at the beginning is the promoted one; an old master follows it
+-- the new source that was named at the start is the promoted one; an old master follows it
 abbrev pub IsAsNamed : Purpose → ServerNo → Outcome → Type 0
 IsAsNamed purpose.Regroup f o = Unit {0}
 IsAsNamed purpose.Master f o = Unit {0}
@@ -72,8 +72,8 @@ IsAsNamed (purpose.Intermediate s) f o = o.promoted ≡ Some s
 IsAsNamed (purpose.Takeover d) f o = (o.promoted ≡ Some d) × Contains o.followers (record { no = f; source = d })
 
 -- An outcome covers the replicas. There is a promoted server, which in the place of a master has no source and takes
--- writes. Each replica is the promoted one, a follower or lost, once and in one of these only; an old master is a
--- follower, and there are no others. Each follower is attached to its source, and each lost one that is told to be
+-- writes. Each replica is the promoted one, a follower or lost, once and in one of these only. An old master is a
+-- follower, and there are no others. Each follower is attached to its source, and each lost one that is marked as
 -- detached is.
 pub record Covers (w : World) (u : Purpose) (f : ServerNo) (ns : List ServerNo) (o : Outcome) : Type 0 where
   pub promoted : ServerNo

@@ -36,7 +36,7 @@ of_queue f (t ∷ ts) = of_task f t ++ of_queue f ts
 abbrev pub of_stage : Stage → List ServerNo
 of_stage s = (info s).places
 
--- how often a server is being placed by the stage, to be placed, drained, promoted, a follower and lost
+-- how often a server is being moved by the stage, to be moved, drained, promoted, a follower and lost
 abbrev pub total : ℕ → Recovery → Stage → ℕ
 total n r s =
     times n (of_stage s)
@@ -83,7 +83,7 @@ abbrev pub is_nil : List Task → Bool
 is_nil [] = true
 is_nil (t ∷ ts) = false
 
--- what a task needs of those behind it: a drained one's decision comes, there is one decision, and nothing is left once
+-- what a task needs of those after it: a drained one's decision comes, there is one decision, and nothing is left once
 -- a master gives up its place
 abbrev pub is_before : Task → List Task → Bool
 is_before (task.Draining n) ts = decides ts
@@ -109,7 +109,7 @@ is_intermediate purpose.Master = false
 is_intermediate (purpose.Intermediate s) = true
 is_intermediate (purpose.Takeover d) = false
 
--- the stages behind a swap
+-- the stages after a swap
 abbrev pub is_late : Stage → Bool
 is_late s = (info s).late
 
@@ -121,7 +121,7 @@ Leads r s = (r.outcome.promoted ≡ r.chosen) ⊎ ((is_late s ≡ true) × HasSw
 abbrev pub FollowsBy : Option ServerNo → Option ServerNo → Follower → Type 0
 FollowsBy chosen promoted x = (chosen ≡ Some x.source) ⊎ ((chosen ≡ Some x.no) × (promoted ≡ Some x.source))
 
--- ---- how servers stand
+-- ---- the states of servers
 
 abbrev pub IsLost : Recovery → ServerNo → Type 0
 IsLost r n = 0 < times n.0 (lost_nos r.outcome.lost)
@@ -205,16 +205,16 @@ AllHold w r (a ∷ b ∷ []) = Holds w r a × Holds w r b
 AllHold w r (a ∷ b ∷ c ∷ []) = Holds w r a × Holds w r b × Holds w r c
 AllHold w r (a ∷ b ∷ c ∷ d ∷ ds) = Holds w r a × Holds w r b × Holds w r c × AllHold w r (d ∷ ds)
 
--- how a stage's servers stand
+-- the states of a stage's servers
 abbrev pub Stands : World → Recovery → Stage → Type 0
 Stands w r s = AllHold w r (info s).stands
 
 -- ---- so far
 
 -- A recovery at a stage covers its replicas so far: each has one place. The choice comes before anybody leads, and
--- nobody is drained without a decision to come; the new source is the one that was named, and so is the one whose stop
--- was seen. Who is to move or to be detached has a source; followers are attached to their sources; and the lost stand
--- as told.
+-- nobody is drained without a decision to come. The new source is the one that was named, and so is the one whose stop
+-- was seen. Who is to move or to be detached has a source. Followers are attached to their sources, and the lost are as
+-- reported.
 pub record CoversAt (w : World) (r : Recovery) (s : Stage) : Type 0 where
   pub replicas : AreReplicas r.purpose r.failed r.replicas
   pub once : (n : ℕ) → total n r s ≡ times n (owed r.purpose r.failed r.replicas)
@@ -232,7 +232,7 @@ pub record CoversAt (w : World) (r : Recovery) (s : Stage) : Type 0 where
   pub sourced : All (λ l. expels r.purpose (Some l.why) ≡ true → IsSourced w l.no.0) r.outcome.lost
   pub apart : All (λ l. l.detached ≡ true → IsApart w l.no.0) r.outcome.lost
 
--- a recovery under way does; where it has no operation it has no stage, and a move to a bridge's source is made before
+-- a recovery under way does; if it has no operation it has no stage, and a move to a bridge's source is made before
 -- anything else
 pub record CoversSoFar (w : World) (r : Recovery) : Type 0 where
   pub at : CoversAt w r r.stage

@@ -7,7 +7,7 @@ ghost use Rattle.recovery_covers.specs.Prelude.{begun_recovery, is_going, is_out
 ghost use Rattle.recovery_covers.specs.Covers.{AreReplicas};
 ghost use Rattle.recovery_covers.specs.SoFar.{CoversSoFar};
 
-/// A recovery begins with its replicas covered so far, over any servers, where none of them is named twice.
+/// A recovery begins with its replicas covered so far, over any servers, if none of them is named twice.
 pub fn recoveries_begin_covered()
     ensures { (w : World) (u : APurpose) (by : AMeans) (id wait : ℕ) (f : Number)
         (replicas order : List Number) →
@@ -15,7 +15,7 @@ pub fn recoveries_begin_covered()
 {}
 
 /// A turn after which a recovery goes on leaves its replicas covered so far. Between its turns exchanges that are no
-/// orchestrator's leave them so, and so do turns of other jobs, where the recovery's servers are leased to it.
+/// orchestrator's leave them so, and so do turns of other jobs, if the recovery's servers are leased to it.
 pub fn recoveries_cover()
     ensures going { (w : World) (b : BookState) (read : ℕ) (now : AMoment) (r : Recovery) →
         Placed w → HeldRings w b.rings → HeldRecovery w r → CoversSoFar w r →

@@ -336,7 +336,7 @@ module _ (r : Recovery) (none : r.core.ops ≡ []) where
 
 -- ---- a turn
 
--- the operations behind the one that was due, and those that may come, take fewer turns
+-- the operations after the one that was due, and those that may come, take fewer turns
 behind-fewer : (r : Recovery) (o : Op) (rest : List Op) → r.core.ops ≡ o ∷ rest → r.core.waited ≤ r.core.wait → (r.core.wait + 1) * (length rest + ops_to_come r) < turns_to_end r
 behind-fewer r o rest is counted =
     let all : turns_for r.core.wait r.core.ops ≡ (r.core.wait + 1) + turns_for r.core.wait rest = ap (turns_for r.core.wait) is in
@@ -479,7 +479,7 @@ moved-shut w read now j (stage.Close lines) o rest ob es k goes e h =
 moved-shut w read now j (stage.Opened n) o rest ob es k goes e h = refl
 moved-shut w read now j s o rest ob es k goes e h = absurd (false≢true h)
 
--- behind no more turns than before
+-- after no more turns than before
 then-ends : (r x y : Recovery) → NoMoreTurns r x → Ends x y → Ends r y
 then-ends r x y m n = let a = m.turns in let c = n.fewer in record { fewer = omega (arith, a, c); calm = n.calm }
 

@@ -122,7 +122,7 @@ keeps-fits w b read now = record {
 pub taken-fits : (w : World) (b : BookState) (read : ℕ) (now : Moment) (r : Recovery) → IsFit r → is_going (taken w b read now r).step ≡ true → IsFit (taken w b read now r).recovery
 taken-fits w b read now r fits = kept-along w b read now IsFit (λ v s. IsFit s) (λ v s. IsFit s) (keeps-fits w b read now) r fits
 
--- ---- where one begins
+-- ---- a recovery that begins
 
 pub begun-fits : (u : Purpose) (f : ServerNo) → Fits (first_stage u f) (first_ops u f)
 begun-fits purpose.Regroup f = tail-fits stage.Idle

@@ -15,7 +15,7 @@ use Rattle.recovery_ends.specs.Shapes.{Fits}
 abbrev pub ops_after : Stage → ℕ
 ops_after s = (info s).more
 
--- so many operations a task may take, where there are these replicas
+-- so many operations a task may take, if there are these replicas
 abbrev pub ops_of_task : List ServerNo → Task → ℕ
 ops_of_task ns (task.Reading n) = 1
 ops_of_task ns (task.Draining n) = 7
@@ -32,7 +32,7 @@ abbrev pub ops_of_queue : List ServerNo → List Task → ℕ
 ops_of_queue ns [] = 0
 ops_of_queue ns (t ∷ ts) = ops_of_task ns t + ops_of_queue ns ts
 
--- nothing comes after the stages' own operations and those behind them
+-- nothing comes after the stages' own operations and those after them
 abbrev pub closes : Stage → Bool
 closes s = (info s).closes
 

@@ -14,7 +14,7 @@ are_still s ops = list_all (λ op. not (ends s (deed_of op))) ops
 abbrev pub is_due : Stage → Bool
 is_due s = (info s).due
 
--- the operations that are left of a stage: some that don't end it, and the one that ends it behind them
+-- the operations that are left of a stage: some that don't end it, and the one that ends it after them
 pub record Fits (s : Stage) (ops : List Op) : Type 0 where
   pub front : List Op
   pub still : are_still s front ≡ true

@@ -13,7 +13,7 @@ ghost use Rattle.recovery_plans.specs.Recoveries.{Recovery};
 ghost use Rattle.recovery_plans.specs.Taking.{taken};
 ghost use Rattle.recovery_ends.specs.Ends.{IsShaped, turns_to_end};
 
-/// A turn after which a recovery goes on leaves it fewer turns, whatever the servers and the book: it has ended an
+/// A turn after which a recovery goes on leaves it fewer turns, whatever the servers and the book are. It has ended an
 /// operation, or was one more of a limited number of waits.
 pub fn recoveries_end()
     ensures begun { (u : APurpose) (by : AMeans) (id wait : ℕ) (f : Number)

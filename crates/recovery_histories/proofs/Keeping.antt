@@ -1,4 +1,4 @@
--- What each that might have been chosen had when it was drained is a beginning of what the promoted server has.
+-- What each that might have been chosen had when it was drained is a prefix of what the promoted server has.
 use Rattle.std.proofs.Common.{◌≡◌, ℕ, ◌≤◌, Bool, true, false, cond, List, ◌∷◌, ◌++◌, length, take, drop, get_or, sym, ◌∙◌, ap, subst, Option, Some, None, ◌⊎◌, inl, inr, arith}
 use Rattle.std.specs.Prelude.{filter, not}
 use Rattle.recovery_histories.proofs.Prelude.{All, All-chosen, All-contains, All-filter, All-nil, All-weaker, AllAllowed, Attached, Bearing}
@@ -18,7 +18,7 @@ use Rattle.recovery_histories.proofs.Ordering.{chosen-most}
 
 -- ---- beginnings
 
--- the beginning of a list that goes on
+-- the first part of a list that goes on
 take-prefix : (k : ℕ) (xs ys : List Txn) → take (length xs) ys ≡ xs → k ≤ length xs → take k ys ≡ take k xs
 take-prefix k xs ys p le =
     let parts : xs ++ drop (length xs) ys ≡ ys = ap (λ front. front ++ drop (length xs) ys) (sym p) ∙ take-append-drop (length xs) ys in
@@ -27,7 +27,7 @@ take-prefix k xs ys p le =
 length-prefix : (xs ys : List Txn) → take (length xs) ys ≡ xs → length xs ≤ length ys
 length-prefix xs ys p = omega (arith, ap length p, length-take (length xs) ys)
 
--- a beginning of a beginning that two share
+-- a prefix of a prefix that two share
 shared : (k m : ℕ) (xs ys : List Txn) → k ≤ m → m ≤ length xs → m ≤ length ys → take m xs ≡ take m ys → take k xs ≡ take k ys
 shared k m xs ys le long_x long_y same =
     let len : length (take m ys) ≡ m = length-take-le m ys long_y in
@@ -75,7 +75,7 @@ behind-keeps w p d f own_p own_d at_p at_d le sp sd =
 -- ---- the choice
 
 module _ (w : World) (b : BookState) (now : Moment) (r : Recovery) (held : HeldRecovery w r) (sound : SoundRecovery w r) where
-  -- a stopped one that logs stood where it was seen
+  -- a stopped one that logs was at the position at which it was seen
   stood : (s : Stopped) → IsStopped w r.core.seen r.failed s → IsSoundStop w r.failed s → logs_at w s.no ≡ true → (own : Coord) × Stands w s.no.0 r.failed.0 own s.exec
   stood s stopped stands logs = let own = stopped.logs (sym (ap logs_by stopped.there) ∙ logs) in (own.0, stands own.0 own.1)
 
@@ -115,7 +115,7 @@ begun-kept w u by id wait f ns order p h = All-nil (λ (s : Stopped). Keeps w f.
 abbrev IsDrainedOnce : Recovery → Type 0
 IsDrainedOnce r = (n : ℕ) → times n (stopped_nos r.drained) ≤ 1
 
--- held, sound and kept, with nobody drained twice
+-- `Held`, `Sound` and kept, with nobody drained twice
 record KeepsChoice (w : World) (r : Recovery) : Type 0 where
   pub held : HeldRecovery w r
   pub sound : SoundRecovery w r
@@ -200,7 +200,7 @@ under-source Without m h = h
 under-source (Attached k) m h = h
 under-source (Detached k) m h = cc
 
--- what an attached server has executed is a beginning of what its source has
+-- what an attached server has executed is a prefix of what its source has
 pub under-begins : (w : World) (p q : ℕ) → Safe w → IsUnder w p q → IsBeginning w p q
 under-begins w p q safe u =
     let from = under-source u.server.source q u.under in

@@ -33,7 +33,7 @@ not-before c d h = go (nat_lt c.file d.file) refl (c.file == d.file) refl h
 
 -- ---- look-ups
 
--- each of a list in which nobody stands twice is found by its number
+-- each of a list that has nobody twice is found by its number
 found-all : (xs : List Stopped) → ((n : ℕ) → times n (stopped_nos xs) ≤ 1) → All (λ s. find (λ (x : Stopped). x.no.0 == s.no.0) xs ≡ Some s) xs
 found-all [] once = All-nil (λ (s : Stopped). find (λ (x : Stopped). x.no.0 == s.no.0) [] ≡ Some s)
 found-all (x ∷ xs) once =
@@ -55,7 +55,7 @@ module _ (w : World) (b : BookState) (now : Moment) (f : ServerNo) (xs : List St
   abbrev drained : List Drained
   drained = map (drained_of (ground_of w b now) f) xs
 
-  -- a drained one stopped where it was found
+  -- a drained one stopped at the position at which it was found
   abbrev IsFound : Drained → Type 0
   IsFound d = (s : Stopped) → find (λ (x : Stopped). x.no.0 == d.no.0) xs ≡ Some s → d.exec ≡ s.exec
 

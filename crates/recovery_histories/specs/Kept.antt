@@ -7,8 +7,8 @@ use Rattle.recovery_covers.specs.ServerModel.declared.server.Server.{Server}
 use Rattle.recovery_covers.specs.ServerModel.Worlds.{World, server_at}
 use Rattle.recovery_covers.specs.RecoveryPlans.Recoveries.{Recovery}
 
--- What a replica of f had when it stood at this coordinate of f's log, the first transactions of f up to there, is a
--- beginning of what n has executed.
+-- What a replica of f had when it was at this coordinate of f's log is a prefix of what n has executed. It had the
+-- first transactions of f up to there.
 pub record Keeps (w : World) (f : ℕ) (at : Coord) (n : ℕ) : Type 0 where
   pub source : Server
   pub server : Server
@@ -24,7 +24,7 @@ pub record Keeps (w : World) (f : ℕ) (at : Coord) (n : ℕ) : Type 0 where
 abbrev pub KeptByChosen : World → Recovery → Type 0
 KeptByChosen w r = (p : ServerNo) → r.chosen ≡ Some p → All (λ s. Keeps w r.failed.0 s.exec p.0) r.eligible
 
--- what the first server has executed is a beginning of what the second has
+-- what the first server has executed is a prefix of what the second has
 pub record IsBeginning (w : World) (n m : ℕ) : Type 0 where
   pub first : Server
   pub second : Server

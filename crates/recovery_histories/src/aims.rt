@@ -8,8 +8,8 @@ ghost use Rattle.recovery_covers.specs.RecoveryPlans.Recoveries.{Recovery};
 ghost use Rattle.recovery_covers.specs.RecoveryPlans.Taking.{taken};
 ghost use Rattle.recovery_histories.specs.Kept.{SameAim};
 
-/// A turn changes neither what a recovery is for, nor the failed server and the replicas that are to be placed, nor of
-/// whom it tells.
+/// A turn changes neither what a recovery is for, nor the failed server and the replicas to which it owes a place, nor
+/// those that it reports.
 pub fn replicas_stay()
     ensures { (w : World) (b : BookState) (read : ℕ) (now : AMoment) (r : Recovery) →
         SameAim r (taken w b read now r).recovery }

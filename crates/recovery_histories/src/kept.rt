@@ -21,9 +21,9 @@ ghost use Rattle.recovery_covers.specs.Covers.{IsTold};
 ghost use Rattle.recovery_covers.specs.SoFar.{CoversSoFar};
 ghost use Rattle.recovery_histories.specs.Kept.{Keeps, KeptByChosen, IsBeginning};
 
-/// What each replica that might have been chosen had when it was drained is a beginning of what the chosen one has,
-/// and, where the recovery is done in a safe world, of what the promoted one has, with or without a swap; and what the
-/// old master of a takeover has is a beginning of what the designated one has.
+/// What each replica that might have been chosen had when it was drained is a prefix of what the chosen one has. If the
+/// recovery is done in a `Safe` world, it is a prefix of what the promoted one has, with or without a swap. What the
+/// old master of a takeover has is a prefix of what the designated one has.
 pub fn recoveries_keep_histories()
     ensures begun { (w : World) (u : APurpose) (by : AMeans) (id wait : ℕ) (f : Number)
         (replicas order : List Number) →

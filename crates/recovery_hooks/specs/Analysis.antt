@@ -1,4 +1,4 @@
--- What hooks are told of the analysis of a failed server.
+-- The analysis of a failed server, as hooks get it.
 use Rattle.std.specs.Prelude.{ℕ, List, codes}
 use Rattle.orch_base.specs.declared.code.Code.{Code}
 use Rattle.orch_base.specs.declared.code.Code.TheVariants as code

@@ -1,4 +1,4 @@
--- The hooks of one recovery: which of them is due, and what those that ran tell (orchestrator's documentation,
+-- The hooks of one recovery: which of them is due, and which lines those that ran have (orchestrator's documentation,
 -- "Recovery hooks").
 use Rattle.std.specs.Prelude.{◌≡◌, ◌+◌, ◌<◌, ◌≤◌, ◌-◌, ◌^◌, ◌==◌, ℕ, Bool, false, true, All, List, [], ◌∷◌, ◌++◌, length, map, slice_get, take, if◌then◌else◌, Option, None}
 use Rattle.orch_base.specs.Names.{HostPort}
@@ -11,8 +11,8 @@ use Rattle.hook_texts.specs.declared.hooks.Hook.{Hook}
 use Rattle.hook_texts.specs.declared.hooks.Hooks.{Hooks}
 use Rattle.hook_texts.specs.declared.values.Values.{Values}
 
--- The hooks; what they are told until the recovery is done; whether it has looked at its failed server; and how many of
--- the hooks before the recovery, and of those behind it, have run.
+-- The hooks, and the values that they get until the recovery is done. `checked` is whether it has looked at its failed
+-- server. `before` and `after` are how many of the hooks before and after the recovery have run.
 pub record HookState : Type 0 where
   pub hooks : Hooks
   pub told : Values
@@ -37,7 +37,7 @@ pub record IsWithin (hooks : Hooks) (before after : ℕ) : Type 0 where
 abbrev pub due_before : HookState → Option Hook
 due_before s = if s.checked then slice_get s.hooks.pre_failover s.before else None
 
--- behind it: the next one
+-- after it: the next one
 abbrev pub due_after : HookState → Option Hook
 due_after s = if s.checked then slice_get s.hooks.post_failover s.after else None
 
@@ -56,7 +56,7 @@ ran_before s = record s { before = s.before + 1 }
 abbrev pub ran_after : HookState → HookState
 ran_after s = record s { after = s.after + 1 }
 
--- ---- what they tell
+-- ---- their lines
 
 -- what ran, with the recovery's values in its text, and what it answered
 abbrev pub line_of : HookPhase → Values → Hook → Line
@@ -65,7 +65,7 @@ line_of p v h = line.Hook p (expanded v h.text) h.exit
 abbrev pub lines_of : HookPhase → Values → List Hook → List Line
 lines_of p v hs = map (line_of p v) hs
 
--- behind a recovery that is done hooks are told so, and of the promoted server
+-- after a recovery that is done hooks get that it is, and the promoted server
 abbrev pub when_done : Values → Option HostPort → Values
 when_done v promoted = record v { successor = promoted; successful = true }
 
@@ -73,11 +73,11 @@ when_done v promoted = record v { successor = promoted; successful = true }
 abbrev pub before_lines : HookState → List Line
 before_lines s = lines_of phase.PreFailover s.told (take s.before s.hooks.pre_failover)
 
--- of all that run where it failed
+-- of all that run if it failed
 abbrev pub unsuccessful_lines : HookState → List Line
 unsuccessful_lines s = lines_of phase.PostUnsuccessful s.told s.hooks.post_unsuccessful
 
--- of those that ran behind it
+-- of those that ran after it
 abbrev pub after_lines : HookState → Option HostPort → List Line
 after_lines s promoted = lines_of phase.PostFailover (when_done s.told promoted) (take s.after s.hooks.post_failover)
 
@@ -99,8 +99,8 @@ abbrev pub running_before : List Hook → List Hook
 running_before [] = []
 running_before (h ∷ hs) = h ∷ (if h.exit == 0 then running_before hs else [])
 
--- Before it has looked at its failed server none has run; those that ran before it had no exit but 0; and one ran
--- behind it only once all had run before it.
+-- Before it has looked at its failed server none has run. Those that ran before it had no exit but 0. One ran after it
+-- only once all had run before it.
 pub record AreInOrder (s : HookState) : Type 0 where
   pub first : s.checked ≡ false → (s.before ≡ 0) × (s.after ≡ 0)
   pub passed : All Passes (take s.before s.hooks.pre_failover)

@@ -1,4 +1,4 @@
-//! The words of analyses.
+//! The names of analyses.
 
 ghost use Rattle.std.specs.Prelude.{◌≡◌};
 ghost use Rattle.recovery_hooks.specs.Analysis.{code_text};

@@ -8,8 +8,9 @@ ghost use Rattle.hook_texts.specs.declared.hooks.Hooks.{Hooks as SomeHooks};
 ghost use Rattle.hook_texts.specs.declared.values.Values.{Values as AValues};
 ghost use Rattle.recovery_hooks.specs.Runs.{after_lines, before_lines, begun_hooks, checked, due_after, due_before, hooks_left, lines_of, ran_after, ran_before, running_before, when_done, AreInOrder, HookState, Passes};
 
-/// Hooks are in order as a recovery begins, and stay so: where it looks at its failed server, where one runs before it
-/// and passes, and where one runs behind it, when none is due before it. Each that runs leaves one less to run.
+/// Hooks are in order as a recovery begins, and stay so. This is so if it looks at its failed server, and if one runs
+/// before it and passes. It is so if one runs after it when none is due before it. Each that runs leaves one less to
+/// run.
 pub fn hooks_run_in_order()
     ensures begun { (hooks : SomeHooks) (told : AValues) → AreInOrder (begun_hooks hooks told) }
     ensures checked { (s : HookState) → AreInOrder s → AreInOrder (checked s) }
@@ -23,8 +24,8 @@ pub fn hooks_run_in_order()
         hooks_left (ran_after s) < hooks_left s }
 {}
 
-/// Those that run before a recovery tell their lines up to the first with another exit than 0: all of them, where none
-/// is due any more, and where the one that is due has such an exit the others up to it. Those behind it all tell
+/// Those that run before a recovery have their lines up to the first with another exit than 0. If none is due any more,
+/// these are all. If the one that is due has such an exit, they are the others up to it. Those after it all have
 /// theirs.
 pub fn all_hooks_run()
     ensures before { (s : HookState) → AreInOrder s → s.checked ≡ true → due_before s ≡ None →

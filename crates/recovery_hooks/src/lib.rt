@@ -1,5 +1,5 @@
-//! The hooks of one recovery: which is due, and what those that ran tell (orchestrator's documentation, "Recovery
-//! hooks").
+//! The hooks of one recovery: which is due, and which lines those that ran have (orchestrator's documentation,
+//! "Recovery hooks").
 #![tactic(auto)]
 
 mod analysis;
@@ -9,6 +9,6 @@ mod run;
 
 pub use analysis::code_word;
 pub use laws::{all_hooks_run, hooks_run_in_order};
-/// Want of memory.
+/// Out of memory.
 pub use orch_base::Memory;
 pub use run::HookRun;

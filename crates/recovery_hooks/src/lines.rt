@@ -20,7 +20,7 @@ fn line_of(alloc: Global, phase: HookPhase, values: &Values, hook: &Hook) -> Res
     })
 }
 
-/// Appends the lines of these hooks, which ran in this phase and were told this.
+/// Appends the lines of these hooks, which ran in this phase with these values.
 pub(crate) fn add_lines(
     alloc: Global,
     lines: &mut Vec<Line>,

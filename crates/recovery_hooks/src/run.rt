@@ -8,14 +8,14 @@ use orch_base::Name;
 use std::alloc::Global;
 use std::marker::Model;
 
-/// The hooks of one recovery: what they are told of it, and how many have run.
+/// The hooks of one recovery: the values that they get, and how many have run.
 pub struct HookRun {
     hooks: Hooks,
-    // What they are told until the recovery is done.
+    // The values that they get until the recovery is done.
     told: Values,
     // Whether the recovery has looked at its failed server.
     checked: bool,
-    // How many have run before it, and behind it.
+    // How many have run before it, and after it.
     before: u32,
     after: u32,
 }
@@ -49,8 +49,8 @@ impl HookRun {
     ghost use Rattle.std.specs.Option.{option_copied};
     ghost use Rattle.recovery_hooks.specs.Runs.{after_lines, before_lines, begun_hooks, checked, done_lines, due_after, due_before, failed_lines, ran_after, ran_before, unsuccessful_lines, when_done};
 
-    /// The hooks of a recovery that begins, which are told this until it is done. `Memory` comes, too, where more than
-    /// 4,294,967,295 are to run before it, or behind it.
+    /// The hooks of a recovery that begins, which get these values until it is done. `Memory` comes if memory runs out,
+    /// and if more than 4,294,967,295 are to run before it, or after it.
     pub fn begin(alloc: Global, hooks: &Hooks, told: Values) -> Result<HookRun, Memory>
         ensures { IfOk result (λ r. r ≡ begun_hooks hooks.now told) }
     {
@@ -79,7 +79,7 @@ impl HookRun {
         }
     }
 
-    /// The hook that runs behind the recovery in the next turn, where nothing else is left to do.
+    /// The hook that runs after the recovery in the next turn, if nothing else is left to do.
     pub fn due_after(&self) -> Option<&Hook>
         ensures { option_copied result ≡ due_after self.now }
     {
@@ -113,7 +113,7 @@ impl HookRun {
         self.before += 1;
     }
 
-    /// The hook that was due behind the recovery ran. It takes no memory.
+    /// The hook that was due after the recovery ran. It takes no memory.
     pub fn run_after(&mut self)
         requires { self.old.after < length self.old.hooks.post_failover }
         ensures { self.new ≡ ran_after self.old }
@@ -129,7 +129,7 @@ impl HookRun {
         add_lines(alloc, lines, HookPhase::PreFailover, &self.told, hooks)
     }
 
-    // Appends the lines of all hooks that run where the recovery failed.
+    // Appends the lines of all hooks that run if the recovery failed.
     fn add_unsuccessful(&self, alloc: Global, lines: &mut Vec<Line>) -> Result<(), Memory>
         ensures { OnOk result (lines.new.items ≡ lines.old.items ++ unsuccessful_lines self.now) }
     {
@@ -137,7 +137,7 @@ impl HookRun {
         add_lines(alloc, lines, HookPhase::PostUnsuccessful, &self.told, hooks)
     }
 
-    // What hooks behind a recovery that is done are told.
+    // The values of the hooks after a recovery that is done.
     fn when_done(&self, alloc: Global, promoted: Option<&Name>) -> Result<Values, Memory>
         ensures { IfOk result (λ v. v ≡ when_done self.now.told (option_copied promoted.entry)) }
     {
@@ -166,7 +166,7 @@ impl HookRun {
     }
 
     /// The lines of the hooks of a recovery that the hook which is due before it ends: of those that ran, that one too,
-    /// and of all that run then.
+    /// and of all that run then. `Err` means out of memory.
     pub fn stopped(&self, alloc: Global) -> Result<Lines, Memory>
         requires { self.now.before < length self.now.hooks.pre_failover }
         ensures { IfOk result (λ l. l ≡ failed_lines (ran_before self.now)) }
@@ -178,7 +178,8 @@ impl HookRun {
         Ok(Lines::new(lines))
     }
 
-    /// The lines of a recovery that is done and promoted this server, and behind them those of its hooks.
+    /// The lines of a recovery that is done and promoted this server, and after them those of its hooks. `Err` means
+    /// out of memory.
     pub fn done(
         &self,
         alloc: Global,

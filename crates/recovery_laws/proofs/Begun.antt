@@ -11,7 +11,7 @@ each : (P : ServerNo → Type 0) (ns : List ServerNo) → ((n : ServerNo) → P 
 each P [] h = All-nil P
 each P (n ∷ ns) h = All-cons P n ns (h n) (each P ns h)
 
--- ---- held and sound
+-- ---- `Held` and `Sound`
 
 first-ready : (w : World) (u : Purpose) (f : ServerNo) → IsReadyStage w (first_stage u f)
 first-ready w purpose.Regroup f = tt

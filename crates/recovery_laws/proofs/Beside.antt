@@ -1,4 +1,4 @@
--- What others do leaves a recovery held, sound and leased.
+-- What others do leaves a recovery with `Held`, `Sound` and its leases.
 use Rattle.std.proofs.Common.{◌≡◌, ℕ, Bool, true, false, cond, List, [], ◌∷◌, refl, sym, subst, Option, Some, None, IfSome}
 use Rattle.recovery_laws.proofs.Prelude.{All, All-weaker, AllAllowed, AreSourcesOf, Bridge, Exchange, Flight, Follower, Held, HeldRecovery, IsAny}
 use Rattle.recovery_laws.proofs.Prelude.{IsLeased, IsOpOf, IsTaskOf, Job, LeasedRecovery, Leases, MayPass, Moment, Op, Passage, Purpose, Recovery}

@@ -1,4 +1,4 @@
--- What is chosen, and where the others go.
+-- What is chosen, and how the others go.
 pub use Rattle.recovery_plans.proofs.KeptRows.Same.{eq_refl as self}
 use Rattle.std.proofs.Common.{◌≡◌, ℕ, Bool, true, false, cond, List, [], ◌∷◌, refl, sym, ◌∙◌, ap, subst, Option, Some, None}
 use Rattle.std.specs.Prelude.{◌==◌, fold, unwrap_or}
@@ -27,7 +27,7 @@ latest-by P p (x ∷ xs) o y all so_far h = latest-by P p xs (cond (p x) (Some x
 pub All-latest : (P : Bridge → Type 0) (p : Bridge → Bool) (xs : List Bridge) (y : Bridge) → All P xs → latest_that p xs ≡ Some y → P y × (p y ≡ true)
 All-latest P p xs y all h = latest-by P p xs None y all (λ e. cc) h
 
--- ---- where the others go
+-- ---- how the others go
 
 module _ (w : World) (seen : List Sight) where
   abbrev pub IsReadyLot : Lot → Type 0

@@ -1,4 +1,4 @@
--- What is decided at the beginning of a turn leaves a recovery held.
+-- What is decided at the start of a turn leaves a recovery with `Held`.
 use Rattle.std.proofs.Common.{◌≡◌, Bool, true, false, cond, List, [], ◌∷◌, ◌++◌, map, refl, ◌∙◌, ap, subst, Option, Some, None, ◌||◌, ◌&&◌}
 use Rattle.std.specs.Prelude.{IfSome, filter, is_some, option_map}
 use Rattle.recovery_laws.proofs.Prelude.{All, All-append, All-at, All-better, All-chosen, All-cons, All-head, All-nil, All-tail, BookState, Bridge}
@@ -27,7 +27,7 @@ level-held : (f : Footing) (p q : ServerNo) → f.logs q.0 ≡ true → are_held
 level-held f p q logs = simp (self, logs, or-true) refl
 
 module _ (w : World) where
-  -- a stage begins with held operations
+  -- a stage begins with operations that have `Held`
   pub working-held : (r : Recovery) (s : Stage) (ops : List Op) → HeldRecovery w r → IsReadyStage w s → are_held (footing w r.core.seen) ops ≡ true
       → ((has : Matched) → are_matched has ops ≡ true) → Fits s ops → HeldRecovery w (working r s ops)
   working-held r s ops held ready left free fits = record {
@@ -39,7 +39,7 @@ module _ (w : World) where
     lead = held.lead;
   }
 
-  -- the bridge's reading shows what a crossing by it uses
+  -- the bridge's reading has what a reattachment by it uses
   down-found : (xs : List Sight) (b : Bridge) (n : ServerNo) → Spans w b → finds (footing w (with_bridge xs b)) (deed_of (op.Cross cross.Down n b.no)) ≡ true
   down-found xs b n s =
       both (is_some (source_shown (seen_of (with_bridge xs b) b.no.0))) (logs_at w b.no)

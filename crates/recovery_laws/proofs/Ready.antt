@@ -19,7 +19,7 @@ target-logs w m c t = ap logs_by t.there ∙ t.logs
 pub spans-logs : (w : World) (b : Bridge) → Spans w b → logs_at w b.no.0 ≡ true
 spans-logs w b s = target-logs w b.no.0 b.own s.own
 
--- a bridge is where its server once stood
+-- a bridge is at a position at which its server once was
 pub sight-shown : (w : World) (b : Bridge) → Spans w b → ShowsAt w b.no.0 (sight_of b)
 sight-shown w b s = record {
   own = λ c h. subst (λ (x : Coord). IsTarget w b.no.0 x) (same_Some b.own c h) s.own;

@@ -8,7 +8,7 @@ use Rattle.recovery_laws.proofs.Prelude.Bridges.{with_bridge}
 abbrev IsOf : ℕ → Bridge → Type 0
 IsOf n b = b.no.0 ≡ n
 
--- a fact of the ring at a place, where one ring is put
+-- a fact of the ring at a place, if one ring is put
 set-ring : (P : List Bridge → Type 0) (rings : List (List Bridge)) (k j : ℕ) (r : List Bridge) → (k ≡ j → P r) → P (slice_index_or rings j []) → P (slice_index_or (slice_set rings k r) j [])
 set-ring P (x ∷ xs) zero zero r same old = same refl
 set-ring P (x ∷ xs) (suc k) (suc j) r same old = set-ring P xs k j r (λ e. same (ap suc e)) old

@@ -1,4 +1,4 @@
--- In a safe world a recovery's attachments join well, and what it goes by stands.
+-- In a `Safe` world a recovery's attachments join well, and what it goes by is right.
 use Rattle.std.proofs.Common.{◌≡◌, ℕ, Bool, true, false, cond, List, [], ◌∷◌, ◌++◌, map, refl, sym, ◌∙◌, ap, subst, Option, Some, None}
 use Rattle.std.specs.Prelude.{◌==◌, IfSome, filter, option_map}
 use Rattle.recovery_laws.proofs.Prelude.{All, All-append, All-at, All-chosen, All-cons, All-head, All-nil, All-push, All-tail, All-weaker, AllAllowed}

@@ -1,4 +1,4 @@
--- A turn of a recovery leaves it held.
+-- A turn of a recovery leaves it with `Held`.
 use Rattle.std.proofs.Common.{◌≡◌, ℕ, Bool, true, false, cond, List, [], ◌∷◌, ◌++◌, refl, sym, ◌∙◌, ap, subst, Option, Some, None, ◌⊎◌, inl, inr, ◌||◌, ◌&&◌}
 use Rattle.std.specs.Prelude.{◌==◌, IfSome, is_some}
 use Rattle.recovery_laws.proofs.Prelude.{All-push, AllAllowed, Attempt, Bearing, BookState, Bridge, Does, Ending, Exchange, Fits, Footing, Held-run}
@@ -34,7 +34,7 @@ others-held w es r placed allowed held = record {
   lead = lead-run w es placed allowed r.failed r.lead held.lead;
 }
 
--- ---- operations that are held
+-- ---- operations with `Held`
 
 or-true : (b : Bool) → (b || true) ≡ true
 or-true true = refl
@@ -162,7 +162,7 @@ module _ (w : World) (read : ℕ) (now : Moment) (r : Recovery) (o : Op) (rest :
     abbrev later : Recovery
     later = record r { core = j }
 
-    -- what was held is, with the job after the turn, where its operations are its stage's
+    -- what had `Held` has it, with the job after the turn, if its operations are its stage's
     later-held : (s : Stage) → IsReadyStage w s → Fits s j.ops → HeldRecovery (run w es) (record later { stage = s })
     later-held s ready f = record {
       core = job;

@@ -1,4 +1,4 @@
--- What holds of a recovery in every world, quiet or not.
+-- What holds for a recovery in every world, with errant writes or without.
 use Rattle.std.specs.Prelude.{◌≡◌, true, List, Option, Some, IfSome, All, is_some}
 use Rattle.recovery_laws.specs.Prelude.{AllAllowed, Bridge, Coord, Fits, HeldJob, Job, Recovery, Server, ServerNo, Sight, Spans, Stage, Stopped}
 use Rattle.recovery_laws.specs.Prelude.{Taken, Task, Way, World, info, is_going, logs_at, run, seen_of, server_at}
@@ -30,12 +30,12 @@ IsReady w seen (task.Releasing n) = Unit {0}
 IsReady w seen (task.Trailing n) = Unit {0}
 IsReady w seen task.Yielding = Unit {0}
 
--- the bridge that a stopped replica shows, where its own log ended there
+-- the bridge of a stopped replica, if its own log ended there
 abbrev pub stopped_bridge : ServerNo → Stopped → Coord → Bridge
 stopped_bridge f s own = record { no = s.no; source = f; own = own; exec = s.exec }
 
--- a replica that was stopped below the failed server: it was read; where it logs its own end was seen; and where that
--- was seen both ends have places
+-- a replica that was stopped below the failed server: it was read; if it logs its own end was seen; and if that was
+-- seen both ends have places
 pub record IsStopped (w : World) (seen : List Sight) (f : ServerNo) (s : Stopped) : Type 0 where
   pub server : Server
   pub there : server_at w s.no.0 ≡ Some server
@@ -43,7 +43,7 @@ pub record IsStopped (w : World) (seen : List Sight) (f : ServerNo) (s : Stopped
   pub logs : server.settings.logs ≡ true → (own : Coord) × (s.own_end ≡ Some own)
   pub spans : (own : Coord) → s.own_end ≡ Some own → Spans w (stopped_bridge f s own)
 
--- where a designated replica stopped below its master
+-- the position at which a designated replica stopped below its master
 pub record IsLead (w : World) (f : ServerNo) (b : Bridge) : Type 0 where
   pub spans : Spans w b
   pub below : b.source.0 ≡ f.0
@@ -52,8 +52,8 @@ pub record IsLead (w : World) (f : ServerNo) (b : Bridge) : Type 0 where
 abbrev pub IsReadyStage : World → Stage → Type 0
 IsReadyStage w s = IfSome (info s).lead (Spans w)
 
--- of a job at a stage, with what is still to do of a failed server, what is drained, and where a replica stopped: the
--- operations that are left are held and are the stage's, and what is gone by later has places
+-- For a job at a stage, with what is still to do of a failed server, what is drained, and the position at which a
+-- replica stopped. The operations that are left have `Held` and are the stage's. What is gone by later has places.
 pub record HeldParts (w : World) (j : Job) (s : Stage) (ts : List Task) (f : ServerNo) (ds : List Stopped) (o : Option Bridge) : Type 0 where
   pub core : HeldJob w j
   pub stage : IsReadyStage w s
@@ -66,7 +66,7 @@ pub record HeldParts (w : World) (j : Job) (s : Stage) (ts : List Task) (f : Ser
 abbrev pub HeldRecovery : World → Recovery → Type 0
 HeldRecovery w r = HeldParts w r.core r.stage r.queue r.failed r.drained r.lead
 
--- a turn makes exchanges that are allowed, and leaves a recovery that goes on held
+-- a turn makes exchanges that are allowed, and leaves a recovery that goes on with `Held`
 pub record KeepsRecovery (w : World) (t : Taken) : Type 0 where
   pub allowed : AllAllowed w t.exchanges
   pub held : is_going t.step ≡ true → HeldRecovery (run w t.exchanges) t.recovery

@@ -6,11 +6,11 @@ use Rattle.recovery_laws.specs.Prelude.{Bridge, ServerNo, Spans, StandsIn, World
 abbrev pub AreOwn : List (List Bridge) → Type 0
 AreOwn rings = (n : ServerNo) → All (λ b. b.no.0 ≡ n.0) (ring_at rings n)
 
--- both ends of each bridge have places, and it stands in its server's ring
+-- both ends of each bridge have places, and it is in its server's ring
 pub record HeldRings (w : World) (rings : List (List Bridge)) : Type 0 where
   pub spans : All (All (Spans w)) rings
   pub own : AreOwn rings
 
--- in a quiet world each bridge stands
+-- in a world without errant writes each bridge is right
 abbrev pub SoundRings : World → List (List Bridge) → Type 0
 SoundRings w rings = All (All (StandsIn w)) rings

@@ -1,4 +1,4 @@
--- What holds of a recovery in a quiet world beside.
+-- What holds for a recovery in a world without errant writes, beside.
 use Rattle.std.specs.Prelude.{◌≡◌, true, List, Option, Some, IfSome, All}
 use Rattle.recovery_laws.specs.Prelude.{AllBridged, AllJoinWell, AllMeet, Bridge, Coord, Match, Recovery, ServerNo, Sight, Stage, StandsIn, Stopped}
 use Rattle.recovery_laws.specs.Prelude.{Taken, Task, Way, World, info, is_going, run}
@@ -24,11 +24,11 @@ IsSoundTask w (task.Releasing n) = Unit {0}
 IsSoundTask w (task.Trailing n) = Unit {0}
 IsSoundTask w task.Yielding = Unit {0}
 
--- the bridge that a stopped replica shows stands
+-- the bridge of a stopped replica is right
 abbrev pub IsSoundStop : World → ServerNo → Stopped → Type 0
 IsSoundStop w f s = (own : Coord) → s.own_end ≡ Some own → StandsIn w (stopped_bridge f s own)
 
--- the bridge by which a stage goes stands
+-- the bridge by which a stage goes is right
 abbrev pub IsSoundStage : World → Stage → Type 0
 IsSoundStage w s = IfSome (info s).lead (StandsIn w)
 
@@ -44,7 +44,7 @@ pub record SoundParts (w : World) (seen : List Sight) (matches : List Match) (s 
 abbrev pub SoundRecovery : World → Recovery → Type 0
 SoundRecovery w r = SoundParts w r.core.seen r.core.matches r.stage r.queue r.failed r.drained r.lead
 
--- in a safe world each attachment joins well, and a recovery that goes on is sound
+-- in a `Safe` world each attachment joins well, and a recovery that goes on has `Sound`
 pub record KeepsSoundRecovery (w : World) (t : Taken) : Type 0 where
   pub joins : AllJoinWell w t.exchanges
   pub sound : is_going t.step ≡ true → SoundRecovery (run w t.exchanges) t.recovery

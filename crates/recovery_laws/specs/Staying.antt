@@ -1,8 +1,8 @@
--- Passages that are no turn of a recovery.
+-- Turns that are no turn of a recovery.
 use Rattle.std.specs.Prelude.{◌≡◌, ℕ, ⊤}
 use Rattle.recovery_laws.specs.Prelude.{Beginning, Discovering, Exchanging, Forgetting, Passage, Polling, Restarting, Storing, Taking, Turning}
 
--- a passage leaves the job of this number, which isn't that of a turn; a restart leaves none
+-- a turn leaves the job of this number, which isn't that of the turn; a restart leaves none
 abbrev pub Spares : ℕ → Passage → Type 0
 Spares id (Exchanging e) = ⊤
 Spares id (Polling p n read now) = ⊤

@@ -6,8 +6,8 @@ ghost use Rattle.recovery_laws.specs.HeldRecoveries.{HeldRecovery};
 ghost use Rattle.recovery_laws.specs.SoundRecoveries.{SoundRecovery};
 ghost use Rattle.recovery_laws.specs.LeasedRecoveries.{LeasedRecovery, IsLeasedList};
 
-/// A recovery begins held and sound, over any servers; it keeps to its leases where its replicas are leased to it, and
-/// in a takeover the master and the replica that is to take its place.
+/// A recovery begins with `Held` and `Sound`, over any servers. It keeps to its leases if its replicas are leased to
+/// it, and in a takeover the master and the replica that is to take its place.
 pub fn recoveries_begin()
     ensures held { (w : World) (u : APurpose) (by : AMeans) (id wait : ℕ) (f : Number)
         (replicas order : List Number) →

@@ -1,4 +1,4 @@
-//! Recoveries leave operations that are held.
+//! Recoveries leave operations with `Held`.
 
 ghost use Rattle.std.specs.Prelude.{◌≡◌, ℕ, List};
 ghost use Rattle.recovery_laws.specs.Prelude.{AllAllowed, BookState, Exchange, Moment as AMoment, Placed, Recovery, World, decided, ground_of, run};
@@ -6,7 +6,7 @@ ghost use Rattle.recovery_laws.specs.Prelude.{taken};
 ghost use Rattle.recovery_laws.specs.Rings.{HeldRings};
 ghost use Rattle.recovery_laws.specs.HeldRecoveries.{HeldRecovery, KeepsRecovery};
 
-/// What is decided at the beginning of a turn leaves a recovery held; so does its turn, whose exchanges are allowed,
+/// What is decided at the start of a turn leaves a recovery with `Held`. So does its turn, whose exchanges are allowed,
 /// and whatever others do meanwhile.
 pub fn recoveries_stay_held()
     ensures decided { (w : World) (b : BookState) (now : AMoment) (r : Recovery) →

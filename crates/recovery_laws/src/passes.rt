@@ -8,8 +8,8 @@ ghost use Rattle.recovery_laws.specs.Passing.{as_turn};
 ghost use Rattle.recovery_laws.specs.Rings.{HeldRings, SoundRings};
 ghost use Rattle.recovery_laws.specs.SoundRecoveries.{SoundRecovery};
 
-/// The turn of a recovery is one that servers with jobs in flight may take: it keeps what the turn of a job by its
-/// operations does, and in a sound flight owes it nothing more.
+/// The turn of a recovery is one that servers with jobs may take. It keeps what the turn of a job by its operations
+/// does, and with `Sound` owes nothing more.
 pub fn recoveries_pass()
     ensures may { (f : Flight) (b : BookState) (id read : ℕ) (now : AMoment) (r : Recovery) →
         Held f → HeldRings f.world b.rings → HeldRecovery f.world r → LeasedRecovery f.leases id r →

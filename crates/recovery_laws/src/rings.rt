@@ -1,11 +1,11 @@
-//! The bridges of a book stand in their own servers' rings.
+//! The bridges of a book are in their own servers' rings.
 
 ghost use Rattle.std.specs.Prelude.{◌≡◌, ℕ, List, Option, [], IfSome, replicate, slice_set};
 ghost use Rattle.recovery_laws.specs.Prelude.{Bridge as ABridge, ServerNo as Number, Status as Showed, bridge_in, ringed};
 ghost use Rattle.recovery_laws.specs.Rings.{AreOwn};
 
-/// Each server's ring has bridges of that server, from empty rings on: where a bridge that was shown of a server is
-/// kept, and where an instance is forgotten.
+/// Each server's ring has bridges of that server, from empty rings on. So it is if a bridge that was observed of a
+/// server is kept, and if an instance is forgotten.
 pub fn rings_stay_own()
     ensures empty { (count : ℕ) → AreOwn (replicate count []) }
     ensures kept { (rings : List (List ABridge)) (n : Number) (o : Option ABridge) →

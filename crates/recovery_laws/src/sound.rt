@@ -6,8 +6,8 @@ ghost use Rattle.recovery_laws.specs.Rings.{HeldRings, SoundRings};
 ghost use Rattle.recovery_laws.specs.HeldRecoveries.{HeldRecovery};
 ghost use Rattle.recovery_laws.specs.SoundRecoveries.{SoundRecovery, KeepsSoundRecovery};
 
-/// In a safe world, where the bridges of the book stand, each attachment that a turn makes joins well, and the recovery
-/// stays sound; so it does whatever others do meanwhile.
+/// In a `Safe` world in which the bridges of the book are right, each attachment that a turn makes joins well, and the
+/// recovery keeps `Sound`. So it does whatever others do meanwhile.
 pub fn recoveries_stay_sound()
     ensures taken { (w : World) (b : BookState) (read : ℕ) (now : AMoment) (r : Recovery) →
         Safe w → Placed w → HeldRings w b.rings → SoundRings w b.rings → HeldRecovery w r →

@@ -7,8 +7,8 @@ ghost use Rattle.recovery_laws.specs.LeasedRecoveries.{LeasedRecovery};
 ghost use Rattle.recovery_laws.specs.SoundRecoveries.{SoundRecovery};
 ghost use Rattle.recovery_laws.specs.Staying.{Spares};
 
-/// Whatever happens leaves a recovery held, and sound where it was; its servers stay leased to it, but for its own
-/// turns and a restart.
+/// Whatever happens leaves a recovery with `Held`, and with `Sound` if it had it. Its servers stay leased to it, except
+/// for its own turns and a restart.
 pub fn recoveries_stay_in_flight()
     ensures held { (f : Flight) (p : Passage) (r : Recovery) → MayPass f p → Held f →
         HeldRecovery f.world r → HeldRecovery (passed f p).world r }

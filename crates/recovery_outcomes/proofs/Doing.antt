@@ -57,7 +57,7 @@ both : (a b : Bool) → (a && b) ≡ true → (a ≡ true) × (b ≡ true)
 both a b h = and_parts a b h
 
 module _ (w : World) (r : Recovery) (unchosen : r.chosen ≡ None) (apart : is_takeover r.purpose ≡ true → ⊥) where
-  -- nothing is left behind the choice that has a place to give
+  -- nothing is left after the choice that has a place to give
   none-placed : (f : ServerNo) (ts : List Task) → decides ts ≡ false → in_order ts ≡ true → All (Awaits w r) ts → (n : ℕ) → times n (of_queue f ts) ≡ 0
   none-placed f [] off order all n = refl
   none-placed f (task.Draining k ∷ ts) off order all n = absurd (false≢true (sym off ∙ (both (decides ts) (in_order ts) order).0))

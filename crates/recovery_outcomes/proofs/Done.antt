@@ -102,7 +102,7 @@ module _ (j : Job) (rest : List Op) where
 
 -- ---- what is covered then
 
--- the new source that was named leads, since only a master's recovery swaps
+-- the new source that was named leads, because only a master's recovery swaps
 named-by : (u : Purpose) (f : ServerNo) (o : Outcome) (chosen : Option ServerNo) → (o.promoted ≡ chosen) ⊎ (is_master u ≡ true) → IfSome (first_source u) (λ n. chosen ≡ Some n)
     → OldFollows u f o.followers → IsAsNamed u f o
 named-by purpose.Regroup f o chosen leads named old = tt
@@ -213,7 +213,7 @@ module _ (w : World) (read : ℕ) (now : Moment) (r : Recovery) (o : Op) (rest :
       go (inl p) = absurd (false≢true (sym p.0 ∙ ap (ends r.stage) d ∙ or-true (reads_last r.stage)))
       go (inr e) = finishing d r.stage refl e c.at
 
-  -- in the turn whose operation says so
+  -- in the turn whose operation has the lines
   done-told : by_deed w read now r.core rest (deed_of o) ≡ attempt.Ends lines → IsClosing w (record r { core = ended r.core }) lines
   done-told e =
       let is = at-finish (finish-of r.core rest w read now (deed_of o) lines e) in

@@ -60,7 +60,7 @@ rules-by w n h = go (server_at w n) refl h
           writable = record { server = s; there = at; writable = shut s.read_only parts.1 };
         }
 
--- ---- lists in which no server stands twice
+-- ---- lists that have no server twice
 
 abbrev differs : ServerNo → ServerNo → Bool
 differs k m = not (m.0 == k.0)
@@ -212,7 +212,7 @@ module _ (st : Settings) where
     named = (refl, (1, omega arith, refl));
   }
 
-  -- ---- a regroup that leaves two behind and ahead
+  -- ---- a regroup that leaves two, one as `behind` and one as `ahead`
 
   abbrev five : List ServerNo
   five = server_no 1 ∷ server_no 2 ∷ server_no 3 ∷ server_no 4 ∷ server_no 5 ∷ []

@@ -1,4 +1,4 @@
--- What an outcome that covers its replicas says of each.
+-- What it means for each replica that an outcome covers them.
 use Rattle.std.proofs.Common.{◌≡◌, ℕ, ◌+◌, ◌<◌, ◌≤◌, Bool, true, false, cond, zero, suc, List, refl, sym, ◌⊎◌, inl, inr, arith}
 use Rattle.std.specs.Prelude.{◌==◌}
 use Rattle.recovery_outcomes.proofs.Prelude.{All-contains, Contains, Covers, Follower, HasOnePlace, IsOnceIn, Outcome, Purpose, ServerNo, World}
@@ -10,7 +10,7 @@ one-of zero zero c h = inr (inr (refl, refl, omega (arith, h)))
 one-of zero (suc b) c h = inr (inl (refl, omega (arith, h), omega (arith, h)))
 one-of (suc a) b c h = inl (omega (arith, h), omega (arith, h), omega (arith, h))
 
--- the replicas are to be placed, and so is an old master
+-- the outcome owes the replicas a place, and an old master too
 owed-more : (u : Purpose) (f : ServerNo) (ns : List ServerNo) (n : ℕ) → times n ns ≤ times n (owed u f ns)
 owed-more purpose.Regroup f ns n = omega arith
 owed-more _ f ns n = omega arith

@@ -1,4 +1,4 @@
--- The lines of an outcome tell of each server that it places.
+-- The lines of an outcome have each server to which it gives a place.
 use Rattle.std.proofs.Common.{◌≡◌, ◌+◌, ◌<◌, Bool, true, false, cond, List, [], ◌∷◌, ◌++◌, map, refl, sym, ◌∙◌, ap, subst, Option, Some, None, ◌⊎◌, inl, inr, arith}
 use Rattle.std.specs.Prelude.{◌==◌, filter_map, find, option_map}
 use Rattle.recovery_outcomes.proofs.Prelude.{All, All-cons, All-contains, All-contains_itself, All-nil, All-weaker, Contains, Contains-append_left}
@@ -101,7 +101,7 @@ module _ (u : Purpose) (o : Outcome) (order : List ServerNo) where
       go (purpose.Intermediate s) = Contains-append_right (option_to_list (option_map line.Successor o.promoted)) (lines_apart o order) l (apart e)
       go (purpose.Takeover d) = Contains-append_right (option_to_list (option_map line.Promoted o.promoted)) (lines_apart o order) l (apart e)
 
--- ---- of each server that is placed
+-- ---- of each server that has a place
 
 led-by : (u : Purpose) (o : Option ServerNo) (n : ServerNo) → times n.0 (leader u o) ≡ 1 → o ≡ Some n
 led-by u o n h = go u h

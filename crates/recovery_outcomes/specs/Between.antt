@@ -19,7 +19,7 @@ recovery_by w r (Outside e) = r
 recovery_by w r (Others id es) = r
 recovery_by w r (Own b read now) = (taken w b read now r).recovery
 
--- others keep to their own leases, and a turn of this one goes by a book that is held, and goes on
+-- others keep to their own leases, and a turn of this one goes by a book with `Held`, and goes on
 abbrev pub MayCome : Leases → ℕ → World → Recovery → Between → Type 0
 MayCome l id w r (Outside e) = (is_outside e ≡ true) × Allowed w e
 MayCome l id w r (Others other es) = All (λ e. IsLeased l other (server_of e)) es × (other ≡ id → ⊥) × AllAllowed w es
@@ -37,7 +37,7 @@ abbrev pub recovery_after : World → Recovery → List Between → Recovery
 recovery_after w r [] = r
 recovery_after w r (x ∷ xs) = recovery_after (world_by w r x) (recovery_by w r x) xs
 
--- what holds of a recovery under way, quiet or not
+-- what holds for an unended recovery, with errant writes or without
 pub record UnderWay (l : Leases) (id : ℕ) (w : World) (r : Recovery) : Type 0 where
   pub placed : Placed w
   pub held : HeldRecovery w r

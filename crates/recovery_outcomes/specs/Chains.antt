@@ -2,8 +2,8 @@
 use Rattle.std.specs.Prelude.{◌≡◌, Some, All, ◌⊎◌}
 use Rattle.recovery_outcomes.specs.Prelude.{FollowsBy, HasSwapped, Recovery}
 
--- Each follows the promoted server; but after a swap, where another took the chosen one's place, each follows the
--- chosen one, which follows the promoted one.
+-- Each follows the promoted server. After a swap, if another took the chosen one's place, each follows the chosen one,
+-- which follows the promoted one.
 abbrev pub IsChain : Recovery → Type 0
 IsChain r =
     All (λ x. r.outcome.promoted ≡ Some x.source) r.outcome.followers

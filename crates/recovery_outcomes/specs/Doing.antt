@@ -43,7 +43,7 @@ pub record MakesWell (w : World) (g : Ground) (r : Recovery) (es : List Exchange
   pub so : Decisions g r decided
   pub each : All (MayMake w decided) es
 
--- where one is to be chosen each replica is drained, or lost
+-- if one is to be chosen each replica is drained, or lost
 abbrev pub ChoosesAmongAll : Recovery → Type 0
 ChoosesAmongAll r =
     (ts : List Task) → IsNext r task.Choosing ts → (n : ℕ) → 0 < times n r.replicas → 0 < times n (stopped_nos r.drained) + times n (lost_nos r.outcome.lost)

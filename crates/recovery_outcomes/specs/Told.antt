@@ -1,4 +1,4 @@
--- That the lines of an outcome tell of a server.
+-- That the lines of an outcome report a server.
 use Rattle.std.specs.Prelude.{◌≡◌, List, Some, Contains, ◌⊎◌}
 use Rattle.recovery_outcomes.specs.Prelude.{Follower, Line, LostReplica, Outcome, Purpose, ServerNo, told_why}
 use Rattle.recovery_outcomes.specs.Prelude.line

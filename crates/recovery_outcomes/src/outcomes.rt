@@ -1,12 +1,12 @@
-//! What an outcome that covers its replicas says of each.
+//! What it means for each replica that an outcome covers them.
 
 ghost use Rattle.std.specs.Prelude.{◌≡◌, ◌<◌, ◌⊎◌, ℕ, List, All, Contains, Some, true};
 ghost use Rattle.recovery_outcomes.specs.Prelude.{Covers, Follower as AFollower, HasOnePlace, Outcome, Purpose as APurpose, ServerNo as Number};
 ghost use Rattle.recovery_outcomes.specs.Prelude.{World, is_takeover, owed, times, told_by};
 ghost use Rattle.recovery_outcomes.specs.Told.{IsToldOf, leader_line};
 
-/// Where an outcome covers its replicas each of them is promoted, follows once or is lost once, and only one of these;
-/// and the followers are replicas, or the old master of a takeover.
+/// If an outcome covers its replicas each of them is promoted, follows once or is lost once, and only one of these. The
+/// followers are replicas, or the old master of a takeover.
 pub fn covered_replicas_have_one_place()
     ensures replica { (w : World) (u : APurpose) (f : Number) (replicas : List Number)
         (o : Outcome) →
@@ -17,8 +17,8 @@ pub fn covered_replicas_have_one_place()
         (0 < times x.no.0 replicas) ⊎ ((is_takeover u ≡ true) × (x.no.0 ≡ f.0)) }
 {}
 
-/// Where an outcome covers its replicas its lines tell of each server that was placed, in whatever order they are told
-/// that names it: as the promoted one, with its source, or with why it is lost and whether it was detached.
+/// If an outcome covers its replicas its lines have each server that has a place, in whatever order they name it. A
+/// server is the promoted one, or has its source, or has why it is lost and whether it was detached.
 pub fn placed_servers_are_told()
     ensures leader { (u : APurpose) (o : Outcome) (order : List Number) (n : Number) →
         o.promoted ≡ Some n → Contains (told_by u o order) (leader_line u n) }

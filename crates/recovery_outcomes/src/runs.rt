@@ -6,8 +6,8 @@ ghost use Rattle.recovery_outcomes.specs.Prelude.{taken};
 ghost use Rattle.recovery_outcomes.specs.Prelude.step;
 ghost use Rattle.recovery_outcomes.specs.Between.{Between, AllMayCome, world_after, recovery_after, UnderWay};
 
-/// Whatever comes between its turns, a recovery under way is held, keeps to its leases and covers its replicas so far;
-/// and when it is done it covers them, and tells so.
+/// Whatever comes between its turns, an unended recovery has `Held`, keeps to its leases and covers its replicas so
+/// far. When it is done it covers them, and its lines report it.
 pub fn recoveries_run()
     ensures stays { (l : Leases) (id : ℕ) (w : World) (r : Recovery) (xs : List Between) →
         AllMayCome l id w r xs → UnderWay l id w r →

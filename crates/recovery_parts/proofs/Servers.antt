@@ -36,7 +36,7 @@ pub as-many : (w : World) (x : Change) → length (after w (exchange_of x)).serv
 as-many w (change.Ask n a) = after-ask w n.0 a (desk_answer (server_at w n.0))
 as-many w (change.Attach n expect to at) = after-attached w n.0 to at (server_at w n.0) (attach_answer w n.0 expect to.0 at (server_at w n.0))
 
--- the changes behind the first, as a pattern has them
+-- the changes after the first, as a pattern has them
 rest-is : (xs : List Change) → take (length xs - 1) (drop 1 xs) ≡ drop 1 xs
 rest-is xs = take_all (length xs - 1) (drop 1 xs) (omega (arith, length-drop 1 xs))
 

@@ -8,7 +8,7 @@ use Rattle.recovery_parts.specs.declared.fates.Fate.TheVariants as code
 use Rattle.recovery_parts.specs.declared.fates.Loss.{Loss}
 use Rattle.recovery_parts.specs.declared.fates.Loss.TheVariants as loss
 
--- the fate that the code's tells
+-- the fate that the code's means
 abbrev pub fate_told : Fate → fate.Fate
 fate_told code.Fails = fate.Fails
 fate_told code.Drops = fate.Drops

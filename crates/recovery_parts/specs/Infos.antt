@@ -1,4 +1,4 @@
--- What the code's table of stages tells.
+-- What the code's table of stages has.
 use Rattle.std.specs.Prelude.{[], ◌∷◌}
 use Rattle.recovery_plans.specs.Operations.declared.op.Crossing.TheVariants as cross
 use Rattle.recovery_plans.specs.Operations.declared.op.Op.TheVariants as op

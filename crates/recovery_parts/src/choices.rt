@@ -24,7 +24,7 @@ use std::alloc::Global;
 pub struct Ground<'a> {
     /// Their settings are read, and whether they use GTIDs.
     pub world: &'a World,
-    /// Of the servers of this world.
+    /// The book that it goes by, of the servers of this world.
     pub book: &'a Book,
     /// The moment of the turn.
     pub moment: Moment,
@@ -37,7 +37,7 @@ fn logs_at(world: &World, no: ServerNo) -> bool
     no.0 < world.servers() && world.settings(no).logs
 }
 
-// The data centre that a server stands in.
+// The data centre that a server is in.
 fn center(world: &World, no: ServerNo) -> &str
     ensures { result.now ≡ center_in (server_at world.now no.0) }
 {
@@ -48,7 +48,7 @@ fn center(world: &World, no: ServerNo) -> &str
     }
 }
 
-// Whether two servers stand in one data centre.
+// Whether two servers are in one data centre.
 fn is_near(world: &World, one: ServerNo, other: ServerNo) -> bool
     ensures { result ≡ is_near world.now one other }
 {
@@ -98,7 +98,7 @@ fn stopped_in(list: &[Stopped], no: Option<ServerNo>) -> Option<Stopped>
     stopped_at(list, no?).copied()
 }
 
-/// The drained replica of a failed server that is promoted.
+/// The drained replica of a failed server that is promoted. `Err` means out of memory.
 pub fn chosen_of(
     alloc: Global,
     by: &Ground<'_>,
@@ -152,7 +152,7 @@ fn followers_all(
     Ok(all)
 }
 
-/// The follower that takes the promoted one's place.
+/// The follower that takes the promoted one's place. `Err` means out of memory.
 pub fn better_of(
     alloc: Global,
     by: &Ground<'_>,
@@ -209,7 +209,7 @@ pub fn lot_by(
     }
 }
 
-/// A replica that is left where none may be promoted.
+/// A replica that is left if none may be promoted.
 pub(crate) fn unfit(world: &World, replica: &Stopped) -> LostReplica
     ensures { result ≡ unfit world.now replica.now }
 {
@@ -246,8 +246,8 @@ pub fn way_below(
     Some(Way::Up(bridge))
 }
 
-// What a reason tells of a lost one: whether it executed what the new source didn't, or less, or its place is purged
-// there; whether it stands elsewhere, or where it stood before it was to be matched; whether it was reached.
+// What a reason means for a lost one: whether it executed what the new source didn't, or less, or its place is purged
+// there. Then whether it is elsewhere, or at its position before it was to be matched, and whether it was reached.
 #[derive(Clone, Copy)]
 struct Care {
     apart: bool,

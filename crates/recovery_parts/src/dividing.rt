@@ -1,4 +1,4 @@
-//! Drained replicas divided by where they go.
+//! Drained replicas divided by how they go.
 
 ghost use Rattle.std.specs.Prelude.{◌≡◌, ◌<◌, ◌++◌, All, IfOk, OnOk, filter, length, map};
 ghost use Rattle.recovery_plans.specs.Deciding.{losses_in, lot_by, may_lead, moves_in, unfit, without_stopped};
@@ -10,7 +10,7 @@ use crate::server_model::World;
 use recovery_plans::{LostReplica, Means, Stopped, Task};
 use std::alloc::Global;
 
-/// The drained replicas that might be chosen.
+/// The drained replicas that might be chosen. `Err` means out of memory.
 pub fn leaders(alloc: Global, by: &Ground<'_>, list: &[Stopped]) -> Result<Vec<Stopped>, Memory>
     requires { All (λ s. s.no.0 < length by.now.book.now.names) list.now }
     ensures { IfOk result (λ v. v.items ≡ filter (may_lead (ground_by by.now)) list.now) }
@@ -24,7 +24,7 @@ pub fn leaders(alloc: Global, by: &Ground<'_>, list: &[Stopped]) -> Result<Vec<S
     Ok(leaders)
 }
 
-/// The others beside one of them.
+/// The others beside one of them. `Err` means out of memory.
 pub fn without(alloc: Global, list: &[Stopped], no: ServerNo) -> Result<Vec<Stopped>, Memory>
     ensures { IfOk result (λ v. v.items ≡ without_stopped list.now no) }
 {
@@ -37,8 +37,8 @@ pub fn without(alloc: Global, list: &[Stopped], no: ServerNo) -> Result<Vec<Stop
     Ok(others)
 }
 
-/// Where the others go beside the chosen one, by these means: their moves, and those that are lost behind the ones that
-/// are.
+/// How the others go beside the chosen one, by these means: their moves. Those that are lost are put after the ones
+/// that are lost already. `Err` means out of memory.
 pub fn divide(
     alloc: Global,
     by: &Ground<'_>,
@@ -69,7 +69,7 @@ pub fn divide(
     Ok(moves)
 }
 
-/// Each is lost where none may be promoted.
+/// Each is lost if none may be promoted. `Err` means out of memory.
 pub fn lose_all(world: &World, list: &[Stopped], lost: &mut Vec<LostReplica>) -> Result<(), Memory>
     ensures { OnOk result (lost.new.items ≡ lost.old.items ++ map (unfit world.now) list.now) }
 {

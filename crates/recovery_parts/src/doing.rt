@@ -20,7 +20,7 @@ use std::alloc::Global;
 pub enum Change {
     /// This is asked of the server.
     Ask(ServerNo, Ask),
-    /// The first server, which stands at the spot, goes below another at a coordinate of that one's log.
+    /// The first server, which is at this position, goes below another at a coordinate of that one's log.
     Attach(ServerNo, Spot, ServerNo, Coord),
 }
 
@@ -44,14 +44,14 @@ fn starts(alloc: Global, hands: &[ServerNo]) -> Result<Vec<Change>, Memory>
     Ok(changes)
 }
 
-/// One change.
+/// One change. `Err` means out of memory.
 pub fn only(alloc: Global, change: Change) -> Result<Vec<Change>, Memory>
     ensures { IfOk result (λ v. v.items ≡ change ∷ []) }
 {
     Ok(vec![in alloc; change]?)
 }
 
-/// Then each of these servers is started.
+/// Then each of these servers is started. `Err` means out of memory.
 pub fn then_starts(
     alloc: Global,
     mut changes: Vec<Change>,
@@ -65,7 +65,7 @@ pub fn then_starts(
     Ok(changes)
 }
 
-/// What the act of a job does to servers.
+/// What the act of a job does to servers. `Err` means out of memory.
 pub fn doing_of(alloc: Global, job: &JobView<'_>, act: &Act) -> Result<Doing, Memory>
     ensures exchanges { IfOk result (λ d. exchanges_of d ≡ made_by job.now act.now) }
     ensures memory { IfOk result (λ d. takes_memory d ≡ true → wants_memory act.now ≡ true) }
@@ -86,7 +86,7 @@ pub fn doing_of(alloc: Global, job: &JobView<'_>, act: &Act) -> Result<Doing, Me
     })
 }
 
-// Makes a change; one that is refused changes nothing.
+// Makes a change. One that is refused changes nothing.
 fn make_one(world: &mut World, change: Change)
     requires server { server_of (exchange_of change) < length world.old.servers }
     requires allowed { Allowed world.old (exchange_of change) }
@@ -118,7 +118,7 @@ fn make(world: &mut World, changes: &[Change])
     }
 }
 
-/// Does it. At want of memory nothing has changed.
+/// Does it. If memory runs out, nothing has changed.
 pub fn perform(alloc: Global, world: &mut World, doing: Doing) -> Result<(), Memory>
     requires servers { All (λ e. server_of e < length world.old.servers) (exchanges_of doing) }
     requires allowed { AllAllowed world.old (exchanges_of doing) }

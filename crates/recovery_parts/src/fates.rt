@@ -26,13 +26,13 @@ pub enum Fate {
     /// The replica is lost; or it is started, too.
     Loses(ServerNo, Why),
     Frees(ServerNo, Why),
-    /// The better one is started where it stands.
+    /// The better one is started in its place.
     Releases(ServerNo),
     /// The second goes back below the first.
     Returns(ServerNo, ServerNo),
 }
 
-/// What a failing operation tells of the replica that it speaks with.
+/// What a failing operation means for the replica that it works on.
 #[derive(Clone, Copy)]
 pub(crate) enum Loss {
     /// It took too long.
@@ -43,7 +43,7 @@ pub(crate) enum Loss {
     Missed(Miss),
 }
 
-/// Where a server was seen.
+/// The position at which a server was seen.
 pub fn spot_seen(source: SourceState, exec: Coord) -> Spot
     ensures { result ≡ spot_seen source exec }
 {
@@ -53,7 +53,7 @@ pub fn spot_seen(source: SourceState, exec: Coord) -> Spot
     }
 }
 
-// Where a server is.
+// The position at which a server is.
 fn spot_at(world: &World, no: ServerNo) -> Spot
     ensures { result ≡ spot_by (server_at world.now no.0) }
 {
@@ -74,7 +74,7 @@ fn exec_at(world: &World, no: ServerNo) -> Coord
     world.plain(no).exec
 }
 
-// What a failing operation tells of the replica that it speaks with: nothing, where the recovery fails.
+// What a failing operation means for the replica that it works on: nothing, if the recovery fails.
 fn loss_of(cause: &Cause) -> Option<Loss>
     ensures { option_map loss_told result ≡ loss_of cause.now }
 {
@@ -131,7 +131,7 @@ fn of_drain(no: ServerNo, loss: Option<Loss>) -> Fate
     }
 }
 
-// One that takes too long is behind, where it stands.
+// One that takes too long is lost as `behind`, at its position.
 fn of_trail(world: &World, no: ServerNo, loss: Option<Loss>) -> Fate
     ensures { fate_told result ≡ trail_fate world.now no (option_map loss_told loss) }
 {
@@ -160,7 +160,7 @@ fn on_way(purpose: Purpose, no: ServerNo, why: Lost) -> Fate
     }
 }
 
-// Where a replica was to be attached; by GTIDs or a match, where it stands.
+// The coordinate at which a replica was to be attached. By GTIDs or a match it is its own position.
 fn place_on(way: Way) -> Coord
     ensures { result ≡ place_on way }
 {
@@ -192,7 +192,7 @@ fn of_attach(world: &World, purpose: Purpose, no: ServerNo, way: Way, loss: Opti
     }
 }
 
-// One that goes by a match is left where it stands, for whatever cause.
+// One that goes by a match is left in its place, for whatever cause.
 fn of_match(no: ServerNo, loss: Option<Loss>) -> Fate
     ensures { fate_told result ≡ match_fate no (option_map loss_told loss) }
 {

@@ -1,4 +1,4 @@
-//! The parts of a recovery's turn: the operations of its stages, which replica is promoted and where the others go,
+//! The parts of a recovery's turn: the operations of its stages, which replica is promoted and how the others go. Then
 //! what becomes of a stage whose operation fails, and changes of servers.
 #![tactic(auto)]
 
@@ -19,7 +19,7 @@ use recovery_plans::{
     binlog_coords_items, commands, gtid_sets, instance_keeper_items, operations_items, orch_base,
     promotion_rules, replica_groups, server_model, server_words_items,
 };
-/// Want of memory.
+/// Out of memory.
 pub use recovery_plans::orch_base::Memory;
 pub use stages::ends;
 pub use table::{Back, Bar, Failing, Info, Made, info_of};

@@ -11,7 +11,7 @@ use crate::orch_base::{Memory, ServerNo, SourceState};
 use recovery_plans::Way;
 use std::alloc::Global;
 
-/// Room for the operations of a stage.
+/// Room for the operations of a stage. `Err` means out of memory.
 pub fn room(alloc: Global) -> Result<Vec<Op>, Memory>
     ensures items { IfOk result (λ ops. ops.items ≡ []) }
     ensures room { IfOk result (λ ops. 8 ≤ vec_capacity ops) }
@@ -98,7 +98,7 @@ pub fn shut(mut ops: Vec<Op>, m: ServerNo, d: ServerNo) -> Vec<Op>
     ops
 }
 
-/// A replica comes to where another was seen.
+/// A replica comes to the position at which another was seen.
 pub fn trail(mut ops: Vec<Op>, no: ServerNo, d: ServerNo) -> Vec<Op>
     requires { 8 ≤ vec_capacity ops }
     ensures { result.items ≡ trail no d }
@@ -126,7 +126,7 @@ fn going(way: Way, no: ServerNo) -> Op
     }
 }
 
-/// A replica goes a way, perhaps behind a match of its log, and is started.
+/// A replica goes a way, after a match of its log if it needs one, and is started.
 pub fn moving(ops: Vec<Op>, no: ServerNo, way: Way) -> Vec<Op>
     requires { 8 ≤ vec_capacity ops }
     ensures { result.items ≡ before way no ++ move way no ∷ Op.Start no ∷ [] }
@@ -154,7 +154,7 @@ pub(crate) fn target(way: Way) -> ServerNo
     }
 }
 
-/// Where a bridge's server stood when the bridge was taken.
+/// The position of a bridge's server when the bridge was taken.
 pub fn sight_of(alloc: Global, bridge: Bridge) -> Sight
     ensures { result ≡ record { no = bridge.no; seen = sight_of bridge } }
 {

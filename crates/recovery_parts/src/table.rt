@@ -38,13 +38,13 @@ pub enum Failing {
     All,
     /// Nothing more is done with the server.
     Passes,
-    /// A replica may be lost, which was to be drained, to go some way, to be started below its new source, or to come to
-    /// where another stopped.
+    /// A replica may be lost. It was to be drained, to go some way, to be started below its new source, or to come to
+    /// the position at which another stopped.
     Drains(ServerNo),
     Moves(ServerNo, Way),
     Joins(ServerNo),
     Trails(ServerNo),
-    /// The better one is started where it stands.
+    /// The better one is started in its place.
     Releases(ServerNo),
     /// The second goes back below the first.
     Returns(ServerNo, ServerNo),
@@ -90,7 +90,7 @@ pub struct Info {
     pub made: Made,
 }
 
-// A stage that goes on so where its operation fails.
+// A stage that goes on so if its operation fails.
 #[inline(always)]
 fn risking(next: Stage, failing: Failing) -> Info
     ensures { result ≡ record {
@@ -133,7 +133,7 @@ fn reading(next: Stage, failing: Failing) -> Info
     }
 }
 
-// One with a way back, where it fails, that makes something.
+// One with a way back, if it fails, that makes something.
 #[inline(always)]
 fn ending(next: Stage, back: Back, made: Made) -> Info
     ensures { result ≡ record {

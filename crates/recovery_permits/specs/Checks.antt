@@ -39,8 +39,8 @@ held_back b audit a f = held_by (may_begin audit (label_at b f) a.now.0)
 abbrev pub without_candidate : World → BookState → Attempt → ServerNo → Option Refusal
 without_candidate w b a f = only_if (not (has_candidate w b a.now f)) refusal.NoCandidate
 
--- a server can take the replicas of an intermediate master below it, its source: it is a valid instance, logs, is of
--- the same cluster, and isn't one of them, since the book may show a loop
+-- A server can take the replicas of an intermediate master below it, its source: it is a valid instance, logs, and is
+-- of the same cluster. It isn't one of them, because the book may have a loop.
 abbrev pub can_succeed : World → BookState → ServerNo → ServerNo → Bool
 can_succeed w b f s = is_valid b s && (has_log w s && (same_label w s f && not (is_replica_of b f s)))
 

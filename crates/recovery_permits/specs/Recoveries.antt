@@ -18,7 +18,7 @@ case_over f replicas = record { i = f; to = None; leased = f ∷ replicas; reach
 abbrev pub case_of : BookState → ServerNo → Case
 case_of b f = case_over f (replicas_of b f)
 
--- 21 to 23: what keeps a recovery from beginning by itself; by hand it begins in spite of these
+-- 21 to 23: what holds a recovery back that begins by itself; by hand it begins in spite of these
 abbrev pub unasked : BookState → Attempt → ServerNo → Bool → Option Refusal
 unasked b a f passes = if a.by_hand then None else first_of (disabled a ∷ downtimed b a f ∷ filtered passes ∷ [])
 

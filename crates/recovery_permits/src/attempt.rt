@@ -13,8 +13,8 @@ pub struct Attempt {
     pub enabled: bool,
     /// Whether an operator asks for it: then the switch, downtimes and filters make no difference.
     pub by_hand: bool,
-    /// For how many seconds the recovery blocks others of its cluster once it is begun, unless it is acknowledged: the
-    /// period of its cluster, at most 1,000,000,000.
+    /// For how many seconds the recovery blocks others of its cluster once it is begun, unless it is acknowledged. It
+    /// is the period of its cluster, at most 1,000,000,000.
     pub block: u64,
     /// The present moment.
     pub now: Moment,

@@ -14,7 +14,7 @@ pub use permission::{
     binlog_coords_items, book_views, commands, gtid_sets, instance_keeper_items, kept_rows_items,
     operations_items, orch_base, server_model, topology_tree,
 };
-/// Want of memory.
+/// Out of memory.
 pub use permission::PermitFault;
 pub use permission::orch_base::Memory;
 pub use recoveries::{permit_recovery, recovery_purpose, recovery_servers, refusal_by_code};

@@ -21,7 +21,7 @@ use recovery_plans::Purpose;
 use std::alloc::Global;
 
 /// The servers of which the recovery of a server, or the takeover of its place, takes the leases: it and its replicas,
-/// these in their order. `Err` is want of memory.
+/// these in their order. `Err` means out of memory.
 pub fn recovery_servers(
     alloc: Global,
     failed: ServerNo,
@@ -49,7 +49,7 @@ fn case_of(alloc: Global, failed: ServerNo, replicas: &[ServerNo]) -> Result<Cas
     ))
 }
 
-// What keeps a recovery from beginning by itself.
+// What holds a recovery back that begins by itself.
 fn unasked(book: &Book, attempt: Attempt, failed: ServerNo, passes: bool) -> Option<Refusal>
     requires { failed.0 < length book.now.names }
     ensures { result ≡ unasked book.now attempt failed passes }
@@ -62,7 +62,7 @@ fn unasked(book: &Book, attempt: Attempt, failed: ServerNo, passes: bool) -> Opt
         .or_else(|| filtered(passes))
 }
 
-// What keeps the recovery of a server from beginning, by whether its cluster passes the filters.
+// What holds the recovery of a server back, by whether its cluster passes the filters.
 fn held_off(
     book: &Book,
     audit: &Audit,
@@ -80,8 +80,8 @@ fn held_off(
     }
 }
 
-/// What refuses the recovery of a server where no job has a lease of it or of its replicas, by its code and its
-/// replicas in name order: the refusal of the lowest number. Moments are at most 2^63. It takes no memory.
+/// What refuses the recovery of a server if no job has a lease of it or of its replicas. It is the refusal of the
+/// lowest number, by the server's code and its replicas in name order. Moments are at most 2^63. It takes no memory.
 pub fn refusal_by_code(
     book: &Book,
     world: &World,
@@ -144,7 +144,7 @@ fn refusal_by(
 
 /// Refuses the recovery of a server, by its replicas in name order and its code, with the refusal of the lowest number
 /// that applies. It goes by the book, the audit, the servers' settings and the moment, and changes nothing. Moments are
-/// at most 2^63. `Memory` comes only for want of memory.
+/// at most 2^63. `Memory` comes only if memory runs out.
 pub fn permit_recovery(
     alloc: Global,
     book: &Book,
@@ -169,7 +169,7 @@ pub fn permit_recovery(
     )?)
 }
 
-/// What the recovery of a server is for: its place is taken, or, where it has a source, its replicas go below that.
+/// What the recovery of a server is for: its place is taken. If it has a source, its replicas go below that instead.
 pub fn recovery_purpose(book: &Book, failed: ServerNo) -> Purpose
     ensures { result ≡ recovery_purpose book.now failed }
 {

@@ -32,7 +32,7 @@ fn comes_below(book: &Book, i: ServerNo, d: ServerNo, no: ServerNo) -> bool
     no.0 != d.0 && (no.0 == i.0 || is_replica_of(book, i, no))
 }
 
-/// The servers that come below the designated one, in name order: the master and its other replicas. `Err` is want of
+/// The servers that come below the designated one, in name order: the master and its other replicas. `Err` means out of
 /// memory.
 pub fn followers_of(
     alloc: Global,
@@ -105,10 +105,10 @@ fn takeover_refusal(
     }
 }
 
-/// Refuses the takeover of a master's place by a replica, by the master's replicas and the servers that come below the
-/// designated one, each in name order, with the refusal of the lowest number that applies. It goes by the book, the
-/// audit, the servers' settings and the moment, and changes nothing. Moments are at most 2^63. `Memory` comes only for
-/// want of memory.
+/// Refuses the takeover of a master's place by a replica with the refusal of the lowest number that applies. It goes by
+/// the master's replicas and the servers that come below the designated one, each in name order. It also goes by the
+/// book, the audit, the servers' settings and the moment, and changes nothing. Moments are at most 2^63. `Memory` comes
+/// only if memory runs out.
 pub fn permit_takeover(
     alloc: Global,
     book: &Book,

@@ -62,8 +62,8 @@ module _ (st : Settings) where
       ∷ line.Follows (server_no 4) (server_no 1) ∷ line.Lost (server_no 5) (lost.Ahead (end 4)) false ∷ [])
   gathers-by-sets = refl
 
-  -- by matches, with each second transaction a mark: d has none, and a lacks the last of e; both are started where they
-  -- stood
+  -- by matches, with each second transaction a mark: d has none, and a lacks the last of e; both are started in their
+  -- places
   abbrev gathering_by_matches : Taken × ℕ × World
   gathering_by_matches = rounds gathered_book (each_turn []) 0 60 gathered_servers (begun_recovery purpose.Regroup (means.Matches 2) 1 5 (server_no 0) five five)
 
@@ -83,7 +83,7 @@ module _ (st : Settings) where
   gathers-by-matches-runs : map (runs gathering_by_matches.2) (1 ∷ 2 ∷ 3 ∷ 4 ∷ 5 ∷ []) ≡ true ∷ true ∷ true ∷ true ∷ true ∷ []
   gathers-by-matches-runs = refl
 
-  -- where each is barred, those that were stopped are started in the turn behind the last drain
+  -- if each is barred, those that were stopped are started in the turn after the last drain
   abbrev barring : Taken × ℕ × World
   barring =
       rounds (book (109 ∷ 97 ∷ 98 ∷ []) ([] ∷ [] ∷ [] ∷ []) (rule.Neutral ∷ rule.MustNot ∷ rule.MustNot ∷ [])) (each_turn []) 0 60 gathered_servers
@@ -132,7 +132,7 @@ module _ (st : Settings) where
   swaps-sources : map (sources (mastering rule.Prefer replicates).2) (1 ∷ 2 ∷ 3 ∷ []) ≡ Some 2 ∷ None ∷ Some 1 ∷ []
   swaps-sources = refl
 
-  -- where replication doesn't go on, b follows a, and there is no swap
+  -- if replication doesn't go on, b follows a, and there is no swap
   gives-up : (mastering rule.Prefer []).0.step ≡ step.Done (
       line.Promoted (server_no 1) ∷ line.Follows (server_no 2) (server_no 1) ∷ line.Follows (server_no 3) (server_no 1) ∷ [])
   gives-up = refl
@@ -144,7 +144,7 @@ module _ (st : Settings) where
   crowns-in : (mastering rule.Neutral replicates).1 ≡ 21
   crowns-in = refl
 
-  -- where a stands in another data centre than m, c is chosen, which has executed as much
+  -- if a is in another data centre than m, c is chosen, which has executed as much
   abbrev elsewhere : Server → Server
   elsewhere s = record s { settings = record s.settings { dc = 120 ∷ [] } }
 
@@ -164,7 +164,8 @@ module _ (st : Settings) where
   lives : living.0.step ≡ step.Failed (cause.Reachable (server_no 0)) []
   lives = refl
 
-  -- ---- lost ones: a is down; of b and c, which executed three and one, b is promoted, and c is behind without a
+  -- ---- lost ones: a is down; of b and c, which executed three and one, b is promoted, and c is lost as `behind`
+  -- without a
   -- bridge
 
   abbrev lossy_servers : World
@@ -179,7 +180,7 @@ module _ (st : Settings) where
       line.Promoted (server_no 2) ∷ line.Lost (server_no 1) lost.Unreachable false ∷ line.Lost (server_no 3) (lost.Behind (end 1)) true ∷ [])
   loses-behind = refl
 
-  -- where b must not be promoted it is ahead of c
+  -- if b must not be promoted it is ahead of c
   loses-ahead : (losing rule.MustNot).0.step ≡ step.Done (
       line.Promoted (server_no 3) ∷ line.Lost (server_no 1) lost.Unreachable false ∷ line.Lost (server_no 2) (lost.Ahead (end 3)) true ∷ [])
   loses-ahead = refl
@@ -201,7 +202,7 @@ module _ (st : Settings) where
       ≡ step.Done (line.Promoted (server_no 2) ∷ line.Follows (server_no 1) (server_no 2) ∷ line.Follows (server_no 3) (server_no 1) ∷ [])
   sets-swap = refl
 
-  -- ---- where clients write to the chosen one during the swap, it doesn't go below the better one, which goes back
+  -- ---- if clients write to the chosen one during the swap, it doesn't go below the better one, which goes back
 
   abbrev loosened : Server → Server
   loosened s = record s { read_only = false }

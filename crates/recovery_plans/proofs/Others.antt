@@ -78,7 +78,7 @@ module _ (st : Settings) where
   takes-sources : map (sources (taking (each_turn []) (server_no 1 ∷ server_no 2 ∷ [])).2) (0 ∷ 1 ∷ 2 ∷ []) ≡ Some 1 ∷ None ∷ Some 1 ∷ []
   takes-sources = refl
 
-  -- one that takes too long is behind, and is started below its old source
+  -- one that takes too long is lost as `behind`, and is started below its old source
   lags : (taking (each_turn []) pair).0.step ≡ step.Done (
       line.Promoted (server_no 1) ∷ line.Follows (server_no 0) (server_no 1) ∷ line.Follows (server_no 2) (server_no 1)
       ∷ line.Lost (server_no 3) (lost.Behind (end 1)) false ∷ [])

@@ -283,7 +283,7 @@ taken-walks w b read now r = acted-walks w b read now r (decided (ground_of w b 
 
 -- ---- what is kept
 
--- no operation is left where something is decided
+-- no operation is left if something is decided
 pub decides-idle : (w : World) (b : BookState) (now : Moment) (r : Recovery) (d : Decision) → MayDecide (ground_of w b now) r d → r.core.ops ≡ []
 decides-idle w b now r (move.Reads n ts) may = may.rests
 decides-idle w b now r (move.Drains n ts) may = may.rests
@@ -303,7 +303,7 @@ decisions-keep w b now P keep move.Still p = p
 decisions-keep w b now P keep (move.Then {r} d may rest) p = decisions-keep w b now P keep rest (keep r d may p)
 
 -- Each move leaves what the next one finds: what holds before the turn's operation, between it and the end of the
--- stage, and behind that, each with the world as it is then.
+-- stage, and after that. Each holds with the world as it is then.
 pub record Keeps (w : World) (b : BookState) (read : ℕ) (now : Moment) (Before : Recovery → Type 0) (Between After : World → Recovery → Type 0) : Type 0 where
   pub decides : (r : Recovery) (d : Decision) → MayDecide (ground_of w b now) r d → Before r → Before (decided_by (ground_of w b now) r d)
   pub waits : (r : Recovery) (o : Op) (rest : List Op) (ob : Option Observation) (es : List Exchange) (j : Job) → Does w read now r o rest ob es j → is_waiting j ≡ true

@@ -20,7 +20,7 @@ abbrev entries : ℕ → ℕ → List Entry
 entries start zero = []
 entries start (suc k) = record { file = 1; start = start; end = start + 100 } ∷ entries (start + 100) k
 
--- where so many transactions end
+-- the end of so many transactions
 abbrev pub end : ℕ → Coord
 end k = at (4 + 100 * k)
 
@@ -68,18 +68,18 @@ book letters rings rules = record {
 abbrev pub bridge : ℕ → ℕ → ℕ → Bridge
 bridge n m k = record { no = server_no n; source = server_no m; own = end k; exec = end k }
 
--- the turns of a recovery, behind each of which others' exchanges come, until it ends: what the last turn came to, how
--- many turns there were, and the world after it
+-- The turns of a recovery until it ends, with others' exchanges after each turn. It gives what the last turn came to,
+-- how many turns there were, and the world after it.
 abbrev pub rounds : BookState → (ℕ → List Exchange) → ℕ → ℕ → World → Recovery → Taken × ℕ × World
 rounds b between k zero w r = (taken w b 0 now r, k + 1, w)
 rounds b between k (suc n) w r =
     if is_going (taken w b 0 now r).step then rounds b between (k + 1) n (run (run w (taken w b 0 now r).exchanges) (between (k + 1))) (taken w b 0 now r).recovery
     else (taken w b 0 now r, k + 1, run w (taken w b 0 now r).exchanges)
 
--- with the same exchanges behind each turn
+-- with the same exchanges after each turn
 abbrev pub each_turn : List Exchange → ℕ → List Exchange
 each_turn es k = es
 
--- or behind one of them
+-- or after one of them
 abbrev pub at_turn : ℕ → List Exchange → ℕ → List Exchange
 at_turn n es k = if k == n then es else []

@@ -33,7 +33,7 @@ first_tasks purpose.Master replicas = map task.Draining replicas ++ task.Choosin
 first_tasks (purpose.Intermediate s) replicas = task.Reading s ∷ (map task.Draining replicas ++ task.Handing ∷ task.Sorting ∷ [])
 first_tasks (purpose.Takeover d) replicas = map task.Trailing (but replicas d) ++ task.Yielding ∷ []
 
--- the new source, where it is known from the beginning
+-- the new source, if it is known from the start
 abbrev pub first_source : Purpose → Option ServerNo
 first_source purpose.Regroup = None
 first_source purpose.Master = None
@@ -52,8 +52,8 @@ is_takeover purpose.Master = false
 is_takeover (purpose.Intermediate s) = false
 is_takeover (purpose.Takeover d) = true
 
--- A recovery begins, by whose means the others go, as the job of this number, whose operations may wait so often each:
--- of this server, with these replicas, and telling of those.
+-- A recovery begins, as the job of this number, whose operations may wait so often each. It is of this server, with
+-- these replicas, and it reports those. The others go by these means.
 abbrev pub begun_recovery : Purpose → Means → ℕ → ℕ → ServerNo → List ServerNo → List ServerNo → Recovery
 begun_recovery u by id wait failed replicas order = record {
   purpose = u;

@@ -1,4 +1,4 @@
--- What is decided at the beginning of a turn, by the servers' settings, what was drained and the book of that turn.
+-- What is decided at the start of a turn, by the servers' settings, what was drained and the book of that turn.
 use Rattle.std.specs.Prelude.{ℕ, nat_eq, Bool, true, false, ◌==◌, ◌&&◌, not, if◌then◌else◌, List, [], ◌∷◌, ◌++◌, map, filter, find, Option, Some, None, is_some, option_map, unwrap_or}
 use Rattle.recovery_plans.specs.Prelude.{BookState, Bridge, Coord, Drained, Group, Moment, Op, Server, ServerNo, Sight, World, better, group_of}
 use Rattle.recovery_plans.specs.Prelude.{has_own, is_barred, latest_that, logs_by, most_advanced, pointwise, ring_at, rule_at, seen_of, server_at}
@@ -43,7 +43,7 @@ abbrev pub center_in : Option Server → List ℕ
 center_in None = []
 center_in (Some s) = s.settings.dc
 
--- two servers stand in one data centre
+-- two servers are in one data centre
 abbrev pub is_near : World → ServerNo → ServerNo → Bool
 is_near w one other = pointwise nat_eq (center_in (server_at w one.0)) (center_in (server_at w other.0))
 
@@ -73,7 +73,7 @@ abbrev pub stopped_in : List Stopped → Option ServerNo → Option Stopped
 stopped_in xs None = None
 stopped_in xs (Some n) = find (λ s. s.no.0 == n.0) xs
 
--- it logs, and its rule doesn't bar it, wherever it stands
+-- it logs, and its rule doesn't bar it, in whatever data centre it is
 abbrev pub may_lead : Ground → Stopped → Bool
 may_lead g s = logs_at g.world s.no && not (is_barred (rule_at g.book s.no g.moment))
 
@@ -83,14 +83,14 @@ chosen_of g f xs = stopped_in xs (most_advanced g.book.names (map (drained_of g 
 abbrev pub better_of : Ground → ServerNo → ServerNo → List ServerNo → Option ServerNo
 better_of g f p qs = better g.book.names (follower_of g f p) (map (follower_of g f) qs)
 
--- ---- where the others go
+-- ---- how the others go
 
 -- a drained replica goes some way, or is lost
 pub data Lot : Type 0 where
   Goes : (by : Way) → Lot
   Stays : (why : Why) → Lot
 
--- below the chosen one, from where it stands under their source
+-- below the chosen one, from its position under their source
 abbrev pub lot_by_group : ServerNo → ServerNo → Stopped → Group → Lot
 lot_by_group p f s (group.Follow at) = Goes (way.Down (record { no = p; source = f; own = at; exec = s.exec }))
 lot_by_group p f s group.Ahead = Stays (whys.ahead s.exec)
@@ -137,7 +137,7 @@ choose_by r p lot others = record r {
   outcome = record { promoted = Some p; followers = r.outcome.followers; lost = r.outcome.lost ++ losses_in lot others };
 }
 
--- where none may be promoted, each drained one is lost
+-- if none may be promoted, each drained one is lost
 abbrev pub unfit : World → Stopped → LostReplica
 unfit w s = record { no = s.no; why = if logs_at w s.no then whys.must_not else whys.not_logging; detached = false }
 
@@ -162,8 +162,8 @@ moving r n by =
 abbrev pub way_by_set : World → List Sight → ServerNo → Stopped → Option Way
 way_by_set w seen s d = if is_some (seen_of seen s.0) && logs_at w s then Some (way.Auto s d.exec) else None
 
--- below the successor: by its GTIDs, or by the latest kept bridge of the failed server under it where the replica
--- stands
+-- below the successor: by its GTIDs, or by the latest kept bridge of the failed server under it at the replica's
+-- position
 abbrev pub way_below : Ground → List Sight → ServerNo → ServerNo → Stopped → Option Way
 way_below g seen x s d =
     if g.world.gtid then way_by_set g.world seen s d else option_map way.Up (latest_that (has_own s d.exec) (ring_at g.book.rings x))
@@ -186,14 +186,14 @@ hand_over g r (Some s) = hand g s r r.drained
 abbrev pub why_of : List LostReplica → ServerNo → Option Why
 why_of xs n = option_map (λ l. l.why) (find (λ l. l.no.0 == n.0) xs)
 
--- What a reason tells of a lost one: whether it executed what the new source didn't, or less, or its place is purged
--- there; whether it stands elsewhere; whether it was reached.
+-- What a reason means for a lost one: whether it executed what the new source didn't, or less, or its place is purged
+-- there. Then whether it is below another source, and whether it was reached.
 pub record Care : Type 0 where
   pub apart : Bool
   pub elsewhere : Bool
   pub reached : Bool
 
--- one that wasn't matched stands where it stood
+-- one that wasn't matched is still at its position
 abbrev pub care_of : Why → Care
 care_of (why.Lost (lost.Ahead c)) = record { apart = true; elsewhere = false; reached = true }
 care_of (why.Lost (lost.Behind c)) = record { apart = true; elsewhere = false; reached = true }
@@ -270,7 +270,7 @@ at_last g r (purpose.Takeover d) = r
 
 -- ---- what is next
 
--- the replica is read, and comes to where the designated one stopped
+-- the replica is read, and comes to the position at which the designated one stopped
 abbrev pub look_at : Recovery → ServerNo → Option Bridge → Recovery
 look_at r n None = stuck r
 look_at r n (Some b) = working r (stage.Look n b) (op.Status n None ∷ [])
@@ -298,10 +298,10 @@ by_queue g r (x ∷ xs) ts = r
 by_queue g r [] [] = at_last g r r.purpose
 by_queue g r [] (t ∷ ts) = by_task g (record r { queue = ts }) t
 
--- the next task, where no operation is left
+-- the next task, if no operation is left
 abbrev pub once : Ground → Recovery → Recovery
 once g r = by_queue g r r.core.ops r.queue
 
--- at most four decisions stand one behind another
+-- at most four decisions follow one another
 abbrev pub decided : Ground → Recovery → Recovery
 decided g r = once g (once g (once g (once g r)))

@@ -28,7 +28,7 @@ use Rattle.recovery_plans.specs.Taking.{Fate, Taken, barred_by, expelled, fails,
 
 -- ---- what is decided
 
--- What is decided where no operation is left, with the tasks behind the next one.
+-- What is decided if no operation is left, with the tasks after the next one.
 pub data Decision : Type 0 where
   -- a server is read; a replica is drained, goes below its new source, is detached, is started
   Reads : (n : ServerNo) (ts : List Task) → Decision
@@ -36,10 +36,11 @@ pub data Decision : Type 0 where
   Sends : (n : ServerNo) (by : Way) (ts : List Task) → Decision
   Expels : (n : ServerNo) (ts : List Task) → Decision
   Releases : (n : ServerNo) (ts : List Task) → Decision
-  -- a replica is read that is to come to where the designated one stopped; that one takes its master's place
+  -- a replica is read that is to come to the position at which the designated one stopped; that one takes its master's
+  -- place
   Looks : (n : ServerNo) (x : Bridge) (ts : List Task) → Decision
   Yields : (x : Bridge) (ts : List Task) → Decision
-  -- nobody knows where the designated one stopped
+  -- nobody knows the position at which the designated one stopped
   Sticks : (t : Task) (ts : List Task) → Decision
   -- this one of the drained is chosen, or none of them
   Chooses : (p : Stopped) (ts : List Task) → Decision
@@ -81,7 +82,7 @@ decided_by g r (Crowns p) = crown r (Some p)
 decided_by g r (Rejoins p) = rejoin r (Some p)
 decided_by g r Closes = closing r []
 
--- no operation is left, and this is the next task, with those behind it
+-- no operation is left, and this is the next task, with those after it
 pub record IsNext (r : Recovery) (t : Task) (ts : List Task) : Type 0 where
   pub rests : r.core.ops ≡ []
   pub queue : r.queue ≡ t ∷ ts
@@ -100,7 +101,7 @@ pub record IsHanding (g : Ground) (r : Recovery) (d : Stopped) (ds : List Stoppe
   pub chosen : r.chosen ≡ Some source
   pub way : way_below g r.core.seen r.failed source d ≡ o
 
--- tasks that go by where the designated one stopped
+-- tasks that go by the position at which the designated one stopped
 abbrev pub follows_lead : Task → Bool
 follows_lead (task.Trailing n) = true
 follows_lead task.Yielding = true
@@ -142,7 +143,7 @@ MayDecide g r (Crowns p) = IsOver r purpose.Master × (r.swaps ≡ false) × (r.
 MayDecide g r (Rejoins p) = IsOver r purpose.Regroup × (r.chosen ≡ Some p)
 MayDecide g r Closes = (s : ServerNo) × IsOver r (purpose.Intermediate s)
 
--- one decision behind another
+-- one decision after another
 pub data Decisions (g : Ground) : Recovery → Recovery → Type 0 where
   Still : {r : Recovery} → Decisions g r r
   Then : {r s : Recovery} (d : Decision) → MayDecide g r d → Decisions g (decided_by g r d) s → Decisions g r s
@@ -166,16 +167,16 @@ pub record Stops (w : World) (read : ℕ) (now : Moment) (r : Recovery) (o : Op)
 pub data Ending : Type 0 where
   -- nothing
   Rests : Ending
-  -- a replica is drained, where it was seen; is lost; is lost and started
+  -- a replica is drained, if it was seen; is lost; is lost and started
   Stays : (n : ServerNo) (s : Position) → Ending
   Loses : (n : ServerNo) (why : Why) → Ending
   Frees : (n : ServerNo) (why : Why) → Ending
   -- a replica follows its new source; a lost one is marked as detached
   Follows : (n p : ServerNo) → Ending
   Marks : (n : ServerNo) → Ending
-  -- where the designated one stopped
+  -- the position at which the designated one stopped
   Leads : (d : ServerNo) → Ending
-  -- a replica goes to where the designated one stopped, and from there below it
+  -- a replica goes to the position at which the designated one stopped, and from there below it
   Trails : (n : ServerNo) (x : Bridge) → Ending
   Joins : (n : ServerNo) (x : Bridge) → Ending
   -- the better one takes the promoted one's place; the designated one its master's
@@ -208,12 +209,12 @@ ended_by r (Ends n) = closing r (last_looks r r.purpose n)
 abbrev pub rests : Stage → Bool
 rests s = is_nothing (info s).made
 
--- a replica that was read: that wasn't reached, or stands elsewhere
+-- a replica that was read: it wasn't reached, or is elsewhere
 abbrev pub stray : ServerNo → Option Position → Option Why
 stray f None = Some lost.unreachable
 stray f (Some s) = if is_below s f then None else Some (lost.moved (spot_seen s.source s.exec))
 
--- one that was to come to where another stopped: that wasn't reached, or is behind
+-- one that was to come to the position at which another stopped: it wasn't reached, or is lost as `behind`
 abbrev pub late : Bridge → Option Position → Option Why
 late x None = Some lost.unreachable
 late x (Some s) = if same_coord s.exec x.exec then None else Some (lost.behind s.exec)
@@ -245,7 +246,7 @@ pub data AtEnd : Recovery → Recovery → Type 0 where
 
 -- ---- a failing operation
 
--- what is made of the recovery where it goes on
+-- what is made of the recovery if it goes on
 abbrev pub borne : Recovery → Fate → Recovery
 borne r taking.Fails = r
 borne r taking.Drops = working r stage.Idle []
@@ -260,7 +261,7 @@ pub data Bearing : Type 0 where
   -- the replica is lost; is lost and started
   Misses : (n : ServerNo) (why : Why) → Bearing
   Lets : (n : ServerNo) (why : Why) → Bearing
-  -- the better one is started again where it is, or goes back below the promoted one
+  -- the better one is started again in its place, or goes back below the promoted one
   Restarts : (p q : ServerNo) → Bearing
   Returns : (p q : ServerNo) → Bearing
 
@@ -293,8 +294,8 @@ pub data FailsFor (w : World) (read : ℕ) (now : Moment) (r : Recovery) : Cause
 abbrev pub done : Recovery → List Line → Taken
 done r lines = record { step = step.Done lines; observation = None; exchanges = []; recovery = record r { core = ended r.core } }
 
--- a turn comes to this: behind what is decided it waits; an operation is done; one fails, and the recovery goes on; the
--- recovery fails; or it is done
+-- A turn comes to this: after what is decided it waits; an operation is done; one fails, and the recovery goes on; the
+-- recovery fails; or it is done.
 pub data Turning (w : World) (b : BookState) (read : ℕ) (now : Moment) (r : Recovery) : Taken → Type 0 where
   Waits : {d : Recovery} → Decisions (ground_of w b now) r d → (o : Op) (rest : List Op) (ob : Option Observation) (es : List Exchange) (j : Job)
       → Does w read now d o rest ob es j → is_waiting j ≡ true → Turning w b read now r (goes_on ob es (record d { core = j }))

@@ -55,9 +55,9 @@ AreSourcesOf P Q purpose.Master f chosen = IfSome chosen (λ n. P n.0)
 AreSourcesOf P Q (purpose.Intermediate s) f chosen = IfSome chosen (λ n. Q n.0)
 AreSourcesOf P Q (purpose.Takeover d) f chosen = P f.0
 
--- of a job at a stage, with what is still to do of a failed server for a purpose, its replicas, those that are drained,
--- the new source, where a replica stopped, and the followers: P holds of each server that may be changed, now or later,
--- and Q of each that may be read
+-- P holds for each server that may be changed, now or later, and Q for each that may be read. The servers are those of
+-- a job at a stage, with what is still to do: the failed server, its replicas, those that are drained. Then the new
+-- source, the replica that stopped, and the followers.
 pub record ServersOf (P Q : ℕ → Type 0) (id : ℕ) (u : Purpose) (j : Job) (s : Stage) (ts : List Task) (f : ServerNo) (ns : List ServerNo) (ds : List Stopped) (chosen : Option ServerNo) (o : Option Bridge) (xs : List Follower) : Type 0 where
   pub number : j.id ≡ id
   pub ops : All (IsOpOf P Q) j.ops

@@ -16,11 +16,17 @@ pub record Outcome : Type 0 where
   pub followers : List Follower
   pub lost : List LostReplica
 
--- A recovery: what it is for, and how the others go; its job, whose operations are those that are left of its stage;
--- what is still to do; the server that failed, or gives up its place; the replicas that the book had of it, and those
--- of whom it tells, both in name order; the replicas that are drained and of which nothing is decided yet; the new
--- source of the others; where a designated replica stopped; the drained ones that might have been chosen; whether a
--- better one is still to be looked for; and what it came to so far.
+-- A recovery:
+-- - what it is for, and how the others go;
+-- - its job, whose operations are those that are left of its stage, and what is still to do;
+-- - the server that failed, or gives up its place;
+-- - the replicas that the book had of it, and those that it reports, both in name order;
+-- - the replicas that are drained and of which nothing is decided yet;
+-- - the new source of the others;
+-- - the position at which a designated replica stopped;
+-- - the drained ones that might have been chosen;
+-- - whether a better one is still to be looked for;
+-- - what it came to so far.
 pub record Recovery : Type 0 where
   pub purpose : Purpose
   pub means : Means
@@ -37,7 +43,7 @@ pub record Recovery : Type 0 where
   pub swaps : Bool
   pub outcome : Outcome
 
--- where a bridge's server stood when the bridge was taken
+-- the position of a bridge's server when the bridge was taken
 abbrev pub sight_of : Bridge → Position
 sight_of b = record { own_end = Some b.own; source = Attached b.source; exec = b.exec; set = [] }
 

@@ -84,7 +84,7 @@ reads_last s = (info s).reads
 abbrev pub ends : Stage → Deed → Bool
 ends s d = moves d || ((reads_last s && is_look d) || is_finish d)
 
--- the operation that ends a stage, and those behind it
+-- the operation that ends a stage, and those after it
 abbrev pub tail_of : Stage → List Op
 tail_of s = (info s).tail
 

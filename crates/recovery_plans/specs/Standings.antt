@@ -23,7 +23,7 @@ pub data Standing : Type 0 where
   -- a follower, and a lost one
   Follower : (q : ServerNo) → Standing
   Lost : (n : ServerNo) → Standing
-  -- the server has a source where its reading showed one; the reading of the way's bridge shows the bridge's source
+  -- the server has a source if its reading showed one; the reading of the way's bridge shows the bridge's source
   AsSeen : (n : ServerNo) → Standing
   WayRead : (by : Way) → Standing
   -- the server has a source; is attached to another; is detached; has none; and takes writes, too

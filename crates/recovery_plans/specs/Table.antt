@@ -65,7 +65,7 @@ abbrev pub gather : ServerNo → ServerNo → List Op
 gather m d =
     op.Status m None ∷ op.Status d (Some m) ∷ op.Until d (EndOf m) ∷ op.Await d (EndOf m) ∷ op.Stop d ∷ op.Status d (Some m) ∷ []
 
--- a replica comes to where another was seen
+-- a replica comes to the position at which another was seen
 abbrev pub trail : ServerNo → ServerNo → List Op
 trail n d = op.Until n (ExecOf d) ∷ op.Await n (ExecOf d) ∷ op.Stop n ∷ op.Status n None ∷ []
 
@@ -85,9 +85,9 @@ pub data Back : Type 0 where
   Writes : Back
   Whole : (m d : ServerNo) → Back
 
--- where an operation of a stage fails: the recovery does; nothing more is done with the server; a replica may be lost,
--- which was to be drained, to go some way, to be started below its new source, or to come to where another stopped; or
--- another stage takes its place
+-- What comes of an operation of a stage that fails. The recovery fails, or nothing more is done with the server, or
+-- another stage takes its place. Or a replica may be lost that was to be drained, to go some way, or to be started
+-- below its new source. So may one that was to come to the position at which another stopped.
 pub data Failing : Type 0 where
   All : Failing
   Passes : Failing
@@ -97,9 +97,9 @@ pub data Failing : Type 0 where
   Trails : (n : ServerNo) → Failing
   Instead : (s : Stage) (ops : List Op) → Failing
 
--- what the end of a stage makes: nothing; a replica is drained or lost; it follows; it is marked as detached; the
--- designated one was seen to stop; the second takes the first one's place; the new source takes writes, and nothing
--- more is changed; a master is to refuse writes; a replica was read, or has stopped; a master is below its replica
+-- What the end of a stage makes: nothing; a replica is drained or lost; it follows; it is marked as detached; the
+-- designated one was seen to stop. Or the second takes the first one's place; the new source takes writes, and nothing
+-- more is changed; a master is to refuse writes. Or a replica was read, or has stopped; a master is below its replica.
 pub data Made : Type 0 where
   Nothing : Made
   Judged : (n : ServerNo) → Made
@@ -127,7 +127,7 @@ is_nothing (Halted n b) = false
 is_nothing (Switched m d) = false
 
 pub record Info : Type 0 where
-  -- the operation that ends the stage, and those behind it
+  -- the operation that ends the stage, and those after it
   pub tail : List Op
   -- the stage once that operation is done
   pub next : Stage
@@ -141,15 +141,15 @@ pub record Info : Type 0 where
   pub changes : List ServerNo
   -- the server that it is placing
   pub places : List ServerNo
-  -- the replica that its operations speak with, and that is lost where one of them fails
+  -- the replica that its operations speak with, and that is lost if one of them fails
   pub speaks : Option ServerNo
-  -- the bridge by which its replica goes where the designated one stopped
+  -- the bridge by which its replica goes to the position at which the designated one stopped
   pub lead : Option Bridge
   -- so many operations may come after its own, for the same task
   pub more : ℕ
-  -- nothing comes after its own operations and those behind them
+  -- nothing comes after its own operations and those after them
   pub closes : Bool
-  -- it comes behind a swap
+  -- it comes after a swap
   pub late : Bool
   pub bar : Bar
   pub back : Back
@@ -158,7 +158,7 @@ pub record Info : Type 0 where
   -- what the recovery counts on while the stage lasts
   pub stands : List Standing
 
--- a stage that ends by itself, of which nothing else is to be told
+-- a stage that ends by itself, and has nothing else
 abbrev pub plain : Stage → List ServerNo → Info
 plain s ns = record {
   tail = [];

@@ -35,15 +35,15 @@ pub record Taken : Type 0 where
   pub exchanges : List Exchange
   pub recovery : Recovery
 
--- ---- where a server stands
+-- ---- the position of a server
 
--- where a server was seen
+-- the position at which a server was seen
 abbrev pub spot_seen : SourceState → Coord → Spot
 spot_seen Without c = spot.Nowhere
 spot_seen (Attached m) c = spot.At m c
 spot_seen (Detached m) c = spot.At m c
 
--- where a server is
+-- the position at which a server is
 abbrev pub spot_by : Option Server → Spot
 spot_by None = spot.Nowhere
 spot_by (Some s) = spot_below s s.source
@@ -62,7 +62,7 @@ is_below s f = is_source (source_no s.source) f
 
 -- ---- a stage that is done
 
--- a replica that was stopped is drained where its source is the failed server; else it is lost
+-- a replica that was stopped is drained if its source is the failed server; else it is lost
 abbrev pub judged : Recovery → ServerNo → Option Position → Recovery
 judged r n None = loses r n lost.unreachable
 judged r n (Some s) =
@@ -80,7 +80,7 @@ expelled r n = record r { outcome = record r.outcome { lost = map (marked n) r.o
 abbrev pub swapped : Recovery → ServerNo → ServerNo → Recovery
 swapped r p q = record (follows r p q) { outcome = record (follows r p q).outcome { promoted = Some q } }
 
--- what was seen of the designated replica, where it is below the master
+-- what was seen of the designated replica, if it is below the master
 abbrev pub lead_under : ServerNo → Option Bridge → Option Bridge
 lead_under m None = None
 lead_under m (Some b) = if b.source.0 == m.0 then Some b else None
@@ -95,14 +95,14 @@ idle r = record r { stage = stage.Idle }
 abbrev pub frees : Recovery → ServerNo → Why → Recovery
 frees r n why = working (loses r n why) (stage.Release n) (op.Start n ∷ [])
 
--- a replica of the master goes to where the designated one stopped; one that stands elsewhere is lost
+-- a replica of the master goes to the position at which the designated one stopped; one that is elsewhere is lost
 abbrev pub looked : Recovery → ServerNo → Bridge → Option Position → Recovery
 looked r n b None = idle (loses r n lost.unreachable)
 looked r n b (Some s) =
     if is_below s r.failed then working (record r { core = record r.core { seen = with_bridge r.core.seen b } }) (stage.Trail n b) (trail n b.no)
     else idle (loses r n (lost.moved (spot_seen s.source s.exec)))
 
--- one that stands there goes below the designated one; another is behind
+-- one that is there goes below the designated one; another is lost as `behind`
 abbrev pub halted : Recovery → ServerNo → Bridge → Option Position → Recovery
 halted r n b None = frees r n lost.unreachable
 halted r n b (Some s) = if same_coord s.exec b.exec then moving r n (way.Down b) else frees r n (lost.behind s.exec)
@@ -159,14 +159,14 @@ pub data Fate : Type 0 where
   -- another stage takes its place
   Goes : (s : Stage) (ops : List Op) → Fate
 
--- What a failing operation tells of the replica that it speaks with: it took too long; it has transactions of its own;
--- or why it isn't matched or attached.
+-- What a failing operation means for the replica that it works on: it took too long; it has transactions of its own; or
+-- why it isn't matched or attached.
 pub data Loss : Type 0 where
   Spent : Loss
   Differs : Loss
   Missed : (m : Miss) → Loss
 
--- and nothing, where the recovery fails
+-- and nothing, if the recovery fails
 abbrev pub loss_of : Cause → Option Loss
 loss_of (cause.Unreachable n) = Some (Missed (miss.Unreachable n))
 loss_of (cause.WaitSpent n) = Some Spent
@@ -201,7 +201,8 @@ drain_fate n (Some (Missed m)) = if is_away m then Loses n lost.unreachable else
 abbrev pub fate_of_drain : ServerNo → Cause → Fate
 fate_of_drain n c = drain_fate n (loss_of c)
 
--- a replica that comes to where another stopped: one that takes too long is behind, where it stands
+-- a replica that comes to the position at which another stopped: one that takes too long is lost as `behind`, at its
+-- position
 abbrev pub trail_fate : World → ServerNo → Option Loss → Fate
 trail_fate w n None = Fails
 trail_fate w n (Some Spent) = Frees n (lost.behind (exec_by (server_at w n.0)))
@@ -225,7 +226,7 @@ fate_of_errant u n (way.Down b) = Fails
 fate_of_errant u n (way.Up b) = Fails
 fate_of_errant u n (way.Match to exec every) = Fails
 
--- where a replica was to be attached; by GTIDs or a match, where it stands
+-- the coordinate at which a replica was to be attached; by GTIDs or a match, its own position
 abbrev pub place_on : Way → Coord
 place_on (way.Down b) = b.own
 place_on (way.Up b) = b.exec
@@ -247,7 +248,7 @@ move_fate w u n by (Some Spent) = Fails
 move_fate w u n by (Some Differs) = fate_of_errant u n by
 move_fate w u n by (Some (Missed m)) = missed_fate w u n by m
 
--- one that goes by a match is left where it stands, for whatever cause
+-- one that goes by a match is left in its place, for whatever cause
 abbrev pub match_fate : ServerNo → Option Loss → Fate
 match_fate n None = Fails
 match_fate n (Some Spent) = Fails

@@ -1,4 +1,4 @@
--- What a recovery tells when it is done.
+-- What a recovery reports when it is done.
 use Rattle.std.specs.Prelude.{Bool, ◌==◌, List, ◌++◌, filter_map, find, Option, Some, None, option_map}
 use Rattle.recovery_plans.specs.Prelude.{Line, ServerNo, option_to_list}
 use Rattle.recovery_plans.specs.Prelude.line

@@ -17,7 +17,7 @@ ghost use Rattle.recovery_plans.specs.declared.why.Why.{Why as AWhy};
 ghost use Rattle.recovery_plans.specs.declared.means.Means.{Means as AMeans};
 ghost use Rattle.recovery_plans.specs.declared.purpose.Purpose.{Purpose as APurpose};
 
-/// A recovery names servers that are there, from its beginning on, through each turn after which it goes on.
+/// A recovery names servers that are there, from its start on, through each turn after which it goes on.
 pub fn recoveries_stay_named()
     ensures begun { (count : ℕ) (u : APurpose) (by : AMeans) (id wait : ℕ)
         (f : Number) (replicas order : List Number) →
@@ -34,15 +34,15 @@ pub fn recoveries_stay_named()
         (taken w b read now r).recovery.core.id ≡ r.core.id }
 {}
 
-/// Each exchange of a turn is allowed in the world to which those before it led, whatever the recovery saw and however
-/// the servers stand: an attachment's coordinate has a place in the log of its new source.
+/// Each exchange of a turn is allowed in the world to which those before it led, whatever the recovery saw and whatever
+/// the servers' states are. An attachment's coordinate has a place in the log of its new source.
 pub fn recoveries_are_allowed()
     ensures { (w : World) (b : BookState) (read : ℕ) (now : AMoment) (r : Recovery) →
         AllAllowed w (taken w b read now r).exchanges }
 {}
 
-/// Each turn of a recovery is a walk: decisions, each under its guard; then at most one operation, in the same world;
-/// and in the world behind its exchanges what its end makes of the recovery.
+/// Each turn of a recovery is a walk. First decisions, each under its guard. Then at most one operation, in the same
+/// world. In the world after its exchanges comes what its end makes of the recovery.
 pub fn turns_are_walks()
     ensures { (w : World) (b : BookState) (read : ℕ) (now : AMoment) (r : Recovery) →
         Turning w b read now r (taken w b read now r) }

@@ -11,7 +11,7 @@ pub struct Stopped {
     pub no: ServerNo,
     /// How far it has executed its source's log.
     pub exec: Coord,
-    /// The end of its own binary log: none where it doesn't log.
+    /// The end of its own binary log: none if it doesn't log.
     pub own_end: Option<Coord>,
 }
 
@@ -38,7 +38,7 @@ pub struct LostReplica {
 /// What a recovery comes to.
 #[derive(Drop)]
 pub struct Outcome {
-    /// The server that is promoted, or below which the others go: none where there is none.
+    /// The server that is promoted, or below which the others go: none if there is none.
     pub promoted: Option<ServerNo>,
     /// Who follows, in the order in which they came below their sources.
     pub followers: Vec<Follower>,

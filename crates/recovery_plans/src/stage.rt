@@ -6,7 +6,7 @@ use crate::instance_keeper_items::Bridge;
 use crate::orch_base::ServerNo;
 
 /// The part of a task that is being done. A stage ends with the operation that changes a source, or whether writes are
-/// taken, so that each stage says how its server stands.
+/// taken. So each stage determines the state of its server.
 #[derive(Drop)]
 pub enum Stage {
     /// Nothing: the next task is due.
@@ -18,7 +18,7 @@ pub enum Stage {
     /// A replica is stopped; it was read then.
     Drain(ServerNo),
     Judged(ServerNo),
-    /// A replica goes below its new source; it is below this one, and is to start.
+    /// A replica goes below its new source. It is below this one, and is to start.
     Move(ServerNo, Way),
     Join(ServerNo, ServerNo),
     /// A lost replica is detached; it is.
@@ -31,7 +31,7 @@ pub enum Stage {
     Level(ServerNo, ServerNo),
     Swap(ServerNo, ServerNo),
     Swapped(ServerNo, ServerNo),
-    /// The second goes back below the promoted one; it is there, and is to start.
+    /// The second goes back below the promoted one. It is there, and is to start.
     Return(ServerNo, ServerNo),
     Resume(ServerNo, ServerNo),
     /// The promoted one loses its source; it has none, and is to take writes; it takes them.
@@ -43,8 +43,8 @@ pub enum Stage {
     Meet(ServerNo, ServerNo),
     Shut(ServerNo, ServerNo),
     Gather(ServerNo, ServerNo),
-    /// A replica is read; it was; it goes to where the designated one stopped, by the bridge that was seen of that one;
-    /// it is stopped, and was read then.
+    /// A replica is read, or it was. It goes to the position at which the designated one stopped, by the bridge that
+    /// was seen of that one. It is stopped, and was read then.
     Look(ServerNo, Bridge),
     Looked(ServerNo, Bridge),
     Trail(ServerNo, Bridge),
@@ -53,6 +53,6 @@ pub enum Stage {
     Yield(ServerNo, ServerNo),
     Switch(ServerNo, ServerNo),
     Switched(ServerNo, ServerNo),
-    /// Nothing more is changed; the lines are told.
+    /// Nothing more is changed. These are the lines.
     Close(Lines),
 }

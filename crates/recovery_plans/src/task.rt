@@ -46,7 +46,7 @@ pub enum Task {
     Expelling(ServerNo),
     /// A lost replica is started.
     Releasing(ServerNo),
-    /// A replica goes to where the designated one stopped, and below it.
+    /// A replica goes to the position at which the designated one stopped, and below it.
     Trailing(ServerNo),
     /// The designated replica takes its master's place.
     Yielding,

@@ -11,7 +11,7 @@ pub enum Miss {
     Unreachable(ServerNo),
     /// A thread of the replica was on.
     Running,
-    /// The replica was expected at one spot and found at another.
+    /// The replica was expected at one position and found at another.
     Interfered { expected: Spot, found: Spot },
     /// The replica would have been below itself.
     Loop,
@@ -28,6 +28,6 @@ pub enum Miss {
 pub enum Why {
     /// It is lost.
     Lost(Lost),
-    /// It wasn't matched or attached; it stands where it stood.
+    /// It wasn't matched or attached. Its position is unchanged.
     Unmatched(Miss),
 }

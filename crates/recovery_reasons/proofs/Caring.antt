@@ -1,4 +1,4 @@
--- Only some of the lost are detached, and each that is told as detached was.
+-- Only some of the lost are detached, and each that is marked as detached was.
 use Rattle.std.proofs.Common.{◌≡◌, ℕ, Bool, true, false, cond, List, [], ◌∷◌, ◌++◌, filter, map, refl, sym, ◌∙◌, ap, subst, Option, Some, None, ◌⊎◌, inl, inr, Ok, Err, Result}
 use Rattle.std.specs.Prelude.{◌==◌, find, option_map}
 use Rattle.recovery_reasons.proofs.Prelude.{All, All-append, All-cons, All-head, All-nil, All-push, All-tail, All-weaker, Bearing, BookState}
@@ -109,7 +109,7 @@ detach-reached w read now j rest n ob es k h = go (desk_answer (server_at w n.0)
     go (Ok t) e g = e
     go (Err x) e g = cc
 
--- only a detachment leads behind one
+-- only a detachment leads to one
 moved-expels : (s : Stage) (o : Op) (rest : List Op) (n : ServerNo) → o ∷ rest ≡ tail_of s → moved s ≡ stage.Expelled n → (s ≡ stage.Expel n) × (o ≡ op.Detach n) × (rest ≡ [])
 moved-expels (stage.Expel k) o rest n t h =
     let same : k ≡ n = ap left_in h in
@@ -335,7 +335,7 @@ module _ (w : World) (b : BookState) (now : Moment) (r : Recovery) (P : Fact →
       kept-whole w b read now Before (λ v x. IsCaredFor P x) (λ v x. IsCaredFor P x) (keeps-cared read rings)
       (record { fails = λ x c ob f g. over-cared x g.1.1; finishes = λ x o rest lines is e g. over-cared x g.1.1 }) r (held, (by.Still, h))
 
--- ---- where one begins
+-- ---- a recovery that begins
 
 pub begun-cared : (P : Fact → Bool) (u : Purpose) (by : Means) (id wait : ℕ) (f : ServerNo) (ns order : List ServerNo) → IsCaredFor P (begun_recovery u by id wait f ns order)
 begun-cared P u by id wait f ns order = record {

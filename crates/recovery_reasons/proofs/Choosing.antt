@@ -26,7 +26,7 @@ module _ (w : World) (b : BookState) (now : Moment) where
       go false e g rest =
           All-cons (λ (d : Drained). d.no ≡ n → ⊥) (drained_of (ground_of w b now) f x) (map (drained_of (ground_of w b now) f) xs) (λ same. false≢true (sym e ∙ eq-eqb x.no.0 n.0 (ap (λ (k : ServerNo). k.0) same))) (rest g)
 
-  -- where none is chosen none may be
+  -- if none is chosen none may be
   pub none-may : (f : ServerNo) (xs : List Stopped) → chosen_of (ground_of w b now) f xs ≡ None → All (λ s. may_lead (ground_of w b now) s ≡ false) xs
   none-may f xs h = go (most_advanced b.names (map (drained_of (ground_of w b now) f) xs)) refl h
     where
@@ -61,7 +61,7 @@ module _ (w : World) (b : BookState) (now : Moment) where
           subst (HasExecutedMost is_eligible (map (drained_of (ground_of w b now) f) xs)) (named-so xs p n g)
           (first-furthest b.names is_eligible (map (drained_of (ground_of w b now) f) xs) n (chosen-first (advance_order b.names) is_eligible (map (drained_of (ground_of w b now) f) xs) n e))
 
-  -- ---- in the words of rules, data centres and names
+  -- ---- by rules, data centres and names
 
   module _ (f : ServerNo) where
     abbrev ranked : ServerNo → ℕ
@@ -116,7 +116,7 @@ module _ (w : World) (b : BookState) (now : Moment) where
         go false e true g = absurd (false≢true g)
         go false e false g = absurd (false≢true g)
 
-    -- where two are as good the names decide
+    -- if two are as good the names decide
     by-name : (x y : ℕ) (o : Ordering) → is_lt (ordering_then (nat_cmp x y) o) ≡ false → (x < y → ⊥) × ((y < x → ⊥) → is_lt o ≡ false)
     by-name x y o h = (λ low. first low, λ high. second high)
       where
@@ -195,7 +195,7 @@ module _ (w : World) (b : BookState) (now : Moment) where
   unmapped P h [] all = All-nil (λ x. P (h x))
   unmapped P h (x ∷ xs) all = All-cons (λ y. P (h y)) x xs (All-head P (h x) (map h xs) all) (unmapped P h xs (All-tail P (h x) (map h xs) all))
 
-  -- where one was before the map
+  -- if one was before the map
   from-map : {X : Type 0} (h : X → Drained) (xs : List X) (d : Drained) → Contains (map h xs) d → (x : X) × Contains xs x × (h x ≡ d)
   from-map {X} h xs d there =
       All-contains (λ (y : Drained). (x : X) × Contains xs x × (h x ≡ y)) (map h xs) d

@@ -670,7 +670,7 @@ module _ (w : World) (b : BookState) (now : Moment) (r : Recovery) (P : Fact →
       kept-whole w b read now Before (λ v x. IsFit x × (AreDealtWith P x × Freed x)) (λ v x. AreDealtWith P x) (keeps-dealt read rings)
       (record { fails = λ x c ob f g. over-dealt x g.1.1.1.1; finishes = λ x o rest lines is e g. over-dealt x g.1.1.1.1 }) r (held, (inl speaks.way, (by.Still, (care, h))))
 
--- ---- where one begins
+-- ---- a recovery that begins
 
 pub begun-dealt : (P : Fact → Bool) (u : Purpose) (by' : Means) (id wait : ℕ) (f : ServerNo) (ns order : List ServerNo) → AreDealtWith P (begun_recovery u by' id wait f ns order)
 begun-dealt P u by' id wait f ns order = record {

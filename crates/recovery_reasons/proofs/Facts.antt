@@ -25,7 +25,7 @@ use Rattle.recovery_reasons.proofs.Tasks.{calm, moved-swaps, swap_in, swaps-so}
 use Rattle.recovery_reasons.proofs.Reasoning.{taken-lost}
 
 module _ (w : World) (b : BookState) (now : Moment) (r : Recovery) (P : Fact → Bool) (why : ExplainsTruly w b now r P) where
-  -- all but the lost and those that change places
+  -- all except the lost and those that change places
   record Stands (x : Recovery) : Type 0 where
     drained : AllDrained P x.drained
     among : AllDrained P x.eligible
@@ -122,7 +122,7 @@ module _ (w : World) (b : BookState) (now : Moment) (r : Recovery) (P : Fact →
       by-end true = left (leaver (moved x.stage))
       by-end false = (s, swaps)
 
-  -- the replica is drained where it was read below the failed server
+  -- the replica is drained if it was read below the failed server
   drained-so : (z : Recovery) (n : ServerNo) (s : Position) → Reading w b now r z → reader_of z.stage ≡ Some n → seen_of z.core.seen n.0 ≡ Some s → is_below s z.failed ≡ true → P (IsDrained (stopped_at n s)) ≡ true
   drained-so z n s h on at below =
       let y = h.shows n on in

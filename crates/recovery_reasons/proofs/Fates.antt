@@ -1,4 +1,4 @@
--- Nobody is lost since none may be promoted, but where nobody is found.
+-- Nobody is lost because none may be promoted, unless nobody is found.
 use Rattle.std.proofs.Common.{◌≡◌, Bool, true, false, cond, List, [], ◌∷◌, ◌++◌, map, refl, sym, ap, Option, Some, None}
 use Rattle.std.specs.Prelude.{◌==◌}
 use Rattle.recovery_reasons.proofs.Prelude.{All-append, All-cons, All-head, All-nil, All-push, All-tail, AllFit, BookState, Bridge, Cause, Fate}
@@ -29,7 +29,7 @@ pub fit-lots : (lot : Stopped → Lot) → ((s : Stopped) → AllFit (stay_of s 
 fit-lots lot each [] = All-nil IsFitLost
 fit-lots lot each (s ∷ ss) = All-append IsFitLost (stay_of s (lot s)) (losses_in lot ss) (each s) (fit-lots lot each ss)
 
--- beside the chosen one each goes some way, or is ahead or behind
+-- beside the chosen one each goes some way, or is lost as `ahead` or `behind`
 fit-lot : (w : World) (b : BookState) (now : Moment) (f : ServerNo) (p s : Stopped) → AllFit (stay_of s (lot_of (ground_of w b now) f p s))
 fit-lot w b now f p s = go w.gtid
   where
@@ -73,7 +73,7 @@ fit-late x (Some s) y e = go (same_coord s.exec x.exec) e
     go true h = cc
     go false h = ap is_unfit (sym (same_Some (lost.behind s.exec) y h))
 
--- no failing operation tells of one that may not be promoted
+-- no failing operation means one that may not be promoted
 abbrev pub FitFate : Fate → Type 0
 FitFate (taking.Loses n y) = is_unfit y ≡ false
 FitFate (taking.Frees n y) = is_unfit y ≡ false

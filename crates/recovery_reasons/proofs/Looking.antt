@@ -1,4 +1,4 @@
--- A better one is looked for once; who it is, and what becomes of it, has facts that count.
+-- A better one is looked for once. Who it is, and what becomes of it, has facts that count.
 use Rattle.std.proofs.Common.{◌≡◌, ℕ, Bool, true, false, cond, List, [], ◌∷◌, map, refl, sym, ◌∙◌, ap, subst, Option, Some, None, ◌⊎◌, inl, inr}
 use Rattle.std.specs.Prelude.{IfSome}
 use Rattle.recovery_reasons.proofs.Prelude.{Bearing, Betters, BookState, Bridge, Cause, Decision, Decisions, Ending, ExplainsTruly, Fact, Fits}
@@ -16,7 +16,7 @@ use Rattle.recovery_reasons.proofs.Choosing.{best-of, none-better}
 use Rattle.recovery_reasons.proofs.OnWay.{Fine, next-on, no-tail, still-on}
 use Rattle.recovery_reasons.proofs.Tasks.{calm, swap_in, swaps-on, swaps-so}
 
--- whom it found, that takes the other's place by what the first function tells
+-- whom it found, that takes the other's place by what the first function answers
 abbrev Pair : Type 0
 Pair = ServerNo × ServerNo
 
@@ -29,7 +29,7 @@ swaps-out s fits h p q (inr (inr at)) = false≢true (sym (ap rests at) ∙ h)
 calm-at : (s t : Stage) → s ≡ t → swap_in t ≡ None → (p q : ServerNo) → IsSwapping s p q → ⊥
 calm-at s t at none p q h = calm s (ap swap_in at ∙ none) p q h
 
--- but for the end of the change of places itself, whatever ends changes none
+-- except for the end of the change of places itself, whatever ends changes none
 ending-calm : (r : Recovery) (e : Ending) → MayEnd r e → Fits r.stage [] → ((p q : ServerNo) → e ≡ by.Swaps p q → ⊥) → (m n : ServerNo) → IsSwapping r.stage m n → ⊥
 ending-calm r by.Rests may fits other m n h = swaps-out r.stage fits may m n h
 ending-calm r (by.Stays k s) may fits other m n h = calm-at r.stage (stage.Judged k) may.0 refl m n h

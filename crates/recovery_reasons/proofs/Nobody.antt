@@ -1,4 +1,4 @@
--- Where no operation is left behind a turn's decisions, one of them found nobody.
+-- If no operation is left after a turn's decisions, one of them found nobody.
 use Rattle.std.proofs.Common.{◌≡◌, ℕ, ◌+◌, ◌≤◌, ◌<◌, suc, Bool, true, false, List, [], ◌∷◌, ◌++◌, map, filter, refl, sym, ◌∙◌, ap, subst, Option, Some, None, ◌⊎◌, inl, inr, arith}
 use Rattle.recovery_reasons.proofs.Prelude.{BookState, Bridge, Contains, Decision, Decisions, DecisionsElse, HasNobody, IsNext, IsOnWay, MayDecide}
 use Rattle.recovery_reasons.proofs.Prelude.{Moment, Op, Purpose, Recovery, ServerNo, Stopped, Task, Way, World, at_last, better_of, by_queue, by_task}
@@ -170,7 +170,7 @@ module _ (w : World) (b : BookState) (now : Moment) where
       go [] is h = is
       go (x ∷ xs) is h = h
 
-  -- behind so many
+  -- after so many
   abbrev Behind : ℕ → Recovery → Type 0
   Behind k r = IsStuck r ⊎ (IsOnWay r × (pauses_of r + k ≤ 4))
 

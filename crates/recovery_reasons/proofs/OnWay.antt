@@ -74,7 +74,7 @@ SwapIn y s = SwapOf y.purpose s y.chosen y.outcome.promoted y.swaps
 abbrev pub ReadIn : Recovery → Stage → List Op → List Task → List Sight → Type 0
 ReadIn y s ops ts seen = IsRead y.purpose s ops ts seen
 
--- and where a task is next
+-- and if a task is next
 pub next-on : (r : Recovery) (t : Task) (ts : List Task) → IsNext r t ts → Fine r → IsOnWay r
 next-on r t ts next (inl way) = way
 next-on r t ts next (inr x) = let bad : [] ≡ t ∷ ts = sym x.queue ∙ next.queue in cc
@@ -103,7 +103,7 @@ hands-so : (u : Purpose) → hands u ≡ true → (n : ServerNo) × (u ≡ purpo
 hands-so (purpose.Intermediate n) h = (n, refl)
 hands-so _ h = absurd (false≢true h)
 
--- who goes where the designated one stopped is a task of takeovers
+-- who goes to the position at which the designated one stopped is a task of takeovers
 lead-apart : (u : Purpose) (t : Task) → follows_lead t ≡ true → Suits u t → (s : ServerNo) → u ≡ purpose.Intermediate s → ⊥
 lead-apart u (task.Trailing n) h fits s e = false≢true (sym (ap (λ (x : Purpose). is_beside x n) e) ∙ fits)
 lead-apart u task.Yielding h fits s e = false≢true (sym (ap is_takeover e) ∙ fits)
@@ -128,7 +128,7 @@ module _ (w : World) (b : BookState) (now : Moment) where
     calm-at : (t : Stage) → swap_in t ≡ None → gives t ≡ false → SwapIn r t
     calm-at t none off = plain-swap r.purpose r.chosen r.outcome.promoted r.swaps r.stage t way.course.swap none off
 
-    -- where no task is left the successor was read
+    -- if no task is left the successor was read
     read-over : r.core.ops ≡ [] → r.queue ≡ [] → (seen : List Sight) → sights.StaysRead r.core.seen seen → (k : Stage) (ops : List Op) (ts : List Task) → ReadIn r k ops ts seen
     read-over none over seen more k ops ts n e = inl (more n.0 (go (way.course.read n e)))
       where
@@ -138,7 +138,7 @@ module _ (w : World) (b : BookState) (now : Moment) where
         go (inr (inl x)) = let bad : [] ≡ task.Reading n ∷ x.0 = sym over ∙ x.1 in cc
         go (inr (inr x)) = absurd (busy-with (op.Status n None) [] r.core.ops x.1 none)
 
-    -- and where another task is next
+    -- and if another task is next
     pub was-read : (t : Task) (ts : List Task) → IsNext r t ts → ((n : ServerNo) (xs : List Task) → t ∷ ts ≡ task.Reading n ∷ xs → ⊥) → (n : ServerNo) → r.purpose ≡ purpose.Intermediate n
         → is_some (seen_of r.core.seen n.0) ≡ true
     was-read t ts next apart n e = go (way.course.read n e)
@@ -417,7 +417,7 @@ module _ (w : World) (read : ℕ) (now : Moment) (r : Recovery) (o : Op) (rest :
       go (inr t) =
           subst (λ (a : Bool). IsOnCourse (cond a (entered later (moved r.stage)) later)) (sym (moved-fits r.stage o rest t).0) (ahead t (leaver (moved r.stage)))
 
-  -- and where it waits the operation stays
+  -- and if it waits the operation stays
   pub waited-way : j.ops ≡ r.core.ops → IsOnWay later
   waited-way left = record {
     course = record {
@@ -680,7 +680,7 @@ keeps-way w b read now = record {
 pub taken-way : (w : World) (b : BookState) (read : ℕ) (now : Moment) (r : Recovery) → IsFit r → IsOnWay r → is_going (taken w b read now r).step ≡ true → IsOnWay (taken w b read now r).recovery
 taken-way w b read now r fits way = kept-along w b read now (λ x. IsFit x × Fine x) (λ v x. IsFit x × IsOnCourse x) (λ v x. IsOnWay x) (keeps-way w b read now) r (fits, inl way)
 
--- one that is done has nobody lost since none may be promoted
+-- one that is done has nobody lost because none may be promoted
 pub done-fit : (w : World) (b : BookState) (read : ℕ) (now : Moment) (r : Recovery) → IsOnWay r → (lines : List Line) → (taken w b read now r).step ≡ step.Done lines → AllFit (taken w b read now r).recovery.outcome.lost
 done-fit w b read now r way lines = go (taken w b read now r) (taken-walks w b read now r)
   where

@@ -60,8 +60,8 @@ read-now w read now j rest n = go (seen_in (status w n.0)) refl
 
 -- ---- the recovery once the turn's operation is done
 
--- It stands where a decided one led, whose operation was done; and the replica that its stage has just read was read in
--- this turn.
+-- The recovery is what a decided one led to, whose operation was done. The replica that its stage has just read was
+-- read in this turn.
 pub record Reading (w : World) (b : BookState) (now : Moment) (r : Recovery) (z : Recovery) : Type 0 where
   pub first : Recovery
   pub so : Decisions (ground_of w b now) r first

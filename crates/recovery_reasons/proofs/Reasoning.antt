@@ -46,7 +46,7 @@ use Rattle.recovery_reasons.proofs.Choosing.{none-may}
 
 -- ---- waits that are spent
 
--- a wait that is spent saw the replica before where it was to go
+-- a wait that is spent saw the replica before the position to which it was to go
 abbrev IsLate : World → ServerNo → Option Coord → Cause → Type 0
 IsLate w n to (cause.WaitSpent m) = (s : Status) × (seen_in (status w n.0) ≡ Some s) × (is_reached to s.exec ≡ false)
 IsLate w n to _ = Unit {0}
@@ -101,7 +101,7 @@ module _ (w : World) (j : Job) (rest : List Op) (n : ServerNo) (to : Option Coor
       by true = go (attach_answer_of w e)
       by false = tt
 
--- an operation that waits for where another stopped
+-- an operation that waits for the position at which another stopped
 deed-late : (w : World) (read : ℕ) (now : Moment) (j : Job) (rest : List Op) (d : Deed) (n : ServerNo) (x : Bridge) → spoken_to d ≡ Some n → WaitsFor x d → StopsLate w n (aim_of j.seen (ExecOf x.no)) (by_deed w read now j rest d)
 deed-late w read now j rest d n x on waits = go d on waits
   where
@@ -150,7 +150,7 @@ look-unspent w read now j rest (deed.Look n from) h = seen (seen_in (status w n.
 look-unspent w read now j rest (deed.Request n a) h = absurd (false≢true h)
 look-unspent w read now j rest _ h = absurd (false≢true h)
 
--- what is asked of a server stops a job where the server isn't reached
+-- what is asked of a server stops a job if the server isn't reached
 abbrev pub StopsUnreached : World → ServerNo → Attempt → Type 0
 StopsUnreached w n (attempt.Goes o es k) = Unit {0}
 StopsUnreached w n (attempt.Stops c o) = IsUnreached w n.0
@@ -331,7 +331,7 @@ module _ (w : World) (b : BookState) (now : Moment) (r : Recovery) (P : Fact →
   completes-good z e may speaks course h good = good
 
   module _ (read : ℕ) (x : Recovery) (so : Decisions (ground_of w b now) r x) (o : Op) (rest : List Op) (fits : Fits x.stage (o ∷ rest)) (speaks : SpeaksWith x) (going : IsOnWay x) (is : x.core.ops ≡ o ∷ rest) (good : Good x) where
-    -- it goes where the designated one stopped
+    -- it goes to the position at which the designated one stopped
     trailing : (n : ServerNo) (y : Bridge) → x.stage ≡ stage.Trail n y → IsTrailing x n y
     trailing n y at = record {
       speaks = ap speaks_of at;
@@ -415,7 +415,7 @@ module _ (w : World) (b : BookState) (now : Moment) (r : Recovery) (P : Fact →
       way-met n (way.Auto to exec) at = moving-met n (way.Auto to exec) at refl refl refl
       way-met n (way.Match to exec every) at = matching-met n to exec every at
 
-      -- it was before where the designated one stopped
+      -- it was before the position at which the designated one stopped
       late-by : (n : ServerNo) (z : Bridge) (s : Status) → (n.0 ≡ z.no.0 → ⊥) → AimsAt x.core.seen n z → is_reached (aim_of x.core.seen (ExecOf z.no)) s.exec ≡ false → is_at_or_before z.exec s.exec ≡ false
       late-by n z s apart aims h = sym (ap (λ q. is_reached q s.exec) (aims apart)) ∙ h
 

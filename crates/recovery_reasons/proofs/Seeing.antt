@@ -1,4 +1,4 @@
--- What a job saw was shown in one of its turns, or is what a bridge shows of its own server.
+-- What a job saw was observed in one of its turns, or is what a bridge has of its own server.
 use Rattle.std.proofs.Common.{◌≡◌, ℕ, ◌+◌, Bool, true, false, cond, not, List, [], refl, sym, subst, Option, Some, None, Ok, Err, Result, inl, inr}
 use Rattle.std.specs.Prelude.{◌==◌, nat_lt}
 use Rattle.recovery_reasons.proofs.Prelude.{All, All-filter, All-push, Ask, AttachFault, Attempt, Bearing, BookState, Bridge, Coord, Decision}

@@ -233,7 +233,7 @@ moved-starts (stage.Join m q) o rest n p t h = cc
 moved-starts (stage.Resume q k) o rest n p t h = cc
 moved-starts s o rest n p t h = cc
 
--- nothing leads to where another stopped but a reading
+-- nothing leads to the position at which another stopped but a reading
 moved-trails : (s : Stage) (n : ServerNo) (x : Bridge) → moved s ≡ stage.Trail n x → ⊥
 moved-trails (stage.Trail m b) n x h = cc
 moved-trails (stage.Look m b) n x h = cc
@@ -318,7 +318,7 @@ attach-refuses w j rest n x c ob e = by (can_attach w x) e
     by true h = go (attach_answer_of w x) refl h
     by false h = cc
 
--- a replica that is to go some way stops its job only where that attachment is refused
+-- a replica that is to go some way stops its job only if that attachment is refused
 pub move-refused : (w : World) (read : ℕ) (now : Moment) (j : Job) (rest : List Op) (n : ServerNo) (by : Way) (c : Cause) (ob : Option Observation) → more_on by ≡ 1 → ShowsWay j.seen by
     → by_deed w read now j rest (deed_of (move by n)) ≡ attempt.Stops c ob → (f : AttachFault) × (c ≡ cause_by n f) × IsRefusedOn w j.seen n by f
 move-refused w read now j rest n (way.Down b) c ob more shown e =

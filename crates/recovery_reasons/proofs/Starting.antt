@@ -1,4 +1,4 @@
--- Each follower was started below its new source, but for a master that went below the designated one.
+-- Each follower was started below its new source, except for a master that went below the designated one.
 use Rattle.std.proofs.Common.{◌≡◌, ℕ, Bool, true, false, cond, not, List, [], ◌∷◌, refl, sym, ◌∙◌, ap, subst, Option, Some, None, ◌⊎◌, inl, inr, Ok, Err, Result}
 use Rattle.std.specs.Prelude.{◌==◌}
 use Rattle.recovery_reasons.proofs.Prelude.{All, All-filter, All-push, All-weaker, Bearing, BookState, Cause, Decision, Decisions, Ending, Exchange}
@@ -22,7 +22,7 @@ use Rattle.recovery_reasons.proofs.Speaking.{decides-speaks, moved-starts}
 
 -- ---- an operation
 
--- where it starts a server that one is reached
+-- if it starts a server that one is reached
 pub start-reached : (w : World) (read : ℕ) (now : Moment) (j : Job) (rest : List Op) (n : ServerNo) (ob : Option Observation) (es : List Exchange) (k : Job) → by_deed w read now j rest (deed_of (op.Start n)) ≡ attempt.Goes ob es k
     → desk_answer (server_at w n.0) ≡ Ok tt
 start-reached w read now j rest n ob es k h = go (desk_answer (server_at w n.0)) refl h

@@ -158,7 +158,8 @@ moved-yields (stage.Opened n) still h = inr refl
 moved-yields (stage.Close lines) still h = absurd (still lines refl)
 moved-yields s still h = absurd (false≢true h)
 
--- another stage begins, in which nothing is barred, nobody is met and nobody goes where another stopped
+-- another stage begins, in which nothing is barred, nobody is met and nobody goes to the position at which another
+-- stopped
 pub plain-stage : (u : Purpose) (f : ServerNo) (s t : Stage) (os ops : List Op) (o : Option Bridge) → StageOf u f s os o → (info t).bar ≡ table.Never → (info t).lead ≡ None → meeting_in t ≡ None
     → StageOf u f t ops o
 plain-stage u f s t os ops o h never led none = record {
@@ -262,7 +263,7 @@ module _ (u : Purpose) (chosen : Option ServerNo) (swaps : Bool) where
       over = unlooked;
     }
 
-    -- with others before those behind it
+    -- with others before those after it
     pub before : (t ≡ task.Choosing → ⊥) → (t ≡ task.Yielding → ⊥) → (us : List Task) → AreBusy u us → (k : Stage) → TasksOf u k (us ++ ts) chosen swaps
     before apart other us busy k =
         let rest = behind apart other k in

@@ -1,4 +1,4 @@
--- What a job's cause says of the world in which an operation stopped it.
+-- What a job's cause means for the world in which an operation stopped it.
 use Rattle.std.specs.Prelude.{◌≡◌, ℕ, true, false, ◌||◌, ◌⊎◌, List, Some, Err}
 use Rattle.recovery_reasons.specs.Prelude.{Cause, Coord, Interval, MatchFault, Server, ServerNo, Spot, Status, World, attach_answer}
 use Rattle.recovery_reasons.specs.Prelude.{attach_auto_answer, cause_of_match, desk_answer, live_spot, match_logs, same_spot, seen_in, server_at}
@@ -21,7 +21,7 @@ IsPurgedFor w n first =
     ((expect : Spot) × (to : ServerNo) × (at : Coord) × (attach_answer w n.0 expect to.0 at (server_at w n.0) ≡ Err (attaching.Purged first)))
     ⊎ ((observed : List Interval) × (to : ServerNo) × (attach_auto_answer w n.0 observed to.0 (server_at w n.0) ≡ Err (attaching.Purged first)))
 
--- What the cause of an operation that spoke with server n alone says. None of them matches logs or runs hooks.
+-- What the cause of an operation that works on server n alone means. None of them matches logs or runs hooks.
 abbrev pub IsTrueOf : World → ServerNo → Cause → Type 0
 IsTrueOf w n (cause.Unreachable m) = (m ≡ n) × IsUnreached w n.0
 IsTrueOf w n (cause.WaitSpent m) = (m ≡ n) × ((s : Status) × (seen_in (status w n.0) ≡ Some s))
@@ -38,6 +38,6 @@ IsTrueOf w n (cause.NoMark m) = ⊥
 IsTrueOf w n (cause.Mismatch m entry) = ⊥
 IsTrueOf w n (cause.HookFailed number exit) = ⊥
 
--- What the cause of a match says: the logs of the two don't match, for what it tells.
+-- What the cause of a match means: the logs of the two don't match, for the reason in it.
 abbrev pub IsMatchCause : World → ServerNo → ServerNo → ℕ → Cause → Type 0
 IsMatchCause w n m every c = (fault : MatchFault) × (c ≡ cause_of_match n fault) × (match_logs w n m every ≡ Err fault)

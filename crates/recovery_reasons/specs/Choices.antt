@@ -1,4 +1,4 @@
--- Who comes before whom where one is chosen, by the servers' settings and the book of that turn.
+-- Who comes before whom if one is chosen, by the servers' settings and the book of that turn.
 use Rattle.std.specs.Prelude.{◌≡◌, ◌<◌, true, false, List, ◌⊎◌, map}
 use Rattle.std.specs.Ordering.{is_lt}
 use Rattle.recovery_reasons.specs.Prelude.{BookState, Contains, Follower, Moment, ServerNo, Stopped, World, center_in, is_before, logs_at}
@@ -20,12 +20,12 @@ IsPreferred w b now f n m =
     (precedence (rule_at b n now) < precedence (rule_at b m now))
     ⊎ ((precedence (rule_at b n now) ≡ precedence (rule_at b m now)) × IsNear w f n × (IsNear w f m → ⊥))
 
--- the second server isn't preferred to the first; where the first isn't preferred either, its name isn't the later one
+-- the second server isn't preferred to the first; if the first isn't preferred either, its name isn't the later one
 pub record ComesFirst (w : World) (b : BookState) (now : Moment) (f n m : ServerNo) : Type 0 where
   pub rule : IsPreferred w b now f m n → ⊥
   pub name : (IsPreferred w b now f n m → ⊥) → is_lt (server_order b.names m n) ≡ false
 
--- the second one executed no more than the first; where it executed as much the first comes first
+-- the second one executed no more than the first; if it executed as much the first comes first
 pub record ComesBefore (w : World) (b : BookState) (now : Moment) (f : ServerNo) (p s : Stopped) : Type 0 where
   pub most : is_before p.exec s.exec ≡ false
   pub level : same_coord p.exec s.exec ≡ true → ComesFirst w b now f p.no s.no

@@ -6,7 +6,7 @@ use Rattle.recovery_reasons.specs.Prelude.stage
 use Rattle.recovery_reasons.specs.Prelude.way
 use Rattle.recovery_reasons.specs.Reasons.{speaks_of}
 
--- a replica on its way wasn't reached, or started again; or it stands elsewhere, or asks for what is purged
+-- a replica on its way wasn't reached, or started again; or it is elsewhere, or asks for what is purged
 abbrev pub IsMissed : Cause → Type 0
 IsMissed (cause.Unreachable m) = Unit {0}
 IsMissed (cause.Running m) = Unit {0}
@@ -22,9 +22,12 @@ IsMissed (cause.NoMark m) = ⊥
 IsMissed (cause.Mismatch m entry) = ⊥
 IsMissed (cause.HookFailed number exit) = ⊥
 
--- What doesn't end a recovery: that one of its replicas isn't reached; that one on its way to its new source is missed,
--- or has transactions of its own; that one of a takeover takes too long; that the better one can't take the chosen
--- one's place; that a lost one isn't reached.
+-- What doesn't end a recovery:
+-- - one of its replicas isn't reached;
+-- - one on its way to its new source is missed, or has transactions of its own;
+-- - one of a takeover takes too long;
+-- - the better one can't take the chosen one's place;
+-- - a lost one isn't reached.
 pub record CanEnd (s : Stage) (c : Cause) : Type 0 where
   pub reached : (n m : ServerNo) → speaks_of s ≡ Some n → c ≡ cause.Unreachable m → ⊥
   pub missed : (n : ServerNo) (by : Way) → s ≡ stage.Move n by → IsMissed c → ⊥

@@ -28,14 +28,14 @@ finds_nobody (move.Crowns p) = false
 finds_nobody (move.Rejoins p) = false
 finds_nobody move.Closes = false
 
--- decisions one behind another, none of which is so
+-- decisions one after another, none of which is so
 pub data DecisionsElse (w : World) (b : BookState) (now : Moment) : Recovery → Recovery → Type 0 where
   Still : {r : Recovery} → DecisionsElse w b now r r
   Then : {r s : Recovery} (d : Decision) → MayDecide (ground_of w b now) r d → finds_nobody d ≡ false → DecisionsElse w b now (decided_by (ground_of w b now) r d) s
       → DecisionsElse w b now r s
 
--- Why no operation is left behind a turn's decisions: the first that finds nobody is a choice among the drained, each
--- of which doesn't log or is barred, as the book is now; or it is where nobody knows where the designated one stopped.
+-- Why no operation is left after a turn's decisions. The first that finds nobody is a choice among the drained, each of
+-- which doesn't log or is barred, as the book is now. Or nobody knows the position at which the designated one stopped.
 pub data HasNobody (w : World) (b : BookState) (now : Moment) (r d : Recovery) : Type 0 where
   NoneMay : (x : Recovery) (ts : List Task) → DecisionsElse w b now r x → IsNext x task.Choosing ts → All (λ s. may_lead (ground_of w b now) s ≡ false) x.drained
       → Decisions (ground_of w b now) (decided_by (ground_of w b now) x (move.ChoosesNobody ts)) d → HasNobody w b now r d

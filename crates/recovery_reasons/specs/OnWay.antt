@@ -106,9 +106,9 @@ AllFit xs = All (λ l. is_unfit l.why ≡ false) xs
 
 -- ---- on its way
 
--- At most four decisions without an operation come one behind another. Where nobody is chosen the choice is to come, and
--- a successor is chosen from the beginning; in a takeover the designated one is to take its master's place, or takes it;
--- and a master's recovery that has looked for a better one has no task left.
+-- At most four decisions without an operation follow one another. If nobody is chosen the choice is to come, and a
+-- successor is chosen from the start. In a takeover the designated one is to take its master's place, or takes it. A
+-- master's recovery that has looked for a better one has no task left.
 pub record TasksOf (u : Purpose) (s : Stage) (ts : List Task) (source : Option ServerNo) (swaps : Bool) : Type 0 where
   pub few : pauses_in ts + pauses_last u swaps ≤ 4
   pub suited : All (λ t. suits u t ≡ true) ts
@@ -117,8 +117,8 @@ pub record TasksOf (u : Purpose) (s : Stage) (ts : List Task) (source : Option S
   pub named : (n : ServerNo) → u ≡ purpose.Intermediate n → source ≡ Some n
   pub over : u ≡ purpose.Master → swaps ≡ false → ts ≡ []
 
--- In a master's recovery the chosen one is promoted until a better one was looked for. That is done where another is to
--- take its place, which is promoted until then, and where nothing is left but to open the promoted one.
+-- In a master's recovery the chosen one is promoted until a better one was looked for. That is done if another is to
+-- take its place, which is promoted until then, and if nothing is left but to open the promoted one.
 pub record SwapOf (u : Purpose) (s : Stage) (chosen promoted : Option ServerNo) (swaps : Bool) : Type 0 where
   pub first : u ≡ purpose.Master → swaps ≡ true → promoted ≡ chosen
   pub taking : (p q : ServerNo) → IsSwapping s p q → (swaps ≡ false) × (chosen ≡ Some p) × (promoted ≡ Some p)
@@ -130,16 +130,16 @@ IsRead u s ops ts seen =
     (n : ServerNo) → u ≡ purpose.Intermediate n
     → (is_some (seen_of seen n.0) ≡ true) ⊎ (((xs : List Task) × (ts ≡ task.Reading n ∷ xs)) ⊎ ((s ≡ stage.Read n) × (ops ≡ op.Status n None ∷ [])))
 
--- Where what is seen may end the recovery its operations read the failed server; a master that is to give up its place
--- is that one, for the designated one; whose stop was seen is the designated one; and who goes where that one stopped
--- is another.
+-- If what is seen may end the recovery its operations read the failed server. A master that is to give up its place is
+-- that one, for the designated one. The one whose stop was seen is the designated one. Who goes to the position at
+-- which that one stopped is another.
 pub record StageOf (u : Purpose) (f : ServerNo) (s : Stage) (ops : List Op) (o : Option Bridge) : Type 0 where
   pub first : ((info s).bar ≡ table.Never) ⊎ All (λ x. x ≡ op.Status f None) ops
   pub meets : (m d : ServerNo) → IsMeeting s m d → (m ≡ f) × (u ≡ purpose.Takeover d)
   pub lead : (d : ServerNo) (x : Bridge) → u ≡ purpose.Takeover d → o ≡ Some x → x.no ≡ d
   pub apart : (n : ServerNo) (x : Bridge) → (info s).lead ≡ Some x → (info s).places ≡ n ∷ [] → n.0 ≡ x.no.0 → ⊥
 
--- beside, nobody is lost since none may be promoted
+-- beside, nobody is lost because none may be promoted
 pub record IsOnCourse (r : Recovery) : Type 0 where
   pub tasks : TasksOf r.purpose r.stage r.queue r.chosen r.swaps
   pub stage : StageOf r.purpose r.failed r.stage r.core.ops r.lead
@@ -147,7 +147,7 @@ pub record IsOnCourse (r : Recovery) : Type 0 where
   pub read : IsRead r.purpose r.stage r.core.ops r.queue r.core.seen
   pub fit : AllFit r.outcome.lost
 
--- and where no operation is left it has no stage
+-- and if no operation is left it has no stage
 pub record IsOnWay (r : Recovery) : Type 0 where
   pub course : IsOnCourse r
   pub rests : r.core.ops ≡ [] → r.stage ≡ stage.Idle

@@ -27,8 +27,8 @@ use Rattle.recovery_reasons.specs.Causes.{IsRunning, IsUnreached}
 use Rattle.recovery_reasons.specs.Choices.{IsBestOne, IsBetterOne, IsFirstOf}
 use Rattle.recovery_reasons.specs.OnWay.{IsOnWay, IsSwapping, chooses}
 
--- where one is chosen, without GTIDs: a drained one that executed more than the chosen one; or that executed less,
--- where the book keeps no bridge of the chosen one below the failed server at that coordinate
+-- If one is chosen, without GTIDs: a drained one that executed more than the chosen one. Or one that executed less, if
+-- the book keeps no bridge of the chosen one below the failed server at that coordinate.
 abbrev pub BesideChosen : World → BookState → ServerNo → Stopped → Stopped → Why → Type 0
 BesideChosen w b f p s (why.Lost (word.Ahead c)) = (w.gtid ≡ false) × (c ≡ s.exec) × (is_before p.exec c ≡ true)
 BesideChosen w b f p s (why.Lost (word.Behind c)) =
@@ -40,7 +40,7 @@ BesideChosen w b f p s (why.Lost word.NotLogging) = ⊥
 BesideChosen w b f p s (why.Lost word.MustNot) = ⊥
 BesideChosen w b f p s (why.Unmatched m) = ⊥
 
--- where nobody may be chosen: a drained one that doesn't log; or that logs and must not be promoted
+-- if nobody may be chosen: a drained one that doesn't log; or that logs and must not be promoted
 abbrev pub WithoutChosen : World → BookState → Moment → Stopped → Why → Type 0
 WithoutChosen w b now s (why.Lost word.NotLogging) = logs_at w s.no ≡ false
 WithoutChosen w b now s (why.Lost word.MustNot) = (logs_at w s.no ≡ true) × (is_barred (rule_at b s.no now) ≡ true)
@@ -62,11 +62,11 @@ BelowSuccessor w b f n s =
 abbrev pub speaks_of : Stage → Option ServerNo
 speaks_of s = (info s).speaks
 
--- the bridge by which a stage's replica goes where the designated one stopped
+-- the bridge by which a stage's replica goes to the position at which the designated one stopped
 abbrev pub lead_of : Stage → Option Bridge
 lead_of s = (info s).lead
 
--- while a replica goes where the designated one stopped, it waits for that alone
+-- while a replica goes to the position at which the designated one stopped, it waits for that alone
 abbrev pub WaitsFor : Bridge → Deed → Type 0
 WaitsFor x (deed.Await n to) = to ≡ ExecOf x.no
 WaitsFor x (deed.AwaitSet n m) = ⊥
@@ -96,7 +96,7 @@ IsAsked (deed.Match n m every) = ⊥
 IsAsked (deed.CrossMatch n m) = ⊥
 IsAsked (deed.Finish lines) = ⊥
 
--- unless it is that one itself, it waits for where the designated one stopped
+-- unless it is that one itself, it waits for the position at which the designated one stopped
 abbrev pub AimsAt : List Sight → ServerNo → Bridge → Type 0
 AimsAt seen n x = (n.0 ≡ x.no.0 → ⊥) → option_map (λ s. s.exec) (seen_of seen x.no.0) ≡ Some x.exec
 
@@ -107,8 +107,8 @@ ShowsWay seen (way.Up b) = seen_of seen b.no.0 ≡ Some (sight_of b)
 ShowsWay seen (way.Auto to exec) = Unit {0}
 ShowsWay seen (way.Match to exec every) = Unit {0}
 
--- a replica that is to go some way changes its source by what was seen, perhaps behind a match of its log, and is
--- started
+-- a replica that is to go some way changes its source by what was seen, after a match of its log if it needs one, and
+-- is started
 abbrev pub GoesBy : Job → ServerNo → Way → Type 0
 GoesBy j n by = ((j.ops ≡ tail_of (stage.Move n by)) ⊎ (j.ops ≡ before by n ++ tail_of (stage.Move n by))) × ShowsWay j.seen by
 
@@ -126,10 +126,10 @@ IsRefusedOn w seen n (way.Up b) fault = attach_answer_of w (Attach n.0 (spot.At 
 IsRefusedOn w seen n (way.Auto to exec) fault = IsRefusedBySet w seen n to fault
 IsRefusedOn w seen n (way.Match to exec every) fault = ⊥
 
--- Each operation that is left of such a stage speaks with its replica; the bridge is where the designated one was seen
--- to stop, and what is waited for; a replica that is to go some way goes it by what was seen; one that has come below
--- its new source is only asked, and one that is to go where another stopped is only read at first; and one that is to
--- follow is started.
+-- Each operation that is left of such a stage works on its replica. The bridge is the position at which the designated
+-- one was seen to stop, and what is waited for. A replica that is to go some way goes it by what was seen. One that has
+-- come below its new source is only asked. One that is to go to the position at which another stopped is only read at
+-- first. One that is to follow is started.
 pub record SpeaksWith (r : Recovery) : Type 0 where
   pub ops : (n : ServerNo) → speaks_of r.stage ≡ Some n → All (λ o. spoken_to (deed_of o) ≡ Some n) r.core.ops
   pub lead : (x : Bridge) → lead_of r.stage ≡ Some x → r.lead ≡ Some x
@@ -149,7 +149,7 @@ pub record Speaks (r : Recovery) : Type 0 where
 abbrev pub IsDue : Task → Recovery → Type 0
 IsDue t r = (ts : List Task) × IsNext r t ts
 
--- it goes where the designated one stopped, and is there or waits for it; it isn't that one
+-- it goes to the position at which the designated one stopped, and is there or waits for it; it isn't that one
 pub record IsTrailing (r : Recovery) (n : ServerNo) (x : Bridge) : Type 0 where
   pub speaks : speaks_of r.stage ≡ Some n
   pub leads : lead_of r.stage ≡ Some x
@@ -168,7 +168,8 @@ pub data Reason (w : World) (b : BookState) (now : Moment) (r : Recovery) : Serv
       → BelowSuccessor w b r.failed n s → Reason w b now r s.no (lost.behind s.exec)
   -- an exchange with the stage's replica didn't reach it
   Unreached : {n : ServerNo} → speaks_of r.stage ≡ Some n → IsUnreached w n.0 → Reason w b now r n lost.unreachable
-  -- its attachment found a thread on, another spot, transactions that the new source lacks, or that one's place purged
+  -- its attachment found a thread on, another position, transactions that the new source lacks, or that one's place
+  -- purged
   Running : {n : ServerNo} (by : Way) (at : Spot) → r.stage ≡ stage.Move n by → IsRefusedOn w r.core.seen n by (attaching.Running at) → IsRunning w n.0
       → Reason w b now r n (lost.moved (spot_by (server_at w n.0)))
   Interfered : {n : ServerNo} (by : Way) (expected found : Spot) → r.stage ≡ stage.Move n by → IsRefusedOn w r.core.seen n by (attaching.Interfered expected found)
@@ -186,16 +187,20 @@ pub data Reason (w : World) (b : BookState) (now : Moment) (r : Recovery) : Serv
   -- the stage's replica was read, and its source isn't the failed server
   Strayed : {n : ServerNo} (s : Status) → speaks_of r.stage ≡ Some n → reads_last r.stage ≡ true → seen_in (status w n.0) ≡ Some s
       → is_below (position_of s) r.failed ≡ false → Reason w b now r n (lost.moved (spot_seen s.source s.exec))
-  -- it stopped, or waited in vain, elsewhere than where the designated one stopped
+  -- it stopped, or waited in vain, elsewhere than at the position at which the designated one stopped
   Halted : {n : ServerNo} (x : Bridge) (s : Status) → IsTrailing r n x → reads_last r.stage ≡ true → seen_in (status w n.0) ≡ Some s
       → same_coord s.exec x.exec ≡ false → Reason w b now r n (lost.behind s.exec)
   Late : {n : ServerNo} (x : Bridge) (s : Status) → IsTrailing r n x → seen_in (status w n.0) ≡ Some s
       → is_at_or_before x.exec s.exec ≡ false → Reason w b now r n (lost.behind s.exec)
 
--- What a turn may tell: that a server is lost; that a replica was stopped, and where it stood; that one is chosen among
--- those that might be; that another is to take its place, or that there is none; that this was given up; what a server
--- showed; that one below its new source was started; that a master goes below the replica that takes its place; and that
--- a lost one was detached, was started, or wasn't reached for that.
+-- What a turn may report:
+-- - a server is lost, or a lost one was detached, was started, or wasn't reached for that;
+-- - a replica was stopped, and its position;
+-- - one is chosen among those that might be;
+-- - another is to take its place, or there is none, or this was given up;
+-- - what was observed of a server;
+-- - one below its new source was started;
+-- - a master goes below the replica that takes its place.
 pub data Fact : Type 0 where
   IsLost : (n : ServerNo) (why : Why) → Fact
   IsDrained : (s : Stopped) → Fact
@@ -230,7 +235,7 @@ IsToDetach u (Some (why.Lost word.NotLogging)) = ⊥
 IsToDetach u (Some (why.Lost word.MustNot)) = ⊥
 IsToDetach u (Some (why.Unmatched m)) = ⊥
 
--- a lost one stands elsewhere, or where its log didn't match
+-- a lost one is elsewhere, or at the position at which its log didn't match
 abbrev pub IsElsewhere : Why → Type 0
 IsElsewhere (why.Lost (word.Moved at)) = Unit {0}
 IsElsewhere (why.Unmatched m) = Unit {0}
@@ -252,8 +257,8 @@ IsReached (why.Lost word.NotLogging) = Unit {0}
 IsReached (why.Lost word.MustNot) = Unit {0}
 IsReached (why.Unmatched m) = Unit {0}
 
--- a recovery of a dead server starts the lost that stand elsewhere, and a regroup all that were reached; a takeover's
--- are started at once
+-- a recovery of a dead server starts the lost that are elsewhere, and a regroup all that were reached; a takeover's are
+-- started at once
 abbrev pub IsToRelease : Purpose → Option Why → Type 0
 IsToRelease u None = ⊥
 IsToRelease purpose.Regroup (Some y) = IsReached y
@@ -288,8 +293,8 @@ pub data IsTrue (w : World) (b : BookState) (now : Moment) (r : Recovery) : Fact
   -- the stage's replica was read below the failed server
   Drains : {n : ServerNo} (s : Status) → speaks_of r.stage ≡ Some n → reads_last r.stage ≡ true → seen_in (status w n.0) ≡ Some s
       → is_below (position_of s) r.failed ≡ true → IsTrue w b now r (IsDrained (stopped_at n (position_of s)))
-  -- the first of the drained that may be promoted, by the book of this turn: none of these executed more, and of those
-  -- that executed as much none has a better rule, a nearer data centre or an earlier name
+  -- The first of the drained that may be promoted, by the book of this turn: none of these executed more. Of those that
+  -- executed as much none has a better rule, a nearer data centre or an earlier name.
   Chooses : (p : Stopped) → IsDue task.Choosing r → chosen_of (ground_of w b now) r.failed r.drained ≡ Some p
       → HasExecutedMost is_eligible (map (drained_of (ground_of w b now) r.failed) r.drained) p.no → IsFirstOf w b now r.failed r.drained p.no
       → IsTrue w b now r (IsChosen p.no (filter (may_lead (ground_of w b now)) r.drained))
@@ -330,7 +335,7 @@ AllDrained P xs = All (λ s. P (IsDrained s) ≡ true) xs
 abbrev pub IsPromoted : (Fact → Bool) → List Stopped → ServerNo → Type 0
 IsPromoted P among n = (P (IsChosen n among) ≡ true) ⊎ ((p : ServerNo) × (P (IsChosen p among) ≡ true) × (P (IsBetter p n) ≡ true))
 
--- what the job saw of a server was shown; or it is what a bridge shows of its own server
+-- what the job saw of a server was observed; or it is what a bridge has of its own server
 abbrev pub IsSeenSo : (Fact → Bool) → Sight → Type 0
 IsSeenSo P x = (P (IsShown x.no x.seen) ≡ true) ⊎ ((y : Bridge) × (x ≡ record { no = y.no; seen = sight_of y }))
 
@@ -343,7 +348,7 @@ IsYetToStart r n = (q : ServerNo) × (r.stage ≡ stage.Open q) × (r.core.ops �
 abbrev pub IsUp : (Fact → Bool) → Recovery → ServerNo → Type 0
 IsUp P r n = (P (IsStarted n) ≡ true) ⊎ ((P (IsSwitched n) ≡ true) ⊎ IsYetToStart r n)
 
--- it hasn't failed where the promoted one was to be opened
+-- it hasn't failed if the promoted one was to be opened
 abbrev pub HasNotFailed : Recovery → Type 0
 HasNotFailed r = (q : ServerNo) → r.stage ≡ stage.Open q → r.core.ops ≡ [] → ⊥
 
@@ -360,7 +365,7 @@ IsOutSo u xs (task.Releasing n) = Unit {0}
 IsOutSo u xs (task.Trailing n) = Unit {0}
 IsOutSo u xs task.Yielding = Unit {0}
 
--- who is to be detached, is being detached and was; and each that is told as detached was
+-- who is to be detached, is being detached and was; and each that is marked as detached was
 pub record IsCaredFor (P : Fact → Bool) (r : Recovery) : Type 0 where
   pub out : All (IsOutSo r.purpose r.outcome.lost) r.queue
   pub leaving : (n : ServerNo) → r.stage ≡ stage.Expel n → IsToDetach r.purpose (why_of r.outcome.lost n)
@@ -412,7 +417,7 @@ is_settling (stage.Switch m d) = false
 is_settling (stage.Switched m d) = false
 is_settling (stage.Close lines) = false
 
--- such a task has that of the lost behind it
+-- such a task has that of the lost after it
 abbrev pub AreSorted : List Task → Type 0
 AreSorted [] = Unit {0}
 AreSorted (t ∷ ts) = (leads_on t ≡ true → Contains ts task.Sorting) × AreSorted ts
@@ -429,9 +434,9 @@ IsReleasedSo P r n =
     (P (IsReleased n) ≡ true)
     ⊎ ((P (IsPassed n) ≡ true) ⊎ (Contains r.queue task.Sorting ⊎ (Contains r.queue (task.Releasing n) ⊎ (r.stage ≡ stage.Release n))))
 
--- Of the replicas each that is to be detached, or started, is dealt with so once it is lost, unless nobody was found. A
--- replica is settled before the lost are looked at, but for a takeover; and one that goes where the designated one
--- stopped is a takeover's.
+-- Each replica that is to be detached, or started, is dealt with so once it is lost, unless nobody was found. A replica
+-- is settled before the lost are looked at, except in a takeover. One that goes to the position at which the designated
+-- one stopped is a takeover's.
 pub record AreDealtWith (P : Fact → Bool) (r : Recovery) : Type 0 where
   pub sorted : AreSorted r.queue
   pub settling : is_settling r.stage ≡ true → is_takeover r.purpose ≡ false → Contains r.queue task.Sorting
@@ -451,8 +456,8 @@ WasLooked P r p =
     ⊎ ((q : ServerNo) × (P (IsBetter p q) ≡ true) × IsSwapped P r p q)
 
 -- What a recovery came to so far has facts that count: those that it has lost, drained and chosen, among whom, and whom
--- it has promoted; what it saw; who was started and detached; and, once a master's recovery looked for a better one, whom
--- it found. That is done before the promoted one is opened.
+-- it has promoted. Then what it saw, who was started and detached, and, once a master's recovery looked for a better
+-- one, whom it found. That is done before the promoted one is opened.
 pub record IsExplained (P : Fact → Bool) (r : Recovery) : Type 0 where
   pub lost : AllLost P r.outcome.lost
   pub drained : AllDrained P r.drained
@@ -468,8 +473,8 @@ pub record IsExplained (P : Fact → Bool) (r : Recovery) : Type 0 where
   pub opened : r.purpose ≡ purpose.Master → closes r.stage ≡ true → r.swaps ≡ false
   pub looked : (p : ServerNo) → r.purpose ≡ purpose.Master → r.chosen ≡ Some p → r.swaps ≡ false → WasLooked P r p
 
--- Who is promoted in a dead master's place, where this one was chosen: that one, where there was none better, or where
--- an operation stopped by which the better one was to take its place; else the better one.
+-- Who is promoted in a dead master's place, if this one was chosen. It is that one, if there was none better, or if an
+-- operation stopped by which the better one was to take its place. Else it is the better one.
 abbrev pub WasCrowned : (Fact → Bool) → ServerNo → Option ServerNo → Type 0
 WasCrowned P p o =
     ((o ≡ Some p) × (P (HasNoBetter p) ≡ true))

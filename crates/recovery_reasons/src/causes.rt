@@ -1,12 +1,12 @@
-//! What a job's cause says.
+//! The meaning of a job's cause.
 
 ghost use Rattle.std.specs.Prelude.{◌≡◌, ℕ, List, Option, Some};
 ghost use Rattle.recovery_reasons.specs.Prelude.{Cause as Why, Deed, Job, Match, Moment as AMoment, Observation as AnObservation, Op as AnOp};
 ghost use Rattle.recovery_reasons.specs.Prelude.{ServerNo as Number, Stops, World, by_deed, spoken_to};
 ghost use Rattle.recovery_reasons.specs.Causes.{IsMatchCause, IsTrueOf};
 
-/// Where an operation stops its job, the cause names the server that it spoke with, and is true of it in that turn's
-/// world. That of a match is why the logs of the two don't match in that world.
+/// If an operation stops its job, the cause names the server that it worked on, and is true of it in that turn's world.
+/// That of a match is why the logs of the two don't match in that world.
 pub fn causes_are_true()
     ensures alone { (w : World) (read : ℕ) (now : AMoment) (j : Job) (rest : List AnOp) (d : Deed)
         (n : Number) (c : Why) (o : Option AnObservation) →

@@ -13,12 +13,14 @@ ghost use Rattle.recovery_reasons.specs.OnWay.{AllFit};
 ghost use Rattle.recovery_reasons.specs.Reasons.{ExplainsTruly, Fact, IsExplained, Speaks, WasCrowned};
 
 /// What a recovery came to so far has true facts: each entry of its lost, each of its drained, whom it chose and among
-/// whom, and whom it promoted were so before the turn, or are true of its world and its book. Whatever holds of what
-/// was so and of each fact that is true of this turn holds of all afterwards, whether the recovery goes on, is done or
-/// fails. A recovery whose decisions leave no operation found nobody; and one that is done has lost nobody since none
-/// of the drained may be promoted. A master's recovery that is done has looked for a better one than the chosen one:
-/// that one is promoted, unless there is none, or unless the change of places was given up. A recovery doesn't fail for
-/// one of its replicas that isn't reached, nor where two servers can't change places.
+/// whom, and whom it promoted. They were so before the turn, or are true of its world and its book. Take whatever holds
+/// for what was so and for each fact that is true of this turn. It holds for all afterwards, whether the recovery goes
+/// on, is done or fails.
+///
+/// A recovery whose decisions leave no operation found nobody. One that is done has lost nobody because none of the
+/// drained may be promoted. A master's recovery that is done has looked for a better one than the chosen one. That one
+/// is promoted, unless there is none, or unless the change of places was given up. A recovery doesn't fail for one of
+/// its replicas that isn't reached, nor if two servers can't change places.
 pub fn recoveries_tell_the_truth()
     ensures told { (w : World) (b : BookState) (read : ℕ) (now : AMoment) (r : Recovery)
         (P : Fact → Bool) →

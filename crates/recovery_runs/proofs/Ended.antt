@@ -30,7 +30,7 @@ module _ (s : Scenario) (xs : List Step) (now : State) (comes : ComesTo s xs now
       go (inl (front, failing)) = absurd (no-hook now.world now.book (next_count now.reads) (moment_at now) r (decided (ground_of now.world now.book (moment_at now)) r) number exit c same failing)
       go (inr ended) = (ended.hooks, ended.runs, inr (ended.hook, ended.due))
 
-  -- what the turn in which one fails tells
+  -- what the turn in which one fails answers
   pub failure-comes : (rows : List Row) (id : ℕ) (r : Recovery) (docket : Docket) (c : Cause) (lines : List Line) → IsFailure now id r docket c lines
       → FailsWell (begun s xs now comes) xs rows now id r docket c lines
   failure-comes rows id r docket c lines is =

@@ -1,4 +1,4 @@
--- The lost of a recovery have reasons, from its beginning on.
+-- The lost of a recovery have reasons, from its start on.
 use Rattle.std.proofs.Common.{◌≡◌, ◌∙◌, ℕ, Bool, true, List, ◌++◌, refl, sym, subst, Option, Some, None}
 use Rattle.std.specs.Prelude.{◌==◌, All, IfSome}
 use Rattle.recovery_runs.proofs.Prelude.{Act, All-find, All-nil, All-weaker, BeginsOnce, Docket, ExplainedState, ExplainsAct, ExplainsDone}
@@ -18,7 +18,7 @@ module _ (P : Fact → Bool) (id : ℕ) where
   abbrev Explained : Unended → Type 0
   Explained u = number_of u ≡ id → HasFacts P u
 
-  -- what begins tells nothing yet
+  -- what begins reports nothing yet
   once-explained : (s : State) (u : Unended) → BeginsOnce s u → Explained u
   once-explained s (unended.Plan j) once e = tt
   once-explained s (unended.Recovery r docket) once e =

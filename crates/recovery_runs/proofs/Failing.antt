@@ -1,4 +1,4 @@
--- A recovery fails for what befell it.
+-- A recovery fails for what happened to it.
 use Rattle.std.proofs.Common.{◌≡◌, ◌∙◌, ◌+◌, ℕ, Bool, true, false, cond, List, [], ◌∷◌, refl, sym, ap, subst, Option, Some, None, ◌⊎◌, inl, inr}
 use Rattle.recovery_runs.proofs.Prelude.{All-find, All-head, Attempt, BookState, Cause, ComesTo, Deed, Docket, Exchange, FailsTruly, Failure, Fate}
 use Rattle.recovery_runs.proofs.Prelude.{Fine, HasNobody, Hook, HookState, HostPort, IsEndedByHook, IsFailing, IsOnWay, IsSpeakingBeside, IsTrueOf}
@@ -35,7 +35,7 @@ module _ (w : World) (b : BookState) (read : ℕ) (now : Moment) (r so : Recover
     on : IsOnWay so
     on = still-on so o rest is fine
 
-    -- where what is seen may end it, its operation is a status of the failed server
+    -- if what is seen may end it, its operation is a status of the failed server
     first : ((info so.stage).bar ≡ table.Never → ⊥) → IsFirst o
     first barred = go on.course.stage.first
       where
@@ -43,7 +43,7 @@ module _ (w : World) (b : BookState) (read : ℕ) (now : Moment) (r so : Recover
         go (inl never) = absurd (barred never)
         go (inr all) = All-head IsFirst o rest (subst (λ (xs : List Op). All IsFirst xs) is all)
 
-    -- which shows it, and notes where it stands
+    -- which observes it, and notes its position
     shown : IsFirst o → (ob : Option Observation) (es : List Exchange) (j : Job) → by_deed w read now so.core rest (deed_of o) ≡ attempt.Goes ob es j → ShowsNow w j.seen so.failed
     shown same ob es j goes =
         subst (λ (a : Attempt). ReadsNow w so.failed a) (subst (λ (x : Op). by_deed w read now so.core rest (deed_of x) ≡ attempt.Goes ob es j) same goes)
@@ -120,7 +120,7 @@ fails-truly w b read now r way c lines h =
 -- ---- with hooks
 
 module _ (d : Docket) (promoted : Option HostPort) (r : Recovery) (t : Taken) (f : Failure) where
-  -- its own turn failed for the same, whatever lines it tells
+  -- its own turn failed for the same, whatever its lines are
   abbrev OwnFails : JobStep → Type 0
   OwnFails x = (lines : List Line) × (x ≡ step.Failed f.cause lines)
 

@@ -1,4 +1,4 @@
--- The turn of a recovery in a state is one of its flight.
+-- The turn of a recovery in a state is one of its `Flight`.
 use Rattle.std.proofs.Common.{◌≡◌, ◌∙◌, ◌++◌, ℕ, Bool, List, refl, sym, ap, subst, Option, Some}
 use Rattle.std.specs.Prelude.{◌==◌, All}
 use Rattle.recovery_runs.proofs.Prelude.{AimedState, All-find, AllFit, CoveredState, Docket, ExplainsTruly, Fact, HeldState, Hooked, IsBeginning}
@@ -45,7 +45,7 @@ module _ (s : State) (id : ℕ) (r : Recovery) (docket : Docket) where
     taken-done : (turn_taken s r).step ≡ job_step.Done (own_lines s r)
     taken-done = (done-with docket.hooks (promoted_then s r) (turn_taken s r).step lines own-done).0
 
-    -- nobody is lost since none may be promoted
+    -- nobody is lost because none may be promoted
     pub lost-fit : SpeakingState s → AllFit (recovery_after s r).outcome.lost
     lost-fit speaking =
         done-fit s.world s.book (next_count s.reads) (moment_at s) r

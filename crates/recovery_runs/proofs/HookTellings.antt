@@ -1,4 +1,4 @@
--- What recoveries tell of their hooks in a state in which these are tended.
+-- The lines of recoveries' hooks in a state in which the hooks are in order.
 use Rattle.std.proofs.Common.{◌≡◌, ◌∙◌, ℕ, List, ◌++◌, refl, sym, ap, Option, Some, None}
 use Rattle.std.specs.Prelude.{◌==◌}
 use Rattle.recovery_runs.proofs.Prelude.{All-find, Cause, Docket, Exchange, HookState, IsEarly, IsFailure, IsFinish, IsTended, IsTendedBeside}

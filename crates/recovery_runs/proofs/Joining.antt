@@ -1,4 +1,4 @@
--- What begins stands behind what is there.
+-- What begins is after what is there.
 use Rattle.std.proofs.Common.{◌≡◌, ℕ, ◌+◌, List, [], ◌++◌, refl, sym, subst, Option, Some, None, Result, Ok, Err}
 use Rattle.std.specs.Prelude.{All}
 use Rattle.recovery_runs.proofs.Prelude.{All-append, Asks, Begins as RecoveryBegins, CommandTurn, Decided, Decides, Discovers, Forgets, Line}

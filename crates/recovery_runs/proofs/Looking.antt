@@ -83,12 +83,12 @@ module _ (d : Docket) (h : HookState) (promoted : Option HostPort) (r : Recovery
   pub own-recovery : h.checked ≡ false → (with_hooks d promoted r t).taken.recovery ≡ t.recovery
   own-recovery fresh = ap (λ (x : Hooked). x.taken.recovery) (own-comes fresh)
 
-  -- and a hook's turn before it is told by its exit
+  -- and a hook's turn before it answers by its exit
   hook-comes : (k : Hook) → due_before h ≡ Some k → (with_hooks d promoted r t).taken.step ≡ told_before h k
   hook-comes k due =
       ap (λ (o : Option Hook). (front_turn d promoted r t o).taken.step) (ap front_hook has ∙ due) ∙ ap (λ (o : Option HookState). step_before o k) has
 
-  -- behind any of its turns it has looked
+  -- after any of its turns it has looked
   pub then-checked : (k : HookState) → (with_hooks d promoted r t).docket.hooks ≡ Some k → k.checked ≡ true
   then-checked k is = front (front_hook d.hooks) refl
     where

@@ -50,7 +50,7 @@ all-apart (u ∷ us) id none = go (number_of u == id) refl none (λ e. all-apart
     go true is e rest = absurd (none-some u (sym e))
     go false other e rest = All-cons (λ (k : Unended). number_of k ≡ id → ⊥) u us (eqb-false (number_of u) id other) (rest e)
 
--- ---- a recovery's stage behind its look
+-- ---- a recovery's stage after its look
 
 abbrev IsOff : Recovery → Type 0
 IsOff r = r.stage ≡ stage.Check → ⊥
@@ -103,7 +103,7 @@ module _ (w : World) (b : BookState) (read : ℕ) (now : Moment) where
   decided-off : (r : Recovery) → IsOff r → IsOff (decided (ground_of w b now) r)
   decided-off r off = decisions-keep w b now IsOff (λ x d may is. decides-off x d is) (decided-walks w b now r) off
 
-  -- no such recovery fails since its server is reached
+  -- no such recovery fails because its server is reached
   never-reachable : (r d : Recovery) (c : Cause) (n : ServerNo) → FailsTruly w b read now r d c → IsOff d → c ≡ cause.Reachable n → ⊥
   never-reachable r d c n (failing.Nobody none nobody) off e = cc
   never-reachable r d c n (failing.Reached x at shows) off e = off at
@@ -175,7 +175,7 @@ module _ (from : State) where
           away = subst (λ (zs : List Step). seen_in (status (run_turns engine from zs).world f.0) ≡ None) (sym same) (subst (λ (z : State). seen_in (status z.world f.0) ≡ None) here away);
         }
 
-    -- behind it that isn't so any more that none was
+    -- after it that isn't so any more that none was
     some-was : place < length xs → act_in s x.1 ≡ Some (act.Job id) → NoneWas place id from more → ⊥
     some-was behind does none =
         none (length xs) x behind (get-last xs x)

@@ -1,4 +1,4 @@
--- Each recovery in flight began in a turn of its run.
+-- Each unended recovery began in a turn of its run.
 use Rattle.std.proofs.Common.{◌≡◌, ◌∙◌, ℕ, List, [], ◌∷◌, ◌++◌, length, refl, sym, ap, subst, take, Some, ◌⊎◌, inl, inr, zero, suc}
 use Rattle.std.specs.Prelude.{All, Contains, slice_get}
 use Rattle.recovery_runs.proofs.Prelude.{All-contains, All-weaker, Began, BeganIn, BeginsOnce, ComesOf, Contains-append_cases, Docket, HasHooks}
@@ -9,7 +9,7 @@ use Rattle.recovery_runs.proofs.Begun.{begun-once}
 use Rattle.recovery_runs.proofs.Tellings.{tells-on}
 use Rattle.recovery_runs.proofs.Coming.{all-come}
 
--- a turn, with the rows that the keeper hands back
+-- a turn, with the rows that the row store hands back
 abbrev pub Step : Type 0
 Step = List Row × Turn
 
@@ -33,7 +33,7 @@ pub take-all : (xs ys : List Step) → take (length xs) (xs ++ ys) ≡ xs
 take-all [] ys = refl
 take-all (z ∷ zs) ys = ap (λ (us : List Step). z ∷ us) (take-all zs ys)
 
--- ---- where each recovery began
+-- ---- the turn in which each recovery began
 
 module _ (from : State) where
   abbrev pub HasOrigin : List Step → Unended → Type 0

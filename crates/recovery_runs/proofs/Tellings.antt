@@ -1,4 +1,4 @@
--- A recovery tells of all that it owes.
+-- A recovery reports all that it owes.
 use Rattle.recovery_runs.proofs.Prelude.{All-contains, BookState, Contains-append_left, Contains-append_right, Contains-push, IsAsNamed, IsTold}
 use Rattle.recovery_runs.proofs.Prelude.{IsToldOf, Line, Purpose, Recovery, SameAim, ServerNo, TellsAll, World, all-told, by_name, comes_below}
 use Rattle.recovery_runs.proofs.Prelude.{eq-eqb, eqb-true, filtered-all, filtered-few, filtered-none, first_source, followers_of, is_replica_of}
@@ -8,7 +8,7 @@ use Rattle.recovery_runs.proofs.Prelude.purpose
 use Rattle.std.proofs.Common.{◌≡◌, ◌∙◌, ℕ, ◌+◌, ◌<◌, Bool, true, false, cond, not, ◌&&◌, ◌||◌, List, [], ◌∷◌, length, refl, sym, ap, subst, Option, Some, ◌⊎◌, inl, inr, arith}
 use Rattle.std.specs.Prelude.{◌==◌, Contains}
 
--- who stands in a list at all is one of it
+-- who is in a list at all is one of it
 pub counted : (ks : List ServerNo) (n : ServerNo) → 0 < times n.0 ks → Contains ks n
 counted [] n h = absurd (omega (arith, h))
 counted (k ∷ ks) n h = go (k.0 == n.0) refl h (counted ks n)
@@ -19,11 +19,11 @@ counted (k ∷ ks) n h = go (k.0 == n.0) refl h (counted ks n)
 
 -- ---- as it begins
 
--- one that tells of its replicas
+-- one that reports its replicas
 pub tells-own : (o : Option ServerNo) (ks : List ServerNo) (n : ServerNo) → 0 < times n.0 ks → Contains ks n ⊎ (o ≡ Some n)
 tells-own o ks n h = inl (counted ks n h)
 
--- a takeover tells of the master and of its replicas but the designated one
+-- a takeover reports the master and its replicas except the designated one
 module _ (b : BookState) (i d : ServerNo) (there : i.0 < length b.names) where
   below : (n : ServerNo) → comes_below b i d n ≡ true → 0 < times n.0 (by_name b.names) → Contains (followers_of b i d) n
   below n comes has = let same = filtered-all (comes_below b i d) n (by_name b.names) comes in counted (followers_of b i d) n (omega (arith, same, has))

@@ -24,7 +24,8 @@ use Rattle.recovery_runs.proofs.Origins.{HasOrigin, Step, origins-step, take-all
 
 -- ---- one state
 
--- recoveries cover their replicas so far, and speak with those that they may lose; in a quiet state they keep histories
+-- recoveries cover their replicas so far, and speak with those that they may lose; in a state without errant writes
+-- they keep histories
 pub record Cares (s : State) : Type 0 where
   pub covered : CoveredState s
   pub speaking : SpeakingState s

@@ -1,4 +1,4 @@
--- Each turn of a recovery in flight owes nothing.
+-- Each turn of an unended recovery owes nothing.
 use Rattle.std.proofs.Common.{List}
 use Rattle.recovery_runs.proofs.Prelude.{ComesTo, HeldState, RecoveriesTurnWell, Scenario, State, flight_of, turn-changes, turn-chooses}
 use Rattle.recovery_runs.proofs.Finishing.{facts-true, turn_in}

@@ -8,7 +8,7 @@ use Rattle.recovery_runs.specs.Prelude.purpose
 use Rattle.recovery_runs.specs.Prelude.turn
 use Rattle.recovery_runs.specs.Prelude.unended
 
--- those of what a command or a scan answers: the jobs that it leaves where there are none before it
+-- those of what a command or a scan answers: the jobs that it leaves if there are none before it
 abbrev pub jobs_of : State → Outcome → List Unended
 jobs_of s o = (updated (record (known_of s) { jobs = [] }) o.book).jobs
 
@@ -33,11 +33,11 @@ jobs_begun s (turn.As node a) = jobs_done s (act_in s (turn.As node a))
 jobs_begun s (turn.Claim node) = jobs_done s (act_in s (turn.Claim node))
 jobs_begun s (turn.Release node) = []
 
--- whoever is owed stands in the order in which a recovery tells, but for a new source that is named at its beginning
+-- whoever is owed is in the order in which a recovery reports, except for a new source that is named at its start
 abbrev pub TellsAll : Recovery → Type 0
 TellsAll r = (n : ServerNo) → 0 < times n.0 (owed r.purpose r.failed r.replicas) → Contains r.order n ⊎ (first_source r.purpose ≡ Some n)
 
--- the hooks of the scenario, none of which ran; they are told of the failed server, the label of its cluster, and its
+-- the hooks of the scenario, none of which ran; their values are the failed server, the label of its cluster, and its
 -- analysis as it is now
 pub record AreHooksOf (s : State) (f : ServerNo) (o : Option HookState) : Type 0 where
   pub code : Code
@@ -53,7 +53,7 @@ HasHooks s purpose.Master f o = AreHooksOf s f o
 HasHooks s (purpose.Intermediate n) f o = AreHooksOf s f o
 HasHooks s (purpose.Takeover d) f o = o ≡ None
 
--- a recovery as it begins, of the replicas that the book has of the failed server, which names none twice, and tells of
+-- a recovery as it begins, of the replicas that the book has of the failed server, which names none twice, and reports
 -- all; and with its hooks
 pub record IsBegunOnce (s : State) (r : Recovery) (docket : Docket) : Type 0 where
   pub fresh : IsFresh r

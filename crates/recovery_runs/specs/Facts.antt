@@ -1,4 +1,4 @@
--- That what a recovery tells is true, from its beginning on.
+-- That what a recovery reports is true, from its start on.
 use Rattle.std.specs.Prelude.{◌≡◌, ℕ, Bool, All, Option, Some, None}
 use Rattle.recovery_runs.specs.Prelude.{Act, Docket, ExplainsTruly, Fact, IsExplained, Recovery, State, Turn, Unended, act_in, job_at, moment_at}
 use Rattle.recovery_runs.specs.Prelude.{number_of}

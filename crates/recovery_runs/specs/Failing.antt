@@ -18,7 +18,7 @@ pub record ShowsFailed (w : World) (d : Recovery) (s : Status) : Type 0 where
   pub due : d.core.ops ≡ op.Status d.failed None ∷ rest
   pub shows : seen_in (status w d.failed.0) ≡ Some s
 
--- the turn's operation stops for a cause that befell it, and that is true of the server that it speaks with
+-- the turn's operation stops for a cause that happened to it, and that is true of the server on which it works
 pub record StopsTruly (w : World) (read : ℕ) (now : Moment) (d : Recovery) (c : Cause) : Type 0 where
   pub op : Op
   pub rest : List Op
@@ -27,9 +27,11 @@ pub record StopsTruly (w : World) (read : ℕ) (now : Moment) (d : Recovery) (c 
   pub befell : Befell w d.core (deed_of op) c
   pub truth : IfSome (spoken_to (deed_of op)) (λ n. IsTrueOf w n c)
 
--- Why a turn fails in which a recovery was decided so: nobody is found; its check reaches the failed server; the master
--- that is to give up its place is seen with a source; or its operation stops so where it can't go on without it, for none
--- of the causes that end no recovery.
+-- Why a turn fails in which a recovery was decided so:
+-- - nobody is found;
+-- - its check reaches the failed server;
+-- - the master that is to give up its place is seen with a source;
+-- - its operation stops so, the recovery can't go on without it, and the cause is none that ends no recovery.
 pub data FailsTruly (w : World) (b : BookState) (read : ℕ) (now : Moment) (r d : Recovery) : Cause → Type 0 where
   Nobody : d.core.ops ≡ [] → HasNobody w b now r d → FailsTruly w b read now r d cause.NoCandidate
   Reached : (s : Status) → d.stage ≡ stage.Check → ShowsFailed w d s → FailsTruly w b read now r d (cause.Reachable d.failed)
@@ -50,7 +52,7 @@ pub record IsEndedByHook (d : Docket) (c : Cause) : Type 0 where
   pub exit : hook.exit ≢ 0
   pub told : c ≡ cause.HookFailed (hooks.before + 1) hook.exit
 
--- a recovery that answers a failure fails for what befell it in that very turn, where no hook was due before it, or was
+-- a recovery that answers a failure fails for what happened in that very turn, if no hook was due before it, or was
 -- ended by the one that was
 abbrev pub RecoveriesFailForWhatBefell : State → Type 0
 RecoveriesFailForWhatBefell s = (id : ℕ) (r : Recovery) (d : Docket) (f : Failure) → job_at s.jobs id ≡ Some (unended.Recovery r d)

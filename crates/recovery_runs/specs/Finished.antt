@@ -18,7 +18,7 @@ use Rattle.recovery_runs.specs.States.{AimedState, CoveredState, KeptState, Spea
 abbrev pub FinishedTellLines : Type 0
 FinishedTellLines = (s : State) (id : ℕ) (r : Recovery) (docket : Docket) (lines : List Line) → IsFinish s id r docket lines → reply_of s (turn.Act (act.Job id)) ≡ answered.Told lines
 
--- these are the recovery's own, and behind them those of the hooks that ran
+-- these are the recovery's own, and after them those of the hooks that ran
 abbrev pub FinishedTellOwn : Type 0
 FinishedTellOwn = (s : State) (id : ℕ) (r : Recovery) (docket : Docket) (lines : List Line) → IsFinish s id r docket lines → lines ≡ own_lines s r ++ ran_lines docket.hooks (promoted_then s r)
 
@@ -27,7 +27,7 @@ abbrev pub FinishedOweNothing : Type 0
 FinishedOweNothing = (count : ℕ) (rows : List Row) (s : State) (id : ℕ) (r : Recovery) (docket : Docket) (lines : List Line) → Ready count s → HeldState s → CoveredState s → IsFinish s id r docket lines
     → OwesNothing count (step rows s (turn.Act (act.Job id))).world r (recovery_after s r) (own_lines s r)
 
--- where the servers are safe afterwards, histories are kept
+-- if the servers are `Safe` afterwards, histories are kept
 abbrev pub FinishedKeepHistories : Type 0
 FinishedKeepHistories = (rows : List Row) (s : State) (id : ℕ) (r : Recovery) (docket : Docket) (lines : List Line) → HeldState s → SoundState s → CoveredState s → KeptState s → IsFinish s id r docket lines
     → Safe (step rows s (turn.Act (act.Job id))).world → KeepsHistories (step rows s (turn.Act (act.Job id))).world r (recovery_after s r)
@@ -51,12 +51,12 @@ FinishedKeepEntries = (had : List Row) (s : State) (id e : ℕ) (r : Recovery) (
 
 -- ---- its hooks
 
--- where hooks are tended it tells all of them
+-- if hooks are in order it has the lines of all of them
 abbrev pub FinishedTellHooks : Type 0
 FinishedTellHooks = (s : State) (id : ℕ) (r : Recovery) (docket : Docket) (lines : List Line) → TendedState s → IsFinish s id r docket lines
     → lines ≡ own_lines s r ++ told_hooks docket.hooks (promoted_then s r)
 
--- and so does one that fails; one without hooks tells none
+-- and so does one that fails; one without hooks has none
 abbrev pub FailedTellHooks : Type 0
 FailedTellHooks = (s : State) (id : ℕ) (r : Recovery) (docket : Docket) (c : Cause) (lines : List Line) → TendedState s → IsFailure s id r docket c lines
     → (reply_of s (turn.Act (act.Job id)) ≡ answered.Failed (record { cause = c; lines = lines })) × TellsFailed docket.hooks r.failed c lines
@@ -66,10 +66,10 @@ abbrev pub EarlyStayStill : Type 0
 EarlyStayStill = (rows : List Row) (s : State) (id : ℕ) (r : Recovery) (docket : Docket) (h : HookState) → TendedState s → job_at s.jobs id ≡ Some (unended.Recovery r docket)
     → docket.hooks ≡ Some h → IsEarly h → (step rows s (turn.Act (act.Job id))).world ≡ s.world
 
--- ---- what it tells
+-- ---- what it reports
 
--- where each fact that is true in a turn counts, and what the recovery came to before it has facts that count, so has
--- what it comes to
+-- if each fact that is true in a turn counts, and what the recovery came to before it has facts that count, so has what
+-- it comes to
 abbrev pub FactsAreTrue : Type 0
 FactsAreTrue = (s : State) (id : ℕ) (r : Recovery) (docket : Docket) (P : Fact → Bool) → job_at s.jobs id ≡ Some (unended.Recovery r docket) → HeldState s → SpeakingState s
     → ExplainsTruly s.world s.book (moment_at s) r P → IsExplained P r → IsExplained P (recovery_after s r)

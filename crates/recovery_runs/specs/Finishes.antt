@@ -42,23 +42,24 @@ abbrev pub ran_lines : Option HookState → Option HostPort → List Line
 ran_lines None promoted = []
 ran_lines (Some h) promoted = done_lines h promoted
 
--- those of all that run where it is done: all before it up to the first with another exit than 0, and all behind it
+-- those of all that run if it is done: all before it up to the first with another exit than 0, and all after it
 abbrev pub told_hooks : Option HookState → Option HostPort → List Line
 told_hooks None promoted = []
 told_hooks (Some h) promoted = all_before h ++ all_behind h promoted
 
--- Those of all that run where it fails: none before it where its failed server was reached, else all that run before
--- it; and all that run then.
+-- Those of all that run if it fails: none before it if its failed server was reached, else all that run before it; and
+-- all that run then.
 pub record FailsTelling (h : HookState) (f : ServerNo) (c : Cause) (lines : List Line) : Type 0 where
   pub looked : h.checked ≡ true → lines ≡ all_before h ++ unsuccessful_lines h
   pub reached : h.checked ≡ false → (c ≡ cause.Reachable f) × (lines ≡ unsuccessful_lines h)
 
--- one without hooks tells none
+-- one without hooks has none
 abbrev pub TellsFailed : Option HookState → ServerNo → Cause → List Line → Type 0
 TellsFailed None f c lines = lines ≡ []
 TellsFailed (Some h) f c lines = FailsTelling h f c lines
 
--- the job of this number is a recovery with this docket, and its turn is the one in which it is done, with these lines
+-- the job of this number is a recovery with this `Docket`, and its turn is the one in which it is done, with these
+-- lines
 pub record IsFinish (s : State) (id : ℕ) (r : Recovery) (docket : Docket) (lines : List Line) : Type 0 where
   pub found : job_at s.jobs id ≡ Some (unended.Recovery r docket)
   pub done : (turn_hooked s r docket).taken.step ≡ step.Done lines
@@ -68,8 +69,8 @@ pub record IsFailure (s : State) (id : ℕ) (r : Recovery) (docket : Docket) (c 
   pub found : job_at s.jobs id ≡ Some (unended.Recovery r docket)
   pub failed : (turn_hooked s r docket).taken.step ≡ step.Failed c lines
 
--- What it owes, over so many servers: it is about whom it was about, its outcome covers the replicas and is what its
--- own lines tell, each follower follows the promoted server, but after a swap the chosen one, which does, each replica
+-- What it owes, over so many servers. It is about whom it was about. Its outcome covers the replicas and is what its
+-- own lines report. Each follower follows the promoted server, or after a swap the chosen one, which does. Each replica
 -- has one place, and the outcome names servers that are there.
 pub record OwesNothing (count : ℕ) (w : World) (before after : Recovery) (lines : List Line) : Type 0 where
   pub aim : SameAim before after
@@ -78,8 +79,8 @@ pub record OwesNothing (count : ℕ) (w : World) (before after : Recovery) (line
   pub placed : (n : ℕ) → 0 < times n before.replicas → HasOnePlace before.purpose after.outcome n
   pub named : IsNamedOutcome count after.outcome
 
--- What it owes of histories: the promoted server has what each that might have been chosen had when it was drained, and
--- the designated one what the old master of a takeover has.
+-- What it owes of histories. The promoted server has what each that might have been chosen had when it was drained. The
+-- designated one has what the old master of a takeover has.
 pub record KeepsHistories (w : World) (before after : Recovery) : Type 0 where
   pub promoted : (n : ServerNo) → after.outcome.promoted ≡ Some n → All (λ s. Keeps w before.failed.0 s.exec n.0) after.eligible
   pub old : (d : ServerNo) → before.purpose ≡ purpose.Takeover d → IsBeginning w before.failed.0 d.0

@@ -15,7 +15,7 @@ use Rattle.recovery_runs.specs.Origins.{Began}
 
 -- ---- its turns so far
 
--- behind a place none of these turns is one of the job, whoever takes it
+-- after a place none of these turns is one of the job, whoever takes it
 abbrev pub NoneWas : ℕ → ℕ → State → List (List Row × Turn) → Type 0
 NoneWas place id from xs = (k : ℕ) (x : List Row × Turn) → place < k → slice_get xs k ≡ Some x → act_in (run_turns engine from (take k xs)) x.1 ≡ Some (act.Job id) → ⊥
 
@@ -31,7 +31,7 @@ pub record FirstFoundAway (place id : ℕ) (f : ServerNo) (from : State) (xs : L
 
 -- ---- what its next turn answers
 
--- this, with the lines of all hooks that run where it fails
+-- this, with the lines of all hooks that run if it fails
 abbrev pub unsuccessful : Option HookState → List Line
 unsuccessful None = []
 unsuccessful (Some h) = unsuccessful_lines h
@@ -58,10 +58,10 @@ pub record MeetsMaster (s : State) (id : ℕ) (r : Recovery) : Type 0 where
   pub sourced : (x : Status) → seen_in (status s.world r.failed.0) ≡ Some x → has_source x.source ≡ true → Answers s id (record { cause = cause.Moved r.failed x.source; lines = [] })
   pub free : (x : Status) → seen_in (status s.world r.failed.0) ≡ Some x → (has_source x.source ≡ true → ⊥) → GoesOn s id
 
--- A recovery in flight that began in one of these turns. Before any turn of it was taken its next one is the look at its
--- failed server, or at the master whose place is taken; once one was, the first of them found the failed server
--- unreachable, and no turn answers any more that it is reached. The hooks before it come next, one a turn; and where it
--- is done, each of them had the exit 0.
+-- An unended recovery that began in one of these turns. Before any turn of it was taken its next one is the look at its
+-- failed server, or at the master whose place is taken. Once one was, the first of them found the failed server
+-- unreachable, and no turn answers any more that it is reached. The hooks before it come next, one a turn. If it is
+-- done, each of them had the exit 0.
 pub record LooksBefore (from : State) (xs : List (List Row × Turn)) (s : State) (id : ℕ) (r : Recovery) (docket : Docket) : Type 0 where
   pub began : Began from xs r docket
   pub first : IsOfDead r.purpose → NoneWas began.place id from xs → LooksFirst s id r docket

@@ -1,4 +1,4 @@
--- Where the recoveries of a run began, and which facts were true in its turns.
+-- The turns in which the recoveries of a run began, and which facts were true in its turns.
 use Rattle.recovery_runs.specs.Prelude.{Docket, Fact, IsOfDocket, Recovery, Row, SameAim, State, Turn, act_in, engine, replicas_of, run_turns, step}
 use Rattle.recovery_runs.specs.Prelude.act
 use Rattle.recovery_runs.specs.Prelude.unended
@@ -6,9 +6,9 @@ use Rattle.std.specs.Prelude.{◌≡◌, ◌<◌, ℕ, Bool, List, Some, Contain
 use Rattle.recovery_runs.specs.Facts.{ExplainsTurn}
 use Rattle.recovery_runs.specs.Begun.{HasHooks, TellsAll, jobs_begun}
 
--- A recovery is what one has become that began in a turn of this state, with its entry in the audit, if it has one: it
--- is about the same, its replicas are those that the book had attached to the failed server then, and it tells of all;
--- and its hooks are those that it had then, which were told of the failed server as it was then.
+-- A recovery is what one has become that began in a turn of this state, with its entry in the audit, if it has one. It
+-- is about the same, its replicas are those that the book had attached to the failed server then, and it reports all.
+-- Its hooks are those that it had then, which got the failed server as it was then.
 pub record BeganIn (s : State) (t : Turn) (r : Recovery) (docket : Docket) : Type 0 where
   pub was : Recovery
   pub had : Docket

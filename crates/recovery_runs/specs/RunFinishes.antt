@@ -14,11 +14,15 @@ use Rattle.recovery_runs.specs.Origins.{Began, ExplainsAlong, StaysStill}
 abbrev pub world_then : List Row → State → ℕ → World
 world_then rows s id = (step rows s (turn.Act (act.Job id))).world
 
--- Its reply is the lines, its own and those of all its hooks; its outcome covers the replicas, which are those that the
--- book had attached to the failed server when it began, and is what the lines tell; whoever is owed has a line in it,
--- as promoted, following or lost; in a quiet state the promoted server has the histories; the reasons of its lost, what
--- it drained, whom it chose and promoted are facts that were true in one of its turns: ones that count where each that
--- was true counts; nobody is lost since none may be promoted; and its entry ends with the promoted server.
+-- A recovery that finishes well.
+-- - Its reply is the lines, its own and those of all its hooks.
+-- - Its outcome covers the replicas, which are those that the book had attached to the failed server when it began, and
+--   is what the lines report.
+-- - Whoever is owed has a line in it, as promoted, following or lost.
+-- - In a state without errant writes the promoted server has the histories.
+-- - The reasons of its lost, what it drained, whom it chose and promoted are facts that were true in one of its turns.
+--   They count if each that was true counts.
+-- - Nobody is lost because none may be promoted, and its entry ends with the promoted server.
 pub record FinishesWell (count : ℕ) (from : State) (xs : List (List Row × Turn)) (rows : List Row) (s : State) (id : ℕ) (r : Recovery) (docket : Docket) (lines : List Line) : Type 0 where
   pub reply : reply_of s (turn.Act (act.Job id)) ≡ answered.Told lines
   pub hooks : lines ≡ own_lines s r ++ told_hooks docket.hooks (promoted_then s r)
@@ -31,15 +35,15 @@ pub record FinishesWell (count : ℕ) (from : State) (xs : List (List Row × Tur
   pub ends : (e : ℕ) (n : ServerNo) → docket.entry ≡ Some e → (recovery_after s r).outcome.promoted ≡ Some n
       → recovery_at (step rows s (turn.Act (act.Job id))).audit e ≡ option_map (finished_so (moment_at s) r.purpose n) (recovery_at s.audit e)
 
--- Its reply is the cause and the lines of its hooks, and it began in one of the turns. Where a hook ended it neither
--- this turn nor one of those since then has changed a server.
+-- Its reply is the cause and the lines of its hooks, and it began in one of the turns. If a hook ended it neither this
+-- turn nor one of those from its start on has changed a server.
 pub record FailsWell (from : State) (xs : List (List Row × Turn)) (rows : List Row) (s : State) (id : ℕ) (r : Recovery) (docket : Docket) (c : Cause) (lines : List Line) : Type 0 where
   pub reply : reply_of s (turn.Act (act.Job id)) ≡ answered.Failed (record { cause = c; lines = lines })
   pub hooks : TellsFailed docket.hooks r.failed c lines
   pub began : Began from xs r docket
   pub still : (number exit : ℕ) → c ≡ cause.HookFailed number exit → StaysStill began.place id from xs × (world_then rows s id ≡ s.world)
 
--- the hooks of a recovery are the scenario's, and the alias that they are told is that of its cluster's label
+-- the hooks of a recovery are the scenario's, and the alias that they get is that of its cluster's label
 pub record AreScenarios (s : Scenario) (h : HookState) : Type 0 where
   pub hooks : h.hooks ≡ s.hooks
   pub alias : h.told.alias ≡ alias_of s.aliases h.told.cluster

@@ -1,4 +1,4 @@
--- What single turns and openings leave of recoveries, whatever rows the keeper hands back.
+-- What single turns and openings leave of recoveries, whatever rows the row store hands back.
 use Rattle.std.specs.Prelude.{◌++◌, ℕ, All, List}
 use Rattle.recovery_runs.specs.Prelude.{HeldState, IsAimedBeside, Ready, Recovery, Row, Scenario, State, Turn, start, step}
 use Rattle.recovery_runs.specs.Begun.{BeginsOnce, ComesOf, jobs_begun}
@@ -12,7 +12,7 @@ BeginsJobsOnce s t = All (BeginsOnce s) (jobs_begun s t)
 abbrev pub RecoveriesComeOfThoseBegun : Type 0
 RecoveriesComeOfThoseBegun = (count : ℕ) (rows : List Row) (s : State) (t : Turn) → Ready count s → All (ComesOf (s.jobs ++ jobs_begun s t)) (step rows s t).jobs
 
--- where what begins is about what counts as its beginning, each recovery stays about what it began with
+-- if what begins is about what counts as its start, each recovery stays about what it began with
 abbrev pub TurnsKeepAims : Type 0
 TurnsKeepAims = (begun : ℕ → Recovery) (rows : List Row) (s : State) (t : Turn) → HeldState s → All (IsAimedBeside begun) (jobs_begun s t) → AimedState begun s → AimedState begun (step rows s t)
 

@@ -1,13 +1,13 @@
--- What holds of a state's recoveries beside what is held and sound.
+-- What holds for a state's recoveries beside `Held` and `Sound`.
 use Rattle.std.specs.Prelude.{◌≡◌, ℕ, All, Some}
 use Rattle.recovery_runs.specs.Prelude.{AimedJobs, CoveredJobs, HookState, IsTended, KeptJobs, Recovery, SpeakingJobs, State, Unended, flight_of}
 use Rattle.recovery_runs.specs.Prelude.unended
 
--- in every state, quiet or not
+-- in every state, with errant writes or without
 abbrev pub CoveredState : State → Type 0
 CoveredState s = CoveredJobs (flight_of s) s.jobs
 
--- in every quiet one
+-- in every one without errant writes
 abbrev pub KeptState : State → Type 0
 KeptState s = KeptJobs (flight_of s) s.jobs
 
@@ -19,7 +19,7 @@ SpeakingState s = SpeakingJobs s.jobs
 abbrev pub AimedState : (ℕ → Recovery) → State → Type 0
 AimedState begun s = AimedJobs begun s.jobs
 
--- the hooks of a recovery are in order, and it hasn't looked at its failed server yet where it is as it began
+-- the hooks of a recovery are in order, and it hasn't looked at its failed server yet if it is as it began
 abbrev pub IsTendedBeside : Unended → Type 0
 IsTendedBeside (unended.Plan j) = Unit {0}
 IsTendedBeside (unended.Recovery r docket) = (h : HookState) → docket.hooks ≡ Some h → IsTended r h

@@ -1,5 +1,5 @@
-//! The recoveries of every run: what each turn leaves of them, where each began, what its lost replicas were lost for,
-//! and what it owes its replicas when it is done.
+//! The recoveries of every run: what each turn leaves of them, and in which turn each began. Then what its lost
+//! replicas were lost for, and what it owes its replicas when it is done.
 #![tactic(auto)]
 
 mod finished;

@@ -6,18 +6,19 @@ ghost use Rattle.recovery_runs.specs.Failing.{RecoveriesFailForWhatBefell};
 ghost use Rattle.recovery_runs.specs.TurnsWell.{RecoveriesTurnWell};
 ghost use Rattle.recovery_runs.specs.Everywhere.{EarlyTurnsStayStill, HooksAreScenarios, NextAreExplained, RecoveriesAreExplained, RecoveriesBegan, RecoveriesFailWell, RecoveriesFinishWell};
 
-/// A recovery in flight began in one of the turns of its run, a command's or a scan's, with its entry in the audit. It
+/// An unended recovery began in one of the turns of its run, a command's or a scan's, with its entry in the audit. It
 /// is about what it began with, and its replicas are those that the book had attached to the failed server then.
 pub fn recoveries_began()
     ensures { RecoveriesBegan }
 {}
 
-/// What a recovery came to was true of the servers and the book in one of its turns: where each fact that was true in a
-/// turn of the recovery counts, all that it came to so far count, and so do all to which it comes in its next turn. One
-/// that answers a failure fails for what befell it in that turn: no candidate only where a decision of it found nobody;
-/// reachable only where its check reached the failed server; moved where the master was seen with a source; else its
-/// operation stopped so; or the hook that was due before it ended it. In each turn whoever it chooses is chosen among
-/// all replicas that aren't lost, and a turn after which it goes on changes only what it may.
+/// What a recovery came to was true of the servers and the book in one of its turns. If each fact that was true in a
+/// turn of the recovery counts, all that it came to so far count. So do all to which it comes in its next turn.
+///
+/// One that answers a failure fails for what happened in that turn. `NoCandidate` comes only if a decision of it found
+/// nobody. `Reachable` comes only if its check reached the failed server, `Moved` if the master was seen with a source.
+/// Else its operation stopped so, or the hook that was due before it ended it. In each turn whoever it chooses is
+/// chosen among all replicas that aren't lost. A turn after which it goes on changes only what it may.
 pub fn recoveries_have_true_facts()
     ensures before { RecoveriesAreExplained }
     ensures after { NextAreExplained }
@@ -25,25 +26,24 @@ pub fn recoveries_have_true_facts()
     ensures turns { InEveryState RecoveriesTurnWell }
 {}
 
-/// The turn of a run in which a recovery is done leaves nothing owed, whatever rows the keeper hands back and in
+/// The turn of a run in which a recovery is done leaves nothing owed, whatever rows the row store hands back and in
 /// whatever order the turns came.
 pub fn recoveries_finish_well()
     ensures { RecoveriesFinishWell }
 {}
 
 /// The turn of a run in which a recovery fails answers its cause and the lines of its hooks. Until all before it have
-/// run that are to, no turn of it changes a server: so none has where one of these ended it. Its hooks are the
-/// scenario's.
+/// run that are to, no turn of it changes a server: so none has if one of these ended it. Its hooks are the scenario's.
 pub fn recoveries_tell_hooks_in_runs()
     ensures failed { RecoveriesFailWell }
     ensures still { EarlyTurnsStayStill }
     ensures own { HooksAreScenarios }
 {}
 
-/// The first turn of a dead master's or intermediate master's recovery looks at it: one that is reached ends the recovery,
-/// with no hook before it, and one that isn't lets it go on; no later turn answers that it is reached. Then comes a hook
-/// a turn, which goes on exactly where its exit is 0; so all had it where the recovery is done. The first turn of a
-/// takeover ends it where the master isn't reached, or has a source.
+/// The first turn of a dead master's or intermediate master's recovery looks at it. One that is reached ends the
+/// recovery, with no hook before it, and one that isn't lets it go on. No later turn answers that it is reached. Then
+/// comes a hook a turn, which goes on exactly if its exit is 0. So all had it if the recovery is done. The first turn
+/// of a takeover ends it if the master isn't reached, or has a source.
 pub fn recoveries_look_first()
     ensures { RecoveriesLookBefore }
 {}

@@ -7,7 +7,7 @@ use Rattle.recovery_turns.proofs.Prelude.{ground_of, hand, hand_by, loses, once,
 use Rattle.recovery_turns.proofs.Prelude.lost
 use Rattle.recovery_turns.proofs.Prelude.task
 
--- where nothing begins
+-- if nothing begins
 pub idle_on : (r : Recovery) (d : Decided) → d.work ≡ None → decided_on r d ≡ settled_on r d
 idle_on r d idle = ap (working_on (settled_on r d)) idle
 
@@ -84,7 +84,7 @@ idle_due r d = go d.work
 
 -- ---- the handing over
 
--- the next one's way, where it is looked up after that one is taken
+-- the next one's way, if it is looked up after that one is taken
 pub hand_way : (g : Ground) (s : ServerNo) (r : Recovery) (d m : Decided) (x : Stopped) (j : Job) (f : ServerNo) (o : Option Way)
     → m ≡ record d { handed = m.handed } → m.handed ≡ d.handed + 1 → d.work ≡ None → j ≡ (decided_on r m).core → f ≡ r.failed → o ≡ way_below g j.seen f s x
     → way_below g (decided_on r d).core.seen (decided_on r d).failed s x ≡ o
@@ -141,7 +141,7 @@ hand_loses g s r d ds drained none =
     ∙ ap (λ (o : Option Way). hand_by (record r { queue = drop 1 r.queue }) d ds o (hand g s (loses (record r { queue = drop 1 r.queue }) d.no (lost.behind d.exec)) ds)) (sym none)
     ∙ ap (hand g s (record r { queue = drop 1 r.queue })) (sym drained)
 
--- ---- where a decision takes the queue's place
+-- ---- if a decision takes the queue's place
 
 -- what is done with the lost
 pub sort_on : (r : Recovery) (d e : Decided) → e ≡ record d { queue = e.queue; begun = e.begun } → d.work ≡ None

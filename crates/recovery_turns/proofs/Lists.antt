@@ -15,7 +15,7 @@ given-more h xs k d within =
     ∙ sym (filter_map-append h (take k xs) (get_or xs k d ∷ []))
     ∙ ap (filter_map h) (sym (take_more xs k d within))
 
--- what is given of one more, behind others
+-- what one more gives, after others
 pub given-onto : {X Y : Type 0} (h : X → Option Y) (before : List Y) (xs : List X) (k : ℕ) (d : X) (ys zs : List Y) (o : Option Y) → k < length xs
     → ys ≡ before ++ filter_map h (take k xs) → zs ≡ ys ++ option_to_list o → o ≡ h (get_or xs k d) → zs ≡ before ++ filter_map h (take (k + 1) xs)
 given-onto h before xs k d ys zs o within so_far more given =

@@ -1,4 +1,4 @@
--- A list that is mapped from its front on.
+-- A list that is mapped from its first element on.
 use Rattle.std.proofs.Common.{◌≡◌, ℕ, ◌+◌, ◌<◌, ◌≤◌, List, [], ◌∷◌, ◌++◌, take, length, get_or, set, map, zero, suc, refl, sym, ◌∙◌, ap, arith}
 use Rattle.recovery_turns.proofs.Prelude.{add-one, length-map, take-append_seam}
 
@@ -12,7 +12,7 @@ mapped_next f k [] d within = absurd (omega (arith, within))
 mapped_next f zero (x ∷ xs) d within = refl
 mapped_next f (suc k) (x ∷ xs) d within = ap (λ ys. f x ∷ ys) (mapped_next f k xs d (omega (arith, within)))
 
--- what stands at the front is as it was
+-- what is mapped already is as it was
 mapped_at : {A : Type 0} (f : A → A) (k : ℕ) (xs : List A) (d : A) → get_or (mapped f k xs) k d ≡ get_or xs k d
 mapped_at f zero xs d = refl
 mapped_at f (suc k) [] d = refl

@@ -11,6 +11,6 @@ decided-purpose r d = go d.work
     go None = refl
     go (Some w) = refl
 
--- where a turn is the last one
+-- if a turn is the last one
 pub done-purpose : (r : Recovery) (l : RecoveryLook) (lines : List Line) → l.step ≡ step.Done lines → (foretold r l).recovery.purpose ≡ r.purpose
 done-purpose r l lines is = ap (λ (s : JobStep). (after_step (decided_on r l.decided) s l.then).purpose) is ∙ decided-purpose r l.decided

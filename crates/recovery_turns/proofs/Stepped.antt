@@ -12,7 +12,7 @@ stays-due r (o ∷ ops) due = refl
 pub stays : (r s : Recovery) (ending : Bool) → s ≡ stepped_by r ending → 0 < length s.core.ops → s ≡ progressed_by r ending false
 stays r s ending is due = is ∙ stays-due (stepped_by r ending) (stepped_by r ending).core.ops (subst (λ (x : Recovery). 0 < length x.core.ops) is due)
 
--- ---- the lines that are told then
+-- ---- the lines that are given then
 
 opened-at : (s : Stage) (n : ServerNo) → (info s).made ≡ table.Opened n → s ≡ stage.Opened n
 opened-at (stage.Opened m) n h = cc
@@ -22,7 +22,7 @@ told-on : (r : Recovery) (s : Stage) (o : Option LastLines) → IsTold r o → I
 told-on r s None h = h
 told-on r s (Some l) h = h
 
--- where the new source takes writes at the end of the stage that begins
+-- if the new source takes writes at the end of the stage that begins
 pub opened-told : (r : Recovery) (ending : Bool) (o : Option LastLines) → ((n : ServerNo) → moved r.stage ≡ stage.Opened n → IsTold r o)
     → (n : ServerNo) → (info (stepped_by r ending).stage).made ≡ table.Opened n → IsTold (stepped_by r ending) o
 opened-told r false o told n is = told n (ap moved (opened-at r.stage n is))

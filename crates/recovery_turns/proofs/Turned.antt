@@ -1,4 +1,4 @@
--- What a look at a recovery's job tells of the recovery.
+-- What a look at a recovery's job foretells for the recovery.
 use Rattle.std.proofs.Common.{◌≡◌, ℕ, ◌<◌, Bool, true, false, cond, List, [], ◌∷◌, length, Option, Some, None, IfSome, refl, sym, ◌∙◌, ap, subst}
 use Rattle.std.specs.Prelude.{is_some, unwrap_or}
 use Rattle.recovery_turns.proofs.Prelude.{All, All-head, All-tail, AllAllowed, Attempt, BookState, CanEnd, CanTake, Cause, Deed, Fits, IsNamed}
@@ -30,7 +30,7 @@ attempt-is w r o (attempt.Goes ob es j) = go (barred_by r.stage r.failed j.seen)
 attempt-is w r o (attempt.Stops c ob) = refl
 attempt-is w r o (attempt.Ends lines) = refl
 
--- what the look tells of an operation that is due is what the turn makes of it
+-- what the look foretells for an operation that is due is what the turn makes of it
 pub look-is : (w : World) (read : ℕ) (now : Moment) (r : Recovery) (o : Op) (rest : List Op) (l : Look) → r.core.ops ≡ o ∷ rest → foretold r.core l ≡ turned w read now r.core
     → looked_by w r (ends r.stage (deed_of o)) l ≡ settled w read now r
 look-is w read now r o rest l due told =
@@ -109,7 +109,7 @@ can-take w b read now r l told named spare fits ends = record {
   ends = ends;
 }
 
--- what the look tells, where an operation is due that ends the stage or doesn't
+-- what the look foretells, if an operation is due that ends the stage or doesn't
 pub look-ends : (w : World) (read : ℕ) (now : Moment) (r : Recovery) (e : Bool) (l : Look) → ending_at r r.core.ops ≡ Some e → foretold r.core l ≡ turned w read now r.core
     → looked_by w r e l ≡ settled w read now r
 look-ends w read now r e l due told = go r.core.ops refl due
@@ -119,7 +119,7 @@ look-ends w read now r e l due told = go r.core.ops refl due
     go (o ∷ rest) is h =
         ap (λ (b : Bool). looked_by w r b l) (sym (ap (λ (x : Option Bool). unwrap_or x e) h)) ∙ look-is w read now r o rest l is told
 
--- and where none is due
+-- and if none is due
 pub none-ends : (w : World) (read : ℕ) (now : Moment) (r : Recovery) → ending_at r r.core.ops ≡ None → fails w r cause.NoCandidate None ≡ settled w read now r
 none-ends w read now r due = go r.core.ops refl due
   where

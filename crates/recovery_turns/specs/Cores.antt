@@ -14,7 +14,7 @@ core_of c = record {
   hands = c.hands.items;
 }
 
--- there is room for one more sight, for one more match, and for one more server in the hands
+-- there is room for one more sighting, for one more match, and for one more server in the hands
 pub record HasRoomFor (c : JobParts) : Type 0 where
   pub seen : length c.seen.items < vec_capacity c.seen
   pub matches : length c.matches.items < vec_capacity c.matches

@@ -1,4 +1,4 @@
--- What the decisions at the beginning of a turn make of a recovery.
+-- What the decisions at the start of a turn make of a recovery.
 use Rattle.std.specs.Prelude.{◌+◌, ◌<◌, ◌≤◌, ◌≡◌, List, [], ◌∷◌, ◌++◌, drop, length, Option, Some, None, IfSome}
 use Rattle.recovery_turns.specs.Prelude.{Bridge, Job, Recovery, Sight, Task, option_map, option_to_list, seen_after, with_bridge, working}
 use Rattle.recovery_turns.specs.declared.decided.Decided.{Decided}
@@ -40,7 +40,7 @@ seen_by r b = record r { core = record r.core { seen = with_bridge r.core.seen b
 abbrev pub IsBusy : Option Work → Type 0
 IsBusy o = IfSome o (λ w. 0 < length w.ops.items)
 
--- the first task of a list, and none where the list is empty
+-- the first task of a list, and none if the list is empty
 abbrev pub IsFirst : List Task → Option Task → Type 0
 IsFirst ts None = ts ≡ []
 IsFirst ts (Some t) = ts ≡ t ∷ drop 1 ts

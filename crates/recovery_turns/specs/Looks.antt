@@ -11,31 +11,31 @@ use Rattle.recovery_turns.specs.declared.look.Then.TheVariants as then
 use Rattle.recovery_turns.specs.Deciding.{Fits, decided_on}
 use Rattle.recovery_turns.specs.Steps.{IsTold, followed}
 
--- the recovery after what comes behind its decisions, where it goes on
+-- the recovery after what comes after its decisions, if it goes on
 abbrev pub after_then : Recovery → Option Then → Recovery
 after_then r None = r
 after_then r (Some (then.Follow act ending ops lines)) = followed r ending (job_after r.core act)
 after_then r (Some (then.Bear fate ops)) = borne r (fate_told fate)
 
--- and where it comes to this step
+-- and if it comes to this step
 abbrev pub after_step : Recovery → JobStep → Option Then → Recovery
 after_step r step.Going then = after_then r then
 after_step r (step.Done lines) then = record r { core = ended r.core }
 after_step r (step.Failed c lines) then = record r { core = ended r.core }
 
--- the turn that a look tells of a recovery
+-- the turn that a look foretells for a recovery
 abbrev pub foretold : Recovery → RecoveryLook → Taken
 foretold r l = record { step = l.step; observation = l.observation; exchanges = exchanges_of l.doing; recovery = after_step (decided_on r l.decided) l.step l.then }
 
--- what comes behind the decisions can be done: an operation is due, there is room for a stage's operations, and the
--- lines that may be told then are there
+-- what comes after the decisions can be done: an operation is due, there is room for a stage's operations, and the last
+-- lines are there if they may be needed
 abbrev pub CanEnd : Recovery → Option Then → Type 0
 CanEnd r None = Unit {0}
 CanEnd r (Some (then.Follow act ending ops lines)) =
     CanFollow r.core act × (8 ≤ vec_capacity ops) × ((n : ServerNo) → moved r.stage ≡ stage.Opened n → IsTold r lines)
 CanEnd r (Some (then.Bear fate ops)) = 8 ≤ vec_capacity ops
 
--- memory may be wanted only where the recovery goes on and nothing is observed
+-- memory may be wanted only if the recovery goes on and nothing is observed
 abbrev pub IsSpare : RecoveryLook → Type 0
 IsSpare l = takes_memory l.doing ≡ true → (l.step ≡ step.Going) × (l.observation ≡ None)
 

@@ -36,7 +36,7 @@ pub record HasRoom (a : Inside) : Type 0 where
   pub followers : room_for a.replicas.items ≤ vec_capacity a.outcome.followers
   pub lost : room_for a.replicas.items ≤ vec_capacity a.outcome.lost
 
--- the lists that a stage's end makes longer are shorter than that, the sights by so many
+-- the lists that a stage's end makes longer are shorter than that, the list of what was seen by so many
 pub record IsRoomy (more : ℕ) (r : Recovery) : Type 0 where
   pub seen : length r.core.seen + more ≤ room_for r.replicas
   pub drained : length r.drained < room_for r.replicas

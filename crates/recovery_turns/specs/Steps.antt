@@ -15,7 +15,7 @@ progressed_by r ending false = let s = stepped_by r ending in at_end s s.core.op
 abbrev pub followed : Recovery → Bool → Job → Recovery
 followed r ending j = progressed_by (record r { core = j }) ending (is_waiting j)
 
--- the lines are what a recovery tells
+-- the lines are those that a recovery reports
 abbrev pub IsTold : Recovery → Option LastLines → Type 0
 IsTold r None = ⊥
 IsTold r (Some l) = (l.stage ≡ told r) × (l.told ≡ told r)

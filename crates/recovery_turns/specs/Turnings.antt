@@ -21,7 +21,7 @@ stepped_to w r ending t (step.Done lines) = record { step = step.Done lines; obs
 abbrev pub turned_by : World → Recovery → Bool → Turned → Taken
 turned_by w r ending t = stepped_to w r ending t t.step
 
--- as its job's look tells
+-- as its job's look foretells
 abbrev pub looked_by : World → Recovery → Bool → Look → Taken
 looked_by w r ending l = turned_by w r ending (foretold r.core l)
 

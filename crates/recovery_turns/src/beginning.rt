@@ -33,7 +33,7 @@ fn first_ops(alloc: Global, purpose: Purpose, failed: ServerNo) -> Result<Vec<Op
     }
 }
 
-// The new source, where it is known from the beginning.
+// The new source, if it is known from the start.
 fn first_source(purpose: Purpose) -> Option<ServerNo>
     ensures { result ≡ first_source purpose }
 {
@@ -64,7 +64,7 @@ fn add_drains(tasks: &mut Vec<Task>, replicas: &[ServerNo]) -> Result<(), Memory
     Ok(())
 }
 
-// Each replica but one comes to where that one stopped.
+// Each replica but one comes to the position at which that one stopped.
 fn trails(alloc: Global, replicas: &[ServerNo], lead: ServerNo) -> Result<Vec<Task>, Memory>
     ensures { IfOk result (λ v. v.items ≡ map ATask.Trailing (but replicas.now lead)) }
 {
@@ -101,7 +101,7 @@ fn first_tasks(alloc: Global, purpose: Purpose, replicas: &[ServerNo]) -> Result
     Ok(tasks)
 }
 
-// The job of a recovery that begins, with room for so many sights, matches and servers in its hands.
+// The job of a recovery that begins, with room for so many sightings, matches and servers in its hands.
 fn first_job(
     alloc: Global,
     purpose: Purpose,
@@ -129,8 +129,9 @@ fn first_job(
 }
 
 impl RecoveryJob {
-    /// A recovery begins, by whose means the others go, as the job of this number, whose operations may wait so often
-    /// each: of this server, with these replicas, and telling of those, both in name order.
+    /// A recovery begins, as the job of this number, whose operations may wait so often each. It is of this server,
+    /// with these replicas, and it reports those, both in name order. The others go by these means. `Err` means out of
+    /// memory.
     pub fn make(
         alloc: Global,
         purpose: Purpose,

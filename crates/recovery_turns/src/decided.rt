@@ -1,4 +1,4 @@
-//! What the decisions at the beginning of a turn make of a recovery.
+//! What the decisions at the start of a turn make of a recovery.
 
 ghost use Rattle.std.specs.Prelude.{◌≡◌, ◌<◌, ◌==◌, ◌∷◌, [], IsTrue, None, OnOk, Some, drop, find, length};
 ghost use Rattle.recovery_turns.specs.Prelude.{loses, moving, option_copied, working};
@@ -23,7 +23,7 @@ pub(crate) struct Work {
     pub(crate) seen: Option<Sight>,
 }
 
-/// What the decisions at the beginning of a turn make of a recovery.
+/// What the decisions at the start of a turn make of a recovery.
 #[derive(Drop)]
 pub(crate) struct Decided {
     /// The queue that takes the place of the present one.
@@ -42,7 +42,7 @@ pub(crate) struct Decided {
     pub(crate) work: Option<Work>,
 }
 
-// A list but for so many of its first.
+// A list except for so many of its first.
 fn rest<T>(list: &[T], from: usize) -> &[T]
     ensures { result.now ≡ drop from list.now }
 {

@@ -1,4 +1,4 @@
-//! What is decided at the beginning of a turn.
+//! What is decided at the start of a turn.
 
 ghost use Rattle.std.specs.Prelude.{◌≡◌, ◌<◌, ◌∷◌, ◌++◌, [], if◌then◌else◌, All, IfOk, IfSome, None, OnOk, Some, drop, filter, length, map};
 ghost use Rattle.recovery_turns.specs.Prelude.{Task as ATask, by_task, choose, chosen_of, closing, expels, ground_by, hand, hand_over, releases};

@@ -120,7 +120,7 @@ impl JobParts {
         self.hands.clear();
     }
 
-    /// The job after what was looked up on it; nothing is done to servers.
+    /// The job after what was looked up on it. Nothing is done to servers.
     pub(crate) fn follow(&mut self, act: Act)
         requires within { self.old.done ≤ length self.old.ops.items }
         requires can { CanFollow (core_of self.old) act }

@@ -18,5 +18,5 @@ pub use recovery::RecoveryJob;
 use recovery_plans::{
     commands, instance_keeper_items, operations_items, orch_base, server_model, server_words_items,
 };
-/// Want of memory.
+/// Out of memory.
 pub use recovery_plans::orch_base::Memory;

@@ -27,26 +27,26 @@ use recovery_parts::{
 use recovery_plans::{Purpose, Stage};
 use std::alloc::Global;
 
-/// What comes behind the decisions of a turn after which a recovery goes on.
+/// What comes after the decisions of a turn after which a recovery goes on.
 #[derive(Drop)]
 pub(crate) enum Then {
-    /// The job follows what was looked up, by an operation that ends the stage or doesn't; with room for the operations
-    /// of the stage that may begin, and the lines that may be told.
+    /// The job follows what was looked up, by an operation that ends the stage or doesn't. It has room for the
+    /// operations of the stage that may begin, and the last lines if they may be needed.
     Follow(Act, bool, Vec<Op>, Option<LastLines>),
     /// An operation failed; with room for the operations of the stage that may begin.
     Bear(Fate, Vec<Op>),
 }
 
-/// What the next turn of a recovery does and tells, on the world and with the book on which it was looked up.
+/// What the next turn of a recovery does and answers, on the world and with the book on which it was looked up.
 #[derive(Drop)]
 pub struct RecoveryLook {
-    /// What the turn tells.
+    /// What the turn answers.
     pub step: JobStep,
     /// What the turn observes for the book, if it reads a status.
     pub observation: Option<Observation>,
     // What it does to servers.
     pub(crate) doing: Doing,
-    // What is decided first, and what comes behind that.
+    // What is decided first, and what comes after that.
     pub(crate) decided: Decided,
     pub(crate) then: Option<Then>,
 }
@@ -81,7 +81,7 @@ fn seen_after<'a>(job: &JobView<'a>, act: &'a Act, no: ServerNo) -> Option<&'a P
 }
 
 impl RecoveryLook {
-    /// The promoted server where the turn ends the job.
+    /// The promoted server if the turn ends the job.
     pub fn promoted(&self) -> Option<ServerNo>
         ensures { (r : ARecovery) (lines : List ALine) → self.now.step ≡ JobStep.Done lines →
             result ≡ (foretold r self.now).recovery.outcome.promoted }
@@ -165,7 +165,7 @@ impl Decided {
         }
     }
 
-    // What it does where it fails: it goes its way back, and starts each server that it stopped and hasn't started.
+    // What it does if it fails: it goes its way back, and starts each server that it stopped and hasn't started.
     fn last_changes(
         &self,
         alloc: Global,
@@ -203,7 +203,7 @@ impl Decided {
         })
     }
 
-    // The lines that may be told once the stage is another.
+    // The last lines, if they may be needed once the stage is another.
     fn last_lines(&self, alloc: Global, of: &RecoveryJob) -> Result<Option<LastLines>, Memory>
         ensures { IfOk result (λ o. (n : Number) → moved (decided_on of.now self.now).stage
             ≡ Stage.Opened n → IsTold (decided_on of.now self.now) o) }
@@ -319,7 +319,7 @@ impl Decided {
         }
     }
 
-    // Whether the operation that is due ends the stage: none where none is due.
+    // Whether the operation that is due ends the stage: none if none is due.
     fn ending(&self, of: &RecoveryJob) -> Option<bool>
         ensures { result ≡ ending_at (decided_on of.now self.now)
             (decided_on of.now self.now).core.ops }
@@ -354,7 +354,8 @@ impl Decided {
 
 impl RecoveryJob {
     /// What the next turn does on this world and with this book, and observes with this read number at this moment. It
-    /// changes nothing. The servers that the recovery names are there, and the book is of these servers.
+    /// changes nothing. The servers that the recovery names are there, and the book is of these servers. `Err` means
+    /// out of memory.
     pub fn look(
         &self,
         alloc: Global,

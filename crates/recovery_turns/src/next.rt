@@ -1,4 +1,4 @@
-//! What is next, where no operation is left.
+//! What is next, if no operation is left.
 
 ghost use Rattle.std.specs.Prelude.{◌≡◌, ◌<◌, All, IfOk, None, OnOk, Some, drop, length, map};
 ghost use Rattle.recovery_turns.specs.Prelude.{IsNamedRecovery, at_last, better_of, by_task, crown, decided, ground_by};
@@ -133,7 +133,7 @@ impl Decided {
         self.chosen = None;
     }
 
-    // A replica is read before it comes to where the designated one stopped.
+    // A replica is read before it comes to the position at which the designated one stopped.
     fn look_at(&mut self, alloc: Global, of: &RecoveryJob, no: ServerNo) -> Result<(), Memory>
         requires idle { self.old.work ≡ None }
         ensures value { OnOk result (decided_on of.now self.new
@@ -202,7 +202,7 @@ impl Decided {
         }
     }
 
-    // The next task, where no operation is left.
+    // The next task, if no operation is left.
     fn decide_once(
         &mut self,
         alloc: Global,
@@ -229,7 +229,7 @@ impl Decided {
         self.take(alloc, of, by, task)
     }
 
-    // At most four decisions stand one behind another.
+    // At most four decisions follow one another.
     pub(crate) fn decide(
         &mut self,
         alloc: Global,

@@ -35,7 +35,7 @@ fn is_below(seen: &Position, failed: ServerNo) -> bool
     }
 }
 
-// What was seen of a designated replica, where it is below the master.
+// What was seen of a designated replica, if it is below the master.
 fn lead_under(master: ServerNo, bridge: Option<Bridge>) -> Option<Bridge>
     ensures { result ≡ lead_under master bridge }
 {
@@ -44,7 +44,7 @@ fn lead_under(master: ServerNo, bridge: Option<Bridge>) -> Option<Bridge>
 }
 
 impl RecoveryJob {
-    // A replica that was stopped is drained where its source is the failed server, and is lost else.
+    // A replica that was stopped is drained if its source is the failed server, and is lost else.
     fn judge(&mut self, no: ServerNo)
         requires { IsRoomy 1 self.old }
         ensures { self.new ≡ completed self.old (Stage.Judged no) }
@@ -88,7 +88,7 @@ impl RecoveryJob {
         self.outcome.promoted = Some(q);
     }
 
-    // Where the designated replica stopped.
+    // Keeps the position at which the designated replica stopped.
     fn gather(&mut self, d: ServerNo)
         ensures { self.new ≡ idle (gathered self.old d) }
     {
@@ -125,7 +125,7 @@ impl RecoveryJob {
         self.work(Stage::Release(no), one(ops, Op::Start(no)));
     }
 
-    // A replica of the master goes to where the designated one stopped; one that stands elsewhere is lost.
+    // A replica of the master goes to the position at which the designated one stopped. One that is elsewhere is lost.
     fn pass_look(&mut self, alloc: Global, no: ServerNo, lead: Bridge, ops: Vec<Op>)
         requires room { IsRoomy 1 self.old }
         requires ops { 8 ≤ vec_capacity ops }
@@ -145,7 +145,7 @@ impl RecoveryJob {
         }
     }
 
-    // A replica that stands with the designated one goes below it; another is behind.
+    // A replica at the position of the designated one goes below it. Another is lost as `behind`.
     fn halt(&mut self, alloc: Global, no: ServerNo, lead: Bridge, ops: Vec<Op>)
         requires room { IsRoomy 1 self.old }
         requires ops { 8 ≤ vec_capacity ops }
@@ -162,7 +162,7 @@ impl RecoveryJob {
         }
     }
 
-    // The new source takes writes: nothing more is changed, and the lines are told after the last readings.
+    // The new source takes writes: nothing more is changed, and the lines are given after the last readings.
     fn pass_open(&mut self, no: ServerNo, ops: Vec<Op>, lines: Option<LastLines>)
         requires ops { 8 ≤ vec_capacity ops }
         requires told { IsTold self.old lines }
@@ -233,7 +233,7 @@ impl RecoveryJob {
         }
     }
 
-    // The stage changes where its last operation is done.
+    // The stage changes if its last operation is done.
     fn step(&mut self, ending: bool)
         ensures { self.new ≡ stepped_by self.old ending }
     {
@@ -269,7 +269,7 @@ impl RecoveryJob {
         }
     }
 
-    // What becomes of it where an operation fails and it goes on.
+    // What becomes of it if an operation fails and it goes on.
     pub(crate) fn bear(&mut self, alloc: Global, fate: Fate, ops: Vec<Op>)
         requires room { IsRoomy 1 self.old }
         requires ops { 8 ≤ vec_capacity ops }

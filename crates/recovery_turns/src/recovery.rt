@@ -24,14 +24,14 @@ pub struct RecoveryJob {
     pub(crate) begun: usize,
     // The server that failed, or gives up its place.
     pub(crate) failed: ServerNo,
-    // Its replicas, and those of whom the lines tell, both in name order.
+    // Its replicas, and those that the lines report, both in name order.
     pub(crate) replicas: Vec<ServerNo>,
     pub(crate) order: Vec<ServerNo>,
     // The replicas that are drained, and of which nothing is decided yet.
     pub(crate) drained: Vec<Stopped>,
     // The new source of the others.
     pub(crate) chosen: Option<ServerNo>,
-    // Where a designated replica stopped.
+    // The position at which a designated replica stopped.
     pub(crate) lead: Option<Bridge>,
     // The drained ones that might have been chosen.
     pub(crate) eligible: Vec<Stopped>,
@@ -83,7 +83,7 @@ impl RecoveryJob {
         self.purpose
     }
 
-    /// The new source: none where none is known.
+    /// The new source: none if none is known.
     pub fn promoted(&self) -> Option<ServerNo>
         ensures { result ≡ self.now.outcome.promoted }
     {

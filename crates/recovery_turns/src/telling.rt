@@ -1,4 +1,4 @@
-//! What a recovery tells when it is done.
+//! What a recovery reports when it is done.
 
 ghost use Rattle.std.specs.Prelude.{◌≡◌, ◌++◌, IfOk, OnOk, filter_map};
 ghost use Rattle.recovery_turns.specs.Prelude.{cause_of, follower_line, lost_line, option_to_list, replica_line, told, told_why};

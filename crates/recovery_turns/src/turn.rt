@@ -67,7 +67,7 @@ impl RecoveryJob {
         }
     }
 
-    // What was decided is so, but for the stage that begins.
+    // What was decided is so, except for the stage that begins.
     fn settle(&mut self, decided: Decided) -> Option<Work>
         requires { Fits self.old decided }
         ensures value { self.new ≡ settled_on self.old decided }
@@ -109,7 +109,7 @@ impl RecoveryJob {
         }
     }
 
-    // What comes behind the decisions, where it goes on.
+    // What comes after the decisions, if it goes on.
     fn go_ahead(&mut self, alloc: Global, then: Option<Then>)
         requires room { IsRoomy 2 self.old }
         requires matches { length self.old.core.matches < room_for self.old.replicas }
@@ -128,8 +128,8 @@ impl RecoveryJob {
         }
     }
 
-    /// Does what was looked up on this recovery and this world, and hands on what the look told. At want of memory
-    /// nothing has changed; it comes only where the recovery goes on and nothing is observed.
+    /// Does what was looked up on this recovery and this world, and hands on what the look foretold. If memory runs
+    /// out, nothing has changed. That comes only if the recovery goes on and nothing is observed.
     pub fn turn(
         &mut self,
         alloc: Global,

@@ -4,7 +4,7 @@ use Rattle.std.specs.Prelude.{◌==◌, option_map, if◌then◌else◌}
 use Rattle.regroup.proofs.Prelude.{BookState, Path, ServerNo, attached_of, eq-eqb, eqb-true, option_or, passed_in, path_beside, path_by, path_of}
 use Rattle.regroup.proofs.Prelude.{path_to, way_in, way_on, way_up}
 
--- with these in front
+-- with these before it
 abbrev pub Behind : List ServerNo → Option (List ServerNo) → Option (List ServerNo)
 Behind passed way = option_map (λ rest. passed ++ rest) way
 

@@ -1,4 +1,4 @@
--- The operations of a plan, and the leases, are of the book's servers, where the command's instances are.
+-- The operations of a plan, and the leases, are of the book's servers, if the command's instances are.
 use Rattle.std.proofs.Common.{◌≡◌, ℕ, ◌<◌, Bool, true, false, List, [], ◌∷◌, ◌++◌, length, refl, subst, Option, Some, None, zero, suc}
 use Rattle.std.specs.Prelude.{All, IfSome, IsTrue, if◌then◌else◌, nat_lt, option_and_then, option_map, slice_get, ◌==◌}
 use Rattle.regroup.proofs.Prelude.{All-append, All-head, All-tail, AllWithin, BookState, Command, Path, RegroupCommand, ServerNo, Within, World}

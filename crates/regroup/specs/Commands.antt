@@ -9,7 +9,7 @@ use Rattle.command_routes.specs.Routes.{planner_of, route_of}
 use Rattle.regroup.specs.declared.command.RegroupCommand.{RegroupCommand}
 use Rattle.regroup.specs.declared.command.RegroupCommand.TheVariants.{Relocate, RelocateReplicas, RegroupReplicas}
 
--- replicas that are regrouped where their logs match aren't regrouped here
+-- replicas that are regrouped if their logs match aren't regrouped here
 abbrev pub regroup_by : Option Planner → Option RegroupCommand
 regroup_by None = None
 regroup_by (Some (planner.Coordinates c)) = None

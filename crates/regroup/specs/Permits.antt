@@ -30,14 +30,14 @@ abbrev pub replicas_row : Bool → List Check
 replicas_row true = SameInstance ∷ Busy ∷ Unreachable ∷ OtherCluster ∷ Below ∷ DestNotLogging ∷ SameServerId ∷ VersionLower ∷ Errant ∷ PurgedSet ∷ []
 replicas_row false = SameInstance ∷ Busy ∷ Unreachable ∷ OtherCluster ∷ Below ∷ DestNotLogging ∷ SameServerId ∷ VersionLower ∷ []
 
--- the row of a command, behind the check that its instances are known and before its own one, by whether the servers
--- use GTIDs: then no path is looked for
+-- the row of a command, after the check that its instances are known and before its own one, by whether the servers use
+-- GTIDs: then no path is looked for
 abbrev pub row_of : Bool → RegroupCommand → List Check
 row_of gtid command.Relocate = relocate_row gtid
 row_of gtid command.RelocateReplicas = replicas_row gtid
 row_of gtid command.RegroupReplicas = Busy ∷ []
 
--- the row behind a command's own check
+-- the row after a command's own check
 abbrev pub places_row : Bool → List Check
 places_row true = []
 places_row false = PurgedPlace ∷ []
@@ -96,11 +96,11 @@ own_refusal w b now command.RegroupReplicas i d = without_candidate w b now i
 abbrev pub row_refusal : World → BookState → RegroupCommand → ServerNo → Option ServerNo → Option Refusal
 row_refusal w b c i d = first_refusal w b (case_of w b c i d) (row_of w.gtid c)
 
--- the first check behind a command's own that doesn't pass
+-- the first check after a command's own that doesn't pass
 abbrev pub last_refusal : World → BookState → RegroupCommand → ServerNo → Option ServerNo → Option Refusal
 last_refusal w b c i d = first_refusal w b (case_of w b c i d) (last_row_of w.gtid c)
 
--- what refuses a command behind its row
+-- what refuses a command after its row
 abbrev pub rest_refusal : World → BookState → Moment → RegroupCommand → ServerNo → Option ServerNo → Option Refusal
 rest_refusal w b now c i d = option_or (own_refusal w b now c i d) (last_refusal w b c i d)
 

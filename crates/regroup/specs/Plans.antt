@@ -15,17 +15,17 @@ use Rattle.regroup.specs.declared.command.RegroupCommand.TheVariants as command
 use Rattle.regroup.specs.Commands.{regroup_command}
 use Rattle.regroup.specs.Ways.{Path, path_of}
 
--- the first of some sources, or the one behind them
+-- the first of some sources, or the one after them
 abbrev pub next_of : List ServerNo → ServerNo → ServerNo
 next_of [] to = to
 next_of (x ∷ xs) to = x
 
--- n goes up past these sources, one after another, until it is below the one behind them
+-- n goes up past these sources, one after another, until it is below the one after them
 abbrev pub climbed : ServerNo → List ServerNo → ServerNo → List Op
 climbed n [] to = []
 climbed n (x ∷ xs) to = up n x (next_of xs to) ++ climbed n xs to
 
--- n goes up past these sources to d, or where they are none goes on below d by coordinates, its source
+-- n goes up past these sources to d, or if there are none goes on below d by coordinates, its source
 abbrev pub ascended : ServerNo → ServerNo → List ServerNo → List Op
 ascended n d [] = again n d
 ascended n d (x ∷ xs) = climbed n (x ∷ xs) d
@@ -57,6 +57,6 @@ ops_of w b command.Relocate i d = relocated w.gtid b (i ∷ []) d
 ops_of w b command.RelocateReplicas i d = relocated w.gtid b (replicas_but b i d) d
 ops_of w b command.RegroupReplicas i d = []
 
--- the operations of relocate and relocate-replicas, where nothing refuses them
+-- the operations of relocate and relocate-replicas, if nothing refuses them
 abbrev pub plan_of : World → BookState → Command → List Op
 plan_of w b given = about [] (ops_of w b) (regroup_command given.name) given

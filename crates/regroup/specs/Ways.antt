@@ -11,8 +11,8 @@ use Rattle.permission.specs.Views.{attached_of, source_of}
 abbrev pub parent_at : BookState → ServerNo → Option ServerNo
 parent_at b n = if nat_lt n.0 (length b.names) then parent_of b n else None
 
--- the servers that are passed on the way up from one server to another, from its parent on: none where so many steps
--- don't come there
+-- the servers that are passed on the way up from one server to another, from its parent on: none if so many steps don't
+-- come there
 abbrev pub way_on : (ServerNo → Option (List ServerNo)) → ServerNo → Option ServerNo → Option (List ServerNo)
 way_on go to None = None
 way_on go to (Some p) = if p.0 == to.0 then Some [] else option_map (λ passed. p ∷ passed) (go p)
@@ -25,12 +25,12 @@ way_in up to (suc steps) n = way_on (way_in up to steps) to (up n)
 abbrev pub way_above : BookState → ServerNo → ServerNo → Option (List ServerNo)
 way_above b n to = way_in (parent_at b) to (length b.names) n
 
--- a server's own source is next above it, also where the forest hasn't it: where the book doesn't know it, or it comes
+-- a server's own source is next above it, even if the forest hasn't it because the book doesn't know it, or it comes
 -- back to itself
 abbrev pub way_up : BookState → ServerNo → ServerNo → Option (List ServerNo)
 way_up b n to = if is_given to (source_of b n) then Some [] else way_above b n to
 
--- A path to a destination: up past these sources, and where a server is given under which both are then, below the
+-- A path to a destination: up past these sources, and if a server is given under which both are then, below the
 -- destination from there.
 pub record Path : Type 0 where
   pub passed : List ServerNo
@@ -44,7 +44,7 @@ abbrev pub path_beside : BookState → ServerNo → Option ServerNo → Option P
 path_beside b n None = None
 path_beside b n (Some s) = path_by (Some s) (way_up b n s)
 
--- up to the destination, where it is above the server, else to the source to which it is attached
+-- up to the destination, if it is above the server, else to the source to which it is attached
 abbrev pub path_of : BookState → ServerNo → ServerNo → Option Path
 path_of b n d = option_or (path_by None (way_up b n d)) (path_beside b n (attached_of b d))
 
@@ -53,8 +53,8 @@ abbrev pub path_to : BookState → Option ServerNo → ServerNo → Option Path
 path_to b None n = None
 path_to b (Some d) n = path_of b n d
 
--- the servers by whose coordinates under their sources a server goes its path: those that it passes, or where it passes
--- none and goes on where it is, itself
+-- the servers by whose coordinates under their sources a server goes its path: those that it passes, or if it passes
+-- none and goes on in its place, itself
 abbrev pub crossed_on : ServerNo → Option ServerNo → List ServerNo → List ServerNo
 crossed_on n under (x ∷ xs) = x ∷ xs
 crossed_on n None [] = n ∷ []

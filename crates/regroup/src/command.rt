@@ -10,7 +10,7 @@ use command_routes::{PathCommand, Planner, Regrouping, Route};
 /// (orchestrator's documentation, "Executing via command line").
 #[derive(Clone, Copy, Debug, PartialEq, Eq)]
 pub enum RegroupCommand {
-    /// `relocate`: a server goes below another, by GTIDs where they are used, else by its path of moves by coordinates.
+    /// `relocate`: a server goes below another, by GTIDs if they are used, else by its path of moves by coordinates.
     Relocate,
     /// `relocate-replicas`: the replicas of a server go below another, each by its path.
     RelocateReplicas,

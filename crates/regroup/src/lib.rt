@@ -1,5 +1,5 @@
 //! The commands that take servers below another one by whatever path, and the one that sets a server's replicas in
-//! order: what refuses each, of which servers its job takes the leases, and the plans of the first.
+//! order. It has what refuses each, of which servers its job takes the leases, and the plans of the first.
 #![tactic(auto)]
 
 mod command;
@@ -12,7 +12,7 @@ use permission::{
     book_views, commands, instance_keeper_items, operations_items, orch_base, server_model,
     topology_tree,
 };
-/// Want of memory.
+/// Out of memory.
 pub use permission::PermitFault;
 pub use permission::orch_base::Memory;
 pub use permits::{leases, permit};

@@ -88,7 +88,7 @@ fn row_of(gtid: bool, command: RegroupCommand) -> &'static [Check]
 
 const PLACES: [Check; 1] = [Check::PurgedPlace];
 
-// The checks behind a command's own one.
+// The checks after a command's own one.
 fn last_row_of(gtid: bool, command: RegroupCommand) -> &'static [Check]
     ensures { result.now ≡ last_row_of gtid command }
 {
@@ -317,8 +317,8 @@ fn leased_by(
     }
 }
 
-/// The servers of which the job of one of these commands takes the leases: servers of the book, where the command's
-/// instances are. A source that several replicas pass stands for each of them. `Err` is want of memory.
+/// The servers of which the job of one of these commands takes the leases: servers of the book, if the command's
+/// instances are. A source that several replicas pass is each of them. `Err` means out of memory.
 pub fn leases(
     alloc: Global,
     book: &Book,

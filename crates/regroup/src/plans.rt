@@ -20,7 +20,7 @@ use crate::ways::{Path, path_of};
 use plan_parts::{again, autos, moved_each, under, up};
 use std::alloc::Global;
 
-// The source at a place, or the one behind all.
+// The source at a place, or the one after all.
 fn next_of(sources: &[ServerNo], place: usize, to: ServerNo) -> ServerNo
     ensures { result ≡ next_of (drop place sources.now) to }
 {
@@ -30,7 +30,7 @@ fn next_of(sources: &[ServerNo], place: usize, to: ServerNo) -> ServerNo
     }
 }
 
-// Up past these sources, one after another, until it is below the one behind them.
+// Up past these sources, one after another, until it is below the one after them.
 fn climbed(
     alloc: Global,
     no: ServerNo,
@@ -47,7 +47,7 @@ fn climbed(
     Ok(ops)
 }
 
-// Up past these sources to another server, or where they are none on below it by coordinates.
+// Up past these sources to another server, or if there are none on below it by coordinates.
 fn ascended(
     alloc: Global,
     no: ServerNo,
@@ -166,8 +166,8 @@ fn plan_of(
 }
 
 /// The operations of `relocate` or `relocate-replicas`, ended by its lines: `r<d` of each server that moves, in name
-/// order. They are those of each server's path in turn, or with GTIDs one attachment each. Where the command's
-/// instances are servers of the book, so are all servers of the operations. `Err` is want of memory.
+/// order. They are those of each server's path in turn, or with GTIDs one attachment each. If the command's instances
+/// are servers of the book, so are all servers of the operations. `Err` means out of memory.
 pub fn plan(
     alloc: Global,
     book: &Book,

@@ -13,7 +13,7 @@ use permission::{attached_to, source};
 use std::alloc::Global;
 use std::marker::Model;
 
-/// A path to a destination: up past these sources, and where a server is given under which both are then, below the
+/// A path to a destination: up past these sources, and, if a server is given under which both are then, below the
 /// destination from there. Contracts see it as a `Path` with a list.
 #[derive(Drop)]
 pub(crate) struct Path {
@@ -43,7 +43,7 @@ impl Path {
         &self.passed
     }
 
-    /// The server under which the destination is beside, where that isn't passed or reached itself.
+    /// The server whose replica the destination is, if that isn't passed or reached itself.
     pub(crate) fn under(&self) -> Option<ServerNo>
         ensures { result ≡ self.now.under }
     {
@@ -96,7 +96,7 @@ fn way_up(
     Ok(None)
 }
 
-// The path up to a server, and below the destination from there, where that is another one.
+// The path up to a server, and below the destination from there, if that is another one.
 fn path_by(
     alloc: Global,
     book: &Book,
@@ -130,9 +130,10 @@ fn path_beside(
     }
 }
 
-/// The path of a server to a destination: up to it, where it is above the server, else up to the source to which it is
-/// attached, and below it from there. None where neither is above the server. Above a server are its own source and
-/// those that the book's forest has above it. `Err` is want of memory.
+/// The path of a server to a destination. If the destination is above the server, the path goes up to it. Else it goes
+/// up to the source to which the destination is attached, and below the destination from there. `None` if neither is
+/// above the server. Above a server are its own source and those that the book's forest has above it. `Err` means out
+/// of memory.
 pub(crate) fn path_of(
     alloc: Global,
     book: &Book,
@@ -149,7 +150,7 @@ pub(crate) fn path_of(
     path_beside(alloc, book, forest, no, attached_to(book, d))
 }
 
-/// The path to the destination that is given; none where none is.
+/// The path to the destination that is given; none if none is.
 pub(crate) fn path_to(
     alloc: Global,
     book: &Book,
@@ -166,8 +167,8 @@ pub(crate) fn path_to(
     }
 }
 
-/// Puts the servers by whose coordinates a server goes its path behind others: the sources that it passes, or itself
-/// where it goes on where it is.
+/// Puts the servers by whose coordinates a server goes its path after others: the sources that it passes, or itself if
+/// it goes on in its place.
 pub(crate) fn push_crossed(
     list: &mut Vec<ServerNo>,
     no: ServerNo,
@@ -186,7 +187,7 @@ pub(crate) fn push_crossed(
     Ok(())
 }
 
-/// Puts the sources that a path passes behind others.
+/// Puts the sources that a path passes after others.
 pub(crate) fn push_passed(list: &mut Vec<ServerNo>, path: Option<Path>) -> Result<(), Memory>
     ensures { IfOk result (λ _. list.new.items ≡ list.old.items ++ passed_in path) }
 {

@@ -1,4 +1,4 @@
--- Where drained replicas of a source go beside the one that is promoted (orchestrator's documentation, "Topology
+-- How drained replicas of a source go below the one that is promoted (orchestrator's documentation, "Topology
 -- recovery").
 use Rattle.std.specs.Prelude.{if◌then◌else◌, List, filter_map, Option, None, Some}
 use Rattle.instance_keeper.specs.BinlogCoords.declared.Coord.{Coord}
@@ -14,8 +14,8 @@ abbrev pub by_bridge : Option Bridge → Group
 by_bridge None = group.Behind
 by_bridge (Some b) = group.Follow b.own
 
--- A replica that stands with the promoted one goes to its own end; one that stands after it is ahead; one that stands
--- before it goes by the latest kept bridge of the promoted one under the source at that coordinate, if there is one.
+-- A replica at the promoted one's position goes to its own end. One that is after it is ahead. One that is before it
+-- goes by the latest kept bridge of the promoted one under the source at that coordinate, if there is one.
 abbrev pub group_of : List (List Bridge) → ServerNo → Coord → Coord → ServerNo → Coord → Group
 group_of rings promoted own_end exec source at =
     if same_coord at exec then group.Follow own_end

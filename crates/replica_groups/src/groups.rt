@@ -22,18 +22,18 @@ pub struct Lines<'a> {
     pub exec: Coord,
 }
 
-/// Where a drained replica goes beside the one that is promoted.
+/// How a drained replica goes below the one that is promoted.
 #[derive(Clone, Copy, Debug, PartialEq, Eq)]
 pub enum Group {
     /// Below it, at this coordinate of its binary log.
     Follow(Coord),
     /// Nowhere: it has executed more of the source's log.
     Ahead,
-    /// Nowhere: it has executed less, and no kept bridge tells what of the promoted one's log follows.
+    /// Nowhere: it has executed less, and no kept bridge has the position in the promoted one's log that follows.
     Behind,
 }
 
-/// Drained replicas by where they go, each list in their order.
+/// Drained replicas by how they go, each list in their order.
 #[derive(Drop)]
 pub struct Groups {
     /// Those that go below the promoted one, each with the coordinate of its binary log.
@@ -63,10 +63,9 @@ impl Groups {
     }
 }
 
-/// Where a replica goes that stands at `exec` of the source's log, beside the promoted one. One that stands with it
-/// goes to its own end; one that stands after it is ahead; one that stands before it goes to the own coordinate of the
-/// latest kept bridge of the promoted one under the source with that coordinate, and is behind exactly where there is
-/// none.
+/// How a replica goes that is at `exec` of the source's log, beside the promoted one. One at the same position goes to
+/// its own end. One that is after it is ahead. One that is before it goes to the own coordinate of the latest kept
+/// bridge of the promoted one under the source with that coordinate. It is `Behind` exactly if there is none.
 pub fn group_of(promoted: ServerNo, by: &Lines<'_>, exec: Coord, source: ServerNo) -> Group
     requires { promoted.0 < length by.now.book.now.names }
     ensures { result ≡ group_of by.now.book.now.rings promoted by.now.own_end by.now.exec source exec }
@@ -83,7 +82,7 @@ pub fn group_of(promoted: ServerNo, by: &Lines<'_>, exec: Coord, source: ServerN
     }
 }
 
-/// Divides drained replicas of a source, without the promoted one, by where they go.
+/// Divides drained replicas of a source, without the promoted one, by how they go. `Err` means out of memory.
 pub fn split(
     alloc: Global,
     promoted: ServerNo,

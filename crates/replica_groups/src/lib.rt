@@ -5,5 +5,5 @@ mod groups;
 
 pub use groups::{Group, Groups, Lines, group_of, split};
 use instance_keeper::{binlog_coords_items, orch_base};
-/// Want of memory.
+/// Out of memory.
 pub use instance_keeper::orch_base::Memory;

@@ -43,7 +43,7 @@ pub record Taking (w : World) (r : Server) (t : Txn) (to : Coord) : Type 0 where
   pub ends : place source.log.log to ≡ Some (index + 1)
   pub order : is_at_or_before to r.read ≡ true
 
--- what an applier can be about to do in a placed world
+-- what an applier can be about to do in a world with `Placed`
 pub data Facing (w : World) (r : Server) : ApplyStep → Type 0 where
   Halts : Facing w r applying.Halt
   Forgets : Facing w r applying.ForgetUntil
@@ -53,7 +53,7 @@ pub data Facing (w : World) (r : Server) : ApplyStep → Type 0 where
   Fills : (t : Txn) (to : Coord) → Taking w r t to → r.history.room ≤ length r.history.txns → Facing w r applying.NoRoom
   Executes : (t : Txn) (to : Coord) → Taking w r t to → Facing w r (applying.Execute t to)
 
--- a replica under a source of a placed world
+-- a replica under a source of a world with `Placed`
 record Under (w : World) (n m : ℕ) (r s : Server) : Type 0 where
   placed : Placed w
   at : server_at w n ≡ Some r
@@ -146,7 +146,7 @@ Same-exec r to = record { history = refl; log = refl; first = refl; settings = r
 Still-forgot : (r : Server) → Still r (record r { applier = false; until = None })
 Still-forgot r = record { same = record { history = refl; log = refl; first = refl; settings = refl }; source = refl; exec = refl; read = inl refl }
 
--- in a placed world
+-- in a world with `Placed`
 
 module _ (w : World) (n : ℕ) (r : Server) (placed : Placed w) (at : server_at w n ≡ Some r) where
   -- the executed coordinate moves on
@@ -207,7 +207,7 @@ module _ (w : World) (n : ℕ) (r : Server) (placed : Placed w) (at : server_at 
   Grows-facing x (Executes t to due) = Grows-with w n r (record (took r t) { exec = to }) at (executed-on t to due)
   Grows-facing x _ = Grows-refl w
 
--- apply keeps a world placed
+-- apply keeps `Placed` of a world
 pub Placed-apply : (w : World) (n : ℕ) (o : Option Server) → server_at w n ≡ o → Placed w → Placed (after_apply w n o (apply_step w o))
 Placed-apply w n None at placed = placed
 Placed-apply w n (Some r) at placed = Placed-facing w n r placed at (apply_step w (Some r)) (Facing-step w n r at placed)

@@ -1,4 +1,4 @@
--- A bridge that stands stands for good, and what it lets cross.
+-- A right bridge stays right, and which reattachments it justifies.
 use Rattle.std.proofs.Common.{◌≡◌, ℕ, ◌≤◌, Bool, true, false, cond, List, ◌++◌, length, take, drop, refl, sym, ◌∙◌, ap, subst, Option, Some, None, Ok, Err, arith, ◌&&◌}
 use Rattle.std.specs.Prelude.{◌==◌}
 use Rattle.replication_laws.proofs.Prelude.{Attach, Attached, AttachedWell, Bridges, Coord, Detached, GoesOn, Grows, IsJunction, JoinsWell}
@@ -10,7 +10,7 @@ use Rattle.replication_laws.proofs.Prelude.seeing
 use Rattle.replication_laws.proofs.Prelude.spot
 use Rattle.replication_laws.proofs.Logs.{LaysOut-Grown, LaysOut-length}
 
--- the beginning of a list that goes on
+-- the first part of a list that goes on
 take-prefix : (k : ℕ) (xs ys : List Txn) → take (length xs) ys ≡ xs → k ≤ length xs → take k ys ≡ take k xs
 take-prefix k xs ys p le =
     let parts : xs ++ drop (length xs) ys ≡ ys = ap (λ front. front ++ drop (length xs) ys) (sym p) ∙ take-append-drop (length xs) ys in
@@ -33,7 +33,7 @@ Bridges-on x x' s s' own exec on_x on_s b = record {
   exec_logs = ap (λ (y : Settings). y.logs) on_s.settings ∙ b.exec_logs;
 }
 
--- a bridge that stands stands for good
+-- a right bridge stays right
 pub Stands-grows : (w w' : World) (x s : ℕ) (own exec : Coord) → Grows w w' → Stands w x s own exec → Stands w' x s own exec
 Stands-grows w w' x s own exec grows b =
     let a = grows x b.replica b.replica_at in
@@ -43,7 +43,7 @@ Stands-grows w w' x s own exec grows b =
 end-place : (s : Server) → LaysOut s.history.txns s.log.log → place s.log.log (end_of s.log.log) ≡ Some (length s.history.txns)
 end-place s laid = place-of_end s.log.log (Laid-Grown s.log.log (LaysOut-Grown s.history.txns s.log.log laid)) ∙ ap Some (LaysOut-length s.history.txns s.log.log laid)
 
--- a replica that logs and its source are bridged where the replica stands
+-- a replica that logs and its source have a bridge at the replica's position
 Stands-replica : (w : World) (n m : ℕ) (r : Server) → Safe w → server_at w n ≡ Some r → source_no r.source ≡ Some m → r.settings.logs ≡ true → Stands w n m (end_of r.log.log) r.exec
 Stands-replica w n m r safe at_n from logs =
     let source = safe.logging n m r at_n from in
@@ -92,7 +92,7 @@ Stands-seen w n m seen own safe is from end =
 same_count : (log : Log) (c : Coord) (k m : ℕ) → place log c ≡ Some k → place log c ≡ Some m → k ≡ m
 same_count log c k m p q = same_Some k m (sym p ∙ q)
 
--- a replica that stands at the bridge's executed coordinate of the source goes to the own coordinate of x
+-- a replica that is at the bridge's executed coordinate of the source goes to the own coordinate of x
 junction-down : (r x s : Server) (own exec : Coord) → Bridges x s own exec → AttachedWell r s → r.exec ≡ exec → IsJunction r x own
 junction-down r x s own exec b well at =
     let k : b.count ≡ length r.history.txns = same_count s.log.log exec b.count (length r.history.txns) b.exec_place (ap (place s.log.log) (sym at) ∙ well.exec_place) in
@@ -101,7 +101,7 @@ junction-down r x s own exec b well at =
       place = b.own_place ∙ ap Some k;
     }
 
--- a replica that stands at the own coordinate of x goes to the executed coordinate of the source
+-- a replica that is at the own coordinate of x goes to the executed coordinate of the source
 junction-up : (r x s : Server) (own exec : Coord) → Bridges x s own exec → AttachedWell r x → r.exec ≡ own → IsJunction r s exec
 junction-up r x s own exec b well at =
     let k : b.count ≡ length r.history.txns = same_count x.log.log own b.count (length r.history.txns) b.own_place (ap (place x.log.log) (sym at) ∙ well.exec_place) in
@@ -110,7 +110,7 @@ junction-up r x s own exec b well at =
       place = b.exec_place ∙ ap Some k;
     }
 
--- the source itself, where its end is the bridge's executed coordinate, goes below x
+-- the source itself, if its end is the bridge's executed coordinate, goes below x
 junction-about : (x s : Server) (own exec : Coord) → Bridges x s own exec → LaysOut s.history.txns s.log.log → end_of s.log.log ≡ exec → IsJunction s x own
 junction-about x s own exec b laid at =
     let k : b.count ≡ length s.history.txns = same_count s.log.log exec b.count (length s.history.txns) b.exec_place (ap (place s.log.log) (sym at) ∙ end-place s laid) in
@@ -119,7 +119,7 @@ junction-about x s own exec b laid at =
       place = b.own_place ∙ ap Some k;
     }
 
--- x itself, where its end is the bridge's own coordinate, goes below the source
+-- x itself, if its end is the bridge's own coordinate, goes below the source
 junction-back : (x s : Server) (own exec : Coord) → Bridges x s own exec → LaysOut x.history.txns x.log.log → end_of x.log.log ≡ own → IsJunction x s exec
 junction-back x s own exec b laid at =
     let k : b.count ≡ length x.history.txns = same_count x.log.log own b.count (length x.history.txns) b.own_place (ap (place x.log.log) (sym at) ∙ end-place x laid) in
@@ -128,7 +128,7 @@ junction-back x s own exec b laid at =
       place = b.exec_place ∙ ap Some k;
     }
 
--- where the live spot is the expected one the replica is below that server, at that coordinate
+-- if the live position is the expected one, the replica is below that server, at that coordinate
 at_spot : (r : Server) (m : ServerNo) (c : Coord) (source : SourceState) → same_spot (spot.At m c) (spot_below r source) ≡ true → (source_no source ≡ Some m.0) × (r.exec ≡ c)
 at_spot r m c Without h = cc
 at_spot r m c (Attached k) h = let parts = and_parts (m.0 == k.0) (same_coord c r.exec) h in (ap Some (sym (eqb-true m.0 k.0 parts.0)), sym (same_coord-true c r.exec parts.1))

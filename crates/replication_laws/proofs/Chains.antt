@@ -1,11 +1,11 @@
--- Chains of sources: where they end, and when one comes to a server.
+-- Chains of sources: their ends, and when one comes to a server.
 use Rattle.std.proofs.Common.{◌≡◌, ℕ, ◌<◌, ◌≤◌, true, false, List, [], ◌∷◌, length, refl, sym, ◌∙◌, ap, subst, inl, inr, Option, Some, None, arith, zero, suc, ◌||◌, eqb}
 use Rattle.std.specs.Prelude.{◌==◌}
 use Rattle.replication_laws.proofs.Prelude.{AllByRecursion, Grounded, Here, IsDistinct, Placed, Reaches, Root, Server, Under, Up, World, cases_eq}
 use Rattle.replication_laws.proofs.Prelude.{chain_meets, chain_on, eq-eqb, eqb-false, eqb-true, length-le_from_distinct_below, list_any, ne_eqb}
 use Rattle.replication_laws.proofs.Prelude.{not_self, or_cases, or_parts, or_right, same_Some, server_at, slice_get_within, source_of, sources}
 
--- the chains where one server lost its source
+-- the chains if one server lost its source
 pub Grounded-cut : (up up' : ℕ → Option ℕ) (n : ℕ) → up' n ≡ None → ((x : ℕ) → (x ≡ n → ⊥) → up' x ≡ up x) → (x : ℕ) → Grounded up x → Grounded up' x
 Grounded-cut up up' n none others x (Root x' root) =
     elim (cases_eq x n) [ inl here ↦ Root x (ap up' here ∙ none) | inr apart ↦ Root x (others x apart ∙ root) ]
@@ -23,7 +23,7 @@ Grounded-apart up up' n others (suc k) x h = go (up x) refl (or_parts (x == n) _
     go (Some m) e parts more =
         Under x m (others x (eqb-false x n parts.0) ∙ e) (more m (subst (λ (o : Option ℕ). chain_on (λ y. chain_meets up k y n) o ≡ false) e parts.1))
 
--- the chains where one server has another source, whose own chain ends
+-- the chains if one server has another source, whose own chain ends
 pub Grounded-joined : (up up' : ℕ → Option ℕ) (n to : ℕ) → up' n ≡ Some to → ((x : ℕ) → (x ≡ n → ⊥) → up' x ≡ up x) → Grounded up' to → (x : ℕ) → Grounded up x → Grounded up' x
 Grounded-joined up up' n to joined others above x (Root x' root) =
     elim (cases_eq x n) [ inl here ↦ Under x to (ap up' here ∙ joined) above | inr apart ↦ Root x (others x apart ∙ root) ]
@@ -35,7 +35,7 @@ Reaches-then : (up : ℕ → Option ℕ) (x y m : ℕ) → Reaches up x y → up
 Reaches-then up x y m Here h = Up x m h Here
 Reaches-then up x y m (Up y' z e r) h = Up y z e (Reaches-then up x z m r h)
 
--- no chain that ends comes back to where it began
+-- no chain that ends comes back to its start
 pub Grounded-no_cycle : (up : ℕ → Option ℕ) (x m : ℕ) → Grounded up x → up x ≡ Some m → Reaches up x m → ⊥
 Grounded-no_cycle up x m (Root x' none) h r = cc
 Grounded-no_cycle up x m (Under x' k e g) h r =
@@ -92,8 +92,7 @@ walk-finds up x n (Under x' m e g) (suc k) le h =
       | inr more ↦ Up x m e (walk-finds up m n g k (omega arith) (sym (ap (chain_on (λ y. chain_meets up k y n)) e) ∙ more))
     ]
 
--- where every server of a chain has a number below k, a walk of k steps meets a server exactly where the chain comes to
--- it
+-- if every server of a chain has a number below k, a walk of k steps meets a server exactly if the chain comes to it
 pub walk-true : (up : ℕ → Option ℕ) (x n k : ℕ) → Grounded up x → ((q : ℕ) → Reaches up q x → q < k) → chain_meets up k x n ≡ true → Reaches up n x
 walk-true up x n k g below h =
     walk-finds up x n g k (length-le_from_distinct_below (chain up x g) k (chain-distinct up x g) (λ q on. below q (chain-reaches up x q g on))) h
@@ -103,7 +102,7 @@ walk-met up x n zero r = refl
 walk-met up x n (suc k) Here = ap (λ b. b || chain_on (λ m. chain_meets up k m n) (up n)) (eq-eqb n n refl)
 walk-met up x n (suc k) (Up x' m e r) = or_right (x == n) _ (ap (chain_on (λ y. chain_meets up k y n)) e ∙ walk-met up m n k r)
 
--- in a placed world the sources are servers
+-- in a world with `Placed` the sources are servers
 source-below : (w : World) → Placed w → (x m : ℕ) → sources w x ≡ Some m → m < length w.servers
 source-below w placed x m e = go (server_at w x) refl e
   where

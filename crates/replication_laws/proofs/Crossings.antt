@@ -5,7 +5,7 @@ use Rattle.replication_laws.proofs.Prelude.{Attach, Attached, Coord, Detached, I
 use Rattle.replication_laws.proofs.Prelude.{and_parts, eqb-true, place, same_coord, same_coord-true, same_spot, source_no, spot_below}
 use Rattle.replication_laws.proofs.Prelude.spot
 
--- a replica goes back to its own source, to where it stands there
+-- a replica goes back to its own source, to its position there
 pub joins-same : (w : World) (n : ℕ) (m : ServerNo) (c : Coord) → Safe w → JoinsWell w (Attach n (spot.At m c) m c)
 joins-same w n m c safe r s here there is = by_source r.source is (λ k from. from)
   where

@@ -1,4 +1,4 @@
--- Which transactions of a log stand in its kept files.
+-- Which transactions of a log are in its kept files.
 use Rattle.replication_laws.proofs.Prelude.{Appended, Beyond, Entry, InPurged, IsGone, IsLogged, Laid, Laid-files, Laid-Grown, Log, Next, Placed}
 use Rattle.replication_laws.proofs.Prelude.{Server, Status, StepFrom, Txn, Unlogged, Unreachable, World, and_parts, can_reach, end_coord, ends_by}
 use Rattle.replication_laws.proofs.Prelude.{entry_at_end, eqb-true, false≢true, file_start, get_or_from_slice_get, has_gtid, has_place}
@@ -14,7 +14,7 @@ use Rattle.std.proofs.Common.{◌≡◌, ℕ, ◌+◌, ◌<◌, ◌≤◌, Bool,
 use Rattle.std.specs.Prelude.{Result, Ok, Err, IsSomeAnd, count_by, nat_lt, nat_le, ◌==◌, option_map, slice_get}
 use Rattle.replication_laws.proofs.Logs.{LaysOut-Grown, LaysOut-length}
 
--- each transaction begins behind the header of its file
+-- each transaction begins after the header of its file
 starts-past : (log : Log) → Laid log → (i : ℕ) (t : Entry) → slice_get log.entries i ≡ Some t → 4 ≤ t.start
 starts-past log (Opened limit) i t h = cc
 starts-past log (Flushed old g) i t h = starts-past old g i t h
@@ -140,7 +140,7 @@ logged-read w n k t s placed at up desk entry =
         ∙ ap (λ b. cond b None (slice_get s.history.txns k)) past
         ∙ ap (λ (x : Server). slice_get x.history.txns k) (sym same) ∙ entry.is
 
--- nothing is read exactly where there is nothing to read
+-- nothing is read exactly if there is nothing to read
 
 module _ (w : World) (n : ℕ) (s : Server) (placed : Placed w) (at : server_at w n ≡ Some s) (k : ℕ) where
   in-purged : s.settings.logs ≡ true → k < purged_len s → IsGone s k
@@ -249,7 +249,7 @@ module _ (w : World) (n : ℕ) (seen : Status) (s : Server) (shows : shown w n �
         seen-none (purged_len-is s 0 (place-from s.log.log (file_start s.first) 0 (has_place-file_start s.log.log s.first kept.low kept.high) (ap (count_by (ends_by (file_start s.first))) none.1))),
       )
 
-  -- where GTIDs are used a transaction of a purged file is in it
+  -- if GTIDs are used a transaction of a purged file is in it
   pub shown-purged : Placed w → w.gtid ≡ true → s.settings.logs ≡ true → (k : ℕ) (t : Txn) (e : Entry) → slice_get s.history.txns k ≡ Some t → slice_get s.log.log.entries k ≡ Some e
       → e.file < s.first → has_gtid (uuids w) seen.purged t ≡ true
   shown-purged placed on logs k t e there lies less =

@@ -41,7 +41,7 @@ Idle-fetch w n (Some r) at (receiving.Take (next.Entry index to)) = Idle-same w 
 Idle-fetch w n (Some r) at (receiving.Take (next.Rotate to)) = Idle-same w n r (record r { read = to }) at (Same-read r to)
 Idle-fetch w n _ at _ = Idle-refl w
 
--- and keeps how each replica stands
+-- and keeps each replica's position
 
 module _ (R : Server → Server → Type 0) (standing : Standing R) (w : World) (linked : Linked R w) (n m : ℕ) (r s : Server) (at : server_at w n ≡ Some r)
     (is : source_no r.source ≡ Some m) (at_m : server_at w m ≡ Some s) where

@@ -25,7 +25,7 @@ flushes-took s t = go s.settings.logs
     go true = refl
     go false = refl
 
--- where each server has room for so many new files, and at a rotation for one more
+-- if each server has room for so many new files, and at a rotation for one more
 module _ (k : ℕ) (w : World) where
   HasFiles-with : (n : ℕ) (s s' : Server) → server_at w n ≡ Some s → HasFiles k w → k ≤ s'.log.flushes → HasFiles k (with_server w n s')
   HasFiles-with n s s' here has room = λ m t at.

@@ -61,8 +61,8 @@ module _ (h h' : ℕ → List Txn) (n : ℕ) (t : Txn) (ext : Extends h h' n t) 
   take_to : (a i : ℕ) (x : Txn) → slice_get (h a) i ≡ Some x → take (i + 1) (h' a) ≡ take (i + 1) (h a)
   take_to a i x g = let within : i < length (h a) = slice_get_within (h a) i x g in take_old a (i + 1) (omega arith)
 
-  -- the histories stay kin where the new transaction is nowhere else but after the same beginning, has its number, and
-  -- is at home
+  -- The histories still agree (`IsKin`) if the new transaction is nowhere else except after the same prefix, has its
+  -- number, and is in its origin's history.
   pub IsKin-extended : IsKin h
       → ((b j : ℕ) (y : Txn) → slice_get (h b) j ≡ Some y → same_txn t y ≡ true → take (j + 1) (h b) ≡ h n ++ t ∷ [])
       → t.seq ≡ count_own t.origin.0 (h n) + 1
@@ -121,7 +121,7 @@ IsKin-once h kin a i j x y g k same =
     let lengths : length (take (i + 1) (h a)) ≡ length (take (j + 1) (h a)) = ap length (kin.alike a a i j x y g k same) in
     omega (arith, lengths, length-take-le (i + 1) (h a), length-take-le (j + 1) (h a))
 
--- a beginning has no more of an origin's transactions
+-- a prefix has no more of an origin's transactions
 pub count_own-take-le : (p : ℕ) (xs : List Txn) (k : ℕ) → count_own p (take k xs) ≤ count_own p xs
 count_own-take-le p xs k = sum_by-take-le (λ y. cond (y.origin.0 == p) 1 0) xs k
 
@@ -137,7 +137,7 @@ IsKin-fresh h kin n size b j y g same =
     let own : tick (y.origin.0 == n) ≡ 1 = ap tick (eq-eqb y.origin.0 n origin) in
     omega (arith, number, seq, own, count_own-push n (take home.0 (h n)) y, ap (count_own n) (take-more (h n) home.0 y there), count_own-take-le n (h n) (home.0 + 1))
 
--- what a history holds stands somewhere in it
+-- what a history has is at some index of it
 pub holds-at : (t : Txn) (xs : List Txn) → holds t xs ≡ true → (j : ℕ) × (y : Txn) × (slice_get xs j ≡ Some y) × (same_txn y t ≡ true)
 holds-at t [] h = cc
 holds-at t (x ∷ xs) h = go (same_txn x t) refl h (λ k. holds-at t xs k)

@@ -67,7 +67,7 @@ Grows-with w n s s' here on = λ m t h.
       | inr apart ↦ (t, at_with_other w n s s' here m apart ∙ h, GoesOn-refl t)
     ]
 
--- the same server but for its source, its coordinates, its threads and its links
+-- the same server except for its source, its coordinates, its threads and its links
 pub record Same (s s' : Server) : Type 0 where
   pub history : s'.history ≡ s.history
   pub log : s'.log ≡ s.log
@@ -93,7 +93,7 @@ LaysOut-same s s' same laid on =
 KeepsFrom-same : (s s' : Server) → Same s s' → KeepsFrom s.settings.logs s.log.log s.first → KeepsFrom s'.settings.logs s'.log.log s'.first
 KeepsFrom-same s s' same kept = rw (same.settings, same.log, same.first) kept
 
--- the same server but for its threads, its links and how far it has read
+-- the same server except for its threads, its links and how far it has read
 pub record Still (s s' : Server) : Type 0 where
   pub same : Same s s'
   pub source : source_no s'.source ≡ source_no s.source
@@ -103,8 +103,8 @@ pub record Still (s s' : Server) : Type 0 where
 pub Still-refl : (s : Server) → Still s s
 Still-refl s = record { same = Same-refl s; source = refl; exec = refl; read = inl refl }
 
--- A way for a replica to stand under its source that stays as the source goes on, as the replica's threads and links
--- change, and as it reads on.
+-- A way for a replica to fit its source. It stays so as the source goes on, as the replica's threads and links change,
+-- and as it reads on.
 pub record Standing (R : Server → Server → Type 0) : Type 0 where
   pub source : (r s s' : Server) → GoesOn s s' → R r s → R r s'
   pub still : (r r' s : Server) → Still r r' → R r s → R r' s
@@ -158,7 +158,7 @@ Standing-placed = record {
   reads = λ r s to stands there further. record { exec_place = stands.exec_place; read_place = there; order = before_is_at r.exec r.read to stands.order further };
 }
 
--- what holds of a world in which each replica stands in such a way
+-- what holds for a world in which each replica is in such a way
 pub record Linked (R : Server → Server → Type 0) (w : World) : Type 0 where
   pub laid : (n : ℕ) (s : Server) → server_at w n ≡ Some s → s.settings.logs ≡ true → LaysOut s.history.txns s.log.log
   pub kept : KeepFiles w
@@ -179,7 +179,7 @@ Linked-placed w placed = record { laid = placed.laid; kept = placed.kept; stands
 pub Placed-linked : (w : World) → Linked StandsIn w → Placed w
 Placed-linked w linked = record { laid = linked.laid; kept = linked.kept; stands = linked.stands; logging = linked.logging; grounded = linked.grounded; uuids = linked.uuids }
 
--- a safe world is placed
+-- a `Safe` world has `Placed`
 pub Placed-safe : (w : World) → Safe w → Placed w
 Placed-safe w safe = record {
   laid = safe.laid;
@@ -334,6 +334,6 @@ Idle-with w n s s' here history on = record {
 pub Idle-same : (w : World) (n : ℕ) (s s' : Server) → server_at w n ≡ Some s → Same s s' → Idle w (with_server w n s')
 Idle-same w n s s' here same = Idle-with w n s s' here same.history (GoesOn-same s s' same)
 
--- such a change keeps a world safe where it keeps how its replicas stand
+-- such a change keeps a world `Safe` if it keeps its replicas' positions
 pub Safe-idle : (w w' : World) → Safe w → Idle w w' → Linked AttachedWell w' → Safe w'
 Safe-idle w w' safe idle linked = Safe-linked w' linked (subst IsKin (sym idle.kept) safe.kin)

@@ -15,7 +15,7 @@ decided s expect later reached on expected loops =
     (cond on (Err (attaching.Running (spot_below s s.source)))
     (cond (not expected) (Err (attaching.Interfered expect (live_spot s expect))) (cond loops (Err attaching.Loop) later)))
 
--- what is answered where no loop is closed
+-- what is answered if no loop is closed
 abbrev past_loop : World → ℕ → Coord → Result (Unit {0}) AttachFault
 past_loop w to at = purged_answer (nat_lt at.file (first_kept (server_at w to))) (first_kept (server_at w to))
 
@@ -47,7 +47,7 @@ loop-only w n expect to at placed h = at_server (server_at w n) refl h
             (record { server = s; there = here; reached = a; still = b; expected = c }, walk-finds_all w placed (omega arith) n to d)
         go _ _ _ loops a b c d f = cc
 
--- an attachment by a set asks the same but where the server stands
+-- an attachment by a set asks the same except for the server's position
 
 abbrev decided_auto : Server → Result (Unit {0}) AttachFault → Bool → Bool → Bool → List Interval → Result (Unit {0}) AttachFault
 decided_auto s later reached on loops errant =

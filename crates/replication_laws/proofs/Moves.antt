@@ -1,4 +1,4 @@
--- What orchestrator asks of a server, what befalls it, a new file of its log, and an attachment: what each keeps.
+-- What orchestrator asks of a server, what happens to it, a new file of its log, and an attachment: what each keeps.
 use Rattle.std.proofs.Common.{◌≡◌, ℕ, Bool, true, false, cond, not, List, [], ◌∷◌, take, length, refl, sym, ◌∙◌, ap, subst, inl, inr, ◌⊎◌, Option, Some, None, ◌||◌, ◌&&◌, count_by, ◌≤◌, arith}
 use Rattle.std.specs.Prelude.{Result, Ok, Err, nat_lt, nat_le, ◌==◌}
 use Rattle.replication_laws.proofs.Prelude.{Ask, Attached, AttachedWell, AttachFault, Coord, Detached, Event, Flushed, GoesOn, Interval, IsAutoTarget}
@@ -134,7 +134,7 @@ Idle-attach_auto w n to (Some s) at (Ok t) =
     Idle-same w n s (joined true to (auto_coord (uuids w) s (server_at w to.0)) s) at (Same-joined true to (auto_coord (uuids w) s (server_at w to.0)) s)
 Idle-attach_auto w n to (Some s) at (Err e) = Idle-refl w
 
--- and each keeps how the replicas stand
+-- and each keeps the replicas' positions
 
 module _ (R : Server → Server → Type 0) (standing : Standing R) (w : World) (n : ℕ) (linked : Linked R w) where
   Linked-reset : (s : Server) → server_at w n ≡ Some s → Linked R (with_server w n (without_source s))
@@ -250,7 +250,7 @@ module _ (R : Server → Server → Type 0) (standing : Standing R) (w : World) 
               subst (λ (c : Coord). Linked R (with_server w n (joined true to c s))) at
               (Linked-joined true to (auto_coord (uuids w) s (Some target.target)) s target.target here target.there target.logs (stands s target.target here target.there none is) e)
 
--- how an attached replica stands
+-- the position of an attached replica
 
 pub StandsIn-rotated : (r s : Server) → StandsIn r s → StandsIn (rotated r) s
 StandsIn-rotated r s stands = record { exec_place = stands.exec_place; read_place = stands.read_place; order = stands.order }
@@ -273,7 +273,7 @@ pub AttachedWell-attached : (to : ServerNo) (c : Coord) (r s : Server) → IsJun
 AttachedWell-attached to c r s junction =
     record { prefix = junction.prefix; exec_place = junction.place; read_place = (length r.history.txns, junction.place); order = at_or_before-refl c }
 
--- where a server goes on by its set has a place in the source's log
+-- the coordinate at which a server goes on by its set has a place in the source's log
 pub auto-place : (uuid : ℕ → ℕ) (r s : Server) → LaysOut s.history.txns s.log.log → KeepsFrom s.settings.logs s.log.log s.first → nat_lt (held_of uuid r s) (purged_len s) ≡ false
     → place s.log.log (auto_coord uuid r (Some s)) ≡ Some (held_of uuid r s)
 auto-place uuid r s laid kept enough = go (nat_lt (coord_after s.log.log (held_of uuid r s)).file s.first) refl
@@ -309,7 +309,7 @@ StandsIn-auto w to r s laid kept target there enough =
     let at : (k : ℕ) × (place s.log.log c ≡ Some k) = (held_of (uuids w) r s, auto-place (uuids w) r s (auto-laid w to s laid target there) (kept to.0 s there) enough) in
     record { exec_place = at; read_place = at; order = at_or_before-refl c }
 
--- and where it has executed a beginning of the source's history it goes on at that beginning's end
+-- and if it has executed a prefix of the source's history it goes on at that prefix's end
 pub AttachedWell-auto : (w : World) (to : ServerNo) (r s : Server) → ((n : ℕ) (x : Server) → server_at w n ≡ Some x → x.settings.logs ≡ true → LaysOut x.history.txns x.log.log) → KeepFiles w
     → IsAutoTarget w to.0 → server_at w to.0 ≡ Some s → nat_lt (held_of (uuids w) r s) (purged_len s) ≡ false → take (length r.history.txns) s.history.txns ≡ r.history.txns
     → held_len (uuids w) (set_of (uuids w) r.history.txns) s.history.txns ≡ length r.history.txns → AttachedWell (joined true to (auto_coord (uuids w) r (Some s)) r) s

@@ -32,7 +32,7 @@ Idle-purge w n file (Some s) at = go s.up s.settings.logs (nat_lt s.log.log.file
         Idle-with w n s (from_file (kept_from w.servers n file s) s) at refl (GoesOn-purged s (kept_from w.servers n file s) (kept_from-rises w.servers n file s))
     go _ _ _ = Idle-refl w
 
--- and keeps how each replica stands
+-- and keeps each replica's position
 pub Linked-purge : (R : Server → Server → Type 0) → Standing R → (w : World) (n file : ℕ) → Linked R w → ((r s : Server) (first : ℕ) → R r s → R (from_file first r) s)
     → (o : Option Server) → server_at w n ≡ o → Linked R (after_purge w n o (purge_answer w n file o))
 Linked-purge R standing w n file linked on None at = linked
@@ -58,7 +58,7 @@ Linked-purge R standing w n file linked on (Some s) at = go s.up s.settings.logs
         })
     go _ _ _ logs past = linked
 
--- what a purge that is done says
+-- what holds for a purge that is done
 pub record IsDone (w : World) (n file first : ℕ) (s : Server) : Type 0 where
   pub logs : s.settings.logs ≡ true
   pub within : file ≤ s.log.log.files

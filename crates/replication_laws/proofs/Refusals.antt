@@ -93,7 +93,7 @@ fetch-refused w n first h = at_server (server_at w n) refl h
           left = ap (after_fetch w n (Some r)) step;
         }
 
--- what is read stands in a kept file
+-- what is read is in a kept file
 fetch-kept : (w : World) (n : ℕ) (r s : Server) (server : ServerNo) (x : Next) → server_at w n ≡ Some r → r.source ≡ Attached server → server_at w server.0 ≡ Some s
     → fetch_step w (server_at w n) ≡ receiving.Take x → s.first ≤ r.read.file
 fetch-kept w n r s server x at from at_s h =
@@ -244,7 +244,7 @@ attach-purged w n expect to at s first there h =
     let before = parts.0 in
     (parts.1, grind (arith, nat_tests))
 
--- where no earlier fault comes it is answered
+-- if no earlier fault comes it is answered
 
 pub attach-answers : (w : World) (n : ℕ) (expect : Spot) (to : ℕ) (at : Coord) (s : Server) → Placed w → IsReadyAt w n expect → (Reaches (sources w) n to → ⊥) → server_at w to ≡ Some s
     → at.file < s.first → attach_answer w n expect to at (server_at w n) ≡ Err (attaching.Purged s.first)
@@ -314,7 +314,7 @@ auto-unchanged w n observed to r s k at there starts less = go (attach_auto_answ
         absurd (grind (arith, nat_tests))
     go (Err f) e = after_auto-fault w n to (server_at w n) f
 
--- where an attachment by a set leads
+-- the position to which an attachment by a set leads
 
 joined-auto : (w : World) (n : ℕ) (observed : List Interval) (to : ServerNo) (r r' : Server) → server_at w n ≡ Some r → attach_auto_answer w n observed to.0 (server_at w n) ≡ Ok tt
     → server_at (after_attach_auto w n to (server_at w n) (attach_auto_answer w n observed to.0 (server_at w n))) n ≡ Some r'

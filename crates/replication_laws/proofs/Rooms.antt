@@ -1,4 +1,4 @@
--- No history of a quiet run gets full.
+-- No history of a run without errant writes gets full.
 use Rattle.std.proofs.Common.{◌≡◌, ℕ, ◌+◌, ◌<◌, ◌≤◌, Bool, true, false, cond, not, List, [], ◌∷◌, length, take, refl, sym, ◌∙◌, ap, subst, inl, inr, Option, Some, None, arith, length-append, zero, suc, count_by}
 use Rattle.std.specs.Prelude.{slice_get, nat_le, Result, Ok, Err}
 use Rattle.replication_laws.proofs.Prelude.{AllAllowed, AllFit, AllJoinWell, Apply, ApplyStep, Ask, Attach, AttachAuto, AttachFault, Befall, Coord}

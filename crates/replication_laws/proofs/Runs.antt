@@ -1,4 +1,4 @@
--- Exchanges and runs: what stays placed, what stays safe, and the count of errant writes.
+-- Exchanges and runs: what keeps `Placed`, what stays `Safe`, and the count of errant writes.
 use Rattle.std.proofs.Common.{ℕ, ◌+◌, ◌≤◌, Bool, true, false, cond, List, [], ◌∷◌, take, refl, Option, Some, arith, zero, suc}
 use Rattle.replication_laws.proofs.Prelude.{AllAllowed, AllJoinWell, Allowed, Apply, ApplyStep, Ask, Attach, AttachAuto, AttachedWell, Befall, Coord}
 use Rattle.replication_laws.proofs.Prelude.{Event, Exchange, Fetch, Grows, Interval, IsQuiet, JoinsWell, Placed, Purge, Request, Rotate, Safe, Server}
@@ -32,7 +32,7 @@ errant-apply w n _ _ = omega arith
 errant-idle : (w w' : World) → Idle w w' → w.errant ≤ w'.errant
 errant-idle w w' idle = omega (arith, idle.errant)
 
--- all but writes and applies write nothing, in any world
+-- all except writes and applies write nothing, in any world
 
 pub Idle-fetched : (w : World) (n : ℕ) → Idle w (after w (Fetch n))
 Idle-fetched w n = Idle-fetch w n (server_at w n) refl (fetch_step w (server_at w n))
@@ -78,7 +78,7 @@ quiet-run w es q = omega (arith, q, errant-run w es)
 pub quiet-take : (w : World) (es : List Exchange) (k : ℕ) → IsQuiet (run w es) → IsQuiet (run w (take k es))
 quiet-take w es k q = omega (arith, q, errant-take w es k)
 
--- each exchange keeps a world placed, and each server goes on
+-- each exchange keeps `Placed` of a world, and each server goes on
 
 pub Placed-after : (w : World) (e : Exchange) → Placed w → Allowed w e → Placed (after w e)
 Placed-after w (Write n size) placed some = Placed-write w n size some placed (server_at w n) refl (write_answer n (server_at w n))
@@ -126,7 +126,7 @@ AllAllowed-take w (e ∷ es) (suc k) allowed = (allowed.0, AllAllowed-take (afte
 pub Placed-take : (w : World) (es : List Exchange) (k : ℕ) → Placed w → AllAllowed w es → Placed (run w (take k es))
 Placed-take w es k placed allowed = Placed-run w (take k es) placed (AllAllowed-take w es k allowed)
 
--- each exchange keeps a world safe that is quiet after it
+-- each exchange keeps a world `Safe` that has no errant writes after it
 
 pub Safe-fetched : (w : World) (n : ℕ) → Safe w → Safe (after w (Fetch n))
 Safe-fetched w n safe = Safe-idle w (after w (Fetch n)) safe (Idle-fetched w n) (Linked-fetch AttachedWell Standing-well w n (server_at w n) refl (Linked-safe w safe))

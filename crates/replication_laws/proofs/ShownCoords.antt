@@ -55,7 +55,7 @@ Shows-after w e n seen placed allowed s = Shows-on w (after w e) n seen (Grows-a
 pub Shows-run : (w : World) (es : List Exchange) (n : ℕ) (seen : Status) → Placed w → AllAllowed w es → Shows w n seen → Shows (run w es) n seen
 Shows-run w es n seen placed allowed s = Shows-on w (run w es) n seen (Grows-run w es placed allowed) (executed-run w es n seen.set placed allowed s.at.set) s
 
--- ---- what is shown
+-- ---- what is observed
 
 module _ (w : World) (n : ℕ) (s : Server) (placed : Placed w) (at : server_at w n ≡ Some s) where
   own-target : (c : Coord) → own_end_of s ≡ Some c → IsTarget w n c

@@ -1,4 +1,4 @@
--- Of kin histories one whose set is within another's is its beginning.
+-- Of histories that agree, one whose set is within another's is its prefix.
 use Rattle.std.proofs.Common.{◌≡◌, ℕ, ◌+◌, ◌<◌, ◌≤◌, Bool, true, false, cond, List, [], ◌∷◌, length, refl, sym, ◌∙◌, ap, subst, ◌||◌, Option, Some, None, arith, zero, suc, take, get_or}
 use Rattle.std.specs.Prelude.{slice_get, All}
 use Rattle.replication_laws.proofs.Prelude.{Interval, IsKin, IsObserved, Safe, Server, Txn, World, errant_set, false_from_ne_true, has_gtid, held_len}
@@ -27,7 +27,7 @@ last_of [] k h = absurd (omega arith)
 last_of (x ∷ xs) zero h = (x, refl)
 last_of (x ∷ xs) (suc k) h = last_of xs k (omega arith)
 
--- of kin histories one that is within another is its beginning
+-- of histories that agree, one that is within another is its prefix
 pub prefix-from_within : (h : ℕ → List Txn) → IsKin h → (a b : ℕ) → IsWithin (h a) (h b) → take (length (h a)) (h b) ≡ h a
 prefix-from_within h kin a b within = go (length (h a)) refl
   where
@@ -47,7 +47,7 @@ prefix-from_within h kin a b within = go (length (h a)) refl
     go zero e = sym (nil_from_length (h a) e)
     go (suc k) e = whole k e
 
--- the front that passes a test ends where an element fails it
+-- the longest prefix that passes a test ends before an element that fails it
 prefix_len-is : (p : Txn → Bool) (ys : List Txn) (n : ℕ) → n ≤ length ys → ((i : ℕ) (y : Txn) → i < n → slice_get ys i ≡ Some y → p y ≡ true)
     → ((y : Txn) → slice_get ys n ≡ Some y → p y ≡ false) → prefix_len p ys ≡ n
 prefix_len-is p [] n le pass fail = omega arith
@@ -69,7 +69,7 @@ holds-from t (x ∷ xs) zero h =
     ap (λ (y : Txn). same_txn y t || holds t xs) same ∙ ap (λ b. b || holds t xs) (same_txn-refl t)
 holds-from t (x ∷ xs) (suc i) h = or_right (same_txn x t) (holds t xs) (holds-from t xs i h)
 
--- the longest front of the source's history that a kin history holds is that history itself
+-- the longest prefix of the source's history that is within another history that agrees is that history itself
 front_len-is : (h : ℕ → List Txn) → IsKin h → (a b : ℕ) → take (length (h a)) (h b) ≡ h a → prefix_len (λ t. holds t (h a)) (h b) ≡ length (h a)
 front_len-is h kin a b front =
     prefix_len-is (λ t. holds t (h a)) (h b) (length (h a)) (omega (arith, ap length front, length-take (length (h a)) (h b)))
@@ -102,7 +102,7 @@ module _ (w : World) (safe : Safe w) where
   origins n s at = λ k d h.
       origin-there n k (get_or s.history.txns k d) (ap (λ (o : Option Server). slice_get (history_of o) k) at ∙ slice_get-get_or s.history.txns k d h)
 
-  -- a server's set tells of each transaction of a history whether the server executed it
+  -- a server's set answers for each transaction of a history whether the server executed it
   tells : (n : ℕ) (s : Server) → server_at w n ≡ Some s → (x : Txn) → x.origin.0 < length w.servers → has_gtid (uuids w) (set_of (uuids w) s.history.txns) x ≡ holds x s.history.txns
   tells n s at x h =
       holds-set_of (uuids w) s.history.txns (uuids w x.origin.0) x.seq ∙ told-set_of w.servers safe.uuids s.history.txns x (origins n s at) h
@@ -114,8 +114,8 @@ module _ (w : World) (safe : Safe w) where
     at_to : histories w to ≡ s.history.txns
     at_to = ap history_of there
 
-    -- a server whose set is within an observed one that is within the source's has executed a beginning of what the
-    -- source has
+    -- a server whose set is within an observed one that is within the source's has executed a prefix of what the source
+    -- has
     pub prefix-observed : (observed : List Interval) → IsObserved w observed to → errant_set (uuids w) observed r.history.txns ≡ [] → take (length r.history.txns) s.history.txns ≡ r.history.txns
     prefix-observed observed within none =
         let inside : IsWithin (histories w n) (histories w to) = λ i x at.

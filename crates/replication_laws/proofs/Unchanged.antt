@@ -1,4 +1,4 @@
--- Where nothing is done nothing changes.
+-- If nothing is done nothing changes.
 use Rattle.std.proofs.Common.{◌≡◌, ℕ, true, refl, Option, Some, None}
 use Rattle.std.specs.Prelude.{Result, Ok, Err}
 use Rattle.replication_laws.proofs.Prelude.{Apply, ApplyStep, Ask, Attach, AttachAuto, AttachFault, Befall, Coord, Exchange, Fetch, FetchStep, Purge}

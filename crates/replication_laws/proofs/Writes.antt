@@ -1,4 +1,4 @@
--- Writes: where each server goes on, and what stays safe.
+-- Writes: how each server goes on, and what stays safe.
 use Rattle.std.proofs.Common.{◌≡◌, ℕ, ◌+◌, ◌<◌, Bool, true, false, not, cond, List, [], ◌∷◌, ◌++◌, length, refl, sym, ◌∙◌, ap, subst, inl, Option, Some, None, arith}
 use Rattle.std.specs.Prelude.{nat_le}
 use Rattle.replication_laws.proofs.Prelude.{Attached, AttachedWell, Detached, Grows, IsQuiet, KeepsFrom-took, Placed, Safe, Server, SourceState}
@@ -52,7 +52,7 @@ free_source Without h = refl
 free_source (Attached m) h = cc
 free_source (Detached m) h = cc
 
--- write keeps a quiet world safe
+-- write keeps a world `Safe` if it has no errant writes
 pub Safe-write : (w : World) (n size : ℕ) (o : Option Server) → server_at w n ≡ o → 0 < size → Safe w
     → IsQuiet (after_write w n size o (write_answer n o)) → Safe (after_write w n size o (write_answer n o))
 Safe-write w n size None at some safe quiet = safe
@@ -67,7 +67,7 @@ Safe-write w n size (Some s) at some safe quiet = go s.up s.read_only (nat_le s.
     go true false false q = done (has_source s.source) refl q
     go _ _ _ q = safe
 
--- each server goes on at a write, errant or not, and stays placed
+-- each server goes on at a write, errant or not, and `Placed` stays
 module _ (w : World) (n size : ℕ) (some : 0 < size) (placed : Placed w) where
   pub Grows-write : (o : Option Server) → server_at w n ≡ o → (a : WriteAnswer) → Grows w (after_write w n size o a)
   Grows-write (Some s) at (wrote.Done seq) =

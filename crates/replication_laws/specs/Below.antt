@@ -4,8 +4,8 @@ use Rattle.replication_laws.specs.Prelude.{Server, Spot, World, live_spot, same_
 -- the chain of sources from a server comes to another: it is that one, or below it
 pub use Rattle.server_words.specs.OrchBase.Chains.{Reaches, Here, Up}
 
--- the server is there, within orchestrator's reach, with its threads off, and stands where it is expected: of all that
--- an attachment asks only a loop is left
+-- The server is there, within orchestrator's reach, with its threads off, and at the expected position. Only a loop can
+-- still refuse an attachment.
 pub record IsReadyAt (w : World) (n : ℕ) (expect : Spot) : Type 0 where
   pub server : Server
   pub there : server_at w n ≡ Some server

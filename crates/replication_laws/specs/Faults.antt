@@ -54,8 +54,8 @@ abbrev pub is_fault : {E : Type 0} → Result (Unit {0}) E → Bool
 is_fault (Ok t) = false
 is_fault (Err e) = true
 
--- the exchange answers a fault, or Down, ReadOnly, Full, Stopped, NoLink, Nothing, NotLogging or NoFile; what befalls a
--- server has no answer
+-- the exchange answers a fault, or Down, ReadOnly, Full, Stopped, NoLink, Nothing, NotLogging or NoFile; what happens
+-- to a server has no answer
 abbrev pub nothing_done : World → Exchange → Bool
 nothing_done w (Write n size) = nothing_written (write w n size).0
 nothing_done w (Fetch n) = nothing_read (fetch w n).0

@@ -2,8 +2,8 @@
 use Rattle.std.specs.Prelude.{◌≡◌, ◌≤◌, ℕ, length, take, Some}
 use Rattle.replication_laws.specs.Prelude.{Coord, Server, World, place, server_at}
 
--- a server that goes on: its settings stay, what it had executed is a beginning of what it has executed now, each place
--- of its log stays, and what is purged of it stays purged
+-- A server that goes on: its settings stay, and what it had executed is a prefix of what it has executed now. Each
+-- place of its log stays, and what is purged of it stays purged.
 pub record GoesOn (s s' : Server) : Type 0 where
   pub settings : s'.settings ≡ s.settings
   pub prefix : take (length s.history.txns) s'.history.txns ≡ s.history.txns

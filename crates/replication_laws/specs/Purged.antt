@@ -9,8 +9,8 @@ pub record IsActive (no : ServerNo) (r : Server) : Type 0 where
   pub receiver : r.receiver ≡ true
   pub feed : r.feed ≡ true
 
--- the receiver of a server is to read a file that its source, which keeps its log from this file on, has purged; in the
--- later world it is off, and all else is as it was
+-- The receiver of a server is to read a file that its source has purged. The source keeps its log from this file on. In
+-- the later world the receiver is off, and all else is as it was.
 pub record IsRefused (w : World) (n first : ℕ) (later : World) : Type 0 where
   pub replica : Server
   pub no : ServerNo
@@ -22,7 +22,7 @@ pub record IsRefused (w : World) (n first : ℕ) (later : World) : Type 0 where
   pub purged : replica.read.file < first
   pub left : later ≡ with_server w n (record replica { receiver = false })
 
--- server n logs, and its k-th transaction, from 0, is this one and stands in a file that its log keeps
+-- server n logs, and its k-th transaction, from 0, is this one and is in a file that its log keeps
 pub record IsLogged (w : World) (n k : ℕ) (t : Txn) : Type 0 where
   pub server : Server
   pub there : server_at w n ≡ Some server

@@ -32,10 +32,10 @@ pub use purging::{
 };
 pub use showing::shown_coordinates_have_places;
 
-/// A fetch and an apply keep a safe world safe, quiet or not. A write keeps it safe where the world after it is quiet:
-/// where no server with a source has accepted it, or any write before it. In each exchange with a safe world every
-/// server goes on, at an errant write too: its settings stay, what it had executed is a beginning of what it has
-/// executed afterwards, and each place of its log stays.
+/// A fetch and an apply keep a world `Safe`, with errant writes or without. A write keeps it `Safe` if no server with a
+/// source has accepted it, or any write before it. In each exchange with a `Safe` world every server goes on, at an
+/// errant write too. Its settings stay, what it had executed is a prefix of what it has executed afterwards, and each
+/// place of its log stays.
 pub fn each_exchange_keeps_safe()
     ensures write { (w : World) (n size : ℕ) → Safe w → 0 < size → IsQuiet (write w n size).1 → Safe (write w n size).1 }
     ensures fetch { (w : World) (n : ℕ) → Safe w → Safe (fetch w n).1 }
@@ -43,10 +43,10 @@ pub fn each_exchange_keeps_safe()
     ensures goes_on { (w : World) (e : Exchange) → Safe w → Allowed w e → Grows w (after w e) }
 {}
 
-/// What orchestrator asks of a server (STOP REPLICA, START REPLICA, RESET REPLICA ALL, read_only and the rest), what
-/// befalls a server, and FLUSH BINARY LOGS each keep a safe world safe, quiet or not. They write nothing: in any world
-/// every server goes on, with its settings, what it has executed and each place of its log, and no errant write is
-/// counted.
+/// Changes keep a world `Safe`, with errant writes or without. They are what orchestrator asks of a server (STOP
+/// REPLICA, START REPLICA, RESET REPLICA ALL, read_only and the rest), what happens to a server, and FLUSH BINARY LOGS.
+/// They write nothing. In any world every server goes on, with its settings, what it has executed and each place of its
+/// log. No errant write is counted.
 pub fn each_change_keeps_safe()
     ensures ask { (w : World) (n : ℕ) (a : Asked) → Safe w → Safe (ask w n a).1 }
     ensures befall { (w : World) (n : ℕ) (e : AnEvent) → Safe w → Safe (befall w n e) }
@@ -59,13 +59,14 @@ pub fn each_change_keeps_safe()
     ensures rotate_errant { (w : World) (n : ℕ) → (rotate w n).1.errant ≡ w.errant }
 {}
 
-/// An attachment to a coordinate with a place in its target's log keeps a safe world safe, quiet or not, where it leads
-/// a server that stands where it is expected to where its history ends: what the server executed is a beginning of what
-/// the target executed, and the coordinate is where that beginning ends. So it does where a replica is attached anew to
-/// its own source, at the coordinate at which it is expected there. An attachment by an observed set that is within
-/// what the new source has executed by now keeps it safe too: it comes only where the server has executed none but
-/// those, of kin histories a subset is a beginning, and the server goes on where that ends. An attachment writes
-/// nothing: in any world every server goes on, and no errant write is counted.
+/// An attachment to a coordinate with a place in its target's log keeps a world `Safe`, with errant writes or without.
+/// It must lead a server at the expected position to the end of its history. That is: what the server executed is a
+/// prefix of what the target executed, and the coordinate is the end of that prefix. It also keeps it if a replica is
+/// attached anew to its own source, at the coordinate at which it is expected there.
+///
+/// An attachment by an observed set that is within what the new source has executed by now keeps it `Safe` too. It
+/// comes only if the server has executed none except those. If histories agree a subset is a prefix, and the server
+/// goes on at its end. An attachment writes nothing: in any world every server goes on, and no errant write is counted.
 pub fn attachments_keep_safe()
     ensures safe { (w : World) (n : ℕ) (expect : ASpot) (to : ServerNo) (at : At) → Safe w → IsTarget w to.0 at → JoinsWell w (Attach n expect to at) → Safe (attach_at w n expect to at).1 }
     ensures same { (w : World) (n : ℕ) (m : ServerNo) (at : At) → Safe w → JoinsWell w (Attach n (spot.At m at) m at) }
@@ -76,9 +77,9 @@ pub fn attachments_keep_safe()
     ensures auto_errant { (w : World) (n : ℕ) (observed : List Interval) (to : ServerNo) → (attach_auto w n observed to).1.errant ≡ w.errant }
 {}
 
-/// Each state of a run of exchanges from a safe world is safe while it is quiet, where each attachment in it joins well
-/// in the world that it comes to. The count of errant writes never falls, so at a quiet end every earlier state was
-/// quiet and safe.
+/// Take a run of exchanges from a `Safe` world in which each attachment joins well in the world that it comes to. Each
+/// state of it is `Safe` while it has no errant writes. The count of errant writes never falls. So if the end has none,
+/// every earlier state had none and was `Safe`.
 pub fn quiet_runs_are_safe()
     ensures each { (w : World) (e : Exchange) → Safe w → Allowed w e → JoinsWell w e → IsQuiet (after w e) → Safe (after w e) }
     ensures end { (w : World) (es : List Exchange) → Safe w → AllAllowed w es → AllJoinWell w es → IsQuiet (run w es) → Safe (run w es) }
@@ -87,7 +88,7 @@ pub fn quiet_runs_are_safe()
     ensures earlier_safe { (w : World) (es : List Exchange) (k : ℕ) → Safe w → AllAllowed w es → AllJoinWell w es → IsQuiet (run w es) → Safe (run w (take k es)) }
 {}
 
-/// No history of a safe world holds a transaction twice: at two indices stand two transactions.
+/// No history of a `Safe` world has a transaction twice: at two indices are two transactions.
 pub fn no_transaction_twice()
     ensures { (w : World) (n i j : ℕ) (x y : ATxn) → Safe w → slice_get (histories w n) i ≡ Some x → slice_get (histories w n) j ≡ Some y → same_txn x y ≡ true → i ≡ j }
 {}
@@ -99,9 +100,9 @@ pub fn skipped_never_comes()
     ensures answer { (w : World) (n : ℕ) (to : At) → Safe w → (apply w n).0 ≢ answers.Skipped to }
 {}
 
-/// From a safe world whose servers have room for as many transactions as each has executed at most and one more for
-/// each write of the run, no exchange of the run finds a history full where the state before it is quiet. Where each
-/// server has room for as many new files as a run asks for, none of them finds a log full, in any run.
+/// Start from a `Safe` world whose servers have room for as many transactions as each has executed at most and one more
+/// for each write of the run. Then no exchange of the run finds a history full if the state before it has no errant
+/// writes. If each server has room for as many new files as a run asks for, none of them finds a log full, in any run.
 pub fn room_lasts()
     ensures histories { (room total : ℕ) (w : World) (es : List Exchange) (k : ℕ) (e : Exchange) → AllFit room total w → Safe w → AllAllowed w es → AllJoinWell w es → total + count_by is_write es ≤ room → slice_get es k ≡ Some e → IsQuiet (run w (take k es)) → IsNotFull (run w (take k es)) e }
     ensures files { (w : World) (es : List Exchange) (k n : ℕ) → HasFiles (count_by is_rotate es) w → slice_get es k ≡ Some (Rotate n) → (rotate (run w (take k es)) n).0 ≢ rotating.Full }

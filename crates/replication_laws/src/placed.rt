@@ -1,4 +1,4 @@
-//! What holds in every world of a run, quiet or not.
+//! What holds in every world of a run, with errant writes or without.
 
 ghost use Rattle.std.specs.Prelude.{◌≡◌, ℕ, ◌<◌, List, Some, Err, true, length, take};
 ghost use Rattle.replication_laws.specs.Prelude.{AllAllowed, Allowed, Coord as At, Exchange, Interval as Those, Placed, Safe, ServerNo};
@@ -7,10 +7,10 @@ ghost use Rattle.replication_laws.specs.Prelude.attaching;
 ghost use Rattle.replication_laws.specs.Below.{Reaches, IsReadyAt, IsReadyAuto};
 ghost use Rattle.replication_laws.specs.Growth.{Grows};
 
-/// Every exchange keeps a world placed, quiet or not: no server is below itself, every source is there and logs, and
-/// both coordinates of each server with a source have places in its source's log, the executed one not after the read
-/// one. With it every server goes on: its settings stay, what it had executed is a beginning of what it has executed
-/// afterwards, and each place of its log stays. So it is in each state of a run.
+/// Every exchange keeps `Placed` of a world, with errant writes or without. No server is below itself, and every source
+/// is there and logs. Both coordinates of each server with a source have places in its source's log, the executed one
+/// not after the read one. With it every server goes on. Its settings stay, what it had executed is a prefix of what it
+/// has executed afterwards, and each place of its log stays. So it is in each state of a run.
 pub fn each_exchange_keeps_placed()
     ensures placed { (w : World) (e : Exchange) → Placed w → Allowed w e → Placed (after w e) }
     ensures goes_on { (w : World) (e : Exchange) → Placed w → Allowed w e → Grows w (after w e) }
@@ -19,19 +19,19 @@ pub fn each_exchange_keeps_placed()
     ensures earlier { (w : World) (es : List Exchange) (k : ℕ) → Placed w → AllAllowed w es → Placed (run w (take k es)) }
 {}
 
-/// A safe world is placed.
+/// A `Safe` world has `Placed`.
 pub fn safe_worlds_are_placed()
     ensures { (w : World) → Safe w → Placed w }
 {}
 
-/// In a placed world no server is below itself: the chain of sources above it never comes back to it.
+/// In a world with `Placed` no server is below itself: the chain of sources above it never comes back to it.
 pub fn no_server_is_below_itself()
     ensures { (w : World) (n m : ℕ) → Placed w → sources w n ≡ Some m → Reaches (sources w) n m → ⊥ }
 {}
 
-/// In a placed world of some servers a walk up the sources, of as many steps as there are servers, meets a server
-/// exactly where it begins there or below it. So an attachment by a coordinate or by GTIDs answers Loop exactly where
-/// the new source is the server itself or below it, and no earlier fault comes.
+/// In a `Placed` world of some servers walk up the sources, as many steps as there are servers. The walk meets a server
+/// exactly if it begins there or below it. So an attachment by a coordinate or by GTIDs answers `Loop` exactly if the
+/// new source is the server itself or below it, and no earlier fault comes.
 pub fn loops_are_found()
     ensures met { (w : World) (n to : ℕ) → Placed w → 0 < length w.servers → chain_meets (sources w) (length w.servers) to n ≡ true → Reaches (sources w) n to }
     ensures missed { (w : World) (n to : ℕ) → Reaches (sources w) n to → chain_meets (sources w) (length w.servers) to n ≡ true }

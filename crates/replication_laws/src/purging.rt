@@ -12,17 +12,17 @@ ghost use Rattle.replication_laws.specs.Below.{Reaches, IsReadyAt, IsReadyAuto};
 ghost use Rattle.replication_laws.specs.Growth.{Grows};
 ghost use Rattle.replication_laws.specs.Purged.{IsActive, IsGone, IsLogged, IsRefused};
 
-/// A purge keeps a safe world safe, quiet or not. It writes nothing: in any world every server goes on, with its
-/// settings, what it has executed and each place of its log, and no errant write is counted.
+/// A purge keeps a world `Safe`, with errant writes or without. It writes nothing. In any world every server goes on,
+/// with its settings, what it has executed and each place of its log. No errant write is counted.
 pub fn purges_keep_safe()
     ensures safe { (w : World) (n file : ℕ) → Safe w → Safe (purge w n file).1 }
     ensures goes_on { (w : World) (n file : ℕ) → Grows w (purge w n file).1 }
     ensures errant { (w : World) (n file : ℕ) → (purge w n file).1.errant ≡ w.errant }
 {}
 
-/// A purge is done at a server that is up and logs, for each file up to the last. It changes the first kept file of its
-/// server alone, and tells it. That never falls; it passes neither the last file, nor the file that was named, nor one
-/// that an active replica reads: where it would, it stays. But for these it goes as far as it may.
+/// A purge is done at a server that is up and logs, for each file up to the last. It changes only the first kept file
+/// of its server, and answers it. That never falls. It passes neither the last file, nor the file that was named, nor
+/// one that an active replica reads: if it would, it stays. Except for these it goes as far as it may.
 pub fn purges_spare_what_is_read()
     ensures done { (w : World) (n file : ℕ) (s : AServer) → server_at w n ≡ Some s → s.up ≡ true →
         s.settings.logs ≡ true → file ≤ s.log.log.files →
@@ -48,8 +48,8 @@ pub fn purges_spare_what_is_read()
         (purge w no.0 file).0 ≡ purging.Done first → k ≤ first }
 {}
 
-/// A receiver reads from kept files alone. One that is to read a purged file is refused, where its source is up: it
-/// goes off, and nothing else changes.
+/// A receiver reads only from kept files. One that is to read a purged file is refused, if its source is up: it goes
+/// off, and nothing else changes.
 pub fn purged_files_are_not_read()
     ensures refused { (w : World) (n first : ℕ) → (fetch w n).0 ≡ fetching.Purged first →
         IsRefused w n first (fetch w n).1 }
@@ -64,10 +64,10 @@ pub fn purged_files_are_not_read()
         (fetch w n).0 ≡ fetching.Rotated to → s.first ≤ r.read.file }
 {}
 
-/// An attachment leads to a kept file of its new source: one by a coordinate to a coordinate there, and one by a set to
-/// one whose place is the length of the longest prefix of the source's log that the server's set holds. It answers
-/// Purged only where the coordinate's file is purged, or more is purged than that prefix, and there wherever no earlier
-/// fault comes; where it is so nothing changes.
+/// An attachment leads to a kept file of its new source. One by a coordinate leads to a coordinate there. One by a set
+/// leads to one whose place is the length of the longest prefix of the source's log that is in the server's set. It
+/// answers `Purged` only if the coordinate's file is purged, or more is purged than that prefix, and then whenever no
+/// earlier fault comes. If it is so nothing changes.
 pub fn attachments_go_to_kept_files()
     ensures kept { (w : World) (n : ℕ) (expect : ASpot) (to : ServerNo) (at : At) (s : AServer) →
         server_at w to.0 ≡ Some s → (attach_at w n expect to at).0 ≡ Ok tt → s.first ≤ at.file }
@@ -112,9 +112,9 @@ pub fn attachments_go_to_kept_files()
         (attach_auto w n observed to).1 ≡ w }
 {}
 
-/// In a placed world what is read of a log at an index is the transaction of that index, and it stands in a kept file;
-/// and each such transaction of a server within reach is read. Nothing is read there exactly where the server doesn't
-/// log, its history ends before the index, or the transaction's file is purged. A server out of reach isn't read.
+/// In a `Placed` world what is read of a log at an index is the transaction of that index. It is in a kept file. Each
+/// such transaction of a server within reach is read. Nothing is read there exactly if the server doesn't log, its
+/// history ends before the index, or the transaction's file is purged. A server out of reach isn't read.
 pub fn logs_are_read_where_kept()
     ensures kept { (w : World) (n k : ℕ) (t : ATxn) → Placed w → logged w n k ≡ Ok (Some t) →
         IsLogged w n k t }
@@ -129,9 +129,9 @@ pub fn logs_are_read_where_kept()
         can_reach (server_at w n) ≡ true }
 {}
 
-/// A status shows the first kept file. In a placed world the purged set that it shows of a server that logs has, where
-/// GTIDs are used, the GTIDs of the transactions in purged files and no others. It is empty without GTIDs. Without a
-/// log it is empty too, and the first kept file is 1.
+/// A status has the first kept file. In a `Placed` world look at the purged set that it has of a server that logs. If
+/// GTIDs are used, it is the GTIDs of the transactions in purged files and no others. It is empty without GTIDs.
+/// Without a log it is empty too, and the first kept file is 1.
 pub fn purged_sets_are_shown()
     ensures first { (w : World) (n : ℕ) (seen : Seen) (s : AServer) → shown w n ≡ Some seen →
         server_at w n ≡ Some s → seen.first ≡ s.first }

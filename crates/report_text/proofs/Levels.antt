@@ -1,9 +1,9 @@
--- Levels, counted from the front and from the back.
+-- Levels, counted from the first and from the last.
 use Rattle.std.proofs.Common.{◌≡◌, ℕ, ◌+◌, List, ◌++◌, zero, suc, refl, ◌∙◌, ap, append_assoc, add-one}
 use Rattle.std.specs.Prelude.{codes}
 use Rattle.report_text.specs.Told.{levels_text}
 
--- a level more behind the others is one before them
+-- a level more after the others is one before them
 level_behind : (k : ℕ) → levels_text k ++ codes "  " ≡ levels_text (suc k)
 level_behind zero = refl
 level_behind (suc k) = ap (λ (t : List ℕ). codes "  " ++ t) (level_behind k)

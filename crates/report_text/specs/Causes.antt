@@ -14,13 +14,13 @@ use Rattle.commands.specs.Causes.{cause_name}
 use Rattle.report_text.specs.Names.{name_text, given_text}
 use Rattle.report_text.specs.Words.{cause_name_text}
 
--- where a server stands
+-- the position of a server
 abbrev pub spot_text : List HostPort → Spot → List ℕ
 spot_text names (At source c) = name_text names source ++ codes " " ++ coord_text c
 spot_text names (OwnEnd c) = codes "end " ++ coord_text c
 spot_text names Nowhere = codes "nowhere"
 
--- expected SPOT found SPOT
+-- `expected SPOT found SPOT`
 abbrev pub spots_text : List HostPort → Spot → Spot → List ℕ
 spots_text names expected found =
     codes " expected " ++ spot_text names expected ++ codes " found " ++ spot_text names found
@@ -46,7 +46,7 @@ server_of (cause.NoMark n) = Some n
 server_of (cause.Mismatch n entry) = Some n
 server_of (cause.HookFailed number exit) = None
 
--- what else it speaks of, each value behind a space
+-- what else it speaks of, each value after a space
 abbrev pub details_text : List HostPort → Cause → List ℕ
 details_text names (cause.Unreachable n) = []
 details_text names (cause.WaitSpent n) = []

@@ -82,8 +82,8 @@ answer_text names answered.Released = codes "released"
 answer_text names answered.NotHeld = codes "not held"
 answer_text names answered.Lapsed = codes "lapsed"
 
--- whether a reply that stands alone has its own line, and the lines behind it: those of what is done, or of the hooks
--- of a recovery that failed
+-- whether a reply that is alone has its own line, and the lines after it: those of what is done, or of the hooks of a
+-- recovery that failed
 abbrev pub behind : Reply → Bool × List Line
 behind (answered.Write a) = (true, [])
 behind (answered.Fetch a) = (true, [])
@@ -110,7 +110,7 @@ behind answered.Released = (true, [])
 behind answered.NotHeld = (true, [])
 behind answered.Lapsed = (true, [])
 
--- N WORDS: REPLY, and the lines behind it, each after two spaces
+-- `N WORDS: REPLY`, and the lines after it, each after two spaces
 unfoldable pub line_text : List HostPort → ℕ → Turn → Reply → List ℕ
 line_text names number t r = decimal number ++ codes " " ++ words_text names t ++ codes ": " ++ answer_text names r ++ codes "\n" ++ told_lines (codes "  ") names (behind r).1
 
@@ -119,10 +119,10 @@ abbrev pub lines_text : List HostPort → ℕ → List (Turn × Reply) → List 
 lines_text names number [] = []
 lines_text names number (e ∷ es) = line_text names number e.0 e.1 ++ lines_text names (number + 1) es
 
--- the reply's own line, where it has one
+-- the reply's own line, if it has one
 abbrev pub own_text : List HostPort → Reply → Bool → List ℕ
 own_text names r own = if own then answer_text names r ++ codes "\n" else []
 
--- what a single command writes of its reply: the lines of what is done, else the reply and the lines behind it
+-- what a single command writes of its reply: the lines of what is done, else the reply and the lines after it
 unfoldable pub plain_text_of : List HostPort → Reply → List ℕ
 plain_text_of names r = own_text names r (behind r).0 ++ told_lines [] names (behind r).1

@@ -11,7 +11,7 @@ printed_at (Some name) = printed name
 abbrev pub name_text : List HostPort → ServerNo → List ℕ
 name_text names n = printed_at (slice_get names n.0)
 
--- a space and the name, where one is given
+-- a space and the name, if one is given
 abbrev pub given_text : List HostPort → Option ServerNo → List ℕ
 given_text names None = []
 given_text names (Some n) = codes " " ++ name_text names n

@@ -41,7 +41,7 @@ refusal_name (refused.Purged n first) = codes "Purged"
 refusal_name refused.PseudoOff = codes "PseudoOff"
 refusal_name (refused.MovedNotLogging n) = codes "MovedNotLogging"
 
--- what the refusal speaks of, each value behind a space
+-- what the refusal speaks of, each value after a space
 abbrev pub values_text : List HostPort → Refusal → List ℕ
 values_text names refused.UnknownInstance = []
 values_text names refused.SameInstance = []

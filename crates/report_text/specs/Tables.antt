@@ -22,7 +22,7 @@ up_text up = if up then codes "up" else codes "down"
 abbrev pub on_text : Bool → List ℕ
 on_text on = if on then codes "on" else codes "off"
 
--- where a log ends
+-- the end of a log
 abbrev pub end_text : Option Index → List ℕ
 end_text None = codes "none"
 end_text (Some index) = coord_text (end_of index.log)
@@ -42,7 +42,7 @@ places_text p = codes " at " ++ coord_text p.exec ++ codes " read " ++ coord_tex
 abbrev pub threads_text : Plain → List ℕ
 threads_text p = codes " io " ++ on_text p.receiver ++ codes " sql " ++ on_text p.applier ++ until_text p.until ++ auto_text p.auto
 
--- where a replica stands in its source's log
+-- the position of a replica in its source's log
 abbrev pub standing_text : Plain → List ℕ
 standing_text p = places_text p ++ threads_text p
 
@@ -50,7 +50,7 @@ abbrev pub name_text : Option Server → List ℕ
 name_text None = []
 name_text (Some s) = printed s.settings.name
 
--- none, or the source's name and where the replica stands in its log
+-- none, or the source's name and the replica's position in its log
 abbrev pub source_text : World → Plain → SourceState → List ℕ
 source_text w p Without = codes "none"
 source_text w p (Attached m) = name_text (server_at w m.0) ++ standing_text p
@@ -64,7 +64,7 @@ state_text name p = codes "server " ++ printed name ++ codes " " ++ up_text p.up
 abbrev pub log_text : ℕ → Option Index → List ℕ
 log_text executed log = codes " executed " ++ decimal executed ++ codes " end " ++ end_text log
 
--- the first kept file, where earlier ones are purged
+-- the first kept file, if earlier ones are purged
 abbrev pub purged_text : ℕ → List ℕ
 purged_text first = if nat_lt 1 first then codes " purged " ++ decimal first else []
 

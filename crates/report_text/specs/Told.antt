@@ -24,7 +24,7 @@ abbrev pub levels_text : ℕ → List ℕ
 levels_text zero = []
 levels_text (suc k) = codes "  " ++ levels_text k
 
--- what stands before an instance so far below its tree's root
+-- what is before an instance so far below its tree's root
 abbrev pub depth_text : ℕ → List ℕ
 depth_text zero = []
 depth_text (suc k) = levels_text k ++ codes "+ "
@@ -46,7 +46,7 @@ lost_text names lost.MustNot = codes " must not"
 abbrev pub detached_text : Bool → List ℕ
 detached_text detached = if detached then codes " detached" else []
 
--- two words, each with its number
+-- two names, each with its number
 abbrev pub two_text : List ℕ → ℕ → List ℕ → ℕ → List ℕ
 two_text first a second b = first ++ decimal a ++ (second ++ decimal b)
 
@@ -85,7 +85,7 @@ told_text names (line.Refused n code refusal) = named_text names n (code_text co
 told_text names (line.Hook phase text exit) = hook_text phase text exit
 told_text names (line.Unmatched n why) = name_text names n ++ codes " " ++ unnamed_text names why
 
--- each line behind an indentation
+-- each line after an indentation
 abbrev pub told_lines : List ℕ → List HostPort → List Line → List ℕ
 told_lines indent names [] = []
 told_lines indent names (l ∷ ls) = indent ++ told_text names l ++ codes "\n" ++ told_lines indent names ls

@@ -1,4 +1,4 @@
--- The words of turns.
+-- The names of turns.
 use Rattle.std.specs.Prelude.{ℕ, List, ◌++◌, codes, decimal}
 use Rattle.server_words.specs.OrchBase.Names.{HostPort}
 use Rattle.server_words.specs.OrchBase.declared.server.ServerNo.{ServerNo}
@@ -28,7 +28,7 @@ linked_text word names n link = word ++ name_text names n ++ codes " " ++ link_t
 abbrev pub poll_text : List HostPort → ℕ → ServerNo → List ℕ
 poll_text names poller n = codes "poll-read " ++ decimal poller ++ codes " " ++ name_text names n
 
--- what befalls a server
+-- what happens to a server
 abbrev pub step_text : List HostPort → Step → List ℕ
 step_text names (step.Write n size) = amount_text (codes "write ") names n size
 step_text names (step.Fetch n) = codes "fetch " ++ name_text names n

@@ -1,4 +1,4 @@
--- Words that stand for one value each.
+-- Names of one value each.
 use Rattle.std.specs.Prelude.{ℕ, Bool, List, codes, if◌then◌else◌}
 use Rattle.server_words.specs.OrchBase.declared.code.Code.{Code}
 use Rattle.server_words.specs.OrchBase.declared.code.Code.TheVariants as code
@@ -13,7 +13,7 @@ use Rattle.commands.specs.declared.line.HookPhase.TheVariants as phase
 use Rattle.commands.specs.declared.line.StateWord.{StateWord}
 use Rattle.commands.specs.declared.line.StateWord.TheVariants as state
 
--- how an instance stands
+-- the state of an instance
 abbrev pub state_text : StateWord → List ℕ
 state_text state.Ok = codes "ok"
 state_text state.Stopped = codes "stopped"

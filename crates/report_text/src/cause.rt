@@ -11,7 +11,7 @@ use crate::words::cause_name_word;
 use commands::Cause;
 use server_words::Spot;
 
-/// Where a server stands.
+/// The position of a server.
 pub(crate) fn print_spot(
     spot: Spot,
     names: &PrintedNames<'_>,
@@ -50,7 +50,7 @@ fn print_source(
     }
 }
 
-// expected SPOT found SPOT
+// `expected SPOT found SPOT`
 fn print_spots(
     expected: Spot,
     found: Spot,
@@ -85,7 +85,7 @@ fn server_of(cause: &Cause) -> Option<ServerNo>
     }
 }
 
-// What else it speaks of, each value behind a space.
+// What else it speaks of, each value after a space.
 fn print_details(cause: &Cause, names: &PrintedNames<'_>, out: &mut Vec<u8>) -> Result<(), Memory>
     ensures { OnOk result (out.new.items ≡ out.old.items ++ details_text names.now cause.now) }
 {

@@ -1,4 +1,4 @@
-//! The words of commands.
+//! The names of commands.
 
 ghost use Rattle.std.specs.Prelude.{◌≡◌, ◌++◌, OnOk};
 ghost use Rattle.report_text.specs.Commands.{command_text};
@@ -7,7 +7,7 @@ use crate::names::{PrintedNames, print_given};
 use crate::orch_base::Memory;
 use commands::Command;
 
-/// `command COMMAND`, then the instance and the destination where they are given.
+/// `command COMMAND`, then the instance and the destination if they are given.
 pub(crate) fn print_command(
     command: &Command,
     names: &PrintedNames<'_>,

@@ -1,4 +1,4 @@
-//! The bytes of replies and tables. What is named `print` appends, and at want of memory may leave a part behind.
+//! The bytes of replies and tables. What is named `print` appends. If memory runs out, a part may have been appended.
 #![tactic(auto)]
 
 mod cause;

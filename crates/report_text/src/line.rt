@@ -34,7 +34,7 @@ fn print_levels(levels: u32, out: &mut Vec<u8>) -> Result<(), Memory>
     Ok(())
 }
 
-// What stands before an instance so far below its tree's root: two spaces for each level but the first, and `+ `.
+// What is before an instance so far below its tree's root: two spaces for each level except the first, and `+ `.
 fn print_depth(depth: u32, out: &mut Vec<u8>) -> Result<(), Memory>
     ensures { OnOk result (out.new.items ≡ out.old.items ++ depth_text depth) }
 {
@@ -96,7 +96,7 @@ fn detached_word(detached: bool) -> &'static [u8]
     if detached { b" detached" } else { b"" }
 }
 
-// Two words, each with its number.
+// Two names, each with its number.
 fn print_two(first: &[u8], a: u32, second: &[u8], b: u32, out: &mut Vec<u8>) -> Result<(), Memory>
     ensures { OnOk result (out.new.items ≡ out.old.items ++ two_text first.now a second.now b) }
 {
@@ -213,7 +213,7 @@ fn print_told(line: &Line, names: &PrintedNames<'_>, out: &mut Vec<u8>) -> Resul
     }
 }
 
-// A line behind an indentation.
+// A line after an indentation.
 fn print_told_line(
     indent: &[u8],
     line: &Line,
@@ -227,7 +227,7 @@ fn print_told_line(
     out.extend_from_slice(b"\n")
 }
 
-/// Each line behind an indentation, with a newline byte.
+/// Each line after an indentation, with a newline byte.
 pub(crate) fn print_told_lines(
     indent: &[u8],
     lines: &[Line],

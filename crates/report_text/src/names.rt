@@ -26,7 +26,7 @@ impl<'a> Model for PrintedNames<'a> {
 }
 
 impl<'a> PrintedNames<'a> {
-    /// Prints each of these names, in order. `Memory` comes only for want of memory.
+    /// Prints each of these names, in order. `Memory` comes only if memory runs out.
     pub fn new(alloc: Global, names: &'a [Name]) -> Result<PrintedNames<'a>, Memory>
         ensures { IfOk result (λ p. p ≡ names.now) }
     {
@@ -67,7 +67,7 @@ pub(crate) fn print_at_server(
     print_name(names, no, out)
 }
 
-/// A space and the name, where one is given.
+/// A space and the name, if one is given.
 pub(crate) fn print_given(
     names: &PrintedNames<'_>,
     no: Option<ServerNo>,

@@ -47,7 +47,7 @@ fn name_word(refusal: &Refusal) -> &'static [u8]
     }
 }
 
-// What the refusal speaks of, each value behind a space.
+// What the refusal speaks of, each value after a space.
 fn print_values(
     refusal: &Refusal,
     names: &PrintedNames<'_>,

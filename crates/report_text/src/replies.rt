@@ -84,7 +84,7 @@ fn print_purge(answer: &PurgeAnswer, out: &mut Vec<u8>) -> Result<(), Memory>
     }
 }
 
-// The number between the words.
+// The number between the texts.
 fn print_between(before: &[u8], number: u64, after: &[u8], out: &mut Vec<u8>) -> Result<(), Memory>
     ensures { OnOk result (out.new.items ≡ out.old.items ++ (before.now ++ decimal number ++ after.now)) }
 {
@@ -132,8 +132,8 @@ fn print_answer(r: &Reply, names: &PrintedNames<'_>, out: &mut Vec<u8>) -> Resul
     }
 }
 
-// Whether a reply that stands alone has its own line, and the lines behind it: those of what is done, or of the hooks
-// of a recovery that failed.
+// Whether a reply that is alone has its own line, and the lines after it: those of what is done, or of the hooks of a
+// recovery that failed.
 fn behind(r: &Reply) -> (bool, &[Line])
     ensures own { result.0 ≡ (behind r.now).0 }
     ensures lines { result.1.now ≡ (behind r.now).1 }
@@ -185,9 +185,9 @@ fn print_line(
     print_told_lines(b"  ", behind(r).1, names, out)
 }
 
-/// Appends the line of a turn with its reply: the number, the turn's words, `: ` and the reply; and behind it the lines
-/// of what is done, or of the hooks of a recovery that failed, each after two spaces; or nothing at want of memory. A
-/// server has its name in `names` by its number.
+/// Appends the line of a turn with its reply: the number, the turn's text, `: ` and the reply. After it come the lines
+/// of what is done, or of the hooks of a recovery that failed, each after two spaces. If memory runs out, it appends
+/// nothing. A server has its name in `names` by its number.
 pub fn reply_text(
     number: u64,
     t: &Turn,
@@ -204,7 +204,7 @@ pub fn reply_text(
 }
 
 /// As `reply_text`, by names that are printed once for many lines. `line` is room for a line, which the caller keeps
-/// from one to the next: what it holds is lost.
+/// from one to the next: what it holds is lost. `Err` means out of memory.
 pub fn reply_text_by(
     number: u64,
     t: &Turn,
@@ -221,7 +221,7 @@ pub fn reply_text_by(
     out.extend_from_slice(line)
 }
 
-// The reply's own line, where it has one.
+// The reply's own line, if it has one.
 fn print_own(
     r: &Reply,
     own: bool,
@@ -247,7 +247,7 @@ fn print_plain(r: &Reply, names: &PrintedNames<'_>, out: &mut Vec<u8>) -> Result
 }
 
 /// Appends what a single command writes of its reply: the lines of one that is done, else the reply's own line and the
-/// lines behind it; or nothing at want of memory. A server has its name in `names` by its number.
+/// lines after it. If memory runs out, it appends nothing. A server has its name in `names` by its number.
 pub fn plain_text(r: &Reply, names: &[Name], out: &mut Vec<u8>) -> Result<(), Memory>
     ensures ok { OnOk result (out.new.items ≡ out.old.items ++ plain_text_of names.now r.now) }
     ensures err { OnErr result (out.new.items ≡ out.old.items) }

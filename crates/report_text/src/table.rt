@@ -218,9 +218,9 @@ fn print_tables(
     print_errant(world, out)
 }
 
-/// Appends a line for each server in the world's order, then these lines of recoveries, then a line for each of the
-/// unended jobs, given by their numbers, and then how many writes servers with a source accepted; or nothing at want of
-/// memory.
+/// Appends a line for each server in the world's order, then these lines of recoveries. Then comes a line for each of
+/// the unended jobs, given by their numbers, and then how many writes servers with a source accepted. If memory runs
+/// out, it appends nothing.
 pub fn tables(
     world: &World,
     recoveries: &[Line],

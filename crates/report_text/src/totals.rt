@@ -68,9 +68,9 @@ fn print_summary(
     print_errant(world, out)
 }
 
-/// Appends a line of the turns and of what was refused and failed, one of the transactions that all servers together
-/// have executed, one of the number of recoveries, and one of how many writes servers with a source accepted; or
-/// nothing at want of memory.
+/// Appends a line of the turns and of what was refused and failed, and one of the transactions that all servers
+/// together have executed. Then comes one of the number of recoveries, and one of how many writes servers with a source
+/// accepted. If memory runs out, it appends nothing.
 pub fn summary(
     tally: Tally,
     world: &World,

@@ -1,4 +1,4 @@
-//! The words of turns.
+//! The names of turns.
 
 ghost use Rattle.std.specs.Prelude.{◌≡◌, ◌++◌, OnOk};
 ghost use Rattle.report_text.specs.Turns.{act_text, amount_text, link_text, linked_text, poll_text, step_text, words_text};

@@ -1,4 +1,4 @@
-//! Words that stand for one value each.
+//! Names of one value each.
 
 ghost use Rattle.std.specs.Prelude.{◌≡◌};
 ghost use Rattle.report_text.specs.Words.{acked_text, cause_name_text, code_text, kind_text, mode_text, phase_text, rule_text, state_text};
@@ -6,7 +6,7 @@ ghost use Rattle.report_text.specs.Words.{acked_text, cause_name_text, code_text
 use crate::orch_base::{CauseName, Code, Kind, Rule};
 use commands::{HookPhase, StateWord};
 
-/// How an instance stands.
+/// The state of an instance.
 pub(crate) fn state_word(state: StateWord) -> &'static [u8]
     ensures { result.now ≡ state_text state }
 {

@@ -114,7 +114,7 @@ null_back {A} form w back d o e = by_kind d e
 
 -- ---- a list by its items
 
--- what stands at each number from this one on
+-- what is at each number from this one on
 abbrev pub Tells : ℕ → List Data → Items → Type 0
 Tells n [] ds = get_item n ds ≡ None
 Tells n (x ∷ xs) ds = (get_item n ds ≡ Some x) × Tells (suc n) xs ds
@@ -189,7 +189,7 @@ cell form w back n list ds x is e =
 pub no_cell : (n : ℕ) (list : Data) (ds : Items) (x : ⊤) → as_array list ≡ Some ds → end_at n list ≡ Ok x → get_item n ds ≡ None
 no_cell n list ds x is e = sym (at_list list ds n is) ∙ end_back n list x e
 
--- what stands at each number from this one on, whatever stands behind
+-- what is at each number from this one on, whatever is after
 abbrev pub Begins : ℕ → List Data → Items → Type 0
 Begins n [] ds = ⊤
 Begins n (x ∷ xs) ds = (get_item n ds ≡ Some x) × Begins (suc n) xs ds

@@ -1,4 +1,4 @@
--- What `parse` says of an id, and an id's text.
+-- What `parse` answers for an id, and an id's text.
 use Rattle.row_texts.proofs.Prelude.{OkIff, ParsesUnsigned, all_ascii_digits, and_parts as both, bytes_eq, decimal-digits_value, digits_decimal}
 use Rattle.row_texts.proofs.Prelude.{digits_value, digits_value-decimal, false≢true, first_decimal, id_printed, is_id, le-leb, leb-true, lt-ltb}
 use Rattle.row_texts.proofs.Prelude.{ltb-true, not_empty, own, parse_plain, result_ok, same_text}

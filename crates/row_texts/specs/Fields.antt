@@ -6,7 +6,7 @@ use Rattle.row_texts.specs.declared.fault.RowFault.TheVariants as fault
 use Rattle.row_texts.specs.declared.word.Outcome.{Outcome}
 use Rattle.row_texts.specs.Words.{coord_printed, id_printed, name_printed, named_among, outcome_printed, set_printed}
 
--- the fault that a text has, and nothing at want of memory
+-- the fault that a text has, and nothing if memory runs out
 abbrev pub fault_of : RowFault → Option RowFault
 fault_of fault.NotJson = Some fault.NotJson
 fault_of fault.BadVersion = Some fault.BadVersion
@@ -27,7 +27,7 @@ abbrev pub none_or : {A : Type 0} → RowFault → Option A → Result ⊤ RowFa
 none_or f None = Ok tt
 none_or f (Some x) = Err f
 
--- no field stands at this number
+-- no field is at this number
 unfoldable pub end_at : ℕ → Data → Result ⊤ RowFault
 end_at n list = none_or (fault.BadField n) (at n list)
 

@@ -52,8 +52,8 @@ second_tail list = do
 abbrev pub tail_at : ℕ → Data → Result (ℕ × List Interval) RowFault
 tail_at v list = if nat_eq v 1 then first_tail list else second_tail list
 
--- read, moment, valid, own end or null, the source's word and name, executed, read, auto, receiver, applier, read-only,
--- executed set, and from version 2 on the first kept file and the purged set
+-- Read, moment, valid, own end or null, the source's state and name, executed, read, auto, receiver, applier,
+-- read-only, executed set. From version 2 on also the first kept file and the purged set.
 unfoldable pub instance_at : ℕ → List HostPort → List ℕ → Data → Result Row RowFault
 instance_at v names key list = do
   number ← field_at whole_form 0 list

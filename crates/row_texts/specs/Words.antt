@@ -1,4 +1,4 @@
--- The words of kept rows, and what a text stands for: a word, or what is printed as this text.
+-- The names in kept rows, and what a text means: such a name, or what is printed as this text.
 use Rattle.std.specs.Prelude.{ℕ, ◌+◌, ◌^◌, ◌==◌, ◌&&◌, ◌||◌, ◌∷◌, ◌++◌, [], List, Bool, true, Option, Some, None, Result, Ok, Err, codes, find, length, nat_le, nat_lt, option_map, slice_index, if◌then◌else◌}
 use Rattle.row_texts.specs.Prelude.{CauseName, Coord, GtidFault, HostPort, Interval, IoState, Kind, NameFault, Rule, after_first, all_ascii_digits}
 use Rattle.row_texts.specs.Prelude.{before_first, bytes_eq, coord_at, digits_value, high, largest, list_all, low, name_at, position_or_len}
@@ -13,7 +13,7 @@ use Rattle.row_texts.specs.declared.word.Outcome.TheVariants as outcome
 use Rattle.row_texts.specs.declared.word.SourceWord.{SourceWord}
 use Rattle.row_texts.specs.declared.word.SourceWord.TheVariants as source
 
--- ---- words
+-- ---- names
 
 -- what is recovered
 abbrev pub kind_text : Kind → List ℕ
@@ -43,7 +43,7 @@ io_text io.No = codes "no"
 abbrev pub io_states : List IoState
 io_states = io.Yes ∷ io.Connecting ∷ io.No ∷ []
 
--- how a server stands to its source
+-- a server's state beside its source
 abbrev pub source_text : SourceWord → List ℕ
 source_text source.Without = codes "none"
 source_text source.Attached = codes "attached"
@@ -122,7 +122,7 @@ is_space b = b == 32
 abbrev pub word_of : List ℕ → List ℕ
 word_of s = before_first is_space s
 
--- behind the first space, if there is one
+-- after the first space, if there is one
 abbrev pub rest_of : List ℕ → Option (List ℕ)
 rest_of s = if nat_lt (position_or_len is_space s) (length s) then Some (after_first is_space s) else None
 

@@ -18,7 +18,7 @@ pub enum RowFault {
     BadKey,
     /// The key or a field names a server that isn't known.
     UnknownServer,
-    /// Want of memory.
+    /// Out of memory.
     Memory,
 }
 

@@ -207,7 +207,7 @@ pub(crate) fn source_at(
     }
 }
 
-/// Nothing, where no field stands at this number.
+/// Nothing, if no field is at this number.
 #[tactic(auto, unfolding(crate::specs::Fields::end_at))]
 pub(crate) fn end_at(list: &Value, at: usize) -> Result<(), RowFault>
     ensures { Gives (λ _. tt) fault_of result (end_at at (view list.now)) }

@@ -57,7 +57,7 @@ pub trait KeyText {
     /// The key's server has a name.
     ghost has_name: { List HostPort → Self → Type 0 };
 
-    /// Appends a printed name, an id in decimal, `global` or `active`, or nothing at want of memory. The names are
+    /// Appends a printed name, an id in decimal, `global` or `active`, or nothing if memory runs out. The names are
     /// those of the servers by number.
     fn text(&self, names: &[Name], out: &mut Vec<u8>) -> Result<(), Memory>
         requires { has_name names.now self.now };
@@ -104,7 +104,7 @@ pub(crate) fn key_id(key: &str) -> Result<u64, RowFault>
     }
 }
 
-/// Nothing, where the key is this word.
+/// Nothing, if the key is this name.
 pub(crate) fn key_word(word: &str, key: &str) -> Result<(), RowFault>
     ensures { Gives (λ _. tt) fault_of result (key_word word.now key.now) }
 {

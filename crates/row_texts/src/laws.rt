@@ -13,8 +13,8 @@ pub fn table_numbers_read()
     ensures { (t : Table) → table_at (table_number t) ≡ Some t }
 {}
 
-/// The texts that read as a row that a book can hold, in its table and at its key, are exactly those with the value
-/// that is written for it. An instance has one value more, of version 1, where its log keeps all files.
+/// The texts that read as a row that a book can have, in its table and at its key, are exactly those with the value
+/// that is written for it. An instance has one value more, of version 1, if its log keeps all files.
 pub fn texts_of_rows_read()
     ensures { (names : List HostPort) (r : Row) (text : List ℕ) →
         AreNames names → CanBeKept names r →

@@ -1,4 +1,4 @@
-//! Words, and what is printed as a text.
+//! Names, and what is printed as a text.
 
 ghost use Rattle.std.specs.Prelude.{◌≡◌, ◌||◌, IfOk, codes, find, nat_le, option_copied, option_map, slice_index};
 ghost use Rattle.row_texts.specs.Prelude.{bytes_eq};
@@ -8,7 +8,7 @@ use crate::gtid_sets::{GtidFault, GtidSet};
 use crate::orch_base::{CauseName, IoState, Kind, Memory, Name, NameFault, Rule};
 use std::alloc::Global;
 
-/// What one word stands for.
+/// What one name means.
 pub(crate) trait Word: Copy {
     ghost use Rattle.std.specs.Prelude.{ℕ, List};
 
@@ -78,7 +78,7 @@ impl Word for CauseName {
     }
 }
 
-/// How a server stands to its source.
+/// A server's state beside its source.
 #[derive(Clone, Copy)]
 pub enum SourceWord {
     Without,
@@ -190,7 +190,7 @@ pub(crate) fn id_printed(text: &str) -> Option<u64>
     text.parse::<u64>().ok()
 }
 
-/// The text before the first space, and the text behind it.
+/// The text before the first space, and the text after it.
 pub(crate) fn parts(text: &str) -> (&str, Option<&str>)
     ensures word { result.0.now ≡ word_of text.now }
     ensures rest { option_map (λ s. s.now) result.1 ≡ rest_of text.now }
@@ -220,7 +220,7 @@ fn cause_named(text: &str) -> Option<CauseName>
     named_among(&causes, text)
 }
 
-/// How a recovery ended, by its word and what stands behind the space.
+/// How a recovery ended, by its name and what is after the space.
 pub(crate) fn outcome_of(
     alloc: Global,
     word: &str,

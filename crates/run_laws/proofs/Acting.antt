@@ -1,10 +1,10 @@
 -- Turns of one of several orchestrators are those of a single one, and a claim that passes is a restart.
-use Rattle.std.proofs.Common.{◌≡◌, ◌≢◌, ◌∙◌, ◌⊎◌, ℕ, ◌+◌, ◌<◌, Bool, true, false, List, [], ◌++◌, Option, Some, None, refl, sym, ap, inl, inr}
+use Rattle.std.proofs.Common.{◌≡◌, ◌∙◌, ◌⊎◌, ℕ, ◌+◌, Bool, true, false, List, ◌++◌, Option, Some, None, refl, sym, ap, inl, inr}
 use Rattle.std.specs.Prelude.{not, ◌==◌, ◌&&◌, if◌then◌else◌, nat_lt}
-use Rattle.run_laws.proofs.Prelude.{Act, ActiveActAlike, Change, ClaimAnswer, ClaimState, HeldLastAMinute, IsRestartAndClaim, LapsedKeepNothing}
-use Rattle.run_laws.proofs.Prelude.{Moment, PassingRestarts, RenewingClaimsAlone, Row, State, TakenChangeNothing, act_claimed, act_in, acts, after_act}
+use Rattle.run_laws.proofs.Prelude.{Act, ActiveActAlike, ClaimAnswer, ClaimState, HeldLastAMinute, IsRestartAndClaim, LapsedKeepNothing}
+use Rattle.run_laws.proofs.Prelude.{Moment, PassingRestarts, RenewingClaimsAlone, Row, State, TakenChangeNothing, act_claimed, act_in, after_act}
 use Rattle.run_laws.proofs.Prelude.{after_done, claim_changes, claim_changes_by, claim_reply, claimed, claims_after, done_changes, done_reply}
-use Rattle.run_laws.proofs.Prelude.{eq-eqb, holder_by, passes_to, reply_of, step, with_claims}
+use Rattle.run_laws.proofs.Prelude.{eq-eqb, holder_by, passes_to, with_claims}
 use Rattle.run_laws.proofs.Prelude.act
 use Rattle.run_laws.proofs.Prelude.answered
 use Rattle.run_laws.proofs.Prelude.claim
@@ -55,7 +55,7 @@ held-minute s node now until = go s.kept
 pub held-last : (s : State) → HeldLastAMinute s
 held-last s node until held = held-minute s.claims node s.moment until (held-answer (claimed s node) until held)
 
--- what orchestrator does where this is its turn's
+-- what orchestrator does if this is its turn's
 restart-claim : (s : State) (node : ℕ) → act_in s (turn.Claim node) ≡ Some act.Restart → IsRestartAndClaim s node
 restart-claim s node does = record {
   state = λ rows. ap (λ (o : Option Act). with_claims s (turn.Claim node) (after_done rows s o)) does;
@@ -68,7 +68,7 @@ passing-is-restart s node last until held holder differs =
     let passes : passes_to s.last_holder node ≡ true = ap (λ (o : Option ℕ). passes_to o node) holder ∙ passes-on last node differs in
     restart-claim s node (ap (act_claimed s.last_holder node) answer ∙ ap (λ (b : Bool). if b then Some act.Restart else None) passes)
 
--- it doesn't pass to the node that held the last
+-- it doesn't pass to the node that had the last
 stays-there : (o : Option ℕ) (node : ℕ) → (o ≡ None) ⊎ (o ≡ Some node) → passes_to o node ≡ false
 stays-there o node (inl none) = ap (λ (x : Option ℕ). passes_to x node) none
 stays-there o node (inr same) = ap (λ (x : Option ℕ). passes_to x node) same ∙ ap not (eq-eqb node node refl)

@@ -54,7 +54,7 @@ no-takeover : (o : Option ServerNo) → is_takeover (purpose_by o) ≡ false
 no-takeover None = refl
 no-takeover (Some s) = refl
 
--- whatever hooks are told of it
+-- whatever values its hooks get
 module _ (k : Configuration) (b : BookState) where
   with-told-about : (x : RecoveryBegins) → IsAbout b x → IsAbout b (with_told k b x)
   with-told-about x about = record { failed = about.failed; cluster = about.cluster; purpose = about.purpose }

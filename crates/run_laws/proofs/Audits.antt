@@ -142,7 +142,7 @@ module _ (count : ℕ) (few : count < 2 ^ 32) (rows : List Row) (k : Knowledge) 
   follow-decided (Ok permit) d fits = follow-effect d.effect fits
   follow-decided (Err r) d fits = follow
 
-  -- a recovery that begins, where nothing refuses it
+  -- a recovery that begins, if nothing refuses it
   follow-try : (s : State) (o : Option Refusal) (x : RecoveryBegins) → x.entry.id ≡ a.next → x.entry.block ≤ longest_block → (updated k (recovery_begun (numbers_of s) (told_try s.configuration s.book (unless_refused o x))).book).audit.next ≤ 2 ^ 64
       → FollowsOutcome count rows k (recovery_begun (numbers_of s) (told_try s.configuration s.book (unless_refused o x)))
   follow-try s None x next short most = follow-entry count rows a x.entry next short follow most

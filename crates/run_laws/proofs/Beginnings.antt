@@ -1,4 +1,4 @@
--- What begins with a turn can begin, at its moment, and is apart.
+-- What begins with a turn can begin, at its moment, and doesn't overlap.
 use Rattle.std.proofs.Common.{◌≡◌, ◌∙◌, ℕ, ◌+◌, ◌<◌, ◌≤◌, ◌^◌, true, List, [], ◌∷◌, length, refl, sym, ap, subst, Option, Some, None, Result, Ok, Err, arith}
 use Rattle.std.specs.Prelude.{All, IfSome}
 use Rattle.run_laws.proofs.Prelude.{Act, All-cons, All-map, All-nil, All-weaker, Attempt, AuditState, BeginApartInTurn, BeginInTurn}
@@ -84,7 +84,7 @@ turn-can count s (turn.As node a) ready is = done-can count s (act_in s (turn.As
 turn-can count s (turn.Claim node) ready is = done-can count s (act_in s (turn.Claim node)) ready (act-fits count s (turn.Claim node) is)
 turn-can count s _ ready is = tt
 
--- ---- and apart, at the moment of the turn
+-- ---- and without overlap, at the moment of the turn
 
 abbrev Apart : State → List RecoveryBegins → Type 0
 Apart s xs = BeginApartInTurn (record { 0 = s.moment }) s.audit (entries_of xs)
@@ -191,7 +191,7 @@ module _ (now : Moment) where
   began-then a [] each = All-nil (λ (x : RecoveryBegins). x.entry.begun ≡ now)
   began-then a (x ∷ xs) each = All-cons (λ (y : RecoveryBegins). y.entry.begun ≡ now) x xs each.0.moment (began-then (begun a x.entry) xs each.1)
 
--- ids in their type's range, where the next one after the turn is
+-- ids in their type's range, if the next one after the turn is
 pub small-ids : (s : State) (t : Turn) → (audit_after s.audit (recoveries_begun s t)).next ≤ 2 ^ 64 → All (λ r. r.id < 2 ^ 64) (entries_begun s t)
 small-ids s t most =
     All-weaker (λ (r : KeptRecovery). r.id < (audit_after s.audit (recoveries_begun s t)).next) (λ r. r.id < 2 ^ 64) (λ r less. omega (arith, less, most)) (entries_begun s t)

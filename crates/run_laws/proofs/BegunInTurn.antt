@@ -36,7 +36,7 @@ module _ (count : ℕ) where
       go true e any rest = subst (λ (m : ℕ). m < count) (eqb-true k.0 n e) (All-head IsThere k ks all)
       go false e any rest = rest any
 
-  -- who is to be promoted from the beginning is there
+  -- who is to be promoted from the start is there
   source-there : (list : List ServerNo) (u : Purpose) (f : ServerNo) → All IsThere list → IsListOf (IsListed list) (λ n. n < count) u f → IfSome (first_source u) IsThere
   source-there list purpose.Regroup f all h = tt
   source-there list purpose.Master f all h = tt

@@ -152,7 +152,7 @@ module _ (count : ℕ) (rows : List Row) (s : State) (is : IsClaimRow count (row
   stayed : (cs : List Change) (now : Option (ℕ × Moment)) → All IsAside cs → now ≡ s.claims.kept → IsClaimRow count (row_in (changed rows cs) claim_key) now
   stayed cs now aside same = subst (λ (k : Option (ℕ × Moment)). IsClaimRow count (row_in (changed rows cs) claim_key) k) (sym same) (subst (λ (x : Option Row). IsClaimRow count x s.claims.kept) (sym (aside-stays rows cs aside)) is)
 
-  -- and behind these the claim's own
+  -- and after these the claim's own
   behind : (cs ds : List Change) → All IsAside cs → row_in (changed rows (cs ++ ds)) claim_key ≡ fold (row_after claim_key) (row_in rows claim_key) ds
   behind cs ds aside =
       row_in-changed rows (cs ++ ds) claim_key

@@ -104,7 +104,7 @@ module _ (now : Moment) (id : ℕ) (e : Ending) where
       ap (λ (b : Bool). cond b (x ∷ filter is-its xs) (filter is-its xs)) (All-head (λ (r : Recovery). is-its r ≡ false) x xs none)
       ∙ none-its xs (All-tail (λ (r : Recovery). is-its r ≡ false) x xs none)
 
-  -- where ids rise, at most one has it
+  -- if ids rise, at most one has it
   one-its : (xs : List Recovery) → AllPairs (λ x y. x.id < y.id) xs → filter is-its xs ≡ option_to_list (find is-its xs)
   one-its [] rising = refl
   one-its (x ∷ xs) rising = go (x.id == id) refl (one-its xs (pairs_tail (λ (x y : Recovery). x.id < y.id) x xs rising))
@@ -135,7 +135,7 @@ module _ (now : Moment) (id : ℕ) (e : Ending) where
       (subst (λ (cs : List Change). FollowAudit count (changed rows cs) (record a { recoveries = map (ended_in now id e acked) a.recoveries })) (put-one a acked follow.audit.rising)
       (FollowAudit-mapped (ended_in now id e acked) (in-id acked) (in-block acked) is-its (λ r off. ap (λ (b : Bool). if b then ended_as now e acked r else r) off) count rows a follow))
 
-  -- an audit stays apart
+  -- recoveries of an audit stay not overlapping
   pub end-apart : (a : AuditState) (acked : Bool) → is_open e ≡ false → IsApart a → IsApart (ended_with a now id e acked)
   end-apart a true closes apart = acknowledged_at-apart (ended a id now e) id (ended-apart a id now e closes apart)
   end-apart a false closes apart = ended-apart a id now e closes apart

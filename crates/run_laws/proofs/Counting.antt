@@ -1,4 +1,4 @@
--- In every state of a run the audit is apart, and each of its recoveries counts at a restart.
+-- In every state of a run the audit's recoveries don't overlap, and each of them counts at a restart.
 use Rattle.std.proofs.Common.{◌≡◌, ◌∙◌, ℕ, ◌<◌, ◌≤◌, Bool, true, false, leb, List, [], ◌∷◌, get_or, length, map, refl, sym, ap, subst, inl, inr, Option, arith, Some, None}
 use Rattle.std.specs.Prelude.{All, ◌==◌, ◌&&◌, nat_lt, if◌then◌else◌, IfSome}
 use Rattle.run_laws.proofs.Prelude.{Act, All-head, All-map, All-push, All-tail, All-weaker, AuditState, BeginApartInTurn, BeginInTurn, Begins}
@@ -125,7 +125,7 @@ done-moment : (rows : List Row) (s : State) (o : Option Act) → s.moment ≤ gr
 done-moment rows s None most = most
 done-moment rows s (Some a) most = act-moment rows s a most
 
--- time stands still at the end of its range
+-- the moment never passes the end of its range
 pub moment-stays : (rows : List Row) (s : State) (t : Turn) → s.moment ≤ greatest → (step rows s t).moment ≤ greatest
 moment-stays rows s (turn.Step x) most = most
 moment-stays rows s (turn.Tick seconds) most = later-most s.moment seconds

@@ -9,7 +9,7 @@ use Rattle.run_laws.proofs.Prelude.kept_row as row
 use Rattle.run_laws.proofs.Prelude.key
 use Rattle.run_laws.proofs.Prelude.table
 
--- where the recovery of an id stands
+-- the index of an id's recovery
 abbrev at : ℕ → ℕ
 at id = sort_key table.Recovery (key.Id id)
 
@@ -28,7 +28,7 @@ stands-at (r ∷ rows) p x h = go (sort_key_of r == p) refl h (stands-at rows p 
     go true is h rest = let same : r ≡ x = cc in subst (λ y. sort_key_of y ≡ p) same (eqb-true (sort_key_of r) p is)
     go false is h rest = rest h
 
--- where the last id that counts goes on, only what has that id counts, too
+-- if the last id that counts goes on, only what has that id counts, too
 leb-on : (m n : ℕ) → m ≢ n → leb m (n - 1) ≡ false → leb m n ≡ false
 leb-on m n other off = go (leb m n) refl (cases_lt m n)
   where

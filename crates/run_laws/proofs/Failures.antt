@@ -1,4 +1,4 @@
--- A plan's job fails for what befell the operation that was due.
+-- A plan's job fails for what happened to the operation that was due.
 use Rattle.std.proofs.Common.{◌≡◌, ◌∙◌, ℕ, List, [], ◌∷◌, refl, sym, ap, subst, Option, Some, None}
 use Rattle.run_laws.proofs.Prelude.{All-found, Befell, Begins as RecoveryBegins, BegunJob, BookState, ByBridges, ByMatches, Cause, Command, Failure}
 use Rattle.run_laws.proofs.Prelude.{IsBefallen, IsReady, Job, JobStep, Line, Means, Moment, Op, Planner, PlansAreDone, PlansFailForWhatBefell, Ready}

@@ -1,4 +1,4 @@
--- Each turn of a run is its passages.
+-- Each turn of a run is its `Passage`s.
 use Rattle.std.proofs.Common.{◌≡◌, ◌∙◌, ℕ, Bool, true, false, List, [], ◌∷◌, length, refl, sym, ap, Option, Some, None, zero, suc}
 use Rattle.std.specs.Prelude.{is_some, map, nat_lt, not, replicate, slice_index_or, slice_set, if◌then◌else◌, IfSome}
 use Rattle.run_laws.proofs.Prelude.{Act, AllMayPass, BookState, Bridge, Exchange, Flight, Instance, IsAct, IsTurn, Job, JobStep, Observation, Ready}
@@ -35,7 +35,7 @@ leases-stored b (Some o) = over (instance_at b o.no)
         go true = refl
         go false = refl
 
--- a flight with these bridges
+-- a `Flight` with these bridges
 abbrev with_rings : Flight → List (List Bridge) → Flight
 with_rings f rings = record f { rings = rings }
 
@@ -88,7 +88,7 @@ module _ (s : State) (id : ℕ) where
       ∙ (ap (λ (js : List Job). record (flight_of s) { world = run s.world es; rings = (stored s.book o).rings; jobs = js; leases = no_longer (leases_of s.book.leases) id }) (cores-without s.jobs id)
       ∙ stored-flown (record (flight_of s) { world = run s.world es; jobs = without_core (map core_of s.jobs) id; leases = no_longer (leases_of s.book.leases) id }) s.book o))
 
-  -- a recovery's core, where it goes on
+  -- a recovery's core, if it goes on
   core-going : (r : Recovery) (going : Bool) → going ≡ true → r.core ≡ core_by id r going
   core-going r true h = refl
   core-going r false h = absurd (false≢true h)

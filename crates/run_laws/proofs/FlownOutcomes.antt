@@ -1,4 +1,4 @@
--- A command or a scan leaves what its passages leave.
+-- A command or a scan leaves what its `Passage`s leave.
 use Rattle.std.proofs.Common.{◌≡◌, ◌∙◌, ℕ, ◌+◌, ◌<◌, ◌≤◌, Bool, true, false, List, [], ◌∷◌, ◌++◌, length, refl, sym, ap, subst, Option, Some, None, Result, Ok, Err}
 use Rattle.std.specs.Prelude.{All, ◌&&◌, ◌==◌, is_some, map, nat_lt, not, if◌then◌else◌}
 use Rattle.run_laws.proofs.Prelude.{AllMayPass, AllPassWell, AreShort, Asks, AuditState, BeginInTurn, Begins as RecoveryBegins, BookState, Bridge}
@@ -45,12 +45,12 @@ use Rattle.run_laws.proofs.Routed.{matched-regroups-only, regroups-only}
 use Rattle.run_laws.proofs.Listing.{listed-behind}
 use Rattle.run_laws.proofs.Recoveries.{recoveries-flown, recoveries-held, recoveries-may, recoveries-sound, recoveries-well}
 
--- what an outcome makes of a flight
+-- what an outcome makes of a `Flight`
 abbrev flight_with : State → Outcome → Flight
 flight_with s o = record (flight_of s) { rings = (updated (known_of s) o.book).book.rings; jobs = map core_of (updated (known_of s) o.book).jobs; leases = leases_of (updated (known_of s) o.book).book.leases }
 
--- an outcome leaves what the passages leave, each of which may pass, and passes well; and all that goes on beside stays
--- held, and sound where it is
+-- An outcome leaves what the `Passage`s leave, each of which may happen, and happens well. All that goes on beside
+-- keeps `Held`, and `Sound` if it has it.
 pub record Leaves (s : State) (ps : List Passage) (o : Outcome) : Type 0 where
   pub flown : flight_with s o ≡ passing (flight_of s) ps
   pub may : AllMayPass (flight_of s) ps
@@ -68,7 +68,7 @@ added-leases : (b : BookState) (o : Observation) (x : Option Seen) → (added_ov
 added-leases b o None = refl
 added-leases b o (Some seen) = refl
 
--- a flight with the bridges and leases of a book
+-- a `Flight` with the bridges and leases of a book
 abbrev pub kept_in : Flight → List (List Bridge) → List (Option ℕ) → Flight
 kept_in f rings leases = record f { rings = rings; leases = leases_of leases }
 

@@ -37,7 +37,7 @@ abbrev Rising : ℕ → List ℕ → Type 0
 Rising low [] = Unit {0}
 Rising low (x ∷ xs) = (low < x) × Rising x xs
 
--- all but this one
+-- all except this one
 abbrev others : ℕ → List ℕ → List ℕ
 others e xs = filter (λ n. not (n == e)) xs
 
@@ -392,7 +392,7 @@ module _ (low count : ℕ) (s : State) (id : ℕ) (ready : IsReckoned count s) (
   by-entry r next d after e (step.Failed c lines) found entry kept number =
       drops (unended.Recovery r d) e (ending.Failed (cause_name c)) false (ending-closed next (step.Failed c lines) (ending.Failed (cause_name c)) refl) found entry
 
-  -- by the docket's entry
+  -- by the entry of its `Docket`
   abbrev Pairs : Hooked → Option ℕ → Type 0
   Pairs h o =
       ArePaired low (closed_by s.audit now (closing_for h.taken.recovery h.taken.step o))

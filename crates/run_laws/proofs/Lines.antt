@@ -20,7 +20,7 @@ counted last (e ∷ es) (x ∷ xs) (l ∷ ls) (inl (begun, rest)) =
     omega (arith, from, more)
 counted last (e ∷ es) (x ∷ xs) (l ∷ ls) (inr (refused, rest)) = counted last es (x ∷ xs) ls rest
 
--- what is told of tries
+-- the lines of tries
 told-of : (s : Scan) (at : Left) (es : List Entry) (xs : List Begins) (ls : List Line) → AreTries s at es xs ls → AreLinesOf at.last es xs ls
 told-of s at [] [] [] are = tt
 told-of s at [] [] (l ∷ ls) are = absurd are

@@ -3,7 +3,7 @@ use Rattle.std.proofs.Common.{◌≡◌, Bool, true, false, List, [], ◌∷◌,
 use Rattle.std.specs.Prelude.{All, ◌||◌, ◌==◌}
 use Rattle.run_laws.proofs.Prelude.{All-cons, All-head, All-nil, All-tail, IsListed, ServerNo, eq-eqb, list_any}
 
--- servers are of their own list, whatever stands before it
+-- servers are of their own list, whatever is before it
 listed-more : (ns list : List ServerNo) (k : ServerNo) → All (λ n. IsListed list n.0) ns → All (λ n. IsListed (k ∷ list) n.0) ns
 listed-more [] list k all = All-nil (λ n. IsListed (k ∷ list) n.0)
 listed-more (n ∷ ns) list k all =

@@ -1,4 +1,4 @@
--- Matches of logs, in the quiet states of runs.
+-- Matches of logs, in the states of runs without errant writes.
 use Rattle.std.proofs.Common.{◌≡◌, ℕ, List, [], ◌∷◌, map, Ok}
 use Rattle.std.specs.Prelude.{All}
 use Rattle.run_laws.proofs.Prelude.{All-cons, All-head, All-nil, All-tail, All-weaker, AllMeet, Coord, EndsAt, EndsStill, Job, Meets, Safe, ServerNo}

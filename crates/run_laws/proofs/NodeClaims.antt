@@ -161,7 +161,7 @@ passing-restarts s t rows node last until is e holder differs =
 pub passing-drops : (s : State) (t : Turn) → PassingLeavesNoJob s t
 passing-drops s t rows node last until is e holder differs = ap (λ (x : State). x.jobs) (passing-restarts s t rows node last until is e holder differs)
 
--- ---- jobs that were begun since
+-- ---- jobs that were begun later
 
 all-above : (low : ℕ) (jobs : List Unended) (high : ℕ) → Rise low jobs high → All (λ j. low < number_of j) jobs
 all-above low jobs high rise = λ k d less. above low jobs high k d rise less

@@ -1,4 +1,4 @@
--- Recoveries begin apart in every state of a run, with the block periods of the scenario.
+-- Recoveries begin without overlap in every state of a run, with the block periods of the scenario.
 use Rattle.std.proofs.Common.{◌≡◌, List, subst}
 use Rattle.std.specs.Prelude.{All}
 use Rattle.run_laws.proofs.Prelude.{All-map, BeginApartInTurn, Begins, ComesTo, Configuration, Recovery, Row, Scenario, State, Turn, entries_begun}

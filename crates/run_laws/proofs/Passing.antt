@@ -1,5 +1,5 @@
--- Each passage of a turn may pass in a held state, and passes well in a sound one; so each turn leaves a state held,
--- and sound where it is.
+-- Each `Passage` of a turn may happen in a state with `Held`, and happens well in one with `Sound`. So each turn leaves
+-- a state with `Held`, and with `Sound` if it had it.
 use Rattle.std.proofs.Common.{ℕ, Bool, true, false, List, [], ◌∷◌, refl, sym, ap, subst, Option, Some, None}
 use Rattle.std.specs.Prelude.{is_some, if◌then◌else◌, IfSome}
 use Rattle.run_laws.proofs.Prelude.{Act, AllMayPass, Allowed-step, AllPassWell, Flight, HeldJobs, HeldState, IsAct, IsQuiet, IsStep, IsTurn, MayPass}
@@ -47,7 +47,7 @@ module _ (s : State) (p : ℕ) (n : ServerNo) where
   poll-sound held sound true quiet = apart-sound (flight_of s) s.jobs (pass.Polling p n (next_count s.reads) (moment_at s)) tt tt quiet held sound
   poll-sound held sound false quiet = sound
 
--- ---- what befalls a server
+-- ---- what happens to a server
 
 pub step-may : (count : ℕ) (f : Flight) (x : Step) → IsStep count x → MayPass f (pass.Exchanging (exchange_of x))
 step-may count f x is = let fit = Allowed-step count f.world x is in (fit.0.0, fit.1.0)
@@ -94,7 +94,7 @@ pass-well count s (turn.As node a) ready held sound is = done-well count s (act_
 pass-well count s (turn.Claim node) ready held sound is = done-well count s (act_in s (turn.Claim node)) ready held sound (act-fits count s (turn.Claim node) is)
 pass-well count s (turn.Release node) ready held sound is = tt
 
--- what a turn leaves, by its passages
+-- what a turn leaves, by its `Passage`s
 act-held : (count : ℕ) (rows : List Row) (s : State) (a : Act) → Ready count s → HeldState s → IsAct count a → HeldJobs (passing (flight_of s) (act_passages s a)) (after_act rows s a).jobs
 act-held count rows s (act.PollRead p n) ready held is = poll-held s p n held (is_some (instance_at s.book n))
 act-held count rows s (act.PollStore p) ready held is = apart-held (flight_of s) s.jobs (pass.Storing p (takes s.book (slot_at s p))) tt tt held

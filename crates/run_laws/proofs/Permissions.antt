@@ -176,7 +176,7 @@ record LeavesJob (s : State) (x : BegunJob) (o : Outcome) : Type 0 where
   audit : (updated (known_of s) o.book).audit ≡ with_entry s.audit x.entry
   rows : o.rows ≡ entry_kept x.entry
 
--- where none begins, the outcome doesn't answer so
+-- if none begins, the outcome doesn't answer so
 abbrev LeavesBegun : State → Option BegunJob → Outcome → Type 0
 LeavesBegun s None o = (id : ℕ) → o.reply ≡ answered.Begun id → ⊥
 LeavesBegun s (Some x) o = LeavesJob s x o
@@ -184,7 +184,7 @@ LeavesBegun s (Some x) o = LeavesJob s x o
 refusal_begins : (reads : ℕ) (r : Refusal) (id : ℕ) → (refusal reads r).reply ≡ answered.Begun id → ⊥
 refusal_begins reads r id begun = cc
 
--- nor where it tells lines
+-- nor if it has lines
 told_begins : (reads : ℕ) (r : Option Refusal) (o : Outcome) → Answers reads IsTold r o → (id : ℕ) → o.reply ≡ answered.Begun id → ⊥
 told_begins reads None o answers id begun = let told : answered.Begun id ≡ answered.Told answers.answer.0 = sym begun ∙ answers.answer.1 in cc
 told_begins reads (Some why) o answers id begun = let refused : answered.Begun id ≡ answered.Refused why = sym begun ∙ answers.answer in cc

@@ -141,7 +141,7 @@ turn-plain w read now j = go j.ops
 append-plain : (es fs : List Exchange) → All IsPlain es → All IsPlain fs → All IsPlain (es ++ fs)
 append-plain es fs one other = All-append IsPlain es fs one other
 
--- what is made beside an operation, where a recovery goes its way back
+-- what is made beside an operation, if a recovery goes its way back
 back-plain : (w : World) (o : Option Exchange) → ((e : Exchange) → o ≡ Some e → IsPlain e) → All IsPlain (taking.that_can w o)
 back-plain w None plain = All-nil IsPlain
 back-plain w (Some e) plain = go (can_attach w e)

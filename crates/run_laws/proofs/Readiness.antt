@@ -111,7 +111,7 @@ module _ (count : ℕ) (s : State) (id : ℕ) (ready : Ready count s) where
 
 -- ---- a poll
 
--- a slot's reading is of the servers, and an empty one tells none
+-- a slot's reading is of the servers, and an empty one has none
 slot-there : (count : ℕ) (slots : List (Option Observation)) (p : ℕ) → All (IsSlot count) slots → IsSlot count (slice_index_or slots p None)
 slot-there count [] p all = tt
 slot-there count (x ∷ xs) zero all = All-head (IsSlot count) x xs all

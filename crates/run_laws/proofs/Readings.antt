@@ -127,7 +127,7 @@ module _ (w : World) (read : ℕ) (now : Moment) (j : Job) (rest : List Op) (n :
       go true = refl
       go false = refl
 
--- what a recovery's turn observes, and that no hook behind it is due got
+-- what a recovery's turn observes, and that no hook after it is due for it
 record IsLooked (o : Observation) (t : Taken) : Type 0 where
   observes : t.observation ≡ Some o
   rear : (h : Option HookState) → rear_hook h t.step ≡ None

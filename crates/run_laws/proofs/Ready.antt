@@ -1,4 +1,4 @@
--- What holds of each state of a run, whatever rows a keeper hands back: that all that is kept speaks of its servers.
+-- What holds for each state of a run, whatever rows a row store hands back: all that is kept speaks of its servers.
 use Rattle.run_laws.proofs.Prelude.{BookState, Bridge, HasKnownSource, Instance, IsBook, IsSlot, Moment, Observation, Ready, Row, ServerNo, Settings}
 use Rattle.run_laws.proofs.Prelude.{State, Status as Seen, added_over, after_put, after_row, are_known, both_true, bridge_in, counted}
 use Rattle.run_laws.proofs.Prelude.{discovered_over, empty_book, empty_is, first_seen, fits, given_back, instance_at, known_at, leases_set}
@@ -79,7 +79,7 @@ IsBook-freed b id is = leases_set b (given_back b.leases id) is (length-map b.le
 
 -- ---- what a job observed
 
--- where something stands at a place, the place is one of the list
+-- if something is at a place, the place is one of the list
 pub place-within : {A : Type 0} (xs : List (Option A)) (n : ℕ) (x : A) → slice_index_or xs n None ≡ Some x → n < length xs
 place-within [] n x h = cc
 place-within (y ∷ xs) zero x h = omega arith

@@ -162,7 +162,7 @@ module _ (count : ℕ) (s : State) (ready : Ready count s) where
   pub within-book : (c : CommandTurn) → IsCommand count c → (is_within (length s.book.names) c.command.i ≡ true) × (is_within (length s.book.names) c.command.d ≡ true)
   within-book c command = subst (λ (n : ℕ). (is_within n c.command.i ≡ true) × (is_within n c.command.d ≡ true)) (sym ready.names) (within-both count c command)
 
-  -- and those that a reading tells
+  -- and those that a reading has
   pub reads-known : (i : ServerNo) → i.0 < length s.book.names → are_known (length s.book.names) (observed_servers (reading s i)) ≡ true
   reads-known i here =
       let same : length s.world.servers ≡ length s.book.names = ready.servers ∙ sym ready.names in

@@ -1,4 +1,4 @@
--- Recoveries that begin one after another leave what their passages leave.
+-- Recoveries that begin one after another leave what their `Passage`s leave.
 use Rattle.run_laws.proofs.Prelude.{AllMayPass, AllPassWell, AuditState, BeginInTurn, Beginning, Begins, CanBegin, Flight, HeldJobs, IsAny}
 use Rattle.run_laws.proofs.Prelude.{IsHeldBeside, IsListed, IsListOf, IsSoundBeside, Job, Leases, Purpose, ServerNo, SoundJobs, Unended, World}
 use Rattle.run_laws.proofs.Prelude.{append-nil, are_held, are_listed, are_matched, begin-held, begin-sound, begun, by_recoveries, core_of}
@@ -64,7 +64,7 @@ module _ (count : ℕ) (leases : List (Option ℕ)) (a : AuditState) (last : ℕ
 
 -- ---- several
 
--- a flight with these jobs and leases
+-- a `Flight` with these jobs and leases
 abbrev flight_on : Flight → List Unended → List (Option ℕ) → Flight
 flight_on f us leases = record f { jobs = map core_of us; leases = leases_of leases }
 
@@ -85,7 +85,7 @@ module _ (count : ℕ) where
       ∙ recoveries-flown f (us ++ recovery_job x ∷ []) next (begun a x.entry) x.job.core.id xs each.1 (length-taken x.list leases x.job.core.id ∙ fits)
       ∙ ap (λ (g : Flight). passing g (by_recoveries xs)) one
 
-  -- the leases of a flight, after one that begins
+  -- the leases of a `Flight`, after one that begins
   after-one : (f : Flight) (leases : List (Option ℕ)) (a : AuditState) (last : ℕ) (x : Begins) → CanBegin count leases a last x → length leases ≡ count → f.leases ≡ leases_of leases
       → leased_to f.leases x.list x.job.core.id ≡ leases_of (taken leases x.list x.job.core.id)
   after-one f leases a last x can fits same = ap (λ (l : Leases). leased_to l x.list x.job.core.id) same ∙ job-leases count leases a last x can fits

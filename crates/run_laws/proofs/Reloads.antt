@@ -1,4 +1,4 @@
--- Where the kept rows follow the audit, a restart loads it whole.
+-- If the kept rows follow the audit, a restart loads it whole.
 use Rattle.std.proofs.Common.{◌≡◌, ◌∙◌, ℕ, List, length, ap, arith}
 use Rattle.run_laws.proofs.Prelude.{ComesTo, FollowAudit, IsRising, Recovery, Row, Scenario, State, Turn, counted, last_given, period_by}
 use Rattle.run_laws.proofs.Prelude.{recoveries_in, reloaded_audit}

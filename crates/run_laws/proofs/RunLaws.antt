@@ -30,7 +30,7 @@ use Rattle.run_laws.proofs.Readiness.{Ready-start, Ready-step}
 
 -- ---- what holds of each state
 
--- all that is kept speaks of so many servers, what is held holds, and in a quiet state the rest, too
+-- all that is kept speaks of so many servers, `Held` holds, and in a state without errant writes the rest, too
 pub record Goes (count : ℕ) (s : State) : Type 0 where
   pub ready : Ready count s
   pub held : HeldState s
@@ -69,7 +69,7 @@ Holds-comes s xs now comes =
 pub not_skipped : (s : Scenario) (xs : List (List Row × Turn)) (now : State) (n : ℕ) (to : Coord) → ComesTo s xs now → IsQuiet now.world → (apply now.world n).0 ≡ answers.Skipped to → ⊥
 not_skipped s xs now n to comes q = no_skipped now.world n to ((Holds-comes s xs now comes).safe q)
 
--- a state that is quiet came from quiet ones
+-- a state without errant writes came from states without
 quiet-back : (s : State) (xs : List (List Row × Turn)) → IsQuiet (run_turns engine s xs).world → IsQuiet s.world
 quiet-back s [] q = q
 quiet-back s (x ∷ xs) q = exchanges.quiet-run s.world (exchanges_at s x.1) (subst IsQuiet (world-turn x.0 s x.1) (quiet-back (turn_step x.0 s x.1) xs q))
@@ -120,7 +120,7 @@ Fit-append w (e ∷ es) fs here more =
     let rest = Fit-append (after w e) es fs (record { allowed = here.allowed.1; join = here.join.1 }) more in
     record { allowed = (here.allowed.0, rest.allowed); join = (here.join.0, rest.join) }
 
--- a job's turn in a sound state
+-- a job's turn in a state with `Sound`
 Fit-job : (s : State) (id : ℕ) → HeldState s → SoundState s → (o : Option Unended) → job_at s.jobs id ≡ o → Fit s.world (job_exchanges (option_map (turn_of s) o))
 Fit-job s id held sound None at = record { allowed = tt; join = tt }
 Fit-job s id held sound (Some (unended.Plan j)) at =

@@ -1,4 +1,4 @@
--- The operations of each job may wait as often as the run says.
+-- The operations of each job may wait as often as the run allows.
 use Rattle.std.proofs.Common.{All, Bool, List, None, Option, Some, [], ap, false, map, not, refl, subst, sym, true, ℕ, ◌+◌, ◌==◌, ◌∙◌, ◌∷◌, ◌≡◌}
 use Rattle.std.specs.Prelude.{if◌then◌else◌}
 use Rattle.run_laws.proofs.Prelude.{Begins as RecoveryBegins}

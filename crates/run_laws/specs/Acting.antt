@@ -25,7 +25,7 @@ LapsedKeepNothing s = (node : ℕ) (a : Act) → acts s node ≡ false → IsLap
 
 -- ---- a claim
 
--- the node's claim is held until this moment
+-- the node has its claim until this moment
 abbrev pub IsHeld : State → ℕ → Moment → Type 0
 IsHeld s node until = reply_of s (turn.Claim node) ≡ answered.Held until
 
@@ -47,7 +47,7 @@ pub record IsClaimAlone (s : State) (node : ℕ) : Type 0 where
   pub state : (rows : List Row) → step rows s (turn.Claim node) ≡ with_claims s (turn.Claim node) s
   pub changes : (rows : List Row) → changes_of rows s (turn.Claim node) ≡ claim_changes s node
 
--- so does one of the node that held the last, and the first one of all
+-- so does one of the node that had the last, and the first one of all
 abbrev pub RenewingClaimsAlone : State → Type 0
 RenewingClaimsAlone s = (node : ℕ) (until : Moment) → IsHeld s node until → (s.last_holder ≡ None) ⊎ (s.last_holder ≡ Some node) → IsClaimAlone s node
 

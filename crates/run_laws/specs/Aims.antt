@@ -60,7 +60,7 @@ IsAsked s (turn.As node a) x = IsAskedOf s (act_in s (turn.As node a)) x
 IsAsked s (turn.Claim node) x = IsAskedOf s (act_in s (turn.Claim node)) x
 IsAsked s (turn.Release node) x = ⊥
 
--- a recovery that a turn begins was asked for in it, and its entry tells what it is about
+-- a recovery that a turn begins was asked for in it, and its entry has what it is about
 pub record IsAimed (s : State) (t : Turn) (x : RecoveryBegins) : Type 0 where
   pub asked : IsAsked s t x
   pub about : IsAbout s.book x

@@ -36,7 +36,7 @@ BegunHaveNextNumber = (s : State) (c : CommandTurn) (id : ℕ) → IsBegun s c i
 abbrev pub BegunAreTheCommands : Type 0
 BegunAreTheCommands = (s : State) (c : CommandTurn) (id : ℕ) → IsBegun s c id → (x : BegunJob) × (begun_of s c.command ≡ Some x)
 
--- where the command begins this job
+-- if the command begins this job
 abbrev pub WhereBegun : (State → CommandTurn → BegunJob → Type 0) → Type 0
 WhereBegun P = (s : State) (c : CommandTurn) (x : BegunJob) → begun_of s c.command ≡ Some x → P s c x
 
@@ -71,12 +71,12 @@ SpendsWaits s c x = SpendsWaitsLast x.job
 
 -- ---- a scan
 
--- it tells a line for each instance whose analysis asks for a recovery, in name order
+-- it has a line for each instance whose analysis asks for a recovery, in name order
 abbrev pub ScansTellEachTry : Type 0
 ScansTellEachTry = (s : State) → (lines : List Line) × (reply_of s (turn.Act act.Scan) ≡ answered.Told lines) × AreLinesOf s.last_job (actionable_in s.book) (recoveries_scanned s) lines
 
--- each of these tries begins exactly where no check of the permission table refuses it, on what those before it left,
--- else it is told what refuses it with the lowest number
+-- Each of these tries begins exactly if no check of the permission table refuses it, on what those before it left. Else
+-- its line has what refuses it with the lowest number.
 abbrev pub TriesByTable : State → Type 0
 TriesByTable s = (lines : List Line) × (reply_of s (turn.Act act.Scan) ≡ answered.Told lines)
     × AreTries (record { world = s.world; book = s.book; by = attempt_in s }) (record { leases = s.book.leases; audit = s.audit; last = s.last_job }) (actionable_in s.book) (recoveries_scanned s) lines

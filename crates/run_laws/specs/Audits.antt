@@ -19,19 +19,19 @@ EachRecoveryCounts s now = All (λ r. counts (length s.opening.servers) (last_gi
 abbrev pub AnyTurnGivesPeriods : Scenario → State → Type 0
 AnyTurnGivesPeriods s now = (t : Turn) → All (λ r. r.block ≡ period_of s r.cluster) (entries_begun now t)
 
--- what a turn would begin is apart
+-- what a turn would begin doesn't overlap
 abbrev pub AnyTurnBeginsApart : State → Type 0
 AnyTurnBeginsApart s = (t : Turn) → BeginApartInTurn (record { 0 = s.moment }) s.audit (entries_begun s t)
 
--- what a turn would begin was asked for, and its entry tells what it is about
+-- what a turn would begin was asked for, and its entry has what it is about
 abbrev pub AnyTurnAims : Type 0
 AnyTurnAims = (s : State) (t : Turn) → All (IsAimed s t) (recoveries_begun s t)
 
--- But for a restart, which loads the kept rows, each entry becomes what the turn makes of it, and just those that begin
--- come behind.
+-- Except for a restart, which loads the kept rows, each entry becomes what the turn makes of it. Exactly those that
+-- begin come after.
 abbrev pub TurnsMakeAudits : Type 0
 TurnsMakeAudits = (rows : List Row) (s : State) (t : Turn) → asks s t ≡ false → AuditIs rows s t
 
--- where the rows are those by which all was kept, a restart keeps each entry, and ends those that aren't ended
+-- if the rows are those by which all was kept, a restart keeps each entry, and ends those that aren't ended
 abbrev pub RestartsKeepAll : Scenario → State → Type 0
 RestartsKeepAll s now = (rows : List Row) → RestartKeepsAll (length s.opening.servers) rows now

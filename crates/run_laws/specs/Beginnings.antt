@@ -1,4 +1,4 @@
--- That what begins names no replica twice, and begins apart by the block periods of those before it.
+-- That what begins names no replica twice, and begins without overlap by the block periods of those before it.
 use Rattle.std.specs.Prelude.{◌≡◌, ◌<◌, ℕ, All, Ok, length}
 use Rattle.run_laws.specs.Prelude.{AreReplicas, Attempt, AuditState, Begins, BookState, Moment, ServerNo, World, recovery_try, replicas_of, scanned}
 use Rattle.run_laws.specs.Prelude.{takeover_try}

@@ -11,12 +11,12 @@ pub record BegunJob : Type 0 where
   pub job : Unended
   pub entry : Option Recovery
 
--- a plan or a regroup, where nothing refuses it
+-- a plan or a regroup, if nothing refuses it
 abbrev pub of_plan : Option Refusal → List ServerNo → Unended → Option BegunJob
 of_plan None list job = Some (record { list = list; job = job; entry = None })
 of_plan (Some r) list job = None
 
--- a recovery or a takeover, where nothing refuses it
+-- a recovery or a takeover, if nothing refuses it
 abbrev pub of_try : Result RecoveryBegins Refusal → Option BegunJob
 of_try (Ok x) = Some (record { list = x.list; job = recovery_job x; entry = Some x.entry })
 of_try (Err r) = None
@@ -49,7 +49,7 @@ begun_by s c (Begins p) = planned s c p
 begun_by s c Recovers = recovering s c.i
 begun_by s c TakesOver = taking_over s c.i c.d
 
--- none where the command is refused, or begins no job
+-- none if the command is refused, or begins no job
 abbrev pub begun_of : State → Command → Option BegunJob
 begun_of s c = begun_by s c (route_of c.name)
 

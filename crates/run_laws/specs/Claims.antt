@@ -1,4 +1,4 @@
--- Several orchestrators through runs: who is active, who takes turns, and what is left where a claim passes.
+-- Several orchestrators through runs: who is active, who takes turns, and what is left if a claim passes.
 use Rattle.std.specs.Prelude.{◌≡◌, ◌≢◌, ℕ, ◌<◌, ◌≤◌, ◌⊎◌, All, Bool, List, [], false, length, Option, None, Some, if◌then◌else◌}
 use Rattle.run_laws.specs.Prelude.{Act, IsActive, IsReached, IsTurn, Moment, Row, Scenario, State, Turn, active, acts, after_restart, claim_or}
 use Rattle.run_laws.specs.Prelude.{claims_after, counts, engine, greatest_id, number_of, reply_of, run_turns, sort_key, step, turns_of}
@@ -29,11 +29,11 @@ ActsWhereActive s t = (node : ℕ) (a : Act) → t ≡ turn.As node a → reply_
 abbrev pub LapsedDoesNothing : State → Turn → Type 0
 LapsedDoesNothing s t = (rows : List Row) (node : ℕ) (a : Act) → t ≡ turn.As node a → acts s node ≡ false → step rows s t ≡ record s { claims = claims_after s t }
 
--- a claim is held only when that of another node has run out
+-- a node gets a claim only when that of another node has run out
 abbrev pub ClaimsWait : State → Turn → Type 0
 ClaimsWait s t = (node other : ℕ) (until end : Moment) → t ≡ turn.Claim node → reply_of s t ≡ answered.Held until → s.claims.kept ≡ Some (other, end) → other ≢ node → end.0 ≤ s.moment
 
--- where it passes from another node, orchestrator starts again: no job, lease, bridge or reading of a slot is left
+-- if it passes from another node, orchestrator starts again: no job, lease, bridge or reading of a slot is left
 abbrev pub PassingStartsAgain : State → Turn → Type 0
 PassingStartsAgain s t = (rows : List Row) (node last : ℕ) (until : Moment) → t ≡ turn.Claim node → reply_of s t ≡ answered.Held until → s.last_holder ≡ Some last → last ≢ node
     → step rows s t ≡ record (after_restart rows s) { claims = claims_after s t; last_holder = Some node }
@@ -41,7 +41,7 @@ PassingStartsAgain s t = (rows : List Row) (node last : ℕ) (until : Moment) �
 abbrev pub PassingLeavesNoJob : State → Turn → Type 0
 PassingLeavesNoJob s t = (rows : List Row) (node last : ℕ) (until : Moment) → t ≡ turn.Claim node → reply_of s t ≡ answered.Held until → s.last_holder ≡ Some last → last ≢ node → (step rows s t).jobs ≡ []
 
--- and every job of every state that any turns then lead to was begun since: its number is above that of the last job
+-- and every job of every state that any turns then lead to was begun later: its number is above that of the last job
 -- before
 abbrev pub PassingLeavesNewJobs : ℕ → State → Turn → Type 0
 PassingLeavesNewJobs count s t = (rows : List Row) (node last : ℕ) (until : Moment) (xs : List (List Row × Turn)) → t ≡ turn.Claim node → reply_of s t ≡ answered.Held until → s.last_holder ≡ Some last → last ≢ node
@@ -60,12 +60,12 @@ abbrev pub claim_row : Option (ℕ × Moment) → Option Row
 claim_row None = None
 claim_row (Some kept) = Some (row.Active kept.0 kept.1)
 
--- the claim that a row gives, where it counts
+-- the claim that a row gives, if it counts
 abbrev pub claim_by_row : (Row → Bool) → Option Row → Option (ℕ × Moment)
 claim_by_row counts None = None
 claim_by_row counts (Some r) = if counts r then claim_or None r else None
 
--- the row is the kept claim's, or none where none is kept; one that doesn't count, which another program left, stands
--- until a claim is kept
+-- The row is the kept claim's, or none if none is kept. One that doesn't count, which another program left, is there
+-- until a claim is kept.
 abbrev pub IsClaimRow : ℕ → Option Row → Option (ℕ × Moment) → Type 0
 IsClaimRow count x kept = (x ≡ claim_row kept) ⊎ ((kept ≡ None) × (claim_by_row (counts count greatest_id) x ≡ None))

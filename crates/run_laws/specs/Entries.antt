@@ -10,7 +10,7 @@ use Rattle.run_laws.specs.Begins.{entries_of}
 
 -- ---- by a command
 
--- one, where nothing refuses it, whose hooks are told of it
+-- one, if nothing refuses it, whose hooks get its values
 abbrev pub tried : Result RecoveryBegins Refusal → List RecoveryBegins
 tried (Ok x) = x ∷ []
 tried (Err why) = []
@@ -49,7 +49,7 @@ attempt_in s = attempt_of s.configuration.master s.configuration.intermediate (p
 abbrev pub scan_in : State → Staged
 scan_in s = scanned s.world s.book s.audit (attempt_in s) s.configuration.wait s.last_job
 
--- hooks are told of what begins
+-- hooks get what begins
 abbrev pub recoveries_scanned : State → List RecoveryBegins
 recoveries_scanned s = map (with_told s.configuration s.book) (scan_in s).begun
 

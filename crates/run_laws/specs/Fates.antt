@@ -16,8 +16,8 @@ use Rattle.run_laws.specs.Entries.{entries_begun}
 
 -- ---- with its job
 
--- it stays open while its job goes on, and ends at the moment of the turn in which the job is done, with the server
--- that was promoted, or fails, with the cause's name; only a takeover that is done is acknowledged
+-- It stays open while its job goes on. It ends at the moment of the turn in which the job is done, with the server that
+-- was promoted, or fails, with the cause's name. Only a takeover that is done is acknowledged.
 abbrev pub entry_then : Moment → Recovery → JobStep → KeptRecovery → KeptRecovery
 entry_then now r step.Going k = k
 entry_then now r (step.Done lines) k = record k { ended = Some now; outcome = done_with r.outcome.promoted; acked = is_takeover r.purpose || k.acked }
@@ -65,8 +65,8 @@ acked_in (Some cluster) k = if is_of cluster k then record k { acked = true } el
 
 -- ---- with a turn
 
--- none but its own job's turn ends it, and none but that and an acknowledgement of its cluster acknowledges it; a
--- restart loads all anew
+-- None except its own job's turn ends it. None except that and an acknowledgement of its cluster acknowledges it. A
+-- restart loads all anew.
 abbrev pub entry_in_act : State → Act → KeptRecovery → KeptRecovery
 entry_in_act s (act.PollRead p n) k = k
 entry_in_act s (act.PollStore p) k = k
@@ -87,11 +87,11 @@ entry_after s (turn.As node a) k = entry_in_done s (act_in s (turn.As node a)) k
 entry_after s (turn.Claim node) k = entry_in_done s (act_in s (turn.Claim node)) k
 entry_after s (turn.Release node) k = k
 
--- each entry that there was becomes what the turn makes of it, and those that begin in it come behind
+-- each entry that there was becomes what the turn makes of it, and those that begin in it come after
 abbrev pub AuditIs : List Row → State → Turn → Type 0
 AuditIs rows s t = (turn_step rows s t).audit.recoveries ≡ map (entry_after s t) s.audit.recoveries ++ entries_begun s t
 
--- where the keeper hands back the rows by which all was kept, a restart keeps each entry, and ends those that aren't
+-- if the row store hands back the rows by which all was kept, a restart keeps each entry, and ends those that aren't
 -- ended as interrupted
 abbrev pub RestartKeepsAll : ℕ → List Row → State → Type 0
 RestartKeepsAll count rows s = IsRising rows → FollowAudit count rows s.audit → (turn_step rows s (turn.Act act.Restart)).audit ≡ closed s.audit (interrupted_at rows s)

@@ -1,4 +1,4 @@
--- A state of a run as a flight, and each turn as passages of it.
+-- A state of a run as a `Flight`, and each turn as `Passage`s of it.
 use Rattle.std.specs.Prelude.{ℕ, ◌+◌, ◌&&◌, nat_lt, Bool, true, false, not, is_some, if◌then◌else◌, List, [], ◌∷◌, map, Option, Some, None, Result, Ok, Err}
 use Rattle.run_laws.specs.Prelude.{Act, Asks, Begins as RecoveryBegins, BookState, Command, Decides, Discovers, Flight, Forgets, Instance, Moment}
 use Rattle.run_laws.specs.Prelude.{Observation, Passage, Planner, Recovers, Refusal, Route, ServerNo, State, TakesOver, Turn, Unended, act_in}
@@ -11,8 +11,8 @@ use Rattle.run_laws.specs.Prelude.pass
 use Rattle.run_laws.specs.Prelude.turn
 use Rattle.run_laws.specs.Entries.{recoveries_scanned}
 
--- what is kept beside the instances: the servers, the bridges, the slots, of each job the operations that are left, of
--- a recovery those of its stage, and who has each lease
+-- What is kept beside the instances: the servers, the bridges, the slots, and for each job the operations that are
+-- left. For a recovery they are those of its stage. Also who has each lease.
 abbrev pub flight_of : State → Flight
 flight_of s = record { world = s.world; rings = s.book.rings; slots = s.slots; jobs = map core_of s.jobs; leases = leases_of s.book.leases }
 
@@ -35,7 +35,7 @@ takes_first (Some kept) o = not (nat_lt o.read kept.read)
 abbrev pub discovers : BookState → Observation → Bool
 discovers b o = is_some o.seen && takes_first (instance_at b o.no) o
 
--- ---- the passages of each turn
+-- ---- the `Passage`s of each turn
 
 abbrev pub moment_at : State → Moment
 moment_at s = record { 0 = s.moment }
@@ -51,7 +51,7 @@ abbrev pub by_removal : Result Unit Refusal → ServerNo → List Passage
 by_removal (Ok permit) i = pass.Forgetting i ∷ []
 by_removal (Err r) i = []
 
--- about the instance, where one is given
+-- about the instance, if one is given
 abbrev pub by_instance : (ServerNo → List Passage) → Option ServerNo → List Passage
 by_instance some None = []
 by_instance some (Some i) = some i
@@ -72,7 +72,7 @@ by_try (Err r) = []
 abbrev pub by_recovery : State → ServerNo → List Passage
 by_recovery s f = by_try (told_try s.configuration s.book (recovery_try s.world s.book s.audit (by_hand s.book s.configuration (numbers_of s) f) s.configuration.wait (s.last_job + 1) f))
 
--- a replica takes a master's place, where one is given
+-- a replica takes a master's place, if one is given
 abbrev pub by_takeover : State → Option ServerNo → ServerNo → List Passage
 by_takeover s None i = []
 by_takeover s (Some d) i = by_try (told_try s.configuration s.book (takeover_try s.world s.book s.audit (by_hand s.book s.configuration (numbers_of s) i) s.configuration.wait (s.last_job + 1) i d))
@@ -106,7 +106,7 @@ abbrev pub done_passages : State → Option Act → List Passage
 done_passages s None = []
 done_passages s (Some a) = act_passages s a
 
--- what befalls a server is one exchange, which is no job's
+-- what happens to a server is one exchange, which is no job's
 abbrev pub passages_of : State → Turn → List Passage
 passages_of s (turn.Step x) = pass.Exchanging (exchange_of x) ∷ []
 passages_of s (turn.Tick seconds) = []

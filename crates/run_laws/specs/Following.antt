@@ -1,4 +1,4 @@
--- The kept rows follow the book and the audit, where nobody else changes them.
+-- The kept rows follow the book and the audit, if nobody else changes them.
 use Rattle.std.specs.Prelude.{◌≡◌, ◌≤◌, ◌^◌, ℕ, All, List, length}
 use Rattle.run_laws.specs.Prelude.{Follow, FollowAudit, Held, IsRising, IsScenario, IsState, IsTurn, Row, Scenario, State, Turn, changed, changes_of}
 use Rattle.run_laws.specs.Prelude.{engine, held_run, reloaded_audit, row_in, start, start_changes, step}

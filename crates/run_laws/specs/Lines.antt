@@ -3,13 +3,13 @@ use Rattle.std.specs.Prelude.{◌≡◌, ◌⊎◌, ℕ, ◌+◌, ⊤, List, [],
 use Rattle.run_laws.specs.Prelude.{Begins, Entry, Line, Refusal}
 use Rattle.run_laws.specs.Prelude.line
 
--- this recovery, of the entry's server, begins as the job of a number, and the line tells it
+-- this recovery, of the entry's server, begins as the job of a number, and the line reports it
 pub record TellsBegun (job : ℕ) (e : Entry) (x : Begins) (l : Line) : Type 0 where
   pub failed : x.job.failed ≡ e.no
   pub number : x.job.core.id ≡ job
   pub told : l ≡ line.Begun e.no e.code job
 
--- the line tells what refuses the entry's recovery
+-- the line has what refuses the entry's recovery
 abbrev pub TellsRefused : Entry → Line → Type 0
 TellsRefused e l = (why : Refusal) × (l ≡ line.Refused e.no e.code why)
 

@@ -39,7 +39,7 @@ checks_by s c (Begins p) = plan_checks s c p
 checks_by s c Recovers = recover_checks s c.i
 checks_by s c TakesOver = takes_checks s c.i c.d
 
--- nothing refuses a command exactly where each of its checks passes, else what one of them refuses, and none with a
--- lower number
+-- nothing refuses a command exactly if each of its checks passes, else what one of them refuses, and none with a lower
+-- number
 abbrev pub RefusedByLowest : State → Command → Type 0
 RefusedByLowest s c = IsAnswer (checks_by s c (route_of c.name)) (refusal_at s c)

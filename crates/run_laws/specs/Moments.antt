@@ -1,6 +1,6 @@
 -- Time, and the numbers of jobs.
 use Rattle.std.specs.Prelude.{◌≡◌, ◌≢◌, ℕ, ◌+◌, ◌≤◌, ◌^◌, All, IfSome, List, false, min, true}
-use Rattle.run_laws.specs.Prelude.{Recovery, Rise, Row, Scenario, State, Turn, asks, start, step}
+use Rattle.run_laws.specs.Prelude.{Recovery, Rise, Row, State, Turn, asks, step}
 use Rattle.run_laws.specs.Prelude.turn
 
 -- only a tick lets time pass, by its seconds, up to the end of the range of moments; a restart never turns it back
@@ -9,7 +9,7 @@ pub record PassesTime (s : State) (t : Turn) : Type 0 where
   pub still : (rows : List Row) → asks s t ≡ false → ((seconds : ℕ) → t ≢ turn.Tick seconds) → (step rows s t).moment ≡ s.moment
   pub restart : (rows : List Row) → asks s t ≡ true → s.moment ≤ (step rows s t).moment
 
--- a recovery began by this moment, and ended by it where it is ended
+-- a recovery began by this moment, and ended by it if it is ended
 pub record IsPast (now : ℕ) (r : Recovery) : Type 0 where
   pub begun : r.begun.0 ≤ now
   pub ended : IfSome r.ended (λ e. e.0 ≤ now)

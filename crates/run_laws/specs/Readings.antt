@@ -1,5 +1,5 @@
 -- What is read of servers, and what becomes of it in the book.
-use Rattle.std.specs.Prelude.{◌≡◌, ◌≢◌, ℕ, ◌<◌, ◌≤◌, ◌^◌, List, [], ◌∷◌, length, true, false, is_some, unwrap_or, Option, Some, None}
+use Rattle.std.specs.Prelude.{◌≡◌, ◌≢◌, ℕ, ◌<◌, ◌≤◌, List, [], ◌∷◌, length, true, false, is_some, unwrap_or, Option, Some, None}
 use Rattle.run_laws.specs.Prelude.{BookState, CommandTurn, Deed, Discovers, Instance, Job, Observation, Op, Row, Scenario, ServerNo, State, Status}
 use Rattle.run_laws.specs.Prelude.{Turn, Unended, asks, decided, deed_of, front_hook, ground_of, instance_at, job_at, next_count, route_of, seen_in, slot_at}
 use Rattle.run_laws.specs.Prelude.{start, status, step}
@@ -14,12 +14,12 @@ shown_at s n = record { no = n; read = next_count s.reads; moment = record { 0 =
 
 -- ---- what becomes of a reading
 
--- an instance as a reading leaves it that isn't old: with its number and moment, valid exactly where it reached its
--- server, and as that was seen then, or else before
+-- An instance as a reading leaves it that isn't old: with its number and moment, valid exactly if it reached its
+-- server. It has what was seen of that then, or else before.
 abbrev pub as_read : Instance → Observation → Instance
 as_read kept o = record { no = o.no; read = o.read; moment = o.moment; valid = is_some o.seen; seen = unwrap_or o.seen kept.seen }
 
--- a reading in a book that has, or lacks, the instance: it makes nothing where the book lacks it or has a later one
+-- a reading in a book that has, or lacks, the instance: it makes nothing if the book lacks it or has a later one
 pub record IsKeptSo (b : BookState) (o : Observation) (now : BookState) : Type 0 where
   pub lacking : instance_at b o.no ≡ None → now.instances ≡ b.instances
   pub old : (kept : Instance) → instance_at b o.no ≡ Some kept → o.read < kept.read → now.instances ≡ b.instances
@@ -46,7 +46,7 @@ PollsStore = (rows : List Row) (s : State) (p : ℕ) (o : Observation) → slot_
 
 -- ---- discoveries
 
--- a discovery that reaches its server reads it: the book has it from then on, where it has no later reading
+-- a discovery that reaches its server reads it: the book has it from then on, if it has no later reading
 pub record IsDiscovered (s : State) (i : ServerNo) (seen : Status) (now : State) : Type 0 where
   pub reads : now.reads ≡ next_count s.reads
   pub first : instance_at s.book i ≡ None → i.0 < length s.book.instances
@@ -59,8 +59,8 @@ DiscoveriesRead = (rows : List Row) (s : State) (c : CommandTurn) (i : ServerNo)
 
 -- ---- jobs
 
--- the operations that a job is to do in its turn, and what is done first: those of a plan, or of its recovery as it is
--- decided in the turn; none in a hook's turn
+-- The operations that a job is to do in its turn, and what is done first. They are those of a plan, or of its recovery
+-- as it is decided in the turn; none in a hook's turn.
 abbrev pub first_op : List Op → Option Deed
 first_op [] = None
 first_op (x ∷ xs) = Some (deed_of x)

@@ -1,5 +1,5 @@
--- What holds of each state of a run, whatever rows a keeper hands back: that all that is kept speaks of its servers,
--- and that block periods aren't too long.
+-- What holds for each state of a run, whatever rows a row store hands back: all that is kept speaks of its servers, and
+-- block periods aren't too long.
 use Rattle.std.specs.Prelude.{◌≡◌, ◌≤◌, ℕ, All, length}
 use Rattle.run_laws.specs.Prelude.{Configuration, HasKnownSource, IsBook, IsReady, IsSlot, State, longest_block, pollers}
 

@@ -12,7 +12,8 @@ use Rattle.run_laws.specs.Runs.{ComesWithin}
 abbrev pub SkipsNothing : State → Type 0
 SkipsNothing s = (n : ℕ) (to : Coord) → (apply s.world n).0 ≢ applied.Skipped to
 
--- with no more write turns than the scenario has no exchange finds a history full where the world before it is quiet
+-- with no more write turns than the scenario has no exchange finds a history full if the world before it has no errant
+-- writes
 abbrev pub NoHistoryIsFull : Type 0
 NoHistoryIsFull = (s : Scenario) (xs : List (List Row × Turn)) (t : Turn) (now : State) (j : ℕ) (e : Exchange) → ComesWithin is_write s xs t now → slice_get (exchanges_at now t) j ≡ Some e
     → IsQuiet (run now.world (take j (exchanges_at now t))) → IsNotFull (run now.world (take j (exchanges_at now t))) e

@@ -1,4 +1,4 @@
--- Runs from a scenario's opening state, whatever rows the keeper hands back at the opening and at each turn.
+-- Runs from a scenario's opening state, whatever rows the row store hands back at the opening and at each turn.
 use Rattle.std.specs.Prelude.{◌≡◌, ◌≤◌, ℕ, Bool, List, [], ◌∷◌, ◌++◌, All, count_by, length, slice_get, take, Some}
 use Rattle.run_laws.specs.Prelude.{CommandTurn, IsQuiet, IsScenario, IsTurn, NamesOneOf, Row, Scenario, State, Turn, engine, reply_of, run_turns}
 use Rattle.run_laws.specs.Prelude.{start, turns_of}
@@ -46,7 +46,7 @@ InEveryStateOf P = (s : Scenario) (xs : List (List Row × Turn)) (now : State) �
 abbrev pub InEveryState : (State → Type 0) → Type 0
 InEveryState P = InEveryStateOf (λ s now. P now)
 
--- in every quiet one
+-- in every one without errant writes
 abbrev pub InEveryQuietState : (State → Type 0) → Type 0
 InEveryQuietState P = InEveryState (λ now. IsQuiet now.world → P now)
 
@@ -64,6 +64,6 @@ OwnTurnsCome = (s : Scenario) (wait : ℕ) (rows : List Row) (xs : List (List Ro
 abbrev pub OwnTurnsAreFew : Type 0
 OwnTurnsAreFew = (is : Turn → Bool) (s : Scenario) (xs : List (List Row × Turn)) (k : ℕ) (t : Turn) (now : State) → ComesBy s xs k now → slice_get s.turns k ≡ Some t → ComesWithin is s xs t now
 
--- where the last state of a run is quiet, so was each before it
+-- if the last state of a run has no errant writes, each before it has none
 abbrev pub QuietRunsWereQuiet : Type 0
 QuietRunsWereQuiet = (s : State) (xs : List (List Row × Turn)) (k : ℕ) → IsQuiet (run_turns engine s xs).world → IsQuiet (run_turns engine s (take k xs)).world

@@ -1,4 +1,4 @@
--- What single turns and openings leave, whatever rows the keeper hands back.
+-- What single turns and openings leave, whatever rows the row store hands back.
 use Rattle.std.specs.Prelude.{◌≡◌, ℕ, List}
 use Rattle.run_laws.specs.Prelude.{AllMayPass, AllPassWell, IsScenario, IsTurn, Row, Scenario, State, Turn, passing, start, step}
 use Rattle.run_laws.specs.Flights.{flight_of, passages_of}
@@ -11,11 +11,11 @@ use Rattle.run_laws.specs.States.{HeldState, SoundState}
 abbrev pub WhereReady : (ℕ → State → Turn → Type 0) → Type 0
 WhereReady P = (count : ℕ) (s : State) (t : Turn) → Ready count s → IsTurn count t → P count s t
 
--- where the state is held, too
+-- if the state has `Held`, too
 abbrev pub WhereHeld : (State → Turn → Type 0) → Type 0
 WhereHeld P = (count : ℕ) (s : State) (t : Turn) → Ready count s → HeldState s → IsTurn count t → P s t
 
--- and where it is sound
+-- and if it has `Sound`
 abbrev pub WhereSound : (State → Turn → Type 0) → Type 0
 WhereSound P = (count : ℕ) (s : State) (t : Turn) → Ready count s → HeldState s → SoundState s → IsTurn count t → P s t
 
@@ -33,7 +33,7 @@ TurnLeaves P s t = (rows : List Row) → P (step rows s t)
 abbrev pub TurnKeeps : (State → Type 0) → State → Turn → Type 0
 TurnKeeps P s t = P s → TurnLeaves P s t
 
--- it is its passages
+-- it is its `Passage`s
 abbrev pub IsItsPassages : State → Turn → Type 0
 IsItsPassages s t = (rows : List Row) → flight_of (step rows s t) ≡ passing (flight_of s) (passages_of s t)
 

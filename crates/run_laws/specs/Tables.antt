@@ -1,5 +1,5 @@
 -- What the tables of servers, of the book and of the analysis say, row by row.
-use Rattle.std.specs.Prelude.{◌≡◌, ◌≢◌, ◌⊎◌, ℕ, ◌+◌, ◌<◌, ◌≤◌, true, false, Contains, List, [], ◌∷◌, ◌++◌, count_by, drop, length, Option, None, Some}
+use Rattle.std.specs.Prelude.{◌≡◌, ◌⊎◌, ℕ, ◌+◌, ◌<◌, ◌≤◌, true, false, Contains, List, [], ◌∷◌, ◌++◌, count_by, drop, length, None, Some}
 use Rattle.run_laws.specs.Prelude.{BookState, Bridge, Candidate, Downtime, Instance, Moment, Server, ServerNo, State}
 use Rattle.run_laws.specs.Prelude.{Turn, World, after, asked, by_name, candidate_kept, counts_of, downtime_at, downtime_kept, is_attached, is_before, is_replica_that}
 use Rattle.run_laws.specs.Prelude.{lags, replicates, round_of, rule_at, server_at, with_bridge, write}
@@ -16,7 +16,7 @@ use Rattle.run_laws.specs.Prelude.wrote
 
 -- ---- the analysis counts replicas
 
--- a replica replicates where it was reached, its receiver is connected, and its applier is on
+-- a replica replicates if it was reached, its receiver is connected, and its applier is on
 pub record Replicates (i : Instance) : Type 0 where
   pub valid : i.valid ≡ true
   pub receiver : i.seen.io ≡ io.Yes
@@ -39,7 +39,7 @@ pub record CountsByInstances (b : BookState) (n : ServerNo) (i : Instance) : Typ
 
 -- ---- a ring keeps the latest 16 bridges
 
--- one more bridge joins it, unless it is the latest already; only where it has 16 the oldest makes room
+-- one more bridge joins it, unless it is the latest already; only if it has 16 the oldest makes room
 pub record KeepsSixteen (ring : List Bridge) (b : Bridge) : Type 0 where
   pub room : length ring < 16 → (with_bridge ring b ≡ ring) ⊎ (with_bridge ring b ≡ ring ++ b ∷ [])
   pub full : length ring ≡ 16 → (with_bridge ring b ≡ ring) ⊎ (with_bridge ring b ≡ drop 1 ring ++ b ∷ [])
@@ -63,7 +63,7 @@ pub record RunsAllServers (s : State) (job : ℕ) : Type 0 where
 
 -- ---- a server
 
--- a write is refused by a server that is down or read-only, and then changes nothing; another one executes it, where it
+-- a write is refused by a server that is down or read-only, and then changes nothing; another one executes it, if it
 -- has room, as the last of its history
 pub record AnswersWrites (w : World) (n size : ℕ) (s : Server) : Type 0 where
   pub down : s.up ≡ false → write w n size ≡ (wrote.Down, w)
@@ -72,8 +72,8 @@ pub record AnswersWrites (w : World) (n size : ℕ) (s : Server) : Type 0 where
   pub done : s.up ≡ true → s.read_only ≡ false → length s.history.txns < s.history.room
       → (seq : ℕ) × ((write w n size).0 ≡ wrote.Done seq) × ((t : Server) → server_at (write w n size).1 n ≡ Some t → t.history.txns ≡ s.history.txns ++ record { origin = record { 0 = n }; seq = seq; size = size } ∷ [])
 
--- a server that starts again starts the threads of a replica, without an end up to which its applier was to go, and
--- stays read-only, or not, as it was; one that is up stays as it is
+-- A server that starts again starts the threads of a replica, without an end up to which its applier was to go. It
+-- stays read-only, or not, as it was. One that is up stays as it is.
 pub record StartsAgain (s t : Server) : Type 0 where
   pub up : t.up ≡ true
   pub was : s.up ≡ true → t ≡ s

@@ -6,7 +6,7 @@ ghost use Rattle.run_laws.specs.Claims.{ActsWhereActive, ClaimsAreReached, Claim
 ghost use Rattle.run_laws.specs.Runs.{AtEveryTurn, InEveryState};
 
 /// In every state of every run at most one of the orchestrators is active, and the kept claim is then its own. Each of
-/// their turns that doesn't answer that it lapsed is the active one's; one that lapsed does nothing. One that doesn't
+/// their turns that doesn't answer that it lapsed is the active one's. One that lapsed does nothing. One that doesn't
 /// answers, keeps and does what the same turn does without several orchestrators.
 pub fn one_orchestrator_is_active()
     ensures reached { InEveryState ClaimsAreReached }
@@ -18,10 +18,10 @@ pub fn one_orchestrator_is_active()
     ensures keeps_nothing { (s : State) → LapsedKeepNothing s }
 {}
 
-/// No claim is granted before another node's has run out. Where one passes from the node that held the last,
-/// orchestrator starts again, and no job is left: each that is unended in a later state was begun since. Such a claim
-/// is the restart and the claim; one of the node that held the last is the claim alone; each lasts 60 seconds; and one
-/// that is taken changes nothing.
+/// No claim is granted before another node's has run out. If one passes from the node that had the last, orchestrator
+/// starts again, and no job is left. Each that is unended in a later state was begun later. Such a claim is the restart
+/// and the claim. One of the node that had the last is the claim alone. Each lasts 60 seconds, and one that is taken
+/// changes nothing.
 pub fn claims_pass_alone()
     ensures waits { AtEveryTurn ClaimsWait }
     ensures restart { AtEveryTurn PassingStartsAgain }

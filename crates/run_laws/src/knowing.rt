@@ -9,10 +9,10 @@ ghost use Rattle.run_laws.specs.Waits.{BegunMayWait, JobsMayWait};
 ghost use Rattle.run_laws.specs.Prelude.{BookState, Bridge, Instance as AnInstance, Moment as AMoment, ServerNo as Number, State, Turn};
 ghost use Rattle.std.specs.Prelude.{List, ℕ};
 
-/// A poll, a discovery and a look of a job read what one status of the server shows then, with the next read number, and
-/// it is stored: the book has it, valid exactly where the server was reached, unless it has a later reading. A reading
-/// that didn't reach its server keeps what was seen before. No instance goes back to an earlier reading but by a restart,
-/// and behind an opening no kept number is above those that were given.
+/// A poll, a discovery and a look of a job read what one status of the server has then, with the next read number, and
+/// it is stored. The book has it, valid exactly if the server was reached, unless it has a later reading. A reading
+/// that didn't reach its server keeps what was seen before. No instance goes back to an earlier reading except by a
+/// restart. After an opening no kept number is above those that were given.
 pub fn readings_are_stored()
     ensures polls { PollsRead }
     ensures stores { PollsStore }
@@ -22,8 +22,8 @@ pub fn readings_are_stored()
     ensures openings { OpeningsGiveNumbers }
 {}
 
-/// Only a tick lets time pass, by its seconds; a restart never turns it back, and in no state of any run a recovery began
-/// or ended later than now. The numbers of unended jobs rise up to that of the last job, which never sinks.
+/// Only a tick lets time pass, by its seconds; a restart never turns it back, and in no state of any run a recovery
+/// began or ended later than now. The numbers of unended jobs rise up to that of the last job, which never sinks.
 pub fn time_and_numbers_rise()
     ensures time { (s : State) (t : Turn) → PassesTime s t }
     ensures past { InEveryState NothingIsToCome }
@@ -31,18 +31,21 @@ pub fn time_and_numbers_rise()
     ensures last { LastJobNeverSinks }
 {}
 
-/// Each operation of each job of each run may wait exactly as often as the run is told, from the job's beginning on: of
-/// a plan, a regroup, a recovery, a takeover, and of what a scan begins.
+/// Each operation of each job of each run may wait exactly as often as the run allows, from the job's start on. So it
+/// is for a plan, a regroup, a recovery, a takeover, and for what a scan begins.
 pub fn jobs_wait_as_told()
     ensures begun { (s : State) → BegunMayWait s }
     ensures always { JobsMayWait }
 {}
 
-/// The analysis counts a replica as replicating exactly where it was reached, its receiver is connected and its applier
-/// is on. A ring keeps the latest 16 bridges. A downtime and a registration end at their moment. A round of a single
-/// command is a turn of its job, and each server fetches, applies and is polled. A write is refused by a server that is
-/// down or read-only; one that starts again starts a replica's threads; a start and a stop drop an end of the applier.
-/// The plan of each command but stop-replica starts each server again that it stops.
+/// The tables, row by row.
+/// - The analysis counts a replica as replicating exactly if it was reached, its receiver is connected and its applier
+///   is on.
+/// - A ring keeps the latest 16 bridges. A downtime and a registration end at their moment.
+/// - A round of a single command is a turn of its job, and each server fetches, applies and is polled.
+/// - A write is refused by a server that is down or read-only. One that starts again starts a replica's threads. A
+///   start and a stop drop an end of the applier.
+/// - The plan of each command except stop-replica starts each server again that it stops.
 pub fn tables_hold_row_by_row()
     ensures counts { (i : AnInstance) → CountsReplicas i }
     ensures instances { (b : BookState) (n : Number) (i : AnInstance) → CountsByInstances b n i }

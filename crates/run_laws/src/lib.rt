@@ -1,5 +1,6 @@
-//! Laws over the definitions of the run, beside it: what single turns and openings leave, what holds of every run over
-//! a scenario's servers, what orchestrator knows through it, and what commands and scans answer and begin.
+//! Laws over the definitions of the run, beside it. They are about what single turns and openings leave, and what holds
+//! for every run over a scenario's servers. They are also about what orchestrator knows through it, and what commands
+//! and scans answer and begin.
 #![tactic(auto)]
 
 mod answering;

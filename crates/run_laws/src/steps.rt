@@ -6,7 +6,7 @@ ghost use Rattle.run_laws.specs.SingleTurns.{AtEveryOpening, IsItsPassages, Turn
 ghost use Rattle.run_laws.specs.Prelude.{IsQuiet};
 ghost use Rattle.std.specs.Prelude.{length};
 
-/// Each turn leaves all that is kept speaking of the servers, whatever rows the keeper hands back.
+/// Each turn leaves all that is kept speaking of the servers, whatever rows the row store hands back.
 pub fn turns_leave_all_ready()
     ensures { WhereReady (λ count. TurnLeaves (Ready count)) }
 {}
@@ -16,8 +16,9 @@ pub fn openings_are_ready()
     ensures { AtEveryOpening (λ s. Ready (length s.opening.servers)) }
 {}
 
-/// In a state in which all that is kept speaks of its servers a turn is its passages, each of which may pass where the
-/// state is held, and passes well where it is sound; and so it leaves the state, whatever rows the keeper hands back.
+/// In a state in which all that is kept speaks of its servers a turn is its `Passage`s. Each of them may happen if the
+/// state has `Held`, and happens well if it has `Sound`. So it leaves the state, whatever rows the row store hands
+/// back.
 pub fn turns_are_flown()
     ensures passages { WhereReady (λ count. IsItsPassages) }
     ensures may { WhereHeld TurnMayPass }
@@ -26,8 +27,8 @@ pub fn turns_are_flown()
     ensures sound { WhereSound (TurnLeaves (λ now. IsQuiet now.world → SoundState now)) }
 {}
 
-/// A scenario's run begins held and sound, whatever rows the keeper hands back: the bridges of an
-/// opening are those that the servers show.
+/// A scenario's run begins with `Held` and `Sound`, whatever rows the row store hands back: the bridges of an opening
+/// are those of the servers' statuses.
 pub fn openings_are_flights()
     ensures held { AtEveryOpening (λ s. HeldState) }
     ensures sound { AtEveryOpening (λ s. SoundState) }

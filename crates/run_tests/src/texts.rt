@@ -52,7 +52,7 @@ enum Said {
     Begun,
 }
 
-// What a run says of each, and what a single command does.
+// What a run prints for each, and what a single command does.
 const TEXTS: [(Said, &str); 24] = [
     (Said::WriteFull, "7 write m:3306 1: full\nfull\n"),
     (Said::ApplyFull, "7 apply r:3307: full\nfull\n"),
@@ -169,7 +169,7 @@ fn interfered() -> Cause {
     }
 }
 
-// What the job failed with, and what its hook tells where one failed.
+// What the job failed with, and the line of its hook if one failed.
 fn failed(alloc: Global, cause: Cause, hook: bool) -> Result<(Turn, Reply), Memory> {
     let mut lines = Vec::new(alloc);
     if hook {

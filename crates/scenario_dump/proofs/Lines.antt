@@ -1,4 +1,4 @@
--- The text is UTF-8 where the texts in it are.
+-- The text is UTF-8 if the texts in it are.
 use Rattle.std.proofs.Common.{inl, ◌≡◌, ◌==◌, ℕ, zero, suc, ◌+◌, ◌/◌, ◌%◌, Bool, true, false, cond, ◌∷◌, List, [], ◌++◌, length, drop, Option, Some, None, refl, arith, decimal}
 use Rattle.std.specs.Prelude.{All, codes, is_some, nat_lt, option_map, slice_get, unwrap_or}
 use Rattle.scenario_dump.proofs.Prelude.{Alias, Block, Coord, Data, HasTexts, Hook, HostPort, IsName, IsUtf8, IsUtf8-append, IsUtf8-are_ascii}
@@ -103,7 +103,7 @@ utf8_comma : (later : Bool) → IsUtf8 (comma_if later)
 utf8_comma true = IsUtf8-are_ascii (44 ∷ []) refl
 utf8_comma false = IsUtf8-nil
 
--- behind an ASCII byte
+-- after an ASCII byte
 utf8_behind : (b : ℕ) (text : List ℕ) → are_ascii (b ∷ []) ≡ true → IsUtf8 text → IsUtf8 (b ∷ text)
 utf8_behind b text small all = IsUtf8-append (b ∷ []) text (IsUtf8-are_ascii (b ∷ []) small) all
 
@@ -159,7 +159,7 @@ has_coord : (o : Option Coord) (key : List ℕ) (rest : Members) → IsUtf8 key 
 has_coord None key rest k more = more
 has_coord (Some c) key rest k more = (k, (utf8_coord c, more))
 
--- the name of a server, where it is there
+-- the name of a server, if it is there
 abbrev AreNamed : List ServerInit → Type 0
 AreNamed servers = All (λ i. IsName i.settings.name) servers
 

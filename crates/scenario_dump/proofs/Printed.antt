@@ -16,7 +16,7 @@ version_printed old one two three four new before v a b c major minor patch e1 e
     let unquoted : new ≡ old ++ (before ++ (34 ∷ (version_text v ++ 34 ∷ []))) = simp (e5, e4, e3, e2, e1, major, minor, patch, append_assoc) in
     unquoted ∙ ap (λ (w : List ℕ). old ++ (before ++ (34 ∷ (w ++ 34 ∷ [])))) (sym (escape-version_text v))
 
--- a text that a writer put in quotes behind what stood before
+-- a text that a writer put in quotes after what stood before
 pub text_written : (old before written s : List ℕ) (none all : List Token) → none ≡ [] → all ≡ none ++ string s ∷ [] → before ≡ old → written ≡ before ++ print all → written ≡ old ++ quoted s
 unfolding print_from
 text_written old before written s none all new one same is = is ∙ ap₂ (λ (v w : List ℕ). v ++ w) same (ap print (one ∙ ap (λ (ts : List Token). ts ++ string s ∷ []) new) ∙ append-nil (quoted s))

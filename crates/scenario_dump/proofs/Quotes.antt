@@ -1,4 +1,4 @@
--- Texts that stand in quotes as they are.
+-- Texts that are in quotes as they are.
 use Rattle.scenario_dump.proofs.Prelude.{Coord, HostPort, IsName, Version, and_parts as both, by_index, common_steps, coord_text, digit_glyph}
 use Rattle.scenario_dump.proofs.Prelude.{digit_place, digits, digits_onto, drop-nil, escape, escape_byte, escape_byte_plain, false≢true, hex_digit}
 use Rattle.scenario_dump.proofs.Prelude.{is_host_byte, is_hyphen_place, list_all, lower, nibble, nibble_small, printed, six_digits, to_be_bytes}
@@ -10,7 +10,7 @@ escape-append : (a b : List ℕ) → escape (a ++ b) ≡ escape a ++ escape b
 escape-append [] b = refl
 escape-append (x ∷ xs) b = ap (λ (v : List ℕ). escape_byte x ++ v) (escape-append xs b) ∙ sym (append_assoc (escape_byte x) (escape xs) (escape b))
 
--- both parts stand as they are
+-- both parts are unchanged
 escape-both : (a b : List ℕ) → escape a ≡ a → escape b ≡ b → escape (a ++ b) ≡ a ++ b
 escape-both a b first second = escape-append a b ∙ ap₂ (λ (v w : List ℕ). v ++ w) first second
 

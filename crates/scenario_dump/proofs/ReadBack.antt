@@ -21,7 +21,7 @@ pub record ReadsItems (k : ℕ) (ds : Items) : Type 0 where
   pub numbers : ItemsHaveNumbers (items_outline ds)
   pub shallow : tree.items_depth (items_outline ds) ≤ k
 
--- members behind others
+-- members after others
 abbrev pub behind : Members → Members → Members
 behind no_members more = more
 behind (member k d ms) more = member k d (behind ms more)

@@ -35,7 +35,7 @@ later_after a b less = ap is_after (nat_list_cmp_total.antisymm b a ∙ ap order
 rest_rises : (l : List ℕ) (ls : List (List ℕ)) → IsRising (l ∷ ls) → IsRising ls
 rest_rises l ls rising = λ i j a b at_i at_j less. rising (suc i) (suc j) a b at_i at_j (omega arith)
 
--- what stands before is before each of these
+-- what is before is before each of these
 abbrev IsBefore : Members → List (List ℕ) → Type 0
 IsBefore found ls = (j : ℕ) (b : List ℕ) → slice_get ls j ≡ Some b → above b found ≡ true
 

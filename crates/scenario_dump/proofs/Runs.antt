@@ -4,7 +4,7 @@ use Rattle.scenario_dump.proofs.Prelude.{is_like, items_of, items_text, list_dat
 use Rattle.std.proofs.Common.{◌≡◌, ◌∙◌, ◌==◌, ◌≤◌, ℕ, ◌+◌, Bool, true, false, ◌&&◌, ◌∷◌, List, [], ◌++◌, length, drop, sym, ap, ap₂, refl, arith, append_assoc}
 use Rattle.std.specs.Prelude.{Some, if◌then◌else◌, slice_get}
 
--- a part before others: the first of them joins it where it is like it
+-- a part before others: the first of them joins it if it is like it
 abbrev alike : Part → Part → Bool
 alike p q = p.origin.0 == q.origin.0 && p.size == q.size
 
@@ -67,7 +67,7 @@ pub parts_at : (ts : List Txn) (k : ℕ) (t : Txn) → slice_get ts k ≡ Some t
 unfolding parts_of
 parts_at ts k t there = ap parts_of (slice_get-drop ts k t there)
 
--- ---- what is still to come of a history behind some transactions
+-- ---- what is still to come of a history after some transactions
 
 pub history_begins : (f : Part → Data) (ts : List Txn) (t : Txn) (run : Part) (old new : List ℕ) → slice_get ts 0 ≡ Some t → run ≡ part_of t → new ≡ old ++ 91 ∷ []
     → new ++ items_text false (items_of f (merged run (parts_of (drop 1 ts)))) ≡ old ++ compact_text (list_data f (parts_of ts))

@@ -33,7 +33,7 @@ fixed_flat r first rest = codes ",\"limit\":" ++ (decimal r.limit ++ (codes ",\"
 fixed_before : (r : Settings) (first : ℕ) (rest : List ℕ) → fixed_text r first ++ rest ≡ fixed_flat r first rest
 fixed_before r first rest = fixed_shape (decimal r.limit) (flag_text r.logs) (quoted (printed r.name)) (decimal first) rest
 
--- what is told of a server, as texts
+-- what is printed of a server, as texts
 abbrev points_text : Server → List ℕ
 points_text s = compact_text (list_data count_data (points_of s))
 

@@ -1,4 +1,4 @@
--- What a world's calls tell of a server.
+-- What a world's calls answer for a server.
 use Rattle.scenario_dump.proofs.Prelude.{Index, Server, Settings, Txn, World, false≢true, flush_points, flushes_of, get_or_from_slice_get, history_of}
 use Rattle.scenario_dump.proofs.Prelude.{init_by, init_of, log_of, name_text, opening_of, printed, same_Some as some-inj, server_at, slice_get-map}
 use Rattle.scenario_dump.proofs.Prelude.{slice_get_past as none_past, slice_get_within, source_in}
@@ -10,7 +10,7 @@ use Rattle.scenario_dump.proofs.Points.{at_below}
 pub there_is : (w : World) (n : ℕ) → n < length w.servers → (s : Server) × (server_at w n ≡ Some s)
 there_is w n below = at_below w.servers n below
 
--- what is told of it
+-- the answer for it
 pub told : {A : Type 0} (w : World) (n : ℕ) (s : Server) (f : Server → A) (x : A) → server_at w n ≡ Some s → option_map f (server_at w n) ≡ Some x → x ≡ f s
 told w n s f x there is = sym (some-inj (f s) x (sym (ap (option_map f) there) ∙ is))
 
@@ -37,7 +37,7 @@ All-at P xs k x all e = subst P (get_or_from_slice_get xs k x x e) (all k x (sli
 
 -- ---- its log
 
--- the flush points of a server that tells this log, and of one that tells none
+-- the flush points of a server with this log, and of one without
 points_by : (b : Bool) (i j : Index) (limit limit' : ℕ) → limit' ≡ limit → Some i ≡ (if b then Some j else None) → (if b then flush_points limit j.log else []) ≡ flush_points limit' i.log
 points_by true i j limit limit' same e = sym (ap₂ (λ l x. flush_points l x.log) same (some-inj i j e))
 points_by false i j limit limit' same e = absurd (false≢true (sym (ap is_some e)))
@@ -56,13 +56,13 @@ unlogged_points w n s there log =
 
 -- ---- the name of a server of any number
 
--- where there is one
+-- if there is one
 pub name_there : (w : World) (n : ℕ) (r : Settings) → n < length w.servers → option_map (λ s. s.settings) (server_at w n) ≡ Some r → printed r.name ≡ name_text (opening_of w).servers n
 name_there w n r below settings =
     let s = there_is w n below in
     ap (λ x. printed x.name) (told w n s.0 (λ s. s.settings) r s.1 settings) ∙ sym (name_at w n s.0 s.1)
 
--- and where there is none
+-- and if there is none
 pub name_past : (w : World) (n : ℕ) → length w.servers ≤ n → name_text (opening_of w).servers n ≡ []
 unfolding opening_of
 name_past w n past =

@@ -2,12 +2,12 @@
 use Rattle.std.specs.Prelude.{ℕ, ◌+◌, ◌-◌, List, [], ◌∷◌, ◌++◌, replicate, nat_le, if◌then◌else◌}
 use Rattle.scenario_dump.specs.Prelude.{Entry, Log}
 
--- the file in which a log goes on behind a transaction: the next one where its end reaches the limit
+-- the file in which a log goes on after a transaction: the next one if its end reaches the limit
 abbrev pub file_behind : ℕ → Entry → ℕ
 file_behind limit e = if nat_le limit e.end then e.file + 1 else e.file
 
--- After how many transactions a log was flushed, once for each new file that no transaction's end began: of these
--- transactions, before which so many stand and file `file` goes on, in a log of so many files.
+-- After how many transactions a log was flushed, once for each new file that no transaction's end began. The list has
+-- these transactions, after so many others, from file `file` on, in a log of so many files.
 abbrev pub flushed_from : ℕ → ℕ → ℕ → ℕ → List Entry → List ℕ
 flushed_from limit files count file [] = replicate (files - file) count
 flushed_from limit files count file (e ∷ es) = replicate (e.file - file) count ++ flushed_from limit files (count + 1) (file_behind limit e) es

@@ -1,4 +1,4 @@
--- What is told of one server, for the texts of its parts.
+-- What is printed of one server, for the texts of its parts.
 use Rattle.std.specs.Prelude.{ℕ, ◌++◌, List, [], codes, decimal, Bool, option_map, Option, Some, None, unwrap_or}
 use Rattle.scenario_dump.specs.Prelude.{Coord, Part, Server, Settings, World, compact_text, coord_text, history_of, printed, quoted, server_at}
 use Rattle.scenario_dump.specs.Prelude.{token_text, uuid_text}
@@ -25,7 +25,7 @@ part_text w p = compact_text (part_data (opening_of w).servers p)
 abbrev pub history_text : World → ℕ → List ℕ
 history_text w n = compact_text (list_data (part_data (opening_of w).servers) (parts_of (history_of (server_at w n))))
 
--- how far its applier is to go, with its key, where that is told
+-- how far its applier is to go, with its key, if that is given
 abbrev pub until_text : Option Coord → List ℕ
 until_text None = []
 until_text (Some c) = codes ",\"until\":" ++ quoted (coord_text c)

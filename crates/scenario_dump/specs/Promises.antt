@@ -3,7 +3,7 @@ use Rattle.std.specs.Prelude.{◌≡◌, ℕ, ◌<◌, ◌^◌, List, All, map, 
 use Rattle.scenario_dump.specs.Prelude.{IsName, IsUtf8, Less, Scenario, ServerInit, World, nat_cmp, parts_of, slice_cmp}
 use Rattle.scenario_dump.specs.Servers.{opening_of}
 
--- each label before those behind it, by their bytes
+-- each label before those after it, by their bytes
 abbrev pub IsRising : List (List ℕ) → Type 0
 IsRising labels = (i j : ℕ) (a b : List ℕ) → slice_get labels i ≡ Some a → slice_get labels j ≡ Some b → i < j → slice_cmp nat_cmp a b ≡ Less
 

@@ -5,7 +5,7 @@ use Rattle.scenario_dump.specs.Servers.{opening_of, points_of}
 use Rattle.scenario_dump.specs.Texts.{dump_text}
 use Rattle.scenario_dump.specs.Tidy.{IsTidy}
 
--- a quiet world of the servers of a scenario
+-- a world of the servers of a scenario with the invariant `IsQuiet`
 pub record IsWorldOf (s : Scenario) (w : World) : Type 0 where
   pub settings : map (λ x. x.settings) w.servers ≡ settings_of s
   pub gtid : w.gtid ≡ s.opening.gtid
@@ -28,7 +28,7 @@ all_known servers = map (λ x. true) servers
 abbrev pub no_rules : List Server → List (Option Rule)
 no_rules servers = map (λ x. None) servers
 
--- the servers as they are, and what the scenario says beside servers and turns
+-- the servers as they are, and what the scenario has beside servers and turns
 unfoldable pub dumped_scenario : World → Scenario → ℕ → Scenario
 dumped_scenario w s now = record {
   opening = opening_of w;

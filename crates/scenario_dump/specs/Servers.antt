@@ -18,8 +18,8 @@ is_detached (Detached m) = true
 abbrev pub points_of : Server → List ℕ
 points_of s = if s.settings.logs then flush_points s.settings.limit s.log.log else []
 
--- A server without a source lists its history, and nothing is said of how it replicates; of another one its source, how
--- many of the source's transactions it has executed, and where and how it goes on.
+-- A server without a source lists its history, and nothing of how it replicates. Another one has its source, how many
+-- of the source's transactions it has executed, and its position and how it goes on.
 abbrev pub init_by : Server → Option ServerNo → ServerInit
 init_by s None = record {
   settings = s.settings;

@@ -72,7 +72,7 @@ two_servers = record {
 abbrev any : FilterList
 any = record { texts = codes "*" ∷ []; passes = [] }
 
--- a scenario that says nothing of clusters, and one that does
+-- a scenario that has nothing of clusters, and one that does
 abbrev pub plain_scenario : Scenario
 plain_scenario = record {
   opening = opening [] false;

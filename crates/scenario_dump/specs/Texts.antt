@@ -43,8 +43,8 @@ part_data servers p = array (item (string (name_text servers p.origin.0)) (item 
 
 -- ---- servers
 
--- A server: of one with a source also where it is attached, how many of the source's transactions it has executed, and
--- how it goes on; of one without its history.
+-- A server. One with a source has that, whether it is attached, how many of the source's transactions it has executed,
+-- and how it goes on. One without has its history.
 unfoldable pub server_data : List ServerInit → ServerInit → Data
 server_data servers i =
     object (member_for (codes "at") (option_map coord_data i.at)
@@ -98,7 +98,7 @@ hooks_data h =
     (member (codes "pre_failover") (list_data hook_data h.pre_failover)
     no_members)))
 
--- the world at a moment, with what the scenario says beside its servers and turns
+-- the world at a moment, with what the scenario has beside its servers and turns
 unfoldable pub dump_data : World → Scenario → ℕ → Data
 dump_data w s now =
     object (member (codes "aliases") (object (aliases_data s.aliases))

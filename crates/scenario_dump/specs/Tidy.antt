@@ -1,5 +1,5 @@
--- What holds of the servers of a run beside that they are placed, and safe where no server with a source accepted a
--- write: by it they can be given as a scenario.
+-- What holds for the servers of a run beside `Placed`, and `Safe` if no server with a source accepted a write. By it
+-- they can be given as a scenario.
 use Rattle.std.specs.Prelude.{◌≡◌, ℕ, ◌≤◌, ◌<◌, ◌^◌, true, false, List, [], if◌then◌else◌, All, IfSome, Some, None}
 use Rattle.scenario_dump.specs.Prelude.{Coord, HasSize, Server, Without, World, file_start, opened, server_at, source_no}
 
@@ -19,7 +19,7 @@ pub record IsWritten (c : Coord) : Type 0 where
   pub start : 4 ≤ c.pos
   pub pos : c.pos < 2 ^ 64
 
--- where and how far a server replicates can be printed
+-- the position of a replicating server can be printed
 pub record CanPrint (s : Server) : Type 0 where
   pub exec : IsWritten s.exec
   pub read : IsWritten s.read
@@ -37,10 +37,10 @@ pub record IsTidyServer (w : World) (s : Server) : Type 0 where
   pub auto : s.auto ≡ true → w.gtid ≡ true
   pub printed : CanPrint s
   pub sizes : All HasSize s.history.txns
-  -- its log has its settings' limit, and stays as it was opened where it doesn't log
+  -- its log has its settings' limit, and stays as it was opened if it doesn't log
   pub limit : s.log.log.limit ≡ s.settings.limit
   pub unlogged : s.settings.logs ≡ false → s.log.log ≡ opened s.settings.limit
-  -- the log of a server that logs tells its history, and that of another one nothing
+  -- the log of a server that logs has its history, and that of another one nothing
   pub told : s.log.txns ≡ (if s.settings.logs then s.history.txns else [])
   -- it is of its source's cluster, and of that of the origins of its transactions
   pub source : (m : ℕ) → source_no s.source ≡ Some m → IsOf w s.settings.cluster m

@@ -6,7 +6,7 @@ ghost use Rattle.scenario_dump.specs.Promises.{HasTexts, IsReadable};
 ghost use Rattle.scenario_dump.specs.Small.{named_scenario, one_server, plain_scenario, two_servers};
 ghost use Rattle.scenario_dump.specs.Texts.{dump_data, dump_text};
 
-/// The text is JSON, and reads as the value of the world. Where its texts are UTF-8 so is the whole.
+/// The text is JSON, and reads as the value of the world. If its texts are UTF-8 so is the whole.
 pub fn dumps_read_as_json()
     ensures read { (w : World) (s : Scenario) (now : ℕ) → IsReadable w s now
         → read (dump_text w s now) ≡ Some (dump_data w s now) }

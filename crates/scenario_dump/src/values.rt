@@ -1,4 +1,4 @@
-//! Values as JSON, each behind the bytes that stand before it.
+//! Values as JSON, each after the bytes that are before it.
 
 ghost use Rattle.std.specs.Prelude.{◌≡◌, ◌++◌, decimal, OnOk};
 ghost use Rattle.scenario_dump.specs.Prelude.{comma_if, coord_text, printed, quoted, uuid_text};
@@ -15,7 +15,7 @@ use std::alloc::Global;
 use std::mem::replace;
 use uuid::Uuid;
 
-/// A comma, where something stands before.
+/// A comma, if something is before.
 pub(crate) fn comma(later: bool) -> &'static [u8]
     ensures { result.now ≡ comma_if later }
 {

@@ -78,9 +78,9 @@ fn print_servers(alloc: Global, world: &World, out: &mut Vec<u8>) -> Result<(), 
     out.extend_from_slice(b"]")
 }
 
-/// The world as a scenario's text without turns, which begins at this moment: its servers as they stand, and what the
-/// scenario says beside its servers and turns. It is one line of compact JSON. `Memory` comes only for want of memory;
-/// beside the text it takes none.
+/// The world as a scenario's text without turns, which begins at this moment: its servers as they are, and what the
+/// scenario has beside its servers and turns. It is one line of compact JSON. `Memory` comes only if memory runs out.
+/// Beside the text it takes none.
 pub fn dump(
     alloc: Global,
     world: &World,

@@ -15,7 +15,7 @@ use Rattle.scenario_filters.specs.Aliases.{alias_of}
 use Rattle.scenario_filters.specs.AliasTable.{alias_at, answered_by, AreKnown, IsAliasTable}
 use Rattle.scenario_filters.specs.Filters.{answered_list}
 
--- the alias at a place, or one behind it
+-- the alias at a place, or one after it
 alias_of-at : (aliases : List Alias) (n : ℕ) (a : Alias) (cluster : List ℕ) (test : Bool) → n < length aliases → a ≡ get_or aliases n a → test ≡ pointwise eqb a.cluster cluster
     → alias_of (drop n aliases) cluster ≡ cond test a.alias (alias_of (drop (n + 1) aliases) cluster)
 alias_of-at aliases n a cluster test lt here is = rw (add-one, drop-cons aliases n a lt, ← here, ← is) refl

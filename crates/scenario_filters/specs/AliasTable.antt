@@ -10,14 +10,14 @@ use Rattle.scenarios.specs.declared.filters.Alias.{Alias}
 use Rattle.scenarios.specs.declared.filters.FilterList.{FilterList}
 use Rattle.scenario_filters.specs.Aliases.{alias_of}
 
--- the alias that a table has for a cluster: empty where it has none
+-- the alias that a table has for a cluster: empty if it has none
 abbrev pub alias_at : {S : Type 0} → HashMap (Bor (List ℕ)) (Bor (List ℕ)) S → List ℕ → List ℕ
 alias_at table cluster = option_map_or (λ a. a.now) (get_by (λ k. bytes_eq cluster k.now) table) []
 
 abbrev pub IsAliasTable : {S : Type 0} → HashMap (Bor (List ℕ)) (Bor (List ℕ)) S → List Alias → Type 0
 IsAliasTable table aliases = (cluster : List ℕ) → alias_at table cluster ≡ alias_of aliases cluster
 
--- whether a server's cluster passes, where this gives each cluster's alias
+-- whether a server's cluster passes, if this gives each cluster's alias
 abbrev pub passes_by : (List ℕ → List ℕ) → List Form → ServerInit → Bool
 passes_by alias forms i = some_matches i.settings.cluster (alias i.settings.cluster) forms
 

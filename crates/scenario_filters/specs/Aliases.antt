@@ -16,7 +16,7 @@ alias_in label d = do
   alias ← text_within 0 255 text
   Ok (record { cluster = cluster; alias = alias })
 
--- the labels by their bytes, as the members of an object stand
+-- the labels by their bytes, in the order of an object's members
 unfoldable pub aliases_in : Data → Result (List Alias) Fault
 aliases_in d = do
   ms ← members_in d

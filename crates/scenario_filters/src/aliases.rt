@@ -64,7 +64,7 @@ pub(crate) fn table_of(alloc: Global, aliases: &[Alias]) -> Result<HashMap<&str,
     Ok(table)
 }
 
-/// The alias of a cluster: empty where it has none.
+/// The alias of a cluster: empty if it has none.
 pub(crate) fn alias_of<'a>(table: &HashMap<&str, &'a str>, cluster: &str) -> &'a str
     ensures { result.now ≡ alias_at table.now cluster.now }
 {

@@ -78,7 +78,7 @@ fn answered_list(
     Ok(FilterList { texts, passes })
 }
 
-/// The lists of filters with, for each server, whether its cluster passes them. Want of memory also answers a regular
+/// The lists of filters with, for each server, whether its cluster passes them. `Memory` also comes for a regular
 /// expression past the room that `regex` grants one. The time is that of the aliases, the servers, and the filters for
 /// each cluster.
 pub fn answered(

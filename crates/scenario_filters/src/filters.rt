@@ -24,7 +24,7 @@ pub struct FilterTexts {
     pub intermediate: Texts,
 }
 
-// Nothing, where the regular expression of a filter, if it has one, has a pattern.
+// Nothing, if the regular expression of a filter, if it has one, has a pattern.
 fn test_filter(alloc: Global, text: &str) -> Result<(), ReadFault>
     ensures exact { Gives (λ _. tt) fault_of result (holds BadPattern (has_pattern (form_of text.now))) }
     ensures read { OnOk result (has_pattern (form_of text.now) ≡ true) }
@@ -97,8 +97,8 @@ fn list_at(alloc: Global, object: &Value, key: &str) -> Result<Texts, ReadFault>
 }
 
 /// The filters of an object with the lists `master` and `intermediate`; a list that isn't there lets every cluster
-/// through. Of each element first the kind and then the pattern is looked at, and then the next element. Want of memory
-/// also answers a regular expression past the room that `regex` grants one.
+/// through. For each element the kind is looked at first and then the pattern, and then the next element. `Memory` also
+/// comes for a regular expression past the room that `regex` grants one.
 #[tactic(auto, unfolding(crate::specs::Filters::filters_in))]
 pub fn filters_in(alloc: Global, value: &Value) -> Result<FilterTexts, ReadFault>
     ensures exact { Gives (λ f. f) fault_of result (filters_in (view value.now)) }
@@ -114,7 +114,7 @@ pub fn filters_in(alloc: Global, value: &Value) -> Result<FilterTexts, ReadFault
     })
 }
 
-/// The lists that let every cluster through.
+/// The lists that let every cluster through. `Err` means out of memory.
 pub fn no_filters(alloc: Global) -> Result<FilterTexts, Memory>
     ensures exact { IfOk result (λ f. f ≡ no_filters) }
     ensures read { IfOk result AreRead }

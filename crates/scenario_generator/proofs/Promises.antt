@@ -32,7 +32,7 @@ placed_by false servers n x e =
     let few : executed_by (count_at servers) n x < count_at servers (source_by n x) + 1 = below_small (count_at servers (source_by n x) + 1) (next (next x)) (omega arith) in
     record { inner = inner; earlier = high; near = omega arith; few = omega arith }
 
--- a server keeps its place where more follow
+-- a server keeps its place if more follow
 placed_still : (ss more : List DrawnServer) (n : ℕ) (s : DrawnServer) → n ≤ length ss → IsPlaced ss n s → IsPlaced (ss ++ more) n s
 placed_still ss more n Root h is = is
 placed_still ss more n (Replica source executed) h is = record {
@@ -109,7 +109,7 @@ turns_are servers x (suc n) some = λ k t e.
 
 -- ---- names
 
--- zeros in front count for nothing
+-- leading zeros count for nothing
 value_padded : (k : ℕ) (ds : List ℕ) → digits_value 10 (drop k (codes "0000") ++ ds) ≡ digits_value 10 ds
 value_padded zero ds = refl
 value_padded (suc (suc (suc (suc k)))) ds = rw (drop-nil k)

@@ -5,7 +5,7 @@ use Rattle.scenario_generator.proofs.Prelude.{colon, comma, content-escape, end_
 use Rattle.scenario_generator.proofs.Prelude.{lex, lex-escape, lex-number, null, number, print, print_from, punctuate, quoted, separator, string}
 use Rattle.scenario_generator.proofs.Prelude.{string_token, token, token_text, tokens, tokens-print, word}
 
--- ---- a newline byte behind the text adds no token
+-- ---- a newline byte after the text adds no token
 
 token_lexemes : Token → List Lexeme
 token_lexemes begin_object = token begin_object ∷ []
@@ -58,7 +58,7 @@ value_ends (boolean b ∷ ts) r h = refl
 value_ends (null ∷ ts) r h = refl
 value_ends (bad ∷ ts) r h = refl
 
--- what stands before the rest is lexed by itself
+-- what is before the rest is lexed by itself
 front : Bool → Token → List Lexeme
 front c t = cond (c && begins t) (comma ∷ []) [] ++ token_lexemes t
 

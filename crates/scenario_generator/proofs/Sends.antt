@@ -18,7 +18,7 @@ takes_more (Some b) None after xs ys first second = absurd first
 takes_more (Some b) (Some m) None xs ys first second = absurd second
 takes_more (Some b) (Some m) (Some a) xs ys first second = second ∙ (ap (λ (v : List ℕ). v ++ ys) first ∙ append_assoc b xs ys)
 
--- a text and then a front of another are a front of both
+-- a text and then a prefix of another are a prefix of both
 pub front_more : (before mid after : Option (List ℕ)) (xs ys : List ℕ) → Appends before mid xs → AppendsFront mid after ys → AppendsFront before after (xs ++ ys)
 front_more before mid after xs ys first second =
     let n = second.0 in
@@ -26,7 +26,7 @@ front_more before mid after xs ys first second =
     let within : length xs + n ≤ length (xs ++ ys) = omega (arith, few, length-append xs ys) in
     (length xs + n, within, subst (λ (v : List ℕ). Appends before after v) (sym (take-append-add xs ys n)) (takes_more before mid after xs (take n ys) first second.2))
 
--- a front of a text is one of a longer text
+-- a prefix of a text is one of a longer text
 pub front_of_longer : (before after : Option (List ℕ)) (xs ys : List ℕ) → AppendsFront before after xs → AppendsFront before after (xs ++ ys)
 front_of_longer before after xs ys took =
     let n = took.0 in
@@ -34,7 +34,7 @@ front_of_longer before after xs ys took =
     let within : n ≤ length (xs ++ ys) = omega (arith, few, length-append xs ys) in
     (n, within, subst (λ (v : List ℕ). Appends before after v) (sym (take-append-le n xs ys few)) took.2)
 
--- the whole is a front
+-- the whole is a prefix
 pub whole_is_front : (before after : Option (List ℕ)) (bytes : List ℕ) → Appends before after bytes → AppendsFront before after bytes
 whole_is_front before after bytes took =
     let within : length bytes ≤ length bytes = omega arith in
@@ -42,7 +42,7 @@ whole_is_front before after bytes took =
 
 -- ---- texts in pieces
 
--- the sink was given what was held
+-- the sink got what was waiting
 pub handed_over : {T F : Type 0} (r : Result T F) (old new : Option (List ℕ)) (held lent held' : List ℕ) → lent ≡ held → held' ≡ [] → OnOk r (Appends old new lent) → OnOk r (Stays old held new held')
 handed_over (Ok x) old new held lent held' same empty took = λ before text h. record {
   front = h.front ++ held;
@@ -51,7 +51,7 @@ handed_over (Ok x) old new held lent held' same empty took = λ before text h. r
 }
 handed_over (Err e) old new held lent held' same empty took = took
 
--- it took a front of what was held
+-- it took a prefix of what was waiting
 pub handed_front : {T F : Type 0} (r : Result T F) (old new : Option (List ℕ)) (held lent : List ℕ) → lent ≡ held → OnErr r (AppendsFront old new lent) → OnErr r (StaysFront old held new)
 handed_front (Ok x) old new held lent same took = took
 handed_front (Err e) old new held lent same took = λ before text h.
@@ -59,7 +59,7 @@ handed_front (Err e) old new held lent same took = λ before text h.
 
 -- ---- texts that join others
 
--- what was taken is a front of the text, and of a longer one
+-- what was taken is a prefix of the text, and of a longer one
 pub handed_is_front : (before now : Option (List ℕ)) (held text more : List ℕ) → IsHanded before now held text → AppendsFront before now (text ++ more)
 handed_is_front before now held text more h =
     front_of_longer before now text more
@@ -69,7 +69,7 @@ handed_is_front before now held text more h =
 pub joins_nothing : (old : Option (List ℕ)) (held first : List ℕ) → first ≡ [] → Joins first old held old held
 joins_nothing old held first empty = λ before text h. subst (λ (v : List ℕ). IsHanded before old held v) (sym (ap (λ (v : List ℕ). text ++ v) empty ∙ append-nil text)) h
 
--- more is held
+-- more is waiting
 pub joins_more : (old new : Option (List ℕ)) (held held' held'' first more both : List ℕ) → Joins first old held new held' → held'' ≡ held' ++ more → both ≡ first ++ more → Joins both old held new held''
 joins_more old new held held' held'' first more both joins added is = λ before text h.
     let mid = joins before text h in
@@ -80,12 +80,12 @@ joins_more old new held held' held'' first more both joins added is = λ before 
           ∙ (ap (λ (v : List ℕ). v ++ more) mid.is ∙ (append_assoc mid.front held' more ∙ ap (λ (v : List ℕ). mid.front ++ v) (sym added))));
     }
 
--- the sink took a front of what was to join
+-- the sink took a prefix of what was to join
 pub joins_front : (old new : Option (List ℕ)) (held held' first more whole : List ℕ) → Joins first old held new held' → whole ≡ first ++ more → JoinsFront whole old held new
 joins_front old new held held' first more whole joins is = λ before text h.
     subst (λ (v : List ℕ). AppendsFront before new v) (append_assoc text first more ∙ ap (λ (v : List ℕ). text ++ v) (sym is)) (handed_is_front before new held' (text ++ first) more (joins before text h))
 
--- the same, where it failed
+-- the same, if it failed
 pub stays_front : (old mid new : Option (List ℕ)) (held held' first more whole : List ℕ) → Joins first old held mid held' → StaysFront mid held' new → whole ≡ first ++ more → JoinsFront whole old held new
 stays_front old mid new held held' first more whole joins stays is = λ before text h.
     subst (λ (v : List ℕ). AppendsFront before new v) (append_assoc text first more ∙ ap (λ (v : List ℕ). text ++ v) (sym is))

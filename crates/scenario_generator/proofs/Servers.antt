@@ -95,7 +95,7 @@ servers_from-text x n =
     ap (λ (d : Drawing DrawnServer). servers_text d.drawn) (servers_from-next x n) ∙ servers_text-more ss s
     ∙ ap (λ k. servers_text ss ++ (comma_if (nat_lt 0 k) ++ server_text k s)) (servers_from-count x n)
 
--- the text of the first ones is a front of that of more
+-- the text of the first ones is a prefix of that of more
 pub servers_from-front : (x n k : ℕ) → (more : List ℕ) × (servers_text (servers_from x (k + n)).drawn ≡ servers_text (servers_from x n).drawn ++ more)
 servers_from-front x n zero = let same : 0 + n ≡ n = omega arith in ([], ap (λ m. servers_text (servers_from x m).drawn) same ∙ sym (append-nil (servers_text (servers_from x n).drawn)))
 servers_from-front x n (suc k) =

@@ -111,7 +111,7 @@ printed (Err e) new mid out first last text before whole ok = ok
 pub printed_once : {T E : Type 0} (r : Result T E) (new out part text : List ℕ) → text ≡ part → OnOk r (new ≡ out ++ part) → OnOk r (new ≡ out ++ text)
 printed_once r new out part text whole ok = subst (λ (v : List ℕ). OnOk r (new ≡ out ++ v)) (sym whole) ok
 
--- bytes that were added, where they were
+-- bytes that were added, if they were
 pub appended : {T E : Type 0} (r : Result T E) (new old bytes : List ℕ) → new ≡ (if is_ok r then old ++ bytes else old) → OnOk r (new ≡ old ++ bytes)
 appended (Ok x) new old bytes is = is
 appended (Err e) new old bytes is = tt
@@ -121,6 +121,6 @@ two_printed one two out a b first second = second ∙ (ap (λ (v : List ℕ). v 
 
 -- ---- lists
 
--- behind the first one something stands before
+-- after the first one something is before
 pub some_before : (k : ℕ) → nat_lt 0 (suc k) ≡ true
 some_before k = grind (arith, common_steps)

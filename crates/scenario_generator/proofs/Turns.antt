@@ -38,7 +38,7 @@ turns_from-text servers x n =
     ap (λ (d : Drawing DrawnTurn). turns_text d.drawn) (turns_from-next servers x n) ∙ turns_text-more ts t
     ∙ ap (λ k. turns_text ts ++ (comma_if (nat_lt 0 k) ++ turn_text t)) (turns_from-count servers x n)
 
--- the text of the first ones is a front of that of more
+-- the text of the first ones is a prefix of that of more
 pub turns_from-front : (servers x n k : ℕ) → (more : List ℕ) × (turns_text (turns_from servers x (k + n)).drawn ≡ turns_text (turns_from servers x n).drawn ++ more)
 turns_from-front servers x n zero =
     let same : 0 + n ≡ n = omega arith in ([], ap (λ m. turns_text (turns_from servers x m).drawn) same ∙ sym (append-nil (turns_text (turns_from servers x n).drawn)))

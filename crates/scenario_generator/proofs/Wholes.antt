@@ -39,11 +39,11 @@ scenario_parts seed servers turns x same =
 
 -- ---- the text on its way
 
--- all of it is held
+-- all of it is waiting
 pub all_held : (old : Option (List ℕ)) (held text : List ℕ) → held ≡ text → IsHanded old old held text
 all_held old held text same = record { front = []; took = takes_nothing old; is = sym same }
 
--- more is held
+-- more is waiting
 pub more_held : (before now : Option (List ℕ)) (held held' text more : List ℕ) → held' ≡ held ++ more → IsHanded before now held text → IsHanded before now held' (text ++ more)
 more_held before now held held' text more added h = record {
   front = h.front;
@@ -56,14 +56,14 @@ pub all_taken : (before now after : Option (List ℕ)) (held lent text whole : L
 all_taken before now after held lent text whole same lends h took =
     subst (λ (v : List ℕ). Appends before after v) (sym (same ∙ h.is)) (takes_more before now after h.front held h.took (subst (λ (v : List ℕ). Appends now after v) lends took))
 
--- a front of some parts is one of the whole
+-- a prefix of some parts is one of the whole
 pub front_of_two : (before after : Option (List ℕ)) (a b c whole : List ℕ) → whole ≡ (a ++ b) ++ c → AppendsFront before after a → AppendsFront before after whole
 front_of_two before after a b c whole same took = subst (λ (v : List ℕ). AppendsFront before after v) (sym same) (front_of_longer before after (a ++ b) c (front_of_longer before after a b took))
 
 pub front_of_whole : (before after : Option (List ℕ)) (a b whole : List ℕ) → whole ≡ a ++ b → AppendsFront before after a → AppendsFront before after whole
 front_of_whole before after a b whole same took = subst (λ (v : List ℕ). AppendsFront before after v) (sym same) (front_of_longer before after a b took)
 
--- a front of the rest was taken
+-- a prefix of the rest was taken
 pub rest_front : (before now after : Option (List ℕ)) (held lent text whole : List ℕ) → whole ≡ text → lent ≡ held → IsHanded before now held text → AppendsFront now after lent → AppendsFront before after whole
 rest_front before now after held lent text whole same lends h took =
     subst (λ (v : List ℕ). AppendsFront before after v) (sym (same ∙ h.is)) (front_more before now after h.front held h.took (subst (λ (v : List ℕ). AppendsFront now after v) lends took))

@@ -1,5 +1,5 @@
--- Numbers that look random: a linear congruential sequence modulo 2^64, of which the leading bits are used (Knuth, "The
--- Art of Computer Programming", 3.2.1; the multiplier and the increment are those of its MMIX programs).
+-- Numbers that look random: a linear congruential sequence modulo 2^64, of which the leading bits are used. See Knuth,
+-- "The Art of Computer Programming", 3.2.1. The multiplier and the increment are those of its MMIX programs.
 use Rattle.std.specs.Prelude.{ℕ, ◌+◌, ◌*◌, ◌/◌, ◌%◌, ◌^◌, List, []}
 
 -- the number that follows one

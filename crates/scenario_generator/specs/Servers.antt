@@ -25,7 +25,7 @@ root_of n = n / 10 * 10
 abbrev pub source_by : ℕ → ℕ → ℕ
 source_by n x = root_of n + below (n % 10) (next x)
 
--- and has executed at most as many transactions as that one, of which `count` tells
+-- and has executed at most as many transactions as that one, whose number `count` gives
 abbrev pub executed_by : (ℕ → ℕ) → ℕ → ℕ → ℕ
 executed_by count n x = below (count (source_by n x) + 1) (next (next x))
 

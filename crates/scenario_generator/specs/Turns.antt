@@ -5,7 +5,7 @@ use Rattle.scenario_generator.specs.declared.turn.DrawnTurn.TheVariants.{Write, 
 use Rattle.scenario_generator.specs.Numbers.{Drawing, below, next, none_drawn}
 use Rattle.scenario_generator.specs.Servers.{root_of}
 
--- The turn of one of eight kinds at a server, where a write is one of this size at the root of the server's ten.
+-- The turn of one of eight kinds at a server. A write is one of this size at the root of the server's ten.
 abbrev pub turn_of : ℕ → ℕ → ℕ → DrawnTurn
 turn_of kind n size =
     if kind == 0 then Write (root_of n) size else

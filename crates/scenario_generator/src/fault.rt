@@ -9,7 +9,7 @@ use std::fmt;
 /// Why a scenario was not written to its end.
 #[derive(Clone, Copy, Debug, PartialEq, Eq)]
 pub enum NotWritten {
-    /// Want of memory.
+    /// Out of memory.
     Memory,
     /// The sink failed, and counted it.
     Sink,

@@ -65,8 +65,8 @@ fn add_turns<K: Sink>(
 }
 
 /// Writes the scenario that is drawn from a seed: so many servers, at least one, and so many turns. It goes to the sink
-/// in pieces of 64 KiB and a line, and takes no more memory however many servers and turns there are. Where it isn't
-/// written whole the sink took a front of it. `Sink` comes only where the sink failed and counted it.
+/// in pieces of 64 KiB and a line, and takes no more memory however many servers and turns there are. If it isn't
+/// written whole, the sink took a prefix of it. `Sink` comes only if the sink failed and counted it.
 pub fn write_scenario<K: Sink>(
     alloc: Global,
     seed: u64,

@@ -17,8 +17,8 @@ pub fn numbers_are_in_bounds()
     ensures small { (bound x : ℕ) → 0 < bound → below bound x < bound }
 {}
 
-/// As many servers are drawn as were asked for. The first of each ten is a root, and each other one has an earlier
-/// source of its ten and at most as many transactions as that; none has more than 20.
+/// As many servers are drawn as were asked for. The first of each ten is a root. Each other one has an earlier source
+/// of its ten and at most as many transactions as that. None has more than 20.
 pub fn servers_stand_in_trees_of_ten()
     ensures count { (seed n : ℕ) → length (servers_from seed n).drawn ≡ n }
     ensures placed { (seed n : ℕ) → ArePlaced (servers_from seed n).drawn }
@@ -33,7 +33,7 @@ pub fn turns_are_of_the_servers()
         → AreTurnsOf servers (turns_from servers x n).drawn }
 {}
 
-/// Names are counted from 1, in four digits at least; no two are the same, and each reads as a host.
+/// Names are counted from 1, in four digits at least. No two are the same, and each reads as a host.
 pub fn names_are_numbered()
     ensures first { server_name 0 ≡ codes "s0001" }
     ensures four { server_name 998 ≡ codes "s0999" }

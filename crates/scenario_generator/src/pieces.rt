@@ -9,7 +9,7 @@ use orch_base::{Failed, Sink, write_all};
 // A piece is handed over once it has so many bytes: 64 KiB.
 const PIECE: usize = 65_536;
 
-/// Hands over what is held, once that is a piece. Where the sink fails it took a front of the text.
+/// Hands over what is waiting, once that is a piece. If the sink fails, it took a prefix of the text.
 pub(crate) fn hand_over_piece<K: Sink>(held: &mut Vec<u8>, sink: &mut K) -> Result<(), Failed>
     ensures ok { OnOk result
         (Stays (K.written sink.old) held.old.items (K.written sink.new) held.new.items) }

@@ -7,7 +7,7 @@ ghost use Rattle.scenario_generator.specs.Texts.{server_name};
 use itoa::Buffer;
 use orch_base::Memory;
 
-/// A comma, where something stands before.
+/// A comma, if something is before.
 pub(crate) fn print_comma(later: bool, out: &mut Vec<u8>) -> Result<(), Memory>
     ensures { OnOk result (out.new.items ≡ out.old.items ++ comma_if later) }
 {

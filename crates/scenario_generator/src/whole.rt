@@ -11,7 +11,7 @@ use crate::write_scenario;
 use orch_base::{Failed, Memory, Sink};
 use std::alloc::Global;
 
-// A sink that keeps all that it takes, and fails for want of memory.
+// A sink that keeps all that it takes, and fails if memory runs out.
 #[derive(Drop)]
 struct Whole {
     bytes: Vec<u8>,
@@ -40,7 +40,7 @@ impl Sink for Whole {
 }
 
 /// The text of the scenario that is drawn from a seed: so many servers, at least one, and so many turns. `Memory` comes
-/// only for want of memory.
+/// only if memory runs out.
 pub fn generate(alloc: Global, seed: u64, servers: u32, turns: u32) -> Result<Vec<u8>, Memory>
     requires { 0 < servers }
     ensures { IfOk result (λ v. v.items ≡ scenario_text seed servers turns) }

@@ -1,4 +1,4 @@
--- The limits of an opening, where the servers aren't too many for what they list.
+-- The limits of an opening, if the servers aren't too many for what they list.
 use Rattle.std.proofs.Common.{◌≡◌, ◌*◌, Bool, List, true, length}
 use Rattle.std.proofs.lemmas.Bool.{leb-true}
 use Rattle.openings.specs.declared.init.ServerInit.{ServerInit}

@@ -1,4 +1,4 @@
--- The opening that the servers of a text make, and where a flaw of them stands in the text.
+-- The opening that the servers of a text make, and the position of a flaw of them in the text.
 use Rattle.std.specs.Prelude.{ℕ, ◌*◌, ◌∷◌, List, [], Bool, length, sum_by, nat_le, codes, decimal, Result, Ok, Err}
 use Rattle.openings.specs.declared.init.ServerInit.{ServerInit}
 use Rattle.openings.specs.declared.opening.Flaw.{Flaw}
@@ -63,7 +63,7 @@ listed_count servers = sum_by (λ i. transactions (parts_of i)) servers
 abbrev pub is_small : ℕ → ℕ → Bool
 is_small servers count = nat_le (servers * count) 4000000
 
--- the opening of these servers, where they aren't too many for what they list
+-- the opening of these servers, if they aren't too many for what they list
 unfoldable pub opening_in : List ServerInit → Bool → Result Opened Fault
 opening_in servers gtid = do
   few ← holds TooLarge (is_small (length servers) (listed_count servers))

@@ -1,4 +1,4 @@
-//! Where a flaw stands in the text.
+//! The position of a flaw in the text.
 
 ghost use Rattle.std.specs.Prelude.{◌≡◌, ◌∷◌, codes, decimal};
 ghost use Rattle.orch_base.specs.Gives.{Gives};

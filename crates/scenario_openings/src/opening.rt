@@ -46,7 +46,7 @@ fn is_small(servers: &[ServerInit]) -> bool
     }
 }
 
-/// The opening of these servers. They are refused where their number times the transactions that they list passes
+/// The opening of these servers. They are refused if their number times the transactions that they list passes
 /// 4,000,000, and else for their first flaw, with its place in the text. The time is that of `Opening::check`.
 #[tactic(auto, unfolding(crate::specs::Openings::opening_in))]
 pub fn opening_in(alloc: Global, servers: Vec<ServerInit>, gtid: bool) -> Result<Opening, ReadFault>

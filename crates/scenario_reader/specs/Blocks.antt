@@ -14,7 +14,7 @@ block_in label d = do
   seconds ← period_in d
   Ok (record { cluster = cluster; seconds = seconds })
 
--- the labels by their bytes, as the members of an object stand
+-- the labels by their bytes, in the order of an object's members
 unfoldable pub blocks_in : Data → Result (List Block) Fault
 blocks_in d = do
   ms ← members_in d

@@ -76,7 +76,7 @@ bounded servers turns = do
   few_writes ← holds TooLarge (is_small (length servers) (listed_count servers + count_by is_write turns))
   Ok turns
 
--- the turns that the listed ones of so many orchestrators stand for, each of which is read before they are counted
+-- the turns that the listed ones of so many orchestrators mean, each of which is read before they are counted
 unfoldable pub turns_in : List (Option HostPort) → List ServerInit → ℕ → Items → Result (List Turn) Fault
 turns_in names servers nodes items = do
   listed ← under (codes "turns") (each (turn_in names (printed_of servers) nodes) items)

@@ -17,8 +17,8 @@ use scenarios::{Aliases, Blocks, Hooks};
 use serde_json::Value;
 use std::alloc::Global;
 
-/// What stands before the servers: when the scenario begins, whether it uses GTIDs, which transactions are marks, how
-/// many orchestrators there are, the block periods, the clusters' aliases and filters, and the hooks.
+/// What comes before the servers: when the scenario begins, whether it uses GTIDs, which transactions are marks, and
+/// how many orchestrators there are. Then the block periods, the clusters' aliases and filters, and the hooks.
 #[derive(Drop)]
 pub struct Head {
     /// At most 1,000,000,000,000,000 seconds.
@@ -43,7 +43,7 @@ fn is_there(key: &str, object: &Value) -> bool
     object.get(key).is_some()
 }
 
-/// Nothing, where the top object has no key but the table's, and those that are needed.
+/// Nothing, if the top object has no key except the table's, and those that are needed.
 #[tactic(auto, unfolding(crate::specs::ReadScenarios::keys_in))]
 #[rattlefmt::skip]
 pub(crate) fn keys_in(alloc: Global, value: &Value) -> Result<(), ReadFault>

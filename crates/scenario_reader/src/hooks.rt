@@ -124,8 +124,8 @@ fn list_at(alloc: Global, object: &Value, key: &str) -> Result<HookList, ReadFau
 }
 
 /// The hooks of an object with the lists `pre_failover`, `post_failover` and `post_unsuccessful`, each of [text, exit].
-/// A text that is empty, has more than 1,000 bytes or a control character of ASCII, or an exit that isn't 0 to 255, is
-/// `BadHook` at the hook; of a hook first the text is looked at, and then the exit.
+/// `BadHook` at the hook is a text that is empty, has more than 1,000 bytes or a control character of ASCII, or an exit
+/// that isn't 0 to 255. For a hook the text is looked at first, and then the exit.
 #[tactic(auto, unfolding(crate::specs::Hooks::hooks_in))]
 pub(crate) fn hooks_in(alloc: Global, value: &Value) -> Result<Hooks, ReadFault>
     ensures { Gives (λ h. h) fault_of result (hooks_in (view value.now)) }

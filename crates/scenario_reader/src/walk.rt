@@ -68,7 +68,7 @@ fn turns_at(
     )
 }
 
-// The turns that the listed ones stand for, where they are not too many.
+// The turns that the listed ones mean, if they are not too many.
 #[tactic(auto, unfolding(crate::specs::ReadScenarios::bounded))]
 fn bounded(
     alloc: Global,
@@ -207,10 +207,10 @@ fn scenario_in(alloc: Global, bytes: &[u8]) -> Result<Scenario, ReadFault>
     scenario_from(alloc, &value)
 }
 
-/// Reads a scenario: the one that these bytes are, or the first fault of the walk over them, with its place. Want of
-/// memory also answers a filter's regular expression past the room that `regex` grants one. The time is that of the
-/// bytes, of at most 1,000,000 turns, of the aliases, of the filters for each cluster, of each pattern
-/// for each server, and of `Opening::check`.
+/// Reads a scenario: the one that these bytes are, or the first fault of the walk over them, with its place. `Memory`
+/// also comes for a filter's regular expression past the room that `regex` grants one. The time is that of the bytes,
+/// of at most 1,000,000 turns, of the aliases, of the filters for each cluster, of each pattern for each server, and of
+/// `Opening::check`.
 pub fn read(alloc: Global, bytes: &[u8]) -> Result<Scenario, ReadFault>
     ensures exact { Gives (λ s. s) fault_of result (scenario_in bytes.now) }
     ensures sound { IfOk result IsScenario }

@@ -1,4 +1,4 @@
--- The servers that are read are within the limits of an opening, but for what they list together.
+-- The servers that are read are within the limits of an opening, except for what they list together.
 use Rattle.scenario_servers.proofs.Prelude.{All-nil, BadNumber, Data, DuplicateName, DuplicateUuid, Given, HostPort, IsAlone, IsApart, IsGiven}
 use Rattle.scenario_servers.proofs.Prelude.{IsPart, IsServer, Items, NameFault, Part, ServerInit, ServerNo, and_parts, as_str, auto_in, bool_in}
 use Rattle.scenario_servers.proofs.Prelude.{coord_in, each_from, eq-eqb, fails, false_from_ne_true as not-true, false≢true, first_named, flushes_in}

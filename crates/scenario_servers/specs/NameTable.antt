@@ -14,7 +14,7 @@ number_at table name = get (λ (a b : NameKey). name_cmp a.0 b.0) table (record 
 abbrev pub IsTableOf : BTreeMap NameKey ℕ → List (Option HostPort) → Type 0
 IsTableOf table listed = (name : HostPort) → number_at table name ≡ first_named name 0 listed
 
--- the number stands at the name, unless another did, and nothing else changed
+-- the number is at the name, unless another is, and nothing else changed
 pub record AddsName (old new : BTreeMap NameKey ℕ) (added : Option HostPort) (number : ℕ) : Type 0 where
   pub found : (name : HostPort) → number_at new name ≡ option_or (number_at old name) (if is_named name added then Some number else None)
 

@@ -49,7 +49,7 @@ own_name names n d = do
 
 -- ---- UUIDs
 
--- the UUID of server n: 00000000-0000-0000-0000- and n plus 1 in 12 hexadecimal digits, where none is given
+-- the UUID of server n: 00000000-0000-0000-0000- and n plus 1 in 12 hexadecimal digits, if none is given
 abbrev pub uuid_at : ℕ → Option Data → Result ℕ Fault
 uuid_at n None = Ok (n + 1)
 uuid_at n (Some d) = uuid_in d
@@ -76,6 +76,6 @@ unplaced_uuid uuids n d = do
   uuid ← uuid_at n (get (codes "uuid") d)
   new_uuid uuids n uuid
 
--- the UUID of server n, which no earlier one has; a fault stands at its key, given or not
+-- the UUID of server n, which no earlier one has; a fault is at its key, given or not
 unfoldable pub own_uuid : List (Option ℕ) → ℕ → Data → Result ℕ Fault
 own_uuid uuids n d = under (codes "uuid") (unplaced_uuid uuids n d)

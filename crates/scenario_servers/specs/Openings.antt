@@ -38,8 +38,8 @@ settings_of label g = record {
   dc = g.dc;
 }
 
--- A server of the cluster of this label. The threads of a server that isn't detached are on, where the text says
--- nothing of them.
+-- A server of the cluster of this label. The threads of a server that isn't detached are on, if the text has nothing
+-- about them.
 abbrev pub init_under : List ℕ → Given → ServerInit
 init_under label g = record {
   settings = settings_of label g;

@@ -1,4 +1,4 @@
--- What the text of a server says.
+-- What the text of a server has.
 use Rattle.std.specs.Prelude.{ℕ, ◌+◌, ◌∷◌, ◌++◌, ◌&&◌, List, [], Bool, true, false, not, nat_le, is_some, if◌then◌else◌, codes, Option, Result, Ok}
 use Rattle.scenario_servers.specs.Prelude.{AutoWithoutGtid, BadNumber, Data, Fault, HostPort, Items, Part, Version, bool_in, coord_in, each}
 use Rattle.scenario_servers.specs.Prelude.{each_from, fails, get, holds, item, item_count, items_in, label_in, maybe, members_in, needed, no_items}

@@ -12,11 +12,11 @@ first_with uuid n (x ∷ xs) = if has_uuid uuid x then Some n else first_with uu
 abbrev pub IsUuidTable : BTreeMap ℕ ℕ → List (Option ℕ) → Type 0
 IsUuidTable table listed = (uuid : ℕ) → get nat_cmp table uuid ≡ first_with uuid 0 listed
 
--- the number stands at the UUID, unless another did, and nothing else changed
+-- the number is at the UUID, unless another is, and nothing else changed
 pub record AddsUuid (old new : BTreeMap ℕ ℕ) (added : Option ℕ) (number : ℕ) : Type 0 where
   pub found : (uuid : ℕ) → get nat_cmp new uuid ≡ option_or (get nat_cmp old uuid) (if has_uuid uuid added then Some number else None)
 
--- whether a server stands before a number
+-- whether a server is before a number
 abbrev pub is_before : Option ℕ → ℕ → Bool
 is_before None number = false
 is_before (Some first) number = nat_lt first number

@@ -15,7 +15,7 @@ pub struct Identity {
     pub uuid: u128,
     pub server_id: u32,
     pub version: Version,
-    /// The cluster's label; where it isn't given, that of the root of the server's tree.
+    /// The cluster's label. If it isn't given, that of the root of the server's tree.
     pub cluster: Option<OwnedText>,
 }
 
@@ -38,9 +38,9 @@ pub struct Replication {
     pub executed: u64,
     pub at: Option<Coord>,
     pub read: Option<Coord>,
-    /// Whether the receiver is on; where it isn't given, it is where the server isn't detached.
+    /// Whether the receiver is on. If it isn't given, it is if the server isn't detached.
     pub io: Option<bool>,
-    /// Whether the applier is on; where it isn't given, it is where the server isn't detached.
+    /// Whether the applier is on. If it isn't given, it is if the server isn't detached.
     pub sql: Option<bool>,
     /// Whether the server finds its place by GTIDs (SOURCE_AUTO_POSITION).
     pub auto: bool,
@@ -63,18 +63,18 @@ pub struct Given {
     pub flushes: Counts,
     /// The first file that its binary log keeps: 1 to 4,294,967,295.
     pub purged: u32,
-    /// The server's data centre, at most 255 bytes: empty where it has none.
+    /// The server's data centre, at most 255 bytes: empty if it has none.
     pub dc: OwnedText,
 }
 
-/// For each server whether the book knows it at the opening.
+/// For each server whether the book knows it at the opening. `Err` means out of memory.
 pub fn known_of(alloc: Global, given: &[Given]) -> Result<Vec<bool>, Memory>
     ensures { IfOk result (λ v. v.items ≡ known_of given.now) }
 {
     given.iter().map(|one| one.known).collect(alloc)
 }
 
-/// For each server the rule with which it is registered at the opening, if any.
+/// For each server the rule with which it is registered at the opening, if any. `Err` means out of memory.
 pub fn rules_of(alloc: Global, given: &[Given]) -> Result<Vec<Option<Rule>>, Memory>
     ensures { IfOk result (λ v. v.items ≡ rules_of given.now) }
 {

@@ -56,9 +56,9 @@ fn init_under(cluster: OwnedText, given: Given) -> ServerInit
     }
 }
 
-/// The servers that are given, with the defaults that need other servers: a cluster's label is that of the root of the
-/// server's tree, and the threads of a server that isn't detached are on. The time is that of the servers, squared,
-/// since sources are followed from each.
+/// The servers that are given, with the defaults that need other servers. A cluster's label is that of the root of the
+/// server's tree. The threads of a server that isn't detached are on. The time is that of the servers, squared, because
+/// sources are followed from each. `Err` means out of memory.
 pub fn inits_of(alloc: Global, given: Vec<Given>) -> Result<Vec<ServerInit>, Memory>
     ensures { IfOk result (λ v. v.items ≡ inits_of given.items) }
 {

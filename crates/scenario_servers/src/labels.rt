@@ -16,7 +16,7 @@ fn source_in(given: &[Given], n: usize) -> Option<u32>
     Some(one.source?.0)
 }
 
-// The server at the top of the sources above one; each is followed once at most.
+// The server at the top of the sources above one. Each is followed once at most.
 #[tactic(auto, using(openings::proofs::Chains::root_steps))]
 fn root_in(given: &[Given], n: usize) -> usize
     ensures { result ≡ root_in given.now n }
@@ -31,7 +31,7 @@ fn root_in(given: &[Given], n: usize) -> usize
     at
 }
 
-/// A name as it is printed, HOST:PORT.
+/// A name as it is printed, HOST:PORT. `Err` means out of memory.
 #[tactic(auto, using(crate::proofs::Printed::printed_is_utf8))]
 pub fn printed_name(alloc: Global, name: &Name) -> Result<OwnedText, Memory>
     ensures { IfOk result (λ l. l ≡ printed name.now) }

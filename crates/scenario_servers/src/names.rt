@@ -173,7 +173,7 @@ impl Names {
         Ok(())
     }
 
-    /// The names of the servers that are listed, of which there are at most 1,000.
+    /// The names of the servers that are listed, of which there are at most 1,000. `Err` means out of memory.
     pub fn of(alloc: Global, items: &[Value]) -> Result<Names, Memory>
         requires { length items.now ≤ 1000 }
         ensures { IfOk result (λ n. n ≡ listed_names (items_view items.now)) }
@@ -187,7 +187,7 @@ impl Names {
         Ok(names)
     }
 
-    // The server of a text, as `server_at` tells it.
+    // The server of a text, as `server_at` finds it.
     fn server_of(&self, alloc: Global, text: &str) -> Result<ServerNo, ReadFault>
         ensures { Gives (λ n. n) fault_of result (text_named self.now text.now) }
     {

@@ -1,4 +1,4 @@
-//! What the text of a server says.
+//! What the text of a server has.
 
 ghost use Rattle.std.specs.Prelude.{◌≡◌, ◌<◌, [], false, map, codes};
 ghost use Rattle.scenario_servers.specs.Prelude.{Gives, fault_of, maybe, members_view, number_in, only_keys, optional, short_in, view};
@@ -147,7 +147,7 @@ fn dc_at(alloc: Global, object: &Value) -> Result<OwnedText, ReadFault>
     }
 }
 
-// The keys of a server that has no key but these: the last eight only where it has a source.
+// The keys of a server that has no key but these: the last eight only if it has a source.
 const SERVER_KEYS: [&str; 26] = [
     "name",
     "uuid",

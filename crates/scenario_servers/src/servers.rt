@@ -75,8 +75,8 @@ fn given_in(
     Ok(given)
 }
 
-/// The servers of a list of 1 to 1,000, in order, each by its keys in the table's order; `gtid` says whether the
-/// scenario has GTIDs. The fault is the first of this walk: the kind of the list, its length, then of each server its
+/// The servers of a list of 1 to 1,000, in order, each by its keys in the table's order. `gtid` is whether the scenario
+/// has GTIDs. The fault is the first of this walk: the kind of the list, then its length. Then come for each server its
 /// kind, its unknown keys in the order of their bytes, and its keys.
 #[tactic(auto, unfolding(crate::specs::Servers::servers_in))]
 pub fn servers_in(alloc: Global, gtid: bool, value: &Value) -> Result<Listed, ReadFault>

@@ -122,7 +122,7 @@ fn unplaced_uuid(
     new_uuid(alloc, uuids, number, uuid)
 }
 
-/// The UUID of the server of this number, which no earlier one has. A fault stands at its key, given or not.
+/// The UUID of the server of this number, which no earlier one has. A fault is at its key, given or not.
 #[tactic(auto, using(scenario_values::proofs::Unders::gives_under), unfolding(crate::specs::Names::own_uuid))]
 pub(crate) fn own_uuid(
     alloc: Global,

@@ -1,4 +1,4 @@
--- How many turns the listed ones stand for, and that each is a turn of the servers.
+-- How many turns the listed ones mean, and that each is a turn of the servers.
 use Rattle.std.proofs.Common.{◌≡◌, ℕ, ◌+◌, ◌*◌, ◌<◌, ◌≤◌, List, [], ◌∷◌, ◌++◌, length, take, get_or, All, Option, Some, None, false, leb, refl, arith}
 use Rattle.std.specs.Prelude.{IfSome}
 use Rattle.scenario_turns.proofs.Prelude.{Act, All-cons, All-head, All-nil, All-tail, Apply, Fetch, IsAct, IsListedTurn, IsNumberOf, IsTurnOf}
@@ -58,6 +58,6 @@ module _ (count nodes : ℕ) (ns : List ServerNo) (within : All (λ n. n.0 < cou
   expansion-is (Polls by) is = polls-are by is
   expansion-is Round is = All-append (IsTurnOf count nodes) (steps_of ns) (polls_of None ns) steps-are (polls-are None tt)
 
-  -- what is listed stands for turns of the servers
+  -- what listed turns mean is turns of the servers
   pub expanded-are : (listed : List ListedTurn) → All (IsListedTurn count nodes) listed → All (IsTurnOf count nodes) (expanded ns listed)
   expanded-are listed all = All-flat_map (IsTurnOf count nodes) (IsListedTurn count nodes) (expansion_of ns) expansion-is listed all

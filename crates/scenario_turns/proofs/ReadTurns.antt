@@ -1,4 +1,4 @@
--- A turn that is read is one of the servers, or stands for such turns.
+-- A turn that is read is one of the servers, or means such turns.
 use Rattle.std.proofs.Common.{◌≡◌, ℕ, ◌<◌, ◌≤◌, Bool, true, false, cond, List, length, Option, Some, None, Result, Ok, refl, subst, arith}
 use Rattle.std.specs.Prelude.{IfSome, ◌&&◌, nat_le}
 use Rattle.scenario_turns.proofs.Prelude.{Act, Apply, BadTurn, Cut, Data, Fail, Fault, Fetch, Heal, HostPort, IsAct, IsCommand, IsListedTurn}

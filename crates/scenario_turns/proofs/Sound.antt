@@ -9,7 +9,7 @@ use Rattle.scenario_turns.proofs.Prelude.{length-map, maybe, maybe-ok, members_i
 use Rattle.scenario_turns.proofs.Prelude.{only_keys, or_fails-ok, parts_of, pattern_in, rule_in, same_Ok, seconds_at, server_named, short_in, text_in}
 use Rattle.scenario_turns.proofs.Prelude.{text_within, under-ok, under_item, within}
 
--- what is read where it is given has what each that is read has
+-- what is read if it is given has what each that is read has
 given_has : {A : Type 0} (P : A → Type 0) (key : List ℕ) (read : Data → Result A Fault) (d : Data) (o : Option A) → ((v : Data) (x : A) → read v ≡ Ok x → P x) → maybe key read d ≡ Ok o → IfSome o P
 given_has {A} P key read d o has e = go (maybe-ok key read d o e)
   where

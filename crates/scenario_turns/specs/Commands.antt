@@ -29,7 +29,7 @@ pattern_in printed d = do
 abbrev pub command_keys : List (List ℕ)
 command_keys = codes "i" ∷ codes "d" ∷ codes "rule" ∷ codes "duration" ∷ codes "reason" ∷ codes "owner" ∷ codes "pattern" ∷ []
 
--- the instance and the destination, each where it is given; one that is needed is given
+-- the instance and the destination, each if it is given; one that is needed is given
 unfoldable pub instances_in : List (Option HostPort) → CommandName → Data → Result Command Fault
 instances_in names name given = do
   i ← maybe (codes "i") (server_named names) given
@@ -38,7 +38,7 @@ instances_in names name given = do
   has_d ← holds BadCommand (is_there (needs_of name).d d)
   Ok (record { name = name; i = i; d = d })
 
--- the other keys, each where it is given; one that is needed is given; a reason and an owner have at most 255 bytes
+-- the other keys, each if it is given; one that is needed is given; a reason and an owner have at most 255 bytes
 unfoldable pub keys_in : List (List ℕ) → CommandName → Data → Result Keys Fault
 keys_in printed name given = do
   rule ← maybe (codes "rule") rule_in given

@@ -1,4 +1,4 @@
--- The turns that listed turns stand for.
+-- The turns that listed turns mean.
 use Rattle.std.specs.Prelude.{ℕ, ◌++◌, ◌∷◌, List, [], map, IfSome, Option, None, Some}
 use Rattle.scenario_turns.specs.Prelude.{Act, Apply, Fetch, HostPort, IsNumberOf, IsTurnOf, PollRead, PollStore, ServerInit, ServerNo, Step, Turn}
 use Rattle.scenario_turns.specs.Prelude.{by_name, flat_map, printed}
@@ -30,7 +30,7 @@ polls_of by ns = flat_map (λ n. done_by by (PollRead 0 n) ∷ done_by by (PollS
 abbrev pub steps_of : List ServerNo → List Turn
 steps_of ns = flat_map (λ n. Step (Fetch n) ∷ Step (Apply n) ∷ []) ns
 
--- what one listed turn stands for over these servers
+-- the turns that one listed turn means over these servers
 abbrev pub expansion_of : List ServerNo → ListedTurn → List Turn
 expansion_of ns (One turn) = turn ∷ []
 expansion_of ns (Polls by) = polls_of by ns
@@ -40,7 +40,7 @@ expansion_of ns Round = steps_of ns ++ polls_of None ns
 abbrev pub expanded : List ServerNo → List ListedTurn → List Turn
 expanded ns listed = flat_map (expansion_of ns) listed
 
--- the listed turn is a turn of so many servers and orchestrators, where it is one turn, and is of one of them
+-- the listed turn is a turn of so many servers and orchestrators, if it is one turn, and means turns of one of them
 abbrev pub IsListedTurn : ℕ → ℕ → ListedTurn → Type 0
 IsListedTurn count nodes (One turn) = IsTurnOf count nodes turn
 IsListedTurn count nodes (Polls by) = IfSome by (IsNumberOf nodes)

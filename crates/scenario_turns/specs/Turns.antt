@@ -1,4 +1,4 @@
--- The turns: of each the word, then the number of parts, then whether it stands among the turns of so many
+-- The turns. For each the word comes first, then the number of parts, then whether it may be among the turns of so many
 -- orchestrators, then the parts from the left.
 use Rattle.std.specs.Prelude.{ℕ, ◌-◌, ◌^◌, ◌&&◌, List, if◌then◌else◌, nat_le, codes, Option, Some, None, Result, Ok}
 use Rattle.scenario_turns.specs.Prelude.{Apply, BadNumber, BadTurn, BadType, Command, Cut, Data, Desk, Fail, Fault, Feed, Fetch, Heal, HostPort}
@@ -106,7 +106,7 @@ abbrev pub node_or_fails : ℕ → Option ℕ → Result ℕ Fault
 node_or_fails nodes None = fails NodeTurn
 node_or_fails nodes (Some n) = if nat_le 1 n && nat_le n nodes then Ok n else fails NodeTurn
 
--- one of so many, as the first part behind the word; another number is a fault of the turn
+-- one of so many, as the first part after the word; another number is a fault of the turn
 unfoldable pub node_in : ℕ → Data → Result ℕ Fault
 node_in nodes d = do
   number ← under_item 1 (whole_or_none d)

@@ -1,4 +1,4 @@
--- The words with which turns begin.
+-- The names with which turns begin.
 use Rattle.std.specs.Prelude.{ℕ, ◌∷◌, List, [], Bool, true, nat_eq, nat_lt, codes, find, option_map, Option, Some, None, Result, Ok}
 use Rattle.scenario_turns.specs.Prelude.{BadTurn, Fault, Items, bytes_eq, fails, item_count, pointwise}
 use Rattle.scenario_turns.specs.declared.word.Word.{Word}
@@ -71,8 +71,8 @@ parts_after As = 2
 abbrev pub has_parts : Word → Items → Bool
 has_parts word rest = nat_eq (item_count rest) (parts_after word)
 
--- Whether a turn of the word stands alone among the turns of so many orchestrators: what befalls servers and the time
--- always do, what orchestrator does where there is one, and what names one of several where there are several.
+-- Whether a turn with this name may be alone among the turns of so many orchestrators. What happens to servers and the
+-- time always may. What orchestrator does may if there is one, and what names one of several may if there are several.
 abbrev pub stands : ℕ → Word → Bool
 stands nodes Write = true
 stands nodes Fetch = true

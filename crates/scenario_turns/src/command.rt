@@ -52,13 +52,16 @@ fn parts_of(alloc: Global, rest: &[Value]) -> Result<(&Value, &Value), ReadFault
     Ok((&rest[0], &rest[1]))
 }
 
-/// A command turn, by what follows its word: a command's name and an object with what it is given. Another number of
-/// parts is `BadTurn` of the turn. At part 1 a name of no command is `BadCommand`. At part 2 come first
-/// the keys that no command has, as `UnknownKey`, and then each key's own faults, also where the command doesn't need
-/// it: `BadType`; at an instance `BadName` and `UnknownName`; for another rule, a duration that isn't 1 to 31,536,000
-/// seconds, and a reason or an owner of more than 255 bytes `BadNumber`; `BadPattern`. A key that is needed and absent
-/// is `BadCommand`. `patterns` has each server's name as it is printed. The time is that of the text, and of a pattern
-/// that isn't known on each name.
+/// A command turn, by what follows its name: a command's name and an object with what it is given. Another number of
+/// parts is `BadTurn` of the turn. At part 1 a name of no command is `BadCommand`.
+///
+/// At part 2 come first the keys that no command has, as `UnknownKey`. Then each key has its own faults, even if the
+/// command doesn't need it: `BadType`; at an instance `BadName` and `UnknownName`; and `BadPattern`. `BadNumber` is for
+/// another rule, a duration that isn't 1 to 31,536,000 seconds, and a reason or an owner of more than 255 bytes. A key
+/// that is needed and absent is `BadCommand`.
+///
+/// `patterns` has each server's name as it is printed. The time is that of the text, and of a pattern that isn't known
+/// on each name.
 #[tactic(auto, unfolding(crate::specs::Commands::command_in))]
 pub fn command_in(
     alloc: Global,

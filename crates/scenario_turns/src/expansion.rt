@@ -1,4 +1,4 @@
-//! What listed turns stand for.
+//! What listed turns mean.
 
 ghost use Rattle.std.specs.Prelude.{◌≡◌, ◌++◌, ◌≤◌, IfOk, OnOk, length, nat_le};
 ghost use Rattle.scenario_turns.specs.Expansion.{done_by, printed_of, server_names, in_order, polls_of, steps_of, expansion_of, expanded};
@@ -34,7 +34,7 @@ fn server_names(alloc: Global, servers: &[ServerInit]) -> Result<Vec<Name>, Memo
     Ok(names)
 }
 
-/// The servers' names as they are printed.
+/// The servers' names as they are printed. `Err` means out of memory.
 pub fn printed_of(alloc: Global, servers: &[ServerInit]) -> Result<Vec<OwnedText>, Memory>
     ensures { IfOk result (λ printed. printed.items ≡ printed_of servers.now) }
 {
@@ -42,7 +42,7 @@ pub fn printed_of(alloc: Global, servers: &[ServerInit]) -> Result<Vec<OwnedText
     printed_names(alloc, &names)
 }
 
-/// The servers' numbers in the order of their names.
+/// The servers' numbers in the order of their names. `Err` means out of memory.
 pub fn in_order(alloc: Global, servers: &[ServerInit]) -> Result<Vec<ServerNo>, Memory>
     requires { length servers.now ≤ 1000 }
     ensures order { IfOk result (λ ordered. ordered.items ≡ in_order servers.now) }
@@ -52,7 +52,7 @@ pub fn in_order(alloc: Global, servers: &[ServerInit]) -> Result<Vec<ServerNo>, 
     in_name_order(alloc, &names)
 }
 
-// How many turns a listed one stands for.
+// How many turns a listed one means.
 fn length_of(ordered: &[ServerNo], listed: &ListedTurn) -> usize
     requires { length ordered.now ≤ 1000 }
     ensures exact { result ≡ length (expansion_of ordered.now listed.now) }
@@ -65,7 +65,7 @@ fn length_of(ordered: &[ServerNo], listed: &ListedTurn) -> usize
     }
 }
 
-/// Whether the listed turns stand for at most 1,000,000.
+/// Whether the listed turns mean at most 1,000,000.
 pub fn are_few(ordered: &[ServerNo], listed: &[ListedTurn]) -> bool
     requires { length ordered.now ≤ 1000 }
     ensures { result ≡ nat_le (length (expanded ordered.now listed.now)) 1000000 }
@@ -126,7 +126,7 @@ fn push_turns(ordered: &[ServerNo], listed: ListedTurn, turns: &mut Vec<Turn>) -
     }
 }
 
-/// The turns that the listed ones stand for. The time is that of these turns.
+/// The turns that the listed ones mean. The time is that of these turns. `Err` means out of memory.
 pub fn expanded(
     alloc: Global,
     ordered: &[ServerNo],

@@ -13,7 +13,7 @@ pub fn read_commands_are_sound()
     ensures { (names : List (Option HostPort)) (printed : List (List ℕ)) (rest : Items) (t : CommandTurn) → length printed ≡ length names → command_in names printed rest ≡ Ok t → IsCommand (length names) t }
 {}
 
-/// A turn that is read meets the condition of the calls that take one, or stands for such turns.
+/// A turn that is read meets the condition of the calls that take one, or means such turns.
 pub fn read_turns_are_sound()
     ensures { (names : List (Option HostPort)) (printed : List (List ℕ)) (nodes : ℕ) (d : Data)
         (t : ListedTurn) → length printed ≡ length names → turn_in names printed nodes d ≡ Ok t

@@ -1,4 +1,4 @@
-//! The turns of a scenario's JSON text, command turns among them, and the turns that they stand for.
+//! The turns of a scenario's JSON text, command turns among them, and the turns that they mean.
 #![tactic(auto)]
 
 mod command;

@@ -11,7 +11,7 @@ use scenario_servers::printed_name;
 use scenario_values::{FaultCode, ReadFault, fails};
 use std::alloc::Global;
 
-/// Each server's name as it is printed, `host:port`.
+/// Each server's name as it is printed, `host:port`. `Err` means out of memory.
 pub fn printed_names(alloc: Global, names: &[Name]) -> Result<Vec<OwnedText>, Memory>
     ensures { IfOk result (λ p. p.items ≡ map printed names.now) }
 {
@@ -33,7 +33,7 @@ fn answers(alloc: Global, pattern: &Pattern, printed: &[OwnedText]) -> Result<An
 }
 
 /// A pattern with an answer for each server: whether it is found in the server's printed name, `host:port`. A text that
-/// is no regular expression, or nests past the limit of `regex`, is `BadPattern`. Want of memory also answers a pattern
+/// is no regular expression, or nests past the limit of `regex`, is `BadPattern`. `Memory` also comes for a pattern
 /// past the room that `regex` grants one.
 #[tactic(auto, unfolding(crate::specs::Found::found_in))]
 pub fn found(alloc: Global, text: &str, printed: &[OwnedText]) -> Result<Found, ReadFault>

@@ -53,7 +53,7 @@ impl Patterns {
         }
     }
 
-    // Keeps the answers of a pattern. A text that can't be compiled is left for its turn to tell.
+    // Keeps the answers of a pattern. A text that can't be compiled is left for its turn to report.
     fn learn(&mut self, alloc: Global, text: &str) -> Result<(), Memory>
         ensures { self.new ≡ self.old }
     {
@@ -68,7 +68,7 @@ impl Patterns {
     }
 
     /// These printed names, with the patterns that listed turns ask for. The time is that of the turns, and of each
-    /// pattern on each name.
+    /// pattern on each name. `Err` means out of memory.
     pub fn of_turns(
         alloc: Global,
         printed: Vec<OwnedText>,
@@ -85,7 +85,7 @@ impl Patterns {
         Ok(patterns)
     }
 
-    /// A pattern with an answer for each server, as `found` gives it.
+    /// A pattern with an answer for each server, as `found` gives it. The faults are that call's.
     #[tactic(auto, unfolding(crate::specs::Found::found_in))]
     pub fn found(&self, alloc: Global, text: &str) -> Result<Found, ReadFault>
         ensures { Gives (λ f. f) fault_of result (found_in self.now text.now) }

@@ -342,7 +342,7 @@ fn act_of(
     }
 }
 
-// Nothing, where the word has as many parts behind it as it needs.
+// Nothing, if the name has as many parts after it as it needs.
 fn has_parts(alloc: Global, word: Word, rest: &[Value]) -> Result<(), ReadFault>
     ensures { Gives (λ _. tt) fault_of result
         (holds BadTurn (has_parts word (items_view rest.now))) }
@@ -530,9 +530,12 @@ fn turn_at(
     under_item(alloc, number, turn_in(alloc, names, patterns, nodes, value))
 }
 
-/// Each turn in order, of so many orchestrators. A turn that isn't known or has another number of parts is `BadTurn` at
-/// the turn, one that doesn't stand among the turns of so many orchestrators, or names none of them, is `NodeTurn` at
-/// the turn, and a part has its own faults at its place. The time is that of the items.
+/// Each turn in order, of so many orchestrators.
+/// - A turn that isn't known or has another number of parts is `BadTurn` at the turn.
+/// - One that may not be among the turns of so many orchestrators, or names none of them, is `NodeTurn` at the turn.
+/// - A part has its own faults at its place.
+///
+/// The time is that of the items.
 pub fn each_turn(
     alloc: Global,
     names: &Names,

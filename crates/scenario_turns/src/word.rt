@@ -1,4 +1,4 @@
-//! The words with which turns begin.
+//! The names with which turns begin.
 
 ghost use Rattle.std.specs.Prelude.{◌≡◌};
 ghost use Rattle.scenario_turns.specs.Prelude.{Gives, fault_of};
@@ -105,7 +105,7 @@ pub(crate) fn parts_after(word: Word) -> usize
     }
 }
 
-/// Whether a turn of the word stands alone among the turns of so many orchestrators.
+/// Whether a turn with this name may be alone among the turns of so many orchestrators.
 pub(crate) fn stands(nodes: u32, word: Word) -> bool
     ensures { result ≡ stands nodes word }
 {

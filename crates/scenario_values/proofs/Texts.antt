@@ -14,7 +14,7 @@ use Rattle.scenario_values.specs.declared.fault.FaultCode.TheVariants.{BadUuid}
 use Rattle.scenario_values.specs.Faults.{fails}
 use Rattle.scenario_values.specs.Values.{uuid_or_fails, version_part}
 
--- `r` is `Ok v` exactly where both tests hold
+-- `r` is `Ok v` exactly if both tests hold
 by_tests : {E : Type 0} (a b : Bool) (v : ℕ) (r : Result ℕ E) (P : Type 0) → OkIff r P v → (P → (a ≡ true) × (b ≡ true)) → (a ≡ true → b ≡ true → P) → result_ok r ≡ cond (a && b) (Some v) None
 by_tests true true v (Ok x) P h f g = ap (λ (n : ℕ). Some n) h.1
 by_tests true true v (Err e) P h f g = absurd (h (g refl refl))

@@ -11,7 +11,7 @@ use Rattle.scenario_values.specs.declared.fault.ReadFault.{ReadFault}
 use Rattle.scenario_values.specs.declared.fault.ReadFault.TheVariants as read_fault
 use Rattle.binlog_coords.specs.OrchBase.Gives.{◌>>=◌}
 
--- the fault that the bytes have, and nothing at want of memory
+-- the fault that the bytes have, and nothing if memory runs out
 abbrev pub fault_of : ReadFault → Option Fault
 fault_of read_fault.Memory = None
 fault_of (read_fault.Fault f) = Some f
@@ -30,7 +30,7 @@ holds code false = fails code
 
 -- ---- places
 
--- `~0` stands for `~`, and `~1` for `/`
+-- `~0` means `~`, and `~1` means `/`
 unfoldable pub escaped_byte : ℕ → List ℕ
 escaped_byte b = if b == 126 then codes "~0" else (if b == 47 then codes "~1" else b ∷ [])
 
@@ -38,7 +38,7 @@ abbrev pub escaped : List ℕ → List ℕ
 escaped [] = []
 escaped (b ∷ bs) = escaped_byte b ++ escaped bs
 
--- the fault of the value at a key, where that is a fault of the value
+-- the fault of the value at a key, if that is a fault of the value
 abbrev pub placed : List ℕ → Fault → Fault
 placed key f = record { code = f.code; path = codes "/" ++ escaped key ++ f.path }
 
@@ -51,7 +51,7 @@ under key (Err f) = Err (placed key f)
 abbrev pub under_item : {A : Type 0} → ℕ → Result A Fault → Result A Fault
 under_item n read = under (decimal n) read
 
--- the same answer; a fault is placed, or memory ran out
+-- the same answer; a fault has its place, or memory ran out
 abbrev pub IsUnder : {A : Type 0} → List ℕ → Result A ReadFault → Result A ReadFault → Type 0
 IsUnder key (Ok x) (Ok y) = y ≡ x
 IsUnder key (Err e) (Err g) = IfSome (fault_of g) (λ f. option_map (placed key) (fault_of e) ≡ Some f)
@@ -91,7 +91,7 @@ maybe key read d = maybe_in key read (get key d)
 abbrev pub is_key : List (List ℕ) → List ℕ → Bool
 is_key known key = list_any (λ k. pointwise nat_eq k key) known
 
--- No key but these. The members of an object stand in the order of their keys' bytes.
+-- No key but these. The members of an object are in the order of their keys' bytes.
 abbrev pub only_keys : List (List ℕ) → Members → Result (Unit {0}) Fault
 only_keys known no_members = Ok tt
 only_keys known (member k d ms) = if is_key known k then only_keys known ms else under k (fails UnknownKey)

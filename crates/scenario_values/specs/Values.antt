@@ -106,7 +106,7 @@ abbrev pub version_of : Option ℕ → Option ℕ → Option ℕ → Result Vers
 version_of (Some a) (Some b) (Some c) = Ok (record { major = a; minor = b; patch = c })
 version_of _ _ _ = fails BadVersion
 
--- behind the first dot; nothing stands behind a dot that isn't there
+-- after the first dot; nothing is after a dot that isn't there
 abbrev pub behind_dot : List ℕ → List ℕ
 behind_dot text = after_first is_dot text
 

@@ -65,12 +65,12 @@ pub enum FaultCode {
     AutoWithoutGtid,
     /// A hook's text is empty, too long or has a control character, or its exit isn't 0 to 255.
     BadHook,
-    /// Of several orchestrators none is named by a turn of one, or one of a single orchestrator's turns names one, or
-    /// the number is none of theirs.
+    /// With several orchestrators a turn of one names none. Or a turn of a single orchestrator names one, or the number
+    /// is none of theirs.
     NodeTurn,
 }
 
-/// Where a value stands in a text: a JSON pointer (RFC 6901), which contracts see as its bytes.
+/// The position of a value in a text: a JSON pointer (RFC 6901), which contracts see as its bytes.
 #[derive(Drop)]
 pub struct Path {
     text: Vec<u8>,
@@ -94,7 +94,7 @@ pub struct Fault {
 /// Why no scenario was read.
 #[derive(Drop)]
 pub enum ReadFault {
-    /// Want of memory.
+    /// Out of memory.
     Memory,
     /// The bytes are no scenario.
     Fault(Fault),
@@ -154,7 +154,7 @@ pub fn fails(alloc: Global, code: FaultCode) -> ReadFault
     ReadFault::Fault(Fault { code, path })
 }
 
-/// Nothing, where the test holds, and else this fault of the value itself.
+/// Nothing, if the test holds, and else this fault of the value itself.
 pub fn holds(alloc: Global, code: FaultCode, test: bool) -> Result<(), ReadFault>
     ensures { Gives (λ _. tt) fault_of result (holds code test) }
 {
@@ -181,7 +181,7 @@ fn placed(alloc: Global, key: &[u8], fault: ReadFault) -> ReadFault
     }
 }
 
-/// What was read of the value at a key.
+/// What was read of the value at a key. A fault gets the key before its path.
 pub fn under<T>(alloc: Global, key: &[u8], read: Result<T, ReadFault>) -> Result<T, ReadFault>
     ensures { IsUnder key.now read result }
 {
@@ -200,7 +200,7 @@ fn placed_item(alloc: Global, number: usize, fault: ReadFault) -> ReadFault
     placed(alloc, key.as_bytes(), fault)
 }
 
-/// What was read of the item of this number, counted from 0.
+/// What was read of the item of this number, counted from 0. A fault gets the number before its path.
 pub fn under_item<T>(
     alloc: Global,
     number: usize,

@@ -13,7 +13,7 @@ use binlog_coords::Coord;
 use serde_json::Value;
 use std::alloc::Global;
 
-/// The truth value at a key that may be absent.
+/// The truth value at a key that may be absent. A fault is the value's, with the key before its path.
 #[tactic(auto, using(crate::proofs::Unders::gives_under))]
 pub fn bool_at(alloc: Global, object: &Value, key: &str, default: bool) -> Result<bool, ReadFault>
     ensures { Gives (λ b. b) fault_of result (optional key.now bool_in default (view object.now)) }
@@ -24,7 +24,7 @@ pub fn bool_at(alloc: Global, object: &Value, key: &str, default: bool) -> Resul
     }
 }
 
-/// The whole number at a key that may be absent.
+/// The whole number at a key that may be absent. A fault is the value's, with the key before its path.
 #[tactic(auto, using(crate::proofs::Unders::gives_under))]
 pub fn whole_at(alloc: Global, object: &Value, key: &str, default: u64) -> Result<u64, ReadFault>
     ensures { Gives (λ n. n) fault_of result (optional key.now whole_in default (view object.now)) }
@@ -35,7 +35,8 @@ pub fn whole_at(alloc: Global, object: &Value, key: &str, default: u64) -> Resul
     }
 }
 
-/// The whole number from `low` to `high` at a key that may be absent.
+/// The whole number from `low` to `high` at a key that may be absent. A fault is the value's, with the key before its
+/// path.
 #[tactic(auto, using(crate::proofs::Unders::gives_under))]
 pub fn number_at(
     alloc: Global,
@@ -53,7 +54,7 @@ pub fn number_at(
     }
 }
 
-/// The version at a key that may be absent.
+/// The version at a key that may be absent. A fault is the value's, with the key before its path.
 #[tactic(auto, using(crate::proofs::Unders::gives_under))]
 pub fn version_at(
     alloc: Global,
@@ -69,7 +70,7 @@ pub fn version_at(
     }
 }
 
-/// The truth value at a key, if it is there.
+/// The truth value at a key, if it is there. A fault is the value's, with the key before its path.
 #[tactic(auto, using(crate::proofs::Unders::gives_under))]
 pub fn maybe_bool(alloc: Global, object: &Value, key: &str) -> Result<Option<bool>, ReadFault>
     ensures { Gives (λ b. b) fault_of result (maybe key.now bool_in (view object.now)) }
@@ -83,7 +84,7 @@ pub fn maybe_bool(alloc: Global, object: &Value, key: &str) -> Result<Option<boo
     }
 }
 
-/// The coordinate at a key, if it is there.
+/// The coordinate at a key, if it is there. A fault is the value's, with the key before its path.
 #[tactic(auto, using(crate::proofs::Unders::gives_under))]
 pub fn maybe_coord(alloc: Global, object: &Value, key: &str) -> Result<Option<Coord>, ReadFault>
     ensures { Gives (λ c. c) fault_of result (maybe key.now coord_in (view object.now)) }
@@ -97,7 +98,7 @@ pub fn maybe_coord(alloc: Global, object: &Value, key: &str) -> Result<Option<Co
     }
 }
 
-/// The cluster's label at a key, if it is there.
+/// The cluster's label at a key, if it is there. A fault is the value's, with the key before its path.
 #[tactic(auto, using(crate::proofs::Unders::gives_under))]
 pub fn maybe_label(alloc: Global, object: &Value, key: &str) -> Result<Option<OwnedText>, ReadFault>
     ensures { Gives (λ l. l) fault_of result (maybe key.now label_in (view object.now)) }

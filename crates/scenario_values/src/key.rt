@@ -15,7 +15,7 @@ fn is_key(known: &[&str], key: &str) -> bool
     known.contains(&key)
 }
 
-/// Nothing, where there is no key but these.
+/// Nothing, if there is no key but these. Else `UnknownKey` of the first other key.
 #[tactic(auto, using(crate::proofs::Unders::gives_under))]
 pub fn only_keys(
     alloc: Global,

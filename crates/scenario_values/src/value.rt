@@ -70,7 +70,7 @@ pub fn whole_in(alloc: Global, value: &Value) -> Result<u64, ReadFault>
     }
 }
 
-/// A whole number from `low` to `high`; another number is `BadNumber`, a value of another kind `BadType`.
+/// A whole number from `low` to `high`. Another number is `BadNumber`, a value of another kind `BadType`.
 #[tactic(auto, unfolding(crate::specs::Values::number_in))]
 pub fn number_in(alloc: Global, low: u64, high: u64, value: &Value) -> Result<u64, ReadFault>
     ensures value { Gives (λ n. n) fault_of result (number_in low high (view value.now)) }
@@ -162,7 +162,7 @@ fn uuid_or_fails(alloc: Global, text: &str) -> Result<u128, ReadFault>
     }
 }
 
-/// A UUID in its hyphenated form, with digits of either case (RFC 9562, "UUID Format"); another text is `BadUuid`.
+/// A UUID in its hyphenated form, with digits of either case (RFC 9562, "UUID Format"). Another text is `BadUuid`.
 #[tactic(auto, unfolding(crate::specs::Values::uuid_in))]
 pub fn uuid_in(alloc: Global, value: &Value) -> Result<u128, ReadFault>
     ensures { Gives (λ u. u) fault_of result (uuid_in (view value.now)) }
@@ -187,7 +187,7 @@ fn version_part(digits: &str) -> Option<u16>
     }
 }
 
-// The text before the first dot, and the text behind it.
+// The text before the first dot, and the text after it.
 fn at_dot(text: &str) -> (&str, &str)
     ensures before { result.0.now ≡ before_first is_dot text.now }
     ensures behind { result.1.now ≡ behind_dot text.now }
@@ -217,7 +217,7 @@ fn version_at(alloc: Global, text: &str) -> Result<Version, ReadFault>
     }
 }
 
-/// A server's version: three parts of digits with dots between them, each at most 65535; another text is `BadVersion`.
+/// A server's version: three parts of digits with dots between them, each at most 65535. Another text is `BadVersion`.
 #[tactic(auto, unfolding(crate::specs::Values::version_in))]
 pub fn version_in(alloc: Global, value: &Value) -> Result<Version, ReadFault>
     ensures { Gives (λ v. v) fault_of result (version_in (view value.now)) }

@@ -40,9 +40,10 @@ names_of s = map (λ i. i.settings.name) s.opening.servers
 abbrev pub period_of : Scenario → List ℕ → ℕ
 period_of s cluster = period_in s.blocks s.block cluster
 
--- The opening is checked, each turn is one of its servers and of its orchestrators, there are at most 1,000,000 turns,
--- the servers together take room for at most 4,000,000 transactions, each number is in its range, each server is known
--- or not and has a rule or none, each filter list has an answer for each server, and each hook has a text.
+-- The opening is checked, and each turn is one of its servers and of its orchestrators. There are at most 1,000,000
+-- turns. The servers together take room for at most 4,000,000 transactions, and each number is in its range. Each
+-- server is known or not and has a rule or none. Each filter list has an answer for each server, and each hook has a
+-- text.
 pub record IsScenario (s : Scenario) : Type 0 where
   pub checked : IsChecked s.opening
   pub moment : s.moment.0 ≤ 1000000000000000

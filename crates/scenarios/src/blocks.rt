@@ -1,4 +1,4 @@
-//! The block periods of single clusters, as a scenario says.
+//! The block periods of single clusters, from the scenario.
 
 ghost use Rattle.std.specs.Prelude.{◌≡◌, ◌↔◌, IfOk, IsTrue, nat_eq};
 ghost use Rattle.std.specs.Cmp.Lexicographic.{pointwise};
@@ -26,7 +26,7 @@ impl Drop for Block {
 }
 
 impl Block {
-    /// The same block period once more.
+    /// The same block period once more. `Err` means out of memory.
     pub fn copy(&self, alloc: Global) -> Result<Block, Memory>
         ensures { IfOk result (λ b. b ≡ self.now) }
     {
@@ -100,7 +100,7 @@ impl Blocks {
         block
     }
 
-    /// The same block periods once more.
+    /// The same block periods once more. `Err` means out of memory.
     pub fn copy(&self, alloc: Global) -> Result<Blocks, Memory>
         ensures { IfOk result (λ b. b ≡ self.now) }
     {

@@ -1,4 +1,4 @@
-//! Which clusters a recovery may touch, as a scenario says.
+//! Which clusters a recovery may touch, from the scenario.
 
 ghost use Rattle.std.specs.Prelude.{◌≡◌, IfOk, map, nat_eq, string_bytes};
 ghost use Rattle.std.specs.Cmp.Lexicographic.{pointwise};
@@ -27,7 +27,7 @@ impl Drop for Alias {
 }
 
 impl Alias {
-    /// The same alias once more.
+    /// The same alias once more. `Err` means out of memory.
     pub fn copy(&self, alloc: Global) -> Result<Alias, Memory>
         ensures { IfOk result (λ a. a ≡ self.now) }
     {
@@ -61,7 +61,7 @@ impl Model for Aliases {
 }
 
 impl Aliases {
-    /// The alias of a cluster: empty where it has none. It takes no memory.
+    /// The alias of a cluster: empty if it has none. It takes no memory.
     pub fn alias(&self, cluster: &str) -> &str
         ensures { result.now ≡ alias_of self.now cluster.now }
     {
@@ -94,7 +94,7 @@ impl Aliases {
         self.aliases
     }
 
-    /// The same aliases once more.
+    /// The same aliases once more. `Err` means out of memory.
     pub fn copy(&self, alloc: Global) -> Result<Aliases, Memory>
         ensures { IfOk result (λ a. a ≡ self.now) }
     {
@@ -149,7 +149,7 @@ impl Texts {
         self.texts
     }
 
-    /// The same texts once more.
+    /// The same texts once more. `Err` means out of memory.
     pub fn copy(&self, alloc: Global) -> Result<Texts, Memory>
         ensures { IfOk result (λ t. t ≡ self.now) }
     {
@@ -178,7 +178,7 @@ pub struct FilterList {
 }
 
 impl FilterList {
-    /// The same list once more.
+    /// The same list once more. `Err` means out of memory.
     pub fn copy(&self, alloc: Global) -> Result<FilterList, Memory>
         ensures { IfOk result (λ l. l ≡ self.now) }
     {
@@ -198,7 +198,7 @@ pub struct ClusterFilters {
 }
 
 impl ClusterFilters {
-    /// The same filters once more.
+    /// The same filters once more. `Err` means out of memory.
     pub fn copy(&self, alloc: Global) -> Result<ClusterFilters, Memory>
         ensures { IfOk result (λ f. f ≡ self.now) }
     {

@@ -18,7 +18,7 @@ pub use hook_texts::{Hook, HookList, Hooks};
 pub use openings;
 pub use server_words::{binlog_coords_items, orch_base};
 pub use turns;
-/// Want of memory.
+/// Out of memory.
 pub use rules::Rules;
 pub use scenario::{Scenario, Turns};
 pub use server_words::orch_base::Memory;

@@ -1,4 +1,4 @@
-//! Rules of promotion, as a scenario says.
+//! Rules of promotion, from the scenario.
 
 ghost use Rattle.std.specs.Prelude.{◌≡◌, IfOk};
 
@@ -43,7 +43,7 @@ impl Rules {
         self.rules
     }
 
-    /// The same rules once more.
+    /// The same rules once more. `Err` means out of memory.
     pub fn copy(&self, alloc: Global) -> Result<Rules, Memory>
         ensures { IfOk result (λ r. r ≡ self.now) }
     {

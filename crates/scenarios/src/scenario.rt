@@ -45,7 +45,7 @@ impl Turns {
         self.turns
     }
 
-    /// The same turns once more.
+    /// The same turns once more. `Err` means out of memory.
     pub fn copy(&self, alloc: Global) -> Result<Turns, Memory>
         ensures { IfOk result (λ t. t ≡ self.now) }
     {
@@ -64,9 +64,9 @@ fn copy_turns(alloc: Global, turns: &[Turn]) -> Result<Vec<Turn>, Memory>
     Ok(copy)
 }
 
-/// The servers as they begin, the moment, which transactions are marks, how many orchestrators there are, the block
-/// periods, the clusters' aliases, whose recoveries may begin by themselves and what they tell, what is known at the
-/// opening and how it is promoted, and the turns that follow.
+/// A scenario: the servers at first, the moment, which transactions are marks, how many orchestrators there are, the
+/// block periods, and the clusters' aliases. Then whose recoveries may begin by themselves and their hooks, and what is
+/// known at the opening and how it is promoted. Last the turns that follow.
 pub struct Scenario {
     pub opening: Opening,
     /// When it begins: at most 1,000,000,000,000,000.
@@ -110,7 +110,7 @@ impl Drop for Scenario {
 }
 
 impl Scenario {
-    /// The same scenario once more.
+    /// The same scenario once more. `Err` means out of memory.
     pub fn copy(&self, alloc: Global) -> Result<Scenario, Memory>
         ensures { IfOk result (λ s. s ≡ self.now) }
     {

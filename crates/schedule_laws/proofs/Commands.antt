@@ -51,7 +51,7 @@ servers-read : (listed : List (Option HostPort)) (names : List HostPort) → Nam
 servers-read listed names read key None within = refl
 servers-read listed names read key (Some n) within = rw (read n (ltb-true n.0 (length names) within)) refl
 
--- ---- what stands at each key
+-- ---- what is at each key
 
 module _ (names : List HostPort) (t : CommandTurn) where
   abbrev o-d : Option Data

@@ -1,4 +1,4 @@
--- What stands in an object of given members.
+-- What is in an object of given members.
 use Rattle.std.proofs.Common.{◌≡◌, ◌∙◌, ℕ, Bool, true, false, List, Option, Some, None, Ok, refl, sym, ap}
 use Rattle.std.specs.Prelude.{nat_eq}
 use Rattle.schedule_laws.proofs.Prelude.{Data, Equal, Greater, Less, Members, Ordering, false≢true, get_member, get_member-put, get_member-put_other}

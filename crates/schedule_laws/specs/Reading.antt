@@ -18,8 +18,7 @@ use Rattle.schedules.specs.Turns.{name_data}
 abbrev pub NamesRead : List (Option HostPort) → List HostPort → Type 0
 NamesRead listed names = (n : ServerNo) → n.0 < length names → server_named listed (name_data names n) ≡ Ok n
 
--- A command over so many servers; its pattern, where it is given one, has the answers over
--- these printed names.
+-- A command over so many servers. If it has a pattern, that has the answers over these printed names.
 pub record IsTold (count : ℕ) (printed : List (List ℕ)) (c : CommandTurn) : Type 0 where
   pub command : IsCommand count c
   pub known : IfSome c.keys.pattern (λ f. IsKnown f.text f.answers printed)

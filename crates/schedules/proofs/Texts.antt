@@ -30,7 +30,7 @@ put-plain k d (member l x ms) e f =
     by Equal parts more = none-of (has_float d) (members_have_float ms) e parts.1
     by Greater parts more = none-of (has_float x) (members_have_float (put k d ms)) parts.0 more
 
--- a member that is a text where it is given
+-- a member that is a text if it is given
 given-plain : {A : Type 0} (k : List ℕ) (text : A → List ℕ) (o : Option A) (ms : Members) → members_have_float ms ≡ false → members_have_float (with_given k (option_map (λ x. string (text x)) o) ms) ≡ false
 given-plain k text None ms e = e
 given-plain k text (Some x) ms e = put-plain k (string (text x)) ms refl e

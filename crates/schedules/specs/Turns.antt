@@ -40,7 +40,7 @@ rule_word rule.MustNot = codes "must_not"
 
 -- ---- commands
 
--- with a member where it is given; an object's members stand in the order of their keys
+-- with a member if it is given; an object's members are in the order of their keys
 abbrev pub with_given : List ℕ → Option Data → Members → Members
 with_given key None ms = ms
 with_given key (Some d) ms = put key d ms

@@ -65,7 +65,7 @@ fn seconds_value(alloc: Global, seconds: Option<u64>) -> Result<Option<Value>, M
     }
 }
 
-// Puts a member where it is given.
+// Puts a member if it is given.
 fn put_given(
     alloc: Global,
     map: &mut Map<String, Value>,

@@ -10,7 +10,7 @@ use crate::turn::turn_value;
 use crate::turns::{Reply, Turn};
 use std::alloc::Global;
 
-// A comma, where something stands before.
+// A comma, if something is before.
 fn comma(later: bool) -> &'static [u8]
     ensures { result.now ≡ comma_if later }
 {
@@ -25,7 +25,7 @@ fn turn_text(alloc: Global, names: &[Name], turn: &Turn) -> Result<String, Memor
     value.to_string(alloc)
 }
 
-// Adds a turn to the list, behind a comma where something stands before.
+// Adds a turn to the list, after a comma if something is before.
 fn add_turn(
     alloc: Global,
     names: &[Name],
@@ -58,8 +58,9 @@ fn add_turns(
     line.extend_from_slice(b"]")
 }
 
-/// Appends the line of a schedule, or nothing at want of memory: the word `schedule`, and the turns of these entries in
-/// order as one compact JSON list in the scenario's form, and a newline. The names are those of the servers by number.
+/// Appends the line of a schedule: `schedule`, and the turns of these entries in order as one compact JSON list in the
+/// scenario's form, and a newline. If memory runs out, it appends nothing. The names are those of the servers by
+/// number.
 pub fn schedule_text(
     entries: &[(u32, Turn, Reply)],
     names: &[Name],

@@ -1,4 +1,4 @@
-//! Names and words in texts.
+//! Names in texts.
 
 ghost use Rattle.std.specs.Prelude.{◌≡◌, IfOk, string_bytes};
 ghost use Rattle.scenarios.specs.OrchBase.Names.{printed};
@@ -17,7 +17,7 @@ fn printed(alloc: Global, name: &Name) -> Result<String, Memory>
     Ok(String::from_utf8(text).unwrap())
 }
 
-/// The printed name of the server of a number, and no text where no server has it.
+/// The printed name of the server of a number, and no text if no server has it.
 pub(crate) fn name_string(alloc: Global, names: &[Name], no: ServerNo) -> Result<String, Memory>
     ensures { IfOk result (λ s. string_bytes s ≡ name_text names.now no) }
 {

@@ -24,7 +24,7 @@ apply_step-on w n r o at on far from =
     ∙ ap (λ b. cond b applying.ForgetUntil (apply_from w.gtid r (attached_at w r.source))) far
     ∙ ap (apply_from w.gtid r) from
 
--- where a step moves the executed coordinate, if it does
+-- the executed coordinate to which a step moves, if it does
 abbrev pub moves_to : ApplyStep → Option Coord
 moves_to (applying.Pass to) = Some to
 moves_to (applying.Skip to) = Some to
@@ -75,7 +75,7 @@ step_in w servers gtid errant n r step to moves view here is =
     let v : World = record { servers = servers; gtid = gtid; errant = errant } in
     step_from v r step to moves (ap (λ o. apply_step v o) (sym here) ∙ subst (λ (u : World). apply_step u (server_at u n) ≡ step) (sym view) is)
 
--- the executed coordinate moves to where what follows it ends
+-- the executed coordinate moves to the end of what follows it
 ends-applied : (gtid : Bool) (r s : Server) (x : Next) (to : Coord) → moves_to (applied gtid r s x) ≡ Some to → end_of_step x ≡ Some to
 ends-applied gtid r s (next.Entry i e) to h = by (slice_get s.history.txns i) h
   where
@@ -202,7 +202,7 @@ step-numbered servers executed purged gtid r t to are on =
     let at = executed-at gtid r on.source t to (next_after on.source.log.log r.exec) on.is in
     numbered-at (length servers) on.source.history.txns at.0 t (are.numbered on.number on.source on.at) at.1
 
--- where a transaction is executed, it is one of the source's that has a GTID, and there is room for it
+-- if a transaction is executed, it is one of the source's that has a GTID, and there is room for it
 pub record Executes (servers : List Server) (r : Server) (t : Txn) : Type 0 where
   pub numbered : IsNumbered (length servers) t
   pub room : length r.history.txns < r.history.room

@@ -92,7 +92,7 @@ ready-fault s loops fault h = go (s.up && s.desk) (s.receiver || s.applier) loop
     go true false true h = same attaching.Loop refl (cc)
     go true false false h = cc
 
--- a fault that isn't want of memory is given as it is
+-- a fault that isn't out of memory is given as it is
 pub fault-given : (fault : AttachFault) (answer : Result (Unit {0}) AttachFault) → attach_fault fault ≡ Some fault → answer ≡ Err fault
     → Gives (λ (c : Coord). tt) attach_fault (Err fault) answer
 fault-given fault answer told is = subst (λ o. MatchOption o ⊤ (λ f. answer ≡ Err f)) (sym told) is
@@ -115,7 +115,7 @@ auto-errant w n observed to s errant at ready set some =
     go [] none = absurd (none refl)
     go (x ∷ xs) none = refl
 
--- where there are none, the source answers by what it has purged
+-- if there are none, the source answers by what it has purged
 pub auto-ends : (w : World) (n : ℕ) (observed : List Interval) (to : ℕ) (s t : Server) (errant : List Interval) (held : ℕ) → server_at w n ≡ Some s → server_at w to ≡ Some t
     → auto_readiness s (chain_meets (sources w) (length w.servers) to n) ≡ Ok tt → errant ≡ errant_set (uuids w) observed s.history.txns → errant ≡ [] → held ≡ held_of (uuids w) s t
     → attach_auto_answer w n observed to (server_at w n) ≡ purged_answer (nat_lt held (purged_len t)) t.first
@@ -137,7 +137,7 @@ errant-kept servers gtid s e observed rest kept on set it same =
     errant-is (uuids_in servers) observed rest s.history.txns (subst IsSet is set) it
     (λ u n. same u n ∙ ap (λ xs. holds xs u n && not (holds observed u n)) is)
 
--- where the target stands
+-- the position at which the target goes on
 pub auto-target : (w : World) (servers : List Server) (gtid : Bool) (errant to : ℕ) (x : Server) → record { servers = servers; gtid = gtid; errant = errant } ≡ w → IsAutoTarget w to
     → (x ≡ get_or servers to x) → (slice_get servers to ≡ Some x) × (x.settings.logs ≡ true) × (gtid ≡ true)
 auto-target w servers gtid errant to x view target is =

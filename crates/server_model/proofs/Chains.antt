@@ -7,7 +7,7 @@ use Rattle.server_model.proofs.Prelude.{Grounded, Root, Under, chain_meets, chai
 pub chain_meets-step : (up : ℕ → Option ℕ) (k i at n : ℕ) → i < k → chain_meets up (k - i) at n ≡ (at == n || chain_on (λ m. chain_meets up (k - (i + 1)) m n) (up at))
 chain_meets-step up k i at n h = let e : k - i ≡ suc (k - (i + 1)) = omega arith in rw e
 
--- the walk is where it was to be met, has ended, or goes on
+-- the walk is at the server that was to be met, has ended, or goes on
 pub chain_meets-here : (up : ℕ → Option ℕ) (k i at n : ℕ) → i < k → at ≡ n → chain_meets up (k - i) at n ≡ true
 chain_meets-here up k i at n h same = chain_meets-step up k i at n h ∙ ap (λ b. b || chain_on (λ m. chain_meets up (k - (i + 1)) m n) (up at)) (eq-eqb at n same)
 

@@ -1,4 +1,4 @@
--- A change of one server that leaves its history and log keeps what is kept; so does a new file of its log.
+-- A change of one server that leaves its history and log keeps what is kept. So does a new file of its log.
 use Rattle.std.proofs.Common.{◌≡◌, ℕ, ◌<◌, ◌≤◌, Bool, true, false, not, cond, List, length, take, refl, sym, ◌∙◌, ap, subst, Option, Some, None, Result, Ok, Err, arith, ◌&&◌, ◌||◌, zero, suc}
 use Rattle.std.specs.Prelude.{slice_get, slice_set, ◌==◌, All, nat_lt, unwrap_or}
 use Rattle.server_model.proofs.Prelude.{AreGtids, Ask, Attached, AttachFault, Coord, Detached, Event, HasPlaces, HasSize, Index, IsFit, IsKept}
@@ -27,7 +27,7 @@ pub record IsUntouched (s s' : Server) : Type 0 where
   pub log : s'.log ≡ s.log
   pub first : s'.first ≡ s.first
 
--- one that stands as before under the same source, too, if under any
+-- one that is at the same position under the same source, too, if under any
 pub record IsMoved (s s' : Server) : Type 0 where
   pub same : IsUntouched s s'
   pub source : (m : ℕ) → source_no s'.source ≡ Some m → source_no s.source ≡ Some m

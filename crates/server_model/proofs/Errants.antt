@@ -107,7 +107,7 @@ and_false true true e f = refl
 and_false true false e f = absurd (false≢true (sym f))
 and_false false b e f = absurd (false≢true e)
 
--- where nothing is left each transaction's GTID is in the observed set
+-- if nothing is left, each transaction's GTID is in the observed set
 pub none-errant : (uuid : ℕ → ℕ) (observed : List Interval) (txns : List Txn) → errant_set uuid observed txns ≡ [] → (k : ℕ) (t : Txn) → slice_get txns k ≡ Some t → has_gtid uuid observed t ≡ true
 none-errant uuid observed txns none k t at =
     let left = filter (λ x. not (has_gtid uuid observed x)) txns in

@@ -22,7 +22,7 @@ or_assoc : (a b c : Bool) → ((a || b) || c) ≡ (a || (b || c))
 or_assoc true b c = refl
 or_assoc false b c = refl
 
--- a set holds what it held, and the GTIDs of the transactions that joined it
+-- a set has what it had, and the GTIDs of the transactions that joined it
 pub holds-fold : (uuid : ℕ → ℕ) (txns : List Txn) (set : List Interval) (u n : ℕ) → All Rises set → holds (fold (with_gtid uuid) set txns) u n ≡ (holds set u n || list_any (is_gtid uuid u n) txns)
 holds-fold uuid [] set u n r = or_false (holds set u n)
   where
@@ -110,7 +110,7 @@ flip m n = grind (arith, nat_tests)
 abbrev pub IsOf : ℕ → Txn → Type 0
 IsOf count t = t.origin.0 < count
 
--- a set tells of a transaction whether it was executed
+-- a set answers for a transaction whether it was executed
 pub told-set_of : (servers : List Server) → IsApart servers → (txns : List Txn) (t : Txn) → All (IsOf (length servers)) txns → t.origin.0 < length servers
     → list_any (is_gtid (uuids_in servers) (uuids_in servers t.origin.0) t.seq) txns ≡ txns_hold t txns
 told-set_of servers apart [] t all h = refl

@@ -45,7 +45,7 @@ take_from w r x h = go (r.up && (is_attached r.source && r.receiver)) h
     go true e = by_source r.source refl e
     go false e = cc
 
--- the read coordinate moves on to where what is read ends
+-- the read coordinate moves on to the end of what is read
 pub IsKept-read : (servers : List Server) (errant n : ℕ) (r : Server) (to : Coord) (x : Next) → IsKept servers errant → slice_get servers n ≡ Some r
     → IsTake servers r x → end_of_step x ≡ Some to → IsKept (slice_set servers n (record r { read = to })) errant
 IsKept-read servers errant n r to x kept here took ends =

@@ -13,7 +13,7 @@ place-of log c h = place-from log c (count_by (ends_by c) log.entries) h refl
 has_place-at : (log : Log) (c : Coord) (k : ℕ) → place log c ≡ Some k → has_place log c ≡ true
 has_place-at log c k p = (place-parts log c k p).0
 
--- where a step of a log ends, if there is one
+-- the end of a log's step, if there is one
 abbrev pub end_of_step : Next → Option Coord
 end_of_step (next.Entry index to) = Some to
 end_of_step (next.Rotate to) = Some to

@@ -36,7 +36,7 @@ set_self (y ∷ ys) (suc i) x h = ap (λ zs. y ∷ zs) (set_self ys i x h)
 pub slice_get-index : {X : Type 0} (xs : List X) (i : ℕ) (x : X) → i < length xs → x ≡ get_or xs i x → slice_get xs i ≡ Some x
 slice_get-index xs i x within e = slice_get-get_or xs i x within ∙ ap Some (sym e)
 
--- a front of a list has what the list has there
+-- a prefix of a list has what the list has there
 pub slice_get-front : {X : Type 0} (xs : List X) (n i : ℕ) (x : X) → i < n → slice_get xs i ≡ Some x → slice_get (take n xs) i ≡ Some x
 slice_get-front [] n i x h e = cc
 slice_get-front (y ∷ ys) zero i x h e = absurd (omega arith)
@@ -66,13 +66,13 @@ slice_get-take (z ∷ xs) zero i x h = cc
 slice_get-take (z ∷ xs) (suc n) zero x h = h
 slice_get-take (z ∷ xs) (suc n) (suc i) x h = slice_get-take xs n i x h
 
--- the list from an index on begins with what stands there
+-- the list from an index on begins with what is there
 pub slice_get-drop : {X : Type 0} (xs : List X) (i : ℕ) (x : X) → slice_get xs i ≡ Some x → drop i xs ≡ x ∷ drop (i + 1) xs
 slice_get-drop [] i x h = cc
 slice_get-drop (z ∷ xs) zero x h = let e : z ≡ x = same_Some z x h in ap (λ y. y ∷ xs) e
 slice_get-drop (z ∷ xs) (suc i) x h = let e : suc i + 1 ≡ suc (i + 1) = omega arith in rw e (slice_get-drop xs i x h)
 
--- a part of a list goes on with what stands behind it
+-- a part of a list goes on with what is after it
 pub range-more : {X : Type 0} (xs : List X) (from i : ℕ) (x : X) → from ≤ i → slice_get xs i ≡ Some x → slice_range xs from (i + 1) ≡ slice_range xs from i ++ x ∷ []
 range-more xs zero i x h e =
     let front : i + 1 - 0 ≡ i + 1 = omega arith in

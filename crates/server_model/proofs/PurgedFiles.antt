@@ -1,4 +1,4 @@
--- What stands in the purged files of a server's log, and that it stays the same as the log grows.
+-- What is in the purged files of a server's log, and that it stays the same as the log grows.
 use Rattle.std.proofs.Common.{◌≡◌, ℕ, ◌+◌, ◌-◌, ◌<◌, ◌≤◌, Bool, true, false, cond, List, [], ◌∷◌, ◌++◌, length, refl, sym, ◌∙◌, ap, Some, arith, take, drop}
 use Rattle.std.specs.Prelude.{◌||◌, count_by, slice_range, unwrap_or}
 use Rattle.server_model.proofs.Prelude.{Coord, IsFit, KeepsFrom, Log, Server, Txn, drop-take, ends_by, false≢true, file_start, has_place}
@@ -7,7 +7,7 @@ use Rattle.server_model.proofs.Prelude.{purged_len, purged_txns, push, rotated, 
 use Rattle.server_model.proofs.Prelude.{take-take, took, touches}
 use Rattle.server_model.proofs.LogSizes.{files-rise}
 
--- the beginning of each file has a place
+-- the start of each file has a place
 pub has_place-file_start : (log : Log) (file : ℕ) → 1 ≤ file → file ≤ log.files → has_place log (file_start file) ≡ true
 has_place-file_start log file low high =
     let is : is_file_start log (file_start file) ≡ true = grind (arith, nat_tests) in
@@ -24,7 +24,7 @@ starts-ordered a b h = grind (arith, nat_tests)
 pub purged_len-is : (s : Server) (k : ℕ) → place s.log.log (file_start s.first) ≡ Some k → purged_len s ≡ k
 purged_len-is s k p = ap (λ o. unwrap_or o 0) p
 
--- where the first kept file begins
+-- the place of the first kept file's start
 pub purged-place : (s : Server) → 1 ≤ s.first → s.first ≤ s.log.log.files → place s.log.log (file_start s.first) ≡ Some (purged_len s)
 purged-place s low high =
     let p = place-file_start s.log.log s.first low high in
@@ -89,7 +89,7 @@ pub purged_txns-rotated : (s : Server) → IsFit s → purged_txns (rotated s) �
 purged_txns-rotated s fit =
     ap (λ k. take k s.history.txns) (purged_len-is (rotated s) (purged_len s) (stable_flush s.log.log (file_start s.first) (purged_len s) (purged-place s fit.kept.low fit.kept.high)))
 
--- a front of a list, in two
+-- a prefix of a list, in two
 pub take-range : (xs : List Txn) (from to : ℕ) → from ≤ to → take to xs ≡ take from xs ++ slice_range xs from to
 take-range xs from to h =
     let sum : to ≡ from + (to - from) = omega arith in

@@ -1,4 +1,4 @@
--- What is kept of servers that stand, and beside them, is right.
+-- What is kept of servers, and beside them, is right.
 use Rattle.std.proofs.Common.{◌≡◌, ℕ, ◌≤◌, Bool, true, false, cond, List, [], ◌∷◌, length, refl, sym, ◌∙◌, ap, subst, Some, arith, zero, suc}
 use Rattle.std.specs.Prelude.{slice_get, map}
 use Rattle.server_model.proofs.Prelude.{AreGtids, CanStand, HasPlaces, IsKept, IsSetOf, Reserved, Server, StandsIn, Txn, place-parts, purged_txns}

@@ -11,7 +11,7 @@ use Rattle.server_model.proofs.OwnCounts.{own-at, own-few, own-set}
 use Rattle.server_model.proofs.PurgedFiles.{KeepsFrom-took}
 
 module _ (s : Server) (t : Txn) (to : Coord) (fit : IsFit s) (some : 0 < t.size) (size : t.size ≤ 1000000) (room : length s.history.txns < s.history.room) where
-  -- of a log that took the transaction, and of one that didn't since the server doesn't log
+  -- of a log that took the transaction, and of one that didn't because the server doesn't log
   by_logs : (P : Index → Type 0) → P (record s.log { log = push s.log.log t.size; txns = s.log.txns ++ t ∷ [] }) → P s.log → P (took s t).log
   by_logs P logged unlogged = go s.settings.logs
     where
@@ -38,7 +38,7 @@ module _ (s : Server) (t : Txn) (to : Coord) (fit : IsFit s) (some : 0 < t.size)
     kept = KeepsFrom-took s t fit.kept;
   }
 
-  -- the change that the transaction makes, where both coordinates have places then
+  -- the change that the transaction makes, if both coordinates have places then
   pub IsChange-took : (servers : List Server) (n before after : ℕ) → after ≤ before + 1
       → ((m : ℕ) (u : Server) → source_no s.source ≡ Some m → slice_get servers m ≡ Some u → HasPlaces s u → HasPlaces (record s { exec = to }) u)
       → IsChange servers n s (record (took s t) { exec = to }) before after

@@ -1,4 +1,4 @@
--- What is told of a server, by the list that it holds.
+-- What the tables print of a server, by the list that it has.
 use Rattle.std.proofs.Common.{◌≡◌, true, cond, [], sym, ap, ◌∙◌}
 use Rattle.server_model.proofs.Prelude.{Inside, Server, opened, server_of}
 

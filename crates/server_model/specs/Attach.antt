@@ -6,13 +6,13 @@ use Rattle.server_model.specs.Prelude.spot
 use Rattle.server_model.specs.declared.server.Server.{Server}
 use Rattle.server_model.specs.Worlds.{World, server_at, sources, with_server}
 
--- where a server with a source stands
+-- the position of a server with a source
 abbrev pub spot_below : Server → SourceState → Spot
 spot_below s Without = spot.Nowhere
 spot_below s (Attached m) = spot.At m s.exec
 spot_below s (Detached m) = spot.At m s.exec
 
--- the live spot of the kind that is expected
+-- the server's live position, of the kind that is expected
 abbrev pub live_spot : Server → Spot → Spot
 live_spot s (spot.At m exec) = spot_below s s.source
 live_spot s (spot.OwnEnd at) = if s.settings.logs then spot.OwnEnd (end_of s.log.log) else spot.Nowhere

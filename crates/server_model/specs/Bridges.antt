@@ -1,4 +1,4 @@
--- Bridges: where a replica's own end and its executed coordinate stand for one point of two logs.
+-- Bridges: a replica's own end and its executed coordinate that are one point of two logs.
 use Rattle.std.specs.Prelude.{◌≡◌, ℕ, ◌≤◌, true, length, take, Some}
 use Rattle.server_model.specs.Prelude.{Coord, place}
 use Rattle.server_model.specs.Worlds.{World, server_at}
@@ -15,7 +15,7 @@ pub record Bridges (x s : Server) (own exec : Coord) : Type 0 where
   pub own_logs : x.settings.logs ≡ true
   pub exec_logs : s.settings.logs ≡ true
 
--- a bridge that stands, of server x under server s
+-- a right bridge, of server x under server s
 pub record Stands (w : World) (x s : ℕ) (own exec : Coord) : Type 0 where
   pub replica : Server
   pub source : Server

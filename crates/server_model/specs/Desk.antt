@@ -1,5 +1,5 @@
--- What orchestrator asks of a server, what befalls a server, and a new file of its log: each is a change of one server
--- (MySQL 8.0 Reference Manual, "SQL Statements for Controlling Replica Servers", "FLUSH BINARY LOGS").
+-- Changes of one server: what orchestrator asks of it, what happens to it, and a new file of its log. See MySQL 8.0
+-- Reference Manual, "SQL Statements for Controlling Replica Servers", "FLUSH BINARY LOGS".
 use Rattle.std.specs.Prelude.{ℕ, ◌-◌, ◌==◌, Bool, true, false, ◌&&◌, ◌||◌, not, if◌then◌else◌, Option, Some, None, Result, Ok, Err}
 use Rattle.server_model.specs.Prelude.{Ask, Attached, Coord, Detached, Event, Link, RotateAnswer, SourceState, Threads, Unreachable, Without, end_of}
 use Rattle.server_model.specs.Prelude.{file_start, flush}
@@ -18,7 +18,7 @@ stopped threads.Both s = record s { receiver = false; applier = false; until = N
 stopped threads.Receiver s = record s { receiver = false }
 stopped threads.Applier s = record s { applier = false; until = None }
 
--- START REPLICA, perhaps UNTIL a coordinate: both threads of an attached server are on
+-- START REPLICA, with or without UNTIL a coordinate: both threads of an attached server are on
 abbrev pub started : Option Coord → Server → Server
 started until s = if is_attached s.source then record s { receiver = true; applier = true; until = until } else s
 
@@ -46,7 +46,7 @@ is_detached (Detached m) = true
 abbrev pub reattached : Server → Server
 reattached s = if is_detached s.source then record s { source = attached_source s.source; receiver = false; applier = false } else s
 
--- RESET REPLICA ALL: no source, no relay log, the coordinates at the beginning
+-- RESET REPLICA ALL: no source, no relay log, the coordinates at the start
 abbrev pub without_source : Server → Server
 without_source s = record s { source = Without; receiver = false; applier = false; exec = file_start 1; read = file_start 1; auto = false; until = None }
 
@@ -84,11 +84,11 @@ abbrev pub with_link : Link → Bool → Server → Server
 with_link link.Desk on s = record s { desk = on }
 with_link link.Feed on s = record s { feed = on }
 
--- a server that starts again starts its threads where it is attached, and forgets how far its applier was to go
+-- a server that starts again starts its threads if it is attached, and forgets how far its applier was to go
 abbrev pub healed : Server → Server
 healed s = if s.up then s else record s { up = true; until = None; receiver = is_attached s.source || s.receiver; applier = is_attached s.source || s.applier }
 
--- what befalls a server without an exchange
+-- what happens to a server without an exchange
 abbrev pub befallen : Event → Server → Server
 befallen event.Fail s = record s { up = false }
 befallen event.Heal s = healed s

@@ -60,7 +60,7 @@ attached_at w Without = None
 attached_at w (Attached m) = server_at w m.0
 attached_at w (Detached m) = None
 
--- what follows in the source's log, where the file that is to be read is kept
+-- what follows in the source's log, if the file that is to be read is kept
 abbrev pub fetch_kept : Server → Server → FetchStep
 fetch_kept r s = if nat_lt r.read.file s.first then receiving.Refuse s.first else receiving.Take (next_after s.log.log r.read)
 

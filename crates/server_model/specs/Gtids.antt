@@ -1,5 +1,6 @@
--- What servers tell by GTIDs (MySQL 8.0 Reference Manual, "GTID Format and Storage", "GTID Auto-Positioning"): the set
--- of what a server has executed, what orchestrator sees of a server in one exchange, and a change of source by a set.
+-- What servers answer by GTIDs (MySQL 8.0 Reference Manual, "GTID Format and Storage", "GTID Auto-Positioning"). These
+-- are the set of what a server has executed, what orchestrator sees of a server in one exchange, and a change of source
+-- by a set.
 use Rattle.std.specs.Prelude.{◌≡◌, ℕ, ◌<◌, ◌≤◌, Bool, true, false, ◌&&◌, ◌||◌, not, if◌then◌else◌, List, [], ◌∷◌, length, Option, Some, None, Result, Ok, Err, nat_lt, option_and_then, option_map, slice_get, take, unwrap_or}
 use Rattle.server_model.specs.Prelude.{All, AttachFault, Coord, Interval, IoState, Reserved, ServerNo, Status, StatusFault, Txn, coord_after, end_of}
 use Rattle.server_model.specs.Prelude.{file_start, filter, fold, holds, place, prefix_len, with_pair}
@@ -42,7 +43,7 @@ set_of uuid txns = with_gtids uuid [] txns
 abbrev pub executed_set : World → Server → List Interval
 executed_set w s = set_of (uuids w) s.history.txns
 
--- how many transactions stand in the purged files of a server's log
+-- how many transactions are in the purged files of a server's log
 abbrev pub purged_len : Server → ℕ
 purged_len s = unwrap_or (place s.log.log (file_start s.first)) 0
 
@@ -64,7 +65,7 @@ is_up (Some s) = s.up
 abbrev pub io_of : Server → Option Server → IoState
 io_of r source = if not r.receiver then io.No else if is_up source && r.feed then io.Yes else io.Connecting
 
--- where the log of a server that logs ends
+-- the end of the log of a server that logs
 abbrev pub own_end_of : Server → Option Coord
 own_end_of s = if s.settings.logs then Some (end_of s.log.log) else None
 
@@ -109,7 +110,7 @@ status_in w (Some s) = if s.up && s.desk then Ok (shown_of w s) else Err seeing.
 abbrev pub status : World → ℕ → Result Status StatusFault
 status w n = status_in w (server_at w n)
 
--- the fault that a status answers, and nothing at want of memory
+-- the fault that a status answers, and nothing if memory runs out
 abbrev pub status_fault : StatusFault → Option StatusFault
 status_fault seeing.Unreachable = Some seeing.Unreachable
 status_fault seeing.Memory = None
@@ -120,7 +121,7 @@ status_fault seeing.Memory = None
 abbrev pub errant_set : (ℕ → ℕ) → List Interval → List Txn → List Interval
 errant_set uuid observed txns = set_of uuid (filter (λ t. not (has_gtid uuid observed t)) txns)
 
--- what is answered where all but the sets is well: errant transactions, else what follows
+-- the answer if all except the sets is well: errant transactions, else what follows
 abbrev pub errant_answer : List Interval → Result (Unit {0}) AttachFault → Result (Unit {0}) AttachFault
 errant_answer [] later = later
 errant_answer (s ∷ xs) later = Err (attaching.Errant (s ∷ xs))
@@ -159,12 +160,12 @@ attach_auto_answer w n observed to None = Err attaching.Unreachable
 attach_auto_answer w n observed to (Some s) =
     auto_decision s (chain_meets (sources w) (length w.servers) to n) (errant_set (uuids w) observed s.history.txns) (auto_purged (uuids w) s (server_at w to))
 
--- a coordinate, or the beginning of the first kept file where it lies in a purged one
+-- a coordinate, or the start of the first kept file if the coordinate is in a purged one
 abbrev pub kept_coord : Server → Coord → Coord
 kept_coord s c = if nat_lt c.file s.first then file_start s.first else c
 
--- where a server goes on under a source that logs: the end of the longest prefix of the source's log that the server's
--- set holds, or the beginning of the first kept file where that end lies in a purged one
+-- the coordinate at which a server goes on under a source that logs: the end of the longest prefix of the source's log
+-- that is in the server's set. If that end is in a purged file, it is the start of the first kept file.
 abbrev pub auto_coord : (ℕ → ℕ) → Server → Option Server → Coord
 auto_coord uuid r None = file_start 1
 auto_coord uuid r (Some s) = kept_coord s (coord_after s.log.log (held_of uuid r s))
@@ -188,7 +189,7 @@ pub record IsAutoTarget (w : World) (to : ℕ) : Type 0 where
   pub there : server_at w to ≡ Some target
   pub logs : target.settings.logs ≡ true
 
--- the fault that an attachment answers, and nothing at want of memory
+-- the fault that an attachment answers, and nothing if memory runs out
 abbrev pub attach_fault : AttachFault → Option AttachFault
 attach_fault attaching.Unreachable = Some attaching.Unreachable
 attach_fault (attaching.Running at) = Some (attaching.Running at)
@@ -198,11 +199,11 @@ attach_fault (attaching.Errant set) = Some (attaching.Errant set)
 attach_fault (attaching.Purged first) = Some (attaching.Purged first)
 attach_fault attaching.Memory = None
 
--- the set tells of each transaction of the source whether the replica has executed it
+-- the set answers for each transaction of the source whether the replica has executed it
 pub record TellsExecuted (gtid : Bool) (uuid : ℕ → ℕ) (set : List Interval) (r s : Server) : Type 0 where
   pub told : gtid ≡ true → (k : ℕ) (t : Txn) → slice_get s.history.txns k ≡ Some t → has_gtid uuid set t ≡ txns_hold t r.history.txns
 
--- what is kept beside a server: the set of transactions that it has executed, where GTIDs are used, with room for its
+-- what is kept beside a server: the set of transactions that it has executed, if GTIDs are used, with room for its
 -- history
 pub record IsSetOf (gtid : Bool) (uuid : ℕ → ℕ) (s : Server) (txns : List Txn) (e : Reserved) : Type 0 where
   pub set : e.intervals ≡ (if gtid then set_of uuid txns else [])
@@ -225,6 +226,6 @@ pub record AreGtids (servers : List Server) (executed purged : List Reserved) (g
   pub kept : (n : ℕ) (s : Server) (e : Reserved) → slice_get servers n ≡ Some s → slice_get executed n ≡ Some e → IsSetOf gtid (uuids_in servers) s s.history.txns e
   pub purges : (n : ℕ) (s : Server) (e : Reserved) → slice_get servers n ≡ Some s → slice_get purged n ≡ Some e → IsSetOf gtid (uuids_in servers) s (purged_txns s) e
 
--- the set of a history, where GTIDs are used, in room for so many transactions
+-- the set of a history, if GTIDs are used, in room for so many transactions
 abbrev pub reserved_set : Bool → (ℕ → ℕ) → ℕ → List Txn → Reserved
 reserved_set gtid uuid room txns = if gtid then record { intervals = set_of uuid txns; room = room } else record { intervals = []; room = 0 }

@@ -1,4 +1,4 @@
--- What is told of a server for the tables.
+-- What the tables print of a server.
 use Rattle.std.specs.Prelude.{ℕ, Option, Some, None, Result, Ok, Err, ◌&&◌, not, nat_lt, slice_get, if◌then◌else◌}
 use Rattle.server_model.specs.Prelude.{Index, Plain, Txn, Unreachable}
 use Rattle.server_model.specs.Gtids.{purged_len}

@@ -10,8 +10,8 @@ use Rattle.server_model.specs.Gtids.{attach_auto, executed_set, IsAutoTarget}
 use Rattle.server_model.specs.Worlds.{World, server_at}
 
 -- one exchange: a client's write, a step of a replica's receiver or applier, what orchestrator asks of a server, what
--- befalls a server, a new file of its log, a purge of files of its log, an attachment by a coordinate, or one by a set
--- that was observed
+-- happens to a server. The others are a new file of its log, a purge of files of its log, and an attachment by a
+-- coordinate or by a set that was observed.
 pub data Exchange : Type 0 where
   Write : (n size : ℕ) → Exchange
   Fetch : (n : ℕ) → Exchange
@@ -58,8 +58,8 @@ after w (Purge n file) = (purge w n file).1
 after w (Attach n expect to at) = (attach_at w n expect to at).1
 after w (AttachAuto n observed to) = (attach_auto w n observed to).1
 
--- what an exchange requires: a transaction takes some bytes, the coordinate of an attachment has a place in the log of
--- its target, and GTIDs are used where a server is attached by a set, to one that logs
+-- what an exchange requires: a transaction takes some bytes, and the coordinate of an attachment has a place in the log
+-- of its target. A server is attached by a set only if GTIDs are used, and only to one that logs.
 abbrev pub Allowed : World → Exchange → Type 0
 Allowed w (Write n size) = 0 < size
 Allowed w (Fetch n) = Unit {0}
@@ -71,7 +71,7 @@ Allowed w (Purge n file) = Unit {0}
 Allowed w (Attach n expect to at) = IsTarget w to.0 at
 Allowed w (AttachAuto n observed to) = IsAutoTarget w to.0
 
--- what r executed is a beginning of what s executed, and the coordinate is where that beginning ends
+-- what r executed is a prefix of what s executed, and the coordinate is the end of that prefix
 pub record IsJunction (r s : Server) (at : Coord) : Type 0 where
   pub prefix : take (length r.history.txns) s.history.txns ≡ r.history.txns
   pub place : place s.log.log at ≡ Some (length r.history.txns)
@@ -80,8 +80,8 @@ pub record IsJunction (r s : Server) (at : Coord) : Type 0 where
 abbrev pub IsObserved : World → List Interval → ℕ → Type 0
 IsObserved w observed to = (t : Server) → server_at w to ≡ Some t → (uuid n : ℕ) → holds observed uuid n ≡ true → holds (executed_set w t) uuid n ≡ true
 
--- an attachment of a server that is where it is expected leads to where its history ends, and one by a set goes by a
--- set that is within the new source's
+-- An attachment of a server that is at the expected position leads to the end of its history. One by a set goes by a
+-- set that is within the new source's.
 abbrev pub JoinsWell : World → Exchange → Type 0
 JoinsWell w (Attach n expect to at) =
     (r s : Server) → server_at w n ≡ Some r → server_at w to.0 ≡ Some s → same_spot expect (live_spot r expect) ≡ true → IsJunction r s at

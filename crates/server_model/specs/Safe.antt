@@ -1,5 +1,5 @@
--- When a world is safe: each replica has executed a beginning of its source's transactions, and stands at its end. And
--- what holds of it even where it isn't safe: each replica stands in its source's log.
+-- When a world is safe: each replica has executed a prefix of its source's transactions, and is at that prefix's end.
+-- Also what holds even if a world isn't safe: each replica is in its source's log.
 use Rattle.std.specs.Prelude.{◌≡◌, ℕ, ◌+◌, true, List, length, take, Some, slice_get}
 use Rattle.server_model.specs.Prelude.{Txn, count_own, is_at_or_before, place, same_txn}
 use Rattle.server_model.specs.Layout.{LaysOut}
@@ -7,17 +7,17 @@ use Rattle.server_model.specs.Worlds.{World, server_at, histories, sources, sour
 use Rattle.server_model.specs.declared.server.Server.{Server}
 pub use Rattle.server_words.specs.OrchBase.Chains.{Grounded, Root, Under}
 
--- A replica stands well under its source: what it executed is a beginning of what the source executed, its executed
--- coordinate is where that beginning ends, and what it has read is not behind.
+-- A replica fits its source: what it executed is a prefix of what the source executed. Its executed coordinate is the
+-- end of that prefix, and what it has read is not before it.
 pub record AttachedWell (r s : Server) : Type 0 where
   pub prefix : take (length r.history.txns) s.history.txns ≡ r.history.txns
   pub exec_place : place s.log.log r.exec ≡ Some (length r.history.txns)
   pub read_place : (k : ℕ) × (place s.log.log r.read ≡ Some k)
   pub order : is_at_or_before r.exec r.read ≡ true
 
--- the histories are kin
+-- Histories agree: they are equal up to and including each transaction that they share.
 pub record IsKin (h : ℕ → List Txn) : Type 0 where
-  -- where two histories hold the same transaction they are equal up to and including it
+  -- if two histories have the same transaction, they are equal up to and including it
   pub alike : (a b i j : ℕ) (x y : Txn) → slice_get (h a) i ≡ Some x → slice_get (h b) j ≡ Some y → same_txn x y ≡ true → take (i + 1) (h a) ≡ take (j + 1) (h b)
   -- the numbers of one origin are 1, 2, 3 and so on, in order
   pub numbered : (a i : ℕ) (x : Txn) → slice_get (h a) i ≡ Some x → x.seq ≡ count_own x.origin.0 (take i (h a)) + 1
@@ -32,12 +32,12 @@ IsSource w m = (s : Server) × (server_at w m ≡ Some s) × (s.settings.logs �
 abbrev pub HaveOwnUuids : World → Type 0
 HaveOwnUuids w = (m n : ℕ) (s t : Server) → server_at w m ≡ Some s → server_at w n ≡ Some t → s.settings.uuid ≡ t.settings.uuid → m ≡ n
 
--- the first kept file of each server is one of its log's; where it doesn't log that is 1, and the log is empty
+-- the first kept file of each server is one of its log's; if it doesn't log that is 1, and the log is empty
 abbrev pub KeepFiles : World → Type 0
 KeepFiles w = (n : ℕ) (s : Server) → server_at w n ≡ Some s → KeepsFrom s.settings.logs s.log.log s.first
 
--- Every server with a source stands well under it, all histories are kin, no server is below itself, every source
--- logs, every log lays out its server's history and keeps one of its files, and the servers' UUIDs differ.
+-- Every server with a source fits it (`AttachedWell`), all histories agree (`IsKin`), no server is below itself, and
+-- every source logs. Every log lays out its server's history and keeps one of its files. The servers' UUIDs differ.
 pub record Safe (w : World) : Type 0 where
   pub laid : (n : ℕ) (s : Server) → server_at w n ≡ Some s → s.settings.logs ≡ true → LaysOut s.history.txns s.log.log
   pub kept : KeepFiles w
@@ -47,16 +47,16 @@ pub record Safe (w : World) : Type 0 where
   pub grounded : (n : ℕ) → Grounded (sources w) n
   pub uuids : HaveOwnUuids w
 
--- Where a replica stands in its source's log: both coordinates have places there, and the executed one isn't after the
--- read one.
+-- The position of a replica in its source's log: both coordinates have places there, and the executed one isn't after
+-- the read one.
 pub record StandsIn (r s : Server) : Type 0 where
   pub exec_place : (k : ℕ) × (place s.log.log r.exec ≡ Some k)
   pub read_place : (k : ℕ) × (place s.log.log r.read ≡ Some k)
   pub order : is_at_or_before r.exec r.read ≡ true
 
--- What holds in every world of a run, quiet or not: every server with a source stands in the log of its source, every
--- source is there and logs, no server is below itself, every log lays out its server's history and keeps one of its
--- files, and the servers' UUIDs differ.
+-- What holds in every world of a run, whether clients wrote to replicas or not. Every server with a source is in the
+-- log of its source. Every source is there and logs, and no server is below itself. Every log lays out its server's
+-- history and keeps one of its files. The servers' UUIDs differ.
 pub record Placed (w : World) : Type 0 where
   pub laid : (n : ℕ) (s : Server) → server_at w n ≡ Some s → s.settings.logs ≡ true → LaysOut s.history.txns s.log.log
   pub kept : KeepFiles w

@@ -3,8 +3,8 @@ use Rattle.std.specs.Prelude.{ℕ, Bool, Option}
 use Rattle.server_model.specs.Prelude.{Coord, Index, Settings, SourceState}
 use Rattle.server_model.specs.Kept.{Kept}
 
--- its settings, what it has executed, its binary log, which stays empty where it doesn't log, the first file that the
--- log keeps, and where it stands in its source's log; the rest as the struct says
+-- Its settings, what it has executed, and its binary log, which stays empty if it doesn't log. Then the first file that
+-- the log keeps, and its position in its source's log. The rest is as in the struct.
 pub record Server : Type 0 where
   pub settings : Settings
   pub history : Kept

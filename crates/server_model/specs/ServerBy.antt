@@ -4,7 +4,7 @@ use Rattle.server_model.specs.Prelude.{Index, opened}
 use Rattle.server_model.specs.Server.{Server}
 use Rattle.server_model.specs.declared.server.Server.TheInside.{Inside}
 
--- the log that is told of: where the server doesn't log, one without transactions
+-- the log that is printed: if the server doesn't log, one without transactions
 abbrev pub told_log : Inside → Index
 told_log a = if a.settings.logs then a.log else record a.log { log = opened a.settings.limit; txns = [] }
 

@@ -6,7 +6,7 @@ use Rattle.server_model.specs.Attach.{IsTarget}
 use Rattle.server_model.specs.Worlds.{World, server_at, source_no}
 use Rattle.server_model.specs.Observed.{HasExecuted}
 
--- Where a server stands: its own end has a place in its own log, and there is one where it logs. Under a source,
+-- The position of a server. Its own end has a place in its own log, and there is one if it logs. Under a source,
 -- attached or detached, its executed coordinate has a place in the source's log. It has executed the set.
 pub record IsPosition (w : World) (n : ℕ) (own_end : Option Coord) (source : SourceState) (exec : Coord) (executed : List Interval) : Type 0 where
   pub own : (c : Coord) → own_end ≡ Some c → IsTarget w n c
@@ -14,7 +14,7 @@ pub record IsPosition (w : World) (n : ℕ) (own_end : Option Coord) (source : S
   pub under : (m : ℕ) → source_no source ≡ Some m → IsTarget w m exec
   pub set : HasExecuted w n executed
 
--- A status shows where its server stands; under a source its read coordinate has a place in the source's log too, not
+-- A status has the position of its server. Under a source its read coordinate has a place in the source's log too, not
 -- before the executed one.
 pub record Shows (w : World) (n : ℕ) (seen : Status) : Type 0 where
   pub at : IsPosition w n seen.own_end seen.source seen.exec seen.set

@@ -1,4 +1,4 @@
--- Servers that stand: what has to hold of them so that they make a world.
+-- What has to hold for servers so that they make a world.
 use Rattle.std.specs.Prelude.{◌≡◌, ◌≢◌, ℕ, ◌≤◌, Bool, true, List, All, length, Some, slice_get}
 use Rattle.server_model.specs.Fit.{IsFit}
 use Rattle.server_model.specs.Gtids.{IsNumbered}
@@ -6,8 +6,8 @@ use Rattle.server_model.specs.Safe.{StandsIn}
 use Rattle.server_model.specs.Worlds.{World, source_no}
 use Rattle.server_model.specs.declared.server.Server.{Server}
 
--- one of so many servers: its numbers are in their ranges, its log has as much room as its history and, where it logs,
--- as many transactions, and each of these has a GTID
+-- One of so many servers: its numbers are in their ranges. Its log has as much room as its history. If it logs, it has
+-- as many transactions, and each of these has a GTID.
 pub record IsServer (servers : ℕ) (s : Server) : Type 0 where
   pub fit : IsFit s
   pub log_room : s.log.room ≡ s.history.room
@@ -30,6 +30,6 @@ pub record CanStand (servers : List Server) : Type 0 where
   pub uuids : (m n : ℕ) (s t : Server) → slice_get servers m ≡ Some s → slice_get servers n ≡ Some t → s.settings.uuid ≡ t.settings.uuid → m ≡ n
   pub sources : (n m : ℕ) (r : Server) → slice_get servers n ≡ Some r → source_no r.source ≡ Some m → IsSourceOf servers n m r
 
--- the world of servers that stand, before any exchange
+-- the world of such servers, before any exchange
 abbrev pub world_with : List Server → Bool → World
 world_with servers gtid = record { servers = servers; gtid = gtid; errant = 0 }

@@ -26,7 +26,7 @@ abbrev pub source_of : Option Server → Option ℕ
 source_of None = None
 source_of (Some s) = source_no s.source
 
--- the first kept file of a log is one of its files; where the server doesn't log it is 1, and the log is empty
+-- the first kept file of a log is one of its files; if the server doesn't log it is 1, and the log is empty
 pub record KeepsFrom (logs : Bool) (log : Log) (first : ℕ) : Type 0 where
   pub low : 1 ≤ first
   pub high : first ≤ log.files

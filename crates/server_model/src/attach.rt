@@ -54,7 +54,7 @@ pub(crate) fn first_kept(servers: &[Server], no: ServerNo) -> u32
     }
 }
 
-/// Purged, where the new source, which keeps its log from this file on, has purged what is needed of it.
+/// Purged, if the new source, which keeps its log from this file on, has purged what is needed of it.
 pub(crate) fn purged_answer(is_purged: bool, first: u32) -> Result<(), AttachFault>
     ensures { result ≡ purged_answer is_purged first }
 {

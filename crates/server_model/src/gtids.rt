@@ -11,7 +11,7 @@ use crate::orch_base::{Memory, ServerNo};
 use crate::{AttachFault, Server};
 use std::alloc::Global;
 
-/// The UUID of a server, or 0 where there is none.
+/// The UUID of a server, or 0 if there is none.
 pub(crate) fn uuid_of(servers: &[Server], no: ServerNo) -> u128
     ensures { result ≡ uuids_in servers.now no.0 }
 {
@@ -21,7 +21,7 @@ pub(crate) fn uuid_of(servers: &[Server], no: ServerNo) -> u128
     }
 }
 
-/// Adds the GTID to the set, where GTIDs are used. It takes no memory.
+/// Adds the GTID to the set, if GTIDs are used. It takes no memory.
 pub(crate) fn keep_gtid(executed: &mut ReservedSet, gtid: bool, uuid: u128, n: u64)
     requires some { 1 ≤ n }
     requires few { n ≤ 4000001 }
@@ -35,8 +35,8 @@ pub(crate) fn keep_gtid(executed: &mut ReservedSet, gtid: bool, uuid: u128, n: u
     }
 }
 
-/// Adds the GTIDs of the transactions from one index on and before another to the set, where GTIDs are used. It takes
-/// no memory.
+/// Adds the GTIDs of the transactions from one index on and before another to the set, if GTIDs are used. It takes no
+/// memory.
 pub(crate) fn keep_gtids(
     kept: &mut ReservedSet,
     gtid: bool,
@@ -76,7 +76,7 @@ pub(crate) fn held_len(servers: &[Server], executed: &ReservedSet, log: &LogInde
     log.len()
 }
 
-/// Why a server can't be attached by a set, but for the sets, by whether it would close a loop.
+/// Why a server can't be attached by a set, except for the sets, by whether it would close a loop.
 pub(crate) fn auto_readiness(s: &Server, loops: bool) -> Result<(), AttachFault>
     ensures { result ≡ auto_readiness s.now loops }
 {
@@ -92,7 +92,7 @@ pub(crate) fn auto_readiness(s: &Server, loops: bool) -> Result<(), AttachFault>
     Ok(())
 }
 
-/// How many transactions stand in the purged files of a server's log.
+/// How many transactions are in the purged files of a server's log.
 pub(crate) fn purged_len(s: &Server) -> u64
     ensures { result ≡ purged_len s.now }
 {
@@ -106,7 +106,7 @@ pub(crate) fn purged_len(s: &Server) -> u64
     s.log.place(kept).unwrap_or(0)
 }
 
-/// The coordinate, or the beginning of the first kept file of the server's log where it lies in a purged one.
+/// The coordinate, or the start of the first kept file of the server's log if the coordinate is in a purged one.
 pub(crate) fn kept_coord(s: &Server, at: Coord) -> Coord
     ensures { result ≡ kept_coord s.now at }
 {
@@ -120,7 +120,7 @@ pub(crate) fn kept_coord(s: &Server, at: Coord) -> Coord
     }
 }
 
-// The set of the first transactions, so many, that a server has executed, where GTIDs are used, in the room that its
+// The set of the first transactions, so many, that a server has executed, if GTIDs are used, in the room that its
 // history has.
 fn executed_set(
     alloc: Global,
@@ -142,8 +142,7 @@ fn executed_set(
     Ok(executed)
 }
 
-/// The set of what stands in the purged files of each server's log, where GTIDs are used, in the room that its history
-/// has.
+/// The set of what is in the purged files of each server's log, if GTIDs are used, in the room that its history has.
 pub(crate) fn purged_sets(
     alloc: Global,
     servers: &[Server],
@@ -163,7 +162,7 @@ pub(crate) fn purged_sets(
     Ok(sets)
 }
 
-/// The set of what each server has executed, where GTIDs are used, in the room that its history has.
+/// The set of what each server has executed, if GTIDs are used, in the room that its history has.
 pub(crate) fn executed_sets(
     alloc: Global,
     servers: &[Server],

@@ -33,7 +33,7 @@ fn least_read(servers: &[Server], no: ServerNo, file: u32) -> u32
         .fold(file, |least, read| if read < least { read } else { least })
 }
 
-/// The first file that the server is to keep where the files before this one are to go.
+/// The first file that the server is to keep if the files before this one are to go.
 pub(crate) fn kept_from(servers: &[Server], no: ServerNo, file: u32, s: &Server) -> u32
     ensures { result ≡ kept_from servers.now no.0 file s.now }
 {

@@ -6,7 +6,7 @@ use crate::steps::is_attached;
 use crate::{ApplyStep, Ask, Event, FetchStep, Link, Threads};
 use std::marker::Model;
 
-/// A server: what it has executed, its log, and where it stands in its source's log.
+/// A server: what it has executed, its log, and its position in its source's log.
 pub struct Server {
     pub settings: Settings,
     /// What it has executed, and its own binary log. One that doesn't log keeps this list, too, and shows an empty log.
@@ -247,7 +247,7 @@ impl Server {
         self.applier = is_attached || self.applier;
     }
 
-    /// Takes what befalls the server.
+    /// Takes what happens to the server.
     pub(crate) fn befall(&mut self, event: Event)
         ensures { self.new ≡ befallen event self.old }
     {

@@ -40,7 +40,7 @@ pub(crate) fn is_applying(r: &Server) -> bool
     r.up && (is_attached(r.source) && r.applier)
 }
 
-/// How many of the writes that the server accepts are errant: each, where it has a source, or none.
+/// How many of the writes that the server accepts are errant: each, if it has a source, or none.
 pub(crate) fn errant_writes(s: &Server) -> u64
     ensures value { result ≡ (if has_source s.now.source then 1 else 0) }
     ensures within { result ≤ 1 }
@@ -51,7 +51,7 @@ pub(crate) fn errant_writes(s: &Server) -> u64
     }
 }
 
-/// Whether the applier of a replica is where it is to stop.
+/// Whether the applier of a replica is at the position at which it is to stop.
 pub(crate) fn is_reached(r: &Server) -> bool
     ensures { result ≡ is_reached r.now.until r.now.exec }
 {
@@ -100,7 +100,7 @@ pub(crate) fn fetch_answer(step: FetchStep) -> FetchAnswer
     }
 }
 
-/// One where the transaction is of this server, else none.
+/// One if the transaction is of this server, else none.
 pub(crate) fn own_of(no: ServerNo, t: Txn) -> u64
     ensures value { result ≡ (if t.origin.0 == no.0 then 1 else 0) }
     ensures within { result ≤ 1 }
@@ -122,7 +122,8 @@ pub(crate) fn apply_answer(step: ApplyStep) -> ApplyAnswer
     }
 }
 
-/// What the applier of `r`, which is on and isn't where it is to stop, is to do under its source `s`.
+/// What the applier of `r`, which is on and isn't at the position at which it is to stop, is to do under its source
+/// `s`.
 pub(crate) fn applier_step(
     gtid: bool,
     r: &Server,

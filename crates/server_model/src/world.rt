@@ -39,9 +39,9 @@ pub struct World {
     servers: Vec<Server>,
     // How many transactions of its own each server has executed.
     own: Vec<u64>,
-    // The GTIDs of what each server has executed, where they are used.
+    // The GTIDs of what each server has executed, if they are used.
     executed: Vec<ReservedSet>,
-    // The GTIDs of what stands in the purged files of each server's log, where they are used.
+    // The GTIDs of what is in the purged files of each server's log, if they are used.
     purged: Vec<ReservedSet>,
     gtid: bool,
     errant: u64,
@@ -74,7 +74,7 @@ impl Model for World {
 
 impl World {
     /// The world of these servers, before any exchange: at most 1,000, by their numbers from 0. Each has room for the
-    /// transactions and calls of `rotate` that its history and its log have room for.
+    /// transactions and calls of `rotate` that its history and its log have room for. `Err` means out of memory.
     pub fn of(alloc: Global, servers: Vec<Server>, gtid: bool) -> Result<World, Memory>
         requires { CanStand servers.items }
         ensures { IfOk result (λ w. w ≡ world_with servers.items gtid) }
@@ -142,7 +142,7 @@ impl World {
         s.log.txn(k).unwrap()
     }
 
-    /// What the tables tell of a server, reachable or not.
+    /// What the tables print of a server, reachable or not.
     pub fn plain(&self, no: ServerNo) -> Plain
         requires { no.0 < length self.now.servers }
         ensures { option_map plain_of (server_at self.now no.0) ≡ Some result }
@@ -283,7 +283,7 @@ impl World {
         }
     }
 
-    /// Stops the named threads (STOP REPLICA). Unreachable exactly where the server is down or its desk link cut.
+    /// Stops the named threads (STOP REPLICA). `Unreachable` exactly if the server is down or its desk link is cut.
     pub fn stop(&mut self, no: ServerNo, which: Threads) -> Result<(), Unreachable>
         requires { no.0 < length self.old.servers }
         ensures answer { result ≡ desk_answer (server_at self.old no.0) }
@@ -293,6 +293,7 @@ impl World {
     }
 
     /// Starts both threads of an attached server and forgets how far its applier was to go (START REPLICA).
+    /// `Unreachable` as `stop`'s.
     pub fn start(&mut self, no: ServerNo) -> Result<(), Unreachable>
         requires { no.0 < length self.old.servers }
         ensures answer { result ≡ desk_answer (server_at self.old no.0) }
@@ -302,6 +303,7 @@ impl World {
     }
 
     /// Starts both threads of an attached server; its applier is to stop at the coordinate (START REPLICA UNTIL).
+    /// `Unreachable` as `stop`'s.
     pub fn start_until(&mut self, no: ServerNo, to: Coord) -> Result<(), Unreachable>
         requires { no.0 < length self.old.servers }
         ensures answer { result ≡ desk_answer (server_at self.old no.0) }
@@ -310,7 +312,8 @@ impl World {
         self.ask(no, Ask::StartUntil(to))
     }
 
-    /// Detaches an attached server: it keeps its source, with its threads off and its relay log empty.
+    /// Detaches an attached server: it keeps its source, with its threads off and its relay log empty. `Unreachable` as
+    /// `stop`'s.
     pub fn detach(&mut self, no: ServerNo) -> Result<(), Unreachable>
         requires { no.0 < length self.old.servers }
         ensures answer { result ≡ desk_answer (server_at self.old no.0) }
@@ -319,7 +322,7 @@ impl World {
         self.ask(no, Ask::Detach)
     }
 
-    /// Attaches a detached server to its source again, with its threads off.
+    /// Attaches a detached server to its source again, with its threads off. `Unreachable` as `stop`'s.
     pub fn reattach(&mut self, no: ServerNo) -> Result<(), Unreachable>
         requires { no.0 < length self.old.servers }
         ensures answer { result ≡ desk_answer (server_at self.old no.0) }
@@ -328,7 +331,7 @@ impl World {
         self.ask(no, Ask::Reattach)
     }
 
-    /// Takes a server's source away, with its relay log (RESET REPLICA ALL).
+    /// Takes a server's source away, with its relay log (RESET REPLICA ALL). `Unreachable` as `stop`'s.
     pub fn reset(&mut self, no: ServerNo) -> Result<(), Unreachable>
         requires { no.0 < length self.old.servers }
         ensures answer { result ≡ desk_answer (server_at self.old no.0) }
@@ -337,7 +340,7 @@ impl World {
         self.ask(no, Ask::Reset)
     }
 
-    /// Makes a server read-only or writable (`read_only`).
+    /// Makes a server read-only or writable (`read_only`). `Unreachable` as `stop`'s.
     pub fn set_read_only(&mut self, no: ServerNo, on: bool) -> Result<(), Unreachable>
         requires { no.0 < length self.old.servers }
         ensures answer { result ≡ desk_answer (server_at self.old no.0) }
@@ -346,8 +349,8 @@ impl World {
         self.ask(no, Ask::SetReadOnly(on))
     }
 
-    /// Does what orchestrator asks of a server. Unreachable exactly where the server is down or its desk link cut; then
-    /// nothing changes.
+    /// Does what orchestrator asks of a server. `Unreachable` exactly if the server is down or its desk link is cut.
+    /// Then nothing changes.
     pub fn ask(&mut self, no: ServerNo, ask: Ask) -> Result<(), Unreachable>
         requires { no.0 < length self.old.servers }
         ensures answer { result ≡ desk_answer (server_at self.old no.0) }
@@ -369,7 +372,7 @@ impl World {
         self.befall(no, Event::Fail);
     }
 
-    /// A down server is up again; where it is attached its threads start. Of an up one nothing changes.
+    /// A down server is up again. If it is attached, its threads start. An up one doesn't change.
     pub fn heal(&mut self, no: ServerNo)
         requires { no.0 < length self.old.servers }
         ensures { self.new ≡ befall self.old no.0 Event.Heal }
@@ -422,9 +425,9 @@ impl World {
         RotateAnswer::Done(end)
     }
 
-    /// Purges the files of a server's binary log before this one, from 1 on (PURGE BINARY LOGS), but none that an
-    /// active replica of it is reading, nor a later one. A file that is purged already changes nothing. The time is
-    /// that of the servers and of the transactions that are purged. It takes no memory.
+    /// Purges the files of a server's binary log before this one, from 1 on (PURGE BINARY LOGS). It purges no file that
+    /// an active replica of the server is reading, nor a later one. A file that is purged already changes nothing. The
+    /// time is that of the servers and of the transactions that are purged. It takes no memory.
     pub fn purge(&mut self, no: ServerNo, file: u32) -> PurgeAnswer
         requires { no.0 < length self.old.servers }
         ensures answer { result ≡ purge_answer self.old no.0 file (server_at self.old no.0) }
@@ -464,9 +467,9 @@ impl World {
         keep_gtids(purged, self.gtid, &self.servers, &s.log, from, to);
     }
 
-    /// Attaches a server that stands at the expected spot to `to`, a server that logs, at `at`, which has a place in
-    /// its log, and whose file isn't purged. Its threads are off then, and its relay log is empty. Nothing changes
-    /// where it answers a fault.
+    /// Attaches a server that is at the expected position to `to`, a server that logs. `at` has a place in its log, and
+    /// its file isn't purged. The server's threads are off then, and its relay log is empty. Nothing changes if it
+    /// answers a fault.
     pub fn attach_at(
         &mut self,
         no: ServerNo,
@@ -516,6 +519,7 @@ impl World {
     }
 
     /// What a status would show of a server, reached or not. It takes time in the size of the server's executed set.
+    /// `Err` means out of memory.
     pub fn shows(&self, alloc: Global, no: ServerNo) -> Result<Status, Memory>
         requires { no.0 < length self.now.servers }
         ensures { IfOk result (λ s. shown self.now no.0 ≡ Some s) }
@@ -527,8 +531,8 @@ impl World {
         Ok(status_of(s, above(&self.servers, s), set, purged))
     }
 
-    /// What orchestrator sees of a server in one exchange: Unreachable exactly where the server is down or its desk
-    /// link cut. It takes time in the size of the server's executed set.
+    /// What orchestrator sees of a server in one exchange: `Unreachable` exactly if the server is down or its desk link
+    /// is cut. It takes time in the size of the server's executed set.
     pub fn status(&self, alloc: Global, no: ServerNo) -> Result<Status, StatusFault>
         requires { no.0 < length self.now.servers }
         ensures { Gives (λ s. s) status_fault result (status_of_server self.now no.0) }
@@ -539,9 +543,9 @@ impl World {
         Ok(self.shows(alloc, no)?)
     }
 
-    /// Attaches a server to `to`, a server that logs, by the GTIDs that were observed of it, where GTIDs are used:
-    /// Errant with what the server has executed and isn't among them. It goes on at the end of the longest prefix of
-    /// the source's log that it has executed, with its threads off. Nothing changes where it answers a fault.
+    /// Attaches a server to `to`, a server that logs, by the GTIDs that were observed of it, if GTIDs are used.
+    /// `Errant` has what the server has executed and isn't among them. The server goes on at the end of the longest
+    /// prefix of the source's log that it has executed, with its threads off. Nothing changes if it answers a fault.
     pub fn attach_auto(
         &mut self,
         alloc: Global,
@@ -579,7 +583,7 @@ impl World {
         Ok(())
     }
 
-    // Where a server goes on under the source, or why it can't be attached by the set.
+    // The coordinate at which a server goes on under the source, or why it can't be attached by the set.
     fn auto_place(
         &self,
         alloc: Global,
@@ -609,8 +613,8 @@ impl World {
         Ok(kept_coord(source, source.log.coord_after(held)))
     }
 
-    /// The transaction of this index, from 0, in the kept files of a server's binary log: None exactly where the server
-    /// doesn't log, its history ends before it, or its file is purged. Unreachable as `status` does. It takes no
+    /// The transaction of this index, from 0, in the kept files of a server's binary log. `None` exactly if the server
+    /// doesn't log, its history ends before it, or its file is purged. `Unreachable` as `status` does. It takes no
     /// memory.
     pub fn logged(&self, no: ServerNo, k: u64) -> Result<Option<Txn>, Unreachable>
         requires { no.0 < length self.now.servers }

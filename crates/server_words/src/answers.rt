@@ -39,7 +39,7 @@ pub enum FetchAnswer {
 pub enum ApplyAnswer {
     /// The server is down, isn't attached, or its applier is off.
     Stopped,
-    /// The applier had come to where it was to stop, and stopped.
+    /// The applier had come to the position at which it was to stop, and stopped.
     AtUntil,
     /// The relay log is empty.
     Nothing,
@@ -53,7 +53,7 @@ pub enum ApplyAnswer {
     Done(Coord),
 }
 
-/// The answer where a new file of the binary log was to begin.
+/// The answer if a new file of the binary log was to begin.
 #[derive(Clone, Copy, Debug, PartialEq, Eq)]
 pub enum RotateAnswer {
     /// The server is down.
@@ -66,7 +66,7 @@ pub enum RotateAnswer {
     Done(Coord),
 }
 
-/// The answer where files of the binary log were to be purged.
+/// The answer if files of the binary log were to be purged.
 #[derive(Clone, Copy, Debug, PartialEq, Eq)]
 pub enum PurgeAnswer {
     /// The server is down.

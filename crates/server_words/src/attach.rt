@@ -1,4 +1,4 @@
-//! Where servers stand, and why one isn't attached.
+//! The positions of servers, and why one isn't attached.
 
 ghost use Rattle.std.specs.Prelude.{◌≡◌};
 ghost use Rattle.server_words.specs.declared.attach.AttachFault.TheVariants.{Memory as NoMemory};
@@ -8,7 +8,7 @@ use binlog_coords::Coord;
 use gtid_sets::GtidSet;
 use std::fmt;
 
-/// Where a server stands.
+/// The position of a server.
 #[derive(Clone, Copy, Debug, PartialEq, Eq)]
 pub enum Spot {
     /// Under this source, which it keeps, at this executed coordinate.
@@ -24,9 +24,9 @@ pub enum Spot {
 pub enum AttachFault {
     /// Orchestrator doesn't reach the server.
     Unreachable,
-    /// A thread of the server is on; it stands here.
+    /// A thread of the server is on. The server is at this position.
     Running(Spot),
-    /// The server was expected at the first spot, and was found at the second.
+    /// The server was expected at the first position, and was found at the second.
     Interfered(Spot, Spot),
     /// The new source is the server itself or below it.
     Loop,
@@ -34,7 +34,7 @@ pub enum AttachFault {
     Errant(GtidSet),
     /// The new source has purged the file in which the server was to go on, and keeps its log from this file on.
     Purged(u32),
-    /// Want of memory. Only an attachment by a set answers it.
+    /// Out of memory. Only an attachment by a set answers it.
     Memory,
 }
 

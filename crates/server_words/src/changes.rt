@@ -1,4 +1,4 @@
-//! What changes one server: what orchestrator asks of it, and what befalls it.
+//! What changes one server: what orchestrator asks of it, and what happens to it.
 
 use binlog_coords::Coord;
 
@@ -33,7 +33,7 @@ pub enum Ask {
     SetReadOnly(bool),
 }
 
-/// What befalls a server.
+/// What happens to a server.
 #[derive(Clone, Copy, Debug, PartialEq, Eq)]
 pub enum Event {
     Fail,

@@ -1,4 +1,4 @@
-//! What is asked of servers, what befalls them, and what they answer: plain types.
+//! What is asked of servers, what happens to them, and what they answer: plain types.
 #![tactic(auto)]
 
 mod answers;

@@ -1,9 +1,9 @@
-//! What is told of a server for the tables.
+//! What the tables print of a server.
 
 use crate::orch_base::SourceState;
 use binlog_coords::Coord;
 
-/// A server's state but for what it has executed and logged.
+/// A server's state except for what it has executed and logged.
 #[derive(Clone, Copy, Debug, PartialEq, Eq)]
 pub struct Plain {
     pub up: bool,

@@ -15,9 +15,9 @@ pub struct Status {
     /// The end of its own binary log; None exactly for a server that doesn't log.
     pub own_end: Option<Coord>,
     pub source: SourceState,
-    /// How far its applier has executed its source's log; the log's beginning for a server without a source.
+    /// How far its applier has executed its source's log. For a server without a source it is the log's start.
     pub exec: Coord,
-    /// How far its receiver has read its source's log; the log's beginning for a server without a source.
+    /// How far its receiver has read its source's log. For a server without a source it is the log's start.
     pub read: Coord,
     /// Whether it finds its place by GTIDs (SOURCE_AUTO_POSITION).
     pub auto: bool,
@@ -26,19 +26,19 @@ pub struct Status {
     /// Whether its applier is on.
     pub sql: bool,
     pub read_only: bool,
-    /// The GTIDs of what it has executed (`gtid_executed`); empty where the servers don't use GTIDs.
+    /// The GTIDs of what it has executed (`gtid_executed`); empty if the servers don't use GTIDs.
     pub set: GtidSet,
     /// The first file that its own binary log keeps; 1 before any purge, and for a server that doesn't log.
     pub first: u32,
-    /// The GTIDs of what stands in the purged files of its log (`gtid_purged`); empty where the servers don't use
-    /// GTIDs, and for a server that doesn't log.
+    /// The GTIDs of what is in the purged files of its log (`gtid_purged`). It is empty if the servers don't use GTIDs,
+    /// and for a server that doesn't log.
     pub purged: GtidSet,
 }
 
 impl Status {
     ghost use Rattle.std.specs.Prelude.{◌≡◌, ◌↔◌, IfOk, IsTrue, OnOk, OnErr, length};
 
-    /// The same once more.
+    /// The same once more. `Err` means out of memory.
     #[inline(always)]
     pub fn copy(&self) -> Result<Status, Memory>
         ensures { IfOk result (λ s. s ≡ self.now) }
@@ -60,7 +60,7 @@ impl Status {
         })
     }
 
-    /// Becomes the same as the other, without memory where its sets have as many intervals. At want of memory it stays
+    /// Becomes the same as the other, without memory if its sets have as many intervals. If memory runs out, it stays
     /// whole.
     pub fn set_to(&mut self, other: &Status) -> Result<(), Memory>
         ensures ok { OnOk result (self.new ≡ other.now) }
@@ -137,7 +137,7 @@ impl Status {
 pub enum StatusFault {
     /// The server is down, or its link to the desk is cut.
     Unreachable,
-    /// Want of memory.
+    /// Out of memory.
     Memory,
 }
 

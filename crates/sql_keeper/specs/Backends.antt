@@ -1,4 +1,4 @@
--- Where rows are kept: a keeper in memory tells its rows, and a file doesn't.
+-- The places of rows: a row store in memory has known rows, and a file hasn't.
 use Rattle.std.specs.Prelude.{ℕ, List, Option, None, Some}
 use Rattle.kept_rows.specs.declared.row.Row.{Row}
 use Rattle.sql_keeper.specs.declared.backend.Backend.{Backend}

@@ -1,4 +1,4 @@
--- Which faults of a database are failures of the keeper, and which rows of it are passed over.
+-- Which faults of a database are failures of the row store, and which rows of it are passed over.
 use Rattle.std.specs.Prelude.{◌≡◌, ◌<◌, ◌^◌, ℕ, false, Option, None, Some, Result, Ok, Err}
 use Rattle.kept_rows.specs.declared.keeper.KeeperFault.{KeeperFault}
 use Rattle.kept_rows.specs.declared.keeper.KeeperFault.TheVariants as keeper
@@ -9,7 +9,7 @@ use Rattle.row_texts.specs.declared.fault.RowFault.TheVariants as row
 use Rattle.sql_keeper.specs.declared.fault.SqlFault.{SqlFault}
 use Rattle.sql_keeper.specs.declared.fault.SqlFault.TheVariants as sql
 
--- all but want of memory are failures of the keeper
+-- all except out of memory are failures of the row store
 abbrev pub kind : SqlFault → KeeperFault
 kind (sql.Sql e) = keeper.Failed
 kind sql.Table = keeper.Failed
@@ -17,7 +17,7 @@ kind (sql.Row f) = keeper.Failed
 kind sql.Unwritten = keeper.Failed
 kind sql.Memory = keeper.Memory
 
--- a row that reads but for a server that isn't known is passed over
+-- a row that reads except for a server that isn't known is passed over
 abbrev pub unless_unknown : Result Row RowFault → Result (Option Row) RowFault
 unless_unknown (Ok r) = Ok (Some r)
 unless_unknown (Err row.NotJson) = Err row.NotJson

@@ -1,4 +1,4 @@
-//! Where rows are kept.
+//! The places of rows.
 
 ghost use Rattle.std.specs.Prelude.{◌≡◌};
 ghost use Rattle.sql_keeper.specs.Backends.{faults_in, kept_in};
@@ -8,7 +8,7 @@ use crate::sql::SqlKeeper;
 use kept_rows::{Change, Keeper, KeeperFault, MemKeeper, Row};
 use std::alloc::Global;
 
-/// Where rows are kept: in memory, or in a database file.
+/// The place of kept rows: in memory, or in a database file.
 #[derive(Drop)]
 pub enum Backend {
     Memory(MemKeeper),
@@ -16,7 +16,7 @@ pub enum Backend {
 }
 
 impl Backend {
-    /// Closes the file, where there is one.
+    /// Closes the file, if there is one.
     pub fn close(self) {
         match self {
             Backend::Memory(_) => {}

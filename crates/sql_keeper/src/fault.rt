@@ -25,7 +25,7 @@ pub(crate) enum SqlFault {
 }
 
 impl SqlFault {
-    /// Which of a keeper's faults it is: all but want of memory are counted.
+    /// Which of a row store's faults it is: all except `Memory` are counted.
     pub(crate) fn kind(&self) -> KeeperFault
         ensures { result ≡ kind self.now }
     {

@@ -1,5 +1,5 @@
-//! A keeper of rows in a database file (orchestrator's documentation, "Backend database"), and the choice between it
-//! and a keeper in memory.
+//! A row store in a database file (orchestrator's documentation, "Backend database"), and the choice between it and a
+//! row store in memory.
 #![tactic(auto)]
 
 mod backend;

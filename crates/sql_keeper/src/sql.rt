@@ -1,4 +1,4 @@
-//! A keeper over a database file.
+//! A row store over a database file.
 
 ghost use Rattle.std.specs.Prelude.{◌≡◌, None, Ok, IfOk};
 ghost use Rattle.kept_rows.specs.Keeping.{CountsFailures, HasKeeperCause, KeepsAll};
@@ -26,8 +26,8 @@ const REMOVE: &str = "DELETE FROM kept WHERE number = ?1 AND key = ?2";
 
 const ALL: &str = "SELECT number, key, text FROM kept";
 
-/// A keeper over a database file with one table of table number, key and text. The file is opened at the first call; of
-/// a file that can't be opened each call fails.
+/// A row store over a database file with one table of table number, key and text. The file is opened at the first call.
+/// If it can't be opened, each call fails.
 pub struct SqlKeeper {
     rt: HostRuntime,
     path: OwnedText,
@@ -145,7 +145,7 @@ fn opened<'s>(
 }
 
 impl SqlKeeper {
-    /// A keeper over the file at this path, which is made at the first call where there is none.
+    /// A row store over the file at this path, which is made at the first call if there is none.
     pub fn open(rt: &HostRuntime, path: OwnedText) -> SqlKeeper
         ensures { result.faults ≡ 0 }
     {
@@ -164,8 +164,8 @@ impl SqlKeeper {
         self.faults
     }
 
-    /// Closes the file, so that it holds all rows alone. What is kept stands without this, too: in the log beside the
-    /// file, where the next opening finds it, also if closing fails.
+    /// Closes the file, so that it has all rows alone. What is kept survives without this, too: in the log beside the
+    /// file, in which the next opening finds it, even if closing fails.
     pub fn close(self) {
         let SqlKeeper {
             rt: _,
@@ -218,7 +218,8 @@ impl Keeper for SqlKeeper {
         self.counted(done)
     }
 
-    /// Gives all rows, by table, then key. One that names a server that isn't known is passed over; one that doesn't read is a fault.
+    /// Gives all rows, by table, then key. One that names a server that isn't known is passed over. One that doesn't
+    /// read is a fault.
     fn rows(&mut self, alloc: Global, names: &[Name]) -> Result<Vec<Row>, KeeperFault>
         ensures rising { IfOk result (λ given. IsRising given.items) }
         ensures cause { HasKeeperCause self.old.faults self.new.faults result }

@@ -79,7 +79,7 @@ pub(crate) fn texts_of(alloc: Global, names: &[Name], row: &Row) -> Result<Texts
     })
 }
 
-// The row of a table's number, which is there: none where it names a server that isn't known.
+// The row of a table's number, which is there: none if it names a server that isn't known.
 #[tactic(auto, using(crate::proofs::Unknown::passed_over, crate::proofs::Unknown::passed_on))]
 fn row_of(
     alloc: Global,

@@ -27,7 +27,7 @@ use Rattle.standing_laws.proofs.Standing.{Stays-same, Stays-keeps, ask-stays}
 
 -- ---- operations that change no source
 
--- where an attempt goes on, the world after its exchanges is so
+-- if an attempt goes on, the world after its exchanges is so
 abbrev pub After : World → Attempt → (World → Type 0) → Type 0
 After w (attempt.Goes o es k) Q = Q (run w es)
 After w (attempt.Stops c o) Q = Unit {0}
@@ -75,7 +75,7 @@ module _ (w : World) (j : Job) (rest : List Op) (m : ℕ) where
   match-stays n k at (Ok c) = same
   match-stays n k at (Err f) = tt
 
-  -- an operation that changes no source leaves each server as it stands
+  -- an operation that changes no source leaves each server's source as it is
   pub deed-still : (read : ℕ) (now : Moment) (d : Deed) → moves d ≡ false → Kept (by_deed w read now j rest d)
   deed-still read now (deed.Look n from) h = look-stays n from (observed w read now n) (seen_in (status w n.0))
   deed-still read now (deed.Request n a) h = ask-still n a h (desk_answer (server_at w n.0))
@@ -349,7 +349,7 @@ module _ (w : World) (read : ℕ) (now : Moment) (j : Job) (rest : List Op) (sho
 
   -- ---- what is read
 
-  -- nothing is changed, and where the reading shows a source there is one
+  -- nothing is changed, and if the reading shows a source there is one
   abbrev pub Reads-true : ServerNo → Attempt → Type 0
   Reads-true n (attempt.Goes o es k) = (es ≡ []) × IsSourcedAsSeen w k.seen n
   Reads-true n (attempt.Stops c o) = Unit {0}

@@ -1,4 +1,4 @@
--- What an exchange leaves of how servers stand.
+-- What an exchange leaves of the servers' states.
 use Rattle.std.proofs.Common.{◌≡◌, ℕ, Bool, true, false, cond, refl, sym, ◌∙◌, ap, Option, Some, None, Ok, Err, Result, ◌||◌}
 use Rattle.std.specs.Prelude.{◌==◌}
 use Rattle.standing_laws.proofs.Prelude.{Apply, ApplyStep, Ask, Befall, Coord, Event, Exchange, Fetch, FetchStep, IsApart, IsFree}
@@ -109,7 +109,7 @@ module _ (w : World) (n m : ℕ) where
   started-keeps to s t true h = (ap (λ (y : Server). y.source) (sym h), ap (λ (y : Server). y.read_only) (sym h))
   started-keeps to s t false h = (ap (λ (y : Server). y.source) (sym h), ap (λ (y : Server). y.read_only) (sym h))
 
-  -- what is asked of a server changes its source, or whether it takes writes, only where it is to
+  -- what is asked of a server changes its source, or whether it takes writes, only if it is to
   ask-keeps : (a : Ask) (s : Server) → moves_by a ≡ false → ((asked a s).source ≡ s.source) × ((asked a s).read_only ≡ s.read_only)
   ask-keeps (asking.Stop threads.Both) s h = (refl, refl)
   ask-keeps (asking.Stop threads.Receiver) s h = (refl, refl)

@@ -1,4 +1,4 @@
--- How servers stand.
+-- The states of servers.
 use Rattle.std.specs.Prelude.{◌≡◌, ℕ, Bool, true, false, List, Option, Some, None}
 use Rattle.recovery_plans.specs.OrchBase.declared.server.ServerNo.{ServerNo}
 use Rattle.recovery_plans.specs.OrchBase.declared.server.SourceState.{SourceState}
@@ -63,18 +63,18 @@ pub record KeepsSource (w w' : World) (n : ℕ) : Type 0 where
 pub record Stays (w w' : World) (n : ℕ) : Type 0 where
   pub stays : (s : Server) → server_at w n ≡ Some s → (t : Server) × (server_at w' n ≡ Some t) × (t.source ≡ s.source) × (t.read_only ≡ s.read_only)
 
--- where what was seen of a server shows a source, it has one
+-- if a server was seen with a source, it has one
 abbrev pub IsSourcedAsSeen : World → List Sight → ServerNo → Type 0
 IsSourcedAsSeen w seen n = (s : Position) → seen_of seen n.0 ≡ Some s → has_source s.source ≡ true → IsSourced w n.0
 
--- the reading of a bridge's server shows the bridge's source, where that is the new source
+-- the reading of a bridge's server has the bridge's source, if that is the new source
 abbrev pub Reads : List Sight → Way → Type 0
 Reads seen (way.Down b) = Unit {0}
 Reads seen (way.Up b) = source_shown (seen_of seen b.no.0) ≡ Some b.source.0
 Reads seen (way.Auto to exec) = Unit {0}
 Reads seen (way.Match to exec every) = Unit {0}
 
--- what isn't orchestrator's: writes, steps of replication, what befalls a server, a new file of a log, a purge
+-- what isn't orchestrator's: writes, steps of replication, what happens to a server, a new file of a log, a purge
 abbrev pub is_outside : Exchange → Bool
 is_outside (Write n size) = true
 is_outside (Fetch n) = true

@@ -1,4 +1,4 @@
-//! How servers stand below one another, and what exchanges and operations leave of it.
+//! How servers are below one another, and what exchanges and operations leave of it.
 #![tactic(auto)]
 
 mod exchanges;

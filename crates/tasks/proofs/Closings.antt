@@ -1,4 +1,4 @@
--- The rounds behind a single command's own turn, with their journal.
+-- The rounds after a single command's own turn, with their journal.
 use Rattle.std.proofs.Common.{◌≡◌, ◌∙◌, ℕ, zero, suc, ◌<◌, ◌≤◌, Bool, true, false, cond, List, [], ◌∷◌, ◌++◌, refl, sym, ap, subst, arith, append_assoc, Option, Some, None}
 use Rattle.std.specs.Prelude.{All}
 use Rattle.tasks.proofs.Prelude.{All-append, All-cons, All-head, All-nil, All-tail, AsksNever, AsksNothing, ClosesEach, FinishedBy, GivesUpEach}
@@ -16,7 +16,7 @@ use Rattle.tasks.proofs.Courses.{gave_up_on, recorded_at}
 -- ---- so many rounds
 
 module _ (round : List Turn) (job : ℕ) where
-  -- behind so many rounds the job is open
+  -- after so many rounds the job is open
   abbrev Open : State → ℕ → Type 0
   Open s i = is_open (after_turns s (times i round)).jobs job ≡ true
 
@@ -35,7 +35,7 @@ module _ (round : List Turn) (job : ℕ) where
       opened true h us rest is = ap (λ (x : List Turn). round ++ x) is ∙ sym (append_assoc round (times k round) rest)
       opened false h us rest is = absurd (false≢true h)
 
-  -- and no more, where the job isn't open then
+  -- and no more, if the job isn't open then
   pub while_is : (s : State) (n k : ℕ) → ((i : ℕ) → i < k → Open s i) → is_open (after_turns s (times k round)).jobs job ≡ false → k ≤ n → rounds_while round n s job ≡ times k round
   while_is s zero zero goes_on ended within = refl
   while_is s (suc n) zero goes_on ended within = ap (λ b. cond b (round ++ rounds_while round n (after_turns s round) job) []) ended

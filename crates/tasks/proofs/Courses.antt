@@ -142,7 +142,7 @@ module _ (names : List HostPort) (from mid to : Point) (ts : List Turn) (i : ℕ
         omega (arith, few, counted, numbered, length-append follows.run.journal ((t, r) ∷ []));
   }
 
-  -- memory ran out behind the turn, for its line
+  -- memory ran out after the turn, for its line
   pub line_wanting : Carries (between start new) p'.pieces (replies_text names follows.run) → StopsBehind names from ts to (between start new)
   line_wanting carries = record {
     k = i + 1;

@@ -79,7 +79,7 @@ module _ (names : List HostPort) (es : List Entry) (i : ℕ) (d : Entry) (p q q'
 
 -- ---- the report
 
--- behind a text of which nothing was given yet
+-- after a text of which nothing was handed over yet
 begun : (head : List ℕ) (p : Pieces) (o : Taken) → p.held.items ≡ head → p.failed ≡ false → Carries (between o o) p head
 begun head p o held unfailed = go p.failed unfailed
   where

@@ -1,4 +1,4 @@
--- Tasks where the keeper tells its rows.
+-- Tasks whose row store has known rows.
 use Rattle.std.proofs.Common.{◌≡◌, ◌∙◌, ℕ, ◌+◌, ◌≤◌, true, List, [], ◌∷◌, ◌++◌, length, map, None, take, drop, refl, sym, ap, subst, append_assoc, arith, Option, Some, inl, inr}
 use Rattle.tasks.proofs.Prelude.{AllTaken, Asked, Begins, Comes, Held, HostPort, IsFixed, IsOn, IsWhole, LeadsTo, Ran, Recorded, Reply, Row, Scenario}
 use Rattle.tasks.proofs.Prelude.{SomeTaken, Stage, StartsBy, State, Task, Turn, WasCut, Work, all_turns, append-nil, asked_answer, changed, course_of}
@@ -39,7 +39,7 @@ grows h (t ∷ ts) =
       is = rest.is ∙ append_assoc h.state.journal ((t, reply_of h.state.state t) ∷ []) rest.more;
     }
 
--- a run behind its first k turns
+-- a run after its first k turns
 taken_on : (h : Held Recorded) (ts : List Turn) (k : ℕ) → held_run recorder h ts ≡ held_run recorder (held_run recorder h (take k ts)) (drop k ts)
 taken_on h ts k = ap (λ us. held_run recorder h us) (sym (take-append-drop k ts)) ∙ fold-append (held_step recorder) h (take k ts) (drop k ts)
 
@@ -101,7 +101,7 @@ ran_on h ts rows kept mid run at known ran =
     let here : Ran recorder (Some h.rows) h.state ts kept run = subst (λ (r : Recorded). Ran recorder (Some h.rows) r ts kept run) at (subst (λ o. Ran recorder o mid ts kept run) known ran) in
     (here.state, here.rows)
 
--- all turns of stages behind a state that is known
+-- all turns of stages after a state that is known
 pub all_fix : (xs : List Stage) (h : Held Recorded) (rows kept : Option (List Row)) (mid run : Recorded) (ts : List Turn) → mid ≡ h.state → rows ≡ Some h.rows → AllTaken kept run xs rows mid ts → ts ≡ turns_from h xs
 all_fix [] h rows kept mid run ts at known all = all.none
 all_fix (x ∷ xs) h rows kept mid run ts at known all =
@@ -128,7 +128,7 @@ some_fix (x ∷ xs) h rows kept mid run ts at known (inr some) =
       some.are ∙ (ap (λ (us : List Turn). us ++ some.rest) same ∙ (ap (λ (us : List Turn). x h.state ++ us) rest.1 ∙ sym (take-append-add (x h.state) (turns_from next xs) rest.0))),
     )
 
--- turns behind the scenario's, by the rows of the keeper
+-- turns after the scenario's, by the rows of the row store
 pub behind_turns : (w : Work) (rows : List Row) (ts : List Turn) (mid_rows kept : Option (List Row)) (mid run : Recorded) → w.old ≡ Some rows → Comes w w.scenario.turns mid_rows mid → Ran recorder mid_rows mid ts kept run
     → IsFixed w rows (w.scenario.turns ++ ts) kept run
 behind_turns w rows ts mid_rows kept mid run known comes ran =

@@ -52,7 +52,7 @@ no_journal None mid run leads = leads.2 ∙ by leads.0 leads.1
     by (x ∷ xs) is = absurd cc
 no_journal (Some rows) mid run leads = leads
 
--- a command's turn or a claim tells of itself
+-- a command's turn or a claim, for a run that has just this
 module _ (kept : Option (List Row)) (mid run : Recorded) where
   pub told_one : (t : Turn) → is_commands t ≡ true → LeadsTo recorder kept mid (t ∷ []) run → last_reply run.journal ≡ Some (reply_of mid.state t)
   told_one t tells leads =
@@ -193,7 +193,7 @@ own_stops_by c from at kept now why claim own claim_is own_is ran cut =
 pub own_wanting_by : (c : CommandTurn) (from at : Point) (claim : Option Turn) → claim ≡ claim_ahead from.state → Ran engine from.kept from.state (option_to_list claim) at.kept at.state → StopsEach (own_stages c) from at.kept fault.Memory
 own_wanting_by c from at claim is ran = own_wanting c from at (subst (λ (o : Option Turn). Ran engine from.kept from.state (option_to_list o) at.kept at.state) is ran)
 
--- ---- the rounds behind them
+-- ---- the rounds after them
 
 module _ (c : CommandTurn) (from at : Point) (ts : List Turn) (ran : Ran engine from.kept from.state ts at.kept at.state) where
   mid : Recording from.kept (without_turns from.state) ts at.kept at.state

@@ -1,4 +1,4 @@
--- What stands where a command's plan is asked for.
+-- The ending if a command's plan is asked for.
 use Rattle.std.proofs.Common.{◌≡◌, ◌∙◌, ◌<◌, ℕ, Bool, false, cond, List, [], length, get_or, Option, Some, None, refl, sym, ap}
 use Rattle.tasks.proofs.Prelude.{Answer, Asked, ClaimAnswer, ClaimState, Command, CommandTurn, End, Ending, HostPort, Point, Reply, Row, Scenario}
 use Rattle.tasks.proofs.Prelude.{Stands, State, Taken, Task, Turn, TurnFault, Unended, WasCutOff, Writes, act_reply, active_in, asked_answer}
@@ -18,7 +18,7 @@ use Rattle.tasks.proofs.Stands.{keeper_stands, memory_stands, whole_gave_up, wri
 
 -- ---- whose claim lasts
 
--- that of the first one, where it would be made ahead
+-- that of the first one, if it would be made ahead
 pub some_ahead : (s : State) (t : Turn) → claim_ahead s ≡ Some t → lasting s ≡ taken_by (claimed s 1)
 some_ahead s t is = ap (λ (b : Bool). cond b None (lasting_by s (active_in s))) (several s t is) ∙ ap (lasting_by s) (inactive s t is)
 

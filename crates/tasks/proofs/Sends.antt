@@ -18,7 +18,7 @@ takes_more (Some b) None after xs ys first second = absurd first
 takes_more (Some b) (Some m) None xs ys first second = absurd second
 takes_more (Some b) (Some m) (Some a) xs ys first second = second ∙ (ap (λ (v : List ℕ). v ++ ys) first ∙ append_assoc b xs ys)
 
--- a text and then a front of another are a front of both
+-- a text and then a prefix of another are a prefix of both
 pub front_more : (before mid after : Option (List ℕ)) (xs ys : List ℕ) → Appends before mid xs → AppendsFront mid after ys → AppendsFront before after (xs ++ ys)
 front_more before mid after xs ys first second =
     let n = second.0 in
@@ -26,7 +26,7 @@ front_more before mid after xs ys first second =
     let within : length xs + n ≤ length (xs ++ ys) = omega (arith, few, length-append xs ys) in
     (length xs + n, within, subst (λ (v : List ℕ). Appends before after v) (sym (take-append-add xs ys n)) (takes_more before mid after xs (take n ys) first second.2))
 
--- a front of a text is one of a longer text
+-- a prefix of a text is one of a longer text
 pub front_of_longer : (before after : Option (List ℕ)) (xs ys : List ℕ) → AppendsFront before after xs → AppendsFront before after (xs ++ ys)
 front_of_longer before after xs ys took =
     let n = took.0 in
@@ -34,7 +34,7 @@ front_of_longer before after xs ys took =
     let within : n ≤ length (xs ++ ys) = omega (arith, few, length-append xs ys) in
     (n, within, subst (λ (v : List ℕ). Appends before after v) (sym (take-append-le n xs ys few)) took.2)
 
--- the whole is a front
+-- the whole is a prefix
 pub whole_is_front : (before after : Option (List ℕ)) (bytes : List ℕ) → Appends before after bytes → AppendsFront before after bytes
 whole_is_front before after bytes took =
     let within : length bytes ≤ length bytes = omega arith in
@@ -49,7 +49,7 @@ rose_later before mid after later rose = omega (arith, later, rose)
 
 -- ---- texts in pieces
 
--- the sink was given what was held
+-- the sink got what was waiting
 handed_over : {T F : Type 0} (r : Result T F) (from old new : Taken) (held held' text : List ℕ) → held' ≡ [] → OnOk r (Appends old.bytes new.bytes held) → OnErr r (AppendsFront old.bytes new.bytes held)
     → HasCause old.faults new.faults r → IsHanded (between from old) held text → IsOnTheWay (between from new) held' text (is_err r)
 handed_over (Ok x) from old new held held' text empty ok err cause h = record {
@@ -70,7 +70,7 @@ carried r from old new p lent held' text failed unfailed is same empty ok err ca
     (handed_over r from old new lent held' text empty ok err cause
     (subst (λ (v : List ℕ). IsHanded (between from old) v text) (sym same) (subst (IsOnTheWay (between from old) p.held.items text) unfailed carries)))
 
--- more was held
+-- more was waiting
 pub held_more : (e : End) (held held' more text : List ℕ) (failed : Bool) → held' ≡ held ++ more → IsOnTheWay e held text failed → IsOnTheWay e held' (text ++ more) failed
 held_more e held held' more text false is h = record {
   front = h.front;
@@ -80,7 +80,7 @@ held_more e held held' more text false is h = record {
 }
 held_more e held held' more text true is h = record { failed = h.failed; front = front_of_longer e.old.bytes e.new.bytes text more h.front }
 
--- what the sink took is a front of the text
+-- what the sink took is a prefix of the text
 pub front_taken : (e : End) (held text : List ℕ) (failed : Bool) → IsOnTheWay e held text failed → TakesFront e text
 front_taken e held text false h = subst (λ (v : List ℕ). AppendsFront e.old.bytes e.new.bytes v) (sym h.is) (front_of_longer e.old.bytes e.new.bytes h.front held (whole_is_front e.old.bytes e.new.bytes h.front h.took))
 front_taken e held text true h = h.front
@@ -89,13 +89,13 @@ front_taken e held text true h = h.front
 pub sink_failed : (e : End) (held text : List ℕ) (failed : Bool) → failed ≡ true → IsOnTheWay e held text failed → FailsIn e text
 sink_failed e held text failed is h = subst (IsOnTheWay e held text) is h
 
--- it took all of the text, and nothing is held
+-- it took all of the text, and nothing is waiting
 pub all_taken : (e : End) (held text : List ℕ) (failed : Bool) → failed ≡ false → held ≡ [] → IsOnTheWay e held text failed → Takes e text
 all_taken e held text failed is empty h =
     let handed : IsHanded e held text = subst (IsOnTheWay e held text) is h in
     let same : text ≡ handed.front = handed.is ∙ (ap (λ (v : List ℕ). handed.front ++ v) empty ∙ append-nil handed.front) in
     subst (λ (v : List ℕ). Takes e v) (sym same) handed.took
 
--- the same, where only what is held changed
+-- the same, if only what is waiting changed
 pub held_on : (e : End) (p p' : Pieces) (more text : List ℕ) → p'.failed ≡ p.failed → p'.held.items ≡ p.held.items ++ more → Carries e p text → Carries e p' (text ++ more)
 held_on e p p' more text same is h = subst (IsOnTheWay e p'.held.items (text ++ more)) (sym same) (held_more e p.held.items p'.held.items more text p.failed is h)

@@ -17,7 +17,7 @@ none_taken kept run [] rows mid ts end = end
 none_taken kept run (x ∷ xs) rows mid ts end =
     inl (record { k = 0; within = omega arith; ran = subst (λ (us : List Turn). Ran recorder rows mid us kept run) end.none (end_ran kept run rows mid ts end); are = end.none })
 
--- where no stages follow
+-- if no stages follow
 pub all_of_none : (a : Asked) (kept : Option (List Row)) (run : Recorded) → stages a ≡ [] → AllTaken kept run (stages a) kept run []
 all_of_none a kept run is = subst (λ (xs : List Stage). AllTaken kept run xs kept run []) (sym is) (record { none = refl; rows_are = refl; run_is = refl })
 
@@ -27,7 +27,7 @@ pub all_some : (kept : Option (List Row)) (run : Recorded) (xs : List Stage) (ro
 all_some kept run [] rows mid ts all = all
 all_some kept run (x ∷ xs) rows mid ts all = inr (record { at_rows = all.at_rows; at = all.at; taken = all.taken; rest = all.rest; on = all_some kept run xs all.at_rows all.at all.rest all.on; are = all.are })
 
--- ---- stages behind others
+-- ---- stages after others
 
 module _ (P : Option (List Row) → Recorded → List Turn → Type 0) (at_kept : Option (List Row)) (at : Recorded) (us : List Turn) (next : P at_kept at us) where
   ended : (rows : Option (List Row)) (mid : Recorded) (ts : List Turn) → IsEnd at_kept at rows mid ts → P rows mid (ts ++ us)

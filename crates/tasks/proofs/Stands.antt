@@ -1,4 +1,4 @@
--- What stands at the ending of a task.
+-- The ending of a task.
 use Rattle.std.proofs.Common.{◌≡◌, ◌∙◌, ℕ, List, [], ◌++◌, length, take, true, false, refl, sym, ap, subst, arith, Option, Bool, inl, inr}
 use Rattle.tasks.proofs.Prelude.{AllTaken, Answer, Answers, Asked, Comes, CommandTurn, Course, CutTaken, End, Ending, EndsCut, EndsWhole, FailsIn}
 use Rattle.tasks.proofs.Prelude.{Follows, GaveUp, Gives, GivesUp, HostPort, IsCut, IsOn, IsWhole, Leads, Point, Progress, Ran, Recorded, Reply, Row}
@@ -41,7 +41,7 @@ module _ (c : Task) (names : List HostPort) (scenario : Scenario) (ts : List Tur
   err_text : (run : Recorded) → Takes (between err err) (answer_of c names scenario run).err
   err_text run = subst (λ (v : List ℕ). Takes (between err err) v) (ap (λ (a : Answer). a.err) (sym (run_text run))) (takes_nothing err.bytes)
 
-  -- behind all turns
+  -- after all turns
   pub whole_stands : (ending : Ending) → Follows names from ts to (between start mid) p → EndsWhole to.state p mid new ending → Stands course (between start new) (between err err) ending
   whole_stands (ends.Written refused) follows told = record {
     run = follows.run;
@@ -72,7 +72,7 @@ module _ (c : Task) (names : List HostPort) (scenario : Scenario) (ts : List Tur
   rest_text : (run : Recorded) → replies_text names run ++ [] ≡ cut_text c.asked names run
   rest_text run = append-nil (replies_text names run) ∙ sym (left_text run)
 
-  -- cut by a keeper's fault
+  -- cut by a row store's fault
   pub cut_stands : (ending : Ending) → StopsBefore names from ts to (between start mid) p → EndsCut p mid new ending → Stands course (between start new) (between err err) ending
   cut_stands (ends.Written refused) stops told = absurd told
   cut_stands ends.Unwritten stops told = inr (inr (record {
@@ -122,7 +122,7 @@ writes_stand c run a out err ends.Memory whole is wrote = record {
   on_out = nothing_is_front out.old.bytes out.new.bytes (cut_text c.task.asked c.names run) wrote.0;
 }
 
--- nothing is left of it where its turns gave up
+-- nothing is left of it if its turns gave up
 quiet_cut : (a : Asked) (names : List HostPort) (run : Recorded) → (a ≡ asked.Run → ⊥) → cut_text a names run ≡ []
 quiet_cut asked.Run names run other = absurd (other refl)
 quiet_cut _ names run other = refl
@@ -288,7 +288,7 @@ begun_stands w names ts begun mid out err ending opens kept named all stands =
     (λ us rows run leads. record { begun = begun; opens = opens; ran = subst (λ k. Ran recorder k (without_turns begun) us rows run) kept leads })
     out err ending stands)))
 
--- a command whose instance no server is, where the scenario's turns gave up
+-- a command whose instance no server is, if the scenario's turns gave up
 not_run : (a : Asked) → a ≡ asked.Unknown → a ≡ asked.Run → ⊥
 not_run a is run = absurd cc
 

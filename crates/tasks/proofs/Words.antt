@@ -1,4 +1,4 @@
--- What words that are taken ask has a turn over the servers.
+-- What an accepted command line asks has a turn over the servers.
 use Rattle.std.proofs.Common.{◌≡◌, ◌∙◌, ℕ, ◌+◌, ◌<◌, ◌≤◌, Bool, true, false, List, [], ◌∷◌, length, Option, Some, None, Ok, Err, refl, sym, ap, subst, arith, map, cond}
 use Rattle.std.specs.Prelude.{IfSome, MatchOption, ⊤, ◌&&◌, ◌||◌, not, is_some, nat_lt, option_map}
 use Rattle.tasks.proofs.Prelude.{AreTaken, AskOfRead, BadPattern, CommandName, Fault, Found, HostPort, IsAsked, IsCommand, IsTaken, Own, Places}
@@ -19,9 +19,9 @@ or_not true needed e h = refl
 or_not false true e h = e
 or_not false false e h = h
 
--- ---- what a command finds in the words
+-- ---- what a command finds in the arguments
 
--- a pattern of words that are taken reads
+-- a pattern of an accepted command line reads
 pub pattern_reads : (p : Places) → IsTaken p → IfSome p.pattern (λ text. is_pattern text ≡ true)
 pattern_reads p taken = (taken_have taken.0 p taken.1).pattern
 
@@ -78,7 +78,7 @@ given-within names (Some host) i e = go (server_of names host) refl e
     go None is e = absurd cc
     go (Some n) is e = subst (λ (j : Option ServerNo). is_within (length names) j ≡ true) (same_Some (Some n) i e) (server-within names host n is)
 
--- and where one is given there is one
+-- and if one is given there is one
 given-there : (names : List HostPort) (o : Option HostPort) (i : Option ServerNo) → is_some o ≡ true → server_given names o ≡ Some i → is_some i ≡ true
 given-there names None i there e = absurd cc
 given-there names (Some host) i there e = go (server_of names host) e

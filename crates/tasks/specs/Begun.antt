@@ -3,7 +3,7 @@ use Rattle.std.specs.Prelude.{ℕ, Option, Some, None}
 use Rattle.tasks.specs.Prelude.{Reply}
 use Rattle.tasks.specs.Prelude.answered
 
--- the job that a reply tells to have begun
+-- the job that began by a reply
 abbrev pub begun_by : Reply → Option ℕ
 begun_by (answered.Begun job) = Some job
 begun_by (answered.Write a) = None

@@ -1,4 +1,4 @@
--- What is taken behind a single command's own turn: the rounds of the job that it began.
+-- What is taken after a single command's own turn: the rounds of the job that it began.
 use Rattle.std.specs.Prelude.{ℕ, zero, suc, List, [], ◌++◌, if◌then◌else◌, Option, Some, None}
 use Rattle.tasks.specs.Prelude.{Recorded, State, Turn, after_turns, is_open, most_turns, option_and_then, round_of}
 pub use Rattle.tasks.specs.Begun.{begun_by}
@@ -13,7 +13,7 @@ rounds_while round (suc n) s job = if is_open s.jobs job then round ++ rounds_wh
 unfoldable pub rounds_of : State → ℕ → List Turn
 rounds_of s job = rounds_while (round_of s job) (most_turns s.jobs job) s job
 
--- the job that the command's own turn began, of which the last reply tells
+-- the job that the command's own turn began, which is in the last reply
 abbrev pub own_job : Recorded → Option ℕ
 own_job run = option_and_then begun_by (last_reply run.journal)
 

@@ -9,8 +9,8 @@ use Rattle.tasks.specs.Sinks.{End, FailsIn, Takes, TakesFront}
 use Rattle.tasks.specs.Stages.{AllTaken, CutTaken, SomeTaken, stages}
 use Rattle.tasks.specs.Works.{Comes, IsCut, Work}
 
--- what a task's report is of: the task, the servers' names, the scenario, its turns, which turns lead to which kept
--- rows and which state, and the kept rows at the end
+-- What a task's report is of: the task, the servers' names, the scenario and its turns. Then which turns lead to which
+-- kept rows and which state, and the kept rows at the end.
 pub record Course : Type 1 where
   pub task : Task
   pub names : List HostPort
@@ -45,7 +45,7 @@ pub record IsOnOwn (c : Course) (run : Recorded) : Type 0 where
 abbrev pub IsOn : Course → Recorded → Type 0
 IsOn c run = IsOnTurns c run ⊎ IsOnOwn c run
 
--- one of the command's own turns met a keeper's fault
+-- one of the command's own turns met a row store's fault
 pub record IsCutInOwn (c : Course) (run : Recorded) : Type 0 where
   pub mid : Recorded
   pub rows : Option (List Row)
@@ -53,7 +53,7 @@ pub record IsCutInOwn (c : Course) (run : Recorded) : Type 0 where
   pub ts : List Turn
   pub own : CutTaken c.kept run (stages c.task.asked) rows mid ts
 
--- one of the turns met a keeper's fault
+-- one of the turns met a row store's fault
 abbrev pub WasCut : Course → Recorded → Type 0
 WasCut c run = IsCut (λ ts at. c.came ts c.kept at) c.turns run ⊎ IsCutInOwn c run
 
@@ -72,35 +72,35 @@ pub record ErrFails (c : Course) (out err : End) : Type 0 where
   pub on_err : FailsIn err (answer_of c.task c.names c.scenario run).err
   pub on_out : Takes out []
 
--- all turns were taken, and out failed behind err
+-- all turns were taken, and out failed after err
 pub record OutFails (c : Course) (out err : End) : Type 0 where
   pub run : Recorded
   pub whole : IsWhole c run
   pub on_err : Takes err (answer_of c.task c.names c.scenario run).err
   pub on_out : FailsIn out (answer_of c.task c.names c.scenario run).out
 
--- the keeper failed; what is left of a run is written
+-- the row store failed; what is left of a run is written
 pub record KeeperFails (c : Course) (out err : End) : Type 0 where
   pub run : Recorded
   pub cut : WasCut c run
   pub on_err : Takes err []
   pub on_out : Takes out (cut_text c.task.asked c.names run)
 
--- the keeper failed, and so did out
+-- the row store failed, and so did out
 pub record BothFail (c : Course) (out err : End) : Type 0 where
   pub run : Recorded
   pub cut : WasCut c run
   pub on_err : Takes err []
   pub on_out : FailsIn out (cut_text c.task.asked c.names run)
 
--- memory ran out behind some turns
+-- memory ran out after some turns
 pub record MemoryFails (c : Course) (out err : End) : Type 0 where
   pub run : Recorded
   pub on : IsOn c run
   pub on_err : Takes err []
   pub on_out : TakesFront out (cut_text c.task.asked c.names run)
 
--- what stands at each ending of a task that was begun
+-- the report at each ending of a task that was begun
 abbrev pub Stands : Course → End → End → Ending → Type 0
 Stands c out err (ends.Written refused) = IsWritten c out err refused
 Stands c out err ends.Unwritten = ErrFails c out err ⊎ OutFails c out err ⊎ BothFail c out err
@@ -113,7 +113,7 @@ pub record IsIdle (w : Work) (out err : End) : Type 0 where
   pub on_out : Takes out []
   pub on_err : Takes err []
 
--- the task was never begun, since the keeper failed at the opening, or memory ran out
+-- the task was never begun, because the row store failed at the opening, or memory ran out
 abbrev pub NeverBegan : Work → End → End → Ending → Type 0
 NeverBegan w out err (ends.Written refused) = ⊥
 NeverBegan w out err ends.Unwritten = ⊥
@@ -123,11 +123,11 @@ NeverBegan w out err ends.Memory = IsIdle w out err
 abbrev pub course_of : Work → Course
 course_of w = record { task = w.task; names = names_of w.scenario; scenario = w.scenario; turns = w.scenario.turns; came = Comes w; kept = w.new }
 
--- what stands at each ending of a task
+-- the report at each ending of a task
 abbrev pub Tells : Work → End → End → Ending → Type 0
 Tells w out err ending = NeverBegan w out err ending ⊎ Stands (course_of w) out err ending
 
--- The keeper's fault stops a task only where its count rose; it never falls.
+-- The row store's fault stops a task only if its count rose. It never falls.
 pub record HasKeepersCause (before now : ℕ) (result : Ending) : Type 0 where
   pub later : before ≤ now
   pub failed : result ≡ ends.Keeper → Rose before now

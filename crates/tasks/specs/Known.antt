@@ -1,4 +1,4 @@
--- A task where the keeper tells its rows: what it answers is a function of the task, the scenario and the kept rows.
+-- A task whose row store has known rows: what it answers is a function of the task, the scenario and the kept rows.
 use Rattle.std.specs.Prelude.{◌≡◌, ◌++◌, ℕ, List, [], ◌∷◌, Option, Some, take}
 use Rattle.tasks.specs.Prelude.{Held, Recorded, Row, Scenario, Turn, changed, held_run, names_of, recorder, start, start_changes, without_turns}
 use Rattle.tasks.specs.declared.asked.Task.{Task}
@@ -35,7 +35,7 @@ last_held c s rows = held_from c s rows (all_turns c s rows)
 abbrev pub task_answer : Task → Scenario → List Row → Answer
 task_answer c s rows = answer_of c (names_of s) s (last_held c s rows).state
 
--- what is left of it where its first k turns are taken
+-- what is left of it if its first k turns are taken
 abbrev pub cut_answer : Task → Scenario → List Row → ℕ → List ℕ
 cut_answer c s rows k = cut_text c.asked (names_of s) (held_after c s rows k).state
 

@@ -13,7 +13,7 @@ use Rattle.tasks.specs.Report.{tally_of}
 use Rattle.tasks.specs.Stages.{claim_ahead, own_turn}
 use Rattle.tasks.specs.Works.{Comes, Work}
 
--- what words that are taken ask of a scenario is sound over the servers
+-- what an accepted command line asks of a scenario fits the servers
 abbrev pub TakenAreAsked : Type 0
 TakenAreAsked = (p : Places) (names : List HostPort) → IsTaken p → AskOfRead p → IsAsked (length names) (asked_of p names)
 
@@ -33,18 +33,18 @@ RepliesAreOfTurns = (w : Work) (ts : List Turn) (kept : Option (List Row)) (run 
 abbrev pub SummariesCountTurns : Type 0
 SummariesCountTurns = (w : Work) (ts : List Turn) (kept : Option (List Row)) (run : Recorded) → Comes w ts kept run → (tally_of run.journal).turns ≡ length ts
 
--- a command that claims ahead is taken as the first one, where that one got the claim
+-- a command that claims ahead is taken as the first one, if that one got the claim
 abbrev pub ClaimedCommandsAreTaken : Type 0
 ClaimedCommandsAreTaken = (rows : List Row) (s : State) (c : CommandTurn) (until : Moment) → claim_ahead s ≡ Some (turn.Claim 1) → claimed s 1 ≡ claim.Held until → own_turn c (step rows s (turn.Claim 1)) ≡ Some (turn.As 1 (act.Command c))
 
--- and isn't taken where another's claim lasts
+-- and isn't taken if another's claim lasts
 abbrev pub TakenClaimsTakeNoCommand : Type 0
 TakenClaimsTakeNoCommand = (rows : List Row) (s : State) (c : CommandTurn) (other : ℕ) (until : Moment) → claim_ahead s ≡ Some (turn.Claim 1) → claimed s 1 ≡ claim.Taken other until → own_turn c (step rows s (turn.Claim 1)) ≡ None
 
--- a plan is answered as the command's own turn would be, where none claims ahead
+-- a plan is answered as the command's own turn would be, if none claims ahead
 abbrev pub PlansAreAnsweredAsCommands : Type 0
 PlansAreAnsweredAsCommands = (s : State) (c : CommandTurn) (t : Turn) → claim_ahead s ≡ None → own_turn c s ≡ Some t → planned_reply c s ≡ reply_of s t
 
--- and as the claim would be, where another's lasts
+-- and as the claim would be, if another's lasts
 abbrev pub PlansTellClaimsThatLast : Type 0
 PlansTellClaimsThatLast = (s : State) (c : CommandTurn) (other : ℕ) (until : Moment) → claim_ahead s ≡ Some (turn.Claim 1) → claimed s 1 ≡ claim.Taken other until → planned_reply c s ≡ answered.Taken other until

@@ -1,5 +1,5 @@
--- What is answered in place of a single command where its plan is asked for: a function of the state behind the
--- scenario's turns. Nothing is changed, and nothing is claimed.
+-- The answer in place of a single command if its plan is asked for: a function of the state after the scenario's turns.
+-- Nothing is changed, and nothing is claimed.
 use Rattle.std.specs.Prelude.{ℕ, ◌==◌, Bool, false, List, [], Option, Some, None, if◌then◌else◌}
 use Rattle.tasks.specs.Prelude.{ClaimAnswer, Command, CommandTurn, Ground, HostPort, Line, Means, Planner, Purpose, Regrouping, Reply, Route}
 use Rattle.tasks.specs.Prelude.{ServerNo, State, Unended, act_reply, active, after_act, claimed, has_branches, job_at, nodes_of, plan_text}
@@ -15,12 +15,12 @@ use Rattle.tasks.specs.Prelude.unended
 
 -- ---- what the command is answered
 
--- the claim of the first of several orchestrators is refused where another's lasts
+-- the claim of the first of several orchestrators is refused if another's lasts
 abbrev pub taken_by : ClaimAnswer → Option Reply
 taken_by (claim.Taken node until) = Some (answered.Taken node until)
 taken_by (claim.Held until) = None
 
--- the first one asks only where none is active
+-- the first one asks only if none is active
 abbrev pub lasting_by : State → Option ℕ → Option Reply
 lasting_by s (Some node) = None
 lasting_by s None = taken_by (claimed s 1)
@@ -32,7 +32,7 @@ lasting s = if nodes_of s == 1 then None else lasting_by s (active s.claims s.mo
 abbrev pub planned_reply : CommandTurn → State → Reply
 planned_reply c s = unwrap_or (lasting s) (act_reply s (act.Command c))
 
--- the state in which the command has begun its job; no row of the keeper's is asked for
+-- the state in which the command has begun its job; no row of the row store's is asked for
 abbrev pub begun_state : CommandTurn → State → State
 begun_state c s = after_act [] s (act.Command c)
 
@@ -46,7 +46,7 @@ pub record Planned : Type 0 where
 abbrev pub straight : List Line → Planned
 straight lines = record { branches = false; lines = lines }
 
--- how the replicas of a regroup go below the best of them; how far marks stand apart isn't told
+-- how the replicas of a regroup go below the best of them; the distance of marks isn't given
 abbrev pub means_by : Regrouping → Means
 means_by regrouping.ByBridges = means.Bridges
 means_by regrouping.ByMatches = means.Matches 0

@@ -17,7 +17,7 @@ use Rattle.tasks.specs.Sinks.{Carries, End, FailsInRest, Joins, Taken, TakesFron
 use Rattle.tasks.specs.Stages.{AllTaken, CutTaken, SomeTaken, Stage, stages}
 use Rattle.tasks.specs.Works.{IsCut}
 
--- a state of a run, and the kept rows beside it, where the keeper tells them
+-- a state of a run, and the kept rows beside it, if they are known
 pub record Point : Type 0 where
   pub kept : Option (List Row)
   pub state : State
@@ -44,14 +44,14 @@ pub record Follows (names : List HostPort) (from : Point) (ts : List Turn) (to :
   pub refused : p.is_refused ≡ any_refused run
   pub count : length run.journal ≡ length ts
 
--- the turns before one of these were taken, and that one met a keeper's fault
+-- the turns before one of these were taken, and that one met a row store's fault
 pub record StopsBefore (names : List HostPort) (from : Point) (ts : List Turn) (to : Point) (e : End) (p : Progress) : Type 0 where
   pub k : ℕ
   pub within : k < length ts
   pub follows : Follows names from (take k ts) to e p
   pub calls : (t : Turn) → slice_get ts k ≡ Some t → Calls recorder follows.run t
 
--- memory ran out behind some of these turns
+-- memory ran out after some of these turns
 pub record StopsBehind (names : List HostPort) (from : Point) (ts : List Turn) (to : Point) (e : End) : Type 0 where
   pub k : ℕ
   pub within : k ≤ length ts
@@ -102,24 +102,23 @@ GivesUpOn rows mid ts kept fault.Memory = Gives rows mid ts kept
 abbrev pub GivesUp : Point → List Turn → Option (List Row) → TurnFault → Type 0
 GivesUp from ts kept why = GivesUpOn from.kept (without_turns from.state) ts kept why
 
--- behind a run that ended with this reply: the rounds of the job that it began, if it did, led to another point, and
--- the last reply of the command is then this one
+-- After a run that ended with this reply: the rounds of the job that it began, if it did, led to another point. The
+-- last reply of the command is then this one.
 pub record Closes (rows : Option (List Row)) (mid : Recorded) (reply : Reply) (to : Point) (told : Reply) : Type 0 where
   pub run : Recorded
   pub ran : Ran recorder rows mid (closing_by (begun_by reply) mid.state) to.kept run
   pub state : run.state ≡ to.state
   pub last : last_reply run.journal ≡ Some told
 
--- so it is behind every run at this point that ended with this reply
+-- so it is after every run at this point that ended with this reply
 abbrev pub ClosesEach : Point → Reply → Point → Reply → Type 0
 ClosesEach from reply to told = (mid : Recorded) → mid.state ≡ from.state → last_reply mid.journal ≡ Some reply → Closes from.kept mid reply to told
 
--- and so behind every run at this point the rounds gave up
+-- and so after every run at this point the rounds gave up
 abbrev pub GivesUpEach : Point → Reply → Option (List Row) → TurnFault → Type 0
 GivesUpEach from reply kept why = (mid : Recorded) → mid.state ≡ from.state → GivesUpOn from.kept mid (closing_by (begun_by reply) mid.state) kept why
 
--- behind a run all turns of stages were taken, which led to another point, and the last reply of the command is this
--- one
+-- after a run all turns of stages were taken, which led to another point, and the last reply of the command is this one
 pub record Ends (xs : List Stage) (rows : Option (List Row)) (mid : Recorded) (to : Point) (told : Reply) : Type 0 where
   pub ts : List Turn
   pub run : Recorded
@@ -127,20 +126,20 @@ pub record Ends (xs : List Stage) (rows : Option (List Row)) (mid : Recorded) (t
   pub state : run.state ≡ to.state
   pub last : last_reply run.journal ≡ Some told
 
--- so it is behind every run at this point
+-- so it is after every run at this point
 abbrev pub EndsEach : List Stage → Point → Point → Reply → Type 0
 EndsEach xs from to told = (mid : Recorded) → mid.state ≡ from.state → Ends xs from.kept mid to told
 
--- behind a run some turns of stages were taken, up to one that gave up
+-- after a run some turns of stages were taken, up to one that gave up
 abbrev pub StopsIn : List Stage → Option (List Row) → Recorded → Option (List Row) → TurnFault → Type 0
 StopsIn xs rows mid kept fault.Keeper = (run : Recorded) × (ts : List Turn) × CutTaken kept run xs rows mid ts
 StopsIn xs rows mid kept fault.Memory = (run : Recorded) × (ts : List Turn) × SomeTaken kept run xs rows mid ts
 
--- so it is behind every run at this point
+-- so it is after every run at this point
 abbrev pub StopsEach : List Stage → Point → Option (List Row) → TurnFault → Type 0
 StopsEach xs from kept why = (mid : Recorded) → mid.state ≡ from.state → StopsIn xs from.kept mid kept why
 
--- these turns were taken, and behind them all of a single command's own; its last reply is this one
+-- these turns were taken, and after them all of a single command's own; its last reply is this one
 pub record Answers (from : Point) (ts : List Turn) (own : CommandTurn) (to : Point) (told : Reply) : Type 0 where
   pub rows : Option (List Row)
   pub mid : Recorded
@@ -165,14 +164,14 @@ pub record Adds (names : List HostPort) (number : ℕ) (t : Turn) (r : Reply) (p
   pub text : Joins (line_text names number t r) p.pieces p'.pieces old new
   pub is_refused : p'.is_refused ≡ (p.is_refused || is_refused r)
 
--- how a report ends behind all turns: with the tables
+-- how a report ends after all turns: with the tables
 abbrev pub EndsWhole : State → Progress → Taken → Taken → Ending → Type 0
 EndsWhole s p old new (ends.Written refused) = TakesRest (tables_of s) p.pieces old new × (refused ≡ p.is_refused)
 EndsWhole s p old new ends.Unwritten = FailsInRest (tables_of s) p.pieces old new
 EndsWhole s p old new ends.Keeper = ⊥
 EndsWhole s p old new ends.Memory = new ≡ old
 
--- how a report ends that a keeper's fault cut
+-- how a report ends that a row store's fault cut
 abbrev pub EndsCut : Progress → Taken → Taken → Ending → Type 0
 EndsCut p old new (ends.Written refused) = ⊥
 EndsCut p old new ends.Unwritten = FailsInRest [] p.pieces old new

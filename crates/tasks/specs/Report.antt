@@ -13,7 +13,7 @@ use Rattle.tasks.specs.declared.asked.Task.{Task}
 use Rattle.tasks.specs.declared.verdict.Verdict.{Verdict}
 use Rattle.tasks.specs.declared.verdict.Verdict.TheVariants as verdict
 
--- what is written on out and on err where nothing fails, and whether a written reply is refused or failed
+-- what is written on out and on err if nothing fails, and whether a written reply is refused or failed
 pub record Answer : Type 0 where
   pub out : List ℕ
   pub err : List ℕ
@@ -113,8 +113,8 @@ tally_of journal = record {
 abbrev pub summary_of : Tally → State → Answer
 summary_of tally s = record { out = summary_text tally s.world (length s.audit.recoveries); err = []; is_refused = false }
 
--- a single command: its lines, or on err its refusal or whose claim lasts; and the tables where they are asked for, but
--- not where another's claim lasts
+-- a single command: its lines, or on err its refusal or whose claim lasts; and the tables if they are asked for, but
+-- not if another's claim lasts
 abbrev pub told_answer : Bool → List HostPort → State → Reply → Answer
 told_answer tables names s r = record {
   out = (if is_for_err r then [] else plain_text_of names r) ++ (if tables && not (is_taken r) then tables_of s else []);
@@ -167,17 +167,17 @@ abbrev pub plan_answer_by : List HostPort → CommandTurn → State → Reply �
 plan_answer_by names c s r None = told_answer false names s r
 plan_answer_by names c s r (Some job) = told_plan names (planned_in s c.command job)
 
--- what is answered in place of a single command, behind the scenario's turns
+-- what is answered in place of a single command, after the scenario's turns
 unfoldable pub plan_answer : CommandTurn → List HostPort → State → Answer
 plan_answer c names s = plan_answer_by names c (begun_state c s) (planned_reply c s) (begun_by (planned_reply c s))
 
--- the world as a scenario that begins at the present moment; its refusal where a server with a source accepted a write
+-- the world as a scenario that begins at the present moment; its refusal if a server with a source accepted a write
 abbrev pub dump_of : List HostPort → Scenario → State → Answer
 dump_of names s at =
     if at.world.errant == 0 then record { out = dump_text at.world s at.moment; err = []; is_refused = false } else told_answer false names at (answered.Refused (NotQuiet at.world.errant))
 
--- what is answered to each thing that words ask, by the last state; tables follow where they are asked for, but not
--- where no turn of the command's own was taken
+-- What is answered to each thing that a command line asks, by the last state. Tables follow if they are asked for, but
+-- not if no turn of the command's own was taken.
 abbrev pub asked_answer : Asked → Bool → List HostPort → Scenario → Recorded → Answer
 asked_answer asked.Run tables names s run = run_answer names run
 asked_answer asked.Summary tables names s run = summary_of (tally_of run.journal) run.state

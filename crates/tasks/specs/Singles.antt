@@ -14,7 +14,7 @@ pub record WritesBoth (a : Answer) (out err : End) : Type 0 where
   pub on_err : Takes err a.err
   pub on_out : Takes out a.out
 
--- err failed, or out did behind it
+-- err failed, or out did after it
 abbrev pub WritesSome : Answer → End → End → Type 0
 WritesSome a out err = (FailsIn err a.err × Takes out []) ⊎ (Takes err a.err × FailsIn out a.out)
 

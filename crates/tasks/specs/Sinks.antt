@@ -3,7 +3,7 @@ use Rattle.std.specs.Prelude.{◌≡◌, ℕ, ◌≤◌, ◌⊎◌, ◌++◌, Li
 use Rattle.tasks.specs.Prelude.{Appends, AppendsFront, Rose}
 use Rattle.tasks.specs.declared.pieces.Pieces.{Pieces}
 
--- what a sink has taken, where that is known, and its count of faults
+-- what a sink has taken, if that is known, and its count of faults
 pub record Taken : Type 0 where
   pub bytes : Option (List ℕ)
   pub faults : ℕ
@@ -27,7 +27,7 @@ across bytes faults bytes_then faults_then = between (taken bytes faults) (taken
 abbrev pub Takes : End → List ℕ → Type 0
 Takes e text = Appends e.old.bytes e.new.bytes text
 
--- it took a front of this text
+-- it took a prefix of this text
 abbrev pub TakesFront : End → List ℕ → Type 0
 TakesFront e text = AppendsFront e.old.bytes e.new.bytes text
 
@@ -35,16 +35,16 @@ TakesFront e text = AppendsFront e.old.bytes e.new.bytes text
 abbrev pub Fails : End → Type 0
 Fails e = Rose e.old.faults e.new.faults
 
--- it failed, and took a front of this text
+-- it failed, and took a prefix of this text
 pub record FailsIn (e : End) (text : List ℕ) : Type 0 where
   pub failed : Fails e
   pub front : TakesFront e text
 
--- it took this text, or it failed, and took a front of it
+-- it took this text, or it failed, and took a prefix of it
 abbrev pub TakesLine : End → List ℕ → Type 0
 TakesLine e text = Takes e text ⊎ FailsIn e text
 
--- a front of this text was taken, and the rest is held
+-- a prefix of this text was taken, and the rest is waiting
 pub record IsHanded (e : End) (held text : List ℕ) : Type 0 where
   pub front : List ℕ
   pub took : Takes e front

@@ -1,5 +1,5 @@
--- What is taken behind a scenario's turns, stage by stage: a single command's claim, where several orchestrators share
--- the kept rows, its own turn, and the rounds of the job that it began.
+-- What is taken after a scenario's turns, stage by stage. If several orchestrators share the kept rows, a single
+-- command's claim comes first. Then come its own turn, and the rounds of the job that it began.
 use Rattle.std.specs.Prelude.{◌≡◌, ℕ, ◌==◌, ◌≤◌, ◌⊎◌, ◌++◌, Bool, List, [], ◌∷◌, length, take, Option, Some, None, if◌then◌else◌}
 use Rattle.tasks.specs.Prelude.{CommandTurn, Ran, Recorded, Row, State, Turn, active, is_of, nodes_of, option_to_list, recorder}
 use Rattle.tasks.specs.Prelude.act
@@ -18,7 +18,7 @@ is_alone s = nodes_of s == 1
 abbrev pub active_in : State → Option ℕ
 active_in s = active s.claims s.moment
 
--- the active one; where none is, the first, if the kept claim is its own
+-- the active one; if none is, the first, if the kept claim is its own
 abbrev pub taker_by : Option ℕ → Bool → Option ℕ
 taker_by (Some node) first = Some node
 taker_by None first = if first then Some 1 else None
@@ -28,16 +28,16 @@ taker s = taker_by (active_in s) (is_of 1 s.claims.kept)
 
 -- ---- its claim and its turn
 
--- where none is active the first one claims
+-- if none is active the first one claims
 abbrev pub claim_without : Option ℕ → Option Turn
 claim_without (Some node) = None
 claim_without None = Some (turn.Claim 1)
 
--- the claim ahead of a command, where there are several
+-- the claim ahead of a command, if there are several
 abbrev pub claim_ahead : State → Option Turn
 claim_ahead s = if is_alone s then None else claim_without (active_in s)
 
--- the command's turn as this one's; none where another's claim lasts
+-- the command's turn as this one's; none if another's claim lasts
 abbrev pub command_as : CommandTurn → Option ℕ → Option Turn
 command_as c None = None
 command_as c (Some node) = Some (turn.As node (act.Command c))
@@ -47,7 +47,7 @@ own_turn c s = if is_alone s then Some (turn.Act (act.Command c)) else command_a
 
 -- ---- stages
 
--- what is taken behind a run, by what it has come to
+-- what is taken after a run, by what it has come to
 abbrev pub Stage : Type 0
 Stage = Recorded → List Turn
 
@@ -55,7 +55,7 @@ Stage = Recorded → List Turn
 abbrev pub own_stages : CommandTurn → List Stage
 own_stages c = (λ run. option_to_list (claim_ahead run.state)) ∷ (λ run. option_to_list (own_turn c run.state)) ∷ []
 
--- and behind it the rounds of the job that it began; where its plan is asked for it takes no turn
+-- and after it the rounds of the job that it began; if its plan is asked for it takes no turn
 abbrev pub stages : Asked → List Stage
 stages asked.Run = []
 stages asked.Summary = []
@@ -73,7 +73,7 @@ pub record IsEnd (kept : Option (List Row)) (run : Recorded) (rows : Option (Lis
   pub rows_are : rows ≡ kept
   pub run_is : mid ≡ run
 
--- all turns of a stage were taken behind a run, and behind those these
+-- all turns of a stage were taken after a run, and after those these
 pub record TakenBefore (next : Option (List Row) → Recorded → List Turn → Type 0) (x : Stage) (rows : Option (List Row)) (mid : Recorded) (ts : List Turn) : Type 0 where
   pub at_rows : Option (List Row)
   pub at : Recorded
@@ -89,13 +89,13 @@ pub record IsInStage (kept : Option (List Row)) (run : Recorded) (x : Stage) (ro
   pub ran : Ran recorder rows mid (take k (x mid)) kept run
   pub are : ts ≡ take k (x mid)
 
--- a turn of a stage met a keeper's fault
+-- a turn of a stage met a row store's fault
 pub record IsCutInStage (kept : Option (List Row)) (run : Recorded) (x : Stage) (rows : Option (List Row)) (mid : Recorded) (ts : List Turn) : Type 0 where
   pub cut : IsCut (λ us at. Ran recorder rows mid us kept at) (x mid) run
   pub are : ts ≡ take cut.k (x mid)
 
--- Behind a run these are all turns of the stages, one stage after another, each by the run that those before it led to;
--- they lead to these kept rows and to this run.
+-- After a run these are all turns of the stages, one stage after another, each by the run that those before it led to.
+-- They lead to these kept rows and to this run.
 abbrev pub AllTaken : Option (List Row) → Recorded → List Stage → Option (List Row) → Recorded → List Turn → Type 0
 AllTaken kept run [] rows mid ts = IsEnd kept run rows mid ts
 AllTaken kept run (x ∷ xs) rows mid ts = TakenBefore (AllTaken kept run xs) x rows mid ts
@@ -105,7 +105,7 @@ abbrev pub SomeTaken : Option (List Row) → Recorded → List Stage → Option 
 SomeTaken kept run [] rows mid ts = IsEnd kept run rows mid ts
 SomeTaken kept run (x ∷ xs) rows mid ts = IsInStage kept run x rows mid ts ⊎ TakenBefore (SomeTaken kept run xs) x rows mid ts
 
--- those before one that met a keeper's fault
+-- those before one that met a row store's fault
 abbrev pub CutTaken : Option (List Row) → Recorded → List Stage → Option (List Row) → Recorded → List Turn → Type 0
 CutTaken kept run [] rows mid ts = ⊥
 CutTaken kept run (x ∷ xs) rows mid ts = IsCutInStage kept run x rows mid ts ⊎ TakenBefore (CutTaken kept run xs) x rows mid ts

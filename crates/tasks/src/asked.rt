@@ -1,4 +1,4 @@
-//! What words ask of a scenario's servers.
+//! What a command line asks of a scenario's servers.
 
 ghost use Rattle.std.specs.Prelude.{◌≡◌, ◌≤◌, true, IfOk, IfSome, length};
 ghost use Rattle.tasks.specs.Prelude.{is_pattern};
@@ -12,26 +12,26 @@ use scenario_turns::{found, printed_names};
 use scenario_values::ReadFault;
 use std::alloc::Global;
 
-/// What words ask for.
+/// What a command line asks for.
 #[derive(Drop)]
 pub enum Asked {
     /// `run`: the scenario's own turns; and `live`: those that it takes.
     Run,
-    /// `run --summary`: the same turns, of which the summary is told.
+    /// `run --summary`: the same turns, of which the summary is written.
     Summary,
-    /// `dump`: the same turns, and the servers behind them as a scenario.
+    /// `dump`: the same turns, and the servers after them as a scenario.
     Dump,
-    /// A command: this turn behind the scenario's.
+    /// A command: this turn after the scenario's.
     Turn(BoxedCommand),
     /// A command's plan, in place of the command: it takes no turn of its own.
     Plan(BoxedCommand),
     /// A command that uses an instance or a destination that no server is: it takes no turn of its own.
     Unknown,
-    /// Nothing of a scenario's servers: words that are taken ask this only where a scenario is to be drawn.
+    /// Nothing of a scenario's servers: an accepted command line asks this only if a scenario is to be drawn.
     Nothing,
 }
 
-/// What words ask of a scenario.
+/// What a command line asks of a scenario.
 #[derive(Drop)]
 pub struct Task {
     /// How many waits a job has: 1 to 10,000.
@@ -54,7 +54,7 @@ fn server_of(names: &[Name], name: &Name) -> Option<ServerNo>
     None
 }
 
-// The server that is given, where one is and the command uses it; nothing where no server has that name.
+// The server that is given, if one is and the command uses it. Nothing if no server has that name.
 fn server_given(names: &[Name], uses: bool, given: &Option<Name>) -> Option<Option<ServerNo>>
     requires { length names.now ≤ 1000 }
     ensures { result ≡ server_given names.now (used uses given.now) }
@@ -68,14 +68,14 @@ fn server_given(names: &[Name], uses: bool, given: &Option<Name>) -> Option<Opti
     }
 }
 
-// What is given, where the command uses it.
+// What is given, if the command uses it.
 fn used<T: Copy>(uses: bool, given: Option<T>) -> Option<T>
     ensures { result ≡ used uses given }
 {
     if uses { given } else { None }
 }
 
-// A text, where it is given and the command uses it.
+// A text, if it is given and the command uses it.
 fn text_used(
     alloc: Global,
     uses: bool,
@@ -89,7 +89,7 @@ fn text_used(
     }
 }
 
-// A pattern, where it is given and the command uses it, with an answer for each server's printed name.
+// A pattern, if it is given and the command uses it, with an answer for each server's printed name.
 fn pattern_for(
     alloc: Global,
     names: &[Name],
@@ -207,10 +207,9 @@ fn asked_of(alloc: Global, places: &Places, names: &[Name]) -> Result<Asked, Mem
     }
 }
 
-/// What these words, which are taken, ask of servers of these names, of which there are at most 1,000: a run, its
-/// summary or the servers that it leads to, a command's turn with all options that the command uses, its plan, or a
-/// command whose instance or destination no server is.
-/// `Memory` comes only for want of memory.
+/// What this accepted command line asks of servers of these names, of which there are at most 1,000. It is a run, its
+/// summary or the servers that it leads to, a command's turn with all options that the command uses, or its plan. Or it
+/// is a command whose instance or destination no server is. `Memory` comes only if memory runs out.
 pub fn task_of(alloc: Global, places: &Places, names: &[Name]) -> Result<Task, Memory>
     requires words { IsTaken places.now }
     requires names { length names.now ≤ 1000 }

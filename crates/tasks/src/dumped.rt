@@ -19,7 +19,7 @@ use orch_core::{Engine, TurnFault};
 use scenario_dump::dump;
 use std::alloc::Global;
 
-// The servers as a scenario that begins now, or the refusal where a server with a source accepted a write.
+// The servers as a scenario that begins now, or the refusal if a server with a source accepted a write.
 fn dumped(
     alloc: Global,
     names: &[Name],
@@ -61,8 +61,8 @@ fn write_dump<O: Sink, E: Sink>(
     }
 }
 
-/// Takes the turns, and writes the servers as a scenario on out, or on err the refusal where a server with a source
-/// accepted a write. After a keeper's fault nothing is written.
+/// Takes the turns, and writes the servers as a scenario on out, or on err the refusal if a server with a source
+/// accepted a write. After a row store's fault nothing is written.
 pub(crate) fn dump_report<O: Sink, E: Sink, K: Keeper>(
     alloc: Global,
     keeper: &mut K,

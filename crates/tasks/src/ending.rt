@@ -9,9 +9,9 @@ pub enum Ending {
     Written(bool),
     /// A sink failed that was to take the report.
     Unwritten,
-    /// The keeper failed.
+    /// The row store failed.
     Keeper,
-    /// Want of memory.
+    /// Out of memory.
     Memory,
 }
 

@@ -54,8 +54,8 @@ fn printed_journal<O: Sink>(
     }
 }
 
-/// Writes what comes first, and behind it the report of a run: the line of each of these turns, which were taken, with
-/// its reply, in pieces, and the tables of the state that they led to. `names` are the servers' names.
+/// Writes what comes first, and after it the report of a run. It has the line of each of these turns, which were taken,
+/// with its reply, in pieces. Then come the tables of the state that they led to. `names` are the servers' names.
 pub fn journal_report<O: Sink>(
     alloc: Global,
     head: Vec<u8>,

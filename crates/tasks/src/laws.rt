@@ -2,40 +2,40 @@
 
 ghost use Rattle.tasks.specs.Laws.{ClaimedCommandsAreTaken, CutTextsBeginAnswers, KnownRowsFixRuns, PlansAreAnsweredAsCommands, PlansTellClaimsThatLast, RepliesAreOfTurns, SummariesCountTurns, TakenAreAsked, TakenClaimsTakeNoCommand};
 
-/// What words that are taken ask of a scenario is something, and its turn meets the condition of the calls that take
-/// turns: what its command needs is there, each number and text is in its range, and its instance and destination are
-/// among the servers.
+/// What an accepted command line asks of a scenario is something, and its turn meets the condition of the calls that
+/// take turns. What its command needs is there, each number and text is in its range, and its instance and destination
+/// are among the servers.
 pub fn asked_turns_are_sound()
     ensures { TakenAreAsked }
 {}
 
-/// Where the keeper tells its rows, they fix the run: the opening and these turns lead to one run and to one list of
+/// If the row store's rows are known, they fix the run: the opening and these turns lead to one run and to one list of
 /// kept rows.
 pub fn known_rows_fix_the_run()
     ensures { KnownRowsFixRuns }
 {}
 
-/// What is left of a task that is cut behind any of its turns begins what it answers on out where nothing fails.
+/// What is left of a task that is cut after any of its turns begins what it answers on out if nothing fails.
 pub fn cut_texts_begin_the_report()
     ensures { CutTextsBeginAnswers }
 {}
 
-/// The replies that a summary counts are those of the turns that were taken, one for each, in their order; so it tells
-/// as many turns as there were.
+/// The replies that a summary counts are those of the turns that were taken, one for each, in their order. So it has as
+/// many turns as there were.
 pub fn summaries_count_the_turns()
     ensures replies { RepliesAreOfTurns }
     ensures turns { SummariesCountTurns }
 {}
 
-/// A single command that claims ahead, since none of several orchestrators is active, is taken as the first one where
-/// that one got the claim, and isn't taken where another's claim lasts.
+/// A single command claims first if none of several orchestrators is active. If it got the claim, it is taken as the
+/// first one. If another's claim lasts, it isn't taken.
 pub fn claims_decide_single_commands()
     ensures held { ClaimedCommandsAreTaken }
     ensures taken { TakenClaimsTakeNoCommand }
 {}
 
-/// Where a command's plan is asked for it is answered as the command would be: by its own turn, and where it would
-/// claim ahead in vain by the claim.
+/// If a command's plan is asked for, it is answered as the command would be: by its own turn, and if its claim would be
+/// in vain, by the claim.
 pub fn plans_are_answered_as_commands()
     ensures alike { PlansAreAnsweredAsCommands }
     ensures lasting { PlansTellClaimsThatLast }

@@ -1,5 +1,5 @@
-//! What words ask of a scenario's servers, and the report of it: a run's as it comes, its summary and a single
-//! command's at the end, or its plan; and the report of turns that were taken.
+//! What a command line asks of a scenario's servers, and the report of it: a run's as it comes, or its summary at the
+//! end. Also a single command's at the end, or its plan, and the report of turns that were taken.
 #![tactic(auto)]
 
 mod asked;

@@ -7,7 +7,7 @@ use crate::orch_base::{Memory, Name};
 use crate::scenarios_items::Scenario;
 use std::alloc::Global;
 
-/// The servers' names, in the scenario's order.
+/// The servers' names, in the scenario's order. `Err` means out of memory.
 pub fn names_of(alloc: Global, scenario: &Scenario) -> Result<Vec<Name>, Memory>
     ensures { IfOk result (λ v. v.items ≡ names_of scenario.now) }
 {

@@ -1,4 +1,4 @@
-//! A keeper that keeps nothing.
+//! A row store that keeps nothing.
 
 ghost use Rattle.std.specs.Prelude.{None};
 ghost use Rattle.tasks.specs.Prelude.{HasKeeperCause, KeepsAll};
@@ -7,7 +7,7 @@ use crate::instance_keeper_items::{Change, Keeper, KeeperFault, Row};
 use crate::orch_base::Name;
 use std::alloc::Global;
 
-/// A keeper that keeps nothing and tells of no rows. None of its calls fails.
+/// A row store that keeps nothing and has no known rows. None of its calls fails.
 #[derive(Clone, Copy)]
 pub(crate) struct Nobody;
 

@@ -15,8 +15,8 @@ use std::alloc::Global;
 /// A piece is handed over once it has so many bytes: 64 KiB.
 const PIECE: usize = 65_536;
 
-/// Appends the tables of the state that it is now, with its recoveries and its unended jobs; or nothing at want of
-/// memory.
+/// Appends the tables of the state that it is now, with its recoveries and its unended jobs; or nothing if memory runs
+/// out.
 pub(crate) fn add_tables(engine: &Engine, out: &mut Vec<u8>) -> Result<(), Memory>
     ensures ok { OnOk result (out.new.items ≡ out.old.items ++ tables_of engine.now) }
     ensures err { OnErr result (out.new.items ≡ out.old.items) }
@@ -30,8 +30,8 @@ pub(crate) fn add_tables(engine: &Engine, out: &mut Vec<u8>) -> Result<(), Memor
     tables(engine.world(), recoveries.as_slice(), &jobs, out)
 }
 
-/// A text on its way to a sink in pieces: what the sink hasn't been given yet, whether the sink failed, and room for a
-/// line. What is added behind a fault is dropped.
+/// A text on its way to a sink in pieces: what the sink hasn't got yet, whether the sink failed, and room for a line.
+/// What is added after a fault is dropped.
 #[derive(Drop)]
 pub(crate) struct Pieces {
     held: Vec<u8>,
@@ -71,7 +71,7 @@ impl Pieces {
         self.failed
     }
 
-    /// Hands over what is held.
+    /// Hands over what is waiting.
     pub(crate) fn hand_over<O: Sink>(&mut self, out: &mut O)
         ensures stays { Stays self.old self.new
             (taken (O.written out.old) (O.faults out.old))
@@ -85,8 +85,8 @@ impl Pieces {
         self.held.clear();
     }
 
-    /// Adds the line of a turn with its reply, by its number in the run, and hands over what is held once that is a
-    /// piece. Want of memory leaves the text as it was.
+    /// Adds the line of a turn with its reply, by its number in the run. It hands over what is waiting once that is a
+    /// piece. If memory runs out, the text is as it was.
     pub(crate) fn add_reply<O: Sink>(
         &mut self,
         number: u64,
@@ -112,7 +112,7 @@ impl Pieces {
         Ok(())
     }
 
-    /// Adds the tables of the state that it is now. Want of memory leaves the text as it was.
+    /// Adds the tables of the state that it is now. If memory runs out, the text is as it was.
     pub(crate) fn add_tables(&mut self, engine: &Engine) -> Result<(), Memory>
         ensures ok { OnOk result (self.new.held.items
             ≡ self.old.held.items ++ tables_of engine.now) }

@@ -1,4 +1,4 @@
-//! The plan of a single command, told in place of carrying it out.
+//! The plan of a single command, printed in place of carrying it out.
 
 ghost use Rattle.std.specs.Prelude.{◌≡◌, ◌≤◌, ◌++◌, IfOk, OnOk};
 ghost use Rattle.tasks.specs.Prelude.{act_reply, ground_by, nodes_of, straight_lines};
@@ -27,7 +27,7 @@ use plan_lines::{
 };
 use std::alloc::Global;
 
-// Whose claim lasts, where the command would claim ahead in vain.
+// Whose claim lasts, if the command would claim ahead in vain.
 fn lasting(engine: &Engine) -> Option<Reply>
     requires { 1 ≤ nodes_of engine.now }
     ensures { result ≡ lasting engine.now }
@@ -54,7 +54,7 @@ fn begin(alloc: Global, engine: &mut Engine, own: &BoxedCommand) -> Result<Reply
     }
 }
 
-// How the replicas of a regroup go below the best of them; how far marks stand apart isn't told.
+// How the replicas of a regroup go below the best of them. The distance of marks isn't given.
 fn means_of(route: Route) -> Means
     ensures { result ≡ means_of route }
 {
@@ -196,9 +196,9 @@ fn write_planned<O: Sink, E: Sink>(
     }
 }
 
-/// Takes the scenario's turns, and writes the plan of the job that the command would begin then on out, or what it is
-/// answered in its place: on err its refusal, or whose claim lasts. Nothing of the command's own is kept, and
-/// nothing is claimed. After a keeper's fault nothing is written.
+/// Takes the scenario's turns. Then it writes the plan of the job that the command would begin on out. Or it writes
+/// what the command is answered in its place: on err its refusal, or whose claim lasts. Nothing of the command's own is
+/// kept, and nothing is claimed. After a row store's fault nothing is written.
 pub(crate) fn plan_report<O: Sink, E: Sink, K: Keeper>(
     alloc: Global,
     keeper: &mut K,

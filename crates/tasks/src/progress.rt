@@ -34,7 +34,7 @@ impl Progress {
         }
     }
 
-    /// It stands behind this text, which isn't written yet.
+    /// It is after this text, which isn't written yet.
     pub(crate) fn behind(alloc: Global, head: Vec<u8>) -> Progress
         ensures held { result.pieces.held.items ≡ head.items }
         ensures unfailed { result.pieces.failed ≡ false }
@@ -67,7 +67,7 @@ impl Progress {
         Ok(())
     }
 
-    /// The ending behind all turns: the tables are written, and what is left of the report.
+    /// The ending after all turns: the tables are written, and what is left of the report.
     pub(crate) fn end<O: Sink>(mut self, engine: &Engine, out: &mut O) -> Ending
         ensures { EndsWhole engine.now self (taken (O.written out.old) (O.faults out.old))
             (taken (O.written out.new) (O.faults out.new)) result }
@@ -83,7 +83,7 @@ impl Progress {
         }
     }
 
-    // The ending after a keeper's fault: what is left of the replies is written.
+    // The ending after a row store's fault: what is left of the replies is written.
     fn cut<O: Sink>(mut self, out: &mut O) -> Ending
         ensures { EndsCut self (taken (O.written out.old) (O.faults out.old))
             (taken (O.written out.new) (O.faults out.new)) result }
@@ -97,8 +97,7 @@ impl Progress {
     }
 }
 
-// Takes the turns, each with the line of its reply, to the first fault. Where out fails the turns are taken all the
-// same.
+// Takes the turns, each with the line of its reply, to the first fault. If out fails the turns are taken all the same.
 fn take_turns<O: Sink, K: Keeper>(
     alloc: Global,
     keeper: &mut K,
@@ -153,8 +152,8 @@ fn printed_report<O: Sink, K: Keeper>(
     }
 }
 
-/// Takes the turns and writes each reply's line on out as it comes, in pieces, and behind the last one the tables.
-/// Where out fails in the midst the turns that are left are taken all the same. After a keeper's fault the replies
+/// Takes the turns and writes each reply's line on out as it comes, in pieces, and after the last one the tables. If
+/// out fails before the end, the turns that are left are taken all the same. After a row store's fault the replies
 /// before that turn are written.
 pub(crate) fn run_report<O: Sink, K: Keeper>(
     alloc: Global,

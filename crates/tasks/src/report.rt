@@ -67,14 +67,16 @@ fn asked_report<O: Sink, E: Sink, K: Keeper>(
     }
 }
 
-/// Opens a scenario, takes its turns and the task's own, and writes the report: of a run each reply's line on out as it
-/// comes, in pieces of 64 KiB and a line, and then the tables, or in place of both its summary; the servers as a
-/// scenario on out, or on err why they can't be given so; of a single command its lines on out, or its refusal on err,
-/// and the tables where they are asked for; in place of that its plan. `names` are the servers' names.
+/// Opens a scenario, takes its turns and the task's own, and writes the report. `names` are the servers' names.
+/// - A run: each reply's line on out as it comes, in pieces of 64 KiB and a line, and then the tables. In place of both
+///   it can be its summary.
+/// - The servers as a scenario on out, or on err why they can't be given so.
+/// - A single command: its lines on out, or its refusal on err, and the tables if they are asked for. In place of that
+///   it can be its plan.
 ///
-/// Err is written before out. Where a sink fails all turns are taken all the same. A run that a keeper's fault cuts has
-/// written the replies before that turn, anything else nothing. `Keeper` comes only where the keeper's
-/// count of faults rose; err's never falls.
+/// Err is written before out. If a sink fails all turns are taken all the same. A run that a row store's fault cuts has
+/// written the replies before that turn, anything else nothing. `Keeper` comes only if the row store's count of faults
+/// rose; err's never falls.
 pub fn task_report<O: Sink, E: Sink, K: Keeper>(
     alloc: Global,
     task: &Task,

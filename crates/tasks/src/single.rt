@@ -31,7 +31,7 @@ pub(crate) struct Report {
     pub(crate) is_refused: bool,
 }
 
-// The tables, where they are asked for.
+// The tables, if they are asked for.
 fn some_tables(alloc: Global, asked: bool, engine: &Engine) -> Result<Vec<u8>, Memory>
     ensures { IfOk result (λ v. v.items ≡ (if asked then tables_of engine.now else [])) }
 {
@@ -42,8 +42,8 @@ fn some_tables(alloc: Global, asked: bool, engine: &Engine) -> Result<Vec<u8>, M
     Ok(text)
 }
 
-/// The lines of a reply, or for err its refusal or whose claim lasts; and the tables where they are asked for, but not
-/// where another's claim lasts.
+/// The lines of a reply, or for err its refusal or whose claim lasts; and the tables if they are asked for, but not if
+/// another's claim lasts.
 pub(crate) fn told_report(
     alloc: Global,
     asked: bool,
@@ -107,7 +107,7 @@ fn write_told<O: Sink, E: Sink>(
     }
 }
 
-/// The claim ahead of a command: of the first of several orchestrators, where none is active.
+/// The claim ahead of a command: of the first of several orchestrators, if none is active.
 pub(crate) fn claim_ahead(engine: &Engine) -> Option<Turn>
     requires { 1 ≤ nodes_of engine.now }
     ensures claim { result ≡ claim_ahead engine.now }
@@ -121,7 +121,7 @@ pub(crate) fn claim_ahead(engine: &Engine) -> Option<Turn>
     Some(Turn::Claim(1))
 }
 
-// The orchestrator by which a command is taken: the active one, or the first, where the kept claim is its own.
+// The orchestrator by which a command is taken: the active one, or the first, if the kept claim is its own.
 fn taker(engine: &Engine) -> Option<u32>
     requires { 1 ≤ nodes_of engine.now }
     ensures taker { result ≡ taker engine.now }
@@ -137,7 +137,7 @@ fn taker(engine: &Engine) -> Option<u32>
     }
 }
 
-// The command's own turn; none where another orchestrator's claim lasts.
+// The command's own turn; none if another orchestrator's claim lasts.
 fn own_turn(alloc: Global, engine: &Engine, own: &BoxedCommand) -> Result<Option<Turn>, Memory>
     requires own { IsCommandIn engine.now own.now }
     requires nodes { 1 ≤ nodes_of engine.now }
@@ -179,7 +179,7 @@ fn take_one<K: Keeper>(
     }
 }
 
-// Takes the command's claim, where it needs one, and then its own turn, where it got it; and answers the last reply.
+// Takes the command's claim, if it needs one, and then its own turn, if it got it; and answers the last reply.
 fn own_reply<K: Keeper>(
     alloc: Global,
     keeper: &mut K,
@@ -201,7 +201,7 @@ fn own_reply<K: Keeper>(
     Ok(told.or(claimed).unwrap_or(Reply::Lapsed))
 }
 
-/// The job that a reply tells to have begun.
+/// The job that began by a reply.
 pub(crate) fn begun_by(reply: &Reply) -> Option<u64>
     ensures { result ≡ begun_by reply.now }
 {
@@ -277,10 +277,11 @@ fn last_reply<K: Keeper>(
     finish(alloc, keeper, engine, reply)
 }
 
-/// Takes the scenario's turns, the command's own and the rounds of the job that it began, and writes what its last
-/// reply says: its lines on out, or its refusal or the failed job's cause on err, and the tables where they are asked
-/// for. Of several orchestrators the active one takes it; where none is, the first claims, and where another's claim
-/// lasts that one's reply is written on err, and nothing else. After a keeper's fault nothing is written.
+/// Takes the scenario's turns, the command's own and the rounds of the job that it began. It writes what its last reply
+/// has: its lines on out, or its refusal or the failed job's cause on err, and the tables if they are asked for.
+///
+/// If there are several orchestrators the active one takes it. If none is active, the first claims. If another's claim
+/// lasts, that one's reply is written on err, and nothing else. After a row store's fault nothing is written.
 pub(crate) fn command_report<O: Sink, E: Sink, K: Keeper>(
     alloc: Global,
     keeper: &mut K,

@@ -99,7 +99,7 @@ fn write_summary<O: Sink, E: Sink>(
 }
 
 /// Takes the turns, and writes their summary on out. It takes no memory for replies: they are counted as they come.
-/// After a keeper's fault nothing is written.
+/// After a row store's fault nothing is written.
 pub(crate) fn summary_report<O: Sink, E: Sink, K: Keeper>(
     alloc: Global,
     keeper: &mut K,

@@ -1,4 +1,4 @@
-//! What a reply says of its turn.
+//! The verdict of a reply on its turn.
 
 ghost use Rattle.std.specs.Prelude.{◌≡◌};
 ghost use Rattle.tasks.specs.Report.{is_for_err, is_refused, is_taken, verdict_of};
@@ -14,7 +14,7 @@ pub(crate) enum Verdict {
     Taken,
 }
 
-/// Which of them a reply says.
+/// Which of them a reply has.
 pub(crate) fn verdict_of(reply: &Reply) -> Verdict
     ensures { result ≡ verdict_of reply.now }
 {

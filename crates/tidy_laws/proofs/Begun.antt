@@ -106,7 +106,7 @@ module _ (c : Clusters) where
   again_auto-due : (i x : ServerNo) → AreDueWithin c (again_auto i x)
   again_auto-due i x = (tt, λ same. (same, (tt, tt)))
 
-  -- a match that is found tells that both are of one cluster
+  -- a match that is found means that both are of one cluster
   matching-due : (r d : ServerNo) (every : ℕ) → AreDueWithin c (matching r d every)
   matching-due r d every = (tt, λ same. (same, (tt, tt)))
 
@@ -287,7 +287,7 @@ module _ (c : Clusters) (f : ServerNo) where
   mapped-within chosen t [] each = All-nil (IsTaskWithin c f chosen)
   mapped-within chosen t (n ∷ ns) each = All-cons (IsTaskWithin c f chosen) (t n) (map t ns) (each n) (mapped-within chosen t ns each)
 
-  -- tasks of replicas, and two behind them
+  -- tasks of replicas, and two after them
   behind-within : (chosen : Option ServerNo) (t : ServerNo → Task) (ns : List ServerNo) (x y : Task) → ((n : ServerNo) → IsTaskWithin c f chosen (t n)) → IsTaskWithin c f chosen x → IsTaskWithin c f chosen y
       → All (IsTaskWithin c f chosen) (map t ns ++ x ∷ y ∷ [])
   behind-within chosen t ns x y each one two =

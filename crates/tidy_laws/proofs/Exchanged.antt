@@ -1,4 +1,4 @@
--- Each exchange in order keeps a world trim.
+-- Each exchange in order keeps `IsTrim` of a world.
 use Rattle.std.proofs.Common.{◌≡◌, ℕ, ◌+◌, ◌<◌, ◌≤◌, Bool, true, false, not, cond, List, [], ◌∷◌, ◌++◌, length, length-append, refl, sym, ◌∙◌, ap, subst, inl, inr, Option, Some, None, Result, Ok, Err, arith, ◌&&◌, ◌||◌}
 use Rattle.std.specs.Prelude.{IfSome, slice_get, nat_le, nat_lt, ◌==◌}
 use Rattle.tidy_laws.proofs.Prelude.{All-push, AllAllowed, AllOrderly, Allowed, Apply, ApplyStep, AreAlike, Ask, Attach, AttachAuto, Attached}
@@ -203,7 +203,7 @@ trim-apply c w n trim (Some r) at (applying.Execute t to) is =
     (moving c w.gtid n r to (λ none. let e = applying-not w r none in cc) old)
 trim-apply c w n trim _ at _ is = trim
 
--- ---- what is asked of a server, and what befalls it
+-- ---- what is asked of a server, and what happens to it
 
 module _ (c : Clusters) (gtid : Bool) (n : ℕ) (s : Server) (old : ReplicatesOf c gtid n s) where
   asked-stopped : (which : Threads) → ReplicatesOf c gtid n (stopped which s)
@@ -398,7 +398,7 @@ trim-purge c w n trim _ at _ = trim
 
 -- ---- changes of source
 
--- an attachment that is made finds its server where it is expected
+-- an attachment that is made finds its server at the expected position
 attach-spot : (w : World) (n : ℕ) (expect : Spot) (to : ℕ) (at : Coord) (s : Server) → attach_answer w n expect to at (Some s) ≡ Ok tt → same_spot expect (live_spot s expect) ≡ true
 attach-spot w n expect to at s h = go (s.up && s.desk) (s.receiver || s.applier) (same_spot expect (live_spot s expect)) h
   where

@@ -1,4 +1,4 @@
--- The servers of a checked opening are trim.
+-- The servers of a checked opening have `IsTrim`.
 use Rattle.std.proofs.Common.{◌≡◌, ℕ, ◌+◌, ◌≤◌, Bool, true, false, not, cond, List, [], ◌∷◌, length, take, refl, sym, ◌∙◌, ap, subst, Option, Some, None, zero, suc, ◌&&◌}
 use Rattle.std.specs.Prelude.{All, IfSome, slice_get, slice_index_or, nat_le, is_some, ◌==◌, count_by}
 use Rattle.tidy_laws.proofs.Prelude.{All-cons, All-nil, All-take, Attached, CanStand-opened, Clusters, Detached, Fits, Flaw, Grounded, HasOwnOf}

@@ -1,4 +1,4 @@
--- Each neat passage leaves a neat flight.
+-- Each `Passage` with `IsNeatPassage` leaves a `Flight` with `IsNeat`.
 use Rattle.std.proofs.Common.{◌≡◌, ℕ, Bool, true, false, List, [], ◌∷◌, length, refl, ◌∙◌, ap, subst, Option, Some, None}
 use Rattle.std.specs.Prelude.{All, IfSome, slice_set}
 use Rattle.tidy_laws.proofs.Prelude.{All-at, All-nil, All-replicate, All-ring, All-set, AreNeatPassages, Bridge, Clusters, Flight, IsNeat}
@@ -62,7 +62,7 @@ module _ (c : Clusters) where
   neat-by f id read now keeps None neat turn = neat
   neat-by f id read now keeps (Some j) neat turn = neat-turn f id (turned f.world read now j) keeps neat (turn j refl)
 
-  -- ---- every passage
+  -- ---- every `Passage`
 
   pub neat-passed : (f : Flight) (p : Passage) → IsNeat c f → IsNeatPassage c f p → IsNeat c (passed f p)
   neat-passed f (pass.Exchanging e) neat fine = record {

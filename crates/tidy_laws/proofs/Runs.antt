@@ -1,4 +1,4 @@
--- Each state of each run is neat, and so tidy.
+-- Each state of each run has `IsNeat`, and so `IsTidy`.
 use Rattle.std.proofs.Common.{ℕ, List, [], ◌∷◌, length, sym, subst}
 use Rattle.std.specs.Prelude.{All}
 use Rattle.tidy_laws.proofs.Prelude.{All-head, All-nil, All-tail, Clusters, ComesTo, Goes, Goes-start, Goes-step, IsTidy, IsTurn, IsUnendedWithin}

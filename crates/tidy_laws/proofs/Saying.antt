@@ -1,5 +1,5 @@
--- What is read of a dump says what was dumped.
-use Rattle.std.proofs.Common.{◌≡◌, ◌∙◌, ℕ, List, [], ◌∷◌, map, refl, sym, ap, subst, Option, Some, None, Result, Ok}
+-- What is read of a dump is what was dumped.
+use Rattle.std.proofs.Common.{◌≡◌, ◌∙◌, ℕ, List, [], ◌∷◌, map, refl, ap, subst, Option, Some, None, Ok}
 use Rattle.scenario_dump.specs.Servers.{init_by, init_of, opening_of, source_in}
 use Rattle.tidy_laws.proofs.Prelude.{Scenario, Server, ServerInit, ServerNo, Settings, World, dump_text, dumped_scenario, scenario_in}
 use Rattle.tidy_laws.specs.Dumps.{SaysWhatWasDumped}

@@ -30,12 +30,12 @@ use Rattle.tidy_laws.proofs.Passing.{neat-passing}
 use Rattle.tidy_laws.proofs.Recovering.{taken-within}
 use Rattle.tidy_laws.proofs.Turns.{turn-within}
 
--- the flight is neat, and each unended job stays within a cluster
+-- the `Flight` has `IsNeat`, and each unended job stays within a cluster
 pub record IsNeatState (c : Clusters) (s : State) : Type 0 where
   pub flight : IsNeat c (flight_of s)
   pub jobs : All (IsUnendedWithin c) s.jobs
 
--- ---- what befalls a server
+-- ---- what happens to a server
 
 step-orderly : (c : Clusters) (count : ℕ) (s : State) (x : Step) → IsStep count x → IsOrderly c s.world (exchange_of x)
 step-orderly c count s (step.Write n size) is = (is.1, is.2)
@@ -53,7 +53,7 @@ module _ (c : Clusters) (s : State) (held : HeldState s) (neat : IsNeatState c s
       (All-find (HeldJob s.world) is_job (map core_of s.jobs) j held.flight.jobs found)
       (All-find (IsUnendedWithin c) is_unended s.jobs (unended.Plan j) neat.jobs at)
 
-  -- whatever its hooks add to what it tells
+  -- whatever lines its hooks add
   retold : (t : Taken) (x : JobStep) → is_going x ≡ is_going t.step → KeepsWithin c s.world t → KeepsWithin c s.world (record t { step = x })
   retold t x same keeps = record { orderly = keeps.orderly; recovery = λ going. keeps.recovery (sym same ∙ going); read = keeps.read }
 

@@ -1,4 +1,4 @@
--- A placed world that is trim is tidy.
+-- A world with `Placed` and `IsTrim` has `IsTidy`.
 use Rattle.std.proofs.Common.{◌≡◌, ℕ, ◌+◌, ◌*◌, ◌≤◌, length, refl, sym, ◌∙◌, ap, subst, Option, Some, None, arith, true}
 use Rattle.tidy_laws.proofs.Prelude.{All-weaker, Attached, Clusters, Coord, Detached, HasOwnOf, IsOf, IsTarget, IsTidy, IsTidyServer, IsTrim}
 use Rattle.tidy_laws.proofs.Prelude.{IsWritten, Placed, Server, SourceState, Txn, Without, World, cluster_in, file_start, has_place, place-parts}
@@ -34,7 +34,7 @@ module _ (c : Clusters) (w : World) (placed : Placed w) (trim : IsTrim c w) wher
   pub written-target : (n : ℕ) (to : Coord) → IsTarget w n to → IsWritten to
   written-target n to target = written-at n target.target to target.there target.logs target.place
 
-  -- where a server stands can be printed
+  -- the position of a server can be printed
   module _ (n : ℕ) (s : Server) (at : server_at w n ≡ Some s) where
     under : (m : ℕ) → source_no s.source ≡ Some m → IsWritten s.exec × IsWritten s.read
     under m from =

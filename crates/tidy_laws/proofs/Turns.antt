@@ -56,7 +56,7 @@ module _ (c : Clusters) (w : World) (placed : Placed w) (trim : IsTrim c w) wher
   pub read-within : (read : ℕ) (now : Moment) (n : ServerNo) → IsReadWithin c (observed w read now n)
   read-within read now n = λ seen h. stood-within n.0 seen h
 
--- a server that stands where it is expected is below that source
+-- a server at the expected position is below that source
 spot-source : (r : Server) (m : ServerNo) (at : Coord) (x : SourceState) → same_spot (spot.At m at) (spot_below r x) ≡ true → source_no x ≡ Some m.0
 spot-source r m at Without h = cc
 spot-source r m at (Attached k) h = ap Some (sym (eqb-true m.0 k.0 (and_parts (m.0 == k.0) (same_coord at r.exec) h).0))

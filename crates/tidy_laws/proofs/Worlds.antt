@@ -1,4 +1,4 @@
--- A quiet state's servers are those of its scenario.
+-- the servers of a state with `IsQuiet` are those of its scenario
 use Rattle.std.proofs.Common.{◌≡◌, ◌∙◌, ℕ, ◌+◌, Bool, List, [], ◌∷◌, length, map, refl, sym, ap, subst, Option, Some, None, arith, suc}
 use Rattle.std.specs.Prelude.{All, slice_get}
 use Rattle.tidy_laws.proofs.Prelude.{Act, All-head, All-tail, AllAllowed, Allowed-step, ComesTo, Goes, Goes-comes, Goes-start, Goes-step, Grows}

@@ -11,7 +11,7 @@ abbrev pub cluster_in : Option Server → Option (List ℕ)
 cluster_in None = None
 cluster_in (Some s) = Some s.settings.cluster
 
--- the label of a cluster, empty where there is no server
+-- the label of a cluster, empty if there is no server
 abbrev pub label : Option (List ℕ) → List ℕ
 label None = []
 label (Some cluster) = cluster

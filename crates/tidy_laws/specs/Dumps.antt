@@ -1,5 +1,5 @@
 -- When what is dumped of a state of a run reads back.
-use Rattle.std.specs.Prelude.{◌≡◌, ℕ, List, [], map, Ok}
+use Rattle.std.specs.Prelude.{◌≡◌, ℕ, [], map, Ok}
 use Rattle.run_laws.specs.Scenarios.declared.scenario.Scenario.{Scenario}
 use Rattle.run_laws.specs.Scenarios.Scenarios.{IsScenario}
 use Rattle.scenario_dump.specs.Reading.{dumped_scenario, refitted}
@@ -8,8 +8,9 @@ use Rattle.scenario_reader.specs.ReadScenarios.{scenario_in}
 use Rattle.run_laws.specs.ServerModel.Worlds.{World}
 use Rattle.run_laws.specs.WorldOpenings.Opening.{opened_world}
 
--- What a scenario says is what was dumped: the moment, whether GTIDs are used, each server's name, UUID, number, version,
--- label, data centre and log, and the orchestrators, marks, block periods, aliases, filters and hooks. It has no turns.
+-- What a scenario has is what was dumped: the moment, whether GTIDs are used, and each server's name, UUID, number,
+-- version, label, data centre and log. Also the orchestrators, marks, block periods, aliases, filters and hooks. It has
+-- no turns.
 pub record SaysWhatWasDumped (w : World) (s : Scenario) (now : ℕ) (x : Scenario) : Type 0 where
   pub moment : x.moment.0 ≡ now
   pub gtid : x.opening.gtid ≡ w.gtid
@@ -23,8 +24,8 @@ pub record SaysWhatWasDumped (w : World) (s : Scenario) (now : ℕ) (x : Scenari
   pub hooks : x.hooks ≡ s.hooks
   pub turns : x.turns ≡ []
 
--- the text reads without a fault, as the scenario that it tells, which says what was dumped; it can be run, and its
--- servers open to the very world
+-- the text reads without a fault, as the scenario that it has, which is what was dumped; it can be run, and its servers
+-- open to the very world
 pub record ReadsBack (w : World) (s : Scenario) (now : ℕ) : Type 0 where
   pub reads : scenario_in (dump_text w s now) ≡ Ok (dumped_scenario w s now)
   pub runs : IsScenario (dumped_scenario w s now)

@@ -1,4 +1,4 @@
--- That servers with jobs in flight, and what is kept of them, stay within clusters.
+-- That servers with jobs, and what is kept of them, stay within clusters.
 use Rattle.std.specs.Prelude.{◌≡◌, List, [], ◌∷◌, All, IfSome, Some}
 use Rattle.run_laws.specs.ServerModel.Run.{AllAllowed, Allowed}
 use Rattle.run_laws.specs.ServerModel.Safe.{Placed}
@@ -13,7 +13,7 @@ use Rattle.tidy_laws.specs.Clusters.{Clusters}
 use Rattle.tidy_laws.specs.Trim.{AllOrderly, IsOrderly, IsTrim}
 use Rattle.tidy_laws.specs.Within.{IsReadWithin, IsWithinCluster}
 
--- the servers are placed and trim, and each bridge and each slot's reading is within a cluster
+-- the servers have `Placed` and `IsTrim`, and each bridge and each slot's reading is within a cluster
 pub record IsNeat (c : Clusters) (f : Flight) : Type 0 where
   pub placed : Placed f.world
   pub trim : IsTrim c f.world

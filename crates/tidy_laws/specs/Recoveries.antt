@@ -27,7 +27,7 @@ IsWayWithin c n (way.Up b) = IsWithinCluster c b
 IsWayWithin c n (way.Auto to exec) = AreAlike c to.0 n.0
 IsWayWithin c n (way.Match to exec every) = AreAlike c to.0 n.0
 
--- of the tasks of a failed server: where drained ones are handed over, the new source is of its cluster
+-- of the tasks of a failed server: if drained ones are handed over, the new source is of its cluster
 abbrev pub IsTaskWithin : Clusters → ServerNo → Option ServerNo → Task → Type 0
 IsTaskWithin c f chosen (task.Moving n by) = IsWayWithin c n by
 IsTaskWithin c f chosen task.Handing = IfSome chosen (λ s. AreAlike c s.0 f.0)
@@ -44,8 +44,8 @@ IsTaskWithin c f chosen task.Yielding = Unit {0}
 abbrev pub IsStageWithin : Clusters → Stage → Type 0
 IsStageWithin c s = IfSome (info s).lead (IsWithinCluster c)
 
--- of a job at a stage, with what is still to do of a failed server, what is drained, the new source, and where a
--- replica stopped
+-- of a job at a stage, with what is still to do of a failed server, what is drained, the new source, and the position
+-- at which a replica stopped
 pub record PartsWithin (c : Clusters) (j : Job) (s : Stage) (ts : List Task) (f : ServerNo) (ds : List Stopped) (chosen : Option ServerNo) (o : Option Bridge) : Type 0 where
   pub core : IsJobWithin c j
   pub stage : IsStageWithin c s
@@ -57,7 +57,7 @@ pub record PartsWithin (c : Clusters) (j : Job) (s : Stage) (ts : List Task) (f 
 abbrev pub IsRecoveryWithin : Clusters → Recovery → Type 0
 IsRecoveryWithin c r = PartsWithin c r.core r.stage r.queue r.failed r.drained r.chosen r.lead
 
--- its turn makes exchanges in order, and leaves it so where it goes on
+-- its turn makes exchanges in order, and leaves it so if it goes on
 pub record KeepsWithin (c : Clusters) (w : World) (t : Taken) : Type 0 where
   pub orderly : AllOrderly c w t.exchanges
   pub recovery : is_going t.step ≡ true → IsRecoveryWithin c t.recovery

@@ -41,7 +41,7 @@ pub record HasNone (done far : Coord) (finds receives applies : Bool) (stop : Op
   pub applier : applies ≡ false
   pub until : stop ≡ None
 
--- of server n, how it replicates: nothing is left of a replica where it has no source, and its source is of its cluster
+-- of server n, how it replicates: nothing is left of a replica if it has no source, and its source is of its cluster
 pub record Replicates (c : Clusters) (gtid : Bool) (n : ℕ) (above : SourceState) (done far : Coord) (finds receives applies : Bool) (stop : Option Coord) : Type 0 where
   pub bare : above ≡ Without → HasNone done far finds receives applies stop
   pub auto : finds ≡ true → gtid ≡ true
@@ -71,7 +71,7 @@ IsOrderlyAsk asking.Reattach = Unit {0}
 IsOrderlyAsk asking.Reset = Unit {0}
 IsOrderlyAsk (asking.SetReadOnly on) = Unit {0}
 
--- an attachment at a spot: of a server that is there the new source is of its cluster
+-- an attachment at a position: of a server that is there the new source is of its cluster
 abbrev pub StaysWithin : Clusters → World → ℕ → Spot → ℕ → Type 0
 StaysWithin c w n expect to = (r : Server) → server_at w n ≡ Some r → same_spot expect (live_spot r expect) ≡ true → AreAlike c to n
 

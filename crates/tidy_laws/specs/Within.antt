@@ -19,7 +19,7 @@ use Rattle.tidy_laws.specs.Trim.{AllOrderly, IsOrderlyAsk}
 
 -- ---- what was seen
 
--- where server n stood: the source is of its cluster, and without one the coordinate can be printed
+-- server n's position: the source is of its cluster, and without one the coordinate can be printed
 pub record StoodWithin (c : Clusters) (n : ℕ) (p : Position) : Type 0 where
   pub source : (m : ℕ) → source_no p.source ≡ Some m → AreAlike c m n
   pub bare : p.source ≡ Without → IsWritten p.exec
@@ -35,8 +35,8 @@ IsWithinCluster c b = AreAlike c b.source.0 b.no.0
 
 -- ---- what is to be done
 
--- an operation is due before others: an attachment by a set and one by a match stay within the cluster; a status that
--- names a source, and a match that is found, tell that the two are of one cluster
+-- An operation is due before others. An attachment by a set and one by a match stay within the cluster. A status that
+-- names a source, and a match that is found, mean that the two are of one cluster.
 abbrev pub IsDueWithin : Clusters → Deed → Type 0 → Type 0
 IsDueWithin c (deed.Look n None) rest = rest
 IsDueWithin c (deed.Look n (Some m)) rest = AreAlike c m.0 n.0 → rest
@@ -56,7 +56,7 @@ abbrev pub AreDueWithin : Clusters → List Op → Type 0
 AreDueWithin c [] = Unit {0}
 AreDueWithin c (op ∷ ops) = IsDueWithin c (deed_of op) (AreDueWithin c ops)
 
--- a job in flight
+-- an unended job
 pub record IsJobWithin (c : Clusters) (j : Job) : Type 0 where
   pub seen : AllWithin c j.seen
   pub left : AreDueWithin c j.ops

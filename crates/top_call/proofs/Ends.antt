@@ -20,7 +20,7 @@ pub lifted : (left : Option (List ℕ)) (P Q : List ℕ → Type 0) → ((bytes 
 lifted None P Q f h = (h.0, f h.0 h.1)
 lifted (Some bytes) P Q f h = f bytes h
 
--- where they are known
+-- if they are known
 pub known : (left : Option (List ℕ)) (P Q : List ℕ → Type 0) → ((bytes : List ℕ) → P bytes → Q bytes) → OfRead left P → IfSome left Q
 known None P Q f h = tt
 known (Some bytes) P Q f h = f bytes h
@@ -112,7 +112,7 @@ module _ where
   of_done way.Memory (inl e) = absurd (omega (arith, e))
   of_done way.Memory (inr e) = absurd (omega (arith, e))
 
--- ---- the keeper's count
+-- ---- the row store's count
 
 pub unmoved : (before now : ℕ) (w : Way) → (w ≡ way.Keeper → ⊥) → now ≡ before → FailsByKeeper before now (status_of w)
 unmoved before now w other same = record {
@@ -161,7 +161,7 @@ counted before now e cause = record {
 pub keeper_rose : (before now : ℕ) (w : Way) → FailsByKeeper before now (status_of w) → w ≡ way.Keeper → Rose before now
 keeper_rose before now w stops is = stops.failed (ap status_of is)
 
--- ---- what words ask
+-- ---- what a command line asks
 
 same_places : (r : Result Places Usage) (p q : Places) → r ≡ Ok p → r ≡ Ok q → p ≡ q
 same_places (Ok x) p q e f = cc
@@ -171,7 +171,7 @@ pub none_or_some : (o : Option Drawing) (d : Drawing) → o ≡ None → o ≡ S
 none_or_some None d none some = absurd cc
 none_or_some (Some e) d none some = absurd cc
 
--- what one reading of the words gives, each does
+-- what one reading of the command line gives, each does
 module _ (words : List (List ℕ)) (p : Places) (taken_as : places_of words ≡ Ok p) where
   pub reads_at : AskARead words → AskOfRead p
   reads_at ask = subst AskOfRead (same_places (places_of words) ask.0 p ask.1 taken_as) ask.2
@@ -179,7 +179,7 @@ module _ (words : List (List ℕ)) (p : Places) (taken_as : places_of words ≡ 
   pub draws_at : (d : Drawing) → AskToDraw words d → drawing_of p ≡ Some d
   draws_at d ask = subst (λ (q : Places). drawing_of q ≡ Some d) (same_places (places_of words) ask.0 p ask.1 taken_as) ask.2
 
--- words don't ask for both
+-- a command line doesn't ask for both
 pub never_both : (words : List (List ℕ)) (d : Drawing) → AskARead words → AskToDraw words d → ⊥
 never_both words d read draw = none_or_some (drawing_of draw.0) d (reads_at words draw.0 draw.1 read) draw.2
 
@@ -224,7 +224,7 @@ draw_way w (inl is) = subst IsDrawWay (sym is) (record { not_usage = λ e. absur
 draw_way w (inr (inl is)) = subst IsDrawWay (sym is) (record { not_usage = λ e. absurd cc; not_source = λ e. absurd cc; not_keeper = λ e. absurd cc; not_reported = λ e. e })
 draw_way w (inr (inr is)) = subst IsDrawWay (sym is) (record { not_usage = λ e. absurd cc; not_source = λ e. absurd cc; not_keeper = λ e. absurd cc; not_reported = λ e. e })
 
--- and by that of a sink only where out failed
+-- and by that of a sink only if out failed
 pub draw_rose : (d : Drawing) (w : Way) (out err : End) → DrawEnds d (status_of w) out err → w ≡ way.Sink → Rose out.old.faults out.new.faults
 draw_rose d w out err ended is = at (subst (λ (v : Way). DrawEnds d (status_of v) out err) is ended)
   where
@@ -233,7 +233,7 @@ draw_rose d w out err ended is = at (subst (λ (v : Way). DrawEnds d (status_of 
     at (inr (inl e)) = e.1.failed
     at (inr (inr e)) = let no : 4 ≡ 6 = e.0 in absurd (omega (arith, no))
 
--- what words that are taken ask to draw may be drawn
+-- what an accepted command line asks to draw may be drawn
 pub drawing_sound : (p : Places) (d : Drawing) → IsTaken p → drawing_of p ≡ Some d → IsDrawn d
 drawing_sound p d taken is = subst (λ (o : Option Drawing). IfSome o IsDrawn) is (taken_have taken.0 p taken.1).drawn
 
@@ -244,7 +244,7 @@ drawn_once P o d e first second has = subst P (same_Some d e (sym first ∙ seco
 pub undrawn : (d : Drawing) (out : Taken) (err : End) → TakesLine err (codes "out of memory\n") → DrawEnds d 6 (between out out) err
 undrawn d out err took = inr (inr (refl, nothing_is_front out.bytes out.bytes (drawn_text d) (takes_nothing out.bytes), took))
 
--- the source was read to its end where the words ask of it
+-- the source was read to its end if the command line asks something of it
 pub read_whole : (words : List (List ℕ)) (left left_now : Option (List ℕ)) (kept kept_now : Option (List Row)) (out err : End) (w : Way) (status : ℕ) → status ≡ status_of w → (IsReported w → IfSome left (λ bytes. Consumes left left_now bytes))
     → OfRead left (λ bytes. Ends (call words bytes kept kept_now out err) w) → IfSome left (λ bytes. ReadsWhole words bytes status left left_now)
 read_whole words None left_now kept kept_now out err w status is read ended = tt
@@ -254,7 +254,7 @@ read_whole words (Some bytes) left_now kept kept_now out err w status is read en
     go ask (inl reported) = read reported
     go ask (inr drawn) = let at : Ends (call words bytes kept kept_now out err) way.Drawn = subst (Ends (call words bytes kept kept_now out err)) drawn ended in absurd (never_both words at.drawing ask at.asks)
 
--- ---- the words are taken
+-- ---- the command line is accepted
 
 not_both : {A E : Type 0} (r : Result A E) (x : A) (e : E) → r ≡ Ok x → r ≡ Err e → ⊥
 not_both (Ok y) x e good bad = absurd cc

@@ -1,4 +1,4 @@
--- How calls end where the keeper tells its rows: against their report.
+-- How calls whose row store has known rows end: against their report.
 use Rattle.std.proofs.Common.{◌≡◌, ◌∙◌, ℕ, ◌≤◌, Bool, true, false, List, [], ◌++◌, length, take, Option, Some, None, Ok, Err, refl, sym, ap, subst, arith, ◌⊎◌, inl, inr}
 use Rattle.std.specs.Prelude.{IfSome, codes, Result}
 use Rattle.top_call.proofs.Prelude.{Answer, AskARead, Asks, AskToDraw, Call, Closes, Drawing, End, Ends, EndsAs, EndsBy, Fault, IsReported, IsToWrite}
@@ -13,14 +13,14 @@ use Rattle.top_call.proofs.Prelude.usage
 use Rattle.top_call.proofs.Prelude.way
 use Rattle.top_call.proofs.Ends.{asks_of, of_done, of_five, of_four, of_one, of_six, of_three, of_two}
 
--- ---- where the bytes and the rows are known
+-- ---- if the bytes and the rows are known
 
 pub both : (left : Option (List ℕ)) (kept : Option (List Row)) (E : List ℕ → Type 0) (P : List ℕ → List Row → Type 0) → ((bytes : List ℕ) (rows : List Row) → kept ≡ Some rows → E bytes → P bytes rows) → OfRead left E → IfSome left (λ bytes. IfSome kept (P bytes))
 both None kept E P f h = tt
 both (Some bytes) None E P f h = tt
 both (Some bytes) (Some rows) E P f h = f bytes rows refl h
 
--- ---- lines behind texts
+-- ---- lines after texts
 
 line_behind : (first mid last : Taken) (text line : List ℕ) → Takes (between first mid) text → first.faults ≤ mid.faults → TakesLine (between mid last) line → TakesLine (between first last) (text ++ line)
 line_behind first mid last text line took later (inl whole) = inl (takes_more first.bytes mid.bytes last.bytes text line took whole)
@@ -192,7 +192,7 @@ module _ (c : Call) (rows : List Row) (known : c.kept ≡ Some rows) where
   behind : (n : ℕ) (mid : Taken) (line : List ℕ) → n ≤ length r.err → Takes (between c.err.old mid) (take n r.err) → c.err.old.faults ≤ mid.faults → TakesLine (between mid c.err.new) line → TakesBehind r line c.err
   behind n mid line few took later lined = (n, few, line_behind c.err.old mid c.err.new (take n r.err) line took later lined)
 
-  -- nothing of the report stands before it
+  -- nothing of the report is before it
   alone : (line : List ℕ) → TakesLine c.err line → TakesBehind r line c.err
   alone line took = (0, omega arith, took)
 

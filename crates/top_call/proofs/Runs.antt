@@ -1,5 +1,5 @@
--- Each run of the turns that words take: its states are safe, its commands answer by the permission table, and its
--- recoveries begin apart and finish well.
+-- Each run of the turns that a command line takes: its states are safe, its commands answer by the permission table,
+-- and its recoveries begin without overlap and finish well.
 use Rattle.std.proofs.Common.{◌≡◌, ℕ, zero, suc, ◌<◌, Bool, true, false, cond, List, [], ◌∷◌, ◌++◌, length, Option, Some, None, ◌∙◌, refl, sym, ap, subst, take, inl, inr, arith}
 use Rattle.std.specs.Prelude.{All, IfSome, is_some, ◌^◌, ◌≤◌}
 use Rattle.top_call.proofs.Prelude.{turn-comes}
@@ -31,7 +31,7 @@ use Rattle.top_call.proofs.Prelude.unended
 
 -- ---- the turns
 
--- the task of words that are taken has a turn over the servers
+-- the task of an accepted command line has a turn over the servers
 pub asked_in_task : (p : Places) (names : List HostPort) (s : Scenario) (t : Task) → IsTaken p → AskOfRead p → names ≡ names_of s → t ≡ task_of p names → IsAsked (length s.opening.servers) t.asked
 asked_in_task p names s t taken asks named is =
     let own : IsAsked (length (names_of s)) (asked_of p (names_of s)) = asked_is p (names_of s) taken asks in
@@ -76,7 +76,7 @@ held_same : (h : Held Recorded) (ts : List Turn) → held_run engine (record { r
 held_same h [] = refl
 held_same h (t ∷ ts) = held_same (held_step recorder h t) ts
 
--- from an opening by rows that the keeper tells
+-- from an opening by the row store's known rows
 module _ (s : Scenario) (wait : ℕ) (old new : List Row) (begun : State) (ts : List Turn) (run : Recorded) where
   own_follows : begun ≡ start s wait old → Ran recorder (kept_at_start true (Some old) s) (without_turns begun) ts (Some new) run → held_from s wait old ts ≡ record { rows = new; state = run.state }
   own_follows opens ran =
@@ -295,7 +295,7 @@ module _ (count nodes : ℕ) (some : 1 ≤ nodes) where
   stages_over asked.Nothing is = absurd is
   stages_over _ is = tt
 
--- what holds behind any turns over the servers holds behind those so far
+-- what holds after any turns over the servers holds after those so far
 module _ (words : List (List ℕ)) (bytes : List ℕ) (w : Work) (run : Recorded) (is : IsTask words bytes w) (P : List Turn → Type 0)
     (each : (ts : List Turn) → IsScenario w.scenario → All (IsTurnOf (length w.scenario.opening.servers) w.scenario.nodes) ts → Comes w ts w.new run → P ts) where
   scenario : IsScenario w.scenario
@@ -307,7 +307,7 @@ module _ (words : List (List ℕ)) (bytes : List ℕ) (w : Work) (run : Recorded
   in_turns : (at : IsOnTurns (course_of w) run) → P (take at.k w.scenario.turns)
   in_turns at = each (take at.k w.scenario.turns) scenario (All-take Over at.k w.scenario.turns (scenario_turns w.scenario scenario)) at.comes
 
-  -- turns behind others
+  -- turns after others
   on_from : (ts us : List Turn) (rows kept : Option (List Row)) (mid now : Recorded) → Comes w ts rows mid → Ran recorder rows mid us kept now → Comes w (ts ++ us) kept now
   on_from ts us rows kept mid now came ran =
       record { begun = came.begun; opens = came.opens; ran = Ran-append recorder (kept_at_start true w.old w.scenario) rows kept (without_turns came.begun) mid now ts us came.ran ran }
@@ -336,7 +336,7 @@ module _ (words : List (List ℕ)) (bytes : List ℕ) (w : Work) (run : Recorded
   so_far ts (inl x) = subst P (sym x.are) (in_turns x.at)
   so_far ts (inr x) = subst P (sym x.are) (in_own x.at)
 
--- where it says nothing of the turns
+-- if it has no promise for the turns
 module _ (words : List (List ℕ)) (bytes : List ℕ) (w : Work) (run : Recorded) (is : IsTask words bytes w) (Q : Type 0)
     (each : (ts : List Turn) → IsScenario w.scenario → All (IsTurnOf (length w.scenario.opening.servers) w.scenario.nodes) ts → Comes w ts w.new run → Q) where
   on_each : IsOn (course_of w) run → Q

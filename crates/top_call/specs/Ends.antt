@@ -1,5 +1,5 @@
 -- How a call ends.
-use Rattle.std.specs.Prelude.{◌≡◌, ◌≢◌, ℕ, ◌≤◌, ◌⊎◌, ⊤, Bool, List, [], codes, if◌then◌else◌, IfSome, Option, Some, None, Result, Ok, Err}
+use Rattle.std.specs.Prelude.{◌≡◌, ℕ, ◌≤◌, ◌⊎◌, ⊤, Bool, List, [], codes, if◌then◌else◌, IfSome, Option, Some, None, Result, Ok, Err}
 use Rattle.top_call.specs.Prelude.{AskOfRead, BadWords, Consumes, Drawing, End, Ending, Fails, FailsIn, Fault, IsWritten, Places, Rose, Row, Scenario}
 use Rattle.top_call.specs.Prelude.{Taken, Takes, TakesFront, TakesLine, Tells, Usage, Work, between, course_of, drawing_of, names_of}
 use Rattle.top_call.specs.Prelude.{places_of, scenario_in, scenario_text, task_of}
@@ -20,8 +20,8 @@ status_of way.Sink = 4
 status_of way.Keeper = 5
 status_of way.Memory = 6
 
--- a call: the words, the bytes of the scenario, the kept rows before and after, where the keeper tells them, and what
--- out and err took
+-- a call: the arguments, the bytes of the scenario, the kept rows before and after, if they are known, and what out and
+-- err took
 pub record Call : Type 0 where
   pub words : List (List ℕ)
   pub bytes : List ℕ
@@ -33,7 +33,7 @@ pub record Call : Type 0 where
 abbrev pub call : List (List ℕ) → List ℕ → Option (List Row) → Option (List Row) → End → End → Call
 call words bytes kept kept_now out err = record { words = words; bytes = bytes; kept = kept; kept_now = kept_now; out = out; err = err }
 
--- the task that words ask over the scenario that bytes are; words that ask to draw one have none
+-- the task that a command line asks over the scenario that bytes are; one that asks to draw a scenario has none
 pub record IsTask (words : List (List ℕ)) (bytes : List ℕ) (w : Work) : Type 0 where
   pub places : Places
   pub taken : places_of words ≡ Ok places
@@ -47,7 +47,7 @@ pub record Asks (c : Call) (w : Work) : Type 0 where
   pub old : w.old ≡ c.kept
   pub new : w.new ≡ c.kept_now
 
--- nothing was done, but for this line on err
+-- nothing was done, except for this line on err
 pub record Idles (c : Call) (line : List ℕ) : Type 0 where
   pub kept : c.kept_now ≡ c.kept
   pub out : Takes c.out []
@@ -68,11 +68,11 @@ pub record Reports (c : Call) (refused : Bool) : Type 0 where
   pub asks : Asks c work
   pub written : IsWritten (course_of work) c.out c.err refused
 
--- the words are taken, and ask of a scenario that is read
+-- the command line is accepted, and asks something of a scenario that is read
 abbrev pub AskARead : List (List ℕ) → Type 0
 AskARead words = (p : Places) × (places_of words ≡ Ok p) × AskOfRead p
 
--- the words are taken, and ask to draw this scenario
+-- the command line is accepted, and asks to draw this scenario
 abbrev pub AskToDraw : List (List ℕ) → Drawing → Type 0
 AskToDraw words d = (p : Places) × (places_of words ≡ Ok p) × (drawing_of p ≡ Some d)
 
@@ -88,8 +88,8 @@ pub record Draws (c : Call) (Took : List ℕ → Type 0) (Told : Type 0) : Type 
   pub out : Took (drawn_text drawing)
   pub err : Told
 
--- What a call has done by each way to end. The words are tested first. Where they ask to draw a scenario, that is
--- written; elsewhere the source is read, then the scenario is tested.
+-- What a call has done by each way to end. The command line is tested first. If it asks to draw a scenario, that is
+-- written. Else the source is read, then the scenario is tested.
 abbrev pub Ends : Call → Way → Type 0
 Ends c (way.Reported refused) = Reports c refused
 Ends c way.Drawn = Draws c (Takes c.out) (Takes c.err [])
@@ -101,15 +101,15 @@ Ends c way.Keeper = Closes c ends.Keeper (codes "keeper fault\n")
 Ends c way.Memory =
     Idles c (codes "out of memory\n") ⊎ Closes c ends.Memory (codes "out of memory\n") ⊎ Draws c (TakesFront c.out) (TakesLine c.err (codes "out of memory\n"))
 
--- So ends, with this status, a call that draws this scenario: out took its text whole (0), or failed and took a front
--- of it (4), or memory ran out, and it took a front (6).
+-- So ends, with this status, a call that draws this scenario. Out took its text whole (0). Or it failed and took a
+-- prefix of it (4). Or memory ran out, and it took a prefix (6).
 abbrev pub DrawEnds : Drawing → ℕ → End → End → Type 0
 DrawEnds d status out err =
     ((status ≡ 0) × Takes out (drawn_text d) × Takes err [])
     ⊎ ((status ≡ 4) × FailsIn out (drawn_text d) × TakesLine err (codes "write fault\n"))
     ⊎ ((status ≡ 6) × TakesFront out (drawn_text d) × TakesLine err (codes "out of memory\n"))
 
--- so ends a call of any words that these places are, over the bytes that were read
+-- so ends a call of any command line that these places are, over the bytes that were read
 abbrev pub EndsOf : Places → Option (List ℕ) → Option (List Row) → Option (List Row) → End → End → Way → Type 0
 EndsOf p left kept kept_now out err w = (words : List (List ℕ)) → places_of words ≡ Ok p → OfRead left (λ bytes. Ends (call words bytes kept kept_now out err) w)
 
@@ -134,50 +134,51 @@ EndsBy c status = (w : Way) × (status ≡ status_of w) × Ends c w
 
 -- ---- statuses
 
--- 1 only where the words aren't taken, and always there, but for want of memory while they are read
+-- 1 only if the command line isn't accepted, and always then, unless memory runs out while it is read
 pub record IsUsage (words : List (List ℕ)) (status : ℕ) : Type 0 where
   pub only : status ≡ 1 → places_of words ≡ Err BadWords
   pub always : places_of words ≡ Err BadWords → (status ≡ 1) ⊎ (status ≡ 6)
 
--- 2 exactly where what is read is a fault, unless the source failed or memory ran out
+-- 2 exactly if what is read is a fault, unless the source failed or memory ran out
 pub record FaultsBy (read : Result Scenario Fault) (status : ℕ) : Type 0 where
   pub only : status ≡ 2 → (f : Fault) × (read ≡ Err f)
   pub always : (f : Fault) → read ≡ Err f → (status ≡ 2) ⊎ (status ≡ 3) ⊎ (status ≡ 6)
 
--- so it is of words that ask of a scenario that is read, and of those that draw one it isn't 2
+-- So it is for a command line that asks something of a scenario that is read. For one that draws it isn't 2.
 abbrev pub FaultsFor : Option Drawing → Result Scenario Fault → ℕ → Type 0
 FaultsFor None read status = FaultsBy read status
 FaultsFor (Some d) read status = status ≡ 2 → ⊥
 
--- nor is it where the words aren't taken
+-- nor is it if the command line isn't accepted
 abbrev pub FaultsAs : Result Places Usage → Result Scenario Fault → ℕ → Type 0
 FaultsAs (Ok p) read status = FaultsFor (drawing_of p) read status
 FaultsAs (Err usage) read status = status ≡ 2 → ⊥
 
--- so it is of words over the bytes that the source had, where they are known
+-- so it is for a command line over the bytes that the source had, if they are known
 abbrev pub FaultsOf : List (List ℕ) → Option (List ℕ) → ℕ → Type 0
 FaultsOf words left status = IfSome left (λ bytes. FaultsAs (places_of words) (scenario_in bytes) status)
 
--- 5 only where the keeper's count rose, which never falls; with 1, 2 and 3 it isn't asked
+-- 5 only if the row store's count rose, which never falls; with 1, 2 and 3 it isn't asked
 pub record FailsByKeeper (before now status : ℕ) : Type 0 where
   pub later : before ≤ now
   pub failed : status ≡ 5 → Rose before now
   pub idle : (status ≡ 1) ⊎ (status ≡ 2) ⊎ (status ≡ 3) → now ≡ before
 
--- no count of faults rose: of the source, of the keeper, of out or of err
+-- no count of faults rose: of the source, of the row store, of out or of err
 pub record NoneRose (source_before source_after keeper_before keeper_after : ℕ) (out err : End) : Type 0 where
   pub no_source : ¬ (Rose source_before source_after)
   pub no_keeper : ¬ (Rose keeper_before keeper_after)
   pub no_out : ¬ (Fails out)
   pub no_err : ¬ (Fails err)
 
--- the words are taken, and the bytes are a scenario, where they ask of one that is read
+-- the command line is accepted, and the bytes are a scenario, if it asks something of one that is read
 pub record IsGood (words : List (List ℕ)) (bytes : List ℕ) : Type 0 where
   pub places : Places
   pub taken : places_of words ≡ Ok places
   pub read : AskOfRead places → (s : Scenario) × (scenario_in bytes ≡ Ok s)
 
--- with 0 and 7 a source that had these bytes was read to its end, where the words ask of a scenario that is read
+-- with 0 and 7 a source that had these bytes was read to its end, if the command line asks something of a scenario that
+-- is read
 abbrev pub ReadsWhole : List (List ℕ) → List ℕ → ℕ → Option (List ℕ) → Option (List ℕ) → Type 0
 ReadsWhole words bytes status left left_now = AskARead words → (status ≡ 0) ⊎ (status ≡ 7) → Consumes left left_now bytes
 

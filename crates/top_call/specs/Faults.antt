@@ -33,7 +33,7 @@ code_text code.AutoWithoutGtid = codes "26 AutoWithoutGtid"
 code_text code.BadHook = codes "27 BadHook"
 code_text code.NodeTurn = codes "28 NodeTurn"
 
--- a path stands behind a space; nothing stands for the whole text's
+-- a path is after a space; nothing is the whole text's
 abbrev pub path_text : List ℕ → List ℕ
 path_text [] = []
 path_text (b ∷ bs) = codes " " ++ b ∷ bs

@@ -5,12 +5,12 @@ use Rattle.top_call.specs.Prelude.reading
 use Rattle.top_call.specs.declared.reading.Stop.{Stop}
 use Rattle.top_call.specs.declared.reading.Stop.TheVariants as stops
 
--- of the bytes that the source had, where it tells them, and of some bytes where it doesn't
+-- for the bytes that the source had, if they are known, and else for some bytes
 abbrev pub OfRead : Option (List ℕ) → (List ℕ → Type 0) → Type 0
 OfRead None P = (bytes : List ℕ) × P bytes
 OfRead (Some bytes) P = P bytes
 
--- what stops where reading has a fault
+-- what stops if reading has a fault
 abbrev pub stop_by : ReadFault → Stop
 stop_by reading.Memory = stops.Memory
 stop_by (reading.Fault f) = stops.Fault f

@@ -1,5 +1,5 @@
--- What holds of each run of the turns that words take over the scenario that bytes are, whatever rows the keeper hands
--- back: of the run of a call's report, too.
+-- What holds for each run of the turns that a command line takes over the scenario that bytes are, whatever rows the
+-- row store hands back. It holds for the run of a call's report, too.
 use Rattle.std.specs.Prelude.{All, ◌≡◌, ℕ, ◌+◌, ◌^◌, ◌≤◌, Bool, false, List, [], ◌∷◌, ◌++◌, length, map, take, ◌⊎◌, Some}
 use Rattle.top_call.specs.Prelude.{RecoveriesTurnWell}
 use Rattle.top_call.specs.Prelude.{ActsWhereActive, AreScenarios, AuditIs, Began, BeginApartInTurn, BegunJob, Cause, ClaimsWait, CommandTurn, Docket}
@@ -23,14 +23,17 @@ use Rattle.top_call.specs.Ends.{IsTask}
 
 -- ---- states
 
--- What holds of a state with its jobs in flight: it is held, quiet or not, its servers are placed, and its recoveries
--- are apart: each cluster has at most one that isn't ended. Each of these has its unended job, and each job's entry
--- isn't ended. A lease names an unended job, a job has the leases of all that it may still change, and its turn leaves
--- every other server as it is; a plan's job that fails was befallen by its cause in that turn, one that nothing befalls
--- is done, and a recovery fails for what befell it, too, and owes nothing in its next turn. Where the state is quiet it
--- is sound, and its servers are
--- safe; where the log of one matches another's, all that the first has executed is a beginning of what the other has
--- and ends at that coordinate, and so it is of each match that a job found, as long as its server stands there.
+-- What holds for a state with its jobs.
+-- - It has the invariant `Held`, its servers have `Placed`, and its recoveries don't overlap: each cluster has at most
+--   one that isn't ended.
+-- - Each of these has its unended job, and each job's entry isn't ended.
+-- - A lease names an unended job. A job has the leases of all that it may still change, and its turn leaves every other
+--   server as it is.
+-- - The cause of a plan's job that fails happened in that turn, and one to which nothing happens is done. A recovery
+--   fails for what happened, too, and owes nothing in its next turn.
+-- - If the state has `IsQuiet`, it has `Sound`, and its servers have `Safe`. If the log of one matches another's, all
+--   that the first has executed is a prefix of what the other has. It ends at that coordinate. So it is for each match
+--   that a job found, as long as its server is at that position.
 pub record IsSafeState (s : State) : Type 0 where
   pub placed : Placed s.world
   pub held : HeldState s
@@ -48,16 +51,16 @@ pub record IsSafeState (s : State) : Type 0 where
   pub matched : IsQuiet s.world → MatchesEnd s
   pub met : IsQuiet s.world → FoundMatchesEnd s
 
--- So is every state: behind any of the scenario's turns, the command's claim and its own turn, and behind any turn of
--- the rounds that follow until the job that it began has ended.
+-- So is every state: after any of the scenario's turns, the command's claim and its own turn. It is so after any turn
+-- of the rounds that follow until the job that it began has ended.
 abbrev pub IsSafeRun : List (List ℕ) → List ℕ → Type 0
 IsSafeRun words bytes = (w : Work) (run : Recorded) → IsTask words bytes w → IsOn (course_of w) run → IsSafeState run.state
 
 -- ---- commands
 
--- a job that a command turn begins: it has the next number, joins the unended ones, and takes the leases of its
--- command's list; a recovery and a takeover begin with their entry in the audit, which is kept; a plan's job that fails
--- since its waits are spent spent them all last
+-- A job that a command turn begins: it has the next number, joins the unended ones, and takes the leases of its
+-- command's list. A recovery and a takeover begin with their entry in the audit, which is kept. A plan's job that fails
+-- because its waits are spent spent them all last.
 pub record Begins (rows : List Row) (s : State) (c : CommandTurn) (job : ℕ) : Type 0 where
   pub begun : BegunJob
   pub is_begun : begun_of s c.command ≡ Some begun
@@ -68,9 +71,9 @@ pub record Begins (rows : List Row) (s : State) (c : CommandTurn) (job : ℕ) : 
   pub kept : changes_of rows s (turn.Act (act.Command c)) ≡ entry_kept begun.entry
   pub waits : SpendsWaitsLast begun.job
 
--- a command turn is refused exactly with the refusal of the permission table, else it begins its job or is done; that
--- refusal is what one of its checks refuses, and none of them refuses with a lower number; a refused one changes
--- nothing, and no kept row
+-- A command turn is refused exactly with the refusal of the permission table, else it begins its job or is done. That
+-- refusal is what one of its checks refuses, and none of them refuses with a lower number. A refused one changes
+-- nothing, and no kept row.
 pub record Obeys (rows : List Row) (s : State) (c : CommandTurn) : Type 0 where
   pub answer : IsAnswer (route_of c.command.name) (refusal_at s c.command) (reply_of s (turn.Act (act.Command c)))
   pub lowest : RefusedByLowest s c.command
@@ -84,26 +87,27 @@ ObeysTable words bytes = (w : Work) (run : Recorded) (rows : List Row) (c : Comm
 
 -- ---- recoveries that begin
 
--- a scan tells of each of its tries by the permission table; what begins joins the unended jobs, takes its leases, and
--- its entries are kept
+-- a scan answers for each of its tries by the permission table; what begins joins the unended jobs, takes its leases,
+-- and its entries are kept
 pub record Scans (rows : List Row) (s : State) : Type 0 where
   pub tries : TriesByTable s
   pub joins : (step rows s (turn.Act act.Scan)).jobs ≡ s.jobs ++ map recovery_job (recoveries_scanned s)
   pub leases : (step rows s (turn.Act act.Scan)).book.leases ≡ leases_after s.book.leases (recoveries_scanned s)
   pub kept : changes_of rows s (turn.Act act.Scan) ≡ entries_put (recoveries_scanned s)
 
--- by the rows that are kept behind the run's turns a restart keeps all, while the ids of recoveries fit their type
+-- by the rows that are kept after the run's turns a restart keeps all, while the ids of recoveries fit their type
 abbrev pub OwnRestartKeepsAll : Work → State → Type 0
 OwnRestartKeepsAll w s = (old new : List Row) → w.old ≡ Some old → w.new ≡ Some new → IsRising old → s.audit.next ≤ 2 ^ 64
     → (step new s (turn.Act act.Restart)).audit ≡ closed s.audit (interrupted_at new s)
 
--- Each recovery that a turn begins, by a command or by a scan, is apart: of its cluster, with those that the turn began
--- before it, each is ended, and is acknowledged or began at least its own block period ago. It has its cluster's
--- period. It was asked for in the turn, and its entry tells what it is about. But for a restart, which loads the kept
--- rows, a turn adds no other recovery, and makes of each that there was what its own job or an acknowledgement of its
--- cluster makes of it, and else nothing; and a restart by the rows that keep all keeps each, with those ended as
--- interrupted that aren't ended. Where the keeper tells its rows, the run's own ones are such. A scan's tries go
--- by the permission table.
+-- Each recovery that a turn begins, by a command or by a scan, doesn't overlap with others. Look at those of its
+-- cluster, with those that the turn began before it: each is ended, and is acknowledged or began at least its own block
+-- period ago. It has its cluster's period. It was asked for in the turn, and its entry has what it is about.
+--
+-- Except for a restart, which loads the kept rows, a turn adds no other recovery. Each that was there changes by its
+-- own job or an acknowledgement of its cluster, and by nothing else. A restart by the rows that keep all keeps each,
+-- with those ended as interrupted that aren't ended. If the row store's rows are known, the run's own ones are such. A
+-- scan's tries go by the permission table.
 pub record BeginsApart (w : Work) (rows : List Row) (s : State) (t : Turn) : Type 0 where
   pub apart : BeginApartInTurn (moment_at s) s.audit (entries_begun s t)
   pub periods : All (λ r. r.block ≡ period_of w.scenario r.cluster) (entries_begun s t)
@@ -119,18 +123,19 @@ BeginApart words bytes = (w : Work) (run : Recorded) (rows : List Row) (t : Turn
 
 -- ---- several orchestrators
 
--- by the rows that are kept behind the run's turns, while the ids of recoveries fit their type
+-- by the rows that are kept after the run's turns, while the ids of recoveries fit their type
 abbrev pub OwnClaimRow : Work → State → Type 0
 OwnClaimRow w s = (old new : List Row) → w.old ≡ Some old → w.new ≡ Some new → IsRising old → s.audit.next ≤ 2 ^ 64
     → IsClaimRow (length w.scenario.opening.servers) (row_in new claim_key) s.claims.kept
 
 -- At most one of them is active, and the kept claim is then its own. Each of their turns that doesn't lapse is the
--- active one's, and one that lapsed does nothing. No claim is granted before another's has run out, and where one
--- passes orchestrator starts again, so that no job is left, and the jobs of all later states were begun since. Where
--- the keeper tells its rows, the claim's row is the kept claim's. A turn of one that remembers that it is active answers,
--- keeps and does what the same turn without several orchestrators does; a lapsed one keeps nothing. A claim that passes
--- is the restart and the claim, one of the node that held the last is the claim alone, each lasts 60 seconds, and one
--- that is taken changes nothing.
+-- active one's, and one that lapsed does nothing. No claim is granted before another's has run out. If one passes,
+-- orchestrator starts again, so that no job is left, and the jobs of all later states were begun after that. If the row
+-- store's rows are known, the claim's row is the kept claim's.
+--
+-- A turn of one that remembers that it is active answers, keeps and does what the same turn without several
+-- orchestrators does. A lapsed one keeps nothing. A claim that passes is the restart and the claim. One of the node
+-- that had the last is the claim alone. Each lasts 60 seconds, and one that is taken changes nothing.
 pub record IsActiveAlone (w : Work) (s : State) : Type 0 where
   pub one : OneIsActive s
   pub kept : ItsClaimIsKept s
@@ -159,7 +164,7 @@ pub record IsInTurns (w : Work) (run : Recorded) (ts : List Turn) : Type 0 where
   pub at : IsOnTurns (course_of w) run
   pub are : ts ≡ take at.k w.scenario.turns
 
--- or all of these and some of the command's own behind them
+-- or all of these and some of the command's own after them
 pub record IsInOwn (w : Work) (run : Recorded) (ts : List Turn) : Type 0 where
   pub at : IsOnOwn (course_of w) run
   pub are : ts ≡ w.scenario.turns ++ at.ts
@@ -174,8 +179,8 @@ pub record Through (s : Scenario) (wait : ℕ) (ts : List Turn) (now : State) : 
   pub turns : turns_of xs ≡ ts
   pub state : now ≡ run_turns engine (start s wait rows) xs
 
--- by whatever rows they lead there, the turn in which a recovery is done leaves nothing owed to its replicas, which are
--- those that the book had attached to the failed server when it began in one of the turns so far
+-- By whatever rows they lead there, the turn in which a recovery is done leaves nothing owed to its replicas. These are
+-- the ones that the book had attached to the failed server when it began in one of the turns so far.
 pub record Finishes (w : Work) (ts : List Turn) (rows : List Row) (s : State) (id : ℕ) (r : Recovery) (docket : Docket) (lines : List Line) : Type 0 where
   pub through : Through w.scenario w.task.waits ts s
   pub well : (by : Through w.scenario w.task.waits ts s) → FinishesWell (length w.scenario.opening.servers) (start w.scenario w.task.waits by.rows) by.xs rows s id r docket lines
@@ -187,10 +192,10 @@ FinishWell words bytes = (w : Work) (run : Recorded) (ts : List Turn) (rows : Li
 
 -- ---- why replicas are lost, and who is chosen
 
--- The reasons of those that a recovery in flight has lost after its next turn, whether it goes on, is done or fails,
--- and what it drained, whom it chose and among whom, and whom it promoted, are facts that were true of the servers and
--- the book in one of its turns, from the one on in which it began: where each that was true counts, all of them count.
--- So it is by whatever rows the turns lead there.
+-- The facts of an unended recovery after its next turn, whether it goes on, is done or fails. They are the reasons of
+-- those that it has lost, what it drained, whom it chose and among whom, and whom it promoted. They were true of the
+-- servers and the book in one of its turns, from the one on in which it began. If each that was true counts, all of
+-- them count. So it is by whatever rows the turns lead there.
 pub record TellsTruly (w : Work) (ts : List Turn) (s : State) (id : ℕ) (r : Recovery) (docket : Docket) : Type 0 where
   pub through : Through w.scenario w.task.waits ts s
   pub began : (by : Through w.scenario w.task.waits ts s) → Began (start w.scenario w.task.waits by.rows) by.xs r docket
@@ -203,12 +208,14 @@ TellTruly words bytes = (w : Work) (run : Recorded) (ts : List Turn) (id : ℕ) 
 
 -- ---- hooks
 
--- A recovery in flight that began by a command or by a scan has the scenario's hooks, which were told of its failed
--- server when it began; a takeover and a regroup have none. The turn in which it is done tells, behind its own lines,
--- those of all hooks before it, up to the first with another exit than 0, and of all behind it; the turn in which it
--- fails those before it, none where its failed server was reached, which is why it fails, and of all that run then.
--- Until all have run that are to before it, no turn of it changes a server, whatever rows the keeper hands back: so
--- none has where one of these ended it. So it is by whatever rows the turns lead there.
+-- An unended recovery that began by a command or by a scan has the scenario's hooks, which got its failed server when
+-- it began. A takeover and a regroup have none. The turn in which it is done has, after its own lines, those of the
+-- hooks. These are all hooks before it, up to the first with another exit than 0, and all after it. The turn in which
+-- it fails has those before it, and of all that run then. It has none if its failed server was reached, which is why it
+-- fails.
+--
+-- Until all have run that are to before it, no turn of it changes a server, whatever rows the row store hands back. So
+-- none has if one of these ended it. So it is by whatever rows the turns lead there.
 pub record TellsHooks (w : Work) (ts : List Turn) (rows : List Row) (s : State) (id : ℕ) (r : Recovery) (docket : Docket) : Type 0 where
   pub through : Through w.scenario w.task.waits ts s
   pub own : (h : HookState) → docket.hooks ≡ Some h → AreScenarios w.scenario h
@@ -224,7 +231,7 @@ TellHooks words bytes = (w : Work) (run : Recorded) (ts : List Turn) (rows : Lis
 
 -- ---- how recoveries begin their work
 
--- The first turn of a recovery in flight looks at its failed server; what it answers, and what the hooks before it
+-- The first turn of an unended recovery looks at its failed server. What it answers, and what the hooks before it
 -- answer, is so by the servers as they are then. So it is by whatever rows the turns lead there.
 pub record LooksFirstIn (w : Work) (ts : List Turn) (s : State) (id : ℕ) (r : Recovery) (docket : Docket) : Type 0 where
   pub through : Through w.scenario w.task.waits ts s
@@ -237,8 +244,8 @@ LookFirst words bytes = (w : Work) (run : Recorded) (ts : List Turn) (id : ℕ) 
 
 -- ---- time, waits and numbers
 
--- Only a tick lets time pass, and no recovery is of a later moment; the numbers of jobs rise; and each operation of each
--- job may wait as often as the command line says, from its beginning on.
+-- Only a tick lets time pass, and no recovery is of a later moment. The numbers of jobs rise. Each operation of each
+-- job may wait as often as the command line allows, from its start on.
 pub record KeepsTime (w : Work) (s : State) : Type 0 where
   pub time : (t : Turn) → PassesTime s t
   pub past : NothingIsToCome s

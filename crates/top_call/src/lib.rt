@@ -1,4 +1,4 @@
-//! The call that does all that the words of the command line ask with a scenario, but for a run in threads.
+//! The call that does all that the command line asks with a scenario, except for a run in threads.
 #![tactic(auto)]
 
 mod fault;

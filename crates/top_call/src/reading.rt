@@ -12,7 +12,7 @@ use std::alloc::Global;
 /// Why there is no scenario.
 #[derive(Drop)]
 pub enum Stop {
-    /// Want of memory.
+    /// Out of memory.
     Memory,
     /// The source failed.
     Source,
@@ -20,7 +20,7 @@ pub enum Stop {
     Fault(Fault),
 }
 
-/// What stops where reading has this fault.
+/// What stops if reading has this fault.
 pub fn stop_by(fault: ReadFault) -> Stop
     ensures { result ≡ stop_by fault }
 {

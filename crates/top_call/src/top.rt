@@ -1,4 +1,4 @@
-//! The call that does what the words ask, but for a run in threads.
+//! The call that does what the command line asks, except for a run in threads.
 
 ghost use Rattle.std.specs.Prelude.{◌≡◌, ◌≤◌, ◌⊎◌, ℕ, List, [], codes, map, IfSome, Option, Some};
 ghost use Rattle.top_call.specs.Prelude.{AskOfRead, Consumes, Drawing, HasKeepersCause, IsDrawn, IsScenario, IsTaken, Rose};
@@ -34,7 +34,7 @@ pub fn close<E: Sink>(err: &mut E, line: &[u8])
     }
 }
 
-// Does what the words ask with the scenario, and writes the report.
+// Does what the command line asks with the scenario, and writes the report.
 fn told<O: Sink, E: Sink, K: Keeper>(
     alloc: Global,
     places: &Places,
@@ -67,7 +67,7 @@ fn told<O: Sink, E: Sink, K: Keeper>(
     task_report(alloc, &task, &names, scenario, out, err, keeper)
 }
 
-// Does what the words ask with the scenario.
+// Does what the command line asks with the scenario.
 fn report<O: Sink, E: Sink, K: Keeper>(
     alloc: Global,
     places: &Places,
@@ -127,7 +127,7 @@ pub fn close_fault<E: Sink>(alloc: Global, err: &mut E, fault: &Fault) -> Way
     }
 }
 
-// Answers words that are taken and ask of a scenario that is read.
+// Answers an accepted command line that asks something of a scenario that is read.
 fn answer<S: Source, O: Sink, E: Sink, K: Keeper>(
     alloc: Global,
     places: &Places,
@@ -186,7 +186,7 @@ fn draw<O: Sink, E: Sink>(alloc: Global, drawing: Drawing, out: &mut O, err: &mu
     }
 }
 
-// Does what words ask that are taken.
+// Does what an accepted command line asks.
 fn respond<S: Source, O: Sink, E: Sink, K: Keeper>(
     alloc: Global,
     places: &Places,
@@ -221,25 +221,26 @@ fn respond<S: Source, O: Sink, E: Sink, K: Keeper>(
     }
 }
 
-/// Does what the words ask with the scenario that the source has, writes the report on out and what went wrong on err,
-/// and answers the program's status. What orchestrator knows is kept by the keeper: the run begins with its rows, and
-/// each change is kept before it is made. Words that ask to draw a scenario have it written on out; neither the source
-/// nor the keeper is called for them. It waits for no other thread: what words ask that name `live` it does as of
-/// `run`.
+/// Does what the command line asks with the scenario that the source has. Writes the report on out and what went wrong
+/// on err, and answers the program's status.
+///
+/// What orchestrator knows is in the row store: the run begins with its rows, and each change is kept before it is
+/// made. If the command line asks to draw a scenario, that is written on out, and neither the source nor the row store
+/// is called. It waits for no other thread: a command line with `live` is done as one with `run`. The status is:
 ///
 /// - 0: the report is written, and no reply in it is refused or failed; or a run's summary is, or a scenario that was
 /// drawn.
-/// - 1: the words aren't taken; `usage` on err.
+/// - 1: the command line isn't accepted; `usage` on err.
 /// - 2: the scenario has a fault; `scenario fault CODE NAME PATH` on err.
 /// - 3: the source failed; `read fault` on err.
-/// - 4: a sink failed that was to take the report, err before out; all turns were taken, or the keeper failed, too;
-/// `write fault`   on err.
-/// - 5: the keeper failed; out took the replies of a run before that turn, which changed nothing; `keeper fault` on
-/// err.
-/// - 6: want of memory; out took a front of a run's replies, or of what is drawn; `out of memory` on err.
+/// - 4: a sink failed that was to take the report, err before out; all turns were taken, or the row store failed, too;
+///   `write fault` on err.
+/// - 5: the row store failed; out took the replies of a run before that turn, which changed nothing; `keeper fault` on
+///   err.
+/// - 6: out of memory; out took a prefix of a run's replies, or of what is drawn; `out of memory` on err.
 /// - 7: the report is written, and a reply in it is refused or failed; of a single command that reply is on err.
 ///
-/// Elsewhere than at 4, where err fails it has a front of its line, and the status is the same.
+/// If err fails in any other case than 4, it has a prefix of its line, and the status is the same.
 pub fn orch_plain<S: Source, O: Sink, E: Sink, K: Keeper>(
     alloc: Global,
     words: &[Vec<u8>],
@@ -248,13 +249,13 @@ pub fn orch_plain<S: Source, O: Sink, E: Sink, K: Keeper>(
     err: &mut E,
     keeper: &mut K,
 ) -> u8
-    // 1 exactly where the words aren't taken, and 2 exactly where they are, ask of a scenario that is read, and it has
-    // a fault, but for 3 and 6.
+    // 1 exactly if the command line isn't accepted. 2 exactly if it is, asks something of a scenario that is read, and
+    // that has a fault. Except for 3 and 6.
     ensures usage { IsUsage (map (λ w. w.items) words.now) result }
     ensures fault { FaultsOf (map (λ w. w.items) words.now) (S.left scenario.old) result }
 
-    // 3, 4 and 5 only where a count of faults rose, 5 only where the keeper's rose in its last call, and 0 and 7 only
-    // where it didn't, and where the source was read to its end, or the words ask to draw a scenario.
+    // 3, 4 and 5 only if a count of faults rose, 5 only if the row store's rose in its last call. 0 and 7 only if it
+    // didn't, and if the source was read to its end, or the command line asks to draw a scenario.
     ensures source { result ≡ 3 → Rose (S.faults scenario.old) (S.faults scenario.new) }
     ensures sink { result ≡ 4 → Rose (O.faults out.old) (O.faults out.new)
         ⊎ Rose (E.faults err.old) (E.faults err.new) }
@@ -262,7 +263,7 @@ pub fn orch_plain<S: Source, O: Sink, E: Sink, K: Keeper>(
     ensures read { IfSome (S.left scenario.old) (λ bytes. ReadsWhole
         (map (λ w. w.items) words.now) bytes result (S.left scenario.old) (S.left scenario.new)) }
 
-    // Where they do, it is written, whatever the source has; neither the source nor the keeper is called.
+    // If it does, that is written, whatever the source has. Neither the source nor the row store is called.
     ensures drawn { (d : Drawing) → AskToDraw (map (λ w. w.items) words.now) d
         → DrawEnds d result
         (across (O.written out.old) (O.faults out.old) (O.written out.new) (O.faults out.new))
@@ -272,16 +273,16 @@ pub fn orch_plain<S: Source, O: Sink, E: Sink, K: Keeper>(
     ensures unkept { (d : Drawing) → AskToDraw (map (λ w. w.items) words.now) d
         → keeper.new ≡ keeper.old }
 
-    // What out and err took and what the keeper has, by the status: exactly, whether the keeper tells its rows or not,
-    // and of the bytes that were read, whether the source tells them or not.
+    // What out and err took and what the row store has, by the status: exactly, whether the row store's rows are known
+    // or not. It is about the source's bytes if they are known. Else it is about some bytes.
     ensures ends { OfRead (S.left scenario.old) (λ bytes.
         EndsBy (call (map (λ w. w.items) words.now) bytes (K.kept keeper.old) (K.kept keeper.new)
         (across (O.written out.old) (O.faults out.old) (O.written out.new) (O.faults out.new))
         (across (E.written err.old) (E.faults err.old) (E.written err.new) (E.faults err.new)))
         result) }
 
-    // Where the keeper tells its rows, all of it against the report, which is a function of the words, the bytes and
-    // the rows: the status, what out and err took, and the rows that are kept.
+    // If the row store's rows are known, all of it against the report. The report is a function of the arguments, the
+    // bytes and the rows. That is the status, what out and err took, and the rows that are kept.
     ensures status { ByReport (map (λ w. w.items) words.now) (S.left scenario.old)
         (K.kept keeper.old) (λ rows r. EndsAs r result) }
     ensures out { ByReport (map (λ w. w.items) words.now) (S.left scenario.old) (K.kept keeper.old)
@@ -293,7 +294,7 @@ pub fn orch_plain<S: Source, O: Sink, E: Sink, K: Keeper>(
     ensures kept { ByReport (map (λ w. w.items) words.now) (S.left scenario.old) (K.kept keeper.old)
         (λ rows r. KeepsRows r result rows (K.kept keeper.new)) }
 
-    // Where no count rose, the whole report of good words and bytes is written, or memory ran out.
+    // If no count rose, the whole report of a good command line and good bytes is written, or memory ran out.
     ensures complete { IfSome (S.left scenario.old) (λ bytes.
         IsGood (map (λ w. w.items) words.now) bytes
         → NoneRose (S.faults scenario.old) (S.faults scenario.new) (K.faults keeper.old)
@@ -302,8 +303,9 @@ pub fn orch_plain<S: Source, O: Sink, E: Sink, K: Keeper>(
         (across (E.written err.old) (E.faults err.old) (E.written err.new) (E.faults err.new))
         → IsComplete result) }
 
-    // Whatever bytes the source has, also where it doesn't tell them: what is promised of every run of the words'
-    // turns over the scenario that they are, of the report's too, whatever rows the keeper hands back.
+    // Whatever bytes the source has, even if they aren't known. This is what is promised for every run of the command
+    // line's turns over the scenario that they are. It holds for the report's run too, whatever rows the row store
+    // hands back.
     ensures promises { (bytes : List ℕ) → Promises (map (λ w. w.items) words.now) bytes }
 {
     match places(alloc, words) {

@@ -10,7 +10,7 @@ pub enum Way {
     Reported(bool),
     /// A scenario is drawn and written.
     Drawn,
-    /// The words aren't taken.
+    /// The command line isn't accepted.
     Usage,
     /// The scenario has a fault.
     Fault,
@@ -18,9 +18,9 @@ pub enum Way {
     Source,
     /// A sink failed that was to take the report.
     Sink,
-    /// The keeper failed.
+    /// The row store failed.
     Keeper,
-    /// Want of memory.
+    /// Out of memory.
     Memory,
 }
 

@@ -1,4 +1,4 @@
-//! Calls of `orch` over objects in memory, and the rows of a keeper as data.
+//! Calls of `orch` over objects in memory, and the rows of a row store as data.
 
 use crate::binlog_coords_items::Coord;
 use crate::gtid_sets::GtidSet;
@@ -12,12 +12,12 @@ use std::alloc::Global;
 use std::test::Fail;
 use top_call::orch_plain;
 
-/// The words of a command line.
+/// The arguments of a command line.
 pub(crate) type Words = &'static [&'static [u8]];
 
 pub(crate) const RUN: Words = &[b"orch", b"-c", b"run"];
 
-/// The calls of the source, of out and of the keeper that fail, from 1 (0: none), and the room of out and of err.
+/// The calls of the source, of out and of the row store that fail, from 1 (0: none), and the room of out and of err.
 #[derive(Clone, Copy)]
 pub(crate) struct Objects {
     pub(crate) source_fails: u64,
@@ -36,18 +36,18 @@ pub(crate) const WHOLE: Objects = Objects {
     err_room: 100,
 };
 
-/// A row of a keeper.
+/// A row of a row store.
 #[derive(Clone, Copy)]
 pub(crate) enum Kept {
-    /// Of a server without transactions and without a source, the number and the moment of its reading.
+    /// The number and the moment of the reading of a server without transactions and without a source.
     Instance(u32, u64, u64),
     /// A downtime of the first server, from one moment to another.
     Downtime(u64, u64),
     /// A registration of the second server, and its end.
     Candidate(Rule, u64),
-    /// A recovery of the master m, its begin and, where the second server was promoted, its end.
+    /// A recovery of the master m, its begin and, if the second server was promoted, its end.
     Recovery(u64, u64, Option<u64>),
-    /// Recovery 1 of the master m, begun at 0 and unended, as a row without a block period tells it.
+    /// Recovery 1 of the master m, begun at 0 and unended, as a row without a block period has it.
     Unblocked,
     /// The same, interrupted at 0, with a block period.
     Interrupted(u64),
@@ -72,7 +72,7 @@ impl Told {
         self.status
     }
 
-    /// Whether the keeper failed.
+    /// Whether the row store failed.
     pub(crate) fn is_cut(&self) -> bool {
         self.status == 5 && self.err.written() == b"keeper fault\n".as_slice()
     }
@@ -184,7 +184,7 @@ fn stand_in_order(rows: &[Row], wanted: &[Row]) -> bool {
     wanted.iter().all(|row| rest.any(|kept| kept.is_same(row)))
 }
 
-/// Whether the keeper has so many rows, these among them in their order.
+/// Whether the row store has so many rows, these among them in their order.
 pub(crate) fn keeps(
     alloc: Global,
     keeper: &mut MemKeeper,
@@ -217,7 +217,7 @@ fn sink_of(alloc: Global, room: usize, fails: u64) -> Result<MemSink, Fail> {
     Ok(MemSink::new(alloc, room, vec![in alloc; fails]?)?)
 }
 
-// The status of a call. What the call's contract says ends here, so that the proof of a test carries none of it.
+// The status of a call. What the call's contract has ends here, so that the proof of a test carries none of it.
 fn status_of<K: Keeper>(
     alloc: Global,
     words: &[Vec<u8>],
@@ -241,7 +241,7 @@ pub(crate) fn call(
     call_by(alloc, &words, text, objects, keeper)
 }
 
-/// Calls `orch` by these words.
+/// Calls `orch` with this command line.
 pub(crate) fn call_by<K: Keeper>(
     alloc: Global,
     words: &[Vec<u8>],

@@ -1,12 +1,13 @@
-//! Runs whose keeper fails at each of its calls in turn, and runs with a restart behind each of their turns.
+//! Runs whose row store fails at each of its calls in turn, and runs with a restart after each of their turns.
 
 use crate::calls::{Objects, RUN, Told, WHOLE, Words, call, keeper_of};
 use crate::instance_keeper_items::{Keeper, Row};
 use std::alloc::Global;
 use std::test::Fail;
 
-// What is asked over a scenario's servers and turns, and whether it is a run. The same as single turns of a run: those
-// before the last command, the command, and so many rounds of its job; how many calls of the keeper all of it makes.
+// What is asked over a scenario's servers and turns, and whether it is a run. Also the same as single turns of a run:
+// those before the last command, the command, and so many rounds of its job. Last how many calls of the row store all
+// of it makes.
 #[derive(Clone, Copy)]
 struct Course {
     words: Words,
@@ -160,10 +161,10 @@ const LARGE: Objects = Objects {
     ..WHOLE
 };
 
-// Behind no turn.
+// After no turn.
 const NOWHERE: usize = usize::MAX;
 
-// The single turns of a course.
+// The single turns of such a story.
 fn turns_of(alloc: Global, course: Course) -> Result<Vec<&'static str>, Fail> {
     let mut turns = Vec::new(alloc);
     turns.extend_from_slice(course.each)?;
@@ -174,7 +175,7 @@ fn turns_of(alloc: Global, course: Course) -> Result<Vec<&'static str>, Fail> {
     Ok(turns)
 }
 
-// Adds the turn of this index, and before it a restart where that stands behind so many turns.
+// Adds the turn of this index, and before it a restart if that is after so many turns.
 fn add_turn(text: &mut String, at: usize, restart: usize, turn: &str) -> Result<(), Fail> {
     if at > 0 {
         text.push_str(",")?;
@@ -185,7 +186,7 @@ fn add_turn(text: &mut String, at: usize, restart: usize, turn: &str) -> Result<
     Ok(text.push_str(turn)?)
 }
 
-// A scenario of these servers and turns, and of a restart behind so many of them.
+// A scenario of these servers and turns, and of a restart after so many of them.
 fn text_of(alloc: Global, servers: &str, turns: &[&str], restart: usize) -> Result<String, Fail> {
     let mut text = String::from_str(alloc, servers)?;
     for (at, turn) in turns.iter().enumerate() {
@@ -195,7 +196,7 @@ fn text_of(alloc: Global, servers: &str, turns: &[&str], restart: usize) -> Resu
     Ok(text)
 }
 
-// A run over no rows: its words, its scenario, and the call of its keeper that fails.
+// A run over no rows: its command line, its scenario, and the call of its row store that fails.
 #[derive(Clone, Copy)]
 struct Asked<'a> {
     words: Words,
@@ -208,13 +209,13 @@ struct Asked<'a> {
 // How a run ended.
 #[derive(Clone, Copy)]
 struct End {
-    // Whether the keeper failed, and once.
+    // Whether the row store failed, and once.
     stopped: bool,
-    // How many turns' lines out took, where that is a front of the wanted text that ends with a whole turn's lines.
+    // How many turns' lines out took, if that is a prefix of the wanted text that ends with a whole turn's lines.
     taken: Option<usize>,
     // Whether out ends with the wanted text.
     ends: bool,
-    // Whether the keeper has the rows that the one of the run before had.
+    // Whether the row store has the rows that the one of the run before had.
     same: bool,
 }
 
@@ -224,7 +225,7 @@ impl End {
     }
 }
 
-// How many turns have lines in the front of a report.
+// How many turns have lines in the prefix of a report.
 fn turns_in(front: &[u8]) -> usize {
     let mut turns = 0_usize;
     let mut begins = true;
@@ -237,7 +238,7 @@ fn turns_in(front: &[u8]) -> usize {
     turns
 }
 
-// The same, where it is a front of this report, in which the lines of one more turn come behind it.
+// The same, if it is a prefix of this report, in which the lines of one more turn come after it.
 fn taken_in(front: &[u8], report: &[u8]) -> Option<usize> {
     let is_whole = front.is_empty() || front.ends_with(b"\n".as_slice());
     let goes_on = match report.get(front.len()) {
@@ -267,7 +268,7 @@ fn end_of(told: &Told, faults: u64, wanted: &[u8], same: bool) -> End {
     }
 }
 
-// What these words answer of this scenario. The rows become those of the keeper.
+// What this command line answers for this scenario. The rows become those of the row store.
 fn over(
     alloc: Global,
     (words, text, fails): (Words, &str, u64),
@@ -298,9 +299,9 @@ fn first<'a>(turns: &'a [&'static str], count: usize) -> &'a [&'static str] {
     turns.get(..count).unwrap_or(turns)
 }
 
-// Whether a course, as single turns and as it is asked, stops at this call of the keeper before the turn that makes it:
-// with a front of its report, which is empty where a command is asked, and the rows of the turns before. The first two
-// calls are those before any turn: nothing is kept where one of them fails.
+// Whether a story, as single turns and as it is asked, stops at this call of the row store before the turn that makes
+// it. Then it has a prefix of its report, which is empty if a command is asked, and the rows of the turns before. The
+// first two calls are those before any turn: nothing is kept if one of them fails.
 fn stops_well(
     alloc: Global,
     course: Course,
@@ -342,7 +343,7 @@ fn stops_well(
     )
 }
 
-// What these words answer of these turns with a keeper that fails behind the last call of the course.
+// What this command line answers for these turns with a row store that fails after the last call of the story.
 fn whole_of(
     alloc: Global,
     course: Course,
@@ -354,7 +355,7 @@ fn whole_of(
     call(alloc, words, text.as_bytes(), LARGE, &mut keeper)
 }
 
-// The last call at which a course doesn't stop as it must, or the call behind those that it makes, where it makes that.
+// The last call at which a story doesn't stop as it must. Or the call after those that it makes, if it makes that.
 fn wrong_call(alloc: Global, course: Course) -> Result<Option<u64>, Fail> {
     let turns = turns_of(alloc, course)?;
     let whole = whole_of(alloc, course, RUN, &turns)?;
@@ -368,7 +369,7 @@ fn wrong_call(alloc: Global, course: Course) -> Result<Option<u64>, Fail> {
     Ok(wrong)
 }
 
-// The status of a course as it is asked.
+// The status of a story as it is asked.
 fn status_of(alloc: Global, course: Course) -> Result<u8, Fail> {
     Ok(whole_of(alloc, course, course.words, &[course.turns])?.status())
 }
@@ -406,12 +407,12 @@ fn each_call_fails_in_a_takeover(rt: HostRuntime) -> Result<(), Fail> {
     Ok(())
 }
 
-// From so many turns before the restart on, how the tables end. The command is given again behind all turns.
+// From so many turns before the restart on, how the tables end. The command is given again after all turns.
 type Ends = &'static [(usize, &'static str)];
 
 // A restart before the command costs the bridges, by which the preferred replica would follow and take the place, and a
-// reading that isn't stored: the book then shows no dead master, and only the command behind all turns begins. Within
-// the recovery it interrupts it. Behind that, as behind a recovery that is done, the command begins no second one.
+// reading that isn't stored. The book then has no dead master, and only the command after all turns begins. Within the
+// recovery it interrupts it. After that, as after a recovery that is done, the command begins no second one.
 const RESTARTED_RECOVERY: Ends = &[
     (0, PROMOTED_FIRST),
     (4, OPEN),
@@ -462,7 +463,7 @@ fn end_at(ends: Ends, restart: usize) -> &'static str {
     end
 }
 
-// The last number of turns behind which a restart doesn't lead to its end.
+// The last number of turns after which a restart doesn't lead to its end.
 fn wrong_restart(alloc: Global, course: Course, ends: Ends) -> Result<Option<usize>, Fail> {
     let mut turns = turns_of(alloc, course)?;
     turns.push(course.command)?;

@@ -8,7 +8,7 @@ use std::alloc::Global;
 use std::test::Fail;
 
 /// A call: the command line, the scenario, what out and err take, and the status. In what out takes a line of two dots
-/// stands for any lines, and two dots at the end of a line for what is left of it.
+/// is any lines, and two dots at the end of a line are what is left of it.
 #[derive(Clone, Copy)]
 pub(crate) struct Example {
     pub(crate) arguments: &'static str,
@@ -22,7 +22,7 @@ const ANY: &str = "..";
 
 const REST: &str = " ..";
 
-/// The words of a command line.
+/// The arguments of a command line.
 pub(crate) fn words_in(alloc: Global, arguments: &str) -> Result<Vec<Vec<u8>>, Fail> {
     let mut words = Vec::new(alloc);
     for word in arguments.split(' ') {

@@ -1,4 +1,4 @@
-//! Sources, sinks and keepers that fail at one of their calls.
+//! Sources, sinks and row stores that fail at one of their calls.
 
 use crate::calls::{Kept, Objects, RUN, Told, WHOLE, Words, call, keeper_of, keeps};
 use crate::orch_base::MAX_SCENARIO_LEN;
@@ -123,8 +123,8 @@ fn over_no_rows(alloc: Global, words: Words, text: &[u8], objects: Objects) -> R
 fn words_sources_and_sinks(rt: HostRuntime) -> Result<(), Fail> {
     let alloc = rt.alloc();
     let forget: Words = &[b"orch", b"-c", b"forget", b"-i", b"z", b"--tables"];
-    // The words and the scenario, the calls of the source and of out that fail, the room of out and of err; the status,
-    // and what out and err took.
+    // The command line and the scenario, the calls of the source and of out that fail, and the room of out and of err.
+    // Then the status, and what out and err took.
     let cases: [(Words, &str, [u64; 2], [usize; 2], (u8, &str, &str)); 11] = [
         (&[], ALONE, [0, 0], [100, 100], (1, "", "usage\n")),
         (&[b"orch"], ALONE, [0, 0], [100, 100], (1, "", "usage\n")),
@@ -194,8 +194,8 @@ fn words_sources_and_sinks(rt: HostRuntime) -> Result<(), Fail> {
     Ok(())
 }
 
-// What these words answer over these rows, the keeper of which fails at this call; and whether the keeper then has so
-// many rows, these among them.
+// What this command line answers over these rows, the row store of which fails at this call. Also whether the row store
+// then has so many rows, these among them.
 fn over_rows(
     alloc: Global,
     words: Words,
@@ -216,9 +216,9 @@ fn keepers(rt: HostRuntime) -> Result<(), Fail> {
     let master: &[Kept] = &[Kept::Instance(0, 0, 0)];
     let both: &[Kept] = &[Kept::Instance(0, 0, 0), Kept::Instance(1, 0, 0)];
     let fault = "keeper fault\n";
-    // The scenario, the rows, the call of the keeper that fails (the first asks for the rows, the second keeps what the
-    // opening changes), the room of out; the status, what out and err took, how many rows are kept then, and some of
-    // them.
+    // The scenario, the rows, the call of the row store that fails (the first asks for the rows, the second keeps what
+    // the opening changes), and the room of out. Then the status, what out and err took, how many rows are kept then,
+    // and some of them.
     let cases: [(
         &str,
         &[Kept],
@@ -298,8 +298,8 @@ fn summaries_dumps_and_drawings(rt: HostRuntime) -> Result<(), Fail> {
     let loaded = "turns 0 refused 0 failed 0\nexecuted 0\nrecoveries 1\nerrant 0\n";
     let wanting = "write fault\n";
     let not_quiet = "refused 29 NotQuiet 1\n";
-    // The words, the scenario and the rows; the calls of the source, of out and of the keeper that fail, and the room
-    // of out; the status, what out and err took, and how many rows are kept then.
+    // The command line, the scenario and the rows; the calls of the source, of out and of the row store that fail, and
+    // the room of out. Then the status, what out and err took, and how many rows are kept then.
     let cases: [(
         Words,
         &str,

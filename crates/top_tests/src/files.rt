@@ -16,7 +16,7 @@ const FILE: &str = "top_tests_rows/rows";
 const STILL: &str =
     r#"{"version":1,"servers":[{"name":"m","history":[["m",100,1]]},{"name":"a","source":"m","executed":1}]}"#;
 
-// A call over the file, which is opened anew and closed behind it.
+// A call over the file, which is opened anew and closed after it.
 fn over_file(rt: &HostRuntime, arguments: &str, text: &str) -> Result<Told, Fail> {
     let alloc = rt.alloc();
     let words = words_in(alloc, arguments)?;

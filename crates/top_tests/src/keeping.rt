@@ -1,11 +1,11 @@
-//! Rows that the keeper has before a call, by which the run begins.
+//! Rows that the row store has before a call, by which the run begins.
 
 use crate::calls::{Kept, RUN, WHOLE, Words, call, keeper_of, keeps};
 use crate::orch_base::Rule;
 use std::alloc::Global;
 use std::test::Fail;
 
-// A replica that the book lacks, a slot that a restart empties, and read numbers that go on behind it.
+// A replica that the book lacks, a slot that a restart empties, and read numbers that go on after it.
 const UNKNOWN: &str =
     "{\"version\":1,\"servers\":[{\"name\":\"m\"},{\"name\":\"r\",\"source\":\"m\",\"known\":false}],\"turns\":[[\"poll-read\",1,\"m\"],[\"poll-read\",1,\"r\"],[\"poll-store\",1],[\"poll-store\",1],[\"poll-read\",63,\"m\"],[\"restart\"],[\"poll-store\",63],[\"poll-read\",0,\"m\"]]}";
 
@@ -36,7 +36,7 @@ const LATE: u64 = (1 << 63) + 1;
 
 const FAR: u64 = (1 << 62) + 1;
 
-// A command's words, the status, and what out and err take.
+// A command line, the status, and what out and err take.
 type Step = (Words, (u8, &'static str, &'static str));
 
 const AUDIT: &[Step] = &[
@@ -149,7 +149,7 @@ const SWITCH: &[Step] = &[(
     (0, "disabled\n", ""),
 )];
 
-// Whether a run of this scenario over these rows begins its report so, and the keeper then has so many rows, these
+// Whether a run of this scenario over these rows begins its report so, and the row store then has so many rows, these
 // among them.
 fn begins(
     alloc: Global,
@@ -211,7 +211,7 @@ fn runs_begin_with_the_kept_rows(rt: HostRuntime) -> Result<(), Fail> {
                 &[Kept::Recovery(7, LATE, None), Kept::Recovery(FAR, 1, None)],
             ),
         ),
-        // The moment is not before a kept one, and the scenario's registration stands in the place of the kept one.
+        // The moment is not before a kept one, and the scenario's registration is in the place of the kept one.
         (
             REGISTERED,
             &[Kept::Downtime(40, 90), Kept::Candidate(Rule::Prefer, 50)],
@@ -225,8 +225,8 @@ fn runs_begin_with_the_kept_rows(rt: HostRuntime) -> Result<(), Fail> {
     Ok(())
 }
 
-// The first of the steps, from 0, that doesn't answer so over what those before it kept, the first over these rows;
-// else the number of steps, where the keeper then hasn't so many rows, these among them.
+// The first of the steps, from 0, that doesn't answer so over what those before it kept, the first over these rows.
+// Else the number of steps, if the row store then hasn't so many rows, these among them.
 fn steps_taken(
     alloc: Global,
     kept: &[Kept],

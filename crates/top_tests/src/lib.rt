@@ -1,4 +1,4 @@
-//! Tests of the top call over objects in memory: the worked examples, what sources, sinks and keepers that fail make
+//! Tests of the top call over objects in memory: the worked examples, what sources, sinks and row stores that fail make
 //! of it, and kept rows.
 #![tactic(auto)]
 

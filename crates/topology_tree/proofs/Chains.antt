@@ -43,7 +43,7 @@ Grounded-no_return up k (Root k' none) (Direct k'' e) = cc
 Grounded-no_return up k (Root k' none) (Further k'' m e r) = cc
 Grounded-no_return up k (Under k' m e g) r = Grounded-no_return up m g (next_comes_back up k m e r)
 
--- all that a node comes to leads back to it where it comes back
+-- all that a node comes to leads back to it if it comes back
 pub Follows-back : (up : ℕ → Option ℕ) (x k : ℕ) → Follows up x k → ComesBack up k → Follows up k x
 Follows-back up x k (Direct k' e) back =
     elim (next_leads up k x e back) [

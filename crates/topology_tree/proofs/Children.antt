@@ -96,7 +96,7 @@ all_children forest p last is = ap reverse (ap (λ o. children_below forest p (e
 pub IsLast-at : (forest : List (Option ℕ)) (p n : ℕ) (o : Option ℕ) → o ≡ Some n → IsLast forest p o → above forest n ≡ Some p
 IsLast-at forest p n o is last = subst (IsLast forest p) is last
 
--- what stands in the tables
+-- what is in the tables
 pub last-read : (forest last earlier : List (Option ℕ)) (p : ℕ) (o : Option ℕ) → IsLinked forest last earlier → p < length forest → o ≡ get_or last p o
     → o ≡ last_below forest p (length forest)
 last-read forest last earlier p o linked lt e =

@@ -104,7 +104,7 @@ in_range o x most is h = subst (λ v. IfSome v (λ m. m < most)) is h
 pub named : (P : ℕ → Type 0) (a x : ℕ) → Some a ≡ Some x → P a → P x
 named P a x e p = subst P (same_Some a x e) p
 
--- after a walk all its nodes are finished, where the loop that it came to is marked
+-- after a walk all its nodes are finished, if the loop that it came to is marked
 pub Finished-next : (sources : List (Option ℕ)) (before after : List ℕ) (start : ℕ) (looped marked : List Bool) (stop : Option ℕ)
     → start < length sources → IsClosed sources → Walked sources before after start stop → Finished sources before start looped
     → ((n : ℕ) → IsMarked looped n → IsMarked marked n) → MarksLoops (above sources) marked

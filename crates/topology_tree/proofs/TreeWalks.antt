@@ -125,7 +125,7 @@ walk-apart forest is (suc levels) depth k = (
       (λ c m. child-above forest k c m),
 )
 
--- each entry stands after its parent, where those that are seen stand before them all
+-- each entry is after its parent, if those that are seen are before them all
 abbrev AfterParents : List (Option ℕ) → List (ℕ × ℕ) → List (ℕ × ℕ) → Type 0
 AfterParents forest seen [] = Unit {0}
 AfterParents forest seen (x ∷ xs) = HasParentIn forest seen x × AfterParents forest (seen ++ x ∷ []) xs

@@ -15,7 +15,7 @@ abbrev pub pending_walk : List (Option ℕ) → List (ℕ × ℕ) → List (ℕ 
 pending_walk forest [] = []
 pending_walk forest (x ∷ xs) = pending_walk forest xs ++ walk_at forest (length forest - x.1) x.1 x.0
 
--- a node stands as deep under the root as its depth says
+-- a node's depth under the root is its entry's depth
 pub record InPlace (forest : List (Option ℕ)) (root : ℕ) (x : ℕ × ℕ) : Type 0 where
   pub range : x.0 < length forest
   pub depth : level forest x.0 ≡ level forest root + x.1

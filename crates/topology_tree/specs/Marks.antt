@@ -16,7 +16,7 @@ pub record MarksLoops (up : ℕ → Option ℕ) (looped : List Bool) : Type 0 wh
   pub sound : (n : ℕ) → IsMarked looped n → ComesBack up n
   pub closed : (n m : ℕ) → IsMarked looped n → up n ≡ Some m → IsMarked looped m
 
--- where following from a node has come to so far: nowhere to go, or this one
+-- what following from a node has come to so far: nowhere to go, or this one
 abbrev pub LeadsTo : (ℕ → Option ℕ) → Option ℕ → ℕ → Type 0
 LeadsTo up None n = Grounded up n
 LeadsTo up (Some x) n = Follows up x n
@@ -25,8 +25,8 @@ LeadsTo up (Some x) n = Follows up x n
 abbrev pub IsBefore : List (Option ℕ) → List ℕ → ℕ → Type 0
 IsBefore sources walks start = (n : ℕ) → n < length sources → (slice_index walks n < start) ⊎ (slice_index walks n ≡ length sources)
 
--- a walk from start: earlier marks stay, each node that it met leads to where it stopped, and what a met node follows
--- was met
+-- a walk from start: earlier marks stay, each node that it met leads to the node at which it stopped, and what a met
+-- node follows was met
 pub record Walked (sources : List (Option ℕ)) (before after : List ℕ) (start : ℕ) (stop : Option ℕ) : Type 0 where
   pub kept : (n : ℕ) → n < length sources → slice_index before n < start → slice_index after n < start
   pub earlier : (n : ℕ) → n < length sources → slice_index after n < start → slice_index before n < start

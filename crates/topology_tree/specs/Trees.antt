@@ -6,7 +6,7 @@ use Rattle.topology_tree.specs.Forests.{above}
 abbrev pub node_of : ℕ × ℕ → ℕ
 node_of entry = entry.0
 
--- the parent of a node stands among some entries, at one depth less
+-- the parent of a node is among some entries, at one depth less
 abbrev pub HasParentIn : List (Option ℕ) → List (ℕ × ℕ) → ℕ × ℕ → Type 0
 HasParentIn forest entries entry = (p : ℕ) × (e : ℕ) × Contains entries (p, e) × (above forest entry.0 ≡ Some p) × (entry.1 ≡ e + 1)
 
@@ -18,5 +18,5 @@ pub record ListsTree (forest : List (Option ℕ)) (root : ℕ) (listed : List (�
   pub exact : (n : ℕ) → Contains (map node_of listed) n ↔ ((n ≡ root) ⊎ Follows (above forest) root n)
   -- none twice
   pub once : AllPairs (λ m n. m ≢ n) (map node_of listed)
-  -- before each entry but the first stands its parent, at one depth less
+  -- each entry except the first comes after its parent, which has one depth less
   pub parents_first : (before : List (ℕ × ℕ)) (entry : ℕ × ℕ) (after : List (ℕ × ℕ)) → listed ≡ before ++ entry ∷ after → (before ≡ []) ⊎ HasParentIn forest before entry

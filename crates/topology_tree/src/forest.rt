@@ -52,9 +52,9 @@ fn parents_of(
 }
 
 impl Forest {
-    /// The forest of a list of sources, one node for each place. A node's parent is its source,
-    /// unless the node comes back to itself by following sources; such a node, and one without a
-    /// source, is a root. The time is linear. `Err` is want of memory.
+    /// The forest of a list of sources, one node for each place. A node's parent is its source, unless the node comes
+    /// back to itself by following sources; such a node, and one without a source, is a root. The time is linear. `Err`
+    /// means out of memory.
     pub fn make(alloc: Global, sources: &[Option<u32>]) -> Result<Forest, Memory>
         requires few { length sources.now < 2 ^ 32 }
         requires closed { IsClosed sources.now }
@@ -80,7 +80,7 @@ impl Forest {
         self.parents[node as usize]
     }
 
-    /// The node's children, by rising number. The time is that of the answer. `Err` is want of memory.
+    /// The node's children, by rising number. The time is that of the answer. `Err` means out of memory.
     pub fn children(&self, alloc: Global, node: u32) -> Result<Vec<u32>, Memory>
         requires { node < length self.now }
         ensures { IfOk result (λ v. v.items ≡ children_of self.now node) }
@@ -130,9 +130,8 @@ impl Forest {
         Ok(())
     }
 
-    /// The nodes of the tree under `root`, each with its depth below it: the root at depth 0, then
-    /// the walks of its children in order, each one deeper. The time is that of the answer. `Err` is
-    /// want of memory.
+    /// The nodes of the tree under `root`, each with its depth below it: the root at depth 0, then the walks of its
+    /// children in order, each one deeper. The time is that of the answer. `Err` means out of memory.
     pub fn walk(&self, alloc: Global, root: u32) -> Result<Vec<(u32, u32)>, Memory>
         requires { root < length self.now }
         ensures { IfOk result (λ v. v.items ≡ walk_of self.now root) }
@@ -149,8 +148,8 @@ impl Forest {
         Ok(listed)
     }
 
-    /// A law, which does nothing: each parent is a node, following parents from any node ends at a
-    /// root, and the list of (node, parent) has each node at its place.
+    /// A law, which does nothing: each parent is a node, and following parents from any node ends at a root. The list
+    /// of (node, parent) has each node at its place.
     pub fn edges_have_no_loop(&self)
         ensures forest { IsForest self.now }
         ensures edges { (n : ℕ) → n < length self.now →

@@ -1,4 +1,4 @@
-//! The forest that a list of sources makes: parents, children in order, what stands below what, and walks.
+//! The forest that a list of sources makes: parents, children in order, what is below what, and walks.
 #![tactic(auto)]
 
 mod forest;
@@ -8,5 +8,5 @@ mod loops;
 
 pub use forest::Forest;
 pub use laws::{forests_are_computed, sources_have_one_forest, walks_list_their_tree};
-/// Want of memory.
+/// Out of memory.
 pub use std::alloc::AllocError as Memory;

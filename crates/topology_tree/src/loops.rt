@@ -28,9 +28,8 @@ fn mark_loop(sources: &[Option<u32>], looped: &mut [bool], node: u32)
     }
 }
 
-// Follows sources from a node that no walk has met, and gives each node on the way the walk's
-// number, its start. It stops at a node that a walk has met, which is the answer, or where there is
-// no source.
+// Follows sources from a node that no walk has met, and gives each node on the way the walk's number, its start. It
+// stops at a node that a walk has met, which is the answer, or at one without a source.
 fn follow(sources: &[Option<u32>], walks: &mut [u32], start: u32) -> Option<u32>
     requires few { length sources.now < 2 ^ 32 }
     requires range { start < length sources.now }

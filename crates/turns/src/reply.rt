@@ -14,7 +14,7 @@ use std::mem::size_of;
 /// Why a job failed, and the lines that it answers.
 pub struct Failure {
     pub cause: Cause,
-    /// What its hooks tell: none of a job that isn't a recovery's.
+    /// The lines of its hooks. A job that isn't a recovery's has none.
     pub lines: Lines,
 }
 
@@ -28,7 +28,7 @@ impl Drop for Failure {
 }
 
 impl Failure {
-    /// The same once more.
+    /// The same once more. `Err` means out of memory.
     pub fn copy(&self, alloc: Global) -> Result<Failure, Memory>
         ensures { IfOk result (λ f. f ≡ self.now) }
     {
@@ -60,7 +60,7 @@ impl Model for BoxedFailure {
 }
 
 impl BoxedFailure {
-    /// This failure.
+    /// This failure. `Err` means out of memory.
     pub fn new(alloc: Global, failure: Failure) -> Result<BoxedFailure, Memory>
         ensures { IfOk result (λ f. f ≡ failure) }
     {
@@ -76,7 +76,7 @@ impl BoxedFailure {
         &self.failure
     }
 
-    /// The same failure once more.
+    /// The same failure once more. `Err` means out of memory.
     pub fn copy(&self, alloc: Global) -> Result<BoxedFailure, Memory>
         ensures { IfOk result (λ f. f ≡ self.now) }
     {
@@ -90,7 +90,7 @@ pub enum Reply {
     Write(WriteAnswer),
     Fetch(FetchAnswer),
     Apply(ApplyAnswer),
-    /// It is done; there is no more to say.
+    /// It is done. There is no more to say.
     Done,
     Rotate(RotateAnswer),
     Purge(PurgeAnswer),
@@ -169,7 +169,7 @@ impl Reply {
         }
     }
 
-    /// The same reply once more.
+    /// The same reply once more. `Err` means out of memory.
     pub fn copy(&self, alloc: Global) -> Result<Reply, Memory>
         ensures { IfOk result (λ r. r ≡ self.now) }
     {

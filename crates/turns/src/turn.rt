@@ -1,4 +1,4 @@
-//! Turns, by floors: what befalls servers, what orchestrator does, and what several orchestrators take turns in.
+//! Turns, by floors: what happens to servers, what orchestrator does, and what several orchestrators take turns in.
 
 ghost use Rattle.std.specs.Prelude.{◌≡◌, IfOk};
 
@@ -30,7 +30,7 @@ impl Model for BoxedCommand {
 }
 
 impl BoxedCommand {
-    /// This turn.
+    /// This turn. `Err` means out of memory.
     pub fn new(alloc: Global, turn: CommandTurn) -> Result<BoxedCommand, Memory>
         ensures { IfOk result (λ c. c ≡ turn) }
     {
@@ -46,7 +46,7 @@ impl BoxedCommand {
         &self.turn
     }
 
-    /// The same turn once more.
+    /// The same turn once more. `Err` means out of memory.
     pub fn copy(&self, alloc: Global) -> Result<BoxedCommand, Memory>
         ensures { IfOk result (λ c. c ≡ self.now) }
     {
@@ -54,7 +54,7 @@ impl BoxedCommand {
     }
 }
 
-/// What befalls servers, without orchestrator.
+/// What happens to servers, without orchestrator.
 #[derive(Clone, Copy, Debug, PartialEq, Eq)]
 pub enum Step {
     /// An ordinary client's transaction of this size, 1 to 1,000,000 bytes.
@@ -97,7 +97,7 @@ pub enum Act {
 /// What happens next.
 #[derive(Drop)]
 pub enum Turn {
-    /// Something befalls a server.
+    /// Something happens to a server.
     Step(Step),
     /// So many seconds pass: 0 to 1,000,000,000.
     Tick(u64),
@@ -115,7 +115,7 @@ pub enum Turn {
 const _: () = prove!(size_of::<Turn>() == 24);
 
 impl Act {
-    /// The same once more.
+    /// The same once more. `Err` means out of memory.
     pub fn copy(&self, alloc: Global) -> Result<Act, Memory>
         ensures { IfOk result (λ a. a ≡ self.now) }
     {
@@ -131,7 +131,7 @@ impl Act {
 }
 
 impl Turn {
-    /// The same turn once more.
+    /// The same turn once more. `Err` means out of memory.
     pub fn copy(&self, alloc: Global) -> Result<Turn, Memory>
         ensures { IfOk result (λ t. t ≡ self.now) }
     {

@@ -11,7 +11,7 @@ pub step_with-going : (o : Option HookState) (promoted : Option HostPort) (s : J
 step_with-going (Some h) promoted step.Going = refl
 step_with-going _ promoted _ = refl
 
--- what holds of a recovery's own turn, whatever lines it tells, and of one in which nothing is done, holds with hooks
+-- what holds for a recovery's own turn, whatever its lines are, and for one in which nothing is done, holds with hooks
 module _ (P : Taken → Type 0) (d : Docket) (promoted : Option HostPort) (r : Recovery) (t : Taken) where
   pub hooked-has : ((s : JobStep) → is_going s ≡ is_going t.step → P (record t { step = s })) → ((s : JobStep) → P (quiet r s)) → P (with_hooks d promoted r t).taken
   hooked-has own still = front (front_hook d.hooks)

@@ -1,4 +1,4 @@
--- What was looked up of a job, by the kind that it is, and what a turn that was looked up tells.
+-- What was looked up of a job, by its kind, and what a turn that was looked up answers.
 use Rattle.std.proofs.Common.{◌≡◌, ◌∙◌, ℕ, ◌<◌, zero, suc, Bool, true, false, List, [], ◌∷◌, length, ap, refl, sym, Option, Some, None, arith}
 use Rattle.std.specs.Prelude.{is_some, slice_get, if◌then◌else◌}
 use Rattle.unended_jobs.proofs.Prelude.{CanRun, Docket, Hook, HookState, HostPort, JobStep, Line, Recovery, RecoveryLook, Taken, Then, Unended}
@@ -11,7 +11,7 @@ use Rattle.unended_jobs.proofs.Prelude.place
 use Rattle.unended_jobs.proofs.Prelude.step
 use Rattle.unended_jobs.proofs.Prelude.unended
 
--- it tells what was looked up
+-- it answers what was looked up
 
 pub foretold-step : (u : Unended) (x : UnendedLook) → (foretold u x).step ≡ step_of x
 foretold-step (unended.Plan j) (look.Plan l) = refl
@@ -49,7 +49,7 @@ after-same : (o : Option HookState) (promoted : Option HostPort) (r : Recovery) 
 after-same (Some h) promoted r step.Going what = refl
 after-same _ promoted r _ what = refl
 
--- only where it is done the promoted server counts
+-- only if it is done the promoted server counts
 step-same : (o : Option HookState) (p q : Option HostPort) (s : JobStep) → ((lines : List Line) → s ≡ step.Done lines → q ≡ p) → step_with o q s ≡ step_with o p s
 step-same (Some h) p q (step.Done lines) same = ap (λ (x : Option HostPort). told_with h x (step.Done lines)) (same lines refl)
 step-same _ p q _ same = refl
@@ -61,7 +61,7 @@ own-foretold d p q r l m is same =
     ∙ ap (λ (s : JobStep). record (recovery_foretold r l) { step = s; recovery = after_step (decided_on r l.decided) (step_with d.hooks q l.step) l.then }) (step-same d.hooks p q l.step same)
     ∙ ap (λ (y : Recovery). record (recovery_foretold r l) { step = step_with d.hooks p l.step; recovery = y }) (after-same d.hooks q (decided_on r l.decided) l.step l.then)
 
--- ---- a hook behind it
+-- ---- a hook after it
 
 none-before : (d : Docket) (o : Option JobStep) → o ≡ option_map (step_before d.hooks) (front_hook d.hooks) → ((s : JobStep) → o ≡ Some s → ⊥) → front_hook d.hooks ≡ None
 none-before d o is none = go (front_hook d.hooks) refl

@@ -63,7 +63,7 @@ module _ (w : World) (read : ℕ) (now : Moment) (j : Job) (rest : List Op) wher
   match-sees n m at (Ok c) = tt
   match-sees n m at (Err f) = tt
 
-  -- by the operation that is due, where the server that it speaks with is there
+  -- by the operation that is due, if the server that it speaks with is there
   deed-sees : (d : Deed) → IfSome (spoken_to d) (λ n. n.0 < length w.servers) → Sees (by_deed w read now j rest d)
   deed-sees (deed.Look n from) within = look-sees n from within (seen_in (status w n.0))
   deed-sees (deed.Request n a) within = ask-sees n a (desk_answer (server_at w n.0))

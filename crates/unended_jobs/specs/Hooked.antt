@@ -15,7 +15,7 @@ no_docket = record { entry = None; hooks = None }
 abbrev pub with_hooks_of : Docket → (HookState → HookState) → Docket
 with_hooks_of d after = record d { hooks = option_map after d.hooks }
 
--- a turn of a recovery, and its docket after it
+-- a turn of a recovery, and its hooks' state after it
 pub record Hooked : Type 0 where
   pub taken : Taken
   pub docket : Docket
@@ -27,7 +27,7 @@ abbrev pub front_hook : Option HookState → Option Hook
 front_hook None = None
 front_hook (Some s) = due_before s
 
--- behind it, where its own turn would be the one in which it is done
+-- after it, if its own turn would be the one in which it is done
 abbrev pub due_at : HookState → JobStep → Option Hook
 due_at s step.Going = None
 due_at s (step.Done lines) = due_after s
@@ -42,9 +42,9 @@ abbrev pub left_of : Option HookState → ℕ
 left_of None = 0
 left_of (Some s) = hooks_left s
 
--- ---- what a turn tells
+-- ---- what a turn answers
 
--- a hook before the recovery ends it where its exit isn't 0; hooks count from 1
+-- a hook before the recovery ends it if its exit isn't 0; hooks count from 1
 abbrev pub told_before : HookState → Hook → JobStep
 told_before s h = if h.exit == 0 then step.Going else step.Failed (cause.HookFailed (s.before + 1) h.exit) (failed_lines (ran_before s))
 
@@ -52,7 +52,7 @@ abbrev pub step_before : Option HookState → Hook → JobStep
 step_before None h = step.Going
 step_before (Some s) h = told_before s h
 
--- the recovery's own turn tells the lines of the hooks behind its own
+-- the recovery's own turn has the lines of the hooks after its own
 abbrev pub told_with : HookState → Option HostPort → JobStep → JobStep
 told_with s promoted step.Going = step.Going
 told_with s promoted (step.Done lines) = step.Done (lines ++ done_lines s promoted)
@@ -71,7 +71,7 @@ quiet r s = record { step = s; observation = None; exchanges = []; recovery = r 
 abbrev pub own_turn : Docket → Option HostPort → Taken → Hooked
 own_turn d promoted t = record { taken = record t { step = step_with d.hooks promoted t.step }; docket = with_hooks_of d checked }
 
--- that of a hook behind it, or its own
+-- that of a hook after it, or its own
 abbrev pub rear_turn : Docket → Option HostPort → Recovery → Taken → Option Hook → Hooked
 rear_turn d promoted r t None = own_turn d promoted t
 rear_turn d promoted r t (Some h) = record { taken = quiet r step.Going; docket = with_hooks_of d ran_after }
@@ -81,7 +81,7 @@ abbrev pub front_turn : Docket → Option HostPort → Recovery → Taken → Op
 front_turn d promoted r t None = rear_turn d promoted r t (rear_hook d.hooks t.step)
 front_turn d promoted r t (Some h) = record { taken = quiet r (step_before d.hooks h); docket = with_hooks_of d ran_before }
 
--- where its own turn would be this
+-- if its own turn would be this
 abbrev pub with_hooks : Docket → Option HostPort → Recovery → Taken → Hooked
 with_hooks d promoted r t = front_turn d promoted r t (front_hook d.hooks)
 

@@ -20,13 +20,13 @@ observation_of (look.Plan l) = l.observation
 observation_of (look.Recovery l) = l.observation
 observation_of (look.Hook s at) = None
 
--- the turn that a look tells of a recovery; by a plan's nothing is done
+-- the turn that a look foretells for a recovery; by a plan's nothing is done
 abbrev pub hooked_by : Recovery → Docket → UnendedLook → Hooked
 hooked_by r d (look.Plan l) = record { taken = record (quiet r l.step) { observation = l.observation }; docket = d }
 hooked_by r d (look.Recovery l) = record { taken = recovery_foretold r l; docket = with_hooks_of d checked }
 hooked_by r d (look.Hook s at) = record { taken = quiet r s; docket = with_hooks_of d (after_place at) }
 
--- the turn that a look of the job's own kind tells; by another kind's nothing is done
+-- the turn that a look of the job's own kind foretells; by another kind's nothing is done
 abbrev pub foretold : Unended → UnendedLook → Flown
 foretold (unended.Plan j) (look.Plan l) = by_plan (plan_foretold j l)
 foretold (unended.Plan j) (look.Recovery l) = record { step = l.step; observation = l.observation; exchanges = []; next = unended.Plan j }

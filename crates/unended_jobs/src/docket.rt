@@ -28,7 +28,7 @@ impl Drop for Docket {
     }
 }
 
-// What a recovery's own turn tells, with the lines of these hooks.
+// The answer of a recovery's own turn, with the lines of these hooks.
 fn told_with(
     alloc: Global,
     hooks: &HookRun,
@@ -61,7 +61,7 @@ impl Docket {
         }
     }
 
-    // What the hook tells that runs before the recovery in this turn, if one does.
+    // The answer of the hook that runs before the recovery in this turn, if one does.
     pub(crate) fn step_before(&self, alloc: Global) -> Result<Option<JobStep>, Memory>
         ensures { IfOk result (λ o. o
             ≡ option_map (step_before self.now.hooks) (front_hook self.now.hooks)) }
@@ -82,7 +82,7 @@ impl Docket {
         Ok(Some(JobStep::Failed(cause, hooks.stopped(alloc)?)))
     }
 
-    // Whether a hook runs behind the recovery, whose own turn would come to this.
+    // Whether a hook runs after the recovery, whose own turn would come to this.
     pub(crate) fn is_due_behind(&self, step: &JobStep) -> bool
         ensures { result ≡ is_some (rear_hook self.now.hooks step.now) }
     {
@@ -94,7 +94,7 @@ impl Docket {
         }
     }
 
-    // What the recovery's own turn tells, with the lines of the hooks that ran.
+    // The answer of the recovery's own turn, with the lines of the hooks that ran.
     pub(crate) fn step_with(
         &self,
         alloc: Global,

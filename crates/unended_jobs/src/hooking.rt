@@ -41,7 +41,7 @@ fn told(
     Ok(look)
 }
 
-/// What the next turn of a recovery with this docket does: as `Unended::look`.
+/// What the next turn of a recovery with these hooks does: as `Unended::look`.
 pub(crate) fn look_with_hooks(
     alloc: Global,
     recovery: &RecoveryJob,

@@ -18,7 +18,7 @@ pub use recovery_plans::{
     commands, instance_keeper_items, operations_items, orch_base, server_model,
 };
 pub use recovery_turns;
-/// Want of memory.
+/// Out of memory.
 pub use recovery_plans::orch_base::Memory;
 pub use unended::Unended;
 

@@ -14,23 +14,23 @@ use recovery_turns::RecoveryLook;
 pub enum Place {
     /// Before what the recovery does, once it has looked at its failed server.
     Before,
-    /// Behind it, where nothing is left to do.
+    /// After it, if nothing is left to do.
     Behind,
 }
 
-/// What the next turn of a job does and tells, on the world and with the book on which it was looked up.
+/// What the next turn of a job does and answers, on the world and with the book on which it was looked up.
 #[derive(Drop)]
 pub enum UnendedLook {
     /// By the operation of a plan that is due.
     Plan(Look),
     /// By what a recovery decides.
     Recovery(RecoveryLook),
-    /// By a hook of a recovery, which tells this: it changes no server and reads none.
+    /// By a hook of a recovery, which answers this: it changes no server and reads none.
     Hook(JobStep, Place),
 }
 
 impl UnendedLook {
-    /// What the turn tells.
+    /// What the turn answers.
     pub fn step(&self) -> &JobStep
         ensures { result.now ≡ step_of self.now }
     {

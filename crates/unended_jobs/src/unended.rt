@@ -36,7 +36,8 @@ impl Unended {
     }
 
     /// What the next turn does on this world and with this book, and observes with this read number at this moment. It
-    /// changes nothing. The servers that the job names are there, and the book is of these servers.
+    /// changes nothing. The servers that the job names are there, and the book is of these servers. `Err` means out of
+    /// memory.
     pub fn look(
         &self,
         alloc: Global,
@@ -63,8 +64,8 @@ impl Unended {
         })
     }
 
-    /// Does what was looked up on this job and this world, and hands on what the look told. At want of memory nothing
-    /// has changed; it comes only where the job goes on and nothing is observed.
+    /// Does what was looked up on this job and this world, and hands on what the look foretold. If memory runs out,
+    /// nothing has changed. That comes only if the job goes on and nothing is observed.
     pub fn turn(
         &mut self,
         alloc: Global,

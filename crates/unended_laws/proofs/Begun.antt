@@ -1,4 +1,4 @@
--- An unended job that begins leaves all held and sound, itself too.
+-- An unended job that begins leaves all with `Held` and `Sound`, itself too.
 use Rattle.std.proofs.Common.{◌∙◌, ℕ, Bool, List, [], ◌∷◌, ◌++◌, cond, sym, ap, Some}
 use Rattle.std.specs.Prelude.{All}
 use Rattle.unended_laws.proofs.Prelude.{All-push, All-weaker, Docket, Flight, Held-passed, HeldJobs, IsAny, IsHeldBeside, IsLeased, IsLeasedList}

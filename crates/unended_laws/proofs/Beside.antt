@@ -1,4 +1,4 @@
--- What is no turn of theirs leaves unended jobs held and sound.
+-- What is no turn of theirs leaves unended jobs with `Held` and `Sound`.
 use Rattle.std.proofs.Common.{◌≡◌, ◌∙◌, ℕ, Bool, true, false, List, [], length, refl, Option, Some, None}
 use Rattle.std.specs.Prelude.{All}
 use Rattle.unended_laws.proofs.Prelude.{All-nil, All-weaker, AreOwn, Flight, Held, Held-passed, HeldJobs, IsApart, IsHeldBeside, IsQuiet}
@@ -9,7 +9,7 @@ use Rattle.unended_laws.proofs.Prelude.{turned_by}
 use Rattle.unended_laws.proofs.Prelude.pass
 use Rattle.unended_laws.proofs.Prelude.unended
 
--- ---- one that isn't the passage's stays
+-- ---- one that isn't the turn's stays
 
 pub beside-held : (f : Flight) (p : Passage) (u : Unended) → MayPass f p → Held f → Spares (number_of u) p → IsHeldBeside f.world f.leases u → IsHeldBeside (passed f p).world (passed f p).leases u
 beside-held f p (unended.Plan j) may held spares mine = tt
@@ -69,7 +69,7 @@ apart-spares (pass.Turning k read now keeps) id apart = absurd apart
 apart-spares (pass.Taking k t keeps) id apart = absurd apart
 apart-spares _ id apart = tt
 
--- it owes a sound flight nothing more
+-- it owes a state with `Sound` nothing more
 pub apart-well : (f : Flight) (p : Passage) → IsApart p → PassesWell f p
 apart-well f pass.Restarting apart = absurd apart
 apart-well f (pass.Beginning list j) apart = absurd apart

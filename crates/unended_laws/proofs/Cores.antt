@@ -1,4 +1,4 @@
--- The jobs of a flight are the cores of unended jobs.
+-- The jobs of a `Flight` are the cores of unended jobs.
 use Rattle.std.proofs.Common.{◌≡◌, ℕ, Bool, true, false, List, [], ◌∷◌, ◌++◌, refl, ap, Some}
 use Rattle.std.specs.Prelude.{map, not, if◌then◌else◌, ◌==◌}
 use Rattle.unended_laws.proofs.Prelude.{Job, Unended, core_of, job_at as core_at, number_of, option_map, replaced, with_job}

@@ -4,7 +4,7 @@ use Rattle.unended_laws.proofs.Prelude.{All-nil, All-weaker, Flight, HeldRecover
 use Rattle.unended_laws.proofs.Prelude.{MayChange, MayTake, Meets, Recovery, SoundRecovery, Taken, TakesWell, as_turn, core_by, is_going, quiet}
 use Rattle.unended_laws.proofs.Prelude.{server_of}
 
--- ---- whatever lines its own turn tells
+-- ---- whatever lines its own turn has
 
 pub own-may : (f : Flight) (id : ℕ) (t : Taken) (s : JobStep) → is_going s ≡ is_going t.step → MayTake f id (as_turn id t) → MayTake f id (as_turn id (record t { step = s }))
 own-may f id t s same may =

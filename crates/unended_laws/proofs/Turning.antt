@@ -1,4 +1,4 @@
--- The turn of an unended job leaves all held and sound.
+-- The turn of an unended job leaves all with `Held` and `Sound`.
 use Rattle.std.proofs.Common.{◌≡◌, ◌∙◌, ℕ, Bool, true, false, List, [], ◌∷◌, cond, refl, sym, ap, subst, Option, Some, None}
 use Rattle.std.specs.Prelude.{All, ◌==◌, not, map, if◌then◌else◌}
 use Rattle.unended_laws.proofs.Prelude.{All-cons, All-find, All-head, All-nil, All-tail, AllMayPass, AllPassWell, AreOwn, BookState, Bridge, Flight}
@@ -114,7 +114,7 @@ module _ (f : Flight) (us : List Unended) (b : BookState) (id read : ℕ) (now :
       jobs-stored_if keeps (after_turn f id (as_turn id t)) t.observation
       ∙ cores-by (is_going t.step) (core_by id t.recovery (is_going t.step)) (unended.Recovery t.recovery (hooked f.world b read now r d).docket) (core-going t.recovery (is_going t.step))
 
-  -- the others, and the job itself where it goes on
+  -- the others, and the job itself if it goes on
 
   spares : (u k : Unended) → (number_of k ≡ id → ⊥) → Spares (number_of k) (passage_of f.world b read now keeps id u)
   spares (unended.Plan j) k apart = λ same. apart (sym same)
@@ -196,7 +196,7 @@ module _ (f : Flight) (us : List Unended) (b : BookState) (id read : ℕ) (now :
             (flown f.world b read now u) (next-sound sound u (here u at) (sound-here sound u at)) sound.jobs;
       }
 
--- ---- the turn of a number, where there may be no such job
+-- ---- the turn of a number, if there may be no such job
 
 module _ (f : Flight) (us : List Unended) (b : BookState) (id read : ℕ) (now : Moment) (keeps : Option Observation → Bool) (rings : f.rings ≡ b.rings) (held : HeldJobs f us) where
   pub number-may : (o : Option Unended) → job_at us id ≡ o → AllMayPass f (passages_by f.world b read now keeps id o)

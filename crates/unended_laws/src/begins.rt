@@ -8,7 +8,7 @@ ghost use Rattle.unended_laws.specs.Beside.{IsHeldBeside, IsSoundBeside};
 ghost use Rattle.unended_laws.specs.Flights.{HeldJobs, SoundJobs};
 ghost use Rattle.unended_laws.specs.Passages.{IsListed};
 
-/// A job that begins held and sound, with the leases of a list, leaves all held and sound, itself too.
+/// A job that begins with `Held` and `Sound`, and with the leases of a list, leaves all with both, itself too.
 pub fn unended_jobs_begin()
     ensures held { (f : Flight) (us : List AnUnended) (list : List Number) (u : AnUnended) →
         MayPass f (Beginning list (core_of u)) →
@@ -19,8 +19,8 @@ pub fn unended_jobs_begin()
         SoundJobs f us → SoundJobs (passed f (Beginning list (core_of u))) (us ++ u ∷ []) }
 {}
 
-/// A recovery begins so, where the list has its replicas, and in a takeover the master and the replica that is to take
-/// its place.
+/// A recovery begins so, if the list has its replicas, and in a takeover the master and the replica that is to take its
+/// place.
 pub fn recoveries_begin_beside()
     ensures held { (w : World) (l : Leases) (list : List Number) (u : APurpose) (by : AMeans) (id wait : ℕ) (f : Number)
         (replicas order : List Number) (docket : ADocket) →

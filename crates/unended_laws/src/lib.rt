@@ -1,4 +1,4 @@
-//! Laws of unended jobs, plans and recoveries alike, over servers with jobs in flight.
+//! Laws of unended jobs, plans and recoveries alike, over servers with jobs.
 #![tactic(auto)]
 
 mod begins;

@@ -6,8 +6,8 @@ ghost use Rattle.unended_laws.specs.Prelude.{Unended as AnUnended, flown, job_at
 ghost use Rattle.unended_laws.specs.Flights.{HeldJobs, SoundJobs};
 ghost use Rattle.unended_laws.specs.Passages.{passages_by};
 
-/// The turn of a job's number leaves all held, and sound where it is quiet afterwards, whichever readings are stored:
-/// where there is no such job nothing is passed.
+/// The turn of a job's number leaves all with `Held`, and with `Sound` if there are no errant writes afterwards,
+/// whichever readings are stored. If there is no such job nothing happens.
 pub fn numbered_turns_pass()
     ensures may { (f : Flight) (us : List AnUnended) (b : BookState) (id read : ℕ) (now : AMoment)
         (keeps : Option Reading → Bool) →

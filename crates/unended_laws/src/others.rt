@@ -5,7 +5,8 @@ ghost use Rattle.unended_laws.specs.Prelude.{Flight, IsQuiet, MayPass, Passage, 
 ghost use Rattle.unended_laws.specs.Flights.{HeldJobs, SoundJobs};
 ghost use Rattle.unended_laws.specs.Passages.{IsApart};
 
-/// What begins no job, is no job's turn and no restart leaves all held, and sound where it is quiet afterwards.
+/// What begins no job, is no job's turn and no restart leaves all with `Held`, and with `Sound` if there are no errant
+/// writes afterwards.
 pub fn unended_jobs_stay()
     ensures held { (f : Flight) (us : List AnUnended) (p : Passage) → MayPass f p → IsApart p →
         HeldJobs f us → HeldJobs (passed f p) us }
@@ -13,7 +14,7 @@ pub fn unended_jobs_stay()
         IsQuiet (passed f p).world → HeldJobs f us → SoundJobs f us → SoundJobs (passed f p) us }
 {}
 
-/// A restart leaves no job, and all else that is kept held, and sound where it was.
+/// A restart leaves no job. All else that is kept has `Held`, and `Sound` if it had it.
 pub fn restarts_leave_no_job()
     ensures held { (f : Flight) (us : List AnUnended) → HeldJobs f us →
         HeldJobs (passed f Restarting) [] }

@@ -6,8 +6,8 @@ ghost use Rattle.unended_laws.specs.Prelude.{jobs_turned, passed};
 ghost use Rattle.unended_laws.specs.Flights.{HeldJobs, SoundJobs};
 ghost use Rattle.unended_laws.specs.Passages.{passage_of};
 
-/// The turn of an unended job, on a book with the flight's bridges, is a passage that leaves all held, the job itself
-/// too where it goes on, and sound where it is quiet afterwards.
+/// The turn of an unended job, on a book with the same bridges, leaves all with `Held`, the job itself too if it goes
+/// on. It leaves all with `Sound` if there are no errant writes afterwards.
 pub fn unended_jobs_take_turns()
     ensures may { (f : Flight) (us : List AnUnended) (b : BookState) (id read : ℕ) (now : AMoment)
         (keeps : Bool) (u : AnUnended) →

@@ -92,7 +92,7 @@ index-is x l ts r f log txns room flushes =
     ap (λ y. record x { log = y }) log ∙ ap (λ y. record x { log = l; txns = y }) txns
     ∙ ap (λ y. record x { log = l; txns = ts; room = y }) room ∙ ap (λ y. record x { log = l; txns = ts; room = r; flushes = y }) flushes
 
--- what is told of the log of a server by all that it has executed
+-- the log of a server that is printed, by all that it has executed
 abbrev told_by : Bool → ServerInit → List Txn → ℕ → ℕ → Index
 told_by b i history room flushes =
     record { log = cond b (laid i.settings.limit i.flushes history) (opened i.settings.limit); txns = cond b history []; room = room; flushes = flushes }

@@ -1,4 +1,4 @@
--- The servers of an opening can stand in a world.
+-- The servers of an opening can be in a world.
 use Rattle.std.proofs.Common.{◌≡◌, ℕ, ◌+◌, ◌≤◌, true, false, Bool, cond, List, length, take, refl, sym, ◌∙◌, ap, subst, Option, Some, None, arith, get_or}
 use Rattle.std.specs.Prelude.{slice_get, All, unwrap_or, ◌==◌}
 use Rattle.world_openings.proofs.Prelude.{CanStand, Coord, Fits, HasSize, IsAlone, IsChecked, IsFit, IsListed, IsNumbered, IsPlacedIn, IsServer}
@@ -164,7 +164,7 @@ module _ (o : Opened) (room flushes : ℕ) (checked : IsChecked o) (fits : Fits 
         };
       }
 
-  -- the servers of an opening can stand in a world
+  -- the servers of an opening can be in a world
   pub CanStand-opened : CanStand (opened_from o.servers room flushes 0 o.servers)
   CanStand-opened = record {
     few = let f = checked.listed.few in rw length-opened_from f;

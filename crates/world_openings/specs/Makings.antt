@@ -8,7 +8,7 @@ use Rattle.openings.specs.Servers.{log_at, exec_of, read_of}
 use Rattle.server_model.specs.declared.server.Server.{Server}
 use Rattle.world_openings.specs.Opening.{opened_server}
 
--- where a server stands in its source's log
+-- a server's position in its source's log
 abbrev pub exec_in : Log → ServerInit → Coord
 exec_in log i = unwrap_or i.at (coord_after log i.executed)
 

@@ -21,7 +21,7 @@ fn source_state(detached: bool, source: Option<ServerNo>) -> SourceState
     }
 }
 
-// A server at the opening, but for its coordinates, for which its source's log has to be there.
+// A server at the opening, except for its coordinates, for which its source's log has to be there.
 fn bare_server(
     alloc: Global,
     from: &Opening,
@@ -59,7 +59,7 @@ fn bare_server(
     })
 }
 
-// All servers, but for their coordinates.
+// All servers, except for their coordinates.
 fn bare_servers(
     alloc: Global,
     from: &Opening,
@@ -80,7 +80,7 @@ fn bare_servers(
     Ok(servers)
 }
 
-// Where a server with a source stands in its source's log at the opening: its executed and its read coordinate.
+// The position of a server with a source in its source's log at the opening: its executed and its read coordinate.
 fn standing_in(init: &ServerInit, log: &LogIndex) -> (Coord, Coord)
     requires { IsPlacedIn log.now.log init.now }
     ensures exec { result.0 ≡ exec_in log.now.log init.now }
@@ -97,7 +97,7 @@ fn standing_in(init: &ServerInit, log: &LogIndex) -> (Coord, Coord)
     (exec, read)
 }
 
-// Where a server stands at the opening: at the beginning, where it has no source.
+// The position of a server at the opening: at the start if it has no source.
 fn standing_of(from: &Opening, no: ServerNo, servers: &[Server]) -> (Coord, Coord)
     requires there { no.0 < length from.now.servers }
     requires logs { HaveLogs from.now.servers servers.now }

@@ -11,8 +11,8 @@ use std::alloc::Global;
 
 /// What an opening opens.
 pub trait OpenedWorld: Sized {
-    /// The world that an opening opens, with room at each server for `room` transactions and `flushes` calls of
-    /// `rotate`, the listed flushes among them: at most 4,000,000 of each. `Err` is want of memory.
+    /// The world that an opening opens. Each server has room for `room` transactions and `flushes` calls of `rotate`,
+    /// the listed flushes among them: at most 4,000,000 of each. `Err` means out of memory.
     fn make(alloc: Global, from: &Opening, room: u64, flushes: u64) -> Result<Self, Memory>
         requires fits { Fits from.now room flushes }
         requires room { room ≤ 4000000 }

@@ -19,7 +19,7 @@ marked c x at =
     let t = mark-there c.args.every (logged_by x c.in-Some-last_mark.i) last.passes in
     record { is = is; txn = t.0; there = t.1; kept = kept-is x c.in-Some-last_mark.i t.0 t.1 }
 
--- and where the second keeps it
+-- and if the second keeps it
 record Placed (c : In-Some-place_of_mark) (y : Server) : Type 0 where
   is : place_of_mark y (Some c.transaction.result) ≡ Some c.in-Some-place_of_mark.j
   txn : Txn

@@ -7,7 +7,7 @@ use Rattle.live_calls.proofs.Ends.{are_live, are_plain, complete, faults, follow
 use Rattle.live_calls.proofs.Runs.{goes_well}
 use Rattle.live_calls.proofs.top.orch.Goals as goal
 
--- ---- the words ask for a live run
+-- ---- the command line asks for a live run
 
 pub returns-in-Ok-Some-clause-usage : goal.returns-in-Ok-Some-clause-usage
 returns-in-Ok-Some-clause-usage g c =

@@ -7,4 +7,4 @@ use Rattle.plan_lines.proofs.branches.add_left.Given as goal
 abbrev pub invariant-loop-replica : goal.invariant-loop-replica
 invariant-loop-replica l =
     l.lines.items
-    ≡ l.initial.lines.items ++ filter_map (λ d. left d (way_of (ground_by l.by) l.failed l.successor d)) (take l.replica-index l.list)
+    ≡ l.initial.lines.items ++ filter_map (λ d. left l.by.book.now d (way_of (ground_by l.by) l.failed l.successor d)) (take l.replica-index l.list)

@@ -1,10 +1,10 @@
 use Rattle.std.proofs.Common.{◌≡◌, ◌++◌, take}
 use Rattle.std.specs.Prelude.{filter_map}
-use Rattle.plan_lines.specs.Prelude.{ground_by, lot_by}
-use Rattle.plan_lines.specs.Branches.{parted}
+use Rattle.plan_lines.specs.Prelude.{ground_by}
+use Rattle.plan_lines.specs.Branches.{lot_for, parted}
 use Rattle.plan_lines.proofs.chosen.add_parted.Given as goal
 
 abbrev pub invariant-loop-other : goal.invariant-loop-other
 invariant-loop-other l =
     l.lines.items
-    ≡ l.initial.lines.items ++ filter_map (λ s. parted l.purpose s (lot_by l.means (ground_by l.by) l.failed l.p s)) (take l.other-index l.others)
+    ≡ l.initial.lines.items ++ filter_map (λ s. parted l.by.book.now l.purpose s (lot_for l.means (ground_by l.by) l.failed l.p s)) (take l.other-index l.others)

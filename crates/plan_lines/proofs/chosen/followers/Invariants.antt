@@ -1,9 +1,9 @@
 use Rattle.std.proofs.Common.{◌≡◌, take}
 use Rattle.std.specs.Prelude.{filter_map}
-use Rattle.plan_lines.specs.Prelude.{ground_by, lot_by}
-use Rattle.plan_lines.specs.Branches.{follower_in}
+use Rattle.plan_lines.specs.Prelude.{ground_by}
+use Rattle.plan_lines.specs.Branches.{follower_in, lot_for}
 use Rattle.plan_lines.proofs.chosen.followers.Given as goal
 
 abbrev pub invariant-loop-other : goal.invariant-loop-other
 invariant-loop-other l =
-    l.list.items ≡ filter_map (λ s. follower_in l.p.no s (lot_by l.means (ground_by l.by) l.failed l.p s)) (take l.other-index l.others)
+    l.list.items ≡ filter_map (λ s. follower_in l.p.no s (lot_for l.means (ground_by l.by) l.failed l.p s)) (take l.other-index l.others)

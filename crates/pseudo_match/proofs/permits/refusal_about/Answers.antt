@@ -3,7 +3,7 @@ use Rattle.pseudo_match.proofs.Prelude.{Case, Check, IfOk-weaker, Refusal, case_
 use Rattle.pseudo_match.proofs.Prelude.{refusal_about, row_of, row_refusal}
 use Rattle.pseudo_match.proofs.permits.refusal_about.Goals as goal
 
--- where nothing refuses before, what comes last does
+-- if nothing refuses before, what comes last does
 last-alone : (x y z : Option Refusal) → x ≡ None → y ≡ None → z ≡ option_or x (option_or y z)
 last-alone None None z h k = refl
 last-alone None (Some r) z h k = cc

@@ -1,4 +1,4 @@
-use Rattle.std.proofs.Common.{◌≡◌, ◌∙◌, ap, Err, ℕ, Bool, true, false, cond, List, None, refl, sym}
+use Rattle.std.proofs.Common.{◌≡◌, ◌∙◌, ℕ, Bool, true, false, cond, List, None, refl, sym}
 use Rattle.scenario_reader.proofs.Prelude.{IsUtf8, IsUtf8-from_is_utf8, NotJson, fails, false≢true, is_utf8, is_utf8-from_IsUtf8, or_fails, read}
 use Rattle.scenario_reader.proofs.walk.json_in.Goals as goal
 

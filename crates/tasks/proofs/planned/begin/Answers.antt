@@ -1,4 +1,4 @@
-use Rattle.std.proofs.Common.{◌≡◌, ◌∙◌, Err, ap, arith}
+use Rattle.std.proofs.Common.{◌∙◌, Err, ap, arith}
 use Rattle.tasks.proofs.Prelude.{CommandTurn, Rose, act_reply, begun_state}
 use Rattle.tasks.proofs.Prelude.act
 use Rattle.tasks.proofs.planned.begin.Goals as goal

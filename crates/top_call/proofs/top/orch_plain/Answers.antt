@@ -6,7 +6,7 @@ use Rattle.top_call.proofs.Reports.{both, err_by, kept_by_report, out_by, status
 use Rattle.top_call.proofs.Runs.{promised}
 use Rattle.top_call.proofs.top.orch_plain.Goals as goal
 
--- ---- the words are taken
+-- ---- the command line is accepted
 
 pub returns-in-Ok-clause-usage : goal.returns-in-Ok-clause-usage
 returns-in-Ok-clause-usage g c =

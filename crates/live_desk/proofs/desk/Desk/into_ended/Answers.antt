@@ -3,7 +3,7 @@ use Rattle.live_desk.proofs.Prelude.{Entry, Held, IsLive, Recorded, Row, RunsOn,
 use Rattle.live_desk.proofs.Ends.{ended-run, live-end}
 use Rattle.live_desk.proofs.desk.Desk.into_ended.Goals as goal
 
--- where the caller's last turns led
+-- the state to which the caller's last turns led
 abbrev last : goal.After-drop-rows-inside-2 → Held Recorded
 last c = record { rows = c.finish_jobs.new.rows; state = c.finish_jobs.new.orch }
 

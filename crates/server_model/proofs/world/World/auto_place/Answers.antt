@@ -55,7 +55,7 @@ coord_after-requires c =
     let known = ap (λ (i : Index). length i.log.entries) (log-logged c.source.inside c.index-source.result.now c.source.view_is (ap (λ (x : Server). x.settings.logs) c.source.view_is ∙ target.1)) in
     omega (arith, held, few, known)
 
--- where no transaction is errant the source answers by what it has purged
+-- if no transaction is errant, the source answers by what it has purged
 
 pub returns-in_err-purged_answer-clause-answer : goal.returns-in_err-purged_answer-clause-answer
 returns-in_err-purged_answer-clause-answer c =
