@@ -110,7 +110,17 @@ def mistakes_of_command(line: CommandLine) -> list[Mistake]:
     found = [Mistake(name, "`%s` needs %s." % (command.name, table.synopsis_of(name))) for name in command.needs if name not in line.values]
     if "--plan" in line.values and not table.has_plan(command.name):
         found.append(Mistake("--plan", "`%s` has no plan (--plan): it moves and changes no server." % command.name))
-    return found
+    return found + mistakes_of_dump(line, command)
+
+
+def mistakes_of_dump(line: CommandLine, command: table.Command) -> list[Mistake]:
+    """What is wrong with --dump: `run` and its like have none, and nothing else may be asked for on standard output."""
+    if "--dump" not in line.values:
+        return []
+    if command.group == "scenario":
+        return [Mistake("--dump", "`%s` takes no --dump: `-c dump` prints the servers after the turns." % command.name)]
+    return [Mistake(name, "`--dump` and `%s` don't go together: both are printed on standard output." % name)
+            for name in ("--plan", "--tables") if name in line.values]
 
 
 def mistakes_of_values(line: CommandLine) -> list[Mistake]:

@@ -2,6 +2,7 @@
 from __future__ import annotations
 
 import dataclasses
+import json
 import re
 import shlex
 from collections.abc import Callable
@@ -108,4 +109,21 @@ def steps_of(program: Program, data: dict[str, Any], commands: list[list[str]], 
         ended()
         if not steps[-1].is_done:
             break
+    return steps
+
+
+def flat_step(program: Program, data: dict[str, Any], words: list[str]) -> Step:
+    """One command, whose data are the servers after it as the program dumps them."""
+    answer = program.report(data, *(word for word in words if word != "--tables"), "--dump")
+    if not answer.out:
+        raise NoAnswer(answer.reason)
+    return Step(words, dataclasses.replace(answer, out=""), json.loads(answer.out))
+
+
+def flat_steps_of(program: Program, data: dict[str, Any], commands: list[list[str]], ended: Callable[[], None]) -> list[Step]:
+    """The same, and the data of the last step are the servers alone."""
+    steps = steps_of(program, data, commands[:-1], ended)
+    last = steps.pop().words if steps and not steps[-1].is_done else commands[-1]
+    steps.append(flat_step(program, steps[-1].data if steps else data, last))
+    ended()
     return steps

@@ -54,6 +54,7 @@ OPTIONS = (
     Option("--pattern", "pattern", "REGEX", "a regular expression over HOST:PORT"),
     Option("--tables", "flag", "", "after the answer, print the tables of all servers and recoveries"),
     Option("--plan", "flag", "", "print the command's plan as SQL statements, and carry nothing out"),
+    Option("--dump", "flag", "", "print the servers after the command as a new scenario, and the answer on standard error"),
     Option("--summary", "flag", "", "of a run, print four lines of counts instead of its replies and tables"),
     Option("--wait", "number", "N", "how many waits each waiting step has (1000)", 1, 10000),
     Option("--promotion-rule", "rule", "RULE", "prefer, neutral, prefer_not or must_not"),
@@ -67,7 +68,7 @@ OPTIONS = (
     Option("--turns", "number", "N", "how many turns are drawn (100)", 0, 1000000),
 )
 
-PLAN = ("--plan", "--tables", "--wait")
+PLAN = ("--plan", "--dump", "--tables", "--wait")
 
 COMMANDS = (
     Command("run", "scenario", (), ("--summary", "--wait"), "run the scenario's turns, and print each reply and the tables"),

@@ -5,7 +5,8 @@ turns end there. What each command answered is on standard error. It stops at th
   orch then --list window.txt now.json | orch outage db2
 
 The commands are kept as turns, so what orchestrator knows (recoveries, downtimes, rules, kept pairs) goes on with the servers. With
---flat the servers are printed as a scenario without turns, by `dump`: then only the servers and the given promotion rules go on.
+--flat the servers are printed as a scenario without turns: then only they and the given promotion rules go on. For one command that
+is the program's own option: `orch -c COMMAND --dump`, which leaves out the rules, too.
 """
 from __future__ import annotations
 
@@ -41,14 +42,10 @@ def texts_of(given: argparse.Namespace) -> list[str]:
     return [*texts, *given.command]
 
 
-def flat(program: Program, told: scenario.Scenario, data: dict[str, Any]) -> dict[str, Any]:
-    """The servers after the turns as a scenario of their own, with the rules that the first one gave."""
-    made: dict[str, Any] = json.loads(program.report(data, "-c", "dump").out)
-    rules = {scenario.full(server["name"]): server["rule"] for server in told.servers() if "rule" in server}
-    for server in made["servers"]:
-        if server["name"] in rules:
-            server["rule"] = rules[server["name"]]
-    return made
+def with_rules(data: dict[str, Any], told: scenario.Scenario) -> dict[str, Any]:
+    """Dumped servers, with the rules that the first scenario gave."""
+    rules = {scenario.full(server["name"]): {"rule": server["rule"]} for server in told.servers() if "rule" in server}
+    return {**data, "servers": [{**server, **rules.get(server["name"], {})} for server in data["servers"]]}
 
 
 def told_of(step: sequel.Step) -> list[str]:
@@ -69,8 +66,8 @@ def run(given: argparse.Namespace) -> int:
     program, told = Program(), scenario.read(given.scenario, given.notes)
     scenario.state_of(program, told)
     with Count("orch then: commands", len(commands)) as progress:
-        steps = sequel.steps_of(program, told.data, commands, progress.step)
-    data = flat(program, told, steps[-1].data) if given.flat else steps[-1].data
+        steps = (sequel.flat_steps_of if given.flat else sequel.steps_of)(program, told.data, commands, progress.step)
+    data = with_rules(steps[-1].data, told) if given.flat else steps[-1].data
     if given.json:
         print(json.dumps({"steps": [step.as_json() for step in steps], "scenario": data, "notes": told.repeated(set(told.full_names()))}))
     else:

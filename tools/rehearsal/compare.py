@@ -16,6 +16,13 @@ def behind(words: list[str], key: str, start: int = 0) -> str:
     return words[words.index(key, start) + 1]
 
 
+def executed(now: Topology, server: Server) -> int:
+    """How many of the scenario's transactions a server has executed: as its log has them, or as its position has them if it has no log."""
+    if server.logs or server.status is None:
+        return now.before[server.name] + len(server.groups) - now.start
+    return now.place_of(server.status.source, server.status.exec)
+
+
 class Exactly:
     """Compares a server's line of the tables, value by value; coordinates by places."""
 
@@ -46,13 +53,15 @@ class Exactly:
     def server(self, name: str, words: list[str], server: Server) -> None:
         """Compares a server's line."""
         status = server.status
-        self.differ(name, "executed", self.executed[name], self.now.before[name] + len(server.groups) - self.now.start)
+        self.differ(name, "executed", self.executed[name], executed(self.now, server))
         source = behind(words, "source")
         if self.differ(name, "source", source, status.source if status else "none"):
             return
         self.differ(name, "ro" if words[3] == "ro" else "rw", "", "" if (words[3] == "ro") == server.read_only else "not")
         if status:
             self.replica(name, words, status, source)
+        if self.differ(name, "log", behind(words, "end") != "none", server.logs) or not server.logs:
+            return
         end = model_coord(behind(words, "end"))
         self.differ(name, "files", end.number, server.files[-1] - self.now.first_file(name) + 1)
         self.differ(name, "end", model_text(end), model_text(self.log(name).end()))

@@ -377,6 +377,32 @@ def recover_gtid_ahead(s: Story) -> Told:
 
 
 @story
+def recover_gtid_unlogged(s: Story) -> Told:
+    """e has executed most but has no binary log: it is ahead and detached, and keeps auto position"""
+    s.without_log("e")
+    dead_gtid(s)
+    s.read()
+    s.poll()
+    s.fail("a")
+    s.join("b", "c", "d", "e")
+    s.poll()
+    return ("recover", "a", None), lambda j: (j.recover_master, s.n("a"), s.names("bcde"), s.bridges)
+
+
+@story
+def regroup_gtid_ahead(s: Story) -> Told:
+    """e has executed most but must not be promoted: a regroup leaves it attached to the dead master, by auto position"""
+    dead_gtid(s)
+    s.rules[s.n("e")] = "must_not"
+    s.read()
+    s.poll()
+    s.fail("a")
+    s.join("b", "c", "d", "e")
+    s.poll()
+    return ("regroup-replicas", "a", None), lambda j: (j.regroup, s.n("a"), s.names("bcde"), s.bridges)
+
+
+@story
 def regroup_gtid(s: Story) -> Told:
     """the master dies with unequal replicas: all go below the best by their sets; nobody is lost"""
     dead_gtid(s)

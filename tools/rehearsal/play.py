@@ -25,7 +25,6 @@ from rehearsal.story import LOGIN, Differs, Story
 
 Say = Callable[[str], None]
 There = tuple[str | None, Any]
-AHEAD = "the runner stops at the replica that is ahead, which a plan by GTIDs attaches like the others"
 TROUBLES = (Differs, Down, Refused, Cant, Unread, RuntimeError, ValueError, subprocess.TimeoutExpired)
 
 
@@ -157,12 +156,6 @@ def outcome_differs(story: Story, kind: str | None, got: Any, there: There) -> l
     return lines_differ(story, got, there[1])
 
 
-def stops_at_ahead(story: Story, got: Any, there: There) -> bool:
-    """Whether the runner stopped a recovery's plan at a replica that the program calls ahead: by GTIDs the plan attaches it like the others."""
-    is_ahead = bool(story.scenario.get("gtid")) and any(" ahead " in line for line in got)
-    return is_ahead and there[0] == "failed" and "has executed what" in there[1]
-
-
 def without_known(story: Story, lines: list[str], say: Say) -> list[str]:
     """What differs otherwise than a story foretells."""
     left = []
@@ -236,9 +229,6 @@ class Playing:
         else:
             there = self.carried_out(told, plan, got)
             self.say("servers: %s %s" % (there[0], story.spell(there[1] if isinstance(there[1], str) else "; ".join(there[1]))))
-            if self.by_plan and stops_at_ahead(story, got, there):
-                self.say("known: " + AHEAD)
-                return bad
             bad += outcome_differs(story, kind, got, there)
         if story.writer:
             self.say(story.writer.stop())

@@ -381,6 +381,45 @@ def old_master_comes_back(s: Story) -> Told:
 
 
 @gtid_race
+def ahead_is_attached_again(s: Story) -> Told:
+    """d must not be promoted, is ahead and detached by the recovery's plan; the old master is back, and d is attached to it again: both by auto position"""
+    s.root("a")
+    for letter in "bcd":
+        s.below(letter, "a", proxy=True, auto=True)
+    s.write("a", 3)
+    s.settle("b", "c", "d")
+    s.cut("b", "c")
+    s.write("a", 2)
+    s.settle("d")
+    s.rules[s.n("d")] = "must_not"
+    s.read()
+    s.fail("a")
+    s.join("b", "c")
+    s.poll()
+    kind, got, _ = s.rehearse("recover", "a")
+    there = [carried_out(s, plan_of(s, "recover", "a")), placed(s, "d")]
+    s.farm.launch(s.n("a"))
+    s.farm.ready(s.n("a"))
+    s.down.clear()
+    s.noting, s.turns = False, []
+    s.read()
+    again, _, tables = s.rehearse("reattach-replica", "d")
+    there += [carried_out(s, plan_of(s, "reattach-replica", "d"))]
+    s.quiet()
+    there += [placed(s, "d")] + s.compare(tables)[0]
+    told = "%s %s; %s" % (kind, "; ".join(got), again)
+    wanted = ["carried out", "//a, Auto_Position 1, receiver No", "carried out", "a, Auto_Position 1, receiver Yes"]
+    return told, "; ".join(there), told.endswith("detached; done") and there == wanted
+
+
+def placed(s: Story, letter: str) -> str:
+    """A replica's source, with the two slashes of a detached one, and how it goes."""
+    seen = s.state(s.n(letter))
+    source = "//" * seen.detached + s.letter(seen.source or "")
+    return "%s, Auto_Position %s, receiver %s" % (source, seen.row["Auto_Position"], seen.io)
+
+
+@gtid_race
 def source_dies_after_change(s: Story) -> Told:
     """c was put below b by its set, and b dies before c has read of it: the import places c by its set"""
     s.root("a")

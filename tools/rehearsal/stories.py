@@ -524,6 +524,52 @@ def recover_ahead(s: Story) -> Told:
 
 
 @story
+def recover_unlogged(s: Story) -> Told:
+    """the master dies: e has executed most but has no binary log: it is ahead and detached"""
+    s.without_log("e")
+    below_dead(s)
+    dies(s)
+    return ("recover", "a", None), lambda j: (j.recover_master, s.n("a"), s.names("bcde"), s.bridges)
+
+
+@story
+def regroup_ahead(s: Story) -> Told:
+    """the master dies: e has executed most but must not be promoted: a regroup leaves it attached to the master"""
+    below_dead(s)
+    s.rules[s.n("e")] = "must_not"
+    dies(s)
+    return ("regroup-replicas", "a", None), lambda j: (j.regroup, s.n("a"), s.names("bcde"), s.bridges)
+
+
+@story
+def recover_unreached(s: Story) -> Told:
+    """the master and d die: d isn't reached and is lost; in GTID mode all go by auto position"""
+    s.root("a")
+    for letter in "bcd":
+        s.below(letter, "a", proxy=True, auto=s.farm.make.gtid)
+    s.write("a", 3)
+    s.settle("b", "c", "d")
+    s.read()
+    s.fail("d")
+    s.fail("a")
+    s.poll()
+    return ("recover", "a", None), lambda j: (j.recover_master, s.n("a"), s.names("bcd"), s.bridges)
+
+
+def dies(s: Story) -> None:
+    """The servers are read; then e executes another transaction, and a dies."""
+    s.read()
+    s.write("a", 1)
+    s.join("e")
+    s.settle("e")
+    s.cut("e")
+    s.poll()
+    s.fail("a")
+    s.join("b", "c", "d", "e")
+    s.poll()
+
+
+@story
 def recover_read_after_death(s: Story) -> Told:
     """the topology is read when the master is dead already: its log is what its replicas have, relay logs too; MySQL without GTIDs can't have it"""
     s.root("a")

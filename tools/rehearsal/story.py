@@ -20,7 +20,7 @@ from orch_tools.reading import Server
 from orch_tools.topology import Topology
 from rehearsal.by_gtids import GtidJob
 from rehearsal.by_hand import Bridges, Job
-from rehearsal.compare import Exactly, Loosely
+from rehearsal.compare import Exactly, Loosely, executed
 from rehearsal.farm import Farm, Proxy, free_ports
 from rehearsal.kinds import REPLICATION
 
@@ -148,6 +148,13 @@ class Story:
                           "%s, SOURCE_CONNECT_RETRY=1%s" % ((port,) + LOGIN + (at, make.login_words)))
         self.farm.ask(r, "SET GLOBAL read_only=ON")
         self.farm.tell(r, "START REPLICA")
+
+    def without_log(self, r: str) -> None:
+        """From its start on it has no binary log; it gets one again when it is emptied."""
+        r = self.n(r)
+        self.farm.quit(r)
+        self.farm.launch(r, ["--skip-log-bin"])
+        self.farm.ready(r)
 
     def state(self, name: str) -> Seen:
         """A server's status now."""
@@ -413,9 +420,9 @@ class Story:
         """Each server has the rows of each transaction that it executed exactly once."""
         bad = []
         for name, server in now.servers.items():
-            if name in self.down or not server.groups:
+            if name in self.down or server.logs and not server.groups:
                 continue
-            listed = self.transactions[:self.offset + now.before[name] + len(server.groups)]
+            listed = self.transactions[:self.offset + now.start + executed(now, server)]
             wanted = {one[:2]: one[2] for one in listed if one}
             found = {(int(row["o"]), int(row["s"])): int(row["c"])
                      for row in self.farm.ask(name, "SELECT o, s, COUNT(*) c FROM d.t GROUP BY o, s")}

@@ -8,7 +8,7 @@ import time
 from typing import Any
 
 from rehearsal.farm import Farm
-from rehearsal.play import AHEAD, TROUBLES, Say, There, follow, outcome_differs, printed_plan, sources, stops_at_ahead, tell
+from rehearsal.play import TROUBLES, Say, There, follow, outcome_differs, printed_plan, sources, tell
 from rehearsal.print_plan import NoPlan
 from rehearsal.story import Differs, Story, Writes
 
@@ -161,7 +161,7 @@ class Death:
     """A random tree whose master or intermediate master dies; under load a client writes until then."""
 
     def __init__(self, story: Story, dice: random.Random, say: Say) -> None:
-        self.story, self.dice, self.say, self.is_stopped = story, dice, say, False
+        self.story, self.dice, self.say = story, dice, say
         self.above: dict[str, str] = {}
 
     def topology(self) -> None:
@@ -229,7 +229,7 @@ class Death:
         if s.writer:
             self.say(s.writer.stop())
         s.quiet()
-        return bad + (s.rows(s.again()) if self.is_stopped else s.compare(tables)[0])
+        return bad + s.compare(tables)[0]
 
     def refusal(self, got: str, victim: str, replicas: list[str]) -> list[str]:
         """A recovery is refused where nobody may be promoted."""
@@ -262,10 +262,6 @@ class Death:
             for remark in dict.fromkeys(job.remarks):
                 self.say("remark: " + s.spell(remark))
         self.say("by the printed plan" if by_plan else "by hand")
-        if by_plan and stops_at_ahead(s, got, there):
-            self.say("known: " + AHEAD)
-            self.is_stopped = True
-            return []
         return outcome_differs(s, kind, got, there) + (self.stands(there) if there[0] == "done" else [])
 
 

@@ -117,7 +117,7 @@ class HelpTest(WrapperTest):
         path = os.path.join(TOP, "crates", "command_line", "src", "options.rt")
         with open(path, encoding="utf-8") as file:
             source = file.read()
-        words = {"--" + word for word in re.findall(r'^    "([a-z-]+)",$', source, re.M) + re.findall(r'"(tables|summary|plan)"\)', source)}
+        words = {"--" + word for word in re.findall(r'^    "([a-z-]+)",$', source, re.M) + re.findall(r'"(tables|summary|plan|dump)"\)', source)}
         self.assertEqual(words | {"-c", "-i", "-d"}, set(table.OPTION_OF))
 
     def test_completion_of_bash_completes(self) -> None:

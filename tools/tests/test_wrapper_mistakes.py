@@ -65,6 +65,9 @@ ARGUMENTS = [
     line("--table", "-c move-up -i r --table", 1, "there is no option `--table`. Did you mean `--tables`?"),
     line("--dry-run", "-c relocate -i r -d m --dry-run", 1, "there is no option `--dry-run`. Did you mean `--plan`?"),
     line("--plan of a question", "-c topology -i m --plan", 1, "--plan"),
+    line("--dump of a run", "-c run --dump", 1, "`run` takes no --dump: `-c dump` prints the servers after the turns"),
+    line("--dump with --plan", "-c move-up -i r --dump --plan", 1, "`--dump` and `--plan` don't go together"),
+    line("--dump with --tables", "-c topology -i m --dump --tables", 1, "`--dump` and `--tables` don't go together"),
     line("an option twice", "-c run -c run", 1, "`-c` is given twice"),
     line("an unknown server", "-c topology -i x", 7, "no server is called x:3306 (after -i)"),
     line("a wrong port", "-c topology -i r:3307", 7, "no server is called r:3307 (after -i). Did you mean `r:3306`?"),
@@ -175,4 +178,4 @@ class MistakesTest(WrapperTest):
 
     def test_there_are_as_many_as_were_collected(self) -> None:
         """No mistake is left out."""
-        self.assertEqual(len({mistake.name for mistake in MISTAKES}), 93)
+        self.assertEqual(len({mistake.name for mistake in MISTAKES}), 96)

@@ -231,6 +231,25 @@ class ThenTest(WrapperTest):
         servers = {server["name"]: server for server in told.json["servers"]}
         self.assertEqual((servers["db2:3306"]["source"], servers["db3:3306"]["rule"], told.json["turns"]), ("db3:3306", "prefer", []))
 
+    def test_a_flat_scenario_is_what_the_program_dumps(self) -> None:
+        """`--dump` prints the servers that the command leaves, which `dump` prints after its turns."""
+        words = ("-c", "move-below", "-i", "db2", "-d", "db3")
+        alone = self.told(0, *words, "--dump", "--scenario", SHOP)
+        self.assertEqual(alone.err, "db2:3306<db3:3306\n")
+        flat = self.told(0, "then", "--command", " ".join(words), "--flat", SHOP).json
+        bare = [{key: value for key, value in server.items() if key != "rule"} for server in flat["servers"]]
+        self.assertEqual({**flat, "servers": bare}, alone.json)
+        turned = self.told(0, "then", "--command", " ".join(words), SHOP)
+        self.assertEqual(self.told(0, "-c", "dump", given=turned.out).json, alone.json)
+
+    def test_a_flat_scenario_after_a_refusal(self) -> None:
+        """It has the servers before the command, with the status 1 of the list and 7 of the program."""
+        told = self.told(1, "then", "--command", "move-up -i db2", *self.WINDOW, "--flat", SHOP)
+        self.assert_lines(told.err, "NOT -c move-up -i db2", "    refused 11 SourceHasNoSource")
+        alone = self.told(7, "-c", "move-up", "-i", "db2", "--dump", "--scenario", SHOP)
+        self.assertEqual((alone.err, alone.out), ("refused 11 SourceHasNoSource\n", self.told(0, "-c", "dump", "--scenario", SHOP).out))
+        self.assertEqual(told.json["servers"][1]["source"], "db1:3306")
+
     def test_wrong_arguments(self) -> None:
         """No command, and one that isn't known."""
         self.assertIn("no command is given", self.told(2, "then", SHOP).err)

@@ -1,8 +1,8 @@
 -- What an accepted command line has.
 use Rattle.command_line.proofs.Prelude.{AreTaken, BadWords, Counts, Dump, Generate, Instances, IsDrawn, Live, Own, Places, Row, Run, Text, Texts}
-use Rattle.command_line.proofs.Prelude.{Usage, and_parts as both_true, bounded_in, command_in, counts_in, drawing_by, duration_in, first_of, has_flag}
+use Rattle.command_line.proofs.Prelude.{Usage, and_parts as both_true, bounded_in, command_in, counts_in, drawing_by, dump_in, duration_in, first_of, has_flag}
 use Rattle.command_line.proofs.Prelude.{has_needed, instances_in, is_drawable, is_given, is_pattern, is_plan_word, is_taken_word, is_within_bound}
-use Rattle.command_line.proofs.Prelude.{leb-true, maybe, name_in, needs_at, number_and_unit, number_at, number_in, number_within}
+use Rattle.command_line.proofs.Prelude.{leb-true, maybe, may_dump, name_in, needs_at, number_and_unit, number_at, number_in, number_within}
 use Rattle.command_line.proofs.Prelude.{or_bad as or_bad_value, or_default, own_at, pattern_in, places_in, places_of, plan_in, rows_of_texts, rule_in}
 use Rattle.command_line.proofs.Prelude.{seconds_at, text_in, text_within, texts_in, texts_of, within}
 use Rattle.command_line.proofs.Prelude.Usages.{or_bad}
@@ -192,6 +192,16 @@ plan_has word true plan e is = go (is_plan_word word) refl e
     go true planned e = planned
     go false planned e = cc
 
+-- ---- the servers after a command
+
+dump_has : (word : Text) (plan tables asked dump : Bool) → dump_in word plan tables asked ≡ Ok dump → dump ≡ true → may_dump word plan tables ≡ true
+dump_has word plan tables false dump e is = cc
+dump_has word plan tables true dump e is = go (may_dump word plan tables) refl e
+  where
+    go : (b : Bool) → may_dump word plan tables ≡ b → cond {A = Result Bool Usage} b (Ok true) (Err BadWords) ≡ Ok dump → may_dump word plan tables ≡ true
+    go true may e = may
+    go false may e = cc
+
 -- ---- all of them
 
 places_have : (rows : List Row) (p : Places) → places_in rows ≡ Ok p → AreTaken p
@@ -202,6 +212,7 @@ places_have rows p e =
     let texts = bind_ok (texts_in rows) _ p instances.2 in
     let counts = bind_ok (bounded_in command.0 rows) _ p texts.2 in
     let plan = bind_ok (plan_in command.0 (has_flag (codes "plan") rows)) _ p counts.2 in
+    let dump = bind_ok (dump_in command.0 plan.0 (has_flag (codes "tables") rows) (has_flag (codes "dump") rows)) _ p plan.2 in
     let drawn = bounded command.0 rows counts.0 counts.1 in
     let named = given rows command.0 command.1 in
     let read = instances_have rows instances.0 instances.1 in
@@ -209,7 +220,7 @@ places_have rows p e =
     let needs = needs_at command.0 in
     let there : ((is_some instances.0.i || not needs.i) && (is_some instances.0.d || not needs.d) && (is_some instances.0.rule || not needs.rule) && (is_some texts.0.pattern || not needs.pattern)) ≡ true =
     rw (read.i, read.d, read.rule, told.there) named.there in
-    subst AreTaken (same_ok _ p plan.2) (record {
+    subst AreTaken (same_ok _ p dump.2) (record {
       word = named.word;
       needs = there;
       duration = read.duration;
@@ -220,6 +231,7 @@ places_have rows p e =
       workers = drawn.0.workers;
       drawn = drawing_has (own_at command.0) _ counts.0 refl refl drawn.0.servers drawn.1;
       plan = plan_has command.0 (has_flag (codes "plan") rows) plan.0 plan.1;
+      dump = dump_has command.0 plan.0 (has_flag (codes "tables") rows) (has_flag (codes "dump") rows) dump.0 dump.1;
     })
 
 pub taken_have : (words : List (List ℕ)) (p : Places) → places_of words ≡ Ok p → AreTaken p

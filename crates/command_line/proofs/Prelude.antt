@@ -13,7 +13,7 @@ pub use Rattle.clap.specs.Walk.{Row, Text, first_of}
 pub use Rattle.clap.specs.declared.error.kind.ErrorKind.{ErrorKind}
 pub use Rattle.clap.specs.declared.error.kind.ErrorKind.TheVariants.{OutOfMemory}
 unfoldable pub use Rattle.cluster_filters.specs.Patterns.{is_pattern}
-pub use Rattle.command_line.specs.Commands.{has_needed, is_given, is_plan_word, is_taken_word, own_at, plan_in}
+pub use Rattle.command_line.specs.Commands.{dump_in, has_needed, is_given, is_plan_word, is_taken_word, may_dump, own_at, plan_in}
 unfoldable pub use Rattle.command_line.specs.Commands.{command_in, needs_at}
 pub use Rattle.command_line.specs.Options.{long_rule, rows_in, unless_faulty, with_options}
 unfoldable pub use Rattle.command_line.specs.Options.{orch, rows_of_texts, texts_of}

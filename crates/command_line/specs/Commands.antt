@@ -1,4 +1,4 @@
--- What `-c` names, whether it has the options that it needs, and whether it has a plan.
+-- What `-c` names, whether it has the options that it needs, and what may be asked for in place of its answer.
 use Rattle.std.specs.Prelude.{Bool, true, false, List, ◌&&◌, ◌||◌, not, codes, is_some, Option, Some, None, Result, Ok, Err, if◌then◌else◌}
 use Rattle.std.specs.Option.{option_map_or}
 use Rattle.std.specs.Str.{bytes_eq}
@@ -68,3 +68,14 @@ is_plan_word word = option_map_or (λ name. has_plan (route_of name)) (name_of w
 abbrev pub plan_in : Text → Bool → Result Bool Usage
 plan_in word false = Ok false
 plan_in word true = if is_plan_word word then Ok true else Err BadWords
+
+-- ---- the servers after a command
+
+-- it is a command's word, and nothing else is asked for on out
+abbrev pub may_dump : Text → Bool → Bool → Bool
+may_dump word plan tables = not (is_some (own_at word)) && not plan && not tables
+
+-- whether the servers after the command are asked for
+abbrev pub dump_in : Text → Bool → Bool → Bool → Result Bool Usage
+dump_in word plan tables false = Ok false
+dump_in word plan tables true = if may_dump word plan tables then Ok true else Err BadWords

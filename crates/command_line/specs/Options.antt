@@ -38,9 +38,12 @@ option_names = codes "scenario" ∷ codes "db" ∷ codes "promotion-rule" ∷ co
 abbrev pub with_letters : App → App
 with_letters app = with_rule (with_rule (with_rule app (short_rule 99 (codes "c"))) (short_rule 105 (codes "i"))) (short_rule 100 (codes "d"))
 
+-- `--tables`, `--summary`, `--plan` and `--dump`
+abbrev pub with_flags : App → App
+with_flags app = with_rule (with_rule (with_rule (with_rule app (flag_rule (codes "tables"))) (flag_rule (codes "summary"))) (flag_rule (codes "plan"))) (flag_rule (codes "dump"))
+
 unfoldable pub orch : App
-orch =
-    with_rule (with_rule (with_rule (with_options (with_letters (new_app (codes "orch"))) option_names) (flag_rule (codes "tables"))) (flag_rule (codes "summary"))) (flag_rule (codes "plan"))
+orch = with_flags (with_options (with_letters (new_app (codes "orch"))) option_names)
 
 -- what a parse found, option by option
 abbrev pub rows_in : ArgMatches → List Row

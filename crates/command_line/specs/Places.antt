@@ -13,7 +13,7 @@ use Rattle.command_line.specs.declared.command.Own.TheVariants.{Run, Generate, D
 use Rattle.command_line.specs.declared.parts.Drawing.{Drawing}
 use Rattle.command_line.specs.declared.usage.Usage.{Usage}
 use Rattle.command_line.specs.declared.usage.Usage.TheVariants.{BadWords}
-use Rattle.command_line.specs.Commands.{command_in, own_at, plan_in}
+use Rattle.command_line.specs.Commands.{command_in, dump_in, own_at, plan_in}
 use Rattle.command_line.specs.Options.{rows_of_texts, texts_of}
 use Rattle.command_line.specs.Values.{duration_in, maybe, name_in, number_in, or_default, pattern_in, rule_in, text_in, text_within}
 use Rattle.orch_base.specs.Gives.{◌>>=◌}
@@ -73,6 +73,7 @@ places_in rows = do
   texts ← texts_in rows
   counts ← bounded_in command rows
   plan ← plan_in command (has_flag (codes "plan") rows)
+  dump ← dump_in command plan (has_flag (codes "tables") rows) (has_flag (codes "dump") rows)
   Ok (record {
     command = command;
     i = instances.i;
@@ -93,11 +94,13 @@ places_in rows = do
     tables = has_flag (codes "tables") rows;
     summary = has_flag (codes "summary") rows;
     plan = plan;
+    dump = dump;
   })
 
 -- What the command line means, if it is accepted. The arguments are UTF-8, clap gives matches, and `-c` names what the
--- program itself does or a command and has the options that it needs. Each value reads, what is to be drawn is within
--- its bound, and a plan is asked for only for a command that has one.
+-- program itself does or a command and has the options that it needs. Each value reads, and what is to be drawn is
+-- within its bound. A plan is asked for only for a command that has one. The servers after it are asked for only for a
+-- command, and neither with its plan nor with the tables.
 unfoldable pub places_of : List (List ℕ) → Result Places Usage
 places_of words = do
   texts ← texts_of words

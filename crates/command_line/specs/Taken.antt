@@ -5,7 +5,7 @@ use Rattle.commands.specs.declared.needs.Needs.{Needs}
 use Rattle.scenario_generator.specs.Bounds.{is_drawable}
 use Rattle.command_line.specs.declared.parts.Drawing.{Drawing}
 use Rattle.command_line.specs.declared.parts.Places.{Places}
-use Rattle.command_line.specs.Commands.{is_plan_word, is_taken_word, needs_at}
+use Rattle.command_line.specs.Commands.{is_plan_word, is_taken_word, may_dump, needs_at}
 use Rattle.command_line.specs.Places.{drawing_of}
 
 -- each option that is needed is there
@@ -18,7 +18,8 @@ pub record IsDrawn (d : Drawing) : Type 0 where
   pub bound : is_drawable d.servers d.turns ≡ true
 
 -- The name is the program's own or a command's, and what it needs is there. Each number, text and pattern is in its
--- range, and so is what is to be drawn. If a plan is asked for, the command has one.
+-- range, and so is what is to be drawn. If a plan is asked for, the command has one. If the servers after it are asked
+-- for, it is a command, and neither its plan nor the tables are.
 pub record AreTaken (p : Places) : Type 0 where
   pub word : is_taken_word p.command ≡ true
   pub needs : are_there (needs_at p.command) p ≡ true
@@ -30,3 +31,4 @@ pub record AreTaken (p : Places) : Type 0 where
   pub workers : (1 ≤ p.workers) × (p.workers ≤ 16)
   pub drawn : IfSome (drawing_of p) IsDrawn
   pub plan : p.plan ≡ true → is_plan_word p.command ≡ true
+  pub dump : p.dump ≡ true → may_dump p.command p.plan p.tables ≡ true

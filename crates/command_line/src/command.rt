@@ -2,7 +2,7 @@
 
 ghost use Rattle.std.specs.Prelude.{◌≡◌};
 ghost use Rattle.orch_base.specs.Gives.{Gives};
-ghost use Rattle.command_line.specs.Commands.{command_in, has_needed, has_plan, is_plan_word, is_taken_word, needs_at, own_at, plan_in};
+ghost use Rattle.command_line.specs.Commands.{command_in, dump_in, has_needed, has_plan, is_plan_word, is_taken_word, may_dump, needs_at, own_at, plan_in};
 ghost use Rattle.command_line.specs.Options.{rows_in};
 ghost use Rattle.command_line.specs.Usages.{usage_fault};
 
@@ -119,6 +119,24 @@ pub(crate) fn plan_in(word: &str, asked: bool) -> Result<bool, Usage>
     ensures { Gives (λ b. b) usage_fault result (plan_in word.now asked) }
 {
     if asked && !is_plan_word(word) {
+        return Err(Usage::BadWords);
+    }
+    Ok(asked)
+}
+
+// Whether it is a command's word, and nothing else is asked for on out.
+fn may_dump(word: &str, plan: bool, tables: bool) -> bool
+    ensures { result ≡ may_dump word.now plan tables }
+{
+    Own::read(word).is_none() && !plan && !tables
+}
+
+/// Whether the servers after the command are asked for. For a word of the program's own, and beside a plan or the
+/// tables, it is `BadWords`.
+pub(crate) fn dump_in(word: &str, plan: bool, tables: bool, asked: bool) -> Result<bool, Usage>
+    ensures { Gives (λ b. b) usage_fault result (dump_in word.now plan tables asked) }
+{
+    if asked && !may_dump(word, plan, tables) {
         return Err(Usage::BadWords);
     }
     Ok(asked)

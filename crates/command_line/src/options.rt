@@ -4,7 +4,7 @@ ghost use Rattle.std.specs.Prelude.{◌≡◌, IfOk, map, option_map};
 ghost use Rattle.clap.specs.Simple.{app_of, with_rule};
 ghost use Rattle.clap.specs.Walk.{first_of};
 ghost use Rattle.orch_base.specs.Gives.{Gives};
-ghost use Rattle.command_line.specs.Options.{flag_rule, long_rule, orch, rows_in, rows_of_texts, texts_of, with_letters, with_options};
+ghost use Rattle.command_line.specs.Options.{flag_rule, long_rule, orch, rows_in, rows_of_texts, texts_of, with_flags, with_letters, with_options};
 ghost use Rattle.command_line.specs.Usages.{usage_fault};
 
 use crate::Memory;
@@ -69,15 +69,22 @@ fn with_flag<'a>(alloc: Global, command: Command<'a>, name: &'a str) -> Result<C
     command.arg(flag)
 }
 
+fn with_flags<'a>(alloc: Global, command: Command<'a>) -> Result<Command<'a>, Memory>
+    ensures { IfOk result (λ c. app_of c ≡ with_flags (app_of command.entry)) }
+{
+    let command = with_flag(alloc, command, "tables")?;
+    let command = with_flag(alloc, command, "summary")?;
+    let command = with_flag(alloc, command, "plan")?;
+    with_flag(alloc, command, "dump")
+}
+
 #[tactic(auto, unfolding(crate::specs::Options::orch))]
 fn orch<'a>(alloc: Global) -> Result<Command<'a>, Memory>
     ensures { IfOk result (λ c. app_of c ≡ orch) }
 {
     let command = with_letters(alloc, Command::new(alloc, "orch"))?;
     let command = with_options(alloc, command, &OPTIONS)?;
-    let command = with_flag(alloc, command, "tables")?;
-    let command = with_flag(alloc, command, "summary")?;
-    with_flag(alloc, command, "plan")
+    with_flags(alloc, command)
 }
 
 /// The arguments as texts. Bytes that aren't UTF-8 are `BadWords`.

@@ -7,7 +7,7 @@ ghost use Rattle.command_line.specs.Places.{bounded_in, counts_in, drawing_of, h
 ghost use Rattle.scenario_generator.specs.Bounds.{is_drawable};
 ghost use Rattle.command_line.specs.Usages.{usage_fault};
 
-use crate::command::{Own, command_in, plan_in};
+use crate::command::{Own, command_in, dump_in, plan_in};
 use crate::options::text_of;
 use crate::usage::Usage;
 use crate::value::{
@@ -59,6 +59,8 @@ pub struct Places {
     pub summary: bool,
     /// `--plan`: the command is one that has a plan.
     pub plan: bool,
+    /// `--dump`: there is a command, and neither its plan nor the tables are asked for.
+    pub dump: bool,
 }
 
 /// A scenario that is to be drawn.
@@ -223,7 +225,9 @@ pub(crate) fn places_in(alloc: Global, matches: &ArgMatches<'_>) -> Result<Place
     let instances = instances_in(alloc, matches)?;
     let texts = texts_in(alloc, matches)?;
     let counts = bounded_in(command.as_str(), matches)?;
+    let tables = has_flag(matches, "tables");
     let plan = plan_in(command.as_str(), has_flag(matches, "plan"))?;
+    let dump = dump_in(command.as_str(), plan, tables, has_flag(matches, "dump"))?;
     Ok(Places {
         command,
         i: instances.i,
@@ -241,8 +245,9 @@ pub(crate) fn places_in(alloc: Global, matches: &ArgMatches<'_>) -> Result<Place
         seed: counts.seed,
         servers: counts.servers,
         turns: counts.turns,
-        tables: has_flag(matches, "tables"),
+        tables,
         summary: has_flag(matches, "summary"),
         plan,
+        dump,
     })
 }

@@ -15,7 +15,8 @@ use std::alloc::Global;
 /// - the arguments are UTF-8, and `clap` gives matches;
 /// - `-c` names what the program itself does or a command, and has the options that it needs;
 /// - each value reads, and what is to be drawn is within its bound;
-/// - a plan is asked for only for a command that has one.
+/// - a plan is asked for only for a command that has one;
+/// - the servers after it are asked for only for a command, and neither with its plan nor with the tables.
 ///
 /// `Memory` comes only if memory runs out.
 #[tactic(auto, unfolding(crate::specs::Places::places_of))]

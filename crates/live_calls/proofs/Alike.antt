@@ -32,6 +32,6 @@ same_opening s wait ts room flushes =
     ap (λ (n : ℕ). opens s wait (opened_world s.opening n (flushes_of (with_turns s ts)))) room ∙ ap (λ (n : ℕ). opens s wait (opened_world s.opening (room_of s) n)) flushes
 
 pub alike : SchedulesRunAlike
-alike = λ s wait tables ts room flushes.
+alike = λ s wait x ts room flushes.
     ap (λ (us : List Turn). run_answer (names_of s) (run_of (with_turns s ts) wait us).state) (append-nil ts)
     ∙ ap (λ (h : Held Recorded). run_answer (names_of s) (held_run recorder h ts).state) (same_opening s wait ts room flushes)

@@ -30,7 +30,7 @@ not_drawn _ p is = refl
 pub live_reads : (p : Places) → is_live p ≡ true → drawing_of p ≡ None
 live_reads p is = not_drawn (own_at p.command) p is
 
-both_ok : (r : Result Places Usage) (p q : Places) → r ≡ Ok p → r ≡ Ok q → p ≡ q
+pub both_ok : (r : Result Places Usage) (p q : Places) → r ≡ Ok p → r ≡ Ok q → p ≡ q
 both_ok (Ok x) p q e f = cc
 both_ok (Err u) p q e f = absurd cc
 

@@ -9,7 +9,7 @@ mod rows;
 mod top;
 
 pub use gates;
-pub use laws::schedules_run_alike;
+pub use laws::{dumps_are_of_what_is_left, refused_commands_leave_the_state, schedules_run_alike};
 pub use top::orch;
 pub use top_call::{command_line, instance_keeper_items, orch_base};
 use top_call::{kept_rows_items, orch_core_items, scenario_values, scenarios_items, tasks, turns};

@@ -1,6 +1,7 @@
 mod Barred
 mod Below
 mod Conditions
+mod Deciding
 mod Handing
 mod Jobs
 mod Lost

@@ -1,4 +1,5 @@
 pub mod Begun
 pub mod Followed
 pub mod Conditions
+pub mod Deciding
 pub mod Doing

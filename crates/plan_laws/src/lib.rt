@@ -3,6 +3,7 @@
 
 ghost use Rattle.plan_laws.specs.Begun.{MovesAreToldWhole, RecoveriesAreToldAsExpected, TakeoversAreToldWhole};
 ghost use Rattle.plan_laws.specs.Conditions.{ChoicesHaveTheirConditions};
+ghost use Rattle.plan_laws.specs.Deciding.{ConditionsDecideTheChoice};
 ghost use Rattle.plan_laws.specs.Doing.{RecoveriesAreDoneAsTold, RecoveriesAreOfTheirInstances};
 ghost use Rattle.plan_laws.specs.Followed.{RecoveriesFollowTheirPlans};
 
@@ -33,4 +34,11 @@ pub fn begun_recoveries_are_followed()
 /// condition the choice falls before it.
 pub fn choices_have_their_conditions()
     ensures { ChoicesHaveTheirConditions }
+{}
+
+/// If what is noted meets each line of a plan's choice, the recovery chooses the plan's server. Each drained replica is
+/// one that the plan expects, and no two have one name. The rules, the logging and the data centres are those by which
+/// the plan was made.
+pub fn conditions_decide_the_choice()
+    ensures { ConditionsDecideTheChoice }
 {}

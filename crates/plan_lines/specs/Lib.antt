@@ -6,4 +6,5 @@ pub mod Expected
 pub mod Branches
 pub mod Courses
 pub mod PlanTexts
+pub use Rattle.recovery_plans.specs.PromotionRules as PromotionRules
 pub mod RecoveryGrounds

@@ -83,7 +83,7 @@ module _ (c : Task) (names : List HostPort) (scenario : Scenario) (ts : List Tur
         ts = [];
         own = all_of_none c.asked kept recording.run (ap stages is);
       })
-      (ap (λ (a : Asked). asked_answer a c.tables names scenario recording.run) is ∙ ap (plan_answer own names) recording.state)
+      (ap (λ (a : Asked). asked_answer a c.extra names scenario recording.run) is ∙ ap (plan_answer own names) recording.state)
       wrote
 
   pub plan_keeper : (kept : Option (List Row)) (now : State) (out err : Taken) (why : TurnFault) → why ≡ fault.Keeper → WasCutOff engine from.kept from.state ts kept now why → Stands (course_from c names scenario ts from kept) (between out out) (between err err) ends.Keeper

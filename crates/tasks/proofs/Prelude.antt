@@ -92,8 +92,9 @@ pub use Rattle.tasks.specs.Plans.{Planned, begun_state, ground_in, lasting, last
 pub use Rattle.tasks.specs.Progress.{Adds, Answers, ClosesEach, Ends, EndsCut, EndsEach, EndsWhole, Follows, GaveUp, Gives, GivesUp, GivesUpEach}
 pub use Rattle.tasks.specs.Progress.{GivesUpOn, IsFresh, Leads, Point, Stops, StopsBefore, StopsBehind, StopsEach, StopsIn, Tallies, course_from}
 pub use Rattle.tasks.specs.Progress.{point, with_reply}
-pub use Rattle.tasks.specs.Report.{Answer, answer_of, asked_answer, cut_text, dump_of, is_commands, is_failure, is_refusal, is_refused, last_reply}
-pub use Rattle.tasks.specs.Report.{or_reply, own_answer, plan_answer_by, replies_text, summary_of, tables_of, tally_of, told_answer, verdict_of}
+pub use Rattle.tasks.specs.Report.{Answer, answer_of, asked_answer, cut_text, dump_of, extra_answer, is_commands, is_failure, is_refusal, is_refused}
+pub use Rattle.tasks.specs.Report.{last_reply, or_reply, own_answer, plan_answer_by, replies_text, summary_of, tables_of, tally_of, told_answer}
+pub use Rattle.tasks.specs.Report.{verdict_of, without_tables}
 unfoldable pub use Rattle.tasks.specs.Report.{any_refused, plan_answer}
 pub use Rattle.tasks.specs.Singles.{Writes, view}
 pub use Rattle.tasks.specs.Sinks.{Carries, End, FailsIn, IsHanded, IsOnTheWay, Stays, Taken, Takes, TakesFront, between, taken}
@@ -102,6 +103,7 @@ pub use Rattle.tasks.specs.Stages.{own_stages, own_turn, stages, taker, taker_by
 pub use Rattle.tasks.specs.Works.{Comes, IsCut, Work}
 pub use Rattle.tasks.specs.declared.asked.Asked.{Asked}
 pub use Rattle.tasks.specs.declared.asked.Asked.TheVariants as asked
+pub use Rattle.tasks.specs.declared.asked.Extra.{Extra}
 pub use Rattle.tasks.specs.declared.asked.Task.{Task}
 pub use Rattle.tasks.specs.declared.ending.Ending.{Ending}
 pub use Rattle.tasks.specs.declared.ending.Ending.TheVariants as ends

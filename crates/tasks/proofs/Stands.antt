@@ -1,11 +1,11 @@
 -- The ending of a task.
-use Rattle.std.proofs.Common.{◌≡◌, ◌∙◌, ℕ, List, [], ◌++◌, length, take, true, false, refl, sym, ap, subst, arith, Option, Bool, inl, inr}
-use Rattle.tasks.proofs.Prelude.{AllTaken, Answer, Answers, Asked, Comes, CommandTurn, Course, CutTaken, End, Ending, EndsCut, EndsWhole, FailsIn}
-use Rattle.tasks.proofs.Prelude.{Follows, GaveUp, Gives, GivesUp, HostPort, IsCut, IsOn, IsWhole, Leads, Point, Progress, Ran, Recorded, Reply, Row}
+use Rattle.std.proofs.Common.{◌≡◌, ◌∙◌, ℕ, List, [], ◌++◌, length, take, true, refl, sym, ap, subst, arith, Option, inl, inr}
+use Rattle.tasks.proofs.Prelude.{AllTaken, Answer, Answers, Asked, Comes, CommandTurn, Course, CutTaken, End, Ending, EndsCut, EndsWhole, Extra}
+use Rattle.tasks.proofs.Prelude.{FailsIn, Follows, GaveUp, Gives, GivesUp, HostPort, IsCut, IsOn, IsWhole, Leads, Point, Progress, Ran, Recorded, Reply, Row}
 use Rattle.tasks.proofs.Prelude.{Scenario, SomeTaken, Stands, StartsBy, State, Stops, StopsBefore, StopsIn, Taken, Takes, TakesFront, Tallies, Tally}
 use Rattle.tasks.proofs.Prelude.{Task, Tells, Turn, TurnFault, UnknownInstance, WasCut, WasCutOff, Work, Writes, answer_of, append-nil, asked_answer}
-use Rattle.tasks.proofs.Prelude.{between, course_from, cut_text, dump_of, engine, kept_at_start, names_of, own_answer, point, recorder, replies_text}
-use Rattle.tasks.proofs.Prelude.{stages, summary_of, tables_of, take-length, told_answer, without_turns}
+use Rattle.tasks.proofs.Prelude.{between, course_from, cut_text, dump_of, engine, extra_answer, kept_at_start, names_of, own_answer, point, recorder}
+use Rattle.tasks.proofs.Prelude.{replies_text, stages, summary_of, tables_of, take-length, without_tables, without_turns}
 use Rattle.tasks.proofs.Prelude.answered
 use Rattle.tasks.proofs.Prelude.asked
 use Rattle.tasks.proofs.Prelude.ends
@@ -20,8 +20,8 @@ module _ (c : Task) (names : List HostPort) (scenario : Scenario) (ts : List Tur
   abbrev course : Course
   course = course_from c names scenario ts from to.kept
 
-  run_text : (run : Recorded) → answer_of c names scenario run ≡ asked_answer asked.Run c.tables names scenario run
-  run_text run = ap (λ (a : Asked). asked_answer a c.tables names scenario run) is_run
+  run_text : (run : Recorded) → answer_of c names scenario run ≡ asked_answer asked.Run c.extra names scenario run
+  run_text run = ap (λ (a : Asked). asked_answer a c.extra names scenario run) is_run
 
   left_text : (run : Recorded) → cut_text c.asked names run ≡ replies_text names run
   left_text run = ap (λ (a : Asked). cut_text a names run) is_run
@@ -176,7 +176,7 @@ module _ (c : Task) (names : List HostPort) (scenario : Scenario) (ts : List Tur
         ts = [];
         own = all_of_none c.asked to.kept tallies.run (ap stages is);
       })
-      (ap (λ (a : Asked). asked_answer a c.tables names scenario tallies.run) is
+      (ap (λ (a : Asked). asked_answer a c.extra names scenario tallies.run) is
       ∙ (ap (λ (t : Tally). summary_of t tallies.run.state) (sym tallies.is) ∙ ap (λ (s : State). summary_of tally s) tallies.state))
       wrote
 
@@ -196,11 +196,11 @@ module _ (c : Task) (names : List HostPort) (scenario : Scenario) (ts : List Tur
       apart e = cc
 
   -- what is answered by its last reply
-  pub own_stands : (to : Point) (tables : Bool) (reply : Reply) (out err : End) (ending : Ending) → c.tables ≡ tables → Answers from ts t to reply → Writes (told_answer tables names to.state reply) out err ending
+  pub own_stands : (to : Point) (x : Extra) (reply : Reply) (out err : End) (ending : Ending) → c.extra ≡ x → Answers from ts t to reply → Writes (extra_answer x names scenario to.state reply) out err ending
       → Stands (course_from c names scenario ts from to.kept) out err ending
-  own_stands to tables reply out err ending tabled answers wrote =
+  own_stands to x reply out err ending besides answers wrote =
       let ends = answers.ends in
-      writes_stand (course_from c names scenario ts from to.kept) ends.run (told_answer tables names to.state reply) out err ending
+      writes_stand (course_from c names scenario ts from to.kept) ends.run (extra_answer x names scenario to.state reply) out err ending
       (record {
         mid = answers.mid;
         rows = answers.rows;
@@ -208,9 +208,9 @@ module _ (c : Task) (names : List HostPort) (scenario : Scenario) (ts : List Tur
         ts = ends.ts;
         own = subst (λ (a : Asked). AllTaken to.kept ends.run (stages a) answers.rows answers.mid ends.ts) (sym is) ends.taken;
       })
-      (ap (λ (a : Asked). asked_answer a c.tables names scenario ends.run) is
-      ∙ (ap (λ (r : Option Reply). own_answer c.tables names ends.run.state r) ends.last
-      ∙ (ap (λ (b : Bool). told_answer b names ends.run.state reply) tabled ∙ ap (λ (s : State). told_answer tables names s reply) ends.state)))
+      (ap (λ (a : Asked). asked_answer a c.extra names scenario ends.run) is
+      ∙ (ap (λ (r : Option Reply). own_answer c.extra names scenario ends.run.state r) ends.last
+      ∙ (ap (λ (y : Extra). extra_answer y names scenario ends.run.state reply) besides ∙ ap (λ (s : State). extra_answer x names scenario s reply) ends.state)))
       wrote
 
   pub own_keeper : (kept : Option (List Row)) (out err : Taken) (why : TurnFault) → why ≡ fault.Keeper → Stops from ts t kept why → Stands (course_from c names scenario ts from kept) (between out out) (between err err) ends.Keeper
@@ -238,10 +238,10 @@ module _ (c : Task) (names : List HostPort) (scenario : Scenario) (ts : List Tur
       }))
 
 -- and to one that uses an instance that no server is
-pub unknown_stands : (c : Task) (names : List HostPort) (scenario : Scenario) (ts : List Turn) (from : Point) (kept : Option (List Row)) (now : State) (out err : End) (ending : Ending) → c.asked ≡ asked.Unknown → Recording from.kept (without_turns from.state) ts kept now
-    → Writes (told_answer false names now (answered.Refused UnknownInstance)) out err ending → Stands (course_from c names scenario ts from kept) out err ending
-unknown_stands c names scenario ts from kept now out err ending is recording wrote =
-    writes_stand (course_from c names scenario ts from kept) recording.run (told_answer false names now (answered.Refused UnknownInstance)) out err ending
+pub unknown_stands : (c : Task) (names : List HostPort) (scenario : Scenario) (ts : List Turn) (from : Point) (kept : Option (List Row)) (now : State) (x y : Extra) (out err : End) (ending : Ending) → c.asked ≡ asked.Unknown → c.extra ≡ x → Recording from.kept (without_turns from.state) ts kept now
+    → y ≡ without_tables x → Writes (extra_answer y names scenario now (answered.Refused UnknownInstance)) out err ending → Stands (course_from c names scenario ts from kept) out err ending
+unknown_stands c names scenario ts from kept now x y out err ending is besides recording left wrote =
+    writes_stand (course_from c names scenario ts from kept) recording.run (extra_answer (without_tables x) names scenario now (answered.Refused UnknownInstance)) out err ending
     (record {
       mid = recording.run;
       rows = kept;
@@ -249,9 +249,10 @@ unknown_stands c names scenario ts from kept now out err ending is recording wro
       ts = [];
       own = all_of_none c.asked kept recording.run (ap stages is);
     })
-    (ap (λ (a : Asked). asked_answer a c.tables names scenario recording.run) is
-    ∙ ap (λ (s : State). told_answer false names s (answered.Refused UnknownInstance)) recording.state)
-    wrote
+    (ap (λ (a : Asked). asked_answer a c.extra names scenario recording.run) is
+    ∙ (ap (λ (y : Extra). extra_answer (without_tables y) names scenario recording.run.state (answered.Refused UnknownInstance)) besides
+    ∙ ap (λ (s : State). extra_answer (without_tables x) names scenario s (answered.Refused UnknownInstance)) recording.state))
+    (subst (λ (z : Extra). Writes (extra_answer z names scenario now (answered.Refused UnknownInstance)) out err ending) left wrote)
 
 -- ---- from the opening on
 
@@ -322,7 +323,7 @@ module _ (c : Task) (names : List HostPort) (scenario : Scenario) (ts : List Tur
         ts = [];
         own = all_of_none c.asked kept recording.run (ap stages is);
       })
-      (ap (λ (a : Asked). asked_answer a c.tables names scenario recording.run) is ∙ ap (dump_of names scenario) recording.state)
+      (ap (λ (a : Asked). asked_answer a c.extra names scenario recording.run) is ∙ ap (dump_of names scenario) recording.state)
       wrote
 
   pub dump_keeper : (kept : Option (List Row)) (now : State) (out err : Taken) (why : TurnFault) → why ≡ fault.Keeper → WasCutOff engine from.kept from.state ts kept now why → Stands (course_from c names scenario ts from kept) (between out out) (between err err) ends.Keeper

@@ -5,6 +5,8 @@ use Rattle.tasks.specs.Prelude.{places_of, printed, same_name, uses_of}
 use Rattle.tasks.specs.Prelude.own
 use Rattle.tasks.specs.declared.asked.Asked.{Asked}
 use Rattle.tasks.specs.declared.asked.Asked.TheVariants as asked
+use Rattle.tasks.specs.declared.asked.Extra.{Extra}
+use Rattle.tasks.specs.declared.asked.Extra.TheVariants as extra
 use Rattle.tasks.specs.declared.asked.Task.{Task}
 
 -- the first server of this name, from this number on
@@ -79,9 +81,13 @@ IsAsked count (asked.Plan t) = IsCommand count t
 IsAsked count asked.Unknown = Unit {0}
 IsAsked count asked.Nothing = ⊥
 
+-- what is asked for beside a command's answer
+abbrev pub extra_of : Places → Extra
+extra_of p = if p.dump then extra.Dump else (if p.tables then extra.Tables else extra.Nothing)
+
 -- what the command line asks of servers of these names
 abbrev pub task_of : Places → List HostPort → Task
-task_of p names = record { waits = p.wait; asked = asked_of p names; tables = p.tables }
+task_of p names = record { waits = p.wait; asked = asked_of p names; extra = extra_of p }
 
 -- a command line that is accepted
 abbrev pub IsTaken : Places → Type 0

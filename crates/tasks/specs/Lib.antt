@@ -14,3 +14,4 @@ pub mod Sinks
 pub mod Stages
 pub mod Stands
 pub mod Works
+pub mod ScenarioDump

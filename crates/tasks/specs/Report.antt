@@ -1,7 +1,7 @@
 -- What a task answers: a function of the task and of the last state of its run.
 use Rattle.std.specs.Prelude.{ℕ, ◌==◌, List, [], ◌∷◌, ◌++◌, ◌&&◌, ◌||◌, Bool, true, false, not, if◌then◌else◌, length, map, count_by, Option, Some, None}
 use Rattle.tasks.specs.Prelude.{Act, CommandTurn, HostPort, NotQuiet, Recorded, Reply, Scenario, State, Tally, Turn, UnknownInstance, dump_text}
-use Rattle.tasks.specs.Prelude.{lines_text, list_any, number_of, plain_text_of, recovery_lines, summary_text, tables_text}
+use Rattle.tasks.specs.Prelude.{lines_text, list_any, number_of, plain_text_of, recovery_lines, summary_text, tables_text, unwrap_or}
 use Rattle.tasks.specs.Prelude.act
 use Rattle.tasks.specs.Prelude.answered
 use Rattle.tasks.specs.Prelude.turn
@@ -9,6 +9,8 @@ use Rattle.tasks.specs.Begun.{begun_by}
 use Rattle.tasks.specs.Plans.{Planned, begun_state, planned_in, planned_reply, planned_text}
 use Rattle.tasks.specs.declared.asked.Asked.{Asked}
 use Rattle.tasks.specs.declared.asked.Asked.TheVariants as asked
+use Rattle.tasks.specs.declared.asked.Extra.{Extra}
+use Rattle.tasks.specs.declared.asked.Extra.TheVariants as extra
 use Rattle.tasks.specs.declared.asked.Task.{Task}
 use Rattle.tasks.specs.declared.verdict.Verdict.{Verdict}
 use Rattle.tasks.specs.declared.verdict.Verdict.TheVariants as verdict
@@ -122,6 +124,34 @@ told_answer tables names s r = record {
   is_refused = is_for_err r;
 }
 
+-- ---- the servers as a scenario
+
+-- the world as a scenario that begins at the present moment; its refusal if a server with a source accepted a write
+abbrev pub dump_of : List HostPort → Scenario → State → Answer
+dump_of names s at =
+    if at.world.errant == 0 then record { out = dump_text at.world s at.moment; err = []; is_refused = false } else told_answer false names at (answered.Refused (NotQuiet at.world.errant))
+
+-- A single command with the servers after it. They are on out, or why they can't be given so is on err. What the
+-- command is answered comes first on err.
+abbrev pub dumped_answer : List HostPort → Scenario → State → Reply → Answer
+dumped_answer names s at r = record {
+  out = (dump_of names s at).out;
+  err = plain_text_of names r ++ (dump_of names s at).err;
+  is_refused = is_for_err r || (dump_of names s at).is_refused;
+}
+
+-- a single command with what is asked for beside its answer
+abbrev pub extra_answer : Extra → List HostPort → Scenario → State → Reply → Answer
+extra_answer extra.Nothing names s at r = told_answer false names at r
+extra_answer extra.Tables names s at r = told_answer true names at r
+extra_answer extra.Dump names s at r = dumped_answer names s at r
+
+-- no tables follow a command that took no turn of its own
+abbrev pub without_tables : Extra → Extra
+without_tables extra.Nothing = extra.Nothing
+without_tables extra.Tables = extra.Nothing
+without_tables extra.Dump = extra.Dump
+
 -- ---- a command's own reply: that of the last turn that is a command, a job's or a claim
 
 abbrev pub is_commands_act : Act → Bool
@@ -153,9 +183,9 @@ last_reply (e ∷ es) = or_reply (last_reply es) e
 abbrev pub no_answer : Answer
 no_answer = record { out = []; err = []; is_refused = false }
 
-abbrev pub own_answer : Bool → List HostPort → State → Option Reply → Answer
-own_answer tables names s None = no_answer
-own_answer tables names s (Some r) = told_answer tables names s r
+-- a command's own turns have one
+abbrev pub own_answer : Extra → List HostPort → Scenario → State → Option Reply → Answer
+own_answer x names s at r = extra_answer x names s at (unwrap_or r answered.Lapsed)
 
 -- ---- a command's plan
 
@@ -171,24 +201,19 @@ plan_answer_by names c s r (Some job) = told_plan names (planned_in s c.command 
 unfoldable pub plan_answer : CommandTurn → List HostPort → State → Answer
 plan_answer c names s = plan_answer_by names c (begun_state c s) (planned_reply c s) (begun_by (planned_reply c s))
 
--- the world as a scenario that begins at the present moment; its refusal if a server with a source accepted a write
-abbrev pub dump_of : List HostPort → Scenario → State → Answer
-dump_of names s at =
-    if at.world.errant == 0 then record { out = dump_text at.world s at.moment; err = []; is_refused = false } else told_answer false names at (answered.Refused (NotQuiet at.world.errant))
-
--- What is answered to each thing that a command line asks, by the last state. Tables follow if they are asked for, but
--- not if no turn of the command's own was taken.
-abbrev pub asked_answer : Asked → Bool → List HostPort → Scenario → Recorded → Answer
-asked_answer asked.Run tables names s run = run_answer names run
-asked_answer asked.Summary tables names s run = summary_of (tally_of run.journal) run.state
-asked_answer asked.Dump tables names s run = dump_of names s run.state
-asked_answer (asked.Turn t) tables names s run = own_answer tables names run.state (last_reply run.journal)
-asked_answer (asked.Plan c) tables names s run = plan_answer c names run.state
-asked_answer asked.Unknown tables names s run = told_answer false names run.state (answered.Refused UnknownInstance)
-asked_answer asked.Nothing tables names s run = no_answer
+-- What is answered to each thing that a command line asks, by the last state. Beside a single command's answer is what
+-- is asked for, but no tables if no turn of the command's own was taken.
+abbrev pub asked_answer : Asked → Extra → List HostPort → Scenario → Recorded → Answer
+asked_answer asked.Run x names s run = run_answer names run
+asked_answer asked.Summary x names s run = summary_of (tally_of run.journal) run.state
+asked_answer asked.Dump x names s run = dump_of names s run.state
+asked_answer (asked.Turn t) x names s run = own_answer x names s run.state (last_reply run.journal)
+asked_answer (asked.Plan c) x names s run = plan_answer c names run.state
+asked_answer asked.Unknown x names s run = extra_answer (without_tables x) names s run.state (answered.Refused UnknownInstance)
+asked_answer asked.Nothing x names s run = no_answer
 
 abbrev pub answer_of : Task → List HostPort → Scenario → Recorded → Answer
-answer_of c names s run = asked_answer c.asked c.tables names s run
+answer_of c names s run = asked_answer c.asked c.extra names s run
 
 -- what is left of a run that was cut: its replies so far; of its summary, and of any other command, nothing
 abbrev pub cut_text : Asked → List HostPort → Recorded → List ℕ

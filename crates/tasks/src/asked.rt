@@ -2,7 +2,8 @@
 
 ghost use Rattle.std.specs.Prelude.{◌≡◌, ◌≤◌, true, IfOk, IfSome, length};
 ghost use Rattle.tasks.specs.Prelude.{is_pattern};
-ghost use Rattle.tasks.specs.Asked.{IsTaken, asked_about, asked_named, asked_of, asked_turn, pattern_for, server_given, server_of, task_of, turn_for, used};
+ghost use Rattle.tasks.specs.Asked.{IsTaken, asked_about, asked_named, asked_of, asked_turn, extra_of, pattern_for, server_given, server_of, task_of, turn_for, used};
+ghost use Rattle.tasks.specs.Report.{without_tables};
 
 use crate::commands::{Command, CommandName, CommandTurn, Found, Keys};
 use crate::orch_base::{Memory, Name, OwnedText, ServerNo};
@@ -31,14 +32,35 @@ pub enum Asked {
     Nothing,
 }
 
+/// What is asked for beside a single command's answer.
+#[derive(Clone, Copy, Debug, PartialEq, Eq)]
+pub enum Extra {
+    Nothing,
+    /// `--tables`: the tables after it.
+    Tables,
+    /// `--dump`: the servers after the command as a scenario, on out; the answer is on err.
+    Dump,
+}
+
+impl Extra {
+    /// Without the tables.
+    pub(crate) fn without_tables(self) -> Extra
+        ensures { result ≡ without_tables self }
+    {
+        match self {
+            Extra::Nothing | Extra::Tables => Extra::Nothing,
+            Extra::Dump => Extra::Dump,
+        }
+    }
+}
+
 /// What a command line asks of a scenario.
 #[derive(Drop)]
 pub struct Task {
     /// How many waits a job has: 1 to 10,000.
     pub waits: u32,
     pub asked: Asked,
-    /// Whether a single command's report ends with the tables.
-    pub tables: bool,
+    pub extra: Extra,
 }
 
 // The first server of this name.
@@ -207,6 +229,19 @@ fn asked_of(alloc: Global, places: &Places, names: &[Name]) -> Result<Asked, Mem
     }
 }
 
+// What is asked for beside a command's answer.
+fn extra_of(places: &Places) -> Extra
+    ensures { result ≡ extra_of places.now }
+{
+    if places.dump {
+        Extra::Dump
+    } else if places.tables {
+        Extra::Tables
+    } else {
+        Extra::Nothing
+    }
+}
+
 /// What this accepted command line asks of servers of these names, of which there are at most 1,000. It is a run, its
 /// summary or the servers that it leads to, a command's turn with all options that the command uses, or its plan. Or it
 /// is a command whose instance or destination no server is. `Memory` comes only if memory runs out.
@@ -218,6 +253,6 @@ pub fn task_of(alloc: Global, places: &Places, names: &[Name]) -> Result<Task, M
     Ok(Task {
         waits: places.wait,
         asked: asked_of(alloc, places, names)?,
-        tables: places.tables,
+        extra: extra_of(places),
     })
 }

@@ -1,9 +1,9 @@
-//! The servers that a run leads to, as a scenario.
+//! The servers that a run or a single command leads to, as a scenario.
 
 ghost use Rattle.std.specs.Prelude.{◌≡◌, ◌≤◌, IfOk};
 ghost use Rattle.tasks.specs.Endings.{HasKeepersCause};
 ghost use Rattle.tasks.specs.Progress.{point};
-ghost use Rattle.tasks.specs.Report.{dump_of};
+ghost use Rattle.tasks.specs.Report.{dump_of, dumped_answer};
 ghost use Rattle.tasks.specs.Singles.{Writes, view};
 ghost use Rattle.tasks.specs.Sinks.{across};
 ghost use Rattle.tasks.specs.Stands.{AreNamedIn, AreTurnsIn, DumpStands};
@@ -15,7 +15,9 @@ use crate::orch_base::{Memory, Name, Sink};
 use crate::scenarios_items::Scenario;
 use crate::single::{Report, told_report, write_report};
 use crate::turns::{Reply, Turn};
+use crate::verdict::is_for_err;
 use orch_core::{Engine, TurnFault};
+use report_text::plain_text;
 use scenario_dump::dump;
 use std::alloc::Global;
 
@@ -37,6 +39,29 @@ fn dumped(
         out: dump(alloc, engine.world(), scenario, engine.now())?,
         err: Vec::new(alloc),
         is_refused: false,
+    })
+}
+
+/// What a command is answered, for err, and the servers as a scenario, for out. If they can't be given so, err takes
+/// that refusal, too.
+pub(crate) fn dumped_report(
+    alloc: Global,
+    names: &[Name],
+    scenario: &Scenario,
+    engine: &Engine,
+    reply: &Reply,
+) -> Result<Report, Memory>
+    ensures { IfOk result (λ r. view r
+        ≡ dumped_answer names.now scenario.now engine.now reply.now) }
+{
+    let mut told = Vec::new(alloc);
+    plain_text(reply, names, &mut told)?;
+    let mut servers = dumped(alloc, names, scenario, engine)?;
+    told.append(&mut servers.err)?;
+    Ok(Report {
+        out: servers.out,
+        err: told,
+        is_refused: is_for_err(reply) || servers.is_refused,
     })
 }
 

@@ -1,5 +1,6 @@
 //! What a command line asks of a scenario's servers, and the report of it: a run's as it comes, or its summary at the
-//! end. Also a single command's at the end, or its plan, and the report of turns that were taken.
+//! end. Also a single command's at the end, with the tables or the servers after it, or its plan. And the report of
+//! turns that were taken.
 #![tactic(auto)]
 
 mod asked;
@@ -17,7 +18,7 @@ mod single;
 mod summary;
 mod verdict;
 
-pub use asked::{Asked, Task, task_of};
+pub use asked::{Asked, Extra, Task, task_of};
 use command_line::command_routes;
 pub use ending::Ending;
 pub use journal::journal_report;

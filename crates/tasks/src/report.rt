@@ -51,18 +51,12 @@ fn asked_report<O: Sink, E: Sink, K: Keeper>(
         Asked::Summary => summary_report(alloc, keeper, engine, turns, out, err),
         Asked::Dump => dump_report(alloc, keeper, engine, scenario, turns, names, out, err),
         Asked::Turn(own) => command_report(
-            alloc,
-            keeper,
-            engine,
-            turns,
-            own,
-            task.tables,
-            names,
-            out,
-            err,
+            alloc, keeper, engine, scenario, turns, own, task.extra, names, out, err,
         ),
         Asked::Plan(own) => plan_report(alloc, keeper, engine, turns, own, names, out, err),
-        Asked::Unknown => unknown_report(alloc, keeper, engine, turns, names, out, err),
+        Asked::Unknown => unknown_report(
+            alloc, keeper, engine, scenario, turns, task.extra, names, out, err,
+        ),
         Asked::Nothing => unreachable!(),
     }
 }
@@ -71,8 +65,9 @@ fn asked_report<O: Sink, E: Sink, K: Keeper>(
 /// - A run: each reply's line on out as it comes, in pieces of 64 KiB and a line, and then the tables. In place of both
 ///   it can be its summary.
 /// - The servers as a scenario on out, or on err why they can't be given so.
-/// - A single command: its lines on out, or its refusal on err, and the tables if they are asked for. In place of that
-///   it can be its plan.
+/// - A single command: its lines on out, or its refusal on err, and the tables if they are asked for. If the servers
+///   after it are asked for, they are on out as a scenario, and all of its answer is on err. In place of that it can be
+///   its plan.
 ///
 /// Err is written before out. If a sink fails all turns are taken all the same. A run that a row store's fault cuts has
 /// written the replies before that turn, anything else nothing. `Keeper` comes only if the row store's count of faults

@@ -6,19 +6,21 @@ ghost use Rattle.tasks.specs.Prelude.{reply_of};
 ghost use Rattle.tasks.specs.Begun.{begun_by};
 ghost use Rattle.tasks.specs.Endings.{HasKeepersCause};
 ghost use Rattle.tasks.specs.Progress.{Answers, ClosesEach, EndsEach, GivesUpEach, Stops, StopsEach, point};
-ghost use Rattle.tasks.specs.Report.{tables_of, told_answer};
+ghost use Rattle.tasks.specs.Report.{extra_answer, tables_of, told_answer, without_tables};
 ghost use Rattle.tasks.specs.Singles.{Writes, view};
 ghost use Rattle.tasks.specs.Sinks.{across};
 ghost use Rattle.tasks.specs.Stages.{claim_ahead, own_stages, own_turn, taker};
 ghost use Rattle.tasks.specs.Stands.{AreNamedIn, AreTurnsIn, CommandStands, IsCommandIn, UnknownStands};
 
-use crate::Ending;
 use crate::commands::Refusal;
+use crate::dumped::dumped_report;
 use crate::instance_keeper_items::Keeper;
 use crate::orch_base::{Memory, Name, Sink, write_all};
 use crate::pieces::add_tables;
+use crate::scenarios_items::Scenario;
 use crate::turns::{Act, BoxedCommand, Reply, Turn};
 use crate::verdict::{is_for_err, is_taken};
+use crate::{Ending, Extra};
 use orch_core::{Engine, TurnFault};
 use report_text::plain_text;
 use std::alloc::Global;
@@ -85,23 +87,43 @@ pub(crate) fn write_report<O: Sink, E: Sink>(out: &mut O, err: &mut E, report: &
     Ending::Written(report.is_refused)
 }
 
+// What a single command is answered by its reply, with what is asked for beside it.
+fn extra_report(
+    alloc: Global,
+    extra: Extra,
+    names: &[Name],
+    scenario: &Scenario,
+    engine: &Engine,
+    reply: &Reply,
+) -> Result<Report, Memory>
+    ensures { IfOk result (λ r. view r
+        ≡ extra_answer extra names.now scenario.now engine.now reply.now) }
+{
+    match extra {
+        Extra::Nothing => told_report(alloc, false, names, engine, reply),
+        Extra::Tables => told_report(alloc, true, names, engine, reply),
+        Extra::Dump => dumped_report(alloc, names, scenario, engine, reply),
+    }
+}
+
 // Writes what is answered to a single command by its reply.
 fn write_told<O: Sink, E: Sink>(
     alloc: Global,
-    asked: bool,
+    extra: Extra,
     names: &[Name],
+    scenario: &Scenario,
     engine: &Engine,
     reply: &Reply,
     out: &mut O,
     err: &mut E,
 ) -> Ending
-    ensures writes { Writes (told_answer asked names.now engine.now reply.now)
+    ensures writes { Writes (extra_answer extra names.now scenario.now engine.now reply.now)
         (across (O.written out.old) (O.faults out.old) (O.written out.new) (O.faults out.new))
         (across (E.written err.old) (E.faults err.old) (E.written err.new) (E.faults err.new))
         result }
     ensures later { E.faults err.old ≤ E.faults err.new }
 {
-    match told_report(alloc, asked, names, engine, reply) {
+    match extra_report(alloc, extra, names, scenario, engine, reply) {
         Ok(report) => write_report(out, err, &report),
         Err(_) => Ending::Memory,
     }
@@ -278,7 +300,8 @@ fn last_reply<K: Keeper>(
 }
 
 /// Takes the scenario's turns, the command's own and the rounds of the job that it began. It writes what its last reply
-/// has: its lines on out, or its refusal or the failed job's cause on err, and the tables if they are asked for.
+/// has: its lines on out, or its refusal or the failed job's cause on err, and the tables if they are asked for. If the
+/// servers then are asked for, they are on out and all of the reply is on err.
 ///
 /// If there are several orchestrators the active one takes it. If none is active, the first claims. If another's claim
 /// lasts, that one's reply is written on err, and nothing else. After a row store's fault nothing is written.
@@ -286,9 +309,10 @@ pub(crate) fn command_report<O: Sink, E: Sink, K: Keeper>(
     alloc: Global,
     keeper: &mut K,
     engine: &mut Engine,
+    scenario: &Scenario,
     turns: &[Turn],
     own: &BoxedCommand,
-    tables: bool,
+    extra: Extra,
     names: &[Name],
     out: &mut O,
     err: &mut E,
@@ -297,7 +321,7 @@ pub(crate) fn command_report<O: Sink, E: Sink, K: Keeper>(
     requires named { AreNamedIn engine.old turns.now }
     requires own { IsCommandIn engine.old own.now }
     requires nodes { 1 ≤ nodes_of engine.old }
-    ensures stands { CommandStands own.now tables names.now turns.now
+    ensures stands { CommandStands own.now extra names.now scenario.now turns.now
         (point (K.kept keeper.old) engine.old) (K.kept keeper.new)
         (across (O.written out.old) (O.faults out.old) (O.written out.new) (O.faults out.new))
         (across (E.written err.old) (E.faults err.old) (E.written err.new) (E.faults err.new))
@@ -306,26 +330,29 @@ pub(crate) fn command_report<O: Sink, E: Sink, K: Keeper>(
     ensures later { E.faults err.old ≤ E.faults err.new }
 {
     match last_reply(alloc, keeper, engine, turns, own) {
-        Ok(reply) => write_told(alloc, tables, names, engine, &reply, out, err),
+        Ok(reply) => write_told(alloc, extra, names, scenario, engine, &reply, out, err),
         Err(TurnFault::Keeper) => Ending::Keeper,
         Err(TurnFault::Memory) => Ending::Memory,
     }
 }
 
-/// Takes the scenario's turns, and writes the refusal of an instance that no server is on err.
+/// Takes the scenario's turns, and writes the refusal of an instance that no server is on err. If the servers then are
+/// asked for, they are on out.
 pub(crate) fn unknown_report<O: Sink, E: Sink, K: Keeper>(
     alloc: Global,
     keeper: &mut K,
     engine: &mut Engine,
+    scenario: &Scenario,
     turns: &[Turn],
+    extra: Extra,
     names: &[Name],
     out: &mut O,
     err: &mut E,
 ) -> Ending
     requires turns { AreTurnsIn engine.old turns.now }
     requires named { AreNamedIn engine.old turns.now }
-    ensures stands { UnknownStands names.now turns.now (point (K.kept keeper.old) engine.old)
-        (K.kept keeper.new)
+    ensures stands { UnknownStands extra names.now scenario.now turns.now
+        (point (K.kept keeper.old) engine.old) (K.kept keeper.new)
         (across (O.written out.old) (O.faults out.old) (O.written out.new) (O.faults out.new))
         (across (E.written err.old) (E.faults err.old) (E.written err.new) (E.faults err.new))
         result }
@@ -335,7 +362,8 @@ pub(crate) fn unknown_report<O: Sink, E: Sink, K: Keeper>(
     match engine.run(alloc, keeper, turns) {
         Ok(()) => {
             let reply = Reply::Refused(Refusal::UnknownInstance);
-            write_told(alloc, false, names, engine, &reply, out, err)
+            let extra = extra.without_tables();
+            write_told(alloc, extra, names, scenario, engine, &reply, out, err)
         }
         Err(TurnFault::Keeper) => Ending::Keeper,
         Err(TurnFault::Memory) => Ending::Memory,

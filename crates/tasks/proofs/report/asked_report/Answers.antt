@@ -11,10 +11,10 @@ pub returns-in-Dump-clause-stands : goal.returns-in-Dump-clause-stands
 returns-in-Dump-clause-stands g c = c.dump_report.ensures.stands c.args.task.now c.in-Dump.is
 
 pub returns-in-Turn-clause-stands : goal.returns-in-Turn-clause-stands
-returns-in-Turn-clause-stands g c = c.command_report.ensures.stands c.args.task.now c.args.scenario.now c.in-Turn.is refl
+returns-in-Turn-clause-stands g c = c.command_report.ensures.stands c.args.task.now c.in-Turn.is refl
 
 pub returns-in-Unknown-clause-stands : goal.returns-in-Unknown-clause-stands
-returns-in-Unknown-clause-stands g c = c.unknown_report.ensures.stands c.args.task.now c.args.scenario.now c.in-Unknown.is
+returns-in-Unknown-clause-stands g c = c.unknown_report.ensures.stands c.args.task.now c.in-Unknown.is refl
 
 pub returns-in-Plan-clause-stands : goal.returns-in-Plan-clause-stands
 returns-in-Plan-clause-stands g c = c.plan_report.ensures.stands c.args.task.now c.args.scenario.now c.in-Plan.is
