@@ -92,7 +92,7 @@ left-on n b es s =
 
 -- ---- hands
 
-abbrev has : ℕ → List ServerNo → Bool
+abbrev pub has : ℕ → List ServerNo → Bool
 has n hands = list_any (λ k. k.0 == n) hands
 
 has-append : (n : ℕ) (xs ys : List ServerNo) → has n (xs ++ ys) ≡ (has n xs || has n ys)
@@ -104,7 +104,7 @@ has-append n (x ∷ xs) ys = go (x.0 == n) (has-append n xs ys)
     go false rest = rest
 
 -- a server that is taken out is there no longer, and every other as before
-has-without : (n : ℕ) (hands : List ServerNo) (k : ServerNo) → has n (without hands k) ≡ cond (k.0 == n) false (has n hands)
+pub has-without : (n : ℕ) (hands : List ServerNo) (k : ServerNo) → has n (without hands k) ≡ cond (k.0 == n) false (has n hands)
 has-without n [] k = go (k.0 == n)
   where
     go : (b : Bool) → false ≡ cond b false false
@@ -137,7 +137,7 @@ or-end true false = refl
 or-end false true = refl
 or-end false false = refl
 
-has-with : (n : ℕ) (hands : List ServerNo) (k : ServerNo) → has n (with_hand hands k) ≡ cond (k.0 == n) true (has n hands)
+pub has-with : (n : ℕ) (hands : List ServerNo) (k : ServerNo) → has n (with_hand hands k) ≡ cond (k.0 == n) true (has n hands)
 has-with n hands k =
     has-append n (without hands k) (k ∷ [])
     ∙ (ap (λ b. b || ((k.0 == n) || false)) (has-without n hands k) ∙ or-end (has n hands) (k.0 == n))
@@ -179,7 +179,7 @@ has-asked n hands k (asking.SetReadOnly on) = go (k.0 == n) (has n hands)
     go true h = refl
     go false h = refl
 
-abbrev hands_by : Deed → List ServerNo → List ServerNo
+abbrev pub hands_by : Deed → List ServerNo → List ServerNo
 hands_by (deed.Request n a) hands = hands_after hands n a
 hands_by _ hands = hands
 
@@ -232,7 +232,7 @@ module _ (w : World) (read : ℕ) (now : Moment) (j : Job) (rest : List Op) wher
   match-hands n m at (Ok c) e = refl
   match-hands n m at (Err f) e = cc
 
-  deed-hands : (d : Deed) → Leaves (hands_by d j.hands) (by_deed w read now j rest d)
+  pub deed-hands : (d : Deed) → Leaves (hands_by d j.hands) (by_deed w read now j rest d)
   deed-hands (deed.Look n from) e = look-hands n from (observed w read now n) (seen_in (status w n.0)) e
   deed-hands (deed.Request n a) e = ask-hands n a (desk_answer (server_at w n.0)) e
   deed-hands (deed.Until n to) e = until-hands n (until_by (seen_of j.seen n.0) (aim_of j.seen to)) e

@@ -9,7 +9,8 @@ use Rattle.covered_laws.proofs.Prelude.{KeptJobs, Line, LostReplica, Outcome, Pu
 use Rattle.covered_laws.proofs.Prelude.{SpeakingJobs, Unended, World, eqb-true, first_source, follower_nos, found-number, leader, listed, lost_nos}
 use Rattle.covered_laws.proofs.Prelude.{old-begins, outcome_then, owed, promoted-keeps, recovery_then, replica-placed, same_Some, self-all}
 use Rattle.covered_laws.proofs.Prelude.{self-times, taken-aim, taken-explained, taken-kept, then-aim, times, turn-chain, turn-done, world_then}
-use Rattle.covered_laws.proofs.Prelude.{ChoosesAmongAll, Decisions, MakesWell, decided-chooses, ground_of, is_going, taken_in, turn-makes}
+use Rattle.covered_laws.proofs.Prelude.{AttachesAsSent, BeginsWhole, ChoosesAmongAll, Decisions, MakesWell, Speaks, decided-chooses, ground_of, is_going}
+use Rattle.covered_laws.proofs.Prelude.{taken_in, turn-attaches, turn-begins, turn-makes}
 use Rattle.covered_laws.proofs.Prelude.purpose
 use Rattle.covered_laws.proofs.Prelude.unended
 use Rattle.covered_laws.proofs.Turning.{found, rings-held, rings-sound}
@@ -102,6 +103,23 @@ module _ (f : Flight) (us : List Unended) (t : RecoveryTurn f us) where
 
     pub turn-explained : (P : Fact → Bool) → SpeakingJobs us → ExplainsTruly f.world t.book t.at_moment t.recovery P → IsExplained P t.recovery → IsExplained P (recovery_then f us t)
     turn-explained P speaking explains lost = taken-explained f.world t.book t.at_read t.at_moment t.recovery P rings mine (here IsSpeakingBeside speaking.jobs) explains lost
+
+    pub turn-rings : HeldRings f.world t.book.rings
+    turn-rings = rings
+
+    pub turn-held : HeldRecovery f.world t.recovery
+    turn-held = mine
+
+    pub turn-speaks : SpeakingJobs us → Speaks t.recovery
+    turn-speaks speaking = here IsSpeakingBeside speaking.jobs
+
+    pub turn-sends : (P : Fact → Bool) → SpeakingJobs us → ExplainsTruly f.world t.book t.at_moment t.recovery P → IsExplained P t.recovery → is_going (taken_in f us t).step ≡ true
+        → AttachesAsSent P (ground_of f.world t.book t.at_moment) t.recovery (taken_in f us t).exchanges
+    turn-sends P speaking explains lost going =
+        turn-attaches f.world t.book t.at_read t.at_moment t.recovery P rings mine (turn-speaks speaking) explains lost.sent going
+
+    pub turn-whole : SpeakingJobs us → is_going (taken_in f us t).step ≡ true → BeginsWhole (ground_of f.world t.book t.at_moment) t.recovery (taken_in f us t)
+    turn-whole speaking going = turn-begins f.world t.book t.at_moment t.recovery t.at_read rings mine (turn-speaks speaking) going
 
     module _ (covered : CoveredJobs f us) where
       so-far : CoversSoFar f.world t.recovery

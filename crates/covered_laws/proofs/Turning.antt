@@ -44,7 +44,7 @@ module _ (P Q : Unended → Type 0) (id : ℕ) (others : (k : Unended) → (numb
 
 -- ---- one turn
 
-both : (P Q : Unended → Type 0) (us : List Unended) → All P us → All Q us → All (λ k. P k × Q k) us
+pub both : (P Q : Unended → Type 0) (us : List Unended) → All P us → All Q us → All (λ k. P k × Q k) us
 both P Q us ps qs = λ i d lt. (ps i d lt, qs i d lt)
 
 module _ (f : Flight) (us : List Unended) (b : BookState) (id read : ℕ) (now : Moment) (rings : f.rings ≡ b.rings) (held : HeldJobs f us) where
@@ -63,16 +63,16 @@ module _ (f : Flight) (us : List Unended) (b : BookState) (id read : ℕ) (now :
   core-here : (u : Unended) → job_at us id ≡ Some u → core_at f.jobs id ≡ Some (core_of u)
   core-here u at = ap (λ (js : List Job). core_at js id) held.cores ∙ (core-found us id ∙ ap (option_map core_of) at)
 
-  abbrev then : Unended → World
+  abbrev pub then : Unended → World
   then u = run f.world (flown f.world b read now u).exchanges
 
-  recovery-leased : (r : Recovery) (d : Docket) → job_at us id ≡ Some (unended.Recovery r d) → KeepsLeased f.leases id (taken f.world b read now r)
+  pub recovery-leased : (r : Recovery) (d : Docket) → job_at us id ≡ Some (unended.Recovery r d) → KeepsLeased f.leases id (taken f.world b read now r)
   recovery-leased r d at =
       let mine = found (IsHeldBeside f.world f.leases) held.jobs (unended.Recovery r d) at in
       taken-leased f.leases id f.world b read now r (subst (λ (i : ℕ). LeasedRecovery f.leases i r) (found-number us id (unended.Recovery r d) at) mine.1)
 
   -- a turn's exchanges are with servers that are leased to its job
-  leased-by : (u : Unended) → job_at us id ≡ Some u → All (λ e. IsLeased f.leases id (server_of e)) (flown f.world b read now u).exchanges
+  pub leased-by : (u : Unended) → job_at us id ≡ Some u → All (λ e. IsLeased f.leases id (server_of e)) (flown f.world b read now u).exchanges
   leased-by (unended.Plan j) at =
       let has = All-find (HasLeases f.leases) (λ (k : Job). k.id == id) f.jobs j held.flight.leased.each (core-here (unended.Plan j) at) in
       subst (λ (i : ℕ). All (λ e. IsLeased f.leases i (server_of e)) (turned f.world read now j).exchanges) (found-number us id (unended.Plan j) at)
@@ -147,7 +147,7 @@ module _ (f : Flight) (us : List Unended) (b : BookState) (id read : ℕ) (now :
   }
 
   -- the `Passage`'s world is that after the turn's exchanges
-  world-then : (keeps : Bool) (u : Unended) → job_at us id ≡ Some u → (passed f (passage_of f.world b read now keeps id u)).world ≡ then u
+  pub world-then : (keeps : Bool) (u : Unended) → job_at us id ≡ Some u → (passed f (passage_of f.world b read now keeps id u)).world ≡ then u
   world-then keeps (unended.Plan j) at =
       ap (λ (o : Option Job). (turned_by f id read now keeps o).world) (core-here (unended.Plan j) at)
       ∙ world-stored_if keeps (after_turn f id (turned f.world read now j)) (turned f.world read now j).observation

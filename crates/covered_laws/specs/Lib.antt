@@ -3,3 +3,4 @@ pub mod Beside
 pub mod Flights
 pub mod Passages
 pub mod Turns
+pub mod Upkeep

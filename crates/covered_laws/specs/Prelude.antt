@@ -30,9 +30,28 @@ pub use Rattle.unended_jobs.specs.ServerModel.Run.{run}
 pub use Rattle.unended_jobs.specs.ServerModel.Safe.{Safe}
 pub use Rattle.unended_jobs.specs.ServerModel.Worlds.{World}
 pub use Rattle.recovery_covers.specs.StandingLaws.Standing.{is_outside}
-pub use Rattle.unended_jobs.specs.Unended.{core_of, flown}
+pub use Rattle.unended_jobs.specs.Unended.{core_of, flown, number_of}
 pub use Rattle.unended_jobs.specs.declared.docket.Docket.{Docket}
 pub use Rattle.unended_jobs.specs.declared.unended.Unended.{Unended}
 pub use Rattle.unended_jobs.specs.declared.unended.Unended.TheVariants as unended
 pub use Rattle.unended_laws.specs.Flights.{HeldJobs, SoundJobs}
 pub use Rattle.unended_laws.specs.Passages.{IsApart, passages_by}
+pub use Rattle.unended_jobs.specs.Operations.Deeds.{Deed, deed_of}
+pub use Rattle.unended_jobs.specs.Operations.Deeds as deed
+pub use Rattle.unended_jobs.specs.Operations.declared.op.Op.TheVariants as op
+pub use Rattle.unended_jobs.specs.RecoveryPlans.Beginning.{is_takeover}
+pub use Rattle.unended_jobs.specs.RecoveryPlans.Stages.{gather}
+pub use Rattle.unended_jobs.specs.RecoveryPlans.declared.stage.Stage.{Stage}
+pub use Rattle.unended_jobs.specs.RecoveryPlans.declared.stage.Stage.TheVariants as stage
+pub use Rattle.recovery_reasons.specs.Reasons.{IsGivenUp, IsPassed, IsYetToStart}
+pub use Rattle.unended_jobs.specs.ServerModel.Exchanges.{is_attached}
+pub use Rattle.unended_jobs.specs.ServerModel.Run.{Exchange}
+pub use Rattle.unended_jobs.specs.ServerModel.Run as model
+pub use Rattle.unended_jobs.specs.ServerModel.Worlds.{server_at}
+pub use Rattle.unended_jobs.specs.ServerModel.declared.server.Server.{Server}
+pub use Rattle.unended_jobs.specs.ServerWords.declared.changes.Ask.{Ask}
+pub use Rattle.unended_jobs.specs.ServerWords.declared.changes.Ask.TheVariants as asking
+pub use Rattle.recovery_covers.specs.JobLaws.Leases.{IsLeased}
+pub use Rattle.recovery_covers.specs.RecoveryLaws.LeasedRecoveries.{LeasedRecovery}
+pub use Rattle.unended_jobs.specs.Operations.Changes.{server_of}
+pub use Rattle.unended_jobs.specs.ServerModel.Run.{after}

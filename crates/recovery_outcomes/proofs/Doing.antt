@@ -1,22 +1,13 @@
 -- What a turn changes, and whom it chooses among.
-use Rattle.std.proofs.Common.{◌≡◌, ℕ, ◌+◌, ◌<◌, Bool, true, false, cond, not, ◌&&◌, ◌||◌, List, [], ◌∷◌, refl, sym, ◌∙◌, ap, subst, Option, Some, None, ◌⊎◌, inl, inr, Ok, Err, Result, arith}
-use Rattle.std.specs.Prelude.{IfSome, nat_lt}
-use Rattle.recovery_outcomes.proofs.Prelude.{All, All-cons, All-head, All-nil, All-tail, Ask, AttachFault, Attached, Attempt, Awaits, BookState}
-use Rattle.recovery_outcomes.proofs.Prelude.{Bridge, ChoosesAmongAll, Coord, CoversAt, CoversSoFar, Crossing, Decisions, Deed, Detached, Does}
-use Rattle.recovery_outcomes.proofs.Prelude.{Exchange, Fits, Follower, FollowsBy, HeldRecovery, HeldRings, IsStuck, Job, MakesWell, Match}
-use Rattle.recovery_outcomes.proofs.Prelude.{MatchFault, MayAsk, MayMake, Moment, Observation, Op, Placed, Position, Purpose, Recovery, ServerNo}
-use Rattle.recovery_outcomes.proofs.Prelude.{SourceState, Spot, Stage, Status, Taken, Task, Turning, Unreachable, Way, Without, World, after_answer}
-use Rattle.recovery_outcomes.proofs.Prelude.{after_ask, after_attach, after_look, after_match, after_status, after_until, after_wait, after_wait_by}
-use Rattle.recovery_outcomes.proofs.Prelude.{aim_of, and_parts, attach_answer_of, attached_anew, bridge_at, by_deed, by_match, by_set, can_attach}
-use Rattle.recovery_outcomes.proofs.Prelude.{chooses, covered, crossed, crossing_of, decides, decides-before, decisions-keep, deed_of, desk_answer}
-use Rattle.recovery_outcomes.proofs.Prelude.{end, ends, false≢true, first_source, fits-step, follower_nos, ground_of, holds_seen, in_order}
-use Rattle.recovery_outcomes.proofs.Prelude.{is_finish, is_going, is_look, is_moved, is_reached, is_takeover, leader, lost_nos, match_found}
-use Rattle.recovery_outcomes.proofs.Prelude.{match_logs, moves, moves_by, next, observed, of_queue, of_stage, owed, read_by, reads_last, same-head}
-use Rattle.recovery_outcomes.proofs.Prelude.{same_again, saw, seen_in, seen_of, server_at, settles, standing_at, status, stopped_nos, tail_of}
-use Rattle.recovery_outcomes.proofs.Prelude.{taken, taken-walks, target, times, unnamed, until_by}
+use Rattle.std.proofs.Common.{◌≡◌, ℕ, ◌+◌, ◌<◌, Bool, true, false, not, ◌&&◌, ◌||◌, List, [], ◌∷◌, refl, sym, ◌∙◌, ap, subst, Option, Some, None, ◌⊎◌, inl, inr, arith}
+use Rattle.recovery_outcomes.proofs.Prelude.{All, All-head, All-nil, All-tail, Ask, Awaits, BookState, ChoosesAmongAll, CoversAt, CoversSoFar}
+use Rattle.recovery_outcomes.proofs.Prelude.{Decisions, Deed, Does, Exchange, Fits, Follower, FollowsBy, HeldRecovery, HeldRings, IsStuck, Job}
+use Rattle.recovery_outcomes.proofs.Prelude.{MakesWell, MayAsk, MayMake, Moment, Observation, Op, Placed, Purpose, Recovery, ServerNo, Stage, Taken}
+use Rattle.recovery_outcomes.proofs.Prelude.{Task, Turning, Way, World, and_parts, chooses, covered, decides, decides-before, decisions-keep, deed_of}
+use Rattle.recovery_outcomes.proofs.Prelude.{end, ends, false≢true, first_source, fits-step, follower_nos, ground_of, in_order, is_finish, is_going}
+use Rattle.recovery_outcomes.proofs.Prelude.{is_look, is_takeover, leader, lost_nos, moves, moves_by, next, observed, of_queue, of_stage, owed}
+use Rattle.recovery_outcomes.proofs.Prelude.{reads_last, same-head, stopped_nos, tail_of, taken, taken-walks, target, times, unnamed}
 use Rattle.recovery_outcomes.proofs.Prelude.asking
-use Rattle.recovery_outcomes.proofs.Prelude.attempt
-use Rattle.recovery_outcomes.proofs.Prelude.cause
 use Rattle.recovery_outcomes.proofs.Prelude.cross
 use Rattle.recovery_outcomes.proofs.Prelude.deed
 use Rattle.recovery_outcomes.proofs.Prelude.model
@@ -27,6 +18,7 @@ use Rattle.recovery_outcomes.proofs.Prelude.stage
 use Rattle.recovery_outcomes.proofs.Prelude.table
 use Rattle.recovery_outcomes.proofs.Prelude.task
 use Rattle.recovery_outcomes.proofs.Prelude.way
+use Rattle.recovery_outcomes.proofs.Making.{Attaches, Makes, made-well}
 
 -- ---- the choice
 
@@ -98,9 +90,10 @@ chooses-all w r c ts next n there =
 
 -- ---- the operation
 
-abbrev MayDo : World → Recovery → Deed → Type 0
-MayDo w r (deed.Request n a) = MayAsk w r n a
-MayDo w r d = Unit {0}
+attaches : (w : World) (r : Recovery) (n : ServerNo) → Attaches (MayMake w r) n.0
+attaches w r n (model.Attach k expect to at) h = tt
+attaches w r n (model.AttachAuto k observed to) h = tt
+attaches w r n e h = absurd h
 
 module _ (w : World) (r : Recovery) where
   still-asks : (n : ServerNo) (a : Ask) → moves_by a ≡ false → MayAsk w r n a
@@ -112,36 +105,42 @@ module _ (w : World) (r : Recovery) where
   still-asks n asking.Reset h = absurd (false≢true (sym h))
   still-asks n (asking.SetReadOnly on) h = absurd (false≢true (sym h))
 
-  still-does : (d : Deed) → moves d ≡ false → MayDo w r d
+  still-does : (d : Deed) → moves d ≡ false → Makes (MayMake w r) d
   still-does (deed.Request n a) h = still-asks n a h
-  still-does (deed.Look n from) h = tt
+  still-does (deed.Until n to) h = λ c. tt
+  still-does (deed.Cross c a b) h = attaches w r a
+  still-does (deed.Same n) h = attaches w r n
+  still-does (deed.Auto n m) h = attaches w r n
+  still-does (deed.CrossMatch n m) h = attaches w r n
   still-does d h = tt
 
-  way-does : (n : ServerNo) (by : Way) → MayDo w r (deed_of (table.move by n))
-  way-does n (way.Down b) = tt
-  way-does n _ = tt
+  way-does : (n : ServerNo) (by : Way) → Makes (MayMake w r) (deed_of (table.move by n))
+  way-does n (way.Down b) = attaches w r n
+  way-does n (way.Up b) = attaches w r n
+  way-does n (way.Auto to exec) = attaches w r n
+  way-does n (way.Match to exec every) = attaches w r n
 
   -- what ends a stage
-  tail-does : (s : Stage) (o : Op) (rest : List Op) → o ∷ rest ≡ tail_of s → CoversAt w r s → MayDo w r (deed_of o)
+  tail-does : (s : Stage) (o : Op) (rest : List Op) → o ∷ rest ≡ tail_of s → CoversAt w r s → Makes (MayMake w r) (deed_of o)
   tail-does s o rest t c = go s t c
     where
-      like : (x : Op) (xs : List Op) → o ∷ rest ≡ x ∷ xs → MayDo w r (deed_of x) → MayDo w r (deed_of o)
-      like x xs e h = subst (λ (y : Op). MayDo w r (deed_of y)) (sym (same-head o x rest xs e)) h
+      like : (x : Op) (xs : List Op) → o ∷ rest ≡ x ∷ xs → Makes (MayMake w r) (deed_of x) → Makes (MayMake w r) (deed_of o)
+      like x xs e h = subst (λ (y : Op). Makes (MayMake w r) (deed_of y)) (sym (same-head o x rest xs e)) h
 
-      go : (k : Stage) → o ∷ rest ≡ tail_of k → CoversAt w r k → MayDo w r (deed_of o)
+      go : (k : Stage) → o ∷ rest ≡ tail_of k → CoversAt w r k → Makes (MayMake w r) (deed_of o)
       go (stage.Drain n) e at = like (op.Status n None) [] e tt
       go (stage.Look n b) e at = like (op.Status n None) [] e tt
       go (stage.Trail n b) e at = like (op.Status n None) [] e tt
       go (stage.Move n by) e at = like (table.move by n) (op.Start n ∷ []) e (way-does n by)
       go (stage.Expel n) e at = like (op.Detach n) [] e at.stage.0
       go (stage.Level p q) e at = like (op.Reset q) (op.Cross cross.About p q ∷ []) e (inl (at.stage.0, inr at.stage.2))
-      go (stage.Swap p q) e at = like (op.Cross cross.About p q) [] e tt
-      go (stage.Return p q) e at = like (op.Cross cross.Back q p) (op.Start q ∷ []) e tt
+      go (stage.Swap p q) e at = like (op.Cross cross.About p q) [] e (attaches w r p)
+      go (stage.Return p q) e at = like (op.Cross cross.Back q p) (op.Start q ∷ []) e (attaches w r q)
       go (stage.Crown n) e at = like (op.Reset n) (op.ReadOnly n false ∷ []) e (inl (at.stage.0, inl at.stage.1.promoted))
       go (stage.Open n) e at = like (op.ReadOnly n false) [] e (at.stage.0.crowns, at.stage.0.promoted.promoted, at.stage.1)
       go (stage.Shut m d) e at = like (op.ReadOnly m true) (table.gather m d) e (at.stage.takeover, sym at.stage.failed)
       go (stage.Yield m d) e at = like (op.Reset d) (op.Cross cross.About m d ∷ []) e (inr (at.stage.0.takeover, at.stage.0.chosen))
-      go (stage.Switch m d) e at = like (op.Cross cross.About m d) [] e tt
+      go (stage.Switch m d) e at = like (op.Cross cross.About m d) [] e (attaches w r m)
       go (stage.Close lines) e at = like (op.Finish lines) [] e tt
       go k e at = cc
 
@@ -152,111 +151,13 @@ module _ (w : World) (r : Recovery) where
       first true e = absurd (false≢true (sym e))
       first false e = refl
 
-  op-does : (o : Op) (rest : List Op) → Fits r.stage (o ∷ rest) → CoversAt w r r.stage → MayDo w r (deed_of o)
+  -- each exchange of an operation of a stage may be made
+  pub op-does : (o : Op) (rest : List Op) → Fits r.stage (o ∷ rest) → CoversAt w r r.stage → Makes (MayMake w r) (deed_of o)
   op-does o rest f c = go (fits-step r.stage o rest f)
     where
-      go : ((ends r.stage (deed_of o) ≡ false) × Fits r.stage rest) ⊎ (o ∷ rest ≡ tail_of r.stage) → MayDo w r (deed_of o)
+      go : ((ends r.stage (deed_of o) ≡ false) × Fits r.stage rest) ⊎ (o ∷ rest ≡ tail_of r.stage) → Makes (MayMake w r) (deed_of o)
       go (inl p) = still-does (deed_of o) (moving (deed_of o) (reads_last r.stage) p.0)
       go (inr t) = tail-does r.stage o rest t c
-
-  -- ---- its exchanges
-
-  abbrev Well : Attempt → Type 0
-  Well (attempt.Goes o es k) = All (MayMake w r) es
-  Well (attempt.Stops c o) = Unit {0}
-  Well (attempt.Ends lines) = Unit {0}
-
-  nothing : All (MayMake w r) []
-  nothing = All-nil (MayMake w r)
-
-  one : (e : Exchange) → MayMake w r e → All (MayMake w r) (e ∷ [])
-  one e h = All-cons (MayMake w r) e [] h nothing
-
-  abbrev AttachesWell : Option Exchange → Type 0
-  AttachesWell o = IfSome o (MayMake w r)
-
-  module _ (j : Job) (rest : List Op) where
-    look-well : (n : ServerNo) (from : Option ServerNo) (o : Observation) (x : Option Status) → Well (after_look j rest n from o x)
-    look-well n from o None = tt
-    look-well n from o (Some s) = go (is_moved from s.source)
-      where
-        go : (b : Bool) → Well (after_status j rest n from o s b)
-        go true = tt
-        go false = nothing
-
-    ask-well : (n : ServerNo) (a : Ask) → MayAsk w r n a → (x : Result (Unit {0}) Unreachable) → Well (after_ask j rest n a x)
-    ask-well n a h (Ok t) = one (model.Request n.0 a) h
-    ask-well n a h (Err e) = tt
-
-    until-well : (n : ServerNo) (o : Option Coord) → Well (after_until w j rest n o)
-    until-well n None = nothing
-    until-well n (Some to) = ask-well n (asking.StartUntil to) tt (desk_answer (server_at w n.0))
-
-    wait-well : (n : ServerNo) (reached : Status → Bool) (x : Option Status) → Well (after_wait j rest n reached x)
-    wait-well n reached None = tt
-    wait-well n reached (Some s) = go (reached s)
-      where
-        more : (b : Bool) → Well (cond b (attempt.Goes None [] (record (saw j n s) { waited = j.waited + 1 })) (attempt.Stops (cause.WaitSpent n) None))
-        more true = nothing
-        more false = tt
-
-        go : (b : Bool) → Well (after_wait_by j rest n s b)
-        go true = nothing
-        go false = more (nat_lt (j.waited + 1) j.wait)
-
-    attach-well : (n : ServerNo) (o : Option Exchange) → AttachesWell o → Well (after_attach w j rest n o)
-    attach-well n None h = nothing
-    attach-well n (Some e) h = by (can_attach w e)
-      where
-        go : (x : Result (Unit {0}) AttachFault) → Well (after_answer j rest n e x)
-        go (Ok t) = one e h
-        go (Err f) = tt
-
-        by : (b : Bool) → Well (cond b (after_answer j rest n e (attach_answer_of w e)) (attempt.Goes None [] (attempt.next j rest)))
-        by true = go (attach_answer_of w e)
-        by false = nothing
-
-    crossed-well : (c : Crossing) (a : ServerNo) (o : Option Bridge) → AttachesWell (crossed c a o)
-    crossed-well c a None = tt
-    crossed-well cross.Up a (Some b) = tt
-    crossed-well cross.Down a (Some b) = tt
-    crossed-well cross.About a (Some b) = tt
-    crossed-well cross.Back a (Some b) = tt
-
-    anew-well : (n : ServerNo) (c : Coord) (s : SourceState) → AttachesWell (attached_anew n c s)
-    anew-well n c Without = tt
-    anew-well n c (Attached m) = tt
-    anew-well n c (Detached m) = tt
-
-    same-well : (n : ServerNo) (o : Option Position) → AttachesWell (same_again n o)
-    same-well n None = tt
-    same-well n (Some s) = anew-well n s.exec s.source
-
-    set-well : (n m : ServerNo) (o : Option Position) → AttachesWell (by_set n m o)
-    set-well n m None = tt
-    set-well n m (Some s) = tt
-
-    found-well : (n m : ServerNo) (o : Option Match) → AttachesWell (by_match n m o)
-    found-well n m None = tt
-    found-well n m (Some x) = tt
-
-    match-well : (n m : ServerNo) (at : Spot) (x : Result Coord MatchFault) → Well (after_match j rest n m at x)
-    match-well n m at (Ok c) = nothing
-    match-well n m at (Err f) = tt
-
-    deed-well : (read : ℕ) (now : Moment) (d : Deed) → MayDo w r d → Well (by_deed w read now j rest d)
-    deed-well read now (deed.Look n from) h = look-well n from (observed w read now n) (seen_in (status w n.0))
-    deed-well read now (deed.Request n a) h = ask-well n a h (desk_answer (server_at w n.0))
-    deed-well read now (deed.Until n to) h = until-well n (until_by (seen_of j.seen n.0) (aim_of j.seen to))
-    deed-well read now (deed.Await n to) h = wait-well n (λ s. is_reached (aim_of j.seen to) s.exec) (seen_in (status w n.0))
-    deed-well read now (deed.AwaitSet n m) h = wait-well n (holds_seen (seen_of j.seen m.0)) (seen_in (status w n.0))
-    deed-well read now (deed.Settle n) h = wait-well n (settles j) (seen_in (status w n.0))
-    deed-well read now (deed.Cross c a b) h = attach-well a (crossing_of j.seen c a b) (crossed-well c a (bridge_at (read_by c a b) (seen_of j.seen (read_by c a b).0)))
-    deed-well read now (deed.Same n) h = attach-well n (same_again n (seen_of j.seen n.0)) (same-well n (seen_of j.seen n.0))
-    deed-well read now (deed.Auto n m) h = attach-well n (by_set n m (seen_of j.seen m.0)) (set-well n m (seen_of j.seen m.0))
-    deed-well read now (deed.Match n m every) h = match-well n m (standing_at (server_at w n.0)) (match_logs w n m every)
-    deed-well read now (deed.CrossMatch n m) h = attach-well n (by_match n m (match_found j.matches n m)) (found-well n m (match_found j.matches n m))
-    deed-well read now (deed.Finish lines) h = tt
 
 -- ---- a turn
 
@@ -278,8 +179,7 @@ module _ (w : World) (b : BookState) (read : ℕ) (now : Moment) (r : Recovery) 
         decided = d;
         so = so;
         each =
-            subst (λ (a : Attempt). Well w d a) did.goes
-            (deed-well w d d.core rest read now (deed_of o) (op-does w d o rest (subst (λ (xs : List Op). Fits d.stage xs) did.ops state.0.fits) covers.at));
+            made-well (MayMake w d) w d.core rest read now (deed_of o) (op-does w d o rest (subst (λ (xs : List Op). Fits d.stage xs) did.ops state.0.fits) covers.at) ob es j did.goes;
       }
 
   pub turn-makes : is_going (taken w b read now r).step ≡ true → MakesWell w (ground_of w b now) r (taken w b read now r).exchanges

@@ -4,4 +4,5 @@ pub mod Running
 pub mod Placing
 pub mod Examples
 pub mod Telling
+pub mod Making
 pub mod Doing

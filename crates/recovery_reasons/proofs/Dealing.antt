@@ -18,7 +18,6 @@ use Rattle.recovery_reasons.proofs.Prelude.op
 use Rattle.recovery_reasons.proofs.Prelude.purpose
 use Rattle.recovery_reasons.proofs.Prelude.stage
 use Rattle.recovery_reasons.proofs.Prelude.task
-use Rattle.recovery_reasons.proofs.Prelude.way
 use Rattle.recovery_reasons.proofs.Prelude.why
 use Rattle.recovery_reasons.proofs.Prelude.word
 use Rattle.recovery_reasons.proofs.Caring.{decided-cared, expelled-so, why-marked}
@@ -40,10 +39,10 @@ split-first : {X : Type 0} (x : X) (xs : List X) (q : X) → Contains (x ∷ xs)
 split-first x xs q (zero, l, e) = inl e
 split-first x xs q (suc k, l, e) = inr (k, omega (arith, l), e)
 
-no-none : {X : Type 0} (q : X) → Contains [] q → ⊥
+pub no-none : {X : Type 0} (q : X) → Contains [] q → ⊥
 no-none q h = let l = h.1 in omega (arith, l)
 
-picked : (p : ServerNo → Bool) (ns : List ServerNo) (n : ServerNo) → Contains ns n → p n ≡ true → Contains (filter p ns) n
+pub picked : (p : ServerNo → Bool) (ns : List ServerNo) (n : ServerNo) → Contains ns n → p n ≡ true → Contains (filter p ns) n
 picked p [] n h e = absurd (no-none n h)
 picked p (k ∷ ks) n h e = go (split-first k ks n h) (λ g. picked p ks n g e)
   where

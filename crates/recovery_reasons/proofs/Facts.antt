@@ -12,7 +12,6 @@ use Rattle.recovery_reasons.proofs.Prelude.by
 use Rattle.recovery_reasons.proofs.Prelude.purpose
 use Rattle.recovery_reasons.proofs.Prelude.stage
 use Rattle.recovery_reasons.proofs.Prelude.step
-use Rattle.recovery_reasons.proofs.Prelude.way
 use Rattle.recovery_reasons.proofs.Readings.{Reading, fits-of, reader_of, stepped-reading}
 use Rattle.recovery_reasons.proofs.Caring.{begun-cared, taken-cared}
 use Rattle.recovery_reasons.proofs.Choosing.{best-of, chosen-comes, chosen-most}
@@ -20,6 +19,7 @@ use Rattle.recovery_reasons.proofs.Dealing.{begun-dealt, taken-dealt}
 use Rattle.recovery_reasons.proofs.Looking.{Looked, borne-looked, completes-looked, decided-looked, looked-as, stepped-looked}
 use Rattle.recovery_reasons.proofs.OnWay.{Fine, bears-way, completes-way, decides-fine, done-swap, still-on, stepped-course}
 use Rattle.recovery_reasons.proofs.Seeing.{taken-seen}
+use Rattle.recovery_reasons.proofs.Sending.{begun-sent, taken-sent}
 use Rattle.recovery_reasons.proofs.Starting.{taken-up}
 use Rattle.recovery_reasons.proofs.Tasks.{calm, moved-swaps, swap_in, swaps-so}
 use Rattle.recovery_reasons.proofs.Reasoning.{taken-lost}
@@ -247,6 +247,7 @@ taken-explained w b read now r P rings held speaks why x =
       below = ups.1;
       care = taken-cared w b now r P why read rings held x.care;
       dealt = taken-dealt w b now r P why read rings held speaks x.care x.dealt;
+      sent = taken-sent w b now r P why read rings held speaks x.sent;
       opened = after.1;
       looked = whole.1;
     }
@@ -298,6 +299,7 @@ begun-explained P u by id wait f ns order = by-purpose u
       below = λ m d at. cc;
       care = begun-cared P purpose.Regroup by id wait f ns order;
       dealt = begun-dealt P purpose.Regroup by id wait f ns order;
+      sent = begun-sent P purpose.Regroup by id wait f ns order;
       opened = λ m h. cc;
       looked = λ p m c t. cc;
     }
@@ -313,6 +315,7 @@ begun-explained P u by id wait f ns order = by-purpose u
       below = λ m d at. cc;
       care = begun-cared P purpose.Master by id wait f ns order;
       dealt = begun-dealt P purpose.Master by id wait f ns order;
+      sent = begun-sent P purpose.Master by id wait f ns order;
       opened = λ m h. cc;
       looked = λ p m c t. cc;
     }
@@ -328,6 +331,7 @@ begun-explained P u by id wait f ns order = by-purpose u
       below = λ m d at. cc;
       care = begun-cared P (purpose.Intermediate s) by id wait f ns order;
       dealt = begun-dealt P (purpose.Intermediate s) by id wait f ns order;
+      sent = begun-sent P (purpose.Intermediate s) by id wait f ns order;
       opened = λ m h. cc;
       looked = λ p m c t. cc;
     }
@@ -343,6 +347,7 @@ begun-explained P u by id wait f ns order = by-purpose u
       below = λ m d at. cc;
       care = begun-cared P (purpose.Takeover d) by id wait f ns order;
       dealt = begun-dealt P (purpose.Takeover d) by id wait f ns order;
+      sent = begun-sent P (purpose.Takeover d) by id wait f ns order;
       opened = λ m h. cc;
       looked = λ p m c t. cc;
     }

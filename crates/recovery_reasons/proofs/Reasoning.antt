@@ -169,7 +169,7 @@ asked-unreached w read now j rest d n on asked = go d on asked
     go _ e h = absurd h
 
 -- the executed coordinate that a status shows is the server's
-shown-exec : (w : World) (n : ℕ) (s : Status) → seen_in (status w n) ≡ Some s → s.exec ≡ exec_by (server_at w n)
+pub shown-exec : (w : World) (n : ℕ) (s : Status) → seen_in (status w n) ≡ Some s → s.exec ≡ exec_by (server_at w n)
 shown-exec w n s h = go (server_at w n) h
   where
     go : (o : Option Server) → seen_in (status_in w o) ≡ Some s → s.exec ≡ exec_by o

@@ -21,6 +21,7 @@ use Rattle.recovery_reasons.proofs.Prelude.table
 use Rattle.recovery_reasons.proofs.Prelude.way
 use Rattle.std.proofs.Common.{◌≡◌, ℕ, Bool, true, false, cond, List, [], ◌∷◌, ◌++◌, arith, refl, sym, ◌∙◌, ap, subst, Option, Some, None, option_map, ◌⊎◌, inl, inr, Ok, Err, Result}
 use Rattle.recovery_reasons.proofs.Beginning.{begun-way}
+use Rattle.recovery_reasons.proofs.Listing.{begun-listed, taken-listed}
 use Rattle.recovery_reasons.proofs.OnWay.{taken-way}
 use Rattle.recovery_reasons.proofs.Sights.{SeesOnly, deed-sees}
 
@@ -240,7 +241,7 @@ moved-trails (stage.Look m b) n x h = cc
 moved-trails s n x h = cc
 
 -- nor to a change of source
-moved-goes : (s : Stage) (n : ServerNo) (way : Way) → moved s ≡ stage.Move n way → ⊥
+pub moved-goes : (s : Stage) (n : ServerNo) (way : Way) → moved s ≡ stage.Move n way → ⊥
 moved-goes (stage.Move m x) n way h = cc
 moved-goes s n way h = cc
 
@@ -463,6 +464,7 @@ pub taken-speaks : (w : World) (b : BookState) (read : ℕ) (now : Moment) (r : 
 taken-speaks w b read now r rings held s going = record {
   says = kept-along w b read now (λ x. HeldRecovery w x × SpeaksWith x) (λ v x. SpeaksWith x) (λ v x. SpeaksWith x) (keeps-speaks w b read now rings) r (held, s.says) going;
   way = taken-way w b read now r held.fits s.way going;
+  listed = taken-listed w b read now r rings held s.listed going;
 }
 
 begun-says : (u : Purpose) (by : Means) (id wait : ℕ) (f : ServerNo) (ns order : List ServerNo) → SpeaksWith (begun_recovery u by id wait f ns order)
@@ -472,4 +474,8 @@ begun-says (purpose.Intermediate s) by id wait f ns order = silent (begun_recove
 begun-says (purpose.Takeover d) by id wait f ns order = silent (begun_recovery (purpose.Takeover d) by id wait f ns order) refl refl refl (λ n p e. cc)
 
 pub begun-speaks : (u : Purpose) (by : Means) (id wait : ℕ) (f : ServerNo) (ns order : List ServerNo) → Speaks (begun_recovery u by id wait f ns order)
-begun-speaks u by id wait f ns order = record { says = begun-says u by id wait f ns order; way = begun-way u by id wait f ns order }
+begun-speaks u by id wait f ns order = record {
+  says = begun-says u by id wait f ns order;
+  way = begun-way u by id wait f ns order;
+  listed = begun-listed u by id wait f ns order;
+}

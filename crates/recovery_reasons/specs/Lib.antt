@@ -2,6 +2,11 @@ pub mod Prelude
 pub mod Causes
 pub mod OnWay
 pub mod Choices
+pub mod Steps
+pub mod Ways
 pub mod Reasons
+pub mod Attaching
+pub mod Waiting
+pub mod Undoing
 pub mod Nobody
 pub mod Fatal

@@ -16,10 +16,11 @@ pub use Rattle.recovery_laws.specs.Operations.Deeds.{Deed, Match, deed_of}
 pub use Rattle.recovery_laws.specs.Operations.Deeds as deed
 pub use Rattle.recovery_laws.specs.Operations.Jobs.{Job, match_found, position_of, seen_of}
 pub use Rattle.recovery_laws.specs.Operations.Matching.{match_logs}
+pub use Rattle.recovery_laws.specs.Operations.Targets.{can_attach}
 pub use Rattle.recovery_laws.specs.Operations.Turns.{Stops, attach_answer_of, by_deed, cause_by, cause_of_match, is_going}
 pub use Rattle.recovery_laws.specs.Operations.declared.matching.Match as Operations
 pub use Rattle.recovery_laws.specs.Operations.declared.matching.MatchFault.{MatchFault}
-pub use Rattle.recovery_laws.specs.Operations.declared.op.Aim.TheVariants.{ExecOf}
+pub use Rattle.recovery_laws.specs.Operations.declared.op.Aim.TheVariants.{EndOf, ExecOf}
 pub use Rattle.recovery_laws.specs.Operations.declared.op.Crossing.TheVariants as cross
 pub use Rattle.recovery_laws.specs.Operations.declared.op.Op.{Op}
 pub use Rattle.recovery_laws.specs.Operations.declared.op.Op.TheVariants as op
@@ -29,22 +30,23 @@ pub use Rattle.recovery_laws.specs.Operations.declared.step.JobStep.TheVariants 
 pub use Rattle.recovery_laws.specs.OrchBase.declared.rule.Rule.TheVariants as rule
 pub use Rattle.recovery_laws.specs.OrchBase.declared.server.Moment.{Moment}
 pub use Rattle.recovery_laws.specs.OrchBase.declared.server.ServerNo.{ServerNo}
+pub use Rattle.recovery_laws.specs.OrchBase.declared.server.SourceState.TheVariants.{Attached, Detached}
 pub use Rattle.recovery_laws.specs.PromotionRules.Choice.{is_barred, is_better, is_eligible, nearer_order, precedence, server_order}
 pub use Rattle.recovery_laws.specs.PromotionRules.Chosen.{HasExecutedMost, IsChoice}
 pub use Rattle.recovery_laws.specs.RecoveryEnds.Ends.{closes}
 pub use Rattle.recovery_laws.specs.HeldRecoveries.{HeldRecovery}
 pub use Rattle.recovery_laws.specs.Rings.{HeldRings}
 pub use Rattle.recovery_laws.specs.RecoveryPlans.Beginning.{begun_recovery, is_takeover}
-pub use Rattle.recovery_laws.specs.RecoveryPlans.Deciding.{better_of, center_in, chosen_of, decided, drained_of, follower_of, ground_of, logs_at, may_lead, why_of}
+pub use Rattle.recovery_laws.specs.RecoveryPlans.Deciding.{Ground, better_of, center_in, chosen_of, decided, drained_of, follower_of, ground_of, logs_at, may_lead, why_of}
 pub use Rattle.recovery_laws.specs.RecoveryPlans.Moves.{Decision, Decisions, IsNext, IsOver, MayDecide, decided_by, follows_lead, stopped_at}
 pub use Rattle.recovery_laws.specs.RecoveryPlans.Moves as move
 pub use Rattle.recovery_laws.specs.RecoveryPlans.Named.{spoken_to}
 pub use Rattle.recovery_laws.specs.RecoveryPlans.Recoveries.{Recovery, sight_of}
-pub use Rattle.recovery_laws.specs.RecoveryPlans.Stages.{before, is_look, reads_last, tail_of}
+pub use Rattle.recovery_laws.specs.RecoveryPlans.Stages.{before, is_look, reads_last, tail_of, target}
 pub use Rattle.recovery_laws.specs.RecoveryPlans.Table.{info}
 pub use Rattle.recovery_laws.specs.RecoveryPlans.Table as table
 pub use Rattle.recovery_laws.specs.RecoveryPlans.Taking as taking
-pub use Rattle.recovery_laws.specs.RecoveryPlans.Taking.{Missed, fate, is_below, loss_of, place_on, spot_by, spot_seen, taken}
+pub use Rattle.recovery_laws.specs.RecoveryPlans.Taking.{Missed, Taken, fate, is_below, loss_of, place_on, spot_by, spot_seen, taken}
 pub use Rattle.recovery_laws.specs.RecoveryPlans.Whys as whys
 pub use Rattle.recovery_laws.specs.RecoveryPlans.declared.means.Means.{Means}
 pub use Rattle.recovery_laws.specs.RecoveryPlans.declared.means.Means.TheVariants as means
@@ -60,16 +62,20 @@ pub use Rattle.recovery_laws.specs.RecoveryPlans.declared.task.Task.TheVariants 
 pub use Rattle.recovery_laws.specs.RecoveryPlans.declared.task.Way.{Way}
 pub use Rattle.recovery_laws.specs.RecoveryPlans.declared.task.Way.TheVariants as way
 pub use Rattle.recovery_laws.specs.RecoveryPlans.declared.why.Miss.{Miss}
+pub use Rattle.recovery_laws.specs.RecoveryPlans.declared.why.Miss.TheVariants as miss
 pub use Rattle.recovery_laws.specs.RecoveryPlans.declared.why.Why.{Why}
 pub use Rattle.recovery_laws.specs.RecoveryPlans.declared.why.Why.TheVariants as why
 pub use Rattle.recovery_laws.specs.ServerModel.Attach.{attach_answer, live_spot, same_spot}
-pub use Rattle.recovery_laws.specs.ServerModel.Desk.{desk_answer}
+pub use Rattle.recovery_laws.specs.ServerModel.Desk.{can_reach, desk_answer}
 pub use Rattle.recovery_laws.specs.ServerModel.Gtids.{attach_auto_answer, status}
-pub use Rattle.recovery_laws.specs.ServerModel.Run.{Attach, AttachAuto}
+pub use Rattle.recovery_laws.specs.ServerModel.Run.{Attach, AttachAuto, Exchange, Request, run}
 pub use Rattle.recovery_laws.specs.ServerModel.Worlds.{World, server_at}
 pub use Rattle.recovery_laws.specs.ServerModel.declared.server.Server.{Server}
 pub use Rattle.recovery_laws.specs.ServerWords.declared.attach.AttachFault.{AttachFault}
 pub use Rattle.recovery_laws.specs.ServerWords.declared.attach.AttachFault.TheVariants as attaching
 pub use Rattle.recovery_laws.specs.ServerWords.declared.attach.Spot.{Spot}
 pub use Rattle.recovery_laws.specs.ServerWords.declared.attach.Spot.TheVariants as spot
+pub use Rattle.recovery_laws.specs.ServerWords.declared.changes.Ask.{Ask}
+pub use Rattle.recovery_laws.specs.ServerWords.declared.changes.Ask.TheVariants as asking
+pub use Rattle.recovery_laws.specs.ServerWords.declared.changes.Threads.{Threads}
 pub use Rattle.recovery_laws.specs.ServerWords.declared.status.Status.{Status}

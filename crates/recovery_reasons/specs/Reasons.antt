@@ -1,6 +1,6 @@
 -- Why a replica is lost.
 use Rattle.std.specs.Prelude.{◌≡◌, ℕ, Bool, true, false, List, [], ◌∷◌, ◌++◌, Option, Some, None, Ok, Err, All, option_map, ◌⊎◌, filter, map}
-use Rattle.recovery_reasons.specs.Prelude.{Attach, AttachAuto, AttachFault, BookState, Bridge, Cause, Contains, Coord, Decisions, Deed, ExecOf}
+use Rattle.recovery_reasons.specs.Prelude.{Attach, AttachAuto, Attached, AttachFault, BookState, Bridge, Cause, Contains, Coord, Decisions, Deed, ExecOf}
 use Rattle.recovery_reasons.specs.Prelude.{HasExecutedMost, Interval, IsChoice, IsNext, IsOver, Job, LostReplica, MatchFault, Miss, Missed, Moment}
 use Rattle.recovery_reasons.specs.Prelude.{Observation, Op, Position, Purpose, Recovery, ServerNo, Sight, Spot, Stage, Status, Stopped, Stops, Task}
 use Rattle.recovery_reasons.specs.Prelude.{Way, Why, World, attach_answer_of, before, better_of, by_deed, cause_by, cause_of_match, chosen_of}
@@ -26,6 +26,8 @@ use Rattle.recovery_reasons.specs.Prelude.Operations.{Match}
 use Rattle.recovery_reasons.specs.Causes.{IsRunning, IsUnreached}
 use Rattle.recovery_reasons.specs.Choices.{IsBestOne, IsBetterOne, IsFirstOf}
 use Rattle.recovery_reasons.specs.OnWay.{IsOnWay, IsSwapping, chooses}
+use Rattle.recovery_reasons.specs.Steps.{AreLeft}
+use Rattle.recovery_reasons.specs.Ways.{IsWayBelow, IsWayBeside}
 
 -- If one is chosen, without GTIDs: a drained one that executed more than the chosen one. Or one that executed less, if
 -- the book keeps no bridge of the chosen one below the failed server at that coordinate.
@@ -140,10 +142,11 @@ pub record SpeaksWith (r : Recovery) : Type 0 where
   pub looks : (n : ServerNo) (x : Bridge) → r.stage ≡ stage.Look n x → All (λ o. is_look (deed_of o) ≡ true) r.core.ops
   pub starts : (n p : ServerNo) → (info r.stage).made ≡ table.Follows n p → (r.core.ops ≡ op.Start n ∷ []) ⊎ (r.core.ops ≡ [])
 
--- so it is, and the recovery is on its way
+-- so it is, the recovery is on its way, and what is left of a stage that waits are its last operations
 pub record Speaks (r : Recovery) : Type 0 where
   pub says : SpeaksWith r
   pub way : IsOnWay r
+  pub listed : AreLeft r.stage r.core.ops
 
 -- this task is next
 abbrev pub IsDue : Task → Recovery → Type 0
@@ -200,7 +203,9 @@ pub data Reason (w : World) (b : BookState) (now : Moment) (r : Recovery) : Serv
 -- - another is to take its place, or there is none, or this was given up;
 -- - what was observed of a server;
 -- - one below its new source was started;
--- - a master goes below the replica that takes its place.
+-- - a master goes below the replica that takes its place;
+-- - a replica is sent some way;
+-- - a designated replica stopped at a coordinate of its master's log.
 pub data Fact : Type 0 where
   IsLost : (n : ServerNo) (why : Why) → Fact
   IsDrained : (s : Stopped) → Fact
@@ -214,6 +219,8 @@ pub data Fact : Type 0 where
   IsExpelled : (n : ServerNo) → Fact
   IsReleased : (n : ServerNo) → Fact
   IsPassed : (n : ServerNo) → Fact
+  IsSent : (n : ServerNo) (by : Way) → Fact
+  IsLed : (x : Bridge) → Fact
 
 -- recoveries of a dead master or intermediate master
 abbrev pub IsOfDead : Purpose → Type 0
@@ -320,6 +327,17 @@ pub data IsTrue (w : World) (b : BookState) (now : Moment) (r : Recovery) : Fact
   -- the operation starts a lost one, which is reached; or one isn't reached that is to be detached or started
   Releases : {n : ServerNo} (rest : List Op) → r.stage ≡ stage.Release n → r.core.ops ≡ op.Start n ∷ rest → desk_answer (server_at w n.0) ≡ Ok tt → IsTrue w b now r (IsReleased n)
   Passes : {n : ServerNo} → (r.stage ≡ stage.Expel n) ⊎ (r.stage ≡ stage.Release n) → IsUnreached w n.0 → IsTrue w b now r (IsPassed n)
+  -- one of the drained is chosen, and another is sent below it; or the first of them is sent below the successor
+  SendsBeside : {by : Way} (p s : Stopped) → IsDue task.Choosing r → chosen_of (ground_of w b now) r.failed r.drained ≡ Some p → Contains r.drained s
+      → IsWayBeside w b r.means r.failed p s by → IsTrue w b now r (IsSent s.no by)
+  SendsBelow : {by : Way} (n : ServerNo) (s : Stopped) (ss : List Stopped) → IsDue task.Handing r → r.purpose ≡ purpose.Intermediate n → r.chosen ≡ Some n → r.drained ≡ s ∷ ss
+      → IsWayBelow w b r.failed n s by → IsTrue w b now r (IsSent s.no by)
+  -- it stopped where the designated one stopped, and is sent below that one there
+  SendsThere : {n : ServerNo} (x : Bridge) (s : Status) → IsTrailing r n x → reads_last r.stage ≡ true → seen_in (status w n.0) ≡ Some s
+      → same_coord s.exec x.exec ≡ true → IsTrue w b now r (IsSent n (way.Down x))
+  -- the last reading of the designated one, below its master: where it stopped, and the end of its own log then
+  Leads : {x : Bridge} (m : ServerNo) (s : Status) → r.stage ≡ stage.Gather m x.no → r.core.ops ≡ op.Status x.no (Some m) ∷ [] → seen_in (status w x.no.0) ≡ Some s
+      → s.source ≡ Attached x.source → s.own_end ≡ Some x.own → s.exec ≡ x.exec → IsTrue w b now r (IsLed x)
 
 -- Each fact counts that is true of the turn, of what is decided in it so far or of its operation.
 abbrev pub ExplainsTruly : World → BookState → Moment → Recovery → (Fact → Bool) → Type 0
@@ -445,6 +463,26 @@ pub record AreDealtWith (P : Fact → Bool) (r : Recovery) : Type 0 where
   pub detached : (r.chosen ≡ None → ⊥) → (n : ServerNo) → Contains r.replicas n → IsToDetach r.purpose (why_of r.outcome.lost n) → IsDetachedSo P r n
   pub released : (r.chosen ≡ None → ⊥) → (n : ServerNo) → Contains r.replicas n → IsToRelease r.purpose (why_of r.outcome.lost n) → IsReleasedSo P r n
 
+-- who is to go some way was sent that way
+abbrev pub IsSentSo : (Fact → Bool) → Task → Type 0
+IsSentSo P (task.Moving n by) = P (IsSent n by) ≡ true
+IsSentSo P (task.Reading n) = Unit {0}
+IsSentSo P (task.Draining n) = Unit {0}
+IsSentSo P task.Choosing = Unit {0}
+IsSentSo P task.Handing = Unit {0}
+IsSentSo P task.Sorting = Unit {0}
+IsSentSo P (task.Expelling n) = Unit {0}
+IsSentSo P (task.Releasing n) = Unit {0}
+IsSentSo P (task.Trailing n) = Unit {0}
+IsSentSo P task.Yielding = Unit {0}
+
+-- Each replica that is to go some way, or goes it, was sent that way. The position at which the designated one stopped
+-- was read.
+pub record AreSent (P : Fact → Bool) (r : Recovery) : Type 0 where
+  pub queue : All (IsSentSo P) r.queue
+  pub going : (n : ServerNo) (by : Way) → r.stage ≡ stage.Move n by → P (IsSent n by) ≡ true
+  pub lead : (x : Bridge) → r.lead ≡ Some x → P (IsLed x) ≡ true
+
 -- the better one takes the chosen one's place, was promoted, or was given up
 abbrev pub IsSwapped : (Fact → Bool) → Recovery → ServerNo → ServerNo → Type 0
 IsSwapped P r p q = IsSwapping r.stage p q ⊎ ((r.outcome.promoted ≡ Some q) ⊎ ((r.outcome.promoted ≡ Some p) × (P (IsGivenUp p q) ≡ true)))
@@ -456,8 +494,8 @@ WasLooked P r p =
     ⊎ ((q : ServerNo) × (P (IsBetter p q) ≡ true) × IsSwapped P r p q)
 
 -- What a recovery came to so far has facts that count: those that it has lost, drained and chosen, among whom, and whom
--- it has promoted. Then what it saw, who was started and detached, and, once a master's recovery looked for a better
--- one, whom it found. That is done before the promoted one is opened.
+-- it has promoted. Then what it saw, who was started and detached, and who was sent which way. And once a master's
+-- recovery looked for a better one, whom it found. That is done before the promoted one is opened.
 pub record IsExplained (P : Fact → Bool) (r : Recovery) : Type 0 where
   pub lost : AllLost P r.outcome.lost
   pub drained : AllDrained P r.drained
@@ -470,6 +508,7 @@ pub record IsExplained (P : Fact → Bool) (r : Recovery) : Type 0 where
   pub below : (m d : ServerNo) → r.stage ≡ stage.Switched m d → P (IsSwitched m) ≡ true
   pub care : IsCaredFor P r
   pub dealt : AreDealtWith P r
+  pub sent : AreSent P r
   pub opened : r.purpose ≡ purpose.Master → closes r.stage ≡ true → r.swaps ≡ false
   pub looked : (p : ServerNo) → r.purpose ≡ purpose.Master → r.chosen ≡ Some p → r.swaps ≡ false → WasLooked P r p
 

@@ -3,6 +3,8 @@
 
 mod causes;
 mod losses;
+mod turning;
 
 pub use causes::causes_are_true;
 pub use losses::recoveries_tell_the_truth;
+pub use turning::recoveries_turn_well;

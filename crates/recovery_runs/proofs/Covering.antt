@@ -44,7 +44,7 @@ module _ (P : Unended → Type 0) (count : ℕ) (s : State) (fits : (u : Unended
   with-scan = joined P s.jobs (jobs_of s (scan_outcome s)) (updated (known_of s) (scan_outcome s).book).jobs (scan-joins s) all (All-weaker (BeginsOnce s) P fits (jobs_of s (scan_outcome s)) (scan-once count s ready))
 
 -- what happens to a server is outside, and may pass
-step-outside : (x : Step) → IsOutside (pass.Exchanging (exchange_of x))
+pub step-outside : (x : Step) → IsOutside (pass.Exchanging (exchange_of x))
 step-outside (step.Write n size) = refl
 step-outside _ = refl
 

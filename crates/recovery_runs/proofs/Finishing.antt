@@ -1,13 +1,13 @@
 -- The turn of a recovery in a state is one of its `Flight`.
 use Rattle.std.proofs.Common.{◌≡◌, ◌∙◌, ◌++◌, ℕ, Bool, List, refl, sym, ap, subst, Option, Some}
 use Rattle.std.specs.Prelude.{◌==◌, All}
-use Rattle.recovery_runs.proofs.Prelude.{AimedState, All-find, AllFit, CoveredState, Docket, ExplainsTruly, Fact, HeldState, Hooked, IsBeginning}
+use Rattle.recovery_runs.proofs.Prelude.{AimedState, All-find, AllFit, CoveredState, Docket, ExplainsTruly, Fact, HeldState, Hooked, IsBeginning, UpState}
 use Rattle.recovery_runs.proofs.Prelude.{IsExplained, IsFinish, IsNamedRecovery, IsReady, IsSpeakingBeside, IsTold, JobStep, Keeps, KeepsHistories}
 use Rattle.recovery_runs.proofs.Prelude.{KeptState, Line, OwesNothing, Ready, Recovery, RecoveryTurn, Row, Safe, SameAim, SoundState, SpeakingState}
 use Rattle.recovery_runs.proofs.Prelude.{State, Unended, World, done-chain, done-fit, done-named, done-old, done-placed, done-promoted, done-told}
 use Rattle.recovery_runs.proofs.Prelude.{flight_of, job_at, job_exchanges, job_reply, last-aim, moment_at, next_count, number_of, option_map}
 use Rattle.recovery_runs.proofs.Prelude.{own_lines, own_turn, promoted_then, ran_lines, recovery_after, reply_of, run, step, step_reply, turn-aim}
-use Rattle.recovery_runs.proofs.Prelude.{turn-explained, turn_hooked, turn_of, turn_taken}
+use Rattle.recovery_runs.proofs.Prelude.{KeepsUp, done-ups, found-number, turn-explained, turn_hooked, turn_of, turn_taken}
 use Rattle.recovery_runs.proofs.Prelude.act
 use Rattle.recovery_runs.proofs.Prelude.answered
 use Rattle.recovery_runs.proofs.Prelude.job_step
@@ -81,6 +81,12 @@ module _ (s : State) (id : ℕ) (r : Recovery) (docket : Docket) where
           subst (λ (w : World). IsBeginning w r.failed.0 d.0) (sym (world-then rows))
           (done-old (flight_of s) s.jobs (turn_in is.found) held covered (own_lines s r) taken-done d (subst Safe (world-then rows) safe) has);
     }
+
+    pub keeps-up : (rows : List Row) (P : Fact → Bool) → HeldState s → CoveredState s → SpeakingState s → ExplainsTruly s.world s.book (moment_at s) r P → UpState P id s
+        → KeepsUp P (step rows s (turn.Act (act.Job id))).world (recovery_after s r)
+    keeps-up rows P held covered speaking explains up =
+        subst (λ (w : World). KeepsUp P w (recovery_after s r)) (sym (world-then rows))
+        (done-ups P id (flight_of s) s.jobs (turn_in is.found) held covered speaking explains up (found-number s.jobs id (unended.Recovery r docket) is.found) (own_lines s r) taken-done)
 
     pub aim-began : (begun : ℕ → Recovery) → HeldState s → AimedState begun s → SameAim (begun id) (recovery_after s r)
     aim-began begun held aimed = last-aim (flight_of s) s.jobs (turn_in is.found) held begun aimed

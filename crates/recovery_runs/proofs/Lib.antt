@@ -10,6 +10,7 @@ pub mod Finishing
 pub mod HookTellings
 pub mod Entries
 pub mod Facts
+pub mod Upkeep
 pub mod Origins
 pub mod Still
 pub mod Scenarios

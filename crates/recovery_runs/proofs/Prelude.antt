@@ -37,12 +37,15 @@ pub use Rattle.run_laws.specs.Commands.declared.turn.CommandTurn.{CommandTurn}
 pub use Rattle.covered_laws.proofs.Beside.{apart-stays, none-aimed, none-covered, none-kept, none-speak, outside-stays, recovery-covered}
 pub use Rattle.covered_laws.proofs.Beside.{recovery-kept, recovery-speaks}
 pub use Rattle.covered_laws.proofs.Ending.{done-chain, done-named, done-old, done-placed, done-promoted, done-told, last-aim, turn-aim}
-pub use Rattle.covered_laws.proofs.Ending.{turn-changes, turn-chooses, turn-explained}
+pub use Rattle.covered_laws.proofs.Ending.{turn-changes, turn-chooses, turn-explained, turn-held, turn-rings, turn-sends}
+pub use Rattle.covered_laws.proofs.Ending.{turn-speaks, turn-whole}
 pub use Rattle.covered_laws.proofs.Turning.{all-turned, number-aimed, number-covered, number-kept, number-speaking}
 pub use Rattle.covered_laws.specs.Beside.{IsAimedBeside, IsCoveredBeside, IsKeptBeside, IsSpeakingBeside}
 pub use Rattle.covered_laws.specs.Flights.{CoveredJobs, KeptJobs}
 pub use Rattle.covered_laws.specs.Passages.{IsOutside}
 pub use Rattle.covered_laws.specs.Turns.{RecoveryTurn}
+pub use Rattle.covered_laws.proofs.UpTurns.{done-ups, exchange-ups, none-ups, number-up, recovery-up, turn-shuts}
+pub use Rattle.covered_laws.specs.Upkeep.{IsUpBeside, KeepsUp, UpJobs}
 pub use Rattle.hook_laws.proofs.Checking.{tended-still}
 pub use Rattle.hook_laws.proofs.Staying.{begun-tended, early-turn, of-docket, tended-turn}
 pub use Rattle.hook_laws.proofs.Telling.{done-docket, failed-docket, none-docket, reached-docket}
@@ -130,16 +133,19 @@ pub use Rattle.run_laws.specs.RecoveryPlans.declared.purpose.Purpose.{Purpose}
 pub use Rattle.run_laws.specs.RecoveryPlans.declared.purpose.Purpose.TheVariants as purpose
 pub use Rattle.run_laws.specs.RecoveryPlans.declared.stage.Stage.{Stage}
 pub use Rattle.run_laws.specs.RecoveryPlans.declared.stage.Stage.TheVariants as stage
+pub use Rattle.recovery_reasons.proofs.Answering.{turn-answered}
 pub use Rattle.recovery_reasons.proofs.Causing.{cause-true}
 pub use Rattle.recovery_reasons.proofs.Facts.{begun-explained}
 pub use Rattle.recovery_reasons.proofs.Fatal.{fatal-ends}
 pub use Rattle.recovery_reasons.proofs.Nobody.{finds-nobody}
 pub use Rattle.recovery_reasons.proofs.OnWay.{Fine, decides-fine, done-fit, still-on}
 pub use Rattle.recovery_reasons.proofs.Readings.{ReadsNow, ShowsNow, read-now}
+pub use Rattle.recovery_reasons.proofs.Undoing.{fails-opening, fails-starting, turn-hands}
+pub use Rattle.recovery_reasons.proofs.Waiting.{turn-waits}
 pub use Rattle.recovery_reasons.specs.Causes.{IsTrueOf}
 pub use Rattle.recovery_reasons.specs.Nobody.{HasNobody}
 pub use Rattle.recovery_reasons.specs.OnWay.{AllFit, IsOnWay}
-pub use Rattle.recovery_reasons.specs.Reasons.{ExplainsTruly, Fact, IsExplained}
+pub use Rattle.recovery_reasons.specs.Reasons.{ExplainsTruly, Fact, IsExplained, Speaks}
 pub use Rattle.recovery_runs.specs.Begun.{AreHooksOf, BeginsOnce, ComesOf, HasHooks, TellsAll, jobs_begun, jobs_done, jobs_in_act, jobs_of}
 pub use Rattle.recovery_runs.specs.Facts.{ExplainedState, ExplainsAct, ExplainsDone, ExplainsTurn, HasFacts}
 pub use Rattle.recovery_runs.specs.Failing.{FailsTruly, Fatal, IsEndedByHook, IsFailing, Nobody, Reached, RecoveriesFailForWhatBefell, ShowsFailed}
@@ -150,7 +156,7 @@ pub use Rattle.recovery_runs.specs.Finishes.{IsFailure, IsFinish, KeepsHistories
 pub use Rattle.recovery_runs.specs.Finishes.{promoted_then, ran_lines, recovery_after, told_hooks, turn_hooked, turn_taken}
 pub use Rattle.recovery_runs.specs.Origins.{Began, BeganIn, ExplainsAlong, IsStill, StaysStill}
 pub use Rattle.recovery_runs.specs.RunFinishes.{AreScenarios, FailsWell, FinishesWell}
-pub use Rattle.recovery_runs.specs.States.{AimedState, CoveredState, IsTendedBeside, KeptState, SpeakingState, TendedState}
+pub use Rattle.recovery_runs.specs.States.{AimedState, CoveredState, IsTendedBeside, KeptState, SpeakingState, TendedState, UpState}
 pub use Rattle.run_laws.proofs.ReplicationLaws.Runs as exchanges
 pub use Rattle.run_laws.proofs.Aims.{scan-each}
 pub use Rattle.run_laws.proofs.Flown.{flown}

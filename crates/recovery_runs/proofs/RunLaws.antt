@@ -6,6 +6,7 @@ pub use Rattle.run_laws.proofs.ClaimKept
 pub use Rattle.run_laws.proofs.Counting
 pub use Rattle.run_laws.proofs.Failures
 pub use Rattle.run_laws.proofs.Fates
+pub use Rattle.run_laws.proofs.Hands
 pub use Rattle.run_laws.proofs.JobEntries
 pub use Rattle.run_laws.proofs.JobTurns
 pub use Rattle.run_laws.proofs.Lines

@@ -3,7 +3,7 @@ use Rattle.std.proofs.Common.{◌≡◌, ◌∙◌, ℕ, ◌<◌, Bool, List, []
 use Rattle.recovery_runs.proofs.Prelude.{All-find, All-head, All-nil, All-tail, AreScenarios, Began, ComesTo, CoveredState, Docket, ExplainedState}
 use Rattle.recovery_runs.proofs.Prelude.{ExplainsAlong, ExplainsTurn, Fact, FinishesWell, Goes, Goes-start, Goes-step, HasFacts, HookState, IsEarly}
 use Rattle.recovery_runs.proofs.Prelude.{IsExplained, IsFinish, IsQuiet, IsToldOf, IsTurn, KeptState, Line, Recovery, Row, Scenario, ServerNo}
-use Rattle.recovery_runs.proofs.Prelude.{SpeakingState, State, TendedState, Turn, Unended, append-nil, engine, exchanges_at, finished_so}
+use Rattle.recovery_runs.proofs.Prelude.{SpeakingState, State, TendedState, Turn, Unended, UpState, append-nil, engine, exchanges_at, finished_so}
 use Rattle.recovery_runs.proofs.Prelude.{found-number, job_at, moment_at, none-speak, number_of, option_map, owed, own_lines, recovery_after}
 use Rattle.recovery_runs.proofs.Prelude.{recovery_at, run_turns, start, step, times, turns_of, world-turn}
 use Rattle.recovery_runs.proofs.Prelude.act
@@ -13,7 +13,7 @@ use Rattle.recovery_runs.proofs.Prelude.unended
 use Rattle.std.specs.Prelude.{◌==◌, All, slice_get}
 use Rattle.recovery_runs.proofs.Entries.{audit-ends}
 use Rattle.recovery_runs.proofs.Tellings.{told-then}
-use Rattle.recovery_runs.proofs.Finishing.{keeps-histories, lost-fit, owes-nothing, reply-told}
+use Rattle.recovery_runs.proofs.Finishing.{keeps-histories, keeps-up, lost-fit, owes-nothing, reply-told}
 use Rattle.recovery_runs.proofs.Facts.{explained-start, explained-step, last-explained}
 use Rattle.recovery_runs.proofs.HookTellings.{early-still, finish-tells}
 use Rattle.recovery_runs.proofs.Scenarios.{are-scenarios}
@@ -21,6 +21,7 @@ use Rattle.recovery_runs.proofs.Still.{still-step, HasStill}
 use Rattle.recovery_runs.proofs.Tended.{tended-start, tended-step}
 use Rattle.recovery_runs.proofs.Covering.{covered-start, covered-step, kept-start, kept-step, speaking-step}
 use Rattle.recovery_runs.proofs.Origins.{HasOrigin, Step, origins-step, take-all}
+use Rattle.recovery_runs.proofs.Upkeep.{start-up, step-up}
 
 -- ---- one state
 
@@ -91,6 +92,14 @@ module _ (count : ℕ) (from : State) where
         (subst (λ (zs : List Step). ExplainsAlong P id from zs) (sym (append_assoc xs (y ∷ []) ys)) explains) (tends-step xs s y is t)
         (explained-step P id count y.0 s y.1 t.goes.ready is t.goes.held t.cares.speaking (explains-at xs ys y s t.here explains) explained)
 
+    up-run : (xs ys : List Step) (s : State) → All (IsTurn count) (turns_of ys) → ExplainsAlong P id from (xs ++ ys) → Tends xs s → UpState P id s → UpState P id (run_turns engine s ys)
+    up-run xs [] s all explains t up = up
+    up-run xs (y ∷ ys) s all explains t up =
+        let is = All-head (IsTurn count) y.1 (turns_of ys) all in
+        up-run (xs ++ y ∷ []) ys (step y.0 s y.1) (All-tail (IsTurn count) y.1 (turns_of ys) all)
+        (subst (λ (zs : List Step). ExplainsAlong P id from zs) (sym (append_assoc xs (y ∷ []) ys)) explains) (tends-step xs s y is t)
+        (step-up P id count y.0 s t.goes.ready t.goes.held t.cares.covered t.cares.speaking up y.1 is (explains-at xs ys y s t.here explains))
+
 -- ---- from an opening on
 
 module _ (s : Scenario) (xs : List Step) (now : State) (comes : ComesTo s xs now) where
@@ -117,6 +126,10 @@ module _ (s : Scenario) (xs : List Step) (now : State) (comes : ComesTo s xs now
   explained-comes P id explains =
       subst (ExplainedState P id) (sym comes.state)
       (explained-run (length s.opening.servers) begun P id [] xs begun comes.turns explains opened (explained-start P id s comes.wait comes.rows))
+
+  pub up-comes : (P : Fact → Bool) (id : ℕ) → ExplainsAlong P id begun xs → UpState P id now
+  up-comes P id explains =
+      subst (UpState P id) (sym comes.state) (up-run (length s.opening.servers) begun P id [] xs begun comes.turns explains opened (start-up P id s comes.wait comes.rows))
 
   -- each of its lost has a reason that counts
   pub told-comes : (P : Fact → Bool) (id : ℕ) (r : Recovery) (docket : Docket) → ExplainsAlong P id begun xs → job_at now.jobs id ≡ Some (unended.Recovery r docket) → IsExplained P r
@@ -157,6 +170,7 @@ module _ (s : Scenario) (xs : List Step) (now : State) (comes : ComesTo s xs now
             ((Goes-step (length s.opening.servers) rows now (turn.Act (act.Job id)) tt goes).sound q).flight.safe;
         told = λ P explains here. told-next P id r docket explains here is.found;
         fit = lost-fit now id r docket lines is t.cares.speaking;
+        upkeep = λ P explains here. keeps-up now id r docket lines is rows P goes.held t.cares.covered t.cares.speaking (here refl r docket is.found) (up-comes P id explains);
         ends = λ e n same promoted. ended rows id r docket lines is e n same promoted;
       }
     where

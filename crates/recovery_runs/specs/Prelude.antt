@@ -11,6 +11,7 @@ pub use Rattle.run_laws.specs.Commands.declared.line.Line.{Line}
 pub use Rattle.covered_laws.specs.Beside.{IsAimedBeside}
 pub use Rattle.covered_laws.specs.Flights.{AimedJobs, CoveredJobs, KeptJobs, SpeakingJobs}
 pub use Rattle.covered_laws.specs.Turns.{IsNamedOutcome}
+pub use Rattle.covered_laws.specs.Upkeep.{ClosesFirst, KeepsUp, UpJobs}
 pub use Rattle.hook_laws.specs.Tended.{IsEarly, IsOfDead, IsOfDocket, IsTended, all_before, all_behind}
 pub use Rattle.run_laws.specs.HookTexts.declared.hooks.Hook.{Hook}
 pub use Rattle.run_laws.specs.InstanceKeeper.Book.{BookState}
@@ -59,11 +60,15 @@ pub use Rattle.run_laws.specs.RecoveryPlans.Taking as taking
 pub use Rattle.run_laws.specs.RecoveryPlans.declared.purpose.Purpose.{Purpose}
 pub use Rattle.run_laws.specs.RecoveryPlans.declared.purpose.Purpose.TheVariants as purpose
 pub use Rattle.run_laws.specs.RecoveryPlans.declared.stage.Stage.TheVariants as stage
+pub use Rattle.run_laws.specs.RecoveryPlans.declared.task.Way.{Way}
+pub use Rattle.recovery_reasons.specs.Attaching.{AttachesAsSent, IsTriedNow}
 pub use Rattle.recovery_reasons.specs.Causes.{IsTrueOf}
 pub use Rattle.recovery_reasons.specs.Fatal.{CanEnd}
 pub use Rattle.recovery_reasons.specs.Nobody.{HasNobody}
 pub use Rattle.recovery_reasons.specs.OnWay.{AllFit}
 pub use Rattle.recovery_reasons.specs.Reasons.{ExplainsTruly, Fact, IsExplained}
+pub use Rattle.recovery_reasons.specs.Undoing.{KeepsHands, OpensAgain, StartsHands}
+pub use Rattle.recovery_reasons.specs.Waiting.{BeginsWhole, WaitsItsTurns}
 pub use Rattle.run_laws.specs.Flights.{flight_of, moment_at}
 pub use Rattle.run_laws.specs.Ready.{Ready}
 pub use Rattle.run_laws.specs.Runs.{ComesTo, InEveryState}

@@ -1,6 +1,6 @@
 -- What the turn of a run in which a recovery is done owes.
 use Rattle.std.specs.Prelude.{◌≡◌, ◌<◌, ◌++◌, ℕ, Bool, List, Some}
-use Rattle.recovery_runs.specs.Prelude.{AllFit, Cause, Docket, Fact, HookState, IsExplained, IsQuiet, IsToldOf, Line, Recovery, Row, Scenario}
+use Rattle.recovery_runs.specs.Prelude.{AllFit, Cause, Docket, Fact, HookState, IsExplained, IsQuiet, IsToldOf, KeepsUp, Line, Recovery, Row, Scenario}
 use Rattle.recovery_runs.specs.Prelude.{ServerNo, State, Turn, World, alias_of, moment_at, option_map, owed, recovery_at, reply_of, step, times}
 use Rattle.recovery_runs.specs.Prelude.act
 use Rattle.recovery_runs.specs.Prelude.answered
@@ -23,6 +23,9 @@ world_then rows s id = (step rows s (turn.Act (act.Job id))).world
 -- - The reasons of its lost, what it drained, whom it chose and promoted are facts that were true in one of its turns.
 --   They count if each that was true counts.
 -- - Nobody is lost because none may be promoted, and its entry ends with the promoted server.
+-- - The applier of each follower is on, and isn't to stop at a coordinate. The exceptions are a takeover's old master,
+--   whose threads stay off, and a better one that was given up and then not reached. That of a regroup's chosen one is
+--   on, too, unless it isn't attached. A takeover's old master refuses writes.
 pub record FinishesWell (count : ℕ) (from : State) (xs : List (List Row × Turn)) (rows : List Row) (s : State) (id : ℕ) (r : Recovery) (docket : Docket) (lines : List Line) : Type 0 where
   pub reply : reply_of s (turn.Act (act.Job id)) ≡ answered.Told lines
   pub hooks : lines ≡ own_lines s r ++ told_hooks docket.hooks (promoted_then s r)
@@ -32,6 +35,7 @@ pub record FinishesWell (count : ℕ) (from : State) (xs : List (List Row × Tur
   pub histories : IsQuiet (world_then rows s id) → KeepsHistories (world_then rows s id) r (recovery_after s r)
   pub told : (P : Fact → Bool) → ExplainsAlong P id from xs → ExplainsTurn P id s (turn.Act (act.Job id)) → IsExplained P (recovery_after s r)
   pub fit : AllFit (recovery_after s r).outcome.lost
+  pub upkeep : (P : Fact → Bool) → ExplainsAlong P id from xs → ExplainsTurn P id s (turn.Act (act.Job id)) → KeepsUp P (world_then rows s id) (recovery_after s r)
   pub ends : (e : ℕ) (n : ServerNo) → docket.entry ≡ Some e → (recovery_after s r).outcome.promoted ≡ Some n
       → recovery_at (step rows s (turn.Act (act.Job id))).audit e ≡ option_map (finished_so (moment_at s) r.purpose n) (recovery_at s.audit e)
 

@@ -12,6 +12,7 @@ pub use Rattle.run_laws.specs.Failures
 pub use Rattle.run_laws.specs.Fates
 pub use Rattle.run_laws.specs.Flights
 pub use Rattle.run_laws.specs.Following
+pub use Rattle.run_laws.specs.Hands
 pub use Rattle.run_laws.specs.JobEntries
 pub use Rattle.run_laws.specs.Jobs
 pub use Rattle.run_laws.specs.Lines

@@ -1,6 +1,6 @@
 -- What holds for a state's recoveries beside `Held` and `Sound`.
-use Rattle.std.specs.Prelude.{◌≡◌, ℕ, All, Some}
-use Rattle.recovery_runs.specs.Prelude.{AimedJobs, CoveredJobs, HookState, IsTended, KeptJobs, Recovery, SpeakingJobs, State, Unended, flight_of}
+use Rattle.std.specs.Prelude.{◌≡◌, ℕ, All, Bool, Some}
+use Rattle.recovery_runs.specs.Prelude.{AimedJobs, CoveredJobs, Fact, HookState, IsTended, KeptJobs, Recovery, SpeakingJobs, State, Unended, UpJobs, flight_of}
 use Rattle.recovery_runs.specs.Prelude.unended
 
 -- in every state, with errant writes or without
@@ -27,3 +27,7 @@ IsTendedBeside (unended.Recovery r docket) = (h : HookState) → docket.hooks �
 -- in every state
 pub record TendedState (s : State) : Type 0 where
   pub jobs : All IsTendedBeside s.jobs
+
+-- in every state, of the recovery of this number, if these facts count
+abbrev pub UpState : (Fact → Bool) → ℕ → State → Type 0
+UpState P id s = UpJobs P id (flight_of s) s.jobs

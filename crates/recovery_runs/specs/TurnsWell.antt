@@ -1,17 +1,41 @@
 -- What each turn of an unended recovery owes.
-use Rattle.std.specs.Prelude.{◌≡◌, ℕ, Bool, true, Some}
-use Rattle.recovery_runs.specs.Prelude.{ChoosesAmongAll, Decisions, Docket, ExplainsTruly, Fact, IsExplained, MakesWell, Recovery, State, ground_of}
-use Rattle.recovery_runs.specs.Prelude.{is_going, job_at, moment_at}
+use Rattle.std.specs.Prelude.{◌≡◌, ◌∷◌, ℕ, All, Bool, true, List, [], Some}
+use Rattle.recovery_runs.specs.Prelude.{AttachesAsSent, BeginsWhole, Cause, ChoosesAmongAll, ClosesFirst, Decisions, Docket, ExplainsTruly, Fact}
+use Rattle.recovery_runs.specs.Prelude.{IsExplained, IsTriedNow, KeepsHands, Line, MakesWell, Op, OpensAgain, Recovery, ServerNo, StartsHands, State}
+use Rattle.recovery_runs.specs.Prelude.{WaitsItsTurns, Way, decided, ground_of, is_going, job_at, moment_at}
+use Rattle.recovery_runs.specs.Prelude.jobstep as step
+use Rattle.recovery_runs.specs.Prelude.op
+use Rattle.recovery_runs.specs.Prelude.stage
 use Rattle.recovery_runs.specs.Prelude.unended
 use Rattle.recovery_runs.specs.Finishes.{recovery_after, turn_taken}
 
--- If it decides whom to choose each replica is drained, or lost. A turn after which it goes on changes what it may.
+-- the recovery as it is decided in its next turn
+abbrev pub decided_at : State → Recovery → Recovery
+decided_at s r = decided (ground_of s.world s.book (moment_at s)) r
+
+-- If it decides whom to choose each replica is drained, or lost. A turn after which it goes on changes what it may. One
+-- of a takeover changes nothing else before its master refuses writes.
 -- What it came to in this very turn is a fact of the turn. If each fact that is true in it counts, and what it came to
 -- before counts, all of it counts.
+--
+-- Each attachment is the one by which its replica was sent, or by which two servers change places, and what it answers
+-- becomes of the replica. Each wait ends by the status of the turn, or as the last one that the job has. A stage that
+-- waits does all its operations. Whom it stops and doesn't start again it starts if it fails, and then a takeover's
+-- master takes writes again.
 pub record TurnsWell (s : State) (r : Recovery) : Type 0 where
   pub chooses : (d : Recovery) → Decisions (ground_of s.world s.book (moment_at s)) r d → ChoosesAmongAll d
   pub changes : is_going (turn_taken s r).step ≡ true → MakesWell s.world (ground_of s.world s.book (moment_at s)) r (turn_taken s r).exchanges
+  pub closes : is_going (turn_taken s r).step ≡ true → All (ClosesFirst s.world r) (turn_taken s r).exchanges
   pub told : (P : Fact → Bool) → ExplainsTruly s.world s.book (moment_at s) r P → IsExplained P r → IsExplained P (recovery_after s r)
+  pub attaches : (P : Fact → Bool) → ExplainsTruly s.world s.book (moment_at s) r P → IsExplained P r → is_going (turn_taken s r).step ≡ true
+      → AttachesAsSent P (ground_of s.world s.book (moment_at s)) r (turn_taken s r).exchanges
+  pub answered : (n : ServerNo) (y : Way) (o : Op) → (decided_at s r).stage ≡ stage.Move n y → (decided_at s r).core.ops ≡ o ∷ op.Start n ∷ []
+      → IsTriedNow s.world (decided_at s r) n y (turn_taken s r)
+  pub waits : WaitsItsTurns s.world (decided_at s r) (turn_taken s r)
+  pub begins : is_going (turn_taken s r).step ≡ true → BeginsWhole (ground_of s.world s.book (moment_at s)) r (turn_taken s r)
+  pub hands : is_going (turn_taken s r).step ≡ true → KeepsHands r (turn_taken s r)
+  pub starts : (c : Cause) (lines : List Line) → (turn_taken s r).step ≡ step.Failed c lines → StartsHands r (turn_taken s r)
+  pub opens : (c : Cause) (lines : List Line) → (turn_taken s r).step ≡ step.Failed c lines → OpensAgain s.world (decided_at s r) (turn_taken s r)
 
 -- so each unended recovery takes its next turn
 abbrev pub RecoveriesTurnWell : State → Type 0

@@ -44,6 +44,8 @@ pub mod Moments
 pub mod Waits
 pub mod Tables
 pub mod Stopping
+pub mod Leading
+pub mod Hands
 pub mod ClaimKept
 pub mod JobTurns
 pub mod Lowest

@@ -170,7 +170,7 @@ pub use Rattle.opening_laws.proofs.Rooms.{not_full-opened}
 pub use Rattle.orch_core.proofs.OperationsProofs.Allowing.{turn-allowed}
 pub use Rattle.orch_core.specs.Operations.Deeds.{Deed, deed_of}
 pub use Rattle.orch_core.specs.Operations.Deeds as deed
-pub use Rattle.orch_core.specs.Operations.Jobs.{Job, match_found, seen_of}
+pub use Rattle.orch_core.specs.Operations.Jobs.{Job, job_with, match_found, seen_of}
 pub use Rattle.orch_core.specs.Operations.Matching.{match_logs, standing_at}
 pub use Rattle.orch_core.specs.Operations.Targets.{can_attach}
 pub use Rattle.orch_core.specs.Operations.Turns.{Ends, Goes, Stops, Turned, after_answer, after_ask, after_attach, after_look, after_match, after_status}
@@ -372,7 +372,7 @@ pub use Rattle.orch_core.specs.RecoveryHooks.Runs.{HookState}
 pub use Rattle.orch_core.specs.RecoveryPlans.Recoveries.{Recovery as RecoveryJob}
 pub use Rattle.orch_core.specs.Settling.{settled as state_settled}
 pub use Rattle.orch_core.specs.UnendedJobs.Hooked.{front_hook, front_turn, rear_hook, rear_turn}
-pub use Rattle.run_laws.specs.Readings.{DiscoveriesRead, IsDiscovered, IsKeptSo, JobsStore, OpeningsGiveNumbers, PollsRead, PollsStore, ReadingsNeverSink}
+pub use Rattle.run_laws.specs.Readings.{DiscoveriesRead, IsDiscovered, IsKeptSo, JobsStore, OpeningsGiveNumbers, PollsRead, PollsStore, ReadingsNeverSink, RestartsCountOn}
 pub use Rattle.run_laws.specs.Readings.{as_read, deed_in, first_op, shown_at, unless_hook}
 pub use Rattle.orch_core.specs.OpeningBook.Counting.{raised as row_raised}
 pub use Rattle.run_laws.specs.Moments.{IsPast, JobsRise, LastJobNeverSinks, NothingIsToCome, PassesTime}
@@ -382,7 +382,7 @@ pub use Rattle.orch_core.specs.RecoveryPlans.Moves as move
 pub use Rattle.orch_core.specs.RecoveryPlans.Stages.{leaver, moved}
 pub use Rattle.orch_core.specs.RecoveryPlans.Recoveries.{follows_no_more}
 pub use Rattle.orch_core.specs.RecoveryPlans.Taking.{entered}
-pub use Rattle.cause_laws.specs.Events.{IsTaken}
+pub use Rattle.cause_laws.specs.Events.{IsTaken, Misses}
 pub use Rattle.cause_laws.specs.Events as events
 pub use Rattle.cause_laws.proofs.Taking.{deed-taken}
 pub use Rattle.orch_core.specs.Operations.Turns.{going}
@@ -395,8 +395,10 @@ pub use Rattle.orch_core.specs.OrchBase.declared.server.IoState.{IoState}
 pub use Rattle.orch_core.specs.OrchBase.declared.server.IoState.TheVariants as io
 pub use Rattle.orch_core.specs.OrchBase.declared.rule.Rule.TheVariants as rule
 pub use Rattle.orch_core.specs.Rounds.{round_of}
+pub use Rattle.orch_core.specs.ServerModel.Attach.{after_attach as attached_world, attach_at, attached_to}
 pub use Rattle.orch_core.specs.ServerModel.Desk.{after_change as changed_server, healed}
 pub use Rattle.orch_core.specs.ServerModel.Exchanges.{after_write, is_attached, own_txn, took, write, write_answer}
+pub use Rattle.orch_core.specs.ServerModel.Gtids.{after_attach_auto as attached_set, attach_auto, attached_auto, auto_coord, uuids}
 pub use Rattle.orch_core.specs.ServerWords.declared.answers.WriteAnswer.{WriteAnswer}
 pub use Rattle.orch_core.specs.ServerWords.declared.answers.WriteAnswer.TheVariants as wrote
 pub use Rattle.std.specs.List.{flat_map}
@@ -404,7 +406,7 @@ pub use Rattle.std.proofs.lemmas.List.{drop-append-le, length-append}
 pub use Rattle.std.proofs.lemmas.List.Elements.{All-contains, Contains-append_left, Contains-append_right, Contains-get_or}
 pub use Rattle.orch_core.specs.OrchBase.Histories.{count_own}
 pub use Rattle.run_laws.specs.Tables.{AnswersWrites, CountsByInstances, CountsReplicas, EndsInTime, KeepsSixteen, Replicates, RunsAllServers, ServersByTable}
-pub use Rattle.run_laws.specs.Tables.{StartsAgain, ThreadsByTable, WritesByTable}
+pub use Rattle.run_laws.specs.Tables.{AttachesBySet, AttachesByTable, GoesOn, StartsAgain, ThreadsByTable, WritesByTable}
 pub use Rattle.orch_core.specs.CommandRoutes.declared.kinds.CoordsCommand.{CoordsCommand}
 pub use Rattle.orch_core.specs.CommandRoutes.declared.kinds.CoordsCommand.TheVariants as coords_kind
 pub use Rattle.orch_core.specs.CommandRoutes.declared.kinds.GtidCommand.{GtidCommand}
@@ -423,4 +425,11 @@ pub use Rattle.orch_core.specs.PlanParts.Parts.{again_auto, autos, matching as m
 pub use Rattle.orch_core.specs.PseudoMatch.Plans as match_plans
 pub use Rattle.orch_core.specs.Regroup.Plans as path_plans
 pub use Rattle.orch_core.specs.Regroup.Ways.{Path, path_of}
-pub use Rattle.run_laws.specs.Stopping.{PlansStartAgain, StartsWhatItStops, after_deed, left_stopped}
+pub use Rattle.run_laws.specs.Stopping.{PlansStartAgain, StartsWhatItStops, after_asking, after_deed, left_stopped}
+pub use Rattle.orch_core.specs.PlanParts.Parts.{following}
+pub use Rattle.run_laws.specs.Leading.{Below, HasNoOwnSource, HasPath, LeadsAsTold, PlansLeadAsTold, below_after, led, led_by, lines_by, lines_of_ops}
+pub use Rattle.cause_laws.proofs.Holding.{deed-hands, hands_by, has, has-with, has-without}
+pub use Rattle.cause_laws.specs.Hands.{is_in_hands}
+pub use Rattle.orch_core.specs.Operations.Turns.{hands_after}
+pub use Rattle.recovery_covers.proofs.RecoveryEnds.Shapes.{same-head, same-tail}
+pub use Rattle.run_laws.specs.Hands.{HoldsNone, PlansReturn, Returns, StartsAll, StopsOne}

@@ -3,7 +3,7 @@ use Rattle.std.proofs.Common.{All, Bool, List, None, Option, Some, [], ap, arith
 use Rattle.std.specs.Prelude.{fold, if◌then◌else◌, slice_index_or, slice_set}
 use Rattle.run_laws.proofs.Prelude.{Act, All-cons, All-head, All-nil, All-tail, All-weaker, AuditState, BookState, Cause, Change, CommandTurn}
 use Rattle.run_laws.proofs.Prelude.{Decision, Deed, DiscoveriesRead, Discovers, Docket, Exchange, Flown, Hook, HookState, Instance, IsDiscovered}
-use Rattle.run_laws.proofs.Prelude.{IsKeptSo, Job, JobsStore, Keys, Moment, Observation, Op, OpeningsGiveNumbers, Outcome, PollsRead, PollsStore}
+use Rattle.run_laws.proofs.Prelude.{IsKeptSo, Job, JobsStore, RestartsCountOn, reloaded_rows, Keys, Moment, Observation, Op, OpeningsGiveNumbers, Outcome, PollsRead, PollsStore}
 use Rattle.run_laws.proofs.Prelude.{ReadingsNeverSink, RecoveryJob, Row, Scenario, ServerNo, Settings, State, Status, Taken, Turn, Unended, Update}
 use Rattle.run_laws.proofs.Prelude.{World, act_asks, act_in, added_over, after_act, after_change, after_discovery, after_done, after_opening}
 use Rattle.run_laws.proofs.Prelude.{after_put, after_row, after_store, as_read, asks, book_decided, book_turned, candidate_of, command_outcome}
@@ -470,3 +470,17 @@ openings-give-numbers s wait rows =
     let loaded-most = rows-most most (empty_book (settings_of s)) (counted (length (settings_of s)) greatest_id rows) (loaded-rows s rows) (empty-most most (settings_of s)) in
     changes-most most (loaded_book s rows) (start_changes s rows)
     (All-weaker (Opens (start_world s) (start_moment s rows)) (ChangeMost most) (opens-most most (start_world s) (start_moment s rows)) (start_changes s rows) (Opens-start s rows)) loaded-most
+
+-- ---- at a restart
+
+pub restarts-count-on : RestartsCountOn
+restarts-count-on rows s =
+    let now = step rows s (turn.Act act.Restart) in
+    let most = last_read (reloaded_rows rows s) in
+    record {
+      reads = refl;
+      within =
+          rows-most most (empty_book s.book.settings) (reloaded_rows rows s) (last-most 0 (reloaded_rows rows s)) (empty-most most s.book.settings);
+      old = λ i o at less. (kept-so now.book o (after_store now.book o) refl).old i at less;
+      newer = λ i o at most. (kept-so now.book o (after_store now.book o) refl).newer i at most;
+    }

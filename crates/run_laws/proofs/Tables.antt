@@ -1,5 +1,5 @@
 -- What the tables of servers, of the book and of the analysis say, row by row.
-use Rattle.std.proofs.Common.{All, Bool, List, None, Option, Some, [], ap, arith, drop, false, inl, inr, length, nat_le, nat_lt, not, refl, subst, suc, sym, true, zero, ℕ, ◌&&◌, ◌++◌, ◌+◌, ◌-◌, ◌<◌, ◌||◌, ◌∙◌, ◌∷◌, ◌≡◌, ◌≤◌, ◌⊎◌}
+use Rattle.std.proofs.Common.{All, Bool, List, None, Ok, Option, Result, Some, [], ap, arith, drop, false, inl, inr, length, nat_le, nat_lt, not, refl, subst, suc, sym, true, zero, ℕ, ◌&&◌, ◌++◌, ◌+◌, ◌-◌, ◌<◌, ◌||◌, ◌∙◌, ◌∷◌, ◌≡◌, ◌≤◌, ◌⊎◌}
 use Rattle.std.specs.Prelude.{Contains, if◌then◌else◌, slice_get, slice_set}
 use Rattle.run_laws.proofs.Prelude.{All-cons, All-contains, All-nil, All-weaker, AnswersWrites, BookState, Bridge, Contains-append_left}
 use Rattle.run_laws.proofs.Prelude.{Contains-append_right, Contains-get_or, CountsByInstances, CountsReplicas, EndsInTime, Instance, IoState}
@@ -7,7 +7,8 @@ use Rattle.run_laws.proofs.Prelude.{KeepsSixteen, Moment, Replicates, RunsAllSer
 use Rattle.run_laws.proofs.Prelude.{ThreadsByTable, Turn, World, WriteAnswer, WritesByTable, after_write, and_parts, by_name, changed_server}
 use Rattle.run_laws.proofs.Prelude.{count_own, drop-append-le, end_after, false≢true, flat_map, healed, is_attached, is_before, is_connected}
 use Rattle.run_laws.proofs.Prelude.{length-append, own_txn, polls, replicates, replicates_turns, round_of, rule_after, same_Some, server_at}
-use Rattle.run_laws.proofs.Prelude.{slice_get_within, took, write, write_answer}
+use Rattle.run_laws.proofs.Prelude.{AttachFault, AttachesBySet, AttachesByTable, Coord, GoesOn, attach_at, attach_auto, attached_auto, attached_set}
+use Rattle.run_laws.proofs.Prelude.{attached_to, attached_world, auto_coord, slice_get_within, took, uuids, write, write_answer}
 use Rattle.run_laws.proofs.Prelude.act
 use Rattle.run_laws.proofs.Prelude.io
 use Rattle.run_laws.proofs.Prelude.rule
@@ -204,6 +205,40 @@ pub servers-by-table : ServersByTable
 servers-by-table w n s t there at =
     let healed-so : healed s ≡ t = same_Some (healed s) t (sym (slice_get-set_same w.servers n (healed s) (slice_get_within w.servers n s there)) ∙ (sym (ap (λ (o : Option Server). server_at (changed_server w n healed o) n) there) ∙ at)) in
     subst (StartsAgain s) healed-so (starts-again s)
+
+pub attaches-by-table : AttachesByTable
+attaches-by-table w n expect to at s t there ok is =
+    subst (λ (x : Server). GoesOn to false s x × (x.exec ≡ at)) same
+    (record { source = refl; read = refl; by_set = refl; until = refl; threads = (refl, refl); stays = (refl, refl, refl) }, refl)
+  where
+    answer : Result (Unit {0}) AttachFault
+    answer = (attach_at w n expect to at).0
+
+    made : server_at (attached_world w n to at (server_at w n) answer) n ≡ server_at (attached_world w n to at (Some s) (Ok tt)) n
+    made =
+        ap (λ (o : Option Server). server_at (attached_world w n to at o answer) n) there
+        ∙ ap (λ (a : Result (Unit {0}) AttachFault). server_at (attached_world w n to at (Some s) a) n) ok
+
+    same : attached_to to at s ≡ t
+    same = same_Some (attached_to to at s) t (sym (slice_get-set_same w.servers n (attached_to to at s) (slice_get_within w.servers n s there)) ∙ (sym made ∙ is))
+
+pub attaches-by-set : AttachesBySet
+attaches-by-set w n seen to s t there ok is =
+    subst (λ (x : Server). GoesOn to true s x) same (record { source = refl; read = refl; by_set = refl; until = refl; threads = (refl, refl); stays = (refl, refl, refl) })
+  where
+    answer : Result (Unit {0}) AttachFault
+    answer = (attach_auto w n seen.set to).0
+
+    on : Coord
+    on = auto_coord (uuids w) s (server_at w to.0)
+
+    made : server_at (attached_set w n to (server_at w n) answer) n ≡ server_at (attached_set w n to (Some s) (Ok tt)) n
+    made =
+        ap (λ (o : Option Server). server_at (attached_set w n to o answer) n) there
+        ∙ ap (λ (a : Result (Unit {0}) AttachFault). server_at (attached_set w n to (Some s) a) n) ok
+
+    same : attached_auto to on s ≡ t
+    same = same_Some (attached_auto to on s) t (sym (slice_get-set_same w.servers n (attached_auto to on s) (slice_get_within w.servers n s there)) ∙ (sym made ∙ is))
 
 pub threads-by-table : ThreadsByTable
 threads-by-table s = record { started = λ at. go (is_attached s.source) at; stopped = (refl, refl, refl) }

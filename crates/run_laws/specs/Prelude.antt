@@ -63,6 +63,7 @@ pub use Rattle.orch_core.specs.Operations.Jobs.{Job}
 pub use Rattle.orch_core.specs.Operations.Matching.{match_logs}
 pub use Rattle.orch_core.specs.Operations.declared.matching.Match.{Match}
 pub use Rattle.orch_core.specs.Operations.declared.op.Op.{Op}
+pub use Rattle.orch_core.specs.Operations.declared.sight.Position.{Position}
 pub use Rattle.orch_core.specs.Operations.declared.step.JobStep.{JobStep}
 pub use Rattle.orch_core.specs.Operations.declared.step.JobStep.TheVariants as jobstep
 pub use Rattle.orch_core.specs.OrchBase.Memory.{next_count}
@@ -71,6 +72,7 @@ pub use Rattle.orch_core.specs.OrchBase.declared.recovery.Kind.{Kind}
 pub use Rattle.orch_core.specs.OrchBase.declared.recovery.Kind.TheVariants as kind
 pub use Rattle.orch_core.specs.OrchBase.declared.server.Moment.{Moment}
 pub use Rattle.orch_core.specs.OrchBase.declared.server.ServerNo.{ServerNo}
+pub use Rattle.orch_core.specs.OrchBase.declared.server.SourceState.TheVariants.{Attached}
 pub use Rattle.orch_core.specs.After.{after_restart, step}
 pub use Rattle.orch_core.specs.Nodes.{act_in, acts, claim_changes, claim_or, claims_after, with_claims}
 pub use Rattle.orch_core.specs.RefusedCommands.{refusal_at, unreached}
@@ -135,10 +137,13 @@ unfoldable pub use Rattle.orch_core.specs.NameOrder.NameOrder.{by_name}
 pub use Rattle.orch_core.specs.OrchBase.declared.server.IoState.TheVariants as io
 pub use Rattle.orch_core.specs.OrchBase.declared.rule.Rule.TheVariants as rule
 pub use Rattle.orch_core.specs.Rounds.{round_of}
+pub use Rattle.orch_core.specs.ServerModel.Attach.{attach_at}
 pub use Rattle.orch_core.specs.ServerModel.Desk.{asked}
 pub use Rattle.orch_core.specs.ServerModel.Exchanges.{is_attached, write}
+pub use Rattle.orch_core.specs.ServerModel.Gtids.{attach_auto}
 pub use Rattle.orch_core.specs.ServerModel.Run.{after}
 pub use Rattle.orch_core.specs.ServerModel.Run as exchange
+pub use Rattle.orch_core.specs.ServerWords.declared.attach.Spot.{Spot}
 pub use Rattle.orch_core.specs.ServerWords.declared.answers.WriteAnswer.TheVariants as wrote
 pub use Rattle.orch_core.specs.ServerWords.declared.changes.Ask.TheVariants as asking
 pub use Rattle.orch_core.specs.ServerWords.declared.changes.Event.TheVariants as event
@@ -150,3 +155,10 @@ pub use Rattle.orch_core.specs.MovesGtid.Plans as gtid_plans
 pub use Rattle.orch_core.specs.PseudoMatch.Plans as match_plans
 pub use Rattle.orch_core.specs.Regroup.Plans as path_plans
 pub use Rattle.orch_core.specs.ServerWords.declared.changes.Ask.{Ask}
+pub use Rattle.orch_core.specs.InstanceKeeper.Book.{after_store}
+pub use Rattle.orch_core.specs.OpeningBook.Counting.{last_read}
+pub use Rattle.orch_core.specs.Restarts.{reloaded_rows}
+pub use Rattle.orch_core.specs.Operations.declared.op.Crossing.TheVariants as cross
+pub use Rattle.orch_core.specs.Regroup.Ways.{path_of}
+pub use Rattle.cause_laws.specs.Hands.{is_in_hands}
+pub use Rattle.orch_core.specs.Operations.declared.op.Op.TheVariants as op

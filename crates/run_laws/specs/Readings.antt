@@ -2,7 +2,7 @@
 use Rattle.std.specs.Prelude.{◌≡◌, ◌≢◌, ℕ, ◌<◌, ◌≤◌, List, [], ◌∷◌, length, true, false, is_some, unwrap_or, Option, Some, None}
 use Rattle.run_laws.specs.Prelude.{BookState, CommandTurn, Deed, Discovers, Instance, Job, Observation, Op, Row, Scenario, ServerNo, State, Status}
 use Rattle.run_laws.specs.Prelude.{Turn, Unended, asks, decided, deed_of, front_hook, ground_of, instance_at, job_at, next_count, route_of, seen_in, slot_at}
-use Rattle.run_laws.specs.Prelude.{start, status, step}
+use Rattle.run_laws.specs.Prelude.{after_store, last_read, reloaded_rows, start, status, step}
 use Rattle.run_laws.specs.Prelude.act
 use Rattle.run_laws.specs.Prelude.deed
 use Rattle.run_laws.specs.Prelude.turn
@@ -96,3 +96,17 @@ NumbersAreGiven s = (n : ServerNo) (i : Instance) → instance_at s.book n ≡ S
 
 abbrev pub OpeningsGiveNumbers : Type 0
 OpeningsGiveNumbers = (s : Scenario) (wait : ℕ) (rows : List Row) → NumbersAreGiven (start s wait rows)
+
+-- ---- restarts
+
+-- A restart goes on with the count of readings. An instance that it loads has a number of the rows that count, and no
+-- number is above the greatest of these. It may be above the count, if the rows are another run's. So each reading of
+-- the instance that has a lower number is old, and the first one that hasn't is stored.
+pub record CountsOn (most : ℕ) (s now : State) : Type 0 where
+  pub reads : now.reads ≡ s.reads
+  pub within : (n : ServerNo) (i : Instance) → instance_at now.book n ≡ Some i → i.read ≤ most
+  pub old : (i : Instance) (o : Observation) → instance_at now.book o.no ≡ Some i → o.read < i.read → (after_store now.book o).instances ≡ now.book.instances
+  pub newer : (i : Instance) (o : Observation) → instance_at now.book o.no ≡ Some i → i.read ≤ o.read → instance_at (after_store now.book o) o.no ≡ Some (as_read i o)
+
+abbrev pub RestartsCountOn : Type 0
+RestartsCountOn = (rows : List Row) (s : State) → CountsOn (last_read (reloaded_rows rows s)) s (step rows s (turn.Act act.Restart))

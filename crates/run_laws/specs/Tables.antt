@@ -1,6 +1,7 @@
 -- What the tables of servers, of the book and of the analysis say, row by row.
-use Rattle.std.specs.Prelude.{◌≡◌, ◌⊎◌, ℕ, ◌+◌, ◌<◌, ◌≤◌, true, false, Contains, List, [], ◌∷◌, ◌++◌, count_by, drop, length, None, Some}
-use Rattle.run_laws.specs.Prelude.{BookState, Bridge, Candidate, Downtime, Instance, Moment, Server, ServerNo, State}
+use Rattle.std.specs.Prelude.{◌≡◌, ◌⊎◌, ℕ, ◌+◌, ◌<◌, ◌≤◌, Bool, Ok, true, false, Contains, List, [], ◌∷◌, ◌++◌, count_by, drop, length, None, Some}
+use Rattle.run_laws.specs.Prelude.{Attached, BookState, Bridge, Candidate, Coord, Downtime, Instance, Moment, Position, Server, ServerNo, Spot, State}
+use Rattle.run_laws.specs.Prelude.{attach_at, attach_auto}
 use Rattle.run_laws.specs.Prelude.{Turn, World, after, asked, by_name, candidate_kept, counts_of, downtime_at, downtime_kept, is_attached, is_before, is_replica_that}
 use Rattle.run_laws.specs.Prelude.{lags, replicates, round_of, rule_at, server_at, with_bridge, write}
 use Rattle.run_laws.specs.Prelude.act
@@ -88,12 +89,30 @@ pub record StartsAndStops (s t u : Server) : Type 0 where
   pub started : is_attached s.source ≡ true → (t.receiver ≡ true) × (t.applier ≡ true) × (t.until ≡ None)
   pub stopped : (u.receiver ≡ false) × (u.applier ≡ false) × (u.until ≡ None)
 
+-- A server that is attached goes on below its new source, from the coordinate up to which it has read. Its threads are
+-- off, and such an end is dropped. By a coordinate auto position is off, and by a set it is on.
+pub record GoesOn (to : ServerNo) (auto : Bool) (s t : Server) : Type 0 where
+  pub source : t.source ≡ Attached to
+  pub read : t.read ≡ t.exec
+  pub by_set : t.auto ≡ auto
+  pub until : t.until ≡ None
+  pub threads : (t.receiver ≡ false) × (t.applier ≡ false)
+  pub stays : (t.read_only ≡ s.read_only) × (t.history ≡ s.history) × (t.settings ≡ s.settings)
+
 -- what each exchange leaves of its server
 abbrev pub ServersByTable : Type 0
 ServersByTable = (w : World) (n : ℕ) (s t : Server) → server_at w n ≡ Some s → server_at (after w (exchange.Befall n event.Heal)) n ≡ Some t → StartsAgain s t
 
 abbrev pub ThreadsByTable : Type 0
 ThreadsByTable = (s : Server) → StartsAndStops s (asked asking.Start s) (asked (asking.Stop threads.Both) s)
+
+abbrev pub AttachesByTable : Type 0
+AttachesByTable = (w : World) (n : ℕ) (expect : Spot) (to : ServerNo) (at : Coord) (s t : Server) → server_at w n ≡ Some s → (attach_at w n expect to at).0 ≡ Ok tt
+    → server_at (after w (exchange.Attach n expect to at)) n ≡ Some t → GoesOn to false s t × (t.exec ≡ at)
+
+abbrev pub AttachesBySet : Type 0
+AttachesBySet = (w : World) (n : ℕ) (seen : Position) (to : ServerNo) (s t : Server) → server_at w n ≡ Some s → (attach_auto w n seen.set to).0 ≡ Ok tt
+    → server_at (after w (exchange.AttachAuto n seen.set to)) n ≡ Some t → GoesOn to true s t
 
 abbrev pub WritesByTable : Type 0
 WritesByTable = (w : World) (n size : ℕ) (s : Server) → server_at w n ≡ Some s → AnswersWrites w n size s

@@ -1,10 +1,12 @@
 //! Laws of what is read of servers, of time, and of how often jobs may wait.
 
 ghost use Rattle.run_laws.specs.Moments.{JobsRise, LastJobNeverSinks, NothingIsToCome, PassesTime};
-ghost use Rattle.run_laws.specs.Readings.{DiscoveriesRead, JobsStore, OpeningsGiveNumbers, PollsRead, PollsStore, ReadingsNeverSink};
+ghost use Rattle.run_laws.specs.Readings.{DiscoveriesRead, JobsStore, OpeningsGiveNumbers, PollsRead, PollsStore, ReadingsNeverSink, RestartsCountOn};
 ghost use Rattle.run_laws.specs.Runs.{InEveryState};
+ghost use Rattle.run_laws.specs.Hands.{PlansReturn};
+ghost use Rattle.run_laws.specs.Leading.{PlansLeadAsTold};
 ghost use Rattle.run_laws.specs.Stopping.{PlansStartAgain};
-ghost use Rattle.run_laws.specs.Tables.{CountsByInstances, CountsReplicas, EndsInTime, KeepsSixteen, RunsAllServers, ServersByTable, ThreadsByTable, WritesByTable};
+ghost use Rattle.run_laws.specs.Tables.{AttachesBySet, AttachesByTable, CountsByInstances, CountsReplicas, EndsInTime, KeepsSixteen, RunsAllServers, ServersByTable, ThreadsByTable, WritesByTable};
 ghost use Rattle.run_laws.specs.Waits.{BegunMayWait, JobsMayWait};
 ghost use Rattle.run_laws.specs.Prelude.{BookState, Bridge, Instance as AnInstance, Moment as AMoment, ServerNo as Number, State, Turn};
 ghost use Rattle.std.specs.Prelude.{List, ℕ};
@@ -12,7 +14,8 @@ ghost use Rattle.std.specs.Prelude.{List, ℕ};
 /// A poll, a discovery and a look of a job read what one status of the server has then, with the next read number, and
 /// it is stored. The book has it, valid exactly if the server was reached, unless it has a later reading. A reading
 /// that didn't reach its server keeps what was seen before. No instance goes back to an earlier reading except by a
-/// restart. After an opening no kept number is above those that were given.
+/// restart. After an opening no kept number is above those that were given. A restart goes on with their count, and
+/// loads no number above the greatest of the rows that count.
 pub fn readings_are_stored()
     ensures polls { PollsRead }
     ensures stores { PollsStore }
@@ -20,6 +23,7 @@ pub fn readings_are_stored()
     ensures jobs { JobsStore }
     ensures never_sink { ReadingsNeverSink }
     ensures openings { OpeningsGiveNumbers }
+    ensures restarts { RestartsCountOn }
 {}
 
 /// Only a tick lets time pass, by its seconds; a restart never turns it back, and in no state of any run a recovery
@@ -32,10 +36,13 @@ pub fn time_and_numbers_rise()
 {}
 
 /// Each operation of each job of each run may wait exactly as often as the run allows, from the job's start on. So it
-/// is for a plan, a regroup, a recovery, a takeover, and for what a scan begins.
+/// is for a plan, a regroup, a recovery, a takeover, and for what a scan begins. What a plan has stopped is started by
+/// what is left of it, except what a stop of one replica stops. So nothing else is in its hands once only its lines are
+/// left.
 pub fn jobs_wait_as_told()
     ensures begun { (s : State) → BegunMayWait s }
     ensures always { JobsMayWait }
+    ensures returns { PlansReturn }
 {}
 
 /// The tables, row by row.
@@ -44,8 +51,9 @@ pub fn jobs_wait_as_told()
 /// - A ring keeps the latest 16 bridges. A downtime and a registration end at their moment.
 /// - A round of a single command is a turn of its job, and each server fetches, applies and is polled.
 /// - A write is refused by a server that is down or read-only. One that starts again starts a replica's threads. A
-///   start and a stop drop an end of the applier.
-/// - The plan of each command except stop-replica starts each server again that it stops.
+///   start, a stop and an attachment drop an end of the applier. By a coordinate auto position is off.
+/// - The plan of each command except stop-replica starts each server again that it stops. It leads each server of its
+///   lines where they have it: by its last change of source.
 pub fn tables_hold_row_by_row()
     ensures counts { (i : AnInstance) → CountsReplicas i }
     ensures instances { (b : BookState) (n : Number) (i : AnInstance) → CountsByInstances b n i }
@@ -55,5 +63,8 @@ pub fn tables_hold_row_by_row()
     ensures writes { WritesByTable }
     ensures starts { ServersByTable }
     ensures threads { ThreadsByTable }
+    ensures attaches { AttachesByTable }
+    ensures attaches_by_set { AttachesBySet }
     ensures plans { PlansStartAgain }
+    ensures leads { PlansLeadAsTold }
 {}

@@ -76,7 +76,7 @@ pub use Rattle.recovery_runs.specs.Scenarios.declared.scenario.Scenario.{Scenari
 pub use Rattle.tasks.proofs.Courses.{run_state}
 pub use Rattle.tasks.proofs.Known.{cut_begins, cut_is, on_is, whole_is}
 pub use Rattle.tasks.proofs.Sends.{front_more, front_of_longer, nothing_is_front, rose_later, takes_more, takes_nothing, whole_is_front}
-pub use Rattle.tasks.proofs.Stages.{some_ran}
+pub use Rattle.tasks.proofs.Stages.{all_some, some_ran}
 pub use Rattle.tasks.proofs.Takers.{taker_is}
 pub use Rattle.tasks.proofs.Words.{asked_is}
 pub use Rattle.tasks.specs.Asked.{AskOfRead, IsAsked, IsTaken, task_of}
@@ -114,7 +114,8 @@ pub use Rattle.recovery_runs.specs.UnendedJobs.declared.unended.Unended.TheVaria
 pub use Rattle.recovery_runs.proofs.Looks.{looks-before}
 pub use Rattle.recovery_runs.proofs.RunLaws.Acting.{active-alike, held-last, lapsed-keep-nothing, passing-is-restart, renewing-alone, taken-nothing}
 pub use Rattle.recovery_runs.proofs.RunLaws.Moments.{jobs-rise, last-never-sinks, passes-time, past-comes}
-pub use Rattle.recovery_runs.proofs.RunLaws.Readings.{discoveries-read, jobs-store, openings-give-numbers, polls-read, polls-store, readings-never-sink}
+pub use Rattle.recovery_runs.proofs.RunLaws.Readings.{discoveries-read, jobs-store, openings-give-numbers, polls-read, polls-store, readings-never-sink, restarts-count-on}
 pub use Rattle.recovery_runs.proofs.RunLaws.Waits.{begun-may-wait, jobs-may-wait}
+pub use Rattle.recovery_runs.proofs.RunLaws.Hands.{plans-return}
 pub use Rattle.top_call.specs.Promises.{Promises}
 pub use Rattle.top_call.specs.Runs.{KeepTime, KeepsTime, LookFirst, LooksFirstIn, StoresReadings}

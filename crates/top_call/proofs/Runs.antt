@@ -6,10 +6,10 @@ use Rattle.top_call.proofs.Prelude.{turn-comes}
 use Rattle.top_call.proofs.Prelude.{ActAlone, All-append, All-cons, All-nil, All-take, AreSoFar, Asked, AskOfRead, BeginApart, BeginsApart, Comes}
 use Rattle.top_call.proofs.Prelude.{ComesTo, CommandTurn, Docket, Finishes, FinishWell, Follow-whole, FollowAudit, FollowAudit-whole, Goes}
 use Rattle.top_call.proofs.Prelude.{Goes-comes, Held, HostPort, IsActiveAlone, IsAsked, IsClaimRow, IsCommand, IsFinish, IsNumberOf, IsOn, IsOnOwn}
-use Rattle.top_call.proofs.Prelude.{IsOnTurns, IsRising, IsSafeRun, IsSafeState, IsScenario, IsTaken, IsTask, IsTurn, IsTurnOf, LeadsTo, Line}
+use Rattle.top_call.proofs.Prelude.{IsOnTurns, IsRising, IsSafeRun, IsSafeState, IsScenario, IsTaken, IsTask, IsTurn, IsTurnOf, IsWhole, LeadsTo, Line}
 use Rattle.top_call.proofs.Prelude.{NamesOneOf, Obeys, ObeysTable, OwnClaimRow, OwnRestartKeepsAll, Places, Ran, Ran-append, Ready, Recorded}
 use Rattle.top_call.proofs.Prelude.{Recovery, Row, Scenario, ServerNo, SomeTaken, Stage, StartsBy, State, Task, TellHooks, TellsHooks, TellsTruly}
-use Rattle.top_call.proofs.Prelude.{TellTruly, Through, Turn, Work, acting-alone, active_in, after_turns, answers_by_table, apart-comes}
+use Rattle.top_call.proofs.Prelude.{TellTruly, Through, Turn, Work, acting-alone, active_in, after_turns, all_some, answers_by_table, apart-comes}
 use Rattle.top_call.proofs.Prelude.{apart-in-turn, asked_is, asked_of, began-comes, begun-since, begun_joins, begun_kept, begun_leased, begun_logged}
 use Rattle.top_call.proofs.Prelude.{begun_number, begun_there, by_name, by_name-within, changed, claim-row-whole, claim_ahead, claim_key}
 use Rattle.top_call.proofs.Prelude.{claim_without, closing, closing_by, command_as, course_of, engine, every-kept, every-many, every-one}
@@ -21,8 +21,8 @@ use Rattle.top_call.proofs.Prelude.{restart-comes, round_of, rounds_of, rounds_w
 use Rattle.top_call.proofs.Prelude.{scenario_in_sound, scenarios-comes, some_ran, spends-last, stages, start, start_changes, still-comes, taker}
 use Rattle.top_call.proofs.Prelude.{taker_is, task_of, told-next, turn-aimed, turn-fates, turns-round, turns_of, waits, without_turns}
 use Rattle.top_call.proofs.Prelude.{KeepTime, KeepsTime, LookFirst, LooksFirstIn, Promises, StoresReadings, active-alike, begun-may-wait}
-use Rattle.top_call.proofs.Prelude.{discoveries-read, held-last, jobs-may-wait, jobs-rise, jobs-store, lapsed-keep-nothing, last-never-sinks}
-use Rattle.top_call.proofs.Prelude.{looks-before, openings-give-numbers, passes-time, passing-is-restart, past-comes, polls-read, polls-store}
+use Rattle.top_call.proofs.Prelude.{discoveries-read, held-last, jobs-may-wait, jobs-rise, jobs-store, lapsed-keep-nothing, last-never-sinks, plans-return}
+use Rattle.top_call.proofs.Prelude.{looks-before, openings-give-numbers, passes-time, passing-is-restart, past-comes, polls-read, polls-store, restarts-count-on}
 use Rattle.top_call.proofs.Prelude.{readings-never-sink, renewing-alone, taken-nothing}
 use Rattle.top_call.proofs.Prelude.act
 use Rattle.top_call.proofs.Prelude.asked
@@ -202,6 +202,7 @@ module _ (w : Work) (ts : List Turn) (kept : Option (List Row)) (run : Recorded)
         last = λ rows t. last-never-sinks rows run.state t;
         wait = may.0;
         waits = may.1;
+        hands = plans-return w.scenario found.xs run.state comes_to;
         begun = begun-may-wait run.state;
       }
 
@@ -343,6 +344,19 @@ module _ (words : List (List ℕ)) (bytes : List ℕ) (w : Work) (run : Recorded
   on_each (inl at) = in_turns words bytes w run is (λ ts. Q) each at
   on_each (inr at) = in_own words bytes w run is (λ ts. Q) each at
 
+-- after all turns it is in a state of a run of the scenario
+pub whole_comes : (words : List (List ℕ)) (bytes : List ℕ) (w : Work) (run : Recorded) → IsTask words bytes w → IsWhole (course_of w) run → (xs : List (List Row × Turn)) × ComesTo w.scenario xs run.state
+whole_comes words bytes w run is whole =
+    on_each words bytes w run is ((xs : List (List Row × Turn)) × ComesTo w.scenario xs run.state)
+    (λ ts scenario all comes. ((found w ts w.new run scenario all comes).xs, comes_to w ts w.new run scenario all comes))
+    (inr (record {
+      mid = whole.mid;
+      rows = whole.rows;
+      came = whole.came;
+      ts = whole.ts;
+      own = all_some w.new run (stages w.task.asked) whole.rows whole.mid whole.ts whole.own;
+    }))
+
 pub safe_run : (words : List (List ℕ)) (bytes : List ℕ) → IsSafeRun words bytes
 safe_run words bytes = λ w run is on. on_each words bytes w run is (IsSafeState run.state) (λ ts scenario all comes. holds w ts w.new run scenario all comes) on
 
@@ -402,6 +416,7 @@ stores_readings = record {
   jobs = jobs-store;
   never_sink = readings-never-sink;
   openings = openings-give-numbers;
+  restarts = restarts-count-on;
 }
 
 pub promised : (words : List (List ℕ)) (bytes : List ℕ) → Promises words bytes

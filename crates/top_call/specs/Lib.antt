@@ -16,6 +16,8 @@ pub use Rattle.recovery_runs.specs.OrchBase as OrchBase
 pub use Rattle.recovery_runs.specs.OrchCore as OrchCore
 pub use Rattle.recovery_runs.specs.RecoveryPlans as RecoveryPlans
 pub mod RecoveryRuns
+pub use Rattle.recovery_runs.specs.RunLaws as RunLaws
+pub use Rattle.tasks.specs.ScenarioDump as ScenarioDump
 pub mod ScenarioReader
 pub use Rattle.scenario_reader.specs.ScenarioValues as ScenarioValues
 pub use Rattle.recovery_runs.specs.Scenarios as Scenarios

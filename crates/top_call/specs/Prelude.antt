@@ -82,5 +82,6 @@ pub use Rattle.recovery_runs.specs.UnendedJobs.declared.unended.Unended.TheVaria
 pub use Rattle.recovery_runs.specs.Looks.{LooksBefore}
 pub use Rattle.recovery_runs.specs.RunLaws.Acting.{ActiveActAlike, HeldLastAMinute, LapsedKeepNothing, PassingRestarts, RenewingClaimsAlone, TakenChangeNothing}
 pub use Rattle.recovery_runs.specs.RunLaws.Moments.{JobsRise, NothingIsToCome, PassesTime}
-pub use Rattle.recovery_runs.specs.RunLaws.Readings.{DiscoveriesRead, JobsStore, OpeningsGiveNumbers, PollsRead, PollsStore, ReadingsNeverSink}
+pub use Rattle.recovery_runs.specs.RunLaws.Readings.{DiscoveriesRead, JobsStore, OpeningsGiveNumbers, PollsRead, PollsStore, ReadingsNeverSink, RestartsCountOn}
 pub use Rattle.recovery_runs.specs.RunLaws.Waits.{BegunMayWait, MayWait}
+pub use Rattle.recovery_runs.specs.RunLaws.Hands.{HoldsNone, Returns}

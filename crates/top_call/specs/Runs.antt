@@ -12,9 +12,9 @@ use Rattle.top_call.specs.Prelude.{Row, Safe, Scenario, SoundState, SpendsWaitsL
 use Rattle.top_call.specs.Prelude.{claim_key, closed, course_of, engine, entries_begun, entries_put, entry_kept, interrupted_at, job_at, leases_after}
 use Rattle.top_call.specs.Prelude.{moment_at, own_lines, period_of, promoted_then, recoveries_begun, recoveries_scanned, recovery_after, recovery_job}
 use Rattle.top_call.specs.Prelude.{refusal_at, reply_of, route_of, row_in, run_turns, start, step, taken, told_hooks, turns_of, with_entry}
-use Rattle.top_call.specs.Prelude.{ActiveActAlike, BegunMayWait, DiscoveriesRead, HeldLastAMinute, JobsRise, JobsStore, LapsedKeepNothing, LooksBefore}
-use Rattle.top_call.specs.Prelude.{MayWait, NothingIsToCome, OpeningsGiveNumbers, PassesTime, PassingRestarts, PollsRead, PollsStore, ReadingsNeverSink}
-use Rattle.top_call.specs.Prelude.{RenewingClaimsAlone, TakenChangeNothing}
+use Rattle.top_call.specs.Prelude.{ActiveActAlike, BegunMayWait, DiscoveriesRead, HeldLastAMinute, HoldsNone, JobsRise, JobsStore, LapsedKeepNothing, LooksBefore}
+use Rattle.top_call.specs.Prelude.{MayWait, NothingIsToCome, OpeningsGiveNumbers, PassesTime, PassingRestarts, PollsRead, PollsStore, ReadingsNeverSink, Returns}
+use Rattle.top_call.specs.Prelude.{RenewingClaimsAlone, RestartsCountOn, TakenChangeNothing}
 use Rattle.top_call.specs.Prelude.act
 use Rattle.top_call.specs.Prelude.answered
 use Rattle.top_call.specs.Prelude.turn
@@ -245,7 +245,8 @@ LookFirst words bytes = (w : Work) (run : Recorded) (ts : List Turn) (id : ℕ) 
 -- ---- time, waits and numbers
 
 -- Only a tick lets time pass, and no recovery is of a later moment. The numbers of jobs rise. Each operation of each
--- job may wait as often as the command line allows, from its start on.
+-- job may wait as often as the command line allows, from its start on. What a plan has in its hands is started by what
+-- is left of it.
 pub record KeepsTime (w : Work) (s : State) : Type 0 where
   pub time : (t : Turn) → PassesTime s t
   pub past : NothingIsToCome s
@@ -253,6 +254,7 @@ pub record KeepsTime (w : Work) (s : State) : Type 0 where
   pub last : (rows : List Row) (t : Turn) → s.last_job ≤ (step rows s t).last_job
   pub wait : s.configuration.wait ≡ w.task.waits
   pub waits : All (MayWait w.task.waits) s.jobs
+  pub hands : All (λ u. Returns u × HoldsNone u) s.jobs
   pub begun : BegunMayWait s
 
 -- so it is in every state of the run
@@ -261,7 +263,8 @@ KeepTime words bytes = (w : Work) (run : Recorded) → IsTask words bytes w → 
 
 -- ---- what is read
 
--- in any state what is read of a server is what one status shows then, and it is stored, with numbers that rise
+-- In any state what is read of a server is what one status shows then, and it is stored, with numbers that rise. A
+-- restart goes on with their count, whatever rows it loads.
 pub record StoresReadings : Type 0 where
   pub polls : PollsRead
   pub stores : PollsStore
@@ -269,3 +272,4 @@ pub record StoresReadings : Type 0 where
   pub jobs : JobsStore
   pub never_sink : ReadingsNeverSink
   pub openings : OpeningsGiveNumbers
+  pub restarts : RestartsCountOn

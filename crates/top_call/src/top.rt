@@ -240,6 +240,7 @@ fn respond<S: Source, O: Sink, E: Sink, K: Keeper>(
 /// - 6: out of memory; out took a prefix of a run's replies, or of what is drawn; `out of memory` on err.
 /// - 7: the report is written, and a reply in it is refused or failed; of a single command that reply is on err.
 ///
+/// If the servers after a single command are asked for, they are on out, and what it is answered is on err, with 0 too.
 /// If err fails in any other case than 4, it has a prefix of its line, and the status is the same.
 pub fn orch_plain<S: Source, O: Sink, E: Sink, K: Keeper>(
     alloc: Global,

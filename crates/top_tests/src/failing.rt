@@ -28,6 +28,11 @@ const SUM: Words = &[b"orch", b"-c", b"run", b"--summary"];
 
 const DUMP: Words = &[b"orch", b"-c", b"dump"];
 
+// A command that is done, and one that is refused, with the servers after it.
+const STOP: Words = &[b"orch", b"-c", b"stop-replica", b"-i", b"a", b"--dump"];
+
+const MOVE: Words = &[b"orch", b"-c", b"move-up", b"-i", b"a", b"--dump"];
+
 const DRAW: Words = &[
     b"orch",
     b"-c",
@@ -125,7 +130,8 @@ fn words_sources_and_sinks(rt: HostRuntime) -> Result<(), Fail> {
     let forget: Words = &[b"orch", b"-c", b"forget", b"-i", b"z", b"--tables"];
     // The command line and the scenario, the calls of the source and of out that fail, and the room of out and of err.
     // Then the status, and what out and err took.
-    let cases: [(Words, &str, [u64; 2], [usize; 2], (u8, &str, &str)); 11] = [
+    let cases: [(Words, &str, [u64; 2], [usize; 2], (u8, &str, &str)); 12] = [
+        (STOP, PAIR, [0, 0], [2000, 3], (4, "", "a:3")),
         (&[], ALONE, [0, 0], [100, 100], (1, "", "usage\n")),
         (&[b"orch"], ALONE, [0, 0], [100, 100], (1, "", "usage\n")),
         (
@@ -298,6 +304,10 @@ fn summaries_dumps_and_drawings(rt: HostRuntime) -> Result<(), Fail> {
     let loaded = "turns 0 refused 0 failed 0\nexecuted 0\nrecoveries 1\nerrant 0\n";
     let wanting = "write fault\n";
     let not_quiet = "refused 29 NotQuiet 1\n";
+    let stopped = "a:3306\nwrite fault\n";
+    let written = "a:3306\nrefused 29 NotQuiet 1\n";
+    let refused = "refused 11 SourceHasNoSource\nwrite fault\n";
+    let both = "refused 11 SourceHasNoSource\nrefused 29 NotQuiet 1\n";
     // The command line, the scenario and the rows; the calls of the source, of out and of the row store that fail, and
     // the room of out. Then the status, what out and err took, and how many rows are kept then.
     let cases: [(
@@ -308,7 +318,7 @@ fn summaries_dumps_and_drawings(rt: HostRuntime) -> Result<(), Fail> {
         usize,
         (u8, &str, &str),
         usize,
-    ); 19] = [
+    ); 25] = [
         (SUM, POLLS, none, [0, 0, 0], 2000, (0, polled, ""), 2),
         (
             SUM,
@@ -371,6 +381,28 @@ fn summaries_dumps_and_drawings(rt: HostRuntime) -> Result<(), Fail> {
         ),
         (DUMP, WRITES, none, [0, 0, 0], 2000, (7, "", not_quiet), 2),
         (DUMP, WRITES, none, [0, 1, 0], 2000, (7, "", not_quiet), 2),
+        (STOP, PAIR, none, [0, 1, 0], 2000, (4, "", stopped), 2),
+        (
+            STOP,
+            PAIR,
+            none,
+            [0, 0, 0],
+            11,
+            (4, "{\"aliases\":", stopped),
+            2,
+        ),
+        (
+            STOP,
+            PAIR,
+            none,
+            [0, 0, 3],
+            2000,
+            (5, "", "keeper fault\n"),
+            2,
+        ),
+        (STOP, WRITES, none, [0, 1, 0], 2000, (7, "", written), 2),
+        (MOVE, PAIR, none, [0, 1, 0], 2000, (4, "", refused), 2),
+        (MOVE, WRITES, none, [0, 0, 0], 2000, (7, "", both), 2),
         (DRAW, "", none, [0, 0, 0], 2000, (0, drawn, ""), 0),
         (DRAW, POLLS, ended, [1, 0, 1], 2000, (0, drawn, ""), 1),
         (DRAW, POLLS, none, [0, 1, 0], 2000, (4, "", wanting), 0),
@@ -439,14 +471,63 @@ fn all_turns_are_taken_where_out_fails(rt: HostRuntime) -> Result<(), Fail> {
     Ok(())
 }
 
+// A text that spaces fill up to so many bytes.
+fn filled(alloc: Global, text: &str, len: usize) -> Result<Vec<u8>, Fail> {
+    let mut bytes = Vec::from_slice(alloc, text.as_bytes())?;
+    bytes.resize(len, b' ')?;
+    Ok(bytes)
+}
+
 #[test]
 fn one_byte_too_many(rt: HostRuntime) -> Result<(), Fail> {
     let alloc = rt.alloc();
-    let spaces = vec![in alloc; b' '; MAX_SCENARIO_LEN + 1]?;
-    let told = over_no_rows(alloc, RUN, &spaces, WHOLE)?;
-    assert_eq!(rt;
-        told.all(),
-        (2, Some(""), Some("scenario fault 1 TooLong\n"))
-    );
+    let alone = "server m:3306 up rw executed 0 end mysql-bin.000001:4 source none\nerrant 0\n";
+    let too_long = "scenario fault 1 TooLong\n";
+    for (len, status, out, err) in [
+        (MAX_SCENARIO_LEN, 0, alone, ""),
+        (MAX_SCENARIO_LEN + 1, 2, "", too_long),
+    ] {
+        let told = over_no_rows(alloc, RUN, &filled(alloc, ALONE, len)?, WHOLE)?;
+        assert_eq!(rt; told.all(), (status, Some(out), Some(err)));
+    }
+    Ok(())
+}
+
+// A scenario of one server more than it may have.
+fn crowded(alloc: Global) -> Result<String, Fail> {
+    let mut text = String::from_str(alloc, "{\"version\":1,\"servers\":[{\"name\":\"m\"}")?;
+    for _ in 0..1000 {
+        text.push_str(",{\"name\":\"m\"}")?;
+    }
+    text.push_str("]}")?;
+    Ok(text)
+}
+
+#[test]
+fn one_server_too_many(rt: HostRuntime) -> Result<(), Fail> {
+    let alloc = rt.alloc();
+    let text = crowded(alloc)?;
+    let told = over_no_rows(alloc, RUN, text.as_bytes(), WHOLE)?;
+    let fault = "scenario fault 9 BadNumber /servers\n";
+    assert_eq!(rt; told.all(), (2, Some(""), Some(fault)));
+    Ok(())
+}
+
+// The length of the last proper prefix of a text that isn't refused as no JSON.
+fn taken_prefix(alloc: Global, text: &str) -> Result<Option<usize>, Fail> {
+    let mut taken = None;
+    for len in 0..text.len() {
+        let prefix = text.as_bytes().get(..len).unwrap_or(text.as_bytes());
+        let told = over_no_rows(alloc, RUN, prefix, WHOLE)?;
+        if told.all() != (2, Some(""), Some("scenario fault 2 NotJson\n")) {
+            taken = Some(len);
+        }
+    }
+    Ok(taken)
+}
+
+#[test]
+fn no_prefix_is_a_scenario(rt: HostRuntime) -> Result<(), Fail> {
+    assert_eq!(rt; taken_prefix(rt.alloc(), CATCHES_UP)?, None);
     Ok(())
 }

@@ -9,6 +9,8 @@ mod every_call;
 #[cfg(test)]
 mod examples;
 #[cfg(test)]
+mod examples_more;
+#[cfg(test)]
 mod examples_moves;
 #[cfg(test)]
 mod examples_recoveries;

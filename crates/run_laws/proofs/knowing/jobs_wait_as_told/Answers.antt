@@ -1,3 +1,4 @@
+use Rattle.run_laws.proofs.Hands.{plans-return}
 use Rattle.run_laws.proofs.Waits.{begun-may-wait, jobs-may-wait}
 use Rattle.run_laws.proofs.knowing.jobs_wait_as_told.Goals as goal
 
@@ -6,3 +7,6 @@ returns-clause-begun c = begun-may-wait
 
 pub returns-clause-always : goal.returns-clause-always
 returns-clause-always c = jobs-may-wait
+
+pub returns-clause-returns : goal.returns-clause-returns
+returns-clause-returns c = plans-return

@@ -1,4 +1,4 @@
-use Rattle.run_laws.proofs.Readings.{discoveries-read, jobs-store, openings-give-numbers, polls-read, polls-store, readings-never-sink}
+use Rattle.run_laws.proofs.Readings.{discoveries-read, jobs-store, openings-give-numbers, restarts-count-on, polls-read, polls-store, readings-never-sink}
 use Rattle.run_laws.proofs.knowing.readings_are_stored.Goals as goal
 
 pub returns-clause-polls : goal.returns-clause-polls
@@ -18,3 +18,6 @@ returns-clause-never_sink c = readings-never-sink
 
 pub returns-clause-openings : goal.returns-clause-openings
 returns-clause-openings c = openings-give-numbers
+
+pub returns-clause-restarts : goal.returns-clause-restarts
+returns-clause-restarts c = restarts-count-on

@@ -1,5 +1,6 @@
+use Rattle.run_laws.proofs.Leading.{plans-lead-as-told}
 use Rattle.run_laws.proofs.Stopping.{plans-start-again}
-use Rattle.run_laws.proofs.Tables.{counts-by-instances, counts-replicas, ends-in-time, keeps-sixteen, runs-all-servers, servers-by-table, threads-by-table, writes-by-table}
+use Rattle.run_laws.proofs.Tables.{attaches-by-set, attaches-by-table, counts-by-instances, counts-replicas, ends-in-time, keeps-sixteen, runs-all-servers, servers-by-table, threads-by-table, writes-by-table}
 use Rattle.run_laws.proofs.knowing.tables_hold_row_by_row.Goals as goal
 
 pub returns-clause-counts : goal.returns-clause-counts
@@ -28,3 +29,12 @@ returns-clause-threads c = threads-by-table
 
 pub returns-clause-plans : goal.returns-clause-plans
 returns-clause-plans c = plans-start-again
+
+pub returns-clause-attaches : goal.returns-clause-attaches
+returns-clause-attaches c = attaches-by-table
+
+pub returns-clause-attaches_by_set : goal.returns-clause-attaches_by_set
+returns-clause-attaches_by_set c = attaches-by-set
+
+pub returns-clause-leads : goal.returns-clause-leads
+returns-clause-leads c = plans-lead-as-told
