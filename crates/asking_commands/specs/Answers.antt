@@ -1,15 +1,15 @@
 -- What a command that only asks the book or the audit answers.
-use Rattle.std.specs.Prelude.{Bool, true, false, List, [], Option, Some, None, Result, Ok, Err}
+use Rattle.std.specs.Prelude.{Bool, false, List, [], Option, Some, None, Result, Ok, Err}
 use Rattle.instance_keeper.specs.OrchBase.declared.server.ServerNo.{ServerNo}
 use Rattle.instance_keeper.specs.Book.{BookState}
 use Rattle.instance_keeper.specs.KeptRows.declared.recovery.Recovery.{Recovery}
 use Rattle.commands.specs.declared.line.Line.{Line}
 use Rattle.commands.specs.declared.name.CommandName.{CommandName}
-use Rattle.command_routes.specs.declared.route.Question.{Question}
-use Rattle.command_routes.specs.declared.route.Question.TheVariants.{AllInstances, Analysis, Clusters, Find, Recoveries, Switch, Topology, WhichCluster, WhichClusterInstances, WhichMaster, WhichReplicas}
-use Rattle.command_routes.specs.declared.route.Route.{Route}
-use Rattle.command_routes.specs.declared.route.Route.TheVariants.{Discovers, Forgets, Asks, Decides, Begins, Recovers, TakesOver}
-use Rattle.command_routes.specs.Routes.{route_of}
+use Rattle.commands.specs.declared.route.Question.{Question}
+use Rattle.commands.specs.declared.route.Question.TheVariants.{AllInstances, Analysis, Clusters, Find, Recoveries, Switch, Topology, WhichCluster, WhichClusterInstances, WhichMaster, WhichReplicas}
+use Rattle.commands.specs.declared.route.Route.{Route}
+use Rattle.commands.specs.declared.route.Route.TheVariants.{Discovers, Forgets, Asks, Decides, Begins, Recovers, TakesOver}
+use Rattle.commands.specs.Routes.{route_of}
 use Rattle.commands.specs.declared.refusal.Refusal.{Refusal}
 use Rattle.commands.specs.declared.turn.Command.{Command}
 use Rattle.commands.specs.declared.turn.CommandTurn.{CommandTurn}
@@ -20,22 +20,9 @@ use Rattle.asking_commands.specs.declared.answers.AnswerFault.TheVariants as fau
 use Rattle.book_views.specs.Sources.{is_instance}
 use Rattle.asking_commands.specs.Asking.{all_instances, cluster_instances, cluster_of, found, master_of, replica_lines, switch_of}
 use Rattle.asking_commands.specs.Analysis.{analysis_lines}
-use Rattle.audit_lines.specs.Lines.{recovery_lines}
+use Rattle.asking_commands.specs.Lines.{recovery_lines}
 use Rattle.asking_commands.specs.Labels.{clusters_of}
 use Rattle.asking_commands.specs.Trees.{topology_of}
-
-abbrev pub is_question : Route → Bool
-is_question Discovers = false
-is_question Forgets = false
-is_question (Asks question) = true
-is_question (Decides decision) = false
-is_question (Begins planner) = false
-is_question Recovers = false
-is_question TakesOver = false
-
--- a command that only asks the book
-abbrev pub asks : CommandName → Bool
-asks name = is_question (route_of name)
 
 -- an instance of the book is given
 abbrev pub is_known : BookState → Option ServerNo → Bool

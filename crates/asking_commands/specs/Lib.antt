@@ -1,3 +1,4 @@
+pub mod Lines
 pub mod Asking
 pub mod Labels
 pub mod Trees

@@ -3,7 +3,7 @@
 ghost use Rattle.std.specs.Prelude.{◌≡◌, ◌<◌, IfOk, IsTrue, length};
 ghost use Rattle.instance_keeper.specs.OrchBase.Gives.{Gives};
 ghost use Rattle.commands.specs.Turns.{is_within};
-ghost use Rattle.asking_commands.specs.Answers.{answer_fault, answer_of, answer_to, answers_of, asks, is_known, lines_of, permitted};
+ghost use Rattle.asking_commands.specs.Answers.{answer_fault, answer_of, answer_to, answers_of, is_known, lines_of, permitted};
 
 use crate::Memory;
 use crate::analysis::replication_analysis;
@@ -13,11 +13,10 @@ use crate::listing::{
     which_replicas,
 };
 use crate::orch_base::ServerNo;
+use crate::recoveries::recovery_lines;
 use crate::trees::topology;
-use audit_lines::recovery_lines;
 use book_views::is_instance;
-use command_routes::{Question, Route};
-use commands::{Command, CommandName, CommandTurn, Found, Lines, Refusal, unknown_instance};
+use commands::{Command, CommandTurn, Found, Lines, Question, Refusal, Route, unknown_instance};
 use instance_keeper::{Book, Recovery};
 use std::alloc::Global;
 use std::fmt;
@@ -47,21 +46,6 @@ impl fmt::Display for AnswerFault {
             AnswerFault::Refused(refusal) => write!(f, "refused {}", refusal.number()),
             AnswerFault::Memory => write!(f, "out of memory"),
         }
-    }
-}
-
-/// Whether a command only asks the book or the audit.
-pub fn asks(name: CommandName) -> bool
-    ensures { result ≡ asks name }
-{
-    match Route::of(name) {
-        Route::Asks(_) => true,
-        Route::Discovers
-        | Route::Forgets
-        | Route::Decides(_)
-        | Route::Begins(_)
-        | Route::Recovers
-        | Route::TakesOver => false,
     }
 }
 
@@ -141,7 +125,8 @@ fn lines_of(
     turn: &CommandTurn,
 ) -> Result<Lines, Memory>
     requires { IsTrue (is_within (length book.now.names) turn.now.command.i) }
-    ensures { IfOk result (λ lines. lines ≡ lines_of book.now recoveries.now turn.now turn.now.command.name) }
+    ensures { IfOk result (λ lines. lines
+        ≡ lines_of book.now recoveries.now turn.now turn.now.command.name) }
 {
     match Route::of(turn.command.name) {
         Route::Asks(question) => answer_to(alloc, book, recoveries, turn, question),
@@ -165,7 +150,8 @@ pub fn answer(
 ) -> Result<Lines, AnswerFault>
     requires i { IsTrue (is_within (length book.now.names) turn.now.command.i) }
     requires d { IsTrue (is_within (length book.now.names) turn.now.command.d) }
-    ensures { Gives (λ lines. lines) answer_fault result (answer_of book.now recoveries.now turn.now) }
+    ensures { Gives (λ lines. lines) answer_fault result
+        (answer_of book.now recoveries.now turn.now) }
 {
     match permit(book, turn.command) {
         Ok(()) => Ok(lines_of(alloc, book, recoveries, turn)?),

@@ -7,7 +7,7 @@ ghost use Rattle.instance_keeper.specs.NameOrder.Sorts.{sort_by};
 ghost use Rattle.asking_commands.specs.Labels.{clusters_of, is_again, labels_of};
 
 use crate::Memory;
-use crate::orch_base::OwnedText;
+use crate::orch_base::{OwnedText, Same};
 use book_views::{is_instance, label_at};
 use commands::{Line, Lines};
 use instance_keeper::Book;
@@ -29,7 +29,8 @@ fn labels_of<'a>(alloc: Global, book: &'a Book) -> Result<Vec<&'a OwnedText>, Me
 
 // The labels in order.
 fn sorted_labels<'a>(alloc: Global, book: &'a Book) -> Result<Vec<&'a OwnedText>, Memory>
-    ensures { IfOk result (λ labels. map (λ l. l.now) labels.items ≡ sort_by (slice_cmp nat_cmp) (labels_of book.now)) }
+    ensures { IfOk result (λ labels. map (λ l. l.now) labels.items
+        ≡ sort_by (slice_cmp nat_cmp) (labels_of book.now)) }
 {
     let mut labels = labels_of(alloc, book)?;
     labels.sort_by(|one, other| {

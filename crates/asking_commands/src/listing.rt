@@ -5,7 +5,7 @@ ghost use Rattle.book_views.specs.Sources.{is_instance, label_at};
 ghost use Rattle.asking_commands.specs.Asking.{all_instances, cluster_instances, cluster_of, found, is_of_cluster, master_of, replica_lines, source_line, switch_line, switch_of};
 
 use crate::Memory;
-use crate::orch_base::{OwnedText, ServerNo, SourceState};
+use crate::orch_base::{OwnedText, Same, ServerNo, SourceState};
 use book_views::{is_instance, label_at, replicas, seen_source};
 use commands::{Line, Lines};
 use instance_keeper::Book;
@@ -29,7 +29,7 @@ fn is_found(book: &Book, answers: &[bool], no: ServerNo) -> bool
     requires { no.0 < length book.now.names }
     ensures { result ≡ (is_instance book.now no && slice_index_or answers.now no.0 false) }
 {
-    is_instance(book, no) && answers.get(no.0 as usize).copied().unwrap_or(false)
+    answers.get(no.0 as usize).copied().unwrap_or(false) && is_instance(book, no)
 }
 
 /// The instances whose answer is true, in name order. The answers are in the order of the servers' numbers. A server

@@ -79,7 +79,8 @@ fn push_some(lines: &mut Vec<Line>, line: Option<Line>) -> Result<(), Memory>
 
 // Appends the lines of some nodes.
 fn push_nodes(book: &Book, nodes: &[(u32, u32)], lines: &mut Vec<Line>) -> Result<(), Memory>
-    ensures { OnOk result (lines.new.items ≡ lines.old.items ++ filter_map (node_line book.now) nodes.now) }
+    ensures { OnOk result (lines.new.items ≡ lines.old.items
+        ++ filter_map (node_line book.now) nodes.now) }
 {
     for (node, depth) in nodes {
         push_some(lines, node_line(book, *node, *depth))?;

@@ -20,10 +20,10 @@ use Rattle.audit_log.proofs.Kept.{acknowledged-block, acknowledged-id, interrupt
 
 -- ---- different clusters have different texts
 
-of-cluster : (cluster : List ℕ) (r : Recovery) → is_of cluster r ≡ true → r.cluster ≡ cluster
+pub of-cluster : (cluster : List ℕ) (r : Recovery) → is_of cluster r ≡ true → r.cluster ≡ cluster
 of-cluster cluster r e = same_text r.cluster cluster (sym e)
 
-cluster-of : (cluster : List ℕ) (r : Recovery) → r.cluster ≡ cluster → is_of cluster r ≡ true
+pub cluster-of : (cluster : List ℕ) (r : Recovery) → r.cluster ≡ cluster → is_of cluster r ≡ true
 cluster-of cluster r e = subst (λ (c : List ℕ). pointwise nat_eq r.cluster c ≡ true) e (nat_list_eq_equiv.refl r.cluster)
 
 -- ---- a begin
@@ -46,14 +46,14 @@ module _ (cluster : List ℕ) (now : ℕ) where
   clear-of : (r : Recovery) → open-one r ≡ false → blocking-one r ≡ false → IsClear cluster now r
   clear-of r u b here = (sym (ap (λ x. x && is_unended r) (cluster-of cluster r here)) ∙ u, free-of r b here)
 
-  clear-closed : (r : Recovery) → IsClear cluster now r → open-one r ≡ false
+  pub clear-closed : (r : Recovery) → IsClear cluster now r → open-one r ≡ false
   clear-closed r clear = go (is_of cluster r) refl
     where
       go : (b : Bool) → is_of cluster r ≡ b → (b && is_unended r) ≡ false
       go true f = (clear (of-cluster cluster r f)).0
       go false f = refl
 
-  clear-free : (r : Recovery) → IsClear cluster now r → blocking-one r ≡ false
+  pub clear-free : (r : Recovery) → IsClear cluster now r → blocking-one r ≡ false
   clear-free r clear = go (is_of cluster r) refl
     where
       by : (x : Bool) → r.acked ≡ x → ((r.acked ≡ true) ⊎ (r.block ≤ now - r.begun.0)) → (not x && nat_lt (now - r.begun.0) r.block) ≡ false

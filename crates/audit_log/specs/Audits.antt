@@ -104,6 +104,13 @@ acked_so r = record r { acked = true }
 abbrev pub acknowledged_at : AuditState → ℕ → AuditState
 acknowledged_at a id = record a { recoveries = map (λ r. if r.id == id then acked_so r else r) a.recoveries }
 
+abbrev pub finished_so : Moment → Ending → Bool → Recovery → Recovery
+finished_so at outcome acked r = if acked then acked_so (ended_so at outcome r) else ended_so at outcome r
+
+-- with the end of the recovery of this id, which may be acknowledged at once
+abbrev pub finished : AuditState → ℕ → Moment → Ending → Bool → AuditState
+finished a id at outcome acked = if acked then acknowledged_at (ended a id at outcome) id else ended a id at outcome
+
 abbrev pub is_new : List ℕ → Recovery → Bool
 is_new cluster r = is_of cluster r && not r.acked
 

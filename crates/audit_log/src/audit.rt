@@ -1,36 +1,20 @@
 //! The recoveries that were begun (orchestrator's documentation, "Topology recovery", "Blocking, acknowledgements,
 //! anti-flapping").
 
-ghost use Rattle.std.specs.Prelude.{◌≡◌, ◌<◌, ◌≤◌, ◌^◌, ◌+◌, ◌-◌, ◌&&◌, ◌==◌, All, count_by, if◌then◌else◌, IfOk, IsSomeAnd, OnErr, OnOk, length, map, true, vec_len, vec_capacity};
+ghost use Rattle.std.specs.Prelude.{◌≡◌, ◌<◌, ◌≤◌, ◌^◌, ◌+◌, ◌-◌, All, IfOk, IsSomeAnd, OnErr, OnOk, length, map, true, vec_len, vec_capacity};
 ghost use Rattle.std.specs.Option.{option_copied};
 ghost use Rattle.audit_log.specs.Apart.{MayBegin};
-ghost use Rattle.audit_log.specs.Audits.{acked_so, acking, acknowledged, acknowledged_at, acknowledged_for, begun, closed, closing, count_new, ended, ended_so, interrupted, is_blocking, is_new, is_of, is_unended, last_blocking, may_begin, recovery_at, unended_of, IsAudit, StandsAt};
+ghost use Rattle.audit_log.specs.Audits.{acked_so, acking, acknowledged, acknowledged_at, begun, closed, closing, count_new, ended, ended_so, finished, finished_so, interrupted, is_unended, last_blocking, may_begin, recovery_at, unended_of, IsAudit, StandsAt};
 
 use crate::Memory;
 use crate::held::Held;
+use crate::index::Index;
+use crate::one::is_unended;
 use crate::orch_base::{Ending, Moment};
+use crate::walks::{acking, acknowledge_all, blocking_at, count_new, unended_at};
 use kept_rows::Recovery;
 use std::alloc::Global;
 use std::marker::Model;
-
-fn is_of(recovery: &Recovery, cluster: &str) -> bool
-    ensures { result ≡ is_of cluster.now recovery.now }
-{
-    recovery.cluster.as_str().as_bytes() == cluster.as_bytes()
-}
-
-/// Whether a recovery isn't ended: it has no moment of its end, or no outcome. It takes no memory.
-pub fn is_unended(recovery: &Recovery) -> bool
-    ensures { result ≡ is_unended recovery.now }
-{
-    recovery.ended.is_none() || recovery.outcome == Ending::Unended
-}
-
-fn is_blocking(recovery: &Recovery, now: Moment) -> bool
-    ensures { result ≡ is_blocking now.0 recovery.now }
-{
-    !recovery.acked && now.0.saturating_sub(recovery.begun.0) < recovery.block
-}
 
 // Ends a recovery.
 fn end_so(recovery: &mut Recovery, at: Moment, outcome: Ending)
@@ -45,6 +29,16 @@ fn ack_so(recovery: &mut Recovery)
     ensures { recovery.new ≡ acked_so recovery.old }
 {
     recovery.acked = true;
+}
+
+// Ends a recovery, and acknowledges it if that is asked for.
+fn finish_so(recovery: &mut Recovery, at: Moment, outcome: Ending, acked: bool)
+    ensures { recovery.new ≡ finished_so at outcome acked recovery.old }
+{
+    end_so(recovery, at, outcome);
+    if acked {
+        ack_so(recovery);
+    }
 }
 
 // Ends a recovery that a restart interrupts.
@@ -64,65 +58,48 @@ fn interrupt_all(recoveries: &mut [Recovery], at: Moment)
     }
 }
 
-fn is_new(recovery: &Recovery, cluster: &str) -> bool
-    ensures { result ≡ is_new cluster.now recovery.now }
-{
-    is_of(recovery, cluster) && !recovery.acked
-}
-
-// Acknowledges a recovery of the cluster, and counts it if it wasn't acknowledged before.
-fn acknowledge(recovery: &mut Recovery, cluster: &str) -> u64
-    ensures after { recovery.new ≡ acknowledged_for cluster.now recovery.old }
-    ensures count { result ≡ (if is_new cluster.now recovery.old then 1 else 0) }
-{
-    if is_new(recovery, cluster) {
-        recovery.acked = true;
-        1
-    } else {
-        0
-    }
-}
-
-fn acknowledge_all(recoveries: &mut [Recovery], cluster: &str) -> u64
-    ensures after { recoveries.new ≡ map (acknowledged_for cluster.now) recoveries.old }
-    ensures count { result ≡ count_by (is_new cluster.now) recoveries.old }
-{
-    let mut count = 0;
-    for recovery in recoveries.iter_mut() {
-        count += acknowledge(recovery, cluster);
-    }
-    count
-}
-
 /// The recoveries that were begun, by rising id, and the next id.
 #[derive(Drop)]
 pub struct Audit {
     recoveries: Vec<Recovery>,
     next: u64,
+    index: Index,
 }
 
 impl Model for Audit {
     ghost use Rattle.std.specs.Prelude.{◌-◌, vec_capacity, vec_len};
     ghost use Rattle.audit_log.specs.Audits.{AuditRoom, IsAudit};
+    ghost use Rattle.audit_log.specs.Index.{IsFound};
 
     ghost Value = { AuditRoom };
 
     ghost view = { λ a. record { audit = record { recoveries = a.recoveries.items; next = a.next }; spare = vec_capacity a.recoveries - vec_len a.recoveries } };
 
-    ghost invariant = { λ a. IsAudit (record { recoveries = a.recoveries.items; next = a.next }) };
+    ghost invariant = { λ a. IsFound (record { recoveries = a.recoveries.items; next = a.next }) a.index };
 }
 
 impl Audit {
     /// The audit of these recoveries, by rising id from 1 on, and of the next id, which is above theirs. Their block
-    /// periods are at most 1,000,000,000 seconds. It takes no memory.
+    /// periods are at most 1,000,000,000 seconds. It takes no memory. `index` makes the calls for one cluster fast.
     pub fn make(list: Vec<Recovery>, next: u64) -> Audit
         requires { IsAudit (record { recoveries = list.items; next = next }) }
         ensures { result.audit ≡ record { recoveries = list.items; next = next } }
     {
+        let index = Index::none(*list.allocator());
         Audit {
             recoveries: list,
             next,
+            index,
         }
+    }
+
+    /// Makes the index that finds the recoveries of a cluster. Then the time of a call for a cluster doesn't grow with
+    /// other clusters' recoveries, nor with its own that are acknowledged and ended. `Err` means out of memory.
+    pub fn index(&mut self, alloc: Global) -> Result<(), Memory>
+        ensures { self.new ≡ self.old }
+    {
+        self.index = Index::of(alloc, &self.recoveries)?;
+        Ok(())
     }
 
     /// The recoveries by rising id.
@@ -148,9 +125,11 @@ impl Audit {
         for recovery in &self.recoveries {
             recoveries.push(recovery.copy(alloc)?)?;
         }
+        let index = Index::of(alloc, &recoveries)?;
         Ok(Audit {
             recoveries,
             next: self.next,
+            index,
         })
     }
 
@@ -172,22 +151,23 @@ impl Audit {
     }
 
     // The cluster's recovery that isn't ended.
-    fn unended_of(&self, cluster: &str) -> Option<&Recovery>
+    fn unended_of(&self, cluster: &str, now: Moment) -> Option<&Recovery>
         ensures { option_copied result ≡ unended_of self.now.audit cluster.now }
     {
-        self.recoveries
-            .iter()
-            .find(|r| is_of(r, cluster) && is_unended(r))
+        match unended_at(&self.index, &self.recoveries, cluster, now) {
+            Some(index) => Some(&self.recoveries[index]),
+            None => None,
+        }
     }
 
     // The cluster's last recovery that blocks.
     fn last_blocking(&self, cluster: &str, now: Moment) -> Option<&Recovery>
         ensures { option_copied result ≡ last_blocking self.now.audit cluster.now now.0 }
     {
-        self.recoveries
-            .iter()
-            .rev()
-            .find(|r| is_of(r, cluster) && is_blocking(r, now))
+        match blocking_at(&self.index, &self.recoveries, cluster, now) {
+            Some(index) => Some(&self.recoveries[index]),
+            None => None,
+        }
     }
 
     /// The id of a recovery of a cluster that begins now. `Unended` names the cluster's recovery that isn't ended. Else
@@ -197,7 +177,7 @@ impl Audit {
         requires { All (λ r. r.begun.0 ≤ 2 ^ 63) self.now.audit.recoveries }
         ensures { result ≡ may_begin self.now.audit cluster.now now.0 }
     {
-        if let Some(unended) = self.unended_of(cluster) {
+        if let Some(unended) = self.unended_of(cluster, now) {
             return Err(Held::Unended(unended.id));
         }
         match self.last_blocking(cluster, now) {
@@ -214,8 +194,7 @@ impl Audit {
         ensures ok { OnOk result (1 ≤ self.new.spare) }
         ensures audit { self.new.audit ≡ self.old.audit }
     {
-        self.recoveries.reserve(1)?;
-        Ok(())
+        self.reserve_for(1)
     }
 
     /// Makes room for so many more recoveries. `Err` means out of memory.
@@ -224,7 +203,7 @@ impl Audit {
         ensures audit { self.new.audit ≡ self.old.audit }
     {
         self.recoveries.reserve(count)?;
-        Ok(())
+        self.index.reserve(count)
     }
 
     /// Begins a recovery for which there is room. `may_begin` gave its id, which is below 2^64 - 1, and its block
@@ -236,6 +215,7 @@ impl Audit {
         ensures audit { self.new.audit ≡ begun self.old.audit r }
         ensures spare { self.new.spare + 1 ≡ self.old.spare }
     {
+        self.index.enter(&self.recoveries, &r);
         self.next = r.id + 1;
         self.recoveries.push_reserved(r);
     }
@@ -248,6 +228,18 @@ impl Audit {
     {
         if let Some(index) = self.index_of(id) {
             end_so(&mut self.recoveries[index], at, outcome);
+        }
+    }
+
+    /// Ends the recovery of this id, which isn't ended, and acknowledges it if that is asked for. It takes no memory,
+    /// and the time is logarithmic in the number of recoveries.
+    pub fn finish(&mut self, id: u64, at: Moment, outcome: Ending, acked: bool)
+        requires { IsSomeAnd (recovery_at self.old.audit id) (λ r. is_unended r ≡ true) }
+        ensures { self.new
+            ≡ record self.old { audit = finished self.old.audit id at outcome acked } }
+    {
+        if let Some(index) = self.index_of(id) {
+            finish_so(&mut self.recoveries[index], at, outcome, acked);
         }
     }
 
@@ -267,22 +259,23 @@ impl Audit {
         ensures after { self.new ≡
             record self.old { audit = acknowledged self.old.audit cluster.now } }
     {
-        acknowledge_all(&mut self.recoveries, cluster)
+        let count = acknowledge_all(&self.index, &mut self.recoveries, cluster);
+        self.index.settle(&self.recoveries, cluster);
+        count
+    }
+
+    /// How many recoveries of a cluster aren't acknowledged.
+    pub fn count_new(&self, cluster: &str) -> u64
+        ensures { result ≡ count_new self.now.audit cluster.now }
+    {
+        count_new(&self.index, &self.recoveries, cluster)
     }
 
     /// The recoveries that `ack` would change, as they would be then, by rising id. `Err` means out of memory.
     pub fn acking(&self, alloc: Global, cluster: &str) -> Result<Vec<Recovery>, Memory>
         ensures { IfOk result (λ list. list.items ≡ acking self.now.audit cluster.now) }
     {
-        let mut list = Vec::new(alloc);
-        for recovery in &self.recoveries {
-            if is_new(recovery, cluster) {
-                let mut acked = recovery.copy(alloc)?;
-                acknowledge(&mut acked, cluster);
-                list.push(acked)?;
-            }
-        }
-        Ok(list)
+        acking(&self.index, alloc, &self.recoveries, cluster)
     }
 
     /// The recoveries that `close` would change, as they would be then, by rising id. `Err` means out of memory.
@@ -305,5 +298,6 @@ impl Audit {
         ensures { self.new ≡ record self.old { audit = closed self.old.audit at } }
     {
         interrupt_all(&mut self.recoveries, at);
+        self.index.renew(&self.recoveries);
     }
 }

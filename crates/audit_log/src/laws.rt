@@ -51,6 +51,7 @@ pub fn restarts_end_recoveries()
 /// aren't too long.
 pub fn kept_recoveries_make_an_audit()
     ensures { (period : List ℕ → ℕ) (rows : List Row) (next : ℕ) → IsRising rows → 1 ≤ next →
-        All (λ r. (1 ≤ r.id) × (r.id < next) × (r.block ≤ longest_block)) (recoveries_in period rows) →
+        All (λ r. (1 ≤ r.id) × (r.id < next) × (r.block ≤ longest_block))
+        (recoveries_in period rows) →
         IsAudit (record { recoveries = recoveries_in period rows; next = next }) }
 {}

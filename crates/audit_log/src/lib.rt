@@ -2,12 +2,18 @@
 #![tactic(auto)]
 
 mod audit;
+mod extended;
 mod held;
+mod index;
 mod laws;
 mod loading;
+mod one;
 mod periods;
+mod view;
+mod walks;
 
-pub use audit::{Audit, is_unended};
+pub use audit::Audit;
+pub use extended::Extended;
 pub use held::Held;
 use kept_rows::orch_base;
 pub use laws::{
@@ -16,4 +22,6 @@ pub use laws::{
 pub use loading::{loaded_by, recoveries_in};
 /// Out of memory.
 pub use kept_rows::orch_base::Memory;
+pub use one::is_unended;
 pub use periods::Periods;
+pub use view::AuditView;

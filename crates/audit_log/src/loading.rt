@@ -1,6 +1,6 @@
 //! The recoveries of kept rows.
 
-ghost use Rattle.std.specs.Prelude.{◌≡◌, IfOk};
+ghost use Rattle.std.specs.Prelude.{◌≡◌, IfOk, unwrap_or};
 ghost use Rattle.std.specs.Option.{option_copied};
 ghost use Rattle.audit_log.specs.Loading.{loaded_by, recoveries_in, recovery_row_in};
 
@@ -22,7 +22,18 @@ fn recovery_row_in(row: &Row) -> Option<&RecoveryRow>
     }
 }
 
-/// The recovery that a row keeps, by its cluster's block period for a row that has none. `Err` means out of memory.
+// The block period of a row: its own, or its cluster's if it has none.
+fn period_of<P: Periods>(periods: &P, kept: &RecoveryRow) -> u64
+    ensures { result ≡ unwrap_or kept.now.block (P.period_of periods.now kept.now.cluster) }
+{
+    match kept.block {
+        Some(block) => block,
+        None => periods.period(kept.failed, kept.cluster.as_str()),
+    }
+}
+
+/// The recovery that a row keeps. It has its cluster's block period if the row has none. Only then is the period asked.
+/// `Err` means out of memory.
 pub fn loaded_by<P: Periods>(
     alloc: Global,
     periods: &P,
@@ -30,7 +41,7 @@ pub fn loaded_by<P: Periods>(
 ) -> Result<Recovery, Memory>
     ensures { IfOk result (λ r. r ≡ loaded_by (P.period_of periods.now) kept.now) }
 {
-    let period = periods.period(kept.cluster.as_str());
+    let period = period_of(periods, kept);
     Ok(kept.copy(alloc)?.into_recovery(period))
 }
 
@@ -41,7 +52,8 @@ pub fn recoveries_in<P: Periods>(
     periods: &P,
     rows: &[Row],
 ) -> Result<Vec<Recovery>, Memory>
-    ensures { IfOk result (λ recoveries. recoveries.items ≡ recoveries_in (P.period_of periods.now) rows.now) }
+    ensures { IfOk result (λ recoveries. recoveries.items
+        ≡ recoveries_in (P.period_of periods.now) rows.now) }
 {
     let mut recoveries = Vec::new(alloc);
     for row in rows {

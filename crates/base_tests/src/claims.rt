@@ -29,7 +29,7 @@ type Step = (Ask, u32, u64, Answer, Option<(u32, u64)>, Option<u32>);
 
 // What a node asks for, or nothing if it is none of the two.
 #[tactic(auto, using(node_claims::proofs::Owned::answered_long, node_claims::proofs::Owned::released_long, node_claims::proofs::Owned::acted_long))]
-fn told(claims: &mut Claims, ask: Ask, node: u32, now: u64) -> Option<Answer>
+fn answer_to(claims: &mut Claims, ask: Ask, node: u32, now: u64) -> Option<Answer>
     requires { length claims.old.remembered ≡ 2 }
     ensures { length claims.new.remembered ≡ 2 }
 {
@@ -65,7 +65,7 @@ fn first_other(alloc: Global) -> Result<Option<usize>, Memory> {
         if ask == Ask::Begin {
             claims = begun(alloc, kept)?;
         }
-        let got = told(&mut claims, ask, node, now);
+        let got = answer_to(&mut claims, ask, node, now);
         let left = claims.kept().map(|(node, until)| (node, until.0));
         if (got, left, claims.active(Moment(now))) != (Some(want), kept, active) {
             return Ok(Some(n));

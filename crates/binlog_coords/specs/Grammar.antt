@@ -7,9 +7,7 @@ use Rattle.std.specs.Str.Parse.{digits_value}
 use Rattle.binlog_coords.specs.declared.Coord.{Coord}
 use Rattle.binlog_coords.specs.declared.text.CoordFault.{CoordFault}
 use Rattle.binlog_coords.specs.declared.text.CoordFault.TheVariants.{NoColon, BadFile, BadPos}
-
-abbrev pub is_colon : ℕ → Bool
-is_colon b = b == 58
+use Rattle.orch_base.specs.Names.{is_colon}
 
 -- the first byte is above `0`
 abbrev pub begins_above_zero : List ℕ → Bool

@@ -9,3 +9,4 @@ pub use Rattle.orch_base.specs.Memory
 pub use Rattle.orch_base.specs.Names
 pub use Rattle.orch_base.specs.Sources
 pub use Rattle.orch_base.specs.Whole
+pub use Rattle.orch_base.specs.Words

@@ -5,7 +5,8 @@ ghost use Rattle.std.specs.List.{list_all, list_any, before_last, after_last};
 ghost use Rattle.std.specs.Char.{is_ascii_digit};
 ghost use Rattle.binlog_coords.specs.declared.Coord.{Coord};
 ghost use Rattle.binlog_coords.specs.Text.{coord_text};
-ghost use Rattle.binlog_coords.specs.Grammar.{is_colon, begins_above_zero, is_plain, is_extension, extension_of, number_at, file_at, pos_at, coord_at, HasText};
+ghost use Rattle.binlog_coords.specs.Grammar.{begins_above_zero, is_plain, is_extension, extension_of, number_at, file_at, pos_at, coord_at, HasText};
+ghost use Rattle.orch_base.specs.Names.{is_colon};
 
 use crate::Coord;
 use itoa::Buffer;

@@ -1,9 +1,9 @@
 -- What this crate's definitions and contracts cite of others.
 pub use Rattle.asking_commands.specs.Asking.{switch_line}
-pub use Rattle.audit_log.specs.Audits.{AuditState, acking, acknowledged, count_new, is_new}
+pub use Rattle.audit_log.specs.Audits.{AuditState, acking, acknowledged, count_new}
 pub use Rattle.book_views.specs.Sources.{label_at}
-pub use Rattle.command_routes.specs.declared.route.Decision.{Decision}
-pub use Rattle.command_routes.specs.declared.route.Decision.TheVariants as decision
+pub use Rattle.commands.specs.declared.route.Decision.{Decision}
+pub use Rattle.commands.specs.declared.route.Decision.TheVariants as decision
 pub use Rattle.commands.specs.declared.line.Line.{Line}
 pub use Rattle.commands.specs.declared.line.Line.TheVariants as line
 pub use Rattle.commands.specs.declared.turn.Keys.{Keys}

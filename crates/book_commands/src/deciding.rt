@@ -1,7 +1,7 @@
 //! Decisions.
 
 ghost use Rattle.std.specs.Prelude.{◌≡◌, ◌<◌, ◌≤◌, ◌^◌, ◌∷◌, [], IfOk, IfSome, length, map, unwrap_or};
-ghost use Rattle.book_commands.specs.Prelude.{acking, count_new, is_new, label_at, put_recovery};
+ghost use Rattle.book_commands.specs.Prelude.{acking, label_at, put_recovery};
 ghost use Rattle.book_commands.specs.Decisions.{acked, candidate_of, decided_of, decided_with, downtime_begun, downtime_ended, downtime_of, downtime_removal, effect_by, registered, rows_of, switched, undecided};
 
 use crate::orch_base::{Moment, OwnedText, Rule, ServerNo};
@@ -9,9 +9,8 @@ use crate::{Decided, Effect, Memory};
 use asking_commands::switch_line;
 use audit_log::Audit;
 use book_views::label_at;
-use command_routes::Decision;
-use commands::{Keys, Line, Lines};
-use instance_keeper::{Book, Candidate, Change, Downtime, Key, Recovery, Row, Table};
+use commands::{Decision, Keys, Line, Lines};
+use instance_keeper::{Book, Candidate, Change, Downtime, Key, Row, Table};
 use std::alloc::Global;
 
 /// How long a downtime lasts of which no duration is given, in seconds.
@@ -136,26 +135,12 @@ fn switch(alloc: Global, book: &Book, enabled: bool) -> Result<Decided, Memory>
     decided_with(alloc, switch_line(enabled), effect_by(change))
 }
 
-// Whether a recovery of this cluster isn't acknowledged.
-fn is_new(recovery: &Recovery, cluster: &str) -> bool
-    ensures { result ≡ is_new cluster.now recovery.now }
-{
-    recovery.cluster.as_str().as_bytes() == cluster.as_bytes() && !recovery.acked
-}
-
-fn count_new(audit: &Audit, cluster: &str) -> u64
-    ensures { result ≡ count_new audit.now.audit cluster.now }
-{
-    let recoveries = audit.recoveries();
-    recoveries.iter().filter(|r| is_new(r, cluster)).count() as u64
-}
-
 fn ack(alloc: Global, book: &Book, audit: &Audit, no: ServerNo) -> Result<Decided, Memory>
     requires { no.0 < length book.now.names }
     ensures { IfOk result (λ d. d ≡ acked book.now audit.now.audit no) }
 {
     let cluster = label_at(book, no);
-    let count = count_new(audit, cluster.as_str());
+    let count = audit.count_new(cluster.as_str());
     decided_with(
         alloc,
         Line::Acknowledged(count),
@@ -177,7 +162,8 @@ pub fn decide(
     requires moment { now.0 ≤ 2 ^ 63 }
     requires duration { IfSome keys.now.duration (λ n. n ≤ 31536000) }
     requires within { IfSome instance (λ i. i.0 < length book.now.names) }
-    ensures { IfOk result (λ d. d ≡ decided_of book.now audit.now.audit now keys.now instance decision) }
+    ensures { IfOk result (λ d. d
+        ≡ decided_of book.now audit.now.audit now keys.now instance decision) }
 {
     match (decision, instance) {
         (Decision::BeginDowntime, Some(no)) => {

@@ -2,8 +2,8 @@
 
 use crate::orch_base::{Memory, OwnedText, ServerNo, SourceState};
 use crate::rows::{Given, book};
-use asking_commands::{AnswerFault, answer, asks};
-use commands::{Answers, Command, CommandName, CommandTurn, Found, Keys, Line};
+use asking_commands::{AnswerFault, answer};
+use commands::{Answers, Command, CommandName, CommandTurn, Found, Keys, Line, Route};
 use instance_keeper::Book;
 use std::alloc::Global;
 
@@ -77,7 +77,10 @@ fn are_named(lines: &[Line], want: &str) -> bool {
 
 // Whether the lines that are answered name these servers; none if the command is to be refused.
 fn is_answered(alloc: Global, book: &Book, turn: &CommandTurn, want: Option<&str>) -> bool {
-    if !asks(turn.command.name) || !turn.fits(book.servers()) {
+    let Route::Asks(_) = Route::of(turn.command.name) else {
+        return false;
+    };
+    if !turn.fits(book.servers()) {
         return false;
     }
     let answer = answer(alloc, book, &[], turn);
@@ -94,7 +97,7 @@ fn is_answered(alloc: Global, book: &Book, turn: &CommandTurn, want: Option<&str
 type Ask = (CommandName, Option<u32>, Option<&'static str>);
 
 // The first question that is answered otherwise, counted from 0.
-fn surprise_in(alloc: Global, book: &Book, asked: &[Ask]) -> Result<Option<usize>, Memory> {
+fn first_difference_in(alloc: Global, book: &Book, asked: &[Ask]) -> Result<Option<usize>, Memory> {
     for (place, (name, i, want)) in asked.iter().enumerate() {
         let turn = turn(alloc, *name, *i)?;
         let is_wanted = is_answered(alloc, book, &turn, *want);
@@ -106,9 +109,9 @@ fn surprise_in(alloc: Global, book: &Book, asked: &[Ask]) -> Result<Option<usize
     Ok(None)
 }
 
-fn surprise(alloc: Global, asked: &[Ask]) -> Result<Option<usize>, Memory> {
+fn first_difference(alloc: Global, asked: &[Ask]) -> Result<Option<usize>, Memory> {
     let book = book(alloc, &SERVERS, &INSTANCES)?;
-    let found = surprise_in(alloc, &book, asked);
+    let found = first_difference_in(alloc, &book, asked);
     drop(book);
     found
 }
@@ -132,5 +135,5 @@ const ASKED: [Ask; 14] = [
 
 #[test]
 fn questions_are_answered(rt: HostRuntime) {
-    assert_eq!(rt; surprise(rt.alloc(), &ASKED), Ok(None));
+    assert_eq!(rt; first_difference(rt.alloc(), &ASKED), Ok(None));
 }

@@ -6,8 +6,7 @@ use crate::orch_base::{Ending, Kind, Memory, Moment, Rule, ServerNo, SourceState
 use crate::rows::{Given, OnePeriod, book, label};
 use audit_log::{Audit, kept_recoveries_make_an_audit, recoveries_in};
 use book_commands::{Decided, Effect, decide, rows_of};
-use command_routes::Decision;
-use commands::{Keys, Line};
+use commands::{Decision, Keys, Line};
 use instance_keeper::{Book, Change, Key, Recovery, Row, last_row_stands, row_map};
 use std::alloc::Global;
 
@@ -191,7 +190,8 @@ fn recovery(alloc: Global, id: u64, cluster: &str, acked: bool) -> Result<Recove
 }
 
 fn are_in_range(list: &[Recovery], next: u64) -> bool
-    ensures { IsTrue result ↔ All (λ r. (1 ≤ r.id) × (r.id < next) × (r.block ≤ 1000000000)) list.now }
+    ensures { IsTrue result
+        ↔ All (λ r. (1 ≤ r.id) × (r.id < next) × (r.block ≤ 1000000000)) list.now }
 {
     list.iter()
         .all(|r| (r.id >= 1 && r.id < next) && r.block <= 1_000_000_000)
@@ -241,7 +241,7 @@ const INSTANCES: [Given; 3] = [
 ];
 
 // The first step whose line or rows are others, counted from 0.
-fn surprise_in(
+fn first_difference_in(
     alloc: Global,
     book: &mut Book,
     audit: &mut Audit,
@@ -256,18 +256,22 @@ fn surprise_in(
 }
 
 // The same of an audit and of the book of the instances.
-fn surprise_of(alloc: Global, audit: &mut Audit, steps: &[Step]) -> Result<Option<usize>, Memory> {
+fn first_difference_of(
+    alloc: Global,
+    audit: &mut Audit,
+    steps: &[Step],
+) -> Result<Option<usize>, Memory> {
     let mut book = book(alloc, &SERVERS, &INSTANCES)?;
-    let found = surprise_in(alloc, &mut book, audit, steps);
+    let found = first_difference_in(alloc, &mut book, audit, steps);
     drop(book);
     found
 }
 
 // The same of the audit of the recoveries; the step 0, too, if there is no audit.
-fn surprise(alloc: Global, steps: &[Step]) -> Result<Option<usize>, Memory> {
+fn first_difference(alloc: Global, steps: &[Step]) -> Result<Option<usize>, Memory> {
     match audit(alloc)? {
         Some(mut audit) => {
-            let found = surprise_of(alloc, &mut audit, steps);
+            let found = first_difference_of(alloc, &mut audit, steps);
             drop(audit);
             found
         }
@@ -376,10 +380,10 @@ const OTHERS: [Step; 8] = [
 
 const STORIES: [&[Step]; 3] = [&DOWNTIMES, &CANDIDATES, &OTHERS];
 
-// The first story with a surprise, and the step.
+// The first story with a difference, and the step.
 fn first_surprise(alloc: Global) -> Result<Option<(usize, usize)>, Memory> {
     for (story, steps) in STORIES.iter().enumerate() {
-        if let Some(step) = surprise(alloc, steps)? {
+        if let Some(step) = first_difference(alloc, steps)? {
             return Ok(Some((story, step)));
         }
     }

@@ -33,7 +33,7 @@ type Told = ([Option<Moment>; 2], [Rule; 2]);
 const MADE_OF_ROWS: Told = ([Some(Moment(20)), None], [Rule::Prefer, Rule::Neutral]);
 
 // What a book of two servers has of the second's downtime at moments 19 and 20, and of its rule at 59 and 60.
-fn told(book: &Book) -> Option<Told> {
+fn ends_and_rules(book: &Book) -> Option<Told> {
     if book.servers() != 2 {
         return None;
     }
@@ -45,7 +45,7 @@ fn told(book: &Book) -> Option<Told> {
 
 fn made(alloc: Global) -> Result<Option<Told>, Memory> {
     let book = book(alloc, &SERVERS, &ROWS)?;
-    let told = told(&book);
+    let told = ends_and_rules(&book);
     drop(book);
     Ok(told)
 }
@@ -188,7 +188,11 @@ fn answer(alloc: Global, book: &mut Book, act: Act) -> Result<Answer, Memory> {
 type Step = (Act, Answer, Shown);
 
 // The first step with another answer or another book after it, counted from 0.
-fn surprise_in(alloc: Global, book: &mut Book, steps: &[Step]) -> Result<Option<usize>, Memory> {
+fn first_difference_in(
+    alloc: Global,
+    book: &mut Book,
+    steps: &[Step],
+) -> Result<Option<usize>, Memory> {
     for (place, (act, want, after)) in steps.iter().enumerate() {
         let answer = answer(alloc, book, *act)?;
         if (answer, shown(book)) != (*want, *after) {
@@ -199,9 +203,9 @@ fn surprise_in(alloc: Global, book: &mut Book, steps: &[Step]) -> Result<Option<
 }
 
 // The same of the book of the rows.
-fn surprise(alloc: Global, steps: &[Step]) -> Result<Option<usize>, Memory> {
+fn first_difference(alloc: Global, steps: &[Step]) -> Result<Option<usize>, Memory> {
     let mut book = book(alloc, &SERVERS, &ROWS)?;
-    let found = surprise_in(alloc, &mut book, steps);
+    let found = first_difference_in(alloc, &mut book, steps);
     drop(book);
     found
 }
@@ -311,10 +315,10 @@ const CHANGES: [Step; 11] = [
 
 const STORIES: [&[Step]; 3] = [&READINGS, &BRIDGES, &CHANGES];
 
-// The first story with a surprise, and the step.
+// The first story with a difference, and the step.
 fn first_surprise(alloc: Global) -> Result<Option<(usize, usize)>, Memory> {
     for (story, steps) in STORIES.iter().enumerate() {
-        if let Some(step) = surprise(alloc, steps)? {
+        if let Some(step) = first_difference(alloc, steps)? {
             return Ok(Some((story, step)));
         }
     }

@@ -37,7 +37,7 @@ pub(crate) struct OnePeriod(pub(crate) u64);
 impl Periods for OnePeriod {
     ghost period_of = { λ p _. p.0 };
 
-    fn period(&self, _cluster: &str) -> u64 {
+    fn period(&self, _server: ServerNo, _cluster: &str) -> u64 {
         self.0
     }
 }

@@ -1,8 +1,9 @@
 -- What is read of a book and of the order of its names.
-use Rattle.std.proofs.Common.{◌≡◌, ℕ, ◌<◌, true, List, length, Option, None, Some, refl, sym, subst, arith}
+use Rattle.std.proofs.Common.{◌≡◌, ℕ, zero, suc, ◌<◌, true, List, length, get_or, map, Option, None, Some, Bor, refl, sym, ◌∙◌, ap, subst, arith}
 use Rattle.std.specs.Prelude.{All, slice_get, nat_lt, [], ◌∷◌}
 use Rattle.std.specs.List.{list_all}
 use Rattle.std.proofs.lemmas.Bool.Decides.{nat_tests}
+use Rattle.std.proofs.lemmas.List.{length-map}
 use Rattle.std.proofs.lemmas.List.Elements.{All-get_or}
 use Rattle.std.proofs.lemmas.Option.{slice_get_within, get_or_from_slice_get}
 use Rattle.instance_keeper.specs.OrchBase.Names.{HostPort}
@@ -33,3 +34,15 @@ placed-within names order k server is at =
 
 pub known-below : (n s : ℕ) → list_all (λ k. nat_lt k n) (s ∷ []) ≡ true → s < n
 known-below n s known = grind (arith, nat_tests)
+
+-- what is known of a server, among references to all that is known
+place-in : (ps : List (Bor (Option Instance))) (i : ℕ) (p : Bor (Option Instance)) → i < length ps → p ≡ get_or ps i p → get_or (map (λ q. q.now) ps) i None ≡ p.now
+place-in [] i p within is = absurd (omega (arith, within))
+place-in (q ∷ ps) zero p within is = ap (λ r. r.now) (sym is)
+place-in (q ∷ ps) (suc i) p within is = place-in ps i p (omega (arith, within)) is
+
+pub place-at : (b : BookState) (ps : List (Bor (Option Instance))) (i : ℕ) (p : Bor (Option Instance)) → map (λ q. q.now) ps ≡ b.instances → i < length ps → p ≡ get_or ps i p → get_or b.instances i None ≡ p.now
+place-at b ps i p all within is = ap (λ xs. get_or xs i None) (sym all) ∙ place-in ps i p within is
+
+pub places-all : (b : BookState) (ps : List (Bor (Option Instance))) → map (λ q. q.now) ps ≡ b.instances → length ps ≡ length b.instances
+places-all b ps all = sym (length-map ps (λ q. q.now)) ∙ ap length all

@@ -1,47 +1,52 @@
 //! The forest of a book.
 
-ghost use Rattle.std.specs.Prelude.{◌≡◌, ◌<◌, ◌↔◌, IfOk, IfSome, IsTrue, length};
+ghost use Rattle.std.specs.Prelude.{◌≡◌, ◌<◌, ◌↔◌, IfOk, IfSome, IsTrue, length, map};
 ghost use Rattle.topology_tree.specs.Forests.{IsForestOf};
 ghost use Rattle.book_views.specs.Forests.{book_forest, node_of, parent_of, server_at, source_node, source_nodes, IsBelow};
 
 use crate::Memory;
 use crate::orch_base::{ServerNo, SourceState};
-use crate::sources::{is_instance, seen_source};
-use instance_keeper::Book;
+use crate::sources::{is_instance_in, source_in};
+use instance_keeper::{Book, Instance};
 use std::alloc::Global;
 use topology_tree::Forest;
 
-// A server's node, if it is an instance.
-fn node_of(book: &Book, no: ServerNo) -> Option<u32>
-    requires { no.0 < length book.now.names }
+// A server's node, if it is one of the book's instances.
+fn node_of(book: &Book, instances: &[&Option<Instance>], no: ServerNo) -> Option<u32>
+    requires no { no.0 < length book.now.names }
+    requires instances { map (λ place. place.now) instances.now ≡ book.now.instances }
     ensures { result ≡ node_of book.now no }
 {
-    if is_instance(book, no) {
+    if is_instance_in(book, instances, no) {
         Some(book.rank(no))
     } else {
         None
     }
 }
 
-// The node of a server's source, if that is an instance.
-fn source_node(book: &Book, no: ServerNo) -> Option<u32>
-    requires { no.0 < length book.now.names }
+// The node of a server's source, if that is one of the book's instances.
+fn source_node(book: &Book, instances: &[&Option<Instance>], no: ServerNo) -> Option<u32>
+    requires no { no.0 < length book.now.names }
+    requires instances { map (λ place. place.now) instances.now ≡ book.now.instances }
     ensures { result ≡ source_node book.now no }
 {
-    match seen_source(book, no) {
-        SourceState::Attached(source) | SourceState::Detached(source) => node_of(book, source),
+    match source_in(book, instances, no) {
+        SourceState::Attached(source) | SourceState::Detached(source) => {
+            node_of(book, instances, source)
+        }
         SourceState::Without => None,
     }
 }
 
-// For each node that of its source.
+// For each node that of its source. It looks at each instance once.
 fn source_nodes(alloc: Global, book: &Book) -> Result<Vec<Option<u32>>, Memory>
     ensures { IfOk result (λ nodes. nodes.items ≡ source_nodes book.now) }
 {
+    let instances = book.instances(alloc)?;
     let order = book.order();
     let mut nodes = Vec::with_capacity(alloc, order.len())?;
     for no in order {
-        nodes.push(source_node(book, *no))?;
+        nodes.push(source_node(book, &instances, *no))?;
     }
     Ok(nodes)
 }

@@ -1,13 +1,12 @@
 -- What tests of a job say: of a source that was named, of the aims of waits, and of changes of source.
-use Rattle.std.proofs.Common.{◌≡◌, ℕ, zero, suc, ◌+◌, ◌-◌, ◌≤◌, Bool, true, false, not, ◌&&◌, List, [], ◌∷◌, refl, sym, ◌∙◌, ap, subst, ◌⊎◌, inl, inr, Option, Some, None, arith}
+use Rattle.std.proofs.Common.{◌≡◌, ℕ, zero, suc, ◌+◌, ◌-◌, ◌≤◌, Bool, true, false, not, ◌&&◌, List, [], ◌∷◌, refl, sym, ◌∙◌, ap, subst, ◌⊎◌, inl, inr, Option, Some, None, arith, IfSome}
 use Rattle.std.specs.Prelude.{nat_lt, nat_le, ◌==◌}
-use Rattle.cause_laws.proofs.Prelude.{Attached, Bridge, Coord, Crossing, Deed, Detached, Exchange, Interval, IsBefore, Job, LacksSome, Match}
-use Rattle.cause_laws.proofs.Prelude.{Position, ServerNo, SourceState, Status, Without, and_cases, and_from, and_parts, attached_anew, attachment_of}
-use Rattle.cause_laws.proofs.Prelude.{bridge_at, by_match, by_set, change_of, crossed, eq-eqb, eqb-true, false_from_ne_true, false≢true, has_all}
-use Rattle.cause_laws.proofs.Prelude.{has_from, holds, holds_seen, is_moved, is_reached, is_settled, is_within, le-leb, ltb-false, match_found}
-use Rattle.cause_laws.proofs.Prelude.{not-false, not-true, not_from_false, not_from_true, or_cases, or_left, or_right, read_by, same_again}
-use Rattle.cause_laws.proofs.Prelude.{same_coord, same_Some, seen_of, server_of, settles, spans, within-holds}
-use Rattle.cause_laws.proofs.Prelude.cross
+use Rattle.cause_laws.proofs.Prelude.{Attached, Coord, Deed, Detached, Exchange, Interval, IsAttachment, IsBefore, Job, LacksSome, Position, ServerNo}
+use Rattle.cause_laws.proofs.Prelude.{SourceState, Status, Without, and_cases, and_from, and_parts, attached-server, attachment_of, bridge_at}
+use Rattle.cause_laws.proofs.Prelude.{change_of, crossed-of, eq-eqb, eqb-true, false_from_ne_true, false≢true, has_all, has_from, holds, holds_seen}
+use Rattle.cause_laws.proofs.Prelude.{is_moved, is_reached, is_settled, is_within, le-leb, ltb-false, match-of, match_found, not-false, not-true}
+use Rattle.cause_laws.proofs.Prelude.{not_from_false, not_from_true, or_cases, or_left, or_right, read_by, same-of, same_Some, same_coord, seen_of}
+use Rattle.cause_laws.proofs.Prelude.{server_of, set-of, settles, spans, within-holds}
 use Rattle.cause_laws.proofs.Prelude.deed
 
 -- ---- a source that was named
@@ -97,40 +96,12 @@ has-come j s e miss = go (or_cases (is_settled s) (not (nat_lt (j.waited + 1) j.
 
 -- ---- changes of source
 
-abbrev IsWith : ServerNo → Option Exchange → Type 0
-IsWith n o = (x : Exchange) → o ≡ Some x → server_of x ≡ n.0
-
-with-one : (n : ServerNo) (x : Exchange) → server_of x ≡ n.0 → IsWith n (Some x)
-with-one n x h y e = subst (λ z. server_of z ≡ n.0) (same_Some x y e) h
-
-crossed-with : (c : Crossing) (a : ServerNo) (o : Option Bridge) → IsWith a (crossed c a o)
-crossed-with c a None x e = cc
-crossed-with cross.Up a (Some b) x e = with-one a _ refl x e
-crossed-with _ a _ x e = with-one a _ refl x e
-
-anew-with : (n : ServerNo) (exec : Coord) (source : SourceState) → IsWith n (attached_anew n exec source)
-anew-with n exec Without x e = cc
-anew-with n exec (Attached m) x e = with-one n _ refl x e
-anew-with n exec (Detached m) x e = with-one n _ refl x e
-
-again-with : (n : ServerNo) (o : Option Position) → IsWith n (same_again n o)
-again-with n None x e = cc
-again-with n (Some s) x e = anew-with n s.exec s.source x e
-
-set-with : (n m : ServerNo) (o : Option Position) → IsWith n (by_set n m o)
-set-with n m None x e = cc
-set-with n m (Some s) x e = with-one n _ refl x e
-
-match-with : (n m : ServerNo) (o : Option Match) → IsWith n (by_match n m o)
-match-with n m None x e = cc
-match-with n m (Some y) x e = with-one n _ refl x e
-
-of-change : (m n : ServerNo) (o : Option Exchange) → Some m ≡ Some n → IsWith m o → IsWith n o
-of-change m n o e h = subst (λ k. IsWith k o) (same_Some m n e) h
+with-server : (m n : ServerNo) (o : Option Exchange) (x : Exchange) → IfSome o (IsAttachment m) → Some m ≡ Some n → o ≡ Some x → server_of x ≡ n.0
+with-server m n o x of h e = attached-server m x (subst (λ (p : Option Exchange). IfSome p (IsAttachment m)) e of) ∙ ap (λ (k : ServerNo). k.0) (same_Some m n h)
 
 pub attachment-with : (j : Job) (d : Deed) (n : ServerNo) (x : Exchange) → change_of d ≡ Some n → attachment_of j d ≡ Some x → server_of x ≡ n.0
-attachment-with j (deed.Cross c a b) n x h e = of-change a n _ h (crossed-with c a (bridge_at (read_by c a b) (seen_of j.seen (read_by c a b).0))) x e
-attachment-with j (deed.Same m) n x h e = of-change m n _ h (again-with m (seen_of j.seen m.0)) x e
-attachment-with j (deed.Auto m k) n x h e = of-change m n _ h (set-with m k (seen_of j.seen k.0)) x e
-attachment-with j (deed.CrossMatch m k) n x h e = of-change m n _ h (match-with m k (match_found j.matches m k)) x e
+attachment-with j (deed.Cross c a b) n x h e = with-server a n _ x (crossed-of a c (bridge_at (read_by c a b) (seen_of j.seen (read_by c a b).0))) h e
+attachment-with j (deed.Same m) n x h e = with-server m n _ x (same-of m (seen_of j.seen m.0)) h e
+attachment-with j (deed.Auto m k) n x h e = with-server m n _ x (set-of m k (seen_of j.seen k.0)) h e
+attachment-with j (deed.CrossMatch m k) n x h e = with-server m n _ x (match-of m k (match_found j.matches m k)) h e
 attachment-with j _ n x h e = cc

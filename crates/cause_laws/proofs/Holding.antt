@@ -1,21 +1,18 @@
 -- What a job has in its hands is what it left stopped.
-use Rattle.std.proofs.Common.{◌≡◌, ℕ, ◌+◌, Bool, true, false, cond, not, ◌||◌, List, [], ◌∷◌, ◌++◌, refl, sym, ◌∙◌, ap, subst, Option, Some, None, Ok, Err, Result, map, get_or, ◌⊎◌, inl, inr, arith}
-use Rattle.std.specs.Prelude.{nat_lt, ◌==◌, fold, All, AllPairs}
-use Rattle.cause_laws.proofs.Prelude.{All-cons, All-head, All-nil, All-tail, AllGoing, AllPairs-filter, Ask, AttachFault}
-use Rattle.cause_laws.proofs.Prelude.{Attempt, Cause, Coord, Deed, Done, Ended, Exchange, Goes, HasLeases, IsLeased, IsLeftStopped}
-use Rattle.cause_laws.proofs.Prelude.{IsNoStart, IsTaken, Job, KeepsLeases, Leases, Line, MatchFault, MayChange, Meeting, Misses, Moment, Observation}
-use Rattle.cause_laws.proofs.Prelude.{Op, Request, ServerNo, Spot, Status, Stopped, Stops, Threads, Unreachable, Waited, World, Write}
-use Rattle.cause_laws.proofs.Prelude.{after_answer, after_ask, after_attach, after_look, after_match, after_status, after_until, after_wait}
-use Rattle.cause_laws.proofs.Prelude.{after_wait_by, aim_of, all_pairs_push, asked_until, attach_answer_of, attachment_of, by_deed, by_ops}
-use Rattle.cause_laws.proofs.Prelude.{can_attach, cases_Bool, changes_by, deed_of, desk_answer, eq-eqb, eqb-true, exchanges_in, false≢true}
-use Rattle.cause_laws.proofs.Prelude.{filter_passes, fold-append, hands_after, holds_seen, is_in_hands, is_moved, is_reached, job_after, list_any}
-use Rattle.cause_laws.proofs.Prelude.{made, match_logs, next, not-true, observed, saw, seen_in, seen_of, server_at, settled, settles, standing_at}
-use Rattle.cause_laws.proofs.Prelude.{status, turn-leased, turn_at, until_by, with_hand, without}
+use Rattle.std.proofs.Common.{◌≡◌, ℕ, ◌+◌, Bool, true, false, cond, not, ◌||◌, List, [], ◌∷◌, ◌++◌, refl, sym, ◌∙◌, ap, subst, Option, Some, None, map, get_or, ◌⊎◌, inl, inr, arith}
+use Rattle.std.specs.Prelude.{◌==◌, fold, All, AllPairs}
+use Rattle.cause_laws.proofs.Prelude.{All-cons, All-head, All-nil, All-tail, AllGoing, AllPairs-filter, Ask, Attempt, Attempts, Cause, Coord, Deed}
+use Rattle.cause_laws.proofs.Prelude.{Done, Ended, Exchange, HasLeases, IsLeased, IsLeftStopped, IsMove, IsNoStart, IsTaken, IsWaitFor, Job}
+use Rattle.cause_laws.proofs.Prelude.{KeepsLeases, Leases, Line, MayChange, Meeting, Misses, Moment, Op, Request, ServerNo, Status, Stopped, Threads}
+use Rattle.cause_laws.proofs.Prelude.{Waited, World, Write, aim_of, all_pairs_push, asked_until, attachment_of, attempts, by_deed, by_ops, can_attach}
+use Rattle.cause_laws.proofs.Prelude.{cases_Bool, changes_by, deed_of, eq-eqb, eqb-true, exchanges_in, false≢true, filter_passes, fold-append}
+use Rattle.cause_laws.proofs.Prelude.{hands_after, is_in_hands, job_after, list_any, made, not-true, seen_of, settled, turn-leased, turn_at, until_by}
+use Rattle.cause_laws.proofs.Prelude.{with_hand, without}
 use Rattle.cause_laws.proofs.Prelude.asking
-use Rattle.cause_laws.proofs.Prelude.cause
 use Rattle.cause_laws.proofs.Prelude.deed
 use Rattle.cause_laws.proofs.Prelude.step
 use Rattle.cause_laws.proofs.Turning.{turn-idle, turn-taken}
+use Rattle.cause_laws.proofs.Prelude.doing
 
 -- ---- whether a server is left stopped, exchange by exchange
 
@@ -183,68 +180,31 @@ abbrev pub hands_by : Deed → List ServerNo → List ServerNo
 hands_by (deed.Request n a) hands = hands_after hands n a
 hands_by _ hands = hands
 
+wait-hands : (n : ServerNo) (d : Deed) (hands : List ServerNo) → IsWaitFor n d → hands ≡ hands_by d hands
+wait-hands n d hands (doing.Awaits to) = refl
+wait-hands n d hands _ = refl
+
+move-hands : (n : ServerNo) (d : Deed) (hands : List ServerNo) → IsMove n d → hands ≡ hands_by d hands
+move-hands n d hands (doing.Crosses c b) = refl
+move-hands n d hands _ = refl
+
 module _ (w : World) (read : ℕ) (now : Moment) (j : Job) (rest : List Op) where
   -- an attempt after which the job goes on leaves it these hands
   abbrev Leaves : List ServerNo → Attempt → Type 0
   Leaves hands a = (settled j a).step ≡ step.Going → (settled j a).job.hands ≡ hands
 
-  look-hands : (n : ServerNo) (from : Option ServerNo) (o : Observation) (r : Option Status) → Leaves j.hands (after_look j rest n from o r)
-  look-hands n from o None e = cc
-  look-hands n from o (Some s) e = go (is_moved from s.source) e
-    where
-      go : (b : Bool) → Leaves j.hands (after_status j rest n from o s b)
-      go true e = cc
-      go false e = refl
-
-  ask-hands : (n : ServerNo) (a : Ask) (r : Result (Unit {0}) Unreachable) → Leaves (hands_after j.hands n a) (after_ask j rest n a r)
-  ask-hands n a (Ok t) e = refl
-  ask-hands n a (Err f) e = cc
-
-  until-hands : (n : ServerNo) (o : Option Coord) → Leaves j.hands (after_until w j rest n o)
-  until-hands n None e = refl
-  until-hands n (Some to) e = ask-hands n (asking.StartUntil to) (desk_answer (server_at w n.0)) e
-
-  wait-hands : (n : ServerNo) (reached : Status → Bool) (r : Option Status) → Leaves j.hands (after_wait j rest n reached r)
-  wait-hands n reached None e = cc
-  wait-hands n reached (Some s) e = go (reached s) e
-    where
-      more : (b : Bool) → Leaves j.hands (cond b (Goes None [] (record (saw j n s) { waited = j.waited + 1 })) (Stops (cause.WaitSpent n) None))
-      more true e = refl
-      more false e = cc
-
-      go : (b : Bool) → Leaves j.hands (after_wait_by j rest n s b)
-      go true e = refl
-      go false e = more (nat_lt (j.waited + 1) j.wait) e
-
-  attach-hands : (n : ServerNo) (o : Option Exchange) → Leaves j.hands (after_attach w j rest n o)
-  attach-hands n None e = refl
-  attach-hands n (Some x) e = by (can_attach w x) e
-    where
-      go : (r : Result (Unit {0}) AttachFault) → Leaves j.hands (after_answer j rest n x r)
-      go (Ok t) e = refl
-      go (Err f) e = cc
-
-      by : (b : Bool) → Leaves j.hands (cond b (after_answer j rest n x (attach_answer_of w x)) (Goes None [] (next j rest)))
-      by true e = go (attach_answer_of w x) e
-      by false e = refl
-
-  match-hands : (n m : ServerNo) (at : Spot) (r : Result Coord MatchFault) → Leaves j.hands (after_match j rest n m at r)
-  match-hands n m at (Ok c) e = refl
-  match-hands n m at (Err f) e = cc
+  hands-after : (d : Deed) (a : Attempt) → Attempts w read now j rest d a → Leaves (hands_by d j.hands) a
+  hands-after d a (doing.Misses n from c why) e = cc
+  hands-after d a (doing.Fails x c why) e = cc
+  hands-after d a (doing.Waits n x s is seen short more) e = wait-hands n x j.hands is
+  hands-after d a (doing.Reaches n x s is seen over) e = wait-hands n x j.hands is
+  hands-after d a (doing.Attaches n x y is made of can done) e = move-hands n x j.hands is
+  hands-after d a (doing.Passes n x is not-can) e = move-hands n x j.hands is
+  hands-after d a (doing.Finishes lines) e = cc
+  hands-after d a _ e = refl
 
   pub deed-hands : (d : Deed) → Leaves (hands_by d j.hands) (by_deed w read now j rest d)
-  deed-hands (deed.Look n from) e = look-hands n from (observed w read now n) (seen_in (status w n.0)) e
-  deed-hands (deed.Request n a) e = ask-hands n a (desk_answer (server_at w n.0)) e
-  deed-hands (deed.Until n to) e = until-hands n (until_by (seen_of j.seen n.0) (aim_of j.seen to)) e
-  deed-hands (deed.Await n to) e = wait-hands n (λ s. is_reached (aim_of j.seen to) s.exec) (seen_in (status w n.0)) e
-  deed-hands (deed.AwaitSet n m) e = wait-hands n (holds_seen (seen_of j.seen m.0)) (seen_in (status w n.0)) e
-  deed-hands (deed.Settle n) e = wait-hands n (settles j) (seen_in (status w n.0)) e
-  deed-hands (deed.Cross c a b) e = attach-hands a (attachment_of j (deed.Cross c a b)) e
-  deed-hands (deed.Same n) e = attach-hands n (attachment_of j (deed.Same n)) e
-  deed-hands (deed.Auto n m) e = attach-hands n (attachment_of j (deed.Auto n m)) e
-  deed-hands (deed.Match n m every) e = match-hands n m (standing_at (server_at w n.0)) (match_logs w n m every) e
-  deed-hands (deed.CrossMatch n m) e = attach-hands n (attachment_of j (deed.CrossMatch n m)) e
-  deed-hands (deed.Finish lines) e = cc
+  deed-hands d = hands-after d (by_deed w read now j rest d) (attempts w read now j rest d)
 
 -- ---- what an operation changes, and the hands
 

@@ -5,3 +5,4 @@ pub mod Taking
 pub mod Stopping
 pub mod Turning
 pub mod Holding
+pub mod JobLaws

@@ -20,7 +20,6 @@ pub use Rattle.operations.specs.Commands.declared.cause.Cause.TheVariants as cau
 pub use Rattle.operations.specs.Commands.declared.line.Line.{Line}
 pub use Rattle.operations.specs.GtidSets.Sets.{holds, spans}
 pub use Rattle.operations.specs.GtidSets.declared.interval.Interval.{Interval}
-pub use Rattle.operations.specs.InstanceKeeper.declared.bridge.Bridge.{Bridge}
 pub use Rattle.job_laws.proofs.Leased.{turn-leased}
 pub use Rattle.job_laws.specs.Held.{attachment_of}
 pub use Rattle.job_laws.specs.Leases.{HasLeases, IsLeased, KeepsLeases, Leases, MayChange}
@@ -38,16 +37,12 @@ pub use Rattle.operations.specs.Matching.{standing_at}
 pub use Rattle.operations.specs.Plans.{finished}
 pub use Rattle.operations.specs.Targets.{can_attach}
 pub use Rattle.operations.specs.Turns.{Attempt, Goes, Stops, Turned, after_answer, after_ask, after_attach, after_look, after_match, after_status}
-pub use Rattle.operations.specs.Turns.{after_until, after_wait, after_wait_by, aim_of, attach_answer_of, attached_anew, bridge_at, by_deed, by_match}
-pub use Rattle.operations.specs.Turns.{by_ops, by_set, cause_by, cause_of_match, crossed, hands_after, has_all, has_from, holds_seen, is_going}
-pub use Rattle.operations.specs.Turns.{is_moved, is_reached, is_settled, is_within, next, observed, read_by, same_again, saw, settled, settles}
+pub use Rattle.operations.specs.Turns.{after_until, after_wait, after_wait_by, aim_of, attach_answer_of, bridge_at, by_deed}
+pub use Rattle.operations.specs.Turns.{by_ops, cause_by, cause_of_match, hands_after, has_all, has_from, holds_seen, is_going}
+pub use Rattle.operations.specs.Turns.{is_moved, is_reached, is_settled, is_within, next, observed, read_by, saw, settled, settles}
 pub use Rattle.operations.specs.Turns.{turned, until_by}
-pub use Rattle.operations.specs.declared.matching.Match.{Match}
 pub use Rattle.operations.specs.declared.matching.MatchFault.{MatchFault}
 pub use Rattle.operations.specs.declared.matching.MatchFault.TheVariants as matching
-pub use Rattle.operations.specs.declared.op.Aim.{Aim}
-pub use Rattle.operations.specs.declared.op.Crossing.{Crossing}
-pub use Rattle.operations.specs.declared.op.Crossing.TheVariants as cross
 pub use Rattle.operations.specs.declared.op.Op.{Op}
 pub use Rattle.operations.specs.declared.sight.Position.{Position}
 pub use Rattle.operations.specs.declared.step.JobStep.TheVariants as step
@@ -72,3 +67,7 @@ pub use Rattle.operations.specs.ServerWords.declared.changes.Ask.TheVariants as 
 pub use Rattle.operations.specs.ServerWords.declared.changes.Threads.{Threads}
 pub use Rattle.operations.specs.ServerWords.declared.status.Status.{Status}
 pub use Rattle.operations.specs.ServerWords.declared.status.StatusFault.TheVariants as seeing
+pub use Rattle.operations.proofs.Attempts.{Attempts, IsAttachment, IsMove, IsWaitFor, StopsFor, attached-server, attachment_in, attempts, crossed-of}
+pub use Rattle.operations.proofs.Attempts.{is_over, match-of, same-of, set-of}
+pub use Rattle.operations.proofs.Attempts as doing
+pub use Rattle.job_laws.proofs.Stopped.{attachment-is, move-changes}

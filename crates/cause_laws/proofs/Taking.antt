@@ -1,22 +1,19 @@
 -- What a turn comes to by the operation that is due.
 use Rattle.std.proofs.Common.{◌≡◌, ℕ, ◌+◌, ◌≤◌, Bool, true, false, cond, not, List, [], ◌∷◌, refl, sym, ◌∙◌, ap, subst, Option, Some, None, Ok, Err, Result}
 use Rattle.std.specs.Prelude.{nat_lt, is_some}
-use Rattle.cause_laws.proofs.Prelude.{Aim, Ask, AttachFault, Attempt, Befell, Cause, Coord, Deed, Done, Ended, Exchange, Goes, IsAnswered, IsShort}
-use Rattle.cause_laws.proofs.Prelude.{IsTaken, Job, MatchFault, Misses, Moment, Observation, Op, Request, Server, ServerNo, Status, Stopped, Stops}
-use Rattle.cause_laws.proofs.Prelude.{Unreachable, Waited, World, after_answer, after_ask, after_attach, after_look, after_match, after_status}
-use Rattle.cause_laws.proofs.Prelude.{after_until, after_wait, after_wait_by, aim_of, asked_until, attach_answer_of, attachment_of, by_deed}
-use Rattle.cause_laws.proofs.Prelude.{can_attach, can_reach, cause_by, change_of, changes_by, desk_answer, fails_when_spent, false≢true, first_away}
-use Rattle.cause_laws.proofs.Prelude.{first_unlike, holds_seen, is_moved, is_reached, is_settled, last_mark, logged_by, ltb-false, ltb-true, made}
-use Rattle.cause_laws.proofs.Prelude.{match_between, match_logs, matched_at, matched_behind, matched_from, next, not-false, observed, only_where}
-use Rattle.cause_laws.proofs.Prelude.{or_parts, place_of_mark, same_Some, saw, seen_in, seen_of, server_at, settled, settles, speaks_with}
-use Rattle.cause_laws.proofs.Prelude.{standing_at, status, tries, until_by}
-use Rattle.cause_laws.proofs.Prelude.asking
+use Rattle.cause_laws.proofs.Prelude.{AttachFault, Attempt, Attempts, Befell, Cause, Coord, Deed, Done, Ended, Exchange, IsAnswered, IsMove, IsShort}
+use Rattle.cause_laws.proofs.Prelude.{IsTaken, IsWaitFor, Job, MatchFault, Misses, Moment, Observation, Op, Server, ServerNo, Status, Stopped, Stops}
+use Rattle.cause_laws.proofs.Prelude.{StopsFor, Waited, World, aim_of, asked_until, attach_answer_of, attachment-is, attachment_in, attachment_of}
+use Rattle.cause_laws.proofs.Prelude.{attempts, by_deed, can_attach, can_reach, cause_by, cause_of_match, changes_by, fails_when_spent, false≢true}
+use Rattle.cause_laws.proofs.Prelude.{first_away, first_unlike, is_over, is_settled, last_mark, logged_by, ltb-false, ltb-true, made, match_between}
+use Rattle.cause_laws.proofs.Prelude.{match_logs, matched_at, matched_behind, matched_from, move-changes, not-false, only_where, or_parts}
+use Rattle.cause_laws.proofs.Prelude.{place_of_mark, same_Some, seen_in, seen_of, server_at, settled, speaks_with, status, tries}
 use Rattle.cause_laws.proofs.Prelude.attaching
-use Rattle.cause_laws.proofs.Prelude.cause
 use Rattle.cause_laws.proofs.Prelude.deed
 use Rattle.cause_laws.proofs.Prelude.matching
 use Rattle.cause_laws.proofs.Answering.{answer-memory, answer-unreached, answers-of, unasked, unread}
 use Rattle.cause_laws.proofs.Aiming.{aim-before, aim-come, attachment-with, has-come, moved-apart, set-come, set-lacks, unsettled}
+use Rattle.cause_laws.proofs.Prelude.doing
 
 -- a match of two servers that are reached isn't answered so
 match-reached : (every : ℕ) (o p : Option Server) (k : ServerNo) → match_between every o p ≡ Err (matching.Unreachable k) → ⊥
@@ -68,38 +65,33 @@ module _ (w : World) (read : ℕ) (now : Moment) (j : Job) (rest : List Op) wher
   halted : (d : Deed) (c : Cause) (o : Option Observation) → Befell w j d c → Taken d (Stops c o)
   halted d c o h = Stopped (record { cause = c; befell = h; failed = refl; changes = refl })
 
-  -- ---- a status
+  -- ---- which servers it speaks with, and what it changes
 
-  taken-look : (n : ServerNo) (from : Option ServerNo) → Taken (deed.Look n from) (by_deed w read now j rest (deed.Look n from))
-  taken-look n from = go (seen_in (status w n.0)) refl
-    where
-      moved : (s : Status) → seen_in (status w n.0) ≡ Some s → (b : Bool) → is_moved from s.source ≡ b → Taken (deed.Look n from) (after_status j rest n from (observed w read now n) s b)
-      moved s is true e =
-          let apart = moved-apart from s.source e in
-          halted (deed.Look n from) (cause.Moved n s.source) (Some (observed w read now n))
-          (record { named = apart.0; look = ap (deed.Look n) apart.1; seen = s; shown = is; is = refl; other = apart.2 })
-      moved s is false e = Done (record { going = refl; left = refl; waited = refl; wait = refl; changes = refl; come = λ k short. absurd short.misses })
+  wait-speaks : (n : ServerNo) (d : Deed) → IsWaitFor n d → speaks_with w j d ≡ Some n
+  wait-speaks n d (doing.Awaits to) = refl
+  wait-speaks n d _ = refl
 
-      go : (r : Option Status) → seen_in (status w n.0) ≡ r → Taken (deed.Look n from) (after_look j rest n from (observed w read now n) r)
-      go None is = halted (deed.Look n from) (cause.Unreachable n) (Some (observed w read now n)) (record { spoken = refl; away = unread w (server_at w n.0) is })
-      go (Some s) is = moved s is (is_moved from s.source) refl
+  wait-changes : (n : ServerNo) (d : Deed) → IsWaitFor n d → changes_by w j d ≡ []
+  wait-changes n d (doing.Awaits to) = refl
+  wait-changes n d _ = refl
 
-  -- ---- what is asked
+  move-speaks : (n : ServerNo) (d : Deed) → IsMove n d → tries w (attachment_of j d) ≡ true → speaks_with w j d ≡ Some n
+  move-speaks n d (doing.Crosses c b) h = ap (λ t. only_where t n) h
+  move-speaks n d doing.Stays h = ap (λ t. only_where t n) h
+  move-speaks n d (doing.GoesBySet m) h = ap (λ t. only_where t n) h
+  move-speaks n d (doing.GoesByMatch m) h = ap (λ t. only_where t n) h
 
-  taken-ask : (d : Deed) (n : ServerNo) (a : Ask) → speaks_with w j d ≡ Some n → changes_by w j d ≡ Request n.0 a ∷ [] → ((s : Status) → Misses j d s → ⊥)
-      → Taken d (after_ask j rest n a (desk_answer (server_at w n.0)))
-  taken-ask d n a spoken changes never = go (desk_answer (server_at w n.0)) refl
-    where
-      go : (r : Result (Unit {0}) Unreachable) → desk_answer (server_at w n.0) ≡ r → Taken d (after_ask j rest n a r)
-      go (Ok t) is = Done (record { going = refl; left = refl; waited = refl; wait = refl; changes = sym changes; come = λ k short. absurd (never short.seen short.misses) })
-      go (Err e) is = halted d (cause.Unreachable n) None (record { spoken = spoken; away = unasked (server_at w n.0) e is })
+  move-made : (n : ServerNo) (d : Deed) → IsMove n d → changes_by w j d ≡ made w (attachment_in j d)
+  move-made n d (doing.Crosses c b) = refl
+  move-made n d _ = refl
 
-  taken-until : (n : ServerNo) (to : Aim) → Taken (deed.Until n to) (by_deed w read now j rest (deed.Until n to))
-  taken-until n to = go (until_by (seen_of j.seen n.0) (aim_of j.seen to)) refl
-    where
-      go : (o : Option Coord) → until_by (seen_of j.seen n.0) (aim_of j.seen to) ≡ o → Taken (deed.Until n to) (after_until w j rest n o)
-      go None is = Done (record { going = refl; left = refl; waited = refl; wait = refl; changes = sym (ap (asked_until n) is); come = λ k short. absurd short.misses })
-      go (Some c) is = taken-ask (deed.Until n to) n (asking.StartUntil c) (ap (λ o. only_where (is_some o) n) is) (ap (asked_until n) is) (λ s h. h)
+  move-misses : (n : ServerNo) (d : Deed) (s : Status) → IsMove n d → Misses j d s → ⊥
+  move-misses n d s (doing.Crosses c b) h = h
+  move-misses n d s _ h = h
+
+  none-made : (o : Option Exchange) → ((e : Exchange) → o ≡ Some e → can_attach w e ≡ false) → made w o ≡ []
+  none-made None h = refl
+  none-made (Some e) h = ap (λ b. cond b (e ∷ []) []) (h e refl)
 
   -- ---- waits
 
@@ -110,156 +102,105 @@ module _ (w : World) (read : ℕ) (now : Moment) (j : Job) (rest : List Op) wher
       let at : seen_in (status w n.0) ≡ Some short.seen = subst (λ (m : ServerNo). seen_in (status w m.0) ≡ Some short.seen) (sym one) short.shown in
       same_Some short.seen s (sym at ∙ is)
 
-  taken-wait : (d : Deed) (n : ServerNo) (reached : Status → Bool) → speaks_with w j d ≡ Some n → fails_when_spent d ≡ true → changes_by w j d ≡ []
-      → ((s : Status) → reached s ≡ false → Misses j d s) → ((s : Status) → reached s ≡ true → Misses j d s → ⊥) → Taken d (after_wait j rest n reached (seen_in (status w n.0)))
-  taken-wait d n reached spoken fails changes short come = go (seen_in (status w n.0)) refl
+  misses-by : (n : ServerNo) (d : Deed) (s : Status) → IsWaitFor n d → is_over j d s ≡ false → Misses j d s
+  misses-by n d s (doing.Awaits to) short = aim-before (aim_of j.seen to) s.exec short
+  misses-by n d s (doing.AwaitsSet m) short = set-lacks (seen_of j.seen m.0) s short
+  misses-by n d s doing.Settles short = unsettled s (or_parts (is_settled s) (not (nat_lt (j.waited + 1) j.wait)) short).0
+
+  comes-by : (n : ServerNo) (d : Deed) (s : Status) → IsWaitFor n d → is_over j d s ≡ true → Misses j d s → (fails_when_spent d ≡ false) × (j.wait ≤ j.waited + 1)
+  comes-by n d s (doing.Awaits to) over miss = absurd (aim-come (aim_of j.seen to) s.exec over miss)
+  comes-by n d s (doing.AwaitsSet m) over miss = absurd (set-come (seen_of j.seen m.0) s over miss)
+  comes-by n d s doing.Settles over miss = (refl, has-come j s over miss)
+
+  fails-by : (n : ServerNo) (d : Deed) (s : Status) → IsWaitFor n d → is_over j d s ≡ false → nat_lt (j.waited + 1) j.wait ≡ false → fails_when_spent d ≡ true
+  fails-by n d s (doing.Awaits to) short last = refl
+  fails-by n d s (doing.AwaitsSet m) short last = refl
+  fails-by n d s doing.Settles short last =
+      absurd (false≢true (sym last ∙ not-false (nat_lt (j.waited + 1) j.wait) (or_parts (is_settled s) (not (nat_lt (j.waited + 1) j.wait)) short).1))
+
+  short-by : (n : ServerNo) (d : Deed) (s : Status) → IsWaitFor n d → seen_in (status w n.0) ≡ Some s → is_over j d s ≡ false → IsShort w j d n
+  short-by n d s is seen short = record { spoken = wait-speaks n d is; seen = s; shown = seen; misses = misses-by n d s is short }
+
+  -- ---- why it stops
+
+  refused-by : (n : ServerNo) (d : Deed) (x : Exchange) (f : AttachFault) → IsMove n d → attachment_of j d ≡ Some x → can_attach w x ≡ true → attach_answer_of w x ≡ Err f → Befell w j d (cause_by n f)
+  refused-by n d x f move is can e = go f e
     where
-      more : (s : Status) → seen_in (status w n.0) ≡ Some s → reached s ≡ false → (b : Bool) → nat_lt (j.waited + 1) j.wait ≡ b
-          → Taken d (cond b (Goes None [] (record (saw j n s) { waited = j.waited + 1 })) (Stops (cause.WaitSpent n) None))
-      more s is missed true e = Waited (record {
-        going = refl;
-        left = refl;
-        waited = refl;
-        wait = refl;
-        changes = refl;
-        server = n;
-        short = record { spoken = spoken; seen = s; shown = is; misses = short s missed };
-        more = ltb-true (j.waited + 1) j.wait e;
-      })
-      more s is missed false e = halted d (cause.WaitSpent n) None (record {
-        fails = fails;
-        short = record { spoken = spoken; seen = s; shown = is; misses = short s missed };
-        last = ltb-false (j.waited + 1) j.wait e;
-      })
+      answered : (g : AttachFault) → attach_answer_of w x ≡ Err g → IsAnswered w j d n g
+      answered g e = record { changed = move-changes n d move; exchange = x; found = is; can = can; answer = answers-of w x g can e }
 
-      by : (s : Status) → seen_in (status w n.0) ≡ Some s → (b : Bool) → reached s ≡ b → Taken d (after_wait_by j rest n s b)
-      by s is true e = Done (record {
-        going = refl;
-        left = refl;
-        waited = refl;
-        wait = refl;
-        changes = sym changes;
-        come = λ k miss. absurd (come s e (subst (Misses j d) (same-short d n k s spoken is miss) miss.misses));
-      })
-      by s is false e = more s is e (nat_lt (j.waited + 1) j.wait) refl
+      go : (g : AttachFault) → attach_answer_of w x ≡ Err g → Befell w j d (cause_by n g)
+      go attaching.Unreachable e = record {
+        spoken = move-speaks n d move (ap (tries w) is ∙ can);
+        away = subst (λ k. can_reach (server_at w k) ≡ false) (attachment-with j d n x (move-changes n d move) is) (answer-unreached w x can e);
+      }
+      go (attaching.Running at) e = (at, answered (attaching.Running at) e)
+      go (attaching.Interfered expected found) e = answered (attaching.Interfered expected found) e
+      go attaching.Loop e = answered attaching.Loop e
+      go (attaching.Errant set) e = answered (attaching.Errant set) e
+      go (attaching.Purged first) e = answered (attaching.Purged first) e
+      go attaching.Memory e = absurd (answer-memory w x can e)
 
-      go : (r : Option Status) → seen_in (status w n.0) ≡ r → Taken d (after_wait j rest n reached r)
-      go None is = halted d (cause.Unreachable n) None (record { spoken = spoken; away = unread w (server_at w n.0) is })
-      go (Some s) is = by s is (reached s) refl
+  unmatched-by : (n m : ServerNo) (every : ℕ) (f : MatchFault) → match_logs w n m every ≡ Err f → Befell w j (deed.Match n m every) (cause_of_match n f)
+  unmatched-by n m every (matching.Unreachable k) is = let away = match-away w n m every k is in record { spoken = away.0; away = away.1 }
+  unmatched-by n m every matching.NoMark is = record { other = m; every = every; match = refl; answer = is }
+  unmatched-by n m every (matching.Mismatch k) is = record { other = m; every = every; match = refl; answer = is }
 
-  taken-settle : (n : ServerNo) → Taken (deed.Settle n) (by_deed w read now j rest (deed.Settle n))
-  taken-settle n = go (seen_in (status w n.0)) refl
-    where
-      more : (s : Status) → seen_in (status w n.0) ≡ Some s → settles j s ≡ false → (b : Bool) → nat_lt (j.waited + 1) j.wait ≡ b
-          → Taken (deed.Settle n) (cond b (Goes None [] (record (saw j n s) { waited = j.waited + 1 })) (Stops (cause.WaitSpent n) None))
-      more s is missed true e = Waited (record {
-        going = refl;
-        left = refl;
-        waited = refl;
-        wait = refl;
-        changes = refl;
-        server = n;
-        short = record { spoken = refl; seen = s; shown = is; misses = unsettled s (or_parts (is_settled s) (not (nat_lt (j.waited + 1) j.wait)) missed).0 };
-        more = ltb-true (j.waited + 1) j.wait e;
-      })
-      more s is missed false e =
-          let h : nat_lt (j.waited + 1) j.wait ≡ true = not-false (nat_lt (j.waited + 1) j.wait) (or_parts (is_settled s) (not (nat_lt (j.waited + 1) j.wait)) missed).1 in
-          absurd (false≢true (sym e ∙ h))
-
-      late : (s : Status) → settles j s ≡ true → Misses j (deed.Settle n) s → j.wait ≤ j.waited + 1
-      late s e miss = has-come j s e miss
-
-      by : (s : Status) → seen_in (status w n.0) ≡ Some s → (b : Bool) → settles j s ≡ b → Taken (deed.Settle n) (after_wait_by j rest n s b)
-      by s is true e = Done (record {
-        going = refl;
-        left = refl;
-        waited = refl;
-        wait = refl;
-        changes = refl;
-        come = λ k miss. (refl, late s e (subst (Misses j (deed.Settle n)) (same-short (deed.Settle n) n k s refl is miss) miss.misses));
-      })
-      by s is false e = more s is e (nat_lt (j.waited + 1) j.wait) refl
-
-      go : (r : Option Status) → seen_in (status w n.0) ≡ r → Taken (deed.Settle n) (after_wait j rest n (settles j) r)
-      go None is = halted (deed.Settle n) (cause.Unreachable n) None (record { spoken = refl; away = unread w (server_at w n.0) is })
-      go (Some s) is = by s is (settles j s) refl
-
-  -- ---- changes of source
-
-  module _ (d : Deed) (n : ServerNo) (changed : change_of d ≡ Some n) (spoken : tries w (attachment_of j d) ≡ true → speaks_with w j d ≡ Some n)
-      (changes : changes_by w j d ≡ made w (attachment_of j d)) (never : (s : Status) → Misses j d s → ⊥) where
-    passed-by : attachment_of j d ≡ None → Taken d (Goes None [] (next j rest))
-    passed-by is = Done (record { going = refl; left = refl; waited = refl; wait = refl; changes = sym (changes ∙ ap (made w) is); come = λ k short. absurd (never short.seen short.misses) })
-
-    answered-with : (x : Exchange) (f : AttachFault) → attachment_of j d ≡ Some x → can_attach w x ≡ true → attach_answer_of w x ≡ Err f → IsAnswered w j d n f
-    answered-with x f is can e = record { changed = changed; exchange = x; found = is; can = can; answer = answers-of w x f can e }
-
-    refused-by : (x : Exchange) (f : AttachFault) → attachment_of j d ≡ Some x → can_attach w x ≡ true → attach_answer_of w x ≡ Err f → Befell w j d (cause_by n f)
-    refused-by x attaching.Unreachable is can e = record {
-      spoken = spoken (ap (tries w) is ∙ can);
-      away = subst (λ k. can_reach (server_at w k) ≡ false) (attachment-with j d n x changed is) (answer-unreached w x can e);
-    }
-    refused-by x (attaching.Running at) is can e = (at, answered-with x (attaching.Running at) is can e)
-    refused-by x (attaching.Interfered expected found) is can e = answered-with x (attaching.Interfered expected found) is can e
-    refused-by x attaching.Loop is can e = answered-with x attaching.Loop is can e
-    refused-by x (attaching.Errant set) is can e = answered-with x (attaching.Errant set) is can e
-    refused-by x (attaching.Purged first) is can e = answered-with x (attaching.Purged first) is can e
-    refused-by x attaching.Memory is can e = absurd (answer-memory w x can e)
-
-    taken-attach : (o : Option Exchange) → attachment_of j d ≡ o → Taken d (after_attach w j rest n o)
-    taken-attach None is = passed-by is
-    taken-attach (Some x) is = by (can_attach w x) refl
-      where
-        go : can_attach w x ≡ true → (r : Result (Unit {0}) AttachFault) → attach_answer_of w x ≡ r → Taken d (after_answer j rest n x r)
-        go can (Ok t) e = Done (record {
-          going = refl;
-          left = refl;
-          waited = refl;
-          wait = refl;
-          changes = sym (changes ∙ (ap (made w) is ∙ ap (λ b. cond b (x ∷ []) []) can));
-          come = λ k short. absurd (never short.seen short.misses);
-        })
-        go can (Err f) e = halted d (cause_by n f) None (refused-by x f is can e)
-
-        by : (b : Bool) → can_attach w x ≡ b → Taken d (cond b (after_answer j rest n x (attach_answer_of w x)) (Goes None [] (next j rest)))
-        by true can = go can (attach_answer_of w x) refl
-        by false can = Done (record {
-          going = refl;
-          left = refl;
-          waited = refl;
-          wait = refl;
-          changes = sym (changes ∙ (ap (made w) is ∙ ap (λ b. cond b (x ∷ []) []) can));
-          come = λ k short. absurd (never short.seen short.misses);
-        })
-
-  -- ---- a match
-
-  taken-match : (n m : ServerNo) (every : ℕ) → Taken (deed.Match n m every) (by_deed w read now j rest (deed.Match n m every))
-  taken-match n m every = go (match_logs w n m every) refl
-    where
-      go : (r : Result Coord MatchFault) → match_logs w n m every ≡ r → Taken (deed.Match n m every) (after_match j rest n m (standing_at (server_at w n.0)) r)
-      go (Ok c) is = Done (record { going = refl; left = refl; waited = refl; wait = refl; changes = refl; come = λ k short. absurd short.misses })
-      go (Err (matching.Unreachable k)) is =
-          let away = match-away w n m every k is in
-          halted (deed.Match n m every) (cause.Unreachable k) None (record { spoken = away.0; away = away.1 })
-      go (Err matching.NoMark) is = halted (deed.Match n m every) (cause.NoMark n) None (record { other = m; every = every; match = refl; answer = is })
-      go (Err (matching.Mismatch k)) is = halted (deed.Match n m every) (cause.Mismatch n k) None (record { other = m; every = every; match = refl; answer = is })
+  befell-by : (d : Deed) (c : Cause) → StopsFor w j d c → Befell w j d c
+  befell-by d c (doing.Unread n from seen) = record { spoken = refl; away = unread w (server_at w n.0) seen }
+  befell-by d c (doing.Moved n from s seen is) =
+      let apart = moved-apart from s.source is in record { named = apart.0; look = ap (deed.Look n) apart.1; seen = s; shown = seen; is = refl; other = apart.2 }
+  befell-by d c (doing.Unasked n a answer) = record { spoken = refl; away = unasked (server_at w n.0) _ answer }
+  befell-by d c (doing.Unbegun n to at until answer) = record { spoken = ap (λ o. only_where (is_some o) n) until; away = unasked (server_at w n.0) _ answer }
+  befell-by d c (doing.Unseen n x is seen) = record { spoken = wait-speaks n x is; away = unread w (server_at w n.0) seen }
+  befell-by d c (doing.Spent n x s is seen short last) =
+      record { fails = fails-by n x s is short last; short = short-by n x s is seen short; last = ltb-false (j.waited + 1) j.wait last }
+  befell-by d c (doing.Refused n x e f is made of can answer) = refused-by n x e f is (sym (attachment-is j n x is) ∙ made) can answer
+  befell-by d c (doing.Unmatched n m every f found) = unmatched-by n m every f found
 
   -- ---- an operation
 
+  taken-by : (d : Deed) (a : Attempt) → Attempts w read now j rest d a → Taken d a
+  taken-by d a (doing.Misses n from c why) = halted (deed.Look n from) c _ (befell-by (deed.Look n from) c why)
+  taken-by d a (doing.Fails x c why) = halted x c None (befell-by x c why)
+  taken-by d a (doing.Begins n to c until) = Done (record { going = refl; left = refl; waited = refl; wait = refl; changes = sym (ap (asked_until n) until); come = λ k short. absurd short.misses })
+  taken-by d a (doing.Omits n to none) = Done (record { going = refl; left = refl; waited = refl; wait = refl; changes = sym (ap (asked_until n) none); come = λ k short. absurd short.misses })
+  taken-by d a (doing.Waits n x s is seen short more) = Waited (record {
+    going = refl;
+    left = refl;
+    waited = refl;
+    wait = refl;
+    changes = refl;
+    server = n;
+    short = short-by n x s is seen short;
+    more = ltb-true (j.waited + 1) j.wait more;
+  })
+  taken-by d a (doing.Reaches n x s is seen over) = Done (record {
+    going = refl;
+    left = refl;
+    waited = refl;
+    wait = refl;
+    changes = sym (wait-changes n x is);
+    come = λ k miss. comes-by n x s is over (subst (Misses j x) (same-short x n k s (wait-speaks n x is) seen miss) miss.misses);
+  })
+  taken-by d a (doing.Attaches n x e is found of can done) = Done (record {
+    going = refl;
+    left = refl;
+    waited = refl;
+    wait = refl;
+    changes = sym (move-made n x is ∙ (ap (made w) found ∙ ap (λ b. cond b (e ∷ []) []) can));
+    come = λ k short. absurd (move-misses n x short.seen is short.misses);
+  })
+  taken-by d a (doing.Passes n x is not-can) = Done (record {
+    going = refl;
+    left = refl;
+    waited = refl;
+    wait = refl;
+    changes = sym (move-made n x is ∙ none-made (attachment_in j x) not-can);
+    come = λ k short. absurd (move-misses n x short.seen is short.misses);
+  })
+  taken-by d a (doing.Finishes lines) = Ended (record { lines = lines; finish = refl; done = refl; changes = refl })
+  taken-by d a _ = Done (record { going = refl; left = refl; waited = refl; wait = refl; changes = refl; come = λ k short. absurd short.misses })
+
   pub deed-taken : (d : Deed) → IsTaken w j rest d (settled j (by_deed w read now j rest d))
-  deed-taken (deed.Look n from) = taken-look n from
-  deed-taken (deed.Request n a) = taken-ask (deed.Request n a) n a refl refl (λ s h. h)
-  deed-taken (deed.Until n to) = taken-until n to
-  deed-taken (deed.Await n to) =
-      taken-wait (deed.Await n to) n (λ s. is_reached (aim_of j.seen to) s.exec) refl refl refl (λ s e. aim-before (aim_of j.seen to) s.exec e) (λ s e h. aim-come (aim_of j.seen to) s.exec e h)
-  deed-taken (deed.AwaitSet n m) = taken-wait (deed.AwaitSet n m) n (holds_seen (seen_of j.seen m.0)) refl refl refl (set-lacks (seen_of j.seen m.0)) (set-come (seen_of j.seen m.0))
-  deed-taken (deed.Settle n) = taken-settle n
-  deed-taken (deed.Cross c a b) =
-      taken-attach (deed.Cross c a b) a refl (λ h. ap (λ t. only_where t a) h) refl (λ s h. h) (attachment_of j (deed.Cross c a b)) refl
-  deed-taken (deed.Same n) = taken-attach (deed.Same n) n refl (λ h. ap (λ t. only_where t n) h) refl (λ s h. h) (attachment_of j (deed.Same n)) refl
-  deed-taken (deed.Auto n m) = taken-attach (deed.Auto n m) n refl (λ h. ap (λ t. only_where t n) h) refl (λ s h. h) (attachment_of j (deed.Auto n m)) refl
-  deed-taken (deed.Match n m every) = taken-match n m every
-  deed-taken (deed.CrossMatch n m) =
-      taken-attach (deed.CrossMatch n m) n refl (λ h. ap (λ t. only_where t n) h) refl (λ s h. h) (attachment_of j (deed.CrossMatch n m)) refl
-  deed-taken (deed.Finish lines) = Ended (record { lines = lines; finish = refl; done = refl; changes = refl })
+  deed-taken d = taken-by d (by_deed w read now j rest d) (attempts w read now j rest d)

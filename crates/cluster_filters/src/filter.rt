@@ -1,11 +1,13 @@
 //! One filter of a list.
 
-ghost use Rattle.std.specs.Prelude.{◌≡◌, true, false, IfOk, IfErr, OnOk, IfSome, option_map};
+ghost use Rattle.std.specs.Prelude.{◌≡◌, true, false, IfOk, IfErr, OnOk, IfSome, map, option_map};
 ghost use Rattle.cluster_filters.specs.Faults.{bad_place};
 ghost use Rattle.cluster_filters.specs.Forms.{behind, form_of, form_seen, form_matches, has_pattern};
+ghost use Rattle.cluster_filters.specs.Judging.{form_sought, judged_by};
 
 use crate::Memory;
 use crate::fault::FilterFault;
+use crate::judge::{FormSearch, Judged};
 use crate::pattern::Pattern;
 use std::alloc::Global;
 
@@ -44,7 +46,8 @@ impl Filter {
 
     /// Whether it matches the cluster with this name and this alias.
     pub(crate) fn matches(&self, alloc: Global, name: &str, alias: &str) -> Result<bool, Memory>
-        ensures { IfOk result (λ matched. matched ≡ form_matches name.now alias.now (form_seen self.now)) }
+        ensures { IfOk result (λ matched. matched
+            ≡ form_matches name.now alias.now (form_seen self.now)) }
     {
         match self {
             Filter::Everything => Ok(true),
@@ -52,6 +55,27 @@ impl Filter {
             Filter::AliasHas(pattern) => pattern.found(alloc, alias),
             Filter::NameHas(pattern) => pattern.found(alloc, name),
         }
+    }
+
+    // The search for it. `Memory` only if memory runs out.
+    fn search(&self, alloc: Global) -> Result<FormSearch<'_>, Memory>
+        ensures { IfOk result (λ s. form_sought s ≡ form_seen self.now) }
+    {
+        match self {
+            Filter::Everything => Ok(FormSearch::Everything),
+            Filter::AliasIs(text) => Ok(FormSearch::AliasIs(text.as_str())),
+            Filter::AliasHas(pattern) => Ok(FormSearch::AliasHas(pattern.search(alloc)?)),
+            Filter::NameHas(pattern) => Ok(FormSearch::NameHas(pattern.search(alloc)?)),
+        }
+    }
+
+    /// Judges each cluster, by one search. `Memory` only if memory runs out.
+    pub(crate) fn judge(&self, alloc: Global, clusters: &mut [Judged<'_>]) -> Result<(), Memory>
+        ensures { OnOk result (clusters.new ≡ map (judged_by (form_seen self.now)) clusters.old) }
+    {
+        let mut search = self.search(alloc)?;
+        search.judge_each(clusters);
+        Ok(())
     }
 }
 

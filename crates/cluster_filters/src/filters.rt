@@ -1,12 +1,14 @@
 //! The list of filters by which a cluster is allowed.
 
-ghost use Rattle.std.specs.Prelude.{◌≡◌, true, false, Some, None, IfOk, IfErr, OnOk, IfSome};
+ghost use Rattle.std.specs.Prelude.{◌≡◌, true, false, Some, None, IfOk, IfErr, OnOk, IfSome, map};
 ghost use Rattle.cluster_filters.specs.Faults.{bad_place};
 ghost use Rattle.cluster_filters.specs.Forms.{form_of, has_pattern, texts_of, forms_of, first_bad, some_matches};
+ghost use Rattle.cluster_filters.specs.Judging.{judged};
 
 use crate::Memory;
 use crate::fault::FilterFault;
 use crate::filter::Filter;
+use crate::judge::Judged;
 use std::alloc::Global;
 use std::marker::Model;
 
@@ -69,5 +71,16 @@ impl Filters {
             }
         }
         Ok(false)
+    }
+
+    /// Judges clusters: each also matches if some form matches it. Each form goes from cluster to cluster, so that its
+    /// regular expression is prepared once. `Memory` only if memory runs out.
+    pub fn judge(&self, alloc: Global, clusters: &mut [Judged<'_>]) -> Result<(), Memory>
+        ensures { OnOk result (clusters.new ≡ map (judged self.now) clusters.old) }
+    {
+        for filter in &self.filters {
+            filter.judge(alloc, clusters)?;
+        }
+        Ok(())
     }
 }

@@ -4,10 +4,12 @@
 mod fault;
 mod filter;
 mod filters;
+mod judge;
 mod pattern;
 
 pub use fault::FilterFault;
 pub use filters::Filters;
-pub use pattern::Pattern;
+pub use judge::Judged;
+pub use pattern::{Pattern, Search};
 /// Out of memory.
 pub use std::alloc::AllocError as Memory;

@@ -6,7 +6,7 @@ ghost use Rattle.cluster_filters.specs.Faults.{bad_place};
 
 use crate::Memory;
 use crate::fault::FilterFault;
-use regex::{Error, Regex};
+use regex::{Error, Matcher, Regex};
 use std::alloc::Global;
 use std::marker::Model;
 
@@ -55,11 +55,50 @@ impl Pattern {
         }
     }
 
+    /// A search of it, for many texts. `Err` means out of memory.
+    pub fn search(&self, alloc: Global) -> Result<Search<'_>, Memory>
+        ensures { IfOk result (λ search. search ≡ self.now) }
+    {
+        let matcher = self.regex.matcher(alloc)?;
+        Ok(Search {
+            pattern: self,
+            matcher,
+        })
+    }
+
     /// Whether it is found anywhere in the text. `Memory` only if memory runs out.
     pub fn found(&self, alloc: Global, text: &str) -> Result<bool, Memory>
         ensures { IfOk result (λ found. found ≡ is_found self.now text.now) }
     {
-        let mut matcher = self.regex.matcher(alloc)?;
-        Ok(matcher.is_match(text))
+        Ok(self.search(alloc)?.found(text))
+    }
+}
+
+/// The search of one pattern in many texts, which contracts see as the pattern's text. What it learns in a text it has
+/// for the next.
+#[derive(Drop)]
+pub struct Search<'p> {
+    pattern: &'p Pattern,
+    matcher: Matcher<'p>,
+}
+
+impl<'p> Model for Search<'p> {
+    ghost use Rattle.std.specs.Prelude.{ℕ, List};
+    ghost use Rattle.cluster_filters.specs.Searches.{IsSearchOf};
+
+    ghost Value = { List ℕ };
+
+    ghost view = { λ s. s.pattern.now };
+
+    ghost invariant = { λ s. IsSearchOf s.pattern.now s.matcher };
+}
+
+impl<'p> Search<'p> {
+    /// Whether the pattern is found anywhere in the text. It takes no memory.
+    pub fn found(&mut self, text: &str) -> bool
+        ensures found { result ≡ is_found self.old text.now }
+        ensures same { self.new ≡ self.old }
+    {
+        self.matcher.is_match(text)
     }
 }

@@ -3,11 +3,12 @@ use Rattle.std.specs.Prelude.{Bool, true, false, List, ◌&&◌, ◌||◌, not, 
 use Rattle.std.specs.Option.{option_map_or}
 use Rattle.std.specs.Str.{bytes_eq}
 use Rattle.clap.specs.Walk.{Row, Text, first_of}
-use Rattle.commands.specs.declared.needs.Needs.{Needs}
-use Rattle.commands.specs.Names.{name_of, needs_of, nothing}
-use Rattle.command_routes.specs.declared.route.Route.{Route}
-use Rattle.command_routes.specs.declared.route.Route.TheVariants.{Discovers, Forgets, Asks, Decides, Begins, Recovers, TakesOver}
-use Rattle.command_routes.specs.Routes.{route_of}
+use Rattle.commands.specs.declared.arguments.Needs.{Needs}
+use Rattle.commands.specs.Names.{name_of, needs_of}
+use Rattle.commands.specs.Table.{nothing}
+use Rattle.commands.specs.declared.route.Route.{Route}
+use Rattle.commands.specs.declared.route.Route.TheVariants.{Discovers, Forgets, Asks, Decides, Begins, Recovers, TakesOver}
+use Rattle.commands.specs.Routes.{route_of}
 use Rattle.command_line.specs.declared.command.Own.{Own}
 use Rattle.command_line.specs.declared.command.Own.TheVariants.{Run, Generate, Dump, Live}
 use Rattle.command_line.specs.declared.usage.Usage.{Usage}

@@ -1,7 +1,7 @@
 -- What an accepted command line has.
 use Rattle.std.specs.Prelude.{◌≡◌, ◌≤◌, Bool, true, ◌&&◌, ◌||◌, not, is_some, length, IfSome}
 use Rattle.cluster_filters.specs.Patterns.{is_pattern}
-use Rattle.commands.specs.declared.needs.Needs.{Needs}
+use Rattle.commands.specs.declared.arguments.Needs.{Needs}
 use Rattle.scenario_generator.specs.Bounds.{is_drawable}
 use Rattle.command_line.specs.declared.parts.Drawing.{Drawing}
 use Rattle.command_line.specs.declared.parts.Places.{Places}

@@ -9,8 +9,7 @@ ghost use Rattle.command_line.specs.Usages.{usage_fault};
 use crate::options::text_of;
 use crate::usage::Usage;
 use clap::ArgMatches;
-use command_routes::Route;
-use commands::{CommandName, Needs};
+use commands::{CommandName, Needs, Route};
 use orch_base::OwnedText;
 use std::alloc::Global;
 

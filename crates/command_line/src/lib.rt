@@ -10,10 +10,9 @@ mod value;
 mod words;
 
 pub use command::{Own, is_taken_word};
-pub use command_routes;
 pub use laws::taken_words_are_sound;
-/// Out of memory.
-pub use orch_base::Memory;
 pub use parts::{Drawing, Places};
 pub use usage::Usage;
 pub use words::places;
+/// Out of memory.
+pub use orch_base::Memory;

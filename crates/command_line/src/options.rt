@@ -43,7 +43,8 @@ fn with_option<'a>(
     command: Command<'a>,
     name: &'a str,
 ) -> Result<Command<'a>, Memory>
-    ensures { IfOk result (λ c. app_of c ≡ with_rule (app_of command.entry) (long_rule name.entry.now)) }
+    ensures { IfOk result (λ c. app_of c
+        ≡ with_rule (app_of command.entry) (long_rule name.entry.now)) }
 {
     command.arg(Arg::new(alloc, name).long(name))
 }
@@ -54,7 +55,8 @@ fn with_options<'a>(
     mut command: Command<'a>,
     names: &[&'a str],
 ) -> Result<Command<'a>, Memory>
-    ensures { IfOk result (λ c. app_of c ≡ with_options (app_of command.entry) (map (λ s. s.now) names.now)) }
+    ensures { IfOk result (λ c. app_of c
+        ≡ with_options (app_of command.entry) (map (λ s. s.now) names.now)) }
 {
     for name in names {
         command = with_option(alloc, command, name)?;
@@ -63,7 +65,8 @@ fn with_options<'a>(
 }
 
 fn with_flag<'a>(alloc: Global, command: Command<'a>, name: &'a str) -> Result<Command<'a>, Memory>
-    ensures { IfOk result (λ c. app_of c ≡ with_rule (app_of command.entry) (flag_rule name.entry.now)) }
+    ensures { IfOk result (λ c. app_of c
+        ≡ with_rule (app_of command.entry) (flag_rule name.entry.now)) }
 {
     let flag = Arg::new(alloc, name).long(name).action(ArgAction::SetTrue);
     command.arg(flag)
@@ -89,7 +92,8 @@ fn orch<'a>(alloc: Global) -> Result<Command<'a>, Memory>
 
 /// The arguments as texts. Bytes that aren't UTF-8 are `BadWords`.
 pub(crate) fn texts_of(alloc: Global, words: &[Vec<u8>]) -> Result<Vec<&str>, Usage>
-    ensures { Gives (λ v. map (λ s. s.now) v.items) usage_fault result (texts_of (map (λ w. w.items) words.now)) }
+    ensures { Gives (λ v. map (λ s. s.now) v.items) usage_fault result
+        (texts_of (map (λ w. w.items) words.now)) }
 {
     let mut texts = Vec::new(alloc);
     for word in words {

@@ -23,7 +23,8 @@ fn name_in(alloc: Global, text: &str) -> Result<Name, Usage>
 
 /// A server's name, if one is given.
 pub(crate) fn maybe_name(alloc: Global, text: Option<&str>) -> Result<Option<Name>, Usage>
-    ensures { Gives (λ n. n) usage_fault result (maybe name_in (option_map (λ s. s.now) text.entry)) }
+    ensures { Gives (λ n. n) usage_fault result
+        (maybe name_in (option_map (λ s. s.now) text.entry)) }
 {
     match text {
         None => Ok(None),
@@ -42,7 +43,8 @@ fn rule_in(text: &str) -> Result<Rule, Usage>
 
 /// A rule of promotion, if one is given.
 pub(crate) fn maybe_rule(text: Option<&str>) -> Result<Option<Rule>, Usage>
-    ensures { Gives (λ r. r) usage_fault result (maybe rule_in (option_map (λ s. s.now) text.entry)) }
+    ensures { Gives (λ r. r) usage_fault result
+        (maybe rule_in (option_map (λ s. s.now) text.entry)) }
 {
     match text {
         None => Ok(None),
@@ -52,7 +54,8 @@ pub(crate) fn maybe_rule(text: Option<&str>) -> Result<Option<Rule>, Usage>
 
 /// A text, if one is given.
 pub(crate) fn maybe_text(alloc: Global, text: Option<&str>) -> Result<Option<OwnedText>, Usage>
-    ensures { Gives (λ l. l) usage_fault result (maybe text_in (option_map (λ s. s.now) text.entry)) }
+    ensures { Gives (λ l. l) usage_fault result
+        (maybe text_in (option_map (λ s. s.now) text.entry)) }
 {
     match text {
         None => Ok(None),
@@ -66,7 +69,8 @@ pub(crate) fn maybe_text_within(
     most: usize,
     text: Option<&str>,
 ) -> Result<Option<OwnedText>, Usage>
-    ensures { Gives (λ l. l) usage_fault result (maybe (text_within most) (option_map (λ s. s.now) text.entry)) }
+    ensures { Gives (λ l. l) usage_fault result
+        (maybe (text_within most) (option_map (λ s. s.now) text.entry)) }
 {
     match text {
         None => Ok(None),
@@ -89,7 +93,8 @@ fn pattern_in(alloc: Global, text: &str) -> Result<OwnedText, Usage>
 
 /// A regular expression as its text, if one is given.
 pub(crate) fn maybe_pattern(alloc: Global, text: Option<&str>) -> Result<Option<OwnedText>, Usage>
-    ensures { Gives (λ l. l) usage_fault result (maybe pattern_in (option_map (λ s. s.now) text.entry)) }
+    ensures { Gives (λ l. l) usage_fault result
+        (maybe pattern_in (option_map (λ s. s.now) text.entry)) }
 {
     match text {
         None => Ok(None),
@@ -109,7 +114,8 @@ fn number_in(low: u64, high: u64, text: &str) -> Result<u64, Usage>
 
 /// A number from `low` to `high`, or its default if none is given.
 pub(crate) fn number_or(default: u64, low: u64, high: u64, text: Option<&str>) -> Result<u64, Usage>
-    ensures { Gives (λ n. n) usage_fault result (or_default default (number_in low high) (option_map (λ s. s.now) text.entry)) }
+    ensures { Gives (λ n. n) usage_fault result
+        (or_default default (number_in low high) (option_map (λ s. s.now) text.entry)) }
 {
     match text {
         None => Ok(default),
@@ -119,7 +125,8 @@ pub(crate) fn number_or(default: u64, low: u64, high: u64, text: Option<&str>) -
 
 /// The same, for a smaller range.
 pub(crate) fn count_or(default: u32, low: u32, high: u32, text: Option<&str>) -> Result<u32, Usage>
-    ensures { Gives (λ n. n) usage_fault result (or_default default (number_in low high) (option_map (λ s. s.now) text.entry)) }
+    ensures { Gives (λ n. n) usage_fault result
+        (or_default default (number_in low high) (option_map (λ s. s.now) text.entry)) }
 {
     match text {
         None => Ok(default),
@@ -141,7 +148,8 @@ fn duration_in(text: &str) -> Result<u64, Usage>
 
 /// A duration in seconds, if one is given: a number, and at most one letter of s, m, h, d and w; at most 365 days.
 pub(crate) fn maybe_duration(text: Option<&str>) -> Result<Option<u64>, Usage>
-    ensures { Gives (λ n. n) usage_fault result (maybe duration_in (option_map (λ s. s.now) text.entry)) }
+    ensures { Gives (λ n. n) usage_fault result
+        (maybe duration_in (option_map (λ s. s.now) text.entry)) }
 {
     match text {
         None => Ok(None),

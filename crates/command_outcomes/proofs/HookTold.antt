@@ -2,9 +2,9 @@
 use Rattle.std.proofs.Common.{◌<◌, ◌-◌, ◌^◌, ℕ, List, [], ◌∷◌, Option}
 use Rattle.std.specs.Prelude.{map}
 use Rattle.std.proofs.lemmas.List.Elements.{All-map}
-use Rattle.recovery_permits.specs.AuditLog.Audits.{AuditState, begun}
-use Rattle.recovery_permits.specs.InstanceKeeper.Book.{BookState}
-use Rattle.recovery_permits.specs.InstanceKeeper.Leases.{taken}
+use Rattle.recovery_core.specs.AuditLog.Audits.{AuditState, begun}
+use Rattle.recovery_core.specs.InstanceKeeper.Book.{BookState}
+use Rattle.recovery_core.specs.InstanceKeeper.Leases.{taken}
 use Rattle.recovery_core.specs.Begun.{BeginInTurn, CanBegin}
 use Rattle.recovery_core.specs.Scans.{HasRoom}
 use Rattle.recovery_core.specs.Tries.{Begins}

@@ -2,3 +2,5 @@
 pub use Rattle.unended_jobs.proofs.Going
 pub use Rattle.unended_jobs.proofs.Hooked
 pub use Rattle.unended_jobs.proofs.Looking
+pub use Rattle.unended_jobs.proofs.Numbers
+pub use Rattle.unended_jobs.proofs.Turning

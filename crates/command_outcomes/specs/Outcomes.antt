@@ -1,11 +1,11 @@
 -- Commands: what each answers, and what it changes.
 use Rattle.std.specs.Prelude.{◌+◌, ℕ, true, map, unwrap_or, List, [], ◌∷◌, Option, Some, None, Result, Ok, Err}
-use Rattle.command_outcomes.specs.Prelude.{Asks, Attempt, AuditState, Begins as RecoveryBegins, BookState, Change, Command, CommandTurn, Decided}
-use Rattle.command_outcomes.specs.Prelude.{Decides, Decision, Discovers, Forgets, Kind, Line, Observation, Planner, Recovers, Refusal, Reply, Route}
-use Rattle.command_outcomes.specs.Prelude.{ServerNo, Staged, Status as Seen, TakesOver, Terms, Unended, UnknownInstance, Unreachable, World, allowed}
-use Rattle.command_outcomes.specs.Prelude.{attempt_of, busy, decided_of, discovery_change, given_try, instance_at, job_by, kind_try, label_at}
-use Rattle.command_outcomes.specs.Prelude.{leases_by, lines_of, next_count, option_to_list, permitted, put_recovery, recovery_try, refusal_by}
-use Rattle.command_outcomes.specs.Prelude.{route_of, rows_of, scanned, unknown_in}
+use Rattle.command_outcomes.specs.Prelude.{Asks, Attempt, AuditState, Begins as RecoveryBegins, BookState, Change, Command, CommandTurn, Decided, Decides}
+use Rattle.command_outcomes.specs.Prelude.{Decision, Discovers, Forgets, Kind, Line, Observation, Planner, Recovers, Refusal, Reply, Route, ServerNo, Staged}
+use Rattle.command_outcomes.specs.Prelude.{Status as Seen, TakesOver, Terms, Unended, UnknownInstance, Unreachable, World, allowed, attempt_of, busy}
+use Rattle.command_outcomes.specs.Prelude.{decided_of, discovery_change, given_try, instance_at, kind_try, label_at, lines_of, next_count, option_to_list}
+use Rattle.command_outcomes.specs.Prelude.{permitted, put_recovery, recovery_try, route_of, rows_of, scanned, unknown_in}
+use Rattle.command_outcomes.specs.Jobs.{job_by, leases_by, refusal_by}
 use Rattle.command_outcomes.specs.Prelude.TheVariants.{Begins}
 use Rattle.command_outcomes.specs.Prelude.answered
 use Rattle.command_outcomes.specs.Prelude.change

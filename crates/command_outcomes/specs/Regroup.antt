@@ -1,5 +1,4 @@
 -- What is passed on of regroup: its types and definitions.
-pub use Rattle.regroup.specs.declared
 pub use Rattle.regroup.specs.Commands
 pub use Rattle.regroup.specs.Permits
 pub use Rattle.regroup.specs.Plans

@@ -1,24 +1,24 @@
 //! What a command answers, and what it changes.
 
 ghost use Rattle.std.specs.Prelude.{◌≡◌, ◌<◌, ◌≤◌, ◌^◌, ◌∷◌, [], All, IfOk, IfSome, IsTrue, length};
-ghost use Rattle.command_outcomes.specs.Prelude.{allowed, discovery_change, instance_at, is_within, option_to_list, planner_for};
+ghost use Rattle.command_outcomes.specs.Prelude.{allowed, discovery_change, instance_at, is_within, option_to_list};
 ghost use Rattle.command_outcomes.specs.Outcomes.{begun_by, decision, discovered, forgotten, next_reading, outcome_of, question, refusal, removal, removal_refusal};
 ghost use Rattle.command_outcomes.specs.Ids.{LeavesIds};
 ghost use Rattle.command_outcomes.specs.CommandsBy.{outcome};
 
 use crate::audit_log::Audit;
 use crate::book_views::book_forest;
-use crate::commands::{Command, CommandTurn, Line, Lines, Refusal};
+use crate::commands::{Command, CommandTurn, Decision, Line, Lines, Planner, Refusal, Route};
 use crate::instance_keeper_items::{Book, Change, Instance, Key, Observation, Row, Seen, Table};
-use crate::orch_base::{Kind, Memory, Moment, ServerNo};
+use crate::jobs::{job, permit as permit_job};
+use crate::orch_base::{Kind, Listed, Memory, Moment, ServerNo};
+use crate::permission_items::PermitFault;
 use crate::recovering::begin_by_hand;
 use crate::server_model::World;
 use crate::turns::Reply;
 use crate::{Configuration, read_server};
 use asking_commands::{AnswerFault, answer, permit};
 use book_commands::{Decided, Effect, decide, rows_of};
-use command_jobs::{PermitFault, job, leases, permit as permit_job};
-use command_routes::{Decision, Planner, Route};
 use recovery_core::Begun;
 use std::alloc::Global;
 use std::marker::Model;
@@ -59,29 +59,7 @@ impl Model for Beginning {
 }
 
 /// Recoveries that begin one after another, which contracts see as a list.
-#[derive(Drop)]
-pub struct Recoveries {
-    /// In the order in which they begin.
-    pub list: Vec<Begun>,
-}
-
-impl Model for Recoveries {
-    ghost use Rattle.std.specs.Prelude.{List};
-    ghost use Rattle.recovery_core.specs.Tries.{Begins};
-
-    ghost Value = { List Begins };
-
-    ghost view = { λ a. a.list.items };
-}
-
-impl Recoveries {
-    /// These recoveries. It takes no memory.
-    pub fn new(list: Vec<Begun>) -> Recoveries
-        ensures { result ≡ list.items }
-    {
-        Recoveries { list }
-    }
-}
+pub type Recoveries = Listed<Begun>;
 
 /// What a command or a scan makes of the book, the audit and the jobs.
 #[derive(Drop)]
@@ -310,12 +288,11 @@ fn begin_by(
     command: Command,
     planner: Planner,
 ) -> Result<Outcome, Memory>
-    requires { planner_for command.name ≡ Some planner }
     ensures { IfOk result (λ out. outcome out ≡ begun_by world.now book.now numbers command
         planner) }
 {
     let forest = book_forest(alloc, book)?;
-    match permit_job(
+    let list = match permit_job(
         alloc,
         book,
         &forest,
@@ -325,15 +302,14 @@ fn begin_by(
         numbers.moment,
         numbers.every,
     ) {
-        Ok(()) => {}
+        Ok(list) => list,
         Err(PermitFault::Refused(why)) => return Ok(refused(alloc, numbers.reads, why)),
         Err(PermitFault::Memory) => return Err(Memory),
-    }
+    };
     if numbers.last_job == u64::MAX {
         return Err(Memory);
     }
     let number = numbers.last_job + 1;
-    let list = leases(alloc, book, &forest, world, command, planner)?;
     let job = job(
         alloc,
         book,

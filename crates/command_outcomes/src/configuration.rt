@@ -2,7 +2,8 @@
 
 use crate::audit_log::Periods;
 use crate::commands::Answers;
-use scenarios::{Aliases, Blocks, Hooks};
+use crate::orch_base::ServerNo;
+use scenarios::{Aliases, Blocks, SharedHooks};
 
 /// What holds throughout a run.
 #[derive(Drop)]
@@ -21,7 +22,7 @@ pub struct Configuration {
     /// The same for a dead intermediate master (RecoverIntermediateMasterClusterFilters).
     pub intermediate: Answers,
     /// The hooks of recoveries that a command or a scan begins.
-    pub hooks: Hooks,
+    pub hooks: SharedHooks,
     /// The clusters' aliases, for the hooks.
     pub aliases: Aliases,
 }
@@ -31,7 +32,7 @@ impl Periods for Configuration {
 
     ghost period_of = { period_by };
 
-    fn period(&self, cluster: &str) -> u64 {
-        self.blocks.period(self.block, cluster)
+    fn period(&self, server: ServerNo, cluster: &str) -> u64 {
+        self.blocks.period_at(self.block, server, cluster)
     }
 }

@@ -14,10 +14,11 @@ use crate::book_views::{book_forest, label_at};
 use crate::command::{Numbers, Outcome, Recoveries, Update, refused};
 use crate::instance_keeper_items::{Book, Change, Row};
 use crate::orch_base::{Kind, Memory, ServerNo};
+use crate::permission_items::PermitFault;
 use crate::server_model::World;
 use crate::telling::{all_told, with_told};
 use crate::turns::Reply;
-use recovery_core::{Ask, Begun, PermitFault, Scan, Terms, scan, try_begin};
+use recovery_core::{Ask, Begun, Scan, Terms, scan, try_begin};
 use std::alloc::Global;
 
 // Each entry is kept.
@@ -117,7 +118,7 @@ pub(crate) fn begin_by_hand(
         kind,
         failed,
         designated,
-        block: configuration.period(label_at(book, failed).as_str()),
+        block: configuration.period(failed, label_at(book, failed).as_str()),
         wait: numbers.wait,
         job: number,
         moment: numbers.moment,

@@ -6,7 +6,7 @@ ghost use Rattle.command_outcomes.specs.HookTelling.{hooks_by, told_of, with_tol
 use crate::Configuration;
 use crate::hook_texts::Values;
 use crate::instance_keeper_items::Book;
-use crate::orch_base::{Code, Memory, Name, OwnedText};
+use crate::orch_base::{Code, Memory, Name, OwnedText, ServerNo};
 use crate::recovery_hooks::{HookRun, code_word};
 use recovery_core::Begun;
 use std::alloc::Global;
@@ -20,6 +20,7 @@ fn text_of(alloc: Global, text: &str) -> Result<OwnedText, Memory>
 fn told_of(
     alloc: Global,
     configuration: &Configuration,
+    server: ServerNo,
     failed: &Name,
     cluster: &str,
     code: Code,
@@ -30,7 +31,7 @@ fn told_of(
         failure_type: text_of(alloc, code_word(code))?,
         failed: failed.copy(alloc)?,
         cluster: text_of(alloc, cluster)?,
-        alias: text_of(alloc, configuration.aliases.alias(cluster))?,
+        alias: text_of(alloc, configuration.aliases.alias_at(server, cluster))?,
         successor: None,
         successful: false,
     })
@@ -51,8 +52,9 @@ fn hooks_of(
     let Some(failed) = book.names().get(entry.failed.0 as usize) else {
         return Ok(None);
     };
-    let told = told_of(alloc, configuration, failed, entry.cluster.as_str(), code)?;
-    Ok(Some(HookRun::begin(alloc, &configuration.hooks, told)?))
+    let (server, cluster) = (entry.failed, entry.cluster.as_str());
+    let told = told_of(alloc, configuration, server, failed, cluster, code)?;
+    Ok(Some(HookRun::begin(&configuration.hooks, told)?))
 }
 
 /// The recovery with its hooks, which get its failed server.

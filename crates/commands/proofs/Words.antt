@@ -6,7 +6,8 @@ use Rattle.std.specs.Cmp.Lexicographic.{same_text}
 use Rattle.std.proofs.lemmas.Option.{same_Some}
 use Rattle.commands.specs.declared.name.CommandName.{CommandName}
 use Rattle.commands.specs.declared.name.CommandName.TheVariants.{MoveUp}
-use Rattle.commands.specs.Names.{name_of, names, word_of}
+use Rattle.commands.specs.Names.{name_of, word_of}
+use Rattle.commands.specs.Table.{names}
 
 pub name_of-word_of : (name : CommandName) → name_of (word_of name) ≡ Some name
 unfolding name_of

@@ -7,7 +7,8 @@ ghost use Rattle.commands.specs.Names.{covers, name_of, needs_of, uses_of, word_
 /// Each command's word is read as that command, and no other text is.
 pub fn words_are_read()
     ensures read { (name : CommandName) → name_of (word_of name) ≡ Some name }
-    ensures only { (text : List ℕ) (name : CommandName) → name_of text ≡ Some name → text ≡ word_of name }
+    ensures only { (text : List ℕ) (name : CommandName) → name_of text ≡ Some name
+        → text ≡ word_of name }
 {}
 
 /// Each key that a command needs it uses.

@@ -3,7 +3,9 @@
 ghost use Rattle.std.specs.Prelude.{◌≡◌, ◌↔◌, IfOk, IsTrue};
 
 use crate::binlog_coords_items::Coord;
-use crate::orch_base::{Code, Ending, Kind, Moment, OwnedText, Rule, ServerNo, Version};
+use crate::orch_base::{
+    Code, Copied, Ending, Kind, Listed, Moment, OwnedText, Rule, ServerNo, Version,
+};
 use crate::{Cause, Memory, Refusal};
 use server_words::Spot;
 use std::alloc::Global;
@@ -189,11 +191,8 @@ pub enum Line {
     },
 }
 
-impl Line {
-    /// The same line once more. `Err` means out of memory.
-    pub fn copy(&self, alloc: Global) -> Result<Line, Memory>
-        ensures { IfOk result (λ l. l ≡ self.now) }
-    {
+impl Copied for Line {
+    fn copy(&self, alloc: Global) -> Result<Line, Memory> {
         Ok(match self {
             Line::Server(no) => Line::Server(*no),
             Line::NoMaster => Line::NoMaster,
@@ -268,56 +267,4 @@ impl Line {
 }
 
 /// Lines in order, which contracts see as that list.
-pub struct Lines {
-    lines: Vec<Line>,
-}
-
-impl Drop for Lines {
-    fn drop(self) {
-        let Lines { lines: _lines } = self;
-    }
-}
-
-impl Model for Lines {
-    ghost use Rattle.std.specs.Prelude.{List};
-    ghost use Rattle.commands.specs.declared.line.Line.{Line as ALine};
-
-    ghost Value = { List ALine };
-
-    ghost view = { λ l. l.lines.items };
-}
-
-impl Lines {
-    /// These lines. It takes no memory.
-    pub fn new(lines: Vec<Line>) -> Lines
-        ensures { result ≡ lines.items }
-    {
-        Lines { lines }
-    }
-
-    /// The lines in order.
-    pub fn as_slice(&self) -> &[Line]
-        ensures { result.now ≡ self.now }
-    {
-        &self.lines
-    }
-
-    /// Gives the lines back. It takes no memory.
-    pub fn into_vec(self) -> Vec<Line>
-        ensures { result.items ≡ self }
-    {
-        let Lines { lines } = self;
-        lines
-    }
-
-    /// The same lines once more. `Err` means out of memory.
-    pub fn copy(&self, alloc: Global) -> Result<Lines, Memory>
-        ensures { IfOk result (λ l. l ≡ self.now) }
-    {
-        let mut lines = Vec::with_capacity(alloc, self.lines.len())?;
-        for line in &self.lines {
-            lines.push(line.copy(alloc)?)?;
-        }
-        Ok(Lines { lines })
-    }
-}
+pub type Lines = Listed<Line>;

@@ -1,8 +1,10 @@
 //! The commands' names, and what each needs.
 
 ghost use Rattle.std.specs.Prelude.{◌≡◌, ◌↔◌, List, ℕ, Some, option_copied};
-ghost use Rattle.commands.specs.Names.{name_of, word_of};
+ghost use Rattle.commands.specs.Names.{name_of, needs_of, uses_of, word_of};
 ghost use Rattle.commands.specs.declared.name.CommandName.{CommandName};
+
+use crate::arguments::{Needs, Uses};
 
 /// A command (orchestrator's documentation, "Executing via command line").
 #[derive(Clone, Copy, Debug, PartialEq, Eq)]
@@ -163,53 +165,21 @@ impl CommandName {
     pub fn word(&self) -> &'static str
         ensures { result.now ≡ word_of self.now }
     {
-        match self {
-            CommandName::MoveUp => "move-up",
-            CommandName::MoveUpReplicas => "move-up-replicas",
-            CommandName::MoveBelow => "move-below",
-            CommandName::Repoint => "repoint",
-            CommandName::TakeSiblings => "take-siblings",
-            CommandName::TakeMaster => "take-master",
-            CommandName::MoveGtid => "move-gtid",
-            CommandName::MoveReplicasGtid => "move-replicas-gtid",
-            CommandName::EnableGtid => "enable-gtid",
-            CommandName::DisableGtid => "disable-gtid",
-            CommandName::Relocate => "relocate",
-            CommandName::RelocateReplicas => "relocate-replicas",
-            CommandName::RegroupReplicas => "regroup-replicas",
-            CommandName::Match => "match",
-            CommandName::MatchUp => "match-up",
-            CommandName::MatchReplicas => "match-replicas",
-            CommandName::RegroupReplicasPgtid => "regroup-replicas-pgtid",
-            CommandName::DetachReplica => "detach-replica",
-            CommandName::ReattachReplica => "reattach-replica",
-            CommandName::ResetReplica => "reset-replica",
-            CommandName::StartReplica => "start-replica",
-            CommandName::StopReplica => "stop-replica",
-            CommandName::RestartReplica => "restart-replica",
-            CommandName::SetReadOnly => "set-read-only",
-            CommandName::SetWriteable => "set-writeable",
-            CommandName::Discover => "discover",
-            CommandName::Forget => "forget",
-            CommandName::BeginDowntime => "begin-downtime",
-            CommandName::EndDowntime => "end-downtime",
-            CommandName::RegisterCandidate => "register-candidate",
-            CommandName::Recover => "recover",
-            CommandName::GracefulMasterTakeover => "graceful-master-takeover",
-            CommandName::AckClusterRecoveries => "ack-cluster-recoveries",
-            CommandName::Topology => "topology",
-            CommandName::WhichMaster => "which-master",
-            CommandName::WhichReplicas => "which-replicas",
-            CommandName::WhichCluster => "which-cluster",
-            CommandName::WhichClusterInstances => "which-cluster-instances",
-            CommandName::Clusters => "clusters",
-            CommandName::AllInstances => "all-instances",
-            CommandName::Find => "find",
-            CommandName::ReplicationAnalysis => "replication-analysis",
-            CommandName::AuditRecoveries => "audit-recoveries",
-            CommandName::DisableGlobalRecoveries => "disable-global-recoveries",
-            CommandName::EnableGlobalRecoveries => "enable-global-recoveries",
-            CommandName::CheckGlobalRecoveries => "check-global-recoveries",
-        }
+        self.row().word
+    }
+
+    /// The keys that the command needs.
+    pub fn needs(self) -> Needs
+        ensures { result ≡ needs_of self }
+    {
+        self.row().arguments.needs()
+    }
+
+    /// The keys that the command uses: those that it needs. `repoint` also uses its destination if it is given, and
+    /// `begin-downtime` the duration, the reason and the owner if they are given.
+    pub fn uses(self) -> Uses
+        ensures { result ≡ uses_of self }
+    {
+        self.row().arguments.uses()
     }
 }

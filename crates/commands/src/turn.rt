@@ -3,7 +3,7 @@
 ghost use Rattle.std.specs.Prelude.{◌≡◌, IfOk};
 ghost use Rattle.commands.specs.Turns.{fits, has_needed, is_within};
 
-use crate::orch_base::{OwnedText, Rule, ServerNo};
+use crate::orch_base::{Listed, OwnedText, Rule, ServerNo};
 use crate::{CommandName, Memory};
 use std::alloc::Global;
 use std::marker::Model;
@@ -19,55 +19,7 @@ pub struct Command {
 }
 
 /// An answer for each server, by number, which contracts see as that list.
-pub struct Answers {
-    answers: Vec<bool>,
-}
-
-impl Drop for Answers {
-    fn drop(self) {
-        let Answers { answers: _answers } = self;
-    }
-}
-
-impl Model for Answers {
-    ghost use Rattle.std.specs.Prelude.{List, Bool};
-
-    ghost Value = { List Bool };
-
-    ghost view = { λ a. a.answers.items };
-}
-
-impl Answers {
-    /// These answers. It takes no memory.
-    pub fn new(answers: Vec<bool>) -> Answers
-        ensures { result ≡ answers.items }
-    {
-        Answers { answers }
-    }
-
-    /// The answers by the servers' numbers.
-    pub fn as_slice(&self) -> &[bool]
-        ensures { result.now ≡ self.now }
-    {
-        &self.answers
-    }
-
-    /// Gives the answers back. It takes no memory.
-    pub fn into_vec(self) -> Vec<bool>
-        ensures { result.items ≡ self }
-    {
-        let Answers { answers } = self;
-        answers
-    }
-
-    /// The same answers once more. `Err` means out of memory.
-    pub fn copy(&self, alloc: Global) -> Result<Answers, Memory>
-        ensures { IfOk result (λ a. a ≡ self.now) }
-    {
-        let answers = Vec::from_slice(alloc, &self.answers)?;
-        Ok(Answers { answers })
-    }
-}
+pub type Answers = Listed<bool>;
 
 /// A pattern, and in which servers' printed names it is found.
 #[derive(Drop)]

@@ -9,54 +9,7 @@ use crate::{Command, CommandName, Refusal};
 fn takes_any(name: CommandName) -> bool
     ensures { result ≡ takes_any name }
 {
-    match name {
-        CommandName::Discover => true,
-        CommandName::MoveUp
-        | CommandName::MoveUpReplicas
-        | CommandName::MoveBelow
-        | CommandName::Repoint
-        | CommandName::TakeSiblings
-        | CommandName::TakeMaster
-        | CommandName::MoveGtid
-        | CommandName::MoveReplicasGtid
-        | CommandName::EnableGtid
-        | CommandName::DisableGtid
-        | CommandName::Relocate
-        | CommandName::RelocateReplicas
-        | CommandName::RegroupReplicas
-        | CommandName::Match
-        | CommandName::MatchUp
-        | CommandName::MatchReplicas
-        | CommandName::RegroupReplicasPgtid
-        | CommandName::DetachReplica
-        | CommandName::ReattachReplica
-        | CommandName::ResetReplica
-        | CommandName::StartReplica
-        | CommandName::StopReplica
-        | CommandName::RestartReplica
-        | CommandName::SetReadOnly
-        | CommandName::SetWriteable
-        | CommandName::Forget
-        | CommandName::BeginDowntime
-        | CommandName::EndDowntime
-        | CommandName::RegisterCandidate
-        | CommandName::Recover
-        | CommandName::GracefulMasterTakeover
-        | CommandName::AckClusterRecoveries
-        | CommandName::Topology
-        | CommandName::WhichMaster
-        | CommandName::WhichReplicas
-        | CommandName::WhichCluster
-        | CommandName::WhichClusterInstances
-        | CommandName::Clusters
-        | CommandName::AllInstances
-        | CommandName::Find
-        | CommandName::ReplicationAnalysis
-        | CommandName::AuditRecoveries
-        | CommandName::DisableGlobalRecoveries
-        | CommandName::EnableGlobalRecoveries
-        | CommandName::CheckGlobalRecoveries => false,
-    }
+    name.row().arguments.is_any()
 }
 
 fn is_missing(needed: bool, tested: bool, no: Option<ServerNo>, known: bool) -> bool

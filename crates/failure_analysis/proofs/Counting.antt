@@ -1,8 +1,8 @@
 -- Replicas are counted in one pass.
-use Rattle.std.proofs.Common.{◌≡◌, ℕ, zero, suc, ◌+◌, ◌<◌, ◌≤◌, Bool, true, false, cond, ◌&&◌, List, [], ◌∷◌, length, map, get_or, set, take, refl, sym, ◌∙◌, ap, subst, Option, None, Some, Bor, arith}
+use Rattle.std.proofs.Common.{◌≡◌, ℕ, ◌+◌, ◌<◌, ◌≤◌, Bool, true, false, cond, ◌&&◌, List, length, get_or, set, take, refl, sym, ◌∙◌, ap, subst, Option, None, Some, arith}
 use Rattle.std.specs.Prelude.{◌==◌}
 use Rattle.std.proofs.lemmas.Bool.{eqb-true, eq-eqb, false≢true}
-use Rattle.std.proofs.lemmas.List.{get_or_default, get_or-set_other, length-map, length-take}
+use Rattle.std.proofs.lemmas.List.{get_or_default, get_or-set_other, length-take}
 use Rattle.std.proofs.lemmas.Grind.{get_or-set_at}
 use Rattle.std.proofs.Math.Nat.{add-zero}
 use Rattle.std.proofs.lemmas.List.Sums.{count_by-le-length, sum_by-le-sum_by, sum_by_more}
@@ -115,18 +115,6 @@ pub not-attached : (n : ServerNo) (x : SourceState) → ((s : ServerNo) → x �
 not-attached n Without no-source = refl
 not-attached n (Attached s) no-source = absurd (no-source s refl)
 not-attached n (Detached s) no-source = refl
-
--- what is known of a server, among references to all that is known
-place-in : (ps : List (Bor (Option Instance))) (i : ℕ) (p : Bor (Option Instance)) → i < length ps → p ≡ get_or ps i p → get_or (map (λ q. q.now) ps) i None ≡ p.now
-place-in [] i p within is = absurd (omega (arith, within))
-place-in (q ∷ ps) zero p within is = ap (λ r. r.now) (sym is)
-place-in (q ∷ ps) (suc i) p within is = place-in ps i p (omega (arith, within)) is
-
-pub place-at : (b : BookState) (ps : List (Bor (Option Instance))) (i : ℕ) (p : Bor (Option Instance)) → map (λ q. q.now) ps ≡ b.instances → i < length ps → p ≡ get_or ps i p → get_or b.instances i None ≡ p.now
-place-at b ps i p all within is = ap (λ xs. get_or xs i None) (sym all) ∙ place-in ps i p within is
-
-pub places-all : (b : BookState) (ps : List (Bor (Option Instance))) → map (λ q. q.now) ps ≡ b.instances → length ps ≡ length b.instances
-places-all b ps all = sym (length-map ps (λ q. q.now)) ∙ ap length all
 
 -- its source is one of the servers
 pub source-known : (b : BookState) (i : ℕ) (r : Instance) (s : ServerNo) → IsBook b → get_or b.instances i None ≡ Some r → r.seen.source ≡ Attached s → s.0 < length b.names

@@ -187,7 +187,8 @@ fn read_intervals(
 ) -> Result<(), GtidFault>
     requires fits { offset + length text.now < 2 ^ 64 }
     requires each { All IsInterval found.old.items }
-    ensures is { Gives (λ _. found.new.items) fault_of result (behind found.old.items (intervals_at uuid offset (pieces is_colon text.now))) }
+    ensures is { Gives (λ _. found.new.items) fault_of result
+        (behind found.old.items (intervals_at uuid offset (pieces is_colon text.now))) }
     ensures each { OnOk result (All IsInterval found.new.items) }
 {
     let mut from = 0;
@@ -218,7 +219,8 @@ fn inner(text: &[u8]) -> &[u8]
 fn read_filled(found: &mut Vec<Interval>, offset: usize, text: &[u8]) -> Result<(), GtidFault>
     requires fits { offset + length text.now < 2 ^ 64 }
     requires each { All IsInterval found.old.items }
-    ensures is { Gives (λ _. found.new.items) fault_of result (behind found.old.items (filled_at offset text.now)) }
+    ensures is { Gives (λ _. found.new.items) fault_of result
+        (behind found.old.items (filled_at offset text.now)) }
     ensures each { OnOk result (All IsInterval found.new.items) }
 {
     let colon = first_colon(text);
@@ -238,7 +240,8 @@ fn read_filled(found: &mut Vec<Interval>, offset: usize, text: &[u8]) -> Result<
 fn read_part(found: &mut Vec<Interval>, offset: usize, text: &[u8]) -> Result<(), GtidFault>
     requires fits { offset + length text.now < 2 ^ 64 }
     requires each { All IsInterval found.old.items }
-    ensures is { Gives (λ _. found.new.items) fault_of result (behind found.old.items (part_at offset text.now)) }
+    ensures is { Gives (λ _. found.new.items) fault_of result
+        (behind found.old.items (part_at offset text.now)) }
     ensures each { OnOk result (All IsInterval found.new.items) }
 {
     let blanks = leading(text);
@@ -250,7 +253,8 @@ fn read_part(found: &mut Vec<Interval>, offset: usize, text: &[u8]) -> Result<()
 
 fn read_parts(found: &mut Vec<Interval>, text: &[u8]) -> Result<(), GtidFault>
     requires { All IsInterval found.old.items }
-    ensures is { Gives (λ _. found.new.items) fault_of result (behind found.old.items (parts_at 0 (pieces is_comma text.now))) }
+    ensures is { Gives (λ _. found.new.items) fault_of result
+        (behind found.old.items (parts_at 0 (pieces is_comma text.now))) }
     ensures each { OnOk result (All IsInterval found.new.items) }
 {
     let mut from = 0;

@@ -36,7 +36,8 @@ impl Gtid {
 
     /// The one that is after the other.
     pub fn later(self, other: Gtid) -> Gtid
-        ensures { point result.uuid result.n ≡ max (point self.uuid self.n) (point other.uuid other.n) }
+        ensures { point result.uuid result.n
+            ≡ max (point self.uuid self.n) (point other.uuid other.n) }
     {
         if self.is_before(other) { other } else { self }
     }

@@ -64,7 +64,9 @@ impl ReservedSet {
     /// The GTIDs that are in this set and not in the other. It takes time in the number of their intervals. `Err` means
     /// out of memory.
     pub fn minus(&self, alloc: Global, other: &GtidSet) -> Result<GtidSet, Memory>
-        ensures rest { IfOk result (λ rest. (uuid n : ℕ) → holds rest uuid n ≡ (holds self.now.intervals uuid n && not (holds other.now uuid n))) }
+        ensures rest { IfOk result (λ rest. (uuid n : ℕ)
+            → holds rest uuid n
+            ≡ (holds self.now.intervals uuid n && not (holds other.now uuid n))) }
         ensures sets { IfOk result (λ rest. IsSet self.now.intervals × IsSet rest) }
     {
         self.copy(alloc)?.minus(other)
@@ -123,6 +125,8 @@ fn insert_gtid(intervals: &mut Vec<Interval>, gtid: Gtid)
 
 /// A set with a GTID more has that GTID, and what it had before, and nothing else.
 pub fn added_is_had()
-    ensures set { (xs : List AnInterval) (uuid n : ℕ) → IsSet xs → uuid < 2 ^ 128 → 1 ≤ n → n ≤ largest → IsSet (with_pair uuid n xs) }
-    ensures had { (xs : List AnInterval) (uuid n u m : ℕ) → IsSet xs → holds (with_pair uuid n xs) u m ≡ (holds xs u m || ((u == uuid) && (m == n))) }
+    ensures set { (xs : List AnInterval) (uuid n : ℕ) → IsSet xs → uuid < 2 ^ 128 → 1 ≤ n
+        → n ≤ largest → IsSet (with_pair uuid n xs) }
+    ensures had { (xs : List AnInterval) (uuid n u m : ℕ) → IsSet xs
+        → holds (with_pair uuid n xs) u m ≡ (holds xs u m || ((u == uuid) && (m == n))) }
 {}

@@ -86,7 +86,8 @@ impl GtidSet {
 
     /// Whether each GTID of the set is in the other. It takes no memory.
     pub fn is_subset(&self, of: &GtidSet) -> bool
-        ensures { IsTrue result ↔ ((uuid n : ℕ) → holds self.now uuid n ≡ true → holds of.now uuid n ≡ true) }
+        ensures { IsTrue result
+            ↔ ((uuid n : ℕ) → holds self.now uuid n ≡ true → holds of.now uuid n ≡ true) }
     {
         are_in(&self.intervals, &of.intervals)
     }
@@ -150,7 +151,8 @@ impl GtidSet {
         requires above_zero { 1 ≤ n }
         requires in_range { n ≤ largest }
         ensures was { IfOk result (λ was_new. was_new ≡ not (holds self.old uuid n)) }
-        ensures has { OnOk result ((u m : ℕ) → holds self.new u m ≡ (holds self.old u m || ((u == uuid) && (m == n)))) }
+        ensures has { OnOk result ((u m : ℕ)
+            → holds self.new u m ≡ (holds self.old u m || ((u == uuid) && (m == n)))) }
         ensures err { OnErr result (self.new ≡ self.old) }
     {
         let was_new = !self.contains(uuid, n);
@@ -180,7 +182,8 @@ impl GtidSet {
     /// Both sets as one. It takes time in the number of their intervals. `Err` means out of memory.
     #[tactic(auto, using(crate::proofs::Points::union_holds))]
     pub fn union(&self, other: &GtidSet) -> Result<GtidSet, Memory>
-        ensures has { IfOk result (λ both. (uuid n : ℕ) → holds both uuid n ≡ (holds self.now uuid n || holds other.now uuid n)) }
+        ensures has { IfOk result (λ both. (uuid n : ℕ)
+            → holds both uuid n ≡ (holds self.now uuid n || holds other.now uuid n)) }
         ensures set { IfOk result IsSet }
     {
         let alloc = *self.intervals.allocator();
@@ -193,7 +196,8 @@ impl GtidSet {
     /// out of memory.
     #[tactic(auto, using(crate::proofs::Sweep::minus_holds))]
     pub fn minus(&self, other: &GtidSet) -> Result<GtidSet, Memory>
-        ensures has { IfOk result (λ rest. (uuid n : ℕ) → holds rest uuid n ≡ (holds self.now uuid n && not (holds other.now uuid n))) }
+        ensures has { IfOk result (λ rest. (uuid n : ℕ)
+            → holds rest uuid n ≡ (holds self.now uuid n && not (holds other.now uuid n))) }
         ensures set { IfOk result IsSet }
     {
         let alloc = *self.intervals.allocator();
@@ -205,7 +209,8 @@ impl GtidSet {
     /// The GTIDs of one UUID. It takes time in the number of intervals. `Err` means out of memory.
     pub fn of_uuid(&self, uuid: u128) -> Result<GtidSet, Memory>
         ensures part { IfOk result (λ part. part ≡ filter (λ s. s.uuid == uuid) self.now) }
-        ensures has { IfOk result (λ part. (u n : ℕ) → holds part u n ≡ ((u == uuid) && holds self.now u n)) }
+        ensures has { IfOk result (λ part. (u n : ℕ)
+            → holds part u n ≡ ((u == uuid) && holds self.now u n)) }
         ensures set { IfOk result IsSet }
     {
         let intervals = part_of(*self.intervals.allocator(), &self.intervals, uuid)?;
@@ -226,8 +231,10 @@ impl GtidSet {
     fn append(&mut self, next: Interval) -> Result<(), Memory>
         requires next { IsInterval next }
         requires order { All (λ s. low s ≤ low next) self.old }
-        ensures has { OnOk result ((x : ℕ) → on_line self.new x ≡ (on_line self.old x || between x next)) }
-        ensures order { OnOk result ((bound : ℕ) → low next ≤ bound → All (λ s. low s ≤ bound) self.new) }
+        ensures has { OnOk result ((x : ℕ)
+            → on_line self.new x ≡ (on_line self.old x || between x next)) }
+        ensures order { OnOk result ((bound : ℕ) → low next ≤ bound
+            → All (λ s. low s ≤ bound) self.new) }
     {
         match self.intervals.pop() {
             None => self.intervals.push(next)?,
@@ -282,7 +289,8 @@ pub(crate) fn first_reaching(intervals: &[Interval], gtid: Gtid) -> usize
     requires { IsSet intervals.now }
     ensures within { result ≤ length intervals.now }
     ensures below { AllWithin (λ s. high s < point gtid.uuid gtid.n) intervals.now 0 result }
-    ensures above { AllWithin (λ s. point gtid.uuid gtid.n ≤ high s) intervals.now result (length intervals.now) }
+    ensures above { AllWithin (λ s. point gtid.uuid gtid.n ≤ high s) intervals.now result
+        (length intervals.now) }
 {
     let mut from = 0;
     let mut to = intervals.len();
@@ -309,7 +317,8 @@ pub(crate) fn is_in(intervals: &[Interval], gtid: Gtid) -> bool
 fn includes(intervals: &[Interval], part: &Interval) -> bool
     requires whole { IsSet intervals.now }
     requires part { IsInterval part.now }
-    ensures yes { OnTrue result ((x : ℕ) → between x part.now ≡ true → on_line intervals.now x ≡ true) }
+    ensures yes { OnTrue result ((x : ℕ) → between x part.now ≡ true
+        → on_line intervals.now x ≡ true) }
     ensures no { OnFalse result (Misses intervals.now part.now) }
 {
     let at = first_reaching(intervals, part.start());
@@ -323,7 +332,8 @@ fn includes(intervals: &[Interval], part: &Interval) -> bool
 fn are_in(parts: &[Interval], intervals: &[Interval]) -> bool
     requires parts { IsSet parts.now }
     requires whole { IsSet intervals.now }
-    ensures { IsTrue result ↔ ((uuid n : ℕ) → holds parts.now uuid n ≡ true → holds intervals.now uuid n ≡ true) }
+    ensures { IsTrue result
+        ↔ ((uuid n : ℕ) → holds parts.now uuid n ≡ true → holds intervals.now uuid n ≡ true) }
 {
     'parts: for part in parts {
         if !includes(intervals, part) {
@@ -353,8 +363,10 @@ fn is_next(these: &[Interval], i: usize, those: &[Interval], j: usize) -> bool
     requires those { IsSet those.now }
     ensures in_these { OnTrue result (i < length these.now) }
     ensures in_those { OnFalse result (j < length those.now) }
-    ensures this { OnTrue result ((d : Interval) → j < length those.now → low (slice_index_or these.now i d) ≤ low (slice_index_or those.now j d)) }
-    ensures that { OnFalse result ((d : Interval) → i < length these.now → low (slice_index_or those.now j d) ≤ low (slice_index_or these.now i d)) }
+    ensures this { OnTrue result ((d : Interval) → j < length those.now
+        → low (slice_index_or these.now i d) ≤ low (slice_index_or those.now j d)) }
+    ensures that { OnFalse result ((d : Interval) → i < length these.now
+        → low (slice_index_or those.now j d) ≤ low (slice_index_or these.now i d)) }
 {
     if i >= these.len() {
         return false;
@@ -365,7 +377,8 @@ fn is_next(these: &[Interval], i: usize, those: &[Interval], j: usize) -> bool
 fn united(alloc: Global, these: &[Interval], those: &[Interval]) -> Result<GtidSet, Memory>
     requires these { IsSet these.now }
     requires those { IsSet those.now }
-    ensures { IfOk result (λ both. (x : ℕ) → on_line both x ≡ (on_line these.now x || on_line those.now x)) }
+    ensures { IfOk result (λ both. (x : ℕ)
+        → on_line both x ≡ (on_line these.now x || on_line those.now x)) }
 {
     let mut both = GtidSet::empty(alloc);
     let mut i = 0;
@@ -395,8 +408,11 @@ fn append_gap(
     requires inside { point start.uuid start.n ≤ high this.now }
     requires meets { low that.now ≤ high this.now }
     requires order { All (λ s. low s ≤ point start.uuid start.n) rest.old }
-    ensures has { OnOk result ((x : ℕ) → on_line rest.new x ≡ (on_line rest.old x || (nat_le (point start.uuid start.n) x && nat_lt x (low that.now)))) }
-    ensures order { OnOk result ((bound : ℕ) → point start.uuid start.n ≤ bound → All (λ s. low s ≤ bound) rest.new) }
+    ensures has { OnOk result ((x : ℕ) → on_line rest.new x
+        ≡ (on_line rest.old x
+        || (nat_le (point start.uuid start.n) x && nat_lt x (low that.now)))) }
+    ensures order { OnOk result ((bound : ℕ) → point start.uuid start.n ≤ bound
+        → All (λ s. low s ≤ bound) rest.new) }
 {
     if start.is_before(that.start()) {
         rest.append(Interval {
@@ -411,9 +427,11 @@ fn append_gap(
 // Whether the interval ends before the next of those.
 fn is_clear(this: &Interval, those: &[Interval], j: usize) -> bool
     requires { j ≤ length those.now }
-    ensures clear { OnTrue result ((d : Interval) → j < length those.now → high this.now < low (slice_index_or those.now j d)) }
+    ensures clear { OnTrue result ((d : Interval) → j < length those.now
+        → high this.now < low (slice_index_or those.now j d)) }
     ensures some { OnFalse result (j < length those.now) }
-    ensures meets { OnFalse result ((d : Interval) → low (slice_index_or those.now j d) ≤ high this.now) }
+    ensures meets { OnFalse result ((d : Interval)
+        → low (slice_index_or those.now j d) ≤ high this.now) }
 {
     j >= those.len() || this.ends_before(those[j].start())
 }
@@ -421,7 +439,8 @@ fn is_clear(this: &Interval, those: &[Interval], j: usize) -> bool
 fn difference(alloc: Global, these: &[Interval], those: &[Interval]) -> Result<GtidSet, Memory>
     requires these { IsSet these.now }
     requires those { IsSet those.now }
-    ensures { IfOk result (λ rest. (x : ℕ) → on_line rest x ≡ (on_line these.now x && not (on_line those.now x))) }
+    ensures { IfOk result (λ rest. (x : ℕ)
+        → on_line rest x ≡ (on_line these.now x && not (on_line those.now x))) }
 {
     let mut rest = GtidSet::empty(alloc);
     let mut i = 0;
@@ -452,7 +471,8 @@ fn difference(alloc: Global, these: &[Interval], those: &[Interval]) -> Result<G
 
 /// Sets with the same GTIDs have the same intervals, and so the same text.
 pub fn same_sets()
-    ensures { (xs ys : List Interval) → IsSet xs → IsSet ys → ((uuid n : ℕ) → holds xs uuid n ≡ holds ys uuid n) → xs ≡ ys }
+    ensures { (xs ys : List Interval) → IsSet xs → IsSet ys
+        → ((uuid n : ℕ) → holds xs uuid n ≡ holds ys uuid n) → xs ≡ ys }
 {}
 
 /// The count is the number of pairs. The list of a set's pairs is that long, rises, and so has no pair twice. It has
@@ -460,5 +480,6 @@ pub fn same_sets()
 pub fn count_is_pairs()
     ensures count { (xs : List Interval) → IsSet xs → length (pairs xs) ≡ size xs }
     ensures rises { (xs : List Interval) → IsSet xs → AllPairs (λ (a b : ℕ). a < b) (pairs xs) }
-    ensures held { (xs : List Interval) (uuid n : ℕ) → IsSet xs → n < 2 ^ 64 → list_any (λ p. p == point uuid n) (pairs xs) ≡ holds xs uuid n }
+    ensures held { (xs : List Interval) (uuid n : ℕ) → IsSet xs → n < 2 ^ 64
+        → list_any (λ p. p == point uuid n) (pairs xs) ≡ holds xs uuid n }
 {}

@@ -1,10 +1,11 @@
 //! Hooks: what a recovery passes to commands outside, and how these end.
 
-ghost use Rattle.std.specs.Prelude.{◌≡◌, ◌↔◌, [], IfOk, IsTrue};
+ghost use Rattle.std.specs.Prelude.{◌≡◌, ◌↔◌, [], IsTrue};
 
-use orch_base::{Memory, OwnedText};
+use orch_base::{Listed, Memory, OwnedText, Same};
 use std::alloc::Global;
 use std::marker::Model;
+use std::sync::Arc;
 
 /// A hook of a recovery (orchestrator's documentation, "Recovery hooks"). No process is started: what it answers is
 /// given beside it.
@@ -25,107 +26,14 @@ impl Drop for Hook {
     }
 }
 
-impl Hook {
-    /// The same hook once more. `Err` means out of memory.
-    pub fn copy(&self, alloc: Global) -> Result<Hook, Memory>
-        ensures { IfOk result (λ h. h ≡ self.now) }
-    {
-        Ok(Hook {
-            text: self.text.copy(alloc)?,
-            exit: self.exit,
-        })
-    }
-
-    /// Whether the hooks are equal. It takes no memory.
-    pub fn is_same(&self, other: &Hook) -> bool
-        ensures { IsTrue result ↔ (self.now ≡ other.now) }
-    {
+impl Same for Hook {
+    fn is_same(&self, other: &Hook) -> bool {
         self.text.is_same(&other.text) && self.exit == other.exit
     }
 }
 
 /// Hooks in the order in which they run, which contracts see as that list.
-pub struct HookList {
-    hooks: Vec<Hook>,
-}
-
-impl Drop for HookList {
-    fn drop(self) {
-        let HookList { hooks: _hooks } = self;
-    }
-}
-
-impl Model for HookList {
-    ghost use Rattle.std.specs.Prelude.{List};
-    ghost use Rattle.hook_texts.specs.declared.hooks.Hook.{Hook as AHook};
-
-    ghost Value = { List AHook };
-
-    ghost view = { λ h. h.hooks.items };
-}
-
-impl HookList {
-    /// These hooks. It takes no memory.
-    pub fn new(hooks: Vec<Hook>) -> HookList
-        ensures { result ≡ hooks.items }
-    {
-        HookList { hooks }
-    }
-
-    /// The hooks in order.
-    pub fn as_slice(&self) -> &[Hook]
-        ensures { result.now ≡ self.now }
-    {
-        &self.hooks
-    }
-
-    /// Gives the hooks back. It takes no memory.
-    pub fn into_vec(self) -> Vec<Hook>
-        ensures { result.items ≡ self }
-    {
-        let HookList { hooks } = self;
-        hooks
-    }
-
-    /// The same hooks once more. `Err` means out of memory.
-    pub fn copy(&self, alloc: Global) -> Result<HookList, Memory>
-        ensures { IfOk result (λ h. h ≡ self.now) }
-    {
-        let hooks = copy_hooks(alloc, &self.hooks)?;
-        Ok(HookList { hooks })
-    }
-
-    /// Whether the hooks are equal. It takes no memory.
-    pub fn is_same(&self, other: &HookList) -> bool
-        ensures { IsTrue result ↔ (self.now ≡ other.now) }
-    {
-        same_hooks(self.as_slice(), other.as_slice())
-    }
-}
-
-fn copy_hooks(alloc: Global, hooks: &[Hook]) -> Result<Vec<Hook>, Memory>
-    ensures { IfOk result (λ copy. copy.items ≡ hooks.now) }
-{
-    let mut copy = Vec::with_capacity(alloc, hooks.len())?;
-    for hook in hooks {
-        copy.push(hook.copy(alloc)?)?;
-    }
-    Ok(copy)
-}
-
-fn same_hooks(hooks: &[Hook], others: &[Hook]) -> bool
-    ensures { IsTrue result ↔ (hooks.now ≡ others.now) }
-{
-    if hooks.len() != others.len() {
-        return false;
-    }
-    for (n, hook) in hooks.iter().enumerate() {
-        if !hook.is_same(&others[n]) {
-            return false;
-        }
-    }
-    true
-}
+pub type HookList = Listed<Hook>;
 
 /// The hooks of all recoveries, by when they run (orchestrator's configuration, PreFailoverProcesses,
 /// PostFailoverProcesses, PostUnsuccessfulFailoverProcesses).
@@ -149,7 +57,7 @@ impl Drop for Hooks {
 }
 
 impl Hooks {
-    ghost use Rattle.std.specs.Prelude.{◌≡◌, ◌↔◌, IfOk, IsTrue};
+    ghost use Rattle.std.specs.Prelude.{◌≡◌, ◌↔◌, IsTrue};
     ghost use Rattle.hook_texts.specs.Hooks.{no_hooks};
 
     /// No hooks. It takes no memory.
@@ -163,17 +71,6 @@ impl Hooks {
         }
     }
 
-    /// The same hooks once more. `Err` means out of memory.
-    pub fn copy(&self, alloc: Global) -> Result<Hooks, Memory>
-        ensures { IfOk result (λ h. h ≡ self.now) }
-    {
-        Ok(Hooks {
-            pre_failover: self.pre_failover.copy(alloc)?,
-            post_failover: self.post_failover.copy(alloc)?,
-            post_unsuccessful: self.post_unsuccessful.copy(alloc)?,
-        })
-    }
-
     /// Whether the hooks are equal. It takes no memory.
     pub fn is_same(&self, other: &Hooks) -> bool
         ensures { IsTrue result ↔ (self.now ≡ other.now) }
@@ -181,5 +78,61 @@ impl Hooks {
         self.pre_failover.is_same(&other.pre_failover)
             && self.post_failover.is_same(&other.post_failover)
             && self.post_unsuccessful.is_same(&other.post_unsuccessful)
+    }
+}
+
+/// Hooks that several share, which contracts see as these hooks.
+pub struct SharedHooks {
+    hooks: Arc<Hooks>,
+}
+
+impl Drop for SharedHooks {
+    fn drop(self) {
+        let SharedHooks { hooks: _hooks } = self;
+    }
+}
+
+impl Model for SharedHooks {
+    ghost use Rattle.std.specs.Arc.{arc_value};
+    ghost use Rattle.hook_texts.specs.declared.hooks.Hooks.{Hooks as SomeHooks};
+
+    ghost Value = { SomeHooks };
+
+    ghost view = { λ s. arc_value s.hooks };
+}
+
+impl SharedHooks {
+    ghost use Rattle.std.specs.Prelude.{◌≡◌, ◌↔◌, IfOk, IsTrue};
+
+    /// These hooks. `Err` means out of memory.
+    pub fn new(alloc: Global, hooks: Hooks) -> Result<SharedHooks, Memory>
+        ensures { IfOk result (λ s. s ≡ hooks) }
+    {
+        Ok(SharedHooks {
+            hooks: Arc::new(alloc, hooks)?,
+        })
+    }
+
+    /// The hooks.
+    pub fn all(&self) -> &Hooks
+        ensures { result.now ≡ self.now }
+    {
+        &self.hooks
+    }
+
+    /// The same hooks for one more: nothing is copied. `Memory` comes if more share them than can be counted.
+    pub fn share(&self) -> Result<SharedHooks, Memory>
+        ensures { IfOk result (λ s. s ≡ self.now) }
+    {
+        Ok(SharedHooks {
+            hooks: Arc::try_clone(&self.hooks)?,
+        })
+    }
+
+    /// Whether the hooks are equal. It takes no memory.
+    pub fn is_same(&self, other: &SharedHooks) -> bool
+        ensures { IsTrue result ↔ (self.now ≡ other.now) }
+    {
+        self.all().is_same(other.all())
     }
 }

@@ -7,6 +7,6 @@ mod laws;
 mod values;
 
 pub use expanding::expand;
-pub use hooks::{Hook, HookList, Hooks};
+pub use hooks::{Hook, HookList, Hooks, SharedHooks};
 pub use laws::{other_texts_stay, placeholders_give_values, texts_are_read_part_by_part};
 pub use values::{Placeholder, Values};

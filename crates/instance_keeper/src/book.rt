@@ -59,6 +59,17 @@ fn put_at(instances: &mut Instances, no: u32, instance: Option<Instance>)
     }
 }
 
+// Sets the place of this index, which is the server's number: for rows that come in their order. It takes no memory.
+#[inline(always)]
+fn set_place(instances: &mut Instances, no: u32, instance: Option<Instance>)
+    requires keys { CountsUp 0 instances.old.entries }
+    requires within { no < length (values instances.old) }
+    ensures keys { CountsUp 0 instances.new.entries }
+    ensures values { values instances.new ≡ slice_set (values instances.old) no instance }
+{
+    instances[no as usize] = instance;
+}
+
 fn instance_in(instances: &Instances, no: u32) -> Option<&Instance>
     requires keys { CountsUp 0 instances.now.entries }
     requires within { no < length (values instances.now) }
@@ -481,7 +492,7 @@ impl Book {
         match place_from(next, self.servers(), &row) {
             Some(no) => {
                 self.empty_between(next, no);
-                self.put(row);
+                self.put_in_place(row);
                 no + 1
             }
             None => {
@@ -510,7 +521,27 @@ impl Book {
         requires { no < length self.old.names }
         ensures { self.new ≡ record self.old { instances = slice_set self.old.instances no None } }
     {
-        put_at(&mut self.instances, no, None);
+        set_place(&mut self.instances, no, None);
+    }
+
+    // Puts a row, an instance's by its place.
+    #[inline(always)]
+    fn put_in_place(&mut self, row: Row)
+        requires { row_fits (length self.old.names) row ≡ true }
+        ensures after { self.new ≡ after_put self.old row }
+        ensures settings { self.new.settings ≡ self.old.settings }
+        ensures names { self.new.names ≡ self.old.names }
+    {
+        match row {
+            Row::Instance(instance) => {
+                set_place(&mut self.instances, instance.no.0, Some(instance));
+            }
+            other @ (Row::Downtime(_)
+            | Row::Candidate(_)
+            | Row::Recovery(_)
+            | Row::Switch(_)
+            | Row::Active { .. }) => self.put(other),
+        }
     }
 
     // Puts a row, if a book takes it.
@@ -599,7 +630,10 @@ impl Book {
     #[inline(always)]
     fn renew(&mut self, o: Observation)
         requires { are_known (length self.old.names) (observed_servers o) ≡ true }
-        ensures { self.new ≡ record self.old { instances = slice_set self.old.instances o.no.0 (option_map (λ i. renewed i o) (instance_at self.old o.no)) } }
+        ensures { self.new ≡ record self.old {
+          instances = slice_set self.old.instances o.no.0
+              (option_map (λ i. renewed i o) (instance_at self.old o.no));
+        } }
     {
         renew_at(&mut self.instances, o);
     }
@@ -731,7 +765,8 @@ impl Book {
     pub fn take_leases(&mut self, list: &[ServerNo], job: u64) -> Result<(), LeaseFault>
         requires { All (λ k. k.0 < length self.old.names) list.now }
         ensures result { result ≡ lease_result (first_busy self.old.leases list.now) }
-        ensures ok { OnOk result (self.new ≡ record self.old { leases = taken self.old.leases list.now job }) }
+        ensures ok { OnOk result (self.new
+            ≡ record self.old { leases = taken self.old.leases list.now job }) }
         ensures err { OnErr result (self.new ≡ self.old) }
     {
         if let Some(fault) = first_busy(&self.leases, list) {

@@ -12,8 +12,10 @@ ghost use Rattle.instance_keeper.specs.Had.{has_row};
 /// rows with this change.
 pub fn rows_follow_the_book()
     ensures rising { (b : BookState) → IsBook b → IsRising (book_rows b) }
-    ensures changed { (b : BookState) (c : Change) → IsBook b → fits (length b.names) c ≡ true → IsInRange c → book_rows (after_change b c) ≡ changed_by (book_rows b) c }
-    ensures book { (b : BookState) (c : Change) → IsBook b → fits (length b.names) c ≡ true → IsBook (after_change b c) }
+    ensures changed { (b : BookState) (c : Change) → IsBook b → fits (length b.names) c ≡ true
+        → IsInRange c → book_rows (after_change b c) ≡ changed_by (book_rows b) c }
+    ensures book { (b : BookState) (c : Change) → IsBook b → fits (length b.names) c ≡ true
+        → IsBook (after_change b c) }
 {}
 
 /// A row that a book has changes nothing of it.
@@ -24,5 +26,7 @@ pub fn had_rows_change_nothing()
 /// What a book knows of a server is its row. The instance is the row of table instance under the server's number. There
 /// is no such row exactly if the server is no instance.
 pub fn instances_are_rows()
-    ensures { (b : BookState) (n : ServerNo) → IsBook b → n.0 < length b.names → row_at (book_rows b) table.Instance (key.Server n) ≡ option_map row.Instance (instance_at b n) }
+    ensures { (b : BookState) (n : ServerNo) → IsBook b → n.0 < length b.names
+        → row_at (book_rows b) table.Instance (key.Server n)
+        ≡ option_map row.Instance (instance_at b n) }
 {}

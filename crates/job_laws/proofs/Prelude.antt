@@ -10,7 +10,6 @@ pub use Rattle.std.specs.List.{All, flat_map, list_any}
 pub use Rattle.operations.proofs.BinlogCoords.Places.{Laid-Grown, place-coord_after, place-from, place-of_end, place-parts}
 pub use Rattle.operations.specs.BinlogCoords.Log.{coord_after, end_of, ends_by, place}
 pub use Rattle.operations.specs.BinlogCoords.declared.Coord.{Coord}
-pub use Rattle.operations.specs.BinlogCoords.declared.Next.TheVariants as binlog_next
 pub use Rattle.circular_buffer.specs.Buffer.{keep_last, last_item}
 pub use Rattle.operations.specs.Commands.declared.cause.Cause.{Cause}
 pub use Rattle.operations.specs.Commands.declared.cause.Cause.TheVariants as cause
@@ -34,6 +33,8 @@ pub use Rattle.job_laws.specs.Sound.{AllBridged, IsBridged, KeepsSound}
 pub use Rattle.operations.proofs.KeptRows.Same.{eq_refl}
 pub use Rattle.operations.specs.KeptRows.Seeing.{seen_in}
 pub use Rattle.operations.specs.KeptRows.declared.observation.Observation.{Observation}
+pub use Rattle.operations.proofs.Attempts.{Attempts, IsMove, IsWaitFor, StopsFor, attachment_in, attempts}
+pub use Rattle.operations.proofs.Attempts as doing
 pub use Rattle.operations.proofs.Allowing.{restarts-allowed, turn-allowed}
 pub use Rattle.operations.proofs.Changing.{turn-stays}
 pub use Rattle.operations.proofs.Marks.{IsEntry, entry-is, first-none, is-entry, is-last, last-is, mark-there, match-behind, match-of-both}
@@ -51,7 +52,7 @@ pub use Rattle.operations.specs.Plans.{again, asking, auto, finished, swap, unde
 pub use Rattle.operations.specs.Targets.{can_attach, logs_by}
 pub use Rattle.operations.specs.Turns.{Attempt, Goes, Stops, Turned, after_answer, after_ask, after_attach, after_look, after_match, after_status}
 pub use Rattle.operations.specs.Turns.{after_until, after_wait, after_wait_by, aim_of, attach_answer_of, attached_anew, bridge_at, by_deed, by_match}
-pub use Rattle.operations.specs.Turns.{by_ops, by_set, cause_by, crossed, crossing_of, failed, going, hands_after, holds_seen, is_going, is_moved}
+pub use Rattle.operations.specs.Turns.{by_ops, by_set, cause_by, cause_of_match, crossed, crossing_of, failed, going, hands_after, holds_seen, is_going, is_moved}
 pub use Rattle.operations.specs.Turns.{is_reached, is_settled, next, observed, read_by, restarts, same_again, saw, settled, settles, turned, until_by}
 pub use Rattle.operations.specs.Turns.{with_match}
 pub use Rattle.operations.specs.declared.matching.Match.{Match}
@@ -74,6 +75,8 @@ pub use Rattle.operations.specs.OrchBase.declared.server.SourceState.{SourceStat
 pub use Rattle.operations.specs.OrchBase.declared.server.SourceState.TheVariants.{Attached, Detached, Without}
 pub use Rattle.operations.specs.OrchBase.declared.server.Txn.{Txn}
 pub use Rattle.replication_laws.proofs.BridgeLaws.{Stands-grows, Stands-seen, joins-about, joins-back, joins-down, joins-up}
+pub use Rattle.replication_laws.proofs.Changes.{Becomes, Leaves, leaves}
+pub use Rattle.replication_laws.proofs.Changes as changes
 pub use Rattle.replication_laws.proofs.Crossings.{joins-same}
 pub use Rattle.replication_laws.proofs.Histories.{IsKin-once}
 pub use Rattle.replication_laws.proofs.Logs.{LaysOut-Grown, LaysOut-length}
@@ -82,31 +85,19 @@ pub use Rattle.replication_laws.proofs.SeenSets.{joins-auto}
 pub use Rattle.replication_laws.proofs.ShownCoords.{Position-run, Shows-run, Shows-seen}
 pub use Rattle.replication_laws.proofs.Worlds.{at_with_other}
 pub use Rattle.replication_laws.specs.Growth.{Grows}
-pub use Rattle.operations.specs.ServerModel.Attach.{IsTarget, attach_answer, attached_to}
-pub use Rattle.operations.specs.ServerModel.Attach as ServerModel
+pub use Rattle.operations.specs.ServerModel.Attach.{IsTarget}
 pub use Rattle.operations.specs.ServerModel.Bridges.{Stands}
-pub use Rattle.operations.specs.ServerModel.Desk.{after_change, after_desk, after_rotate, asked, befallen, can_reach, desk_answer, rotate_answer, rotated}
-pub use Rattle.operations.specs.ServerModel.Exchanges.{after_apply, after_fetch, after_write, apply_step, fetch_step, own_txn, took, write_answer}
-pub use Rattle.operations.specs.ServerModel.Gtids.{after_attach_auto, attach_auto_answer, attached_auto, auto_coord, status, uuids}
+pub use Rattle.operations.specs.ServerModel.Desk.{can_reach, desk_answer}
+pub use Rattle.operations.specs.ServerModel.Exchanges.{own_txn, took}
+pub use Rattle.operations.specs.ServerModel.Gtids.{status}
 pub use Rattle.operations.specs.ServerModel.Plains.{logged, logged_by, logged_in}
-pub use Rattle.operations.specs.ServerModel.Purging.{after_purge, purge_answer}
-pub use Rattle.operations.specs.ServerModel.Run.{AllAllowed, AllJoinWell, Allowed, Apply, Attach, AttachAuto, Befall, Exchange, Fetch, JoinsWell, Purge}
-pub use Rattle.operations.specs.ServerModel.Run.{Request, Rotate, Write, after, run}
+pub use Rattle.operations.specs.ServerModel.Run.{AllAllowed, AllJoinWell, Allowed, Attach, AttachAuto, Exchange, JoinsWell}
+pub use Rattle.operations.specs.ServerModel.Run.{Request, after, run}
 pub use Rattle.operations.specs.ServerModel.Safe.{IsKin, IsQuiet, Placed, Safe}
 pub use Rattle.operations.specs.ServerModel.Showing.{Shows}
-pub use Rattle.operations.specs.ServerModel.Worlds.{World, histories, history_of, server_at, source_no, with_server}
-pub use Rattle.operations.specs.ServerModel.declared.decisions.ApplyStep.{ApplyStep}
-pub use Rattle.operations.specs.ServerModel.declared.decisions.ApplyStep.TheVariants as applying
-pub use Rattle.operations.specs.ServerModel.declared.decisions.FetchStep.{FetchStep}
-pub use Rattle.operations.specs.ServerModel.declared.decisions.FetchStep.TheVariants as receiving
+pub use Rattle.operations.specs.ServerModel.Worlds.{World, histories, history_of, server_at, source_no}
 pub use Rattle.operations.specs.ServerModel.declared.server.Server.{Server}
-pub use Rattle.operations.specs.ServerWords.declared.answers.PurgeAnswer.{PurgeAnswer}
-pub use Rattle.operations.specs.ServerWords.declared.answers.PurgeAnswer.TheVariants as purging
-pub use Rattle.operations.specs.ServerWords.declared.answers.RotateAnswer.{RotateAnswer}
-pub use Rattle.operations.specs.ServerWords.declared.answers.RotateAnswer.TheVariants as rotating
 pub use Rattle.operations.specs.ServerWords.declared.answers.Unreachable.{Unreachable}
-pub use Rattle.operations.specs.ServerWords.declared.answers.WriteAnswer.{WriteAnswer}
-pub use Rattle.operations.specs.ServerWords.declared.answers.WriteAnswer.TheVariants as wrote
 pub use Rattle.operations.specs.ServerWords.declared.attach.AttachFault.{AttachFault}
 pub use Rattle.operations.specs.ServerWords.declared.attach.AttachFault.TheVariants as attaching
 pub use Rattle.operations.specs.ServerWords.declared.attach.Spot.{Spot}

@@ -1,25 +1,22 @@
 -- A turn of a job: its exchanges are allowed and join well, and the job has `Held` after it, whatever operations are
 -- left.
-use Rattle.std.proofs.Common.{◌≡◌, ℕ, ◌+◌, Bool, true, false, cond, not, List, [], ◌∷◌, ◌++◌, refl, sym, ◌∙◌, ap, subst, Option, Some, None, Ok, Err, Result}
-use Rattle.std.specs.Prelude.{◌==◌, nat_lt}
-use Rattle.job_laws.proofs.Prelude.{All-push, AllAllowed, AllBridged, AllJoinWell, AllMeet, Allowed, AllShow, ArePlaced, Ask, Attached, AttachFault}
-use Rattle.job_laws.proofs.Prelude.{Attempt, Cause, Coord, Deed, Detached, Exchange, Goes, Grows-run, HeldJob, IsBridged, IsDue, IsPlaced, IsTarget}
-use Rattle.job_laws.proofs.Prelude.{Job, JoinsWell, KeepsHeld, KeepsSound, Match, MatchFault, Meets, Moment, Observation, Op, Placed, Position}
-use Rattle.job_laws.proofs.Prelude.{Request, Safe, ServerNo, Shows, ShowsAt, Sight, SourceState, Status, Stops, Unreachable, Within, Without, World}
-use Rattle.job_laws.proofs.Prelude.{after, after_answer, after_ask, after_attach, after_look, after_match, after_status, after_until, after_wait}
-use Rattle.job_laws.proofs.Prelude.{after_wait_by, aim_of, and_parts, are_held, are_matched, attach_answer_of, both, bridge_at, by_deed, by_match}
-use Rattle.job_laws.proofs.Prelude.{by_ops, by_set, can-allowed, can_attach, crossed, deed_of, desk_answer, eqb-true, failed, finds, footing, going}
-use Rattle.job_laws.proofs.Prelude.{hands_after, holds_seen, is_moved, is_reached, learn, logs_at, logs_by, looking, match_found, match_logs}
-use Rattle.job_laws.proofs.Prelude.{matched_in, matching, next, observed, position_of, read_by, reading, restarts, restarts-allowed, run, same_again}
-use Rattle.job_laws.proofs.Prelude.{same_Some, saw, seen-at, seen_in, seen_of, server_at, settled, settles, source_no, standing_at, status, turned}
-use Rattle.job_laws.proofs.Prelude.{until_by, with_match, with_seen}
+use Rattle.std.proofs.Common.{◌≡◌, ℕ, ◌+◌, Bool, true, false, cond, not, List, [], ◌∷◌, ◌++◌, refl, sym, ◌∙◌, ap, subst, Option, Some, None}
+use Rattle.std.specs.Prelude.{◌==◌}
+use Rattle.job_laws.proofs.Prelude.{All-push, AllAllowed, AllBridged, AllJoinWell, AllMeet, AllShow, ArePlaced, Ask, Attached, Attempt, Attempts}
+use Rattle.job_laws.proofs.Prelude.{Cause, Coord, Deed, Detached, Exchange, Footing, Goes, Grows-run, HeldJob, IsBridged, IsDue, IsMove, IsPlaced}
+use Rattle.job_laws.proofs.Prelude.{IsTarget, IsWaitFor, Job, JoinsWell, KeepsHeld, KeepsSound, Match, Meets, Moment, Observation, Op, Placed}
+use Rattle.job_laws.proofs.Prelude.{Position, Request, Safe, ServerNo, ShowsAt, Sight, SourceState, Status, Within, Without, World, after, and_parts}
+use Rattle.job_laws.proofs.Prelude.{are_held, are_matched, attachment_in, attempts, both, by_deed, by_ops, can-allowed, deed_of, eqb-true, failed}
+use Rattle.job_laws.proofs.Prelude.{finds, footing, going, hands_after, is_moved, learn, logs_at, logs_by, looking, matched_in, matching, next}
+use Rattle.job_laws.proofs.Prelude.{position_of, reading, restarts, restarts-allowed, run, same_Some, saw, seen-at, seen_in, seen_of, server_at}
+use Rattle.job_laws.proofs.Prelude.{settled, source_no, standing_at, status, turned, with_match, with_seen}
 use Rattle.job_laws.proofs.Prelude.ask as asking
-use Rattle.job_laws.proofs.Prelude.cause
-use Rattle.job_laws.proofs.Prelude.deed
+use Rattle.job_laws.proofs.Prelude.doing
 use Rattle.job_laws.proofs.Footings.{aim-by, held-mono, Within-saw, Within-logging, Within-again, read-still}
 use Rattle.job_laws.proofs.Showing.{logs-on, Bridged-run, ShowsAt-run, Shows-seen, Bridged-seen}
 use Rattle.job_laws.proofs.Modes.{gtid-run}
-use Rattle.job_laws.proofs.Matching.{AllMeet-run, ArePlaced-run, match-crosses, match-meets, match-placed, matched-behind, matched-mono, matching-found}
+use Rattle.job_laws.proofs.Matching.{AllMeet-run, ArePlaced-run, match-crosses, match-meets, match-placed, matched-behind, matched-mono}
+use Rattle.job_laws.proofs.Matching.{matching-found}
 use Rattle.job_laws.proofs.Bridging.{crossing-joins, same-joins, auto-joins}
 
 -- ---- what was seen, and one more reading
@@ -99,122 +96,84 @@ not-moved m (Detached k) h = cc
 target-logs : (w : World) (m : ℕ) (c : Coord) → IsTarget w m c → logs_at w m ≡ true
 target-logs w m c t = ap logs_by t.there ∙ t.logs
 
-module _ (w : World) (j : Job) (rest : List Op) (placed : Placed w) (shown : AllShow w j.seen) (ends : ArePlaced w j.matches) where
+module _ (w : World) (read : ℕ) (now : Moment) (j : Job) (rest : List Op) (placed : Placed w) (shown : AllShow w j.seen) (ends : ArePlaced w j.matches) where
+  abbrev saw-footing : ServerNo → Status → Footing
+  saw-footing n s = footing w (with_seen j.seen n (position_of s))
+
   -- what one more reading shows
   saw-shown : (n : ServerNo) (s : Status) → seen_in (status w n.0) ≡ Some s → AllShow w (with_seen j.seen n (position_of s))
   saw-shown n s is = with-one (ShowsAt w) j.seen n (position_of s) shown (Shows-seen w n.0 s placed is).at
 
-  look-kept : (n : ServerNo) (from : Option ServerNo) (o : Observation) (r : Option Status) → seen_in (status w n.0) ≡ r → are_held (looking (footing w j.seen) n from) rest ≡ true
-      → are_matched (matched_in j.matches) rest ≡ true → KeepsHeld w (settled j (after_look j rest n from o r))
-  look-kept n from o None is left matched = failed-kept w j _ (Some o) placed shown ends
-  look-kept n from o (Some s) is left matched = go (is_moved from s.source) refl
+  counts : (n : ServerNo) (from : Option ServerNo) (s : Status) → seen_in (status w n.0) ≡ Some s → is_moved from s.source ≡ false → Within (looking (footing w j.seen) n from) (saw-footing n s)
+  counts n None s seen is = Within-saw w j.seen n (position_of s) None (λ m h. cc)
+  counts n (Some m) s seen is =
+      let under : source_no s.source ≡ Some m.0 = not-moved m s.source is in
+      Within-logging (reading (footing w j.seen) n (Some m.0)) (saw-footing n s) m.0
+      (Within-saw w j.seen n (position_of s) (Some m.0) (λ k h. under ∙ h))
+      (target-logs w m.0 s.exec ((Shows-seen w n.0 s placed seen).at.under m.0 under))
+
+  wait-due : (n : ServerNo) (d : Deed) → IsWaitFor n d → IsDue w j rest d → (are_held (reading (footing w j.seen) n None) rest ≡ true) × (are_matched (matched_in j.matches) rest ≡ true)
+  wait-due n d (doing.Awaits to) due = (due.left, due.matched)
+  wait-due n d _ due = (due.left, due.matched)
+
+  move-due : (n : ServerNo) (d : Deed) → IsMove n d → IsDue w j rest d → (are_held (footing w j.seen) rest ≡ true) × (are_matched (matched_in j.matches) rest ≡ true)
+  move-due n d (doing.Crosses c b) due = (due.left, due.matched)
+  move-due n d _ due = (due.left, due.matched)
+
+  -- the same operation is due again, by what was read in place of what was seen before
+  again : (n : ServerNo) (d : Deed) → IsWaitFor n d → IsDue w j rest d → (s : Status) → are_held (saw-footing n s) j.ops ≡ true
+  again n d is due s = go d is due
     where
-      shows : Shows w n.0 s
-      shows = Shows-seen w n.0 s placed is
+      left : are_held (reading (saw-footing n s) n None) rest ≡ true
+      left = held-mono (reading (footing w j.seen) n None) (reading (saw-footing n s) n None) (Within-again w j.seen n (position_of s)) rest (wait-due n d is due).0
 
-      counts : (f : Option ServerNo) → is_moved f s.source ≡ false → Within (looking (footing w j.seen) n f) (footing w (with_seen j.seen n (position_of s)))
-      counts None e = Within-saw w j.seen n (position_of s) None (λ m h. cc)
-      counts (Some m) e =
-          let under : source_no s.source ≡ Some m.0 = not-moved m s.source e in
-          Within-logging (reading (footing w j.seen) n (Some m.0)) (footing w (with_seen j.seen n (position_of s))) m.0
-          (Within-saw w j.seen n (position_of s) (Some m.0) (λ k h. under ∙ h))
-          (target-logs w m.0 s.exec (shows.at.under m.0 under))
-
-      go : (b : Bool) → is_moved from s.source ≡ b → KeepsHeld w (settled j (after_status j rest n from o s b))
-      go true e = failed-kept w j _ (Some o) placed shown ends
-      go false e =
-          going-kept w (Some o) [] (next (saw j n s) rest) placed tt
-          (record { left = held-mono (looking (footing w j.seen) n from) (footing w (with_seen j.seen n (position_of s))) (counts from e) rest left; shown = saw-shown n s is; matched = matched; ends = ends })
-
-  ask-kept : (n : ServerNo) (a : Ask) (r : Result (Unit {0}) Unreachable) → are_held (footing w j.seen) rest ≡ true → are_matched (matched_in j.matches) rest ≡ true → KeepsHeld w (settled j (after_ask j rest n a r))
-  ask-kept n a (Ok t) left matched =
-      going-kept w None (Request n.0 a ∷ []) (record (next j rest) { hands = hands_after j.hands n a }) placed (tt, tt) (record { left = left; shown = shown; matched = matched; ends = ends })
-  ask-kept n a (Err e) left matched = failed-kept w j _ None placed shown ends
+      go : (x : Deed) → IsWaitFor n x → IsDue w j rest x → are_held (saw-footing n s) j.ops ≡ true
+      go x (doing.Awaits to) due = due.again (saw-footing n s) (aim-by (footing w j.seen) (saw-footing n s) (λ k h. h) (read-still w j.seen n (position_of s)) to due.found) left
+      go x (doing.AwaitsSet m) due = due.again (saw-footing n s) (read-still w j.seen n (position_of s) m.0 due.found) left
+      go x doing.Settles due = due.again (saw-footing n s) refl left
 
   passed-kept : are_held (footing w j.seen) rest ≡ true → are_matched (matched_in j.matches) rest ≡ true → KeepsHeld w (going None [] (next j rest))
   passed-kept left matched = going-kept w None [] (next j rest) placed tt (record { left = left; shown = shown; matched = matched; ends = ends })
 
-  until-kept : (n : ServerNo) (o : Option Coord) → are_held (footing w j.seen) rest ≡ true → are_matched (matched_in j.matches) rest ≡ true → KeepsHeld w (settled j (after_until w j rest n o))
-  until-kept n None left matched = passed-kept left matched
-  until-kept n (Some to) left matched = ask-kept n (asking.StartUntil to) (desk_answer (server_at w n.0)) left matched
+  asked-kept : (n : ServerNo) (a : Ask) → are_held (footing w j.seen) rest ≡ true → are_matched (matched_in j.matches) rest ≡ true
+      → KeepsHeld w (going None (Request n.0 a ∷ []) (record (next j rest) { hands = hands_after j.hands n a }))
+  asked-kept n a left matched =
+      going-kept w None (Request n.0 a ∷ []) (record (next j rest) { hands = hands_after j.hands n a }) placed (tt, tt) (record { left = left; shown = shown; matched = matched; ends = ends })
 
-  -- a wait is done, or the same operation is due again, by what was read in place of what was seen before
-  wait-kept : (n : ServerNo) (reached : Status → Bool) (r : Option Status) → seen_in (status w n.0) ≡ r → are_held (reading (footing w j.seen) n None) rest ≡ true
-      → ((s : Status) → are_held (footing w (with_seen j.seen n (position_of s))) j.ops ≡ true) → are_matched (matched_in j.matches) rest ≡ true → are_matched (matched_in j.matches) j.ops ≡ true
-      → KeepsHeld w (settled j (after_wait j rest n reached r))
-  wait-kept n reached None is left again matched still = failed-kept w j _ None placed shown ends
-  wait-kept n reached (Some s) is left again matched still = go (reached s)
-    where
-      more : (b : Bool) → KeepsHeld w (settled j (cond b (Goes None [] (record (saw j n s) { waited = j.waited + 1 })) (Stops (cause.WaitSpent n) None)))
-      more true = going-kept w None [] (record (saw j n s) { waited = j.waited + 1 }) placed tt (record { left = again s; shown = saw-shown n s is; matched = still; ends = ends })
-      more false = failed-kept w j _ None placed shown ends
-
-      go : (b : Bool) → KeepsHeld w (settled j (after_wait_by j rest n s b))
-      go true =
-          going-kept w None [] (next (saw j n s) rest) placed tt
-          (record {
-            left = held-mono (reading (footing w j.seen) n None) (footing w (with_seen j.seen n (position_of s))) (Within-saw w j.seen n (position_of s) None (λ m h. cc)) rest left;
-            shown = saw-shown n s is;
-            matched = matched;
-            ends = ends;
-          })
-      go false = more (nat_lt (j.waited + 1) j.wait)
-
-  attach-kept : (n : ServerNo) (o : Option Exchange) → are_held (footing w j.seen) rest ≡ true → are_matched (matched_in j.matches) rest ≡ true → KeepsHeld w (settled j (after_attach w j rest n o))
-  attach-kept n None left matched = passed-kept left matched
-  attach-kept n (Some e) left matched = by (can_attach w e) refl
-    where
-      go : Allowed w e → (r : Result (Unit {0}) AttachFault) → KeepsHeld w (settled j (after_answer j rest n e r))
-      go allowed (Ok t) = going-kept w None (e ∷ []) (next j rest) placed (allowed, tt) (record { left = left; shown = shown; matched = matched; ends = ends })
-      go allowed (Err f) = failed-kept w j _ None placed shown ends
-
-      by : (b : Bool) → can_attach w e ≡ b → KeepsHeld w (settled j (cond b (after_answer j rest n e (attach_answer_of w e)) (Goes None [] (next j rest))))
-      by true can = go (can-allowed w e can) (attach_answer_of w e)
-      by false can = passed-kept left matched
-
-  match-kept : (n m : ServerNo) (every : ℕ) (r : Result Coord MatchFault) → match_logs w n m every ≡ r → are_held (footing w j.seen) rest ≡ true
-      → are_matched (matching (matched_in j.matches) n m) rest ≡ true → KeepsHeld w (settled j (after_match j rest n m (standing_at (server_at w n.0)) r))
-  match-kept n m every (Err f) is left matched = failed-kept w j _ None placed shown ends
-  match-kept n m every (Ok c) is left matched =
+  kept-by : (d : Deed) (a : Attempt) → Attempts w read now j rest d a → IsDue w j rest d → KeepsHeld w (settled j a)
+  kept-by d a (doing.Misses n from c why) due = failed-kept w j c _ placed shown ends
+  kept-by d a (doing.Fails x c why) due = failed-kept w j c None placed shown ends
+  kept-by d a (doing.Reads n from s seen is) due =
+      going-kept w _ [] (next (saw j n s) rest) placed tt
+      (record { left = held-mono (looking (footing w j.seen) n from) (saw-footing n s) (counts n from s seen is) rest due.left; shown = saw-shown n s seen; matched = due.matched; ends = ends })
+  kept-by d a (doing.Asks n b) due = asked-kept n b due.left due.matched
+  kept-by d a (doing.Begins n to c until) due = asked-kept n (asking.StartUntil c) due.left due.matched
+  kept-by d a (doing.Omits n to none) due = passed-kept due.left due.matched
+  kept-by d a (doing.Waits n x s is seen short more) due =
+      going-kept w None [] (record (saw j n s) { waited = j.waited + 1 }) placed tt (record { left = again n x is due s; shown = saw-shown n s seen; matched = due.still; ends = ends })
+  kept-by d a (doing.Reaches n x s is seen over) due =
+      let l = wait-due n x is due in
+      let left = held-mono (reading (footing w j.seen) n None) (saw-footing n s) (Within-saw w j.seen n (position_of s) None (λ m h. cc)) rest l.0 in
+      going-kept w None [] (next (saw j n s) rest) placed tt (record { left = left; shown = saw-shown n s seen; matched = l.1; ends = ends })
+  kept-by d a (doing.Attaches n x e is made of can done) due =
+      let l = move-due n x is due in
+      going-kept w None (e ∷ []) (next j rest) placed (can-allowed w e can, tt) (record { left = l.0; shown = shown; matched = l.1; ends = ends })
+  kept-by d a (doing.Passes n x is not-can) due = let l = move-due n x is due in passed-kept l.0 l.1
+  kept-by d a (doing.Matches n m every c found) due =
       let x : Match = record { no = n; to = m; spot = standing_at (server_at w n.0); at = c } in
       going-kept w None [] (next (with_match j x) rest) placed tt
       (record {
-        left = left;
+        left = due.left;
         shown = shown;
-        matched = matched-mono (matching (matched_in j.matches) n m) (matched_in (j.matches ++ x ∷ [])) (matching-found j.matches x) rest matched;
-        ends = All-push (IsPlaced w) j.matches x ends (match-placed w n m every c is placed);
+        matched = matched-mono (matching (matched_in j.matches) n m) (matched_in (j.matches ++ x ∷ [])) (matching-found j.matches x) rest due.matched;
+        ends = All-push (IsPlaced w) j.matches x ends (match-placed w n m every c found placed);
       })
+  kept-by d a (doing.Finishes lines) due = record { allowed = tt; held = record { left = refl; shown = shown; matched = refl; ends = ends } }
 
 -- ---- any operation
 
 pub deed-kept : (w : World) (read : ℕ) (now : Moment) (j : Job) (rest : List Op) (d : Deed) → Placed w → AllShow w j.seen → ArePlaced w j.matches → IsDue w j rest d → KeepsHeld w (settled j (by_deed w read now j rest d))
-deed-kept w read now j rest (deed.Look n from) placed shown ends due = look-kept w j rest placed shown ends n from (observed w read now n) (seen_in (status w n.0)) refl due.left due.matched
-deed-kept w read now j rest (deed.Request n a) placed shown ends due = ask-kept w j rest placed shown ends n a (desk_answer (server_at w n.0)) due.left due.matched
-deed-kept w read now j rest (deed.Until n to) placed shown ends due = until-kept w j rest placed shown ends n (until_by (seen_of j.seen n.0) (aim_of j.seen to)) due.left due.matched
-deed-kept w read now j rest (deed.Await n to) placed shown ends due =
-    wait-kept w j rest placed shown ends n (λ s. is_reached (aim_of j.seen to) s.exec) (seen_in (status w n.0)) refl due.left
-    (λ s. due.again (footing w (with_seen j.seen n (position_of s)))
-    (aim-by (footing w j.seen) (footing w (with_seen j.seen n (position_of s))) (λ k h. h) (read-still w j.seen n (position_of s)) to due.found)
-    (held-mono (reading (footing w j.seen) n None) (reading (footing w (with_seen j.seen n (position_of s))) n None) (Within-again w j.seen n (position_of s)) rest due.left)) due.matched due.still
-deed-kept w read now j rest (deed.AwaitSet n m) placed shown ends due =
-    wait-kept w j rest placed shown ends n (holds_seen (seen_of j.seen m.0)) (seen_in (status w n.0)) refl due.left
-    (λ s. due.again (footing w (with_seen j.seen n (position_of s)))
-    (read-still w j.seen n (position_of s) m.0 due.found)
-    (held-mono (reading (footing w j.seen) n None) (reading (footing w (with_seen j.seen n (position_of s))) n None) (Within-again w j.seen n (position_of s)) rest due.left)) due.matched due.still
-deed-kept w read now j rest (deed.Settle n) placed shown ends due =
-    wait-kept w j rest placed shown ends n (settles j) (seen_in (status w n.0)) refl due.left
-    (λ s. due.again (footing w (with_seen j.seen n (position_of s))) refl
-    (held-mono (reading (footing w j.seen) n None) (reading (footing w (with_seen j.seen n (position_of s))) n None) (Within-again w j.seen n (position_of s)) rest due.left)) due.matched due.still
-deed-kept w read now j rest (deed.Cross c a b) placed shown ends due =
-    attach-kept w j rest placed shown ends a (crossed c a (bridge_at (read_by c a b) (seen_of j.seen (read_by c a b).0))) due.left due.matched
-deed-kept w read now j rest (deed.Same n) placed shown ends due =
-    attach-kept w j rest placed shown ends n (same_again n (seen_of j.seen n.0)) due.left due.matched
-deed-kept w read now j rest (deed.Auto n m) placed shown ends due =
-    attach-kept w j rest placed shown ends n (by_set n m (seen_of j.seen m.0)) due.left due.matched
-deed-kept w read now j rest (deed.Match n m every) placed shown ends due = match-kept w j rest placed shown ends n m every (match_logs w n m every) refl due.left due.matched
-deed-kept w read now j rest (deed.CrossMatch n m) placed shown ends due =
-    attach-kept w j rest placed shown ends n (by_match n m (match_found j.matches n m)) due.left due.matched
-deed-kept w read now j rest (deed.Finish lines) placed shown ends due = record { allowed = tt; held = record { left = refl; shown = shown; matched = refl; ends = ends } }
+deed-kept w read now j rest d placed shown ends due = kept-by w read now j rest placed shown ends d (by_deed w read now j rest d) (attempts w read now j rest d) due
 
 pub due-of : (w : World) (j : Job) (op : Op) (rest : List Op) → j.ops ≡ op ∷ rest → are_held (footing w j.seen) j.ops ≡ true
     → are_matched (matched_in j.matches) j.ops ≡ true → IsDue w j rest (deed_of op)
@@ -240,76 +199,35 @@ turn-kept w read now j placed held = go j.ops refl
 
 -- ---- the same in a safe world
 
-module _ (w : World) (j : Job) (rest : List Op) (safe : Safe w) (placed : Placed w) (shown : AllShow w j.seen) (all : AllBridged w j.seen) (met : AllMeet w j.matches) where
+module _ (w : World) (read : ℕ) (now : Moment) (j : Job) (rest : List Op) (safe : Safe w) (placed : Placed w) (shown : AllShow w j.seen) (all : AllBridged w j.seen) (met : AllMeet w j.matches) where
   saw-bridged : (n : ServerNo) (s : Status) → seen_in (status w n.0) ≡ Some s → AllBridged w (with_seen j.seen n (position_of s))
   saw-bridged n s is = with-one (IsBridged w) j.seen n (position_of s) all (Bridged-seen w n.0 s safe is)
 
-  look-sound : (n : ServerNo) (from : Option ServerNo) (o : Observation) (r : Option Status) → seen_in (status w n.0) ≡ r → KeepsSound w (settled j (after_look j rest n from o r))
-  look-sound n from o None is = failed-sound w j _ (Some o) placed all met
-  look-sound n from o (Some s) is = go (is_moved from s.source)
-    where
-      go : (b : Bool) → KeepsSound w (settled j (after_status j rest n from o s b))
-      go true = failed-sound w j _ (Some o) placed all met
-      go false = going-sound w (Some o) [] (next (saw j n s) rest) placed tt tt (saw-bridged n s is) met
+  move-joins : (n : ServerNo) (d : Deed) → IsMove n d → IsDue w j rest d → (e : Exchange) → attachment_in j d ≡ Some e → JoinsWell w e
+  move-joins n d (doing.Crosses c b) due e made = crossing-joins w j.seen safe all c n b e due.found made
+  move-joins n d doing.Stays due e made = same-joins w j.seen safe n e made
+  move-joins n d (doing.GoesBySet m) due e made = auto-joins w j.seen shown n m e made
+  move-joins n d (doing.GoesByMatch m) due e made = match-crosses w j.matches n m e safe met made
 
-  ask-sound : (n : ServerNo) (a : Ask) (r : Result (Unit {0}) Unreachable) → KeepsSound w (settled j (after_ask j rest n a r))
-  ask-sound n a (Ok t) = going-sound w None (Request n.0 a ∷ []) (record (next j rest) { hands = hands_after j.hands n a }) placed (tt, tt) (tt, tt) all met
-  ask-sound n a (Err e) = failed-sound w j _ None placed all met
-
-  until-sound : (n : ServerNo) (o : Option Coord) → KeepsSound w (settled j (after_until w j rest n o))
-  until-sound n None = going-sound w None [] (next j rest) placed tt tt all met
-  until-sound n (Some to) = ask-sound n (asking.StartUntil to) (desk_answer (server_at w n.0))
-
-  wait-sound : (n : ServerNo) (reached : Status → Bool) (r : Option Status) → seen_in (status w n.0) ≡ r → KeepsSound w (settled j (after_wait j rest n reached r))
-  wait-sound n reached None is = failed-sound w j _ None placed all met
-  wait-sound n reached (Some s) is = go (reached s)
-    where
-      more : (b : Bool) → KeepsSound w (settled j (cond b (Goes None [] (record (saw j n s) { waited = j.waited + 1 })) (Stops (cause.WaitSpent n) None)))
-      more true = going-sound w None [] (record (saw j n s) { waited = j.waited + 1 }) placed tt tt (saw-bridged n s is) met
-      more false = failed-sound w j _ None placed all met
-
-      go : (b : Bool) → KeepsSound w (settled j (after_wait_by j rest n s b))
-      go true = going-sound w None [] (next (saw j n s) rest) placed tt tt (saw-bridged n s is) met
-      go false = more (nat_lt (j.waited + 1) j.wait)
-
-  attach-sound : (n : ServerNo) (o : Option Exchange) → ((e : Exchange) → o ≡ Some e → JoinsWell w e) → KeepsSound w (settled j (after_attach w j rest n o))
-  attach-sound n None joins = going-sound w None [] (next j rest) placed tt tt all met
-  attach-sound n (Some e) joins = by (can_attach w e) refl
-    where
-      go : Allowed w e → (r : Result (Unit {0}) AttachFault) → KeepsSound w (settled j (after_answer j rest n e r))
-      go allowed (Ok t) = going-sound w None (e ∷ []) (next j rest) placed (allowed, tt) (joins e refl, tt) all met
-      go allowed (Err f) = failed-sound w j _ None placed all met
-
-      by : (b : Bool) → can_attach w e ≡ b → KeepsSound w (settled j (cond b (after_answer j rest n e (attach_answer_of w e)) (Goes None [] (next j rest))))
-      by true can = go (can-allowed w e can) (attach_answer_of w e)
-      by false can = going-sound w None [] (next j rest) placed tt tt all met
-
-  match-sound : (n m : ServerNo) (every : ℕ) (r : Result Coord MatchFault) → match_logs w n m every ≡ r → KeepsSound w (settled j (after_match j rest n m (standing_at (server_at w n.0)) r))
-  match-sound n m every (Err f) is = failed-sound w j _ None placed all met
-  match-sound n m every (Ok c) is =
+  sound-by : (d : Deed) (a : Attempt) → Attempts w read now j rest d a → IsDue w j rest d → KeepsSound w (settled j a)
+  sound-by d a (doing.Misses n from c why) due = failed-sound w j c _ placed all met
+  sound-by d a (doing.Fails x c why) due = failed-sound w j c None placed all met
+  sound-by d a (doing.Reads n from s seen is) due = going-sound w _ [] (next (saw j n s) rest) placed tt tt (saw-bridged n s seen) met
+  sound-by d a (doing.Asks n b) due = going-sound w None (Request n.0 b ∷ []) (record (next j rest) { hands = hands_after j.hands n b }) placed (tt, tt) (tt, tt) all met
+  sound-by d a (doing.Begins n to c until) due =
+      going-sound w None (Request n.0 (asking.StartUntil c) ∷ []) (record (next j rest) { hands = hands_after j.hands n (asking.StartUntil c) }) placed (tt, tt) (tt, tt) all met
+  sound-by d a (doing.Waits n x s is seen short more) due = going-sound w None [] (record (saw j n s) { waited = j.waited + 1 }) placed tt tt (saw-bridged n s seen) met
+  sound-by d a (doing.Reaches n x s is seen over) due = going-sound w None [] (next (saw j n s) rest) placed tt tt (saw-bridged n s seen) met
+  sound-by d a (doing.Attaches n x e is made of can done) due = going-sound w None (e ∷ []) (next j rest) placed (can-allowed w e can, tt) (move-joins n x is due e made, tt) all met
+  sound-by d a (doing.Matches n m every c found) due =
       let x : Match = record { no = n; to = m; spot = standing_at (server_at w n.0); at = c } in
-      going-sound w None [] (next (with_match j x) rest) placed tt tt all (All-push (Meets w) j.matches x met (match-meets w n m every c is safe))
+      going-sound w None [] (next (with_match j x) rest) placed tt tt all (All-push (Meets w) j.matches x met (match-meets w n m every c found safe))
+  sound-by d a (doing.Finishes lines) due = record { joins = tt; bridged = all; met = met }
+  sound-by d a _ due = going-sound w None [] (next j rest) placed tt tt all met
 
 pub deed-sound : (w : World) (read : ℕ) (now : Moment) (j : Job) (rest : List Op) (d : Deed) → Safe w → Placed w → AllShow w j.seen → AllBridged w j.seen → AllMeet w j.matches → IsDue w j rest d
     → KeepsSound w (settled j (by_deed w read now j rest d))
-deed-sound w read now j rest (deed.Look n from) safe placed shown all met due = look-sound w j rest safe placed shown all met n from (observed w read now n) (seen_in (status w n.0)) refl
-deed-sound w read now j rest (deed.Request n a) safe placed shown all met due = ask-sound w j rest safe placed shown all met n a (desk_answer (server_at w n.0))
-deed-sound w read now j rest (deed.Until n to) safe placed shown all met due = until-sound w j rest safe placed shown all met n (until_by (seen_of j.seen n.0) (aim_of j.seen to))
-deed-sound w read now j rest (deed.Await n to) safe placed shown all met due =
-    wait-sound w j rest safe placed shown all met n (λ s. is_reached (aim_of j.seen to) s.exec) (seen_in (status w n.0)) refl
-deed-sound w read now j rest (deed.AwaitSet n m) safe placed shown all met due = wait-sound w j rest safe placed shown all met n (holds_seen (seen_of j.seen m.0)) (seen_in (status w n.0)) refl
-deed-sound w read now j rest (deed.Settle n) safe placed shown all met due = wait-sound w j rest safe placed shown all met n (settles j) (seen_in (status w n.0)) refl
-deed-sound w read now j rest (deed.Cross c a b) safe placed shown all met due =
-    attach-sound w j rest safe placed shown all met a (crossed c a (bridge_at (read_by c a b) (seen_of j.seen (read_by c a b).0)))
-    (λ e h. crossing-joins w j.seen safe all c a b e due.found h)
-deed-sound w read now j rest (deed.Same n) safe placed shown all met due =
-    attach-sound w j rest safe placed shown all met n (same_again n (seen_of j.seen n.0)) (same-joins w j.seen safe n)
-deed-sound w read now j rest (deed.Auto n m) safe placed shown all met due =
-    attach-sound w j rest safe placed shown all met n (by_set n m (seen_of j.seen m.0)) (auto-joins w j.seen shown n m)
-deed-sound w read now j rest (deed.Match n m every) safe placed shown all met due = match-sound w j rest safe placed shown all met n m every (match_logs w n m every) refl
-deed-sound w read now j rest (deed.CrossMatch n m) safe placed shown all met due =
-    attach-sound w j rest safe placed shown all met n (by_match n m (match_found j.matches n m)) (λ e h. match-crosses w j.matches n m e safe met h)
-deed-sound w read now j rest (deed.Finish lines) safe placed shown all met due = record { joins = tt; bridged = all; met = met }
+deed-sound w read now j rest d safe placed shown all met due = sound-by w read now j rest safe placed shown all met d (by_deed w read now j rest d) (attempts w read now j rest d) due
 
 pub turn-sound : (w : World) (read : ℕ) (now : Moment) (j : Job) → Safe w → Placed w → HeldJob w j → AllBridged w j.seen → AllMeet w j.matches → KeepsSound w (turned w read now j)
 turn-sound w read now j safe placed held all met = go j.ops refl

@@ -38,7 +38,8 @@ pub fn crossings_are_well()
 /// Each change of source that is found by what was seen can be made. The coordinate has its place in the log of the new
 /// source. By a set, GTIDs are used and the new source logs.
 pub fn found_attachments_can_be_made()
-    ensures crossing { (w : World) (xs : List ASight) (c : ACrossing) (a b : Number) (e : Exchange) →
+    ensures crossing { (w : World) (xs : List ASight) (c : ACrossing) (a b : Number)
+        (e : Exchange) →
         AllShow w xs → crossing_of xs c a b ≡ Some e → can_attach w e ≡ true }
     ensures same { (w : World) (xs : List ASight) (n : Number) (e : Exchange) →
         AllShow w xs → same_again n (seen_of xs n.0) ≡ Some e → can_attach w e ≡ true }

@@ -62,5 +62,6 @@ pub fn settling_ends()
     ensures waits { (w : World) (read : ℕ) (now : AMoment) (j : Job) (rest : List AnOp) (n : Number)
         (s : Showed) →
         seen_in (status w n.0) ≡ Some s → is_settled s ≡ false → j.waited + 1 < j.wait →
-        by_deed w read now j rest (Settle n) ≡ Goes None [] (record (saw j n s) { waited = j.waited + 1 }) }
+        by_deed w read now j rest (Settle n)
+        ≡ Goes None [] (record (saw j n s) { waited = j.waited + 1 }) }
 {}

@@ -100,7 +100,8 @@ fn matched_at(
         (kept_from y ≤ j) × (j < length y.history.txns) }
     requires log { (y : AServer) → server_at world.now d.0 ≡ Some y → y.log ≡ log.now }
     ensures { (x y : AServer) → server_at world.now r.0 ≡ Some x →
-        server_at world.now d.0 ≡ Some y → result ≡ matched_at x y i j (first_unlike every x y i j) }
+        server_at world.now d.0 ≡ Some y
+        → result ≡ matched_at x y i j (first_unlike every x y i j) }
 {
     let (count, more) = (world.executed(r), world.executed(d));
     let mut at = j + 1;

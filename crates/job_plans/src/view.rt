@@ -339,7 +339,7 @@ impl<'a> JobView<'a> {
             Op::Auto(no, to) => self.look_auto(alloc, world, *no, *to),
             Op::Match(no, to, every) => Ok(look_match(alloc, world, *no, *to, *every)),
             Op::CrossMatch(no, to) => self.look_by_match(alloc, world, *no, *to),
-            Op::Finish(lines) => Ok(done(lines.copy(alloc)?)),
+            Op::Finish(lines) => Ok(done(lines.copy_each(alloc)?)),
         }
     }
 

@@ -99,7 +99,8 @@ fn first_from(rows: &[Row], sort_key: SortKey) -> usize
 fn is_there(rows: &[Row], index: usize, sort_key: SortKey) -> bool
     ensures there { OnTrue result (index < length rows.now) }
     ensures yes { OnTrue result (HoldsAt (λ r. sort_key_of r ≤ at sort_key) rows.now index) }
-    ensures no { OnFalse result (index < length rows.now → HoldsAt (λ r. at sort_key < sort_key_of r) rows.now index) }
+    ensures no { OnFalse result (index < length rows.now
+        → HoldsAt (λ r. at sort_key < sort_key_of r) rows.now index) }
 {
     match rows.get(index) {
         Some(row) => !sort_key.is_before(row.sort_key()),
@@ -315,7 +316,8 @@ impl MemKeeper {
     /// A row store of these rows: of two with one table and key the last is kept. The calls of `keep` and `rows` whose
     /// numbers, from 1, are listed fail, and no other.
     pub fn new(alloc: Global, rows: Vec<Row>, fail_at: Vec<u64>) -> Result<MemKeeper, Memory>
-        ensures { IfOk result (λ k. k ≡ record { rows = map_of rows.items; calls = 0; fail_at = fail_at.items; faults = 0 }) }
+        ensures { IfOk result (λ k. k
+            ≡ record { rows = map_of rows.items; calls = 0; fail_at = fail_at.items; faults = 0 }) }
     {
         let mut kept = Vec::with_capacity(alloc, rows.len())?;
         put_all(&mut kept, rows);
@@ -366,8 +368,10 @@ impl Keeper for MemKeeper {
         ensures kept { KeepsAll (Some self.old.rows) (Some self.new.rows) changes.now result }
         ensures cause { HasKeeperCause self.old.faults self.new.faults result }
         ensures counts { CountsFailures self.old.faults self.new.faults result }
-        ensures failed { (result ≡ Err KeeperFault.Failed) ↔ (fails_next self.old.fail_at self.old.calls ≡ true) }
-        ensures ok { OnOk result (self.new ≡ record (after_call self.old) { rows = changed self.old.rows changes.now }) }
+        ensures failed { (result ≡ Err KeeperFault.Failed)
+            ↔ (fails_next self.old.fail_at self.old.calls ≡ true) }
+        ensures ok { OnOk result (self.new
+            ≡ record (after_call self.old) { rows = changed self.old.rows changes.now }) }
         ensures err { OnErr result (self.new ≡ after_call self.old) }
     {
         if self.fails() {
@@ -391,7 +395,8 @@ impl Keeper for MemKeeper {
         ensures same { Some self.new.rows ≡ Some self.old.rows }
         ensures cause { HasKeeperCause self.old.faults self.new.faults result }
         ensures counts { CountsFailures self.old.faults self.new.faults result }
-        ensures failed { (result ≡ Err KeeperFault.Failed) ↔ (fails_next self.old.fail_at self.old.calls ≡ true) }
+        ensures failed { (result ≡ Err KeeperFault.Failed)
+            ↔ (fails_next self.old.fail_at self.old.calls ≡ true) }
         ensures after { self.new ≡ after_call self.old }
     {
         if self.fails() {

@@ -4,7 +4,7 @@ ghost use Rattle.std.specs.Prelude.{◌≡◌};
 ghost use Rattle.kept_rows.specs.Recoveries.{as_recovery, as_row};
 
 use crate::Memory;
-use crate::orch_base::{Ending, Kind, Moment, OwnedText, ServerNo};
+use crate::orch_base::{Ending, Kind, Moment, OwnedText, Same, ServerNo};
 use std::alloc::Global;
 
 /// A recovery, as the audit has it (orchestrator's documentation, "Topology recovery").
@@ -165,7 +165,9 @@ impl RecoveryRow {
 
     // Whether it began in the same way.
     fn has_same_begin(&self, other: &RecoveryRow) -> bool
-        ensures { IsTrue result ↔ ((self.now.id ≡ other.now.id) × (self.now.cluster ≡ other.now.cluster) × (self.now.kind ≡ other.now.kind) × (self.now.failed ≡ other.now.failed) × (self.now.begun ≡ other.now.begun)) }
+        ensures { IsTrue result ↔ ((self.now.id ≡ other.now.id)
+            × (self.now.cluster ≡ other.now.cluster) × (self.now.kind ≡ other.now.kind)
+            × (self.now.failed ≡ other.now.failed) × (self.now.begun ≡ other.now.begun)) }
     {
         self.cluster.is_same(&other.cluster)
             && (self.id == other.id && self.kind == other.kind)

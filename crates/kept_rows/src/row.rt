@@ -4,7 +4,7 @@ ghost use Rattle.std.specs.Prelude.{◌≡◌, nat_lt};
 ghost use Rattle.kept_rows.specs.Rows.{key_number, sort_key, table_number};
 
 use crate::observation::Instance;
-use crate::orch_base::{Moment, OwnedText, ServerNo};
+use crate::orch_base::{Moment, OwnedText, Same, ServerNo};
 use crate::recovery::RecoveryRow;
 use crate::{Memory, Rule};
 use std::alloc::Global;

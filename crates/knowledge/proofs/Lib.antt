@@ -5,12 +5,10 @@ pub mod Closings
 pub mod Remaining
 pub use Rattle.command_outcomes.proofs.AuditLog as AuditLog
 pub use Rattle.command_outcomes.proofs.BinlogCoords as BinlogCoords
-pub use Rattle.command_outcomes.proofs.CommandJobs as CommandJobs
 pub mod CommandOutcomes
 pub use Rattle.command_outcomes.proofs.CommandsProofs as CommandsProofs
 pub use Rattle.command_outcomes.proofs.FailureAnalysis as FailureAnalysis
 pub use Rattle.command_outcomes.proofs.InstanceKeeper as InstanceKeeper
-pub mod JobsInFlight
 pub use Rattle.command_outcomes.proofs.KeptRows as KeptRows
 pub use Rattle.command_outcomes.proofs.NameOrder as NameOrder
 pub use Rattle.command_outcomes.proofs.OpeningsProofs as OpeningsProofs

@@ -8,7 +8,7 @@ use Rattle.command_outcomes.specs.KeptRows.declared.row.Change.TheVariants as ch
 use Rattle.command_outcomes.specs.KeptRows.declared.row.Row.TheVariants as row
 use Rattle.command_outcomes.specs.InstanceKeeper.Book.{BookState, after_addition, instance_at, renewal, renewed, store_answer, store_change, stored_over}
 use Rattle.command_outcomes.proofs.InstanceKeeper.Renewal.{renewal_some}
-use Rattle.jobs_in_flight.specs.Jobs.{stored}
+use Rattle.command_outcomes.specs.UnendedJobs.Jobs.{stored}
 use Rattle.command_outcomes.specs.Turns.declared.reply.Reply.TheVariants as answered
 use Rattle.knowledge.specs.Newer.{IsNewer, reading_of}
 use Rattle.knowledge.specs.Kept.{changes_by}

@@ -3,7 +3,7 @@
 ghost use Rattle.std.specs.Prelude.{◌≡◌, ◌≢◌, ◌<◌, ◌++◌, [], Err, IfOk, IfSome, IsSomeAnd, Some, is_ok, true, length};
 ghost use Rattle.std.specs.Option.{option_copied};
 ghost use Rattle.command_outcomes.specs.AuditLog.Audits.{is_unended, recovery_at};
-ghost use Rattle.jobs_in_flight.specs.Jobs.{step_reply};
+ghost use Rattle.command_outcomes.specs.UnendedJobs.Jobs.{step_reply};
 ghost use Rattle.command_outcomes.specs.UnendedJobs.Looks.{foretold, observation_of, step_of};
 ghost use Rattle.knowledge.specs.Closings.{closed_by, closed_so, closing_change, closing_changes, closing_of};
 ghost use Rattle.knowledge.specs.Faults.{HasTurnCause};
@@ -15,9 +15,8 @@ use crate::instance_keeper_items::{Book, Change, Keeper, Observation, Recovery, 
 use crate::operations_items::JobStep;
 use crate::orch_base::{Ending, Memory, Moment};
 use crate::recovery_core::{ending_of, is_acknowledged};
-use crate::unended_jobs_items::{Unended, UnendedLook};
+use crate::unended_jobs_items::{Unended, UnendedLook, answer};
 use crate::{Replies, TurnFault, copied, keep_some};
-use jobs_in_flight::answer;
 use std::alloc::Global;
 
 /// An entry of the audit that ends.
@@ -42,7 +41,7 @@ pub fn closing_of(job: &Unended, look: &UnendedLook) -> Option<Closing>
         return None;
     };
     let promoted = match look {
-        UnendedLook::Recovery(look) => look.promoted(),
+        UnendedLook::Recovery(look) => look.as_look().promoted(),
         UnendedLook::Plan(_) | UnendedLook::Hook(_, _) => recovery.promoted(),
     };
     let outcome = ending_of(promoted, look.step())?;
@@ -154,9 +153,6 @@ pub fn close_entry(audit: &mut Audit, now: Moment, closing: Option<Closing>)
     ensures { audit.new.audit ≡ closed_by audit.old.audit now closing }
 {
     if let Some(closing) = closing {
-        audit.end(closing.id, now, closing.outcome);
-        if closing.acked {
-            audit.acknowledge(closing.id);
-        }
+        audit.finish(closing.id, now, closing.outcome, closing.acked);
     }
 }

@@ -3,7 +3,7 @@
 ghost use Rattle.std.specs.Prelude.{◌≡◌, ◌≢◌, ◌<◌, [], ◌∷◌, IfOk, IfSome, OnOk, OnErr, IsSomeAnd, None, Some, Err, is_ok, length, true};
 ghost use Rattle.std.specs.Bool.{OnTrue};
 ghost use Rattle.command_outcomes.specs.InstanceKeeper.Book.{after_addition, instance_at};
-ghost use Rattle.jobs_in_flight.specs.Jobs.{stored};
+ghost use Rattle.command_outcomes.specs.UnendedJobs.Jobs.{stored};
 ghost use Rattle.command_outcomes.specs.KeptRows.Rows.{IsRising};
 ghost use Rattle.command_outcomes.specs.KeptRows.Servers.{are_known, observed_servers, servers_of};
 ghost use Rattle.knowledge.specs.Faults.{HasTurnCause};

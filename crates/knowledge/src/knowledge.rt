@@ -80,7 +80,7 @@ impl Knowledge {
         requires spare { length recoveries ≤ self.old.audit.spare }
         ensures { known self.new ≡ updated (known self.old) (Update.Recovers recoveries) }
     {
-        for begun in recoveries.list {
+        for begun in recoveries.into_vec() {
             self.join_recovery(begun);
         }
     }
@@ -98,8 +98,9 @@ impl Knowledge {
         }
     }
 
-    // Makes room for the jobs that begin, and for the entries of recoveries. `Err` means out of memory.
-    fn make_room(&mut self, update: &Update) -> Result<(), Memory>
+    // Makes room for the jobs that begin, and for the entries of recoveries. The audit gets its index before its first
+    // recovery. `Err` means out of memory.
+    fn make_room(&mut self, alloc: Global, update: &Update) -> Result<(), Memory>
         ensures room { OnOk result (HasRoomFor
             (vec_capacity self.new.jobs - vec_len self.new.jobs) self.new.audit.spare update.now) }
         ensures known { known self.new ≡ known self.old }
@@ -108,8 +109,11 @@ impl Knowledge {
             Update::Stays | Update::Change(_) | Update::Discovery(_) | Update::Decides(_) => {}
             Update::Begins(_) => self.jobs.reserve(1)?,
             Update::Recovers(recoveries) => {
-                let count = recoveries.list.len();
+                let count = recoveries.as_slice().len();
                 self.jobs.reserve(count)?;
+                if self.audit.recoveries().is_empty() {
+                    self.audit.index(alloc)?;
+                }
                 self.audit.reserve_for(count)?;
             }
         }
@@ -138,7 +142,7 @@ impl Knowledge {
         ensures calls { result ≡ Err TurnFault.Keeper → outcome.now.rows.items ≢ [] }
     {
         let reply = copied(alloc, &outcome.reply, written)?;
-        self.make_room(&outcome.book)?;
+        self.make_room(alloc, &outcome.book)?;
         keep_some(alloc, keeper, self.book.names(), &outcome.rows)?;
         Ok(reply)
     }

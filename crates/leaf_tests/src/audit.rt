@@ -1,11 +1,13 @@
 //! The audit of recoveries.
 
-ghost use Rattle.std.specs.Prelude.{◌≡◌, ◌≤◌, ◌<◌, ◌^◌, ◌↔◌, All, IfOk, IfSome, IsTrue};
-ghost use Rattle.audit_log.specs.Audits.{may_begin};
+ghost use Rattle.std.specs.Prelude.{◌≡◌, ◌≤◌, ◌<◌, ◌^◌, ◌↔◌, true, All, IfOk, IfSome, IsSomeAnd, IsTrue};
+ghost use Rattle.audit_log.specs.Audits.{is_unended, may_begin, recovery_at};
 
 use crate::kept_rows_items::{CauseName, Ending, Kind, Recovery, Row, last_row_stands, row_map};
 use crate::orch_base::{Memory, Moment, OwnedText, ServerNo};
-use audit_log::{Audit, Held, Periods, is_unended, kept_recoveries_make_an_audit, recoveries_in};
+use audit_log::{
+    Audit, Extended, Held, Periods, is_unended, kept_recoveries_make_an_audit, recoveries_in,
+};
 use std::alloc::Global;
 
 const BLOCK: u64 = 3600;
@@ -23,7 +25,7 @@ struct OnePeriod(u64);
 impl Periods for OnePeriod {
     ghost period_of = { λ p _. p.0 };
 
-    fn period(&self, _cluster: &str) -> u64 {
+    fn period(&self, _server: ServerNo, _cluster: &str) -> u64 {
         self.0
     }
 }
@@ -35,7 +37,8 @@ fn recovery(
     begun: u64,
     block: u64,
 ) -> Result<Recovery, Memory>
-    ensures { IfOk result (λ r. (r.id ≡ id) × (r.cluster ≡ cluster.now) × (r.begun.0 ≡ begun) × (r.block ≡ block)) }
+    ensures { IfOk result (λ r. (r.id ≡ id) × (r.cluster ≡ cluster.now) × (r.begun.0 ≡ begun)
+        × (r.block ≡ block)) }
 {
     Ok(Recovery {
         id,
@@ -53,18 +56,30 @@ fn recovery(
 // An id, or a count of recoveries; none if there is nothing to be done.
 type Answer = Option<Result<u64, Held>>;
 
+fn are_early(list: &[Recovery]) -> bool
+    ensures { IsTrue result → All (λ r. r.begun.0 ≤ 2 ^ 63) list.now }
+{
+    list.iter().all(|r| r.begun.0 <= 9_223_372_036_854_775_808)
+}
+
 // What `may_begin` answers; none if a recovery began past 2^63.
 fn asked(audit: &Audit, cluster: &str, now: u64) -> Answer
     ensures { IfSome result (λ answer. answer ≡ may_begin audit.now.audit cluster.now now) }
 {
-    let early = audit
-        .recoveries()
-        .iter()
-        .all(|r| r.begun.0 <= 9_223_372_036_854_775_808);
-    if early {
+    if are_early(audit.recoveries()) {
         Some(audit.may_begin(cluster, Moment(now)))
     } else {
         None
+    }
+}
+
+// The same of the audit with nothing more after it.
+fn asked_beside(alloc: Global, audit: &Audit, cluster: &str, now: u64) -> Result<Answer, Memory> {
+    if are_early(audit.recoveries()) {
+        let extended = Extended::of(alloc, audit)?;
+        Ok(Some(extended.may_begin(cluster, Moment(now))))
+    } else {
+        Ok(None)
     }
 }
 
@@ -86,13 +101,19 @@ fn begin(
     }
 }
 
-// Ends a recovery that isn't ended.
-fn end(audit: &mut Audit, id: u64, at: u64, outcome: Ending) -> Answer {
-    let unended = match audit.recovery(id) {
+fn is_open(audit: &Audit, id: u64) -> bool
+    ensures { IsTrue result
+        → IsSomeAnd (recovery_at audit.now.audit id) (λ r. is_unended r ≡ true) }
+{
+    match audit.recovery(id) {
         Some(r) => is_unended(r),
         None => false,
-    };
-    if unended {
+    }
+}
+
+// Ends a recovery that isn't ended.
+fn end(audit: &mut Audit, id: u64, at: u64, outcome: Ending) -> Answer {
+    if is_open(audit, id) {
         audit.end(id, Moment(at), outcome);
         Some(Ok(id))
     } else {
@@ -100,8 +121,26 @@ fn end(audit: &mut Audit, id: u64, at: u64, outcome: Ending) -> Answer {
     }
 }
 
+// Ends a recovery that isn't ended, and acknowledges it.
+fn finish(audit: &mut Audit, id: u64, at: u64, outcome: Ending) -> Answer {
+    if is_open(audit, id) {
+        audit.finish(id, Moment(at), outcome, true);
+        Some(Ok(id))
+    } else {
+        None
+    }
+}
+
+// How many recoveries of a cluster an acknowledgement changes; none if they were counted otherwise before.
+fn ack(audit: &mut Audit, cluster: &str) -> Answer {
+    let new = audit.count_new(cluster);
+    let count = audit.ack(cluster);
+    if new == count { Some(Ok(count)) } else { None }
+}
+
 fn are_in_range(list: &[Recovery], next: u64) -> bool
-    ensures { IsTrue result ↔ All (λ r. (1 ≤ r.id) × (r.id < next) × (r.block ≤ 1000000000)) list.now }
+    ensures { IsTrue result
+        ↔ All (λ r. (1 ≤ r.id) × (r.id < next) × (r.block ≤ 1000000000)) list.now }
 {
     list.iter()
         .all(|r| (r.id >= 1 && r.id < next) && r.block <= 1_000_000_000)
@@ -115,8 +154,15 @@ struct Opening {
     next: u64,
 }
 
-// The audit of some kept rows; none if their ids aren't from 1 on and below the next one, or a period is too long.
-fn loaded(alloc: Global, rows: Vec<Row>, period: u64, next: u64) -> Result<Option<Audit>, Memory> {
+// The audit of some kept rows, with or without its index; none if their ids aren't from 1 on and below the next one, or
+// a period is too long.
+fn loaded(
+    alloc: Global,
+    rows: Vec<Row>,
+    period: u64,
+    next: u64,
+    indexed: bool,
+) -> Result<Option<Audit>, Memory> {
     let rows = row_map(alloc, rows)?;
     let list = recoveries_in(alloc, &OnePeriod(period), &rows)?;
     last_row_stands();
@@ -124,7 +170,11 @@ fn loaded(alloc: Global, rows: Vec<Row>, period: u64, next: u64) -> Result<Optio
     if next == 0 || !are_in_range(&list, next) {
         return Ok(None);
     }
-    Ok(Some(Audit::make(list, next)))
+    let mut audit = Audit::make(list, next);
+    if indexed {
+        audit.index(alloc)?;
+    }
+    Ok(Some(audit))
 }
 
 // A recovery that is kept: its id, cluster, begin, end, outcome and block period.
@@ -142,13 +192,13 @@ fn kept_row(
 }
 
 // The audit of these recoveries, beside which another row is kept.
-fn audit_of(alloc: Global, opening: Opening) -> Result<Option<Audit>, Memory> {
+fn audit_of(alloc: Global, opening: Opening, indexed: bool) -> Result<Option<Audit>, Memory> {
     let mut rows = Vec::new(alloc);
     rows.push(Row::Switch(false))?;
     for one in opening.kept {
         rows.push(kept_row(alloc, *one)?)?;
     }
-    loaded(alloc, rows, opening.period, opening.next)
+    loaded(alloc, rows, opening.period, opening.next, indexed)
 }
 
 #[derive(Clone, Copy)]
@@ -158,20 +208,30 @@ enum Act {
     // A cluster, the moment, and a block period.
     Begin(&'static str, u64, u64),
     End(u64, u64, Ending),
+    // Ends a recovery and acknowledges it.
+    Finish(u64, u64, Ending),
     Ack(&'static str),
 }
 
 fn answer(alloc: Global, audit: &mut Audit, act: Act) -> Result<Answer, Memory> {
     match act {
-        Act::Ask(cluster, now) => Ok(asked(audit, cluster, now)),
+        Act::Ask(cluster, now) => {
+            let answer = asked(audit, cluster, now);
+            if asked_beside(alloc, audit, cluster, now)? == answer {
+                Ok(answer)
+            } else {
+                Ok(None)
+            }
+        }
         Act::Begin(cluster, now, block) => begin(alloc, audit, cluster, now, block),
         Act::End(id, at, outcome) => Ok(end(audit, id, at, outcome)),
-        Act::Ack(cluster) => Ok(Some(Ok(audit.ack(cluster)))),
+        Act::Finish(id, at, outcome) => Ok(finish(audit, id, at, outcome)),
+        Act::Ack(cluster) => Ok(ack(audit, cluster)),
     }
 }
 
 // The first act that is answered otherwise, counted from 0.
-fn surprise_in(
+fn first_difference_in(
     alloc: Global,
     audit: &mut Audit,
     acts: &[(Act, Answer)],
@@ -185,14 +245,15 @@ fn surprise_in(
 }
 
 // The same of acts on the audit of these recoveries; the act 0, too, if they make none.
-fn surprise(
+fn first_difference(
     alloc: Global,
     opening: Opening,
     acts: &[(Act, Answer)],
+    indexed: bool,
 ) -> Result<Option<usize>, Memory> {
-    match audit_of(alloc, opening)? {
+    match audit_of(alloc, opening, indexed)? {
         Some(mut audit) => {
-            let found = surprise_in(alloc, &mut audit, acts);
+            let found = first_difference_in(alloc, &mut audit, acts);
             drop(audit);
             found
         }
@@ -373,6 +434,65 @@ const MINUTE: [(Act, Answer); 8] = [
     ),
 ];
 
+// Recoveries of two clusters lie between one another; some are done, some only acknowledged or only ended.
+const WOVEN: [(Act, Answer); 33] = [
+    (Act::Begin("a", 0, 100), Some(Ok(1))),
+    (Act::Begin("b", 0, 0), Some(Ok(2))),
+    (Act::Begin("c", 0, BLOCK), Some(Ok(3))),
+    (Act::Ack("c"), Some(Ok(1))),
+    (Act::Ask("c", 5), Some(Err(Held::Unended(3)))),
+    (Act::End(2, 1, Ending::Interrupted), Some(Ok(2))),
+    (Act::Begin("b", 1, 0), Some(Ok(4))),
+    (Act::End(4, 1, Ending::Interrupted), Some(Ok(4))),
+    (Act::Begin("b", 2, 50), Some(Ok(5))),
+    (Act::Ask("b", 60), Some(Err(Held::Unended(5)))),
+    (Act::Ask("a", 60), Some(Err(Held::Unended(1)))),
+    (Act::End(5, 3, Ending::Interrupted), Some(Ok(5))),
+    (
+        Act::Ask("b", 51),
+        Some(Err(Held::Blocked {
+            id: 5,
+            until: Moment(52),
+        })),
+    ),
+    (Act::Ask("b", 52), Some(Ok(6))),
+    (Act::End(1, 4, Ending::Promoted(ServerNo(2))), Some(Ok(1))),
+    (Act::Begin("b", 52, 0), Some(Ok(6))),
+    // an earlier moment: what blocked then blocks
+    (
+        Act::Ask("a", 99),
+        Some(Err(Held::Blocked {
+            id: 1,
+            until: Moment(100),
+        })),
+    ),
+    (Act::End(6, 52, Ending::Interrupted), Some(Ok(6))),
+    (
+        Act::Ask("b", 10),
+        Some(Err(Held::Blocked {
+            id: 5,
+            until: Moment(52),
+        })),
+    ),
+    (Act::Begin("a", 100, 7), Some(Ok(7))),
+    (Act::Ack("b"), Some(Ok(4))),
+    (Act::Ack("b"), Some(Ok(0))),
+    (Act::Ask("b", 10), Some(Ok(8))),
+    (Act::Ack("a"), Some(Ok(2))),
+    (Act::Ask("a", 10), Some(Err(Held::Unended(7)))),
+    (Act::End(7, 101, Ending::Interrupted), Some(Ok(7))),
+    (Act::Begin("a", 101, 7), Some(Ok(8))),
+    (Act::Ack("a"), Some(Ok(1))),
+    (Act::End(3, 102, Ending::Interrupted), Some(Ok(3))),
+    (Act::Begin("c", 102, 7), Some(Ok(9))),
+    (
+        Act::Finish(9, 103, Ending::Promoted(ServerNo(1))),
+        Some(Ok(9)),
+    ),
+    (Act::Finish(9, 103, Ending::Interrupted), None),
+    (Act::Ask("c", 103), Some(Ok(10))),
+];
+
 const NOTHING: Opening = Opening {
     kept: &[],
     period: BLOCK,
@@ -380,9 +500,10 @@ const NOTHING: Opening = Opening {
 };
 
 // What is kept, and what is done.
-const STORIES: [(Opening, &[(Act, Answer)]); 5] = [
+const STORIES: [(Opening, &[(Act, Answer)]); 6] = [
     (NOTHING, &APART),
     (NOTHING, &MINUTE),
+    (NOTHING, &WOVEN),
     (
         Opening {
             kept: &ENDED,
@@ -409,10 +530,10 @@ const STORIES: [(Opening, &[(Act, Answer)]); 5] = [
     ),
 ];
 
-// The first story with a surprise, and the act.
-fn first_surprise(alloc: Global) -> Result<Option<(usize, usize)>, Memory> {
+// The first story with a difference, and the act.
+fn first_surprise(alloc: Global, indexed: bool) -> Result<Option<(usize, usize)>, Memory> {
     for (story, (opening, acts)) in STORIES.iter().enumerate() {
-        if let Some(act) = surprise(alloc, *opening, acts)? {
+        if let Some(act) = first_difference(alloc, *opening, acts, indexed)? {
             return Ok(Some((story, act)));
         }
     }
@@ -421,7 +542,8 @@ fn first_surprise(alloc: Global) -> Result<Option<(usize, usize)>, Memory> {
 
 #[test]
 fn recoveries_stand_apart(rt: HostRuntime) {
-    assert_eq!(rt; first_surprise(rt.alloc()), Ok(None));
+    assert_eq!(rt; first_surprise(rt.alloc(), false), Ok(None));
+    assert_eq!(rt; first_surprise(rt.alloc(), true), Ok(None));
 }
 
 const UNENDED: [Kept; 4] = [
@@ -484,7 +606,7 @@ fn restart(alloc: Global, audit: &mut Audit) -> Result<(bool, bool), Memory> {
 }
 
 fn restarted(alloc: Global) -> Result<(bool, bool), Memory> {
-    match audit_of(alloc, RESTARTED)? {
+    match audit_of(alloc, RESTARTED, true)? {
         Some(mut audit) => {
             let restarted = restart(alloc, &mut audit);
             drop(audit);

@@ -79,8 +79,8 @@ pub use Rattle.top_call.specs.Tasks.declared.ending.Ending.TheVariants as ends
 pub use Rattle.top_call.proofs.Ends.{bad_words, counted, each, idles, keeper_rose, known, lifted, no_usage, none_or_some, of_done, of_four, of_three}
 pub use Rattle.top_call.proofs.Ends.{of_two, reads_at, told_of_faults, undrawn, unmoved}
 pub use Rattle.top_call.proofs.Reports.{both, err_by, kept_by_report, out_by, status_told}
-pub use Rattle.top_call.proofs.Runs.{active_alone, alone, begin_apart, begins, finish_well, finishes, holds, hooks, loses, obeys, obeys_at, promised, safe_run}
-pub use Rattle.top_call.proofs.Runs.{tell_hooks, tell_truly, whole_comes}
+pub use Rattle.top_call.proofs.Runs.{alone, begins, finishes, holds, hooks, loses, obeys_at, promised}
+pub use Rattle.top_call.proofs.Runs.{whole_comes}
 pub use Rattle.top_call.specs.Ends.{AskToDraw, Call, DrawEnds, FaultsBy, Idles, IsComplete, IsGood, IsReported, IsUsage, NoneRose, ReadsWhole}
 pub use Rattle.top_call.specs.Ends.{FailsByKeeper, call, status_of}
 pub use Rattle.top_call.specs.Faults.{fault_text}

@@ -8,7 +8,7 @@ pub use Rattle.top_call.specs.CommandLine.declared.parts.Places.{Places}
 pub use Rattle.top_call.specs.Commands.declared.line.Line.{Line}
 pub use Rattle.top_call.specs.Commands.declared.refusal.Refusal.{Refusal}
 pub use Rattle.top_call.specs.Commands.declared.turn.CommandTurn.{CommandTurn}
-pub use Rattle.top_call.specs.JobsInFlight.Jobs.{job_at}
+pub use Rattle.top_call.specs.UnendedJobs.Jobs.{job_at}
 pub use Rattle.top_call.specs.KeptRows.Keeping.{HasKeeperCause, KeepsAll}
 pub use Rattle.top_call.specs.KeptRows.Rows.{changed}
 pub use Rattle.top_call.specs.KeptRows.declared.row.Change.{Change}
@@ -55,8 +55,8 @@ pub use Rattle.top_call.specs.Ends.{ReadsWhole, Reports, FailsByKeeper, call, st
 pub use Rattle.top_call.specs.Faults.{fault_text}
 pub use Rattle.top_call.specs.Reads.{OfRead, ReadsAs}
 pub use Rattle.top_call.specs.Report.{ByReport, EndsAs, KeepsRows, WritesErr, WritesOut}
-pub use Rattle.top_call.specs.Runs.{ActAlone, BeginApart, BeginsApart, Finishes, FinishWell, IsActiveAlone, IsSafeRun, IsSafeState, Obeys, ObeysTable}
-pub use Rattle.top_call.specs.Runs.{TellHooks, TellsHooks, TellsTruly, TellTruly}
+pub use Rattle.top_call.specs.Runs.{BeginsApart, Finishes, IsActiveAlone, IsSafeState, Obeys}
+pub use Rattle.top_call.specs.Runs.{TellsHooks, TellsTruly}
 pub use Rattle.top_call.specs.declared.way.Way.{Way}
 pub use Rattle.top_call.specs.declared.way.Way.TheVariants as way
 pub use Rattle.top_call.specs.Turns.declared.reply.Reply.TheVariants as answered

@@ -5,13 +5,12 @@ ghost use Rattle.live_calls.specs.Prelude.{Consumes, IsReported, IsScenario, IsT
 ghost use Rattle.live_calls.specs.Ends.{LiveEndsOf, LiveEndsOver};
 
 use crate::command_line::Places;
-use crate::delivery::told;
+use crate::delivery::live_ending;
 use crate::kept_rows_items::Keeper;
-use crate::orch_base::{Sink, Source};
+use crate::orch_base::{Gate, Sink, Source};
 use crate::reading::live_scenario_from;
 use crate::scenarios_items::Scenario;
 use crate::tasks::Ending;
-use gates::Gate;
 use std::alloc::Global;
 use std::sync::Wait;
 use std::thread::Threads;
@@ -40,7 +39,7 @@ fn report<R: Threads + Wait + Sync, G: Gate + Sync, O: Sink, E: Sink, K: Keeper>
     ensures not_source { result ≡ Way.Source → ⊥ }
     ensures not_usage { result ≡ Way.Usage → ⊥ }
 {
-    match told(rt, alloc, places, scenario, out, keeper, gate) {
+    match live_ending(rt, alloc, places, scenario, out, keeper, gate) {
         Ending::Written(refused) => Way::Reported(refused),
         Ending::Unwritten => {
             close(err, b"write fault\n");

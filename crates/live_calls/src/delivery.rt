@@ -5,13 +5,12 @@ ghost use Rattle.live_calls.specs.Reports.{Delivers, LiveTells, run_report};
 
 use crate::command_line::Places;
 use crate::kept_rows_items::{Keeper, KeeperFault, Row};
-use crate::orch_base::{Name, Sink};
+use crate::orch_base::{Gate, Name, Sink};
 use crate::orch_core_items::Engine;
 use crate::rows::keep_rows;
 use crate::scenarios_items::Scenario;
 use crate::tasks::{Ending, journal_report, names_of};
 use crate::turns::{Reply, Turn};
-use gates::Gate;
 use live_desk::{Ended, live_to_end};
 use schedules::schedule_text;
 use std::alloc::Global;
@@ -52,7 +51,7 @@ fn deliver<O: Sink, K: Keeper>(
 
 /// Runs the scenario in threads, and keeps the last rows by one call. Then it writes the line of its schedule and the
 /// report of the schedule's turns on out. If the row store fails nothing is written.
-pub(crate) fn told<R: Threads + Wait + Sync, G: Gate + Sync, O: Sink, K: Keeper>(
+pub(crate) fn live_ending<R: Threads + Wait + Sync, G: Gate + Sync, O: Sink, K: Keeper>(
     rt: &R,
     alloc: Global,
     places: &Places,

@@ -8,7 +8,6 @@ mod reading;
 mod rows;
 mod top;
 
-pub use gates;
 pub use laws::{dumps_are_of_what_is_left, refused_commands_leave_the_state, schedules_run_alike};
 pub use top::orch;
 pub use top_call::{command_line, instance_keeper_items, orch_base};

@@ -6,8 +6,8 @@ pub use Rattle.std.proofs.lemmas.List.Elements.{All-append, All-cons, All-nil, f
 pub use Rattle.std.proofs.lemmas.List.Sums.{fold-append}
 pub use Rattle.std.proofs.lemmas.Option.{IfSome_then, same_Some, slice_get-get_or}
 pub use Rattle.std.specs.List.{flat_map}
-pub use Rattle.orch_core.specs.JobsInFlight.Jobs.{is_open, job_at}
-pub use Rattle.orch_core.specs.JobsInFlight.Rounds.{polls, replicates, round_over}
+pub use Rattle.orch_core.specs.UnendedJobs.Jobs.{is_open, job_at}
+pub use Rattle.orch_core.specs.UnendedJobs.Rounds.{polls, replicates, round_over}
 pub use Rattle.orch_core.specs.KeptRows.Keeping.{Kept, after_call}
 pub use Rattle.orch_core.specs.KeptRows.Rows.{changed}
 pub use Rattle.orch_core.specs.KeptRows.declared.row.Row.{Row}

@@ -90,7 +90,8 @@ impl Desk {
     pub fn next_command(&self) -> Option<&Turn>
         ensures next { MatchOption result (self.now.commands ≡ [])
             (λ t. IsNext t.now self.now.commands) }
-        ensures turn { IfSome result (λ t. IsTurn (length self.now.scenario.opening.servers) t.now) }
+        ensures turn { IfSome result (λ t. IsTurn (length self.now.scenario.opening.servers)
+            t.now) }
         ensures named { IfSome result (λ t. NamesOneOf self.now.scenario.nodes t.now) }
         ensures kind { IfSome result (λ t. is_of true t.now ≡ true) }
     {
@@ -102,7 +103,8 @@ impl Desk {
     pub fn next_listed(&self) -> Option<&Turn>
         ensures next { MatchOption result (self.now.listed ≡ [])
             (λ t. IsNext t.now self.now.listed) }
-        ensures turn { IfSome result (λ t. IsTurn (length self.now.scenario.opening.servers) t.now) }
+        ensures turn { IfSome result (λ t. IsTurn (length self.now.scenario.opening.servers)
+            t.now) }
         ensures named { IfSome result (λ t. NamesOneOf self.now.scenario.nodes t.now) }
         ensures kind { IfSome result (λ t. is_of false t.now ≡ true) }
     {

@@ -6,7 +6,7 @@ ghost use Rattle.live_desk.specs.Desks.{IsIdle, IsNextOf};
 ghost use Rattle.live_desk.specs.Kinds.{is_replication};
 ghost use Rattle.live_desk.specs.Roles.{IsDrive, IsPoll, TakesOrEnds, Works};
 
-use crate::orch_base::Memory;
+use crate::orch_base::{Copied, Memory};
 use crate::turns::{Act, Reply, Step, Turn};
 use crate::{Desk, Pass};
 use std::alloc::Global;
@@ -150,7 +150,7 @@ impl Desk {
     }
 
     /// The turn of a worker: of its job, or else the next command.
-    pub(crate) fn work(
+    pub(crate) fn worker_turn(
         &mut self,
         alloc: Global,
         pass: &mut Pass,

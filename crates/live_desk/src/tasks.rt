@@ -3,10 +3,9 @@
 ghost use Rattle.std.specs.Prelude.{◌≡◌, ◌<◌, ◌≤◌, ◌^◌, true};
 ghost use Rattle.live_desk.specs.Tasks.{fits};
 
-use crate::orch_base::Memory;
+use crate::orch_base::{Gate, Memory};
 use crate::roles::Work;
 use crate::{Desk, Pass};
-use gates::Gate;
 use std::alloc::Global;
 use std::sync::{Mutex, Wait};
 use std::thread;
@@ -80,7 +79,7 @@ fn poll<R: Wait, G: Gate>(
 }
 
 // A worker's turns, until no command is left.
-fn work<R: Wait, G: Gate>(
+fn worker_turns<R: Wait, G: Gate>(
     rt: &R,
     alloc: Global,
     shared: &Shared<'_, G>,
@@ -92,7 +91,7 @@ fn work<R: Wait, G: Gate>(
     let mut job = None;
     'turns: for _ in 0..shared.budget {
         shared.gate.pass(number);
-        match shared.desk.lock(rt).work(alloc, &mut pass, job)? {
+        match shared.desk.lock(rt).worker_turn(alloc, &mut pass, job)? {
             Work::Over => return Ok(()),
             Work::Free => job = None,
             Work::Busy(id) => job = Some(id),
@@ -117,7 +116,7 @@ impl Task {
         let result = match self.role {
             Role::Driver => drive(rt, alloc, shared),
             Role::Poller(poller) => poll(rt, alloc, shared, self.number, poller),
-            Role::Worker => work(rt, alloc, shared, self.number),
+            Role::Worker => worker_turns(rt, alloc, shared, self.number),
         };
         self.wanted = result.is_err();
     }

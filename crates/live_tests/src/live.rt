@@ -5,10 +5,9 @@ ghost use Rattle.orch_core.specs.Scenarios.Scenarios.{IsScenario};
 
 use crate::commands::Refusal;
 use crate::meeting::Meeting;
-use crate::orch_base::{Memory, ServerNo};
+use crate::orch_base::{Memory, NoGate, ServerNo};
 use crate::scenarios_items::Scenario;
 use crate::turns::{Act, Reply, Step, Turn};
-use gates::NoGate;
 use live_desk::{Journal, live};
 use scenario_reader::read;
 use std::alloc::Global;

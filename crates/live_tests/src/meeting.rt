@@ -1,6 +1,6 @@
 //! Gates that hold threads up.
 
-use gates::Gate;
+use crate::orch_base::Gate;
 use std::sync::atomic::{AtomicU64, Ordering};
 use std::thread;
 

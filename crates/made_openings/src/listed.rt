@@ -79,7 +79,8 @@ fn is_apart(init: &ServerInit, other: &ServerInit) -> bool
 
 fn is_apart_from(servers: &[ServerInit], init: &ServerInit, n: usize) -> bool
     requires { n ≤ length servers.now }
-    ensures { IsTrue result → (m : ℕ) (i : ServerInit) → m < n → slice_get servers.now m ≡ Some i → IsApart i init.now }
+    ensures { IsTrue result → (m : ℕ) (i : ServerInit) → m < n → slice_get servers.now m ≡ Some i
+        → IsApart i init.now }
 {
     for m in 0..n {
         if !is_apart(&servers[m], init) {
@@ -122,7 +123,8 @@ fn count_all(servers: &[ServerInit]) -> Option<u64>
 }
 
 fn are_few(servers: &[ServerInit]) -> bool
-    ensures { IsTrue result → length servers.now * sum_by (λ i. transactions (parts_of i)) servers.now ≤ 4000000 }
+    ensures { IsTrue result
+        → length servers.now * sum_by (λ i. transactions (parts_of i)) servers.now ≤ 4000000 }
 {
     match count_all(servers) {
         Some(all) => match all.checked_mul(servers.len() as u64) {

@@ -2,20 +2,20 @@
 use Rattle.std.proofs.Common.{◌≡◌, ℕ, Bool, true, false, List, [], ◌∷◌, refl, sym, ◌∙◌, ap, Option, Some, None}
 use Rattle.std.specs.Prelude.{◌==◌, map}
 use Rattle.move_laws.proofs.Prelude.{Begins, BookState, Case, Check, Command, CoordsCommand, Follows, Job, Move, Op, ServerNo, World}
-use Rattle.move_laws.proofs.Prelude.{about as about_given, about_one, again, again-held, and_parts, are_held, are_listed, are_matched, attached_of}
-use Rattle.move_laws.proofs.Prelude.{auto, auto-held, busy, by_gtids, coords_command, each-matched, eq-eqb, filter_passes, finished, finished-held}
-use Rattle.move_laws.proofs.Prelude.{finished-matched, first_about, first_of, first_refusal, following, footing, in_order, is_auto, is_first}
-use Rattle.move_laws.proofs.Prelude.{is_replica_of, job_with, leases_of, master_taken, matched_in, moved_below, moved_up, moves_to, of_same_id}
-use Rattle.move_laws.proofs.Prelude.{option_and_then, option_or, option_to_list, refusal_by, refused, replicas_moved_up, replicas_of, repointed}
-use Rattle.move_laws.proofs.Prelude.{repointed_auto, repointed_by, siblings_of, siblings_taken, source_above, source_of, swap, swap-held, under}
-use Rattle.move_laws.proofs.Prelude.{under-held, unders, unknown_in, up, up-held, ups, without_log}
-use Rattle.move_laws.proofs.Prelude.coords_permits.{case_of, leased_by, list_of, refusal_about, refusal_of, row_of}
-use Rattle.move_laws.proofs.Prelude.coords_plans.{ops_of, plan_of}
+use Rattle.move_laws.proofs.Prelude.{about as about_given, again, again-held, and_parts, are_held, are_listed, are_matched, attached_of, auto}
+use Rattle.move_laws.proofs.Prelude.{auto-held, busy, by_gtids, each-matched, eq-eqb, filter_passes, finished, finished-held, finished-matched}
+use Rattle.move_laws.proofs.Prelude.{first_about, first_of, first_refusal, following, footing, in_order, is_auto, is_first, is_replica_of, job_with}
+use Rattle.move_laws.proofs.Prelude.{leases_of, master_taken, matched_in, moved_below, moved_up, moves_to, of_same_id, option_and_then, option_or}
+use Rattle.move_laws.proofs.Prelude.{option_to_list, refusal_by, refused, replicas_moved_up, replicas_of, repointed, repointed_auto, repointed_by}
+use Rattle.move_laws.proofs.Prelude.{siblings_of, siblings_taken, source_above, source_of, swap, swap-held, under, under-held, unders, up, up-held}
+use Rattle.move_laws.proofs.Prelude.{ups, without_log}
+use Rattle.move_laws.proofs.Prelude.coords_permits.{case_of, list_of, refusal_about, row_of}
+use Rattle.move_laws.proofs.Prelude.coords_plans.{ops_of}
 use Rattle.move_laws.proofs.Prelude.check
 use Rattle.move_laws.proofs.Prelude.command
 use Rattle.move_laws.proofs.Prelude.refusal
 use Rattle.move_laws.proofs.Beginning.{above-by, apart-by, begins-with, logging, replicas-apart, same-apart}
-use Rattle.move_laws.proofs.Firsts.{each-none, given-by, neither}
+use Rattle.move_laws.proofs.Firsts.{both-permitted, each-none, given-by, neither}
 use Rattle.move_laws.proofs.Lists.{again-listed, among-behind, among-first, among-more, auto-listed, finished-listed, first-append, swap-listed, under-listed, unders-held, unders-listed, up-listed, ups-held, ups-listed}
 
 self : (n : ℕ) → (n == n) ≡ true
@@ -189,16 +189,8 @@ module _ (w : World) (b : BookState) (jobs : List Job) (id wait : ℕ) (i : Serv
   about command.SetWriteable d h =
       asked-begins (ops_of w b command.SetWriteable i d) (check.Unreachable ∷ []) (case_of b command.SetWriteable i d) refl refl refl (simp (self) refl) h
 
-pub permitted-begin : (w : World) (b : BookState) (jobs : List Job) (given : Command) (id wait : ℕ) → refusal_of w b given ≡ None
-    → Begins w jobs (leases_of b.leases) (leased_by b given) (job_with id wait (plan_of w b given))
-permitted-begin w b jobs given id wait h = go (coords_command given.name) h
-  where
-    with_i : (c : CoordsCommand) (o : Option ServerNo) → about_one None (refusal_about w b c) o given.d ≡ None
-        → Begins w jobs (leases_of b.leases) (about_one [] (list_of b c) o given.d) (job_with id wait (about_one [] (ops_of w b c) o given.d))
-    with_i c None h = begins-with w b jobs [] id wait [] refl refl refl refl
-    with_i c (Some i) h = about w b jobs id wait i c given.d h
-
-    go : (c : Option CoordsCommand) → refused b (refusal_about w b) c given ≡ None
-        → Begins w jobs (leases_of b.leases) (about_given [] (list_of b) c given) (job_with id wait (about_given [] (ops_of w b) c given))
-    go None h = begins-with w b jobs [] id wait [] refl refl refl refl
-    go (Some c) h = with_i c given.i (neither (unknown_in b given) (about_one None (refusal_about w b c) given.i given.d) h).1
+pub permitted-begin : (w : World) (b : BookState) (jobs : List Job) (kind : Option CoordsCommand) (given : Command) (id wait : ℕ) → refused b (refusal_about w b) kind given ≡ None
+    → Begins w jobs (leases_of b.leases) (about_given [] (list_of b) kind given) (job_with id wait (about_given [] (ops_of w b) kind given))
+permitted-begin w b jobs kind given id wait h =
+    both-permitted (λ (list : List ServerNo) (ops : List Op). Begins w jobs (leases_of b.leases) list (job_with id wait ops)) (refusal_about w b) [] (list_of b) [] (ops_of w b) b given
+    (begins-with w b jobs [] id wait [] refl refl refl refl) (λ c i. about w b jobs id wait i c given.d) kind h

@@ -1,16 +1,16 @@
 -- Permitted commands by GTIDs begin with operations that have `Held`, over servers that are free.
 use Rattle.std.proofs.Common.{◌≡◌, ℕ, true, not, List, [], ◌∷◌, ◌++◌, refl, Option, Some, None}
 use Rattle.std.specs.Prelude.{map}
-use Rattle.move_laws.proofs.Prelude.{Begins, BookState, Command, Follows, GtidCommand, Job, Server, ServerNo, World, about as about_given, about_one}
-use Rattle.move_laws.proofs.Prelude.{again, again-held, again_auto, auto, auto-held, autos, busy, case_of, disabled, each-matched, enabled, finished}
-use Rattle.move_laws.proofs.Prelude.{finished-held, finished-matched, first_about, first_refusal, following, footing, gtid_command, job_with}
-use Rattle.move_laws.proofs.Prelude.{leased_by, leases_of, list_of, matched_in, only_if, ops_of, option_to_list, plan_of, refusal_about, refusal_by}
-use Rattle.move_laws.proofs.Prelude.{refusal_of, refused, replicas_but, replicas_moved, row_of, source_of, unknown_in, without_log}
+use Rattle.move_laws.proofs.Prelude.{Begins, BookState, Command, Follows, GtidCommand, Job, Op, Server, ServerNo, World, about as about_given, again}
+use Rattle.move_laws.proofs.Prelude.{again-held, again_auto, auto, auto-held, autos, busy, case_of, disabled, each-matched, enabled, finished}
+use Rattle.move_laws.proofs.Prelude.{finished-held, finished-matched, first_about, first_refusal, following, footing, job_with, leases_of, list_of}
+use Rattle.move_laws.proofs.Prelude.{matched_in, only_if, ops_of, option_to_list, refusal_about, refusal_by, refused, replicas_but, replicas_moved}
+use Rattle.move_laws.proofs.Prelude.{row_of, source_of, without_log}
 use Rattle.move_laws.proofs.Prelude.gtid_plans.{moved}
 use Rattle.move_laws.proofs.Prelude.gtids as command
 use Rattle.move_laws.proofs.Prelude.refusal
 use Rattle.move_laws.proofs.Beginning.{begins-with, logging}
-use Rattle.move_laws.proofs.Firsts.{each-none, neither, not-false, test-false}
+use Rattle.move_laws.proofs.Firsts.{both-permitted, each-none, not-false, test-false}
 use Rattle.move_laws.proofs.Lists.{again-listed, again_auto-held, again_auto-listed, among-before, among-first, auto-listed, autos-held, autos-listed, finished-listed}
 
 module _ (w : World) (b : BookState) (jobs : List Job) (id wait : ℕ) where
@@ -71,16 +71,8 @@ module _ (w : World) (b : BookState) (jobs : List Job) (id wait : ℕ) where
       let t = each-none (map (refusal_by w b (case_of b command.DisableGtid i d)) (row_of command.DisableGtid)) h in
       disabled-begins i (source_of b i) t.0
 
-pub permitted-begin : (w : World) (b : BookState) (jobs : List Job) (given : Command) (id wait : ℕ) → refusal_of w b given ≡ None
-    → Begins w jobs (leases_of b.leases) (leased_by b given) (job_with id wait (plan_of b given))
-permitted-begin w b jobs given id wait h = go (gtid_command given.name) h
-  where
-    with_i : (c : GtidCommand) (o : Option ServerNo) → about_one None (refusal_about w b c) o given.d ≡ None
-        → Begins w jobs (leases_of b.leases) (about_one [] (list_of b c) o given.d) (job_with id wait (about_one [] (ops_of b c) o given.d))
-    with_i c None h = begins-with w b jobs [] id wait [] refl refl refl refl
-    with_i c (Some i) h = about w b jobs id wait c i given.d h
-
-    go : (c : Option GtidCommand) → refused b (refusal_about w b) c given ≡ None
-        → Begins w jobs (leases_of b.leases) (about_given [] (list_of b) c given) (job_with id wait (about_given [] (ops_of b) c given))
-    go None h = begins-with w b jobs [] id wait [] refl refl refl refl
-    go (Some c) h = with_i c given.i (neither (unknown_in b given) (about_one None (refusal_about w b c) given.i given.d) h).1
+pub permitted-begin : (w : World) (b : BookState) (jobs : List Job) (kind : Option GtidCommand) (given : Command) (id wait : ℕ) → refused b (refusal_about w b) kind given ≡ None
+    → Begins w jobs (leases_of b.leases) (about_given [] (list_of b) kind given) (job_with id wait (about_given [] (ops_of b) kind given))
+permitted-begin w b jobs kind given id wait h =
+    both-permitted (λ (list : List ServerNo) (ops : List Op). Begins w jobs (leases_of b.leases) list (job_with id wait ops)) (refusal_about w b) [] (list_of b) [] (ops_of b) b given
+    (begins-with w b jobs [] id wait [] refl refl refl refl) (λ c i. about w b jobs id wait c i given.d) kind h

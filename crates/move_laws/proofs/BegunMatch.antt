@@ -1,16 +1,15 @@
 -- Permitted commands by matches begin with operations that have `Held` and their matches, over servers that are free.
 use Rattle.std.proofs.Common.{◌≡◌, ℕ, List, [], ◌∷◌, ◌++◌, refl, Option, Some, None}
 use Rattle.std.specs.Prelude.{map}
-use Rattle.move_laws.proofs.Prelude.{Begins, BookState, Command, Follows, Job, Moment, PseudoCommand, ServerNo, World, about as about_given}
-use Rattle.move_laws.proofs.Prelude.{about_one, busy, each-matched, finished, finished-held, finished-matched, first_about, first_refusal, following}
-use Rattle.move_laws.proofs.Prelude.{footing, job_with, leases_of, matched_in, matching, matchings, moved, option_to_list, pseudo_command, refusal_by}
-use Rattle.move_laws.proofs.Prelude.{refused, replicas_but, replicas_of, rest_refusal, row_refusal, source_above, sources_over, unknown_in}
-use Rattle.move_laws.proofs.Prelude.{without_log}
-use Rattle.move_laws.proofs.Prelude.Permits.{case_of, leased_by, list_of, refusal_about, refusal_of, row_of}
-use Rattle.move_laws.proofs.Prelude.Plans.{ops_of, plan_of, replicas_moved}
+use Rattle.move_laws.proofs.Prelude.{Begins, BookState, Command, Follows, Job, MatchCommand, Moment, Op, ServerNo, World, about as about_given, busy}
+use Rattle.move_laws.proofs.Prelude.{each-matched, finished, finished-held, finished-matched, first_about, first_refusal, following, footing}
+use Rattle.move_laws.proofs.Prelude.{job_with, leases_of, matched_in, matching, matchings, moved, option_to_list, refusal_by, refused, replicas_but}
+use Rattle.move_laws.proofs.Prelude.{replicas_of, rest_refusal, row_refusal, source_above, sources_over, without_log}
+use Rattle.move_laws.proofs.Prelude.Permits.{case_of, list_of, refusal_about, row_of}
+use Rattle.move_laws.proofs.Prelude.Plans.{ops_of, replicas_moved}
 use Rattle.move_laws.proofs.Prelude.pseudocommand as command
 use Rattle.move_laws.proofs.Beginning.{begins-with, logging}
-use Rattle.move_laws.proofs.Firsts.{each-none, neither}
+use Rattle.move_laws.proofs.Firsts.{both-permitted, each-none, neither}
 use Rattle.move_laws.proofs.Lists.{Among, among-before, among-first, finished-listed, matching-held, matching-listed, matching-matched, matchings-held, matchings-listed}
 
 module _ (w : World) (b : BookState) (jobs : List Job) (id wait every : ℕ) where
@@ -34,7 +33,7 @@ module _ (w : World) (b : BookState) (jobs : List Job) (id wait every : ℕ) whe
       (finished-listed (rs ++ d ∷ []) (matchings rs d every) (following rs d) (matchings-listed (rs ++ d ∷ []) rs d every (among-before rs (d ∷ [])))) free
 
   -- a command's job begins, if each check of its row passes
-  about : (c : PseudoCommand) (i : ServerNo) (d : Option ServerNo) → first_refusal w b (case_of b c i d) (row_of c) ≡ None
+  about : (c : MatchCommand) (i : ServerNo) (d : Option ServerNo) → first_refusal w b (case_of b c i d) (row_of c) ≡ None
       → Begins w jobs (leases_of b.leases) (list_of b c i d) (job_with id wait (ops_of b every c i d))
   about command.Match i d h =
       let t = each-none (map (refusal_by w b (case_of b command.Match i d)) (row_of command.Match)) h in
@@ -49,16 +48,10 @@ module _ (w : World) (b : BookState) (jobs : List Job) (id wait every : ℕ) whe
       let t = each-none (map (refusal_by w b (case_of b command.RegroupReplicas i d)) (row_of command.RegroupReplicas)) h in
       begins-with w b jobs (i ∷ replicas_of b i) id wait [] refl refl refl t.0
 
-pub permitted-begin : (w : World) (b : BookState) (jobs : List Job) (now : Moment) (every : ℕ) (given : Command) (id wait : ℕ) → refusal_of w b now every given ≡ None
-    → Begins w jobs (leases_of b.leases) (leased_by b given) (job_with id wait (plan_of b every given))
-permitted-begin w b jobs now every given id wait h = go (pseudo_command given.name) h
-  where
-    with_i : (c : PseudoCommand) (o : Option ServerNo) → about_one None (refusal_about w b now every c) o given.d ≡ None
-        → Begins w jobs (leases_of b.leases) (about_one [] (list_of b c) o given.d) (job_with id wait (about_one [] (ops_of b every c) o given.d))
-    with_i c None h = begins-with w b jobs [] id wait [] refl refl refl refl
-    with_i c (Some i) h = about w b jobs id wait every c i given.d (neither (row_refusal w b c i given.d) (rest_refusal w b now every c i given.d) h).0
-
-    go : (c : Option PseudoCommand) → refused b (refusal_about w b now every) c given ≡ None
-        → Begins w jobs (leases_of b.leases) (about_given [] (list_of b) c given) (job_with id wait (about_given [] (ops_of b every) c given))
-    go None h = begins-with w b jobs [] id wait [] refl refl refl refl
-    go (Some c) h = with_i c given.i (neither (unknown_in b given) (about_one None (refusal_about w b now every c) given.i given.d) h).1
+pub permitted-begin : (w : World) (b : BookState) (jobs : List Job) (now : Moment) (every : ℕ) (kind : Option MatchCommand) (given : Command) (id wait : ℕ)
+    → refused b (refusal_about w b now every) kind given ≡ None
+    → Begins w jobs (leases_of b.leases) (about_given [] (list_of b) kind given) (job_with id wait (about_given [] (ops_of b every) kind given))
+permitted-begin w b jobs now every kind given id wait h =
+    both-permitted (λ (list : List ServerNo) (ops : List Op). Begins w jobs (leases_of b.leases) list (job_with id wait ops)) (refusal_about w b now every) [] (list_of b) [] (ops_of b every) b given
+    (begins-with w b jobs [] id wait [] refl refl refl refl)
+    (λ c i passed. about w b jobs id wait every c i given.d (neither (row_refusal w b c i given.d) (rest_refusal w b now every c i given.d) passed).0) kind h

@@ -2,12 +2,12 @@
 use Rattle.std.proofs.Common.{◌≡◌, ◌≤◌, Bool, true, false, not, List, [], ◌∷◌, ◌++◌, refl, sym, ◌∙◌, ap, Option, Some, None, arith}
 use Rattle.std.specs.Prelude.{All, nat_lt}
 use Rattle.move_laws.proofs.Prelude.{All-cons, All-head, All-nil, All-tail, AllGoByKept, BookState, Command, CoordsCommand, Deed, Follows, GoesByKept}
-use Rattle.move_laws.proofs.Prelude.{GtidCommand, IsPlaceKept, IsSetKept, Line, Op, PurgedPlace, PurgedSet, Server, ServerNo, World}
-use Rattle.move_laws.proofs.Prelude.{about as about_given, about_one, again, again_auto, auto, autos, coords_command, deed_of, exec_seen, finished}
-use Rattle.move_laws.proofs.Prelude.{first_about, first_refusal, first_seen, gtid_command, is_within, master_taken, moved_below, moved_up, moves_to}
-use Rattle.move_laws.proofs.Prelude.{nat_tests, option_or, option_to_list, place_purged, purged_seen, purged_under, refused, replicas_but}
-use Rattle.move_laws.proofs.Prelude.{replicas_moved_up, replicas_of, repointed, repointed_auto, repointed_by, set_purged, set_seen, siblings_of}
-use Rattle.move_laws.proofs.Prelude.{siblings_taken, source_above, source_of, swap, under, unders, unknown_in, up, ups, within-holds}
+use Rattle.move_laws.proofs.Prelude.{GtidCommand, IsPlaceKept, IsSetKept, Line, Op, PurgedPlace, PurgedSet, Server, ServerNo, World, again}
+use Rattle.move_laws.proofs.Prelude.{again_auto, auto, autos, coords_command, deed_of, exec_seen, finished, first_about, first_refusal, first_seen}
+use Rattle.move_laws.proofs.Prelude.{gtid_command, is_within, master_taken, moved_below, moved_up, moves_to, nat_tests, option_or, option_to_list}
+use Rattle.move_laws.proofs.Prelude.{place_purged, purged_seen, purged_under, replicas_but, replicas_moved_up, replicas_of, repointed, repointed_auto}
+use Rattle.move_laws.proofs.Prelude.{repointed_by, set_purged, set_seen, siblings_of, siblings_taken, source_above, source_of, swap, under, unders}
+use Rattle.move_laws.proofs.Prelude.{up, ups, within-holds}
 use Rattle.move_laws.proofs.Prelude.command as coords
 use Rattle.move_laws.proofs.Prelude.coords_permits
 use Rattle.move_laws.proofs.Prelude.coords_plans
@@ -18,7 +18,7 @@ use Rattle.move_laws.proofs.Prelude.gtid_plans
 use Rattle.move_laws.proofs.Prelude.gtids
 use Rattle.move_laws.proofs.Prelude.op
 use Rattle.move_laws.proofs.Prelude.refusal
-use Rattle.move_laws.proofs.Firsts.{neither, not-false, test-false}
+use Rattle.move_laws.proofs.Firsts.{about-permitted, neither, not-false, test-false}
 use Rattle.move_laws.proofs.Numbered.{row-passes}
 
 -- ---- what passes the checks is kept
@@ -195,23 +195,9 @@ module _ (w : World) (b : BookState) (i : ServerNo) where
       disabled-planned (source_of b i) (of-itself (row-passes w b (gtid_permits.case_of b gtids.DisableGtid i d) (gtid_permits.row_of gtids.DisableGtid) 5 PurgedPlace h refl))
 
 pub coords-begin : (w : World) (b : BookState) (given : Command) → coords_permits.refusal_of w b given ≡ None → AllGoByKept b (coords_plans.plan_of w b given)
-coords-begin w b given h = go (coords_command given.name) h
-  where
-    with_i : (k : CoordsCommand) (o : Option ServerNo) → about_one None (coords_permits.refusal_about w b k) o given.d ≡ None → AllGoByKept b (about_one [] (coords_plans.ops_of w b k) o given.d)
-    with_i k None h = tt
-    with_i k (Some i) h = coords-planned w b i k given.d h
-
-    go : (k : Option CoordsCommand) → refused b (coords_permits.refusal_about w b) k given ≡ None → AllGoByKept b (about_given [] (coords_plans.ops_of w b) k given)
-    go None h = tt
-    go (Some k) h = with_i k given.i (neither (unknown_in b given) (about_one None (coords_permits.refusal_about w b k) given.i given.d) h).1
+coords-begin w b given h =
+    about-permitted (AllGoByKept b) (coords_permits.refusal_about w b) [] (coords_plans.ops_of w b) b given tt (λ k i. coords-planned w b i k given.d) (coords_command given.name) h
 
 pub gtids-begin : (w : World) (b : BookState) (given : Command) → gtid_permits.refusal_of w b given ≡ None → AllGoByKept b (gtid_plans.plan_of b given)
-gtids-begin w b given h = go (gtid_command given.name) h
-  where
-    with_i : (k : GtidCommand) (o : Option ServerNo) → about_one None (gtid_permits.refusal_about w b k) o given.d ≡ None → AllGoByKept b (about_one [] (gtid_plans.ops_of b k) o given.d)
-    with_i k None h = tt
-    with_i k (Some i) h = gtids-planned w b i k given.d h
-
-    go : (k : Option GtidCommand) → refused b (gtid_permits.refusal_about w b) k given ≡ None → AllGoByKept b (about_given [] (gtid_plans.ops_of b) k given)
-    go None h = tt
-    go (Some k) h = with_i k given.i (neither (unknown_in b given) (about_one None (gtid_permits.refusal_about w b k) given.i given.d) h).1
+gtids-begin w b given h =
+    about-permitted (AllGoByKept b) (gtid_permits.refusal_about w b) [] (gtid_plans.ops_of b) b given tt (λ k i. gtids-planned w b i k given.d) (gtid_command given.name) h

@@ -1,5 +1,6 @@
 -- If nothing is first, each is nothing.
-pub use Rattle.permission.proofs.Free.{neither}
+pub use Rattle.recovery_core.proofs.PermissionProofs.Free.{neither}
+pub use Rattle.recovery_core.proofs.PermissionProofs.Rows.{about-permitted, both-permitted}
 pub use Rattle.std.proofs.lemmas.Bool.{not-false}
 use Rattle.std.proofs.Common.{◌≡◌, ℕ, Bool, true, false, not, List, [], ◌∷◌, refl, sym, ◌∙◌, ap, Option, Some, None, ◌||◌}
 use Rattle.std.specs.Prelude.{◌==◌, is_some, slice_index_or}

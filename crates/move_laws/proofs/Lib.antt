@@ -10,3 +10,17 @@ pub mod ByKept
 pub mod PlansOf
 pub mod PlansOfGtid
 pub mod PlansOfMatch
+pub mod Apart
+pub mod Parents
+pub mod Going
+pub mod Plans
+pub mod PlansOfPath
+pub mod BegunPath
+pub mod ByKeptPath
+pub mod Latest
+pub mod Blocking
+pub mod ByBook
+pub mod Rising
+pub mod PlansOfSingles
+pub mod EachOnce
+pub mod Trying

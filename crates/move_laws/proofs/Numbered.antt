@@ -1,12 +1,12 @@
 -- Rows answer the lowest refusal.
 use Rattle.std.proofs.Common.{◌≡◌, ℕ, zero, suc, ◌<◌, Bool, true, false, not, List, [], ◌∷◌, refl, sym, ◌∙◌, ap, subst, Option, Some, None, arith}
 use Rattle.std.specs.Prelude.{◌==◌, is_some, nat_lt, slice_get}
-use Rattle.move_laws.proofs.Prelude.{BookState, Case, Check, CoordsCommand, GtidCommand, Interval, PseudoCommand, Refusal, ServerNo, World, and_parts}
+use Rattle.move_laws.proofs.Prelude.{BookState, Case, Check, CoordsCommand, GtidCommand, Interval, MatchCommand, Refusal, ServerNo, World, and_parts}
 use Rattle.move_laws.proofs.Prelude.{are_one, attached_of, busy, busy_by, check_number, errant, errant_by, exec_seen, first_about, first_seen}
 use Rattle.move_laws.proofs.Prelude.{has_log, instance_at, is_attached_in, is_below, is_detached_in, is_given, is_lower, is_valid, is_within}
 use Rattle.move_laws.proofs.Prelude.{last_row_of, lease_at, marks_row, moved_row, nat_tests, number_of, of_below, of_lower_version, of_other_cluster}
 use Rattle.move_laws.proofs.Prelude.{of_same_id, only_if, option_and_then, option_or, own_missing, place_purged, purged_seen, purged_under}
-use Rattle.move_laws.proofs.Prelude.{refusal_by, rises_from, row_of as gtid_row_of, same_id, same_label, same_Some, seen_source, set_purged, set_seen}
+use Rattle.move_laws.proofs.Prelude.{refusal_by, rises_from, row_of as gtid_row_of, same_Some, same_id, same_label, seen_source, set_purged, set_seen}
 use Rattle.move_laws.proofs.Prelude.{source_of, unlogged, unreached, uuid_of, without_log}
 use Rattle.move_laws.proofs.Prelude.Permits.{row_of as match_row_of}
 use Rattle.move_laws.proofs.Prelude.coords_permits.{row_of}
@@ -134,7 +134,7 @@ pub gtid-rows-rise : (c : GtidCommand) → rises_from 2 (gtid_row_of c) ≡ true
 gtid-rows-rise gtid.MoveGtid = refl
 gtid-rows-rise _ = refl
 
-pub match-rows-rise : (c : PseudoCommand) → rises_from 2 (match_row_of c) ≡ true
+pub match-rows-rise : (c : MatchCommand) → rises_from 2 (match_row_of c) ≡ true
 match-rows-rise matching.Match = refl
 match-rows-rise _ = refl
 
@@ -142,12 +142,12 @@ moved-rise : (none : Bool) → rises_from 30 (moved_row none) ≡ true
 moved-rise true = refl
 moved-rise false = refl
 
-marks-rise : (none : Bool) (c : PseudoCommand) → rises_from 30 (marks_row none c) ≡ true
+marks-rise : (none : Bool) (c : MatchCommand) → rises_from 30 (marks_row none c) ≡ true
 marks-rise none matching.Match = moved-rise none
 marks-rise none matching.MatchUp = moved-rise none
 marks-rise none matching.MatchReplicas = moved-rise none
 marks-rise true matching.RegroupReplicas = refl
 marks-rise false matching.RegroupReplicas = refl
 
-pub match-last-rows-rise : (every : ℕ) (c : PseudoCommand) → rises_from 30 (last_row_of every c) ≡ true
+pub match-last-rows-rise : (every : ℕ) (c : MatchCommand) → rises_from 30 (last_row_of every c) ≡ true
 match-last-rows-rise every c = marks-rise (every == 0) c

@@ -2,3 +2,9 @@ pub mod Prelude
 pub mod Numbers
 pub mod Given
 pub mod ByKept
+pub mod Ways
+pub mod Clusters
+pub mod Latest
+pub mod Settings
+pub mod Lowest
+pub mod Tries

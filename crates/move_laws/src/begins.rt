@@ -11,5 +11,6 @@ ghost use Rattle.move_laws.specs.Prelude.Plans.{plan_of};
 pub fn permitted_commands_begin()
     ensures { (w : World) (b : BookState) (jobs : List Job) (given : ACommand) (id wait : ℕ) →
         refusal_of w b given ≡ None →
-        Begins w jobs (leases_of b.leases) (leased_by b given) (job_with id wait (plan_of w b given)) }
+        Begins w jobs (leases_of b.leases) (leased_by b given)
+        (job_with id wait (plan_of w b given)) }
 {}

@@ -9,5 +9,6 @@ ghost use Rattle.move_laws.specs.Prelude.{Begins, BookState, Command as ACommand
 pub fn permitted_gtid_commands_begin()
     ensures { (w : World) (b : BookState) (jobs : List Job) (given : ACommand) (id wait : ℕ) →
         refusal_of w b given ≡ None →
-        Begins w jobs (leases_of b.leases) (leased_by b given) (job_with id wait (plan_of b given)) }
+        Begins w jobs (leases_of b.leases) (leased_by b given)
+        (job_with id wait (plan_of b given)) }
 {}

@@ -1,13 +1,12 @@
 -- The operations of a plan, and the leases, are of the book's servers, if the command's instances are.
 use Rattle.std.proofs.Common.{◌≡◌, ◌<◌, Bool, true, false, List, [], ◌∷◌, length, refl, Option, Some, None}
-use Rattle.std.specs.Prelude.{All, IsTrue}
-use Rattle.moves_coords.proofs.Prelude.{AllWithin, BookState, Command, CoordsCommand, Follows, IsBook, ServerNo, Within, World, about-is, again}
-use Rattle.moves_coords.proofs.Prelude.{again-named, are_named, auto, auto-named, below-test, by_gtids, cons-within, coords_command, finished-named}
-use Rattle.moves_coords.proofs.Prelude.{following, given-within, is_within, leased_by, list_of, master_taken, moved_below, moved_up, none-within}
-use Rattle.moves_coords.proofs.Prelude.{ops_of, option-within, option_or, option_to_list, or-within, plan_of, replicas-within, replicas_moved_up}
-use Rattle.moves_coords.proofs.Prelude.{replicas_of, repointed, repointed_auto, repointed_by, siblings-within, siblings_of, siblings_taken}
-use Rattle.moves_coords.proofs.Prelude.{source-within, source_above, source_of, swap, swap-named, under, under-named, unders, unders-named, up}
-use Rattle.moves_coords.proofs.Prelude.{up-named, ups, ups-named}
+use Rattle.std.specs.Prelude.{IsTrue}
+use Rattle.moves_coords.proofs.Prelude.{AllWithin, BookState, Command, CoordsCommand, Follows, IsBook, ServerNo, Within, World, about, about-is}
+use Rattle.moves_coords.proofs.Prelude.{again, again-named, are_named, auto, auto-named, below-test, by_gtids, cons-within, finished-named, following}
+use Rattle.moves_coords.proofs.Prelude.{given-within, is_within, list_of, master_taken, moved_below, moved_up, none-within, ops_of, option-within}
+use Rattle.moves_coords.proofs.Prelude.{option_or, option_to_list, or-within, replicas-within, replicas_moved_up, replicas_of, repointed}
+use Rattle.moves_coords.proofs.Prelude.{repointed_auto, repointed_by, siblings-within, siblings_of, siblings_taken, source-within, source_above}
+use Rattle.moves_coords.proofs.Prelude.{source_of, swap, swap-named, under, under-named, unders, unders-named, up, up-named, ups, ups-named}
 use Rattle.moves_coords.proofs.Prelude.command
 
 module _ (w : World) (b : BookState) (is : IsBook b) where
@@ -59,24 +58,18 @@ module _ (w : World) (b : BookState) (is : IsBook b) where
   ops-named command.TakeMaster i d at_i at_d = swapped i (source_of b i) (source_above b i) at_i (source-within b i is at_i)
   ops-named _ i d at_i at_d = let hi = below-test i.0 (length b.names) at_i in simp (hi) refl
 
-pub plan-named : (w : World) (b : BookState) (command : Command) → IsBook b → IsTrue (is_within (length b.names) command.i) → IsTrue (is_within (length b.names) command.d)
-    → are_named (length b.names) (plan_of w b command) ≡ true
-plan-named w b command is at_i at_d =
+pub plan-named : (w : World) (b : BookState) (kind : Option CoordsCommand) (command : Command) → IsBook b → IsTrue (is_within (length b.names) command.i) → IsTrue (is_within (length b.names) command.d)
+    → are_named (length b.names) (about [] (ops_of w b) kind command) ≡ true
+plan-named w b kind command is at_i at_d =
     about-is (λ ops. are_named (length b.names) ops ≡ true) [] (ops_of w b) b command refl (given-within b command.i at_i)
-    (λ c i at. ops-named w b is c i command.d at (given-within b command.d at_d)) (coords_command command.name)
+    (λ c i at. ops-named w b is c i command.d at (given-within b command.d at_d)) kind
 
 -- ---- leases
 
-list-within : (b : BookState) → IsBook b → (c : CoordsCommand) (i : ServerNo) (d : Option ServerNo) → i.0 < length b.names → Within b d → AllWithin b (list_of b c i d)
+pub list-within : (b : BookState) → IsBook b → (c : CoordsCommand) (i : ServerNo) (d : Option ServerNo) → i.0 < length b.names → Within b d → AllWithin b (list_of b c i d)
 list-within b is command.MoveUp i d at_i at_d = cons-within b i (option_to_list (source_of b i)) at_i (option-within b (source_of b i) (source-within b i is at_i))
 list-within b is command.MoveUpReplicas i d at_i at_d = cons-within b i (replicas_of b i) at_i (replicas-within b i)
 list-within b is command.MoveBelow i d at_i at_d = cons-within b i (option_to_list d) at_i (option-within b d at_d)
 list-within b is command.TakeSiblings i d at_i at_d = cons-within b i (siblings_of b i) at_i (siblings-within b i)
 list-within b is command.TakeMaster i d at_i at_d = cons-within b i (option_to_list (source_of b i)) at_i (option-within b (source_of b i) (source-within b i is at_i))
 list-within b is _ i d at_i at_d = cons-within b i [] at_i (none-within b)
-
-pub leases-within : (b : BookState) (command : Command) → IsBook b → IsTrue (is_within (length b.names) command.i) → IsTrue (is_within (length b.names) command.d)
-    → All (λ n. n.0 < length b.names) (leased_by b command)
-leases-within b command is at_i at_d =
-    about-is (AllWithin b) [] (list_of b) b command (none-within b) (given-within b command.i at_i)
-    (λ c i at. list-within b is c i command.d at (given-within b command.d at_d)) (coords_command command.name)

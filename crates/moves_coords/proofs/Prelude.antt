@@ -2,22 +2,22 @@
 pub use Rattle.std.proofs.lemmas.Result.{IfOk-weaker}
 pub use Rattle.std.specs.Option.{option_or, option_to_list}
 pub use Rattle.permission.specs.BookViews.Sources.{replicas_of}
-pub use Rattle.command_routes.specs.declared.kinds.CoordsCommand.{CoordsCommand}
-pub use Rattle.command_routes.specs.declared.kinds.CoordsCommand.TheVariants as command
+pub use Rattle.permission.specs.Commands.declared.kinds.CoordsCommand.{CoordsCommand}
+pub use Rattle.permission.specs.Commands.declared.kinds.CoordsCommand.TheVariants as command
 pub use Rattle.permission.specs.Commands.Turns.{is_within}
 pub use Rattle.permission.specs.Commands.declared.line.Line.TheVariants.{Follows}
 pub use Rattle.permission.specs.Commands.declared.turn.Command.{Command}
 pub use Rattle.permission.specs.InstanceKeeper.Book.{BookState, IsBook}
-pub use Rattle.permission.specs.InstanceKeeper.Leases.{first_busy}
 pub use Rattle.moves_coords.specs.Commands.{coords_command}
-pub use Rattle.moves_coords.specs.Permits.{by_gtids, case_of, leased_by, list_of, refusal_about, refusal_of, row_of}
+pub use Rattle.moves_coords.specs.Permits.{by_gtids, case_of, list_of, row_of}
 pub use Rattle.moves_coords.specs.Plans.{master_taken, moved_below, moved_up, ops_of, plan_of, replicas_moved_up, repointed, repointed_auto}
 pub use Rattle.moves_coords.specs.Plans.{repointed_by, siblings_taken}
 pub use Rattle.permission.specs.Operations.Named.{are_named}
 pub use Rattle.permission.specs.Operations.Plans.{again, auto, swap, under, up}
 pub use Rattle.permission.specs.OrchBase.declared.server.ServerNo.{ServerNo}
 pub use Rattle.permission.proofs.Free.{neither}
-pub use Rattle.permission.proofs.Rows.{about-free, about-is}
+pub use Rattle.permission.proofs.Rows.{about-is}
+pub use Rattle.permission.specs.Rows.{about}
 pub use Rattle.permission.proofs.Within.{AllWithin, Within, cons-within, given-within, none-within, option-within, or-within, replicas-within}
 pub use Rattle.permission.proofs.Within.{siblings-within, source-within}
 pub use Rattle.permission.specs.Checks.{busy, first_refusal}

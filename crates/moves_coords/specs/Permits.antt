@@ -13,8 +13,8 @@ use Rattle.permission.specs.Rows.{about, going_by, moving, refused, swapping}
 use Rattle.permission.specs.Views.{is_auto, source_above, source_of}
 use Rattle.permission.specs.declared.case.Check.{Check}
 use Rattle.permission.specs.declared.case.Check.TheVariants.{SameInstance, Busy, Unreachable, NoSource, NotDetached, AlreadyDetached, OtherCluster, Below, SourceHasNoSource, NotSibling, NotSameLog, DestNotLogging, SameServerId, VersionLower, Errant, PurgedPlace, PurgedSet}
-use Rattle.command_routes.specs.declared.kinds.CoordsCommand.{CoordsCommand}
-use Rattle.command_routes.specs.declared.kinds.CoordsCommand.TheVariants as command
+use Rattle.permission.specs.Commands.declared.kinds.CoordsCommand.{CoordsCommand}
+use Rattle.permission.specs.Commands.declared.kinds.CoordsCommand.TheVariants as command
 use Rattle.moves_coords.specs.Commands.{coords_command}
 
 -- a repoint goes by GTIDs if they are used and the instance was seen to find its place by them

@@ -14,8 +14,8 @@ use Rattle.permission.specs.ServerModel.Worlds.{World}
 use Rattle.permission.specs.Replicas.{siblings_of}
 use Rattle.permission.specs.Rows.{about}
 use Rattle.permission.specs.Views.{source_above, source_of}
-use Rattle.command_routes.specs.declared.kinds.CoordsCommand.{CoordsCommand}
-use Rattle.command_routes.specs.declared.kinds.CoordsCommand.TheVariants as command
+use Rattle.permission.specs.Commands.declared.kinds.CoordsCommand.{CoordsCommand}
+use Rattle.permission.specs.Commands.declared.kinds.CoordsCommand.TheVariants as command
 use Rattle.moves_coords.specs.Commands.{coords_command}
 use Rattle.moves_coords.specs.Permits.{by_gtids}
 

@@ -3,8 +3,7 @@
 ghost use Rattle.std.specs.Prelude.{◌≡◌};
 ghost use Rattle.moves_coords.specs.Commands.{coords_command};
 
-use crate::commands::CommandName;
-use command_routes::{CoordsCommand, Planner, Route};
+use crate::commands::{CommandName, CoordsCommand, Planner, Route};
 
 /// Which command that moves or changes servers by coordinates a command is; none of any other command.
 pub fn coords_command(name: CommandName) -> Option<CoordsCommand>
@@ -12,7 +11,6 @@ pub fn coords_command(name: CommandName) -> Option<CoordsCommand>
 {
     match Route::of(name).planner() {
         Some(Planner::Coordinates(command)) => Some(command),
-        Some(Planner::Gtids(_) | Planner::Paths(_) | Planner::Regroups(_) | Planner::Matches(_))
-        | None => None,
+        Some(Planner::Gtids(_) | Planner::Paths(_) | Planner::Matches(_)) | None => None,
     }
 }

@@ -1,25 +1,22 @@
 //! What refuses the commands.
 
-ghost use Rattle.std.specs.Prelude.{◌≡◌, ◌<◌, All, IfOk, IsSome, IsTrue, length};
+ghost use Rattle.std.specs.Prelude.{◌≡◌, IfOk, IsSome};
 ghost use Rattle.permission.specs.OrchBase.Gives.{Gives};
 ghost use Rattle.permission.specs.BookViews.Forests.{book_forest};
-ghost use Rattle.permission.specs.Commands.Turns.{is_within};
 ghost use Rattle.permission.specs.Checks.{permit_fault, permitted};
 ghost use Rattle.moves_coords.specs.Commands.{coords_command};
-ghost use Rattle.moves_coords.specs.Permits.{by_gtids, case_of, leased_by, refusal_of, row_of};
+ghost use Rattle.moves_coords.specs.Permits.{by_gtids, case_of, refusal_about, refusal_of, row_of};
 
 use crate::book_views::replicas;
 use crate::command::coords_command;
-use crate::commands::Command;
+use crate::commands::{Command, CoordsCommand};
 use crate::instance_keeper_items::Book;
 use crate::orch_base::{Moment, ServerNo};
 use crate::server_model::World;
 use crate::topology_tree::Forest;
 use crate::{Memory, PermitFault};
-use command_routes::CoordsCommand;
 use permission::{
-    Check, Movers, answered, is_auto, one_or_none, row_refusal, siblings, source, source_above,
-    unknown_in,
+    Case, Check, first_refusal, is_auto, one_or_none, siblings, source, source_above, unknown_in,
 };
 use std::alloc::Global;
 
@@ -158,36 +155,36 @@ fn row_of(by_gtids: bool, command: CoordsCommand) -> &'static [Check]
 }
 
 // Which servers move to which source, beside which, and by whose coordinates.
-fn movers_of(
+fn case_of(
     alloc: Global,
     book: &Book,
     command: CoordsCommand,
     i: ServerNo,
     d: Option<ServerNo>,
-) -> Result<Movers, Memory>
-    ensures { IfOk result (λ m. m ≡ case_of book.now command i d) }
+) -> Result<Case, Memory>
+    ensures { IfOk result (λ c. c ≡ case_of book.now command i d) }
 {
     let x = source(book, i);
     match command {
         CoordsCommand::MoveUp => {
-            let movers = Movers::one(alloc, i, source_above(book, i), x)?;
-            Ok(movers.going_by(one_or_none(alloc, x)?))
+            let case = Case::one(alloc, i, source_above(book, i), x)?;
+            Ok(case.going_by(one_or_none(alloc, x)?))
         }
         CoordsCommand::MoveUpReplicas => {
-            let movers = Movers::round(alloc, i, x, replicas(alloc, book, i)?);
-            Ok(movers.going_by(one_or_none(alloc, Some(i))?))
+            let case = Case::round(alloc, i, &replicas(alloc, book, i)?, x)?;
+            Ok(case.going_by(one_or_none(alloc, Some(i))?))
         }
-        CoordsCommand::MoveBelow => Movers::one(alloc, i, d, d),
+        CoordsCommand::MoveBelow => Case::one(alloc, i, d, d),
         CoordsCommand::Repoint => {
-            let movers = Movers::one(alloc, i, d.or(x), None)?;
-            Ok(movers.going_by(one_or_none(alloc, Some(i))?))
+            let case = Case::one(alloc, i, d.or(x), None)?;
+            Ok(case.going_by(one_or_none(alloc, Some(i))?))
         }
         CoordsCommand::TakeSiblings => {
-            Ok(Movers::round(alloc, i, Some(i), siblings(alloc, book, i)?))
+            Case::round(alloc, i, &siblings(alloc, book, i)?, Some(i))
         }
         CoordsCommand::TakeMaster => {
-            let movers = Movers::swap(alloc, book, i, x, source_above(book, i))?;
-            Ok(movers.going_by(one_or_none(alloc, x)?))
+            let case = Case::swap(alloc, book, i, x, source_above(book, i))?;
+            Ok(case.going_by(one_or_none(alloc, x)?))
         }
         CoordsCommand::DetachReplica
         | CoordsCommand::ReattachReplica
@@ -196,12 +193,37 @@ fn movers_of(
         | CoordsCommand::StopReplica
         | CoordsCommand::RestartReplica
         | CoordsCommand::SetReadOnly
-        | CoordsCommand::SetWriteable => Movers::one(alloc, i, None, None),
+        | CoordsCommand::SetWriteable => Case::one(alloc, i, None, None),
     }
 }
 
-/// Refuses one of these commands with the refusal of the lowest number that applies. It goes by the book, the servers'
-/// settings and whether they use GTIDs, and changes nothing. The moment makes no difference to these commands.
+/// Refuses a command of this kind about an instance with the refusal of the lowest number that applies. Else it answers
+/// what the command's job is about. It goes by the book, the servers' settings and whether they use GTIDs, and changes
+/// nothing.
+pub fn permit_kind(
+    alloc: Global,
+    book: &Book,
+    forest: &Forest,
+    world: &World,
+    command: CoordsCommand,
+    i: ServerNo,
+    d: Option<ServerNo>,
+) -> Result<Case, PermitFault>
+    requires { forest.now ≡ book_forest book.now }
+    ensures case { IfOk result (λ c. c ≡ case_of book.now command i d) }
+    ensures refusal { Gives (λ _. tt) permit_fault result
+        (permitted (refusal_about world.now book.now command i d)) }
+{
+    let case = case_of(alloc, book, command, i, d)?;
+    let row = row_of(by_gtids(book, world, i), command);
+    match first_refusal(alloc, book, forest, world, &case, row)? {
+        Some(refusal) => Err(PermitFault::Refused(refusal)),
+        None => Ok(case),
+    }
+}
+
+/// Refuses one of these commands with the refusal of the lowest number that applies. The moment makes no difference to
+/// these commands.
 pub fn permit(
     alloc: Global,
     book: &Book,
@@ -212,38 +234,14 @@ pub fn permit(
 ) -> Result<(), PermitFault>
     requires forest { forest.now ≡ book_forest book.now }
     requires here { IsSome (coords_command command.name) }
-    ensures { Gives (λ _. tt) permit_fault result (permitted (refusal_of world.now book.now command)) }
+    ensures { Gives (λ _. tt) permit_fault result
+        (permitted (refusal_of world.now book.now command)) }
 {
     if let Some(unknown) = unknown_in(book, command) {
         return Err(PermitFault::Refused(unknown));
     }
-    let (Some(kind), Some(i)) = (coords_command(command.name), command.i) else {
-        return Ok(());
-    };
-    let movers = movers_of(alloc, book, kind, i, command.d)?;
-    let row = row_of(by_gtids(book, world, i), kind);
-    answered(row_refusal(alloc, book, forest, world, &movers, row)?)
-}
-
-/// The servers of which the job of one of these commands takes the leases: servers of the book, if the command's
-/// instances are. `Err` means out of memory.
-pub fn leases(alloc: Global, book: &Book, command: Command) -> Result<Vec<ServerNo>, Memory>
-    requires { IsSome (coords_command command.name) }
-    ensures list { IfOk result (λ list. list.items ≡ leased_by book.now command) }
-    ensures within { IsTrue (is_within (length book.now.names) command.i) →
-        IsTrue (is_within (length book.now.names) command.d) →
-        IfOk result (λ list. All (λ n. n.0 < length book.now.names) list.items) }
-{
-    // shows the proof that sources are known
-    let _ = book.servers();
-    leased_by(alloc, book, command)
-}
-
-fn leased_by(alloc: Global, book: &Book, command: Command) -> Result<Vec<ServerNo>, Memory>
-    ensures { IfOk result (λ list. list.items ≡ leased_by book.now command) }
-{
-    match (coords_command(command.name), command.i) {
-        (Some(kind), Some(i)) => movers_of(alloc, book, kind, i, command.d)?.leases(alloc),
-        (Some(_), None) | (None, _) => Ok(Vec::new(alloc)),
+    if let (Some(kind), Some(i)) = (coords_command(command.name), command.i) {
+        permit_kind(alloc, book, forest, world, kind, i, command.d)?;
     }
+    Ok(())
 }

@@ -10,17 +10,17 @@ ghost use Rattle.moves_coords.specs.Plans.{asked, asked_started, master_taken, m
 use crate::Memory;
 use crate::book_views::replicas;
 use crate::command::coords_command;
-use crate::commands::{Command, Line, Lines};
+use crate::commands::{Command, CoordsCommand, Line, Lines};
 use crate::instance_keeper_items::Book;
 use crate::operations_items::Op;
 use crate::orch_base::ServerNo;
 use crate::permits::by_gtids;
 use crate::server_model::World;
 use crate::topology_tree::Forest;
-use command_routes::CoordsCommand;
 use permission::{siblings, source, source_above};
 use plan_parts::{
-    again, asking, auto, finished, moved, moved_each, restarted, swap, told, under, unders, up, ups,
+    again, asking, auto, ended_by_name, finished, moved, moved_each, restarted, swap, under,
+    unders, up, ups,
 };
 use std::alloc::Global;
 
@@ -126,17 +126,18 @@ fn master_taken(
 fn asked(alloc: Global, op: Op, i: ServerNo) -> Result<Vec<Op>, Memory>
     ensures { IfOk result (λ ops. ops.items ≡ asked op i) }
 {
-    told(alloc, asking(alloc, op, i)?, i)
+    ended_by_name(alloc, asking(alloc, op, i)?, i)
 }
 
 // One operation before the instance is started.
 fn asked_started(alloc: Global, op: Op, i: ServerNo) -> Result<Vec<Op>, Memory>
     ensures { IfOk result (λ ops. ops.items ≡ asked_started op i) }
 {
-    told(alloc, restarted(alloc, op, i)?, i)
+    ended_by_name(alloc, restarted(alloc, op, i)?, i)
 }
 
-fn ops_of(
+/// The operations of a command of this kind about an instance. `Err` means out of memory.
+pub fn ops_of(
     alloc: Global,
     book: &Book,
     world: &World,

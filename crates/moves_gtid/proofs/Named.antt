@@ -1,11 +1,10 @@
 -- The operations of a plan, and the leases, are of the book's servers, if the command's instances are.
 use Rattle.std.proofs.Common.{◌≡◌, ◌<◌, true, List, [], ◌∷◌, length, refl, Option, Some, None}
-use Rattle.std.specs.Prelude.{All, IsTrue}
-use Rattle.moves_gtid.proofs.Prelude.{All-append, AllWithin, BookState, Command, Follows, GtidCommand, IsBook, Server, ServerNo, Within, about-is}
-use Rattle.moves_gtid.proofs.Prelude.{again, again-named, again_auto, again_auto-named, are_named, auto, auto-named, autos, autos-named, but-within}
-use Rattle.moves_gtid.proofs.Prelude.{cons-within, disabled, enabled, finished-named, following, given-within, gtid_command, is_within, leased_by}
-use Rattle.moves_gtid.proofs.Prelude.{list_of, moved, none-within, ops_of, option-within, option_to_list, plan_of, replicas_but, replicas_moved}
-use Rattle.moves_gtid.proofs.Prelude.{source-within, source_of}
+use Rattle.std.specs.Prelude.{IsTrue}
+use Rattle.moves_gtid.proofs.Prelude.{All-append, AllWithin, BookState, Command, Follows, GtidCommand, IsBook, Server, ServerNo, Within, about}
+use Rattle.moves_gtid.proofs.Prelude.{about-is, again, again-named, again_auto, again_auto-named, are_named, auto, auto-named, autos, autos-named}
+use Rattle.moves_gtid.proofs.Prelude.{but-within, cons-within, disabled, enabled, finished-named, following, given-within, is_within, list_of, moved}
+use Rattle.moves_gtid.proofs.Prelude.{none-within, ops_of, option-within, option_to_list, replicas_but, replicas_moved, source-within, source_of}
 use Rattle.moves_gtid.proofs.Prelude.command
 
 module _ (b : BookState) (is : IsBook b) where
@@ -31,23 +30,17 @@ module _ (b : BookState) (is : IsBook b) where
   ops-named command.EnableGtid i d at_i at_d = enabled-named i (source_of b i) at_i (source-within b i is at_i)
   ops-named command.DisableGtid i d at_i at_d = disabled-named i (source_of b i) at_i
 
-pub plan-named : (b : BookState) (command : Command) → IsBook b → IsTrue (is_within (length b.names) command.i) → IsTrue (is_within (length b.names) command.d)
-    → are_named (length b.names) (plan_of b command) ≡ true
-plan-named b command is at_i at_d =
+pub plan-named : (b : BookState) (kind : Option GtidCommand) (command : Command) → IsBook b → IsTrue (is_within (length b.names) command.i) → IsTrue (is_within (length b.names) command.d)
+    → are_named (length b.names) (about [] (ops_of b) kind command) ≡ true
+plan-named b kind command is at_i at_d =
     about-is (λ ops. are_named (length b.names) ops ≡ true) [] (ops_of b) b command refl (given-within b command.i at_i)
-    (λ c i at. ops-named b is c i command.d at (given-within b command.d at_d)) (gtid_command command.name)
+    (λ c i at. ops-named b is c i command.d at (given-within b command.d at_d)) kind
 
 -- ---- leases
 
-list-within : (b : BookState) → IsBook b → (c : GtidCommand) (i : ServerNo) (d : Option ServerNo) → i.0 < length b.names → Within b d → AllWithin b (list_of b c i d)
+pub list-within : (b : BookState) → IsBook b → (c : GtidCommand) (i : ServerNo) (d : Option ServerNo) → i.0 < length b.names → Within b d → AllWithin b (list_of b c i d)
 list-within b is command.MoveGtid i d at_i at_d = cons-within b i (option_to_list d) at_i (option-within b d at_d)
 list-within b is command.MoveReplicasGtid i d at_i at_d =
     All-append (λ (n : ServerNo). n.0 < length b.names) (replicas_but b i d) (option_to_list d) (but-within b i d) (option-within b d at_d)
 list-within b is command.EnableGtid i d at_i at_d = cons-within b i (option_to_list (source_of b i)) at_i (option-within b (source_of b i) (source-within b i is at_i))
 list-within b is command.DisableGtid i d at_i at_d = cons-within b i [] at_i (none-within b)
-
-pub leases-within : (b : BookState) (command : Command) → IsBook b → IsTrue (is_within (length b.names) command.i) → IsTrue (is_within (length b.names) command.d)
-    → All (λ n. n.0 < length b.names) (leased_by b command)
-leases-within b command is at_i at_d =
-    about-is (AllWithin b) [] (list_of b) b command (none-within b) (given-within b command.i at_i)
-    (λ c i at. list-within b is c i command.d at (given-within b command.d at_d)) (gtid_command command.name)

@@ -2,21 +2,21 @@
 pub use Rattle.std.proofs.lemmas.List.Elements.{All-append}
 pub use Rattle.std.proofs.lemmas.Result.{IfOk-weaker}
 pub use Rattle.std.specs.Option.{option_to_list}
-pub use Rattle.command_routes.specs.declared.kinds.GtidCommand.{GtidCommand}
-pub use Rattle.command_routes.specs.declared.kinds.GtidCommand.TheVariants as command
+pub use Rattle.permission.specs.Commands.declared.kinds.GtidCommand.{GtidCommand}
+pub use Rattle.permission.specs.Commands.declared.kinds.GtidCommand.TheVariants as command
 pub use Rattle.permission.specs.Commands.Turns.{is_within}
 pub use Rattle.permission.specs.Commands.declared.line.Line.TheVariants.{Follows, Server}
 pub use Rattle.permission.specs.Commands.declared.turn.Command.{Command}
 pub use Rattle.permission.specs.InstanceKeeper.Book.{BookState, IsBook}
-pub use Rattle.permission.specs.InstanceKeeper.Leases.{first_busy}
 pub use Rattle.moves_gtid.specs.Commands.{gtid_command}
-pub use Rattle.moves_gtid.specs.Permits.{case_of, leased_by, list_of, refusal_about, refusal_of, row_of}
+pub use Rattle.moves_gtid.specs.Permits.{case_of, list_of, row_of}
 pub use Rattle.moves_gtid.specs.Plans.{disabled, enabled, moved, ops_of, plan_of, replicas_moved}
 pub use Rattle.permission.specs.Operations.Named.{are_named}
 pub use Rattle.permission.specs.Operations.Plans.{again, auto}
 pub use Rattle.permission.specs.OrchBase.declared.server.ServerNo.{ServerNo}
 pub use Rattle.permission.proofs.Free.{neither}
-pub use Rattle.permission.proofs.Rows.{about-free, about-is}
+pub use Rattle.permission.proofs.Rows.{about-is}
+pub use Rattle.permission.specs.Rows.{about}
 pub use Rattle.permission.proofs.Within.{AllWithin, Within, but-within, cons-within, given-within, none-within, option-within, source-within}
 pub use Rattle.permission.specs.Checks.{busy, first_refusal}
 pub use Rattle.permission.specs.Lists.{first_about}

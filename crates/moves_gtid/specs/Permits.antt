@@ -12,8 +12,8 @@ use Rattle.permission.specs.Rows.{about, going_by, moving, refused}
 use Rattle.permission.specs.Views.{source_of}
 use Rattle.permission.specs.declared.case.Check.{Check}
 use Rattle.permission.specs.declared.case.Check.TheVariants.{SameInstance, Busy, Unreachable, NoSource, AlreadyDetached, OtherCluster, Below, DestNotLogging, SameServerId, VersionLower, GtidOff, Errant, PurgedPlace, PurgedSet}
-use Rattle.command_routes.specs.declared.kinds.GtidCommand.{GtidCommand}
-use Rattle.command_routes.specs.declared.kinds.GtidCommand.TheVariants as command
+use Rattle.permission.specs.Commands.declared.kinds.GtidCommand.{GtidCommand}
+use Rattle.permission.specs.Commands.declared.kinds.GtidCommand.TheVariants as command
 use Rattle.moves_gtid.specs.Commands.{gtid_command}
 
 -- the checks of servers that go below any other

@@ -10,8 +10,8 @@ use Rattle.permission.specs.Replicas.{replicas_but}
 use Rattle.permission.specs.Rows.{about}
 use Rattle.permission.specs.Views.{source_of}
 use Rattle.plan_parts.specs.Parts.{again_auto, autos, following}
-use Rattle.command_routes.specs.declared.kinds.GtidCommand.{GtidCommand}
-use Rattle.command_routes.specs.declared.kinds.GtidCommand.TheVariants as command
+use Rattle.permission.specs.Commands.declared.kinds.GtidCommand.{GtidCommand}
+use Rattle.permission.specs.Commands.declared.kinds.GtidCommand.TheVariants as command
 use Rattle.moves_gtid.specs.Commands.{gtid_command}
 
 -- i goes below d

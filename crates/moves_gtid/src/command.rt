@@ -3,8 +3,7 @@
 ghost use Rattle.std.specs.Prelude.{◌≡◌};
 ghost use Rattle.moves_gtid.specs.Commands.{gtid_command};
 
-use crate::commands::CommandName;
-use command_routes::{GtidCommand, Planner, Route};
+use crate::commands::{CommandName, GtidCommand, Planner, Route};
 
 /// Which command by GTIDs a command is; none of any other command.
 pub fn gtid_command(name: CommandName) -> Option<GtidCommand>
@@ -12,12 +11,6 @@ pub fn gtid_command(name: CommandName) -> Option<GtidCommand>
 {
     match Route::of(name).planner() {
         Some(Planner::Gtids(command)) => Some(command),
-        Some(
-            Planner::Coordinates(_)
-            | Planner::Paths(_)
-            | Planner::Regroups(_)
-            | Planner::Matches(_),
-        )
-        | None => None,
+        Some(Planner::Coordinates(_) | Planner::Paths(_) | Planner::Matches(_)) | None => None,
     }
 }

@@ -1,24 +1,20 @@
 //! What refuses the commands.
 
-ghost use Rattle.std.specs.Prelude.{◌≡◌, ◌<◌, All, IfOk, IsSome, IsTrue, length};
+ghost use Rattle.std.specs.Prelude.{◌≡◌, IfOk, IsSome};
 ghost use Rattle.permission.specs.OrchBase.Gives.{Gives};
 ghost use Rattle.permission.specs.BookViews.Forests.{book_forest};
-ghost use Rattle.permission.specs.Commands.Turns.{is_within};
 ghost use Rattle.permission.specs.Checks.{permit_fault, permitted};
 ghost use Rattle.moves_gtid.specs.Commands.{gtid_command};
-ghost use Rattle.moves_gtid.specs.Permits.{case_of, leased_by, refusal_of, row_of};
+ghost use Rattle.moves_gtid.specs.Permits.{case_of, refusal_about, refusal_of, row_of};
 
 use crate::command::gtid_command;
-use crate::commands::Command;
+use crate::commands::{Command, GtidCommand};
 use crate::instance_keeper_items::Book;
 use crate::orch_base::{Moment, ServerNo};
 use crate::server_model::World;
 use crate::topology_tree::Forest;
 use crate::{Memory, PermitFault};
-use command_routes::GtidCommand;
-use permission::{
-    Check, Movers, answered, one_or_none, replicas_but, row_refusal, source, unknown_in,
-};
+use permission::{Case, Check, first_refusal, one_or_none, replicas_but, source, unknown_in};
 use std::alloc::Global;
 
 const MOVE: [Check; 11] = [
@@ -66,32 +62,56 @@ fn row_of(command: GtidCommand) -> &'static [Check]
 }
 
 // Which servers move to which source, beside which, and by whose coordinates.
-fn movers_of(
+fn case_of(
     alloc: Global,
     book: &Book,
     command: GtidCommand,
     i: ServerNo,
     d: Option<ServerNo>,
-) -> Result<Movers, Memory>
-    ensures { IfOk result (λ m. m ≡ case_of book.now command i d) }
+) -> Result<Case, Memory>
+    ensures { IfOk result (λ c. c ≡ case_of book.now command i d) }
 {
     let x = source(book, i);
     match command {
-        GtidCommand::MoveGtid => Movers::one(alloc, i, d, d),
+        GtidCommand::MoveGtid => Case::one(alloc, i, d, d),
         GtidCommand::MoveReplicasGtid => {
             let replicas = replicas_but(alloc, book, i, d)?;
-            Ok(Movers::new(alloc, i, d, replicas, one_or_none(alloc, d)?))
+            Case::beside(alloc, i, &replicas, d, &one_or_none(alloc, d)?)
         }
-        GtidCommand::EnableGtid => Movers::one(alloc, i, x, x),
+        GtidCommand::EnableGtid => Case::one(alloc, i, x, x),
         GtidCommand::DisableGtid => {
-            let movers = Movers::one(alloc, i, x, None)?;
-            Ok(movers.going_by(one_or_none(alloc, Some(i))?))
+            let case = Case::one(alloc, i, x, None)?;
+            Ok(case.going_by(one_or_none(alloc, Some(i))?))
         }
     }
 }
 
-/// Refuses one of these commands with the refusal of the lowest number that applies. It goes by the book, the servers'
-/// settings and whether they use GTIDs, and changes nothing. The moment makes no difference to these commands.
+/// Refuses a command of this kind about an instance with the refusal of the lowest number that applies. Else it answers
+/// what the command's job is about. It goes by the book, the servers' settings and whether they use GTIDs, and changes
+/// nothing.
+pub fn permit_kind(
+    alloc: Global,
+    book: &Book,
+    forest: &Forest,
+    world: &World,
+    command: GtidCommand,
+    i: ServerNo,
+    d: Option<ServerNo>,
+) -> Result<Case, PermitFault>
+    requires { forest.now ≡ book_forest book.now }
+    ensures case { IfOk result (λ c. c ≡ case_of book.now command i d) }
+    ensures refusal { Gives (λ _. tt) permit_fault result
+        (permitted (refusal_about world.now book.now command i d)) }
+{
+    let case = case_of(alloc, book, command, i, d)?;
+    match first_refusal(alloc, book, forest, world, &case, row_of(command))? {
+        Some(refusal) => Err(PermitFault::Refused(refusal)),
+        None => Ok(case),
+    }
+}
+
+/// Refuses one of these commands with the refusal of the lowest number that applies. The moment makes no difference to
+/// these commands.
 pub fn permit(
     alloc: Global,
     book: &Book,
@@ -102,37 +122,14 @@ pub fn permit(
 ) -> Result<(), PermitFault>
     requires forest { forest.now ≡ book_forest book.now }
     requires here { IsSome (gtid_command command.name) }
-    ensures { Gives (λ _. tt) permit_fault result (permitted (refusal_of world.now book.now command)) }
+    ensures { Gives (λ _. tt) permit_fault result
+        (permitted (refusal_of world.now book.now command)) }
 {
     if let Some(unknown) = unknown_in(book, command) {
         return Err(PermitFault::Refused(unknown));
     }
-    let (Some(kind), Some(i)) = (gtid_command(command.name), command.i) else {
-        return Ok(());
-    };
-    let movers = movers_of(alloc, book, kind, i, command.d)?;
-    answered(row_refusal(alloc, book, forest, world, &movers, row_of(kind))?)
-}
-
-/// The servers of which the job of one of these commands takes the leases: servers of the book, if the command's
-/// instances are. `Err` means out of memory.
-pub fn leases(alloc: Global, book: &Book, command: Command) -> Result<Vec<ServerNo>, Memory>
-    requires { IsSome (gtid_command command.name) }
-    ensures list { IfOk result (λ list. list.items ≡ leased_by book.now command) }
-    ensures within { IsTrue (is_within (length book.now.names) command.i) →
-        IsTrue (is_within (length book.now.names) command.d) →
-        IfOk result (λ list. All (λ n. n.0 < length book.now.names) list.items) }
-{
-    // shows the proof that sources are known
-    let _ = book.servers();
-    leased_by(alloc, book, command)
-}
-
-fn leased_by(alloc: Global, book: &Book, command: Command) -> Result<Vec<ServerNo>, Memory>
-    ensures { IfOk result (λ list. list.items ≡ leased_by book.now command) }
-{
-    match (gtid_command(command.name), command.i) {
-        (Some(kind), Some(i)) => movers_of(alloc, book, kind, i, command.d)?.leases(alloc),
-        (Some(_), None) | (None, _) => Ok(Vec::new(alloc)),
+    if let (Some(kind), Some(i)) = (gtid_command(command.name), command.i) {
+        permit_kind(alloc, book, forest, world, kind, i, command.d)?;
     }
+    Ok(())
 }

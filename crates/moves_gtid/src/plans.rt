@@ -9,15 +9,14 @@ ghost use Rattle.moves_gtid.specs.Plans.{disabled, enabled, moved, ops_of, plan_
 
 use crate::Memory;
 use crate::command::gtid_command;
-use crate::commands::Command;
+use crate::commands::{Command, GtidCommand};
 use crate::instance_keeper_items::Book;
 use crate::operations_items::Op;
 use crate::orch_base::ServerNo;
 use crate::server_model::World;
 use crate::topology_tree::Forest;
-use command_routes::GtidCommand;
 use permission::{replicas_but, source};
-use plan_parts::{again, again_auto, auto, autos, moved_each, told};
+use plan_parts::{again, again_auto, auto, autos, ended_by_name, moved_each};
 use std::alloc::Global;
 
 // Below another server.
@@ -49,7 +48,7 @@ fn enabled(alloc: Global, i: ServerNo, x: Option<ServerNo>) -> Result<Vec<Op>, M
     ensures { IfOk result (λ ops. ops.items ≡ enabled i x) }
 {
     match x {
-        Some(x) => told(alloc, again_auto(alloc, i, x)?, i),
+        Some(x) => ended_by_name(alloc, again_auto(alloc, i, x)?, i),
         None => Ok(Vec::new(alloc)),
     }
 }
@@ -59,12 +58,13 @@ fn disabled(alloc: Global, i: ServerNo, x: Option<ServerNo>) -> Result<Vec<Op>, 
     ensures { IfOk result (λ ops. ops.items ≡ disabled i x) }
 {
     match x {
-        Some(x) => told(alloc, again(alloc, i, x)?, i),
+        Some(x) => ended_by_name(alloc, again(alloc, i, x)?, i),
         None => Ok(Vec::new(alloc)),
     }
 }
 
-fn ops_of(
+/// The operations of a command of this kind about an instance. `Err` means out of memory.
+pub fn ops_of(
     alloc: Global,
     book: &Book,
     command: GtidCommand,

@@ -12,7 +12,8 @@ use std::cmp::Ordering;
 // Each server by its number and its name.
 fn numbered(alloc: Global, names: &[Name]) -> Result<Vec<(u32, &Name)>, Memory>
     requires { length names.now < 2 ^ 32 }
-    ensures { IfOk result (λ servers. map (λ s. (s.0, s.1.now)) servers.items ≡ enumerate_from 0 names.now) }
+    ensures { IfOk result (λ servers. map (λ s. (s.0, s.1.now)) servers.items
+        ≡ enumerate_from 0 names.now) }
 {
     let mut servers = Vec::with_capacity(alloc, names.len())?;
     for (no, name) in names.iter().enumerate() {
@@ -45,7 +46,8 @@ pub fn in_name_order(alloc: Global, names: &[Name]) -> Result<Vec<ServerNo>, Mem
     ensures order { IfOk result (λ order. order.items ≡ by_name names.now) }
     ensures count { IfOk result (λ order. length order.items ≡ length names.now) }
     ensures once { IfOk result (λ order. IsOrder order.items) }
-    ensures within { IfOk result (λ order. All (λ server. server.0 < length names.now) order.items) }
+    ensures within { IfOk result (λ order. All (λ server. server.0 < length names.now)
+        order.items) }
 {
     let mut servers = numbered(alloc, names)?;
     servers.sort_by(|one, other| compare(one, other))?;

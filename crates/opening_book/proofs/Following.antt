@@ -1,5 +1,6 @@
 -- Kept rows follow a book from its loading on, through each change.
 pub use Rattle.instance_keeper.proofs.KeptRows.Same.{eq_is as is_eq}
+pub use Rattle.instance_keeper.proofs.Steady.{HasSameServers, same-change, same-put}
 use Rattle.std.proofs.Common.{◌≡◌, ◌∙◌, ℕ, ◌<◌, ◌^◌, Bool, true, false, List, [], ◌∷◌, length, map, refl, sym, ap, subst, Option, Some, None, zero, suc, arith}
 use Rattle.std.specs.Prelude.{All, ◌&&◌, ◌==◌, filter, filter_map, fold, option_map, replicate, if◌then◌else◌}
 use Rattle.opening_book.proofs.Prelude.{All-cons, All-head, All-nil, All-tail, BookState, Bridge, Change, Follow, HostPort, Instance, IsBook}
@@ -8,7 +9,7 @@ use Rattle.opening_book.proofs.Prelude.{after_change, after_opening, after_put, 
 use Rattle.opening_book.proofs.Prelude.{change_is, changed, changed_by, changed_by_rising, counts, empty_book, empty_is, false≢true, fits}
 use Rattle.opening_book.proofs.Prelude.{greatest_id, is_for_book, is_in_range, is_opening_change, length-map, length-set, loaded, map_of}
 use Rattle.opening_book.proofs.Prelude.{map_of_rising, no_recovery, opened_book, pairs_head, pairs_tail, put_recovery, ring_at, ringed, row_after}
-use Rattle.opening_book.proofs.Prelude.{row_fits, row_in, row_in-changed_by, row_in-map_of, row_in-put, same-change, same-put, servers_of, shown_by}
+use Rattle.opening_book.proofs.Prelude.{row_fits, row_in, row_in-changed_by, row_in-map_of, row_in-put, servers_of, shown_by}
 use Rattle.opening_book.proofs.Prelude.{sort_key, sort_key_of, with_bridge}
 use Rattle.opening_book.proofs.Prelude.change
 use Rattle.opening_book.proofs.Prelude.row

@@ -76,7 +76,7 @@ pub fn beyond_instances(rows: &[Row]) -> &[Row]
 }
 
 /// The audit of the recoveries of these rows, by their clusters' block periods for rows that have none, with the next
-/// id. `Err` means out of memory.
+/// id. Its index is made if it has a recovery. `Err` means out of memory.
 pub fn loaded_audit<P: Periods>(
     alloc: Global,
     periods: &P,
@@ -87,7 +87,11 @@ pub fn loaded_audit<P: Periods>(
     ensures { IfOk result (λ a. a.audit ≡ audit_of (P.period_of periods.now) next rows.now) }
 {
     let recoveries = recoveries_in(alloc, periods, rows)?;
-    Ok(Audit::make(recoveries, next))
+    let mut audit = Audit::make(recoveries, next);
+    if !audit.recoveries().is_empty() {
+        audit.index(alloc)?;
+    }
+    Ok(audit)
 }
 
 fn recovery_raised(now: Moment, recovery: &Recovery) -> Moment

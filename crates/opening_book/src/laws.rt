@@ -14,9 +14,14 @@ ghost use Rattle.opening_book.specs.Reads.{AreReadWithin};
 /// at the opening and later. Under each table and key for which the book has a row that row is kept. Under any other of
 /// its tables only rows that don't count are kept.
 pub fn kept_rows_follow_the_book()
-    ensures loaded { (settings : List Settings) (last : ℕ) (rows : List Row) → length settings < 2 ^ 32 → IsRising rows → Follow rows (loaded settings last rows) }
-    ensures changed { (rows : List Row) (b : BookState) (c : Change) → Follow rows b → fits (length b.names) c ≡ true → IsInRange c → Follow (changed_by rows c) (after_change b c) }
-    ensures opening { (rows : List Row) (b : BookState) (c : Change) → Follow rows b → is_opening_change (length b.names) c ≡ true → IsInRange c → IsIdInRange c → Follow (changed_by rows c) (after_opening b c) }
+    ensures loaded { (settings : List Settings) (last : ℕ) (rows : List Row)
+        → length settings < 2 ^ 32 → IsRising rows → Follow rows (loaded settings last rows) }
+    ensures changed { (rows : List Row) (b : BookState) (c : Change) → Follow rows b
+        → fits (length b.names) c ≡ true → IsInRange c
+        → Follow (changed_by rows c) (after_change b c) }
+    ensures opening { (rows : List Row) (b : BookState) (c : Change) → Follow rows b
+        → is_opening_change (length b.names) c ≡ true → IsInRange c → IsIdInRange c
+        → Follow (changed_by rows c) (after_opening b c) }
 {}
 
 /// Kept rows follow the audit that is loaded of them, at an opening and at a restart, once what the load keeps is kept.
@@ -39,14 +44,17 @@ pub fn kept_rows_follow_the_audit()
         FollowAudit servers (changed rows (interrupting a at)) (closed a at) }
     ensures acknowledged { (servers : ℕ) (rows : List Row) (a : AuditState) (cluster : List ℕ) →
         FollowAudit servers rows a →
-        FollowAudit servers (changed rows (map put_recovery (acking a cluster))) (acknowledged a cluster) }
+        FollowAudit servers (changed rows (map put_recovery (acking a cluster)))
+        (acknowledged a cluster) }
 {}
 
 /// Changes of recoveries, and block periods that are given to them, leave the book's rows.
 pub fn recoveries_are_no_rows_of_the_book()
-    ensures put { (rows : List Row) (b : BookState) (rs : List Recovery) → All (λ r. r.id < 2 ^ 64) rs →
+    ensures put { (rows : List Row) (b : BookState) (rs : List Recovery)
+        → All (λ r. r.id < 2 ^ 64) rs →
         Follow rows b → Follow (changed rows (map put_recovery rs)) b }
-    ensures given { (period : List ℕ → ℕ) (rows given : List Row) (b : BookState) (servers last : ℕ) → servers ≤ 2 ^ 32 → last < 2 ^ 64 →
+    ensures given { (period : List ℕ → ℕ) (rows given : List Row) (b : BookState) (servers last : ℕ)
+        → servers ≤ 2 ^ 32 → last < 2 ^ 64 →
         Follow rows b → Follow (changed rows (blocks_given period (counted servers last given))) b }
 {}
 
@@ -54,8 +62,11 @@ pub fn recoveries_are_no_rows_of_the_book()
 /// The count begins at the greatest number of those that count. An instance that the opening adds was never read.
 pub fn openings_count_readings()
     ensures loaded { (settings : List Settings) (last : ℕ) (rows : List Row) →
-        AreReadWithin (last_read (counted (length settings) last rows)) (loaded settings last rows) }
-    ensures opened { (reads : ℕ) (w : AWorld) (at : AMoment) (b : BookState) (known : List Bool) (rules : List (Option ARule)) (period : List ℕ → ℕ) (rows : List Row) (a : AuditState) →
+        AreReadWithin (last_read (counted (length settings) last rows))
+        (loaded settings last rows) }
+    ensures opened { (reads : ℕ) (w : AWorld) (at : AMoment) (b : BookState) (known : List Bool)
+        (rules : List (Option ARule)) (period : List ℕ → ℕ) (rows : List Row) (a : AuditState) →
         AreReadWithin reads b →
-        AreReadWithin reads (opened_book b (opening_changes w at b known rules (loading period rows a at))) }
+        AreReadWithin reads (opened_book b
+        (opening_changes w at b known rules (loading period rows a at))) }
 {}

@@ -17,7 +17,8 @@ const REGISTERED_FOR: u64 = 3600;
 // A server as it is known at the opening.
 fn instance(alloc: Global, world: &World, moment: Moment, no: ServerNo) -> Result<Instance, Memory>
     requires { no.0 < length world.now.servers }
-    ensures { IfOk result (λ i. IfSome (server_at world.now no.0) (λ s. i ≡ opening_instance world.now moment no.0 s)) }
+    ensures { IfOk result (λ i. IfSome (server_at world.now no.0)
+        (λ s. i ≡ opening_instance world.now moment no.0 s)) }
 {
     let valid = world.is_reached(no);
     let seen = world.shows(alloc, no)?;
@@ -69,7 +70,8 @@ fn missing_instances(
 ) -> Result<Vec<Change>, Memory>
     requires known { length known.now ≡ length world.now.servers }
     requires book { length book.now.names ≡ length world.now.servers }
-    ensures { IfOk result (λ changes. changes.items ≡ missing_from world.now moment book.now 0 known.now) }
+    ensures { IfOk result (λ changes. changes.items
+        ≡ missing_from world.now moment book.now 0 known.now) }
 {
     let mut changes = Vec::new(alloc);
     for no in 0..world.servers() {
@@ -112,7 +114,8 @@ fn push_registrations(
 ) -> Result<(), Memory>
     requires moment { at.0 ≤ 2 ^ 63 }
     requires rules { length rules.now ≡ length book.now.names }
-    ensures { OnOk result (changes.new.items ≡ changes.old.items ++ registering_from at book.now 0 rules.now) }
+    ensures { OnOk result (changes.new.items ≡ changes.old.items
+        ++ registering_from at book.now 0 rules.now) }
 {
     for no in 0..book.servers() {
         let rule = rules[no as usize];
@@ -147,7 +150,8 @@ fn give_block<P: Periods>(
 }
 
 fn give_blocks<P: Periods>(alloc: Global, periods: &P, rows: &[Row]) -> Result<Vec<Change>, Memory>
-    ensures { IfOk result (λ changes. changes.items ≡ blocks_given (P.period_of periods.now) rows.now) }
+    ensures { IfOk result (λ changes. changes.items
+        ≡ blocks_given (P.period_of periods.now) rows.now) }
 {
     let mut changes = Vec::new(alloc);
     for row in rows {

@@ -1,9 +1,9 @@
 -- The table's meaning, as one more server's history joins it; and the origins' counts.
 use Rattle.std.proofs.Common.{◌≡◌, ℕ, ◌+◌, ◌-◌, ◌<◌, ◌⊎◌, inl, inr, Bool, true, false, List, length, refl, sym, ap, subst, ◌∙◌, Some, None, Option, arith, get_or}
-use Rattle.std.specs.Prelude.{◌&&◌, slice_get, nat_le, is_none, is_some, not, All}
+use Rattle.std.specs.Prelude.{◌&&◌, ◌||◌, slice_get, nat_le, is_none, is_some, not, All}
 use Rattle.opening_checks.proofs.Prelude.{CountsHome, IsOfServers, IsPart, IsTable, Link, Lists, Part, ServerInit, ServerNo, Txn, agrees_throughout}
 use Rattle.opening_checks.proofs.Prelude.{agrees_with, alike, all_below, before_at, cases_order, count_at, drop_more, false≢true, first_met}
-use Rattle.opening_checks.proofs.Prelude.{get_or_from_slice_get, is_counted, is_home, is_kin, joined-listed, link_of, links, list_all, listed-all}
+use Rattle.opening_checks.proofs.Prelude.{get_or_from_slice_get, is_counted, is_home, is_kin, joined-listed, link_of, links, list_all, listed-all, lists_any}
 use Rattle.opening_checks.proofs.Prelude.{listed_history, listed_numbered, not_kin, parts_at, parts_of, root_of, row_at, same_Some, slice_get-get_or, slice_get_within}
 use Rattle.opening_checks.proofs.Prelude.{transactions, with_links}
 use Rattle.std.proofs.Common.{cond, drop, ◌∷◌}
@@ -110,6 +110,21 @@ first_met-on test servers n i there passes =
     let is : get_or servers n i ≡ i = get_or_from_slice_get servers n i i there in
     sym (ap (first_met test n) here ∙ ap (λ (j : ServerInit). cond (test n j) (Some n) (first_met test (n + 1) (drop (n + 1) servers))) is
     ∙ ap (λ b. cond b (Some n) (first_met test (n + 1) (drop (n + 1) servers))) passes)
+
+-- a server, or one after it
+lists-on : (servers : List ServerInit) (n : ℕ) (i : ServerInit) → slice_get servers n ≡ Some i → lists_any (drop n servers) ≡ (is_none i.source || lists_any (drop (n + 1) servers))
+lists-on servers n i there =
+    let here : drop n servers ≡ get_or servers n i ∷ drop (n + 1) servers = drop_more servers n i (slice_get_within servers n i there) in
+    ap lists_any here ∙ ap (λ (j : ServerInit). is_none j.source || lists_any (drop (n + 1) servers)) (get_or_from_slice_get servers n i i there)
+
+-- one that lists a history
+pub lists-here : (servers : List ServerInit) (n : ℕ) (i : ServerInit) → slice_get servers n ≡ Some i → is_none i.source ≡ true → lists_any (drop n servers) ≡ true
+lists-here servers n i there none = lists-on servers n i there ∙ ap (λ b. b || lists_any (drop (n + 1) servers)) none
+
+-- one that has a source
+pub lists-after : (servers : List ServerInit) (n : ℕ) (i : ServerInit) (m : ServerNo) → slice_get servers n ≡ Some i → i.source ≡ Some m → lists_any (drop (n + 1) servers) ≡ true → lists_any (drop n servers) ≡ true
+lists-after servers n i m there some more =
+    lists-on servers n i there ∙ ap (λ (s : Option ServerNo). is_none s || lists_any (drop (n + 1) servers)) some ∙ more
 
 pub not_kin-kin : (servers : List ServerInit) (n : ℕ) (i : ServerInit) → is_kin servers n (listed_history (parts_of i)) ≡ true → not_kin servers n i ≡ false
 not_kin-kin servers n i kin = ap (λ b. is_none i.source && not b) kin ∙ none (is_none i.source)

@@ -16,12 +16,13 @@ pub use Rattle.binlog_coords.specs.Log.{Log, coord_after}
 pub use Rattle.binlog_coords.specs.declared.Coord.{Coord}
 pub use Rattle.opening_checks.specs.Checks.{InRange, server_of, without}
 pub use Rattle.opening_checks.specs.KinTable.{CountsHome, IsOfServers, IsTable, Lists, StandsAt, agrees_at, agrees_in, agrees_throughout}
-pub use Rattle.opening_checks.specs.KinTable.{agrees_where, alike, before_at, extended, is_counted, link_of, row_at, with_link, with_links}
+pub use Rattle.opening_checks.specs.KinTable.{agrees_where, alike, before_at, extended, is_counted, link_of, lists_any, row_at, with_link, with_links}
 pub use Rattle.opening_checks.specs.Places.{FilesGood}
 pub use Rattle.opening_checks.specs.ServerTests.{met_by}
 pub use Rattle.opening_checks.specs.SourceLogs.{AreLogs}
 pub use Rattle.opening_checks.specs.Values.{bad_coords_under, bad_exec, bad_exec_in, coord_value, coord_value_in, coord_value_under, elsewhere}
-pub use Rattle.opening_checks.specs.Values.{exec_in, first_bad_flush, first_elsewhere, flush_value, place_value, read_in, value_at, value_in}
+pub use Rattle.opening_checks.specs.Values.{first_bad_flush, first_elsewhere, flush_value, place_value, value_at, value_in}
+pub use Rattle.openings.specs.Servers.{exec_in, read_in}
 pub use Rattle.opening_checks.specs.declared.fault.FlawedValue.{FlawedValue}
 pub use Rattle.opening_checks.specs.declared.fault.FlawedValue.TheVariants as value
 pub use Rattle.opening_checks.specs.declared.kin_row.Link.{Link}

@@ -1,6 +1,7 @@
 -- A table of what listed histories say of each transaction: for each origin a row of links, by the transactions'
 -- numbers.
-use Rattle.std.specs.Prelude.{◌≡◌, ℕ, ◌+◌, ◌-◌, ◌<◌, ◌≤◌, ◌==◌, ◌&&◌, Bool, true, nat_le, if◌then◌else◌, List, [], ◌∷◌, ◌++◌, length, Option, Some, None, slice_get, slice_set, slice_index, unwrap_or, zero, suc}
+use Rattle.std.specs.Prelude.{◌≡◌, ℕ, ◌+◌, ◌-◌, ◌<◌, ◌≤◌, ◌==◌, ◌&&◌, Bool, true, nat_le, if◌then◌else◌, List, [], ◌∷◌, ◌++◌, length, Option, Some, None, slice_get, slice_set, slice_index, unwrap_or, is_none, zero, suc}
+use Rattle.std.specs.List.{list_any}
 use Rattle.opening_checks.specs.Prelude.{ServerInit, Txn, count_own, history_at, links, list_all, listed_history, parts_of, same_before}
 use Rattle.opening_checks.specs.declared.kin_row.Link.{Link}
 
@@ -63,6 +64,10 @@ pub record Lists (servers : List ServerInit) (m : ℕ) (history : List Txn) : Ty
   pub there : slice_get servers m ≡ Some init
   pub root : init.source ≡ None
   pub is : history ≡ listed_history (parts_of init)
+
+-- one of these servers may list a history: it has no source
+abbrev pub lists_any : List ServerInit → Bool
+lists_any servers = list_any (λ i. is_none i.source) servers
 
 -- There is a row for each server. Each link is of a history that one of the first n servers lists. Each transaction of
 -- those histories has an equal link.

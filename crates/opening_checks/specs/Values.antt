@@ -1,10 +1,11 @@
 -- Which value of a server is to blame for a flaw.
-use Rattle.std.specs.Prelude.{ℕ, ◌+◌, not, Bool, nat_lt, if◌then◌else◌, List, [], ◌∷◌, Option, Some, None, unwrap_or, slice_get}
-use Rattle.opening_checks.specs.Prelude.{Coord, Flaw, Log, Part, ServerInit, at_server, bad_coords_in, bad_flushes, bad_purged, coord_after, count_of}
+use Rattle.std.specs.Prelude.{ℕ, ◌+◌, not, Bool, nat_lt, if◌then◌else◌, List, [], ◌∷◌, Option, Some, None, slice_get}
+use Rattle.opening_checks.specs.Prelude.{Coord, Flaw, Log, Part, ServerInit, at_server, bad_coords_in, bad_flushes, bad_purged, count_of}
 use Rattle.opening_checks.specs.Prelude.{exec_of, has_place_of, log_at, of_source, parts_of, place, same_cluster}
 use Rattle.opening_checks.specs.Prelude.flaw
 use Rattle.opening_checks.specs.declared.fault.FlawedValue.{FlawedValue}
 use Rattle.opening_checks.specs.declared.fault.FlawedValue.TheVariants as value
+use Rattle.openings.specs.Servers.{exec_in, read_in}
 
 abbrev pub elsewhere : List ServerInit → ServerInit → Part → Bool
 elsewhere servers i p = at_server (λ s. not (same_cluster i s)) (slice_get servers p.origin.0)
@@ -36,13 +37,6 @@ bad_exec_in log executed exec = not (has_place_of (place log exec) executed)
 
 abbrev pub bad_exec : List ServerInit → ServerInit → Bool
 bad_exec servers i = of_source servers (λ m s. bad_exec_in (log_at servers m) i.executed (exec_of servers i)) i
-
--- the coordinates to which a replica of a server with this log has executed and read
-abbrev pub exec_in : Log → ServerInit → Coord
-exec_in log i = unwrap_or i.at (coord_after log i.executed)
-
-abbrev pub read_in : Log → ServerInit → Coord
-read_in log i = unwrap_or i.read (exec_in log i)
 
 abbrev pub bad_coords_under : Log → ServerInit → Bool
 bad_coords_under log i = bad_coords_in log i.executed (exec_in log i) (read_in log i)

@@ -30,7 +30,8 @@ fn refuse(flaw: Flaw, first: Option<(ServerNo, FlawedValue)>) -> Result<(), Open
 // A fault if a server meets the test.
 fn refuse_met(servers: &[ServerInit], test: Test) -> Result<(), OpeningFault>
     requires { InRange servers.now }
-    ensures { result ≡ refused servers.now (flaw_by test) (first_met (met_by servers.now test) 0 servers.now) }
+    ensures { result
+        ≡ refused servers.now (flaw_by test) (first_met (met_by servers.now test) 0 servers.now) }
 {
     refuse(flaw_by(test), first_met(servers, test))
 }

@@ -8,7 +8,7 @@ ghost use Rattle.opening_checks.specs.ServerTests.{flaw_by, met_by, named_in};
 ghost use Rattle.opening_checks.specs.Values.{cluster_value, elsewhere, first_elsewhere, source_elsewhere, value_of};
 
 use crate::fault::FlawedValue;
-use crate::orch_base::ServerNo;
+use crate::orch_base::{Same, ServerNo};
 use openings::{Flaw, Part, ServerInit, count_of, parts_of, source_no};
 
 /// What a server is tested for.
@@ -89,7 +89,8 @@ fn is_elsewhere(servers: &[ServerInit], init: &ServerInit, part: &Part) -> bool
 // The number of the first part whose origin is of another cluster.
 fn first_elsewhere(servers: &[ServerInit], init: &ServerInit) -> Option<usize>
     ensures met { is_some result ≡ origin_elsewhere servers.now init.now }
-    ensures first { IfSome result (λ k. k ≡ first_elsewhere servers.now init.now 0 (parts_of init.now)) }
+    ensures first { IfSome result (λ k. k
+        ≡ first_elsewhere servers.now init.now 0 (parts_of init.now)) }
 {
     let parts = parts_of(init);
     for (k, part) in parts.iter().enumerate() {

@@ -1,10 +1,10 @@
 //! Whether listed histories agree.
 
-ghost use Rattle.std.specs.Prelude.{◌≡◌, ◌+◌, ◌<◌, ◌≤◌, [], All, IfOk, None, Some, true, length, replicate, slice_get};
+ghost use Rattle.std.specs.Prelude.{◌≡◌, ◌+◌, ◌<◌, ◌≤◌, [], All, IfOk, None, Some, true, drop, is_none, length, replicate, slice_get};
 ghost use Rattle.opening_checks.specs.Prelude.{NotKin, PartsInRange, count_own, first_met, history_at, is_kin, links, list_all, listed_history};
 ghost use Rattle.opening_checks.specs.Prelude.{not_kin, parts_of};
 ghost use Rattle.opening_checks.specs.Checks.{server_of, IsToBlame};
-ghost use Rattle.opening_checks.specs.KinTable.{agrees_throughout, is_counted, with_link, with_links, CountsHome, IsOfServers, IsTable};
+ghost use Rattle.opening_checks.specs.KinTable.{agrees_throughout, is_counted, lists_any, with_link, with_links, CountsHome, IsOfServers, IsTable};
 
 use crate::fault::FlawedValue;
 use crate::kin_row::{Link, Row};
@@ -110,7 +110,26 @@ fn empty_rows(alloc: Global, count: usize) -> Result<Vec<Row>, Memory>
     Ok(rows)
 }
 
-// Whether what server n lists agrees with what the servers before it list. If so, it joins the table.
+// Whether a server may list a history: it has no source.
+fn is_root(init: &ServerInit) -> bool
+    ensures { result ≡ is_none init.now.source }
+{
+    match init.source {
+        None => true,
+        Some(_) => false,
+    }
+}
+
+// Whether a server after this one may list a history.
+fn lists_more(servers: &[ServerInit], n: usize) -> bool
+    requires { n < length servers.now }
+    ensures { result ≡ lists_any (drop (n + 1) servers.now) }
+{
+    servers.iter().skip(n + 1).any(|init| is_root(init))
+}
+
+// Whether what server n lists agrees with what the servers before it list. If so, it joins the table, if more is to
+// come.
 fn take_root(
     alloc: Global,
     servers: &[ServerInit],
@@ -118,6 +137,7 @@ fn take_root(
     init: &ServerInit,
     own: &[u64],
     rows: &mut [Row],
+    more: bool,
 ) -> Result<bool, Memory>
     requires parts { PartsInRange servers.now }
     requires at { slice_get servers.now n ≡ Some init.now }
@@ -125,12 +145,16 @@ fn take_root(
     requires own { CountsHome servers.now own.now }
     requires table { IsTable servers.now n rows.old }
     ensures kin { IfOk result (λ b. b ≡ is_kin servers.now n (listed_history (parts_of init.now))) }
-    ensures table { IfOk result (λ b. b ≡ true → IsTable servers.now (n + 1) rows.new) }
+    ensures table { IfOk result (λ b. b ≡ true → more ≡ true
+        → IsTable servers.now (n + 1) rows.new) }
 {
     let history = listed_history(alloc, servers.len(), parts_of(init))?;
     let listed = history.as_slice();
     if !agrees_throughout(rows, listed) || !are_counted(own, listed) {
         return Ok(false);
+    }
+    if !more {
+        return Ok(true);
     }
     add_links(rows, listed)?;
     Ok(true)
@@ -151,7 +175,8 @@ pub(crate) fn first_not_kin(
     let table = rows.as_mut_slice();
     for (n, init) in servers.iter().enumerate() {
         if init.source.is_none() {
-            let is_kin = take_root(alloc, servers, n as u32, init, &own, table)?;
+            let more = lists_more(servers, n);
+            let is_kin = take_root(alloc, servers, n as u32, init, &own, table, more)?;
             if !is_kin {
                 return Ok(Some((ServerNo(n as u32), FlawedValue::History)));
             }

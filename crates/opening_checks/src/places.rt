@@ -96,7 +96,8 @@ pub(crate) fn first_bad_coords(
     requires files { FilesGood servers.now }
     requires few { length servers.now ≤ 1000 }
     requires logs { AreLogs servers.now logs.old }
-    ensures met { IfOk result (λ f. server_of f ≡ first_met (λ k i. bad_coords servers.now i) 0 servers.now) }
+    ensures met { IfOk result (λ f. server_of f
+        ≡ first_met (λ k i. bad_coords servers.now i) 0 servers.now) }
     ensures value { IfOk result (IsToBlame servers.now BadPlace) }
 {
     for (n, init) in servers.iter().enumerate() {

@@ -15,8 +15,10 @@ ghost use Rattle.replication_laws.specs.Room.{HasFiles, IsNotFull};
 /// The world that a checked opening opens is `Safe`. So every server with a source, attached or detached, is in the log
 /// of its source, and no errant write is counted in it.
 pub fn openings_are_safe()
-    ensures safe { (o : Opened) (room flushes : ℕ) → IsChecked o → Safe (opened_world o room flushes) }
-    ensures placed { (o : Opened) (room flushes : ℕ) → IsChecked o → Placed (opened_world o room flushes) }
+    ensures safe { (o : Opened) (room flushes : ℕ) → IsChecked o
+        → Safe (opened_world o room flushes) }
+    ensures placed { (o : Opened) (room flushes : ℕ) → IsChecked o
+        → Placed (opened_world o room flushes) }
     ensures quiet { (o : Opened) (room flushes : ℕ) → IsQuiet (opened_world o room flushes) }
 {}
 
@@ -26,8 +28,16 @@ pub fn openings_are_safe()
 /// full, in any run. An opened server has the room that its own flushes leave. With room for them and for the new files
 /// of a run, none of the run finds a log full.
 pub fn full_never_comes()
-    ensures histories { (o : Opened) (room flushes : ℕ) (es : List Exchange) (k : ℕ) (e : Exchange) → IsChecked o → AllAllowed (opened_world o room flushes) es → AllJoinWell (opened_world o room flushes) es → room_for o es ≤ room → slice_get es k ≡ Some e → IsQuiet (run (opened_world o room flushes) (take k es)) → IsNotFull (run (opened_world o room flushes) (take k es)) e }
-    ensures files { (w : World) (es : List Exchange) (k n : ℕ) → HasFiles (count_by is_rotate es) w → slice_get es k ≡ Some (Rotate n) → (rotate (run w (take k es)) n).0 ≢ rotating.Full }
-    ensures opened { (o : Opened) (room flushes count : ℕ) → LeavesFiles count o flushes → HasFiles count (opened_world o room flushes) }
-    ensures rotations { (o : Opened) (room flushes : ℕ) (es : List Exchange) (k n : ℕ) → LeavesFiles (count_by is_rotate es) o flushes → slice_get es k ≡ Some (Rotate n) → (rotate (run (opened_world o room flushes) (take k es)) n).0 ≢ rotating.Full }
+    ensures histories { (o : Opened) (room flushes : ℕ) (es : List Exchange) (k : ℕ) (e : Exchange)
+        → IsChecked o → AllAllowed (opened_world o room flushes) es
+        → AllJoinWell (opened_world o room flushes) es → room_for o es ≤ room
+        → slice_get es k ≡ Some e → IsQuiet (run (opened_world o room flushes) (take k es))
+        → IsNotFull (run (opened_world o room flushes) (take k es)) e }
+    ensures files { (w : World) (es : List Exchange) (k n : ℕ) → HasFiles (count_by is_rotate es) w
+        → slice_get es k ≡ Some (Rotate n) → (rotate (run w (take k es)) n).0 ≢ rotating.Full }
+    ensures opened { (o : Opened) (room flushes count : ℕ) → LeavesFiles count o flushes
+        → HasFiles count (opened_world o room flushes) }
+    ensures rotations { (o : Opened) (room flushes : ℕ) (es : List Exchange) (k n : ℕ)
+        → LeavesFiles (count_by is_rotate es) o flushes → slice_get es k ≡ Some (Rotate n)
+        → (rotate (run (opened_world o room flushes) (take k es)) n).0 ≢ rotating.Full }
 {}

@@ -85,3 +85,10 @@ exec_of servers i = exec_under servers i i.source
 -- and its read coordinate
 abbrev pub read_of : List ServerInit → ServerInit → Coord
 read_of servers i = unwrap_or i.read (exec_of servers i)
+
+-- the coordinates to which a replica of a server with this log has executed and read
+abbrev pub exec_in : Log → ServerInit → Coord
+exec_in log i = unwrap_or i.at (coord_after log i.executed)
+
+abbrev pub read_in : Log → ServerInit → Coord
+read_in log i = unwrap_or i.read (exec_in log i)

@@ -2,7 +2,7 @@
 
 ghost use Rattle.std.specs.Prelude.{◌≡◌, ◌↔◌, IfOk, IsTrue};
 
-use crate::orch_base::{Memory, ServerNo, Settings};
+use crate::orch_base::{Copied, Memory, Same, ServerNo, Settings};
 use crate::{Counts, Parts};
 use binlog_coords::Coord;
 use std::alloc::Global;
@@ -76,24 +76,40 @@ fn copy_history(alloc: Global, history: &Option<Parts>) -> Result<Option<Parts>,
     }
 }
 
-fn same_history(history: &Option<Parts>, other: &Option<Parts>) -> bool
-    ensures { IsTrue result ↔ (history.now ≡ other.now) }
-{
-    match (history, other) {
-        (Some(parts), Some(others)) => parts.is_same(others),
-        (None, None) => true,
-        _ => false,
-    }
-}
-
 impl ServerInit {
     ghost use Rattle.std.specs.Prelude.{◌≡◌, ◌↔◌, IfOk, IsTrue};
     ghost use Rattle.openings.specs.SameInits.{IsSameServer, IsSameReplica};
 
-    /// The same server once more. `Err` means out of memory.
-    pub fn copy(&self, alloc: Global) -> Result<ServerInit, Memory>
-        ensures { IfOk result (λ i. i ≡ self.now) }
+    // Whether what doesn't speak of a source is equal.
+    fn same_server(&self, other: &ServerInit) -> bool
+        ensures { IsTrue result ↔ IsSameServer self.now other.now }
     {
+        self.settings.is_same(&other.settings)
+            && self.history.is_same(&other.history)
+            && (self.flushes.is_same(&other.flushes) && self.purged == other.purged)
+            && (self.read_only == other.read_only && self.up == other.up)
+            && (self.desk == other.desk && self.feed == other.feed)
+    }
+
+    // Whether what speaks of a source is equal.
+    fn same_replica(&self, other: &ServerInit) -> bool
+        ensures { IsTrue result ↔ IsSameReplica self.now other.now }
+    {
+        (self.source == other.source && self.executed == other.executed)
+            && (self.at == other.at && self.read == other.read && self.until == other.until)
+            && (self.io == other.io && self.sql == other.sql)
+            && (self.auto == other.auto && self.detached == other.detached)
+    }
+}
+
+impl Same for ServerInit {
+    fn is_same(&self, other: &ServerInit) -> bool {
+        self.same_server(other) && self.same_replica(other)
+    }
+}
+
+impl Copied for ServerInit {
+    fn copy(&self, alloc: Global) -> Result<ServerInit, Memory> {
         Ok(ServerInit {
             settings: self.settings.copy(alloc)?,
             read_only: self.read_only,
@@ -113,33 +129,5 @@ impl ServerInit {
             flushes: self.flushes.copy(alloc)?,
             purged: self.purged,
         })
-    }
-
-    // Whether what doesn't speak of a source is equal.
-    fn same_server(&self, other: &ServerInit) -> bool
-        ensures { IsTrue result ↔ IsSameServer self.now other.now }
-    {
-        self.settings.is_same(&other.settings)
-            && same_history(&self.history, &other.history)
-            && (self.flushes.is_same(&other.flushes) && self.purged == other.purged)
-            && (self.read_only == other.read_only && self.up == other.up)
-            && (self.desk == other.desk && self.feed == other.feed)
-    }
-
-    // Whether what speaks of a source is equal.
-    fn same_replica(&self, other: &ServerInit) -> bool
-        ensures { IsTrue result ↔ IsSameReplica self.now other.now }
-    {
-        (self.source == other.source && self.executed == other.executed)
-            && (self.at == other.at && self.read == other.read && self.until == other.until)
-            && (self.io == other.io && self.sql == other.sql)
-            && (self.auto == other.auto && self.detached == other.detached)
-    }
-
-    /// Whether the servers are equal.
-    pub fn is_same(&self, other: &ServerInit) -> bool
-        ensures { IsTrue result ↔ (self.now ≡ other.now) }
-    {
-        self.same_server(other) && self.same_replica(other)
     }
 }

@@ -72,7 +72,8 @@ pub fn laid_history(
     requires left { length init.now.flushes ≤ flushes }
     requires flushes { flushes ≤ 4000000 }
     requires points { bad_flushes init.now ≡ false }
-    ensures log { IfOk result (λ l. l.log ≡ laid init.now.settings.limit init.now.flushes history.now) }
+    ensures log { IfOk result (λ l. l.log
+        ≡ laid init.now.settings.limit init.now.flushes history.now) }
     ensures txns { IfOk result (λ l. l.txns ≡ history.now) }
     ensures room { IfOk result (λ l. l.room ≡ room) }
     ensures flushes { count_of init.now ≡ length history.now

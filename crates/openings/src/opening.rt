@@ -3,7 +3,7 @@
 ghost use Rattle.std.specs.Prelude.{◌≡◌, ◌↔◌, IfOk, IsTrue};
 
 use crate::ServerInit;
-use crate::orch_base::Memory;
+use crate::orch_base::{Memory, copy_of, same_values};
 use std::alloc::Global;
 use std::fmt;
 use std::marker::Model;
@@ -47,30 +47,6 @@ impl fmt::Display for Flaw {
             Flaw::NotKin => write!(f, "a history that isn't kin to the others"),
         }
     }
-}
-
-fn copy_servers(alloc: Global, servers: &[ServerInit]) -> Result<Vec<ServerInit>, Memory>
-    ensures { IfOk result (λ copy. copy.items ≡ servers.now) }
-{
-    let mut copy = Vec::with_capacity(alloc, servers.len())?;
-    for server in servers {
-        copy.push(server.copy(alloc)?)?;
-    }
-    Ok(copy)
-}
-
-fn same_servers(servers: &[ServerInit], others: &[ServerInit]) -> bool
-    ensures { IsTrue result ↔ (servers.now ≡ others.now) }
-{
-    if servers.len() != others.len() {
-        return false;
-    }
-    for (n, server) in servers.iter().enumerate() {
-        if !server.is_same(&others[n]) {
-            return false;
-        }
-    }
-    true
 }
 
 /// The servers of a scenario, without a flaw and within the limits.
@@ -123,7 +99,7 @@ impl Opening {
     pub fn copy(&self, alloc: Global) -> Result<Opening, Memory>
         ensures { IfOk result (λ o. o ≡ self.now) }
     {
-        let servers = copy_servers(alloc, &self.servers)?;
+        let servers = copy_of(alloc, &self.servers)?;
         Ok(Opening {
             servers,
             gtid: self.gtid,
@@ -134,6 +110,6 @@ impl Opening {
     pub fn same(&self, other: &Opening) -> bool
         ensures { IsTrue result ↔ (self.now ≡ other.now) }
     {
-        same_servers(&self.servers, &other.servers) && self.gtid == other.gtid
+        same_values(&self.servers, &other.servers) && self.gtid == other.gtid
     }
 }

@@ -1,3 +1,2 @@
 -- What is passed on of commands: lemmas that are cited above.
 pub use Rattle.commands.proofs.Needed
-pub use Rattle.commands.proofs.Words

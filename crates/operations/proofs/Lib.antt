@@ -2,6 +2,7 @@ mod Prelude
 pub mod Tests
 pub mod Sets
 pub mod Targets
+pub mod Attempts
 pub mod Allowing
 pub mod Changing
 pub mod Left

@@ -6,6 +6,7 @@ pub use Rattle.std.proofs.lemmas.Option.{same_Some}
 pub use Rattle.std.specs.List.{All}
 pub use Rattle.instance_keeper.specs.BinlogCoords.Log.{has_place}
 pub use Rattle.instance_keeper.specs.BinlogCoords.declared.Coord.{Coord}
+pub use Rattle.commands.specs.declared.line.Line.{Line}
 pub use Rattle.commands.specs.declared.cause.Cause.{Cause}
 pub use Rattle.commands.specs.declared.cause.Cause.TheVariants as cause
 pub use Rattle.instance_keeper.specs.GtidSets.Sets.{holds, spans}
@@ -22,13 +23,17 @@ pub use Rattle.operations.specs.Matching.{first_not, first_unlike, is_mark, is_m
 pub use Rattle.operations.specs.Matching.{match_logs, match_of, matched_at, matched_behind, matched_from, place_of_mark, standing_at}
 pub use Rattle.operations.specs.Named.{IsInRange, IsNamed, are_named, is_named}
 pub use Rattle.operations.specs.Targets.{can_attach, logs_by, places_by}
-pub use Rattle.operations.specs.Turns.{Goes, Stops, Turned, after_answer, after_ask, after_attach, after_look, after_match, after_status, after_until}
+pub use Rattle.operations.specs.Turns.{Attempt, Ends, Goes, Stops, Turned, after_answer, after_ask, after_attach, after_look, after_match}
+pub use Rattle.operations.specs.Turns.{after_status, after_until}
 pub use Rattle.operations.specs.Turns.{after_wait, after_wait_by, aim_of, attach_answer_of, attached_anew, bridge_at, by_deed, by_match, by_ops}
-pub use Rattle.operations.specs.Turns.{by_set, crossed, failed, going, hands_after, has_all, has_from, holds_seen, is_moved, is_reached, is_within}
+pub use Rattle.operations.specs.Turns.{cause_by, cause_of_match}
+pub use Rattle.operations.specs.Turns.{by_set, crossed, crossing_of, failed, going, hands_after, has_all, has_from, holds_seen, is_moved, is_reached}
+pub use Rattle.operations.specs.Turns.{is_within}
 pub use Rattle.operations.specs.Turns.{next, observed, read_by, restarts, same_again, saw, settled, settles, turned, until_by, with_match}
 pub use Rattle.operations.specs.declared.matching.Match.{Match}
 pub use Rattle.operations.specs.declared.matching.MatchFault.{MatchFault}
 pub use Rattle.operations.specs.declared.matching.MatchFault.TheVariants as fault
+pub use Rattle.operations.specs.declared.op.Aim.{Aim}
 pub use Rattle.operations.specs.declared.op.Crossing.{Crossing}
 pub use Rattle.operations.specs.declared.op.Crossing.TheVariants as cross
 pub use Rattle.operations.specs.declared.op.Op.{Op}

@@ -3,6 +3,8 @@ pub use Rattle.commands.specs.declared
 pub use Rattle.commands.specs.Causes
 pub use Rattle.commands.specs.Names
 pub use Rattle.commands.specs.Refusals
+pub use Rattle.commands.specs.Routes
+pub use Rattle.commands.specs.Table
 pub use Rattle.commands.specs.Turns
 pub use Rattle.commands.specs.Unknown
 pub use Rattle.commands.specs.Values

@@ -1,5 +1,5 @@
 -- HOST or HOST:PORT.
-use Rattle.std.specs.Prelude.{◌≡◌, ◌<◌, ◌≤◌, true, ℕ, ◌^◌, ◌++◌, ◌∷◌, ◌&&◌, ◌||◌, ◌==◌, List, length, slice_index, position, Bool, not, nat_eq, nat_lt, nat_le, if◌then◌else◌, Option, Some, None, Result, Ok, Err, decimal}
+use Rattle.std.specs.Prelude.{◌≡◌, ◌<◌, ◌≤◌, true, ℕ, ◌^◌, ◌++◌, ◌∷◌, ◌&&◌, ◌||◌, ◌==◌, List, length, slice_index, position, Bool, not, nat_eq, nat_lt, nat_le, if◌then◌else◌, [], Option, Some, None, Result, Ok, Err, decimal}
 use Rattle.std.specs.List.{list_all, position_or_len, before_first, after_first}
 use Rattle.std.specs.Cmp.Lexicographic.{pointwise, slice_cmp}
 use Rattle.std.specs.Ordering.{ordering_then, nat_cmp}
@@ -86,3 +86,7 @@ pub record IsName (name : HostPort) : Type 0 where
   pub bytes : list_all is_host_byte name.host ≡ true
   pub above_zero : 0 < name.port
   pub fits : name.port < 2 ^ 16
+
+abbrev pub printed_at : Option HostPort → List ℕ
+printed_at None = []
+printed_at (Some name) = printed name

@@ -8,6 +8,8 @@ ghost use Rattle.orch_base.specs.Chains.{Follows, Reaches, is_reached};
 pub fn chains_come_to_what_is_found()
     ensures cases { (up : ℕ → Option ℕ) (b a : ℕ) → Reaches up b a → (a ≡ b) ⊎ Follows up b a }
     ensures further { (up : ℕ → Option ℕ) (b a : ℕ) → Follows up b a → Reaches up b a }
-    ensures tested { (up : ℕ → Option ℕ) (steps n from : ℕ) → is_reached up steps n from ≡ true → Follows up n from }
-    ensures found { (up : ℕ → Option ℕ) (n from : ℕ) → Follows up n from → (steps : ℕ) × (is_reached up steps n from ≡ true) }
+    ensures tested { (up : ℕ → Option ℕ) (steps n from : ℕ) → is_reached up steps n from ≡ true
+        → Follows up n from }
+    ensures found { (up : ℕ → Option ℕ) (n from : ℕ) → Follows up n from → (steps : ℕ)
+        × (is_reached up steps n from ≡ true) }
 {}

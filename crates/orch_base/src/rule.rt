@@ -1,5 +1,7 @@
 //! Rules of promotion.
 
+use crate::Same;
+
 /// Whether a server should be promoted (orchestrator's documentation, "register-candidate"): the best first.
 #[derive(Clone, Copy, Debug, PartialEq, Eq, PartialOrd, Ord)]
 pub enum Rule {
@@ -11,4 +13,10 @@ pub enum Rule {
     PreferNot,
     /// Never.
     MustNot,
+}
+
+impl Same for Rule {
+    fn is_same(&self, other: &Rule) -> bool {
+        self == other
+    }
 }

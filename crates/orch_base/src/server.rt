@@ -1,8 +1,8 @@
 //! Servers by their numbers, and their settings.
 
-use crate::Memory;
 use crate::name::Name;
 use crate::text::OwnedText;
+use crate::{Memory, Same};
 use std::alloc::Global;
 
 /// A server of the scenario by its number, counted from 0 in the scenario's order.
@@ -18,10 +18,10 @@ pub struct Moment(pub u64);
 pub struct Txn {
     /// The server that took it from a client.
     pub origin: ServerNo,
-    /// Its number among the origin's own transactions, counted from 1.
-    pub seq: u64,
     /// The bytes that it takes in a binary log: 1 to 1,000,000.
     pub size: u32,
+    /// Its number among the origin's own transactions, counted from 1.
+    pub seq: u64,
 }
 
 /// A server's version, as `8.0.36`.

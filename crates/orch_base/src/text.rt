@@ -1,6 +1,9 @@
 //! Texts that contracts see as their bytes.
 
-use crate::Memory;
+ghost use Rattle.std.specs.Prelude.{◌≡◌, ◌↔◌, IfOk, IsTrue, nat_eq, string_bytes};
+ghost use Rattle.std.specs.Cmp.Lexicographic.{pointwise};
+
+use crate::{Memory, Same};
 use std::alloc::Global;
 use std::marker::Model;
 
@@ -24,9 +27,6 @@ impl Model for OwnedText {
 }
 
 impl OwnedText {
-    ghost use Rattle.std.specs.Prelude.{◌≡◌, ◌↔◌, IfOk, IsTrue, nat_eq, string_bytes};
-    ghost use Rattle.std.specs.Cmp.Lexicographic.{pointwise};
-
     /// The label of this text. It takes no memory.
     pub fn new(text: String) -> OwnedText
         ensures { result ≡ string_bytes text }
@@ -49,19 +49,20 @@ impl OwnedText {
         Ok(OwnedText { text })
     }
 
-    /// Whether the texts are the same, byte for byte.
-    pub fn is_same(&self, other: &OwnedText) -> bool
-        ensures same { result ≡ pointwise nat_eq self.now other.now }
-        ensures equal { IsTrue result ↔ (self.now ≡ other.now) }
-    {
-        self.text.as_bytes() == other.text.as_bytes()
-    }
-
     /// Gives the text back. It takes no memory.
     pub fn into_string(self) -> String
         ensures { string_bytes result ≡ self }
     {
         let OwnedText { text } = self;
         text
+    }
+}
+
+impl Same for OwnedText {
+    fn is_same(&self, other: &OwnedText) -> bool
+        ensures same { result ≡ pointwise nat_eq self.now other.now }
+        ensures equal { IsTrue result ↔ (self.now ≡ other.now) }
+    {
+        self.text.as_bytes() == other.text.as_bytes()
     }
 }

@@ -1,13 +1,15 @@
 //! Does what the command line asks with a scenario.
 #![tactic(auto)]
 
+#[cfg(test)]
+mod printed;
+
 use crate::command_line::{Usage, places};
-use crate::gates::NoGate;
 use crate::instance_keeper_items::MemKeeper;
-use crate::orch_base::{Memory, OwnedText, Sink};
+use crate::orch_base::{Memory, NoGate, OwnedText, Sink};
 use crate::top_call_items::{Way, close};
 use adapters::{FileSource, Input, StreamSink};
-use live_calls::{command_line, gates, instance_keeper_items, orch, orch_base, top_call_items};
+use live_calls::{command_line, instance_keeper_items, orch, orch_base, top_call_items};
 use sql_keeper::{Backend, SqlKeeper};
 use std::alloc::Global;
 use std::fs::File;

@@ -1,9 +1,7 @@
 -- A command that isn't refused begins a job over servers that are there and free.
 use Rattle.std.proofs.Common.{◌≡◌, ℕ, ◌<◌, ◌^◌, true, length, refl, Option, None, Some}
-use Rattle.orch_core.proofs.Prelude.{BookState, ByBridges, ByMatches, Command, IsBook, IsUnended, Matches, MayTake, Means, Moment}
-use Rattle.orch_core.proofs.Prelude.{Planner, Regroups, ServerNo, World, entry_id, is_within, job-unended, job_by, leases-free, leases-within}
-use Rattle.orch_core.proofs.Prelude.{leases_by, refusal_by, regroup_about}
-use Rattle.orch_core.proofs.Prelude.means
+use Rattle.orch_core.proofs.Prelude.{BookState, Command, IsBook, IsUnended, MayTake, Means, Moment, Planner, ServerNo, World, entry_id, is_within}
+use Rattle.orch_core.proofs.Prelude.{job-unended, job_by, job_in, leases-free, leases-within, leases_by, means_of, refusal_by, regroup_about}
 
 module _ (w : World) (b : BookState) (now : Moment) (every : ℕ) (given : Command) (p : Planner) (is : IsBook b) (i_there : is_within (length b.names) given.i ≡ true) (d_there : is_within (length b.names) given.d ≡ true) where
   -- a command that isn't refused may take its leases
@@ -20,6 +18,8 @@ regroup-entry b by id wait None = refl
 regroup-entry b by id wait (Some i) = refl
 
 pub job-entry : (w : World) (b : BookState) (given : Command) (p : Planner) (id wait every : ℕ) → entry_id (job_by w b given p id wait every) ≡ None
-job-entry w b given (Regroups ByMatches) id wait every = regroup-entry b (means.Matches every) id wait given.i
-job-entry w b given (Regroups ByBridges) id wait every = regroup-entry b means.Bridges id wait given.i
-job-entry w b given _ id wait every = refl
+job-entry w b given p id wait every = go (means_of every p)
+  where
+    go : (by : Option Means) → entry_id (job_in w b given p id wait every by) ≡ None
+    go None = refl
+    go (Some by) = regroup-entry b by id wait given.i

@@ -8,6 +8,7 @@ pub mod Claims
 pub mod Runs
 pub mod Starts
 pub mod Beginnings
+pub mod Comes
 pub mod Outcomes
 pub mod Turned
 pub mod Others
@@ -19,12 +20,10 @@ pub mod Closed
 pub mod Slots
 pub use Rattle.knowledge.proofs.AuditLog as AuditLog
 pub use Rattle.knowledge.proofs.BinlogCoords as BinlogCoords
-pub use Rattle.knowledge.proofs.CommandJobs as CommandJobs
 pub use Rattle.knowledge.proofs.CommandOutcomes as CommandOutcomes
 pub use Rattle.knowledge.proofs.CommandsProofs as CommandsProofs
 pub use Rattle.knowledge.proofs.FailureAnalysis as FailureAnalysis
 pub use Rattle.knowledge.proofs.InstanceKeeper as InstanceKeeper
-pub use Rattle.knowledge.proofs.JobsInFlight as JobsInFlight
 pub use Rattle.knowledge.proofs.KeptRows as KeptRows
 pub mod KnowledgeProofs
 pub use Rattle.knowledge.proofs.NameOrder as NameOrder

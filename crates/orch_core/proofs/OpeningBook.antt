@@ -1,5 +1,3 @@
 -- What is passed on of opening_book: lemmas that are cited above.
-pub use Rattle.opening_book.proofs.Changes
 pub use Rattle.opening_book.proofs.Following
-pub use Rattle.opening_book.proofs.ReadNumbers
 pub use Rattle.opening_book.proofs.Recoveries

@@ -10,14 +10,14 @@ pub use Rattle.std.proofs.lemmas.List.Sums.{fold-append, get_or-le-sum_by}
 pub use Rattle.std.proofs.lemmas.Option.{get_or_from_slice_get, same_Some, slice_get-get_or, slice_get_within}
 pub use Rattle.std.proofs.lemmas.Result.{err_from_is_err_and}
 pub use Rattle.std.specs.Cmp.Lexicographic.{pointwise}
-pub use Rattle.std.specs.List.{cons_option, flat_map, list_any}
+pub use Rattle.std.specs.List.{flat_map, list_any}
 pub use Rattle.std.specs.Option.{option_map}
 pub use Rattle.knowledge.specs.AskingCommands.Answers.{allowed, lines_of, permitted}
 pub use Rattle.knowledge.proofs.AuditLog.Changes.{IsAudit-begun, IsAudit-map}
 pub use Rattle.knowledge.proofs.AuditLog.Kept.{acknowledged-block, acknowledged-id, interrupted-block, interrupted-id}
 pub use Rattle.knowledge.proofs.AuditLog.Parting.{apart-begins}
 pub use Rattle.knowledge.specs.AuditLog.Apart.{MayBegin}
-pub use Rattle.knowledge.specs.AuditLog.Audits.{AuditState, IsAudit, acked_so, acknowledged, acknowledged_at, acknowledged_for, begun, closed, closing, ended}
+pub use Rattle.knowledge.specs.AuditLog.Audits.{AuditState, IsAudit, acked_so, acknowledged, acknowledged_at, acknowledged_for, begun, closed, ended}
 pub use Rattle.knowledge.specs.AuditLog.Audits.{ended_so, interrupted, is_of, is_unended, longest_block}
 pub use Rattle.knowledge.specs.AuditLog.Audits
 pub use Rattle.knowledge.specs.AuditLog.Loading.{loaded_by, recoveries_in}
@@ -28,11 +28,11 @@ pub use Rattle.knowledge.specs.BookCommands.declared.decided.Decided.{Decided}
 pub use Rattle.knowledge.specs.BookCommands.declared.decided.Effect.{Effect}
 pub use Rattle.knowledge.specs.BookCommands.declared.decided.Effect.TheVariants as effect
 pub use Rattle.knowledge.specs.BookViews.Sources.{label_at}
-pub use Rattle.knowledge.proofs.CommandJobs.Begun.{job-number, job-unended, leases-free, leases-within}
-pub use Rattle.knowledge.specs.CommandJobs.Jobs.{job_by, leases_by, refusal_by, regroup_about}
+pub use Rattle.knowledge.proofs.CommandOutcomes.Begun.{job-number, job-unended, leases-free, leases-within}
+pub use Rattle.knowledge.specs.CommandOutcomes.Jobs.{job_by, job_in, leases_by, means_of, refusal_by, regroup_about}
 pub use Rattle.knowledge.proofs.CommandOutcomes.HookTold.{told-can, told-in-turn}
 pub use Rattle.knowledge.specs.CommandOutcomes.Outcomes.{Outcome, asked, by_hand, decided, discovered, forgotten, next_reading, outcome_by, question}
-pub use Rattle.knowledge.specs.CommandOutcomes.Outcomes.{recovered, recovery_begun, refusal, removal_refusal, scan_by, taken_over, terms_of}
+pub use Rattle.knowledge.specs.CommandOutcomes.Outcomes.{recovered, recovery_begun, refusal, removal_refusal, scan_by, taken_over, terms_of, told}
 unfoldable pub use Rattle.knowledge.specs.CommandOutcomes.Outcomes.{outcome_of}
 pub use Rattle.knowledge.specs.CommandOutcomes.Outcomes
 pub use Rattle.knowledge.specs.CommandOutcomes.CommandsBy.{outcome}
@@ -44,35 +44,32 @@ pub use Rattle.knowledge.specs.CommandOutcomes.declared.command.Numbers.{Numbers
 pub use Rattle.knowledge.specs.CommandOutcomes.declared.command.Update.{Update}
 pub use Rattle.knowledge.specs.CommandOutcomes.declared.command.Update.TheVariants as update
 pub use Rattle.knowledge.specs.CommandOutcomes.declared.configuration.Configuration.{Configuration}
-pub use Rattle.knowledge.specs.CommandRoutes.Routes.{route_of}
-pub use Rattle.knowledge.specs.CommandRoutes.declared.kinds.Regrouping.TheVariants.{ByBridges, ByMatches}
-pub use Rattle.knowledge.specs.CommandRoutes.declared.route.Decision.{Decision}
-pub use Rattle.knowledge.specs.CommandRoutes.declared.route.Decision.TheVariants as decision
-pub use Rattle.knowledge.specs.CommandRoutes.declared.route.Planner.{Planner}
-pub use Rattle.knowledge.specs.CommandRoutes.declared.route.Planner.TheVariants.{Matches, Regroups}
-pub use Rattle.knowledge.specs.CommandRoutes.declared.route.Route.{Route}
-pub use Rattle.knowledge.specs.CommandRoutes.declared.route.Route.TheVariants.{Asks, Decides, Discovers, Forgets, Recovers, TakesOver}
-pub use Rattle.knowledge.specs.CommandRoutes.declared.route.Route.TheVariants
+pub use Rattle.knowledge.specs.Commands.Routes.{route_of}
+pub use Rattle.knowledge.specs.Commands.declared.route.Decision.{Decision}
+pub use Rattle.knowledge.specs.Commands.declared.route.Decision.TheVariants as decision
+pub use Rattle.knowledge.specs.Commands.declared.route.Planner.{Planner}
+pub use Rattle.knowledge.specs.Commands.declared.route.Route.{Route}
+pub use Rattle.knowledge.specs.Commands.declared.route.Route.TheVariants.{Asks, Decides, Discovers, Forgets, Recovers, TakesOver}
+pub use Rattle.knowledge.specs.Commands.declared.route.Route.TheVariants
 pub use Rattle.knowledge.specs.Commands.Turns.{has_needed, is_within}
 pub use Rattle.knowledge.specs.Commands.declared.line.Line.{Line}
 pub use Rattle.knowledge.specs.Commands.declared.refusal.Refusal.{Refusal}
-pub use Rattle.knowledge.specs.Commands.declared.refusal.Refusal.TheVariants.{UnknownInstance}
+pub use Rattle.knowledge.specs.Commands.declared.refusal.Refusal.TheVariants.{UnknownInstance, Unreachable}
 pub use Rattle.knowledge.specs.Commands.declared.turn.Command.{Command}
 pub use Rattle.knowledge.specs.Commands.declared.turn.CommandTurn.{CommandTurn}
 pub use Rattle.knowledge.specs.Commands.declared.turn.Keys.{Keys}
 pub use Rattle.knowledge.specs.HookTexts.declared.hooks.Hook.{Hook}
 pub use Rattle.knowledge.proofs.InstanceKeeper.Cleared.{cleared, cleared_all, cleared_next}
-pub use Rattle.knowledge.specs.InstanceKeeper.Book.{BookState, IsBook, added_over, after_change, after_put, after_row, book_made, discovered_over, downtime_at}
+pub use Rattle.knowledge.specs.InstanceKeeper.Book.{BookState, IsBook, added_over, after_put, after_row, book_made, discovered_over, downtime_at}
 pub use Rattle.knowledge.specs.InstanceKeeper.Book.{empty_book, instance_at, renewed, renewed_book, stored_over}
 pub use Rattle.knowledge.specs.InstanceKeeper.Had.{has_row, put_change}
-pub use Rattle.knowledge.proofs.JobsInFlight.Numbers.{Rise-push, Rise-with, Rise-without, found-number, with-past}
-pub use Rattle.knowledge.proofs.JobsInFlight.Turning.{found-here}
-pub use Rattle.knowledge.specs.JobsInFlight.Jobs.{Rise, book_turned, is_open, job_at, job_exchanges, job_observation, job_reply, jobs_turned, most_turns}
-pub use Rattle.knowledge.specs.JobsInFlight.Jobs.{most_turns_by, reads_with, step_reply, stored, turn_by, with_job, without_job, without_leases}
-pub use Rattle.knowledge.specs.JobsInFlight.Rounds.{polls, replicates, round_over}
+pub use Rattle.knowledge.proofs.UnendedJobs.Numbers.{Rise-push, Rise-with, Rise-without, found-number, with-past}
+pub use Rattle.knowledge.proofs.UnendedJobs.Turning.{found-here}
+pub use Rattle.knowledge.specs.UnendedJobs.Jobs.{Rise, book_turned, is_open, job_at, job_exchanges, job_observation, job_reply, jobs_turned, most_turns}
+pub use Rattle.knowledge.specs.UnendedJobs.Jobs.{most_turns_by, reads_with, step_reply, stored, turn_by, with_job, without_job, without_leases}
+pub use Rattle.knowledge.specs.UnendedJobs.Rounds.{polls, replicates, round_over}
 pub use Rattle.knowledge.proofs.KeptRows.Known.{both_true, head_known}
 pub use Rattle.knowledge.specs.KeptRows.Ranges.{IsInRange}
-pub use Rattle.knowledge.specs.KeptRows.Recoveries.{put_recovery}
 pub use Rattle.knowledge.specs.KeptRows.Rows.{changed, map_of}
 pub use Rattle.knowledge.specs.KeptRows.Seeing.{seen_in}
 pub use Rattle.knowledge.specs.KeptRows.Servers.{are_known, fits, observed_servers, row_fits, seen_servers, servers_of, source_servers}
@@ -89,7 +86,6 @@ pub use Rattle.knowledge.specs.KeptRows.declared.row.Row.TheVariants as row
 pub use Rattle.knowledge.specs.KeptRows.declared.row.Table.TheVariants as table
 pub use Rattle.knowledge.proofs.Remaining.{joined}
 pub use Rattle.knowledge.specs.Closings.{closed_by, closing_by, closing_changes, closing_for, closing_of}
-pub use Rattle.knowledge.specs.Faults.{HasTurnCause}
 pub use Rattle.knowledge.specs.Kept.{changes_by, kept_if}
 pub use Rattle.knowledge.specs.Knowing.{IsEffect, IsUpdate, Knowledge, MayTake, recovery_job, updated}
 pub use Rattle.knowledge.specs.KnowingBy.{known}
@@ -103,13 +99,13 @@ pub use Rattle.node_claims.specs.Claims.{ClaimState, made}
 pub use Rattle.node_claims.specs.Claims as claims
 pub use Rattle.node_claims.specs.declared.claims.ClaimAnswer.{ClaimAnswer}
 pub use Rattle.node_claims.specs.declared.claims.ClaimAnswer.TheVariants as claim
-pub use Rattle.opening_book.proofs.Following.{names-change, names-opening}
+pub use Rattle.opening_book.proofs.Following.{HasSameServers, same-change, same-put}
 pub use Rattle.opening_book.proofs.Recoveries.{audit-loaded, audit-opened, last_id-within}
 pub use Rattle.opening_book.specs.Audits.{audit_of, last_id, latest_recovery, recovery_raised}
 pub use Rattle.opening_book.specs.Counting.{counted, counts, end_or, greatest, greatest_id, is_block_in_range, is_end_in_range, is_in_range}
 pub use Rattle.opening_book.specs.Reads.{AreReadWithin}
 pub use Rattle.opening_book.specs.Counting.{last_read, latest, loaded, raised}
-pub use Rattle.opening_book.specs.Opening.{after_opening, block_given, blocks_given, changes_from, interrupting, is_opening_change, loading, missing}
+pub use Rattle.opening_book.specs.Opening.{after_opening, is_opening_change, loading, missing}
 pub use Rattle.opening_book.specs.Opening.{missing_from, opened_book, opening_changes, opening_instance, put_instance, registered, registering}
 pub use Rattle.opening_book.specs.Opening.{registering_from}
 pub use Rattle.knowledge.specs.Openings.Listed.{transactions}
@@ -118,7 +114,6 @@ pub use Rattle.knowledge.specs.Openings.declared.init.ServerInit.{ServerInit}
 pub use Rattle.knowledge.specs.Operations.Turns.{is_going}
 pub use Rattle.knowledge.specs.Operations.declared.step.JobStep.{JobStep}
 pub use Rattle.knowledge.specs.Operations.declared.step.JobStep.TheVariants as jobstep
-pub use Rattle.knowledge.specs.OrchBase.Causes.{Rose}
 pub use Rattle.knowledge.specs.OrchBase.Memory.{next_count}
 pub use Rattle.knowledge.specs.OrchBase.declared.recovery.Ending.{Ending}
 pub use Rattle.knowledge.specs.OrchBase.declared.recovery.Ending.TheVariants as ending
@@ -146,13 +141,15 @@ pub use Rattle.orch_core.specs.Starts.{start_rows, start_world}
 pub use Rattle.orch_core.specs.Settling.{BeginInTime, CanSettle, IsNext, known_of, settled, with_known}
 pub use Rattle.orch_core.specs.States.{HasEntry, HasKnownSource, HaveEntries, IsOpenAt, IsSlot, IsState, State, entry_id, nodes_of}
 pub use Rattle.orch_core.specs.TurnExchanges.{exchange_of, later}
-pub use Rattle.knowledge.proofs.RecoveryCore.Beginning.{recovery-begins, recovery-moment, takeover-begins, takeover-moment}
+pub use Rattle.knowledge.proofs.RecoveryCore.Beginning.{recovery-begins, takeover-begins}
 pub use Rattle.knowledge.proofs.RecoveryCore.Ended.{going-unended}
 pub use Rattle.knowledge.proofs.RecoveryCore.InTurn.{scan-in-turn, scan-moments}
 pub use Rattle.knowledge.specs.RecoveryCore.Begun.{BeginInTurn, CanBegin, IsListed, audit_after}
 pub use Rattle.knowledge.specs.RecoveryCore.Endings.{ending_of, is_acknowledged}
 pub use Rattle.knowledge.specs.RecoveryCore.Scans.{HasRoom, attempt_of, scanned}
-pub use Rattle.knowledge.specs.RecoveryCore.Tries.{Begins, recovery_try, takeover_try}
+pub use Rattle.knowledge.specs.RecoveryCore.Recoveries.{recovery_refusal}
+pub use Rattle.knowledge.specs.RecoveryCore.Takeovers.{takeover_refusal}
+pub use Rattle.knowledge.specs.RecoveryCore.Tries.{Begins, recovery_begins, takeover_begins, unless_refused}
 pub use Rattle.knowledge.proofs.RecoveryEnds.Ended.{begun-shaped}
 pub use Rattle.knowledge.specs.RecoveryEnds.Ends.{IsShaped}
 pub use Rattle.knowledge.specs.RecoveryPlans.Beginning.{first_source}
@@ -160,7 +157,6 @@ pub use Rattle.knowledge.specs.RecoveryPlans.Named.{IsListOf}
 pub use Rattle.knowledge.specs.RecoveryPlans.Recoveries
 pub use Rattle.knowledge.specs.RecoveryPlans.Taking.{taken}
 pub use Rattle.knowledge.specs.RecoveryPlans.declared.means.Means.{Means}
-pub use Rattle.knowledge.specs.RecoveryPlans.declared.means.Means.TheVariants as means
 pub use Rattle.knowledge.specs.RecoveryPlans.declared.purpose.Purpose.{Purpose}
 pub use Rattle.knowledge.specs.RecoveryPlans.declared.purpose.Purpose.TheVariants as purpose
 pub use Rattle.knowledge.proofs.ScenariosProofs.Rooms.{longest-at}

@@ -1,28 +1,24 @@
 -- The state with which a scenario's run begins.
 use Rattle.std.proofs.Common.{◌≡◌, ◌∙◌, ℕ, ◌+◌, ◌<◌, ◌≤◌, ◌^◌, Bool, true, false, List, [], ◌∷◌, length, get_or, refl, sym, ap, subst, Option, Some, None, arith}
 use Rattle.std.specs.Prelude.{All, IfSome, IsTrue, ◌&&◌, is_none, nat_lt, slice_index_or, if◌then◌else◌}
-use Rattle.orch_core.proofs.Prelude.{All-nil, All-replicate, AreReadWithin, Attached, AuditState, BookState, Candidate, Change}
-use Rattle.orch_core.proofs.Prelude.{ClaimState, Configuration, Detached, Fits, HasKnownSource, HaveEntries, Instance, IsAudit}
-use Rattle.orch_core.proofs.Prelude.{IsScenario, IsSlot, IsState, IsUnended, Moment, Observation, Recovery, Rise, Row, Rule, Scenario, Server}
-use Rattle.orch_core.proofs.Prelude.{ServerNo, Settings, StartsBy, State, Unended, World, after_change, after_opening, are_known}
-use Rattle.orch_core.proofs.Prelude.{audit-opened, audit_of, book_made, changed, closed}
-use Rattle.orch_core.proofs.Prelude.{configuration_of, counted, empty_slots, flushes_of, get_or-le-sum_by, given-opened, greatest}
-use Rattle.orch_core.proofs.Prelude.{greatest_id, has_row, holder_of, is_opening_change, kept_at_start, kept_claim, kept_if, last_id}
-use Rattle.orch_core.proofs.Prelude.{last_id-within, last_read, latest, length-map, length-replicate, loaded_audit, loaded_book, loading}
-use Rattle.orch_core.proofs.Prelude.{longest-at, longest_block, made as claims_made, missing, missing_from, names-opening, opened_book}
-use Rattle.orch_core.proofs.Prelude.{opened_world, opening_changes, opening_instance, parts_of, period_by, period_of, pollers, put_instance}
-use Rattle.orch_core.proofs.Prelude.{registered, registering, registering_from, room_of, row_fits, server_at, settings_of}
-use Rattle.orch_core.proofs.Prelude.{slice_get-get_or, slice_get_within, source_servers, source_state, start, start_changes, start_moment, start_rows}
-use Rattle.orch_core.proofs.Prelude.{start_world, transactions}
+use Rattle.orch_core.proofs.Prelude.{All-nil, All-replicate, AreReadWithin, Attached, AuditState, BookState, Candidate, Change, ClaimState}
+use Rattle.orch_core.proofs.Prelude.{Configuration, Detached, Fits, HasKnownSource, HasSameServers, HaveEntries, Instance, IsAudit, IsScenario}
+use Rattle.orch_core.proofs.Prelude.{IsSlot, IsState, IsUnended, Moment, Observation, Rise, Row, Rule, Scenario, Server, ServerNo, Settings, StartsBy}
+use Rattle.orch_core.proofs.Prelude.{State, Unended, World, after_opening, are_known, audit-opened, audit_of, book_made, changed, closed}
+use Rattle.orch_core.proofs.Prelude.{configuration_of, counted, empty_slots, flushes_of, get_or-le-sum_by, given-opened, greatest, greatest_id}
+use Rattle.orch_core.proofs.Prelude.{has_row, holder_of, is_opening_change, kept_at_start, kept_claim, kept_if, last_id, last_id-within, last_read}
+use Rattle.orch_core.proofs.Prelude.{latest, length-map, length-replicate, loaded_audit, loaded_book, loading, longest-at, longest_block}
+use Rattle.orch_core.proofs.Prelude.{made as claims_made, missing, missing_from, opened_book, opened_world, opening_changes, opening_instance}
+use Rattle.orch_core.proofs.Prelude.{parts_of, period_by, period_of, pollers, put_instance, registered, registering, registering_from, room_of}
+use Rattle.orch_core.proofs.Prelude.{row_fits, same-change, server_at, settings_of, slice_get-get_or, slice_get_within, source_servers, source_state}
+use Rattle.orch_core.proofs.Prelude.{start, start_changes, start_moment, start_rows, start_world, transactions}
 use Rattle.orch_core.proofs.Prelude.change
-use Rattle.orch_core.proofs.Prelude.key
 use Rattle.orch_core.proofs.Prelude.row
-use Rattle.orch_core.proofs.Prelude.table
 use Rattle.orch_core.proofs.Periods.{short-in}
 use Rattle.orch_core.proofs.Servers.{servers-start}
 use Rattle.orch_core.proofs.Sources.{KnowsSources, source-at}
 use Rattle.orch_core.proofs.Recoveries.{HasBegun, closed-begun, closed-is, counted-begun, latest-most}
-use Rattle.orch_core.proofs.States.{both_known, names-made, one_known, settings-made, settings-put}
+use Rattle.orch_core.proofs.States.{both_known, one_known, same-made, same-then, same-self}
 pub use Rattle.opening_book.proofs.Changes.{all-from, all-loading, all-opening}
 use Rattle.opening_book.proofs.ReadNumbers.{loaded-within, opening-within}
 
@@ -101,38 +97,24 @@ fits-opening w at b known rules recoveries sources names there kept =
 
 -- ---- no change of a book changes its names or settings
 
-pub settings-change : (b : BookState) (c : Change) → (after_change b c).settings ≡ b.settings
-settings-change b (change.Put r) = settings-put b r
-settings-change b (change.Remove table.Instance (key.Server n)) = refl
-settings-change b (change.Remove table.Downtime (key.Server n)) = refl
-settings-change b (change.Remove table.Candidate (key.Server n)) = refl
-settings-change b (change.Remove table.Recovery (key.Server n)) = refl
-settings-change b (change.Remove table.Switch (key.Server n)) = refl
-settings-change b (change.Remove table.Active (key.Server n)) = refl
-settings-change b _ = refl
+same-opening : (b : BookState) (c : Change) → HasSameServers b (after_opening b c)
+same-opening b (change.Remove t k) = same-change b (change.Remove t k)
+same-opening b (change.Put (row.Instance i)) = record { settings = refl; names = refl }
+same-opening b _ = record { settings = refl; names = refl }
 
-settings-opening : (b : BookState) (c : Change) → (after_opening b c).settings ≡ b.settings
-settings-opening b (change.Remove t k) = settings-change b (change.Remove t k)
-settings-opening b (change.Put (row.Instance i)) = refl
-settings-opening b _ = refl
-
-names-opened : (b : BookState) (cs : List Change) → (opened_book b cs).names ≡ b.names
-names-opened b [] = refl
-names-opened b (c ∷ cs) = names-opened (after_opening b c) cs ∙ names-opening b c
-
-settings-opened : (b : BookState) (cs : List Change) → (opened_book b cs).settings ≡ b.settings
-settings-opened b [] = refl
-settings-opened b (c ∷ cs) = settings-opened (after_opening b c) cs ∙ settings-opening b c
+pub same-opened : (b : BookState) (cs : List Change) → HasSameServers b (opened_book b cs)
+same-opened b [] = same-self b
+same-opened b (c ∷ cs) = same-then b (after_opening b c) (opened_book (after_opening b c) cs) (same-opening b c) (same-opened (after_opening b c) cs)
 
 pub book-settings : (s : Scenario) (w : World) (settings : List Settings) (items : List Row) (b : BookState) → w ≡ start_world s → settings ≡ settings_of s → b ≡ book_made settings items → length b.settings ≡ length w.servers
 book-settings s w settings items b world settings_are loads =
-    ap (λ (x : BookState). length x.settings) loads ∙ (ap length (settings-made settings items) ∙ (ap length settings_are
+    ap (λ (x : BookState). length x.settings) loads ∙ (ap length (same-made settings items).settings ∙ (ap length settings_are
     ∙ (length-map s.opening.servers (λ i. i.settings) ∙ sym (ap (λ (x : World). length x.servers) world ∙ servers-start s))))
 
 pub book-names : (s : Scenario) (w : World) (settings : List Settings) (items : List Row) (b : BookState) → w ≡ start_world s → settings ≡ settings_of s → b ≡ book_made settings items → length b.names ≡ length w.servers
 book-names s w settings items b world settings_are loads =
-    ap (λ (x : BookState). length x.names) loads ∙ (ap length (names-made settings items) ∙ (length-map settings (λ x. x.name)
-    ∙ (sym (ap length (settings-made settings items)) ∙ (sym (ap (λ (x : BookState). length x.settings) loads) ∙ book-settings s w settings items b world settings_are loads))))
+    ap (λ (x : BookState). length x.names) loads ∙ (ap length (same-made settings items).names ∙ (length-map settings (λ x. x.name)
+    ∙ (sym (ap length (same-made settings items).settings) ∙ (sym (ap (λ (x : BookState). length x.settings) loads) ∙ book-settings s w settings items b world settings_are loads))))
 
 -- the world of an opening, with room as it was counted
 pub world_made : (s : Scenario) (w : World) (room flushes : ℕ) → w ≡ opened_world s.opening room flushes → room ≡ room_of s → flushes ≡ flushes_of s → w ≡ start_world s
@@ -201,8 +183,8 @@ module _ (s : Scenario) (given : List Row) (w : World) (settings : List Settings
 
   pub IsState-made : IsScenario s → IsState made
   IsState-made scenario = record {
-    names = ap (λ (x : BookState). length x.names) is.completes ∙ (ap length (names-opened b changes) ∙ book-names s w settings items b is.world is.settings_made is.loads);
-    settings = ap (λ (x : BookState). length x.settings) is.completes ∙ (ap length (settings-opened b changes) ∙ book-settings s w settings items b is.world is.settings_made is.loads);
+    names = ap (λ (x : BookState). length x.names) is.completes ∙ (ap length (same-opened b changes).names ∙ book-names s w settings items b is.world is.settings_made is.loads);
+    settings = ap (λ (x : BookState). length x.settings) is.completes ∙ (ap length (same-opened b changes).settings ∙ book-settings s w settings items b is.world is.settings_made is.loads);
     slots = ap length is.empty ∙ length-replicate {A = Option Observation} pollers None;
     observed = subst (All (IsSlot (length w.servers))) (sym is.empty) (All-replicate (IsSlot (length w.servers)) pollers None tt);
     sources = subst (λ (x : World). KnowsSources x.servers) (sym is.world) (sources-start s scenario);

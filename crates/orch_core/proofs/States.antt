@@ -1,16 +1,16 @@
 -- Turns keep what holds of states.
 use Rattle.std.proofs.Common.{◌≡◌, ℕ, ◌+◌, ◌<◌, ◌≤◌, ◌^◌, Bool, true, false, List, [], ◌∷◌, ◌++◌, length, Option, None, Some, refl, sym, ap, subst, ◌∙◌, arith, append-nil}
 use Rattle.std.specs.Prelude.{All, min, IfSome, ◌&&◌, nat_lt, slice_set, fold, map, Ok, Err, if◌then◌else◌}
-use Rattle.orch_core.proofs.Prelude.{All-nil, All-replicate, All-set, AllAllowed, AllJoinWell, AuditState, BookState, Change, HaveEntries, Instance}
-use Rattle.orch_core.proofs.Prelude.{IsAudit, IsSlot, IsState, IsStep, IsUnended, Moment, Observation, Rise, Row, Server, ServerNo, Settings, State}
-use Rattle.orch_core.proofs.Prelude.{Status, StatusFault, Step, StepsTo, Turn, Unended, World, after_put, after_restart, after_row, are_known}
-use Rattle.orch_core.proofs.Prelude.{audit-loaded, book_made, changed, closed, counted, empty_book, empty_slots, engine, exchange_of, instance_at}
-use Rattle.orch_core.proofs.Prelude.{interrupted_at, kept_by, kept_if, kept_with, last_given, later, length-map, length-replicate, length-set, loaded}
-use Rattle.orch_core.proofs.Prelude.{observed_servers, period_by, pollers, reading_by, reloaded_audit, reloaded_book, reloaded_moment, renewed}
-use Rattle.orch_core.proofs.Prelude.{renewed_book, restart_changes, row_fits, run, seen_in, seen_purged, seen_servers, seen_set, server_at, source_at}
-use Rattle.orch_core.proofs.Prelude.{source_servers, status, status_in, status_of, step as turn_step, stored, stored_over}
+use Rattle.orch_core.proofs.Prelude.{All-nil, All-replicate, All-set, AllAllowed, AllJoinWell, AuditState, BookState, Change, HasSameServers}
+use Rattle.orch_core.proofs.Prelude.{HaveEntries, Instance, IsAudit, IsSlot, IsState, IsStep, IsUnended, Moment, Observation, Rise, Row, Server}
+use Rattle.orch_core.proofs.Prelude.{ServerNo, Settings, State, Status, StatusFault, Step, StepsTo, Turn, Unended, World, after_put, after_restart}
+use Rattle.orch_core.proofs.Prelude.{after_row, are_known, audit-loaded, book_made, changed, closed, counted, empty_book, empty_slots, engine}
+use Rattle.orch_core.proofs.Prelude.{exchange_of, instance_at, interrupted_at, kept_by, kept_if, kept_with, last_given, later, length-map}
+use Rattle.orch_core.proofs.Prelude.{length-replicate, length-set, loaded, observed_servers, period_by, pollers, reading_by, reloaded_audit}
+use Rattle.orch_core.proofs.Prelude.{reloaded_book, reloaded_moment, renewed, renewed_book, restart_changes, row_fits, run, same-put, seen_in}
+use Rattle.orch_core.proofs.Prelude.{seen_purged, seen_servers, seen_set, server_at, source_at, source_servers, status, status_in, status_of}
+use Rattle.orch_core.proofs.Prelude.{step as turn_step, stored, stored_over}
 use Rattle.orch_core.proofs.Prelude.act
-use Rattle.orch_core.proofs.Prelude.row
 use Rattle.orch_core.proofs.Prelude.seeing
 use Rattle.orch_core.proofs.Prelude.turn
 use Rattle.orch_core.proofs.Prelude.turns_step as step
@@ -49,75 +49,42 @@ pub reading_known : (w : World) (n : ServerNo) (read now : ℕ) → KnowsSources
 reading_known w n read now all within =
     both_known (length w.servers) n.0 (seen_servers (seen_in (status w n.0))) within (seen_known w n.0 (server_at w n.0) all refl)
 
--- no change of a book changes its names, and a loaded one has those of its settings
+-- no change of a book changes its names or its settings, and a loaded one has those of its settings
 
-pub names-put : (b : BookState) (r : Row) → (after_put b r).names ≡ b.names
-names-put b (row.Instance i) = refl
-names-put b _ = refl
+pub same-self : (b : BookState) → HasSameServers b b
+same-self b = record { settings = refl; names = refl }
 
-names-row : (b : BookState) (r : Row) → (after_row b r).names ≡ b.names
-names-row b r = go (row_fits (length b.names) r)
+pub same-then : (a b c : BookState) → HasSameServers a b → HasSameServers b c → HasSameServers a c
+same-then a b c first second = record { settings = second.settings ∙ first.settings; names = second.names ∙ first.names }
+
+same-row : (b : BookState) (r : Row) → HasSameServers b (after_row b r)
+same-row b r = go (row_fits (length b.names) r)
   where
-    go : (fits : Bool) → (if fits then after_put b r else b).names ≡ b.names
-    go true = names-put b r
-    go false = refl
+    go : (fits : Bool) → HasSameServers b (if fits then after_put b r else b)
+    go true = same-put b r
+    go false = same-self b
 
-names-rows : (b : BookState) (rows : List Row) → (fold after_row b rows).names ≡ b.names
-names-rows b [] = refl
-names-rows b (r ∷ rows) = names-rows (after_row b r) rows ∙ names-row b r
+same-rows : (b : BookState) (rows : List Row) → HasSameServers b (fold after_row b rows)
+same-rows b [] = same-self b
+same-rows b (r ∷ rows) = same-then b (after_row b r) (fold after_row (after_row b r) rows) (same-row b r) (same-rows (after_row b r) rows)
 
-pub names-made : (settings : List Settings) (rows : List Row) → (book_made settings rows).names ≡ map (λ x. x.name) settings
-names-made settings rows = names-rows (empty_book settings) rows
+pub same-made : (settings : List Settings) (rows : List Row) → HasSameServers (empty_book settings) (book_made settings rows)
+same-made settings rows = same-rows (empty_book settings) rows
 
 pub names-loaded : (settings : List Settings) (last : ℕ) (rows : List Row) → (loaded settings last rows).names ≡ map (λ x. x.name) settings
-names-loaded settings last rows = names-made settings (counted (length settings) last rows)
+names-loaded settings last rows = (same-made settings (counted (length settings) last rows)).names
 
-pub names-over : (b : BookState) (o : Observation) (kept : Option Instance) → (stored_over b o kept).names ≡ b.names
-names-over b o None = refl
-names-over b o (Some kept) = go (nat_lt o.read kept.read)
+pub same-over : (b : BookState) (o : Observation) (kept : Option Instance) → HasSameServers b (stored_over b o kept)
+same-over b o None = same-self b
+same-over b o (Some kept) = go (nat_lt o.read kept.read)
   where
-    go : (old : Bool) → (if old then b else renewed_book b o (Some (renewed kept o))).names ≡ b.names
-    go true = refl
-    go false = refl
+    go : (old : Bool) → HasSameServers b (if old then b else renewed_book b o (Some (renewed kept o)))
+    go true = same-self b
+    go false = record { settings = refl; names = refl }
 
-pub names-stored : (b : BookState) (slot : Option Observation) → (stored b slot).names ≡ b.names
-names-stored b None = refl
-names-stored b (Some o) = names-over b o (instance_at b o.no)
-
--- nor its settings
-
-pub settings-put : (b : BookState) (r : Row) → (after_put b r).settings ≡ b.settings
-settings-put b (row.Instance i) = refl
-settings-put b _ = refl
-
-settings-row : (b : BookState) (r : Row) → (after_row b r).settings ≡ b.settings
-settings-row b r = go (row_fits (length b.names) r)
-  where
-    go : (fits : Bool) → (if fits then after_put b r else b).settings ≡ b.settings
-    go true = settings-put b r
-    go false = refl
-
-settings-rows : (b : BookState) (rows : List Row) → (fold after_row b rows).settings ≡ b.settings
-settings-rows b [] = refl
-settings-rows b (r ∷ rows) = settings-rows (after_row b r) rows ∙ settings-row b r
-
-pub settings-made : (settings : List Settings) (rows : List Row) → (book_made settings rows).settings ≡ settings
-settings-made settings rows = settings-rows (empty_book settings) rows
-
-pub settings-loaded : (settings : List Settings) (last : ℕ) (rows : List Row) → (loaded settings last rows).settings ≡ settings
-settings-loaded settings last rows = settings-made settings (counted (length settings) last rows)
-
-pub settings-over : (b : BookState) (o : Observation) (kept : Option Instance) → (stored_over b o kept).settings ≡ b.settings
-settings-over b o None = refl
-settings-over b o (Some kept) = go (nat_lt o.read kept.read)
-  where
-    go : (old : Bool) → (if old then b else renewed_book b o (Some (renewed kept o))).settings ≡ b.settings
-    go true = refl
-    go false = refl
-
-pub settings-stored : (b : BookState) (slot : Option Observation) → (stored b slot).settings ≡ b.settings
-settings-stored b None = refl
-settings-stored b (Some o) = settings-over b o (instance_at b o.no)
+pub same-stored : (b : BookState) (slot : Option Observation) → HasSameServers b (stored b slot)
+same-stored b None = same-self b
+same-stored b (Some o) = same-over b o (instance_at b o.no)
 
 -- each turn keeps what holds of states
 
@@ -180,8 +147,8 @@ IsState-read s p n o reads read now is within reading = record {
 pub IsState-store : (s : State) (p : ℕ) (b : BookState) (slot left : Option Observation) → IsState s → b ≡ stored s.book slot → left ≡ None
     → IsState (record s { book = b; slots = slice_set s.slots p left })
 IsState-store s p b slot left is stores empty = record {
-  names = ap (λ (x : BookState). length x.names) stores ∙ (ap length (names-stored s.book slot) ∙ is.names);
-  settings = ap (λ (x : BookState). length x.settings) stores ∙ (ap length (settings-stored s.book slot) ∙ is.settings);
+  names = ap (λ (x : BookState). length x.names) stores ∙ (ap length (same-stored s.book slot).names ∙ is.names);
+  settings = ap (λ (x : BookState). length x.settings) stores ∙ (ap length (same-stored s.book slot).settings ∙ is.settings);
   slots = length-set s.slots p left ∙ is.slots;
   observed = All-set (IsSlot (length s.world.servers)) s.slots p left (subst (IsSlot (length s.world.servers)) (sym empty) tt) is.observed;
   sources = is.sources;
@@ -222,7 +189,7 @@ module _ (rows : List Row) (s : State) (b : BookState) (a : AuditState) (moment 
   pub IsState-restart : IsState s → length s.book.settings ≤ 2 ^ 32 → IsState restarted
   IsState-restart is few = record {
     names = ap (λ (x : BookState). length x.names) re.book ∙ (ap length (names-loaded s.book.settings (last_given s) rows) ∙ (length-map s.book.settings (λ x. x.name) ∙ is.settings));
-    settings = ap (λ (x : BookState). length x.settings) re.book ∙ (ap length (settings-loaded s.book.settings (last_given s) rows) ∙ is.settings);
+    settings = ap (λ (x : BookState). length x.settings) re.book ∙ (ap length (same-made s.book.settings (counted (length s.book.settings) (last_given s) rows)).settings ∙ is.settings);
     slots = ap length re.empty ∙ length-replicate {A = Option Observation} pollers None;
     observed = subst (All (IsSlot (length s.world.servers))) (sym re.empty) (All-replicate (IsSlot (length s.world.servers)) pollers None tt);
     sources = is.sources;

@@ -1,8 +1,8 @@
 -- The exchanges of a job's turn are allowed, and what holds of states holds after it.
-use Rattle.orch_core.proofs.Prelude.{All-cons, All-filter, All-head, All-tail, AllAllowed, AuditState, BookState, Closing, Flown, HaveEntries}
-use Rattle.orch_core.proofs.Prelude.{IsAudit, IsOpenAt, IsSlot, IsState, IsUnended, Moment, Observation, Rise, Rise-with, Rise-without, State}
-use Rattle.orch_core.proofs.Prelude.{Unended, UnendedLook, World, are_known, book_turned, changes_by, changes_of, closed_by}
-use Rattle.orch_core.proofs.Prelude.{closing_changes, closing_of, entry_id, flown, flown-allowed, flown-number, flown-sees, flown-unended, foretold}
+use Rattle.orch_core.proofs.Prelude.{All-cons, All-filter, All-head, All-tail, AllAllowed, AuditState, BookState, Closing, Flown, HasSameServers}
+use Rattle.orch_core.proofs.Prelude.{HaveEntries, IsAudit, IsOpenAt, IsSlot, IsState, IsUnended, Moment, Observation, Rise, Rise-with, Rise-without}
+use Rattle.orch_core.proofs.Prelude.{State, Unended, UnendedLook, World, are_known, book_turned, changes_by, changes_of, closed_by, closing_changes}
+use Rattle.orch_core.proofs.Prelude.{closing_of, entry_id, flown, flown-allowed, flown-number, flown-sees, flown-unended, foretold}
 use Rattle.orch_core.proofs.Prelude.{foretold-observation, foretold-step, found-here, found-number, head_known as known-head, is_going, job_at}
 use Rattle.orch_core.proofs.Prelude.{job_exchanges, job_observation, job_reply, jobs_turned, next_count, number_of, observation_of, observed_servers}
 use Rattle.orch_core.proofs.Prelude.{option_map, reads_with, ready-of, run, seen_servers, servers-run, slice_get-get_or, step as turn_step, step_of}
@@ -15,7 +15,7 @@ use Rattle.std.specs.Prelude.{All, IfSome, not, ◌==◌, slice_get, if◌then�
 use Rattle.orch_core.proofs.Closed.{closed_by-begun, closed_by-is, closed_by-next, closing-going, closing-open, entries-turned, flown-entry}
 use Rattle.orch_core.proofs.Recoveries.{HasBegun}
 use Rattle.orch_core.proofs.Sources.{KnowsSources, sources-run}
-use Rattle.orch_core.proofs.States.{names-stored, reading_known, settings-stored}
+use Rattle.orch_core.proofs.States.{reading_known, same-stored, same-self}
 
 -- ---- a turn's exchanges are allowed
 
@@ -61,21 +61,16 @@ jobs-turned count jobs last id t all rise stays = go (is_going t.step) refl
     go true e = let on = stays e in record { range = All-with (IsUnended count) jobs id t.next on.1 all; rising = Rise-with 0 jobs last id t.next on.0 rise }
     go false e = record { range = All-without (IsUnended count) jobs id all; rising = Rise-without 0 jobs last id rise }
 
-names-turned : (b : BookState) (id : ℕ) (t : Option Flown) → (book_turned b id t).names ≡ b.names
-names-turned b id None = refl
-names-turned b id (Some t) = go (is_going t.step)
+same-turned : (b : BookState) (id : ℕ) (t : Option Flown) → HasSameServers b (book_turned b id t)
+same-turned b id None = same-self b
+same-turned b id (Some t) = go (is_going t.step)
   where
-    go : (g : Bool) → (if g then stored b t.observation else without_leases (stored b t.observation) id).names ≡ b.names
-    go true = names-stored b t.observation
-    go false = names-stored b t.observation
+    same : HasSameServers b (stored b t.observation)
+    same = same-stored b t.observation
 
-settings-turned : (b : BookState) (id : ℕ) (t : Option Flown) → (book_turned b id t).settings ≡ b.settings
-settings-turned b id None = refl
-settings-turned b id (Some t) = go (is_going t.step)
-  where
-    go : (g : Bool) → (if g then stored b t.observation else without_leases (stored b t.observation) id).settings ≡ b.settings
-    go true = settings-stored b t.observation
-    go false = settings-stored b t.observation
+    go : (g : Bool) → HasSameServers b (if g then stored b t.observation else without_leases (stored b t.observation) id)
+    go true = same
+    go false = record { settings = same.settings; names = same.names }
 
 module _ (s : State) (id : ℕ) (is : IsState s) where
   jobs-after : JobsAfter (length s.world.servers) (jobs_turned s.jobs id (turned_at s id)) s.last_job
@@ -109,8 +104,8 @@ module _ (s : State) (id : ℕ) (is : IsState s) where
       let now : Moment = record { 0 = s.moment } in
       let ends = closing_of (turned_at s id) in
       record {
-        names = ap (λ (x : BookState). length x.names) book ∙ ap length (names-turned s.book id (turned_at s id)) ∙ is.names ∙ sym servers;
-        settings = ap (λ (x : BookState). length x.settings) book ∙ ap length (settings-turned s.book id (turned_at s id)) ∙ is.settings ∙ sym servers;
+        names = ap (λ (x : BookState). length x.names) book ∙ ap length (same-turned s.book id (turned_at s id)).names ∙ is.names ∙ sym servers;
+        settings = ap (λ (x : BookState). length x.settings) book ∙ ap length (same-turned s.book id (turned_at s id)).settings ∙ is.settings ∙ sym servers;
         slots = is.slots;
         observed = subst (λ count. All (IsSlot count) s.slots) (sym servers) is.observed;
         sources = subst (λ (v : World). KnowsSources v.servers) (sym world) (sources-run s.world (job_exchanges (turned_at s id)) (Allowed-job s id) is.sources);

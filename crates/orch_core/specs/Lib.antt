@@ -17,19 +17,15 @@ pub mod Due
 pub mod OrchBy
 pub mod Settling
 pub use Rattle.knowledge.specs.AskingCommands as AskingCommands
-pub use Rattle.knowledge.specs.AuditLines as AuditLines
 pub use Rattle.knowledge.specs.AuditLog as AuditLog
 pub use Rattle.knowledge.specs.BinlogCoords as BinlogCoords
 pub use Rattle.knowledge.specs.BookCommands as BookCommands
 pub use Rattle.knowledge.specs.BookViews as BookViews
-pub use Rattle.knowledge.specs.CommandJobs as CommandJobs
 pub use Rattle.knowledge.specs.CommandOutcomes as CommandOutcomes
-pub use Rattle.knowledge.specs.CommandRoutes as CommandRoutes
 pub use Rattle.knowledge.specs.Commands as Commands
 pub use Rattle.knowledge.specs.FailureAnalysis as FailureAnalysis
 pub use Rattle.knowledge.specs.HookTexts as HookTexts
 pub use Rattle.knowledge.specs.InstanceKeeper as InstanceKeeper
-pub use Rattle.knowledge.specs.JobsInFlight as JobsInFlight
 pub use Rattle.knowledge.specs.KeptRows as KeptRows
 pub mod Knowledge
 pub use Rattle.knowledge.specs.MovesCoords as MovesCoords
@@ -42,14 +38,13 @@ pub use Rattle.knowledge.specs.Operations as Operations
 pub use Rattle.knowledge.specs.OrchBase as OrchBase
 pub use Rattle.knowledge.specs.Permission as Permission
 pub use Rattle.knowledge.specs.PlanParts as PlanParts
+pub use Rattle.knowledge.specs.PromotionRules as PromotionRules
 pub use Rattle.knowledge.specs.PseudoMatch as PseudoMatch
 pub use Rattle.knowledge.specs.RecoveryCore as RecoveryCore
 pub use Rattle.knowledge.specs.RecoveryEnds as RecoveryEnds
 pub use Rattle.knowledge.specs.RecoveryHooks as RecoveryHooks
-pub use Rattle.knowledge.specs.RecoveryPermits as RecoveryPermits
 pub use Rattle.knowledge.specs.RecoveryPlans as RecoveryPlans
 pub use Rattle.knowledge.specs.Regroup as Regroup
-pub use Rattle.knowledge.specs.ReplicaGroups as ReplicaGroups
 pub use Rattle.knowledge.specs.Scenarios as Scenarios
 pub use Rattle.knowledge.specs.ServerModel as ServerModel
 pub use Rattle.knowledge.specs.ServerWords as ServerWords

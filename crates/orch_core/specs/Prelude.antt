@@ -2,7 +2,7 @@
 pub use Rattle.std.specs.Option.{option_map}
 pub use Rattle.knowledge.specs.AskingCommands.Answers.{unknown_in}
 pub use Rattle.knowledge.specs.AuditLog.Audits.{AuditState, IsAudit, closed, is_unended, longest_block, recovery_at}
-pub use Rattle.knowledge.specs.CommandJobs.Jobs.{refusal_by}
+pub use Rattle.knowledge.specs.CommandOutcomes.Jobs.{refusal_by}
 pub use Rattle.knowledge.specs.CommandOutcomes.Outcomes.{Outcome, by_hand, first_of, removal_refusal, scan_by}
 unfoldable pub use Rattle.knowledge.specs.CommandOutcomes.Outcomes.{outcome_of}
 pub use Rattle.knowledge.specs.CommandOutcomes.CommandsBy.{outcome}
@@ -13,18 +13,18 @@ pub use Rattle.knowledge.specs.CommandOutcomes.declared.command.Numbers.{Numbers
 pub use Rattle.knowledge.specs.CommandOutcomes.declared.command.Update.{Update}
 pub use Rattle.knowledge.specs.CommandOutcomes.declared.command.Update.TheVariants as update
 pub use Rattle.knowledge.specs.CommandOutcomes.declared.configuration.Configuration.{Configuration}
-pub use Rattle.knowledge.specs.CommandRoutes.Routes.{route_of}
-pub use Rattle.knowledge.specs.CommandRoutes.declared.route.Route.{Route}
-pub use Rattle.knowledge.specs.CommandRoutes.declared.route.Route.TheVariants.{Asks, Begins, Decides, Discovers, Forgets, Recovers, TakesOver}
+pub use Rattle.knowledge.specs.Commands.Routes.{route_of}
+pub use Rattle.knowledge.specs.Commands.declared.route.Route.{Route}
+pub use Rattle.knowledge.specs.Commands.declared.route.Route.TheVariants.{Asks, Begins, Decides, Discovers, Forgets, Recovers, TakesOver}
 pub use Rattle.knowledge.specs.Commands.declared.line.Line.{Line}
 pub use Rattle.knowledge.specs.Commands.declared.refusal.Refusal.{Refusal}
 pub use Rattle.knowledge.specs.Commands.declared.refusal.Refusal.TheVariants.{UnknownInstance, Unreachable}
 pub use Rattle.knowledge.specs.Commands.declared.turn.Command.{Command}
 pub use Rattle.knowledge.specs.Commands.declared.turn.CommandTurn.{CommandTurn}
 pub use Rattle.knowledge.specs.InstanceKeeper.Book.{BookState, instance_at}
-pub use Rattle.knowledge.specs.JobsInFlight.Jobs.{Rise, book_turned, is_open, job_at, job_exchanges, job_observation, job_reply, jobs_turned, most_turns}
-pub use Rattle.knowledge.specs.JobsInFlight.Jobs.{reads_with, stored, without_job}
-pub use Rattle.knowledge.specs.JobsInFlight.Rounds.{round_over}
+pub use Rattle.knowledge.specs.UnendedJobs.Jobs.{Rise, book_turned, is_open, job_at, job_exchanges, job_observation, job_reply, jobs_turned, most_turns}
+pub use Rattle.knowledge.specs.UnendedJobs.Jobs.{reads_with, stored, without_job}
+pub use Rattle.knowledge.specs.UnendedJobs.Rounds.{round_over}
 pub use Rattle.knowledge.specs.KeptRows.Rows.{changed}
 pub use Rattle.knowledge.specs.KeptRows.Seeing.{seen_in}
 pub use Rattle.knowledge.specs.KeptRows.Servers.{are_known, observed_servers, source_servers}
@@ -56,8 +56,8 @@ pub use Rattle.opening_book.specs.Opening.{is_opening_change, loading, opened_bo
 pub use Rattle.knowledge.specs.OrchBase.Memory.{next_count}
 pub use Rattle.knowledge.specs.OrchBase.declared.server.Moment.{Moment}
 pub use Rattle.knowledge.specs.OrchBase.declared.server.ServerNo.{ServerNo}
-pub use Rattle.knowledge.specs.RecoveryPermits.Recoveries.{recovery_refusal}
-pub use Rattle.knowledge.specs.RecoveryPermits.Takeovers.{takeover_refusal}
+pub use Rattle.knowledge.specs.RecoveryCore.Recoveries.{recovery_refusal}
+pub use Rattle.knowledge.specs.RecoveryCore.Takeovers.{takeover_refusal}
 pub use Rattle.knowledge.specs.Scenarios.Scenarios.{IsScenario, flushes_of, period_of, room_of, settings_of}
 pub use Rattle.knowledge.specs.Scenarios.ValidTurns.{IsAct, IsCommand, IsStep, IsTurn, NamesOneOf, pollers}
 pub use Rattle.knowledge.specs.Scenarios.declared.scenario.Scenario.{Scenario}

@@ -16,11 +16,10 @@ use crate::claiming::{holder_of, kept_claim};
 use crate::command_outcomes_items::{Numbers, Outcome, outcome_of, read_server, scan_by};
 use crate::exchanging::{exchange, later, read_reply};
 use crate::instance_keeper_items::{Book, Change, Keeper, Observation};
-use crate::jobs_in_flight::{FoundJob, find, others_over, take_turn};
 use crate::opening::{complete, configure, copy_names, copy_settings, empty_slots, make_slots};
 use crate::orch_base::{Memory, Moment, ServerNo};
 use crate::server_model::World;
-use crate::unended_jobs_items::Unended;
+use crate::unended_jobs_items::{FoundJob, Unended, find, others_over, take_turn};
 use crate::{Act, BoxedCommand, Configuration, Reply, Scenario, Step, Turn, TurnFault};
 use knowledge::{
     Knowledge, Replies, close_entry, closing_of, copied, given_rows, keep_some, keep_turn, plain,

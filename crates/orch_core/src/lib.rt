@@ -11,7 +11,7 @@ mod orch;
 mod polls;
 
 pub use engine::Engine;
-pub use knowledge::command_outcomes_items::Configuration;
+pub use knowledge::command_outcomes_items::{Configuration, means_of};
 pub use knowledge::commands::{
     Answers, Command, CommandName, CommandTurn, Found, Keys, Line, Lines, Refusal, StateWord,
 };
@@ -20,9 +20,8 @@ pub use knowledge::scenarios_items::{
 };
 pub use knowledge::turns::{Act, BoxedCommand, BoxedFailure, Failure, Reply, Step, Turn};
 pub use knowledge::{
-    TurnFault, audit_lines, binlog_coords_items, commands, gtid_sets, instance_keeper_items,
-    jobs_in_flight, kept_rows_items, orch_base, permission_items, scenarios_items, turns,
-    unended_jobs_items,
+    TurnFault, asking_commands_items, binlog_coords_items, commands, gtid_sets,
+    instance_keeper_items, kept_rows_items, orch_base, scenarios_items, turns, unended_jobs_items,
 };
 use knowledge::{audit_log, command_outcomes_items, openings, server_model};
 pub use node_claims;

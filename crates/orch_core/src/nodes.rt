@@ -39,7 +39,8 @@ impl Engine {
         ensures cause { HasTurnCause (K.faults keeper.old) (K.faults keeper.new) result }
         ensures idle { asks self.old (Turn.As node act.now) ≡ false
             → changes_of [] self.old (Turn.As node act.now) ≡ [] → keeper.new ≡ keeper.old }
-        ensures calls { result ≡ Err TurnFault.Keeper → Calls engine self.old (Turn.As node act.now) }
+        ensures calls { result ≡ Err TurnFault.Keeper
+            → Calls engine self.old (Turn.As node act.now) }
         ensures servers { length self.new.world.servers ≡ length self.old.world.servers }
         ensures nodes { nodes_of self.new ≡ nodes_of self.old }
     {

@@ -115,7 +115,7 @@ pub(crate) fn configure(alloc: Global, s: &Scenario, wait: u32) -> Result<Config
         blocks: s.blocks.copy(alloc)?,
         master: s.filters.master.passes.copy(alloc)?,
         intermediate: s.filters.intermediate.passes.copy(alloc)?,
-        hooks: s.hooks.copy(alloc)?,
+        hooks: s.hooks.share()?,
         aliases: s.aliases.copy(alloc)?,
     })
 }

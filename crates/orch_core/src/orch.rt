@@ -13,11 +13,10 @@ ghost use Rattle.orch_core.specs.Starts.{StartsBy, kept_at_start};
 
 use crate::audit_log::Audit;
 use crate::instance_keeper_items::{Book, Keeper};
-use crate::jobs_in_flight::round_over;
-use crate::orch_base::{Moment, ServerNo};
+use crate::orch_base::{Copied, Moment, ServerNo};
 use crate::polls::{first_least, make_polls, note_poll};
 use crate::server_model::World;
-use crate::unended_jobs_items::Unended;
+use crate::unended_jobs_items::{Unended, round_over};
 use crate::{Engine, Reply, Scenario, Turn, TurnFault};
 use std::alloc::Global;
 use std::marker::Model;

@@ -5,6 +5,7 @@ pub mod Errants
 pub mod Checks
 pub mod Replicas
 pub mod Rows
+pub mod Candidates
 pub use Rattle.operations.specs.BinlogCoords as BinlogCoords
 pub mod BookViews
 pub use Rattle.operations.specs.Commands as Commands

@@ -59,17 +59,3 @@ about none f (Some c) given = about_one none (f c) given.i given.d
 -- the refusal with the lowest number that applies to a command: 2, or what refuses it by its kind
 abbrev pub refused : {K : Type 0} → BookState → (K → ServerNo → Option ServerNo → Option Refusal) → Option K → Command → Option Refusal
 refused b by kind given = option_or (unknown_in b given) (about None by kind given)
-
--- ---- what a row is made of: the instance if it stays, servers that move, others beside them. These change places with
--- the instance if it is given whether that one is the first by name.
-
-abbrev pub moves_by : Option Bool → List Move → List Move → List Move
-moves_by None ms ns = ms
-moves_by (Some first) ms ns = in_order first ms ns
-
-abbrev pub sources_by : Option Bool → ServerNo → List ServerNo → List ServerNo
-sources_by None i above = above
-sources_by (Some first) i above = i ∷ above
-
-abbrev pub leased_with : Option ServerNo → List ServerNo → List ServerNo → List ServerNo
-leased_with before movers beside = option_to_list before ++ (movers ++ beside)

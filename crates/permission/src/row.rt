@@ -1,7 +1,7 @@
 //! A row of checks, and the answer of a permit.
 
 ghost use Rattle.std.specs.Prelude.{◌≡◌, IfOk};
-ghost use Rattle.permission.specs.Prelude.{Gives, book_forest, option_and_then};
+ghost use Rattle.permission.specs.Prelude.{Gives, book_forest, option_and_then, option_or};
 ghost use Rattle.permission.specs.Checks.{are_one, errant, errant_by, first_refusal, is_given, is_known, permit_fault, permitted, refusal_by, unknown_in};
 ghost use Rattle.permission.specs.Errants.{own_missing};
 ghost use Rattle.permission.specs.Lists.{first_about, only_if};
@@ -19,7 +19,6 @@ use crate::case::{Case, Check, Move};
 use crate::commands::{BoxedSet, Command, Refusal, unknown_instance};
 use crate::gtid_sets::GtidSet;
 use crate::instance_keeper_items::Book;
-use crate::movers::Movers;
 use crate::orch_base::ServerNo;
 use crate::server_model::World;
 use std::alloc::Global;
@@ -200,6 +199,32 @@ pub fn first_refusal(
     Ok(None)
 }
 
+/// What refuses first: the first check of a row that doesn't pass, then what else refuses, then the first check of a
+/// last row. `Err` means out of memory.
+pub fn refusal_around(
+    alloc: Global,
+    book: &Book,
+    forest: &Forest,
+    world: &World,
+    case: &Case,
+    row: &[Check],
+    own: Option<Refusal>,
+    last: &[Check],
+) -> Result<Option<Refusal>, Memory>
+    requires { forest.now ≡ book_forest book.now }
+    ensures { IfOk result (λ r. r
+        ≡ option_or (first_refusal world.now book.now case.now row.now)
+        (option_or own (first_refusal world.now book.now case.now last.now))) }
+{
+    if let Some(refusal) = first_refusal(alloc, book, forest, world, case, row)? {
+        return Ok(Some(refusal));
+    }
+    match own {
+        Some(refusal) => Ok(Some(refusal)),
+        None => first_refusal(alloc, book, forest, world, case, last),
+    }
+}
+
 fn is_known(book: &Book, no: Option<ServerNo>) -> bool
     ensures { result ≡ is_known book.now no }
 {
@@ -218,22 +243,6 @@ pub fn unknown_in(book: &Book, command: Command) -> Option<Refusal>
         is_known(book, command.i),
         is_known(book, command.d),
     )
-}
-
-/// The refusal of the first check of a row that doesn't pass, about these servers. `Err` means out of memory.
-pub fn row_refusal(
-    alloc: Global,
-    book: &Book,
-    forest: &Forest,
-    world: &World,
-    movers: &Movers,
-    row: &[Check],
-) -> Result<Option<Refusal>, Memory>
-    requires { forest.now ≡ book_forest book.now }
-    ensures { IfOk result (λ r. r ≡ first_refusal world.now book.now movers.now row.now) }
-{
-    let case = movers.case(alloc)?;
-    first_refusal(alloc, book, forest, world, &case, row)
 }
 
 /// The answer of a permit by the refusal that applies.

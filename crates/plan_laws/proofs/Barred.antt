@@ -35,29 +35,22 @@ mover_in d _ = d
 
 -- no replica is started at once, but in a takeover
 abbrev pub NotFrees : Fate → Type 0
-NotFrees taking.Fails = Unit {0}
-NotFrees taking.Drops = Unit {0}
-NotFrees (taking.Loses n y) = Unit {0}
 NotFrees (taking.Frees n y) = ⊥
-NotFrees (taking.Goes s ops) = Unit {0}
+NotFrees _ = Unit {0}
 
 pub not-frees : (w : World) (u : Purpose) → is_takeover u ≡ false → (n to : ServerNo) (exec : Coord) (l : Option Loss) → NotFrees (move_fate w u n (way.Auto to exec) l)
 not-frees w u rest n to exec l = go l
   where
     on-way : (v : Purpose) → is_takeover v ≡ false → (y : Why) → NotFrees (lost_on_way v n y)
-    on-way purpose.Regroup is y = tt
-    on-way purpose.Master is y = tt
-    on-way (purpose.Intermediate s) is y = tt
     on-way (purpose.Takeover d) is y = absurd (false≢true (sym is))
+    on-way _ is y = tt
 
     missed : (m : Miss) → NotFrees (missed_fate w u n (way.Auto to exec) m)
     missed (miss.Unreachable k) = on-way u rest why.unreachable
     missed miss.Running = on-way u rest (why.moved (spot_by (server_at w n.0)))
     missed (miss.Interfered was found) = on-way u rest (why.moved found)
-    missed miss.Loop = tt
     missed (miss.Purged first) = on-way u rest (why.purged exec)
-    missed miss.NoMark = tt
-    missed (miss.Mismatch entry) = tt
+    missed _ = tt
 
     go : (x : Option Loss) → NotFrees (move_fate w u n (way.Auto to exec) x)
     go None = tt

@@ -30,7 +30,8 @@ use Rattle.plan_lines.specs.Courses.{Event, Done, Place, event_of, events_of, gr
 use Rattle.plan_lines.specs.Expected.{all_drained, expected}
 use Rattle.plan_laws.specs.Followed.{AreApart, GoesAsPlanned, IsAsPlanned, RecoveriesFollowTheirPlans, steps_of, steps_to}
 use Rattle.plan_laws.proofs.Lost.{Found, drained_in, gone_in, lost_by, no_of}
-use Rattle.plan_laws.proofs.Meeting.{decides, left}
+use Rattle.plan_laws.proofs.Meeting.{decides}
+use Rattle.plan_lines.proofs.Peeling.{left}
 use Rattle.plan_laws.proofs.Below.{below_events, behind_by, left-detached, left_nos, none-started, not_handed, numbers, told-below}
 use Rattle.plan_laws.proofs.Scripts.{go_events, goes}
 use Rattle.plan_laws.proofs.Steps.{Ends, does}
@@ -90,17 +91,13 @@ module _ (g : Ground) (by : Means) (f : ServerNo) (ns order : List ServerNo) whe
         hand-due : (o : Option Way) → steps_of d.no o ≡ Some ops → (gone_on o).core.ops ≡ [] → ⊥
         hand-due None h e = cc
         hand-due (Some (way.Down b)) h e = cc
-        hand-due (Some (way.Up b)) h e = cc
-        hand-due (Some (way.Auto to exec)) h e = cc
-        hand-due (Some (way.Match to exec every)) h e = cc
+        hand-due _ h e = cc
 
         hand-same : (o : Option Way) → steps_of d.no o ≡ Some ops
             → once (ground_at a) (once (ground_at a) (once (ground_at a) (gone_on o))) ≡ once (ground_at a) (once (ground_at a) (once (ground_at a) (once (ground_at a) (gone_on o))))
         hand-same None h = cc
         hand-same (Some (way.Down b)) h = refl
-        hand-same (Some (way.Up b)) h = refl
-        hand-same (Some (way.Auto to exec)) h = refl
-        hand-same (Some (way.Match to exec every)) h = refl
+        hand-same _ h = refl
 
     none-of : (n : ServerNo) (o : Option Way) → steps_of n o ≡ None → o ≡ None
     none-of n None h = refl
@@ -146,10 +143,8 @@ module _ (g : Ground) (by : Means) (f : ServerNo) (ns order : List ServerNo) whe
                 (ap (λ (ls : List LostReplica). L ++ ls) (sym (left-first d (Some ops) is ds))) on))
 
             free : (y : Way) → Free g by f ns order (IsAsPlanned g by f ns) (purpose.Intermediate s) d.no (task.Handing ∷ task.Sorting ∷ []) ds (Some s) [] false (Some s) F L (below_events g f s (numbers ds) ++ evs) y
-            free (way.Down b) = tt
-            free (way.Up b) = tt
             free (way.Auto to exec) = refl
-            free (way.Match to exec every) = tt
+            free _ = tt
 
             on_way : (a : Place) (o : Option Way) → steps_of d.no o ≡ steps_to g f s d.no → Plans g by f ns order (gone_on d ds F L c a ops o) es → Ends es (below_events g f s (numbers (d ∷ ds)) ++ evs)
             on_way a None h on = let e : None ≡ Some ops = h ∙ is in cc

@@ -4,8 +4,8 @@ use Rattle.std.specs.Prelude.{◌==◌}
 use Rattle.std.proofs.lemmas.Bool.{eq-eqb}
 use Rattle.run_laws.specs.UnendedJobs.declared.unended.Unended.{Unended}
 use Rattle.run_laws.specs.UnendedJobs.Unended.{number_of}
-use Rattle.run_laws.specs.JobsInFlight.Jobs.{Rise, job_at}
-use Rattle.run_laws.proofs.JobsInFlight.Numbers.{Rise-within}
+use Rattle.run_laws.specs.UnendedJobs.Jobs.{Rise, job_at}
+use Rattle.run_laws.proofs.UnendedJobs.Numbers.{Rise-within}
 
 lower : (a b high : ℕ) → a ≤ high → high < b → (a == b) ≡ false
 lower a b high within beyond = grind arith

@@ -1,64 +1,25 @@
 -- The first operation of a recovery's turns: it is done, or missed.
-use Rattle.std.proofs.Common.{◌≡◌, ◌∙◌, ◌⊎◌, inl, inr, Bool, true, false, cond, not, List, [], ◌∷◌, ◌++◌, map, Option, refl, sym, ap, subst}
-use Rattle.std.specs.Prelude.{◌||◌, ◌&&◌}
-use Rattle.std.proofs.lemmas.Bool.{and_parts, false≢true}
+use Rattle.std.proofs.Common.{◌≡◌, ◌∙◌, ◌⊎◌, inl, inr, true, false, not, List, [], ◌∷◌, ◌++◌, map, Option, refl, sym, ap, subst}
+use Rattle.std.proofs.lemmas.Bool.{and_parts, not-true}
 use Rattle.run_laws.specs.Commands.declared.cause.Cause.{Cause}
 use Rattle.run_laws.specs.Commands.declared.line.Line.{Line as Told}
 use Rattle.run_laws.specs.KeptRows.declared.observation.Observation.{Observation}
 use Rattle.run_laws.specs.Operations.Deeds.{deed_of}
 use Rattle.run_laws.specs.Operations.Jobs.{Job}
-use Rattle.run_laws.specs.Operations.Turns.{by_deed}
-use Rattle.run_laws.specs.Operations.Turns as attempt
 use Rattle.run_laws.specs.Operations.declared.op.Op.{Op}
 use Rattle.run_laws.specs.Operations.declared.op.Op.TheVariants as op
 use Rattle.run_laws.specs.RecoveryPlans.Moves.{Does, Stops}
 use Rattle.run_laws.specs.RecoveryPlans.Recoveries.{Recovery}
 use Rattle.run_laws.specs.ServerModel.Run.{Exchange}
-use Rattle.run_laws.specs.RecoveryPlans.Stages.{ends, moved, reads_last}
-use Rattle.run_laws.specs.RecoveryPlans.Taking.{acted, at_end, attempted, entered, fate, is_waiting, met, on_going, progressed, settled}
-use Rattle.run_laws.specs.RecoveryPlans.declared.stage.Stage.{Stage}
+use Rattle.run_laws.specs.RecoveryPlans.Stages.{ends}
+use Rattle.run_laws.specs.RecoveryPlans.Taking.{fate, is_waiting, met, progressed, settled}
 use Rattle.run_laws.specs.RecoveryEnds.Shapes.{are_still}
 use Rattle.run_laws.proofs.RecoveryEnds.Shapes.{Went, WentOn, deed-went, same-head, same-tail}
 use Rattle.plan_lines.specs.Courses.{Course, Event, Done, Missed, Place, after, set_out}
 use Rattle.plan_lines.specs.Courses as course
+use Rattle.plan_lines.proofs.Peeling.{goes-not, left, not-finish, same-left, stays, stopped-after, went-after}
 
 -- ---- a turn's recovery
-
-went-after : (a : Place) (r : Recovery) (o : Op) (rest : List Op) (ob : Option Observation) (xs : List Exchange) (j : Job)
-    → Does a.world a.read a.now (set_out a r) o rest ob xs j → after a r ≡ progressed (record (set_out a r) { core = j }) o (is_waiting j)
-went-after a r o rest ob xs j does =
-    ap (λ ops. (acted a.world a.read a.now (set_out a r) ops).recovery) does.ops
-    ∙ (ap (λ t. (attempted a.world (set_out a r) o t).recovery) does.goes
-    ∙ ap (λ c. (on_going a.world (set_out a r) o ob xs j c).recovery) does.free)
-
-pub stopped-after : (a : Place) (r : Recovery) (o : Op) (rest : List Op) (c : Cause) (ob : Option Observation) → Stops a.world a.read a.now (set_out a r) o rest c ob
-    → after a r ≡ (met a.world (set_out a r) c ob (fate a.world (set_out a r).purpose (set_out a r).stage c)).recovery
-stopped-after a r o rest c ob stops =
-    ap (λ ops. (acted a.world a.read a.now (set_out a r) ops).recovery) stops.ops ∙ ap (λ t. (attempted a.world (set_out a r) o t).recovery) stops.stops
-
--- a recovery whose job has these operations left
-abbrev pub left : Recovery → Job → List Op → Recovery
-left x c ops = record x { core = record c { ops = ops } }
-
-same-left : (x : Recovery) (j : Job) (ops : List Op) → j.ops ≡ ops → record x { core = j } ≡ left x j ops
-same-left x j ops e = ap (λ (os : List Op). left x j os) e
-
-or-true : (b : Bool) → ((b && false) || true) ≡ true
-or-true true = refl
-or-true false = refl
-
--- the end ends each stage
-pub not-finish : (s : Stage) (p : Op) (told : List Told) → ends s (deed_of p) ≡ false → p ≡ op.Finish told → ⊥
-not-finish s p told on e = false≢true (sym on ∙ (ap (λ q. ends s (deed_of q)) e ∙ or-true (reads_last s)))
-
-not-true : (b : Bool) → not b ≡ true → b ≡ false
-not-true true h = absurd (false≢true h)
-not-true false h = refl
-
--- an operation that doesn't end its stage, and isn't its last one, leaves the rest
-stays : (x : Recovery) (j : Job) (p : Op) (ops : List Op) → (ops ≡ [] → ⊥) → ends x.stage (deed_of p) ≡ false → progressed (left x j ops) p false ≡ left x j ops
-stays x j p [] some on = absurd (some refl)
-stays x j p (y ∷ ys) some on = ap (λ b. let s = cond b (entered (left x j (y ∷ ys)) (moved x.stage)) (left x j (y ∷ ys)) in at_end s s.core.ops) on
 
 module _ (x : Recovery) (c : Job) (o : Op) (rest : List Op) (r : Recovery) (is : (a : Place) → set_out a r ≡ left x c (o ∷ rest)) where
   pub ops-at : (a : Place) (p : Op) (ps : List Op) → (set_out a r).core.ops ≡ p ∷ ps → o ∷ rest ≡ p ∷ ps
@@ -178,13 +139,6 @@ module _ (G : Place → Recovery → Type 0) (Q : Recovery → Event → Recover
       some (q ∷ qs) h = cc
 
 -- ---- the end
-
--- the end of a job is no operation that goes on
-goes-not : (a : Place) (s : Recovery) (p : Op) (ps : List Op) (ob : Option Observation) (xs : List Exchange) (j : Job) (told : List Told) → op.Finish told ≡ p
-    → by_deed a.world a.read a.now s.core ps (deed_of p) ≡ attempt.Goes ob xs j → ⊥
-goes-not a s p ps ob xs j told e goes =
-    let h : attempt.Ends told ≡ attempt.Goes ob xs j = ap (λ q. by_deed a.world a.read a.now s.core ps (deed_of q)) e ∙ goes in
-    cc
 
 module _ (G : Place → Recovery → Type 0) (Q : Recovery → Event → Recovery → Type 0) where
   pub last-of : (x : Recovery) (c : Job) (told : List Told) (rest : List Op) → ((later : Recovery) → Q (left x c (op.Finish told ∷ rest)) (Missed (op.Finish told)) later → ⊥)

@@ -25,15 +25,11 @@ use Rattle.plan_laws.proofs.Scripts.{Parts, StaysApart, forks, loser_of, stays}
 -- those of the lost ones that are detached, and those that are started
 abbrev pub detached : Purpose → List ServerNo → List ServerNo
 detached purpose.Regroup ks = []
-detached purpose.Master ks = ks
-detached (purpose.Intermediate s) ks = ks
-detached (purpose.Takeover d) ks = ks
+detached _ ks = ks
 
 abbrev pub started : Purpose → List ServerNo → List ServerNo
 started purpose.Regroup ks = ks
-started purpose.Master ks = []
-started (purpose.Intermediate s) ks = []
-started (purpose.Takeover d) ks = []
+started _ ks = []
 
 -- why a choice loses a drained one
 abbrev pub left_why : Lot → Option Why
@@ -106,15 +102,13 @@ module _ (p : Stopped) (lots : Stopped → Lot) where
       meets : (s : Stopped) (l : Lot) → StaysApart p s l → (ks hs : List ServerNo) → ks ≡ hs
           → cons_option (cond (of (own_why s l)) (Some s.no) None) ks ≡ cons_option (stays (fork_of p s l)) hs
       meets s (lot.Stays why) fits ks hs rest = ap (λ (b : Bool). cons_option (cond b (Some s.no) None) ks) (kept why fits) ∙ ap (λ (l : List ServerNo). s.no ∷ l) rest
-      meets s (lot.Goes (way.Down b)) fits ks hs rest = unmet s.no ks ∙ rest
-      meets s (lot.Goes (way.Up b)) fits ks hs rest = unmet s.no ks ∙ rest
-      meets s (lot.Goes (way.Match to exec every)) fits ks hs rest = unmet s.no ks ∙ rest
       meets s (lot.Goes (way.Auto to exec)) fits ks hs rest = go (is_before p.exec s.exec)
         where
           go : (v : Bool) → cons_option (cond (of (cond v (Some (whys.ahead s.exec)) None)) (Some s.no) None) ks
               ≡ cons_option (loser_of s.no (cond v (path.Refused (op.Auto s.no to)) (path.Goes (op.Auto s.no to ∷ [])))) hs
           go true = ap (λ (b : Bool). cons_option (cond b (Some s.no) None) ks) (kept (whys.ahead s.exec) (refl, refl, refl)) ∙ ap (λ (l : List ServerNo). s.no ∷ l) rest
           go false = unmet s.no ks ∙ rest
+      meets s _ fits ks hs rest = unmet s.no ks ∙ rest
 
       pub picks-lost : (fs : List Found) → filter_map of_kind fs ≡ filter_map stays (forks p lots (beside fs))
       picks-lost [] = refl
@@ -131,14 +125,12 @@ module _ (p : Stopped) (lots : Stopped → Lot) where
     module _ (off : (why : Why) → Parts (care_of why) → of (Some why) ≡ false) where
       fails : (s : Stopped) (l : Lot) → StaysApart p s l → of (own_why s l) ≡ false
       fails s (lot.Stays why) fits = off why fits
-      fails s (lot.Goes (way.Down b)) fits = none
-      fails s (lot.Goes (way.Up b)) fits = none
-      fails s (lot.Goes (way.Match to exec every)) fits = none
       fails s (lot.Goes (way.Auto to exec)) fits = go (is_before p.exec s.exec)
         where
           go : (v : Bool) → of (cond v (Some (whys.ahead s.exec)) None) ≡ false
           go true = off (whys.ahead s.exec) (refl, refl, refl)
           go false = none
+      fails s _ fits = none
 
       pub picks-none : (fs : List Found) → filter_map of_kind fs ≡ []
       picks-none [] = refl

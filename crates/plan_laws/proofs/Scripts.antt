@@ -9,9 +9,9 @@ use Rattle.run_laws.specs.InstanceKeeper.Book.{BookState}
 use Rattle.run_laws.specs.Operations.declared.op.Op.{Op}
 use Rattle.run_laws.specs.Operations.declared.op.Op.TheVariants as op
 use Rattle.run_laws.specs.OrchBase.declared.server.ServerNo.{ServerNo}
-use Rattle.run_laws.specs.ReplicaGroups.declared.groups.Group.{Group}
-use Rattle.run_laws.specs.ReplicaGroups.declared.groups.Group.TheVariants as group
-use Rattle.run_laws.specs.ReplicaGroups.Groups.{group_of}
+use Rattle.run_laws.specs.PromotionRules.declared.groups.Group.{Group}
+use Rattle.run_laws.specs.PromotionRules.declared.groups.Group.TheVariants as group
+use Rattle.run_laws.specs.PromotionRules.Groups.{group_of}
 use Rattle.run_laws.specs.RecoveryPlans.Deciding.{Care, Ground, Lot, better_of, care_of, lot_by, lot_by_group, own_end_of}
 use Rattle.run_laws.specs.RecoveryPlans.Deciding as lot
 use Rattle.run_laws.specs.RecoveryPlans.Stages.{level}
@@ -53,9 +53,7 @@ fork_events x = path_events x.no x.path
 -- a lost one is detached, or started again
 abbrev pub part : Purpose → ServerNo → Op
 part purpose.Regroup n = op.Start n
-part purpose.Master n = op.Detach n
-part (purpose.Intermediate s) n = op.Detach n
-part (purpose.Takeover d) n = op.Detach n
+part _ n = op.Detach n
 
 abbrev pub lost_of : ServerNo → Option (List Op) → Option ServerNo
 lost_of n None = Some n
@@ -98,10 +96,8 @@ Parts c = (c.apart ≡ true) × (c.elsewhere ≡ false) × (c.reached ≡ true)
 
 -- by GTIDs it goes below the chosen one, from where it stopped
 abbrev pub WayFits : Stopped → Stopped → Way → Type 0
-WayFits p s (way.Down b) = Unit {0}
-WayFits p s (way.Up b) = Unit {0}
 WayFits p s (way.Auto to exec) = (to ≡ p.no) × (exec ≡ s.exec)
-WayFits p s (way.Match to exec every) = Unit {0}
+WayFits p s _ = Unit {0}
 
 abbrev pub StaysApart : Stopped → Stopped → Lot → Type 0
 StaysApart p s (lot.Goes by) = WayFits p s by
@@ -139,12 +135,7 @@ chosen-none g f p (s ∷ ss) = go (wins g f s (s ∷ [])) (chosen-none g f p ss)
 pub way-events : (even : Bool) (n : ServerNo) (by : Way) → events_of (way_lines even n by) ≡ go_events n (steps_of n (Some by))
 way-events true n (way.Down b) = refl
 way-events false n (way.Down b) = refl
-way-events true n (way.Up b) = refl
-way-events false n (way.Up b) = refl
-way-events true n (way.Auto to exec) = refl
-way-events false n (way.Auto to exec) = refl
-way-events true n (way.Match to exec every) = refl
-way-events false n (way.Match to exec every) = refl
+way-events _ n _ = refl
 
 lot-events : (p s : Stopped) (l : Lot) → StaysApart p s l → events_of (lot_lines p s l) ≡ fork_events (fork_of p s l)
 lot-events p s (lot.Stays why) fits = go (is_before p.exec s.exec)
@@ -182,15 +173,13 @@ why-event b (purpose.Takeover k) is s why apart ls = absurd (false≢true is)
 module _ (b : BookState) (u : Purpose) (is : gathers u ≡ true) (p s : Stopped) (ls : List Line) (ks : List ServerNo) (rest : events_of ls ≡ map (λ n. Done (part u n)) ks) where
   parted-event : (l : Lot) → StaysApart p s l → events_of (cons_option (parted b u s (lot_told p s l)) ls) ≡ map (λ n. Done (part u n)) (cons_option (stays (fork_of p s l)) ks)
   parted-event (lot.Stays why) apart = why-event b u is s why apart ls ∙ ap (λ (l : List Event). Done (part u s.no) ∷ l) rest
-  parted-event (lot.Goes (way.Down x)) apart = rest
-  parted-event (lot.Goes (way.Up x)) apart = rest
-  parted-event (lot.Goes (way.Match to exec every)) apart = rest
   parted-event (lot.Goes (way.Auto to exec)) apart = go (is_before p.exec s.exec)
     where
       go : (v : Bool) → events_of (cons_option (parted b u s (cond v (lot.Stays (whys.ahead s.exec)) (lot.Goes (way.Auto to exec)))) ls)
           ≡ map (λ n. Done (part u n)) (cons_option (loser_of s.no (cond v (path.Refused (op.Auto s.no to)) (path.Goes (op.Auto s.no to ∷ [])))) ks)
       go true = why-event b u is s (whys.ahead s.exec) (refl, refl, refl) ls ∙ ap (λ (l : List Event). Done (part u s.no) ∷ l) rest
       go false = rest
+  parted-event _ apart = rest
 
 module _ (p : Stopped) (lots : Stopped → Lot) where
   abbrev pub forks : List Stopped → List Fork
@@ -215,15 +204,13 @@ module _ (p : Stopped) (lots : Stopped → Lot) where
       go : (l : Lot) → map (λ x. x.no) (filter_map (λ t. follower_in p.no t (lot_told p t (lots t))) ss) ≡ filter_map goes (forks ss)
           → map (λ x. x.no) (cons_option (follower_in p.no s (lot_told p s l)) (filter_map (λ t. follower_in p.no t (lot_told p t (lots t))) ss)) ≡ cons_option (goes (fork_of p s l)) (filter_map goes (forks ss))
       go (lot.Stays why) rest = rest
-      go (lot.Goes (way.Down b)) rest = ap (λ (l : List ServerNo). s.no ∷ l) rest
-      go (lot.Goes (way.Up b)) rest = ap (λ (l : List ServerNo). s.no ∷ l) rest
-      go (lot.Goes (way.Match to exec every)) rest = ap (λ (l : List ServerNo). s.no ∷ l) rest
       go (lot.Goes (way.Auto to exec)) rest = by (is_before p.exec s.exec)
         where
           by : (v : Bool) → map (λ x. x.no) (cons_option (follower_in p.no s (cond v (lot.Stays (whys.ahead s.exec)) (lot.Goes (way.Auto to exec)))) (filter_map (λ t. follower_in p.no t (lot_told p t (lots t))) ss))
               ≡ cons_option (goer_of s.no (cond v (path.Refused (op.Auto s.no to)) (path.Goes (op.Auto s.no to ∷ [])))) (filter_map goes (forks ss))
           by true = rest
           by false = ap (λ (l : List ServerNo). s.no ∷ l) rest
+      go _ rest = ap (λ (l : List ServerNo). s.no ∷ l) rest
 
 last-told : (g : Ground) (u : Purpose) → gathers u ≡ true → (f p : ServerNo) (xs : List Follower)
     → events_of (last_lines g u f p xs) ≡ last_events g u f p (map (λ x. x.no) xs)

@@ -19,7 +19,8 @@ use Rattle.run_laws.specs.RecoveryPlans.declared.task.Task.TheVariants as task
 use Rattle.run_laws.specs.RecoveryEnds.Shapes.{are_still}
 use Rattle.plan_lines.specs.Courses.{Course, Event, Done, Missed, Place}
 use Rattle.plan_laws.specs.Followed.{GoesAsPlanned, IsMissed, gathers}
-use Rattle.plan_laws.proofs.Meeting.{done-first, last-of, left, walk-on}
+use Rattle.plan_laws.proofs.Meeting.{done-first, last-of, walk-on}
+use Rattle.plan_lines.proofs.Peeling.{left}
 use Rattle.plan_laws.proofs.Parted.{detached, started}
 use Rattle.plan_laws.proofs.Scripts.{goes}
 
@@ -39,15 +40,11 @@ onto es later more evs is rest =
 -- the task that parts a lost one
 abbrev pub parting : Purpose → ServerNo → Task
 parting purpose.Regroup n = task.Releasing n
-parting purpose.Master n = task.Expelling n
-parting (purpose.Intermediate s) n = task.Expelling n
-parting (purpose.Takeover d) n = task.Expelling n
+parting _ n = task.Expelling n
 
 pub parting-is : (u : Purpose) (ks : List ServerNo) → map task.Expelling (detached u ks) ++ (map task.Releasing (started u ks) ++ []) ≡ map (parting u) ks ++ []
 parting-is purpose.Regroup ks = refl
-parting-is purpose.Master ks = refl
-parting-is (purpose.Intermediate s) ks = refl
-parting-is (purpose.Takeover d) ks = refl
+parting-is _ ks = refl
 
 pub no-takeover : (u : Purpose) → gathers u ≡ true → is_takeover u ≡ false
 no-takeover purpose.Regroup is = refl

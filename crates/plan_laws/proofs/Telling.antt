@@ -4,10 +4,10 @@ use Rattle.std.specs.Option.{unwrap_or}
 use Rattle.run_laws.specs.OrchBase.Names.{HostPort}
 use Rattle.run_laws.specs.OrchBase.declared.server.ServerNo.{ServerNo}
 use Rattle.run_laws.specs.Commands.declared.turn.CommandTurn.{CommandTurn}
-use Rattle.run_laws.specs.JobsInFlight.Jobs.{job_at}
+use Rattle.run_laws.specs.UnendedJobs.Jobs.{job_at}
 use Rattle.run_laws.specs.OrchCore.Replies.{act_reply}
 use Rattle.run_laws.specs.OrchCore.States.{State}
-use Rattle.run_laws.specs.CommandRoutes.Routes.{route_of}
+use Rattle.run_laws.specs.Commands.Routes.{route_of}
 use Rattle.run_laws.specs.RecoveryPlans.declared.purpose.Purpose.{Purpose}
 use Rattle.run_laws.proofs.Permissions.{begun_joins, begun_numbered, begun_replies}
 use Rattle.tasks.specs.Begun.{begun_by}

@@ -5,29 +5,25 @@ use Rattle.std.proofs.lemmas.Bool.{eq-eqb}
 use Rattle.std.proofs.lemmas.List.Elements.{All-cons, All-nil}
 use Rattle.std.proofs.lemmas.Option.{same_Some}
 use Rattle.run_laws.specs.OrchBase.declared.server.ServerNo.{ServerNo}
-use Rattle.run_laws.specs.CommandJobs.Jobs.{job_by, leases_by, means_by, refusal_by, regroup_about}
-use Rattle.run_laws.specs.CommandOutcomes.HookTelling.{told_try, with_told}
-use Rattle.run_laws.specs.CommandOutcomes.Outcomes as outcomes
-use Rattle.run_laws.specs.CommandOutcomes.Outcomes.{Outcome, about as given_or, by_hand, outcome_by, recovered, recovery_begun, refusal, taken_over}
-use Rattle.run_laws.specs.CommandOutcomes.Outcomes.{outcome_of}
-use Rattle.run_laws.specs.CommandRoutes.Routes.{route_of}
-use Rattle.run_laws.specs.CommandRoutes.declared.kinds.Regrouping.{Regrouping}
-use Rattle.run_laws.specs.CommandRoutes.declared.kinds.Regrouping.TheVariants as regrouping
-use Rattle.run_laws.specs.CommandRoutes.declared.route.Planner.{Planner}
-use Rattle.run_laws.specs.CommandRoutes.declared.route.Planner.TheVariants as planner
-use Rattle.run_laws.specs.CommandRoutes.declared.route.Route.{Route}
-use Rattle.run_laws.specs.CommandRoutes.declared.route.Route.TheVariants as route
-use Rattle.run_laws.specs.Commands.declared.refusal.Refusal.{Refusal}
-use Rattle.run_laws.specs.Commands.declared.refusal.Refusal.TheVariants.{UnknownInstance}
+use Rattle.run_laws.specs.CommandOutcomes.Jobs.{job_by, regroup_about}
+use Rattle.run_laws.specs.CommandOutcomes.HookTelling.{with_told}
+use Rattle.run_laws.specs.CommandOutcomes.Outcomes.{Outcome}
+use Rattle.run_laws.specs.Commands.Routes.{route_of}
+use Rattle.run_laws.specs.Commands.declared.kinds.MatchCommand.TheVariants as matching
+use Rattle.run_laws.specs.Commands.declared.kinds.PathCommand.TheVariants as path
+use Rattle.run_laws.specs.Commands.declared.route.Planner.{Planner}
+use Rattle.run_laws.specs.Commands.declared.route.Planner.TheVariants as planner
+use Rattle.run_laws.specs.Commands.declared.route.Route.{Route}
+use Rattle.run_laws.specs.Commands.declared.route.Route.TheVariants as route
 use Rattle.run_laws.specs.Commands.declared.turn.CommandTurn.{CommandTurn}
 use Rattle.run_laws.specs.InstanceKeeper.Book.{BookState}
 use Rattle.run_laws.specs.OrchCore.Settling.{known_of}
 use Rattle.run_laws.specs.OrchCore.States.{State}
 use Rattle.run_laws.specs.Knowledge.Knowing.{recovery_job, updated}
-use Rattle.run_laws.specs.RecoveryCore.Tries.{Begins, recovery_begins, takeover_begins, unless_refused}
+use Rattle.run_laws.specs.RecoveryCore.Tries.{Begins}
 use Rattle.run_laws.specs.RecoveryCovers.Covers.{times}
-use Rattle.run_laws.specs.RecoveryPermits.Recoveries.{recovery_purpose, recovery_refusal}
-use Rattle.run_laws.specs.RecoveryPermits.Takeovers.{followers_of, takeover_refusal}
+use Rattle.run_laws.specs.RecoveryCore.Recoveries.{recovery_purpose}
+use Rattle.run_laws.specs.RecoveryCore.Takeovers.{followers_of}
 use Rattle.run_laws.specs.RecoveryPlans.Beginning.{begun_recovery}
 use Rattle.run_laws.specs.RecoveryPlans.Recoveries.{Recovery}
 use Rattle.run_laws.specs.RecoveryPlans.declared.means.Means.{Means}
@@ -38,16 +34,22 @@ use Rattle.run_laws.specs.UnendedJobs.Hooked.{no_docket}
 use Rattle.run_laws.specs.UnendedJobs.declared.docket.Docket.{Docket}
 use Rattle.run_laws.specs.UnendedJobs.declared.unended.Unended.{Unended}
 use Rattle.run_laws.specs.UnendedJobs.declared.unended.Unended.TheVariants as unended
-use Rattle.run_laws.specs.BegunJobs.{BegunJob, begun_by, of_plan, of_try, recovering, taking_by, taking_over}
-use Rattle.run_laws.specs.Prelude.{numbers_of}
+use Rattle.run_laws.specs.BegunJobs.{BegunJob, begun_of}
 use Rattle.run_laws.proofs.Naming.{regroup-are}
 use Rattle.plan_lines.specs.Prelude.{replicas_of}
+use Rattle.run_laws.proofs.Making as making
+use Rattle.run_laws.specs.Turns.declared.reply.Reply.TheVariants as answered
+use Rattle.run_laws.proofs.OrchCore.Comes as comes
 use Rattle.plan_lines.specs.Courses.{Course}
 use Rattle.tasks.specs.Plans.{begun_state, ground_in, means_of}
 use Rattle.plan_laws.specs.Doing.{IsOf, RecoveriesAreDoneAsTold, RecoveriesAreOfTheirInstances, told_means}
 use Rattle.plan_laws.specs.Followed.{AreApart, GoesAsPlanned, IsAsPlanned}
 use Rattle.plan_laws.proofs.Lost.{differs}
 use Rattle.plan_laws.proofs.Handing.{recoveries-follow}
+use Rattle.run_laws.specs.OrchCore.Polls.{command_outcome}
+use Rattle.run_laws.proofs.OrchCore.Comes.{Comes, command-comes}
+use Rattle.run_laws.proofs.Permissions.{begun_replies}
+use Rattle.run_laws.proofs.Making.{IsBegunBy, job-begun}
 
 -- ---- none is named twice
 
@@ -92,123 +94,58 @@ module _ (id wait : ℕ) (b : BookState) (f : ServerNo) (r : Recovery) (k : Dock
       (record { order = order; is = refl; apart = replicas-apart b f; means = same })
 
   -- a regroup
-  regroup-is : (by : Regrouping) (every : ℕ) (i : Option ServerNo) → i ≡ Some f → regroup_about b (means_by by every) id wait i ≡ unended.Recovery r k
-      → Of (means_of (route.Begins (planner.Regroups by)))
-  regroup-is by every None about is = cc
-  regroup-is by every (Some i) about is = go by (subst (λ (n : ServerNo). regroup_about b (means_by by every) id wait (Some n) ≡ unended.Recovery r k) (same_Some i f about) is)
-    where
-      go : (x : Regrouping) → regroup_about b (means_by x every) id wait (Some f) ≡ unended.Recovery r k → Of (means_of (route.Begins (planner.Regroups x)))
-      go regrouping.ByBridges e = of-begun purpose.Regroup means.Bridges means.Bridges (replicas_of b f) no_docket refl e
-      go regrouping.ByMatches e = of-begun purpose.Regroup (means.Matches every) (means.Matches 0) (replicas_of b f) no_docket refl e
+  regroup-is : (by told : Means) (i : Option ServerNo) → i ≡ Some f → told_means by ≡ told → regroup_about b by id wait i ≡ unended.Recovery r k → Of told
+  regroup-is by told None about same is = cc
+  regroup-is by told (Some i) about same is =
+      of-begun purpose.Regroup by told (replicas_of b f) no_docket same
+      (subst (λ (n : ServerNo). regroup_about b by id wait (Some n) ≡ unended.Recovery r k) (same_Some i f about) is)
 
-module _ (s : State) (c : CommandTurn) (f : ServerNo) (about : c.command.i ≡ Some f) (begun : BegunJob) (r : Recovery) (k : Docket) (job : begun.job ≡ unended.Recovery r k) where
+module _ (s : State) (c : CommandTurn) (f : ServerNo) (about : c.command.i ≡ Some f) (r : Recovery) (k : Docket) where
   abbrev Told : Route → Type 0
   Told x = IsOf (s.last_job + 1) s.configuration.wait f (replicas_of s.book f) (means_of x) r
 
-  planned-is : (p : Planner) (o : Option Refusal) (list : List ServerNo)
-      → of_plan o list (job_by s.world s.book c.command p (s.last_job + 1) s.configuration.wait s.configuration.every) ≡ Some begun → Told (route.Begins p)
-  planned-is p (Some why) list is = cc
-  planned-is p None list is = go p (ap (λ (x : BegunJob). x.job) (same_Some _ begun is) ∙ job)
-    where
-      go : (p : Planner) → job_by s.world s.book c.command p (s.last_job + 1) s.configuration.wait s.configuration.every ≡ unended.Recovery r k → Told (route.Begins p)
-      go (planner.Coordinates kind) e = cc
-      go (planner.Gtids kind) e = cc
-      go (planner.Paths kind) e = cc
-      go (planner.Regroups by) e = regroup-is (s.last_job + 1) s.configuration.wait s.book f r k by s.configuration.every c.command.i about e
-      go (planner.Matches kind) e = cc
+  planned-is : (p : Planner) → job_by s.world s.book c.command p (s.last_job + 1) s.configuration.wait s.configuration.every ≡ unended.Recovery r k → Told (route.Begins p)
+  planned-is (planner.Paths path.RegroupReplicas) e = regroup-is (s.last_job + 1) s.configuration.wait s.book f r k means.Bridges means.Bridges c.command.i about refl e
+  planned-is (planner.Matches matching.RegroupReplicas) e =
+      regroup-is (s.last_job + 1) s.configuration.wait s.book f r k (means.Matches s.configuration.every) (means.Matches 0) c.command.i about refl e
+  planned-is _ e = cc
 
   try-is : (x : Begins) (u : Purpose) (order : List ServerNo) → x.job ≡ begun_recovery u means.Bridges (s.last_job + 1) s.configuration.wait f (replicas_of s.book f) order
-      → (o : Option Refusal) → of_try (told_try s.configuration s.book (unless_refused o x)) ≡ Some begun → IsOf (s.last_job + 1) s.configuration.wait f (replicas_of s.book f) means.Bridges r
-  try-is x u order made (Some why) is = cc
-  try-is x u order made None is =
-      let e : recovery_job (with_told s.configuration s.book x) ≡ unended.Recovery r k = ap (λ (y : BegunJob). y.job) (same_Some _ begun is) ∙ job in
+      → recovery_job (with_told s.configuration s.book x) ≡ unended.Recovery r k → IsOf (s.last_job + 1) s.configuration.wait f (replicas_of s.book f) means.Bridges r
+  try-is x u order made e =
       subst (λ (y : Recovery). IsOf (s.last_job + 1) s.configuration.wait f (replicas_of s.book f) means.Bridges y) (sym made ∙ ap (recovery-in x.job) e)
       (record { order = order; is = refl; apart = replicas-apart s.book f; means = refl })
 
-  recovering-is : (i : Option ServerNo) → i ≡ Some f → recovering s i ≡ Some begun → Told route.Recovers
-  recovering-is None i is = cc
-  recovering-is (Some n) i is =
-      try-is (recovery_begins s.book s.audit (record { 0 = s.moment }) (by_hand s.book s.configuration (numbers_of s) f).block s.configuration.wait (s.last_job + 1) f)
-      (recovery_purpose s.book f) (replicas_of s.book f) refl
-      (recovery_refusal s.world s.book s.audit (by_hand s.book s.configuration (numbers_of s) f) f)
-      (subst (λ (m : ServerNo). recovering s (Some m) ≡ Some begun) (same_Some n f i) is)
-
-  taking-is : (d : Option ServerNo) → taking_by s f d ≡ Some begun → Told route.TakesOver
-  taking-is None is = cc
-  taking-is (Some d) is =
-      try-is (takeover_begins s.book s.audit (record { 0 = s.moment }) (by_hand s.book s.configuration (numbers_of s) f).block s.configuration.wait (s.last_job + 1) f d)
-      (purpose.Takeover d) (followers_of s.book f d) refl
-      (takeover_refusal s.world s.book s.audit (by_hand s.book s.configuration (numbers_of s) f) f d) is
-
-  taking-over-is : (i d : Option ServerNo) → i ≡ Some f → taking_over s i d ≡ Some begun → Told route.TakesOver
-  taking-over-is None d i is = cc
-  taking-over-is (Some n) d i is = taking-is d (subst (λ (m : ServerNo). taking_by s m d ≡ Some begun) (same_Some n f i) is)
-
-  route-is : (x : Route) → begun_by s c.command x ≡ Some begun → Told x
-  route-is route.Discovers is = cc
-  route-is route.Forgets is = cc
-  route-is (route.Asks q) is = cc
-  route-is (route.Decides d) is = cc
-  route-is (route.Begins p) is =
-      planned-is p (refusal_by s.world s.book (record { 0 = s.moment }) s.configuration.every c.command p) (leases_by s.world s.book c.command p) is
-  route-is route.Recovers is = recovering-is c.command.i about is
-  route-is route.TakesOver is = taking-over-is c.command.i c.command.d about is
+  begun-is : (x : BegunJob) → IsBegunBy s c.command x → x.job ≡ unended.Recovery r k → Told (route_of c.command.name)
+  begun-is x (making.Planned p is) e = subst Told (sym is) (planned-is p e)
+  begun-is x (making.Recovering y (comes.Fails i is at free)) e =
+      let same : i ≡ f = same_Some i f (sym at ∙ about) in
+      subst Told (sym is)
+      (try-is y (recovery_purpose s.book f) (replicas_of s.book f)
+      (ap (λ (n : ServerNo). begun_recovery (recovery_purpose s.book n) means.Bridges (s.last_job + 1) s.configuration.wait n (replicas_of s.book n) (replicas_of s.book n)) same) e)
+  begun-is x (making.Recovering y (comes.Passes i d is at there free)) e =
+      let same : i ≡ f = same_Some i f (sym at ∙ about) in
+      subst Told (sym is)
+      (try-is y (purpose.Takeover d) (followers_of s.book f d)
+      (ap (λ (n : ServerNo). begun_recovery (purpose.Takeover d) means.Bridges (s.last_job + 1) s.configuration.wait n (replicas_of s.book n) (followers_of s.book n d)) same) e)
 
 -- ---- the book that it begins with
 
 -- it has other leases, and no more
-abbrev Keeps : State → Outcome → Type 0
-Keeps s o = (n : ServerNo) → replicas_of (updated (known_of s) o.book).book n ≡ replicas_of s.book n
-
-module _ (s : State) (c : CommandTurn) (begun : BegunJob) where
-  plan-keeps : (o : Option Refusal) (list : List ServerNo) (job : Unended) → of_plan o list job ≡ Some begun → Keeps s (outcomes.begun (numbers_of s) o list job)
-  plan-keeps None list job is = λ n. refl
-  plan-keeps (Some why) list job is = cc
-
-  try-keeps : (o : Option Refusal) (x : Begins) → of_try (told_try s.configuration s.book (unless_refused o x)) ≡ Some begun
-      → Keeps s (recovery_begun (numbers_of s) (told_try s.configuration s.book (unless_refused o x)))
-  try-keeps None x is = λ n. refl
-  try-keeps (Some why) x is = cc
-
-  recovery-keeps : (i : Option ServerNo) → recovering s i ≡ Some begun
-      → Keeps s (given_or (refusal s.reads UnknownInstance) (recovered s.world s.book s.audit s.configuration (numbers_of s)) i)
-  recovery-keeps None is = cc
-  recovery-keeps (Some i) is =
-      try-keeps (recovery_refusal s.world s.book s.audit (by_hand s.book s.configuration (numbers_of s) i) i)
-      (recovery_begins s.book s.audit (record { 0 = s.moment }) (by_hand s.book s.configuration (numbers_of s) i).block s.configuration.wait (s.last_job + 1) i) is
-
-  taking-keeps : (i : ServerNo) (d : Option ServerNo) → taking_by s i d ≡ Some begun → Keeps s (taken_over s.world s.book s.audit s.configuration (numbers_of s) d i)
-  taking-keeps i None is = cc
-  taking-keeps i (Some d) is =
-      try-keeps (takeover_refusal s.world s.book s.audit (by_hand s.book s.configuration (numbers_of s) i) i d)
-      (takeover_begins s.book s.audit (record { 0 = s.moment }) (by_hand s.book s.configuration (numbers_of s) i).block s.configuration.wait (s.last_job + 1) i d) is
-
-  takeover-keeps : (i d : Option ServerNo) → taking_over s i d ≡ Some begun
-      → Keeps s (given_or (refusal s.reads UnknownInstance) (taken_over s.world s.book s.audit s.configuration (numbers_of s) d) i)
-  takeover-keeps None d is = cc
-  takeover-keeps (Some i) d is = taking-keeps i d is
-
-  route-keeps : (x : Route) → begun_by s c.command x ≡ Some begun → Keeps s (outcome_by s.world s.book s.audit s.configuration (numbers_of s) c x)
-  route-keeps route.Discovers is = cc
-  route-keeps route.Forgets is = cc
-  route-keeps (route.Asks q) is = cc
-  route-keeps (route.Decides d) is = cc
-  route-keeps (route.Begins p) is =
-      plan-keeps (refusal_by s.world s.book (record { 0 = s.moment }) s.configuration.every c.command p) (leases_by s.world s.book c.command p)
-      (job_by s.world s.book c.command p (s.last_job + 1) s.configuration.wait s.configuration.every) is
-  route-keeps route.Recovers is = recovery-keeps c.command.i is
-  route-keeps route.TakesOver is = takeover-keeps c.command.i c.command.d is
-
-  keeps : begun_by s c.command (route_of c.command.name) ≡ Some begun → (n : ServerNo) → replicas_of (begun_state c s).book n ≡ replicas_of s.book n
-  unfolding outcome_of
-  keeps is = route-keeps (route_of c.command.name) is
+keeps : (s : State) (c : CommandTurn) (begun : BegunJob) → begun_of s c.command ≡ Some begun → (n : ServerNo) → replicas_of (begun_state c s).book n ≡ replicas_of s.book n
+keeps s c begun is n = by (command_outcome s c) (command-comes s c) (begun_replies s c begun is)
+  where
+    by : (o : Outcome) → Comes s c o → o.reply ≡ answered.Begun (s.last_job + 1) → replicas_of (updated (known_of s) o.book).book n ≡ replicas_of s.book n
+    by o (comes.Begun p at free) replies = refl
+    by o (comes.Recovered x asked) replies = refl
+    by o _ replies = cc
 
 -- ---- the laws
 
 pub recoveries-are-of : RecoveriesAreOfTheirInstances
 recoveries-are-of s c r k f is about =
     subst (λ (ns : List ServerNo). IsOf (s.last_job + 1) s.configuration.wait f ns (means_of (route_of c.command.name)) r) (sym (keeps s c is.begun is.is_begun f))
-    (route-is s c f about is.begun r k is.job_is (route_of c.command.name) is.is_begun)
+    (begun-is s c f about r k is.begun (job-begun s c.command is.begun is.is_begun) is.job_is)
 
 pub recoveries-are-done : RecoveriesAreDoneAsTold
 recoveries-are-done s c r k f es is about apart goes =

@@ -57,7 +57,8 @@ use Rattle.run_laws.proofs.RecoveryPlans.Choices.{chosen-may}
 use Rattle.plan_laws.specs.Followed as path
 use Rattle.plan_laws.specs.Followed.{AreApart, Branch, GoesAsPlanned, IsAsPlanned, branch_at, fork_of, gathers, gone, steps_of, IsMissed, is_after, path_by}
 use Rattle.plan_laws.proofs.Lost.{Found, There, Gone, drained_in, gone_in, no_of}
-use Rattle.plan_laws.proofs.Meeting.{Did, Missing, decides, done-first, first-of, left, none-goes, stopped-after}
+use Rattle.plan_laws.proofs.Meeting.{Did, Missing, decides, done-first, first-of, none-goes}
+use Rattle.plan_lines.proofs.Peeling.{left, stopped-after}
 use Rattle.plan_laws.proofs.Below.{expected-gone, expected-valid, numbers}
 use Rattle.plan_laws.proofs.Parted.{are-detached, are-started, detached, started, late_of, refused_why}
 use Rattle.plan_laws.proofs.Scripts.{crown_events, fork_events, forks, go_events, goes, last_events, lots-apart, part, script, stays, told-branch, StaysApart, goer_of, path_events}
@@ -116,10 +117,8 @@ module _ (g : Ground) (by : Means) (f : ServerNo) (ns order : List ServerNo) whe
     -- a replica goes some way, and is started
     -- by GTIDs it isn't ahead of the chosen one
     abbrev pub Free : Way → Type 0
-    Free (way.Down b) = Unit {0}
-    Free (way.Up b) = Unit {0}
     Free (way.Auto to exec) = is_after (stopped_in el ch) exec ≡ false
-    Free (way.Match to exec every) = Unit {0}
+    Free _ = Unit {0}
 
     not-barred : (to : ServerNo) (exec : Coord) → is_after (stopped_in el ch) exec ≡ false → (c : Job) (later : Recovery)
         → GoesAsPlanned g.book (left (moving-at (stage.Move n (way.Auto to exec)) F) c (op.Auto n to ∷ op.Start n ∷ [])) (Missed (op.Auto n to)) later → ⊥
@@ -327,12 +326,10 @@ module _ (g : Ground) (by : Means) (f : ServerNo) (ns order : List ServerNo) whe
     fates : Lost → (w : World) (was : Job) (x : Cause) (ob : Option Observation) (es : List Event) (o : Fate) → NotFrees o
         → (met w (left asking was (op.Auto n to ∷ op.Start n ∷ [])) x ob o).recovery.outcome.lost ≡ L ++ late_one ∷ []
         → Goes (met w (left asking was (op.Auto n to ∷ op.Start n ∷ [])) x ob o).recovery es → Ends es evs
-    fates further w was x ob es taking.Fails not lost on = absurd (longer L late_one (sym lost))
-    fates further w was x ob es taking.Drops not lost on = absurd (longer L late_one (sym lost))
-    fates further w was x ob es (taking.Goes s ops) not lost on = absurd (longer L late_one (sym lost))
     fates further w was x ob es (taking.Frees k y) not lost on = absurd not
     fates further w was x ob es (taking.Loses k y) not lost on =
         further (record was { waited = 0 }) es (subst (λ (ls : List LostReplica). Goes (chosen-at u q p el F ls (record was { waited = 0 })) es) lost on)
+    fates further w was x ob es _ not lost on = absurd (longer L late_one (sym lost))
 
     refused-one : Lost → (c : Job) (es : List Event) → Goes (chosen-at u (task.Moving n (way.Auto to exec) ∷ q) p el F L c) es → Ends es (Missed (op.Auto n to) ∷ evs)
     refused-one further c es goes =
@@ -376,9 +373,7 @@ module _ (g : Ground) (by : Means) (f : ServerNo) (ns order : List ServerNo) whe
       where
         same : (a : Place) (y : Way) → set_out a (chosen-at u (task.Moving n y ∷ q) p.no el F L c) ≡ set_out a (once (ground_at a) (chosen-at u (task.Moving n y ∷ q) p.no el F L c))
         same a (way.Down b) = refl
-        same a (way.Up b) = refl
-        same a (way.Auto to exec) = refl
-        same a (way.Match to exec every) = refl
+        same a _ = refl
 
     module _ (lots : Stopped → Lot) (fits : (s : Stopped) → StaysApart p s (lots s)) (q : List Task) (evs : List Event) where
       -- the others follow, as many as go, and the late ones are lost
@@ -444,10 +439,8 @@ module _ (g : Ground) (by : Means) (f : ServerNo) (ns order : List ServerNo) whe
       where
         go : (l : Lot) → Settled (moves_in lots ss) → Settled (move_of s l ++ moves_in lots ss)
         go (lot.Goes (way.Down b)) rest = refl
-        go (lot.Goes (way.Up b)) rest = refl
-        go (lot.Goes (way.Auto to exec)) rest = refl
-        go (lot.Goes (way.Match to exec every)) rest = refl
         go (lot.Stays why) rest = rest
+        go _ rest = refl
 
   -- the replicas are drained or lost, and nothing is decided of them yet
   abbrev pub undecided : Purpose → List Task → List Stopped → List LostReplica → Job → Recovery

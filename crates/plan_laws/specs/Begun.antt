@@ -9,7 +9,7 @@ use Rattle.plan_lines.specs.Branches.{has_branches, recovery_plan}
 use Rattle.plan_lines.specs.Prelude.{but, replicas_of}
 use Rattle.plan_lines.specs.Straight.{straight_lines}
 use Rattle.plan_lines.specs.Takeovers.{takeover_lines}
-use Rattle.run_laws.specs.CommandRoutes.Routes.{route_of}
+use Rattle.run_laws.specs.Commands.Routes.{route_of}
 use Rattle.run_laws.specs.RecoveryPlans.Recoveries.{Recovery}
 use Rattle.run_laws.specs.RecoveryPlans.declared.purpose.Purpose.TheVariants as purpose
 use Rattle.run_laws.specs.BegunJobs.{BegunJob, begun_of}

@@ -1,7 +1,7 @@
 -- What the turns of a recovery or a regroup do that a command begins.
 use Rattle.std.specs.Prelude.{◌≡◌, ◌+◌, ℕ, false, List, Some}
 use Rattle.run_laws.specs.OrchBase.declared.server.ServerNo.{ServerNo}
-use Rattle.run_laws.specs.CommandRoutes.Routes.{route_of}
+use Rattle.run_laws.specs.Commands.Routes.{route_of}
 use Rattle.run_laws.specs.Commands.declared.turn.CommandTurn.{CommandTurn}
 use Rattle.run_laws.specs.OrchCore.States.{State}
 use Rattle.run_laws.specs.RecoveryPlans.Beginning.{begun_recovery, is_takeover}

@@ -1,5 +1,5 @@
 mod Lists
-mod Peeling
+pub mod Peeling
 mod TakenOver
 mod Within
 pub use Rattle.recovery_plans.proofs.PromotionRules as PromotionRules

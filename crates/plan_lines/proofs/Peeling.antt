@@ -1,7 +1,7 @@
 -- The first operation of a recovery's turns.
 use Rattle.std.proofs.Common.{◌≡◌, ◌∙◌, Bool, true, false, cond, not, List, [], ◌∷◌, ◌++◌, map, Option, refl, sym, ap, subst}
 use Rattle.std.specs.Prelude.{◌||◌, ◌&&◌}
-use Rattle.std.proofs.lemmas.Bool.{and_parts, false≢true}
+use Rattle.std.proofs.lemmas.Bool.{and_parts, false≢true, not-true}
 use Rattle.recovery_plans.specs.Commands.declared.cause.Cause.{Cause}
 use Rattle.recovery_plans.specs.Commands.declared.line.Line.{Line as Told}
 use Rattle.recovery_plans.specs.KeptRows.declared.observation.Observation.{Observation}
@@ -24,7 +24,7 @@ use Rattle.plan_lines.specs.Courses as course
 
 -- ---- a turn's recovery
 
-went-after : (a : Place) (r : Recovery) (o : Op) (rest : List Op) (ob : Option Observation) (xs : List Exchange) (j : Job)
+pub went-after : (a : Place) (r : Recovery) (o : Op) (rest : List Op) (ob : Option Observation) (xs : List Exchange) (j : Job)
     → Does a.world a.read a.now (set_out a r) o rest ob xs j → after a r ≡ progressed (record (set_out a r) { core = j }) o (is_waiting j)
 went-after a r o rest ob xs j does =
     ap (λ ops. (acted a.world a.read a.now (set_out a r) ops).recovery) does.ops
@@ -42,11 +42,11 @@ stopped-after a r o rest c ob stops =
 abbrev pub left : Recovery → Job → List Op → Recovery
 left x c ops = record x { core = record c { ops = ops } }
 
-same-left : (x : Recovery) (c j : Job) (ops : List Op) → j.ops ≡ ops → record x { core = j } ≡ left x j ops
-same-left x c j ops e = ap (λ (os : List Op). left x j os) e
+pub same-left : (x : Recovery) (j : Job) (ops : List Op) → j.ops ≡ ops → record x { core = j } ≡ left x j ops
+same-left x j ops e = ap (λ (os : List Op). left x j os) e
 
 -- the end of a job is no operation that goes on
-goes-not : (a : Place) (s : Recovery) (p : Op) (ps : List Op) (ob : Option Observation) (xs : List Exchange) (j : Job) (told : List Told) → op.Finish told ≡ p
+pub goes-not : (a : Place) (s : Recovery) (p : Op) (ps : List Op) (ob : Option Observation) (xs : List Exchange) (j : Job) (told : List Told) → op.Finish told ≡ p
     → by_deed a.world a.read a.now s.core ps (deed_of p) ≡ attempt.Goes ob xs j → ⊥
 goes-not a s p ps ob xs j told e goes =
     let h : attempt.Ends told ≡ attempt.Goes ob xs j = ap (λ q. by_deed a.world a.read a.now s.core ps (deed_of q)) e ∙ goes in
@@ -57,15 +57,11 @@ or-true : (b : Bool) → ((b && false) || true) ≡ true
 or-true true = refl
 or-true false = refl
 
-not-finish : (s : Stage) (p : Op) (told : List Told) → ends s (deed_of p) ≡ false → p ≡ op.Finish told → ⊥
+pub not-finish : (s : Stage) (p : Op) (told : List Told) → ends s (deed_of p) ≡ false → p ≡ op.Finish told → ⊥
 not-finish s p told on e = false≢true (sym on ∙ (ap (λ q. ends s (deed_of q)) e ∙ or-true (reads_last s)))
 
-not-true : (b : Bool) → not b ≡ true → b ≡ false
-not-true true h = absurd (false≢true h)
-not-true false h = refl
-
 -- an operation that doesn't end its stage, and isn't its last one, leaves the rest
-stays : (x : Recovery) (j : Job) (p : Op) (ops : List Op) → (ops ≡ [] → ⊥) → ends x.stage (deed_of p) ≡ false → progressed (left x j ops) p false ≡ left x j ops
+pub stays : (x : Recovery) (j : Job) (p : Op) (ops : List Op) → (ops ≡ [] → ⊥) → ends x.stage (deed_of p) ≡ false → progressed (left x j ops) p false ≡ left x j ops
 stays x j p [] some on = absurd (some refl)
 stays x j p (y ∷ ys) some on = ap (λ b. let s = cond b (entered (left x j (y ∷ ys)) (moved x.stage)) (left x j (y ∷ ys)) in at_end s s.core.ops) on
 
@@ -83,7 +79,7 @@ module _ (r : Recovery) (x : Place → Recovery) (c : Place → Job) (o : Place 
       went-after a r p ps ob xs j does
       ∙ (ap (λ b. progressed (record (set_out a r) { core = j }) p b) waits
       ∙ (ap {A = Recovery} (λ (s : Recovery). let t : Recovery = record s { core = j } in t) (is a)
-      ∙ same-left (x a) (c a) j (o a ∷ rest a) (((job-went a p ps ob xs j does).waits waits).0 ∙ ap (λ s. s.core.ops) (is a))))
+      ∙ same-left (x a) j (o a ∷ rest a) (((job-went a p ps ob xs j does).waits waits).0 ∙ ap (λ s. s.core.ops) (is a))))
 
   did : (a : Place) (p : Op) (ps : List Op) (ob : Option Observation) (xs : List Exchange) (j : Job)
       → Does a.world a.read a.now (set_out a r) p ps ob xs j → is_waiting j ≡ false → after a r ≡ progressed (left (x a) j (rest a)) p false
@@ -92,7 +88,7 @@ module _ (r : Recovery) (x : Place → Recovery) (c : Place → Job) (o : Place 
       ∙ (ap (λ b. progressed (record (set_out a r) { core = j }) p b) done
       ∙ (ap (λ (s : Recovery). progressed (record s { core = j }) p false) (is a)
       ∙ ap (λ s. progressed s p false)
-      (same-left (x a) (c a) j (rest a) ((job-went a p ps ob xs j does).done done ∙ sym (same-tail (o a) p (rest a) ps (ops-at a p ps does.ops))))))
+      (same-left (x a) j (rest a) ((job-went a p ps ob xs j does).done done ∙ sym (same-tail (o a) p (rest a) ps (ops-at a p ps does.ops))))))
 
 module _ (G : Place → Recovery → Type 0) (Q : Recovery → Event → Recovery → Type 0) where
   -- the first operation is done, from what the first turn decided; the rest of the turns goes on after it

@@ -7,7 +7,6 @@ pub use Rattle.recovery_plans.specs.InstanceKeeper.Book.{BookState, instance_at}
 pub use Rattle.recovery_plans.specs.InstanceKeeper.Bridges.{has_own, latest_that, ring_at}
 pub use Rattle.recovery_plans.specs.InstanceKeeper.declared.bridge.Bridge.{Bridge}
 pub use Rattle.recovery_plans.specs.KeptRows.declared.observation.Instance.{Instance}
-pub use Rattle.recovery_plans.specs.Operations.declared.op.Crossing.{Crossing}
 pub use Rattle.recovery_plans.specs.Operations.declared.op.Crossing.TheVariants as cross
 pub use Rattle.recovery_plans.specs.Operations.declared.op.Op.{Op}
 pub use Rattle.recovery_plans.specs.Operations.declared.op.Op.TheVariants as op
@@ -34,5 +33,4 @@ pub use Rattle.recovery_plans.specs.declared.purpose.Purpose.{Purpose}
 pub use Rattle.recovery_plans.specs.declared.purpose.Purpose.TheVariants as purpose
 pub use Rattle.recovery_plans.specs.declared.task.Way.{Way}
 pub use Rattle.recovery_plans.specs.declared.task.Way.TheVariants as way
-pub use Rattle.recovery_plans.specs.declared.why.Why.{Why}
 pub use Rattle.recovery_plans.specs.Whys as whys

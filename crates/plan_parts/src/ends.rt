@@ -34,7 +34,7 @@ pub fn moved(alloc: Global, ops: Vec<Op>, no: ServerNo, source: ServerNo) -> Res
 }
 
 /// The operations about an instance, and its name at the end. `Err` means out of memory.
-pub fn told(alloc: Global, ops: Vec<Op>, no: ServerNo) -> Result<Vec<Op>, Memory>
+pub fn ended_by_name(alloc: Global, ops: Vec<Op>, no: ServerNo) -> Result<Vec<Op>, Memory>
     ensures { IfOk result (λ all. all.items ≡ finished ops.items (Line.Server no ∷ [])) }
 {
     finished(ops, one_line(alloc, Line::Server(no))?)

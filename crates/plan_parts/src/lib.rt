@@ -5,7 +5,7 @@ mod ends;
 mod lists;
 mod parts;
 
-pub use ends::{finished, following, moved, moved_each, told};
+pub use ends::{ended_by_name, finished, following, moved, moved_each};
 pub use lists::{autos, matchings, unders, ups};
 use operations::{commands, orch_base};
 /// Out of memory.

@@ -1,12 +1,13 @@
 -- The text of a plan: a warning, the servers by their letters, and a numbered line for each operation.
 use Rattle.std.specs.Prelude.{ℕ, ◌+◌, Bool, true, false, List, [], ◌∷◌, ◌++◌, codes, decimal, slice_get, Option, Some, None}
-use Rattle.plan_texts.specs.Prelude.{HostPort, Op, ServerNo, printed}
+use Rattle.plan_texts.specs.Prelude.{HostPort, Op, ServerNo}
 use Rattle.plan_texts.specs.declared.line.Expect.{Expect}
 use Rattle.plan_texts.specs.declared.line.Line.{Line}
 use Rattle.plan_texts.specs.declared.line.Line.TheVariants as line
 use Rattle.plan_texts.specs.Conditions.{chosen_words, expected_condition, lost_words}
 use Rattle.plan_texts.specs.Letters.{letter, order_of, subject}
 use Rattle.plan_texts.specs.Statements.{expected_statement}
+use Rattle.operations.specs.OrchBase.Names.{printed_at}
 
 -- what a plan doesn't say
 unfoldable pub warning : List ℕ
@@ -18,10 +19,6 @@ warning =
     ++ codes "# privileged users pass it. What a replica received and hasn't executed is gone once it is reset, detached or moved.\n")))
 
 -- ---- servers
-
-abbrev pub printed_at : Option HostPort → List ℕ
-printed_at None = []
-printed_at (Some name) = printed name
 
 -- server LETTER NAME
 abbrev pub server_line : List HostPort → List ServerNo → ServerNo → List ℕ

@@ -4,7 +4,8 @@ ghost use Rattle.std.specs.Prelude.{◌≡◌, ◌++◌, [], codes, decimal, sli
 ghost use Rattle.plan_texts.specs.Conditions.{expected_condition};
 ghost use Rattle.plan_texts.specs.Letters.{order_of, subject};
 ghost use Rattle.plan_texts.specs.Statements.{expected_statement};
-ghost use Rattle.plan_texts.specs.Texts.{branch_lines, branch_words, head_words, line_text, line_texts, op_line, ordered_text, plan_text, printed_at, server_line, server_lines, warning};
+ghost use Rattle.plan_texts.specs.Texts.{branch_lines, branch_words, head_words, line_text, line_texts, op_line, ordered_text, plan_text, server_line, server_lines, warning};
+ghost use Rattle.operations.specs.OrchBase.Names.{printed_at};
 
 use crate::Memory;
 use crate::conditions::{print_chosen, print_expectation, print_lost};

@@ -8,10 +8,10 @@ use Rattle.std.specs.declared.cmp.Ordering.TheVariants.{Less, Equal, Greater}
 use Rattle.std.proofs.lemmas.Bool.{false≢true}
 use Rattle.std.proofs.lemmas.List.Elements.{All-nil, All-cons, All-head, All-tail, All-weaker, All-contains_itself, All-filter, filter_passes}
 use Rattle.std.proofs.lemmas.Option.{same_Some}
-use Rattle.binlog_coords.specs.declared.Coord.{Coord}
-use Rattle.binlog_coords.specs.Log.{is_before}
-use Rattle.binlog_coords.specs.OrchBase.Names.{HostPort}
-use Rattle.binlog_coords.specs.OrchBase.declared.server.ServerNo.{ServerNo}
+use Rattle.instance_keeper.specs.BinlogCoords.declared.Coord.{Coord}
+use Rattle.instance_keeper.specs.BinlogCoords.Log.{is_before}
+use Rattle.instance_keeper.specs.OrchBase.Names.{HostPort}
+use Rattle.instance_keeper.specs.OrchBase.declared.server.ServerNo.{ServerNo}
 use Rattle.promotion_rules.specs.declared.drained.Drained.{Drained}
 use Rattle.promotion_rules.specs.Choice.{advance_order, coord_order, first_by, nearer_order}
 use Rattle.promotion_rules.specs.Chosen.{HasExecutedMost, IsChoice}

@@ -2,3 +2,4 @@ pub mod Firsts
 pub mod Orders
 pub mod Choosing
 pub mod Ranks
+pub mod Lists

@@ -2,10 +2,10 @@
 use Rattle.std.proofs.Common.{List}
 use Rattle.std.specs.Cmp.{IsTotalOrder}
 use Rattle.std.proofs.lemmas.Cmp.{back_total, nat_cmp_total, on_total, then_total}
-use Rattle.binlog_coords.specs.declared.Coord.{Coord}
-use Rattle.binlog_coords.specs.OrchBase.Names.{HostPort}
-use Rattle.name_order.specs.NameOrder.{named}
-use Rattle.name_order.proofs.ByName.{order_total}
+use Rattle.instance_keeper.specs.BinlogCoords.declared.Coord.{Coord}
+use Rattle.instance_keeper.specs.OrchBase.Names.{HostPort}
+use Rattle.instance_keeper.specs.NameOrder.NameOrder.{named}
+use Rattle.instance_keeper.proofs.NameOrder.ByName.{order_total}
 use Rattle.promotion_rules.specs.declared.drained.Drained.{Drained}
 use Rattle.promotion_rules.specs.Choice.{advance_order, coord_order, nearer_order, rank, rank_order, server_order}
 

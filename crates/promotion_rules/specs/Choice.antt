@@ -3,12 +3,12 @@ use Rattle.std.specs.Prelude.{ℕ, ◌+◌, ◌*◌, if◌then◌else◌, Bool, 
 use Rattle.std.specs.List.{list_all}
 use Rattle.std.specs.Ordering.{is_lt, nat_cmp, ordering_then}
 use Rattle.std.specs.declared.cmp.Ordering.{Ordering}
-use Rattle.binlog_coords.specs.declared.Coord.{Coord}
-use Rattle.binlog_coords.specs.OrchBase.Names.{HostPort}
-use Rattle.binlog_coords.specs.OrchBase.declared.rule.Rule.{Rule}
-use Rattle.binlog_coords.specs.OrchBase.declared.rule.Rule.TheVariants as rule
-use Rattle.binlog_coords.specs.OrchBase.declared.server.ServerNo.{ServerNo}
-use Rattle.name_order.specs.NameOrder.{named, order_of}
+use Rattle.instance_keeper.specs.BinlogCoords.declared.Coord.{Coord}
+use Rattle.instance_keeper.specs.OrchBase.Names.{HostPort}
+use Rattle.instance_keeper.specs.OrchBase.declared.rule.Rule.{Rule}
+use Rattle.instance_keeper.specs.OrchBase.declared.rule.Rule.TheVariants as rule
+use Rattle.instance_keeper.specs.OrchBase.declared.server.ServerNo.{ServerNo}
+use Rattle.instance_keeper.specs.NameOrder.NameOrder.{named, order_of}
 use Rattle.promotion_rules.specs.declared.drained.Drained.{Drained}
 
 -- ---- orders: what is first

@@ -2,8 +2,8 @@
 use Rattle.std.specs.Prelude.{◌≡◌, All, Any, Bool, true, false, List}
 use Rattle.std.specs.Ordering.{is_lt}
 use Rattle.std.specs.declared.cmp.Ordering.{Ordering}
-use Rattle.binlog_coords.specs.Log.{is_before}
-use Rattle.binlog_coords.specs.OrchBase.declared.server.ServerNo.{ServerNo}
+use Rattle.instance_keeper.specs.BinlogCoords.Log.{is_before}
+use Rattle.instance_keeper.specs.OrchBase.declared.server.ServerNo.{ServerNo}
 use Rattle.promotion_rules.specs.declared.drained.Drained.{Drained}
 
 -- the replica has this number and passes, and none of the list that passes is before it

@@ -4,9 +4,9 @@ ghost use Rattle.std.specs.Prelude.{◌≡◌, ◌<◌, ◌≤◌, ◌&&◌, All
 ghost use Rattle.std.specs.Option.{ForSome};
 ghost use Rattle.promotion_rules.specs.Choice.{advance_order, better, comes_first, coord_order, is_better, is_eligible, most_advanced, nearer_order, precedence, rank, rank_order, server_order};
 
+use crate::binlog_coords_items::Coord;
 use crate::drained::Drained;
 use crate::orch_base::{Name, Rule, ServerNo};
-use binlog_coords::Coord;
 use std::cmp::Ordering;
 
 fn compare_coords(one: Coord, other: Coord) -> Ordering

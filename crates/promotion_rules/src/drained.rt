@@ -1,7 +1,7 @@
 //! Replicas that were drained.
 
+use crate::binlog_coords_items::Coord;
 use crate::orch_base::{Rule, ServerNo};
-use binlog_coords::Coord;
 
 /// A replica of a failed server that has executed what it had received, as it was seen then.
 #[derive(Clone, Copy, Debug, PartialEq, Eq)]

@@ -2,8 +2,8 @@
 
 ghost use Rattle.std.specs.Prelude.{◌≡◌, ◌<◌, ◌↔◌, All, List, None, Some, true, false};
 ghost use Rattle.std.specs.Cmp.{IsTotalOrder};
-ghost use Rattle.binlog_coords.specs.OrchBase.Names.{HostPort};
-ghost use Rattle.binlog_coords.specs.OrchBase.declared.server.ServerNo.{ServerNo as Number};
+ghost use Rattle.instance_keeper.specs.OrchBase.Names.{HostPort};
+ghost use Rattle.instance_keeper.specs.OrchBase.declared.server.ServerNo.{ServerNo as Number};
 ghost use Rattle.promotion_rules.specs.Choice.{advance_order, better, is_better, is_eligible, most_advanced, nearer_order, precedence, rank};
 ghost use Rattle.promotion_rules.specs.Chosen.{HasExecutedMost, IsChoice};
 ghost use Rattle.promotion_rules.specs.declared.drained.Drained.{Drained as ADrained};
@@ -22,7 +22,8 @@ pub fn most_advanced_is_the_first()
 /// The better one is one of the followers that log and have a strictly lower rank than the promoted one. None of these
 /// is before it. There is none exactly if none of them logs and has a strictly lower rank.
 pub fn better_is_the_first()
-    ensures chosen { (names : List HostPort) (of : ADrained) (followers : List ADrained) (n : Number) →
+    ensures chosen { (names : List HostPort) (of : ADrained) (followers : List ADrained)
+        (n : Number) →
         better names of followers ≡ Some n →
         IsChoice (nearer_order names) (is_better of) followers n }
     ensures none { (names : List HostPort) (of : ADrained) (followers : List ADrained) →

@@ -1,5 +1,5 @@
 -- The plans of these commands.
-use Rattle.std.specs.Prelude.{ℕ, List, [], ◌∷◌, Option, Some, None}
+use Rattle.std.specs.Prelude.{ℕ, Bool, true, false, List, [], ◌∷◌, Option, Some, None}
 use Rattle.permission.specs.OrchBase.declared.server.ServerNo.{ServerNo}
 use Rattle.permission.specs.Commands.declared.line.Line.TheVariants.{Follows}
 use Rattle.permission.specs.Commands.declared.turn.Command.{Command}
@@ -10,8 +10,8 @@ use Rattle.permission.specs.Replicas.{replicas_but}
 use Rattle.permission.specs.Rows.{about}
 use Rattle.permission.specs.Views.{source_above}
 use Rattle.plan_parts.specs.Parts.{following, matching, matchings}
-use Rattle.pseudo_match.specs.declared.command.PseudoCommand.{PseudoCommand}
-use Rattle.pseudo_match.specs.declared.command.PseudoCommand.TheVariants as command
+use Rattle.permission.specs.Commands.declared.kinds.MatchCommand.{MatchCommand}
+use Rattle.permission.specs.Commands.declared.kinds.MatchCommand.TheVariants as command
 use Rattle.pseudo_match.specs.Commands.{pseudo_command}
 
 -- i goes below d, by marks of this distance
@@ -24,9 +24,20 @@ abbrev pub replicas_moved : List ServerNo → ℕ → Option ServerNo → List O
 replicas_moved replicas every None = []
 replicas_moved replicas every (Some d) = finished (matchings replicas d every) (following replicas d)
 
+-- the operations of a regroup aren't known before its job begins: they go by what its replicas turn out to have
+abbrev pub is_planned : MatchCommand → Bool
+is_planned command.Match = true
+is_planned command.MatchUp = true
+is_planned command.MatchReplicas = true
+is_planned command.RegroupReplicas = false
+
+abbrev pub has_plan : Option MatchCommand → Bool
+has_plan None = false
+has_plan (Some kind) = is_planned kind
+
 -- a command's operations, by the instance and the destination that is given; none of a regroup, whose operations go by
 -- what its replicas turn out to have
-abbrev pub ops_of : BookState → ℕ → PseudoCommand → ServerNo → Option ServerNo → List Op
+abbrev pub ops_of : BookState → ℕ → MatchCommand → ServerNo → Option ServerNo → List Op
 ops_of b every command.Match i d = moved i every d
 ops_of b every command.MatchUp i d = moved i every (source_above b i)
 ops_of b every command.MatchReplicas i d = replicas_moved (replicas_but b i d) every d

@@ -6,7 +6,7 @@ mod command;
 mod permits;
 mod plans;
 
-pub use command::{PseudoCommand, pseudo_command};
+pub use command::pseudo_command;
 use permission::{
     book_views, commands, instance_keeper_items, operations_items, orch_base, server_model,
     topology_tree,
@@ -14,5 +14,5 @@ use permission::{
 /// Out of memory.
 pub use permission::PermitFault;
 pub use permission::orch_base::Memory;
-pub use permits::{leases, permit};
-pub use plans::plan;
+pub use permits::{permit, permit_kind};
+pub use plans::{is_planned, ops_of, plan};

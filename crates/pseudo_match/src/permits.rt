@@ -1,26 +1,24 @@
 //! What refuses the commands.
 
-ghost use Rattle.std.specs.Prelude.{◌≡◌, ◌<◌, All, IfOk, IsSome, IsTrue, length};
+ghost use Rattle.std.specs.Prelude.{◌≡◌, IfOk, IsSome};
 ghost use Rattle.permission.specs.OrchBase.Gives.{Gives};
 ghost use Rattle.permission.specs.BookViews.Forests.{book_forest};
-ghost use Rattle.permission.specs.Commands.Turns.{is_within};
 ghost use Rattle.permission.specs.Checks.{permit_fault, permitted};
 ghost use Rattle.pseudo_match.specs.Commands.{pseudo_command};
-ghost use Rattle.pseudo_match.specs.Permits.{case_of, last_row_of, leased_by, own_refusal, refusal_about, refusal_of, row_of, sources_over};
+ghost use Rattle.pseudo_match.specs.Permits.{case_of, last_row_of, own_refusal, refusal_about, refusal_of, row_of, sources_over};
 
 use crate::book_views::replicas;
-use crate::command::{PseudoCommand, pseudo_command};
-use crate::commands::{Command, Refusal};
+use crate::command::pseudo_command;
+use crate::commands::{Command, MatchCommand, Refusal};
 use crate::instance_keeper_items::Book;
 use crate::orch_base::{Moment, ServerNo};
 use crate::server_model::World;
 use crate::topology_tree::Forest;
 use crate::{Memory, PermitFault};
 use permission::{
-    Check, Movers, answered, one_or_none, replicas_but, row_refusal, source, source_above,
-    unknown_in,
+    Case, Check, one_or_none, refusal_around, replicas_but, source, source_above, unknown_in,
+    without_candidate,
 };
-use promotion_candidates::without_candidate;
 use std::alloc::Global;
 
 const MATCH: [Check; 8] = [
@@ -48,13 +46,13 @@ const MATCH_UP: [Check; 8] = [
 const REGROUP: [Check; 1] = [Check::Busy];
 
 // The checks of a command, by rising number, between the one that its instances are known and its own one.
-fn row_of(command: PseudoCommand) -> &'static [Check]
+fn row_of(command: MatchCommand) -> &'static [Check]
     ensures { result.now ≡ row_of command }
 {
     match command {
-        PseudoCommand::Match | PseudoCommand::MatchReplicas => &MATCH,
-        PseudoCommand::MatchUp => &MATCH_UP,
-        PseudoCommand::RegroupReplicas => &REGROUP,
+        MatchCommand::Match | MatchCommand::MatchReplicas => &MATCH,
+        MatchCommand::MatchUp => &MATCH_UP,
+        MatchCommand::RegroupReplicas => &REGROUP,
     }
 }
 
@@ -65,18 +63,18 @@ const MOVED_WITHOUT_MARKS: [Check; 2] = [Check::PseudoOff, Check::MovedNotLoggin
 const REGROUPED_WITHOUT_MARKS: [Check; 1] = [Check::PseudoOff];
 
 // The checks after a command's own one.
-fn last_row_of(every: u64, command: PseudoCommand) -> &'static [Check]
+fn last_row_of(every: u64, command: MatchCommand) -> &'static [Check]
     ensures { result.now ≡ last_row_of every command }
 {
     match command {
-        PseudoCommand::Match | PseudoCommand::MatchUp | PseudoCommand::MatchReplicas => {
+        MatchCommand::Match | MatchCommand::MatchUp | MatchCommand::MatchReplicas => {
             if every == 0 {
                 &MOVED_WITHOUT_MARKS
             } else {
                 &MOVED
             }
         }
-        PseudoCommand::RegroupReplicas => {
+        MatchCommand::RegroupReplicas => {
             if every == 0 {
                 &REGROUPED_WITHOUT_MARKS
             } else {
@@ -96,29 +94,26 @@ fn sources_over(alloc: Global, book: &Book, i: ServerNo) -> Result<Vec<ServerNo>
 }
 
 // Which servers move to which source, and beside which.
-fn movers_of(
+fn case_of(
     alloc: Global,
     book: &Book,
-    command: PseudoCommand,
+    command: MatchCommand,
     i: ServerNo,
     d: Option<ServerNo>,
-) -> Result<Movers, Memory>
-    ensures { IfOk result (λ m. m ≡ case_of book.now command i d) }
+) -> Result<Case, Memory>
+    ensures { IfOk result (λ c. c ≡ case_of book.now command i d) }
 {
     match command {
-        PseudoCommand::Match => Movers::one(alloc, i, d, d),
-        PseudoCommand::MatchUp => {
-            let movers = one_or_none(alloc, Some(i))?;
-            let beside = sources_over(alloc, book, i)?;
-            Ok(Movers::new(alloc, i, source_above(book, i), movers, beside))
+        MatchCommand::Match => Case::one(alloc, i, d, d),
+        MatchCommand::MatchUp => {
+            let above = source_above(book, i);
+            Case::beside(alloc, i, &[i], above, &sources_over(alloc, book, i)?)
         }
-        PseudoCommand::MatchReplicas => {
+        MatchCommand::MatchReplicas => {
             let replicas = replicas_but(alloc, book, i, d)?;
-            Ok(Movers::new(alloc, i, d, replicas, one_or_none(alloc, d)?))
+            Case::beside(alloc, i, &replicas, d, &one_or_none(alloc, d)?)
         }
-        PseudoCommand::RegroupReplicas => {
-            Ok(Movers::round(alloc, i, None, replicas(alloc, book, i)?))
-        }
+        MatchCommand::RegroupReplicas => Case::round(alloc, i, &replicas(alloc, book, i)?, None),
     }
 }
 
@@ -127,52 +122,48 @@ fn own_refusal(
     alloc: Global,
     book: &Book,
     world: &World,
-    command: PseudoCommand,
+    command: MatchCommand,
     i: ServerNo,
     now: Moment,
 ) -> Result<Option<Refusal>, Memory>
     ensures { IfOk result (λ r. r ≡ own_refusal world.now book.now now command i) }
 {
     match command {
-        PseudoCommand::Match | PseudoCommand::MatchUp | PseudoCommand::MatchReplicas => Ok(None),
-        PseudoCommand::RegroupReplicas => without_candidate(alloc, book, world, i, now),
+        MatchCommand::Match | MatchCommand::MatchUp | MatchCommand::MatchReplicas => Ok(None),
+        MatchCommand::RegroupReplicas => without_candidate(alloc, book, world, i, now),
     }
 }
 
-fn refusal_about(
+/// Refuses a command of this kind about an instance with the refusal of the lowest number that applies. Else it answers
+/// what the command's job is about. Each transaction is a mark whose number is divisible by `every`, and none is if
+/// that is 0. It goes by the book with its rules of promotion at a moment and the servers' settings, and changes
+/// nothing.
+pub fn permit_kind(
     alloc: Global,
     book: &Book,
     forest: &Forest,
     world: &World,
-    command: PseudoCommand,
+    command: MatchCommand,
     i: ServerNo,
     d: Option<ServerNo>,
     now: Moment,
     every: u64,
-) -> Result<Option<Refusal>, Memory>
+) -> Result<Case, PermitFault>
     requires { forest.now ≡ book_forest book.now }
-    ensures { IfOk result (λ r. r ≡ refusal_about world.now book.now now every command i d) }
+    ensures case { IfOk result (λ c. c ≡ case_of book.now command i d) }
+    ensures refusal { Gives (λ _. tt) permit_fault result
+        (permitted (refusal_about world.now book.now now every command i d)) }
 {
-    let movers = movers_of(alloc, book, command, i, d)?;
-    if let Some(refusal) = row_refusal(alloc, book, forest, world, &movers, row_of(command))? {
-        return Ok(Some(refusal));
+    let case = case_of(alloc, book, command, i, d)?;
+    let own = own_refusal(alloc, book, world, command, i, now)?;
+    let (row, last) = (row_of(command), last_row_of(every, command));
+    match refusal_around(alloc, book, forest, world, &case, row, own, last)? {
+        Some(refusal) => Err(PermitFault::Refused(refusal)),
+        None => Ok(case),
     }
-    if let Some(refusal) = own_refusal(alloc, book, world, command, i, now)? {
-        return Ok(Some(refusal));
-    }
-    row_refusal(
-        alloc,
-        book,
-        forest,
-        world,
-        &movers,
-        last_row_of(every, command),
-    )
 }
 
-/// Refuses one of these commands with the refusal of the lowest number that applies. Each transaction is a mark whose
-/// number is divisible by `every`, and none is if that is 0. It goes by the book with its rules of promotion at a
-/// moment and the servers' settings, and changes nothing.
+/// Refuses one of these commands with the refusal of the lowest number that applies, by marks of this distance.
 pub fn permit(
     alloc: Global,
     book: &Book,
@@ -190,31 +181,8 @@ pub fn permit(
     if let Some(unknown) = unknown_in(book, command) {
         return Err(PermitFault::Refused(unknown));
     }
-    let (Some(kind), Some(i)) = (pseudo_command(command.name), command.i) else {
-        return Ok(());
-    };
-    answered(refusal_about(alloc, book, forest, world, kind, i, command.d, now, every)?)
-}
-
-/// The servers of which the job of one of these commands takes the leases: servers of the book, if the command's
-/// instances are. `Err` means out of memory.
-pub fn leases(alloc: Global, book: &Book, command: Command) -> Result<Vec<ServerNo>, Memory>
-    requires { IsSome (pseudo_command command.name) }
-    ensures list { IfOk result (λ list. list.items ≡ leased_by book.now command) }
-    ensures within { IsTrue (is_within (length book.now.names) command.i) →
-        IsTrue (is_within (length book.now.names) command.d) →
-        IfOk result (λ list. All (λ n. n.0 < length book.now.names) list.items) }
-{
-    // shows the proof that sources are known
-    let _ = book.servers();
-    leased_by(alloc, book, command)
-}
-
-fn leased_by(alloc: Global, book: &Book, command: Command) -> Result<Vec<ServerNo>, Memory>
-    ensures { IfOk result (λ list. list.items ≡ leased_by book.now command) }
-{
-    match (pseudo_command(command.name), command.i) {
-        (Some(kind), Some(i)) => movers_of(alloc, book, kind, i, command.d)?.leases(alloc),
-        (Some(_), None) | (None, _) => Ok(Vec::new(alloc)),
+    if let (Some(kind), Some(i)) = (pseudo_command(command.name), command.i) {
+        permit_kind(alloc, book, forest, world, kind, i, command.d, now, every)?;
     }
+    Ok(())
 }

@@ -4,12 +4,12 @@ ghost use Rattle.std.specs.Prelude.{◌≡◌, IfOk, IsTrue, length, true};
 ghost use Rattle.permission.specs.BookViews.Forests.{book_forest};
 ghost use Rattle.permission.specs.Commands.Turns.{is_within};
 ghost use Rattle.permission.specs.Operations.Named.{are_named};
-ghost use Rattle.pseudo_match.specs.Commands.{has_plan, pseudo_command};
-ghost use Rattle.pseudo_match.specs.Plans.{moved, ops_of, plan_of, replicas_moved};
+ghost use Rattle.pseudo_match.specs.Commands.{pseudo_command};
+ghost use Rattle.pseudo_match.specs.Plans.{has_plan, is_planned, moved, ops_of, plan_of, replicas_moved};
 
 use crate::Memory;
-use crate::command::{PseudoCommand, pseudo_command};
-use crate::commands::Command;
+use crate::command::pseudo_command;
+use crate::commands::{Command, MatchCommand};
 use crate::instance_keeper_items::Book;
 use crate::operations_items::Op;
 use crate::orch_base::ServerNo;
@@ -44,23 +44,35 @@ fn replicas_moved(
     }
 }
 
-fn ops_of(
+/// Whether the operations of a command of this kind are known before its job begins. Those of a regroup aren't.
+pub fn is_planned(command: MatchCommand) -> bool
+    ensures { result ≡ is_planned command }
+{
+    match command {
+        MatchCommand::Match | MatchCommand::MatchUp | MatchCommand::MatchReplicas => true,
+        MatchCommand::RegroupReplicas => false,
+    }
+}
+
+/// The operations of a command of this kind about an instance, by marks of this distance. A regroup has none. `Err`
+/// means out of memory.
+pub fn ops_of(
     alloc: Global,
     book: &Book,
     every: u64,
-    command: PseudoCommand,
+    command: MatchCommand,
     i: ServerNo,
     d: Option<ServerNo>,
 ) -> Result<Vec<Op>, Memory>
     ensures { IfOk result (λ ops. ops.items ≡ ops_of book.now every command i d) }
 {
     match command {
-        PseudoCommand::Match => moved(alloc, i, every, d),
-        PseudoCommand::MatchUp => moved(alloc, i, every, source_above(book, i)),
-        PseudoCommand::MatchReplicas => {
+        MatchCommand::Match => moved(alloc, i, every, d),
+        MatchCommand::MatchUp => moved(alloc, i, every, source_above(book, i)),
+        MatchCommand::MatchReplicas => {
             replicas_moved(alloc, &replicas_but(alloc, book, i, d)?, every, d)
         }
-        PseudoCommand::RegroupReplicas => Ok(Vec::new(alloc)),
+        MatchCommand::RegroupReplicas => Ok(Vec::new(alloc)),
     }
 }
 

@@ -2,6 +2,11 @@
 //! each call with ample memory, and what no run of the program has. What runs have is in the repository's cases.
 #![tactic(auto)]
 
+use scenario_reader::{
+    binlog_coords_items, commands, openings, orch_base, scenario_servers, scenario_turns,
+    scenario_values, scenarios_items,
+};
+
 #[cfg(test)]
 mod keys;
 #[cfg(test)]
@@ -12,8 +17,3 @@ mod values;
 mod walk;
 #[cfg(test)]
 mod words;
-
-use scenario_reader::{
-    binlog_coords_items, commands, openings, orch_base, scenario_openings, scenario_servers,
-    scenario_turns, scenario_values, scenarios_items,
-};

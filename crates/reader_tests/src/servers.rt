@@ -5,10 +5,10 @@ ghost use Rattle.scenario_reader.specs.ScenarioServers.Openings.{IsGiven};
 
 use crate::openings::ServerInit;
 use crate::orch_base::{Rule, ServerNo, Version};
-use crate::scenario_openings::opening_in;
 use crate::scenario_servers::{Given, inits_of, known_of, rules_of, servers_in};
 use crate::scenario_values::{FaultCode, ReadFault};
 use made_openings::{are_apart, are_servers};
+use scenario_reader::opening_in;
 use serde_json::Value;
 use std::alloc::Global;
 

@@ -1,7 +1,7 @@
 //! Whole scenarios, and texts of the greatest length.
 
 use crate::openings::ServerInit;
-use crate::orch_base::{Memory, Rule};
+use crate::orch_base::{Memory, Rule, ServerNo};
 use crate::scenario_values::{FaultCode, ReadFault};
 use crate::scenarios_items::Scenario;
 use scenario_reader::read;
@@ -45,13 +45,20 @@ fn place(server: &ServerInit) -> (u32, &str) {
     (server.purged, server.settings.dc.as_str())
 }
 
-// The block periods of two clusters that have their own, and of one that hasn't.
-fn periods(scenario: &Scenario) -> (u64, u64, u64) {
+// The block periods of two clusters that have their own, and of one that hasn't. The first is also asked for by a
+// server, and by none.
+fn periods(scenario: &Scenario) -> ((u64, u64, u64), (u64, u64)) {
     let (own, all) = (&scenario.blocks, scenario.block);
     (
-        own.period(all, "c1"),
-        own.period(all, "other"),
-        own.period(all, "c2"),
+        (
+            own.period(all, "c1"),
+            own.period(all, "other"),
+            own.period(all, "c2"),
+        ),
+        (
+            own.period_at(all, ServerNo(1), "c1"),
+            own.period_at(all, ServerNo(7), "c1"),
+        ),
     )
 }
 
@@ -61,7 +68,7 @@ fn has_every_key(scenario: &Scenario) -> bool {
         return false;
     };
     scenario.moment.0 == 7
-        && periods(scenario) == (5, 0, 60)
+        && periods(scenario) == ((5, 0, 60), (5, 5))
         && (place(master), place(replica)) == ((2, "east"), (1, ""))
         && scenario.aliases.as_slice().len() == 2
         && filters.master.passes.as_slice() == [true, true].as_slice()

@@ -1,6 +1,7 @@
 -- What a recovery is asked to begin with, and what the ask comes to.
 use Rattle.std.specs.Prelude.{Result}
-use Rattle.recovery_core.specs.Prelude.{Attempt, Refusal, ServerNo}
+use Rattle.recovery_core.specs.Prelude.{Refusal, ServerNo}
+use Rattle.recovery_core.specs.declared.attempt.Attempt.{Attempt}
 use Rattle.recovery_core.specs.declared.ask.Ask.{Ask}
 use Rattle.recovery_core.specs.Tries.{Begins, kind_try, recovery_try, takeover_try}
 

@@ -1,51 +1,56 @@
 -- What this crate's definitions and contracts cite of others.
 pub use Rattle.std.specs.List.{list_any}
-pub use Rattle.recovery_permits.specs.AuditLog.Apart.{IsApart, MayBegin}
-pub use Rattle.recovery_permits.specs.AuditLog.Audits.{AuditState, begun, ended, is_open, longest_block}
-unfoldable pub use Rattle.recovery_permits.specs.BookViews.Forests.{book_forest}
-pub use Rattle.recovery_permits.specs.BookViews.Sources.{label_at, replicas_of}
-pub use Rattle.recovery_permits.specs.Commands.Causes.{cause_name}
-pub use Rattle.recovery_permits.specs.Commands.Turns.{is_within}
-pub use Rattle.recovery_permits.specs.Commands.declared.line.Line.{Line}
-pub use Rattle.recovery_permits.specs.Commands.declared.line.Line.TheVariants as line
-pub use Rattle.recovery_permits.specs.Commands.declared.refusal.Refusal.{Refusal}
-pub use Rattle.recovery_permits.specs.Commands.declared.refusal.Refusal.TheVariants.{UnknownInstance}
-unfoldable pub use Rattle.recovery_permits.specs.FailureAnalysis.Analysis.{analysis}
-pub use Rattle.recovery_permits.specs.FailureAnalysis.Table.{action_of}
-pub use Rattle.recovery_permits.specs.FailureAnalysis.declared.code.Action.{Action}
-pub use Rattle.recovery_permits.specs.FailureAnalysis.declared.code.Action.TheVariants.{IntermediateRecovery, MasterRecovery, Nothing}
-pub use Rattle.recovery_permits.specs.FailureAnalysis.declared.entry.Entry.{Entry}
-pub use Rattle.recovery_permits.specs.InstanceKeeper.Book.{BookState, IsBook}
-pub use Rattle.recovery_permits.specs.InstanceKeeper.Leases.{first_busy, taken}
-pub use Rattle.recovery_permits.specs.KeptRows.Servers.{are_known, source_servers}
-pub use Rattle.recovery_permits.specs.KeptRows.declared.recovery.Recovery as KeptRows
-pub use Rattle.recovery_permits.specs.Operations.Turns.{is_going}
-pub use Rattle.recovery_permits.specs.Operations.declared.step.JobStep.{JobStep}
-pub use Rattle.recovery_permits.specs.Operations.declared.step.JobStep.TheVariants as step
-pub use Rattle.recovery_permits.specs.OrchBase.Gives.{Gives}
-pub use Rattle.recovery_permits.specs.OrchBase.declared.code.Code.{Code}
-pub use Rattle.recovery_permits.specs.OrchBase.declared.recovery.CauseName.TheVariants as named
-pub use Rattle.recovery_permits.specs.OrchBase.declared.recovery.Ending.{Ending}
-pub use Rattle.recovery_permits.specs.OrchBase.declared.recovery.Ending.TheVariants.{Unended}
-pub use Rattle.recovery_permits.specs.OrchBase.declared.recovery.Ending.TheVariants as ending
-pub use Rattle.recovery_permits.specs.OrchBase.declared.recovery.Kind.{Kind}
-pub use Rattle.recovery_permits.specs.OrchBase.declared.recovery.Kind.TheVariants as kind
-pub use Rattle.recovery_permits.specs.OrchBase.declared.server.Moment.{Moment}
-pub use Rattle.recovery_permits.specs.OrchBase.declared.server.ServerNo.{ServerNo}
-pub use Rattle.recovery_permits.specs.OrchBase.declared.server.SourceState.{SourceState}
-pub use Rattle.recovery_permits.specs.OrchBase.declared.server.SourceState.TheVariants.{Attached, Detached, Without}
-pub use Rattle.recovery_permits.specs.Permission.Checks.{busy_by, permit_fault}
-pub use Rattle.recovery_permits.specs.Permission.Lists.{first_about}
-pub use Rattle.recovery_permits.specs.Permission.Views.{source_of}
+pub use Rattle.std.specs.Option.{option_or}
+pub use Rattle.audit_log.specs.Apart.{IsApart, MayBegin}
+pub use Rattle.audit_log.specs.Audits.{AuditState, begun, ended, is_open, longest_block, may_begin}
+pub use Rattle.audit_log.specs.declared.held.Held.{Held}
+pub use Rattle.audit_log.specs.declared.held.Held.TheVariants as held
+unfoldable pub use Rattle.permission.specs.BookViews.Forests.{book_forest}
+pub use Rattle.permission.specs.BookViews.Sources.{is_instance, is_replica_of, label_at, replicas_of}
+pub use Rattle.permission.specs.Commands.Causes.{cause_name}
+pub use Rattle.permission.specs.Commands.Turns.{is_within}
+pub use Rattle.permission.specs.Commands.declared.line.Line.{Line}
+pub use Rattle.permission.specs.Commands.declared.line.Line.TheVariants as line
+pub use Rattle.permission.specs.Commands.declared.refusal.Refusal.{Refusal}
+pub use Rattle.permission.specs.Commands.declared.refusal.Refusal.TheVariants.{NotActionable, UnknownInstance}
+pub use Rattle.permission.specs.Commands.declared.refusal.Refusal.TheVariants as refusal
+unfoldable pub use Rattle.failure_analysis.specs.Analysis.{analysis}
+pub use Rattle.failure_analysis.specs.Analysis.{entry_at}
+pub use Rattle.failure_analysis.specs.Table.{action_of}
+pub use Rattle.failure_analysis.specs.declared.code.Action.{Action}
+pub use Rattle.failure_analysis.specs.declared.code.Action.TheVariants.{IntermediateRecovery, MasterRecovery, Nothing}
+pub use Rattle.failure_analysis.specs.declared.entry.Entry.{Entry}
+pub use Rattle.permission.specs.InstanceKeeper.Book.{BookState, IsBook, downtime_at}
+pub use Rattle.permission.specs.InstanceKeeper.Leases.{first_busy, taken}
+pub use Rattle.permission.specs.KeptRows.Servers.{are_known, source_servers}
+pub use Rattle.permission.specs.KeptRows.declared.recovery.Recovery as KeptRows
+unfoldable pub use Rattle.permission.specs.NameOrder.NameOrder.{by_name}
+pub use Rattle.permission.specs.Operations.Turns.{is_going}
+pub use Rattle.permission.specs.Operations.declared.step.JobStep.{JobStep}
+pub use Rattle.permission.specs.Operations.declared.step.JobStep.TheVariants as step
+pub use Rattle.permission.specs.OrchBase.Gives.{Gives}
+pub use Rattle.permission.specs.OrchBase.declared.code.Code.{Code}
+pub use Rattle.permission.specs.OrchBase.declared.recovery.CauseName.TheVariants as named
+pub use Rattle.permission.specs.OrchBase.declared.recovery.Ending.{Ending}
+pub use Rattle.permission.specs.OrchBase.declared.recovery.Ending.TheVariants.{Unended}
+pub use Rattle.permission.specs.OrchBase.declared.recovery.Ending.TheVariants as ending
+pub use Rattle.permission.specs.OrchBase.declared.recovery.Kind.{Kind}
+pub use Rattle.permission.specs.OrchBase.declared.recovery.Kind.TheVariants as kind
+pub use Rattle.permission.specs.OrchBase.declared.server.Moment.{Moment}
+pub use Rattle.permission.specs.OrchBase.declared.server.ServerNo.{ServerNo}
+pub use Rattle.permission.specs.OrchBase.declared.server.SourceState.{SourceState}
+pub use Rattle.permission.specs.OrchBase.declared.server.SourceState.TheVariants.{Attached, Detached, Without}
+pub use Rattle.permission.specs.Candidates.{has_candidate}
+pub use Rattle.permission.specs.Checks.{Case, busy_by, first_refusal, is_given, permit_fault, permitted}
+pub use Rattle.permission.specs.Lists.{first_about, first_of, moves_to, only_if}
+pub use Rattle.permission.specs.Views.{attached_of, has_log, is_valid, same_label, source_of}
+pub use Rattle.permission.specs.declared.case.Check.{Check}
+pub use Rattle.permission.specs.declared.case.Check.TheVariants.{Busy, DestNotLogging, SameInstance, SameServerId, Unreachable, VersionLower}
 pub use Rattle.recovery_hooks.specs.Runs.{HookState}
-pub use Rattle.recovery_permits.specs.Checks.{code_at}
-pub use Rattle.recovery_permits.specs.Recoveries.{recovery_list, recovery_purpose, recovery_refusal}
-pub use Rattle.recovery_permits.specs.Takeovers.{followers_of, takeover_refusal}
-pub use Rattle.recovery_permits.specs.declared.attempt.Attempt.{Attempt}
-pub use Rattle.recovery_permits.specs.RecoveryPlans.Beginning.{begun_recovery, is_takeover}
-pub use Rattle.recovery_permits.specs.RecoveryPlans.Named.{IsListOf, IsNamedRecovery}
-pub use Rattle.recovery_permits.specs.RecoveryPlans.Recoveries.{Recovery}
-pub use Rattle.recovery_permits.specs.RecoveryPlans.declared.means.Means.TheVariants as means
-pub use Rattle.recovery_permits.specs.RecoveryPlans.declared.purpose.Purpose.{Purpose}
-pub use Rattle.recovery_permits.specs.RecoveryPlans.declared.purpose.Purpose.TheVariants as purpose
-pub use Rattle.recovery_permits.specs.ServerModel.Worlds.{World}
+pub use Rattle.recovery_plans.specs.Beginning.{begun_recovery, is_takeover}
+pub use Rattle.recovery_plans.specs.Named.{IsListOf, IsNamedRecovery}
+pub use Rattle.recovery_plans.specs.Recoveries.{Recovery}
+pub use Rattle.recovery_plans.specs.declared.means.Means.TheVariants as means
+pub use Rattle.recovery_plans.specs.declared.purpose.Purpose.{Purpose}
+pub use Rattle.recovery_plans.specs.declared.purpose.Purpose.TheVariants as purpose
+pub use Rattle.permission.specs.ServerModel.Worlds.{World}

@@ -1,7 +1,10 @@
 -- A scan: each instance whose analysis asks for a recovery is tried, in name order, on what the tries before it left.
 use Rattle.std.specs.Prelude.{◌≡◌, ◌<◌, ◌≤◌, ◌^◌, ◌-◌, ℕ, ◌+◌, All, length, Some, Bool, true, false, List, [], ◌∷◌, ◌++◌, filter, fold, slice_index_or, Option, Result, Ok, Err}
-use Rattle.recovery_core.specs.Prelude.{Action, Attempt, AuditState, BookState, Entry, IntermediateRecovery, Line, MasterRecovery, Nothing, Refusal}
-use Rattle.recovery_core.specs.Prelude.{ServerNo, World, action_of, analysis, begun, code_at, label_at, recovery_refusal, taken}
+use Rattle.recovery_core.specs.Prelude.{Action, AuditState, BookState, Entry, IntermediateRecovery, Line, MasterRecovery, Nothing, Refusal, ServerNo, World}
+use Rattle.recovery_core.specs.Prelude.{action_of, analysis, begun, label_at, taken}
+use Rattle.recovery_core.specs.declared.attempt.Attempt.{Attempt}
+use Rattle.recovery_core.specs.Checks.{code_at}
+use Rattle.recovery_core.specs.Recoveries.{recovery_refusal}
 use Rattle.recovery_core.specs.Prelude.line
 use Rattle.recovery_core.specs.declared.scanning.Terms.{Terms}
 use Rattle.recovery_core.specs.Tries.{Begins, recovery_try}

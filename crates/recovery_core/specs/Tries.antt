@@ -1,8 +1,11 @@
 -- Recoveries and takeovers that are tried.
 use Rattle.std.specs.Prelude.{ℕ, false, List, Option, None, Some, Result, Ok, Err}
-use Rattle.recovery_core.specs.Prelude.{Attempt, AuditState, BookState, Code, HookState, Kind, Moment, Recovery, Refusal, ServerNo, UnknownInstance}
-use Rattle.recovery_core.specs.Prelude.{World, begun_recovery, code_at, followers_of, label_at, recovery_list, recovery_purpose, recovery_refusal}
-use Rattle.recovery_core.specs.Prelude.{replicas_of, source_of, takeover_refusal}
+use Rattle.recovery_core.specs.Prelude.{AuditState, BookState, Code, HookState, Kind, Moment, Recovery, Refusal, ServerNo, UnknownInstance, World}
+use Rattle.recovery_core.specs.Prelude.{begun_recovery, label_at, replicas_of, source_of}
+use Rattle.recovery_core.specs.declared.attempt.Attempt.{Attempt}
+use Rattle.recovery_core.specs.Checks.{code_at}
+use Rattle.recovery_core.specs.Takeovers.{followers_of, takeover_refusal}
+use Rattle.recovery_core.specs.Recoveries.{recovery_list, recovery_purpose, recovery_refusal}
 use Rattle.recovery_core.specs.Prelude.KeptRows.{Recovery as KeptRecovery}
 use Rattle.recovery_core.specs.Prelude.ending
 use Rattle.recovery_core.specs.Prelude.kind

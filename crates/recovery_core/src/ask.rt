@@ -4,6 +4,7 @@ ghost use Rattle.std.specs.Prelude.{◌≡◌, ◌<◌, ◌≤◌, ◌-◌, ◌^
 ghost use Rattle.recovery_core.specs.Prelude.{Gives, book_forest, is_within, permit_fault};
 ghost use Rattle.recovery_core.specs.Asks.{attempt_by, try_of};
 
+use crate::attempt::Attempt;
 use crate::audit_log::Audit;
 use crate::commands::Refusal;
 use crate::instance_keeper_items::Book;
@@ -13,7 +14,6 @@ use crate::takeover::try_takeover;
 use crate::topology_tree::Forest;
 use crate::tries::try_recovery;
 use crate::{Begun, PermitFault};
-use recovery_permits::Attempt;
 use std::alloc::Global;
 
 /// With what the recovery of a server, or the takeover of its place, is asked to begin. Moments are at most 2^63.

@@ -35,7 +35,8 @@ impl Begun {
         entry: Recovery,
         code: Option<Code>,
     ) -> Begun
-        ensures { result ≡ record { list = list.items; job = job; entry = entry; code = code; hooks = None } }
+        ensures { result
+            ≡ record { list = list.items; job = job; entry = entry; code = code; hooks = None } }
     {
         Begun {
             list,

@@ -1,7 +1,8 @@
 //! The analysis of the instances of a book.
 
 ghost use Rattle.std.specs.Prelude.{◌≡◌, ◌<◌, ◌==◌, All, IfOk, filter, find, length, option_map};
-ghost use Rattle.recovery_core.specs.Prelude.{action_of, code_at};
+ghost use Rattle.recovery_core.specs.Prelude.{action_of};
+ghost use Rattle.recovery_core.specs.Checks.{code_at};
 ghost use Rattle.recovery_core.specs.Scans.{actionable_in, is_asked, IsEntryIn};
 
 use crate::Memory;

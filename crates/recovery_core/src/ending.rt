@@ -6,7 +6,7 @@ ghost use Rattle.recovery_core.specs.Endings.{done_with, ending_with, is_acknowl
 
 use crate::operations_items::JobStep;
 use crate::orch_base::{CauseName, Ending, ServerNo};
-use crate::recovery_plans_items::Purpose;
+use recovery_plans::Purpose;
 
 fn done_with(promoted: Option<ServerNo>) -> Ending
     ensures { result ≡ done_with promoted }

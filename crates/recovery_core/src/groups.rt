@@ -19,7 +19,7 @@ pub(crate) struct Group {
 
 impl Model for Group {
     ghost use Rattle.std.specs.Prelude.{List};
-    ghost use Rattle.recovery_permits.specs.OrchBase.declared.server.ServerNo.{ServerNo as Number};
+    ghost use Rattle.permission.specs.OrchBase.declared.server.ServerNo.{ServerNo as Number};
 
     ghost Value = { List Number };
 

@@ -1,9 +1,10 @@
 //! What holds of tries, scans and endings, over their definitions alone.
 
 ghost use Rattle.std.specs.Prelude.{◌≡◌, ◌<◌, ◌≤◌, ◌+◌, ◌++◌, ◌∷◌, ℕ, [], All, Err, List, None, Ok, Option, Some, length, false, true};
-ghost use Rattle.recovery_core.specs.Prelude.{Attempt as AnAttempt, AuditState, BookState, Ending, Entry as AnEntry, IsApart, IsBook};
-ghost use Rattle.recovery_core.specs.Prelude.{JobStep as AStep, Moment as AMoment, Nothing, Recovery, Refusal as ARefusal, ServerNo as Number, World};
-ghost use Rattle.recovery_core.specs.Prelude.{action_of, analysis, begun, ended, is_going, is_open, is_takeover, label_at, longest_block};
+ghost use Rattle.recovery_core.specs.Prelude.{AuditState, BookState, Ending, Entry as AnEntry, IsApart, IsBook, JobStep as AStep, Moment as AMoment, Nothing};
+ghost use Rattle.recovery_core.specs.Prelude.{Recovery, Refusal as ARefusal, ServerNo as Number, World, action_of, analysis, begun, ended, is_going, is_open};
+ghost use Rattle.recovery_core.specs.Prelude.{is_takeover, label_at, longest_block};
+ghost use Rattle.recovery_core.specs.declared.attempt.Attempt.{Attempt as AnAttempt};
 ghost use Rattle.recovery_core.specs.Prelude.line;
 ghost use Rattle.recovery_core.specs.Begun.{audit_after, leases_after, BeginInTurn, CanBegin};
 ghost use Rattle.recovery_core.specs.Endings.{ending_of, is_acknowledged};

@@ -4,6 +4,7 @@ ghost use Rattle.std.specs.Prelude.{◌≡◌, ◌<◌, ◌≤◌, ◌^◌, ℕ,
 ghost use Rattle.recovery_core.specs.Prelude.{longest_block};
 ghost use Rattle.recovery_core.specs.Scans.{attempt_of, scanned, HasRoom};
 
+use crate::attempt::Attempt;
 use crate::audit_log::{Audit, Periods};
 use crate::book_views::label_at;
 use crate::codes::actionable_entries;
@@ -14,7 +15,6 @@ use crate::orch_base::{Moment, ServerNo};
 use crate::server_model::World;
 use crate::stage::Stage;
 use crate::{Memory, Scan};
-use recovery_permits::Attempt;
 use std::alloc::Global;
 
 /// What a scan goes by, beside the book, the audit, the servers' settings and the filters.
@@ -54,7 +54,7 @@ fn attempt_of<P: Periods>(
         by_intermediate: answer_at(by_intermediate, no),
         enabled: terms.enabled,
         by_hand: false,
-        block: periods.period(label_at(book, no).as_str()),
+        block: periods.period(no, label_at(book, no).as_str()),
         now: terms.now,
     }
 }

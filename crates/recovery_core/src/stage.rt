@@ -1,18 +1,20 @@
 //! How far a scan has come.
 
 ghost use Rattle.std.specs.Prelude.{◌≡◌, ◌<◌, ◌≤◌, ◌-◌, ◌^◌, All, Err, IfOk, None, Ok, OnOk, length, slice_index_or};
-ghost use Rattle.recovery_core.specs.Prelude.{MayBegin, busy_by, first_about, longest_block, recovery_list, replicas_of, taken};
+ghost use Rattle.recovery_core.specs.Prelude.{MayBegin, busy_by, first_about, longest_block, replicas_of, taken};
+ghost use Rattle.recovery_core.specs.Recoveries.{recovery_list};
 ghost use Rattle.recovery_core.specs.Scans.{after_try, from_start, staged_refusal, staged_try, HasRoom, IsEntryIn, IsReady};
 
-use crate::audit_log::Audit;
+use crate::attempt::Attempt;
+use crate::audit_log::{Audit, Extended};
 use crate::commands::{Line, Lines, Refusal};
 use crate::failure_analysis::Entry;
 use crate::instance_keeper_items::Book;
 use crate::orch_base::ServerNo;
+use crate::recoveries::{recovery_servers, refusal_by_code};
 use crate::server_model::World;
 use crate::tries::recovery_begins;
 use crate::{Begun, Memory};
-use recovery_permits::{Attempt, recovery_servers, refusal_by_code};
 use std::alloc::Global;
 use std::marker::Model;
 
@@ -66,15 +68,15 @@ pub struct Scan {
 /// How far a scan has come: the leases and the audit with what it has begun, the number of the last job, and what it
 /// answers and begins.
 #[derive(Drop)]
-pub(crate) struct Stage {
+pub(crate) struct Stage<'a> {
     leases: Vec<Option<u64>>,
-    audit: Audit,
+    audit: Extended<'a>,
     last: u64,
     lines: Vec<Line>,
     begun: Vec<Begun>,
 }
 
-impl Model for Stage {
+impl<'a> Model for Stage<'a> {
     ghost use Rattle.recovery_core.specs.Scans.{Staged};
 
     ghost Value = { Staged };
@@ -82,20 +84,20 @@ impl Model for Stage {
     ghost view = { λ a. record { leases = a.leases.items; audit = a.audit.audit; last = a.last; lines = a.lines.items; begun = a.begun.items } };
 }
 
-impl Stage {
+impl<'a> Stage<'a> {
     /// Nothing has been tried.
     pub(crate) fn begin(
         alloc: Global,
         book: &Book,
-        audit: &Audit,
+        audit: &'a Audit,
         last: u64,
-    ) -> Result<Stage, Memory>
+    ) -> Result<Stage<'a>, Memory>
         ensures stage { IfOk result (λ s. s ≡ from_start book.now audit.now.audit last) }
         ensures count { IfOk result (λ s. length s.leases ≡ length book.now.names) }
     {
         Ok(Stage {
             leases: leases_of(alloc, book)?,
-            audit: audit.copy(alloc)?,
+            audit: Extended::of(alloc, audit)?,
             last,
             lines: Vec::new(alloc),
             begun: Vec::new(alloc),
@@ -204,8 +206,8 @@ impl Stage {
     }
 
     pub(crate) fn into_scan(self) -> Scan
-        ensures lines { result.lines ≡ self.lines }
-        ensures begun { result.begun.items ≡ self.begun }
+        ensures lines { result.lines ≡ self.entry.lines }
+        ensures begun { result.begun.items ≡ self.entry.begun }
     {
         Scan {
             lines: Lines::new(self.lines),

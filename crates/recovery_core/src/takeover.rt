@@ -1,16 +1,18 @@
 //! The takeover of a master's place, as it is tried.
 
 ghost use Rattle.std.specs.Prelude.{◌≡◌, ◌<◌, ◌≤◌, ◌-◌, ◌^◌, All, IfOk, length};
-ghost use Rattle.recovery_core.specs.Prelude.{Gives, book_forest, followers_of, permit_fault, replicas_of};
+ghost use Rattle.recovery_core.specs.Prelude.{Gives, book_forest, permit_fault, replicas_of};
+ghost use Rattle.recovery_core.specs.Takeovers.{followers_of};
 ghost use Rattle.recovery_core.specs.Asks.{takeover_try_of};
 ghost use Rattle.recovery_core.specs.Tries.{takeover_begins};
 
 use crate::book_views::replicas;
 use crate::orch_base::{Kind, ServerNo};
-use crate::recovery_plans_items::{Means, Purpose};
+use crate::recoveries::recovery_servers;
+use crate::takeovers::{followers_of, permit_takeover};
 use crate::tries::entry_of;
 use crate::{Ask, Begun, Memory, PermitFault};
-use recovery_permits::{followers_of, permit_takeover, recovery_servers};
+use recovery_plans::{Means, Purpose};
 use recovery_turns::RecoveryJob;
 use std::alloc::Global;
 

@@ -1,38 +1,41 @@
 //! The recovery of a server, as it is tried.
 
 ghost use Rattle.std.specs.Prelude.{◌≡◌, ◌<◌, ◌≤◌, ◌-◌, ◌^◌, All, IfOk, length};
-ghost use Rattle.recovery_core.specs.Prelude.{Gives, book_forest, code_at, permit_fault, recovery_list, replicas_of};
+ghost use Rattle.recovery_core.specs.Prelude.{Gives, book_forest, permit_fault, replicas_of};
+ghost use Rattle.recovery_core.specs.Checks.{code_at};
+ghost use Rattle.recovery_core.specs.Recoveries.{recovery_list};
 ghost use Rattle.recovery_core.specs.Asks.{recovery_try_of};
 ghost use Rattle.recovery_core.specs.Tries.{entry_of, recovery_begins, recovery_kind};
 
-use crate::audit_log::Audit;
+use crate::audit_log::AuditView;
 use crate::book_views::{label_at, replicas};
 use crate::codes::code_at;
 use crate::instance_keeper_items::{Book, Recovery};
 use crate::orch_base::{Code, Ending, Kind, Moment, ServerNo};
 use crate::permission_items::source;
-use crate::recovery_plans_items::Means;
+use crate::recoveries::{permit_recovery, recovery_purpose, recovery_servers};
 use crate::{Ask, Begun, Memory, PermitFault};
-use recovery_permits::{permit_recovery, recovery_purpose, recovery_servers};
+use recovery_plans::Means;
 use recovery_turns::RecoveryJob;
 use std::alloc::Global;
 
 /// The entry of a recovery that begins, with this block period. `Err` means out of memory. It also comes if the audit
 /// has no id left.
-pub(crate) fn entry_of(
+pub(crate) fn entry_of<A: AuditView>(
     alloc: Global,
     book: &Book,
-    audit: &Audit,
+    audit: &A,
     now: Moment,
     block: u64,
     kind: Kind,
     failed: ServerNo,
 ) -> Result<Recovery, Memory>
     requires { failed.0 < length book.now.names }
-    ensures entry { IfOk result (λ r. r ≡ entry_of book.now audit.now.audit now block kind failed) }
+    ensures entry { IfOk result (λ r. r
+        ≡ entry_of book.now (A.seen audit.now) now block kind failed) }
     ensures room { IfOk result (λ r. r.id < 2 ^ 64 - 1) }
 {
-    let id = audit.next();
+    let id = audit.next_id();
     if id == u64::MAX {
         return Err(Memory);
     }
@@ -60,10 +63,10 @@ fn recovery_kind(book: &Book, failed: ServerNo) -> Kind
 
 /// The recovery of a server with this analysis, as the job of this number, whose operations may wait so often each. It
 /// has the servers of which it takes the leases, and its replicas.
-pub(crate) fn recovery_begins(
+pub(crate) fn recovery_begins<A: AuditView>(
     alloc: Global,
     book: &Book,
-    audit: &Audit,
+    audit: &A,
     now: Moment,
     block: u64,
     wait: u32,
@@ -78,7 +81,7 @@ pub(crate) fn recovery_begins(
     requires list { list.items ≡ recovery_list book.now failed }
     requires replicas { replicas.items ≡ replicas_of book.now failed }
     ensures begins { IfOk result (λ x. x
-        ≡ recovery_begins book.now audit.now.audit now block wait job failed) }
+        ≡ recovery_begins book.now (A.seen audit.now) now block wait job failed) }
     ensures room { IfOk result (λ x. x.entry.id < 2 ^ 64 - 1) }
 {
     let entry = entry_of(

@@ -3,10 +3,10 @@ use Rattle.std.proofs.Common.{◌≡◌, ℕ, ◌+◌, ◌<◌, Bool, true, fals
 use Rattle.std.specs.Prelude.{◌==◌, IfSome}
 use Rattle.recovery_covers.proofs.Prelude.{All, All-append, All-chosen, All-cons, All-filter, All-head, All-nil, All-tail, All-weaker, Awaits}
 use Rattle.recovery_covers.proofs.Prelude.{BookState, Bridge, CoversAt, Follower, FollowsBy, Group, IsApart, IsSourced, LostReplica, Lot, Means}
-use Rattle.recovery_covers.proofs.Prelude.{Moment, Purpose, Recovery, ServerNo, Stopped, Task, World, and_parts, choose, chooses, chosen_of, decides}
-use Rattle.recovery_covers.proofs.Prelude.{expels, false≢true, first_source, ground_of, group_of, in_order, is_intermediate, leader, listed}
-use Rattle.recovery_covers.proofs.Prelude.{losses_in, lost_nos, lot_by, lot_by_group, move_of, moves_in, of_queue, of_task, owed, own_end_of, stay_of}
-use Rattle.recovery_covers.proofs.Prelude.{stopped_nos, target, times, total, without_stopped}
+use Rattle.recovery_covers.proofs.Prelude.{Moment, Purpose, Recovery, ServerNo, Stopped, Task, World, and_parts, choose, chooses, chosen_of}
+use Rattle.recovery_covers.proofs.Prelude.{decides, expels, false≢true, first_source, ground_of, group_of, in_order, is_intermediate, leader}
+use Rattle.recovery_covers.proofs.Prelude.{listed, losses_in, lost_nos, lot_by, lot_by_group, move_of, moves_in, of_queue, of_task, owed}
+use Rattle.recovery_covers.proofs.Prelude.{own_end_of, stay_of, stopped_nos, target, times, total, without_stopped}
 use Rattle.recovery_covers.proofs.Prelude.deciding
 use Rattle.recovery_covers.proofs.Prelude.group
 use Rattle.recovery_covers.proofs.Prelude.means
@@ -96,13 +96,13 @@ module _ (f : ServerNo) (lot : Stopped → Lot) where
       go (deciding.Stays why) h = h
 
   module _ (w : World) (p : ServerNo) (each : (s : Stopped) → IsLotOf p (lot s)) where
-    moves-await : (r : Recovery) → r.chosen ≡ Some p → (ss : List Stopped) → All (λ s. IsSourced w s.no.0) ss → All (Awaits w r) (moves_in lot ss)
-    moves-await r chosen [] all = All-nil (Awaits w r)
-    moves-await r chosen (s ∷ ss) all =
-        go (lot s) (each s) (All-head (λ (x : Stopped). IsSourced w x.no.0) s ss all) (moves-await r chosen ss (All-tail (λ (x : Stopped). IsSourced w x.no.0) s ss all))
+    moves-await : (r : Recovery) → r.chosen ≡ Some p → is_intermediate r.purpose ≡ false → (ss : List Stopped) → All (λ s. IsSourced w s.no.0) ss → All (Awaits w r) (moves_in lot ss)
+    moves-await r chosen far [] all = All-nil (Awaits w r)
+    moves-await r chosen far (s ∷ ss) all =
+        go (lot s) (each s) (All-head (λ (x : Stopped). IsSourced w x.no.0) s ss all) (moves-await r chosen far ss (All-tail (λ (x : Stopped). IsSourced w x.no.0) s ss all))
       where
         go : (x : Lot) → IsLotOf p x → IsSourced w s.no.0 → All (Awaits w r) (moves_in lot ss) → All (Awaits w r) (move_of s x ++ moves_in lot ss)
-        go (deciding.Goes by) is sourced rest = All-cons (Awaits w r) (task.Moving s.no by) (moves_in lot ss) (chosen ∙ ap Some (sym is), sourced) rest
+        go (deciding.Goes by) is sourced rest = All-cons (Awaits w r) (task.Moving s.no by) (moves_in lot ss) (chosen ∙ ap Some (sym is), sourced, far) rest
         go (deciding.Stays why) is sourced rest = rest
 
     losses-sourced : (u : Purpose) (ss : List Stopped) → All (λ s. IsSourced w s.no.0) ss → All (λ l. expels u (Some l.why) ≡ true → IsSourced w l.no.0) (losses_in lot ss)
@@ -218,7 +218,7 @@ module _ (w : World) (b : BookState) (now : Moment) (r : Recovery) (ts : List Ta
     leads = inl refl;
     drained = All-nil (λ (s : Stopped). IsSourced w s.no.0);
     queue =
-        All-append (Awaits w after) (moves_in lot rest) ts (moves-await r.failed lot w p.no each after refl rest sourced-rest)
+        All-append (Awaits w after) (moves_in lot rest) ts (moves-await r.failed lot w p.no each after refl (unnamed-apart r.purpose free) rest sourced-rest)
         (All-weaker (Awaits w r) (Awaits w after) awaits-on ts (All-tail (Awaits w r) task.Choosing ts c.queue));
     stage = tt;
     attached = c.attached;

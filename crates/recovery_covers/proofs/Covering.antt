@@ -43,7 +43,7 @@ pub record SameWay (r r' : Recovery) : Type 0 where
 
 module _ (w w' : World) (r r' : Recovery) (same : SameWay r r') (f : ServerNo) (lost : (n : ℕ) → 0 < times n (lost_nos r.outcome.lost) → IsSourced w n → IsSourced w' n) where
   task-on : (t : Task) → ((n : ℕ) → 0 < times n (of_task f t) → IsSourced w n → IsSourced w' n) → Awaits w r t → Awaits w' r' t
-  task-on (task.Moving n by) on h = (same.chosen ∙ h.0, on n.0 (self-times n []) h.1)
+  task-on (task.Moving n by) on h = (same.chosen ∙ h.0, on n.0 (self-times n []) h.1, ap is_intermediate same.purpose ∙ h.2)
   task-on (task.Expelling n) on h = (same.lost n.0 h.0, lost n.0 h.0 h.1)
   task-on task.Handing on h = ap is_intermediate same.purpose ∙ h
   task-on (task.Trailing n) on h = ap is_takeover same.purpose ∙ h

@@ -8,9 +8,17 @@ pub mod Decided
 pub mod Completing
 pub mod Turning
 pub mod Begun
-pub use Rattle.recovery_laws.proofs.BinlogCoords as BinlogCoords
+pub mod Done
+pub mod Running
+pub mod Placing
+pub mod Examples
+pub mod Telling
+pub mod Making
+pub mod Doing
+pub mod Staying
+pub mod Ordering
+pub mod Keeping
 pub use Rattle.recovery_laws.proofs.JobLaws as JobLaws
-pub use Rattle.recovery_laws.proofs.PromotionRules as PromotionRules
 pub use Rattle.recovery_laws.proofs.RecoveryEnds as RecoveryEnds
 pub mod RecoveryLaws
 pub use Rattle.recovery_laws.proofs.RecoveryPlans as RecoveryPlans

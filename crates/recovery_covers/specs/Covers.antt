@@ -103,10 +103,11 @@ pub record HasSwapped (r : Recovery) : Type 0 where
   pub master : is_master r.purpose ≡ true
   pub follows : Contains r.outcome.followers (record { no = was; source = is })
 
--- a recovery that is done covers its replicas, and its lines are those of its outcome; the chosen one is promoted, or
--- was; and nothing comes after that stage
+-- A recovery that is done covers its replicas, and its lines are those of its outcome. The chosen one is promoted, or
+-- was. Nothing comes after that stage, and no task is left.
 pub record IsTold (w : World) (r : Recovery) (lines : List Line) : Type 0 where
   pub closed : r.stage ≡ stage.Close lines
+  pub over : r.queue ≡ []
   pub covers : Covers w r.purpose r.failed r.replicas r.outcome
   pub told : lines ≡ told r
   pub leads : (r.outcome.promoted ≡ r.chosen) ⊎ HasSwapped r

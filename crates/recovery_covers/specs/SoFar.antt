@@ -128,7 +128,7 @@ IsLost r n = 0 < times n.0 (lost_nos r.outcome.lost)
 
 -- what each task may count on
 abbrev pub Awaits : World → Recovery → Task → Type 0
-Awaits w r (task.Moving n by) = (r.chosen ≡ Some (target by)) × IsSourced w n.0
+Awaits w r (task.Moving n by) = (r.chosen ≡ Some (target by)) × IsSourced w n.0 × (is_intermediate r.purpose ≡ false)
 Awaits w r (task.Expelling n) = IsLost r n × IsSourced w n.0
 Awaits w r task.Handing = is_intermediate r.purpose ≡ true
 Awaits w r (task.Trailing n) = is_takeover r.purpose ≡ true

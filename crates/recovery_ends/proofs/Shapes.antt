@@ -1,20 +1,14 @@
 -- The operations that an attempt leaves of a stage.
-use Rattle.std.proofs.Common.{◌≡◌, ℕ, ◌+◌, Bool, true, false, cond, not, List, [], ◌∷◌, ◌++◌, refl, sym, ◌∙◌, ap, subst, Option, Some, None, Ok, Err, Result, ◌⊎◌, inl, inr, arith}
-use Rattle.std.specs.Prelude.{◌==◌, nat_lt, slice_index_or}
-use Rattle.recovery_ends.proofs.Prelude.{Ask, AttachFault, Attempt, Coord, Deed, Ends, Exchange, Fits, Goes, Job, MatchFault, Moment, Observation, Op}
-use Rattle.recovery_ends.proofs.Prelude.{ServerNo, Spot, Stage, Status, Stops, Unreachable, Way, World, after_answer, after_ask, after_attach}
-use Rattle.recovery_ends.proofs.Prelude.{after_look, after_match, after_status, after_until, after_wait, after_wait_by, aim_of, and_parts, are_still}
-use Rattle.recovery_ends.proofs.Prelude.{attach_answer_of, before, bridge_at, by_deed, by_match, by_set, can_attach, crossed, deed_of, desk_answer}
-use Rattle.recovery_ends.proofs.Prelude.{ends, false≢true, gather, holds_seen, is_due, is_moved, is_reached, is_waiting, match_found, match_logs}
-use Rattle.recovery_ends.proofs.Prelude.{moved, ne_eqb, next, observed, read_by, same_again, saw, seen_in, seen_of, server_at, settles, standing_at}
-use Rattle.recovery_ends.proofs.Prelude.{status, tail_of, until_by, with_match}
-use Rattle.recovery_ends.proofs.Prelude.asking
-use Rattle.recovery_ends.proofs.Prelude.cause
+use Rattle.std.proofs.Common.{◌≡◌, ℕ, ◌+◌, Bool, true, false, not, List, [], ◌∷◌, ◌++◌, refl, sym, ◌∙◌, ap, subst, None, ◌⊎◌, inl, inr, arith}
+use Rattle.std.specs.Prelude.{◌==◌, slice_index_or}
+use Rattle.recovery_ends.proofs.Prelude.{Attempt, Attempts, Deed, Ends, Exchange, Fits, Goes, Job, Moment, Op, ServerNo, Stage, Stops, Way, World}
+use Rattle.recovery_ends.proofs.Prelude.{and_parts, are_still, attempts, before, by_deed, deed_of, ends, false≢true, gather, is_due, is_waiting}
+use Rattle.recovery_ends.proofs.Prelude.{moved, ne_eqb, tail_of}
 use Rattle.recovery_ends.proofs.Prelude.cross
-use Rattle.recovery_ends.proofs.Prelude.deed
 use Rattle.recovery_ends.proofs.Prelude.op
 use Rattle.recovery_ends.proofs.Prelude.stage
 use Rattle.recovery_ends.proofs.Prelude.way
+use Rattle.recovery_ends.proofs.Prelude.doing
 
 -- ---- an attempt that goes on
 
@@ -34,66 +28,18 @@ module _ (j : Job) (rest : List Op) where
     waits = λ h. absurd (false≢true (sym (ap (λ n. not (n == 0)) none) ∙ h));
   }
 
-  look-went : (n : ServerNo) (from : Option ServerNo) (o : Observation) (r : Option Status) → Went j rest (after_look j rest n from o r)
-  look-went n from o None = tt
-  look-went n from o (Some s) = go (is_moved from s.source)
-    where
-      go : (b : Bool) → Went j rest (after_status j rest n from o s b)
-      go true = tt
-      go false = done-went [] (next (saw j n s) rest) refl refl
-
-  ask-went : (n : ServerNo) (a : Ask) (r : Result (Unit {0}) Unreachable) → Went j rest (after_ask j rest n a r)
-  ask-went n a (Ok t) = done-went _ _ refl refl
-  ask-went n a (Err e) = tt
-
-  until-went : (w : World) (n : ServerNo) (o : Option Coord) → Went j rest (after_until w j rest n o)
-  until-went w n None = done-went [] (next j rest) refl refl
-  until-went w n (Some to) = ask-went n (asking.StartUntil to) (desk_answer (server_at w n.0))
-
-  wait-went : (n : ServerNo) (reached : Status → Bool) (r : Option Status) → Went j rest (after_wait j rest n reached r)
-  wait-went n reached None = tt
-  wait-went n reached (Some s) = go (reached s)
-    where
-      more : (b : Bool) → Went j rest (cond b (Goes None [] (record (saw j n s) { waited = j.waited + 1 })) (Stops (cause.WaitSpent n) None))
-      more true = record {
-        done = λ h. absurd (false≢true (sym h ∙ ap not (ne_eqb (j.waited + 1) 0 (λ e. omega (arith, e)))));
-        waits = λ h. (refl, refl);
-      }
-      more false = tt
-
-      go : (b : Bool) → Went j rest (after_wait_by j rest n s b)
-      go true = done-went [] (next (saw j n s) rest) refl refl
-      go false = more (nat_lt (j.waited + 1) j.wait)
-
-  attach-went : (w : World) (n : ServerNo) (o : Option Exchange) → Went j rest (after_attach w j rest n o)
-  attach-went w n None = done-went [] (next j rest) refl refl
-  attach-went w n (Some e) = by (can_attach w e)
-    where
-      go : (r : Result (Unit {0}) AttachFault) → Went j rest (after_answer j rest n e r)
-      go (Ok t) = done-went (e ∷ []) (next j rest) refl refl
-      go (Err f) = tt
-
-      by : (b : Bool) → Went j rest (cond b (after_answer j rest n e (attach_answer_of w e)) (Goes None [] (next j rest)))
-      by true = go (attach_answer_of w e)
-      by false = done-went [] (next j rest) refl refl
-
-  match-went : (n m : ServerNo) (at : Spot) (r : Result Coord MatchFault) → Went j rest (after_match j rest n m at r)
-  match-went n m at (Ok c) = done-went [] (next (with_match j (record { no = n; to = m; spot = at; at = c })) rest) refl refl
-  match-went n m at (Err f) = tt
+  went-by : (w : World) (read : ℕ) (now : Moment) (d : Deed) (a : Attempt) → Attempts w read now j rest d a → Went j rest a
+  went-by w read now d a (doing.Misses n from c why) = tt
+  went-by w read now d a (doing.Fails x c why) = tt
+  went-by w read now d a (doing.Waits n x s is seen short more) = record {
+    done = λ h. absurd (false≢true (sym h ∙ ap not (ne_eqb (j.waited + 1) 0 (λ e. omega (arith, e)))));
+    waits = λ h. (refl, refl);
+  }
+  went-by w read now d a (doing.Finishes lines) = tt
+  went-by w read now d a _ = done-went _ _ refl refl
 
   pub deed-went : (w : World) (read : ℕ) (now : Moment) (d : Deed) → Went j rest (by_deed w read now j rest d)
-  deed-went w read now (deed.Look n from) = look-went n from (observed w read now n) (seen_in (status w n.0))
-  deed-went w read now (deed.Request n a) = ask-went n a (desk_answer (server_at w n.0))
-  deed-went w read now (deed.Until n to) = until-went w n (until_by (seen_of j.seen n.0) (aim_of j.seen to))
-  deed-went w read now (deed.Await n to) = wait-went n (λ s. is_reached (aim_of j.seen to) s.exec) (seen_in (status w n.0))
-  deed-went w read now (deed.AwaitSet n m) = wait-went n (holds_seen (seen_of j.seen m.0)) (seen_in (status w n.0))
-  deed-went w read now (deed.Settle n) = wait-went n (settles j) (seen_in (status w n.0))
-  deed-went w read now (deed.Cross c a b) = attach-went w a (crossed c a (bridge_at (read_by c a b) (seen_of j.seen (read_by c a b).0)))
-  deed-went w read now (deed.Same n) = attach-went w n (same_again n (seen_of j.seen n.0))
-  deed-went w read now (deed.Auto n m) = attach-went w n (by_set n m (seen_of j.seen m.0))
-  deed-went w read now (deed.Match n m every) = match-went n m (standing_at (server_at w n.0)) (match_logs w n m every)
-  deed-went w read now (deed.CrossMatch n m) = attach-went w n (by_match n m (match_found j.matches n m))
-  deed-went w read now (deed.Finish lines) = tt
+  deed-went w read now d = went-by w read now d (by_deed w read now j rest d) (attempts w read now j rest d)
 
 -- ---- the operations of a stage
 

@@ -1,7 +1,7 @@
 //! The names of analyses.
 
 ghost use Rattle.std.specs.Prelude.{◌≡◌};
-ghost use Rattle.recovery_hooks.specs.Analysis.{code_text};
+ghost use Rattle.orch_base.specs.Words.{code_text};
 
 use orch_base::Code;
 

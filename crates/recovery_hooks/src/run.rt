@@ -3,14 +3,15 @@
 use crate::Memory;
 use crate::lines::add_lines;
 use commands::{HookPhase, Line, Lines};
-use hook_texts::{Hook, Hooks, Values};
+use hook_texts::{Hook, SharedHooks, Values};
 use orch_base::Name;
 use std::alloc::Global;
 use std::marker::Model;
 
 /// The hooks of one recovery: the values that they get, and how many have run.
 pub struct HookRun {
-    hooks: Hooks,
+    // Shared with all other recoveries.
+    hooks: SharedHooks,
     // The values that they get until the recovery is done.
     told: Values,
     // Whether the recovery has looked at its failed server.
@@ -49,18 +50,18 @@ impl HookRun {
     ghost use Rattle.std.specs.Option.{option_copied};
     ghost use Rattle.recovery_hooks.specs.Runs.{after_lines, before_lines, begun_hooks, checked, done_lines, due_after, due_before, failed_lines, ran_after, ran_before, unsuccessful_lines, when_done};
 
-    /// The hooks of a recovery that begins, which get these values until it is done. `Memory` comes if memory runs out,
-    /// and if more than 4,294,967,295 are to run before it, or after it.
-    pub fn begin(alloc: Global, hooks: &Hooks, told: Values) -> Result<HookRun, Memory>
+    /// The hooks of a recovery that begins, which get these values until it is done. It shares the hooks. `Memory`
+    /// comes if more than 4,294,967,295 are to run before it, or after it, and if too many recoveries share the hooks.
+    pub fn begin(hooks: &SharedHooks, told: Values) -> Result<HookRun, Memory>
         ensures { IfOk result (λ r. r ≡ begun_hooks hooks.now told) }
     {
-        let before = hooks.pre_failover.as_slice().len();
-        let after = hooks.post_failover.as_slice().len();
+        let before = hooks.all().pre_failover.as_slice().len();
+        let after = hooks.all().post_failover.as_slice().len();
         if before.max(after) > u32::MAX as usize {
             return Err(Memory);
         }
         Ok(HookRun {
-            hooks: hooks.copy(alloc)?,
+            hooks: hooks.share()?,
             told,
             checked: false,
             before: 0,
@@ -73,7 +74,11 @@ impl HookRun {
         ensures { option_copied result ≡ due_before self.now }
     {
         if self.checked {
-            self.hooks.pre_failover.as_slice().get(self.before as usize)
+            self.hooks
+                .all()
+                .pre_failover
+                .as_slice()
+                .get(self.before as usize)
         } else {
             None
         }
@@ -84,7 +89,11 @@ impl HookRun {
         ensures { option_copied result ≡ due_after self.now }
     {
         if self.checked {
-            self.hooks.post_failover.as_slice().get(self.after as usize)
+            self.hooks
+                .all()
+                .post_failover
+                .as_slice()
+                .get(self.after as usize)
         } else {
             None
         }
@@ -125,7 +134,7 @@ impl HookRun {
     fn add_before(&self, alloc: Global, lines: &mut Vec<Line>) -> Result<(), Memory>
         ensures { OnOk result (lines.new.items ≡ lines.old.items ++ before_lines self.now) }
     {
-        let hooks = &self.hooks.pre_failover.as_slice()[..self.before as usize];
+        let hooks = &self.hooks.all().pre_failover.as_slice()[..self.before as usize];
         add_lines(alloc, lines, HookPhase::PreFailover, &self.told, hooks)
     }
 
@@ -133,7 +142,7 @@ impl HookRun {
     fn add_unsuccessful(&self, alloc: Global, lines: &mut Vec<Line>) -> Result<(), Memory>
         ensures { OnOk result (lines.new.items ≡ lines.old.items ++ unsuccessful_lines self.now) }
     {
-        let hooks = self.hooks.post_unsuccessful.as_slice();
+        let hooks = self.hooks.all().post_unsuccessful.as_slice();
         add_lines(alloc, lines, HookPhase::PostUnsuccessful, &self.told, hooks)
     }
 
@@ -172,7 +181,7 @@ impl HookRun {
         ensures { IfOk result (λ l. l ≡ failed_lines (ran_before self.now)) }
     {
         let mut lines = Vec::new(alloc);
-        let hooks = &self.hooks.pre_failover.as_slice()[..self.before as usize + 1];
+        let hooks = &self.hooks.all().pre_failover.as_slice()[..self.before as usize + 1];
         add_lines(alloc, &mut lines, HookPhase::PreFailover, &self.told, hooks)?;
         self.add_unsuccessful(alloc, &mut lines)?;
         Ok(Lines::new(lines))
@@ -190,7 +199,7 @@ impl HookRun {
             ≡ lines ++ done_lines self.now (option_copied promoted.entry)) }
     {
         let values = self.when_done(alloc, promoted)?;
-        let hooks = &self.hooks.post_failover.as_slice()[..self.after as usize];
+        let hooks = &self.hooks.all().post_failover.as_slice()[..self.after as usize];
         let mut lines = lines.into_vec();
         self.add_before(alloc, &mut lines)?;
         add_lines(alloc, &mut lines, HookPhase::PostFailover, &values, hooks)?;

@@ -1,8 +1,8 @@
 -- Recoveries that begin.
 use Rattle.recovery_laws.proofs.Prelude.{All, All-cons, All-nil, HeldRecovery, IsPlaced, IsReady, IsReadyStage, IsSoundStage, IsSoundStop}
-use Rattle.recovery_laws.proofs.Prelude.{IsSoundTask, IsStopped, Means, Meets, Purpose, ServerNo, SoundRecovery, World, are_held, are_matched}
-use Rattle.recovery_laws.proofs.Prelude.{begun-fits as first-fits, begun_recovery, but, first-all, first_ops, first_stage, footing}
-use Rattle.recovery_laws.proofs.Prelude.{matched_in}
+use Rattle.recovery_laws.proofs.Prelude.{IsSoundTask, IsStopped, Means, Meets, NamesLogging, Purpose, ServerNo, SoundRecovery, World, are_held}
+use Rattle.recovery_laws.proofs.Prelude.{are_matched, begun-fits as first-fits, begun_recovery, but, first-all, first_ops, first_stage}
+use Rattle.recovery_laws.proofs.Prelude.{footing, matched_in}
 use Rattle.recovery_laws.proofs.Prelude.purpose
 use Rattle.recovery_laws.proofs.Prelude.stage
 use Rattle.std.proofs.Common.{◌≡◌, ℕ, true, List, [], ◌∷◌, refl}
@@ -25,14 +25,16 @@ first-free : (u : Purpose) (f : ServerNo) → are_matched (matched_in []) (first
 first-free purpose.Regroup f = refl
 first-free _ f = refl
 
-pub begun-held : (w : World) (u : Purpose) (by : Means) (id wait : ℕ) (f : ServerNo) (ns order : List ServerNo) → HeldRecovery w (begun_recovery u by id wait f ns order)
-begun-held w u by id wait f ns order = record {
+pub begun-held : (w : World) (u : Purpose) (by : Means) (id wait : ℕ) (f : ServerNo) (ns order : List ServerNo) → NamesLogging w u
+    → HeldRecovery w (begun_recovery u by id wait f ns order)
+begun-held w u by id wait f ns order logs = record {
   core = record { left = first-held w u f; shown = λ n s h. cc; matched = first-free u f; ends = All-nil (IsPlaced w) };
   stage = first-ready w u f;
   fits = first-fits u f;
   queue = first-all (IsReady w []) tt tt tt u ns (λ n e. tt) (each (λ n. Unit {0}) ns (λ n. tt)) (λ d. each (λ n. Unit {0}) (but ns d) (λ n. tt)) (λ d e. tt);
   drained = All-nil (IsStopped w [] f);
   lead = tt;
+  named = logs;
 }
 
 first-sound : (w : World) (u : Purpose) (f : ServerNo) → IsSoundStage w (first_stage u f)

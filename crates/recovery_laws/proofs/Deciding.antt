@@ -37,6 +37,7 @@ module _ (w : World) where
     queue = held.queue;
     drained = held.drained;
     lead = held.lead;
+    named = held.named;
   }
 
   -- the bridge's reading has what a reattachment by it uses
@@ -78,6 +79,7 @@ module _ (w : World) where
     queue = queue-more w r.core.seen (with_way r.core.seen by) (way-read r.core.seen by) r.queue held.queue;
     drained = stopped-more w r.core.seen (with_way r.core.seen by) (way-read r.core.seen by) r.failed r.drained held.drained;
     lead = held.lead;
+    named = held.named;
   }
 
 module _ (w : World) (b : BookState) (now : Moment) (rings : HeldRings w b.rings) where
@@ -112,6 +114,7 @@ module _ (w : World) (b : BookState) (now : Moment) (rings : HeldRings w b.rings
     queue = queue;
     drained = drained;
     lead = held.lead;
+    named = held.named;
   }
 
   next-held : (r : Recovery) (t : Task) (ts : List Task) → IsNext r t ts → HeldRecovery w r → IsReady w r.core.seen t × HeldRecovery w (record r { queue = ts })
@@ -178,6 +181,7 @@ module _ (w : World) (b : BookState) (now : Moment) (rings : HeldRings w b.rings
         queue = queue-more w r.core.seen (with_bridge r.core.seen x) (saw-read r.core.seen x.no (sight_of x)) ts h.queue;
         drained = stopped-more w r.core.seen (with_bridge r.core.seen x) (saw-read r.core.seen x.no (sight_of x)) r.failed r.drained held.drained;
         lead = held.lead;
+        named = held.named;
       }
   decides-held r (by.Sticks t ts) g held = queued-held r [] r.drained held (All-nil (IsReady w r.core.seen)) held.drained
   decides-held r (by.Chooses p ts) (next, e) held = chooses-held (record r { queue = ts }) p (next-held r task.Choosing ts next held).1 e

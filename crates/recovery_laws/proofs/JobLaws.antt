@@ -12,4 +12,5 @@ pub use Rattle.job_laws.proofs.Passages
 pub use Rattle.job_laws.proofs.Passing
 pub use Rattle.job_laws.proofs.Showing
 pub use Rattle.job_laws.proofs.Spanning
+pub use Rattle.job_laws.proofs.Stopped
 pub use Rattle.job_laws.proofs.Turns

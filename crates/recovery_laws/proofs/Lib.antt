@@ -11,6 +11,8 @@ pub mod Ringed
 pub mod Observing
 pub mod Passing
 pub mod Beside
+pub mod Standing
+pub mod Effects
 pub use Rattle.recovery_plans.proofs.BinlogCoords as BinlogCoords
 pub mod JobLaws
 pub use Rattle.recovery_plans.proofs.OperationsProofs as OperationsProofs

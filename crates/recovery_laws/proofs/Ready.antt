@@ -2,13 +2,14 @@
 use Rattle.std.proofs.Common.{◌≡◌, ℕ, true, List, refl, sym, ◌∙◌, ap, subst, Option, Some, None}
 use Rattle.std.specs.Prelude.{IfSome}
 use Rattle.recovery_laws.proofs.Prelude.{All, All-weaker, AllAllowed, AllShow, Bridge, Coord, Exchange, Grows-run, IsLead, IsReady, IsReadyStage}
-use Rattle.recovery_laws.proofs.Prelude.{IsReadyWay, IsStopped, IsTarget, Placed, ServerNo, Settings, ShowsAt, Sight, Spans, Spans-run, Stage}
-use Rattle.recovery_laws.proofs.Prelude.{Stopped, Task, Way, World, false≢true, gtid-run, logs-on, logs_by, run, same_Some, sight_of, stopped_bridge}
-use Rattle.recovery_laws.proofs.Prelude.{with-one, with_bridge, with_way}
-use Rattle.recovery_laws.proofs.Prelude.JobLaws.{logs_at}
+use Rattle.recovery_laws.proofs.Prelude.{IsReadyWay, IsStopped, IsTarget, NamesLogging, Placed, Purpose, ServerNo, Settings, ShowsAt, Sight, Spans}
+use Rattle.recovery_laws.proofs.Prelude.{Spans-run, Stage, Stopped, Task, Way, World, false≢true, gtid-run, logs-on, logs_by, run, same_Some}
+use Rattle.recovery_laws.proofs.Prelude.{sight_of, stopped_bridge, with-one, with_bridge, with_way}
+use Rattle.recovery_laws.proofs.Prelude.purpose
 use Rattle.recovery_laws.proofs.Prelude.stage
 use Rattle.recovery_laws.proofs.Prelude.task
 use Rattle.recovery_laws.proofs.Prelude.way
+use Rattle.recovery_laws.proofs.Prelude.JobLaws.{logs_at}
 use Rattle.recovery_laws.proofs.StaysRead.{StaysRead, saw-read}
 
 -- ---- a bridge as a reading
@@ -92,6 +93,12 @@ module _ (w : World) (es : List Exchange) (placed : Placed w) (allowed : AllAllo
   pub lead-run : (f : ServerNo) (o : Option Bridge) → IfSome o (IsLead w f) → IfSome o (IsLead (run w es) f)
   lead-run f None h = h
   lead-run f (Some b) h = record { spans = spans-run b h.spans; below = h.below }
+
+  pub named-run : (u : Purpose) → NamesLogging w u → NamesLogging (run w es) u
+  named-run (purpose.Intermediate s) h = logs-run s.0 h
+  named-run (purpose.Takeover d) h = logs-run d.0 h
+  named-run purpose.Regroup h = tt
+  named-run _ h = tt
 
   pub stage-run : (s : Stage) → IsReadyStage w s → IsReadyStage (run w es) s
   stage-run (stage.Look n b) h = spans-run b h

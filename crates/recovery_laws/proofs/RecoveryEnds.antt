@@ -1,4 +1,3 @@
 -- What is passed on of recovery_ends: lemmas that are cited above.
-pub use Rattle.recovery_ends.proofs.Ended
 pub use Rattle.recovery_ends.proofs.Fitting
 pub use Rattle.recovery_ends.proofs.Shapes

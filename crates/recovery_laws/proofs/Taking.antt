@@ -19,7 +19,7 @@ use Rattle.recovery_laws.proofs.Prelude.stage
 use Rattle.recovery_laws.proofs.Prelude.way
 use Rattle.recovery_laws.proofs.Choosing.{self}
 use Rattle.recovery_laws.proofs.Deciding.{decides-held, moving-held, working-held}
-use Rattle.recovery_laws.proofs.Ready.{bridge-shown, queue-more, stopped-more, queue-run, stopped-run, lead-run, stage-run}
+use Rattle.recovery_laws.proofs.Ready.{bridge-shown, queue-more, stopped-more, queue-run, stopped-run, lead-run, named-run, stage-run}
 use Rattle.recovery_laws.proofs.StaysRead.{Reads, StaysRead, deed-reads, saw-read}
 
 -- ---- what others do
@@ -32,6 +32,7 @@ others-held w es r placed allowed held = record {
   queue = queue-run w es placed allowed r.core.seen r.queue held.queue;
   drained = stopped-run w es placed allowed r.core.seen r.failed r.drained held.drained;
   lead = lead-run w es placed allowed r.failed r.lead held.lead;
+  named = named-run w es placed allowed r.purpose held.named;
 }
 
 -- ---- operations with `Held`
@@ -58,7 +59,7 @@ source-is (Some m) f h = ap Some (eqb-true m f.0 h)
 module _ (w : World) where
   with-stage : (r : Recovery) (s : Stage) → HeldRecovery w r → IsReadyStage w s → Fits s r.core.ops → HeldRecovery w (record r { stage = s })
   with-stage r s held ready fits =
-      record { core = held.core; stage = ready; fits = fits; queue = held.queue; drained = held.drained; lead = held.lead }
+      record { core = held.core; stage = ready; fits = fits; queue = held.queue; drained = held.drained; lead = held.lead; named = held.named }
 
   idle-held : (r : Recovery) → HeldRecovery w r → r.core.ops ≡ [] → HeldRecovery w (idle r)
   idle-held r held none = with-stage r stage.Idle held tt (record { front = []; still = refl; is = none; due = λ h. cc })
@@ -100,6 +101,7 @@ module _ (w : World) where
     queue = queue-more w r.core.seen (with_bridge r.core.seen b) (saw-read r.core.seen b.no (sight_of b)) r.queue held.queue;
     drained = stopped-more w r.core.seen (with_bridge r.core.seen b) (saw-read r.core.seen b.no (sight_of b)) r.failed r.drained held.drained;
     lead = held.lead;
+    named = held.named;
   }
 
   close-held : (r : Recovery) (u : Purpose) (n : ServerNo) → HeldRecovery w r → HeldRecovery w (closing r (last_looks r u n))
@@ -125,13 +127,14 @@ module _ (w : World) where
         queue = held.queue;
         drained = All-push (IsStopped w r.core.seen r.failed) r.drained _ held.drained (stopped-by r n s held may.1 may.2);
         lead = held.lead;
+        named = held.named;
       }
   completes-held r (by.Loses n why) none may held = idle-held (loses r n why) held none
   completes-held r (by.Frees n why) none may held = frees-held r n why held
   completes-held r (by.Follows n p) none may held = idle-held (follows r n p) held none
   completes-held r (by.Marks n) none may held = idle-held r held none
   completes-held r (by.Leads d) none may held =
-      let i = idle-held r held none in record { core = i.core; stage = tt; fits = i.fits; queue = i.queue; drained = i.drained; lead = lead-held r d held }
+      let i = idle-held r held none in record { core = i.core; stage = tt; fits = i.fits; queue = i.queue; drained = i.drained; lead = lead-held r d held; named = i.named }
   completes-held r (by.Trails n x) none may held = trail-held r n x held (ready-of r (stage.Looked n x) may.0 held) (was-seen r.failed (seen_of r.core.seen n.0) may.1)
   completes-held r (by.Joins n x) none may held = moving-held w r n (way.Down x) held (ready-of r (stage.Halted n x) may.0 held)
   completes-held r (by.Swaps p q) none may held =
@@ -171,6 +174,7 @@ module _ (w : World) (read : ℕ) (now : Moment) (r : Recovery) (o : Op) (rest :
       queue = queue-more (run w es) r.core.seen j.seen reads r.queue (queue-run w es placed allowed r.core.seen r.queue held.queue);
       drained = stopped-more (run w es) r.core.seen j.seen reads r.failed r.drained (stopped-run w es placed allowed r.core.seen r.failed r.drained held.drained);
       lead = lead-run w es placed allowed r.failed r.lead held.lead;
+      named = named-run w es placed allowed r.purpose held.named;
     }
 
     pub stepped-held : j.ops ≡ rest → HeldRecovery (run w es) (stepped later o)

@@ -1,7 +1,7 @@
 -- What holds for a recovery in every world, with errant writes or without.
 use Rattle.std.specs.Prelude.{◌≡◌, true, List, Option, Some, IfSome, All, is_some}
-use Rattle.recovery_laws.specs.Prelude.{AllAllowed, Bridge, Coord, Fits, HeldJob, Job, Recovery, Server, ServerNo, Sight, Spans, Stage, Stopped}
-use Rattle.recovery_laws.specs.Prelude.{Taken, Task, Way, World, info, is_going, logs_at, run, seen_of, server_at}
+use Rattle.recovery_laws.specs.Prelude.{AllAllowed, Bridge, Coord, Fits, HeldJob, Job, Purpose, Recovery, Server, ServerNo, Sight, Spans, Stage, Stopped}
+use Rattle.recovery_laws.specs.Prelude.{Taken, Task, Way, World, first_source, info, is_going, logs_at, run, seen_of, server_at}
 use Rattle.recovery_laws.specs.Prelude.task
 use Rattle.recovery_laws.specs.Prelude.way
 
@@ -52,19 +52,25 @@ pub record IsLead (w : World) (f : ServerNo) (b : Bridge) : Type 0 where
 abbrev pub IsReadyStage : World → Stage → Type 0
 IsReadyStage w s = IfSome (info s).lead (Spans w)
 
--- For a job at a stage, with what is still to do of a failed server, what is drained, and the position at which a
--- replica stopped. The operations that are left have `Held` and are the stage's. What is gone by later has places.
-pub record HeldParts (w : World) (j : Job) (s : Stage) (ts : List Task) (f : ServerNo) (ds : List Stopped) (o : Option Bridge) : Type 0 where
+-- the server that is named at the start as the new source logs
+abbrev pub NamesLogging : World → Purpose → Type 0
+NamesLogging w u = IfSome (first_source u) (λ n. logs_at w n.0 ≡ true)
+
+-- For a job at a stage, with what is still to do of a failed server, what is drained, the position at which a replica
+-- stopped, and the purpose. The operations that are left have `Held` and are the stage's. What is gone by later has
+-- places. The new source that is named logs.
+pub record HeldParts (w : World) (j : Job) (s : Stage) (ts : List Task) (f : ServerNo) (ds : List Stopped) (o : Option Bridge) (u : Purpose) : Type 0 where
   pub core : HeldJob w j
   pub stage : IsReadyStage w s
   pub fits : Fits s j.ops
   pub queue : All (IsReady w j.seen) ts
   pub drained : All (IsStopped w j.seen f) ds
   pub lead : IfSome o (IsLead w f)
+  pub named : NamesLogging w u
 
 -- a recovery under way
 abbrev pub HeldRecovery : World → Recovery → Type 0
-HeldRecovery w r = HeldParts w r.core r.stage r.queue r.failed r.drained r.lead
+HeldRecovery w r = HeldParts w r.core r.stage r.queue r.failed r.drained r.lead r.purpose
 
 -- a turn makes exchanges that are allowed, and leaves a recovery that goes on with `Held`
 pub record KeepsRecovery (w : World) (t : Taken) : Type 0 where

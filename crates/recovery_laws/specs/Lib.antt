@@ -5,6 +5,7 @@ pub mod SoundRecoveries
 pub mod LeasedRecoveries
 pub mod Passing
 pub mod Staying
+pub mod Standing
 pub use Rattle.recovery_plans.specs.BinlogCoords as BinlogCoords
 pub use Rattle.recovery_plans.specs.Commands as Commands
 pub use Rattle.recovery_plans.specs.GtidSets as GtidSets
@@ -16,7 +17,6 @@ pub use Rattle.recovery_plans.specs.OrchBase as OrchBase
 pub use Rattle.recovery_plans.specs.PromotionRules as PromotionRules
 pub mod RecoveryEnds
 pub mod RecoveryPlans
-pub use Rattle.recovery_plans.specs.ReplicaGroups as ReplicaGroups
 pub mod ReplicationLaws
 pub use Rattle.recovery_plans.specs.ServerModel as ServerModel
 pub use Rattle.recovery_plans.specs.ServerWords as ServerWords

@@ -18,7 +18,7 @@ pub use Rattle.recovery_plans.specs.Operations.declared.sight.Sight.{Sight}
 pub use Rattle.recovery_plans.specs.OrchBase.declared.server.Moment.{Moment}
 pub use Rattle.recovery_plans.specs.OrchBase.declared.server.ServerNo.{ServerNo}
 pub use Rattle.recovery_ends.specs.Shapes.{Fits}
-pub use Rattle.recovery_plans.specs.Beginning.{begun_recovery}
+pub use Rattle.recovery_plans.specs.Beginning.{begun_recovery, first_source}
 pub use Rattle.recovery_plans.specs.Deciding.{decided, ground_of}
 pub use Rattle.recovery_plans.specs.Named.{IsListOf, IsOf, KeepsOf}
 pub use Rattle.recovery_plans.specs.Recoveries.{Recovery}

@@ -1,7 +1,8 @@
-//! Laws of recoveries.
+//! Laws of recoveries. Also how servers are below one another, and what exchanges and operations leave of it.
 #![tactic(auto)]
 
 mod begins;
+mod exchanges;
 mod held;
 mod leases;
 mod passes;
@@ -10,6 +11,7 @@ mod sound;
 mod staying;
 
 pub use begins::recoveries_begin;
+pub use exchanges::outside_exchanges_leave_sources;
 pub use held::recoveries_stay_held;
 pub use leases::recoveries_keep_to_their_leases;
 pub use passes::recoveries_pass;

@@ -17,9 +17,9 @@ pub use fates::{Fate, fate_of, spot_seen};
 pub use ops::{drain, level, moving, one, room, shut, sight_of, three, trail, two};
 use recovery_plans::{
     binlog_coords_items, commands, gtid_sets, instance_keeper_items, operations_items, orch_base,
-    promotion_rules, replica_groups, server_model, server_words_items,
+    promotion_rules, server_model, server_words_items,
 };
-/// Out of memory.
-pub use recovery_plans::orch_base::Memory;
 pub use stages::ends;
 pub use table::{Back, Bar, Failing, Info, Made, info_of};
+/// Out of memory.
+pub use recovery_plans::orch_base::Memory;

@@ -18,6 +18,5 @@ pub use Rattle.operations.specs.KeptRows as KeptRows
 pub mod Operations
 pub use Rattle.operations.specs.OrchBase as OrchBase
 pub mod PromotionRules
-pub mod ReplicaGroups
 pub use Rattle.operations.specs.ServerModel as ServerModel
 pub use Rattle.operations.specs.ServerWords as ServerWords

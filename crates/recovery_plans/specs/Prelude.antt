@@ -33,9 +33,9 @@ pub use Rattle.operations.specs.OrchBase.declared.server.SourceState.{SourceStat
 pub use Rattle.operations.specs.OrchBase.declared.server.SourceState.TheVariants.{Attached, Detached, Without}
 pub use Rattle.promotion_rules.specs.Choice.{better, is_barred, most_advanced}
 pub use Rattle.promotion_rules.specs.declared.drained.Drained.{Drained}
-pub use Rattle.replica_groups.specs.Groups.{group_of}
-pub use Rattle.replica_groups.specs.declared.groups.Group.{Group}
-pub use Rattle.replica_groups.specs.declared.groups.Group.TheVariants as group
+pub use Rattle.promotion_rules.specs.Groups.{group_of}
+pub use Rattle.promotion_rules.specs.declared.groups.Group.{Group}
+pub use Rattle.promotion_rules.specs.declared.groups.Group.TheVariants as group
 pub use Rattle.operations.specs.ServerModel.Attach.{spot_below}
 pub use Rattle.operations.specs.ServerModel.Run.{AllAllowed, Exchange, Request}
 pub use Rattle.operations.specs.ServerModel.Worlds.{World, has_source, server_at, source_no}

@@ -2,3 +2,4 @@
 pub use Rattle.promotion_rules.specs.declared
 pub use Rattle.promotion_rules.specs.Choice
 pub use Rattle.promotion_rules.specs.Chosen
+pub use Rattle.promotion_rules.specs.Groups

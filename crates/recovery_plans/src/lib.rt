@@ -21,7 +21,6 @@ pub use operations::{
 pub use outcome::{Follower, LostReplica, Outcome, Stopped};
 pub use promotion_rules;
 pub use purpose::Purpose;
-pub use replica_groups;
 pub use stage::Stage;
 pub use task::{Task, Way};
 pub use why::{Miss, Why};

@@ -1,20 +1,16 @@
 -- Each attachment of a turn is the one by which its replica was sent, or by which two servers change places.
-use Rattle.std.proofs.Common.{◌≡◌, ℕ, ◌+◌, Bool, true, false, cond, List, [], ◌∷◌, refl, sym, ◌∙◌, ap, subst, Option, Some, None, ◌⊎◌, inl, inr, ◌||◌, ◌&&◌, Ok, Err, Result}
-use Rattle.std.specs.Prelude.{nat_lt, option_map}
-use Rattle.recovery_reasons.proofs.Prelude.{All, All-cons, All-nil, AreSent, Ask, Attach, AttachAuto, AttachFault, AttachesAsSent, Attempt, BookState}
-use Rattle.recovery_reasons.proofs.Prelude.{Coord, Decisions, Deed, Does, Exchange, ExplainsTruly, Fact, Fits, HeldRecovery, HeldRings}
-use Rattle.recovery_reasons.proofs.Prelude.{IsMadeSo, Job, Match, MatchFault, Moment, Observation, Op, Position, Recovery, Request, ServerNo, ShowsWay, SourceState, Spot}
-use Rattle.recovery_reasons.proofs.Prelude.{Speaks, SpeaksWith, Stage, Status, Taken, Turning, Unreachable, Way, World, after_answer, after_ask}
-use Rattle.recovery_reasons.proofs.Prelude.{after_attach, after_look, after_match, after_status, after_until, after_wait, after_wait_by, aim_of}
-use Rattle.recovery_reasons.proofs.Prelude.{attach_answer_of, attachment_by, attachment_of, bridge_at, bridge_by, by_deed, by_match, by_set, can_attach}
-use Rattle.recovery_reasons.proofs.Prelude.{crossed, crossing_of, decisions-keep, deed_of, desk_answer, ends, false≢true, fits-step, ground_of, holds_seen, is_finish}
-use Rattle.recovery_reasons.proofs.Prelude.{is_going, is_look, is_moved, is_reached, match_found, match_logs, move, moves, next, observed, reads_last}
-use Rattle.recovery_reasons.proofs.Prelude.{same-head, same_Some, same_again, saw, seen_in, seen_of, server_at, settles, standing_at, status}
-use Rattle.recovery_reasons.proofs.Prelude.{tail_of, taken, taken-walks, until_by}
+use Rattle.std.proofs.Common.{◌≡◌, ℕ, Bool, true, false, List, [], ◌∷◌, refl, sym, ◌∙◌, ap, subst, Option, Some, None, ◌⊎◌, inl, inr, ◌||◌, ◌&&◌}
+use Rattle.std.specs.Prelude.{option_map}
+use Rattle.recovery_reasons.proofs.Prelude.{All, All-cons, All-nil, AreSent, Ask, Attach, AttachAuto, AttachesAsSent, Attempt, Attempts, BookState}
+use Rattle.recovery_reasons.proofs.Prelude.{Coord, Decisions, Deed, Does, Exchange, ExplainsTruly, Fact, Fits, HeldRecovery, HeldRings, IsMadeSo, Job}
+use Rattle.recovery_reasons.proofs.Prelude.{Match, Moment, Observation, Op, Position, Recovery, Request, ServerNo, ShowsWay, SourceState, Speaks}
+use Rattle.recovery_reasons.proofs.Prelude.{SpeaksWith, Stage, Taken, Turning, Way, World, attachment-is, attachment_by, attachment_of, attempts}
+use Rattle.recovery_reasons.proofs.Prelude.{bridge_at, bridge_by, by_deed, by_match, by_set, crossed, decisions-keep, deed_of, ends}
+use Rattle.recovery_reasons.proofs.Prelude.{false≢true, fits-step, ground_of, is_finish, is_going, is_look, match_found, move, moves, reads_last}
+use Rattle.recovery_reasons.proofs.Prelude.{same-head, same_Some, seen_of, tail_of, taken, taken-walks}
 use Rattle.recovery_reasons.proofs.Prelude.asking
 use Rattle.recovery_reasons.proofs.Prelude.attempt
 use Rattle.recovery_reasons.proofs.Prelude.by
-use Rattle.recovery_reasons.proofs.Prelude.cause
 use Rattle.recovery_reasons.proofs.Prelude.cross
 use Rattle.recovery_reasons.proofs.Prelude.deed
 use Rattle.recovery_reasons.proofs.Prelude.makes
@@ -25,6 +21,7 @@ use Rattle.recovery_reasons.proofs.Prelude.stage
 use Rattle.recovery_reasons.proofs.Prelude.way
 use Rattle.recovery_reasons.proofs.Readings.{fits-of}
 use Rattle.recovery_reasons.proofs.Sending.{Before, decides-sent}
+use Rattle.recovery_reasons.proofs.Prelude.doing
 
 -- ---- the exchanges of an operation
 
@@ -41,63 +38,17 @@ module _ (w : World) (Q : Exchange → Type 0) (asks : (n : ℕ) (a : Ask) → Q
   one e h = All-cons Q e [] h nothing
 
   module _ (j : Job) (rest : List Op) where
-    look-makes : (n : ServerNo) (from : Option ServerNo) (o : Observation) (x : Option Status) → Well (after_look j rest n from o x)
-    look-makes n from o None = tt
-    look-makes n from o (Some s) = go (is_moved from s.source)
-      where
-        go : (b : Bool) → Well (after_status j rest n from o s b)
-        go true = tt
-        go false = nothing
-
-    ask-makes : (n : ServerNo) (a : Ask) (x : Result (Unit {0}) Unreachable) → Well (after_ask j rest n a x)
-    ask-makes n a (Ok t) = one (Request n.0 a) (asks n.0 a)
-    ask-makes n a (Err e) = tt
-
-    until-makes : (n : ServerNo) (o : Option Coord) → Well (after_until w j rest n o)
-    until-makes n None = nothing
-    until-makes n (Some to) = ask-makes n (asking.StartUntil to) (desk_answer (server_at w n.0))
-
-    wait-makes : (n : ServerNo) (reached : Status → Bool) (x : Option Status) → Well (after_wait j rest n reached x)
-    wait-makes n reached None = tt
-    wait-makes n reached (Some s) = go (reached s)
-      where
-        more : (b : Bool) → Well (cond b (attempt.Goes None [] (record (saw j n s) { waited = j.waited + 1 })) (attempt.Stops (cause.WaitSpent n) None))
-        more true = nothing
-        more false = tt
-
-        go : (b : Bool) → Well (after_wait_by j rest n s b)
-        go true = nothing
-        go false = more (nat_lt (j.waited + 1) j.wait)
-
-    attach-makes : (n : ServerNo) (o : Option Exchange) → ((e : Exchange) → o ≡ Some e → Q e) → Well (after_attach w j rest n o)
-    attach-makes n None h = nothing
-    attach-makes n (Some e) h = by (can_attach w e)
-      where
-        go : (x : Result (Unit {0}) AttachFault) → Well (after_answer j rest n e x)
-        go (Ok t) = one e (h e refl)
-        go (Err f) = tt
-
-        by : (b : Bool) → Well (cond b (after_answer j rest n e (attach_answer_of w e)) (attempt.Goes None [] (next j rest)))
-        by true = go (attach_answer_of w e)
-        by false = nothing
-
-    match-makes : (n m : ServerNo) (at : Spot) (x : Result Coord MatchFault) → Well (after_match j rest n m at x)
-    match-makes n m at (Ok c) = nothing
-    match-makes n m at (Err f) = tt
+    makes-by : (read : ℕ) (now : Moment) (d : Deed) (a : Attempt) → Attempts w read now j rest d a → ((e : Exchange) → attachment_of j d ≡ Some e → Q e) → Well a
+    makes-by read now d a (doing.Misses n from c why) h = tt
+    makes-by read now d a (doing.Fails x c why) h = tt
+    makes-by read now d a (doing.Asks n b) h = one (Request n.0 b) (asks n.0 b)
+    makes-by read now d a (doing.Begins n to c until) h = one (Request n.0 (asking.StartUntil c)) (asks n.0 (asking.StartUntil c))
+    makes-by read now d a (doing.Attaches n x e is made of can done) h = one e (h e (sym (attachment-is j n x is) ∙ made))
+    makes-by read now d a (doing.Finishes lines) h = tt
+    makes-by read now d a _ h = nothing
 
     deed-makes : (read : ℕ) (now : Moment) (d : Deed) → ((e : Exchange) → attachment_of j d ≡ Some e → Q e) → Well (by_deed w read now j rest d)
-    deed-makes read now (deed.Look n from) h = look-makes n from (observed w read now n) (seen_in (status w n.0))
-    deed-makes read now (deed.Request n a) h = ask-makes n a (desk_answer (server_at w n.0))
-    deed-makes read now (deed.Until n to) h = until-makes n (until_by (seen_of j.seen n.0) (aim_of j.seen to))
-    deed-makes read now (deed.Await n to) h = wait-makes n (λ s. is_reached (aim_of j.seen to) s.exec) (seen_in (status w n.0))
-    deed-makes read now (deed.AwaitSet n m) h = wait-makes n (holds_seen (seen_of j.seen m.0)) (seen_in (status w n.0))
-    deed-makes read now (deed.Settle n) h = wait-makes n (settles j) (seen_in (status w n.0))
-    deed-makes read now (deed.Cross c a b) h = attach-makes a (crossing_of j.seen c a b) h
-    deed-makes read now (deed.Same n) h = attach-makes n (same_again n (seen_of j.seen n.0)) h
-    deed-makes read now (deed.Auto n m) h = attach-makes n (by_set n m (seen_of j.seen m.0)) h
-    deed-makes read now (deed.Match n m every) h = match-makes n m (standing_at (server_at w n.0)) (match_logs w n m every)
-    deed-makes read now (deed.CrossMatch n m) h = attach-makes n (by_match n m (match_found j.matches n m)) h
-    deed-makes read now (deed.Finish lines) h = tt
+    deed-makes read now d h = makes-by read now d (by_deed w read now j rest d) (attempts w read now j rest d) h
 
 -- ---- attachments
 

@@ -1,9 +1,9 @@
--- Only some of the lost are detached, and each that is marked as detached was.
+-- Only some of the lost are detached, and only some are to be started; each that is marked as detached was.
 use Rattle.std.proofs.Common.{◌≡◌, ℕ, Bool, true, false, cond, List, [], ◌∷◌, ◌++◌, filter, map, refl, sym, ◌∙◌, ap, subst, Option, Some, None, ◌⊎◌, inl, inr, Ok, Err, Result}
 use Rattle.std.specs.Prelude.{◌==◌, find, option_map}
 use Rattle.recovery_reasons.proofs.Prelude.{All, All-append, All-cons, All-head, All-nil, All-push, All-tail, All-weaker, Bearing, BookState}
 use Rattle.recovery_reasons.proofs.Prelude.{Decision, Decisions, Ending, Exchange, Expels, ExplainsTruly, Fact, Fits, HeldRecovery, HeldRings}
-use Rattle.recovery_reasons.proofs.Prelude.{IsCaredFor, IsExpelled, IsNext, IsOutSo, IsToDetach, Job, Keeps, LostReplica, Lot, MayDecide, MayEnd}
+use Rattle.recovery_reasons.proofs.Prelude.{IsCaredFor, IsExpelled, IsNext, IsOutSo, IsToDetach, IsToRelease, Job, Keeps, LostReplica, Lot, MayDecide, MayEnd}
 use Rattle.recovery_reasons.proofs.Prelude.{Means, Moment, Observation, Op, Purpose, Recovery, ServerNo, Stage, Stopped, Task, Unreachable, Why}
 use Rattle.recovery_reasons.proofs.Prelude.{World, after_ask, append-nil, begun_recovery, borne, but, by_deed, decided_by, decides-held, deed_of}
 use Rattle.recovery_reasons.proofs.Prelude.{desk_answer, ended, ended_by, ends, entered, eqb-true, expels, false≢true, fate_of, filter_passes}
@@ -41,16 +41,36 @@ expels-so (purpose.Intermediate s) (Some (why.Lost (word.Purged c))) h = tt
 expels-so (purpose.Intermediate s) (Some (why.Unmatched m)) h = absurd (false≢true h)
 expels-so (purpose.Intermediate s) (Some (why.Lost y)) h = absurd (false≢true h)
 
+frees-so : (u : Purpose) (o : Option Why) → releases u o ≡ true → IsToRelease u o
+frees-so purpose.Regroup None h = absurd (false≢true h)
+frees-so purpose.Regroup (Some (why.Lost word.Unreachable)) h = absurd (false≢true h)
+frees-so purpose.Regroup (Some (why.Unmatched m)) h = tt
+frees-so purpose.Regroup (Some (why.Lost y)) h = tt
+frees-so purpose.Master None h = absurd (false≢true h)
+frees-so purpose.Master (Some (why.Lost (word.Moved at))) h = tt
+frees-so purpose.Master (Some (why.Unmatched m)) h = tt
+frees-so purpose.Master (Some (why.Lost y)) h = absurd (false≢true h)
+frees-so (purpose.Intermediate s) None h = absurd (false≢true h)
+frees-so (purpose.Intermediate s) (Some (why.Lost (word.Moved at))) h = tt
+frees-so (purpose.Intermediate s) (Some (why.Unmatched m)) h = tt
+frees-so (purpose.Intermediate s) (Some (why.Lost y)) h = absurd (false≢true h)
+frees-so (purpose.Takeover d) o h = absurd (false≢true h)
+
 -- one more that is lost changes nothing of those before it
-stays-out : (u : Purpose) (xs ys : List LostReplica) (n : ServerNo) → IsToDetach u (why_of xs n) → IsToDetach u (why_of (xs ++ ys) n)
-stays-out u [] ys n h = absurd h
-stays-out u (l ∷ ls) ys n h = go (l.no.0 == n.0) h (stays-out u ls ys n)
+stays-lost : (X : Option Why → Type 0) → (X None → ⊥) → (xs ys : List LostReplica) (n : ServerNo) → X (why_of xs n) → X (why_of (xs ++ ys) n)
+stays-lost X none [] ys n h = absurd (none h)
+stays-lost X none (l ∷ ls) ys n h = go (l.no.0 == n.0) h (stays-lost X none ls ys n)
   where
-    go : (a : Bool) → IsToDetach u (option_map (λ (x : LostReplica). x.why) (cond a (Some l) (find (λ (x : LostReplica). x.no.0 == n.0) ls)))
-        → (IsToDetach u (why_of ls n) → IsToDetach u (why_of (ls ++ ys) n))
-        → IsToDetach u (option_map (λ (x : LostReplica). x.why) (cond a (Some l) (find (λ (x : LostReplica). x.no.0 == n.0) (ls ++ ys))))
+    go : (a : Bool) → X (option_map (λ (x : LostReplica). x.why) (cond a (Some l) (find (λ (x : LostReplica). x.no.0 == n.0) ls))) → (X (why_of ls n) → X (why_of (ls ++ ys) n))
+        → X (option_map (λ (x : LostReplica). x.why) (cond a (Some l) (find (λ (x : LostReplica). x.no.0 == n.0) (ls ++ ys))))
     go true g rest = g
     go false g rest = rest g
+
+stays-out : (u : Purpose) (xs ys : List LostReplica) (n : ServerNo) → IsToDetach u (why_of xs n) → IsToDetach u (why_of (xs ++ ys) n)
+stays-out u xs ys n h = stays-lost (IsToDetach u) (λ g. g) xs ys n h
+
+stays-free : (u : Purpose) (xs ys : List LostReplica) (n : ServerNo) → IsToRelease u (why_of xs n) → IsToRelease u (why_of (xs ++ ys) n)
+stays-free u xs ys n h = stays-lost (IsToRelease u) (λ g. g) xs ys n h
 
 pub why-marked : (k : ServerNo) (xs : List LostReplica) (n : ServerNo) → why_of (map (marked k) xs) n ≡ why_of xs n
 why-marked k [] n = refl
@@ -73,11 +93,13 @@ why-marked k (l ∷ ls) n = go (l.no.0 == k.0) (why-marked k ls n)
         by false = rest
 
 -- tasks
-out-on : (u : Purpose) (xs ys : List LostReplica) → ((n : ServerNo) → IsToDetach u (why_of xs n) → IsToDetach u (why_of ys n)) → (ts : List Task) → All (IsOutSo u xs) ts → All (IsOutSo u ys) ts
-out-on u xs ys on ts all = All-weaker (IsOutSo u xs) (IsOutSo u ys) (λ t h. go t h) ts all
+out-on : (u : Purpose) (xs ys : List LostReplica) → ((n : ServerNo) → IsToDetach u (why_of xs n) → IsToDetach u (why_of ys n)) → ((n : ServerNo) → IsToRelease u (why_of xs n) → IsToRelease u (why_of ys n)) → (ts : List Task)
+    → All (IsOutSo u xs) ts → All (IsOutSo u ys) ts
+out-on u xs ys on free ts all = All-weaker (IsOutSo u xs) (IsOutSo u ys) (λ t h. go t h) ts all
   where
     go : (t : Task) → IsOutSo u xs t → IsOutSo u ys t
     go (task.Expelling n) h = on n h
+    go (task.Releasing n) h = free n h
     go (task.Reading n) h = tt
     go t h = tt
 
@@ -89,11 +111,10 @@ moves-out : (u : Purpose) (xs : List LostReplica) (lot : Stopped → Lot) (ss : 
 moves-out u xs lot [] = All-nil (IsOutSo u xs)
 moves-out u xs lot (s ∷ ss) = All-append (IsOutSo u xs) (move_of s (lot s)) (moves_in lot ss) (move-out u xs s (lot s)) (moves-out u xs lot ss)
 
-expel-out : (u : Purpose) (xs : List LostReplica) (ns : List ServerNo) → All (λ n. expels u (why_of xs n) ≡ true) ns → All (IsOutSo u xs) (map task.Expelling ns)
-expel-out u xs [] all = All-nil (IsOutSo u xs)
-expel-out u xs (n ∷ ns) all =
-    All-cons (IsOutSo u xs) (task.Expelling n) (map task.Expelling ns) (expels-so u (why_of xs n) (All-head (λ (k : ServerNo). expels u (why_of xs k) ≡ true) n ns all))
-    (expel-out u xs ns (All-tail (λ (k : ServerNo). expels u (why_of xs k) ≡ true) n ns all))
+passed-out : (u : Purpose) (xs : List LostReplica) (t : ServerNo → Task) (p : ServerNo → Bool) → ((n : ServerNo) → p n ≡ true → IsOutSo u xs (t n)) → (ns : List ServerNo) → All (λ n. p n ≡ true) ns → All (IsOutSo u xs) (map t ns)
+passed-out u xs t p each [] all = All-nil (IsOutSo u xs)
+passed-out u xs t p each (n ∷ ns) all =
+    All-cons (IsOutSo u xs) (t n) (map t ns) (each n (All-head (λ (k : ServerNo). p k ≡ true) n ns all)) (passed-out u xs t p each ns (All-tail (λ (k : ServerNo). p k ≡ true) n ns all))
 
 mapped-out : (u : Purpose) (xs : List LostReplica) (t : ServerNo → Task) → ((n : ServerNo) → IsOutSo u xs (t n)) → (ns : List ServerNo) → All (IsOutSo u xs) (map t ns)
 mapped-out u xs t each [] = All-nil (IsOutSo u xs)
@@ -149,7 +170,7 @@ module _ (w : World) (b : BookState) (now : Moment) (r : Recovery) (P : Fact →
     with-lost : (y : Recovery) (more : List LostReplica) → y.purpose ≡ x.purpose → y.outcome.lost ≡ x.outcome.lost ++ more → y.stage ≡ x.stage → y.core.ops ≡ x.core.ops → All (IsOutSo x.purpose x.outcome.lost) y.queue → All Told more
         → IsCaredFor P y
     with-lost y more aim lost at ops queue new = record {
-      out = subst (λ (u : Purpose). All (IsOutSo u y.outcome.lost) y.queue) (sym aim) (subst (λ (xs : List LostReplica). All (IsOutSo x.purpose xs) y.queue) (sym lost) (out-on x.purpose x.outcome.lost (x.outcome.lost ++ more) (λ n g. stays-out x.purpose x.outcome.lost more n g) y.queue queue));
+      out = subst (λ (u : Purpose). All (IsOutSo u y.outcome.lost) y.queue) (sym aim) (subst (λ (xs : List LostReplica). All (IsOutSo x.purpose xs) y.queue) (sym lost) (out-on x.purpose x.outcome.lost (x.outcome.lost ++ more) (λ n g. stays-out x.purpose x.outcome.lost more n g) (λ n g. stays-free x.purpose x.outcome.lost more n g) y.queue queue));
       leaving = λ n e.
           subst (λ (u : Purpose). IsToDetach u (why_of y.outcome.lost n)) (sym aim)
           (subst (λ (xs : List LostReplica). IsToDetach x.purpose (why_of xs n)) (sym lost) (stays-out x.purpose x.outcome.lost more n (h.leaving n (sym at ∙ e))));
@@ -196,8 +217,11 @@ module _ (w : World) (b : BookState) (now : Moment) (r : Recovery) (P : Fact →
     decided-cared (by.Sorts ts) may =
         same-lost (decided_by (ground_of w b now) x (by.Sorts ts)) refl refl refl refl
         (All-append (IsOutSo x.purpose x.outcome.lost) (map task.Expelling outs) (map task.Releasing free ++ ts)
-        (expel-out x.purpose x.outcome.lost outs (filter_passes (λ n. expels x.purpose (why_of x.outcome.lost n)) x.replicas))
-        (All-append (IsOutSo x.purpose x.outcome.lost) (map task.Releasing free) ts (mapped-out x.purpose x.outcome.lost task.Releasing (λ n. tt) free) (behind task.Sorting ts may)))
+        (passed-out x.purpose x.outcome.lost task.Expelling (λ n. expels x.purpose (why_of x.outcome.lost n)) (λ n e. expels-so x.purpose (why_of x.outcome.lost n) e) outs
+        (filter_passes (λ n. expels x.purpose (why_of x.outcome.lost n)) x.replicas))
+        (All-append (IsOutSo x.purpose x.outcome.lost) (map task.Releasing free) ts
+        (passed-out x.purpose x.outcome.lost task.Releasing (λ n. releases x.purpose (why_of x.outcome.lost n)) (λ n e. frees-so x.purpose (why_of x.outcome.lost n) e) free
+        (filter_passes (λ n. releases x.purpose (why_of x.outcome.lost n)) x.replicas)) (behind task.Sorting ts may)))
       where
         outs : List ServerNo
         outs = filter (λ n. expels x.purpose (why_of x.outcome.lost n)) x.replicas
@@ -238,7 +262,7 @@ module _ (w : World) (b : BookState) (now : Moment) (r : Recovery) (P : Fact →
           subst (λ (u : Purpose). All (IsOutSo u y.outcome.lost) y.queue) (sym aim)
           (subst (λ (xs : List LostReplica). All (IsOutSo x.purpose xs) y.queue) (sym lost)
           (subst (λ (ts : List Task). All (IsOutSo x.purpose (x.outcome.lost ++ record { no = n; why = z; detached = false } ∷ [])) ts) (sym queue)
-          (out-on x.purpose x.outcome.lost (x.outcome.lost ++ record { no = n; why = z; detached = false } ∷ []) (λ m g. stays-out x.purpose x.outcome.lost _ m g) x.queue h.out)));
+          (out-on x.purpose x.outcome.lost (x.outcome.lost ++ record { no = n; why = z; detached = false } ∷ []) (λ m g. stays-out x.purpose x.outcome.lost _ m g) (λ m g. stays-free x.purpose x.outcome.lost _ m g) x.queue h.out)));
       leaving = λ m at. absurd (off m at);
       ops = λ m at. absurd (off m at);
       left = λ m at. absurd (out m at);
@@ -255,7 +279,7 @@ module _ (w : World) (b : BookState) (now : Moment) (r : Recovery) (P : Fact →
 
     completes-cared : (e : Ending) → MayEnd x e → IsCaredFor P (ended_by x e)
     completes-cared (by.Marks n) may = record {
-      out = out-on x.purpose x.outcome.lost (map (marked n) x.outcome.lost) (λ m g. subst (IsToDetach x.purpose) (sym (why-marked n x.outcome.lost m)) g) x.queue h.out;
+      out = out-on x.purpose x.outcome.lost (map (marked n) x.outcome.lost) (λ m g. subst (IsToDetach x.purpose) (sym (why-marked n x.outcome.lost m)) g) (λ m g. subst (IsToRelease x.purpose) (sym (why-marked n x.outcome.lost m)) g) x.queue h.out;
       leaving = λ m at. cc;
       ops = λ m at. cc;
       left = λ m at. cc;

@@ -8,6 +8,8 @@ pub mod Causing
 pub mod Sights
 pub mod Readings
 pub mod Listing
+pub mod Gathering
+pub mod Changing
 pub mod Speaking
 pub mod Coordinates
 pub mod Reasoning
@@ -19,6 +21,7 @@ pub mod Dealing
 pub mod Sending
 pub mod Attaching
 pub mod Answering
+pub mod Halting
 pub mod Waiting
 pub mod Whole
 pub mod Opening
@@ -26,3 +29,5 @@ pub mod Undoing
 pub mod Facts
 pub mod Nobody
 pub mod Fatal
+pub use Rattle.recovery_laws.proofs.BinlogCoords as BinlogCoords
+pub use Rattle.recovery_laws.proofs.Effects as Effects

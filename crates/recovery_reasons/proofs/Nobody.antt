@@ -1,18 +1,20 @@
 -- If no operation is left after a turn's decisions, one of them found nobody.
 use Rattle.std.proofs.Common.{◌≡◌, ℕ, ◌+◌, ◌≤◌, ◌<◌, suc, Bool, true, false, List, [], ◌∷◌, ◌++◌, map, filter, refl, sym, ◌∙◌, ap, subst, Option, Some, None, ◌⊎◌, inl, inr, arith}
-use Rattle.recovery_reasons.proofs.Prelude.{BookState, Bridge, Contains, Decision, Decisions, DecisionsElse, HasNobody, IsNext, IsOnWay, MayDecide}
+use Rattle.recovery_reasons.proofs.Prelude.{BookState, Bridge, Contains, Decision, Decisions, DecisionsElse, HasNobody, IsGathering, IsNext, IsOnWay, KnowsLead, MayDecide}
 use Rattle.recovery_reasons.proofs.Prelude.{Moment, Op, Purpose, Recovery, ServerNo, Stopped, Task, Way, World, at_last, better_of, by_queue, by_task}
-use Rattle.recovery_reasons.proofs.Prelude.{choose, chooses, chosen_of, crown, decided, decided-walks, decided_by, decisions-keep, expels}
-use Rattle.recovery_reasons.proofs.Prelude.{finds_nobody, ground_of, hand, hand_by, hand_over, is_takeover, look_at, loses, lot_by, moves_in, once}
+use Rattle.recovery_reasons.proofs.Prelude.{choose, chooses, chosen_of, crown, decided, decided-walks, decided_by, decisions-keep, expels, false≢true}
+use Rattle.recovery_reasons.proofs.Prelude.{finds_nobody, follows_lead, ground_of, hand, hand_by, hand_over, is_takeover, look_at, loses, lot_by, moves_in, once}
 use Rattle.recovery_reasons.proofs.Prelude.{once-walks, pauses_in, pauses_last, rejoin, releases, swap, swap_by, swap_or_crown, way_below, why_of}
-use Rattle.recovery_reasons.proofs.Prelude.{without_stopped, yield}
+use Rattle.recovery_reasons.proofs.Prelude.{suits, without_stopped, yield}
+use Rattle.std.specs.Prelude.{is_some}
 use Rattle.recovery_reasons.proofs.Prelude.by as move
 use Rattle.recovery_reasons.proofs.Prelude.lost
 use Rattle.recovery_reasons.proofs.Prelude.nobody
 use Rattle.recovery_reasons.proofs.Prelude.purpose
 use Rattle.recovery_reasons.proofs.Prelude.task
-use Rattle.recovery_reasons.proofs.OnWay.{Fine, IsStuck, decides-fine, decides-lost, decides-stuck, decides-way, none-in, not-stuck}
-use Rattle.recovery_reasons.proofs.Tasks.{busy-map, busy-moves, pauses-append, some-op, to-yield}
+use Rattle.recovery_reasons.proofs.Gathering.{decided-purpose, decides-knows, not-gathering}
+use Rattle.recovery_reasons.proofs.OnWay.{Fine, IsStuck, beside-apart, decides-fine, decides-lost, decides-stuck, decides-way, none-in, not-stuck, suit-here}
+use Rattle.recovery_reasons.proofs.Tasks.{busy-map, busy-moves, meeting_in, pauses-append, some-op, to-yield}
 use Rattle.recovery_reasons.proofs.Choosing.{none-may}
 
 abbrev pauses_of : Recovery → ℕ
@@ -23,25 +25,57 @@ last-some purpose.Master true = omega arith
 last-some _ _ = omega arith
 
 module _ (w : World) (b : BookState) (now : Moment) where
-  behind : (r d : Recovery) (x : Decision) → MayDecide (ground_of w b now) r x → finds_nobody x ≡ false → HasNobody w b now (decided_by (ground_of w b now) r x) d → HasNobody w b now r d
-  behind r d x may else (nobody.NoneMay y ts path next all later) = nobody.NoneMay y ts (nobody.Then x may else path) next all later
-  behind r d x may else (nobody.NoneKnows y t ts path next follows none later) = nobody.NoneKnows y t ts (nobody.Then x may else path) next follows none later
-
-  -- one of the decisions finds nobody, or none does
-  sorted : {r d : Recovery} → Decisions (ground_of w b now) r d → HasNobody w b now r d ⊎ DecisionsElse w b now r d
-  sorted move.Still = inr nobody.Still
-  sorted (move.Then {r} {s} x may rest) = go x may rest (sorted rest)
-    where
-      go : (x : Decision) → MayDecide (ground_of w b now) r x → Decisions (ground_of w b now) (decided_by (ground_of w b now) r x) s → HasNobody w b now (decided_by (ground_of w b now) r x) s ⊎ DecisionsElse w b now (decided_by (ground_of w b now) r x) s
-          → HasNobody w b now r s ⊎ DecisionsElse w b now r s
-      go (move.Sticks t ts) h rest later = inl (nobody.NoneKnows r t ts nobody.Still h.0 h.1 h.2 rest)
-      go (move.ChoosesNobody ts) h rest later = inl (nobody.NoneMay r ts nobody.Still h.0 (none-may w b now r.failed r.drained h.1) rest)
-      go x h rest (inl y) = inl (behind r s x h refl y)
-      go x h rest (inr y) = inr (nobody.Then x h refl y)
-
   else-way : {r s : Recovery} → DecisionsElse w b now r s → IsOnWay r → IsOnWay s
   else-way nobody.Still way = way
   else-way (nobody.Then {r} d may not rest) way = else-way rest (decides-way w b now r way d may not)
+
+  behind : (r d : Recovery) (x : Decision) → MayDecide (ground_of w b now) r x → finds_nobody x ≡ false → HasNobody w b now (decided_by (ground_of w b now) r x) d → HasNobody w b now r d
+  behind r d x may else y = record {
+    choosing = ap chooses (sym (decided-purpose w b now r x)) ∙ y.choosing;
+    at = y.at;
+    left = y.left;
+    before = nobody.Then x may else y.before;
+    next = y.next;
+    none = y.none;
+    later = y.later;
+  }
+
+  -- the position at which the designated one stopped is known
+  unstuck : (r : Recovery) (t : Task) (ts : List Task) → IsOnWay r → KnowsLead r → IsNext r t ts → follows_lead t ≡ true → r.lead ≡ None → ⊥
+  unstuck r t ts way knows next follows none = go (knows (takes-over t follows (suit-here w b now r way t ts next)))
+    where
+      takes-over : (k : Task) → follows_lead k ≡ true → suits r.purpose k ≡ true → is_takeover r.purpose ≡ true
+      takes-over (task.Trailing n) f suit = ap is_takeover (beside-apart r.purpose n suit).1
+      takes-over task.Yielding f suit = suit
+      takes-over k f suit = absurd (false≢true f)
+
+      go : IsGathering r.stage ⊎ (is_some r.lead ≡ true) → ⊥
+      go (inl g) = not-gathering r.stage (ap meeting_in (way.rests next.rests)) g
+      go (inr e) = false≢true (sym (ap is_some none) ∙ e)
+
+  -- one of the decisions finds nobody, or none does
+  sorted : {r d : Recovery} → Decisions (ground_of w b now) r d → IsOnWay r → KnowsLead r → HasNobody w b now r d ⊎ DecisionsElse w b now r d
+  sorted move.Still way knows = inr nobody.Still
+  sorted (move.Then {r} {s} x may rest) way knows = go x may rest (λ else. sorted rest (decides-way w b now r way x may else) (decides-knows w b now r x may (inl way) knows))
+    where
+      go : (x : Decision) → MayDecide (ground_of w b now) r x → Decisions (ground_of w b now) (decided_by (ground_of w b now) r x) s
+          → (finds_nobody x ≡ false → HasNobody w b now (decided_by (ground_of w b now) r x) s ⊎ DecisionsElse w b now (decided_by (ground_of w b now) r x) s)
+          → HasNobody w b now r s ⊎ DecisionsElse w b now r s
+      go (move.Sticks t ts) h rest later = absurd (unstuck r t ts way knows h.0 h.1 h.2)
+      go (move.ChoosesNobody ts) h rest later = inl (record {
+        choosing = suit-here w b now r way task.Choosing ts h.0;
+        at = r;
+        left = ts;
+        before = nobody.Still;
+        next = h.0;
+        none = none-may w b now r.failed r.drained h.1;
+        later = rest;
+      })
+      go x h rest later = by-rest (later refl)
+        where
+          by-rest : HasNobody w b now (decided_by (ground_of w b now) r x) s ⊎ DecisionsElse w b now (decided_by (ground_of w b now) r x) s → HasNobody w b now r s ⊎ DecisionsElse w b now r s
+          by-rest (inl y) = inl (behind r s x h refl y)
+          by-rest (inr y) = inr (nobody.Then x h refl y)
 
   -- ---- one decision
 
@@ -211,8 +245,8 @@ module _ (w : World) (b : BookState) (now : Moment) where
       go (inl x) = x
       go (inr x) = let le = x.1 in let some = last-some (once (ground_of w b now) d).purpose (once (ground_of w b now) d).swaps in absurd (omega (arith, le, some))
 
-  pub finds-nobody : (r : Recovery) → IsOnWay r → (decided (ground_of w b now) r).core.ops ≡ [] → HasNobody w b now r (decided (ground_of w b now) r)
-  finds-nobody r way h = go (sorted (decided-walks w b now r))
+  pub finds-nobody : (r : Recovery) → IsOnWay r → KnowsLead r → (decided (ground_of w b now) r).core.ops ≡ [] → HasNobody w b now r (decided (ground_of w b now) r)
+  finds-nobody r way knows h = go (sorted (decided-walks w b now r) way knows)
     where
       go : HasNobody w b now r (decided (ground_of w b now) r) ⊎ DecisionsElse w b now r (decided (ground_of w b now) r) → HasNobody w b now r (decided (ground_of w b now) r)
       go (inl x) = x

@@ -95,7 +95,7 @@ way-read xs (way.Match to exec every) = still-read xs
 
 -- ---- what is decided
 
-beside-apart : (u : Purpose) (n : ServerNo) → is_beside u n ≡ true → (d : ServerNo) × (u ≡ purpose.Takeover d) × (n.0 ≡ d.0 → ⊥)
+pub beside-apart : (u : Purpose) (n : ServerNo) → is_beside u n ≡ true → (d : ServerNo) × (u ≡ purpose.Takeover d) × (n.0 ≡ d.0 → ⊥)
 beside-apart (purpose.Takeover d) n h = (d, refl, λ same. false≢true (sym (ap not (eq-eqb n.0 d.0 same)) ∙ h))
 beside-apart _ n h = absurd (false≢true h)
 
@@ -161,7 +161,7 @@ module _ (w : World) (b : BookState) (now : Moment) where
       tasks-here : TasksOf r.purpose r.stage (t ∷ ts) r.chosen r.swaps
       tasks-here = subst (λ (xs : List Task). TasksOf r.purpose r.stage xs r.chosen r.swaps) next.queue way.course.tasks
 
-      suit-here : Suits r.purpose t
+      pub suit-here : Suits r.purpose t
       suit-here = suit r.purpose r.chosen r.swaps r.stage t ts tasks-here idle-here
 
       behind-here : (t ≡ task.Choosing → ⊥) → (t ≡ task.Yielding → ⊥) → (k : Stage) → TasksOf r.purpose k ts r.chosen r.swaps

@@ -8,7 +8,7 @@ pub use Rattle.std.proofs.lemmas.Option.{same_Some}
 pub use Rattle.std.specs.Cmp.Lexicographic.{other_text, same_text}
 pub use Rattle.std.specs.List.{All, Contains}
 pub use Rattle.recovery_laws.proofs.BinlogCoords.Places.{same_coord-true}
-pub use Rattle.recovery_laws.specs.BinlogCoords.Log.{is_at_or_before, is_before, same_coord}
+pub use Rattle.recovery_laws.specs.BinlogCoords.Log.{end_of, is_at_or_before, is_before, same_coord}
 pub use Rattle.recovery_laws.specs.BinlogCoords.declared.Coord.{Coord}
 pub use Rattle.recovery_laws.specs.Commands.declared.cause.Cause.{Cause}
 pub use Rattle.recovery_laws.specs.Commands.declared.cause.Cause.TheVariants as cause
@@ -21,21 +21,21 @@ pub use Rattle.recovery_laws.specs.InstanceKeeper.declared.bridge.Bridge.{Bridge
 pub use Rattle.recovery_laws.specs.KeptRows.Seeing.{seen_in}
 pub use Rattle.recovery_laws.specs.KeptRows.declared.observation.Observation.{Observation}
 pub use Rattle.recovery_laws.proofs.OperationsProofs.Sights.{seen-at}
+pub use Rattle.recovery_laws.specs.Operations.Changes.{server_of}
 pub use Rattle.recovery_laws.specs.Operations.Deeds.{Deed, deed_of}
 pub use Rattle.recovery_laws.specs.Operations.Deeds as deed
 pub use Rattle.recovery_laws.specs.Operations.Jobs.{Job, match_found, others, position_of, seen_of, with_hand, with_seen, without}
 pub use Rattle.recovery_laws.specs.Operations.Matching.{match_logs, standing_at}
-pub use Rattle.recovery_laws.specs.Operations.Targets.{can_attach}
-pub use Rattle.recovery_laws.specs.Operations.Turns.{Attempt, after_answer, after_ask, after_attach, after_look, after_match, after_status, after_until, after_wait}
-pub use Rattle.recovery_laws.specs.Operations.Turns.{after_wait_by, aim_of, attach_answer_of, attached_anew, bridge_at, by_deed, by_match, by_set, cause_by}
-pub use Rattle.recovery_laws.specs.Operations.Turns.{crossed, crossing_of, ended, holds_seen, is_going, is_settled, is_moved, is_reached, next, observed, read_by, same_again}
-pub use Rattle.recovery_laws.specs.Operations.Turns.{restarts, saw, settles, until_by}
+pub use Rattle.recovery_laws.specs.Operations.Targets.{can_attach, logs_by}
+pub use Rattle.recovery_laws.specs.Operations.Turns.{Attempt, after_answer, after_ask, after_attach, after_look, after_match, after_status, after_wait}
+pub use Rattle.recovery_laws.specs.Operations.Turns.{after_wait_by, aim_of, attach_answer_of, bridge_at, by_deed, by_match, by_set, cause_by}
+pub use Rattle.recovery_laws.specs.Operations.Turns.{crossed, crossing_of, ended, is_going, is_settled, is_moved, is_reached, next, observed}
+pub use Rattle.recovery_laws.specs.Operations.Turns.{restarts, saw, settles}
 pub use Rattle.recovery_laws.specs.Operations.Turns as attempt
 pub use Rattle.recovery_laws.specs.Operations.declared.matching.Match.{Match}
 pub use Rattle.recovery_laws.specs.Operations.declared.matching.MatchFault.{MatchFault}
 pub use Rattle.recovery_laws.specs.Operations.declared.op.Aim.{Aim}
 pub use Rattle.recovery_laws.specs.Operations.declared.op.Aim.TheVariants.{EndOf, ExecOf}
-pub use Rattle.recovery_laws.specs.Operations.declared.op.Crossing.{Crossing}
 pub use Rattle.recovery_laws.specs.Operations.declared.op.Crossing.TheVariants as cross
 pub use Rattle.recovery_laws.specs.Operations.declared.op.Op.{Op}
 pub use Rattle.recovery_laws.specs.Operations.declared.op.Op.TheVariants as op
@@ -61,13 +61,16 @@ pub use Rattle.recovery_laws.specs.RecoveryEnds.Shapes.{Fits}
 pub use Rattle.recovery_laws.proofs.Choosing.{own-is}
 pub use Rattle.recovery_laws.proofs.Deciding.{decides-held}
 pub use Rattle.recovery_laws.proofs.StaysRead as sights
-pub use Rattle.recovery_laws.specs.HeldRecoveries.{HeldRecovery, IsStopped}
+pub use Rattle.recovery_laws.specs.HeldRecoveries.{HeldRecovery, IsStopped, NamesLogging}
+pub use Rattle.recovery_laws.specs.LeasedRecoveries.{IsAny}
 pub use Rattle.recovery_laws.specs.Rings.{HeldRings}
+pub use Rattle.recovery_laws.proofs.RecoveryPlans.Begun.{begun-of}
+pub use Rattle.recovery_laws.proofs.RecoveryPlans.Naming.{renumbered, taken-of}
 pub use Rattle.recovery_laws.proofs.RecoveryPlans.Choices.{All-chosen, chosen-logs, same-no}
 pub use Rattle.recovery_laws.proofs.RecoveryPlans.Leading.{moved-leads}
-pub use Rattle.recovery_laws.proofs.RecoveryPlans.Walking.{Keeps, at-end, decided-walks, decides-idle, decisions-keep, joined, kept-along, kept-whole, once-walks, taken-walks}
+pub use Rattle.recovery_laws.proofs.RecoveryPlans.Walking.{Keeps, KeepsAlways, always, at-end, decided-walks, decides-idle, decisions-keep, joined, kept-along, kept-whole, once-walks, taken-walks}
 pub use Rattle.recovery_laws.specs.RecoveryPlans.Beginning.{begun_recovery, but, first_source, first_stage, first_tasks, is_master, is_takeover}
-pub use Rattle.recovery_laws.specs.RecoveryPlans.Deciding.{Ground, Lot, at_last, better_of, closing, by_queue, by_task, center_in, choose, chosen_of, crown, decided, drained_of, expels, is_near}
+pub use Rattle.recovery_laws.specs.RecoveryPlans.Deciding.{Lot, at_last, better_of, closing, by_queue, by_task, center_in, choose, chosen_of, crown, decided, drained_of, expels, is_near}
 pub use Rattle.recovery_laws.specs.RecoveryPlans.Deciding.{follower_of, ground_of, hand, hand_by, hand_over, logs_at, look_at, losses_in, lot_by, lot_by_group}
 pub use Rattle.recovery_laws.specs.RecoveryPlans.Deciding.{lot_of, may_lead, move_of, moves_in, moving, once, own_end_of, rejoin, releases, stay_of, stopped_in}
 pub use Rattle.recovery_laws.specs.RecoveryPlans.Deciding.{swap, swap_by, swap_or_crown, unfit, way_below, way_by_set, why_of, without_stopped, yield}
@@ -75,9 +78,9 @@ pub use Rattle.recovery_laws.specs.RecoveryPlans.Deciding as deciding
 pub use Rattle.recovery_laws.specs.RecoveryPlans.Moves.{Bearing, Decision, Decisions, Does, Ending, IsHanding, IsNext, MayBear, MayDecide, MayEnd, Turning, WasRead, borne}
 pub use Rattle.recovery_laws.specs.RecoveryPlans.Moves.{decided_by, ended_by, fate_of, follows_lead, late, rests, stopped_at, stray}
 pub use Rattle.recovery_laws.specs.RecoveryPlans.Moves as by
-pub use Rattle.recovery_laws.specs.RecoveryPlans.Named.{spoken_to}
+pub use Rattle.recovery_laws.specs.RecoveryPlans.Named.{IsListOf, IsOf, spoken_to}
 pub use Rattle.recovery_laws.specs.RecoveryPlans.Recoveries.{Recovery, follows_no_more, loses, sight_of, without_follower, working}
-pub use Rattle.recovery_laws.specs.RecoveryPlans.Stages.{before, drain, is_finish, moves, target, ends, is_look, leaver, move, moved, reads_last, tail_of, trail, with_bridge, with_way}
+pub use Rattle.recovery_laws.specs.RecoveryPlans.Stages.{before, drain, is_finish, moves, ends, is_look, leaver, move, moved, reads_last, tail_of, trail, with_bridge, with_way}
 pub use Rattle.recovery_laws.specs.RecoveryPlans.Table.{Back, alone, info, more_on}
 pub use Rattle.recovery_laws.specs.RecoveryPlans.Table as table
 pub use Rattle.recovery_laws.proofs.ReplicationLaws.Worlds.{at_with}
@@ -106,33 +109,35 @@ pub use Rattle.recovery_laws.specs.RecoveryPlans.declared.why.Miss.TheVariants a
 pub use Rattle.recovery_laws.specs.RecoveryPlans.declared.why.Why.{Why}
 pub use Rattle.recovery_laws.specs.RecoveryPlans.declared.why.Why.TheVariants as why
 pub use Rattle.recovery_reasons.specs.Causes.{IsMatchCause, IsTrueOf, IsUnreached}
-pub use Rattle.recovery_reasons.specs.Steps.{AreFirst, AreLeft, IsRest, are_calm, draining, gathering, leveling, shutting, trailing, waits}
-pub use Rattle.recovery_reasons.specs.Waiting.{BeginsWhole, HasCome, HasSettled, IsDueWait, IsGivenUpNow, IsLateNow, IsOneMoreWait, IsWaitOver, WaitsItsTurns, WaitsUntil, end_seen, exec_seen}
+pub use Rattle.recovery_reasons.specs.Steps.{AreFirst, AreLeft, IsRest, are_calm, draining, gathering, leveling, trailing, waits}
+pub use Rattle.recovery_reasons.specs.Changing.{ChangesIts, IsInTakeover, IsIts}
+pub use Rattle.recovery_reasons.specs.Waiting.{BeginsWhole, HasCome, HasSettled, IsDueWait, IsFreedNow, IsGivenUpNow, IsLeftNow, IsNextStage, IsOneMoreWait, IsWaitOver, ReadsOthers, WaitsItsTurns, WaitsUntil, end_seen, exec_seen}
 pub use Rattle.recovery_reasons.specs.Waiting as waiting
-pub use Rattle.recovery_reasons.specs.Undoing.{GoesBack, IsOpen, KeepsHands, OpensAgain, StartsHands, closed_at}
-pub use Rattle.recovery_reasons.specs.Ways.{IsWayBelow, IsWayBeside, down_at}
+pub use Rattle.recovery_reasons.specs.Undoing.{GoesBack, IsOpen, KeepsHands, MakesGood, OpensAgain, StartsHands, closed_at}
+pub use Rattle.recovery_reasons.specs.Undoing as good
+pub use Rattle.recovery_reasons.specs.Ways.{IsWayBelow, IsWayBeside}
 pub use Rattle.recovery_reasons.specs.Ways as ways
-pub use Rattle.recovery_reasons.specs.Attaching.{AttachesAsSent, Becomes, IsAnsweredNow, IsBelowNow, IsLostNow, IsMadeSo, IsRefusedNow, IsTriedNow, IsUnmatchedNow, MissesNow, attachment_by}
+pub use Rattle.recovery_reasons.specs.Attaching.{AttachesAsSent, Becomes, IsLostNow, IsMadeSo, IsTriedNow, attachment_by}
 pub use Rattle.recovery_reasons.specs.Attaching as makes
 pub use Rattle.recovery_laws.specs.JobLaws.Held.{attachment_of}
 pub use Rattle.recovery_laws.specs.JobLaws.Footing.{are_held, finds, footing, learn}
 pub use Rattle.recovery_laws.specs.JobLaws.Matched.{are_matched, matched_in}
 pub use Rattle.recovery_laws.proofs.JobLaws.Bridging.{auto-can, crossing-can, crossing-found}
 pub use Rattle.recovery_laws.proofs.JobLaws.Matching.{match-can, match-there}
-pub use Rattle.recovery_reasons.specs.Choices.{ComesBefore, ComesFirst, IsBestOne, IsBetterOne, IsFirstOf, IsNear, IsPreferred, MayBePromoted}
+pub use Rattle.recovery_reasons.specs.Choices.{ComesFirst, IsBestOne, IsBetterOne, IsFirstOf, IsNear, IsPreferred, MayBePromoted}
 pub use Rattle.recovery_reasons.specs.Nobody.{DecisionsElse, HasNobody, finds_nobody}
 pub use Rattle.recovery_reasons.specs.Fatal.{CanEnd, IsMissed}
 pub use Rattle.recovery_reasons.specs.Nobody as nobody
-pub use Rattle.recovery_reasons.specs.OnWay.{AllFit, IsMeeting, IsOnCourse, IsOnWay, IsRead, IsSwapping, StageOf, SwapOf, TasksOf, Yields, chooses, hands, is_beside, is_unfit, pauses}
+pub use Rattle.recovery_reasons.specs.OnWay.{AllFit, IsGathering, IsMeeting, IsOnCourse, IsOnWay, IsRead, IsSwapping, KnowsLead, StageOf, SwapOf, TasksOf, Yields, chooses, hands, is_beside, is_unfit, pauses}
 pub use Rattle.recovery_reasons.specs.OnWay.{pauses_in, pauses_last, suits}
 pub use Rattle.recovery_reasons.specs.Reasons.{AimsAt, GivesUp, HasNoBetter, Remains, AllDrained, AllLost, Below, BelowSuccessor, Beside, Betters, Chooses, Drains, Errant}
 pub use Rattle.recovery_reasons.specs.Reasons.{ExplainsTruly, Fact, GoesBy, Halted, AreDealtWith, AreSorted, Expels, HasNotFailed, IsDetachedSo, IsPassed, IsReleased, IsReleasedSo, IsToRelease, Passes, Releases, is_settling, leads_on, IsCaredFor, IsExpelled, IsOutSo, IsSeenSo, IsToDetach, IsShown, IsStarted, IsSwitched, IsToStart, IsUp, Reads, Starts, Switches, WasCrowned, Interfered, IsAsked, IsBetter, IsChosen, IsDrained, IsDue}
 pub use Rattle.recovery_reasons.specs.Reasons.{IsExplained, IsLost, IsBefallen, IsGivenUp, IsPromoted, IsRefusedOn, IsSwapped, IsTrailing, Late, Loses, Purged, Reason, WasLooked}
 pub use Rattle.recovery_reasons.specs.Reasons.{Running, ShowsWay, Speaks, SpeaksWith, Strayed, Unattached, Unmatched, Unreached, WaitsFor, Without}
 pub use Rattle.recovery_reasons.specs.Reasons.{AreSent, IsLed, IsSent, IsSentSo, Leads, SendsBelow, SendsBeside, SendsThere, lead_of, speaks_of}
-pub use Rattle.recovery_laws.specs.ReplicaGroups.Groups.{by_bridge, group_of}
-pub use Rattle.recovery_laws.specs.ReplicaGroups.declared.groups.Group.{Group}
-pub use Rattle.recovery_laws.specs.ReplicaGroups.declared.groups.Group.TheVariants as group
+pub use Rattle.recovery_laws.specs.PromotionRules.Groups.{by_bridge, group_of}
+pub use Rattle.recovery_laws.specs.PromotionRules.declared.groups.Group.{Group}
+pub use Rattle.recovery_laws.specs.PromotionRules.declared.groups.Group.TheVariants as group
 pub use Rattle.recovery_laws.specs.ServerModel.Attach.{after_attach as world_attached, attach_answer, attached_to, chain_meets, first_kept, live_spot, purged_answer, same_spot, spot_below}
 pub use Rattle.recovery_laws.specs.ServerModel.Desk.{after_change, after_desk, asked, can_reach, desk_answer, started}
 pub use Rattle.recovery_laws.specs.ServerModel.Exchanges.{is_attached}
@@ -151,3 +156,6 @@ pub use Rattle.recovery_laws.specs.ServerWords.declared.changes.Ask.TheVariants 
 pub use Rattle.recovery_laws.specs.ServerWords.declared.changes.Threads.{Threads}
 pub use Rattle.recovery_laws.specs.ServerWords.declared.status.Status.{Status}
 pub use Rattle.recovery_laws.specs.ServerWords.declared.status.StatusFault.TheVariants as seeing
+pub use Rattle.recovery_laws.proofs.OperationsProofs.Attempts.{Attempts, IsAttachment, IsMove, IsWaitFor, StopsFor, attempts, is_over}
+pub use Rattle.recovery_laws.proofs.OperationsProofs.Attempts as doing
+pub use Rattle.recovery_laws.proofs.JobLaws.Stopped.{attachment-is}

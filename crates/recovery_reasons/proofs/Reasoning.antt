@@ -1,24 +1,21 @@
 -- Each entry of the lost was there before, or has its reason in this turn.
 use Rattle.recovery_reasons.proofs.Prelude.{Aim, AimsAt, All, All-append, All-cons, All-contains_itself, All-filter, All-head, All-nil, All-push}
-use Rattle.recovery_reasons.proofs.Prelude.{All-tail, AllLost, Ask, AttachFault, Attempt, Below, BelowSuccessor, Beside, BookState, Bridge, Cause}
-use Rattle.recovery_reasons.proofs.Prelude.{Contains, Coord, Decision, Decisions, Deed, Ending, Errant, Exchange, ExecOf, ExplainsTruly, Fact, Fate}
-use Rattle.recovery_reasons.proofs.Prelude.{Fits, Halted, HeldRecovery, HeldRings, Interfered, Interval, IsAsked, IsDue, IsLost, IsOnCourse}
-use Rattle.recovery_reasons.proofs.Prelude.{IsOnWay, IsRefusedOn, IsTrailing, IsTrueOf, IsUnreached, Job, Keeps, Late, Loses, Loss, LostReplica}
-use Rattle.recovery_reasons.proofs.Prelude.{Lot, MayDecide, MayEnd, Means, Miss, Moment, Observation, Op, Purged, Purpose, Reason, Recovery}
-use Rattle.recovery_reasons.proofs.Prelude.{Running, Server, ServerNo, Sight, Speaks, SpeaksWith, Stage, Status, Stopped, Strayed, Unattached}
-use Rattle.recovery_reasons.proofs.Prelude.{Unmatched, Unreachable, Unreached, WaitsFor, WasRead, Way, Why, Without, World, after_answer, after_ask}
-use Rattle.recovery_reasons.proofs.Prelude.{after_attach, after_look, after_status, after_until, after_wait, after_wait_by, aim_of, alone}
-use Rattle.recovery_reasons.proofs.Prelude.{attach_answer_of, before, borne, by_bridge, by_deed, by_match, by_set, can_attach, cause_by, chosen_of}
-use Rattle.recovery_reasons.proofs.Prelude.{crossing_of, decided_by, decides-held, deed_of, desk_answer, ended_by, ends, entered, exec_by}
-use Rattle.recovery_reasons.proofs.Prelude.{false≢true, fate, fate_of, fate_of_drain, fate_of_errant, fate_of_move, fate_of_trail, follows_no_more}
-use Rattle.recovery_reasons.proofs.Prelude.{ground_of, group_of, has_exec, has_own, info, is_at_or_before, is_barred, is_before, is_below, is_look}
-use Rattle.recovery_reasons.proofs.Prelude.{is_moved, is_reached, joined, kept-whole, latest_that, lead_of, leaver, logs_at, loses, loss_of}
-use Rattle.recovery_reasons.proofs.Prelude.{losses_in, lost_on_way, lot_by, lot_by_group, marked, match_fate, match_found, may_lead, met, more_on}
-use Rattle.recovery_reasons.proofs.Prelude.{move, move_fate, moved, next, observed, own_end_of, place_on, position_of, ring_at, rule_at, same-head}
-use Rattle.recovery_reasons.proofs.Prelude.{same_Some, same_again, same_coord, saw, seen_in, seen_of, server_at, shown_of, speaks_of, spoken_to}
-use Rattle.recovery_reasons.proofs.Prelude.{spot_by, spot_seen, status, status_in, stay_of, stepped, tail_of, taken, unfit, until_by, way_below}
-use Rattle.recovery_reasons.proofs.Prelude.{way_by_set, went-of, without_stopped}
-use Rattle.recovery_reasons.proofs.Prelude.asking
+use Rattle.recovery_reasons.proofs.Prelude.{All-tail, AllLost, Ask, AttachFault, Attempt, Attempts, Below, BelowSuccessor, Beside, BookState, Bridge}
+use Rattle.recovery_reasons.proofs.Prelude.{Cause, Contains, Coord, Decision, Decisions, Deed, Ending, Errant, ExecOf, ExplainsTruly, Fact, Fate}
+use Rattle.recovery_reasons.proofs.Prelude.{Fits, Halted, HeldRecovery, HeldRings, Interfered, Interval, IsAsked, IsDue, IsLost, IsOnCourse, IsOnWay}
+use Rattle.recovery_reasons.proofs.Prelude.{IsRefusedOn, IsTrailing, IsTrueOf, IsUnreached, IsWaitFor, Job, Keeps, Late, Loses, Loss, LostReplica}
+use Rattle.recovery_reasons.proofs.Prelude.{Lot, MayDecide, MayEnd, Means, Miss, Moment, NamesLogging, Observation, Op, Purged, Purpose, Reason, Recovery, Running}
+use Rattle.recovery_reasons.proofs.Prelude.{Server, ServerNo, Sight, Speaks, SpeaksWith, Stage, Status, Stopped, StopsFor, Strayed, Unattached}
+use Rattle.recovery_reasons.proofs.Prelude.{Unmatched, Unreachable, Unreached, WaitsFor, WasRead, Way, Why, Without, World, after_ask, after_look}
+use Rattle.recovery_reasons.proofs.Prelude.{after_status, aim_of, alone, attempts, before, borne, by_bridge, by_deed, cause_by, chosen_of}
+use Rattle.recovery_reasons.proofs.Prelude.{decided_by, decides-held, deed_of, desk_answer, ended_by, ends, entered, exec_by, false≢true, fate}
+use Rattle.recovery_reasons.proofs.Prelude.{fate_of, fate_of_drain, fate_of_errant, fate_of_move, fate_of_trail, follows_no_more, ground_of, group_of}
+use Rattle.recovery_reasons.proofs.Prelude.{has_exec, has_own, info, is_at_or_before, is_barred, is_before, is_below, is_look, is_moved, is_over}
+use Rattle.recovery_reasons.proofs.Prelude.{is_reached, joined, kept-whole, latest_that, lead_of, leaver, logs_at, loses, loss_of, losses_in}
+use Rattle.recovery_reasons.proofs.Prelude.{lost_on_way, lot_by, lot_by_group, marked, match_fate, may_lead, met, more_on, move, move_fate, moved}
+use Rattle.recovery_reasons.proofs.Prelude.{observed, own_end_of, place_on, position_of, ring_at, rule_at, same-head, same_Some, same_coord, seen_in}
+use Rattle.recovery_reasons.proofs.Prelude.{seen_of, server_at, shown_of, speaks_of, spoken_to, spot_by, spot_seen, status, status_in, stay_of}
+use Rattle.recovery_reasons.proofs.Prelude.{stepped, tail_of, taken, unfit, way_below, way_by_set, went-of, without_stopped}
 use Rattle.recovery_reasons.proofs.Prelude.attaching
 use Rattle.recovery_reasons.proofs.Prelude.attempt
 use Rattle.recovery_reasons.proofs.Prelude.by
@@ -36,13 +33,16 @@ use Rattle.recovery_reasons.proofs.Prelude.taking
 use Rattle.recovery_reasons.proofs.Prelude.task
 use Rattle.recovery_reasons.proofs.Prelude.way
 use Rattle.std.proofs.Common.{◌≡◌, ℕ, Bool, true, false, cond, not, List, [], ◌∷◌, ◌++◌, map, refl, sym, ◌∙◌, ap, subst, Option, Some, None, ◌&&◌, ◌⊎◌, inl, inr, Ok, Err, Result, ◌+◌}
-use Rattle.std.specs.Prelude.{◌==◌, is_some, option_map, nat_lt}
+use Rattle.std.specs.Prelude.{◌==◌, is_some, option_map}
 use Rattle.recovery_reasons.proofs.Causing.{StopsTruly, deed-true, match-cause}
 use Rattle.recovery_reasons.proofs.Coordinates.{before-other}
 use Rattle.recovery_reasons.proofs.OnWay.{Fine, decides-fine, handing, next-on, still-on, stepped-course}
 use Rattle.recovery_reasons.proofs.Readings.{Reading, fits-of, reader_of, stepped-reading}
-use Rattle.recovery_reasons.proofs.Speaking.{decides-speaks, due-speaks, stepped-speaks, due-waits, due-asked, due-looks, due-goes, match-refused, move-refused}
+use Rattle.recovery_reasons.proofs.Speaking.{decides-speaks, due-speaks, stepped-speaks, due-waits, due-asked, due-looks, due-goes, match-refused}
+use Rattle.recovery_reasons.proofs.Speaking.{move-refused}
 use Rattle.recovery_reasons.proofs.Choosing.{none-may}
+use Rattle.recovery_reasons.proofs.Prelude.doing
+use Rattle.recovery_reasons.proofs.Sights.{wait-speaks}
 
 -- ---- waits that are spent
 
@@ -56,76 +56,36 @@ StopsLate w n to (attempt.Goes o es k) = Unit {0}
 StopsLate w n to (attempt.Stops c o) = IsLate w n to c
 StopsLate w n to (attempt.Ends lines) = Unit {0}
 
-module _ (w : World) (j : Job) (rest : List Op) (n : ServerNo) (to : Option Coord) where
-  look-late : (from : Option ServerNo) (o : Observation) (r : Option Status) → StopsLate w n to (after_look j rest n from o r)
-  look-late from o None = tt
-  look-late from o (Some s) = go (is_moved from s.source)
-    where
-      go : (b : Bool) → StopsLate w n to (after_status j rest n from o s b)
-      go true = tt
-      go false = tt
-
-  ask-late : (a : Ask) (r : Result (Unit {0}) Unreachable) → StopsLate w n to (after_ask j rest n a r)
-  ask-late a (Ok t) = tt
-  ask-late a (Err e) = tt
-
-  until-late : (o : Option Coord) → StopsLate w n to (after_until w j rest n o)
-  until-late None = tt
-  until-late (Some c) = ask-late (asking.StartUntil c) (desk_answer (server_at w n.0))
-
-  wait-late : (r : Option Status) → seen_in (status w n.0) ≡ r → StopsLate w n to (after_wait j rest n (λ s. is_reached to s.exec) r)
-  wait-late None is = tt
-  wait-late (Some s) is = go (is_reached to s.exec) refl
-    where
-      more : is_reached to s.exec ≡ false → (b : Bool) → StopsLate w n to (cond b (attempt.Goes None [] (record (saw j n s) { waited = j.waited + 1 })) (attempt.Stops (cause.WaitSpent n) None))
-      more e true = tt
-      more e false = (s, is, e)
-
-      go : (b : Bool) → is_reached to s.exec ≡ b → StopsLate w n to (after_wait_by j rest n s b)
-      go true e = tt
-      go false e = more e (nat_lt (j.waited + 1) j.wait)
-
-  fault-late : (f : AttachFault) → IsLate w n to (cause_by n f)
-  fault-late attaching.Unreachable = tt
-  fault-late _ = tt
-
-  attach-late : (o : Option Exchange) → StopsLate w n to (after_attach w j rest n o)
-  attach-late None = tt
-  attach-late (Some e) = by (can_attach w e)
-    where
-      go : (r : Result (Unit {0}) AttachFault) → StopsLate w n to (after_answer j rest n e r)
-      go (Ok t) = tt
-      go (Err f) = fault-late f
-
-      by : (b : Bool) → StopsLate w n to (cond b (after_answer j rest n e (attach_answer_of w e)) (attempt.Goes None [] (next j rest)))
-      by true = go (attach_answer_of w e)
-      by false = tt
+fault-late : (w : World) (n : ServerNo) (to : Option Coord) (m : ServerNo) (f : AttachFault) → IsLate w n to (cause_by m f)
+fault-late w n to m attaching.Unreachable = tt
+fault-late w n to m _ = tt
 
 -- an operation that waits for the position at which another stopped
+module _ (w : World) (read : ℕ) (now : Moment) (j : Job) (rest : List Op) (n : ServerNo) (x : Bridge) where
+  abbrev aimed : Option Coord
+  aimed = aim_of j.seen (ExecOf x.no)
+
+  wait-late : (m : ServerNo) (d : Deed) (s : Status) → IsWaitFor m d → Some m ≡ Some n → WaitsFor x d → seen_in (status w m.0) ≡ Some s → is_over j d s ≡ false → IsLate w n aimed (cause.WaitSpent m)
+  wait-late m d s (doing.Awaits to) e h seen short = (
+    s,
+    subst (λ (k : ServerNo). seen_in (status w k.0) ≡ Some s) (same_Some m n e) seen,
+    subst (λ (y : Aim). is_reached (aim_of j.seen y) s.exec ≡ false) h short,
+  )
+  wait-late m d s _ e h seen short = absurd h
+
+  stops-late : (d : Deed) (c : Cause) → StopsFor w j d c → spoken_to d ≡ Some n → WaitsFor x d → IsLate w n aimed c
+  stops-late d c (doing.Spent m y s is seen short more) e h = wait-late m y s is (sym (wait-speaks m y is) ∙ e) h seen short
+  stops-late d c (doing.Refused m y a f is made of can answer) e h = fault-late w n aimed m f
+  stops-late d c (doing.Unmatched m k every f found) e h = cc
+  stops-late d c _ e h = tt
+
+  attempt-late : (d : Deed) (a : Attempt) → Attempts w read now j rest d a → spoken_to d ≡ Some n → WaitsFor x d → StopsLate w n aimed a
+  attempt-late d a (doing.Misses m from c why) e h = stops-late (deed.Look m from) c why e h
+  attempt-late d a (doing.Fails y c why) e h = stops-late y c why e h
+  attempt-late d a _ e h = tt
+
 deed-late : (w : World) (read : ℕ) (now : Moment) (j : Job) (rest : List Op) (d : Deed) (n : ServerNo) (x : Bridge) → spoken_to d ≡ Some n → WaitsFor x d → StopsLate w n (aim_of j.seen (ExecOf x.no)) (by_deed w read now j rest d)
-deed-late w read now j rest d n x on waits = go d on waits
-  where
-    to : Option Coord
-    to = aim_of j.seen (ExecOf x.no)
-
-    for-it : (m : ServerNo) (a : ServerNo → Attempt) → Some m ≡ Some n → StopsLate w n (aim_of j.seen (ExecOf x.no)) (a n) → StopsLate w n (aim_of j.seen (ExecOf x.no)) (a m)
-    for-it m a e h = subst (λ (k : ServerNo). StopsLate w n (aim_of j.seen (ExecOf x.no)) (a k)) (sym (same_Some m n e)) h
-
-    go : (y : Deed) → spoken_to y ≡ Some n → WaitsFor x y → StopsLate w n (aim_of j.seen (ExecOf x.no)) (by_deed w read now j rest y)
-    go (deed.Look m from) e h = for-it m (λ k. by_deed w read now j rest (deed.Look k from)) e (look-late w j rest n to from (observed w read now n) (seen_in (status w n.0)))
-    go (deed.Request m a) e h = for-it m (λ k. by_deed w read now j rest (deed.Request k a)) e (ask-late w j rest n to a (desk_answer (server_at w n.0)))
-    go (deed.Until m aim) e h = for-it m (λ k. by_deed w read now j rest (deed.Until k aim)) e (until-late w j rest n to (until_by (seen_of j.seen n.0) (aim_of j.seen aim)))
-    go (deed.Await m aim) e h =
-        for-it m (λ k. by_deed w read now j rest (deed.Await k aim)) e
-        (subst (λ (y : Aim). StopsLate w n (aim_of j.seen (ExecOf x.no)) (by_deed w read now j rest (deed.Await n y))) (sym h) (wait-late w j rest n to (seen_in (status w n.0)) refl))
-    go (deed.AwaitSet m k) e h = absurd h
-    go (deed.Settle m) e h = absurd h
-    go (deed.Cross c a b) e h = for-it a (λ k. by_deed w read now j rest (deed.Cross c k b)) e (attach-late w j rest n to (crossing_of j.seen c n b))
-    go (deed.Same m) e h = for-it m (λ k. by_deed w read now j rest (deed.Same k)) e (attach-late w j rest n to (same_again n (seen_of j.seen n.0)))
-    go (deed.Auto m k) e h = for-it m (λ i. by_deed w read now j rest (deed.Auto i k)) e (attach-late w j rest n to (by_set n k (seen_of j.seen k.0)))
-    go (deed.Match m k every) e h = cc
-    go (deed.CrossMatch m k) e h = for-it m (λ i. by_deed w read now j rest (deed.CrossMatch i k)) e (attach-late w j rest n to (by_match n k (match_found j.matches n k)))
-    go (deed.Finish lines) e h = cc
+deed-late w read now j rest d n x on waits = attempt-late w read now j rest n x d (by_deed w read now j rest d) (attempts w read now j rest d) on waits
 
 -- a status is no wait
 abbrev IsUnspent : Cause → Type 0
@@ -184,21 +144,26 @@ shown-exec w n s h = go (server_at w n) h
 
 module _ (w : World) (b : BookState) (now : Moment) where
   -- a drained one that doesn't go below the successor
-  below-of : (seen : List Sight) (f n : ServerNo) (s : Stopped) → is_some (seen_of seen n.0) ≡ true → way_below (ground_of w b now) seen f n s ≡ None → BelowSuccessor w b f n s
-  below-of seen f n s read h = go w.gtid refl h
+  below-of : (seen : List Sight) (f n : ServerNo) (s : Stopped) → is_some (seen_of seen n.0) ≡ true → logs_at w n ≡ true → way_below (ground_of w b now) seen f n s ≡ None
+      → BelowSuccessor w b f n s
+  below-of seen f n s read logs h = go w.gtid refl h
     where
-      by-set : (a c : Bool) → a ≡ true → cond (a && c) (Some (way.Auto n s.exec)) None ≡ None → c ≡ false
-      by-set true true on e = cc
-      by-set true false on e = refl
-      by-set false c on e = absurd (false≢true on)
+      by-set : (a c : Bool) → a ≡ true → c ≡ true → cond (a && c) (Some (way.Auto n s.exec)) None ≡ None → ⊥
+      by-set true true on writes e = cc
+      by-set true false on writes e = false≢true writes
+      by-set false c on writes e = false≢true on
 
       by-log : (o : Option Bridge) → option_map way.Up o ≡ None → o ≡ None
       by-log None e = refl
       by-log (Some y) e = cc
 
       go : (g : Bool) → w.gtid ≡ g → cond g (way_by_set w seen n s) (option_map way.Up (latest_that (has_own n s.exec) (ring_at b.rings f))) ≡ None → BelowSuccessor w b f n s
-      go true e f' = inr (e, by-set (is_some (seen_of seen n.0)) (logs_at w n) read f')
-      go false e f' = inl (e, by-log (latest_that (has_own n s.exec) (ring_at b.rings f)) f')
+      go true e f' = absurd (by-set (is_some (seen_of seen n.0)) (logs_at w n) read logs f')
+      go false e f' = (e, by-log (latest_that (has_own n s.exec) (ring_at b.rings f)) f')
+
+  -- it logs
+  successor-logs : (u : Purpose) (n : ServerNo) → u ≡ purpose.Intermediate n → NamesLogging w u → logs_at w n ≡ true
+  successor-logs u n is h = subst (NamesLogging w) is h
 
 module _ (w : World) (b : BookState) (now : Moment) (r : Recovery) (P : Fact → Bool) (why : ExplainsTruly w b now r P) where
   abbrev Each : LostReplica → Type 0
@@ -273,19 +238,19 @@ module _ (w : World) (b : BookState) (now : Moment) (r : Recovery) (P : Fact →
         go true e h = because s.no lost.must_not (Without s due is mine (e, barred (is_barred (rule_at b s.no now)) h))
         go false e h = because s.no lost.not_logging (Without s due is mine e)
 
-    decision-explained : (d : Decision) → Fine x → MayDecide (ground_of w b now) x d → Good x → Good (decided_by (ground_of w b now) x d)
-    decision-explained (by.Chooses p ts) fine m good =
+    decision-explained : (d : Decision) → Fine x → NamesLogging w x.purpose → MayDecide (ground_of w b now) x d → Good x → Good (decided_by (ground_of w b now) x d)
+    decision-explained (by.Chooses p ts) fine logs m good =
         All-append Each x.outcome.lost (losses_in (lot_by x.means (ground_of w b now) x.failed p) (without_stopped x.drained p.no)) good
         (losses-explained (lot_by x.means (ground_of w b now) x.failed p) (without_stopped x.drained p.no)
         (lots-explained p (without_stopped x.drained p.no) (ts, m.0) m.1 (All-filter (λ s. not (s.no.0 == p.no.0)) (Contains x.drained) x.drained (All-contains_itself x.drained))))
-    decision-explained (by.ChoosesNobody ts) fine m good =
+    decision-explained (by.ChoosesNobody ts) fine logs m good =
         All-append Each x.outcome.lost (map (unfit w) x.drained) good
         (unfit-explained x.drained (ts, m.0) m.1 (All-contains_itself x.drained) (none-may w b now x.failed x.drained m.1))
-    decision-explained (by.Leaves d ds ts) fine m good =
+    decision-explained (by.Leaves d ds ts) fine logs m good =
         let one = handing w b now x d ds None ts (next-on x task.Handing ts m.next fine) m in
         All-push Each x.outcome.lost _ good
-        (because d.no (lost.behind d.exec) (Below m.source d ds (ts, m.next) one.0 m.chosen m.drained (below-of w b now x.core.seen x.failed m.source d one.1 m.way)))
-    decision-explained d fine m good = good
+        (because d.no (lost.behind d.exec) (Below m.source d ds (ts, m.next) one.0 m.chosen m.drained (below-of w b now x.core.seen x.failed m.source d one.1 (successor-logs w b now x.purpose m.source one.0 logs) m.way)))
+    decision-explained d fine logs m good = good
 
   -- ---- the operation
 
@@ -471,7 +436,7 @@ module _ (w : World) (b : BookState) (now : Moment) (r : Recovery) (P : Fact →
     decides = λ x d may h. (
       decides-held w b now rings x d may h.0,
       decides-speaks w b now x d may h.1,
-      (decides-fine w b now x d may h.2.0, (joined w b now h.2.1.0 (by.Then d may by.Still), decision-explained x h.2.1.0 d h.2.0 may h.2.1.1)),
+      (decides-fine w b now x d may h.2.0, (joined w b now h.2.1.0 (by.Then d may by.Still), decision-explained x h.2.1.0 d h.2.0 h.0.named may h.2.1.1)),
     );
     waits = λ x o rest ob es j did e h. h.2.1.1;
     acts = λ x o rest ob es j did e h.

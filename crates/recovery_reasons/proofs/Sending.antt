@@ -1,26 +1,24 @@
 -- Each replica that goes some way was sent that way, and the position at which the designated one stopped was read.
-use Rattle.std.proofs.Common.{◌≡◌, ℕ, Bool, true, false, cond, not, List, [], ◌∷◌, ◌++◌, filter, map, refl, sym, ◌∙◌, ap, subst, Option, Some, None, ◌⊎◌, inl, inr, ◌&&◌}
+use Rattle.std.proofs.Common.{◌≡◌, ℕ, Bool, true, false, cond, not, List, [], ◌∷◌, ◌++◌, filter, map, refl, sym, ◌∙◌, ap, subst, Option, Some, None, inl, ◌&&◌}
 use Rattle.std.specs.Prelude.{◌==◌, is_some, option_map}
-use Rattle.recovery_reasons.proofs.Prelude.{All, All-append, All-cons, All-contains_itself, All-filter, All-head, All-nil, All-tail, AreLeft, AreSent}
-use Rattle.recovery_reasons.proofs.Prelude.{Attached, Attempt, Bearing, BookState, Bridge, Contains, Coord, Decision, Decisions, Detached, Ending, Exchange}
-use Rattle.recovery_reasons.proofs.Prelude.{ExplainsTruly, Fact, Fits, HeldRecovery, HeldRings, IsDue, IsLed, IsNext, IsOnCourse, IsRest, IsSent}
-use Rattle.recovery_reasons.proofs.Prelude.{IsSentSo, IsWayBelow, IsWayBeside, Job, Keeps, Leads, Lot, MayDecide, MayEnd, Means, Moment, Observation, Op}
+use Rattle.recovery_reasons.proofs.Prelude.{All, All-append, All-cons, All-contains_itself, All-filter, All-head, All-nil, All-tail, AreSent}
+use Rattle.recovery_reasons.proofs.Prelude.{Attached, Bearing, BookState, Bridge, Contains, Coord, Decision, Decisions, Ending}
+use Rattle.recovery_reasons.proofs.Prelude.{ExplainsTruly, Fact, HeldRecovery, HeldRings, IsDue, IsLed, IsNext, IsOnCourse, IsSent}
+use Rattle.recovery_reasons.proofs.Prelude.{IsSentSo, IsWayBelow, IsWayBeside, Keeps, Leads, Lot, MayDecide, MayEnd, Means, Moment, Op}
 use Rattle.recovery_reasons.proofs.Prelude.{Position, Purpose, Recovery, SendsBelow, SendsBeside, SendsThere, ServerNo, Sight, SourceState, Speaks}
-use Rattle.recovery_reasons.proofs.Prelude.{SpeaksWith, Stage, Status, Stopped, Task, Way, World, after_look, after_status, begun_recovery}
-use Rattle.recovery_reasons.proofs.Prelude.{borne, bridge_at, bridge_by, but, by_bridge, by_deed, chosen_of, decided_by, decides-held, deed_of, ended}
-use Rattle.recovery_reasons.proofs.Prelude.{ended_by, ends, entered, eq-eqb, fate_of, fits-step, follows_no_more}
-use Rattle.recovery_reasons.proofs.Prelude.{gathering, ground_of, has_exec, has_own, is_before, is_moved, joined, kept-whole, latest_that}
-use Rattle.recovery_reasons.proofs.Prelude.{lead_of, lead_under, leaver, logs_at, lot_by, lot_by_group, move_of, moved, moved-fits, moves_in, observed}
-use Rattle.recovery_reasons.proofs.Prelude.{own_end_of, position_of, ring_at, same-tail, same_Some, same_coord, seen-at, seen_in, seen_of}
+use Rattle.recovery_reasons.proofs.Prelude.{SpeaksWith, Stage, Status, Stopped, Task, Way, World, begun_recovery}
+use Rattle.recovery_reasons.proofs.Prelude.{borne, bridge_at, bridge_by, but, by_bridge, chosen_of, decided_by, decides-held, deed_of, ended}
+use Rattle.recovery_reasons.proofs.Prelude.{ended_by, ends, entered, fate_of, follows_no_more}
+use Rattle.recovery_reasons.proofs.Prelude.{ground_of, has_exec, has_own, is_before, joined, kept-whole, latest_that}
+use Rattle.recovery_reasons.proofs.Prelude.{lead_of, lead_under, leaver, logs_at, lot_by, lot_by_group, move_of, moved, moves_in}
+use Rattle.recovery_reasons.proofs.Prelude.{own_end_of, ring_at, same_Some, same_coord, seen_in, seen_of}
 use Rattle.recovery_reasons.proofs.Prelude.{All-chosen, IsStopped, chosen-logs, expels, group_of, info, own-is, releases, why_of}
-use Rattle.recovery_reasons.proofs.Prelude.{status, stepped, tail_of, taken, way_below, way_by_set, went-of, without_stopped}
-use Rattle.recovery_reasons.proofs.Prelude.attempt
+use Rattle.recovery_reasons.proofs.Prelude.{status, stepped, taken, way_below, way_by_set, went-of, without_stopped}
 use Rattle.recovery_reasons.proofs.Prelude.by
 use Rattle.recovery_reasons.proofs.Prelude.deciding
 use Rattle.recovery_reasons.proofs.Prelude.group
 use Rattle.recovery_reasons.proofs.Prelude.lost
 use Rattle.recovery_reasons.proofs.Prelude.means
-use Rattle.recovery_reasons.proofs.Prelude.op
 use Rattle.recovery_reasons.proofs.Prelude.purpose
 use Rattle.recovery_reasons.proofs.Prelude.source
 use Rattle.recovery_reasons.proofs.Prelude.stage
@@ -28,56 +26,11 @@ use Rattle.recovery_reasons.proofs.Prelude.task
 use Rattle.recovery_reasons.proofs.Prelude.way
 use Rattle.recovery_reasons.proofs.Prelude.ways
 use Rattle.recovery_reasons.proofs.Coordinates.{before-other}
+use Rattle.recovery_reasons.proofs.Gathering.{Gathered, Gathers, stepped-gathers}
 use Rattle.recovery_reasons.proofs.Listing.{IsListed, decides-listed, due-listed}
 use Rattle.recovery_reasons.proofs.OnWay.{Fine, decides-fine, handing, next-on, still-on, stepped-course}
 use Rattle.recovery_reasons.proofs.Readings.{Reading, fits-of, reader_of, stepped-reading}
 use Rattle.recovery_reasons.proofs.Speaking.{decides-speaks, moved-goes, stepped-speaks}
-
--- ---- the last reading of the designated one
-
-abbrev last_of : Op → List Op → Op
-last_of e [] = e
-last_of e (x ∷ xs) = last_of x xs
-
-last-one : (e : Op) (xs : List Op) (o : Op) → last_of e (xs ++ o ∷ []) ≡ o
-last-one e [] o = refl
-last-one e (x ∷ xs) o = last-one x xs o
-
--- the last operation of such a stage
-gathers-last : (m d : ServerNo) (o : Op) → IsRest (gathering m d) (o ∷ []) → o ≡ op.Status d (Some m)
-gathers-last m d o h = sym (ap (last_of o) h.split ∙ last-one o h.done o)
-
--- a reading that finds the server below the named one
-record ReadsBelow (w : World) (seen : List Sight) (n m : ServerNo) : Type 0 where
-  shown : Status
-  is : seen_in (status w n.0) ≡ Some shown
-  noted : seen_of seen n.0 ≡ Some (position_of shown)
-  source : ServerNo
-  below : shown.source ≡ Attached source
-
-abbrev ReadsSo : World → ServerNo → ServerNo → Attempt → Type 0
-ReadsSo w n m (attempt.Goes o es k) = ReadsBelow w k.seen n m
-ReadsSo w n m (attempt.Stops c o) = Unit {0}
-ReadsSo w n m (attempt.Ends lines) = Unit {0}
-
-read-below : (w : World) (read : ℕ) (now : Moment) (j : Job) (rest : List Op) (n m : ServerNo) → ReadsSo w n m (by_deed w read now j rest (deed_of (op.Status n (Some m))))
-read-below w read now j rest n m = go (seen_in (status w n.0)) refl
-  where
-    go : (x : Option Status) → seen_in (status w n.0) ≡ x → ReadsSo w n m (after_look j rest n (Some m) (observed w read now n) x)
-    go None e = tt
-    go (Some s) e = by-source s.source refl
-      where
-        noted : seen_of (attempt.saw j n s).seen n.0 ≡ Some (position_of s)
-        noted = seen-at j.seen n (position_of s) n.0 ∙ ap (λ b. cond b (Some (position_of s)) (seen_of j.seen n.0)) (eq-eqb n.0 n.0 refl)
-
-        moved-or : (k : ServerNo) → s.source ≡ Attached k → (a : Bool) → ReadsSo w n m (after_status j rest n (Some m) (observed w read now n) s a)
-        moved-or k at true = tt
-        moved-or k at false = record { shown = s; is = e; noted = noted; source = k; below = at }
-
-        by-source : (x : SourceState) → s.source ≡ x → ReadsSo w n m (after_status j rest n (Some m) (observed w read now n) s (is_moved (Some m) x))
-        by-source source.Without at = tt
-        by-source (source.Attached k) at = moved-or k at (not (k.0 == m.0))
-        by-source (source.Detached k) at = tt
 
 -- ---- ways
 
@@ -226,55 +179,6 @@ module _ (w : World) (b : BookState) (now : Moment) (r : Recovery) (P : Fact →
 
   -- ---- the operation
 
-  -- once no operation of such a stage is left the designated one was read in this turn
-  record Gathered (z : Recovery) (m d : ServerNo) : Type 0 where
-    first : Recovery
-    so : Decisions (ground_of w b now) r first
-    stage : first.stage ≡ stage.Gather m d
-    due : first.core.ops ≡ op.Status d (Some m) ∷ []
-    reads : ReadsBelow w z.core.seen d m
-
-  abbrev Gathers : Recovery → Type 0
-  Gathers z = (m d : ServerNo) → z.stage ≡ stage.Gather m d → z.core.ops ≡ [] → Gathered z m d
-
-  module _ (read : ℕ) (x : Recovery) (so : Decisions (ground_of w b now) r x) (o : Op) (rest : List Op) (is : x.core.ops ≡ o ∷ rest) (fits : Fits x.stage (o ∷ rest)) (listed : AreLeft x.stage (o ∷ rest))
-      (ob : Option Observation) (es : List Exchange) (j : Job) (goes : by_deed w read now x.core rest (deed_of o) ≡ attempt.Goes ob es j) (left : j.ops ≡ rest) where
-    abbrev later : Recovery
-    later = record x { core = j }
-
-    gathered-now : (m d : ServerNo) → x.stage ≡ stage.Gather m d → rest ≡ [] → Gathered later m d
-    gathered-now m d at none =
-        let same = gathers-last m d o (subst (λ (xs : List Op). IsRest (gathering m d) (o ∷ xs)) none (subst (λ (s : Stage). AreLeft s (o ∷ rest)) at listed)) in
-        record {
-          first = x;
-          so = so;
-          stage = at;
-          due = is ∙ (ap (λ (y : Op). y ∷ rest) same ∙ ap (λ (xs : List Op). op.Status d (Some m) ∷ xs) none);
-          reads =
-              subst (λ (a : Attempt). ReadsSo w d m a) (subst (λ (y : Op). by_deed w read now x.core rest (deed_of y) ≡ attempt.Goes ob es j) same goes)
-              (read-below w read now x.core rest d m);
-        }
-
-    -- what leads there has all operations left
-    not-yet : (s : Stage) → o ∷ rest ≡ tail_of s → (m d : ServerNo) → moved s ≡ stage.Gather m d → rest ≡ [] → ⊥
-    not-yet (stage.Shut k i) t m d at none = let bad : gathering k i ≡ [] = sym (same-tail o (op.ReadOnly k true) rest (gathering k i) t) ∙ none in cc
-    not-yet (stage.Gather k i) t m d at none = cc
-    not-yet s t m d at none = cc
-
-    stepped-gathers : Gathers (stepped later o)
-    stepped-gathers = go (fits-step x.stage o rest fits)
-      where
-        here : Gathers later
-        here m d at none = gathered-now m d at (sym left ∙ none)
-
-        next : (q : Option ServerNo) → o ∷ rest ≡ tail_of x.stage → Gathers (record (follows_no_more later q) { stage = moved x.stage })
-        next None t m d at none = absurd (not-yet x.stage t m d at (sym left ∙ none))
-        next (Some k) t m d at none = absurd (not-yet x.stage t m d at (sym left ∙ none))
-
-        go : ((ends x.stage (deed_of o) ≡ false) × Fits x.stage rest) ⊎ (o ∷ rest ≡ tail_of x.stage) → Gathers (stepped later o)
-        go (inl p) = subst (λ (a : Bool). Gathers (cond a (entered later (moved x.stage)) later)) (sym p.0) here
-        go (inr t) = subst (λ (a : Bool). Gathers (cond a (entered later (moved x.stage)) later)) (sym (moved-fits x.stage o rest t).0) (next (leaver (moved x.stage)) t)
-
   stepped-sent : (x : Recovery) (o : Op) → AreSent P x → AreSent P (stepped x o)
   stepped-sent x o h = by-end (ends x.stage (deed_of o))
     where
@@ -312,7 +216,7 @@ module _ (w : World) (b : BookState) (now : Moment) (r : Recovery) (P : Fact →
       go s is false e f = cc
 
   -- the position at which the designated one stopped, below its master
-  led-told : (z : Recovery) (m d : ServerNo) → Gathered z m d → (x : Bridge) → lead_under z.failed (bridge_at d (seen_of z.core.seen d.0)) ≡ Some x → P (IsLed x) ≡ true
+  led-told : (z : Recovery) (m d : ServerNo) → Gathered w b now r z m d → (x : Bridge) → lead_under z.failed (bridge_at d (seen_of z.core.seen d.0)) ≡ Some x → P (IsLed x) ≡ true
   led-told z m d g x h =
       let noted = ap (λ (o : Option Position). lead_under z.failed (bridge_at d o)) (sym g.reads.noted) ∙ h in
       go g.reads.shown.own_end refl (ap (λ (s : SourceState). lead_under z.failed (bridge_by d g.reads.shown.own_end s g.reads.shown.exec)) (sym g.reads.below) ∙ noted)
@@ -331,7 +235,7 @@ module _ (w : World) (b : BookState) (now : Moment) (r : Recovery) (P : Fact →
       go None end e = cc
       go (Some own) end e = under own end (g.reads.source.0 == z.failed.0) e
 
-  completes-sent : (z : Recovery) (e : Ending) → z.core.ops ≡ [] → MayEnd z e → SpeaksWith z → IsOnCourse z → Reading w b now r z → Gathers z → AreSent P z → AreSent P (ended_by z e)
+  completes-sent : (z : Recovery) (e : Ending) → z.core.ops ≡ [] → MayEnd z e → SpeaksWith z → IsOnCourse z → Reading w b now r z → Gathers w b now r z → AreSent P z → AreSent P (ended_by z e)
   completes-sent z (by.Joins n x) none may speaks course h gathers sent = sending z (ended_by z (by.Joins n x)) n (way.Down x) sent.queue refl (joins-told z n x may speaks course h) refl sent
   completes-sent z (by.Leads d) none may speaks course h gathers sent = record {
     queue = sent.queue;
@@ -351,7 +255,7 @@ module _ (w : World) (b : BookState) (now : Moment) (r : Recovery) (P : Fact →
   Before x = HeldRecovery w x × SpeaksWith x × Fine x × IsListed x × Decisions (ground_of w b now) r x × AreSent P x
 
   abbrev Between : World → Recovery → Type 0
-  Between v x = SpeaksWith x × IsOnCourse x × Reading w b now r x × Gathers x × AreSent P x
+  Between v x = SpeaksWith x × IsOnCourse x × Reading w b now r x × Gathers w b now r x × AreSent P x
 
   pub decides-sent : HeldRings w b.rings → (x : Recovery) (d : Decision) → MayDecide (ground_of w b now) x d → Before x → Before (decided_by (ground_of w b now) x d)
   decides-sent rings x d may h = (
@@ -373,7 +277,7 @@ module _ (w : World) (b : BookState) (now : Moment) (r : Recovery) (P : Fact →
           stepped-speaks w read now x o rest fits h.1 did.ops ob es j did.goes on e,
           stepped-course w read now x o rest did.ops fits (still-on x o rest did.ops h.2).course ob es j did.goes (on.done e),
           stepped-reading w b now r read x h.4 o rest fits ob es j did.goes,
-          stepped-gathers read x h.4 o rest did.ops fits (due-listed x o rest did.ops h.3) ob es j did.goes (on.done e),
+          stepped-gathers w b now r read x h.4 o rest did.ops fits (due-listed x o rest did.ops h.3) ob es j did.goes (on.done e),
           stepped-sent (record x { core = j }) o (keeping x (record x { core = j }) h.5.queue refl refl h.5),
         );
     continues = λ v x y ys is h. h.4;

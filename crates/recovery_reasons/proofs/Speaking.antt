@@ -21,6 +21,8 @@ use Rattle.recovery_reasons.proofs.Prelude.table
 use Rattle.recovery_reasons.proofs.Prelude.way
 use Rattle.std.proofs.Common.{◌≡◌, ℕ, Bool, true, false, cond, List, [], ◌∷◌, ◌++◌, arith, refl, sym, ◌∙◌, ap, subst, Option, Some, None, option_map, ◌⊎◌, inl, inr, Ok, Err, Result}
 use Rattle.recovery_reasons.proofs.Beginning.{begun-way}
+use Rattle.recovery_reasons.proofs.Changing.{begun-changes, taken-its}
+use Rattle.recovery_reasons.proofs.Gathering.{begun-knows, taken-knows}
 use Rattle.recovery_reasons.proofs.Listing.{begun-listed, taken-listed}
 use Rattle.recovery_reasons.proofs.OnWay.{taken-way}
 use Rattle.recovery_reasons.proofs.Sights.{SeesOnly, deed-sees}
@@ -464,7 +466,9 @@ pub taken-speaks : (w : World) (b : BookState) (read : ℕ) (now : Moment) (r : 
 taken-speaks w b read now r rings held s going = record {
   says = kept-along w b read now (λ x. HeldRecovery w x × SpeaksWith x) (λ v x. SpeaksWith x) (λ v x. SpeaksWith x) (keeps-speaks w b read now rings) r (held, s.says) going;
   way = taken-way w b read now r held.fits s.way going;
+  knows = taken-knows w b now r held.named read rings held (inl s.way) s.listed s.knows going;
   listed = taken-listed w b read now r rings held s.listed going;
+  changes = taken-its w b read now r s.changes going;
 }
 
 begun-says : (u : Purpose) (by : Means) (id wait : ℕ) (f : ServerNo) (ns order : List ServerNo) → SpeaksWith (begun_recovery u by id wait f ns order)
@@ -477,5 +481,7 @@ pub begun-speaks : (u : Purpose) (by : Means) (id wait : ℕ) (f : ServerNo) (ns
 begun-speaks u by id wait f ns order = record {
   says = begun-says u by id wait f ns order;
   way = begun-way u by id wait f ns order;
+  knows = begun-knows u by id wait f ns order;
   listed = begun-listed u by id wait f ns order;
+  changes = begun-changes u by id wait f ns order;
 }

@@ -1,24 +1,21 @@
 -- What a job leaves stopped, and what a turn makes good in which the recovery fails.
-use Rattle.std.proofs.Common.{◌≡◌, ℕ, ◌+◌, zero, suc, Bool, true, false, cond, not, List, [], ◌∷◌, ◌++◌, refl, sym, ◌∙◌, ap, subst, Option, Some, None, ◌⊎◌, inl, inr, Ok, Err, Result, arith}
-use Rattle.std.specs.Prelude.{nat_lt, ◌==◌}
-use Rattle.recovery_reasons.proofs.Prelude.{Ask, AttachFault, Attempt, Attach, BookState, Cause, Contains, Contains-append_cases, Contains-append_left}
-use Rattle.recovery_reasons.proofs.Prelude.{Contains-append_right, Contains-push, Coord, Decision, Decisions, Deed, Ending, Exchange, Fate, GoesBack, Job}
-use Rattle.recovery_reasons.proofs.Prelude.{IsOpen, KeepsHands, Line, MatchFault, MayDecide, Moment, Observation, Op, OpensAgain, Position, Purpose, Recovery}
-use Rattle.recovery_reasons.proofs.Prelude.{Request, ServerNo, Sight, SourceState, Spot, Stage, StartsHands, Status, Taken, Threads, Turning, Unreachable}
-use Rattle.recovery_reasons.proofs.Prelude.{World, acted, after_answer, after_ask, after_attach, after_look, after_match, after_status, after_until}
-use Rattle.recovery_reasons.proofs.Prelude.{after_wait, after_wait_by, aim_of, attach_answer_of, attempted, barred_by, borne, bridge_at, bridge_by, by_deed}
-use Rattle.recovery_reasons.proofs.Prelude.{by_match, by_set, can_attach, closed_at, crossed, crossing_of, decided, decided_by, decisions-keep, deed_of}
-use Rattle.recovery_reasons.proofs.Prelude.{desk_answer, ended_by, ends, entered, eqb-true, false≢true, fate, fate_of, follows_no_more, ground_of}
-use Rattle.recovery_reasons.proofs.Prelude.{holds_seen, is_going, is_moved, is_reached, is_takeover, last_exchanges, leaver, match_found, match_logs}
-use Rattle.recovery_reasons.proofs.Prelude.{met, moved, next, observed, on_going, restarts, run, same-no, same_Some, same_again, saw, seen_in, seen_of}
-use Rattle.recovery_reasons.proofs.Prelude.{server_at, settled_turn, settles, standing_at, status, stepped, taken, taken-walks, that_can, undone, until_by}
-use Rattle.recovery_reasons.proofs.Prelude.{with_hand, without}
+use Rattle.std.proofs.Common.{◌≡◌, ℕ, ◌+◌, zero, suc, Bool, true, false, cond, not, List, [], ◌∷◌, ◌++◌, filter, refl, sym, ◌∙◌, ap, subst, Option, Some, None, ◌⊎◌, inl, inr, Ok, arith}
+use Rattle.std.specs.Prelude.{◌==◌}
+use Rattle.recovery_reasons.proofs.Prelude.{All, All-append, All-cons, All-nil, Ask, Attach, Attempt, Attempts, BookState, Cause, Contains}
+use Rattle.recovery_reasons.proofs.Prelude.{Contains-append_cases, Contains-append_left, Contains-append_right, Contains-push, Coord, Decision}
+use Rattle.recovery_reasons.proofs.Prelude.{Decisions, Deed, Ending, Exchange, Fate, GoesBack, IsOpen, Job, KeepsHands, Line, MakesGood, MayDecide}
+use Rattle.recovery_reasons.proofs.Prelude.{Moment, Observation, Op, OpensAgain, Position, Purpose, Recovery, Request, ServerNo, Sight, SourceState}
+use Rattle.recovery_reasons.proofs.Prelude.{Stage, StartsHands, Taken, Threads, Turning, World, acted, after_ask, attempted, attempts, barred_by}
+use Rattle.recovery_reasons.proofs.Prelude.{borne, bridge_at, bridge_by, by_deed, can_attach, closed_at, crossed, crossing_of, decided, decided_by}
+use Rattle.recovery_reasons.proofs.Prelude.{decisions-keep, deed_of, ended_by, ends, entered, eqb-true, false≢true, fate, fate_of, follows_no_more}
+use Rattle.recovery_reasons.proofs.Prelude.{ground_of, is_going, is_takeover, last_exchanges, leaver, met, moved, next, on_going, restarts}
+use Rattle.recovery_reasons.proofs.Prelude.{run, same-no, same_Some, seen_of, settled_turn, stepped, taken, taken-walks, that_can, undone, with_hand}
+use Rattle.recovery_reasons.proofs.Prelude.{without}
 use Rattle.recovery_reasons.proofs.Prelude.asking
 use Rattle.recovery_reasons.proofs.Prelude.attempt
 use Rattle.recovery_reasons.proofs.Prelude.by
-use Rattle.recovery_reasons.proofs.Prelude.cause
 use Rattle.recovery_reasons.proofs.Prelude.cross
-use Rattle.recovery_reasons.proofs.Prelude.deed
+use Rattle.recovery_reasons.proofs.Prelude.good
 use Rattle.recovery_reasons.proofs.Prelude.purpose
 use Rattle.recovery_reasons.proofs.Prelude.source
 use Rattle.recovery_reasons.proofs.Prelude.spot
@@ -27,6 +24,7 @@ use Rattle.recovery_reasons.proofs.Prelude.step
 use Rattle.recovery_reasons.proofs.Prelude.taking
 use Rattle.recovery_reasons.proofs.Dealing.{no-none, picked}
 use Rattle.recovery_reasons.proofs.Opening.{opens-last}
+use Rattle.recovery_reasons.proofs.Prelude.doing
 
 -- ---- lists
 
@@ -42,20 +40,25 @@ restarted [] n h = absurd (no-none n h)
 restarted (k ∷ ks) n (zero, l, e) = (0, omega arith, ap (λ (i : ServerNo). Request i.0 asking.Start) e)
 restarted (k ∷ ks) n (suc i, l, e) = Contains-append_right (Request k.0 asking.Start ∷ []) (restarts ks) (Request n.0 asking.Start) (restarted ks n (i, omega (arith, l), e))
 
-only-starts : (hands : List ServerNo) (n : ℕ) (on : Bool) → Contains (restarts hands) (Request n (asking.SetReadOnly on)) → ⊥
-only-starts [] n on h = no-none (Request n (asking.SetReadOnly on)) h
-only-starts (k ∷ ks) n on h = go (λ i. only-starts ks n on i) (Contains-append_cases (Request k.0 asking.Start ∷ []) (restarts ks) (Request n (asking.SetReadOnly on)) h)
+unfiltered : (p : ServerNo → Bool) (ns : List ServerNo) (n : ServerNo) → Contains (filter p ns) n → Contains ns n
+unfiltered p [] n h = h
+unfiltered p (k ∷ ks) n h = go (p k) h (λ g. unfiltered p ks n g)
   where
-    go : (Contains (restarts ks) (Request n (asking.SetReadOnly on)) → ⊥) → Contains (Request k.0 asking.Start ∷ []) (Request n (asking.SetReadOnly on)) ⊎ Contains (restarts ks) (Request n (asking.SetReadOnly on)) → ⊥
-    go never (inl i) = let bad = only-one (Request k.0 asking.Start) (Request n (asking.SetReadOnly on)) i in cc
-    go never (inr i) = never i
+    more : Contains (k ∷ []) n ⊎ Contains (filter p ks) n → (Contains (filter p ks) n → Contains ks n) → Contains (k ∷ ks) n
+    more (inl y) rest = Contains-append_left (k ∷ []) ks n y
+    more (inr y) rest = Contains-append_right (k ∷ []) ks n (rest y)
+
+    go : (a : Bool) → Contains (cond a (k ∷ filter p ks) (filter p ks)) n → (Contains (filter p ks) n → Contains ks n) → Contains (k ∷ ks) n
+    go true g rest = more (Contains-append_cases (k ∷ []) (filter p ks) n g) rest
+    go false g rest = Contains-append_right (k ∷ []) ks n (rest g)
 
 -- ---- an operation
 
--- whom an attempt stops is in the hands, and whoever was there stays or is started
+-- whom an attempt stops is in the hands, and whoever was there stays or is started; nobody else is there
 record Hands (hands : List ServerNo) (es : List Exchange) (k : Job) : Type 0 where
   takes : (n : ServerNo) (which : Threads) → Contains es (Request n.0 (asking.Stop which)) → Contains k.hands n
   keeps : (n : ServerNo) → Contains hands n → Contains k.hands n ⊎ Contains es (Request n.0 asking.Start)
+  only : (n : ServerNo) → Contains k.hands n → Contains hands n ⊎ ((which : Threads) × Contains es (Request n.0 (asking.Stop which)))
 
 abbrev HandsOf : Job → Attempt → Type 0
 HandsOf j (attempt.Goes o es k) = Hands j.hands es k
@@ -67,6 +70,7 @@ module _ (w : World) (j : Job) (rest : List Op) where
   still-hands k same = record {
     takes = λ n which h. absurd (no-none (Request n.0 (asking.Stop which)) h);
     keeps = λ n h. inl (subst (λ (xs : List ServerNo). Contains xs n) (sym same) h);
+    only = λ n h. inl (subst (λ (xs : List ServerNo). Contains xs n) same h);
   }
 
   -- a request that neither stops nor starts
@@ -74,6 +78,7 @@ module _ (w : World) (j : Job) (rest : List Op) where
   asks-hands n a k same off = record {
     takes = λ m which h. let e = only-one (Request n.0 a) (Request m.0 (asking.Stop which)) h in absurd (off which (asked-so e));
     keeps = λ m h. inl (subst (λ (xs : List ServerNo). Contains xs m) (sym same) h);
+    only = λ m h. inl (subst (λ (xs : List ServerNo). Contains xs m) same h);
   }
     where
       asked_in : Exchange → Ask
@@ -90,8 +95,14 @@ module _ (w : World) (j : Job) (rest : List Op) where
         subst (λ (xs : List ServerNo). Contains xs m) (sym same)
         (subst (λ (i : ServerNo). Contains (with_hand j.hands n) i) (same-no n m (ap number_in e)) (Contains-push (without j.hands n) n));
     keeps = λ m h. inl (subst (λ (xs : List ServerNo). Contains xs m) (sym same) (stays m h (m.0 == n.0) refl));
+    only = λ m h. added m (Contains-append_cases (without j.hands n) (n ∷ []) m (subst (λ (xs : List ServerNo). Contains xs m) same h));
   }
     where
+      added : (m : ServerNo) → Contains (without j.hands n) m ⊎ Contains (n ∷ []) m → Contains j.hands m ⊎ ((other : Threads) × Contains (Request n.0 (asking.Stop which) ∷ []) (Request m.0 (asking.Stop other)))
+      added m (inl h) = inl (unfiltered (λ (i : ServerNo). not (i.0 == n.0)) j.hands m h)
+      added m (inr h) =
+          inr (which, subst (λ (i : ServerNo). Contains (Request n.0 (asking.Stop which) ∷ []) (Request i.0 (asking.Stop which))) (only-one n m h) (here (Request n.0 (asking.Stop which)) []))
+
       number_in : Exchange → ℕ
       number_in (Request i b) = i
       number_in _ = n.0
@@ -104,6 +115,7 @@ module _ (w : World) (j : Job) (rest : List Op) where
   start-hands n k same = record {
     takes = λ m which h. let e = only-one (Request n.0 asking.Start) (Request m.0 (asking.Stop which)) h in cc;
     keeps = λ m h. leaves m h (m.0 == n.0) refl;
+    only = λ m h. inl (unfiltered (λ (i : ServerNo). not (i.0 == n.0)) j.hands m (subst (λ (xs : List ServerNo). Contains xs m) same h));
   }
     where
       leaves : (m : ServerNo) → Contains j.hands m → (a : Bool) → (m.0 == n.0) ≡ a → Contains k.hands m ⊎ Contains (Request n.0 asking.Start ∷ []) (Request m.0 asking.Start)
@@ -111,76 +123,34 @@ module _ (w : World) (j : Job) (rest : List Op) where
       leaves m h false e =
           inl (subst (λ (xs : List ServerNo). Contains xs m) (sym same) (picked (λ (i : ServerNo). not (i.0 == n.0)) j.hands m h (ap not e)))
 
-  asked-hands : (n : ServerNo) (a : Ask) (r : Result (Unit {0}) Unreachable) → HandsOf j (after_ask j rest n a r)
-  asked-hands n (asking.Stop which) (Ok t) = stop-hands n which _ refl
-  asked-hands n asking.Start (Ok t) = start-hands n _ refl
-  asked-hands n (asking.StartUntil to) (Ok t) = asks-hands n (asking.StartUntil to) _ refl (λ which e. cc)
-  asked-hands n asking.Detach (Ok t) = asks-hands n asking.Detach _ refl (λ which e. cc)
-  asked-hands n asking.Reattach (Ok t) = asks-hands n asking.Reattach _ refl (λ which e. cc)
-  asked-hands n asking.Reset (Ok t) = asks-hands n asking.Reset _ refl (λ which e. cc)
-  asked-hands n (asking.SetReadOnly on) (Ok t) = asks-hands n (asking.SetReadOnly on) _ refl (λ which e. cc)
-  asked-hands n a (Err e) = tt
-
-  look-hands : (n : ServerNo) (from : Option ServerNo) (o : Observation) (r : Option Status) → HandsOf j (after_look j rest n from o r)
-  look-hands n from o None = tt
-  look-hands n from o (Some s) = go (is_moved from s.source)
-    where
-      go : (b : Bool) → HandsOf j (after_status j rest n from o s b)
-      go true = tt
-      go false = still-hands (next (saw j n s) rest) refl
-
-  until-hands : (n : ServerNo) (o : Option Coord) → HandsOf j (after_until w j rest n o)
-  until-hands n None = still-hands (next j rest) refl
-  until-hands n (Some to) = asked-hands n (asking.StartUntil to) (desk_answer (server_at w n.0))
-
-  wait-hands : (n : ServerNo) (t : Status → Bool) (r : Option Status) → HandsOf j (after_wait j rest n t r)
-  wait-hands n t None = tt
-  wait-hands n t (Some s) = go (t s)
-    where
-      more : (b : Bool) → HandsOf j (cond b (attempt.Goes None [] (record (saw j n s) { waited = j.waited + 1 })) (attempt.Stops (cause.WaitSpent n) None))
-      more true = still-hands (record (saw j n s) { waited = j.waited + 1 }) refl
-      more false = tt
-
-      go : (b : Bool) → HandsOf j (after_wait_by j rest n s b)
-      go true = still-hands (next (saw j n s) rest) refl
-      go false = more (nat_lt (j.waited + 1) j.wait)
+  asked-hands : (n : ServerNo) (a : Ask) → HandsOf j (after_ask j rest n a (Ok tt))
+  asked-hands n (asking.Stop which) = stop-hands n which _ refl
+  asked-hands n asking.Start = start-hands n _ refl
+  asked-hands n (asking.StartUntil to) = asks-hands n (asking.StartUntil to) _ refl (λ which e. cc)
+  asked-hands n asking.Detach = asks-hands n asking.Detach _ refl (λ which e. cc)
+  asked-hands n asking.Reattach = asks-hands n asking.Reattach _ refl (λ which e. cc)
+  asked-hands n asking.Reset = asks-hands n asking.Reset _ refl (λ which e. cc)
+  asked-hands n (asking.SetReadOnly on) = asks-hands n (asking.SetReadOnly on) _ refl (λ which e. cc)
 
   -- an attachment is no request
   no-request : (e : Exchange) (n : ℕ) (a : Ask) → can_attach w e ≡ true → e ≡ Request n a → ⊥
   no-request e n a can is = false≢true (sym (ap (can_attach w) is) ∙ can)
 
-  attach-hands : (n : ServerNo) (o : Option Exchange) → HandsOf j (after_attach w j rest n o)
-  attach-hands n None = still-hands (next j rest) refl
-  attach-hands n (Some e) = by' (can_attach w e) refl
-    where
-      go : can_attach w e ≡ true → (r : Result (Unit {0}) AttachFault) → HandsOf j (after_answer j rest n e r)
-      go can (Ok t) = record {
-        takes = λ m which h. absurd (no-request e m.0 (asking.Stop which) can (only-one e (Request m.0 (asking.Stop which)) h));
-        keeps = λ m h. inl h;
-      }
-      go can (Err f) = tt
-
-      by' : (b : Bool) → can_attach w e ≡ b → HandsOf j (cond b (after_answer j rest n e (attach_answer_of w e)) (attempt.Goes None [] (next j rest)))
-      by' true can = go can (attach_answer_of w e)
-      by' false can = still-hands (next j rest) refl
-
-  match-hands : (n m : ServerNo) (at : Spot) (r : Result Coord MatchFault) → HandsOf j (after_match j rest n m at r)
-  match-hands n m at (Ok c) = still-hands _ refl
-  match-hands n m at (Err f) = tt
+  hands-by : (read : ℕ) (now : Moment) (d : Deed) (a : Attempt) → Attempts w read now j rest d a → HandsOf j a
+  hands-by read now d a (doing.Misses n from c why) = tt
+  hands-by read now d a (doing.Fails x c why) = tt
+  hands-by read now d a (doing.Asks n b) = asked-hands n b
+  hands-by read now d a (doing.Begins n to c until) = asked-hands n (asking.StartUntil c)
+  hands-by read now d a (doing.Attaches n x e is made of can done) = record {
+    takes = λ m which h. absurd (no-request e m.0 (asking.Stop which) can (only-one e (Request m.0 (asking.Stop which)) h));
+    keeps = λ m h. inl h;
+    only = λ m h. inl h;
+  }
+  hands-by read now d a (doing.Finishes lines) = tt
+  hands-by read now d a _ = still-hands _ refl
 
   deed-hands : (read : ℕ) (now : Moment) (d : Deed) → HandsOf j (by_deed w read now j rest d)
-  deed-hands read now (deed.Look n from) = look-hands n from (observed w read now n) (seen_in (status w n.0))
-  deed-hands read now (deed.Request n a) = asked-hands n a (desk_answer (server_at w n.0))
-  deed-hands read now (deed.Until n to) = until-hands n (until_by (seen_of j.seen n.0) (aim_of j.seen to))
-  deed-hands read now (deed.Await n to) = wait-hands n (λ s. is_reached (aim_of j.seen to) s.exec) (seen_in (status w n.0))
-  deed-hands read now (deed.AwaitSet n m) = wait-hands n (holds_seen (seen_of j.seen m.0)) (seen_in (status w n.0))
-  deed-hands read now (deed.Settle n) = wait-hands n (settles j) (seen_in (status w n.0))
-  deed-hands read now (deed.Cross c a b) = attach-hands a (crossing_of j.seen c a b)
-  deed-hands read now (deed.Same n) = attach-hands n (same_again n (seen_of j.seen n.0))
-  deed-hands read now (deed.Auto n m) = attach-hands n (by_set n m (seen_of j.seen m.0))
-  deed-hands read now (deed.Match n m every) = match-hands n m (standing_at (server_at w n.0)) (match_logs w n m every)
-  deed-hands read now (deed.CrossMatch n m) = attach-hands n (by_match n m (match_found j.matches n m))
-  deed-hands read now (deed.Finish lines) = tt
+  deed-hands read now d = hands-by read now d (by_deed w read now j rest d) (attempts w read now j rest d)
 
 -- ---- a turn
 
@@ -224,8 +194,14 @@ module _ (w : World) (b : BookState) (read : ℕ) (now : Moment) (r : Recovery) 
       record {
         takes = λ n which c. subst (λ (xs : List ServerNo). Contains xs n) (sym at) (h.takes n which c);
         keeps = λ n c. go n (h.keeps n (subst (λ (xs : List ServerNo). Contains xs n) (sym same) c));
+        only = λ n c. back n (h.only n (subst (λ (xs : List ServerNo). Contains xs n) at c));
       }
     where
+      back : (n : ServerNo) → Contains d.core.hands n ⊎ ((which : Threads) × Contains es (Request n.0 (asking.Stop which)))
+          → Contains r.core.hands n ⊎ ((which : Threads) × Contains es (Request n.0 (asking.Stop which)))
+      back n (inl c) = inl (subst (λ (xs : List ServerNo). Contains xs n) same c)
+      back n (inr c) = inr c
+
       go : (n : ServerNo) → Contains k.hands n ⊎ Contains es (Request n.0 asking.Start) → Contains z.core.hands n ⊎ Contains es (Request n.0 asking.Start)
       go n (inl c) = inl (subst (λ (xs : List ServerNo). Contains xs n) (sym at) c)
       go n (inr c) = inr c
@@ -239,6 +215,7 @@ module _ (w : World) (b : BookState) (read : ℕ) (now : Moment) (r : Recovery) 
       go t (by.Bears {d} so o rest x ob e stops is may) h = record {
         takes = λ n which c. absurd (no-none (Request n.0 (asking.Stop which)) c);
         keeps = λ n c. inl (subst (λ (xs : List ServerNo). Contains xs n) (sym (borne-hands d e ∙ same-of so)) c);
+        only = λ n c. inl (subst (λ (xs : List ServerNo). Contains xs n) (borne-hands d e ∙ same-of so) c);
       }
       go t (by.Fails so x ob y) h = absurd (false≢true h)
       go t (by.Finishes so o rest ls is e) h = absurd (false≢true h)
@@ -319,61 +296,71 @@ module _ (w : World) (seen : List Sight) (f : ServerNo) where
       by-source (inl e) = ap (λ (s : SourceState). crossed cross.Back k (bridge_by k (Some own) s last.exec)) e
       by-source (inr e) = ap (λ (s : SourceState). crossed cross.Back k (bridge_by k (Some own) s last.exec)) e
 
-  -- a change of source that can be made is no request
-  made-apart : (o : Option Exchange) (n : ℕ) (a : Ask) → Contains (that_can w o) (Request n a) → ⊥
-  made-apart None n a h = no-none (Request n a) h
-  made-apart (Some e) n a h = go (can_attach w e) refl h
-    where
-      go : (z : Bool) → can_attach w e ≡ z → Contains (cond z (e ∷ []) []) (Request n a) → ⊥
-      go true can i = false≢true (sym (ap (can_attach w) (only-one e (Request n a) i)) ∙ can)
-      go false can i = no-none (Request n a) i
-
-  record OnlyOpens (u : Purpose) (s : Stage) (n : ℕ) (on : Bool) : Type 0 where
-    takeover : is_takeover u ≡ true
-    opened : on ≡ false
-    master : ServerNo
-    closed : closed_at f s ≡ Some master
-    same : n ≡ master.0
-
-  only-so : (u : Purpose) (s : Stage) (n : ℕ) (on : Bool) → Contains (undone w u seen f s) (Request n (asking.SetReadOnly on)) → OnlyOpens u s n on
-  only-so (purpose.Takeover d) s n on h = go s h
-    where
-      this : (k : Stage) (i : ServerNo) → closed_at f k ≡ Some i → Contains (Request i.0 (asking.SetReadOnly false) ∷ []) (Request n (asking.SetReadOnly on)) → OnlyOpens (purpose.Takeover d) k n on
-      this k i at c =
-          let e = only-one (Request i.0 (asking.SetReadOnly false)) (Request n (asking.SetReadOnly on)) c in
-          let a : i.0 ≡ n = cc in
-          let o : false ≡ on = cc in
-          record { takeover = refl; opened = sym o; master = i; closed = at; same = sym a }
-
-      none : (k : Stage) → Contains [] (Request n (asking.SetReadOnly on)) → OnlyOpens (purpose.Takeover d) k n on
-      none k c = absurd (no-none (Request n (asking.SetReadOnly on)) c)
-
-      go : (k : Stage) → Contains (undone w (purpose.Takeover d) seen f k) (Request n (asking.SetReadOnly on)) → OnlyOpens (purpose.Takeover d) k n on
-      go (stage.Switch i k) c = back (Contains-append_cases (that_can w (crossing_of seen cross.Back k i)) (Request k.0 asking.Start ∷ Request i.0 (asking.SetReadOnly false) ∷ []) (Request n (asking.SetReadOnly on)) c)
-        where
-          started : Contains (Request k.0 asking.Start ∷ []) (Request n (asking.SetReadOnly on)) ⊎ Contains (Request i.0 (asking.SetReadOnly false) ∷ []) (Request n (asking.SetReadOnly on)) → OnlyOpens (purpose.Takeover d) (stage.Switch i k) n on
-          started (inl y) = let e = only-one (Request k.0 asking.Start) (Request n (asking.SetReadOnly on)) y in cc
-          started (inr y) = this (stage.Switch i k) i refl y
-
-          back : Contains (that_can w (crossing_of seen cross.Back k i)) (Request n (asking.SetReadOnly on)) ⊎ Contains (Request k.0 asking.Start ∷ Request i.0 (asking.SetReadOnly false) ∷ []) (Request n (asking.SetReadOnly on))
-              → OnlyOpens (purpose.Takeover d) (stage.Switch i k) n on
-          back (inl y) = absurd (made-apart (crossing_of seen cross.Back k i) n (asking.SetReadOnly on) y)
-          back (inr y) = started (Contains-append_cases (Request k.0 asking.Start ∷ []) (Request i.0 (asking.SetReadOnly false) ∷ []) (Request n (asking.SetReadOnly on)) y)
-      go (stage.Meet i k) c = none (stage.Meet i k) c
-      go (stage.Shut i k) c = none (stage.Shut i k) c
-      go (stage.Switched i k) c = none (stage.Switched i k) c
-      go (stage.Open i) c = none (stage.Open i) c
-      go (stage.Opened i) c = none (stage.Opened i) c
-      go (stage.Close ls) c = none (stage.Close ls) c
-      go stage.Idle c = this stage.Idle f refl c
-      go k c = this k f refl c
-  only-so purpose.Regroup s n on h = absurd (no-none (Request n (asking.SetReadOnly on)) h)
-  only-so _ s n on h = absurd (no-none (Request n (asking.SetReadOnly on)) h)
-
   switched-so : (u : Purpose) (s : Stage) (i k : ServerNo) → is_takeover u ≡ true → s ≡ stage.Switch i k
       → undone w u seen f s ≡ that_can w (crossing_of seen cross.Back k i) ++ (Request k.0 asking.Start ∷ Request i.0 (asking.SetReadOnly false) ∷ [])
   switched-so (purpose.Takeover d) s i k t at = ap (undone w (purpose.Takeover d) seen f) at
   switched-so _ s i k t at = absurd (false≢true t)
+
+-- each exchange of such a turn
+module _ (w : World) (d : Recovery) where
+  abbrev Good : Exchange → Type 0
+  Good e = MakesGood w d e
+
+  restarts-good : (hands : List ServerNo) → ((n : ServerNo) → Contains hands n → Contains d.core.hands n) → All Good (restarts hands)
+  restarts-good [] there = All-nil Good
+  restarts-good (k ∷ ks) there =
+      All-cons Good (Request k.0 asking.Start) (restarts ks) (good.Restarts k (there k (here k ks)))
+      (restarts-good ks (λ n h. there n (Contains-append_right (k ∷ []) ks n h)))
+
+  can-good : (o : Option Exchange) → ((e : Exchange) → o ≡ Some e → can_attach w e ≡ true → Good e) → All Good (that_can w o)
+  can-good None h = All-nil Good
+  can-good (Some e) h = go (can_attach w e) refl
+    where
+      go : (b : Bool) → can_attach w e ≡ b → All Good (cond b (e ∷ []) [])
+      go true can = All-cons Good e [] (h e refl can) (All-nil Good)
+      go false can = All-nil Good
+
+  goes-back : (k : ServerNo) (e : Exchange) → crossed cross.Back k (bridge_at k (seen_of d.core.seen k.0)) ≡ Some e → can_attach w e ≡ true → GoesBack w d k e
+  goes-back k e h can = go (seen_of d.core.seen k.0) refl h
+    where
+      nothing : None ≡ Some e → GoesBack w d k e
+      nothing g = cc
+
+      by-end : (s : Position) → seen_of d.core.seen k.0 ≡ Some s → (o : Option Coord) → s.own_end ≡ o → (x : SourceState) → s.source ≡ x → crossed cross.Back k (bridge_by k o x s.exec) ≡ Some e → GoesBack w d k e
+      by-end s is None end x below g = nothing g
+      by-end s is (Some own) end source.Without below g = nothing g
+      by-end s is (Some own) end (source.Attached m) below g =
+          record { last = s; seen = is; own = own; end = end; source = m; below = inl below; is = sym (same_Some (Attach k.0 (spot.OwnEnd own) m s.exec) e g); can = can }
+      by-end s is (Some own) end (source.Detached m) below g =
+          record { last = s; seen = is; own = own; end = end; source = m; below = inr below; is = sym (same_Some (Attach k.0 (spot.OwnEnd own) m s.exec) e g); can = can }
+
+      go : (o : Option Position) → seen_of d.core.seen k.0 ≡ o → crossed cross.Back k (bridge_at k o) ≡ Some e → GoesBack w d k e
+      go None is g = nothing g
+      go (Some s) is g = by-end s is s.own_end refl s.source refl g
+
+  undone-good : (u : Purpose) → d.purpose ≡ u → (s : Stage) → d.stage ≡ s → All Good (undone w u d.core.seen d.failed s)
+  undone-good (purpose.Takeover x) aim s at = go s at
+    where
+      sure : is_takeover d.purpose ≡ true
+      sure = ap is_takeover aim
+
+      writes : (m : ServerNo) → closed_at d.failed d.stage ≡ Some m → All Good (Request m.0 (asking.SetReadOnly false) ∷ [])
+      writes m closed = All-cons Good (Request m.0 (asking.SetReadOnly false)) [] (good.Opens m sure closed) (All-nil Good)
+
+      go : (k : Stage) → d.stage ≡ k → All Good (undone w (purpose.Takeover x) d.core.seen d.failed k)
+      go (stage.Switch m k) is =
+          All-append Good (that_can w (crossing_of d.core.seen cross.Back k m)) (Request k.0 asking.Start ∷ Request m.0 (asking.SetReadOnly false) ∷ [])
+          (can-good (crossing_of d.core.seen cross.Back k m) (λ e h can. good.Returns m k sure is (goes-back k e h can)))
+          (All-cons Good (Request k.0 asking.Start) (Request m.0 (asking.SetReadOnly false) ∷ []) (good.Starts m k sure is) (writes m (ap (closed_at d.failed) is)))
+      go (stage.Meet m k) is = All-nil Good
+      go (stage.Shut m k) is = All-nil Good
+      go (stage.Switched m k) is = All-nil Good
+      go (stage.Open m) is = All-nil Good
+      go (stage.Opened m) is = All-nil Good
+      go (stage.Close ls) is = All-nil Good
+      go stage.Idle is = writes d.failed (ap (closed_at d.failed) is)
+      go k is = writes d.failed (ap (closed_at d.failed) is)
+  undone-good _ aim s at = All-nil Good
 
 pub fails-opening : (w : World) (b : BookState) (read : ℕ) (now : Moment) (r : Recovery) (c : Cause) (lines : List Line) → (taken w b read now r).step ≡ step.Failed c lines
     → OpensAgain w (decided (ground_of w b now) r) (taken w b read now r)
@@ -397,7 +384,9 @@ fails-opening w b read now r c lines failed = record {
       (subst (λ (es : List Exchange). Contains es (Request k.0 asking.Start)) (sym (switched-so w d.core.seen d.failed d.purpose d.stage m k t at))
       (Contains-append_right (that_can w (crossing_of d.core.seen cross.Back k m)) (Request k.0 asking.Start ∷ Request m.0 (asking.SetReadOnly false) ∷ []) (Request k.0 asking.Start)
       (here (Request k.0 asking.Start) (Request m.0 (asking.SetReadOnly false) ∷ [])))));
-  only = λ n on h. go n on (Contains-append_cases (undone w d.purpose d.core.seen d.failed d.stage) (restarts d.core.hands) (Request n (asking.SetReadOnly on)) (subst (λ (es : List Exchange). Contains es (Request n (asking.SetReadOnly on))) same h));
+  only =
+      subst (λ (es : List Exchange). All (MakesGood w d) es) (sym same)
+      (All-append (MakesGood w d) (undone w d.purpose d.core.seen d.failed d.stage) (restarts d.core.hands) (undone-good w d d.purpose refl d.stage refl) (restarts-good w d d.core.hands (λ n h. h)));
 }
   where
     d : Recovery
@@ -413,8 +402,3 @@ fails-opening w b read now r c lines failed = record {
     made-back m k e g =
         subst (λ (o : Option Exchange). Contains (that_can w o) e) (sym (back-so w d.core.seen d.failed k m g.last g.own g.source g.seen g.end g.below ∙ ap (λ (y : Exchange). Some y) (sym g.is)))
         (subst (λ (a : Bool). Contains (cond a (e ∷ []) []) e) (sym g.can) (here e []))
-
-    go : (n : ℕ) (on : Bool) → Contains (undone w d.purpose d.core.seen d.failed d.stage) (Request n (asking.SetReadOnly on)) ⊎ Contains (restarts d.core.hands) (Request n (asking.SetReadOnly on))
-        → (is_takeover d.purpose ≡ true) × (on ≡ false) × ((m : ServerNo) × (closed_at d.failed d.stage ≡ Some m) × (n ≡ m.0))
-    go n on (inl h) = let o = only-so w d.core.seen d.failed d.purpose d.stage n on h in (o.takeover, o.opened, (o.master, o.closed, o.same))
-    go n on (inr h) = absurd (only-starts d.core.hands n on h)

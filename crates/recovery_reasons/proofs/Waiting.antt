@@ -1,31 +1,30 @@
 -- A turn whose operation waits is one more wait, or its end, by the status of that turn.
-use Rattle.std.proofs.Common.{◌≡◌, ℕ, ◌+◌, ◌<◌, ◌≤◌, Bool, true, false, cond, not, ◌||◌, ◌&&◌, List, [], ◌∷◌, ◌++◌, refl, sym, ◌∙◌, ap, subst, Option, Some, None, inl, inr, ◌⊎◌, Ok, Err, Result, arith}
+use Rattle.std.proofs.Common.{◌≡◌, ℕ, ◌+◌, ◌<◌, ◌≤◌, Bool, true, false, cond, not, ◌||◌, ◌&&◌, List, [], ◌∷◌, ◌++◌, refl, sym, ◌∙◌, ap, subst, Option, Some, None, inl, inr, ◌⊎◌, arith}
 use Rattle.std.specs.Prelude.{nat_lt, ◌==◌}
-use Rattle.recovery_reasons.proofs.Prelude.{AreLeft, Attempt, Ask, AttachFault, BookState, Bridge, Cause, Coord, Deed, EndOf, Exchange, ExecOf, Fate}
-use Rattle.recovery_reasons.proofs.Prelude.{HasCome, HasSettled, IsDueWait, IsGivenUpNow, IsLateNow, IsOneMoreWait, IsRest, IsWaitOver, Job, MatchFault}
-use Rattle.recovery_reasons.proofs.Prelude.{Moment, Observation, Op, Recovery, ServerNo, Speaks, Spot, Stage, Status, Taken, Unreachable, WaitsItsTurns}
-use Rattle.recovery_reasons.proofs.Prelude.{WaitsUntil, World, acted, after_answer, after_ask, after_attach, after_look, after_match, after_status}
-use Rattle.recovery_reasons.proofs.Prelude.{after_until, after_wait, after_wait_by, aim_of, and_parts, are_calm, at-end, at_end, attach_answer_of, attempted}
-use Rattle.recovery_reasons.proofs.Prelude.{barred_by, by_deed, by_match, by_set, can_attach, crossing_of, decided, decided-walks, decisions-keep, deed_of}
-use Rattle.recovery_reasons.proofs.Prelude.{desk_answer, draining, end_seen, ended_by, ends, entered, eqb-true, exec_seen, false≢true, fate}
-use Rattle.recovery_reasons.proofs.Prelude.{follows_no_more, gathering, ground_of, holds_seen, info, is_at_or_before, is_moved, is_reached, is_settled}
-use Rattle.recovery_reasons.proofs.Prelude.{is_waiting, le-ltb, leaver, leveling, lt-ltb, match_found, match_logs, met, moved, ne_eqb, next, observed}
-use Rattle.recovery_reasons.proofs.Prelude.{on_going, progressed, same-head, same-tail, same_again, same_coord, saw, seen_in, seen_of, server_at, settled_turn}
-use Rattle.recovery_reasons.proofs.Prelude.{settles, standing_at, status, stepped, taken, trailing, until_by, waits}
-use Rattle.recovery_reasons.proofs.Prelude.asking
+use Rattle.recovery_reasons.proofs.Prelude.{AreLeft, Attempt, Attempts, BookState, Bridge, Cause, Coord, Deed, EndOf, Exchange, ExecOf, Fate, HasCome}
+use Rattle.recovery_reasons.proofs.Prelude.{HasSettled, IsDueWait, IsFreedNow, IsGivenUpNow, IsOneMoreWait, IsRest, IsWaitOver, Job, Moment}
+use Rattle.recovery_reasons.proofs.Prelude.{Observation, Op, Recovery, ServerNo, Speaks, Stage, Status, Taken, WaitsItsTurns, WaitsUntil, World}
+use Rattle.recovery_reasons.proofs.Prelude.{acted, after_wait, after_wait_by, and_parts, are_calm, at-end, at_end, attempted, attempts, barred_by}
+use Rattle.recovery_reasons.proofs.Prelude.{by_deed, decided, decided-walks, decisions-keep, deed_of, draining, end_seen, ended_by, ends, entered}
+use Rattle.recovery_reasons.proofs.Prelude.{eqb-true, exec_seen, false≢true, fate, follows_no_more, gathering, ground_of, info, is_at_or_before}
+use Rattle.recovery_reasons.proofs.Prelude.{is_reached, is_settled, is_waiting, le-ltb, leaver, leveling, lt-ltb, met, moved, ne_eqb, next, on_going}
+use Rattle.recovery_reasons.proofs.Prelude.{progressed, same-head, same-tail, same_coord, saw, seen_in, settled_turn, settles, status, stepped, taken}
+use Rattle.recovery_reasons.proofs.Prelude.{trailing, waits}
 use Rattle.recovery_reasons.proofs.Prelude.attempt
 use Rattle.recovery_reasons.proofs.Prelude.by
 use Rattle.recovery_reasons.proofs.Prelude.cause
 use Rattle.recovery_reasons.proofs.Prelude.cross
-use Rattle.recovery_reasons.proofs.Prelude.deed
+use Rattle.recovery_reasons.proofs.Prelude.lost
 use Rattle.recovery_reasons.proofs.Prelude.op
 use Rattle.recovery_reasons.proofs.Prelude.stage
 use Rattle.recovery_reasons.proofs.Prelude.step
 use Rattle.recovery_reasons.proofs.Prelude.table
 use Rattle.recovery_reasons.proofs.Prelude.taking
 use Rattle.recovery_reasons.proofs.Prelude.waiting
+use Rattle.recovery_reasons.proofs.Halting.{reads-others}
 use Rattle.recovery_reasons.proofs.Listing.{IsListed, decides-listed}
 use Rattle.recovery_reasons.proofs.Reasoning.{shown-exec}
+use Rattle.recovery_reasons.proofs.Prelude.doing
 
 -- ---- which operations wait
 
@@ -203,15 +202,15 @@ module _ (w : World) (read : ℕ) (now : Moment) (x : Recovery) where
       })
 
   trails-so : (n : ServerNo) (y : Bridge) (more : List Op) (seen : Status) → x.stage ≡ stage.Trail n y → x.core.ops ≡ op.Await n (ExecOf y.no) ∷ op.Stop n ∷ more → seen_in (status w n.0) ≡ Some seen
-      → WaitsUntil x n (HasCome (exec_seen x y.no) seen.exec) (IsLateNow x n seen.exec (turn x)) (turn x)
+      → WaitsUntil x n (HasCome (exec_seen x y.no) seen.exec) (IsFreedNow x n (lost.behind seen.exec) (turn x)) (turn x)
   trails-so n y more seen at is shown =
-      subst (λ (z : Recovery). WaitsUntil z n (HasCome (exec_seen z y.no) seen.exec) (IsLateNow z n seen.exec (turn z)) (turn z)) (sym (as-due (stage.Trail n y) (op.Await n (ExecOf y.no) ∷ op.Stop n ∷ more) at is))
+      subst (λ (z : Recovery). WaitsUntil z n (HasCome (exec_seen z y.no) seen.exec) (IsFreedNow z n (lost.behind seen.exec) (turn z)) (turn z)) (sym (as-due (stage.Trail n y) (op.Await n (ExecOf y.no) ∷ op.Stop n ∷ more) at is))
       (record {
         there = λ h. ends-there w read now x n (op.Await n (ExecOf y.no)) more (stage.Trail n y) refl refl test seen refl shown (come-so (exec_seen x y.no) seen.exec h);
         again = λ h m. waits-again w read now x n (op.Await n (ExecOf y.no)) more (stage.Trail n y) refl refl test seen refl shown (not-come (exec_seen x y.no) seen.exec h) m;
         spent = λ h l.
-            subst (λ (t : Taken). IsLateNow (due w read now x n (op.Await n (ExecOf y.no)) more (stage.Trail n y) refl refl) n seen.exec t) (spends w read now x n (op.Await n (ExecOf y.no)) more (stage.Trail n y) refl refl test seen refl shown (not-come (exec_seen x y.no) seen.exec h) l)
-            (subst (λ (c : Coord). IsLateNow (due w read now x n (op.Await n (ExecOf y.no)) more (stage.Trail n y) refl refl) n c (comes w read now x n (op.Await n (ExecOf y.no)) more (stage.Trail n y) refl refl (attempt.Stops (cause.WaitSpent n) None)))
+            subst (λ (t : Taken). IsFreedNow (due w read now x n (op.Await n (ExecOf y.no)) more (stage.Trail n y) refl refl) n (lost.behind seen.exec) t) (spends w read now x n (op.Await n (ExecOf y.no)) more (stage.Trail n y) refl refl test seen refl shown (not-come (exec_seen x y.no) seen.exec h) l)
+            (subst (λ (c : Coord). IsFreedNow (due w read now x n (op.Await n (ExecOf y.no)) more (stage.Trail n y) refl refl) n (lost.behind c) (comes w read now x n (op.Await n (ExecOf y.no)) more (stage.Trail n y) refl refl (attempt.Stops (cause.WaitSpent n) None)))
             (sym (shown-exec w n.0 seen shown)) (record { going = refl; made = refl; lost = refl; next = (refl, refl) }));
       })
     where
@@ -256,66 +255,15 @@ Counts j (attempt.Stops c o) = Unit {0}
 Counts j (attempt.Ends lines) = Unit {0}
 
 module _ (w : World) (j : Job) (rest : List Op) where
-  done-counts : (es : List Exchange) (k : Job) → k.wait ≡ j.wait → k.waited ≡ 0 → (k.wait ≡ j.wait) × (is_waiting k ≡ true → (k.ops ≡ j.ops) × (es ≡ []) × (k.waited ≡ j.waited + 1))
-  done-counts es k same none = (same, λ h. absurd (false≢true (sym (ap (λ n. not (n == 0)) none) ∙ h)))
-
-  look-counts : (n : ServerNo) (from : Option ServerNo) (o : Observation) (r : Option Status) → Counts j (after_look j rest n from o r)
-  look-counts n from o None = tt
-  look-counts n from o (Some s) = go (is_moved from s.source)
-    where
-      go : (b : Bool) → Counts j (after_status j rest n from o s b)
-      go true = tt
-      go false = done-counts [] (next (saw j n s) rest) refl refl
-
-  ask-counts : (n : ServerNo) (a : Ask) (r : Result (Unit {0}) Unreachable) → Counts j (after_ask j rest n a r)
-  ask-counts n a (Ok t) = (refl, λ h. absurd (false≢true h))
-  ask-counts n a (Err e) = tt
-
-  until-counts : (n : ServerNo) (o : Option Coord) → Counts j (after_until w j rest n o)
-  until-counts n None = done-counts [] (next j rest) refl refl
-  until-counts n (Some to) = ask-counts n (asking.StartUntil to) (desk_answer (server_at w n.0))
-
-  wait-counts : (n : ServerNo) (t : Status → Bool) (r : Option Status) → Counts j (after_wait j rest n t r)
-  wait-counts n t None = tt
-  wait-counts n t (Some s) = go (t s)
-    where
-      more : (b : Bool) → Counts j (cond b (attempt.Goes None [] (record (saw j n s) { waited = j.waited + 1 })) (attempt.Stops (cause.WaitSpent n) None))
-      more true = (refl, λ h. (refl, refl, refl))
-      more false = tt
-
-      go : (b : Bool) → Counts j (after_wait_by j rest n s b)
-      go true = done-counts [] (next (saw j n s) rest) refl refl
-      go false = more (nat_lt (j.waited + 1) j.wait)
-
-  attach-counts : (n : ServerNo) (o : Option Exchange) → Counts j (after_attach w j rest n o)
-  attach-counts n None = done-counts [] (next j rest) refl refl
-  attach-counts n (Some e) = by (can_attach w e)
-    where
-      go : (r : Result (Unit {0}) AttachFault) → Counts j (after_answer j rest n e r)
-      go (Ok t) = done-counts (e ∷ []) (next j rest) refl refl
-      go (Err f) = tt
-
-      by : (b : Bool) → Counts j (cond b (after_answer j rest n e (attach_answer_of w e)) (attempt.Goes None [] (next j rest)))
-      by true = go (attach_answer_of w e)
-      by false = done-counts [] (next j rest) refl refl
-
-  match-counts : (n m : ServerNo) (at : Spot) (r : Result Coord MatchFault) → Counts j (after_match j rest n m at r)
-  match-counts n m at (Ok c) = (refl, λ h. absurd (false≢true h))
-  match-counts n m at (Err f) = tt
+  counts-by : (read : ℕ) (now : Moment) (d : Deed) (a : Attempt) → Attempts w read now j rest d a → Counts j a
+  counts-by read now d a (doing.Misses n from c why) = tt
+  counts-by read now d a (doing.Fails x c why) = tt
+  counts-by read now d a (doing.Waits n x s is seen short more) = (refl, λ h. (refl, refl, refl))
+  counts-by read now d a (doing.Finishes lines) = tt
+  counts-by read now d a _ = (refl, λ h. absurd (false≢true h))
 
   deed-counts : (read : ℕ) (now : Moment) (d : Deed) → Counts j (by_deed w read now j rest d)
-  deed-counts read now (deed.Look n from) = look-counts n from (observed w read now n) (seen_in (status w n.0))
-  deed-counts read now (deed.Request n a) = ask-counts n a (desk_answer (server_at w n.0))
-  deed-counts read now (deed.Until n to) = until-counts n (until_by (seen_of j.seen n.0) (aim_of j.seen to))
-  deed-counts read now (deed.Await n to) = wait-counts n (λ s. is_reached (aim_of j.seen to) s.exec) (seen_in (status w n.0))
-  deed-counts read now (deed.AwaitSet n m) = wait-counts n (holds_seen (seen_of j.seen m.0)) (seen_in (status w n.0))
-  deed-counts read now (deed.Settle n) = wait-counts n (settles j) (seen_in (status w n.0))
-  deed-counts read now (deed.Cross c a b) = attach-counts a (crossing_of j.seen c a b)
-  deed-counts read now (deed.Same n) = attach-counts n (same_again n (seen_of j.seen n.0))
-  deed-counts read now (deed.Auto n m) = attach-counts n (by_set n m (seen_of j.seen m.0))
-  deed-counts read now (deed.Match n m every) = match-counts n m (standing_at (server_at w n.0)) (match_logs w n m every)
-  deed-counts read now (deed.CrossMatch n m) = attach-counts n (by_match n m (match_found j.matches n m))
-  deed-counts read now (deed.Finish lines) = tt
+  deed-counts read now d = counts-by read now d (by_deed w read now j rest d) (attempts w read now j rest d)
 
 -- what a turn leaves of the count
 record Counted (x : Recovery) (t : Taken) : Type 0 where
@@ -418,6 +366,7 @@ module _ (w : World) (b : BookState) (read : ℕ) (now : Moment) (r : Recovery) 
     trails = λ n x rest s at is shown. let h = stop-next (stage.Trail n x) (op.Await n (ExecOf x.no)) rest at is refl in trails-so w read now so n x h.0 s at h.1 shown;
     levels = λ p q rest s at is shown. let h = stop-next (stage.Level p q) (op.Await q (EndOf p)) rest at is refl in levels-so w read now so p q h.0 s at h.1 shown;
     gathers = λ m k rest s at is shown. let h = stop-next (stage.Gather m k) (op.Await k (EndOf m)) rest at is refl in gathers-so w read now so m k h.0 s at h.1 shown;
+    reads = reads-others w read now so;
     fresh = (counts-turn w read now so).fresh;
     wait = (counts-turn w read now so).wait;
   }

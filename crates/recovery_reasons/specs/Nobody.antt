@@ -1,9 +1,10 @@
 -- Why a recovery finds nobody who takes the failed server's place.
-use Rattle.std.specs.Prelude.{◌≡◌, Bool, true, false, List, None, All}
-use Rattle.recovery_reasons.specs.Prelude.{BookState, Decision, Decisions, IsNext, MayDecide, Moment, Recovery, Task, World, decided_by, follows_lead}
+use Rattle.std.specs.Prelude.{◌≡◌, Bool, true, false, List, All}
+use Rattle.recovery_reasons.specs.Prelude.{BookState, Decision, Decisions, IsNext, MayDecide, Moment, Recovery, Task, World, decided_by}
 use Rattle.recovery_reasons.specs.Prelude.{ground_of, may_lead}
 use Rattle.recovery_reasons.specs.Prelude.move
 use Rattle.recovery_reasons.specs.Prelude.task
+use Rattle.recovery_reasons.specs.OnWay.{chooses}
 
 -- nobody is found who takes the failed server's place
 abbrev pub finds_nobody : Decision → Bool
@@ -34,10 +35,14 @@ pub data DecisionsElse (w : World) (b : BookState) (now : Moment) : Recovery →
   Then : {r s : Recovery} (d : Decision) → MayDecide (ground_of w b now) r d → finds_nobody d ≡ false → DecisionsElse w b now (decided_by (ground_of w b now) r d) s
       → DecisionsElse w b now r s
 
--- Why no operation is left after a turn's decisions. The first that finds nobody is a choice among the drained, each of
--- which doesn't log or is barred, as the book is now. Or nobody knows the position at which the designated one stopped.
-pub data HasNobody (w : World) (b : BookState) (now : Moment) (r d : Recovery) : Type 0 where
-  NoneMay : (x : Recovery) (ts : List Task) → DecisionsElse w b now r x → IsNext x task.Choosing ts → All (λ s. may_lead (ground_of w b now) s ≡ false) x.drained
-      → Decisions (ground_of w b now) (decided_by (ground_of w b now) x (move.ChoosesNobody ts)) d → HasNobody w b now r d
-  NoneKnows : (x : Recovery) (t : Task) (ts : List Task) → DecisionsElse w b now r x → IsNext x t ts → follows_lead t ≡ true → x.lead ≡ None
-      → Decisions (ground_of w b now) (decided_by (ground_of w b now) x (move.Sticks t ts)) d → HasNobody w b now r d
+-- Why no operation is left after a turn's decisions: that is so only in a recovery that chooses its new source. The
+-- first decision that finds nobody is a choice among the drained. Each of them doesn't log or is barred, as the book is
+-- now.
+pub record HasNobody (w : World) (b : BookState) (now : Moment) (r d : Recovery) : Type 0 where
+  pub choosing : chooses r.purpose ≡ true
+  pub at : Recovery
+  pub left : List Task
+  pub before : DecisionsElse w b now r at
+  pub next : IsNext at task.Choosing left
+  pub none : All (λ s. may_lead (ground_of w b now) s ≡ false) at.drained
+  pub later : Decisions (ground_of w b now) (decided_by (ground_of w b now) at (move.ChoosesNobody left)) d

@@ -84,6 +84,9 @@ Yields s =
 abbrev pub IsMeeting : Stage → ServerNo → ServerNo → Type 0
 IsMeeting s m d = (s ≡ stage.Meet m d) ⊎ ((s ≡ stage.Shut m d) ⊎ (s ≡ stage.Gather m d))
 
+abbrev pub IsGathering : Stage → Type 0
+IsGathering s = (m : ServerNo) × (d : ServerNo) × IsMeeting s m d
+
 -- the second is to take the first one's place
 abbrev pub IsSwapping : Stage → ServerNo → ServerNo → Type 0
 IsSwapping s p q = (s ≡ stage.Level p q) ⊎ ((s ≡ stage.Swap p q) ⊎ (s ≡ stage.Swapped p q))
@@ -151,3 +154,7 @@ pub record IsOnCourse (r : Recovery) : Type 0 where
 pub record IsOnWay (r : Recovery) : Type 0 where
   pub course : IsOnCourse r
   pub rests : r.core.ops ≡ [] → r.stage ≡ stage.Idle
+
+-- in a takeover the position at which the designated one stopped is known once it has stopped
+abbrev pub KnowsLead : Recovery → Type 0
+KnowsLead r = is_takeover r.purpose ≡ true → IsGathering r.stage ⊎ (is_some r.lead ≡ true)

@@ -12,6 +12,7 @@ pub use Rattle.recovery_laws.specs.InstanceKeeper.Bridges.{has_exec, has_own, la
 pub use Rattle.recovery_laws.specs.InstanceKeeper.declared.bridge.Bridge.{Bridge}
 pub use Rattle.recovery_laws.specs.KeptRows.Seeing.{seen_in}
 pub use Rattle.recovery_laws.specs.KeptRows.declared.observation.Observation.{Observation}
+pub use Rattle.recovery_laws.specs.Operations.Changes.{server_of}
 pub use Rattle.recovery_laws.specs.Operations.Deeds.{Deed, Match, deed_of}
 pub use Rattle.recovery_laws.specs.Operations.Deeds as deed
 pub use Rattle.recovery_laws.specs.Operations.Jobs.{Job, match_found, position_of, seen_of}
@@ -35,12 +36,13 @@ pub use Rattle.recovery_laws.specs.PromotionRules.Choice.{is_barred, is_better, 
 pub use Rattle.recovery_laws.specs.PromotionRules.Chosen.{HasExecutedMost, IsChoice}
 pub use Rattle.recovery_laws.specs.RecoveryEnds.Ends.{closes}
 pub use Rattle.recovery_laws.specs.HeldRecoveries.{HeldRecovery}
+pub use Rattle.recovery_laws.specs.LeasedRecoveries.{IsAny}
 pub use Rattle.recovery_laws.specs.Rings.{HeldRings}
 pub use Rattle.recovery_laws.specs.RecoveryPlans.Beginning.{begun_recovery, is_takeover}
 pub use Rattle.recovery_laws.specs.RecoveryPlans.Deciding.{Ground, better_of, center_in, chosen_of, decided, drained_of, follower_of, ground_of, logs_at, may_lead, why_of}
-pub use Rattle.recovery_laws.specs.RecoveryPlans.Moves.{Decision, Decisions, IsNext, IsOver, MayDecide, decided_by, follows_lead, stopped_at}
+pub use Rattle.recovery_laws.specs.RecoveryPlans.Moves.{Decision, Decisions, IsNext, IsOver, MayDecide, decided_by, stopped_at}
 pub use Rattle.recovery_laws.specs.RecoveryPlans.Moves as move
-pub use Rattle.recovery_laws.specs.RecoveryPlans.Named.{spoken_to}
+pub use Rattle.recovery_laws.specs.RecoveryPlans.Named.{IsOf, spoken_to}
 pub use Rattle.recovery_laws.specs.RecoveryPlans.Recoveries.{Recovery, sight_of}
 pub use Rattle.recovery_laws.specs.RecoveryPlans.Stages.{before, is_look, reads_last, tail_of, target}
 pub use Rattle.recovery_laws.specs.RecoveryPlans.Table.{info}

@@ -24,8 +24,9 @@ use Rattle.recovery_reasons.specs.Prelude.why
 use Rattle.recovery_reasons.specs.Prelude.whys as lost
 use Rattle.recovery_reasons.specs.Prelude.Operations.{Match}
 use Rattle.recovery_reasons.specs.Causes.{IsRunning, IsUnreached}
+use Rattle.recovery_reasons.specs.Changing.{ChangesIts}
 use Rattle.recovery_reasons.specs.Choices.{IsBestOne, IsBetterOne, IsFirstOf}
-use Rattle.recovery_reasons.specs.OnWay.{IsOnWay, IsSwapping, chooses}
+use Rattle.recovery_reasons.specs.OnWay.{IsOnWay, IsSwapping, KnowsLead, chooses}
 use Rattle.recovery_reasons.specs.Steps.{AreLeft}
 use Rattle.recovery_reasons.specs.Ways.{IsWayBelow, IsWayBeside}
 
@@ -53,12 +54,10 @@ WithoutChosen w b now s (why.Lost word.Unreachable) = ⊥
 WithoutChosen w b now s (why.Lost (word.Moved at)) = ⊥
 WithoutChosen w b now s (why.Unmatched m) = ⊥
 
--- a drained one doesn't go below a successor: the book keeps no bridge of the failed server under it at that
--- coordinate; or, by GTIDs, the successor doesn't log
+-- without GTIDs, a drained one doesn't go below a successor: the book keeps no bridge of the failed server under it at
+-- that coordinate
 abbrev pub BelowSuccessor : World → BookState → ServerNo → ServerNo → Stopped → Type 0
-BelowSuccessor w b f n s =
-    ((w.gtid ≡ false) × (latest_that (has_own n s.exec) (ring_at b.rings f) ≡ None))
-    ⊎ ((w.gtid ≡ true) × (logs_at w n ≡ false))
+BelowSuccessor w b f n s = (w.gtid ≡ false) × (latest_that (has_own n s.exec) (ring_at b.rings f) ≡ None)
 
 -- the replica of which a stage's failing operation makes an entry
 abbrev pub speaks_of : Stage → Option ServerNo
@@ -142,11 +141,14 @@ pub record SpeaksWith (r : Recovery) : Type 0 where
   pub looks : (n : ServerNo) (x : Bridge) → r.stage ≡ stage.Look n x → All (λ o. is_look (deed_of o) ≡ true) r.core.ops
   pub starts : (n p : ServerNo) → (info r.stage).made ≡ table.Follows n p → (r.core.ops ≡ op.Start n ∷ []) ⊎ (r.core.ops ≡ [])
 
--- so it is, the recovery is on its way, and what is left of a stage that waits are its last operations
+-- So it is, the recovery is on its way, and what is left of a stage that waits are its last operations. It changes only
+-- its replicas, and in a takeover the master. There it knows the position at which the designated one stopped.
 pub record Speaks (r : Recovery) : Type 0 where
   pub says : SpeaksWith r
   pub way : IsOnWay r
+  pub knows : KnowsLead r
   pub listed : AreLeft r.stage r.core.ops
+  pub changes : ChangesIts r
 
 -- this task is next
 abbrev pub IsDue : Task → Recovery → Type 0
@@ -370,7 +372,7 @@ IsUp P r n = (P (IsStarted n) ≡ true) ⊎ ((P (IsSwitched n) ≡ true) ⊎ IsY
 abbrev pub HasNotFailed : Recovery → Type 0
 HasNotFailed r = (q : ServerNo) → r.stage ≡ stage.Open q → r.core.ops ≡ [] → ⊥
 
--- only those are to be detached, of these lost ones
+-- only those of these lost ones are to be detached, and only those to be started
 abbrev pub IsOutSo : Purpose → List LostReplica → Task → Type 0
 IsOutSo u xs (task.Expelling n) = IsToDetach u (why_of xs n)
 IsOutSo u xs (task.Reading n) = Unit {0}
@@ -379,11 +381,11 @@ IsOutSo u xs task.Choosing = Unit {0}
 IsOutSo u xs task.Handing = Unit {0}
 IsOutSo u xs (task.Moving n by) = Unit {0}
 IsOutSo u xs task.Sorting = Unit {0}
-IsOutSo u xs (task.Releasing n) = Unit {0}
+IsOutSo u xs (task.Releasing n) = IsToRelease u (why_of xs n)
 IsOutSo u xs (task.Trailing n) = Unit {0}
 IsOutSo u xs task.Yielding = Unit {0}
 
--- who is to be detached, is being detached and was; and each that is marked as detached was
+-- who is to be detached or started, is being detached and was; and each that is marked as detached was
 pub record IsCaredFor (P : Fact → Bool) (r : Recovery) : Type 0 where
   pub out : All (IsOutSo r.purpose r.outcome.lost) r.queue
   pub leaving : (n : ServerNo) → r.stage ≡ stage.Expel n → IsToDetach r.purpose (why_of r.outcome.lost n)

@@ -1,5 +1,5 @@
 -- What a job leaves stopped, and what a turn makes good in which the recovery fails.
-use Rattle.std.specs.Prelude.{◌≡◌, ℕ, Bool, true, false, Option, Some, None, ◌⊎◌}
+use Rattle.std.specs.Prelude.{◌≡◌, All, true, false, Option, Some, None, ◌⊎◌}
 use Rattle.recovery_reasons.specs.Prelude.{Attach, Attached, Contains, Coord, Detached, Exchange, Position, Recovery, Request, Server, ServerNo, Stage}
 use Rattle.recovery_reasons.specs.Prelude.{Taken, Threads, World, can_attach, can_reach, is_takeover, run, seen_of, server_at}
 use Rattle.recovery_reasons.specs.Prelude.asking
@@ -8,10 +8,11 @@ use Rattle.recovery_reasons.specs.Prelude.stage
 
 -- ---- what is left stopped
 
--- Whom a turn stops is in the job's hands. Whoever was there stays, unless the turn starts it.
+-- Whom a turn stops is in the job's hands. Whoever was there stays, unless the turn starts it. Nobody else is there.
 pub record KeepsHands (r : Recovery) (t : Taken) : Type 0 where
   pub takes : (n : ServerNo) (which : Threads) → Contains t.exchanges (Request n.0 (asking.Stop which)) → Contains t.recovery.core.hands n
   pub keeps : (n : ServerNo) → Contains r.core.hands n → Contains t.recovery.core.hands n ⊎ Contains t.exchanges (Request n.0 asking.Start)
+  pub only : (n : ServerNo) → Contains t.recovery.core.hands n → Contains r.core.hands n ⊎ ((which : Threads) × Contains t.exchanges (Request n.0 (asking.Stop which)))
 
 -- a turn in which the recovery fails starts whoever is there
 pub record StartsHands (r : Recovery) (t : Taken) : Type 0 where
@@ -70,13 +71,21 @@ pub record IsOpen (w : World) (n : ServerNo) : Type 0 where
   pub there : server_at w n.0 ≡ Some server
   pub writable : server.read_only ≡ false
 
+-- An exchange of a turn in which the recovery fails. Whom the job stopped and didn't start again is started. The master
+-- that a takeover has closed takes writes. If that one was to go below the designated one, this one goes back and is
+-- started.
+pub data MakesGood (w : World) (d : Recovery) : Exchange → Type 0 where
+  Restarts : (n : ServerNo) → Contains d.core.hands n → MakesGood w d (Request n.0 asking.Start)
+  Opens : (m : ServerNo) → is_takeover d.purpose ≡ true → closed_at d.failed d.stage ≡ Some m → MakesGood w d (Request m.0 (asking.SetReadOnly false))
+  Starts : (m k : ServerNo) → is_takeover d.purpose ≡ true → d.stage ≡ stage.Switch m k → MakesGood w d (Request k.0 asking.Start)
+  Returns : {e : Exchange} (m k : ServerNo) → is_takeover d.purpose ≡ true → d.stage ≡ stage.Switch m k → GoesBack w d k e → MakesGood w d e
+
 -- A turn in which the recovery fails, as it was decided so far. If a takeover has closed its master that one takes
 -- writes again if it is reached. If the master was to go below the designated one, that one goes back if this can be
--- made, and is started. No other server takes writes, and none refuses them.
+-- made, and is started. The turn makes nothing else, except to start whom the job stopped.
 pub record OpensAgain (w : World) (d : Recovery) (t : Taken) : Type 0 where
   pub opens : (m : ServerNo) → is_takeover d.purpose ≡ true → closed_at d.failed d.stage ≡ Some m → Contains t.exchanges (Request m.0 (asking.SetReadOnly false))
   pub writes : (m : ServerNo) → is_takeover d.purpose ≡ true → closed_at d.failed d.stage ≡ Some m → can_reach (server_at w m.0) ≡ true → IsOpen (run w t.exchanges) m
   pub back : (m k : ServerNo) (e : Exchange) → is_takeover d.purpose ≡ true → d.stage ≡ stage.Switch m k → GoesBack w d k e → Contains t.exchanges e
   pub starts : (m k : ServerNo) → is_takeover d.purpose ≡ true → d.stage ≡ stage.Switch m k → Contains t.exchanges (Request k.0 asking.Start)
-  pub only : (n : ℕ) (on : Bool) → Contains t.exchanges (Request n (asking.SetReadOnly on))
-      → (is_takeover d.purpose ≡ true) × (on ≡ false) × ((m : ServerNo) × (closed_at d.failed d.stage ≡ Some m) × (n ≡ m.0))
+  pub only : All (MakesGood w d) t.exchanges

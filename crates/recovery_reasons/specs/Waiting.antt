@@ -1,14 +1,15 @@
 -- How a turn waits, and what follows a wait.
 use Rattle.std.specs.Prelude.{◌≡◌, ◌+◌, ◌<◌, ◌≤◌, true, false, List, [], ◌∷◌, ◌++◌, Option, Some, None, ◌⊎◌, option_and_then, option_map}
-use Rattle.recovery_reasons.specs.Prelude.{Bridge, Coord, Decisions, EndOf, ExecOf, Ground, Op, Recovery, ServerNo, Stage, Status, Taken, World, deed_of}
-use Rattle.recovery_reasons.specs.Prelude.{is_at_or_before, same_coord, seen_in, seen_of, status}
+use Rattle.recovery_reasons.specs.Prelude.{Bridge, Coord, Decisions, EndOf, ExecOf, Ground, Op, Recovery, ServerNo, Stage, Status, Taken, Why, World, deed_of}
+use Rattle.recovery_reasons.specs.Prelude.{is_at_or_before, is_below, position_of, same_coord, seen_in, seen_of, spot_seen, status}
 use Rattle.recovery_reasons.specs.Prelude.cause
 use Rattle.recovery_reasons.specs.Prelude.cross
 use Rattle.recovery_reasons.specs.Prelude.op
 use Rattle.recovery_reasons.specs.Prelude.stage
 use Rattle.recovery_reasons.specs.Prelude.step
+use Rattle.recovery_reasons.specs.Prelude.way
 use Rattle.recovery_reasons.specs.Prelude.whys as lost
-use Rattle.recovery_reasons.specs.Steps.{AreFirst, waits}
+use Rattle.recovery_reasons.specs.Steps.{AreFirst, trailing, waits}
 
 -- ---- what a turn comes to whose operation waits
 
@@ -31,11 +32,11 @@ pub record IsWaitOver (d : Recovery) (n : ServerNo) (t : Taken) : Type 0 where
   pub stage : t.recovery.stage ≡ d.stage
   pub outcome : t.recovery.outcome ≡ d.outcome
 
--- the replica is lost as `behind` at its position, and is started next
-pub record IsLateNow (d : Recovery) (n : ServerNo) (at : Coord) (t : Taken) : Type 0 where
+-- the replica is lost for this, and is started next
+pub record IsFreedNow (d : Recovery) (n : ServerNo) (why : Why) (t : Taken) : Type 0 where
   pub going : t.step ≡ step.Going
   pub made : t.exchanges ≡ []
-  pub lost : t.recovery.outcome.lost ≡ d.outcome.lost ++ record { no = n; why = lost.behind at; detached = false } ∷ []
+  pub lost : t.recovery.outcome.lost ≡ d.outcome.lost ++ record { no = n; why = why; detached = false } ∷ []
   pub next : (t.recovery.stage ≡ stage.Release n) × (t.recovery.core.ops ≡ op.Start n ∷ [])
 
 -- the better one is given up, and is started next
@@ -43,6 +44,20 @@ pub record IsGivenUpNow (d : Recovery) (q : ServerNo) (t : Taken) : Type 0 where
   pub going : t.step ≡ step.Going
   pub made : t.exchanges ≡ []
   pub next : (t.recovery.stage ≡ stage.Release q) × (t.recovery.core.ops ≡ op.Start q ∷ [])
+  pub outcome : t.recovery.outcome ≡ d.outcome
+
+-- the replica is lost for this, and is left as it is
+pub record IsLeftNow (d : Recovery) (n : ServerNo) (why : Why) (t : Taken) : Type 0 where
+  pub going : t.step ≡ step.Going
+  pub made : t.exchanges ≡ []
+  pub lost : t.recovery.outcome.lost ≡ d.outcome.lost ++ record { no = n; why = why; detached = false } ∷ []
+  pub next : (t.recovery.stage ≡ stage.Idle) × (t.recovery.core.ops ≡ [])
+
+-- this stage is next, and nobody is lost
+pub record IsNextStage (d : Recovery) (s : Stage) (ops : List Op) (t : Taken) : Type 0 where
+  pub going : t.step ≡ step.Going
+  pub made : t.exchanges ≡ []
+  pub next : (t.recovery.stage ≡ s) × (t.recovery.core.ops ≡ ops)
   pub outcome : t.recovery.outcome ≡ d.outcome
 
 -- ---- how long
@@ -78,22 +93,42 @@ pub data IsDueWait : Stage → Op → List Op → Type 0 where
   Levels : (p q : ServerNo) → IsDueWait (stage.Level p q) (op.Await q (EndOf p)) (op.Stop q ∷ op.Status q (Some p) ∷ op.Reset q ∷ op.Cross cross.About p q ∷ [])
   Gathers : (m d : ServerNo) → IsDueWait (stage.Gather m d) (op.Await d (EndOf m)) (op.Stop d ∷ op.Status d (Some m) ∷ [])
 
+-- The turn reads another replica of a takeover:
+-- - before its wait: if it is below the master it comes to the position at which the designated one stopped. Else it is
+--   lost as `moved`, and left as it is;
+-- - after its wait: if it is at that position it goes below the designated one. Else it is lost as `behind`, and is
+--   started next.
+-- One that isn't reached is lost as `unreachable`, and is to be started next.
+pub record ReadsOthers (w : World) (d : Recovery) (t : Taken) : Type 0 where
+  pub below : (n : ServerNo) (x : Bridge) (s : Status) → d.stage ≡ stage.Look n x → d.core.ops ≡ op.Status n None ∷ [] → seen_in (status w n.0) ≡ Some s
+      → is_below (position_of s) d.failed ≡ true → IsNextStage d (stage.Trail n x) (trailing n x) t
+  pub elsewhere : (n : ServerNo) (x : Bridge) (s : Status) → d.stage ≡ stage.Look n x → d.core.ops ≡ op.Status n None ∷ [] → seen_in (status w n.0) ≡ Some s
+      → is_below (position_of s) d.failed ≡ false → IsLeftNow d n (lost.moved (spot_seen s.source s.exec)) t
+  pub there : (n : ServerNo) (x : Bridge) (s : Status) → d.stage ≡ stage.Trail n x → d.core.ops ≡ op.Status n None ∷ [] → seen_in (status w n.0) ≡ Some s
+      → same_coord s.exec x.exec ≡ true → IsNextStage d (stage.Move n (way.Down x)) (op.Cross cross.Down n x.no ∷ op.Start n ∷ []) t
+  pub late : (n : ServerNo) (x : Bridge) (s : Status) → d.stage ≡ stage.Trail n x → d.core.ops ≡ op.Status n None ∷ [] → seen_in (status w n.0) ≡ Some s
+      → same_coord s.exec x.exec ≡ false → IsFreedNow d n (lost.behind s.exec) t
+  pub away : (n : ServerNo) (x : Bridge) → (d.stage ≡ stage.Look n x) ⊎ (d.stage ≡ stage.Trail n x) → d.core.ops ≡ op.Status n None ∷ [] → seen_in (status w n.0) ≡ None
+      → IsFreedNow d n lost.unreachable t
+
 -- The turn of a recovery as it was decided so far. Each wait goes by the status of that turn:
 -- - a drained replica executes what it fetched; the last wait ends this, too;
 -- - one comes to the position at which the designated one stopped, or is lost as `behind` at its own;
 -- - the better one comes to the end of the chosen one's log, or is given up;
 -- - the designated one comes to the end of its master's log, or the recovery fails.
--- No other operation waits. The count of waits begins again with each operation, and how many there are stays.
+-- No other operation waits. A takeover's other replicas go on by their readings. The count of waits begins again with
+-- each operation, and how many there are stays.
 pub record WaitsItsTurns (w : World) (d : Recovery) (t : Taken) : Type 0 where
   pub only : (o : Op) (rest : List Op) → d.core.ops ≡ o ∷ rest → waits (deed_of o) ≡ true → IsDueWait d.stage o rest
   pub drains : (n : ServerNo) (rest : List Op) (s : Status) → d.stage ≡ stage.Drain n → d.core.ops ≡ op.Settle n ∷ rest → seen_in (status w n.0) ≡ Some s
       → WaitsUntil d n (HasSettled s) (IsWaitOver d n t) t
   pub trails : (n : ServerNo) (x : Bridge) (rest : List Op) (s : Status) → d.stage ≡ stage.Trail n x → d.core.ops ≡ op.Await n (ExecOf x.no) ∷ rest
-      → seen_in (status w n.0) ≡ Some s → WaitsUntil d n (HasCome (exec_seen d x.no) s.exec) (IsLateNow d n s.exec t) t
+      → seen_in (status w n.0) ≡ Some s → WaitsUntil d n (HasCome (exec_seen d x.no) s.exec) (IsFreedNow d n (lost.behind s.exec) t) t
   pub levels : (p q : ServerNo) (rest : List Op) (s : Status) → d.stage ≡ stage.Level p q → d.core.ops ≡ op.Await q (EndOf p) ∷ rest
       → seen_in (status w q.0) ≡ Some s → WaitsUntil d q (HasCome (end_seen d p) s.exec) (IsGivenUpNow d q t) t
   pub gathers : (m k : ServerNo) (rest : List Op) (s : Status) → d.stage ≡ stage.Gather m k → d.core.ops ≡ op.Await k (EndOf m) ∷ rest
       → seen_in (status w k.0) ≡ Some s → WaitsUntil d k (HasCome (end_seen d m) s.exec) (t.step ≡ step.Failed (cause.WaitSpent k) []) t
+  pub reads : ReadsOthers w d t
   pub fresh : t.step ≡ step.Going → (t.recovery.core.waited ≡ 0) ⊎ IsOneMoreWait d t
   pub wait : t.step ≡ step.Going → t.recovery.core.wait ≡ d.core.wait
 

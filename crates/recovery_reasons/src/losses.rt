@@ -17,10 +17,11 @@ ghost use Rattle.recovery_reasons.specs.Reasons.{ExplainsTruly, Fact, IsExplaine
 /// for what was so and for each fact that is true of this turn. It holds for all afterwards, whether the recovery goes
 /// on, is done or fails.
 ///
-/// A recovery whose decisions leave no operation found nobody. One that is done has lost nobody because none of the
-/// drained may be promoted. A master's recovery that is done has looked for a better one than the chosen one. That one
-/// is promoted, unless there is none, or unless the change of places was given up. A recovery doesn't fail for one of
-/// its replicas that isn't reached, nor if two servers can't change places.
+/// A recovery whose decisions leave no operation chooses its new source, and found nobody. So a takeover always has an
+/// operation. One that is done has lost nobody because none of the drained may be promoted. A master's recovery that is
+/// done has looked for a better one than the chosen one. That one is promoted, unless there is none, or unless the
+/// change of places was given up. A recovery doesn't fail for one of its replicas that isn't reached, or if two servers
+/// can't change places.
 pub fn recoveries_tell_the_truth()
     ensures told { (w : World) (b : BookState) (read : ℕ) (now : AMoment) (r : Recovery)
         (P : Fact → Bool) →

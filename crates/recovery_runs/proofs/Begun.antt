@@ -1,29 +1,25 @@
 -- What a turn begins is plans, and recoveries as they begin, which name no replica twice.
-use Rattle.std.proofs.Common.{◌≡◌, ℕ, ◌+◌, ◌<◌, true, List, [], ◌∷◌, length, map, refl, subst, Option, Some, None, Result, Ok, Err, ◌∙◌, ◌⊎◌, inl, inr, ap, arith}
+use Rattle.std.proofs.Common.{◌≡◌, ℕ, ◌+◌, ◌<◌, List, [], ◌∷◌, length, map, refl, Option, Some, None, ◌∙◌, ◌⊎◌, inl, inr, ap, arith}
 use Rattle.std.specs.Prelude.{All, IfSome, slice_get, get_or, ◌≤◌}
-use Rattle.recovery_runs.proofs.Prelude.{Act, All-cons, All-contains, All-head, All-nil, All-tail, AreHooksOf, AreShort, Asks, AuditState}
-use Rattle.recovery_runs.proofs.Prelude.{BeginInTurn, Begins as RecoveryBegins, BeginsOnce, BookState, ByBridges, ByMatches, Code, Command}
-use Rattle.recovery_runs.proofs.Prelude.{CommandTurn, Configuration, Decided, Decides, Discovers, Forgets, HasHooks, HostPort}
-use Rattle.recovery_runs.proofs.Prelude.{IsAct, IsBook, IsCommand, IsEntryIn, IsFresh, IsTurn, Line, Means, NamesReplicasOnce, Observation}
-use Rattle.recovery_runs.proofs.Prelude.{Outcome, Planner, Ready, Recovers, Refusal, Regroups, Route, ServerNo, State, Status as Seen}
-use Rattle.recovery_runs.proofs.Prelude.{TakesOver, TellsAll, Turn, Unended, UnknownInstance, World, about as given_or, act-fits, act_in}
-use Rattle.recovery_runs.proofs.Prelude.{actionable-entries, actionable_in, allowed, asked, attempt_in, begun, begun_hooks, begun_recovery, by_hand}
-use Rattle.recovery_runs.proofs.Prelude.{code_at, command_outcome, decided_of, discovered, forgotten, hooks_by, is_within, job_by, jobs_begun}
-use Rattle.recovery_runs.proofs.Prelude.{jobs_done, jobs_in_act, jobs_of, label_at, leases_by, lines_of, ltb-true, numbers_of, option_map, outcome_by}
-use Rattle.recovery_runs.proofs.Prelude.{outcome_of, permitted, purpose_by, question, reading, recovered, recovery-names, recovery_begins}
-use Rattle.recovery_runs.proofs.Prelude.{recovery_begun, recovery_job, recovery_refusal, recovery_try, refusal, refusal_by, regroup-are}
-use Rattle.recovery_runs.proofs.Prelude.{regroup_about, removal_refusal, replicas_of, route_of, scan-each, scan-in-turn, scan-names, scan_in}
-use Rattle.recovery_runs.proofs.Prelude.{scan_outcome, short-by, slice_get_cases, source_of, taken_over, takeover-names, takeover_begins}
-use Rattle.recovery_runs.proofs.Prelude.{takeover_refusal, takeover_try, told_of, told_try, unrefused, with_told, within-book}
+use Rattle.recovery_runs.proofs.Prelude.{job_in, means_of}
+use Rattle.recovery_runs.proofs.Prelude.{Act, All-cons, All-contains, All-head, All-nil, All-tail, AreHooksOf, AreShort, AuditState, BeginInTurn}
+use Rattle.recovery_runs.proofs.Prelude.{Begins as RecoveryBegins, BeginsOnce, BookState, Code, Comes, Command, CommandTurn}
+use Rattle.recovery_runs.proofs.Prelude.{Configuration, HasHooks, HostPort, IsAct, IsAskedFor, IsBook, IsCommand, IsEntryIn, IsFresh, IsTurn, Means}
+use Rattle.recovery_runs.proofs.Prelude.{NamesReplicasOnce, Outcome, Planner, Ready, Refusal, ServerNo, State, TellsAll, Turn, Unended}
+use Rattle.recovery_runs.proofs.Prelude.{World, act-fits, act_in, actionable-entries, actionable_in, asked, attempt_in, begun_hooks, begun_recovery}
+use Rattle.recovery_runs.proofs.Prelude.{by_hand, code_at, command-comes, command_outcome, given-in, given-there, hooks_by, job_by, jobs_begun}
+use Rattle.recovery_runs.proofs.Prelude.{jobs_done, jobs_in_act, jobs_of, label_at, numbers_of, option_map, purpose_by, recovery-names}
+use Rattle.recovery_runs.proofs.Prelude.{recovery_begins, recovery_job, recovery_refusal, regroup-are, regroup_about, replicas_of, scan-each}
+use Rattle.recovery_runs.proofs.Prelude.{scan-in-turn, scan-names, scan_in, scan_outcome, short-by, slice_get_cases, source_of, takeover-names}
+use Rattle.recovery_runs.proofs.Prelude.{takeover_begins, takeover_refusal, told_of, unless_refused, with_told, within-book}
 use Rattle.recovery_runs.proofs.Prelude.Audits.{begun as begun_audit}
-use Rattle.recovery_runs.proofs.Prelude.Outcomes.{decided}
 use Rattle.recovery_runs.proofs.Prelude.Leases.{taken}
 use Rattle.recovery_runs.proofs.Prelude.Recoveries.{refusal_by as recovery_refusal_by}
 use Rattle.recovery_runs.proofs.Prelude.RecoveryPermits.{Attempt}
-use Rattle.recovery_runs.proofs.Prelude.TheVariants.{Begins}
 use Rattle.recovery_runs.proofs.Prelude.act
 use Rattle.recovery_runs.proofs.Prelude.means
 use Rattle.recovery_runs.proofs.Prelude.turn
+use Rattle.recovery_runs.proofs.Prelude.comes
 use Rattle.recovery_runs.proofs.Tellings.{listed, tells-own}
 
 -- what an outcome begins in a state
@@ -37,51 +33,26 @@ module _ (state : State) where
   abbrev Once : Unended → Type 0
   Once u = BeginsOnce state u
 
-  abbrev New : Outcome → Type 0
-  New o = All Once (jobs_of state o)
-
   none-new : All Once []
   none-new = All-nil Once
 
-  new-asked : (reads : ℕ) (p : Result Unit Refusal) (lines : List Line) → New (asked reads p lines)
-  new-asked reads (Ok permit) lines = none-new
-  new-asked reads (Err r) lines = none-new
-
-  new-forgotten : (reads : ℕ) (p : Result Unit Refusal) (i : ServerNo) → New (forgotten reads p i)
-  new-forgotten reads (Ok permit) i = none-new
-  new-forgotten reads (Err r) i = none-new
-
-  new-discovered : (reads : ℕ) (o : Observation) (x : Option Seen) → New (discovered b reads o x)
-  new-discovered reads o None = none-new
-  new-discovered reads o (Some seen) = none-new
-
-  new-decided : (reads : ℕ) (a : AuditState) (p : Result Unit Refusal) (d : Decided) → New (decided reads a p d)
-  new-decided reads a (Ok permit) d = none-new
-  new-decided reads a (Err r) d = none-new
-
   -- ---- the job of a command
-
-  new-begun : (r : Option Refusal) (list : List ServerNo) (job : Unended) → Once job → New (begun (numbers_of state) r list job)
-  new-begun (Some why) list job once = none-new
-  new-begun None list job once = All-cons Once job [] once none-new
 
   regroup-once : (by : Means) (id wait : ℕ) (i : Option ServerNo) → Once (regroup_about b by id wait i)
   regroup-once by id wait None = tt
   regroup-once by id wait (Some i) = record { fresh = refl; replicas = refl; once = regroup-are b i; tells = tells-own None (replicas_of b i); hooks = refl }
 
   job-once : (w : World) (c : Command) (p : Planner) (id wait every : ℕ) → Once (job_by w b c p id wait every)
-  job-once w c (Regroups ByMatches) id wait every = regroup-once (means.Matches every) id wait c.i
-  job-once w c (Regroups ByBridges) id wait every = regroup-once means.Bridges id wait c.i
-  job-once w c _ id wait every = tt
+  job-once w c p id wait every = go (means_of every p)
+    where
+      go : (by : Option Means) → Once (job_in w b c p id wait every by)
+      go None = tt
+      go (Some by) = regroup-once by id wait c.i
 
   -- ---- recoveries
 
   abbrev Hooked : RecoveryBegins → Type 0
   Hooked x = HasHooks state x.job.purpose x.job.failed (hooks_by c b x x.code)
-
-  new-recovery : (r : Result RecoveryBegins Refusal) → ((x : RecoveryBegins) → r ≡ Ok x → Once (recovery_job (with_told c b x))) → New (recovery_begun (numbers_of state) (told_try c b r))
-  new-recovery (Ok x) once = All-cons Once (recovery_job (with_told c b x)) [] (once x refl) none-new
-  new-recovery (Err why) once = none-new
 
   begins-once : (x : RecoveryBegins) → IsFresh x.job → NamesReplicasOnce b x → TellsAll x.job → Hooked x → Once (recovery_job (with_told c b x))
   begins-once x fresh names tells hooks = record { fresh = fresh; replicas = names.replicas; once = names.once; tells = tells; hooks = hooks }
@@ -123,23 +94,16 @@ module _ (state : State) where
         go None at h = absurd cc
         go (Some code) at h = (code, at)
 
-    recovery-once : (f : ServerNo) (x : RecoveryBegins) → f.0 < length b.names → recovery_try w b audit a wait job f ≡ Ok x → Once (recovery_job (with_told c b x))
-    recovery-once f x here h =
-        begins-once x
-        (subst (λ (y : RecoveryBegins). IsFresh y.job) (unrefused (recovery_refusal w b audit a f) (recovery_begins b audit a.now a.block wait job f) x h).1 refl)
-        (recovery-names w b audit a wait job f x h)
-        (subst (λ (y : RecoveryBegins). TellsAll y.job) (unrefused (recovery_refusal w b audit a f) (recovery_begins b audit a.now a.block wait job f) x h).1 (tells-by (source_of b f) job wait f))
-        (let free = unrefused (recovery_refusal w b audit a f) (recovery_begins b audit a.now a.block wait job f) x h in
-        let has = analysed f free.0 in
-        subst Hooked free.1 (hooks-by audit a wait job f (source_of b f) has.0 here has.1))
+    recovery-once : (f : ServerNo) → f.0 < length b.names → recovery_refusal w b audit a f ≡ None → Once (recovery_job (with_told c b (recovery_begins b audit a.now a.block wait job f)))
+    recovery-once f here free =
+        let x = recovery_begins b audit a.now a.block wait job f in
+        let has = analysed f free in
+        begins-once x refl (recovery-names w b audit a wait job f x (ap (λ (o : Option Refusal). unless_refused o x) free)) (tells-by (source_of b f) job wait f) (hooks-by audit a wait job f (source_of b f) has.0 here has.1)
 
-    takeover-once : (i d : ServerNo) (x : RecoveryBegins) → i.0 < length b.names → d.0 < length b.names → takeover_try w b audit a wait job i d ≡ Ok x → Once (recovery_job (with_told c b x))
-    takeover-once i d x here there h =
-        begins-once x
-        (subst (λ (y : RecoveryBegins). IsFresh y.job) (unrefused (takeover_refusal w b audit a i d) (takeover_begins b audit a.now a.block wait job i d) x h).1 refl)
-        (takeover-names w b audit a wait job i d x there h)
-        (subst (λ (y : RecoveryBegins). TellsAll y.job) (unrefused (takeover_refusal w b audit a i d) (takeover_begins b audit a.now a.block wait job i d) x h).1 (listed b i d here))
-        (subst Hooked (unrefused (takeover_refusal w b audit a i d) (takeover_begins b audit a.now a.block wait job i d) x h).1 refl)
+    takeover-once : (i d : ServerNo) → i.0 < length b.names → d.0 < length b.names → takeover_refusal w b audit a i d ≡ None → Once (recovery_job (with_told c b (takeover_begins b audit a.now a.block wait job i d)))
+    takeover-once i d here there free =
+        let x = takeover_begins b audit a.now a.block wait job i d in
+        begins-once x refl (takeover-names w b audit a wait job i d x there (ap (λ (o : Option Refusal). unless_refused o x) free)) (listed b i d here) refl
 
   -- of several, each as it begins
   all-once : (count : ℕ) (leases : List (Option ℕ)) (a : AuditState) (last : ℕ) (xs : List RecoveryBegins) → BeginInTurn count leases a last xs → All (NamesReplicasOnce b) xs
@@ -153,72 +117,33 @@ module _ (state : State) where
 
 -- ---- in a state
 
-module _ (s : State) (is : IsBook s.book) where
-  abbrev Begins_new : Outcome → Type 0
-  Begins_new o = All (BeginsOnce s) (jobs_of s o)
-
-  scan-new : AreShort s.configuration → Begins_new (scan_outcome s)
-  scan-new periods =
-      all-once s (length s.book.names) s.book.leases s.audit s.last_job (scan_in s).begun
-      (scan-in-turn s.world s.book (attempt_in s) s.configuration.wait s.audit s.last_job is (λ n. short-by s.configuration periods (label_at s.book n)))
-      (scan-names s.world s.book (attempt_in s) s.configuration.wait s.audit s.last_job)
-      (scan-each s.world s.book (attempt_in s) s.configuration.wait (λ x. TellsAll x.job) (λ z e asks. tells-by s (source_of s.book e.no) (z.last + 1) s.configuration.wait e.no) s.audit s.last_job)
-      (scan-each s.world s.book (attempt_in s) s.configuration.wait (Hooked s)
-      (λ z e asks.
-      let in_book = All-contains (IsEntryIn s.book) (actionable_in s.book) e (actionable-entries s.book) asks in
-      hooks-by s z.audit (attempt_in s e.no) s.configuration.wait (z.last + 1) e.no (source_of s.book e.no) e.code in_book.within in_book.code) s.audit s.last_job)
-
-  -- ---- any command
-
-  module _ (t : CommandTurn) (i_within : is_within (length s.book.names) t.command.i ≡ true) (d_within : is_within (length s.book.names) t.command.d ≡ true) where
-    asks : Begins_new (question s.book s.audit s.reads t)
-    asks = new-asked s s.reads (permitted s.book t.command) (lines_of s.book s.audit.recoveries t t.command.name)
-
-    given : (none : Outcome) (some : ServerNo → Outcome) → Begins_new none → ((i : ServerNo) → Begins_new (some i)) → (i : Option ServerNo) → Begins_new (given_or none some i)
-    given none some here each None = here
-    given none some here each (Some i) = each i
-
-    given-within : (none : Outcome) (some : ServerNo → Outcome) → Begins_new none → ((i : ServerNo) → i.0 < length s.book.names → Begins_new (some i)) → (i : Option ServerNo)
-        → is_within (length s.book.names) i ≡ true → Begins_new (given_or none some i)
-    given-within none some here each None within = here
-    given-within none some here each (Some i) within = each i (ltb-true i.0 (length s.book.names) within)
-
-    new-recovered : (i : ServerNo) → i.0 < length s.book.names → Begins_new (recovered s.world s.book s.audit s.configuration (numbers_of s) i)
-    new-recovered i here =
-        new-recovery s (recovery_try s.world s.book s.audit (by_hand s.book s.configuration (numbers_of s) i) s.configuration.wait (s.last_job + 1) i)
-        (λ x h. recovery-once s s.world s.audit (by_hand s.book s.configuration (numbers_of s) i) s.configuration.wait (s.last_job + 1) i x here h)
-
-    new-taken_over : (d : Option ServerNo) → is_within (length s.book.names) d ≡ true → (i : ServerNo) → i.0 < length s.book.names
-        → Begins_new (taken_over s.world s.book s.audit s.configuration (numbers_of s) d i)
-    new-taken_over None there i here = none-new s
-    new-taken_over (Some d) there i here =
-        new-recovery s (takeover_try s.world s.book s.audit (by_hand s.book s.configuration (numbers_of s) i) s.configuration.wait (s.last_job + 1) i d)
-        (λ x h. takeover-once s s.world s.audit (by_hand s.book s.configuration (numbers_of s) i) s.configuration.wait (s.last_job + 1) i d x here (ltb-true d.0 (length s.book.names) there) h)
-
-    new-route : (r : Route) → Begins_new (outcome_by s.world s.book s.audit s.configuration (numbers_of s) t r)
-    new-route Discovers =
-        given (question s.book s.audit s.reads t) (λ i. discovered s.book s.reads (reading s i) (reading s i).seen) asks
-        (λ i. new-discovered s s.reads (reading s i) (reading s i).seen) t.command.i
-    new-route Forgets =
-        given (question s.book s.audit s.reads t) (forgotten s.reads (allowed (removal_refusal s.book t.command))) asks
-        (new-forgotten s s.reads (allowed (removal_refusal s.book t.command))) t.command.i
-    new-route (Asks q) = asks
-    new-route (Decides d) =
-        new-decided s s.reads s.audit (permitted s.book t.command) (decided_of s.book s.audit (record { 0 = s.moment }) t.keys t.command.i d)
-    new-route (Begins p) =
-        new-begun s (refusal_by s.world s.book (record { 0 = s.moment }) s.configuration.every t.command p) (leases_by s.world s.book t.command p)
-        (job_by s.world s.book t.command p (s.last_job + 1) s.configuration.wait s.configuration.every) (job-once s s.world t.command p (s.last_job + 1) s.configuration.wait s.configuration.every)
-    new-route Recovers =
-        given-within (refusal s.reads UnknownInstance) (recovered s.world s.book s.audit s.configuration (numbers_of s)) (none-new s) new-recovered t.command.i i_within
-    new-route TakesOver =
-        given-within (refusal s.reads UnknownInstance) (taken_over s.world s.book s.audit s.configuration (numbers_of s) t.command.d) (none-new s) (new-taken_over t.command.d d_within)
-        t.command.i i_within
+scan-new : (s : State) → IsBook s.book → AreShort s.configuration → All (BeginsOnce s) (jobs_of s (scan_outcome s))
+scan-new s is periods =
+    all-once s (length s.book.names) s.book.leases s.audit s.last_job (scan_in s).begun
+    (scan-in-turn s.world s.book (attempt_in s) s.configuration.wait s.audit s.last_job is (λ n. short-by s.configuration periods (label_at s.book n)))
+    (scan-names s.world s.book (attempt_in s) s.configuration.wait s.audit s.last_job)
+    (scan-each s.world s.book (attempt_in s) s.configuration.wait (λ x. TellsAll x.job) (λ z e asks. tells-by s (source_of s.book e.no) (z.last + 1) s.configuration.wait e.no) s.audit s.last_job)
+    (scan-each s.world s.book (attempt_in s) s.configuration.wait (Hooked s)
+    (λ z e asks.
+    let in_book = All-contains (IsEntryIn s.book) (actionable_in s.book) e (actionable-entries s.book) asks in
+    hooks-by s z.audit (attempt_in s e.no) s.configuration.wait (z.last + 1) e.no (source_of s.book e.no) e.code in_book.within in_book.code) s.audit s.last_job)
 
 -- ---- any turn
 
 pub command-once : (count : ℕ) (s : State) → Ready count s → (c : CommandTurn) → IsCommand count c → All (BeginsOnce s) (jobs_of s (command_outcome s c))
-unfolding outcome_of
-command-once count s ready c command = let within = within-book count s ready c command in new-route s ready.book c within.0 within.1 (route_of c.command.name)
+command-once count s ready c command = by (command_outcome s c) (command-comes s c)
+  where
+    asked-once : (x : RecoveryBegins) → IsAskedFor s c.command x → BeginsOnce s (recovery_job (with_told s.configuration s.book x))
+    asked-once x (comes.Fails i route at free) = recovery-once s s.world s.audit (by_hand s.book s.configuration (numbers_of s) i) s.configuration.wait (s.last_job + 1) i (given-in count s ready c command i at) free
+    asked-once x (comes.Passes i d route at there free) =
+        takeover-once s s.world s.audit (by_hand s.book s.configuration (numbers_of s) i) s.configuration.wait (s.last_job + 1) i d (given-in count s ready c command i at)
+        (given-there (length s.book.names) c.command.d d there (within-book count s ready c command).1) free
+
+    by : (o : Outcome) → Comes s c o → All (BeginsOnce s) (jobs_of s o)
+    by o (comes.Begun p at free) =
+        All-cons (BeginsOnce s) (job_by s.world s.book c.command p (s.last_job + 1) s.configuration.wait s.configuration.every) [] (job-once s s.world c.command p (s.last_job + 1) s.configuration.wait s.configuration.every) (none-new s)
+    by o (comes.Recovered x asked) = All-cons (BeginsOnce s) (recovery_job (with_told s.configuration s.book x)) [] (asked-once x asked) (none-new s)
+    by o _ = none-new s
 
 pub scan-once : (count : ℕ) (s : State) → Ready count s → All (BeginsOnce s) (jobs_of s (scan_outcome s))
 scan-once count s ready = scan-new s ready.book ready.periods

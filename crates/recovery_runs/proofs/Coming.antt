@@ -9,7 +9,7 @@ use Rattle.recovery_runs.proofs.Prelude.{same-aim, scan_outcome, step, taken, ta
 use Rattle.recovery_runs.proofs.Prelude.act
 use Rattle.recovery_runs.proofs.Prelude.turn
 use Rattle.recovery_runs.proofs.Prelude.unended
-use Rattle.recovery_runs.proofs.Joining.{command-joins, joined, scan-joins}
+use Rattle.recovery_runs.proofs.Joining.{joined, outcome-joins}
 
 of-itself : (us : List Unended) (u : Unended) → Contains us u → ComesOf us u
 of-itself us (unended.Plan j) among = tt
@@ -55,9 +55,9 @@ module _ (count : ℕ) (s : State) (id : ℕ) (ready : Ready count s) where
 act-come : (count : ℕ) (rows : List Row) (s : State) (a : Act) → Ready count s → All (ComesOf (s.jobs ++ jobs_in_act s a)) (after_act rows s a).jobs
 act-come count rows s (act.PollRead p n) ready = all-stay s.jobs []
 act-come count rows s (act.PollStore p) ready = all-stay s.jobs []
-act-come count rows s (act.Command c) ready = come-joined s.jobs (jobs_of s (command_outcome s c)) (updated (known_of s) (command_outcome s c).book).jobs (command-joins s c)
+act-come count rows s (act.Command c) ready = come-joined s.jobs (jobs_of s (command_outcome s c)) (updated (known_of s) (command_outcome s c).book).jobs (outcome-joins s (command_outcome s c))
 act-come count rows s (act.Job id) ready = turn-come count s id ready (job_at s.jobs id) refl
-act-come count rows s act.Scan ready = come-joined s.jobs (jobs_of s (scan_outcome s)) (updated (known_of s) (scan_outcome s).book).jobs (scan-joins s)
+act-come count rows s act.Scan ready = come-joined s.jobs (jobs_of s (scan_outcome s)) (updated (known_of s) (scan_outcome s).book).jobs (outcome-joins s (scan_outcome s))
 act-come count rows s act.Restart ready = All-nil (ComesOf (s.jobs ++ []))
 
 done-come : (count : ℕ) (rows : List Row) (s : State) (o : Option Act) → Ready count s → All (ComesOf (s.jobs ++ jobs_done s o)) (after_done rows s o).jobs

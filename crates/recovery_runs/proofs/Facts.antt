@@ -11,7 +11,7 @@ use Rattle.recovery_runs.proofs.Prelude.act
 use Rattle.recovery_runs.proofs.Prelude.turn
 use Rattle.recovery_runs.proofs.Prelude.unended
 use Rattle.recovery_runs.proofs.Begun.{command-once, scan-once}
-use Rattle.recovery_runs.proofs.Joining.{command-joins, joined, scan-joins}
+use Rattle.recovery_runs.proofs.Joining.{joined, outcome-joins}
 use Rattle.recovery_runs.proofs.Finishing.{facts-true}
 
 module _ (P : Fact → Bool) (id : ℕ) where
@@ -60,11 +60,11 @@ module _ (P : Fact → Bool) (id : ℕ) where
   explained-act count rows s (act.PollRead p n) ready is held speaking explains explained = explained
   explained-act count rows s (act.PollStore p) ready is held speaking explains explained = explained
   explained-act count rows s (act.Command c) ready is held speaking explains explained =
-      with-begun s (jobs_of s (command_outcome s c)) (updated (known_of s) (command_outcome s c).book).jobs (command-joins s c) (command-once count s ready c is) explained
+      with-begun s (jobs_of s (command_outcome s c)) (updated (known_of s) (command_outcome s c).book).jobs (outcome-joins s (command_outcome s c)) (command-once count s ready c is) explained
   explained-act count rows s (act.Job job) ready is held speaking explains explained =
       turn-explained count s job ready held speaking explained explains (job_at s.jobs job) refl
   explained-act count rows s act.Scan ready is held speaking explains explained =
-      with-begun s (jobs_of s (scan_outcome s)) (updated (known_of s) (scan_outcome s).book).jobs (scan-joins s) (scan-once count s ready) explained
+      with-begun s (jobs_of s (scan_outcome s)) (updated (known_of s) (scan_outcome s).book).jobs (outcome-joins s (scan_outcome s)) (scan-once count s ready) explained
   explained-act count rows s act.Restart ready is held speaking explains explained = All-nil Explained
 
   explained-done : (count : ℕ) (rows : List Row) (s : State) (o : Option Act) → Ready count s → IfSome o (IsAct count) → HeldState s → SpeakingState s → ExplainsDone P id s o

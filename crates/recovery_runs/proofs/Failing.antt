@@ -2,6 +2,7 @@
 use Rattle.std.proofs.Common.{◌≡◌, ◌∙◌, ◌+◌, ℕ, Bool, true, false, cond, List, [], ◌∷◌, refl, sym, ap, subst, Option, Some, None, ◌⊎◌, inl, inr}
 use Rattle.recovery_runs.proofs.Prelude.{All-find, All-head, Attempt, BookState, Cause, ComesTo, Deed, Docket, Exchange, FailsTruly, Failure, Fate}
 use Rattle.recovery_runs.proofs.Prelude.{Fine, HasNobody, Hook, HookState, HostPort, IsEndedByHook, IsFailing, IsOnWay, IsSpeakingBeside, IsTrueOf}
+use Rattle.recovery_runs.proofs.Prelude.{Speaks}
 use Rattle.recovery_runs.proofs.Prelude.{Job, JobStep, Line, Moment, Observation, Op, ReadsNow, RecoveriesFailForWhatBefell, Recovery, Scenario}
 use Rattle.recovery_runs.proofs.Prelude.{ServerNo, ShowsFailed, ShowsNow, SpeakingState, Stage, State, Status, Taken, Unended, World, acted}
 use Rattle.recovery_runs.proofs.Prelude.{attempted, barred_by, by_deed, cause-true, decided, decided-walks, decides-fine, decisions-keep, deed_of}
@@ -112,9 +113,9 @@ module _ (w : World) (b : BookState) (read : ℕ) (now : Moment) (r so : Recover
     at-ops [] is h = let same : cause.NoCandidate ≡ c = cc in subst (FailsTruly w b read now r so) same (failing.Nobody is (found is))
     at-ops (o ∷ rest) is h = at-op o rest is (by_deed w read now so.core rest (deed_of o)) refl h
 
-fails-truly : (w : World) (b : BookState) (read : ℕ) (now : Moment) (r : Recovery) → IsOnWay r → (c : Cause) (lines : List Line) → (taken w b read now r).step ≡ step.Failed c lines → IsFailing w b read now r c
-fails-truly w b read now r way c lines h =
-    at-ops w b read now r (decided (ground_of w b now) r) (decisions-keep w b now Fine (decides-fine w b now) (decided-walks w b now r) (inl way)) (finds-nobody w b now r way) c lines
+fails-truly : (w : World) (b : BookState) (read : ℕ) (now : Moment) (r : Recovery) → Speaks r → (c : Cause) (lines : List Line) → (taken w b read now r).step ≡ step.Failed c lines → IsFailing w b read now r c
+fails-truly w b read now r speaks c lines h =
+    at-ops w b read now r (decided (ground_of w b now) r) (decisions-keep w b now Fine (decides-fine w b now) (decided-walks w b now r) (inl speaks.way)) (finds-nobody w b now r speaks.way speaks.knows) c lines
     (decided (ground_of w b now) r).core.ops refl h
 
 -- ---- with hooks
@@ -154,14 +155,14 @@ recoveries-fail : (s : State) → SpeakingState s → RecoveriesFailForWhatBefel
 recoveries-fail s speaking = λ id r d f found fails.
     let now : Moment = record { 0 = s.moment } in
     let t = taken s.world s.book (next_count s.reads) now r in
-    let way = (All-find IsSpeakingBeside (λ (k : Unended). number_of k == id) s.jobs (unended.Recovery r d) speaking.jobs found).way in
+    let speaks = All-find IsSpeakingBeside (λ (k : Unended). number_of k == id) s.jobs (unended.Recovery r d) speaking.jobs found in
     let said : step_reply (with_hooks d (promoted_in s.book t) r t).taken.step ≡ answered.Failed f = sym (ap (λ (o : Option Unended). job_reply (option_map (turn_of s) o)) found) ∙ fails in
-    go now r d f way (front-fails d (promoted_in s.book t) r t f (front_hook d.hooks) refl said)
+    go now r d f speaks (front-fails d (promoted_in s.book t) r t f (front_hook d.hooks) refl said)
   where
-    go : (now : Moment) (r : Recovery) (d : Docket) (f : Failure) → IsOnWay r → ((front_hook d.hooks ≡ None) × OwnFails d None r (taken s.world s.book (next_count s.reads) now r) f (taken s.world s.book (next_count s.reads) now r).step) ⊎ IsEndedByHook d f.cause
+    go : (now : Moment) (r : Recovery) (d : Docket) (f : Failure) → Speaks r → ((front_hook d.hooks ≡ None) × OwnFails d None r (taken s.world s.book (next_count s.reads) now r) f (taken s.world s.book (next_count s.reads) now r).step) ⊎ IsEndedByHook d f.cause
         → ((front_hook d.hooks ≡ None) × IsFailing s.world s.book (next_count s.reads) now r f.cause) ⊎ IsEndedByHook d f.cause
-    go now r d f way (inl x) = inl (x.0, fails-truly s.world s.book (next_count s.reads) now r way f.cause x.1.0 x.1.1)
-    go now r d f way (inr x) = inr x
+    go now r d f speaks (inl x) = inl (x.0, fails-truly s.world s.book (next_count s.reads) now r speaks f.cause x.1.0 x.1.1)
+    go now r d f speaks (inr x) = inr x
 
 -- in every state of every run
 pub fail-comes : (s : Scenario) (xs : List Step) (now : State) → ComesTo s xs now → RecoveriesFailForWhatBefell now

@@ -17,6 +17,7 @@ pub mod Scenarios
 pub mod Tending
 pub mod Failing
 pub mod TurningWell
+pub mod Booking
 pub mod Ended
 pub mod Looking
 pub mod Looks

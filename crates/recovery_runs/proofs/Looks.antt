@@ -25,7 +25,7 @@ use Rattle.recovery_runs.proofs.Prelude.turn
 use Rattle.recovery_runs.proofs.Prelude.unended
 use Rattle.recovery_runs.proofs.Begun.{begun-once}
 use Rattle.recovery_runs.proofs.Failing.{fail-comes}
-use Rattle.recovery_runs.proofs.Joining.{command-joins, joined, scan-joins}
+use Rattle.recovery_runs.proofs.Joining.{joined, outcome-joins}
 use Rattle.recovery_runs.proofs.Looking.{all-passed, answers-hook, check-away, check-reached, looks-first, meets-master, own-fails, own-recovery}
 use Rattle.recovery_runs.proofs.Looking.{then-checked}
 use Rattle.recovery_runs.proofs.Origins.{began-here, get-last, get-longer, goes-on, longer, take-all, take-longer}
@@ -351,10 +351,10 @@ module _ (from : State) where
       act-looked (act.PollRead p n) does same = off-act (act.PollRead p n) does (λ n same. cc)
       act-looked (act.PollStore p) does same = off-act (act.PollStore p) does (λ n same. cc)
       act-looked (act.Command c) does same =
-          joined (HasLooked later) s.jobs (jobs_of s (command_outcome s c)) (updated (known_of s) (command_outcome s c).book).jobs (command-joins s c) (off-act (act.Command c) does (λ n same. cc)) (begun-act (act.Command c) does same)
+          joined (HasLooked later) s.jobs (jobs_of s (command_outcome s c)) (updated (known_of s) (command_outcome s c).book).jobs (outcome-joins s (command_outcome s c)) (off-act (act.Command c) does (λ n same. cc)) (begun-act (act.Command c) does same)
       act-looked (act.Job id) does same = turned t id does (job_at s.jobs id) refl
       act-looked act.Scan does same =
-          joined (HasLooked later) s.jobs (jobs_of s (scan_outcome s)) (updated (known_of s) (scan_outcome s).book).jobs (scan-joins s) (off-act act.Scan does (λ n same. cc)) (begun-act act.Scan does same)
+          joined (HasLooked later) s.jobs (jobs_of s (scan_outcome s)) (updated (known_of s) (scan_outcome s).book).jobs (outcome-joins s (scan_outcome s)) (off-act act.Scan does (λ n same. cc)) (begun-act act.Scan does same)
       act-looked act.Restart does same = All-nil (HasLooked later)
 
       done-looked : (o : Option Act) → act_in s t ≡ o → jobs_begun s t ≡ jobs_done s o → All (HasLooked later) (after_done rows s o).jobs

@@ -1,55 +1,43 @@
 -- What its proofs cite of others.
-pub use Rattle.std.proofs.lemmas.Bool.{eq-eqb, eqb-true, false≢true, ltb-true}
+pub use Rattle.std.proofs.lemmas.Bool.{eq-eqb, eqb-true, false≢true}
 pub use Rattle.std.proofs.lemmas.List.{append-nil}
 pub use Rattle.std.proofs.lemmas.List.Elements.{All-append, All-cons, All-contains, All-contains_itself, All-head, All-nil, All-tail, All-weaker}
 pub use Rattle.std.proofs.lemmas.List.Elements.{Contains-append_cases, Contains-append_left, Contains-append_right, Contains-push}
 pub use Rattle.std.proofs.lemmas.Option.{none-some, same_Some, slice_get_cases, slice_get_within}
 pub use Rattle.std.specs.Option.{option_map, option_to_list}
-pub use Rattle.run_laws.specs.AskingCommands.Answers.{allowed, lines_of, permitted}
 pub use Rattle.run_laws.specs.AuditLog.Audits.{AuditState, acked_so, acknowledged_at, ended, ended_so, recovery_at}
 pub use Rattle.run_laws.specs.AuditLog.Audits
-pub use Rattle.run_laws.specs.BookCommands.Decisions.{decided_of}
-pub use Rattle.run_laws.specs.BookCommands.declared.decided.Decided.{Decided}
 pub use Rattle.run_laws.specs.BookViews.Sources.{is_replica_of, label_at, replicas_of}
 pub use Rattle.run_laws.proofs.CauseLaws.Turning.{stopped-befell}
-pub use Rattle.run_laws.specs.CommandJobs.Jobs.{job_by, leases_by, refusal_by, regroup_about}
-pub use Rattle.run_laws.specs.CommandOutcomes.Outcomes.{Outcome, about, asked, begun, by_hand, discovered, forgotten, outcome_by, question, recovered}
-pub use Rattle.run_laws.specs.CommandOutcomes.Outcomes.{recovery_begun, refusal, removal_refusal, taken_over}
-unfoldable pub use Rattle.run_laws.specs.CommandOutcomes.Outcomes.{outcome_of}
-pub use Rattle.run_laws.specs.CommandOutcomes.Outcomes
-pub use Rattle.run_laws.specs.CommandOutcomes.HookTelling.{hooks_by, told_of, told_try, with_told}
+pub use Rattle.run_laws.specs.CommandOutcomes.Jobs.{job_by, job_in, means_of, regroup_about}
+pub use Rattle.run_laws.specs.CommandOutcomes.Outcomes.{Outcome, asked, by_hand}
+pub use Rattle.run_laws.specs.CommandOutcomes.HookTelling.{hooks_by, told_of, with_told}
+pub use Rattle.run_laws.specs.CommandOutcomes.declared.command.Update.{Update}
+pub use Rattle.run_laws.specs.CommandOutcomes.declared.command.Update.TheVariants as update
 pub use Rattle.run_laws.specs.CommandOutcomes.declared.configuration.Configuration.{Configuration}
-pub use Rattle.run_laws.specs.CommandRoutes.Routes.{route_of}
-pub use Rattle.run_laws.specs.CommandRoutes.declared.kinds.Regrouping.TheVariants.{ByBridges, ByMatches}
-pub use Rattle.run_laws.specs.CommandRoutes.declared.route.Planner.{Planner}
-pub use Rattle.run_laws.specs.CommandRoutes.declared.route.Planner.TheVariants.{Matches, Regroups}
-pub use Rattle.run_laws.specs.CommandRoutes.declared.route.Route.{Route}
-pub use Rattle.run_laws.specs.CommandRoutes.declared.route.Route.TheVariants.{Asks, Decides, Discovers, Forgets, Recovers, TakesOver}
-pub use Rattle.run_laws.specs.CommandRoutes.declared.route.Route.TheVariants
-pub use Rattle.run_laws.specs.Commands.Turns.{is_within}
+pub use Rattle.run_laws.specs.Commands.declared.route.Planner.{Planner}
 pub use Rattle.run_laws.specs.Commands.declared.cause.Cause.{Cause}
 pub use Rattle.run_laws.specs.Commands.declared.cause.Cause.TheVariants as cause
 pub use Rattle.run_laws.specs.Commands.declared.line.Line.{Line}
 pub use Rattle.run_laws.specs.Commands.declared.refusal.Refusal.{Refusal}
-pub use Rattle.run_laws.specs.Commands.declared.refusal.Refusal.TheVariants.{UnknownInstance}
 pub use Rattle.run_laws.specs.Commands.declared.turn.Command.{Command}
 pub use Rattle.run_laws.specs.Commands.declared.turn.CommandTurn.{CommandTurn}
-pub use Rattle.covered_laws.proofs.Beside.{apart-stays, none-aimed, none-covered, none-kept, none-speak, outside-stays, recovery-covered}
-pub use Rattle.covered_laws.proofs.Beside.{recovery-kept, recovery-speaks}
-pub use Rattle.covered_laws.proofs.Ending.{done-chain, done-named, done-old, done-placed, done-promoted, done-told, last-aim, turn-aim}
-pub use Rattle.covered_laws.proofs.Ending.{turn-changes, turn-chooses, turn-explained, turn-held, turn-rings, turn-sends}
-pub use Rattle.covered_laws.proofs.Ending.{turn-speaks, turn-whole}
-pub use Rattle.covered_laws.proofs.Turning.{all-turned, number-aimed, number-covered, number-kept, number-speaking}
-pub use Rattle.covered_laws.specs.Beside.{IsAimedBeside, IsCoveredBeside, IsKeptBeside, IsSpeakingBeside}
-pub use Rattle.covered_laws.specs.Flights.{CoveredJobs, KeptJobs}
-pub use Rattle.covered_laws.specs.Passages.{IsOutside}
-pub use Rattle.covered_laws.specs.Turns.{RecoveryTurn}
-pub use Rattle.covered_laws.proofs.UpTurns.{done-ups, exchange-ups, none-ups, number-up, recovery-up, turn-shuts}
-pub use Rattle.covered_laws.specs.Upkeep.{IsUpBeside, KeepsUp, UpJobs}
-pub use Rattle.hook_laws.proofs.Checking.{tended-still}
-pub use Rattle.hook_laws.proofs.Staying.{begun-tended, early-turn, of-docket, tended-turn}
-pub use Rattle.hook_laws.proofs.Telling.{done-docket, failed-docket, none-docket, reached-docket}
-pub use Rattle.hook_laws.specs.Tended.{IsEarly, IsOfDead, IsOfDocket, IsTended, all_before, all_behind, plan_of}
+pub use Rattle.run_laws.proofs.UnendedLaws.CoveredBeside.{apart-stays, none-aimed, none-covered, none-kept, none-speak, outside-stays, recovery-covered}
+pub use Rattle.run_laws.proofs.UnendedLaws.CoveredBeside.{recovery-kept, recovery-speaks}
+pub use Rattle.run_laws.proofs.UnendedLaws.Ending.{done-chain, done-named, done-old, done-placed, done-promoted, done-told, last-aim, turn-aim, turn-changes}
+pub use Rattle.run_laws.proofs.UnendedLaws.Ending.{turn-chooses, turn-explained, turn-held, turn-rings, turn-sends, turn-speaks, turn-whole}
+pub use Rattle.run_laws.proofs.UnendedLaws.CoveredTurning.{all-turned, number-aimed, number-covered, number-kept, number-speaking}
+pub use Rattle.run_laws.specs.UnendedLaws.CoveredBeside.{IsAimedBeside, IsCoveredBeside, IsKeptBeside, IsSpeakingBeside}
+pub use Rattle.run_laws.specs.UnendedLaws.CoveredFlights.{CoveredJobs, KeptJobs}
+pub use Rattle.run_laws.specs.UnendedLaws.CoveredPassages.{IsOutside}
+pub use Rattle.run_laws.specs.UnendedLaws.Turns.{RecoveryTurn}
+pub use Rattle.run_laws.proofs.UnendedLaws.UpTurns.{done-ups, exchange-ups, none-ups, number-up, recovery-up, turn-finds, turn-shuts, turn-stands}
+pub use Rattle.run_laws.specs.UnendedLaws.Upkeep.{IsUpBeside, KeepsUp, UpJobs}
+pub use Rattle.run_laws.proofs.UnendedLaws.Checking.{tended-still}
+pub use Rattle.run_laws.proofs.UnendedLaws.Staying.{begun-tended, early-turn, of-docket, tended-turn}
+pub use Rattle.run_laws.proofs.UnendedLaws.Telling.{done-docket, failed-docket, none-docket, reached-docket}
+pub use Rattle.run_laws.specs.UnendedLaws.Tended.{IsAtCheck, IsEarly, IsOfDocket, IsTended, all_before, all_behind, plan_of}
+pub use Rattle.recovery_reasons.specs.Reasons.{IsOfDead}
 pub use Rattle.run_laws.specs.HookTexts.declared.hooks.Hook.{Hook}
 pub use Rattle.run_laws.specs.HookTexts.declared.hooks.Hooks.{Hooks}
 pub use Rattle.run_laws.specs.HookTexts.declared.values.Values.{Values}
@@ -58,8 +46,8 @@ pub use Rattle.run_laws.specs.InstanceKeeper.Leases
 pub use Rattle.run_laws.proofs.JobLaws.Lists.{All-find}
 pub use Rattle.run_laws.specs.JobLaws.Flights.{Flight}
 pub use Rattle.run_laws.specs.JobLaws.Passages as pass
-pub use Rattle.run_laws.proofs.JobsInFlight.Numbers.{found-number}
-pub use Rattle.run_laws.specs.JobsInFlight.Jobs.{job_at, job_exchanges, job_observation, job_reply, jobs_turned, step_reply}
+pub use Rattle.run_laws.proofs.UnendedJobs.Numbers.{found-number}
+pub use Rattle.run_laws.specs.UnendedJobs.Jobs.{job_at, job_exchanges, job_observation, job_reply, jobs_turned, step_reply}
 pub use Rattle.run_laws.specs.KeptRows.Recoveries.{put_recovery}
 pub use Rattle.run_laws.specs.KeptRows.Seeing.{seen_in}
 pub use Rattle.run_laws.specs.KeptRows.declared.observation.Observation.{Observation}
@@ -86,10 +74,12 @@ pub use Rattle.run_laws.specs.OrchBase.declared.recovery.Ending.TheVariants as e
 pub use Rattle.run_laws.specs.OrchBase.declared.server.Moment.{Moment}
 pub use Rattle.run_laws.specs.OrchBase.declared.server.ServerNo.{ServerNo}
 pub use Rattle.run_laws.proofs.OrchCore.Claims.{act-fits}
+pub use Rattle.run_laws.proofs.OrchCore.Comes.{Comes, IsAskedFor, command-comes, given-there}
+pub use Rattle.run_laws.proofs.OrchCore.Comes as comes
 pub use Rattle.run_laws.specs.OrchCore.After.{after_act, after_done, step}
 pub use Rattle.run_laws.specs.OrchCore.Jobs.{turn_of, turned_at}
 pub use Rattle.run_laws.specs.OrchCore.Nodes.{act_in}
-pub use Rattle.run_laws.specs.OrchCore.Polls.{changes_of, command_outcome, numbers_of, reading, scan_outcome}
+pub use Rattle.run_laws.specs.OrchCore.Polls.{changes_of, command_outcome, numbers_of, scan_outcome}
 pub use Rattle.run_laws.specs.OrchCore.Replies.{reply_of}
 pub use Rattle.run_laws.specs.OrchCore.Runs.{engine, run_turns, turns_of}
 pub use Rattle.run_laws.specs.OrchCore.Starts.{configuration_of, start}
@@ -97,24 +87,23 @@ pub use Rattle.run_laws.specs.OrchCore.Settling.{known_of}
 pub use Rattle.run_laws.specs.OrchCore.States.{State}
 pub use Rattle.run_laws.specs.OrchCore.TurnExchanges.{exchange_of, exchanges_at}
 pub use Rattle.run_laws.specs.Permission.Views.{source_of}
-pub use Rattle.run_laws.proofs.RecoveryCore.Beginning.{unrefused}
 pub use Rattle.run_laws.proofs.RecoveryCore.Entries.{actionable-entries}
 pub use Rattle.run_laws.proofs.RecoveryCore.InTurn.{scan-in-turn}
 pub use Rattle.run_laws.specs.RecoveryCore.Begun.{BeginInTurn, IsFresh}
 pub use Rattle.run_laws.specs.RecoveryCore.Endings
 pub use Rattle.run_laws.specs.RecoveryCore.Scans.{IsEntryIn, actionable_in}
-pub use Rattle.run_laws.specs.RecoveryCore.Tries.{Begins, recovery_begins, recovery_try, takeover_begins, takeover_try}
+pub use Rattle.run_laws.specs.RecoveryCore.Tries.{Begins, recovery_begins, takeover_begins, unless_refused}
 pub use Rattle.run_laws.specs.RecoveryCovers.Covers.{IsAsNamed, IsTold, owed, times}
-pub use Rattle.recovery_histories.proofs.Staying.{same-aim, taken-aim, then-aim}
-pub use Rattle.recovery_histories.specs.Kept.{IsBeginning, Keeps, SameAim}
+pub use Rattle.recovery_covers.proofs.Staying.{same-aim, taken-aim, then-aim}
+pub use Rattle.recovery_covers.specs.Kept.{IsBeginning, Keeps, SameAim}
 pub use Rattle.run_laws.specs.RecoveryHooks.Runs.{HookState, begun_hooks, failed_lines, ran_before}
-pub use Rattle.recovery_outcomes.proofs.Telling.{all-told, leader-told}
-pub use Rattle.recovery_outcomes.specs.Told.{IsToldOf}
-pub use Rattle.run_laws.specs.RecoveryPermits.Checks.{code_at}
-pub use Rattle.run_laws.specs.RecoveryPermits.Recoveries.{purpose_by, recovery_refusal}
-pub use Rattle.run_laws.specs.RecoveryPermits.Recoveries
-pub use Rattle.run_laws.specs.RecoveryPermits.Takeovers.{comes_below, followers_of, takeover_refusal}
-pub use Rattle.run_laws.specs.RecoveryPermits.declared.attempt.Attempt as RecoveryPermits
+pub use Rattle.recovery_covers.proofs.Telling.{all-told, leader-told}
+pub use Rattle.recovery_covers.specs.Told.{IsToldOf}
+pub use Rattle.run_laws.specs.RecoveryCore.Checks.{code_at}
+pub use Rattle.run_laws.specs.RecoveryCore.Recoveries.{purpose_by, recovery_refusal}
+pub use Rattle.run_laws.specs.RecoveryCore.Recoveries
+pub use Rattle.run_laws.specs.RecoveryCore.Takeovers.{comes_below, followers_of, takeover_refusal}
+pub use Rattle.run_laws.specs.RecoveryCore.declared.attempt.Attempt as RecoveryPermits
 pub use Rattle.run_laws.proofs.RecoveryPlans.Choices.{same-no}
 pub use Rattle.run_laws.proofs.RecoveryPlans.Walking.{decided-walks, decisions-keep}
 pub use Rattle.run_laws.specs.RecoveryPlans.Beginning.{begun_recovery, first_source, is_takeover}
@@ -135,6 +124,7 @@ pub use Rattle.run_laws.specs.RecoveryPlans.declared.stage.Stage.{Stage}
 pub use Rattle.run_laws.specs.RecoveryPlans.declared.stage.Stage.TheVariants as stage
 pub use Rattle.recovery_reasons.proofs.Answering.{turn-answered}
 pub use Rattle.recovery_reasons.proofs.Causing.{cause-true}
+pub use Rattle.recovery_reasons.proofs.Changing.{turn-its}
 pub use Rattle.recovery_reasons.proofs.Facts.{begun-explained}
 pub use Rattle.recovery_reasons.proofs.Fatal.{fatal-ends}
 pub use Rattle.recovery_reasons.proofs.Nobody.{finds-nobody}
@@ -164,7 +154,8 @@ pub use Rattle.run_laws.proofs.Naming.{recovery-names, regroup-are, scan-names, 
 pub use Rattle.run_laws.proofs.Once.{filtered-all, filtered-few, filtered-none, ordered-once}
 pub use Rattle.run_laws.proofs.Passing.{step-may}
 pub use Rattle.run_laws.proofs.Periods.{short-by, turn-configured}
-pub use Rattle.run_laws.proofs.ReadyOutcomes.{within-book}
+pub use Rattle.run_laws.proofs.ReadyOutcomes.{given-in, within-book}
+pub use Rattle.run_laws.proofs.TurnJobs.{acts-fit, turn-keeps}
 pub use Rattle.run_laws.proofs.RunLaws.{Goes, Goes-start, Goes-step}
 pub use Rattle.run_laws.proofs.Worlds.{world-turn}
 pub use Rattle.run_laws.specs.Begins.{NamesReplicasOnce}
@@ -211,6 +202,21 @@ pub use Rattle.run_laws.specs.UnendedJobs.Hooked.{due_at, told_before, told_with
 pub use Rattle.run_laws.specs.RecoveryHooks.Runs.{Passes, checked, due_before, ran_after}
 pub use Rattle.run_laws.proofs.OperationsProofs.Sights.{seen-at}
 pub use Rattle.std.proofs.lemmas.Bool.{eqb-false, false_from_ne_true, ne_eqb}
-pub use Rattle.hook_laws.specs.Tended.{IsAtCheck}
-pub use Rattle.recovery_runs.specs.Looks.{AnswersHook, FirstFoundAway, LooksBefore, LooksFirst, MeetsMaster, NoneWas, RecoveriesLookBefore, unsuccessful}
+pub use Rattle.recovery_runs.specs.Looks.{AnswersHook, FirstFoundAway, LooksBefore, LooksFirst, MeetsMaster, NoneWas, unsuccessful}
 pub use Rattle.run_laws.specs.CauseLaws.Events.{Befell}
+pub use Rattle.recovery_covers.proofs.Decided.{IsStuck}
+pub use Rattle.recovery_covers.proofs.Turning.{decides-before}
+pub use Rattle.recovery_covers.specs.RecoveryLaws.HeldRecoveries.{HeldRecovery}
+pub use Rattle.recovery_covers.specs.RecoveryLaws.Standing.{IsRuling, IsUnder, attached_no}
+pub use Rattle.recovery_covers.specs.SoFar.{CoversAt, CoversSoFar, IsClosed, OldFollows}
+pub use Rattle.recovery_runs.specs.Booking.{HasSo, IsBelow, LooksAt, RecoveriesBookTheirEnd, TakesWrites}
+pub use Rattle.recovery_runs.specs.TurnsWell.{decided_at}
+pub use Rattle.run_laws.proofs.Readings.{jobs-store}
+pub use Rattle.run_laws.specs.Readings.{as_read, first_op, shown_at, unless_hook}
+pub use Rattle.recovery_covers.specs.Covers.{crowns}
+pub use Rattle.run_laws.specs.Operations.Deeds as deed
+pub use Rattle.run_laws.specs.RecoveryPlans.declared.outcome.Follower.{Follower}
+pub use Rattle.run_laws.specs.ServerModel.Gtids.{shown_of, status_in}
+pub use Rattle.run_laws.specs.ServerModel.Worlds.{server_at}
+pub use Rattle.run_laws.specs.ServerModel.declared.server.Server.{Server}
+pub use Rattle.run_laws.specs.ServerWords.declared.status.StatusFault.TheVariants as seeing

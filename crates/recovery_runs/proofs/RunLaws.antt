@@ -10,6 +10,7 @@ pub use Rattle.run_laws.proofs.Hands
 pub use Rattle.run_laws.proofs.JobEntries
 pub use Rattle.run_laws.proofs.JobTurns
 pub use Rattle.run_laws.proofs.Lines
+pub use Rattle.run_laws.proofs.LinesHold
 pub use Rattle.run_laws.proofs.Lowest
 pub use Rattle.run_laws.proofs.Marks
 pub use Rattle.run_laws.proofs.Moments

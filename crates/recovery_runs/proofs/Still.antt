@@ -12,7 +12,7 @@ use Rattle.recovery_runs.proofs.Prelude.act
 use Rattle.recovery_runs.proofs.Prelude.turn
 use Rattle.recovery_runs.proofs.Prelude.unended
 use Rattle.recovery_runs.proofs.HookTellings.{early-still}
-use Rattle.recovery_runs.proofs.Joining.{command-joins, joined, scan-joins}
+use Rattle.recovery_runs.proofs.Joining.{joined, outcome-joins}
 use Rattle.recovery_runs.proofs.Origins.{began-here, goes-on, longer, take-all, take-longer, Step}
 
 length-push : (xs : List Step) (x : Step) → length (xs ++ x ∷ []) ≡ length xs + 1
@@ -151,10 +151,10 @@ module _ (from : State) where
       act-still (act.PollRead p n) does same moves = off (act.PollRead p n) does (λ n same. cc)
       act-still (act.PollStore p) does same moves = off (act.PollStore p) does (λ n same. cc)
       act-still (act.Command c) does same moves =
-          joined (HasStill later) s.jobs (jobs_of s (command_outcome s c)) (updated (known_of s) (command_outcome s c).book).jobs (command-joins s c) (off (act.Command c) does (λ n same. cc)) (begun (act.Command c) does same)
+          joined (HasStill later) s.jobs (jobs_of s (command_outcome s c)) (updated (known_of s) (command_outcome s c).book).jobs (outcome-joins s (command_outcome s c)) (off (act.Command c) does (λ n same. cc)) (begun (act.Command c) does same)
       act-still (act.Job id) does same moves = turned t id does moves (job_at s.jobs id) refl
       act-still act.Scan does same moves =
-          joined (HasStill later) s.jobs (jobs_of s (scan_outcome s)) (updated (known_of s) (scan_outcome s).book).jobs (scan-joins s) (off act.Scan does (λ n same. cc)) (begun act.Scan does same)
+          joined (HasStill later) s.jobs (jobs_of s (scan_outcome s)) (updated (known_of s) (scan_outcome s).book).jobs (outcome-joins s (scan_outcome s)) (off act.Scan does (λ n same. cc)) (begun act.Scan does same)
       act-still act.Restart does same moves = All-nil (HasStill later)
 
       done-still : (o : Option Act) → act_in s t ≡ o → jobs_begun s t ≡ jobs_done s o → (step rows s t).world ≡ (after_done rows s o).world → All (HasStill later) (after_done rows s o).jobs

@@ -1,14 +1,13 @@
 -- Each turn leaves the hooks of recoveries tended.
 use Rattle.std.proofs.Common.{◌≡◌, ◌∙◌, ℕ, true, List, refl, sym, ap, subst, Option, Some, None}
-use Rattle.std.specs.Prelude.{◌==◌, All, IfSome}
-use Rattle.recovery_runs.proofs.Prelude.{Act, All-find, All-nil, AreHooksOf, BeginsOnce, HasHooks, HookState, IsAct, IsOfDead, IsTended}
-use Rattle.recovery_runs.proofs.Prelude.{IsTendedBeside, IsTurn, Purpose, Ready, Recovery, Row, Scenario, State, TendedState, Turn, Unended, act-fits}
-use Rattle.recovery_runs.proofs.Prelude.{act_in, after_act, after_done, all-turned, begun-tended, begun_hooks, begun_recovery, hooked, is_going}
-use Rattle.recovery_runs.proofs.Prelude.{job_at, jobs_turned, label_at, moment_at, next_count, none-some, number_of, of-docket, option_map, plan_of}
-use Rattle.recovery_runs.proofs.Prelude.{promoted_in, same_Some, start, step as turn_step, taken, tended-turn, told_of, turn_of}
+use Rattle.std.specs.Prelude.{◌==◌, All}
+use Rattle.recovery_runs.proofs.Prelude.{All-find, All-nil, AreHooksOf, BeginsOnce, HasHooks, HookState, IsOfDead, IsTended, IsTendedBeside, IsTurn}
+use Rattle.recovery_runs.proofs.Prelude.{Purpose, Ready, Recovery, Row, Scenario, State, TendedState, Turn, Unended, acts-fit, all-turned}
+use Rattle.recovery_runs.proofs.Prelude.{begun-tended, begun_hooks, begun_recovery, hooked, is_going, job_at, jobs_turned, label_at, moment_at}
+use Rattle.recovery_runs.proofs.Prelude.{next_count, none-some, number_of, of-docket, option_map, plan_of, promoted_in, same_Some, start}
+use Rattle.recovery_runs.proofs.Prelude.{step as turn_step, taken, tended-turn, told_of, turn-keeps, turn_of}
 use Rattle.recovery_runs.proofs.Prelude.act
 use Rattle.recovery_runs.proofs.Prelude.purpose
-use Rattle.recovery_runs.proofs.Prelude.turn
 use Rattle.recovery_runs.proofs.Prelude.unended
 use Rattle.recovery_runs.proofs.Covering.{with-command, with-scan}
 
@@ -55,25 +54,17 @@ module _ (s : State) (id : ℕ) (tended : TendedState s) where
 
 -- ---- every turn
 
-tended-act : (count : ℕ) (rows : List Row) (s : State) (a : Act) → Ready count s → IsAct count a → TendedState s → TendedState (after_act rows s a)
-tended-act count rows s (act.PollRead p n) ready is tended = record { jobs = tended.jobs }
-tended-act count rows s (act.PollStore p) ready is tended = record { jobs = tended.jobs }
-tended-act count rows s (act.Command c) ready is tended = record { jobs = with-command IsTendedBeside count s (once-tended s) ready tended.jobs c is }
-tended-act count rows s (act.Job id) ready is tended = record { jobs = turn-tended s id tended (job_at s.jobs id) refl }
-tended-act count rows s act.Scan ready is tended = record { jobs = with-scan IsTendedBeside count s (once-tended s) ready tended.jobs }
-tended-act count rows s act.Restart ready is tended = record { jobs = All-nil IsTendedBeside }
-
-tended-done : (count : ℕ) (rows : List Row) (s : State) (o : Option Act) → Ready count s → IfSome o (IsAct count) → TendedState s → TendedState (after_done rows s o)
-tended-done count rows s None ready is tended = tended
-tended-done count rows s (Some a) ready is tended = tended-act count rows s a ready is tended
-
 pub tended-step : (count : ℕ) (rows : List Row) (s : State) (t : Turn) → Ready count s → IsTurn count t → TendedState s → TendedState (turn_step rows s t)
-tended-step count rows s (turn.Act a) ready is tended = tended-act count rows s a ready is tended
-tended-step count rows s (turn.As node a) ready is tended =
-    record { jobs = (tended-done count rows s (act_in s (turn.As node a)) ready (act-fits count s (turn.As node a) is) tended).jobs }
-tended-step count rows s (turn.Claim node) ready is tended =
-    record { jobs = (tended-done count rows s (act_in s (turn.Claim node)) ready (act-fits count s (turn.Claim node) is) tended).jobs }
-tended-step count rows s _ ready is tended = record { jobs = tended.jobs }
+tended-step count rows s t ready is tended = record {
+  jobs = turn-keeps rows s t (λ w us. All IsTendedBeside us) (record {
+    stays = tended.jobs;
+    step = λ x same. tended.jobs;
+    command = λ c at. with-command IsTendedBeside count s (once-tended s) ready tended.jobs c (acts-fit count s t (act.Command c) is at);
+    job = λ id at. turn-tended s id tended (job_at s.jobs id) refl;
+    scan = with-scan IsTendedBeside count s (once-tended s) ready tended.jobs;
+    restart = All-nil IsTendedBeside;
+  });
+}
 
 pub tended-start : (s : Scenario) (wait : ℕ) (rows : List Row) → TendedState (start s wait rows)
 tended-start s wait rows = record { jobs = All-nil IsTendedBeside }

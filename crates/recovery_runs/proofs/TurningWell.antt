@@ -1,8 +1,9 @@
 -- Each turn of an unended recovery owes nothing.
 use Rattle.std.proofs.Common.{ℕ, List, refl, take, true}
-use Rattle.recovery_runs.proofs.Prelude.{ComesTo, HeldState, RecoveriesTurnWell, Scenario, Speaks, State, UpState, engine, fails-opening, fails-starting}
-use Rattle.recovery_runs.proofs.Prelude.{flight_of, found-number, moment_at, next_count, run_turns, turn-answered, turn-changes, turn-chooses, turn-hands}
-use Rattle.recovery_runs.proofs.Prelude.{turn-held, turn-rings, turn-sends, turn-shuts, turn-speaks, turn-waits, turn-whole}
+use Rattle.recovery_runs.proofs.Prelude.{ComesTo, HeldState, RecoveriesTurnWell, Scenario, Speaks, State, UpState, engine, fails-opening}
+use Rattle.recovery_runs.proofs.Prelude.{fails-starting, flight_of, found-number, moment_at, next_count, run_turns, turn-answered}
+use Rattle.recovery_runs.proofs.Prelude.{turn-changes, turn-chooses, turn-finds, turn-hands, turn-held, turn-its, turn-rings, turn-sends}
+use Rattle.recovery_runs.proofs.Prelude.{turn-shuts, turn-speaks, turn-stands, turn-waits, turn-whole}
 use Rattle.recovery_runs.proofs.Prelude.unended
 use Rattle.recovery_runs.proofs.Finishing.{facts-true, turn_in}
 use Rattle.recovery_runs.proofs.Origins.{Step}
@@ -13,9 +14,16 @@ turn-well : (s : State) → HeldState s → Cares s → ((id : ℕ) → UpState 
 turn-well s held cares ups id r docket found =
     let speaks : Speaks r = turn-speaks (flight_of s) s.jobs (turn_in s id r docket found) held cares.speaking in record {
       chooses = turn-chooses (flight_of s) s.jobs (turn_in s id r docket found) held cares.covered;
+      servers = turn-its s.world s.book (next_count s.reads) (moment_at s) r speaks.changes;
       changes = turn-changes (flight_of s) s.jobs (turn_in s id r docket found) held cares.covered;
       closes =
           turn-shuts (λ x. true) id (flight_of s) s.jobs (turn_in s id r docket found) held cares.covered cares.speaking (λ d x so is. refl) (ups id)
+          (found-number s.jobs id (unended.Recovery r docket) found);
+      finds =
+          turn-finds (λ x. true) id (flight_of s) s.jobs (turn_in s id r docket found) held cares.covered cares.speaking (λ d x so is. refl) (ups id)
+          (found-number s.jobs id (unended.Recovery r docket) found);
+      alone =
+          turn-stands (λ x. true) id (flight_of s) s.jobs (turn_in s id r docket found) held cares.covered cares.speaking (λ d x so is. refl) (ups id)
           (found-number s.jobs id (unended.Recovery r docket) found);
       told = λ P explains was. facts-true s id r docket found P held cares.speaking explains was;
       attaches = λ P explains was going. turn-sends (flight_of s) s.jobs (turn_in s id r docket found) held P cares.speaking explains was going;

@@ -28,7 +28,7 @@ pub record StopsTruly (w : World) (read : ℕ) (now : Moment) (d : Recovery) (c 
   pub truth : IfSome (spoken_to (deed_of op)) (λ n. IsTrueOf w n c)
 
 -- Why a turn fails in which a recovery was decided so:
--- - nobody is found;
+-- - it chooses its new source, and none of the drained may be promoted;
 -- - its check reaches the failed server;
 -- - the master that is to give up its place is seen with a source;
 -- - its operation stops so, the recovery can't go on without it, and the cause is none that ends no recovery.

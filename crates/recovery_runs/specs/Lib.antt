@@ -8,16 +8,14 @@ pub mod Finished
 pub mod Origins
 pub mod RunFinishes
 pub mod TurnsWell
+pub mod Booking
 pub mod Failing
 pub mod Looks
 pub mod Everywhere
 pub use Rattle.run_laws.specs.AuditLog as AuditLog
 pub use Rattle.run_laws.specs.CommandOutcomes as CommandOutcomes
-pub use Rattle.run_laws.specs.CommandRoutes as CommandRoutes
 pub use Rattle.run_laws.specs.Commands as Commands
-pub mod HookLaws
 pub use Rattle.run_laws.specs.InstanceKeeper as InstanceKeeper
-pub use Rattle.run_laws.specs.JobsInFlight as JobsInFlight
 pub use Rattle.run_laws.specs.KeptRows as KeptRows
 pub use Rattle.run_laws.specs.Knowledge as Knowledge
 pub use Rattle.run_laws.specs.NameOrder as NameOrder
@@ -34,4 +32,5 @@ pub use Rattle.run_laws.specs.Scenarios as Scenarios
 pub use Rattle.run_laws.specs.ServerModel as ServerModel
 pub use Rattle.run_laws.specs.Turns as Turns
 pub use Rattle.run_laws.specs.UnendedJobs as UnendedJobs
+pub use Rattle.run_laws.specs.UnendedLaws as UnendedLaws
 pub use Rattle.run_laws.specs.WorldOpenings as WorldOpenings

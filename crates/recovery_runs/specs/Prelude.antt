@@ -8,20 +8,22 @@ pub use Rattle.run_laws.specs.CommandOutcomes.HookTelling.{told_of}
 pub use Rattle.run_laws.specs.Commands.declared.cause.Cause.{Cause}
 pub use Rattle.run_laws.specs.Commands.declared.cause.Cause.TheVariants as cause
 pub use Rattle.run_laws.specs.Commands.declared.line.Line.{Line}
-pub use Rattle.covered_laws.specs.Beside.{IsAimedBeside}
-pub use Rattle.covered_laws.specs.Flights.{AimedJobs, CoveredJobs, KeptJobs, SpeakingJobs}
-pub use Rattle.covered_laws.specs.Turns.{IsNamedOutcome}
-pub use Rattle.covered_laws.specs.Upkeep.{ClosesFirst, KeepsUp, UpJobs}
-pub use Rattle.hook_laws.specs.Tended.{IsEarly, IsOfDead, IsOfDocket, IsTended, all_before, all_behind}
+pub use Rattle.run_laws.specs.UnendedLaws.CoveredBeside.{IsAimedBeside}
+pub use Rattle.run_laws.specs.UnendedLaws.CoveredFlights.{AimedJobs, CoveredJobs, KeptJobs, SpeakingJobs}
+pub use Rattle.run_laws.specs.UnendedLaws.Turns.{IsNamedOutcome}
+pub use Rattle.run_laws.specs.UnendedLaws.Upkeep.{ClosesFirst, IsNeverInterfered, KeepsUp, OpensAlone, UpJobs}
+pub use Rattle.run_laws.specs.UnendedLaws.Tended.{IsEarly, IsOfDocket, IsTended, all_before, all_behind}
+pub use Rattle.recovery_reasons.specs.Reasons.{IsOfDead}
 pub use Rattle.run_laws.specs.HookTexts.declared.hooks.Hook.{Hook}
 pub use Rattle.run_laws.specs.InstanceKeeper.Book.{BookState}
-pub use Rattle.run_laws.specs.JobsInFlight.Jobs.{job_at}
+pub use Rattle.run_laws.specs.UnendedJobs.Jobs.{job_at}
 pub use Rattle.run_laws.specs.KeptRows.Recoveries.{put_recovery}
 pub use Rattle.run_laws.specs.KeptRows.Seeing.{seen_in}
 pub use Rattle.run_laws.specs.KeptRows.declared.observation.Observation.{Observation}
 pub use Rattle.run_laws.specs.KeptRows.declared.recovery.Recovery as KeptRows
 pub use Rattle.run_laws.specs.KeptRows.declared.row.Row.{Row}
 pub use Rattle.run_laws.specs.Knowledge.Knowing.{updated}
+pub use Rattle.run_laws.specs.Operations.Changes.{server_of}
 pub use Rattle.run_laws.specs.Operations.Deeds.{deed_of}
 pub use Rattle.run_laws.specs.Operations.Turns.{is_going}
 pub use Rattle.run_laws.specs.Operations.declared.op.Op.{Op}
@@ -44,12 +46,12 @@ pub use Rattle.run_laws.specs.OrchCore.Settling.{known_of}
 pub use Rattle.run_laws.specs.OrchCore.States.{State}
 pub use Rattle.run_laws.specs.RecoveryCore.Begun.{IsFresh}
 pub use Rattle.run_laws.specs.RecoveryCovers.Covers.{AreReplicas, HasOnePlace, IsTold, owed, times}
-pub use Rattle.recovery_histories.specs.Kept.{IsBeginning, Keeps, SameAim}
+pub use Rattle.recovery_covers.specs.Kept.{IsBeginning, Keeps, SameAim}
 pub use Rattle.run_laws.specs.RecoveryHooks.Runs.{HookState, Passes, begun_hooks, done_lines, due_before, unsuccessful_lines}
-pub use Rattle.recovery_outcomes.specs.Chains.{IsChain}
-pub use Rattle.recovery_outcomes.specs.Doing.{ChoosesAmongAll, MakesWell}
-pub use Rattle.recovery_outcomes.specs.Told.{IsToldOf}
-pub use Rattle.run_laws.specs.RecoveryPermits.Checks.{code_at}
+pub use Rattle.recovery_covers.specs.Chains.{IsChain}
+pub use Rattle.recovery_covers.specs.Doing.{DecidesOverAll, MakesWell}
+pub use Rattle.recovery_covers.specs.Told.{IsToldOf}
+pub use Rattle.run_laws.specs.RecoveryCore.Checks.{code_at}
 pub use Rattle.run_laws.specs.RecoveryPlans.Beginning.{first_source, is_takeover}
 pub use Rattle.run_laws.specs.RecoveryPlans.Deciding.{decided, ground_of}
 pub use Rattle.run_laws.specs.RecoveryPlans.Moves.{Decisions, Stops}
@@ -63,6 +65,7 @@ pub use Rattle.run_laws.specs.RecoveryPlans.declared.stage.Stage.TheVariants as 
 pub use Rattle.run_laws.specs.RecoveryPlans.declared.task.Way.{Way}
 pub use Rattle.recovery_reasons.specs.Attaching.{AttachesAsSent, IsTriedNow}
 pub use Rattle.recovery_reasons.specs.Causes.{IsTrueOf}
+pub use Rattle.recovery_reasons.specs.Changing.{IsIts}
 pub use Rattle.recovery_reasons.specs.Fatal.{CanEnd}
 pub use Rattle.recovery_reasons.specs.Nobody.{HasNobody}
 pub use Rattle.recovery_reasons.specs.OnWay.{AllFit}
@@ -92,3 +95,10 @@ pub use Rattle.run_laws.specs.UnendedJobs.Unended.{number_of}
 pub use Rattle.run_laws.specs.UnendedJobs.declared.docket.Docket.{Docket}
 pub use Rattle.run_laws.specs.UnendedJobs.declared.unended.Unended.{Unended}
 pub use Rattle.run_laws.specs.UnendedJobs.declared.unended.Unended.TheVariants as unended
+pub use Rattle.recovery_covers.specs.Covers.{crowns}
+pub use Rattle.recovery_covers.specs.RecoveryLaws.Standing.{attached_no}
+pub use Rattle.run_laws.specs.InstanceKeeper.Book.{instance_at}
+pub use Rattle.run_laws.specs.KeptRows.declared.observation.Instance.{Instance}
+pub use Rattle.run_laws.specs.Operations.Deeds as deed
+pub use Rattle.run_laws.specs.OrchBase.declared.server.SourceState.TheVariants.{Without}
+pub use Rattle.run_laws.specs.Readings.{deed_in}

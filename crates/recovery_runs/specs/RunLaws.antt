@@ -16,6 +16,7 @@ pub use Rattle.run_laws.specs.Hands
 pub use Rattle.run_laws.specs.JobEntries
 pub use Rattle.run_laws.specs.Jobs
 pub use Rattle.run_laws.specs.Lines
+pub use Rattle.run_laws.specs.LinesHold
 pub use Rattle.run_laws.specs.Lowest
 pub use Rattle.run_laws.specs.Marks
 pub use Rattle.run_laws.specs.Moments

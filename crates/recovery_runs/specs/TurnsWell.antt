@@ -1,8 +1,9 @@
 -- What each turn of an unended recovery owes.
 use Rattle.std.specs.Prelude.{◌≡◌, ◌∷◌, ℕ, All, Bool, true, List, [], Some}
-use Rattle.recovery_runs.specs.Prelude.{AttachesAsSent, BeginsWhole, Cause, ChoosesAmongAll, ClosesFirst, Decisions, Docket, ExplainsTruly, Fact}
-use Rattle.recovery_runs.specs.Prelude.{IsExplained, IsTriedNow, KeepsHands, Line, MakesWell, Op, OpensAgain, Recovery, ServerNo, StartsHands, State}
-use Rattle.recovery_runs.specs.Prelude.{WaitsItsTurns, Way, decided, ground_of, is_going, job_at, moment_at}
+use Rattle.recovery_runs.specs.Prelude.{AttachesAsSent, BeginsWhole, Cause, ClosesFirst, DecidesOverAll, Decisions, Docket, ExplainsTruly, Fact}
+use Rattle.recovery_runs.specs.Prelude.{IsExplained, IsIts, IsNeverInterfered, IsTriedNow, KeepsHands, Line, MakesWell, Op, OpensAgain, OpensAlone}
+use Rattle.recovery_runs.specs.Prelude.{Recovery, ServerNo, StartsHands, State, WaitsItsTurns, Way, decided, ground_of, is_going, job_at, moment_at}
+use Rattle.recovery_runs.specs.Prelude.{server_of}
 use Rattle.recovery_runs.specs.Prelude.jobstep as step
 use Rattle.recovery_runs.specs.Prelude.op
 use Rattle.recovery_runs.specs.Prelude.stage
@@ -13,8 +14,11 @@ use Rattle.recovery_runs.specs.Finishes.{recovery_after, turn_taken}
 abbrev pub decided_at : State → Recovery → Recovery
 decided_at s r = decided (ground_of s.world s.book (moment_at s)) r
 
--- If it decides whom to choose each replica is drained, or lost. A turn after which it goes on changes what it may. One
--- of a takeover changes nothing else before its master refuses writes.
+-- If it decides whom to choose each replica is drained, or lost. So is each before the first is handed over to a
+-- successor. A turn changes no server but its replicas, and in a takeover the master and the designated one. One after
+-- which it goes on changes what it may. One of a takeover changes nothing else before its master refuses writes. None
+-- finds a replica that goes below its new source at another position than the one at which it was stopped. The master
+-- that a takeover has closed has no source: so it takes writes again without one if the takeover fails.
 -- What it came to in this very turn is a fact of the turn. If each fact that is true in it counts, and what it came to
 -- before counts, all of it counts.
 --
@@ -23,8 +27,11 @@ decided_at s r = decided (ground_of s.world s.book (moment_at s)) r
 -- waits does all its operations. Whom it stops and doesn't start again it starts if it fails, and then a takeover's
 -- master takes writes again.
 pub record TurnsWell (s : State) (r : Recovery) : Type 0 where
-  pub chooses : (d : Recovery) → Decisions (ground_of s.world s.book (moment_at s)) r d → ChoosesAmongAll d
+  pub chooses : (d : Recovery) → Decisions (ground_of s.world s.book (moment_at s)) r d → DecidesOverAll d
+  pub servers : All (λ e. IsIts r.purpose r.failed r.replicas (server_of e)) (turn_taken s r).exchanges
   pub changes : is_going (turn_taken s r).step ≡ true → MakesWell s.world (ground_of s.world s.book (moment_at s)) r (turn_taken s r).exchanges
+  pub finds : (d : Recovery) → Decisions (ground_of s.world s.book (moment_at s)) r d → IsNeverInterfered s.world d
+  pub alone : (d : Recovery) → Decisions (ground_of s.world s.book (moment_at s)) r d → OpensAlone s.world d
   pub closes : is_going (turn_taken s r).step ≡ true → All (ClosesFirst s.world r) (turn_taken s r).exchanges
   pub told : (P : Fact → Bool) → ExplainsTruly s.world s.book (moment_at s) r P → IsExplained P r → IsExplained P (recovery_after s r)
   pub attaches : (P : Fact → Bool) → ExplainsTruly s.world s.book (moment_at s) r P → IsExplained P r → is_going (turn_taken s r).step ≡ true

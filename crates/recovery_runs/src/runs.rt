@@ -4,6 +4,7 @@ ghost use Rattle.recovery_runs.specs.Prelude.{InEveryState};
 ghost use Rattle.recovery_runs.specs.Looks.{RecoveriesLookBefore};
 ghost use Rattle.recovery_runs.specs.Failing.{RecoveriesFailForWhatBefell};
 ghost use Rattle.recovery_runs.specs.TurnsWell.{RecoveriesTurnWell};
+ghost use Rattle.recovery_runs.specs.Booking.{RecoveriesBookTheirEnd};
 ghost use Rattle.recovery_runs.specs.Everywhere.{EarlyTurnsStayStill, HooksAreScenarios, NextAreExplained, RecoveriesAreExplained, RecoveriesBegan, RecoveriesFailWell, RecoveriesFinishWell};
 
 /// An unended recovery began in one of the turns of its run, a command's or a scan's, with its entry in the audit. It
@@ -15,15 +16,25 @@ pub fn recoveries_began()
 /// What a recovery came to was true of the servers and the book in one of its turns. If each fact that was true in a
 /// turn of the recovery counts, all that it came to so far count. So do all to which it comes in its next turn.
 ///
-/// One that answers a failure fails for what happened in that turn. `NoCandidate` comes only if a decision of it found
-/// nobody. `Reachable` comes only if its check reached the failed server, `Moved` if the master was seen with a source.
-/// Else its operation stopped so, or the hook that was due before it ended it. In each turn whoever it chooses is
-/// chosen among all replicas that aren't lost. A turn after which it goes on changes only what it may.
+/// One that answers a failure fails for what happened in that turn. `NoCandidate` comes only if a choice of it found
+/// nobody who may be promoted, and so only from a recovery that chooses its new source. `Reachable` comes only if its
+/// check reached the failed server, `Moved` if the master was seen with a source. Else its operation stopped so, or the
+/// hook that was due before it ended it. In each turn whoever it chooses is chosen among all replicas that aren't lost,
+/// and nobody is handed over before all are drained. A turn after which it goes on changes only what it may.
+///
+/// Each attachment is the one by which its replica was sent, and what it answers becomes of the replica. A wait ends by
+/// the status of its turn, or as the last that the job has. A turn in which the recovery fails starts whom it stopped.
+/// The master that a takeover closes, which takes writes again then, has no source.
+///
+/// At its end, in a master's place, a recovery looks at the promoted server, and a takeover before that at its old
+/// master. Such a turn that reaches the server leaves the book so, unless the book has a later reading. The promoted
+/// one has no source and takes writes. The old master is attached to the designated one.
 pub fn recoveries_have_true_facts()
     ensures before { RecoveriesAreExplained }
     ensures after { NextAreExplained }
     ensures failed { InEveryState RecoveriesFailForWhatBefell }
     ensures turns { InEveryState RecoveriesTurnWell }
+    ensures books { InEveryState RecoveriesBookTheirEnd }
 {}
 
 /// The turn of a run in which a recovery is done leaves nothing owed, whatever rows the row store hands back and in

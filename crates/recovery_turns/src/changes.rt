@@ -41,7 +41,7 @@ fn mark_all(lost: &mut Vec<LostReplica>, no: ServerNo)
 
 impl RecoveryJob {
     // A stage begins, with its operations.
-    pub(crate) fn work(&mut self, stage: Stage, ops: Vec<Op>)
+    pub(crate) fn begin_stage(&mut self, stage: Stage, ops: Vec<Op>)
         ensures { self.new ≡ working self.old stage ops.items }
     {
         self.core.ops = ops;

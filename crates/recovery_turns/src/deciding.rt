@@ -226,7 +226,7 @@ impl Decided {
         ensures busy { OnOk result (IsBusy self.new.work) }
     {
         let lines = self.told(alloc, of)?;
-        ops.push(Op::Finish(lines.copy(alloc)?))?;
+        ops.push(Op::Finish(lines.copy_each(alloc)?))?;
         self.begin(of, Stage::Close(lines), ops);
         Ok(())
     }

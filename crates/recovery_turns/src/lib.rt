@@ -2,6 +2,7 @@
 #![tactic(auto)]
 
 mod beginning;
+mod boxed;
 mod changes;
 mod decided;
 mod deciding;
@@ -13,6 +14,7 @@ mod recovery;
 mod telling;
 mod turn;
 
+pub use boxed::BoxedLook;
 pub use look::RecoveryLook;
 pub use recovery::RecoveryJob;
 use recovery_plans::{

@@ -10,7 +10,6 @@ ghost use Rattle.recovery_turns.specs.Looks.{CanEnd, CanTake, IsSpare, foretold}
 ghost use Rattle.recovery_turns.specs.Steps.{IsTold};
 ghost use Rattle.recovery_turns.specs.Turnings.{ending_at, going_by, looked_by};
 
-use crate::RecoveryJob;
 use crate::commands::{Cause, Lines};
 use crate::decided::Decided;
 use crate::instance_keeper_items::{Book, Observation};
@@ -19,6 +18,7 @@ use crate::orch_base::{Memory, Moment, ServerNo, SourceState};
 use crate::progress::LastLines;
 use crate::server_model::World;
 use crate::server_words_items::{Ask, Spot};
+use crate::{BoxedLook, RecoveryJob};
 use job_plans::{Act, JobView, Look, has_place};
 use recovery_parts::{
     Back, Bar, Change, Doing, Fate, Ground, Info, doing_of, ends, fate_of, info_of, only, room,
@@ -187,20 +187,21 @@ impl Decided {
         world: &World,
         cause: Cause,
         observation: Option<Observation>,
-    ) -> Result<RecoveryLook, Memory>
+    ) -> Result<BoxedLook, Memory>
         ensures turn { IfOk result (λ l. foretold of.now l
             ≡ fails world.now (decided_on of.now self) cause observation) }
         ensures spare { IfOk result IsSpare }
         ensures ends { IfOk result (λ l. CanEnd (decided_on of.now l.decided) l.then) }
     {
         let changes = self.last_changes(alloc, of, world)?;
-        Ok(RecoveryLook {
+        let look = RecoveryLook {
             step: JobStep::Failed(cause, Lines::new(Vec::new(alloc))),
             observation,
             doing: Doing::Each(changes),
             decided: self,
             then: None,
-        })
+        };
+        BoxedLook::new(alloc, look)
     }
 
     // The last lines, if they may be needed once the stage is another.
@@ -211,7 +212,7 @@ impl Decided {
         let Info { next, .. } = info_of(self.stage(of));
         if let Stage::Opened(_) = next {
             let stage = self.told(alloc, of)?;
-            let told = stage.copy(alloc)?;
+            let told = stage.copy_each(alloc)?;
             return Ok(Some(LastLines { stage, told }));
         }
         Ok(None)
@@ -226,7 +227,7 @@ impl Decided {
         ending: bool,
         observation: Option<Observation>,
         act: Act,
-    ) -> Result<RecoveryLook, Memory>
+    ) -> Result<BoxedLook, Memory>
         requires follow { CanFollow (decided_on of.now self).core act }
         requires spare { takes_memory act ≡ true → observation ≡ None }
         ensures turn { IfOk result (λ l. foretold of.now l ≡ going_by world.now
@@ -242,13 +243,14 @@ impl Decided {
         }
         let doing = doing_of(alloc, &self.job(of), &act)?;
         let lines = self.last_lines(alloc, of)?;
-        Ok(RecoveryLook {
+        let look = RecoveryLook {
             step: JobStep::Going,
             observation,
             doing,
             decided: self,
             then: Some(Then::Follow(act, ending, room(alloc)?, lines)),
-        })
+        };
+        BoxedLook::new(alloc, look)
     }
 
     // An operation fails.
@@ -259,7 +261,7 @@ impl Decided {
         world: &World,
         cause: Cause,
         observation: Option<Observation>,
-    ) -> Result<RecoveryLook, Memory>
+    ) -> Result<BoxedLook, Memory>
         ensures turn { IfOk result (λ l. foretold of.now l ≡ met world.now
             (decided_on of.now self) cause observation (fate world.now of.now.purpose
             (decided_on of.now self).stage cause)) }
@@ -276,13 +278,14 @@ impl Decided {
             | Fate::Releases(_)
             | Fate::Returns(_, _) => {}
         }
-        Ok(RecoveryLook {
+        let look = RecoveryLook {
             step: JobStep::Going,
             observation,
             doing: Doing::Each(Vec::new(alloc)),
             decided: self,
             then: Some(Then::Bear(fate, room(alloc)?)),
-        })
+        };
+        BoxedLook::new(alloc, look)
     }
 
     // What it makes of its job's turn, whose operation ends the stage or doesn't.
@@ -293,7 +296,7 @@ impl Decided {
         world: &World,
         ending: bool,
         look: Look,
-    ) -> Result<RecoveryLook, Memory>
+    ) -> Result<BoxedLook, Memory>
         requires follow { CanFollow (decided_on of.now self).core look.act }
         requires spare { IsSpareJob look.step look.observation look.act }
         ensures turn { IfOk result (λ l. foretold of.now l
@@ -309,13 +312,16 @@ impl Decided {
         match step {
             JobStep::Going => self.go_on(alloc, of, world, ending, observation, act),
             JobStep::Failed(cause, _) => self.meet(alloc, of, world, cause, observation),
-            JobStep::Done(lines) => Ok(RecoveryLook {
-                step: JobStep::Done(lines),
-                observation: None,
-                doing: Doing::Each(Vec::new(alloc)),
-                decided: self,
-                then: None,
-            }),
+            JobStep::Done(lines) => {
+                let look = RecoveryLook {
+                    step: JobStep::Done(lines),
+                    observation: None,
+                    doing: Doing::Each(Vec::new(alloc)),
+                    decided: self,
+                    then: None,
+                };
+                BoxedLook::new(alloc, look)
+            }
         }
     }
 
@@ -337,7 +343,7 @@ impl Decided {
         world: &World,
         read: u64,
         moment: Moment,
-    ) -> Result<RecoveryLook, Memory>
+    ) -> Result<BoxedLook, Memory>
         requires { IsNamedRecovery (length world.now.servers) (decided_on of.now self) }
         ensures turn { IfOk result (λ l. foretold of.now l
             ≡ settled world.now read moment (decided_on of.now self)) }
@@ -363,7 +369,7 @@ impl RecoveryJob {
         book: &Book,
         read: u64,
         moment: Moment,
-    ) -> Result<RecoveryLook, Memory>
+    ) -> Result<BoxedLook, Memory>
         requires named { IsNamedRecovery (length world.now.servers) self.now }
         requires known { length book.now.names ≡ length world.now.servers }
         ensures step { IfOk result (λ l. l.step
@@ -382,7 +388,7 @@ impl RecoveryJob {
         };
         decided.decide(alloc, self, &by)?;
         let look = decided.settle(alloc, self, world, read, moment)?;
-        if self.fits(&look.decided) {
+        if self.fits(&look.as_look().decided) {
             Ok(look)
         } else {
             Err(Memory)

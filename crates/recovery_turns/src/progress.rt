@@ -112,7 +112,7 @@ impl RecoveryJob {
     {
         self.see_bridge(alloc, bridge);
         let way = Way::Down(bridge);
-        self.work(Stage::Move(no, way), moving(ops, no, way));
+        self.begin_stage(Stage::Move(no, way), moving(ops, no, way));
     }
 
     // A lost one is started at once.
@@ -122,7 +122,7 @@ impl RecoveryJob {
         ensures { self.new ≡ frees self.old no why }
     {
         self.lose(no, why);
-        self.work(Stage::Release(no), one(ops, Op::Start(no)));
+        self.begin_stage(Stage::Release(no), one(ops, Op::Start(no)));
     }
 
     // A replica of the master goes to the position at which the designated one stopped. One that is elsewhere is lost.
@@ -138,7 +138,7 @@ impl RecoveryJob {
         let spot = spot_seen(seen.source, seen.exec);
         if is_below(seen, self.failed) {
             self.see_bridge(alloc, lead);
-            self.work(Stage::Trail(no, lead), trail(ops, no, lead.no));
+            self.begin_stage(Stage::Trail(no, lead), trail(ops, no, lead.no));
         } else {
             self.lose(no, Why::Lost(Lost::Moved(spot)));
             self.idle();
@@ -185,7 +185,7 @@ impl RecoveryJob {
                 )
             }
         };
-        self.work(Stage::Close(stage), ops);
+        self.begin_stage(Stage::Close(stage), ops);
     }
 
     // The better one, which has the promoted one's place, takes writes.
@@ -195,7 +195,7 @@ impl RecoveryJob {
         ensures { self.new ≡ completed self.old (Stage.Swapped p q) }
     {
         self.swap_places(p, q);
-        self.work(
+        self.begin_stage(
             Stage::Open(q),
             two(ops, Op::Start(p), Op::ReadOnly(q, false)),
         );
@@ -208,7 +208,7 @@ impl RecoveryJob {
         ensures { self.new ≡ completed self.old (Stage.Switched m d) }
     {
         self.follow(m, d);
-        self.work(Stage::Open(d), one(ops, Op::ReadOnly(d, false)));
+        self.begin_stage(Stage::Open(d), one(ops, Op::ReadOnly(d, false)));
     }
 
     // What the end of a stage makes.
@@ -226,7 +226,7 @@ impl RecoveryJob {
             Made::Gathered(d) => self.gather(d),
             Made::Swapped(p, q) => self.pass_swap(p, q, ops),
             Made::Opened(n) => self.pass_open(n, ops, lines),
-            Made::Met(m, d) => self.work(Stage::Shut(m, d), shut(ops, m, d)),
+            Made::Met(m, d) => self.begin_stage(Stage::Shut(m, d), shut(ops, m, d)),
             Made::Looked(n, lead) => self.pass_look(alloc, n, lead, ops),
             Made::Halted(n, lead) => self.halt(alloc, n, lead, ops),
             Made::Switched(m, d) => self.pass_switch(m, d, ops),
@@ -277,16 +277,16 @@ impl RecoveryJob {
     {
         match fate {
             Fate::Fails => {}
-            Fate::Drops => self.work(Stage::Idle, Vec::new(alloc)),
+            Fate::Drops => self.begin_stage(Stage::Idle, Vec::new(alloc)),
             Fate::Loses(no, why) => {
                 self.lose(no, why);
-                self.work(Stage::Idle, Vec::new(alloc));
+                self.begin_stage(Stage::Idle, Vec::new(alloc));
             }
             Fate::Frees(no, why) => self.free(no, why, ops),
-            Fate::Releases(q) => self.work(Stage::Release(q), one(ops, Op::Start(q))),
+            Fate::Releases(q) => self.begin_stage(Stage::Release(q), one(ops, Op::Start(q))),
             Fate::Returns(p, q) => {
                 let back = Op::Cross(Crossing::Back, q, p);
-                self.work(Stage::Return(p, q), two(ops, back, Op::Start(q)));
+                self.begin_stage(Stage::Return(p, q), two(ops, back, Op::Start(q)));
             }
         }
     }

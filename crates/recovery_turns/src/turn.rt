@@ -12,7 +12,7 @@ use crate::look::Then;
 use crate::operations_items::JobStep;
 use crate::orch_base::Memory;
 use crate::server_model::World;
-use crate::{RecoveryJob, RecoveryLook};
+use crate::{BoxedLook, RecoveryJob, RecoveryLook};
 use recovery_parts::perform;
 use recovery_plans::{LostReplica, Task};
 use std::alloc::Global;
@@ -105,7 +105,7 @@ impl RecoveryJob {
             if let Some(sight) = seen {
                 self.see(sight);
             }
-            self.work(stage, ops);
+            self.begin_stage(stage, ops);
         }
     }
 
@@ -134,7 +134,7 @@ impl RecoveryJob {
         &mut self,
         alloc: Global,
         world: &mut World,
-        look: RecoveryLook,
+        look: BoxedLook,
     ) -> Result<(JobStep, Option<Observation>), Memory>
         requires { CanTake world.old self.old look }
         ensures recovery { OnOk result (self.new ≡ (foretold self.old look).recovery) }
@@ -149,7 +149,7 @@ impl RecoveryJob {
             doing,
             decided,
             then,
-        } = look;
+        } = look.into_look();
         perform(alloc, world, doing)?;
         self.adopt(decided);
         match &step {

@@ -1,13 +1,12 @@
 -- The operations of a plan, and the leases, are of the book's servers, if the command's instances are.
 use Rattle.std.proofs.Common.{◌≡◌, ℕ, ◌<◌, Bool, true, false, List, [], ◌∷◌, ◌++◌, length, refl, subst, Option, Some, None, zero, suc}
 use Rattle.std.specs.Prelude.{All, IfSome, IsTrue, if◌then◌else◌, nat_lt, option_and_then, option_map, slice_get, ◌==◌}
-use Rattle.regroup.proofs.Prelude.{All-append, All-head, All-tail, AllWithin, BookState, Command, Path, RegroupCommand, ServerNo, Within, World}
+use Rattle.regroup.proofs.Prelude.{All-append, All-head, All-tail, AllWithin, BookState, Command, Path, PathCommand, ServerNo, Within, World, about}
 use Rattle.regroup.proofs.Prelude.{about-is, above, again-named, are_named, arrived, ascended, autos-named, book_forest, but-within, by_name, climbed}
-use Rattle.regroup.proofs.Prelude.{cons-within, finished-named, flat_map, following, given-within, is_given, is_within, joined-named, leased_by}
-use Rattle.regroup.proofs.Prelude.{list_of, moved_by, moving_list, next_of, node_at, none-within, ops_of, option-within, option_to_list, parent_at}
-use Rattle.regroup.proofs.Prelude.{parent_of, passed_by, passed_in, path_of, path_to, placed-within, plan_of, regroup_command, relocated}
-use Rattle.regroup.proofs.Prelude.{replicas-within, replicas_but, replicas_of, same_Some, server_at, source_of, travelled, under, under-named, up}
-use Rattle.regroup.proofs.Prelude.{up-named, way_above, way_in, way_on, way_up}
+use Rattle.regroup.proofs.Prelude.{cons-within, finished-named, flat_map, following, given-within, is_given, is_within, joined-named, list_of}
+use Rattle.regroup.proofs.Prelude.{moved_by, moving_list, next_of, node_at, none-within, ops_of, option-within, option_to_list, parent_at, parent_of}
+use Rattle.regroup.proofs.Prelude.{passed_by, passed_in, path_of, path_to, placed-within, relocated, replicas-within, replicas_but, replicas_of}
+use Rattle.regroup.proofs.Prelude.{same_Some, server_at, source_of, travelled, under, under-named, up, up-named, way_above, way_in, way_on, way_up}
 use Rattle.regroup.proofs.Prelude.command
 use Rattle.regroup.proofs.Climbing.{passed-to}
 
@@ -110,17 +109,17 @@ module _ (b : BookState) where
   relocated-named gtid movers (Some d) at_movers at_d =
       finished-named (length b.names) (moved_by gtid b movers d) (following movers d) (moved-named gtid movers d at_movers at_d)
 
-  ops-named : (w : World) (c : RegroupCommand) (i : ServerNo) (d : Option ServerNo) → i.0 < length b.names → Within b d
+  ops-named : (w : World) (c : PathCommand) (i : ServerNo) (d : Option ServerNo) → i.0 < length b.names → Within b d
       → are_named (length b.names) (ops_of w b c i d) ≡ true
   ops-named w command.Relocate i d at_i at_d = relocated-named w.gtid (i ∷ []) d (cons-within b i [] at_i (none-within b)) at_d
   ops-named w command.RelocateReplicas i d at_i at_d = relocated-named w.gtid (replicas_but b i d) d (but-within b i d) at_d
   ops-named w command.RegroupReplicas i d at_i at_d = refl
 
-pub plan-named : (w : World) (b : BookState) (command : Command) → IsTrue (is_within (length b.names) command.i) → IsTrue (is_within (length b.names) command.d)
-    → are_named (length b.names) (plan_of w b command) ≡ true
-plan-named w b command at_i at_d =
+pub plan-named : (w : World) (b : BookState) (kind : Option PathCommand) (command : Command) → IsTrue (is_within (length b.names) command.i) → IsTrue (is_within (length b.names) command.d)
+    → are_named (length b.names) (about [] (ops_of w b) kind command) ≡ true
+plan-named w b kind command at_i at_d =
     about-is (λ ops. are_named (length b.names) ops ≡ true) [] (ops_of w b) b command refl (given-within b command.i at_i)
-    (λ c i at. ops-named b w c i command.d at (given-within b command.d at_d)) (regroup_command command.name)
+    (λ c i at. ops-named b w c i command.d at (given-within b command.d at_d)) kind
 
 -- ---- leases
 
@@ -133,13 +132,7 @@ moving-within w b movers d at_movers at_d =
     All-append (λ (m : ServerNo). m.0 < length b.names) movers (option_to_list d ++ passed_by w.gtid b movers d) at_movers
     (All-append (λ (m : ServerNo). m.0 < length b.names) (option_to_list d) (passed_by w.gtid b movers d) (option-within b d at_d) (passed-by-within b w.gtid movers d))
 
-list-within : (w : World) (b : BookState) (c : RegroupCommand) (i : ServerNo) (d : Option ServerNo) → i.0 < length b.names → Within b d → AllWithin b (list_of w b c i d)
+pub list-within : (w : World) (b : BookState) (c : PathCommand) (i : ServerNo) (d : Option ServerNo) → i.0 < length b.names → Within b d → AllWithin b (list_of w b c i d)
 list-within w b command.Relocate i d at_i at_d = moving-within w b (i ∷ []) d (cons-within b i [] at_i (none-within b)) at_d
 list-within w b command.RelocateReplicas i d at_i at_d = moving-within w b (replicas_but b i d) d (but-within b i d) at_d
 list-within w b command.RegroupReplicas i d at_i at_d = cons-within b i (replicas_of b i) at_i (replicas-within b i)
-
-pub leases-within : (w : World) (b : BookState) (command : Command) → IsTrue (is_within (length b.names) command.i) → IsTrue (is_within (length b.names) command.d)
-    → All (λ n. n.0 < length b.names) (leased_by w b command)
-leases-within w b command at_i at_d =
-    about-is (AllWithin b) [] (list_of w b) b command (none-within b) (given-within b command.i at_i)
-    (λ c i at. list-within w b c i command.d at (given-within b command.d at_d)) (regroup_command command.name)

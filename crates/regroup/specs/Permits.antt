@@ -9,7 +9,7 @@ use Rattle.permission.specs.Commands.declared.refusal.Refusal.TheVariants.{NoPat
 use Rattle.permission.specs.Commands.declared.turn.Command.{Command}
 use Rattle.permission.specs.InstanceKeeper.Book.{BookState}
 use Rattle.permission.specs.BookViews.Sources.{replicas_of}
-use Rattle.promotion_candidates.specs.Candidates.{without_candidate}
+use Rattle.permission.specs.Candidates.{without_candidate}
 use Rattle.permission.specs.ServerModel.Worlds.{World}
 use Rattle.permission.specs.Checks.{Case, first_refusal}
 use Rattle.permission.specs.Lists.{first_about, only_if}
@@ -17,8 +17,8 @@ use Rattle.permission.specs.Replicas.{replicas_but}
 use Rattle.permission.specs.Rows.{about, going_by, moving, refused}
 use Rattle.permission.specs.declared.case.Check.{Check}
 use Rattle.permission.specs.declared.case.Check.TheVariants.{SameInstance, Busy, Unreachable, NoSource, AlreadyDetached, OtherCluster, Below, DestNotLogging, SameServerId, VersionLower, GtidOff, Errant, PurgedPlace, PurgedSet}
-use Rattle.regroup.specs.declared.command.RegroupCommand.{RegroupCommand}
-use Rattle.regroup.specs.declared.command.RegroupCommand.TheVariants as command
+use Rattle.permission.specs.Commands.declared.kinds.PathCommand.{PathCommand}
+use Rattle.permission.specs.Commands.declared.kinds.PathCommand.TheVariants as command
 use Rattle.regroup.specs.Commands.{regroup_command}
 use Rattle.regroup.specs.Ways.{crossed_in, passed_in, path_to}
 
@@ -32,7 +32,7 @@ replicas_row false = SameInstance ∷ Busy ∷ Unreachable ∷ OtherCluster ∷ 
 
 -- the row of a command, after the check that its instances are known and before its own one, by whether the servers use
 -- GTIDs: then no path is looked for
-abbrev pub row_of : Bool → RegroupCommand → List Check
+abbrev pub row_of : Bool → PathCommand → List Check
 row_of gtid command.Relocate = relocate_row gtid
 row_of gtid command.RelocateReplicas = replicas_row gtid
 row_of gtid command.RegroupReplicas = Busy ∷ []
@@ -42,13 +42,13 @@ abbrev pub places_row : Bool → List Check
 places_row true = []
 places_row false = PurgedPlace ∷ []
 
-abbrev pub last_row_of : Bool → RegroupCommand → List Check
+abbrev pub last_row_of : Bool → PathCommand → List Check
 last_row_of gtid command.Relocate = places_row gtid
 last_row_of gtid command.RelocateReplicas = places_row gtid
 last_row_of gtid command.RegroupReplicas = []
 
 -- the servers that move, by name
-abbrev pub movers_of : BookState → RegroupCommand → ServerNo → Option ServerNo → List ServerNo
+abbrev pub movers_of : BookState → PathCommand → ServerNo → Option ServerNo → List ServerNo
 movers_of b command.Relocate i d = i ∷ []
 movers_of b command.RelocateReplicas i d = replicas_but b i d
 movers_of b command.RegroupReplicas i d = []
@@ -73,7 +73,7 @@ relocating w b i movers d = going_by (crossed_by w.gtid b movers d) (moving i mo
 
 -- which servers move to the destination that is given, the servers of which the job takes the leases, and those by
 -- whose coordinates the moves go
-abbrev pub case_of : World → BookState → RegroupCommand → ServerNo → Option ServerNo → Case
+abbrev pub case_of : World → BookState → PathCommand → ServerNo → Option ServerNo → Case
 case_of w b command.Relocate i d = relocating w b i (i ∷ []) d
 case_of w b command.RelocateReplicas i d = relocating w b i (replicas_but b i d) d
 case_of w b command.RegroupReplicas i d = moving i [] None (i ∷ replicas_of b i)
@@ -87,25 +87,25 @@ astray true b movers d = None
 astray false b movers d = first_about (without_path b d) movers
 
 -- a command's own check: with GTIDs no path is looked for
-abbrev pub own_refusal : World → BookState → Moment → RegroupCommand → ServerNo → Option ServerNo → Option Refusal
+abbrev pub own_refusal : World → BookState → Moment → PathCommand → ServerNo → Option ServerNo → Option Refusal
 own_refusal w b now command.Relocate i d = astray w.gtid b (i ∷ []) d
 own_refusal w b now command.RelocateReplicas i d = astray w.gtid b (replicas_but b i d) d
 own_refusal w b now command.RegroupReplicas i d = without_candidate w b now i
 
 -- the first check of a command's row that doesn't pass
-abbrev pub row_refusal : World → BookState → RegroupCommand → ServerNo → Option ServerNo → Option Refusal
+abbrev pub row_refusal : World → BookState → PathCommand → ServerNo → Option ServerNo → Option Refusal
 row_refusal w b c i d = first_refusal w b (case_of w b c i d) (row_of w.gtid c)
 
 -- the first check after a command's own that doesn't pass
-abbrev pub last_refusal : World → BookState → RegroupCommand → ServerNo → Option ServerNo → Option Refusal
+abbrev pub last_refusal : World → BookState → PathCommand → ServerNo → Option ServerNo → Option Refusal
 last_refusal w b c i d = first_refusal w b (case_of w b c i d) (last_row_of w.gtid c)
 
 -- what refuses a command after its row
-abbrev pub rest_refusal : World → BookState → Moment → RegroupCommand → ServerNo → Option ServerNo → Option Refusal
+abbrev pub rest_refusal : World → BookState → Moment → PathCommand → ServerNo → Option ServerNo → Option Refusal
 rest_refusal w b now c i d = option_or (own_refusal w b now c i d) (last_refusal w b c i d)
 
 -- what refuses a command about an instance
-abbrev pub refusal_about : World → BookState → Moment → RegroupCommand → ServerNo → Option ServerNo → Option Refusal
+abbrev pub refusal_about : World → BookState → Moment → PathCommand → ServerNo → Option ServerNo → Option Refusal
 refusal_about w b now c i d = option_or (row_refusal w b c i d) (rest_refusal w b now c i d)
 
 -- the refusal with the lowest number that applies to one of these commands at a moment
@@ -113,7 +113,7 @@ abbrev pub refusal_of : World → BookState → Moment → Command → Option Re
 refusal_of w b now given = refused b (refusal_about w b now) (regroup_command given.name) given
 
 -- the servers of which the job takes the leases
-abbrev pub list_of : World → BookState → RegroupCommand → ServerNo → Option ServerNo → List ServerNo
+abbrev pub list_of : World → BookState → PathCommand → ServerNo → Option ServerNo → List ServerNo
 list_of w b c i d = (case_of w b c i d).leased
 
 abbrev pub leased_by : World → BookState → Command → List ServerNo

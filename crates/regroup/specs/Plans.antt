@@ -10,8 +10,8 @@ use Rattle.plan_parts.specs.Parts.{autos, following}
 use Rattle.permission.specs.Replicas.{replicas_but}
 use Rattle.permission.specs.Rows.{about}
 use Rattle.permission.specs.ServerModel.Worlds.{World}
-use Rattle.regroup.specs.declared.command.RegroupCommand.{RegroupCommand}
-use Rattle.regroup.specs.declared.command.RegroupCommand.TheVariants as command
+use Rattle.permission.specs.Commands.declared.kinds.PathCommand.{PathCommand}
+use Rattle.permission.specs.Commands.declared.kinds.PathCommand.TheVariants as command
 use Rattle.regroup.specs.Commands.{regroup_command}
 use Rattle.regroup.specs.Ways.{Path, path_of}
 
@@ -50,9 +50,19 @@ abbrev pub relocated : Bool → BookState → List ServerNo → Option ServerNo 
 relocated gtid b movers None = []
 relocated gtid b movers (Some d) = finished (moved_by gtid b movers d) (following movers d)
 
+-- the operations of regroup-replicas aren't known before its job begins: they go by what its replicas turn out to have
+abbrev pub is_planned : PathCommand → Bool
+is_planned command.Relocate = true
+is_planned command.RelocateReplicas = true
+is_planned command.RegroupReplicas = false
+
+abbrev pub has_plan : Option PathCommand → Bool
+has_plan None = false
+has_plan (Some kind) = is_planned kind
+
 -- a command's operations, by the instance and the destination that is given; none of regroup-replicas, whose operations
 -- go by what its replicas turn out to have
-abbrev pub ops_of : World → BookState → RegroupCommand → ServerNo → Option ServerNo → List Op
+abbrev pub ops_of : World → BookState → PathCommand → ServerNo → Option ServerNo → List Op
 ops_of w b command.Relocate i d = relocated w.gtid b (i ∷ []) d
 ops_of w b command.RelocateReplicas i d = relocated w.gtid b (replicas_but b i d) d
 ops_of w b command.RegroupReplicas i d = []

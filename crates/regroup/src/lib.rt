@@ -7,15 +7,21 @@ mod permits;
 mod plans;
 mod ways;
 
-pub use command::{RegroupCommand, regroup_command};
+pub use command::regroup_command;
+pub use permission::PermitFault;
 use permission::{
     book_views, commands, instance_keeper_items, operations_items, orch_base, server_model,
     topology_tree,
 };
+pub use permits::{permit, permit_kind};
+pub use plans::{is_planned, ops_of, plan};
 /// Out of memory.
-pub use permission::PermitFault;
 pub use permission::orch_base::Memory;
-pub use permits::{leases, permit};
-pub use plans::plan;
 /// Which drained replicas follow the promoted one, and at which coordinate of its binary log.
-pub use replica_groups::{Group, Groups, Lines, split};
+pub use promotion_rules::Group;
+/// Which drained replicas follow the promoted one, and at which coordinate of its binary log.
+pub use promotion_rules::Groups;
+/// Which drained replicas follow the promoted one, and at which coordinate of its binary log.
+pub use promotion_rules::Lines;
+/// Which drained replicas follow the promoted one, and at which coordinate of its binary log.
+pub use promotion_rules::split;

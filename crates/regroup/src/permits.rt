@@ -1,25 +1,25 @@
 //! What refuses the commands.
 
-ghost use Rattle.std.specs.Prelude.{◌≡◌, ◌++◌, ◌<◌, All, IfOk, IsSome, IsTrue, length};
+ghost use Rattle.std.specs.Prelude.{◌≡◌, ◌++◌, IfOk, IsSome};
 ghost use Rattle.std.specs.Option.{option_to_list};
 ghost use Rattle.permission.specs.OrchBase.Gives.{Gives};
 ghost use Rattle.permission.specs.BookViews.Forests.{book_forest};
-ghost use Rattle.permission.specs.Commands.Turns.{is_within};
 ghost use Rattle.permission.specs.Checks.{permit_fault, permitted};
 ghost use Rattle.regroup.specs.Commands.{regroup_command};
-ghost use Rattle.regroup.specs.Permits.{astray, case_of, crossed_by, last_row_of, leased_by, movers_of, own_refusal, passed_by, refusal_about, refusal_of, relocating, row_of};
+ghost use Rattle.regroup.specs.Permits.{astray, case_of, crossed_by, last_row_of, movers_of, own_refusal, passed_by, refusal_about, refusal_of, relocating, row_of};
 
 use crate::book_views::replicas;
-use crate::command::{RegroupCommand, regroup_command};
-use crate::commands::{Command, Refusal};
+use crate::command::regroup_command;
+use crate::commands::{Command, PathCommand, Refusal};
 use crate::instance_keeper_items::Book;
 use crate::orch_base::{Moment, ServerNo};
 use crate::server_model::World;
 use crate::topology_tree::Forest;
 use crate::ways::{path_to, push_crossed, push_passed};
 use crate::{Memory, PermitFault};
-use permission::{Check, Movers, answered, one_or_none, replicas_but, row_refusal, unknown_in};
-use promotion_candidates::without_candidate;
+use permission::{
+    Case, Check, one_or_none, refusal_around, replicas_but, unknown_in, without_candidate,
+};
 use std::alloc::Global;
 
 const RELOCATE: [Check; 10] = [
@@ -76,27 +76,27 @@ const REPLICAS_BY_GTIDS: [Check; 10] = [
 const REGROUP: [Check; 1] = [Check::Busy];
 
 // The checks of a command, by rising number, between the one that its instances are known and its own one.
-fn row_of(gtid: bool, command: RegroupCommand) -> &'static [Check]
+fn row_of(gtid: bool, command: PathCommand) -> &'static [Check]
     ensures { result.now ≡ row_of gtid command }
 {
     match command {
-        RegroupCommand::Relocate => { if gtid { &RELOCATE_BY_GTIDS } else { &RELOCATE } }
-        RegroupCommand::RelocateReplicas => { if gtid { &REPLICAS_BY_GTIDS } else { &REPLICAS } }
-        RegroupCommand::RegroupReplicas => &REGROUP,
+        PathCommand::Relocate => { if gtid { &RELOCATE_BY_GTIDS } else { &RELOCATE } }
+        PathCommand::RelocateReplicas => { if gtid { &REPLICAS_BY_GTIDS } else { &REPLICAS } }
+        PathCommand::RegroupReplicas => &REGROUP,
     }
 }
 
 const PLACES: [Check; 1] = [Check::PurgedPlace];
 
 // The checks after a command's own one.
-fn last_row_of(gtid: bool, command: RegroupCommand) -> &'static [Check]
+fn last_row_of(gtid: bool, command: PathCommand) -> &'static [Check]
     ensures { result.now ≡ last_row_of gtid command }
 {
     match command {
-        RegroupCommand::Relocate | RegroupCommand::RelocateReplicas => {
+        PathCommand::Relocate | PathCommand::RelocateReplicas => {
             if gtid { &[] } else { &PLACES }
         }
-        RegroupCommand::RegroupReplicas => &[],
+        PathCommand::RegroupReplicas => &[],
     }
 }
 
@@ -104,16 +104,16 @@ fn last_row_of(gtid: bool, command: RegroupCommand) -> &'static [Check]
 pub(crate) fn movers_of(
     alloc: Global,
     book: &Book,
-    command: RegroupCommand,
+    command: PathCommand,
     i: ServerNo,
     d: Option<ServerNo>,
 ) -> Result<Vec<ServerNo>, Memory>
     ensures { IfOk result (λ list. list.items ≡ movers_of book.now command i d) }
 {
     match command {
-        RegroupCommand::Relocate => one_or_none(alloc, Some(i)),
-        RegroupCommand::RelocateReplicas => replicas_but(alloc, book, i, d),
-        RegroupCommand::RegroupReplicas => Ok(Vec::new(alloc)),
+        PathCommand::Relocate => one_or_none(alloc, Some(i)),
+        PathCommand::RelocateReplicas => replicas_but(alloc, book, i, d),
+        PathCommand::RegroupReplicas => Ok(Vec::new(alloc)),
     }
 }
 
@@ -169,15 +169,15 @@ fn relocating(
     forest: &Forest,
     world: &World,
     i: ServerNo,
-    movers: Vec<ServerNo>,
+    movers: &[ServerNo],
     d: Option<ServerNo>,
-) -> Result<Movers, Memory>
+) -> Result<Case, Memory>
     requires { forest.now ≡ book_forest book.now }
-    ensures { IfOk result (λ m. m ≡ relocating world.now book.now i movers.items d) }
+    ensures { IfOk result (λ c. c ≡ relocating world.now book.now i movers.now d) }
 {
-    let beside = beside_of(alloc, book, forest, world.gtid(), &movers, d)?;
-    let crossed = crossed_by(alloc, book, forest, world.gtid(), &movers, d)?;
-    Ok(Movers::new(alloc, i, d, movers, beside).going_by(crossed))
+    let beside = beside_of(alloc, book, forest, world.gtid(), movers, d)?;
+    let crossed = crossed_by(alloc, book, forest, world.gtid(), movers, d)?;
+    Ok(Case::beside(alloc, i, movers, d, &beside)?.going_by(crossed))
 }
 
 // Which servers move to which source, beside which, and by whose coordinates.
@@ -186,21 +186,19 @@ fn case_of(
     book: &Book,
     forest: &Forest,
     world: &World,
-    command: RegroupCommand,
+    command: PathCommand,
     i: ServerNo,
     d: Option<ServerNo>,
-) -> Result<Movers, Memory>
+) -> Result<Case, Memory>
     requires { forest.now ≡ book_forest book.now }
-    ensures { IfOk result (λ m. m ≡ case_of world.now book.now command i d) }
+    ensures { IfOk result (λ c. c ≡ case_of world.now book.now command i d) }
 {
     match command {
-        RegroupCommand::Relocate | RegroupCommand::RelocateReplicas => {
+        PathCommand::Relocate | PathCommand::RelocateReplicas => {
             let movers = movers_of(alloc, book, command, i, d)?;
-            relocating(alloc, book, forest, world, i, movers, d)
+            relocating(alloc, book, forest, world, i, &movers, d)
         }
-        RegroupCommand::RegroupReplicas => {
-            Ok(Movers::round(alloc, i, None, replicas(alloc, book, i)?))
-        }
+        PathCommand::RegroupReplicas => Case::round(alloc, i, &replicas(alloc, book, i)?, None),
     }
 }
 
@@ -233,7 +231,7 @@ fn own_refusal(
     book: &Book,
     forest: &Forest,
     world: &World,
-    command: RegroupCommand,
+    command: PathCommand,
     i: ServerNo,
     d: Option<ServerNo>,
     now: Moment,
@@ -242,42 +240,46 @@ fn own_refusal(
     ensures { IfOk result (λ r. r ≡ own_refusal world.now book.now now command i d) }
 {
     match command {
-        RegroupCommand::Relocate => astray(alloc, book, forest, world.gtid(), &[i], d),
-        RegroupCommand::RelocateReplicas => {
+        PathCommand::Relocate => astray(alloc, book, forest, world.gtid(), &[i], d),
+        PathCommand::RelocateReplicas => {
             let movers = replicas_but(alloc, book, i, d)?;
             astray(alloc, book, forest, world.gtid(), &movers, d)
         }
-        RegroupCommand::RegroupReplicas => without_candidate(alloc, book, world, i, now),
+        PathCommand::RegroupReplicas => without_candidate(alloc, book, world, i, now),
     }
 }
 
-fn refusal_about(
+/// Refuses a command of this kind about an instance with the refusal of the lowest number that applies. Else it answers
+/// what the command's job is about: a source that several replicas pass is leased for each of them. It goes by the book
+/// with its rules of promotion at a moment, the servers' settings and whether they use GTIDs, and changes nothing.
+pub fn permit_kind(
     alloc: Global,
     book: &Book,
     forest: &Forest,
     world: &World,
-    command: RegroupCommand,
+    command: PathCommand,
     i: ServerNo,
     d: Option<ServerNo>,
     now: Moment,
-) -> Result<Option<Refusal>, Memory>
+) -> Result<Case, PermitFault>
     requires { forest.now ≡ book_forest book.now }
-    ensures { IfOk result (λ r. r ≡ refusal_about world.now book.now now command i d) }
+    ensures case { IfOk result (λ c. c ≡ case_of world.now book.now command i d) }
+    ensures refusal { Gives (λ _. tt) permit_fault result
+        (permitted (refusal_about world.now book.now now command i d)) }
 {
-    let movers = case_of(alloc, book, forest, world, command, i, d)?;
-    let row = row_of(world.gtid(), command);
-    if let Some(refusal) = row_refusal(alloc, book, forest, world, &movers, row)? {
-        return Ok(Some(refusal));
+    let case = case_of(alloc, book, forest, world, command, i, d)?;
+    let own = own_refusal(alloc, book, forest, world, command, i, d, now)?;
+    let (row, last) = (
+        row_of(world.gtid(), command),
+        last_row_of(world.gtid(), command),
+    );
+    match refusal_around(alloc, book, forest, world, &case, row, own, last)? {
+        Some(refusal) => Err(PermitFault::Refused(refusal)),
+        None => Ok(case),
     }
-    if let Some(refusal) = own_refusal(alloc, book, forest, world, command, i, d, now)? {
-        return Ok(Some(refusal));
-    }
-    let last_row = last_row_of(world.gtid(), command);
-    row_refusal(alloc, book, forest, world, &movers, last_row)
 }
 
-/// Refuses one of these commands with the refusal of the lowest number that applies. It goes by the book with its rules
-/// of promotion at a moment, the servers' settings and whether they use GTIDs, and changes nothing.
+/// Refuses one of these commands with the refusal of the lowest number that applies.
 pub fn permit(
     alloc: Global,
     book: &Book,
@@ -288,50 +290,14 @@ pub fn permit(
 ) -> Result<(), PermitFault>
     requires forest { forest.now ≡ book_forest book.now }
     requires here { IsSome (regroup_command command.name) }
-    ensures { Gives (λ _. tt) permit_fault result (permitted (refusal_of world.now book.now now command)) }
+    ensures { Gives (λ _. tt) permit_fault result
+        (permitted (refusal_of world.now book.now now command)) }
 {
     if let Some(unknown) = unknown_in(book, command) {
         return Err(PermitFault::Refused(unknown));
     }
-    let (Some(kind), Some(i)) = (regroup_command(command.name), command.i) else {
-        return Ok(());
-    };
-    answered(refusal_about(alloc, book, forest, world, kind, i, command.d, now)?)
-}
-
-fn leased_by(
-    alloc: Global,
-    book: &Book,
-    forest: &Forest,
-    world: &World,
-    command: Command,
-) -> Result<Vec<ServerNo>, Memory>
-    requires { forest.now ≡ book_forest book.now }
-    ensures { IfOk result (λ list. list.items ≡ leased_by world.now book.now command) }
-{
-    match (regroup_command(command.name), command.i) {
-        (Some(kind), Some(i)) => {
-            case_of(alloc, book, forest, world, kind, i, command.d)?.leases(alloc)
-        }
-        (Some(_), None) | (None, _) => Ok(Vec::new(alloc)),
+    if let (Some(kind), Some(i)) = (regroup_command(command.name), command.i) {
+        permit_kind(alloc, book, forest, world, kind, i, command.d, now)?;
     }
-}
-
-/// The servers of which the job of one of these commands takes the leases: servers of the book, if the command's
-/// instances are. A source that several replicas pass is each of them. `Err` means out of memory.
-pub fn leases(
-    alloc: Global,
-    book: &Book,
-    forest: &Forest,
-    world: &World,
-    command: Command,
-) -> Result<Vec<ServerNo>, Memory>
-    requires forest { forest.now ≡ book_forest book.now }
-    requires here { IsSome (regroup_command command.name) }
-    ensures list { IfOk result (λ list. list.items ≡ leased_by world.now book.now command) }
-    ensures within { IsTrue (is_within (length book.now.names) command.i) →
-        IsTrue (is_within (length book.now.names) command.d) →
-        IfOk result (λ list. All (λ n. n.0 < length book.now.names) list.items) }
-{
-    leased_by(alloc, book, forest, world, command)
+    Ok(())
 }

@@ -4,12 +4,12 @@ ghost use Rattle.std.specs.Prelude.{◌≡◌, IfOk, IsTrue, drop, length, true}
 ghost use Rattle.permission.specs.BookViews.Forests.{book_forest};
 ghost use Rattle.permission.specs.Commands.Turns.{is_within};
 ghost use Rattle.permission.specs.Operations.Named.{are_named};
-ghost use Rattle.regroup.specs.Commands.{has_plan, regroup_command};
-ghost use Rattle.regroup.specs.Plans.{ascended, climbed, moved_by, next_of, ops_of, plan_of, relocated, travelled};
+ghost use Rattle.regroup.specs.Commands.{regroup_command};
+ghost use Rattle.regroup.specs.Plans.{ascended, climbed, has_plan, is_planned, moved_by, next_of, ops_of, plan_of, relocated, travelled};
 
 use crate::Memory;
-use crate::command::{RegroupCommand, regroup_command};
-use crate::commands::Command;
+use crate::command::regroup_command;
+use crate::commands::{Command, PathCommand};
 use crate::instance_keeper_items::Book;
 use crate::operations_items::Op;
 use crate::orch_base::ServerNo;
@@ -128,12 +128,23 @@ fn relocated(
     }
 }
 
-fn ops_of(
+/// Whether the operations of a command of this kind are known before its job begins. Those of a regroup aren't.
+pub fn is_planned(command: PathCommand) -> bool
+    ensures { result ≡ is_planned command }
+{
+    match command {
+        PathCommand::Relocate | PathCommand::RelocateReplicas => true,
+        PathCommand::RegroupReplicas => false,
+    }
+}
+
+/// The operations of a command of this kind about an instance. A regroup has none. `Err` means out of memory.
+pub fn ops_of(
     alloc: Global,
     book: &Book,
     forest: &Forest,
     world: &World,
-    command: RegroupCommand,
+    command: PathCommand,
     i: ServerNo,
     d: Option<ServerNo>,
 ) -> Result<Vec<Op>, Memory>
@@ -141,11 +152,11 @@ fn ops_of(
     ensures { IfOk result (λ ops. ops.items ≡ ops_of world.now book.now command i d) }
 {
     match command {
-        RegroupCommand::Relocate | RegroupCommand::RelocateReplicas => {
+        PathCommand::Relocate | PathCommand::RelocateReplicas => {
             let movers = movers_of(alloc, book, command, i, d)?;
             relocated(alloc, book, forest, world.gtid(), &movers, d)
         }
-        RegroupCommand::RegroupReplicas => Ok(Vec::new(alloc)),
+        PathCommand::RegroupReplicas => Ok(Vec::new(alloc)),
     }
 }
 

@@ -1,12 +1,12 @@
 -- Fetches: the read coordinate of a replica goes on by one step of its source's log.
 use Rattle.std.proofs.Common.{◌≡◌, ℕ, ◌+◌, Bool, true, false, cond, refl, sym, ◌∙◌, ap, subst, inl, Option, Some, None, ◌&&◌}
 use Rattle.std.specs.Prelude.{nat_lt}
-use Rattle.replication_laws.proofs.Prelude.{Attached, Coord, Detached, FetchStep, Laid, Laid-Grown, LaysOut, Next, Server, SourceState, StepFrom}
-use Rattle.replication_laws.proofs.Prelude.{Without, World, after_fetch, attached_at, fetch_from, fetch_kept, fetch_step, is_attached, is_before}
-use Rattle.replication_laws.proofs.Prelude.{next_after, next_after-step, place, same_Some, server_at, source_no, with_server}
+use Rattle.replication_laws.proofs.Prelude.{Attached, Coord, Detached, Laid, Laid-Grown, LaysOut, Next, Server, SourceState, StepFrom, Without, World}
+use Rattle.replication_laws.proofs.Prelude.{after_fetch, attached_at, fetch_from, fetch_kept, fetch_step, is_attached, is_before, next_after}
+use Rattle.replication_laws.proofs.Prelude.{next_after-step, place, same_Some, server_at, source_no, with_server}
 use Rattle.replication_laws.proofs.Prelude.next
 use Rattle.replication_laws.proofs.Prelude.receiving
-use Rattle.replication_laws.proofs.Keeping.{Same, Still, Standing, Linked, Linked-same, Linked-still, Idle, Idle-refl, Idle-same}
+use Rattle.replication_laws.proofs.Keeping.{Same, Still, Standing, Linked, Linked-same, Linked-still}
 use Rattle.replication_laws.proofs.Logs.{LaysOut-Grown}
 
 -- a source's log lays out its history, and so it grew from nothing
@@ -28,20 +28,13 @@ same_source w r s m b t is at_m from at_b =
     let e : m ≡ b = same_Some m b (sym is ∙ from) in
     same_Some s t (sym at_m ∙ ap (server_at w) e ∙ at_b)
 
-Same-read : (r : Server) (to : Coord) → Same r (record r { read = to })
+pub Same-read : (r : Server) (to : Coord) → Same r (record r { read = to })
 Same-read r to = record { history = refl; log = refl; first = refl; settings = refl }
 
-Still-refused : (r : Server) → Still r (record r { receiver = false })
+pub Still-refused : (r : Server) → Still r (record r { receiver = false })
 Still-refused r = record { same = record { history = refl; log = refl; first = refl; settings = refl }; source = refl; exec = refl; read = inl refl }
 
--- a fetch writes nothing
-pub Idle-fetch : (w : World) (n : ℕ) (o : Option Server) → server_at w n ≡ o → (a : FetchStep) → Idle w (after_fetch w n o a)
-Idle-fetch w n (Some r) at (receiving.Refuse first) = Idle-same w n r (record r { receiver = false }) at (Still-refused r).same
-Idle-fetch w n (Some r) at (receiving.Take (next.Entry index to)) = Idle-same w n r (record r { read = to }) at (Same-read r to)
-Idle-fetch w n (Some r) at (receiving.Take (next.Rotate to)) = Idle-same w n r (record r { read = to }) at (Same-read r to)
-Idle-fetch w n _ at _ = Idle-refl w
-
--- and keeps each replica's position
+-- a fetch keeps each replica's position
 
 module _ (R : Server → Server → Type 0) (standing : Standing R) (w : World) (linked : Linked R w) (n m : ℕ) (r s : Server) (at : server_at w n ≡ Some r)
     (is : source_no r.source ≡ Some m) (at_m : server_at w m ≡ Some s) where

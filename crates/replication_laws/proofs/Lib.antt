@@ -1,5 +1,6 @@
 mod Prelude
 pub mod Worlds
+pub use Rattle.server_model.proofs.Changes as Changes
 pub mod Histories
 pub mod Chains
 pub mod Keeping

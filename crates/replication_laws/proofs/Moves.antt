@@ -1,99 +1,44 @@
 -- What orchestrator asks of a server, what happens to it, a new file of its log, and an attachment: what each keeps.
 use Rattle.std.proofs.Common.{◌≡◌, ℕ, Bool, true, false, cond, not, List, [], ◌∷◌, take, length, refl, sym, ◌∙◌, ap, subst, inl, inr, ◌⊎◌, Option, Some, None, ◌||◌, ◌&&◌, count_by, ◌≤◌, arith}
 use Rattle.std.specs.Prelude.{Result, Ok, Err, nat_lt, nat_le, ◌==◌}
-use Rattle.replication_laws.proofs.Prelude.{Ask, Attached, AttachedWell, AttachFault, Coord, Detached, Event, Flushed, GoesOn, Interval, IsAutoTarget}
-use Rattle.replication_laws.proofs.Prelude.{IsJunction, IsSource, IsTarget, KeepFiles, KeepsFrom, Laid-Grown, LaysOut, RotateAnswer, Server, ServerNo}
-use Rattle.replication_laws.proofs.Prelude.{SourceState, Spot, StandsIn, Threads, Unreachable, Without, World, after_attach, after_attach_auto}
-use Rattle.replication_laws.proofs.Prelude.{after_change, after_desk, after_rotate, answer_by_sets, asked, attach_answer, attach_auto_answer}
-use Rattle.replication_laws.proofs.Prelude.{attached_source, attached_to, auto_coord, auto_purged, befallen, chain_meets, coord_after, detached}
-use Rattle.replication_laws.proofs.Prelude.{detached_source, ends_by, errant_set, file_start, first_kept, healed, held-within, held_len, held_of}
-use Rattle.replication_laws.proofs.Prelude.{is_at_or_before, is_attached, is_detached, live_spot, nat_tests, place, place-coord_after, place-from}
-use Rattle.replication_laws.proofs.Prelude.{place-monotone, purged-place, purged_answer, purged_len, reattached, rotated, same_Some, same_spot}
-use Rattle.replication_laws.proofs.Prelude.{server_at, set_of, source_no, source_of, sources, spot_below, stable_flush, started, stopped, take-length}
-use Rattle.replication_laws.proofs.Prelude.{uuids, with_server, without_source}
-use Rattle.replication_laws.proofs.Prelude.asking
+use Rattle.replication_laws.proofs.Prelude.{Ask, AttachedWell, Coord, Event, Flushed, GoesOn, Interval, IsAutoTarget, IsJunction, IsSource, IsTarget}
+use Rattle.replication_laws.proofs.Prelude.{KeepFiles, KeepsFrom, Laid-Grown, LaysOut, RotateAnswer, Server, ServerNo, Spot, StandsIn, Unreachable}
+use Rattle.replication_laws.proofs.Prelude.{World, after_attach, after_attach_auto, after_change, after_desk, after_rotate, answer_by_sets, asked}
+use Rattle.replication_laws.proofs.Prelude.{attach_answer, attach_auto_answer, attached_to, auto_coord, auto_purged, befallen, chain_meets}
+use Rattle.replication_laws.proofs.Prelude.{coord_after, ends_by, errant_set, file_start, first_kept, held-within, held_len, held_of, is_at_or_before}
+use Rattle.replication_laws.proofs.Prelude.{live_spot, nat_tests, place, place-coord_after, place-from, place-monotone, purged-place, purged_answer}
+use Rattle.replication_laws.proofs.Prelude.{purged_len, rotated, same_Some, same_spot, server_at, set_of, source_no, source_of, sources, spot_below}
+use Rattle.replication_laws.proofs.Prelude.{stable_flush, take-length, uuids, with_server, without_source}
 use Rattle.replication_laws.proofs.Prelude.attaching
-use Rattle.replication_laws.proofs.Prelude.event
-use Rattle.replication_laws.proofs.Prelude.link
 use Rattle.replication_laws.proofs.Prelude.rotating
-use Rattle.replication_laws.proofs.Prelude.threads
+use Rattle.server_model.proofs.Changes as changes
 use Rattle.replication_laws.proofs.Chains.{Grounded-cut, Grounded-apart, Grounded-joined}
-use Rattle.replication_laws.proofs.Keeping.{at_or_before-refl, Same, Still, Still-refl, Standing, Linked, Linked-still, Linked-keeps, Linked-moves, Idle, Idle-refl, Idle-same, Idle-with}
+use Rattle.replication_laws.proofs.Keeping.{at_or_before-refl, Same, Still, Still-refl, Standing, Linked, Linked-still, Linked-keeps, Linked-moves}
 use Rattle.replication_laws.proofs.Logs.{LaysOut-Grown, LaysOut-length}
 use Rattle.replication_laws.proofs.Worlds.{at_with_same, at_with_other}
+use Rattle.server_model.proofs.Changes.{Asked, Befallen, does-ask, does-befall}
 
 -- changes that leave the source
 
-Still-stopped : (which : Threads) (s : Server) → Still s (stopped which s)
-Still-stopped threads.Both s = record { same = record { history = refl; log = refl; first = refl; settings = refl }; source = refl; exec = refl; read = inl refl }
-Still-stopped threads.Receiver s = record { same = record { history = refl; log = refl; first = refl; settings = refl }; source = refl; exec = refl; read = inl refl }
-Still-stopped threads.Applier s = record { same = record { history = refl; log = refl; first = refl; settings = refl }; source = refl; exec = refl; read = inl refl }
-
-Still-started : (until : Option Coord) (s : Server) → Still s (started until s)
-Still-started until s = go (is_attached s.source)
-  where
-    go : (b : Bool) → Still s (cond b (record s { receiver = true; applier = true; until = until }) s)
-    go true = record { same = record { history = refl; log = refl; first = refl; settings = refl }; source = refl; exec = refl; read = inl refl }
-    go false = Still-refl s
-
-detached_source-no : (source : SourceState) → source_no (detached_source source) ≡ source_no source
-detached_source-no Without = refl
-detached_source-no (Attached m) = refl
-detached_source-no (Detached m) = refl
-
-Still-detached : (s : Server) → Still s (detached s)
-Still-detached s = go (is_attached s.source)
-  where
-    go : (b : Bool) → Still s (cond b (record s { source = detached_source s.source; receiver = false; applier = false; read = s.exec; until = None }) s)
-    go true = record { same = record { history = refl; log = refl; first = refl; settings = refl }; source = detached_source-no s.source; exec = refl; read = inr refl }
-    go false = Still-refl s
-
-attached_source-no : (source : SourceState) → source_no (attached_source source) ≡ source_no source
-attached_source-no Without = refl
-attached_source-no (Attached m) = refl
-attached_source-no (Detached m) = refl
-
-Still-reattached : (s : Server) → Still s (reattached s)
-Still-reattached s = go (is_detached s.source)
-  where
-    go : (b : Bool) → Still s (cond b (record s { source = attached_source s.source; receiver = false; applier = false }) s)
-    go true = record { same = record { history = refl; log = refl; first = refl; settings = refl }; source = attached_source-no s.source; exec = refl; read = inl refl }
-    go false = Still-refl s
-
-Still-healed : (s : Server) → Still s (healed s)
-Still-healed s = go s.up
-  where
-    go : (b : Bool) → Still s (cond b s (record s { up = true; until = None; receiver = is_attached s.source || s.receiver; applier = is_attached s.source || s.applier }))
-    go true = Still-refl s
-    go false = record { same = record { history = refl; log = refl; first = refl; settings = refl }; source = refl; exec = refl; read = inl refl }
-
-Still-befallen : (e : Event) (s : Server) → Still s (befallen e s)
-Still-befallen event.Heal s = Still-healed s
-Still-befallen (event.Cut link.Desk) s = record { same = record { history = refl; log = refl; first = refl; settings = refl }; source = refl; exec = refl; read = inl refl }
-Still-befallen (event.Join link.Desk) s = record { same = record { history = refl; log = refl; first = refl; settings = refl }; source = refl; exec = refl; read = inl refl }
-Still-befallen _ s = record { same = record { history = refl; log = refl; first = refl; settings = refl }; source = refl; exec = refl; read = inl refl }
-
 -- of what orchestrator asks only RESET REPLICA ALL changes the source
-Still-asked : (a : Ask) (s : Server) → Still s (asked a s) ⊎ (asked a s ≡ without_source s)
-Still-asked (asking.Stop which) s = inl (Still-stopped which s)
-Still-asked asking.Start s = inl (Still-started None s)
-Still-asked (asking.StartUntil to) s = inl (Still-started (Some to) s)
-Still-asked asking.Detach s = inl (Still-detached s)
-Still-asked asking.Reattach s = inl (Still-reattached s)
-Still-asked asking.Reset s = inr refl
-Still-asked (asking.SetReadOnly on) s = inl (record { same = record { history = refl; log = refl; first = refl; settings = refl }; source = refl; exec = refl; read = inl refl })
+Still-asked : (a : Ask) (s t : Server) → Asked s a t → Still s t ⊎ (t ≡ without_source s)
+Still-asked a s t (changes.Detaches m is) = inl (record { same = record { history = refl; log = refl; first = refl; settings = refl }; source = sym (ap source_no is); exec = refl; read = inr refl })
+Still-asked a s t (changes.Reattaches m is) = inl (record { same = record { history = refl; log = refl; first = refl; settings = refl }; source = sym (ap source_no is); exec = refl; read = inl refl })
+Still-asked a s t changes.Resets = inr refl
+Still-asked a s t _ = inl (record { same = record { history = refl; log = refl; first = refl; settings = refl }; source = refl; exec = refl; read = inl refl })
+
+Still-befallen : (e : Event) (s t : Server) → Befallen s e t → Still s t
+Still-befallen e s t changes.Unharmed = Still-refl s
+Still-befallen e s t _ = record { same = record { history = refl; log = refl; first = refl; settings = refl }; source = refl; exec = refl; read = inl refl }
 
 -- none of these writes, and none touches the log
 
-pub Same-asked : (a : Ask) (s : Server) → Same s (asked a s)
-Same-asked a s =
-    elim (Still-asked a s) [
-      | inl still ↦ still.same
-      | inr reset ↦ subst (Same s) (sym reset) (record { history = refl; log = refl; first = refl; settings = refl })
-    ]
+pub Same-asked : (a : Ask) (s t : Server) → Asked s a t → Same s t
+Same-asked a s t changes.Resets = record { history = refl; log = refl; first = refl; settings = refl }
+Same-asked a s t _ = record { history = refl; log = refl; first = refl; settings = refl }
 
-pub Same-befallen : (e : Event) (s : Server) → Same s (befallen e s)
-Same-befallen e s = (Still-befallen e s).same
+pub Same-befallen : (e : Event) (s t : Server) → Befallen s e t → Same s t
+Same-befallen e s t does = (Still-befallen e s t does).same
 
 pub Same-attached : (to : ServerNo) (at : Coord) (s : Server) → Same s (attached_to to at s)
 Same-attached to at s = record { history = refl; log = refl; first = refl; settings = refl }
@@ -102,37 +47,11 @@ Same-attached to at s = record { history = refl; log = refl; first = refl; setti
 abbrev pub joined : Bool → ServerNo → Coord → Server → Server
 joined auto to at s = record (attached_to to at s) { auto = auto }
 
-Same-joined : (auto : Bool) (to : ServerNo) (at : Coord) (s : Server) → Same s (joined auto to at s)
+pub Same-joined : (auto : Bool) (to : ServerNo) (at : Coord) (s : Server) → Same s (joined auto to at s)
 Same-joined auto to at s = record { history = refl; log = refl; first = refl; settings = refl }
 
-GoesOn-rotated : (s : Server) → GoesOn s (rotated s)
+pub GoesOn-rotated : (s : Server) → GoesOn s (rotated s)
 GoesOn-rotated s = record { settings = refl; prefix = take-length s.history.txns; places = λ c k h. stable_flush s.log.log c k h; first = omega arith }
-
-Idle-change : (w : World) (n : ℕ) (f : Server → Server) → ((s : Server) → Same s (f s)) → (o : Option Server) → server_at w n ≡ o → Idle w (after_change w n f o)
-Idle-change w n f same None at = Idle-refl w
-Idle-change w n f same (Some s) at = Idle-same w n s (f s) at (same s)
-
-pub Idle-ask : (w : World) (n : ℕ) (a : Ask) (answer : Result (Unit {0}) Unreachable) → Idle w (after_desk w n a answer)
-Idle-ask w n a (Ok t) = Idle-change w n (asked a) (Same-asked a) (server_at w n) refl
-Idle-ask w n a (Err e) = Idle-refl w
-
-pub Idle-befall : (w : World) (n : ℕ) (e : Event) → Idle w (after_change w n (befallen e) (server_at w n))
-Idle-befall w n e = Idle-change w n (befallen e) (Same-befallen e) (server_at w n) refl
-
-pub Idle-rotate : (w : World) (n : ℕ) (o : Option Server) → server_at w n ≡ o → (answer : RotateAnswer) → Idle w (after_rotate w n o answer)
-Idle-rotate w n (Some s) at (rotating.Done c) = Idle-with w n s (rotated s) at refl (GoesOn-rotated s)
-Idle-rotate w n _ at _ = Idle-refl w
-
-pub Idle-attach : (w : World) (n : ℕ) (to : ServerNo) (c : Coord) (o : Option Server) → server_at w n ≡ o → (answer : Result (Unit {0}) AttachFault) → Idle w (after_attach w n to c o answer)
-Idle-attach w n to c None at answer = Idle-refl w
-Idle-attach w n to c (Some s) at (Ok t) = Idle-same w n s (attached_to to c s) at (Same-attached to c s)
-Idle-attach w n to c (Some s) at (Err e) = Idle-refl w
-
-pub Idle-attach_auto : (w : World) (n : ℕ) (to : ServerNo) (o : Option Server) → server_at w n ≡ o → (answer : Result (Unit {0}) AttachFault) → Idle w (after_attach_auto w n to o answer)
-Idle-attach_auto w n to None at answer = Idle-refl w
-Idle-attach_auto w n to (Some s) at (Ok t) =
-    Idle-same w n s (joined true to (auto_coord (uuids w) s (server_at w to.0)) s) at (Same-joined true to (auto_coord (uuids w) s (server_at w to.0)) s)
-Idle-attach_auto w n to (Some s) at (Err e) = Idle-refl w
 
 -- and each keeps the replicas' positions
 
@@ -153,7 +72,7 @@ module _ (R : Server → Server → Type 0) (standing : Standing R) (w : World) 
 
   Linked-asked : (a : Ask) (s : Server) → server_at w n ≡ Some s → Linked R (with_server w n (asked a s))
   Linked-asked a s here =
-      elim (Still-asked a s) [
+      elim (Still-asked a s (asked a s) (does-ask s a)) [
         | inl still ↦ Linked-still R standing w n s (asked a s) linked here still
         | inr reset ↦ subst (λ (x : Server). Linked R (with_server w n x)) (sym reset) (Linked-reset s here)
       ]
@@ -168,7 +87,7 @@ module _ (R : Server → Server → Type 0) (standing : Standing R) (w : World) 
   Linked-ask a (Err e) = linked
 
   pub Linked-befall : (e : Event) → Linked R (after_change w n (befallen e) (server_at w n))
-  Linked-befall e = Linked-change (befallen e) (λ s here. Linked-still R standing w n s (befallen e s) linked here (Still-befallen e s)) (server_at w n) refl
+  Linked-befall e = Linked-change (befallen e) (λ s here. Linked-still R standing w n s (befallen e s) linked here (Still-befallen e s (befallen e s) (does-befall s e))) (server_at w n) refl
 
   pub Linked-rotate : (o : Option Server) → server_at w n ≡ o → ((r s : Server) → R r s → R (rotated r) s) → (answer : RotateAnswer) → Linked R (after_rotate w n o answer)
   Linked-rotate (Some s) at on (rotating.Done c) =

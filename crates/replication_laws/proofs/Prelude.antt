@@ -55,8 +55,8 @@ pub use Rattle.server_model.proofs.Purges.{read-listed}
 pub use Rattle.server_model.proofs.Takes.{count_own-push}
 pub use Rattle.server_model.specs.Attach.{IsTarget, after_attach, attach_answer, attached_to, chain_meets, chain_on, first_kept, live_spot}
 pub use Rattle.server_model.specs.Attach.{purged_answer, same_spot, spot_below}
-pub use Rattle.server_model.specs.Desk.{after_change, after_desk, after_rotate, asked, attached_source, befallen, can_reach, desk_answer, detached}
-pub use Rattle.server_model.specs.Desk.{detached_source, healed, is_detached, reattached, rotate_answer, rotated, started, stopped, without_source}
+pub use Rattle.server_model.specs.Desk.{after_change, after_desk, after_rotate, asked, befallen, can_reach, desk_answer}
+pub use Rattle.server_model.specs.Desk.{rotate_answer, rotated, without_source}
 pub use Rattle.server_model.specs.Exchanges.{after_apply, after_fetch, after_write, applied, apply_answer, apply_from, apply_step, apply_txn}
 pub use Rattle.server_model.specs.Exchanges.{attached_at, fetch_answer, fetch_from, fetch_kept, fetch_step, is_attached, is_reached, is_receiving}
 pub use Rattle.server_model.specs.Exchanges.{own_txn, took, write_answer}
@@ -91,11 +91,6 @@ pub use Rattle.server_words.specs.declared.attach.AttachFault.TheVariants as att
 pub use Rattle.server_words.specs.declared.attach.Spot.{Spot}
 pub use Rattle.server_words.specs.declared.attach.Spot.TheVariants as spot
 pub use Rattle.server_words.specs.declared.changes.Ask.{Ask}
-pub use Rattle.server_words.specs.declared.changes.Ask.TheVariants as asking
 pub use Rattle.server_words.specs.declared.changes.Event.{Event}
-pub use Rattle.server_words.specs.declared.changes.Event.TheVariants as event
-pub use Rattle.server_words.specs.declared.changes.Link.TheVariants as link
-pub use Rattle.server_words.specs.declared.changes.Threads.{Threads}
-pub use Rattle.server_words.specs.declared.changes.Threads.TheVariants as threads
 pub use Rattle.server_words.specs.declared.status.Status.{Status}
 pub use Rattle.server_words.specs.declared.status.StatusFault.TheVariants as seeing

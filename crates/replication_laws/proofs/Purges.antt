@@ -1,5 +1,5 @@
 -- Purges: what each keeps, and how far it goes.
-use Rattle.std.proofs.Common.{◌≡◌, ℕ, ◌<◌, ◌≤◌, ◌⊎◌, inl, inr, Bool, true, false, not, cond, refl, sym, ◌∙◌, ap, Option, Some, None, arith, ◌&&◌}
+use Rattle.std.proofs.Common.{◌≡◌, ℕ, ◌<◌, ◌≤◌, ◌⊎◌, inl, inr, Bool, true, false, not, cond, refl, sym, ◌∙◌, ap, Option, Some, None, arith, ◌&&◌, subst}
 use Rattle.std.specs.Prelude.{nat_lt}
 use Rattle.replication_laws.proofs.Prelude.{Attached, AttachedWell, Detached, GoesOn, IsActive, PurgeAnswer, Server, ServerNo, SourceState, StandsIn}
 use Rattle.replication_laws.proofs.Prelude.{Without, World, after_purge, and_parts, eq-eqb, eqb-true, false≢true, files_read, from_file, greater}
@@ -7,7 +7,7 @@ use Rattle.replication_laws.proofs.Prelude.{greater-right, is_attached_to, is_re
 use Rattle.replication_laws.proofs.Prelude.{least-first, least-least, least_read, listed-read, nat_tests, purge_answer, read-listed, server_at}
 use Rattle.replication_laws.proofs.Prelude.{take-length, with_server}
 use Rattle.replication_laws.proofs.Prelude.purging
-use Rattle.replication_laws.proofs.Keeping.{Standing, Linked, Linked-keeps, Idle, Idle-refl, Idle-with}
+use Rattle.replication_laws.proofs.Keeping.{Standing, Linked, Linked-keeps}
 
 GoesOn-purged : (s : Server) (first : ℕ) → s.first ≤ first → GoesOn s (from_file first s)
 GoesOn-purged s first more = record { settings = refl; prefix = take-length s.history.txns; places = λ c k h. h; first = more }
@@ -23,14 +23,12 @@ abbrev answered : ℕ → Bool → Bool → Bool → PurgeAnswer
 answered first up logs past = cond (not up) purging.Down (cond (not logs) purging.NotLogging (cond past purging.NoFile (purging.Done first)))
 
 -- a purge writes nothing
-pub Idle-purge : (w : World) (n file : ℕ) (o : Option Server) → server_at w n ≡ o → Idle w (after_purge w n o (purge_answer w n file o))
-Idle-purge w n file None at = Idle-refl w
-Idle-purge w n file (Some s) at = go s.up s.settings.logs (nat_lt s.log.log.files file)
+pub GoesOn-purge : (w : World) (n file first : ℕ) (s : Server) → purge_answer w n file (Some s) ≡ purging.Done first → GoesOn s (from_file first s)
+GoesOn-purge w n file first s h = go s.up s.settings.logs (nat_lt s.log.log.files file) h
   where
-    go : (a b c : Bool) → Idle w (after_purge w n (Some s) (answered (kept_from w.servers n file s) a b c))
-    go true true false =
-        Idle-with w n s (from_file (kept_from w.servers n file s) s) at refl (GoesOn-purged s (kept_from w.servers n file s) (kept_from-rises w.servers n file s))
-    go _ _ _ = Idle-refl w
+    go : (a b c : Bool) → answered (kept_from w.servers n file s) a b c ≡ purging.Done first → GoesOn s (from_file first s)
+    go true true false e = let same : kept_from w.servers n file s ≡ first = cc in subst (λ (k : ℕ). GoesOn s (from_file k s)) same (GoesOn-purged s (kept_from w.servers n file s) (kept_from-rises w.servers n file s))
+    go _ _ _ e = cc
 
 -- and keeps each replica's position
 pub Linked-purge : (R : Server → Server → Type 0) → Standing R → (w : World) (n file : ℕ) → Linked R w → ((r s : Server) (first : ℕ) → R r s → R (from_file first r) s)

@@ -1,67 +1,60 @@
 -- Exchanges and runs: what keeps `Placed`, what stays `Safe`, and the count of errant writes.
-use Rattle.std.proofs.Common.{ℕ, ◌+◌, ◌≤◌, Bool, true, false, cond, List, [], ◌∷◌, take, refl, Option, Some, arith, zero, suc}
-use Rattle.replication_laws.proofs.Prelude.{AllAllowed, AllJoinWell, Allowed, Apply, ApplyStep, Ask, Attach, AttachAuto, AttachedWell, Befall, Coord}
-use Rattle.replication_laws.proofs.Prelude.{Event, Exchange, Fetch, Grows, Interval, IsQuiet, JoinsWell, Placed, Purge, Request, Rotate, Safe, Server}
-use Rattle.replication_laws.proofs.Prelude.{ServerNo, Spot, StandsIn, World, Write, WriteAnswer, after, after_apply, after_write, apply_step}
-use Rattle.replication_laws.proofs.Prelude.{attach_answer, attach_auto_answer, desk_answer, fetch_step, has_source, rotate_answer, run, server_at}
-use Rattle.replication_laws.proofs.Prelude.{write_answer}
-use Rattle.replication_laws.proofs.Prelude.applying
-use Rattle.replication_laws.proofs.Prelude.wrote
-use Rattle.replication_laws.proofs.Keeping.{Standing-well, Standing-placed, Linked-safe, Linked-placed, Placed-linked, Idle, Safe-idle, Grows-refl, Grows-trans}
+use Rattle.std.proofs.Common.{ℕ, ◌+◌, ◌≤◌, Bool, true, false, cond, List, [], ◌∷◌, take, refl, Some, arith, zero, suc, ◌≡◌}
+use Rattle.replication_laws.proofs.Prelude.{AllAllowed, AllJoinWell, Allowed, Apply, Ask, Attach, AttachAuto, AttachedWell, Befall, Coord, Event}
+use Rattle.replication_laws.proofs.Prelude.{Exchange, Fetch, Grows, Interval, IsQuiet, JoinsWell, Placed, Purge, Request, Rotate, Safe, Server}
+use Rattle.replication_laws.proofs.Prelude.{ServerNo, Spot, StandsIn, World, Write, after, auto_coord, desk_answer, has_source, rotate_answer, run}
+use Rattle.replication_laws.proofs.Prelude.{server_at, uuids, with_server, write_answer}
+use Rattle.server_model.proofs.Changes as changes
+use Rattle.replication_laws.proofs.Keeping.{Standing-well, Standing-placed, Linked-safe, Linked-placed, Placed-linked, Idle, Safe-idle, Grows-refl}
+use Rattle.replication_laws.proofs.Keeping.{Grows-trans, Idle-refl, Idle-same, Idle-with}
 use Rattle.replication_laws.proofs.Writes.{Safe-write, Placed-write, Grows-write}
-use Rattle.replication_laws.proofs.Fetches.{Linked-fetch, Idle-fetch}
+use Rattle.replication_laws.proofs.Fetches.{Linked-fetch, Same-read, Still-refused}
 use Rattle.replication_laws.proofs.Applies.{Safe-apply, Placed-apply, Grows-apply}
-use Rattle.replication_laws.proofs.Moves.{Linked-ask, Idle-ask, Linked-befall, Idle-befall, Linked-rotate, Idle-rotate, Linked-attach, Idle-attach, Linked-attach_auto, Idle-attach_auto, StandsIn-rotated, AttachedWell-rotated, StandsIn-attached, AttachedWell-attached, StandsIn-auto, AttachedWell-auto}
-use Rattle.replication_laws.proofs.Purges.{Linked-purge, Idle-purge, StandsIn-purged, AttachedWell-purged}
+use Rattle.replication_laws.proofs.Moves.{Linked-ask, Linked-befall, Linked-rotate, Linked-attach, Linked-attach_auto, StandsIn-rotated}
+use Rattle.replication_laws.proofs.Moves.{AttachedWell-rotated, StandsIn-attached, AttachedWell-attached, StandsIn-auto, AttachedWell-auto}
+use Rattle.replication_laws.proofs.Moves.{GoesOn-rotated, Same-asked, Same-attached, Same-befallen, Same-joined}
+use Rattle.replication_laws.proofs.Purges.{Linked-purge, StandsIn-purged, AttachedWell-purged, GoesOn-purge}
 use Rattle.replication_laws.proofs.Subsets.{prefix-observed, held-prefix}
+use Rattle.server_model.proofs.Changes.{Becomes, Leaves, leaves}
 
 -- the count of errant writes never falls
 
-errant-write : (w : World) (n size : ℕ) (o : Option Server) (a : WriteAnswer) → w.errant ≤ (after_write w n size o a).errant
-errant-write w n size (Some s) (wrote.Done seq) = go (has_source s.source)
+-- all except writes and applies write nothing, in any world
+abbrev Idles : Exchange → Type 0
+Idles (Write n size) = ⊥
+Idles (Apply n) = ⊥
+Idles _ = Unit {0}
+
+module _ (w : World) where
+  Idle-becomes : (n : ℕ) (s : Server) → server_at w n ≡ Some s → (e : Exchange) (t : Server) → Becomes w n s e t → Idles e → Idle w (with_server w n t)
+  Idle-becomes n s at e t (changes.Refuses first is) h = Idle-same w n s t at (Still-refused s).same
+  Idle-becomes n s at e t (changes.Reads x to is) h = Idle-same w n s t at (Same-read s to)
+  Idle-becomes n s at e t (changes.Asks a x does) h = Idle-same w n s t at (Same-asked a s x does)
+  Idle-becomes n s at e t (changes.Befalls x y does) h = Idle-same w n s t at (Same-befallen x s y does)
+  Idle-becomes n s at e t (changes.Rotates end is) h = Idle-with w n s t at refl (GoesOn-rotated s)
+  Idle-becomes n s at e t (changes.Purges file first is) h = Idle-with w n s t at refl (GoesOn-purge w n file first s is)
+  Idle-becomes n s at e t (changes.Attaches expect to c is) h = Idle-same w n s t at (Same-attached to c s)
+  Idle-becomes n s at e t (changes.AttachesAuto observed to is) h = Idle-same w n s t at (Same-joined true to (auto_coord (uuids w) s (server_at w to.0)) s)
+  Idle-becomes n s at e t _ h = absurd h
+
+  Idle-leaves : (e : Exchange) (w' : World) → Leaves w e w' → Idles e → Idle w w'
+  Idle-leaves e w' changes.Still h = Idle-refl w
+  Idle-leaves e w' (changes.Writes n size s seq at is) h = absurd h
+  Idle-leaves e w' (changes.Puts n s t at change) h = Idle-becomes n s at e t change h
+
+  pub Idle-after : (e : Exchange) → Idles e → Idle w (after w e)
+  Idle-after e h = Idle-leaves e (after w e) (leaves w e) h
+
+errant-leaves : (w : World) (e : Exchange) (w' : World) → Leaves w e w' → w.errant ≤ w'.errant
+errant-leaves w e w' (changes.Writes n size s seq at is) = go (has_source s.source)
   where
     go : (b : Bool) → w.errant ≤ cond b (w.errant + 1) w.errant
     go true = omega arith
     go false = omega arith
-errant-write w n size _ _ = omega arith
-
-errant-apply : (w : World) (n : ℕ) (o : Option Server) (a : ApplyStep) → w.errant ≤ (after_apply w n o a).errant
-errant-apply w n (Some r) applying.Halt = omega arith
-errant-apply w n _ _ = omega arith
-
-errant-idle : (w w' : World) → Idle w w' → w.errant ≤ w'.errant
-errant-idle w w' idle = omega (arith, idle.errant)
-
--- all except writes and applies write nothing, in any world
-
-pub Idle-fetched : (w : World) (n : ℕ) → Idle w (after w (Fetch n))
-Idle-fetched w n = Idle-fetch w n (server_at w n) refl (fetch_step w (server_at w n))
-
-pub Idle-asked : (w : World) (n : ℕ) (a : Ask) → Idle w (after w (Request n a))
-Idle-asked w n a = Idle-ask w n a (desk_answer (server_at w n))
-
-pub Idle-rotated : (w : World) (n : ℕ) → Idle w (after w (Rotate n))
-Idle-rotated w n = Idle-rotate w n (server_at w n) refl (rotate_answer (server_at w n))
-
-pub Idle-purged : (w : World) (n file : ℕ) → Idle w (after w (Purge n file))
-Idle-purged w n file = Idle-purge w n file (server_at w n) refl
-
-pub Idle-attached : (w : World) (n : ℕ) (expect : Spot) (to : ServerNo) (at : Coord) → Idle w (after w (Attach n expect to at))
-Idle-attached w n expect to at = Idle-attach w n to at (server_at w n) refl (attach_answer w n expect to.0 at (server_at w n))
-
-pub Idle-auto : (w : World) (n : ℕ) (observed : List Interval) (to : ServerNo) → Idle w (after w (AttachAuto n observed to))
-Idle-auto w n observed to = Idle-attach_auto w n to (server_at w n) refl (attach_auto_answer w n observed to.0 (server_at w n))
+errant-leaves w e w' _ = omega arith
 
 errant-after : (w : World) (e : Exchange) → w.errant ≤ (after w e).errant
-errant-after w (Write n size) = errant-write w n size (server_at w n) (write_answer n (server_at w n))
-errant-after w (Fetch n) = errant-idle w (after w (Fetch n)) (Idle-fetched w n)
-errant-after w (Apply n) = errant-apply w n (server_at w n) (apply_step w (server_at w n))
-errant-after w (Request n a) = errant-idle w (after w (Request n a)) (Idle-asked w n a)
-errant-after w (Befall n e) = errant-idle w (after w (Befall n e)) (Idle-befall w n e)
-errant-after w (Rotate n) = errant-idle w (after w (Rotate n)) (Idle-rotated w n)
-errant-after w (Purge n file) = errant-idle w (after w (Purge n file)) (Idle-purged w n file)
-errant-after w (Attach n expect to at) = errant-idle w (after w (Attach n expect to at)) (Idle-attached w n expect to at)
-errant-after w (AttachAuto n observed to) = errant-idle w (after w (AttachAuto n observed to)) (Idle-auto w n observed to)
+errant-after w e = errant-leaves w e (after w e) (leaves w e)
 
 errant-run : (w : World) (es : List Exchange) → w.errant ≤ (run w es).errant
 errant-run w [] = omega arith
@@ -100,14 +93,8 @@ Placed-after w (AttachAuto n observed to) placed target =
 
 pub Grows-after : (w : World) (e : Exchange) → Placed w → Allowed w e → Grows w (after w e)
 Grows-after w (Write n size) placed some = Grows-write w n size some placed (server_at w n) refl (write_answer n (server_at w n))
-Grows-after w (Fetch n) placed free = (Idle-fetched w n).grows
 Grows-after w (Apply n) placed free = Grows-apply w n (server_at w n) refl placed
-Grows-after w (Request n a) placed free = (Idle-asked w n a).grows
-Grows-after w (Befall n e) placed free = (Idle-befall w n e).grows
-Grows-after w (Rotate n) placed free = (Idle-rotated w n).grows
-Grows-after w (Purge n file) placed free = (Idle-purged w n file).grows
-Grows-after w (Attach n expect to at) placed target = (Idle-attached w n expect to at).grows
-Grows-after w (AttachAuto n observed to) placed target = (Idle-auto w n observed to).grows
+Grows-after w e placed allowed = (Idle-after w e tt).grows
 
 pub Placed-run : (w : World) (es : List Exchange) → Placed w → AllAllowed w es → Placed (run w es)
 Placed-run w [] placed allowed = placed
@@ -129,36 +116,36 @@ Placed-take w es k placed allowed = Placed-run w (take k es) placed (AllAllowed-
 -- each exchange keeps a world `Safe` that has no errant writes after it
 
 pub Safe-fetched : (w : World) (n : ℕ) → Safe w → Safe (after w (Fetch n))
-Safe-fetched w n safe = Safe-idle w (after w (Fetch n)) safe (Idle-fetched w n) (Linked-fetch AttachedWell Standing-well w n (server_at w n) refl (Linked-safe w safe))
+Safe-fetched w n safe = Safe-idle w (after w (Fetch n)) safe (Idle-after w (Fetch n) tt) (Linked-fetch AttachedWell Standing-well w n (server_at w n) refl (Linked-safe w safe))
 
 pub Safe-asked : (w : World) (n : ℕ) (a : Ask) → Safe w → Safe (after w (Request n a))
 Safe-asked w n a safe =
-    Safe-idle w (after w (Request n a)) safe (Idle-asked w n a) (Linked-ask AttachedWell Standing-well w n (Linked-safe w safe) a (desk_answer (server_at w n)))
+    Safe-idle w (after w (Request n a)) safe (Idle-after w (Request n a) tt) (Linked-ask AttachedWell Standing-well w n (Linked-safe w safe) a (desk_answer (server_at w n)))
 
 pub Safe-befallen : (w : World) (n : ℕ) (e : Event) → Safe w → Safe (after w (Befall n e))
-Safe-befallen w n e safe = Safe-idle w (after w (Befall n e)) safe (Idle-befall w n e) (Linked-befall AttachedWell Standing-well w n (Linked-safe w safe) e)
+Safe-befallen w n e safe = Safe-idle w (after w (Befall n e)) safe (Idle-after w (Befall n e) tt) (Linked-befall AttachedWell Standing-well w n (Linked-safe w safe) e)
 
 pub Safe-rotated : (w : World) (n : ℕ) → Safe w → Safe (after w (Rotate n))
 Safe-rotated w n safe =
-    Safe-idle w (after w (Rotate n)) safe (Idle-rotated w n)
+    Safe-idle w (after w (Rotate n)) safe (Idle-after w (Rotate n) tt)
     (Linked-rotate AttachedWell Standing-well w n (Linked-safe w safe) (server_at w n) refl AttachedWell-rotated (rotate_answer (server_at w n)))
 
 pub Safe-purged : (w : World) (n file : ℕ) → Safe w → Safe (after w (Purge n file))
 Safe-purged w n file safe =
-    Safe-idle w (after w (Purge n file)) safe (Idle-purged w n file)
+    Safe-idle w (after w (Purge n file)) safe (Idle-after w (Purge n file) tt)
     (Linked-purge AttachedWell Standing-well w n file (Linked-safe w safe) AttachedWell-purged (server_at w n) refl)
 
 pub Safe-attached : (w : World) (n : ℕ) (expect : Spot) (to : ServerNo) (at : Coord) → Safe w → Allowed w (Attach n expect to at) → JoinsWell w (Attach n expect to at)
     → Safe (after w (Attach n expect to at))
 Safe-attached w n expect to at safe target joins =
-    Safe-idle w (after w (Attach n expect to at)) safe (Idle-attached w n expect to at)
+    Safe-idle w (after w (Attach n expect to at)) safe (Idle-after w (Attach n expect to at) tt)
     (Linked-attach AttachedWell Standing-well w n (Linked-safe w safe) expect to at target
     (λ r s here there is. AttachedWell-attached to at r s (joins r s here there is)) (server_at w n) refl)
 
 pub Safe-auto : (w : World) (n : ℕ) (observed : List Interval) (to : ServerNo) → Safe w → Allowed w (AttachAuto n observed to) → JoinsWell w (AttachAuto n observed to)
     → Safe (after w (AttachAuto n observed to))
 Safe-auto w n observed to safe target within =
-    Safe-idle w (after w (AttachAuto n observed to)) safe (Idle-auto w n observed to)
+    Safe-idle w (after w (AttachAuto n observed to)) safe (Idle-after w (AttachAuto n observed to) tt)
     (Linked-attach_auto AttachedWell Standing-well w n (Linked-safe w safe) observed to target
     (λ r s here there none enough.
     let front = prefix-observed w safe n to.0 r s here there observed within none in

@@ -37,7 +37,8 @@ pub use showing::shown_coordinates_have_places;
 /// errant write too. Its settings stay, what it had executed is a prefix of what it has executed afterwards, and each
 /// place of its log stays.
 pub fn each_exchange_keeps_safe()
-    ensures write { (w : World) (n size : ℕ) → Safe w → 0 < size → IsQuiet (write w n size).1 → Safe (write w n size).1 }
+    ensures write { (w : World) (n size : ℕ) → Safe w → 0 < size → IsQuiet (write w n size).1
+        → Safe (write w n size).1 }
     ensures fetch { (w : World) (n : ℕ) → Safe w → Safe (fetch w n).1 }
     ensures apply { (w : World) (n : ℕ) → Safe w → Safe (apply w n).1 }
     ensures goes_on { (w : World) (e : Exchange) → Safe w → Allowed w e → Grows w (after w e) }
@@ -68,35 +69,51 @@ pub fn each_change_keeps_safe()
 /// comes only if the server has executed none except those. If histories agree a subset is a prefix, and the server
 /// goes on at its end. An attachment writes nothing: in any world every server goes on, and no errant write is counted.
 pub fn attachments_keep_safe()
-    ensures safe { (w : World) (n : ℕ) (expect : ASpot) (to : ServerNo) (at : At) → Safe w → IsTarget w to.0 at → JoinsWell w (Attach n expect to at) → Safe (attach_at w n expect to at).1 }
-    ensures same { (w : World) (n : ℕ) (m : ServerNo) (at : At) → Safe w → JoinsWell w (Attach n (spot.At m at) m at) }
-    ensures goes_on { (w : World) (n : ℕ) (expect : ASpot) (to : ServerNo) (at : At) → Grows w (attach_at w n expect to at).1 }
-    ensures errant { (w : World) (n : ℕ) (expect : ASpot) (to : ServerNo) (at : At) → (attach_at w n expect to at).1.errant ≡ w.errant }
-    ensures auto { (w : World) (n : ℕ) (observed : List Interval) (to : ServerNo) → Safe w → IsAutoTarget w to.0 → JoinsWell w (AttachAuto n observed to) → Safe (attach_auto w n observed to).1 }
-    ensures auto_goes_on { (w : World) (n : ℕ) (observed : List Interval) (to : ServerNo) → Grows w (attach_auto w n observed to).1 }
-    ensures auto_errant { (w : World) (n : ℕ) (observed : List Interval) (to : ServerNo) → (attach_auto w n observed to).1.errant ≡ w.errant }
+    ensures safe { (w : World) (n : ℕ) (expect : ASpot) (to : ServerNo) (at : At) → Safe w
+        → IsTarget w to.0 at → JoinsWell w (Attach n expect to at)
+        → Safe (attach_at w n expect to at).1 }
+    ensures same { (w : World) (n : ℕ) (m : ServerNo) (at : At) → Safe w
+        → JoinsWell w (Attach n (spot.At m at) m at) }
+    ensures goes_on { (w : World) (n : ℕ) (expect : ASpot) (to : ServerNo) (at : At)
+        → Grows w (attach_at w n expect to at).1 }
+    ensures errant { (w : World) (n : ℕ) (expect : ASpot) (to : ServerNo) (at : At)
+        → (attach_at w n expect to at).1.errant ≡ w.errant }
+    ensures auto { (w : World) (n : ℕ) (observed : List Interval) (to : ServerNo) → Safe w
+        → IsAutoTarget w to.0 → JoinsWell w (AttachAuto n observed to)
+        → Safe (attach_auto w n observed to).1 }
+    ensures auto_goes_on { (w : World) (n : ℕ) (observed : List Interval) (to : ServerNo)
+        → Grows w (attach_auto w n observed to).1 }
+    ensures auto_errant { (w : World) (n : ℕ) (observed : List Interval) (to : ServerNo)
+        → (attach_auto w n observed to).1.errant ≡ w.errant }
 {}
 
 /// Take a run of exchanges from a `Safe` world in which each attachment joins well in the world that it comes to. Each
 /// state of it is `Safe` while it has no errant writes. The count of errant writes never falls. So if the end has none,
 /// every earlier state had none and was `Safe`.
 pub fn quiet_runs_are_safe()
-    ensures each { (w : World) (e : Exchange) → Safe w → Allowed w e → JoinsWell w e → IsQuiet (after w e) → Safe (after w e) }
-    ensures end { (w : World) (es : List Exchange) → Safe w → AllAllowed w es → AllJoinWell w es → IsQuiet (run w es) → Safe (run w es) }
-    ensures errant { (w : World) (es : List Exchange) (k : ℕ) → (run w (take k es)).errant ≤ (run w es).errant }
-    ensures earlier_quiet { (w : World) (es : List Exchange) (k : ℕ) → IsQuiet (run w es) → IsQuiet (run w (take k es)) }
-    ensures earlier_safe { (w : World) (es : List Exchange) (k : ℕ) → Safe w → AllAllowed w es → AllJoinWell w es → IsQuiet (run w es) → Safe (run w (take k es)) }
+    ensures each { (w : World) (e : Exchange) → Safe w → Allowed w e → JoinsWell w e
+        → IsQuiet (after w e) → Safe (after w e) }
+    ensures end { (w : World) (es : List Exchange) → Safe w → AllAllowed w es → AllJoinWell w es
+        → IsQuiet (run w es) → Safe (run w es) }
+    ensures errant { (w : World) (es : List Exchange) (k : ℕ)
+        → (run w (take k es)).errant ≤ (run w es).errant }
+    ensures earlier_quiet { (w : World) (es : List Exchange) (k : ℕ) → IsQuiet (run w es)
+        → IsQuiet (run w (take k es)) }
+    ensures earlier_safe { (w : World) (es : List Exchange) (k : ℕ) → Safe w → AllAllowed w es
+        → AllJoinWell w es → IsQuiet (run w es) → Safe (run w (take k es)) }
 {}
 
 /// No history of a `Safe` world has a transaction twice: at two indices are two transactions.
 pub fn no_transaction_twice()
-    ensures { (w : World) (n i j : ℕ) (x y : ATxn) → Safe w → slice_get (histories w n) i ≡ Some x → slice_get (histories w n) j ≡ Some y → same_txn x y ≡ true → i ≡ j }
+    ensures { (w : World) (n i j : ℕ) (x y : ATxn) → Safe w → slice_get (histories w n) i ≡ Some x
+        → slice_get (histories w n) j ≡ Some y → same_txn x y ≡ true → i ≡ j }
 {}
 
 /// In a safe world no applier is about to skip a transaction as executed before, with or without GTIDs, and so none
 /// answers that it did.
 pub fn skipped_never_comes()
-    ensures step { (w : World) (n : ℕ) (to : At) → Safe w → apply_step w (server_at w n) ≢ steps.Skip to }
+    ensures step { (w : World) (n : ℕ) (to : At) → Safe w
+        → apply_step w (server_at w n) ≢ steps.Skip to }
     ensures answer { (w : World) (n : ℕ) (to : At) → Safe w → (apply w n).0 ≢ answers.Skipped to }
 {}
 
@@ -104,6 +121,10 @@ pub fn skipped_never_comes()
 /// for each write of the run. Then no exchange of the run finds a history full if the state before it has no errant
 /// writes. If each server has room for as many new files as a run asks for, none of them finds a log full, in any run.
 pub fn room_lasts()
-    ensures histories { (room total : ℕ) (w : World) (es : List Exchange) (k : ℕ) (e : Exchange) → AllFit room total w → Safe w → AllAllowed w es → AllJoinWell w es → total + count_by is_write es ≤ room → slice_get es k ≡ Some e → IsQuiet (run w (take k es)) → IsNotFull (run w (take k es)) e }
-    ensures files { (w : World) (es : List Exchange) (k n : ℕ) → HasFiles (count_by is_rotate es) w → slice_get es k ≡ Some (Rotate n) → (rotate (run w (take k es)) n).0 ≢ rotating.Full }
+    ensures histories { (room total : ℕ) (w : World) (es : List Exchange) (k : ℕ) (e : Exchange)
+        → AllFit room total w → Safe w → AllAllowed w es → AllJoinWell w es
+        → total + count_by is_write es ≤ room → slice_get es k ≡ Some e
+        → IsQuiet (run w (take k es)) → IsNotFull (run w (take k es)) e }
+    ensures files { (w : World) (es : List Exchange) (k n : ℕ) → HasFiles (count_by is_rotate es) w
+        → slice_get es k ≡ Some (Rotate n) → (rotate (run w (take k es)) n).0 ≢ rotating.Full }
 {}

@@ -9,8 +9,12 @@ ghost use Rattle.replication_laws.specs.Observed.{HasExecuted};
 /// after each exchange, and after each run. So an attachment to that server by such a set joins well, however late it
 /// comes.
 pub fn observed_sets_stand()
-    ensures seen { (w : World) (n : ℕ) (seen : Seen) → status w n ≡ Ok seen → HasExecuted w n seen.set }
-    ensures stays { (w : World) (e : Exchange) (n : ℕ) (set : List Interval) → Placed w → Allowed w e → HasExecuted w n set → HasExecuted (after w e) n set }
-    ensures run_stays { (w : World) (es : List Exchange) (n : ℕ) (set : List Interval) → Placed w → AllAllowed w es → HasExecuted w n set → HasExecuted (run w es) n set }
-    ensures joins { (w : World) (n : ℕ) (set : List Interval) (to : ServerNo) → HasExecuted w to.0 set → JoinsWell w (AttachAuto n set to) }
+    ensures seen { (w : World) (n : ℕ) (seen : Seen) → status w n ≡ Ok seen
+        → HasExecuted w n seen.set }
+    ensures stays { (w : World) (e : Exchange) (n : ℕ) (set : List Interval) → Placed w
+        → Allowed w e → HasExecuted w n set → HasExecuted (after w e) n set }
+    ensures run_stays { (w : World) (es : List Exchange) (n : ℕ) (set : List Interval) → Placed w
+        → AllAllowed w es → HasExecuted w n set → HasExecuted (run w es) n set }
+    ensures joins { (w : World) (n : ℕ) (set : List Interval) (to : ServerNo)
+        → HasExecuted w to.0 set → JoinsWell w (AttachAuto n set to) }
 {}

@@ -14,9 +14,12 @@ ghost use Rattle.replication_laws.specs.Growth.{Grows};
 pub fn each_exchange_keeps_placed()
     ensures placed { (w : World) (e : Exchange) → Placed w → Allowed w e → Placed (after w e) }
     ensures goes_on { (w : World) (e : Exchange) → Placed w → Allowed w e → Grows w (after w e) }
-    ensures run_placed { (w : World) (es : List Exchange) → Placed w → AllAllowed w es → Placed (run w es) }
-    ensures run_goes_on { (w : World) (es : List Exchange) → Placed w → AllAllowed w es → Grows w (run w es) }
-    ensures earlier { (w : World) (es : List Exchange) (k : ℕ) → Placed w → AllAllowed w es → Placed (run w (take k es)) }
+    ensures run_placed { (w : World) (es : List Exchange) → Placed w → AllAllowed w es
+        → Placed (run w es) }
+    ensures run_goes_on { (w : World) (es : List Exchange) → Placed w → AllAllowed w es
+        → Grows w (run w es) }
+    ensures earlier { (w : World) (es : List Exchange) (k : ℕ) → Placed w → AllAllowed w es
+        → Placed (run w (take k es)) }
 {}
 
 /// A `Safe` world has `Placed`.
@@ -26,17 +29,28 @@ pub fn safe_worlds_are_placed()
 
 /// In a world with `Placed` no server is below itself: the chain of sources above it never comes back to it.
 pub fn no_server_is_below_itself()
-    ensures { (w : World) (n m : ℕ) → Placed w → sources w n ≡ Some m → Reaches (sources w) n m → ⊥ }
+    ensures { (w : World) (n m : ℕ) → Placed w → sources w n ≡ Some m → Reaches (sources w) n m
+        → ⊥ }
 {}
 
 /// In a `Placed` world of some servers walk up the sources, as many steps as there are servers. The walk meets a server
 /// exactly if it begins there or below it. So an attachment by a coordinate or by GTIDs answers `Loop` exactly if the
 /// new source is the server itself or below it, and no earlier fault comes.
 pub fn loops_are_found()
-    ensures met { (w : World) (n to : ℕ) → Placed w → 0 < length w.servers → chain_meets (sources w) (length w.servers) to n ≡ true → Reaches (sources w) n to }
-    ensures missed { (w : World) (n to : ℕ) → Reaches (sources w) n to → chain_meets (sources w) (length w.servers) to n ≡ true }
-    ensures answered { (w : World) (n : ℕ) (expect : ASpot) (to : ServerNo) (at : At) → IsReadyAt w n expect → Reaches (sources w) n to.0 → (attach_at w n expect to at).0 ≡ Err attaching.Loop }
-    ensures only { (w : World) (n : ℕ) (expect : ASpot) (to : ServerNo) (at : At) → Placed w → (attach_at w n expect to at).0 ≡ Err attaching.Loop → IsReadyAt w n expect × Reaches (sources w) n to.0 }
-    ensures auto_answered { (w : World) (n : ℕ) (observed : List Those) (to : ServerNo) → IsReadyAuto w n → Reaches (sources w) n to.0 → (attach_auto w n observed to).0 ≡ Err attaching.Loop }
-    ensures auto_only { (w : World) (n : ℕ) (observed : List Those) (to : ServerNo) → Placed w → (attach_auto w n observed to).0 ≡ Err attaching.Loop → IsReadyAuto w n × Reaches (sources w) n to.0 }
+    ensures met { (w : World) (n to : ℕ) → Placed w → 0 < length w.servers
+        → chain_meets (sources w) (length w.servers) to n ≡ true → Reaches (sources w) n to }
+    ensures missed { (w : World) (n to : ℕ) → Reaches (sources w) n to
+        → chain_meets (sources w) (length w.servers) to n ≡ true }
+    ensures answered { (w : World) (n : ℕ) (expect : ASpot) (to : ServerNo) (at : At)
+        → IsReadyAt w n expect → Reaches (sources w) n to.0
+        → (attach_at w n expect to at).0 ≡ Err attaching.Loop }
+    ensures only { (w : World) (n : ℕ) (expect : ASpot) (to : ServerNo) (at : At) → Placed w
+        → (attach_at w n expect to at).0 ≡ Err attaching.Loop → IsReadyAt w n expect
+        × Reaches (sources w) n to.0 }
+    ensures auto_answered { (w : World) (n : ℕ) (observed : List Those) (to : ServerNo)
+        → IsReadyAuto w n → Reaches (sources w) n to.0
+        → (attach_auto w n observed to).0 ≡ Err attaching.Loop }
+    ensures auto_only { (w : World) (n : ℕ) (observed : List Those) (to : ServerNo) → Placed w
+        → (attach_auto w n observed to).0 ≡ Err attaching.Loop → IsReadyAuto w n
+        × Reaches (sources w) n to.0 }
 {}

@@ -9,8 +9,12 @@ ghost use Rattle.replication_laws.specs.Showing.{Shows};
 /// executed coordinate is not after the read one. So it is for good, with errant writes or without: after each
 /// exchange, and after each run.
 pub fn shown_coordinates_have_places()
-    ensures seen { (w : World) (n : ℕ) (seen : Seen) → Placed w → status w n ≡ Ok seen → Shows w n seen }
-    ensures unreached { (w : World) (n : ℕ) (seen : Seen) → Placed w → shown w n ≡ Some seen → Shows w n seen }
-    ensures stays { (w : World) (e : Exchange) (n : ℕ) (seen : Seen) → Placed w → Allowed w e → Shows w n seen → Shows (after w e) n seen }
-    ensures run_stays { (w : World) (es : List Exchange) (n : ℕ) (seen : Seen) → Placed w → AllAllowed w es → Shows w n seen → Shows (run w es) n seen }
+    ensures seen { (w : World) (n : ℕ) (seen : Seen) → Placed w → status w n ≡ Ok seen
+        → Shows w n seen }
+    ensures unreached { (w : World) (n : ℕ) (seen : Seen) → Placed w → shown w n ≡ Some seen
+        → Shows w n seen }
+    ensures stays { (w : World) (e : Exchange) (n : ℕ) (seen : Seen) → Placed w → Allowed w e
+        → Shows w n seen → Shows (after w e) n seen }
+    ensures run_stays { (w : World) (es : List Exchange) (n : ℕ) (seen : Seen) → Placed w
+        → AllAllowed w es → Shows w n seen → Shows (run w es) n seen }
 {}

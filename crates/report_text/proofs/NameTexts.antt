@@ -2,8 +2,7 @@
 use Rattle.std.proofs.Common.{◌≡◌, ◌∙◌, ℕ, List, [], map, Option, Some, None, refl, sym, ap}
 use Rattle.std.specs.Prelude.{option_map, slice_get}
 use Rattle.std.proofs.lemmas.Option.{same_Some, slice_get-map}
-use Rattle.server_words.specs.OrchBase.Names.{HostPort, printed}
-use Rattle.report_text.specs.Names.{printed_at}
+use Rattle.server_words.specs.OrchBase.Names.{HostPort, printed, printed_at}
 
 text_of : (name : Option HostPort) (text : Option (List ℕ)) → text ≡ option_map printed name → (bytes : List ℕ) → text ≡ Some bytes → printed_at name ≡ bytes
 text_of None text none bytes some = cc

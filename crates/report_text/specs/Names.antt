@@ -1,11 +1,7 @@
 -- Servers' names by their numbers.
 use Rattle.std.specs.Prelude.{ℕ, List, [], ◌++◌, codes, slice_get, Option, Some, None}
-use Rattle.server_words.specs.OrchBase.Names.{HostPort, printed}
+use Rattle.server_words.specs.OrchBase.Names.{HostPort, printed_at}
 use Rattle.server_words.specs.OrchBase.declared.server.ServerNo.{ServerNo}
-
-abbrev pub printed_at : Option HostPort → List ℕ
-printed_at None = []
-printed_at (Some name) = printed name
 
 -- the name of the server of this number
 abbrev pub name_text : List HostPort → ServerNo → List ℕ

@@ -6,7 +6,7 @@ use Rattle.commands.specs.declared.refusal.Refusal.{Refusal}
 use Rattle.commands.specs.declared.refusal.Refusal.TheVariants as refused
 use Rattle.commands.specs.Refusals.{number_of}
 use Rattle.report_text.specs.Names.{name_text}
-use Rattle.report_text.specs.Words.{code_text}
+use Rattle.server_words.specs.OrchBase.Words.{code_text}
 
 abbrev pub refusal_name : Refusal → List ℕ
 refusal_name refused.UnknownInstance = codes "UnknownInstance"

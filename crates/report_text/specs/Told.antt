@@ -14,10 +14,8 @@ use Rattle.report_text.specs.Causes.{spot_text, unnamed_text}
 use Rattle.report_text.specs.Names.{name_text}
 use Rattle.report_text.specs.Recoveries.{recovery_text}
 use Rattle.report_text.specs.Refusals.{refusal_text}
-use Rattle.report_text.specs.Words.{code_text, mode_text, phase_text, rule_text, state_text}
-
-abbrev pub version_text : Version → List ℕ
-version_text v = decimal v.major ++ codes "." ++ decimal v.minor ++ codes "." ++ decimal v.patch
+use Rattle.report_text.specs.Words.{mode_text, phase_text, state_text}
+use Rattle.server_words.specs.OrchBase.Words.{code_text, rule_text, version_text}
 
 -- two spaces for each level
 abbrev pub levels_text : ℕ → List ℕ

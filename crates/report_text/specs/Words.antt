@@ -1,13 +1,7 @@
 -- Names of one value each.
 use Rattle.std.specs.Prelude.{ℕ, Bool, List, codes, if◌then◌else◌}
-use Rattle.server_words.specs.OrchBase.declared.code.Code.{Code}
-use Rattle.server_words.specs.OrchBase.declared.code.Code.TheVariants as code
 use Rattle.server_words.specs.OrchBase.declared.recovery.CauseName.{CauseName}
 use Rattle.server_words.specs.OrchBase.declared.recovery.CauseName.TheVariants as cause
-use Rattle.server_words.specs.OrchBase.declared.recovery.Kind.{Kind}
-use Rattle.server_words.specs.OrchBase.declared.recovery.Kind.TheVariants as kind
-use Rattle.server_words.specs.OrchBase.declared.rule.Rule.{Rule}
-use Rattle.server_words.specs.OrchBase.declared.rule.Rule.TheVariants as rule
 use Rattle.commands.specs.declared.line.HookPhase.{HookPhase}
 use Rattle.commands.specs.declared.line.HookPhase.TheVariants as phase
 use Rattle.commands.specs.declared.line.StateWord.{StateWord}
@@ -23,40 +17,6 @@ state_text state.Unreachable = codes "unreachable"
 -- read-only or writable
 abbrev pub mode_text : Bool → List ℕ
 mode_text read_only = if read_only then codes "ro" else codes "rw"
-
--- an analysis by orchestrator's name
-abbrev pub code_text : Code → List ℕ
-code_text code.MasterSingleReplicaDead = codes "MasterSingleReplicaDead"
-code_text code.MasterSingleReplicaNotReplicating = codes "MasterSingleReplicaNotReplicating"
-code_text code.AllMasterReplicasNotReplicating = codes "AllMasterReplicasNotReplicating"
-code_text code.AllMasterReplicasNotReplicatingOrDead = codes "AllMasterReplicasNotReplicatingOrDead"
-code_text code.DeadMasterWithoutReplicas = codes "DeadMasterWithoutReplicas"
-code_text code.DeadMasterAndReplicas = codes "DeadMasterAndReplicas"
-code_text code.DeadMaster = codes "DeadMaster"
-code_text code.DeadMasterAndSomeReplicas = codes "DeadMasterAndSomeReplicas"
-code_text code.UnreachableMasterWithLaggingReplicas = codes "UnreachableMasterWithLaggingReplicas"
-code_text code.UnreachableMaster = codes "UnreachableMaster"
-code_text code.AllIntermediateMasterReplicasNotReplicating = codes "AllIntermediateMasterReplicasNotReplicating"
-code_text code.DeadIntermediateMasterAndReplicas = codes "DeadIntermediateMasterAndReplicas"
-code_text code.DeadIntermediateMasterWithSingleReplica = codes "DeadIntermediateMasterWithSingleReplica"
-code_text code.DeadIntermediateMaster = codes "DeadIntermediateMaster"
-code_text code.DeadIntermediateMasterAndSomeReplicas = codes "DeadIntermediateMasterAndSomeReplicas"
-code_text code.UnreachableIntermediateMasterWithLaggingReplicas = codes "UnreachableIntermediateMasterWithLaggingReplicas"
-code_text code.UnreachableIntermediateMaster = codes "UnreachableIntermediateMaster"
-code_text code.NoProblem = codes "NoProblem"
-
--- a rule of promotion
-abbrev pub rule_text : Rule → List ℕ
-rule_text rule.Prefer = codes "prefer"
-rule_text rule.Neutral = codes "neutral"
-rule_text rule.PreferNot = codes "prefer_not"
-rule_text rule.MustNot = codes "must_not"
-
--- what is recovered
-abbrev pub kind_text : Kind → List ℕ
-kind_text kind.Master = codes "master"
-kind_text kind.Intermediate = codes "intermediate"
-kind_text kind.Takeover = codes "takeover"
 
 -- the name of a cause
 abbrev pub cause_name_text : CauseName → List ℕ

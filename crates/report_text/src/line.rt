@@ -1,7 +1,8 @@
 //! The lines of what is done.
 
 ghost use Rattle.std.specs.Prelude.{◌≡◌, ◌++◌, codes, OnOk};
-ghost use Rattle.report_text.specs.Told.{counts_text, depth_text, detached_text, hook_text, levels_text, lost_text, marks_text, named_text, told_lines, told_text, two_text, version_text};
+ghost use Rattle.report_text.specs.Told.{counts_text, depth_text, detached_text, hook_text, levels_text, lost_text, marks_text, named_text, told_lines, told_text, two_text};
+ghost use Rattle.server_words.specs.OrchBase.Words.{version_text};
 
 use crate::binlog_coords_items::print_coord;
 use crate::cause::{print_spot, print_unnamed};
@@ -112,7 +113,8 @@ fn print_counts(
     lagging: u32,
     out: &mut Vec<u8>,
 ) -> Result<(), Memory>
-    ensures { OnOk result (out.new.items ≡ out.old.items ++ counts_text replicas valid replicating lagging) }
+    ensures { OnOk result (out.new.items ≡ out.old.items
+        ++ counts_text replicas valid replicating lagging) }
 {
     print_two(b" replicas ", replicas, b" valid ", valid, out)?;
     print_two(b" replicating ", replicating, b" lagging ", lagging, out)
@@ -220,7 +222,8 @@ fn print_told_line(
     names: &PrintedNames<'_>,
     out: &mut Vec<u8>,
 ) -> Result<(), Memory>
-    ensures { OnOk result (out.new.items ≡ out.old.items ++ (indent.now ++ told_text names.now line.now ++ codes "\n")) }
+    ensures { OnOk result (out.new.items ≡ out.old.items
+        ++ (indent.now ++ told_text names.now line.now ++ codes "\n")) }
 {
     out.extend_from_slice(indent)?;
     print_told(line, names, out)?;
@@ -234,7 +237,8 @@ pub(crate) fn print_told_lines(
     names: &PrintedNames<'_>,
     out: &mut Vec<u8>,
 ) -> Result<(), Memory>
-    ensures { OnOk result (out.new.items ≡ out.old.items ++ told_lines indent.now names.now lines.now) }
+    ensures { OnOk result (out.new.items ≡ out.old.items
+        ++ told_lines indent.now names.now lines.now) }
 {
     for line in lines {
         print_told_line(indent, line, names, out)?;

@@ -86,7 +86,8 @@ fn print_purge(answer: &PurgeAnswer, out: &mut Vec<u8>) -> Result<(), Memory>
 
 // The number between the texts.
 fn print_between(before: &[u8], number: u64, after: &[u8], out: &mut Vec<u8>) -> Result<(), Memory>
-    ensures { OnOk result (out.new.items ≡ out.old.items ++ (before.now ++ decimal number ++ after.now)) }
+    ensures { OnOk result (out.new.items ≡ out.old.items
+        ++ (before.now ++ decimal number ++ after.now)) }
 {
     print_counted(before, number, out)?;
     out.extend_from_slice(after)
@@ -174,7 +175,8 @@ fn print_line(
     names: &PrintedNames<'_>,
     out: &mut Vec<u8>,
 ) -> Result<(), Memory>
-    ensures { OnOk result (out.new.items ≡ out.old.items ++ line_text names.now number t.now r.now) }
+    ensures { OnOk result (out.new.items ≡ out.old.items
+        ++ line_text names.now number t.now r.now) }
 {
     print_number(number, out)?;
     out.extend_from_slice(b" ")?;
@@ -195,7 +197,8 @@ pub fn reply_text(
     names: &[Name],
     out: &mut Vec<u8>,
 ) -> Result<(), Memory>
-    ensures ok { OnOk result (out.new.items ≡ out.old.items ++ line_text names.now number t.now r.now) }
+    ensures ok { OnOk result (out.new.items ≡ out.old.items
+        ++ line_text names.now number t.now r.now) }
     ensures err { OnErr result (out.new.items ≡ out.old.items) }
 {
     let alloc = *out.allocator();
@@ -213,7 +216,8 @@ pub fn reply_text_by(
     line: &mut Vec<u8>,
     out: &mut Vec<u8>,
 ) -> Result<(), Memory>
-    ensures ok { OnOk result (out.new.items ≡ out.old.items ++ line_text names.now number t.now r.now) }
+    ensures ok { OnOk result (out.new.items ≡ out.old.items
+        ++ line_text names.now number t.now r.now) }
     ensures err { OnErr result (out.new.items ≡ out.old.items) }
 {
     line.clear();

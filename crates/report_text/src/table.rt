@@ -92,7 +92,8 @@ fn print_name(world: &World, no: ServerNo, out: &mut Vec<u8>) -> Result<(), Memo
 }
 
 fn print_source(world: &World, plain: &Plain, out: &mut Vec<u8>) -> Result<(), Memory>
-    ensures { OnOk result (out.new.items ≡ out.old.items ++ source_text world.now plain.now plain.now.source) }
+    ensures { OnOk result (out.new.items ≡ out.old.items
+        ++ source_text world.now plain.now plain.now.source) }
 {
     match plain.source {
         SourceState::Without => out.extend_from_slice(b"none"),
@@ -120,7 +121,8 @@ fn print_state(name: &Name, plain: &Plain, out: &mut Vec<u8>) -> Result<(), Memo
 }
 
 fn print_log(executed: u64, log: Option<&LogIndex>, out: &mut Vec<u8>) -> Result<(), Memory>
-    ensures { OnOk result (out.new.items ≡ out.old.items ++ log_text executed (option_copied log.entry)) }
+    ensures { OnOk result (out.new.items ≡ out.old.items
+        ++ log_text executed (option_copied log.entry)) }
 {
     out.extend_from_slice(b" executed ")?;
     print_number(executed, out)?;
@@ -140,7 +142,8 @@ fn print_purged(first: u32, out: &mut Vec<u8>) -> Result<(), Memory>
 #[tactic(auto, using(crate::proofs::ServerLines::told_is_line))]
 fn print_server(world: &World, no: ServerNo, out: &mut Vec<u8>) -> Result<(), Memory>
     requires { no.0 < length world.now.servers }
-    ensures { OnOk result (out.new.items ≡ out.old.items ++ line_at world.now (server_at world.now no.0)) }
+    ensures { OnOk result (out.new.items ≡ out.old.items
+        ++ line_at world.now (server_at world.now no.0)) }
 {
     let plain = world.plain(no);
     print_state(&world.settings(no).name, &plain, out)?;
@@ -152,7 +155,8 @@ fn print_server(world: &World, no: ServerNo, out: &mut Vec<u8>) -> Result<(), Me
 }
 
 fn print_servers(world: &World, out: &mut Vec<u8>) -> Result<(), Memory>
-    ensures { OnOk result (out.new.items ≡ out.old.items ++ servers_text world.now world.now.servers) }
+    ensures { OnOk result (out.new.items ≡ out.old.items
+        ++ servers_text world.now world.now.servers) }
 {
     for no in 0..world.servers() {
         print_server(world, ServerNo(no), out)?;
@@ -188,7 +192,8 @@ fn names_in(alloc: Global, world: &World) -> Result<Vec<Name>, Memory>
 }
 
 fn print_recoveries(world: &World, lines: &[Line], out: &mut Vec<u8>) -> Result<(), Memory>
-    ensures { OnOk result (out.new.items ≡ out.old.items ++ told_lines [] (names_in world.now) lines.now) }
+    ensures { OnOk result (out.new.items ≡ out.old.items
+        ++ told_lines [] (names_in world.now) lines.now) }
 {
     let alloc = *out.allocator();
     let names = names_in(alloc, world)?;
@@ -210,7 +215,8 @@ fn print_tables(
     jobs: &[u64],
     out: &mut Vec<u8>,
 ) -> Result<(), Memory>
-    ensures { OnOk result (out.new.items ≡ out.old.items ++ tables_text world.now recoveries.now jobs.now) }
+    ensures { OnOk result (out.new.items ≡ out.old.items
+        ++ tables_text world.now recoveries.now jobs.now) }
 {
     print_servers(world, out)?;
     print_recoveries(world, recoveries, out)?;
@@ -227,7 +233,8 @@ pub fn tables(
     jobs: &[u64],
     out: &mut Vec<u8>,
 ) -> Result<(), Memory>
-    ensures ok { OnOk result (out.new.items ≡ out.old.items ++ tables_text world.now recoveries.now jobs.now) }
+    ensures ok { OnOk result (out.new.items ≡ out.old.items
+        ++ tables_text world.now recoveries.now jobs.now) }
     ensures err { OnErr result (out.new.items ≡ out.old.items) }
 {
     let mut lines = Vec::new(*out.allocator());

@@ -27,7 +27,8 @@ fn print_link(
     link: Link,
     out: &mut Vec<u8>,
 ) -> Result<(), Memory>
-    ensures { OnOk result (out.new.items ≡ out.old.items ++ linked_text word.now names.now no link) }
+    ensures { OnOk result (out.new.items ≡ out.old.items
+        ++ linked_text word.now names.now no link) }
 {
     print_at_server(word, names, no, out)?;
     out.extend_from_slice(b" ")?;
@@ -55,7 +56,8 @@ fn print_amount(
     amount: u32,
     out: &mut Vec<u8>,
 ) -> Result<(), Memory>
-    ensures { OnOk result (out.new.items ≡ out.old.items ++ amount_text word.now names.now no amount) }
+    ensures { OnOk result (out.new.items ≡ out.old.items
+        ++ amount_text word.now names.now no amount) }
 {
     print_at_server(word, names, no, out)?;
     print_counted(b" ", u64::from(amount), out)

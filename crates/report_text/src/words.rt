@@ -1,7 +1,8 @@
 //! Names of one value each.
 
 ghost use Rattle.std.specs.Prelude.{◌≡◌};
-ghost use Rattle.report_text.specs.Words.{acked_text, cause_name_text, code_text, kind_text, mode_text, phase_text, rule_text, state_text};
+ghost use Rattle.report_text.specs.Words.{acked_text, cause_name_text, mode_text, phase_text, state_text};
+ghost use Rattle.server_words.specs.OrchBase.Words.{code_text, kind_text, rule_text};
 
 use crate::orch_base::{CauseName, Code, Kind, Rule};
 use commands::{HookPhase, StateWord};

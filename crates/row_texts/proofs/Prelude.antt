@@ -67,8 +67,9 @@ unfoldable pub use Rattle.row_texts.specs.Reading.{read_row, row_in, shape_of, t
 pub use Rattle.row_texts.specs.Tables.{block_at, ending_of, state_of, tail_at}
 unfoldable pub use Rattle.row_texts.specs.Tables.{active_at, candidate_at, downtime_at, first_block, first_tail, instance_at, recovery_at}
 unfoldable pub use Rattle.row_texts.specs.Tables.{second_block, second_tail, source_at, switch_at}
-pub use Rattle.row_texts.specs.Words.{as_printed, as_set, cause_text, causes, io_states, io_text, is_id, is_interval, is_set, is_space, kind_text}
-pub use Rattle.row_texts.specs.Words.{kinds, named_among, outcome_of, outcome_text, rest_of, rule_text, rules, source_text, source_words, word_of}
+pub use Rattle.row_texts.specs.Words.{as_printed, as_set, cause_text, causes, io_states, io_text, is_id, is_interval, is_set, is_space}
+pub use Rattle.kept_rows.specs.OrchBase.Words.{kind_text, rule_text}
+pub use Rattle.row_texts.specs.Words.{kinds, named_among, outcome_of, outcome_text, rest_of, rules, source_text, source_words, word_of}
 unfoldable pub use Rattle.row_texts.specs.Words.{coord_printed, id_printed, name_printed, outcome_printed, set_printed}
 pub use Rattle.row_texts.specs.Written.{block_items, block_version, coord_data, ending_name, instance_items, key_text, maybe_data, moment_data}
 pub use Rattle.row_texts.specs.Written.{name_of, name_text, old_instance_data, recovery_list, row_data, source_name, source_word, whole, wrapped}

@@ -13,7 +13,8 @@ use Rattle.row_texts.specs.declared.word.Source.TheVariants as named
 use Rattle.row_texts.specs.declared.word.SourceWord.{SourceWord}
 use Rattle.row_texts.specs.declared.word.SourceWord.TheVariants as source
 use Rattle.row_texts.specs.Fields.{coord_form, empty_form, end_at, field_at, key_id, key_name, key_word, moment_form, name_form, or_null, outcome_form, server_of, set_form, small_form, whole_form, word_form}
-use Rattle.row_texts.specs.Words.{io_states, io_text, kind_text, kinds, rule_text, rules, source_text, source_words}
+use Rattle.row_texts.specs.Words.{io_states, io_text, kinds, rules, source_text, source_words}
+use Rattle.kept_rows.specs.OrchBase.Words.{kind_text, rule_text}
 
 -- ---- servers by their numbers
 

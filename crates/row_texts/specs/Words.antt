@@ -15,21 +15,8 @@ use Rattle.row_texts.specs.declared.word.SourceWord.TheVariants as source
 
 -- ---- names
 
--- what is recovered
-abbrev pub kind_text : Kind → List ℕ
-kind_text kind.Master = codes "master"
-kind_text kind.Intermediate = codes "intermediate"
-kind_text kind.Takeover = codes "takeover"
-
 abbrev pub kinds : List Kind
 kinds = kind.Master ∷ kind.Intermediate ∷ kind.Takeover ∷ []
-
--- a rule of promotion
-abbrev pub rule_text : Rule → List ℕ
-rule_text rule.Prefer = codes "prefer"
-rule_text rule.Neutral = codes "neutral"
-rule_text rule.PreferNot = codes "prefer_not"
-rule_text rule.MustNot = codes "must_not"
 
 abbrev pub rules : List Rule
 rules = rule.Prefer ∷ rule.Neutral ∷ rule.PreferNot ∷ rule.MustNot ∷ []

@@ -12,7 +12,8 @@ use Rattle.row_texts.specs.declared.word.Outcome.{Outcome}
 use Rattle.row_texts.specs.declared.word.Outcome.TheVariants as outcome
 use Rattle.row_texts.specs.declared.word.SourceWord.{SourceWord}
 use Rattle.row_texts.specs.declared.word.SourceWord.TheVariants as source
-use Rattle.row_texts.specs.Words.{io_text, kind_text, outcome_text, rule_text, source_text}
+use Rattle.row_texts.specs.Words.{io_text, outcome_text, source_text}
+use Rattle.kept_rows.specs.OrchBase.Words.{kind_text, rule_text}
 
 abbrev pub whole : ℕ → Data
 whole n = number (unsigned n)

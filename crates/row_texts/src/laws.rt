@@ -18,7 +18,8 @@ pub fn table_numbers_read()
 pub fn texts_of_rows_read()
     ensures { (names : List HostPort) (r : Row) (text : List ℕ) →
         AreNames names → CanBeKept names r →
-        (read_row (table_of r) names (key_text names (key_of r)) text ≡ Ok r) ↔ IsTextOf names r text }
+        (read_row (table_of r) names (key_text names (key_of r)) text ≡ Ok r)
+        ↔ IsTextOf names r text }
 {
     printed_reads();
 }

@@ -1,18 +1,17 @@
 -- What a turn begins is about whom it was asked for.
-use Rattle.std.proofs.Common.{◌≡◌, ℕ, ◌+◌, List, [], ◌∷◌, refl, subst, false, Option, Some, None, Result, Ok, Err}
+use Rattle.std.proofs.Common.{◌≡◌, ℕ, ◌+◌, List, [], ◌∷◌, refl, subst, false, Option, Some, None, sym}
 use Rattle.std.specs.Prelude.{All, Contains}
-use Rattle.run_laws.proofs.Prelude.{Act, All-cons, All-contains_itself, All-head, All-map, All-nil, All-push, All-tail, All-weaker, Asks, Attempt}
-use Rattle.run_laws.proofs.Prelude.{AuditState, Begins as RecoveryBegins, BookState, Command, Configuration, Decides, Discovers, Entry, Forgets}
-use Rattle.run_laws.proofs.Prelude.{IsAbout, IsAimed, IsAskedBy, IsAskedIn, IsAskedOf, IsFor, Kind, Moment, Purpose, Recovers, Refusal, Route}
-use Rattle.run_laws.proofs.Prelude.{ServerNo, Staged, State, TakesOver, Turn, World, act_in, actionable_in, after_try, attempt_in, by_hand}
-use Rattle.run_laws.proofs.Prelude.{from_start, is_takeover, kind_by, numbers_of, purpose_by, recoveries_begun, recoveries_by, recoveries_done}
-use Rattle.run_laws.proofs.Prelude.{recoveries_in_act, recoveries_of, recovery_begins, recovery_refusal, recovery_try, route_of, scan_in, scan_step}
-use Rattle.run_laws.proofs.Prelude.{scanned, scanned_over, source_of, staged_refusal, takeover_begins, takeover_refusal, takeover_try, takeovers_by}
-use Rattle.run_laws.proofs.Prelude.{takeovers_of, told_try, tried, unless_refused, unrefused, with_told}
-use Rattle.run_laws.proofs.Prelude.route.{Begins}
+use Rattle.run_laws.proofs.Prelude.{Act, All-cons, All-contains_itself, All-head, All-map, All-nil, All-push, All-tail, All-weaker, Attempt}
+use Rattle.run_laws.proofs.Prelude.{AuditState, Begins as RecoveryBegins, BookState, Command, Configuration, Entry, IsAbout, IsAimed, IsAskedBy}
+use Rattle.run_laws.proofs.Prelude.{IsAskedFor, IsAskedIn, IsAskedOf, IsFor, Kind, Moment, Purpose, Refusal, Route, ServerNo, Staged, State, Turn}
+use Rattle.run_laws.proofs.Prelude.{World, act_in, actionable_in, after_try, attempt_in, from_start, is_takeover, kind_by, label_at, period_by}
+use Rattle.run_laws.proofs.Prelude.{purpose_by, recoveries_begun, recoveries_done, recoveries_in_act, recovery_begins, route_of, scan_in, scan_step}
+use Rattle.run_laws.proofs.Prelude.{scanned, scanned_over, source_of, staged_refusal, takeover_begins, unless_refused, with_told}
 use Rattle.run_laws.proofs.Prelude.act
 use Rattle.run_laws.proofs.Prelude.purpose
 use Rattle.run_laws.proofs.Prelude.turn
+use Rattle.run_laws.proofs.Prelude.comes
+use Rattle.run_laws.proofs.Logged.{command-begins}
 
 -- ---- by a scan
 
@@ -59,54 +58,17 @@ module _ (k : Configuration) (b : BookState) where
   with-told-about : (x : RecoveryBegins) → IsAbout b x → IsAbout b (with_told k b x)
   with-told-about x about = record { failed = about.failed; cluster = about.cluster; purpose = about.purpose }
 
-  with-told-asked : (c : Command) (r : Route) (x : RecoveryBegins) → IsAskedBy c r x → IsAskedBy c r (with_told k b x)
-  with-told-asked c Recovers x asked = asked
-  with-told-asked c TakesOver x asked = asked
-  with-told-asked c _ x asked = absurd asked
-
 -- ---- by a command
 
-module _ (s : State) (c : Command) where
-  abbrev Aimed : Route → RecoveryBegins → Type 0
-  Aimed r x = IsAskedBy c r x × IsAbout s.book x
-
-  abbrev attempt : ServerNo → Attempt
-  attempt i = by_hand s.book s.configuration (numbers_of s) i
-
-  by-try : (r : Route) (x : Result RecoveryBegins Refusal) → ((y : RecoveryBegins) → x ≡ Ok y → Aimed r y) → All (Aimed r) (tried (told_try s.configuration s.book x))
-  by-try r (Ok y) each = All-cons (Aimed r) (with_told s.configuration s.book y) [] (with-told-asked s.configuration s.book c r y (each y refl).0, with-told-about s.configuration s.book y (each y refl).1) (All-nil (Aimed r))
-  by-try r (Err why) each = All-nil (Aimed r)
-
-  by-recovery : (i : Option ServerNo) → c.i ≡ i → All (Aimed Recovers) (recoveries_of s i)
-  by-recovery None at = All-nil (Aimed Recovers)
-  by-recovery (Some i) at =
-      by-try Recovers (recovery_try s.world s.book s.audit (attempt i) s.configuration.wait (s.last_job + 1) i)
-      (λ y is.
-      subst (Aimed Recovers)
-      (unrefused (recovery_refusal s.world s.book s.audit (attempt i) i) (recovery_begins s.book s.audit (attempt i).now (attempt i).block s.configuration.wait (s.last_job + 1) i) y is).1
-      ((at, no-takeover (source_of s.book i)), recovery-about s.book s.audit (attempt i).now (attempt i).block s.configuration.wait (s.last_job + 1) i))
-
-  by-taken : (i : ServerNo) → c.i ≡ Some i → (d : Option ServerNo) → c.d ≡ d → All (Aimed TakesOver) (takeovers_by s i d)
-  by-taken i at None to = All-nil (Aimed TakesOver)
-  by-taken i at (Some d) to =
-      by-try TakesOver (takeover_try s.world s.book s.audit (attempt i) s.configuration.wait (s.last_job + 1) i d)
-      (λ y is.
-      subst (Aimed TakesOver)
-      (unrefused (takeover_refusal s.world s.book s.audit (attempt i) i d) (takeover_begins s.book s.audit (attempt i).now (attempt i).block s.configuration.wait (s.last_job + 1) i d) y is).1
-      ((at, (d, to, refl)), takeover-about s.book s.audit (attempt i).now (attempt i).block s.configuration.wait (s.last_job + 1) i d))
-
-  by-takeover : (i : Option ServerNo) → c.i ≡ i → All (Aimed TakesOver) (takeovers_of s i c.d)
-  by-takeover None at = All-nil (Aimed TakesOver)
-  by-takeover (Some i) at = by-taken i at c.d refl
-
-  by-route : (r : Route) → All (Aimed r) (recoveries_by s c r)
-  by-route Discovers = All-nil (Aimed Discovers)
-  by-route Forgets = All-nil (Aimed Forgets)
-  by-route (Asks question) = All-nil (Aimed (Asks question))
-  by-route (Decides decision) = All-nil (Aimed (Decides decision))
-  by-route (Begins p) = All-nil (Aimed (Begins p))
-  by-route Recovers = by-recovery c.i refl
-  by-route TakesOver = by-takeover c.i refl
+asked-aimed : (s : State) (c : Command) (x : RecoveryBegins) → IsAskedFor s c x → IsAskedBy c (route_of c.name) (with_told s.configuration s.book x) × IsAbout s.book (with_told s.configuration s.book x)
+asked-aimed s c x (comes.Fails i route at free) = (
+  subst (λ (r : Route). IsAskedBy c r (with_told s.configuration s.book x)) (sym route) (at, no-takeover (source_of s.book i)),
+  with-told-about s.configuration s.book _ (recovery-about s.book s.audit (record { 0 = s.moment }) (period_by s.configuration (label_at s.book i)) s.configuration.wait (s.last_job + 1) i),
+)
+asked-aimed s c x (comes.Passes i d route at there free) = (
+  subst (λ (r : Route). IsAskedBy c r (with_told s.configuration s.book x)) (sym route) (at, (d, there, refl)),
+  with-told-about s.configuration s.book _ (takeover-about s.book s.audit (record { 0 = s.moment }) (period_by s.configuration (label_at s.book i)) s.configuration.wait (s.last_job + 1) i d),
+)
 
 -- ---- by a turn
 
@@ -135,12 +97,11 @@ scan-aimed s =
     along leases x is = record { failed = is.failed; cluster = is.cluster; purpose = for leases x.job.failed x.entry.kind x.job.purpose is.purpose }
 
 act-aimed : (s : State) (a : Act) → All (AimedIn s a) (recoveries_in_act s a)
-act-aimed s (act.PollRead p n) = All-nil (AimedIn s (act.PollRead p n))
-act-aimed s (act.PollStore p) = All-nil (AimedIn s (act.PollStore p))
-act-aimed s (act.Command c) = by-route s c.command (route_of c.command.name)
-act-aimed s (act.Job job) = All-nil (AimedIn s (act.Job job))
+act-aimed s (act.Command c) =
+    let P = AimedIn s (act.Command c) in
+    command-begins s c (All P) (All-nil P) (λ x asked. All-cons P (with_told s.configuration s.book x) [] (asked-aimed s c.command x asked) (All-nil P))
 act-aimed s act.Scan = scan-aimed s
-act-aimed s act.Restart = All-nil (AimedIn s act.Restart)
+act-aimed s a = All-nil (AimedIn s a)
 
 abbrev AimedOf : State → Option Act → RecoveryBegins → Type 0
 AimedOf s o x = IsAskedOf s o x × IsAbout s.book x
@@ -150,8 +111,6 @@ done-aimed s None = All-nil (AimedOf s None)
 done-aimed s (Some a) = act-aimed s a
 
 pub turn-aimed : (s : State) (t : Turn) → All (IsAimed s t) (recoveries_begun s t)
-turn-aimed s (turn.Step x) = All-nil (IsAimed s (turn.Step x))
-turn-aimed s (turn.Tick seconds) = All-nil (IsAimed s (turn.Tick seconds))
 turn-aimed s (turn.Act a) = All-weaker (AimedIn s a) (IsAimed s (turn.Act a)) (λ x is. record { asked = is.0; about = is.1 }) (recoveries_in_act s a) (act-aimed s a)
 turn-aimed s (turn.As node a) =
     let o = act_in s (turn.As node a) in
@@ -159,4 +118,4 @@ turn-aimed s (turn.As node a) =
 turn-aimed s (turn.Claim node) =
     let o = act_in s (turn.Claim node) in
     All-weaker (AimedOf s o) (IsAimed s (turn.Claim node)) (λ x is. record { asked = is.0; about = is.1 }) (recoveries_done s o) (done-aimed s o)
-turn-aimed s (turn.Release node) = All-nil (IsAimed s (turn.Release node))
+turn-aimed s t = All-nil (IsAimed s t)

@@ -1,29 +1,22 @@
 -- Kept rows follow the audit of a run.
-use Rattle.std.proofs.Common.{◌≡◌, ◌∙◌, ℕ, ◌+◌, ◌<◌, ◌≤◌, ◌^◌, Bool, true, false, List, [], ◌∷◌, ◌++◌, length, refl, sym, ap, subst, Option, Some, None, Result, Ok, Err, arith}
+use Rattle.std.proofs.Common.{◌≡◌, ◌∙◌, ℕ, ◌+◌, ◌<◌, ◌≤◌, ◌^◌, Bool, true, false, List, [], ◌∷◌, ◌++◌, length, refl, sym, ap, subst, Option, Some, None, arith}
 use Rattle.std.specs.Prelude.{All, IfSome, fold, nat_lt, if◌then◌else◌}
-use Rattle.run_laws.proofs.Prelude.{Act, All-at, All-cons, All-head, All-nil, All-tail, Asks, AuditState, BeginApartInTurn, Begins as RecoveryBegins}
-use Rattle.run_laws.proofs.Prelude.{BookState, Change, CommandTurn, Decided, Decides, Discovers, Effect, Follow, FollowAudit}
-use Rattle.run_laws.proofs.Prelude.{FollowAudit-acknowledged, FollowAudit-book, FollowAudit-closed, FollowAudit-loaded, FollowAudit-opened, Forgets}
-use Rattle.run_laws.proofs.Prelude.{Held, Instance, IsAct, IsAudited, IsBook, IsCommand, IsEffectFor, IsInRange, IsRising, IsScenario, IsSlot}
-use Rattle.run_laws.proofs.Prelude.{IsState, IsTurn, Knowledge, Line, Moment, Observation, Outcome, Planner, Ready, Recovers, Refusal, Route, Row}
-use Rattle.run_laws.proofs.Prelude.{Scenario, ServerNo, State, Status as Seen, TakesOver, Turn, Unended, UnknownInstance, about as given_or, act-fits}
-use Rattle.run_laws.proofs.Prelude.{act_changes, act_in, after_act, after_done, all-missing, all-registering, allowed, are_known, asked, audit_after}
-use Rattle.run_laws.proofs.Prelude.{audit_of, begun as begun_with, blocks_given, by_hand, changed, changed_by, changes_by, changes_of, claim_changes}
-use Rattle.run_laws.proofs.Prelude.{closed, closed_by, closing_changes, closing_of, command_outcome, counted, decided, decided-effect, decided_of}
-use Rattle.run_laws.proofs.Prelude.{discovered, discovery_change, done_changes, engine, entries_of, entries_put, first_seen, fits, fold-append}
-use Rattle.run_laws.proofs.Prelude.{forgotten, held_run, held_step, instance_at, interrupted_at, interrupting, is_within, job_at, job_by}
-use Rattle.run_laws.proofs.Prelude.{job_observation, known_of, label_at, last_given, leases_by, left-alone, lines_of, loaded_audit, loaded_book}
-use Rattle.run_laws.proofs.Prelude.{longest_block, ltb-true, missing_from, moment_at, next_count, next_reading, numbers_of, observed}
-use Rattle.run_laws.proofs.Prelude.{observed_servers, one_known, option_map, option_to_list, outcome_by, outcome_of, period_by, period_of, permitted}
-use Rattle.run_laws.proofs.Prelude.{put_recovery, question, recovered, recoveries_begun, recovery_at, recovery_begins, recovery_begun}
-use Rattle.run_laws.proofs.Prelude.{recovery_refusal, refusal, refusal_by, registering_from, release_changes, reloaded_audit, reloaded_rows, removal}
-use Rattle.run_laws.proofs.Prelude.{removal_refusal, renewed, restart_changes, route_of, row_after, row_at, row_in, row_in-changed, rows_of}
-use Rattle.run_laws.proofs.Prelude.{same_instance, seen_servers, servers-start, short-in, slot_at, sort_key, sources-start, start, start_changes}
-use Rattle.run_laws.proofs.Prelude.{start_moment, start_rows, start_world, step, store_change, taken_over, takeover_begins, takeover_refusal}
-use Rattle.run_laws.proofs.Prelude.{told_try, turn_of, turned_at, unless_refused, updated}
-use Rattle.run_laws.proofs.Prelude.Outcomes.{begun}
+use Rattle.run_laws.proofs.Prelude.{Act, All-at, All-cons, All-head, All-nil, All-tail, AuditState, BeginApartInTurn, Begins as RecoveryBegins}
+use Rattle.run_laws.proofs.Prelude.{BookState, Change, Comes, CommandTurn, Effect, Follow, FollowAudit, FollowAudit-acknowledged, FollowAudit-book}
+use Rattle.run_laws.proofs.Prelude.{FollowAudit-closed, FollowAudit-loaded, FollowAudit-opened, Held, Instance, IsAct, IsAudited, IsBook, IsCommand}
+use Rattle.run_laws.proofs.Prelude.{IsEffectFor, IsInRange, IsRising, IsScenario, IsSlot, IsState, IsTurn, Moment, Observation, Outcome, Ready, Row}
+use Rattle.run_laws.proofs.Prelude.{Scenario, ServerNo, State, Status as Seen, Turn, Unended, act-fits, act_changes, act_in, after_act, after_done}
+use Rattle.run_laws.proofs.Prelude.{all-missing, all-registering, are_known, asked, asked-next, asked-short, audit_after, audit_of}
+use Rattle.run_laws.proofs.Prelude.{begun as begun_with, blocks_given, changed, changed_by, changes_by, changes_of, claim_changes, closed, closed_by}
+use Rattle.run_laws.proofs.Prelude.{closing_changes, closing_of, command-comes, command_outcome, counted, decided_of, discovery_change, done_changes}
+use Rattle.run_laws.proofs.Prelude.{engine, entries_of, entries_put, first_seen, fits, fold-append, held_run, held_step, instance_at, interrupted_at}
+use Rattle.run_laws.proofs.Prelude.{interrupting, job_at, job_observation, known_of, last_given, left-alone, loaded_audit, loaded_book, longest_block}
+use Rattle.run_laws.proofs.Prelude.{missing_from, moment_at, next_count, observed, observed_servers, one_known, option_map, option_to_list, period_by}
+use Rattle.run_laws.proofs.Prelude.{period_of, put_recovery, reading, recoveries_begun, recovery_at, registering_from, release_changes}
+use Rattle.run_laws.proofs.Prelude.{reloaded_audit, reloaded_rows, removal, renewed, restart_changes, row_after, row_at, row_in, row_in-changed}
+use Rattle.run_laws.proofs.Prelude.{rows_of, same_instance, seen_servers, servers-start, short-in, slot_at, sort_key, sources-start, start}
+use Rattle.run_laws.proofs.Prelude.{start_changes, start_moment, start_rows, start_world, step, store_change, turn_of, turned_at, updated}
 use Rattle.run_laws.proofs.Prelude.Decisions.{audit_after as audit_decided}
-use Rattle.run_laws.proofs.Prelude.route.{Begins}
 use Rattle.run_laws.proofs.Prelude.act
 use Rattle.run_laws.proofs.Prelude.change
 use Rattle.run_laws.proofs.Prelude.effect
@@ -31,16 +24,17 @@ use Rattle.run_laws.proofs.Prelude.kept_row as row
 use Rattle.run_laws.proofs.Prelude.key
 use Rattle.run_laws.proofs.Prelude.table
 use Rattle.run_laws.proofs.Prelude.turn
-use Rattle.run_laws.proofs.Readiness.{job-sees}
+use Rattle.run_laws.proofs.Prelude.comes
+use Rattle.run_laws.proofs.Readiness.{job-sees, Ready-start, Ready-step}
 use Rattle.run_laws.proofs.Ready.{observed-known, put-kept, settings-count}
-use Rattle.run_laws.proofs.Readiness.{Ready-start, Ready-step}
 use Rattle.run_laws.proofs.Periods.{short-by}
 use Rattle.run_laws.proofs.Beginnings.{next-after, turn-apart, turn-short}
 use Rattle.run_laws.proofs.Closings.{follow-end, turned-ends}
 use Rattle.run_laws.proofs.Counting.{next-goes-on}
 use Rattle.run_laws.proofs.Entering.{follow-entry}
-use Rattle.run_laws.proofs.Follows.{Follow-start, Follow-turn, ready-of, reading-known, within-given}
+use Rattle.run_laws.proofs.Follows.{Follow-start, Follow-turn, ready-of}
 use Rattle.run_laws.proofs.ClaimRows.{FollowAudit-claims, claim-changes-are, release-changes-are}
+use Rattle.run_laws.proofs.ReadyOutcomes.{decided-fits, given-in, reads-known, short-periods}
 
 -- ---- changes of the book's rows
 
@@ -72,6 +66,12 @@ module _ (b : BookState) (o : Observation) (is : IsBook b) (known : are_known (l
   discovery-booked seen at None lacks =
       one-booked (length b.names) (change.Put (row.Instance (first_seen o seen))) (subst (λ (x : Option Seen). are_known (length b.names) (o.no.0 ∷ seen_servers x) ≡ true) at known, tt)
   discovery-booked seen at (Some kept) there = stored-booked (Some kept) there
+
+-- a command's reading of a server
+pub found-booked : (count : ℕ) (s : State) (c : CommandTurn) → Ready count s → IsCommand count c → (i : ServerNo) (seen : Seen) → c.command.i ≡ Some i → (reading s i).seen ≡ Some seen
+    → All (IsBooked (length s.book.names)) (option_to_list (discovery_change (instance_at s.book i) (reading s i) seen))
+found-booked count s c ready command i seen at there =
+    discovery-booked s.book (reading s i) ready.book (reads-known count s ready i (given-in count s ready c command i at)) seen there (instance_at s.book i) refl
 
 pub slot-booked : (b : BookState) (slot : Option Observation) → IsBook b → IfSome slot (λ o. are_known (length b.names) (observed_servers o) ≡ true) → All (IsBooked (length b.names)) (changes_by b slot)
 slot-booked b None is known = All-nil (IsBooked (length b.names))
@@ -105,106 +105,29 @@ follow-begins count now rows a (x ∷ xs) each short most follow =
 
 -- ---- a command
 
--- the kept rows follow the audit that an outcome leaves
-abbrev FollowsOutcome : ℕ → List Row → Knowledge → Outcome → Type 0
-FollowsOutcome count rows k o = FollowAudit count (changed rows o.rows) (updated k o.book).audit
-
-module _ (count : ℕ) (few : count < 2 ^ 32) (rows : List Row) (k : Knowledge) (reads : ℕ) (is : IsBook k.book) (names : length k.book.names ≡ count) (follow : FollowAudit count rows k.audit) where
-  abbrev a : AuditState
-  a = k.audit
-
-  abbrev b : BookState
-  b = k.book
-
-  follow-all : (cs : List Change) → All (IsBooked (length b.names)) cs → FollowAudit count (changed rows cs) a
-  follow-all cs all = booked-follow count rows a cs (omega (arith, few)) (subst (λ (n : ℕ). All (IsBooked n) cs) names all) follow
-
-  follow-asked : (p : Result Unit Refusal) (lines : List Line) → FollowsOutcome count rows k (asked reads p lines)
-  follow-asked (Ok permit) lines = follow
-  follow-asked (Err r) lines = follow
-
-  follow-forgotten : (p : Result Unit Refusal) (i : ServerNo) → nat_lt i.0 (length b.names) ≡ true → FollowsOutcome count rows k (forgotten reads p i)
-  follow-forgotten (Ok permit) i known =
-      let within = ltb-true i.0 (length b.names) known in
-      follow-all (removal i ∷ []) (one-booked (length b.names) (removal i) (one_known (length b.names) i.0 within, omega (arith, within, few, names)))
-  follow-forgotten (Err r) i known = follow
-
-  follow-discovered : (o : Observation) → are_known (length b.names) (observed_servers o) ≡ true → (x : Option Seen) → o.seen ≡ x → FollowsOutcome count rows k (discovered b reads o x)
-  follow-discovered o known None at = follow
-  follow-discovered o known (Some seen) at = follow-all (option_to_list (discovery_change (instance_at b o.no) o seen)) (discovery-booked b o is known seen at (instance_at b o.no) refl)
-
-  follow-effect : (e : Effect) → IsEffectFor (length b.names) e → FollowAudit count (changed rows (rows_of a e)) (audit_decided a e)
-  follow-effect effect.Stays fits = follow
-  follow-effect (effect.Change c) fits = follow-all (c ∷ []) (one-booked (length b.names) c fits)
-  follow-effect (effect.Acks cluster) fits = FollowAudit-acknowledged count rows a cluster follow
-
-  follow-decided : (p : Result Unit Refusal) (d : Decided) → IsEffectFor (length b.names) d.effect → FollowsOutcome count rows k (decided reads a p d)
-  follow-decided (Ok permit) d fits = follow-effect d.effect fits
-  follow-decided (Err r) d fits = follow
-
-  -- a recovery that begins, if nothing refuses it
-  follow-try : (s : State) (o : Option Refusal) (x : RecoveryBegins) → x.entry.id ≡ a.next → x.entry.block ≤ longest_block → (updated k (recovery_begun (numbers_of s) (told_try s.configuration s.book (unless_refused o x))).book).audit.next ≤ 2 ^ 64
-      → FollowsOutcome count rows k (recovery_begun (numbers_of s) (told_try s.configuration s.book (unless_refused o x)))
-  follow-try s None x next short most = follow-entry count rows a x.entry next short follow most
-  follow-try s (Some why) x next short most = follow
+pub removal-booked : (b : BookState) → IsBook b → (i : ServerNo) → i.0 < length b.names → All (IsBooked (length b.names)) (removal i ∷ [])
+removal-booked b is i within = let small = is.small in one-booked (length b.names) (removal i) (one_known (length b.names) i.0 within, omega (arith, within, small))
 
 follow-command : (rows : List Row) (count : ℕ) (s : State) (c : CommandTurn) → Ready count s → (updated (known_of s) (command_outcome s c).book).audit.next ≤ 2 ^ 64 → IsCommand count c → FollowAudit count rows s.audit
     → FollowAudit count (changed rows (command_outcome s c).rows) (updated (known_of s) (command_outcome s c).book).audit
-unfolding outcome_of
-follow-command rows count s c ready most command follow = by (route_of c.command.name) most
+follow-command rows count s c ready most command follow = by (command_outcome s c) (command-comes s c) most
   where
-    few : count < 2 ^ 32
-    few = subst (λ (n : ℕ). n < 2 ^ 32) ready.names ready.book.small
+    all : (cs : List Change) → All (IsBooked (length s.book.names)) cs → FollowAudit count (changed rows cs) s.audit
+    all cs booked =
+        let few : count < 2 ^ 32 = subst (λ (n : ℕ). n < 2 ^ 32) ready.names ready.book.small in
+        booked-follow count rows s.audit cs (omega (arith, few)) (subst (λ (n : ℕ). All (IsBooked n) cs) ready.names booked) follow
 
-    short : (i : ServerNo) → period_by s.configuration (label_at s.book i) ≤ longest_block
-    short i = short-by s.configuration ready.periods (label_at s.book i)
+    effect-follows : (e : Effect) → IsEffectFor (length s.book.names) e → FollowAudit count (changed rows (rows_of s.audit e)) (audit_decided s.audit e)
+    effect-follows effect.Stays fits = follow
+    effect-follows (effect.Change x) fits = all (x ∷ []) (one-booked (length s.book.names) x fits)
+    effect-follows (effect.Acks cluster) fits = FollowAudit-acknowledged count rows s.audit cluster follow
 
-    asks : FollowsOutcome count rows (known_of s) (question s.book s.audit s.reads c)
-    asks = follow-asked count few rows (known_of s) s.reads ready.book ready.names follow (permitted s.book c.command) (lines_of s.book s.audit.recoveries c c.command.name)
-
-    given : (some : ServerNo → Outcome) → ((i : ServerNo) → nat_lt i.0 (length s.book.names) ≡ true → FollowsOutcome count rows (known_of s) (some i)) → (i : Option ServerNo) → is_within (length s.book.names) i ≡ true
-        → FollowsOutcome count rows (known_of s) (given_or (question s.book s.audit s.reads c) some i)
-    given some each None within = asks
-    given some each (Some i) within = each i within
-
-    begins : (p : Planner) (r : Option Refusal) → FollowsOutcome count rows (known_of s) (begun (numbers_of s) r (leases_by s.world s.book c.command p) (job_by s.world s.book c.command p (s.last_job + 1) s.configuration.wait s.configuration.every))
-    begins p (Some why) = follow
-    begins p None = follow
-
-    recovers : (i : Option ServerNo) → (updated (known_of s) (given_or (refusal s.reads UnknownInstance) (recovered s.world s.book s.audit s.configuration (numbers_of s)) i).book).audit.next ≤ 2 ^ 64
-        → FollowsOutcome count rows (known_of s) (given_or (refusal s.reads UnknownInstance) (recovered s.world s.book s.audit s.configuration (numbers_of s)) i)
-    recovers None most = follow
-    recovers (Some i) most =
-        follow-try count few rows (known_of s) s.reads ready.book ready.names follow s (recovery_refusal s.world s.book s.audit (by_hand s.book s.configuration (numbers_of s) i) i)
-        (recovery_begins s.book s.audit (moment_at s) (period_by s.configuration (label_at s.book i)) s.configuration.wait (s.last_job + 1) i) refl (short i) most
-
-    takes : (i : ServerNo) (d : Option ServerNo) → (updated (known_of s) (taken_over s.world s.book s.audit s.configuration (numbers_of s) d i).book).audit.next ≤ 2 ^ 64
-        → FollowsOutcome count rows (known_of s) (taken_over s.world s.book s.audit s.configuration (numbers_of s) d i)
-    takes i None most = follow
-    takes i (Some d) most =
-        follow-try count few rows (known_of s) s.reads ready.book ready.names follow s (takeover_refusal s.world s.book s.audit (by_hand s.book s.configuration (numbers_of s) i) i d)
-        (takeover_begins s.book s.audit (moment_at s) (period_by s.configuration (label_at s.book i)) s.configuration.wait (s.last_job + 1) i d) refl (short i) most
-
-    takes-over : (i d : Option ServerNo) → (updated (known_of s) (given_or (refusal s.reads UnknownInstance) (taken_over s.world s.book s.audit s.configuration (numbers_of s) d) i).book).audit.next ≤ 2 ^ 64
-        → FollowsOutcome count rows (known_of s) (given_or (refusal s.reads UnknownInstance) (taken_over s.world s.book s.audit s.configuration (numbers_of s) d) i)
-    takes-over None d most = follow
-    takes-over (Some i) d most = takes i d most
-
-    by : (r : Route) → (updated (known_of s) (outcome_by s.world s.book s.audit s.configuration (numbers_of s) c r).book).audit.next ≤ 2 ^ 64 → FollowsOutcome count rows (known_of s) (outcome_by s.world s.book s.audit s.configuration (numbers_of s) c r)
-    by Discovers most =
-        given (λ i. discovered s.book s.reads (next_reading s.world (numbers_of s) i) (next_reading s.world (numbers_of s) i).seen)
-        (λ i h. follow-discovered count few rows (known_of s) s.reads ready.book ready.names follow (next_reading s.world (numbers_of s) i) (reading-known count s i ready (ltb-true i.0 (length s.book.names) h)) (next_reading s.world (numbers_of s) i).seen refl)
-        c.command.i (within-given count s c ready command)
-    by Forgets most =
-        given (forgotten s.reads (allowed (removal_refusal s.book c.command))) (follow-forgotten count few rows (known_of s) s.reads ready.book ready.names follow (allowed (removal_refusal s.book c.command)))
-        c.command.i (within-given count s c ready command)
-    by (Asks q) most = asks
-    by (Decides d) most =
-        follow-decided count few rows (known_of s) s.reads ready.book ready.names follow (permitted s.book c.command) (decided_of s.book s.audit (moment_at s) c.keys c.command.i d)
-        (decided-effect s.book (length s.book.names) ready.book.small s.audit (moment_at s) c.keys c.command.i d (within-given count s c ready command))
-    by (Begins p) most = begins p (refusal_by s.world s.book (moment_at s) s.configuration.every c.command p)
-    by Recovers most = recovers c.command.i most
-    by TakesOver most = takes-over c.command.i c.command.d most
+    by : (o : Outcome) → Comes s c o → (updated (known_of s) o.book).audit.next ≤ 2 ^ 64 → FollowAudit count (changed rows o.rows) (updated (known_of s) o.book).audit
+    by o (comes.Discovered i seen at there) most = all (option_to_list (discovery_change (instance_at s.book i) (reading s i) seen)) (found-booked count s c ready command i seen at there)
+    by o (comes.Forgotten i at) most = all (removal i ∷ []) (removal-booked s.book ready.book i (given-in count s ready c command i at))
+    by o (comes.Decided d at may) most = effect-follows (decided_of s.book s.audit (moment_at s) c.keys c.command.i d).effect (decided-fits count s ready c command d)
+    by o (comes.Recovered x asked) most = follow-entry count rows s.audit x.entry (asked-next s c.command x asked) (asked-short s c.command (short-periods count s ready) x asked) follow most
+    by o _ most = follow
 
 -- ---- every turn
 

@@ -1,30 +1,23 @@
 -- Through runs the row at the claim's key is the kept claim's.
-use Rattle.std.proofs.Common.{◌≡◌, ◌∙◌, ℕ, ◌+◌, ◌<◌, ◌≤◌, ◌^◌, inl, inr, Bool, true, false, List, [], ◌∷◌, ◌++◌, length, map, Option, Some, None, Result, Ok, Err, refl, sym, ap, subst, arith, zero, suc}
-use Rattle.std.specs.Prelude.{All, AllPairs, IfSome, nat_lt, ◌==◌, filter, fold, if◌then◌else◌}
-use Rattle.run_laws.proofs.Prelude.{Act, All-append, All-at, All-cons, All-filter, All-head, All-map, All-nil, All-tail, All-weaker, AreShort, Asks}
-use Rattle.run_laws.proofs.Prelude.{AuditState, Begins as RecoveryBegins, BookState, Change, ClaimAnswer, ClaimState, CommandTurn, Decided, Decides}
-use Rattle.run_laws.proofs.Prelude.{Discovers, Effect, Ending, Forgets, Held, IsAct, IsAudit, IsBook, IsClaimRow, IsCommand, IsEffectFor, IsInRange}
-use Rattle.run_laws.proofs.Prelude.{IsKeyInRange, IsRising, IsScenario, IsSlot, IsTurn, Key, Knowledge, Line, Moment, Observation, Outcome, Planner}
-use Rattle.run_laws.proofs.Prelude.{PutsRecovery, Ready, Recovers, Recovery, Refusal, Route, Row, RunClaimsAreFollowed, Scenario, ServerNo, State}
-use Rattle.run_laws.proofs.Prelude.{Status as Seen, Table, TakesOver, Turn, UnknownInstance, about as given_or, acking, acking-small, act-fits}
-use Rattle.run_laws.proofs.Prelude.{act_changes, act_in, after_act, after_done, all-missing, all-registering, allowed, are_known, as_row, asked}
-use Rattle.run_laws.proofs.Prelude.{audit-loaded, blocks_given, both_true, by_hand, changed, changes_by, changes_of, claim_by_row, claim_changes}
-use Rattle.run_laws.proofs.Prelude.{claim_changes_by, claim_key, claim_or, claim_row, closing, closing-small, closing_changes, closing_of}
-use Rattle.run_laws.proofs.Prelude.{command_outcome, counts, decided, decided-effect, decided_of, discovered, discovery_change, done_changes, engine}
-use Rattle.run_laws.proofs.Prelude.{entries_of, entries_put, eq-eqb, false≢true, fits, fold-append, forgotten, greatest_id, head_known, held_run}
-use Rattle.run_laws.proofs.Prelude.{held_step, instance_at, interrupted_at, is_eq, is_kept_so, is_of_book, is_within, job_at, job_by, job_observation}
-use Rattle.run_laws.proofs.Prelude.{key_number, key_servers, known_of, last_given, last_id-within, leases_by, length-map, lines_of, loaded_audit}
-use Rattle.run_laws.proofs.Prelude.{loaded_book, ltb-true, map_of-risen, missing_from, moment_at, next_reading, numbers_of, observed_servers}
-use Rattle.run_laws.proofs.Prelude.{one_known, opened-is, option_map, option_to_list, outcome_by, outcome_of, pairs_head, pairs_tail, period_by}
-use Rattle.run_laws.proofs.Prelude.{period_of, permitted, put_recovery, puts-loaded, question, recovered, recoveries_begun, recovery_at}
-use Rattle.run_laws.proofs.Prelude.{recovery_begun, recovery_try, refusal, refusal_by, registering_from, release_changes, release_changes_by}
-use Rattle.run_laws.proofs.Prelude.{reloaded_audit, reloaded_rows, removal, removal_refusal, restart_changes, route_of, row_after, row_fits, row_in}
+use Rattle.std.proofs.Common.{◌≡◌, ◌∙◌, ℕ, ◌+◌, ◌<◌, ◌≤◌, ◌^◌, inl, inr, Bool, true, false, List, [], ◌∷◌, ◌++◌, length, map, Option, Some, None, refl, sym, ap, subst, arith, zero, suc}
+use Rattle.std.specs.Prelude.{All, AllPairs, IfSome, ◌==◌, filter, fold, if◌then◌else◌}
+use Rattle.run_laws.proofs.Prelude.{Act, All-append, All-at, All-cons, All-filter, All-head, All-map, All-nil, All-tail, All-weaker, AreShort}
+use Rattle.run_laws.proofs.Prelude.{AuditState, Begins as RecoveryBegins, Change, ClaimAnswer, ClaimState, Comes, CommandTurn, Effect, Ending, Held}
+use Rattle.run_laws.proofs.Prelude.{IsAct, IsAudit, IsBook, IsClaimRow, IsCommand, IsEffectFor, IsInRange, IsKeyInRange, IsRising, IsScenario, IsSlot}
+use Rattle.run_laws.proofs.Prelude.{IsTurn, Key, Moment, Outcome, PutsRecovery, Ready, Recovery, Row, RunClaimsAreFollowed, Scenario, State, Table}
+use Rattle.run_laws.proofs.Prelude.{Turn, acking, acking-small, act-fits, act_changes, act_in, after_act, after_done, all-missing, all-registering}
+use Rattle.run_laws.proofs.Prelude.{are_known, as_row, asked, audit-loaded, blocks_given, both_true, changed, changes_by, changes_of, claim_by_row}
+use Rattle.run_laws.proofs.Prelude.{claim_changes, claim_changes_by, claim_key, claim_or, claim_row, closing, closing-small, closing_changes}
+use Rattle.run_laws.proofs.Prelude.{closing_of, command-comes, command_outcome, counts, decided_of, discovery_change, done_changes, engine}
+use Rattle.run_laws.proofs.Prelude.{entries_of, entries_put, eq-eqb, false≢true, fits, fold-append, greatest_id, head_known, held_run, held_step}
+use Rattle.run_laws.proofs.Prelude.{instance_at, interrupted_at, is_eq, is_kept_so, is_of_book, job_at, job_observation, key_number, key_servers}
+use Rattle.run_laws.proofs.Prelude.{known_of, last_given, last_id-within, length-map, loaded_audit, loaded_book, map_of-risen, missing_from}
+use Rattle.run_laws.proofs.Prelude.{moment_at, observed_servers, opened-is, option_map, option_to_list, pairs_head, pairs_tail, period_by, period_of}
+use Rattle.run_laws.proofs.Prelude.{put_recovery, puts-loaded, reading, recoveries_begun, recovery_at, registering_from, release_changes}
+use Rattle.run_laws.proofs.Prelude.{release_changes_by, reloaded_audit, reloaded_rows, removal, restart_changes, row_after, row_fits, row_in}
 use Rattle.run_laws.proofs.Prelude.{row_in-changed, rows_of, servers-start, slot_at, sort_key, sort_key_of, source_servers, sources-start, start}
-use Rattle.run_laws.proofs.Prelude.{start_changes, start_claim, start_moment, start_rows, start_world, step, taken_over, takeover_try, told_try}
-use Rattle.run_laws.proofs.Prelude.{turned_at, updated}
-use Rattle.run_laws.proofs.Prelude.Outcomes.{begun}
+use Rattle.run_laws.proofs.Prelude.{start_changes, start_claim, start_moment, start_rows, start_world, step, turned_at, updated, with_told}
 use Rattle.run_laws.proofs.Prelude.claims.{is_of}
-use Rattle.run_laws.proofs.Prelude.route.{Begins}
 use Rattle.run_laws.proofs.Prelude.act
 use Rattle.run_laws.proofs.Prelude.change
 use Rattle.run_laws.proofs.Prelude.claim
@@ -34,13 +27,16 @@ use Rattle.run_laws.proofs.Prelude.kept_row as row
 use Rattle.run_laws.proofs.Prelude.key
 use Rattle.run_laws.proofs.Prelude.table
 use Rattle.run_laws.proofs.Prelude.turn
+use Rattle.run_laws.proofs.Prelude.comes
 use Rattle.run_laws.proofs.Periods.{short-by}
 use Rattle.run_laws.proofs.Beginnings.{small-ids}
 use Rattle.run_laws.proofs.Closings.{end-puts, end-small, end_changes, ended_as, turned-ends}
 use Rattle.run_laws.proofs.Counting.{next-goes-on}
-use Rattle.run_laws.proofs.Follows.{reading-known, within-given, entries-puts}
-use Rattle.run_laws.proofs.Audits.{FollowsBoth, IsBooked, both-run, both-whole, discovery-booked, held-start, job-booked, next-run, one-booked, slot-booked}
+use Rattle.run_laws.proofs.Follows.{entries-puts}
+use Rattle.run_laws.proofs.Audits.{FollowsBoth, IsBooked, both-run, both-whole, held-start, job-booked, next-run, one-booked, slot-booked}
+use Rattle.run_laws.proofs.Audits.{found-booked, removal-booked}
 use Rattle.run_laws.proofs.NodeClaims.{act-claims}
+use Rattle.run_laws.proofs.ReadyOutcomes.{decided-fits, given-in}
 
 -- ---- changes of other rows
 
@@ -186,87 +182,25 @@ ended-aside a now id e acked is small =
 begun-aside : (xs : List RecoveryBegins) → All (λ r. r.id < 2 ^ 64) (entries_of xs) → All IsAside (entries_put xs)
 begun-aside xs small = subst (All IsAside) (sym (entries-puts xs)) (recovery-puts (entries_of xs) small)
 
-module _ (b : BookState) (a : AuditState) (reads : ℕ) (is : IsBook b) (few : length b.names ≤ 2 ^ 32) (audit : IsAudit a) (small : a.next ≤ 2 ^ 64) where
-  asked-aside : (p : Result Unit Refusal) (lines : List Line) → All IsAside (asked reads p lines).rows
-  asked-aside (Ok permit) lines = All-nil IsAside
-  asked-aside (Err r) lines = All-nil IsAside
-
-  forgotten-aside : (p : Result Unit Refusal) (i : ServerNo) → nat_lt i.0 (length b.names) ≡ true → All IsAside (forgotten reads p i).rows
-  forgotten-aside (Ok permit) i known =
-      let within = ltb-true i.0 (length b.names) known in
-      booked-all (length b.names) few (removal i ∷ []) (one-booked (length b.names) (removal i) (one_known (length b.names) i.0 within, omega (arith, within, few)))
-  forgotten-aside (Err r) i known = All-nil IsAside
-
-  discovered-aside : (o : Observation) → are_known (length b.names) (observed_servers o) ≡ true → (x : Option Seen) → o.seen ≡ x → All IsAside (discovered b reads o x).rows
-  discovered-aside o known None at = All-nil IsAside
-  discovered-aside o known (Some seen) at = booked-all (length b.names) few (option_to_list (discovery_change (instance_at b o.no) o seen)) (discovery-booked b o is known seen at (instance_at b o.no) refl)
-
-  effect-aside : (e : Effect) → IsEffectFor (length b.names) e → All IsAside (rows_of a e)
-  effect-aside effect.Stays fits = All-nil IsAside
-  effect-aside (effect.Change c) fits = booked-all (length b.names) few (c ∷ []) (one-booked (length b.names) c fits)
-  effect-aside (effect.Acks cluster) fits = recovery-puts (acking a cluster) (acking-small a cluster audit small)
-
-  decided-aside : (p : Result Unit Refusal) (d : Decided) → IsEffectFor (length b.names) d.effect → All IsAside (decided reads a p d).rows
-  decided-aside (Ok permit) d fits = effect-aside d.effect fits
-  decided-aside (Err r) d fits = All-nil IsAside
-
-  recovery-aside : (s : State) (k : Knowledge) (r : Result RecoveryBegins Refusal) → (updated k (recovery_begun (numbers_of s) r).book).audit.next ≤ 2 ^ 64 → All IsAside (recovery_begun (numbers_of s) r).rows
-  recovery-aside s k (Ok x) most =
-      let less : x.entry.id + 1 ≤ 2 ^ 64 = most in
-      begun-aside (x ∷ []) (All-cons (λ (r : Recovery). r.id < 2 ^ 64) x.entry [] (omega (arith, less)) (All-nil (λ (r : Recovery). r.id < 2 ^ 64)))
-  recovery-aside s k (Err why) most = All-nil IsAside
-
 command-aside : (count : ℕ) (s : State) (c : CommandTurn) → Ready count s → IsAudit s.audit → s.audit.next ≤ 2 ^ 64 → (updated (known_of s) (command_outcome s c).book).audit.next ≤ 2 ^ 64 → IsCommand count c → All IsAside (command_outcome s c).rows
-unfolding outcome_of
-command-aside count s c ready audit small most command = by (route_of c.command.name) most
+command-aside count s c ready audit small most command = by (command_outcome s c) (command-comes s c) most
   where
-    few : length s.book.names ≤ 2 ^ 32
-    few = let least = ready.book.small in omega (arith, least)
+    booked : (cs : List Change) → All (IsBooked (length s.book.names)) cs → All IsAside cs
+    booked cs all = let few = ready.book.small in booked-all (length s.book.names) (omega (arith, few)) cs all
 
-    asks : All IsAside (question s.book s.audit s.reads c).rows
-    asks = asked-aside s.book s.audit s.reads ready.book few audit small (permitted s.book c.command) (lines_of s.book s.audit.recoveries c c.command.name)
+    effect-aside : (e : Effect) → IsEffectFor (length s.book.names) e → All IsAside (rows_of s.audit e)
+    effect-aside effect.Stays fits = All-nil IsAside
+    effect-aside (effect.Change x) fits = booked (x ∷ []) (one-booked (length s.book.names) x fits)
+    effect-aside (effect.Acks cluster) fits = recovery-puts (acking s.audit cluster) (acking-small s.audit cluster audit small)
 
-    given : (some : ServerNo → Outcome) → ((i : ServerNo) → nat_lt i.0 (length s.book.names) ≡ true → All IsAside (some i).rows) → (i : Option ServerNo) → is_within (length s.book.names) i ≡ true
-        → All IsAside (given_or (question s.book s.audit s.reads c) some i).rows
-    given some each None within = asks
-    given some each (Some i) within = each i within
-
-    begins : (p : Planner) (r : Option Refusal) → All IsAside (begun (numbers_of s) r (leases_by s.world s.book c.command p) (job_by s.world s.book c.command p (s.last_job + 1) s.configuration.wait s.configuration.every)).rows
-    begins p (Some why) = All-nil IsAside
-    begins p None = All-nil IsAside
-
-    recovers : (i : Option ServerNo) → (updated (known_of s) (given_or (refusal s.reads UnknownInstance) (recovered s.world s.book s.audit s.configuration (numbers_of s)) i).book).audit.next ≤ 2 ^ 64
-        → All IsAside (given_or (refusal s.reads UnknownInstance) (recovered s.world s.book s.audit s.configuration (numbers_of s)) i).rows
-    recovers None most = All-nil IsAside
-    recovers (Some i) most =
-        recovery-aside s.book s.audit s.reads ready.book few audit small s (known_of s)
-        (told_try s.configuration s.book (recovery_try s.world s.book s.audit (by_hand s.book s.configuration (numbers_of s) i) s.configuration.wait (s.last_job + 1) i)) most
-
-    takes : (i : ServerNo) (d : Option ServerNo) → (updated (known_of s) (taken_over s.world s.book s.audit s.configuration (numbers_of s) d i).book).audit.next ≤ 2 ^ 64 → All IsAside (taken_over s.world s.book s.audit s.configuration (numbers_of s) d i).rows
-    takes i None most = All-nil IsAside
-    takes i (Some d) most =
-        recovery-aside s.book s.audit s.reads ready.book few audit small s (known_of s)
-        (told_try s.configuration s.book (takeover_try s.world s.book s.audit (by_hand s.book s.configuration (numbers_of s) i) s.configuration.wait (s.last_job + 1) i d)) most
-
-    takes-over : (i d : Option ServerNo) → (updated (known_of s) (given_or (refusal s.reads UnknownInstance) (taken_over s.world s.book s.audit s.configuration (numbers_of s) d) i).book).audit.next ≤ 2 ^ 64
-        → All IsAside (given_or (refusal s.reads UnknownInstance) (taken_over s.world s.book s.audit s.configuration (numbers_of s) d) i).rows
-    takes-over None d most = All-nil IsAside
-    takes-over (Some i) d most = takes i d most
-
-    by : (r : Route) → (updated (known_of s) (outcome_by s.world s.book s.audit s.configuration (numbers_of s) c r).book).audit.next ≤ 2 ^ 64 → All IsAside (outcome_by s.world s.book s.audit s.configuration (numbers_of s) c r).rows
-    by Discovers most =
-        given (λ i. discovered s.book s.reads (next_reading s.world (numbers_of s) i) (next_reading s.world (numbers_of s) i).seen)
-        (λ i h. discovered-aside s.book s.audit s.reads ready.book few audit small (next_reading s.world (numbers_of s) i) (reading-known count s i ready (ltb-true i.0 (length s.book.names) h)) (next_reading s.world (numbers_of s) i).seen refl)
-        c.command.i (within-given count s c ready command)
-    by Forgets most =
-        given (forgotten s.reads (allowed (removal_refusal s.book c.command))) (forgotten-aside s.book s.audit s.reads ready.book few audit small (allowed (removal_refusal s.book c.command))) c.command.i (within-given count s c ready command)
-    by (Asks q) most = asks
-    by (Decides d) most =
-        decided-aside s.book s.audit s.reads ready.book few audit small (permitted s.book c.command) (decided_of s.book s.audit (moment_at s) c.keys c.command.i d)
-        (decided-effect s.book (length s.book.names) ready.book.small s.audit (moment_at s) c.keys c.command.i d (within-given count s c ready command))
-    by (Begins p) most = begins p (refusal_by s.world s.book (moment_at s) s.configuration.every c.command p)
-    by Recovers most = recovers c.command.i most
-    by TakesOver most = takes-over c.command.i c.command.d most
+    by : (o : Outcome) → Comes s c o → (updated (known_of s) o.book).audit.next ≤ 2 ^ 64 → All IsAside o.rows
+    by o (comes.Discovered i seen at there) most = booked (option_to_list (discovery_change (instance_at s.book i) (reading s i) seen)) (found-booked count s c ready command i seen at there)
+    by o (comes.Forgotten i at) most = booked (removal i ∷ []) (removal-booked s.book ready.book i (given-in count s ready c command i at))
+    by o (comes.Decided d at may) most = effect-aside (decided_of s.book s.audit (moment_at s) c.keys c.command.i d).effect (decided-fits count s ready c command d)
+    by o (comes.Recovered x asked) most =
+        let less : x.entry.id + 1 ≤ 2 ^ 64 = most in
+        begun-aside (with_told s.configuration s.book x ∷ []) (All-cons (λ (r : Recovery). r.id < 2 ^ 64) x.entry [] (omega (arith, less)) (All-nil (λ (r : Recovery). r.id < 2 ^ 64)))
+    by o _ most = All-nil IsAside
 
 job-aside : (count : ℕ) (s : State) (id : ℕ) → Ready count s → IsAudit s.audit → s.audit.next ≤ 2 ^ 64
     → All IsAside (changes_by s.book (job_observation (turned_at s id)) ++ closing_changes s.audit (moment_at s) (closing_of (turned_at s id)))

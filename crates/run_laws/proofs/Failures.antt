@@ -1,21 +1,21 @@
 -- A plan's job fails for what happened to the operation that was due.
 use Rattle.std.proofs.Common.{◌≡◌, ◌∙◌, ℕ, List, [], ◌∷◌, refl, sym, ap, subst, Option, Some, None}
-use Rattle.run_laws.proofs.Prelude.{All-found, Befell, Begins as RecoveryBegins, BegunJob, BookState, ByBridges, ByMatches, Cause, Command, Failure}
-use Rattle.run_laws.proofs.Prelude.{IsBefallen, IsReady, Job, JobStep, Line, Means, Moment, Op, Planner, PlansAreDone, PlansFailForWhatBefell, Ready}
-use Rattle.run_laws.proofs.Prelude.{Refusal, Reply, Route, ServerNo, SpendsWaitsLast, State, Unended, World, begun_by, begun_of, by_hand, deed_of}
-use Rattle.run_laws.proofs.Prelude.{failed-befell, job_at, job_by, job_reply, leases_by, next_count, numbers_of, of_plan, of_try, option_map}
-use Rattle.run_laws.proofs.Prelude.{recovering, recovery_job, recovery_try, refusal_by, regroup_about, reply_of, route_of, same_Some, spent-last}
-use Rattle.run_laws.proofs.Prelude.{step_reply, takeover_try, taking_over, told_try, turn-idle, turn-taken, turn_of, turned, undisturbed-done}
-use Rattle.run_laws.proofs.Prelude.RecoveryPlans.{Recovery}
+use Rattle.run_laws.proofs.Prelude.{job_in, means_of}
+use Rattle.run_laws.proofs.Prelude.{All-found, Befell, BegunJob, BookState, Cause, Command, Failure, IsBefallen, IsReady, Job}
+use Rattle.run_laws.proofs.Prelude.{JobStep, Line, Means, Moment, Op, Planner, PlansAreDone, PlansFailForWhatBefell, Ready, Reply, ServerNo}
+use Rattle.run_laws.proofs.Prelude.{SpendsWaitsLast, State, Unended, World, begun_of, deed_of, failed-befell, job_at, job_by, job_reply, next_count}
+use Rattle.run_laws.proofs.Prelude.{option_map, regroup_about, reply_of, spent-last, step_reply, turn-idle, turn-taken, turn_of, turned}
+use Rattle.run_laws.proofs.Prelude.{undisturbed-done}
 use Rattle.run_laws.proofs.Prelude.act
 use Rattle.run_laws.proofs.Prelude.answered
 use Rattle.run_laws.proofs.Prelude.jobstep as step
 use Rattle.run_laws.proofs.Prelude.means
 use Rattle.run_laws.proofs.Prelude.planner
-use Rattle.run_laws.proofs.Prelude.route
 use Rattle.run_laws.proofs.Prelude.turn
 use Rattle.run_laws.proofs.Prelude.unended
-use Rattle.std.specs.Prelude.{◌+◌, Result, Ok, Err}
+use Rattle.std.specs.Prelude.{◌+◌}
+use Rattle.run_laws.proofs.Making as making
+use Rattle.run_laws.proofs.Making.{IsBegunBy, job-begun}
 
 module _ (s : State) (id : ℕ) (j : Job) (f : Failure) (found : job_at s.jobs id ≡ Some (unended.Plan j)) (fails : reply_of s (turn.Act (act.Job id)) ≡ answered.Failed f) where
   abbrev now : Moment
@@ -71,34 +71,15 @@ fresh-regroup b by id wait None = refl
 fresh-regroup b by id wait (Some i) = tt
 
 fresh-job : (w : World) (b : BookState) (c : Command) (p : Planner) (id wait every : ℕ) → IsFresh (job_by w b c p id wait every)
-fresh-job w b c (planner.Regroups ByBridges) id wait every = fresh-regroup b means.Bridges id wait c.i
-fresh-job w b c (planner.Regroups ByMatches) id wait every = fresh-regroup b (means.Matches every) id wait c.i
-fresh-job w b c _ id wait every = refl
-
-fresh-plan : (o : Option Refusal) (list : List ServerNo) (u : Unended) (x : BegunJob) → IsFresh u → of_plan o list u ≡ Some x → IsFresh x.job
-fresh-plan None list u x fresh is = subst (λ (y : BegunJob). IsFresh y.job) (same_Some (record { list = list; job = u; entry = None }) x is) fresh
-fresh-plan (Some r) list u x fresh is = cc
-
-fresh-try : (t : Result RecoveryBegins Refusal) (x : BegunJob) → of_try t ≡ Some x → IsFresh x.job
-fresh-try (Ok y) x is = subst (λ (z : BegunJob). IsFresh z.job) (same_Some (record { list = y.list; job = recovery_job y; entry = Some y.entry }) x is) tt
-fresh-try (Err r) x is = cc
-
-fresh-begun : (s : State) (c : Command) (x : BegunJob) (r : Route) → begun_by s c r ≡ Some x → IsFresh x.job
-fresh-begun s c x (route.Begins p) is =
-    fresh-plan (refusal_by s.world s.book (record { 0 = s.moment }) s.configuration.every c p) (leases_by s.world s.book c p) (job_by s.world s.book c p (s.last_job + 1) s.configuration.wait s.configuration.every) x
-    (fresh-job s.world s.book c p (s.last_job + 1) s.configuration.wait s.configuration.every) is
-fresh-begun s c x route.Recovers is = go c.i is
+fresh-job w b c p id wait every = go (means_of every p)
   where
-    go : (o : Option ServerNo) → recovering s o ≡ Some x → IsFresh x.job
-    go None e = cc
-    go (Some i) e = fresh-try (told_try s.configuration s.book (recovery_try s.world s.book s.audit (by_hand s.book s.configuration (numbers_of s) i) s.configuration.wait (s.last_job + 1) i)) x e
-fresh-begun s c x route.TakesOver is = go c.i c.d is
-  where
-    go : (o d : Option ServerNo) → taking_over s o d ≡ Some x → IsFresh x.job
-    go None d e = cc
-    go (Some i) None e = cc
-    go (Some i) (Some d) e = fresh-try (told_try s.configuration s.book (takeover_try s.world s.book s.audit (by_hand s.book s.configuration (numbers_of s) i) s.configuration.wait (s.last_job + 1) i d)) x e
-fresh-begun s c x _ is = cc
+    go : (by : Option Means) → IsFresh (job_in w b c p id wait every by)
+    go None = refl
+    go (Some by) = fresh-regroup b by id wait c.i
+
+fresh-begun : (s : State) (c : Command) (x : BegunJob) → IsBegunBy s c x → IsFresh x.job
+fresh-begun s c x (making.Planned p route) = fresh-job s.world s.book c p (s.last_job + 1) s.configuration.wait s.configuration.every
+fresh-begun s c x (making.Recovering y asked) = tt
 
 pub spends-last : (s : State) (c : Command) (x : BegunJob) → begun_of s c ≡ Some x → SpendsWaitsLast x.job
-spends-last s c x begun = λ j ms m n lines is going fails. spent-last j ms m n lines (subst IsFresh is (fresh-begun s c x (route_of c.name) begun)) going fails
+spends-last s c x begun = λ j ms m n lines is going fails. spent-last j ms m n lines (subst IsFresh is (fresh-begun s c x (job-begun s c x begun))) going fails

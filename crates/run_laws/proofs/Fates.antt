@@ -1,30 +1,29 @@
 -- What becomes of an entry of the audit with a turn.
 use Rattle.std.proofs.Common.{◌≡◌, ◌∙◌, ℕ, ◌+◌, Bool, true, false, List, [], ◌∷◌, ◌++◌, append_assoc, length, map, refl, sym, ap, subst, Option, Some, None, Result, Ok, Err}
 use Rattle.std.specs.Prelude.{◌==◌, ◌||◌, if◌then◌else◌}
-use Rattle.run_laws.proofs.Prelude.{Act, Asks, AuditIs, AuditState, Begins as RecoveryBegins, BookState, Change, ComesTo, CommandTurn, Decided}
-use Rattle.run_laws.proofs.Prelude.{Decides, Decision, Discovers, Ending, Forgets, JobStep, Line, Moment, Observation, Outcome, Recovers}
-use Rattle.run_laws.proofs.Prelude.{Recovery as KeptRecovery, Refusal, RestartKeepsAll, Route, Row, Scenario, ServerNo, State, Status as Seen, Taken}
-use Rattle.run_laws.proofs.Prelude.{TakesOver, Turn, Unended, UnknownInstance, about as given_or, acked_in, act_asks, act_in, after_act, after_done}
-use Rattle.run_laws.proofs.Prelude.{allowed, append-nil, asked, asks, audit_after, begun, by_hand, cause_name, closed, closed_by, closing_at}
-use Rattle.run_laws.proofs.Prelude.{closing_for, closing_of, cluster_acked, cluster_decided, cluster_of, command_outcome, decided, decided_of}
-use Rattle.run_laws.proofs.Prelude.{discovered, done_asks, done_with, effect_by, entries_of, entry_by_job, entry_in_act, entry_in_done, entry_of_turn}
-use Rattle.run_laws.proofs.Prelude.{entry_then, false≢true, flown-entry, forgotten, hooked, interrupted_at, is_takeover, job_at, job_by, known_of}
-use Rattle.run_laws.proofs.Prelude.{leases_by, lines_of, next_count, next_reading, numbers_of, option_map, outcome_by, outcome_of, permitted}
-use Rattle.run_laws.proofs.Prelude.{question, recovered, recoveries_by, recoveries_done, recoveries_in_act, recoveries_of, recoveries_scanned}
-use Rattle.run_laws.proofs.Prelude.{recovery_begun, recovery_try, refusal, refusal_by, removal_refusal, route_of, taken_over, takeover_try}
-use Rattle.run_laws.proofs.Prelude.{takeovers_by, takeovers_of, told_try, tried, turn_of, updated}
-use Rattle.run_laws.proofs.Prelude.Outcomes.{begun as job_begun}
-use Rattle.run_laws.proofs.Prelude.Decisions.{audit_after as audit_decided}
+use Rattle.run_laws.proofs.Prelude.{Act, AuditIs, AuditState, Begins as RecoveryBegins, Change, Comes, ComesTo, CommandTurn, Decided, Decides}
+use Rattle.run_laws.proofs.Prelude.{Decision, Ending, JobStep, Knowledge, Line, Moment, Outcome, Recovery as KeptRecovery, Refusal, RestartKeepsAll}
+use Rattle.run_laws.proofs.Prelude.{Route, Row, Scenario, ServerNo, State, Taken, Turn, Unended, Update, acked_in, act_asks, act_in, after_act}
+use Rattle.run_laws.proofs.Prelude.{after_done, append-nil, asks, audit_after, begun, candidate_of, cause_name, closed, closed_by, closing_at}
+use Rattle.run_laws.proofs.Prelude.{closing_for, closing_of, cluster_acked, cluster_decided, cluster_of, command-comes, command_outcome, decided}
+use Rattle.run_laws.proofs.Prelude.{decided_of, done_asks, done_with, downtime_begun, downtime_ended, downtime_of, effect_by, entries_of}
+use Rattle.run_laws.proofs.Prelude.{entry_by_job, entry_in_act, entry_in_done, entry_of_turn, entry_then, false≢true, flown-entry, hooked}
+use Rattle.run_laws.proofs.Prelude.{interrupted_at, is_takeover, job_at, known_of, next_count, numbers_of, option_map, outcome_by, outcome_of}
+use Rattle.run_laws.proofs.Prelude.{permitted, recoveries_begun, recoveries_done, recoveries_in_act, recoveries_scanned, route_of, turn_of, updated}
 use Rattle.run_laws.proofs.Prelude.RecoveryPlans.{Recovery}
-use Rattle.run_laws.proofs.Prelude.route.{Begins}
 use Rattle.run_laws.proofs.Prelude.act
 use Rattle.run_laws.proofs.Prelude.decision
 use Rattle.run_laws.proofs.Prelude.ending
 use Rattle.run_laws.proofs.Prelude.jobstep as step
 use Rattle.run_laws.proofs.Prelude.turn
 use Rattle.run_laws.proofs.Prelude.unended
+use Rattle.run_laws.proofs.Prelude.comes
+use Rattle.run_laws.proofs.Prelude.update
 use Rattle.run_laws.proofs.Closings.{ended-map, ended_as, ended_in, ended_with}
 use Rattle.run_laws.proofs.Reloads.{reloaded-comes}
+use Rattle.run_laws.proofs.Logged.{begun_in, command-begun}
+use Rattle.run_laws.proofs.Prelude.Decisions.{about as decided_about, registered}
+use Rattle.run_laws.proofs.Prelude.effect
 
 -- ---- lists
 
@@ -50,104 +49,62 @@ joins a xs = after-all a xs ∙ ap (λ (ys : List KeptRecovery). ys ++ entries_o
 
 -- ---- a command
 
+-- the cluster that an update acknowledges
+abbrev acks_in : Update → Option (List ℕ)
+acks_in (update.Decides (effect.Acks cluster)) = Some cluster
+acks_in _ = None
+
+update-fates : (k : Knowledge) (u : Update) → (updated k u).audit.recoveries ≡ map (acked_in (acks_in u)) k.audit.recoveries ++ entries_of (begun_in u)
+update-fates k (update.Decides (effect.Acks cluster)) = sym (append-nil (map (acked_in (Some cluster)) k.audit.recoveries))
+update-fates k (update.Recovers xs) = joins k.audit xs
+update-fates k _ = stays k.audit.recoveries
+
 module _ (s : State) (c : CommandTurn) where
-  -- of its audit, by the cluster that is acknowledged and what begins
-  abbrev Is : Option (List ℕ) → List RecoveryBegins → AuditState → Type 0
-  Is cluster xs a = a.recoveries ≡ map (acked_in cluster) s.audit.recoveries ++ entries_of xs
+  -- that of a command is the one that it acknowledges
+  abbrev Acks : Option (List ℕ) → Outcome → Type 0
+  Acks cluster o = cluster ≡ acks_in o.book
 
-  abbrev By : Option (List ℕ) → List RecoveryBegins → Outcome → Type 0
-  By cluster xs o = Is cluster xs (updated (known_of s) o.book).audit
+  acks : (p : Result Unit Refusal) (i : Option ServerNo) → Acks (cluster_of s.book p i) (decided s.reads s.audit p (decided_of s.book s.audit (record { 0 = s.moment }) c.keys i decision.AckRecoveries))
+  acks (Err r) i = refl
+  acks (Ok permit) None = refl
+  acks (Ok permit) (Some i) = refl
 
-  none : Is None [] s.audit
-  none = stays s.audit.recoveries
-
-  by-discovered : (b : BookState) (reads : ℕ) (o : Observation) (x : Option Seen) → By None [] (discovered b reads o x)
-  by-discovered b reads o None = none
-  by-discovered b reads o (Some seen) = none
-
-  by-forgotten : (reads : ℕ) (p : Result Unit Refusal) (i : ServerNo) → By None [] (forgotten reads p i)
-  by-forgotten reads (Ok permit) i = none
-  by-forgotten reads (Err r) i = none
-
-  by-asked : (reads : ℕ) (p : Result Unit Refusal) (lines : List Line) → By None [] (asked reads p lines)
-  by-asked reads (Ok permit) lines = none
-  by-asked reads (Err r) lines = none
-
-  by-job : (r : Option Refusal) (list : List ServerNo) (job : Unended) → By None [] (job_begun (numbers_of s) r list job)
-  by-job None list job = none
-  by-job (Some r) list job = none
-
-  by-try : (r : Result RecoveryBegins Refusal) → By None (tried r) (recovery_begun (numbers_of s) r)
-  by-try (Ok x) = joins s.audit (x ∷ [])
-  by-try (Err why) = none
-
-  by-recovery : (i : Option ServerNo) → By None (recoveries_of s i) (given_or (refusal s.reads UnknownInstance) (recovered s.world s.book s.audit s.configuration (numbers_of s)) i)
-  by-recovery None = none
-  by-recovery (Some i) = by-try (told_try s.configuration s.book (recovery_try s.world s.book s.audit (by_hand s.book s.configuration (numbers_of s) i) s.configuration.wait (s.last_job + 1) i))
-
-  by-taken : (i : ServerNo) (d : Option ServerNo) → By None (takeovers_by s i d) (taken_over s.world s.book s.audit s.configuration (numbers_of s) d i)
-  by-taken i None = none
-  by-taken i (Some d) = by-try (told_try s.configuration s.book (takeover_try s.world s.book s.audit (by_hand s.book s.configuration (numbers_of s) i) s.configuration.wait (s.last_job + 1) i d))
-
-  by-takeover : (i d : Option ServerNo) → By None (takeovers_of s i d) (given_or (refusal s.reads UnknownInstance) (taken_over s.world s.book s.audit s.configuration (numbers_of s) d) i)
-  by-takeover None d = none
-  by-takeover (Some i) d = by-taken i d
-
-  by-given : (alone : Outcome) (some : ServerNo → Outcome) → By None [] alone → ((i : ServerNo) → By None [] (some i)) → (i : Option ServerNo) → By None [] (given_or alone some i)
-  by-given alone some here each None = here
-  by-given alone some here each (Some i) = each i
-
-  by-question : By None [] (question s.book s.audit s.reads c)
-  by-question = by-asked s.reads (permitted s.book c.command) (lines_of s.book s.audit.recoveries c c.command.name)
-
-  -- a decision
-  abbrev decides : Result Unit Refusal → Option ServerNo → Decision → Outcome
-  decides p i d = decided s.reads s.audit p (decided_of s.book s.audit (record { 0 = s.moment }) c.keys i d)
-
-  acks : (p : Result Unit Refusal) (i : Option ServerNo) → By (cluster_of s.book p i) [] (decides p i decision.AckRecoveries)
-  acks (Err r) i = none
-  acks (Ok permit) None = none
-  acks (Ok permit) (Some i) = sym (append-nil (map (acked_in (cluster_of s.book (Ok permit) (Some i))) s.audit.recoveries))
-
-  plain : (o : Option Change) → audit_decided s.audit (effect_by o) ≡ s.audit
+  -- one that changes a row acknowledges none
+  plain : (x : Option Change) → None ≡ acks_in (update.Decides (effect_by x))
   plain None = refl
   plain (Some x) = refl
 
-  -- another changes no entry
-  others : (p : Result Unit Refusal) (d : Decided) → audit_decided s.audit d.effect ≡ s.audit → By None [] (decided s.reads s.audit p d)
-  others (Err r) d same = none
-  others (Ok permit) d same = ap (λ (a : AuditState). a.recoveries) same ∙ none
+  plain-about : (f : ServerNo → Decided) → ((i : ServerNo) → None ≡ acks_in (update.Decides (f i).effect)) → (i : Option ServerNo) → None ≡ acks_in (update.Decides (decided_about f i).effect)
+  plain-about f each None = refl
+  plain-about f each (Some i) = each i
 
-  by-decision : (p : Result Unit Refusal) → p ≡ permitted s.book c.command → (i : Option ServerNo) → i ≡ c.command.i → (d : Decision) → By (cluster_decided s c d) [] (decides p i d)
-  by-decision p is i at decision.AckRecoveries = subst (λ (q : Result Unit Refusal). By (cluster_of s.book q c.command.i) [] (decides p i decision.AckRecoveries)) is
-      (subst (λ (k : Option ServerNo). By (cluster_of s.book p k) [] (decides p i decision.AckRecoveries)) at (acks p i))
-  by-decision p is None at decision.BeginDowntime = others p (decided_of s.book s.audit (record { 0 = s.moment }) c.keys None decision.BeginDowntime) refl
-  by-decision p is (Some i) at decision.BeginDowntime = others p (decided_of s.book s.audit (record { 0 = s.moment }) c.keys (Some i) decision.BeginDowntime) (plain _)
-  by-decision p is None at decision.EndDowntime = others p (decided_of s.book s.audit (record { 0 = s.moment }) c.keys None decision.EndDowntime) refl
-  by-decision p is (Some i) at decision.EndDowntime = others p (decided_of s.book s.audit (record { 0 = s.moment }) c.keys (Some i) decision.EndDowntime) (plain _)
-  by-decision p is None at decision.RegisterCandidate = others p (decided_of s.book s.audit (record { 0 = s.moment }) c.keys None decision.RegisterCandidate) refl
-  by-decision p is (Some i) at decision.RegisterCandidate = others p (decided_of s.book s.audit (record { 0 = s.moment }) c.keys (Some i) decision.RegisterCandidate) (plain _)
-  by-decision p is i at decision.DisableRecoveries = others p (decided_of s.book s.audit (record { 0 = s.moment }) c.keys i decision.DisableRecoveries) (plain _)
-  by-decision p is i at decision.EnableRecoveries = others p (decided_of s.book s.audit (record { 0 = s.moment }) c.keys i decision.EnableRecoveries) (plain _)
+  others : (p : Result Unit Refusal) (d : Decided) → None ≡ acks_in (update.Decides d.effect) → Acks None (decided s.reads s.audit p d)
+  others (Err r) d none = refl
+  others (Ok permit) d none = none
 
-  by-route : (r : Route) → By (cluster_acked s c r) (recoveries_by s c.command r) (outcome_by s.world s.book s.audit s.configuration (numbers_of s) c r)
-  by-route Discovers =
-      by-given (question s.book s.audit s.reads c) (λ i. discovered s.book s.reads (next_reading s.world (numbers_of s) i) (next_reading s.world (numbers_of s) i).seen) by-question
-      (λ i. by-discovered s.book s.reads (next_reading s.world (numbers_of s) i) (next_reading s.world (numbers_of s) i).seen) c.command.i
-  by-route Forgets =
-      by-given (question s.book s.audit s.reads c) (forgotten s.reads (allowed (removal_refusal s.book c.command))) by-question
-      (by-forgotten s.reads (allowed (removal_refusal s.book c.command))) c.command.i
-  by-route (Asks q) = by-question
-  by-route (Decides d) = by-decision (permitted s.book c.command) refl c.command.i refl d
-  by-route (Begins p) =
-      by-job (refusal_by s.world s.book (record { 0 = s.moment }) s.configuration.every c.command p) (leases_by s.world s.book c.command p)
-      (job_by s.world s.book c.command p (s.last_job + 1) s.configuration.wait s.configuration.every)
-  by-route Recovers = by-recovery c.command.i
-  by-route TakesOver = by-takeover c.command.i c.command.d
+  by-decision : (d : Decision) → Acks (cluster_decided s c d) (decided s.reads s.audit (permitted s.book c.command) (decided_of s.book s.audit (record { 0 = s.moment }) c.keys c.command.i d))
+  by-decision decision.AckRecoveries = acks (permitted s.book c.command) c.command.i
+  by-decision decision.BeginDowntime = others (permitted s.book c.command) _ (plain-about (λ n. downtime_begun s.book (downtime_of (record { 0 = s.moment }) c.keys n)) (λ n. plain _) c.command.i)
+  by-decision decision.EndDowntime = others (permitted s.book c.command) _ (plain-about (downtime_ended s.book) (λ n. plain _) c.command.i)
+  by-decision decision.RegisterCandidate = others (permitted s.book c.command) _ (plain-about (λ n. registered s.book (candidate_of (record { 0 = s.moment }) c.keys n)) (λ n. plain _) c.command.i)
+  by-decision decision.DisableRecoveries = others (permitted s.book c.command) _ (plain _)
+  by-decision decision.EnableRecoveries = others (permitted s.book c.command) _ (plain _)
 
-  by-command : By (cluster_acked s c (route_of c.command.name)) (recoveries_by s c.command (route_of c.command.name)) (command_outcome s c)
+  without : (o : Outcome) → Comes s c o → ((d : Decision) → route_of c.command.name ≡ Decides d → ⊥) → Acks None o
+  without o (comes.Decided d at may) none = absurd (none d at)
+  without o _ none = refl
+
+  by-route : (r : Route) → route_of c.command.name ≡ r → Acks (cluster_acked s c r) (command_outcome s c)
   unfolding outcome_of
-  by-command = by-route (route_of c.command.name)
+  by-route (Decides d) at = subst (λ (r : Route). Acks (cluster_decided s c d) (outcome_by s.world s.book s.audit s.configuration (numbers_of s) c r)) (sym at) (by-decision d)
+  by-route r at = without (command_outcome s c) (command-comes s c) (λ d is. let same = sym at ∙ is in cc)
+
+  by-command : (updated (known_of s) (command_outcome s c).book).audit.recoveries
+      ≡ map (acked_in (cluster_acked s c (route_of c.command.name))) s.audit.recoveries ++ entries_of (recoveries_begun s (turn.Act (act.Command c)))
+  by-command =
+      update-fates (known_of s) (command_outcome s c).book
+      ∙ (ap (λ (cluster : Option (List ℕ)). map (acked_in cluster) s.audit.recoveries ++ entries_of (begun_in (command_outcome s c).book)) (sym (by-route (route_of c.command.name) refl))
+      ∙ ap (λ (xs : List RecoveryBegins). map (acked_in (cluster_acked s c (route_of c.command.name))) s.audit.recoveries ++ entries_of xs) (sym (command-begun s c)))
 
 -- ---- a job
 

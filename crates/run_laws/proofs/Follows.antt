@@ -1,38 +1,33 @@
 -- Kept rows follow the book of a run.
-use Rattle.std.proofs.Common.{◌≡◌, ◌∙◌, ℕ, ◌+◌, ◌<◌, ◌≤◌, ◌^◌, Bool, true, false, List, [], ◌∷◌, ◌++◌, length, map, refl, sym, ap, subst, Option, Some, None, Result, Ok, Err, zero, suc, arith}
+use Rattle.std.proofs.Common.{◌≡◌, ◌∙◌, ℕ, ◌+◌, ◌<◌, ◌≤◌, ◌^◌, Bool, true, false, List, [], ◌∷◌, ◌++◌, length, map, refl, sym, ap, subst, Option, Some, None, zero, suc, arith}
 use Rattle.std.specs.Prelude.{All, IfSome, nat_lt, slice_index_or, slice_set, if◌then◌else◌}
-use Rattle.run_laws.proofs.Prelude.{Act, All-append, All-at, All-cons, All-map, All-nil, All-weaker, AreShort, Asks, AuditState}
-use Rattle.run_laws.proofs.Prelude.{Begins as RecoveryBegins, BookState, Change, CommandTurn, Decided, Decides, Discovers, Effect, Ending, Follow}
-use Rattle.run_laws.proofs.Prelude.{Follow-addition, Follow-change, Follow-given, Follow-loaded, Follow-opened, Follow-recoveries, Follow-rings}
-use Rattle.run_laws.proofs.Prelude.{Forgets, Instance, IsAct, IsAudit, IsBook, IsCommand, IsEffectFor, IsReady, IsRising, IsScenario, IsSlot, IsState}
-use Rattle.run_laws.proofs.Prelude.{IsTurn, IsUnended, Knowledge, Line, Moment, Observation, Outcome, Planner, PutsRecovery, Ready, Recovers}
-use Rattle.run_laws.proofs.Prelude.{Recovery, Refusal, Route, Row, Scenario, ServerNo, State, Status as Seen, Takes, TakesOver, Turn, Unended}
-use Rattle.run_laws.proofs.Prelude.{UnknownInstance, about as given_or, acking, acking-small, act-fits, act_changes, act_in, added_over, after_act}
-use Rattle.run_laws.proofs.Prelude.{after_done, after_put, all-missing, all-opening, all-registering, allowed, are_known, asked, audit-loaded}
-use Rattle.run_laws.proofs.Prelude.{blocks_given, book_after as book_decided, book_turned, bridge_in, by_hand, changed, changed_by, changes_by}
-use Rattle.run_laws.proofs.Prelude.{changes_of, claim_changes, closing, closing-small, closing_changes, closing_of, command_outcome, decided}
-use Rattle.run_laws.proofs.Prelude.{decided-effect, decided_of, discovered, discovered_over, discovery_change, done_changes, entries_of, entries_put}
-use Rattle.run_laws.proofs.Prelude.{first_seen, fits, fold-append, forgotten, given_back, greatest_id, instance_at, instance_is, interrupted_at}
-use Rattle.run_laws.proofs.Prelude.{is_going, is_within, job_at, job_by, job_observation, known_of, last_given, last_id-within, leases_after}
-use Rattle.run_laws.proofs.Prelude.{leases_by, leases_set, length-map, length-ringed, lines_of, loaded_audit, loaded_book, loading, ltb-true}
-use Rattle.run_laws.proofs.Prelude.{moment_at, names-loaded, next_count, next_reading, number_of, numbers_of, observed, observed_servers, opened-is}
-use Rattle.run_laws.proofs.Prelude.{option_map, option_to_list, outcome_by, outcome_of, period_by, period_of, permitted, put_recovery, puts-loaded}
-use Rattle.run_laws.proofs.Prelude.{question, reading_known, ready-of as job-ready, recovered, recoveries_begun, recovery_at, recovery_begun}
-use Rattle.run_laws.proofs.Prelude.{recovery_try, refusal, refusal_by, release_changes, reloaded_audit, reloaded_book, reloaded_rows, removal}
-use Rattle.run_laws.proofs.Prelude.{removal_refusal, renewal, renewed, renewed_book, restart_changes, ringed, route_of, rows_of, same_instance}
-use Rattle.run_laws.proofs.Prelude.{seen_servers, servers-start, settings_of, slot_at, sources-start, start, start_changes, start_moment, start_rows}
-use Rattle.run_laws.proofs.Prelude.{start_world, step, store_change, stored, stored_over, taken, taken_over, takeover_try, told_try, turn_of}
-use Rattle.run_laws.proofs.Prelude.{turned_at, updated, without_leases}
-use Rattle.run_laws.proofs.Prelude.Outcomes.{begun}
-use Rattle.run_laws.proofs.Prelude.route.{Begins}
+use Rattle.run_laws.proofs.Prelude.{Act, All-append, All-at, All-cons, All-map, All-nil, All-weaker, AreShort, AuditState, Begins as RecoveryBegins}
+use Rattle.run_laws.proofs.Prelude.{BookState, Change, Comes, CommandTurn, Effect, Ending, Follow, Follow-addition, Follow-change, Follow-given}
+use Rattle.run_laws.proofs.Prelude.{Follow-loaded, Follow-opened, Follow-recoveries, Follow-rings, Instance, IsAct, IsAudit, IsBook, IsCommand}
+use Rattle.run_laws.proofs.Prelude.{IsEffectFor, IsReady, IsRising, IsScenario, IsSlot, IsState, IsTurn, IsUnended, Moment, Observation, Outcome}
+use Rattle.run_laws.proofs.Prelude.{PutsRecovery, Ready, Recovery, Row, Scenario, ServerNo, State, Status as Seen, Takes, Turn, Unended, acking}
+use Rattle.run_laws.proofs.Prelude.{acking-small, act-fits, act_changes, act_in, added_over, after_act, after_done, after_put, all-missing}
+use Rattle.run_laws.proofs.Prelude.{all-opening, all-registering, are_known, asked, audit-loaded, blocks_given}
+use Rattle.run_laws.proofs.Prelude.{book_decided, book_turned, bridge_in, changed, changed_by, changes_by, changes_of, claim_changes, closing}
+use Rattle.run_laws.proofs.Prelude.{closing-small, closing_changes, closing_of, command-comes, command_outcome, decided_of, discovered_over}
+use Rattle.run_laws.proofs.Prelude.{discovery_change, done_changes, entries_of, entries_put, first_seen, fits, fold-append, given_back, greatest_id}
+use Rattle.run_laws.proofs.Prelude.{instance_at, instance_is, interrupted_at, is_going, job_at, job_by, job_observation, known_of, last_given}
+use Rattle.run_laws.proofs.Prelude.{last_id-within, leases_after, leases_by, leases_set, length-map, length-ringed, loaded_audit, loaded_book}
+use Rattle.run_laws.proofs.Prelude.{loading, moment_at, names-loaded, next_count, number_of, observed, observed_servers, one_known, opened-is}
+use Rattle.run_laws.proofs.Prelude.{option_map, option_to_list, period_by, period_of, put_recovery, puts-loaded, reading, ready-of as job-ready}
+use Rattle.run_laws.proofs.Prelude.{recoveries_begun, recovery_at, release_changes, reloaded_audit, reloaded_book, reloaded_rows, removal, renewal}
+use Rattle.run_laws.proofs.Prelude.{renewed, renewed_book, restart_changes, ringed, rows_of, same_instance, seen_servers, servers-start, settings_of}
+use Rattle.run_laws.proofs.Prelude.{slot_at, sources-start, start, start_changes, start_moment, start_rows, start_world, step, store_change, stored}
+use Rattle.run_laws.proofs.Prelude.{stored_over, taken, turn_of, turned_at, updated, with_told, without_leases}
 use Rattle.run_laws.proofs.Prelude.act
 use Rattle.run_laws.proofs.Prelude.change
 use Rattle.run_laws.proofs.Prelude.effect
 use Rattle.run_laws.proofs.Prelude.kept_row as row
 use Rattle.run_laws.proofs.Prelude.turn
+use Rattle.run_laws.proofs.Prelude.comes
 use Rattle.run_laws.proofs.Readiness.{job-sees}
 use Rattle.run_laws.proofs.BegunInTurn.{length-after, length-taken}
-use Rattle.run_laws.proofs.ReadyOutcomes.{within-both}
+use Rattle.run_laws.proofs.ReadyOutcomes.{decided-fits, given-in, reads-known}
 use Rattle.run_laws.proofs.Periods.{short-by}
 use Rattle.run_laws.proofs.Ready.{observed-known, put-kept}
 use Rattle.run_laws.proofs.Beginnings.{small-ids}
@@ -178,105 +173,32 @@ module _ (rows : List Row) (count : ℕ) (s : State) (id : ℕ) (ready : Ready c
       (λ entry e acked closes there. Follow-ending (changed rows cs) (book_turned s.book id (turned_at s id)) s.audit (moment_at s) entry e acked is small (Follow-seen (job_at s.jobs id) refl)))
 
 -- what a command makes of the book, and the changes of the kept rows
-abbrev Follows-outcome : List Row → Knowledge → Outcome → Type 0
-Follows-outcome rows k o = Follow (changed rows o.rows) (updated k o.book).book
-
-module _ (rows : List Row) (k : Knowledge) (reads : ℕ) (follow : Follow rows k.book) where
-  abbrev b : BookState
-  b = k.book
-
-  Follow-asked : (p : Result Unit Refusal) (lines : List Line) → Follows-outcome rows k (asked reads p lines)
-  Follow-asked (Ok permit) lines = follow
-  Follow-asked (Err r) lines = follow
-
-  Follow-forgotten : (p : Result Unit Refusal) (i : ServerNo) → nat_lt i.0 (length b.names) ≡ true → Follows-outcome rows k (forgotten reads p i)
-  Follow-forgotten (Ok permit) i known =
-      let within = ltb-true i.0 (length b.names) known in
-      let small = follow.book.small in
-      let fit : fits (length b.names) (removal i) ≡ true = rw known refl in
-      Follow-change rows b (removal i) follow fit (omega (arith, within, small))
-  Follow-forgotten (Err r) i known = follow
-
-  Follow-discovered : (o : Observation) → are_known (length b.names) (observed_servers o) ≡ true → (x : Option Seen) → o.seen ≡ x → Follows-outcome rows k (discovered b reads o x)
-  Follow-discovered o known None at = follow
-  Follow-discovered o known (Some seen) at = Follow-discovery rows b o follow known seen at (instance_at b o.no) refl
-
-  -- a decision
-  Follow-effect : (a : AuditState) (e : Effect) → IsAudit a → a.next ≤ 2 ^ 64 → IsEffectFor (length b.names) e → Follow (changed rows (rows_of a e)) (book_decided b e)
-  Follow-effect a effect.Stays is small fits = follow
-  Follow-effect a (effect.Change c) is small fits = Follow-change rows b c follow fits.0 fits.1
-  Follow-effect a (effect.Acks cluster) is small fits = Follow-recoveries rows b (acking a cluster) (acking-small a cluster is small) follow
-
-  Follow-decided : (a : AuditState) (p : Result Unit Refusal) (d : Decided) → IsAudit a → a.next ≤ 2 ^ 64 → IsEffectFor (length b.names) d.effect → Follows-outcome rows k (decided reads a p d)
-  Follow-decided a (Ok permit) d is small fits = Follow-effect a d.effect is small fits
-  Follow-decided a (Err r) d is small fits = follow
-
-  -- a recovery that begins
-  Follow-recovery : (s : State) (r : Result RecoveryBegins Refusal) → (updated k (recovery_begun (numbers_of s) r).book).audit.next ≤ 2 ^ 64 → Follows-outcome rows k (recovery_begun (numbers_of s) r)
-  Follow-recovery s (Ok x) most =
-      let less : x.entry.id + 1 ≤ 2 ^ 64 = most in
-      Follow-begins rows b (x ∷ []) (All-cons (λ (r : Recovery). r.id < 2 ^ 64) x.entry [] (omega (arith, less)) (All-nil (λ (r : Recovery). r.id < 2 ^ 64))) follow
-  Follow-recovery s (Err why) most = follow
-
--- what a command is given is of the book
-pub within-given : (count : ℕ) (s : State) (c : CommandTurn) → Ready count s → IsCommand count c → is_within (length s.book.names) c.command.i ≡ true
-within-given count s c ready command = subst (λ (n : ℕ). is_within n c.command.i ≡ true) (sym ready.names) (within-both count c command).0
-
-pub reading-known : (count : ℕ) (s : State) (i : ServerNo) → Ready count s → i.0 < length s.book.names → are_known (length s.book.names) (observed_servers (next_reading s.world (numbers_of s) i)) ≡ true
-reading-known count s i ready h =
-    let same : length s.world.servers ≡ length s.book.names = ready.servers ∙ sym ready.names in
-    subst (λ (n : ℕ). are_known n (observed_servers (next_reading s.world (numbers_of s) i)) ≡ true) same
-    (reading_known s.world i (next_count s.reads) s.moment ready.sources (subst (λ (n : ℕ). i.0 < n) (sym same) h))
-
 Follow-command : (rows : List Row) (count : ℕ) (s : State) (c : CommandTurn) → Ready count s → IsAudit s.audit → s.audit.next ≤ 2 ^ 64 → (updated (known_of s) (command_outcome s c).book).audit.next ≤ 2 ^ 64 → IsCommand count c
     → Follow rows s.book → Follow (changed rows (command_outcome s c).rows) (updated (known_of s) (command_outcome s c).book).book
-unfolding outcome_of
-Follow-command rows count s c ready audit small most command follow = by (route_of c.command.name) most
+Follow-command rows count s c ready audit small most command follow = by (command_outcome s c) (command-comes s c) most
   where
-    asks : Follows-outcome rows (known_of s) (question s.book s.audit s.reads c)
-    asks = Follow-asked rows (known_of s) s.reads follow (permitted s.book c.command) (lines_of s.book s.audit.recoveries c c.command.name)
+    effect-follows : (e : Effect) → IsEffectFor (length s.book.names) e → Follow (changed rows (rows_of s.audit e)) (book_decided s.book e)
+    effect-follows effect.Stays fits = follow
+    effect-follows (effect.Change x) fits = Follow-change rows s.book x follow fits.0 fits.1
+    effect-follows (effect.Acks cluster) fits = Follow-recoveries rows s.book (acking s.audit cluster) (acking-small s.audit cluster audit small) follow
 
-    given : (some : ServerNo → Outcome) → ((i : ServerNo) → nat_lt i.0 (length s.book.names) ≡ true → Follows-outcome rows (known_of s) (some i)) → (i : Option ServerNo) → is_within (length s.book.names) i ≡ true
-        → Follows-outcome rows (known_of s) (given_or (question s.book s.audit s.reads c) some i)
-    given some each None within = asks
-    given some each (Some i) within = each i within
-
-    begins : (p : Planner) (r : Option Refusal) → Follows-outcome rows (known_of s) (begun (numbers_of s) r (leases_by s.world s.book c.command p) (job_by s.world s.book c.command p (s.last_job + 1) s.configuration.wait s.configuration.every))
-    begins p (Some why) = follow
-    begins p None =
+    by : (o : Outcome) → Comes s c o → (updated (known_of s) o.book).audit.next ≤ 2 ^ 64 → Follow (changed rows o.rows) (updated (known_of s) o.book).book
+    by o (comes.Discovered i seen at there) most =
+        Follow-discovery rows s.book (reading s i) follow (reads-known count s ready i (given-in count s ready c command i at)) seen there (instance_at s.book i) refl
+    by o (comes.Forgotten i at) most =
+        let within = given-in count s ready c command i at in
+        let few = follow.book.small in
+        Follow-change rows s.book (removal i) follow (one_known (length s.book.names) i.0 within) (omega (arith, within, few))
+    by o (comes.Decided d at may) most = effect-follows (decided_of s.book s.audit (moment_at s) c.keys c.command.i d).effect (decided-fits count s ready c command d)
+    by o (comes.Begun p at free) most =
         let list = leases_by s.world s.book c.command p in
         let number = number_of (job_by s.world s.book c.command p (s.last_job + 1) s.configuration.wait s.configuration.every) in
         Follow-leases rows s.book (taken s.book.leases list number) (length-taken list s.book.leases number) follow
-
-    recovers : (i : Option ServerNo) → (updated (known_of s) (given_or (refusal s.reads UnknownInstance) (recovered s.world s.book s.audit s.configuration (numbers_of s)) i).book).audit.next ≤ 2 ^ 64
-        → Follows-outcome rows (known_of s) (given_or (refusal s.reads UnknownInstance) (recovered s.world s.book s.audit s.configuration (numbers_of s)) i)
-    recovers None most = follow
-    recovers (Some i) most =
-        Follow-recovery rows (known_of s) s.reads follow s (told_try s.configuration s.book (recovery_try s.world s.book s.audit (by_hand s.book s.configuration (numbers_of s) i) s.configuration.wait (s.last_job + 1) i)) most
-
-    takes : (i : ServerNo) (d : Option ServerNo) → (updated (known_of s) (taken_over s.world s.book s.audit s.configuration (numbers_of s) d i).book).audit.next ≤ 2 ^ 64 → Follows-outcome rows (known_of s) (taken_over s.world s.book s.audit s.configuration (numbers_of s) d i)
-    takes i None most = follow
-    takes i (Some d) most =
-        Follow-recovery rows (known_of s) s.reads follow s (told_try s.configuration s.book (takeover_try s.world s.book s.audit (by_hand s.book s.configuration (numbers_of s) i) s.configuration.wait (s.last_job + 1) i d)) most
-
-    takes-over : (i d : Option ServerNo) → (updated (known_of s) (given_or (refusal s.reads UnknownInstance) (taken_over s.world s.book s.audit s.configuration (numbers_of s) d) i).book).audit.next ≤ 2 ^ 64
-        → Follows-outcome rows (known_of s) (given_or (refusal s.reads UnknownInstance) (taken_over s.world s.book s.audit s.configuration (numbers_of s) d) i)
-    takes-over None d most = follow
-    takes-over (Some i) d most = takes i d most
-
-    by : (r : Route) → (updated (known_of s) (outcome_by s.world s.book s.audit s.configuration (numbers_of s) c r).book).audit.next ≤ 2 ^ 64 → Follows-outcome rows (known_of s) (outcome_by s.world s.book s.audit s.configuration (numbers_of s) c r)
-    by Discovers most =
-        given (λ i. discovered s.book s.reads (next_reading s.world (numbers_of s) i) (next_reading s.world (numbers_of s) i).seen)
-        (λ i h. Follow-discovered rows (known_of s) s.reads follow (next_reading s.world (numbers_of s) i) (reading-known count s i ready (ltb-true i.0 (length s.book.names) h)) (next_reading s.world (numbers_of s) i).seen refl)
-        c.command.i (within-given count s c ready command)
-    by Forgets most = given (forgotten s.reads (allowed (removal_refusal s.book c.command))) (Follow-forgotten rows (known_of s) s.reads follow (allowed (removal_refusal s.book c.command))) c.command.i (within-given count s c ready command)
-    by (Asks q) most = asks
-    by (Decides d) most =
-        Follow-decided rows (known_of s) s.reads follow s.audit (permitted s.book c.command) (decided_of s.book s.audit (moment_at s) c.keys c.command.i d) audit small
-        (decided-effect s.book (length s.book.names) follow.book.small s.audit (moment_at s) c.keys c.command.i d (within-given count s c ready command))
-    by (Begins p) most = begins p (refusal_by s.world s.book (moment_at s) s.configuration.every c.command p)
-    by Recovers most = recovers c.command.i most
-    by TakesOver most = takes-over c.command.i c.command.d most
+    by o (comes.Recovered x asked) most =
+        let less : x.entry.id + 1 ≤ 2 ^ 64 = most in
+        let y = with_told s.configuration s.book x in
+        Follow-begins rows s.book (y ∷ []) (All-cons (λ (r : Recovery). r.id < 2 ^ 64) x.entry [] (omega (arith, less)) (All-nil (λ (r : Recovery). r.id < 2 ^ 64))) follow
+    by o _ most = follow
 
 Follow-restart : (rows : List Row) (s : State) → AreShort s.configuration → IsAudit s.audit → s.audit.next ≤ 2 ^ 64 → Follow rows s.book → Follow (changed rows (restart_changes rows s)) (reloaded_book rows s)
 Follow-restart rows s periods audit small follow =

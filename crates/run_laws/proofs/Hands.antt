@@ -1,14 +1,14 @@
 -- What plans have in their hands is started again.
 use Rattle.std.proofs.Common.{All, Bool, List, None, Option, Some, [], ap, false, map, not, refl, subst, sym, true, ℕ, ◌+◌, ◌==◌, ◌∙◌, ◌∷◌, ◌≡◌, ◌⊎◌, inl, inr, ◌||◌}
 use Rattle.std.specs.Prelude.{if◌then◌else◌}
-use Rattle.run_laws.proofs.Prelude.{Act, All-append, All-filter, All-find, All-map, All-nil, All-push, All-weaker, Ask, BookState, ByBridges}
-use Rattle.run_laws.proofs.Prelude.{ByMatches, Command, CommandTurn, CoordsCommand, Deed, HoldsNone, IsTaken, Job, JobStep, Line, Means, Misses}
-use Rattle.run_laws.proofs.Prelude.{Moment, Op, Planner, PlansReturn, Returns, Row, ServerNo, StartsAll, State, Status, StopsOne, Turn, Turned}
-use Rattle.run_laws.proofs.Prelude.{Unended, World, about_kind, about_one, act_in, after_act, after_asking, after_deed, after_done, by_ops}
-use Rattle.run_laws.proofs.Prelude.{command_outcome, coords_command, deed-hands, deed_of, engine, eq-eqb, false≢true, flown, hands_after}
-use Rattle.run_laws.proofs.Prelude.{hands_by, has, has-with, has-without, is_going, job_at, job_by, job_with, jobs_turned, known_of, left_stopped}
-use Rattle.run_laws.proofs.Prelude.{next_count, number_of, option_map, recoveries_scanned, recovery_job, regroup_about, run_turns, same-head}
-use Rattle.run_laws.proofs.Prelude.{same-tail, start, step, turn-idle, turn-taken, turn_of, turned, updated, with_job, without_job}
+use Rattle.run_laws.proofs.Prelude.{Act, All-append, All-filter, All-find, All-map, All-nil, All-push, All-weaker, Ask, BookState, Command}
+use Rattle.run_laws.proofs.Prelude.{CommandTurn, CoordsCommand, Deed, HoldsNone, IsTaken, Job, JobStep, Line, Means, Misses, Moment, Op, Planner}
+use Rattle.run_laws.proofs.Prelude.{PlansReturn, Returns, Row, ServerNo, StartsAll, State, Status, StopsOne, Turn, Turned, Unended, World, about_kind}
+use Rattle.run_laws.proofs.Prelude.{about_one, act_in, after_act, after_asking, after_deed, after_done, by_ops, command_outcome, deed-hands, deed_of}
+use Rattle.run_laws.proofs.Prelude.{engine, eq-eqb, false≢true, flown, hands_after, hands_by, has, has-with, has-without, is_going, job_at, job_by}
+use Rattle.run_laws.proofs.Prelude.{job_in, job_with, jobs_turned, known_of, left_stopped, means_of, next_count, number_of, option_map, plan_by}
+use Rattle.run_laws.proofs.Prelude.{recoveries_scanned, recovery_job, regroup_about, run_turns, same-head, same-tail, same_Some, start, step}
+use Rattle.run_laws.proofs.Prelude.{turn-idle, turn-taken, turn_of, turned, updated, with_job, without_job}
 use Rattle.run_laws.proofs.Prelude.Turns
 use Rattle.run_laws.proofs.Prelude.act
 use Rattle.run_laws.proofs.Prelude.asking
@@ -18,13 +18,12 @@ use Rattle.run_laws.proofs.Prelude.deed
 use Rattle.run_laws.proofs.Prelude.events
 use Rattle.run_laws.proofs.Prelude.jobstep
 use Rattle.run_laws.proofs.Prelude.line
-use Rattle.run_laws.proofs.Prelude.means
 use Rattle.run_laws.proofs.Prelude.op
 use Rattle.run_laws.proofs.Prelude.planner
 use Rattle.run_laws.proofs.Prelude.turn
 use Rattle.run_laws.proofs.Prelude.unended
 use Rattle.run_laws.proofs.Making.{command-holds}
-use Rattle.run_laws.proofs.Stopping.{plans-start-again}
+use Rattle.run_laws.proofs.Stopping.{coords-start, gtids-start, matches-start, paths-start}
 
 -- ---- hands
 
@@ -148,25 +147,31 @@ regroup-returns : (b : BookState) (by : Means) (id wait : ℕ) (o : Option Serve
 regroup-returns b by id wait None = inl (λ n. refl)
 regroup-returns b by id wait (Some i) = tt
 
-coords-return : (w : World) (b : BookState) (c : Command) (id wait : ℕ) → Returns (unended.Plan (job_with id wait (coords_plans.plan_of w b c)))
-coords-return w b c id wait = go (coords_command c.name) refl
+coords-return : (w : World) (b : BookState) (kind : CoordsCommand) (c : Command) (id wait : ℕ)
+    → Returns (unended.Plan (job_with id wait (about_kind [] (coords_plans.ops_of w b) (Some kind) c)))
+coords-return w b kind c id wait = go kind refl
   where
     stops : (o : Option ServerNo) → Returns (unended.Plan (job_with id wait (about_one [] (coords_plans.ops_of w b coords_kind.StopReplica) o c.d)))
     stops None = inl (λ n. refl)
     stops (Some i) = inr (i, inl (refl, refl))
 
-    go : (o : Option CoordsCommand) → coords_command c.name ≡ o → Returns (unended.Plan (job_with id wait (coords_plans.plan_of w b c)))
-    go (Some coords_kind.StopReplica) e =
-        subst (λ (o : Option CoordsCommand). Returns (unended.Plan (job_with id wait (about_kind [] (coords_plans.ops_of w b) o c)))) (sym e) (stops c.i)
-    go o e = inl (λ n. plans-start-again.coords w b c (λ h. let bad = sym e ∙ h in cc) n)
+    go : (k : CoordsCommand) → kind ≡ k → Returns (unended.Plan (job_with id wait (about_kind [] (coords_plans.ops_of w b) (Some kind) c)))
+    go coords_kind.StopReplica e =
+        subst (λ (k : CoordsCommand). Returns (unended.Plan (job_with id wait (about_kind [] (coords_plans.ops_of w b) (Some k) c)))) (sym e) (stops c.i)
+    go k e = inl (λ n. coords-start w b (Some kind) c (λ h. let bad = sym e ∙ same_Some kind coords_kind.StopReplica h in cc) n)
+
+plan-returns-by : (w : World) (b : BookState) (c : Command) (p : Planner) (id wait every : ℕ) → Returns (unended.Plan (job_with id wait (plan_by w b every c p)))
+plan-returns-by w b c (planner.Coordinates kind) id wait every = coords-return w b kind c id wait
+plan-returns-by w b c (planner.Gtids kind) id wait every = inl (λ n. gtids-start b (Some kind) c n)
+plan-returns-by w b c (planner.Paths kind) id wait every = inl (λ n. paths-start w b (Some kind) c n)
+plan-returns-by w b c (planner.Matches kind) id wait every = inl (λ n. matches-start b every (Some kind) c n)
 
 job-returns : (w : World) (b : BookState) (c : Command) (p : Planner) (id wait every : ℕ) → Returns (job_by w b c p id wait every)
-job-returns w b c (planner.Coordinates kind) id wait every = coords-return w b c id wait
-job-returns w b c (planner.Gtids kind) id wait every = inl (λ n. plans-start-again.gtids b c n)
-job-returns w b c (planner.Paths kind) id wait every = inl (λ n. plans-start-again.paths w b c n)
-job-returns w b c (planner.Matches kind) id wait every = inl (λ n. plans-start-again.matches b every c n)
-job-returns w b c (planner.Regroups ByBridges) id wait every = regroup-returns b means.Bridges id wait c.i
-job-returns w b c (planner.Regroups ByMatches) id wait every = regroup-returns b (means.Matches every) id wait c.i
+job-returns w b c p id wait every = go (means_of every p)
+  where
+    go : (by : Option Means) → Returns (job_in w b c p id wait every by)
+    go None = plan-returns-by w b c p id wait every
+    go (Some by) = regroup-returns b by id wait c.i
 
 -- ---- once only the lines are left
 

@@ -1,34 +1,30 @@
 -- Each recovery of the audit that isn't ended has its unended job.
-use Rattle.std.proofs.Common.{◌≡◌, ◌∙◌, ℕ, ◌+◌, ◌<◌, ◌≤◌, Bool, true, false, cond, List, [], ◌∷◌, ◌++◌, append_assoc, map, length, refl, sym, ap, subst, Option, Some, None, Result, Ok, Err, arith}
+use Rattle.std.proofs.Common.{◌≡◌, ◌∙◌, ℕ, ◌+◌, ◌<◌, ◌≤◌, Bool, true, false, cond, List, [], ◌∷◌, ◌++◌, append_assoc, map, length, refl, sym, ap, subst, Option, Some, None, arith}
 use Rattle.std.specs.Prelude.{◌==◌, ◌||◌, All, AllPairs, IfSome, filter, fold, is_none, not, if◌then◌else◌}
-use Rattle.run_laws.proofs.Prelude.{Act, All-find, All-head, All-tail, Asks, AuditState, BeginInTurn, Begins as RecoveryBegins, BookState, ComesTo}
-use Rattle.run_laws.proofs.Prelude.{CommandTurn, Decided, Decides, Discovers, Docket, Effect, Ending, EntriesHaveJobs, Forgets, Hooked, IsAct}
-use Rattle.run_laws.proofs.Prelude.{IsAudit, IsReady, IsTurn, JobStep, Line, Moment, Observation, Outcome, Recovers, Recovery, Refusal, Rise}
-use Rattle.run_laws.proofs.Prelude.{Rise-push, Rise-with, Rise-within, Rise-without, Route, Row, Scenario, ServerNo, State, Status as Seen, TakesOver}
-use Rattle.run_laws.proofs.Prelude.{Turn, Unended, UnknownInstance, about as given_or, acknowledged, acknowledged_for, act-fits, act_in, after_act}
-use Rattle.run_laws.proofs.Prelude.{after_done, after_job, allowed, append-nil, asked, audit_after, begun, by_hand, cause_name, closed, closed_by}
-use Rattle.run_laws.proofs.Prelude.{closing_at, closing_for, closing_of, command_outcome, decided, decided_of, discovered, done_with, ended_so}
-use Rattle.run_laws.proofs.Prelude.{ending-closed, engine, entries_in, entry_id, eq-eqb, eqb-true, flown-entry, flown-number, forgotten, found-number}
-use Rattle.run_laws.proofs.Prelude.{hooked, interrupted, interrupted_at, is_acknowledged, is_going, is_of, is_open, is_unended, job-entry, job-number}
-use Rattle.run_laws.proofs.Prelude.{job_at, job_by, jobs_turned, joined-rising, known_of, leases_by, lines_of, loaded_audit, ne_eqb, next_count}
-use Rattle.run_laws.proofs.Prelude.{next_reading, number_of, numbers_of, open_ids, option_map, option_to_list, outcome_by, outcome_of, pairs_head}
-use Rattle.run_laws.proofs.Prelude.{pairs_tail, permitted, question, recovered, recoveries_begun, recoveries_by, recoveries_of, recoveries_scanned}
-use Rattle.run_laws.proofs.Prelude.{recovery_begun, recovery_job, recovery_try, refusal, refusal_by, reloaded_audit, removal_refusal, route_of}
-use Rattle.run_laws.proofs.Prelude.{run_turns, same_Some, start, start_moment, step as turn_step, taken_over, takeover_try, takeovers_by}
-use Rattle.run_laws.proofs.Prelude.{takeovers_of, told_try, tried, turn_of, turns_of, updated, with-past, with_job, without_job}
-use Rattle.run_laws.proofs.Prelude.Outcomes.{begun as job_begun}
+use Rattle.run_laws.proofs.Prelude.{Act, All-find, All-head, All-tail, AuditState, BeginInTurn, Begins as RecoveryBegins, Comes, ComesTo, CommandTurn}
+use Rattle.run_laws.proofs.Prelude.{Docket, Effect, Ending, EntriesHaveJobs, Hooked, IsAct, IsAudit, IsCommand, IsReady, IsTurn, JobStep, Moment}
+use Rattle.run_laws.proofs.Prelude.{Outcome, Ready, Recovery, Rise, Rise-push, Rise-with, Rise-within, Rise-without, Row, Scenario, State, Turn}
+use Rattle.run_laws.proofs.Prelude.{Unended, acknowledged, acknowledged_for, act-fits, act_in, after_act, after_done, after_job, append-nil, asked}
+use Rattle.run_laws.proofs.Prelude.{audit_after, begun, cause_name, closed, closed_by, closing_at, closing_for, closing_of, command-comes}
+use Rattle.run_laws.proofs.Prelude.{command_outcome, decided_of, done_with, ended_so, ending-closed, engine, entries_in, entry_id, eq-eqb, eqb-true}
+use Rattle.run_laws.proofs.Prelude.{flown-entry, flown-number, found-number, hooked, interrupted, interrupted_at, is_acknowledged, is_going, is_of}
+use Rattle.run_laws.proofs.Prelude.{is_open, is_unended, job-entry, job-number, job_at, job_by, jobs_turned, joined-rising, known_of, loaded_audit}
+use Rattle.run_laws.proofs.Prelude.{ne_eqb, next_count, number_of, open_ids, option_map, option_to_list, pairs_head, pairs_tail, recoveries_scanned}
+use Rattle.run_laws.proofs.Prelude.{recovery_job, reloaded_audit, run_turns, same_Some, start, start_moment, step as turn_step, turn_of, turns_of}
+use Rattle.run_laws.proofs.Prelude.{updated, with-past, with_job, with_told, without_job}
 use Rattle.run_laws.proofs.Prelude.Decisions.{audit_after as audit_decided}
 use Rattle.run_laws.proofs.Prelude.RecoveryPlans.{Recovery as RecoveryJob}
-use Rattle.run_laws.proofs.Prelude.route.{Begins}
 use Rattle.run_laws.proofs.Prelude.act
 use Rattle.run_laws.proofs.Prelude.effect
 use Rattle.run_laws.proofs.Prelude.ending
 use Rattle.run_laws.proofs.Prelude.jobstep as step
 use Rattle.run_laws.proofs.Prelude.turn
 use Rattle.run_laws.proofs.Prelude.unended
+use Rattle.run_laws.proofs.Prelude.comes
 use Rattle.run_laws.proofs.Beginnings.{turn-can}
 use Rattle.run_laws.proofs.Closings.{ended-map, ended_as, ended_in, ended_with}
 use Rattle.run_laws.proofs.Counting.{IsReckoned, reckoned-start, reckoned-step}
+use Rattle.run_laws.proofs.ReadyOutcomes.{asked-begins}
 
 -- ---- lists of ids
 
@@ -271,78 +267,19 @@ module _ (low : ℕ) (s : State) (is : IsPaired low s) where
     rising = joined-rising (length s.book.names) low s.book.leases s.audit s.last_job xs s.jobs can is.rising;
   }
 
-module _ (low : ℕ) (s : State) (is : IsPaired low s) (c : CommandTurn) where
-  -- by an outcome
-  abbrev By : Outcome → Type 0
-  By o = ArePaired low (updated (known_of s) o.book).audit (updated (known_of s) o.book).jobs (updated (known_of s) o.book).last_job
-
-  by-discovered : (b : BookState) (reads : ℕ) (o : Observation) (x : Option Seen) → By (discovered b reads o x)
-  by-discovered b reads o None = is
-  by-discovered b reads o (Some seen) = is
-
-  by-forgotten : (reads : ℕ) (p : Result Unit Refusal) (i : ServerNo) → By (forgotten reads p i)
-  by-forgotten reads (Ok permit) i = is
-  by-forgotten reads (Err r) i = is
-
-  by-asked : (reads : ℕ) (p : Result Unit Refusal) (lines : List Line) → By (asked reads p lines)
-  by-asked reads (Ok permit) lines = is
-  by-asked reads (Err r) lines = is
-
+-- a command
+module _ (low count : ℕ) (s : State) (ready : Ready count s) (is : IsPaired low s) (c : CommandTurn) (fits : IsCommand count c) where
   by-effect : (e : Effect) → ArePaired low (audit_decided s.audit e) s.jobs s.last_job
-  by-effect effect.Stays = is
-  by-effect (effect.Change x) = is
   by-effect (effect.Acks cluster) = record { ids = open-acknowledged s.audit cluster ∙ is.ids; rising = is.rising }
+  by-effect _ = is
 
-  by-decided : (reads : ℕ) (a : AuditState) (p : Result Unit Refusal) (d : Decided) → By (decided reads a p d)
-  by-decided reads a (Ok permit) d = by-effect d.effect
-  by-decided reads a (Err r) d = is
-
-  by-job : (r : Option Refusal) (list : List ServerNo) (job : Unended) → number_of job ≡ s.last_job + 1 → entry_id job ≡ None → By (job_begun (numbers_of s) r list job)
-  by-job None list job number entry = begins-one low s is job number entry
-  by-job (Some r) list job number entry = is
-
-  by-try : (r : Result RecoveryBegins Refusal) → Can s (tried r) → By (recovery_begun (numbers_of s) r)
-  by-try (Ok x) can = begins-all low s is (x ∷ []) can
-  by-try (Err why) can = is
-
-  by-recovery : (i : Option ServerNo) → Can s (recoveries_of s i) → By (given_or (refusal s.reads UnknownInstance) (recovered s.world s.book s.audit s.configuration (numbers_of s)) i)
-  by-recovery None can = is
-  by-recovery (Some i) can = by-try (told_try s.configuration s.book (recovery_try s.world s.book s.audit (by_hand s.book s.configuration (numbers_of s) i) s.configuration.wait (s.last_job + 1) i)) can
-
-  by-taken : (i : ServerNo) (d : Option ServerNo) → Can s (takeovers_by s i d) → By (taken_over s.world s.book s.audit s.configuration (numbers_of s) d i)
-  by-taken i None can = is
-  by-taken i (Some d) can = by-try (told_try s.configuration s.book (takeover_try s.world s.book s.audit (by_hand s.book s.configuration (numbers_of s) i) s.configuration.wait (s.last_job + 1) i d)) can
-
-  by-takeover : (i d : Option ServerNo) → Can s (takeovers_of s i d) → By (given_or (refusal s.reads UnknownInstance) (taken_over s.world s.book s.audit s.configuration (numbers_of s) d) i)
-  by-takeover None d can = is
-  by-takeover (Some i) d can = by-taken i d can
-
-  by-given : (alone : Outcome) (some : ServerNo → Outcome) → By alone → ((i : ServerNo) → By (some i)) → (i : Option ServerNo) → By (given_or alone some i)
-  by-given alone some here each None = here
-  by-given alone some here each (Some i) = each i
-
-  by-question : By (question s.book s.audit s.reads c)
-  by-question = by-asked s.reads (permitted s.book c.command) (lines_of s.book s.audit.recoveries c c.command.name)
-
-  by-route : (r : Route) → Can s (recoveries_by s c.command r) → By (outcome_by s.world s.book s.audit s.configuration (numbers_of s) c r)
-  by-route Discovers can =
-      by-given (question s.book s.audit s.reads c) (λ i. discovered s.book s.reads (next_reading s.world (numbers_of s) i) (next_reading s.world (numbers_of s) i).seen) by-question
-      (λ i. by-discovered s.book s.reads (next_reading s.world (numbers_of s) i) (next_reading s.world (numbers_of s) i).seen) c.command.i
-  by-route Forgets can =
-      by-given (question s.book s.audit s.reads c) (forgotten s.reads (allowed (removal_refusal s.book c.command))) by-question
-      (by-forgotten s.reads (allowed (removal_refusal s.book c.command))) c.command.i
-  by-route (Asks q) can = by-question
-  by-route (Decides d) can = by-decided s.reads s.audit (permitted s.book c.command) (decided_of s.book s.audit (record { 0 = s.moment }) c.keys c.command.i d)
-  by-route (Begins p) can =
-      by-job (refusal_by s.world s.book (record { 0 = s.moment }) s.configuration.every c.command p) (leases_by s.world s.book c.command p)
-      (job_by s.world s.book c.command p (s.last_job + 1) s.configuration.wait s.configuration.every)
+  by-outcome : (o : Outcome) → Comes s c o → ArePaired low (updated (known_of s) o.book).audit (updated (known_of s) o.book).jobs (updated (known_of s) o.book).last_job
+  by-outcome o (comes.Decided d at may) = by-effect (decided_of s.book s.audit (record { 0 = s.moment }) c.keys c.command.i d).effect
+  by-outcome o (comes.Begun p at free) =
+      begins-one low s is (job_by s.world s.book c.command p (s.last_job + 1) s.configuration.wait s.configuration.every)
       (job-number s.world s.book c.command p (s.last_job + 1) s.configuration.wait s.configuration.every) (job-entry s.world s.book c.command p (s.last_job + 1) s.configuration.wait s.configuration.every)
-  by-route Recovers can = by-recovery c.command.i can
-  by-route TakesOver can = by-takeover c.command.i c.command.d can
-
-  by-command : Can s (recoveries_begun s (turn.Act (act.Command c))) → By (command_outcome s c)
-  unfolding outcome_of
-  by-command can = by-route (route_of c.command.name) can
+  by-outcome o (comes.Recovered x asked) = begins-all low s is (with_told s.configuration s.book x ∷ []) (asked-begins count s ready c fits x asked, tt)
+  by-outcome o _ = is
 
 -- ---- a job's turn
 
@@ -429,7 +366,7 @@ paired-act : (low count : ℕ) (rows : List Row) (s : State) (a : Act) → IsRec
 paired-act low count rows s (act.PollRead p n) ready fits is = record { ids = is.ids; rising = is.rising }
 paired-act low count rows s (act.PollStore p) ready fits is = record { ids = is.ids; rising = is.rising }
 paired-act low count rows s (act.Command c) ready fits is =
-    by-command low s is c (turn-can count s (turn.Act (act.Command c)) ready.ready fits)
+    by-outcome low count s ready.ready is c fits (command_outcome s c) (command-comes s c)
 paired-act low count rows s (act.Job job) ready fits is = paired-job low count s job ready is
 paired-act low count rows s act.Scan ready fits is = begins-all low s is (recoveries_scanned s) (turn-can count s (turn.Act act.Scan) ready.ready fits)
 paired-act low count rows s act.Restart ready fits is = paired-none low (reloaded_audit rows s) (interrupted_at rows s) s.last_job (Rise-within low s.jobs s.last_job is.rising)

@@ -2,13 +2,16 @@ mod Prelude
 pub mod Once
 pub mod Naming
 pub mod Apart
+pub mod TurnJobs
 pub mod Ready
 pub mod BegunInTurn
 pub mod ReadyOutcomes
 pub mod Readiness
 pub mod Listing
+pub mod Leading
+pub mod HeldLines
+pub mod PlanTurns
 pub mod Recoveries
-pub mod Routed
 pub mod FlownOutcomes
 pub mod Flown
 pub mod StartStates
@@ -44,8 +47,8 @@ pub mod Moments
 pub mod Waits
 pub mod Tables
 pub mod Stopping
-pub mod Leading
 pub mod Hands
+pub mod LinesHold
 pub mod ClaimKept
 pub mod JobTurns
 pub mod Lowest
@@ -53,7 +56,6 @@ pub mod Failures
 pub use Rattle.orch_core.proofs.BinlogCoords as BinlogCoords
 pub mod CauseLaws
 pub use Rattle.recovery_covers.proofs.JobLaws as JobLaws
-pub use Rattle.orch_core.proofs.JobsInFlight as JobsInFlight
 pub mod MoveLaws
 pub use Rattle.orch_core.proofs.NameOrder as NameOrder
 pub mod OpeningLaws

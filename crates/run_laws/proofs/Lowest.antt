@@ -1,10 +1,10 @@
 -- What refuses a command has the lowest number of what its checks refuse.
 use Rattle.std.proofs.Common.{◌≡◌, ℕ, ◌≤◌, Bool, true, false, List, [], ◌∷◌, refl, ap, Option, Some, None, arith}
 use Rattle.std.specs.Prelude.{Any, is_some, if◌then◌else◌}
-use Rattle.run_laws.proofs.Prelude.{All-cons, All-nil, Asks, ByBridges, ByMatches, Command, Coordinates, Decides, Discovers, Forgets, Gtids, IsAnswer}
-use Rattle.run_laws.proofs.Prelude.{IsNoLower, Matches, Paths, Planner, Recovers, Refusal, RefusedByLowest, Regroups, Route, ServerNo, State}
-use Rattle.run_laws.proofs.Prelude.{TakesOver, busy_by, busy_given, by_hand, checks_by, coords-lowest, first_of, gtid-lowest, is_known, is_unknown}
-use Rattle.run_laws.proofs.Prelude.{lease_at, match-lowest, numbers_of, path-lowest, plan_checks, recover_checks, recovery-lowest, recovery_refused}
+use Rattle.run_laws.proofs.Prelude.{All-cons, All-nil, Asks, Command, Coordinates, Decides, Discovers, Forgets, Gtids, IsAnswer, IsNoLower, Matches}
+use Rattle.run_laws.proofs.Prelude.{Paths, Planner, Recovers, Refusal, RefusedByLowest, Route, ServerNo, State, TakesOver, busy_by, busy_given}
+use Rattle.run_laws.proofs.Prelude.{by_hand, checks_by, coords-lowest, first_of, gtid-lowest, is_known, is_unknown, lease_at, match-lowest}
+use Rattle.run_laws.proofs.Prelude.{numbers_of, path-lowest, plan_checks, recover_checks, recovery-lowest, recovery_refused}
 use Rattle.run_laws.proofs.Prelude.{refusal_by as planned_refusal, route_of, same_Some, seen_in, status, takeover-lowest, takeover_checks_by}
 use Rattle.run_laws.proofs.Prelude.{takeover_given, takeover_refused, takes_checks, unknown_in, unreached}
 use Rattle.run_laws.proofs.Prelude.RefusedCommands.{refusal_by}
@@ -53,12 +53,10 @@ module _ (s : State) (c : Command) where
 
   -- of a plan
   by-plan : (p : Planner) → IsAnswer (plan_checks s c p) (planned_refusal s.world s.book (record { 0 = s.moment }) s.configuration.every c p)
-  by-plan (Coordinates kind) = coords-lowest s.world s.book c
-  by-plan (Gtids kind) = gtid-lowest s.world s.book c
-  by-plan (Paths kind) = path-lowest s.world s.book (record { 0 = s.moment }) c
-  by-plan (Regroups ByBridges) = path-lowest s.world s.book (record { 0 = s.moment }) c
-  by-plan (Regroups ByMatches) = match-lowest s.world s.book (record { 0 = s.moment }) s.configuration.every c
-  by-plan (Matches kind) = match-lowest s.world s.book (record { 0 = s.moment }) s.configuration.every c
+  by-plan (Coordinates kind) = coords-lowest s.world s.book (Some kind) c
+  by-plan (Gtids kind) = gtid-lowest s.world s.book (Some kind) c
+  by-plan (Paths kind) = path-lowest s.world s.book (record { 0 = s.moment }) (Some kind) c
+  by-plan (Matches kind) = match-lowest s.world s.book (record { 0 = s.moment }) s.configuration.every (Some kind) c
 
   by-recovery : (i : Option ServerNo) → IsAnswer (recover_checks s i) (recovery_refused s.world s.book s.audit s.configuration (numbers_of s) i)
   by-recovery None = one-check (Some refusal.UnknownInstance)

@@ -1,15 +1,13 @@
--- What holds of whatever a command makes of what is known.
-use Rattle.std.proofs.Common.{◌+◌, List, [], ◌∷◌, Option, Some, None, Result, Ok, Err}
-use Rattle.run_laws.proofs.Prelude.{Asks, Attempt, Begins as RecoveryBegins, CommandTurn, Decides, Decision, Discovers, Forgets}
-use Rattle.run_laws.proofs.Prelude.{Line, Outcome, Planner, Recovers, Refusal, Route, ServerNo, State, Status as Seen, TakesOver}
-use Rattle.run_laws.proofs.Prelude.{UnknownInstance, about as given_or, allowed, asked, by_hand, command_outcome, decided, decided_of}
-use Rattle.run_laws.proofs.Prelude.{discovered, forgotten, job_by, leases_by, lines_of, next_reading, numbers_of, outcome_by, outcome_of, permitted}
-use Rattle.run_laws.proofs.Prelude.{question, recovered, recovery_begins, recovery_begun, recovery_refusal, refusal, refusal_by, removal}
-use Rattle.run_laws.proofs.Prelude.{removal_refusal, route_of, taken_over, takeover_begins, takeover_refusal, told_try, unless_refused}
-use Rattle.run_laws.proofs.Prelude.{Update, with_told}
-use Rattle.run_laws.proofs.Prelude.Outcomes.{begun as job_begun}
-use Rattle.run_laws.proofs.Prelude.route.{Begins}
+-- What holds of whatever a command makes of what is known, and of the job that it begins.
+use Rattle.std.proofs.Common.{◌+◌, [], ◌∷◌, ◌≡◌, refl, subst, None, Option, Some}
+use Rattle.run_laws.proofs.Prelude.{Attempt, Begins as RecoveryBegins, BegunJob, Comes, Command, CommandTurn, Decision, IsAskedFor, Outcome, Planner}
+use Rattle.run_laws.proofs.Prelude.{Recovers, Refusal, Route, ServerNo, State, TakesOver, Update, begun_by, begun_of, by_hand, command-comes}
+use Rattle.run_laws.proofs.Prelude.{command_outcome, decided_of, job_by, label_at, leases_by, next_reading, numbers_of, of_plan, of_try, period_by}
+use Rattle.run_laws.proofs.Prelude.{recovering, recovery_begins, recovery_job, recovery_refusal, refusal_by, removal, route_of, same_Some}
+use Rattle.run_laws.proofs.Prelude.{takeover_begins, takeover_refusal, taking_over, told_try, unless_refused, with_told}
 use Rattle.run_laws.proofs.Prelude.update
+use Rattle.run_laws.proofs.Prelude.comes
+use Rattle.run_laws.proofs.Prelude.route.{Begins}
 
 module _ (s : State) (c : CommandTurn) (P : Update → Type 0) where
   abbrev by_operator : ServerNo → Attempt
@@ -28,66 +26,55 @@ module _ (s : State) (c : CommandTurn) (P : Update → Type 0) where
     pub takes : (i d : ServerNo)
         → P (update.Recovers (with_told s.configuration s.book (takeover_begins s.book s.audit (by_operator i).now (by_operator i).block s.configuration.wait (s.last_job + 1) i d) ∷ []))
 
-  module _ (all : HoldsOfAll) where
-    by-asked : (p : Result Unit Refusal) (lines : List Line) → P (asked s.reads p lines).book
-    by-asked (Ok permit) lines = all.stays
-    by-asked (Err r) lines = all.stays
+  -- holds of what it makes
+  pub command-holds : HoldsOfAll → P (command_outcome s c).book
+  command-holds all = by (command_outcome s c) (command-comes s c)
+    where
+      by : (o : Outcome) → Comes s c o → P o.book
+      by o (comes.Discovered i seen at there) = all.discovery i
+      by o (comes.Forgotten i at) = all.removal i
+      by o (comes.Decided d at may) = all.decides d
+      by o (comes.Begun p at free) = all.begins p
+      by o (comes.Recovered x (comes.Fails i route at free)) = all.recovers i
+      by o (comes.Recovered x (comes.Passes i d route at there free)) = all.takes i d
+      by o _ = all.stays
 
-    by-discovered : (i : ServerNo) (x : Option Seen) → P (discovered s.book s.reads (next_reading s.world (numbers_of s) i) x).book
-    by-discovered i None = all.stays
-    by-discovered i (Some seen) = all.discovery i
+-- ---- a job that a command begins: a plan or a regroup, or a recovery
 
-    by-forgotten : (p : Result Unit Refusal) (i : ServerNo) → P (forgotten s.reads p i).book
-    by-forgotten (Ok permit) i = all.removal i
-    by-forgotten (Err r) i = all.stays
+pub data IsBegunBy (s : State) (c : Command) : BegunJob → Type 0 where
+  Planned : (p : Planner) → route_of c.name ≡ Begins p
+      → IsBegunBy s c (record { list = leases_by s.world s.book c p; job = job_by s.world s.book c p (s.last_job + 1) s.configuration.wait s.configuration.every; entry = None })
+  Recovering : (x : RecoveryBegins) → IsAskedFor s c x
+      → IsBegunBy s c (record { list = x.list; job = recovery_job (with_told s.configuration s.book x); entry = Some x.entry })
 
-    by-decided : (p : Result Unit Refusal) (d : Decision) → P (decided s.reads s.audit p (decided_of s.book s.audit (record { 0 = s.moment }) c.keys c.command.i d)).book
-    by-decided (Ok permit) d = all.decides d
-    by-decided (Err r) d = all.stays
+module _ (s : State) (c : Command) (x : BegunJob) where
+  by-plan : (p : Planner) (r : Option Refusal) → route_of c.name ≡ Begins p
+      → of_plan r (leases_by s.world s.book c p) (job_by s.world s.book c p (s.last_job + 1) s.configuration.wait s.configuration.every) ≡ Some x → IsBegunBy s c x
+  by-plan p None route is = subst (IsBegunBy s c) (same_Some _ x is) (Planned p route)
+  by-plan p (Some why) route is = cc
 
-    by-job : (r : Option Refusal) (p : Planner) → P (job_begun (numbers_of s) r (leases_by s.world s.book c.command p) (job_by s.world s.book c.command p (s.last_job + 1) s.configuration.wait s.configuration.every)).book
-    by-job None p = all.begins p
-    by-job (Some r) p = all.stays
+  by-try : (r : Option Refusal) (y : RecoveryBegins) → (r ≡ None → IsAskedFor s c y) → of_try (told_try s.configuration s.book (unless_refused r y)) ≡ Some x → IsBegunBy s c x
+  by-try None y asked is = subst (IsBegunBy s c) (same_Some _ x is) (Recovering y (asked refl))
+  by-try (Some why) y asked is = cc
 
-    by-try : (o : Option Refusal) (x : RecoveryBegins) → P (update.Recovers (with_told s.configuration s.book x ∷ [])) → P (recovery_begun (numbers_of s) (told_try s.configuration s.book (unless_refused o x))).book
-    by-try None x here = here
-    by-try (Some r) x here = all.stays
+  by-recovery : route_of c.name ≡ Recovers → (i : Option ServerNo) → c.i ≡ i → recovering s i ≡ Some x → IsBegunBy s c x
+  by-recovery route None at is = cc
+  by-recovery route (Some i) at is =
+      by-try (recovery_refusal s.world s.book s.audit (by_hand s.book s.configuration (numbers_of s) i) i)
+      (recovery_begins s.book s.audit (record { 0 = s.moment }) (period_by s.configuration (label_at s.book i)) s.configuration.wait (s.last_job + 1) i) (comes.Fails i route at) is
 
-    by-recovery : (i : Option ServerNo) → P (given_or (refusal s.reads UnknownInstance) (recovered s.world s.book s.audit s.configuration (numbers_of s)) i).book
-    by-recovery None = all.stays
-    by-recovery (Some i) =
-        by-try (recovery_refusal s.world s.book s.audit (by_operator i) i) (recovery_begins s.book s.audit (by_operator i).now (by_operator i).block s.configuration.wait (s.last_job + 1) i)
-        (all.recovers i)
+  by-takeover : route_of c.name ≡ TakesOver → (i d : Option ServerNo) → c.i ≡ i → c.d ≡ d → taking_over s i d ≡ Some x → IsBegunBy s c x
+  by-takeover route None d at there is = cc
+  by-takeover route (Some i) None at there is = cc
+  by-takeover route (Some i) (Some d) at there is =
+      by-try (takeover_refusal s.world s.book s.audit (by_hand s.book s.configuration (numbers_of s) i) i d)
+      (takeover_begins s.book s.audit (record { 0 = s.moment }) (period_by s.configuration (label_at s.book i)) s.configuration.wait (s.last_job + 1) i d) (comes.Passes i d route at there) is
 
-    by-taken : (i : ServerNo) (d : Option ServerNo) → P (taken_over s.world s.book s.audit s.configuration (numbers_of s) d i).book
-    by-taken i None = all.stays
-    by-taken i (Some d) =
-        by-try (takeover_refusal s.world s.book s.audit (by_operator i) i d) (takeover_begins s.book s.audit (by_operator i).now (by_operator i).block s.configuration.wait (s.last_job + 1) i d)
-        (all.takes i d)
+  by-route : (r : Route) → route_of c.name ≡ r → begun_by s c r ≡ Some x → IsBegunBy s c x
+  by-route (Begins p) route is = by-plan p (refusal_by s.world s.book (record { 0 = s.moment }) s.configuration.every c p) route is
+  by-route Recovers route is = by-recovery route c.i refl is
+  by-route TakesOver route is = by-takeover route c.i c.d refl refl is
+  by-route _ route is = cc
 
-    by-takeover : (i d : Option ServerNo) → P (given_or (refusal s.reads UnknownInstance) (taken_over s.world s.book s.audit s.configuration (numbers_of s) d) i).book
-    by-takeover None d = all.stays
-    by-takeover (Some i) d = by-taken i d
-
-    by-given : (alone : Outcome) (some : ServerNo → Outcome) → P alone.book → ((i : ServerNo) → P (some i).book) → (i : Option ServerNo) → P (given_or alone some i).book
-    by-given alone some here each None = here
-    by-given alone some here each (Some i) = each i
-
-    by-question : P (question s.book s.audit s.reads c).book
-    by-question = by-asked (permitted s.book c.command) (lines_of s.book s.audit.recoveries c c.command.name)
-
-    by-route : (r : Route) → P (outcome_by s.world s.book s.audit s.configuration (numbers_of s) c r).book
-    by-route Discovers =
-        by-given (question s.book s.audit s.reads c) (λ i. discovered s.book s.reads (next_reading s.world (numbers_of s) i) (next_reading s.world (numbers_of s) i).seen) by-question
-        (λ i. by-discovered i (next_reading s.world (numbers_of s) i).seen) c.command.i
-    by-route Forgets = by-given (question s.book s.audit s.reads c) (forgotten s.reads (allowed (removal_refusal s.book c.command))) by-question (by-forgotten (allowed (removal_refusal s.book c.command))) c.command.i
-    by-route (Asks q) = by-question
-    by-route (Decides d) = by-decided (permitted s.book c.command) d
-    by-route (Begins p) = by-job (refusal_by s.world s.book (record { 0 = s.moment }) s.configuration.every c.command p) p
-    by-route Recovers = by-recovery c.command.i
-    by-route TakesOver = by-takeover c.command.i c.command.d
-
-    -- holds of what it makes
-    pub command-holds : P (command_outcome s c).book
-    unfolding outcome_of
-    command-holds = by-route (route_of c.command.name)
+  pub job-begun : begun_of s c ≡ Some x → IsBegunBy s c x
+  job-begun is = by-route (route_of c.name) refl is

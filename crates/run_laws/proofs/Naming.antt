@@ -1,16 +1,19 @@
 -- What begins names no replica twice.
 use Rattle.run_laws.proofs.Prelude.{Action, All-nil, All-push, AreCounts, AreReplicas, Attached, Attempt, AuditState, Begins, BookState, Code}
-use Rattle.run_laws.proofs.Prelude.{Detached, Entry, Instance, NamesReplicasOnce, NoCandidate, NotMaster, NotReplica, Refusal, ServerNo, SourceState}
+use Rattle.run_laws.proofs.Prelude.{Detached, Entry, Instance, NamesLogging, NamesReplicasOnce, NoCandidate, NotMaster, NotReplica, Refusal, Server, ServerNo, SourceState}
 use Rattle.run_laws.proofs.Prelude.{Staged, UnknownInstance, Without, World, action-of, action_of, actionable_in, after_try, and_parts, attached_in}
 use Rattle.run_laws.proofs.Prelude.{attached_of, by_name, can_succeed, case_of, code_at, code_of, counts_of, entry_of, eqb-true, false≢true}
 use Rattle.run_laws.proofs.Prelude.{first_refusal, from_start, has_log, has_successor, held_back, held_off, instance_at, is_attached_to, is_given}
-use Rattle.run_laws.proofs.Prelude.{is_instance, is_replica_of, is_valid, neither, no_master, no_replica, none-some, none_replicates, not-true}
+use Rattle.run_laws.proofs.Prelude.{is_instance, is_replica_of, is_valid, logs_by, logs_in, neither, no_master, no_replica, none-some, none_replicates, not-true}
 use Rattle.run_laws.proofs.Prelude.{only_if, purpose_by, recovery_begins, recovery_purpose, recovery_refusal, recovery_try, refusal_for, replicas_of}
+use Rattle.run_laws.proofs.Prelude.{server_at, without_log}
 use Rattle.run_laws.proofs.Prelude.{row, same_label, same_Some, scan_step, scanned, scanned_over, seen_source, source_in, source_of, staged_refusal}
 use Rattle.run_laws.proofs.Prelude.{takeover_begins, takeover_refusal, takeover_try, tally-parts, times, unless_refused, unrefused, without_successor}
 use Rattle.run_laws.proofs.Prelude.Lists.{first_of}
 use Rattle.run_laws.proofs.Prelude.Recoveries.{refusal_by}
 use Rattle.run_laws.proofs.Prelude.action
+use Rattle.run_laws.proofs.Prelude.check
+use Rattle.run_laws.proofs.Prelude.commands_refusal as refusal
 use Rattle.run_laws.proofs.Prelude.purpose
 use Rattle.std.proofs.Common.{◌≡◌, ℕ, ◌+◌, ◌<◌, ◌≤◌, ◌∙◌, ◌&&◌, Bool, true, false, cond, not, List, [], ◌∷◌, length, refl, sym, ap, subst, Option, Some, None, Ok, arith}
 use Rattle.std.specs.Prelude.{◌==◌, All, is_some, nat_lt, option_map}
@@ -40,9 +43,13 @@ attached-replica i Without = refl
 attached-replica i (Attached m) = refl
 attached-replica i (Detached m) = refl
 
-last-two : (x1 x2 x3 x4 x5 : Option Refusal) → first_of (x1 ∷ x2 ∷ x3 ∷ x4 ∷ x5 ∷ []) ≡ None → (x4 ≡ None) × (x5 ≡ None)
-last-two None None None None None h = (refl, refl)
-last-two _ _ _ _ _ h = cc
+of-five : (x1 x2 x3 x4 x5 : Option Refusal) → first_of (x1 ∷ x2 ∷ x3 ∷ x4 ∷ x5 ∷ []) ≡ None → (x4 ≡ None) × (x5 ≡ None) × (x2 ≡ None)
+of-five None None None None None h = (refl, refl, refl)
+of-five _ _ _ _ _ h = cc
+
+logged : (o : Option Server) → logs_in o ≡ true → logs_by o ≡ true
+logged None h = h
+logged (Some s) h = h
 
 -- what is asked for of a server with a source is no master's recovery
 abbrev is_masters : Action → Bool
@@ -103,27 +110,45 @@ module _ (w : World) (b : BookState) (audit : AuditState) (a : Attempt) where
       by-code None e h = cc
       by-code (Some code) e h = by-action code (action_of code) (master-source b f code e) (neither _ (refusal_for w b audit a f code (action_of code)) h).1
 
-  -- and is none of them
-  successor : (f s : ServerNo) → recovery_refusal w b audit a f ≡ None → source_of b f ≡ Some s → is_replica_of b f s ≡ false
+  -- it logs, and is none of them
+  successor : (f s : ServerNo) → recovery_refusal w b audit a f ≡ None → source_of b f ≡ Some s → (has_log w s ≡ true) × (is_replica_of b f s ≡ false)
   successor f s free at =
       let one = and_parts (is_valid b s) (has_log w s && (same_label w s f && not (is_replica_of b f s))) (succeeds f s free at) in
       let two = and_parts (has_log w s) (same_label w s f && not (is_replica_of b f s)) one.1 in
-      not-true (is_replica_of b f s) (and_parts (same_label w s f) (not (is_replica_of b f s)) two.1).1
+      (two.0, not-true (is_replica_of b f s) (and_parts (same_label w s f) (not (is_replica_of b f s)) two.1).1)
 
   recovery-are : (f : ServerNo) → recovery_refusal w b audit a f ≡ None → AreReplicas (recovery_purpose b f) f (replicas_of b f)
   recovery-are f free = go (source_of b f) refl
     where
       go : (o : Option ServerNo) → source_of b f ≡ o → AreReplicas (purpose_by o) f (replicas_of b f)
       go None e = record { distinct = replicas-few b f; placed = tt }
-      go (Some s) e = record { distinct = replicas-few b f; placed = no-replica b f s (successor f s free e) }
+      go (Some s) e = record { distinct = replicas-few b f; placed = no-replica b f s (successor f s free e).1 }
+
+  recovery-logs : (f : ServerNo) → recovery_refusal w b audit a f ≡ None → NamesLogging w (recovery_purpose b f)
+  recovery-logs f free = go (source_of b f) refl
+    where
+      go : (o : Option ServerNo) → source_of b f ≡ o → NamesLogging w (purpose_by o)
+      go None e = tt
+      go (Some s) e = logged (server_at w s.0) (successor f s free e).0
+
+  unrefused-takeover : (i d : ServerNo) → takeover_refusal w b audit a i d ≡ None → (no_master b i ≡ None) × (no_replica b i d ≡ None) × (first_refusal w b (case_of b i d) row ≡ None)
+  unrefused-takeover i d free =
+      of-five (only_if (not (is_instance b i && is_instance b d)) UnknownInstance) (first_refusal w b (case_of b i d) row) (held_back b audit a i) (no_master b i)
+      (no_replica b i d) free
+
+  takeover-logs : (i d : ServerNo) → takeover_refusal w b audit a i d ≡ None → NamesLogging w (purpose.Takeover d)
+  takeover-logs i d free =
+      let one = neither _ (first_refusal w b (case_of b i d) (check.Busy ∷ check.Unreachable ∷ check.DestNotLogging ∷ check.SameServerId ∷ check.VersionLower ∷ [])) (unrefused-takeover i d free).2 in
+      let two = neither _ (first_refusal w b (case_of b i d) (check.Unreachable ∷ check.DestNotLogging ∷ check.SameServerId ∷ check.VersionLower ∷ [])) one.1 in
+      let three = neither _ (first_refusal w b (case_of b i d) (check.DestNotLogging ∷ check.SameServerId ∷ check.VersionLower ∷ [])) two.1 in
+      let logs = (neither (without_log w d) None (neither _ (first_refusal w b (case_of b i d) (check.SameServerId ∷ check.VersionLower ∷ [])) three.1).0).0 in
+      logged (server_at w d.0) (passed (has_log w d) refusal.DestNotLogging logs)
 
   takeover-are : (i d : ServerNo) → d.0 < length b.names → takeover_refusal w b audit a i d ≡ None → AreReplicas (purpose.Takeover d) i (replicas_of b i)
   takeover-are i d within free = record { distinct = λ n. few n (i.0 == n) refl; placed = one-replica b i d within attached }
     where
-      two : (no_master b i ≡ None) × (no_replica b i d ≡ None)
-      two =
-          last-two (only_if (not (is_instance b i && is_instance b d)) UnknownInstance) (first_refusal w b (case_of b i d) row) (held_back b audit a i) (no_master b i)
-          (no_replica b i d) free
+      two : (no_master b i ≡ None) × (no_replica b i d ≡ None) × (first_refusal w b (case_of b i d) row ≡ None)
+      two = unrefused-takeover i d free
 
       attached : is_replica_of b i d ≡ true
       attached = sym (attached-replica i (seen_source (instance_at b d))) ∙ passed (is_given i (attached_of b d)) NotReplica two.1
@@ -142,6 +167,17 @@ module _ (w : World) (b : BookState) (audit : AuditState) (a : Attempt) where
       let parts = unrefused (recovery_refusal w b audit a f) (recovery_begins b audit a.now a.block wait job f) x h in
       subst (NamesReplicasOnce b) parts.1 (record { replicas = refl; once = recovery-are f parts.0 })
 
+  -- the new source that is named logs
+  pub try-logs : (wait job : ℕ) (f : ServerNo) (x : Begins) → recovery_try w b audit a wait job f ≡ Ok x → NamesLogging w x.job.purpose
+  try-logs wait job f x h =
+      let parts = unrefused (recovery_refusal w b audit a f) (recovery_begins b audit a.now a.block wait job f) x h in
+      subst (λ (y : Begins). NamesLogging w y.job.purpose) parts.1 (recovery-logs f parts.0)
+
+  pub taking-logs : (wait job : ℕ) (i d : ServerNo) (x : Begins) → takeover_try w b audit a wait job i d ≡ Ok x → NamesLogging w x.job.purpose
+  taking-logs wait job i d x h =
+      let parts = unrefused (takeover_refusal w b audit a i d) (takeover_begins b audit a.now a.block wait job i d) x h in
+      subst (λ (y : Begins). NamesLogging w y.job.purpose) parts.1 (takeover-logs i d parts.0)
+
   pub takeover-names : (wait job : ℕ) (i d : ServerNo) (x : Begins) → d.0 < length b.names → takeover_try w b audit a wait job i d ≡ Ok x → NamesReplicasOnce b x
   takeover-names wait job i d x within h =
       let parts = unrefused (takeover_refusal w b audit a i d) (takeover_begins b audit a.now a.block wait job i d) x h in
@@ -153,19 +189,26 @@ module _ (w : World) (b : BookState) (by : ServerNo → Attempt) (wait : ℕ) wh
   abbrev begins_at : Staged → Entry → Begins
   begins_at s e = recovery_begins (record b { leases = s.leases }) s.audit (by e.no).now (by e.no).block wait (s.last + 1) e.no
 
-  abbrev Names : Begins → Type 0
-  Names x = NamesReplicasOnce b x
+  -- what holds of each recovery that isn't refused as it is tried holds of all that begin
+  module _ (Q : Begins → Type 0)
+      (each : (s : Staged) (e : Entry) → recovery_refusal w (record b { leases = s.leases }) s.audit (by e.no) e.no ≡ None → Q (begins_at s e)) where
+    step-all : (s : Staged) (e : Entry) → All Q s.begun → All Q (scan_step w b by wait s e).begun
+    step-all s e all = go (staged_refusal w b (by e.no) s e.no) refl
+      where
+        go : (o : Option Refusal) → staged_refusal w b (by e.no) s e.no ≡ o → All Q (after_try s e (unless_refused o (begins_at s e))).begun
+        go None free = All-push Q s.begun (begins_at s e) all (each s e free)
+        go (Some r) why = all
 
-  step-names : (s : Staged) (e : Entry) → All Names s.begun → All Names (scan_step w b by wait s e).begun
-  step-names s e named = go (staged_refusal w b (by e.no) s e.no) refl
-    where
-      go : (o : Option Refusal) → staged_refusal w b (by e.no) s e.no ≡ o → All Names (after_try s e (unless_refused o (begins_at s e))).begun
-      go None free = All-push Names s.begun (begins_at s e) named (record { replicas = refl; once = recovery-are w (record b { leases = s.leases }) s.audit (by e.no) e.no free })
-      go (Some r) why = named
+    over-all : (s : Staged) (es : List Entry) → All Q s.begun → All Q (scanned_over w b by wait s es).begun
+    over-all s [] all = all
+    over-all s (e ∷ es) all = over-all (scan_step w b by wait s e) es (step-all s e all)
 
-  over-names : (s : Staged) (es : List Entry) → All Names s.begun → All Names (scanned_over w b by wait s es).begun
-  over-names s [] named = named
-  over-names s (e ∷ es) named = over-names (scan_step w b by wait s e) es (step-names s e named)
+    scan-all : (audit : AuditState) (last : ℕ) → All Q (scanned w b audit by wait last).begun
+    scan-all audit last = over-all (from_start b audit last) (actionable_in b) (All-nil Q)
 
-  pub scan-names : (audit : AuditState) (last : ℕ) → All Names (scanned w b audit by wait last).begun
-  scan-names audit last = over-names (from_start b audit last) (actionable_in b) (All-nil Names)
+  pub scan-names : (audit : AuditState) (last : ℕ) → All (NamesReplicasOnce b) (scanned w b audit by wait last).begun
+  scan-names =
+      scan-all (NamesReplicasOnce b) (λ s e free. record { replicas = refl; once = recovery-are w (record b { leases = s.leases }) s.audit (by e.no) e.no free })
+
+  pub scan-logs : (audit : AuditState) (last : ℕ) → All (λ x. NamesLogging w x.job.purpose) (scanned w b audit by wait last).begun
+  scan-logs = scan-all (λ x. NamesLogging w x.job.purpose) (λ s e free. recovery-logs w (record b { leases = s.leases }) s.audit (by e.no) e.no free)

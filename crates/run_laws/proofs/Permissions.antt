@@ -1,13 +1,13 @@
 -- Commands answer by the permission table, and a refused one changes nothing.
-use Rattle.std.proofs.Common.{◌≡◌, ◌∙◌, ℕ, ◌+◌, Bool, List, [], ◌∷◌, ◌++◌, refl, sym, ap, subst, Option, Some, None, Ok}
+use Rattle.std.proofs.Common.{◌≡◌, ◌∙◌, ℕ, ◌+◌, Bool, List, [], ◌∷◌, ◌++◌, refl, sym, ap, subst, Option, Some, None}
 use Rattle.std.specs.Prelude.{is_some, if◌then◌else◌}
-use Rattle.run_laws.proofs.Prelude.{Asks, AuditState, Begins as RecoveryBegins, BegunJob, BookState, CommandName, CommandTurn, Decided, Decides}
-use Rattle.run_laws.proofs.Prelude.{Discovers, Forgets, IsBegun, IsDone, Line, Observation, Outcome, Planner, Recovers, Refusal, Reply, Route, Row}
-use Rattle.run_laws.proofs.Prelude.{ServerNo, State, Status as Seen, TakesOver, Unended, UnknownInstance, Unreachable, about as given_or, allowed}
-use Rattle.run_laws.proofs.Prelude.{asked, begun_by, begun_of, busy_given, by_hand, changes_of, command_outcome, decided, decided_of, discovered}
-use Rattle.run_laws.proofs.Prelude.{entry_kept, first_of, forgotten, is_known, job-number, job_by, known_of, label_at, leases_by, lines_of}
-use Rattle.run_laws.proofs.Prelude.{next_reading, number_of, numbers_of, of_plan, of_try, outcome_by, outcome_of, period_by, recovered, recovering}
-use Rattle.run_laws.proofs.Prelude.{recovery_begins, recovery_begun, recovery_refusal, recovery_refused, refusal, refusal_at}
+use Rattle.run_laws.proofs.Prelude.{Asks, AuditState, Begins as RecoveryBegins, BegunJob, BookState, Comes, CommandName, CommandTurn, Decided}
+use Rattle.run_laws.proofs.Prelude.{Decides, Discovers, Forgets, IsBegun, IsDone, Line, Observation, Outcome, Planner, Recovers, Refusal, Reply}
+use Rattle.run_laws.proofs.Prelude.{Route, Row, ServerNo, State, Status as Seen, TakesOver, Unended, UnknownInstance, Unreachable, about as given_or}
+use Rattle.run_laws.proofs.Prelude.{allowed, asked, begun_by, begun_of, busy_given, by_hand, changes_of, command-comes, command_outcome, decided}
+use Rattle.run_laws.proofs.Prelude.{decided_of, discovered, entry_kept, first_of, forgotten, is_known, job-number, job_by, known_of, label_at}
+use Rattle.run_laws.proofs.Prelude.{leases_by, lines_of, next_reading, number_of, numbers_of, of_plan, of_try, outcome_by, outcome_of, period_by}
+use Rattle.run_laws.proofs.Prelude.{recovered, recovering, recovery_begins, recovery_begun, recovery_refusal, recovery_refused, refusal, refusal_at}
 use Rattle.run_laws.proofs.Prelude.{refusal_by as planned_refusal, reply_of, route_of, stays, step, taken, taken_over, takeover_begins}
 use Rattle.run_laws.proofs.Prelude.{takeover_given, takeover_refusal, takeover_refused, taking_by, taking_over, told_try, unknown_of, unless_refused}
 use Rattle.run_laws.proofs.Prelude.{unreached, updated, with_entry, with_known}
@@ -19,6 +19,7 @@ use Rattle.run_laws.proofs.Prelude.answered
 use Rattle.run_laws.proofs.Prelude.line
 use Rattle.run_laws.proofs.Prelude.name
 use Rattle.run_laws.proofs.Prelude.turn
+use Rattle.run_laws.proofs.Prelude.comes
 
 -- refused exactly with the refusal that applies, else so
 abbrev AnswersBy : (Reply → Type 0) → Option Refusal → Reply → Type 0
@@ -35,21 +36,9 @@ IsTold r = (lines : List Line) × (r ≡ answered.Told lines)
 abbrev IsJob : Reply → Type 0
 IsJob r = (job : ℕ) × (r ≡ answered.Begun job)
 
--- an outcome answers by the table: begun or done, or refused and without a change
-record Answers (reads : ℕ) (D : Reply → Type 0) (r : Option Refusal) (o : Outcome) : Type 0 where
-  answer : AnswersBy D r o.reply
-  book : (why : Refusal) → o.reply ≡ answered.Refused why → o.book ≡ stays
-  rows : (why : Refusal) → o.reply ≡ answered.Refused why → o.rows ≡ []
-  reads_stay : (why : Refusal) → o.reply ≡ answered.Refused why → o.reads ≡ reads
-
-done_answers : (reads : ℕ) (lines : List Line) (o : Outcome) → o.reply ≡ answered.Told lines → Answers reads IsTold None o
-done_answers reads lines o is = record { answer = (lines, is); book = λ why refused. cc; rows = λ why refused. cc; reads_stay = λ why refused. cc }
-
-job_answers : (reads job : ℕ) (o : Outcome) → o.reply ≡ answered.Begun job → Answers reads IsJob None o
-job_answers reads job o is = record { answer = (job, is); book = λ why refused. cc; rows = λ why refused. cc; reads_stay = λ why refused. cc }
-
-refused_answers : (reads : ℕ) (D : Reply → Type 0) (r : Refusal) → Answers reads D (Some r) (refusal reads r)
-refused_answers reads D r = record { answer = refl; book = λ why refused. refl; rows = λ why refused. refl; reads_stay = λ why refused. refl }
+-- an outcome answers so
+abbrev Answered : (Reply → Type 0) → Option Refusal → Outcome → Type 0
+Answered D r o = AnswersBy D r o.reply
 
 -- only discover reads the server itself
 route_discovers : (n : CommandName) → route_of n ≡ Discovers → n ≡ name.Discover
@@ -68,30 +57,30 @@ first_alone : (r : Option Refusal) → first_of r None ≡ r
 first_alone None = refl
 first_alone (Some r) = refl
 
-asked_by : (reads : ℕ) (unknown : Option Refusal) (lines : List Line) → Answers reads IsTold unknown (asked reads (allowed unknown) lines)
-asked_by reads None lines = done_answers reads lines (asked reads (Ok tt) lines) refl
-asked_by reads (Some r) lines = refused_answers reads IsTold r
+asked_by : (reads : ℕ) (unknown : Option Refusal) (lines : List Line) → Answered IsTold unknown (asked reads (allowed unknown) lines)
+asked_by reads None lines = (lines, refl)
+asked_by reads (Some r) lines = refl
 
-forgotten_by : (reads : ℕ) (refused : Option Refusal) (i : ServerNo) → Answers reads IsTold refused (forgotten reads (allowed refused) i)
-forgotten_by reads None i = done_answers reads (line.Server i ∷ []) (forgotten reads (Ok tt) i) refl
-forgotten_by reads (Some r) i = refused_answers reads IsTold r
+forgotten_by : (reads : ℕ) (refused : Option Refusal) (i : ServerNo) → Answered IsTold refused (forgotten reads (allowed refused) i)
+forgotten_by reads None i = (line.Server i ∷ [], refl)
+forgotten_by reads (Some r) i = refl
 
-decided_by : (reads : ℕ) (a : AuditState) (unknown : Option Refusal) (d : Decided) → Answers reads IsTold unknown (decided reads a (allowed unknown) d)
-decided_by reads a None d = done_answers reads d.lines (decided reads a (Ok tt) d) refl
-decided_by reads a (Some r) d = refused_answers reads IsTold r
+decided_by : (reads : ℕ) (a : AuditState) (unknown : Option Refusal) (d : Decided) → Answered IsTold unknown (decided reads a (allowed unknown) d)
+decided_by reads a None d = (d.lines, refl)
+decided_by reads a (Some r) d = refl
 
-discovered_by : (b : BookState) (reads : ℕ) (o : Observation) (x : Option Seen) → Answers reads IsTold (if is_some x then None else Some (Unreachable o.no)) (discovered b reads o x)
-discovered_by b reads o None = refused_answers reads IsTold (Unreachable o.no)
-discovered_by b reads o (Some seen) = done_answers reads (line.Server o.no ∷ []) (discovered b reads o (Some seen)) refl
+discovered_by : (b : BookState) (reads : ℕ) (o : Observation) (x : Option Seen) → Answered IsTold (if is_some x then None else Some (Unreachable o.no)) (discovered b reads o x)
+discovered_by b reads o None = refl
+discovered_by b reads o (Some seen) = (line.Server o.no ∷ [], refl)
 
 -- a command that begins a job
-begun_answers : (s : State) (r : Option Refusal) (list : List ServerNo) (job : Unended) → Answers s.reads IsJob r (begun (numbers_of s) r list job)
-begun_answers s None list job = job_answers s.reads (s.last_job + 1) (begun (numbers_of s) None list job) refl
-begun_answers s (Some r) list job = refused_answers s.reads IsJob r
+begun_answers : (s : State) (r : Option Refusal) (list : List ServerNo) (job : Unended) → Answered IsJob r (begun (numbers_of s) r list job)
+begun_answers s None list job = (s.last_job + 1, refl)
+begun_answers s (Some r) list job = refl
 
-try_answers : (s : State) (r : Option Refusal) (x : RecoveryBegins) → Answers s.reads IsJob r (recovery_begun (numbers_of s) (told_try s.configuration s.book (unless_refused r x)))
-try_answers s None x = job_answers s.reads (s.last_job + 1) (recovery_begun (numbers_of s) (told_try s.configuration s.book (unless_refused None x))) refl
-try_answers s (Some r) x = refused_answers s.reads IsJob r
+try_answers : (s : State) (r : Option Refusal) (x : RecoveryBegins) → Answered IsJob r (recovery_begun (numbers_of s) (told_try s.configuration s.book (unless_refused r x)))
+try_answers s None x = (s.last_job + 1, refl)
+try_answers s (Some r) x = refl
 
 module _ (s : State) (c : CommandTurn) where
   abbrev lines : List Line
@@ -105,38 +94,38 @@ module _ (s : State) (c : CommandTurn) where
   read_of k = next_reading s.world (numbers_of s) k
 
   -- without an instance nothing is read or removed
-  without : Answers s.reads IsTold (first_of (unknown None) None) (asked s.reads (allowed (unknown None)) lines)
-  without = subst (λ (r : Option Refusal). Answers s.reads IsTold r (asked s.reads (allowed (unknown None)) lines)) (sym (first_alone (unknown None))) (asked_by s.reads (unknown None) lines)
+  without : Answered IsTold (first_of (unknown None) None) (asked s.reads (allowed (unknown None)) lines)
+  without = subst (λ (r : Option Refusal). Answered IsTold r (asked s.reads (allowed (unknown None)) lines)) (sym (first_alone (unknown None))) (asked_by s.reads (unknown None) lines)
 
   at_discovery : route_of c.command.name ≡ Discovers → (i : Option ServerNo)
-      → Answers s.reads IsTold (first_of (unknown i) (unreached s.world i)) (given_or (asked s.reads (allowed (unknown i)) lines) (λ k. discovered s.book s.reads (read_of k) (read_of k).seen) i)
+      → Answered IsTold (first_of (unknown i) (unreached s.world i)) (given_or (asked s.reads (allowed (unknown i)) lines) (λ k. discovered s.book s.reads (read_of k) (read_of k).seen) i)
   at_discovery is None = without
   at_discovery is (Some k) =
-      subst (λ (u : Option Refusal). Answers s.reads IsTold (first_of u (unreached s.world (Some k))) (discovered s.book s.reads (read_of k) (read_of k).seen))
+      subst (λ (u : Option Refusal). Answered IsTold (first_of u (unreached s.world (Some k))) (discovered s.book s.reads (read_of k) (read_of k).seen))
       (sym (discover_takes c.command.name k c.command.d (is_known s.book (Some k)) (is_known s.book c.command.d) is)) (discovered_by s.book s.reads (read_of k) (read_of k).seen)
 
   at_removal : (i : Option ServerNo)
-      → Answers s.reads IsTold (first_of (unknown i) (busy_given s.book i)) (given_or (asked s.reads (allowed (unknown i)) lines) (forgotten s.reads (allowed (first_of (unknown i) (busy_given s.book i)))) i)
+      → Answered IsTold (first_of (unknown i) (busy_given s.book i)) (given_or (asked s.reads (allowed (unknown i)) lines) (forgotten s.reads (allowed (first_of (unknown i) (busy_given s.book i)))) i)
   at_removal None = without
   at_removal (Some k) = forgotten_by s.reads (first_of (unknown (Some k)) (busy_given s.book (Some k))) k
 
-  at_recovery : (i : Option ServerNo) → Answers s.reads IsJob (recovery_refused s.world s.book s.audit s.configuration (numbers_of s) i) (given_or (refusal s.reads UnknownInstance) (recovered s.world s.book s.audit s.configuration (numbers_of s)) i)
-  at_recovery None = refused_answers s.reads IsJob UnknownInstance
+  at_recovery : (i : Option ServerNo) → Answered IsJob (recovery_refused s.world s.book s.audit s.configuration (numbers_of s) i) (given_or (refusal s.reads UnknownInstance) (recovered s.world s.book s.audit s.configuration (numbers_of s)) i)
+  at_recovery None = refl
   at_recovery (Some i) =
       try_answers s (recovery_refusal s.world s.book s.audit (by_hand s.book s.configuration (numbers_of s) i) i) (recovery_begins s.book s.audit (record { 0 = s.moment }) (period_by s.configuration (label_at s.book i)) s.configuration.wait (s.last_job + 1) i)
 
-  at_taking : (i : ServerNo) (d : Option ServerNo) → Answers s.reads IsJob (takeover_given s.world s.book s.audit s.configuration (numbers_of s) i d) (taken_over s.world s.book s.audit s.configuration (numbers_of s) d i)
-  at_taking i None = refused_answers s.reads IsJob UnknownInstance
+  at_taking : (i : ServerNo) (d : Option ServerNo) → Answered IsJob (takeover_given s.world s.book s.audit s.configuration (numbers_of s) i d) (taken_over s.world s.book s.audit s.configuration (numbers_of s) d i)
+  at_taking i None = refl
   at_taking i (Some d) =
       try_answers s (takeover_refusal s.world s.book s.audit (by_hand s.book s.configuration (numbers_of s) i) i d) (takeover_begins s.book s.audit (record { 0 = s.moment }) (period_by s.configuration (label_at s.book i)) s.configuration.wait (s.last_job + 1) i d)
 
   at_takeover : (i d : Option ServerNo)
-      → Answers s.reads IsJob (takeover_refused s.world s.book s.audit s.configuration (numbers_of s) i d) (given_or (refusal s.reads UnknownInstance) (taken_over s.world s.book s.audit s.configuration (numbers_of s) d) i)
-  at_takeover None d = refused_answers s.reads IsJob UnknownInstance
+      → Answered IsJob (takeover_refused s.world s.book s.audit s.configuration (numbers_of s) i d) (given_or (refusal s.reads UnknownInstance) (taken_over s.world s.book s.audit s.configuration (numbers_of s) d) i)
+  at_takeover None d = refl
   at_takeover (Some i) d = at_taking i d
 
   answers_by : (r : Route) → route_of c.command.name ≡ r
-      → Answers s.reads (λ x. IsDone r x) (refusal_by s.world s.book s.audit s.configuration (numbers_of s) c.command r) (outcome_by s.world s.book s.audit s.configuration (numbers_of s) c r)
+      → Answered (λ x. IsDone r x) (refusal_by s.world s.book s.audit s.configuration (numbers_of s) c.command r) (outcome_by s.world s.book s.audit s.configuration (numbers_of s) c r)
   answers_by Discovers is = at_discovery is c.command.i
   answers_by Forgets is = at_removal c.command.i
   answers_by (Asks q) is = asked_by s.reads (unknown c.command.i) lines
@@ -146,22 +135,25 @@ module _ (s : State) (c : CommandTurn) where
   answers_by Recovers is = at_recovery c.command.i
   answers_by TakesOver is = at_takeover c.command.i c.command.d
 
-outcome_answers : (s : State) (c : CommandTurn) → Answers s.reads (λ x. IsDone (route_of c.command.name) x) (refusal_at s c.command) (command_outcome s c)
+outcome_answers : (s : State) (c : CommandTurn) → Answered (λ x. IsDone (route_of c.command.name) x) (refusal_at s c.command) (command_outcome s c)
 unfolding outcome_of
 outcome_answers s c = answers_by s c (route_of c.command.name) refl
 
 pub answers_by_table : (s : State) (c : CommandTurn) → IsAnswer (route_of c.command.name) (refusal_at s c.command) (reply_of s (turn.Act (act.Command c)))
-answers_by_table s c = by-table (route_of c.command.name) (refusal_at s c.command) (reply_of s (turn.Act (act.Command c))) (outcome_answers s c).answer
+answers_by_table s c = by-table (route_of c.command.name) (refusal_at s c.command) (reply_of s (turn.Act (act.Command c))) (outcome_answers s c)
 
 -- a refused command changes nothing
+refused_stays : (s : State) (c : CommandTurn) (o : Outcome) → Comes s c o → (r : Refusal) → o.reply ≡ answered.Refused r → (o.rows ≡ []) × (o.book ≡ stays) × (o.reads ≡ s.reads)
+refused_stays s c o (comes.Refused why) r is = (refl, refl, refl)
+refused_stays s c o _ r is = cc
+
 pub refused_changes_nothing : (rows : List Row) (s : State) (c : CommandTurn) (r : Refusal) → reply_of s (turn.Act (act.Command c)) ≡ answered.Refused r
     → (changes_of rows s (turn.Act (act.Command c)) ≡ []) × (step rows s (turn.Act (act.Command c)) ≡ s)
 refused_changes_nothing rows s c r is =
-    let o = outcome_answers s c in
+    let same = refused_stays s c (command_outcome s c) (command-comes s c) r is in
     let reads = (command_outcome s c).reads in (
-      o.rows r is,
-      ap (λ u. with_known (record s { reads = reads }) (updated (known_of s) u)) (o.book r is)
-          ∙ ap (λ (n : ℕ). with_known (record s { reads = n }) (known_of s)) (o.reads_stay r is),
+      same.0,
+      ap (λ u. with_known (record s { reads = reads }) (updated (known_of s) u)) same.1 ∙ ap (λ (n : ℕ). with_known (record s { reads = n }) (known_of s)) same.2,
     )
 
 -- ---- what a job that is begun leaves
@@ -185,9 +177,9 @@ refusal_begins : (reads : ℕ) (r : Refusal) (id : ℕ) → (refusal reads r).re
 refusal_begins reads r id begun = cc
 
 -- nor if it has lines
-told_begins : (reads : ℕ) (r : Option Refusal) (o : Outcome) → Answers reads IsTold r o → (id : ℕ) → o.reply ≡ answered.Begun id → ⊥
-told_begins reads None o answers id begun = let told : answered.Begun id ≡ answered.Told answers.answer.0 = sym begun ∙ answers.answer.1 in cc
-told_begins reads (Some why) o answers id begun = let refused : answered.Begun id ≡ answered.Refused why = sym begun ∙ answers.answer in cc
+told_begins : (r : Option Refusal) (x : Reply) → AnswersBy IsTold r x → (id : ℕ) → x ≡ answered.Begun id → ⊥
+told_begins None x answers id begun = let told : answered.Begun id ≡ answered.Told answers.0 = sym begun ∙ answers.1 in cc
+told_begins (Some why) x answers id begun = let refused : answered.Begun id ≡ answered.Refused why = sym begun ∙ answers in cc
 
 module _ (s : State) (c : CommandTurn) where
   plan_leaves : (p : Planner) (r : Option Refusal)
@@ -217,10 +209,10 @@ module _ (s : State) (c : CommandTurn) where
   takeover_leaves (Some i) d = taking_leaves i d
 
   route_leaves : (r : Route) → route_of c.command.name ≡ r → LeavesBegun s (begun_by s c.command r) (outcome_by s.world s.book s.audit s.configuration (numbers_of s) c r)
-  route_leaves Discovers is = told_begins s.reads _ _ (answers_by s c Discovers is)
-  route_leaves Forgets is = told_begins s.reads _ _ (answers_by s c Forgets is)
-  route_leaves (Asks q) is = told_begins s.reads _ _ (answers_by s c (Asks q) is)
-  route_leaves (Decides d) is = told_begins s.reads _ _ (answers_by s c (Decides d) is)
+  route_leaves Discovers is = told_begins (refusal_by s.world s.book s.audit s.configuration (numbers_of s) c.command Discovers) _ (answers_by s c Discovers is)
+  route_leaves Forgets is = told_begins (refusal_by s.world s.book s.audit s.configuration (numbers_of s) c.command Forgets) _ (answers_by s c Forgets is)
+  route_leaves (Asks q) is = told_begins (refusal_by s.world s.book s.audit s.configuration (numbers_of s) c.command (Asks q)) _ (answers_by s c (Asks q) is)
+  route_leaves (Decides d) is = told_begins (refusal_by s.world s.book s.audit s.configuration (numbers_of s) c.command (Decides d)) _ (answers_by s c (Decides d) is)
   route_leaves (Begins p) is = plan_leaves p (planned_refusal s.world s.book (record { 0 = s.moment }) s.configuration.every c.command p)
   route_leaves Recovers is = recovery_leaves c.command.i
   route_leaves TakesOver is = takeover_leaves c.command.i c.command.d

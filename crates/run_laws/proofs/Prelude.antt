@@ -1,6 +1,7 @@
 -- What its proofs cite of others.
 pub use Rattle.std.proofs.Math.Seq.{take-append-add}
 pub use Rattle.std.proofs.lemmas.Bool.{and_parts, cases_lt, eq-eqb, eqb-true, false≢true, le-leb, leb-true, ltb-false, ltb-true, ne_eqb, not-true}
+pub use Rattle.std.proofs.lemmas.Bool.{or_parts}
 pub use Rattle.std.proofs.lemmas.List.{append-nil, length-map, length-replicate, length-set}
 pub use Rattle.std.proofs.lemmas.List.Elements.{All-append, All-cons, All-contains_itself, All-filter, All-head, All-map, All-nil, All-push}
 pub use Rattle.std.proofs.lemmas.List.Elements.{All-replicate, All-set, All-tail, All-take, All-weaker, filter_passes}
@@ -11,10 +12,10 @@ pub use Rattle.std.proofs.lemmas.List.Sums.{fold-append, sum_by-append, sum_by-c
 pub use Rattle.std.proofs.lemmas.Option.{get_or_from_slice_get, none-some, same_Some, slice_get_within}
 pub use Rattle.std.specs.List.{list_any, range_with_len, sum_by}
 pub use Rattle.std.specs.Option.{option_map, option_or, option_to_list}
-pub use Rattle.answer_laws.proofs.Rising.{coords-lowest, gtid-lowest, match-lowest, path-lowest, recovery-lowest, takeover-lowest}
-pub use Rattle.answer_laws.proofs.Trying.{tries}
-pub use Rattle.answer_laws.specs.Lowest.{IsAnswer, IsNoLower}
-pub use Rattle.answer_laws.specs.Tries.{AreTries, Left, Scan, after_begun}
+pub use Rattle.move_laws.proofs.Rising.{coords-lowest, gtid-lowest, match-lowest, path-lowest, recovery-lowest, takeover-lowest}
+pub use Rattle.move_laws.proofs.Trying.{tries}
+pub use Rattle.move_laws.specs.Lowest.{IsAnswer, IsNoLower}
+pub use Rattle.move_laws.specs.Tries.{AreTries, Left, Scan, after_begun}
 pub use Rattle.orch_core.specs.AskingCommands.Answers.{allowed, is_known, lines_of, permitted, unknown_in}
 pub use Rattle.orch_core.proofs.AuditLog.Changes.{IsAudit-begun, none-at}
 pub use Rattle.orch_core.proofs.AuditLog.Finding.{found-passes}
@@ -26,7 +27,7 @@ pub use Rattle.orch_core.specs.AuditLog.Audits.{AuditState, IsAudit, acked_so, a
 pub use Rattle.orch_core.specs.AuditLog.Audits.{ended, ended_so, interrupted, is_of, is_open, is_unended, longest_block, recovery_at}
 pub use Rattle.orch_core.specs.AuditLog.Loading.{loaded_by, recoveries_in}
 pub use Rattle.orch_core.specs.BinlogCoords.declared.Coord.{Coord}
-pub use Rattle.orch_core.specs.BookCommands.Decisions.{acked, book_after, candidate_of, decided_of, downtime_begun, downtime_ended, downtime_of}
+pub use Rattle.orch_core.specs.BookCommands.Decisions.{acked, candidate_of, decided_of, downtime_begun, downtime_ended, downtime_of}
 pub use Rattle.orch_core.specs.BookCommands.Decisions.{downtime_removal, effect_by, rows_of}
 pub use Rattle.orch_core.specs.BookCommands.Decisions
 pub use Rattle.orch_core.specs.BookCommands.declared.decided.Decided.{Decided}
@@ -35,8 +36,8 @@ pub use Rattle.orch_core.specs.BookCommands.declared.decided.Effect.TheVariants 
 pub use Rattle.orch_core.specs.BookViews.Sources.{is_attached_to, is_instance, is_replica_of, label_at, replicas_of, seen_source, source_in}
 pub use Rattle.cause_laws.proofs.Turning.{failed-befell, spent-last, turn-idle, turn-taken, undisturbed-done}
 pub use Rattle.cause_laws.specs.Events.{Befell}
-pub use Rattle.orch_core.proofs.CommandJobs.Begun.{job-number, job-ready}
-pub use Rattle.orch_core.specs.CommandJobs.Jobs.{job_by, leases_by, planner_for, refusal_by, regroup_about}
+pub use Rattle.orch_core.proofs.CommandOutcomes.Begun.{job-number, job-ready}
+pub use Rattle.orch_core.specs.CommandOutcomes.Jobs.{job_by, job_in, leases_by, means_of, plan_by, refusal_by, regroup_about}
 pub use Rattle.orch_core.proofs.CommandOutcomes.HookTold.{told-can, told-in-turn}
 pub use Rattle.orch_core.specs.CommandOutcomes.Outcomes.{Outcome, about, asked, busy_given, by_hand, decided, discovered, entries_put, first_of, forgotten}
 pub use Rattle.orch_core.specs.CommandOutcomes.Outcomes.{next_reading, outcome_by, question, recovered, recovery_begun, refusal, removal, removal_refusal}
@@ -46,16 +47,15 @@ pub use Rattle.orch_core.specs.CommandOutcomes.Outcomes
 pub use Rattle.orch_core.specs.CommandOutcomes.HookTelling.{told_try, with_told}
 pub use Rattle.orch_core.specs.CommandOutcomes.Periods.{period_by}
 pub use Rattle.orch_core.specs.CommandOutcomes.declared.configuration.Configuration.{Configuration}
-pub use Rattle.orch_core.specs.CommandRoutes.Routes.{planner_of, route_of}
-pub use Rattle.orch_core.specs.CommandRoutes.declared.kinds.Regrouping.TheVariants.{ByBridges, ByMatches}
-pub use Rattle.orch_core.specs.CommandRoutes.declared.route.Decision.{Decision}
-pub use Rattle.orch_core.specs.CommandRoutes.declared.route.Decision.TheVariants as decision
-pub use Rattle.orch_core.specs.CommandRoutes.declared.route.Planner.{Planner}
-pub use Rattle.orch_core.specs.CommandRoutes.declared.route.Planner.TheVariants.{Coordinates, Gtids, Matches, Paths, Regroups}
-pub use Rattle.orch_core.specs.CommandRoutes.declared.route.Planner.TheVariants as planner
-pub use Rattle.orch_core.specs.CommandRoutes.declared.route.Route.{Route}
-pub use Rattle.orch_core.specs.CommandRoutes.declared.route.Route.TheVariants.{Asks, Decides, Discovers, Forgets, Recovers, TakesOver}
-pub use Rattle.orch_core.specs.CommandRoutes.declared.route.Route.TheVariants as route
+pub use Rattle.orch_core.specs.Commands.Routes.{route_of}
+pub use Rattle.orch_core.specs.Commands.declared.route.Decision.{Decision}
+pub use Rattle.orch_core.specs.Commands.declared.route.Decision.TheVariants as decision
+pub use Rattle.orch_core.specs.Commands.declared.route.Planner.{Planner}
+pub use Rattle.orch_core.specs.Commands.declared.route.Planner.TheVariants.{Coordinates, Gtids, Matches, Paths}
+pub use Rattle.orch_core.specs.Commands.declared.route.Planner.TheVariants as planner
+pub use Rattle.orch_core.specs.Commands.declared.route.Route.{Route}
+pub use Rattle.orch_core.specs.Commands.declared.route.Route.TheVariants.{Asks, Decides, Discovers, Forgets, Recovers, TakesOver}
+pub use Rattle.orch_core.specs.Commands.declared.route.Route.TheVariants as route
 pub use Rattle.orch_core.specs.Commands.Causes.{cause_name}
 pub use Rattle.orch_core.specs.Commands.Refusals
 pub use Rattle.orch_core.specs.Commands.Turns.{has_needed, is_within}
@@ -102,18 +102,18 @@ pub use Rattle.recovery_covers.proofs.JobLaws.Spanning.{spans-by}
 pub use Rattle.recovery_covers.proofs.JobLaws.Turns.{turn-sound}
 pub use Rattle.recovery_covers.specs.JobLaws.Flights.{Flight, IsShown, IsShownBridged, Sound, StandsIn, job_turned, leased_to, no_leases, replaced}
 pub use Rattle.recovery_covers.specs.JobLaws.Flights
-pub use Rattle.recovery_covers.specs.JobLaws.Footing.{are_held, footing}
+pub use Rattle.recovery_covers.specs.JobLaws.Footing.{Footing, are_held, finds, footing, learn, source_shown}
 pub use Rattle.recovery_covers.specs.JobLaws.Held.{HeldJob, Spans}
 pub use Rattle.recovery_covers.specs.JobLaws.Leases.{HasLeases, IsLeased, Leases, are_listed, leases_of}
 pub use Rattle.recovery_covers.specs.JobLaws.Leases as JobLaws
 pub use Rattle.recovery_covers.specs.JobLaws.Matched.{AllMeet, Meets, are_matched, matched_in}
-pub use Rattle.recovery_covers.specs.JobLaws.Passages.{AllMayPass, AllPassWell, Beginning, MayPass, Passage, passed, passing, stored_if, turned_by}
+pub use Rattle.recovery_covers.specs.JobLaws.Passages.{AllMayPass, AllPassWell, Beginning, MayPass, Passage, PassesWell, passed, passing, stored_if, turned_by}
 pub use Rattle.recovery_covers.specs.JobLaws.Passages as pass
 pub use Rattle.recovery_covers.specs.JobLaws.Sound.{AllBridged}
-pub use Rattle.orch_core.proofs.JobsInFlight.Numbers.{Rise-push, Rise-with, Rise-within, Rise-without, above, found-number, with-past}
-pub use Rattle.orch_core.specs.JobsInFlight.Jobs.{Rise, book_turned, job_at, job_exchanges, job_observation, job_reply, jobs_turned, most_turns, step_reply}
-pub use Rattle.orch_core.specs.JobsInFlight.Jobs.{stored, with_job, without_job, without_leases}
-pub use Rattle.orch_core.specs.JobsInFlight.Jobs
+pub use Rattle.orch_core.proofs.UnendedJobs.Numbers.{Rise-push, Rise-with, Rise-within, Rise-without, above, found-number, with-past}
+pub use Rattle.orch_core.specs.UnendedJobs.Jobs.{Rise, book_turned, job_at, job_exchanges, job_observation, job_reply, jobs_turned, most_turns, reads_with}
+pub use Rattle.orch_core.specs.UnendedJobs.Jobs.{step_reply, stored, with_job, without_job, without_leases}
+pub use Rattle.orch_core.specs.UnendedJobs.Jobs
 pub use Rattle.orch_core.proofs.KeptRows.Known.{both_true, head_known}
 pub use Rattle.orch_core.proofs.KeptRows.Lists.{pairs_head, pairs_tail}
 pub use Rattle.orch_core.proofs.KeptRows.LookUps.{changed_by_rising, map_of_rising, row_in-changed, row_in-changed_by}
@@ -155,7 +155,7 @@ pub use Rattle.orch_core.specs.NodeClaims.Reached.IsReached.{Acted, Claimed, Lat
 pub use Rattle.orch_core.specs.NodeClaims.declared.claims.ClaimAnswer.{ClaimAnswer}
 pub use Rattle.orch_core.specs.NodeClaims.declared.claims.ClaimAnswer.TheVariants as claim
 pub use Rattle.orch_core.proofs.OpeningBook.Following.{Follow-addition, Follow-change, Follow-loaded, Follow-opened, Follow-recoveries, Follow-rings}
-pub use Rattle.orch_core.proofs.OpeningBook.Following.{PutsRecovery, Takes, is_eq, length-ringed, names-change, names-opening}
+pub use Rattle.orch_core.proofs.OpeningBook.Following.{PutsRecovery, Takes, is_eq, length-ringed, names-opening}
 pub use Rattle.orch_core.proofs.OpeningBook.Following
 pub use Rattle.orch_core.proofs.OpeningBook.Recoveries.{Follow-given, FollowAudit-acknowledged, FollowAudit-book, FollowAudit-closed, FollowAudit-loaded}
 pub use Rattle.orch_core.proofs.OpeningBook.Recoveries.{FollowAudit-mapped, FollowAudit-opened, acking-small, audit-loaded, closing-small, last_id-within}
@@ -170,20 +170,16 @@ pub use Rattle.opening_laws.proofs.Rooms.{not_full-opened}
 pub use Rattle.orch_core.proofs.OperationsProofs.Allowing.{turn-allowed}
 pub use Rattle.orch_core.specs.Operations.Deeds.{Deed, deed_of}
 pub use Rattle.orch_core.specs.Operations.Deeds as deed
-pub use Rattle.orch_core.specs.Operations.Jobs.{Job, job_with, match_found, seen_of}
-pub use Rattle.orch_core.specs.Operations.Matching.{match_logs, standing_at}
-pub use Rattle.orch_core.specs.Operations.Targets.{can_attach}
-pub use Rattle.orch_core.specs.Operations.Turns.{Ends, Goes, Stops, Turned, after_answer, after_ask, after_attach, after_look, after_match, after_status}
-pub use Rattle.orch_core.specs.Operations.Turns.{after_until, after_wait, after_wait_by, aim_of, attach_answer_of, attached_anew, bridge_at, by_deed, by_match}
-pub use Rattle.orch_core.specs.Operations.Turns.{by_ops, by_set, crossed, crossing_of, holds_seen, is_going, is_moved, is_reached, next, observed, read_by}
-pub use Rattle.orch_core.specs.Operations.Turns.{restarts, same_again, saw, settled, settles, turned, until_by}
+pub use Rattle.orch_core.specs.Operations.Jobs.{Job, job_with, seen_of}
+pub use Rattle.orch_core.specs.Operations.Matching.{match_logs}
+pub use Rattle.orch_core.specs.Operations.Targets.{can_attach, logs_by}
+pub use Rattle.orch_core.specs.Operations.Turns.{Ends, Goes, Stops, Turned, after_answer, attach_answer_of, attached_anew, is_moved, same_again}
+pub use Rattle.orch_core.specs.Operations.Turns.{bridge_at, by_deed}
+pub use Rattle.orch_core.specs.Operations.Turns.{by_ops, crossing_of, is_going, observed, read_by}
+pub use Rattle.orch_core.specs.Operations.Turns.{restarts, settled, turned}
 pub use Rattle.orch_core.specs.Operations.Turns
-pub use Rattle.orch_core.specs.Operations.declared.matching.Match.{Match}
-pub use Rattle.orch_core.specs.Operations.declared.matching.MatchFault.{MatchFault}
-pub use Rattle.orch_core.specs.Operations.declared.op.Crossing.{Crossing}
 pub use Rattle.orch_core.specs.Operations.declared.op.Crossing.TheVariants as cross
 pub use Rattle.orch_core.specs.Operations.declared.op.Op.{Op}
-pub use Rattle.orch_core.specs.Operations.declared.sight.Position.{Position}
 pub use Rattle.orch_core.specs.Operations.declared.sight.Sight.{Sight}
 pub use Rattle.orch_core.specs.Operations.declared.step.JobStep.{JobStep}
 pub use Rattle.orch_core.specs.Operations.declared.step.JobStep.TheVariants as jobstep
@@ -204,14 +200,17 @@ pub use Rattle.orch_core.proofs.Claims.{act-fits, nodes-step, step-lapsed}
 pub use Rattle.orch_core.proofs.Closed.{closed_by-next, flown-entry}
 pub use Rattle.orch_core.proofs.Finishing.{fewer}
 pub use Rattle.orch_core.proofs.Joining.{joined-rising}
-pub use Rattle.orch_core.proofs.Outcomes.{IsEffectFor, decided-effect}
+pub use Rattle.orch_core.proofs.Comes.{Comes, IsAskedFor, asked-can, asked-next, asked-short, command-comes, given-there}
+pub use Rattle.orch_core.proofs.Comes as comes
+pub use Rattle.orch_core.proofs.Outcomes.{IsEffectFor, decided-effect, same-updated}
+pub use Rattle.orch_core.proofs.Starts.{same-opened}
 pub use Rattle.orch_core.proofs.Periods.{short-in}
 pub use Rattle.orch_core.proofs.Recoveries.{reloaded-most}
 pub use Rattle.orch_core.proofs.Servers.{servers-start}
 pub use Rattle.orch_core.proofs.Sources.{sources-run}
 pub use Rattle.orch_core.proofs.Starts.{all-from, all-loading, all-missing, all-opening, all-registering, fits-opening, moment-within, opened-is}
 pub use Rattle.orch_core.proofs.Starts.{sources-start}
-pub use Rattle.orch_core.proofs.States.{Allowed-step, names-loaded, names-over, names-stored, one_known, reading_known}
+pub use Rattle.orch_core.proofs.States.{Allowed-step, names-loaded, one_known, reading_known, same-stored}
 pub use Rattle.orch_core.proofs.Turned.{All-found}
 pub use Rattle.orch_core.specs.After.{after_act, after_done, after_job, after_restart, after_tick, step}
 pub use Rattle.orch_core.specs.Jobs.{turn_of, turned_at}
@@ -229,18 +228,17 @@ pub use Rattle.orch_core.specs.Settling.{known_of, with_known}
 pub use Rattle.orch_core.specs.Settling
 pub use Rattle.orch_core.specs.States.{IsSlot, IsState, State, entry_id, nodes_of}
 pub use Rattle.orch_core.specs.TurnExchanges.{act_exchanges, done_exchanges, exchange_of, exchanges_at, later}
-pub use Rattle.path_laws.proofs.Begun as paths
+pub use Rattle.move_laws.proofs.BegunPath as paths
 pub use Rattle.orch_core.proofs.PermissionProofs.Free.{neither}
-pub use Rattle.orch_core.specs.Permission.Checks.{busy_by, first_refusal, is_given}
+pub use Rattle.orch_core.specs.Permission.Checks.{busy_by, first_refusal, is_given, without_log}
 pub use Rattle.orch_core.specs.Permission.Lists.{only_if}
 pub use Rattle.orch_core.specs.Permission.Lists
 pub use Rattle.orch_core.specs.Permission.Rows.{about_one}
-pub use Rattle.orch_core.specs.Permission.Rows
-pub use Rattle.orch_core.specs.Permission.Views.{attached_in, attached_of, has_log, is_valid, same_label, source_of}
-pub use Rattle.orch_core.specs.PseudoMatch.Commands.{pseudo_by, pseudo_command}
-pub use Rattle.orch_core.specs.PseudoMatch.Permits
-pub use Rattle.orch_core.specs.PseudoMatch.declared.command.PseudoCommand.{PseudoCommand}
-pub use Rattle.orch_core.specs.PseudoMatch.declared.command.PseudoCommand.TheVariants as matching
+pub use Rattle.orch_core.specs.Permission.Views.{attached_in, attached_of, has_log, is_valid, logs_in, same_label, source_of}
+pub use Rattle.orch_core.specs.Permission.declared.case.Check.TheVariants as check
+pub use Rattle.orch_core.specs.PseudoMatch.Commands.{pseudo_command}
+pub use Rattle.orch_core.specs.Commands.declared.kinds.MatchCommand.{MatchCommand}
+pub use Rattle.orch_core.specs.Commands.declared.kinds.MatchCommand.TheVariants as matching
 pub use Rattle.orch_core.proofs.RecoveryCore.Beginning.{recovery-begins, takeover-begins, unrefused}
 pub use Rattle.orch_core.proofs.RecoveryCore.Ended.{ending-closed}
 pub use Rattle.orch_core.proofs.RecoveryCore.InTurn.{apart-after, scan-blocks, scan-in-turn}
@@ -255,14 +253,15 @@ pub use Rattle.orch_core.proofs.RecoveryEnds.Ended.{begun-shaped}
 pub use Rattle.orch_core.specs.RecoveryEnds.Ends.{IsShaped}
 pub use Rattle.recovery_covers.proofs.RecoveryLaws.Ringed.{fresh-own, kept-own, shown-own}
 pub use Rattle.recovery_covers.proofs.RecoveryLaws.Sounding.{taken-sound}
+pub use Rattle.recovery_covers.specs.RecoveryLaws.HeldRecoveries.{NamesLogging}
 pub use Rattle.recovery_covers.specs.RecoveryLaws.LeasedRecoveries.{IsAny}
 pub use Rattle.recovery_covers.specs.RecoveryLaws.Passing.{core_by}
 pub use Rattle.recovery_covers.specs.RecoveryLaws.Rings.{AreOwn}
-pub use Rattle.orch_core.specs.RecoveryPermits.Checks.{can_succeed, code_at, has_successor, held_back, no_master, no_replica, without_successor}
-pub use Rattle.orch_core.specs.RecoveryPermits.Recoveries.{held_off, purpose_by, recovery_purpose, recovery_refusal, refusal_for}
-pub use Rattle.orch_core.specs.RecoveryPermits.Recoveries
-pub use Rattle.orch_core.specs.RecoveryPermits.Takeovers.{case_of, row, takeover_refusal}
-pub use Rattle.orch_core.specs.RecoveryPermits.declared.attempt.Attempt.{Attempt}
+pub use Rattle.orch_core.specs.RecoveryCore.Checks.{can_succeed, code_at, has_successor, held_back, no_master, no_replica, without_successor}
+pub use Rattle.orch_core.specs.RecoveryCore.Recoveries.{held_off, purpose_by, recovery_purpose, recovery_refusal, refusal_for}
+pub use Rattle.orch_core.specs.RecoveryCore.Recoveries
+pub use Rattle.orch_core.specs.RecoveryCore.Takeovers.{case_of, row, takeover_refusal}
+pub use Rattle.orch_core.specs.RecoveryCore.declared.attempt.Attempt.{Attempt}
 pub use Rattle.orch_core.proofs.RecoveryPlans.Allowed.{taken-allowed}
 pub use Rattle.orch_core.proofs.RecoveryPlans.Choices.{same-no}
 pub use Rattle.orch_core.specs.RecoveryPlans.Beginning.{first_ops, first_source, is_takeover}
@@ -278,10 +277,9 @@ pub use Rattle.orch_core.specs.RecoveryPlans.declared.purpose.Purpose.{Purpose}
 pub use Rattle.orch_core.specs.RecoveryPlans.declared.purpose.Purpose.TheVariants as purpose
 pub use Rattle.orch_core.specs.RecoveryPlans.declared.stage.Stage.{Stage}
 pub use Rattle.orch_core.specs.RecoveryPlans.declared.stage.Stage.TheVariants as stage
-pub use Rattle.orch_core.specs.Regroup.Commands.{regroup_by, regroup_command}
-pub use Rattle.orch_core.specs.Regroup.Permits.{list_of}
-pub use Rattle.orch_core.specs.Regroup.declared.command.RegroupCommand.{RegroupCommand}
-pub use Rattle.orch_core.specs.Regroup.declared.command.RegroupCommand.TheVariants as command
+pub use Rattle.orch_core.specs.Regroup.Commands.{regroup_command}
+pub use Rattle.orch_core.specs.Commands.declared.kinds.PathCommand.{PathCommand}
+pub use Rattle.orch_core.specs.Commands.declared.kinds.PathCommand.TheVariants as command
 pub use Rattle.recovery_covers.proofs.ReplicationLaws.Applies.{no_skipped}
 pub use Rattle.recovery_covers.proofs.ReplicationLaws.Files.{not_full-files}
 pub use Rattle.recovery_covers.proofs.ReplicationLaws.Keeping.{Placed-safe}
@@ -296,7 +294,7 @@ pub use Rattle.run_laws.specs.BegunJobs.{BegunJob, begun_by, begun_of, entry_kep
 pub use Rattle.run_laws.specs.Claims.{ActsWhereActive, ClaimsAreReached, ClaimsWait, IsClaimRow, ItsClaimIsKept, LapsedDoesNothing, OneIsActive}
 pub use Rattle.run_laws.specs.Claims.{PassingLeavesNewJobs, PassingLeavesNoJob, PassingStartsAgain, claim_by_row, claim_key, claim_row}
 pub use Rattle.run_laws.specs.Entries.{attempt_in, entries_begun, recoveries_begun, recoveries_by, recoveries_done, recoveries_in_act, recoveries_of}
-pub use Rattle.run_laws.specs.Entries.{recoveries_scanned, scan_in, takeovers_by, takeovers_of, tried}
+pub use Rattle.run_laws.specs.Entries.{recoveries_scanned, scan_in, takeovers_of, tried}
 pub use Rattle.run_laws.specs.Failures.{IsBefallen, PlansAreDone, PlansFailForWhatBefell, SpendsWaitsLast}
 pub use Rattle.run_laws.specs.Fates.{AuditIs, RestartKeepsAll, acked_in, cluster_acked, cluster_decided, cluster_of, entry_by_job, entry_in_act}
 pub use Rattle.run_laws.specs.Fates.{entry_in_done, entry_of_turn, entry_then}
@@ -317,7 +315,7 @@ pub use Rattle.orch_core.specs.Scenarios.ValidTurns.{IsAct, IsCommand, IsNumberO
 pub use Rattle.orch_core.specs.Scenarios.ValidTurns as Scenarios
 pub use Rattle.orch_core.specs.Scenarios.declared.scenario.Scenario.{Scenario}
 pub use Rattle.orch_core.proofs.ServerModel.Counts.{servers-run}
-pub use Rattle.orch_core.specs.ServerModel.Desk.{desk_answer, rotate, rotate_answer}
+pub use Rattle.orch_core.specs.ServerModel.Desk.{rotate, rotate_answer}
 pub use Rattle.orch_core.specs.ServerModel.Exchanges.{apply}
 pub use Rattle.orch_core.specs.ServerModel.Gtids.{shown_of, status}
 pub use Rattle.orch_core.specs.ServerModel.Run.{AllAllowed, AllJoinWell, Attach, AttachAuto, Exchange, Request, after, is_rotate, is_write, run}
@@ -326,10 +324,7 @@ pub use Rattle.orch_core.specs.ServerModel.Worlds.{World, server_at}
 pub use Rattle.orch_core.specs.ServerModel.declared.server.Server.{Server}
 pub use Rattle.orch_core.specs.ServerWords.declared.answers.ApplyAnswer.TheVariants as answers
 pub use Rattle.orch_core.specs.ServerWords.declared.answers.RotateAnswer.TheVariants as rotating
-pub use Rattle.orch_core.specs.ServerWords.declared.answers.Unreachable as ServerWords
 pub use Rattle.orch_core.specs.ServerWords.declared.attach.AttachFault.{AttachFault}
-pub use Rattle.orch_core.specs.ServerWords.declared.attach.Spot.{Spot}
-pub use Rattle.orch_core.specs.ServerWords.declared.attach.Spot.TheVariants as spot
 pub use Rattle.orch_core.specs.ServerWords.declared.changes.Ask.{Ask}
 pub use Rattle.orch_core.specs.ServerWords.declared.changes.Ask.TheVariants as asking
 pub use Rattle.orch_core.specs.ServerWords.declared.status.Status.{Status}
@@ -350,13 +345,14 @@ pub use Rattle.orch_core.specs.UnendedJobs.Unended.{Flown, IsReady, IsUnended, c
 pub use Rattle.orch_core.specs.UnendedJobs.declared.docket.Docket.{Docket}
 pub use Rattle.orch_core.specs.UnendedJobs.declared.unended.Unended.{Unended}
 pub use Rattle.orch_core.specs.UnendedJobs.declared.unended.Unended.TheVariants as unended
+pub use Rattle.unended_laws.proofs.CoveredTurning.{all-turned}
 pub use Rattle.unended_laws.proofs.Begun.{begin-held, begin-sound, recovery-held, recovery-sound}
 pub use Rattle.unended_laws.proofs.Beside.{apart-held, apart-sound, restart-held, restart-sound}
 pub use Rattle.unended_laws.proofs.Cores.{core-found, cores-joined, cores-replaced, cores-without}
 pub use Rattle.unended_laws.proofs.Turning.{number-held, number-may, number-sound, number-well}
 pub use Rattle.unended_laws.specs.Beside.{IsHeldBeside, IsSoundBeside}
 pub use Rattle.unended_laws.specs.Flights.{HeldJobs, SoundJobs}
-pub use Rattle.unended_laws.specs.Passages.{IsListed}
+pub use Rattle.unended_laws.specs.Passages.{IsApart as IsApartPassage, IsListed}
 pub use Rattle.orch_core.proofs.WorldOpenings.Opened.{given-opened}
 pub use Rattle.orch_core.specs.WorldOpenings.Room.{room_for}
 pub use Rattle.std.proofs.lemmas.Bool.{eqb-false}
@@ -366,7 +362,6 @@ pub use Rattle.orch_core.specs.CommandOutcomes.declared.command.Update.{Update}
 pub use Rattle.orch_core.specs.CommandOutcomes.declared.command.Update.TheVariants as update
 pub use Rattle.orch_core.specs.HookTexts.declared.hooks.Hook.{Hook}
 pub use Rattle.orch_core.specs.InstanceKeeper.Book.{after_discovery, after_store}
-pub use Rattle.orch_core.specs.JobsInFlight.Jobs.{reads_with}
 pub use Rattle.orch_core.specs.OpeningBook.Counting.{last_read, later_read}
 pub use Rattle.orch_core.specs.RecoveryHooks.Runs.{HookState}
 pub use Rattle.orch_core.specs.RecoveryPlans.Recoveries.{Recovery as RecoveryJob}
@@ -388,9 +383,9 @@ pub use Rattle.cause_laws.proofs.Taking.{deed-taken}
 pub use Rattle.orch_core.specs.Operations.Turns.{going}
 pub use Rattle.run_laws.specs.Waits.{BegunMayWait, JobsMayWait, MayWait}
 pub use Rattle.orch_core.specs.BinlogCoords.Log.{is_before}
-pub use Rattle.orch_core.specs.FailureAnalysis.Analysis.{is_connected, is_replica_that, lags, replicates}
-pub use Rattle.orch_core.specs.InstanceKeeper.Book.{end_after, rule_after, rule_at}
-pub use Rattle.orch_core.specs.JobsInFlight.Rounds.{polls, replicates as replicates_turns}
+pub use Rattle.orch_core.specs.FailureAnalysis.Analysis.{is_connected, replicates}
+pub use Rattle.orch_core.specs.InstanceKeeper.Book.{end_after, rule_after}
+pub use Rattle.orch_core.specs.UnendedJobs.Rounds.{polls, replicates as replicates_turns}
 pub use Rattle.orch_core.specs.OrchBase.declared.server.IoState.{IoState}
 pub use Rattle.orch_core.specs.OrchBase.declared.server.IoState.TheVariants as io
 pub use Rattle.orch_core.specs.OrchBase.declared.rule.Rule.TheVariants as rule
@@ -407,10 +402,10 @@ pub use Rattle.std.proofs.lemmas.List.Elements.{All-contains, Contains-append_le
 pub use Rattle.orch_core.specs.OrchBase.Histories.{count_own}
 pub use Rattle.run_laws.specs.Tables.{AnswersWrites, CountsByInstances, CountsReplicas, EndsInTime, KeepsSixteen, Replicates, RunsAllServers, ServersByTable}
 pub use Rattle.run_laws.specs.Tables.{AttachesBySet, AttachesByTable, GoesOn, StartsAgain, ThreadsByTable, WritesByTable}
-pub use Rattle.orch_core.specs.CommandRoutes.declared.kinds.CoordsCommand.{CoordsCommand}
-pub use Rattle.orch_core.specs.CommandRoutes.declared.kinds.CoordsCommand.TheVariants as coords_kind
-pub use Rattle.orch_core.specs.CommandRoutes.declared.kinds.GtidCommand.{GtidCommand}
-pub use Rattle.orch_core.specs.CommandRoutes.declared.kinds.GtidCommand.TheVariants as gtid_kind
+pub use Rattle.orch_core.specs.Commands.declared.kinds.CoordsCommand.{CoordsCommand}
+pub use Rattle.orch_core.specs.Commands.declared.kinds.CoordsCommand.TheVariants as coords_kind
+pub use Rattle.orch_core.specs.Commands.declared.kinds.GtidCommand.{GtidCommand}
+pub use Rattle.orch_core.specs.Commands.declared.kinds.GtidCommand.TheVariants as gtid_kind
 pub use Rattle.orch_core.specs.MovesCoords.Commands.{coords_command}
 pub use Rattle.orch_core.specs.MovesCoords.Permits.{by_gtids}
 pub use Rattle.orch_core.specs.MovesCoords.Plans as coords_plans
@@ -428,8 +423,56 @@ pub use Rattle.orch_core.specs.Regroup.Ways.{Path, path_of}
 pub use Rattle.run_laws.specs.Stopping.{PlansStartAgain, StartsWhatItStops, after_asking, after_deed, left_stopped}
 pub use Rattle.orch_core.specs.PlanParts.Parts.{following}
 pub use Rattle.run_laws.specs.Leading.{Below, HasNoOwnSource, HasPath, LeadsAsTold, PlansLeadAsTold, below_after, led, led_by, lines_by, lines_of_ops}
+pub use Rattle.run_laws.specs.Leading.{read_below}
 pub use Rattle.cause_laws.proofs.Holding.{deed-hands, hands_by, has, has-with, has-without}
-pub use Rattle.cause_laws.specs.Hands.{is_in_hands}
 pub use Rattle.orch_core.specs.Operations.Turns.{hands_after}
 pub use Rattle.recovery_covers.proofs.RecoveryEnds.Shapes.{same-head, same-tail}
 pub use Rattle.run_laws.specs.Hands.{HoldsNone, PlansReturn, Returns, StartsAll, StopsOne}
+pub use Rattle.orch_core.proofs.OperationsProofs.Attempts.{Attempts, IsAttachment, IsMove, IsWaitFor, attempts, crossed-of}
+pub use Rattle.orch_core.proofs.OperationsProofs.Attempts as doing
+pub use Rattle.cause_laws.specs.Courses.{is_finish}
+pub use Rattle.cause_laws.proofs.JobLaws.Planned.{up-itself}
+pub use Rattle.std.specs.Option.{option_and_then}
+pub use Rattle.recovery_covers.proofs.RecoveryLaws.Effects.{After, IsMoved, about-moves, back-moves, deed-still, open-moves, shut-moves, way-moves}
+pub use Rattle.recovery_covers.proofs.RecoveryLaws.Standing.{Stays-keeps, Under-keeps, outside-stays}
+pub use Rattle.recovery_covers.specs.RecoveryLaws.Standing.{IsUnder, IsWritable, KeepsSource, Stays, attached_no, is_outside}
+pub use Rattle.recovery_covers.specs.RecoveryLaws.Passing.{as_turn}
+pub use Rattle.recovery_covers.proofs.Making.{Attaches, Makes, made-well}
+pub use Rattle.recovery_covers.specs.JobLaws.Flights.{after_turn}
+pub use Rattle.recovery_covers.specs.JobLaws.Held.{AllShow}
+pub use Rattle.recovery_covers.specs.JobLaws.Leases.{is_in}
+pub use Rattle.recovery_covers.specs.JobLaws.Matched.{ArePlaced, finds_match, matched_by}
+pub use Rattle.recovery_covers.proofs.JobLaws.Begun.{freed-others, kept-leases}
+pub use Rattle.recovery_covers.proofs.JobLaws.Leased.{turn-leased}
+pub use Rattle.recovery_covers.proofs.JobLaws.Others.{other-after}
+pub use Rattle.recovery_covers.proofs.JobLaws.Passages.{leases-stored_if, world-stored_if}
+pub use Rattle.cause_laws.proofs.JobLaws.Trying.{same-tried}
+pub use Rattle.recovery_covers.proofs.JobLaws.Turns.{not-moved}
+pub use Rattle.unended_laws.proofs.Applying.{Spares, StaysSo, outside-stays-so, request-made, run-goes, same-stays-so, started-goes}
+pub use Rattle.unended_laws.proofs.CoveredTurning.{leased-by, world-then}
+pub use Rattle.unended_laws.specs.Passages.{passage_of, passages_by}
+pub use Rattle.unended_laws.specs.Upkeep
+pub use Rattle.orch_core.proofs.OperationsProofs.Sights.{seen-at}
+pub use Rattle.orch_core.specs.BinlogCoords.Log.{file_start}
+pub use Rattle.orch_core.specs.Commands.declared.refusal.Refusal.TheVariants.{NoPath}
+pub use Rattle.orch_core.specs.Operations.Changes.{change_of, server_of}
+pub use Rattle.orch_core.specs.Operations.Jobs.{position_of, with_seen}
+pub use Rattle.orch_core.specs.Permission.Lists.{first_about}
+pub use Rattle.orch_core.specs.Permission.Rows.{refused}
+pub use Rattle.orch_core.specs.RecoveryPlans.Stages.{moves}
+pub use Rattle.orch_core.specs.RecoveryPlans.declared.task.Way.TheVariants as way
+pub use Rattle.orch_core.specs.Regroup.Permits.{astray, without_path}
+pub use Rattle.orch_core.specs.Regroup.Permits as path_permits
+pub use Rattle.orch_core.specs.Regroup.Ways.{passed_in}
+pub use Rattle.orch_core.specs.ServerModel.Attach.{attach_answer}
+pub use Rattle.orch_core.specs.ServerModel.Worlds.{source_no}
+pub use Rattle.move_laws.proofs.Apart.{path-apart}
+pub use Rattle.move_laws.proofs.Firsts.{given-by}
+pub use Rattle.run_laws.specs.LinesHold.{DoneAsTold, HoldOf, PlansHold}
+pub use Rattle.orch_core.specs.ServerModel.Worlds.{with_server}
+pub use Rattle.recovery_covers.proofs.ReplicationLaws.Worlds.{at_with_same}
+pub use Rattle.recovery_covers.specs.JobLaws.Flights.{without_leases as freed_leases}
+pub use Rattle.unended_laws.specs.There.{IsApplying}
+pub use Rattle.orch_core.specs.Operations.declared.sight.Position.{Position}
+pub use Rattle.orch_core.specs.ServerWords.declared.attach.Spot.{Spot}
+pub use Rattle.orch_core.specs.ServerWords.declared.attach.Spot.TheVariants as spot

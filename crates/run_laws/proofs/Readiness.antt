@@ -1,17 +1,16 @@
 -- Each turn leaves all that is kept speaking of the servers, and so does an opening.
 use Rattle.std.proofs.Common.{◌≡◌, ◌∙◌, ℕ, ◌<◌, Bool, true, false, List, [], ◌∷◌, length, refl, sym, ap, subst, Option, Some, None, zero, suc, arith}
-use Rattle.std.specs.Prelude.{All, ◌==◌, IsTrue, is_some, not, slice_index_or, slice_set, if◌then◌else◌, IfSome}
-use Rattle.run_laws.proofs.Prelude.{Act, All-cons, All-filter, All-found, All-head, All-nil, All-replicate, All-set, All-tail, AllAllowed}
-use Rattle.run_laws.proofs.Prelude.{Allowed-step, AuditState, BookState, Change, ClaimState, Exchange, Flown, IsAct, IsBook, IsReady, IsScenario}
-use Rattle.run_laws.proofs.Prelude.{IsSlot, IsTurn, Observation, Outcome, Ready, Row, Scenario, ServerNo, State, Turn, Unended, act-fits, act_in}
-use Rattle.run_laws.proofs.Prelude.{after_act, after_done, after_opening, after_tick, all-loading, book_turned, change_is, claims_after}
-use Rattle.run_laws.proofs.Prelude.{command_outcome, exchange_of, fits-opening, flown-allowed, flown-ready, flown-sees, greatest_id, holder_after}
-use Rattle.run_laws.proofs.Prelude.{instance_at, is_going, is_opening_change, job_at, job_exchanges, jobs_turned, known_of, last_given, length-map}
-use Rattle.run_laws.proofs.Prelude.{length-replicate, length-set, loaded_audit, loaded_book, loading, names-loaded, names-opening, names-stored}
-use Rattle.run_laws.proofs.Prelude.{next_count, number_of, observed, opened_book, option_map, period_of, pollers, put_is, reading, reading_known, run}
+use Rattle.std.specs.Prelude.{All, IsTrue, is_some, slice_index_or, slice_set, if◌then◌else◌, IfSome}
+use Rattle.run_laws.proofs.Prelude.{Act, All-found, All-head, All-nil, All-replicate, All-set, All-tail, AllAllowed, Allowed-step, AuditState}
+use Rattle.run_laws.proofs.Prelude.{BookState, Change, ClaimState, Exchange, IsAct, IsBook, IsReady, IsScenario, IsSlot, IsTurn, Observation, Outcome}
+use Rattle.run_laws.proofs.Prelude.{Ready, Row, Scenario, ServerNo, State, Turn, Unended, act-fits, act_in, after_act, after_done, after_opening}
+use Rattle.run_laws.proofs.Prelude.{after_tick, all-loading, all-turned, book_turned, change_is, claims_after, command_outcome, exchange_of}
+use Rattle.run_laws.proofs.Prelude.{fits-opening, flown-allowed, flown-ready, flown-sees, greatest_id, holder_after, instance_at, is_going}
+use Rattle.run_laws.proofs.Prelude.{is_opening_change, job_at, job_exchanges, jobs_turned, known_of, last_given, length-map, length-replicate}
+use Rattle.run_laws.proofs.Prelude.{length-set, loaded_audit, loaded_book, loading, names-loaded, names-opening, next_count, observed, opened_book}
+use Rattle.run_laws.proofs.Prelude.{option_map, period_of, pollers, put_is, reading, reading_known, run, same-opened, same-stored, same-updated}
 use Rattle.run_laws.proofs.Prelude.{scan_outcome, servers-run, servers-start, settings_of, shown_by, slot_at, sources-run, sources-start, start}
-use Rattle.run_laws.proofs.Prelude.{start_changes, start_moment, start_rows, start_world, step, stored, turn_of, updated, with_claims, with_job}
-use Rattle.run_laws.proofs.Prelude.{without_job, without_leases}
+use Rattle.run_laws.proofs.Prelude.{start_changes, start_moment, start_rows, start_world, step, stored, turn_of, updated, with_claims, without_leases}
 use Rattle.run_laws.proofs.Prelude.Settling.{settled}
 use Rattle.run_laws.proofs.Prelude.act
 use Rattle.run_laws.proofs.Prelude.change
@@ -37,15 +36,6 @@ Ready-run count s es ready allowed = record {
 
 -- ---- a job's turn
 
--- what holds of each job and of the one that takes its place
-All-map-if : (P : Unended → Type 0) (us : List Unended) (id : ℕ) (u : Unended) → P u → All P us → All P (with_job us id u)
-All-map-if P [] id u here all = All-nil P
-All-map-if P (k ∷ ks) id u here all = go (number_of k == id) (All-map-if P ks id u here (All-tail P k ks all))
-  where
-    go : (same : Bool) → All P (with_job ks id u) → All P ((if same then u else k) ∷ with_job ks id u)
-    go true rest = All-cons P u (with_job ks id u) here rest
-    go false rest = All-cons P k (with_job ks id u) (All-head P k ks all) rest
-
 -- what a job's turn observes is a status of a server
 pub job-sees : (count : ℕ) (s : State) (id : ℕ) (u : Unended) → Ready count s → job_at s.jobs id ≡ Some u → (x : Observation) → (turn_of s u).observation ≡ Some x
     → (n : ServerNo) × (x ≡ observed s.world (next_count s.reads) (record { 0 = s.moment }) n)
@@ -55,35 +45,6 @@ job-sees count s id u ready at x is =
     (sees.0, sees.1)
 
 module _ (count : ℕ) (s : State) (id : ℕ) (ready : Ready count s) where
-  Ready-by : (t : Flown) (going : Bool) → AllAllowed s.world t.exchanges → (going ≡ true → IsReady count t.next) → IsBook (stored s.book t.observation) → (audit : AuditState) (reads : ℕ)
-      → Ready count (record s {
-        world = run s.world t.exchanges;
-        book = (if going then stored s.book t.observation else without_leases (stored s.book t.observation) id);
-        audit = audit;
-        reads = reads;
-        jobs = (if going then with_job s.jobs id t.next else without_job s.jobs id);
-      })
-  Ready-by t true allowed next book audit reads = record {
-    servers = servers-run s.world t.exchanges ∙ ready.servers;
-    book = book;
-    names = ap length (names-stored s.book t.observation) ∙ ready.names;
-    slots = ready.slots;
-    observed = ready.observed;
-    sources = sources-run s.world t.exchanges allowed ready.sources;
-    jobs = All-map-if (IsReady count) s.jobs id t.next (next refl) ready.jobs;
-    periods = ready.periods;
-  }
-  Ready-by t false allowed next book audit reads = record {
-    servers = servers-run s.world t.exchanges ∙ ready.servers;
-    book = IsBook-freed (stored s.book t.observation) id book;
-    names = ap length (names-stored s.book t.observation) ∙ ready.names;
-    slots = ready.slots;
-    observed = ready.observed;
-    sources = sources-run s.world t.exchanges allowed ready.sources;
-    jobs = All-filter (λ (k : Unended). not (number_of k == id)) (IsReady count) s.jobs ready.jobs;
-    periods = ready.periods;
-  }
-
   Ready-job : (o : Option Unended) → job_at s.jobs id ≡ o → (audit : AuditState) (reads : ℕ)
       → Ready count (record s {
         world = run s.world (job_exchanges (option_map (turn_of s) o));
@@ -102,12 +63,24 @@ module _ (count : ℕ) (s : State) (id : ℕ) (ready : Ready count s) where
     jobs = ready.jobs;
     periods = ready.periods;
   }
-  Ready-job (Some u) at audit reads =
-      let is : IsReady count u = All-found (IsReady count) s.jobs id u ready.jobs at in
-      Ready-by (turn_of s u) (is_going (turn_of s u).step) (flown-allowed s.world s.book (next_count s.reads) (record { 0 = s.moment }) u)
-      (λ going. flown-ready count s.world s.book (next_count s.reads) (record { 0 = s.moment }) u is going)
-      (IsBook-observed count s ready (next_count s.reads) (record { 0 = s.moment }) (turn_of s u).observation (job-sees count s id u ready at))
-      audit reads
+  Ready-job (Some u) at audit reads = record {
+    servers = servers-run s.world (turn_of s u).exchanges ∙ ready.servers;
+    book = (left (is_going (turn_of s u).step)).0;
+    names = ap length (left (is_going (turn_of s u).step)).1 ∙ ready.names;
+    slots = ready.slots;
+    observed = ready.observed;
+    sources = sources-run s.world (turn_of s u).exchanges (flown-allowed s.world s.book (next_count s.reads) (record { 0 = s.moment }) u) ready.sources;
+    jobs = all-turned (IsReady count) (IsReady count) id (λ k apart h. h) s.jobs (turn_of s u)
+        (λ going. flown-ready count s.world s.book (next_count s.reads) (record { 0 = s.moment }) u (All-found (IsReady count) s.jobs id u ready.jobs at) going) ready.jobs;
+    periods = ready.periods;
+  }
+    where
+      book : IsBook (stored s.book (turn_of s u).observation)
+      book = IsBook-observed count s ready (next_count s.reads) (record { 0 = s.moment }) (turn_of s u).observation (job-sees count s id u ready at)
+
+      left : (going : Bool) → IsBook (if going then stored s.book (turn_of s u).observation else without_leases (stored s.book (turn_of s u).observation) id) × ((if going then stored s.book (turn_of s u).observation else without_leases (stored s.book (turn_of s u).observation) id).names ≡ s.book.names)
+      left true = (book, (same-stored s.book (turn_of s u).observation).names)
+      left false = (IsBook-freed (stored s.book (turn_of s u).observation) id book, (same-stored s.book (turn_of s u).observation).names)
 
 -- ---- a poll
 
@@ -132,7 +105,7 @@ Ready-outcome : (count : ℕ) (s : State) (o : Outcome) → Ready count s → Ke
 Ready-outcome count s o ready keeps = record {
   servers = ready.servers;
   book = keeps.book;
-  names = ap length keeps.names ∙ ready.names;
+  names = ap length (same-updated (known_of s) o.book).names ∙ ready.names;
   slots = ready.slots;
   observed = ready.observed;
   sources = ready.sources;
@@ -173,7 +146,7 @@ Ready-act count rows s (act.PollStore p) ready is =
     record {
       servers = ready.servers;
       book = IsBook-stored s.book (slot_at s p) ready.book (subst (λ (k : ℕ). IsSlot k (slot_at s p)) (sym ready.names) known);
-      names = ap length (names-stored s.book (slot_at s p)) ∙ ready.names;
+      names = ap length (same-stored s.book (slot_at s p)).names ∙ ready.names;
       slots = length-set s.slots p None ∙ ready.slots;
       observed = All-set (IsSlot count) s.slots p None tt ready.observed;
       sources = ready.sources;
@@ -237,10 +210,6 @@ IsBook-opening b (change.Put (row.Recovery r)) is fit = is
 IsBook-opening b (change.Put (row.Switch enabled)) is fit = put_is b (row.Switch enabled) is fit
 IsBook-opening b (change.Put (row.Active node until)) is fit = is
 
-names-opened : (b : BookState) (cs : List Change) → (opened_book b cs).names ≡ b.names
-names-opened b [] = refl
-names-opened b (c ∷ cs) = names-opened (after_opening b c) cs ∙ names-opening b c
-
 IsBook-opened : (b : BookState) (cs : List Change) → IsBook b → All (λ c. IsTrue (is_opening_change (length b.names) c)) cs → IsBook (opened_book b cs)
 IsBook-opened b [] is all = is
 IsBook-opened b (c ∷ cs) is all =
@@ -259,7 +228,7 @@ Ready-start s wait rows is =
           (fits-opening (start_world s) (start_moment s rows) b s.known s.rules (loading (period_of s) (start_rows s rows) (loaded_audit s rows) (start_moment s rows)) (sources-start s is) (names ∙ sym (servers-start s))
           (is.rules ∙ sym (servers-start s))
           (all-loading (λ c. IsTrue (is_opening_change (length b.names) c)) (period_of s) (start_rows s rows) (loaded_audit s rows) (start_moment s rows) (λ r. refl)));
-      names = ap length (names-opened b (start_changes s rows)) ∙ names;
+      names = ap length (same-opened b (start_changes s rows)).names ∙ names;
       slots = length-replicate {A = Option Observation} pollers None;
       observed = All-replicate (IsSlot (length s.opening.servers)) pollers None tt;
       sources = sources-start s is;

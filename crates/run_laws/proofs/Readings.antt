@@ -320,16 +320,13 @@ decision-same b a now k i d = by d i
         go false = refl
 
     by : (d : Decision) (i : Option ServerNo) → (book_decided b (decided_of b a now k i d).effect).instances ≡ b.instances
-    by decision.BeginDowntime None = refl
     by decision.BeginDowntime (Some n) = put (kept_row.Downtime (downtime_of now k n)) (λ c. refl)
-    by decision.EndDowntime None = refl
     by decision.EndDowntime (Some n) = removal-same n
-    by decision.RegisterCandidate None = refl
     by decision.RegisterCandidate (Some n) = put (kept_row.Candidate (candidate_of now k n)) (λ c. refl)
     by decision.DisableRecoveries i = put (kept_row.Switch false) (λ c. refl)
     by decision.EnableRecoveries i = put (kept_row.Switch true) (λ c. refl)
     by decision.AckRecoveries None = refl
-    by decision.AckRecoveries (Some n) = refl
+    by _ _ = refl
 
 -- ---- every turn
 

@@ -1,6 +1,7 @@
 -- Recoveries that begin one after another leave what their `Passage`s leave.
-use Rattle.run_laws.proofs.Prelude.{AllMayPass, AllPassWell, AuditState, BeginInTurn, Beginning, Begins, CanBegin, Flight, HeldJobs, IsAny}
-use Rattle.run_laws.proofs.Prelude.{IsHeldBeside, IsListed, IsListOf, IsSoundBeside, Job, Leases, Purpose, ServerNo, SoundJobs, Unended, World}
+use Rattle.run_laws.proofs.Prelude.{All-head, All-tail, AllMayPass, AllPassWell, AuditState, BeginInTurn, Beginning, Begins, CanBegin, Flight, HeldJobs, IsAny}
+use Rattle.run_laws.proofs.Prelude.{IsHeldBeside, IsListed, IsListOf, IsSoundBeside, Job, Leases, NamesLogging, Purpose, ServerNo, SoundJobs, Unended}
+use Rattle.run_laws.proofs.Prelude.{World}
 use Rattle.run_laws.proofs.Prelude.{append-nil, are_held, are_listed, are_matched, begin-held, begin-sound, begun, by_recoveries, core_of}
 use Rattle.run_laws.proofs.Prelude.{cores-joined, first_ops, footing, joined, leased_to, leases_after, leases_of, matched_in, passed, passing}
 use Rattle.run_laws.proofs.Prelude.{recovery-held, recovery-sound, recovery_job, taken, taken-leases}
@@ -12,6 +13,7 @@ use Rattle.std.proofs.Common.{◌≡◌, ◌∙◌, ℕ, ◌<◌, true, List, []
 use Rattle.std.specs.Prelude.{All}
 use Rattle.run_laws.proofs.BegunInTurn.{length-taken}
 use Rattle.run_laws.proofs.Listing.{listed-behind}
+use Rattle.run_laws.proofs.PlanTurns.{AllOnWay, begun-on-way}
 
 -- ---- one that begins
 
@@ -46,12 +48,12 @@ module _ (count : ℕ) (leases : List (Option ℕ)) (a : AuditState) (last : ℕ
         free = λ n h. ap (λ (k : Leases). k n) same ∙ can.free n h;
       })
 
-  job-beside : (w : World) (l : Leases) → IsHeldBeside w (leased_to l x.list x.job.core.id) (recovery_job x)
-  job-beside w l =
+  job-beside : (w : World) (l : Leases) → NamesLogging w x.job.purpose → IsHeldBeside w (leased_to l x.list x.job.core.id) (recovery_job x)
+  job-beside w l logs =
       subst (λ (r : Recovery). IsHeldBeside w (leased_to l x.list x.job.core.id) (unended.Recovery r (record { entry = Some x.entry.id; hooks = x.hooks }))) (sym can.fresh)
       (recovery-held w l x.list x.job.purpose x.job.means x.job.core.id x.job.core.wait x.job.failed x.job.replicas x.job.order (record { entry = Some x.entry.id; hooks = x.hooks })
       (subst (λ (list : List ServerNo). All (λ (n : ServerNo). IsListed list n.0) x.job.replicas) (sym can.list) (listed-behind x.job.failed x.job.replicas))
-      (listed-any (IsListed x.list) (λ n. n < count) x.job.purpose x.job.failed can.listed))
+      (listed-any (IsListed x.list) (λ n. n < count) x.job.purpose x.job.failed can.listed) logs)
 
   job-sound : (w : World) → IsSoundBeside w (recovery_job x)
   job-sound w =
@@ -67,6 +69,13 @@ module _ (count : ℕ) (leases : List (Option ℕ)) (a : AuditState) (last : ℕ
 -- a `Flight` with these jobs and leases
 abbrev flight_on : Flight → List Unended → List (Option ℕ) → Flight
 flight_on f us leases = record f { jobs = map core_of us; leases = leases_of leases }
+
+-- the first of them names a new source that logs, and so do the rest
+first-logs : (f : Flight) (x : Begins) (xs : List Begins) → All (λ y. NamesLogging f.world y.job.purpose) (x ∷ xs) → NamesLogging f.world x.job.purpose
+first-logs f x xs logs = All-head (λ (y : Begins). NamesLogging f.world y.job.purpose) x xs logs
+
+rest-log : (f : Flight) (x : Begins) (xs : List Begins) → All (λ y. NamesLogging f.world y.job.purpose) (x ∷ xs) → All (λ y. NamesLogging f.world y.job.purpose) xs
+rest-log f x xs logs = All-tail (λ (y : Begins). NamesLogging f.world y.job.purpose) x xs logs
 
 pub recoveries-well : (f : Flight) (xs : List Begins) → AllPassWell f (by_recoveries xs)
 recoveries-well f [] = tt
@@ -100,24 +109,34 @@ module _ (count : ℕ) where
   )
 
   pub recoveries-held : (f : Flight) (us : List Unended) (leases : List (Option ℕ)) (a : AuditState) (last : ℕ) (xs : List Begins) → BeginInTurn count leases a last xs → length leases ≡ count
-      → f.leases ≡ leases_of leases → HeldJobs f us → HeldJobs (passing f (by_recoveries xs)) (us ++ map recovery_job xs)
-  recoveries-held f us leases a last [] each fits same held = subst (HeldJobs f) (sym (append-nil us)) held
-  recoveries-held f us leases a last (x ∷ xs) each fits same held =
+      → f.leases ≡ leases_of leases → All (λ x. NamesLogging f.world x.job.purpose) xs → HeldJobs f us → HeldJobs (passing f (by_recoveries xs)) (us ++ map recovery_job xs)
+  recoveries-held f us leases a last [] each fits same logs held = subst (HeldJobs f) (sym (append-nil us)) held
+  recoveries-held f us leases a last (x ∷ xs) each fits same logs held =
       let may = job-begins count leases a last x each.0 f.world f.jobs f.leases same in
       let next = passed f (Beginning x.list (core_of (recovery_job x))) in
       subst (HeldJobs (passing next (by_recoveries xs))) (joined us x xs)
       (recoveries-held next (us ++ recovery_job x ∷ []) (taken leases x.list x.job.core.id) (begun a x.entry) x.job.core.id xs each.1
-      (length-taken x.list leases x.job.core.id ∙ fits) (after-one f leases a last x each.0 fits same)
-      (begin-held f us x.list (recovery_job x) may (job-beside count leases a last x each.0 f.world f.leases) held))
+      (length-taken x.list leases x.job.core.id ∙ fits) (after-one f leases a last x each.0 fits same) (rest-log f x xs logs)
+      (begin-held f us x.list (recovery_job x) may (job-beside count leases a last x each.0 f.world f.leases (first-logs f x xs logs)) held))
 
   pub recoveries-sound : (f : Flight) (us : List Unended) (leases : List (Option ℕ)) (a : AuditState) (last : ℕ) (xs : List Begins) → BeginInTurn count leases a last xs → length leases ≡ count
-      → f.leases ≡ leases_of leases → HeldJobs f us → SoundJobs f us → SoundJobs (passing f (by_recoveries xs)) (us ++ map recovery_job xs)
-  recoveries-sound f us leases a last [] each fits same held sound = subst (SoundJobs f) (sym (append-nil us)) sound
-  recoveries-sound f us leases a last (x ∷ xs) each fits same held sound =
+      → f.leases ≡ leases_of leases → All (λ x. NamesLogging f.world x.job.purpose) xs → HeldJobs f us → SoundJobs f us → SoundJobs (passing f (by_recoveries xs)) (us ++ map recovery_job xs)
+  recoveries-sound f us leases a last [] each fits same logs held sound = subst (SoundJobs f) (sym (append-nil us)) sound
+  recoveries-sound f us leases a last (x ∷ xs) each fits same logs held sound =
       let may = job-begins count leases a last x each.0 f.world f.jobs f.leases same in
       let next = passed f (Beginning x.list (core_of (recovery_job x))) in
       subst (SoundJobs (passing next (by_recoveries xs))) (joined us x xs)
       (recoveries-sound next (us ++ recovery_job x ∷ []) (taken leases x.list x.job.core.id) (begun a x.entry) x.job.core.id xs each.1
-      (length-taken x.list leases x.job.core.id ∙ fits) (after-one f leases a last x each.0 fits same)
-      (begin-held f us x.list (recovery_job x) may (job-beside count leases a last x each.0 f.world f.leases) held)
+      (length-taken x.list leases x.job.core.id ∙ fits) (after-one f leases a last x each.0 fits same) (rest-log f x xs logs)
+      (begin-held f us x.list (recovery_job x) may (job-beside count leases a last x each.0 f.world f.leases (first-logs f x xs logs)) held)
       (begin-sound f us x.list (recovery_job x) may (job-sound count leases a last x each.0 f.world) held sound))
+
+  pub recoveries-on-way : (f : Flight) (us : List Unended) (leases : List (Option ℕ)) (a : AuditState) (last : ℕ) (xs : List Begins) → BeginInTurn count leases a last xs → length leases ≡ count
+      → f.leases ≡ leases_of leases → AllOnWay f us → AllOnWay (passing f (by_recoveries xs)) (us ++ map recovery_job xs)
+  recoveries-on-way f us leases a last [] each fits same way = subst (AllOnWay f) (sym (append-nil us)) way
+  recoveries-on-way f us leases a last (x ∷ xs) each fits same way =
+      let may = job-begins count leases a last x each.0 f.world f.jobs f.leases same in
+      let next = passed f (Beginning x.list (core_of (recovery_job x))) in
+      subst (AllOnWay (passing next (by_recoveries xs))) (joined us x xs)
+      (recoveries-on-way next (us ++ recovery_job x ∷ []) (taken leases x.list x.job.core.id) (begun a x.entry) x.job.core.id xs each.1
+      (length-taken x.list leases x.job.core.id ∙ fits) (after-one f leases a last x each.0 fits same) (begun-on-way f us x.list (recovery_job x) may tt way))

@@ -1,11 +1,11 @@
 -- Each command's plan starts what it stops.
 use Rattle.std.proofs.Common.{Bool, List, None, Option, Some, [], ap, false, refl, true, ℕ, ◌++◌, ◌==◌, ◌∙◌, ◌∷◌, ◌≡◌}
 use Rattle.std.specs.Prelude.{if◌then◌else◌}
-use Rattle.run_laws.proofs.Prelude.{BookState, Command, CoordsCommand, GtidCommand, Line, Op, Path, PlansStartAgain, PseudoCommand, RegroupCommand}
+use Rattle.run_laws.proofs.Prelude.{BookState, Command, CoordsCommand, GtidCommand, Line, MatchCommand, Op, Path, PathCommand, PlansStartAgain}
 use Rattle.run_laws.proofs.Prelude.{ServerNo, StartsWhatItStops, World, about_kind, about_one, after_deed, again, again_auto, auto, autos, by_gtids}
-use Rattle.run_laws.proofs.Prelude.{coords_command, deed_of, finished, flat_map, gtid_command, left_stopped, matching_plan, matchings, option_or, path_of}
-use Rattle.run_laws.proofs.Prelude.{pseudo_command, regroup_command, replicas_but, replicas_of, siblings_of, source_above, source_of, swap, under}
-use Rattle.run_laws.proofs.Prelude.{unders, up, ups}
+use Rattle.run_laws.proofs.Prelude.{coords_command, deed_of, finished, flat_map, gtid_command, left_stopped, matching_plan, matchings, option_or}
+use Rattle.run_laws.proofs.Prelude.{path_of, pseudo_command, regroup_command, replicas_but, replicas_of, siblings_of, source_above, source_of, swap}
+use Rattle.run_laws.proofs.Prelude.{under, unders, up, ups}
 use Rattle.run_laws.proofs.Prelude.coords_kind
 use Rattle.run_laws.proofs.Prelude.coords_plans
 use Rattle.run_laws.proofs.Prelude.gtid_kind
@@ -126,14 +126,10 @@ kind-starts w b coords_kind.TakeMaster i d apart = go (source_of b i) (source_ab
     go None g = none-start
     go (Some x) None = none-start
     go (Some x) (Some g) = swap-starts i x g
-kind-starts w b coords_kind.DetachReplica i d apart = λ n. never-stops (i.0 == n)
 kind-starts w b coords_kind.ReattachReplica i d apart = λ n. then-starts (i.0 == n)
-kind-starts w b coords_kind.ResetReplica i d apart = λ n. never-stops (i.0 == n)
-kind-starts w b coords_kind.StartReplica i d apart = λ n. never-stops (i.0 == n)
 kind-starts w b coords_kind.StopReplica i d apart = λ n. absurd (apart refl)
 kind-starts w b coords_kind.RestartReplica i d apart = λ n. one-starts (i.0 == n)
-kind-starts w b coords_kind.SetReadOnly i d apart = λ n. never-stops (i.0 == n)
-kind-starts w b coords_kind.SetWriteable i d apart = λ n. never-stops (i.0 == n)
+kind-starts w b _ i d apart = λ n. never-stops (i.0 == n)
 
 about-starts : {K : Type 0} (f : K → ServerNo → Option ServerNo → List Op) (o : Option K) (c : Command) → ((k : K) → o ≡ Some k → (i : ServerNo) → StartsWhatItStops (f k i c.d)) → StartsWhatItStops (about_kind [] f o c)
 about-starts f None c each = none-start
@@ -143,13 +139,14 @@ about-starts f (Some k) c each = go c.i
     go None = none-start
     go (Some i) = each k refl i
 
-coords-start : (w : World) (b : BookState) (c : Command) → (coords_command c.name ≡ Some coords_kind.StopReplica → ⊥) → StartsWhatItStops (coords_plans.plan_of w b c)
-coords-start w b c apart = about-starts (coords_plans.ops_of w b) (coords_command c.name) c (λ k is i. kind-starts w b k i c.d (λ same. apart (is ∙ ap Some same)))
+pub coords-start : (w : World) (b : BookState) (kind : Option CoordsCommand) (c : Command) → (kind ≡ Some coords_kind.StopReplica → ⊥)
+    → StartsWhatItStops (about_kind [] (coords_plans.ops_of w b) kind c)
+coords-start w b kind c apart = about-starts (coords_plans.ops_of w b) kind c (λ k is i. kind-starts w b k i c.d (λ same. apart (is ∙ ap Some same)))
 
 -- ---- by GTIDs, matches and paths
 
-gtids-start : (b : BookState) (c : Command) → StartsWhatItStops (gtid_plans.plan_of b c)
-gtids-start b c = about-starts (gtid_plans.ops_of b) (gtid_command c.name) c (λ k is i. by k i)
+pub gtids-start : (b : BookState) (kind : Option GtidCommand) (c : Command) → StartsWhatItStops (about_kind [] (gtid_plans.ops_of b) kind c)
+gtids-start b kind c = about-starts (gtid_plans.ops_of b) kind c (λ k is i. by k i)
   where
     by : (k : GtidCommand) (i : ServerNo) → StartsWhatItStops (gtid_plans.ops_of b k i c.d)
     by gtid_kind.MoveGtid i = go c.d
@@ -173,14 +170,14 @@ gtids-start b c = about-starts (gtid_plans.ops_of b) (gtid_command c.name) c (λ
         go None = none-start
         go (Some x) = again-starts i x
 
-matches-start : (b : BookState) (every : ℕ) (c : Command) → StartsWhatItStops (match_plans.plan_of b every c)
-matches-start b every c = about-starts (match_plans.ops_of b every) (pseudo_command c.name) c (λ k is i. by k i)
+pub matches-start : (b : BookState) (every : ℕ) (kind : Option MatchCommand) (c : Command) → StartsWhatItStops (about_kind [] (match_plans.ops_of b every) kind c)
+matches-start b every kind c = about-starts (match_plans.ops_of b every) kind c (λ k is i. by k i)
   where
     one : (i : ServerNo) (d : Option ServerNo) → StartsWhatItStops (match_plans.moved i every d)
     one i None = none-start
     one i (Some d) = matching-starts i d every
 
-    by : (k : PseudoCommand) (i : ServerNo) → StartsWhatItStops (match_plans.ops_of b every k i c.d)
+    by : (k : MatchCommand) (i : ServerNo) → StartsWhatItStops (match_plans.ops_of b every k i c.d)
     by match_kind.Match i = one i c.d
     by match_kind.MatchUp i = one i (source_above b i)
     by match_kind.MatchReplicas i = go (replicas_but b i c.d) c.d
@@ -214,13 +211,18 @@ relocated-starts gtid b movers (Some d) = left-finished (path_plans.moved_by gti
     by true = all-start (λ (r : ServerNo). auto r d) (λ r. auto-starts r d) movers
     by false = all-start (λ (n : ServerNo). path_plans.travelled n d (path_of b n d)) (λ n. travelled-starts n d (path_of b n d)) movers
 
-paths-start : (w : World) (b : BookState) (c : Command) → StartsWhatItStops (path_plans.plan_of w b c)
-paths-start w b c = about-starts (path_plans.ops_of w b) (regroup_command c.name) c (λ k is i. by k i)
+pub paths-start : (w : World) (b : BookState) (kind : Option PathCommand) (c : Command) → StartsWhatItStops (about_kind [] (path_plans.ops_of w b) kind c)
+paths-start w b kind c = about-starts (path_plans.ops_of w b) kind c (λ k is i. by k i)
   where
-    by : (k : RegroupCommand) (i : ServerNo) → StartsWhatItStops (path_plans.ops_of w b k i c.d)
+    by : (k : PathCommand) (i : ServerNo) → StartsWhatItStops (path_plans.ops_of w b k i c.d)
     by path_kind.Relocate i = relocated-starts w.gtid b (i ∷ []) c.d
     by path_kind.RelocateReplicas i = relocated-starts w.gtid b (replicas_but b i c.d) c.d
     by path_kind.RegroupReplicas i = none-start
 
 pub plans-start-again : PlansStartAgain
-plans-start-again = record { coords = coords-start; gtids = gtids-start; matches = matches-start; paths = paths-start }
+plans-start-again = record {
+  coords = λ w b c. coords-start w b (coords_command c.name) c;
+  gtids = λ b c. gtids-start b (gtid_command c.name) c;
+  matches = λ b every c. matches-start b every (pseudo_command c.name) c;
+  paths = λ w b c. paths-start w b (regroup_command c.name) c;
+}

@@ -1,31 +1,27 @@
 -- The operations of each job may wait as often as the run allows.
-use Rattle.std.proofs.Common.{All, Bool, List, None, Option, Some, [], ap, false, map, not, refl, subst, sym, true, ℕ, ◌+◌, ◌==◌, ◌∙◌, ◌∷◌, ◌≡◌}
-use Rattle.std.specs.Prelude.{if◌then◌else◌}
-use Rattle.run_laws.proofs.Prelude.{Begins as RecoveryBegins}
-use Rattle.run_laws.proofs.Prelude.{Act, All-append, All-filter, All-find, All-map, All-nil, All-push, All-weaker, BegunJob, BegunMayWait, BookState}
-use Rattle.run_laws.proofs.Prelude.{ByBridges, ByMatches, Command, CommandTurn, Configuration, Deed, Does, Exchange, IsTaken, Job, JobsMayWait}
-use Rattle.run_laws.proofs.Prelude.{KeepsAlways, MayWait, Means, Moment, Observation, Op, Planner, RecoveryJob, Refusal, Route, Row, ServerNo, Stage}
-use Rattle.run_laws.proofs.Prelude.{State, Turn, Turned, Unended, World, act_in, after_act, after_done, always, attempt_in, begun_by, borne, by_deed}
-use Rattle.run_laws.proofs.Prelude.{by_hand, command_outcome, decided_by, deed-taken, deed_of, ended_by, engine, entered, false≢true, fate_of, flown}
-use Rattle.run_laws.proofs.Prelude.{follows_no_more, going, ground_of, hooked-has, is_going, job_at, job_by, jobs_turned, kept-whole, known_of}
-use Rattle.run_laws.proofs.Prelude.{leases_by, leaver, moved, next, next_count, number_of, numbers_of, of_plan, of_try, option_map, promoted_in}
-use Rattle.run_laws.proofs.Prelude.{recoveries_scanned, recovering, recovery_begins, recovery_job, recovery_refusal, refusal_by, regroup_about}
-use Rattle.run_laws.proofs.Prelude.{route_of, run_turns, same_Some, scan_in, start, step, takeover_begins, takeover_refusal, taking_over, told_try}
-use Rattle.run_laws.proofs.Prelude.{turn-idle, turn-taken, turn_of, turned, unless_refused, updated, with_job, with_told, without_job}
+use Rattle.std.proofs.Common.{All, List, None, Option, Some, [], ap, false, map, refl, subst, sym, true, ℕ, ◌+◌, ◌==◌, ◌∙◌, ◌∷◌, ◌≡◌}
+use Rattle.run_laws.proofs.Prelude.{job_in, means_of}
+use Rattle.run_laws.proofs.Prelude.{All-append, All-find, All-map, All-nil, All-push, Begins as RecoveryBegins, BegunJob, BegunMayWait, BookState}
+use Rattle.run_laws.proofs.Prelude.{Command, CommandTurn, Configuration, Deed, Does, Exchange, IsTaken, Job, JobsMayWait}
+use Rattle.run_laws.proofs.Prelude.{KeepsAlways, MayWait, Means, Moment, Observation, Op, Planner, RecoveryJob, Row, ServerNo, Stage, State, Turn}
+use Rattle.run_laws.proofs.Prelude.{Turned, Unended, World, all-turned, always, attempt_in, borne, by_deed, command_outcome, decided_by, deed-taken}
+use Rattle.run_laws.proofs.Prelude.{deed_of, ended_by, engine, entered, false≢true, fate_of, flown, follows_no_more, going, ground_of, hooked-has}
+use Rattle.run_laws.proofs.Prelude.{is_going, job_at, job_by, jobs_turned, kept-whole, known_of, leaver, moved, next_count, number_of, option_map}
+use Rattle.run_laws.proofs.Prelude.{promoted_in, recoveries_scanned, recovery_job, regroup_about, run_turns, scan_in, start, step, turn-idle}
+use Rattle.run_laws.proofs.Prelude.{turn-taken, turn_of, turned, updated, with_told}
 use Rattle.run_laws.proofs.Prelude.Turns
-use Rattle.run_laws.proofs.Prelude.act
 use Rattle.run_laws.proofs.Prelude.events
 use Rattle.run_laws.proofs.Prelude.jobstep
-use Rattle.run_laws.proofs.Prelude.means
 use Rattle.run_laws.proofs.Prelude.move
 use Rattle.run_laws.proofs.Prelude.planner
-use Rattle.run_laws.proofs.Prelude.route
 use Rattle.run_laws.proofs.Prelude.taking
-use Rattle.run_laws.proofs.Prelude.turn
 use Rattle.run_laws.proofs.Prelude.unended
+use Rattle.run_laws.proofs.Prelude.comes
+use Rattle.run_laws.proofs.Making as making
 use Rattle.run_laws.proofs.Aims.{scan-each}
-use Rattle.run_laws.proofs.Making.{command-holds}
+use Rattle.run_laws.proofs.Making.{command-holds, IsBegunBy, job-begun}
 use Rattle.run_laws.proofs.Periods.{configured-comes, turn-configured}
+use Rattle.run_laws.proofs.TurnJobs.{turn-keeps}
 
 -- ---- as they begin
 
@@ -34,39 +30,16 @@ regroup-waits b by id wait None = refl
 regroup-waits b by id wait (Some i) = refl
 
 job-waits : (w : World) (b : BookState) (c : Command) (p : Planner) (id wait every : ℕ) → MayWait wait (job_by w b c p id wait every)
-job-waits w b c (planner.Regroups ByBridges) id wait every = regroup-waits b means.Bridges id wait c.i
-job-waits w b c (planner.Regroups ByMatches) id wait every = regroup-waits b (means.Matches every) id wait c.i
-job-waits w b c _ id wait every = refl
-
-plan-waits : (wait : ℕ) (o : Option Refusal) (list : List ServerNo) (u : Unended) (x : BegunJob) → MayWait wait u → of_plan o list u ≡ Some x → MayWait wait x.job
-plan-waits wait None list u x may is = subst (λ (y : BegunJob). MayWait wait y.job) (same_Some (record { list = list; job = u; entry = None }) x is) may
-plan-waits wait (Some r) list u x may is = cc
-
-try-waits : (c : Configuration) (b : BookState) (wait : ℕ) (o : Option Refusal) (y : RecoveryBegins) (x : BegunJob) → y.job.core.wait ≡ wait → of_try (told_try c b (unless_refused o y)) ≡ Some x → MayWait wait x.job
-try-waits c b wait None y x may is =
-    subst (λ (z : BegunJob). MayWait wait z.job) (same_Some (record { list = y.list; job = recovery_job (with_told c b y); entry = Some y.entry }) x is) may
-try-waits c b wait (Some r) y x may is = cc
-
-begun-waits : (s : State) (c : Command) (x : BegunJob) (r : Route) → begun_by s c r ≡ Some x → MayWait s.configuration.wait x.job
-begun-waits s c x (route.Begins p) is =
-    plan-waits s.configuration.wait (refusal_by s.world s.book (record { 0 = s.moment }) s.configuration.every c p) (leases_by s.world s.book c p)
-    (job_by s.world s.book c p (s.last_job + 1) s.configuration.wait s.configuration.every) x (job-waits s.world s.book c p (s.last_job + 1) s.configuration.wait s.configuration.every) is
-begun-waits s c x route.Recovers is = go c.i is
+job-waits w b c p id wait every = go (means_of every p)
   where
-    go : (o : Option ServerNo) → recovering s o ≡ Some x → MayWait s.configuration.wait x.job
-    go None e = cc
-    go (Some i) e =
-        let a = by_hand s.book s.configuration (numbers_of s) i in
-        try-waits s.configuration s.book s.configuration.wait (recovery_refusal s.world s.book s.audit a i) (recovery_begins s.book s.audit a.now a.block s.configuration.wait (s.last_job + 1) i) x refl e
-begun-waits s c x route.TakesOver is = go c.i c.d is
-  where
-    go : (o d : Option ServerNo) → taking_over s o d ≡ Some x → MayWait s.configuration.wait x.job
-    go None d e = cc
-    go (Some i) None e = cc
-    go (Some i) (Some d) e =
-        let a = by_hand s.book s.configuration (numbers_of s) i in
-        try-waits s.configuration s.book s.configuration.wait (takeover_refusal s.world s.book s.audit a i d) (takeover_begins s.book s.audit a.now a.block s.configuration.wait (s.last_job + 1) i d) x refl e
-begun-waits s c x _ is = cc
+    go : (by : Option Means) → MayWait wait (job_in w b c p id wait every by)
+    go None = refl
+    go (Some by) = regroup-waits b by id wait c.i
+
+begun-waits : (s : State) (c : Command) (x : BegunJob) → IsBegunBy s c x → MayWait s.configuration.wait x.job
+begun-waits s c x (making.Planned p route) = job-waits s.world s.book c p (s.last_job + 1) s.configuration.wait s.configuration.every
+begun-waits s c x (making.Recovering y (comes.Fails i route at free)) = refl
+begun-waits s c x (making.Recovering y (comes.Passes i d route at there free)) = refl
 
 scanned-wait : (s : State) → All (λ x. x.job.core.wait ≡ s.configuration.wait) (recoveries_scanned s)
 scanned-wait s =
@@ -74,7 +47,7 @@ scanned-wait s =
     (scan-each s.world s.book (attempt_in s) s.configuration.wait (λ x. (with_told s.configuration s.book x).job.core.wait ≡ s.configuration.wait) (λ z e asks. refl) s.audit s.last_job)
 
 pub begun-may-wait : (s : State) → BegunMayWait s
-begun-may-wait s = record { command = λ c x begun. begun-waits s c x (route_of c.name) begun; scan = scanned-wait s }
+begun-may-wait s = record { command = λ c x begun. begun-waits s c x (job-begun s c x begun); scan = scanned-wait s }
 
 -- ---- a turn of a job leaves them
 
@@ -161,39 +134,19 @@ module _ (s : State) (all : All (MayWait s.configuration.wait) s.jobs) where
 
   turned-wait : (id : ℕ) (o : Option Unended) → job_at s.jobs id ≡ o → All (MayWait s.configuration.wait) (jobs_turned s.jobs id (option_map (turn_of s) o))
   turned-wait id None at = all
-  turned-wait id (Some u) at = go (is_going (turn_of s u).step) refl
-    where
-      had : MayWait s.configuration.wait u
-      had = All-find (MayWait s.configuration.wait) (λ (k : Unended). number_of k == id) s.jobs u all at
-
-      go : (goes : Bool) → is_going (turn_of s u).step ≡ goes → All (MayWait s.configuration.wait) (if goes then with_job s.jobs id (turn_of s u).next else without_job s.jobs id)
-      go false is = All-filter (λ (k : Unended). not (number_of k == id)) (MayWait s.configuration.wait) s.jobs all
-      go true is =
-          All-map (MayWait s.configuration.wait) (λ (k : Unended). if number_of k == id then (turn_of s u).next else k) s.jobs
-          (All-weaker (MayWait s.configuration.wait) (λ (k : Unended). MayWait s.configuration.wait (if number_of k == id then (turn_of s u).next else k)) (λ k was. one (number_of k == id) k was) s.jobs all)
-        where
-          one : (here : Bool) (k : Unended) → MayWait s.configuration.wait k → MayWait s.configuration.wait (if here then (turn_of s u).next else k)
-          one true k was = next-waits s.world s.book (next_count s.reads) (record { 0 = s.moment }) s.configuration.wait u is had
-          one false k was = was
-
-  act-waits : (rows : List Row) (a : Act) → All (MayWait s.configuration.wait) (after_act rows s a).jobs
-  act-waits rows (act.PollRead p n) = all
-  act-waits rows (act.PollStore p) = all
-  act-waits rows (act.Command c) = command-waits c
-  act-waits rows (act.Job id) = turned-wait id (job_at s.jobs id) refl
-  act-waits rows act.Scan =
-      All-append (MayWait s.configuration.wait) s.jobs (map recovery_job (recoveries_scanned s)) all (All-map (MayWait s.configuration.wait) recovery_job (recoveries_scanned s) (scanned-wait s))
-  act-waits rows act.Restart = All-nil (MayWait s.configuration.wait)
-
-  done-waits : (rows : List Row) (o : Option Act) → All (MayWait s.configuration.wait) (after_done rows s o).jobs
-  done-waits rows None = all
-  done-waits rows (Some a) = act-waits rows a
+  turned-wait id (Some u) at =
+      all-turned (MayWait s.configuration.wait) (MayWait s.configuration.wait) id (λ k apart h. h) s.jobs (turn_of s u)
+      (λ going. next-waits s.world s.book (next_count s.reads) (record { 0 = s.moment }) s.configuration.wait u going (All-find (MayWait s.configuration.wait) (λ (k : Unended). number_of k == id) s.jobs u all at)) all
 
   turn-waits : (rows : List Row) (t : Turn) → All (MayWait s.configuration.wait) (step rows s t).jobs
-  turn-waits rows (turn.Act a) = act-waits rows a
-  turn-waits rows (turn.As node a) = done-waits rows (act_in s (turn.As node a))
-  turn-waits rows (turn.Claim node) = done-waits rows (act_in s (turn.Claim node))
-  turn-waits rows _ = all
+  turn-waits rows t = turn-keeps rows s t (λ w us. All (MayWait s.configuration.wait) us) (record {
+    stays = all;
+    step = λ x is. all;
+    command = λ c at. command-waits c;
+    job = λ id at. turned-wait id (job_at s.jobs id) refl;
+    scan = All-append (MayWait s.configuration.wait) s.jobs (map recovery_job (recoveries_scanned s)) all (All-map (MayWait s.configuration.wait) recovery_job (recoveries_scanned s) (scanned-wait s));
+    restart = All-nil (MayWait s.configuration.wait);
+  })
 
 -- by what holds throughout the run
 AllWaitSo : State → Type 0

@@ -10,21 +10,20 @@ use Rattle.run_laws.specs.Prelude.line
 use Rattle.run_laws.specs.Prelude.match_plans
 use Rattle.run_laws.specs.Prelude.path_plans
 
--- the source below which each server was last read, by a reading that asks for its source
+-- the source below which each server was last read, if that reading asks for its source
 abbrev pub Below : Type 0
 Below = ℕ → Option ServerNo
 
 abbrev pub read_below : Below → ServerNo → Option ServerNo → Below
-read_below below k None = below
-read_below below k (Some m) = λ n. if k.0 == n then Some m else below n
+read_below below k from = λ n. if k.0 == n then from else below n
 
 abbrev pub below_after : Below → Deed → Below
 below_after below (deed.Look k from) = read_below below k from
 below_after below (deed.Request k a) = below
 below_after below (deed.Until k to) = below
-below_after below (deed.Await k to) = below
-below_after below (deed.AwaitSet k m) = below
-below_after below (deed.Settle k) = below
+below_after below (deed.Await k to) = read_below below k None
+below_after below (deed.AwaitSet k m) = read_below below k None
+below_after below (deed.Settle k) = read_below below k None
 below_after below (deed.Cross c a b) = below
 below_after below (deed.Same k) = below
 below_after below (deed.Auto k m) = below
@@ -33,7 +32,8 @@ below_after below (deed.CrossMatch k m) = below
 below_after below (deed.Finish lines) = below
 
 -- The source to which an operation takes a server. One that goes up goes to the source below which the other was read.
--- One that goes on in its place goes to the source below which it was read itself. A reset takes its source away.
+-- One that goes on in its place goes to the source below which it was read itself. A reset and a detachment take its
+-- source away, and none is known of one that is attached again.
 abbrev pub led_by : ℕ → Below → Option ServerNo → Deed → Option ServerNo
 led_by n below at (deed.Cross cross.Up a b) = if a.0 == n then below b.0 else at
 led_by n below at (deed.Cross cross.Down a b) = if a.0 == n then Some b else at
@@ -46,8 +46,8 @@ led_by n below at (deed.Request k asking.Reset) = if k.0 == n then None else at
 led_by n below at (deed.Request k asking.Start) = at
 led_by n below at (deed.Request k (asking.Stop which)) = at
 led_by n below at (deed.Request k (asking.StartUntil to)) = at
-led_by n below at (deed.Request k asking.Detach) = at
-led_by n below at (deed.Request k asking.Reattach) = at
+led_by n below at (deed.Request k asking.Detach) = if k.0 == n then None else at
+led_by n below at (deed.Request k asking.Reattach) = if k.0 == n then None else at
 led_by n below at (deed.Request k (asking.SetReadOnly on)) = at
 led_by n below at (deed.Look k from) = at
 led_by n below at (deed.Until k to) = at

@@ -1,20 +1,17 @@
 -- The checks of the permission table for each command, in whatever order they are looked at.
 use Rattle.std.specs.Prelude.{List, [], ◌∷◌, Option, Some, None}
-use Rattle.run_laws.specs.Prelude.{Asks, ByBridges, ByMatches, Command, Coordinates, Decides, Discovers, Forgets, Gtids, IsAnswer, Matches, Paths}
-use Rattle.run_laws.specs.Prelude.{Planner, Recovers, Refusal, Regroups, Route, ServerNo, State, TakesOver, busy_given, by_hand, coords_checks}
-use Rattle.run_laws.specs.Prelude.{gtid_checks, match_checks, numbers_of, path_checks, recovery_checks, refusal_at, route_of, takeover_checks}
-use Rattle.run_laws.specs.Prelude.{unknown_in, unreached}
+use Rattle.run_laws.specs.Prelude.{Asks, Command, Coordinates, Decides, Discovers, Forgets, Gtids, IsAnswer, Matches, Paths, Planner, Recovers}
+use Rattle.run_laws.specs.Prelude.{Refusal, Route, ServerNo, State, TakesOver, busy_given, by_hand, coords_checks, gtid_checks, match_checks}
+use Rattle.run_laws.specs.Prelude.{numbers_of, path_checks, recovery_checks, refusal_at, route_of, takeover_checks, unknown_in, unreached}
 use Rattle.run_laws.specs.Prelude.TheVariants.{Begins}
 use Rattle.run_laws.specs.Prelude.refusal
 
 -- a command that begins the job of a plan
 abbrev pub plan_checks : State → Command → Planner → List (Option Refusal)
-plan_checks s c (Coordinates kind) = coords_checks s.world s.book c
-plan_checks s c (Gtids kind) = gtid_checks s.world s.book c
-plan_checks s c (Paths kind) = path_checks s.world s.book (record { 0 = s.moment }) c
-plan_checks s c (Regroups ByBridges) = path_checks s.world s.book (record { 0 = s.moment }) c
-plan_checks s c (Regroups ByMatches) = match_checks s.world s.book (record { 0 = s.moment }) s.configuration.every c
-plan_checks s c (Matches kind) = match_checks s.world s.book (record { 0 = s.moment }) s.configuration.every c
+plan_checks s c (Coordinates kind) = coords_checks s.world s.book (Some kind) c
+plan_checks s c (Gtids kind) = gtid_checks s.world s.book (Some kind) c
+plan_checks s c (Paths kind) = path_checks s.world s.book (record { 0 = s.moment }) (Some kind) c
+plan_checks s c (Matches kind) = match_checks s.world s.book (record { 0 = s.moment }) s.configuration.every (Some kind) c
 
 -- the recovery of the instance that is given
 abbrev pub recover_checks : State → Option ServerNo → List (Option Refusal)

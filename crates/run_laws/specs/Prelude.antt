@@ -1,7 +1,7 @@
 -- What this crate's definitions and contracts cite of others.
 pub use Rattle.std.specs.Option.{option_to_list}
-pub use Rattle.answer_laws.specs.Lowest.{IsAnswer, coords_checks, gtid_checks, match_checks, path_checks, recovery_checks, takeover_checks}
-pub use Rattle.answer_laws.specs.Tries.{AreTries}
+pub use Rattle.move_laws.specs.Lowest.{IsAnswer, coords_checks, gtid_checks, match_checks, path_checks, recovery_checks, takeover_checks}
+pub use Rattle.move_laws.specs.Tries.{AreTries}
 pub use Rattle.orch_core.specs.AskingCommands.Answers.{allowed, permitted, unknown_in}
 pub use Rattle.orch_core.specs.AuditLog.Apart.{IsApart, IsClear}
 pub use Rattle.orch_core.specs.AuditLog.Audits.{AuditState, begun, closed, is_of, is_unended, longest_block}
@@ -9,20 +9,19 @@ pub use Rattle.orch_core.specs.BinlogCoords.declared.Coord.{Coord}
 pub use Rattle.orch_core.specs.BookViews.Sources.{label_at, replicas_of}
 pub use Rattle.cause_laws.specs.Courses.{AllFree, AllGoing, AreSpent, IsDoneIn, Meeting, job_after, turn_at}
 pub use Rattle.cause_laws.specs.Events.{Befell}
-pub use Rattle.orch_core.specs.CommandJobs.Jobs.{job_by, leases_by, refusal_by}
+pub use Rattle.orch_core.specs.CommandOutcomes.Jobs.{job_by, leases_by, refusal_by}
 pub use Rattle.orch_core.specs.CommandOutcomes.Outcomes.{busy_given, by_hand, entries_put, removal_refusal, terms_of}
 pub use Rattle.orch_core.specs.CommandOutcomes.HookTelling.{told_try, with_told}
 pub use Rattle.orch_core.specs.CommandOutcomes.Periods.{period_by}
 pub use Rattle.orch_core.specs.CommandOutcomes.declared.configuration.Configuration.{Configuration}
-pub use Rattle.orch_core.specs.CommandRoutes.Routes.{route_of}
-pub use Rattle.orch_core.specs.CommandRoutes.declared.kinds.Regrouping.TheVariants.{ByBridges, ByMatches}
-pub use Rattle.orch_core.specs.CommandRoutes.declared.route.Decision.{Decision}
-pub use Rattle.orch_core.specs.CommandRoutes.declared.route.Decision.TheVariants as decision
-pub use Rattle.orch_core.specs.CommandRoutes.declared.route.Planner.{Planner}
-pub use Rattle.orch_core.specs.CommandRoutes.declared.route.Planner.TheVariants.{Coordinates, Gtids, Matches, Paths, Regroups}
-pub use Rattle.orch_core.specs.CommandRoutes.declared.route.Route.{Route}
-pub use Rattle.orch_core.specs.CommandRoutes.declared.route.Route.TheVariants.{Asks, Decides, Discovers, Forgets, Recovers, TakesOver}
-pub use Rattle.orch_core.specs.CommandRoutes.declared.route.Route.TheVariants
+pub use Rattle.orch_core.specs.Commands.Routes.{route_of}
+pub use Rattle.orch_core.specs.Commands.declared.route.Decision.{Decision}
+pub use Rattle.orch_core.specs.Commands.declared.route.Decision.TheVariants as decision
+pub use Rattle.orch_core.specs.Commands.declared.route.Planner.{Planner}
+pub use Rattle.orch_core.specs.Commands.declared.route.Planner.TheVariants.{Coordinates, Gtids, Matches, Paths}
+pub use Rattle.orch_core.specs.Commands.declared.route.Route.{Route}
+pub use Rattle.orch_core.specs.Commands.declared.route.Route.TheVariants.{Asks, Decides, Discovers, Forgets, Recovers, TakesOver}
+pub use Rattle.orch_core.specs.Commands.declared.route.Route.TheVariants
 pub use Rattle.orch_core.specs.Commands.Causes.{cause_name}
 pub use Rattle.orch_core.specs.Commands.declared.cause.Cause.{Cause}
 pub use Rattle.orch_core.specs.Commands.declared.cause.Cause.TheVariants as cause
@@ -39,7 +38,7 @@ pub use Rattle.recovery_covers.specs.JobLaws.Flights.{Flight}
 pub use Rattle.recovery_covers.specs.JobLaws.Leases.{HasLeases, IsLeased, leases_of}
 pub use Rattle.recovery_covers.specs.JobLaws.Passages.{AllMayPass, AllPassWell, Passage, passing}
 pub use Rattle.recovery_covers.specs.JobLaws.Passages as pass
-pub use Rattle.orch_core.specs.JobsInFlight.Jobs.{Rise, is_open, job_at, most_turns}
+pub use Rattle.orch_core.specs.UnendedJobs.Jobs.{Rise, is_open, job_at, most_turns}
 pub use Rattle.orch_core.specs.KeptRows.Recoveries.{as_row, put_recovery}
 pub use Rattle.orch_core.specs.KeptRows.Rows.{IsRising, changed, row_in, sort_key}
 pub use Rattle.orch_core.specs.KeptRows.Seeing.{seen_in}
@@ -90,7 +89,7 @@ pub use Rattle.orch_core.specs.RecoveryCore.Endings.{done_with}
 pub use Rattle.orch_core.specs.RecoveryCore.Scans.{Staged, actionable_in, attempt_of, scanned}
 pub use Rattle.orch_core.specs.RecoveryCore.Tries.{Begins, recovery_try, takeover_try}
 pub use Rattle.recovery_covers.specs.Covers.{AreReplicas}
-pub use Rattle.orch_core.specs.RecoveryPermits.declared.attempt.Attempt.{Attempt}
+pub use Rattle.orch_core.specs.RecoveryCore.declared.attempt.Attempt.{Attempt}
 pub use Rattle.orch_core.specs.RecoveryPlans.Beginning.{is_takeover}
 pub use Rattle.orch_core.specs.RecoveryPlans.Deciding.{decided, ground_of}
 pub use Rattle.orch_core.specs.RecoveryPlans.Recoveries
@@ -148,7 +147,7 @@ pub use Rattle.orch_core.specs.ServerWords.declared.answers.WriteAnswer.TheVaria
 pub use Rattle.orch_core.specs.ServerWords.declared.changes.Ask.TheVariants as asking
 pub use Rattle.orch_core.specs.ServerWords.declared.changes.Event.TheVariants as event
 pub use Rattle.orch_core.specs.ServerWords.declared.changes.Threads.TheVariants as threads
-pub use Rattle.orch_core.specs.CommandRoutes.declared.kinds.CoordsCommand.TheVariants as coords_kind
+pub use Rattle.orch_core.specs.Commands.declared.kinds.CoordsCommand.TheVariants as coords_kind
 pub use Rattle.orch_core.specs.MovesCoords.Commands.{coords_command}
 pub use Rattle.orch_core.specs.MovesCoords.Plans as coords_plans
 pub use Rattle.orch_core.specs.MovesGtid.Plans as gtid_plans
@@ -162,3 +161,5 @@ pub use Rattle.orch_core.specs.Operations.declared.op.Crossing.TheVariants as cr
 pub use Rattle.orch_core.specs.Regroup.Ways.{path_of}
 pub use Rattle.cause_laws.specs.Hands.{is_in_hands}
 pub use Rattle.orch_core.specs.Operations.declared.op.Op.TheVariants as op
+pub use Rattle.recovery_covers.specs.RecoveryLaws.Standing.{IsUnder}
+pub use Rattle.unended_laws.specs.There.{IsApplying}

@@ -1,6 +1,6 @@
 -- What is read of servers, and what becomes of it in the book.
 use Rattle.std.specs.Prelude.{◌≡◌, ◌≢◌, ℕ, ◌<◌, ◌≤◌, List, [], ◌∷◌, length, true, false, is_some, unwrap_or, Option, Some, None}
-use Rattle.run_laws.specs.Prelude.{BookState, CommandTurn, Deed, Discovers, Instance, Job, Observation, Op, Row, Scenario, ServerNo, State, Status}
+use Rattle.run_laws.specs.Prelude.{BookState, CommandTurn, Deed, Discovers, Instance, Observation, Op, Row, Scenario, ServerNo, State, Status}
 use Rattle.run_laws.specs.Prelude.{Turn, Unended, asks, decided, deed_of, front_hook, ground_of, instance_at, job_at, next_count, route_of, seen_in, slot_at}
 use Rattle.run_laws.specs.Prelude.{after_store, last_read, reloaded_rows, start, status, step}
 use Rattle.run_laws.specs.Prelude.act

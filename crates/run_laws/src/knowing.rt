@@ -5,6 +5,7 @@ ghost use Rattle.run_laws.specs.Readings.{DiscoveriesRead, JobsStore, OpeningsGi
 ghost use Rattle.run_laws.specs.Runs.{InEveryState};
 ghost use Rattle.run_laws.specs.Hands.{PlansReturn};
 ghost use Rattle.run_laws.specs.Leading.{PlansLeadAsTold};
+ghost use Rattle.run_laws.specs.LinesHold.{PlansHold};
 ghost use Rattle.run_laws.specs.Stopping.{PlansStartAgain};
 ghost use Rattle.run_laws.specs.Tables.{AttachesBySet, AttachesByTable, CountsByInstances, CountsReplicas, EndsInTime, KeepsSixteen, RunsAllServers, ServersByTable, ThreadsByTable, WritesByTable};
 ghost use Rattle.run_laws.specs.Waits.{BegunMayWait, JobsMayWait};
@@ -39,10 +40,14 @@ pub fn time_and_numbers_rise()
 /// is for a plan, a regroup, a recovery, a takeover, and for what a scan begins. What a plan has stopped is started by
 /// what is left of it, except what a stop of one replica stops. So nothing else is in its hands once only its lines are
 /// left.
+///
+/// Each line of a done command that has a server below another holds of the servers after the job's last turn. The
+/// server is attached to that source, and its applier is on, without a coordinate at which it is to stop.
 pub fn jobs_wait_as_told()
     ensures begun { (s : State) → BegunMayWait s }
     ensures always { JobsMayWait }
     ensures returns { PlansReturn }
+    ensures holds { PlansHold }
 {}
 
 /// The tables, row by row.

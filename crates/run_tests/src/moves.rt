@@ -7,7 +7,7 @@ ghost use Rattle.moves_gtid.specs.Commands.{gtid_command};
 ghost use Rattle.regroup.specs.Commands.{regroup_command};
 
 use crate::book_views::book_forest;
-use crate::commands::{Command, CommandName};
+use crate::commands::{Command, CommandName, CoordsCommand, GtidCommand, PathCommand};
 use crate::instance_keeper_items::Book;
 use crate::made::{book, world};
 use crate::operations_items::Op;
@@ -16,7 +16,7 @@ use crate::server_model::World;
 use crate::topology_tree::Forest;
 use moves_coords::coords_command;
 use moves_gtid::gtid_command;
-use regroup::{PermitFault, RegroupCommand, regroup_command};
+use regroup::{PermitFault, regroup_command};
 use std::alloc::Global;
 use std::process::Abort;
 use std::test::*;
@@ -113,25 +113,34 @@ fn by_coords(
     forest: &Forest,
     world: &World,
     command: Command,
+    kind: CoordsCommand,
+    i: ServerNo,
 ) -> Planned
     requires forest { forest.now ≡ book_forest book.now }
     requires here { IsSome (coords_command command.name) }
 {
     moves_coords::permit(alloc, book, forest, world, command, Moment(0))?;
-    let list = moves_coords::leases(alloc, book, command)?;
-    Ok((
-        list,
-        moves_coords::plan(alloc, book, forest, world, command)?,
-    ))
+    let case = moves_coords::permit_kind(alloc, book, forest, world, kind, i, command.d)?;
+    let ops = moves_coords::plan(alloc, book, forest, world, command)?;
+    Ok((case.into_leased(), ops))
 }
 
-fn by_gtids(alloc: Global, book: &Book, forest: &Forest, world: &World, command: Command) -> Planned
+fn by_gtids(
+    alloc: Global,
+    book: &Book,
+    forest: &Forest,
+    world: &World,
+    command: Command,
+    kind: GtidCommand,
+    i: ServerNo,
+) -> Planned
     requires forest { forest.now ≡ book_forest book.now }
     requires here { IsSome (gtid_command command.name) }
 {
     moves_gtid::permit(alloc, book, forest, world, command, Moment(0))?;
-    let list = moves_gtid::leases(alloc, book, command)?;
-    Ok((list, moves_gtid::plan(alloc, book, forest, world, command)?))
+    let case = moves_gtid::permit_kind(alloc, book, forest, world, kind, i, command.d)?;
+    let ops = moves_gtid::plan(alloc, book, forest, world, command)?;
+    Ok((case.into_leased(), ops))
 }
 
 fn along_paths(
@@ -140,31 +149,34 @@ fn along_paths(
     forest: &Forest,
     world: &World,
     command: Command,
+    kind: PathCommand,
+    i: ServerNo,
 ) -> Planned
     requires forest { forest.now ≡ book_forest book.now }
     requires here { IsSome (regroup_command command.name) }
 {
-    regroup::permit(alloc, book, forest, world, command, Moment(0))?;
-    let list = regroup::leases(alloc, book, forest, world, command)?;
+    let now = Moment(0);
+    regroup::permit(alloc, book, forest, world, command, now)?;
+    let case = regroup::permit_kind(alloc, book, forest, world, kind, i, command.d, now)?;
     let ops = match regroup_command(command.name) {
-        Some(RegroupCommand::Relocate | RegroupCommand::RelocateReplicas) => {
+        Some(PathCommand::Relocate | PathCommand::RelocateReplicas) => {
             regroup::plan(alloc, book, forest, world, command)?
         }
-        Some(RegroupCommand::RegroupReplicas) | None => Vec::new(alloc),
+        Some(PathCommand::RegroupReplicas) | None => Vec::new(alloc),
     };
-    Ok((list, ops))
+    Ok((case.into_leased(), ops))
 }
 
-fn planned(alloc: Global, book: &Book, world: &World, command: Command) -> Planned {
+fn planned(alloc: Global, book: &Book, world: &World, command: Command, i: ServerNo) -> Planned {
     let forest = book_forest(alloc, book)?;
-    if coords_command(command.name).is_some() {
-        return by_coords(alloc, book, &forest, world, command);
+    if let Some(kind) = coords_command(command.name) {
+        return by_coords(alloc, book, &forest, world, command, kind, i);
     }
-    if gtid_command(command.name).is_some() {
-        return by_gtids(alloc, book, &forest, world, command);
+    if let Some(kind) = gtid_command(command.name) {
+        return by_gtids(alloc, book, &forest, world, command, kind, i);
     }
-    if regroup_command(command.name).is_some() {
-        return along_paths(alloc, book, &forest, world, command);
+    if let Some(kind) = regroup_command(command.name) {
+        return along_paths(alloc, book, &forest, world, command, kind, i);
     }
     Err(PermitFault::Memory)
 }
@@ -188,7 +200,7 @@ fn holds(rt: &impl Abort, alloc: Global, case: Case) -> Result<bool, Fail> {
         i: Some(i),
         d,
     };
-    Ok(is_as_wanted(planned(alloc, &book, &world, command), want))
+    Ok(is_as_wanted(planned(alloc, &book, &world, command, i), want))
 }
 
 #[test]

@@ -7,7 +7,9 @@ use crate::commands::{
 };
 use crate::gtid_sets::GtidSet;
 use crate::made::world;
-use crate::orch_base::{Ending, Kind, Memory, Moment, Name, OwnedText, Rule, ServerNo};
+use crate::orch_base::{
+    Copied, Ending, Kind, Memory, Moment, Name, OwnedText, Rule, Same, ServerNo,
+};
 use crate::server_model::World;
 use crate::server_words_items::{
     ApplyAnswer, FetchAnswer, PurgeAnswer, RotateAnswer, Spot, WriteAnswer,
@@ -205,7 +207,7 @@ fn recovery(alloc: Global) -> Result<Line, Memory> {
     }))
 }
 
-fn told(alloc: Global) -> Result<Reply, Memory> {
+fn told_reply(alloc: Global) -> Result<Reply, Memory> {
     let lines = vec![in alloc;
         lost(R, Lost::NotLogging),
         lost(M, Lost::MustNot),
@@ -267,7 +269,7 @@ fn answered(alloc: Global, said: Said) -> Result<(Turn, Reply), Fail> {
         Said::Unmarked => failed(alloc, Cause::NoMark(R), false)?,
         Said::Mismatched => failed(alloc, Cause::Mismatch(R, 3), false)?,
         Said::HookFailed => failed(alloc, Cause::HookFailed { number: 1, exit: 3 }, true)?,
-        Said::Told => scanned(told(alloc)?),
+        Said::Told => scanned(told_reply(alloc)?),
         Said::Regrouped => scanned(regrouped(alloc)?),
         Said::Held => (Turn::Claim(1), Reply::Held(until)),
         Said::Taken => (Turn::Claim(2), Reply::Taken { node: 1, until }),

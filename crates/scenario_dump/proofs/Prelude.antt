@@ -52,10 +52,12 @@ pub use Rattle.scenario_dump.specs.Parts.{end_text, fixed_text, flag_text, flush
 unfoldable pub use Rattle.scenario_dump.specs.Parts.{server_text}
 pub use Rattle.scenario_dump.specs.Promises.{HasTexts, IsReadable, IsRising}
 pub use Rattle.scenario_dump.specs.Promises
-pub use Rattle.scenario_dump.specs.Servers.{init_by, is_detached, points_of, source_in}
+pub use Rattle.scenario_dump.specs.Servers.{init_by, points_of, source_in}
+pub use Rattle.server_model.specs.Desk.{is_detached}
 unfoldable pub use Rattle.scenario_dump.specs.Servers.{init_of, opening_of}
 pub use Rattle.scenario_dump.specs.Texts.{aliases_data, blocks_data, coord_data, count_data, filters_data, hook_data, hooks_data, items_of, list_data}
-pub use Rattle.scenario_dump.specs.Texts.{member_for, member_if, name_text, part_data, version_text}
+pub use Rattle.scenario_dump.specs.Texts.{member_for, member_if, name_text, part_data}
+pub use Rattle.scenarios.specs.OrchBase.Words.{version_text}
 unfoldable pub use Rattle.scenario_dump.specs.Texts.{dump_data, dump_text, server_data}
 pub use Rattle.scenario_generator.proofs.Reading.{tokens-line}
 pub use Rattle.scenarios.specs.declared.blocks.Block.{Block}

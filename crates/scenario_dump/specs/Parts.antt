@@ -5,7 +5,8 @@ use Rattle.scenario_dump.specs.Prelude.{token_text, uuid_text}
 use Rattle.scenario_dump.specs.Prelude.token
 use Rattle.scenario_dump.specs.Histories.{parts_of}
 use Rattle.scenario_dump.specs.Servers.{init_of, opening_of, points_of}
-use Rattle.scenario_dump.specs.Texts.{count_data, list_data, part_data, server_data, version_text}
+use Rattle.scenario_dump.specs.Texts.{count_data, list_data, part_data, server_data}
+use Rattle.scenarios.specs.OrchBase.Words.{version_text}
 
 abbrev pub flag_text : Bool → List ℕ
 flag_text on = token_text (token.boolean on)

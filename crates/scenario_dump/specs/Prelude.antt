@@ -25,7 +25,6 @@ pub use Rattle.scenarios.specs.OrchBase.declared.server.Settings.{Settings}
 pub use Rattle.scenarios.specs.OrchBase.declared.server.SourceState.{SourceState}
 pub use Rattle.scenarios.specs.OrchBase.declared.server.SourceState.TheVariants.{Attached, Detached, Without}
 pub use Rattle.scenarios.specs.OrchBase.declared.server.Txn.{Txn}
-pub use Rattle.scenarios.specs.OrchBase.declared.server.Version.{Version}
 pub use Rattle.scenarios.specs.OrchBase.declared.source.TheConstants.{MAX_SCENARIO_LEN}
 pub use Rattle.scenarios.specs.Scenarios.{settings_of}
 pub use Rattle.scenarios.specs.declared.blocks.Block.{Block}

@@ -1,18 +1,14 @@
 -- The servers of a world as a scenario gives them.
-use Rattle.std.specs.Prelude.{ℕ, Bool, true, false, if◌then◌else◌, List, [], length, map, Option, Some, None}
+use Rattle.std.specs.Prelude.{ℕ, true, false, if◌then◌else◌, List, [], length, map, Option, Some, None}
 use Rattle.scenario_dump.specs.Prelude.{Attached, Detached, Opened, Server, ServerInit, ServerNo, SourceState, Without, World, opening}
 use Rattle.scenario_dump.specs.Files.{flush_points}
 use Rattle.scenario_dump.specs.Histories.{parts_of}
+use Rattle.server_model.specs.Desk.{is_detached}
 
 abbrev pub source_in : SourceState → Option ServerNo
 source_in Without = None
 source_in (Attached m) = Some m
 source_in (Detached m) = Some m
-
-abbrev pub is_detached : SourceState → Bool
-is_detached Without = false
-is_detached (Attached m) = false
-is_detached (Detached m) = true
 
 -- after how many of its transactions its log was flushed; one that doesn't log has no flush points
 abbrev pub points_of : Server → List ℕ

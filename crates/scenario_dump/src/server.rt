@@ -3,7 +3,8 @@
 ghost use Rattle.std.specs.Prelude.{◌≡◌, ◌++◌, ◌<◌, length, OnOk, option_map, Some};
 ghost use Rattle.scenario_dump.specs.Prelude.{Without, server_at};
 ghost use Rattle.scenario_dump.specs.Parts.{end_text, fixed_text, server_text, until_text};
-ghost use Rattle.scenario_dump.specs.Servers.{is_detached, source_in};
+ghost use Rattle.scenario_dump.specs.Servers.{source_in};
+ghost use Rattle.server_model.specs.Desk.{is_detached};
 
 use crate::binlog_coords_items::Coord;
 use crate::files::print_flushes;
@@ -77,8 +78,10 @@ fn print_replica(
     out: &mut Vec<u8>,
 ) -> Result<(), Memory>
     requires server { no.0 < length world.now.servers }
-    requires source { option_map (λ s. source_in s.source) (server_at world.now no.0) ≡ Some (Some source) }
-    requires state { option_map (λ s. is_detached s.source) (server_at world.now no.0) ≡ Some detached }
+    requires source { option_map (λ s. source_in s.source) (server_at world.now no.0)
+        ≡ Some (Some source) }
+    requires state { option_map (λ s. is_detached s.source) (server_at world.now no.0)
+        ≡ Some detached }
     ensures { OnOk result (out.new.items ≡ out.old.items ++ server_text world.now no.0) }
 {
     let settings = world.settings(no);

@@ -4,7 +4,8 @@ ghost use Rattle.std.specs.Prelude.{◌≡◌, ◌++◌, decimal, OnOk};
 ghost use Rattle.scenario_dump.specs.Prelude.{comma_if, coord_text, printed, quoted, uuid_text};
 ghost use Rattle.scenario_dump.specs.Parts.{flag_text};
 ghost use Rattle.scenario_dump.specs.Servers.{opening_of};
-ghost use Rattle.scenario_dump.specs.Texts.{name_text, version_text};
+ghost use Rattle.scenario_dump.specs.Texts.{name_text};
+ghost use Rattle.scenarios.specs.OrchBase.Words.{version_text};
 
 use crate::binlog_coords_items::{Coord, print_coord};
 use crate::orch_base::{Memory, Name, ServerNo, Version};
@@ -71,7 +72,8 @@ pub(crate) fn print_place(before: &[u8], c: Coord, out: &mut Vec<u8>) -> Result<
 
 /// A server's name in quotes.
 pub(crate) fn print_name(before: &[u8], name: &Name, out: &mut Vec<u8>) -> Result<(), Memory>
-    ensures { OnOk result (out.new.items ≡ out.old.items ++ (before.now ++ quoted (printed name.now))) }
+    ensures { OnOk result (out.new.items ≡ out.old.items
+        ++ (before.now ++ quoted (printed name.now))) }
 {
     out.extend_from_slice(before)?;
     out.extend_from_slice(b"\"")?;
@@ -98,7 +100,8 @@ pub(crate) fn print_named(
 
 /// A UUID in quotes, in lower case.
 pub(crate) fn print_uuid(before: &[u8], uuid: u128, out: &mut Vec<u8>) -> Result<(), Memory>
-    ensures { OnOk result (out.new.items ≡ out.old.items ++ (before.now ++ quoted (uuid_text uuid))) }
+    ensures { OnOk result (out.new.items ≡ out.old.items
+        ++ (before.now ++ quoted (uuid_text uuid))) }
 {
     let mut buffer = Uuid::encode_buffer();
     let digits = Uuid::from_u128(uuid).hyphenated().encode_lower(&mut buffer);
@@ -114,7 +117,8 @@ pub(crate) fn print_version(
     version: Version,
     out: &mut Vec<u8>,
 ) -> Result<(), Memory>
-    ensures { OnOk result (out.new.items ≡ out.old.items ++ (before.now ++ quoted (version_text version))) }
+    ensures { OnOk result (out.new.items ≡ out.old.items
+        ++ (before.now ++ quoted (version_text version))) }
 {
     out.extend_from_slice(before)?;
     print_number(b"\"", u64::from(version.major), out)?;

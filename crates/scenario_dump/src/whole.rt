@@ -90,7 +90,7 @@ pub fn dump(
     ensures { IfOk result (λ v. v.items ≡ dump_text world.now scenario.now now.0) }
 {
     let filters = &scenario.filters;
-    let hooks = &scenario.hooks;
+    let hooks = scenario.hooks.all();
     let mut out = Vec::from_slice(alloc, b"{\"aliases\":")?;
     print_aliases(alloc, scenario.aliases.as_slice(), &mut out)?;
     print_number(b",\"block\":", scenario.block, &mut out)?;

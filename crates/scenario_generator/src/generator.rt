@@ -28,7 +28,8 @@ fn add_servers<K: Sink>(
         (K.written sink.old) held.old.items (K.written sink.new) held.new.items) }
     ensures numbers { OnOk result
         (numbers.new.last ≡ (servers_from numbers.old.last servers).number) }
-    ensures err { OnErr result (JoinsFront (servers_text (servers_from numbers.old.last servers).drawn)
+    ensures err { OnErr result (JoinsFront
+        (servers_text (servers_from numbers.old.last servers).drawn)
         (K.written sink.old) held.old.items (K.written sink.new)) }
     ensures cause { HasWriteCause (K.faults sink.old) (K.faults sink.new) result }
 {
@@ -52,7 +53,8 @@ fn add_turns<K: Sink>(
     requires { 0 < servers }
     ensures ok { OnOk result (Joins (turns_text (turns_from servers numbers.old.last turns).drawn)
         (K.written sink.old) held.old.items (K.written sink.new) held.new.items) }
-    ensures err { OnErr result (JoinsFront (turns_text (turns_from servers numbers.old.last turns).drawn)
+    ensures err { OnErr result (JoinsFront
+        (turns_text (turns_from servers numbers.old.last turns).drawn)
         (K.written sink.old) held.old.items (K.written sink.new)) }
     ensures cause { HasWriteCause (K.faults sink.old) (K.faults sink.new) result }
 {
@@ -78,7 +80,8 @@ pub fn write_scenario<K: Sink>(
     ensures ok { OnOk result
         (Appends (K.written sink.old) (K.written sink.new) (scenario_text seed servers turns)) }
     ensures err { OnErr result
-        (AppendsFront (K.written sink.old) (K.written sink.new) (scenario_text seed servers turns)) }
+        (AppendsFront (K.written sink.old) (K.written sink.new)
+        (scenario_text seed servers turns)) }
     ensures cause { HasWriteCause (K.faults sink.old) (K.faults sink.new) result }
 {
     let mut numbers = Numbers { last: seed };

@@ -13,7 +13,8 @@ const PIECE: usize = 65_536;
 pub(crate) fn hand_over_piece<K: Sink>(held: &mut Vec<u8>, sink: &mut K) -> Result<(), Failed>
     ensures ok { OnOk result
         (Stays (K.written sink.old) held.old.items (K.written sink.new) held.new.items) }
-    ensures err { OnErr result (StaysFront (K.written sink.old) held.old.items (K.written sink.new)) }
+    ensures err { OnErr result (StaysFront (K.written sink.old) held.old.items
+        (K.written sink.new)) }
     ensures cause { HasCause (K.faults sink.old) (K.faults sink.new) result }
 {
     if held.len() < PIECE {

@@ -26,7 +26,8 @@ impl Sink for Whole {
     fn write(&mut self, piece: &[u8]) -> Result<usize, Failed>
         ensures bound { WritesAtMost result piece.now }
         ensures some { TakesSome result piece.now }
-        ensures bytes { WriteAppends (Some self.old.bytes.items) (Some self.new.bytes.items) result piece.now }
+        ensures bytes { WriteAppends (Some self.old.bytes.items) (Some self.new.bytes.items) result
+            piece.now }
         ensures cause { HasCause self.old.faults self.new.faults result }
     {
         match self.bytes.extend_from_slice(piece) {

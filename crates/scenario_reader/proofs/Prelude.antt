@@ -18,11 +18,11 @@ pub use Rattle.scenarios.specs.Openings.declared.opening.Flaw.{Flaw}
 pub use Rattle.scenarios.specs.OrchBase.Gives.{Gives}
 pub use Rattle.scenarios.specs.OrchBase.Names.{HostPort, printed}
 pub use Rattle.scenarios.specs.OrchBase.declared.source.TheConstants.{MAX_SCENARIO_LEN}
-unfoldable pub use Rattle.scenario_filters.specs.Aliases.{aliases_in}
-pub use Rattle.scenario_filters.specs.Filters.{answered, no_filters}
-unfoldable pub use Rattle.scenario_filters.specs.Filters.{filters_in}
-pub use Rattle.scenario_openings.specs.Openings.{code_of, fails_at, is_small, keys_of, listed_count, opening_or_fails}
-unfoldable pub use Rattle.scenario_openings.specs.Openings.{opening_in}
+unfoldable pub use Rattle.scenario_reader.specs.Aliases.{aliases_in}
+pub use Rattle.scenario_reader.specs.Filters.{answered, no_filters}
+unfoldable pub use Rattle.scenario_reader.specs.Filters.{filters_in}
+pub use Rattle.scenario_reader.specs.ReadOpenings.{code_of, fails_at, is_small, keys_of, listed_count, opening_or_fails}
+unfoldable pub use Rattle.scenario_reader.specs.ReadOpenings.{opening_in}
 pub use Rattle.scenario_reader.specs.Blocks.{period_in}
 unfoldable pub use Rattle.scenario_reader.specs.Blocks.{block_in, blocks_in}
 pub use Rattle.scenario_reader.specs.Hooks.{exit_or_fails, hook_keys, is_hook_text, is_printable, two_of}

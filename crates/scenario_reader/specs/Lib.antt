@@ -1,4 +1,8 @@
 pub mod Prelude
+pub mod Aliases
+pub mod AliasTable
+pub mod Filters
+pub mod ReadOpenings
 pub mod Blocks
 pub mod Hooks
 pub mod ReadScenarios
@@ -8,8 +12,6 @@ pub use Rattle.scenarios.specs.GtidSets as GtidSets
 pub use Rattle.scenarios.specs.HookTexts as HookTexts
 pub use Rattle.scenarios.specs.Openings as Openings
 pub use Rattle.scenarios.specs.OrchBase as OrchBase
-pub mod ScenarioFilters
-pub mod ScenarioOpenings
 pub mod ScenarioServers
 pub mod ScenarioTurns
 pub mod ScenarioValues

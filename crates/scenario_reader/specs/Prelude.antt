@@ -8,11 +8,6 @@ pub use Rattle.scenarios.specs.Openings.declared.init.ServerInit.{ServerInit}
 pub use Rattle.scenarios.specs.OrchBase.Gives.{Gives}
 pub use Rattle.scenarios.specs.OrchBase.Names.{HostPort}
 pub use Rattle.scenarios.specs.OrchBase.declared.source.TheConstants.{MAX_SCENARIO_LEN}
-unfoldable pub use Rattle.scenario_filters.specs.Aliases.{aliases_in}
-pub use Rattle.scenario_filters.specs.Filters.{AreRead, answered, no_filters}
-unfoldable pub use Rattle.scenario_filters.specs.Filters.{filters_in}
-pub use Rattle.scenario_openings.specs.Openings.{is_small, listed_count}
-unfoldable pub use Rattle.scenario_openings.specs.Openings.{opening_in}
 pub use Rattle.scenario_servers.specs.Openings.{IsGiven, inits_of, known_of, rules_of}
 unfoldable pub use Rattle.scenario_servers.specs.Servers.{servers_in}
 pub use Rattle.scenario_servers.specs.declared.given.Given.{Given}

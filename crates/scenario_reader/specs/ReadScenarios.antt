@@ -1,10 +1,12 @@
 -- The scenario that bytes are, or the first fault of the walk over them.
 use Rattle.std.specs.Prelude.{ℕ, ◌+◌, ◌∷◌, ◌&&◌, List, [], Bool, false, length, count_by, nat_le, nat_eq, is_some, if◌then◌else◌, codes, Option, Some, None, Result, Ok}
-use Rattle.scenario_reader.specs.Prelude.{BadType, BadVersion, Data, Fault, Given, HostPort, Items, MAX_SCENARIO_LEN, Missing, NotJson, Scenario}
-use Rattle.scenario_reader.specs.Prelude.{ServerInit, TooLarge, TooLong, Turn, aliases_in, answered, as_number, as_u64, bool_in, each, expanded}
-use Rattle.scenario_reader.specs.Prelude.{filters_in, get, holds, in_order, inits_of, is_small, is_utf8, is_write, items_in, known_of, listed_count}
-use Rattle.scenario_reader.specs.Prelude.{members_in, needed, no_filters, no_hooks, no_items, number_in, only_keys, opening_in, optional, or_fails}
+use Rattle.scenario_reader.specs.Prelude.{BadType, BadVersion, Data, Fault, Given, HostPort, Items, MAX_SCENARIO_LEN, Missing, NotJson, Scenario, ServerInit}
+use Rattle.scenario_reader.specs.Prelude.{TooLarge, TooLong, Turn, as_number, as_u64, bool_in, each, expanded, get, holds, in_order, inits_of, is_utf8}
+use Rattle.scenario_reader.specs.Prelude.{is_write, items_in, known_of, members_in, needed, no_hooks, no_items, number_in, only_keys, optional, or_fails}
 use Rattle.scenario_reader.specs.Prelude.{printed_of, read, rules_of, servers_in, turn_in, under}
+use Rattle.scenario_reader.specs.Aliases.{aliases_in}
+use Rattle.scenario_reader.specs.Filters.{answered, filters_in, no_filters}
+use Rattle.scenario_reader.specs.ReadOpenings.{is_small, listed_count, opening_in}
 use Rattle.scenario_reader.specs.declared.head.Head.{Head}
 use Rattle.scenario_reader.specs.Blocks.{blocks_in, period_in}
 use Rattle.scenario_reader.specs.Hooks.{hooks_in}

@@ -20,13 +20,15 @@ fn block_in(alloc: Global, label: &str, value: &Value) -> Result<Block, ReadFaul
 
 #[tactic(auto, using(scenario_values::proofs::Unders::gives_under))]
 fn block_at(alloc: Global, label: &str, value: &Value) -> Result<Block, ReadFault>
-    ensures { Gives (λ b. b) fault_of result (place_under label.now (block_in label.now (view value.now))) }
+    ensures { Gives (λ b. b) fault_of result
+        (place_under label.now (block_in label.now (view value.now))) }
 {
     under(alloc, label.as_bytes(), block_in(alloc, label, value))
 }
 
 fn blocks_from(alloc: Global, members: &Map<String, Value>) -> Result<Vec<Block>, ReadFault>
-    ensures { Gives (λ v. v.items) fault_of result (each_member block_in (members_view members.now.entries)) }
+    ensures { Gives (λ v. v.items) fault_of result
+        (each_member block_in (members_view members.now.entries)) }
 {
     let mut blocks = Vec::new(alloc);
     for (label, value) in members {
@@ -43,5 +45,5 @@ pub(crate) fn blocks_in(alloc: Global, value: &Value) -> Result<Blocks, ReadFaul
 {
     let members = members_in(alloc, value)?;
     let blocks = blocks_from(alloc, members)?;
-    Ok(Blocks::new(blocks))
+    Ok(Blocks::new(alloc, blocks)?)
 }

@@ -1,19 +1,21 @@
 //! The keys before the servers.
 
 ghost use Rattle.std.specs.Prelude.{◌≡◌, [], codes, IfOk};
-ghost use Rattle.scenario_reader.specs.Prelude.{AreRead, Gives, aliases_in, fault_of, filters_in, needed, no_filters, no_hooks, number_in, optional};
-ghost use Rattle.scenario_reader.specs.Prelude.{view};
+ghost use Rattle.scenario_reader.specs.Prelude.{Gives, fault_of, needed, no_hooks, number_in, optional, view};
+ghost use Rattle.scenario_reader.specs.Filters.{AreRead, filters_in, no_filters};
+ghost use Rattle.scenario_reader.specs.Aliases.{aliases_in};
 ghost use Rattle.scenario_reader.specs.Blocks.{blocks_in};
 ghost use Rattle.scenario_reader.specs.Hooks.{hooks_in};
 ghost use Rattle.scenario_reader.specs.ReadScenarios.{is_one, one_in, is_there, keys_in, head_in};
 
+use crate::aliases::aliases_in;
 use crate::blocks::blocks_in;
+use crate::filters::{FilterTexts, filters_in, no_filters};
 use crate::hooks::hooks_in;
-use scenario_filters::{FilterTexts, aliases_in, filters_in, no_filters};
 use scenario_values::{
     FaultCode, ReadFault, bool_at, fails, holds, members_in, number_at, only_keys, under,
 };
-use scenarios::{Aliases, Blocks, Hooks};
+use scenarios::{Aliases, Blocks, Hooks, SharedHooks};
 use serde_json::Value;
 use std::alloc::Global;
 
@@ -34,7 +36,7 @@ pub struct Head {
     pub blocks: Blocks,
     pub aliases: Aliases,
     pub filters: FilterTexts,
-    pub hooks: Hooks,
+    pub hooks: SharedHooks,
 }
 
 fn is_there(key: &str, object: &Value) -> bool
@@ -99,27 +101,30 @@ fn nodes_at(alloc: Global, object: &Value) -> Result<u32, ReadFault>
 
 #[tactic(auto, using(scenario_values::proofs::Unders::gives_under))]
 fn blocks_at(alloc: Global, object: &Value) -> Result<Blocks, ReadFault>
-    ensures { Gives (λ b. b) fault_of result (optional (codes "blocks") blocks_in [] (view object.now)) }
+    ensures { Gives (λ b. b) fault_of result
+        (optional (codes "blocks") blocks_in [] (view object.now)) }
 {
     match object.get("blocks") {
         Some(value) => under(alloc, b"blocks", blocks_in(alloc, value)),
-        None => Ok(Blocks::new(Vec::new(alloc))),
+        None => Ok(Blocks::new(alloc, Vec::new(alloc))?),
     }
 }
 
 #[tactic(auto, using(scenario_values::proofs::Unders::gives_under))]
 fn aliases_at(alloc: Global, object: &Value) -> Result<Aliases, ReadFault>
-    ensures { Gives (λ a. a) fault_of result (optional (codes "aliases") aliases_in [] (view object.now)) }
+    ensures { Gives (λ a. a) fault_of result
+        (optional (codes "aliases") aliases_in [] (view object.now)) }
 {
     match object.get("aliases") {
         Some(value) => under(alloc, b"aliases", aliases_in(alloc, value)),
-        None => Ok(Aliases::new(Vec::new(alloc))),
+        None => Ok(Aliases::new(alloc, Vec::new(alloc))?),
     }
 }
 
 #[tactic(auto, using(scenario_values::proofs::Unders::gives_under))]
 fn filters_at(alloc: Global, object: &Value) -> Result<FilterTexts, ReadFault>
-    ensures exact { Gives (λ f. f) fault_of result (optional (codes "filters") filters_in no_filters (view object.now)) }
+    ensures exact { Gives (λ f. f) fault_of result
+        (optional (codes "filters") filters_in no_filters (view object.now)) }
     ensures read { IfOk result AreRead }
 {
     match object.get("filters") {
@@ -130,7 +135,8 @@ fn filters_at(alloc: Global, object: &Value) -> Result<FilterTexts, ReadFault>
 
 #[tactic(auto, using(scenario_values::proofs::Unders::gives_under))]
 fn hooks_at(alloc: Global, object: &Value) -> Result<Hooks, ReadFault>
-    ensures { Gives (λ h. h) fault_of result (optional (codes "hooks") hooks_in no_hooks (view object.now)) }
+    ensures { Gives (λ h. h) fault_of result
+        (optional (codes "hooks") hooks_in no_hooks (view object.now)) }
 {
     match object.get("hooks") {
         Some(value) => under(alloc, b"hooks", hooks_in(alloc, value)),
@@ -153,7 +159,7 @@ pub(crate) fn head_in(alloc: Global, object: &Value) -> Result<Head, ReadFault>
     let blocks = blocks_at(alloc, object)?;
     let aliases = aliases_at(alloc, object)?;
     let filters = filters_at(alloc, object)?;
-    let hooks = hooks_at(alloc, object)?;
+    let hooks = SharedHooks::new(alloc, hooks_at(alloc, object)?)?;
     Ok(Head {
         moment,
         gtid,

@@ -14,7 +14,8 @@ use serde_json::Value;
 use std::alloc::Global;
 
 fn two_of(alloc: Global, items: &[Value]) -> Result<(&Value, &Value), ReadFault>
-    ensures { Gives (λ t. (view t.0.now, view t.1.now)) fault_of result (two_of (items_view items.now)) }
+    ensures { Gives (λ t. (view t.0.now, view t.1.now)) fault_of result
+        (two_of (items_view items.now)) }
 {
     if items.len() != 2 {
         return Err(fails(alloc, FaultCode::BadNumber));

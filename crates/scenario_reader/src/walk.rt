@@ -1,16 +1,17 @@
 //! The walk over a scenario's text.
 
 ghost use Rattle.std.specs.Prelude.{◌≡◌, ◌+◌, ◌≤◌, ℕ, List, [], Some, Ok, IfOk, codes, count_by, length};
-ghost use Rattle.scenario_reader.specs.Prelude.{AreRead, Gives, IsGiven, IsScenario, Scenario as AScenario, TooLong, each, expanded, fault_of};
-ghost use Rattle.scenario_reader.specs.Prelude.{inits_of, is_small, is_write, items_in, items_view, listed_count, needed, no_items, optional};
-ghost use Rattle.scenario_reader.specs.Prelude.{servers_in, turn_in, under as place_under, view};
+ghost use Rattle.scenario_reader.specs.Prelude.{Gives, IsGiven, IsScenario, Scenario as AScenario, TooLong, each, expanded, fault_of, inits_of, is_write};
+ghost use Rattle.scenario_reader.specs.Prelude.{items_in, items_view, needed, no_items, optional, servers_in, turn_in, under as place_under, view};
+ghost use Rattle.scenario_reader.specs.Filters.{AreRead};
+ghost use Rattle.scenario_reader.specs.ReadOpenings.{is_small, listed_count};
 ghost use Rattle.scenario_reader.specs.ReadScenarios.{json_in, bounded, turns_in, scenario_with, scenario_from, scenario_in};
 
+use crate::answers::answered;
 use crate::head::{Head, head_in, keys_in};
+use crate::opening::{listed_count, opening_in};
 use crate::openings::ServerInit;
 use crate::orch_base::{MAX_SCENARIO_LEN, Moment, ServerNo};
-use scenario_filters::answered;
-use scenario_openings::{listed_count, opening_in};
 use scenario_servers::{Listed, Names, inits_of, known_of, rules_of, servers_in};
 use scenario_turns::{ListedTurn, Patterns, are_few, each_turn, expanded, in_order, printed_of};
 use scenario_values::{FaultCode, ReadFault, fails, holds, items_in, under};
@@ -40,7 +41,8 @@ fn writes(turns: &[Turn]) -> usize
 
 // Whether the servers times the transactions that they list and the turns write are at most 4,000,000.
 fn is_small(servers: &[ServerInit], turns: &[Turn]) -> bool
-    ensures { result ≡ is_small (length servers.now) (listed_count servers.now + count_by is_write turns.now) }
+    ensures { result
+        ≡ is_small (length servers.now) (listed_count servers.now + count_by is_write turns.now) }
 {
     let count = listed_count(servers).saturating_add(writes(turns) as u64);
     match count.checked_mul(servers.len() as u64) {
@@ -77,7 +79,8 @@ fn bounded(
     listed: Vec<ListedTurn>,
 ) -> Result<Vec<Turn>, ReadFault>
     requires { length ordered.now ≤ 1000 }
-    ensures { Gives (λ v. v.items) fault_of result (bounded servers.now (expanded ordered.now listed.items)) }
+    ensures { Gives (λ v. v.items) fault_of result
+        (bounded servers.now (expanded ordered.now listed.items)) }
 {
     holds(alloc, FaultCode::TooLarge, are_few(ordered, &listed))?;
     let turns = expanded(alloc, ordered, listed)?;
@@ -124,14 +127,16 @@ fn scenario_with(
     let opening = opening_in(alloc, servers, head.gtid)?;
     let turns = turns_in(alloc, &listed.names, opening.servers(), head.nodes, items)?;
     let filters = answered(alloc, head.filters, &head.aliases, opening.servers())?;
+    let blocks = head.blocks.resolved(alloc, opening.servers())?;
+    let aliases = head.aliases.resolved(alloc, opening.servers())?;
     Ok(Scenario {
         opening,
         moment: Moment(head.moment),
         pseudo: head.pseudo,
         nodes: head.nodes,
         block: head.block,
-        blocks: head.blocks,
-        aliases: head.aliases,
+        blocks,
+        aliases,
         filters,
         hooks: head.hooks,
         known: Answers::new(known),

@@ -1,4 +1,5 @@
 mod Prelude
+pub mod Absent
 pub mod Apartness
 pub mod NameTables
 pub mod Printed

@@ -41,6 +41,30 @@ adds_name old new key named added number some same none updates =
     subst P (ap (λ (n : HostPort). Some n) same ∙ sym some)
     (record { found = λ name. updates.0 (record { 0 = name }) ∙ rw (is_eq-name_cmp key.0 name) (added_at old key.0 name number (same_name key.0 name) refl none) })
 
+-- the name that another server has, found by writing its number and then the earlier one again
+again_at : (old : BTreeMap NameKey ℕ) (added name : HostPort) (number first : ℕ) (b : Bool) → same_name added name ≡ b → number_at old added ≡ Some first
+    → cond b (Some first) (cond b (Some number) (number_at old name)) ≡ option_or (number_at old name) (cond b (Some number) None)
+again_at old added name number first true same there =
+    let here : number_at old name ≡ Some first = subst (λ (n : HostPort). number_at old n ≡ Some first) ((same_name_tells added name).0 same) there in
+    rw here refl
+again_at old added name number first false same there = sym (or_none (number_at old name))
+
+pub adds_again : (old mid new : BTreeMap NameKey ℕ) (key again : NameKey) (named : HostPort) (added : Option HostPort) (number first : ℕ) → added ≡ Some named → key.0 ≡ named → again.0 ≡ named → number_at old key.0 ≡ Some first
+    → Updates (λ (a b : NameKey). name_cmp a.0 b.0) old mid key (Some number) → Updates (λ (a b : NameKey). name_cmp a.0 b.0) mid new again (Some first) → AddsName old new added number
+adds_again old mid new key again named added number first some same other there writes rewrites =
+    let P : Option HostPort → Type 0 = λ o. AddsName old new o number in
+    subst P (ap (λ (n : HostPort). Some n) same ∙ sym some)
+    (record {
+      found = λ name.
+          let q : NameKey = record { 0 = name } in
+          let once : is_eq (name_cmp key.0 name) ≡ same_name key.0 name = is_eq-name_cmp key.0 name in
+          let twice : is_eq (name_cmp again.0 name) ≡ same_name key.0 name = is_eq-name_cmp again.0 name ∙ ap (λ (n : HostPort). same_name n name) (other ∙ sym same) in
+          rewrites.0 q
+          ∙ ap (λ (b : Bool). cond b (Some first) (number_at mid name)) twice
+          ∙ ap (λ (o : Option ℕ). cond (same_name key.0 name) (Some first) o) (writes.0 q ∙ ap (λ (b : Bool). cond b (Some number) (number_at old name)) once)
+          ∙ again_at old key.0 name number first (same_name key.0 name) refl there;
+    })
+
 -- ---- the list
 
 first_named-push : (name : HostPort) (n : ℕ) (xs : List (Option HostPort)) (x : Option HostPort)

@@ -16,7 +16,8 @@ use serde_json::Value;
 use std::alloc::Global;
 
 fn three_of(alloc: Global, items: &[Value]) -> Result<(&Value, &Value, &Value), ReadFault>
-    ensures { Gives (λ t. (view t.0.now, view t.1.now, view t.2.now)) fault_of result (three_of (items_view items.now)) }
+    ensures { Gives (λ t. (view t.0.now, view t.1.now, view t.2.now)) fault_of result
+        (three_of (items_view items.now)) }
 {
     if items.len() != 3 {
         return Err(fails(alloc, FaultCode::BadNumber));
@@ -26,7 +27,8 @@ fn three_of(alloc: Global, items: &[Value]) -> Result<(&Value, &Value, &Value), 
 
 #[tactic(auto, using(scenario_values::proofs::Unders::gives_under))]
 fn origin_at(alloc: Global, names: &Names, value: &Value) -> Result<ServerNo, ReadFault>
-    ensures { Gives (λ n. n) fault_of result (under_item 0 (server_named names.now (view value.now))) }
+    ensures { Gives (λ n. n) fault_of result
+        (under_item 0 (server_named names.now (view value.now))) }
 {
     under_item(alloc, 0, server_named(alloc, names, value))
 }
@@ -70,15 +72,17 @@ fn part_in(alloc: Global, names: &Names, value: &Value) -> Result<Part, ReadFaul
 
 #[tactic(auto, using(scenario_values::proofs::Unders::gives_under))]
 fn part_at(alloc: Global, names: &Names, number: usize, value: &Value) -> Result<Part, ReadFault>
-    ensures { Gives (λ p. p) fault_of result (under_item number (part_in names.now (view value.now))) }
+    ensures { Gives (λ p. p) fault_of result
+        (under_item number (part_in names.now (view value.now))) }
 {
     under_item(alloc, number, part_in(alloc, names, value))
 }
 
 fn parts_in(alloc: Global, names: &Names, items: &[Value]) -> Result<Vec<Part>, ReadFault>
-    ensures { Gives (λ v. v.items) fault_of result (each (part_in names.now) (items_view items.now)) }
+    ensures { Gives (λ v. v.items) fault_of result
+        (each (part_in names.now) (items_view items.now)) }
 {
-    let mut parts = Vec::new(alloc);
+    let mut parts = Vec::with_capacity(alloc, items.len())?;
     for (number, value) in items.iter().enumerate() {
         parts.push(part_at(alloc, names, number, value)?)?;
     }
@@ -105,7 +109,7 @@ fn flush_at(alloc: Global, number: usize, value: &Value) -> Result<u64, ReadFaul
 fn flush_list(alloc: Global, items: &[Value]) -> Result<Vec<u64>, ReadFault>
     ensures { Gives (λ v. v.items) fault_of result (each whole_in (items_view items.now)) }
 {
-    let mut counts = Vec::new(alloc);
+    let mut counts = Vec::with_capacity(alloc, items.len())?;
     for (number, value) in items.iter().enumerate() {
         counts.push(flush_at(alloc, number, value)?)?;
     }
@@ -114,7 +118,8 @@ fn flush_list(alloc: Global, items: &[Value]) -> Result<Vec<u64>, ReadFault>
 
 #[tactic(auto, using(scenario_values::proofs::Each::item_count_view))]
 fn few_flushes(alloc: Global, items: &[Value]) -> Result<(), ReadFault>
-    ensures { Gives (λ _. tt) fault_of result (holds BadNumber (nat_le (item_count (items_view items.now)) 1000000)) }
+    ensures { Gives (λ _. tt) fault_of result
+        (holds BadNumber (nat_le (item_count (items_view items.now)) 1000000)) }
 {
     holds(alloc, FaultCode::BadNumber, items.len() <= 1_000_000)
 }

@@ -22,7 +22,8 @@ const DEFAULT_VERSION: Version = Version {
 
 #[tactic(auto, using(scenario_values::proofs::Unders::gives_under))]
 fn name_at(alloc: Global, names: &Names, number: u32, object: &Value) -> Result<Name, ReadFault>
-    ensures { Gives (λ n. n) fault_of result (needed (codes "name") (own_name names.now number) (view object.now)) }
+    ensures { Gives (λ n. n) fault_of result
+        (needed (codes "name") (own_name names.now number) (view object.now)) }
 {
     match object.get("name") {
         Some(value) => under(alloc, b"name", own_name(alloc, names, number, value)),
@@ -40,7 +41,8 @@ fn server_id_in(alloc: Global, value: &Value) -> Result<u32, ReadFault>
 #[tactic(auto, using(scenario_values::proofs::Unders::gives_under))]
 fn server_id_at(alloc: Global, number: u32, object: &Value) -> Result<u32, ReadFault>
     requires { number < 1000 }
-    ensures { Gives (λ n. n) fault_of result (optional (codes "server_id") (number_in 1 4294967295) (number + 1) (view object.now)) }
+    ensures { Gives (λ n. n) fault_of result
+        (optional (codes "server_id") (number_in 1 4294967295) (number + 1) (view object.now)) }
 {
     match object.get("server_id") {
         Some(value) => under(alloc, b"server_id", server_id_in(alloc, value)),
@@ -58,7 +60,8 @@ pub(crate) fn identity_in(
     object: &Value,
 ) -> Result<Identity, ReadFault>
     requires { number < 1000 }
-    ensures { Gives (λ i. i) fault_of result (identity_in names.now uuids.now number (view object.now)) }
+    ensures { Gives (λ i. i) fault_of result
+        (identity_in names.now uuids.now number (view object.now)) }
 {
     let name = name_at(alloc, names, number, object)?;
     let uuid = own_uuid(alloc, uuids, number, object)?;

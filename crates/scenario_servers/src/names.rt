@@ -1,14 +1,14 @@
 //! The names of a scenario's servers, and the servers that texts name.
 
-ghost use Rattle.std.specs.Prelude.{◌≡◌, ◌==◌, Some, IfOk, OnOk, option_map};
+ghost use Rattle.std.specs.Prelude.{◌≡◌, ◌==◌, Ok, Some, IfOk, OnOk, option_map};
 ghost use Rattle.std.proofs.Common.{rules};
 ghost use Rattle.scenario_servers.specs.Prelude.{Gives, as_partial_cmp, comparing, eq_of_both, fault_of, nat_cmp, on, partial_order_from_own_ties};
-ghost use Rattle.scenario_servers.specs.Prelude.{pointwise, slice_cmp, then_cmp, view};
+ghost use Rattle.scenario_servers.specs.Prelude.{name_at, name_or_fails, pointwise, slice_cmp, then_cmp, view};
 ghost use Rattle.scenario_servers.specs.Names.{listed_name, server_named, own_name};
 ghost use Rattle.scenario_servers.specs.NameTable.{AddsName};
 
 use crate::orch_base::{Memory, Name, NameFault, ServerNo};
-use scenario_values::{FaultCode, ReadFault, fails, name_in, text_in};
+use scenario_values::{FaultCode, ReadFault, fails, text_in};
 use serde_json::Value;
 use std::alloc::Global;
 use std::cmp::Ordering;
@@ -103,14 +103,14 @@ fn add_name(
     name: Option<&Name>,
     number: u32,
 ) -> Result<(), Memory>
-    ensures { OnOk result (AddsName numbers.old numbers.new (option_map (λ n. n.now) name.entry) number) }
+    ensures { OnOk result (AddsName numbers.old numbers.new (option_map (λ n. n.now) name.entry)
+        number) }
 {
     let Some(name) = name else {
         return Ok(());
     };
-    let key = NameKey(name.copy(alloc)?);
-    if !numbers.contains_key(&key) {
-        numbers.insert(key, number)?;
+    if let Some(first) = numbers.insert(NameKey(name.copy(alloc)?), number)? {
+        numbers.insert(NameKey(name.copy(alloc)?), first)?;
     }
     Ok(())
 }
@@ -120,11 +120,23 @@ fn listed_text(value: &Value) -> Option<&str> {
     value.get("name")?.as_str()
 }
 
+// The name that a text is.
+fn name_of(alloc: Global, text: &str) -> Result<Name, ReadFault>
+    ensures { Gives (λ n. n) fault_of result (name_or_fails (name_at text.now)) }
+{
+    match Name::read(alloc, text) {
+        Ok(name) => Ok(name),
+        Err(NameFault::Memory) => Err(ReadFault::Memory),
+        Err(_) => Err(fails(alloc, FaultCode::BadName)),
+    }
+}
+
 impl Names {
-    ghost use Rattle.std.specs.Prelude.{◌≡◌, ◌≤◌, IfOk, length};
+    ghost use Rattle.std.specs.Prelude.{◌≡◌, ◌≤◌, IfOk, Ok, length};
     ghost use Rattle.server_words.specs.OrchBase.Gives.{Gives};
     ghost use Rattle.serde_json.specs.View.{items_view};
     ghost use Rattle.scenario_values.specs.Faults.{fault_of};
+    ghost use Rattle.scenario_servers.specs.Prelude.{name_at, name_or_fails};
     ghost use Rattle.scenario_servers.specs.Names.{first_named, listed_names};
     ghost use Rattle.scenario_servers.specs.NameTable.{text_named};
 
@@ -133,7 +145,7 @@ impl Names {
         requires { length items.now ≤ 1000 }
         ensures { IfOk result (λ n. n ≡ listed_names (items_view items.now)) }
     {
-        let mut listed = Vec::new(alloc);
+        let mut listed = Vec::with_capacity(alloc, items.len())?;
         let mut numbers = BTreeMap::new(alloc);
         for value in items {
             let name = listed_name(alloc, value)?;
@@ -151,11 +163,7 @@ impl Names {
     fn server_at(&self, alloc: Global, text: &str) -> Result<ServerNo, ReadFault>
         ensures { Gives (λ n. n) fault_of result (text_named self.now text.now) }
     {
-        let name = match Name::read(alloc, text) {
-            Ok(name) => name,
-            Err(NameFault::Memory) => return Err(ReadFault::Memory),
-            Err(_) => return Err(fails(alloc, FaultCode::BadName)),
-        };
+        let name = name_of(alloc, text)?;
         match self.first_named(&NameKey(name)) {
             Some(number) => Ok(ServerNo(number)),
             None => Err(fails(alloc, FaultCode::UnknownName)),
@@ -203,6 +211,17 @@ impl Names {
     {
         self.numbers.get(key).copied()
     }
+
+    // The first server with the name that a text is.
+    fn first_of(&self, text: &str, key: &NameKey) -> Option<u32>
+        requires { name_or_fails (name_at text.now) ≡ Ok key.now.0 }
+        ensures { result ≡ first_named key.now.0 0 self.now }
+    {
+        match self.texts.get(text).copied() {
+            Some(number) => Some(number),
+            None => self.first_named(key),
+        }
+    }
 }
 
 /// The server that a text names. No text is `BadType`, no name `BadName`, and that of no server `UnknownName`.
@@ -215,7 +234,7 @@ pub fn server_named(alloc: Global, names: &Names, value: &Value) -> Result<Serve
 }
 
 /// The name of the server of this number, which no earlier one has.
-#[tactic(auto, unfolding(crate::specs::Names::own_name))]
+#[tactic(auto, unfolding(crate::specs::Names::own_name, scenario_values::specs::Values::name_in))]
 pub(crate) fn own_name(
     alloc: Global,
     names: &Names,
@@ -224,8 +243,9 @@ pub(crate) fn own_name(
 ) -> Result<Name, ReadFault>
     ensures { Gives (λ n. n) fault_of result (own_name names.now number (view value.now)) }
 {
-    let key = NameKey(name_in(alloc, value)?);
-    match names.first_named(&key) {
+    let text = text_in(alloc, value)?;
+    let key = NameKey(name_of(alloc, text)?);
+    match names.first_of(text, &key) {
         Some(first) if first < number => Err(fails(alloc, FaultCode::DuplicateName)),
         _ => Ok(key.0),
     }

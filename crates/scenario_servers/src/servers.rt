@@ -22,7 +22,8 @@ pub struct Listed {
 #[tactic(auto, using(scenario_values::proofs::Each::item_count_view))]
 fn some_servers(alloc: Global, items: &[Value]) -> Result<(), ReadFault>
     ensures value { Gives (λ _. tt) fault_of result
-        (holds BadNumber (nat_le 1 (item_count (items_view items.now)) && nat_le (item_count (items_view items.now)) 1000)) }
+        (holds BadNumber (nat_le 1 (item_count (items_view items.now))
+        && nat_le (item_count (items_view items.now)) 1000)) }
     ensures few { OnOk result (length items.now ≤ 1000) }
 {
     holds(
@@ -34,7 +35,8 @@ fn some_servers(alloc: Global, items: &[Value]) -> Result<(), ReadFault>
 
 #[tactic(auto, unfolding(crate::specs::Servers::listed_in))]
 fn listed_in(alloc: Global, value: &Value) -> Result<&Vec<Value>, ReadFault>
-    ensures value { Gives (λ v. items_view v.now.items) fault_of result (listed_in (view value.now)) }
+    ensures value { Gives (λ v. items_view v.now.items) fault_of result
+        (listed_in (view value.now)) }
     ensures few { IfOk result (λ v. length v.now.items ≤ 1000) }
 {
     let items = items_in(alloc, value)?;
@@ -52,7 +54,8 @@ fn server_at(
     value: &Value,
 ) -> Result<Given, ReadFault>
     requires { number < 1000 }
-    ensures { Gives (λ g. g) fault_of result (under_item number (server_in gtid names.now uuids.now number (view value.now))) }
+    ensures { Gives (λ g. g) fault_of result
+        (under_item number (server_in gtid names.now uuids.now number (view value.now))) }
 {
     let read = server_in(alloc, gtid, names, uuids, number as u32, value);
     under_item(alloc, number, read)
@@ -66,9 +69,10 @@ fn given_in(
     items: &[Value],
 ) -> Result<Vec<Given>, ReadFault>
     requires { length items.now ≤ 1000 }
-    ensures { Gives (λ v. v.items) fault_of result (each_from (server_in gtid names.now uuids.now) 0 (items_view items.now)) }
+    ensures { Gives (λ v. v.items) fault_of result
+        (each_from (server_in gtid names.now uuids.now) 0 (items_view items.now)) }
 {
-    let mut given = Vec::new(alloc);
+    let mut given = Vec::with_capacity(alloc, items.len())?;
     for (number, value) in items.iter().enumerate() {
         given.push(server_at(alloc, gtid, names, uuids, number, value)?)?;
     }
@@ -80,7 +84,8 @@ fn given_in(
 /// kind, its unknown keys in the order of their bytes, and its keys.
 #[tactic(auto, unfolding(crate::specs::Servers::servers_in))]
 pub fn servers_in(alloc: Global, gtid: bool, value: &Value) -> Result<Listed, ReadFault>
-    ensures { Gives (λ l. (l.names, l.given.items)) fault_of result (servers_in gtid (view value.now)) }
+    ensures { Gives (λ l. (l.names, l.given.items)) fault_of result
+        (servers_in gtid (view value.now)) }
 {
     let items = listed_in(alloc, value)?;
     let names = Names::of(alloc, items)?;

@@ -14,7 +14,8 @@ use std::marker::Model;
 
 // The UUID that is given, and else the server's number plus 1.
 fn uuid_at(alloc: Global, number: u32, given: Option<&Value>) -> Result<u128, ReadFault>
-    ensures { Gives (λ u. u) fault_of result (uuid_at number (option_map (λ v. view v.now) given.entry)) }
+    ensures { Gives (λ u. u) fault_of result
+        (uuid_at number (option_map (λ v. view v.now) given.entry)) }
 {
     match given {
         Some(value) => uuid_in(alloc, value),
@@ -24,7 +25,8 @@ fn uuid_at(alloc: Global, number: u32, given: Option<&Value>) -> Result<u128, Re
 
 // The UUID of a listed server, if it reads.
 fn listed_uuid(alloc: Global, number: u32, object: &Value) -> Result<Option<u128>, Memory>
-    ensures { IfOk result (λ u. u ≡ read_uuid (uuid_at number (get (codes "uuid") (view object.now)))) }
+    ensures { IfOk result (λ u. u
+        ≡ read_uuid (uuid_at number (get (codes "uuid") (view object.now)))) }
 {
     match uuid_at(alloc, number, object.get("uuid")) {
         Ok(uuid) => Ok(Some(uuid)),
@@ -44,8 +46,8 @@ fn add_uuid(
     let Some(uuid) = uuid else {
         return Ok(());
     };
-    if !numbers.contains_key(&uuid) {
-        numbers.insert(uuid, number)?;
+    if let Some(first) = numbers.insert(uuid, number)? {
+        numbers.insert(uuid, first)?;
     }
     Ok(())
 }
@@ -79,7 +81,7 @@ impl Uuids {
         requires { length items.now ≤ 1000 }
         ensures { IfOk result (λ u. u ≡ listed_uuids 0 (items_view items.now)) }
     {
-        let mut listed = Vec::new(alloc);
+        let mut listed = Vec::with_capacity(alloc, items.len())?;
         let mut numbers = BTreeMap::new(alloc);
         for (number, value) in items.iter().enumerate() {
             let uuid = listed_uuid(alloc, number as u32, value)?;

@@ -38,13 +38,15 @@ fn given_at(
     name: CommandName,
     value: &Value,
 ) -> Result<CommandTurn, ReadFault>
-    ensures { Gives (λ t. t) fault_of result (under_item 2 (given_in names.now patterns.now name (view value.now))) }
+    ensures { Gives (λ t. t) fault_of result
+        (under_item 2 (given_in names.now patterns.now name (view value.now))) }
 {
     under_item(alloc, 2, given_in(alloc, names, patterns, name, value))
 }
 
 fn parts_of(alloc: Global, rest: &[Value]) -> Result<(&Value, &Value), ReadFault>
-    ensures { Gives (λ p. (view p.0.now, view p.1.now)) fault_of result (parts_of (items_view rest.now)) }
+    ensures { Gives (λ p. (view p.0.now, view p.1.now)) fault_of result
+        (parts_of (items_view rest.now)) }
 {
     if rest.len() != 2 {
         return Err(fails(alloc, FaultCode::BadTurn));
@@ -69,7 +71,8 @@ pub fn command_in(
     patterns: &Patterns,
     rest: &[Value],
 ) -> Result<CommandTurn, ReadFault>
-    ensures { Gives (λ t. t) fault_of result (command_in names.now patterns.now (items_view rest.now)) }
+    ensures { Gives (λ t. t) fault_of result
+        (command_in names.now patterns.now (items_view rest.now)) }
 {
     let (name, object) = parts_of(alloc, rest)?;
     let name = name_at(alloc, name)?;

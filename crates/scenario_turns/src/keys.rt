@@ -40,7 +40,8 @@ fn maybe_server(
     object: &Value,
     key: &str,
 ) -> Result<Option<ServerNo>, ReadFault>
-    ensures { Gives (λ n. n) fault_of result (maybe key.now (server_named names.now) (view object.now)) }
+    ensures { Gives (λ n. n) fault_of result
+        (maybe key.now (server_named names.now) (view object.now)) }
 {
     match object.get(key) {
         Some(value) => {
@@ -84,7 +85,8 @@ fn maybe_pattern(
     object: &Value,
     key: &str,
 ) -> Result<Option<Found>, ReadFault>
-    ensures { Gives (λ f. f) fault_of result (maybe key.now (pattern_in patterns.now) (view object.now)) }
+    ensures { Gives (λ f. f) fault_of result
+        (maybe key.now (pattern_in patterns.now) (view object.now)) }
 {
     match object.get(key) {
         Some(value) => {
@@ -152,7 +154,8 @@ pub(crate) fn given_in(
     name: CommandName,
     object: &Value,
 ) -> Result<CommandTurn, ReadFault>
-    ensures { Gives (λ t. t) fault_of result (given_in names.now patterns.now name (view object.now)) }
+    ensures { Gives (λ t. t) fault_of result
+        (given_in names.now patterns.now name (view object.now)) }
 {
     let members = members_in(alloc, object)?;
     only_keys(

@@ -10,7 +10,9 @@ ghost use Rattle.scenario_turns.specs.declared.expansion.ListedTurn.{ListedTurn}
 /// A command turn that is read meets the condition of the calls that take one: what it needs is there, and each number,
 /// text and instance is in its range.
 pub fn read_commands_are_sound()
-    ensures { (names : List (Option HostPort)) (printed : List (List ℕ)) (rest : Items) (t : CommandTurn) → length printed ≡ length names → command_in names printed rest ≡ Ok t → IsCommand (length names) t }
+    ensures { (names : List (Option HostPort)) (printed : List (List ℕ)) (rest : Items)
+        (t : CommandTurn) → length printed ≡ length names → command_in names printed rest ≡ Ok t
+        → IsCommand (length names) t }
 {}
 
 /// A turn that is read meets the condition of the calls that take one, or means such turns.

@@ -25,9 +25,10 @@ pub fn printed_names(alloc: Global, names: &[Name]) -> Result<Vec<OwnedText>, Me
 fn answers(alloc: Global, pattern: &Pattern, printed: &[OwnedText]) -> Result<Answers, Memory>
     ensures { IfOk result (λ a. a ≡ map (is_found pattern.now) printed.now) }
 {
+    let mut search = pattern.search(alloc)?;
     let mut answers = Vec::with_capacity(alloc, printed.len())?;
     for name in printed {
-        answers.push(pattern.found(alloc, name.as_str())?)?;
+        answers.push(search.found(name.as_str()))?;
     }
     Ok(Answers::new(answers))
 }

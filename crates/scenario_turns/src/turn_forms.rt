@@ -49,7 +49,8 @@ fn one_of(alloc: Global, rest: &[Value]) -> Result<&Value, ReadFault>
 }
 
 fn two_of(alloc: Global, rest: &[Value]) -> Result<(&Value, &Value), ReadFault>
-    ensures { Gives (λ p. (view p.0.now, view p.1.now)) fault_of result (two_of (items_view rest.now)) }
+    ensures { Gives (λ p. (view p.0.now, view p.1.now)) fault_of result
+        (two_of (items_view rest.now)) }
 {
     if rest.len() != 2 {
         return Err(fails(alloc, FaultCode::BadTurn));
@@ -64,7 +65,8 @@ fn server_at(
     part: usize,
     value: &Value,
 ) -> Result<ServerNo, ReadFault>
-    ensures { Gives (λ n. n) fault_of result (under_item part (server_named names.now (view value.now))) }
+    ensures { Gives (λ n. n) fault_of result
+        (under_item part (server_named names.now (view value.now))) }
 {
     under_item(alloc, part, server_named(alloc, names, value))
 }
@@ -77,7 +79,8 @@ fn number_at(
     high: u64,
     value: &Value,
 ) -> Result<u64, ReadFault>
-    ensures { Gives (λ n. n) fault_of result (under_item part (number_in low high (view value.now))) }
+    ensures { Gives (λ n. n) fault_of result
+        (under_item part (number_in low high (view value.now))) }
 {
     under_item(alloc, part, number_in(alloc, low, high, value))
 }
@@ -191,7 +194,8 @@ fn act_turn(node: Option<u32>, act: Act) -> ListedTurn
 
 fn write_of(alloc: Global, names: &Names, rest: &[Value]) -> Result<ListedTurn, ReadFault>
     ensures { Gives (λ t. t) fault_of result
-        (turn_by (λ p. Turn.Step (Write p.0 p.1)) (amount_of names.now 1000000 (items_view rest.now))) }
+        (turn_by (λ p. Turn.Step (Write p.0 p.1))
+        (amount_of names.now 1000000 (items_view rest.now))) }
 {
     let (server, size) = amount_of(alloc, names, 1_000_000, rest)?;
     Ok(step_turn(Step::Write(server, size)))
@@ -546,7 +550,7 @@ pub fn each_turn(
     ensures { Gives (λ v. v.items) fault_of result
         (each (turn_in names.now patterns.now nodes) (items_view items.now)) }
 {
-    let mut turns = Vec::new(alloc);
+    let mut turns = Vec::with_capacity(alloc, items.len())?;
     for (number, value) in items.iter().enumerate() {
         turns.push(turn_at(alloc, names, patterns, nodes, number, value)?)?;
     }

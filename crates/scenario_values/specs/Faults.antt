@@ -96,6 +96,16 @@ abbrev pub only_keys : List (List ℕ) → Members → Result (Unit {0}) Fault
 only_keys known no_members = Ok tt
 only_keys known (member k d ms) = if is_key known k then only_keys known ms else under k (fails UnknownKey)
 
+-- none of these keys
+abbrev pub has_none : List (List ℕ) → Members → Bool
+has_none keys no_members = true
+has_none keys (member k d ms) = if is_key keys k then false else has_none keys ms
+
+-- only an object has keys
+abbrev pub has_none_at : List (List ℕ) → Option Members → Bool
+has_none_at keys None = true
+has_none_at keys (Some ms) = has_none keys ms
+
 -- ---- items and members
 
 -- each item in order, by its number, counted from n

@@ -167,7 +167,8 @@ pub fn holds(alloc: Global, code: FaultCode, test: bool) -> Result<(), ReadFault
 
 // The fault in the value at a key.
 fn placed(alloc: Global, key: &[u8], fault: ReadFault) -> ReadFault
-    ensures { IfSome (fault_of result) (λ f. option_map (placed key.now) (fault_of fault) ≡ Some f) }
+    ensures { IfSome (fault_of result) (λ f. option_map (placed key.now) (fault_of fault)
+        ≡ Some f) }
 {
     match fault {
         ReadFault::Memory => ReadFault::Memory,
@@ -193,7 +194,8 @@ pub fn under<T>(alloc: Global, key: &[u8], read: Result<T, ReadFault>) -> Result
 
 // The fault in the item of a number.
 fn placed_item(alloc: Global, number: usize, fault: ReadFault) -> ReadFault
-    ensures { IfSome (fault_of result) (λ f. option_map (placed (decimal number)) (fault_of fault) ≡ Some f) }
+    ensures { IfSome (fault_of result) (λ f. option_map (placed (decimal number)) (fault_of fault)
+        ≡ Some f) }
 {
     let mut buffer = Buffer::new();
     let key = buffer.format(number);

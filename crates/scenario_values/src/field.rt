@@ -46,7 +46,8 @@ pub fn number_at(
     high: u64,
     default: u64,
 ) -> Result<u64, ReadFault>
-    ensures { Gives (λ n. n) fault_of result (optional key.now (number_in low high) default (view object.now)) }
+    ensures { Gives (λ n. n) fault_of result
+        (optional key.now (number_in low high) default (view object.now)) }
 {
     match object.get(key) {
         Some(value) => under(alloc, key.as_bytes(), number_in(alloc, low, high, value)),
@@ -62,7 +63,8 @@ pub fn version_at(
     key: &str,
     default: Version,
 ) -> Result<Version, ReadFault>
-    ensures { Gives (λ v. v) fault_of result (optional key.now version_in default (view object.now)) }
+    ensures { Gives (λ v. v) fault_of result
+        (optional key.now version_in default (view object.now)) }
 {
     match object.get(key) {
         Some(value) => under(alloc, key.as_bytes(), version_in(alloc, value)),

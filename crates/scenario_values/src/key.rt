@@ -1,9 +1,10 @@
 //! Which keys an object has.
 
-ghost use Rattle.std.specs.Prelude.{◌≡◌, map};
+ghost use Rattle.std.specs.Prelude.{◌≡◌, IsTrue, List, None, map, true, ℕ};
 ghost use Rattle.binlog_coords.specs.OrchBase.Gives.{Gives};
-ghost use Rattle.serde_json.specs.View.{members_view};
-ghost use Rattle.scenario_values.specs.Faults.{fault_of, is_key, only_keys};
+ghost use Rattle.serde_json.specs.Find.{as_object, get};
+ghost use Rattle.serde_json.specs.View.{members_view, view};
+ghost use Rattle.scenario_values.specs.Faults.{fault_of, has_none, has_none_at, is_key, only_keys};
 
 use crate::fault::{FaultCode, ReadFault, fails, under};
 use serde_json::{Map, Value};
@@ -22,7 +23,8 @@ pub fn only_keys(
     members: &Map<String, Value>,
     known: &[&str],
 ) -> Result<(), ReadFault>
-    ensures { Gives (λ _. tt) fault_of result (only_keys (map (λ s. s.now) known.now) (members_view members.now.entries)) }
+    ensures { Gives (λ _. tt) fault_of result
+        (only_keys (map (λ s. s.now) known.now) (members_view members.now.entries)) }
 {
     for key in members.keys() {
         if !is_key(known, key.as_str()) {
@@ -31,4 +33,28 @@ pub fn only_keys(
         }
     }
     Ok(())
+}
+
+fn has_none(members: &Map<String, Value>, keys: &[&str]) -> bool
+    ensures { result ≡ has_none (map (λ s. s.now) keys.now) (members_view members.now.entries) }
+{
+    for key in members.keys() {
+        if is_key(keys, key.as_str()) {
+            return false;
+        }
+    }
+    true
+}
+
+/// Whether an object has none of these keys. It is one walk over its members, in place of a search for each key.
+pub fn lacks(object: &Value, keys: &[&str]) -> bool
+    ensures exact { result
+        ≡ has_none_at (map (λ s. s.now) keys.now) (as_object (view object.now)) }
+    ensures absent { IsTrue result → (key : List ℕ)
+        → is_key (map (λ s. s.now) keys.now) key ≡ true → get key (view object.now) ≡ None }
+{
+    match object.as_object() {
+        Some(members) => has_none(members, keys),
+        None => true,
+    }
 }

@@ -18,7 +18,8 @@ use uuid::Uuid;
 
 /// An object's members; a value of another kind is `BadType`.
 pub fn members_in(alloc: Global, value: &Value) -> Result<&Map<String, Value>, ReadFault>
-    ensures { Gives (λ m. members_view m.now.entries) fault_of result (members_in (view value.now)) }
+    ensures { Gives (λ m. members_view m.now.entries) fault_of result
+        (members_in (view value.now)) }
 {
     match value.as_object() {
         Some(members) => Ok(members),

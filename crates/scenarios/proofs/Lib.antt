@@ -1,3 +1,4 @@
+pub mod Places
 pub mod Rooms
 pub mod SameTexts
 pub use Rattle.server_words.proofs.BinlogCoords as BinlogCoords

@@ -1,5 +1,6 @@
 pub mod Aliases
 pub mod Blocks
+pub mod Labels
 pub mod ValidTurns
 pub mod Scenarios
 pub use Rattle.server_words.specs.BinlogCoords as BinlogCoords

@@ -1,12 +1,11 @@
 //! The block periods of single clusters, from the scenario.
 
-ghost use Rattle.std.specs.Prelude.{◌≡◌, ◌↔◌, IfOk, IsTrue, nat_eq};
-ghost use Rattle.std.specs.Cmp.Lexicographic.{pointwise};
+ghost use Rattle.std.specs.Prelude.{◌≡◌};
 ghost use Rattle.scenarios.specs.Blocks.{period_in};
+ghost use Rattle.scenarios.specs.Labels.{block_label, entry_at, seconds_of};
 
-use crate::orch_base::{Memory, OwnedText};
-use std::alloc::Global;
-use std::marker::Model;
+use crate::labels::{ByLabel, Labelled, is_below};
+use crate::orch_base::{OwnedText, Same, ServerNo};
 
 /// A cluster's label, and how long recoveries of the cluster block the next one (RecoveryPeriodBlockSeconds).
 pub struct Block {
@@ -25,117 +24,55 @@ impl Drop for Block {
     }
 }
 
-impl Block {
-    /// The same block period once more. `Err` means out of memory.
-    pub fn copy(&self, alloc: Global) -> Result<Block, Memory>
-        ensures { IfOk result (λ b. b ≡ self.now) }
-    {
-        Ok(Block {
-            cluster: self.cluster.copy(alloc)?,
-            seconds: self.seconds,
-        })
-    }
-
-    /// Whether the labels, byte for byte, and the periods are equal. It takes no memory.
-    pub fn is_same(&self, other: &Block) -> bool
-        ensures { IsTrue result ↔ (self.now ≡ other.now) }
-    {
+impl Same for Block {
+    fn is_same(&self, other: &Block) -> bool {
         self.cluster.is_same(&other.cluster) && self.seconds == other.seconds
     }
+}
 
-    // Whether it is that of a cluster.
-    fn is_of(&self, cluster: &str) -> bool
-        ensures { result ≡ pointwise nat_eq self.now.cluster cluster.now }
-    {
-        self.cluster.as_str() == cluster
+impl Labelled for Block {
+    ghost label_of = { block_label };
+
+    fn label(&self) -> &str {
+        self.cluster.as_str()
+    }
+
+    fn count_below(entries: &[Block], label: &str) -> usize {
+        entries.partition_point(|own| is_below(own.cluster.as_str(), label))
     }
 }
 
-/// Block periods by the bytes of their clusters' labels, which contracts see as that list.
-#[derive(Drop)]
-pub struct Blocks {
-    blocks: Vec<Block>,
+// The block period of the entry at this place, and else this one.
+fn seconds_at(blocks: &[Block], block: u64, at: Option<usize>) -> u64
+    ensures { result ≡ seconds_of block (entry_at blocks.now at) }
+{
+    match at {
+        Some(at) => match blocks.get(at) {
+            Some(own) => own.seconds,
+            None => block,
+        },
+        None => block,
+    }
 }
 
-impl Model for Blocks {
-    ghost use Rattle.std.specs.Prelude.{List};
-    ghost use Rattle.scenarios.specs.declared.blocks.Block.{Block as ABlock};
+/// Block periods by the bytes of their clusters' labels, which contracts see as that list. Copies share it.
+pub type Blocks = ByLabel<Block>;
 
-    ghost Value = { List ABlock };
-
-    ghost view = { λ b. b.blocks.items };
-}
-
-impl Blocks {
-    /// These block periods. It takes no memory.
-    pub fn new(blocks: Vec<Block>) -> Blocks
-        ensures { result ≡ blocks.items }
-    {
-        Blocks { blocks }
-    }
-
-    /// The block periods in order.
-    pub fn as_slice(&self) -> &[Block]
-        ensures { result.now ≡ self.now }
-    {
-        &self.blocks
-    }
-
-    /// Gives the block periods back. It takes no memory.
-    pub fn into_vec(self) -> Vec<Block>
-        ensures { result.items ≡ self }
-    {
-        self.blocks
-    }
-
-    /// The block period of a cluster in seconds: its own, if it has one, and else `block`. It takes no memory.
+impl ByLabel<Block> {
+    /// The block period of a cluster in seconds: its own, if it has one, and else `block`. It takes no memory. The time
+    /// grows with the list's logarithm if the labels rise, and with the list if they don't.
+    #[tactic(auto, using(crate::proofs::Places::period_found))]
     pub fn period(&self, block: u64, cluster: &str) -> u64
         ensures { result ≡ period_in self.now block cluster.now }
     {
-        for own in &self.blocks {
-            if own.is_of(cluster) {
-                return own.seconds;
-            }
-        }
-        block
+        seconds_at(self.as_slice(), block, self.place(cluster))
     }
 
-    /// The same block periods once more. `Err` means out of memory.
-    pub fn copy(&self, alloc: Global) -> Result<Blocks, Memory>
-        ensures { IfOk result (λ b. b ≡ self.now) }
+    /// The same for a cluster that a server is expected in. It takes constant time if its place was looked up.
+    #[tactic(auto, using(crate::proofs::Places::period_found))]
+    pub fn period_at(&self, block: u64, server: ServerNo, cluster: &str) -> u64
+        ensures { result ≡ period_in self.now block cluster.now }
     {
-        let blocks = copy_blocks(alloc, &self.blocks)?;
-        Ok(Blocks { blocks })
+        seconds_at(self.as_slice(), block, self.place_at(server, cluster))
     }
-
-    /// Whether the block periods are equal. It takes no memory.
-    pub fn is_same(&self, other: &Blocks) -> bool
-        ensures { IsTrue result ↔ (self.now ≡ other.now) }
-    {
-        same_blocks(self.as_slice(), other.as_slice())
-    }
-}
-
-fn copy_blocks(alloc: Global, blocks: &[Block]) -> Result<Vec<Block>, Memory>
-    ensures { IfOk result (λ copy. copy.items ≡ blocks.now) }
-{
-    let mut copy = Vec::with_capacity(alloc, blocks.len())?;
-    for block in blocks {
-        copy.push(block.copy(alloc)?)?;
-    }
-    Ok(copy)
-}
-
-fn same_blocks(blocks: &[Block], others: &[Block]) -> bool
-    ensures { IsTrue result ↔ (blocks.now ≡ others.now) }
-{
-    if blocks.len() != others.len() {
-        return false;
-    }
-    for (n, block) in blocks.iter().enumerate() {
-        if !block.is_same(&others[n]) {
-            return false;
-        }
-    }
-    true
 }

@@ -1,10 +1,11 @@
 //! Which clusters a recovery may touch, from the scenario.
 
-ghost use Rattle.std.specs.Prelude.{◌≡◌, IfOk, map, nat_eq, string_bytes};
-ghost use Rattle.std.specs.Cmp.Lexicographic.{pointwise};
+ghost use Rattle.std.specs.Prelude.{◌≡◌, IfOk, map, string_bytes};
 ghost use Rattle.scenarios.specs.Aliases.{alias_of};
+ghost use Rattle.scenarios.specs.Labels.{alias_label, entry_at, text_of};
 
-use crate::orch_base::{Memory, OwnedText};
+use crate::labels::{ByLabel, Labelled, is_below};
+use crate::orch_base::{Memory, OwnedText, ServerNo};
 use commands::Answers;
 use std::alloc::Global;
 use std::marker::Model;
@@ -26,91 +27,51 @@ impl Drop for Alias {
     }
 }
 
-impl Alias {
-    /// The same alias once more. `Err` means out of memory.
-    pub fn copy(&self, alloc: Global) -> Result<Alias, Memory>
-        ensures { IfOk result (λ a. a ≡ self.now) }
-    {
-        Ok(Alias {
-            cluster: self.cluster.copy(alloc)?,
-            alias: self.alias.copy(alloc)?,
-        })
+impl Labelled for Alias {
+    ghost label_of = { alias_label };
+
+    fn label(&self) -> &str {
+        self.cluster.as_str()
     }
 
-    // Whether it is that of a cluster.
-    fn is_of(&self, cluster: &str) -> bool
-        ensures { result ≡ pointwise nat_eq self.now.cluster cluster.now }
-    {
-        self.cluster.as_str() == cluster
+    fn count_below(entries: &[Alias], label: &str) -> usize {
+        entries.partition_point(|own| is_below(own.cluster.as_str(), label))
     }
 }
 
-/// Aliases by the bytes of their clusters' labels, which contracts see as that list.
-#[derive(Drop)]
-pub struct Aliases {
-    aliases: Vec<Alias>,
+// The alias of the entry at this place, if there is one.
+fn text_at(aliases: &[Alias], at: Option<usize>) -> &str
+    ensures { result.now ≡ text_of (entry_at aliases.now at) }
+{
+    match at {
+        Some(at) => match aliases.get(at) {
+            Some(own) => own.alias.as_str(),
+            None => "",
+        },
+        None => "",
+    }
 }
 
-impl Model for Aliases {
-    ghost use Rattle.std.specs.Prelude.{List};
-    ghost use Rattle.scenarios.specs.declared.filters.Alias.{Alias as AnAlias};
+/// Aliases by the bytes of their clusters' labels, which contracts see as that list. Copies share it.
+pub type Aliases = ByLabel<Alias>;
 
-    ghost Value = { List AnAlias };
-
-    ghost view = { λ a. a.aliases.items };
-}
-
-impl Aliases {
-    /// The alias of a cluster: empty if it has none. It takes no memory.
+impl ByLabel<Alias> {
+    /// The alias of a cluster: empty if it has none. It takes no memory. The time grows with the list's logarithm if
+    /// the labels rise, and with the list if they don't.
+    #[tactic(auto, using(crate::proofs::Places::alias_found))]
     pub fn alias(&self, cluster: &str) -> &str
         ensures { result.now ≡ alias_of self.now cluster.now }
     {
-        for own in &self.aliases {
-            if own.is_of(cluster) {
-                return own.alias.as_str();
-            }
-        }
-        ""
+        text_at(self.as_slice(), self.place(cluster))
     }
 
-    /// These aliases. It takes no memory.
-    pub fn new(aliases: Vec<Alias>) -> Aliases
-        ensures { result ≡ aliases.items }
+    /// The same for a cluster that a server is expected in. It takes constant time if its place was looked up.
+    #[tactic(auto, using(crate::proofs::Places::alias_found))]
+    pub fn alias_at(&self, server: ServerNo, cluster: &str) -> &str
+        ensures { result.now ≡ alias_of self.now cluster.now }
     {
-        Aliases { aliases }
+        text_at(self.as_slice(), self.place_at(server, cluster))
     }
-
-    /// The aliases in order.
-    pub fn as_slice(&self) -> &[Alias]
-        ensures { result.now ≡ self.now }
-    {
-        &self.aliases
-    }
-
-    /// Gives the aliases back. It takes no memory.
-    pub fn into_vec(self) -> Vec<Alias>
-        ensures { result.items ≡ self }
-    {
-        self.aliases
-    }
-
-    /// The same aliases once more. `Err` means out of memory.
-    pub fn copy(&self, alloc: Global) -> Result<Aliases, Memory>
-        ensures { IfOk result (λ a. a ≡ self.now) }
-    {
-        let aliases = copy_aliases(alloc, &self.aliases)?;
-        Ok(Aliases { aliases })
-    }
-}
-
-fn copy_aliases(alloc: Global, aliases: &[Alias]) -> Result<Vec<Alias>, Memory>
-    ensures { IfOk result (λ copy. copy.items ≡ aliases.now) }
-{
-    let mut copy = Vec::with_capacity(alloc, aliases.len())?;
-    for alias in aliases {
-        copy.push(alias.copy(alloc)?)?;
-    }
-    Ok(copy)
 }
 
 /// Texts in order, which contracts see as the list of their bytes.

@@ -4,8 +4,8 @@
 
 mod blocks;
 mod filters;
+mod labels;
 mod room;
-mod rules;
 mod same;
 mod scenario;
 
@@ -14,13 +14,13 @@ pub use commands;
 pub use commands::Answers;
 pub use filters::{Alias, Aliases, ClusterFilters, FilterList, Texts};
 pub use hook_texts;
-pub use hook_texts::{Hook, HookList, Hooks};
+pub use hook_texts::{Hook, HookList, Hooks, SharedHooks};
+pub use labels::{ByLabel, Labelled};
 pub use openings;
 pub use server_words::{binlog_coords_items, orch_base};
 pub use turns;
 /// Out of memory.
-pub use rules::Rules;
-pub use scenario::{Scenario, Turns};
+pub use scenario::{Rules, Scenario, Turns};
 pub use server_words::orch_base::Memory;
 pub use turns::{Act, BoxedCommand, Step, Turn};
 

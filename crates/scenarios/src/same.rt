@@ -2,22 +2,8 @@
 
 ghost use Rattle.std.specs.Prelude.{◌≡◌, ◌↔◌, IsTrue, map, string_bytes};
 
-use crate::orch_base::Rule;
-use crate::{Alias, Aliases, ClusterFilters, FilterList, Rules, Scenario, Texts, Turn, Turns};
-
-fn same_aliases(aliases: &[Alias], others: &[Alias]) -> bool
-    ensures { IsTrue result ↔ (aliases.now ≡ others.now) }
-{
-    if aliases.len() != others.len() {
-        return false;
-    }
-    for (n, alias) in aliases.iter().enumerate() {
-        if !alias.is_same(&others[n]) {
-            return false;
-        }
-    }
-    true
-}
+use crate::orch_base::Same;
+use crate::{Alias, ClusterFilters, FilterList, Scenario, Texts};
 
 fn same_text(text: &str, other: &str) -> bool
     ensures { IsTrue result ↔ (text.now ≡ other.now) }
@@ -39,55 +25,9 @@ fn same_texts(texts: &[String], others: &[String]) -> bool
     true
 }
 
-fn same_rule(rule: Option<Rule>, other: Option<Rule>) -> bool
-    ensures { IsTrue result ↔ (rule ≡ other) }
-{
-    rule == other
-}
-
-fn same_rules(rules: &[Option<Rule>], others: &[Option<Rule>]) -> bool
-    ensures { IsTrue result ↔ (rules.now ≡ others.now) }
-{
-    if rules.len() != others.len() {
-        return false;
-    }
-    for (n, rule) in rules.iter().enumerate() {
-        if !same_rule(*rule, others[n]) {
-            return false;
-        }
-    }
-    true
-}
-
-fn same_turns(turns: &[Turn], others: &[Turn]) -> bool
-    ensures { IsTrue result ↔ (turns.now ≡ others.now) }
-{
-    if turns.len() != others.len() {
-        return false;
-    }
-    for (n, turn) in turns.iter().enumerate() {
-        if !turn.is_same(&others[n]) {
-            return false;
-        }
-    }
-    true
-}
-
-impl Alias {
-    /// Whether the labels and the aliases are equal, byte for byte. It takes no memory.
-    pub fn is_same(&self, other: &Alias) -> bool
-        ensures { IsTrue result ↔ (self.now ≡ other.now) }
-    {
+impl Same for Alias {
+    fn is_same(&self, other: &Alias) -> bool {
         self.cluster.is_same(&other.cluster) && self.alias.is_same(&other.alias)
-    }
-}
-
-impl Aliases {
-    /// Whether the aliases are equal. It takes no memory.
-    pub fn is_same(&self, other: &Aliases) -> bool
-        ensures { IsTrue result ↔ (self.now ≡ other.now) }
-    {
-        same_aliases(self.as_slice(), other.as_slice())
     }
 }
 
@@ -115,24 +55,6 @@ impl ClusterFilters {
         ensures { IsTrue result ↔ (self.now ≡ other.now) }
     {
         self.master.is_same(&other.master) && self.intermediate.is_same(&other.intermediate)
-    }
-}
-
-impl Rules {
-    /// Whether the rules are equal. It takes no memory.
-    pub fn is_same(&self, other: &Rules) -> bool
-        ensures { IsTrue result ↔ (self.now ≡ other.now) }
-    {
-        same_rules(self.as_slice(), other.as_slice())
-    }
-}
-
-impl Turns {
-    /// Whether the turns are equal. It takes no memory.
-    pub fn is_same(&self, other: &Turns) -> bool
-        ensures { IsTrue result ↔ (self.now ≡ other.now) }
-    {
-        same_turns(self.as_slice(), other.as_slice())
     }
 }
 

@@ -2,67 +2,16 @@
 
 ghost use Rattle.std.specs.Prelude.{◌≡◌, IfOk};
 
-use crate::orch_base::{Memory, Moment};
-use crate::{Aliases, Answers, Blocks, ClusterFilters, Hooks, Rules, Turn};
+use crate::orch_base::{Listed, Memory, Moment, Rule};
+use crate::{Aliases, Answers, Blocks, ClusterFilters, SharedHooks, Turn};
 use openings::Opening;
 use std::alloc::Global;
-use std::marker::Model;
 
 /// Turns in order, which contracts see as that list.
-#[derive(Drop)]
-pub struct Turns {
-    turns: Vec<Turn>,
-}
+pub type Turns = Listed<Turn>;
 
-impl Model for Turns {
-    ghost use Rattle.std.specs.Prelude.{List};
-    ghost use Rattle.turns.specs.declared.turn.Turn.{Turn as ATurn};
-
-    ghost Value = { List ATurn };
-
-    ghost view = { λ t. t.turns.items };
-}
-
-impl Turns {
-    /// These turns. It takes no memory.
-    pub fn new(turns: Vec<Turn>) -> Turns
-        ensures { result ≡ turns.items }
-    {
-        Turns { turns }
-    }
-
-    /// The turns in order.
-    pub fn as_slice(&self) -> &[Turn]
-        ensures { result.now ≡ self.now }
-    {
-        &self.turns
-    }
-
-    /// Gives the turns back. It takes no memory.
-    pub fn into_vec(self) -> Vec<Turn>
-        ensures { result.items ≡ self }
-    {
-        self.turns
-    }
-
-    /// The same turns once more. `Err` means out of memory.
-    pub fn copy(&self, alloc: Global) -> Result<Turns, Memory>
-        ensures { IfOk result (λ t. t ≡ self.now) }
-    {
-        let turns = copy_turns(alloc, &self.turns)?;
-        Ok(Turns { turns })
-    }
-}
-
-fn copy_turns(alloc: Global, turns: &[Turn]) -> Result<Vec<Turn>, Memory>
-    ensures { IfOk result (λ copy. copy.items ≡ turns.now) }
-{
-    let mut copy = Vec::with_capacity(alloc, turns.len())?;
-    for turn in turns {
-        copy.push(turn.copy(alloc)?)?;
-    }
-    Ok(copy)
-}
+/// A rule of promotion for each server that has one, by number, which contracts see as that list.
+pub type Rules = Listed<Option<Rule>>;
 
 /// A scenario: the servers at first, the moment, which transactions are marks, how many orchestrators there are, the
 /// block periods, and the clusters' aliases. Then whose recoveries may begin by themselves and their hooks, and what is
@@ -82,7 +31,7 @@ pub struct Scenario {
     pub blocks: Blocks,
     pub aliases: Aliases,
     pub filters: ClusterFilters,
-    pub hooks: Hooks,
+    pub hooks: SharedHooks,
     /// For each server whether the book knows it at the opening.
     pub known: Answers,
     /// For each server the rule with which it is registered at the opening, if any.
@@ -123,10 +72,10 @@ impl Scenario {
             blocks: self.blocks.copy(alloc)?,
             aliases: self.aliases.copy(alloc)?,
             filters: self.filters.copy(alloc)?,
-            hooks: self.hooks.copy(alloc)?,
+            hooks: self.hooks.share()?,
             known: self.known.copy(alloc)?,
             rules: self.rules.copy(alloc)?,
-            turns: self.turns.copy(alloc)?,
+            turns: self.turns.copy_each(alloc)?,
         })
     }
 }

@@ -1,6 +1,6 @@
 -- Turns as JSON, in the scenario's own form: an array of a word and its parts.
 use Rattle.std.specs.Prelude.{ℕ, List, [], ◌++◌, codes, decimal, option_map, unwrap_or, slice_get, Option, Some, None}
-use Rattle.serde_json.specs.Data.{Data, number, unsigned, string, array, object, no_items, item, Members, no_members, put}
+use Rattle.serde_json.specs.Data.{Data, string, array, object, no_items, item, Members, no_members, put}
 use Rattle.serde_json.specs.Written.{compact_text}
 use Rattle.scenarios.specs.OrchBase.declared.rule.Rule.{Rule}
 use Rattle.scenarios.specs.OrchBase.declared.rule.Rule.TheVariants as rule
@@ -17,9 +17,7 @@ use Rattle.scenarios.specs.Turns.declared.turn.Step.{Step}
 use Rattle.scenarios.specs.Turns.declared.turn.Step.TheVariants as step
 use Rattle.scenarios.specs.Turns.declared.turn.Turn.{Turn}
 use Rattle.scenarios.specs.Turns.declared.turn.Turn.TheVariants as turn
-
-abbrev pub whole : ℕ → Data
-whole n = number (unsigned n)
+use Rattle.row_texts.specs.Written.{whole}
 
 -- the printed name of the server of a number
 abbrev pub name_text : List HostPort → ServerNo → List ℕ

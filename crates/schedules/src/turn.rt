@@ -3,7 +3,8 @@
 ghost use Rattle.std.specs.Prelude.{◌≡◌, IfOk};
 ghost use Rattle.serde_json.specs.Data.{string};
 ghost use Rattle.serde_json.specs.View.{view};
-ghost use Rattle.schedules.specs.Turns.{act_data, link_word, name_data, step_data, turn_data, whole, with_one, with_two};
+ghost use Rattle.schedules.specs.Turns.{act_data, link_word, name_data, step_data, turn_data, with_one, with_two};
+ghost use Rattle.row_texts.specs.Written.{whole};
 
 use crate::command::given_value;
 use crate::commands::CommandTurn;

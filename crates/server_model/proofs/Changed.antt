@@ -1,24 +1,20 @@
 -- A change of one server that leaves its history and log keeps what is kept. So does a new file of its log.
-use Rattle.std.proofs.Common.{◌≡◌, ℕ, ◌<◌, ◌≤◌, Bool, true, false, not, cond, List, length, take, refl, sym, ◌∙◌, ap, subst, Option, Some, None, Result, Ok, Err, arith, ◌&&◌, ◌||◌, zero, suc}
+use Rattle.std.proofs.Common.{◌≡◌, ℕ, ◌<◌, ◌≤◌, Bool, true, false, not, cond, List, length, take, refl, sym, ◌∙◌, ap, subst, Option, Some, Result, Ok, Err, arith, ◌&&◌, ◌||◌, zero, suc}
 use Rattle.std.specs.Prelude.{slice_get, slice_set, ◌==◌, All, nat_lt, unwrap_or}
-use Rattle.server_model.proofs.Prelude.{AreGtids, Ask, Attached, AttachFault, Coord, Detached, Event, HasPlaces, HasSize, Index, IsFit, IsKept}
-use Rattle.server_model.proofs.Prelude.{IsTarget, Kept, Link, Reserved, Server, ServerNo, SourceState, Spot, Threads, Without, World, after_attach}
-use Rattle.server_model.proofs.Prelude.{after_desk, after_purge, after_rotate, asked, attach_answer, attach_decision, attached_source, attached_to}
-use Rattle.server_model.proofs.Prelude.{befall, befallen, chain_meets, desk_answer, detached, detached_source, end_of, eq-eqb, false≢true, file_start}
-use Rattle.server_model.proofs.Prelude.{first_kept, flush, has_place, healed, is_attached, is_detached, live_spot, place, purged_answer, purged_len}
-use Rattle.server_model.proofs.Prelude.{reattached, rotate_answer, rotated, same_Some, same_spot, server_at, source_no, sources, spot_below}
-use Rattle.server_model.proofs.Prelude.{stable_flush, started, stopped, with_link, without_source}
-use Rattle.server_model.proofs.Prelude.asking
+use Rattle.server_model.proofs.Prelude.{AreGtids, Ask, AttachFault, Coord, Event, HasPlaces, HasSize, Index, IsFit, IsKept, IsTarget, Kept, Reserved}
+use Rattle.server_model.proofs.Prelude.{Server, ServerNo, Spot, World, after_attach, after_desk, after_purge, after_rotate, asked, attach_answer}
+use Rattle.server_model.proofs.Prelude.{attach_decision, attached_to, befall, befallen, chain_meets, desk_answer, end_of, eq-eqb, false≢true}
+use Rattle.server_model.proofs.Prelude.{file_start, first_kept, flush, has_place, live_spot, place, purged_answer, purged_len, rotate_answer, rotated}
+use Rattle.server_model.proofs.Prelude.{same_Some, same_spot, server_at, source_no, sources, spot_below, stable_flush}
 use Rattle.server_model.proofs.Prelude.attaching
-use Rattle.server_model.proofs.Prelude.event
 use Rattle.server_model.proofs.Prelude.grown
-use Rattle.server_model.proofs.Prelude.link
 use Rattle.server_model.proofs.Prelude.purging
 use Rattle.server_model.proofs.Prelude.rotating
-use Rattle.server_model.proofs.Prelude.threads
+use Rattle.server_model.proofs.Changes as changes
 use Rattle.server_model.proofs.Keeps.{IsKept-any, IsKept-with}
 use Rattle.server_model.proofs.Lists.{set_self}
 use Rattle.server_model.proofs.ExecutedSets.{AreGtids-still}
+use Rattle.server_model.proofs.Changes.{Asked, Befallen, does-ask, does-befall}
 
 -- a change that leaves the settings, the history and the log
 pub record IsUntouched (s s' : Server) : Type 0 where
@@ -42,67 +38,25 @@ module _ (s : Server) where
   still : (s' : Server) → s'.settings ≡ s.settings → s'.history ≡ s.history → s'.log ≡ s.log → s'.first ≡ s.first → source_no s'.source ≡ source_no s.source → s'.exec ≡ s.exec → s'.read ≡ s.read → IsMoved s s'
   still s' settings history log first source exec read = record { same = record { settings = settings; history = history; log = log; first = first }; source = λ m h. sym source ∙ h; places = λ m h t old. stays s' exec read t old }
 
-  moved-stopped : (which : Threads) → IsMoved s (stopped which s)
-  moved-stopped threads.Both = still (stopped threads.Both s) refl refl refl refl refl refl refl
-  moved-stopped threads.Receiver = still (stopped threads.Receiver s) refl refl refl refl refl refl refl
-  moved-stopped threads.Applier = still (stopped threads.Applier s) refl refl refl refl refl refl refl
-
-  moved-started : (until : Option Coord) → IsMoved s (started until s)
-  moved-started until = go (is_attached s.source)
-    where
-      go : (b : Bool) → IsMoved s (cond b (record s { receiver = true; applier = true; until = until }) s)
-      go true = still (record s { receiver = true; applier = true; until = until }) refl refl refl refl refl refl refl
-      go false = still s refl refl refl refl refl refl refl
-
-  moved-detached : IsMoved s (detached s)
-  moved-detached = go s.source refl
-    where
-      go : (source : SourceState) → s.source ≡ source
-          → IsMoved s (cond (is_attached source) (record s { source = detached_source source; receiver = false; applier = false; read = s.exec; until = None }) s)
-      go Without is = still s refl refl refl refl refl refl refl
-      go (Attached m) is = record {
-        same = record { settings = refl; history = refl; log = refl; first = refl };
-        source = λ k h. ap source_no is ∙ h;
-        places = λ k h t old. record { exec = old.exec; read = old.exec };
-      }
-      go (Detached m) is = still s refl refl refl refl refl refl refl
-
-  moved-reattached : IsMoved s (reattached s)
-  moved-reattached = go s.source refl
-    where
-      go : (source : SourceState) → s.source ≡ source → IsMoved s (cond (is_detached source) (record s { source = attached_source source; receiver = false; applier = false }) s)
-      go Without is = still s refl refl refl refl refl refl refl
-      go (Attached m) is = still s refl refl refl refl refl refl refl
-      go (Detached m) is = still (record s { source = Attached m; receiver = false; applier = false }) refl refl refl refl (sym (ap source_no is)) refl refl
-
-  moved-reset : IsMoved s (without_source s)
-  moved-reset = record { same = record { settings = refl; history = refl; log = refl; first = refl }; source = λ m h. cc; places = λ m h t old. cc }
+  moved-does : (a : Ask) (t : Server) → Asked s a t → IsMoved s t
+  moved-does a t (changes.Detaches m is) = record {
+    same = record { settings = refl; history = refl; log = refl; first = refl };
+    source = λ k h. ap source_no is ∙ h;
+    places = λ k h x old. record { exec = old.exec; read = old.exec };
+  }
+  moved-does a t (changes.Reattaches m is) = still t refl refl refl refl (sym (ap source_no is)) refl refl
+  moved-does a t changes.Resets = record { same = record { settings = refl; history = refl; log = refl; first = refl }; source = λ m h. cc; places = λ m h x old. cc }
+  moved-does a t _ = still t refl refl refl refl refl refl refl
 
   pub moved-asked : (a : Ask) → IsMoved s (asked a s)
-  moved-asked (asking.Stop which) = moved-stopped which
-  moved-asked asking.Start = moved-started None
-  moved-asked (asking.StartUntil to) = moved-started (Some to)
-  moved-asked asking.Detach = moved-detached
-  moved-asked asking.Reattach = moved-reattached
-  moved-asked asking.Reset = moved-reset
-  moved-asked (asking.SetReadOnly on) = still (record s { read_only = on }) refl refl refl refl refl refl refl
+  moved-asked a = moved-does a (asked a s) (does-ask s a)
 
-  moved-link : (l : Link) (on : Bool) → IsMoved s (with_link l on s)
-  moved-link link.Desk on = still (record s { desk = on }) refl refl refl refl refl refl refl
-  moved-link link.Feed on = still (record s { feed = on }) refl refl refl refl refl refl refl
-
-  moved-healed : IsMoved s (healed s)
-  moved-healed = go s.up
-    where
-      go : (b : Bool) → IsMoved s (cond b s (healed (record s { up = false })))
-      go true = still s refl refl refl refl refl refl refl
-      go false = still (healed (record s { up = false })) refl refl refl refl refl refl refl
+  moved-befalls : (e : Event) (t : Server) → Befallen s e t → IsMoved s t
+  moved-befalls e t changes.Unharmed = still t refl refl refl refl refl refl refl
+  moved-befalls e t _ = still t refl refl refl refl refl refl refl
 
   pub moved-befallen : (e : Event) → IsMoved s (befallen e s)
-  moved-befallen event.Fail = still (record s { up = false }) refl refl refl refl refl refl refl
-  moved-befallen event.Heal = moved-healed
-  moved-befallen (event.Cut l) = moved-link l false
-  moved-befallen (event.Join l) = moved-link l true
+  moved-befallen e = moved-befalls e (befallen e s) (does-befall s e)
 
 -- it leaves the sets
 pub AreGtids-untouched : (servers : List Server) (executed purged : List Reserved) (gtid : Bool) (n : ℕ) (s s' : Server)

@@ -17,5 +17,6 @@ pub mod Seen
 pub mod AutoAttached
 pub mod Chains
 pub mod Standing
+pub mod Changes
 pub mod Counts
 pub mod Sources

@@ -33,12 +33,11 @@ pub use Rattle.server_words.specs.OrchBase.declared.server.ServerNo.{ServerNo}
 pub use Rattle.server_words.specs.OrchBase.declared.server.Settings.{Settings}
 pub use Rattle.server_words.specs.OrchBase.declared.server.SourceState.{SourceState}
 pub use Rattle.server_words.specs.OrchBase.declared.server.SourceState.TheVariants.{Attached, Detached, Without}
-pub use Rattle.server_words.specs.OrchBase.declared.server.SourceState.TheVariants as source
 pub use Rattle.server_words.specs.OrchBase.declared.server.Txn.{Txn}
 pub use Rattle.server_model.specs.Attach.{IsTarget, after_attach, attach_answer, attach_decision, attached_to, chain_meets, chain_on, first_kept}
 pub use Rattle.server_model.specs.Attach.{live_spot, purged_answer, same_spot, spot_below}
-pub use Rattle.server_model.specs.Desk.{after_change, after_desk, after_rotate, asked, attached_source, befall, befallen, desk_answer, detached}
-pub use Rattle.server_model.specs.Desk.{detached_source, healed, is_detached, reattached, rotate_answer, rotated, started, stopped, with_link}
+pub use Rattle.server_model.specs.Desk.{after_change, after_desk, after_rotate, asked, attached_source, befall, befallen, desk_answer}
+pub use Rattle.server_model.specs.Desk.{detached_source, is_detached, rotate_answer, rotated}
 pub use Rattle.server_model.specs.Desk.{without_source}
 pub use Rattle.server_model.specs.Exchanges.{IsReady, after_apply, after_fetch, after_write, applied, apply_from, apply_step, apply_txn, attached_at}
 pub use Rattle.server_model.specs.Exchanges.{fetch_from, fetch_kept, fetch_step, is_applying, is_attached, is_reached, is_receiving, own_txn, took}
@@ -57,7 +56,7 @@ pub use Rattle.server_model.specs.Safe.{StandsIn}
 pub use Rattle.server_model.specs.ServerBy.{server_of}
 pub use Rattle.server_model.specs.Standing.{CanStand}
 pub use Rattle.server_model.specs.Steps.{applier_did, receiver_did}
-pub use Rattle.server_model.specs.Worlds.{KeepsFrom, World, has_source, server_at, source_no, sources, sources_in}
+pub use Rattle.server_model.specs.Worlds.{KeepsFrom, World, has_source, server_at, source_no, sources, sources_in, with_server}
 pub use Rattle.server_model.specs.declared.decisions.ApplyStep.{ApplyStep}
 pub use Rattle.server_model.specs.declared.decisions.ApplyStep.TheVariants as applying
 pub use Rattle.server_model.specs.declared.decisions.FetchStep.{FetchStep}
@@ -78,8 +77,6 @@ pub use Rattle.server_words.specs.declared.changes.Ask.{Ask}
 pub use Rattle.server_words.specs.declared.changes.Ask.TheVariants as asking
 pub use Rattle.server_words.specs.declared.changes.Event.{Event}
 pub use Rattle.server_words.specs.declared.changes.Event.TheVariants as event
-pub use Rattle.server_words.specs.declared.changes.Link.{Link}
 pub use Rattle.server_words.specs.declared.changes.Link.TheVariants as link
-pub use Rattle.server_words.specs.declared.changes.Threads.{Threads}
 pub use Rattle.server_words.specs.declared.changes.Threads.TheVariants as threads
 pub use Rattle.server_words.specs.declared.status.Status.{Status}

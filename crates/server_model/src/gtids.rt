@@ -51,7 +51,8 @@ pub(crate) fn keep_gtids(
     requires room { gtid ≡ true → length kept.old.intervals + (to - from) ≤ kept.old.room }
     ensures { kept.new ≡ (if gtid
         then record kept.old {
-          intervals = with_gtids (uuids_in servers.now) kept.old.intervals (slice_range log.now.txns from to);
+          intervals = with_gtids (uuids_in servers.now) kept.old.intervals
+              (slice_range log.now.txns from to);
         }
         else kept.old) }
 {
@@ -132,7 +133,8 @@ fn executed_set(
     requires numbered { All (IsNumbered (length servers.now)) log.now.txns }
     requires within { count ≤ length log.now.txns }
     requires fits { count ≤ log.now.room }
-    ensures { IfOk result (λ set. set ≡ reserved_set gtid (uuids_in servers.now) log.now.room (take count log.now.txns)) }
+    ensures { IfOk result (λ set. set
+        ≡ reserved_set gtid (uuids_in servers.now) log.now.room (take count log.now.txns)) }
 {
     if !gtid {
         return ReservedSet::with_room(alloc, 0);
@@ -148,7 +150,8 @@ pub(crate) fn purged_sets(
     servers: &[Server],
     gtid: bool,
 ) -> Result<Vec<ReservedSet>, Memory>
-    requires numbered { All (λ s. All (IsNumbered (length servers.now)) s.history.txns) servers.now }
+    requires numbered { All (λ s. All (IsNumbered (length servers.now)) s.history.txns)
+        servers.now }
     requires fits { All (λ s. length s.history.txns ≤ s.history.room) servers.now }
     requires within { All (λ s. purged_len s ≤ length s.history.txns) servers.now }
     ensures { IfOk result (λ v. v.items ≡

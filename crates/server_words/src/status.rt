@@ -95,14 +95,17 @@ impl Status {
 
     // Whether its GTIDs are the same.
     fn has_same_sets(&self, other: &Status) -> bool
-        ensures { IsTrue result ↔ ((self.now.set ≡ other.now.set) × (self.now.purged ≡ other.now.purged)) }
+        ensures { IsTrue result
+            ↔ ((self.now.set ≡ other.now.set) × (self.now.purged ≡ other.now.purged)) }
     {
         self.set.is_same(&other.set) && self.purged.is_same(&other.purged)
     }
 
     // Whether it replicates in the same way.
     fn has_same_source(&self, other: &Status) -> bool
-        ensures { IsTrue result ↔ ((self.now.source ≡ other.now.source) × (self.now.exec ≡ other.now.exec) × (self.now.read ≡ other.now.read) × (self.now.auto ≡ other.now.auto)) }
+        ensures { IsTrue result ↔ ((self.now.source ≡ other.now.source)
+            × (self.now.exec ≡ other.now.exec) × (self.now.read ≡ other.now.read)
+            × (self.now.auto ≡ other.now.auto)) }
     {
         (self.source == other.source && self.exec == other.exec)
             && (self.read == other.read && self.auto == other.auto)
@@ -110,14 +113,16 @@ impl Status {
 
     // Whether its threads and flags are the same.
     fn has_same_threads(&self, other: &Status) -> bool
-        ensures { IsTrue result ↔ ((self.now.io ≡ other.now.io) × (self.now.sql ≡ other.now.sql) × (self.now.read_only ≡ other.now.read_only)) }
+        ensures { IsTrue result ↔ ((self.now.io ≡ other.now.io) × (self.now.sql ≡ other.now.sql)
+            × (self.now.read_only ≡ other.now.read_only)) }
     {
         self.io == other.io && self.sql == other.sql && self.read_only == other.read_only
     }
 
     // Whether its own log is the same.
     fn has_same_log(&self, other: &Status) -> bool
-        ensures { IsTrue result ↔ ((self.now.own_end ≡ other.now.own_end) × (self.now.first ≡ other.now.first)) }
+        ensures { IsTrue result
+            ↔ ((self.now.own_end ≡ other.now.own_end) × (self.now.first ≡ other.now.first)) }
     {
         self.own_end == other.own_end && self.first == other.first
     }

@@ -16,6 +16,9 @@ use std::alloc::Global;
 
 type Store = FileStore<File>;
 
+/// The longest name of a database file, in bytes: its journal has a name that is eight bytes longer.
+const LONGEST_NAME: usize = 247;
+
 const TABLE: &str =
     "CREATE TABLE IF NOT EXISTS kept (number INTEGER NOT NULL, key TEXT NOT NULL, text TEXT NOT NULL, UNIQUE (number, key)) STRICT";
 
@@ -48,7 +51,16 @@ impl Drop for SqlKeeper {
     }
 }
 
+// Whether the names of the files beside the database, which are longer, can be names of files, too.
+fn leaves_room(path: &str) -> bool {
+    let name = path.as_bytes().iter().rev().take_while(|b| **b != b'/');
+    name.count() <= LONGEST_NAME
+}
+
 fn open(rt: &HostRuntime, path: &str) -> Result<Connection<Store>, SqlFault> {
+    if !leaves_room(path) {
+        return Err(SqlFault::Sql(SqlError::SqliteFailure(ErrorCode::CannotOpen)));
+    }
     let mut conn = Connection::open(rt, path)?;
     conn.execute(TABLE, &[])?;
     Ok(conn)
@@ -191,7 +203,7 @@ impl SqlKeeper {
     }
 }
 
-fn told<T>(done: Result<T, SqlFault>) -> Result<T, KeeperFault>
+fn by_kind<T>(done: Result<T, SqlFault>) -> Result<T, KeeperFault>
     ensures { IfOk result (λ x. done ≡ Ok x) }
 {
     match done {
@@ -212,7 +224,7 @@ impl Keeper for SqlKeeper {
         ensures counts { CountsFailures self.old.faults self.new.faults result }
     {
         let done = match opened(&self.rt, self.path.as_str(), &mut self.store) {
-            Ok(conn) => told(make_all(alloc, conn, names, changes)),
+            Ok(conn) => by_kind(make_all(alloc, conn, names, changes)),
             Err(fault) => Err(fault),
         };
         self.counted(done)
@@ -226,7 +238,7 @@ impl Keeper for SqlKeeper {
         ensures counts { CountsFailures self.old.faults self.new.faults result }
     {
         let done = match opened(&self.rt, self.path.as_str(), &mut self.store) {
-            Ok(conn) => told(all_rows(alloc, conn, names)),
+            Ok(conn) => by_kind(all_rows(alloc, conn, names)),
             Err(fault) => Err(fault),
         };
         self.counted(done)

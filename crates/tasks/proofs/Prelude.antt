@@ -23,7 +23,8 @@ pub use Rattle.command_line.specs.declared.command.Own.{Own}
 pub use Rattle.command_line.specs.declared.command.Own.TheVariants as own
 pub use Rattle.command_line.specs.declared.parts.Places.{Places}
 pub use Rattle.orch_core.proofs.CommandsProofs.Needed.{needed-used}
-pub use Rattle.orch_core.specs.Commands.Names.{needs_of, nothing, uses_of}
+pub use Rattle.orch_core.specs.Commands.Names.{needs_of, uses_of}
+pub use Rattle.orch_core.specs.Commands.Table.{nothing}
 unfoldable pub use Rattle.orch_core.specs.Commands.Names.{name_of}
 pub use Rattle.orch_core.specs.Commands.Turns.{is_there, is_within}
 pub use Rattle.orch_core.specs.Commands.declared.name.CommandName.{CommandName}
@@ -32,8 +33,8 @@ pub use Rattle.orch_core.specs.Commands.declared.turn.Command.{Command}
 pub use Rattle.orch_core.specs.Commands.declared.turn.CommandTurn.{CommandTurn}
 pub use Rattle.orch_core.specs.Commands.declared.turn.Found.{Found}
 pub use Rattle.orch_core.specs.InstanceKeeper.Book.{BookState}
-pub use Rattle.orch_core.specs.JobsInFlight.Jobs.{is_open, job_at, most_turns}
-pub use Rattle.orch_core.specs.JobsInFlight.Rounds.{polls, replicates, round_over}
+pub use Rattle.orch_core.specs.UnendedJobs.Jobs.{is_open, job_at, most_turns}
+pub use Rattle.orch_core.specs.UnendedJobs.Rounds.{polls, replicates, round_over}
 pub use Rattle.orch_core.specs.KeptRows.Rows.{changed}
 pub use Rattle.orch_core.specs.KeptRows.declared.row.Row.{Row}
 pub use Rattle.orch_core.specs.Knowledge.declared.fault.TurnFault.{TurnFault}

@@ -1,15 +1,14 @@
 -- The answer in place of a single command if its plan is asked for: a function of the state after the scenario's turns.
 -- Nothing is changed, and nothing is claimed.
 use Rattle.std.specs.Prelude.{ℕ, ◌==◌, Bool, false, List, [], Option, Some, None, if◌then◌else◌}
-use Rattle.tasks.specs.Prelude.{ClaimAnswer, Command, CommandTurn, Ground, HostPort, Line, Means, Planner, Purpose, Regrouping, Reply, Route}
-use Rattle.tasks.specs.Prelude.{ServerNo, State, Unended, act_reply, active, after_act, claimed, has_branches, job_at, nodes_of, plan_text}
-use Rattle.tasks.specs.Prelude.{recovery_plan, route_of, straight_lines, unwrap_or}
+use Rattle.orch_core.specs.CommandOutcomes.Jobs.{means_of as regroup_means}
+use Rattle.tasks.specs.Prelude.{ClaimAnswer, Command, CommandTurn, Ground, HostPort, Line, Means, Purpose, Reply, Route, ServerNo, State, Unended}
+use Rattle.tasks.specs.Prelude.{act_reply, active, after_act, claimed, has_branches, job_at, nodes_of, plan_text, recovery_plan, route_of}
+use Rattle.tasks.specs.Prelude.{straight_lines, unwrap_or}
 use Rattle.tasks.specs.Prelude.act
 use Rattle.tasks.specs.Prelude.answered
 use Rattle.tasks.specs.Prelude.claim
 use Rattle.tasks.specs.Prelude.means
-use Rattle.tasks.specs.Prelude.planner
-use Rattle.tasks.specs.Prelude.regrouping
 use Rattle.tasks.specs.Prelude.route
 use Rattle.tasks.specs.Prelude.unended
 
@@ -47,23 +46,12 @@ abbrev pub straight : List Line → Planned
 straight lines = record { branches = false; lines = lines }
 
 -- how the replicas of a regroup go below the best of them; the distance of marks isn't given
-abbrev pub means_by : Regrouping → Means
-means_by regrouping.ByBridges = means.Bridges
-means_by regrouping.ByMatches = means.Matches 0
-
-abbrev pub means_of_planner : Planner → Means
-means_of_planner (planner.Coordinates kind) = means.Bridges
-means_of_planner (planner.Gtids kind) = means.Bridges
-means_of_planner (planner.Paths kind) = means.Bridges
-means_of_planner (planner.Regroups by) = means_by by
-means_of_planner (planner.Matches kind) = means.Bridges
-
 abbrev pub means_of : Route → Means
 means_of route.Discovers = means.Bridges
 means_of route.Forgets = means.Bridges
 means_of (route.Asks question) = means.Bridges
 means_of (route.Decides decision) = means.Bridges
-means_of (route.Begins planner) = means_of_planner planner
+means_of (route.Begins planner) = unwrap_or (regroup_means 0 planner) means.Bridges
 means_of route.Recovers = means.Bridges
 means_of route.TakesOver = means.Bridges
 

@@ -2,7 +2,7 @@
 pub use Rattle.std.specs.Io.KnownBytes.{Appends}
 pub use Rattle.std.specs.List.{list_any}
 pub use Rattle.std.specs.Option.{option_and_then, option_to_list, unwrap_or}
-pub use Rattle.orch_core.specs.AuditLines.Lines.{recovery_lines}
+pub use Rattle.orch_core.specs.AskingCommands.Lines.{recovery_lines}
 unfoldable pub use Rattle.cluster_filters.specs.Patterns.{is_pattern}
 pub use Rattle.command_line.specs.Commands.{own_at}
 pub use Rattle.command_line.specs.Places.{drawing_of}
@@ -17,10 +17,9 @@ pub use Rattle.orch_core.specs.Commands.declared.refusal.Refusal.TheVariants.{No
 pub use Rattle.orch_core.specs.Commands.declared.turn.Command.{Command}
 pub use Rattle.orch_core.specs.Commands.declared.turn.CommandTurn.{CommandTurn}
 pub use Rattle.orch_core.specs.Commands.declared.turn.Found.{Found}
-pub use Rattle.orch_core.specs.InstanceKeeper.Book.{BookState}
-pub use Rattle.orch_core.specs.JobsInFlight.Jobs.{is_open, job_at, most_turns}
+pub use Rattle.orch_core.specs.UnendedJobs.Jobs.{is_open, job_at, most_turns}
 pub use Rattle.orch_core.specs.KeptRows.Keeping.{HasKeeperCause, KeepsAll}
-pub use Rattle.orch_core.specs.KeptRows.Rows.{IsRising, changed}
+pub use Rattle.orch_core.specs.KeptRows.Rows.{changed}
 pub use Rattle.orch_core.specs.KeptRows.declared.row.Row.{Row}
 pub use Rattle.orch_core.specs.Knowledge.Faults.{HasTurnCause}
 pub use Rattle.orch_core.specs.Knowledge.declared.fault.TurnFault.{TurnFault}
@@ -50,13 +49,9 @@ pub use Rattle.orch_core.specs.RecoveryPlans.Deciding.{Ground}
 pub use Rattle.orch_core.specs.RecoveryPlans.declared.means.Means.{Means}
 pub use Rattle.orch_core.specs.RecoveryPlans.declared.means.Means.TheVariants as means
 pub use Rattle.orch_core.specs.RecoveryPlans.declared.purpose.Purpose.{Purpose}
-pub use Rattle.orch_core.specs.CommandRoutes.Routes.{route_of}
-pub use Rattle.orch_core.specs.CommandRoutes.declared.kinds.Regrouping.{Regrouping}
-pub use Rattle.orch_core.specs.CommandRoutes.declared.kinds.Regrouping.TheVariants as regrouping
-pub use Rattle.orch_core.specs.CommandRoutes.declared.route.Planner.{Planner}
-pub use Rattle.orch_core.specs.CommandRoutes.declared.route.Planner.TheVariants as planner
-pub use Rattle.orch_core.specs.CommandRoutes.declared.route.Route.{Route}
-pub use Rattle.orch_core.specs.CommandRoutes.declared.route.Route.TheVariants as route
+pub use Rattle.orch_core.specs.Commands.Routes.{route_of}
+pub use Rattle.orch_core.specs.Commands.declared.route.Route.{Route}
+pub use Rattle.orch_core.specs.Commands.declared.route.Route.TheVariants as route
 pub use Rattle.report_text.specs.Lines.{lines_text}
 unfoldable pub use Rattle.report_text.specs.Lines.{line_text, plain_text_of}
 pub use Rattle.report_text.specs.Summary.{summary_text}

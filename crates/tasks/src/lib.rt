@@ -19,7 +19,6 @@ mod summary;
 mod verdict;
 
 pub use asked::{Asked, Extra, Task, task_of};
-use command_line::command_routes;
 pub use ending::Ending;
 pub use journal::journal_report;
 pub use laws::{
@@ -28,7 +27,7 @@ pub use laws::{
 };
 pub use names::names_of;
 use orch_core::{
-    audit_lines, commands, instance_keeper_items, jobs_in_flight, node_claims, orch_base,
+    asking_commands_items, commands, instance_keeper_items, node_claims, orch_base,
     scenarios_items, turns, unended_jobs_items,
 };
 pub use report::task_report;

@@ -5,7 +5,7 @@ ghost use Rattle.tasks.specs.Prelude.{line_text};
 ghost use Rattle.tasks.specs.Report.{tables_of};
 ghost use Rattle.tasks.specs.Sinks.{Joins, Stays, taken};
 
-use crate::audit_lines::recovery_lines;
+use crate::asking_commands_items::recovery_lines;
 use crate::orch_base::{Memory, Sink, write_all};
 use crate::turns::{Reply, Turn};
 use orch_core::Engine;

@@ -11,17 +11,15 @@ ghost use Rattle.tasks.specs.Sinks.{across};
 ghost use Rattle.tasks.specs.Stands.{AreNamedIn, AreTurnsIn, IsCommandIn, PlanStands};
 
 use crate::Ending;
-use crate::command_routes::{Planner, Regrouping, Route};
-use crate::commands::Command;
+use crate::commands::{Command, Route};
 use crate::instance_keeper_items::{Book, Keeper};
-use crate::jobs_in_flight::find;
 use crate::nobody::Nobody;
 use crate::node_claims::ClaimAnswer;
 use crate::orch_base::{Memory, Name, ServerNo, Sink};
 use crate::single::{Report, begun_by, claim_ahead, told_report, write_report};
 use crate::turns::{Act, BoxedCommand, Reply, Turn};
-use crate::unended_jobs_items::Unended;
-use orch_core::{Engine, TurnFault};
+use crate::unended_jobs_items::{Unended, find};
+use orch_core::{Engine, TurnFault, means_of as regroup_means};
 use plan_lines::{
     Ground, Means, Op, Purpose, has_branches, print_plan, recovery_plan, straight_lines,
 };
@@ -59,13 +57,8 @@ fn means_of(route: Route) -> Means
     ensures { result ≡ means_of route }
 {
     match route {
-        Route::Begins(Planner::Regroups(Regrouping::ByMatches)) => Means::Matches(0),
-        Route::Begins(Planner::Regroups(Regrouping::ByBridges))
-        | Route::Begins(Planner::Coordinates(_))
-        | Route::Begins(Planner::Gtids(_))
-        | Route::Begins(Planner::Paths(_))
-        | Route::Begins(Planner::Matches(_))
-        | Route::Discovers
+        Route::Begins(planner) => regroup_means(planner, 0).unwrap_or(Means::Bridges),
+        Route::Discovers
         | Route::Forgets
         | Route::Asks(_)
         | Route::Decides(_)

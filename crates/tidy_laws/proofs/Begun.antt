@@ -2,20 +2,19 @@
 use Rattle.std.proofs.Common.{◌≡◌, ℕ, Bool, true, false, not, List, [], ◌∷◌, ◌+◌, ◌++◌, map, refl, sym, ◌∙◌, ap, subst, Option, Some, None, Ok, ◌&&◌}
 use Rattle.std.specs.Prelude.{All}
 use Rattle.tidy_laws.proofs.Prelude.{All-append, All-cons, All-head, All-nil, All-push, All-tail, AllWithin, AreAlike, AreDueWithin, AuditState}
-use Rattle.tidy_laws.proofs.Prelude.{Begins, BookState, ByBridges, ByMatches, Clusters, Command, Coordinates, CoordsCommand, Deed, Follows}
-use Rattle.tidy_laws.proofs.Prelude.{GtidCommand, Gtids, IsDueWithin, IsJobWithin, IsRecoveryWithin, IsTaskWithin, IsTrim, IsUnendedWithin, Line}
-use Rattle.tidy_laws.proofs.Prelude.{Matches, Means, Moment, Op, Path, Paths, Planner, PseudoCommand, Purpose, Refusal, RegroupCommand, Regroups}
-use Rattle.tidy_laws.proofs.Prelude.{Server as AServer, ServerNo, Staged, Stopped, Task, World, about as about_given, about_one, actionable_in}
-use Rattle.tidy_laws.proofs.Prelude.{after_try, again, again_auto, and_parts, arrived, ascended, auto, autos, begun_recovery, but, climbed}
-use Rattle.tidy_laws.proofs.Prelude.{cluster_in, coords_command, deed_of, each-none, finished, first_about, first_refusal, flat_map, followers_of}
-use Rattle.tidy_laws.proofs.Prelude.{from_start, gtid_command, has_log, is_replica_of, is_valid, job_by, job_with, label, label_in, master_taken}
-use Rattle.tidy_laws.proofs.Prelude.{matching, matchings, moved_below, moved_by, moved_up, moves_to, neither, next_of, of_other_cluster, option_or}
-use Rattle.tidy_laws.proofs.Prelude.{path_of, pseudo_command, purpose_by, recovery_begins, recovery_purpose, recovery_refusal, recovery_try}
-use Rattle.tidy_laws.proofs.Prelude.{refusal_by, refused, regroup_about, regroup_command, relocate_row, relocated, replicas_but, replicas_moved_up}
-use Rattle.tidy_laws.proofs.Prelude.{replicas_of, replicas_row, repointed, repointed_auto, repointed_by, rest_refusal, same_label, same_text}
-use Rattle.tidy_laws.proofs.Prelude.{scan_step, scanned, scanned_over, server_at, siblings_of, siblings_taken, source_above, source_of}
+use Rattle.tidy_laws.proofs.Prelude.{Begins, BookState, Clusters, Command, Coordinates, CoordsCommand, Deed, Follows, GtidCommand, Gtids, IsDueWithin}
+use Rattle.tidy_laws.proofs.Prelude.{IsJobWithin, IsRecoveryWithin, IsTaskWithin, IsTrim, IsUnendedWithin, Line, MatchCommand, Matches, Means, Moment}
+use Rattle.tidy_laws.proofs.Prelude.{Op, Path, PathCommand, Paths, Planner, Purpose, Refusal, Server as AServer, ServerNo, Staged, Stopped, Task}
+use Rattle.tidy_laws.proofs.Prelude.{World, about-permitted, actionable_in, after_try, again, again_auto, and_parts, arrived, ascended, auto, autos}
+use Rattle.tidy_laws.proofs.Prelude.{begun_recovery, but, climbed, cluster_in, deed_of, each-none, finished, first_about, first_refusal, flat_map}
+use Rattle.tidy_laws.proofs.Prelude.{followers_of, from_start, has_log, is_replica_of, is_valid, job_by, job_in, job_with, label, label_in}
+use Rattle.tidy_laws.proofs.Prelude.{master_taken, matching, matchings, means_of, moved_below, moved_by, moved_up, moves_to, neither, next_of}
+use Rattle.tidy_laws.proofs.Prelude.{of_other_cluster, ops_of, option_or, path_of, plan_by, purpose_by, recovery_begins, recovery_purpose}
+use Rattle.tidy_laws.proofs.Prelude.{recovery_refusal, recovery_try, refusal_about, refusal_by, regroup_about, relocate_row, relocated, replicas_but}
+use Rattle.tidy_laws.proofs.Prelude.{replicas_moved_up, replicas_of, replicas_row, repointed, repointed_auto, repointed_by, rest_refusal, same_label}
+use Rattle.tidy_laws.proofs.Prelude.{same_text, scan_step, scanned, scanned_over, server_at, siblings_of, siblings_taken, source_above, source_of}
 use Rattle.tidy_laws.proofs.Prelude.{staged_refusal, succeeds, swap, takeover_begins, takeover_refusal, takeover_try, test-false, travelled, under}
-use Rattle.tidy_laws.proofs.Prelude.{unders, unknown_in, unless_refused, unrefused, up, ups}
+use Rattle.tidy_laws.proofs.Prelude.{unders, unless_refused, unrefused, up, ups}
 use Rattle.tidy_laws.proofs.Prelude.Checks.{refusal_by as check_refusal}
 use Rattle.tidy_laws.proofs.Prelude.CommandsTheVariants.{Server}
 use Rattle.tidy_laws.proofs.Prelude.FailureAnalysis.{Entry}
@@ -253,7 +252,7 @@ module _ (c : Clusters) (w : World) (trim : IsTrim c w) (b : BookState) (i : Ser
   each-matched rs every None = tt
   each-matched rs every (Some d) = finished-due c (matchings rs d every) _ (matchings-due c rs d every)
 
-  matches-planned : (every : ℕ) (k : PseudoCommand) (d : Option ServerNo) → AreDueWithin c (match_plans.ops_of b every k i d)
+  matches-planned : (every : ℕ) (k : MatchCommand) (d : Option ServerNo) → AreDueWithin c (match_plans.ops_of b every k i d)
   matches-planned every matches.Match d = matched-planned every d
   matches-planned every matches.MatchUp d = matched-planned every (source_above b i)
   matches-planned every matches.MatchReplicas d = each-matched (replicas_but b i d) every d
@@ -266,7 +265,7 @@ module _ (c : Clusters) (w : World) (trim : IsTrim c w) (b : BookState) (i : Ser
   travel-planned true movers (Some d) h = finished-due c (autos movers d) _ (autos-due c movers d (alike-moves c w trim d movers (h refl)))
   travel-planned false movers (Some d) h = finished-due c (moved_by false b movers d) _ (paths-due c b movers d)
 
-  paths-planned : (k : RegroupCommand) (d : Option ServerNo) → first_refusal w b (path_permits.case_of w b k i d) (path_permits.row_of w.gtid k) ≡ None → AreDueWithin c (path_plans.ops_of w b k i d)
+  paths-planned : (k : PathCommand) (d : Option ServerNo) → first_refusal w b (path_permits.case_of w b k i d) (path_permits.row_of w.gtid k) ≡ None → AreDueWithin c (path_plans.ops_of w b k i d)
   paths-planned regroups.Relocate d h =
       travel-planned w.gtid (i ∷ []) d
       (λ used. let t = each-none (map (check_refusal w b (path_permits.case_of w b regroups.Relocate i d)) (relocate_row true)) (subst (λ (g : Bool). first_refusal w b (path_permits.case_of w b regroups.Relocate i d) (relocate_row g) ≡ None) used h) in t.1.1.1.0)
@@ -331,63 +330,26 @@ module _ (c : Clusters) (f : ServerNo) where
 -- ---- the job of a command that isn't refused
 
 module _ (c : Clusters) (w : World) (trim : IsTrim c w) (b : BookState) (now : Moment) (every : ℕ) (given : Command) (id wait : ℕ) where
-  coords-begin : coords_permits.refusal_of w b given ≡ None → AreDueWithin c (coords_plans.plan_of w b given)
-  coords-begin h = go (coords_command given.name) h
+  plan-due : (p : Planner) → refusal_by w b now every given p ≡ None → AreDueWithin c (plan_by w b every given p)
+  plan-due p h = about-permitted (AreDueWithin c) (refusal_about w b now every) [] (ops_of w b every) b given tt each (Some p) h
     where
-      with_i : (k : CoordsCommand) (o : Option ServerNo) → about_one None (coords_permits.refusal_about w b k) o given.d ≡ None → AreDueWithin c (about_one [] (coords_plans.ops_of w b k) o given.d)
-      with_i k None h = tt
-      with_i k (Some i) h = coords-planned c w trim b i k given.d h
-
-      go : (k : Option CoordsCommand) → refused b (coords_permits.refusal_about w b) k given ≡ None → AreDueWithin c (about_given [] (coords_plans.ops_of w b) k given)
-      go None h = tt
-      go (Some k) h = with_i k given.i (neither (unknown_in b given) (about_one None (coords_permits.refusal_about w b k) given.i given.d) h).1
-
-  gtids-begin : gtid_permits.refusal_of w b given ≡ None → AreDueWithin c (gtid_plans.plan_of b given)
-  gtids-begin h = go (gtid_command given.name) h
-    where
-      with_i : (k : GtidCommand) (o : Option ServerNo) → about_one None (gtid_permits.refusal_about w b k) o given.d ≡ None → AreDueWithin c (about_one [] (gtid_plans.ops_of b k) o given.d)
-      with_i k None h = tt
-      with_i k (Some i) h = gtids-planned c w trim b i k given.d h
-
-      go : (k : Option GtidCommand) → refused b (gtid_permits.refusal_about w b) k given ≡ None → AreDueWithin c (about_given [] (gtid_plans.ops_of b) k given)
-      go None h = tt
-      go (Some k) h = with_i k given.i (neither (unknown_in b given) (about_one None (gtid_permits.refusal_about w b k) given.i given.d) h).1
-
-  paths-begin : path_permits.refusal_of w b now given ≡ None → AreDueWithin c (path_plans.plan_of w b given)
-  paths-begin h = go (regroup_command given.name) h
-    where
-      with_i : (k : RegroupCommand) (o : Option ServerNo) → about_one None (path_permits.refusal_about w b now k) o given.d ≡ None → AreDueWithin c (about_one [] (path_plans.ops_of w b k) o given.d)
-      with_i k None h = tt
-      with_i k (Some i) h =
-          paths-planned c w trim b i k given.d
-          (neither (first_refusal w b (path_permits.case_of w b k i given.d) (path_permits.row_of w.gtid k)) (rest_refusal w b now k i given.d) h).0
-
-      go : (k : Option RegroupCommand) → refused b (path_permits.refusal_about w b now) k given ≡ None → AreDueWithin c (about_given [] (path_plans.ops_of w b) k given)
-      go None h = tt
-      go (Some k) h = with_i k given.i (neither (unknown_in b given) (about_one None (path_permits.refusal_about w b now k) given.i given.d) h).1
-
-  matches-due : AreDueWithin c (match_plans.plan_of b every given)
-  matches-due = go (pseudo_command given.name)
-    where
-      with_i : (k : PseudoCommand) (o : Option ServerNo) → AreDueWithin c (about_one [] (match_plans.ops_of b every k) o given.d)
-      with_i k None = tt
-      with_i k (Some i) = matches-planned c w trim b i every k given.d
-
-      go : (k : Option PseudoCommand) → AreDueWithin c (about_given [] (match_plans.ops_of b every) k given)
-      go None = tt
-      go (Some k) = with_i k given.i
+      each : (p : Planner) (i : ServerNo) → refusal_about w b now every p i given.d ≡ None → AreDueWithin c (ops_of w b every p i given.d)
+      each (Coordinates k) i passed = coords-planned c w trim b i k given.d passed
+      each (Gtids k) i passed = gtids-planned c w trim b i k given.d passed
+      each (Paths k) i passed =
+          paths-planned c w trim b i k given.d (neither (first_refusal w b (path_permits.case_of w b k i given.d) (path_permits.row_of w.gtid k)) (rest_refusal w b now k i given.d) passed).0
+      each (Matches k) i passed = matches-planned c w trim b i every k given.d
 
   regroup-within : (by : Means) (i : Option ServerNo) → IsUnendedWithin c (regroup_about b by id wait i)
   regroup-within by None = planned-within c id wait [] tt
   regroup-within by (Some i) = begun-within c i purpose.Regroup by id wait (replicas_of b i) (replicas_of b i) tt
 
   pub job-within : (p : Planner) → refusal_by w b now every given p ≡ None → IsUnendedWithin c (job_by w b given p id wait every)
-  job-within (Coordinates kind) h = planned-within c id wait (coords_plans.plan_of w b given) (coords-begin h)
-  job-within (Gtids kind) h = planned-within c id wait (gtid_plans.plan_of b given) (gtids-begin h)
-  job-within (Paths kind) h = planned-within c id wait (path_plans.plan_of w b given) (paths-begin h)
-  job-within (Regroups ByBridges) h = regroup-within means.Bridges given.i
-  job-within (Regroups ByMatches) h = regroup-within (means.Matches every) given.i
-  job-within (Matches kind) h = planned-within c id wait (match_plans.plan_of b every given) matches-due
+  job-within p h = go (means_of every p)
+    where
+      go : (by : Option Means) → IsUnendedWithin c (job_in w b given p id wait every by)
+      go None = planned-within c id wait (plan_by w b every given p) (plan-due p h)
+      go (Some by) = regroup-within by given.i
 
 -- ---- what a recovery is for
 

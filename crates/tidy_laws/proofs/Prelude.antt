@@ -9,10 +9,11 @@ pub use Rattle.std.specs.Cmp.Lexicographic.{same_text}
 pub use Rattle.std.specs.List.{All, after_last, before_last, flat_map, list_any}
 pub use Rattle.std.specs.Option.{option_and_then, option_map, option_or}
 pub use Rattle.std.specs.Str.Parse.{digits_value}
-pub use Rattle.run_laws.specs.AskingCommands.Answers.{allowed, lines_of, permitted}
+pub use Rattle.run_laws.specs.AskingCommands.Answers.{allowed}
 pub use Rattle.run_laws.specs.AuditLog.Audits.{AuditState}
 pub use Rattle.run_laws.proofs.BinlogCoords.Places.{place-parts, same_coord-true}
-pub use Rattle.run_laws.specs.BinlogCoords.Grammar.{coord_of, extension_of, file_at, is_colon, is_extension, is_plain, number_at, pos_at, value_within}
+pub use Rattle.run_laws.specs.BinlogCoords.Grammar.{coord_of, extension_of, file_at, is_extension, is_plain, number_at, pos_at, value_within}
+pub use Rattle.run_laws.specs.OrchBase.Names.{is_colon}
 unfoldable pub use Rattle.run_laws.specs.BinlogCoords.Grammar.{coord_at}
 pub use Rattle.run_laws.specs.BinlogCoords.Index.{Index}
 pub use Rattle.run_laws.specs.BinlogCoords.Log.{Log, appended, end_coord, entry_at_end, file_start, flush, has_place, is_at_or_before, is_file_start}
@@ -23,33 +24,27 @@ pub use Rattle.run_laws.specs.BinlogCoords.declared.Next.{Next}
 pub use Rattle.run_laws.specs.BinlogCoords.declared.Next.TheVariants as binlog_next
 pub use Rattle.run_laws.specs.BinlogCoords.declared.text.CoordFault.{CoordFault}
 pub use Rattle.run_laws.specs.BinlogCoords.declared.text.CoordFault.TheVariants.{NoColon}
-pub use Rattle.run_laws.specs.BookCommands.Decisions.{decided_of}
-pub use Rattle.run_laws.specs.BookCommands.declared.decided.Decided.{Decided}
 pub use Rattle.run_laws.specs.BookViews.Sources.{is_replica_of, replicas_of}
-pub use Rattle.run_laws.specs.CommandJobs.Jobs.{job_by, leases_by, refusal_by, regroup_about}
-pub use Rattle.run_laws.specs.CommandOutcomes.Outcomes.{Outcome, begun, by_hand, decided, discovered, forgotten, next_reading, outcome_by, question}
-pub use Rattle.run_laws.specs.CommandOutcomes.Outcomes.{recovered, recovery_begun, refusal, removal_refusal, taken_over}
-unfoldable pub use Rattle.run_laws.specs.CommandOutcomes.Outcomes.{outcome_of}
+pub use Rattle.run_laws.specs.CommandOutcomes.Jobs.{job_by, job_in, means_of, ops_of, plan_by, refusal_about, refusal_by, regroup_about}
+pub use Rattle.run_laws.specs.CommandOutcomes.Outcomes.{Outcome, by_hand}
+pub use Rattle.run_laws.specs.CommandOutcomes.Outcomes.{removal_refusal}
 pub use Rattle.run_laws.specs.CommandOutcomes.Outcomes
 pub use Rattle.run_laws.specs.CommandOutcomes.HookTelling.{told_try, with_told}
-pub use Rattle.run_laws.specs.CommandRoutes.Routes.{route_of}
-pub use Rattle.run_laws.specs.CommandRoutes.declared.kinds.CoordsCommand.{CoordsCommand}
-pub use Rattle.run_laws.specs.CommandRoutes.declared.kinds.CoordsCommand.TheVariants as coords
-pub use Rattle.run_laws.specs.CommandRoutes.declared.kinds.GtidCommand.{GtidCommand}
-pub use Rattle.run_laws.specs.CommandRoutes.declared.kinds.GtidCommand.TheVariants as gtids
-pub use Rattle.run_laws.specs.CommandRoutes.declared.kinds.Regrouping.TheVariants.{ByBridges, ByMatches}
-pub use Rattle.run_laws.specs.CommandRoutes.declared.route.Planner.{Planner}
-pub use Rattle.run_laws.specs.CommandRoutes.declared.route.Planner.TheVariants.{Coordinates, Gtids, Matches, Paths, Regroups}
-pub use Rattle.run_laws.specs.CommandRoutes.declared.route.Route.{Route}
-pub use Rattle.run_laws.specs.CommandRoutes.declared.route.Route.TheVariants.{Asks, Decides, Discovers, Forgets, Recovers, TakesOver}
-pub use Rattle.run_laws.specs.CommandRoutes.declared.route.Route.TheVariants
+pub use Rattle.run_laws.specs.Commands.Routes.{route_of}
+pub use Rattle.run_laws.specs.Commands.declared.kinds.CoordsCommand.{CoordsCommand}
+pub use Rattle.run_laws.specs.Commands.declared.kinds.CoordsCommand.TheVariants as coords
+pub use Rattle.run_laws.specs.Commands.declared.kinds.GtidCommand.{GtidCommand}
+pub use Rattle.run_laws.specs.Commands.declared.kinds.GtidCommand.TheVariants as gtids
+pub use Rattle.run_laws.specs.Commands.declared.route.Planner.{Planner}
+pub use Rattle.run_laws.specs.Commands.declared.route.Planner.TheVariants.{Coordinates, Gtids, Matches, Paths}
+pub use Rattle.run_laws.specs.Commands.declared.route.Route.{Route}
+pub use Rattle.run_laws.specs.Commands.declared.route.Route.TheVariants.{Asks, Decides, Discovers, Forgets, Recovers, TakesOver}
+pub use Rattle.run_laws.specs.Commands.declared.route.Route.TheVariants
 pub use Rattle.run_laws.specs.Commands.declared.cause.Cause.{Cause}
-pub use Rattle.run_laws.specs.Commands.declared.cause.Cause.TheVariants as cause
 pub use Rattle.run_laws.specs.Commands.declared.line.Line.{Line}
 pub use Rattle.run_laws.specs.Commands.declared.line.Line.TheVariants.{Follows}
 pub use Rattle.run_laws.specs.Commands.declared.line.Line.TheVariants as CommandsTheVariants
 pub use Rattle.run_laws.specs.Commands.declared.refusal.Refusal.{Refusal}
-pub use Rattle.run_laws.specs.Commands.declared.refusal.Refusal.TheVariants.{UnknownInstance}
 pub use Rattle.run_laws.specs.Commands.declared.refusal.Refusal.TheVariants as commands_refusal
 pub use Rattle.run_laws.specs.Commands.declared.turn.Command.{Command}
 pub use Rattle.run_laws.specs.Commands.declared.turn.CommandTurn.{CommandTurn}
@@ -69,20 +64,18 @@ pub use Rattle.run_laws.specs.JobLaws.Held.{AllShow, HeldJob}
 pub use Rattle.run_laws.specs.JobLaws.Leases.{job_at, leases_of}
 pub use Rattle.run_laws.specs.JobLaws.Passages.{Passage, passed, passing, slot_of, stored_if, turned_by}
 pub use Rattle.run_laws.specs.JobLaws.Passages as pass
-pub use Rattle.run_laws.specs.JobsInFlight.Jobs.{job_exchanges, jobs_turned, with_job, without_job}
-pub use Rattle.run_laws.specs.JobsInFlight.Jobs
+pub use Rattle.run_laws.specs.UnendedJobs.Jobs.{job_exchanges, jobs_turned}
+pub use Rattle.run_laws.specs.UnendedJobs.Jobs
 pub use Rattle.run_laws.specs.KeptRows.Seeing.{seen_in}
 pub use Rattle.run_laws.specs.KeptRows.declared.observation.Observation.{Observation}
 pub use Rattle.run_laws.specs.KeptRows.declared.row.Row.{Row}
 pub use Rattle.run_laws.specs.Knowledge.Knowing.{recovery_job}
-pub use Rattle.run_laws.proofs.MoveLaws.Firsts.{each-none, neither, test-false}
+pub use Rattle.run_laws.proofs.MoveLaws.Firsts.{about-permitted, each-none, neither, test-false}
 pub use Rattle.run_laws.proofs.MoveLaws.Firsts
-pub use Rattle.run_laws.specs.MovesCoords.Commands.{coords_command}
 pub use Rattle.run_laws.specs.MovesCoords.Permits as coords_permits
 pub use Rattle.run_laws.specs.MovesCoords.Plans.{master_taken, moved_below, moved_up, replicas_moved_up, repointed, repointed_auto, repointed_by}
 pub use Rattle.run_laws.specs.MovesCoords.Plans.{siblings_taken}
 pub use Rattle.run_laws.specs.MovesCoords.Plans as coords_plans
-pub use Rattle.run_laws.specs.MovesGtid.Commands.{gtid_command}
 pub use Rattle.run_laws.specs.MovesGtid.Permits as gtid_permits
 pub use Rattle.run_laws.specs.MovesGtid.Plans as gtid_plans
 pub use Rattle.run_laws.specs.OpeningBook.Counting.{greatest_id}
@@ -106,16 +99,15 @@ pub use Rattle.run_laws.proofs.OperationsProofs.Allowing.{turn-allowed}
 pub use Rattle.run_laws.specs.Operations.Deeds.{Deed, deed_of}
 pub use Rattle.run_laws.specs.Operations.Deeds as deed
 pub use Rattle.run_laws.specs.Operations.Jobs.{Job, job_with, match_found, position_of, seen_of, with_seen}
-pub use Rattle.run_laws.specs.Operations.Matching.{match_between, match_logs, standing_at}
+pub use Rattle.run_laws.specs.Operations.Matching.{match_between, match_logs}
 pub use Rattle.run_laws.specs.Operations.Plans.{again, auto, finished, swap, under, up}
 pub use Rattle.run_laws.specs.Operations.Targets.{can_attach}
-pub use Rattle.run_laws.specs.Operations.Turns.{Attempt, Stops, Turned, after_answer, after_ask, after_attach, after_look, after_match, after_status}
-pub use Rattle.run_laws.specs.Operations.Turns.{after_until, after_wait, after_wait_by, aim_of, attach_answer_of, attached_anew, bridge_at, by_deed, by_match}
-pub use Rattle.run_laws.specs.Operations.Turns.{by_ops, by_set, crossed, crossing_of, failed, holds_seen, is_going, is_moved, is_reached, next, observed}
-pub use Rattle.run_laws.specs.Operations.Turns.{read_by, restarts, same_again, saw, settled, settles, turned, until_by}
+pub use Rattle.run_laws.specs.Operations.Turns.{Attempt, Stops, Turned}
+pub use Rattle.run_laws.specs.Operations.Turns.{aim_of, attached_anew, bridge_at, by_deed, by_match}
+pub use Rattle.run_laws.specs.Operations.Turns.{by_ops, by_set, crossed, crossing_of, failed, is_going, is_moved, next, observed}
+pub use Rattle.run_laws.specs.Operations.Turns.{read_by, restarts, same_again, settled, turned, until_by}
 pub use Rattle.run_laws.specs.Operations.Turns as attempt
 pub use Rattle.run_laws.specs.Operations.declared.matching.Match.{Match}
-pub use Rattle.run_laws.specs.Operations.declared.matching.MatchFault.{MatchFault}
 pub use Rattle.run_laws.specs.Operations.declared.matching.MatchFault.TheVariants as fault
 pub use Rattle.run_laws.specs.Operations.declared.op.Aim.{Aim}
 pub use Rattle.run_laws.specs.Operations.declared.op.Aim.TheVariants as aim
@@ -137,9 +129,15 @@ pub use Rattle.run_laws.specs.OrchBase.declared.server.SourceState.{SourceState}
 pub use Rattle.run_laws.specs.OrchBase.declared.server.SourceState.TheVariants.{Attached, Detached, Without}
 pub use Rattle.run_laws.specs.OrchBase.declared.server.Txn.{Txn}
 pub use Rattle.run_laws.specs.OrchBase.declared.source.TheConstants.{MAX_SCENARIO_LEN}
+pub use Rattle.run_laws.proofs.TurnJobs.{turn-keeps}
+pub use Rattle.run_laws.proofs.UnendedLaws.CoveredTurning.{all-turned}
+pub use Rattle.run_laws.proofs.ReplicationLaws.Changes.{Asked, Becomes, Befallen, Leaves, leaves}
+pub use Rattle.run_laws.proofs.ReplicationLaws.Changes as changes
+pub use Rattle.run_laws.proofs.OrchCore.Comes.{Comes, IsAskedFor, command-comes}
+pub use Rattle.run_laws.proofs.OrchCore.Comes as comes
 pub use Rattle.run_laws.proofs.OrchCore.Starts.{Fits-start}
 pub use Rattle.run_laws.proofs.OrchCore.States.{Allowed-step}
-pub use Rattle.run_laws.specs.OrchCore.After.{after_act, after_done, step}
+pub use Rattle.run_laws.specs.OrchCore.After.{step}
 pub use Rattle.run_laws.specs.OrchCore.Jobs.{turn_of}
 pub use Rattle.run_laws.specs.OrchCore.Nodes.{act_in}
 pub use Rattle.run_laws.specs.OrchCore.Polls.{command_outcome, numbers_of, reading, scan_outcome}
@@ -148,17 +146,15 @@ pub use Rattle.run_laws.specs.OrchCore.Starts.{loaded_book, start, start_changes
 pub use Rattle.run_laws.specs.OrchCore.Settling
 pub use Rattle.run_laws.specs.OrchCore.States.{State}
 pub use Rattle.run_laws.specs.OrchCore.TurnExchanges.{act_exchanges, done_exchanges, exchange_of, exchanges_at}
-pub use Rattle.run_laws.specs.Permission.Checks.{first_refusal, of_other_cluster, unknown_in}
+pub use Rattle.run_laws.specs.Permission.Checks.{first_refusal, of_other_cluster}
 pub use Rattle.run_laws.specs.Permission.Checks
 pub use Rattle.run_laws.specs.Permission.Lists.{first_about, moves_to}
 pub use Rattle.run_laws.specs.Permission.Replicas.{replicas_but, siblings_of}
-pub use Rattle.run_laws.specs.Permission.Rows.{about, about_one, refused}
 pub use Rattle.run_laws.specs.Permission.Views.{has_log, is_valid, label_in, same_label, source_above, source_of}
 pub use Rattle.run_laws.specs.PlanParts.Parts.{again_auto, autos, matching, matchings, unders, ups}
-pub use Rattle.run_laws.specs.PseudoMatch.Commands.{pseudo_command}
 pub use Rattle.run_laws.specs.PseudoMatch.Plans as match_plans
-pub use Rattle.run_laws.specs.PseudoMatch.declared.command.PseudoCommand.{PseudoCommand}
-pub use Rattle.run_laws.specs.PseudoMatch.declared.command.PseudoCommand.TheVariants as matches
+pub use Rattle.run_laws.specs.Commands.declared.kinds.MatchCommand.{MatchCommand}
+pub use Rattle.run_laws.specs.Commands.declared.kinds.MatchCommand.TheVariants as matches
 pub use Rattle.run_laws.proofs.RecoveryCore.Beginning.{unrefused}
 pub use Rattle.run_laws.specs.RecoveryCore.Scans.{Staged, actionable_in, after_try, from_start, scan_step, scanned, scanned_over, staged_refusal}
 pub use Rattle.run_laws.specs.RecoveryCore.Tries.{Begins, recovery_begins, recovery_try, takeover_begins, takeover_try, unless_refused}
@@ -167,9 +163,9 @@ pub use Rattle.run_laws.proofs.RecoveryLaws.Deciding.{decides-held}
 pub use Rattle.run_laws.proofs.RecoveryLaws.Taking.{due, source-is}
 pub use Rattle.run_laws.specs.RecoveryLaws.HeldRecoveries.{HeldRecovery}
 pub use Rattle.run_laws.specs.RecoveryLaws.Rings.{HeldRings}
-pub use Rattle.run_laws.specs.RecoveryPermits.Recoveries.{purpose_by, recovery_purpose, recovery_refusal}
-pub use Rattle.run_laws.specs.RecoveryPermits.Takeovers.{followers_of, takeover_refusal}
-pub use Rattle.run_laws.specs.RecoveryPermits.declared.attempt.Attempt as RecoveryPermits
+pub use Rattle.run_laws.specs.RecoveryCore.Recoveries.{purpose_by, recovery_purpose, recovery_refusal}
+pub use Rattle.run_laws.specs.RecoveryCore.Takeovers.{followers_of, takeover_refusal}
+pub use Rattle.run_laws.specs.RecoveryCore.declared.attempt.Attempt as RecoveryPermits
 pub use Rattle.run_laws.proofs.RecoveryPlans.Choices.{All-chosen}
 pub use Rattle.run_laws.proofs.RecoveryPlans.Leading.{moved-leads}
 pub use Rattle.run_laws.proofs.RecoveryPlans.Walking.{Keeps, decisions-keep, kept-along, made-along, taken-walks}
@@ -197,17 +193,16 @@ pub use Rattle.run_laws.specs.RecoveryPlans.declared.task.Task.TheVariants as ta
 pub use Rattle.run_laws.specs.RecoveryPlans.declared.task.Way.{Way}
 pub use Rattle.run_laws.specs.RecoveryPlans.declared.task.Way.TheVariants as way
 pub use Rattle.run_laws.specs.RecoveryPlans.declared.why.Why.{Why}
-pub use Rattle.run_laws.specs.Regroup.Commands.{regroup_command}
 pub use Rattle.run_laws.specs.Regroup.Permits.{relocate_row, replicas_row, rest_refusal}
 pub use Rattle.run_laws.specs.Regroup.Permits as path_permits
 pub use Rattle.run_laws.specs.Regroup.Plans.{arrived, ascended, climbed, moved_by, next_of, relocated, travelled}
 pub use Rattle.run_laws.specs.Regroup.Plans as path_plans
 pub use Rattle.run_laws.specs.Regroup.Ways.{Path, path_of}
-pub use Rattle.run_laws.specs.Regroup.declared.command.RegroupCommand.{RegroupCommand}
-pub use Rattle.run_laws.specs.Regroup.declared.command.RegroupCommand.TheVariants as regroups
-pub use Rattle.run_laws.specs.ReplicaGroups.Groups.{group_of}
-pub use Rattle.run_laws.specs.ReplicaGroups.declared.groups.Group.{Group}
-pub use Rattle.run_laws.specs.ReplicaGroups.declared.groups.Group.TheVariants as group
+pub use Rattle.run_laws.specs.Commands.declared.kinds.PathCommand.{PathCommand}
+pub use Rattle.run_laws.specs.Commands.declared.kinds.PathCommand.TheVariants as regroups
+pub use Rattle.run_laws.specs.PromotionRules.Groups.{group_of}
+pub use Rattle.run_laws.specs.PromotionRules.declared.groups.Group.{Group}
+pub use Rattle.run_laws.specs.PromotionRules.declared.groups.Group.TheVariants as group
 pub use Rattle.run_laws.proofs.ReplicationLaws.Keeping.{Placed-safe}
 pub use Rattle.run_laws.proofs.ReplicationLaws.Runs.{Grows-run, Placed-after, Placed-run}
 pub use Rattle.run_laws.proofs.ReplicationLaws.Worlds.{at_with_other, at_with_same}
@@ -252,54 +247,38 @@ pub use Rattle.run_laws.specs.Scenarios.declared.scenario.Scenario.{Scenario}
 pub use Rattle.serde_json.specs.Data.{Data, Items}
 pub use Rattle.run_laws.proofs.ServerModel.Applied.{step_from}
 pub use Rattle.run_laws.proofs.ServerModel.LogSizes.{files-push, length-push}
-pub use Rattle.run_laws.specs.ServerModel.Attach.{IsTarget, attach_answer, attached_to, chain_meets, first_kept, live_spot, purged_answer, same_spot}
+pub use Rattle.run_laws.specs.ServerModel.Attach.{IsTarget, attach_answer, chain_meets, first_kept, live_spot, purged_answer, same_spot}
 pub use Rattle.run_laws.specs.ServerModel.Attach.{spot_below}
-pub use Rattle.run_laws.specs.ServerModel.Attach as ServerModel
-pub use Rattle.run_laws.specs.ServerModel.Desk.{after_change, after_desk, after_rotate, asked, attached_source, befallen, can_reach, desk_answer, detached}
-pub use Rattle.run_laws.specs.ServerModel.Desk.{detached_source, healed, is_detached, reattached, rotate_answer, rotated, started, stopped}
-pub use Rattle.run_laws.specs.ServerModel.Exchanges.{after_apply, after_fetch, after_write, applied, apply_from, apply_step, apply_txn, attached_at}
+pub use Rattle.run_laws.specs.ServerModel.Desk.{can_reach, rotate_answer}
+pub use Rattle.run_laws.specs.ServerModel.Exchanges.{applied, apply_from, apply_step, apply_txn, attached_at}
 pub use Rattle.run_laws.specs.ServerModel.Exchanges.{fetch_from, fetch_step, is_attached, own_txn, took, write_answer}
 pub use Rattle.run_laws.specs.ServerModel.Exchanges
 pub use Rattle.run_laws.specs.ServerModel.Fit.{HasSize}
-pub use Rattle.run_laws.specs.ServerModel.Gtids.{IsAutoTarget, after_attach_auto, attach_auto_answer, attached_auto, auto_coord, shown_of, status, status_in}
-pub use Rattle.run_laws.specs.ServerModel.Gtids.{uuids}
+pub use Rattle.run_laws.specs.ServerModel.Gtids.{shown_of, status, status_in}
 pub use Rattle.run_laws.specs.ServerModel.Layout.{Flushed, LaysOut, Took}
 pub use Rattle.run_laws.specs.ServerModel.Layout
-pub use Rattle.run_laws.specs.ServerModel.Purging.{after_purge, purge_answer}
-pub use Rattle.run_laws.specs.ServerModel.Run.{AllAllowed, Allowed, Apply, Attach, AttachAuto, Befall, Exchange, Fetch, Purge, Request, Rotate, Write, after}
+pub use Rattle.run_laws.specs.ServerModel.Run.{AllAllowed, Allowed, Attach, AttachAuto, Exchange, Request, after}
 pub use Rattle.run_laws.specs.ServerModel.Run.{run}
 pub use Rattle.run_laws.specs.ServerModel.Safe.{IsQuiet, Placed}
 pub use Rattle.run_laws.specs.ServerModel.Worlds.{World, server_at, source_no, with_server}
-pub use Rattle.run_laws.specs.ServerModel.declared.decisions.ApplyStep.{ApplyStep}
 pub use Rattle.run_laws.specs.ServerModel.declared.decisions.ApplyStep.TheVariants as applying
-pub use Rattle.run_laws.specs.ServerModel.declared.decisions.FetchStep.{FetchStep}
 pub use Rattle.run_laws.specs.ServerModel.declared.decisions.FetchStep.TheVariants as receiving
 pub use Rattle.run_laws.specs.ServerModel.declared.server.Server.{Server}
-pub use Rattle.run_laws.specs.ServerWords.declared.answers.PurgeAnswer.{PurgeAnswer}
-pub use Rattle.run_laws.specs.ServerWords.declared.answers.PurgeAnswer.TheVariants as purging
-pub use Rattle.run_laws.specs.ServerWords.declared.answers.RotateAnswer.{RotateAnswer}
 pub use Rattle.run_laws.specs.ServerWords.declared.answers.RotateAnswer.TheVariants as rotating
-pub use Rattle.run_laws.specs.ServerWords.declared.answers.Unreachable.{Unreachable}
-pub use Rattle.run_laws.specs.ServerWords.declared.answers.WriteAnswer.{WriteAnswer}
 pub use Rattle.run_laws.specs.ServerWords.declared.answers.WriteAnswer.TheVariants as wrote
-pub use Rattle.run_laws.specs.ServerWords.declared.attach.AttachFault.{AttachFault}
 pub use Rattle.run_laws.specs.ServerWords.declared.attach.AttachFault.TheVariants as attaching
 pub use Rattle.run_laws.specs.ServerWords.declared.attach.Spot.{Spot}
 pub use Rattle.run_laws.specs.ServerWords.declared.attach.Spot.TheVariants as spot
 pub use Rattle.run_laws.specs.ServerWords.declared.changes.Ask.{Ask}
 pub use Rattle.run_laws.specs.ServerWords.declared.changes.Ask.TheVariants as asking
 pub use Rattle.run_laws.specs.ServerWords.declared.changes.Event.{Event}
-pub use Rattle.run_laws.specs.ServerWords.declared.changes.Event.TheVariants as event
-pub use Rattle.run_laws.specs.ServerWords.declared.changes.Link.TheVariants as link
-pub use Rattle.run_laws.specs.ServerWords.declared.changes.Threads.{Threads}
-pub use Rattle.run_laws.specs.ServerWords.declared.changes.Threads.TheVariants as threads
 pub use Rattle.run_laws.specs.ServerWords.declared.status.Status.{Status}
 pub use Rattle.run_laws.specs.ServerWords.declared.status.StatusFault.TheVariants as seeing
 pub use Rattle.tidy_laws.specs.Clusters.{AreAlike, Clusters, cluster_at, cluster_in, label}
 pub use Rattle.tidy_laws.specs.Flights.{AreNeatPassages, IsNeat, IsNeatPassage, IsNeatTurn}
 pub use Rattle.tidy_laws.specs.Recoveries.{IsRecoveryWithin, IsStageWithin, IsTaskWithin, IsUnendedWithin, IsWayWithin, KeepsWithin}
 pub use Rattle.tidy_laws.specs.Runs.{UntilsCanBePrinted}
-pub use Rattle.tidy_laws.specs.Trim.{AllOrderly, HasOwnOf, IsOrderly, IsOrderlyAsk, IsTrim, ReplicatesOf, StaysWithin}
+pub use Rattle.tidy_laws.specs.Trim.{AllOrderly, HasOwnOf, IsOrderly, IsOrderlyAsk, IsTrim, ReplicatesOf}
 pub use Rattle.tidy_laws.specs.Within.{AllWithin, AreDueWithin, GoesWithin, IsDueWithin, IsJobWithin, IsReadWithin, IsTriedWithin, IsTurnWithin}
 pub use Rattle.tidy_laws.specs.Within.{IsWithinCluster, StoodWithin}
 pub use Rattle.run_laws.specs.Turns.declared.turn.Act.{Act}
@@ -321,3 +300,5 @@ pub use Rattle.run_laws.specs.UnendedLaws.Beside.{IsHeldBeside}
 pub use Rattle.run_laws.proofs.WorldOpenings.Opened.{given-opened, server_at-opened}
 pub use Rattle.run_laws.proofs.WorldOpenings.OpenedWorlds.{CanStand-opened, exec_of-root, read_of-root, source-given}
 pub use Rattle.run_laws.specs.WorldOpenings.Opening.{Fits, opened_from, opened_server, opened_world, source_state}
+pub use Rattle.run_laws.proofs.OperationsProofs.Attempts.{Attempts, IsMove, IsWaitFor, attachment_in, attempts}
+pub use Rattle.run_laws.proofs.OperationsProofs.Attempts as doing

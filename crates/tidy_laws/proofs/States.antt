@@ -1,21 +1,19 @@
 -- Each turn leaves a neat state neat.
-use Rattle.std.proofs.Common.{◌≡◌, ◌∙◌, ℕ, ◌+◌, Bool, true, false, cond, not, List, [], ◌∷◌, ◌++◌, map, refl, sym, ap, subst, Option, Some, None, Result, Ok, Err}
+use Rattle.std.proofs.Common.{◌≡◌, ◌∙◌, ℕ, ◌+◌, Bool, true, false, List, [], ◌∷◌, ◌++◌, map, refl, sym, ap, subst, Option, Some, None, Result, Ok, Err}
 use Rattle.std.specs.Prelude.{All, is_some, ◌==◌, if◌then◌else◌}
-use Rattle.tidy_laws.proofs.Prelude.{Act, All-append, All-cons, All-filter, All-find, All-head, All-map, All-nil, All-push, All-tail, AreNeatPassages}
-use Rattle.tidy_laws.proofs.Prelude.{Asks, AuditState, Begins as RecoveryBegins, Clusters, Command, CommandTurn, Decided, Decides, Discovers, Docket}
-use Rattle.tidy_laws.proofs.Prelude.{Flight, Flown, Forgets, HeldJob, HeldState, IsHeldBeside, IsNeat, IsNeatTurn, IsOrderly, IsRecoveryWithin}
-use Rattle.tidy_laws.proofs.Prelude.{IsStep, IsTurn, IsTurnWithin, IsUnendedWithin, Job, JobStep, KeepsWithin, Line, Observation, Outcome, Passage}
-use Rattle.tidy_laws.proofs.Prelude.{Planner, Ready, Recovers, Recovery, Refusal, Route, Row, ServerNo, State, Status, Step, Taken, TakesOver, Turn}
-use Rattle.tidy_laws.proofs.Prelude.{Unended, UnknownInstance, act_in, act_passages, after_act, after_done, allowed, attempt_in, begun, by_discovery}
-use Rattle.tidy_laws.proofs.Prelude.{by_hand, by_instance, by_job, by_permission, by_poll, by_recoveries, by_recovery, by_removal, by_route}
-use Rattle.tidy_laws.proofs.Prelude.{by_takeover, by_try, command_outcome, core-found, core_of, decided, decided_of, discovered, discovers}
-use Rattle.tidy_laws.proofs.Prelude.{done_passages, exchange_of, flight_of, flown as step-flown, flown-allowed, forgotten, hooked, hooked-has}
-use Rattle.tidy_laws.proofs.Prelude.{instance_at, is_going, job_at as core_at, job_by, jobs_turned, leases_by, leases_of, lines_of, moment_at}
-use Rattle.tidy_laws.proofs.Prelude.{next_count, next_reading, numbers_of, option_map, outcome_by, outcome_of, passages_of, passed, permitted}
-use Rattle.tidy_laws.proofs.Prelude.{promoted_in, question, reading, recovered, recoveries_scanned, recovery_begun, recovery_job, recovery_try}
-use Rattle.tidy_laws.proofs.Prelude.{refusal, refusal_by, removal_refusal, route_of, same_Some, scan_in, scan_outcome, step as turn_step, step-may}
-use Rattle.tidy_laws.proofs.Prelude.{taken, taken_over, takeover_try, told_try, turn-allowed, turn_of, turned, with_job, with_told, without_job}
-use Rattle.tidy_laws.proofs.Prelude.Outcomes.{about, asked}
+use Rattle.tidy_laws.proofs.Prelude.{Act, All-append, All-cons, All-find, All-map, All-nil, All-push, AreNeatPassages, Asks, Begins as RecoveryBegins}
+use Rattle.tidy_laws.proofs.Prelude.{Clusters, Comes, Command, CommandTurn, Decides, Discovers, Docket, Flight, Flown, Forgets, HeldJob, HeldState}
+use Rattle.tidy_laws.proofs.Prelude.{IsAskedFor, IsHeldBeside, IsNeat, IsNeatTurn, IsOrderly, IsRecoveryWithin, IsStep, IsTurn, IsTurnWithin}
+use Rattle.tidy_laws.proofs.Prelude.{IsUnendedWithin, Job, JobStep, KeepsWithin, Outcome, Passage, Planner, Ready, Recovers, Recovery, Refusal, Route}
+use Rattle.tidy_laws.proofs.Prelude.{Row, ServerNo, State, Step, Taken, TakesOver, Turn, Unended, act_in, act_passages, all-turned, allowed}
+use Rattle.tidy_laws.proofs.Prelude.{attempt_in, by_discovery, by_hand, by_instance, by_job, by_permission, by_poll, by_recoveries, by_recovery}
+use Rattle.tidy_laws.proofs.Prelude.{by_removal, by_route, by_takeover, by_try, command-comes, command_outcome, core-found, core_of, discovers}
+use Rattle.tidy_laws.proofs.Prelude.{done_passages, exchange_of, flight_of, flown as step-flown, flown-allowed, hooked, hooked-has, instance_at}
+use Rattle.tidy_laws.proofs.Prelude.{is_going, job_at as core_at, job_by, jobs_turned, leases_of, moment_at, next_count, numbers_of, option_map}
+use Rattle.tidy_laws.proofs.Prelude.{passages_of, passed, promoted_in, reading, recoveries_scanned, recovery_job, recovery_try, refusal_by}
+use Rattle.tidy_laws.proofs.Prelude.{removal_refusal, route_of, same_Some, scan_in, scan_outcome, step as turn_step, step-may, taken, takeover_try}
+use Rattle.tidy_laws.proofs.Prelude.{told_try, turn-allowed, turn-keeps, turn_of, turned, unless_refused, with_told}
+use Rattle.tidy_laws.proofs.Prelude.Outcomes.{asked}
 use Rattle.tidy_laws.proofs.Prelude.Jobs.{job_at}
 use Rattle.tidy_laws.proofs.Prelude.Settling.{settled}
 use Rattle.tidy_laws.proofs.Prelude.TheVariants.{Begins}
@@ -25,6 +23,7 @@ use Rattle.tidy_laws.proofs.Prelude.pass
 use Rattle.tidy_laws.proofs.Prelude.turn
 use Rattle.tidy_laws.proofs.Prelude.turns_step as step
 use Rattle.tidy_laws.proofs.Prelude.unended
+use Rattle.tidy_laws.proofs.Prelude.comes
 use Rattle.tidy_laws.proofs.Begun.{job-within, recovery-within, scan-within, takeover-within}
 use Rattle.tidy_laws.proofs.Passing.{neat-passing}
 use Rattle.tidy_laws.proofs.Recovering.{taken-within}
@@ -163,20 +162,8 @@ module _ (c : Clusters) (s : State) (held : HeldState s) (neat : IsNeatState c s
   abbrev P : Unended → Type 0
   P u = IsUnendedWithin c u
 
-  all-with : (us : List Unended) (id : ℕ) (u : Unended) → P u → All P us → All P (with_job us id u)
-  all-with [] id u one all = All-nil P
-  all-with (k ∷ ks) id u one all = All-cons P (cond (number_of k == id) u k) (with_job ks id u) (go (number_of k == id)) (all-with ks id u one (All-tail P k ks all))
-    where
-      go : (b : Bool) → P (cond b u k)
-      go true = one
-      go false = All-head P k ks all
-
   turned-by : (id : ℕ) (t : Flown) → (is_going t.step ≡ true → P t.next) → All P (jobs_turned s.jobs id (Some t))
-  turned-by id t next = go (is_going t.step) refl
-    where
-      go : (b : Bool) → is_going t.step ≡ b → All P (if b then with_job s.jobs id t.next else without_job s.jobs id)
-      go true is = all-with s.jobs id t.next (next is) neat.jobs
-      go false is = All-filter (λ k. not (number_of k == id)) P s.jobs neat.jobs
+  turned-by id t next = all-turned P P id (λ k apart h. h) s.jobs t next neat.jobs
 
   jobs-turned : (id : ℕ) (o : Option Unended) → job_at s.jobs id ≡ o → All P (jobs_turned s.jobs id (option_map (turn_of s) o))
   jobs-turned id None at = neat.jobs
@@ -185,75 +172,25 @@ module _ (c : Clusters) (s : State) (held : HeldState s) (neat : IsNeatState c s
 
   -- ---- by commands
 
-  abbrev KeepsJobs : Outcome → Type 0
-  KeepsJobs o = All P (settled s o).jobs
-
-  asked-jobs : (reads : ℕ) (p : Result Unit Refusal) (lines : List Line) → KeepsJobs (asked reads p lines)
-  asked-jobs reads (Ok permit) lines = neat.jobs
-  asked-jobs reads (Err r) lines = neat.jobs
-
-  forgotten-jobs : (reads : ℕ) (p : Result Unit Refusal) (i : ServerNo) → KeepsJobs (forgotten reads p i)
-  forgotten-jobs reads (Ok permit) i = neat.jobs
-  forgotten-jobs reads (Err r) i = neat.jobs
-
-  discovered-jobs : (reads : ℕ) (o : Observation) (x : Option Status) → KeepsJobs (discovered s.book reads o x)
-  discovered-jobs reads o None = neat.jobs
-  discovered-jobs reads o (Some seen) = neat.jobs
-
-  decided-jobs : (reads : ℕ) (a : AuditState) (p : Result Unit Refusal) (d : Decided) → KeepsJobs (decided reads a p d)
-  decided-jobs reads a (Ok permit) d = neat.jobs
-  decided-jobs reads a (Err r) d = neat.jobs
-
-  begun-jobs : (x : Command) (p : Planner) (r : Option Refusal) → refusal_by s.world s.book (moment_at s) s.configuration.every x p ≡ r
-      → KeepsJobs (begun (numbers_of s) r (leases_by s.world s.book x p) (job_by s.world s.book x p (s.last_job + 1) s.configuration.wait s.configuration.every))
-  begun-jobs x p None refuses =
-      All-push P s.jobs (job_by s.world s.book x p (s.last_job + 1) s.configuration.wait s.configuration.every) neat.jobs
-      (job-within c s.world neat.flight.trim s.book (moment_at s) s.configuration.every x (s.last_job + 1) s.configuration.wait p refuses)
-  begun-jobs x p (Some r) refuses = neat.jobs
-
   recoveries-jobs : (xs : List RecoveryBegins) → All (λ x. IsRecoveryWithin c x.job) xs → All P (s.jobs ++ map recovery_job xs)
   recoveries-jobs xs all = All-append P s.jobs (map recovery_job xs) neat.jobs (All-map P recovery_job xs all)
 
-  tried-jobs : (r : Result RecoveryBegins Refusal) → ((x : RecoveryBegins) → r ≡ Ok x → IsRecoveryWithin c x.job) → KeepsJobs (recovery_begun (numbers_of s) (told_try s.configuration s.book r))
-  tried-jobs (Ok x) each =
+  asked-within : (t : CommandTurn) (x : RecoveryBegins) → IsAskedFor s t.command x → IsRecoveryWithin c x.job
+  asked-within t x (comes.Fails i route at free) =
+      recovery-within c s.world neat.flight.trim s.book s.audit (by_hand s.book s.configuration (numbers_of s) i) s.configuration.wait (s.last_job + 1) i x (ap (λ (o : Option Refusal). unless_refused o x) free)
+  asked-within t x (comes.Passes i d route at there free) =
+      takeover-within c s.world neat.flight.trim s.book s.audit (by_hand s.book s.configuration (numbers_of s) i) s.configuration.wait (s.last_job + 1) i d x (ap (λ (o : Option Refusal). unless_refused o x) free)
+
+  outcome-jobs : (t : CommandTurn) (o : Outcome) → Comes s t o → All P (settled s o).jobs
+  outcome-jobs t o (comes.Begun p at free) =
+      All-push P s.jobs (job_by s.world s.book t.command p (s.last_job + 1) s.configuration.wait s.configuration.every) neat.jobs
+      (job-within c s.world neat.flight.trim s.book (moment_at s) s.configuration.every t.command (s.last_job + 1) s.configuration.wait p free)
+  outcome-jobs t o (comes.Recovered x asked) =
       let told = with_told s.configuration s.book x in
-      recoveries-jobs (told ∷ []) (All-cons (λ (y : RecoveryBegins). IsRecoveryWithin c y.job) told [] (each x refl) (All-nil (λ (y : RecoveryBegins). IsRecoveryWithin c y.job)))
-  tried-jobs (Err r) each = neat.jobs
+      recoveries-jobs (told ∷ []) (All-cons (λ (y : RecoveryBegins). IsRecoveryWithin c y.job) told [] (asked-within t x asked) (All-nil (λ (y : RecoveryBegins). IsRecoveryWithin c y.job)))
+  outcome-jobs t o _ = neat.jobs
 
-  recovered-jobs : (i : ServerNo) → KeepsJobs (recovered s.world s.book s.audit s.configuration (numbers_of s) i)
-  recovered-jobs i =
-      tried-jobs (recovery_try s.world s.book s.audit (by_hand s.book s.configuration (numbers_of s) i) s.configuration.wait (s.last_job + 1) i)
-      (λ x is. recovery-within c s.world neat.flight.trim s.book s.audit (by_hand s.book s.configuration (numbers_of s) i) s.configuration.wait (s.last_job + 1) i x is)
-
-  taken-jobs : (d : Option ServerNo) (i : ServerNo) → KeepsJobs (taken_over s.world s.book s.audit s.configuration (numbers_of s) d i)
-  taken-jobs None i = neat.jobs
-  taken-jobs (Some d) i =
-      tried-jobs (takeover_try s.world s.book s.audit (by_hand s.book s.configuration (numbers_of s) i) s.configuration.wait (s.last_job + 1) i d)
-      (λ x is. takeover-within c s.world neat.flight.trim s.book s.audit (by_hand s.book s.configuration (numbers_of s) i) s.configuration.wait (s.last_job + 1) i d x is)
-
-  about-jobs : (none : Outcome) (some : ServerNo → Outcome) → KeepsJobs none → ((i : ServerNo) → KeepsJobs (some i)) → (o : Option ServerNo) → KeepsJobs (about none some o)
-  about-jobs none some first each None = first
-  about-jobs none some first each (Some i) = each i
-
-  route-jobs : (t : CommandTurn) (r : Route) → KeepsJobs (outcome_by s.world s.book s.audit s.configuration (numbers_of s) t r)
-  route-jobs t Discovers =
-      about-jobs (question s.book s.audit s.reads t) (λ i. discovered s.book s.reads (next_reading s.world (numbers_of s) i) (next_reading s.world (numbers_of s) i).seen)
-      (asked-jobs s.reads (permitted s.book t.command) (lines_of s.book s.audit.recoveries t t.command.name))
-      (λ i. discovered-jobs s.reads (next_reading s.world (numbers_of s) i) (next_reading s.world (numbers_of s) i).seen) t.command.i
-  route-jobs t Forgets =
-      about-jobs (question s.book s.audit s.reads t) (forgotten s.reads (allowed (removal_refusal s.book t.command)))
-      (asked-jobs s.reads (permitted s.book t.command) (lines_of s.book s.audit.recoveries t t.command.name)) (forgotten-jobs s.reads (allowed (removal_refusal s.book t.command))) t.command.i
-  route-jobs t (Asks q) = asked-jobs s.reads (permitted s.book t.command) (lines_of s.book s.audit.recoveries t t.command.name)
-  route-jobs t (Decides d) = decided-jobs s.reads s.audit (permitted s.book t.command) (decided_of s.book s.audit (moment_at s) t.keys t.command.i d)
-  route-jobs t (Begins p) = begun-jobs t.command p (refusal_by s.world s.book (moment_at s) s.configuration.every t.command p) refl
-  route-jobs t Recovers = about-jobs (refusal s.reads UnknownInstance) (recovered s.world s.book s.audit s.configuration (numbers_of s)) neat.jobs recovered-jobs t.command.i
-  route-jobs t TakesOver = about-jobs (refusal s.reads UnknownInstance) (taken_over s.world s.book s.audit s.configuration (numbers_of s) t.command.d) neat.jobs (taken-jobs t.command.d) t.command.i
-
-  command-jobs : (t : CommandTurn) → KeepsJobs (command_outcome s t)
-  unfolding outcome_of
-  command-jobs t = route-jobs t (route_of t.command.name)
-
-  scan-jobs : KeepsJobs (scan_outcome s)
+  scan-jobs : All P (settled s (scan_outcome s)).jobs
   scan-jobs =
       recoveries-jobs (recoveries_scanned s)
       (All-map (λ (y : RecoveryBegins). IsRecoveryWithin c y.job) (with_told s.configuration s.book) (scan_in s).begun
@@ -261,26 +198,18 @@ module _ (c : Clusters) (s : State) (held : HeldState s) (neat : IsNeatState c s
 
   -- ---- every turn
 
-  act-jobs : (rows : List Row) (a : Act) → All P (after_act rows s a).jobs
-  act-jobs rows (act.PollRead p n) = neat.jobs
-  act-jobs rows (act.PollStore p) = neat.jobs
-  act-jobs rows (act.Command t) = command-jobs t
-  act-jobs rows (act.Job job) = jobs-turned job (job_at s.jobs job) refl
-  act-jobs rows act.Scan = scan-jobs
-  act-jobs rows act.Restart = All-nil P
-
-  done-jobs : (rows : List Row) (o : Option Act) → All P (after_done rows s o).jobs
-  done-jobs rows None = neat.jobs
-  done-jobs rows (Some a) = act-jobs rows a
-
-  turn-jobs : (count : ℕ) (rows : List Row) (t : Turn) → IsTurn count t → All P (turn_step rows s t).jobs
-  turn-jobs count rows (turn.Act a) is = act-jobs rows a
-  turn-jobs count rows (turn.As node a) is = done-jobs rows (act_in s (turn.As node a))
-  turn-jobs count rows (turn.Claim node) is = done-jobs rows (act_in s (turn.Claim node))
-  turn-jobs count rows _ is = neat.jobs
+  turn-jobs : (rows : List Row) (t : Turn) → All P (turn_step rows s t).jobs
+  turn-jobs rows t = turn-keeps rows s t (λ w us. All P us) (record {
+    stays = neat.jobs;
+    step = λ x is. neat.jobs;
+    command = λ c at. outcome-jobs c (command_outcome s c) (command-comes s c);
+    job = λ id at. jobs-turned id (job_at s.jobs id) refl;
+    scan = scan-jobs;
+    restart = All-nil P;
+  })
 
 pub neat-step : (c : Clusters) (count : ℕ) (rows : List Row) (s : State) (t : Turn) → Ready count s → HeldState s → IsTurn count t → IsNeatState c s → IsNeatState c (turn_step rows s t)
 neat-step c count rows s t ready held is neat = record {
   flight = subst (IsNeat c) (sym (step-flown count rows s t ready is)) (neat-passing c (flight_of s) (passages_of s t) neat.flight (passages-neat c s held neat count t is));
-  jobs = turn-jobs c s held neat count rows t is;
+  jobs = turn-jobs c s held neat rows t;
 }

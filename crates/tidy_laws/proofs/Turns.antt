@@ -1,22 +1,19 @@
 -- An operation that is due makes exchanges in order, and what it leaves goes by servers of one cluster.
-use Rattle.std.proofs.Common.{◌≡◌, ℕ, ◌+◌, Bool, true, false, cond, not, List, [], ◌∷◌, refl, sym, ◌∙◌, ap, subst, Option, Some, None, Ok, Err, Result, ◌&&◌}
-use Rattle.std.specs.Prelude.{◌==◌, IfSome, nat_lt}
-use Rattle.tidy_laws.proofs.Prelude.{Aim, AllOrderly, AllShow, AllWithin, AreAlike, AreDueWithin, Ask, Attach, AttachAuto, Attached, AttachFault}
-use Rattle.tidy_laws.proofs.Prelude.{Attempt, Bridge, Cause, Clusters, Coord, Crossing, Deed, Detached, Exchange, GoesWithin, HeldJob, IsDueWithin}
-use Rattle.tidy_laws.proofs.Prelude.{IsJobWithin, IsOrderly, IsOrderlyAsk, IsReadWithin, IsTriedWithin, IsTrim, IsTurnWithin, IsWithinCluster}
-use Rattle.tidy_laws.proofs.Prelude.{IsWritten, Job, Match, MatchFault, Moment, Observation, Op, Placed, Position, Request, Server, ServerNo, Sight}
-use Rattle.tidy_laws.proofs.Prelude.{SourceState, Spot, Status, StoodWithin, Stops, Txn, Unreachable, Without, World, after, after_answer, after_ask}
-use Rattle.tidy_laws.proofs.Prelude.{after_attach, after_look, after_match, after_status, after_until, after_wait, after_wait_by, aim_of, and_parts}
-use Rattle.tidy_laws.proofs.Prelude.{attach_answer_of, attached_anew, bridge-parts, bridge_at, by_deed, by_match, by_ops, by_set, can_attach}
-use Rattle.tidy_laws.proofs.Prelude.{can_reach, crossed, deed_of, desk_answer, due-of, eqb-true, failed, finds, finds_crossing, footing, holds_seen}
-use Rattle.tidy_laws.proofs.Prelude.{is_at_or_before, is_moved, is_reached, is_under, label, live_spot, logs_at, match-parts, match_between}
-use Rattle.tidy_laws.proofs.Prelude.{match_found, match_logs, next, not-moved, observed, option_and_then, option_map, position_of, read_by, restarts}
-use Rattle.tidy_laws.proofs.Prelude.{same_again, same_coord, same_Some, same_spot, saw, seen_in, seen_of, server_at, settled, settles, shown_of}
-use Rattle.tidy_laws.proofs.Prelude.{source_no, source_shown, spot_below, standing_at, status, status_in, turned, until_by, with-one, with_seen}
+use Rattle.std.proofs.Common.{◌≡◌, ℕ, Bool, true, false, cond, not, List, [], ◌∷◌, refl, sym, ◌∙◌, ap, subst, Option, Some, None, Ok, Err, ◌&&◌}
+use Rattle.std.specs.Prelude.{◌==◌, IfSome}
+use Rattle.tidy_laws.proofs.Prelude.{Aim, AllOrderly, AllShow, AllWithin, AreAlike, AreDueWithin, Attach, AttachAuto, Attached, Attempt, Attempts}
+use Rattle.tidy_laws.proofs.Prelude.{Bridge, Cause, Clusters, Coord, Crossing, Deed, Detached, Exchange, GoesWithin, HeldJob, IsDueWithin}
+use Rattle.tidy_laws.proofs.Prelude.{IsJobWithin, IsMove, IsOrderly, IsReadWithin, IsTriedWithin, IsTrim, IsTurnWithin, IsWaitFor, IsWithinCluster}
+use Rattle.tidy_laws.proofs.Prelude.{IsWritten, Job, Match, Moment, Observation, Op, Placed, Position, Request, Server, ServerNo, Sight, SourceState}
+use Rattle.tidy_laws.proofs.Prelude.{Status, StoodWithin, Stops, Txn, Without, World, after, aim_of, and_parts, attached_anew, attachment_in}
+use Rattle.tidy_laws.proofs.Prelude.{attempts, bridge-parts, bridge_at, by_deed, by_match, by_ops, by_set, can_reach, crossed, deed_of, due-of}
+use Rattle.tidy_laws.proofs.Prelude.{eqb-true, failed, finds, finds_crossing, footing, is_at_or_before, is_moved, is_under, label, live_spot, logs_at}
+use Rattle.tidy_laws.proofs.Prelude.{match-parts, match_between, match_found, match_logs, next, not-moved, observed, option_and_then, option_map}
+use Rattle.tidy_laws.proofs.Prelude.{position_of, read_by, restarts, same_Some, same_again, same_coord, same_spot, seen_in, seen_of, server_at}
+use Rattle.tidy_laws.proofs.Prelude.{settled, shown_of, source_no, source_shown, spot_below, status, status_in, turned, until_by, with-one, with_seen}
 use Rattle.tidy_laws.proofs.Prelude.attempt.{Goes}
 use Rattle.tidy_laws.proofs.Prelude.aim
 use Rattle.tidy_laws.proofs.Prelude.asking
-use Rattle.tidy_laws.proofs.Prelude.cause
 use Rattle.tidy_laws.proofs.Prelude.cross
 use Rattle.tidy_laws.proofs.Prelude.deed
 use Rattle.tidy_laws.proofs.Prelude.fault
@@ -24,6 +21,7 @@ use Rattle.tidy_laws.proofs.Prelude.seeing
 use Rattle.tidy_laws.proofs.Prelude.spot
 use Rattle.tidy_laws.proofs.Positions.{All-slot}
 use Rattle.tidy_laws.proofs.Tidying.{written-coords, written-target}
+use Rattle.tidy_laws.proofs.Prelude.doing
 
 -- ---- what a status shows
 
@@ -172,65 +170,6 @@ module _ (c : Clusters) (w : World) (placed : Placed w) (trim : IsTrim c w) (xs 
       go true = tt
       go false = each at refl
 
--- ---- each kind of operation
-
-module _ (c : Clusters) (w : World) (j : Job) (rest : List Op) (placed : Placed w) (trim : IsTrim c w) (shown : AllShow w j.seen) (all : AllWithin c j.seen) (again : AreDueWithin c j.ops) where
-  saw-within : (n : ServerNo) (s : Status) → seen_in (status w n.0) ≡ Some s → AllWithin c (with_seen j.seen n (position_of s))
-  saw-within n s is = with-one (StoodWithin c) j.seen n (position_of s) all (stood-within c w placed trim n.0 s is)
-
-  look-within : (n : ServerNo) (from : Option ServerNo) (o : Observation) (r : Option Status) → seen_in (status w n.0) ≡ r → IsReadWithin c o → IsDueWithin c (deed.Look n from) (AreDueWithin c rest)
-      → IsTriedWithin c w (after_look j rest n from o r)
-  look-within n from o None is read due = read
-  look-within n from o (Some s) is read due = go (is_moved from s.source) refl
-    where
-      learns : (f : Option ServerNo) → is_moved f s.source ≡ false → IsDueWithin c (deed.Look n f) (AreDueWithin c rest) → AreDueWithin c rest
-      learns None e due = due
-      learns (Some m) e due = due ((stood-within c w placed trim n.0 s is).source m.0 (not-moved m s.source e))
-
-      go : (b : Bool) → is_moved from s.source ≡ b → IsTriedWithin c w (after_status j rest n from o s b)
-      go true e = read
-      go false e = record { orderly = tt; job = record { seen = saw-within n s is; left = learns from e due }; read = read }
-
-  ask-within : (n : ServerNo) (a : Ask) (r : Result (Unit {0}) Unreachable) → IsOrderlyAsk a → AreDueWithin c rest → IsTriedWithin c w (after_ask j rest n a r)
-  ask-within n a (Ok t) fine due = record { orderly = (fine, tt); job = record { seen = all; left = due }; read = tt }
-  ask-within n a (Err e) fine due = tt
-
-  passed-within : AreDueWithin c rest → GoesWithin c w None [] (next j rest)
-  passed-within due = record { orderly = tt; job = record { seen = all; left = due }; read = tt }
-
-  until-within : (n : ServerNo) (o : Option Coord) → IfSome o IsWritten → AreDueWithin c rest → IsTriedWithin c w (after_until w j rest n o)
-  until-within n None fine due = passed-within due
-  until-within n (Some to) fine due = ask-within n (asking.StartUntil to) (desk_answer (server_at w n.0)) fine due
-
-  wait-within : (n : ServerNo) (reached : Status → Bool) (r : Option Status) → seen_in (status w n.0) ≡ r → AreDueWithin c rest → IsTriedWithin c w (after_wait j rest n reached r)
-  wait-within n reached None is due = tt
-  wait-within n reached (Some s) is due = go (reached s)
-    where
-      more : (b : Bool) → IsTriedWithin c w (cond b (Goes None [] (record (saw j n s) { waited = j.waited + 1 })) (Stops (cause.WaitSpent n) None))
-      more true = record { orderly = tt; job = record { seen = saw-within n s is; left = again }; read = tt }
-      more false = tt
-
-      go : (b : Bool) → IsTriedWithin c w (after_wait_by j rest n s b)
-      go true = record { orderly = tt; job = record { seen = saw-within n s is; left = due }; read = tt }
-      go false = more (nat_lt (j.waited + 1) j.wait)
-
-  attach-within : (n : ServerNo) (o : Option Exchange) → ((e : Exchange) → o ≡ Some e → IsOrderly c w e) → AreDueWithin c rest → IsTriedWithin c w (after_attach w j rest n o)
-  attach-within n None fine due = passed-within due
-  attach-within n (Some e) fine due = by (can_attach w e)
-    where
-      go : (r : Result (Unit {0}) AttachFault) → IsTriedWithin c w (after_answer j rest n e r)
-      go (Ok t) = record { orderly = (fine e refl, tt); job = record { seen = all; left = due }; read = tt }
-      go (Err f) = tt
-
-      by : (b : Bool) → IsTriedWithin c w (cond b (after_answer j rest n e (attach_answer_of w e)) (Goes None [] (next j rest)))
-      by true = go (attach_answer_of w e)
-      by false = passed-within due
-
-  match-within : (n m : ServerNo) (at : Spot) (r : Result Coord MatchFault) → ((d : Coord) → r ≡ Ok d → AreAlike c m.0 n.0) → (AreAlike c m.0 n.0 → AreDueWithin c rest)
-      → IsTriedWithin c w (after_match j rest n m at r)
-  match-within n m at (Ok d) alike due = record { orderly = tt; job = record { seen = all; left = due (alike d refl) }; read = tt }
-  match-within n m at (Err f) alike due = tt
-
 -- servers whose logs match are of one cluster: that of the origin of their mark
 matched-alike : (c : Clusters) (w : World) → IsTrim c w → (n m : ServerNo) (every : ℕ) (at : Coord) → match_logs w n m every ≡ Ok at → AreAlike c m.0 n.0
 matched-alike c w trim n m every at h = go (can_reach (server_at w n.0)) (can_reach (server_at w m.0)) h
@@ -259,33 +198,62 @@ found-within c w n m same (Some x) e h = subst (IsOrderly c w) (same_Some (Attac
 
 -- ---- any operation
 
+module _ (c : Clusters) (w : World) (read : ℕ) (now : Moment) (j : Job) (rest : List Op) (placed : Placed w) (trim : IsTrim c w) (shown : AllShow w j.seen) (all : AllWithin c j.seen) (again : AreDueWithin c j.ops) where
+  abbrev Due : Deed → Type 0
+  Due d = IsDueWithin c d (AreDueWithin c rest)
+
+  saw-within : (n : ServerNo) (s : Status) → seen_in (status w n.0) ≡ Some s → AllWithin c (with_seen j.seen n (position_of s))
+  saw-within n s is = with-one (StoodWithin c) j.seen n (position_of s) all (stood-within c w placed trim n.0 s is)
+
+  learns : (n : ServerNo) (from : Option ServerNo) (s : Status) → seen_in (status w n.0) ≡ Some s → is_moved from s.source ≡ false → Due (deed.Look n from) → AreDueWithin c rest
+  learns n None s seen e due = due
+  learns n (Some m) s seen e due = due ((stood-within c w placed trim n.0 s seen).source m.0 (not-moved m s.source e))
+
+  wait-due : (n : ServerNo) (d : Deed) → IsWaitFor n d → Due d → AreDueWithin c rest
+  wait-due n d (doing.Awaits to) due = due
+  wait-due n d _ due = due
+
+  move-due : (n : ServerNo) (d : Deed) → IsMove n d → Due d → AreDueWithin c rest
+  move-due n d (doing.Crosses x b) due = due
+  move-due n d doing.Stays due = due
+  move-due n d (doing.GoesBySet m) due = due.1
+  move-due n d (doing.GoesByMatch m) due = due.1
+
+  move-within : (n : ServerNo) (d : Deed) → IsMove n d → finds (footing w j.seen) d ≡ true → Due d → (e : Exchange) → attachment_in j d ≡ Some e → IsOrderly c w e
+  move-within n d (doing.Crosses x b) found due e made = crossing-within c w trim j.seen all x n b e found made
+  move-within n d doing.Stays found due e made = same-within c w trim j.seen all n e made
+  move-within n d (doing.GoesBySet m) found due e made =
+      let gtid : w.gtid ≡ true = (and_parts w.gtid ((footing w j.seen).read m.0 && (footing w j.seen).logs m.0) found).0 in auto-within c w trim j.seen all n m e gtid due.0 made
+  move-within n d (doing.GoesByMatch m) found due e made = found-within c w n m due.0 (match_found j.matches n m) e made
+
+  begins-written : (n : ServerNo) (to : Aim) (at : Coord) → until_by (seen_of j.seen n.0) (aim_of j.seen to) ≡ Some at → IsWritten at
+  begins-written n to at until =
+      subst (λ (o : Option Coord). IfSome o IsWritten) until
+      (until-written c w placed trim j.seen shown all (seen_of j.seen n.0) (aim_of j.seen to) (aim-written c w placed trim j.seen shown all to))
+
+  passed-within : AreDueWithin c rest → GoesWithin c w None [] (next j rest)
+  passed-within due = record { orderly = tt; job = record { seen = all; left = due }; read = tt }
+
+  within-by : (d : Deed) (a : Attempt) → Attempts w read now j rest d a → finds (footing w j.seen) d ≡ true → Due d → IsTriedWithin c w a
+  within-by d a (doing.Misses n from k why) found due = read-within c w placed trim read now n
+  within-by d a (doing.Fails x k why) found due = tt
+  within-by d a (doing.Reads n from s seen is) found due =
+      record { orderly = tt; job = record { seen = saw-within n s seen; left = learns n from s seen is due }; read = read-within c w placed trim read now n }
+  within-by d a (doing.Asks n b) found due = record { orderly = (due.0, tt); job = record { seen = all; left = due.1 }; read = tt }
+  within-by d a (doing.Begins n to at until) found due = record { orderly = (begins-written n to at until, tt); job = record { seen = all; left = due }; read = tt }
+  within-by d a (doing.Omits n to none) found due = passed-within due
+  within-by d a (doing.Waits n x s is seen short more) found due = record { orderly = tt; job = record { seen = saw-within n s seen; left = again }; read = tt }
+  within-by d a (doing.Reaches n x s is seen over) found due = record { orderly = tt; job = record { seen = saw-within n s seen; left = wait-due n x is due }; read = tt }
+  within-by d a (doing.Attaches n x e is made of can done) found due =
+      record { orderly = (move-within n x is found due e made, tt); job = record { seen = all; left = move-due n x is due }; read = tt }
+  within-by d a (doing.Passes n x is not-can) found due = passed-within (move-due n x is due)
+  within-by d a (doing.Matches n m every at is) found due = record { orderly = tt; job = record { seen = all; left = due (matched-alike c w trim n m every at is) }; read = tt }
+  within-by d a (doing.Finishes lines) found due = tt
+
 pub deed-within : (c : Clusters) (w : World) (read : ℕ) (now : Moment) (j : Job) (rest : List Op) (d : Deed) → Placed w → IsTrim c w → AllShow w j.seen → AllWithin c j.seen → AreDueWithin c j.ops
     → finds (footing w j.seen) d ≡ true → IsDueWithin c d (AreDueWithin c rest) → IsTriedWithin c w (by_deed w read now j rest d)
-deed-within c w read now j rest (deed.Look n from) placed trim shown all again found due =
-    look-within c w j rest placed trim shown all again n from (observed w read now n) (seen_in (status w n.0)) refl (read-within c w placed trim read now n) due
-deed-within c w read now j rest (deed.Request n a) placed trim shown all again found due = ask-within c w j rest placed trim shown all again n a (desk_answer (server_at w n.0)) due.0 due.1
-deed-within c w read now j rest (deed.Until n to) placed trim shown all again found due =
-    until-within c w j rest placed trim shown all again n (until_by (seen_of j.seen n.0) (aim_of j.seen to))
-    (until-written c w placed trim j.seen shown all (seen_of j.seen n.0) (aim_of j.seen to) (aim-written c w placed trim j.seen shown all to)) due
-deed-within c w read now j rest (deed.Await n to) placed trim shown all again found due =
-    wait-within c w j rest placed trim shown all again n (λ s. is_reached (aim_of j.seen to) s.exec) (seen_in (status w n.0)) refl due
-deed-within c w read now j rest (deed.AwaitSet n m) placed trim shown all again found due =
-    wait-within c w j rest placed trim shown all again n (holds_seen (seen_of j.seen m.0)) (seen_in (status w n.0)) refl due
-deed-within c w read now j rest (deed.Settle n) placed trim shown all again found due =
-    wait-within c w j rest placed trim shown all again n (settles j) (seen_in (status w n.0)) refl due
-deed-within c w read now j rest (deed.Cross d a b) placed trim shown all again found due =
-    attach-within c w j rest placed trim shown all again a (crossed d a (bridge_at (read_by d a b) (seen_of j.seen (read_by d a b).0)))
-    (λ e h. crossing-within c w trim j.seen all d a b e found h) due
-deed-within c w read now j rest (deed.Same n) placed trim shown all again found due =
-    attach-within c w j rest placed trim shown all again n (same_again n (seen_of j.seen n.0)) (same-within c w trim j.seen all n) due
-deed-within c w read now j rest (deed.Auto n m) placed trim shown all again found due =
-    let gtid : w.gtid ≡ true = (and_parts w.gtid ((footing w j.seen).read m.0 && (footing w j.seen).logs m.0) found).0 in
-    attach-within c w j rest placed trim shown all again n (by_set n m (seen_of j.seen m.0)) (λ e h. auto-within c w trim j.seen all n m e gtid due.0 h) due.1
-deed-within c w read now j rest (deed.Match n m every) placed trim shown all again found due =
-    match-within c w j rest placed trim shown all again n m (standing_at (server_at w n.0)) (match_logs w n m every) (matched-alike c w trim n m every) due
-deed-within c w read now j rest (deed.CrossMatch n m) placed trim shown all again found due =
-    attach-within c w j rest placed trim shown all again n (by_match n m (match_found j.matches n m)) (found-within c w n m due.0 (match_found j.matches n m)) due.1
-deed-within c w read now j rest (deed.Finish lines) placed trim shown all again found due = tt
+deed-within c w read now j rest d placed trim shown all again found due =
+    within-by c w read now j rest placed trim shown all again d (by_deed w read now j rest d) (attempts w read now j rest d) found due
 
 -- ---- a turn of a plan's job
 

@@ -15,8 +15,7 @@ ghost use Rattle.tidy_laws.specs.Dumps.{ReadsBack};
 ghost use Rattle.tidy_laws.specs.Runs.{UntilsCanBePrinted};
 ghost use Rattle.tidy_laws.specs.Trim.{IsOrderly, IsTrim};
 
-use dump_laws::dumps_read;
-use dump_openings::{dumped_worlds_lack_flaws, dumped_worlds_open};
+use read_back_laws::{dumped_worlds_lack_flaws, dumped_worlds_open, dumps_read};
 
 /// Each state of each run over a scenario has `IsTidy`, with errant writes or without, whatever rows the row store
 /// hands back.
@@ -33,7 +32,8 @@ pub fn every_state_is_tidy()
 /// The servers of each state without errant writes of each run are those of its scenario, with their settings in its
 /// order and its mode. They have `Safe` and `IsTidy`.
 pub fn quiet_states_are_worlds_of_their_scenario()
-    ensures { InEveryStateOf (λ s now. UntilsCanBePrinted s → IsQuiet now.world → IsWorldOf s now.world) }
+    ensures { InEveryStateOf (λ s now. UntilsCanBePrinted s → IsQuiet now.world
+        → IsWorldOf s now.world) }
 {}
 
 /// In a scenario that was read the coordinates up to which appliers are to go can be printed.
@@ -58,7 +58,8 @@ pub fn dumps_of_runs_read_back()
 /// range, or starts a replica up to a coordinate that can be printed. Or it attaches a server to one of its own
 /// cluster. A world with `Placed` whose servers have `IsTrim` has `IsTidy`.
 pub fn exchanges_in_order_keep_trim()
-    ensures keeps { (c : Clusters) (w : World) (e : Exchange) → IsTrim c w → Allowed w e → IsOrderly c w e →
+    ensures keeps { (c : Clusters) (w : World) (e : Exchange) → IsTrim c w → Allowed w e
+        → IsOrderly c w e →
         IsTrim c (after w e) }
     ensures tidy { (c : Clusters) (w : World) → Placed w → IsTrim c w → IsTidy w }
 {}

@@ -16,7 +16,7 @@ pub use Rattle.command_line.specs.declared.usage.Usage.{Usage}
 pub use Rattle.command_line.specs.declared.usage.Usage.TheVariants as usage
 pub use Rattle.recovery_runs.specs.Commands.declared.line.Line.{Line}
 pub use Rattle.recovery_runs.specs.Commands.declared.turn.CommandTurn.{CommandTurn}
-pub use Rattle.recovery_runs.specs.JobsInFlight.Jobs.{is_open, job_at, most_turns}
+pub use Rattle.recovery_runs.specs.UnendedJobs.Jobs.{is_open, job_at, most_turns}
 pub use Rattle.recovery_runs.specs.KeptRows.Rows.{IsRising, changed, row_in}
 pub use Rattle.recovery_runs.specs.KeptRows.declared.row.Row.{Row}
 pub use Rattle.recovery_runs.proofs.NameOrder.Arranged.{by_name-within}
@@ -40,6 +40,7 @@ pub use Rattle.recovery_runs.specs.RecoveryPlans.Recoveries.{Recovery}
 pub use Rattle.recovery_runs.proofs.Ended.{failure-comes}
 pub use Rattle.recovery_runs.proofs.Failing.{fail-comes}
 pub use Rattle.recovery_runs.proofs.TurningWell.{turn-comes}
+pub use Rattle.recovery_runs.proofs.Booking.{books-comes}
 pub use Rattle.recovery_runs.proofs.Tending.{began-comes, finish-comes, scenarios-comes, still-comes, told-next}
 pub use Rattle.recovery_runs.specs.Finishes.{IsFinish}
 pub use Rattle.recovery_runs.proofs.RunLaws.Aims.{turn-aimed}
@@ -117,5 +118,6 @@ pub use Rattle.recovery_runs.proofs.RunLaws.Moments.{jobs-rise, last-never-sinks
 pub use Rattle.recovery_runs.proofs.RunLaws.Readings.{discoveries-read, jobs-store, openings-give-numbers, polls-read, polls-store, readings-never-sink, restarts-count-on}
 pub use Rattle.recovery_runs.proofs.RunLaws.Waits.{begun-may-wait, jobs-may-wait}
 pub use Rattle.recovery_runs.proofs.RunLaws.Hands.{plans-return}
+pub use Rattle.recovery_runs.proofs.RunLaws.LinesHold.{plans-hold}
 pub use Rattle.top_call.specs.Promises.{Promises}
 pub use Rattle.top_call.specs.Runs.{KeepTime, KeepsTime, LookFirst, LooksFirstIn, StoresReadings}

@@ -2,7 +2,7 @@
 -- and its recoveries begin without overlap and finish well.
 use Rattle.std.proofs.Common.{◌≡◌, ℕ, zero, suc, ◌<◌, Bool, true, false, cond, List, [], ◌∷◌, ◌++◌, length, Option, Some, None, ◌∙◌, refl, sym, ap, subst, take, inl, inr, arith}
 use Rattle.std.specs.Prelude.{All, IfSome, is_some, ◌^◌, ◌≤◌}
-use Rattle.top_call.proofs.Prelude.{turn-comes}
+use Rattle.top_call.proofs.Prelude.{books-comes, turn-comes}
 use Rattle.top_call.proofs.Prelude.{ActAlone, All-append, All-cons, All-nil, All-take, AreSoFar, Asked, AskOfRead, BeginApart, BeginsApart, Comes}
 use Rattle.top_call.proofs.Prelude.{ComesTo, CommandTurn, Docket, Finishes, FinishWell, Follow-whole, FollowAudit, FollowAudit-whole, Goes}
 use Rattle.top_call.proofs.Prelude.{Goes-comes, Held, HostPort, IsActiveAlone, IsAsked, IsClaimRow, IsCommand, IsFinish, IsNumberOf, IsOn, IsOnOwn}
@@ -21,7 +21,7 @@ use Rattle.top_call.proofs.Prelude.{restart-comes, round_of, rounds_of, rounds_w
 use Rattle.top_call.proofs.Prelude.{scenario_in_sound, scenarios-comes, some_ran, spends-last, stages, start, start_changes, still-comes, taker}
 use Rattle.top_call.proofs.Prelude.{taker_is, task_of, told-next, turn-aimed, turn-fates, turns-round, turns_of, waits, without_turns}
 use Rattle.top_call.proofs.Prelude.{KeepTime, KeepsTime, LookFirst, LooksFirstIn, Promises, StoresReadings, active-alike, begun-may-wait}
-use Rattle.top_call.proofs.Prelude.{discoveries-read, held-last, jobs-may-wait, jobs-rise, jobs-store, lapsed-keep-nothing, last-never-sinks, plans-return}
+use Rattle.top_call.proofs.Prelude.{discoveries-read, held-last, jobs-may-wait, jobs-rise, jobs-store, lapsed-keep-nothing, last-never-sinks, plans-hold, plans-return}
 use Rattle.top_call.proofs.Prelude.{looks-before, openings-give-numbers, passes-time, passing-is-restart, past-comes, polls-read, polls-store, restarts-count-on}
 use Rattle.top_call.proofs.Prelude.{readings-never-sink, renewing-alone, taken-nothing}
 use Rattle.top_call.proofs.Prelude.act
@@ -125,6 +125,7 @@ module _ (w : Work) (ts : List Turn) (kept : Option (List Row)) (run : Recorded)
     done = plans-done (length w.scenario.opening.servers) run.state goes.ready;
     failed = fail-comes w.scenario found.xs run.state comes_to;
     turns = turn-comes w.scenario found.xs run.state comes_to;
+    books = books-comes w.scenario found.xs run.state comes_to;
     sound = goes.sound;
     safe = λ q. (goes.sound q).flight.safe;
     matched = λ q. matches-end run.state.world (goes.sound q).flight.safe;
@@ -203,6 +204,7 @@ module _ (w : Work) (ts : List Turn) (kept : Option (List Row)) (run : Recorded)
         wait = may.0;
         waits = may.1;
         hands = plans-return w.scenario found.xs run.state comes_to;
+        holds = plans-hold w.scenario found.xs run.state comes_to;
         begun = begun-may-wait run.state;
       }
 

@@ -8,7 +8,6 @@ pub mod Promises
 pub use Rattle.recovery_runs.specs.AuditLog as AuditLog
 pub mod CommandLine
 pub use Rattle.recovery_runs.specs.Commands as Commands
-pub use Rattle.recovery_runs.specs.JobsInFlight as JobsInFlight
 pub use Rattle.recovery_runs.specs.KeptRows as KeptRows
 pub use Rattle.recovery_runs.specs.NodeClaims as NodeClaims
 pub use Rattle.recovery_runs.specs.OpeningBook as OpeningBook

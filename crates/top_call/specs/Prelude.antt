@@ -10,14 +10,14 @@ pub use Rattle.command_line.specs.declared.parts.Places.{Places}
 pub use Rattle.command_line.specs.declared.usage.Usage.{Usage}
 pub use Rattle.command_line.specs.declared.usage.Usage.TheVariants.{BadWords}
 pub use Rattle.recovery_runs.specs.CommandOutcomes.Outcomes.{entries_put}
-pub use Rattle.recovery_runs.specs.CommandRoutes.Routes.{route_of}
+pub use Rattle.recovery_runs.specs.Commands.Routes.{route_of}
 pub use Rattle.recovery_runs.specs.Commands.declared.cause.Cause.{Cause}
 pub use Rattle.recovery_runs.specs.Commands.declared.line.Line.{Line}
 pub use Rattle.recovery_runs.specs.Commands.declared.refusal.Refusal.{Refusal}
 pub use Rattle.recovery_runs.specs.Commands.declared.turn.CommandTurn.{CommandTurn}
-pub use Rattle.recovery_runs.specs.HookLaws.Tended.{IsEarly}
+pub use Rattle.recovery_runs.specs.UnendedLaws.Tended.{IsEarly}
 pub use Rattle.recovery_runs.specs.InstanceKeeper.Leases.{taken}
-pub use Rattle.recovery_runs.specs.JobsInFlight.Jobs.{job_at}
+pub use Rattle.recovery_runs.specs.UnendedJobs.Jobs.{job_at}
 pub use Rattle.recovery_runs.specs.KeptRows.Rows.{IsRising, row_in}
 pub use Rattle.recovery_runs.specs.KeptRows.declared.row.Row.{Row}
 pub use Rattle.recovery_runs.specs.Knowledge.Knowing.{recovery_job}
@@ -40,6 +40,7 @@ pub use Rattle.recovery_runs.specs.Finishes.{IsFailure, IsFinish, own_lines, pro
 pub use Rattle.recovery_runs.specs.Origins.{Began, ExplainsAlong}
 pub use Rattle.recovery_runs.specs.RunFinishes.{AreScenarios, FailsWell, FinishesWell}
 pub use Rattle.recovery_runs.specs.TurnsWell.{RecoveriesTurnWell}
+pub use Rattle.recovery_runs.specs.Booking.{RecoveriesBookTheirEnd}
 pub use Rattle.recovery_runs.specs.RunLaws.Aims.{IsAimed}
 pub use Rattle.recovery_runs.specs.RunLaws.Answering.{TriesByTable}
 pub use Rattle.recovery_runs.specs.RunLaws.Begins.{BeginApartInTurn}
@@ -85,3 +86,4 @@ pub use Rattle.recovery_runs.specs.RunLaws.Moments.{JobsRise, NothingIsToCome, P
 pub use Rattle.recovery_runs.specs.RunLaws.Readings.{DiscoveriesRead, JobsStore, OpeningsGiveNumbers, PollsRead, PollsStore, ReadingsNeverSink, RestartsCountOn}
 pub use Rattle.recovery_runs.specs.RunLaws.Waits.{BegunMayWait, MayWait}
 pub use Rattle.recovery_runs.specs.RunLaws.Hands.{HoldsNone, Returns}
+pub use Rattle.recovery_runs.specs.RunLaws.LinesHold.{DoneAsTold}

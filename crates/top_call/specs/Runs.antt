@@ -1,7 +1,7 @@
 -- What holds for each run of the turns that a command line takes over the scenario that bytes are, whatever rows the
 -- row store hands back. It holds for the run of a call's report, too.
 use Rattle.std.specs.Prelude.{All, ◌≡◌, ℕ, ◌+◌, ◌^◌, ◌≤◌, Bool, false, List, [], ◌∷◌, ◌++◌, length, map, take, ◌⊎◌, Some}
-use Rattle.top_call.specs.Prelude.{RecoveriesTurnWell}
+use Rattle.top_call.specs.Prelude.{RecoveriesBookTheirEnd, RecoveriesTurnWell}
 use Rattle.top_call.specs.Prelude.{ActsWhereActive, AreScenarios, AuditIs, Began, BeginApartInTurn, BegunJob, Cause, ClaimsWait, CommandTurn, Docket}
 use Rattle.top_call.specs.Prelude.{EntriesHaveJobs, ExplainsAlong, ExplainsTurn, Fact, FailsWell, FinishesWell, FoundMatchesEnd, HeldState, HookState}
 use Rattle.top_call.specs.Prelude.{IsAimed, IsAnswer, IsApart, IsClaimRow, IsEarly, IsExplained, IsFailure, IsFinish, IsOn, IsOnOwn, IsOnTurns}
@@ -12,7 +12,7 @@ use Rattle.top_call.specs.Prelude.{Row, Safe, Scenario, SoundState, SpendsWaitsL
 use Rattle.top_call.specs.Prelude.{claim_key, closed, course_of, engine, entries_begun, entries_put, entry_kept, interrupted_at, job_at, leases_after}
 use Rattle.top_call.specs.Prelude.{moment_at, own_lines, period_of, promoted_then, recoveries_begun, recoveries_scanned, recovery_after, recovery_job}
 use Rattle.top_call.specs.Prelude.{refusal_at, reply_of, route_of, row_in, run_turns, start, step, taken, told_hooks, turns_of, with_entry}
-use Rattle.top_call.specs.Prelude.{ActiveActAlike, BegunMayWait, DiscoveriesRead, HeldLastAMinute, HoldsNone, JobsRise, JobsStore, LapsedKeepNothing, LooksBefore}
+use Rattle.top_call.specs.Prelude.{ActiveActAlike, BegunMayWait, DiscoveriesRead, DoneAsTold, HeldLastAMinute, HoldsNone, JobsRise, JobsStore, LapsedKeepNothing, LooksBefore}
 use Rattle.top_call.specs.Prelude.{MayWait, NothingIsToCome, OpeningsGiveNumbers, PassesTime, PassingRestarts, PollsRead, PollsStore, ReadingsNeverSink, Returns}
 use Rattle.top_call.specs.Prelude.{RenewingClaimsAlone, RestartsCountOn, TakenChangeNothing}
 use Rattle.top_call.specs.Prelude.act
@@ -30,7 +30,8 @@ use Rattle.top_call.specs.Ends.{IsTask}
 -- - A lease names an unended job. A job has the leases of all that it may still change, and its turn leaves every other
 --   server as it is.
 -- - The cause of a plan's job that fails happened in that turn, and one to which nothing happens is done. A recovery
---   fails for what happened, too, and owes nothing in its next turn.
+--   fails for what happened, too, and owes nothing in its next turn. At its end in a master's place its turns leave the
+--   book as the servers are that they read.
 -- - If the state has `IsQuiet`, it has `Sound`, and its servers have `Safe`. If the log of one matches another's, all
 --   that the first has executed is a prefix of what the other has. It ends at that coordinate. So it is for each match
 --   that a job found, as long as its server is at that position.
@@ -46,6 +47,7 @@ pub record IsSafeState (s : State) : Type 0 where
   pub done : PlansAreDone s
   pub failed : RecoveriesFailForWhatBefell s
   pub turns : RecoveriesTurnWell s
+  pub books : RecoveriesBookTheirEnd s
   pub sound : IsQuiet s.world → SoundState s
   pub safe : IsQuiet s.world → Safe s.world
   pub matched : IsQuiet s.world → MatchesEnd s
@@ -246,7 +248,7 @@ LookFirst words bytes = (w : Work) (run : Recorded) (ts : List Turn) (id : ℕ) 
 
 -- Only a tick lets time pass, and no recovery is of a later moment. The numbers of jobs rise. Each operation of each
 -- job may wait as often as the command line allows, from its start on. What a plan has in its hands is started by what
--- is left of it.
+-- is left of it. Once a plan is done, each server that its lines have below another is attached to it, and applies.
 pub record KeepsTime (w : Work) (s : State) : Type 0 where
   pub time : (t : Turn) → PassesTime s t
   pub past : NothingIsToCome s
@@ -255,6 +257,7 @@ pub record KeepsTime (w : Work) (s : State) : Type 0 where
   pub wait : s.configuration.wait ≡ w.task.waits
   pub waits : All (MayWait w.task.waits) s.jobs
   pub hands : All (λ u. Returns u × HoldsNone u) s.jobs
+  pub holds : DoneAsTold s
   pub begun : BegunMayWait s
 
 -- so it is in every state of the run

@@ -35,7 +35,7 @@ pub fn close<E: Sink>(err: &mut E, line: &[u8])
 }
 
 // Does what the command line asks with the scenario, and writes the report.
-fn told<O: Sink, E: Sink, K: Keeper>(
+fn task_ending<O: Sink, E: Sink, K: Keeper>(
     alloc: Global,
     places: &Places,
     scenario: &Scenario,
@@ -89,7 +89,7 @@ fn report<O: Sink, E: Sink, K: Keeper>(
     ensures not_source { result ≡ Way.Source → ⊥ }
     ensures not_usage { result ≡ Way.Usage → ⊥ }
 {
-    match told(alloc, places, scenario, out, err, keeper) {
+    match task_ending(alloc, places, scenario, out, err, keeper) {
         Ending::Written(refused) => Way::Reported(refused),
         Ending::Unwritten => {
             close(err, b"write fault\n");

@@ -21,5 +21,6 @@ pub fn walks_list_their_tree()
 
 /// The forest of a list of sources is computed by following each node's sources for as many steps as there are nodes.
 pub fn forests_are_computed()
-    ensures { (sources forest : List (Option ℕ)) → IsClosed sources → IsForestOf sources forest → forest ≡ forest_of sources }
+    ensures { (sources forest : List (Option ℕ)) → IsClosed sources → IsForestOf sources forest
+        → forest ≡ forest_of sources }
 {}

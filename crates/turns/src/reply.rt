@@ -34,7 +34,7 @@ impl Failure {
     {
         Ok(Failure {
             cause: self.cause.copy(alloc)?,
-            lines: self.lines.copy(alloc)?,
+            lines: self.lines.copy_each(alloc)?,
         })
     }
 }
@@ -174,7 +174,7 @@ impl Reply {
         ensures { IfOk result (λ r. r ≡ self.now) }
     {
         match self {
-            Reply::Told(lines) => Ok(Reply::Told(lines.copy(alloc)?)),
+            Reply::Told(lines) => Ok(Reply::Told(lines.copy_each(alloc)?)),
             Reply::Refused(refusal) => Ok(Reply::Refused(refusal.copy(alloc)?)),
             Reply::Failed(failure) => Ok(Reply::Failed(failure.copy(alloc)?)),
             Reply::Write(_)

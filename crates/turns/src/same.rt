@@ -2,13 +2,11 @@
 
 ghost use Rattle.std.specs.Prelude.{◌≡◌, ◌↔◌, IsTrue};
 
+use crate::orch_base::Same;
 use crate::{Act, BoxedCommand, Step, Turn};
 
-impl BoxedCommand {
-    /// Whether the turns are equal. It takes no memory.
-    pub fn is_same(&self, other: &BoxedCommand) -> bool
-        ensures { IsTrue result ↔ (self.now ≡ other.now) }
-    {
+impl Same for BoxedCommand {
+    fn is_same(&self, other: &BoxedCommand) -> bool {
         self.as_turn().is_same(other.as_turn())
     }
 }
@@ -19,11 +17,8 @@ fn is_same_step(step: Step, other: Step) -> bool
     step == other
 }
 
-impl Act {
-    /// Whether what orchestrator does is equal. It takes no memory.
-    pub fn is_same(&self, other: &Act) -> bool
-        ensures { IsTrue result ↔ (self.now ≡ other.now) }
-    {
+impl Same for Act {
+    fn is_same(&self, other: &Act) -> bool {
         match self {
             Act::PollRead(poller, no) =>
                 matches!(other, Act::PollRead(p, n) if p == poller && n == no),
@@ -36,11 +31,8 @@ impl Act {
     }
 }
 
-impl Turn {
-    /// Whether the turns are equal. It takes no memory.
-    pub fn is_same(&self, other: &Turn) -> bool
-        ensures { IsTrue result ↔ (self.now ≡ other.now) }
-    {
+impl Same for Turn {
+    fn is_same(&self, other: &Turn) -> bool {
         match self {
             Turn::Step(step) => matches!(other, Turn::Step(s) if is_same_step(*step, *s)),
             Turn::Tick(seconds) => matches!(other, Turn::Tick(s) if s == seconds),

@@ -2,7 +2,7 @@
 
 ghost use Rattle.std.specs.Prelude.{◌≡◌, IfOk};
 
-use crate::orch_base::{Memory, ServerNo};
+use crate::orch_base::{Copied, Memory, ServerNo};
 use commands::CommandTurn;
 use server_words::Link;
 use std::alloc::Global;
@@ -130,11 +130,8 @@ impl Act {
     }
 }
 
-impl Turn {
-    /// The same turn once more. `Err` means out of memory.
-    pub fn copy(&self, alloc: Global) -> Result<Turn, Memory>
-        ensures { IfOk result (λ t. t ≡ self.now) }
-    {
+impl Copied for Turn {
+    fn copy(&self, alloc: Global) -> Result<Turn, Memory> {
         Ok(match self {
             Turn::Step(step) => Turn::Step(*step),
             Turn::Tick(seconds) => Turn::Tick(*seconds),

@@ -3,6 +3,9 @@ pub mod Seeing
 pub mod Hooked
 pub mod Looking
 pub mod Going
+pub mod Numbers
+pub mod Turning
+pub mod Rounding
 pub mod RecoveryEnds
 pub mod RecoveryHooks
 pub mod RecoveryPlans

@@ -3,27 +3,21 @@ pub use Rattle.std.proofs.lemmas.Bool.{and_parts}
 pub use Rattle.std.proofs.lemmas.List.Elements.{All-head}
 pub use Rattle.std.proofs.lemmas.Option.{slice_get_within}
 pub use Rattle.std.specs.Option.{option_map}
-pub use Rattle.recovery_plans.specs.BinlogCoords.declared.Coord.{Coord}
-pub use Rattle.recovery_plans.specs.Commands.declared.cause.Cause.TheVariants as cause
 pub use Rattle.recovery_plans.specs.Commands.declared.line.Line.{Line}
 pub use Rattle.hook_texts.specs.declared.hooks.Hook.{Hook}
 pub use Rattle.recovery_plans.specs.InstanceKeeper.Book.{BookState}
-pub use Rattle.recovery_plans.specs.KeptRows.Seeing.{seen_in}
 pub use Rattle.recovery_plans.specs.KeptRows.declared.observation.Observation.{Observation}
 pub use Rattle.recovery_plans.proofs.OperationsProofs.Allowing.{turn-allowed}
 pub use Rattle.recovery_plans.proofs.OperationsProofs.Ending.{turn-moves}
 pub use Rattle.recovery_plans.proofs.OperationsProofs.Named.{id-after, named-after, range-after}
 pub use Rattle.recovery_plans.specs.Operations.Deeds.{Deed, deed_of}
 pub use Rattle.recovery_plans.specs.Operations.Deeds as deed
-pub use Rattle.recovery_plans.specs.Operations.Jobs.{Job, match_found, seen_of}
-pub use Rattle.recovery_plans.specs.Operations.Matching.{match_logs, standing_at}
+pub use Rattle.recovery_plans.specs.Operations.Jobs.{Job}
 pub use Rattle.recovery_plans.specs.Operations.Named.{are_named, is_named}
-pub use Rattle.recovery_plans.specs.Operations.Targets.{can_attach}
-pub use Rattle.recovery_plans.specs.Operations.Turns.{Attempt, Goes, Stops, after_answer, after_ask, after_attach, after_look, after_match, after_status}
-pub use Rattle.recovery_plans.specs.Operations.Turns.{after_until, after_wait, after_wait_by, aim_of, attach_answer_of, bridge_at, by_deed, by_match, by_ops, by_set}
-pub use Rattle.recovery_plans.specs.Operations.Turns.{crossed, holds_seen, is_going, is_moved, is_reached, next, observed, read_by, same_again, saw, settled}
-pub use Rattle.recovery_plans.specs.Operations.Turns.{settles, turned, until_by}
-pub use Rattle.recovery_plans.specs.Operations.declared.matching.MatchFault.{MatchFault}
+pub use Rattle.recovery_plans.specs.Operations.Turns.{Attempt}
+pub use Rattle.recovery_plans.specs.Operations.Turns.{by_deed, by_ops}
+pub use Rattle.recovery_plans.specs.Operations.Turns.{is_going, observed}
+pub use Rattle.recovery_plans.specs.Operations.Turns.{settled, turned}
 pub use Rattle.recovery_plans.specs.Operations.declared.op.Op.{Op}
 pub use Rattle.recovery_plans.specs.Operations.declared.step.JobStep.{JobStep}
 pub use Rattle.recovery_plans.specs.Operations.declared.step.JobStep.TheVariants as step
@@ -47,18 +41,10 @@ pub use Rattle.recovery_turns.specs.Looks.{after_step}
 pub use Rattle.recovery_turns.specs.Looks
 pub use Rattle.recovery_turns.specs.declared.look.RecoveryLook.{RecoveryLook}
 pub use Rattle.recovery_turns.specs.declared.look.Then.{Then}
-pub use Rattle.recovery_plans.specs.ServerModel.Desk.{desk_answer}
-pub use Rattle.recovery_plans.specs.ServerModel.Gtids.{status}
-pub use Rattle.recovery_plans.specs.ServerModel.Run.{AllAllowed, Exchange}
-pub use Rattle.recovery_plans.specs.ServerModel.Worlds.{World, server_at}
-pub use Rattle.recovery_plans.specs.ServerWords.declared.answers.Unreachable.{Unreachable}
-pub use Rattle.recovery_plans.specs.ServerWords.declared.attach.AttachFault.{AttachFault}
-pub use Rattle.recovery_plans.specs.ServerWords.declared.attach.Spot.{Spot}
-pub use Rattle.recovery_plans.specs.ServerWords.declared.changes.Ask.{Ask}
-pub use Rattle.recovery_plans.specs.ServerWords.declared.changes.Ask.TheVariants as asking
-pub use Rattle.recovery_plans.specs.ServerWords.declared.status.Status.{Status}
-pub use Rattle.unended_jobs.specs.Hooked.{CanRun, Hooked, front_hook, front_turn, hooked, left_of, name_of, own_turn, promoted_in, quiet, rear_hook}
-pub use Rattle.unended_jobs.specs.Hooked.{rear_turn, step_before, step_with, told_with, with_hooks, with_hooks_of}
+pub use Rattle.recovery_plans.specs.ServerModel.Run.{AllAllowed}
+pub use Rattle.recovery_plans.specs.ServerModel.Worlds.{World}
+pub use Rattle.unended_jobs.specs.Hooked.{CanRun, Hooked, front_hook, front_turn, hooked, left_of, name_of, own_turn, promoted_in, quiet, rear_hook, rear_turn}
+pub use Rattle.unended_jobs.specs.Hooked.{step_before, step_with, told_with, with_hooks, with_hooks_of}
 pub use Rattle.unended_jobs.specs.Looks.{foretold, hooked_by, observation_of, step_of}
 pub use Rattle.unended_jobs.specs.Unended.{IsReady, IsReadyRecovery, IsUnended, flown, number_of, turns_of}
 pub use Rattle.unended_jobs.specs.declared.docket.Docket.{Docket}
@@ -67,3 +53,5 @@ pub use Rattle.unended_jobs.specs.declared.look.UnendedLook.{UnendedLook}
 pub use Rattle.unended_jobs.specs.declared.look.UnendedLook.TheVariants as look
 pub use Rattle.unended_jobs.specs.declared.unended.Unended.{Unended}
 pub use Rattle.unended_jobs.specs.declared.unended.Unended.TheVariants as unended
+pub use Rattle.recovery_plans.proofs.OperationsProofs.Attempts.{Attempts, attempts}
+pub use Rattle.recovery_plans.proofs.OperationsProofs.Attempts as doing

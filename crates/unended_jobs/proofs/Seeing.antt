@@ -1,16 +1,11 @@
 -- What a turn observes is a status of a server that is there.
-use Rattle.std.proofs.Common.{◌≡◌, ℕ, ◌+◌, ◌<◌, Bool, true, false, List, [], ◌∷◌, length, refl, sym, ◌∙◌, subst, Option, Some, None, Ok, Err, Result, arith}
-use Rattle.std.specs.Prelude.{All, IfSome, nat_lt, if◌then◌else◌}
-use Rattle.unended_jobs.proofs.Prelude.{All-head, Ask, AttachFault, Attempt, BookState, Coord, Deed, Exchange, Goes, IsNamedRecovery, IsOpOf, Job}
-use Rattle.unended_jobs.proofs.Prelude.{MatchFault, Moment, Observation, Op, Recovery, ServerNo, Spot, Status, Stops, Unreachable, World, acted}
-use Rattle.unended_jobs.proofs.Prelude.{after_answer, after_ask, after_attach, after_look, after_match, after_status, after_until, after_wait}
-use Rattle.unended_jobs.proofs.Prelude.{after_wait_by, aim_of, and_parts, are_named, attach_answer_of, attempted-observes, bridge_at, by_deed}
-use Rattle.unended_jobs.proofs.Prelude.{by_match, by_ops, by_set, can_attach, crossed, decided, decided-of, deed_of, desk_answer, ground_of}
-use Rattle.unended_jobs.proofs.Prelude.{holds_seen, is_moved, is_named, is_reached, match_found, match_logs, next, observed, read_by, same_again, saw}
-use Rattle.unended_jobs.proofs.Prelude.{seen_in, seen_of, server_at, settled, settles, spoken_to, standing_at, status, taken, turned, until_by}
-use Rattle.unended_jobs.proofs.Prelude.asking
-use Rattle.unended_jobs.proofs.Prelude.cause
+use Rattle.std.proofs.Common.{◌≡◌, ℕ, ◌<◌, true, List, [], ◌∷◌, length, refl, sym, ◌∙◌, subst, Option, Some, arith}
+use Rattle.std.specs.Prelude.{All, IfSome, nat_lt}
+use Rattle.unended_jobs.proofs.Prelude.{All-head, Attempt, Attempts, BookState, Deed, IsNamedRecovery, IsOpOf, Job, Moment, Observation, Op, Recovery}
+use Rattle.unended_jobs.proofs.Prelude.{ServerNo, World, acted, and_parts, are_named, attempted-observes, attempts, by_deed, by_ops, decided}
+use Rattle.unended_jobs.proofs.Prelude.{decided-of, deed_of, ground_of, is_named, observed, settled, spoken_to, taken, turned}
 use Rattle.unended_jobs.proofs.Prelude.deed
+use Rattle.unended_jobs.proofs.Prelude.doing
 
 abbrev pub IsSightOf : World → ℕ → Moment → Observation → Type 0
 IsSightOf w read now o = (n : ServerNo) × (o ≡ observed w read now n) × (n.0 < length w.servers)
@@ -19,64 +14,14 @@ module _ (w : World) (read : ℕ) (now : Moment) (j : Job) (rest : List Op) wher
   abbrev Sees : Attempt → Type 0
   Sees a = IfSome (settled j a).observation (IsSightOf w read now)
 
-  look-sees : (n : ServerNo) (from : Option ServerNo) → n.0 < length w.servers → (r : Option Status) → Sees (after_look j rest n from (observed w read now n) r)
-  look-sees n from within None = (n, refl, within)
-  look-sees n from within (Some s) = go (is_moved from s.source)
-    where
-      go : (moved : Bool) → Sees (after_status j rest n from (observed w read now n) s moved)
-      go true = (n, refl, within)
-      go false = (n, refl, within)
-
-  ask-sees : (n : ServerNo) (a : Ask) (r : Result (Unit {0}) Unreachable) → Sees (after_ask j rest n a r)
-  ask-sees n a (Ok t) = tt
-  ask-sees n a (Err e) = tt
-
-  until-sees : (n : ServerNo) (o : Option Coord) → Sees (after_until w j rest n o)
-  until-sees n None = tt
-  until-sees n (Some to) = ask-sees n (asking.StartUntil to) (desk_answer (server_at w n.0))
-
-  wait-sees : (n : ServerNo) (reached : Status → Bool) (r : Option Status) → Sees (after_wait j rest n reached r)
-  wait-sees n reached None = tt
-  wait-sees n reached (Some s) = go (reached s)
-    where
-      more : (b : Bool) → Sees (if b then Goes None [] (record (saw j n s) { waited = j.waited + 1 }) else Stops (cause.WaitSpent n) None)
-      more true = tt
-      more false = tt
-
-      go : (b : Bool) → Sees (after_wait_by j rest n s b)
-      go true = tt
-      go false = more (nat_lt (j.waited + 1) j.wait)
-
-  attach-sees : (n : ServerNo) (o : Option Exchange) → Sees (after_attach w j rest n o)
-  attach-sees n None = tt
-  attach-sees n (Some e) = go (can_attach w e)
-    where
-      by_answer : (r : Result (Unit {0}) AttachFault) → Sees (after_answer j rest n e r)
-      by_answer (Ok t) = tt
-      by_answer (Err fault) = tt
-
-      go : (can : Bool) → Sees (if can then after_answer j rest n e (attach_answer_of w e) else Goes None [] (next j rest))
-      go true = by_answer (attach_answer_of w e)
-      go false = tt
-
-  match-sees : (n m : ServerNo) (at : Spot) (r : Result Coord MatchFault) → Sees (after_match j rest n m at r)
-  match-sees n m at (Ok c) = tt
-  match-sees n m at (Err f) = tt
+  sees-by : (d : Deed) (a : Attempt) → Attempts w read now j rest d a → IfSome (spoken_to d) (λ n. n.0 < length w.servers) → Sees a
+  sees-by d a (doing.Misses n from c why) within = (n, refl, within)
+  sees-by d a (doing.Reads n from s seen is) within = (n, refl, within)
+  sees-by d a _ within = tt
 
   -- by the operation that is due, if the server that it speaks with is there
   deed-sees : (d : Deed) → IfSome (spoken_to d) (λ n. n.0 < length w.servers) → Sees (by_deed w read now j rest d)
-  deed-sees (deed.Look n from) within = look-sees n from within (seen_in (status w n.0))
-  deed-sees (deed.Request n a) within = ask-sees n a (desk_answer (server_at w n.0))
-  deed-sees (deed.Until n to) within = until-sees n (until_by (seen_of j.seen n.0) (aim_of j.seen to))
-  deed-sees (deed.Await n to) within = wait-sees n (λ s. is_reached (aim_of j.seen to) s.exec) (seen_in (status w n.0))
-  deed-sees (deed.AwaitSet n m) within = wait-sees n (holds_seen (seen_of j.seen m.0)) (seen_in (status w n.0))
-  deed-sees (deed.Settle n) within = wait-sees n (settles j) (seen_in (status w n.0))
-  deed-sees (deed.Cross c a b) within = attach-sees a (crossed c a (bridge_at (read_by c a b) (seen_of j.seen (read_by c a b).0)))
-  deed-sees (deed.Same n) within = attach-sees n (same_again n (seen_of j.seen n.0))
-  deed-sees (deed.Auto n m) within = attach-sees n (by_set n m (seen_of j.seen m.0))
-  deed-sees (deed.Match n m every) within = match-sees n m (standing_at (server_at w n.0)) (match_logs w n m every)
-  deed-sees (deed.CrossMatch n m) within = attach-sees n (by_match n m (match_found j.matches n m))
-  deed-sees (deed.Finish lines) within = tt
+  deed-sees d within = sees-by d (by_deed w read now j rest d) (attempts w read now j rest d) within
 
 below-by : (m k : ℕ) → nat_lt m k ≡ true → m < k
 below-by m k e = grind arith

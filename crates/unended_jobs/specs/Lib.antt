@@ -2,6 +2,8 @@ pub mod Prelude
 pub mod Hooked
 pub mod Unended
 pub mod Looks
+pub mod Jobs
+pub mod Rounds
 pub use Rattle.recovery_plans.specs.Commands as Commands
 pub mod HookTexts
 pub use Rattle.recovery_plans.specs.InstanceKeeper as InstanceKeeper

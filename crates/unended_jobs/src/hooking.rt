@@ -12,9 +12,8 @@ use crate::operations_items::JobStep;
 use crate::orch_base::{Moment, Name, ServerNo};
 use crate::server_model::World;
 use crate::{Docket, Memory, Place, UnendedLook};
-use recovery_turns::{RecoveryJob, RecoveryLook};
+use recovery_turns::{BoxedLook, RecoveryJob};
 use std::alloc::Global;
-use std::mem::replace;
 
 // The name of a promoted server.
 fn name_of(book: &Book, promoted: Option<ServerNo>) -> Option<&Name>
@@ -25,19 +24,21 @@ fn name_of(book: &Book, promoted: Option<ServerNo>) -> Option<&Name>
 }
 
 // The recovery's own turn, with the lines of its hooks.
-fn told(
+fn with_hook_lines(
     alloc: Global,
     docket: &Docket,
     book: &Book,
-    mut look: RecoveryLook,
-) -> Result<RecoveryLook, Memory>
+    mut look: BoxedLook,
+) -> Result<BoxedLook, Memory>
     ensures turn { IfOk result (λ l. (r : ARecovery) → foretold r l
         ≡ (own_turn docket.now (promoted_in book.now (foretold r look)) (foretold r look)).taken) }
-    ensures can { IfOk result (λ l. (w : AWorld) (r : ARecovery) → CanTake w r look → CanTake w r l) }
+    ensures can { IfOk result (λ l. (w : AWorld) (r : ARecovery) → CanTake w r look
+        → CanTake w r l) }
 {
-    let promoted = name_of(book, look.promoted());
-    let own = replace(&mut look.step, JobStep::Going);
-    look.step = docket.step_with(alloc, own, promoted)?;
+    let promoted = name_of(book, look.as_look().promoted());
+    let own = look.take_step();
+    let step = docket.step_with(alloc, own, promoted)?;
+    look.set_step(step);
     Ok(look)
 }
 
@@ -61,8 +62,8 @@ pub(crate) fn look_with_hooks(
         return Ok(UnendedLook::Hook(step, Place::Before));
     }
     let look = recovery.look(alloc, world, book, read, moment)?;
-    if docket.is_due_behind(&look.step) {
+    if docket.is_due_behind(&look.as_look().step) {
         return Ok(UnendedLook::Hook(JobStep::Going, Place::Behind));
     }
-    Ok(UnendedLook::Recovery(told(alloc, docket, book, look)?))
+    Ok(UnendedLook::Recovery(with_hook_lines(alloc, docket, book, look)?))
 }

@@ -7,7 +7,7 @@ ghost use Rattle.unended_jobs.specs.Looks.{observation_of, step_of};
 use crate::instance_keeper_items::Observation;
 use crate::operations_items::JobStep;
 use job_plans::Look;
-use recovery_turns::RecoveryLook;
+use recovery_turns::BoxedLook;
 
 /// When a hook of a recovery runs.
 #[derive(Clone, Copy, Debug, PartialEq, Eq)]
@@ -24,7 +24,7 @@ pub enum UnendedLook {
     /// By the operation of a plan that is due.
     Plan(Look),
     /// By what a recovery decides.
-    Recovery(RecoveryLook),
+    Recovery(BoxedLook),
     /// By a hook of a recovery, which answers this: it changes no server and reads none.
     Hook(JobStep, Place),
 }
@@ -36,7 +36,7 @@ impl UnendedLook {
     {
         match self {
             UnendedLook::Plan(look) => &look.step,
-            UnendedLook::Recovery(look) => &look.step,
+            UnendedLook::Recovery(look) => &look.as_look().step,
             UnendedLook::Hook(step, _) => step,
         }
     }
@@ -47,7 +47,7 @@ impl UnendedLook {
     {
         match self {
             UnendedLook::Plan(look) => look.observation.as_ref(),
-            UnendedLook::Recovery(look) => look.observation.as_ref(),
+            UnendedLook::Recovery(look) => look.as_look().observation.as_ref(),
             UnendedLook::Hook(_, _) => None,
         }
     }

@@ -2,7 +2,7 @@
 use Rattle.std.proofs.Common.{◌∙◌, ℕ, Bool, List, [], ◌∷◌, ◌++◌, cond, sym, ap, Some}
 use Rattle.std.specs.Prelude.{All}
 use Rattle.unended_laws.proofs.Prelude.{All-push, All-weaker, Docket, Flight, Held-passed, HeldJobs, IsAny, IsHeldBeside, IsLeased, IsLeasedList}
-use Rattle.unended_laws.proofs.Prelude.{IsListed, IsListOf, IsSoundBeside, Job, Leases, MayPass, Means, Purpose, ServerNo, Sound-begun, SoundJobs}
+use Rattle.unended_laws.proofs.Prelude.{IsListed, IsListOf, IsSoundBeside, Job, Leases, MayPass, Means, NamesLogging, Purpose, ServerNo, Sound-begun, SoundJobs}
 use Rattle.unended_laws.proofs.Prelude.{Unended, World, begun-held, begun-leased, begun-sound, begun_recovery, core_of, leased_to, number_of, passed}
 use Rattle.unended_laws.proofs.Prelude.pass
 use Rattle.unended_laws.proofs.Prelude.purpose
@@ -41,10 +41,10 @@ listed-of l list id _ f h = h
 
 -- its replicas are of the list, and in a takeover the master and the replica that is to take its place
 pub recovery-held : (w : World) (l : Leases) (list : List ServerNo) (u : Purpose) (by : Means) (id wait : ℕ) (f : ServerNo) (replicas order : List ServerNo) (docket : Docket)
-    → All (λ n. IsListed list n.0) replicas → IsListOf (IsListed list) IsAny u f
+    → All (λ n. IsListed list n.0) replicas → IsListOf (IsListed list) IsAny u f → NamesLogging w u
     → IsHeldBeside w (leased_to l list id) (unended.Recovery (begun_recovery u by id wait f replicas order) docket)
-recovery-held w l list u by id wait f replicas order docket all also = (
-  begun-held w u by id wait f replicas order,
+recovery-held w l list u by id wait f replicas order docket all also logs = (
+  begun-held w u by id wait f replicas order logs,
   begun-leased (leased_to l list id) u by id wait f replicas order
       (All-weaker (λ (n : ServerNo). IsListed list n.0) (λ (n : ServerNo). IsLeased (leased_to l list id) id n.0) (λ n h. listed-leased l list id n.0 h) replicas all)
       (listed-of l list id u f also),

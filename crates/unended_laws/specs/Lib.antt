@@ -2,3 +2,11 @@ pub mod Prelude
 pub mod Beside
 pub mod Flights
 pub mod Passages
+pub mod CoveredBeside
+pub mod CoveredFlights
+pub mod CoveredPassages
+pub mod Turns
+pub mod There
+pub mod Resting
+pub mod Upkeep
+pub mod Tended

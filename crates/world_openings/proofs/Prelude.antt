@@ -18,7 +18,7 @@ pub use Rattle.openings.proofs.Soundness.{sound_checked}
 pub use Rattle.openings.specs.Listed.{listed_history, transactions}
 pub use Rattle.openings.specs.Logs.{flushed_at, flushed_times, laid, laid_after}
 pub use Rattle.openings.specs.Opening.{IsAlone, IsChecked, IsListed, Opened}
-pub use Rattle.openings.specs.Servers.{count_at, count_of, exec_of, history_at, log_at, log_by, log_in, logged_by, number_of, parts_at, parts_of}
+pub use Rattle.openings.specs.Servers.{count_at, count_of, exec_in, exec_of, history_at, log_at, log_by, log_in, logged_by, number_of, parts_at, parts_of}
 pub use Rattle.openings.specs.Servers.{read_of, root_of, source_of, sources}
 pub use Rattle.openings.specs.Sound.{IsSound, IsUnder}
 pub use Rattle.openings.specs.Taking.{PartsInRange}
@@ -40,5 +40,6 @@ pub use Rattle.server_model.specs.ServerBy.{server_of}
 pub use Rattle.server_model.specs.Standing.{CanStand, IsServer, IsSourceOf, world_with}
 pub use Rattle.server_model.specs.Worlds.{KeepsFrom, World, server_at, source_no}
 pub use Rattle.server_model.specs.declared.server.Server.{Server}
-pub use Rattle.world_openings.specs.Makings.{AreBare, ArePlaced, HaveLogs, IsPlacedIn, bare_server, exec_in, placed_by, read_in}
+pub use Rattle.world_openings.specs.Makings.{AreBare, ArePlaced, HaveLogs, IsPlacedIn, bare_server, placed_by}
+pub use Rattle.openings.specs.Servers.{read_in}
 pub use Rattle.world_openings.specs.Opening.{Fits, opened_from, opened_server, opened_world, source_state}

@@ -1,19 +1,11 @@
 -- How the servers of an opening are made: each with its log first, and then all with their coordinates.
-use Rattle.std.specs.Prelude.{◌≡◌, ℕ, ◌<◌, ◌≤◌, List, length, Some, unwrap_or, slice_get}
-use Rattle.server_words.specs.BinlogCoords.declared.Coord.{Coord}
-use Rattle.server_words.specs.BinlogCoords.Log.{Log, file_start, place, coord_after}
+use Rattle.std.specs.Prelude.{◌≡◌, ℕ, ◌<◌, ◌≤◌, List, length, Some, slice_get}
+use Rattle.server_words.specs.BinlogCoords.Log.{Log, file_start, place}
 use Rattle.openings.specs.declared.init.ServerInit.{ServerInit}
 use Rattle.openings.specs.Opening.{Opened}
-use Rattle.openings.specs.Servers.{log_at, exec_of, read_of}
+use Rattle.openings.specs.Servers.{exec_in, exec_of, log_at, read_in, read_of}
 use Rattle.server_model.specs.declared.server.Server.{Server}
 use Rattle.world_openings.specs.Opening.{opened_server}
-
--- a server's position in its source's log
-abbrev pub exec_in : Log → ServerInit → Coord
-exec_in log i = unwrap_or i.at (coord_after log i.executed)
-
-abbrev pub read_in : Log → ServerInit → Coord
-read_in log i = unwrap_or i.read (exec_in log i)
 
 -- both coordinates have their places
 pub record IsPlacedIn (log : Log) (i : ServerInit) : Type 0 where

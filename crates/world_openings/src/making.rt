@@ -1,9 +1,9 @@
 //! How the servers of an opening are made.
 
 ghost use Rattle.std.specs.Prelude.{◌≡◌, ◌<◌, ◌≤◌, IfOk, Some, length, option_map, slice_get};
-ghost use Rattle.openings.specs.Servers.{exec_of, read_of};
+ghost use Rattle.openings.specs.Servers.{exec_in, exec_of, read_in, read_of};
 ghost use Rattle.world_openings.specs.Opening.{opened_from, source_state, Fits};
-ghost use Rattle.world_openings.specs.Makings.{bare_server, exec_in, read_in, AreBare, ArePlaced, HaveLogs, IsPlacedIn};
+ghost use Rattle.world_openings.specs.Makings.{bare_server, AreBare, ArePlaced, HaveLogs, IsPlacedIn};
 
 use crate::binlog_coords_items::{Coord, LogIndex};
 use crate::orch_base::{Memory, ServerNo, SourceState};
@@ -101,8 +101,10 @@ fn standing_in(init: &ServerInit, log: &LogIndex) -> (Coord, Coord)
 fn standing_of(from: &Opening, no: ServerNo, servers: &[Server]) -> (Coord, Coord)
     requires there { no.0 < length from.now.servers }
     requires logs { HaveLogs from.now.servers servers.now }
-    ensures exec { option_map (λ i. exec_of from.now.servers i) (slice_get from.now.servers no.0) ≡ Some result.0 }
-    ensures read { option_map (λ i. read_of from.now.servers i) (slice_get from.now.servers no.0) ≡ Some result.1 }
+    ensures exec { option_map (λ i. exec_of from.now.servers i) (slice_get from.now.servers no.0)
+        ≡ Some result.0 }
+    ensures read { option_map (λ i. read_of from.now.servers i) (slice_get from.now.servers no.0)
+        ≡ Some result.1 }
 {
     let inits = from.servers();
     let init = &inits[no.0 as usize];
@@ -140,7 +142,8 @@ pub(crate) fn servers_of(
     requires fits { Fits from.now room flushes }
     requires room { room ≤ 4000000 }
     requires flushes { flushes ≤ 4000000 }
-    ensures { IfOk result (λ v. v.items ≡ opened_from from.now.servers room flushes 0 from.now.servers) }
+    ensures { IfOk result (λ v. v.items
+        ≡ opened_from from.now.servers room flushes 0 from.now.servers) }
 {
     let _checked = from.servers();
     let mut servers = bare_servers(alloc, from, room, flushes)?;

@@ -1,13 +1,13 @@
 use Rattle.std.proofs.Common.{◌≡◌, ◌+◌, subst, sym}
 use Rattle.std.proofs.lemmas.Result.{IfOk-weaker}
-use Rattle.asking_commands.specs.Answers.{lines_of, permitted}
+use Rattle.asking_commands.specs.Answers.{allowed, lines_of, permitted}
 use Rattle.book_commands.specs.Decisions.{decided_of}
-use Rattle.command_jobs.specs.Jobs.{job_by, leases_by, refusal_by}
-use Rattle.command_outcomes.specs.Outcomes.{Outcome, begun_by, decision, discovered, next_reading, question}
+use Rattle.command_outcomes.specs.Jobs.{job_by, leases_by, refusal_by}
+use Rattle.command_outcomes.specs.Outcomes.{Outcome, begun_by, decision, discovered, forgotten, next_reading, question, removal_refusal}
 use Rattle.command_outcomes.specs.Ids.{LeavesIds}
 use Rattle.command_outcomes.specs.CommandsBy.{outcome}
 use Rattle.command_outcomes.specs.declared.command.Outcome.{Outcome as Inside}
-use Rattle.command_outcomes.proofs.Outcomes.{asked-leaves, begun-leaves, decided-leaves, discovered-leaves}
+use Rattle.command_outcomes.proofs.Outcomes.{asked-leaves, begun-leaves, decided-leaves, discovered-leaves, forgotten-leaves}
 use Rattle.command_outcomes.proofs.command.outcome_of.Goals as goal
 
 pub returns-in-Decides-default-clause-ids : goal.returns-in-Decides-default-clause-ids
@@ -48,3 +48,12 @@ returns-in-Begins-default-clause-ids c =
     let p = c.in-Begins-default.planner in
     IfOk-weaker c.begin_by.result (λ (out : Inside). outcome out ≡ begun_by w b n given p) (λ (out : Inside). LeavesIds out.book)
     (λ out same. subst (λ (x : Outcome). LeavesIds x.book) (sym same) (begun-leaves n (refusal_by w b n.moment n.every given p) (leases_by w b given p) (job_by w b given p (n.last_job + 1) n.wait n.every))) c.begin_by.ensures
+
+pub returns-in-Forgets-Some-clause-ids : goal.returns-in-Forgets-Some-clause-ids
+returns-in-Forgets-Some-clause-ids c =
+    let b = c.args.book.now in
+    let n = c.args.numbers in
+    let given = c.args.t.now.command in
+    let no = c.in-Forgets-Some.no in
+    IfOk-weaker c.forget.result (λ (out : Inside). outcome out ≡ forgotten n.reads (allowed (removal_refusal b given)) no) (λ (out : Inside). LeavesIds out.book)
+    (λ out same. subst (λ (o : Outcome). LeavesIds o.book) (sym same) (forgotten-leaves n.reads (allowed (removal_refusal b given)) no)) c.forget.ensures

@@ -7,6 +7,7 @@ use Rattle.command_outcomes.specs.RecoveryPlans.declared.purpose.Purpose.{Purpos
 use Rattle.command_outcomes.proofs.UnendedJobs.Looking.{recovery_after}
 use Rattle.command_outcomes.specs.UnendedJobs.Looks.{step_of}
 use Rattle.command_outcomes.specs.UnendedJobs.declared.look.UnendedLook.{UnendedLook}
+use Rattle.command_outcomes.specs.UnendedJobs.declared.look.UnendedLook.TheVariants as look
 use Rattle.knowledge.specs.declared.closing.Closing.{Closing}
 use Rattle.knowledge.proofs.Closings.{closing-same, closing-told, closing_as}
 use Rattle.knowledge.proofs.closing.closing_of.Goals as goal
@@ -23,7 +24,9 @@ returns-in_err-outcome c =
     elim c.match-look.branch [
       | in-Recovery-look w ↦
           subst (λ (l : UnendedLook). (lines : List Line) → step_of l ≡ step.Done lines → p ≡ (recovery_after r l).outcome.promoted) (sym w.in-Recovery-look.is)
-          (λ lines h. w.promoted-is ∙ w.promoted-promoted.ensures r lines h)
+          (λ lines h.
+          let same : look.Recovery w.as_look.result.now ≡ look.Recovery w.in-Recovery-look.look = ap look.Recovery w.as_look.ensures in
+          w.promoted-is ∙ w.promoted-promoted.ensures r lines (ap step_of same ∙ h) ∙ ap (λ (l : UnendedLook). (recovery_after r l).outcome.promoted) same)
       | in-Plan w ↦
           elim w.in-Plan.is [
             | inl v ↦
@@ -50,7 +53,9 @@ returns c =
     elim c.match-look.branch [
       | in-Recovery-look w ↦
           subst (λ (l : UnendedLook). (lines : List Line) → step_of l ≡ step.Done lines → p ≡ (recovery_after r l).outcome.promoted) (sym w.in-Recovery-look.is)
-          (λ lines h. w.promoted-is ∙ w.promoted-promoted.ensures r lines h)
+          (λ lines h.
+          let same : look.Recovery w.as_look.result.now ≡ look.Recovery w.in-Recovery-look.look = ap look.Recovery w.as_look.ensures in
+          w.promoted-is ∙ w.promoted-promoted.ensures r lines (ap step_of same ∙ h) ∙ ap (λ (l : UnendedLook). (recovery_after r l).outcome.promoted) same)
       | in-Plan w ↦
           elim w.in-Plan.is [
             | inl v ↦

@@ -9,8 +9,8 @@ use Rattle.leaf_tests.proofs.audit.loaded.Goals as goal
 abbrev IsInRange : ℕ → Recovery → Type 0
 IsInRange next r = (1 ≤ r.id) × (r.id < next) × (r.block ≤ longest_block)
 
-pub make-requires : goal.make-requires
-make-requires c =
+pub make-audit-requires : goal.make-audit-requires
+make-audit-requires c =
     let rows = c.in_ok-rows.rows.items in
     let list = c.in_ok-list.ensures ∙ ap (recoveries_in (λ cluster. c.args.period)) c.deref.ensures.value in
     let rising = subst IsRising (sym c.in_ok-rows.ensures) (c.last_row_stands.ensures.rising c.args.rows.items) in

@@ -31,9 +31,15 @@ returns-clause-kin c =
     (sym c.if-not-agrees_throughout.false ∙ c.agrees_throughout.ensures) (sym c.if-not-are_counted.false ∙ c.are_counted.ensures)
 
 pub returns-clause-table : goal.returns-clause-table
-returns-clause-table c = λ _.
+returns-clause-table c = λ _ _.
     let is : c.as_slice-listed.result.now ≡ listed_history (parts_of c.args.init.now) = c.as_slice-listed.ensures.value ∙ c.in_ok-history.ensures ∙ ap listed_history c.parts_of.ensures in
     let agrees : agrees_throughout c.args.rows.now (listed_history (parts_of c.args.init.now)) ≡ true = ap (agrees_throughout c.args.rows.now) (sym is) ∙ sym c.agrees_throughout.ensures ∙ c.if-not-agrees_throughout.false in
     let next = c.in_ok-add_links.ensures ∙ ap (λ ts. with_links c.args.rows.now (links ts)) is in
     subst (λ (rows : List (List Link)). IsTable c.args.servers.now (c.args.n + 1) rows) (sym next)
     (table-after c.args.servers.now c.args.n c.args.rows.now c.args.init.now c.requires.at c.requires.root (c.requires.parts.each c.args.n c.args.init.now c.requires.at) c.requires.table agrees)
+
+pub returns-then-not-more-clause-kin : goal.returns-then-not-more-clause-kin
+returns-then-not-more-clause-kin c =
+    let is : c.as_slice-listed.result.now ≡ listed_history (parts_of c.args.init.now) = c.as_slice-listed.ensures.value ∙ c.in_ok-history.ensures ∙ ap listed_history c.parts_of.ensures in
+    told-kin c.args.servers.now c.args.n c.args.rows.now c.args.own.now c.args.init.now c.as_slice-listed.result.now true true is (c.requires.parts.each c.args.n c.args.init.now c.requires.at) c.requires.table c.requires.own
+    (sym c.if-not-agrees_throughout.false ∙ c.agrees_throughout.ensures) (sym c.if-not-are_counted.false ∙ c.are_counted.ensures)

@@ -18,7 +18,7 @@ pub returns-clause-untold : goal.returns-clause-untold
 returns-clause-untold c = begun-explained
 
 pub returns-clause-nobody : goal.returns-clause-nobody
-returns-clause-nobody c = λ w b now r speaks none. finds-nobody w b now r speaks.way none
+returns-clause-nobody c = λ w b now r speaks none. finds-nobody w b now r speaks.way speaks.knows none
 
 pub returns-clause-fit : goal.returns-clause-fit
 returns-clause-fit c = λ w b read now r speaks lines done. done-fit w b read now r speaks.way lines done

@@ -1,5 +1,6 @@
 use Rattle.recovery_reasons.proofs.Answering.{turn-answered}
 use Rattle.recovery_reasons.proofs.Attaching.{turn-attaches}
+use Rattle.recovery_reasons.proofs.Changing.{turn-its}
 use Rattle.recovery_reasons.proofs.Undoing.{fails-opening, fails-starting, turn-hands}
 use Rattle.recovery_reasons.proofs.Waiting.{turn-waits}
 use Rattle.recovery_reasons.proofs.Whole.{turn-begins}
@@ -7,6 +8,9 @@ use Rattle.recovery_reasons.proofs.turning.recoveries_turn_well.Goals as goal
 
 pub returns-clause-attaches : goal.returns-clause-attaches
 returns-clause-attaches c = λ w b read now r P rings held speaks why x going. turn-attaches w b read now r P rings held speaks why x.sent going
+
+pub returns-clause-changes : goal.returns-clause-changes
+returns-clause-changes c = λ w b read now r speaks. turn-its w b read now r speaks.changes
 
 pub returns-clause-answered : goal.returns-clause-answered
 returns-clause-answered c = λ w b read now r n y o rings held speaks at due. turn-answered w b read now r rings held speaks n y o at due

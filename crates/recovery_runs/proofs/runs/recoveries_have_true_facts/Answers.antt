@@ -1,3 +1,4 @@
+use Rattle.recovery_runs.proofs.Booking.{books-comes}
 use Rattle.recovery_runs.proofs.Failing.{fail-comes}
 use Rattle.recovery_runs.proofs.Tending.{told-comes, told-next}
 use Rattle.recovery_runs.proofs.TurningWell.{turn-comes}
@@ -14,3 +15,6 @@ returns-clause-failed c = λ s xs now comes. fail-comes s xs now comes
 
 pub returns-clause-turns : goal.returns-clause-turns
 returns-clause-turns c = λ s xs now comes. turn-comes s xs now comes
+
+pub returns-clause-books : goal.returns-clause-books
+returns-clause-books c = λ s xs now comes. books-comes s xs now comes

@@ -1,4 +1,5 @@
 use Rattle.run_laws.proofs.Hands.{plans-return}
+use Rattle.run_laws.proofs.LinesHold.{plans-hold}
 use Rattle.run_laws.proofs.Waits.{begun-may-wait, jobs-may-wait}
 use Rattle.run_laws.proofs.knowing.jobs_wait_as_told.Goals as goal
 
@@ -10,3 +11,6 @@ returns-clause-always c = jobs-may-wait
 
 pub returns-clause-returns : goal.returns-clause-returns
 returns-clause-returns c = plans-return
+
+pub returns-clause-holds : goal.returns-clause-holds
+returns-clause-holds c = plans-hold

@@ -21,11 +21,11 @@ returns c =
     (First _ _ _ _ _ _ (c.in_ok-print_texts-2.ensures ∙ ap (λ v. c.extend_from_slice-3.new.self.items ++ compact_text (list_data string v)) c.as_slice-4.ensures)
     (First _ _ _ _ _ _ (c.in_ok-print_flag.ensures ∙ ap (λ b. c.print_texts-2.new.out.items ++ (codes "},\"gtid\":" ++ flag_text b)) c.gtid.ensures)
     (First _ _ _ _ _ _ c.in_ok-extend_from_slice-4.ensures.items
-    (First _ _ _ _ _ _ (c.in_ok-print_hooks.ensures ∙ ap (λ v. c.extend_from_slice-4.new.self.items ++ compact_text (list_data hook_data v)) c.as_slice-5.ensures)
+    (First _ _ _ _ _ _ (c.in_ok-print_hooks.ensures ∙ ap (λ v. c.extend_from_slice-4.new.self.items ++ compact_text (list_data hook_data v)) (c.as_slice-5.ensures ∙ ap (λ h. h.post_failover) c.all-hooks.ensures))
     (First _ _ _ _ _ _ c.in_ok-extend_from_slice-5.ensures.items
-    (First _ _ _ _ _ _ (c.in_ok-print_hooks-2.ensures ∙ ap (λ v. c.extend_from_slice-5.new.self.items ++ compact_text (list_data hook_data v)) c.as_slice-6.ensures)
+    (First _ _ _ _ _ _ (c.in_ok-print_hooks-2.ensures ∙ ap (λ v. c.extend_from_slice-5.new.self.items ++ compact_text (list_data hook_data v)) (c.as_slice-6.ensures ∙ ap (λ h. h.post_unsuccessful) c.all-hooks.ensures))
     (First _ _ _ _ _ _ c.in_ok-extend_from_slice-6.ensures.items
-    (First _ _ _ _ _ _ (c.in_ok-print_hooks-3.ensures ∙ ap (λ v. c.extend_from_slice-6.new.self.items ++ compact_text (list_data hook_data v)) c.as_slice-7.ensures)
+    (First _ _ _ _ _ _ (c.in_ok-print_hooks-3.ensures ∙ ap (λ v. c.extend_from_slice-6.new.self.items ++ compact_text (list_data hook_data v)) (c.as_slice-7.ensures ∙ ap (λ h. h.pre_failover) c.all-hooks.ensures))
     (First _ _ _ _ _ _ (number_as _ c.print_hooks-3.new.out.items (codes "},\"nodes\":") _ _ c.in_ok-print_number-2.ensures c.from.ensures)
     (First _ _ _ _ _ _ c.in_ok-print_number-3.ensures
     (First _ _ _ _ _ _ c.in_ok-print_number-4.ensures

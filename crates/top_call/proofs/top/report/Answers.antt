@@ -5,11 +5,11 @@ use Rattle.top_call.proofs.top.report.Goals as goal
 
 pub returns-in-Unwritten-clause-ends : goal.returns-in-Unwritten-clause-ends
 returns-in-Unwritten-clause-ends g c = λ words bytes t r.
-    failing words bytes c.args.places.now c.args.scenario.now _ _ _ _ (taken (g.E.Sink.written c.told.new.err) (g.E.Sink.faults c.told.new.err)) _ t c.requires.asks r c.in-Unwritten.ensures.tells c.in-Unwritten.ensures.later c.close.ensures.took
+    failing words bytes c.args.places.now c.args.scenario.now _ _ _ _ (taken (g.E.Sink.written c.task_ending.new.err) (g.E.Sink.faults c.task_ending.new.err)) _ t c.requires.asks r c.in-Unwritten.ensures.tells c.in-Unwritten.ensures.later c.close.ensures.took
 
 pub returns-in-Memory-clause-ends : goal.returns-in-Memory-clause-ends
 returns-in-Memory-clause-ends g c = λ words bytes t r.
-    wanting words bytes c.args.places.now c.args.scenario.now _ _ _ _ (taken (g.E.Sink.written c.told.new.err) (g.E.Sink.faults c.told.new.err)) _ t c.requires.asks r c.in-Memory.ensures.tells c.in-Memory.ensures.later c.close-in-Memory.ensures.took
+    wanting words bytes c.args.places.now c.args.scenario.now _ _ _ _ (taken (g.E.Sink.written c.task_ending.new.err) (g.E.Sink.faults c.task_ending.new.err)) _ t c.requires.asks r c.in-Memory.ensures.tells c.in-Memory.ensures.later c.close-in-Memory.ensures.took
 
 pub returns-in-Written-clause-keeper : goal.returns-in-Written-clause-keeper
 returns-in-Written-clause-keeper g c = counted _ _ (ends.Written c.in-Written.refused) c.in-Written.ensures.cause

@@ -10,7 +10,7 @@ returns-in-Some c =
     let within : c.in-Some.index < length v.items = rw same c.in-Some.ensures.0 in
     let has : (get_or v.items c.in-Some.index c.index.result.now).id ≡ c.args.id = rw same (c.in-Some.ensures.1 c.index.result.now) in
     ap Some c.index.ensures
-    ∙ sym (found-at c.args.id v.items c.in-Some.index c.index.result.now c.self.invariant.rising within has)
+    ∙ sym (found-at c.args.id v.items c.in-Some.index c.index.result.now c.self.invariant.audit.rising within has)
     ∙ ap (λ (s : AuditRoom). recovery_at s.audit c.args.id) c.self.view_is
 
 pub returns-in-None : goal.returns-in-None

@@ -2,7 +2,8 @@ use Rattle.std.proofs.Common.{rules, tests, ◌∙◌}
 use Rattle.std.proofs.lemmas.Iterator.{YieldsList-from_slice}
 use Rattle.std.proofs.lemmas.Iterator.Search.{find_from_yields_List}
 use Rattle.std.specs.Str.{bytes_eq}
-use Rattle.commands.specs.Names.{name_of, names, word_of}
+use Rattle.commands.specs.Names.{name_of, word_of}
+use Rattle.commands.specs.Table.{names}
 use Rattle.commands.proofs.name.CommandName.read.Goals as goal
 
 pub returns : goal.returns

@@ -14,8 +14,8 @@ empty_between-requires-clause-within c =
     let within = (placed c.args.next c.servers.result c.args.row c.in-Some.no at).within in
     omega (arith, within, c.servers.ensures.count)
 
-pub put-requires : goal.put-requires
-put-requires c =
+pub put_in_place-requires : goal.put_in_place-requires
+put_in_place-requires c =
     let at : place_from c.args.next c.servers.result c.args.row ≡ Some c.in-Some.no = sym c.place_from.ensures ∙ c.in-Some.is in
     ap (λ (n : ℕ). row_fits n c.args.row) (ap length c.empty_between.ensures.names ∙ sym c.servers.ensures.count) ∙ (placed c.args.next c.servers.result c.args.row c.in-Some.no at).taken
 
@@ -23,7 +23,7 @@ pub returns-in-Some-clause-within : goal.returns-in-Some-clause-within
 returns-in-Some-clause-within c =
     let at : place_from c.args.next c.servers.result c.args.row ≡ Some c.in-Some.no = sym c.place_from.ensures ∙ c.in-Some.is in
     let within = (placed c.args.next c.servers.result c.args.row c.in-Some.no at).within in
-    let names = ap length c.put.ensures.names ∙ (ap length c.empty_between.ensures.names ∙ sym c.servers.ensures.count) in
+    let names = ap length c.put_in_place.ensures.names ∙ (ap length c.empty_between.ensures.names ∙ sym c.servers.ensures.count) in
     omega (arith, within, names)
 
 pub returns-in-Some-clause-after : goal.returns-in-Some-clause-after
@@ -32,8 +32,8 @@ returns-in-Some-clause-after c =
     let emptied = c.empty_between.new.self in
     let at : place_from c.args.next c.servers.result c.args.row ≡ Some no = sym c.place_from.ensures ∙ c.in-Some.is in
     let len : length emptied.names ≡ c.servers.result = ap length c.empty_between.ensures.names ∙ sym c.servers.ensures.count in
-    ap (λ (k : ℕ). first_set k c.put.new.self) (add-one no)
-    ∙ (ap (first_set (suc no)) c.put.ensures.after
+    ap (λ (k : ℕ). first_set k c.put_in_place.new.self) (add-one no)
+    ∙ (ap (first_set (suc no)) c.put_in_place.ensures.after
     ∙ ((placed c.args.next c.servers.result c.args.row no at).set emptied len
     ∙ ap (λ (b : BookState). after_row b c.args.row) c.empty_between.ensures.after))
 

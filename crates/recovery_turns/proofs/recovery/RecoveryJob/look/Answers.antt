@@ -1,5 +1,5 @@
-use Rattle.std.proofs.Common.{ap, sym, refl, ◌∙◌, length}
-use Rattle.recovery_turns.proofs.Prelude.{decided, decided_on, ground_of, settled}
+use Rattle.std.proofs.Common.{ap, sym, subst, refl, ◌∙◌, length}
+use Rattle.recovery_turns.proofs.Prelude.{Fits, RecoveryLook, decided, decided_on, ground_of, settled}
 use Rattle.recovery_turns.proofs.Turned.{can-take, decided-named, same-named}
 use Rattle.recovery_turns.proofs.recovery.RecoveryJob.look.Goals as goal
 
@@ -19,6 +19,7 @@ pub returns-then-fits-clause-can : goal.returns-then-fits-clause-can
 returns-then-fits-clause-can c =
     let w = c.args.world.now in
     let b = c.args.book.now in
+    let fits = subst (λ (l : RecoveryLook). Fits c.args.self.now l.decided) c.as_look.ensures (c.fits.ensures c.if-fits.true) in
     can-take w b c.args.read c.args.moment c.args.self.now c.in_ok-look.look
     (c.in_ok-look.ensures.turn ∙ ap (settled w c.args.read c.args.moment) (c.in_ok-decide.ensures ∙ ap (decided (ground_of w b c.args.moment)) c.undecided-decided.ensures.value))
-    c.requires.named c.in_ok-look.ensures.spare (c.fits.ensures c.if-fits.true) c.in_ok-look.ensures.ends
+    c.requires.named c.in_ok-look.ensures.spare fits c.in_ok-look.ensures.ends

@@ -1,0 +1,25 @@
+-- The lines of recoveries.
+use Rattle.std.specs.Prelude.{List, map}
+use Rattle.instance_keeper.specs.KeptRows.declared.recovery.Recovery.{Recovery}
+use Rattle.commands.specs.declared.line.Line.{Line}
+use Rattle.commands.specs.declared.line.Line.TheVariants as line
+use Rattle.commands.specs.declared.line.RecoveryLine.{RecoveryLine}
+
+abbrev pub line_of : Recovery → RecoveryLine
+line_of r = record {
+  id = r.id;
+  cluster = r.cluster;
+  kind = r.kind;
+  failed = r.failed;
+  begun = r.begun;
+  ended = r.ended;
+  outcome = r.outcome;
+  acked = r.acked;
+}
+
+abbrev pub recovery_line : Recovery → Line
+recovery_line r = line.Recovery (line_of r)
+
+-- a line for each recovery, in their order
+abbrev pub recovery_lines : List Recovery → List Line
+recovery_lines recoveries = map recovery_line recoveries

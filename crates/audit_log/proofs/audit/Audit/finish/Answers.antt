@@ -1,0 +1,44 @@
+use Rattle.std.proofs.Common.{◌≡◌, ◌<◌, length, get_or, set, ◌-◌, vec_capacity, vec_len, sym, ◌∙◌, ap, subst}
+use Rattle.audit_log.specs.Audits.{AuditRoom, finished, finished_so}
+use Rattle.audit_log.proofs.Changes.{none-changed, one-changed}
+use Rattle.audit_log.proofs.Changing.{finished-is}
+use Rattle.std.specs.Prelude.{IsSomeAnd, true}
+use Rattle.kept_rows.specs.declared.recovery.Recovery.{Recovery}
+use Rattle.audit_log.specs.Audits.{is_unended, recovery_at}
+use Rattle.audit_log.proofs.Changing.{finished-block, finished-id, finished-stays, found-set, unended-there}
+use Rattle.audit_log.proofs.audit.Audit.finish.Goals as goal
+
+pub returns-in-Some : goal.returns-in-Some
+returns-in-Some c =
+    let v = c.self.inside.recoveries in
+    let f = finished_so c.args.at c.args.outcome c.args.acked in
+    let same = ap (λ (s : AuditRoom). s.audit.recoveries) c.self.view_is in
+    let within : c.in-Some.index < length v.items = rw same c.in-Some.ensures.0 in
+    let is = c.in-Some.ensures.1 c.index_mut.result.now in
+    let has : (get_or v.items c.in-Some.index c.index_mut.result.now).id ≡ c.args.id = rw same is in
+    let changed = ap (set v.items c.in-Some.index) (c.finish_so.ensures ∙ ap f c.index_mut.ensures.value) ∙ one-changed c.args.id f v.items c.in-Some.index c.index_mut.result.now c.self.invariant.audit.rising within has in
+    (λ i. record { audit = record { recoveries = changed i; next = c.self.inside.next }; spare = vec_capacity v - vec_len v })
+    ∙ (λ i. record { audit = finished-is (record { recoveries = v.items; next = c.self.inside.next }) c.args.id c.args.at c.args.outcome c.args.acked i; spare = vec_capacity v - vec_len v })
+    ∙ ap (λ (s : AuditRoom). record { audit = finished s.audit c.args.id c.args.at c.args.outcome c.args.acked; spare = s.spare }) c.self.view_is
+
+pub returns-in_default : goal.returns-in_default
+returns-in_default c =
+    let now = c.args.self.now in
+    (λ i. record {
+      audit = record { recoveries = sym (none-changed c.args.id (finished_so c.args.at c.args.outcome c.args.acked) now.audit.recoveries c.in_default.ensures) i; next = now.audit.next };
+      spare = now.spare;
+    }) ∙ (λ i. record { audit = finished-is now.audit c.args.id c.args.at c.args.outcome c.args.acked i; spare = now.spare })
+
+pub invariant_of-self : goal.invariant_of-self
+invariant_of-self c =
+    let v = c.self.inside.recoveries in
+    let x = c.index_mut.result.now in
+    let same = ap (λ (s : AuditRoom). s.audit.recoveries) c.self.view_is in
+    let within : c.in-Some.index < length v.items = rw same c.in-Some.ensures.0 in
+    let is = c.in-Some.ensures.1 x in
+    let has : (get_or v.items c.in-Some.index x).id ≡ c.args.id = rw same is in
+    let there = subst (λ (s : AuditRoom). IsSomeAnd (recovery_at s.audit c.args.id) (λ (r : Recovery). is_unended r ≡ true)) (sym c.self.view_is) c.requires in
+    let open-now = unended-there c.args.id v.items c.in-Some.index x c.self.invariant.audit.rising within c.index_mut.ensures.value has there in
+    found-set c.args.id (finished_so c.args.at c.args.outcome c.args.acked) (finished-id c.args.at c.args.outcome c.args.acked) (finished-block c.args.at c.args.outcome c.args.acked)
+    (record { recoveries = v.items; next = c.self.inside.next }) c.in-Some.index x c.finish_so.new.recovery c.self.inside.index c.self.invariant within c.index_mut.ensures.value has
+    c.finish_so.ensures (finished-stays c.args.at c.args.outcome c.args.acked x open-now)

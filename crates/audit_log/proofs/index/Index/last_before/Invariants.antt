@@ -1,0 +1,13 @@
+use Rattle.std.proofs.Common.{◌≤◌}
+use Rattle.std.specs.List.{AllWithin}
+use Rattle.audit_log.specs.Index.{DoneOf}
+use Rattle.audit_log.proofs.index.Index.last_before.Given as goal
+
+abbrev pub invariant-loop-at : goal.invariant-loop-at
+invariant-loop-at l = record {
+  within : l.at ≤ l.end;
+  done : AllWithin (DoneOf l.cluster) l.recoveries l.at l.end;
+}
+
+abbrev pub decreases-loop-at : goal.decreases-loop-at
+decreases-loop-at l = l.at

@@ -1,0 +1,10 @@
+use Rattle.std.proofs.Common.{◌≡◌, ◌<◌, ◌^◌, take}
+use Rattle.std.specs.Prelude.{fold}
+use Rattle.audit_log.specs.Index.{mixed}
+use Rattle.audit_log.proofs.index.bucket.Given as goal
+
+abbrev pub invariant-label : goal.invariant-label
+invariant-label l = record {
+  number : l.number ≡ fold mixed 0 (take l.byte-index l.label);
+  low : l.number < 2 ^ 32;
+}

@@ -1,0 +1,7 @@
+use Rattle.std.proofs.Common.{refl}
+use Rattle.audit_log.specs.Index.{mixed}
+use Rattle.audit_log.proofs.index.mixed.Goals as goal
+
+pub returns-clause-value : goal.returns-clause-value
+unfolding mixed
+returns-clause-value c = refl

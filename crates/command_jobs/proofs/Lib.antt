@@ -1,3 +1,0 @@
-mod Prelude
-pub mod Planned
-pub mod Begun

@@ -1,5 +1,0 @@
-use Rattle.dump_laws.proofs.Dumps.{dump-reads}
-use Rattle.dump_laws.proofs.dumps_read.Goals as goal
-
-pub returns : goal.returns
-returns c = dump-reads c.printed_reads.ensures.printed c.dumps_read_as_json.ensures.read c.dumps_read_as_json.ensures.utf8

@@ -1,5 +1,0 @@
-use Rattle.dump_openings.proofs.Worlds.{world-opened}
-use Rattle.dump_openings.proofs.dumped_worlds_open.Goals as goal
-
-pub returns : goal.returns
-returns c = λ s w room flushes of. world-opened w of.safe of.tidy room flushes of.quiet

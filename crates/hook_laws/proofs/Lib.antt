@@ -1,4 +1,0 @@
-mod Prelude
-pub mod Checking
-pub mod Telling
-pub mod Staying

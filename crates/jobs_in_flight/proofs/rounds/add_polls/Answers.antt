@@ -1,9 +1,0 @@
-use Rattle.std.proofs.Common.{refl}
-use Rattle.jobs_in_flight.specs.Rounds.{polls}
-use Rattle.jobs_in_flight.proofs.Rounding.{two-more}
-use Rattle.jobs_in_flight.proofs.rounds.add_polls.Goals as goal
-
-pub loop-no-preserved : goal.loop-no-preserved
-loop-no-preserved c =
-    two-more polls c.args.turns.now.items c.loop-no.turns.items c.push.new.self.items c.push-in-loop-no.new.self.items c.args.servers.now c.loop-no.no-index _ _ _ c.loop-no-test.true refl
-    c.loop-no.invariant c.in_ok-push.ensures.items c.in_ok-push-2.ensures.items

@@ -1,7 +1,0 @@
-use Rattle.std.proofs.Common.{◌≡◌, ◌++◌, take}
-use Rattle.std.specs.List.{flat_map}
-use Rattle.jobs_in_flight.specs.Rounds.{polls}
-use Rattle.jobs_in_flight.proofs.rounds.add_polls.Given as goal
-
-abbrev pub invariant-loop-no : goal.invariant-loop-no
-invariant-loop-no l = l.turns.items ≡ l.fn.turns.items ++ flat_map polls (take l.no-index l.servers)

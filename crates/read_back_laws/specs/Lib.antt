@@ -1,0 +1,4 @@
+pub mod Prelude
+pub mod Drawn
+pub mod Whole
+pub mod Reading

@@ -1,4 +1,0 @@
-mod Prelude
-pub mod Staying
-pub mod Ordering
-pub mod Keeping

@@ -1,8 +1,0 @@
-mod Prelude
-pub mod Done
-pub mod Running
-pub mod Placing
-pub mod Examples
-pub mod Telling
-pub mod Making
-pub mod Doing

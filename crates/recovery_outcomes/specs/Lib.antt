@@ -1,5 +1,0 @@
-pub mod Prelude
-pub mod Chains
-pub mod Between
-pub mod Told
-pub mod Doing

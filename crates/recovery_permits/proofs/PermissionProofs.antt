@@ -1,3 +1,0 @@
--- What is passed on of permission: lemmas that are cited above.
-pub use Rattle.permission.proofs.Free
-pub use Rattle.permission.proofs.Within

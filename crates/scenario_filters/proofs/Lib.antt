@@ -1,2 +1,0 @@
-pub mod AliasTables
-pub mod PatternLemmas

@@ -1,6 +1,0 @@
-use Rattle.scenario_values.proofs.Each.{AreReadTo}
-use Rattle.scenario_filters.specs.Aliases.{alias_in}
-use Rattle.scenario_filters.proofs.aliases.aliases_from.Given as goal
-
-abbrev pub invariant-loop-label : goal.invariant-loop-label
-invariant-loop-label l = AreReadTo alias_in l.members.entries l.label-iterator l.aliases.items

@@ -1,6 +1,0 @@
-use Rattle.std.proofs.Common.{drop}
-use Rattle.scenario_filters.specs.AliasTable.{IsAliasTable}
-use Rattle.scenario_filters.proofs.aliases.table_of.Given as goal
-
-abbrev pub invariant-loop-n : goal.invariant-loop-n
-invariant-loop-n l = IsAliasTable l.table (drop l.n l.aliases)

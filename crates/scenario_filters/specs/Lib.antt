@@ -1,3 +1,0 @@
-pub mod Aliases
-pub mod AliasTable
-pub mod Filters

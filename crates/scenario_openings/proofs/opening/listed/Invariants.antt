@@ -1,7 +1,0 @@
-use Rattle.std.proofs.Common.{◌≡◌, ◌-◌, ◌^◌, take}
-use Rattle.std.specs.Prelude.{min}
-use Rattle.openings.specs.Listed.{transactions}
-use Rattle.scenario_openings.proofs.opening.listed.Given as goal
-
-abbrev pub invariant-loop-part : goal.invariant-loop-part
-invariant-loop-part l = l.count ≡ min (transactions (take l.part-index l.parts)) (2 ^ 64 - 1)

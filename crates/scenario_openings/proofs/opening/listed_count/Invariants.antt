@@ -1,7 +1,0 @@
-use Rattle.std.proofs.Common.{◌≡◌, ◌-◌, ◌^◌, take}
-use Rattle.std.specs.Prelude.{min}
-use Rattle.scenario_openings.specs.Openings.{listed_count}
-use Rattle.scenario_openings.proofs.opening.listed_count.Given as goal
-
-abbrev pub invariant-loop-server : goal.invariant-loop-server
-invariant-loop-server l = l.count ≡ min (listed_count (take l.server-index l.servers)) (2 ^ 64 - 1)

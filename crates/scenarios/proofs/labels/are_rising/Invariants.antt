@@ -1,0 +1,8 @@
+use Rattle.std.proofs.Common.{◌≡◌}
+use Rattle.std.specs.List.Sorted.{IsSortedWithin}
+use Rattle.std.specs.Cmp.Lexicographic.{slice_cmp}
+use Rattle.std.specs.Ordering.{is_lt, nat_cmp}
+use Rattle.scenarios.proofs.labels.are_rising.Given as goal
+
+abbrev pub invariant-loop-n : goal.invariant-loop-n
+invariant-loop-n g l = IsSortedWithin (λ x y. is_lt (slice_cmp nat_cmp (g.T.Labelled.label_of x) (g.T.Labelled.label_of y))) l.entries 0 l.n

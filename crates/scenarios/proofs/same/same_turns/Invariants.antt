@@ -1,5 +1,0 @@
-use Rattle.std.proofs.Common.{◌≡◌, take, length}
-use Rattle.scenarios.proofs.same.same_turns.Given as goal
-
-abbrev pub invariant-loop-n : goal.invariant-loop-n
-invariant-loop-n l = (take l.n l.turns ≡ take l.n l.others) × (length l.turns ≡ length l.others)

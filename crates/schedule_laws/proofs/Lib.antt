@@ -1,5 +1,0 @@
-mod Prelude
-pub mod Members
-pub mod Commands
-pub mod Durations
-pub mod Turns

@@ -1,3 +1,0 @@
-mod Prelude
-pub mod Standing
-pub mod Effects

@@ -1,5 +1,0 @@
-use Rattle.standing_laws.proofs.Standing.{outside-stays}
-use Rattle.standing_laws.proofs.exchanges.outside_exchanges_leave_sources.Goals as goal
-
-pub returns : goal.returns
-returns c w e n h = outside-stays w e h n

@@ -1,0 +1,7 @@
+use Rattle.std.proofs.Common.{◌≡◌, ◌++◌, take}
+use Rattle.std.specs.List.{flat_map}
+use Rattle.unended_jobs.specs.Rounds.{replicates}
+use Rattle.unended_jobs.proofs.rounds.add_replication.Given as goal
+
+abbrev pub invariant-loop-no : goal.invariant-loop-no
+invariant-loop-no l = l.turns.items ≡ l.fn.turns.items ++ flat_map replicates (take l.no-index l.servers)
