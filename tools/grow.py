@@ -5,8 +5,8 @@
 
 N is doubled from a small one until a run takes 0.08 seconds, or until 4N is the format's limit. Time is the processor's, memory the highest of
 the process. A row is marked `*` if a doubling takes more than 2.2 times as much, of runs above 0.15 seconds: the cost grows faster than the work.
-A marked row is measured twice. A run that takes longer than its row may is left out (`-`). All rows together take at most 300 seconds (--seconds),
-so let nothing run beside it. The exit status is 1 if the program answers a row otherwise than expected.
+A marked row is measured twice. A run that takes longer than its row may is left out (`-`). All rows together take at most 300 seconds of processor
+time (--seconds): five minutes by the clock if nothing runs beside it. The exit status is 1 if the program answers a row otherwise than expected.
 """
 from __future__ import annotations
 
@@ -20,7 +20,6 @@ import resource
 import subprocess
 import sys
 import tempfile
-import time
 
 import grow_rows
 from grow_rows import Asked, Row
@@ -37,6 +36,12 @@ class Run:
     """What a run took."""
     seconds: float
     megabytes: float
+
+
+def spent() -> float:
+    """The processor time of this process and of those that it started, so that what runs beside it takes none of the rows' time."""
+    times = os.times()
+    return times.user + times.system + times.children_user + times.children_system
 
 
 def own_megabytes() -> float:
@@ -98,7 +103,7 @@ def ran(program: str, row: Row, size: int, folder: str, ends: float) -> Run | No
     asked = prepared(row, size, folder)
     best: Run | None = None
     for _ in range(3):
-        left = ends - time.monotonic()
+        left = ends - spent()
         if left <= 0:
             return best
         found = ran_once(program, asked, folder, left)
@@ -112,7 +117,7 @@ def ran(program: str, row: Row, size: int, folder: str, ends: float) -> Run | No
 
 def measured(program: str, row: Row, folder: str, seconds: float) -> tuple[int, list[Run | None]]:
     """A row's N, and what the program took for N, 2N and 4N, in about so many seconds."""
-    ends = time.monotonic() + seconds
+    ends = spent() + seconds
     size = row.start
     runs = [ran(program, row, size, folder, ends)]
     while runs[0] and runs[0].seconds < ENOUGH and 8 * size <= row.most:
@@ -149,11 +154,11 @@ def line_of(row: Row, size: int, runs: list[Run | None], floor: float) -> tuple[
 
 def table(program: str, rows: list[Row], seconds: float) -> int:
     """Prints the table; the exit status."""
-    ends, marked, unexpected, floor = time.monotonic() + seconds, 0, 0, own_megabytes()
+    ends, marked, unexpected, floor = spent() + seconds, 0, 0, own_megabytes()
     print("%-8s%-52s%8s %20s %17s   %15s" % ("", "", "N", "seconds: N, 2N, 4N", "MB: N, 2N, 4N", "growth: s, MB"), flush=True)
     with tempfile.TemporaryDirectory(prefix="grow-") as folder:
         for place, row in enumerate(rows):
-            left = max(ends - time.monotonic(), 0)
+            left = max(ends - spent(), 0)
             try:
                 size, runs = measured(program, row, folder, min(3 * left / (len(rows) - place), left))
             except Unexpected as why:
@@ -172,7 +177,7 @@ def main(arguments: list[str]) -> int:
     parser = argparse.ArgumentParser(description="how the program's time and memory grow with each command, turn and list")
     parser.add_argument("program", nargs="?")
     parser.add_argument("--only", help="these rows, by name, with commas between them that have no blank after them")
-    parser.add_argument("--seconds", type=float, default=300, help="for all rows together (300)")
+    parser.add_argument("--seconds", type=float, default=300, help="of processor time for all rows together (300)")
     parser.add_argument("--list", action="store_true", help="print the rows and run nothing")
     given = parser.parse_args(arguments)
     rows = list(grow_rows.rows_named(re.split(",(?! )", given.only) if given.only else []))

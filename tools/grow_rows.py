@@ -263,6 +263,36 @@ turns_of("claim, release", star(1), [["claim", 1], ["release", 1], ["claim", 2],
 turns_of("as", star(1), [["as", 1, turn] for turn in seen("m", "r000")], (["claim", 1],), nodes=2)
 
 
+def mixed(clusters: list[list[str]]) -> Iterator[Turn]:
+    """Exchanges, polls, events, questions, decisions, jobs and recoveries, over and over. The last cluster's master is dead."""
+    dead_one = clusters[-1][0]
+    for number in itertools.count():
+        master, *replicas = clusters[number % (len(clusters) - 1)]
+        place = 3 + 10 * (number // (len(clusters) - 1) % 9)
+        some, (first, second, third), away = replicas[place:place + 10], replicas[:3], number // (len(clusters) - 1) % 2 == 0
+        yield from (["write", master, 100],) if number < 3900 else ()
+        yield from (turn for name in some for turn in (["fetch", name], ["apply", name]))
+        yield from (["tick", 1], ["rotate", master], ["fail", some[0]], ["heal", some[0]], ["cut", some[1], "feed"], ["join", some[1], "feed"])
+        yield from seen(*some)
+        yield from (asked(name, i=some[2]) for name in ("topology", "which-master", "which-replicas", "which-cluster", "which-cluster-instances"))
+        yield from (asked("clusters"), asked("replication-analysis"), asked("find", pattern="^s%d[0-9]*7:" % (number % 10)), asked("check-global-recoveries"))
+        yield from (asked(name, i=some[3]) for name in ("begin-downtime", "end-downtime", "forget", "discover"))
+        yield from (asked("register-candidate", i=some[4], rule="prefer"), asked("disable-global-recoveries"), ["scan"], asked("enable-global-recoveries"))
+        yield from (asked("stop-replica" if away else "start-replica", i=third), *jobs(3 * number + 1, 3), *seen(third))
+        yield from (asked("relocate", i=first, d=second if away else master), *jobs(3 * number + 2, 40), *seen(master, first, second))
+        yield from (asked("recover", i=dead_one), ["heal", dead_one], ["job", 3 * number + 3], ["fail", dead_one], *seen(dead_one))
+        yield from (asked("ack-cluster-recoveries", i=dead_one),) if number % 2 else ()
+
+
+@row("turn", "all kinds", "turns, 1,000 servers in ten clusters", 249000, 996000)
+def all_kinds(count: int) -> Asked:
+    """The polls at the start are 2,000 of them."""
+    clusters = [["s%d%02d" % (k, n) for n in range(100)] for k in range(10)]
+    servers = [{"name": name, **({"source": names[0]} if at else {"history": [[name, 100, 3]]})} for names in clusters for at, name in enumerate(names)]
+    turns = [["fail", clusters[-1][0]], ["polls"], *itertools.islice(mixed(clusters), max(count - 2001, 0))]
+    return summary(servers, turns, None, block=0)
+
+
 @row("turn", "polls", "times, 20 servers", 64, 25000)
 def polls(count: int) -> Asked:
     """All servers over and over."""
@@ -348,8 +378,7 @@ def blocks_restarts(count: int) -> Asked:
 @row("list", "aliases", "labels, and as many recoveries", 64, 50000)
 def aliases(count: int) -> Asked:
     """Each recovery gives its hooks an alias."""
-    turns_taken = [["fail", "m"], ["polls"], *[asked("recover", i="m"), ["restart"]] * count]
-    return summary(star(1), turns_taken, None, block=0, aliases={"l%06d" % n: "x" for n in range(count)})
+    return summary(star(1), dead(count, asked("recover", i="m"), []), None, block=0, aliases={"l%06d" % n: "x" for n in range(count)})
 
 
 def filtered(name: str) -> None:

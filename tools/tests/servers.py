@@ -1,8 +1,10 @@
 """Servers of MySQL 8.4 that answer the light import from texts that are made here."""
 from __future__ import annotations
 
+import math
 import threading
 import time
+from collections.abc import Callable
 from typing import Any
 
 from fake import Texts, table
@@ -75,3 +77,15 @@ class Slow(Texts):
             self.under_way -= 1
             told: tuple[int, str, str] = Texts.ran(self, host, port, statements)
             return told
+
+
+def quickest(run: Callable[[], None], limit: float) -> float:
+    """The seconds that the quickest of up to three runs takes: the first below the limit ends them, so that what else the machine does weighs little."""
+    best = math.inf
+    for _ in range(3):
+        began = time.monotonic()
+        run()
+        best = min(best, time.monotonic() - began)
+        if best < limit:
+            break
+    return best

@@ -11,7 +11,7 @@ import unittest.mock
 from typing import Any
 
 from fake import arguments_of, ran
-from servers import ASKED, Slow, answer_of, listed, replica_row, server, uuid
+from servers import ASKED, Slow, answer_of, listed, quickest, replica_row, server, uuid
 
 from light_fuzz import Fuzz
 from orch_tools import importing, light_import, notes
@@ -270,15 +270,21 @@ class FindsTest(unittest.TestCase):
             source = "m" if above is not None else "s%d" % (2 + number % 10)
             below = tuple(listed(other, "s%d" % other) for other in range(12, 201) if 2 + other % 10 == number)
             answers["s%d:3306" % number] = server(number, replica_row(source, 5000 if source == "m" else 900), replicas=below)
-        client, began = Slow(answers, 0.1), time.monotonic()
-        with tempfile.TemporaryDirectory() as folder:
-            given = arguments_of(importing, ["m", "--out", os.path.join(folder, "now.json")])
-            with unittest.mock.patch("sys.stderr"):
-                self.assertEqual(importing.run(given, lambda *_: client), 0)
-            with open(given.out, encoding="utf-8") as file:
-                self.assertEqual(len(json.load(file)["servers"]), 200)
-        self.assertLess(time.monotonic() - began, 10)
-        self.assertGreater(client.most, 8)
+        most = 0
+
+        def run() -> None:
+            nonlocal most
+            client = Slow(answers, 0.1)
+            with tempfile.TemporaryDirectory() as folder:
+                given = arguments_of(importing, ["m", "--out", os.path.join(folder, "now.json")])
+                with unittest.mock.patch("sys.stderr"):
+                    self.assertEqual(importing.run(given, lambda *_: client), 0)
+                with open(given.out, encoding="utf-8") as file:
+                    self.assertEqual(len(json.load(file)["servers"]), 200)
+            most = max(most, client.most)
+
+        self.assertLess(quickest(run, 10), 10)
+        self.assertGreater(most, 8)
 
 
 class Terminal(io.StringIO):

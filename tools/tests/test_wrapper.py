@@ -107,9 +107,9 @@ class HelpTest(WrapperTest):
 
     def test_the_table_has_the_programs_words(self) -> None:
         """Each command of the program's own list, and no other."""
-        path = os.path.join(TOP, "crates", "commands", "src", "name.rt")
+        path = os.path.join(TOP, "crates", "commands", "src", "table.rt")
         with open(path, encoding="utf-8") as file:
-            words = set(re.findall(r'CommandName::\w+ => "([a-z-]+)"', file.read()))
+            words = set(re.findall(r'Self::\w+ => \w+\(\s*"([a-z-]+)"', file.read()))
         self.assertEqual(words | {"run", "live", "dump", "generate"}, set(table.BY_NAME))
 
     def test_the_table_has_the_programs_options(self) -> None:
