@@ -197,12 +197,15 @@ impl Audit {
         self.reserve_for(1)
     }
 
-    /// Makes room for so many more recoveries. `Err` means out of memory.
+    /// Makes room for so many more recoveries. An audit without any gets its index. `Err` means out of memory.
     pub fn reserve_for(&mut self, count: usize) -> Result<(), Memory>
         ensures ok { OnOk result (count ≤ self.new.spare) }
         ensures audit { self.new.audit ≡ self.old.audit }
     {
         self.recoveries.reserve(count)?;
+        if self.recoveries.is_empty() {
+            self.index.open()?;
+        }
         self.index.reserve(count)
     }
 

@@ -50,8 +50,7 @@ impl<'a> Extended<'a> {
     {
         // the proof learns from this that the next id is at least 1
         let _ = audit.recoveries();
-        let mut more = Audit::make(Vec::new(alloc), audit.next());
-        more.index(alloc)?;
+        let more = Audit::make(Vec::new(alloc), audit.next());
         Ok(Extended { audit, more })
     }
 

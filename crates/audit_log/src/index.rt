@@ -80,16 +80,30 @@ impl Index {
         }
     }
 
-    /// The index of these recoveries.
+    /// The index of these recoveries. Of none it takes no memory, and `open` makes its heads.
     pub(crate) fn of(alloc: Global, recoveries: &[Recovery]) -> Result<Index, Memory>
         ensures { IfOk result (λ index. IsIndex recoveries.now index) }
     {
-        let mut index = Index {
-            heads: vec![in alloc; 0; BUCKETS as usize]?,
-            links: Vec::with_capacity(alloc, recoveries.len())?,
-        };
-        index.renew(recoveries);
+        let mut index = Index::none(alloc);
+        if recoveries.is_empty() {
+            return Ok(index);
+        }
+        index.open()?;
+        index.reserve(recoveries.len())?;
+        index.enter_all(recoveries);
         Ok(index)
+    }
+
+    /// Makes the heads of an index of no recoveries, if it has none. `Err` means out of memory.
+    pub(crate) fn open(&mut self) -> Result<(), Memory>
+        requires { self.old.links.items ≡ [] }
+        ensures index { IsIndex [] self.new }
+        ensures links { self.new.links ≡ self.old.links }
+    {
+        if self.heads.is_empty() {
+            self.heads = vec![in *self.links.allocator(); 0; BUCKETS as usize]?;
+        }
+        Ok(())
     }
 
     // Forgets all recoveries, and keeps its room.
@@ -105,6 +119,14 @@ impl Index {
         ensures { IsIndex recoveries.now self.new }
     {
         self.forget();
+        self.enter_all(recoveries);
+    }
+
+    // Enters these recoveries one after another.
+    fn enter_all(&mut self, recoveries: &[Recovery])
+        requires { self.old.links.items ≡ [] }
+        ensures { IsIndex recoveries.now self.new }
+    {
         for (i, recovery) in recoveries.iter().enumerate() {
             self.enter(&recoveries[..i], recovery);
         }

@@ -1,5 +1,6 @@
 mod Prelude
 pub mod Begun
+pub mod Held
 pub mod HookTold
 pub mod Outcomes
 pub use Rattle.recovery_core.proofs.AuditLog as AuditLog

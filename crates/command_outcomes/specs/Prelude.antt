@@ -7,6 +7,10 @@ pub use Rattle.book_commands.specs.declared.decided.Decided.{Decided}
 unfoldable pub use Rattle.recovery_core.specs.BookViews.Forests.{book_forest}
 pub use Rattle.recovery_core.specs.BookViews.Sources.{label_at, replicas_of}
 pub use Rattle.recovery_core.specs.Commands.Routes.{route_of}
+pub use Rattle.recovery_core.specs.Commands.declared.kinds.CoordsCommand.TheVariants as by_coords
+pub use Rattle.recovery_core.specs.Commands.declared.kinds.GtidCommand.TheVariants as by_gtids
+pub use Rattle.recovery_core.specs.Commands.declared.kinds.MatchCommand.TheVariants as by_matches
+pub use Rattle.recovery_core.specs.Commands.declared.kinds.PathCommand.TheVariants as by_paths
 pub use Rattle.recovery_core.specs.Commands.declared.route.Decision.{Decision}
 pub use Rattle.recovery_core.specs.Commands.declared.route.Planner.{Planner}
 pub use Rattle.recovery_core.specs.Commands.declared.route.Planner.TheVariants.{Coordinates, Gtids, Matches, Paths}

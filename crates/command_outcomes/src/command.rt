@@ -10,7 +10,7 @@ use crate::audit_log::Audit;
 use crate::book_views::book_forest;
 use crate::commands::{Command, CommandTurn, Decision, Line, Lines, Planner, Refusal, Route};
 use crate::instance_keeper_items::{Book, Change, Instance, Key, Observation, Row, Seen, Table};
-use crate::jobs::{job, permit as permit_job};
+use crate::jobs::{is_held_first, job, permit as permit_job};
 use crate::orch_base::{Kind, Listed, Memory, Moment, ServerNo};
 use crate::permission_items::PermitFault;
 use crate::recovering::begin_by_hand;
@@ -183,7 +183,8 @@ fn removal(no: ServerNo) -> Change
     Change::Remove(Table::Instance, Key::Server(no))
 }
 
-// What refuses the removal: an instance that isn't in the book, or one of which a job has the lease.
+// What refuses the removal: an instance that isn't in the book, or one of which a job has the lease. A command that
+// begins a job and checks these first is refused so, too.
 fn removal_refusal(book: &Book, command: Command) -> Option<Refusal>
     requires i { IsTrue (is_within (length book.now.names) command.i) }
     requires d { IsTrue (is_within (length book.now.names) command.d) }
@@ -279,8 +280,8 @@ fn decision(
     })
 }
 
-// Begins the job of a command, unless it is refused. `Memory` also comes if no number is left for a job.
-fn begin_by(
+// Begins the job of a command by the forest of all instances, unless it is refused.
+fn begin_by_forest(
     alloc: Global,
     world: &World,
     book: &Book,
@@ -327,6 +328,29 @@ fn begin_by(
         rows: Vec::new(alloc),
         reads: numbers.reads,
     })
+}
+
+// Begins the job of a command, unless it is refused. If its instance is unknown or leased, no forest is made. `Memory`
+// also comes if no number is left for a job.
+fn begin_by(
+    alloc: Global,
+    world: &World,
+    book: &Book,
+    numbers: Numbers,
+    command: Command,
+    planner: Planner,
+) -> Result<Outcome, Memory>
+    requires i { IsTrue (is_within (length book.now.names) command.i) }
+    requires d { IsTrue (is_within (length book.now.names) command.d) }
+    ensures { IfOk result (λ out. outcome out ≡ begun_by world.now book.now numbers command
+        planner) }
+{
+    if is_held_first(planner) {
+        if let Some(refusal) = removal_refusal(book, command) {
+            return Ok(refused(alloc, numbers.reads, refusal));
+        }
+    }
+    begin_by_forest(alloc, world, book, numbers, command, planner)
 }
 
 /// The outcome of a command, by the numbers that it goes by. It changes nothing. `Memory` comes, too, if no number is

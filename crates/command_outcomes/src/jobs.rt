@@ -3,9 +3,9 @@
 ghost use Rattle.std.specs.Prelude.{◌≡◌, ◌<◌, All, IfOk, IsTrue, length};
 ghost use Rattle.command_outcomes.specs.Prelude.{Gives, book_forest, is_within, permit_fault};
 ghost use Rattle.recovery_core.specs.Permission.Checks.{permitted};
-ghost use Rattle.command_outcomes.specs.Jobs.{case_of, job_by, leases_by, means_of, ops_of, refusal_about, refusal_by, unless_planned};
+ghost use Rattle.command_outcomes.specs.Jobs.{case_of, is_held_first, job_by, leases_by, means_of, ops_of, refusal_about, refusal_by, unless_planned};
 
-use crate::commands::{Command, Planner};
+use crate::commands::{Command, CoordsCommand, GtidCommand, MatchCommand, PathCommand, Planner};
 use crate::instance_keeper_items::Book;
 use crate::job_plans::Job;
 use crate::operations_items::Op;
@@ -17,6 +17,35 @@ use crate::server_model::World;
 use crate::topology_tree::Forest;
 use std::alloc::Global;
 use unended_jobs::Unended;
+
+/// Whether the first check of a command, after that of known instances, is that no job has its instance's lease.
+pub(crate) fn is_held_first(planner: Planner) -> bool
+    ensures { result ≡ is_held_first planner }
+{
+    match planner {
+        Planner::Coordinates(
+            CoordsCommand::MoveUp
+            | CoordsCommand::MoveUpReplicas
+            | CoordsCommand::TakeSiblings
+            | CoordsCommand::TakeMaster
+            | CoordsCommand::DetachReplica
+            | CoordsCommand::ReattachReplica
+            | CoordsCommand::ResetReplica
+            | CoordsCommand::StartReplica
+            | CoordsCommand::StopReplica
+            | CoordsCommand::RestartReplica
+            | CoordsCommand::SetReadOnly
+            | CoordsCommand::SetWriteable,
+        )
+        | Planner::Gtids(GtidCommand::EnableGtid | GtidCommand::DisableGtid)
+        | Planner::Paths(PathCommand::RegroupReplicas)
+        | Planner::Matches(MatchCommand::MatchUp | MatchCommand::RegroupReplicas) => true,
+        Planner::Coordinates(CoordsCommand::MoveBelow | CoordsCommand::Repoint)
+        | Planner::Gtids(GtidCommand::MoveGtid | GtidCommand::MoveReplicasGtid)
+        | Planner::Paths(PathCommand::Relocate | PathCommand::RelocateReplicas)
+        | Planner::Matches(MatchCommand::Match | MatchCommand::MatchReplicas) => false,
+    }
+}
 
 // What refuses a command of some kind about an instance, or what its checks are about.
 fn permit_kind(

@@ -8,6 +8,7 @@ mod interval;
 mod print;
 mod reserved;
 mod set;
+mod shared;
 
 pub use fault::GtidFault;
 pub use interval::{Interval, LARGEST};

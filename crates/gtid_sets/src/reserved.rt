@@ -15,6 +15,8 @@ use std::marker::Model;
 pub struct ReservedSet {
     intervals: Vec<Interval>,
     room: u64,
+    // The same set, shared by its copies. None if it isn't made.
+    shared: Option<GtidSet>,
 }
 
 impl Drop for ReservedSet {
@@ -22,6 +24,7 @@ impl Drop for ReservedSet {
         let ReservedSet {
             intervals: _intervals,
             room: _,
+            shared: _shared,
         } = self;
     }
 }
@@ -44,7 +47,11 @@ impl ReservedSet {
         ensures { IfOk result (λ s. s ≡ record { intervals = []; room = room }) }
     {
         let intervals = Vec::with_capacity(alloc, room as usize)?;
-        Ok(ReservedSet { intervals, room })
+        Ok(ReservedSet {
+            intervals,
+            room,
+            shared: None,
+        })
     }
 
     /// Whether the GTID of this UUID and number is in the set. It takes no memory, and searches by halves.
@@ -54,11 +61,25 @@ impl ReservedSet {
         is_in(&self.intervals, Gtid { uuid, n })
     }
 
-    /// The same set, without the room. `Err` means out of memory.
+    /// The same set, without the room: nothing is copied from `settle` on until a GTID is added. `Err` means out of
+    /// memory.
     pub fn copy(&self, alloc: Global) -> Result<GtidSet, Memory>
         ensures { IfOk result (λ copy. copy ≡ self.now.intervals) }
     {
-        GtidSet::of_intervals(alloc, &self.intervals)
+        match &self.shared {
+            Some(shared) => shared.copy(),
+            None => GtidSet::of_intervals(alloc, &self.intervals),
+        }
+    }
+
+    /// Makes the set that copies share, if there is none. `Err` means out of memory.
+    pub fn settle(&mut self, alloc: Global) -> Result<(), Memory>
+        ensures { self.new ≡ self.old }
+    {
+        if self.shared.is_none() {
+            self.shared = Some(GtidSet::of_intervals(alloc, &self.intervals)?);
+        }
+        Ok(())
     }
 
     /// The GTIDs that are in this set and not in the other. It takes time in the number of their intervals. `Err` means
@@ -79,6 +100,7 @@ impl ReservedSet {
         requires room { length self.old.intervals < self.old.room }
         ensures { self.new ≡ record self.old { intervals = with_pair uuid n self.old.intervals } }
     {
+        self.shared = None;
         insert_gtid(&mut self.intervals, Gtid { uuid, n });
     }
 }

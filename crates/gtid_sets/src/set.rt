@@ -14,23 +14,45 @@ use crate::fault::GtidFault;
 use crate::grammar::read_text;
 use crate::interval::{Gtid, Interval};
 use crate::print::text_of;
+use crate::shared::Shared;
 use std::alloc::Global;
 use std::marker::Model;
 
-/// A set of GTIDs.
+/// A set of GTIDs. A copy shares its intervals.
 pub struct GtidSet {
-    intervals: Vec<Interval>,
+    alloc: Global,
+    // None of the empty set.
+    shared: Option<Shared>,
 }
 
 impl Drop for GtidSet {
     fn drop(self) {
         let GtidSet {
-            intervals: _intervals,
+            alloc: _,
+            shared: _shared,
         } = self;
     }
 }
 
 impl Model for GtidSet {
+    ghost use Rattle.std.specs.Prelude.{List, [], unwrap_or};
+    ghost use Rattle.gtid_sets.specs.Sets.{IsSet};
+    ghost use Rattle.gtid_sets.specs.declared.interval.Interval.{Interval};
+
+    ghost Value = { List Interval };
+
+    ghost view = { λ s. unwrap_or s.shared [] };
+
+    ghost invariant = { λ s. IsSet (unwrap_or s.shared []) };
+}
+
+// A set that is being made. Contracts see it as that set.
+#[derive(Drop)]
+pub(crate) struct Made {
+    intervals: Vec<Interval>,
+}
+
+impl Model for Made {
     ghost use Rattle.std.specs.Prelude.{List};
     ghost use Rattle.gtid_sets.specs.Sets.{IsSet};
     ghost use Rattle.gtid_sets.specs.declared.interval.Interval.{Interval};
@@ -44,11 +66,40 @@ impl Model for GtidSet {
 
 impl GtidSet {
     /// The empty set. It takes no memory, and keeps its allocator.
+    #[inline(always)]
     pub fn empty(alloc: Global) -> GtidSet
         ensures { result ≡ [] }
     {
         GtidSet {
-            intervals: Vec::new(alloc),
+            alloc,
+            shared: None,
+        }
+    }
+
+    // The set that is made. It takes no memory if that is empty.
+    fn of(made: Made) -> Result<GtidSet, Memory>
+        ensures { IfOk result (λ set. set ≡ made) }
+    {
+        let Made { intervals } = made;
+        let alloc = *intervals.allocator();
+        if intervals.is_empty() {
+            return Ok(GtidSet::empty(alloc));
+        }
+        Ok(GtidSet {
+            alloc,
+            shared: Some(Shared::new(alloc, intervals)?),
+        })
+    }
+
+    // Its intervals.
+    #[inline(always)]
+    fn list(&self) -> &[Interval]
+        ensures list { result.now ≡ self.now }
+        ensures set { IsSet self.now }
+    {
+        match &self.shared {
+            Some(shared) => shared.list(),
+            None => &[],
         }
     }
 
@@ -61,7 +112,8 @@ impl GtidSet {
     {
         match read_text(alloc, text.as_bytes()) {
             Ok(found) => {
-                let set = gathered(alloc, &found)?;
+                let made = gathered(alloc, &found)?;
+                let set = GtidSet::of(made)?;
                 set.show_order();
                 Ok(set)
             }
@@ -74,14 +126,14 @@ impl GtidSet {
         ensures list { IsTrue result ↔ (self.now ≡ []) }
         ensures none { IsTrue result ↔ ((uuid n : ℕ) → holds self.now uuid n ≡ false) }
     {
-        self.intervals.is_empty()
+        self.list().is_empty()
     }
 
     /// Whether the GTID of this UUID and number is in the set. It takes no memory, and searches by halves.
     pub fn contains(&self, uuid: u128, n: u64) -> bool
         ensures { result ≡ holds self.now uuid n }
     {
-        is_in(&self.intervals, Gtid { uuid, n })
+        is_in(self.list(), Gtid { uuid, n })
     }
 
     /// Whether each GTID of the set is in the other. It takes no memory.
@@ -89,39 +141,29 @@ impl GtidSet {
         ensures { IsTrue result
             ↔ ((uuid n : ℕ) → holds self.now uuid n ≡ true → holds of.now uuid n ≡ true) }
     {
-        are_in(&self.intervals, &of.intervals)
+        are_in(self.list(), of.list())
     }
 
     /// How many GTIDs there are. It takes no memory.
     pub fn count(&self) -> u128
         ensures { result ≡ size self.now }
     {
-        count_of(&self.intervals)
+        count_of(self.list())
     }
 
-    /// The same set once more. `Err` means out of memory.
+    /// The same set once more: nothing is copied. `Err` means that more share it than can be counted.
     #[inline(always)]
     pub fn copy(&self) -> Result<GtidSet, Memory>
         ensures { IfOk result (λ copy. copy ≡ self.now) }
     {
-        GtidSet::of_intervals(*self.intervals.allocator(), &self.intervals)
-    }
-
-    /// Whether the other set has as many intervals, so that `set_to` takes it.
-    #[inline(always)]
-    pub fn is_as_long(&self, other: &GtidSet) -> bool
-        ensures { IsTrue result ↔ (length self.now ≡ length other.now) }
-    {
-        self.intervals.len() == other.intervals.len()
-    }
-
-    /// Becomes the same as the other, which has as many intervals. It takes no memory.
-    #[inline(always)]
-    pub fn set_to(&mut self, other: &GtidSet)
-        requires { length self.old ≡ length other.now }
-        ensures { self.new ≡ other.now }
-    {
-        self.intervals.copy_from_slice(&other.intervals);
+        let shared = match &self.shared {
+            Some(shared) => Some(shared.share()?),
+            None => None,
+        };
+        Ok(GtidSet {
+            alloc: self.alloc,
+            shared,
+        })
     }
 
     // The set of these intervals. Of none it takes no memory.
@@ -134,14 +176,14 @@ impl GtidSet {
             return Ok(GtidSet::empty(alloc));
         }
         let intervals = Vec::from_slice(alloc, intervals)?;
-        Ok(GtidSet { intervals })
+        GtidSet::of(Made { intervals })
     }
 
     /// Whether the sets are equal. It takes no memory.
     pub fn is_same(&self, other: &GtidSet) -> bool
         ensures { IsTrue result ↔ (self.now ≡ other.now) }
     {
-        self.intervals == other.intervals
+        self.list() == other.list()
     }
 
     /// Adds a GTID, `n` from 1 to `LARGEST`, and answers whether it was new. If memory runs out, the set stays as it
@@ -157,14 +199,14 @@ impl GtidSet {
     {
         let was_new = !self.contains(uuid, n);
         let one = single(
-            *self.intervals.allocator(),
+            self.alloc,
             Interval {
                 uuid,
                 first: n,
                 last: n,
             },
         )?;
-        let both = self.union(&one)?;
+        let both = self.union(&GtidSet::of(one)?)?;
         *self = both;
         Ok(was_new)
     }
@@ -175,7 +217,7 @@ impl GtidSet {
         ensures ok { OnOk result (out.new.items ≡ out.old.items ++ printed self.now) }
         ensures err { OnErr result (out.new.items ≡ out.old.items) }
     {
-        let text = text_of(*self.intervals.allocator(), &self.intervals)?;
+        let text = text_of(self.alloc, self.list())?;
         out.extend_from_slice(&text)
     }
 
@@ -186,8 +228,7 @@ impl GtidSet {
             → holds both uuid n ≡ (holds self.now uuid n || holds other.now uuid n)) }
         ensures set { IfOk result IsSet }
     {
-        let alloc = *self.intervals.allocator();
-        let both = united(alloc, &self.intervals, &other.intervals)?;
+        let both = GtidSet::of(united(self.alloc, self.list(), other.list())?)?;
         both.show_order();
         Ok(both)
     }
@@ -200,8 +241,7 @@ impl GtidSet {
             → holds rest uuid n ≡ (holds self.now uuid n && not (holds other.now uuid n))) }
         ensures set { IfOk result IsSet }
     {
-        let alloc = *self.intervals.allocator();
-        let rest = difference(alloc, &self.intervals, &other.intervals)?;
+        let rest = GtidSet::of(difference(self.alloc, self.list(), other.list())?)?;
         rest.show_order();
         Ok(rest)
     }
@@ -213,8 +253,8 @@ impl GtidSet {
             → holds part u n ≡ ((u == uuid) && holds self.now u n)) }
         ensures set { IfOk result IsSet }
     {
-        let intervals = part_of(*self.intervals.allocator(), &self.intervals, uuid)?;
-        let part = GtidSet { intervals };
+        let intervals = part_of(self.alloc, self.list(), uuid)?;
+        let part = GtidSet::of(Made { intervals })?;
         part.show_order();
         Ok(part)
     }
@@ -224,7 +264,18 @@ impl GtidSet {
     pub fn show_order(&self)
         ensures { IsSet self.now }
     {
-        let _intervals = self.intervals.len();
+        let _list = self.list();
+    }
+}
+
+impl Made {
+    // The empty set. It takes no memory.
+    fn empty(alloc: Global) -> Made
+        ensures { result ≡ [] }
+    {
+        Made {
+            intervals: Vec::new(alloc),
+        }
     }
 
     // Appends an interval that begins nowhere before those of the set, joined to the last one if they overlap or touch.
@@ -259,21 +310,21 @@ fn part_of(alloc: Global, intervals: &[Interval], uuid: u128) -> Result<Vec<Inte
         .collect(alloc)
 }
 
-fn single(alloc: Global, interval: Interval) -> Result<GtidSet, Memory>
+fn single(alloc: Global, interval: Interval) -> Result<Made, Memory>
     requires { IsInterval interval }
     ensures { IfOk result (λ s. s ≡ interval ∷ []) }
 {
     let intervals = vec![in alloc; interval]?;
-    Ok(GtidSet { intervals })
+    Ok(Made { intervals })
 }
 
 // The set of intervals in any order.
-fn gathered(alloc: Global, found: &[Interval]) -> Result<GtidSet, Memory>
+fn gathered(alloc: Global, found: &[Interval]) -> Result<Made, Memory>
     requires { All IsInterval found.now }
     ensures { IfOk result (λ s. (x : ℕ) → on_line s x ≡ on_line found.now x) }
 {
     if found.is_empty() {
-        return Ok(GtidSet::empty(alloc));
+        return Ok(Made::empty(alloc));
     }
     if found.len() == 1 {
         return single(alloc, found[0]);
@@ -374,13 +425,13 @@ fn is_next(these: &[Interval], i: usize, those: &[Interval], j: usize) -> bool
     j >= those.len() || !those[j].start().is_before(these[i].start())
 }
 
-fn united(alloc: Global, these: &[Interval], those: &[Interval]) -> Result<GtidSet, Memory>
+fn united(alloc: Global, these: &[Interval], those: &[Interval]) -> Result<Made, Memory>
     requires these { IsSet these.now }
     requires those { IsSet those.now }
     ensures { IfOk result (λ both. (x : ℕ)
         → on_line both x ≡ (on_line these.now x || on_line those.now x)) }
 {
-    let mut both = GtidSet::empty(alloc);
+    let mut both = Made::empty(alloc);
     let mut i = 0;
     let mut j = 0;
     'merge: while i < these.len() || j < those.len() {
@@ -396,12 +447,7 @@ fn united(alloc: Global, these: &[Interval], those: &[Interval]) -> Result<GtidS
 }
 
 // Appends what an interval has from this GTID on and before another interval.
-fn append_gap(
-    rest: &mut GtidSet,
-    this: &Interval,
-    start: Gtid,
-    that: &Interval,
-) -> Result<(), Memory>
+fn append_gap(rest: &mut Made, this: &Interval, start: Gtid, that: &Interval) -> Result<(), Memory>
     requires this { IsInterval this.now }
     requires that { IsInterval that.now }
     requires from { low this.now ≤ point start.uuid start.n }
@@ -436,13 +482,13 @@ fn is_clear(this: &Interval, those: &[Interval], j: usize) -> bool
     j >= those.len() || this.ends_before(those[j].start())
 }
 
-fn difference(alloc: Global, these: &[Interval], those: &[Interval]) -> Result<GtidSet, Memory>
+fn difference(alloc: Global, these: &[Interval], those: &[Interval]) -> Result<Made, Memory>
     requires these { IsSet these.now }
     requires those { IsSet those.now }
     ensures { IfOk result (λ rest. (x : ℕ)
         → on_line rest x ≡ (on_line these.now x && not (on_line those.now x))) }
 {
-    let mut rest = GtidSet::empty(alloc);
+    let mut rest = Made::empty(alloc);
     let mut i = 0;
     let mut j = 0;
     // What is before it is settled.

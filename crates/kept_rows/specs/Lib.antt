@@ -1,5 +1,6 @@
 pub mod Rows
 pub mod Recoveries
+pub mod Edits
 pub mod Keeping
 pub mod Same
 pub mod SortKeys

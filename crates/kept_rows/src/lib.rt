@@ -2,6 +2,7 @@
 //! "Backend database").
 #![tactic(auto)]
 
+mod boxed;
 mod keeper;
 mod laws;
 mod memory;

@@ -9,6 +9,7 @@ ghost use Rattle.kept_rows.specs.SortKeys.{at, IsFirstFrom};
 ghost use Rattle.kept_rows.specs.Rows.{changed, changed_by, map_of, sort_key, sort_key_of, put, remove, IsRising};
 
 use crate::Memory;
+use crate::boxed::{BoxedRow, Edit};
 use crate::keeper::{Keeper, KeeperFault};
 use crate::orch_base::{Name, ServerNo};
 use crate::row::{Change, Key, Row, SortKey, Table};
@@ -17,7 +18,7 @@ use std::marker::Model;
 
 /// A row store in memory.
 pub struct MemKeeper {
-    rows: Vec<Row>,
+    rows: Vec<BoxedRow>,
     fail_at: Vec<u64>,
     calls: u64,
     faults: u64,
@@ -62,18 +63,21 @@ fn next_look(from: usize, to: usize, guess: usize) -> usize
 
 // Whether the row of this index is there, and is at this sort key.
 #[inline(always)]
-fn stands_at(rows: &[Row], index: usize, sort_key: SortKey) -> bool
+fn stands_at(rows: &[BoxedRow], index: usize, sort_key: SortKey) -> bool
     ensures there { OnTrue result (index < length rows.now) }
     ensures at { OnTrue result (HoldsAt (λ r. sort_key_of r ≡ at sort_key) rows.now index) }
 {
     match rows.get(index) {
-        Some(row) => row.table() == sort_key.table && row.key() == sort_key.key,
+        Some(row) => {
+            let own = row.sort_key();
+            own.table == sort_key.table && own.key == sort_key.key
+        }
         None => false,
     }
 }
 
 // The first row that isn't before this sort key.
-fn first_from(rows: &[Row], sort_key: SortKey) -> usize
+fn first_from(rows: &[BoxedRow], sort_key: SortKey) -> usize
     requires { IsRising rows.now }
     ensures { IsFirstFrom rows.now (at sort_key) result }
 {
@@ -96,7 +100,7 @@ fn first_from(rows: &[Row], sort_key: SortKey) -> usize
 
 // Whether there is a row of this index that isn't after this sort key.
 #[inline(always)]
-fn is_there(rows: &[Row], index: usize, sort_key: SortKey) -> bool
+fn is_there(rows: &[BoxedRow], index: usize, sort_key: SortKey) -> bool
     ensures there { OnTrue result (index < length rows.now) }
     ensures yes { OnTrue result (HoldsAt (λ r. sort_key_of r ≤ at sort_key) rows.now index) }
     ensures no { OnFalse result (index < length rows.now
@@ -109,7 +113,7 @@ fn is_there(rows: &[Row], index: usize, sort_key: SortKey) -> bool
 }
 
 // Puts a row in place of one with its table and key. It takes no memory.
-fn put_row(rows: &mut Vec<Row>, row: Row)
+fn put_row(rows: &mut Vec<BoxedRow>, row: BoxedRow)
     requires rising { IsRising rows.old.items }
     requires room { vec_len rows.old < vec_capacity rows.old }
     ensures items { rows.new.items ≡ put rows.old.items row }
@@ -127,7 +131,7 @@ fn put_row(rows: &mut Vec<Row>, row: Row)
 }
 
 // Removes the row of this sort key, if there is one.
-fn remove_row(rows: &mut Vec<Row>, sort_key: SortKey)
+fn remove_row(rows: &mut Vec<BoxedRow>, sort_key: SortKey)
     requires rising { IsRising rows.old.items }
     ensures items { rows.new.items ≡ remove rows.old.items sort_key.table sort_key.key }
     ensures rising { IsRising rows.new.items }
@@ -141,7 +145,7 @@ fn remove_row(rows: &mut Vec<Row>, sort_key: SortKey)
 }
 
 // Makes a change. It takes no memory.
-fn change_row(rows: &mut Vec<Row>, change: Change)
+fn change_row(rows: &mut Vec<BoxedRow>, change: Edit)
     requires rising { IsRising rows.old.items }
     requires room { vec_len rows.old < vec_capacity rows.old }
     ensures items { rows.new.items ≡ changed_by rows.old.items change }
@@ -149,14 +153,15 @@ fn change_row(rows: &mut Vec<Row>, change: Change)
     ensures len { vec_len rows.new ≤ vec_len rows.old + 1 }
     ensures capacity { vec_capacity rows.old ≤ vec_capacity rows.new }
 {
-    match change {
-        Change::Put(row) => put_row(rows, row),
-        Change::Remove(table, key) => remove_row(rows, SortKey { table, key }),
+    let Edit { put, table, key } = change;
+    match put {
+        Some(row) => put_row(rows, row),
+        None => remove_row(rows, SortKey { table, key }),
     }
 }
 
 // Makes all the changes, one after another. It takes no memory.
-fn change_all(rows: &mut Vec<Row>, changes: Vec<Change>)
+fn change_all(rows: &mut Vec<BoxedRow>, changes: Vec<Edit>)
     requires rising { IsRising rows.old.items }
     requires room { vec_len rows.old + vec_len changes ≤ vec_capacity rows.old }
     ensures items { rows.new.items ≡ changed rows.old.items changes.items }
@@ -167,51 +172,52 @@ fn change_all(rows: &mut Vec<Row>, changes: Vec<Change>)
     }
 }
 
-// Puts all the rows, one after another. It takes no memory.
-fn put_all(rows: &mut Vec<Row>, more: Vec<Row>)
+// Puts all the rows, one after another. `Err` means out of memory.
+fn put_all(alloc: Global, rows: &mut Vec<BoxedRow>, more: Vec<Row>) -> Result<(), Memory>
     requires rising { IsRising rows.old.items }
     requires room { vec_len rows.old + vec_len more ≤ vec_capacity rows.old }
-    ensures items { rows.new.items ≡ fold put rows.old.items more.items }
-    ensures rising { IsRising rows.new.items }
+    ensures items { OnOk result (rows.new.items ≡ fold put rows.old.items more.items) }
+    ensures rising { OnOk result (IsRising rows.new.items) }
 {
     'rows: for row in more {
-        put_row(rows, row);
+        put_row(rows, BoxedRow::new(alloc, row)?);
     }
+    Ok(())
 }
 
-fn copy_changes(alloc: Global, changes: &[Change]) -> Result<Vec<Change>, Memory>
+fn copy_changes(alloc: Global, changes: &[Change]) -> Result<Vec<Edit>, Memory>
     ensures { IfOk result (λ copies. copies.items ≡ changes.now) }
 {
     let mut copies = Vec::with_capacity(alloc, changes.len())?;
     for change in changes {
-        copies.push(change.copy(alloc)?)?;
+        copies.push(Edit::of(alloc, change)?)?;
     }
     Ok(copies)
 }
 
 // Whether the row of this index is there, and an instance's of this server.
 #[inline(always)]
-fn is_instance_at(rows: &[Row], index: usize, no: ServerNo) -> bool
+fn is_instance_at(rows: &[BoxedRow], index: usize, no: ServerNo) -> bool
     ensures there { OnTrue result (index < length rows.now) }
     ensures at { OnTrue result
         (HoldsAt (λ r. sort_key_of r ≡ sort_key Table.Instance (Key.Server no)) rows.now index) }
 {
-    match rows.get(index) {
-        Some(Row::Instance(kept)) => kept.no == no,
-        Some(
-            Row::Downtime(_)
-            | Row::Candidate(_)
-            | Row::Recovery(_)
-            | Row::Switch(_)
-            | Row::Active { .. },
-        )
-        | None => false,
+    let Some(row) = rows.get(index) else {
+        return false;
+    };
+    match row.as_row() {
+        Row::Instance(kept) => kept.no == no,
+        Row::Downtime(_)
+        | Row::Candidate(_)
+        | Row::Recovery(_)
+        | Row::Switch(_)
+        | Row::Active { .. } => false,
     }
 }
 
 // Puts a copy of a row. An instance's row is mostly at its server's number. It changes nothing if memory runs out.
 #[inline(always)]
-fn put_copy(alloc: Global, rows: &mut Vec<Row>, row: &Row) -> Result<(), Memory>
+fn put_copy(alloc: Global, rows: &mut Vec<BoxedRow>, row: &Row) -> Result<(), Memory>
     requires rising { IsRising rows.old.items }
     ensures ok { OnOk result (rows.new.items ≡ put rows.old.items row.now) }
     ensures err { OnErr result (rows.new.items ≡ rows.old.items) }
@@ -229,7 +235,7 @@ fn put_copy(alloc: Global, rows: &mut Vec<Row>, row: &Row) -> Result<(), Memory>
 
 // Puts a copy of a row, whose place is searched. It changes nothing if memory runs out.
 #[inline(never)]
-fn put_copy_by_key(alloc: Global, rows: &mut Vec<Row>, row: &Row) -> Result<(), Memory>
+fn put_copy_by_key(alloc: Global, rows: &mut Vec<BoxedRow>, row: &Row) -> Result<(), Memory>
     requires rising { IsRising rows.old.items }
     ensures ok { OnOk result (rows.new.items ≡ put rows.old.items row.now) }
     ensures err { OnErr result (rows.new.items ≡ rows.old.items) }
@@ -240,7 +246,7 @@ fn put_copy_by_key(alloc: Global, rows: &mut Vec<Row>, row: &Row) -> Result<(), 
     if is_there(rows, index, sort_key) {
         rows[index].set_to(alloc, row)?;
     } else {
-        let row = row.copy(alloc)?;
+        let row = BoxedRow::new(alloc, row.copy(alloc)?)?;
         rows.reserve(1)?;
         put_row(rows, row);
     }
@@ -248,7 +254,7 @@ fn put_copy_by_key(alloc: Global, rows: &mut Vec<Row>, row: &Row) -> Result<(), 
 }
 
 // Makes a change, whose row is copied. It changes nothing if memory runs out.
-fn change_one(alloc: Global, rows: &mut Vec<Row>, change: &Change) -> Result<(), Memory>
+fn change_one(alloc: Global, rows: &mut Vec<BoxedRow>, change: &Change) -> Result<(), Memory>
     requires rising { IsRising rows.old.items }
     ensures ok { OnOk result (rows.new.items ≡ changed_by rows.old.items change.now) }
     ensures err { OnErr result (rows.new.items ≡ rows.old.items) }
@@ -267,15 +273,15 @@ fn change_one(alloc: Global, rows: &mut Vec<Row>, change: &Change) -> Result<(),
     Ok(())
 }
 
-fn copy_rows(alloc: Global, rows: &[Row]) -> Result<Vec<Row>, Memory>
+fn copy_rows(alloc: Global, rows: &[BoxedRow]) -> Result<Vec<Row>, Memory>
     ensures { IfOk result (λ copies. copies.items ≡ rows.now) }
 {
     let mut copies = Vec::with_capacity(alloc, rows.len())?;
     for row in rows {
-        if let Row::Instance(instance) = row {
+        if let Row::Instance(instance) = row.as_row() {
             copies.push_reserved(Row::Instance(instance.copy()?));
         } else {
-            copies.push_reserved(row.copy(alloc)?);
+            copies.push_reserved(row.as_row().copy(alloc)?);
         }
     }
     Ok(copies)
@@ -299,6 +305,17 @@ fn is_rising(rows: &[Row]) -> bool
     rows.is_sorted_by(|row, next| is_before(row, next))
 }
 
+// These rows, no longer on the heap. `Err` means out of memory.
+fn unboxed(alloc: Global, rows: Vec<BoxedRow>) -> Result<Vec<Row>, Memory>
+    ensures { IfOk result (λ list. list.items ≡ rows.items) }
+{
+    let mut list = Vec::with_capacity(alloc, rows.len())?;
+    'rows: for row in rows {
+        list.push(row.into_row())?;
+    }
+    Ok(list)
+}
+
 /// The map of any list of rows, in rising order: of two with one table and key the last counts. `Err` means out of
 /// memory.
 pub fn row_map(alloc: Global, rows: Vec<Row>) -> Result<Vec<Row>, Memory>
@@ -308,8 +325,8 @@ pub fn row_map(alloc: Global, rows: Vec<Row>) -> Result<Vec<Row>, Memory>
         return Ok(rows);
     }
     let mut map = Vec::with_capacity(alloc, rows.len())?;
-    put_all(&mut map, rows);
-    Ok(map)
+    put_all(alloc, &mut map, rows)?;
+    unboxed(alloc, map)
 }
 
 impl MemKeeper {
@@ -320,7 +337,7 @@ impl MemKeeper {
             ≡ record { rows = map_of rows.items; calls = 0; fail_at = fail_at.items; faults = 0 }) }
     {
         let mut kept = Vec::with_capacity(alloc, rows.len())?;
-        put_all(&mut kept, rows);
+        put_all(alloc, &mut kept, rows)?;
         Ok(MemKeeper {
             rows: kept,
             fail_at,

@@ -106,7 +106,16 @@ impl Engine {
         Reply::Now(self.moment)
     }
 
-    fn poll_read(&mut self, alloc: Global, poller: u32, no: ServerNo) -> Result<Reply, Memory>
+    // Makes the sets of GTIDs that a server's statuses share. `Err` means out of memory.
+    fn settle_sets(&mut self, alloc: Global, no: ServerNo) -> Result<(), Memory>
+        requires { no.0 < length self.old.world.servers }
+        ensures { self.new ≡ self.old }
+    {
+        self.world.settle(alloc, no)
+    }
+
+    // Reads a server into a poller's slot.
+    fn read_slot(&mut self, alloc: Global, poller: u32, no: ServerNo) -> Result<Reply, Memory>
         requires poller { poller < pollers }
         requires server { no.0 < length self.old.world.servers }
         ensures reply { IfOk result (λ r. r ≡ act_reply self.old (Act.PollRead poller no)) }
@@ -123,6 +132,18 @@ impl Engine {
         self.slots[poller as usize] = Some(o);
         self.reads = read;
         Ok(reply)
+    }
+
+    fn poll_read(&mut self, alloc: Global, poller: u32, no: ServerNo) -> Result<Reply, Memory>
+        requires poller { poller < pollers }
+        requires server { no.0 < length self.old.world.servers }
+        ensures reply { IfOk result (λ r. r ≡ act_reply self.old (Act.PollRead poller no)) }
+        ensures plain { IfOk result (λ r. is_plain r ≡ true) }
+        ensures ok { OnOk result (self.new ≡ after_read self.old poller no) }
+        ensures err { OnErr result (self.new ≡ self.old) }
+    {
+        self.settle_sets(alloc, no)?;
+        self.read_slot(alloc, poller, no)
     }
 
     fn poll_store<K: Keeper>(

@@ -65,7 +65,7 @@ fn have_defaults(alloc: Global) -> Result<bool, ReadFault> {
     let Ok(value) = Value::from_str(alloc, TWO) else {
         return Ok(false);
     };
-    let given = servers_in(alloc, true, &value)?.given;
+    let given = servers_in(alloc, true, value)?.given;
     let known = known_of(alloc, &given)?;
     let rules = rules_of(alloc, &given)?;
     let [master, replica] = given.as_slice() else {
@@ -108,7 +108,7 @@ fn opened(alloc: Global, text: &str) -> Result<usize, ReadFault> {
     let Ok(value) = Value::from_str(alloc, text) else {
         return Ok(0);
     };
-    let inits = inits_of(alloc, servers_in(alloc, false, &value)?.given)?;
+    let inits = inits_of(alloc, servers_in(alloc, false, value)?.given)?;
     if !are_given(&inits, false) || !are_labelled(&inits, "m:3306") {
         return Ok(0);
     }

@@ -2,6 +2,7 @@ mod Prelude
 pub mod AliasTables
 pub mod PatternLemmas
 pub mod Limits
+pub mod Members
 pub mod Parts
 pub mod Sound
 pub use Rattle.scenarios.proofs.BinlogCoords as BinlogCoords

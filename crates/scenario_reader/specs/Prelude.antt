@@ -13,7 +13,7 @@ unfoldable pub use Rattle.scenario_servers.specs.Servers.{servers_in}
 pub use Rattle.scenario_servers.specs.declared.given.Given.{Given}
 pub use Rattle.scenario_turns.specs.Expansion.{expanded, in_order, printed_of}
 unfoldable pub use Rattle.scenario_turns.specs.Turns.{turn_in}
-pub use Rattle.scenario_values.specs.Faults.{each, each_member, fails, fault_of, holds, needed, only_keys, optional, or_fails, under, under_item}
+pub use Rattle.scenario_values.specs.Faults.{each, each_member, fails, fault_of, holds, needed, needed_in, only_keys, optional, optional_in, or_fails, under, under_item}
 pub use Rattle.scenario_values.specs.Values.{bool_in, items_in, label_or_fails, members_in, text_in}
 unfoldable pub use Rattle.scenario_values.specs.Values.{number_in}
 pub use Rattle.scenario_values.specs.declared.fault.Fault.{Fault}
@@ -24,7 +24,7 @@ pub use Rattle.scenarios.specs.ValidTurns.{is_write}
 pub use Rattle.scenarios.specs.declared.blocks.Block.{Block}
 pub use Rattle.scenarios.specs.declared.scenario.Scenario.{Scenario}
 pub use Rattle.serde_json.specs.Data.{Data, Items, item, no_items}
-pub use Rattle.serde_json.specs.Find.{as_number, as_u64, get}
+pub use Rattle.serde_json.specs.Find.{as_number, as_u64, get, get_member}
 pub use Rattle.serde_json.specs.Read.{read}
 pub use Rattle.serde_json.specs.View.{items_view, members_view, view}
 pub use Rattle.scenarios.specs.Turns.declared.turn.Turn.{Turn}

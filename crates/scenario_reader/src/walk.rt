@@ -1,8 +1,8 @@
 //! The walk over a scenario's text.
 
-ghost use Rattle.std.specs.Prelude.{◌≡◌, ◌+◌, ◌≤◌, ℕ, List, [], Some, Ok, IfOk, codes, count_by, length};
-ghost use Rattle.scenario_reader.specs.Prelude.{Gives, IsGiven, IsScenario, Scenario as AScenario, TooLong, each, expanded, fault_of, inits_of, is_write};
-ghost use Rattle.scenario_reader.specs.Prelude.{items_in, items_view, needed, no_items, optional, servers_in, turn_in, under as place_under, view};
+ghost use Rattle.std.specs.Prelude.{◌≡◌, ◌+◌, ◌≤◌, ℕ, List, [], Some, Ok, IfOk, codes, count_by, length, option_map};
+ghost use Rattle.scenario_reader.specs.Prelude.{Gives, IsGiven, IsScenario, Scenario as AScenario, TooLong, each, expanded, fault_of, get, get_member, inits_of, is_write};
+ghost use Rattle.scenario_reader.specs.Prelude.{items_in, items_view, members_view, needed_in, no_items, optional_in, servers_in, turn_in, under as place_under, view};
 ghost use Rattle.scenario_reader.specs.Filters.{AreRead};
 ghost use Rattle.scenario_reader.specs.ReadOpenings.{is_small, listed_count};
 ghost use Rattle.scenario_reader.specs.ReadScenarios.{json_in, bounded, turns_in, scenario_with, scenario_from, scenario_in};
@@ -16,7 +16,7 @@ use scenario_servers::{Listed, Names, inits_of, known_of, rules_of, servers_in};
 use scenario_turns::{ListedTurn, Patterns, are_few, each_turn, expanded, in_order, printed_of};
 use scenario_values::{FaultCode, ReadFault, fails, holds, items_in, under};
 use scenarios::{Answers, Rules, Scenario, Step, Turn, Turns};
-use serde_json::Value;
+use serde_json::{Map, Value};
 use std::alloc::Global;
 
 const MOST: u64 = 4_000_000;
@@ -145,23 +145,51 @@ fn scenario_with(
     })
 }
 
-#[tactic(auto, using(scenario_values::proofs::Unders::gives_under))]
-fn servers_at(alloc: Global, gtid: bool, object: &Value) -> Result<Listed, ReadFault>
-    ensures { Gives (λ l. (l.names, l.given.items)) fault_of result
-        (needed (codes "servers") (servers_in gtid) (view object.now)) }
+// Takes a member out of an object.
+fn taken(members: &mut Map<String, Value>, name: &str) -> Option<Value>
+    ensures value { option_map view result
+        ≡ get_member name.now (members_view members.old.entries) }
+    ensures others { (other : List ℕ) → (name.now ≡ other → ⊥)
+        → get_member other (members_view members.new.entries)
+        ≡ get_member other (members_view members.old.entries) }
 {
-    match object.get("servers") {
+    members.remove(name)
+}
+
+// The servers and the turns of an object, which is used up: what else it has is dropped.
+fn lists_of(object: Value) -> (Option<Value>, Option<Value>)
+    ensures servers { option_map view result.0 ≡ get (codes "servers") (view object) }
+    ensures turns { option_map view result.1 ≡ get (codes "turns") (view object) }
+{
+    match object {
+        Value::Object(mut members) => {
+            let servers = taken(&mut members, "servers");
+            let turns = taken(&mut members, "turns");
+            (servers, turns)
+        }
+        Value::Null | Value::Bool(_) | Value::Number(_) | Value::String(_) | Value::Array(_) => (
+            None, None,
+        ),
+    }
+}
+
+#[tactic(auto, using(scenario_values::proofs::Unders::gives_under))]
+fn servers_at(alloc: Global, gtid: bool, servers: Option<Value>) -> Result<Listed, ReadFault>
+    ensures { Gives (λ l. (l.names, l.given.items)) fault_of result
+        (needed_in (codes "servers") (servers_in gtid) (option_map view servers)) }
+{
+    match servers {
         Some(value) => under(alloc, b"servers", servers_in(alloc, gtid, value)),
         None => Err(fails(alloc, FaultCode::Missing)),
     }
 }
 
 #[tactic(auto, using(scenario_values::proofs::Unders::gives_under))]
-fn listed_turns(alloc: Global, object: &Value) -> Result<&[Value], ReadFault>
+fn listed_turns(alloc: Global, turns: &Option<Value>) -> Result<&[Value], ReadFault>
     ensures { Gives (λ v. items_view v.now) fault_of result
-        (optional (codes "turns") items_in no_items (view object.now)) }
+        (optional_in (codes "turns") items_in no_items (option_map view turns.now)) }
 {
-    match object.get("turns") {
+    match turns {
         Some(value) => {
             let items = under(alloc, b"turns", items_in(alloc, value))?;
             Ok(items)
@@ -171,13 +199,14 @@ fn listed_turns(alloc: Global, object: &Value) -> Result<&[Value], ReadFault>
 }
 
 #[tactic(auto, unfolding(crate::specs::ReadScenarios::scenario_from))]
-fn scenario_from(alloc: Global, value: &Value) -> Result<Scenario, ReadFault>
-    ensures { Gives (λ s. s) fault_of result (scenario_from (view value.now)) }
+fn scenario_from(alloc: Global, value: Value) -> Result<Scenario, ReadFault>
+    ensures { Gives (λ s. s) fault_of result (scenario_from (view value)) }
 {
-    keys_in(alloc, value)?;
-    let head = head_in(alloc, value)?;
-    let listed = servers_at(alloc, head.gtid, value)?;
-    let items = listed_turns(alloc, value)?;
+    keys_in(alloc, &value)?;
+    let head = head_in(alloc, &value)?;
+    let (servers, turns) = lists_of(value);
+    let listed = servers_at(alloc, head.gtid, servers)?;
+    let items = listed_turns(alloc, &turns)?;
     scenario_with(alloc, head, listed, items)
 }
 
@@ -209,7 +238,7 @@ fn scenario_in(alloc: Global, bytes: &[u8]) -> Result<Scenario, ReadFault>
 {
     holds(alloc, FaultCode::TooLong, bytes.len() <= MAX_SCENARIO_LEN)?;
     let value = json_in(alloc, bytes)?;
-    scenario_from(alloc, &value)
+    scenario_from(alloc, value)
 }
 
 /// Reads a scenario: the one that these bytes are, or the first fault of the walk over them, with its place. `Memory`

@@ -6,6 +6,7 @@ pub mod Printed
 pub mod Reading
 pub mod ServerSteps
 pub mod Steps
+pub mod Dropped
 pub mod UuidLists
 pub mod UuidTables
 pub mod Zipped

@@ -14,6 +14,7 @@ pub mod Fetched
 pub mod Applied
 pub mod Changed
 pub mod Seen
+pub mod Settled
 pub mod AutoAttached
 pub mod Chains
 pub mod Standing

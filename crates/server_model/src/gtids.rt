@@ -64,6 +64,14 @@ pub(crate) fn keep_gtids(
     }
 }
 
+/// Makes the set that the copies of a server's set share, if there is none. `Err` means out of memory.
+pub(crate) fn settle(alloc: Global, sets: &mut Vec<ReservedSet>, no: ServerNo) -> Result<(), Memory>
+    requires { no.0 < length sets.old.items }
+    ensures { sets.new.items ≡ sets.old.items }
+{
+    sets[no.0 as usize].settle(alloc)
+}
+
 /// How many transactions the longest prefix of a history has that the set holds.
 pub(crate) fn held_len(servers: &[Server], executed: &ReservedSet, log: &LogIndex) -> u64
     ensures { result ≡ held_len (uuids_in servers.now) executed.now.intervals log.now.txns }

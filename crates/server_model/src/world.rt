@@ -16,7 +16,7 @@ use crate::binlog_coords_items::{Coord, LogIndex, Next};
 use crate::gtid_sets::{GtidSet, ReservedSet};
 use crate::gtids::{
     auto_readiness, executed_sets, held_len, keep_gtid, keep_gtids, kept_coord, purged_len,
-    purged_sets, uuid_of,
+    purged_sets, settle, uuid_of,
 };
 use crate::orch_base::{Memory, ServerNo, Settings, SourceState, Txn};
 use crate::own::own_counts;
@@ -518,8 +518,19 @@ impl World {
         is_reachable(&self.servers[no.0 as usize])
     }
 
-    /// What a status would show of a server, reached or not. It takes time in the size of the server's executed set.
-    /// `Err` means out of memory.
+    /// Makes the sets of a server that its statuses share, until what it has executed or purged changes. It takes time
+    /// in their size, unless they are made. `Err` means out of memory.
+    #[tactic(auto, using(crate::proofs::Settled::settled))]
+    pub fn settle(&mut self, alloc: Global, no: ServerNo) -> Result<(), Memory>
+        requires { no.0 < length self.old.servers }
+        ensures { self.new ≡ self.old }
+    {
+        settle(alloc, &mut self.executed, no)?;
+        settle(alloc, &mut self.purged, no)
+    }
+
+    /// What a status would show of a server, reached or not. It takes time in the size of the server's executed set,
+    /// unless `settle` made it. `Err` means out of memory.
     pub fn shows(&self, alloc: Global, no: ServerNo) -> Result<Status, Memory>
         requires { no.0 < length self.now.servers }
         ensures { IfOk result (λ s. shown self.now no.0 ≡ Some s) }
@@ -532,7 +543,7 @@ impl World {
     }
 
     /// What orchestrator sees of a server in one exchange: `Unreachable` exactly if the server is down or its desk link
-    /// is cut. It takes time in the size of the server's executed set.
+    /// is cut. It takes time in the size of the server's executed set, unless `settle` made it.
     pub fn status(&self, alloc: Global, no: ServerNo) -> Result<Status, StatusFault>
         requires { no.0 < length self.now.servers }
         ensures { Gives (λ s. s) status_fault result (status_of_server self.now no.0) }

@@ -36,7 +36,7 @@ pub struct Status {
 }
 
 impl Status {
-    ghost use Rattle.std.specs.Prelude.{◌≡◌, ◌↔◌, IfOk, IsTrue, OnOk, OnErr, length};
+    ghost use Rattle.std.specs.Prelude.{◌≡◌, ◌↔◌, IfOk, IsTrue, OnOk, OnErr};
 
     /// The same once more. `Err` means out of memory.
     #[inline(always)]
@@ -60,18 +60,15 @@ impl Status {
         })
     }
 
-    /// Becomes the same as the other, without memory if its sets have as many intervals. If memory runs out, it stays
-    /// whole.
+    /// Becomes the same as the other, whose sets it shares. If memory runs out, it stays whole.
     pub fn set_to(&mut self, other: &Status) -> Result<(), Memory>
         ensures ok { OnOk result (self.new ≡ other.now) }
         ensures err { OnErr result (self.new ≡ self.old) }
     {
-        if !self.has_sets_as_long(other) {
-            *self = other.copy()?;
-            return Ok(());
-        }
-        self.set.set_to(&other.set);
-        self.purged.set_to(&other.purged);
+        let set = other.set.copy()?;
+        let purged = other.purged.copy()?;
+        self.set = set;
+        self.purged = purged;
         self.own_end = other.own_end;
         self.source = other.source;
         self.exec = other.exec;
@@ -82,15 +79,6 @@ impl Status {
         self.read_only = other.read_only;
         self.first = other.first;
         Ok(())
-    }
-
-    // Whether its sets have as many intervals.
-    #[inline(always)]
-    fn has_sets_as_long(&self, other: &Status) -> bool
-        ensures { IsTrue result ↔ ((length self.now.set ≡ length other.now.set)
-            × (length self.now.purged ≡ length other.now.purged)) }
-    {
-        self.set.is_as_long(&other.set) && self.purged.is_as_long(&other.purged)
     }
 
     // Whether its GTIDs are the same.

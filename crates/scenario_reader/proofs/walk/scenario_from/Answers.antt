@@ -1,9 +1,15 @@
+use Rattle.std.proofs.Common.{◌≡◌, ◌∙◌, Ok, Option, ap, sym}
 use Rattle.std.specs.Prelude.{codes}
+use Rattle.scenario_reader.specs.Prelude.{needed, needed_in}
 use Rattle.scenario_reader.proofs.Prelude.{needed-ok, read_given, servers_in, view}
+use Rattle.serde_json.specs.Data.{Data}
 use Rattle.scenario_reader.proofs.walk.scenario_from.Goals as goal
 
 pub scenario_with-requires-clause-given : goal.scenario_with-requires-clause-given
 scenario_with-requires-clause-given c =
+    let gtid = c.in_ok-head.head.gtid in
     let listed = c.in_ok-listed.listed in
-    let read = needed-ok (codes "servers") (servers_in c.in_ok-head.head.gtid) (view c.args.value.now) (listed.names, listed.given.items) c.in_ok-listed.ensures in
-    read_given c.in_ok-head.head.gtid read.0 (listed.names, listed.given.items) read.2
+    let found : needed (codes "servers") (servers_in gtid) (view c.args.value) ≡ Ok (listed.names, listed.given.items) =
+    sym (ap (λ (o : Option Data). needed_in (codes "servers") (servers_in gtid) o) c.lists_of-servers.ensures.servers) ∙ c.in_ok-listed.ensures in
+    let read = needed-ok (codes "servers") (servers_in gtid) (view c.args.value) (listed.names, listed.given.items) found in
+    read_given gtid read.0 (listed.names, listed.given.items) read.2

@@ -21,4 +21,5 @@ invariant_of-self c =
       set = subst IsSet (sym c.insert_gtid.ensures.items) (IsSet-with_pair c.self.inside.intervals.items c.args.uuid c.args.n c.self.invariant.set (search arith) c.requires.above_zero c.requires.in_range);
       reserved = let capacity = c.insert_gtid.ensures.capacity in omega (arith, reserved, capacity);
       within = rw c.insert_gtid.ensures.items (omega (arith, room, longer));
+      shared = tt;
     }

@@ -13,4 +13,4 @@ decided : (a b : Interval) → Decides (eqb a.uuid b.uuid && (eqb a.first b.firs
 decided a b = (same_parts a b, λ e. subst (λ c. (eqb a.uuid c.uuid && (eqb a.first c.first && eqb a.last c.last)) ≡ true) e (itself a))
 
 pub returns : goal.returns
-returns c = rw (← c.self.view_is, ← c.other.view_is) (slice_eq-Decides decided c.self.inside.intervals.items c.other.inside.intervals.items c.eq.result c.eq.ensures)
+returns c = rw (← c.list.ensures.list, ← c.list-2.ensures.list) (slice_eq-Decides decided c.list.result.now c.list-2.result.now c.eq.result c.eq.ensures)

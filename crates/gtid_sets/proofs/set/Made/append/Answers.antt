@@ -1,7 +1,7 @@
 use Rattle.std.proofs.Common.{arith, sym, ◌∙◌}
 use Rattle.gtid_sets.proofs.Prelude.{low, nat_tests}
 use Rattle.gtid_sets.proofs.Joins.{joined_set, apart_set, joined_order}
-use Rattle.gtid_sets.proofs.set.GtidSet.append.Goals as goal
+use Rattle.gtid_sets.proofs.set.Made.append.Goals as goal
 
 pub invariant_of-self-then-reaches : goal.invariant_of-self-then-reaches
 invariant_of-self-then-reaches c =

@@ -1,7 +1,7 @@
 use Rattle.std.proofs.Common.{◌<◌, length, sym, subst}
 use Rattle.orch_core.proofs.Prelude.{State, state_of}
 use Rattle.orch_core.proofs.States.{IsState-read}
-use Rattle.orch_core.proofs.engine.Engine.poll_read.Goals as goal
+use Rattle.orch_core.proofs.engine.Engine.read_slot.Goals as goal
 
 pub invariant_of-self : goal.invariant_of-self
 invariant_of-self c =

@@ -1,6 +1,6 @@
 use Rattle.std.proofs.Common.{take}
 use Rattle.audit_log.specs.Index.{IsIndex}
-use Rattle.audit_log.proofs.index.Index.renew.Given as goal
+use Rattle.audit_log.proofs.index.Index.enter_all.Given as goal
 
 abbrev pub invariant-loop-i : goal.invariant-loop-i
 invariant-loop-i l = IsIndex (take l.i l.recoveries) l.self

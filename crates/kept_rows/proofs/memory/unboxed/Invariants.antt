@@ -1,0 +1,5 @@
+use Rattle.std.proofs.Common.{◌≡◌}
+use Rattle.kept_rows.proofs.memory.unboxed.Given as goal
+
+abbrev pub invariant-rows : goal.invariant-rows
+invariant-rows l = l.list.items ≡ l.yielded
