@@ -3,39 +3,19 @@ use Rattle.std.proofs.Common.{◌≡◌, ◌∙◌, ℕ, Bool, true, false, cond
 use Rattle.std.specs.Prelude.{◌==◌, is_some, unwrap_or}
 use Rattle.recovery_runs.proofs.Prelude.{All-contains, All-find, ComesTo, CoveredState, CoversAt, CoversSoFar, Docket, Follower, HasSo, HeldRecovery}
 use Rattle.recovery_runs.proofs.Prelude.{HeldState, Hook, IsBelow, IsClosed, IsCoveredBeside, IsRuling, IsStuck, IsUnder, Line, LooksAt, OldFollows}
-use Rattle.recovery_runs.proofs.Prelude.{Op, Purpose, RecoveriesBookTheirEnd, Recovery, Row, Scenario, Server, ServerNo, Stage, State, Status}
-use Rattle.recovery_runs.proofs.Prelude.{TakesWrites, Turn, Unended, World, as_read, attached_no, crowns, decided-walks, decided_at, decides-before}
-use Rattle.recovery_runs.proofs.Prelude.{decisions-keep, first_op, flight_of, front_hook, job_at, jobs-store, moment_at, next_count, number_of}
-use Rattle.recovery_runs.proofs.Prelude.{same_Some, seen_in, server_at, shown_at, shown_of, status, status_in, step, turn-held, turn-rings}
-use Rattle.recovery_runs.proofs.Prelude.{unless_hook}
+use Rattle.recovery_runs.proofs.Prelude.{Op, Purpose, RecoveriesBookTheirEnd, Recovery, Row, Scenario, ServerNo, Stage, State, Status, TakesWrites}
+use Rattle.recovery_runs.proofs.Prelude.{Turn, Unended, as_read, crowns, decided-walks, decided_at, decides-before, decisions-keep, first_op}
+use Rattle.recovery_runs.proofs.Prelude.{flight_of, front_hook, job_at, jobs-store, moment_at, next_count, number_of, same_Some, shown_at, step}
+use Rattle.recovery_runs.proofs.Prelude.{turn-held, turn-rings, unless_hook}
 use Rattle.recovery_runs.proofs.Prelude.act
 use Rattle.recovery_runs.proofs.Prelude.deed
 use Rattle.recovery_runs.proofs.Prelude.purpose
-use Rattle.recovery_runs.proofs.Prelude.seeing
 use Rattle.recovery_runs.proofs.Prelude.stage
 use Rattle.recovery_runs.proofs.Prelude.turn
 use Rattle.recovery_runs.proofs.Prelude.unended
 use Rattle.recovery_runs.proofs.Finishing.{turn_in}
+use Rattle.recovery_runs.proofs.Shown.{ruling-shown, under-shown}
 use Rattle.recovery_runs.proofs.Tending.{tends-comes}
-
--- ---- what a status shows
-
-module _ (w : World) (n : ℕ) (seen : Status) (shows : seen_in (status w n) ≡ Some seen) where
-  shown-is : (server : Server) → server_at w n ≡ Some server → seen ≡ shown_of w server
-  shown-is server at = go (server.up && server.desk) (sym (ap (λ (o : Option Server). seen_in (status_in w o)) at) ∙ shows)
-    where
-      go : (b : Bool) → seen_in (cond b (Ok (shown_of w server)) (Err seeing.Unreachable)) ≡ Some seen → seen ≡ shown_of w server
-      go true h = sym (same_Some (shown_of w server) seen h)
-      go false h = cc
-
-  ruling-shown : IsRuling w n → TakesWrites seen
-  ruling-shown h = (
-    ap (λ (x : Status). x.source) (shown-is h.free.server h.free.there) ∙ h.free.free,
-    ap (λ (x : Status). x.read_only) (shown-is h.writable.server h.writable.there) ∙ h.writable.writable,
-  )
-
-  under-shown : (d : ServerNo) → IsUnder w n d.0 → IsBelow d seen
-  under-shown d h = ap (λ (x : Status). attached_no x.source) (shown-is h.server h.there) ∙ h.under
 
 -- ---- a turn
 

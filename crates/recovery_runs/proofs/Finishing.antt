@@ -42,7 +42,7 @@ module _ (s : State) (id : ℕ) (r : Recovery) (docket : Docket) where
     own-done : (own_turn docket (promoted_then s r) (turn_taken s r)).taken.step ≡ job_step.Done lines
     own-done = subst (λ (h : Hooked). h.taken.step ≡ job_step.Done lines) own-turned is.done
 
-    taken-done : (turn_taken s r).step ≡ job_step.Done (own_lines s r)
+    pub taken-done : (turn_taken s r).step ≡ job_step.Done (own_lines s r)
     taken-done = (done-with docket.hooks (promoted_then s r) (turn_taken s r).step lines own-done).0
 
     -- nobody is lost because none may be promoted

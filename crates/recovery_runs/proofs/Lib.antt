@@ -18,6 +18,9 @@ pub mod Tending
 pub mod Failing
 pub mod TurningWell
 pub mod Booking
+pub mod Shown
+pub mod LastLooks
+pub mod Kept
 pub mod Ended
 pub mod Looking
 pub mod Looks

@@ -32,7 +32,7 @@ pub use Rattle.run_laws.specs.UnendedLaws.CoveredFlights.{CoveredJobs, KeptJobs}
 pub use Rattle.run_laws.specs.UnendedLaws.CoveredPassages.{IsOutside}
 pub use Rattle.run_laws.specs.UnendedLaws.Turns.{RecoveryTurn}
 pub use Rattle.run_laws.proofs.UnendedLaws.UpTurns.{done-ups, exchange-ups, none-ups, number-up, recovery-up, turn-finds, turn-shuts, turn-stands}
-pub use Rattle.run_laws.specs.UnendedLaws.Upkeep.{IsUpBeside, KeepsUp, UpJobs}
+pub use Rattle.run_laws.specs.UnendedLaws.Upkeep.{IsUpBeside, KeepsUp, ReadsLast, UpJobs, UpSoFar}
 pub use Rattle.run_laws.proofs.UnendedLaws.Checking.{tended-still}
 pub use Rattle.run_laws.proofs.UnendedLaws.Staying.{begun-tended, early-turn, of-docket, tended-turn}
 pub use Rattle.run_laws.proofs.UnendedLaws.Telling.{done-docket, failed-docket, none-docket, reached-docket}
@@ -41,7 +41,7 @@ pub use Rattle.recovery_reasons.specs.Reasons.{IsOfDead}
 pub use Rattle.run_laws.specs.HookTexts.declared.hooks.Hook.{Hook}
 pub use Rattle.run_laws.specs.HookTexts.declared.hooks.Hooks.{Hooks}
 pub use Rattle.run_laws.specs.HookTexts.declared.values.Values.{Values}
-pub use Rattle.run_laws.specs.InstanceKeeper.Book.{BookState, IsBook}
+pub use Rattle.run_laws.specs.InstanceKeeper.Book.{BookState, IsBook, instance_at}
 pub use Rattle.run_laws.specs.InstanceKeeper.Leases
 pub use Rattle.run_laws.proofs.JobLaws.Lists.{All-find}
 pub use Rattle.run_laws.specs.JobLaws.Flights.{Flight}
@@ -51,6 +51,7 @@ pub use Rattle.run_laws.specs.UnendedJobs.Jobs.{job_at, job_exchanges, job_obser
 pub use Rattle.run_laws.specs.KeptRows.Recoveries.{put_recovery}
 pub use Rattle.run_laws.specs.KeptRows.Seeing.{seen_in}
 pub use Rattle.run_laws.specs.KeptRows.declared.observation.Observation.{Observation}
+pub use Rattle.run_laws.specs.KeptRows.declared.observation.Instance.{Instance}
 pub use Rattle.run_laws.specs.KeptRows.declared.recovery.Recovery as KeptRows
 pub use Rattle.run_laws.specs.KeptRows.declared.row.Change.{Change}
 pub use Rattle.run_laws.specs.KeptRows.declared.row.Row.{Row}
@@ -79,9 +80,9 @@ pub use Rattle.run_laws.proofs.OrchCore.Comes as comes
 pub use Rattle.run_laws.specs.OrchCore.After.{after_act, after_done, step}
 pub use Rattle.run_laws.specs.OrchCore.Jobs.{turn_of, turned_at}
 pub use Rattle.run_laws.specs.OrchCore.Nodes.{act_in}
-pub use Rattle.run_laws.specs.OrchCore.Polls.{changes_of, command_outcome, numbers_of, scan_outcome}
+pub use Rattle.run_laws.specs.OrchCore.Polls.{changes_of, command_outcome, numbers_of, reading, scan_outcome, slot_at}
 pub use Rattle.run_laws.specs.OrchCore.Replies.{reply_of}
-pub use Rattle.run_laws.specs.OrchCore.Runs.{engine, run_turns, turns_of}
+pub use Rattle.run_laws.specs.OrchCore.Runs.{act_asks, asks, done_asks, engine, run_turns, turns_of}
 pub use Rattle.run_laws.specs.OrchCore.Starts.{configuration_of, start}
 pub use Rattle.run_laws.specs.OrchCore.Settling.{known_of}
 pub use Rattle.run_laws.specs.OrchCore.States.{State}
@@ -105,7 +106,9 @@ pub use Rattle.run_laws.specs.RecoveryCore.Recoveries
 pub use Rattle.run_laws.specs.RecoveryCore.Takeovers.{comes_below, followers_of, takeover_refusal}
 pub use Rattle.run_laws.specs.RecoveryCore.declared.attempt.Attempt as RecoveryPermits
 pub use Rattle.run_laws.proofs.RecoveryPlans.Choices.{same-no}
-pub use Rattle.run_laws.proofs.RecoveryPlans.Walking.{decided-walks, decisions-keep}
+pub use Rattle.recovery_covers.proofs.RecoveryEnds.Shapes.{same-head, same-tail}
+pub use Rattle.recovery_covers.proofs.RecoveryEnds.Fitting.{went-of}
+pub use Rattle.run_laws.proofs.RecoveryPlans.Walking.{decided-walks, decides-idle, decisions-keep, taken-walks}
 pub use Rattle.run_laws.specs.RecoveryPlans.Beginning.{begun_recovery, first_source, is_takeover}
 pub use Rattle.run_laws.specs.RecoveryPlans.Deciding.{decided, ground_of}
 pub use Rattle.run_laws.specs.RecoveryPlans.Named.{IsNamedRecovery, spoken_to}
@@ -113,9 +116,9 @@ pub use Rattle.run_laws.specs.RecoveryPlans.Recoveries.{Recovery}
 pub use Rattle.run_laws.specs.RecoveryPlans.Recoveries as RecoveryPlans
 pub use Rattle.run_laws.specs.RecoveryPlans.Table.{info}
 pub use Rattle.run_laws.specs.RecoveryPlans.Table as table
-pub use Rattle.run_laws.specs.RecoveryPlans.Taking.{Fate, Taken, acted, attempted, barred_by, fate, met, on_going, source_cause, taken}
+pub use Rattle.run_laws.specs.RecoveryPlans.Taking.{Fate, Taken, acted, attempted, barred_by, fate, goes_on, is_waiting, last_looks, met, on_going, source_cause, taken}
 pub use Rattle.run_laws.specs.RecoveryPlans.Taking as taking
-pub use Rattle.run_laws.specs.RecoveryPlans.Telling.{told_by}
+pub use Rattle.run_laws.specs.RecoveryPlans.Telling.{told, told_by}
 pub use Rattle.run_laws.specs.RecoveryPlans.declared.means.Means.{Means}
 pub use Rattle.run_laws.specs.RecoveryPlans.declared.means.Means.TheVariants as means
 pub use Rattle.run_laws.specs.RecoveryPlans.declared.purpose.Purpose.{Purpose}
@@ -165,7 +168,7 @@ pub use Rattle.run_laws.specs.Ready.{AreShort, Ready}
 pub use Rattle.run_laws.specs.Runs.{ComesTo}
 pub use Rattle.run_laws.specs.States.{HeldState, SoundState}
 pub use Rattle.run_laws.specs.Scenarios.Aliases.{alias_of}
-pub use Rattle.run_laws.specs.Scenarios.ValidTurns.{IsAct, IsCommand, IsTurn}
+pub use Rattle.run_laws.specs.Scenarios.ValidTurns.{IsAct, IsCommand, IsTurn, pollers}
 pub use Rattle.run_laws.specs.Scenarios.declared.scenario.Scenario.{Scenario}
 pub use Rattle.run_laws.proofs.ServerModel.Lists.{slice_get-snoc_cases}
 pub use Rattle.run_laws.specs.ServerModel.Gtids.{status}
@@ -193,9 +196,9 @@ pub use Rattle.run_laws.specs.RecoveryPlans.Deciding.{by_queue, once}
 pub use Rattle.run_laws.specs.Operations.Turns.{after_look, next, observed, saw}
 pub use Rattle.run_laws.specs.RecoveryPlans.Recoveries.{follows_no_more, working}
 pub use Rattle.run_laws.specs.RecoveryPlans.Beginning.{first_ops, first_stage}
-pub use Rattle.run_laws.specs.RecoveryPlans.Taking.{entered}
-pub use Rattle.run_laws.specs.RecoveryPlans.Stages.{leaver, moved}
-pub use Rattle.run_laws.specs.RecoveryPlans.Moves.{borne, decided_by, ended_by, fate_of}
+pub use Rattle.run_laws.specs.RecoveryPlans.Taking.{entered, stepped}
+pub use Rattle.run_laws.specs.RecoveryPlans.Stages.{ends, leaver, moved}
+pub use Rattle.run_laws.specs.RecoveryPlans.Moves.{AtEnd, Bearing, Decision, Decisions, Does, MayDecide, Turning, borne, decided_by, ended_by, fate_of}
 pub use Rattle.run_laws.specs.RecoveryPlans.Moves as by
 pub use Rattle.run_laws.proofs.RecoveryPlans.Walking.{KeepsAlways, always, kept-whole}
 pub use Rattle.run_laws.specs.UnendedJobs.Hooked.{due_at, told_before, told_with}
@@ -209,10 +212,12 @@ pub use Rattle.recovery_covers.proofs.Turning.{decides-before}
 pub use Rattle.recovery_covers.specs.RecoveryLaws.HeldRecoveries.{HeldRecovery}
 pub use Rattle.recovery_covers.specs.RecoveryLaws.Standing.{IsRuling, IsUnder, attached_no}
 pub use Rattle.recovery_covers.specs.SoFar.{CoversAt, CoversSoFar, IsClosed, OldFollows}
-pub use Rattle.recovery_runs.specs.Booking.{HasSo, IsBelow, LooksAt, RecoveriesBookTheirEnd, TakesWrites}
+pub use Rattle.recovery_runs.specs.Booking.{BooksAtLast, HasSo, IsBelow, LoadGiven, LoadsGiven, LooksAt, RecoveriesBookTheirEnd, TakesWrites}
 pub use Rattle.recovery_runs.specs.TurnsWell.{decided_at}
-pub use Rattle.run_laws.proofs.Readings.{jobs-store}
-pub use Rattle.run_laws.specs.Readings.{as_read, first_op, shown_at, unless_hook}
+pub use Rattle.run_laws.proofs.Came.{Came, ReadsOn, act-reads, turn-reads}
+pub use Rattle.run_laws.proofs.Came as came
+pub use Rattle.run_laws.proofs.Readings.{jobs-store, openings-give-numbers, turn-stores}
+pub use Rattle.run_laws.specs.Readings.{IsKeptSo, NumbersAreGiven, as_read, first_op, shown_at, unless_hook}
 pub use Rattle.recovery_covers.specs.Covers.{crowns}
 pub use Rattle.run_laws.specs.Operations.Deeds as deed
 pub use Rattle.run_laws.specs.RecoveryPlans.declared.outcome.Follower.{Follower}

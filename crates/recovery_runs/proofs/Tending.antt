@@ -1,6 +1,6 @@
 -- What holds of the recoveries in each state of each run.
-use Rattle.std.proofs.Common.{◌≡◌, ◌∙◌, ℕ, ◌<◌, Bool, List, [], ◌∷◌, ◌++◌, length, append_assoc, refl, sym, ap, subst, Some}
-use Rattle.recovery_runs.proofs.Prelude.{All-find, All-head, All-nil, All-tail, AreScenarios, Began, ComesTo, CoveredState, Docket, ExplainedState}
+use Rattle.std.proofs.Common.{◌≡◌, ◌∙◌, ℕ, ◌<◌, Bool, true, List, [], ◌∷◌, ◌++◌, length, append_assoc, refl, sym, ap, subst, Some}
+use Rattle.recovery_runs.proofs.Prelude.{All-find, All-head, All-nil, All-tail, AreScenarios, Began, BooksAtLast, ComesTo, LoadGiven, LoadsGiven, CoveredState, Docket, ExplainedState}
 use Rattle.recovery_runs.proofs.Prelude.{ExplainsAlong, ExplainsTurn, Fact, FinishesWell, Goes, Goes-start, Goes-step, HasFacts, HookState, IsEarly}
 use Rattle.recovery_runs.proofs.Prelude.{IsExplained, IsFinish, IsQuiet, IsToldOf, IsTurn, KeptState, Line, Recovery, Row, Scenario, ServerNo}
 use Rattle.recovery_runs.proofs.Prelude.{SpeakingState, State, TendedState, Turn, Unended, UpState, append-nil, engine, exchanges_at, finished_so}
@@ -10,10 +10,10 @@ use Rattle.recovery_runs.proofs.Prelude.act
 use Rattle.recovery_runs.proofs.Prelude.exchanges
 use Rattle.recovery_runs.proofs.Prelude.turn
 use Rattle.recovery_runs.proofs.Prelude.unended
-use Rattle.std.specs.Prelude.{◌==◌, All, slice_get}
+use Rattle.std.specs.Prelude.{◌-◌, ◌^◌, ◌==◌, All, slice_get, take}
 use Rattle.recovery_runs.proofs.Entries.{audit-ends}
 use Rattle.recovery_runs.proofs.Tellings.{told-then}
-use Rattle.recovery_runs.proofs.Finishing.{keeps-histories, keeps-up, lost-fit, owes-nothing, reply-told}
+use Rattle.recovery_runs.proofs.Finishing.{keeps-histories, keeps-up, lost-fit, owes-nothing, reply-told, taken-done}
 use Rattle.recovery_runs.proofs.Facts.{explained-start, explained-step, last-explained}
 use Rattle.recovery_runs.proofs.HookTellings.{early-still, finish-tells}
 use Rattle.recovery_runs.proofs.Scenarios.{are-scenarios}
@@ -21,7 +21,8 @@ use Rattle.recovery_runs.proofs.Still.{still-step, HasStill}
 use Rattle.recovery_runs.proofs.Tended.{tended-start, tended-step}
 use Rattle.recovery_runs.proofs.Covering.{covered-start, covered-step, kept-start, kept-step, speaking-step}
 use Rattle.recovery_runs.proofs.Origins.{HasOrigin, Step, origins-step, take-all}
-use Rattle.recovery_runs.proofs.Upkeep.{start-up, step-up}
+use Rattle.recovery_runs.proofs.Kept.{KeepsEnds, booked-last, keeps-start, keeps-step}
+use Rattle.recovery_runs.proofs.Upkeep.{all-counts, start-up, step-up}
 
 -- ---- one state
 
@@ -100,6 +101,23 @@ module _ (count : ℕ) (from : State) where
         (subst (λ (zs : List Step). ExplainsAlong P id from zs) (sym (append_assoc xs (y ∷ []) ys)) explains) (tends-step xs s y is t)
         (step-up P id count y.0 s t.goes.ready t.goes.held t.cares.covered t.cares.speaking up y.1 is (explains-at xs ys y s t.here explains))
 
+  -- a turn of a run that loads no later reading than were given
+  loads-at : (xs ys : List Step) (x : Step) (s : State) → s ≡ run_turns engine from xs → LoadGiven from (xs ++ x ∷ ys) → LoadsGiven s x
+  loads-at xs ys x s here loads =
+      subst (λ (z : State). LoadsGiven z x) (sym here) (subst (λ (zs : List Step). LoadsGiven (run_turns engine from zs) x) (take-all xs (x ∷ ys)) (loads (length xs) x (get-at xs ys x)))
+
+  abbrev AllUp : State → Type 0
+  AllUp s = (id : ℕ) → UpState (λ x. true) id s
+
+  kept-run : (xs ys : List Step) (s : State) → All (IsTurn count) (turns_of ys) → LoadGiven from (xs ++ ys) → Tends xs s → AllUp s → KeepsEnds s → KeepsEnds (run_turns engine s ys)
+  kept-run xs [] s all loads t ups keeps = keeps
+  kept-run xs (y ∷ ys) s all loads t ups keeps =
+      let is = All-head (IsTurn count) y.1 (turns_of ys) all in
+      kept-run (xs ++ y ∷ []) ys (step y.0 s y.1) (All-tail (IsTurn count) y.1 (turns_of ys) all)
+      (subst (λ (zs : List Step). LoadGiven from zs) (sym (append_assoc xs (y ∷ []) ys)) loads) (tends-step xs s y is t)
+      (λ id. step-up (λ x. true) id count y.0 s t.goes.ready t.goes.held t.cares.covered t.cares.speaking (ups id) y.1 is (all-counts id s y.1))
+      (keeps-step count y.0 s y.1 is t.goes.ready t.cares.covered t.cares.speaking ups (loads-at xs ys y s t.here loads) keeps)
+
 -- ---- from an opening on
 
 module _ (s : Scenario) (xs : List Step) (now : State) (comes : ComesTo s xs now) where
@@ -130,6 +148,15 @@ module _ (s : Scenario) (xs : List Step) (now : State) (comes : ComesTo s xs now
   pub up-comes : (P : Fact → Bool) (id : ℕ) → ExplainsAlong P id begun xs → UpState P id now
   up-comes P id explains =
       subst (UpState P id) (sym comes.state) (up-run (length s.opening.servers) begun P id [] xs begun comes.turns explains opened (start-up P id s comes.wait comes.rows))
+
+  -- of each recovery, if all counts
+  ups-comes : (id : ℕ) → UpState (λ x. true) id now
+  ups-comes id = up-comes (λ x. true) id (λ k x got. all-counts id (run_turns engine begun (take k xs)) x.1)
+
+  kept-comes : LoadGiven begun xs → KeepsEnds now
+  kept-comes loads =
+      subst KeepsEnds (sym comes.state)
+      (kept-run (length s.opening.servers) begun [] xs begun comes.turns loads opened (λ id. start-up (λ x. true) id s comes.wait comes.rows) (keeps-start s comes.wait comes.rows))
 
   -- each of its lost has a reason that counts
   pub told-comes : (P : Fact → Bool) (id : ℕ) (r : Recovery) (docket : Docket) → ExplainsAlong P id begun xs → job_at now.jobs id ≡ Some (unended.Recovery r docket) → IsExplained P r
@@ -171,6 +198,7 @@ module _ (s : Scenario) (xs : List Step) (now : State) (comes : ComesTo s xs now
         told = λ P explains here. told-next P id r docket explains here is.found;
         fit = lost-fit now id r docket lines is t.cares.speaking;
         upkeep = λ P explains here. keeps-up now id r docket lines is rows P goes.held t.cares.covered t.cares.speaking (here refl r docket is.found) (up-comes P id explains);
+        booked = λ loads room. book-kept rows id r docket lines is loads room;
         ends = λ e n same promoted. ended rows id r docket lines is e n same promoted;
       }
     where
@@ -184,3 +212,11 @@ module _ (s : Scenario) (xs : List Step) (now : State) (comes : ComesTo s xs now
       ended : (rows : List Row) (id : ℕ) (r : Recovery) (docket : Docket) (lines : List Line) → IsFinish now id r docket lines → (e : ℕ) (n : ServerNo) → docket.entry ≡ Some e → (recovery_after now r).outcome.promoted ≡ Some n
           → recovery_at (step rows now (turn.Act (act.Job id))).audit e ≡ option_map (finished_so (moment_at now) r.purpose n) (recovery_at now.audit e)
       ended rows id r docket lines is e n same promoted = audit-ends now id e r docket lines n same is promoted rows
+
+      book-kept : (rows : List Row) (id : ℕ) (r : Recovery) (docket : Docket) (lines : List Line) → IsFinish now id r docket lines → LoadGiven begun xs → (step rows now (turn.Act (act.Job id))).reads < 2 ^ 64 - 1
+          → BooksAtLast (step rows now (turn.Act (act.Job id))).book (recovery_after now r)
+      book-kept rows id r docket lines is loads room =
+          let t = tends-comes in
+          booked-last (length s.opening.servers) rows now id r docket (own_lines now r) is.found t.goes.ready t.cares.covered t.cares.speaking ups-comes (kept-comes loads) room
+          (taken-done now id r docket lines is) (step rows now (turn.Act (act.Job id))).world (own_lines now r)
+          (owes-nothing now id r docket lines is (length s.opening.servers) rows t.goes.ready t.goes.held t.cares.covered).told

@@ -1,7 +1,7 @@
 -- What the last readings of a recovery leave in the book.
-use Rattle.std.specs.Prelude.{◌≡◌, ℕ, ◌≤◌, true, false, List, Some, Option}
-use Rattle.recovery_runs.specs.Prelude.{BookState, Docket, Instance, Line, Recovery, Row, ServerNo, State, Status, Unended, Without, attached_no, crowns}
-use Rattle.recovery_runs.specs.Prelude.{deed_in, instance_at, job_at, next_count, seen_in, status, step}
+use Rattle.std.specs.Prelude.{◌≡◌, ℕ, ◌≤◌, true, false, List, Some, Option, slice_get, take}
+use Rattle.recovery_runs.specs.Prelude.{BookState, Docket, Instance, Line, NumbersAreGiven, Recovery, Row, ServerNo, State, Status, Turn, Unended, Without}
+use Rattle.recovery_runs.specs.Prelude.{asks, attached_no, crowns, deed_in, engine, instance_at, job_at, next_count, run_turns, seen_in, status, step}
 use Rattle.recovery_runs.specs.Prelude.act
 use Rattle.recovery_runs.specs.Prelude.deed
 use Rattle.recovery_runs.specs.Prelude.purpose
@@ -47,3 +47,24 @@ pub record BooksItsEnd (s : State) (id : ℕ) (r : Recovery) (docket : Docket) :
 -- so each unended recovery does
 abbrev pub RecoveriesBookTheirEnd : State → Type 0
 RecoveriesBookTheirEnd s = (id : ℕ) (r : Recovery) (docket : Docket) → job_at s.jobs id ≡ Some (unended.Recovery r docket) → BooksItsEnd s id r docket
+
+-- ---- when it is done
+
+-- a turn that loads kept rows loads no later reading than were given
+abbrev pub LoadsGiven : State → List Row × Turn → Type 0
+LoadsGiven s x = asks s x.1 ≡ true → NumbersAreGiven (step x.0 s x.1)
+
+-- so does each of these turns
+abbrev pub LoadGiven : State → List (List Row × Turn) → Type 0
+LoadGiven from xs = (k : ℕ) (x : List Row × Turn) → slice_get xs k ≡ Some x → LoadsGiven (run_turns engine from (take k xs)) x
+
+-- if the book has the server, what was seen of it last is so
+abbrev pub SawSo : (Status → Type 0) → BookState → ServerNo → Type 0
+SawSo Q b n = (i : Instance) → instance_at b n ≡ Some i → Q i.seen
+
+-- What the book has of the server that was promoted in a master's place shows it without a source and writable. What
+-- it has of a takeover's old master shows that one below the designated one. So it is whatever was read and stored
+-- after the recovery read them last.
+pub record BooksAtLast (b : BookState) (r : Recovery) : Type 0 where
+  pub promoted : (n : ServerNo) → crowns r.purpose ≡ true → r.outcome.promoted ≡ Some n → SawSo TakesWrites b n
+  pub old : (d : ServerNo) → r.purpose ≡ purpose.Takeover d → SawSo (IsBelow d) b r.failed

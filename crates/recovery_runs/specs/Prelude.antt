@@ -40,7 +40,7 @@ pub use Rattle.run_laws.specs.OrchCore.After.{step}
 pub use Rattle.run_laws.specs.OrchCore.Nodes.{act_in}
 pub use Rattle.run_laws.specs.OrchCore.Polls.{changes_of, command_outcome, scan_outcome}
 pub use Rattle.run_laws.specs.OrchCore.Replies.{reply_of}
-pub use Rattle.run_laws.specs.OrchCore.Runs.{engine, run_turns}
+pub use Rattle.run_laws.specs.OrchCore.Runs.{asks, engine, run_turns}
 pub use Rattle.run_laws.specs.OrchCore.Starts.{start}
 pub use Rattle.run_laws.specs.OrchCore.Settling.{known_of}
 pub use Rattle.run_laws.specs.OrchCore.States.{State}
@@ -101,4 +101,4 @@ pub use Rattle.run_laws.specs.InstanceKeeper.Book.{instance_at}
 pub use Rattle.run_laws.specs.KeptRows.declared.observation.Instance.{Instance}
 pub use Rattle.run_laws.specs.Operations.Deeds as deed
 pub use Rattle.run_laws.specs.OrchBase.declared.server.SourceState.TheVariants.{Without}
-pub use Rattle.run_laws.specs.Readings.{deed_in}
+pub use Rattle.run_laws.specs.Readings.{NumbersAreGiven, deed_in}

@@ -1,11 +1,12 @@
 -- What the turn of a run in which a recovery is done owes.
-use Rattle.std.specs.Prelude.{◌≡◌, ◌<◌, ◌++◌, ℕ, Bool, List, Some}
+use Rattle.std.specs.Prelude.{◌≡◌, ◌<◌, ◌++◌, ◌-◌, ◌^◌, ℕ, Bool, List, Some}
 use Rattle.recovery_runs.specs.Prelude.{AllFit, Cause, Docket, Fact, HookState, IsExplained, IsQuiet, IsToldOf, KeepsUp, Line, Recovery, Row, Scenario}
 use Rattle.recovery_runs.specs.Prelude.{ServerNo, State, Turn, World, alias_of, moment_at, option_map, owed, recovery_at, reply_of, step, times}
 use Rattle.recovery_runs.specs.Prelude.act
 use Rattle.recovery_runs.specs.Prelude.answered
 use Rattle.recovery_runs.specs.Prelude.cause
 use Rattle.recovery_runs.specs.Prelude.turn
+use Rattle.recovery_runs.specs.Booking.{BooksAtLast, LoadGiven}
 use Rattle.recovery_runs.specs.Facts.{ExplainsTurn}
 use Rattle.recovery_runs.specs.Finishes.{KeepsHistories, OwesNothing, TellsFailed, finished_so, own_lines, promoted_then, recovery_after, told_hooks}
 use Rattle.recovery_runs.specs.Origins.{Began, ExplainsAlong, StaysStill}
@@ -26,6 +27,9 @@ world_then rows s id = (step rows s (turn.Act (act.Job id))).world
 -- - The applier of each follower is on, and isn't to stop at a coordinate. The exceptions are a takeover's old master,
 --   whose threads stay off, and a better one that was given up and then not reached. That of a regroup's chosen one is
 --   on, too, unless it isn't attached. A takeover's old master refuses writes.
+-- - In a master's place what the book has of the promoted one shows it without a source and writable. What it has of a
+--   takeover's old master shows that one below it. So it is if no restart loaded a later reading than were given, and
+--   the count of readings isn't at its end.
 pub record FinishesWell (count : ℕ) (from : State) (xs : List (List Row × Turn)) (rows : List Row) (s : State) (id : ℕ) (r : Recovery) (docket : Docket) (lines : List Line) : Type 0 where
   pub reply : reply_of s (turn.Act (act.Job id)) ≡ answered.Told lines
   pub hooks : lines ≡ own_lines s r ++ told_hooks docket.hooks (promoted_then s r)
@@ -36,6 +40,7 @@ pub record FinishesWell (count : ℕ) (from : State) (xs : List (List Row × Tur
   pub told : (P : Fact → Bool) → ExplainsAlong P id from xs → ExplainsTurn P id s (turn.Act (act.Job id)) → IsExplained P (recovery_after s r)
   pub fit : AllFit (recovery_after s r).outcome.lost
   pub upkeep : (P : Fact → Bool) → ExplainsAlong P id from xs → ExplainsTurn P id s (turn.Act (act.Job id)) → KeepsUp P (world_then rows s id) (recovery_after s r)
+  pub booked : LoadGiven from xs → (step rows s (turn.Act (act.Job id))).reads < 2 ^ 64 - 1 → BooksAtLast (step rows s (turn.Act (act.Job id))).book (recovery_after s r)
   pub ends : (e : ℕ) (n : ServerNo) → docket.entry ≡ Some e → (recovery_after s r).outcome.promoted ≡ Some n
       → recovery_at (step rows s (turn.Act (act.Job id))).audit e ≡ option_map (finished_so (moment_at s) r.purpose n) (recovery_at s.audit e)
 

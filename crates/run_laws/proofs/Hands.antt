@@ -197,7 +197,7 @@ holds-none (unended.Plan j) h = λ lines is. go lines is h
 
 module _ (s : State) (all : All Returns s.jobs) where
   command-returns : (c : CommandTurn) → All Returns (updated (known_of s) (command_outcome s c).book).jobs
-  command-returns c = command-holds s c (λ u. All Returns (updated (known_of s) u).jobs) (record {
+  command-returns c = command-holds s c (λ reads u. All Returns (updated (known_of s) u).jobs) (record {
     stays = all;
     discovery = λ i. all;
     removal = λ i. all;

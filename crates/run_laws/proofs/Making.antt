@@ -1,36 +1,37 @@
 -- What holds of whatever a command makes of what is known, and of the job that it begins.
-use Rattle.std.proofs.Common.{◌+◌, [], ◌∷◌, ◌≡◌, refl, subst, None, Option, Some}
+use Rattle.std.proofs.Common.{ℕ, ◌+◌, [], ◌∷◌, ◌≡◌, refl, subst, None, Option, Some}
 use Rattle.run_laws.proofs.Prelude.{Attempt, Begins as RecoveryBegins, BegunJob, Comes, Command, CommandTurn, Decision, IsAskedFor, Outcome, Planner}
 use Rattle.run_laws.proofs.Prelude.{Recovers, Refusal, Route, ServerNo, State, TakesOver, Update, begun_by, begun_of, by_hand, command-comes}
-use Rattle.run_laws.proofs.Prelude.{command_outcome, decided_of, job_by, label_at, leases_by, next_reading, numbers_of, of_plan, of_try, period_by}
+use Rattle.run_laws.proofs.Prelude.{command_outcome, decided_of, job_by, label_at, leases_by, next_count, next_reading, numbers_of, of_plan, of_try, period_by}
 use Rattle.run_laws.proofs.Prelude.{recovering, recovery_begins, recovery_job, recovery_refusal, refusal_by, removal, route_of, same_Some}
 use Rattle.run_laws.proofs.Prelude.{takeover_begins, takeover_refusal, taking_over, told_try, unless_refused, with_told}
 use Rattle.run_laws.proofs.Prelude.update
 use Rattle.run_laws.proofs.Prelude.comes
 use Rattle.run_laws.proofs.Prelude.route.{Begins}
 
-module _ (s : State) (c : CommandTurn) (P : Update → Type 0) where
+-- with the count of readings that it leaves
+module _ (s : State) (c : CommandTurn) (P : ℕ → Update → Type 0) where
   abbrev by_operator : ServerNo → Attempt
   by_operator i = by_hand s.book s.configuration (numbers_of s) i
 
   -- what may be made: nothing, a discovery, a removal of an instance, a decision, a plan or a regroup that begins, a
   -- recovery, and a takeover
   pub record HoldsOfAll : Type 0 where
-    pub stays : P update.Stays
-    pub discovery : (i : ServerNo) → P (update.Discovery (next_reading s.world (numbers_of s) i))
-    pub removal : (i : ServerNo) → P (update.Change (removal i))
-    pub decides : (d : Decision) → P (update.Decides (decided_of s.book s.audit (record { 0 = s.moment }) c.keys c.command.i d).effect)
-    pub begins : (p : Planner) → P (update.Begins (record { list = leases_by s.world s.book c.command p; job = job_by s.world s.book c.command p (s.last_job + 1) s.configuration.wait s.configuration.every }))
+    pub stays : P s.reads update.Stays
+    pub discovery : (i : ServerNo) → P (next_count s.reads) (update.Discovery (next_reading s.world (numbers_of s) i))
+    pub removal : (i : ServerNo) → P s.reads (update.Change (removal i))
+    pub decides : (d : Decision) → P s.reads (update.Decides (decided_of s.book s.audit (record { 0 = s.moment }) c.keys c.command.i d).effect)
+    pub begins : (p : Planner) → P s.reads (update.Begins (record { list = leases_by s.world s.book c.command p; job = job_by s.world s.book c.command p (s.last_job + 1) s.configuration.wait s.configuration.every }))
     pub recovers : (i : ServerNo)
-        → P (update.Recovers (with_told s.configuration s.book (recovery_begins s.book s.audit (by_operator i).now (by_operator i).block s.configuration.wait (s.last_job + 1) i) ∷ []))
+        → P s.reads (update.Recovers (with_told s.configuration s.book (recovery_begins s.book s.audit (by_operator i).now (by_operator i).block s.configuration.wait (s.last_job + 1) i) ∷ []))
     pub takes : (i d : ServerNo)
-        → P (update.Recovers (with_told s.configuration s.book (takeover_begins s.book s.audit (by_operator i).now (by_operator i).block s.configuration.wait (s.last_job + 1) i d) ∷ []))
+        → P s.reads (update.Recovers (with_told s.configuration s.book (takeover_begins s.book s.audit (by_operator i).now (by_operator i).block s.configuration.wait (s.last_job + 1) i d) ∷ []))
 
   -- holds of what it makes
-  pub command-holds : HoldsOfAll → P (command_outcome s c).book
+  pub command-holds : HoldsOfAll → P (command_outcome s c).reads (command_outcome s c).book
   command-holds all = by (command_outcome s c) (command-comes s c)
     where
-      by : (o : Outcome) → Comes s c o → P o.book
+      by : (o : Outcome) → Comes s c o → P o.reads o.book
       by o (comes.Discovered i seen at there) = all.discovery i
       by o (comes.Forgotten i at) = all.removal i
       by o (comes.Decided d at may) = all.decides d

@@ -219,7 +219,7 @@ pub jobs-rise : (s : Scenario) (xs : List (List Row × Turn)) (now : State) → 
 jobs-rise s xs now comes = (paired-comes s xs now comes).rising
 
 act-last : (rows : List Row) (s : State) (a : Act) → s.last_job ≤ (after_act rows s a).last_job
-act-last rows s (act.Command c) = command-holds s c (λ u. s.last_job ≤ (updated (known_of s) u).last_job) (record {
+act-last rows s (act.Command c) = command-holds s c (λ reads u. s.last_job ≤ (updated (known_of s) u).last_job) (record {
   stays = omega arith;
   discovery = λ i. omega arith;
   removal = λ i. omega arith;

@@ -367,7 +367,7 @@ pub use Rattle.orch_core.specs.RecoveryHooks.Runs.{HookState}
 pub use Rattle.orch_core.specs.RecoveryPlans.Recoveries.{Recovery as RecoveryJob}
 pub use Rattle.orch_core.specs.Settling.{settled as state_settled}
 pub use Rattle.orch_core.specs.UnendedJobs.Hooked.{front_hook, front_turn, rear_hook, rear_turn}
-pub use Rattle.run_laws.specs.Readings.{DiscoveriesRead, IsDiscovered, IsKeptSo, JobsStore, OpeningsGiveNumbers, PollsRead, PollsStore, ReadingsNeverSink, RestartsCountOn}
+pub use Rattle.run_laws.specs.Readings.{DiscoveriesRead, IsDiscovered, IsKeptSo, IsStoredBy, JobsStore, OpeningsGiveNumbers, PollsRead, PollsStore, ReadingsNeverSink, RestartsCountOn}
 pub use Rattle.run_laws.specs.Readings.{as_read, deed_in, first_op, shown_at, unless_hook}
 pub use Rattle.orch_core.specs.OpeningBook.Counting.{raised as row_raised}
 pub use Rattle.run_laws.specs.Moments.{IsPast, JobsRise, LastJobNeverSinks, NothingIsToCome, PassesTime}

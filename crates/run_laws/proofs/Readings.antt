@@ -3,13 +3,13 @@ use Rattle.std.proofs.Common.{All, Bool, List, None, Option, Some, [], ap, arith
 use Rattle.std.specs.Prelude.{fold, if◌then◌else◌, slice_index_or, slice_set}
 use Rattle.run_laws.proofs.Prelude.{Act, All-cons, All-head, All-nil, All-tail, All-weaker, AuditState, BookState, Cause, Change, CommandTurn}
 use Rattle.run_laws.proofs.Prelude.{Decision, Deed, DiscoveriesRead, Discovers, Docket, Exchange, Flown, Hook, HookState, Instance, IsDiscovered}
-use Rattle.run_laws.proofs.Prelude.{IsKeptSo, Job, JobsStore, RestartsCountOn, reloaded_rows, Keys, Moment, Observation, Op, OpeningsGiveNumbers, Outcome, PollsRead, PollsStore}
+use Rattle.run_laws.proofs.Prelude.{IsKeptSo, IsStoredBy, Job, JobsStore, RestartsCountOn, reloaded_rows, Keys, Moment, Observation, Op, OpeningsGiveNumbers, Outcome, PollsRead, PollsStore}
 use Rattle.run_laws.proofs.Prelude.{ReadingsNeverSink, RecoveryJob, Row, Scenario, ServerNo, Settings, State, Status, Taken, Turn, Unended, Update}
 use Rattle.run_laws.proofs.Prelude.{World, act_asks, act_in, added_over, after_act, after_change, after_discovery, after_done, after_opening}
 use Rattle.run_laws.proofs.Prelude.{after_put, after_row, after_store, as_read, asks, book_decided, book_turned, candidate_of, command_outcome}
 use Rattle.run_laws.proofs.Prelude.{counted, decided_of, deed_in, deed_of, discovered, discovered_over, done_asks, downtime_at, downtime_of}
 use Rattle.run_laws.proofs.Prelude.{downtime_removal, effect_by, empty_book, eqb-false, eqb-true, first_op, first_seen, front_hook, front_turn}
-use Rattle.run_laws.proofs.Prelude.{given_or, greatest_id, ground_of, has_row, instance_at, is_going, job_observation, known_of, last_read}
+use Rattle.run_laws.proofs.Prelude.{given_or, greatest_id, ground_of, has_row, instance_at, is_going, job_at, job_observation, known_of, last_read}
 use Rattle.run_laws.proofs.Prelude.{later_read, length-map, length-set, loaded_book, ltb-false, ltb-true, next_count, next_reading, none-some}
 use Rattle.run_laws.proofs.Prelude.{numbers_of, observed, opening_instance, option_map, outcome_by, outcome_of, promoted_in, put_change, question}
 use Rattle.run_laws.proofs.Prelude.{reading, reads_with, rear_hook, rear_turn, removal, renewed, renewed_book, route_of, row_fits, same_Some, seen_in}
@@ -217,22 +217,25 @@ module _ (s : State) (n : ServerNo) (from : Option ServerNo) where
   observes (unended.Recovery r docket) due = recovery-observes r docket due
 
 -- the leases make no difference to instances
-turned-instances : (b : BookState) (id : ℕ) (t : Flown) → (book_turned b id (Some t)).instances ≡ (stored b t.observation).instances
+pub turned-instances : (b : BookState) (id : ℕ) (t : Flown) → (book_turned b id (Some t)).instances ≡ (stored b t.observation).instances
 turned-instances b id t = go (is_going t.step)
   where
     go : (goes : Bool) → (if goes then stored b t.observation else without_leases (stored b t.observation) id).instances ≡ (stored b t.observation).instances
     go true = refl
     go false = refl
 
-pub jobs-store : JobsStore
-jobs-store rows s id u n from found due =
+-- what a job's turn observes is stored
+pub turn-stores : (rows : List Row) (s : State) (id : ℕ) (u : Unended) (n : ServerNo) → job_at s.jobs id ≡ Some u → (turn_of s u).observation ≡ Some (shown_at s n) → IsStoredBy s n (step rows s (turn.Act (act.Job id)))
+turn-stores rows s id u n found saw =
     let turn-is : turned_at s id ≡ Some (turn_of s u) = ap (option_map (turn_of s)) found in
-    let saw = observes s n from u due in
     record {
       reads = ap (λ (t : Option Flown). reads_with s.reads (job_observation t)) turn-is ∙ ap (reads_with s.reads) saw;
       kept = kept-so s.book (shown_at s n) (book_turned s.book id (turned_at s id))
           (ap (λ (t : Option Flown). (book_turned s.book id t).instances) turn-is ∙ (turned-instances s.book id (turn_of s u) ∙ ap (λ (o : Option Observation). (stored s.book o).instances) saw));
     }
+
+pub jobs-store : JobsStore
+jobs-store rows s id u n from found due = turn-stores rows s id u n found (observes s n from u due)
 
 -- ---- numbers never sink
 
@@ -302,7 +305,7 @@ discovered-sinks b o = go (instance_at b o.no) refl
     go (Some kept) at = kept-sinks b o (stored_over b o (Some kept)) (kept-so b o (stored_over b o (Some kept)) (sym (ap (λ (x : Option Instance). (stored_over b o x).instances) at)))
 
 -- no decision changes an instance
-decision-same : (b : BookState) (a : AuditState) (now : Moment) (k : Keys) (i : Option ServerNo) (d : Decision) → (book_decided b (decided_of b a now k i d).effect).instances ≡ b.instances
+pub decision-same : (b : BookState) (a : AuditState) (now : Moment) (k : Keys) (i : Option ServerNo) (d : Decision) → (book_decided b (decided_of b a now k i d).effect).instances ≡ b.instances
 decision-same b a now k i d = by d i
   where
     put : (r : Row) → ((c : BookState) → (after_put c r).instances ≡ c.instances) → (book_decided b (effect_by (put_change b r))).instances ≡ b.instances
@@ -335,7 +338,7 @@ module _ (s : State) where
   Sinks u = NeverSinks s.book (updated (known_of s) u).book
 
   command-sinks : (c : CommandTurn) → Sinks (command_outcome s c).book
-  command-sinks c = command-holds s c Sinks (record {
+  command-sinks c = command-holds s c (λ reads u. Sinks u) (record {
     stays = same-sinks s.book s.book refl;
     discovery = λ i. discovered-sinks s.book (next_reading s.world (numbers_of s) i);
     removal = λ i. set-sinks s.book (after_change s.book (removal i)) i.0 None refl (λ was now had is. absurd (none-some now is));

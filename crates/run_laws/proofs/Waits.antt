@@ -120,7 +120,7 @@ module _ (w : World) (b : BookState) (read : ℕ) (now : Moment) where
 
 module _ (s : State) (all : All (MayWait s.configuration.wait) s.jobs) where
   command-waits : (c : CommandTurn) → All (MayWait s.configuration.wait) (updated (known_of s) (command_outcome s c).book).jobs
-  command-waits c = command-holds s c (λ u. All (MayWait s.configuration.wait) (updated (known_of s) u).jobs) (record {
+  command-waits c = command-holds s c (λ reads u. All (MayWait s.configuration.wait) (updated (known_of s) u).jobs) (record {
     stays = all;
     discovery = λ i. all;
     removal = λ i. all;
