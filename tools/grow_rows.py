@@ -293,6 +293,12 @@ def all_kinds(count: int) -> Asked:
     return summary(servers, turns, None, block=0)
 
 
+@row("turn", "refused regroups", "refused commands, 1,000 servers", 64, 100000)
+def regroup_refused(count: int) -> Asked:
+    """A job has the leases: each later command that asks for them is refused."""
+    return summary(star(999), [["polls"], *[asked("regroup-replicas", i="m")] * (count + 1)], count)
+
+
 @row("turn", "polls", "times, 20 servers", 64, 25000)
 def polls(count: int) -> Asked:
     """All servers over and over."""
@@ -418,12 +424,12 @@ def hooks_run(count: int) -> Asked:
     return summary(star(3), turns_taken, None, hooks={"pre_failover": listed, "post_failover": listed}, aliases={"m:3306": "z" * 255})
 
 
-@row("list", "origins of GTID sets", "roots of one cluster, each with all origins before it; 10 polls", 24, 190)
+@row("list", "origins of GTID sets", "roots of one cluster, each with all origins before it; 400 polls", 24, 190)
 def origins(count: int) -> Asked:
     """The last one has nine replicas."""
     roots = [{"name": "s%03d" % k, "cluster": "c", "history": [["s%03d" % n, 10, 1] for n in range(k + 1)]} for k in range(count)]
     last = [{"name": "r%d" % n, "source": "s%03d" % (count - 1), "executed": count, "auto": True} for n in range(9)]
-    return summary(roots + last, [["polls"]] * 10, gtid=True)
+    return summary(roots + last, [["polls"]] * 400, gtid=True)
 
 
 # ---- kept rows in a database file

@@ -5,7 +5,6 @@ import io
 import json
 import os
 import tempfile
-import time
 import unittest
 import unittest.mock
 from typing import Any
