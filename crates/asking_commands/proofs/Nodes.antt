@@ -1,6 +1,5 @@
 -- The lines of nodes.
-use Rattle.std.proofs.Common.{◌≡◌, ℕ, ◌+◌, ◌-◌, ◌<◌, ◌≤◌, Bool, true, false, cond, List, [], ◌∷◌, ◌++◌, length, get_or, map, take, drop, Bor, Option, None, Some, not, refl, sym, ap, ◌∙◌, append_assoc, append-nil, suc, zero, arith}
-use Rattle.std.specs.Prelude.{filter, filter_map}
+use Rattle.std.proofs.Common.{◌≡◌, ℕ, ◌+◌, ◌-◌, ◌<◌, ◌≤◌, Bool, true, false, cond, List, [], ◌∷◌, ◌++◌, length, get_or, map, take, drop, Bor, Option, None, Some, not, refl, sym, ap, ◌∙◌, append_assoc, append-nil, suc, zero, arith, filter, filter_map}
 use Rattle.std.specs.List.{cons_option, flat_map, range_with_len}
 use Rattle.std.specs.Option.{option_to_list}
 use Rattle.std.proofs.lemmas.List.{take_more, take_all, drop_all, length-drop}

@@ -1,12 +1,8 @@
 -- What is wrong with a book's instances.
 use Rattle.std.specs.Prelude.{Bool, true, false, List, filter, map}
-use Rattle.instance_keeper.specs.OrchBase.declared.code.Code.{Code}
-use Rattle.instance_keeper.specs.OrchBase.declared.code.Code.TheVariants as code
-use Rattle.instance_keeper.specs.Book.{BookState}
-use Rattle.failure_analysis.specs.Analysis.{analysis}
-use Rattle.failure_analysis.specs.declared.entry.Entry.{Entry}
-use Rattle.commands.specs.declared.line.Line.{Line}
-use Rattle.commands.specs.declared.line.Line.TheVariants as line
+use Rattle.asking_commands.specs.Prelude.{BookState, Code, Entry, Line, analysis}
+use Rattle.asking_commands.specs.Prelude.code
+use Rattle.asking_commands.specs.Prelude.line
 
 abbrev pub is_problem : Code → Bool
 is_problem code.NoProblem = false

@@ -1,23 +1,11 @@
 -- What a command that only asks the book or the audit answers.
 use Rattle.std.specs.Prelude.{Bool, false, List, [], Option, Some, None, Result, Ok, Err}
-use Rattle.instance_keeper.specs.OrchBase.declared.server.ServerNo.{ServerNo}
-use Rattle.instance_keeper.specs.Book.{BookState}
-use Rattle.instance_keeper.specs.KeptRows.declared.recovery.Recovery.{Recovery}
-use Rattle.commands.specs.declared.line.Line.{Line}
-use Rattle.commands.specs.declared.name.CommandName.{CommandName}
-use Rattle.commands.specs.declared.route.Question.{Question}
-use Rattle.commands.specs.declared.route.Question.TheVariants.{AllInstances, Analysis, Clusters, Find, Recoveries, Switch, Topology, WhichCluster, WhichClusterInstances, WhichMaster, WhichReplicas}
-use Rattle.commands.specs.declared.route.Route.{Route}
-use Rattle.commands.specs.declared.route.Route.TheVariants.{Discovers, Forgets, Asks, Decides, Begins, Recovers, TakesOver}
-use Rattle.commands.specs.Routes.{route_of}
-use Rattle.commands.specs.declared.refusal.Refusal.{Refusal}
-use Rattle.commands.specs.declared.turn.Command.{Command}
-use Rattle.commands.specs.declared.turn.CommandTurn.{CommandTurn}
-use Rattle.commands.specs.declared.turn.Found.{Found}
-use Rattle.commands.specs.Unknown.{unknown_of}
+use Rattle.asking_commands.specs.Prelude.{AllInstances, Analysis, Asks, Begins, BookState, Clusters, Command, CommandName, CommandTurn, Decides}
+use Rattle.asking_commands.specs.Prelude.{Discovers, Find, Forgets, Found, Line, Question, Recoveries, Recovers, Recovery, Refusal, Route, ServerNo}
+use Rattle.asking_commands.specs.Prelude.{Switch, TakesOver, Topology, WhichCluster, WhichClusterInstances, WhichMaster, WhichReplicas, is_instance}
+use Rattle.asking_commands.specs.Prelude.{route_of, unknown_of}
 use Rattle.asking_commands.specs.declared.answers.AnswerFault.{AnswerFault}
 use Rattle.asking_commands.specs.declared.answers.AnswerFault.TheVariants as fault
-use Rattle.book_views.specs.Sources.{is_instance}
 use Rattle.asking_commands.specs.Asking.{all_instances, cluster_instances, cluster_of, found, master_of, replica_lines, switch_of}
 use Rattle.asking_commands.specs.Analysis.{analysis_lines}
 use Rattle.asking_commands.specs.Lines.{recovery_lines}

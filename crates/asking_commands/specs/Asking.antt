@@ -1,14 +1,8 @@
 -- What a book has of its instances.
 use Rattle.std.specs.Prelude.{ℕ, Bool, false, true, ◌&&◌, List, [], ◌∷◌, map, filter, slice_index_or, nat_eq, unwrap_or, if◌then◌else◌}
-use Rattle.std.specs.Cmp.Lexicographic.{pointwise}
-use Rattle.instance_keeper.specs.OrchBase.declared.server.ServerNo.{ServerNo}
-use Rattle.instance_keeper.specs.OrchBase.declared.server.SourceState.{SourceState}
-use Rattle.instance_keeper.specs.OrchBase.declared.server.SourceState.TheVariants.{Without, Attached, Detached}
-use Rattle.instance_keeper.specs.Book.{BookState, instance_at}
-use Rattle.instance_keeper.specs.NameOrder.NameOrder.{by_name}
-use Rattle.book_views.specs.Sources.{is_instance, label_at, replicas_of, seen_source}
-use Rattle.commands.specs.declared.line.Line.{Line}
-use Rattle.commands.specs.declared.line.Line.TheVariants as line
+use Rattle.asking_commands.specs.Prelude.{Attached, BookState, Detached, Line, ServerNo, SourceState, Without, by_name, instance_at, is_instance}
+use Rattle.asking_commands.specs.Prelude.{label_at, pointwise, replicas_of, seen_source}
+use Rattle.asking_commands.specs.Prelude.line
 
 -- the servers that pass, in name order, each on a line
 abbrev pub listed : BookState → (ServerNo → Bool) → List Line

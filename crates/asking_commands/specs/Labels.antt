@@ -1,13 +1,7 @@
 -- The clusters of a book.
 use Rattle.std.specs.Prelude.{ℕ, Bool, false, List, [], ◌∷◌, map, filter, nat_eq, if◌then◌else◌}
-use Rattle.std.specs.Cmp.Lexicographic.{pointwise, slice_cmp}
-use Rattle.std.specs.Ordering.{nat_cmp}
-use Rattle.instance_keeper.specs.Book.{BookState}
-use Rattle.instance_keeper.specs.NameOrder.NameOrder.{by_name}
-use Rattle.instance_keeper.specs.NameOrder.Sorts.{sort_by}
-use Rattle.commands.specs.declared.line.Line.{Line}
-use Rattle.commands.specs.declared.line.Line.TheVariants as line
-use Rattle.book_views.specs.Sources.{is_instance, label_at}
+use Rattle.asking_commands.specs.Prelude.{BookState, Line, by_name, is_instance, label_at, nat_cmp, pointwise, slice_cmp, sort_by}
+use Rattle.asking_commands.specs.Prelude.line
 
 -- it is the same as the first after it
 abbrev pub is_again : List ℕ → List (List ℕ) → Bool

@@ -1,9 +1,7 @@
 -- The lines of recoveries.
 use Rattle.std.specs.Prelude.{List, map}
-use Rattle.instance_keeper.specs.KeptRows.declared.recovery.Recovery.{Recovery}
-use Rattle.commands.specs.declared.line.Line.{Line}
-use Rattle.commands.specs.declared.line.Line.TheVariants as line
-use Rattle.commands.specs.declared.line.RecoveryLine.{RecoveryLine}
+use Rattle.asking_commands.specs.Prelude.{Line, Recovery, RecoveryLine}
+use Rattle.asking_commands.specs.Prelude.line
 
 abbrev pub line_of : Recovery → RecoveryLine
 line_of r = record {

@@ -1,23 +1,11 @@
 -- The trees of a cluster.
 use Rattle.std.specs.Prelude.{ℕ, Bool, false, ◌&&◌, List, filter, filter_map, length, slice_get, Option, Some, None, option_map, option_and_then, is_none, if◌then◌else◌}
-use Rattle.std.specs.List.{flat_map, range_with_len}
-use Rattle.instance_keeper.specs.OrchBase.declared.server.IoState.{IoState}
-use Rattle.instance_keeper.specs.OrchBase.declared.server.IoState.TheVariants.{Yes, Connecting, No}
-use Rattle.instance_keeper.specs.OrchBase.declared.server.ServerNo.{ServerNo}
-use Rattle.instance_keeper.specs.OrchBase.declared.server.Settings.{Settings}
-use Rattle.instance_keeper.specs.OrchBase.declared.server.SourceState.{SourceState}
-use Rattle.instance_keeper.specs.OrchBase.declared.server.SourceState.TheVariants.{Without, Attached, Detached}
-use Rattle.instance_keeper.specs.OrchBase.declared.server.Version.{Version}
-use Rattle.instance_keeper.specs.Book.{BookState, instance_at}
-use Rattle.instance_keeper.specs.KeptRows.declared.observation.Instance.{Instance}
-use Rattle.topology_tree.specs.Forests.{above, walk_of}
-use Rattle.book_views.specs.Forests.{book_forest, server_at}
-use Rattle.commands.specs.declared.line.Line.{Line}
-use Rattle.commands.specs.declared.line.Line.TheVariants as line
-use Rattle.commands.specs.declared.line.StateWord.{StateWord}
-use Rattle.commands.specs.declared.line.StateWord.TheVariants as state
+use Rattle.asking_commands.specs.Prelude.{Attached, BookState, Connecting, Detached, Instance, IoState, Line, No, ServerNo, Settings, SourceState}
+use Rattle.asking_commands.specs.Prelude.{StateWord, Version, Without, Yes, above, book_forest, flat_map, instance_at, label_at, range_with_len}
+use Rattle.asking_commands.specs.Prelude.{server_at, walk_of}
+use Rattle.asking_commands.specs.Prelude.line
+use Rattle.asking_commands.specs.Prelude.state
 use Rattle.asking_commands.specs.Asking.{is_of_cluster}
-use Rattle.book_views.specs.Sources.{label_at}
 
 -- attached, with both threads on and the receiver connected
 abbrev pub replicates : IoState → Bool → Bool

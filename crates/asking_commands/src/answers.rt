@@ -1,8 +1,7 @@
 //! The answers.
 
 ghost use Rattle.std.specs.Prelude.{◌≡◌, ◌<◌, IfOk, IsTrue, length};
-ghost use Rattle.instance_keeper.specs.OrchBase.Gives.{Gives};
-ghost use Rattle.commands.specs.Turns.{is_within};
+ghost use Rattle.asking_commands.specs.Prelude.{Gives, is_within};
 ghost use Rattle.asking_commands.specs.Answers.{answer_fault, answer_of, answer_to, answers_of, is_known, lines_of, permitted};
 
 use crate::Memory;

@@ -1,9 +1,7 @@
 //! The clusters of a book.
 
 ghost use Rattle.std.specs.Prelude.{◌≡◌, IfOk, length, map, not};
-ghost use Rattle.std.specs.Cmp.Lexicographic.{slice_cmp};
-ghost use Rattle.std.specs.Ordering.{nat_cmp};
-ghost use Rattle.instance_keeper.specs.NameOrder.Sorts.{sort_by};
+ghost use Rattle.asking_commands.specs.Prelude.{nat_cmp, slice_cmp, sort_by};
 ghost use Rattle.asking_commands.specs.Labels.{clusters_of, is_again, labels_of};
 
 use crate::Memory;

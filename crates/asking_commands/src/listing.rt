@@ -1,7 +1,7 @@
 //! Lists of a book's instances.
 
 ghost use Rattle.std.specs.Prelude.{◌≡◌, ◌<◌, ◌&&◌, IfOk, length, slice_index_or, false};
-ghost use Rattle.book_views.specs.Sources.{is_instance, label_at};
+ghost use Rattle.asking_commands.specs.Prelude.{is_instance, label_at};
 ghost use Rattle.asking_commands.specs.Asking.{all_instances, cluster_instances, cluster_of, found, is_of_cluster, master_of, replica_lines, source_line, switch_line, switch_of};
 
 use crate::Memory;

@@ -1,9 +1,7 @@
 //! The trees of a cluster.
 
 ghost use Rattle.std.specs.Prelude.{◌≡◌, ◌<◌, ◌++◌, Some, IfOk, OnOk, length, filter_map, option_map};
-ghost use Rattle.std.specs.Option.{option_to_list};
-ghost use Rattle.instance_keeper.specs.Book.{instance_at};
-ghost use Rattle.book_views.specs.Forests.{server_at};
+ghost use Rattle.asking_commands.specs.Prelude.{instance_at, option_to_list, server_at};
 ghost use Rattle.asking_commands.specs.Trees.{instance_line, is_root_of, node_line, replicates, state_of, topology_of};
 
 use crate::Memory;

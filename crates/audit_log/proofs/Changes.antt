@@ -1,14 +1,7 @@
 -- Lists of recoveries that change, and keep their ids.
-use Rattle.std.proofs.Common.{◌≡◌, ℕ, ◌+◌, ◌<◌, ◌≤◌, Bool, false, cond, List, [], ◌∷◌, ◌++◌, length, get_or, set, map, take, drop, zero, suc, refl, sym, ◌∙◌, ap, subst, Some, None, arith}
-use Rattle.std.specs.Prelude.{◌==◌, All, AllPairs, count_by, find}
-use Rattle.std.proofs.lemmas.Bool.{eq-eqb, ne_eqb}
-use Rattle.std.proofs.lemmas.List.{append-nil, drop_all, get_or-map, length-map, take_all}
-use Rattle.std.proofs.Math.Numerals.{add-one}
-use Rattle.std.proofs.lemmas.List.Elements.{All-head, All-tail, All-map, All-push, All-weaker}
-use Rattle.std.proofs.lemmas.List.Sums.{sum_by_more}
-use Rattle.std.proofs.lemmas.List.Quantifiers.{all_pairs_push}
-use Rattle.kept_rows.specs.declared.recovery.Recovery.{Recovery}
-use Rattle.audit_log.specs.Audits.{AuditState, begun, longest_block, IsAudit}
+use Rattle.std.proofs.Common.{◌≡◌, ℕ, ◌+◌, ◌<◌, ◌≤◌, false, cond, List, [], ◌∷◌, ◌++◌, length, get_or, set, map, take, drop, zero, suc, refl, sym, ◌∙◌, ap, subst, Some, None, arith, ◌==◌, All, AllPairs, find}
+use Rattle.audit_log.proofs.Prelude.{All-head, All-map, All-push, All-tail, All-weaker, AuditState, IsAudit, Recovery, add-one, all_pairs_push}
+use Rattle.audit_log.proofs.Prelude.{append-nil, begun, drop_all, eq-eqb, get_or-map, length-map, longest_block, ne_eqb, take_all}
 
 -- ---- a list that is mapped from its first element on
 
@@ -128,10 +121,3 @@ lent now xs n same all =
     ap (λ ys. take n (now ++ ys)) (drop_all (length now) xs (omega (arith, same)))
     ∙ ap (take n) (append-nil now)
     ∙ take_all n now (omega (arith, same, all))
-
--- a loop's step that counts what stood there
-pub count_step : {A : Type 0} (p : A → Bool) (f : A → A) (xs ys : List A) (k n m : ℕ) (d : A) → ys ≡ mapped f k xs → k < length xs → n ≡ count_by p (take k xs)
-    → m ≡ cond (p (get_or ys k d)) 1 0 → n + m ≡ count_by p (take (k + 1) xs)
-count_step p f xs ys k n m d so_far within count one =
-    (λ i. count i + (one ∙ ap (λ zs. cond (p (get_or zs k d)) 1 0) so_far ∙ ap (λ x. cond (p x) 1 0) (mapped_at f k xs d)) i)
-    ∙ sym (sum_by_more (λ x. cond (p x) 1 0) xs k d within)

@@ -1,23 +1,9 @@
 -- What changes an audit leaves its index right.
-use Rattle.std.proofs.Common.{◌≡◌, ℕ, ◌<◌, Bool, true, false, cond, List, [], length, get_or, set, map, refl, sym, ◌∷◌, ◌∙◌, ap, subst, Some, arith}
-use Rattle.std.specs.Prelude.{◌==◌, AllPairs, find, IsSomeAnd}
-use Rattle.std.proofs.lemmas.List.{length-set}
-use Rattle.std.proofs.lemmas.List.Elements.{at_read}
-use Rattle.kept_rows.specs.OrchBase.declared.recovery.Ending.{Ending}
-use Rattle.kept_rows.specs.OrchBase.declared.server.Moment.{Moment}
-use Rattle.kept_rows.specs.declared.recovery.Recovery.{Recovery}
-use Rattle.audit_log.specs.Audits.{acked_so, ended_so, finished, finished_so, is_unended, AuditState, IsAudit}
-use Rattle.audit_log.specs.Index.{IsFound, IsIndex}
-use Rattle.audit_log.specs.declared.index.Index.{Index}
+use Rattle.std.proofs.Common.{◌≡◌, ℕ, ◌<◌, Bool, true, false, cond, List, [], length, get_or, set, map, refl, sym, ◌∷◌, ◌∙◌, ap, subst, Some, arith, ◌==◌, AllPairs, find, IsSomeAnd}
+use Rattle.audit_log.proofs.Prelude.{AuditState, Ending, Index, IsAudit, IsFound, IsIndex, Moment, Recovery, acked_so, at_read, ended_so, finished}
+use Rattle.audit_log.proofs.Prelude.{finished_so, is_unended, length-set}
 use Rattle.audit_log.proofs.Changes.{found-at, IsAudit-map, one-changed}
 use Rattle.audit_log.proofs.Indexing.{acked-stays, ended-stays, index-stays, set-stays, Stays}
-
-pub index-none : (xs : List Recovery) (index : Index) → index.heads.items ≡ [] → index.links.items ≡ [] → IsIndex xs index
-index-none xs index heads links = record {
-  few = omega (arith, ap length links);
-  heads = λ bucket d within. absurd (omega (arith, within, ap length heads));
-  links = λ i d within. absurd (omega (arith, within, ap length links));
-}
 
 pub index-empty : (index : Index) → index.links.items ≡ [] → IsIndex [] index
 index-empty index links = record {

@@ -1,19 +1,9 @@
 -- An audit with more recoveries after its own.
-use Rattle.std.proofs.Common.{◌≡◌, ℕ, ◌+◌, List, [], ◌∷◌, ◌++◌, length, refl, sym, ◌∙◌, ap, subst, Option, Some, None, Ok, arith}
-use Rattle.std.specs.Prelude.{◌&&◌, All, find, reverse}
-use Rattle.std.specs.Option.{option_or}
-use Rattle.std.proofs.lemmas.List.{append_assoc, get_or-append-add, get_or_append_left, length-append, reverse-append}
-use Rattle.std.proofs.lemmas.List.Folds.{find-append}
-use Rattle.kept_rows.specs.declared.recovery.Recovery.{Recovery}
-use Rattle.audit_log.specs.Apart.{IsClear, MayBegin}
-use Rattle.audit_log.specs.Audits.{begun, held_by, is_blocking, is_of, is_unended, last_blocking, may_begin, unended_of, AuditState}
-use Rattle.audit_log.specs.Extended.{either_held, extended}
+use Rattle.std.proofs.Common.{◌≡◌, ℕ, ◌+◌, List, [], ◌∷◌, ◌++◌, length, refl, sym, ◌∙◌, ap, subst, Option, Some, None, Ok, arith, ◌&&◌, All, find, reverse}
+use Rattle.audit_log.proofs.Prelude.{AuditState, IsClear, MayBegin, Recovery, append_assoc, begun, either_held, extended, find-append}
+use Rattle.audit_log.proofs.Prelude.{get_or-append-add, held_by, is_blocking, is_of, is_unended, last_blocking, length-append, may_begin, option_or}
+use Rattle.audit_log.proofs.Prelude.{reverse-append, unended_of}
 use Rattle.audit_log.proofs.Parting.{apart-begins, begins-apart}
-
-pub All-first : {X : Type 0} (P : X → Type 0) (xs ys : List X) → All P (xs ++ ys) → All P xs
-All-first P xs ys all k d within =
-    let long = length-append xs ys in
-    subst P (get_or_append_left xs ys d k within) (all k d (omega (arith, within, long)))
 
 pub All-second : {X : Type 0} (P : X → Type 0) (xs ys : List X) → All P (xs ++ ys) → All P ys
 All-second P xs ys all k d within =
@@ -21,13 +11,10 @@ All-second P xs ys all k d within =
     subst P (get_or-append-add xs ys k d) (all (length xs + k) d (omega (arith, within, long)))
 
 both-held : (a b : AuditState) (ua ub la lb : Option Recovery) → held_by (extended a b) (option_or ua ub) (option_or lb la) ≡ either_held (held_by a ua la) (held_by b ub lb)
-both-held a b (Some r) ub la lb = refl
 both-held a b None (Some r) (Some x) lb = refl
-both-held a b None (Some r) None lb = refl
 both-held a b None None (Some x) (Some y) = refl
-both-held a b None None (Some x) None = refl
 both-held a b None None None (Some y) = refl
-both-held a b None None None None = refl
+both-held a b _ _ _ _ = refl
 
 pub extended-held : (a b : AuditState) (cluster : List ℕ) (now : ℕ) → may_begin (extended a b) cluster now ≡ either_held (may_begin a cluster now) (may_begin b cluster now)
 extended-held a b cluster now =

@@ -1,24 +1,10 @@
 -- Recoveries are looked up.
-use Rattle.std.proofs.Common.{◌≡◌, ℕ, ◌+◌, ◌-◌, ◌<◌, ◌≤◌, Bool, true, false, cond, List, [], ◌∷◌, length, get_or, refl, sym, ◌∙◌, ap, subst, Option, Some, None, Result, Ok, Err, inl, inr, ◌⊎◌, arith}
-use Rattle.std.specs.Prelude.{◌==◌, All, AllPairs, find, reverse}
-use Rattle.std.specs.List.{AllWithin}
-use Rattle.std.specs.List.Sorted.{IsBinarySearchResult, IsSearchInRange, IsSortedBy}
-use Rattle.std.specs.Ordering.{is_lt, nat_cmp}
-use Rattle.std.specs.Option.{option_or}
-use Rattle.std.specs.Result.{result_ok}
+use Rattle.std.proofs.Common.{◌≡◌, ℕ, ◌+◌, ◌-◌, ◌<◌, ◌≤◌, Bool, true, false, cond, List, [], ◌∷◌, length, get_or, refl, sym, ◌∙◌, ap, subst, Option, Some, None, Result, Ok, Err, inl, inr, ◌⊎◌, arith, ◌==◌, All, AllPairs, find, reverse}
+use Rattle.audit_log.proofs.Prelude.{All-cons, All-head, All-nil, All-tail, All-weaker, AllWithin, Equal, Greater, IsBinarySearchResult}
+use Rattle.audit_log.proofs.Prelude.{IsSearchInRange, IsSortedBy, Less, Recovery, StandsAt, cases_lt, find-append, get_or-reverse, is_lt}
+use Rattle.audit_log.proofs.Prelude.{length-reverse, nat_cmp, nat_cmp_total, nat_tests, ne_eqb, option_or, pairs_head, pairs_tail, ranked, result_ok}
+use Rattle.audit_log.proofs.Prelude.{same_Some, searchable_from_sorted}
 use mathlib.Core.List.{reverse-cons}
-use Rattle.std.specs.declared.cmp.Ordering.TheVariants.{Less, Equal, Greater}
-use Rattle.std.proofs.lemmas.Bool.{cases_lt, ne_eqb}
-use Rattle.std.proofs.lemmas.Bool.Decides.{nat_tests}
-use Rattle.std.proofs.lemmas.Cmp.{nat_cmp_total, ranked}
-use Rattle.std.proofs.lemmas.List.{get_or-reverse, length-reverse}
-use Rattle.std.proofs.lemmas.List.Elements.{All-nil, All-cons, All-head, All-tail, All-weaker}
-use Rattle.std.proofs.lemmas.List.Folds.{find-append}
-use Rattle.std.proofs.lemmas.List.Sorted.{searchable_from_sorted}
-use Rattle.std.proofs.lemmas.Option.{same_Some}
-use Rattle.kept_rows.specs.declared.recovery.Recovery.{Recovery}
-use Rattle.kept_rows.proofs.Lists.{pairs_head, pairs_tail}
-use Rattle.audit_log.specs.Audits.{StandsAt}
 
 -- ---- what holds of a list holds of it from its end on
 

@@ -1,37 +1,20 @@
 -- An index stays right.
-use Rattle.std.proofs.Common.{◌≡◌, ℕ, ◌+◌, ◌<◌, ◌≤◌, ◌⊎◌, Bool, true, false, cond, not, List, [], ◌∷◌, ◌++◌, length, get_or, set, refl, sym, ◌∙◌, ap, subst, inl, inr, arith}
-use Rattle.std.specs.Prelude.{IfSome}
-use Rattle.std.specs.List.{AllWithin}
-use Rattle.std.proofs.Math.Seq.{get_or-append_seam}
-use Rattle.std.proofs.lemmas.Bool.{and_parts, cases_eq, cases_lt, false≢true}
-use Rattle.std.proofs.lemmas.List.{get_or-set_other, get_or-set_same, get_or_append_left, length-append, length-set}
-use Rattle.std.proofs.lemmas.Option.{IfSome_then}
-use Rattle.kept_rows.specs.OrchBase.declared.recovery.Ending.{Ending}
-use Rattle.kept_rows.specs.OrchBase.declared.server.Moment.{Moment}
-use Rattle.kept_rows.specs.declared.recovery.Recovery.{Recovery}
-use Rattle.audit_log.specs.Apart.{IsClear}
-use Rattle.audit_log.specs.Audits.{acked_so, acknowledged_for, ended_so, is_of, is_unended}
-use Rattle.audit_log.specs.Index.{bucket_of, is_done, DoneIn, DoneOf, IsIndex, IsLink, IsLinked}
-use Rattle.audit_log.specs.declared.index.Index.{Index}
-use Rattle.audit_log.specs.declared.index.Link.{Link}
+use Rattle.std.proofs.Common.{◌≡◌, ℕ, ◌+◌, ◌<◌, ◌≤◌, ◌⊎◌, Bool, true, false, cond, not, List, [], ◌∷◌, ◌++◌, length, get_or, set, refl, sym, ◌∙◌, ap, subst, inl, inr, arith, IfSome}
+use Rattle.audit_log.proofs.Prelude.{AllWithin, DoneIn, DoneOf, Ending, IfSome_then, Index, IsClear, IsIndex, IsLink, IsLinked, Link, Moment}
+use Rattle.audit_log.proofs.Prelude.{Recovery, acked_so, acknowledged_for, and_parts, bucket_of, cases_eq, cases_lt, ended_so, false≢true}
+use Rattle.audit_log.proofs.Prelude.{get_or-append_seam, get_or-set_other, get_or-set_same, get_or_append_left, is_done, is_of, is_unended}
+use Rattle.audit_log.proofs.Prelude.{length-append, length-set, not-true}
 use Rattle.audit_log.proofs.Within.{within-append, within-none, within-push}
 
 -- ---- one that is done
 
-not-false : (b : Bool) → not b ≡ true → b ≡ false
-not-false true e = sym e
-not-false false e = refl
-
 pub done-clear : (cluster : List ℕ) (now : ℕ) (r : Recovery) → DoneOf cluster r → IsClear cluster now r
 done-clear cluster now r done here =
     let parts = and_parts r.acked (not (is_unended r)) (done here) in
-    (not-false (is_unended r) parts.1, inl parts.0)
+    (not-true (is_unended r) parts.1, inl parts.0)
 
 pub acked-of : (r : Recovery) → is_done r ≡ true → r.acked ≡ true
 acked-of r done = (and_parts r.acked (not (is_unended r)) done).0
-
-pub done-of : (cluster : List ℕ) (r : Recovery) → DoneIn (bucket_of cluster) r → DoneOf cluster r
-done-of cluster r done here = done (ap bucket_of here)
 
 -- ---- a change that keeps what the index knows of a recovery
 
@@ -104,7 +87,7 @@ acknowledged-stays cluster r = go (is_of cluster r)
 pub ended-stays : (at : Moment) (outcome : Ending) (r : Recovery) → is_unended r ≡ true → Stays r (ended_so at outcome r)
 ended-stays at outcome r unended = record {
   cluster = refl;
-  done = λ e. absurd (false≢true (sym (not-false (is_unended r) (and_parts r.acked (not (is_unended r)) e).1) ∙ unended));
+  done = λ e. absurd (false≢true (sym (not-true (is_unended r) (and_parts r.acked (not (is_unended r)) e).1) ∙ unended));
   clear = λ cluster now clear here. absurd (false≢true (sym (clear here).0 ∙ unended));
 }
 
@@ -208,46 +191,3 @@ module _ (xs : List Recovery) (next : Recovery) where
       heads = λ bucket d within. absurd (omega (arith, within, none));
       links = λ i d within. link-grown i (get_or index.links.items i d) (omega (arith, within, is.few)) (is.links i d within);
     }
-
--- ---- what is done is passed over
-
-module _ (xs : List Recovery) (index : Index) (is : IsIndex xs index) where
-  pub index-headed : (new : Index) (of head : ℕ) → new.links ≡ index.links → new.heads.items ≡ set index.heads.items of head
-      → AllWithin (DoneIn of) xs head (length xs) → IsIndex xs new
-  index-headed new of head links heads done = record {
-    few = omega (arith, is.few, ap (λ ls. length ls.items) links);
-    heads = subst (λ (hs : List ℕ). (bucket d : ℕ) → bucket < length hs → AllWithin (DoneIn bucket) xs (get_or hs bucket d) (length xs)) (sym heads) go;
-    links = λ i d within.
-        subst (λ ls. IsLink xs i (get_or ls.items i d)) (sym links) (is.links i d (omega (arith, within, ap (λ ls. length ls.items) links)));
-  }
-    where
-      go : (bucket d : ℕ) → bucket < length (set index.heads.items of head) → AllWithin (DoneIn bucket) xs (get_or (set index.heads.items of head) bucket d) (length xs)
-      go bucket d within =
-          let short : bucket < length index.heads.items = omega (arith, within, length-set index.heads.items of head) in
-          elim (cases_eq bucket of) [
-            | inl here ↦
-                let read : get_or (set index.heads.items of head) bucket d ≡ head =
-                ap (λ n. get_or (set index.heads.items of head) n d) here ∙ get_or-set_same index.heads.items of head d (omega (arith, here, short)) in
-                subst (λ n. AllWithin (DoneIn bucket) xs n (length xs)) (sym read) (subst (λ b. AllWithin (DoneIn b) xs head (length xs)) (sym here) done)
-            | inr other ↦
-                subst (λ n. AllWithin (DoneIn bucket) xs n (length xs)) (sym (get_or-set_other index.heads.items of bucket head d other)) (is.heads bucket d short)
-          ]
-
-  pub index-linked : (new : Index) (i : ℕ) (link : Link) → i < length index.links.items → new.heads ≡ index.heads → new.links.items ≡ set index.links.items i link
-      → IsLink xs i link → IsIndex xs new
-  index-linked new i link within heads links so = record {
-    few = omega (arith, is.few, ap length links, length-set index.links.items i link);
-    heads = λ bucket d short.
-        subst (λ hs. AllWithin (DoneIn bucket) xs (get_or hs.items bucket d) (length xs)) (sym heads) (is.heads bucket d (omega (arith, short, ap (λ hs. length hs.items) heads)));
-    links = subst (λ (ls : List Link). (j : ℕ) (d : Link) → j < length ls → IsLink xs j (get_or ls j d)) (sym links) go;
-  }
-    where
-      go : (j : ℕ) (d : Link) → j < length (set index.links.items i link) → IsLink xs j (get_or (set index.links.items i link) j d)
-      go j d short = elim (cases_eq j i) [
-        | inl here ↦
-            let read : get_or (set index.links.items i link) j d ≡ link =
-            ap (λ n. get_or (set index.links.items i link) n d) here ∙ get_or-set_same index.links.items i link d within in
-            subst (λ l. IsLink xs j l) (sym read) (subst (λ n. IsLink xs n link) (sym here) so)
-        | inr other ↦
-            subst (λ l. IsLink xs j l) (sym (get_or-set_other index.links.items i j link d other)) (is.links j d (omega (arith, short, length-set index.links.items i link)))
-      ]

@@ -1,9 +1,7 @@
 -- What a change keeps of a recovery.
 use Rattle.std.proofs.Common.{◌≡◌, ℕ, Bool, true, false, cond, List, refl}
-use Rattle.kept_rows.specs.OrchBase.declared.recovery.Ending.TheVariants as ending
-use Rattle.kept_rows.specs.OrchBase.declared.server.Moment.{Moment}
-use Rattle.kept_rows.specs.declared.recovery.Recovery.{Recovery}
-use Rattle.audit_log.specs.Audits.{acknowledged_for, ended_so, interrupted, is_of, is_unended}
+use Rattle.audit_log.proofs.Prelude.{Moment, Recovery, acknowledged_for, ended_so, interrupted, is_of, is_unended}
+use Rattle.audit_log.proofs.Prelude.ending
 
 pub interrupted-id : (at : Moment) (r : Recovery) → (interrupted at r).id ≡ r.id
 interrupted-id at r = go (is_unended r)

@@ -1,3 +1,4 @@
+mod Prelude
 pub mod Changes
 pub mod Changing
 pub mod Extending

@@ -1,22 +1,10 @@
 -- What an index knows.
-use Rattle.std.proofs.Common.{◌≡◌, ℕ, ◌+◌, ◌-◌, ◌<◌, ◌≤◌, ◌⊎◌, true, false, List, length, get_or, refl, sym, ◌∙◌, ap, subst, Option, Some, None, inl, inr, arith}
-use Rattle.std.specs.Prelude.{All, IfSome, min, slice_get}
-use Rattle.std.specs.List.{AllWithin}
-use Rattle.std.proofs.lemmas.List.Elements.{at_read}
-use Rattle.std.proofs.lemmas.Option.{get_or_from_slice_get, IfSome_then, slice_get_within}
-use Rattle.kept_rows.specs.declared.recovery.Recovery.{Recovery}
-use Rattle.audit_log.specs.Apart.{IsClear}
-use Rattle.audit_log.specs.Audits.{is_unended}
-use Rattle.audit_log.specs.Index.{bucket_of, clear_at, clear_in, DoneIn, DoneOf, IsIndex, IsLastBut, IsLink}
-use Rattle.audit_log.specs.declared.index.Index.{Index}
-use Rattle.audit_log.specs.declared.index.Link.{Link}
-use Rattle.audit_log.proofs.Indexing.{done-clear, done-of}
+use Rattle.std.proofs.Common.{◌≡◌, ℕ, ◌+◌, ◌-◌, ◌<◌, ◌≤◌, ◌⊎◌, true, false, List, length, get_or, refl, sym, ap, subst, Option, Some, None, inl, inr, arith, All, IfSome, slice_get}
+use Rattle.audit_log.proofs.Prelude.{AllWithin, DoneOf, IfSome_then, Index, IsClear, IsIndex, IsLastBut, IsLink, Link, Recovery, at_read, clear_at}
+use Rattle.audit_log.proofs.Prelude.{clear_in, get_or_from_slice_get, is_unended, slice_get_within}
+use Rattle.audit_log.proofs.Indexing.{done-clear}
 use Rattle.audit_log.proofs.Walking.{some-of}
-use Rattle.audit_log.proofs.Within.{within-join, within-min, within-one, within-weaker}
-
--- of a bucket, so of each of its clusters
-pub done-of_cluster : (cluster : List ℕ) (xs : List Recovery) (low high : ℕ) → AllWithin (DoneIn (bucket_of cluster)) xs low high → AllWithin (DoneOf cluster) xs low high
-done-of_cluster cluster xs low high = within-weaker (DoneIn (bucket_of cluster)) (DoneOf cluster) xs low high (done-of cluster)
+use Rattle.audit_log.proofs.Within.{within-join, within-one, within-weaker}
 
 pub clear-of_done : (cluster : List ℕ) (now : ℕ) (xs : List Recovery) (low high : ℕ) → AllWithin (DoneOf cluster) xs low high → AllWithin (IsClear cluster now) xs low high
 clear-of_done cluster now xs low high = within-weaker (DoneOf cluster) (IsClear cluster now) xs low high (done-clear cluster now)
@@ -26,29 +14,10 @@ pub but-clear : (cluster : List ℕ) (now : ℕ) (xs : List Recovery) (end : ℕ
 but-clear cluster now xs end None is = clear-of_done cluster now xs 0 end is
 but-clear cluster now xs end (Some i) is = (is.0, is.1, clear-of_done cluster now xs (i + 1) end is.2)
 
--- with those after it, which are done
-pub but-behind : (cluster : List ℕ) (xs : List Recovery) (end high : ℕ) (o : Option ℕ) → end ≤ high → AllWithin (DoneOf cluster) xs end high
-    → IsLastBut (DoneOf cluster) cluster xs end o → IsLastBut (DoneOf cluster) cluster xs high o
-but-behind cluster xs end high None le behind is = within-join (DoneOf cluster) xs 0 end high is behind
-but-behind cluster xs end high (Some i) le behind is =
-    let before = is.0 in
-    (omega (arith, before, le), is.1, within-join (DoneOf cluster) xs (i + 1) end high is.2 behind)
-
 module _ (xs : List Recovery) (index : Index) (is : IsIndex xs index) where
   pub link-is : (i : ℕ) (link : Link) → slice_get index.links.items i ≡ Some link → IsLink xs i link
   link-is i link e =
       subst (λ l. IsLink xs i l) (get_or_from_slice_get index.links.items i link link e) (is.links i link (slice_get_within index.links.items i link e))
-
-  pub below-linked : (of i : ℕ) (link : Link) (x : Recovery) → slice_get index.links.items i ≡ Some link → x ≡ get_or xs i x → bucket_of x.cluster ≡ of
-      → AllWithin (DoneIn of) xs (min link.before i) i
-  below-linked of i link x e at same =
-      within-min (DoneIn of) xs link.before i
-      (subst (λ b. AllWithin (DoneIn b) xs link.before i) (sym (ap (λ (r : Recovery). bucket_of r.cluster) at) ∙ same) ((link-is i link e).done x))
-
-  pub head-there : (of head : ℕ) → slice_get index.heads.items of ≡ Some head → AllWithin (DoneIn of) xs (min head (length xs)) (length xs)
-  head-there of head e =
-      within-min (DoneIn of) xs head (length xs)
-      (subst (λ n. AllWithin (DoneIn of) xs n (length xs)) (get_or_from_slice_get index.heads.items of head head e) (is.heads of head (slice_get_within index.heads.items of head e)))
 
   pub clear-linked : (cluster : List ℕ) (now i from : ℕ) (link : Link) (x : Recovery) → slice_get index.links.items i ≡ Some link → link.clear ≡ Some from
       → (get_or xs i x).cluster ≡ cluster → from ≤ now → AllWithin (IsClear cluster now) xs 0 i
@@ -87,11 +56,3 @@ module _ (xs : List Recovery) (index : Index) (is : IsIndex xs index) where
       within-join (IsClear cluster now) xs 0 (i + 1) (length xs)
       (subst (λ (c : List ℕ). AllWithin (IsClear c now) xs 0 (i + 1)) (last.1 x) (all now late))
       (clear-of_done cluster now xs (i + 1) (length xs) last.2) k d (omega arith) within)
-
-  -- a link that passes over more
-  pub link-settled : (i before : ℕ) (link : Link) (x : Recovery) → i < length xs → x ≡ get_or xs i x → slice_get index.links.items i ≡ Some link
-      → AllWithin (DoneIn (bucket_of x.cluster)) xs before i → IsLink xs i (record link { before = before })
-  link-settled i before link x within at e done = record {
-    done = at_read xs (λ r. AllWithin (DoneIn (bucket_of r.cluster)) xs before i) i x within at done;
-    clear = (link-is i link e).clear;
-  }

@@ -1,16 +1,9 @@
 -- The recoveries of kept rows rise by id.
-use Rattle.std.proofs.Common.{◌≡◌, ℕ, ◌+◌, ◌<◌, ◌≤◌, List, [], ◌∷◌, ◌++◌, length, get_or, map, take, zero, suc, refl, sym, ◌∙◌, ap, Bor, Option, Some, None, arith}
-use Rattle.std.specs.Prelude.{All, AllPairs, filter_map, option_map}
-use Rattle.std.specs.Option.{option_copied, option_to_list}
-use Rattle.std.proofs.lemmas.List.{append-nil, map-append, take_more}
-use Rattle.std.proofs.lemmas.List.Elements.{All-nil, All-cons, All-head, All-tail, All-weaker, filter_map-append}
-use Rattle.kept_rows.specs.declared.recovery.Recovery.{Recovery}
-use Rattle.kept_rows.specs.declared.recovery.RecoveryRow.{RecoveryRow}
-use Rattle.kept_rows.specs.declared.row.Row.{Row}
-use Rattle.kept_rows.specs.declared.row.Row.TheVariants as row
-use Rattle.kept_rows.specs.Rows.{sort_key_of, IsRising}
-use Rattle.audit_log.specs.Audits.{longest_block, IsAudit}
-use Rattle.audit_log.specs.Loading.{loaded_by, recoveries_in, recovery_row_in, recovery_rows_in}
+use Rattle.std.proofs.Common.{◌≡◌, ℕ, ◌+◌, ◌<◌, ◌≤◌, List, [], ◌∷◌, ◌++◌, length, get_or, map, take, zero, suc, refl, sym, ◌∙◌, ap, Bor, Option, Some, None, arith, All, AllPairs, filter_map, option_map}
+use Rattle.audit_log.proofs.Prelude.{All-cons, All-head, All-nil, All-tail, All-weaker, IsAudit, IsRising, Recovery, RecoveryRow, Row, append-nil}
+use Rattle.audit_log.proofs.Prelude.{filter_map-append, loaded_by, longest_block, map-append, option_copied, option_to_list, recoveries_in}
+use Rattle.audit_log.proofs.Prelude.{recovery_row_in, recovery_rows_in, sort_key_of, take_more}
+use Rattle.audit_log.proofs.Prelude.row
 
 abbrev Precedes : Row → Row → Type 0
 Precedes a b = sort_key_of a < sort_key_of b

@@ -1,19 +1,13 @@
 -- Recoveries of a cluster don't overlap.
-use Rattle.std.proofs.Common.{◌≡◌, ℕ, ◌+◌, ◌-◌, ◌<◌, ◌≤◌, Bool, true, false, cond, not, ◌&&◌, List, [], ◌∷◌, ◌++◌, get_or, map, zero, refl, sym, ◌∙◌, ap, subst, Option, Some, None, Result, Ok, Err, ◌⊎◌, inl, inr, arith}
-use Rattle.std.specs.Prelude.{◌==◌, All, Any, Contains, nat_eq, nat_lt, reverse}
-use Rattle.std.specs.Cmp.Lexicographic.{nat_list_eq_equiv, pointwise, same_text}
-use Rattle.std.proofs.lemmas.Bool.{and_parts, false≢true, le-ltb, ltb-false}
+use Rattle.std.proofs.Common.{◌≡◌, ℕ, ◌+◌, ◌-◌, ◌<◌, ◌≤◌, Bool, true, false, cond, not, ◌&&◌, List, [], ◌∷◌, ◌++◌, get_or, map, zero, refl, sym, ◌∙◌, ap, subst, Option, Some, None, Result, Ok, Err, ◌⊎◌, inl, inr, arith, ◌==◌, All, Any, Contains, nat_eq, nat_lt, reverse}
+use Rattle.audit_log.proofs.Prelude.{All-contains_itself, All-head, All-map, All-tail, All-weaker, AuditState, Ending, Held, IsApart, IsAudit}
+use Rattle.audit_log.proofs.Prelude.{IsClear, IsFree, IsHeldBack, MayBegin, Moment, Recovery, acked_so, acknowledged, acknowledged_at}
+use Rattle.audit_log.proofs.Prelude.{acknowledged_for, and_parts, begun, closed, count_unended, ended, ended_so, false≢true, held_by, interrupted}
+use Rattle.audit_log.proofs.Prelude.{is_blocking, is_of, is_open, is_unended, last_blocking, le-ltb, ltb-false, may_begin, nat_list_eq_equiv}
+use Rattle.audit_log.proofs.Prelude.{pointwise, same_text, sum_by-cons, sum_by_push, unended_of}
+use Rattle.audit_log.proofs.Prelude.ending
+use Rattle.audit_log.proofs.Prelude.held
 use borrow.Author.Tests.{ltb-true}
-use Rattle.std.proofs.lemmas.List.Elements.{All-head, All-tail, All-contains_itself, All-map, All-weaker}
-use Rattle.std.proofs.lemmas.List.Sums.{sum_by-cons, sum_by_push}
-use Rattle.kept_rows.specs.OrchBase.declared.recovery.Ending.{Ending}
-use Rattle.kept_rows.specs.OrchBase.declared.recovery.Ending.TheVariants as ending
-use Rattle.kept_rows.specs.OrchBase.declared.server.Moment.{Moment}
-use Rattle.kept_rows.specs.declared.recovery.Recovery.{Recovery}
-use Rattle.audit_log.specs.declared.held.Held.{Held}
-use Rattle.audit_log.specs.declared.held.Held.TheVariants as held
-use Rattle.audit_log.specs.Apart.{count_unended, IsApart, IsClear, IsFree, IsHeldBack, MayBegin}
-use Rattle.audit_log.specs.Audits.{acked_so, acknowledged, acknowledged_at, acknowledged_for, begun, closed, ended, ended_so, held_by, interrupted, is_blocking, is_of, is_open, is_unended, last_blocking, may_begin, unended_of, AuditState, IsAudit}
 use Rattle.audit_log.proofs.Changes.{IsAudit-begun, IsAudit-map}
 use Rattle.audit_log.proofs.Finding.{All-found, All-reverse, All-reversed, found-passes, last-found, none-found, none-passes}
 use Rattle.audit_log.proofs.Kept.{acknowledged-block, acknowledged-id, interrupted-block, interrupted-id}

@@ -1,16 +1,8 @@
 -- The steps of walks over the recoveries of a cluster.
-use Rattle.std.proofs.Common.{◌≡◌, ℕ, ◌+◌, ◌<◌, ◌≤◌, Bool, true, false, cond, List, [], ◌∷◌, ◌++◌, length, get_or, set, map, drop, refl, sym, ◌∙◌, ap, subst, Option, Some, None, arith}
-use Rattle.std.specs.Prelude.{◌&&◌, count_by, filter, reverse}
-use Rattle.std.specs.List.{AllWithin}
+use Rattle.std.proofs.Common.{◌≡◌, ℕ, ◌+◌, ◌<◌, ◌≤◌, Bool, true, false, cond, List, [], ◌∷◌, ◌++◌, length, get_or, set, map, drop, refl, sym, ◌∙◌, ap, subst, Option, Some, None, arith, ◌&&◌, count_by, filter, reverse}
+use Rattle.audit_log.proofs.Prelude.{AllWithin, DoneOf, Index, IsClear, IsIndex, IsLastBut, Recovery, acknowledged_for, append-nil, at_read}
+use Rattle.audit_log.proofs.Prelude.{get_or_from_slice_get, is_blocking, is_new, is_of, is_unended, length-set, slice_get-get_or}
 use mathlib.Core.List.{reverse-cons}
-use Rattle.std.proofs.lemmas.List.{append-nil, length-set}
-use Rattle.std.proofs.lemmas.List.Elements.{at_read}
-use Rattle.std.proofs.lemmas.Option.{get_or_from_slice_get, slice_get-get_or}
-use Rattle.kept_rows.specs.declared.recovery.Recovery.{Recovery}
-use Rattle.audit_log.specs.Apart.{IsClear}
-use Rattle.audit_log.specs.Audits.{acknowledged_for, is_blocking, is_new, is_of, is_unended}
-use Rattle.audit_log.specs.Index.{DoneOf, IsIndex, IsLast, IsLastBut}
-use Rattle.audit_log.specs.declared.index.Index.{Index}
 use Rattle.audit_log.proofs.Indexing.{acknowledged-stays, index-stays, set-stays, Stays}
 use Rattle.audit_log.proofs.Parting.{clear-closed, clear-free, cluster-of}
 use Rattle.audit_log.proofs.Walking.{but-falls, but-place, but-rest, changed, changed-below, changed-end, changed-length, changed-passed, changed-step, count-end, count-few, count-passed, count-there, done-old, done-same, end_of, Fails, fails-more, filter-end, filter-passed, filter-there, FirstFrom, first-passed, IsPlace}
@@ -51,11 +43,6 @@ module _ (cluster : List ℕ) (now : ℕ) where
 
   pub blocks-init : (xs : List Recovery) (o : Option ℕ) → IsLastBut (IsClear cluster now) cluster xs (length xs) o → AllWithin (Fails Blocks) xs (end_of o) (length xs)
   blocks-init xs o last = blocks-fails xs (end_of o) (length xs) (but-rest (IsClear cluster now) cluster xs (length xs) o last)
-
-  pub blocks-found : (xs : List Recovery) (i : ℕ) (x : Recovery) → i < length xs → x ≡ get_or xs i x → x.cluster ≡ cluster → is_blocking now x ≡ true
-      → AllWithin (Fails Blocks) xs (i + 1) (length xs) → IsLast Blocks xs (Some i)
-  blocks-found xs i x within at of e so =
-      (within, at_read xs (λ r. Blocks r ≡ true) i x within at (ap (λ t. t && is_blocking now x) (cluster-of cluster x of) ∙ e), so)
 
   pub blocks-step : (xs : List Recovery) (i : ℕ) (x : Recovery) (o : Option ℕ) → i < length xs → x ≡ get_or xs i x → x.cluster ≡ cluster → is_blocking now x ≡ false
       → IsLastBut (IsClear cluster now) cluster xs i o → AllWithin (Fails Blocks) xs (i + 1) (length xs) → AllWithin (Fails Blocks) xs (end_of o) (length xs)
@@ -168,9 +155,6 @@ module _ (cluster : List ℕ) (xs ys : List Recovery) (i : ℕ) (d new : Recover
 
   pub acked-index : (index : Index) → IsIndex ys index → IsIndex (set ys i new) index
   acked-index index indexed = index-acked cluster ys i (get_or ys i d) new index here is indexed
-
-  pub acked-within : i < length (set ys i new)
-  acked-within = let long = ap length so ∙ changed-length (acknowledged_for cluster) (i + 1) xs in omega (arith, within, long, length-set ys i new)
 
   module _ (last : IsLastBut (DoneOf cluster) cluster (set ys i new) i o) where
     last-before : IsLastBut (DoneOf cluster) cluster xs i o

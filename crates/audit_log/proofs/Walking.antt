@@ -1,18 +1,8 @@
 -- The recoveries of a cluster, from the last one on.
-use Rattle.std.proofs.Common.{◌≡◌, ℕ, ◌+◌, ◌-◌, ◌<◌, ◌≤◌, Bool, true, false, cond, not, ◌&&◌, List, [], ◌∷◌, length, get_or, set, map, drop, zero, suc, refl, sym, ◌∙◌, ap, subst, Option, Some, None, arith, zero-add}
-use Rattle.std.specs.Prelude.{count_by, filter, find, reverse}
-use Rattle.std.specs.List.{AllWithin, HoldsAt}
-use Rattle.std.specs.Option.{option_or}
+use Rattle.std.proofs.Common.{◌≡◌, ℕ, ◌+◌, ◌-◌, ◌<◌, ◌≤◌, Bool, true, false, cond, not, ◌&&◌, List, [], ◌∷◌, length, get_or, set, map, drop, zero, suc, refl, sym, ◌∙◌, ap, subst, Option, Some, None, arith, zero-add, count_by, filter, find, reverse}
+use Rattle.audit_log.proofs.Prelude.{AllWithin, DoneOf, HoldsAt, IsLastBut, Recovery, acknowledged_for, add-one, count_by-le-length, drop-cons}
+use Rattle.audit_log.proofs.Prelude.{drop_all, false≢true, find-append, is_new, is_of, length-drop, option_or, sum_by-cons}
 use mathlib.Core.List.{reverse-cons}
-use Rattle.std.proofs.Math.Numerals.{add-one}
-use Rattle.std.proofs.Math.Seq.{drop-cons}
-use Rattle.std.proofs.lemmas.Bool.{false≢true}
-use Rattle.std.proofs.lemmas.List.{drop_all, length-drop}
-use Rattle.std.proofs.lemmas.List.Folds.{find-append}
-use Rattle.std.proofs.lemmas.List.Sums.{count_by-le-length, sum_by-cons}
-use Rattle.kept_rows.specs.declared.recovery.Recovery.{Recovery}
-use Rattle.audit_log.specs.Audits.{acknowledged_for, is_new, is_of}
-use Rattle.audit_log.specs.Index.{DoneOf, IsFirst, IsLastBut}
 use Rattle.audit_log.proofs.Finding.{All-reverse, none-found}
 use Rattle.audit_log.proofs.Indexing.{acked-of}
 use Rattle.audit_log.proofs.Parting.{of-cluster}
@@ -70,10 +60,6 @@ module _ (p : Recovery → Bool) where
   first-passed xs low i (Some k) le here rest so =
       let later = so.0 in
       (omega (arith, le, later), so.1, so.2, fails-more xs low i k here rest so.3)
-
-  pub first-is : (xs : List Recovery) (o : Option ℕ) → FirstFrom xs 0 o → IsFirst p xs o
-  first-is xs None so = so
-  first-is xs (Some i) so = (so.1, so.2, so.3)
 
   pub find-none : (xs : List Recovery) → AllWithin Fails xs 0 (length xs) → find p xs ≡ None
   find-none xs none = none-found p xs (λ k d within. none k d (omega arith) within)

@@ -1,10 +1,6 @@
 -- What holds of each place within bounds.
 use Rattle.std.proofs.Common.{◌≡◌, ℕ, ◌+◌, ◌≤◌, List, [], ◌∷◌, ◌++◌, length, get_or, arith, sym, subst, inl, inr}
-use Rattle.std.specs.Prelude.{min}
-use Rattle.std.specs.List.{AllWithin, HoldsAt}
-use Rattle.std.proofs.lemmas.Bool.{cases_lt}
-use Rattle.std.proofs.Math.Seq.{get_or-append_seam}
-use Rattle.std.proofs.lemmas.List.{get_or_append_left, length-append}
+use Rattle.audit_log.proofs.Prelude.{AllWithin, HoldsAt, cases_lt, get_or-append_seam, get_or_append_left, length-append}
 
 module _ {X : Type 0} (P : X → Type 0) (xs : List X) where
   pub within-none : (low high : ℕ) → high ≤ low → AllWithin P xs low high
@@ -15,12 +11,6 @@ module _ {X : Type 0} (P : X → Type 0) (xs : List X) where
 
   pub within-one : (i : ℕ) → HoldsAt P xs i → AllWithin P xs i (i + 1)
   within-one i here k d from below = let e : i ≡ k = omega (arith, from, below) in subst (λ n. P (get_or xs n d)) e (here d)
-
-  pub within-part : (low high low' high' : ℕ) → low ≤ low' → high' ≤ high → AllWithin P xs low high → AllWithin P xs low' high'
-  within-part low high low' high' up down all k d from below = all k d (omega (arith, up, from)) (omega (arith, down, below))
-
-  pub within-min : (low high : ℕ) → AllWithin P xs low high → AllWithin P xs (min low high) high
-  within-min low high all k d from below = all k d (omega (arith, from, below)) below
 
   pub within-append : (ys : List X) (low high : ℕ) → high ≤ length xs → AllWithin P xs low high → AllWithin P (xs ++ ys) low high
   within-append ys low high short all k d from below =

@@ -1,6 +1,5 @@
 -- A text is divided at its last colon.
-use Rattle.std.proofs.Common.{◌≡◌, ◌≢◌, ℕ, zero, suc, ◌+◌, ◌-◌, ◌<◌, ◌≤◌, true, false, not, List, [], ◌∷◌, ◌++◌, length, take, drop, get_or, Option, Some, None, refl, sym, ap, ◌∙◌, subst, arith, inl, inr, ⊎_elim}
-use Rattle.std.specs.Prelude.{◌⊎◌, MatchOption}
+use Rattle.std.proofs.Common.{◌≡◌, ◌≢◌, ℕ, zero, suc, ◌+◌, ◌-◌, ◌<◌, ◌≤◌, true, false, not, List, [], ◌∷◌, ◌++◌, length, take, drop, get_or, Option, Some, None, refl, sym, ap, ◌∙◌, subst, arith, inl, inr, ⊎_elim, ◌⊎◌, MatchOption}
 use Rattle.binlog_coords.proofs.Prelude.{Bor, NoCharPasses-char, RFindsChar, after_last, append_assoc, before_last, cases_eq, drop_at, drop_at_char}
 use Rattle.binlog_coords.proofs.Prelude.{false≢true, get_or-append_right, get_or_at, is_colon, length-append, list_any, list_any-append, ne_eqb}
 use Rattle.binlog_coords.proofs.Prelude.{not_from_false, or_from, or_right, suffix_len, suffix_len_is, take-append-drop, take_at}

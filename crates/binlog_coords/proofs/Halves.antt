@@ -1,6 +1,5 @@
 -- What a search by halves needs of a log's transactions.
-use Rattle.std.proofs.Common.{◌≡◌, ℕ, ◌+◌, ◌-◌, ◌<◌, ◌≤◌, Bool, true, false, cond, List, [], ◌∷◌, ◌++◌, length, refl, sym, ◌∙◌, ap, subst, inl, inr, Option, Some, None, arith, zero, suc, ◌||◌, get_or}
-use Rattle.std.specs.Prelude.{count_by, map, option_map, slice_get}
+use Rattle.std.proofs.Common.{◌≡◌, ℕ, ◌+◌, ◌-◌, ◌<◌, ◌≤◌, Bool, true, false, cond, List, [], ◌∷◌, ◌++◌, length, refl, sym, ◌∙◌, ap, subst, inl, inr, Option, Some, None, arith, zero, suc, ◌||◌, get_or, count_by, map, option_map, slice_get}
 use Rattle.binlog_coords.proofs.Prelude.{Coord, Entry, IsPartitionedBy, IsPartitionPoint, LieBetween, Log, Next, Slot, cases_Bool, coord_after}
 use Rattle.binlog_coords.proofs.Prelude.{end_coord, end_of, end_or_first, ends_by, entry_from, entry_of, file_start, from_bool, has_place}
 use Rattle.binlog_coords.proofs.Prelude.{is_at_or_before, is_before, is_file_start, length-map, list_any, map-append, nat_tests, next_after}

@@ -1,6 +1,5 @@
 -- The numbers of a coordinate's text.
-use Rattle.std.proofs.Common.{◌≡◌, ℕ, zero, suc, ◌+◌, ◌-◌, ◌^◌, ◌<◌, ◌≤◌, Bool, true, false, cond, eqb, ltb, leb, List, [], ◌∷◌, ◌++◌, length, get_or, Some, None, Result, Ok, Err, refl, sym, ap, ◌∙◌, subst, arith, ⊎_elim, rules}
-use Rattle.std.specs.Prelude.{◌&&◌, ◌||◌, decimal, replicate}
+use Rattle.std.proofs.Common.{◌≡◌, ℕ, zero, suc, ◌+◌, ◌-◌, ◌^◌, ◌<◌, ◌≤◌, Bool, true, false, cond, eqb, ltb, leb, List, [], ◌∷◌, ◌++◌, length, get_or, Some, None, Result, Ok, Err, refl, sym, ap, ◌∙◌, subst, arith, ⊎_elim, rules, ◌&&◌, ◌||◌, decimal, replicate}
 use Rattle.binlog_coords.proofs.Prelude.{IsDigitsTest, IsNumeralModel, ParsesUnsigned, and_parts, and_right, begins_above_zero, cases_eq}
 use Rattle.binlog_coords.proofs.Prelude.{decimal-digits_value, digits_decimal, digits_value, digits_value-decimal, drop-replicate, eq-eqb, eqb-true}
 use Rattle.binlog_coords.proofs.Prelude.{false_from_ne_true, false≢true, first_decimal, is_ascii_digit, is_extension, is_plain, le-leb, leb-true}

@@ -1,6 +1,5 @@
 -- What the parts of a text make of it.
-use Rattle.std.proofs.Common.{◌≡◌, ℕ, Bool, true, false, cond, List, Option, Some, None, Result, Err, sym, ap, ◌∙◌, subst}
-use Rattle.std.specs.Prelude.{MatchOption}
+use Rattle.std.proofs.Common.{◌≡◌, ℕ, Bool, true, false, cond, List, Option, Some, None, Result, Err, sym, ap, ◌∙◌, subst, MatchOption}
 use Rattle.binlog_coords.proofs.Prelude.{Bor, Coord, CoordFault, NoColon, after_last, before_last, coord_at, coord_of, file_at, is_colon, list_any}
 use Rattle.binlog_coords.proofs.Prelude.{pos_at}
 

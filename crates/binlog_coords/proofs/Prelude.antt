@@ -21,9 +21,8 @@ pub use Rattle.std.specs.Result.{result_ok}
 pub use Rattle.std.specs.Str.Parse.{ParsesUnsigned, digits_value}
 pub use Rattle.std.specs.Str.Pattern.{RFindsChar}
 pub use Rattle.binlog_coords.specs.Entries.{LieBetween, starts_at}
-pub use Rattle.binlog_coords.specs.Grammar.{HasText, begins_above_zero, coord_of, file_at, is_extension, is_plain, number_at, pos_at}
+pub use Rattle.binlog_coords.specs.Grammar.{HasText, begins_above_zero, coord_of, file_at, is_extension, is_plain, number_at, pos_at, value_within}
 pub use Rattle.orch_base.specs.Names.{is_colon}
-pub use Rattle.binlog_coords.specs.Grammar.{value_within}
 unfoldable pub use Rattle.binlog_coords.specs.Grammar.{coord_at}
 pub use Rattle.binlog_coords.specs.Grown.{Grown}
 pub use Rattle.binlog_coords.specs.Grown as grown

@@ -1,6 +1,5 @@
 -- A text reads as a coordinate exactly if it is what is printed of it.
-use Rattle.std.proofs.Common.{◌≡◌, ℕ, ◌^◌, ◌<◌, ◌≤◌, Bool, true, false, cond, List, [], ◌∷◌, ◌++◌, take, drop, Option, Some, None, Ok, Err, refl, sym, ap, ◌∙◌, arith}
-use Rattle.std.specs.Prelude.{codes, decimal, nat_eq, option_and_then}
+use Rattle.std.proofs.Common.{◌≡◌, ℕ, ◌^◌, ◌<◌, ◌≤◌, Bool, true, false, cond, List, [], ◌∷◌, ◌++◌, take, drop, Option, Some, None, Ok, Err, refl, sym, ap, ◌∙◌, arith, codes, decimal, nat_eq, option_and_then}
 use Rattle.binlog_coords.proofs.Prelude.{Coord, HasText, NoColon, after_last, append_assoc, before_last, coord_at, coord_of, coord_text}
 use Rattle.binlog_coords.proofs.Prelude.{digits_decimal, digits_value, digits_value-decimal, file_at, is_colon, is_extension, is_plain, list_any}
 use Rattle.binlog_coords.proofs.Prelude.{not_in_digits, number_at, pos_at, same_text, six_digits, starts_with, take-append-drop, value_within}

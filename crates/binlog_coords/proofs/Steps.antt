@@ -1,6 +1,5 @@
 -- What follows a coordinate, by the log's entries: a transaction, the next file, or nothing.
-use Rattle.std.proofs.Common.{◌≡◌, ℕ, ◌+◌, ◌<◌, ◌≤◌, Bool, true, false, cond, List, [], ◌∷◌, ◌++◌, length, refl, sym, zero-add, ◌∙◌, ap, subst, inl, inr, ◌⊎◌, Some, None, arith, length-append, zero, suc, get_or}
-use Rattle.std.specs.Prelude.{◌↔◌, IsSomeAnd, Option, count_by, slice_get}
+use Rattle.std.proofs.Common.{◌≡◌, ℕ, ◌+◌, ◌<◌, ◌≤◌, Bool, true, false, cond, List, [], ◌∷◌, ◌++◌, length, refl, sym, zero-add, ◌∙◌, ap, subst, inl, inr, ◌⊎◌, Some, None, arith, length-append, zero, suc, get_or, ◌↔◌, IsSomeAnd, Option, count_by, slice_get}
 use Rattle.binlog_coords.proofs.Prelude.{Coord, EndsFile, Entry, Log, Next, Spans, StepFrom, appended, cases_lt, end_coord, end_of, ends_by}
 use Rattle.binlog_coords.proofs.Prelude.{entry_at_end, entry_from, file_start, get_or_from_slice_get, is_at_or_before, nat_tests, next_after}
 use Rattle.binlog_coords.proofs.Prelude.{next_file, place, same_coord, same_Some, slice_get-get_or, slice_get_within, start_coord}

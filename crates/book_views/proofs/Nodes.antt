@@ -1,24 +1,10 @@
 -- The nodes of sources.
-use Rattle.std.proofs.Common.{◌≡◌, ℕ, ◌<◌, Bool, true, false, cond, length, get_or, map, None, Some, sym, ap, ◌∙◌, subst, inl, inr, arith}
-use Rattle.std.specs.Prelude.{option_and_then}
-use Rattle.std.proofs.lemmas.Bool.{cases_lt}
-use Rattle.std.proofs.lemmas.List.{get_or-map, get_or_past, length-map}
-use Rattle.std.proofs.lemmas.List.FromFn.{length-map-range_with_len}
-use Rattle.std.proofs.lemmas.Option.{same_Some}
-use Rattle.instance_keeper.specs.OrchBase.declared.server.ServerNo.{ServerNo}
-use Rattle.instance_keeper.specs.OrchBase.declared.server.SourceState.{SourceState}
-use Rattle.instance_keeper.specs.OrchBase.declared.server.SourceState.TheVariants.{Without, Attached, Detached}
-use Rattle.instance_keeper.specs.KeptRows.Servers.{are_known, source_servers}
-use Rattle.instance_keeper.specs.Book.{BookState, IsBook, instance_at}
-use Rattle.topology_tree.specs.Forests.{IsClosed}
-use Rattle.topology_tree.specs.Making.{forest_of}
-use Rattle.topology_tree.specs.Making as making
-use Rattle.instance_keeper.specs.NameOrder.NameOrder.{by_name, rank_of}
-use Rattle.instance_keeper.proofs.NameOrder.Arranged.{by_name-within}
-use Rattle.instance_keeper.proofs.NameOrder.ByName.{IsOrder-by_name, length-by_name}
-use Rattle.instance_keeper.proofs.NameOrder.Placing.{place-of_number, rank-of_place}
-use Rattle.book_views.specs.Sources.{is_instance, seen_source, source_in}
-use Rattle.book_views.specs.Forests.{book_forest, node_at, node_of, source_node, source_nodes}
+use Rattle.std.proofs.Common.{◌≡◌, ℕ, ◌<◌, Bool, true, false, cond, length, get_or, map, None, Some, sym, ap, ◌∙◌, subst, inl, inr, arith, option_and_then}
+use Rattle.book_views.proofs.Prelude.{Attached, BookState, Detached, IsBook, IsClosed, IsOrder-by_name, ServerNo, SourceState, Without, are_known}
+use Rattle.book_views.proofs.Prelude.{book_forest, by_name, by_name-within, cases_lt, forest_of, get_or-map, get_or_past, instance_at, is_instance}
+use Rattle.book_views.proofs.Prelude.{length-by_name, length-map, length-map-range_with_len, node_at, node_of, place-of_number, rank-of_place}
+use Rattle.book_views.proofs.Prelude.{rank_of, same_Some, seen_source, source_in, source_node, source_nodes, source_servers}
+use Rattle.book_views.proofs.Prelude.making
 use Rattle.book_views.proofs.Reading.{known-below, source-known}
 
 pub length-nodes : (b : BookState) → length (source_nodes b) ≡ length b.names

@@ -1,19 +1,8 @@
 -- What is read of a book and of the order of its names.
-use Rattle.std.proofs.Common.{◌≡◌, ℕ, zero, suc, ◌<◌, true, List, length, get_or, map, Option, None, Some, Bor, refl, sym, ◌∙◌, ap, subst, arith}
-use Rattle.std.specs.Prelude.{All, slice_get, nat_lt, [], ◌∷◌}
-use Rattle.std.specs.List.{list_all}
-use Rattle.std.proofs.lemmas.Bool.Decides.{nat_tests}
-use Rattle.std.proofs.lemmas.List.{length-map}
-use Rattle.std.proofs.lemmas.List.Elements.{All-get_or}
-use Rattle.std.proofs.lemmas.Option.{slice_get_within, get_or_from_slice_get}
-use Rattle.instance_keeper.specs.OrchBase.Names.{HostPort}
-use Rattle.instance_keeper.specs.OrchBase.declared.server.ServerNo.{ServerNo}
-use Rattle.instance_keeper.specs.KeptRows.Servers.{are_known, source_servers}
-use Rattle.instance_keeper.specs.Book.{BookState, IsBook, HasKnownSource, instance_at}
-use Rattle.instance_keeper.specs.KeptRows.declared.observation.Instance.{Instance}
-use Rattle.instance_keeper.specs.NameOrder.NameOrder.{by_name}
-use Rattle.instance_keeper.proofs.NameOrder.Arranged.{by_name-within}
-use Rattle.book_views.specs.Sources.{seen_source}
+use Rattle.std.proofs.Common.{◌≡◌, ℕ, zero, suc, ◌<◌, true, List, length, get_or, map, Option, None, Some, Bor, refl, sym, ◌∙◌, ap, subst, arith, All, slice_get, nat_lt, [], ◌∷◌}
+use Rattle.book_views.proofs.Prelude.{All-get_or, BookState, HasKnownSource, HostPort, Instance, IsBook, ServerNo, are_known, by_name, by_name-within}
+use Rattle.book_views.proofs.Prelude.{get_or_from_slice_get, instance_at, length-map, list_all, nat_tests, seen_source, slice_get_within}
+use Rattle.book_views.proofs.Prelude.{source_servers}
 
 known-seen : (n : ℕ) (o : Option Instance) → HasKnownSource n o → are_known n (source_servers (seen_source o)) ≡ true
 known-seen n None known = refl

@@ -1,6 +1,5 @@
 -- What tests of a job say: of a source that was named, of the aims of waits, and of changes of source.
-use Rattle.std.proofs.Common.{◌≡◌, ℕ, zero, suc, ◌+◌, ◌-◌, ◌≤◌, Bool, true, false, not, ◌&&◌, List, [], ◌∷◌, refl, sym, ◌∙◌, ap, subst, ◌⊎◌, inl, inr, Option, Some, None, arith, IfSome}
-use Rattle.std.specs.Prelude.{nat_lt, nat_le, ◌==◌}
+use Rattle.std.proofs.Common.{◌≡◌, ℕ, zero, suc, ◌+◌, ◌-◌, ◌≤◌, Bool, true, false, not, ◌&&◌, List, [], ◌∷◌, refl, sym, ◌∙◌, ap, subst, ◌⊎◌, inl, inr, Option, Some, None, arith, IfSome, nat_lt, nat_le, ◌==◌}
 use Rattle.cause_laws.proofs.Prelude.{Attached, Coord, Deed, Detached, Exchange, Interval, IsAttachment, IsBefore, Job, LacksSome, Position, ServerNo}
 use Rattle.cause_laws.proofs.Prelude.{SourceState, Status, Without, and_cases, and_from, and_parts, attached-server, attachment_of, bridge_at}
 use Rattle.cause_laws.proofs.Prelude.{change_of, crossed-of, eq-eqb, eqb-true, false_from_ne_true, false≢true, has_all, has_from, holds, holds_seen}

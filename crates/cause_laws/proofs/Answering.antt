@@ -1,6 +1,5 @@
 -- What exchanges answer of a server that isn't reached, and of one that is.
-use Rattle.std.proofs.Common.{◌≡◌, ℕ, Bool, true, false, cond, not, ◌&&◌, ◌||◌, List, [], ◌∷◌, length, refl, ap, subst, Option, Some, None, Ok, Err, Result}
-use Rattle.std.specs.Prelude.{nat_lt}
+use Rattle.std.proofs.Common.{◌≡◌, ℕ, Bool, true, false, cond, not, ◌&&◌, ◌||◌, List, [], ◌∷◌, length, refl, ap, subst, Option, Some, None, Ok, Err, Result, nat_lt}
 use Rattle.cause_laws.proofs.Prelude.{Answers, Attach, AttachAuto, AttachFault, Coord, Exchange, Interval}
 use Rattle.cause_laws.proofs.Prelude.{Server, Spot, Unreachable, World, answer_by_sets, attach_answer, attach_answer_of}
 use Rattle.cause_laws.proofs.Prelude.{attach_auto_answer, attach_decision, auto_decision, auto_purged, auto_readiness, can_attach, can_reach}

@@ -1,6 +1,5 @@
 -- What a job has in its hands is what it left stopped.
-use Rattle.std.proofs.Common.{◌≡◌, ℕ, ◌+◌, Bool, true, false, cond, not, ◌||◌, List, [], ◌∷◌, ◌++◌, refl, sym, ◌∙◌, ap, subst, Option, Some, None, map, get_or, ◌⊎◌, inl, inr, arith}
-use Rattle.std.specs.Prelude.{◌==◌, fold, All, AllPairs}
+use Rattle.std.proofs.Common.{◌≡◌, ℕ, ◌+◌, Bool, true, false, cond, not, ◌||◌, List, [], ◌∷◌, ◌++◌, refl, sym, ◌∙◌, ap, subst, Option, Some, None, map, get_or, ◌⊎◌, inl, inr, arith, ◌==◌, fold, All, AllPairs}
 use Rattle.cause_laws.proofs.Prelude.{All-cons, All-head, All-nil, All-tail, AllGoing, AllPairs-filter, Ask, Attempt, Attempts, Cause, Coord, Deed}
 use Rattle.cause_laws.proofs.Prelude.{Done, Ended, Exchange, HasLeases, IsLeased, IsLeftStopped, IsMove, IsNoStart, IsTaken, IsWaitFor, Job}
 use Rattle.cause_laws.proofs.Prelude.{KeepsLeases, Leases, Line, MayChange, Meeting, Misses, Moment, Op, Request, ServerNo, Status, Stopped, Threads}
@@ -37,11 +36,7 @@ data Part (n : ℕ) (e : Exchange) : Type 0 where
 ask-part : (n k : ℕ) (a : Ask) → k ≡ n → Part n (Request k a)
 ask-part n k (asking.Stop which) same = AStop which (ap (λ m. Request m (asking.Stop which)) same) (λ b. ap (λ t. by_ask t (asking.Stop which) b) (eq-eqb k n same))
 ask-part n k asking.Start same = AStart (ap (λ m. Request m asking.Start) same) (λ b. ap (λ t. by_ask t asking.Start b) (eq-eqb k n same))
-ask-part n k (asking.StartUntil to) same = Other (λ h. cc) (λ b. ap (λ t. by_ask t (asking.StartUntil to) b) (eq-eqb k n same))
-ask-part n k asking.Detach same = Other (λ h. cc) (λ b. ap (λ t. by_ask t asking.Detach b) (eq-eqb k n same))
-ask-part n k asking.Reattach same = Other (λ h. cc) (λ b. ap (λ t. by_ask t asking.Reattach b) (eq-eqb k n same))
-ask-part n k asking.Reset same = Other (λ h. cc) (λ b. ap (λ t. by_ask t asking.Reset b) (eq-eqb k n same))
-ask-part n k (asking.SetReadOnly on) same = Other (λ h. cc) (λ b. ap (λ t. by_ask t (asking.SetReadOnly on) b) (eq-eqb k n same))
+ask-part n k x same = Other (λ h. cc) (λ b. ap (λ t. by_ask t x b) (eq-eqb k n same))
 
 other-part : (n k : ℕ) (a : Ask) → (k == n) ≡ false → Part n (Request k a)
 other-part n k a apart = Other (λ h. let same : k ≡ n = cc in false≢true (sym apart ∙ eq-eqb k n same)) (λ b. ap (λ t. by_ask t a b) apart)

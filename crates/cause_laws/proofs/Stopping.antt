@@ -1,6 +1,5 @@
 -- What happens to an operation stops its job, for that cause.
-use Rattle.std.proofs.Common.{◌≡◌, ℕ, ◌+◌, ◌≤◌, Bool, true, false, cond, not, List, [], refl, sym, ◌∙◌, ap, subst, Option, Some, None, Err}
-use Rattle.std.specs.Prelude.{is_some}
+use Rattle.std.proofs.Common.{◌≡◌, ℕ, ◌+◌, ◌≤◌, Bool, true, false, cond, not, List, [], refl, sym, ◌∙◌, ap, subst, Option, Some, None, Err, is_some}
 use Rattle.cause_laws.proofs.Prelude.{Ask, AttachFault, Befell, Cause, Coord, Deed, Exchange, Goes, IsAnswered, IsMoved, IsSpent, IsUnmatched, Job}
 use Rattle.cause_laws.proofs.Prelude.{MatchFault, Moment, Observation, Op, ServerNo, SourceState, Status, Stops, World, after_answer, after_ask}
 use Rattle.cause_laws.proofs.Prelude.{after_attach, after_look, after_match, after_status, after_until, after_wait, after_wait_by, aim_of}

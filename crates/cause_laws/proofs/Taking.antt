@@ -1,6 +1,5 @@
 -- What a turn comes to by the operation that is due.
-use Rattle.std.proofs.Common.{◌≡◌, ℕ, ◌+◌, ◌≤◌, Bool, true, false, cond, not, List, [], ◌∷◌, refl, sym, ◌∙◌, ap, subst, Option, Some, None, Ok, Err, Result}
-use Rattle.std.specs.Prelude.{nat_lt, is_some}
+use Rattle.std.proofs.Common.{◌≡◌, ℕ, ◌+◌, ◌≤◌, Bool, true, false, cond, not, List, [], ◌∷◌, refl, sym, ◌∙◌, ap, subst, Option, Some, None, Ok, Err, Result, nat_lt, is_some}
 use Rattle.cause_laws.proofs.Prelude.{AttachFault, Attempt, Attempts, Befell, Cause, Coord, Deed, Done, Ended, Exchange, IsAnswered, IsMove, IsShort}
 use Rattle.cause_laws.proofs.Prelude.{IsTaken, IsWaitFor, Job, MatchFault, Misses, Moment, Observation, Op, Server, ServerNo, Status, Stopped, Stops}
 use Rattle.cause_laws.proofs.Prelude.{StopsFor, Waited, World, aim_of, asked_until, attach_answer_of, attachment-is, attachment_in, attachment_of}
@@ -77,9 +76,7 @@ module _ (w : World) (read : ℕ) (now : Moment) (j : Job) (rest : List Op) wher
 
   move-speaks : (n : ServerNo) (d : Deed) → IsMove n d → tries w (attachment_of j d) ≡ true → speaks_with w j d ≡ Some n
   move-speaks n d (doing.Crosses c b) h = ap (λ t. only_where t n) h
-  move-speaks n d doing.Stays h = ap (λ t. only_where t n) h
-  move-speaks n d (doing.GoesBySet m) h = ap (λ t. only_where t n) h
-  move-speaks n d (doing.GoesByMatch m) h = ap (λ t. only_where t n) h
+  move-speaks n d _ h = ap (λ t. only_where t n) h
 
   move-made : (n : ServerNo) (d : Deed) → IsMove n d → changes_by w j d ≡ made w (attachment_in j d)
   move-made n d (doing.Crosses c b) = refl
@@ -135,11 +132,8 @@ module _ (w : World) (read : ℕ) (now : Moment) (j : Job) (rest : List Op) wher
         away = subst (λ k. can_reach (server_at w k) ≡ false) (attachment-with j d n x (move-changes n d move) is) (answer-unreached w x can e);
       }
       go (attaching.Running at) e = (at, answered (attaching.Running at) e)
-      go (attaching.Interfered expected found) e = answered (attaching.Interfered expected found) e
-      go attaching.Loop e = answered attaching.Loop e
-      go (attaching.Errant set) e = answered (attaching.Errant set) e
-      go (attaching.Purged first) e = answered (attaching.Purged first) e
       go attaching.Memory e = absurd (answer-memory w x can e)
+      go x e = answered x e
 
   unmatched-by : (n m : ServerNo) (every : ℕ) (f : MatchFault) → match_logs w n m every ≡ Err f → Befell w j (deed.Match n m every) (cause_of_match n f)
   unmatched-by n m every (matching.Unreachable k) is = let away = match-away w n m every k is in record { spoken = away.0; away = away.1 }

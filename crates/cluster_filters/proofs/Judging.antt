@@ -17,10 +17,8 @@ judged_none [] = refl
 judged_none (c ∷ cs) = λ i. record c { matches = or_false c.matches i } ∷ judged_none cs i
 
 or_last : (a b c : Bool) → ((a || b) || c) ≡ (a || (b || (c || false)))
-or_last true b c = refl
-or_last false true c = refl
 or_last false false true = refl
-or_last false false false = refl
+or_last _ _ _ = refl
 
 last_judges : (form : Form) (forms : List Form) (c : Judged) → judged_by form (judged forms c) ≡ judged (forms ++ form ∷ []) c
 last_judges form forms c =

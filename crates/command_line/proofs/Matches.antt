@@ -1,6 +1,5 @@
 -- clap's promise for the command.
-use Rattle.std.proofs.Common.{◌≡◌, ◌∙◌, true, List, [], ◌∷◌, Ok, Err, refl, sym, ap, subst, inl, inr}
-use Rattle.std.specs.Prelude.{◌⊎◌}
+use Rattle.std.proofs.Common.{◌≡◌, ◌∙◌, true, List, [], ◌∷◌, Ok, Err, refl, sym, ap, subst, inl, inr, ◌⊎◌}
 use Rattle.command_line.proofs.Prelude.{App, BadWords, ErrorKind, IsAmong, Kinds, OutOfMemory, Row, Text, fault_of, is_simple, is_simple_and_free}
 use Rattle.command_line.proofs.Prelude.{matches_of, orch, rows_of_texts, unless_faulty}
 

@@ -6,8 +6,7 @@ use Rattle.command_line.proofs.Prelude.{leb-true, maybe, may_dump, name_in, need
 use Rattle.command_line.proofs.Prelude.{or_bad as or_bad_value, or_default, own_at, pattern_in, places_in, places_of, plan_in, rows_of_texts, rule_in}
 use Rattle.command_line.proofs.Prelude.{seconds_at, text_in, text_within, texts_in, texts_of, within}
 use Rattle.command_line.proofs.Prelude.Usages.{or_bad}
-use Rattle.std.proofs.Common.{◌≡◌, ◌∙◌, ℕ, ◌≤◌, arith, Bool, true, false, List, length, Option, Some, None, Result, Ok, Err, refl, sym, ap, subst, cond}
-use Rattle.std.specs.Prelude.{◌&&◌, ◌||◌, ◌-◌, ◌^◌, codes, is_some, nat_le, not, IfSome, option_map, ◌*◌}
+use Rattle.std.proofs.Common.{◌≡◌, ◌∙◌, ℕ, ◌≤◌, arith, Bool, true, false, List, length, Option, Some, None, Result, Ok, Err, refl, sym, ap, subst, cond, ◌&&◌, ◌||◌, ◌-◌, ◌^◌, codes, is_some, nat_le, not, IfSome, option_map, ◌*◌}
 use Rattle.orch_base.specs.Gives.{◌>>=◌}
 
 abbrev Same : {A : Type 0} → Result A Usage → Result A Usage → Type 0

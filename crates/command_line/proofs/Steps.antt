@@ -1,8 +1,7 @@
 -- One more option, and one more word.
 use Rattle.command_line.proofs.Prelude.{App, BadWords, IsUtf8, IsUtf8-from_is_utf8, Text, and_left as and_false, is_utf8, is_utf8-from_IsUtf8}
 use Rattle.command_line.proofs.Prelude.{list_all, long_rule, texts_of, with_options, with_rule}
-use Rattle.std.proofs.Common.{◌≡◌, ℕ, ◌+◌, ◌<◌, ◌≤◌, Bool, true, false, List, [], ◌∷◌, ◌++◌, map, length, drop, get_or, Bor, Vec, Global, refl, sym, ap, ◌∙◌, append_assoc, append-nil, Ok, Err}
-use Rattle.std.specs.Prelude.{◌&&◌}
+use Rattle.std.proofs.Common.{◌≡◌, ℕ, ◌+◌, ◌<◌, ◌≤◌, Bool, true, false, List, [], ◌∷◌, ◌++◌, map, length, drop, get_or, Bor, Vec, Global, refl, sym, ap, ◌∙◌, append_assoc, append-nil, Ok, Err, ◌&&◌}
 use Rattle.command_line.proofs.Lists.{item_then, none_left}
 
 abbrev now : Bor Text → Text

@@ -1,5 +1,5 @@
 -- A command that isn't refused begins a job over servers that are there and free.
-use Rattle.std.proofs.Common.{◌≡◌, ℕ, ◌<◌, ◌^◌, true, List, [], length, refl, Option, Some, None, arith}
+use Rattle.std.proofs.Common.{◌≡◌, ℕ, ◌<◌, ◌^◌, true, List, [], length, refl, Option, Some, None, arith, All}
 use Rattle.command_outcomes.proofs.Prelude.{All-nil, AllWithin, BookState, Command, Coordinates, Gtids, IsBook, IsInRange, IsReady, IsReadyJob}
 use Rattle.command_outcomes.proofs.Prelude.{IsUnended, Matches, Means, Moment, Op, Paths, Planner, ServerNo, Within, World, about-free, about-is}
 use Rattle.command_outcomes.proofs.Prelude.{are_named, begun-of, begun-shaped, busy, first_about, first_busy, given-within, is_within, job_by, job_in}
@@ -16,7 +16,6 @@ use Rattle.command_outcomes.proofs.Prelude.named_paths
 use Rattle.command_outcomes.proofs.Prelude.matches
 use Rattle.command_outcomes.proofs.Prelude.paths
 use Rattle.command_outcomes.proofs.Prelude.purpose
-use Rattle.std.specs.Prelude.{All}
 
 checks-free : (w : World) (b : BookState) (now : Moment) (every : ℕ) (p : Planner) (i : ServerNo) (d : Option ServerNo) → refusal_about w b now every p i d ≡ None
     → first_about (busy b) (list_of w b p i d) ≡ None

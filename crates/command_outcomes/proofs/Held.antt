@@ -2,20 +2,17 @@
 use Rattle.std.proofs.Common.{◌≡◌, ◌∙◌, ◌+◌, ℕ, true, Option, Some, None, refl, sym, ap, subst}
 use Rattle.std.proofs.lemmas.Bool.{false≢true}
 use Rattle.std.specs.Option.{option_or}
-use Rattle.asking_commands.specs.Answers.{is_known as is_asked, unknown_in}
 use Rattle.recovery_core.specs.Permission.Checks.{is_known, unknown_in as unknown_of_permit}
-use Rattle.recovery_core.specs.Permission.Rows.{about, about_one, refused}
+use Rattle.recovery_core.specs.Permission.Rows.{about, about_one}
 use Rattle.recovery_core.specs.Commands.Unknown.{unknown_of}
-use Rattle.recovery_core.specs.Commands.declared.refusal.Refusal.{Refusal}
-use Rattle.command_outcomes.specs.Prelude.by_coords
-use Rattle.command_outcomes.specs.Prelude.by_gtids
-use Rattle.command_outcomes.specs.Prelude.by_matches
-use Rattle.command_outcomes.specs.Prelude.by_paths
-use Rattle.command_outcomes.specs.Jobs.{is_held_first, job_by, leases_by}
-use Rattle.command_outcomes.specs.Outcomes.{begun, begun_by, busy_given, first_of, refusal, removal_refusal}
-use Rattle.command_outcomes.specs.declared.command.Numbers.{Numbers}
-use Rattle.command_outcomes.proofs.Prelude.{BookState, Command, Coordinates, Gtids, Matches, Moment, Paths, Planner, ServerNo, World, busy, refusal_about}
-use Rattle.command_outcomes.proofs.Prelude.{refusal_by}
+use Rattle.command_outcomes.proofs.Prelude.by_coords
+use Rattle.command_outcomes.proofs.Prelude.by_gtids
+use Rattle.command_outcomes.proofs.Prelude.by_matches
+use Rattle.command_outcomes.proofs.Prelude.by_paths
+use Rattle.command_outcomes.specs.Jobs.{is_held_first}
+use Rattle.command_outcomes.proofs.Prelude.{BookState, Command, Coordinates, Gtids, Matches, Moment, Numbers, Paths, Planner, Refusal, ServerNo}
+use Rattle.command_outcomes.proofs.Prelude.{World, begun, begun_by, busy, busy_given, first_of, is_known as is_asked, job_by, leases_by, refusal}
+use Rattle.command_outcomes.proofs.Prelude.{refusal_about, refusal_by, removal_refusal, unknown_in}
 
 or-some : (o later : Option Refusal) (r : Refusal) → o ≡ Some r → option_or o later ≡ Some r
 or-some o later r e = ap (λ (x : Option Refusal). option_or x later) e

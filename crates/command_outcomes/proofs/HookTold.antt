@@ -1,6 +1,5 @@
 -- Hooks that get what begins change nothing else of it.
-use Rattle.std.proofs.Common.{◌<◌, ◌-◌, ◌^◌, ℕ, List, [], ◌∷◌, Option}
-use Rattle.std.specs.Prelude.{map}
+use Rattle.std.proofs.Common.{◌<◌, ◌-◌, ◌^◌, ℕ, List, [], ◌∷◌, Option, map}
 use Rattle.std.proofs.lemmas.List.Elements.{All-map}
 use Rattle.recovery_core.specs.AuditLog.Audits.{AuditState, begun}
 use Rattle.recovery_core.specs.InstanceKeeper.Book.{BookState}

@@ -1,23 +1,16 @@
 -- What a command comes to, by what refuses it, and that it leaves ids.
 use Rattle.std.proofs.Common.{◌≡◌, ◌∙◌, ◌+◌, ℕ, List, [], sym, ap, Option, Some, None, Result, Ok, Err}
-use Rattle.recovery_core.specs.OrchBase.declared.server.ServerNo.{ServerNo}
+use Rattle.command_outcomes.proofs.Prelude.{BookState, Change, LeavesIds, Numbers, Outcome, Refusal, ServerNo, Unended, allowed, asked, begun}
+use Rattle.command_outcomes.proofs.Prelude.{decided, discovered, first_of, forgotten, only_lines, refusal, unless_refused}
 use Rattle.recovery_core.specs.KeptRows.declared.observation.Observation.{Observation}
 use Rattle.recovery_core.specs.ServerWords.declared.status.Status.{Status as Seen}
-use Rattle.recovery_core.specs.InstanceKeeper.Book.{BookState}
 use Rattle.recovery_core.specs.Commands.declared.line.Line.{Line}
-use Rattle.recovery_core.specs.Commands.declared.refusal.Refusal.{Refusal}
 use Rattle.asking_commands.specs.declared.answers.AnswerFault.TheVariants as fault
-use Rattle.asking_commands.specs.Answers.{allowed, unless_refused}
 use Rattle.recovery_core.specs.AuditLog.Audits.{AuditState}
 use Rattle.book_commands.specs.declared.decided.Decided.{Decided}
-use Rattle.unended_jobs.specs.declared.unended.Unended.{Unended}
 use Rattle.recovery_core.specs.Permission.Checks.{permitted}
-use Rattle.command_outcomes.specs.Outcomes.{Outcome, asked, begun, decided, discovered, first_of, forgotten, refusal, told}
-use Rattle.command_outcomes.specs.Ids.{LeavesIds}
-use Rattle.command_outcomes.specs.Prelude.{Change}
 use Rattle.command_outcomes.specs.Prelude.answered
 use Rattle.command_outcomes.specs.declared.command.Update.TheVariants as update
-use Rattle.command_outcomes.specs.declared.command.Numbers.{Numbers}
 
 -- of two tests the first that refuses
 pub refused-first : (unknown later : Option Refusal) (why : Refusal) → Err why ≡ allowed unknown → Some why ≡ first_of unknown later
@@ -25,15 +18,15 @@ refused-first None later why h = cc
 refused-first (Some r) later why h = let same : why ≡ r = cc in ap (λ (x : Refusal). Some x) same
 
 -- what a command that only asks comes to, by its answer
-pub asked_told : (reads : ℕ) (p : Result Unit Refusal) (lines given : List Line) → unless_refused p lines ≡ Ok given → told reads given ≡ asked reads p lines
-asked_told reads (Ok permit) lines given e = let same : lines ≡ given = cc in ap (told reads) (sym same)
+pub asked_told : (reads : ℕ) (p : Result Unit Refusal) (lines given : List Line) → unless_refused p lines ≡ Ok given → only_lines reads given ≡ asked reads p lines
+asked_told reads (Ok permit) lines given e = let same : lines ≡ given = cc in ap (only_lines reads) (sym same)
 asked_told reads (Err r) lines given e = cc
 
 -- its outcome may list its changes by another name
 abbrev told_with_rows : ℕ → List Line → List Change → Outcome
 told_with_rows reads lines rows = record { reply = answered.Told lines; book = update.Stays; rows = rows; reads = reads }
 
-pub without-rows : (reads : ℕ) (lines : List Line) (rows : List Change) → rows ≡ [] → told_with_rows reads lines rows ≡ told reads lines
+pub without-rows : (reads : ℕ) (lines : List Line) (rows : List Change) → rows ≡ [] → told_with_rows reads lines rows ≡ only_lines reads lines
 without-rows reads lines rows none = ap (told_with_rows reads lines) none
 
 pub asked_refused : (reads : ℕ) (p : Result Unit Refusal) (lines : List Line) (why : Refusal) → unless_refused p lines ≡ Err (fault.Refused why) → refusal reads why ≡ asked reads p lines

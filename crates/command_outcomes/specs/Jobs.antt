@@ -2,10 +2,6 @@
 use Rattle.std.specs.Prelude.{ℕ, Bool, true, false, List, [], Option, Some, None}
 use Rattle.command_outcomes.specs.Prelude.{BookState, Case, Command, Coordinates, Gtids, Matches, Means, Moment, Op, Paths, Planner, Recovery}
 use Rattle.command_outcomes.specs.Prelude.{Refusal, ServerNo, Unended, World, about, begun_recovery, job_with, no_docket, refused, replicas_of}
-use Rattle.command_outcomes.specs.Prelude.by_coords
-use Rattle.command_outcomes.specs.Prelude.by_gtids
-use Rattle.command_outcomes.specs.Prelude.by_matches
-use Rattle.command_outcomes.specs.Prelude.by_paths
 use Rattle.command_outcomes.specs.Prelude.coords
 use Rattle.command_outcomes.specs.Prelude.coords_plans
 use Rattle.command_outcomes.specs.Prelude.gtid_plans
@@ -29,31 +25,10 @@ refusal_about w b now every (Matches kind) = matches.refusal_about w b now every
 
 -- after the one that its instances are known, its first check is that no job has its instance's lease
 abbrev pub is_held_first : Planner → Bool
-is_held_first (Coordinates by_coords.MoveUp) = true
-is_held_first (Coordinates by_coords.MoveUpReplicas) = true
-is_held_first (Coordinates by_coords.MoveBelow) = false
-is_held_first (Coordinates by_coords.Repoint) = false
-is_held_first (Coordinates by_coords.TakeSiblings) = true
-is_held_first (Coordinates by_coords.TakeMaster) = true
-is_held_first (Coordinates by_coords.DetachReplica) = true
-is_held_first (Coordinates by_coords.ReattachReplica) = true
-is_held_first (Coordinates by_coords.ResetReplica) = true
-is_held_first (Coordinates by_coords.StartReplica) = true
-is_held_first (Coordinates by_coords.StopReplica) = true
-is_held_first (Coordinates by_coords.RestartReplica) = true
-is_held_first (Coordinates by_coords.SetReadOnly) = true
-is_held_first (Coordinates by_coords.SetWriteable) = true
-is_held_first (Gtids by_gtids.MoveGtid) = false
-is_held_first (Gtids by_gtids.MoveReplicasGtid) = false
-is_held_first (Gtids by_gtids.EnableGtid) = true
-is_held_first (Gtids by_gtids.DisableGtid) = true
-is_held_first (Paths by_paths.Relocate) = false
-is_held_first (Paths by_paths.RelocateReplicas) = false
-is_held_first (Paths by_paths.RegroupReplicas) = true
-is_held_first (Matches by_matches.Match) = false
-is_held_first (Matches by_matches.MatchUp) = true
-is_held_first (Matches by_matches.MatchReplicas) = false
-is_held_first (Matches by_matches.RegroupReplicas) = true
+is_held_first (Coordinates kind) = coords.is_held_first kind
+is_held_first (Gtids kind) = gtids.is_held_first kind
+is_held_first (Paths kind) = paths.is_held_first kind
+is_held_first (Matches kind) = matches.is_held_first kind
 
 -- what its checks are about
 abbrev pub case_of : World → BookState → Planner → ServerNo → Option ServerNo → Case

@@ -25,7 +25,6 @@ pub use Rattle.scenarios.specs.Openings as Openings
 pub use Rattle.recovery_core.specs.Operations as Operations
 pub use Rattle.recovery_core.specs.OrchBase as OrchBase
 pub use Rattle.recovery_core.specs.Permission as Permission
-pub mod PlanParts
 pub use Rattle.recovery_core.specs.PromotionRules as PromotionRules
 pub mod PseudoMatch
 pub mod RecoveryCore

@@ -46,8 +46,8 @@ abbrev pub told_with : ℕ → Line → Update → List Change → Outcome
 told_with reads line u cs = record { reply = answered.Told (line ∷ []); book = u; rows = cs; reads = reads }
 
 -- lines, and no change
-abbrev pub told : ℕ → List Line → Outcome
-told reads lines = record { reply = answered.Told lines; book = stays; rows = []; reads = reads }
+abbrev pub only_lines : ℕ → List Line → Outcome
+only_lines reads lines = record { reply = answered.Told lines; book = stays; rows = []; reads = reads }
 
 -- ---- discover reads the server itself
 
@@ -77,7 +77,7 @@ forgotten reads (Ok permit) i = told_with reads (line.Server i) (update.Change (
 
 abbrev pub asked : ℕ → Result Unit Refusal → List Line → Outcome
 asked reads (Err r) lines = refusal reads r
-asked reads (Ok permit) lines = told reads lines
+asked reads (Ok permit) lines = only_lines reads lines
 
 -- a command that does nothing else has the lines of its question, and none if it asks nothing
 abbrev pub question : BookState → AuditState → ℕ → CommandTurn → Outcome

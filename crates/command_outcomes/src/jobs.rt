@@ -5,7 +5,7 @@ ghost use Rattle.command_outcomes.specs.Prelude.{Gives, book_forest, is_within, 
 ghost use Rattle.recovery_core.specs.Permission.Checks.{permitted};
 ghost use Rattle.command_outcomes.specs.Jobs.{case_of, is_held_first, job_by, leases_by, means_of, ops_of, refusal_about, refusal_by, unless_planned};
 
-use crate::commands::{Command, CoordsCommand, GtidCommand, MatchCommand, PathCommand, Planner};
+use crate::commands::{Command, Planner};
 use crate::instance_keeper_items::Book;
 use crate::job_plans::Job;
 use crate::operations_items::Op;
@@ -23,27 +23,10 @@ pub(crate) fn is_held_first(planner: Planner) -> bool
     ensures { result ≡ is_held_first planner }
 {
     match planner {
-        Planner::Coordinates(
-            CoordsCommand::MoveUp
-            | CoordsCommand::MoveUpReplicas
-            | CoordsCommand::TakeSiblings
-            | CoordsCommand::TakeMaster
-            | CoordsCommand::DetachReplica
-            | CoordsCommand::ReattachReplica
-            | CoordsCommand::ResetReplica
-            | CoordsCommand::StartReplica
-            | CoordsCommand::StopReplica
-            | CoordsCommand::RestartReplica
-            | CoordsCommand::SetReadOnly
-            | CoordsCommand::SetWriteable,
-        )
-        | Planner::Gtids(GtidCommand::EnableGtid | GtidCommand::DisableGtid)
-        | Planner::Paths(PathCommand::RegroupReplicas)
-        | Planner::Matches(MatchCommand::MatchUp | MatchCommand::RegroupReplicas) => true,
-        Planner::Coordinates(CoordsCommand::MoveBelow | CoordsCommand::Repoint)
-        | Planner::Gtids(GtidCommand::MoveGtid | GtidCommand::MoveReplicasGtid)
-        | Planner::Paths(PathCommand::Relocate | PathCommand::RelocateReplicas)
-        | Planner::Matches(MatchCommand::Match | MatchCommand::MatchReplicas) => false,
+        Planner::Coordinates(kind) => moves_coords::is_held_first(kind),
+        Planner::Gtids(kind) => moves_gtid::is_held_first(kind),
+        Planner::Paths(kind) => regroup::is_held_first(kind),
+        Planner::Matches(kind) => pseudo_match::is_held_first(kind),
     }
 }
 

@@ -1,31 +1,18 @@
 -- Numbers and durations.
-use Rattle.std.proofs.Common.{◌≡◌, ◌≢◌, ℕ, ◌-◌, ◌^◌, Bool, true, false, cond, eqb, List, [], ◌∷◌, ◌++◌, length, drop, take, Option, Some, None, Result, Ok, Err, Bor, refl, sym, ap, ◌∙◌, arith, leb, ltb, length-append}
-use Rattle.std.specs.Prelude.{◌&&◌, option_map}
+use Rattle.server_words.proofs.GtidSets.RoundTrip.{same_digits as all_digits}
+use Rattle.server_words.proofs.OrchBase.NameLemmas.{by_tests, own}
+use Rattle.std.proofs.Common.{◌≡◌, ◌≢◌, ℕ, ◌-◌, ◌^◌, Bool, true, false, cond, eqb, List, [], ◌∷◌, ◌++◌, length, drop, take, Option, Some, None, Result, Bor, refl, sym, ap, ◌∙◌, arith, leb, ltb, length-append, ◌&&◌, option_map}
 use Rattle.std.specs.Char.{is_ascii_digit}
 use Rattle.std.specs.List.{list_all}
 use Rattle.std.specs.Option.{MatchOption}
-use Rattle.std.specs.Result.{OkIff, result_ok}
+use Rattle.std.specs.Result.{result_ok}
 use Rattle.std.specs.Str.{all_ascii_digits}
 use Rattle.std.specs.Str.Parse.{ParsesUnsigned, digits_value}
 use Rattle.std.specs.Cmp.Lexicographic.{pointwise, same_text, nat_list_eq_equiv}
-use Rattle.std.proofs.lemmas.Bool.{false≢true, le-leb, leb-true, lt-ltb, ltb-true}
+use Rattle.std.proofs.lemmas.Bool.{le-leb, leb-true, lt-ltb, ltb-true}
 use Rattle.std.proofs.lemmas.List.{drop_at, take_at, take-append-drop}
 use Rattle.std.proofs.lemmas.Str.Parse.{parse_digits}
-use Rattle.server_words.proofs.OrchBase.NameLemmas.{own}
 use Rattle.commands.specs.Values.{before, number_at}
-
--- `r` is `Ok v` exactly if both tests hold
-by_tests : {E : Type 0} (a b : Bool) (v : ℕ) (r : Result ℕ E) (P : Type 0) → OkIff r P v → (P → (a ≡ true) × (b ≡ true)) → (a ≡ true → b ≡ true → P) → result_ok r ≡ cond (a && b) (Some v) None
-by_tests true true v (Ok x) P h f g = ap (λ (n : ℕ). Some n) h.1
-by_tests true true v (Err e) P h f g = absurd (h (g refl refl))
-by_tests true false v (Ok x) P h f g = absurd (false≢true (f h.0).1)
-by_tests true false v (Err e) P h f g = refl
-by_tests false b v (Ok x) P h f g = absurd (false≢true (f h.0).0)
-by_tests false b v (Err e) P h f g = refl
-
-all_digits : (ds : List ℕ) → list_all is_ascii_digit ds ≡ all_ascii_digits ds
-all_digits [] = refl
-all_digits (d ∷ ds) = ap (λ (b : Bool). is_ascii_digit d && b) (all_digits ds)
 
 third_holds : (a b c : Bool) → b ≡ true → (a && c) ≡ (a && b && c)
 third_holds true true c e = refl

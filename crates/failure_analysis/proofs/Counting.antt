@@ -1,23 +1,10 @@
 -- Replicas are counted in one pass.
-use Rattle.std.proofs.Common.{◌≡◌, ℕ, ◌+◌, ◌<◌, ◌≤◌, Bool, true, false, cond, ◌&&◌, List, length, get_or, set, take, refl, sym, ◌∙◌, ap, subst, Option, None, Some, arith}
-use Rattle.std.specs.Prelude.{◌==◌}
-use Rattle.std.proofs.lemmas.Bool.{eqb-true, eq-eqb, false≢true}
-use Rattle.std.proofs.lemmas.List.{get_or_default, get_or-set_other, length-take}
-use Rattle.std.proofs.lemmas.Grind.{get_or-set_at}
-use Rattle.std.proofs.Math.Nat.{add-zero}
-use Rattle.std.proofs.lemmas.List.Sums.{count_by-le-length, sum_by-le-sum_by, sum_by_more}
-use Rattle.instance_keeper.specs.OrchBase.declared.server.ServerNo.{ServerNo}
-use Rattle.instance_keeper.specs.OrchBase.declared.server.SourceState.{SourceState}
-use Rattle.instance_keeper.specs.OrchBase.declared.server.SourceState.TheVariants.{Without, Attached, Detached}
-use Rattle.instance_keeper.specs.KeptRows.declared.observation.Instance.{Instance}
-use Rattle.instance_keeper.specs.KeptRows.Servers.{are_known, source_servers}
-use Rattle.instance_keeper.specs.Book.{BookState, HasKnownSource, IsBook}
-use Rattle.instance_keeper.proofs.Books.{known_at}
-use Rattle.book_views.specs.Sources.{is_attached_to, seen_source}
-use Rattle.book_views.proofs.Reading.{known-below}
-use Rattle.failure_analysis.specs.declared.tally.Tally.{Tally}
-use Rattle.failure_analysis.specs.Analysis.{count_of, is_any, is_replica_that, is_valid, lags, replicates}
-use Rattle.failure_analysis.specs.Tallies.{no_replicas, raised, tally_of, AreParts}
+use Rattle.std.proofs.Common.{◌≡◌, ℕ, ◌+◌, ◌<◌, ◌≤◌, Bool, true, false, cond, ◌&&◌, List, length, get_or, set, take, refl, sym, ◌∙◌, ap, subst, Option, None, Some, arith, ◌==◌}
+use Rattle.failure_analysis.proofs.Prelude.{AreParts, Attached, BookState, Detached, HasKnownSource, Instance, IsBook, ServerNo, SourceState, Tally}
+use Rattle.failure_analysis.proofs.Prelude.{Without, add-zero, are_known, count_by-le-length, count_of, eq-eqb, eqb-true, false≢true, get_or-set_at}
+use Rattle.failure_analysis.proofs.Prelude.{get_or-set_other, get_or_default, is_any, is_attached_to, is_replica_that, is_valid, known-below}
+use Rattle.failure_analysis.proofs.Prelude.{known_at, lags, length-take, no_replicas, raised, replicates, seen_source, source_servers}
+use Rattle.failure_analysis.proofs.Prelude.{sum_by-le-sum_by, sum_by_more, tally_of}
 
 -- a stricter test counts no more
 fewer : (p q : Instance → Bool) → ((i : Instance) → p i ≡ true → q i ≡ true) → (xs : List (Option Instance)) (n : ServerNo) → count_of p xs n ≤ count_of q xs n
@@ -32,7 +19,7 @@ fewer p q stricter xs n = sum_by-le-sum_by (λ x. cond (is_replica_that p n x) 1
     each None = omega arith
     each (Some i) = both (is_attached_to n i.seen.source) (p i) (q i) (stricter i)
 
-first-part : (a b : Bool) → (a && b) ≡ true → a ≡ true
+pub first-part : (a b : Bool) → (a && b) ≡ true → a ≡ true
 first-part true b e = refl
 first-part false b e = e
 

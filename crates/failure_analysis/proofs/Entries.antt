@@ -1,25 +1,10 @@
 -- One entry for each instance, in name order.
-use Rattle.std.proofs.Common.{◌≡◌, ℕ, ◌+◌, ◌<◌, cond, List, [], ◌∷◌, ◌++◌, length, map, get_or, take, suc, refl, sym, ◌∙◌, ap, Option, None, Some, arith, zero-add}
-use Rattle.std.specs.Prelude.{count_by, filter, filter_map, is_some}
-use Rattle.std.specs.List.{cons_option, range_with_len, sum_by}
-use Rattle.std.specs.Option.{option_map, option_to_list}
-use Rattle.std.proofs.Math.Bool.{and-true}
-use Rattle.std.proofs.Math.Nat.{add-zero}
-use Rattle.std.proofs.lemmas.List.Sorted.{sum_by-IsPermutation}
-use Rattle.std.proofs.lemmas.List.Sums.{length-filter, sum_by-cons}
-use Rattle.instance_keeper.specs.NameOrder.NameOrder.{by_name}
-use Rattle.instance_keeper.proofs.NameOrder.ByName.{IsOrder-by_name, length-by_name}
-use Rattle.book_views.specs.Sources.{is_attached_to, is_instance, is_replica_of, replicas_of, seen_source}
-use Rattle.std.proofs.lemmas.List.{append-nil, take_more}
-use Rattle.std.proofs.lemmas.List.Elements.{filter_map-append}
-use Rattle.instance_keeper.specs.OrchBase.declared.server.ServerNo.{ServerNo}
-use Rattle.instance_keeper.specs.Book.{BookState, IsBook, instance_at}
-use Rattle.instance_keeper.specs.KeptRows.declared.observation.Instance.{Instance}
-use Rattle.failure_analysis.specs.declared.entry.Entry.{Entry}
-use Rattle.failure_analysis.specs.declared.tally.Tally.{Tally}
-use Rattle.failure_analysis.specs.Analysis.{count_of, entry_at, entry_of, is_any, is_replica_that}
-use Rattle.failure_analysis.specs.Table.{code_of}
-use Rattle.failure_analysis.specs.Tallies.{counts_by, tally_of}
+use Rattle.std.proofs.Common.{◌≡◌, ℕ, ◌+◌, ◌<◌, cond, List, [], ◌∷◌, ◌++◌, length, map, get_or, take, suc, refl, sym, ◌∙◌, ap, Option, None, Some, arith, zero-add, count_by, filter, filter_map, is_some}
+use Rattle.failure_analysis.proofs.Prelude.{BookState, Entry, Instance, IsBook, IsOrder-by_name, ServerNo, Tally, add-zero, and-true, append-nil}
+use Rattle.failure_analysis.proofs.Prelude.{by_name, code_of, cons_option, count_of, counts_by, entry_at, entry_of, filter_map-append, instance_at}
+use Rattle.failure_analysis.proofs.Prelude.{is_any, is_attached_to, is_instance, is_replica_of, is_replica_that, length-by_name, length-filter}
+use Rattle.failure_analysis.proofs.Prelude.{option_map, option_to_list, range_with_len, replicas_of, seen_source, sum_by, sum_by-cons}
+use Rattle.failure_analysis.proofs.Prelude.{sum_by-IsPermutation, take_more, tally_of}
 
 entries-more : (b : BookState) (order : List ServerNo) (i : ℕ) (d : ServerNo) (e : Option Entry) → i < length order → entry_at b (get_or order i d) ≡ e
     → filter_map (entry_at b) (take (i + 1) order) ≡ filter_map (entry_at b) (take i order) ++ option_to_list e

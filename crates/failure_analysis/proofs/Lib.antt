@@ -1,3 +1,4 @@
+pub mod Prelude
 pub mod Rows
 pub mod Counting
 pub mod Entries

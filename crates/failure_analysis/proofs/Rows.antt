@@ -1,14 +1,8 @@
 -- Exactly one of the table's rows applies.
 use Rattle.std.proofs.Common.{◌≡◌, ℕ, ◌≤◌, Bool, true, false, cond, List, [], ◌∷◌, Option, None, Some, refl, sym, ◌∙◌, ap, arith}
 use Rattle.std.specs.Prelude.{◌↔◌, All, count_by, find, unwrap_or}
-use Rattle.std.proofs.lemmas.Bool.{false≢true}
-use Rattle.std.proofs.lemmas.List.Elements.{All-nil, All-cons, All-head, All-tail}
-use Rattle.std.proofs.lemmas.Option.{same_Some}
-use Rattle.std.proofs.lemmas.Bool.Decides.{nat_tests}
-use Rattle.failure_analysis.specs.declared.code.Counts.{Counts}
-use Rattle.failure_analysis.specs.Table.{action_by, action_of, code_of, conditions, is_of_row, problems, AreCounts}
-use Rattle.instance_keeper.specs.OrchBase.declared.code.Code.{Code}
-use Rattle.instance_keeper.specs.OrchBase.declared.code.Code.TheVariants.{NoProblem}
+use Rattle.failure_analysis.proofs.Prelude.{All-cons, All-head, All-nil, All-tail, AreCounts, Code, Counts, NoProblem, action_by, action_of, code_of}
+use Rattle.failure_analysis.proofs.Prelude.{conditions, false≢true, is_of_row, nat_tests, problems, same_Some}
 
 abbrev counts : Bool → Bool → ℕ → ℕ → ℕ → ℕ → Counts
 counts h ok n v r l = record { has_source = h; valid = ok; replicas = n; valid_replicas = v; replicating = r; lagging = l }

@@ -59,8 +59,8 @@ pub fn analyse(alloc: Global, book: &Book) -> Result<Vec<Entry>, Memory>
     let _ = book.servers();
     let instances = book.instances(alloc)?;
     let tallies = tallies(alloc, book, &instances)?;
-    let mut entries = Vec::new(alloc);
     let order = book.order();
+    let mut entries = Vec::with_capacity(alloc, order.len())?;
     for no in order {
         if let Some(instance) = instances[no.0 as usize] {
             entries.push(entry_of(*no, instance, tallies[no.0 as usize]))?;

@@ -1,6 +1,5 @@
 -- The count is the number of pairs.
-use Rattle.std.proofs.Common.{◌≡◌, ℕ, zero, suc, ◌+◌, ◌-◌, ◌^◌, ◌<◌, ◌≤◌, false, eqb, ltb, leb, List, [], ◌∷◌, ◌++◌, length, length-append, refl, sym, ap, ◌∙◌, subst, arith}
-use Rattle.std.specs.Prelude.{◌&&◌, ◌||◌, ◌==◌, map}
+use Rattle.std.proofs.Common.{◌≡◌, ℕ, zero, suc, ◌+◌, ◌-◌, ◌^◌, ◌<◌, ◌≤◌, false, eqb, ltb, leb, List, [], ◌∷◌, ◌++◌, length, length-append, refl, sym, ap, ◌∙◌, subst, arith, ◌&&◌, ◌||◌, ◌==◌, map}
 use Rattle.gtid_sets.proofs.Prelude.{All, All-append, All-cons, All-head, All-tail, AllPairs, AllPairs-cons, Interval, IsInterval, IsSet, high, holds}
 use Rattle.gtid_sets.proofs.Prelude.{length-range_with_len, list_any, list_any-append, low, nat_tests, on_line, pairs, point, range_with_len, size}
 use Rattle.gtid_sets.proofs.Prelude.{sum_by-cons}
@@ -57,7 +56,7 @@ run_end : (s : Interval) → IsInterval s → low s + (s.last + 1 - s.first) ≡
 unfolding point
 run_end s is = let a = is.rises in omega arith
 
-set_tail : (s : Interval) (xs : List Interval) → IsSet (s ∷ xs) → IsSet xs
+pub set_tail : (s : Interval) (xs : List Interval) → IsSet (s ∷ xs) → IsSet xs
 set_tail s xs set = record {
   each = All-tail IsInterval s xs set.each;
   apart = λ i j d less within. set.apart (suc i) (suc j) d (omega arith) (omega (arith, within));

@@ -1,6 +1,6 @@
 -- An interval among those of a set.
-use Rattle.std.proofs.Common.{◌≡◌, ℕ, ◌+◌, ◌^◌, ◌<◌, ◌≤◌, Bool, true, false, cond, eqb, leb, min, max, List, [], ◌∷◌, ◌++◌, length, get_or, take, drop, refl, sym, ap, ◌∙◌, subst, arith, zero, suc, inl, inr}
-use Rattle.std.specs.Prelude.{◌&&◌, ◌||◌, ◌-◌}
+pub use Rattle.gtid_sets.proofs.Count.{set_tail as set_rest}
+use Rattle.std.proofs.Common.{◌≡◌, ℕ, ◌+◌, ◌^◌, ◌<◌, ◌≤◌, Bool, true, false, cond, eqb, leb, min, max, List, [], ◌∷◌, ◌++◌, length, get_or, take, drop, refl, sym, ap, ◌∙◌, subst, arith, zero, suc, inl, inr, ◌&&◌, ◌||◌, ◌-◌}
 use Rattle.gtid_sets.proofs.Prelude.{All, All-head, All-tail, AllPairs, AllWithin, Interval, IsInterval, IsSet, and_parts, cases_lt, eqb-true}
 use Rattle.gtid_sets.proofs.Prelude.{false≢true, get_or-drop, get_or-remove_above, get_or-remove_below, high, holds, inserted, is_before, largest}
 use Rattle.gtid_sets.proofs.Prelude.{length-drop, length-remove, low, merged, nat_tests, point, remove, single, spans, touches, touches_first}
@@ -39,7 +39,7 @@ spans-merged u n s t a b e =
     ∙ ap (λ x. x || (eqb s.uuid u && (leb t.first n && leb n t.last))) (sym (and_assoc (eqb s.uuid u) (leb s.first n) (leb n s.last)))
     ∙ ap (λ x. spans u n s || x) (ap (λ v. eqb v u && (leb t.first n && leb n t.last)) same ∙ sym (and_assoc (eqb t.uuid u) (leb t.first n) (leb n t.last)))
 
-or_assoc : (a b c : Bool) → ((a || b) || c) ≡ (a || (b || c))
+pub or_assoc : (a b c : Bool) → ((a || b) || c) ≡ (a || (b || c))
 or_assoc true b c = refl
 or_assoc false b c = refl
 
@@ -150,16 +150,10 @@ IsSet-cons s xs one rest above = record { each = All-cons IsInterval s xs one re
     pairs zero (suc j) d less h = above j d (omega arith)
     pairs (suc i) (suc j) d less h = rest.apart i j d (omega arith) (omega arith)
 
-set_head : (s : Interval) (xs : List Interval) → IsSet (s ∷ xs) → IsInterval s
+pub set_head : (s : Interval) (xs : List Interval) → IsSet (s ∷ xs) → IsInterval s
 set_head s xs is = is.each 0 s (omega arith)
 
-set_rest : (s : Interval) (xs : List Interval) → IsSet (s ∷ xs) → IsSet xs
-set_rest s xs is = record {
-  each = λ k d h. is.each (suc k) d (omega (arith, h));
-  apart = λ i j d less h. is.apart (suc i) (suc j) d (omega (arith, less)) (omega (arith, h));
-}
-
-set_above : (s : Interval) (xs : List Interval) → IsSet (s ∷ xs) → All (λ t. high s + 1 < low t) xs
+pub set_above : (s : Interval) (xs : List Interval) → IsSet (s ∷ xs) → All (λ t. high s + 1 < low t) xs
 set_above s xs is = λ k d h. is.apart 0 (suc k) d (omega arith) (omega (arith, h))
 
 before-gap : (s t : Interval) → IsInterval s → IsInterval t → touches s t ≡ false → is_before s t ≡ true → high s + 1 < low t

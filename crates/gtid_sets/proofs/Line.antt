@@ -1,6 +1,5 @@
 -- The order of pairs.
-use Rattle.std.proofs.Common.{◌≡◌, ℕ, ◌+◌, ◌^◌, ◌<◌, ◌≤◌, false, eqb, ltb, leb, max, arith}
-use Rattle.std.specs.Prelude.{◌&&◌, ◌||◌}
+use Rattle.std.proofs.Common.{◌≡◌, ℕ, ◌+◌, ◌^◌, ◌<◌, ◌≤◌, false, eqb, ltb, leb, max, arith, ◌&&◌, ◌||◌}
 use Rattle.gtid_sets.proofs.Prelude.{Interval, IsInterval, between, high, low, nat_tests, point, spans}
 
 pub point_lt : (u n v m : ℕ) → n < 2 ^ 64 → m < 2 ^ 64 → ltb (point u n) (point v m) ≡ (ltb u v || (eqb u v && ltb n m))

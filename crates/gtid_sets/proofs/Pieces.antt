@@ -1,11 +1,10 @@
 -- Texts that are divided.
 use Rattle.std.proofs.Common.{◌≡◌, ℕ, suc, ◌+◌, ◌-◌, ◌*◌, ◌^◌, ◌<◌, ◌≤◌, inl, inr, Bool, true, false, cond, eqb, ltb, min, not, List, [], ◌∷◌, ◌++◌, length, take, drop, Option, Some, None, Ok, Err, Result, refl, sym, ap, ◌∙◌, subst, append_assoc, append-nil, drop-drop, arith}
-use Rattle.std.specs.Prelude.{◌||◌, position, unwrap_or, option_map}
+use Rattle.std.specs.Prelude.{⊤, ◌||◌, MatchOption, option_map, position, unwrap_or}
 use Rattle.gtid_sets.proofs.Prelude.{BadInterval, BadUuid, GtidFault, Interval, Memory, TooLarge, Zero, begin_of, behind, cases_lt, end_of, fault_of}
 use Rattle.gtid_sets.proofs.Prelude.{filled_at, inner, interval_at, interval_of, intervals_at, is_colon, is_comma, largest, le-ltb, leading}
 use Rattle.gtid_sets.proofs.Prelude.{length-take-le, listed_at, lt-ltb, nat_tests, number_at, number_or, onto_first, parsed, parsed_hyphenated}
 use Rattle.gtid_sets.proofs.Prelude.{part_at, parts_at, pieces, position_or_len, take_all, text_at, uuid_or}
-use Rattle.std.specs.Prelude.{MatchOption, ⊤}
 use Rattle.gtid_sets.specs.Gives.{◌>>=◌}
 
 first_or_more : (b : Bool) (m n : ℕ) → m ≤ n → cond b (1 + m) 0 ≤ suc n
@@ -288,8 +287,5 @@ parts_step from len text found =
     rw (a, drop_more text from (len + 1)) refl
 
 pub fault_along : (e : GtidFault) (part whole : Result (List Interval) GtidFault) → ((f : GtidFault) → part ≡ Err f → whole ≡ Err f) → MatchOption (fault_of e) ⊤ (λ f. part ≡ Err f) → MatchOption (fault_of e) ⊤ (λ f. whole ≡ Err f)
-fault_along (BadUuid p) part whole go h = go (BadUuid p) h
-fault_along (BadInterval p) part whole go h = go (BadInterval p) h
-fault_along (Zero p) part whole go h = go (Zero p) h
-fault_along (TooLarge p) part whole go h = go (TooLarge p) h
 fault_along Memory part whole go h = tt
+fault_along x part whole go h = go x h

@@ -1,6 +1,5 @@
 -- Pairs by their points.
-use Rattle.std.proofs.Common.{◌≡◌, ℕ, ◌+◌, ◌^◌, ◌<◌, ◌≤◌, inl, inr, Bool, true, false, eqb, leb, List, [], ◌∷◌, length, get_or, take, refl, sym, ap, ◌∙◌, subst, arith}
-use Rattle.std.specs.Prelude.{◌&&◌, ◌||◌}
+use Rattle.std.proofs.Common.{◌≡◌, ℕ, ◌+◌, ◌^◌, ◌<◌, ◌≤◌, inl, inr, Bool, true, false, eqb, leb, List, [], ◌∷◌, length, get_or, take, refl, sym, ap, ◌∙◌, subst, arith, ◌&&◌, ◌||◌}
 use Rattle.gtid_sets.proofs.Prelude.{All, All-head, All-tail, AllWithin, Interval, IsInterval, IsSet, between, cases_lt, get_or_default, high, holds}
 use Rattle.gtid_sets.proofs.Prelude.{list_any_more, low, nat_tests, on_line, point}
 use Rattle.gtid_sets.proofs.Line.{spans_line, spans_past, low_high}

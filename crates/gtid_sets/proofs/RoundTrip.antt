@@ -8,8 +8,7 @@ use Rattle.gtid_sets.proofs.Prelude.{list_all-append, list_all-from_AllPass, low
 use Rattle.gtid_sets.proofs.Prelude.{not-true as not_true, number_at, numerals_by_fold, parsed_hyphenated, parses_hyphenated_text, part_at, parts_at}
 use Rattle.gtid_sets.proofs.Prelude.{pieces, position_or_len, printed, range_text, take_all, take_at, tells_all_ascii_digits, text_at, texts}
 use Rattle.gtid_sets.proofs.Prelude.{to_be_bytes, trailing, uuid_or, uuid_text, value_of, w128}
-use Rattle.std.proofs.Common.{◌≡◌, ℕ, zero, suc, ◌+◌, ◌-◌, ◌*◌, ◌/◌, ◌%◌, ◌^◌, ◌<◌, ◌≤◌, Bool, true, false, not, cond, eqb, ltb, List, [], ◌∷◌, ◌++◌, length, get_or, take, drop, Option, Some, None, Ok, All, inl, refl, sym, ap, ◌∙◌, subst, append_assoc, append-nil, arith}
-use Rattle.std.specs.Prelude.{◌&&◌, decimal, reverse, nat_le, ◌==◌}
+use Rattle.std.proofs.Common.{◌≡◌, ℕ, zero, suc, ◌+◌, ◌-◌, ◌*◌, ◌/◌, ◌%◌, ◌^◌, ◌<◌, ◌≤◌, Bool, true, false, not, cond, eqb, ltb, List, [], ◌∷◌, ◌++◌, length, get_or, take, drop, Option, Some, None, Ok, All, inl, refl, sym, ap, ◌∙◌, subst, append_assoc, append-nil, arith, ◌&&◌, decimal, reverse, nat_le, ◌==◌}
 
 -- neither a blank nor a comma, and no colon besides
 abbrev in_part : ℕ → Bool
@@ -77,7 +76,7 @@ pieces_prefix p (x ∷ a) b t rest e f =
 own : IsNumeralModel (λ ds. all_ascii_digits ds ≡ true) (λ ds. fold (λ m c. m * 10 + (c - 48)) 0 ds)
 own = numerals_by_fold (λ ds. all_ascii_digits ds ≡ true) tells_all_ascii_digits (λ n ds. fold (λ m c. m * 10 + (c - 48)) n ds) (record { empty = λ n. refl; more = λ n c cs h. refl })
 
-same_digits : (ds : List ℕ) → list_all is_ascii_digit ds ≡ all_ascii_digits ds
+pub same_digits : (ds : List ℕ) → list_all is_ascii_digit ds ≡ all_ascii_digits ds
 same_digits [] = refl
 same_digits (d ∷ ds) = rw (same_digits ds) refl
 

@@ -1,22 +1,11 @@
 -- Two sets that have the same pairs have the same intervals.
+use Rattle.gtid_sets.proofs.Inserts.{set_above, set_head}
+use Rattle.gtid_sets.proofs.Count.{set_tail as set_rest}
 use Rattle.gtid_sets.proofs.Prelude.{All, Interval, IsInterval, IsSet, between, cases_lt, false≢true, high, holds, low, nat_tests, on_line}
 use Rattle.gtid_sets.proofs.Prelude.{or_left as or_first, point}
-use Rattle.std.proofs.Common.{◌≡◌, ℕ, suc, ◌+◌, ◌/◌, ◌%◌, ◌^◌, ◌<◌, ◌≤◌, true, false, leb, List, [], ◌∷◌, inl, inr, refl, sym, ap, ◌∙◌, subst, arith}
-use Rattle.std.specs.Prelude.{◌&&◌}
+use Rattle.std.proofs.Common.{◌≡◌, ℕ, suc, ◌+◌, ◌/◌, ◌%◌, ◌^◌, ◌<◌, ◌≤◌, true, false, leb, List, [], ◌∷◌, inl, inr, refl, sym, ap, ◌∙◌, subst, arith, ◌&&◌}
 use Rattle.gtid_sets.proofs.Line.{low_high}
 use Rattle.gtid_sets.proofs.Points.{holds_line}
-
-set_head : (s : Interval) (xs : List Interval) → IsSet (s ∷ xs) → IsInterval s
-set_head s xs is = is.each 0 s (omega arith)
-
-set_rest : (s : Interval) (xs : List Interval) → IsSet (s ∷ xs) → IsSet xs
-set_rest s xs is = record {
-  each = λ k d h. is.each (suc k) d (omega (arith, h));
-  apart = λ i j d less h. is.apart (suc i) (suc j) d (omega (arith, less)) (omega (arith, h));
-}
-
-set_above : (s : Interval) (xs : List Interval) → IsSet (s ∷ xs) → All (λ t. high s + 1 < low t) xs
-set_above s xs is = λ k d h. is.apart 0 (suc k) d (omega arith) (omega (arith, h))
 
 not_between : (x l h : ℕ) → x < l → (leb l x && leb x h) ≡ false
 not_between x l h less = grind (arith, nat_tests)

@@ -2,8 +2,7 @@
 use Rattle.gtid_sets.proofs.Prelude.{All, AllWithin, Interval, IsInterval, IsSet, Misses, OnFalse, between, cases_lt, false≢true, get_or_default}
 use Rattle.gtid_sets.proofs.Prelude.{high, holds, le-leb as at_or_above, list_any_at, list_any_none, low, lt-leb as not_above, nat_tests, on_line}
 use Rattle.gtid_sets.proofs.Prelude.{point, spans, take_all}
-use Rattle.std.proofs.Common.{◌≡◌, ℕ, ◌+◌, ◌^◌, ◌<◌, ◌≤◌, inl, inr, Bool, true, false, ltb, leb, not, List, [], ◌∷◌, length, get_or, take, refl, sym, ◌∙◌, subst, arith}
-use Rattle.std.specs.Prelude.{◌&&◌, ◌||◌}
+use Rattle.std.proofs.Common.{◌≡◌, ℕ, ◌+◌, ◌^◌, ◌<◌, ◌≤◌, inl, inr, Bool, true, false, ltb, leb, not, List, [], ◌∷◌, length, get_or, take, refl, sym, ◌∙◌, subst, arith, ◌&&◌, ◌||◌}
 use Rattle.gtid_sets.proofs.Line.{low_high, point_rises, point_within, point_behind}
 use Rattle.gtid_sets.proofs.Points.{holds_line, holds_past, rises, rise_highs}
 

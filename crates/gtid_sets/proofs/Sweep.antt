@@ -1,11 +1,10 @@
 -- One set without another, from the first interval on.
-use Rattle.std.proofs.Common.{◌≡◌, ℕ, ◌+◌, ◌-◌, ◌^◌, ◌<◌, ◌≤◌, inl, inr, Bool, true, false, ltb, leb, max, not, List, [], length, get_or, refl, sym, ap, ◌∙◌, subst, arith}
-use Rattle.std.specs.Prelude.{◌&&◌, ◌||◌}
+use Rattle.gtid_sets.proofs.Search.{above, above as and_high, below, below as and_low, line_at, line_past}
+use Rattle.std.proofs.Common.{◌≡◌, ℕ, ◌+◌, ◌-◌, ◌^◌, ◌<◌, ◌≤◌, inl, inr, Bool, true, false, ltb, leb, max, not, List, [], length, get_or, refl, sym, ap, ◌∙◌, subst, arith, ◌&&◌, ◌||◌}
 use Rattle.gtid_sets.proofs.Prelude.{AllWithin, Interval, IsInterval, IsSet, between, cases_lt, high, holds, le-ltb, list_any_none, low, lt-ltb}
 use Rattle.gtid_sets.proofs.Prelude.{nat_tests, on_line, point}
 use Rattle.gtid_sets.proofs.Line.{low_high, point_within, point_behind, point_rises}
 use Rattle.gtid_sets.proofs.Points.{holds_line, holds_past, rises}
-use Rattle.gtid_sets.proofs.Search.{line_at, line_past, above, below}
 
 pub minus_holds : (xs ys zs : List Interval) → IsSet xs → IsSet ys → IsSet zs → ((x : ℕ) → on_line zs x ≡ (on_line xs x && not (on_line ys x)))
     → (u n : ℕ) → holds zs u n ≡ (holds xs u n && not (holds ys u n))
@@ -44,12 +43,6 @@ settle x f g old new piece want o n le none here past_it =
 
 whole_bool : (first f h from x : ℕ) → from ≡ max f first → f ≤ x → x ≤ h → (leb from x && leb x h) ≡ (leb first x && true)
 whole_bool first f h from x e l r = grind (arith, nat_tests)
-
-and_low : (from h x : ℕ) → x < from → (leb from x && leb x h) ≡ false
-and_low from h x l = grind (arith, nat_tests)
-
-and_high : (from h x : ℕ) → h < x → (leb from x && leb x h) ≡ false
-and_high from h x l = grind (arith, nat_tests)
 
 gap_low : (from t x : ℕ) → x < from → (leb from x && ltb x t) ≡ false
 gap_low from t x l = grind (arith, nat_tests)

@@ -1,10 +1,9 @@
 //! Reading the text of a set.
 
 ghost use Rattle.std.specs.Prelude.{◌≡◌, ◌+◌, ◌-◌, ◌^◌, ◌==◌, ◌<◌, ◌≤◌, ◌++◌, ◌∷◌, [], OnOk, IfOk, min, position, true, not, length, reverse, drop, option_map, if◌then◌else◌, nat_lt};
-ghost use Rattle.std.specs.List.{position_or_len, before_first};
+ghost use Rattle.std.specs.List.{All, before_first, position_or_len};
 ghost use Rattle.std.specs.Int.{from_be_bytes, w128};
 ghost use Rattle.uuid.specs.Text.{parsed_hyphenated};
-ghost use Rattle.std.specs.List.{All};
 ghost use Rattle.gtid_sets.specs.Sets.{IsInterval};
 ghost use Rattle.gtid_sets.specs.Gives.{Gives};
 ghost use Rattle.gtid_sets.specs.Grammar.{fault_of, is_blank, is_colon, is_comma, is_dash, pieces, leading, trailing, inner, number_at, interval_of, begin_of, end_of, interval_at, intervals_at, uuid_or, filled_at, part_at, parts_at, text_at, behind};

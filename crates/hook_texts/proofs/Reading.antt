@@ -1,14 +1,11 @@
 -- How a text is read: its placeholders, and what is none.
 pub use Rattle.std.proofs.lemmas.Bool.{and_left as and_head}
-use Rattle.std.proofs.lemmas.Bool.{false_from_ne_true as false_by}
-use Rattle.std.proofs.lemmas.Bool.{and_right as and_tail}
-use Rattle.std.proofs.Common.{◌≡◌, ℕ, ◌+◌, ◌<◌, ◌≤◌, Bool, true, false, not, eqb, cond, List, [], ◌∷◌, ◌++◌, All, length, get_or, take, drop, zero, suc, Option, Some, None, refl, sym, ap, subst, ◌∙◌, append_assoc, arith}
-use Rattle.std.specs.Prelude.{◌&&◌, ◌==◌, find, nat_eq, MatchOption}
+use Rattle.std.proofs.lemmas.Bool.{and_right as and_tail, eqb-false, eqb-true, false_from_ne_true as false_by, ne_eqb}
+use Rattle.std.proofs.Common.{◌≡◌, ℕ, ◌+◌, ◌<◌, ◌≤◌, Bool, true, false, not, eqb, cond, List, [], ◌∷◌, ◌++◌, All, length, get_or, take, drop, zero, suc, Option, Some, None, refl, sym, ap, subst, ◌∙◌, append_assoc, arith, ◌&&◌, ◌==◌, find, nat_eq, MatchOption}
 use Rattle.std.specs.Borrow.{Bor}
 use Rattle.std.specs.List.{after_first, before_first, list_all, position_or_len, starts_with}
 use Rattle.std.specs.Str.{bytes_eq}
 use Rattle.std.specs.Cmp.Lexicographic.{as_long as pointwise_long, bytes_decides}
-use Rattle.std.proofs.lemmas.Bool.{eqb-true, eqb-false, ne_eqb}
 use Rattle.std.proofs.lemmas.List.{append-nil, get_or-take, length-append, length-take}
 use Rattle.std.proofs.lemmas.List.Elements.{All-head, All-nil, All-tail, All-cons, All-push}
 use Rattle.std.proofs.lemmas.List.Sums.{fails_before_first, passes_at_first, split_at_first}
@@ -99,23 +96,11 @@ lacks_by byte (b ∷ word) all = lacks_more byte b word (b == byte) refl (lacks_
 
 pub words_unclosed : (p : Placeholder) → Lacks 125 (word_text p)
 words_unclosed place.FailureType = lacks_by 125 (word_text place.FailureType) refl
-words_unclosed place.FailedHost = lacks_by 125 (word_text place.FailedHost) refl
-words_unclosed place.FailedPort = lacks_by 125 (word_text place.FailedPort) refl
-words_unclosed place.FailureCluster = lacks_by 125 (word_text place.FailureCluster) refl
-words_unclosed place.FailureClusterAlias = lacks_by 125 (word_text place.FailureClusterAlias) refl
-words_unclosed place.SuccessorHost = lacks_by 125 (word_text place.SuccessorHost) refl
-words_unclosed place.SuccessorPort = lacks_by 125 (word_text place.SuccessorPort) refl
-words_unclosed place.IsSuccessful = lacks_by 125 (word_text place.IsSuccessful) refl
+words_unclosed x = lacks_by 125 (word_text x) refl
 
 pub words_unopened : (p : Placeholder) → Lacks 123 (word_text p)
 words_unopened place.FailureType = lacks_by 123 (word_text place.FailureType) refl
-words_unopened place.FailedHost = lacks_by 123 (word_text place.FailedHost) refl
-words_unopened place.FailedPort = lacks_by 123 (word_text place.FailedPort) refl
-words_unopened place.FailureCluster = lacks_by 123 (word_text place.FailureCluster) refl
-words_unopened place.FailureClusterAlias = lacks_by 123 (word_text place.FailureClusterAlias) refl
-words_unopened place.SuccessorHost = lacks_by 123 (word_text place.SuccessorHost) refl
-words_unopened place.SuccessorPort = lacks_by 123 (word_text place.SuccessorPort) refl
-words_unopened place.IsSuccessful = lacks_by 123 (word_text place.IsSuccessful) refl
+words_unopened x = lacks_by 123 (word_text x) refl
 
 -- a brace and a word that is closed begin the placeholder of that word
 pub word_behind : (word left : List ℕ) → Lacks 125 word → placeholder_at (123 ∷ (word ++ 125 ∷ left)) ≡ placeholder_named word

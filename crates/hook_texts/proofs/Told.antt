@@ -1,6 +1,5 @@
 -- What the placeholders of a server and of an outcome give.
-use Rattle.std.proofs.Common.{◌≡◌, true, false, ◌∷◌, ◌++◌, cond, Some, None, ap, ◌∙◌}
-use Rattle.std.specs.Prelude.{codes, decimal}
+use Rattle.std.proofs.Common.{◌≡◌, true, false, ◌∷◌, ◌++◌, cond, Some, None, ap, ◌∙◌, codes, decimal}
 use Rattle.std.proofs.lemmas.List.{append-nil}
 use Rattle.orch_base.specs.Names.{HostPort, printed}
 use Rattle.hook_texts.specs.declared.values.Values.{Values}

@@ -1,6 +1,5 @@
 -- The kept rows of a book change with the book.
-use Rattle.std.proofs.Common.{◌≡◌, ℕ, ◌+◌, ◌*◌, ◌<◌, ◌≤◌, ◌^◌, Bool, true, List, [], ◌∷◌, ◌++◌, length, All, Option, None, Some, refl, sym, ap, ◌∙◌, append_assoc, append-nil, arith}
-use Rattle.std.specs.Prelude.{filter_map, option_map, slice_set}
+use Rattle.std.proofs.Common.{◌≡◌, ℕ, ◌+◌, ◌*◌, ◌<◌, ◌≤◌, ◌^◌, Bool, true, List, [], ◌∷◌, ◌++◌, length, All, Option, None, Some, refl, sym, ap, ◌∙◌, append_assoc, append-nil, arith, filter_map, option_map, slice_set}
 use Rattle.instance_keeper.proofs.Prelude.{All-append, All-cons, All-nil, All-weaker, AllPairs, BookState, Change, IsBook, IsInRange, IsKeyInRange}
 use Rattle.instance_keeper.proofs.Prelude.{IsRising, Key, Row, Table, after_change, after_put, after_removal, are_known, book_rows, both_true}
 use Rattle.instance_keeper.proofs.Prelude.{changed_by, false≢true, fits, head_known, is_of_book, key_servers, option_to_list, pairs_append, put}

@@ -1,6 +1,5 @@
 -- The kept rows of a book: they rise, and they change with the book.
-use Rattle.std.proofs.Common.{◌≡◌, ℕ, suc, zero, ◌+◌, ◌<◌, ◌≤◌, List, [], ◌∷◌, ◌++◌, length, get_or, take, drop, All, Option, None, Some, refl, sym, ap, ◌∙◌, subst, append_assoc, add-zero, arith}
-use Rattle.std.specs.Prelude.{filter_map, option_map, IfSome, slice_set}
+use Rattle.std.proofs.Common.{◌≡◌, ℕ, suc, zero, ◌+◌, ◌<◌, ◌≤◌, List, [], ◌∷◌, ◌++◌, length, get_or, take, drop, All, Option, None, Some, refl, sym, ap, ◌∙◌, subst, append_assoc, add-zero, arith, filter_map, option_map, IfSome, slice_set}
 use Rattle.instance_keeper.proofs.Prelude.{All-append, All-cons, All-nil, All-weaker, AllPairs, AllPairs-cons, IsNumbered, Key, Row, ServerNo, Table}
 use Rattle.instance_keeper.proofs.Prelude.{drop-cons, filter_map-append, length-take-le, option_to_list, put, put_middle, remove, remove_middle}
 use Rattle.instance_keeper.proofs.Prelude.{set_parts, sort_key, sort_key_of, take-append-drop}

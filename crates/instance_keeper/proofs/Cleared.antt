@@ -1,7 +1,6 @@
 -- Places that take one value, one after another.
-use Rattle.std.proofs.Common.{◌≡◌, ◌∙◌, ℕ, ◌<◌, ◌≤◌, List, [], ◌∷◌, ◌++◌, length, replicate, take, zero, suc, refl, sym, ap, arith}
+use Rattle.std.proofs.Common.{◌≡◌, ◌∙◌, ℕ, ◌<◌, ◌≤◌, List, [], ◌∷◌, ◌++◌, length, replicate, take, zero, suc, refl, sym, ap, arith, slice_set}
 use Rattle.instance_keeper.proofs.Prelude.{length-replicate, take-append_seam}
-use Rattle.std.specs.Prelude.{slice_set}
 
 -- the value at the first places
 abbrev pub cleared : {A : Type 0} → A → ℕ → List A → List A

@@ -1,8 +1,7 @@
 -- Maps whose keys count up: a key is its value's place.
-use Rattle.std.proofs.Common.{◌≡◌, ℕ, suc, zero, ◌+◌, ◌<◌, true, false, nat_eq, List, [], ◌∷◌, ◌++◌, length, map, get_or, add-one, zero-add, Option, None, Some, refl, sym, ap, subst, ◌∙◌, arith}
+use Rattle.std.proofs.Common.{◌≡◌, ℕ, suc, zero, ◌+◌, ◌<◌, true, false, nat_eq, List, [], ◌∷◌, ◌++◌, length, map, get_or, add-one, zero-add, Option, None, Some, refl, sym, ap, subst, ◌∙◌, arith, replicate, slice_get}
 use Rattle.instance_keeper.proofs.Prelude.{CountsUp, insert_entry, nat_tests, option_flatten, set_value_at, slice_get-get_or, slice_set}
 use Rattle.std.specs.Map.{lookup, set_value}
-use Rattle.std.specs.Prelude.{replicate, slice_get}
 
 eq_false : (a b : ℕ) → b < a → nat_eq a b ≡ false
 eq_false a b less = grind (arith, nat_tests)

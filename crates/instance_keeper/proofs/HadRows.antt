@@ -1,6 +1,5 @@
 -- Rows that a book has are those that the code finds in it.
-use Rattle.std.proofs.Common.{◌≡◌, ℕ, Bool, true, false, List, [], ◌∷◌, Option, None, Some, refl, sym, ap, subst, zero, suc}
-use Rattle.std.specs.Prelude.{◌==◌, ◌&&◌, ◌↔◌, IsTrue, nat_eq, slice_index_or, slice_set}
+use Rattle.std.proofs.Common.{◌≡◌, ℕ, Bool, true, false, List, [], ◌∷◌, Option, None, Some, refl, sym, ap, subst, zero, suc, ◌==◌, ◌&&◌, ◌↔◌, IsTrue, nat_eq, slice_index_or, slice_set}
 use Rattle.instance_keeper.proofs.Prelude.{BookState, Candidate, Downtime, Instance, Moment, Row, Rule, ServerNo, after_put, bool_is, both_true}
 use Rattle.instance_keeper.proofs.Prelude.{eq_is, eq_refl, false≢true, had, has_row, instance_is, instance_refl, moment_eta, no_is, pointwise}
 use Rattle.instance_keeper.proofs.Prelude.{same_bool, same_candidate, same_downtime, same_instance, same_rule, same_text}

@@ -1,6 +1,5 @@
 -- The row of a server in a table of a book.
-use Rattle.std.proofs.Common.{◌≡◌, ℕ, suc, zero, ◌+◌, ◌*◌, ◌^◌, ◌<◌, ◌≤◌, true, false, List, [], ◌∷◌, ◌++◌, length, get_or, All, Option, None, Some, refl, ap, ◌∙◌, subst, arith}
-use Rattle.std.specs.Prelude.{◌==◌, filter_map, option_map}
+use Rattle.std.proofs.Common.{◌≡◌, ℕ, suc, zero, ◌+◌, ◌*◌, ◌^◌, ◌<◌, ◌≤◌, true, false, List, [], ◌∷◌, ◌++◌, length, get_or, All, Option, None, Some, refl, ap, ◌∙◌, subst, arith, ◌==◌, filter_map, option_map}
 use Rattle.instance_keeper.proofs.Prelude.{All-append, All-head, All-tail, All-weaker, BookState, IsBook, IsNumbered, Row, ServerNo, book_rows}
 use Rattle.instance_keeper.proofs.Prelude.{instance_at, row_at, row_in, sort_key_of}
 use Rattle.instance_keeper.proofs.Prelude.key

@@ -1,6 +1,5 @@
 -- Leases, one after another.
-use Rattle.std.proofs.Common.{◌≡◌, ℕ, ◌<◌, ◌≤◌, List, [], ◌∷◌, length, get_or, map, Option, zero, suc, refl, ap, arith}
-use Rattle.std.specs.Prelude.{slice_set}
+use Rattle.std.proofs.Common.{◌≡◌, ℕ, ◌<◌, ◌≤◌, List, [], ◌∷◌, length, get_or, map, Option, zero, suc, refl, ap, arith, slice_set}
 use Rattle.instance_keeper.proofs.Prelude.{freed}
 
 -- without the leases of a job among the first servers

@@ -1,16 +1,15 @@
 -- A book has no row in the table of recoveries.
-use Rattle.std.proofs.Common.{◌≡◌, ℕ, ◌+◌, ◌*◌, ◌<◌, ◌≤◌, ◌^◌, false, List, [], ◌∷◌, ◌++◌, All, None, refl, sym, ap, ◌∙◌, append_assoc, arith}
-use Rattle.std.specs.Prelude.{◌==◌}
+use Rattle.std.proofs.Common.{◌≡◌, ℕ, ◌+◌, ◌*◌, ◌<◌, ◌≤◌, ◌^◌, false, List, [], ◌∷◌, ◌++◌, All, None, refl, sym, ap, ◌∙◌, append_assoc, arith, ◌==◌}
 use Rattle.instance_keeper.proofs.Prelude.{All-append, All-head, All-tail, All-weaker, BookState, IsBook, Row, book_rows, row_in, sort_key_of}
 use Rattle.instance_keeper.proofs.BookLaws.{first, last, last_low, second, third, to_third}
 
 abbrev Elsewhere : ℕ → Row → Type 0
 Elsewhere p r = (sort_key_of r == p) ≡ false
 
-below : (p k : ℕ) → k < p → (k == p) ≡ false
+pub below : (p k : ℕ) → k < p → (k == p) ≡ false
 below p k h = grind arith
 
-above : (p k : ℕ) → p < k → (k == p) ≡ false
+pub above : (p k : ℕ) → p < k → (k == p) ≡ false
 above p k h = grind arith
 
 pub row_in-elsewhere : (rows : List Row) (p : ℕ) → All (Elsewhere p) rows → row_in rows p ≡ None

@@ -1,6 +1,5 @@
 -- A book that is loaded anew, place after place.
-use Rattle.std.proofs.Common.{◌≡◌, ◌∙◌, ℕ, zero, suc, ◌<◌, ◌≤◌, Bool, true, false, List, [], ◌∷◌, length, replicate, Option, None, Some, refl, sym, ap, subst, arith}
-use Rattle.std.specs.Prelude.{◌&&◌, nat_le, if◌then◌else◌, slice_set}
+use Rattle.std.proofs.Common.{◌≡◌, ◌∙◌, ℕ, zero, suc, ◌<◌, ◌≤◌, Bool, true, false, List, [], ◌∷◌, length, replicate, Option, None, Some, refl, sym, ap, subst, arith, ◌&&◌, nat_le, if◌then◌else◌, slice_set}
 use Rattle.instance_keeper.proofs.Prelude.{BookState, Bridge, Candidate, Downtime, Instance, IsBook, IsNumbered, Row, after_put, after_row}
 use Rattle.instance_keeper.proofs.Prelude.{empty_book, first_of, first_set, head_known, leb-false, leb-true, length-map, length-replicate, place_from}
 use Rattle.instance_keeper.proofs.Prelude.{row_fits, source_servers}
@@ -120,8 +119,4 @@ unplaced_by next b i false fits later known is =
 
 pub unplaced : (next : ℕ) (b : BookState) (r : Row) → place_from next (length b.names) r ≡ None → first_set next (after_row b r) ≡ after_row (first_set next b) r
 unplaced next b (row.Instance i) is = unplaced_by next b i (nat_le next i.no.0) (row_fits (length b.names) (row.Instance i)) refl refl is
-unplaced next b (row.Downtime d) is = commuted next b (row.Downtime d) refl
-unplaced next b (row.Candidate c) is = commuted next b (row.Candidate c) refl
-unplaced next b (row.Recovery r) is = commuted next b (row.Recovery r) refl
-unplaced next b (row.Switch enabled) is = commuted next b (row.Switch enabled) refl
-unplaced next b (row.Active node until) is = commuted next b (row.Active node until) refl
+unplaced next b x is = commuted next b x refl

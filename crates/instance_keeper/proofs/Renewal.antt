@@ -1,6 +1,5 @@
 -- The change that keeps the book's row as it becomes.
-use Rattle.std.proofs.Common.{◌≡◌, Bool, true, false, None, Some, refl}
-use Rattle.std.specs.Prelude.{if◌then◌else◌}
+use Rattle.std.proofs.Common.{◌≡◌, Bool, true, false, None, Some, refl, if◌then◌else◌}
 use Rattle.instance_keeper.proofs.Prelude.{Instance, instance_is, instance_refl, renewal, same_instance}
 use Rattle.instance_keeper.proofs.Prelude.change
 use Rattle.instance_keeper.proofs.Prelude.row

@@ -1,6 +1,5 @@
 -- The latest bridge that passes, one bridge after another.
-use Rattle.std.proofs.Common.{◌≡◌, ℕ, ◌<◌, Bool, List, [], ◌∷◌, length, take, Option, None, Some, zero, suc, refl, arith}
-use Rattle.std.specs.Prelude.{fold, slice_get, if◌then◌else◌}
+use Rattle.std.proofs.Common.{◌≡◌, ℕ, ◌<◌, Bool, List, [], ◌∷◌, length, take, Option, None, Some, zero, suc, refl, arith, fold, slice_get, if◌then◌else◌}
 use Rattle.instance_keeper.proofs.Prelude.{Bridge, latest_that, over}
 
 abbrev found_from : (Bridge → Bool) → Option Bridge → List Bridge → Option Bridge

@@ -7,8 +7,7 @@ use Rattle.job_laws.proofs.Prelude.{and_parts, are_held, are_listed, are_matched
 use Rattle.job_laws.proofs.Prelude.{filter_passes, footing, is_going, is_in, is_of, job_at, job_turned, leased_to, list_any, matched_in, no_leases}
 use Rattle.job_laws.proofs.Prelude.{not-true, opened_flight, position_of, replaced, run, same_Some, seen_of, server_at, turned, without_job}
 use Rattle.job_laws.proofs.Prelude.{without_leases}
-use Rattle.std.proofs.Common.{◌≡◌, ℕ, Bool, true, false, cond, not, List, [], ◌∷◌, ◌++◌, refl, sym, ◌∙◌, ap, subst, Option, Some, None, IfSome}
-use Rattle.std.specs.Prelude.{◌==◌}
+use Rattle.std.proofs.Common.{◌≡◌, ℕ, Bool, true, false, cond, not, List, [], ◌∷◌, ◌++◌, refl, sym, ◌∙◌, ap, subst, Option, Some, None, IfSome, ◌==◌}
 use Rattle.job_laws.proofs.Lists.{All-find, All-replaced, found-replaced, found-without}
 use Rattle.job_laws.proofs.Passing.{rings-run, rings-stand, slots-run, slots-bridged, jobs-run, jobs-bridged, jobs-meet, observed-shown, observed-bridged}
 use Rattle.job_laws.proofs.Showing.{Bridged-run}

@@ -1,6 +1,5 @@
 -- What bridges a reading shows, and what they let cross.
-use Rattle.std.proofs.Common.{◌≡◌, ℕ, true, List, refl, sym, ◌∙◌, ap, subst, Option, Some, None, ◌&&◌}
-use Rattle.std.specs.Prelude.{is_some}
+use Rattle.std.proofs.Common.{◌≡◌, ℕ, true, List, refl, sym, ◌∙◌, ap, subst, Option, Some, None, ◌&&◌, is_some}
 use Rattle.job_laws.proofs.Prelude.{AllBridged, Allowed, AllShow, Attach, AttachAuto, Attached, Bridge, Coord, Crossing, Detached, Exchange}
 use Rattle.job_laws.proofs.Prelude.{IsBridged, JoinsWell, Position, Safe, ServerNo, Sight, SourceState, Spans, Stands, Status, Without, World}
 use Rattle.job_laws.proofs.Prelude.{and_parts, attached_anew, both, bridge_at, bridge_by, bridge_in, by_set, can-allowed, can_attach, crossed}
@@ -174,9 +173,7 @@ module _ (w : World) (xs : List Sight) where
 
   crossed-there : (c : Crossing) (a : ServerNo) (o : Option Bridge) (b : Bridge) → o ≡ Some b → is_some (crossed c a o) ≡ true
   crossed-there cross.Up a o b h = ap (λ x. is_some (crossed cross.Up a x)) h
-  crossed-there cross.Down a o b h = ap (λ x. is_some (crossed cross.Down a x)) h
-  crossed-there cross.About a o b h = ap (λ x. is_some (crossed cross.About a x)) h
-  crossed-there cross.Back a o b h = ap (λ x. is_some (crossed cross.Back a x)) h
+  crossed-there y a o b h = ap (λ x. is_some (crossed y a x)) h
 
   pub crossing-found : AllShow w xs → (c : Crossing) (a b : ServerNo) → finds_crossing (footing w xs) c a b ≡ true
       → is_some (crossed c a (bridge_at (read_by c a b) (seen_of xs (read_by c a b).0))) ≡ true

@@ -1,6 +1,5 @@
 -- What one may count on grows, and the operations that are left keep `Held`.
-use Rattle.std.proofs.Common.{◌≡◌, ℕ, Bool, true, false, cond, List, [], ◌∷◌, refl, ◌∙◌, ap, Option, Some, None, ◌&&◌, ◌||◌}
-use Rattle.std.specs.Prelude.{◌==◌, is_some}
+use Rattle.std.proofs.Common.{◌≡◌, ℕ, Bool, true, false, cond, List, [], ◌∷◌, refl, ◌∙◌, ap, Option, Some, None, ◌&&◌, ◌||◌, ◌==◌, is_some}
 use Rattle.job_laws.proofs.Prelude.{Aim, Crossing, Deed, Footing, Op, Position, ServerNo, Sight, Within, World, and_parts, are_held, both, cond-mono}
 use Rattle.job_laws.proofs.Prelude.{deed_of, false≢true, finds, finds_aim, finds_crossing, footing, is_under, learn, logging, looking, or-at, or-mono}
 use Rattle.job_laws.proofs.Prelude.{or-right, reading, seen-at, seen_of, some-mono, source_no, source_shown, with_seen}

@@ -1,4 +1,4 @@
-mod Prelude
+pub mod Prelude
 pub mod Spanning
 pub mod Leased
 pub mod Footings

@@ -1,6 +1,5 @@
 -- Leases by the servers' numbers are leases as the laws have them.
-use Rattle.std.proofs.Common.{◌≡◌, ℕ, ◌<◌, Bool, true, false, cond, List, [], ◌∷◌, length, refl, sym, ◌∙◌, ap, subst, Option, Some, None, zero, suc, ◌||◌}
-use Rattle.std.specs.Prelude.{◌==◌, slice_index_or, slice_set}
+use Rattle.std.proofs.Common.{◌≡◌, ℕ, ◌<◌, Bool, true, false, cond, List, [], ◌∷◌, length, refl, sym, ◌∙◌, ap, subst, Option, Some, None, zero, suc, ◌||◌, ◌==◌, slice_index_or, slice_set}
 use Rattle.job_laws.proofs.Prelude.{All, All-head, All-tail, ServerNo, eq-eqb, eqb-true, false≢true, get_or-set_other, get_or-set_same, given_back}
 use Rattle.job_laws.proofs.Prelude.{leased_to, leases_of, length-set, list_any, taken, without_leases}
 

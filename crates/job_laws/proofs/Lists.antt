@@ -1,6 +1,5 @@
 -- What holds of each of a list.
-use Rattle.std.proofs.Common.{◌≡◌, ℕ, ◌-◌, Bool, true, false, cond, not, List, [], ◌∷◌, ◌++◌, length, refl, sym, ◌∙◌, ap, subst, Some, zero, suc}
-use Rattle.std.specs.Prelude.{◌==◌, slice_index_or, find}
+use Rattle.std.proofs.Common.{◌≡◌, ℕ, ◌-◌, Bool, true, false, cond, not, List, [], ◌∷◌, ◌++◌, length, refl, sym, ◌∙◌, ap, subst, Some, zero, suc, ◌==◌, slice_index_or, find}
 use Rattle.job_laws.proofs.Prelude.{All, All-cons, All-drop, All-head, All-nil, All-push, All-tail, Bridge, Job, eq-eqb, eqb-true, is_same, job_at}
 use Rattle.job_laws.proofs.Prelude.{keep_last, last_item, ne_eqb, replaced, ring_size, same_Some, with_bridge, without_job}
 

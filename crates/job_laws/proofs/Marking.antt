@@ -1,6 +1,5 @@
 -- What a match means for two histories in a `Safe` world.
-use Rattle.std.proofs.Common.{◌≡◌, ℕ, zero, suc, ◌+◌, ◌-◌, ◌<◌, ◌≤◌, Bool, true, false, cond, not, List, [], ◌∷◌, length, take, refl, sym, ◌∙◌, ap, Option, Some, None, Result, Ok, Err, arith, ◌&&◌}
-use Rattle.std.specs.Prelude.{◌==◌, slice_get}
+use Rattle.std.proofs.Common.{◌≡◌, ℕ, zero, suc, ◌+◌, ◌-◌, ◌<◌, ◌≤◌, Bool, true, false, cond, not, List, [], ◌∷◌, length, take, refl, sym, ◌∙◌, ap, Option, Some, None, Result, Ok, Err, arith, ◌&&◌, ◌==◌, slice_get}
 use Rattle.job_laws.proofs.Prelude.{Coord, IsEntry, IsKin, IsKin-once, KeepsMark, Laid-Grown, LaysOut-Grown, LaysOut-length, Safe, Server, ServerNo}
 use Rattle.job_laws.proofs.Prelude.{Txn, Unreachable, World, alike, and_parts, both, can_reach, coord_after, count_own, entry-is, eq-eqb, eqb-true}
 use Rattle.job_laws.proofs.Prelude.{false≢true, first-none, first_unlike, histories, history_of, is-entry, is-last, is_mark, is_mark_there}

@@ -1,6 +1,5 @@
 -- The matches that a job found, and what they let cross.
-use Rattle.std.proofs.Common.{◌≡◌, ℕ, ◌+◌, ◌-◌, ◌<◌, ◌≤◌, Bool, true, false, cond, List, [], ◌∷◌, ◌++◌, length, take, refl, sym, ◌∙◌, ap, subst, inl, inr, Option, Some, None, Ok, arith, reverse, ◌&&◌, ◌||◌}
-use Rattle.std.specs.Prelude.{◌==◌, find, is_some}
+use Rattle.std.proofs.Common.{◌≡◌, ℕ, ◌+◌, ◌-◌, ◌<◌, ◌≤◌, Bool, true, false, cond, List, [], ◌∷◌, ◌++◌, length, take, refl, sym, ◌∙◌, ap, subst, inl, inr, Option, Some, None, Ok, arith, reverse, ◌&&◌, ◌||◌, ◌==◌, find, is_some}
 use Rattle.job_laws.proofs.Prelude.{All, All-head, All-nil, All-push, All-tail, All-weaker, AllAllowed, AllMeet, Allowed, ArePlaced, Attach, Attached}
 use Rattle.job_laws.proofs.Prelude.{Coord, Deed, Detached, Exchange, Grows-run, IsPlaced, IsTarget, JoinsWell, Laid-Grown, LaysOut-Grown}
 use Rattle.job_laws.proofs.Prelude.{LaysOut-length, Line, Match, Matched, Meets, MeetsAt, Op, Placed, Safe, Server, ServerNo, SourceState, Spot}

@@ -3,10 +3,9 @@ use Rattle.job_laws.proofs.Prelude.{Deed, Finish, Footing, Line, Op, SameBase, S
 use Rattle.job_laws.proofs.Prelude.{eq_refl as self, finds, finished, learn, looking, or_right as or-more, swap, under, up}
 use Rattle.job_laws.proofs.Prelude.op.{Status}
 use Rattle.job_laws.proofs.Prelude.deed
-use Rattle.std.proofs.Common.{◌≡◌, Bool, true, false, List, [], ◌∷◌, ◌++◌, refl, Option, Some, None, ◌||◌}
-use Rattle.std.specs.Prelude.{◌==◌}
+use Rattle.std.proofs.Common.{◌≡◌, Bool, true, false, List, [], ◌∷◌, ◌++◌, refl, Option, Some, None, ◌||◌, ◌==◌}
 
-any-true : (b : Bool) → (b || true) ≡ true
+pub any-true : (b : Bool) → (b || true) ≡ true
 any-true true = refl
 any-true false = refl
 

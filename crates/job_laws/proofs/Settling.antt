@@ -1,6 +1,6 @@
 -- The wait for an applier that settles ends by its last wait.
-use Rattle.std.proofs.Common.{◌≡◌, ℕ, ◌+◌, ◌<◌, ◌≤◌, Bool, true, false, cond, List, [], refl, ◌∙◌, ap, Some, None, ◌||◌}
-use Rattle.std.specs.Prelude.{nat_lt, not}
+use Rattle.job_laws.proofs.Planned.{any-true as or-true}
+use Rattle.std.proofs.Common.{◌≡◌, ℕ, ◌+◌, ◌<◌, ◌≤◌, Bool, true, false, cond, List, [], refl, ◌∙◌, ap, Some, None, ◌||◌, nat_lt, not}
 use Rattle.job_laws.proofs.Prelude.{Goes, Job, Moment, Op, ServerNo, Settle, Status, Stops, World, after_wait, after_wait_by, by_deed, is_settled}
 use Rattle.job_laws.proofs.Prelude.{le-ltb, lt-ltb, next, saw, seen_in, settles, status}
 use Rattle.job_laws.proofs.Prelude.cause
@@ -11,10 +11,6 @@ settle-unreached w read now j rest n e = ap (after_wait j rest n (settles j)) e
 
 settled-by : (j : Job) (s : Status) → is_settled s ≡ true → settles j s ≡ true
 settled-by j s e = ap (λ b. b || not (nat_lt (j.waited + 1) j.wait)) e
-
-or-true : (b : Bool) → (b || true) ≡ true
-or-true true = refl
-or-true false = refl
 
 last-by : (j : Job) (s : Status) → j.wait ≤ j.waited + 1 → settles j s ≡ true
 last-by j s le = ap (λ b. is_settled s || not b) (le-ltb (j.waited + 1) j.wait le) ∙ or-true (is_settled s)

@@ -1,6 +1,5 @@
 -- A job with `Held` passes over no change of source.
-use Rattle.std.proofs.Common.{◌≡◌, ℕ, true, List, [], refl, ◌∙◌, ap, cond, Option, Some, None, ◌&&◌}
-use Rattle.std.specs.Prelude.{is_some}
+use Rattle.std.proofs.Common.{◌≡◌, ℕ, true, List, [], refl, ◌∙◌, ap, cond, Option, Some, None, ◌&&◌, is_some}
 use Rattle.job_laws.proofs.Prelude.{AllShow, ArePlaced, Attached, Auto, Cross, Crossing, CrossMatch, Detached, Exchange, Goes, IsTried, Job, Moment}
 use Rattle.job_laws.proofs.Prelude.{Op, Position, Same, ServerNo, SourceState, Without, World, after_answer, after_attach, and_parts}
 use Rattle.job_laws.proofs.Prelude.{attach_answer_of, attached_anew, bridge_at, by_deed, by_match, by_set, can_attach, crossed, false≢true, finds}

@@ -1,7 +1,6 @@
 -- A turn of a job: its exchanges are allowed and join well, and the job has `Held` after it, whatever operations are
 -- left.
-use Rattle.std.proofs.Common.{◌≡◌, ℕ, ◌+◌, Bool, true, false, cond, not, List, [], ◌∷◌, ◌++◌, refl, sym, ◌∙◌, ap, subst, Option, Some, None}
-use Rattle.std.specs.Prelude.{◌==◌}
+use Rattle.std.proofs.Common.{◌≡◌, ℕ, ◌+◌, Bool, true, false, cond, not, List, [], ◌∷◌, ◌++◌, refl, sym, ◌∙◌, ap, subst, Option, Some, None, ◌==◌}
 use Rattle.job_laws.proofs.Prelude.{All-push, AllAllowed, AllBridged, AllJoinWell, AllMeet, AllShow, ArePlaced, Ask, Attached, Attempt, Attempts}
 use Rattle.job_laws.proofs.Prelude.{Cause, Coord, Deed, Detached, Exchange, Footing, Goes, Grows-run, HeldJob, IsBridged, IsDue, IsMove, IsPlaced}
 use Rattle.job_laws.proofs.Prelude.{IsTarget, IsWaitFor, Job, JoinsWell, KeepsHeld, KeepsSound, Match, Meets, Moment, Observation, Op, Placed}
@@ -93,7 +92,7 @@ not-moved m (Attached k) h = go (k.0 == m.0) refl h
     go false e h = cc
 not-moved m (Detached k) h = cc
 
-target-logs : (w : World) (m : ℕ) (c : Coord) → IsTarget w m c → logs_at w m ≡ true
+pub target-logs : (w : World) (m : ℕ) (c : Coord) → IsTarget w m c → logs_at w m ≡ true
 target-logs w m c t = ap logs_by t.there ∙ t.logs
 
 module _ (w : World) (read : ℕ) (now : Moment) (j : Job) (rest : List Op) (placed : Placed w) (shown : AllShow w j.seen) (ends : ArePlaced w j.matches) where

@@ -1,8 +1,7 @@
 -- The entries that a log keeps, and a search among them.
 use Rattle.job_plans.proofs.Prelude.{Server, Txn, World, alike, entry-is, first_not, kept_from, last_below, le-ltb, log_of, logged_by, lt-ltb}
 use Rattle.job_plans.proofs.Prelude.{purged_len, same_Some, server-there as nth-there, server_at, shows_same, slice_get_past, slice_get_within}
-use Rattle.std.proofs.Common.{◌≡◌, ℕ, suc, ◌+◌, ◌<◌, ◌≤◌, Bool, true, false, cond, not, length, refl, sym, ◌∙◌, ap, subst, Option, Some, None, arith}
-use Rattle.std.specs.Prelude.{nat_lt, option_and_then, option_map, slice_get}
+use Rattle.std.proofs.Common.{◌≡◌, ℕ, suc, ◌+◌, ◌<◌, ◌≤◌, Bool, true, false, cond, not, length, refl, sym, ◌∙◌, ap, subst, Option, Some, None, arith, nat_lt, option_and_then, option_map, slice_get}
 
 -- ---- what is kept
 

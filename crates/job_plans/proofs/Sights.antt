@@ -1,6 +1,5 @@
 -- The latest that was seen of each server.
-use Rattle.std.proofs.Common.{◌≡◌, ℕ, Bool, true, false, cond, List, [], ◌∷◌, refl, ◌∙◌, ap, Option, Some, None}
-use Rattle.std.specs.Prelude.{◌==◌}
+use Rattle.std.proofs.Common.{◌≡◌, ℕ, Bool, true, false, cond, List, [], ◌∷◌, refl, ◌∙◌, ap, Option, Some, None, ◌==◌}
 use Rattle.job_plans.proofs.Prelude.{Position, Sight, or_seen, seen-at, seen_after, seen_last, seen_of, with_seen}
 
 -- what was seen after these were seen

@@ -1,15 +1,17 @@
 -- What this crate's definitions and contracts cite of others.
 pub use Rattle.std.specs.List.{All}
 pub use Rattle.std.specs.Option.{option_copied, option_to_list}
-pub use Rattle.operations.specs.BinlogCoords.Log.{coord_after}
-pub use Rattle.operations.specs.KeptRows.Seeing.{seen_in}
-pub use Rattle.operations.specs.KeptRows.declared.observation.Observation.{Observation}
 pub use Rattle.operations.specs.Deeds.{deed_of}
 pub use Rattle.operations.specs.Ending.{turns_left}
 pub use Rattle.operations.specs.Jobs.{Job, job_with, match_found, position_of, seen_of, with_seen, without}
 pub use Rattle.operations.specs.Matching.{alike, first_not, first_unlike, is_mark, last_mark, match_logs, matched_at, place_of_mark, shows_same}
 pub use Rattle.operations.specs.Matching.{standing_at}
 pub use Rattle.operations.specs.Named.{IsNamed, IsOneOf, is_named}
+pub use Rattle.operations.specs.Prelude.{Attach, Exchange, Observation, Request, Server, ServerNo, World, can_reach, coord_after, desk_answer}
+pub use Rattle.operations.specs.Prelude.{logged_by, same_txn, seen_in, server_at, status}
+pub use Rattle.operations.specs.ServerModel.Attach.{IsTarget}
+pub use Rattle.operations.specs.ServerModel.Gtids.{IsAutoTarget, purged_len}
+pub use Rattle.operations.specs.ServerModel.Run.{after, run}
 pub use Rattle.operations.specs.Targets.{logs_by, places_by}
 pub use Rattle.operations.specs.Turns.{Attempt, Turned, after_ask, after_attach, after_look, after_match, after_until, after_wait, after_wait_by}
 pub use Rattle.operations.specs.Turns.{aim_of, bridge_at, by_deed, by_match, by_set, cause_by, cause_of_match, crossed, crossing_of, ended}
@@ -20,12 +22,3 @@ pub use Rattle.operations.specs.declared.sight.Position.{Position}
 pub use Rattle.operations.specs.declared.sight.Sight.{Sight}
 pub use Rattle.operations.specs.declared.step.JobStep.{JobStep}
 pub use Rattle.operations.specs.declared.step.JobStep.TheVariants as step
-pub use Rattle.operations.specs.OrchBase.Histories.{same_txn}
-pub use Rattle.operations.specs.OrchBase.declared.server.ServerNo.{ServerNo}
-pub use Rattle.operations.specs.ServerModel.Attach.{IsTarget}
-pub use Rattle.operations.specs.ServerModel.Desk.{can_reach, desk_answer}
-pub use Rattle.operations.specs.ServerModel.Gtids.{IsAutoTarget, purged_len, status}
-pub use Rattle.operations.specs.ServerModel.Plains.{logged_by}
-pub use Rattle.operations.specs.ServerModel.Run.{Attach, Exchange, Request, after, run}
-pub use Rattle.operations.specs.ServerModel.Worlds.{World, server_at}
-pub use Rattle.operations.specs.ServerModel.declared.server.Server.{Server}

@@ -1,9 +1,7 @@
 -- Servers that are known.
 pub use Rattle.std.proofs.lemmas.Bool.{and_parts as both_true}
-use Rattle.std.proofs.Common.{◌≡◌, ℕ, ◌<◌, Bool, true, List, ◌∷◌}
-use Rattle.std.specs.Prelude.{nat_lt}
-use Rattle.std.proofs.lemmas.Bool.{ltb-true}
-use Rattle.kept_rows.specs.Servers.{are_known}
+use Rattle.std.proofs.Common.{◌≡◌, ℕ, ◌<◌, true, List, ◌∷◌, nat_lt}
+use Rattle.kept_rows.proofs.Prelude.{are_known, ltb-true}
 
 -- a first server of known ones is known
 pub head_known : (count n : ℕ) (ns : List ℕ) → are_known count (n ∷ ns) ≡ true → n < count

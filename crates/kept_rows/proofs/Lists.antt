@@ -1,9 +1,7 @@
 -- Filters that keep all or nothing, and lists that rise.
 use Rattle.std.proofs.Common.{◌≡◌, ℕ, suc, zero, ◌+◌, ◌<◌, ◌≤◌, Bool, true, false, List, [], ◌∷◌, ◌++◌, length, take, drop, filter, All, refl, sym, ap, subst, length-drop, arith}
-use Rattle.std.specs.List.{AllPairs, AllWithin, slice_set}
-use Rattle.std.proofs.lemmas.List.{get_or-take, get_or-drop, length-take-le}
-use Rattle.std.proofs.lemmas.List.Elements.{All-head, All-tail, All-append}
-use Rattle.std.proofs.lemmas.List.Kept.{AllPairs-cons}
+use Rattle.kept_rows.proofs.Prelude.{All-append, All-head, All-tail, AllPairs, AllPairs-cons, AllWithin, get_or-drop, get_or-take, length-take-le}
+use Rattle.kept_rows.proofs.Prelude.{slice_set}
 
 pub filter_all : {X : Type 0} (p : X → Bool) (xs : List X) → All (λ x. p x ≡ true) xs → filter p xs ≡ xs
 filter_all p [] h = refl

@@ -1,16 +1,9 @@
 -- Look-ups after changes.
-use Rattle.std.proofs.Common.{◌≡◌, ℕ, ◌<◌, ◌≤◌, Bool, true, false, cond, List, [], ◌∷◌, ◌++◌, filter, Option, None, Some, refl, sym, ap, ◌∙◌, inl, inr, arith}
-use Rattle.std.specs.Prelude.{◌==◌, ◌⊎◌, nat_lt, find, fold, if◌then◌else◌}
-use Rattle.std.specs.Option.{option_or}
-use Rattle.std.proofs.lemmas.Bool.{cases_lt, false≢true}
-use Rattle.std.proofs.lemmas.Bool.Decides.{nat_tests}
-use Rattle.std.proofs.lemmas.List.Folds.{find-append}
-use Rattle.kept_rows.specs.declared.row.Row.{Row}
-use Rattle.kept_rows.specs.declared.row.Table.{Table}
-use Rattle.kept_rows.specs.declared.row.Key.{Key}
-use Rattle.kept_rows.specs.declared.row.Change.{Change}
-use Rattle.kept_rows.specs.declared.row.Change.TheVariants as change
-use Rattle.kept_rows.specs.Rows.{sort_key, sort_key_of, row_in, row_after, last_at, put, remove, changed_by, changed, map_of, rows_before, rows_behind, IsRising}
+use Rattle.kept_rows.proofs.Same.{eq_is as is_eq}
+use Rattle.std.proofs.Common.{◌≡◌, ℕ, ◌<◌, ◌≤◌, Bool, true, false, cond, List, [], ◌∷◌, ◌++◌, filter, Option, None, Some, refl, sym, ap, ◌∙◌, inl, inr, arith, ◌==◌, ◌⊎◌, nat_lt, find, fold, if◌then◌else◌}
+use Rattle.kept_rows.proofs.Prelude.{Change, IsRising, Key, Row, Table, cases_lt, changed, changed_by, false≢true, find-append, last_at, map_of}
+use Rattle.kept_rows.proofs.Prelude.{nat_tests, option_or, put, remove, row_after, row_in, rows_before, rows_behind, sort_key, sort_key_of}
+use Rattle.kept_rows.proofs.Prelude.change
 use Rattle.kept_rows.proofs.SortKeys.{put_rising, remove_rising}
 
 pub find_kept : {X : Type 0} (test keep : X → Bool) → ((x : X) → test x ≡ true → keep x ≡ true) → (xs : List X) → find test (filter keep xs) ≡ find test xs
@@ -31,10 +24,7 @@ find_lost test keep h (x ∷ xs) = step test x (filter keep xs) (keep x) refl (t
     step test x ys true r false e h ih = ap (λ b. cond b (Some x) (find test ys)) e ∙ ih
     step test x ys false r t e h ih = ih
 
-is_eq : (a b : ℕ) → (a == b) ≡ true → a ≡ b
-is_eq a b e = grind (arith, nat_tests)
-
-eq_is : (a b : ℕ) → a ≡ b → (a == b) ≡ true
+pub eq_is : (a b : ℕ) → a ≡ b → (a == b) ≡ true
 eq_is a b e = grind (arith, nat_tests)
 
 not_eq : (a b : ℕ) → (a < b) ⊎ (b < a) → (a == b) ≡ false

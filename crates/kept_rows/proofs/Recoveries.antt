@@ -1,10 +1,7 @@
 -- Rows keep recoveries as they are.
 use Rattle.std.proofs.Common.{◌≡◌, ℕ, true, Option, None, Some, refl, ap}
 use Rattle.std.specs.Prelude.{is_some, unwrap_or}
-use Rattle.std.proofs.lemmas.Bool.{false≢true}
-use Rattle.kept_rows.specs.declared.recovery.Recovery.{Recovery}
-use Rattle.kept_rows.specs.declared.recovery.RecoveryRow.{RecoveryRow}
-use Rattle.kept_rows.specs.Recoveries.{as_recovery, as_row}
+use Rattle.kept_rows.proofs.Prelude.{Recovery, RecoveryRow, as_recovery, as_row, false≢true}
 
 pub read-back : (period : ℕ) (r : Recovery) → as_recovery period (as_row r) ≡ r
 read-back period r = refl

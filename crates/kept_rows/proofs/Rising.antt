@@ -1,13 +1,7 @@
 -- Rows that rise already are their own map.
-use Rattle.std.proofs.Common.{◌≡◌, ◌∙◌, ℕ, suc, zero, ◌+◌, ◌-◌, ◌<◌, Bool, true, false, List, [], ◌∷◌, ◌++◌, length, get_or, All, sym, ap, subst, append-nil, arith}
-use Rattle.std.specs.Prelude.{fold, nat_lt}
-use Rattle.std.specs.Bool.{OnTrue}
-use Rattle.std.specs.List.{AllAdjacentBelow, AllPairs, IsAllAdjacentAnswer}
-use Rattle.std.proofs.lemmas.Bool.{ltb-true}
-use Rattle.std.proofs.lemmas.List.{append_assoc}
-use Rattle.std.proofs.lemmas.List.Elements.{All-append, All-cons, All-head, All-nil, All-tail, All-weaker}
-use Rattle.kept_rows.specs.declared.row.Row.{Row}
-use Rattle.kept_rows.specs.Rows.{map_of, put, sort_key_of, IsRising}
+use Rattle.std.proofs.Common.{◌≡◌, ◌∙◌, ℕ, suc, zero, ◌+◌, ◌-◌, ◌<◌, Bool, true, false, List, [], ◌∷◌, ◌++◌, length, get_or, All, sym, ap, subst, append-nil, arith, fold, nat_lt}
+use Rattle.kept_rows.proofs.Prelude.{All-append, All-cons, All-head, All-nil, All-tail, All-weaker, AllAdjacentBelow, AllPairs, IsAllAdjacentAnswer}
+use Rattle.kept_rows.proofs.Prelude.{IsRising, OnTrue, Row, append_assoc, ltb-true, map_of, put, sort_key_of}
 use Rattle.kept_rows.proofs.Lists.{pairs_head, pairs_tail}
 use Rattle.kept_rows.proofs.SortKeys.{put_last}
 

@@ -1,20 +1,10 @@
 -- Equal instances are those that the code finds equal.
-use Rattle.server_words.proofs.BinlogCoords.Places.{same_coord-refl as coord_refl}
-use Rattle.server_words.proofs.BinlogCoords.Places.{same_coord-true as coord_is}
-use Rattle.std.proofs.Common.{◌≡◌, ℕ, Bool, true, false, List, [], ◌∷◌, Option, None, Some, refl, sym, ap, subst, arith}
-use Rattle.std.specs.Prelude.{◌==◌, ◌&&◌}
-use Rattle.std.proofs.lemmas.Bool.{false≢true}
-use Rattle.server_words.specs.BinlogCoords.declared.Coord.{Coord}
-use Rattle.server_words.specs.GtidSets.declared.interval.Interval.{Interval}
-use Rattle.server_words.specs.OrchBase.declared.server.ServerNo.{ServerNo}
-use Rattle.server_words.specs.OrchBase.declared.server.Moment.{Moment}
-use Rattle.server_words.specs.OrchBase.declared.server.SourceState.{SourceState}
-use Rattle.server_words.specs.OrchBase.declared.server.SourceState.TheVariants as source
-use Rattle.server_words.specs.OrchBase.declared.server.IoState.{IoState}
-use Rattle.server_words.specs.OrchBase.declared.server.IoState.TheVariants as io
-use Rattle.server_words.specs.declared.status.Status.{Status as Seen}
-use Rattle.kept_rows.specs.declared.observation.Instance.{Instance}
-use Rattle.kept_rows.specs.Same.{same_bool, same_coord, same_end, same_source, same_io, same_interval, same_set, same_log, same_place, same_threads, same_seen, same_instance}
+use Rattle.kept_rows.proofs.Prelude.{Coord, Instance, Interval, IoState, Moment, ServerNo, SourceState, Status as Seen, false≢true, same_bool}
+use Rattle.kept_rows.proofs.Prelude.{same_coord, same_coord-refl as coord_refl, same_coord-true as coord_is, same_end, same_instance, same_interval}
+use Rattle.kept_rows.proofs.Prelude.{same_io, same_log, same_place, same_seen, same_set, same_source, same_threads}
+use Rattle.kept_rows.proofs.Prelude.io
+use Rattle.kept_rows.proofs.Prelude.source
+use Rattle.std.proofs.Common.{◌≡◌, ℕ, Bool, true, false, List, [], ◌∷◌, Option, None, Some, refl, sym, ap, subst, arith, ◌==◌, ◌&&◌}
 use Rattle.kept_rows.proofs.Known.{both_true}
 
 pub eq_refl : (n : ℕ) → (n == n) ≡ true
@@ -33,9 +23,6 @@ pub eq_is : (a b : ℕ) → (a == b) ≡ true → a ≡ b
 eq_is a b h = grind arith
 
 -- records are their fields
-
-coord_of : ℕ → ℕ → Coord
-coord_of file pos = record { file = file; pos = pos }
 
 no_of : ℕ → ServerNo
 no_of n = record { 0 = n }

@@ -1,24 +1,14 @@
 -- Rising lists of rows with the same look-ups are equal, and different tables or keys have different sort keys.
-use Rattle.std.proofs.Common.{◌≡◌, ℕ, ◌^◌, ◌<◌, ◌≤◌, true, false, cond, List, [], ◌∷◌, None, Some, refl, sym, ap, ◌∙◌, inl, inr, All, arith}
-use Rattle.std.specs.Prelude.{◌==◌}
-use Rattle.std.specs.List.{AllPairs}
-use Rattle.std.proofs.lemmas.Bool.{cases_lt}
-use Rattle.std.proofs.lemmas.Bool.Decides.{nat_tests}
-use Rattle.std.proofs.lemmas.List.Elements.{All-head, All-tail, All-weaker, All-cons}
-use Rattle.kept_rows.specs.declared.row.Row.{Row}
-use Rattle.kept_rows.specs.declared.row.Table.{Table}
-use Rattle.kept_rows.specs.declared.row.Table.TheVariants as table
-use Rattle.kept_rows.specs.declared.row.Key.{Key}
-use Rattle.kept_rows.specs.declared.row.Key.TheVariants as key
-use Rattle.kept_rows.specs.Ranges.{IsKeyInRange}
-use Rattle.kept_rows.specs.Rows.{table_of, key_of, table_number, key_number, sort_key, sort_key_of, row_in, row_at}
+use Rattle.kept_rows.proofs.LookUps.{eq_is as hit}
+use Rattle.std.proofs.Common.{◌≡◌, ℕ, ◌^◌, ◌<◌, ◌≤◌, false, cond, List, [], ◌∷◌, None, Some, refl, sym, ap, ◌∙◌, inl, inr, All, arith, ◌==◌}
+use Rattle.kept_rows.proofs.Prelude.{All-cons, All-head, All-tail, All-weaker, AllPairs, IsKeyInRange, Key, Row, Table, cases_lt, key_number, key_of}
+use Rattle.kept_rows.proofs.Prelude.{nat_tests, row_at, row_in, sort_key, sort_key_of, table_number, table_of}
+use Rattle.kept_rows.proofs.Prelude.key
+use Rattle.kept_rows.proofs.Prelude.table
 use Rattle.kept_rows.proofs.Lists.{pairs_head, pairs_tail}
 
 abbrev Before : Row → Row → Type 0
 Before a b = sort_key_of a < sort_key_of b
-
-hit : (a b : ℕ) → a ≡ b → (a == b) ≡ true
-hit a b e = grind (arith, nat_tests)
 
 miss : (a b : ℕ) → b < a → (a == b) ≡ false
 miss a b h = grind (arith, nat_tests)

@@ -1,25 +1,12 @@
 -- Rows by their sort keys: what is put, removed and looked up.
-use Rattle.std.proofs.Common.{◌≡◌, ℕ, suc, ◌+◌, ◌<◌, ◌≤◌, true, false, List, [], ◌∷◌, ◌++◌, length, get_or, take, drop, All, refl, sym, ap, ◌∙◌, subst, append-nil, arith}
-use Rattle.std.specs.Prelude.{nat_lt}
-use Rattle.std.specs.List.{AllWithin, HoldsAt, slice_set}
-use Rattle.std.specs.Prelude.{◌⊎◌}
-use Rattle.std.proofs.Common.{inl, inr}
-use Rattle.std.proofs.lemmas.Bool.{cases_lt, ltb-true}
-use Rattle.std.proofs.lemmas.Bool.Decides.{nat_tests}
-use Rattle.std.proofs.lemmas.List.{take-append-drop}
-use Rattle.std.proofs.Math.Seq.{drop-cons}
-use Rattle.std.proofs.lemmas.List.Kept.{AllPairs-cons, AllPairs-filter}
-use Rattle.std.proofs.lemmas.List.Elements.{All-weaker, filter-append, All-append, All-cons, All-nil, filter_passes}
-use Rattle.kept_rows.specs.declared.row.Row.{Row}
-use Rattle.kept_rows.specs.declared.row.Row.TheVariants as row
-use Rattle.kept_rows.specs.declared.observation.Instance.{Instance}
-use Rattle.kept_rows.specs.declared.row.Table.{Table}
-use Rattle.kept_rows.specs.declared.row.Table.TheVariants as table
-use Rattle.kept_rows.specs.declared.row.Key.{Key}
-use Rattle.kept_rows.specs.declared.row.Key.TheVariants as key
-use Rattle.kept_rows.specs.Rows.{table_of, key_of, sort_key, sort_key_of, put, remove, rows_before, rows_behind, IsRising}
-use Rattle.kept_rows.specs.SortKeys.{at, IsFirstFrom}
-use Rattle.kept_rows.specs.declared.row.SortKey.{SortKey}
+use Rattle.std.proofs.Common.{◌≡◌, ℕ, suc, ◌+◌, ◌<◌, ◌≤◌, true, false, List, [], ◌∷◌, ◌++◌, length, get_or, take, drop, All, refl, sym, ap, ◌∙◌, subst, append-nil, arith, inl, inr, nat_lt, ◌⊎◌}
+use Rattle.kept_rows.proofs.Prelude.{All-append, All-cons, All-nil, All-weaker, AllPairs-cons, AllPairs-filter, AllWithin, HoldsAt, Instance}
+use Rattle.kept_rows.proofs.Prelude.{IsFirstFrom, IsRising, Key, Row, SortKey, Table, at, cases_lt, drop-cons, filter-append, filter_passes, key_of}
+use Rattle.kept_rows.proofs.Prelude.{ltb-true, nat_tests, put, remove, rows_before, rows_behind, slice_set, sort_key, sort_key_of, table_of}
+use Rattle.kept_rows.proofs.Prelude.{take-append-drop}
+use Rattle.kept_rows.proofs.Prelude.key
+use Rattle.kept_rows.proofs.Prelude.row
+use Rattle.kept_rows.proofs.Prelude.table
 use Rattle.kept_rows.proofs.Lists.{filter_all, filter_none, All_take, All_drop, set_parts, pairs_append}
 
 le_cases : (a b : ℕ) → a ≤ b → (a < b) ⊎ (a ≡ b)

@@ -41,12 +41,12 @@ impl Observation {
 pub struct Instance {
     /// The server.
     pub no: ServerNo,
+    /// Whether the last reading reached the server.
+    pub valid: bool,
     /// The number of the last reading.
     pub read: u64,
     /// The moment of the last reading.
     pub moment: Moment,
-    /// Whether the last reading reached the server.
-    pub valid: bool,
     /// What the last reading that reached it showed.
     pub seen: Seen,
 }

@@ -10,11 +10,10 @@ use Rattle.command_outcomes.specs.RecoveryCore.Endings.{ending_with, is_acknowle
 use Rattle.command_outcomes.specs.RecoveryPlans.declared.purpose.Purpose.{Purpose}
 use Rattle.command_outcomes.specs.RecoveryPlans.Recoveries.{Recovery}
 use Rattle.command_outcomes.proofs.UnendedJobs.Looking.{foretold-step, last-purpose, next-recovery, recovery_after}
-use Rattle.command_outcomes.specs.UnendedJobs.Looks.{foretold, step_of}
+use Rattle.command_outcomes.specs.UnendedJobs.Looks.{foretold, hooked_by, step_of}
 use Rattle.command_outcomes.specs.UnendedJobs.declared.look.UnendedLook.{UnendedLook}
 use Rattle.command_outcomes.specs.UnendedJobs.declared.docket.Docket.{Docket}
 use Rattle.command_outcomes.specs.UnendedJobs.declared.look.UnendedLook.TheVariants as look
-use Rattle.command_outcomes.specs.UnendedJobs.Looks.{hooked_by}
 use Rattle.command_outcomes.specs.UnendedJobs.declared.unended.Unended.{Unended}
 use Rattle.command_outcomes.specs.UnendedJobs.declared.unended.Unended.TheVariants as unended
 use Rattle.knowledge.specs.Closings.{closing_at, closing_by, closing_for, closing_of}

@@ -1,6 +1,5 @@
 -- The rows that a row store gave, in rising order.
-use Rattle.std.proofs.Common.{◌≡◌, ◌∙◌, List, Option, None, Some}
-use Rattle.std.specs.Prelude.{IfSome}
+use Rattle.std.proofs.Common.{◌≡◌, ◌∙◌, List, Option, None, Some, IfSome}
 use Rattle.command_outcomes.specs.KeptRows.Keeping.{GivesAll}
 use Rattle.command_outcomes.specs.KeptRows.Rows.{map_of}
 use Rattle.command_outcomes.specs.KeptRows.declared.row.Row.{Row}

@@ -1,6 +1,5 @@
 -- What storing a newer reading changes.
-use Rattle.std.proofs.Common.{◌≡◌, ◌≢◌, ◌<◌, ℕ, Bool, true, false, [], ◌∷◌, Option, None, Some, refl, sym, ap, ◌∙◌, arith}
-use Rattle.std.specs.Prelude.{if◌then◌else◌, IsSomeAnd, nat_lt}
+use Rattle.std.proofs.Common.{◌≡◌, ◌≢◌, ◌<◌, ℕ, Bool, true, false, [], ◌∷◌, Option, None, Some, refl, sym, ap, ◌∙◌, arith, if◌then◌else◌, IsSomeAnd, nat_lt}
 use Rattle.std.specs.Option.{option_to_list}
 use Rattle.command_outcomes.specs.KeptRows.declared.observation.Observation.{Observation}
 use Rattle.command_outcomes.specs.KeptRows.declared.observation.Instance.{Instance}

@@ -23,7 +23,6 @@ pub use Rattle.command_outcomes.specs.Openings as Openings
 pub use Rattle.command_outcomes.specs.Operations as Operations
 pub use Rattle.command_outcomes.specs.OrchBase as OrchBase
 pub use Rattle.command_outcomes.specs.Permission as Permission
-pub use Rattle.command_outcomes.specs.PlanParts as PlanParts
 pub use Rattle.command_outcomes.specs.PromotionRules as PromotionRules
 pub use Rattle.command_outcomes.specs.PseudoMatch as PseudoMatch
 pub use Rattle.command_outcomes.specs.RecoveryCore as RecoveryCore

@@ -1,10 +1,9 @@
 -- What a call with `--dump` writes: the servers that its command leaves.
-use Rattle.std.proofs.Common.{◌≡◌, ◌∙◌, ℕ, Bool, true, false, cond, List, [], Option, Some, None, refl, sym, ap, subst}
-use Rattle.std.specs.Prelude.{◌==◌, ◌&&◌, ◌||◌, is_some, not}
-use Rattle.live_calls.proofs.Prelude.{Answer, AreTaken, Asked, CommandName, DumpsAreOfWhatIsLeft, Extra, HostPort, IsQuiet, NotQuiet, Own}
-use Rattle.live_calls.proofs.Prelude.{Places, Recorded, Scenario, ServerNo, State, Takes, Task, and_parts, answer_of, asked_about, asked_answer}
-use Rattle.live_calls.proofs.Prelude.{asked_at, asked_named, asked_of, asked_turn, dump_of, dump_text, eqb-true, name_of, names_of}
-use Rattle.live_calls.proofs.Prelude.{own_at, places_of, taken_have, told_answer, turn_for, whole_comes}
+use Rattle.std.proofs.Common.{◌≡◌, ◌∙◌, ℕ, Bool, true, false, cond, List, [], Option, Some, None, refl, sym, ap, subst, ◌==◌, ◌&&◌, ◌||◌, is_some, not}
+use Rattle.live_calls.proofs.Prelude.{Answer, AreTaken, Asked, CommandName, DumpsAreOfWhatIsLeft, Extra, HostPort, IsQuiet, NotQuiet, Own, Places}
+use Rattle.live_calls.proofs.Prelude.{Recorded, Scenario, ServerNo, State, Takes, Task, and_parts, answer_of, asked_about, asked_answer, asked_at}
+use Rattle.live_calls.proofs.Prelude.{asked_named, asked_of, asked_turn, dump_of, dump_text, eqb-true, name_of, names_of, not-true, own_at, places_of}
+use Rattle.live_calls.proofs.Prelude.{taken_have, told_answer, turn_for, whole_comes}
 use Rattle.live_calls.proofs.Prelude.answered
 use Rattle.live_calls.proofs.Prelude.asked
 use Rattle.live_calls.proofs.Prelude.extra
@@ -21,10 +20,6 @@ IsSingle _ = ⊥
 none-there : (o : Option Own) → not (is_some o) ≡ true → o ≡ None
 none-there None e = refl
 none-there (Some x) e = absurd cc
-
-is-false : (b : Bool) → not b ≡ true → b ≡ false
-is-false false e = refl
-is-false true e = absurd cc
 
 module _ (p : Places) (names : List HostPort) (unplanned : p.plan ≡ false) where
   about : (name : CommandName) (i d : Option (Option ServerNo)) → IsSingle (asked_about p names name i d)
@@ -44,7 +39,7 @@ single p names has dump =
     let first = and_parts (not (is_some (own_at p.command))) (not p.plan) others.0 in
     let none = none-there (own_at p.command) first.0 in
     let word : is_some (name_of p.command) ≡ true = ap (λ (o : Option Own). is_some o || is_some (name_of p.command)) (sym none) ∙ has.word in
-    subst (λ (o : Option Own). IsSingle (asked_at p names o)) (sym none) (named p names (is-false p.plan first.1) (name_of p.command) word)
+    subst (λ (o : Option Own). IsSingle (asked_at p names o)) (sym none) (named p names (not-true p.plan first.1) (name_of p.command) word)
 
 -- ---- what is answered
 

@@ -1,11 +1,12 @@
 -- How calls end that ask for a live run.
-use Rattle.std.proofs.Common.{◌≡◌, ℕ, ◌≤◌, true, false, Bool, List, [], Option, Some, None, Result, Ok, Err, refl, sym, subst, ◌⊎◌, inl, inr}
-use Rattle.std.specs.Prelude.{IfSome, codes}
+pub use Rattle.top_call.proofs.Ends.{same_places as both_ok}
+use Rattle.top_call.proofs.Reports.{unlike}
+use Rattle.std.proofs.Common.{◌≡◌, ℕ, ◌≤◌, true, false, Bool, List, [], Option, Some, None, Ok, Err, refl, sym, subst, ◌⊎◌, inl, inr, IfSome, codes}
 use Rattle.live_calls.proofs.Prelude.{AskLive, AskToDraw, Call, Consumes, Drawing, End, Entry, Fails, FailsIn, Fault, FaultsBy, Idles, IsComplete}
 use Rattle.live_calls.proofs.Prelude.{IsGood, IsLive, IsPlain, IsReported, IsTaken, LiveEnds, LiveReport, Lives, LiveTells, LiveWords, NoneRose}
 use Rattle.live_calls.proofs.Prelude.{OfRead, Own, Places, ReadsWhole, Rose, Row, RunsAlone, Scenario, Taken, Takes, TakesFront, TakesLine, Usage}
 use Rattle.live_calls.proofs.Prelude.{Way, between, call, drawing_by, drawing_of, fault_text, idles, is_live, is_live_word, live_report}
-use Rattle.live_calls.proofs.Prelude.{live_scenario, none_or_some, of_done, of_two, own_at, places_of, reads_at, status_of, taken_have}
+use Rattle.live_calls.proofs.Prelude.{live_scenario, none_or_some, not_both, of_done, of_two, own_at, places_of, reads_at, status_of, taken_have}
 use Rattle.live_calls.proofs.Prelude.ends
 use Rattle.live_calls.proofs.Prelude.own
 use Rattle.live_calls.proofs.Prelude.usage
@@ -30,24 +31,12 @@ not_drawn _ p is = refl
 pub live_reads : (p : Places) → is_live p ≡ true → drawing_of p ≡ None
 live_reads p is = not_drawn (own_at p.command) p is
 
-pub both_ok : (r : Result Places Usage) (p q : Places) → r ≡ Ok p → r ≡ Ok q → p ≡ q
-both_ok (Ok x) p q e f = cc
-both_ok (Err u) p q e f = absurd cc
-
-unlike : (b : Bool) → b ≡ true → b ≡ false → ⊥
-unlike true e f = cc
-unlike false e f = cc
-
 -- a command line that doesn't name `live` doesn't ask for such a run
 pub never_both : (words : List (List ℕ)) → IsPlain words → AskLive words → ⊥
 never_both words plain ask = unlike (is_live ask.places) ask.live (plain ask.places ask.taken)
 
 pub is_plain : (words : List (List ℕ)) (p : Places) → places_of words ≡ Ok p → is_live p ≡ false → IsPlain words
 is_plain words p taken is = λ q other. subst (λ (x : Places). is_live x ≡ false) (both_ok (places_of words) p q taken other) is
-
-not_both : {A E : Type 0} (r : Result A E) (x : A) (e : E) → r ≡ Ok x → r ≡ Err e → ⊥
-not_both (Ok y) x e good bad = absurd cc
-not_both (Err d) x e good bad = absurd cc
 
 pub bad_is_plain : (words : List (List ℕ)) → places_of words ≡ Err usage.BadWords → IsPlain words
 bad_is_plain words bad = λ q other. absurd (not_both (places_of words) q usage.BadWords other bad)

@@ -1,6 +1,5 @@
 -- What a live run reads.
-use Rattle.std.proofs.Common.{◌≡◌, ◌∙◌, ℕ, List, Ok, Err, ap}
-use Rattle.std.specs.Prelude.{Result}
+use Rattle.std.proofs.Common.{◌≡◌, ◌∙◌, ℕ, List, Ok, Err, ap, Result}
 use Rattle.live_calls.proofs.Prelude.{Fault, Gives, ReadFault, ReadsAs, Scenario, Stop, fault_of, live_scenario, of_one, one_node, scenario_in}
 use Rattle.live_calls.proofs.Prelude.{stop_by}
 use Rattle.live_calls.proofs.Prelude.reading

@@ -1,9 +1,8 @@
 //! The top call.
 
 ghost use Rattle.std.specs.Prelude.{◌≡◌, ◌⊎◌, ℕ, List, map, IfOk, IfSome};
-ghost use Rattle.live_calls.specs.Prelude.{AskToDraw, ByReport, DrawEnds, Drawing, EndsAs, EndsBy, FaultsOf};
-ghost use Rattle.live_calls.specs.Prelude.{IsComplete, IsGood, IsUsage, KeepsRows, NoneRose, OfRead, Promises, ReadsWhole, Rose};
-ghost use Rattle.live_calls.specs.Prelude.{FailsByKeeper, WritesErr, WritesOut, across, call};
+ghost use Rattle.live_calls.specs.Prelude.{AskToDraw, ByReport, DrawEnds, Drawing, EndsAs, EndsBy, FailsByKeeper, FaultsOf, IsComplete, IsGood};
+ghost use Rattle.live_calls.specs.Prelude.{IsUsage, KeepsRows, NoneRose, OfRead, Promises, ReadsWhole, Rose, WritesErr, WritesOut, across, call};
 ghost use Rattle.live_calls.specs.Ends.{AskLive, IsPlain, LiveEndsBy, LiveFaultsOf, LiveWords, RunsAlone};
 ghost use Rattle.live_calls.specs.Runs.{LiveGoesWell};
 

@@ -1,6 +1,5 @@
 -- Places in a list of turns.
-use Rattle.std.proofs.Common.{◌≡◌, ◌∙◌, ℕ, zero, suc, ◌+◌, ◌<◌, ◌≤◌, Bool, true, cond, List, [], ◌∷◌, length, get_or, drop, refl, sym, ap, subst, Option, Some, None, add-one, arith}
-use Rattle.std.specs.Prelude.{IfSome, slice_get}
+use Rattle.std.proofs.Common.{◌≡◌, ◌∙◌, ℕ, zero, suc, ◌+◌, ◌<◌, ◌≤◌, Bool, true, cond, List, [], ◌∷◌, length, get_or, drop, refl, sym, ap, subst, Option, Some, None, add-one, arith, IfSome, slice_get}
 use Rattle.live_desk.proofs.Prelude.{IsAt, IsNext, Turn, drop-cons, is_of, left_from, slice_get-get_or, those_in}
 
 by-first : (c : Bool) (ts : List Turn) (at : ℕ) (d : Turn) → at < length ts → left_from c ts at ≡ cond (is_of c (get_or ts at d)) (get_or ts at d ∷ left_from c ts (at + 1)) (left_from c ts (at + 1))

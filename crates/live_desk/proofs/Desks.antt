@@ -1,6 +1,5 @@
 -- A desk keeps what it keeps.
-use Rattle.std.proofs.Common.{◌≡◌, ◌∙◌, ℕ, Bool, true, false, cond, List, [], ◌∷◌, ◌++◌, length, drop, refl, sym, ap, subst, append_assoc, append-nil, inl, inr, ⊎_elim}
-use Rattle.std.specs.Prelude.{All}
+use Rattle.std.proofs.Common.{◌≡◌, ◌∙◌, ℕ, Bool, true, false, cond, List, [], ◌∷◌, ◌++◌, length, drop, refl, sym, ap, subst, append_assoc, append-nil, inl, inr, ⊎_elim, All}
 use Rattle.live_desk.proofs.Prelude.{All-append, All-cons, All-nil, DeskState, Entry, Held, IsDesk, IsDriven, IsNext, IsNextOfAny, IsScenario, IsTurn}
 use Rattle.live_desk.proofs.Prelude.{MayTake, NamesOneOf, Recorded, Reply, Row, Scenario, State, Turn, changed, changes_of, commands_in, driver_list}
 use Rattle.live_desk.proofs.Prelude.{drives, entries_of, fold-append, held_of, held_step, is_command, left_from, made, nodes_of, opening, others_in}

@@ -1,6 +1,5 @@
 -- The end of a live run.
-use Rattle.std.proofs.Common.{◌≡◌, ◌∙◌, ℕ, zero, suc, Bool, true, cond, List, [], ◌∷◌, ◌++◌, length, get_or, map, refl, subst, sym, ap, Some, append_assoc, append-nil}
-use Rattle.std.specs.Prelude.{All, ◌<◌, slice_get, is_some, ◌==◌}
+use Rattle.std.proofs.Common.{◌≡◌, ◌∙◌, ℕ, zero, suc, Bool, true, cond, List, [], ◌∷◌, ◌++◌, length, get_or, map, refl, subst, sym, ap, Some, append_assoc, append-nil, All, ◌<◌, slice_get, is_some, ◌==◌}
 use Rattle.live_desk.proofs.Prelude.{All-append, All-nil, DeskState, Entry, Finished, Finishes, Held, IsDesk, IsFinish, IsLive, IsTurn, NamesOneOf}
 use Rattle.live_desk.proofs.Prelude.{Recorded, Reply, Row, RunsOn, ServerNo, Turn, Unended, by_name, commands_in, driver_list, entries_of, eq-eqb}
 use Rattle.live_desk.proofs.Prelude.{flat_map, fold-append, held_of, held_run, held_step, is_open, job_at, named-round, number_of, opening, others_in}

@@ -1,6 +1,5 @@
 -- Entries of a journal.
-use Rattle.std.proofs.Common.{◌≡◌, ◌∙◌, ℕ, suc, ◌+◌, Bool, true, false, cond, List, [], ◌∷◌, ◌++◌, length, map, refl, sym, ap, arith}
-use Rattle.std.specs.Prelude.{◌==◌}
+use Rattle.std.proofs.Common.{◌≡◌, ◌∙◌, ℕ, suc, ◌+◌, Bool, true, false, cond, List, [], ◌∷◌, ◌++◌, length, map, refl, sym, ap, arith, ◌==◌}
 use Rattle.live_desk.proofs.Prelude.{Entry, Reply, Stands, Turn, driver_entries, driver_list, drives, entries_of, eq-eqb, filter-append, is_of}
 use Rattle.live_desk.proofs.Prelude.{length-append, map-append, pairs_in, places_from, places_of, those_in, turns_in}
 

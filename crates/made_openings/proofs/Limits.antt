@@ -1,6 +1,5 @@
 -- The limits of an opening, from a test of each server and of each two.
-use Rattle.std.proofs.Common.{◌≡◌, ℕ, ◌*◌, ◌<◌, ◌≤◌, inl, inr, Bool, true, List, length, sym, ◌∙◌, Some}
-use Rattle.std.specs.Prelude.{slice_get, sum_by}
+use Rattle.std.proofs.Common.{◌≡◌, ℕ, ◌*◌, ◌<◌, ◌≤◌, inl, inr, Bool, true, List, length, sym, ◌∙◌, Some, slice_get, sum_by}
 use Rattle.std.proofs.lemmas.Bool.{cases_order, false≢true}
 use Rattle.orch_base.specs.Names.{same_name}
 use Rattle.orch_base.proofs.SameNames.{same_name_tells}

@@ -1,6 +1,5 @@
 -- What the servers of a checked opening give to those who make their histories and logs.
-use Rattle.std.proofs.Common.{◌≡◌, ℕ, ◌≤◌, false, arith, length, Some}
-use Rattle.std.specs.Prelude.{slice_get}
+use Rattle.std.proofs.Common.{◌≡◌, ℕ, ◌≤◌, false, arith, length, Some, slice_get}
 use Rattle.openings.specs.declared.init.ServerInit.{ServerInit}
 use Rattle.openings.specs.Flaws.{bad_flushes}
 use Rattle.openings.specs.Opening.{Opened, IsChecked}

@@ -1,6 +1,5 @@
 -- A way doesn't come back: a server that goes up to another one doesn't pass itself.
-use Rattle.std.proofs.Common.{◌≡◌, ℕ, ◌<◌, Bool, true, false, List, [], ◌∷◌, length, refl, sym, ◌∙◌, ap, subst, Option, Some, None, arith, zero, suc}
-use Rattle.std.specs.Prelude.{◌==◌, All, IfSome, option_map, if◌then◌else◌}
+use Rattle.std.proofs.Common.{◌≡◌, ℕ, ◌<◌, Bool, true, false, List, [], ◌∷◌, length, refl, sym, ◌∙◌, ap, subst, Option, Some, None, arith, zero, suc, ◌==◌, All, IfSome, option_map, if◌then◌else◌}
 use Rattle.move_laws.proofs.Prelude.{All-cons, All-nil, All-weaker, BookState, ServerNo, eqb-true, is_given, parent_at, passed-of, passed_in, path_of}
 use Rattle.move_laws.proofs.Prelude.{same_Some, source_of, way_above, way_in, way_on, way_up}
 

@@ -1,6 +1,5 @@
 -- When a job begins, and what the checks of a permitted command mean for the book and the servers.
-use Rattle.std.proofs.Common.{◌≡◌, ℕ, Bool, true, false, not, List, [], ◌∷◌, refl, sym, ◌∙◌, ap, Option, Some, None}
-use Rattle.std.specs.Prelude.{◌==◌, All, slice_index_or}
+use Rattle.std.proofs.Common.{◌≡◌, ℕ, Bool, true, false, not, List, [], ◌∷◌, refl, sym, ◌∙◌, ap, Option, Some, None, ◌==◌, All, slice_index_or}
 use Rattle.move_laws.proofs.Prelude.{All-cons, All-head, All-nil, All-tail, Attached, Begins, BookState, Detached, Job, Op, ServerNo, SourceState}
 use Rattle.move_laws.proofs.Prelude.{Without, World, are_held, are_listed, are_matched, attached_in, attached_of, busy, eq-eqb, eqb-true, false≢true}
 use Rattle.move_laws.proofs.Prelude.{first_about, footing, has_log, id_in, instance_at, is_attached_to, is_replica_of, job_with, leases_of, logs_at}

@@ -1,6 +1,5 @@
 -- Permitted commands by coordinates begin with operations that have `Held`, over servers that are free.
-use Rattle.std.proofs.Common.{◌≡◌, ℕ, Bool, true, false, List, [], ◌∷◌, refl, sym, ◌∙◌, ap, Option, Some, None}
-use Rattle.std.specs.Prelude.{◌==◌, map}
+use Rattle.std.proofs.Common.{◌≡◌, ℕ, Bool, true, false, List, [], ◌∷◌, refl, sym, ◌∙◌, ap, Option, Some, None, ◌==◌, map}
 use Rattle.move_laws.proofs.Prelude.{Begins, BookState, Case, Check, Command, CoordsCommand, Follows, Job, Move, Op, ServerNo, World}
 use Rattle.move_laws.proofs.Prelude.{about as about_given, again, again-held, and_parts, are_held, are_listed, are_matched, attached_of, auto}
 use Rattle.move_laws.proofs.Prelude.{auto-held, busy, by_gtids, each-matched, eq-eqb, filter_passes, finished, finished-held, finished-matched}
@@ -172,22 +171,16 @@ module _ (w : World) (b : BookState) (jobs : List Job) (id wait : ℕ) (i : Serv
   about command.Repoint d h = repoint-begins d h
   about command.TakeSiblings d h = siblings-begin d h
   about command.TakeMaster d h = master-begins d h
-  about command.DetachReplica d h =
-      asked-begins (ops_of w b command.DetachReplica i d) (check.Unreachable ∷ check.NoSource ∷ check.AlreadyDetached ∷ []) (case_of b command.DetachReplica i d) refl refl refl (simp (self) refl) h
   about command.ReattachReplica d h =
       asked-begins (ops_of w b command.ReattachReplica i d) (check.Unreachable ∷ check.NoSource ∷ check.NotDetached ∷ []) (case_of b command.ReattachReplica i d) refl refl refl (simp (self) refl) h
   about command.ResetReplica d h =
       asked-begins (ops_of w b command.ResetReplica i d) (check.Unreachable ∷ check.NoSource ∷ []) (case_of b command.ResetReplica i d) refl refl refl (simp (self) refl) h
-  about command.StartReplica d h =
-      asked-begins (ops_of w b command.StartReplica i d) (check.Unreachable ∷ check.NoSource ∷ check.AlreadyDetached ∷ []) (case_of b command.StartReplica i d) refl refl refl (simp (self) refl) h
-  about command.StopReplica d h =
-      asked-begins (ops_of w b command.StopReplica i d) (check.Unreachable ∷ check.NoSource ∷ check.AlreadyDetached ∷ []) (case_of b command.StopReplica i d) refl refl refl (simp (self) refl) h
-  about command.RestartReplica d h =
-      asked-begins (ops_of w b command.RestartReplica i d) (check.Unreachable ∷ check.NoSource ∷ check.AlreadyDetached ∷ []) (case_of b command.RestartReplica i d) refl refl refl (simp (self) refl) h
   about command.SetReadOnly d h =
       asked-begins (ops_of w b command.SetReadOnly i d) (check.Unreachable ∷ []) (case_of b command.SetReadOnly i d) refl refl refl (simp (self) refl) h
   about command.SetWriteable d h =
       asked-begins (ops_of w b command.SetWriteable i d) (check.Unreachable ∷ []) (case_of b command.SetWriteable i d) refl refl refl (simp (self) refl) h
+  about x d h =
+      asked-begins (ops_of w b x i d) (check.Unreachable ∷ check.NoSource ∷ check.AlreadyDetached ∷ []) (case_of b x i d) refl refl refl (simp (self) refl) h
 
 pub permitted-begin : (w : World) (b : BookState) (jobs : List Job) (kind : Option CoordsCommand) (given : Command) (id wait : ℕ) → refused b (refusal_about w b) kind given ≡ None
     → Begins w jobs (leases_of b.leases) (about_given [] (list_of b) kind given) (job_with id wait (about_given [] (ops_of w b) kind given))

@@ -1,6 +1,5 @@
 -- Permitted commands by GTIDs begin with operations that have `Held`, over servers that are free.
-use Rattle.std.proofs.Common.{◌≡◌, ℕ, true, not, List, [], ◌∷◌, ◌++◌, refl, Option, Some, None}
-use Rattle.std.specs.Prelude.{map}
+use Rattle.std.proofs.Common.{◌≡◌, ℕ, true, not, List, [], ◌∷◌, ◌++◌, refl, Option, Some, None, map}
 use Rattle.move_laws.proofs.Prelude.{Begins, BookState, Command, Follows, GtidCommand, Job, Op, Server, ServerNo, World, about as about_given, again}
 use Rattle.move_laws.proofs.Prelude.{again-held, again_auto, auto, auto-held, autos, busy, case_of, disabled, each-matched, enabled, finished}
 use Rattle.move_laws.proofs.Prelude.{finished-held, finished-matched, first_about, first_refusal, following, footing, job_with, leases_of, list_of}

@@ -1,6 +1,5 @@
 -- Permitted commands by matches begin with operations that have `Held` and their matches, over servers that are free.
-use Rattle.std.proofs.Common.{◌≡◌, ℕ, List, [], ◌∷◌, ◌++◌, refl, Option, Some, None}
-use Rattle.std.specs.Prelude.{map}
+use Rattle.std.proofs.Common.{◌≡◌, ℕ, List, [], ◌∷◌, ◌++◌, refl, Option, Some, None, map}
 use Rattle.move_laws.proofs.Prelude.{Begins, BookState, Command, Follows, Job, MatchCommand, Moment, Op, ServerNo, World, about as about_given, busy}
 use Rattle.move_laws.proofs.Prelude.{each-matched, finished, finished-held, finished-matched, first_about, first_refusal, following, footing}
 use Rattle.move_laws.proofs.Prelude.{job_with, leases_of, matched_in, matching, matchings, moved, option_to_list, refusal_by, refused, replicas_but}

@@ -1,6 +1,5 @@
 -- Permitted commands begin with operations that have `Held`, over servers that are free.
-use Rattle.std.proofs.Common.{◌≡◌, ℕ, Bool, true, false, List, [], ◌∷◌, ◌++◌, refl, Option, Some, None}
-use Rattle.std.specs.Prelude.{map}
+use Rattle.std.proofs.Common.{◌≡◌, ℕ, Bool, true, false, List, [], ◌∷◌, ◌++◌, refl, Option, Some, None, map}
 use Rattle.move_laws.proofs.Prelude.{Begins, BookState, Command, Job, Moment, Op, PathCommand, ServerNo, World, about as about_given, auto, autos}
 use Rattle.move_laws.proofs.Prelude.{busy, each-matched, finished, finished-held, finished-matched, first_about, first_refusal, following, footing}
 use Rattle.move_laws.proofs.Prelude.{job_with, leases_of, matched_in, moved_by, moving_list, option_to_list, passed_by, path_of, refusal_by, refused}

@@ -1,6 +1,5 @@
 -- Which recovery the answer names as the one that blocks.
-use Rattle.std.proofs.Common.{◌≡◌, ℕ, ◌+◌, ◌-◌, ◌≤◌, Bool, true, false, cond, not, ◌&&◌, List, [], ◌∷◌, ◌++◌, refl, sym, ◌∙◌, ap, subst, append_assoc, Option, Some, None, Result, Ok, Err, ◌⊎◌, inl, inr}
-use Rattle.std.specs.Prelude.{All, find, nat_eq, nat_lt, reverse}
+use Rattle.std.proofs.Common.{◌≡◌, ℕ, ◌+◌, ◌-◌, ◌≤◌, Bool, true, false, cond, not, ◌&&◌, List, [], ◌∷◌, ◌++◌, refl, sym, ◌∙◌, ap, subst, append_assoc, Option, Some, None, Result, Ok, Err, ◌⊎◌, inl, inr, All, find, nat_eq, nat_lt, reverse}
 use Rattle.move_laws.proofs.Prelude.{All-cons, All-nil, All-reverse, All-weaker, AuditState, Held, IsClosed, IsFree, IsHeldBack, IsLastBlock, Moment, Recovery}
 use Rattle.move_laws.proofs.Prelude.{and_parts, false≢true, held_by, is_blocking, is_of, is_unended, last_blocking, ltb-false, ltb-true, may_begin}
 use Rattle.move_laws.proofs.Prelude.{nat_list_eq_equiv, none-passes, not-true, pointwise, reverse-append, reverse-reverse, same_Some, same_text, unended_of}

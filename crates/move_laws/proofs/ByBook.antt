@@ -1,16 +1,11 @@
 -- What is asked of servers beside the book are their settings, and whether GTIDs are used.
-use Rattle.std.proofs.Common.{◌≡◌, ℕ, Bool, false, not, ◌&&◌, ◌||◌, List, [], ◌∷◌, ◌++◌, refl, sym, ◌∙◌, ap, Option, Some, None}
-use Rattle.std.specs.Prelude.{option_map, ◌==◌, nat_eq}
+use Rattle.std.proofs.Common.{◌≡◌, ℕ, Bool, not, ◌&&◌, ◌||◌, List, [], ◌∷◌, ◌++◌, refl, ◌∙◌, ap, Option, Some, None}
 use Rattle.move_laws.proofs.Prelude.{Action, Attempt, AuditState, BookState, Case, Check, Code, Command, CoordsCommand, GtidCommand}
-use Rattle.move_laws.proofs.Prelude.{IntermediateRecovery, MasterRecovery, MatchCommand, Moment, Nothing, PathCommand, SameSettings, ServerNo}
-use Rattle.move_laws.proofs.Prelude.{Settings, Version, World, about, about_one, action_of, can_succeed, code_at, coords_command, errant, errant_by}
-use Rattle.move_laws.proofs.Prelude.{first_about, first_refusal, going_by, gtid_command, has_candidate, has_log, has_successor, held_back, id_in}
-use Rattle.move_laws.proofs.Prelude.{is_auto, is_barred, is_candidate, is_instance, is_lower, is_replica_of, is_valid, label_in, list_any, logs_in}
-use Rattle.move_laws.proofs.Prelude.{lower_version, moving, no_master, no_replica, of_lower_version, of_other_cluster, of_same_id, only_if, option_or}
-use Rattle.move_laws.proofs.Prelude.{option_to_list, own_missing, pointwise, pseudo_command, refusal_by, regroup_command, replicas_but, replicas_of}
-use Rattle.move_laws.proofs.Prelude.{rule_at, same_id, same_label, server_at, set_seen, source_of, unknown_in, unlogged, uuid_in, version_in}
-use Rattle.move_laws.proofs.Prelude.{without_log}
-use Rattle.recovery_core.specs.ServerModel.declared.server.Server.{Server}
+use Rattle.move_laws.proofs.Prelude.{IntermediateRecovery, MasterRecovery, MatchCommand, Moment, Nothing, PathCommand, SameSettings, ServerNo, World}
+use Rattle.move_laws.proofs.Prelude.{about, about_one, action_of, can_succeed, code_at, coords_command, first_refusal, going_by, gtid_command}
+use Rattle.move_laws.proofs.Prelude.{has_candidate, has_log, has_successor, held_back, is_auto, is_barred, is_candidate, is_instance, is_replica_of}
+use Rattle.move_laws.proofs.Prelude.{is_valid, list_any, moving, no_master, no_replica, only_if, option_or, option_to_list, pseudo_command}
+use Rattle.move_laws.proofs.Prelude.{refusal_by, regroup_command, replicas_but, replicas_of, rule_at, same_label, source_of, unknown_in}
 use Rattle.move_laws.proofs.Prelude.check
 use Rattle.move_laws.proofs.Prelude.command as coord
 use Rattle.move_laws.proofs.Prelude.coords_permits as coords
@@ -24,57 +19,9 @@ use Rattle.move_laws.proofs.Prelude.paths
 use Rattle.move_laws.proofs.Prelude.recovery
 use Rattle.move_laws.proofs.Prelude.refusal
 use Rattle.move_laws.proofs.Prelude.takeover
+use Rattle.move_laws.proofs.Checks.{about-same, by-logs, check-same, labels-same}
 
--- ---- settings
-
-abbrev settings_in : Option Server → Option Settings
-settings_in o = option_map (λ s. s.settings) o
-
-abbrev label_by : Option Settings → List ℕ
-label_by None = []
-label_by (Some s) = s.cluster
-
-abbrev logs_by : Option Settings → Bool
-logs_by None = false
-logs_by (Some s) = s.logs
-
-abbrev id_by : Option Settings → ℕ
-id_by None = 0
-id_by (Some s) = s.server_id
-
-abbrev version_by : Option Settings → Version
-version_by None = record { major = 0; minor = 0; patch = 0 }
-version_by (Some s) = s.version
-
-abbrev uuid_by : Option Settings → ℕ
-uuid_by None = 0
-uuid_by (Some s) = s.uuid
-
-label-of : (o : Option Server) → label_in o ≡ label_by (settings_in o)
-label-of None = refl
-label-of (Some s) = refl
-
-logs-of : (o : Option Server) → logs_in o ≡ logs_by (settings_in o)
-logs-of None = refl
-logs-of (Some s) = refl
-
-id-of : (o : Option Server) → id_in o ≡ id_by (settings_in o)
-id-of None = refl
-id-of (Some s) = refl
-
-version-of : (o : Option Server) → version_in o ≡ version_by (settings_in o)
-version-of None = refl
-version-of (Some s) = refl
-
-uuid-of : (o : Option Server) → uuid_in o ≡ uuid_by (settings_in o)
-uuid-of None = refl
-uuid-of (Some s) = refl
-
--- ---- lists and options
-
-about-same : {A B : Type 0} (f g : A → Option B) → ((a : A) → f a ≡ g a) → (xs : List A) → first_about f xs ≡ first_about g xs
-about-same f g same [] = refl
-about-same f g same (x ∷ xs) = ap (λ o. option_or o (first_about f xs)) (same x) ∙ ap (option_or (g x)) (about-same f g same xs)
+-- ---- lists
 
 any-same : {A : Type 0} (f g : A → Bool) → ((a : A) → f a ≡ g a) → (xs : List A) → list_any f xs ≡ list_any g xs
 any-same f g same [] = refl
@@ -90,45 +37,8 @@ kinds-same none f g same (Some c) given = go given.i
     go (Some i) = same c i given.d
 
 module _ (w v : World) (same : SameSettings w v) where
-  by-label : (n : ℕ) → label_in (server_at w n) ≡ label_in (server_at v n)
-  by-label n = label-of (server_at w n) ∙ (ap label_by (same.settings n) ∙ sym (label-of (server_at v n)))
-
-  by-logs : (n : ℕ) → logs_in (server_at w n) ≡ logs_in (server_at v n)
-  by-logs n = logs-of (server_at w n) ∙ (ap logs_by (same.settings n) ∙ sym (logs-of (server_at v n)))
-
-  by-id : (n : ℕ) → id_in (server_at w n) ≡ id_in (server_at v n)
-  by-id n = id-of (server_at w n) ∙ (ap id_by (same.settings n) ∙ sym (id-of (server_at v n)))
-
-  by-version : (n : ℕ) → version_in (server_at w n) ≡ version_in (server_at v n)
-  by-version n = version-of (server_at w n) ∙ (ap version_by (same.settings n) ∙ sym (version-of (server_at v n)))
-
-  by-uuid : (n : ℕ) → uuid_in (server_at w n) ≡ uuid_in (server_at v n)
-  by-uuid n = uuid-of (server_at w n) ∙ (ap uuid_by (same.settings n) ∙ sym (uuid-of (server_at v n)))
-
-  labels-same : (m n : ServerNo) → same_label w m n ≡ same_label v m n
-  labels-same m n = ap (λ x. pointwise nat_eq x (label_in (server_at w n.0))) (by-label m.0) ∙ ap (pointwise nat_eq (label_in (server_at v m.0))) (by-label n.0)
-
-  ids-same : (m n : ServerNo) → same_id w m n ≡ same_id v m n
-  ids-same m n = ap (λ x. x == id_in (server_at w n.0)) (by-id m.0) ∙ ap (λ x. id_in (server_at v m.0) == x) (by-id n.0)
-
-  lower-same : (m n : ServerNo) → is_lower w m n ≡ is_lower v m n
-  lower-same m n = ap (λ x. lower_version x (version_in (server_at w n.0))) (by-version m.0) ∙ ap (lower_version (version_in (server_at v m.0))) (by-version n.0)
-
-  -- ---- checks
-
-  check-same : (b : BookState) (c : Case) (k : Check) → refusal_by w b c k ≡ refusal_by v b c k
-  check-same b c check.OtherCluster = about-same (of_other_cluster w) (of_other_cluster v) (λ m. ap (λ x. only_if (not x) refusal.OtherCluster) (labels-same m.no m.source)) c.moves
-  check-same b c check.DestNotLogging = about-same (without_log w) (without_log v) (λ n. ap (λ x. only_if (not x) refusal.DestNotLogging) (by-logs n.0)) c.sources
-  check-same b c check.SameServerId = about-same (of_same_id w) (of_same_id v) (λ m. ap (λ x. only_if x (refusal.SameServerId m.no)) (ids-same m.no m.source)) c.moves
-  check-same b c check.VersionLower = about-same (of_lower_version w) (of_lower_version v) (λ m. ap (λ x. only_if x (refusal.VersionLower m.no)) (lower-same m.no m.source)) c.moves
-  check-same b c check.GtidOff = ap (λ x. only_if (not x) refusal.GtidOff) same.gtid
-  check-same b c check.Errant =
-      about-same (errant w b) (errant v b) (λ m. ap (λ x. errant_by (own_missing x (set_seen b m.no) (set_seen b m.source))) (by-uuid m.no.0)) c.moves
-  check-same b c check.MovedNotLogging = about-same (unlogged w) (unlogged v) (λ m. ap (λ x. only_if (not x) (refusal.MovedNotLogging m.no)) (by-logs m.no.0)) c.moves
-  check-same b c _ = refl
-
   row-same : (b : BookState) (c : Case) (row : List Check) → first_refusal w b c row ≡ first_refusal v b c row
-  row-same b c row = about-same (refusal_by w b c) (refusal_by v b c) (check-same b c) row
+  row-same b c row = about-same (refusal_by w b c) (refusal_by v b c) (check-same w v same b c) row
 
   -- ---- by coordinates
 
@@ -161,7 +71,7 @@ module _ (w v : World) (same : SameSettings w v) where
 
   candidates-same : (b : BookState) (now : Moment) (i : ServerNo) → has_candidate w b now i ≡ has_candidate v b now i
   candidates-same b now i =
-      any-same (is_candidate w b now) (is_candidate v b now) (λ n. ap (λ x. is_valid b n && (x && not (is_barred (rule_at b n now)))) (by-logs n.0)) (replicas_of b i)
+      any-same (is_candidate w b now) (is_candidate v b now) (λ n. ap (λ x. is_valid b n && (x && not (is_barred (rule_at b n now)))) (by-logs w v same n.0)) (replicas_of b i)
 
   -- ---- by matches
 
@@ -230,8 +140,8 @@ module _ (w v : World) (same : SameSettings w v) where
 
   succeeds-same : (b : BookState) (f s : ServerNo) → can_succeed w b f s ≡ can_succeed v b f s
   succeeds-same b f s =
-      ap (λ x. is_valid b s && (x && (same_label w s f && not (is_replica_of b f s)))) (by-logs s.0)
-      ∙ ap (λ x. is_valid b s && (has_log v s && (x && not (is_replica_of b f s)))) (labels-same s f)
+      ap (λ x. is_valid b s && (x && (same_label w s f && not (is_replica_of b f s)))) (by-logs w v same s.0)
+      ∙ ap (λ x. is_valid b s && (has_log v s && (x && not (is_replica_of b f s)))) (labels-same w v same s f)
 
   successor-same : (b : BookState) (f : ServerNo) (o : Option ServerNo) → has_successor w b f o ≡ has_successor v b f o
   successor-same b f None = refl

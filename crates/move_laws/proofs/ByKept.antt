@@ -1,6 +1,5 @@
 -- Permitted moves go by what was seen to be kept.
-use Rattle.std.proofs.Common.{◌≡◌, ◌≤◌, Bool, true, false, not, List, [], ◌∷◌, ◌++◌, refl, sym, ◌∙◌, ap, Option, Some, None, arith}
-use Rattle.std.specs.Prelude.{All, nat_lt}
+use Rattle.std.proofs.Common.{◌≡◌, ◌≤◌, Bool, true, false, not, List, [], ◌∷◌, ◌++◌, refl, sym, ◌∙◌, ap, Option, Some, None, arith, All, nat_lt}
 use Rattle.move_laws.proofs.Prelude.{All-cons, All-head, All-nil, All-tail, AllGoByKept, BookState, Command, CoordsCommand, Deed, Follows, GoesByKept}
 use Rattle.move_laws.proofs.Prelude.{GtidCommand, IsPlaceKept, IsSetKept, Line, Op, PurgedPlace, PurgedSet, Server, ServerNo, World, again}
 use Rattle.move_laws.proofs.Prelude.{again_auto, auto, autos, coords_command, deed_of, exec_seen, finished, first_about, first_refusal, first_seen}

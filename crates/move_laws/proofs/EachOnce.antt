@@ -1,6 +1,5 @@
 -- The labels of a book's clusters, each once.
-use Rattle.std.proofs.Common.{◌≡◌, ◌∙◌, ℕ, ◌+◌, ◌<◌, Bool, true, false, cond, List, [], ◌∷◌, map, length, refl, sym, ap, subst, arith}
-use Rattle.std.specs.Prelude.{All, AllPairs, Contains, filter, nat_eq}
+use Rattle.std.proofs.Common.{◌≡◌, ◌∙◌, ℕ, ◌+◌, ◌<◌, Bool, true, false, cond, List, [], ◌∷◌, map, length, refl, sym, ap, subst, arith, All, AllPairs, Contains, filter, nat_eq}
 use Rattle.move_laws.proofs.Prelude.{All-cons, All-get_or, All-head, All-map, All-nil, All-permutation, All-tail, All-weaker, AllPairs-cons, BookState}
 use Rattle.move_laws.proofs.Prelude.{Contains-append_right, Contains-get_or, Equal, Greater, IsBefore, IsLabelled, IsOrder-by_name, IsPermutation-sym}
 use Rattle.move_laws.proofs.Prelude.{IsSortedBy, IsTotalOrder, Less, ListsEachOnce, Ordering, ServerNo, by_name, by_name-within, clusters_of, each_once}

@@ -1,10 +1,10 @@
 -- If nothing is first, each is nothing.
+use Rattle.recovery_core.proofs.PermissionProofs.Free.{free-by}
 pub use Rattle.recovery_core.proofs.PermissionProofs.Free.{neither}
 pub use Rattle.recovery_core.proofs.PermissionProofs.Rows.{about-permitted, both-permitted}
 pub use Rattle.std.proofs.lemmas.Bool.{not-false}
-use Rattle.std.proofs.Common.{◌≡◌, ℕ, Bool, true, false, not, List, [], ◌∷◌, refl, sym, ◌∙◌, ap, Option, Some, None, ◌||◌}
-use Rattle.std.specs.Prelude.{◌==◌, is_some, slice_index_or}
-use Rattle.move_laws.proofs.Prelude.{BookState, ServerNo, busy, busy_by, eqb-true, false≢true, first_about, first_of, lease_at, list_any, only_if}
+use Rattle.std.proofs.Common.{◌≡◌, ℕ, Bool, true, false, not, List, [], ◌∷◌, refl, sym, ◌∙◌, ap, Option, Some, None, ◌||◌, ◌==◌, is_some, slice_index_or}
+use Rattle.move_laws.proofs.Prelude.{BookState, ServerNo, busy, eqb-true, false≢true, first_about, first_of, lease_at, list_any, only_if}
 
 -- each of a list is nothing
 abbrev pub Nothing : {A : Type 0} → List (Option A) → Type 0
@@ -28,10 +28,6 @@ there-is (Some x) h = (x, refl)
 -- what a check asks for is there
 pub given-by : {A B : Type 0} (o : Option A) (x : B) → only_if (not (is_some o)) x ≡ None → (a : A) × (o ≡ Some a)
 given-by o x h = there-is o (not-false (is_some o) (test-false (not (is_some o)) x h))
-
-free-by : (k : ServerNo) (o : Option ℕ) → busy_by k o ≡ None → o ≡ None
-free-by k None h = refl
-free-by k (Some job) h = cc
 
 -- nobody has a lease of a server of a list that isn't busy
 pub free-of : (b : BookState) (list : List ServerNo) → first_about (busy b) list ≡ None → (n : ℕ) → list_any (λ (k : ServerNo). k.0 == n) list ≡ true

@@ -1,6 +1,6 @@
 -- There is a way up exactly if the book's forest has one server above another.
-use Rattle.std.proofs.Common.{◌≡◌, ℕ, ◌<◌, Bool, true, false, List, [], ◌∷◌, length, get_or, refl, sym, ◌∙◌, ap, subst, Option, Some, None, arith, inl, inr, zero, suc, ◌||◌}
-use Rattle.std.specs.Prelude.{◌==◌, ◌&&◌, is_some, nat_lt, option_and_then, option_map, if◌then◌else◌}
+pub use Rattle.recovery_core.proofs.RecoveryPlans.Choices.{same-no as same-server}
+use Rattle.std.proofs.Common.{◌≡◌, ℕ, ◌<◌, Bool, true, false, List, [], ◌∷◌, length, get_or, refl, sym, ◌∙◌, ap, subst, Option, Some, None, arith, inl, inr, zero, suc, ◌||◌, ◌==◌, ◌&&◌, is_some, nat_lt, option_and_then, option_map, if◌then◌else◌}
 use Rattle.move_laws.proofs.Prelude.{Attached, BookState, Detached, IsBook, IsForestOf, IsForestOf-computed, IsOrder-by_name, Path, ServerNo, SourceState}
 use Rattle.move_laws.proofs.Prelude.{Without, above, are_known, attached_in, attached_of, book_forest, by_name, by_name-within, eq-eqb, eqb-true, false≢true}
 use Rattle.move_laws.proofs.Prelude.{forest_of, get_or-map, instance_at, is_below, is_given, is_instance, is_on_way, is_reached, is_reached_on, is_under}
@@ -12,10 +12,6 @@ use Rattle.recovery_core.specs.BookViews.Forests.{server_at}
 
 zeroth : ServerNo
 zeroth = record { 0 = 0 }
-
--- servers with one number are one
-pub same-server : (a c : ServerNo) → a.0 ≡ c.0 → a ≡ c
-same-server a c e = ap (λ (n : ℕ). let s : ServerNo = record { 0 = n } in s) e
 
 sourced-in : (b : BookState) (s : SourceState) (m : ServerNo) → are_known (length b.names) (source_servers s) ≡ true → source_in s ≡ Some m → m.0 < length b.names
 sourced-in b Without m known e = cc

@@ -1,6 +1,5 @@
 -- Look-ups of the latest bridge.
-use Rattle.std.proofs.Common.{◌≡◌, ◌-◌, Bool, true, false, cond, List, [], ◌∷◌, ◌++◌, drop, length, refl, sym, ◌∙◌, ap, subst, Option, Some, None, arith}
-use Rattle.std.specs.Prelude.{fold, All}
+use Rattle.std.proofs.Common.{◌≡◌, ◌-◌, Bool, true, false, cond, List, [], ◌∷◌, ◌++◌, drop, length, refl, sym, ◌∙◌, ap, subst, Option, Some, None, arith, fold, All}
 use Rattle.move_laws.proofs.Prelude.{All-cons, All-head, All-nil, All-tail, Bridge, IsLatest, drop-append-le, fold-append, is_same, keep_last, last_item}
 use Rattle.move_laws.proofs.Prelude.{latest_that, length-append, ring_size, same_Some, with_bridge}
 

@@ -1,17 +1,12 @@
 -- Plans of several servers, one after another: they have `Held` and are listed if each part does.
 use Rattle.move_laws.proofs.Prelude.{All-cons, All-head, All-nil, All-tail, All-weaker, Finish, Footing, Line, Matched, Op, SameBase, ServerNo, again}
-use Rattle.move_laws.proofs.Prelude.{again_auto, and_parts, are_held, are_listed, are_matched, auto, auto-held, autos, both, change_of, deed_of}
-use Rattle.move_laws.proofs.Prelude.{eq-eqb, finished, first_about, flat_map, held-append, is_in, list_any, list_any-append, matching, matchings}
-use Rattle.move_laws.proofs.Prelude.{option_or, or_left as or-left, swap, under, under-held, unders, up, up-held, ups}
-use Rattle.std.proofs.Common.{◌≡◌, ℕ, Bool, true, false, List, [], ◌∷◌, ◌++◌, refl, ◌∙◌, ap, Option, Some, None, ◌||◌}
-use Rattle.std.specs.Prelude.{◌==◌, All}
+use Rattle.move_laws.proofs.Prelude.{again_auto, and_parts, any-true, are_held, are_listed, are_matched, auto, auto-held, autos, both, change_of}
+use Rattle.move_laws.proofs.Prelude.{deed_of, eq-eqb, finished, first_about, flat_map, held-append, is_in, list_any, list_any-append, matching}
+use Rattle.move_laws.proofs.Prelude.{matchings, option_or, or_left as or-left, swap, under, under-held, unders, up, up-held, ups}
+use Rattle.std.proofs.Common.{◌≡◌, ℕ, true, false, List, [], ◌∷◌, ◌++◌, refl, ◌∙◌, ap, Option, Some, None, ◌||◌, ◌==◌, All}
 
 self : (n : ℕ) → (n == n) ≡ true
 self n = eq-eqb n n refl
-
-any-true : (b : Bool) → (b || true) ≡ true
-any-true true = refl
-any-true false = refl
 
 -- ---- a server of a list
 

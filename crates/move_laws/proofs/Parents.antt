@@ -1,6 +1,5 @@
 -- A way goes from parent to parent.
-use Rattle.std.proofs.Common.{◌≡◌, ℕ, ◌<◌, Bool, true, false, List, [], ◌∷◌, length, refl, ◌∙◌, ap, subst, Option, Some, None, zero, suc}
-use Rattle.std.specs.Prelude.{◌==◌, IfSome, option_map, if◌then◌else◌}
+use Rattle.std.proofs.Common.{◌≡◌, ℕ, ◌<◌, Bool, true, false, List, [], ◌∷◌, length, refl, ◌∙◌, ap, subst, Option, Some, None, zero, suc, ◌==◌, IfSome, option_map, if◌then◌else◌}
 use Rattle.move_laws.proofs.Prelude.{BookState, Climbs, GoesUp, IsBook, ServerNo, attached_of, eq-eqb, eqb-true, false≢true, is_given, option_or, parent_at}
 use Rattle.move_laws.proofs.Prelude.{path_beside, path_by, path_of, same_Some, source_of, way_above, way_in, way_on, way_up}
 use Rattle.move_laws.proofs.Going.{parent-source, same-server}

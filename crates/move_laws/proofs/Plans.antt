@@ -1,6 +1,5 @@
 -- A server's path to a destination: its operations have `Held`, and change only servers of the list.
-use Rattle.std.proofs.Common.{◌≡◌, true, false, List, [], ◌∷◌, ◌++◌, refl, Option, Some, None}
-use Rattle.std.specs.Prelude.{◌==◌, All}
+use Rattle.std.proofs.Common.{◌≡◌, true, false, List, [], ◌∷◌, ◌++◌, refl, Option, Some, None, ◌==◌, All}
 use Rattle.move_laws.proofs.Prelude.{All-cons, All-head, All-nil, All-tail, BookState, Footing, Matched, Op, Path, ServerNo, again-held, and_parts, are_held}
 use Rattle.move_laws.proofs.Prelude.{are_listed, are_matched, arrived, ascended, both, change_of, climbed, deed_of, flat_map, held-append, is_in}
 use Rattle.move_laws.proofs.Prelude.{matched-append, next_of, passed_in, path_of, path_to, travelled, under, under-held, up, up-held}

@@ -1,6 +1,5 @@
 -- The plans of permitted commands by GTIDs.
-use Rattle.std.proofs.Common.{◌≡◌, [], ◌∷◌, ap, Some, None}
-use Rattle.std.specs.Prelude.{map}
+use Rattle.std.proofs.Common.{◌≡◌, [], ◌∷◌, ap, Some, None, map}
 use Rattle.move_laws.proofs.Prelude.{BookState, Server, ServerNo, World, again, again_auto, case_of, disabled, enabled, finished, given, plan_of}
 use Rattle.move_laws.proofs.Prelude.{refusal_about, refusal_by, refusal_of, row_of, source_of, unknown_in}
 use Rattle.move_laws.proofs.Prelude.gtids as command

@@ -1,6 +1,5 @@
 -- The plans of permitted commands by matches.
-use Rattle.std.proofs.Common.{◌≡◌, ℕ, [], ◌∷◌, sym, ◌∙◌, ap, Some, None}
-use Rattle.std.specs.Prelude.{map}
+use Rattle.std.proofs.Common.{◌≡◌, ℕ, [], ◌∷◌, sym, ◌∙◌, ap, Some, None, map}
 use Rattle.move_laws.proofs.Prelude.{BookState, Follows, Moment, ServerNo, World, attached_of, finished, given, matching, moved, option_and_then}
 use Rattle.move_laws.proofs.Prelude.{refusal_by, rest_refusal, row_refusal, source_above, source_of, unknown_in}
 use Rattle.move_laws.proofs.Prelude.Permits.{case_of, refusal_about, refusal_of, row_of}

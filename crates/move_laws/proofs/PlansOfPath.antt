@@ -1,6 +1,5 @@
 -- The plans of permitted commands.
-use Rattle.std.proofs.Common.{◌≡◌, Bool, true, false, List, [], ◌∷◌, ◌++◌, sym, ◌∙◌, ap, Option, Some, None}
-use Rattle.std.specs.Prelude.{All, IsSome, is_some}
+use Rattle.std.proofs.Common.{◌≡◌, Bool, true, false, List, [], ◌∷◌, ◌++◌, sym, ◌∙◌, ap, Option, Some, None, All, IsSome, is_some}
 use Rattle.move_laws.proofs.Prelude.{All-cons, All-nil, BookState, Follows, Moment, Op, Path, ServerNo, World, append-nil, arrived, astray, auto}
 use Rattle.move_laws.proofs.Prelude.{autos, finished, first_about, first_refusal, flat_map, following, given, last_refusal, own_refusal, path_of}
 use Rattle.move_laws.proofs.Prelude.{relocated, replicas_but, travelled, unknown_in, without_path}

@@ -1,6 +1,5 @@
 -- The plans of permitted repoints without a destination.
-use Rattle.std.proofs.Common.{◌≡◌, Bool, true, false, [], ◌∷◌, sym, ◌∙◌, ap, Some, None}
-use Rattle.std.specs.Prelude.{map}
+use Rattle.std.proofs.Common.{◌≡◌, Bool, true, false, [], ◌∷◌, sym, ◌∙◌, ap, Some, None, map}
 use Rattle.move_laws.proofs.Prelude.{BookState, Follows, ServerNo, World, again, auto, by_gtids, finished, first_refusal, given, refusal_by, repointed}
 use Rattle.move_laws.proofs.Prelude.{repointed_auto, repointed_by, source_of, unknown_in}
 use Rattle.moves_coords.specs.Permits.{case_of, refusal_about, refusal_of, row_of}

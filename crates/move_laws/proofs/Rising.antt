@@ -1,6 +1,5 @@
 -- Checks by rising numbers answer the lowest refusal.
-use Rattle.std.proofs.Common.{◌≡◌, ℕ, suc, ◌+◌, ◌≤◌, ◌<◌, Bool, true, false, cond, not, ◌&&◌, List, [], ◌∷◌, ◌++◌, refl, sym, ◌∙◌, ap, subst, Option, Some, None, Result, Ok, Err, arith}
-use Rattle.std.specs.Prelude.{All, Any, is_some, nat_le, nat_lt, option_map}
+use Rattle.std.proofs.Common.{◌≡◌, ℕ, suc, ◌+◌, ◌≤◌, ◌<◌, Bool, true, false, cond, not, ◌&&◌, List, [], ◌∷◌, ◌++◌, refl, sym, ◌∙◌, ap, subst, Option, Some, None, Result, Ok, Err, arith, All, Any, is_some, nat_le, nat_lt, option_map}
 use Rattle.move_laws.proofs.Prelude.{Action, All-cons, All-nil, Attempt, AuditState, BookState, Case, Check, Code, Command, CoordsCommand}
 use Rattle.move_laws.proofs.Prelude.{GtidCommand, Held, IntermediateRecovery, IsAnswer, IsNoLower, MasterRecovery, MatchCommand, Moment, Nothing}
 use Rattle.move_laws.proofs.Prelude.{PathCommand, Refusal, ServerNo, World, about, about_one, action_checks, action_of, and_parts, attached_of}
@@ -9,7 +8,8 @@ use Rattle.move_laws.proofs.Prelude.{has_candidate, has_successor, held_back, is
 use Rattle.move_laws.proofs.Prelude.{ltb-true, match_checks, may_begin, no_master, no_replica, number_of, only_if, option_or, own_checks, path_checks}
 use Rattle.move_laws.proofs.Prelude.{path_to, recovery_checks, refusal_by, refused, refused_as, replicas_but, rises_from, row_checks, same_Some}
 use Rattle.move_laws.proofs.Prelude.{source_of, takeover_checks, unknown_in, without_candidate, without_successor}
-use Rattle.move_laws.proofs.Numbered.{check-number, gtid-rows-rise, match-last-rows-rise, match-rows-rise, rows-rise}
+use Rattle.move_laws.proofs.Checks.{check-number}
+use Rattle.move_laws.proofs.Numbered.{gtid-rows-rise, match-last-rows-rise, match-rows-rise, rows-rise}
 use Rattle.recovery_core.specs.Checks.{disabled}
 use Rattle.move_laws.proofs.Prelude.Candidates.{without_candidate as no_candidate}
 use Rattle.move_laws.proofs.Prelude.Checks.{held_by}
@@ -83,14 +83,14 @@ abbrev ends_by : ℕ → List Check → Bool
 ends_by top [] = true
 ends_by top (k ∷ row) = nat_le (check_number k) top && ends_by top row
 
--- all end at 32
-most : (k : Check) → nat_le (check_number k) 32 ≡ true
+-- all are below 100
+most : (k : Check) → nat_le (check_number k) 99 ≡ true
 most check.SameInstance = refl
 most _ = refl
 
-ends-all : (row : List Check) → ends_by 32 row ≡ true
+ends-all : (row : List Check) → ends_by 99 row ≡ true
 ends-all [] = refl
-ends-all (k ∷ row) = ap (λ x. x && ends_by 32 row) (most k) ∙ ends-all row
+ends-all (k ∷ row) = ap (λ x. x && ends_by 99 row) (most k) ∙ ends-all row
 
 row-rising : (w : World) (b : BookState) (c : Case) (n top : ℕ) (row : List Check) (xs : List (Option Refusal)) → n ≤ top → rises_from n row ≡ true → ends_by top row ≡ true
     → Rising (top + 1) xs → Rising (n + 1) (row_checks w b c row ++ xs)
@@ -148,7 +148,7 @@ append-none [] = refl
 append-none (x ∷ xs) = ap (λ ys. x ∷ ys) (append-none xs)
 
 row-alone : (w : World) (b : BookState) (c : Case) (row : List Check) → rises_from 2 row ≡ true → Rising 3 (row_checks w b c row)
-row-alone w b c row up = subst (Rising 3) (append-none (row_checks w b c row)) (row-rising w b c 2 32 row [] (omega arith) up (ends-all row) tt)
+row-alone w b c row up = subst (Rising 3) (append-none (row_checks w b c row)) (row-rising w b c 2 99 row [] (omega arith) up (ends-all row) tt)
 
 pub coords-lowest : (w : World) (b : BookState) (kind : Option CoordsCommand) (given : Command) → IsAnswer (coords_checks w b kind given) (refused b (coords.refusal_about w b) kind given)
 coords-lowest w b kind given =
@@ -193,7 +193,7 @@ module _ (w : World) (b : BookState) where
   moving-rising : (c : Case) (row : Bool → List Check) (movers : List ServerNo) (d : Option ServerNo) → ((g : Bool) → rises_from 2 (row g) ≡ true) → ends_by 18 (row false) ≡ true
       → (g : Bool) → Rising 3 (row_checks w b c (row g) ++ paths.astray g b movers d ∷ row_checks w b c (paths.places_row g))
   moving-rising c row movers d rise ends true =
-      row-rising w b c 2 32 (row true) (None ∷ []) (omega arith) (rise true) (ends-all (row true)) (33, omega arith, λ r e. cc, tt)
+      row-rising w b c 2 99 (row true) (None ∷ []) (omega arith) (rise true) (ends-all (row true)) (100, omega arith, λ r e. cc, tt)
   moving-rising c row movers d rise ends false =
       row-rising w b c 2 18 (row false) (paths.astray false b movers d ∷ row_checks w b c (paths.places_row false)) (omega arith) (rise false) ends (
         27,
@@ -240,7 +240,7 @@ module _ (w : World) (b : BookState) (now : Moment) (every : ℕ) where
   last-rising k c =
       let row = matches.last_row_of every c in
       rising-from 27 31 (row_checks w b k row) (omega arith)
-      (subst (Rising 31) (append-none (row_checks w b k row)) (row-rising w b k 30 32 row [] (omega arith) (match-last-rows-rise every c) (ends-all row) tt))
+      (subst (Rising 31) (append-none (row_checks w b k row)) (row-rising w b k 30 99 row [] (omega arith) (match-last-rows-rise every c) (ends-all row) tt))
 
   row-ends : (c : MatchCommand) → ends_by 18 (matches.row_of c) ≡ true
   row-ends matching.Match = refl

@@ -1,11 +1,11 @@
 //! The refusal with the lowest number.
 
 ghost use Rattle.std.specs.Prelude.{◌≡◌, ◌<◌, ℕ, Bool, List, None, Some, slice_get, true};
-ghost use Rattle.move_laws.specs.Prelude.{BookState, Case, Check, CoordsCommand, GtidCommand, MatchCommand, Refusal, World, first_refusal};
+ghost use Rattle.move_laws.specs.Prelude.{BookState, Case, Check, CoordsCommand, GtidCommand, MatchCommand, Refusal, World, check_number, first_refusal};
 ghost use Rattle.move_laws.specs.Prelude.{last_row_of, number_of, refusal_by, row_of as gtid_row_of};
 ghost use Rattle.move_laws.specs.Prelude.Permits.{row_of};
 ghost use Rattle.move_laws.specs.Prelude.PseudoMatch.{row_of as match_row_of};
-ghost use Rattle.move_laws.specs.Numbers.{check_number, rises_from};
+ghost use Rattle.move_laws.specs.Numbers.{rises_from};
 
 /// What a row of checks answers: nothing exactly if each check passes, else the refusal of one of its checks. If the
 /// row's numbers rise, each check of a lower number passes. A check's refusal has the check's number.

@@ -1,9 +1,8 @@
 //! The plans of permitted commands.
 
 ghost use Rattle.std.specs.Prelude.{◌≡◌, ◌∷◌, [], Some, None, true, false};
-ghost use Rattle.move_laws.specs.Prelude.{BookState, Follows, ServerNo as Number};
-ghost use Rattle.move_laws.specs.Prelude.{World, again, attached_of, auto, by_gtids, finished, following, replicas_of, siblings_of};
-ghost use Rattle.move_laws.specs.Prelude.{source_of, swap, under, unders, up, ups};
+ghost use Rattle.move_laws.specs.Prelude.{BookState, Follows, ServerNo as Number, World, again, attached_of, auto, by_gtids, finished, following};
+ghost use Rattle.move_laws.specs.Prelude.{replicas_of, siblings_of, source_of, swap, under, unders, up, ups};
 ghost use Rattle.move_laws.specs.Prelude.Permits.{refusal_of};
 ghost use Rattle.move_laws.specs.Prelude.Plans.{plan_of};
 ghost use Rattle.move_laws.specs.Prelude.name;

@@ -49,6 +49,23 @@ row_of gtids command.RestartReplica = attached_row
 row_of gtids command.SetReadOnly = Busy ∷ Unreachable ∷ []
 row_of gtids command.SetWriteable = Busy ∷ Unreachable ∷ []
 
+-- after the one that its instances are known, its first check is that no job has its instance's lease
+abbrev pub is_held_first : CoordsCommand → Bool
+is_held_first command.MoveUp = true
+is_held_first command.MoveUpReplicas = true
+is_held_first command.MoveBelow = false
+is_held_first command.Repoint = false
+is_held_first command.TakeSiblings = true
+is_held_first command.TakeMaster = true
+is_held_first command.DetachReplica = true
+is_held_first command.ReattachReplica = true
+is_held_first command.ResetReplica = true
+is_held_first command.StartReplica = true
+is_held_first command.StopReplica = true
+is_held_first command.RestartReplica = true
+is_held_first command.SetReadOnly = true
+is_held_first command.SetWriteable = true
+
 -- Which servers move to which source, by the destination that is given, of which the job takes the leases, and by whose
 -- coordinates the moves go. A server goes up by that of its source, and goes on or lets its replicas up by its own.
 abbrev pub case_of : BookState → CoordsCommand → ServerNo → Option ServerNo → Case

@@ -5,7 +5,7 @@ ghost use Rattle.permission.specs.OrchBase.Gives.{Gives};
 ghost use Rattle.permission.specs.BookViews.Forests.{book_forest};
 ghost use Rattle.permission.specs.Checks.{permit_fault, permitted};
 ghost use Rattle.moves_coords.specs.Commands.{coords_command};
-ghost use Rattle.moves_coords.specs.Permits.{by_gtids, case_of, refusal_about, refusal_of, row_of};
+ghost use Rattle.moves_coords.specs.Permits.{by_gtids, case_of, is_held_first, refusal_about, refusal_of, row_of};
 
 use crate::book_views::replicas;
 use crate::command::coords_command;
@@ -151,6 +151,27 @@ fn row_of(by_gtids: bool, command: CoordsCommand) -> &'static [Check]
         | CoordsCommand::StartReplica
         | CoordsCommand::StopReplica
         | CoordsCommand::RestartReplica => &ATTACHED,
+    }
+}
+
+/// Whether the first check of a command, after that of known instances, is that no job has its instance's lease.
+pub fn is_held_first(command: CoordsCommand) -> bool
+    ensures { result ≡ is_held_first command }
+{
+    match command {
+        CoordsCommand::MoveUp
+        | CoordsCommand::MoveUpReplicas
+        | CoordsCommand::TakeSiblings
+        | CoordsCommand::TakeMaster
+        | CoordsCommand::DetachReplica
+        | CoordsCommand::ReattachReplica
+        | CoordsCommand::ResetReplica
+        | CoordsCommand::StartReplica
+        | CoordsCommand::StopReplica
+        | CoordsCommand::RestartReplica
+        | CoordsCommand::SetReadOnly
+        | CoordsCommand::SetWriteable => true,
+        CoordsCommand::MoveBelow | CoordsCommand::Repoint => false,
     }
 }
 

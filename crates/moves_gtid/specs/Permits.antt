@@ -1,5 +1,5 @@
 -- What refuses these commands: the rows of the permission table, and what their checks are about.
-use Rattle.std.specs.Prelude.{List, [], ◌∷◌, ◌++◌, Option}
+use Rattle.std.specs.Prelude.{Bool, true, false, List, [], ◌∷◌, ◌++◌, Option}
 use Rattle.std.specs.Option.{option_to_list}
 use Rattle.permission.specs.OrchBase.declared.server.ServerNo.{ServerNo}
 use Rattle.permission.specs.Commands.declared.refusal.Refusal.{Refusal}
@@ -26,6 +26,13 @@ row_of command.MoveGtid = move_row
 row_of command.MoveReplicasGtid = move_row
 row_of command.EnableGtid = Busy ∷ Unreachable ∷ NoSource ∷ AlreadyDetached ∷ GtidOff ∷ Errant ∷ PurgedSet ∷ []
 row_of command.DisableGtid = Busy ∷ Unreachable ∷ NoSource ∷ AlreadyDetached ∷ GtidOff ∷ PurgedPlace ∷ []
+
+-- after the one that its instances are known, its first check is that no job has its instance's lease
+abbrev pub is_held_first : GtidCommand → Bool
+is_held_first command.MoveGtid = false
+is_held_first command.MoveReplicasGtid = false
+is_held_first command.EnableGtid = true
+is_held_first command.DisableGtid = true
 
 -- Which servers move to which source, by the destination that is given, and of which the job takes the leases. One that
 -- finds its place anew keeps its source, and one that goes on by coordinates goes by its own.

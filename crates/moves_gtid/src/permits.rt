@@ -5,7 +5,7 @@ ghost use Rattle.permission.specs.OrchBase.Gives.{Gives};
 ghost use Rattle.permission.specs.BookViews.Forests.{book_forest};
 ghost use Rattle.permission.specs.Checks.{permit_fault, permitted};
 ghost use Rattle.moves_gtid.specs.Commands.{gtid_command};
-ghost use Rattle.moves_gtid.specs.Permits.{case_of, refusal_about, refusal_of, row_of};
+ghost use Rattle.moves_gtid.specs.Permits.{case_of, is_held_first, refusal_about, refusal_of, row_of};
 
 use crate::command::gtid_command;
 use crate::commands::{Command, GtidCommand};
@@ -58,6 +58,16 @@ fn row_of(command: GtidCommand) -> &'static [Check]
         GtidCommand::MoveGtid | GtidCommand::MoveReplicasGtid => &MOVE,
         GtidCommand::EnableGtid => &ENABLE,
         GtidCommand::DisableGtid => &DISABLE,
+    }
+}
+
+/// Whether the first check of a command, after that of known instances, is that no job has its instance's lease.
+pub fn is_held_first(command: GtidCommand) -> bool
+    ensures { result ≡ is_held_first command }
+{
+    match command {
+        GtidCommand::EnableGtid | GtidCommand::DisableGtid => true,
+        GtidCommand::MoveGtid | GtidCommand::MoveReplicasGtid => false,
     }
 }
 

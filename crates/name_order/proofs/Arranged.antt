@@ -1,9 +1,8 @@
 -- What std's sort gives is the order of servers by name.
-use Rattle.std.proofs.Common.{sym, get_or, ◌≡◌, ℕ, ◌+◌, ◌<◌, List, [], ◌∷◌, ◌++◌, take, Bor, Bool, map, length, ap, ◌∙◌, subst, refl, arith}
+use Rattle.std.proofs.Common.{sym, get_or, ◌≡◌, ℕ, ◌+◌, ◌<◌, List, [], ◌∷◌, ◌++◌, take, Bor, Bool, map, length, ap, ◌∙◌, subst, refl, arith, All}
 use Rattle.name_order.proofs.Prelude.{HostPort, IsPermutation, IsPermutation-map, IsSortedBy, IsStrictWeakOrder, ServerNo, by_name, enumerate_from}
 use Rattle.name_order.proofs.Prelude.{get_or-map, is_lt, length-map, length-take, map-append, order_of, ranks_by, server_of, take_more}
 use Rattle.name_order.proofs.ByName.{length-by_name, IsOrder-by_name, enumerated_more, order_total, order_tight}
-use Rattle.std.specs.Prelude.{All}
 use Rattle.name_order.proofs.Placing.{number_below}
 use Rattle.name_order.proofs.Sorting.{sorted_is_sort_by}
 

@@ -1,6 +1,5 @@
 -- What the order of servers by name is.
-use Rattle.std.proofs.Common.{◌≡◌, ℕ, ◌+◌, ◌<◌, Bool, true, false, cond, List, [], ◌∷◌, ◌++◌, map, length, get_or, refl, sym, ap, ◌∙◌, subst, zero, suc, arith}
-use Rattle.std.specs.Prelude.{All, AllPairs}
+use Rattle.std.proofs.Common.{◌≡◌, ℕ, ◌+◌, ◌<◌, Bool, true, false, cond, List, [], ◌∷◌, ◌++◌, map, length, get_or, refl, sym, ap, ◌∙◌, subst, zero, suc, arith, All, AllPairs}
 use Rattle.name_order.proofs.Prelude.{All-cons, All-head, All-nil, All-permutation, All-tail, All-weaker, Equal, Greater, HostPort, IsOrder}
 use Rattle.name_order.proofs.Prelude.{IsPermutation, IsPermutation-map, IsRising, IsTotalOrder, Less, Ordering, ServerNo, by_name, enumerate_from}
 use Rattle.name_order.proofs.Prelude.{false≢true, get_or-enumerate_from, get_or-map, get_or_default, insert_by, is_eq, is_lt, length-enumerate_from}

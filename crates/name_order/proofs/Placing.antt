@@ -1,6 +1,5 @@
 -- The place of each server in an order.
-use Rattle.std.proofs.Common.{◌≡◌, ℕ, ◌+◌, ◌<◌, false, List, map, length, get_or, set, refl, sym, ap, ◌∙◌, subst, eq-eqb, inl, inr, arith}
-use Rattle.std.specs.Prelude.{All, AllPairs, Contains, ◌≢◌, ◌⊎◌, nat_eq}
+use Rattle.std.proofs.Common.{◌≡◌, ℕ, ◌+◌, ◌<◌, false, List, map, length, get_or, set, refl, sym, ap, ◌∙◌, subst, eq-eqb, inl, inr, arith, All, AllPairs, Contains, ◌≢◌, ◌⊎◌, nat_eq}
 use Rattle.name_order.proofs.Prelude.{All-permutation, AllPairs-from_IsDistinct, Contains-permutation, Decides, IsDistinct-from_AllPairs}
 use Rattle.name_order.proofs.Prelude.{IsDistinct-IsPermutation, IsOrder, ServerNo, cases_lt, eqb-true, eqb_tells, fill_by_all, get_or-map}
 use Rattle.name_order.proofs.Prelude.{get_or-range_with_len, get_or-set_other, get_or-set_same, get_or_default, length-map, length-range_with_len}

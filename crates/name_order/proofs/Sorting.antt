@@ -1,6 +1,5 @@
 -- Sorting by a total order in which only equal elements compare as equal gives one list.
-use Rattle.std.proofs.Common.{Bool, true, zero, ◌≡◌, ℕ, ◌+◌, ◌<◌, false, cond, List, [], ◌∷◌, get_or, refl, sym, ap, subst, suc, arith}
-use Rattle.std.specs.Prelude.{All}
+use Rattle.std.proofs.Common.{Bool, true, zero, ◌≡◌, ℕ, ◌+◌, ◌<◌, false, cond, List, [], ◌∷◌, get_or, refl, sym, ap, subst, suc, arith, All}
 use Rattle.name_order.proofs.Prelude.{All-cons, All-head, All-nil, All-permutation, All-tail, All-weaker, Equal, Greater, IsPermutation}
 use Rattle.name_order.proofs.Prelude.{IsPermutation-cons, IsPermutation-middle, IsPermutation-refl, IsPermutation-sym, IsPermutation-trans}
 use Rattle.name_order.proofs.Prelude.{IsSortedBy, IsStrictWeakOrder, IsTotalOrder, Less, Ordering, false≢true, insert_by, is_eq, is_gt, is_lt}

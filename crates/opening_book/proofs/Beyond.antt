@@ -1,6 +1,5 @@
 -- Rows after those of instances keep all that is kept of recoveries.
-use Rattle.std.proofs.Common.{◌≡◌, ◌∙◌, ℕ, zero, suc, ◌-◌, ◌<◌, ◌≤◌, true, false, not, List, [], ◌∷◌, length, get_or, drop, take, Option, None, refl, sym, ap, map, arith}
-use Rattle.std.specs.Prelude.{◌++◌, filter_map}
+use Rattle.std.proofs.Common.{◌≡◌, ◌∙◌, ℕ, zero, suc, ◌-◌, ◌<◌, ◌≤◌, true, false, not, List, [], ◌∷◌, length, get_or, drop, take, Option, None, refl, sym, ap, map, arith, ◌++◌, filter_map}
 use Rattle.opening_book.proofs.Prelude.{AuditState, Moment, RecoveryRow, Row, audit_of, block_given, common_steps, cons_option, fails_before_first}
 use Rattle.opening_book.proofs.Prelude.{false≢true, interrupting, is_instance, length-drop, loaded_by, loading, position, position_or_len}
 use Rattle.opening_book.proofs.Prelude.{recovery_row_in, take-length}

@@ -1,6 +1,5 @@
 -- What holds of each change of an opening.
-use Rattle.std.proofs.Common.{ℕ, ◌+◌, ◌<◌, Bool, true, false, List, [], ◌∷◌, ◌++◌, length, Option, Some, None, arith}
-use Rattle.std.specs.Prelude.{All, IfSome, is_none, if◌then◌else◌}
+use Rattle.std.proofs.Common.{ℕ, ◌+◌, ◌<◌, Bool, true, false, List, [], ◌∷◌, ◌++◌, length, Option, Some, None, arith, All, IfSome, is_none, if◌then◌else◌}
 use Rattle.opening_book.proofs.Prelude.{All-append, All-cons, All-map, All-nil, AuditState, BookState, Change, Moment, Recovery, Row, Rule, World}
 use Rattle.opening_book.proofs.Prelude.{block_given, blocks_given, changes_from, closing, cons_option, interrupting, loaded_by, loading}
 use Rattle.opening_book.proofs.Prelude.{missing_from, opening_changes, put_recovery, registering_from}

@@ -1,16 +1,15 @@
 -- Kept rows follow a book from its loading on, through each change.
 pub use Rattle.instance_keeper.proofs.KeptRows.Same.{eq_is as is_eq}
 pub use Rattle.instance_keeper.proofs.Steady.{HasSameServers, same-change, same-put}
-use Rattle.std.proofs.Common.{◌≡◌, ◌∙◌, ℕ, ◌<◌, ◌^◌, Bool, true, false, List, [], ◌∷◌, length, map, refl, sym, ap, subst, Option, Some, None, zero, suc, arith}
-use Rattle.std.specs.Prelude.{All, ◌&&◌, ◌==◌, filter, filter_map, fold, option_map, replicate, if◌then◌else◌}
+use Rattle.std.proofs.Common.{◌≡◌, ◌∙◌, ℕ, ◌<◌, ◌^◌, Bool, true, false, List, [], ◌∷◌, length, map, refl, sym, ap, subst, Option, Some, None, zero, suc, arith, All, ◌&&◌, ◌==◌, filter, filter_map, fold, option_map, replicate, if◌then◌else◌}
 use Rattle.opening_book.proofs.Prelude.{All-cons, All-head, All-nil, All-tail, BookState, Bridge, Change, Follow, HostPort, Instance, IsBook}
-use Rattle.opening_book.proofs.Prelude.{IsIdInRange, IsInRange, IsKeptFor, IsRising, Recovery, RecoveryRow, Row, ServerNo, Settings, after_addition}
-use Rattle.opening_book.proofs.Prelude.{after_change, after_opening, after_put, after_row, are_known, as_row, book_change, book_put, book_rows}
-use Rattle.opening_book.proofs.Prelude.{change_is, changed, changed_by, changed_by_rising, counts, empty_book, empty_is, false≢true, fits}
+use Rattle.opening_book.proofs.Prelude.{IsIdInRange, IsInRange, IsKeptFor, IsRising, Recovery, RecoveryRow, Row, ServerNo, Settings, above as apart}
+use Rattle.opening_book.proofs.Prelude.{after_addition, after_change, after_opening, after_put, after_row, are_known, as_row, book_change, book_put}
+use Rattle.opening_book.proofs.Prelude.{book_rows, change_is, changed, changed_by, changed_by_rising, counts, empty_book, empty_is, false≢true, fits}
 use Rattle.opening_book.proofs.Prelude.{greatest_id, is_for_book, is_in_range, is_opening_change, length-map, length-set, loaded, map_of}
 use Rattle.opening_book.proofs.Prelude.{map_of_rising, no_recovery, opened_book, pairs_head, pairs_tail, put_recovery, ring_at, ringed, row_after}
-use Rattle.opening_book.proofs.Prelude.{row_fits, row_in, row_in-changed_by, row_in-map_of, row_in-put, servers_of, shown_by}
-use Rattle.opening_book.proofs.Prelude.{sort_key, sort_key_of, with_bridge}
+use Rattle.opening_book.proofs.Prelude.{row_fits, row_in, row_in-changed_by, row_in-map_of, row_in-put, servers_of, shown_by, sort_key, sort_key_of}
+use Rattle.opening_book.proofs.Prelude.{with_bridge}
 use Rattle.opening_book.proofs.Prelude.change
 use Rattle.opening_book.proofs.Prelude.row
 
@@ -25,9 +24,6 @@ picked test p kept rows = fold (pick test p) kept rows
 abbrev pub passing : (Row → Bool) → Option Row → Option Row
 passing test None = None
 passing test (Some r) = if test r then Some r else None
-
-apart : (p q : ℕ) → p < q → (q == p) ≡ false
-apart p q h = grind arith
 
 unpicked : (b e : Bool) (r : Row) (kept : Option Row) → e ≡ false → (if b && e then Some r else kept) ≡ kept
 unpicked true e r kept h = rw h refl
@@ -132,12 +128,9 @@ both-is count until r = by r
     neither false i j = refl
 
     by : (r : Row) → both count until r ≡ is_for_book count r
-    by (row.Instance i) = same (are_known count (servers_of (row.Instance i))) (is_in_range until (row.Instance i))
-    by (row.Downtime d) = same (are_known count (servers_of (row.Downtime d))) (is_in_range until (row.Downtime d))
-    by (row.Candidate c) = same (are_known count (servers_of (row.Candidate c))) (is_in_range until (row.Candidate c))
     by (row.Recovery x) = neither (are_known count (servers_of (row.Recovery x))) (is_in_range until (row.Recovery x)) (is_in_range greatest_id (row.Recovery x))
-    by (row.Switch e) = same (are_known count (servers_of (row.Switch e))) (is_in_range until (row.Switch e))
     by (row.Active node end) = neither (are_known count (servers_of (row.Active node end))) (is_in_range until (row.Active node end)) (is_in_range greatest_id (row.Active node end))
+    by x = same (are_known count (servers_of x)) (is_in_range until x)
 
 kept_for : (count until : ℕ) (x : Option Row) → IsKeptFor count x (passing (both count until) x)
 kept_for count until None = tt
@@ -270,11 +263,9 @@ Follow-recoveries rows b rs small follow = Follow-puts rows b (map put_recovery 
 pub Follow-opening : (rows : List Row) (b : BookState) (c : Change) → Follow rows b → is_opening_change (length b.names) c ≡ true → IsInRange c → IsIdInRange c → Follow (changed_by rows c) (after_opening b c)
 Follow-opening rows b (change.Remove t k) follow fit range id = Follow-change rows b (change.Remove t k) follow fit range
 Follow-opening rows b (change.Put (row.Instance i)) follow fit range id = Follow-addition rows b i follow fit
-Follow-opening rows b (change.Put (row.Downtime d)) follow fit range id = Follow-change rows b (change.Put (row.Downtime d)) follow fit range
-Follow-opening rows b (change.Put (row.Candidate c)) follow fit range id = Follow-change rows b (change.Put (row.Candidate c)) follow fit range
 Follow-opening rows b (change.Put (row.Recovery k)) follow fit range id = Follow-recovery rows b k id follow
-Follow-opening rows b (change.Put (row.Switch enabled)) follow fit range id = Follow-change rows b (change.Put (row.Switch enabled)) follow fit range
 Follow-opening rows b (change.Put (row.Active node until)) follow fit range id = absurd (false≢true fit)
+Follow-opening rows b x follow fit range id = Follow-change rows b x follow fit range
 
 pub names-opening : (b : BookState) (c : Change) → (after_opening b c).names ≡ b.names
 names-opening b (change.Remove t k) = names-change b (change.Remove t k)

@@ -1,7 +1,6 @@
 -- The changes of an opening, one server after another.
-use Rattle.std.proofs.Common.{◌≡◌, ℕ, ◌+◌, ◌<◌, List, [], ◌∷◌, ◌++◌, length, take, get_or, Option, None, Some, refl, sym, ap, ◌∙◌, arith}
+use Rattle.std.proofs.Common.{◌≡◌, ℕ, ◌+◌, ◌<◌, List, [], ◌∷◌, ◌++◌, length, take, get_or, Option, None, Some, refl, sym, ap, ◌∙◌, arith, filter_map}
 use Rattle.opening_book.proofs.Prelude.{Change, changes_from, cons_option, filter_map-append, length-take, option_to_list, take_more}
-use Rattle.std.specs.Prelude.{filter_map}
 
 cons-append : (o : Option Change) (xs ys : List Change) → cons_option o xs ++ ys ≡ cons_option o (xs ++ ys)
 cons-append None xs ys = refl

@@ -197,7 +197,7 @@ row_in-filter test p (r ∷ rows) rising = go (row_in-filter test p rows (rest_r
     go rest false fails true here = gone (is_eq (sort_key_of r) p here) ∙ sym (rw fails refl)
     go rest false fails false here = rest
 
-stands-at : (rows : List Row) (p : ℕ) (x : Row) → row_in rows p ≡ Some x → sort_key_of x ≡ p
+pub stands-at : (rows : List Row) (p : ℕ) (x : Row) → row_in rows p ≡ Some x → sort_key_of x ≡ p
 stands-at [] p x h = absurd cc
 stands-at (r ∷ rows) p x h = go (sort_key_of r == p) refl h (stands-at rows p x)
   where
@@ -426,19 +426,17 @@ apart-put count id few small (row.Recovery r) h = absurd (false≢true h)
 apart-put count id few small (row.Switch e) h = more-off (sort_key_of (row.Switch e)) (at id) (omega (arith, small))
 apart-put count id few small (row.Active node end) h = absurd (false≢true h)
 
-key-number : (k : Key) → IsKeyInRange k → key_number k ≤ 2 ^ 32 + 2 ^ 64 + 1
+pub key-number : (k : Key) → IsKeyInRange k → key_number k ≤ 2 ^ 32 + 2 ^ 64 + 1
 key-number (key.Server n) range = omega (arith, range)
 key-number (key.Id id) range = omega (arith, range)
 key-number key.Global range = omega arith
 key-number key.Active range = omega arith
 
 apart-remove : (id : ℕ) → id < 2 ^ 64 → (t : Table) (k : Key) → is_of_book t ≡ true → IsKeyInRange k → (sort_key t k == at id) ≡ false
-apart-remove id small table.Instance k h range = let n = key-number k range in less-off (sort_key table.Instance k) (at id) (omega (arith, n))
-apart-remove id small table.Downtime k h range = let n = key-number k range in less-off (sort_key table.Downtime k) (at id) (omega (arith, n))
-apart-remove id small table.Candidate k h range = let n = key-number k range in less-off (sort_key table.Candidate k) (at id) (omega (arith, n))
 apart-remove id small table.Recovery k h range = absurd (false≢true h)
 apart-remove id small table.Switch k h range = more-off (sort_key table.Switch k) (at id) (omega (arith, small))
 apart-remove id small table.Active k h range = absurd (false≢true h)
+apart-remove id small x k h range = let n = key-number k range in less-off (sort_key x k) (at id) (omega (arith, n))
 
 pub left-alone : (count id : ℕ) → count ≤ 2 ^ 32 → id < 2 ^ 64 → (c : Change) → fits count c ≡ true → IsInRange c → (x : Option Row) → row_after (at id) x c ≡ x
 left-alone count id few small (change.Put r) fit range x = rw (apart-put count id few small r fit) refl

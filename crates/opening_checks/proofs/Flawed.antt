@@ -1,24 +1,8 @@
 -- The first flaw of several, and what it means that there is none.
-use Rattle.std.proofs.Common.{◌≡◌, ℕ, ◌+◌, ◌*◌, ◌<◌, ◌≤◌, Bool, true, false, cond, List, [], ◌∷◌, length, refl, ap, subst, Some, None, Option, arith, suc, zero, get_or}
-use Rattle.std.specs.Prelude.{slice_get, sum_by}
+pub use Rattle.openings.proofs.Soundness.{never-met as first_met-none}
+use Rattle.std.proofs.Common.{◌≡◌, ℕ, ◌+◌, ◌*◌, ◌<◌, ◌≤◌, Bool, false, List, length, ap, subst, None, arith, get_or, sum_by}
 use Rattle.opening_checks.proofs.Prelude.{FilesGood, InRange, IsListed, ServerInit, bad_files, first_met, get_or-le-sum_by, get_or_from_slice_get}
-use Rattle.opening_checks.proofs.Prelude.{opening, parts_of, same_Some, slice_get_within, transactions}
-
-passed-first : (b : Bool) (n : ℕ) (rest : Option ℕ) → cond b (Some n) rest ≡ None → (b ≡ false) × (rest ≡ None)
-passed-first true n rest e = cc
-passed-first false n rest e = (refl, e)
-
--- no server meets a test that none is the first to meet
-pub first_met-none : (test : ℕ → ServerInit → Bool) (from : ℕ) (servers : List ServerInit) → first_met test from servers ≡ None → (k : ℕ) (i : ServerInit) → slice_get servers k ≡ Some i → test (from + k) i ≡ false
-first_met-none test from [] none k i h = cc
-first_met-none test from (s ∷ ss) none zero i h =
-    let passed = (passed-first (test from s) from (first_met test (from + 1) ss) none).0 in
-    let at : from + 0 ≡ from = omega arith in
-    rw at (subst (λ (j : ServerInit). test from j ≡ false) (same_Some s i h) passed)
-first_met-none test from (s ∷ ss) none (suc k) i h =
-    let rest = (passed-first (test from s) from (first_met test (from + 1) ss) none).1 in
-    let at : from + suc k ≡ (from + 1) + k = omega arith in
-    rw at (first_met-none test (from + 1) ss rest k i h)
+use Rattle.opening_checks.proofs.Prelude.{opening, parts_of, slice_get_within, transactions}
 
 pub files-good : (servers : List ServerInit) → first_met (bad_files servers) 0 servers ≡ None → FilesGood servers
 files-good servers none = record {
@@ -28,7 +12,7 @@ files-good servers none = record {
 }
 
 -- a number is at most its product with a number above zero
-within_product : (n m : ℕ) → 0 < n → m ≤ n * m
+pub within_product : (n m : ℕ) → 0 < n → m ≤ n * m
 within_product n m h = grind arith
 
 pub in_range : (servers : List ServerInit) (gtid : Bool) → IsListed (opening servers gtid) → InRange servers

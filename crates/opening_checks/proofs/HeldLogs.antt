@@ -1,6 +1,5 @@
 -- The logs of sources as they are kept.
-use Rattle.std.proofs.Common.{◌≡◌, ℕ, List, [], ◌∷◌, ◌⊎◌, inl, inr, sym, ap, ◌∙◌, refl, Option, Some, None, suc, zero}
-use Rattle.std.specs.Prelude.{slice_get, slice_set}
+use Rattle.std.proofs.Common.{◌≡◌, ℕ, List, [], ◌∷◌, ◌⊎◌, inl, inr, sym, ap, ◌∙◌, refl, Option, Some, None, suc, zero, slice_get, slice_set}
 use Rattle.opening_checks.proofs.Prelude.{AreLogs, Index, ServerInit, length-set, log_at, same_Some}
 
 no_log : (l : Index) → Some l ≡ None → ⊥

@@ -1,6 +1,5 @@
 -- The table takes a history that it agrees with.
-use Rattle.std.proofs.Common.{◌≡◌, ℕ, ◌+◌, ◌-◌, ◌<◌, ◌≤◌, ◌⊎◌, inl, inr, true, cond, List, [], ◌∷◌, ◌++◌, length, take, drop, refl, sym, ap, subst, ◌∙◌, Some, None, Option, arith, suc, length-append, get_or}
-use Rattle.std.specs.Prelude.{slice_get, slice_set, ◌==◌}
+use Rattle.std.proofs.Common.{◌≡◌, ℕ, ◌+◌, ◌-◌, ◌<◌, ◌≤◌, ◌⊎◌, inl, inr, true, cond, List, [], ◌∷◌, ◌++◌, length, take, drop, refl, sym, ap, subst, ◌∙◌, Some, None, Option, arith, suc, length-append, get_or, slice_get, slice_set, ◌==◌}
 use Rattle.opening_checks.proofs.Prelude.{IsNumbered, Link, StandsAt, Txn, agrees_throughout, alike, before_at, cases_Bool, cases_eq, cases_order, count_own}
 use Rattle.opening_checks.proofs.Prelude.{drop_more, eq-eqb, eqb-false, eqb-true, extended, get-push, get-push_old, get_or-set_other, get_or-set_same}
 use Rattle.opening_checks.proofs.Prelude.{length-set, link_of, links, links_after, ne_eqb, row_at, same_Some, slice_get-get_or, tick}

@@ -1,6 +1,5 @@
 -- One transaction of a history against the table.
-use Rattle.std.proofs.Common.{◌≡◌, ℕ, ◌+◌, ◌<◌, Bool, List, [], length, drop, get_or, sym, ap, ◌∙◌, Some, Option}
-use Rattle.std.specs.Prelude.{◌&&◌}
+use Rattle.std.proofs.Common.{◌≡◌, ℕ, ◌+◌, ◌<◌, Bool, List, [], length, drop, get_or, sym, ap, ◌∙◌, Some, Option, ◌&&◌}
 use Rattle.opening_checks.proofs.Prelude.{Link, Txn, agrees_at, agrees_in, drop_more, get_or_default, link_of, links_after, list_all, row_at}
 use Rattle.opening_checks.proofs.Prelude.{unwrap_or-slice_get}
 

@@ -1,12 +1,10 @@
 -- The table's meaning, as one more server's history joins it; and the origins' counts.
-use Rattle.std.proofs.Common.{◌≡◌, ℕ, ◌+◌, ◌-◌, ◌<◌, ◌⊎◌, inl, inr, Bool, true, false, List, length, refl, sym, ap, subst, ◌∙◌, Some, None, Option, arith, get_or}
-use Rattle.std.specs.Prelude.{◌&&◌, ◌||◌, slice_get, nat_le, is_none, is_some, not, All}
+use Rattle.std.proofs.Common.{◌≡◌, ℕ, ◌+◌, ◌-◌, ◌<◌, ◌⊎◌, inl, inr, Bool, true, false, List, length, refl, sym, ap, subst, ◌∙◌, Some, None, Option, arith, get_or, cond, drop, ◌∷◌, ◌&&◌, ◌||◌, slice_get, nat_le, is_none, is_some, not, All}
 use Rattle.opening_checks.proofs.Prelude.{CountsHome, IsOfServers, IsPart, IsTable, Link, Lists, Part, ServerInit, ServerNo, Txn, agrees_throughout}
 use Rattle.opening_checks.proofs.Prelude.{agrees_with, alike, all_below, before_at, cases_order, count_at, drop_more, false≢true, first_met}
 use Rattle.opening_checks.proofs.Prelude.{get_or_from_slice_get, is_counted, is_home, is_kin, joined-listed, link_of, links, list_all, listed-all, lists_any}
 use Rattle.opening_checks.proofs.Prelude.{listed_history, listed_numbered, not_kin, parts_at, parts_of, root_of, row_at, same_Some, slice_get-get_or, slice_get_within}
 use Rattle.opening_checks.proofs.Prelude.{transactions, with_links}
-use Rattle.std.proofs.Common.{cond, drop, ◌∷◌}
 use Rattle.opening_checks.proofs.KinGrows.{Takes, Takes-all}
 use Rattle.opening_checks.proofs.Kinship.{decides}
 use Rattle.opening_checks.proofs.ListTests.{list_all-same}

@@ -1,6 +1,5 @@
 -- The table decides whether a history agrees with those before it.
-use Rattle.std.proofs.Common.{◌≡◌, ℕ, ◌-◌, ◌<◌, ◌≤◌, inl, inr, true, false, List, refl, sym, ap, subst, ◌∙◌, Some, None, Option, arith}
-use Rattle.std.specs.Prelude.{slice_get, is_some, ◌||◌}
+use Rattle.std.proofs.Common.{◌≡◌, ℕ, ◌-◌, ◌<◌, ◌≤◌, inl, inr, true, false, List, refl, sym, ap, subst, ◌∙◌, Some, None, Option, arith, slice_get, is_some, ◌||◌}
 use Rattle.opening_checks.proofs.Prelude.{IsTable, Link, Lists, ServerInit, ServerNo, Txn, agrees_at, agrees_throughout, agrees_where, agrees_with}
 use Rattle.opening_checks.proofs.Prelude.{alike, all_below, before_at, false≢true, histories_agree, link_of, links, links_agree, listed_history}
 use Rattle.opening_checks.proofs.Prelude.{or_cases, parts_of, row_at}

@@ -1,6 +1,5 @@
 -- The links of a history, by index; when two links say the same; when two histories agree.
-use Rattle.std.proofs.Common.{◌≡◌, ℕ, inl, inr, true, List, [], ◌∷◌, refl, sym, ap, subst, ◌∙◌, Some, None, Option, suc, zero}
-use Rattle.std.specs.Prelude.{◌==◌, not, slice_get}
+use Rattle.std.proofs.Common.{◌≡◌, ℕ, inl, inr, true, List, [], ◌∷◌, refl, sym, ap, subst, ◌∙◌, Some, None, Option, suc, zero, ◌==◌, not, slice_get}
 use Rattle.opening_checks.proofs.Prelude.{Link, Txn, alike, and_from, and_parts, before_at, cases_Bool, eq-eqb, eqb-true, false≢true, histories_agree}
 use Rattle.opening_checks.proofs.Prelude.{link_of, links, links_after, links_agree, list_all, not_from_false, not_from_true, or_cases, or_left}
 use Rattle.opening_checks.proofs.Prelude.{or_right, same_before, same_Some, same_txn}

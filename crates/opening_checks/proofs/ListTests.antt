@@ -1,7 +1,6 @@
 -- Tests of all elements of a list, and of all numbers below one.
 pub use Rattle.openings.proofs.Agreements.{list_all-from_get}
-use Rattle.std.proofs.Common.{◌≡◌, ℕ, ◌<◌, inl, inr, Bool, true, false, List, [], ◌∷◌, refl, sym, ap, subst, ◌∙◌, Some, arith, suc, zero}
-use Rattle.std.specs.Prelude.{◌&&◌, slice_get}
+use Rattle.std.proofs.Common.{◌≡◌, ℕ, ◌<◌, inl, inr, Bool, true, false, List, [], ◌∷◌, refl, sym, ap, subst, ◌∙◌, Some, arith, suc, zero, ◌&&◌, slice_get}
 use Rattle.opening_checks.proofs.Prelude.{all_below, and_from, and_parts, cases_order, list_all, same_Some}
 
 pub same_Bool : (a b : Bool) → (a ≡ true → b ≡ true) → (b ≡ true → a ≡ true) → a ≡ b

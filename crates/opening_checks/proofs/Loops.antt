@@ -1,7 +1,5 @@
 -- Looking for a server above itself, step by step.
-use Rattle.std.proofs.Common.{◌≡◌, ℕ, ◌+◌, ◌-◌, ◌<◌, ap, ◌∙◌, Option, Some, None, arith, suc}
-use Rattle.std.proofs.Common.{true, false}
-use Rattle.std.specs.Prelude.{◌==◌, ◌||◌}
+use Rattle.std.proofs.Common.{◌≡◌, ℕ, ◌+◌, ◌-◌, ◌<◌, ap, ◌∙◌, Option, Some, None, arith, suc, true, false, ◌==◌, ◌||◌}
 use Rattle.opening_checks.proofs.Prelude.{eq-eqb, is_reached, is_reached_on, ne_eqb}
 
 -- one step of the walk that looks for n

@@ -1,6 +1,5 @@
 -- In a listed history each origin's transactions are numbered 1, 2, 3 and so on.
-use Rattle.std.proofs.Common.{◌≡◌, ℕ, ◌+◌, ◌<◌, ◌≤◌, ◌⊎◌, inl, inr, Bool, true, false, List, [], ◌∷◌, ◌++◌, take, refl, sym, ap, ◌∙◌, Some, arith, get_or}
-use Rattle.std.specs.Prelude.{◌==◌, ◌||◌, ◌&&◌, nat_le, slice_get}
+use Rattle.std.proofs.Common.{◌≡◌, ℕ, ◌+◌, ◌<◌, ◌≤◌, ◌⊎◌, inl, inr, Bool, true, false, List, [], ◌∷◌, ◌++◌, take, refl, sym, ap, ◌∙◌, Some, arith, get_or, ◌==◌, ◌||◌, ◌&&◌, nat_le, slice_get}
 use Rattle.opening_checks.proofs.Prelude.{IsNumbered, Part, ServerNo, Txn, cases_eq, count_own, count_own-push, eq-eqb, get_or_from_slice_get, holds}
 use Rattle.opening_checks.proofs.Prelude.{joined_by, list_any-append, listed_history, nat_tests, ne_eqb, next_txn, same_txn, singles}
 use Rattle.opening_checks.proofs.Prelude.{slice_get_within, sum_by-take-le, take-listed, take-take, take_more, tick}

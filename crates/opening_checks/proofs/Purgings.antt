@@ -1,6 +1,5 @@
 -- The first kept file of a server, and the files of its log.
-use Rattle.std.proofs.Common.{◌≡◌, ℕ, ◌≤◌, Bool, true, false, cond, List, Some, ap, sym, ◌∙◌, arith}
-use Rattle.std.specs.Prelude.{nat_lt, slice_get}
+use Rattle.std.proofs.Common.{◌≡◌, ℕ, ◌≤◌, Bool, true, false, cond, List, Some, ap, sym, ◌∙◌, arith, nat_lt, slice_get}
 use Rattle.opening_checks.proofs.Prelude.{BadPlace, FilesGood, ServerInit, bad_flushes, bad_purged, coord_value, flush_value, log_at, log_at-files}
 use Rattle.opening_checks.proofs.Prelude.{nat_tests, or_parts, place_value, value_at, value_in}
 use Rattle.opening_checks.proofs.Prelude.value

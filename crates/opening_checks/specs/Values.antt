@@ -1,11 +1,10 @@
 -- Which value of a server is to blame for a flaw.
 use Rattle.std.specs.Prelude.{ℕ, ◌+◌, not, Bool, nat_lt, if◌then◌else◌, List, [], ◌∷◌, Option, Some, None, slice_get}
-use Rattle.opening_checks.specs.Prelude.{Coord, Flaw, Log, Part, ServerInit, at_server, bad_coords_in, bad_flushes, bad_purged, count_of}
-use Rattle.opening_checks.specs.Prelude.{exec_of, has_place_of, log_at, of_source, parts_of, place, same_cluster}
+use Rattle.opening_checks.specs.Prelude.{Coord, Flaw, Log, Part, ServerInit, at_server, bad_coords_in, bad_flushes, bad_purged, count_of, exec_in}
+use Rattle.opening_checks.specs.Prelude.{exec_of, has_place_of, log_at, of_source, parts_of, place, read_in, same_cluster}
 use Rattle.opening_checks.specs.Prelude.flaw
 use Rattle.opening_checks.specs.declared.fault.FlawedValue.{FlawedValue}
 use Rattle.opening_checks.specs.declared.fault.FlawedValue.TheVariants as value
-use Rattle.openings.specs.Servers.{exec_in, read_in}
 
 abbrev pub elsewhere : List ServerInit → ServerInit → Part → Bool
 elsewhere servers i p = at_server (λ s. not (same_cluster i s)) (slice_get servers p.origin.0)

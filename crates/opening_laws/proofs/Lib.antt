@@ -1,4 +1,4 @@
-mod Prelude
+pub mod Prelude
 pub mod OpeningKin
 pub mod Openings
 pub mod Rooms

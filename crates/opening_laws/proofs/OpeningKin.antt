@@ -1,6 +1,5 @@
 -- The histories of a `Sound` opening agree.
-use Rattle.std.proofs.Common.{◌≡◌, ℕ, ◌+◌, ◌<◌, ◌≤◌, true, List, [], ◌∷◌, ◌++◌, length, take, refl, sym, ◌∙◌, ap, subst, inl, inr, Option, Some, None, arith, zero, suc, add-one}
-use Rattle.std.specs.Prelude.{slice_get, ◌==◌, ◌&&◌, ◌||◌, not}
+use Rattle.std.proofs.Common.{◌≡◌, ℕ, ◌+◌, ◌<◌, ◌≤◌, true, List, [], ◌∷◌, ◌++◌, length, take, refl, sym, ◌∙◌, ap, subst, inl, inr, Option, Some, None, arith, zero, suc, add-one, slice_get, ◌==◌, ◌&&◌, ◌||◌, not}
 use Rattle.opening_laws.proofs.Prelude.{Grounded, IsKin, IsNumbered, IsSound, Root, ServerInit, ServerNo, Txn, Under, agree-get, and_parts, cases_eq}
 use Rattle.opening_laws.proofs.Prelude.{cases_order, count_at, count_of, count_own, count_own-push, count_own-take-le, eq-eqb, eqb-true}
 use Rattle.opening_laws.proofs.Prelude.{histories_agree, history_at, history_numbered, holds-at, length-take, links_after, links_agree}

@@ -1,6 +1,5 @@
 -- Opened worlds are safe.
-use Rattle.std.proofs.Common.{◌≡◌, ℕ, ◌+◌, Bool, true, false, cond, List, [], ◌∷◌, ◌++◌, length, take, refl, sym, ◌∙◌, ap, subst, Option, Some, None, append_assoc, zero, suc, count_by}
-use Rattle.std.specs.Prelude.{◌==◌, slice_get, All}
+use Rattle.std.proofs.Common.{◌≡◌, ℕ, ◌+◌, Bool, true, false, cond, List, [], ◌∷◌, ◌++◌, length, take, refl, sym, ◌∙◌, ap, subst, Option, Some, None, append_assoc, zero, suc, count_by, ◌==◌, slice_get, All}
 use Rattle.opening_laws.proofs.Prelude.{All-head, All-tail, AttachedWell, Coord, HasSize, IsChecked, IsKin, IsSound, IsSource, IsUnder, KeepFiles}
 use Rattle.opening_laws.proofs.Prelude.{KeepsFrom, LaysOut, Log, Opened, Safe, Server, ServerInit, ServerNo, Txn, World, append-nil, count_at}
 use Rattle.opening_laws.proofs.Prelude.{count_under, exec_of, flushed_at, flushed_times, given-opened, histories, history_at, history_of}

@@ -1,6 +1,5 @@
 -- No history of a run from an opening gets full without errant writes.
-use Rattle.std.proofs.Common.{◌≡◌, ℕ, ◌+◌, ◌≤◌, length, take, refl, sym, subst, Some, arith, count_by, sum_by}
-use Rattle.std.specs.Prelude.{slice_get, List}
+use Rattle.std.proofs.Common.{◌≡◌, ℕ, ◌+◌, ◌≤◌, length, take, refl, sym, subst, Some, arith, count_by, sum_by, slice_get, List}
 use Rattle.opening_laws.proofs.Prelude.{AllAllowed, AllFit, AllJoinWell, Exchange, Fits, Fitting, HasFiles, IsChecked, IsNotFull, IsQuiet}
 use Rattle.opening_laws.proofs.Prelude.{LeavesFiles, Opened, Rotate, Server, ServerInit, get_or-le-sum_by, get_or_from_slice_get, given-opened}
 use Rattle.opening_laws.proofs.Prelude.{is_rotate, length-history_at, not_full-files, not_full-run, opened_world, parts_of, room_for, rotate_answer}

@@ -1,6 +1,5 @@
 -- When histories agree: link by link, and both ways.
-use Rattle.std.proofs.Common.{◌≡◌, ℕ, ◌<◌, Bool, true, List, [], ◌∷◌, refl, sym, ◌∙◌, ap, inl, inr, Option, Some, None, arith, ◌&&◌, ◌||◌, zero, suc}
-use Rattle.std.specs.Prelude.{◌==◌, slice_get, not}
+use Rattle.std.proofs.Common.{◌≡◌, ℕ, ◌<◌, Bool, true, List, [], ◌∷◌, refl, sym, ◌∙◌, ap, inl, inr, Option, Some, None, arith, ◌&&◌, ◌||◌, zero, suc, ◌==◌, slice_get, not}
 use Rattle.openings.proofs.Prelude.{Txn, all_below, and_from, and_parts, cases_order, histories_agree, links, links_agree, list_all, nat_tests}
 use Rattle.openings.proofs.Prelude.{same_before, same_Some, same_txn}
 
@@ -34,7 +33,7 @@ agree-from_get a b each =
     list_all-from_get (λ l. list_all (λ k. links_agree k l) (links a)) (links b)
     (λ j l at_b. list_all-from_get (λ k. links_agree k l) (links a) (λ i k at_a. each i j k l at_a at_b))
 
-eqb-swap : (a b : ℕ) → (a == b) ≡ (b == a)
+pub eqb-swap : (a b : ℕ) → (a == b) ≡ (b == a)
 eqb-swap a b = grind (arith, nat_tests)
 
 pub same_txn-swap : (x y : Txn) → same_txn x y ≡ same_txn y x

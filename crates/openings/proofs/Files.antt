@@ -1,6 +1,5 @@
 -- The files of servers' logs.
-use Rattle.std.proofs.Common.{ℕ, ◌+◌, ◌≤◌, Bool, true, false, cond, List, [], ◌∷◌, Option, Some, None, zero, suc, arith}
-use Rattle.std.specs.Prelude.{◌==◌, count_by, nat_le, slice_get}
+use Rattle.std.proofs.Common.{ℕ, ◌+◌, ◌≤◌, Bool, true, false, cond, List, [], ◌∷◌, Option, Some, None, zero, suc, arith, ◌==◌, count_by, nat_le, slice_get}
 use Rattle.openings.proofs.Prelude.{Log, ServerInit, Txn, appended, flush, flushed_at, flushed_times, history_at, laid, laid_after, log_at, log_in}
 use Rattle.openings.proofs.Prelude.{opened, push}
 

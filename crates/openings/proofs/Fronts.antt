@@ -1,6 +1,5 @@
 -- Beginnings of lists, and lists with one more element.
-use Rattle.std.proofs.Common.{◌≡◌, ℕ, ◌+◌, ◌<◌, List, [], ◌∷◌, ◌++◌, length, refl, sym, ap, inl, inr, ◌⊎◌, Some, arith, zero, suc, take}
-use Rattle.std.specs.Prelude.{slice_get}
+use Rattle.std.proofs.Common.{◌≡◌, ℕ, ◌+◌, ◌<◌, List, [], ◌∷◌, ◌++◌, length, refl, sym, ap, inl, inr, ◌⊎◌, Some, arith, zero, suc, take, slice_get}
 use Rattle.openings.proofs.Prelude.{same_Some}
 
 -- an element of a list with one more at its end is an old one or the new one

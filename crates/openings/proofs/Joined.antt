@@ -1,10 +1,8 @@
 -- Histories that transactions join one by one.
-use Rattle.std.proofs.Common.{◌≡◌, ℕ, ◌+◌, ◌-◌, ◌<◌, ◌≤◌, List, [], ◌∷◌, ◌++◌, length, take, replicate, refl, sym, ap, ◌∙◌, arith, suc, zero, length-append, min, drop}
+use Rattle.std.proofs.Common.{◌≡◌, ℕ, ◌+◌, ◌-◌, ◌<◌, ◌≤◌, List, [], ◌∷◌, ◌++◌, length, take, replicate, refl, sym, ap, ◌∙◌, arith, suc, zero, length-append, min, drop, get_or, cond, ◌⊎◌, inl, inr, add-zero, ◌==◌, slice_index, slice_set, Bool}
 use Rattle.openings.proofs.Prelude.{CountsOwn, Part, ServerNo, Txn, cases_eq, count_by-le-length, count_own, drop_all, eq-eqb, get_or-replicate}
 use Rattle.openings.proofs.Prelude.{get_or-set_other, get_or-set_same, joined_by, length-replicate, length-set, listed_history, ne_eqb, next_txn}
 use Rattle.openings.proofs.Prelude.{singles, sum_by_push, take-take, take_all, take_at}
-use Rattle.std.specs.Prelude.{◌==◌, slice_index, slice_set, Bool}
-use Rattle.std.proofs.Common.{get_or, cond, ◌⊎◌, inl, inr, add-zero}
 
 abbrev nil : (X : Type 0) → List X
 nil X = []

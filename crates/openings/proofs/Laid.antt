@@ -1,6 +1,5 @@
 -- A log that is laid in one pass.
-use Rattle.std.proofs.Common.{◌≡◌, ℕ, ◌+◌, ◌<◌, ◌≤◌, true, false, cond, List, [], ◌∷◌, ◌++◌, length, take, drop, refl, sym, ap, ◌∙◌, append_assoc, arith, suc, zero, get_or, subst, inl, inr, length-append}
-use Rattle.std.specs.Prelude.{◌==◌, ◌||◌, nat_le, nat_lt, count_by, All, slice_index_or}
+use Rattle.std.proofs.Common.{◌≡◌, ℕ, ◌+◌, ◌<◌, ◌≤◌, true, false, cond, List, [], ◌∷◌, ◌++◌, length, take, drop, refl, sym, ap, ◌∙◌, append_assoc, arith, suc, zero, get_or, subst, inl, inr, length-append, ◌==◌, ◌||◌, nat_le, nat_lt, count_by, All, slice_index_or}
 use Rattle.openings.proofs.Prelude.{Log, SameBehind, ServerInit, Txn, and_parts, bad_flushes, cases_Bool, cases_lt, cases_order, count_of, drop_all}
 use Rattle.openings.proofs.Prelude.{drop_more, eq-eqb, falls_or_passes, flush, flushed_at, flushed_times, get_or-drop, laid_after, le-leb, leb-true}
 use Rattle.openings.proofs.Prelude.{length-drop, length-take-le, ltb-false, ne_eqb, or_parts, push, rises_from, sum_by-cons, take_all, take_more}

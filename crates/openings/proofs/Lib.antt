@@ -1,4 +1,4 @@
-mod Prelude
+pub mod Prelude
 pub mod Fronts
 pub mod ListedCounts
 pub mod ServerHistories

@@ -1,23 +1,12 @@
 -- Listed histories: how many transactions they have, and which.
-use Rattle.std.proofs.Common.{◌≡◌, ℕ, ◌+◌, ◌<◌, ◌≤◌, List, [], ◌∷◌, ◌++◌, length, replicate, take, refl, sym, subst, inl, inr, Some, All, arith, length-append}
-use Rattle.std.specs.Prelude.{slice_get}
+use Rattle.openings.proofs.Joined.{length-joined_by}
+use Rattle.openings.proofs.Sizes.{length-singles}
+use Rattle.std.proofs.Common.{◌≡◌, ℕ, ◌+◌, ◌<◌, ◌≤◌, List, [], ◌∷◌, ◌++◌, length, replicate, take, refl, sym, subst, inl, inr, Some, All, arith, slice_get}
 use Rattle.openings.proofs.Prelude.{All-append, All-head, All-nil, All-replicate, All-tail, IsPart, Part, ServerNo, Txn, count_own, joined_by}
-use Rattle.openings.proofs.Prelude.{length-replicate, listed_history, next_txn, singles, slice_get_within, sum_by-cons, take-append-le, take_at}
-use Rattle.openings.proofs.Prelude.{transactions}
+use Rattle.openings.proofs.Prelude.{listed_history, next_txn, singles, slice_get_within, take-append-le, take_at, transactions}
 use Rattle.openings.proofs.Fronts.{slice_get-snoc_cases}
 
 -- lengths
-
-length-singles : (ps : List Part) → length (singles ps) ≡ transactions ps
-length-singles [] = refl
-length-singles (p ∷ ps) =
-    let x : ServerNo × ℕ = (p.origin, p.size) in
-    omega (arith, length-append (replicate p.count x) (singles ps), length-replicate p.count x, length-singles ps, sum_by-cons (λ (q : Part). q.count) p ps)
-
-length-joined_by : (done : List Txn) (xs : List (ServerNo × ℕ)) → length (joined_by done xs) ≡ length done + length xs
-length-joined_by done [] = omega arith
-length-joined_by done (x ∷ xs) =
-    omega (arith, length-joined_by (done ++ next_txn done x ∷ []) xs, length-append done (next_txn done x ∷ []))
 
 -- a listed history has as many transactions as its parts
 pub length-listed_history : (ps : List Part) → length (listed_history ps) ≡ transactions ps

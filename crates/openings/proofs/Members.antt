@@ -1,14 +1,7 @@
 -- What is at a place of a longer list.
-use Rattle.std.proofs.Common.{◌≡◌, ℕ, ◌+◌, ◌<◌, List, [], ◌∷◌, ◌++◌, length, take, replicate, refl, sym, ap, ◌∙◌, inl, inr, ◌⊎◌, Some, arith, suc, zero, subst}
-use Rattle.std.specs.Prelude.{slice_get}
+pub use Rattle.openings.proofs.Fronts.{slice_get-snoc_cases as get-push}
+use Rattle.std.proofs.Common.{◌≡◌, ℕ, ◌+◌, ◌<◌, List, [], ◌∷◌, ◌++◌, length, take, replicate, refl, sym, ap, ◌∙◌, inl, inr, ◌⊎◌, Some, arith, suc, zero, subst, slice_get}
 use Rattle.openings.proofs.Prelude.{cases_order, same_Some}
-
--- one element more: an old one at its old place, or the new one at the end
-pub get-push : {X : Type 0} (xs : List X) (y z : X) (k : ℕ) → slice_get (xs ++ y ∷ []) k ≡ Some z → (slice_get xs k ≡ Some z) ⊎ ((k ≡ length xs) × (z ≡ y))
-get-push [] y z zero h = inr (refl, sym (same_Some y z h))
-get-push [] y z (suc k) h = cc
-get-push (x ∷ xs) y z zero h = inl h
-get-push (x ∷ xs) y z (suc k) h = elim (get-push xs y z k h) [ inl old ↦ inl old | inr new ↦ inr (ap suc new.0, new.1) ]
 
 pub get-push_old : {X : Type 0} (xs : List X) (y z : X) (k : ℕ) → slice_get xs k ≡ Some z → slice_get (xs ++ y ∷ []) k ≡ Some z
 get-push_old [] y z k h = cc

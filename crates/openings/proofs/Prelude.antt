@@ -10,12 +10,11 @@ pub use Rattle.std.proofs.lemmas.List.Sums.{count_by-le-length, sum_by-cons, sum
 pub use Rattle.std.proofs.lemmas.Map.Steps.{length-le_from_distinct_below}
 pub use Rattle.std.proofs.lemmas.Option.{get_or_from_slice_get, same_Some, slice_get-get_or, slice_get_within}
 pub use Rattle.std.proofs.lemmas.Result.{IfOk-weaker}
-pub use Rattle.std.proofs.lemmas.Slice.Eq.{slice_eq-Decides}
-pub use Rattle.std.specs.List.{AllByRecursion, list_all, list_any}
+pub use Rattle.std.specs.List.{AllByRecursion}
 unfoldable pub use Rattle.std.specs.List.{IsDistinct}
 pub use Rattle.binlog_coords.specs.Index.{Index}
-pub use Rattle.binlog_coords.specs.Log.{Log, appended, flush, is_at_or_before, is_before, opened, place, push}
-pub use Rattle.binlog_coords.specs.declared.Coord.{Coord}
+pub use Rattle.binlog_coords.specs.Log.{appended}
+pub use Rattle.binlog_coords.specs.OrchBase.Chains.{Root, Under}
 pub use Rattle.openings.specs.Flaws.{at_server, at_source, bad_coords, bad_coords_in, bad_flushes, bad_purged, below_itself, both_given}
 pub use Rattle.openings.specs.Flaws.{falls_or_passes, first_flaw, first_met, flaw_in, flaw_or, flaws, has_place_of, is_reached, is_reached_on}
 pub use Rattle.openings.specs.Flaws.{not_kin, of_source, source_not_logging, too_many}
@@ -24,15 +23,12 @@ pub use Rattle.openings.specs.Laying.{SameBehind, rises_from}
 pub use Rattle.openings.specs.Listed.{joined_by, listed_history, next_txn, singles, transactions}
 pub use Rattle.openings.specs.Logs.{flushed_at, flushed_times, laid, laid_after}
 pub use Rattle.openings.specs.Opening.{IsChecked, IsListed, IsPart, Opened}
+pub use Rattle.openings.specs.Prelude.{Coord, Grounded, Log, ServerNo, Txn, count_own, flush, is_at_or_before, is_before, list_all, list_any, opened}
+pub use Rattle.openings.specs.Prelude.{place, push, same_txn}
 pub use Rattle.openings.specs.Servers.{count_at, count_of, count_under, exec_of, follow_on, history_at, log_at, log_in, number_of, parts_at, parts_of}
 pub use Rattle.openings.specs.Servers.{reached_from, read_of, root_of, source_of, sources}
 pub use Rattle.openings.specs.Sound.{IsSound, IsUnder}
 pub use Rattle.openings.specs.Taking.{CountsOwn, HasSize, PartsInRange}
-pub use Rattle.openings.specs.contracts.part.PartPartialEq.TheImpl.{eq-value}
 pub use Rattle.openings.specs.declared.init.ServerInit.{ServerInit}
 pub use Rattle.openings.specs.declared.opening.Flaw.{Flaw}
 pub use Rattle.openings.specs.declared.part.Part.{Part}
-pub use Rattle.binlog_coords.specs.OrchBase.Chains.{Grounded, Root, Under}
-pub use Rattle.binlog_coords.specs.OrchBase.Histories.{count_own, same_txn}
-pub use Rattle.binlog_coords.specs.OrchBase.declared.server.ServerNo.{ServerNo}
-pub use Rattle.binlog_coords.specs.OrchBase.declared.server.Txn.{Txn}

@@ -1,6 +1,5 @@
 -- If no number comes back to itself, each chain ends.
-use Rattle.std.proofs.Common.{◌≡◌, ℕ, ◌<◌, ◌≤◌, true, false, List, [], ◌∷◌, length, refl, sym, ◌∙◌, ap, subst, inl, inr, ◌⊎◌, Option, Some, None, arith, zero, suc, ◌||◌, eqb}
-use Rattle.std.specs.Prelude.{◌==◌}
+use Rattle.std.proofs.Common.{◌≡◌, ℕ, ◌<◌, ◌≤◌, true, false, List, [], ◌∷◌, length, refl, sym, ◌∙◌, ap, subst, inl, inr, ◌⊎◌, Option, Some, None, arith, zero, suc, ◌||◌, eqb, ◌==◌}
 use Rattle.openings.proofs.Prelude.{AllByRecursion, Grounded, IsDistinct, Root, Under, eq-eqb, eqb-true, follow_on, is_reached, is_reached_on}
 use Rattle.openings.proofs.Prelude.{length-le_from_distinct_below, list_any, ne_eqb, or_cases, or_left, or_right, reached_from}
 

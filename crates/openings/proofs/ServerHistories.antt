@@ -1,6 +1,5 @@
 -- What servers have executed is numbered, and of servers that are there.
-use Rattle.std.proofs.Common.{◌≡◌, ℕ, ◌<◌, List, length, take, refl, Option, Some, None, All, arith}
-use Rattle.std.specs.Prelude.{slice_get}
+use Rattle.std.proofs.Common.{◌≡◌, ℕ, ◌<◌, List, length, take, refl, Option, Some, None, All, arith, slice_get}
 use Rattle.openings.proofs.Prelude.{All-nil, IsListed, IsPart, Opened, ServerInit, Txn, count_at, history_at, listed_history, parts_at, root_of}
 use Rattle.openings.proofs.Prelude.{take-take}
 use Rattle.openings.proofs.Fronts.{slice_get-take, slice_get-take_within}

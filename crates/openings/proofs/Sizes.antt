@@ -1,6 +1,5 @@
 -- What is listed has its sizes, and is of the servers.
-use Rattle.std.proofs.Common.{◌≡◌, ℕ, ◌+◌, ◌<◌, ◌≤◌, List, [], ◌∷◌, ◌++◌, length, take, replicate, refl, sym, subst, ap, ◌∙◌, inl, inr, Some, None, Option, arith, suc, length-append}
-use Rattle.std.specs.Prelude.{slice_get, All, slice_index_or}
+use Rattle.std.proofs.Common.{◌≡◌, ℕ, ◌+◌, ◌<◌, ◌≤◌, List, [], ◌∷◌, ◌++◌, length, take, replicate, refl, sym, subst, ap, ◌∙◌, inl, inr, Some, None, Option, arith, suc, length-append, slice_get, All, slice_index_or}
 use Rattle.openings.proofs.Prelude.{HasSize, IsPart, Part, PartsInRange, ServerInit, ServerNo, Txn, count_at, get_or_from_slice_get, history_at}
 use Rattle.openings.proofs.Prelude.{joined_by, length-replicate, length-take, listed_history, next_txn, parts_at, root_of, singles, slice_get-get_or}
 use Rattle.openings.proofs.Prelude.{slice_get_within, sum_by-cons, take_all, transactions}

@@ -1,6 +1,5 @@
 -- An opening without a flaw is `Sound`.
-use Rattle.std.proofs.Common.{◌≡◌, ℕ, ◌+◌, ◌<◌, ◌≤◌, Bool, true, false, List, [], ◌∷◌, length, take, refl, sym, ◌∙◌, ap, subst, inl, inr, Option, Some, None, arith, zero, suc, ◌||◌, ◌&&◌, cond}
-use Rattle.std.specs.Prelude.{slice_get, is_some, is_none, ◌==◌, nat_lt, not, get_or}
+use Rattle.std.proofs.Common.{◌≡◌, ℕ, ◌+◌, ◌<◌, ◌≤◌, Bool, true, false, List, [], ◌∷◌, length, take, refl, sym, ◌∙◌, ap, subst, inl, inr, Option, Some, None, arith, zero, suc, ◌||◌, ◌&&◌, cond, slice_get, is_some, is_none, ◌==◌, nat_lt, not, get_or}
 use Rattle.openings.proofs.Prelude.{Coord, Flaw, Grounded, IsChecked, IsListed, IsSound, IsUnder, Log, Opened, Part, Root, ServerInit, ServerNo, Txn}
 use Rattle.openings.proofs.Prelude.{Under, agrees_with, all_below, and_parts, at_server, at_source, bad_coords, bad_coords_in, bad_flushes}
 use Rattle.openings.proofs.Prelude.{bad_purged, below_itself, both_given, cases_order, count_at, count_of, count_under, eqb-true, exec_of, first_flaw}
@@ -15,11 +14,11 @@ use Rattle.openings.proofs.Agreements.{list_all-get, all_below-at, agree-swap}
 
 -- no flaw: each test fails at each server
 
-flaw_or-none : (flaw : Flaw) (rest : Option (Flaw × ℕ)) (o : Option ℕ) → flaw_or flaw rest o ≡ None → (o ≡ None) × (rest ≡ None)
+pub flaw_or-none : (flaw : Flaw) (rest : Option (Flaw × ℕ)) (o : Option ℕ) → flaw_or flaw rest o ≡ None → (o ≡ None) × (rest ≡ None)
 flaw_or-none flaw rest None h = (refl, h)
 flaw_or-none flaw rest (Some n) h = cc
 
-never-met : (test : ℕ → ServerInit → Bool) (n : ℕ) (is : List ServerInit) → first_met test n is ≡ None → (j : ℕ) (i : ServerInit) → slice_get is j ≡ Some i → test (n + j) i ≡ false
+pub never-met : (test : ℕ → ServerInit → Bool) (n : ℕ) (is : List ServerInit) → first_met test n is ≡ None → (j : ℕ) (i : ServerInit) → slice_get is j ≡ Some i → test (n + j) i ≡ false
 never-met test n [] none j i h = cc
 never-met test n (x ∷ is) none j i h = go (test n x) refl none j h (λ j. never-met test (n + 1) is)
   where
@@ -30,7 +29,7 @@ never-met test n (x ∷ is) none j i h = go (test n x) refl none j h (λ j. neve
     go false e none zero h further = let here : n + 0 ≡ n = omega arith in rw here (ap (test n) (sym (same_Some x i h)) ∙ e)
     go false e none (suc j) h further = let on : n + suc j ≡ n + 1 + j = omega arith in rw on (further j none j i h)
 
-no-flaw : (servers : List ServerInit) (fs : List (Flaw × (ℕ → ServerInit → Bool))) → first_flaw servers fs ≡ None → (k : ℕ) (f : Flaw × (ℕ → ServerInit → Bool)) → slice_get fs k ≡ Some f → first_met f.1 0 servers ≡ None
+pub no-flaw : (servers : List ServerInit) (fs : List (Flaw × (ℕ → ServerInit → Bool))) → first_flaw servers fs ≡ None → (k : ℕ) (f : Flaw × (ℕ → ServerInit → Bool)) → slice_get fs k ≡ Some f → first_met f.1 0 servers ≡ None
 no-flaw servers [] none k f h = cc
 no-flaw servers (g ∷ fs) none zero f h = ap (λ (x : Flaw × (ℕ → ServerInit → Bool)). first_met x.1 0 servers) (sym (same_Some g f h)) ∙ (flaw_or-none g.0 (first_flaw servers fs) (first_met g.1 0 servers) none).0
 no-flaw servers (g ∷ fs) none (suc k) f h = no-flaw servers fs (flaw_or-none g.0 (first_flaw servers fs) (first_met g.1 0 servers) none).1 k f h

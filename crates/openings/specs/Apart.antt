@@ -1,6 +1,6 @@
 -- When two servers of an opening differ.
 use Rattle.std.specs.Prelude.{◌≡◌, false}
-use Rattle.binlog_coords.specs.OrchBase.Names.{same_name}
+use Rattle.openings.specs.Prelude.{same_name}
 use Rattle.openings.specs.declared.init.ServerInit.{ServerInit}
 
 -- they have different names and UUIDs

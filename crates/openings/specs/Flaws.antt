@@ -1,9 +1,6 @@
 -- The flaws that the servers of a scenario may have, and the first of them.
 use Rattle.std.specs.Prelude.{ℕ, ◌+◌, ◌==◌, ◌&&◌, ◌||◌, not, Bool, false, nat_lt, nat_eq, if◌then◌else◌, List, [], ◌∷◌, length, Option, Some, None, is_some, is_none, slice_get}
-use Rattle.std.specs.List.{list_any}
-use Rattle.std.specs.Cmp.Lexicographic.{pointwise}
-use Rattle.binlog_coords.specs.declared.Coord.{Coord}
-use Rattle.binlog_coords.specs.Log.{Log, place, is_before}
+use Rattle.openings.specs.Prelude.{Coord, Log, is_before, list_any, place, pointwise}
 use Rattle.openings.specs.declared.init.ServerInit.{ServerInit}
 use Rattle.openings.specs.declared.opening.Flaw.{Flaw}
 use Rattle.openings.specs.declared.opening.Flaw.TheVariants as flaw

@@ -1,9 +1,7 @@
 -- Listed histories agree. In all of them a transaction follows the same transaction, or comes first, and has the same
 -- size. Its origin's history has it.
 use Rattle.std.specs.Prelude.{ℕ, ◌==◌, ◌&&◌, ◌||◌, not, Bool, true, false, List, [], ◌∷◌, Option, Some, None, is_some, slice_get, zero, suc}
-use Rattle.std.specs.List.{list_all}
-use Rattle.binlog_coords.specs.OrchBase.declared.server.Txn.{Txn}
-use Rattle.binlog_coords.specs.OrchBase.Histories.{same_txn, holds}
+use Rattle.openings.specs.Prelude.{Txn, holds, list_all, same_txn}
 use Rattle.openings.specs.declared.init.ServerInit.{ServerInit}
 use Rattle.openings.specs.Listed.{listed_history}
 use Rattle.openings.specs.Servers.{parts_of, history_at}

@@ -1,3 +1,4 @@
+pub mod Prelude
 pub mod Listed
 pub mod Logs
 pub mod Servers

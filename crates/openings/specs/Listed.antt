@@ -1,8 +1,6 @@
 -- Histories as lists of parts.
 use Rattle.std.specs.Prelude.{ℕ, ◌+◌, List, [], ◌∷◌, ◌++◌, replicate, sum_by}
-use Rattle.binlog_coords.specs.OrchBase.declared.server.ServerNo.{ServerNo}
-use Rattle.binlog_coords.specs.OrchBase.declared.server.Txn.{Txn}
-use Rattle.binlog_coords.specs.OrchBase.Histories.{count_own}
+use Rattle.openings.specs.Prelude.{ServerNo, Txn, count_own}
 use Rattle.openings.specs.declared.part.Part.{Part}
 
 -- how many transactions the parts have

@@ -1,8 +1,7 @@
 -- How a history lies in a log that was flushed now and then (MySQL 8.0 Reference Manual, "The Binary Log",
 -- "FLUSH BINARY LOGS").
 use Rattle.std.specs.Prelude.{ℕ, ◌+◌, ◌==◌, List, [], ◌∷◌, count_by, zero, suc}
-use Rattle.binlog_coords.specs.Log.{Log, opened, push, flush}
-use Rattle.binlog_coords.specs.OrchBase.declared.server.Txn.{Txn}
+use Rattle.openings.specs.Prelude.{Log, Txn, flush, opened, push}
 
 -- so many new files
 abbrev pub flushed_times : ℕ → Log → Log

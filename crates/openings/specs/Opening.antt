@@ -1,7 +1,6 @@
 -- Openings: the servers of a scenario, within the limits and without a flaw.
 use Rattle.std.specs.Prelude.{◌≡◌, ℕ, ◌*◌, ◌<◌, ◌≤◌, Bool, true, false, List, length, sum_by, All, Some, None, slice_get}
-use Rattle.binlog_coords.specs.OrchBase.declared.server.ServerNo.{ServerNo}
-use Rattle.binlog_coords.specs.OrchBase.Names.{same_name}
+use Rattle.openings.specs.Prelude.{ServerNo, same_name}
 use Rattle.openings.specs.declared.part.Part.{Part}
 use Rattle.openings.specs.declared.init.ServerInit.{ServerInit}
 use Rattle.openings.specs.Listed.{transactions}

@@ -1,9 +1,6 @@
 -- What each server has executed at an opening, and its position.
 use Rattle.std.specs.Prelude.{ℕ, if◌then◌else◌, List, [], take, Option, Some, None, unwrap_or, slice_get, length, zero, suc}
-use Rattle.binlog_coords.specs.declared.Coord.{Coord}
-use Rattle.binlog_coords.specs.Log.{Log, opened, file_start, coord_after}
-use Rattle.binlog_coords.specs.OrchBase.declared.server.ServerNo.{ServerNo}
-use Rattle.binlog_coords.specs.OrchBase.declared.server.Txn.{Txn}
+use Rattle.openings.specs.Prelude.{Coord, Log, ServerNo, Txn, coord_after, file_start, opened}
 use Rattle.openings.specs.declared.init.ServerInit.{ServerInit}
 use Rattle.openings.specs.declared.part.Part.{Part}
 use Rattle.openings.specs.Listed.{transactions, listed_history}

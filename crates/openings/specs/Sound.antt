@@ -1,9 +1,6 @@
 -- What the servers of a checked opening keep to.
 use Rattle.std.specs.Prelude.{◌≡◌, ℕ, ◌≤◌, true, false, List, length, take, Some, None, slice_get}
-use Rattle.binlog_coords.specs.Log.{place, is_at_or_before}
-use Rattle.binlog_coords.specs.OrchBase.Chains.{Grounded}
-use Rattle.binlog_coords.specs.OrchBase.declared.server.ServerNo.{ServerNo}
-use Rattle.binlog_coords.specs.OrchBase.declared.server.Txn.{Txn}
+use Rattle.openings.specs.Prelude.{Grounded, ServerNo, Txn, is_at_or_before, place}
 use Rattle.openings.specs.declared.init.ServerInit.{ServerInit}
 use Rattle.openings.specs.Listed.{listed_history}
 use Rattle.openings.specs.Servers.{sources, parts_of, count_of, history_at, log_at, exec_of, read_of}

@@ -1,7 +1,6 @@
 -- How a history is made from the parts that are listed, transaction by transaction.
 use Rattle.std.specs.Prelude.{◌≡◌, ℕ, ◌<◌, ◌≤◌, List, length, All, Some, slice_get, slice_index}
-use Rattle.binlog_coords.specs.OrchBase.declared.server.Txn.{Txn}
-use Rattle.binlog_coords.specs.OrchBase.Histories.{count_own}
+use Rattle.openings.specs.Prelude.{Txn, count_own}
 use Rattle.openings.specs.declared.init.ServerInit.{ServerInit}
 use Rattle.openings.specs.Listed.{transactions}
 use Rattle.openings.specs.Servers.{parts_of}

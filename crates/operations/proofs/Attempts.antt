@@ -1,6 +1,5 @@
 -- What an operation comes to, in each of its outcomes.
-use Rattle.std.proofs.Common.{◌≡◌, ℕ, ◌+◌, Bool, true, false, cond, List, [], ◌∷◌, refl, sym, ◌∙◌, ap, Option, Some, None, Ok, Err, Result, IfSome}
-use Rattle.std.specs.Prelude.{nat_lt}
+use Rattle.std.proofs.Common.{◌≡◌, ℕ, ◌+◌, Bool, true, false, cond, List, [], ◌∷◌, refl, sym, ◌∙◌, ap, Option, Some, None, Ok, Err, Result, IfSome, nat_lt}
 use Rattle.operations.proofs.Prelude.{Aim, Ask, Attach, AttachAuto, AttachFault, Attached, Attempt, Bridge, Cause, Coord, Crossing, Deed, Detached}
 use Rattle.operations.proofs.Prelude.{Ends, Exchange, Goes, Interval, Job, Line, Match, MatchFault, Moment, Op, Position, ServerNo, SourceState, Spot}
 use Rattle.operations.proofs.Prelude.{Status, Stops, Unreachable, Without, World, after_answer, after_ask, after_attach, after_look, after_match}

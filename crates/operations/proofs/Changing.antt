@@ -1,6 +1,5 @@
 -- A turn changes only servers that the job's operations may change or that are in its hands, and leaves no others.
-use Rattle.std.proofs.Common.{◌≡◌, ℕ, List, [], ◌∷◌, refl, sym, subst, Option, None, IfSome}
-use Rattle.std.specs.Prelude.{◌==◌, not}
+use Rattle.std.proofs.Common.{◌≡◌, ℕ, List, [], ◌∷◌, refl, sym, subst, Option, None, IfSome, ◌==◌, not}
 use Rattle.operations.proofs.Prelude.{All, All-cons, All-filter, All-head, All-map, All-nil, All-push, All-tail, Ask, Attempt, Cause, Deed, Exchange}
 use Rattle.operations.proofs.Prelude.{Job, Moment, Observation, Op, Request, ServerNo, Turned, World, by_deed, by_ops, change_of, deed_of, failed}
 use Rattle.operations.proofs.Prelude.{going, hands_after, next, server_of, settled, turned, without}

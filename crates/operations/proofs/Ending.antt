@@ -1,5 +1,5 @@
 -- A turn ends an operation or is one more wait.
-use Rattle.std.proofs.Common.{◌≡◌, ℕ, ◌+◌, ◌<◌, ◌≤◌, true, false, List, [], ◌∷◌, refl, ◌∙◌, ap, Option, None, arith}
+use Rattle.std.proofs.Common.{◌≡◌, ℕ, ◌+◌, ◌<◌, ◌≤◌, List, [], ◌∷◌, refl, ◌∙◌, ap, Option, None, arith}
 use Rattle.operations.proofs.Prelude.{Attempt, Cause, Deed, Exchange, Job, Moment, MovesOn, Observation, Op, World, by_ops, deed_of, failed}
 use Rattle.operations.proofs.Prelude.{false≢true, going, ltb-true, settled, turned, turns_for}
 use Rattle.operations.proofs.Attempts.{Attempts, attempts}

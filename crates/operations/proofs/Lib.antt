@@ -1,4 +1,4 @@
-mod Prelude
+pub mod Prelude
 pub mod Tests
 pub mod Sets
 pub mod Targets

@@ -1,6 +1,5 @@
 -- What is found in logs that are matched.
-use Rattle.std.proofs.Common.{◌≡◌, ℕ, zero, suc, ◌+◌, ◌<◌, ◌≤◌, Bool, true, false, cond, not, length, refl, sym, ◌∙◌, ap, inl, inr, Option, Some, None, Err, arith}
-use Rattle.std.specs.Prelude.{nat_lt, slice_get}
+use Rattle.std.proofs.Common.{◌≡◌, ℕ, zero, suc, ◌+◌, ◌<◌, ◌≤◌, Bool, true, false, cond, not, length, refl, sym, ◌∙◌, ap, inl, inr, Option, Some, None, Err, arith, nat_lt, slice_get}
 use Rattle.operations.proofs.Prelude.{Server, ServerNo, Txn, World, can_reach, cases_eq, false≢true, first_not, first_unlike, is_mark, is_mark_there}
 use Rattle.operations.proofs.Prelude.{is_same_there, last_below, last_mark, le-ltb, logged_by, ltb-false, match_between, match_logs, match_of}
 use Rattle.operations.proofs.Prelude.{matched_at, matched_behind, matched_from, place_of_mark, purged_len, same_Some, same_txn, server_at}

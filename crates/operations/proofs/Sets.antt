@@ -1,6 +1,5 @@
 -- Whether each GTID of a set is in another.
-use Rattle.std.proofs.Common.{◌≡◌, ℕ, ◌+◌, ◌-◌, ◌<◌, ◌≤◌, Bool, true, false, List, [], ◌∷◌, refl, sym, ◌∙◌, ap, subst, ◌&&◌, ◌||◌, zero, suc, arith}
-use Rattle.std.specs.Prelude.{◌==◌, nat_le, IsTrue}
+use Rattle.std.proofs.Common.{◌≡◌, ℕ, ◌+◌, ◌-◌, ◌<◌, ◌≤◌, Bool, true, false, List, [], ◌∷◌, refl, sym, ◌∙◌, ap, subst, ◌&&◌, ◌||◌, zero, suc, arith, ◌==◌, nat_le, IsTrue}
 use Rattle.operations.proofs.Prelude.{Interval, and_parts, eq-eqb, eqb-true, false≢true, has_all, has_from, holds, is_within, le-leb, leb-true}
 use Rattle.operations.proofs.Prelude.{or_left, spans}
 use Rattle.operations.proofs.Tests.{both, or-right}

@@ -1,6 +1,5 @@
 -- The latest that was seen of each server.
-use Rattle.std.proofs.Common.{◌≡◌, ℕ, Bool, true, false, cond, not, List, [], ◌∷◌, ◌++◌, refl, sym, ◌∙◌, ap, Some, None}
-use Rattle.std.specs.Prelude.{◌==◌}
+use Rattle.std.proofs.Common.{◌≡◌, ℕ, Bool, true, false, cond, not, List, [], ◌∷◌, ◌++◌, refl, sym, ◌∙◌, ap, Some, None, ◌==◌}
 use Rattle.operations.proofs.Prelude.{Position, ServerNo, Sight, eq-eqb, eqb-true, false≢true, ne_eqb, others, seen_of, with_seen}
 
 seen-others : (xs : List Sight) (n : ServerNo) (k : ℕ) → (n.0 ≡ k → ⊥) → seen_of (others xs n) k ≡ seen_of xs k

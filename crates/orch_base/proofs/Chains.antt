@@ -1,6 +1,5 @@
 -- Being reached, in its forms.
-use Rattle.std.proofs.Common.{◌≡◌, ◌∙◌, ℕ, true, eqb, ◌||◌, ◌⊎◌, inl, inr, Option, Some, None, refl, ap, zero, suc}
-use Rattle.std.specs.Prelude.{◌==◌}
+use Rattle.std.proofs.Common.{◌≡◌, ◌∙◌, ℕ, true, eqb, ◌||◌, ◌⊎◌, inl, inr, Option, Some, None, refl, ap, zero, suc, ◌==◌}
 use Rattle.std.proofs.lemmas.Bool.{eq-eqb, eqb-true, or_cases, or_left, or_right, false≢true}
 use Rattle.orch_base.specs.Chains.{Follows, Direct, Further, Reaches, Here, Up, is_reached, is_reached_on}
 

@@ -1,9 +1,7 @@
 -- Names are the same exactly if they are equal.
-use Rattle.std.proofs.lemmas.Bool.{and_parts as both}
-use Rattle.std.proofs.Common.{◌≡◌, true, eqb, refl, sym, subst, eq-eqb}
-use Rattle.std.specs.Prelude.{◌↔◌, nat_eq, IsTrue}
+use Rattle.std.proofs.lemmas.Bool.{and_parts as both, eqb-true}
+use Rattle.std.proofs.Common.{◌≡◌, true, eqb, refl, sym, subst, eq-eqb, ◌↔◌, nat_eq, IsTrue}
 use Rattle.std.specs.Cmp.Lexicographic.{pointwise, same_text, nat_list_eq_equiv}
-use Rattle.std.proofs.lemmas.Bool.{eqb-true}
 use Rattle.orch_base.specs.Names.{HostPort, same_name}
 
 equal : (a b : HostPort) → same_name a b ≡ true → a ≡ b
@@ -13,7 +11,7 @@ equal a b e =
     let ports = eqb-true _ _ parts.1 in
     λ i. record { host = hosts i; port = ports i }
 
-same_as_itself : (a : HostPort) → same_name a a ≡ true
+pub same_as_itself : (a : HostPort) → same_name a a ≡ true
 same_as_itself a = rw (nat_list_eq_equiv.refl a.host) (eq-eqb a.port a.port refl)
 
 pub same_name_tells : (a b : HostPort) → IsTrue (same_name a b) ↔ (a ≡ b)

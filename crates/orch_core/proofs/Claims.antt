@@ -1,6 +1,5 @@
 -- Turns of several orchestrators are turns of one, with the claims as they are left.
-use Rattle.std.proofs.Common.{◌≡◌, ◌∙◌, ℕ, Bool, true, false, List, length, Option, Some, None, refl, sym, ap}
-use Rattle.std.specs.Prelude.{IfSome, if◌then◌else◌}
+use Rattle.std.proofs.Common.{◌≡◌, ◌∙◌, ℕ, Bool, true, false, List, length, Option, Some, None, refl, sym, ap, IfSome, if◌then◌else◌}
 use Rattle.orch_core.proofs.Prelude.{Act, ClaimAnswer, ClaimState, IsAct, IsTurn, Row, State, StepsTo, Turn, act_claimed, act_in, acted_long, acts}
 use Rattle.orch_core.proofs.Prelude.{after_act, after_done, answered_long, asks, changes_of, claimed, done_asks, done_changes, engine, nodes_of}
 use Rattle.orch_core.proofs.Prelude.{passes_to, released_long, step, with_claims}
@@ -11,7 +10,7 @@ use Rattle.orch_core.proofs.Prelude.turn
 
 -- ---- what orchestrator does leaves the claims
 
-act-keeps : (rows : List Row) (s : State) (a : Act) → record (after_act rows s a) { claims = s.claims; last_holder = s.last_holder } ≡ after_act rows s a
+pub act-keeps : (rows : List Row) (s : State) (a : Act) → record (after_act rows s a) { claims = s.claims; last_holder = s.last_holder } ≡ after_act rows s a
 act-keeps rows s (act.PollRead p n) = refl
 act-keeps rows s _ = refl
 

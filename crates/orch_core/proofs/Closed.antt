@@ -1,6 +1,5 @@
 -- The entry that ends with a job's turn.
-use Rattle.std.proofs.Common.{◌≡◌, ◌≢◌, ◌∙◌, ℕ, Bool, true, false, cond, List, refl, sym, ap, subst, Option, Some, None}
-use Rattle.std.specs.Prelude.{◌==◌, IfSome, if◌then◌else◌}
+use Rattle.std.proofs.Common.{◌≡◌, ◌≢◌, ◌∙◌, ℕ, Bool, true, false, cond, List, refl, sym, ap, subst, Option, Some, None, ◌==◌, IfSome, if◌then◌else◌}
 use Rattle.orch_core.proofs.Prelude.{AuditState, BookState, Closing, Ending, Flown, HaveEntries, Hook, IsAudit, IsAudit-map, IsOpenAt, JobStep}
 use Rattle.orch_core.proofs.Prelude.{Moment, Recovery as KeptRecovery, Rise, Unended, World, acked_so, acknowledged_at, closed_by, closing_by}
 use Rattle.orch_core.proofs.Prelude.{closing_for, closing_of, ended, ended_so, ending_of, entry_id, flown, front_hook, front_turn, going-unended}

@@ -6,7 +6,7 @@ use Rattle.orch_core.proofs.Prelude.{Unreachable, allowed, asked, by_hand, comma
 use Rattle.orch_core.proofs.Prelude.{job_by, label_at, leases_by, lines_of, longest_block, ltb-true, next_reading, numbers_of, outcome_by, outcome_of}
 use Rattle.orch_core.proofs.Prelude.{period_by, permitted, question, recovered, recovery-begins, recovery_begins, recovery_begun, recovery_refusal}
 use Rattle.orch_core.proofs.Prelude.{refusal, refusal_by, removal_refusal, route_of, taken_over, takeover-begins, takeover_begins, takeover_refusal}
-use Rattle.orch_core.proofs.Prelude.{told, told-can, told_try, unless_refused, with_told}
+use Rattle.orch_core.proofs.Prelude.{only_lines, told-can, told_try, unless_refused, with_told}
 use Rattle.orch_core.proofs.Prelude.Outcomes.{about as given_or, begun}
 use Rattle.orch_core.proofs.Prelude.TheVariants.{Begins}
 
@@ -19,7 +19,7 @@ pub data IsAskedFor (s : State) (c : Command) : RecoveryBegins → Type 0 where
 
 pub data Comes (s : State) (c : CommandTurn) : Outcome → Type 0 where
   Refused : (r : Refusal) → Comes s c (refusal s.reads r)
-  Told : (lines : List Line) → Comes s c (told s.reads lines)
+  Told : (lines : List Line) → Comes s c (only_lines s.reads lines)
   Discovered : (i : ServerNo) (seen : Seen) → c.command.i ≡ Some i → (next_reading s.world (numbers_of s) i).seen ≡ Some seen
       → Comes s c (discovered s.book s.reads (next_reading s.world (numbers_of s) i) (Some seen))
   Forgotten : (i : ServerNo) → c.command.i ≡ Some i → Comes s c (forgotten s.reads (Ok tt) i)

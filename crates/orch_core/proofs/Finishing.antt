@@ -1,6 +1,5 @@
 -- A job's rounds lead to its end.
-use Rattle.std.proofs.Common.{◌≡◌, ◌∙◌, ℕ, zero, suc, ◌+◌, ◌<◌, ◌≤◌, Bool, true, false, cond, List, [], ◌∷◌, ◌++◌, length, take, refl, sym, ap, subst, Option, Some, None, append_assoc, append-nil, add-one, ltb, arith}
-use Rattle.std.specs.Prelude.{All, not, ◌==◌, is_some, slice_get, if◌then◌else◌}
+use Rattle.std.proofs.Common.{◌≡◌, ◌∙◌, ℕ, zero, suc, ◌+◌, ◌<◌, ◌≤◌, Bool, true, false, cond, List, [], ◌∷◌, ◌++◌, length, take, refl, sym, ap, subst, Option, Some, None, append_assoc, append-nil, add-one, ltb, arith, All, not, ◌==◌, is_some, slice_get, if◌then◌else◌}
 use Rattle.orch_core.proofs.Prelude.{Act, All-append, All-cons, All-head, All-nil, All-tail, FinishedBy, Flown, Held, IsState, IsTurn, IsUnended}
 use Rattle.orch_core.proofs.Prelude.{LeadsTo, Machine, NamesOneOf, Ran, Reply, Row, ServerNo, State, Turn, TurnFault, Unended, WasCutOff, WasCutShort}
 use Rattle.orch_core.proofs.Prelude.{act_asks, act_in, after_act, after_done, after_rounds, after_turns, asks, by_name, done_asks, engine, eq-eqb}

@@ -1,6 +1,5 @@
 -- What recoveries that begin in turn leave of the jobs and the audit.
-use Rattle.std.proofs.Common.{◌≡◌, ℕ, ◌+◌, ◌-◌, ◌<◌, ◌≤◌, ◌^◌, Bool, true, false, List, [], ◌∷◌, ◌++◌, map, refl, sym, ap, subst, Option, arith}
-use Rattle.std.specs.Prelude.{◌==◌, ◌||◌, All, IfSome, fold, is_none}
+use Rattle.std.proofs.Common.{◌≡◌, ℕ, ◌+◌, ◌-◌, ◌<◌, ◌≤◌, ◌^◌, Bool, true, false, List, [], ◌∷◌, ◌++◌, map, refl, sym, ap, subst, Option, arith, ◌==◌, ◌||◌, All, IfSome, fold, is_none}
 use Rattle.orch_core.proofs.Prelude.{All-cons, All-head, All-nil, All-push, All-tail, AuditState, BeginInTurn, Begins, HasRoom, HaveEntries, IsAudit}
 use Rattle.orch_core.proofs.Prelude.{IsAudit-begun, IsListed, IsListOf, IsShaped, IsUnended, MayBegin, Purpose, Recovery as KeptRecovery, Rise}
 use Rattle.orch_core.proofs.Prelude.{Rise-push, ServerNo, Unended, apart-begins, append-nil, audit_after, begun, begun-shaped, eqb-true, false≢true}

@@ -1,4 +1,4 @@
-mod Prelude
+pub mod Prelude
 pub mod Servers
 pub mod Sources
 pub mod Recoveries
@@ -33,7 +33,6 @@ pub use Rattle.knowledge.proofs.OpeningsProofs as OpeningsProofs
 pub use Rattle.knowledge.proofs.OperationsProofs as OperationsProofs
 pub use Rattle.knowledge.proofs.PermissionProofs as PermissionProofs
 pub use Rattle.knowledge.proofs.RecoveryCore as RecoveryCore
-pub use Rattle.knowledge.proofs.RecoveryEnds as RecoveryEnds
 pub use Rattle.knowledge.proofs.RecoveryPlans as RecoveryPlans
 pub use Rattle.knowledge.proofs.ScenariosProofs as ScenariosProofs
 pub use Rattle.knowledge.proofs.ServerModel as ServerModel

@@ -1,6 +1,5 @@
 -- A job's turn leaves the other jobs, and if the job isn't open they are all that is left.
-use Rattle.std.proofs.Common.{◌≡◌, ◌∙◌, ℕ, suc, ◌<◌, ◌≤◌, Bool, true, false, cond, List, [], ◌∷◌, length, refl, sym, ap, Option, Some, None, arith}
-use Rattle.std.specs.Prelude.{◌==◌, is_some, not, if◌then◌else◌}
+use Rattle.std.proofs.Common.{◌≡◌, ◌∙◌, ℕ, suc, ◌<◌, ◌≤◌, Bool, true, false, cond, List, [], ◌∷◌, length, refl, sym, ap, Option, Some, None, arith, ◌==◌, is_some, not, if◌then◌else◌}
 use Rattle.orch_core.proofs.Prelude.{IsState, IsUnended, State, Unended, eq-eqb, false≢true, flown-number, found-number, is_going, is_open, job_at}
 use Rattle.orch_core.proofs.Prelude.{jobs_turned, length-filter_both, next_count, number_of, option_map, ready-of, turn_of, turned_at, with_job}
 use Rattle.orch_core.proofs.Prelude.{without_job}

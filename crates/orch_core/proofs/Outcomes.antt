@@ -1,6 +1,5 @@
 -- What commands change fits the book, and keeps what holds of states.
-use Rattle.std.proofs.Common.{◌≡◌, ◌∙◌, ℕ, ◌+◌, ◌<◌, ◌≤◌, ◌^◌, Bool, true, false, List, [], map, length, refl, sym, ap, subst, Option, Some, None, arith}
-use Rattle.std.specs.Prelude.{All, IfSome, ◌&&◌, is_some, nat_lt, if◌then◌else◌}
+use Rattle.std.proofs.Common.{◌≡◌, ◌∙◌, ℕ, ◌+◌, ◌<◌, ◌≤◌, ◌^◌, Bool, true, false, List, [], map, length, refl, sym, ap, subst, Option, Some, None, arith, All, IfSome, ◌&&◌, is_some, nat_lt, if◌then◌else◌}
 use Rattle.orch_core.proofs.Prelude.{All-append, All-cons, All-map, All-nil, All-push, All-weaker, AuditState, BeginInTime, Begins as RecoveryBegins}
 use Rattle.orch_core.proofs.Prelude.{BookState, CanSettle, CommandTurn, Decided, Decision, Effect, HasSameServers, HaveEntries, Instance, IsAudit}
 use Rattle.orch_core.proofs.Prelude.{IsBook, IsCommand, IsEffect, IsInRange, IsNext, IsState, IsUnended as JobRange, IsUpdate, Keys, Knowledge}

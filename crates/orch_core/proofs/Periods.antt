@@ -1,6 +1,5 @@
 -- Block periods are at most 1,000,000,000 seconds.
-use Rattle.std.proofs.Common.{ℕ, ◌≤◌, Bool, true, false, List, [], ◌∷◌}
-use Rattle.std.specs.Prelude.{All, nat_eq, if◌then◌else◌}
+use Rattle.std.proofs.Common.{ℕ, ◌≤◌, Bool, true, false, List, [], ◌∷◌, All, nat_eq, if◌then◌else◌}
 use Rattle.orch_core.proofs.Prelude.{All-head, All-tail, Block, IsState, ServerNo, State, by_hand, label_at, longest_block, numbers_of, period_by}
 use Rattle.orch_core.proofs.Prelude.{period_in, pointwise}
 

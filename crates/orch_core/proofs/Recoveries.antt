@@ -1,6 +1,5 @@
 -- Recoveries that count began in time, and so the moment to which they raise.
-use Rattle.std.proofs.Common.{◌≡◌, ℕ, ◌≤◌, ◌^◌, Bool, true, false, List, [], ◌∷◌, Option, Some, None, refl, subst, sym, arith}
-use Rattle.std.specs.Prelude.{All, ◌&&◌, filter, map, max, nat_le, if◌then◌else◌}
+use Rattle.std.proofs.Common.{◌≡◌, ℕ, ◌≤◌, ◌^◌, Bool, true, false, List, [], ◌∷◌, Option, Some, None, refl, subst, sym, arith, All, ◌&&◌, filter, map, max, nat_le, if◌then◌else◌}
 use Rattle.orch_core.proofs.Prelude.{All-cons, All-head, All-nil, All-tail, AuditState, IsAudit, IsAudit-map, Moment, Recovery, RecoveryRow, Row}
 use Rattle.orch_core.proofs.Prelude.{acknowledged, acknowledged-block, acknowledged-id, acknowledged_for, are_known, both_true, closed, counted}
 use Rattle.orch_core.proofs.Prelude.{counts, end_or, ended_so, greatest, interrupted, interrupted-block, interrupted-id, is_block_in_range}

@@ -1,6 +1,5 @@
 -- A slot whose reading is stored and leaves it, or stays in it.
-use Rattle.std.proofs.Common.{◌≡◌, ℕ, zero, suc, List, [], ◌∷◌, get_or, Option, None, sym, ap, subst, ◌∙◌, refl}
-use Rattle.std.specs.Prelude.{Result, Ok, Err, OnOk, OnErr, slice_set}
+use Rattle.std.proofs.Common.{◌≡◌, ℕ, zero, suc, List, [], ◌∷◌, get_or, Option, None, sym, ap, subst, ◌∙◌, refl, Result, Ok, Err, OnOk, OnErr, slice_set}
 use Rattle.orch_core.proofs.Prelude.{BookState, IsState, Observation, Reply, State, TurnFault, stored}
 use Rattle.orch_core.proofs.States.{IsState-store}
 

@@ -1,6 +1,5 @@
 -- Each server's source is one of the servers, by the book's definitions.
-use Rattle.std.proofs.Common.{◌≡◌, ℕ, ◌<◌, true, List, length, refl, subst, Some, arith}
-use Rattle.std.specs.Prelude.{All, IfSome, slice_get, nat_lt}
+use Rattle.std.proofs.Common.{◌≡◌, ℕ, ◌<◌, true, List, length, refl, subst, Some, arith, All, IfSome, slice_get, nat_lt}
 use Rattle.orch_core.proofs.Prelude.{AllAllowed, Exchange, HasKnownSource, Server, SourceState, World, are_known, get_or_from_slice_get, nat_tests}
 use Rattle.orch_core.proofs.Prelude.{run, slice_get_within, source_no, source_servers}
 use Rattle.orch_core.proofs.Prelude.model

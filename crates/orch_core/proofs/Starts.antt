@@ -1,6 +1,5 @@
 -- The state with which a scenario's run begins.
-use Rattle.std.proofs.Common.{◌≡◌, ◌∙◌, ℕ, ◌+◌, ◌<◌, ◌≤◌, ◌^◌, Bool, true, false, List, [], ◌∷◌, length, get_or, refl, sym, ap, subst, Option, Some, None, arith}
-use Rattle.std.specs.Prelude.{All, IfSome, IsTrue, ◌&&◌, is_none, nat_lt, slice_index_or, if◌then◌else◌}
+use Rattle.std.proofs.Common.{◌≡◌, ◌∙◌, ℕ, ◌+◌, ◌<◌, ◌≤◌, ◌^◌, Bool, true, false, List, [], ◌∷◌, length, get_or, refl, sym, ap, subst, Option, Some, None, arith, All, IfSome, IsTrue, ◌&&◌, is_none, nat_lt, slice_index_or, if◌then◌else◌}
 use Rattle.orch_core.proofs.Prelude.{All-nil, All-replicate, AreReadWithin, Attached, AuditState, BookState, Candidate, Change, ClaimState}
 use Rattle.orch_core.proofs.Prelude.{Configuration, Detached, Fits, HasKnownSource, HasSameServers, HaveEntries, Instance, IsAudit, IsScenario}
 use Rattle.orch_core.proofs.Prelude.{IsSlot, IsState, IsUnended, Moment, Observation, Rise, Row, Rule, Scenario, Server, ServerNo, Settings, StartsBy}
@@ -30,7 +29,7 @@ Fits-start s = record {
   flush_points = λ k d within. omega (arith, longest-at s.opening.servers k _ (slice_get-get_or s.opening.servers k d within));
 }
 
-below : (m n : ℕ) → m < n → nat_lt m n ≡ true
+pub below : (m n : ℕ) → m < n → nat_lt m n ≡ true
 below m n h = grind arith
 
 -- what is opened has the source that is given

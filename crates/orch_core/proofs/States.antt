@@ -1,6 +1,5 @@
 -- Turns keep what holds of states.
-use Rattle.std.proofs.Common.{◌≡◌, ℕ, ◌+◌, ◌<◌, ◌≤◌, ◌^◌, Bool, true, false, List, [], ◌∷◌, ◌++◌, length, Option, None, Some, refl, sym, ap, subst, ◌∙◌, arith, append-nil}
-use Rattle.std.specs.Prelude.{All, min, IfSome, ◌&&◌, nat_lt, slice_set, fold, map, Ok, Err, if◌then◌else◌}
+use Rattle.std.proofs.Common.{◌≡◌, ℕ, ◌+◌, ◌<◌, ◌≤◌, ◌^◌, Bool, true, false, List, [], ◌∷◌, ◌++◌, length, Option, None, Some, refl, sym, ap, subst, ◌∙◌, arith, append-nil, All, min, IfSome, ◌&&◌, nat_lt, slice_set, fold, map, Ok, Err, if◌then◌else◌}
 use Rattle.orch_core.proofs.Prelude.{All-nil, All-replicate, All-set, AllAllowed, AllJoinWell, AuditState, BookState, Change, HasSameServers}
 use Rattle.orch_core.proofs.Prelude.{HaveEntries, Instance, IsAudit, IsSlot, IsState, IsStep, IsUnended, Moment, Observation, Rise, Row, Server}
 use Rattle.orch_core.proofs.Prelude.{ServerNo, Settings, State, Status, StatusFault, Step, StepsTo, Turn, Unended, World, after_put, after_restart}

@@ -10,8 +10,7 @@ use Rattle.orch_core.proofs.Prelude.{step_reply, stored, turn_by, turn_of, turne
 use Rattle.orch_core.proofs.Prelude.act
 use Rattle.orch_core.proofs.Prelude.jobstep as step
 use Rattle.orch_core.proofs.Prelude.turn
-use Rattle.std.proofs.Common.{◌≡◌, ◌∙◌, ℕ, ◌<◌, ◌^◌, Bool, true, false, List, [], ◌∷◌, ◌++◌, length, get_or, refl, sym, ap, subst, Option, Some, None}
-use Rattle.std.specs.Prelude.{All, IfSome, not, ◌==◌, slice_get, if◌then◌else◌}
+use Rattle.std.proofs.Common.{◌≡◌, ◌∙◌, ℕ, ◌<◌, ◌^◌, Bool, true, false, List, [], ◌∷◌, ◌++◌, length, get_or, refl, sym, ap, subst, Option, Some, None, All, IfSome, not, ◌==◌, slice_get, if◌then◌else◌}
 use Rattle.orch_core.proofs.Closed.{closed_by-begun, closed_by-is, closed_by-next, closing-going, closing-open, entries-turned, flown-entry}
 use Rattle.orch_core.proofs.Recoveries.{HasBegun}
 use Rattle.orch_core.proofs.Sources.{KnowsSources, sources-run}

@@ -20,7 +20,6 @@ pub use Rattle.knowledge.specs.AskingCommands as AskingCommands
 pub use Rattle.knowledge.specs.AuditLog as AuditLog
 pub use Rattle.knowledge.specs.BinlogCoords as BinlogCoords
 pub use Rattle.knowledge.specs.BookCommands as BookCommands
-pub use Rattle.knowledge.specs.BookViews as BookViews
 pub use Rattle.knowledge.specs.CommandOutcomes as CommandOutcomes
 pub use Rattle.knowledge.specs.Commands as Commands
 pub use Rattle.knowledge.specs.FailureAnalysis as FailureAnalysis
@@ -30,18 +29,15 @@ pub use Rattle.knowledge.specs.KeptRows as KeptRows
 pub mod Knowledge
 pub use Rattle.knowledge.specs.MovesCoords as MovesCoords
 pub use Rattle.knowledge.specs.MovesGtid as MovesGtid
-pub use Rattle.knowledge.specs.NameOrder as NameOrder
 pub mod NodeClaims
 pub mod OpeningBook
 pub use Rattle.knowledge.specs.Openings as Openings
 pub use Rattle.knowledge.specs.Operations as Operations
 pub use Rattle.knowledge.specs.OrchBase as OrchBase
 pub use Rattle.knowledge.specs.Permission as Permission
-pub use Rattle.knowledge.specs.PlanParts as PlanParts
 pub use Rattle.knowledge.specs.PromotionRules as PromotionRules
 pub use Rattle.knowledge.specs.PseudoMatch as PseudoMatch
 pub use Rattle.knowledge.specs.RecoveryCore as RecoveryCore
-pub use Rattle.knowledge.specs.RecoveryEnds as RecoveryEnds
 pub use Rattle.knowledge.specs.RecoveryHooks as RecoveryHooks
 pub use Rattle.knowledge.specs.RecoveryPlans as RecoveryPlans
 pub use Rattle.knowledge.specs.Regroup as Regroup

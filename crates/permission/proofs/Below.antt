@@ -1,6 +1,5 @@
 -- Whether a server is below another is a test.
-use Rattle.std.proofs.Common.{◌≡◌, ℕ, ◌<◌, ◌≤◌, Bool, true, false, List, length, refl, sym, ◌∙◌, ap, ◌||◌, ◌+◌, Option, arith, zero, suc}
-use Rattle.std.specs.Prelude.{◌==◌, ◌↔◌, ◌&&◌, IsTrue}
+use Rattle.std.proofs.Common.{◌≡◌, ℕ, ◌<◌, ◌≤◌, Bool, true, false, List, length, refl, sym, ◌∙◌, ap, ◌||◌, ◌+◌, Option, arith, zero, suc, ◌==◌, ◌↔◌, ◌&&◌, IsTrue}
 use Rattle.permission.proofs.Prelude.{Direct, Follows, Further, IsForest, above, eq-eqb, false≢true, is_reached, is_reached_on, level, level-above}
 use Rattle.permission.proofs.Prelude.{level-below, or_left, or_right, reached-follows}
 

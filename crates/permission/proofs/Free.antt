@@ -7,7 +7,7 @@ pub neither : {A : Type 0} (x y : Option A) → option_or x y ≡ None → (x �
 neither None y h = (refl, h)
 neither (Some a) y h = cc
 
-free-by : (k : ServerNo) (o : Option ℕ) → refused_by_lease k o ≡ None → o ≡ None
+pub free-by : (k : ServerNo) (o : Option ℕ) → refused_by_lease k o ≡ None → o ≡ None
 free-by k None h = refl
 free-by k (Some job) h = cc
 

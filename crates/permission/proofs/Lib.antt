@@ -1,4 +1,4 @@
-mod Prelude
+pub mod Prelude
 pub mod Missing
 pub mod Below
 pub mod Within

@@ -1,6 +1,5 @@
 -- The set of what is missing.
-use Rattle.std.proofs.Common.{◌≡◌, ℕ, zero, suc, ◌<◌, ◌≤◌, ◌+◌, ◌-◌, ◌^◌, Bool, true, false, cond, eqb, leb, List, [], ◌∷◌, refl, sym, ◌∙◌, ap, ◌||◌, ◌&&◌, not, arith}
-use Rattle.std.specs.Prelude.{◌==◌, filter, fold, All}
+use Rattle.std.proofs.Common.{◌≡◌, ℕ, zero, suc, ◌<◌, ◌≤◌, ◌+◌, ◌-◌, ◌^◌, Bool, true, false, cond, eqb, leb, List, [], ◌∷◌, refl, sym, ◌∙◌, ap, ◌||◌, ◌&&◌, not, arith, ◌==◌, filter, fold, All}
 use Rattle.permission.proofs.Prelude.{All-append, All-cons, All-filter, All-head, All-tail, Interval, IsInterval, IsSet, IsSet-with_pair, Rises-set}
 use Rattle.permission.proofs.Prelude.{any-filter_same, eqb-true, flat_map, holds, holds-with_pair, largest, list_any, list_any-append, nat_tests}
 use Rattle.permission.proofs.Prelude.{numbers, numbers_missing, numbers_of, own_missing, range_with_len, same_sets_lem, set_with, with_pair}

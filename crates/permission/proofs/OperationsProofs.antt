@@ -3,4 +3,3 @@ pub use Rattle.operations.proofs.Allowing
 pub use Rattle.operations.proofs.Attempts
 pub use Rattle.operations.proofs.Sets
 pub use Rattle.operations.proofs.Sights
-pub use Rattle.operations.proofs.Tests

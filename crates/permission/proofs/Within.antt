@@ -1,9 +1,8 @@
 -- Servers that the book names are its servers, if the instances of a command are.
-use Rattle.std.proofs.Common.{◌≡◌, ◌<◌, true, List, [], ◌∷◌, length, Option, Some, None, arith}
-use Rattle.std.specs.Prelude.{All, IfSome, IsTrue, not}
+use Rattle.std.proofs.Common.{◌≡◌, ◌<◌, true, List, [], ◌∷◌, length, Option, Some, None, arith, All, IfSome, IsTrue, not, option_and_then}
 use Rattle.permission.proofs.Prelude.{All-cons, All-filter, All-nil, Attached, BookState, Detached, IsBook, ServerNo, SourceState, Without, are_known}
 use Rattle.permission.proofs.Prelude.{by_name, by_name-within, instance_at, is_given, is_replica_of, is_within, known-below, nat_tests}
-use Rattle.permission.proofs.Prelude.{option_and_then, option_or, option_to_list, replicas_but, replicas_of, seen_source, siblings_of, siblings_under}
+use Rattle.permission.proofs.Prelude.{option_or, option_to_list, replicas_but, replicas_of, seen_source, siblings_of, siblings_under}
 use Rattle.permission.proofs.Prelude.{source-known, source_above, source_in, source_of, source_servers}
 
 -- the server that is there is one of the book's

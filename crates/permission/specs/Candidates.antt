@@ -1,14 +1,8 @@
 -- Which replicas may be promoted.
 use Rattle.std.specs.Prelude.{Bool, ◌&&◌, not, Option}
-use Rattle.std.specs.List.{list_any}
+use Rattle.permission.specs.Prelude.{BookState, Refusal, ServerNo, World, is_barred, list_any, replicas_of, rule_at}
 use Rattle.operations.specs.OrchBase.declared.server.Moment.{Moment}
-use Rattle.operations.specs.OrchBase.declared.server.ServerNo.{ServerNo}
-use Rattle.operations.specs.Commands.declared.refusal.Refusal.{Refusal}
 use Rattle.operations.specs.Commands.declared.refusal.Refusal.TheVariants.{NoCandidate}
-use Rattle.operations.specs.InstanceKeeper.Book.{BookState, rule_at}
-use Rattle.book_views.specs.Sources.{replicas_of}
-use Rattle.promotion_rules.specs.Choice.{is_barred}
-use Rattle.operations.specs.ServerModel.Worlds.{World}
 use Rattle.permission.specs.Lists.{only_if}
 use Rattle.permission.specs.Views.{has_log, is_valid}
 

@@ -110,6 +110,29 @@ refusal_by w b c check.PurgedSet = first_about (set_purged b) c.moves
 refusal_by w b c check.PseudoOff = Some refusal.PseudoOff
 refusal_by w b c check.MovedNotLogging = first_about (unlogged w) c.moves
 
+-- a check's number is that of the refusal of one that doesn't pass
+abbrev pub check_number : Check → ℕ
+check_number check.SameInstance = 3
+check_number check.Busy = 4
+check_number check.Unreachable = 5
+check_number check.NoSource = 6
+check_number check.NotDetached = 7
+check_number check.AlreadyDetached = 8
+check_number check.OtherCluster = 9
+check_number check.Below = 10
+check_number check.SourceHasNoSource = 11
+check_number check.NotSibling = 12
+check_number check.NotSameLog = 13
+check_number check.DestNotLogging = 14
+check_number check.SameServerId = 15
+check_number check.VersionLower = 16
+check_number check.GtidOff = 17
+check_number check.Errant = 18
+check_number check.PurgedPlace = 30
+check_number check.PurgedSet = 30
+check_number check.PseudoOff = 31
+check_number check.MovedNotLogging = 32
+
 -- the refusal of the first check that doesn't pass; a row has its checks by rising number
 abbrev pub first_refusal : World → BookState → Case → List Check → Option Refusal
 first_refusal w b c row = first_about (refusal_by w b c) row

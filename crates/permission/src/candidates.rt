@@ -1,9 +1,7 @@
 //! Which replicas may be promoted.
 
 ghost use Rattle.std.specs.Prelude.{◌≡◌, IfOk};
-ghost use Rattle.std.specs.List.{list_any};
-ghost use Rattle.operations.specs.InstanceKeeper.Book.{rule_at};
-ghost use Rattle.promotion_rules.specs.Choice.{is_barred};
+ghost use Rattle.permission.specs.Prelude.{is_barred, list_any, rule_at};
 ghost use Rattle.permission.specs.Candidates.{is_candidate, without_candidate};
 
 use crate::book_views::replicas;

@@ -1,28 +1,12 @@
 -- Replicas that are ahead of the chosen one, and how it is found again.
-use Rattle.std.proofs.Common.{◌≡◌, ◌∙◌, Bool, true, false, cond, List, [], ◌∷◌, Option, Some, None, refl, sym, ap}
-use Rattle.std.specs.Prelude.{◌==◌, filter, find}
-use Rattle.std.proofs.lemmas.Bool.{false≢true}
-use Rattle.std.proofs.lemmas.Option.{same_Some}
-use Rattle.run_laws.specs.OrchBase.declared.server.ServerNo.{ServerNo}
-use Rattle.run_laws.specs.ServerModel.Worlds.{World}
-use Rattle.run_laws.specs.RecoveryPlans.Deciding.{stopped_in}
-use Rattle.run_laws.specs.RecoveryPlans.Beginning.{is_takeover}
-use Rattle.run_laws.specs.RecoveryPlans.Taking.{Loss, Fate, lost_on_way, missed_fate, move_fate, spot_by}
-use Rattle.run_laws.specs.RecoveryPlans.Taking as taking
-use Rattle.run_laws.specs.RecoveryPlans.declared.outcome.Stopped.{Stopped}
-use Rattle.run_laws.specs.RecoveryPlans.declared.purpose.Purpose.{Purpose}
-use Rattle.run_laws.specs.RecoveryPlans.declared.purpose.Purpose.TheVariants as purpose
-use Rattle.run_laws.specs.RecoveryPlans.declared.stage.Stage.{Stage}
-use Rattle.run_laws.specs.RecoveryPlans.declared.stage.Stage.TheVariants as stage
-use Rattle.run_laws.specs.RecoveryPlans.declared.task.Way.TheVariants as way
-use Rattle.run_laws.specs.RecoveryPlans.Whys as why
-use Rattle.run_laws.specs.BinlogCoords.declared.Coord.{Coord}
-use Rattle.run_laws.specs.ServerModel.Worlds.{server_at}
-use Rattle.run_laws.specs.RecoveryPlans.declared.why.Miss.{Miss}
-use Rattle.run_laws.specs.RecoveryPlans.declared.why.Miss.TheVariants as miss
-use Rattle.run_laws.specs.RecoveryPlans.declared.why.Why.{Why}
-use Rattle.run_laws.proofs.RecoveryPlans.Choices.{same-no}
-use Rattle.std.proofs.lemmas.Bool.{eqb-true}
+use Rattle.std.proofs.Common.{◌≡◌, ◌∙◌, Bool, true, false, cond, List, [], ◌∷◌, Option, Some, None, refl, sym, ap, ◌==◌, filter, find}
+use Rattle.plan_laws.proofs.Prelude.{Coord, Fate, Loss, Miss, Purpose, ServerNo, Stage, Stopped, Why, World, eqb-true, false≢true, is_takeover}
+use Rattle.plan_laws.proofs.Prelude.{lost_on_way, lost_or_fails, missed_fate, move_fate, same-no, same_Some, stopped_in, why_missed}
+use Rattle.plan_laws.proofs.Prelude.purpose
+use Rattle.plan_laws.proofs.Prelude.stage
+use Rattle.plan_laws.proofs.Prelude.taking
+use Rattle.plan_laws.proofs.Prelude.way
+use Rattle.plan_laws.proofs.Prelude.why
 
 -- of a move by GTIDs
 abbrev pub exec_in : Coord → Stage → Coord
@@ -46,11 +30,11 @@ not-frees w u rest n to exec l = go l
     on-way _ is y = tt
 
     missed : (m : Miss) → NotFrees (missed_fate w u n (way.Auto to exec) m)
-    missed (miss.Unreachable k) = on-way u rest why.unreachable
-    missed miss.Running = on-way u rest (why.moved (spot_by (server_at w n.0)))
-    missed (miss.Interfered was found) = on-way u rest (why.moved found)
-    missed (miss.Purged first) = on-way u rest (why.purged exec)
-    missed _ = tt
+    missed m = by-why (why_missed w n (way.Auto to exec) m)
+      where
+        by-why : (o : Option Why) → NotFrees (lost_or_fails u n o)
+        by-why None = tt
+        by-why (Some y) = on-way u rest y
 
     go : (x : Option Loss) → NotFrees (move_fate w u n (way.Auto to exec) x)
     go None = tt

@@ -1,29 +1,13 @@
 -- Replicas that are handed over to a successor, by their numbers.
-use Rattle.std.proofs.Common.{◌≡◌, ◌∙◌, Bool, true, false, cond, List, [], ◌∷◌, ◌++◌, map, Option, Some, None, refl, sym, ap}
-use Rattle.std.specs.Prelude.{filter, filter_map}
-use Rattle.std.specs.List.{cons_option, flat_map}
-use Rattle.std.specs.Option.{option_or}
-use Rattle.std.proofs.lemmas.Bool.{false≢true}
-use Rattle.std.proofs.lemmas.List.{append-nil}
-use Rattle.std.proofs.lemmas.List.Elements.{filter_map-append}
-use Rattle.std.proofs.lemmas.Option.{same_Some}
-use Rattle.run_laws.specs.InstanceKeeper.Book.{BookState, instance_at}
-use Rattle.run_laws.specs.KeptRows.declared.observation.Instance.{Instance}
-use Rattle.run_laws.specs.Operations.declared.op.Op.{Op}
-use Rattle.run_laws.specs.Operations.declared.op.Op.TheVariants as op
-use Rattle.run_laws.specs.OrchBase.declared.server.ServerNo.{ServerNo}
-use Rattle.run_laws.specs.RecoveryPlans.Deciding.{Ground, expels, releases, why_of}
-use Rattle.run_laws.specs.RecoveryPlans.declared.outcome.LostReplica.{LostReplica}
-use Rattle.run_laws.specs.RecoveryPlans.declared.outcome.Stopped.{Stopped}
-use Rattle.run_laws.specs.RecoveryPlans.declared.purpose.Purpose.TheVariants as purpose
-use Rattle.run_laws.specs.RecoveryPlans.declared.task.Way.{Way}
-use Rattle.run_laws.specs.RecoveryPlans.declared.why.Why.{Why}
-use Rattle.run_laws.specs.RecoveryPlans.Whys as why
-use Rattle.plan_lines.specs.Branches.{handed, handed_over, left, way_of}
-use Rattle.plan_lines.specs.Courses.{Event, Done, event_of, events_of}
-use Rattle.plan_lines.specs.Expected.{expected, expected_at, stopped_of}
-use Rattle.plan_lines.specs.Prelude.{is_valid}
-use Rattle.plan_laws.specs.Followed.{AreApart, steps_below, steps_of, steps_to}
+use Rattle.std.proofs.Common.{◌≡◌, ◌∙◌, Bool, true, false, cond, List, [], ◌∷◌, ◌++◌, map, Option, Some, None, refl, sym, ap, filter, filter_map}
+use Rattle.plan_laws.proofs.Prelude.{AreApart, BookState, Done, Event, Ground, Instance, LostReplica, Op, ServerNo, Stopped, Way, Why, append-nil}
+use Rattle.plan_laws.proofs.Prelude.{cons_option, event_of, events_of, expected, expected_at, expels, false≢true, filter_map-append, flat_map, handed}
+use Rattle.plan_laws.proofs.Prelude.{handed_over, instance_at, is_valid, option_or, releases, same_Some, steps_below, steps_of, steps_to, stopped_of}
+use Rattle.plan_laws.proofs.Prelude.{way_of, why_of}
+use Rattle.plan_laws.proofs.Prelude.Branches.{left}
+use Rattle.plan_laws.proofs.Prelude.op
+use Rattle.plan_laws.proofs.Prelude.purpose
+use Rattle.plan_laws.proofs.Prelude.why
 use Rattle.plan_laws.proofs.Lost.{Found, There, Gone, drained_in, filter-own, gone_in, lost_by, lost_in, no_of, why_in}
 use Rattle.plan_laws.proofs.Scripts.{detach-event, go_events, lost_of, way-events}
 

@@ -1,19 +1,9 @@
 -- A plan's choice has its conditions.
-use Rattle.std.proofs.Common.{◌≡◌, Bool, true, false, cond, List, [], ◌∷◌, Option, Some, None, refl, sym, subst, arith}
-use Rattle.std.specs.Prelude.{All, Contains, filter_map}
-use Rattle.std.specs.List.{cons_option}
-use Rattle.std.proofs.lemmas.Bool.{false≢true}
-use Rattle.std.proofs.lemmas.List.Elements.{All-cons, All-nil, All-weaker, Contains-append_left, Contains-append_right}
-use Rattle.run_laws.specs.OrchBase.declared.server.ServerNo.{ServerNo}
-use Rattle.run_laws.specs.RecoveryPlans.Deciding.{Ground, chosen_of, without_stopped}
-use Rattle.run_laws.specs.RecoveryPlans.declared.means.Means.{Means}
-use Rattle.run_laws.specs.RecoveryPlans.declared.outcome.Stopped.{Stopped}
-use Rattle.run_laws.specs.RecoveryPlans.declared.purpose.Purpose.{Purpose}
-use Rattle.run_laws.specs.RecoveryPlans.declared.purpose.Purpose.TheVariants as purpose
-use Rattle.plan_lines.specs.Branches.{away, choice_lines, chosen_line, gathered, recovery_lines, wins}
-use Rattle.plan_lines.specs.Expected.{all_drained, expected}
-use Rattle.plan_lines.specs.PlanTexts.declared.line.Line.{Line}
-use Rattle.plan_laws.specs.Conditions.{ChoicesHaveTheirConditions, condition}
+use Rattle.std.proofs.Common.{◌≡◌, Bool, true, cond, List, [], ◌∷◌, Option, Some, None, refl, sym, subst, arith, All, Contains, filter_map}
+use Rattle.plan_laws.proofs.Prelude.{All-cons, All-nil, All-weaker, ChoicesHaveTheirConditions, Contains-append_left, Contains-append_right, Ground}
+use Rattle.plan_laws.proofs.Prelude.{Line, Means, Purpose, ServerNo, Stopped, all_drained, away, choice_lines, chosen_line, chosen_of, condition}
+use Rattle.plan_laws.proofs.Prelude.{cons_option, expected, false≢true, gathered, recovery_lines, wins, without_stopped}
+use Rattle.plan_laws.proofs.Prelude.purpose
 
 past : (o : Option Line) (ls : List Line) (l : Line) → Contains ls l → Contains (cons_option o ls) l
 past None ls l there = there

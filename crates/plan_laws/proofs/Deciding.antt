@@ -1,37 +1,13 @@
 -- What the conditions of a plan's choice decide.
-use Rattle.std.proofs.Common.{◌≡◌, ◌∙◌, ◌⊎◌, inl, inr, ℕ, Bool, true, false, cond, not, List, [], ◌∷◌, map, Option, Some, None, refl, sym, ap, subst, arith}
-use Rattle.std.specs.Prelude.{◌==◌, ◌&&◌, ◌||◌, All, Contains, filter, nat_lt}
-use Rattle.std.specs.Ordering.{is_lt, nat_cmp, ordering_reverse, ordering_then}
-use Rattle.std.specs.declared.cmp.Ordering.{Ordering}
-use Rattle.std.specs.declared.cmp.Ordering.TheVariants.{Less, Equal, Greater}
-use Rattle.std.proofs.lemmas.Bool.{false≢true, eq-eqb, eqb-true}
-use Rattle.std.proofs.lemmas.Bool.Decides.{nat_tests}
-use Rattle.std.proofs.lemmas.Cmp.{nat_cmp_total, tied_itself}
-use Rattle.std.proofs.lemmas.List.Elements.{All-cons, All-contains, All-contains_itself, All-head, All-map, All-nil, All-tail, All-weaker}
-use Rattle.std.proofs.lemmas.List.Elements.{Contains-append_cases, Contains-append_right}
-use Rattle.std.proofs.lemmas.Option.{same_Some}
-use Rattle.run_laws.specs.BinlogCoords.Log.{is_before}
-use Rattle.run_laws.specs.BinlogCoords.declared.Coord.{Coord}
-use Rattle.run_laws.specs.InstanceKeeper.Book.{rule_at}
-use Rattle.run_laws.specs.OrchBase.Names.{HostPort}
-use Rattle.run_laws.specs.OrchBase.declared.server.ServerNo.{ServerNo}
-use Rattle.run_laws.specs.RecoveryPlans.Deciding.{Ground, chosen_of, drained_of, follower_of, logs_at, stopped_in}
-use Rattle.run_laws.specs.RecoveryPlans.declared.means.Means.{Means}
-use Rattle.run_laws.specs.RecoveryPlans.declared.outcome.Stopped.{Stopped}
-use Rattle.run_laws.specs.RecoveryPlans.declared.purpose.Purpose.{Purpose}
-use Rattle.run_laws.proofs.RecoveryPlans.Choices.{chosen-may, same-no}
-use Rattle.plan_lines.proofs.PromotionRules.Choosing.{chosen-first, none-chosen}
-use Rattle.plan_lines.proofs.PromotionRules.Orders.{advance_total, nearer_total}
-use Rattle.plan_lines.specs.Branches.{is_no, recovery_lines, wins}
-use Rattle.plan_lines.specs.Expected.{expected}
-use Rattle.plan_lines.specs.PlanTexts.declared.line.Line.{Line}
-use Rattle.plan_lines.specs.PlanTexts.declared.line.Line.TheVariants as line
-use Rattle.plan_lines.specs.PromotionRules.Choice.{advance_order, coord_order, is_barred, is_eligible, most_advanced, nearer_order, rank_order, server_order}
-use Rattle.plan_lines.specs.PromotionRules.Chosen.{IsFirst}
-use Rattle.plan_lines.specs.PromotionRules.declared.drained.Drained.{Drained}
-use Rattle.plan_laws.specs.Conditions.{condition}
-use Rattle.plan_laws.specs.Deciding.{AreAlike, AreMet, ConditionsDecideTheChoice, IsMet}
-use Rattle.plan_laws.specs.Followed.{gathers}
+use Rattle.std.proofs.Common.{◌≡◌, ◌∙◌, ◌⊎◌, inl, inr, ℕ, Bool, true, false, cond, not, List, [], ◌∷◌, map, Option, Some, None, refl, sym, ap, subst, arith, ◌==◌, ◌&&◌, ◌||◌, All, Contains, filter, nat_lt}
+use Rattle.plan_laws.proofs.Prelude.{All-cons, All-contains, All-contains_itself, All-head, All-map, All-nil, All-tail, All-weaker, AreAlike, AreMet}
+use Rattle.plan_laws.proofs.Prelude.{ConditionsDecideTheChoice, Contains-append_cases, Contains-append_right, Coord, Drained, Equal, Greater, Ground}
+use Rattle.plan_laws.proofs.Prelude.{HostPort, IsFirst, IsMet, Less, Line, Means, Ordering, Purpose, ServerNo, Stopped, advance_order, advance_total}
+use Rattle.plan_laws.proofs.Prelude.{chosen-first, chosen-may, chosen_of, condition, coord_order, drained_of, eq-eqb, eqb-true, expected, false≢true}
+use Rattle.plan_laws.proofs.Prelude.{follower_of, gathers, is_barred, is_before, is_eligible, is_lt, is_no, logs_at, most_advanced, nat_cmp}
+use Rattle.plan_laws.proofs.Prelude.{nat_cmp_total, nat_tests, nearer_order, nearer_total, none-chosen, ordering_reverse, ordering_then, rank_order}
+use Rattle.plan_laws.proofs.Prelude.{recovery_lines, rule_at, same-no, same_Some, server_order, stopped_in, tied_itself, wins}
+use Rattle.plan_laws.proofs.Prelude.line
 use Rattle.plan_laws.proofs.Conditions.{choices-have}
 
 -- ---- orders and coordinates

@@ -1,37 +1,18 @@
 -- The drained replicas of an intermediate master are handed over to a successor; and all recoveries and regroups.
-use Rattle.std.proofs.Common.{◌≡◌, ◌∙◌, false, List, [], ◌∷◌, ◌++◌, map, Option, Some, None, refl, sym, ap, subst, append_assoc}
-use Rattle.std.specs.Prelude.{filter, filter_map}
-use Rattle.std.specs.List.{cons_option}
-use Rattle.std.specs.Option.{option_map}
-use Rattle.std.proofs.lemmas.Bool.{false≢true}
-use Rattle.std.proofs.lemmas.List.{append-nil}
-use Rattle.std.proofs.lemmas.List.Elements.{All-head, All-tail, filter_map-append}
-use Rattle.run_laws.specs.Operations.Jobs.{Job, job_with}
-use Rattle.run_laws.specs.Operations.declared.op.Op.{Op}
-use Rattle.run_laws.specs.Operations.declared.op.Op.TheVariants as op
-use Rattle.run_laws.specs.OrchBase.declared.server.ServerNo.{ServerNo}
-use Rattle.run_laws.specs.RecoveryPlans.Deciding.{Ground, expels, once, releases}
-use Rattle.run_laws.specs.RecoveryPlans.Deciding.{hand, hand_by, way_below, why_of}
-use Rattle.run_laws.specs.RecoveryPlans.Recoveries.{Recovery, loses}
-use Rattle.run_laws.specs.RecoveryPlans.Stages.{target, with_way}
-use Rattle.run_laws.specs.RecoveryPlans.declared.means.Means.{Means}
-use Rattle.run_laws.specs.RecoveryPlans.declared.outcome.Follower.{Follower}
-use Rattle.run_laws.specs.RecoveryPlans.declared.outcome.LostReplica.{LostReplica}
-use Rattle.run_laws.specs.RecoveryPlans.declared.outcome.Stopped.{Stopped}
-use Rattle.run_laws.specs.RecoveryPlans.declared.purpose.Purpose.TheVariants as purpose
-use Rattle.run_laws.specs.RecoveryPlans.declared.stage.Stage.TheVariants as stage
-use Rattle.run_laws.specs.RecoveryPlans.declared.task.Task.{Task}
-use Rattle.run_laws.specs.RecoveryPlans.declared.task.Task.TheVariants as task
-use Rattle.run_laws.specs.RecoveryPlans.declared.task.Way.{Way}
-use Rattle.run_laws.specs.RecoveryPlans.declared.task.Way.TheVariants as way
-use Rattle.run_laws.specs.RecoveryPlans.Whys as why
-use Rattle.plan_lines.specs.Branches.{gathered, handed_over}
-use Rattle.plan_lines.specs.Courses.{Event, Done, Place, event_of, events_of, ground_at}
-use Rattle.plan_lines.specs.Expected.{all_drained, expected}
-use Rattle.plan_laws.specs.Followed.{AreApart, GoesAsPlanned, IsAsPlanned, RecoveriesFollowTheirPlans, steps_of, steps_to}
+use Rattle.std.proofs.Common.{◌≡◌, ◌∙◌, false, List, [], ◌∷◌, ◌++◌, map, Option, Some, None, refl, sym, ap, subst, append_assoc, filter, filter_map}
+use Rattle.plan_laws.proofs.Prelude.{All-head, All-tail, AreApart, Done, Event, Follower, GoesAsPlanned, Ground, IsAsPlanned, Job, LostReplica, Means}
+use Rattle.plan_laws.proofs.Prelude.{Op, Place, RecoveriesFollowTheirPlans, Recovery, ServerNo, Stopped, Task, Way, all_drained, append-nil}
+use Rattle.plan_laws.proofs.Prelude.{cons_option, event_of, events_of, expected, expels, false≢true, filter_map-append, gathered, ground_at, hand}
+use Rattle.plan_laws.proofs.Prelude.{hand_by, handed_over, job_with, left, loses, once, option_map, releases, steps_of, steps_to, target, way_below}
+use Rattle.plan_laws.proofs.Prelude.{why_of, with_way}
+use Rattle.plan_laws.proofs.Prelude.op
+use Rattle.plan_laws.proofs.Prelude.purpose
+use Rattle.plan_laws.proofs.Prelude.stage
+use Rattle.plan_laws.proofs.Prelude.task
+use Rattle.plan_laws.proofs.Prelude.way
+use Rattle.plan_laws.proofs.Prelude.why
 use Rattle.plan_laws.proofs.Lost.{Found, drained_in, gone_in, lost_by, no_of}
 use Rattle.plan_laws.proofs.Meeting.{decides}
-use Rattle.plan_lines.proofs.Peeling.{left}
 use Rattle.plan_laws.proofs.Below.{below_events, behind_by, left-detached, left_nos, none-started, not_handed, numbers, told-below}
 use Rattle.plan_laws.proofs.Scripts.{go_events, goes}
 use Rattle.plan_laws.proofs.Steps.{Ends, does}

@@ -1,11 +1,6 @@
 -- A job that joins those with lower numbers is found by its own.
-use Rattle.std.proofs.Common.{◌≡◌, ◌∙◌, ℕ, ◌<◌, ◌≤◌, Bool, false, cond, List, [], ◌∷◌, ◌++◌, Some, None, ap, arith}
-use Rattle.std.specs.Prelude.{◌==◌}
-use Rattle.std.proofs.lemmas.Bool.{eq-eqb}
-use Rattle.run_laws.specs.UnendedJobs.declared.unended.Unended.{Unended}
-use Rattle.run_laws.specs.UnendedJobs.Unended.{number_of}
-use Rattle.run_laws.specs.UnendedJobs.Jobs.{Rise, job_at}
-use Rattle.run_laws.proofs.UnendedJobs.Numbers.{Rise-within}
+use Rattle.std.proofs.Common.{◌≡◌, ◌∙◌, ℕ, ◌<◌, ◌≤◌, Bool, false, cond, List, [], ◌∷◌, ◌++◌, Some, None, ap, arith, ◌==◌}
+use Rattle.plan_laws.proofs.Prelude.{Rise, Rise-within, Unended, eq-eqb, job_at, number_of}
 
 lower : (a b high : ℕ) → a ≤ high → high < b → (a == b) ≡ false
 lower a b high within beyond = grind arith

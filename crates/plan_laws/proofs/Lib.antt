@@ -1,3 +1,4 @@
+mod Prelude
 mod Barred
 mod Below
 mod Conditions

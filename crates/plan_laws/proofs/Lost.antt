@@ -1,18 +1,7 @@
 -- Which reason a list of losses gives for each replica, if no server is named twice.
-use Rattle.std.proofs.Common.{◌≡◌, ◌∙◌, ℕ, Bool, true, false, cond, List, [], ◌∷◌, ◌++◌, map, Option, Some, None, refl, sym, ap, subst, arith}
-use Rattle.std.specs.Prelude.{◌==◌, All, filter, filter_map, find}
-use Rattle.std.specs.List.{cons_option}
-use Rattle.std.specs.Option.{option_map, option_or}
-use Rattle.std.proofs.lemmas.Option.{same_Some}
-use Rattle.std.proofs.lemmas.Bool.{eq-eqb}
-use Rattle.std.proofs.lemmas.List.Elements.{All-cons, All-head, All-nil, All-tail}
-use Rattle.std.proofs.lemmas.List.Folds.{find-append}
-use Rattle.run_laws.specs.OrchBase.declared.server.ServerNo.{ServerNo}
-use Rattle.run_laws.specs.RecoveryPlans.Deciding.{why_of}
-use Rattle.run_laws.specs.RecoveryPlans.declared.outcome.LostReplica.{LostReplica}
-use Rattle.run_laws.specs.RecoveryPlans.declared.outcome.Stopped.{Stopped}
-use Rattle.run_laws.specs.RecoveryPlans.declared.why.Why.{Why}
-use Rattle.plan_laws.specs.Followed.{AreApart, gone}
+use Rattle.std.proofs.Common.{◌≡◌, ◌∙◌, ℕ, Bool, true, false, cond, List, [], ◌∷◌, ◌++◌, map, Option, Some, None, refl, sym, ap, subst, arith, ◌==◌, All, filter, filter_map, find}
+use Rattle.plan_laws.proofs.Prelude.{All-cons, All-head, All-nil, All-tail, AreApart, LostReplica, ServerNo, Stopped, Why, cons_option, eq-eqb}
+use Rattle.plan_laws.proofs.Prelude.{find-append, gone, option_map, option_or, same_Some, why_of}
 
 -- a replica that was to be drained: it is, or it wasn't reached
 pub data Found : Type 0 where

@@ -1,23 +1,11 @@
 -- The first operation of a recovery's turns: it is done, or missed.
 use Rattle.std.proofs.Common.{◌≡◌, ◌∙◌, ◌⊎◌, inl, inr, true, false, not, List, [], ◌∷◌, ◌++◌, map, Option, refl, sym, ap, subst}
-use Rattle.std.proofs.lemmas.Bool.{and_parts, not-true}
-use Rattle.run_laws.specs.Commands.declared.cause.Cause.{Cause}
-use Rattle.run_laws.specs.Commands.declared.line.Line.{Line as Told}
-use Rattle.run_laws.specs.KeptRows.declared.observation.Observation.{Observation}
-use Rattle.run_laws.specs.Operations.Deeds.{deed_of}
-use Rattle.run_laws.specs.Operations.Jobs.{Job}
-use Rattle.run_laws.specs.Operations.declared.op.Op.{Op}
-use Rattle.run_laws.specs.Operations.declared.op.Op.TheVariants as op
-use Rattle.run_laws.specs.RecoveryPlans.Moves.{Does, Stops}
-use Rattle.run_laws.specs.RecoveryPlans.Recoveries.{Recovery}
-use Rattle.run_laws.specs.ServerModel.Run.{Exchange}
-use Rattle.run_laws.specs.RecoveryPlans.Stages.{ends}
-use Rattle.run_laws.specs.RecoveryPlans.Taking.{fate, is_waiting, met, progressed, settled}
-use Rattle.run_laws.specs.RecoveryEnds.Shapes.{are_still}
-use Rattle.run_laws.proofs.RecoveryEnds.Shapes.{Went, WentOn, deed-went, same-head, same-tail}
-use Rattle.plan_lines.specs.Courses.{Course, Event, Done, Missed, Place, after, set_out}
-use Rattle.plan_lines.specs.Courses as course
-use Rattle.plan_lines.proofs.Peeling.{goes-not, left, not-finish, same-left, stays, stopped-after, went-after}
+use Rattle.plan_laws.proofs.Prelude.{Cause, Course, Does, Done, Event, Exchange, Job, Missed, Observation, Op, Place, Recovery, Stops, Went, WentOn}
+use Rattle.plan_laws.proofs.Prelude.{after, and_parts, are_still, deed-went, deed_of, ends, fate, goes-not, is_waiting, left, met, not-finish}
+use Rattle.plan_laws.proofs.Prelude.{not-true, progressed, same-head, same-left, same-tail, set_out, settled, stays, stopped-after, went-after}
+use Rattle.plan_laws.proofs.Prelude.RunLaws.{Line as Told}
+use Rattle.plan_laws.proofs.Prelude.course
+use Rattle.plan_laws.proofs.Prelude.op
 
 -- ---- a turn's recovery
 

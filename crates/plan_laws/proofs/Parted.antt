@@ -1,24 +1,14 @@
 -- Those whom a choice loses are detached, or started again: who they are, in their order.
-use Rattle.std.proofs.Common.{◌≡◌, ◌∙◌, Bool, true, false, cond, not, List, [], ◌∷◌, ◌++◌, map, Option, Some, None, refl, sym, ap}
-use Rattle.std.specs.Prelude.{◌==◌, filter, filter_map}
-use Rattle.std.specs.List.{cons_option}
-use Rattle.std.specs.Option.{option_map, option_or}
-use Rattle.std.proofs.lemmas.Bool.{false≢true}
-use Rattle.run_laws.specs.BinlogCoords.Log.{is_before}
-use Rattle.run_laws.specs.Operations.declared.op.Op.TheVariants as op
-use Rattle.run_laws.specs.OrchBase.declared.server.ServerNo.{ServerNo}
-use Rattle.run_laws.specs.RecoveryPlans.Deciding.{Lot, care_of, expels, losses_in, releases, stay_of, why_of, without_stopped}
-use Rattle.run_laws.specs.RecoveryPlans.Deciding as lot
-use Rattle.run_laws.specs.RecoveryPlans.declared.outcome.LostReplica.{LostReplica}
-use Rattle.run_laws.specs.RecoveryPlans.declared.outcome.Stopped.{Stopped}
-use Rattle.run_laws.specs.RecoveryPlans.declared.purpose.Purpose.{Purpose}
-use Rattle.run_laws.specs.RecoveryPlans.declared.purpose.Purpose.TheVariants as purpose
-use Rattle.run_laws.specs.RecoveryPlans.declared.task.Way.TheVariants as way
-use Rattle.run_laws.specs.RecoveryPlans.declared.why.Why.{Why}
-use Rattle.run_laws.specs.RecoveryPlans.Whys as whys
-use Rattle.plan_lines.specs.Branches.{is_refused}
-use Rattle.plan_laws.specs.Followed.{AreApart, fork_of, gathers, gone}
-use Rattle.plan_laws.specs.Followed as path
+use Rattle.std.proofs.Common.{◌≡◌, ◌∙◌, Bool, true, false, cond, not, List, [], ◌∷◌, ◌++◌, map, Option, Some, None, refl, sym, ap, ◌==◌, filter, filter_map}
+use Rattle.plan_laws.proofs.Prelude.{AreApart, LostReplica, Lot, Purpose, ServerNo, Stopped, Why, care_of, cons_option, expels, false≢true, fork_of}
+use Rattle.plan_laws.proofs.Prelude.{gathers, gone, is_before, is_refused, losses_in, option_map, option_or, releases, stay_of, why_of}
+use Rattle.plan_laws.proofs.Prelude.{without_stopped}
+use Rattle.plan_laws.proofs.Prelude.lot
+use Rattle.plan_laws.proofs.Prelude.op
+use Rattle.plan_laws.proofs.Prelude.path
+use Rattle.plan_laws.proofs.Prelude.purpose
+use Rattle.plan_laws.proofs.Prelude.way
+use Rattle.plan_laws.proofs.Prelude.why as whys
 use Rattle.plan_laws.proofs.Lost.{Found, There, Gone, drained_in, filter-own, gone_in, lost_by, lost_in, no_of, why_in}
 use Rattle.plan_laws.proofs.Scripts.{Parts, StaysApart, forks, loser_of, stays}
 

@@ -1,40 +1,20 @@
 -- What the lines of a branch say that turns do.
-use Rattle.std.proofs.Common.{◌≡◌, ◌∙◌, Bool, true, false, cond, List, [], ◌∷◌, ◌++◌, map, Option, Some, None, refl, sym, ap}
-use Rattle.std.specs.Prelude.{filter_map}
-use Rattle.std.specs.List.{cons_option, flat_map}
-use Rattle.std.proofs.lemmas.Bool.{false≢true}
-use Rattle.std.proofs.lemmas.List.Elements.{filter_map-append}
-use Rattle.run_laws.specs.BinlogCoords.Log.{is_before, same_coord}
-use Rattle.run_laws.specs.InstanceKeeper.Book.{BookState}
-use Rattle.run_laws.specs.Operations.declared.op.Op.{Op}
-use Rattle.run_laws.specs.Operations.declared.op.Op.TheVariants as op
-use Rattle.run_laws.specs.OrchBase.declared.server.ServerNo.{ServerNo}
-use Rattle.run_laws.specs.PromotionRules.declared.groups.Group.{Group}
-use Rattle.run_laws.specs.PromotionRules.declared.groups.Group.TheVariants as group
-use Rattle.run_laws.specs.PromotionRules.Groups.{group_of}
-use Rattle.run_laws.specs.RecoveryPlans.Deciding.{Care, Ground, Lot, better_of, care_of, lot_by, lot_by_group, own_end_of}
-use Rattle.run_laws.specs.RecoveryPlans.Deciding as lot
-use Rattle.run_laws.specs.RecoveryPlans.Stages.{level}
-use Rattle.run_laws.specs.RecoveryPlans.declared.means.Means.{Means}
-use Rattle.run_laws.specs.RecoveryPlans.declared.means.Means.TheVariants as means
-use Rattle.run_laws.specs.RecoveryPlans.declared.outcome.Follower.{Follower}
-use Rattle.run_laws.specs.RecoveryPlans.declared.outcome.Stopped.{Stopped}
-use Rattle.run_laws.specs.RecoveryPlans.declared.purpose.Purpose.{Purpose}
-use Rattle.run_laws.specs.RecoveryPlans.declared.purpose.Purpose.TheVariants as purpose
-use Rattle.run_laws.specs.RecoveryPlans.declared.task.Way.{Way}
-use Rattle.run_laws.specs.RecoveryPlans.declared.task.Way.TheVariants as way
-use Rattle.run_laws.specs.RecoveryPlans.declared.why.Why.{Why}
-use Rattle.run_laws.specs.RecoveryPlans.Whys as whys
-use Rattle.plan_lines.specs.PlanTexts.declared.line.Apart.TheVariants as apart
-use Rattle.plan_lines.specs.PlanTexts.declared.line.Line.{Line}
-use Rattle.plan_lines.specs.PlanTexts.declared.line.Line.TheVariants as line
-use Rattle.plan_lines.specs.Branches.{chosen_line, chosen_lines, crowned, detach_line, follower_in, last_lines, lot_lines, lot_told, parted, way_lines, wins}
-use Rattle.plan_lines.specs.Straight.{attached_as}
-use Rattle.plan_lines.specs.Prelude.{is_auto}
-use Rattle.plan_lines.specs.Courses.{Event, Done, Missed, event_of, events_of}
-use Rattle.plan_lines.specs.Pieces.{as_told}
-use Rattle.plan_laws.specs.Followed.{Fork, Path, fork_of, gathers, steps_of}
-use Rattle.plan_laws.specs.Followed as path
+use Rattle.std.proofs.Common.{◌≡◌, ◌∙◌, Bool, true, false, cond, List, [], ◌∷◌, ◌++◌, map, Option, Some, None, refl, sym, ap, filter_map}
+use Rattle.plan_laws.proofs.Prelude.{BookState, Care, Done, Event, Follower, Fork, Ground, Group, Line, Lot, Means, Missed, Op, Path, Purpose}
+use Rattle.plan_laws.proofs.Prelude.{ServerNo, Stopped, Way, Why, as_told, attached_as, better_of, care_of, chosen_line, chosen_lines, cons_option}
+use Rattle.plan_laws.proofs.Prelude.{crowned, detach_line, event_of, events_of, false≢true, filter_map-append, flat_map, follower_in, fork_of}
+use Rattle.plan_laws.proofs.Prelude.{gathers, group_of, is_auto, is_before, last_lines, level, lot_by, lot_by_group, lot_lines, lot_told, own_end_of}
+use Rattle.plan_laws.proofs.Prelude.{parted, same_coord, steps_of, way_lines, wins}
+use Rattle.plan_laws.proofs.Prelude.apart
+use Rattle.plan_laws.proofs.Prelude.group
+use Rattle.plan_laws.proofs.Prelude.line
+use Rattle.plan_laws.proofs.Prelude.lot
+use Rattle.plan_laws.proofs.Prelude.means
+use Rattle.plan_laws.proofs.Prelude.op
+use Rattle.plan_laws.proofs.Prelude.path
+use Rattle.plan_laws.proofs.Prelude.purpose
+use Rattle.plan_laws.proofs.Prelude.way
+use Rattle.plan_laws.proofs.Prelude.why as whys
 
 -- ---- what turns do in a branch
 

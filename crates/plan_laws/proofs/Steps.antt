@@ -1,26 +1,13 @@
 -- Single turns, and what comes after them.
 use Rattle.std.proofs.Common.{◌≡◌, ◌∙◌, inl, inr, Bool, true, false, List, [], ◌∷◌, ◌++◌, map, None, refl, sym, ap, append_assoc}
-use Rattle.std.proofs.lemmas.Bool.{false≢true}
-use Rattle.run_laws.specs.Commands.declared.line.Line.{Line as Told}
-use Rattle.run_laws.specs.InstanceKeeper.Book.{BookState}
-use Rattle.run_laws.specs.Operations.Jobs.{Job}
-use Rattle.run_laws.specs.Operations.declared.op.Op.{Op}
-use Rattle.run_laws.specs.Operations.declared.op.Op.TheVariants as op
-use Rattle.run_laws.specs.OrchBase.declared.server.ServerNo.{ServerNo}
-use Rattle.run_laws.specs.RecoveryPlans.Beginning.{is_takeover}
-use Rattle.run_laws.specs.RecoveryPlans.Recoveries.{Recovery}
-use Rattle.run_laws.specs.RecoveryPlans.Taking.{progressed}
-use Rattle.run_laws.specs.RecoveryPlans.declared.purpose.Purpose.{Purpose}
-use Rattle.run_laws.specs.RecoveryPlans.declared.purpose.Purpose.TheVariants as purpose
-use Rattle.run_laws.specs.RecoveryPlans.declared.stage.Stage.{Stage}
-use Rattle.run_laws.specs.RecoveryPlans.declared.stage.Stage.TheVariants as stage
-use Rattle.run_laws.specs.RecoveryPlans.declared.task.Task.{Task}
-use Rattle.run_laws.specs.RecoveryPlans.declared.task.Task.TheVariants as task
-use Rattle.run_laws.specs.RecoveryEnds.Shapes.{are_still}
-use Rattle.plan_lines.specs.Courses.{Course, Event, Done, Missed, Place}
-use Rattle.plan_laws.specs.Followed.{GoesAsPlanned, IsMissed, gathers}
+use Rattle.plan_laws.proofs.Prelude.{BookState, Course, Done, Event, GoesAsPlanned, IsMissed, Job, Missed, Op, Place, Purpose, Recovery, ServerNo}
+use Rattle.plan_laws.proofs.Prelude.{Stage, Task, are_still, false≢true, gathers, is_takeover, left, progressed}
+use Rattle.plan_laws.proofs.Prelude.RunLaws.{Line as Told}
+use Rattle.plan_laws.proofs.Prelude.op
+use Rattle.plan_laws.proofs.Prelude.purpose
+use Rattle.plan_laws.proofs.Prelude.stage
+use Rattle.plan_laws.proofs.Prelude.task
 use Rattle.plan_laws.proofs.Meeting.{done-first, last-of, walk-on}
-use Rattle.plan_lines.proofs.Peeling.{left}
 use Rattle.plan_laws.proofs.Parted.{detached, started}
 use Rattle.plan_laws.proofs.Scripts.{goes}
 

@@ -1,24 +1,12 @@
 -- What is printed is the job that the command begins.
 use Rattle.std.proofs.Common.{◌≡◌, ◌∙◌, ◌+◌, List, [], Option, Some, ap, arith}
-use Rattle.std.specs.Option.{unwrap_or}
-use Rattle.run_laws.specs.OrchBase.Names.{HostPort}
-use Rattle.run_laws.specs.OrchBase.declared.server.ServerNo.{ServerNo}
-use Rattle.run_laws.specs.Commands.declared.turn.CommandTurn.{CommandTurn}
-use Rattle.run_laws.specs.UnendedJobs.Jobs.{job_at}
-use Rattle.run_laws.specs.OrchCore.Replies.{act_reply}
-use Rattle.run_laws.specs.OrchCore.States.{State}
-use Rattle.run_laws.specs.Commands.Routes.{route_of}
-use Rattle.run_laws.specs.RecoveryPlans.declared.purpose.Purpose.{Purpose}
-use Rattle.run_laws.proofs.Permissions.{begun_joins, begun_numbered, begun_replies}
-use Rattle.tasks.specs.Begun.{begun_by}
-use Rattle.tasks.specs.Plans.{begun_state, ground_in, means_of, planned_by, planned_reply, recovery_planned}
-use Rattle.tasks.specs.Report.{Answer, plan_answer, plan_answer_by, told_plan}
-use Rattle.run_laws.specs.Turns.declared.reply.Reply.{Reply}
-use Rattle.run_laws.specs.Turns.declared.reply.Reply.TheVariants as answered
-use Rattle.run_laws.specs.Turns.declared.turn.Act.TheVariants as act
-use Rattle.run_laws.specs.UnendedJobs.declared.unended.Unended.{Unended}
-use Rattle.run_laws.specs.UnendedJobs.declared.unended.Unended.TheVariants as unended
-use Rattle.plan_laws.specs.Begun.{MovesAreToldWhole, RecoveriesAreToldAsExpected, TakeoversAreToldWhole, WouldBegin}
+use Rattle.plan_laws.proofs.Prelude.{Answer, CommandTurn, HostPort, MovesAreToldWhole, Purpose, RecoveriesAreToldAsExpected, Reply, ServerNo, State}
+use Rattle.plan_laws.proofs.Prelude.{TakeoversAreToldWhole, Unended, WouldBegin, act_reply, begun_by, begun_joins, begun_numbered, begun_replies}
+use Rattle.plan_laws.proofs.Prelude.{begun_state, ground_in, job_at, means_of, plan_answer, plan_answer_by, planned_by, planned_reply}
+use Rattle.plan_laws.proofs.Prelude.{recovery_planned, route_of, told_plan, unwrap_or}
+use Rattle.plan_laws.proofs.Prelude.act
+use Rattle.plan_laws.proofs.Prelude.answered
+use Rattle.plan_laws.proofs.Prelude.unended
 use Rattle.plan_laws.proofs.Jobs.{found-last}
 
 module _ (names : List HostPort) (s : State) (c : CommandTurn) (job : Unended) (is : WouldBegin s c job) where

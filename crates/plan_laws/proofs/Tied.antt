@@ -1,55 +1,24 @@
 -- The recovery that a command begins is one of its instance.
-use Rattle.std.proofs.Common.{◌≡◌, ◌∙◌, ℕ, ◌+◌, ◌≤◌, Bool, true, false, cond, List, [], ◌∷◌, Option, Some, None, refl, sym, ap, subst, arith}
-use Rattle.std.specs.Prelude.{◌==◌, All}
-use Rattle.std.proofs.lemmas.Bool.{eq-eqb}
-use Rattle.std.proofs.lemmas.List.Elements.{All-cons, All-nil}
-use Rattle.std.proofs.lemmas.Option.{same_Some}
-use Rattle.run_laws.specs.OrchBase.declared.server.ServerNo.{ServerNo}
-use Rattle.run_laws.specs.CommandOutcomes.Jobs.{job_by, regroup_about}
-use Rattle.run_laws.specs.CommandOutcomes.HookTelling.{with_told}
-use Rattle.run_laws.specs.CommandOutcomes.Outcomes.{Outcome}
-use Rattle.run_laws.specs.Commands.Routes.{route_of}
-use Rattle.run_laws.specs.Commands.declared.kinds.MatchCommand.TheVariants as matching
-use Rattle.run_laws.specs.Commands.declared.kinds.PathCommand.TheVariants as path
-use Rattle.run_laws.specs.Commands.declared.route.Planner.{Planner}
-use Rattle.run_laws.specs.Commands.declared.route.Planner.TheVariants as planner
-use Rattle.run_laws.specs.Commands.declared.route.Route.{Route}
-use Rattle.run_laws.specs.Commands.declared.route.Route.TheVariants as route
-use Rattle.run_laws.specs.Commands.declared.turn.CommandTurn.{CommandTurn}
-use Rattle.run_laws.specs.InstanceKeeper.Book.{BookState}
-use Rattle.run_laws.specs.OrchCore.Settling.{known_of}
-use Rattle.run_laws.specs.OrchCore.States.{State}
-use Rattle.run_laws.specs.Knowledge.Knowing.{recovery_job, updated}
-use Rattle.run_laws.specs.RecoveryCore.Tries.{Begins}
-use Rattle.run_laws.specs.RecoveryCovers.Covers.{times}
-use Rattle.run_laws.specs.RecoveryCore.Recoveries.{recovery_purpose}
-use Rattle.run_laws.specs.RecoveryCore.Takeovers.{followers_of}
-use Rattle.run_laws.specs.RecoveryPlans.Beginning.{begun_recovery}
-use Rattle.run_laws.specs.RecoveryPlans.Recoveries.{Recovery}
-use Rattle.run_laws.specs.RecoveryPlans.declared.means.Means.{Means}
-use Rattle.run_laws.specs.RecoveryPlans.declared.means.Means.TheVariants as means
-use Rattle.run_laws.specs.RecoveryPlans.declared.purpose.Purpose.{Purpose}
-use Rattle.run_laws.specs.RecoveryPlans.declared.purpose.Purpose.TheVariants as purpose
-use Rattle.run_laws.specs.UnendedJobs.Hooked.{no_docket}
-use Rattle.run_laws.specs.UnendedJobs.declared.docket.Docket.{Docket}
-use Rattle.run_laws.specs.UnendedJobs.declared.unended.Unended.{Unended}
-use Rattle.run_laws.specs.UnendedJobs.declared.unended.Unended.TheVariants as unended
-use Rattle.run_laws.specs.BegunJobs.{BegunJob, begun_of}
-use Rattle.run_laws.proofs.Naming.{regroup-are}
-use Rattle.plan_lines.specs.Prelude.{replicas_of}
-use Rattle.run_laws.proofs.Making as making
-use Rattle.run_laws.specs.Turns.declared.reply.Reply.TheVariants as answered
-use Rattle.run_laws.proofs.OrchCore.Comes as comes
-use Rattle.plan_lines.specs.Courses.{Course}
-use Rattle.tasks.specs.Plans.{begun_state, ground_in, means_of}
-use Rattle.plan_laws.specs.Doing.{IsOf, RecoveriesAreDoneAsTold, RecoveriesAreOfTheirInstances, told_means}
-use Rattle.plan_laws.specs.Followed.{AreApart, GoesAsPlanned, IsAsPlanned}
+use Rattle.std.proofs.Common.{◌≡◌, ◌∙◌, ℕ, ◌+◌, ◌≤◌, Bool, true, false, cond, List, [], ◌∷◌, Option, Some, None, refl, sym, ap, subst, arith, ◌==◌, All}
+use Rattle.plan_laws.proofs.Prelude.{All-cons, All-nil, AreApart, Begins, BegunJob, BookState, Comes, CommandTurn, Course, Docket, GoesAsPlanned}
+use Rattle.plan_laws.proofs.Prelude.{IsAsPlanned, IsBegunBy, IsOf, Means, Planner, Purpose, RecoveriesAreDoneAsTold, RecoveriesAreOfTheirInstances}
+use Rattle.plan_laws.proofs.Prelude.{Recovery, Route, ServerNo, State, Unended, begun_of, begun_recovery, begun_replies, begun_state, command-comes}
+use Rattle.plan_laws.proofs.Prelude.{command_outcome, eq-eqb, followers_of, ground_in, job-begun, job_by, known_of, means_of, no_docket, recovery_job}
+use Rattle.plan_laws.proofs.Prelude.{recovery_purpose, regroup-are, regroup_about, replicas_of, route_of, same_Some, times, told_means, updated}
+use Rattle.plan_laws.proofs.Prelude.{with_told}
+use Rattle.plan_laws.proofs.Prelude.Outcomes.{Outcome}
+use Rattle.plan_laws.proofs.Prelude.answered
+use Rattle.plan_laws.proofs.Prelude.comes
+use Rattle.plan_laws.proofs.Prelude.making
+use Rattle.plan_laws.proofs.Prelude.matching
+use Rattle.plan_laws.proofs.Prelude.means
+use Rattle.plan_laws.proofs.Prelude.pathcommand as path
+use Rattle.plan_laws.proofs.Prelude.planner
+use Rattle.plan_laws.proofs.Prelude.purpose
+use Rattle.plan_laws.proofs.Prelude.route
+use Rattle.plan_laws.proofs.Prelude.unended
 use Rattle.plan_laws.proofs.Lost.{differs}
 use Rattle.plan_laws.proofs.Handing.{recoveries-follow}
-use Rattle.run_laws.specs.OrchCore.Polls.{command_outcome}
-use Rattle.run_laws.proofs.OrchCore.Comes.{Comes, command-comes}
-use Rattle.run_laws.proofs.Permissions.{begun_replies}
-use Rattle.run_laws.proofs.Making.{IsBegunBy, job-begun}
 
 -- ---- none is named twice
 

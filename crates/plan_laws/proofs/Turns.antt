@@ -1,64 +1,34 @@
 -- What the turns of recoveries and regroups do, stage after stage.
-use Rattle.std.proofs.Common.{◌≡◌, ◌∙◌, ◌⊎◌, inl, inr, Bool, true, false, cond, List, [], ◌∷◌, ◌++◌, map, Option, Some, None, refl, sym, ap, subst, append_assoc}
-use Rattle.std.specs.Prelude.{filter, filter_map}
-use Rattle.std.specs.List.{cons_option, flat_map}
-use Rattle.std.specs.Option.{option_map}
-use Rattle.std.proofs.lemmas.Bool.{false≢true}
-use Rattle.std.proofs.lemmas.List.{append-nil, map-append}
-use Rattle.std.proofs.lemmas.List.Elements.{filter_map-append}
-use Rattle.std.proofs.lemmas.Option.{same_Some}
-use Rattle.run_laws.specs.Commands.declared.cause.Cause.{Cause}
-use Rattle.run_laws.specs.Commands.declared.cause.Cause.TheVariants as cause
-use Rattle.run_laws.specs.Commands.declared.line.Line.{Line as Told}
-use Rattle.run_laws.specs.KeptRows.declared.observation.Observation.{Observation}
-use Rattle.run_laws.specs.Operations.Jobs.{Job, job_with, seen_of}
-use Rattle.run_laws.specs.Operations.declared.op.Aim.TheVariants.{EndOf}
-use Rattle.run_laws.specs.Operations.declared.op.Crossing.TheVariants as cross
-use Rattle.run_laws.specs.Operations.declared.op.Op.TheVariants as op
-use Rattle.run_laws.specs.Operations.declared.sight.Position.{Position}
-use Rattle.run_laws.specs.OrchBase.declared.server.ServerNo.{ServerNo}
-use Rattle.run_laws.specs.ServerModel.Worlds.{World}
-use Rattle.run_laws.specs.RecoveryPlans.Deciding.{Ground, Lot, better_of, choose, chosen_of, expels, losses_in, lot_by, may_lead, move_of, moves_in, once, releases, stopped_in}
-use Rattle.run_laws.specs.RecoveryPlans.Deciding.{swap_by, why_of, without_stopped}
-use Rattle.run_laws.specs.RecoveryPlans.Deciding as lot
-use Rattle.run_laws.specs.RecoveryPlans.Beginning.{first_source, is_master, is_takeover}
-use Rattle.run_laws.specs.RecoveryPlans.Recoveries.{Outcome, Recovery, loses, without_follower}
-use Rattle.run_laws.specs.RecoveryPlans.Stages as ways
-use Rattle.run_laws.specs.RecoveryPlans.Stages.{drain, level, target, with_way}
-use Rattle.run_laws.specs.RecoveryPlans.Taking.{Loss, drain_fate, fate, idle, is_away, is_below, judged, loss_of, marked, met, spot_seen, swapped, Fate}
-use Rattle.run_laws.specs.RecoveryPlans.Taking as taking
-use Rattle.run_laws.specs.RecoveryPlans.Telling.{told_by}
-use Rattle.run_laws.specs.RecoveryPlans.declared.means.Means.{Means}
-use Rattle.run_laws.specs.RecoveryPlans.declared.outcome.Follower.{Follower}
-use Rattle.run_laws.specs.RecoveryPlans.declared.outcome.LostReplica.{LostReplica}
-use Rattle.run_laws.specs.RecoveryPlans.declared.outcome.Stopped.{Stopped}
-use Rattle.run_laws.specs.RecoveryPlans.declared.purpose.Purpose.{Purpose}
-use Rattle.run_laws.specs.RecoveryPlans.declared.purpose.Purpose.TheVariants as purpose
-use Rattle.run_laws.specs.RecoveryPlans.declared.stage.Stage.{Stage}
-use Rattle.run_laws.specs.RecoveryPlans.declared.stage.Stage.TheVariants as stage
-use Rattle.run_laws.specs.RecoveryPlans.declared.task.Task.{Task}
-use Rattle.run_laws.specs.RecoveryPlans.declared.task.Task.TheVariants as task
-use Rattle.run_laws.specs.RecoveryPlans.declared.task.Way.{Way}
-use Rattle.run_laws.specs.RecoveryPlans.declared.task.Way.TheVariants as way
-use Rattle.run_laws.specs.RecoveryPlans.Whys as why
-use Rattle.run_laws.proofs.RecoveryEnds.Shapes.{same-head}
-use Rattle.plan_lines.specs.PlanTexts.declared.line.Expect.TheVariants as expect
-use Rattle.plan_lines.specs.PlanTexts.declared.line.Line.{Line}
-use Rattle.plan_lines.specs.PlanTexts.declared.line.Line.TheVariants as line
-use Rattle.plan_lines.specs.Branches.{choice_lines, gathered}
-use Rattle.plan_lines.specs.Courses.{Course, Event, Done, Missed, Place, event_of, events_of, ground_at, set_out}
-use Rattle.plan_lines.specs.Courses as course
-use Rattle.plan_lines.specs.Expected.{all_drained, drained, expected}
-use Rattle.plan_lines.specs.Pieces.{judged as judged_lines}
-use Rattle.plan_lines.specs.Prelude.{is_valid}
-use Rattle.run_laws.specs.BinlogCoords.Log.{is_before}
-use Rattle.run_laws.specs.BinlogCoords.declared.Coord.{Coord}
-use Rattle.run_laws.proofs.RecoveryPlans.Choices.{chosen-may}
-use Rattle.plan_laws.specs.Followed as path
-use Rattle.plan_laws.specs.Followed.{AreApart, Branch, GoesAsPlanned, IsAsPlanned, branch_at, fork_of, gathers, gone, steps_of, IsMissed, is_after, path_by}
+use Rattle.std.proofs.Common.{◌≡◌, ◌∙◌, ◌⊎◌, inl, inr, Bool, true, false, cond, List, [], ◌∷◌, ◌++◌, map, Option, Some, None, refl, sym, ap, subst, append_assoc, filter, filter_map}
+use Rattle.plan_laws.proofs.Prelude.{AreApart, Branch, Cause, Coord, Course, Done, EndOf, Event, Fate, Follower, GoesAsPlanned, Ground, IsAsPlanned}
+use Rattle.plan_laws.proofs.Prelude.{IsMissed, Job, Line, Loss, LostReplica, Lot, Means, Missed, Observation, Outcome, Place, Position, Purpose}
+use Rattle.plan_laws.proofs.Prelude.{Recovery, ServerNo, Stage, Stopped, Task, Way, World, all_drained, append-nil, better_of, branch_at}
+use Rattle.plan_laws.proofs.Prelude.{choice_lines, choose, chosen-may, chosen_of, cons_option, drain, drain_fate, drained, event_of, events_of}
+use Rattle.plan_laws.proofs.Prelude.{expected, expels, false≢true, fate, filter_map-append, first_source, flat_map, fork_of, gathered, gathers, gone}
+use Rattle.plan_laws.proofs.Prelude.{ground_at, idle, is_after, is_away, is_before, is_below, is_master, is_takeover, is_valid, job_with}
+use Rattle.plan_laws.proofs.Prelude.{judged as judged_lines, left, level, loses, loss_of, losses_in, lot_by, map-append, marked, may_lead, met}
+use Rattle.plan_laws.proofs.Prelude.{move_of, moves_in, once, option_map, path_by, releases, same-head, same_Some, seen_of, set_out, spot_seen}
+use Rattle.plan_laws.proofs.Prelude.{steps_of, stopped-after, stopped_in, swap_by, swapped, target, told_by, why_of, with_way, without_follower}
+use Rattle.plan_laws.proofs.Prelude.{without_stopped}
+use Rattle.plan_laws.proofs.Prelude.RunLaws.{Line as Told}
+use Rattle.plan_laws.proofs.Prelude.taking.{judged}
+use Rattle.plan_laws.proofs.Prelude.cause
+use Rattle.plan_laws.proofs.Prelude.course
+use Rattle.plan_laws.proofs.Prelude.cross
+use Rattle.plan_laws.proofs.Prelude.expect
+use Rattle.plan_laws.proofs.Prelude.line
+use Rattle.plan_laws.proofs.Prelude.lot
+use Rattle.plan_laws.proofs.Prelude.op
+use Rattle.plan_laws.proofs.Prelude.path
+use Rattle.plan_laws.proofs.Prelude.purpose
+use Rattle.plan_laws.proofs.Prelude.stage
+use Rattle.plan_laws.proofs.Prelude.taking
+use Rattle.plan_laws.proofs.Prelude.task
+use Rattle.plan_laws.proofs.Prelude.way
+use Rattle.plan_laws.proofs.Prelude.ways
+use Rattle.plan_laws.proofs.Prelude.why
 use Rattle.plan_laws.proofs.Lost.{Found, There, Gone, drained_in, gone_in, no_of}
 use Rattle.plan_laws.proofs.Meeting.{Did, Missing, decides, done-first, first-of, none-goes}
-use Rattle.plan_lines.proofs.Peeling.{left, stopped-after}
 use Rattle.plan_laws.proofs.Below.{expected-gone, expected-valid, numbers}
 use Rattle.plan_laws.proofs.Parted.{are-detached, are-started, detached, started, late_of, refused_why}
 use Rattle.plan_laws.proofs.Scripts.{crown_events, fork_events, forks, go_events, goes, last_events, lots-apart, part, script, stays, told-branch, StaysApart, goer_of, path_events}

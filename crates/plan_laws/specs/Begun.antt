@@ -1,23 +1,10 @@
 -- What a plan has, beside the job that its command would begin.
 use Rattle.std.specs.Prelude.{◌≡◌, List, Some, None}
-use Rattle.run_laws.specs.OrchBase.Names.{HostPort}
-use Rattle.run_laws.specs.OrchBase.declared.server.ServerNo.{ServerNo}
-use Rattle.run_laws.specs.Commands.declared.turn.CommandTurn.{CommandTurn}
-use Rattle.run_laws.specs.Operations.Jobs.{Job}
-use Rattle.run_laws.specs.OrchCore.States.{IsState, State}
-use Rattle.plan_lines.specs.Branches.{has_branches, recovery_plan}
-use Rattle.plan_lines.specs.Prelude.{but, replicas_of}
-use Rattle.plan_lines.specs.Straight.{straight_lines}
-use Rattle.plan_lines.specs.Takeovers.{takeover_lines}
-use Rattle.run_laws.specs.Commands.Routes.{route_of}
-use Rattle.run_laws.specs.RecoveryPlans.Recoveries.{Recovery}
-use Rattle.run_laws.specs.RecoveryPlans.declared.purpose.Purpose.TheVariants as purpose
-use Rattle.run_laws.specs.BegunJobs.{BegunJob, begun_of}
-use Rattle.tasks.specs.Plans.{Planned, begun_state, ground_in, lasting, means_of, straight}
-use Rattle.tasks.specs.Report.{plan_answer, told_plan}
-use Rattle.run_laws.specs.UnendedJobs.declared.docket.Docket.{Docket}
-use Rattle.run_laws.specs.UnendedJobs.declared.unended.Unended.{Unended}
-use Rattle.run_laws.specs.UnendedJobs.declared.unended.Unended.TheVariants as unended
+use Rattle.plan_laws.specs.Prelude.{BegunJob, CommandTurn, Docket, HostPort, IsState, Job, Planned, Recovery, ServerNo, State, Unended, begun_of}
+use Rattle.plan_laws.specs.Prelude.{begun_state, but, ground_in, has_branches, lasting, means_of, plan_answer, recovery_plan, replicas_of, route_of}
+use Rattle.plan_laws.specs.Prelude.{straight, straight_lines, takeover_lines, told_plan}
+use Rattle.plan_laws.specs.Prelude.purpose
+use Rattle.plan_laws.specs.Prelude.unended
 
 -- nobody's claim lasts, and the command begins this job
 pub record WouldBegin (s : State) (c : CommandTurn) (job : Unended) : Type 0 where

@@ -1,14 +1,7 @@
 -- On what a plan's choice depends.
 use Rattle.std.specs.Prelude.{◌≡◌, true, List, [], ◌∷◌, All, Contains, Some}
-use Rattle.run_laws.specs.OrchBase.declared.server.ServerNo.{ServerNo}
-use Rattle.run_laws.specs.RecoveryPlans.Deciding.{Ground, chosen_of, without_stopped}
-use Rattle.run_laws.specs.RecoveryPlans.declared.means.Means.{Means}
-use Rattle.run_laws.specs.RecoveryPlans.declared.outcome.Stopped.{Stopped}
-use Rattle.run_laws.specs.RecoveryPlans.declared.purpose.Purpose.{Purpose}
-use Rattle.plan_lines.specs.Branches.{recovery_lines, wins}
-use Rattle.plan_lines.specs.Expected.{expected}
-use Rattle.plan_lines.specs.PlanTexts.declared.line.Line.{Line}
-use Rattle.plan_lines.specs.PlanTexts.declared.line.Line.TheVariants as line
+use Rattle.plan_laws.specs.Prelude.{Ground, Line, Means, Purpose, ServerNo, Stopped, chosen_of, expected, recovery_lines, wins, without_stopped}
+use Rattle.plan_laws.specs.Prelude.line
 use Rattle.plan_laws.specs.Followed.{gathers}
 
 -- p is chosen only if another one has executed no more. It must have executed less, if it would be chosen of two that

@@ -1,17 +1,8 @@
 -- What the conditions of a plan's choice decide.
 use Rattle.std.specs.Prelude.{◌≡◌, Bool, true, false, List, Contains, Some}
-use Rattle.std.specs.declared.cmp.Ordering.TheVariants.{Equal}
-use Rattle.run_laws.specs.BinlogCoords.Log.{is_before}
-use Rattle.run_laws.specs.OrchBase.declared.server.ServerNo.{ServerNo}
-use Rattle.run_laws.specs.RecoveryPlans.Deciding.{Ground, chosen_of, follower_of, stopped_in}
-use Rattle.run_laws.specs.RecoveryPlans.declared.means.Means.{Means}
-use Rattle.run_laws.specs.RecoveryPlans.declared.outcome.Stopped.{Stopped}
-use Rattle.run_laws.specs.RecoveryPlans.declared.purpose.Purpose.{Purpose}
-use Rattle.plan_lines.specs.Branches.{recovery_lines}
-use Rattle.plan_lines.specs.Expected.{expected}
-use Rattle.plan_lines.specs.PlanTexts.declared.line.Line.{Line}
-use Rattle.plan_lines.specs.PlanTexts.declared.line.Line.TheVariants as line
-use Rattle.plan_lines.specs.PromotionRules.Choice.{server_order}
+use Rattle.plan_laws.specs.Prelude.{Equal, Ground, Line, Means, Purpose, ServerNo, Stopped, chosen_of, expected, follower_of, is_before}
+use Rattle.plan_laws.specs.Prelude.{recovery_lines, server_order, stopped_in}
+use Rattle.plan_laws.specs.Prelude.line
 use Rattle.plan_laws.specs.Followed.{gathers}
 
 -- what is noted of two servers is as a choice asks: the first has executed more than the second, or no less

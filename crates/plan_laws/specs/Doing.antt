@@ -1,19 +1,9 @@
 -- What the turns of a recovery or a regroup do that a command begins.
 use Rattle.std.specs.Prelude.{◌≡◌, ◌+◌, ℕ, false, List, Some}
-use Rattle.run_laws.specs.OrchBase.declared.server.ServerNo.{ServerNo}
-use Rattle.run_laws.specs.Commands.Routes.{route_of}
-use Rattle.run_laws.specs.Commands.declared.turn.CommandTurn.{CommandTurn}
-use Rattle.run_laws.specs.OrchCore.States.{State}
-use Rattle.run_laws.specs.RecoveryPlans.Beginning.{begun_recovery, is_takeover}
-use Rattle.run_laws.specs.RecoveryPlans.Recoveries.{Recovery}
-use Rattle.run_laws.specs.RecoveryPlans.declared.means.Means.{Means}
-use Rattle.run_laws.specs.RecoveryPlans.declared.means.Means.TheVariants as means
-use Rattle.run_laws.specs.UnendedJobs.declared.docket.Docket.{Docket}
-use Rattle.run_laws.specs.UnendedJobs.declared.unended.Unended.TheVariants as unended
-use Rattle.plan_lines.specs.Branches.{recovery_plan}
-use Rattle.plan_lines.specs.Courses.{Course, Event, Follows}
-use Rattle.plan_lines.specs.Prelude.{replicas_of}
-use Rattle.tasks.specs.Plans.{begun_state, ground_in, means_of}
+use Rattle.plan_laws.specs.Prelude.{CommandTurn, Course, Docket, Event, Follows, Means, Recovery, ServerNo, State, begun_recovery, begun_state}
+use Rattle.plan_laws.specs.Prelude.{ground_in, is_takeover, means_of, recovery_plan, replicas_of, route_of}
+use Rattle.plan_laws.specs.Prelude.means
+use Rattle.plan_laws.specs.Prelude.unended
 use Rattle.plan_laws.specs.Begun.{WouldBegin}
 use Rattle.plan_laws.specs.Followed.{AreApart, GoesAsPlanned, IsAsPlanned}
 

@@ -1,32 +1,16 @@
 -- The turns of recoveries and regroups in which everything is found as their plans assume.
 use Rattle.std.specs.Prelude.{◌≡◌, ◌==◌, ◌⊎◌, if◌then◌else◌, ℕ, Bool, true, false, List, [], ◌∷◌, ◌++◌, map, All, Option, Some, None}
-use Rattle.run_laws.specs.BinlogCoords.Log.{is_before}
-use Rattle.run_laws.specs.BinlogCoords.declared.Coord.{Coord}
-use Rattle.run_laws.specs.InstanceKeeper.Book.{BookState, instance_at}
-use Rattle.run_laws.specs.Operations.declared.op.Op.{Op}
-use Rattle.run_laws.specs.Operations.declared.op.Op.TheVariants as op
-use Rattle.run_laws.specs.OrchBase.declared.server.ServerNo.{ServerNo}
-use Rattle.run_laws.specs.RecoveryPlans.Beginning.{begun_recovery, is_takeover}
-use Rattle.run_laws.specs.RecoveryPlans.Deciding.{Ground, Lot, better_of, chosen_of, lot_by, stopped_in, way_below, without_stopped}
-use Rattle.run_laws.specs.RecoveryPlans.Deciding as lot
-use Rattle.run_laws.specs.RecoveryPlans.Moves.{IsNext}
-use Rattle.run_laws.specs.RecoveryPlans.Recoveries.{Recovery}
-use Rattle.run_laws.specs.RecoveryPlans.Stages.{before, move}
-use Rattle.run_laws.specs.RecoveryPlans.Whys as why
-use Rattle.run_laws.specs.RecoveryPlans.declared.means.Means.{Means}
-use Rattle.run_laws.specs.RecoveryPlans.declared.outcome.LostReplica.{LostReplica}
-use Rattle.run_laws.specs.RecoveryPlans.declared.outcome.Stopped.{Stopped}
-use Rattle.run_laws.specs.RecoveryPlans.declared.purpose.Purpose.{Purpose}
-use Rattle.run_laws.specs.RecoveryPlans.declared.purpose.Purpose.TheVariants as purpose
-use Rattle.run_laws.specs.RecoveryPlans.declared.stage.Stage.TheVariants as stage
-use Rattle.run_laws.specs.RecoveryPlans.declared.task.Task.{Task}
-use Rattle.run_laws.specs.RecoveryPlans.declared.task.Task.TheVariants as task
-use Rattle.run_laws.specs.RecoveryPlans.declared.task.Way.{Way}
-use Rattle.run_laws.specs.RecoveryPlans.declared.task.Way.TheVariants as way
-use Rattle.plan_lines.specs.Branches.{is_refused, recovery_lines, way_of}
-use Rattle.plan_lines.specs.Courses.{Course, Event, Done, Missed, Follows, Place, ground_at}
-use Rattle.plan_lines.specs.Expected.{expected, expected_at}
-use Rattle.plan_lines.specs.Prelude.{is_valid}
+use Rattle.plan_laws.specs.Prelude.{BookState, Coord, Course, Done, Event, Follows, Ground, IsNext, LostReplica, Lot, Means, Missed, Op, Place}
+use Rattle.plan_laws.specs.Prelude.{Purpose, Recovery, ServerNo, Stopped, Task, Way, before, begun_recovery, better_of, chosen_of, expected}
+use Rattle.plan_laws.specs.Prelude.{expected_at, ground_at, instance_at, is_before, is_refused, is_takeover, is_valid, lot_by, move, recovery_lines}
+use Rattle.plan_laws.specs.Prelude.{stopped_in, way_below, way_of, without_stopped}
+use Rattle.plan_laws.specs.Prelude.lot
+use Rattle.plan_laws.specs.Prelude.op
+use Rattle.plan_laws.specs.Prelude.purpose
+use Rattle.plan_laws.specs.Prelude.stage
+use Rattle.plan_laws.specs.Prelude.task
+use Rattle.plan_laws.specs.Prelude.way
+use Rattle.plan_laws.specs.Prelude.why
 
 -- ---- branches
 

@@ -1,3 +1,4 @@
+pub mod Prelude
 pub mod Begun
 pub mod Followed
 pub mod Conditions

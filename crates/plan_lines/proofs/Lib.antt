@@ -1,3 +1,4 @@
+pub mod Prelude
 mod Lists
 pub mod Peeling
 mod TakenOver

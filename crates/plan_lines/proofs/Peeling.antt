@@ -1,26 +1,13 @@
 -- The first operation of a recovery's turns.
-use Rattle.std.proofs.Common.{◌≡◌, ◌∙◌, Bool, true, false, cond, not, List, [], ◌∷◌, ◌++◌, map, Option, refl, sym, ap, subst}
-use Rattle.std.specs.Prelude.{◌||◌, ◌&&◌}
-use Rattle.std.proofs.lemmas.Bool.{and_parts, false≢true, not-true}
-use Rattle.recovery_plans.specs.Commands.declared.cause.Cause.{Cause}
-use Rattle.recovery_plans.specs.Commands.declared.line.Line.{Line as Told}
-use Rattle.recovery_plans.specs.KeptRows.declared.observation.Observation.{Observation}
-use Rattle.recovery_plans.specs.Operations.Deeds.{deed_of}
-use Rattle.recovery_plans.specs.Operations.Jobs.{Job}
-use Rattle.recovery_plans.specs.Operations.Turns.{by_deed}
-use Rattle.recovery_plans.specs.Operations.Turns as attempt
-use Rattle.recovery_plans.specs.Operations.declared.op.Op.{Op}
-use Rattle.recovery_plans.specs.Operations.declared.op.Op.TheVariants as op
-use Rattle.recovery_plans.specs.ServerModel.Run.{Exchange}
-use Rattle.recovery_plans.specs.Moves.{Does, Stops}
-use Rattle.recovery_plans.specs.Recoveries.{Recovery}
-use Rattle.recovery_plans.specs.Stages.{ends, moved, reads_last}
-use Rattle.recovery_plans.specs.Taking.{acted, at_end, attempted, entered, fate, is_waiting, met, on_going, progressed}
-use Rattle.recovery_plans.specs.declared.stage.Stage.{Stage}
-use Rattle.recovery_ends.specs.Shapes.{are_still}
-use Rattle.recovery_ends.proofs.Shapes.{Went, WentOn, deed-went, same-head, same-tail}
-use Rattle.plan_lines.specs.Courses.{Course, Event, Done, Missed, Place, after, set_out}
-use Rattle.plan_lines.specs.Courses as course
+use Rattle.std.proofs.Common.{◌≡◌, ◌∙◌, Bool, true, false, cond, not, List, [], ◌∷◌, ◌++◌, map, Option, refl, sym, ap, subst, ◌||◌, ◌&&◌}
+use Rattle.plan_lines.proofs.Prelude.{Cause, Course, Does, Done, Event, Exchange, Job, Missed, Observation, Op, Place, Recovery, Stage, Stops, Went}
+use Rattle.plan_lines.proofs.Prelude.{WentOn, acted, after, and_parts, are_still, at_end, attempted, by_deed, deed-went, deed_of, ends, entered}
+use Rattle.plan_lines.proofs.Prelude.{false≢true, fate, is_waiting, met, moved, not-true, on_going, progressed, reads_last, same-head, same-tail}
+use Rattle.plan_lines.proofs.Prelude.{set_out}
+use Rattle.plan_lines.proofs.Prelude.RecoveryPlans.{Line as Told}
+use Rattle.plan_lines.proofs.Prelude.attempt
+use Rattle.plan_lines.proofs.Prelude.course
+use Rattle.plan_lines.proofs.Prelude.op
 
 -- ---- a turn's recovery
 

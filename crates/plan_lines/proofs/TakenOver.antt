@@ -1,43 +1,22 @@
 -- Takeovers follow their plans.
-use Rattle.std.proofs.Common.{◌≡◌, ◌∙◌, ℕ, Bool, true, false, cond, List, [], ◌∷◌, ◌++◌, map, Option, Some, None, refl, sym, ap, subst}
-use Rattle.std.specs.Prelude.{◌==◌}
-use Rattle.std.specs.List.{flat_map}
-use Rattle.std.proofs.lemmas.Option.{same_Some}
-use Rattle.recovery_plans.specs.InstanceKeeper.Bridges.{bridge_by}
-use Rattle.recovery_plans.specs.InstanceKeeper.declared.bridge.Bridge.{Bridge}
-use Rattle.recovery_plans.specs.Operations.Jobs.{Job, job_with, seen_of}
-use Rattle.recovery_plans.specs.Operations.Turns.{bridge_at}
-use Rattle.recovery_plans.specs.Operations.declared.op.Aim.TheVariants.{EndOf, ExecOf}
-use Rattle.recovery_plans.specs.Operations.declared.op.Op.{Op}
-use Rattle.recovery_plans.specs.Operations.declared.op.Op.TheVariants as op
-use Rattle.recovery_plans.specs.Operations.declared.op.Crossing.TheVariants as cross
-use Rattle.recovery_plans.specs.Operations.declared.sight.Position.{Position}
-use Rattle.recovery_plans.specs.OrchBase.declared.server.ServerNo.{ServerNo}
-use Rattle.recovery_plans.specs.OrchBase.declared.server.SourceState.{SourceState}
-use Rattle.recovery_plans.specs.OrchBase.declared.server.SourceState.TheVariants as source
-use Rattle.recovery_plans.specs.BinlogCoords.Log.{same_coord}
-use Rattle.recovery_plans.specs.BinlogCoords.declared.Coord.{Coord}
-use Rattle.recovery_plans.specs.Beginning.{begun_recovery, but}
-use Rattle.recovery_plans.specs.Deciding.{moving}
-use Rattle.recovery_plans.specs.Recoveries.{Outcome, Recovery, follows, loses, working}
-use Rattle.recovery_plans.specs.Stages.{gather, trail, with_bridge, with_way}
-use Rattle.recovery_plans.specs.Taking.{frees, halted, idle, is_below, lead_under, looked, spot_seen}
-use Rattle.recovery_plans.specs.Telling.{told}
-use Rattle.recovery_plans.specs.declared.means.Means.{Means}
-use Rattle.recovery_plans.specs.declared.purpose.Purpose.TheVariants as purpose
-use Rattle.recovery_plans.specs.declared.stage.Stage.{Stage}
-use Rattle.recovery_plans.specs.declared.stage.Stage.TheVariants as stage
-use Rattle.recovery_plans.specs.declared.task.Task.{Task}
-use Rattle.recovery_plans.specs.declared.task.Task.TheVariants as task
-use Rattle.recovery_plans.specs.declared.task.Way.TheVariants as way
-use Rattle.recovery_plans.specs.declared.why.Why.{Why}
-use Rattle.recovery_plans.specs.Whys as lost
-use Rattle.plan_texts.specs.declared.line.Expect.TheVariants as expect
-use Rattle.plan_texts.specs.declared.line.Line.{Line}
-use Rattle.plan_texts.specs.declared.line.Line.TheVariants as line
-use Rattle.plan_lines.specs.Courses.{Anywhere, Course, Event, Done, Missed, Follows, LosesNobody, TakeoversFollowTheirPlans}
-use Rattle.plan_lines.specs.Pieces.{all_as_told, as_told, judged}
-use Rattle.plan_lines.specs.Takeovers.{led, takeover_lines, yielded}
+use Rattle.std.proofs.Common.{◌≡◌, ◌∙◌, ℕ, Bool, true, false, cond, List, [], ◌∷◌, ◌++◌, map, Option, Some, None, refl, sym, ap, subst, ◌==◌}
+use Rattle.plan_lines.proofs.Prelude.{Anywhere, Bridge, Coord, Course, Done, EndOf, Event, ExecOf, Follows, Job, Line, LosesNobody, Means, Missed, Op}
+use Rattle.plan_lines.proofs.Prelude.{Outcome, Position, Recovery, SourceState, Stage, TakeoversFollowTheirPlans, Task, Why, all_as_told, as_told}
+use Rattle.plan_lines.proofs.Prelude.{begun_recovery, bridge_at, bridge_by, flat_map, follows, frees, gather, halted, idle, is_below, job_with}
+use Rattle.plan_lines.proofs.Prelude.{judged, lead_under, lines_below, looked, loses, moving, result_lines, same_coord, same_Some, seen_of, spot_seen, takeover_lines}
+use Rattle.plan_lines.proofs.Prelude.{trail, with_bridge, with_way, working, yielded}
+use Rattle.plan_lines.proofs.Prelude.Beginning.{but}
+use Rattle.plan_lines.proofs.Prelude.RecoveryPlansServerNo.{ServerNo}
+use Rattle.plan_lines.proofs.Prelude.cross
+use Rattle.plan_lines.proofs.Prelude.expect
+use Rattle.plan_lines.proofs.Prelude.line
+use Rattle.plan_lines.proofs.Prelude.lost
+use Rattle.plan_lines.proofs.Prelude.op
+use Rattle.plan_lines.proofs.Prelude.purpose
+use Rattle.plan_lines.proofs.Prelude.source
+use Rattle.plan_lines.proofs.Prelude.stage
+use Rattle.plan_lines.proofs.Prelude.task
+use Rattle.plan_lines.proofs.Prelude.way
 use Rattle.plan_lines.proofs.Peeling.{last-of, left, none-goes, peel, peel-on, walk}
 
 -- a list doesn't end with more than it has
@@ -97,16 +76,16 @@ module _ (m d : ServerNo) (by : Means) (replicas order : List ServerNo) where
     changed = (follows (at (stage.Switch m b.no) [] (Some b) oc) m b.no).outcome
 
     abbrev closing-at : Recovery
-    closing-at = at (stage.Close (told (at (stage.Open b.no) [] (Some b) changed))) [] (Some b) changed
+    closing-at = at (stage.Close (result_lines (at (stage.Open b.no) [] (Some b) changed))) [] (Some b) changed
 
     abbrev ended : Op
-    ended = op.Finish (told (at (stage.Open b.no) [] (Some b) changed))
+    ended = op.Finish (result_lines (at (stage.Open b.no) [] (Some b) changed))
 
     reads-last : (c : Job) (es : List Event) → Runs (left closing-at c (op.Status b.no None ∷ ended ∷ [])) es → Follows es (as_told (op.Status b.no None) ∷ [])
     reads-last c es goes =
         let one = peel-on Anywhere LosesNobody closing-at c (op.Status b.no None) (ended ∷ []) (λ told e. cc) (never (op.Status b.no None)) es goes in
         next (op.Status b.no None) es one.later [] one.is
-        (told (at (stage.Open b.no) [] (Some b) changed), last-of Anywhere LosesNobody closing-at one.job (told (at (stage.Open b.no) [] (Some b) changed)) [] (never ended) one.later one.goes)
+        (result_lines (at (stage.Open b.no) [] (Some b) changed), last-of Anywhere LosesNobody closing-at one.job (result_lines (at (stage.Open b.no) [] (Some b) changed)) [] (never ended) one.later one.goes)
 
     reads-both : (c : Job) (es : List Event) → Runs (left closing-at c (op.Status m None ∷ op.Status b.no None ∷ ended ∷ [])) es
         → Follows es (as_told (op.Status m None) ∷ as_told (op.Status b.no None) ∷ [])
@@ -209,7 +188,7 @@ module _ (m d : ServerNo) (by : Means) (replicas order : List ServerNo) where
         go false held goes = absurd (longer oc.lost (record { no = n; why = stray; detached = false }) held)
 
     trails-one : Further → (oc : Outcome) (c : Job) (es : List Event) → Runs (left (at stage.Idle (task.Trailing n ∷ q) (Some b) oc) c []) es
-        → Follows es (led m b.no n ++ lines)
+        → Follows es (lines_below m b.no n ++ lines)
     trails-one further oc c es goes =
         let one = peel Anywhere LosesNobody (left (at stage.Idle (task.Trailing n ∷ q) (Some b) oc) c []) (λ a. at (stage.Look n b) q (Some b) oc) (λ a. record c { waited = 0 })
         (λ a. op.Status n None) (λ a. []) (λ a. refl) (λ a told e. cc) (λ a. never (op.Status n None)) es goes in
@@ -218,10 +197,10 @@ module _ (m d : ServerNo) (by : Means) (replicas order : List ServerNo) where
 
   -- the others come to the position at which it stopped, one after another
   trails : (ns : List ServerNo) (b : Bridge) (oc : Outcome) (c : Job) (es : List Event) → Runs (left (at stage.Idle (map task.Trailing ns ++ task.Yielding ∷ []) (Some b) oc) c []) es
-      → Follows es (flat_map (λ n. led m b.no n) ns ++ yielded m b.no)
+      → Follows es (flat_map (λ n. lines_below m b.no n) ns ++ yielded m b.no)
   trails [] b oc c es goes = yields b oc c es goes
   trails (n ∷ ns) b oc c es goes =
-      trails-one b n (map task.Trailing ns ++ task.Yielding ∷ []) (flat_map (λ k. led m b.no k) ns ++ yielded m b.no) (trails ns b) oc c es goes
+      trails-one b n (map task.Trailing ns ++ task.Yielding ∷ []) (flat_map (λ k. lines_below m b.no k) ns ++ yielded m b.no) (trails ns b) oc c es goes
 
   -- it isn't known at which position it stopped: nothing is done
   nowhere : (ns : List ServerNo) (oc : Outcome) (c : Job) (es : List Event) → Runs (left (at stage.Idle (map task.Trailing ns ++ task.Yielding ∷ []) None oc) c []) es → ⊥
@@ -231,15 +210,15 @@ module _ (m d : ServerNo) (by : Means) (replicas order : List ServerNo) where
   -- the position at which it stopped
   gathers : (ns : List ServerNo) (oc : Outcome) (c : Job) (es : List Event) (o : Option Bridge) → bridge_at d (seen_of c.seen d.0) ≡ o
       → Runs (left (at stage.Idle (map task.Trailing ns ++ task.Yielding ∷ []) (lead_under m o) oc) c []) es
-      → Follows es (flat_map (λ n. led m d n) ns ++ yielded m d)
+      → Follows es (flat_map (λ n. lines_below m d n) ns ++ yielded m d)
   gathers ns oc c es None e goes = absurd (nowhere ns oc c es goes)
   gathers ns oc c es (Some b) e goes = go (b.source.0 == m.0) goes
     where
       go : (a : Bool) → Runs (left (at stage.Idle (map task.Trailing ns ++ task.Yielding ∷ []) (cond a (Some b) None) oc) c []) es
-          → Follows es (flat_map (λ n. led m d n) ns ++ yielded m d)
+          → Follows es (flat_map (λ n. lines_below m d n) ns ++ yielded m d)
       go false goes = absurd (nowhere ns oc c es goes)
       go true goes =
-          subst (λ k. Follows es (flat_map (λ n. led m k n) ns ++ yielded m k)) (sym (own-bridge d (seen_of c.seen d.0) b e)) (trails ns b oc c es goes)
+          subst (λ k. Follows es (flat_map (λ n. lines_below m k n) ns ++ yielded m k)) (sym (own-bridge d (seen_of c.seen d.0) b e)) (trails ns b oc c es goes)
 
   -- ---- from the start
 
@@ -250,7 +229,7 @@ module _ (m d : ServerNo) (by : Means) (replicas order : List ServerNo) where
   none-yet = record { promoted = Some d; followers = []; lost = [] }
 
   abbrev rest : List Line
-  rest = flat_map (λ n. led m d n) (but replicas d) ++ yielded m d
+  rest = flat_map (λ n. lines_below m d n) (but replicas d) ++ yielded m d
 
   last-read : (c : Job) (es : List Event) → Runs (left (at (stage.Gather m d) all_but None none-yet) c (op.Status d (Some m) ∷ [])) es
       → Follows es (as_told (op.Status d (Some m)) ∷ rest)

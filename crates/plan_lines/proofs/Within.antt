@@ -1,13 +1,9 @@
 -- Replicas that are expected to stop are there.
-use Rattle.std.proofs.Common.{◌≡◌, ◌<◌, Bool, true, false, cond, List, [], ◌∷◌, Option, Some, None, length, subst, sym}
-use Rattle.std.proofs.lemmas.List.Elements.{All-cons, All-filter, All-head, All-nil, All-tail}
-use Rattle.std.specs.Prelude.{All, ◌==◌, filter_map, not}
-use Rattle.std.specs.List.{cons_option}
-use Rattle.recovery_plans.proofs.Choices.{All-chosen}
-use Rattle.plan_lines.specs.Prelude.{BookState, Follower, Ground, Instance, Lot, ServerNo, Stopped, chosen_of, instance_at, without_stopped}
-use Rattle.plan_lines.specs.Prelude.lot
-use Rattle.plan_lines.specs.Branches.{follower_in}
-use Rattle.plan_lines.specs.Expected.{expected, expected_at, stopped_of}
+use Rattle.std.proofs.Common.{◌≡◌, ◌<◌, Bool, true, false, cond, List, [], ◌∷◌, Option, Some, None, length, subst, sym, All, ◌==◌, filter_map, not}
+use Rattle.plan_lines.proofs.Prelude.{All-chosen, All-cons, All-filter, All-head, All-nil, All-tail, BookState, Follower, Ground, Instance, Lot}
+use Rattle.plan_lines.proofs.Prelude.{ServerNo, Stopped, chosen_of, cons_option, expected, expected_at, follower_in, instance_at, stopped_of}
+use Rattle.plan_lines.proofs.Prelude.{without_stopped}
+use Rattle.plan_lines.proofs.Prelude.lot
 
 -- one of the book's
 abbrev pub IsThere : BookState → Stopped → Type 0

@@ -1,9 +1,8 @@
 -- The plan of a recovery or a regroup: of its branches the one that is expected, by its own choices.
 use Rattle.std.specs.Prelude.{Bool, true, false, ◌==◌, nat_lt, List, [], ◌∷◌, ◌++◌, if◌then◌else◌, length, map, filter_map, Option, Some, None}
-use Rattle.plan_lines.specs.Prelude.{BookState, Bridge, Follower, Ground, Line, Lot, Means, Purpose, ServerNo, Stopped, Way, before, better_of, but, chosen_of, expels}
-use Rattle.plan_lines.specs.Prelude.{flat_map, has_own, is_auto, is_before, latest_that, level, logs_at, lot_by, move, option_map, releases, replicas_of}
-use Rattle.plan_lines.specs.Prelude.{ring_at, same_coord, without_stopped}
-use Rattle.plan_lines.specs.Prelude.{Apart, Expect}
+use Rattle.plan_lines.specs.Prelude.{Apart, BookState, Bridge, Expect, Follower, Ground, Line, Lot, Means, Purpose, ServerNo, Stopped, Way, before}
+use Rattle.plan_lines.specs.Prelude.{better_of, but, chosen_of, expels, flat_map, has_own, is_auto, is_before, latest_that, level, logs_at, lot_by}
+use Rattle.plan_lines.specs.Prelude.{move, option_map, releases, replicas_of, ring_at, same_coord, without_stopped}
 use Rattle.plan_lines.specs.Prelude.apart
 use Rattle.plan_lines.specs.Prelude.expect
 use Rattle.plan_lines.specs.Prelude.line

@@ -1,29 +1,22 @@
 -- The turns of a recovery one after another, each over the servers and the book of its moment, whatever comes between
 -- them. Also which of them do what is in a plan's lines.
 use Rattle.std.specs.Prelude.{◌≡◌, ℕ, true, false, List, [], ◌∷◌, ◌++◌, filter_map, Option, Some, None}
+use Rattle.plan_lines.specs.Prelude.{Apart, BookState, Expect, Ground, Line, Means, Op, ServerNo, begun_recovery, but}
 use Rattle.recovery_plans.specs.Commands.declared.cause.Cause.{Cause}
 use Rattle.recovery_plans.specs.Commands.declared.line.Line.{Line as Told}
-use Rattle.recovery_plans.specs.InstanceKeeper.Book.{BookState}
 use Rattle.recovery_plans.specs.KeptRows.declared.observation.Observation.{Observation}
 use Rattle.recovery_plans.specs.Operations.Jobs.{Job}
-use Rattle.recovery_plans.specs.Operations.declared.op.Op.{Op}
 use Rattle.recovery_plans.specs.Operations.declared.op.Op.TheVariants as op
 use Rattle.recovery_plans.specs.OrchBase.declared.server.Moment.{Moment}
-use Rattle.recovery_plans.specs.OrchBase.declared.server.ServerNo.{ServerNo}
 use Rattle.recovery_plans.specs.ServerModel.Run.{Exchange}
 use Rattle.recovery_plans.specs.ServerModel.Worlds.{World}
-use Rattle.recovery_plans.specs.Beginning.{begun_recovery, but}
-use Rattle.recovery_plans.specs.Deciding.{Ground, decided, ground_of}
+use Rattle.recovery_plans.specs.Deciding.{decided, ground_of}
 use Rattle.recovery_plans.specs.Moves as move
 use Rattle.recovery_plans.specs.Recoveries.{Recovery}
 use Rattle.recovery_plans.specs.Taking.{is_waiting, taken}
-use Rattle.recovery_plans.specs.declared.means.Means.{Means}
 use Rattle.recovery_plans.specs.declared.purpose.Purpose.TheVariants as purpose
-use Rattle.plan_texts.specs.declared.line.Apart.{Apart}
 use Rattle.plan_texts.specs.declared.line.Apart.TheVariants as apart
-use Rattle.plan_texts.specs.declared.line.Expect.{Expect}
 use Rattle.plan_texts.specs.declared.line.Expect.TheVariants as expect
-use Rattle.plan_texts.specs.declared.line.Line.{Line}
 use Rattle.plan_texts.specs.declared.line.Line.TheVariants as line
 use Rattle.plan_lines.specs.Takeovers.{takeover_lines}
 

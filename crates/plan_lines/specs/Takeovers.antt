@@ -12,8 +12,8 @@ abbrev pub shut : ServerNo → ServerNo → List Line
 shut m d = line.Does (op.Status m None) expect.Root ∷ all_as_told (op.ReadOnly m true ∷ gather m d)
 
 -- another replica n comes to the position at which d stopped, and goes below d
-abbrev pub led : ServerNo → ServerNo → ServerNo → List Line
-led m d n = judged m (op.Status n None ∷ []) ++ (judged m (trail n d) ++ all_as_told (op.Cross cross.Down n d ∷ op.Start n ∷ []))
+abbrev pub lines_below : ServerNo → ServerNo → ServerNo → List Line
+lines_below m d n = judged m (op.Status n None ∷ []) ++ (judged m (trail n d) ++ all_as_told (op.Cross cross.Down n d ∷ op.Start n ∷ []))
 
 -- d loses its source, which goes below it, and takes writes
 abbrev pub yielded : ServerNo → ServerNo → List Line
@@ -21,4 +21,4 @@ yielded m d = all_as_told (op.Reset d ∷ op.Cross cross.About m d ∷ op.ReadOn
 
 -- d takes the place of m, whose other replicas are these
 abbrev pub takeover_lines : ServerNo → ServerNo → List ServerNo → List Line
-takeover_lines m d others = shut m d ++ (flat_map (λ n. led m d n) others ++ yielded m d)
+takeover_lines m d others = shut m d ++ (flat_map (λ n. lines_below m d n) others ++ yielded m d)

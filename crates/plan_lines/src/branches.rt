@@ -1,8 +1,7 @@
 //! The plan of a recovery or a regroup: of its branches the one that is expected.
 
 ghost use Rattle.std.specs.Prelude.{◌≡◌, ◌<◌, ◌++◌, All, IfOk, OnOk, filter_map, length};
-ghost use Rattle.std.specs.List.{flat_map};
-ghost use Rattle.plan_lines.specs.Prelude.{chosen_of, ground_by};
+ghost use Rattle.plan_lines.specs.Prelude.{chosen_of, flat_map, ground_by};
 ghost use Rattle.plan_lines.specs.Branches.{away, choice_lines, gathered, handed, handed_over, has_branches, kept_for, left, recovery_lines, recovery_plan, way_of};
 
 use crate::Memory;

@@ -1,9 +1,7 @@
 //! Below the chosen one.
 
 ghost use Rattle.std.specs.Prelude.{◌≡◌, ◌<◌, ◌++◌, All, IfOk, OnOk, filter_map, length};
-ghost use Rattle.std.specs.List.{flat_map};
-ghost use Rattle.std.specs.Option.{option_to_list};
-ghost use Rattle.plan_lines.specs.Prelude.{by_lot, ground_by, lot_by};
+ghost use Rattle.plan_lines.specs.Prelude.{by_lot, flat_map, ground_by, lot_by, option_to_list};
 ghost use Rattle.plan_lines.specs.Branches.{apart_from, chosen_line, chosen_lines, crowned, expect_on, follower_in, is_no, is_refused, last_lines, lot_for, lot_lines, parted, way_lines, wins};
 
 use crate::Memory;

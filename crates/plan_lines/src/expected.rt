@@ -1,8 +1,7 @@
 //! What is expected of the replicas of a failed server.
 
 ghost use Rattle.std.specs.Prelude.{◌≡◌, ◌<◌, ◌++◌, All, IfOk, OnOk, length};
-ghost use Rattle.std.specs.Option.{option_to_list};
-ghost use Rattle.plan_lines.specs.Prelude.{instance_at};
+ghost use Rattle.plan_lines.specs.Prelude.{instance_at, option_to_list};
 ghost use Rattle.plan_lines.specs.Expected.{all_drained, drained, expected, expected_at};
 
 use crate::Memory;

@@ -2,7 +2,7 @@
 
 ghost use Rattle.std.specs.Prelude.{◌≡◌, IfOk};
 ghost use Rattle.plan_lines.specs.Prelude.{but};
-ghost use Rattle.plan_lines.specs.Takeovers.{led, shut, takeover_lines, yielded};
+ghost use Rattle.plan_lines.specs.Takeovers.{lines_below, shut, takeover_lines, yielded};
 
 use crate::Memory;
 use crate::operations_items::{Aim, Crossing, Op};
@@ -28,8 +28,8 @@ fn shut(alloc: Global, m: ServerNo, d: ServerNo) -> Result<Vec<Line>, Memory>
 }
 
 // Another replica comes to the position at which that one stopped, and goes below it.
-fn led(alloc: Global, m: ServerNo, d: ServerNo, no: ServerNo) -> Result<Vec<Line>, Memory>
-    ensures { IfOk result (λ lines. lines.items ≡ led m d no) }
+fn lines_below(alloc: Global, m: ServerNo, d: ServerNo, no: ServerNo) -> Result<Vec<Line>, Memory>
+    ensures { IfOk result (λ lines. lines.items ≡ lines_below m d no) }
 {
     Ok(vec![in alloc;
         Line::Does(Op::Status(no, None), Expect::Below(m)),
@@ -67,7 +67,7 @@ pub(crate) fn takeover_lines(
     let mut lines = shut(alloc, m, d)?;
     for no in replicas {
         if no.0 != d.0 {
-            lines.append(&mut led(alloc, m, d, *no)?)?;
+            lines.append(&mut lines_below(alloc, m, d, *no)?)?;
         }
     }
     lines.append(&mut yielded(alloc, m, d)?)?;

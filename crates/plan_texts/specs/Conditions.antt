@@ -10,7 +10,7 @@ use Rattle.plan_texts.specs.declared.line.Expect.{Expect}
 use Rattle.plan_texts.specs.declared.line.Expect.TheVariants as expect
 use Rattle.plan_texts.specs.declared.line.Line.{Line}
 use Rattle.plan_texts.specs.Letters.{letter}
-use Rattle.plan_texts.specs.Statements.{aim_words, told}
+use Rattle.plan_texts.specs.Statements.{aim_words, latest_source}
 
 abbrev pub note_words : List ServerNo → ServerNo → List ℕ
 note_words order n = codes " -- note " ++ letter order n
@@ -54,7 +54,7 @@ passes_words order n m more = codes "; only where " ++ letter order n ++ over_wo
 
 abbrev pub cross_condition : List ServerNo → List Line → Crossing → ServerNo → ServerNo → List ℕ
 cross_condition order before cross.Up a b = stands_words order a (letter order b) (EndOf b)
-cross_condition order before cross.Down a b = stands_words order a (source_letter order b (told before b)) (ExecOf b)
+cross_condition order before cross.Down a b = stands_words order a (source_letter order b (latest_source before b)) (ExecOf b)
 cross_condition order before cross.About a b = ends_words order a (ExecOf b)
 cross_condition order before cross.Back a b = ends_words order a (EndOf a)
 
@@ -80,7 +80,7 @@ condition order before (op.AwaitSet n m) = codes " -- again until it answers 0; 
 condition order before (op.Settle n) =
     note_words order n ++ codes "; again until " ++ letter order n ++ codes ".exec = " ++ letter order n ++ codes ".read or its applier is off"
 condition order before (op.Cross c a b) = cross_condition order before c a b
-condition order before (op.Same n) = stands_words order n (source_letter order n (told before n)) (ExecOf n)
+condition order before (op.Same n) = stands_words order n (source_letter order n (latest_source before n)) (ExecOf n)
 condition order before (op.Auto n m) = contained_words order n m
 condition order before (op.Match n m every) =
     note_words order n ++ codes ".match, by hand: the place in the log of " ++ letter order m ++ codes " behind all that " ++ letter order n
@@ -97,7 +97,7 @@ by_hand_words order n m =
     ++ letter order n ++ codes " has executed"
 
 abbrev pub still_words : List ServerNo → List Line → ServerNo → List ℕ
-still_words order before n = codes "; " ++ below_at_words order n (source_letter order n (told before n)) (ExecOf n)
+still_words order before n = codes "; " ++ below_at_words order n (source_letter order n (latest_source before n)) (ExecOf n)
 
 -- what is after the statements of an operation if this is expected of its server
 abbrev pub expected_condition : List ServerNo → List Line → Op → ServerNo → Expect → List ℕ

@@ -1,8 +1,7 @@
 -- Examples: two plans as texts, and lines of operations and expectations that these don't have.
 use Rattle.std.specs.Prelude.{ℕ, true, false, List, [], ◌∷◌, ◌++◌, codes, map, Some, None}
-use Rattle.plan_texts.specs.Prelude.{About, Back, Cross, CrossMatch, Detach, Finish, HostPort, Match, Op, Reattach, Same, ServerNo, Settle, Status}
-use Rattle.plan_texts.specs.Prelude.{StopReceiver, Up, auto, up}
-use Rattle.plan_texts.specs.Prelude.{Down}
+use Rattle.plan_texts.specs.Prelude.{About, Back, Cross, CrossMatch, Detach, Down, Finish, HostPort, Match, Op, Reattach, Same, ServerNo, Settle}
+use Rattle.plan_texts.specs.Prelude.{Status, StopReceiver, Up, auto, up}
 use Rattle.plan_texts.specs.declared.line.Apart.TheVariants as apart
 use Rattle.plan_texts.specs.declared.line.Expect.TheVariants as expect
 use Rattle.plan_texts.specs.declared.line.Line.{Line}

@@ -56,8 +56,8 @@ told_in n (line.Chosen m before less) = None
 told_in n (line.Lost m beside apart) = None
 
 -- the latest that a line has
-abbrev pub told : List Line → ServerNo → Option ServerNo
-told before n = fold (λ found l. option_or (told_in n l) found) None before
+abbrev pub latest_source : List Line → ServerNo → Option ServerNo
+latest_source before n = fold (λ found l. option_or (told_in n l) found) None before
 
 -- ---- texts of statements
 
@@ -106,9 +106,9 @@ read_only_words false = codes "SET PERSIST super_read_only=OFF; SET PERSIST read
 -- ---- statements
 
 abbrev pub cross_statement : List HostPort → List ServerNo → List Line → Crossing → ServerNo → ServerNo → List ℕ
-cross_statement names order before cross.Up a b = change_words order (source_words names order b (told before b)) (ExecOf b)
+cross_statement names order before cross.Up a b = change_words order (source_words names order b (latest_source before b)) (ExecOf b)
 cross_statement names order before cross.Down a b = change_words order (named_words names b) (EndOf b)
-cross_statement names order before cross.About a b = change_words order (named_words names b) (EndOf b) ++ login_words (told before a)
+cross_statement names order before cross.About a b = change_words order (named_words names b) (EndOf b) ++ login_words (latest_source before a)
 cross_statement names order before cross.Back a b = change_words order (named_words names b) (ExecOf a) ++ login_words None
 
 -- A server is stopped and read, and its source changes. The new source is the one that was noted, after so many
@@ -141,7 +141,7 @@ statement names order before (op.Await n aim) = reading_words
 statement names order before (op.AwaitSet n m) = codes "SELECT WAIT_FOR_EXECUTED_GTID_SET(':" ++ letter order m ++ codes ".gtids', 1)"
 statement names order before (op.Settle n) = reading_words
 statement names order before (op.Cross c a b) = cross_statement names order before c a b
-statement names order before (op.Same n) = change_words order (source_words names order n (told before n)) (ExecOf n)
+statement names order before (op.Same n) = change_words order (source_words names order n (latest_source before n)) (ExecOf n)
 statement names order before (op.Auto n m) = codes "CHANGE REPLICATION SOURCE TO " ++ named_words names m ++ codes ", SOURCE_AUTO_POSITION=1"
 statement names order before (op.Match n m every) = codes "SHOW BINLOG EVENTS"
 statement names order before (op.CrossMatch n m) = match_change names order n m

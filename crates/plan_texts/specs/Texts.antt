@@ -1,13 +1,12 @@
 -- The text of a plan: a warning, the servers by their letters, and a numbered line for each operation.
 use Rattle.std.specs.Prelude.{ℕ, ◌+◌, Bool, true, false, List, [], ◌∷◌, ◌++◌, codes, decimal, slice_get, Option, Some, None}
-use Rattle.plan_texts.specs.Prelude.{HostPort, Op, ServerNo}
+use Rattle.plan_texts.specs.Prelude.{HostPort, Op, ServerNo, printed_at}
 use Rattle.plan_texts.specs.declared.line.Expect.{Expect}
 use Rattle.plan_texts.specs.declared.line.Line.{Line}
 use Rattle.plan_texts.specs.declared.line.Line.TheVariants as line
 use Rattle.plan_texts.specs.Conditions.{chosen_words, expected_condition, lost_words}
 use Rattle.plan_texts.specs.Letters.{letter, order_of, subject}
 use Rattle.plan_texts.specs.Statements.{expected_statement}
-use Rattle.operations.specs.OrchBase.Names.{printed_at}
 
 -- what a plan doesn't say
 unfoldable pub warning : List ℕ

@@ -3,13 +3,13 @@
 ghost use Rattle.std.specs.Prelude.{◌≡◌, ◌++◌, codes, true, OnOk};
 ghost use Rattle.plan_texts.specs.Conditions.{below_at_words, below_words, by_hand_words, chosen_words, condition, contained_words, cross_condition, ends_words, expected_condition, lost_words, note_words, noted_words, over_words, passes_words, reaches_words, source_letter, stands_words, still_words};
 ghost use Rattle.plan_texts.specs.Letters.{letter};
-ghost use Rattle.plan_texts.specs.Statements.{told};
+ghost use Rattle.plan_texts.specs.Statements.{latest_source};
 
 use crate::Memory;
 use crate::letters::print_letter;
 use crate::line::{Apart, Expect, Line};
 use crate::orch_base::ServerNo;
-use crate::told::told;
+use crate::told::latest_source;
 use crate::words::{print_aim, print_lettered};
 use operations::{Aim, Crossing, Op};
 
@@ -193,7 +193,7 @@ fn print_crossing(
 {
     match crossing {
         Crossing::Up => print_stands(order, a, b, Some(b), Aim::EndOf(b), out),
-        Crossing::Down => print_stands(order, a, b, told(before, b), Aim::ExecOf(b), out),
+        Crossing::Down => print_stands(order, a, b, latest_source(before, b), Aim::ExecOf(b), out),
         Crossing::About => print_ends(order, a, Aim::ExecOf(b), out),
         Crossing::Back => print_ends(order, a, Aim::EndOf(a), out),
     }
@@ -266,7 +266,14 @@ fn print_condition(
         Op::AwaitSet(_, _) => out.extend_from_slice(awaiting()),
         Op::Settle(no) => print_settled(order, *no, out),
         Op::Cross(crossing, a, b) => print_crossing(order, before, *crossing, *a, *b, out),
-        Op::Same(no) => print_stands(order, *no, *no, told(before, *no), Aim::ExecOf(*no), out),
+        Op::Same(no) => print_stands(
+            order,
+            *no,
+            *no,
+            latest_source(before, *no),
+            Aim::ExecOf(*no),
+            out,
+        ),
         Op::Auto(no, of) => print_contained(order, *no, *of, out),
         Op::Match(no, with, _) => print_match(order, *no, *with, out),
         Op::CrossMatch(no, _) => print_matched(order, *no, out),
@@ -319,7 +326,14 @@ fn print_still(
     ensures { OnOk result (out.new.items ≡ out.old.items ++ still_words order.now before.now no) }
 {
     out.extend_from_slice(b"; ")?;
-    print_below_at(order, no, no, told(before, no), Aim::ExecOf(no), out)
+    print_below_at(
+        order,
+        no,
+        no,
+        latest_source(before, no),
+        Aim::ExecOf(no),
+        out,
+    )
 }
 
 fn print_by_hand_still(

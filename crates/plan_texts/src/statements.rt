@@ -8,7 +8,7 @@ ghost use Rattle.plan_texts.specs.Statements.{auto_change, change_words, cross_s
 use crate::Memory;
 use crate::line::{Expect, Line};
 use crate::orch_base::{Name, ServerNo};
-use crate::told::told as told_source;
+use crate::told::latest_source;
 use crate::words::{login, print_lettered, print_named, print_own, print_source, print_spot};
 use operations::{Aim, Crossing, Op};
 
@@ -102,13 +102,13 @@ fn print_crossing(
 {
     match crossing {
         Crossing::Up => {
-            let source = told_source(told.before, b);
+            let source = latest_source(told.before, b);
             print_to_source(told, b, source, Aim::ExecOf(b), out)
         }
         Crossing::Down => print_to_server(told, b, Aim::EndOf(b), out),
         Crossing::About => {
             print_to_server(told, b, Aim::EndOf(b), out)?;
-            out.extend_from_slice(login(told_source(told.before, a)))
+            out.extend_from_slice(login(latest_source(told.before, a)))
         }
         Crossing::Back => {
             print_to_server(told, b, Aim::ExecOf(a), out)?;
@@ -214,7 +214,7 @@ fn print_statement(told: &Told<'_>, op: &Op, out: &mut Vec<u8>) -> Result<(), Me
         Op::AwaitSet(_, of) => print_wait(told.order, *of, out),
         Op::Cross(crossing, a, b) => print_crossing(told, *crossing, *a, *b, out),
         Op::Same(no) => {
-            let source = told_source(told.before, *no);
+            let source = latest_source(told.before, *no);
             print_to_source(told, *no, source, Aim::ExecOf(*no), out)
         }
         Op::Auto(_, to) => print_auto(told.names, *to, out),

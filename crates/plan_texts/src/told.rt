@@ -1,7 +1,7 @@
 //! The sources that lines have.
 
 ghost use Rattle.std.specs.Prelude.{◌≡◌};
-ghost use Rattle.plan_texts.specs.Statements.{below_in, expected_by, told, told_by, told_in};
+ghost use Rattle.plan_texts.specs.Statements.{below_in, expected_by, latest_source, told_by, told_in};
 
 use crate::letters::subject;
 use crate::line::{Expect, Line};
@@ -77,8 +77,8 @@ fn told_in(line: &Line, no: ServerNo) -> Option<ServerNo>
 }
 
 /// The latest source of a server that these lines have.
-pub(crate) fn told(before: &[Line], no: ServerNo) -> Option<ServerNo>
-    ensures { result ≡ told before.now no }
+pub(crate) fn latest_source(before: &[Line], no: ServerNo) -> Option<ServerNo>
+    ensures { result ≡ latest_source before.now no }
 {
     let mut found = None;
     for line in before {

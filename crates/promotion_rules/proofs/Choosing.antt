@@ -1,20 +1,10 @@
 -- A choice is the first of those that pass.
-use Rattle.std.proofs.Common.{◌≡◌, Bool, true, false, cond, List, [], ◌∷◌, refl, sym, ◌∙◌, ap, Option, Some, None}
-use Rattle.std.specs.Prelude.{◌↔◌, ◌==◌, ◌&&◌, ◌||◌, All, Contains, filter, nat_lt, option_map}
-use Rattle.std.specs.Cmp.{IsTotalOrder}
-use Rattle.std.specs.Ordering.{is_lt, nat_cmp, ordering_then}
-use Rattle.std.specs.declared.cmp.Ordering.{Ordering}
-use Rattle.std.specs.declared.cmp.Ordering.TheVariants.{Less, Equal, Greater}
-use Rattle.std.proofs.lemmas.Bool.{false≢true}
-use Rattle.std.proofs.lemmas.List.Elements.{All-nil, All-cons, All-head, All-tail, All-weaker, All-contains_itself, All-filter, filter_passes}
-use Rattle.std.proofs.lemmas.Option.{same_Some}
-use Rattle.instance_keeper.specs.BinlogCoords.declared.Coord.{Coord}
-use Rattle.instance_keeper.specs.BinlogCoords.Log.{is_before}
-use Rattle.instance_keeper.specs.OrchBase.Names.{HostPort}
-use Rattle.instance_keeper.specs.OrchBase.declared.server.ServerNo.{ServerNo}
-use Rattle.promotion_rules.specs.declared.drained.Drained.{Drained}
-use Rattle.promotion_rules.specs.Choice.{advance_order, coord_order, first_by, nearer_order}
-use Rattle.promotion_rules.specs.Chosen.{HasExecutedMost, IsChoice}
+pub use Rattle.instance_keeper.proofs.KeptRows.Lists.{filter_none as filtered-none}
+use Rattle.std.proofs.Common.{◌≡◌, Bool, true, false, cond, List, [], ◌∷◌, refl, sym, ◌∙◌, ap, Option, Some, None, ◌↔◌, ◌==◌, ◌&&◌, ◌||◌, All, Contains, filter, nat_lt, option_map}
+use Rattle.promotion_rules.proofs.Prelude.{All-cons, All-contains_itself, All-filter, All-head, All-nil, All-tail, All-weaker, Coord, Drained, Equal}
+use Rattle.promotion_rules.proofs.Prelude.{Greater, HasExecutedMost, HostPort, IsChoice, IsTotalOrder, Less, Ordering, ServerNo, advance_order}
+use Rattle.promotion_rules.proofs.Prelude.{coord_order, false≢true, filter_passes, first_by, is_before, is_lt, nat_cmp, nearer_order, ordering_then}
+use Rattle.promotion_rules.proofs.Prelude.{same_Some}
 use Rattle.promotion_rules.proofs.Firsts.{All-first, first_is_least, no_first}
 
 -- what is filtered is empty exactly if nothing passes
@@ -25,11 +15,6 @@ none-filtered {X} p (x ∷ xs) e = go (p x) refl e (none-filtered p xs)
     go : (b : Bool) → p x ≡ b → cond b (x ∷ filter p xs) (filter p xs) ≡ [] → (filter p xs ≡ [] → All (λ y. p y ≡ false) xs) → All (λ y. p y ≡ false) (x ∷ xs)
     go true f g rest = cc
     go false f g rest = All-cons (λ y. p y ≡ false) x xs f (rest g)
-
-pub filtered-none : {X : Type 0} (p : X → Bool) (xs : List X) → All (λ x. p x ≡ false) xs → filter p xs ≡ []
-filtered-none p [] all = refl
-filtered-none p (x ∷ xs) all =
-    ap (λ b. cond b (x ∷ filter p xs) (filter p xs)) (All-head (λ y. p y ≡ false) x xs all) ∙ filtered-none p xs (All-tail (λ y. p y ≡ false) x xs all)
 
 -- what holds of those that are filtered holds of those that pass
 passing : {X : Type 0} (p : X → Bool) (P : X → Type 0) (xs : List X) → All P (filter p xs) → All (λ x. p x ≡ true → P x) xs

@@ -1,21 +1,9 @@
 -- The first of a list by an order.
-use Rattle.std.proofs.lemmas.Bool.{and_left as both-false}
-use Rattle.std.proofs.lemmas.Bool.{not-true as not-false}
-use Rattle.std.proofs.Common.{◌≡◌, ℕ, ◌+◌, ◌<◌, Bool, true, false, cond, not, suc, ◌&&◌, List, [], ◌∷◌, ◌++◌, length, get_or, take, refl, sym, ◌∙◌, ap, subst, Option, Some, None, arith}
-use Rattle.std.specs.Prelude.{All, filter, find, Contains}
-use Rattle.std.specs.List.{list_all}
-use Rattle.std.specs.Cmp.{IsTotalOrder, IsStrictWeakOrder}
-use Rattle.std.specs.Option.{option_or}
-use Rattle.std.specs.Ordering.{is_lt}
-use Rattle.std.specs.declared.cmp.Ordering.{Ordering}
-use Rattle.std.proofs.lemmas.Bool.{false≢true, and_parts}
-use Rattle.std.proofs.lemmas.Cmp.{tied_itself}
-use Rattle.std.proofs.lemmas.List.Elements.{All-nil, All-cons, All-head, All-tail, All-contains, All-push, All-weaker, filter_more}
-use Rattle.std.proofs.lemmas.List.{append-nil}
-use Rattle.std.proofs.lemmas.List.Folds.{find-append, list_all-append}
-use Rattle.std.proofs.lemmas.List.Sorted.{ranks_by}
-use Rattle.std.proofs.lemmas.Option.{same_Some}
-use Rattle.promotion_rules.specs.Choice.{first_by, comes_first}
+use Rattle.promotion_rules.proofs.Prelude.{All-cons, All-contains, All-head, All-nil, All-push, All-tail, All-weaker, IsStrictWeakOrder, IsTotalOrder}
+use Rattle.promotion_rules.proofs.Prelude.{Ordering, and_left as both-false, and_parts, append-nil, comes_first, false≢true, filter_more, find-append}
+use Rattle.promotion_rules.proofs.Prelude.{first_by, is_lt, list_all, list_all-append, not-true as not-false, option_or, ranks_by, same_Some}
+use Rattle.promotion_rules.proofs.Prelude.{tied_itself}
+use Rattle.std.proofs.Common.{◌≡◌, ℕ, ◌+◌, ◌<◌, Bool, true, false, cond, not, suc, ◌&&◌, List, [], ◌∷◌, ◌++◌, length, get_or, take, refl, sym, ◌∙◌, ap, subst, Option, Some, None, arith, All, filter, find, Contains}
 
 module _ {X : Type 0} (p : X → Bool) where
   -- what is found passes

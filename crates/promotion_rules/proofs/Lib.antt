@@ -1,3 +1,4 @@
+mod Prelude
 pub mod Firsts
 pub mod Orders
 pub mod Choosing

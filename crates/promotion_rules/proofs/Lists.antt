@@ -1,9 +1,6 @@
 -- Lists of what a function gives of each of a list.
-use Rattle.std.proofs.Common.{◌≡◌, ℕ, ◌+◌, ◌<◌, List, [], ◌∷◌, ◌++◌, take, length, get_or, refl, sym, ◌∙◌, ap, Option, Some, None}
-use Rattle.std.specs.Prelude.{filter_map}
-use Rattle.std.specs.Option.{option_to_list}
-use Rattle.std.proofs.lemmas.List.{take_more}
-use Rattle.std.proofs.lemmas.List.Elements.{filter_map-append}
+use Rattle.std.proofs.Common.{◌≡◌, ℕ, ◌+◌, ◌<◌, List, [], ◌∷◌, ◌++◌, take, length, get_or, refl, sym, ◌∙◌, ap, Option, Some, None, filter_map}
+use Rattle.promotion_rules.proofs.Prelude.{filter_map-append, option_to_list, take_more}
 
 cons-list : {Y : Type 0} (o : Option Y) → Rattle.std.specs.List.cons_option o [] ≡ option_to_list o
 cons-list None = refl

@@ -1,13 +1,7 @@
 -- The orders among drained replicas.
 use Rattle.std.proofs.Common.{List}
-use Rattle.std.specs.Cmp.{IsTotalOrder}
-use Rattle.std.proofs.lemmas.Cmp.{back_total, nat_cmp_total, on_total, then_total}
-use Rattle.instance_keeper.specs.BinlogCoords.declared.Coord.{Coord}
-use Rattle.instance_keeper.specs.OrchBase.Names.{HostPort}
-use Rattle.instance_keeper.specs.NameOrder.NameOrder.{named}
-use Rattle.instance_keeper.proofs.NameOrder.ByName.{order_total}
-use Rattle.promotion_rules.specs.declared.drained.Drained.{Drained}
-use Rattle.promotion_rules.specs.Choice.{advance_order, coord_order, nearer_order, rank, rank_order, server_order}
+use Rattle.promotion_rules.proofs.Prelude.{Coord, Drained, HostPort, IsTotalOrder, advance_order, back_total, coord_order, named, nat_cmp_total}
+use Rattle.promotion_rules.proofs.Prelude.{nearer_order, on_total, order_total, rank, rank_order, server_order, then_total}
 
 coord_total : IsTotalOrder coord_order
 coord_total = then_total (on_total (λ (c : Coord). c.file) nat_cmp_total) (on_total (λ (c : Coord). c.pos) nat_cmp_total)

@@ -1,8 +1,6 @@
 -- The ranks of drained replicas.
-use Rattle.std.proofs.Common.{◌≡◌, ℕ, ◌<◌, ◌+◌, Bool, true, false, cond, ap, arith}
-use Rattle.std.specs.Prelude.{◌↔◌, ◌*◌}
-use Rattle.promotion_rules.specs.declared.drained.Drained.{Drained}
-use Rattle.promotion_rules.specs.Choice.{precedence, rank}
+use Rattle.std.proofs.Common.{◌≡◌, ℕ, ◌<◌, ◌+◌, Bool, true, false, cond, ap, arith, ◌↔◌, ◌*◌}
+use Rattle.promotion_rules.proofs.Prelude.{Drained, precedence, rank}
 
 by-rule : (m n : ℕ) (a b : Bool) → m < n → 2 * m + cond a 0 1 < 2 * n + cond b 0 1
 by-rule m n true true h = omega (arith, h)

@@ -30,6 +30,13 @@ row_of command.MatchUp = Busy ∷ Unreachable ∷ NoSource ∷ AlreadyDetached �
 row_of command.MatchReplicas = match_row
 row_of command.RegroupReplicas = Busy ∷ []
 
+-- after the one that its instances are known, its first check is that no job has its instance's lease
+abbrev pub is_held_first : MatchCommand → Bool
+is_held_first command.Match = false
+is_held_first command.MatchUp = true
+is_held_first command.MatchReplicas = false
+is_held_first command.RegroupReplicas = true
+
 -- the checks of marks, of servers that move and of replicas that are regrouped, if there are none and if there are
 abbrev pub moved_row : Bool → List Check
 moved_row true = PseudoOff ∷ MovedNotLogging ∷ []

@@ -5,7 +5,7 @@ ghost use Rattle.permission.specs.OrchBase.Gives.{Gives};
 ghost use Rattle.permission.specs.BookViews.Forests.{book_forest};
 ghost use Rattle.permission.specs.Checks.{permit_fault, permitted};
 ghost use Rattle.pseudo_match.specs.Commands.{pseudo_command};
-ghost use Rattle.pseudo_match.specs.Permits.{case_of, last_row_of, own_refusal, refusal_about, refusal_of, row_of, sources_over};
+ghost use Rattle.pseudo_match.specs.Permits.{case_of, is_held_first, last_row_of, own_refusal, refusal_about, refusal_of, row_of, sources_over};
 
 use crate::book_views::replicas;
 use crate::command::pseudo_command;
@@ -53,6 +53,16 @@ fn row_of(command: MatchCommand) -> &'static [Check]
         MatchCommand::Match | MatchCommand::MatchReplicas => &MATCH,
         MatchCommand::MatchUp => &MATCH_UP,
         MatchCommand::RegroupReplicas => &REGROUP,
+    }
+}
+
+/// Whether the first check of a command, after that of known instances, is that no job has its instance's lease.
+pub fn is_held_first(command: MatchCommand) -> bool
+    ensures { result ≡ is_held_first command }
+{
+    match command {
+        MatchCommand::MatchUp | MatchCommand::RegroupReplicas => true,
+        MatchCommand::Match | MatchCommand::MatchReplicas => false,
     }
 }
 

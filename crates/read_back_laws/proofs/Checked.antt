@@ -1,10 +1,9 @@
 -- The servers of a dump are an opening, if the limits of scenarios are kept.
-use Rattle.std.proofs.Common.{◌≡◌, ◌∙◌, ℕ, ◌*◌, ◌<◌, ◌≤◌, true, length, All, refl, sym, ap, subst, Option, Some, None, arith, get_or, sum_by}
-use Rattle.std.specs.Prelude.{option_map, slice_get}
-use Rattle.read_back_laws.proofs.Prelude.{IsAlone, IsChecked, IsListed, IsPart, IsScenario, IsServer, IsTidy, IsWithinLimits, IsWorldOf, Part, Scenario, Server}
-use Rattle.read_back_laws.proofs.Prelude.{ServerInit, ServerNo, Settings, Txn, World, get_or-le-sum_by, get_or_from_slice_get, init_by, init_of, length-map}
-use Rattle.read_back_laws.proofs.Prelude.{opening, opening_of, same_Some, same_name, server_at, slice_get-map, slice_get_within, source_in, source_no}
-use Rattle.read_back_laws.proofs.Prelude.{transactions}
+use Rattle.std.proofs.Common.{◌≡◌, ◌∙◌, ℕ, ◌*◌, ◌<◌, ◌≤◌, true, length, All, refl, sym, ap, subst, Option, Some, None, arith, get_or, sum_by, option_map, slice_get}
+use Rattle.read_back_laws.proofs.Prelude.{IsAlone, IsChecked, IsListed, IsPart, IsScenario, IsServer, IsTidy, IsWithinLimits, IsWorldOf, Part}
+use Rattle.read_back_laws.proofs.Prelude.{Scenario, Server, ServerInit, ServerNo, Settings, Txn, World, get_or-le-sum_by, get_or_from_slice_get}
+use Rattle.read_back_laws.proofs.Prelude.{init_by, init_of, length-map, opening, opening_of, same_name, same_Some, server_at, slice_get-map}
+use Rattle.read_back_laws.proofs.Prelude.{slice_get_within, source_in, source_no, transactions, within_product}
 use Rattle.scenarios.specs.Openings.Servers.{number_of}
 use Rattle.read_back_laws.proofs.Prelude.Servers as listed
 use Rattle.read_back_laws.proofs.Flaws.{flawless-given, parts-given}
@@ -27,10 +26,6 @@ auto-by s (Some m) auto = auto
 auto-given : (s : Server) → (init_of s).auto ≡ true → s.auto ≡ true
 unfolding init_of
 auto-given s auto = auto-by s (source_in s.source) auto
-
--- a number is at most its product with a number above zero
-within_product : (n m : ℕ) → 0 < n → m ≤ n * m
-within_product n m h = grind arith
 
 -- the server of the scenario with the settings of a server of the world
 record IsListedAs (s : Scenario) (n : ℕ) (settings : Settings) : Type 0 where

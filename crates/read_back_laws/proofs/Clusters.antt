@@ -1,6 +1,5 @@
 -- Drawn servers are of the cluster of their source.
-use Rattle.std.proofs.Common.{◌≡◌, ◌∙◌, ◌<◌, ℕ, zero, suc, ◌+◌, true, false, ◌∷◌, List, [], length, Option, Some, None, refl, sym, ap, arith}
-use Rattle.std.specs.Prelude.{nat_eq, not, slice_get}
+use Rattle.std.proofs.Common.{◌≡◌, ◌∙◌, ◌<◌, ℕ, zero, suc, ◌+◌, true, false, ◌∷◌, List, [], length, Option, Some, None, refl, sym, ap, arith, nat_eq, not, slice_get}
 use Rattle.read_back_laws.proofs.Prelude.{ArePlaced, DrawnServer, Given, IsLoopless, IsPlaced, Replica, ServerInit, at_server, eq-eqb, first_met, given_of}
 use Rattle.read_back_laws.proofs.Prelude.{givens_from, inits_from_drawn, label_at, other_cluster, pointwise, root_in, same-end, same_cluster, slice_get_within}
 use Rattle.scenario_generator.specs.declared.server.DrawnServer.TheVariants.{Root}

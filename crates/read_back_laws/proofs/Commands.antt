@@ -1,6 +1,5 @@
 -- Written commands read.
-use Rattle.std.proofs.Common.{◌≡◌, ◌∙◌, ◌≤◌, ℕ, Bool, true, List, Option, Some, None, Ok, length, refl, sym, ap, arith}
-use Rattle.std.specs.Prelude.{◌&&◌, IfSome, codes, decimal, nat_le, option_map}
+use Rattle.std.proofs.Common.{◌≡◌, ◌∙◌, ◌≤◌, ℕ, Bool, true, List, Option, Some, None, Ok, length, refl, sym, ap, arith, ◌&&◌, IfSome, codes, decimal, nat_le, option_map}
 use Rattle.read_back_laws.proofs.Prelude.{CommandTurn, Data, Found, HostPort, IsKnown, IsTold, Members, NamesRead, Rule, ServerNo, command_in, command_keys}
 use Rattle.read_back_laws.proofs.Prelude.{duration_in, found_in, get_member, given_data, given_in, given_members, has_needed, instances_in, is_there, is_within}
 use Rattle.read_back_laws.proofs.Prelude.{item, le-leb, ltb-true, maybe_in, name_data, name_of-word_of, needs_of, no_items, no_members, only_keys, pattern_in}

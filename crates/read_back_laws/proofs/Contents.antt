@@ -1,6 +1,5 @@
 -- The content of a string of a text that is UTF-8 is UTF-8.
-use Rattle.std.proofs.Common.{◌≡◌, ◌∙◌, ◌<◌, ◌≤◌, ◌+◌, ◌*◌, ◌==◌, ◌||◌, ◌&&◌, ◌⊎◌, inl, inr, ℕ, zero, suc, Bool, true, false, cond, List, [], ◌∷◌, ◌++◌, length, get_or, Option, Some, None, IfSome, option_and_then, IsUtf8, refl, sym, ap, subst, arith, append_assoc, append-nil, length-append, eqb, ltb, leb}
-use Rattle.std.specs.Prelude.{nat_le, nat_lt}
+use Rattle.std.proofs.Common.{◌≡◌, ◌∙◌, ◌<◌, ◌≤◌, ◌+◌, ◌*◌, ◌==◌, ◌||◌, ◌&&◌, ◌⊎◌, inl, inr, ℕ, zero, suc, Bool, true, false, cond, List, [], ◌∷◌, ◌++◌, length, get_or, Option, Some, None, IfSome, option_and_then, IsUtf8, refl, sym, ap, subst, arith, append_assoc, append-nil, length-append, eqb, ltb, leb, nat_le, nat_lt}
 use Rattle.read_back_laws.proofs.Prelude.{IsCharBoundary-after_ascii, IsScalar, IsUtf8-append, IsUtf8-drop, IsUtf8-encode, IsUtf8-nil, after_backslash}
 use Rattle.read_back_laws.proofs.Prelude.{after_high, after_u, and_parts, cases_lt, code_unit, content, digit_value, encode, encode_ascii, encode_utf8, encodes}
 use Rattle.read_back_laws.proofs.Prelude.{eqb-true, inside_one, is_digit, is_high_surrogate, is_low_surrogate, le-leb, le-ltb, leb-true, len_utf8_bounds}

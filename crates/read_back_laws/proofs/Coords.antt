@@ -1,9 +1,8 @@
 -- The positions of drawn replicas in their sources' logs.
-use Rattle.std.proofs.Common.{◌≡◌, ◌∙◌, ◌<◌, ◌≤◌, ◌==◌, ◌+◌, ℕ, zero, suc, Bool, true, false, cond, ◌∷◌, List, [], length, Some, None, refl, sym, ap, subst, arith, length-append}
-use Rattle.std.specs.Prelude.{get_or, nat_le, nat_lt, slice_get}
-use Rattle.read_back_laws.proofs.Prelude.{ArePlaced, Coord, DrawnServer, Given, Grown, IsPlaced, Laid-Grown, Log, Pushed, Replica, Txn, appended, bad_coords}
-use Rattle.read_back_laws.proofs.Prelude.{bad_coords_in, coord_after, entry_at_end, eq-eqb, first_met, flush, given_of, givens_from, history_at}
-use Rattle.read_back_laws.proofs.Prelude.{inits_from_drawn, laid, laid_after, le-ltb, log_at, log_by, log_in, opened, place, place-coord_after, push}
+use Rattle.std.proofs.Common.{◌≡◌, ◌∙◌, ◌<◌, ◌≤◌, ◌==◌, ◌+◌, ℕ, zero, suc, true, false, ◌∷◌, List, [], length, Some, None, refl, sym, ap, subst, arith, get_or, nat_lt, slice_get}
+use Rattle.read_back_laws.proofs.Prelude.{ArePlaced, Coord, DrawnServer, Given, Grown, IsPlaced, Laid-Grown, Log, Pushed, Replica, Txn, bad_coords}
+use Rattle.read_back_laws.proofs.Prelude.{bad_coords_in, coord_after, eq-eqb, first_met, given_of, givens_from, history_at, inits_from_drawn, laid}
+use Rattle.read_back_laws.proofs.Prelude.{laid_after, le-ltb, length-push, log_at, log_by, log_in, opened, place, place-coord_after, push}
 use Rattle.read_back_laws.proofs.Prelude.{slice_get-get_or, slice_get_within}
 use Rattle.scenario_reader.specs.BinlogCoords.Grown.{Opened}
 use Rattle.scenario_generator.specs.declared.server.DrawnServer.TheVariants.{Root}
@@ -18,16 +17,9 @@ laid_grown : (count : ℕ) (log : Log) (ts : List Txn) → ((k : ℕ) (t : Txn) 
 laid_grown count log [] some grown = grown
 laid_grown count log (t ∷ ts) some grown = laid_grown (count + 1) (push log t.size) ts (λ k u e. some (suc k) u e) (Pushed log t.size (some zero t refl) grown)
 
-push_count : (log : Log) (size : ℕ) → length (push log size).entries ≡ length log.entries + 1
-push_count log size = go (nat_le log.limit (log.pos + size))
-  where
-    go : (full : Bool) → length (cond full (flush (appended log size)) (appended log size)).entries ≡ length log.entries + 1
-    go true = length-append log.entries (entry_at_end log size ∷ [])
-    go false = length-append log.entries (entry_at_end log size ∷ [])
-
 laid_count : (count : ℕ) (log : Log) (ts : List Txn) → length (laid_after [] count log ts).entries ≡ length log.entries + length ts
 laid_count count log [] = omega arith
-laid_count count log (t ∷ ts) = omega (arith, push_count log t.size, laid_count (count + 1) (push log t.size) ts)
+laid_count count log (t ∷ ts) = omega (arith, length-push log t.size, laid_count (count + 1) (push log t.size) ts)
 
 -- ---- the log of a drawn server
 

@@ -1,6 +1,5 @@
 -- Flaws that drawn servers haven't.
-use Rattle.std.proofs.Common.{◌≡◌, ◌∙◌, ◌<◌, ◌≤◌, ◌==◌, ◌||◌, ℕ, zero, suc, ◌+◌, Bool, false, ◌∷◌, List, [], length, Option, Some, None, refl, sym, ap, subst, arith}
-use Rattle.std.specs.Prelude.{nat_lt, not, slice_get}
+use Rattle.std.proofs.Common.{◌≡◌, ◌∙◌, ◌<◌, ◌≤◌, ◌==◌, ◌||◌, ℕ, zero, suc, ◌+◌, Bool, false, ◌∷◌, List, [], length, Option, Some, None, refl, sym, ap, subst, arith, nat_lt, not, slice_get}
 use Rattle.read_back_laws.proofs.Prelude.{ArePlaced, DrawnServer, Given, IsPlaced, Replica, ServerInit, at_server, at_source, bad_files, below_itself}
 use Rattle.read_back_laws.proofs.Prelude.{both_given, count_of, first_met, given_of, givens_from, inits_from, inits_from_drawn, is_reached, is_reached_on}
 use Rattle.read_back_laws.proofs.Prelude.{le-ltb, log_at, log_at-files, ne_eqb, source_not_logging, too_many}
@@ -66,7 +65,7 @@ length-inits gs n (s ∷ ss) = ap suc (length-inits gs (n + 1) ss)
 
 -- ---- a test that no server meets
 
-none_met : (test : ℕ → ServerInit → Bool) (n : ℕ) (is : List ServerInit) → ((m : ℕ) (i : ServerInit) → slice_get is m ≡ Some i → test (n + m) i ≡ false) → first_met test n is ≡ None
+pub none_met : (test : ℕ → ServerInit → Bool) (n : ℕ) (is : List ServerInit) → ((m : ℕ) (i : ServerInit) → slice_get is m ≡ Some i → test (n + m) i ≡ false) → first_met test n is ≡ None
 none_met test n [] each = refl
 none_met test n (i ∷ is) each =
     let same : n + 0 ≡ n = omega arith in

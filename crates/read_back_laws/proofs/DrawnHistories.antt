@@ -1,6 +1,5 @@
 -- What drawn servers have executed.
-use Rattle.std.proofs.Common.{◌≡◌, ◌∙◌, ◌<◌, ◌≤◌, ℕ, zero, suc, ◌∷◌, List, [], length, replicate, take, Option, Some, None, refl, sym, ap, arith, inl, inr}
-use Rattle.std.specs.Prelude.{get_or, slice_get}
+use Rattle.std.proofs.Common.{◌≡◌, ◌∙◌, ◌<◌, ◌≤◌, ℕ, zero, suc, ◌∷◌, List, [], length, replicate, take, Option, Some, None, refl, sym, ap, arith, inl, inr, get_or, slice_get}
 use Rattle.read_back_laws.proofs.Prelude.{ArePlaced, DrawnServer, Given, Part, Replica, ServerNo, Txn, count_at, follow_on, get-append, get-replicate, given_of}
 use Rattle.read_back_laws.proofs.Prelude.{givens_from, history_at, inits_from_drawn, joined_by-each, length-listed_history, length-take-le, listed_history}
 use Rattle.read_back_laws.proofs.Prelude.{next_txn, parts_at, reached_from, reached_from-root, root_of, server_no, singles, slice_get-get_or, slice_get-take}

@@ -1,6 +1,5 @@
 -- Drawn servers read as what was drawn.
-use Rattle.std.proofs.Common.{◌≡◌, ◌<◌, ◌≤◌, ◌==◌, ℕ, zero, suc, ◌+◌, ◌^◌, true, false, ◌∷◌, List, [], length, take, Option, Some, Ok, refl, sym, ap, subst, arith}
-use Rattle.std.specs.Prelude.{nat_le, nat_lt, slice_get}
+use Rattle.std.proofs.Common.{◌≡◌, ◌<◌, ◌≤◌, ◌==◌, ℕ, zero, suc, ◌+◌, ◌^◌, true, false, ◌∷◌, List, [], length, take, Option, Some, Ok, refl, sym, ap, subst, arith, nat_le, nat_lt, slice_get}
 use Rattle.read_back_laws.proofs.Prelude.{DrawnServer, IsPlaced, Replica, array, each_from, given_of, givens_from, has_uuid, history_in, identity_in}
 use Rattle.read_back_laws.proofs.Prelude.{item_count, le-leb, le-ltb, list_any, listed_in, listed_names, listed_uuids, name_in, name_of, name_reads, names_from}
 use Rattle.read_back_laws.proofs.Prelude.{ne_eqb, number_in, own_name, own_uuid, part_in, placed, replication_in, server_from, server_in, servers_data}

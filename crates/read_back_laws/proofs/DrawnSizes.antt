@@ -1,6 +1,5 @@
 -- Drawn scenarios are within the bound of what is listed and written.
-use Rattle.std.proofs.Common.{◌≡◌, ◌∙◌, ◌≢◌, ◌≤◌, ◌+◌, ◌*◌, ◌/◌, ◌%◌, ℕ, zero, suc, true, ◌∷◌, List, [], length, Some, refl, sym, ap, subst, arith}
-use Rattle.std.specs.Prelude.{count_by, map, slice_get, sum_by}
+use Rattle.std.proofs.Common.{◌≡◌, ◌∙◌, ◌≢◌, ◌≤◌, ◌+◌, ◌*◌, ◌/◌, ◌%◌, ℕ, zero, suc, true, ◌∷◌, List, [], length, Some, refl, sym, ap, subst, arith, count_by, map, slice_get, sum_by}
 use Rattle.read_back_laws.proofs.Prelude.{ArePlaced, DrawnServer, DrawnTurn, Given, IsPlaced, Replica, ServerInit, count_by-le-length, given_of, givens_from}
 use Rattle.read_back_laws.proofs.Prelude.{inits_from, inits_from_drawn, is_drawable, is_small, is_write, le-leb, leb-true, length-map, listed_count, mul-le}
 use Rattle.read_back_laws.proofs.Prelude.{sum_by-cons, transactions, turn_of}

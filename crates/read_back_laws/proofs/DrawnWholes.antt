@@ -1,6 +1,5 @@
 -- A drawn scenario reads as far as its servers' opening.
-use Rattle.std.proofs.Common.{◌≡◌, ◌<◌, ◌≤◌, ℕ, true, length, refl, arith}
-use Rattle.std.specs.Prelude.{nat_le}
+use Rattle.std.proofs.Common.{◌≡◌, ◌<◌, ◌≤◌, ℕ, true, length, refl, arith, nat_le}
 use Rattle.read_back_laws.proofs.Prelude.{MAX_SCENARIO_LEN, drawn_data, drawn_head, givens_from, head_in, keys_in, le-leb, names_from, one_in, scenario_from}
 use Rattle.read_back_laws.proofs.Prelude.{scenario_in, scenario_text, scenario_with, servers_from, text_reads, text_short, text_utf8, turns_data, turns_from}
 use Rattle.read_back_laws.proofs.DrawnServers.{servers_read}

@@ -3,8 +3,7 @@ use Rattle.read_back_laws.proofs.Prelude.{IsNumeralModel, all_ascii_digits, and_
 use Rattle.read_back_laws.proofs.Prelude.{digits_value, fold, is_ascii_digit, le-leb, leb-true, lt-ltb, ne_eqb, number_and_unit, number_at, numerals_by_fold}
 use Rattle.read_back_laws.proofs.Prelude.{option_map_or, pointwise, seconds_at, tells_all_ascii_digits}
 use Rattle.scenarios.specs.Commands.Values.{within}
-use Rattle.std.proofs.Common.{◌≡◌, ◌∙◌, ℕ, zero, suc, ◌+◌, ◌<◌, ◌≤◌, ◌^◌, ◌-◌, ◌*◌, Bool, true, false, cond, List, [], ◌∷◌, length, take, drop, Option, Some, None, refl, ap, arith}
-use Rattle.std.specs.Prelude.{◌&&◌, decimal, nat_eq, nat_le, nat_lt, option_map}
+use Rattle.std.proofs.Common.{◌≡◌, ◌∙◌, ℕ, zero, suc, ◌+◌, ◌<◌, ◌≤◌, ◌^◌, ◌-◌, ◌*◌, Bool, true, false, cond, List, [], ◌∷◌, length, take, drop, Option, Some, None, refl, ap, arith, ◌&&◌, decimal, nat_eq, nat_le, nat_lt, option_map}
 
 own : IsNumeralModel (λ ds. all_ascii_digits ds ≡ true) (λ ds. fold (λ m c. m * 10 + (c - 48)) 0 ds)
 own = numerals_by_fold (λ ds. all_ascii_digits ds ≡ true) tells_all_ascii_digits (λ n ds. fold (λ m c. m * 10 + (c - 48)) n ds) (record { empty = λ n. refl; more = λ n c cs h. refl })

@@ -1,6 +1,5 @@
 -- A server's keys, and what is at each.
-use Rattle.std.proofs.Common.{◌≡◌, ◌∙◌, ℕ, true, List, [], ◌∷◌, ◌++◌, Option, Some, None, Ok, refl, ap}
-use Rattle.std.specs.Prelude.{codes, is_some, option_map}
+use Rattle.std.proofs.Common.{◌≡◌, ◌∙◌, ℕ, true, List, [], ◌∷◌, ◌++◌, Option, Some, None, Ok, refl, ap, codes, is_some, option_map}
 use Rattle.read_back_laws.proofs.Prelude.{IsAlone, ServerInit, ServerNo, boolean, coord_data, count_data, get, list_data, name_text, object, only_keys}
 use Rattle.read_back_laws.proofs.Prelude.{own_keys, part_data, printed, replica_keys, server_data, server_keys, string, uuid_text, version_text}
 use Rattle.read_back_laws.proofs.Keys.{Field, are_known, get-members_of, known-members, member_if-for, members_of, value_at, when}

@@ -1,6 +1,6 @@
 -- The servers of a dump have no flaw.
-use Rattle.std.proofs.Common.{◌≡◌, ◌∙◌, ◌&&◌, ◌||◌, ℕ, ◌+◌, Bool, true, false, cond, List, [], ◌∷◌, length, All, refl, sym, ap, Option, Some, None, arith, suc, zero-add}
-use Rattle.std.specs.Prelude.{is_none, nat_eq, nat_lt, not, slice_get}
+use Rattle.read_back_laws.proofs.DrawnFlaws.{none_met as none-met}
+use Rattle.std.proofs.Common.{◌≡◌, ◌∙◌, ◌&&◌, ◌||◌, ℕ, Bool, true, false, cond, List, [], length, All, refl, sym, ap, Option, Some, None, arith, zero-add, is_none, nat_eq, nat_lt, not, slice_get}
 use Rattle.read_back_laws.proofs.Prelude.{All-nil, AttachedWell, Coord, Flaw, IsOf, IsTidy, Log, Part, Safe, Server, ServerInit, ServerNo, Settings, Txn, World}
 use Rattle.read_back_laws.proofs.Prelude.{at_server, at_source, bad_coords, bad_coords_in, bad_files, bad_flushes, bad_purged, below_itself, both_given}
 use Rattle.read_back_laws.proofs.Prelude.{count_of, eq-eqb, exec_of, falls_or_passes, first_met, flaw_in, flaw_or, flush_points, has_place_of, init_by, init_of}
@@ -18,14 +18,6 @@ use Rattle.read_back_laws.proofs.Logs.{exec-own, log-given, read-own}
 use Rattle.read_back_laws.proofs.OpenedParts.{OfParts, OfParts-all}
 
 -- ---- tests that no server meets
-
-none-met : (test : ℕ → ServerInit → Bool) (n : ℕ) (is : List ServerInit) → ((j : ℕ) (i : ServerInit) → slice_get is j ≡ Some i → test (n + j) i ≡ false) → first_met test n is ≡ None
-none-met test n [] each = refl
-none-met test n (i ∷ is) each =
-    let here : n + 0 ≡ n = omega arith in
-    let fails : test n i ≡ false = ap (λ k. test k i) (sym here) ∙ each 0 i refl in
-    let rest = none-met test (n + 1) is (λ j x at. let number : n + 1 + j ≡ n + suc j = omega arith in ap (λ k. test k x) number ∙ each (suc j) x at) in
-    ap (λ b. cond b (Some n) (first_met test (n + 1) is)) fails ∙ rest
 
 flaw_or-none : (flaw : Flaw) (rest : Option (Flaw × ℕ)) (o : Option ℕ) → o ≡ None → rest ≡ None → flaw_or flaw rest o ≡ None
 flaw_or-none flaw rest o none others = ap (flaw_or flaw rest) none ∙ others

@@ -1,6 +1,5 @@
 -- Names and UUIDs of listed servers are found again.
-use Rattle.std.proofs.Common.{◌≡◌, ◌∙◌, ◌≢◌, ◌<◌, ℕ, zero, suc, ◌+◌, ◌^◌, ◌==◌, Bool, true, false, List, [], ◌∷◌, map, take, Option, Some, Ok, refl, ap, arith}
-use Rattle.std.specs.Prelude.{codes, nat_lt, slice_get}
+use Rattle.std.proofs.Common.{◌≡◌, ◌∙◌, ◌≢◌, ◌<◌, ℕ, zero, suc, ◌+◌, ◌^◌, ◌==◌, Bool, true, false, List, [], ◌∷◌, map, take, Option, Some, Ok, refl, ap, arith, codes, nat_lt, slice_get}
 use Rattle.read_back_laws.proofs.Prelude.{Data, HostPort, IsName, ServerInit, ServerNo, first_named, get, has_uuid, le-ltb, list_any, name_in, name_text}
 use Rattle.read_back_laws.proofs.Prelude.{ne_eqb, number_or_fails, own_name, own_uuid, printed, same_Some, same_name, same_name_tells, server_named, string}
 use Rattle.read_back_laws.proofs.Prelude.{uuid_text}

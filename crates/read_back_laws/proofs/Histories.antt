@@ -1,6 +1,5 @@
 -- What the servers of a dump have executed.
-use Rattle.std.proofs.Common.{◌≡◌, ◌∙◌, ℕ, ◌<◌, ◌≤◌, List, length, take, refl, sym, ap, subst, Option, Some, None, arith}
-use Rattle.std.specs.Prelude.{slice_get}
+use Rattle.std.proofs.Common.{◌≡◌, ◌∙◌, ℕ, ◌<◌, ◌≤◌, List, length, take, refl, sym, ap, subst, Option, Some, None, arith, slice_get}
 use Rattle.read_back_laws.proofs.Prelude.{AttachedWell, Grounded, IsNumbered, Root, Safe, Server, Txn, Under, World, count_at, histories, history_at}
 use Rattle.read_back_laws.proofs.Prelude.{history_of, init_of, length-take, listed_history, parts_at, reached_from-root, root_of, same-end, server_at}
 use Rattle.read_back_laws.proofs.Prelude.{slice_get_within, source_no, source_of, take-take, take_all}

@@ -1,6 +1,5 @@
 -- The servers of a world as a scenario gives them: what is given of each, and which sources they have.
-use Rattle.std.proofs.Common.{◌≡◌, ◌∙◌, ℕ, ◌<◌, cond, List, length, map, refl, sym, ap, subst, Option, Some, None, arith}
-use Rattle.std.specs.Prelude.{option_map, slice_get}
+use Rattle.std.proofs.Common.{◌≡◌, ◌∙◌, ℕ, ◌<◌, cond, List, length, map, refl, sym, ap, subst, Option, Some, None, arith, option_map, slice_get}
 use Rattle.read_back_laws.proofs.Prelude.{Attached, Detached, Grounded, IsLoopless, Safe, Server, ServerInit, ServerNo, SourceState, Txn, Without, World}
 use Rattle.read_back_laws.proofs.Prelude.{count_of, init_by, init_of, laid, length-map, log_by, opened, parts_of, points_of, same_Some, server_at}
 use Rattle.read_back_laws.proofs.Prelude.{slice_get-map, slice_get_within, source_in, source_no, source_of, sources}
@@ -16,7 +15,7 @@ source-no Without = refl
 source-no (Attached m) = refl
 source-no (Detached m) = refl
 
-settings-by : (s : Server) (o : Option ServerNo) → (init_by s o).settings ≡ s.settings
+pub settings-by : (s : Server) (o : Option ServerNo) → (init_by s o).settings ≡ s.settings
 settings-by s None = refl
 settings-by s (Some m) = refl
 

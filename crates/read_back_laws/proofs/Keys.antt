@@ -1,6 +1,5 @@
 -- What is at a key of an object whose members are there or not, and what is read of it.
-use Rattle.std.proofs.Common.{◌≡◌, ◌∙◌, ℕ, Bool, true, false, List, [], ◌∷◌, Option, Some, None, Result, Ok, IfSome, refl, sym, ap}
-use Rattle.std.specs.Prelude.{◌&&◌, ◌||◌, is_none, if◌then◌else◌, option_map}
+use Rattle.std.proofs.Common.{◌≡◌, ◌∙◌, ℕ, Bool, true, false, List, [], ◌∷◌, Option, Some, None, Result, Ok, IfSome, refl, sym, ap, ◌&&◌, ◌||◌, is_none, if◌then◌else◌, option_map}
 use Rattle.read_back_laws.proofs.Prelude.{Data, Equal, Fault, Greater, Less, Members, Ordering, get, get_member, is_key, match_ordering, maybe, maybe_in}
 use Rattle.read_back_laws.proofs.Prelude.{member_for, member_if, nat_cmp, needed, needed_in, no_members, only_keys, option_or, optional, optional_in, slice_cmp}
 use Rattle.read_back_laws.proofs.Prelude.{under}

@@ -6,8 +6,7 @@ use Rattle.read_back_laws.proofs.Prelude.{same_before, same_txn, server_at, slic
 use Rattle.scenarios.specs.OrchBase.Histories.{holds}
 use Rattle.scenarios.specs.Openings.Servers.{number_of}
 use Rattle.read_back_laws.proofs.Prelude.Servers.{parts_of}
-use Rattle.std.proofs.Common.{◌≡◌, ◌∙◌, ◌&&◌, ◌==◌, ℕ, ◌+◌, ◌<◌, ◌≤◌, Bool, true, List, [], ◌∷◌, length, take, refl, sym, ap, inl, inr, Option, Some, None, arith, get_or, zero, suc}
-use Rattle.std.specs.Prelude.{is_some, not, slice_get}
+use Rattle.std.proofs.Common.{◌≡◌, ◌∙◌, ◌&&◌, ◌==◌, ℕ, ◌+◌, ◌<◌, ◌≤◌, Bool, true, List, [], ◌∷◌, length, take, refl, sym, ap, inl, inr, Option, Some, None, arith, get_or, zero, suc, is_some, not, slice_get}
 use Rattle.read_back_laws.proofs.Histories.{history-given, listed-own}
 use Rattle.read_back_laws.proofs.Inits.{init-at, init-none, init-number, inits}
 
@@ -94,7 +93,7 @@ all_below-from : (p : ℕ → Bool) (n : ℕ) → ((m : ℕ) → p m ≡ true) �
 all_below-from p zero each = refl
 all_below-from p (suc n) each = and_from (all_below p n) (p n) (all_below-from p n each) (each n)
 
-same_txn-itself : (t : Txn) → same_txn t t ≡ true
+pub same_txn-itself : (t : Txn) → same_txn t t ≡ true
 same_txn-itself t = same_before-itself (Some t)
 
 module _ (w : World) (safe : Safe w) where

@@ -1,8 +1,8 @@
 -- What drawn roots list agrees.
-use Rattle.std.proofs.Common.{◌≡◌, ◌∙◌, ◌≢◌, ◌<◌, ◌==◌, ℕ, zero, suc, true, false, ◌∷◌, List, [], Option, Some, None, refl, sym, ap, subst, arith}
-use Rattle.std.specs.Prelude.{not, slice_get}
+use Rattle.read_back_laws.proofs.Kins.{same_txn-itself as same_itself}
+use Rattle.std.proofs.Common.{◌≡◌, ◌∙◌, ◌≢◌, ◌<◌, ◌==◌, ℕ, zero, suc, true, false, ◌∷◌, List, [], Option, Some, None, refl, sym, ap, subst, arith, not, slice_get}
 use Rattle.read_back_laws.proofs.Prelude.{DrawnServer, Given, Replica, ServerInit, Txn, agrees_with, all_below, all_below-from_each, and_from}
-use Rattle.read_back_laws.proofs.Prelude.{any_passes_from_place, eq-eqb, first_met, given_of, givens_from, histories_agree, history_at, inits_from_drawn}
+use Rattle.read_back_laws.proofs.Prelude.{any_passes_from_place, first_met, given_of, givens_from, histories_agree, history_at, inits_from_drawn}
 use Rattle.read_back_laws.proofs.Prelude.{is_home, is_kin, links, links_after, links_agree, list_all, list_all-from_get, listed_history, ne_eqb, not_kin}
 use Rattle.read_back_laws.proofs.Prelude.{same_Some, same_txn}
 use Rattle.scenario_generator.specs.declared.server.DrawnServer.TheVariants.{Root}
@@ -40,9 +40,6 @@ agrees_drawn ss m n (Some i) less there =
     subst (λ j. agrees_with (listed_history (own_parts n)) (Some j) ≡ true) (sym h.is) (agrees_by (givens_from 0 ss) m n h.server less)
 
 -- ---- each transaction is its root's
-
-same_itself : (t : Txn) → same_txn t t ≡ true
-same_itself t = let origin : (t.origin.0 == t.origin.0) ≡ true = eq-eqb t.origin.0 t.origin.0 refl in let seq : (t.seq == t.seq) ≡ true = eq-eqb t.seq t.seq refl in rw (origin, seq) refl
 
 own_home : (ss : List DrawnServer) (n : ℕ) → slice_get ss n ≡ Some Root → (k : ℕ) (t : Txn) → slice_get (listed_history (own_parts n)) k ≡ Some t → is_home (inits_from_drawn ss) t ≡ true
 own_home ss n there k t e =

@@ -1,6 +1,5 @@
 -- A log is laid again from its history and its flush points.
-use Rattle.std.proofs.Common.{◌≡◌, ◌∙◌, ◌==◌, ◌||◌, ℕ, ◌+◌, ◌-◌, ◌<◌, ◌≤◌, Bool, true, false, cond, List, [], ◌∷◌, ◌++◌, length, replicate, refl, sym, ap, subst, arith, add-zero, append_assoc, length-append, zero, suc}
-use Rattle.std.specs.Prelude.{nat_le, nat_lt, count_by}
+use Rattle.std.proofs.Common.{◌≡◌, ◌∙◌, ◌==◌, ◌||◌, ℕ, ◌+◌, ◌-◌, ◌<◌, ◌≤◌, Bool, true, false, cond, List, [], ◌∷◌, ◌++◌, length, replicate, refl, sym, ap, subst, arith, add-zero, append_assoc, length-append, zero, suc, nat_le, nat_lt, count_by}
 use Rattle.read_back_laws.proofs.Prelude.{Entry, Flushed, LaysOut, Log, Took, Txn, append-nil, appended, entry_at_end, eq-eqb, falls_or_passes, file_behind}
 use Rattle.read_back_laws.proofs.Prelude.{flush, flush_points, flushed_at, flushed_from, flushed_times, laid, laid_after, le-ltb, length-push, ltb-false}
 use Rattle.read_back_laws.proofs.Prelude.{ne_eqb, opened, or_from, or_parts, push, replicate-append-replicate, sum_by-cons, sum_by_push}
@@ -189,7 +188,7 @@ laid_after-flush fs count k log (t ∷ ts) is =
     ap (λ n. laid_after (fs ++ k ∷ []) (count + 1) (push (flushed_times n log) t.size) ts) none
     ∙ laid_after-flush fs (count + 1) k (push (flushed_at fs count log) t.size) ts (omega arith)
 
-push-limit : (log : Log) (size : ℕ) → (push log size).limit ≡ log.limit
+pub push-limit : (log : Log) (size : ℕ) → (push log size).limit ≡ log.limit
 push-limit log size = go (nat_le log.limit (log.pos + size))
   where
     go : (b : Bool) → (cond b (flush (appended log size)) (appended log size)).limit ≡ log.limit

@@ -1,4 +1,4 @@
-mod Prelude
+pub mod Prelude
 pub mod Keys
 pub mod Values
 pub mod Found

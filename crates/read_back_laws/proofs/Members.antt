@@ -1,6 +1,5 @@
 -- What is in an object of given members.
-use Rattle.std.proofs.Common.{◌≡◌, ◌∙◌, ℕ, Bool, true, false, List, Option, Some, None, Ok, refl, sym, ap}
-use Rattle.std.specs.Prelude.{nat_eq}
+use Rattle.std.proofs.Common.{◌≡◌, ◌∙◌, ℕ, Bool, true, false, List, Option, Some, None, Ok, refl, sym, ap, nat_eq}
 use Rattle.read_back_laws.proofs.Prelude.{Data, Equal, Greater, Less, Members, Ordering, false≢true, get_member, get_member-put, get_member-put_other, is_key}
 use Rattle.read_back_laws.proofs.Prelude.{match_ordering, member, nat_cmp, no_members, only_keys, pointwise, put, slice_cmp, with_given}
 

@@ -1,11 +1,8 @@
 -- Drawn names are found by their numbers.
-use Rattle.std.proofs.Common.{◌≡◌, ◌∙◌, ◌≢◌, ◌<◌, ◌≤◌, ℕ, zero, suc, ◌+◌, ◌^◌, Bool, true, false, Some, Ok, refl, sym, ap, arith, inl, inr}
+use Rattle.scenarios.proofs.OrchBase.SameNames.{same_as_itself as same_name_true}
+use Rattle.std.proofs.Common.{◌≡◌, ◌∙◌, ◌≢◌, ◌<◌, ◌≤◌, ℕ, zero, suc, ◌+◌, ◌^◌, Bool, true, false, Some, Ok, refl, sym, ap, arith, inl, inr, IsTrue}
 use Rattle.read_back_laws.proofs.Prelude.{HostPort, eqb_tells, first_named, name_in, name_of, name_reads, names_apart, names_from, same_name, same_name_tells}
 use Rattle.read_back_laws.proofs.Prelude.{server_name, server_named, server_no, string}
-use Rattle.std.specs.Prelude.{IsTrue}
-
-same_name_true : (a : HostPort) → same_name a a ≡ true
-same_name_true a = (same_name_tells a a).1 refl
 
 told : (b : Bool) (P : Type 0) → (IsTrue b → P) → (P → ⊥) → b ≡ false
 told true P means lacks = absurd (lacks (means refl))

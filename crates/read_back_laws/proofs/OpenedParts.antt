@@ -1,6 +1,5 @@
 -- Histories as parts, and back.
-use Rattle.std.proofs.Common.{◌≡◌, ◌∙◌, ◌==◌, ◌≤◌, ℕ, ◌+◌, Bool, true, false, cond, List, [], ◌∷◌, ◌++◌, length, map, take, replicate, refl, sym, ap, subst, Some, All, arith, add-one, append_assoc}
-use Rattle.std.specs.Prelude.{slice_get}
+use Rattle.std.proofs.Common.{◌≡◌, ◌∙◌, ◌==◌, ◌≤◌, ℕ, ◌+◌, Bool, true, false, cond, List, [], ◌∷◌, ◌++◌, length, map, take, replicate, refl, sym, ap, subst, Some, All, arith, add-one, append_assoc, slice_get}
 use Rattle.read_back_laws.proofs.Prelude.{All-cons, All-head, All-nil, All-tail, IsNumbered, Part, ServerNo, Txn, and_parts, append-nil, behind, count_own}
 use Rattle.read_back_laws.proofs.Prelude.{eqb-true, is_like, joined_by, length-map, length-singles, listed_history, next_txn, part_of, parts_of, singles}
 use Rattle.read_back_laws.proofs.Prelude.{take_at, transactions}

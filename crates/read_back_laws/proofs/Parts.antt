@@ -1,6 +1,5 @@
 -- Histories and flush points read as they were written.
-use Rattle.std.proofs.Common.{◌≡◌, ◌<◌, ◌≤◌, ℕ, zero, suc, ◌+◌, true, List, [], ◌∷◌, length, All, Some, Ok, refl, arith, leb}
-use Rattle.std.specs.Prelude.{slice_get}
+use Rattle.std.proofs.Common.{◌≡◌, ◌<◌, ◌≤◌, ℕ, zero, suc, ◌+◌, true, List, [], ◌∷◌, length, All, Some, Ok, refl, arith, leb, slice_get}
 use Rattle.read_back_laws.proofs.Prelude.{All-head, All-tail, Data, IsName, IsPart, Part, ServerInit, ServerNo, count_data, each_from, flushes_in, history_in}
 use Rattle.read_back_laws.proofs.Prelude.{item_count, items_of, le-leb, list_data, name_text, part_data, part_in, server_named, string, whole_in}
 use Rattle.read_back_laws.proofs.Found.{NamesApart, listed_names_of, server-named}

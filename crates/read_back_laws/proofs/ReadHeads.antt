@@ -1,6 +1,5 @@
 -- What was read of a scenario reads back: what it has before its servers, its filters' answers, and its settings.
-use Rattle.std.proofs.Common.{◌≡◌, ◌∙◌, ◌≤◌, ℕ, Bool, true, false, leb, List, [], map, All, Ok, Option, Some, None, IsUtf8, refl, sym, ap, subst, arith}
-use Rattle.std.specs.Prelude.{codes, decimal, if◌then◌else◌}
+use Rattle.std.proofs.Common.{◌≡◌, ◌∙◌, ◌≤◌, ℕ, Bool, true, false, leb, List, [], map, All, Ok, Option, Some, None, IsUtf8, refl, sym, ap, subst, arith, codes, decimal, if◌then◌else◌}
 use Rattle.read_back_laws.proofs.Prelude.{Alias, All-cons, All-nil, BadHook, BadPattern, Block, Data, FilterTexts, Head, Hook, Hooks, IsUtf8-are_ascii, Items}
 use Rattle.read_back_laws.proofs.Prelude.{alias_in, aliases_in, bind-ok, block_in, blocks_in, everything, exit_or_fails, fails, filter_in, filter_keys}
 use Rattle.read_back_laws.proofs.Prelude.{filters_in, form_of, has_pattern, head-ok, head_in, holds, holds-ok, hook-ok, hook_in, hook_list_in, hooks-ok}

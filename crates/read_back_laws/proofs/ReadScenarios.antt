@@ -1,6 +1,5 @@
 -- A scenario that was read reads back.
-use Rattle.std.proofs.Common.{◌≡◌, ℕ, Bool, true, false, List, length, Option, Some, None, Ok, refl, sym, subst, leb}
-use Rattle.std.specs.Prelude.{codes, if◌then◌else◌, slice_get}
+use Rattle.std.proofs.Common.{◌≡◌, ℕ, Bool, true, false, List, length, Option, Some, None, Ok, refl, sym, subst, leb, codes, if◌then◌else◌, slice_get}
 use Rattle.read_back_laws.proofs.Prelude.{Data, Given, Head, HostPort, IsUtf8-from_is_utf8, Items, MAX_SCENARIO_LEN, NotJson, Scenario, ServerInit, TooLong}
 use Rattle.read_back_laws.proofs.Prelude.{bind-ok, from-ok, holds, inits_of, is_utf8, json_in, made_of, opening-same, or_fails-ok, read, scenario_from}
 use Rattle.read_back_laws.proofs.Prelude.{scenario_in, scenario_with, with-ok}

@@ -1,4 +1,5 @@
 -- The settings of servers that were read have texts that read back.
+use Rattle.scenario_reader.proofs.Sound.{length-names as length-listed_names}
 use Rattle.std.proofs.Common.{◌≡◌, ◌∙◌, ◌<◌, ◌≤◌, ◌^◌, ◌+◌, ◌⊎◌, inl, inr, ℕ, zero, suc, Bool, true, false, List, [], ◌∷◌, length, Option, Some, None, Ok, IfSome, refl, sym, subst, arith}
 use Rattle.std.specs.Prelude.{◌&&◌, codes, get_or, if◌then◌else◌, nat_le, slice_get, take, unwrap_or}
 use Rattle.read_back_laws.proofs.Prelude.{BadNumber, Data, DuplicateName, DuplicateUuid, Given, HostPort, Identity, IsName, IsUtf8-nil, Items, ReadsIdentity}
@@ -175,10 +176,6 @@ module _ (gs : List Given) (read : AreRead gs) where
   each-init = inits-are 0 gs (λ k g e. let same : k ≡ 0 + k = omega arith in subst (λ m. slice_get gs m ≡ Some g) same e)
 
 -- ---- all servers
-
-length-listed_names : (ds : Items) → length (listed_names ds) ≡ item_count ds
-length-listed_names no_items = refl
-length-listed_names (item d ds) = let more = length-listed_names ds in omega arith
 
 item-read : (ds : Items) (n : ℕ) (d : Data) → ItemsFromText ds → get_item n ds ≡ Some d → IsFromText d
 item-read no_items n d all at = absurd (cc)

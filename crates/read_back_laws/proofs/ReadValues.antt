@@ -1,6 +1,5 @@
 -- What is read of single values is in its range.
-use Rattle.std.proofs.Common.{◌≡◌, ◌<◌, ◌≤◌, ◌^◌, ◌+◌, ◌*◌, ◌==◌, ℕ, Bool, true, false, List, ◌∷◌, length, get_or, Option, Some, None, Result, Ok, Err, IsUtf8, refl, ap, subst, arith, leb, decimal}
-use Rattle.std.specs.Prelude.{◌&&◌, if◌then◌else◌}
+use Rattle.std.proofs.Common.{◌≡◌, ◌<◌, ◌≤◌, ◌^◌, ◌+◌, ◌*◌, ◌==◌, ℕ, Bool, true, false, List, ◌∷◌, length, get_or, Option, Some, None, Result, Ok, Err, IsUtf8, refl, ap, subst, arith, leb, decimal, ◌&&◌, if◌then◌else◌}
 use Rattle.read_back_laws.proofs.Prelude.{AllPass-from_list_all, BadNumber, Data, HostPort, IsName, NameFault, Same, Version, all_ascii_digits, before_first}
 use Rattle.read_back_laws.proofs.Prelude.{behind_dot, bind-ok, by_index, byte_of_digits, digits_of, digits_value, eqb-true, fails, from_be_bytes, has_hyphens}
 use Rattle.read_back_laws.proofs.Prelude.{host_at, host_of, is_dot, is_hex_digit, label_in, label_or_fails, leb-true, length-append, length-decimal-le}

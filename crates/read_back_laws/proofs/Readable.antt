@@ -1,6 +1,5 @@
 -- The servers of a dump have texts that read back.
-use Rattle.std.proofs.Common.{◌≡◌, ◌∙◌, ℕ, zero, suc, true, List, [], ◌∷◌, map, Option, Some, None, IfSome, refl, sym, ap, subst}
-use Rattle.std.specs.Prelude.{slice_get}
+use Rattle.std.proofs.Common.{◌≡◌, ◌∙◌, ℕ, zero, suc, true, List, [], ◌∷◌, map, Option, Some, None, IfSome, refl, sym, ap, subst, slice_get}
 use Rattle.read_back_laws.proofs.Prelude.{CanPrint, Coord, IsChecked, IsTidy, IsWorldOf, IsWritten, Scenario, Server, ServerInit, ServerNo, World, init_by}
 use Rattle.read_back_laws.proofs.Prelude.{init_of, opening_of, same_Some, settings_of, source_in}
 use Rattle.read_back_laws.proofs.Listed.{AllReadBack}

@@ -1,6 +1,5 @@
 -- Drawn scenarios read whole.
-use Rattle.std.proofs.Common.{◌≡◌, ◌∙◌, ◌<◌, ◌≤◌, ◌+◌, ℕ, true, false, ◌∷◌, List, [], length, None, Ok, refl, ap, subst, arith, replicate}
-use Rattle.std.specs.Prelude.{map, nat_le}
+use Rattle.std.proofs.Common.{◌≡◌, ◌∙◌, ◌<◌, ◌≤◌, ◌+◌, ℕ, true, false, ◌∷◌, List, [], length, None, Ok, refl, ap, subst, arith, replicate, map, nat_le}
 use Rattle.read_back_laws.proofs.Prelude.{ArePlaced, DrawnServer, DrawnTurn, IsScenario, ServerInit, ServerNo, bounded, counts_few, drawn_head, drawn_scenario}
 use Rattle.read_back_laws.proofs.Prelude.{everything, expanded, flaw_in, givens_from, in_order, inits_from_drawn, is_drawable, is_small, known_of, le-leb}
 use Rattle.read_back_laws.proofs.Prelude.{length-map, listed_count, listed_turns, names_from, opening, opening_in, passes, placed, printed_of, rules_of}

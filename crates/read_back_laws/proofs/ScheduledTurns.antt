@@ -1,5 +1,5 @@
 -- Written turns read.
-use Rattle.std.proofs.Common.{◌≡◌, ℕ, ◌+◌, ◌-◌, ◌^◌, List, [], ◌∷◌, Option, Ok, All, length, refl, arith}
+use Rattle.std.proofs.Common.{◌≡◌, ℕ, ◌+◌, ◌-◌, ◌^◌, List, [], ◌∷◌, Option, Ok, All, length, refl, arith, nat_le, true}
 use Rattle.read_back_laws.proofs.Prelude.{Act, All-head, All-tail, HostPort, IsStep, IsToldAct, IsToldTurn, NamesRead, One, Step, Turn, act_data, amount_of}
 use Rattle.read_back_laws.proofs.Prelude.{each_from, items_of, job_of, le-leb, link_in, link_of, listed_of, number_in, poll_of, poller_of, seconds_of}
 use Rattle.read_back_laws.proofs.Prelude.{server_of, step_data, turn_in, turn_with, whole_in, word_named}
@@ -8,7 +8,6 @@ use Rattle.read_back_laws.proofs.Prelude.act
 use Rattle.read_back_laws.proofs.Prelude.link
 use Rattle.read_back_laws.proofs.Prelude.step
 use Rattle.read_back_laws.proofs.Prelude.turn
-use Rattle.std.specs.Prelude.{nat_le, true}
 use Rattle.read_back_laws.proofs.Commands.{command-reads}
 
 module _ (listed : List (Option HostPort)) (names : List HostPort) (printed : List (List ℕ)) (read : NamesRead listed names) where

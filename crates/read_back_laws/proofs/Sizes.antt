@@ -1,6 +1,5 @@
 -- How much the servers of an opening have executed, and how many files their logs have.
-use Rattle.std.proofs.Common.{◌≡◌, ◌≤◌, ℕ, length, All, Some, ap, arith}
-use Rattle.std.specs.Prelude.{slice_get}
+use Rattle.std.proofs.Common.{◌≡◌, ◌≤◌, ℕ, length, All, Some, ap, arith, slice_get}
 use Rattle.read_back_laws.proofs.Prelude.{IsChecked, IsLaid, IsLaid-log_by, Opened, PartsInRange, ServerInit, count_of, good-points, history_at}
 use Rattle.read_back_laws.proofs.Prelude.{history_at-sized, in_range, length-history_at, log_at, log_by, log_in, parts_at-few, root_of, sound_checked}
 

@@ -1,6 +1,5 @@
 -- A dump's numbers have 64 bits, its labels rise, and its texts are UTF-8.
-use Rattle.std.proofs.Common.{◌≡◌, ◌<◌, ◌≤◌, ◌^◌, ℕ, List, map, All, Option, Some, None, get_or, refl, ap, arith}
-use Rattle.std.specs.Prelude.{slice_get}
+use Rattle.std.proofs.Common.{◌≡◌, ◌<◌, ◌≤◌, ◌^◌, ℕ, List, map, All, Option, Some, None, get_or, refl, ap, arith, slice_get}
 use Rattle.read_back_laws.proofs.Prelude.{HasNumbers, HasTexts, IsChecked, IsReadable, Scenario, ServerInit, ServerNo, World, count_of, count_under, opening_of}
 use Rattle.read_back_laws.proofs.Prelude.{slice_get-get_or}
 use Rattle.read_back_laws.proofs.Heads.{SaysReadable}

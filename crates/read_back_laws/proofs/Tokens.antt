@@ -128,10 +128,8 @@ place-texts p tok.end_array b k text rest = allowed-texts (may_close p) tok.end_
 place-texts p (tok.key s) b k text rest = (tt, tt)
 place-texts p (tok.string s) true k text rest = allowed-texts (may_begin p) (tok.key s) k lexing.after_key text rest
 place-texts p (tok.string s) false k text rest = allowed-texts (may_begin p) (tok.string s) k lexing.after_value text rest
-place-texts p (tok.number s) b k text rest = allowed-texts (may_begin p) (tok.number s) k lexing.after_value tt rest
-place-texts p (tok.boolean c) b k text rest = allowed-texts (may_begin p) (tok.boolean c) k lexing.after_value tt rest
-place-texts p tok.null b k text rest = allowed-texts (may_begin p) tok.null k lexing.after_value tt rest
 place-texts p tok.bad b k text rest = (tt, tt)
+place-texts p x b k text rest = allowed-texts (may_begin p) x k lexing.after_value tt rest
 
 punctuate-texts : (p : Place) (ls : List Lexeme) → LexemesUtf8 ls → TokensUtf8 (punctuate p ls)
 unfolding punctuate

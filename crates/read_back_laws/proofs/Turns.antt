@@ -1,9 +1,8 @@
 -- Drawn turns read as what was drawn.
-use Rattle.std.proofs.Common.{◌≡◌, ◌<◌, ◌≤◌, ℕ, zero, suc, ◌+◌, ◌∷◌, List, [], Ok, refl, arith}
+use Rattle.std.proofs.Common.{◌≡◌, ◌<◌, ◌≤◌, ℕ, zero, suc, ◌+◌, ◌∷◌, List, [], Ok, refl, arith, nat_le, true}
 use Rattle.read_back_laws.proofs.Prelude.{Apply, AreTurnsOf, DrawnTurn, Fetch, IsTurnOf, One, PollRead, PollStore, Rotate, Write, amount_of, each_from, le-leb}
 use Rattle.read_back_laws.proofs.Prelude.{listed_turns, names_from, number_in, poll_of, poller_of, server_of, turn_data, turn_in, turn_of, turn_with, turns_are}
 use Rattle.read_back_laws.proofs.Prelude.{turns_data, turns_from, whole_in, word_named}
-use Rattle.std.specs.Prelude.{nat_le, true}
 use Rattle.read_back_laws.proofs.Names.{named}
 
 turn_reads : (servers : ℕ) (printed : List (List ℕ)) (t : DrawnTurn) → servers ≤ 1000 → IsTurnOf servers t → turn_in (names_from 0 servers) printed 1 (turn_data t) ≡ Ok (One (turn_of t))

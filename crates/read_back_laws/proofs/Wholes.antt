@@ -1,23 +1,16 @@
 -- A dump's value reads as the scenario that it has.
-use Rattle.std.proofs.Common.{◌≡◌, ◌∙◌, ◌+◌, ◌≤◌, ℕ, Bool, true, List, [], ◌∷◌, length, map, Option, Some, None, Ok, refl, sym, ap, arith, leb}
-use Rattle.read_back_laws.proofs.Prelude.{Alias, IsChecked, IsListed, IsWorldOf, Scenario, Server, ServerInit, ServerNo, Settings, World, alias_of, all_known}
-use Rattle.read_back_laws.proofs.Prelude.{answered, bounded, dump_data, dumped_scenario, forms_of, init_by, init_of, is_small, known_of, le-leb, listed_count}
+use Rattle.read_back_laws.proofs.Inits.{init-settings}
+use Rattle.std.proofs.Common.{◌≡◌, ◌∙◌, ◌+◌, ◌≤◌, ℕ, Bool, true, List, [], ◌∷◌, length, map, None, Ok, refl, sym, ap, arith, leb}
+use Rattle.read_back_laws.proofs.Prelude.{Alias, IsChecked, IsListed, IsWorldOf, Scenario, Server, ServerInit, Settings, World, alias_of, all_known}
+use Rattle.read_back_laws.proofs.Prelude.{answered, bounded, dump_data, dumped_scenario, forms_of, init_of, is_small, known_of, le-leb, listed_count}
 use Rattle.read_back_laws.proofs.Prelude.{no_items, no_rules, opening, opening_in, opening_of, passes, rules_of, scenario_from, scenario_with, settings_of}
-use Rattle.read_back_laws.proofs.Prelude.{some_matches, source_in, turns_in}
+use Rattle.read_back_laws.proofs.Prelude.{some_matches, turns_in}
 use Rattle.read_back_laws.proofs.Found.{listed_names_of}
 use Rattle.read_back_laws.proofs.Heads.{SaysReadable, dumped_head, head-reads, keys-read, texts_of}
 use Rattle.read_back_laws.proofs.Listed.{AllReadBack, inits-same, servers-read}
 use Rattle.read_back_laws.proofs.Servers.{given_of}
 
 -- ---- settings
-
-settings-by : (s : Server) (o : Option ServerNo) → (init_by s o).settings ≡ s.settings
-settings-by s None = refl
-settings-by s (Some m) = refl
-
-pub init-settings : (s : Server) → (init_of s).settings ≡ s.settings
-unfolding init_of
-init-settings s = settings-by s (source_in s.source)
 
 pub all-settings : (xs : List Server) → map (λ (i : ServerInit). i.settings) (map init_of xs) ≡ map (λ x. x.settings) xs
 all-settings [] = refl

@@ -1,6 +1,5 @@
 -- A dump opens to the world that was dumped.
-use Rattle.std.proofs.Common.{◌≡◌, ◌∙◌, ◌&&◌, ℕ, ◌+◌, ◌-◌, cond, List, [], ◌∷◌, length, map, refl, sym, ap, Option, Some, None, arith, suc, zero-add}
-use Rattle.std.specs.Prelude.{is_some, slice_get}
+use Rattle.std.proofs.Common.{◌≡◌, ◌∙◌, ◌&&◌, ℕ, ◌+◌, ◌-◌, cond, List, [], ◌∷◌, length, map, refl, sym, ap, Option, Some, None, arith, suc, zero-add, is_some, slice_get}
 use Rattle.read_back_laws.proofs.Prelude.{Attached, Detached, IsBare, IsQuiet, IsTidy, Safe, Server, ServerInit, ServerNo, Settings, SourceState, Without}
 use Rattle.read_back_laws.proofs.Prelude.{World, history_at, init_by, init_of, is_detached, logged_by, opened_from, opened_server, opened_world, opening_of}
 use Rattle.read_back_laws.proofs.Prelude.{refitted, refitted_server, server_at, source_in, source_state}

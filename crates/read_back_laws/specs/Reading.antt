@@ -1,18 +1,13 @@
 -- Turns whose texts read.
 use Rattle.std.specs.Prelude.{◌≡◌, ◌<◌, ◌≤◌, ◌^◌, ℕ, List, length, map, Option, IfSome, Ok}
-use Rattle.scenarios.specs.OrchBase.Names.{HostPort}
-use Rattle.scenarios.specs.OrchBase.declared.server.ServerNo.{ServerNo}
+use Rattle.read_back_laws.specs.Prelude.{HostPort, ListedTurn, One, ServerNo, Turn, name_data}
 use Rattle.scenarios.specs.Commands.declared.turn.CommandTurn.{CommandTurn}
 use Rattle.scenarios.specs.Turns.declared.turn.Act.{Act}
 use Rattle.scenarios.specs.Turns.declared.turn.Act.TheVariants as act
-use Rattle.scenarios.specs.Turns.declared.turn.Turn.{Turn}
 use Rattle.scenarios.specs.Turns.declared.turn.Turn.TheVariants as turn
 use Rattle.scenarios.specs.ValidTurns.{IsCommand, IsStep, pollers}
 use Rattle.scenario_reader.specs.ScenarioServers.Names.{server_named}
 use Rattle.scenario_reader.specs.ScenarioTurns.KnownPatterns.{IsKnown}
-use Rattle.scenario_reader.specs.ScenarioTurns.declared.expansion.ListedTurn.{ListedTurn}
-use Rattle.scenario_reader.specs.ScenarioTurns.declared.expansion.ListedTurn.TheVariants.{One}
-use Rattle.schedules.specs.Turns.{name_data}
 
 -- each server's printed name reads as that server
 abbrev pub NamesRead : List (Option HostPort) → List HostPort → Type 0

@@ -1,12 +1,7 @@
 //! Laws of dumps that read: a dump reads without a fault, as the scenario that it has.
 
 ghost use Rattle.std.specs.Prelude.{◌≡◌, ℕ, List, Ok};
-ghost use Rattle.scenario_reader.specs.Openings.Opening.{IsChecked};
-ghost use Rattle.scenario_reader.specs.Scenarios.declared.scenario.Scenario.{Scenario};
-ghost use Rattle.scenario_dump.specs.Reading.{IsWorldOf, IsWithinLimits, dumped_scenario};
-ghost use Rattle.scenario_dump.specs.Servers.{opening_of};
-ghost use Rattle.scenario_dump.specs.Texts.{dump_text};
-ghost use Rattle.scenario_reader.specs.ReadScenarios.{scenario_in};
+ghost use Rattle.read_back_laws.specs.Prelude.{IsChecked, IsWithinLimits, IsWorldOf, Scenario, dump_text, dumped_scenario, opening_of, scenario_in};
 ghost use Rattle.server_model.specs.Worlds.{World};
 
 use scenario_dump::dumps_read_as_json;

@@ -1,12 +1,7 @@
 //! Laws of what a dump opens to: the very world that was dumped.
 
 ghost use Rattle.std.specs.Prelude.{◌≡◌, ℕ, None};
-ghost use Rattle.scenarios.specs.Openings.Flaws.{flaw_in};
-ghost use Rattle.scenarios.specs.Openings.Opening.{IsChecked};
-ghost use Rattle.scenario_dump.specs.Reading.{IsWorldOf, IsWithinLimits, refitted};
-ghost use Rattle.scenario_dump.specs.Servers.{opening_of};
-ghost use Rattle.scenarios.specs.declared.scenario.Scenario.{Scenario};
-ghost use Rattle.scenarios.specs.Scenarios.{IsScenario};
+ghost use Rattle.read_back_laws.specs.Prelude.{IsChecked, IsScenario, IsWithinLimits, IsWorldOf, Scenario, flaw_in, opening_of, refitted};
 ghost use Rattle.server_model.specs.Worlds.{World};
 ghost use Rattle.world_openings.specs.Opening.{opened_world};
 

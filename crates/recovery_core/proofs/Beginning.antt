@@ -1,6 +1,5 @@
 -- What isn't refused can begin.
-use Rattle.std.proofs.Common.{◌≡◌, ℕ, ◌+◌, ◌<◌, ◌≤◌, ◌∙◌, ◌&&◌, ◌||◌, Bool, true, false, cond, not, List, [], ◌∷◌, length, map, refl, sym, ap, subst, zero-add, Option, Some, None, Ok, arith}
-use Rattle.std.specs.Prelude.{◌==◌, IfSome, filter, slice_index_or}
+use Rattle.std.proofs.Common.{◌≡◌, ℕ, ◌+◌, ◌<◌, ◌≤◌, ◌∙◌, ◌&&◌, ◌||◌, Bool, true, false, cond, not, List, [], ◌∷◌, length, map, refl, sym, ap, subst, zero-add, Option, Some, None, Ok, arith, ◌==◌, IfSome, filter, slice_index_or}
 use Rattle.recovery_core.proofs.Prelude.{Attached, Attempt, AuditState, Begins, BookState, CanBegin, Code, Detached, HostPort, IsBook, IsListed}
 use Rattle.recovery_core.proofs.Prelude.{IsListOf, IsOrder-by_name, NotReplica, Refusal, ServerNo, SourceState, UnknownInstance, Without, World}
 use Rattle.recovery_core.proofs.Prelude.{attached_in, attached_of, begun-of, busy, by_name, case_of, code_at, eq-eqb, eqb-true, false≢true}
@@ -88,12 +87,12 @@ tail-listed f rest n h = go (f.0 == n)
     go true = refl
     go false = h
 
-attached-replica : (i : ServerNo) (s : SourceState) → is_given i (attached_in s) ≡ is_attached_to i s
+pub attached-replica : (i : ServerNo) (s : SourceState) → is_given i (attached_in s) ≡ is_attached_to i s
 attached-replica i Without = refl
 attached-replica i (Attached m) = refl
 attached-replica i (Detached m) = refl
 
-passed : (b : Bool) (r : Refusal) → only_if (not b) r ≡ None → b ≡ true
+pub passed : (b : Bool) (r : Refusal) → only_if (not b) r ≡ None → b ≡ true
 passed true r h = refl
 passed false r h = cc
 

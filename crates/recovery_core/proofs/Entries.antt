@@ -1,6 +1,5 @@
 -- Each entry of an analysis is that of its server.
-use Rattle.std.proofs.Common.{◌≡◌, ℕ, ◌<◌, Bool, false, List, [], ◌∷◌, length, map, refl, sym, ◌∙◌, ap, subst, Option, Some, None, Result, Ok, Err, Vec, Global, arith, zero-add}
-use Rattle.std.specs.Prelude.{◌==◌, All, Contains, IfOk, filter, filter_map, find}
+use Rattle.std.proofs.Common.{◌≡◌, ℕ, ◌<◌, Bool, false, List, [], ◌∷◌, length, map, refl, sym, ◌∙◌, ap, subst, Option, Some, None, Result, Ok, Err, Vec, Global, arith, zero-add, ◌==◌, All, Contains, IfOk, filter, filter_map, find}
 use Rattle.recovery_core.proofs.Prelude.{All-cons, All-contains, All-filter, All-found, All-head, All-map, All-nil, All-tail, AllocError, BookState}
 use Rattle.recovery_core.proofs.Prelude.{Contains-get_or, Contains-permutation, Entry, Instance, IsEntryIn, IsOrder-by_name, ServerNo, action_of}
 use Rattle.recovery_core.proofs.Prelude.{actionable_in, analysis, by_name, by_name-within, code_at, cons_option, entry_at, eq-eqb, eqb-true}

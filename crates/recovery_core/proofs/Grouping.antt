@@ -1,6 +1,5 @@
 -- The replicas of each server are grouped one after another.
-use Rattle.std.proofs.Common.{◌≡◌, ℕ, ◌+◌, ◌<◌, Bool, true, false, cond, List, [], ◌∷◌, ◌++◌, length, get_or, set, take, refl, sym, ◌∙◌, ap, arith}
-use Rattle.std.specs.Prelude.{◌==◌, filter, replicate, slice_index_or}
+use Rattle.std.proofs.Common.{◌≡◌, ℕ, ◌+◌, ◌<◌, Bool, true, false, cond, List, [], ◌∷◌, ◌++◌, length, get_or, set, take, refl, sym, ◌∙◌, ap, arith, ◌==◌, filter, replicate, slice_index_or}
 use Rattle.recovery_core.proofs.Prelude.{Attached, BookState, Detached, ServerNo, SourceState, Without, append-nil, eq-eqb, eqb-true, false≢true}
 use Rattle.recovery_core.proofs.Prelude.{filter_more, get_or-replicate, get_or-set_other, get_or-set_same, instance_at, is_attached_to, is_replica_of}
 use Rattle.recovery_core.proofs.Prelude.{joined, length-replicate, length-set, seen_source}

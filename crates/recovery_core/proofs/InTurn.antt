@@ -1,6 +1,5 @@
 -- What a scan begins, one after another.
-use Rattle.std.proofs.Common.{◌≡◌, ℕ, ◌+◌, ◌≤◌, ◌∙◌, false, cond, List, [], ◌∷◌, ◌++◌, length, append_assoc, refl, sym, ap, subst, Option, Some, None, arith}
-use Rattle.std.specs.Prelude.{All, filter}
+use Rattle.std.proofs.Common.{◌≡◌, ℕ, ◌+◌, ◌≤◌, ◌∙◌, false, cond, List, [], ◌∷◌, ◌++◌, length, append_assoc, refl, sym, ap, subst, Option, Some, None, arith, All, filter}
 use Rattle.recovery_core.proofs.Prelude.{Action, All-cons, All-head, All-nil, All-tail, Attempt, AuditState, BeginInTurn, Begins, BookState, Entry}
 use Rattle.recovery_core.proofs.Prelude.{IsApart, IsBook, IsEntryIn, Moment, Nothing, Refusal, ServerNo, Staged, World, action_of, actionable_in}
 use Rattle.recovery_core.proofs.Prelude.{after_try, analysis, append-nil, audit_after, begun, begun-apart, from_start, is_asked, label_at}

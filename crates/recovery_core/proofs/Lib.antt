@@ -1,4 +1,4 @@
-mod Prelude
+pub mod Prelude
 pub mod Entries
 pub mod Grouping
 pub mod Trying

@@ -1,6 +1,5 @@
 -- What a scan keeps from one try to the next.
-use Rattle.std.proofs.Common.{◌≡◌, ℕ, ◌+◌, ◌<◌, ◌≤◌, ◌∙◌, List, [], ◌∷◌, length, get_or, take, refl, sym, subst, Option, Some, None}
-use Rattle.std.specs.Prelude.{slice_set}
+use Rattle.std.proofs.Common.{◌≡◌, ℕ, ◌+◌, ◌<◌, ◌≤◌, ◌∙◌, List, [], ◌∷◌, length, get_or, take, refl, sym, subst, Option, Some, None, slice_set}
 use Rattle.recovery_core.proofs.Prelude.{All-push, Attempt, Begins, BookState, Entry, IsReady, Recovery as KeptRecovery, Refusal, ServerNo, Staged}
 use Rattle.recovery_core.proofs.Prelude.{World, after_try, fold_more, length-set, recovery_begins, scan_step, scanned_over, staged_refusal}
 use Rattle.recovery_core.proofs.Prelude.{staged_try, taken, unless_refused}

@@ -1,7 +1,6 @@
 -- What refuses a try, and what may begin if nothing does.
 pub use Rattle.std.proofs.lemmas.Result.{on_ok_weaker as on-ok}
-use Rattle.std.proofs.Common.{◌≡◌, ℕ, ◌<◌, ◌≤◌, Bool, List, length, refl, sym, ◌∙◌, ap, subst, Option, Some, None, Result, Ok, Err}
-use Rattle.std.specs.Prelude.{All, slice_index_or}
+use Rattle.std.proofs.Common.{◌≡◌, ℕ, ◌<◌, ◌≤◌, Bool, List, length, refl, sym, ◌∙◌, ap, subst, Option, Some, None, Result, Ok, Err, All, slice_index_or}
 use Rattle.recovery_core.proofs.Prelude.{Action, All-push, Attempt, AuditState, Begins, BookState, Code, Entry, Gives, HasRoom, Held, Kind, MayBegin}
 use Rattle.recovery_core.proofs.Prelude.{PermitFault, Recovery as KeptRecovery, Refusal, ServerNo, Staged, World, action_of, after_try, apart-begins}
 use Rattle.recovery_core.proofs.Prelude.{busy_by, code_at, cons-within, entry_of, first_about, held_back, held_by, held_off, label_at, longest_block}

@@ -1,6 +1,5 @@
 -- Recoveries that begin, and others' exchanges.
-use Rattle.std.proofs.Common.{◌≡◌, ℕ, ◌+◌, ◌<◌, Bool, true, false, cond, List, [], ◌∷◌, ◌++◌, map, refl, sym, ◌∙◌, ap, subst, Option, Some, None, ◌&&◌, inl, arith}
-use Rattle.std.specs.Prelude.{◌==◌}
+use Rattle.std.proofs.Common.{◌≡◌, ℕ, ◌+◌, ◌<◌, Bool, true, false, cond, List, [], ◌∷◌, ◌++◌, map, refl, sym, ◌∙◌, ap, subst, Option, Some, None, ◌&&◌, inl, arith, ◌==◌}
 use Rattle.recovery_covers.proofs.Prelude.{All, All-cons, All-head, All-nil, All-tail, AreReplicas, AreSourcesOf, Awaits, CoversSoFar, Exchange}
 use Rattle.recovery_covers.proofs.Prelude.{Follower, FollowsBy, IsAny, IsApart, IsLeased, IsSourced, IsUnder, LeasedRecovery, Leases, LostReplica}
 use Rattle.recovery_covers.proofs.Prelude.{Means, Purpose, Recovery, ServerNo, Stays-same, Stopped, Task, World, after, begun_recovery, but, chooses}

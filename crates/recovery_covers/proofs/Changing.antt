@@ -1,6 +1,5 @@
 -- A stage's change covers the replicas as far as before.
-use Rattle.std.proofs.Common.{◌≡◌, ℕ, ◌+◌, ◌<◌, Bool, true, false, cond, not, List, [], ◌∷◌, refl, sym, ◌∙◌, ap, subst, Some, inl, inr, arith}
-use Rattle.std.specs.Prelude.{◌==◌, filter}
+use Rattle.std.proofs.Common.{◌≡◌, ℕ, ◌+◌, ◌<◌, Bool, true, false, cond, not, List, [], ◌∷◌, refl, sym, ◌∙◌, ap, subst, Some, inl, inr, arith, ◌==◌, filter}
 use Rattle.recovery_covers.proofs.Prelude.{All-filter, Apart-keeps, Attached, CoversAt, Detached, Follower, FollowsBy, Free-keeps, IsApart, IsFree}
 use Rattle.recovery_covers.proofs.Prelude.{IsMoved, IsSourced, IsUnder, IsWritable, Job, KeepsSource, Leads, OldFollows, Purpose, Recovery, ServerNo}
 use Rattle.recovery_covers.proofs.Prelude.{Sourced-keeps, SourceState, Stage, Stands, Stays, Stays-keeps, Under-keeps, Way, Without, World, crowns}

@@ -1,6 +1,5 @@
 -- What is decided covers the replicas as far as before: the choice, and how the others go.
-use Rattle.std.proofs.Common.{◌≡◌, ℕ, ◌+◌, ◌<◌, Bool, true, false, cond, not, List, [], ◌∷◌, ◌++◌, refl, sym, ◌∙◌, ap, subst, Option, Some, None, inl, inr, arith}
-use Rattle.std.specs.Prelude.{◌==◌, IfSome}
+use Rattle.std.proofs.Common.{◌≡◌, ℕ, ◌+◌, ◌<◌, Bool, true, false, cond, not, List, [], ◌∷◌, ◌++◌, refl, sym, ◌∙◌, ap, subst, Option, Some, None, inl, inr, arith, ◌==◌, IfSome}
 use Rattle.recovery_covers.proofs.Prelude.{All, All-append, All-chosen, All-cons, All-filter, All-head, All-nil, All-tail, All-weaker, Awaits}
 use Rattle.recovery_covers.proofs.Prelude.{BookState, Bridge, CoversAt, Follower, FollowsBy, Group, IsApart, IsSourced, LostReplica, Lot, Means}
 use Rattle.recovery_covers.proofs.Prelude.{Moment, Purpose, Recovery, ServerNo, Stopped, Task, World, and_parts, choose, chooses, chosen_of}

@@ -1,6 +1,5 @@
 -- A stage that is done covers the replicas as far as before.
-use Rattle.std.proofs.Common.{◌≡◌, ℕ, ◌+◌, Bool, true, false, cond, List, [], ◌∷◌, ◌++◌, map, refl, sym, ◌∙◌, ap, subst, Option, Some, None, ◌⊎◌, inl, inr, arith}
-use Rattle.std.specs.Prelude.{◌==◌, IfSome}
+use Rattle.std.proofs.Common.{◌≡◌, ℕ, ◌+◌, Bool, true, false, cond, List, [], ◌∷◌, ◌++◌, map, refl, sym, ◌∙◌, ap, subst, Option, Some, None, ◌⊎◌, inl, inr, arith, ◌==◌, IfSome}
 use Rattle.recovery_covers.proofs.Prelude.{All, All-cons, All-head, All-nil, All-push, All-tail, All-weaker, Attached, Bridge, Contains}
 use Rattle.recovery_covers.proofs.Prelude.{Contains-push, CoversAt, CoversSoFar, Detached, Ending, Fits, Follower, FollowsBy, IsApart, IsLast}
 use Rattle.recovery_covers.proofs.Prelude.{IsPromoted, IsSourced, IsUnder, Job, Leads, LostReplica, MayEnd, OldFollows, Op, Position, Purpose}
@@ -8,7 +7,7 @@ use Rattle.recovery_covers.proofs.Prelude.{Recovery, ServerNo, SourceState, Stag
 use Rattle.recovery_covers.proofs.Prelude.{bridge_at, chooses, closing, crowns, ended_by, eqb-true, expelled, expels, false≢true, first_source}
 use Rattle.recovery_covers.proofs.Prelude.{follows, frees, gathered, has_source, idle, is_below, is_late, is_source, is_takeover, last_looks}
 use Rattle.recovery_covers.proofs.Prelude.{lead_under, leader, listed, loses, lost_nos, marked, of_stage, rests, same-no, same_Some, seen_of}
-use Rattle.recovery_covers.proofs.Prelude.{source_no, spot_seen, stopped_at, swapped, tail_of, times, told}
+use Rattle.recovery_covers.proofs.Prelude.{result_lines, source_no, spot_seen, stopped_at, swapped, tail_of, times}
 use Rattle.recovery_covers.proofs.Prelude.by
 use Rattle.recovery_covers.proofs.Prelude.lost
 use Rattle.recovery_covers.proofs.Prelude.op
@@ -322,7 +321,7 @@ module _ (w : World) where
 
   opened-covers : (r : Recovery) (n : ServerNo) → CoversAt w r (stage.Opened n) → CoversSoFar w (closing r (last_looks r r.purpose n))
   opened-covers r n c = record {
-    at = restaged w r (stage.Opened n) (stage.Close (told r)) _ c refl (λ h. refl) (
+    at = restaged w r (stage.Opened n) (stage.Close (result_lines r)) _ c refl (λ h. refl) (
       record {
         no = n;
         promoted = record { promoted = one.promoted; queue = one.queue; drained = one.drained; old = one.old };
@@ -337,7 +336,7 @@ module _ (w : World) where
       one : IsPromoted r n
       one = c.stage.0.promoted
 
-      some : (xs : List Op) → xs ++ op.Finish (told r) ∷ [] ≡ [] → ⊥
+      some : (xs : List Op) → xs ++ op.Finish (result_lines r) ∷ [] ≡ [] → ⊥
       some [] h = cc
       some (x ∷ xs) h = cc
 

@@ -1,12 +1,11 @@
 -- What is decided at the start of a turn covers the replicas as far as before, or nobody leads.
-use Rattle.std.proofs.Common.{◌≡◌, ℕ, ◌+◌, ◌<◌, Bool, true, false, cond, List, [], ◌∷◌, ◌++◌, map, refl, sym, ◌∙◌, ap, subst, Option, Some, None, ◌⊎◌, inl, inr, arith}
-use Rattle.std.specs.Prelude.{◌==◌, IfSome, filter, find, option_map}
+use Rattle.std.proofs.Common.{◌≡◌, ℕ, ◌+◌, ◌<◌, Bool, true, false, cond, List, [], ◌∷◌, ◌++◌, map, refl, sym, ◌∙◌, ap, subst, Option, Some, None, ◌⊎◌, inl, inr, arith, ◌==◌, IfSome, filter, find, option_map}
 use Rattle.recovery_covers.proofs.Prelude.{All, All-append, All-better, All-cons, All-head, All-map, All-nil, All-tail, Awaits, BookState, Bridge}
 use Rattle.recovery_covers.proofs.Prelude.{CoversAt, CoversSoFar, Decision, IsNext, IsSourced, Job, Leads, LostReplica, MayDecide, Moment, OldFollows}
 use Rattle.recovery_covers.proofs.Prelude.{Op, Purpose, Recovery, ServerNo, Stage, Stands, Task, World, and_parts, better_of, choose, chooses}
 use Rattle.recovery_covers.proofs.Prelude.{closing, crown, crowns, decided_by, decides, decides-idle, eqb-true, expels, false≢true, filter_passes}
 use Rattle.recovery_covers.proofs.Prelude.{first_source, follower_nos, follows_lead, ground_of, in_order, is_intermediate, is_master, is_nil}
-use Rattle.recovery_covers.proofs.Prelude.{is_takeover, level, lost_nos, of_queue, of_stage, of_task, rejoin, releases, sort, times, told, why_of}
+use Rattle.recovery_covers.proofs.Prelude.{is_takeover, level, lost_nos, of_queue, of_stage, of_task, rejoin, releases, result_lines, sort, times, why_of}
 use Rattle.recovery_covers.proofs.Prelude.{working, yield}
 use Rattle.recovery_covers.proofs.Prelude.by
 use Rattle.recovery_covers.proofs.Prelude.op
@@ -220,10 +219,10 @@ module _ (w : World) where
 
       -- the lines are given, if nobody takes a master's place
       closes : (x : Op) (xs : List Op) → (n : ServerNo) → r.chosen ≡ Some n → crowns r.purpose ≡ false → OldFollows r.purpose r.failed r.outcome.followers
-          → CoversSoFar w (working r (stage.Close (told r)) (x ∷ xs))
+          → CoversSoFar w (working r (stage.Close (result_lines r)) (x ∷ xs))
       closes x xs n is crownless old =
-          so-far (working r (stage.Close (told r)) (x ∷ xs)) (stage.Close (told r)) x xs refl refl (λ m by h. cc)
-          (last-covers r (stage.Close (told r)) (record r.core { ops = x ∷ xs; waited = 0 }) r.swaps c refl (
+          so-far (working r (stage.Close (result_lines r)) (x ∷ xs)) (stage.Close (result_lines r)) x xs refl refl (λ m by h. cc)
+          (last-covers r (stage.Close (result_lines r)) (record r.core { ops = x ∷ xs; waited = 0 }) r.swaps c refl (
             record {
               no = n;
               promoted = record { promoted = leads ∙ is; queue = empty; drained = drained; old = old };
@@ -233,7 +232,7 @@ module _ (w : World) where
           ))
 
       rejoins : (p : ServerNo) → r.purpose ≡ purpose.Regroup → r.chosen ≡ Some p → CoversSoFar w (rejoin r (Some p))
-      rejoins p u e = closes (op.Start p) (op.Finish (told r) ∷ []) p e (ap crowns u) (subst (λ (x : Purpose). OldFollows x r.failed r.outcome.followers) (sym u) tt)
+      rejoins p u e = closes (op.Start p) (op.Finish (result_lines r) ∷ []) p e (ap crowns u) (subst (λ (x : Purpose). OldFollows x r.failed r.outcome.followers) (sym u) tt)
 
       crowning : (p : ServerNo) → is_master r.purpose ≡ true → r.chosen ≡ Some p → CoversSoFar w (crown r (Some p))
       crowning p u e =
@@ -257,7 +256,7 @@ module _ (w : World) where
       finishing : (s : ServerNo) → r.purpose ≡ purpose.Intermediate s → CoversSoFar w (closing r [])
       finishing s e =
           let named = intermediate-named r.purpose r.chosen (ap is_intermediate e) c.named in
-          closes (op.Finish (told r)) [] named.0 named.1 (ap crowns e) (subst (λ (x : Purpose). OldFollows x r.failed r.outcome.followers) (sym e) tt)
+          closes (op.Finish (result_lines r)) [] named.0 named.1 (ap crowns e) (subst (λ (x : Purpose). OldFollows x r.failed r.outcome.followers) (sym e) tt)
 
     -- ---- what is decided
 

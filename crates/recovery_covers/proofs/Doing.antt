@@ -1,12 +1,12 @@
 -- What a turn changes, and whom it chooses among or hands over.
-use Rattle.std.proofs.Common.{◌≡◌, ℕ, ◌+◌, ◌<◌, Bool, true, false, not, ◌&&◌, ◌||◌, List, [], ◌∷◌, refl, sym, ◌∙◌, ap, subst, Option, Some, None, ◌⊎◌, inl, inr, arith}
+use Rattle.std.proofs.Common.{◌≡◌, ℕ, Bool, true, false, not, ◌&&◌, ◌||◌, List, [], ◌∷◌, refl, sym, ◌∙◌, ap, subst, Option, Some, None, ◌⊎◌, inl, inr, arith}
 use Rattle.recovery_covers.proofs.Prelude.{All, All-head, All-nil, All-tail, Ask, Awaits, BookState, ChoosesAmongAll, CoversAt, CoversSoFar}
 use Rattle.recovery_covers.proofs.Prelude.{DecidesOverAll, Decisions, Deed, Does, Exchange, Fits, Follower, FollowsBy, HandsOverAll, HeldRecovery}
 use Rattle.recovery_covers.proofs.Prelude.{HeldRings, IsNext, Job, MakesWell, MayAsk, MayMake, Moment, Observation, Op, Placed, Purpose, Recovery}
 use Rattle.recovery_covers.proofs.Prelude.{ServerNo, Stage, Taken, Task, Turning, Way, World, and_parts, chooses, decides, decisions-keep, deed_of}
-use Rattle.recovery_covers.proofs.Prelude.{end, ends, false≢true, first_source, fits-step, follower_nos, ground_of, in_order}
-use Rattle.recovery_covers.proofs.Prelude.{is_finish, is_going, is_intermediate, is_look, is_takeover, leader, moves, moves_by, next}
-use Rattle.recovery_covers.proofs.Prelude.{observed, of_queue, of_stage, owed, reads_last, same-head, tail_of, taken, taken-walks, times}
+use Rattle.recovery_covers.proofs.Prelude.{end, ends, false≢true, first_source, fits-step, follower_nos, ground_of, in_order, is_finish, is_going}
+use Rattle.recovery_covers.proofs.Prelude.{is_intermediate, is_look, is_takeover, leader, moves, moves_by, next, not-true, observed, of_queue}
+use Rattle.recovery_covers.proofs.Prelude.{of_stage, owed, reads_last, same-head, tail_of, taken, taken-walks, target, times}
 use Rattle.recovery_covers.proofs.Prelude.asking
 use Rattle.recovery_covers.proofs.Prelude.cross
 use Rattle.recovery_covers.proofs.Prelude.deed
@@ -19,7 +19,6 @@ use Rattle.recovery_covers.proofs.Prelude.task
 use Rattle.recovery_covers.proofs.Prelude.way
 use Rattle.recovery_covers.proofs.Decided.{IsStuck}
 use Rattle.recovery_covers.proofs.Turning.{covered, decides-before}
-use Rattle.recovery_laws.specs.RecoveryPlans.Table.{target}
 use Rattle.recovery_covers.proofs.Chosen.{unnamed}
 use Rattle.recovery_laws.specs.RecoveryPlans.Moves as move
 use Rattle.recovery_covers.proofs.Making.{Attaches, Makes, made-well}
@@ -57,18 +56,11 @@ hands-on : (u : Purpose) (f : ServerNo) (o : Option ServerNo) (ns : List ServerN
 hands-on (purpose.Intermediate s) f o ns h = record { leads = refl; owes = refl; apart = λ over. false≢true over }
 hands-on _ f o ns h = absurd (false≢true h)
 
-both : (a b : Bool) → (a && b) ≡ true → (a ≡ true) × (b ≡ true)
-both a b h = and_parts a b h
-
-not-true : (a : Bool) → not a ≡ true → a ≡ false
-not-true false h = refl
-not-true true h = absurd (false≢true h)
-
 module _ (w : World) (r : Recovery) (unmoved : (k : ServerNo) (by : Way) → Awaits w r (task.Moving k by) → ⊥) (apart : is_takeover r.purpose ≡ true → ⊥) where
   -- nothing is left after the decision that has a place to give
   none-placed : (f : ServerNo) (ts : List Task) → decides ts ≡ false → in_order ts ≡ true → All (Awaits w r) ts → (n : ℕ) → times n (of_queue f ts) ≡ 0
   none-placed f [] off order all n = refl
-  none-placed f (task.Draining k ∷ ts) off order all n = absurd (false≢true (sym off ∙ (both (decides ts) (in_order ts) order).0))
+  none-placed f (task.Draining k ∷ ts) off order all n = absurd (false≢true (sym off ∙ (and_parts (decides ts) (in_order ts) order).0))
   none-placed f (task.Choosing ∷ ts) off order all n = absurd (false≢true (sym off))
   none-placed f (task.Handing ∷ ts) off order all n = absurd (false≢true (sym off))
   none-placed f (task.Moving k by ∷ ts) off order all n =
@@ -87,7 +79,7 @@ chooses-all w r c ts next n there =
     let none = c.at.unchosen choosing in
     let first = unnamed r.purpose r.chosen none.0 c.at.named in
     let idle = c.rests next.rests in
-    let order = both (not (decides ts)) (in_order ts) (sym (ap in_order next.queue) ∙ c.at.order) in
+    let order = and_parts (not (decides ts)) (in_order ts) (sym (ap in_order next.queue) ∙ c.at.order) in
     let rest = none-placed w r (λ k by a. let bad : None ≡ Some (target by) = sym none.0 ∙ a.0 in cc) (chooser-apart r.purpose first) r.failed ts (not-true (decides ts) order.0) order.1
     (All-tail (Awaits w r) task.Choosing ts (subst (λ (xs : List Task). All (Awaits w r) xs) next.queue queue)) n in
     let once = c.at.once n in
@@ -105,7 +97,7 @@ hands-all w r c ts next n there =
     let handing = All-head (Awaits w r) task.Handing ts queue in
     let on = hands-on r.purpose r.failed r.outcome.promoted r.replicas handing in
     let idle = c.rests next.rests in
-    let order = both (not (decides ts)) (in_order ts) (sym (ap in_order next.queue) ∙ c.at.order) in
+    let order = and_parts (not (decides ts)) (in_order ts) (sym (ap in_order next.queue) ∙ c.at.order) in
     let rest = none-placed w r (λ k by a. false≢true (sym a.2 ∙ handing)) on.apart r.failed ts (not-true (decides ts) order.0) order.1 (All-tail (Awaits w r) task.Handing ts queue) n in
     let once = c.at.once n in
     let placing : times n (of_stage r.stage) ≡ 0 = ap (λ (s : Stage). times n (of_stage s)) idle in

@@ -1,6 +1,5 @@
 -- A recovery that is done covers its replicas.
-use Rattle.std.proofs.Common.{◌≡◌, ℕ, Bool, true, false, List, [], ◌∷◌, refl, sym, ◌∙◌, ap, subst, Option, Some, None, ◌&&◌, ◌||◌, ◌⊎◌, inl, inr, arith}
-use Rattle.std.specs.Prelude.{IfSome}
+use Rattle.std.proofs.Common.{◌≡◌, ℕ, Bool, true, false, List, [], ◌∷◌, refl, sym, ◌∙◌, ap, subst, Option, Some, None, ◌&&◌, ◌||◌, ◌⊎◌, inl, inr, arith, IfSome}
 use Rattle.recovery_covers.proofs.Prelude.{All-weaker, Attempt, Attempts, BookState, Contains, Covers, CoversAt, CoversSoFar, Deed, Fits, Follower}
 use Rattle.recovery_covers.proofs.Prelude.{Follows, FollowsBy, HasSwapped, HeldRecovery, HeldRings, IsAsNamed, IsChain, IsTold, Job, JobStep, Leads}
 use Rattle.recovery_covers.proofs.Prelude.{Line, Moment, OldFollows, Op, Outcome, Placed, Purpose, Recovery, ServerNo, Stage, Taken, Turning, World}

@@ -1,6 +1,5 @@
 -- Recoveries that are done and cover their replicas, one for each purpose.
-use Rattle.std.proofs.Common.{◌≡◌, ℕ, ◌+◌, ◌≤◌, Bool, true, false, cond, not, List, [], ◌∷◌, refl, sym, ◌∙◌, ap, Option, Some, None, ◌&&◌, inl, inr, arith}
-use Rattle.std.specs.Prelude.{◌==◌}
+use Rattle.std.proofs.Common.{◌≡◌, ℕ, ◌+◌, ◌≤◌, Bool, true, false, cond, not, List, [], ◌∷◌, refl, sym, ◌∙◌, ap, Option, Some, None, ◌&&◌, inl, inr, arith, ◌==◌}
 use Rattle.recovery_covers.proofs.Prelude.{All-cons, All-nil, Apply, Attached, Covers, Detached, Fetch, Follower, Follows, IsApart, IsRuling, IsUnder}
 use Rattle.recovery_covers.proofs.Prelude.{LostReplica, Outcome, Server, ServerNo, Settings, SourceState, Taken, Without, World, and_parts, attached_no}
 use Rattle.recovery_covers.proofs.Prelude.{begun_recovery, book, bridge, each_turn, end, eqb-true, false≢true, has_source, is_detached, list_all, rounds}

@@ -1,6 +1,5 @@
 -- What is decided covers the replicas as far as before: how the next drained one goes below a successor.
-use Rattle.std.proofs.Common.{◌≡◌, Bool, true, false, cond, List, [], ◌∷◌, ◌++◌, refl, sym, ◌∙◌, ap, subst, Option, Some, None, ◌&&◌, inl, inr, arith}
-use Rattle.std.specs.Prelude.{◌==◌, is_some, option_map}
+use Rattle.std.proofs.Common.{◌≡◌, Bool, true, false, cond, List, [], ◌∷◌, ◌++◌, refl, sym, ◌∙◌, ap, subst, Option, Some, None, ◌&&◌, inl, inr, arith, ◌==◌, is_some, option_map}
 use Rattle.recovery_covers.proofs.Prelude.{All, All-cons, All-head, All-latest, All-nil, All-push, All-tail, Awaits, BookState, Bridge, CoversAt}
 use Rattle.recovery_covers.proofs.Prelude.{CoversSoFar, IsApart, IsHanding, IsSourced, Leads, LostReplica, Moment, Op, Reads, Recovery, ServerNo}
 use Rattle.recovery_covers.proofs.Prelude.{Sight, Stage, Stopped, Task, Way, World, and_parts, before, eq-eqb, eqb-true, expels, false≢true}

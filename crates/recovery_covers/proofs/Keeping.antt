@@ -1,6 +1,5 @@
 -- What each that might have been chosen had when it was drained is a prefix of what the promoted server has.
-use Rattle.std.proofs.Common.{◌≡◌, ℕ, ◌≤◌, Bool, true, false, cond, List, ◌∷◌, ◌++◌, length, take, drop, get_or, sym, ◌∙◌, ap, subst, Option, Some, None, ◌⊎◌, inl, inr, arith}
-use Rattle.std.specs.Prelude.{filter, not}
+use Rattle.std.proofs.Common.{◌≡◌, ℕ, ◌≤◌, Bool, true, false, cond, List, ◌∷◌, ◌++◌, length, take, drop, get_or, sym, ◌∙◌, ap, subst, Option, Some, None, ◌⊎◌, inl, inr, arith, filter, not}
 use Rattle.recovery_covers.proofs.Prelude.{All, All-chosen, All-contains, All-filter, All-nil, All-weaker, AllAllowed, Attached, Bearing, BookState, Coord}
 use Rattle.recovery_covers.proofs.Prelude.{CoversSoFar, Decision, Detached, Ending, Exchange, Follower, Grows, Grows-run, HasSwapped, HeldRecovery, HeldRings}
 use Rattle.recovery_covers.proofs.Prelude.{IsAsNamed, IsBeginning, IsSoundStop, IsStopped, IsTold, IsUnder, KeptByChosen, Line, MayDecide, Means, Moment, Op}

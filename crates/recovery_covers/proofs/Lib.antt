@@ -1,4 +1,4 @@
-mod Prelude
+pub mod Prelude
 pub mod Times
 pub mod Covering
 pub mod Changing
@@ -19,7 +19,5 @@ pub mod Staying
 pub mod Ordering
 pub mod Keeping
 pub use Rattle.recovery_laws.proofs.JobLaws as JobLaws
-pub use Rattle.recovery_laws.proofs.RecoveryEnds as RecoveryEnds
 pub mod RecoveryLaws
-pub use Rattle.recovery_laws.proofs.RecoveryPlans as RecoveryPlans
 pub use Rattle.recovery_laws.proofs.ReplicationLaws as ReplicationLaws

@@ -1,6 +1,5 @@
 -- The chosen one has executed the most.
-use Rattle.std.proofs.Common.{◌≡◌, ℕ, ◌+◌, ◌<◌, ◌≤◌, Bool, true, false, cond, List, [], ◌∷◌, map, refl, sym, ◌∙◌, ap, Option, Some, None, ◌&&◌, ◌||◌, arith}
-use Rattle.std.specs.Prelude.{◌==◌, find, nat_lt, nat_le}
+use Rattle.std.proofs.Common.{◌≡◌, ℕ, ◌+◌, ◌<◌, ◌≤◌, Bool, true, false, cond, List, [], ◌∷◌, map, refl, sym, ◌∙◌, ap, Option, Some, None, ◌&&◌, ◌||◌, arith, ◌==◌, find, nat_lt, nat_le}
 use Rattle.recovery_covers.proofs.Prelude.{All, All-cons, All-contains, All-head, All-map, All-nil, All-tail, BookState, Coord, Drained, Moment, ServerNo}
 use Rattle.recovery_covers.proofs.Prelude.{Stopped, World, advance_order, chosen-first, chosen_of, drained_of, eq-eqb, eqb-true, false≢true, first-furthest}
 use Rattle.recovery_covers.proofs.Prelude.{ground_of, is_at_or_before, is_before, is_eligible, le-leb, ltb-false, may_lead, most_advanced, same_Some}

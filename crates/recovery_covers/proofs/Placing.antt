@@ -1,6 +1,5 @@
 -- What it means for each replica that an outcome covers them.
-use Rattle.std.proofs.Common.{◌≡◌, ℕ, ◌+◌, ◌<◌, ◌≤◌, Bool, true, false, cond, zero, suc, List, refl, sym, ◌⊎◌, inl, inr, arith}
-use Rattle.std.specs.Prelude.{◌==◌}
+use Rattle.std.proofs.Common.{◌≡◌, ℕ, ◌+◌, ◌<◌, ◌≤◌, Bool, true, false, cond, zero, suc, List, refl, sym, ◌⊎◌, inl, inr, arith, ◌==◌}
 use Rattle.recovery_covers.proofs.Prelude.{All-contains, Contains, Covers, Follower, HasOnePlace, IsOnceIn, Outcome, Purpose, ServerNo, World, eqb-true}
 use Rattle.recovery_covers.proofs.Prelude.{follower_nos, is_takeover, leader, lost_nos, owed, times}
 use Rattle.recovery_covers.proofs.Times.{self-all}

@@ -1,6 +1,5 @@
 -- The lines of an outcome have each server to which it gives a place.
-use Rattle.std.proofs.Common.{◌≡◌, ◌+◌, ◌<◌, Bool, true, false, cond, List, [], ◌∷◌, ◌++◌, map, refl, sym, ◌∙◌, ap, subst, Option, Some, None, ◌⊎◌, inl, inr, arith}
-use Rattle.std.specs.Prelude.{◌==◌, filter_map, find, option_map}
+use Rattle.std.proofs.Common.{◌≡◌, ◌+◌, ◌<◌, Bool, true, false, cond, List, [], ◌∷◌, ◌++◌, map, refl, sym, ◌∙◌, ap, subst, Option, Some, None, ◌⊎◌, inl, inr, arith, ◌==◌, filter_map, find, option_map}
 use Rattle.recovery_covers.proofs.Prelude.{All, All-cons, All-contains, All-contains_itself, All-nil, All-weaker, Contains, Contains-append_left}
 use Rattle.recovery_covers.proofs.Prelude.{Contains-append_right, Covers, Follower, HasOnePlace, IsToldOf, Line, LostReplica, Outcome, Purpose, ServerNo, World}
 use Rattle.recovery_covers.proofs.Prelude.{eqb-true, filter_map-append, follower_line, follower_nos, leader, leader_line, lines_apart, listed, lost_line}

@@ -1,6 +1,5 @@
 -- How often a server is in a list.
-use Rattle.std.proofs.Common.{◌≡◌, ℕ, ◌+◌, ◌<◌, Bool, true, false, cond, not, List, [], ◌∷◌, ◌++◌, map, refl, sym, ◌∙◌, ap, arith}
-use Rattle.std.specs.Prelude.{◌==◌}
+use Rattle.std.proofs.Common.{◌≡◌, ℕ, ◌+◌, ◌<◌, Bool, true, false, cond, not, List, [], ◌∷◌, ◌++◌, map, refl, sym, ◌∙◌, ap, arith, ◌==◌}
 use Rattle.recovery_covers.proofs.Prelude.{All, All-cons, All-head, All-nil, All-tail, ServerNo, eq-eqb, eqb-true, false≢true, filter, ne_eqb, times}
 
 -- how much one server adds

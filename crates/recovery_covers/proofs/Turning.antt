@@ -7,15 +7,14 @@ use Rattle.recovery_covers.proofs.Prelude.{ServerNo, Stage, Stands, Stays, Stays
 use Rattle.recovery_covers.proofs.Prelude.{by_deed, decided_by, decides-held, deed-still, deed_of, detach-moves, due, ends, entered, exec_by, expels}
 use Rattle.recovery_covers.proofs.Prelude.{false≢true, fate, fate_of, fate_of_drain, fate_of_errant, fate_of_trail, finds, finds_match, fits}
 use Rattle.recovery_covers.proofs.Prelude.{fits-step, follows_no_more, footing, ground_of, is_going, is_late, is_takeover, is_waiting, kept-along}
-use Rattle.recovery_covers.proofs.Prelude.{leaver, loss_of, lost_on_way, match_fate, matched_in, missed_fate, move, move_fate, moved, moved-fits}
-use Rattle.recovery_covers.proofs.Prelude.{moves, of_stage, open-moves, place_on, reset-moves, run, same-head, server_at, shut-moves, spot_by}
-use Rattle.recovery_covers.proofs.Prelude.{status-reads, stepped, tail_of, taken, target, up-once, way-moves, way_fate, went-of, working}
+use Rattle.recovery_covers.proofs.Prelude.{leaver, loss_of, lost_on_way, lost_or_fails, match_fate, matched_in, missed_fate, move, move_fate, moved}
+use Rattle.recovery_covers.proofs.Prelude.{moved-fits, moves, of_stage, open-moves, reset-moves, run, same-head, server_at, shut-moves, status-reads}
+use Rattle.recovery_covers.proofs.Prelude.{stepped, tail_of, taken, target, up-once, way-moves, way_fate, went-of, why_missed, working}
 use Rattle.recovery_covers.proofs.Prelude.attempt
 use Rattle.recovery_covers.proofs.Prelude.by as moving
 use Rattle.recovery_covers.proofs.Prelude.cause
 use Rattle.recovery_covers.proofs.Prelude.cross
 use Rattle.recovery_covers.proofs.Prelude.lost
-use Rattle.recovery_covers.proofs.Prelude.miss
 use Rattle.recovery_covers.proofs.Prelude.op
 use Rattle.recovery_covers.proofs.Prelude.purpose
 use Rattle.recovery_covers.proofs.Prelude.stage
@@ -270,11 +269,11 @@ module _ (w : World) (read : ℕ) (now : Moment) (r : Recovery) (o : Op) (rest :
   errant-fine u n _ at = tt
 
   missed-fine : (u : Purpose) (n : ServerNo) (by' : Way) → CoversAt w r (stage.Move n by') → (m : Miss) → IsFine (stage.Move n by') (missed_fate w u n by' m)
-  missed-fine u n by' at (miss.Unreachable k) = lost-fine u n by' lost.unreachable at
-  missed-fine u n by' at miss.Running = lost-fine u n by' (lost.moved (spot_by (server_at w n.0))) at
-  missed-fine u n by' at (miss.Interfered expected there) = lost-fine u n by' (lost.moved there) at
-  missed-fine u n by' at (miss.Purged first) = lost-fine u n by' (lost.purged (place_on by')) at
-  missed-fine u n by' at _ = tt
+  missed-fine u n by' at m = go (why_missed w n by' m)
+    where
+      go : (o : Option Why) → IsFine (stage.Move n by') (lost_or_fails u n o)
+      go None = tt
+      go (Some why) = lost-fine u n by' why at
 
   move-fine : (u : Purpose) (n : ServerNo) (by' : Way) → CoversAt w r (stage.Move n by') → (l : Option Loss) → IsFine (stage.Move n by') (move_fate w u n by' l)
   move-fine u n by' at None = tt
@@ -289,10 +288,8 @@ module _ (w : World) (read : ℕ) (now : Moment) (r : Recovery) (o : Op) (rest :
   match-fine n by' at (Some (taking.Missed m)) = (refl, refl, λ h. at.stage.1)
 
   way-fine : (u : Purpose) (n : ServerNo) (by' : Way) → CoversAt w r (stage.Move n by') → (l : Option Loss) → IsFine (stage.Move n by') (way_fate w u n by' l)
-  way-fine u n (way.Down b) at l = move-fine u n (way.Down b) at l
-  way-fine u n (way.Up b) at l = move-fine u n (way.Up b) at l
-  way-fine u n (way.Auto to exec) at l = move-fine u n (way.Auto to exec) at l
   way-fine u n (way.Match to exec every) at l = match-fine n (way.Match to exec every) at l
+  way-fine u n x at l = move-fine u n x at l
 
   fate-fine : (s : Stage) → CoversAt w r s → (x : Cause) → IsFine s (fate w r.purpose s x)
   fate-fine (stage.Drain n) at x = drain-fine n x

@@ -1,7 +1,7 @@
 -- What a finished recovery owes the replicas of the server that failed, or that gave up its place.
 use Rattle.std.specs.Prelude.{◌≡◌, ℕ, ◌+◌, ◌≤◌, Bool, true, false, ◌==◌, if◌then◌else◌, List, [], ◌∷◌, map, Option, Some, None, All, Contains, ◌⊎◌}
 use Rattle.recovery_covers.specs.Prelude.{Follower, IsApart, IsRuling, IsUnder, Line, LostReplica, Outcome, Purpose, Recovery, ServerNo, World}
-use Rattle.recovery_covers.specs.Prelude.{is_master, told}
+use Rattle.recovery_covers.specs.Prelude.{is_master, result_lines}
 use Rattle.recovery_covers.specs.Prelude.purpose
 use Rattle.recovery_covers.specs.Prelude.stage
 
@@ -109,5 +109,5 @@ pub record IsTold (w : World) (r : Recovery) (lines : List Line) : Type 0 where
   pub closed : r.stage ≡ stage.Close lines
   pub over : r.queue ≡ []
   pub covers : Covers w r.purpose r.failed r.replicas r.outcome
-  pub told : lines ≡ told r
+  pub told : lines ≡ result_lines r
   pub leads : (r.outcome.promoted ≡ r.chosen) ⊎ HasSwapped r

@@ -1,11 +1,10 @@
 -- What a promoted server has of the failed one's history.
 use Rattle.std.specs.Prelude.{◌≡◌, ℕ, ◌≤◌, length, take, Some, All}
+use Rattle.recovery_covers.specs.Prelude.{Recovery, ServerNo, World}
 use Rattle.recovery_laws.specs.BinlogCoords.declared.Coord.{Coord}
 use Rattle.recovery_laws.specs.BinlogCoords.Log.{place}
-use Rattle.recovery_laws.specs.OrchBase.declared.server.ServerNo.{ServerNo}
 use Rattle.recovery_laws.specs.ServerModel.declared.server.Server.{Server}
-use Rattle.recovery_laws.specs.ServerModel.Worlds.{World, server_at}
-use Rattle.recovery_laws.specs.RecoveryPlans.Recoveries.{Recovery}
+use Rattle.recovery_laws.specs.ServerModel.Worlds.{server_at}
 
 -- What a replica of f had when it was at this coordinate of f's log is a prefix of what n has executed. It had the
 -- first transactions of f up to there.

@@ -8,6 +8,5 @@ pub mod Doing
 pub mod Kept
 pub use Rattle.recovery_laws.specs.BinlogCoords as BinlogCoords
 pub use Rattle.recovery_laws.specs.JobLaws as JobLaws
-pub use Rattle.recovery_laws.specs.RecoveryEnds as RecoveryEnds
 pub mod RecoveryLaws
 pub use Rattle.recovery_laws.specs.ReplicationLaws as ReplicationLaws

@@ -2,7 +2,7 @@
 use Rattle.std.specs.Prelude.{◌≡◌, ℕ, ◌+◌, ◌<◌, Bool, true, false, ◌&&◌, ◌||◌, not, List, [], ◌∷◌, ◌++◌, map, Option, Some, None, IfSome, All, Contains, ◌⊎◌}
 use Rattle.recovery_covers.specs.Prelude.{Bridge, Follower, IsApart, IsFree, IsRuling, IsSourced, IsSourcedAsSeen, IsUnder, Purpose, Reads, Recovery}
 use Rattle.recovery_covers.specs.Prelude.{ServerNo, Stage, Standing, Stopped, Task, World, expels, first_source, info, is_master, is_takeover}
-use Rattle.recovery_covers.specs.Prelude.{tail_of, target, told}
+use Rattle.recovery_covers.specs.Prelude.{result_lines, tail_of, target}
 use Rattle.recovery_covers.specs.Prelude.purpose
 use Rattle.recovery_covers.specs.Prelude.stage
 use Rattle.recovery_covers.specs.Prelude.standing
@@ -186,7 +186,7 @@ Holds w r (standing.Last p) = IsLast r p
 Holds w r (standing.Crowned n) = IsCrowned r n
 Holds w r (standing.Giving m d) = IsGiving r m d
 Holds w r standing.Closed = IsClosed w r
-Holds w r (standing.Told lines) = lines ≡ told r
+Holds w r (standing.Told lines) = lines ≡ result_lines r
 Holds w r (standing.Follower q) = 0 < times q.0 (follower_nos r.outcome.followers)
 Holds w r (standing.Lost n) = IsLost r n
 Holds w r (standing.AsSeen n) = IsSourcedAsSeen w r.core.seen n

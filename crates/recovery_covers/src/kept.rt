@@ -1,21 +1,11 @@
 //! What a promoted server has of the failed one's history.
 
 ghost use Rattle.std.specs.Prelude.{◌≡◌, ℕ, List, Some, All};
-ghost use Rattle.recovery_laws.specs.OrchBase.declared.server.Moment.{Moment as AMoment};
-ghost use Rattle.recovery_laws.specs.OrchBase.declared.server.ServerNo.{ServerNo as Number};
-ghost use Rattle.recovery_laws.specs.Commands.declared.line.Line.{Line as ALine};
-ghost use Rattle.recovery_laws.specs.InstanceKeeper.Book.{BookState};
-ghost use Rattle.recovery_laws.specs.ServerModel.Run.{Exchange, run, AllAllowed};
-ghost use Rattle.recovery_laws.specs.ServerModel.Safe.{Safe, Placed};
-ghost use Rattle.recovery_laws.specs.ServerModel.Worlds.{World};
-ghost use Rattle.recovery_laws.specs.RecoveryPlans.declared.means.Means.{Means as AMeans};
-ghost use Rattle.recovery_laws.specs.RecoveryPlans.declared.purpose.Purpose.{Purpose as APurpose};
+ghost use Rattle.recovery_covers.specs.Prelude.{AllAllowed, BookState, Exchange, HeldRecovery, HeldRings, Line as ALine, Means as AMeans};
+ghost use Rattle.recovery_covers.specs.Prelude.{Moment as AMoment, Placed, Purpose as APurpose, Recovery, ServerNo as Number, SoundRings, World};
+ghost use Rattle.recovery_covers.specs.Prelude.{begun_recovery, run, taken};
+ghost use Rattle.recovery_laws.specs.ServerModel.Safe.{Safe};
 ghost use Rattle.recovery_laws.specs.RecoveryPlans.declared.purpose.Purpose.TheVariants as purpose;
-ghost use Rattle.recovery_laws.specs.RecoveryPlans.Beginning.{begun_recovery};
-ghost use Rattle.recovery_laws.specs.RecoveryPlans.Recoveries.{Recovery};
-ghost use Rattle.recovery_laws.specs.RecoveryPlans.Taking.{taken};
-ghost use Rattle.recovery_laws.specs.HeldRecoveries.{HeldRecovery};
-ghost use Rattle.recovery_laws.specs.Rings.{HeldRings, SoundRings};
 ghost use Rattle.recovery_laws.specs.SoundRecoveries.{SoundRecovery};
 ghost use Rattle.recovery_covers.specs.Covers.{IsTold};
 ghost use Rattle.recovery_covers.specs.SoFar.{CoversSoFar};

@@ -1,6 +1,5 @@
 -- A recovery ends: each turn after which it goes on leaves it fewer turns.
-use Rattle.std.proofs.Common.{◌≡◌, ℕ, ◌+◌, ◌*◌, ◌-◌, ◌<◌, ◌≤◌, Bool, true, false, cond, not, List, [], ◌∷◌, ◌++◌, map, length, refl, sym, ◌∙◌, ap, subst, Option, Some, None, ◌⊎◌, inl, inr, arith}
-use Rattle.std.specs.Prelude.{◌==◌, filter}
+use Rattle.std.proofs.Common.{◌≡◌, ℕ, ◌+◌, ◌*◌, ◌-◌, ◌<◌, ◌≤◌, Bool, true, false, cond, not, List, [], ◌∷◌, ◌++◌, map, length, refl, sym, ◌∙◌, ap, subst, Option, Some, None, ◌⊎◌, inl, inr, arith, ◌==◌, filter}
 use Rattle.recovery_ends.proofs.Prelude.{Attempt, Bearing, BookState, Bridge, Decision, Does, Ending, Exchange, Fits, IsCalm, IsNext, IsOver}
 use Rattle.recovery_ends.proofs.Prelude.{IsShaped, Job, Keeps, Lot, MayBear, MayDecide, MayEnd, Means, Moment, MovesOn, Observation, Op, Purpose}
 use Rattle.recovery_ends.proofs.Prelude.{Recovery, ServerNo, Stage, Stopped, Task, WasRead, Way, Why, World, before, begun_recovery, borne, by_deed}

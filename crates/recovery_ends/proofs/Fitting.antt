@@ -3,7 +3,7 @@ use Rattle.std.proofs.Common.{◌≡◌, ℕ, Bool, true, false, cond, List, [],
 use Rattle.recovery_ends.proofs.Prelude.{Attempt, Bearing, BookState, Bridge, Decision, Does, Ending, Exchange, Fits, Job, Keeps, MayDecide, MayEnd}
 use Rattle.recovery_ends.proofs.Prelude.{Moment, Observation, Op, Purpose, Recovery, ServerNo, Stage, World, borne, closing, decided_by, deed_of}
 use Rattle.recovery_ends.proofs.Prelude.{ended_by, ends, entered, fate_of, first_ops, first_stage, follows_no_more, ground_of, idle, is_going}
-use Rattle.recovery_ends.proofs.Prelude.{kept-along, last_looks, leaver, level, moved, stepped, tail_of, taken, told, trail}
+use Rattle.recovery_ends.proofs.Prelude.{kept-along, last_looks, leaver, level, moved, result_lines, stepped, tail_of, taken, trail}
 use Rattle.recovery_ends.proofs.Prelude.by
 use Rattle.recovery_ends.proofs.Prelude.op
 use Rattle.recovery_ends.proofs.Prelude.purpose
@@ -30,7 +30,7 @@ trail-fits n b = record { front = op.Until n _ ∷ op.Await n _ ∷ op.Stop n �
 drain-fits : (n : ServerNo) → Fits (stage.Drain n) (op.StopReceiver n ∷ op.Settle n ∷ op.Stop n ∷ op.Status n None ∷ [])
 drain-fits n = record { front = op.StopReceiver n ∷ op.Settle n ∷ op.Stop n ∷ []; still = refl; is = refl; due = λ h. cc }
 
-start-fits : (r : Recovery) (p : ServerNo) → Fits (stage.Close (told r)) (op.Start p ∷ op.Finish (told r) ∷ [])
+start-fits : (r : Recovery) (p : ServerNo) → Fits (stage.Close (result_lines r)) (op.Start p ∷ op.Finish (result_lines r) ∷ [])
 start-fits r p = record { front = op.Start p ∷ []; still = refl; is = refl; due = λ h. cc }
 
 release-fits : (n : ServerNo) → Fits (stage.Release n) (op.Start n ∷ [])
@@ -50,7 +50,7 @@ decides-fits w b now r (by.Hands d ds way ts) may fits = way-fits d.no way
 decides-fits w b now r (by.Levels p q) may fits = level-fits p q
 decides-fits w b now r (by.Crowns p) may fits = tail-fits (stage.Crown p)
 decides-fits w b now r (by.Rejoins p) may fits = start-fits r p
-decides-fits w b now r by.Closes may fits = tail-fits (stage.Close (told r))
+decides-fits w b now r by.Closes may fits = tail-fits (stage.Close (result_lines r))
 decides-fits w b now r d may fits = fits
 
 -- ---- a stage that is done

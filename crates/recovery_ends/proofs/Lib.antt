@@ -1,4 +1,4 @@
-mod Prelude
+pub mod Prelude
 pub mod Shapes
 pub mod Fitting
 pub mod Ended

@@ -1,6 +1,5 @@
 -- The operations that an attempt leaves of a stage.
-use Rattle.std.proofs.Common.{◌≡◌, ℕ, ◌+◌, Bool, true, false, not, List, [], ◌∷◌, ◌++◌, refl, sym, ◌∙◌, ap, subst, None, ◌⊎◌, inl, inr, arith}
-use Rattle.std.specs.Prelude.{◌==◌, slice_index_or}
+use Rattle.std.proofs.Common.{◌≡◌, ℕ, ◌+◌, Bool, true, false, not, List, [], ◌∷◌, ◌++◌, refl, sym, ◌∙◌, ap, subst, None, ◌⊎◌, inl, inr, arith, ◌==◌, slice_index_or}
 use Rattle.recovery_ends.proofs.Prelude.{Attempt, Attempts, Deed, Ends, Exchange, Fits, Goes, Job, Moment, Op, ServerNo, Stage, Stops, Way, World}
 use Rattle.recovery_ends.proofs.Prelude.{and_parts, are_still, attempts, before, by_deed, deed_of, ends, false≢true, gather, is_due, is_waiting}
 use Rattle.recovery_ends.proofs.Prelude.{moved, ne_eqb, tail_of}
@@ -91,10 +90,8 @@ front-fits s ops none due still = record {
 
 -- those of a replica that goes some way
 pub way-fits : (n : ServerNo) (by : Way) → Fits (stage.Move n by) (before by n ++ tail_of (stage.Move n by))
-way-fits n (way.Down b) = tail-fits (stage.Move n (way.Down b))
-way-fits n (way.Up b) = tail-fits (stage.Move n (way.Up b))
-way-fits n (way.Auto to exec) = tail-fits (stage.Move n (way.Auto to exec))
 way-fits n (way.Match to exec every) = record { front = op.Match n to every ∷ []; still = refl; is = refl; due = λ h. cc }
+way-fits n x = tail-fits (stage.Move n x)
 
 -- once the operation that ends a stage is done, what is left is the next stage's
 moved-by : (s : Stage) (x : Op) (xs : List Op) (o : Op) (rest : List Op) → o ∷ rest ≡ x ∷ xs → ends s (deed_of x) ≡ true → Fits (moved s) xs → (ends s (deed_of o) ≡ true) × Fits (moved s) rest

@@ -1,6 +1,5 @@
 -- Which hooks run before a recovery.
-use Rattle.std.proofs.Common.{◌≡◌, ◌≢◌, ◌∙◌, ◌+◌, ℕ, zero, suc, Bool, true, false, List, [], ◌∷◌, All, Option, Some, None, take, refl, sym, ap, cond, arith}
-use Rattle.std.specs.Prelude.{◌==◌, slice_get}
+use Rattle.std.proofs.Common.{◌≡◌, ◌≢◌, ◌∙◌, ◌+◌, ℕ, zero, suc, Bool, true, false, List, [], ◌∷◌, All, Option, Some, None, take, refl, sym, ap, cond, arith, ◌==◌, slice_get}
 use Rattle.std.proofs.lemmas.Bool.{eq-eqb, eqb-true}
 use Rattle.std.proofs.lemmas.List.Elements.{All-head, All-tail}
 use Rattle.orch_base.specs.Names.{HostPort}
@@ -50,7 +49,7 @@ due-unless s e = ap (λ (b : Bool). cond b (slice_get s.hooks.pre_failover s.bef
 behind-unless : (s : HookState) → s.checked ≡ true → due_after s ≡ slice_get s.hooks.post_failover s.after
 behind-unless s e = ap (λ (b : Bool). cond b (slice_get s.hooks.post_failover s.after) None) e
 
-got : (b : Bool) (o : Option Hook) (h : Hook) → cond b o None ≡ Some h → o ≡ Some h
+pub got : (b : Bool) (o : Option Hook) (h : Hook) → cond b o None ≡ Some h → o ≡ Some h
 got true o h e = e
 got false o h e = absurd cc
 

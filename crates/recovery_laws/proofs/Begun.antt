@@ -17,11 +17,11 @@ first-ready : (w : World) (u : Purpose) (f : ServerNo) → IsReadyStage w (first
 first-ready w purpose.Regroup f = tt
 first-ready w _ f = tt
 
-first-held : (w : World) (u : Purpose) (f : ServerNo) → are_held (footing w []) (first_ops u f) ≡ true
+pub first-held : (w : World) (u : Purpose) (f : ServerNo) → are_held (footing w []) (first_ops u f) ≡ true
 first-held w purpose.Regroup f = refl
 first-held w _ f = refl
 
-first-free : (u : Purpose) (f : ServerNo) → are_matched (matched_in []) (first_ops u f) ≡ true
+pub first-free : (u : Purpose) (f : ServerNo) → are_matched (matched_in []) (first_ops u f) ≡ true
 first-free purpose.Regroup f = refl
 first-free _ f = refl
 

@@ -40,14 +40,10 @@ turning-goes f id read now keeps = go (job_at f.jobs id) refl
 
 goes-on : (f : Flight) (p : Passage) → MayPass f p → GoesOn f p
 goes-on f (pass.Exchanging e) may = record { es = e ∷ []; is = refl; allowed = (may.0, tt) }
-goes-on f (pass.Polling p n read now) may = still f (pass.Polling p n read now) refl
 goes-on f (pass.Storing p keeps) may = still f (pass.Storing p keeps) (world-stored_if keeps f (slot_of f p))
-goes-on f (pass.Discovering n read now) may = still f (pass.Discovering n read now) refl
-goes-on f (pass.Forgetting n) may = still f (pass.Forgetting n) refl
-goes-on f pass.Restarting may = still f pass.Restarting refl
-goes-on f (pass.Beginning list j) may = still f (pass.Beginning list j) refl
 goes-on f (pass.Turning id read now keeps) may = turning-goes f id read now keeps
 goes-on f (pass.Taking id t keeps) may = record { es = t.exchanges; is = world-stored_if keeps (after_turn f id t) t.observation; allowed = may.held.allowed }
+goes-on f x may = still f x refl
 
 pub passage-held : (f : Flight) (p : Passage) (r : Recovery) → MayPass f p → Held f → HeldRecovery f.world r → HeldRecovery (passed f p).world r
 passage-held f p r may held mine =

@@ -1,13 +1,13 @@
 -- What is decided at the start of a turn leaves a recovery with `Held`.
-use Rattle.std.proofs.Common.{◌≡◌, Bool, true, false, cond, List, [], ◌∷◌, ◌++◌, map, refl, ◌∙◌, ap, subst, Option, Some, None, ◌||◌, ◌&&◌}
-use Rattle.std.specs.Prelude.{IfSome, filter, is_some, option_map}
+pub use Rattle.job_laws.proofs.Planned.{any-true as or-true}
+use Rattle.std.proofs.Common.{◌≡◌, Bool, true, false, cond, List, [], ◌∷◌, ◌++◌, map, refl, ◌∙◌, ap, subst, Option, Some, None, ◌&&◌, IfSome, filter, is_some, option_map}
 use Rattle.recovery_laws.proofs.Prelude.{All, All-append, All-at, All-better, All-chosen, All-cons, All-head, All-nil, All-tail, BookState, Bridge}
 use Rattle.recovery_laws.proofs.Prelude.{Decision, Fits, Footing, HeldRecovery, HeldRings, IsHanding, IsLead, IsNext, IsReady, IsReadyStage}
 use Rattle.recovery_laws.proofs.Prelude.{IsReadyWay, IsStopped, Matched, MayDecide, Moment, Op, Recovery, ServerNo, Sight, Spans, Stage, Stopped}
 use Rattle.recovery_laws.proofs.Prelude.{Task, Way, World, and_parts, are_held, are_matched, before, better_of, both, choose, chosen-logs, chosen_of}
 use Rattle.recovery_laws.proofs.Prelude.{decided, decided-walks, decided_by, decisions-keep, deed_of, drain, eq-eqb, expels, finds, footing}
 use Rattle.recovery_laws.proofs.Prelude.{front-fits, ground_of, has_own, is_under, latest_that, level, logs_at, lot_by, matched_in, move, moves_in}
-use Rattle.recovery_laws.proofs.Prelude.{moving, releases, ring_at, seen-at, seen_of, sight_of, sort, source_shown, tail-fits, told, way-fits}
+use Rattle.recovery_laws.proofs.Prelude.{moving, releases, result_lines, ring_at, seen-at, seen_of, sight_of, sort, source_shown, tail-fits, way-fits}
 use Rattle.recovery_laws.proofs.Prelude.{way_below, way_by_set, why_of, with_bridge, with_way, without_stopped, working}
 use Rattle.recovery_laws.proofs.Prelude.by
 use Rattle.recovery_laws.proofs.Prelude.cross
@@ -18,10 +18,6 @@ use Rattle.recovery_laws.proofs.Prelude.way
 use Rattle.recovery_laws.proofs.Choosing.{self, All-latest, moves-ready, lot-ready}
 use Rattle.recovery_laws.proofs.Ready.{spans-logs, bridge-shown, way-read, queue-more, stopped-more}
 use Rattle.recovery_laws.proofs.StaysRead.{saw-read}
-
-or-true : (b : Bool) → (b || true) ≡ true
-or-true true = refl
-or-true false = refl
 
 level-held : (f : Footing) (p q : ServerNo) → f.logs q.0 ≡ true → are_held f (level p q) ≡ true
 level-held f p q logs = simp (self, logs, or-true) refl
@@ -198,8 +194,8 @@ module _ (w : World) (b : BookState) (now : Moment) (rings : HeldRings w b.rings
   decides-held r by.Remains g held = held
   decides-held r (by.Crowns p) g held = working-held w r (stage.Crown p) _ held tt refl (λ has. refl) (tail-fits (stage.Crown p))
   decides-held r (by.Rejoins p) g held =
-      working-held w r (stage.Close (told r)) (op.Start p ∷ op.Finish (told r) ∷ []) held tt refl (λ has. refl) (record { front = op.Start p ∷ []; still = refl; is = refl; due = λ h. cc })
-  decides-held r by.Closes g held = working-held w r (stage.Close (told r)) (op.Finish (told r) ∷ []) held tt refl (λ has. refl) (tail-fits (stage.Close (told r)))
+      working-held w r (stage.Close (result_lines r)) (op.Start p ∷ op.Finish (result_lines r) ∷ []) held tt refl (λ has. refl) (record { front = op.Start p ∷ []; still = refl; is = refl; due = λ h. cc })
+  decides-held r by.Closes g held = working-held w r (stage.Close (result_lines r)) (op.Finish (result_lines r) ∷ []) held tt refl (λ has. refl) (tail-fits (stage.Close (result_lines r)))
 
 pub decided-held : (w : World) (b : BookState) (now : Moment) (r : Recovery) → HeldRings w b.rings → HeldRecovery w r → HeldRecovery w (decided (ground_of w b now) r)
 decided-held w b now r rings held = decisions-keep w b now (HeldRecovery w) (decides-held w b now rings) (decided-walks w b now r) held

@@ -1,6 +1,5 @@
 -- What a turn of a job does to servers.
-use Rattle.std.proofs.Common.{◌≡◌, ℕ, Bool, true, false, cond, List, [], refl, sym, ◌∙◌, ap, subst, Option, Some, None, Ok, Err, Result, ◌&&◌}
-use Rattle.std.specs.Prelude.{◌==◌}
+use Rattle.std.proofs.Common.{◌≡◌, ℕ, Bool, true, false, cond, List, [], refl, sym, ◌∙◌, ap, subst, Option, Some, None, Ok, Err, Result, ◌&&◌, ◌==◌}
 use Rattle.recovery_laws.proofs.Prelude.{AllShow, ArePlaced, Ask, Attach, AttachAuto, AttachFault, Attached, Attempt, Attempts, Bridge, Coord, Deed}
 use Rattle.recovery_laws.proofs.Prelude.{Detached, Exchange, Interval, IsApart, IsFree, IsMove, IsSourced, IsSourcedAsSeen, IsUnder, IsWritable, Job}
 use Rattle.recovery_laws.proofs.Prelude.{KeepsSource, Match, Moment, Op, Position, Reads, Request, Server, ServerNo, SourceState, Spot, Status, Stays}

@@ -1,4 +1,4 @@
-mod Prelude
+pub mod Prelude
 pub mod StaysRead
 pub mod Ready
 pub mod Choosing

@@ -1,10 +1,9 @@
 -- What is ready to be gone by stays ready: whatever is read beside, and whatever is done to servers.
-use Rattle.std.proofs.Common.{◌≡◌, ℕ, true, List, refl, sym, ◌∙◌, ap, subst, Option, Some, None}
-use Rattle.std.specs.Prelude.{IfSome}
+use Rattle.std.proofs.Common.{◌≡◌, ℕ, true, List, refl, sym, ◌∙◌, ap, subst, Option, Some, None, IfSome}
 use Rattle.recovery_laws.proofs.Prelude.{All, All-weaker, AllAllowed, AllShow, Bridge, Coord, Exchange, Grows-run, IsLead, IsReady, IsReadyStage}
 use Rattle.recovery_laws.proofs.Prelude.{IsReadyWay, IsStopped, IsTarget, NamesLogging, Placed, Purpose, ServerNo, Settings, ShowsAt, Sight, Spans}
-use Rattle.recovery_laws.proofs.Prelude.{Spans-run, Stage, Stopped, Task, Way, World, false≢true, gtid-run, logs-on, logs_by, run, same_Some}
-use Rattle.recovery_laws.proofs.Prelude.{sight_of, stopped_bridge, with-one, with_bridge, with_way}
+use Rattle.recovery_laws.proofs.Prelude.{Spans-run, Stage, Stopped, Task, Way, World, false≢true, gtid-run, logs-on, run, same_Some, sight_of}
+use Rattle.recovery_laws.proofs.Prelude.{stopped_bridge, target-logs, with-one, with_bridge, with_way}
 use Rattle.recovery_laws.proofs.Prelude.purpose
 use Rattle.recovery_laws.proofs.Prelude.stage
 use Rattle.recovery_laws.proofs.Prelude.task
@@ -13,9 +12,6 @@ use Rattle.recovery_laws.proofs.Prelude.JobLaws.{logs_at}
 use Rattle.recovery_laws.proofs.StaysRead.{StaysRead, saw-read}
 
 -- ---- a bridge as a reading
-
-target-logs : (w : World) (m : ℕ) (c : Coord) → IsTarget w m c → logs_at w m ≡ true
-target-logs w m c t = ap logs_by t.there ∙ t.logs
 
 pub spans-logs : (w : World) (b : Bridge) → Spans w b → logs_at w b.no.0 ≡ true
 spans-logs w b s = target-logs w b.no.0 b.own s.own

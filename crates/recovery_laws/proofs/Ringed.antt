@@ -1,6 +1,5 @@
 -- Rings have their own servers' bridges.
-use Rattle.std.proofs.Common.{◌≡◌, ℕ, zero, suc, List, [], ◌∷◌, refl, sym, ap, subst, Option, Some, None}
-use Rattle.std.specs.Prelude.{IfSome, replicate, slice_set, slice_index_or}
+use Rattle.std.proofs.Common.{◌≡◌, ℕ, zero, suc, List, [], ◌∷◌, refl, sym, ap, subst, Option, Some, None, IfSome, replicate, slice_set, slice_index_or}
 use Rattle.recovery_laws.proofs.Prelude.{All, All-nil, All-ring, AreOwn, Bridge, ServerNo, Status, bridge-parts, bridge_in, position_of, ring_at}
 use Rattle.recovery_laws.proofs.Prelude.{ringed}
 use Rattle.recovery_laws.proofs.Prelude.Bridges.{with_bridge}

@@ -1,6 +1,5 @@
 -- In a `Safe` world a recovery's attachments join well, and what it goes by is right.
-use Rattle.std.proofs.Common.{◌≡◌, ℕ, Bool, true, false, cond, List, [], ◌∷◌, ◌++◌, map, refl, sym, ◌∙◌, ap, subst, Option, Some, None}
-use Rattle.std.specs.Prelude.{◌==◌, IfSome, filter, option_map}
+use Rattle.std.proofs.Common.{◌≡◌, ℕ, Bool, true, false, cond, List, [], ◌∷◌, ◌++◌, map, refl, sym, ◌∙◌, ap, subst, Option, Some, None, ◌==◌, IfSome, filter, option_map}
 use Rattle.recovery_laws.proofs.Prelude.{All, All-append, All-at, All-chosen, All-cons, All-head, All-nil, All-push, All-tail, All-weaker, AllAllowed}
 use Rattle.recovery_laws.proofs.Prelude.{AllBridged, AllBridged-run, AllJoinWell, AllMeet-run, Bearing, BookState, Bridge, Coord, Decision, Does}
 use Rattle.recovery_laws.proofs.Prelude.{Ending, Exchange, Fits, Grows-run, HeldRecovery, HeldRings, IsBridged, IsHanding, IsNext, IsSoundStage}
@@ -13,7 +12,7 @@ use Rattle.recovery_laws.proofs.Prelude.{follows_no_more, footing, gather, goes-
 use Rattle.recovery_laws.proofs.Prelude.{has_own, idle, is_before, kept-along, last_exchanges, last_looks, latest_that, lead_under, leaver, level}
 use Rattle.recovery_laws.proofs.Prelude.{logs_at, loses, lot_by, lot_by_group, made-along, move_of, moved, moved-leads, moves_in, moving, own_end_of}
 use Rattle.recovery_laws.proofs.Prelude.{releases, restarts, restarts-join, ring_at, run, same_coord, same_coord-true, same_Some, seen_of, sight_of}
-use Rattle.recovery_laws.proofs.Prelude.{sort, source_no, stands-at, stepped, stopped_bridge, swapped, taken, takes_writes, that_can, told, undone}
+use Rattle.recovery_laws.proofs.Prelude.{result_lines, sort, source_no, stands-at, stepped, stopped_bridge, swapped, taken, takes_writes, that_can, undone}
 use Rattle.recovery_laws.proofs.Prelude.{way_back, way_below, way_by_set, why_of, with-one, with_bridge, with_way, without_stopped, working}
 use Rattle.recovery_laws.proofs.Prelude.asking
 use Rattle.recovery_laws.proofs.Prelude.by
@@ -190,8 +189,8 @@ module _ (w : World) (b : BookState) (now : Moment) (rings : HeldRings w b.rings
   decides-sound r (by.Levels p q) g held s = begun-sound w (record r { swaps = false }) (stage.Level p q) (level p q) s tt
   decides-sound r by.Remains g held s = s
   decides-sound r (by.Crowns p) g held s = begun-sound w r (stage.Crown p) (op.Reset p ∷ op.ReadOnly p false ∷ []) s tt
-  decides-sound r (by.Rejoins p) g held s = begun-sound w r (stage.Close (told r)) (op.Start p ∷ op.Finish (told r) ∷ []) s tt
-  decides-sound r by.Closes g held s = begun-sound w r (stage.Close (told r)) (op.Finish (told r) ∷ []) s tt
+  decides-sound r (by.Rejoins p) g held s = begun-sound w r (stage.Close (result_lines r)) (op.Start p ∷ op.Finish (result_lines r) ∷ []) s tt
+  decides-sound r by.Closes g held s = begun-sound w r (stage.Close (result_lines r)) (op.Finish (result_lines r) ∷ []) s tt
 
   decides-both : (r : Recovery) (d : Decision) → MayDecide (ground_of w b now) r d → IsHeldAndSound w r → IsHeldAndSound w (decided_by (ground_of w b now) r d)
   decides-both r d may h = (decides-held w b now rings r d may h.0, decides-sound r d may h.0 h.1)
@@ -273,7 +272,7 @@ module _ (w : World) where
   completes-sound r (by.Swaps p q) may s = begun-sound w (swapped r p q) (stage.Open q) (op.Start p ∷ op.ReadOnly q false ∷ []) s tt
   completes-sound r (by.Switches m d) may s = begun-sound w (follows r m d) (stage.Open d) (op.ReadOnly d false ∷ []) s tt
   completes-sound r (by.Shuts m d) may s = begun-sound w r (stage.Shut m d) (op.ReadOnly m true ∷ gather m d) s tt
-  completes-sound r (by.Ends n) may s = begun-sound w r (stage.Close (told r)) (last_looks r r.purpose n ++ op.Finish (told r) ∷ []) s tt
+  completes-sound r (by.Ends n) may s = begun-sound w r (stage.Close (result_lines r)) (last_looks r r.purpose n ++ op.Finish (result_lines r) ∷ []) s tt
 
   -- the bridge of a stage is that of the next
   moved-sound : (x : Stage) → IsSoundStage w x → IsSoundStage w (moved x)

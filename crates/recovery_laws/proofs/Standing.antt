@@ -1,6 +1,5 @@
 -- What an exchange leaves of the servers' states.
-use Rattle.std.proofs.Common.{◌≡◌, ℕ, Bool, true, false, refl, sym, ◌∙◌, ap, Some}
-use Rattle.std.specs.Prelude.{◌==◌}
+use Rattle.std.proofs.Common.{◌≡◌, ℕ, Bool, true, false, refl, sym, ◌∙◌, ap, Some, ◌==◌}
 use Rattle.recovery_laws.proofs.Prelude.{Ask, Asked, Attach, AttachAuto, Becomes, Befallen, Event, Exchange, IsApart, IsFree, IsRuling, IsSourced}
 use Rattle.recovery_laws.proofs.Prelude.{IsUnder, IsWritable, KeepsSource, Leaves, Request, Server, Stays, World, after, at_with_other, at_with_same}
 use Rattle.recovery_laws.proofs.Prelude.{attached_no, eq-eqb, eqb-true, false≢true, has_source, is_detached, is_outside, leaves, moves_by, own_txn}

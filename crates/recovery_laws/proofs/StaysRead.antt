@@ -1,6 +1,5 @@
 -- Each server that was read before an attempt still is.
-use Rattle.std.proofs.Common.{◌≡◌, ℕ, Bool, true, false, cond, List, refl, ◌∙◌, ap, Some}
-use Rattle.std.specs.Prelude.{◌==◌, is_some}
+use Rattle.std.proofs.Common.{◌≡◌, ℕ, Bool, true, false, cond, List, refl, ◌∙◌, ap, Some, ◌==◌, is_some}
 use Rattle.recovery_laws.proofs.Prelude.{Attempt, Attempts, Deed, Ends, Goes, Job, Moment, Op, Position, ServerNo, Sight, Stops, World, attempts}
 use Rattle.recovery_laws.proofs.Prelude.{by_deed, position_of, seen-at, seen_of, with_seen}
 use Rattle.recovery_laws.proofs.Prelude.doing

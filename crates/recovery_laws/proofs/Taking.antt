@@ -1,6 +1,6 @@
 -- A turn of a recovery leaves it with `Held`.
-use Rattle.std.proofs.Common.{◌≡◌, ℕ, Bool, true, false, cond, List, [], ◌∷◌, ◌++◌, refl, sym, ◌∙◌, ap, subst, Option, Some, None, ◌⊎◌, inl, inr, ◌||◌, ◌&&◌}
-use Rattle.std.specs.Prelude.{◌==◌, IfSome, is_some}
+use Rattle.job_laws.proofs.Planned.{any-true as or-true}
+use Rattle.std.proofs.Common.{◌≡◌, ℕ, Bool, true, false, cond, List, [], ◌∷◌, ◌++◌, refl, sym, ◌∙◌, ap, subst, Option, Some, None, ◌⊎◌, inl, inr, ◌&&◌, ◌==◌, IfSome, is_some}
 use Rattle.recovery_laws.proofs.Prelude.{All-push, AllAllowed, Attempt, Bearing, BookState, Bridge, Does, Ending, Exchange, Fits, Footing, Held-run}
 use Rattle.recovery_laws.proofs.Prelude.{HeldJob, HeldRecovery, HeldRings, IsDue, IsLead, IsReadyStage, IsStopped, Job, Keeps, KeepsHeld}
 use Rattle.recovery_laws.proofs.Prelude.{KeepsRecovery, MayBear, MayEnd, Moment, Observation, Op, Placed, Position, Purpose, Recovery, ServerNo}
@@ -9,7 +9,7 @@ use Rattle.recovery_laws.proofs.Prelude.{deed-went, deed_of, due-of, ended_by, e
 use Rattle.recovery_laws.proofs.Prelude.{follows, follows_no_more, footing, frees, front-fits, gather, going, idle, is_below, is_source, is_waiting}
 use Rattle.recovery_laws.proofs.Prelude.{kept-along, last_looks, lead_under, leaver, loses, moved, moved-fits, moved-leads, run, same-head, seen-at}
 use Rattle.recovery_laws.proofs.Prelude.{seen-spans, seen_of, sight_of, source_no, stepped, stray, swapped, tail-fits, tail_of, taken, taken-allowed}
-use Rattle.recovery_laws.proofs.Prelude.{told, trail, with_bridge, working}
+use Rattle.recovery_laws.proofs.Prelude.{result_lines, trail, with_bridge, working}
 use Rattle.recovery_laws.proofs.Prelude.attempt
 use Rattle.recovery_laws.proofs.Prelude.by
 use Rattle.recovery_laws.proofs.Prelude.cross
@@ -36,10 +36,6 @@ others-held w es r placed allowed held = record {
 }
 
 -- ---- operations with `Held`
-
-or-true : (b : Bool) → (b || true) ≡ true
-or-true true = refl
-or-true false = refl
 
 gather-held : (f : Footing) (m d : ServerNo) → are_held f (op.ReadOnly m true ∷ gather m d) ≡ true
 gather-held f m d = simp (self, or-true) refl
@@ -106,8 +102,8 @@ module _ (w : World) where
 
   close-held : (r : Recovery) (u : Purpose) (n : ServerNo) → HeldRecovery w r → HeldRecovery w (closing r (last_looks r u n))
   close-held r (purpose.Takeover d) n held =
-      working-held w r (stage.Close (told r)) _ held tt refl (λ has. refl) (record { front = op.Status r.failed None ∷ op.Status n None ∷ []; still = refl; is = refl; due = λ h. cc })
-  close-held r _ n held = working-held w r (stage.Close (told r)) _ held tt refl (λ has. refl) (record { front = op.Status n None ∷ []; still = refl; is = refl; due = λ h. cc })
+      working-held w r (stage.Close (result_lines r)) _ held tt refl (λ has. refl) (record { front = op.Status r.failed None ∷ op.Status n None ∷ []; still = refl; is = refl; due = λ h. cc })
+  close-held r _ n held = working-held w r (stage.Close (result_lines r)) _ held tt refl (λ has. refl) (record { front = op.Status n None ∷ []; still = refl; is = refl; due = λ h. cc })
 
   ready-of : (r : Recovery) (s : Stage) → r.stage ≡ s → HeldRecovery w r → IsReadyStage w s
   ready-of r s is held = subst (λ (x : Stage). IsReadyStage w x) is held.stage

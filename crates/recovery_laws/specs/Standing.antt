@@ -1,17 +1,12 @@
 -- The states of servers.
 use Rattle.std.specs.Prelude.{◌≡◌, ℕ, Bool, true, false, List, Option, Some, None}
-use Rattle.recovery_plans.specs.OrchBase.declared.server.ServerNo.{ServerNo}
+use Rattle.recovery_laws.specs.Prelude.{Exchange, Server, ServerNo, Sight, Way, World, seen_of, server_at, source_shown}
 use Rattle.recovery_plans.specs.OrchBase.declared.server.SourceState.{SourceState}
 use Rattle.recovery_plans.specs.OrchBase.declared.server.SourceState.TheVariants.{Without, Attached, Detached}
-use Rattle.recovery_plans.specs.ServerModel.declared.server.Server.{Server}
 use Rattle.recovery_plans.specs.ServerModel.Desk.{is_detached}
-use Rattle.recovery_plans.specs.ServerModel.Run.{Exchange, Write, Fetch, Apply, Request, Befall, Rotate, Attach, AttachAuto, Purge}
-use Rattle.recovery_plans.specs.ServerModel.Worlds.{World, has_source, server_at}
+use Rattle.recovery_plans.specs.ServerModel.Run.{Write, Fetch, Apply, Request, Befall, Rotate, Attach, AttachAuto, Purge}
+use Rattle.recovery_plans.specs.ServerModel.Worlds.{has_source}
 use Rattle.recovery_plans.specs.Operations.declared.sight.Position.{Position}
-use Rattle.recovery_plans.specs.Operations.declared.sight.Sight.{Sight}
-use Rattle.recovery_plans.specs.Operations.Jobs.{seen_of}
-use Rattle.job_laws.specs.Footing.{source_shown}
-use Rattle.recovery_plans.specs.declared.task.Way.{Way}
 use Rattle.recovery_plans.specs.declared.task.Way.TheVariants as way
 
 -- the server to which a server is attached

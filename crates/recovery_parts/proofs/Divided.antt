@@ -1,6 +1,5 @@
 -- Drained replicas divided by how they go, one after another.
-use Rattle.std.proofs.Common.{◌≡◌, ℕ, ◌+◌, ◌<◌, List, [], ◌∷◌, ◌++◌, take, length, get_or, refl, sym, ◌∙◌, ap, None, false, Result, Ok, Err}
-use Rattle.std.specs.Prelude.{is_ok}
+use Rattle.std.proofs.Common.{◌≡◌, ℕ, ◌+◌, ◌<◌, List, [], ◌∷◌, ◌++◌, take, length, get_or, refl, sym, ◌∙◌, ap, None, false, Result, Ok, Err, is_ok}
 use Rattle.std.proofs.lemmas.Bool.{false≢true}
 use Rattle.std.proofs.lemmas.List.{take_more, append_assoc, append-nil}
 use Rattle.recovery_plans.specs.Deciding.{Lot, Goes, Stays, stay_of, losses_in, move_of, moves_in}

@@ -1,6 +1,5 @@
 -- The servers of recoveries that begin.
-use Rattle.std.proofs.Common.{◌≡◌, ℕ, List, [], ◌∷◌, ◌++◌, map, refl, not, subst}
-use Rattle.std.specs.Prelude.{◌==◌}
+use Rattle.std.proofs.Common.{◌≡◌, ℕ, List, [], ◌∷◌, ◌++◌, map, refl, not, subst, ◌==◌}
 use Rattle.recovery_plans.proofs.Prelude.{All, All-append, All-cons, All-filter, All-map, All-nil, AreSourcesOf, Follower, IsListOf, IsOf, IsOpOf}
 use Rattle.recovery_plans.proofs.Prelude.{IsTaskOf, Means, Purpose, ServerNo, Stopped, Task, begun_recovery, but, changed_by, first_ops, first_source}
 use Rattle.recovery_plans.proofs.Prelude.{first_stage, first_tasks}

@@ -1,6 +1,5 @@
 -- What is chosen is one of those that were drained, and logs.
-use Rattle.std.proofs.Common.{◌≡◌, ℕ, Bool, true, false, cond, List, [], ◌∷◌, map, refl, sym, ◌∙◌, ap, subst, Option, Some, None, ◌&&◌}
-use Rattle.std.specs.Prelude.{◌==◌, not, find}
+use Rattle.std.proofs.Common.{◌≡◌, ℕ, Bool, true, false, cond, List, [], ◌∷◌, map, refl, sym, ◌∙◌, ap, subst, Option, Some, None, ◌&&◌, ◌==◌, not, find}
 use Rattle.recovery_plans.proofs.Prelude.{All, All-cons, All-contains, All-head, All-map, All-nil, All-tail, BookState, Drained, Moment, ServerNo}
 use Rattle.recovery_plans.proofs.Prelude.{Stopped, World, advance_order, and_parts, better_of, chosen-first, chosen_of, drained_of, eqb-true}
 use Rattle.recovery_plans.proofs.Prelude.{follower_of, found_passes, ground_of, is_barred, is_better, is_eligible, logs_at, most_advanced}

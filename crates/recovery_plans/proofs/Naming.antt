@@ -1,6 +1,5 @@
 -- What holds of the servers that a recovery changes and reads holds after its turns.
-use Rattle.std.proofs.Common.{◌≡◌, ℕ, Bool, true, false, cond, not, List, [], ◌∷◌, ◌++◌, map, refl, sym, ◌∙◌, ap, subst, Option, Some, None, inl, inr}
-use Rattle.std.specs.Prelude.{◌==◌, IfSome, filter}
+use Rattle.std.proofs.Common.{◌≡◌, ℕ, Bool, true, false, cond, not, List, [], ◌∷◌, ◌++◌, map, refl, sym, ◌∙◌, ap, subst, Option, Some, None, inl, inr, ◌==◌, IfSome, filter}
 use Rattle.recovery_plans.proofs.Prelude.{All, All-append, All-cons, All-filter, All-head, All-map, All-nil, All-push, All-tail, All-weaker}
 use Rattle.recovery_plans.proofs.Prelude.{AreSourcesOf, Attach, Attached, Attempt, Bearing, BookState, Bridge, ChangesOf, Coord, Decision, Detached}
 use Rattle.recovery_plans.proofs.Prelude.{Does, Ending, Exchange, Follower, IsHanding, IsNext, IsOf, IsOpOf, IsTaskOf, Job, KeepsOf, Lot, MayBear}
@@ -10,7 +9,7 @@ use Rattle.recovery_plans.proofs.Prelude.{bridge_by, can_attach, changed_by, cho
 use Rattle.recovery_plans.proofs.Prelude.{ended_by, entered, expels, fate_of, follows, follows_no_more, frees, gather, goes_back, ground_of, idle}
 use Rattle.recovery_plans.proofs.Prelude.{last_exchanges, last_looks, lead_under, leaver, level, loses, lot_by, move, move_of, moved, moves_in}
 use Rattle.recovery_plans.proofs.Prelude.{moving, once, releases, restarts, same_Some, seen_of, server_of, sort, stopped_at, swapped, taken}
-use Rattle.recovery_plans.proofs.Prelude.{takes_writes, that_can, told, trail, turn-left, turn-stays, turned, undone, way_back, why_of, with_way}
+use Rattle.recovery_plans.proofs.Prelude.{result_lines, takes_writes, that_can, trail, turn-left, turn-stays, turned, undone, way_back, why_of, with_way}
 use Rattle.recovery_plans.proofs.Prelude.{without_follower, without_stopped, working}
 use Rattle.recovery_plans.proofs.Prelude.asking
 use Rattle.recovery_plans.proofs.Prelude.attempt
@@ -87,10 +86,8 @@ module _ (P Q : ℕ → Type 0) (id : ℕ) (pq : (n : ℕ) → P n → Q n) wher
   drain-of n h = each-of (drain n) (does n h, (sees n h, (does n h, (sees n h, tt))))
 
   move-of : (by : Way) (n : ServerNo) → Mine n → All Changes (before by n ++ move by n ∷ op.Start n ∷ [])
-  move-of (way.Down b) n h = each-of (move (way.Down b) n ∷ op.Start n ∷ []) (does n h, (does n h, tt))
-  move-of (way.Up b) n h = each-of (move (way.Up b) n ∷ op.Start n ∷ []) (does n h, (does n h, tt))
-  move-of (way.Auto to exec) n h = each-of (move (way.Auto to exec) n ∷ op.Start n ∷ []) (does n h, (does n h, tt))
   move-of (way.Match to exec every) n h = each-of (op.Match n to every ∷ op.CrossMatch n to ∷ op.Start n ∷ []) ((tt, tt), (does n h, (does n h, tt)))
+  move-of x n h = each-of (move x n ∷ op.Start n ∷ []) (does n h, (does n h, tt))
 
   level-of : (p q : ServerNo) → Mine p → Mine q → All Changes (level p q)
   level-of p q h k = each-of (level p q) (sees p h, (sees q k, (does q k, (sees q k, (does q k, (sees q k, (does q k, (does p h, tt))))))))
@@ -290,8 +287,8 @@ module _ (P Q : ℕ → Type 0) (id : ℕ) (pq : (n : ℕ) → P n → Q n) wher
       working-of r (stage.Crown p) (op.Reset p ∷ op.ReadOnly p false ∷ []) has (one p mine) (each-of (op.Reset p ∷ op.ReadOnly p false ∷ []) (does p mine, (does p mine, tt)))
   decides-of w b now r (by.Rejoins p) g has =
       let mine = chosen-of r purpose.Regroup p g.0.purpose g.1 has in
-      working-of r (stage.Close (told r)) (op.Start p ∷ op.Finish (told r) ∷ []) has (All-nil Mine) (each-of (op.Start p ∷ op.Finish (told r) ∷ []) (does p mine, ((tt, tt), tt)))
-  decides-of w b now r by.Closes g has = working-of r (stage.Close (told r)) (op.Finish (told r) ∷ []) has (All-nil Mine) (each-of (op.Finish (told r) ∷ []) ((tt, tt), tt))
+      working-of r (stage.Close (result_lines r)) (op.Start p ∷ op.Finish (result_lines r) ∷ []) has (All-nil Mine) (each-of (op.Start p ∷ op.Finish (result_lines r) ∷ []) (does p mine, ((tt, tt), tt)))
+  decides-of w b now r by.Closes g has = working-of r (stage.Close (result_lines r)) (op.Finish (result_lines r) ∷ []) has (All-nil Mine) (each-of (op.Finish (result_lines r) ∷ []) ((tt, tt), tt))
 
   pub once-of : (w : World) (b : BookState) (now : Moment) (r : Recovery) → IsOf P Q id r → IsOf P Q id (once (ground_of w b now) r)
   once-of w b now r has = decisions-keep w b now (IsOf P Q id) (decides-of w b now) (once-walks w b now r) has
@@ -309,9 +306,9 @@ module _ (P Q : ℕ → Type 0) (id : ℕ) (pq : (n : ℕ) → P n → Q n) wher
       at true = subst (λ (i : ℕ). P i) (is x refl) h
       at false = tt
 
-  looks-of : (r : Recovery) (u : Purpose) (n : ServerNo) → Mine n → IsOf P Q id r → All Changes (last_looks r u n ++ op.Finish (told r) ∷ [])
-  looks-of r (purpose.Takeover d) n h has = each-of (op.Status r.failed None ∷ op.Status n None ∷ op.Finish (told r) ∷ []) ((tt, has.failed), (sees n h, ((tt, tt), tt)))
-  looks-of r _ n h has = each-of (op.Status n None ∷ op.Finish (told r) ∷ []) (sees n h, ((tt, tt), tt))
+  looks-of : (r : Recovery) (u : Purpose) (n : ServerNo) → Mine n → IsOf P Q id r → All Changes (last_looks r u n ++ op.Finish (result_lines r) ∷ [])
+  looks-of r (purpose.Takeover d) n h has = each-of (op.Status r.failed None ∷ op.Status n None ∷ op.Finish (result_lines r) ∷ []) ((tt, has.failed), (sees n h, ((tt, tt), tt)))
+  looks-of r _ n h has = each-of (op.Status n None ∷ op.Finish (result_lines r) ∷ []) (sees n h, ((tt, tt), tt))
 
   stage-of : (r : Recovery) (s : Stage) → r.stage ≡ s → IsOf P Q id r → All Mine (changed_by s)
   stage-of r s is has = subst (λ (x : Stage). All Mine (changed_by x)) is has.stage
@@ -342,7 +339,7 @@ module _ (P Q : ℕ → Type 0) (id : ℕ) (pq : (n : ℕ) → P n → Q n) wher
       working-of (follows r m d) (stage.Open d) (op.ReadOnly d false ∷ []) (follows-of r m d (first m d both) has) (one d (second m d both)) (each-of (op.ReadOnly d false ∷ []) (does d (second m d both), tt))
   completes-of v r (by.Shuts m d) none is has =
       let both = stage-of r (stage.Meet m d) is has in working-of r (stage.Shut m d) (op.ReadOnly m true ∷ gather m d) has both (gather-of m d (first m d both) (second m d both))
-  completes-of v r (by.Ends n) none is has = working-of r (stage.Close (told r)) _ has (All-nil Mine) (looks-of r r.purpose n (only n (stage-of r (stage.Opened n) is has)) has)
+  completes-of v r (by.Ends n) none is has = working-of r (stage.Close (result_lines r)) _ has (All-nil Mine) (looks-of r r.purpose n (only n (stage-of r (stage.Opened n) is has)) has)
 
   moved-changed : (s : Stage) → All Mine (changed_by s) → All Mine (changed_by (moved s))
   moved-changed (stage.Drain n) h = h

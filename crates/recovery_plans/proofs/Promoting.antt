@@ -1,6 +1,5 @@
 -- A turn promotes only a server that the recovery names.
-use Rattle.std.proofs.Common.{ℕ, [], ◌∷◌, subst, Option, Some, None}
-use Rattle.std.specs.Prelude.{IfSome}
+use Rattle.std.proofs.Common.{ℕ, [], ◌∷◌, subst, Option, Some, None, IfSome}
 use Rattle.recovery_plans.proofs.Prelude.{All, All-head, All-tail, Bearing, BookState, Decision, Ending, IsOf, MayDecide, MayEnd, Moment, Recovery}
 use Rattle.recovery_plans.proofs.Prelude.{ServerNo, Stage, Stopped, World, borne, changed_by, decided_by, ended_by, entered, fate_of, follows_no_more}
 use Rattle.recovery_plans.proofs.Prelude.{ground_of, leaver, moved, taken}

@@ -1,6 +1,5 @@
 -- Each turn of a recovery is a walk of moves, and what each of them keeps a turn keeps.
-use Rattle.std.proofs.Common.{◌≡◌, ℕ, Bool, true, false, cond, List, [], ◌∷◌, ◌++◌, map, refl, sym, ◌∙◌, ap, subst, Option, Some, None, ◌⊎◌, inl, inr}
-use Rattle.std.specs.Prelude.{IfSome}
+use Rattle.std.proofs.Common.{◌≡◌, ℕ, Bool, true, false, cond, List, [], ◌∷◌, ◌++◌, map, refl, sym, ◌∙◌, ap, subst, Option, Some, None, ◌⊎◌, inl, inr, IfSome}
 use Rattle.recovery_plans.proofs.Prelude.{AtEnd, Attempt, Bearing, BookState, Bridge, Cause, Decision, Decisions, Does, Ending, Exchange, FailsFor}
 use Rattle.recovery_plans.proofs.Prelude.{Fate, IsHanding, IsNext, IsOver, Job, Line, Loss, MayBear, MayDecide, MayEnd, Miss, Moment, Observation, Op}
 use Rattle.recovery_plans.proofs.Prelude.{Position, Purpose, Recovery, ServerNo, Stage, Stopped, Stops, Taken, Task, Turning, Way, Why, World, acted}
@@ -8,13 +7,12 @@ use Rattle.recovery_plans.proofs.Prelude.{at_end, at_last, attempted, barred_by,
 use Rattle.recovery_plans.proofs.Prelude.{completed, crown, decided, decided_by, deed_of, ended, ended_by, ends, entered, exec_by, false≢true, fate}
 use Rattle.recovery_plans.proofs.Prelude.{fate_of, fate_of_drain, fate_of_errant, fate_of_trail, frees, goes_on, ground_of, halted, hand, hand_by}
 use Rattle.recovery_plans.proofs.Prelude.{hand_over, idle, is_below, is_going, is_waiting, judged, last_exchanges, late, look_at, looked, loses}
-use Rattle.recovery_plans.proofs.Prelude.{loss_of, lost_on_way, match_fate, met, missed_fate, more_on, move_fate, moved, moving, on_going, once}
-use Rattle.recovery_plans.proofs.Prelude.{place_on, progressed, rejoin, rests, run, same_coord, seen_of, server_at, spot_by, spot_seen, stepped}
-use Rattle.recovery_plans.proofs.Prelude.{stray, swap, swap_by, swap_or_crown, taken, trail, way_below, way_fate, with_bridge, working, yield}
+use Rattle.recovery_plans.proofs.Prelude.{loss_of, lost_on_way, lost_or_fails, match_fate, met, missed_fate, more_on, move_fate, moved, moving}
+use Rattle.recovery_plans.proofs.Prelude.{on_going, once, progressed, rejoin, rests, run, same_coord, seen_of, server_at, spot_seen, stepped, stray}
+use Rattle.recovery_plans.proofs.Prelude.{swap, swap_by, swap_or_crown, taken, trail, way_below, way_fate, why_missed, with_bridge, working, yield}
 use Rattle.recovery_plans.proofs.Prelude.attempt
 use Rattle.recovery_plans.proofs.Prelude.by as move
 use Rattle.recovery_plans.proofs.Prelude.cause
-use Rattle.recovery_plans.proofs.Prelude.miss
 use Rattle.recovery_plans.proofs.Prelude.purpose
 use Rattle.recovery_plans.proofs.Prelude.stage
 use Rattle.recovery_plans.proofs.Prelude.taking
@@ -211,11 +209,11 @@ errant-fated u n (way.Auto to exec) = lost-fated u n (way.Auto to exec) (lost.ah
 errant-fated u n _ = Fatal
 
 missed-fated : (w : World) (u : Purpose) (n : ServerNo) (by : Way) → more_on by ≡ 1 → (m : Miss) → Fated (stage.Move n by) (missed_fate w u n by m)
-missed-fated w u n by more (miss.Unreachable k) = lost-fated u n by lost.unreachable more
-missed-fated w u n by more miss.Running = lost-fated u n by (lost.moved (spot_by (server_at w n.0))) more
-missed-fated w u n by more (miss.Interfered expected found) = lost-fated u n by (lost.moved found) more
-missed-fated w u n by more (miss.Purged first) = lost-fated u n by (lost.purged (place_on by)) more
-missed-fated w u n by more _ = Fatal
+missed-fated w u n by more m = go (why_missed w n by m)
+  where
+    go : (o : Option Why) → Fated (stage.Move n by) (lost_or_fails u n o)
+    go None = Fatal
+    go (Some why) = lost-fated u n by why more
 
 move-fated : (w : World) (u : Purpose) (n : ServerNo) (by : Way) → more_on by ≡ 1 → (l : Option Loss) → Fated (stage.Move n by) (move_fate w u n by l)
 move-fated w u n by more None = Fatal
@@ -230,10 +228,8 @@ match-fated n by (Some taking.Differs) = Fatal
 match-fated n by (Some (taking.Missed m)) = Borne (move.Misses n (lost.unmatched m)) (inr (inl (by, refl)))
 
 way-fated : (w : World) (u : Purpose) (n : ServerNo) (by : Way) (l : Option Loss) → Fated (stage.Move n by) (way_fate w u n by l)
-way-fated w u n (way.Down x) l = move-fated w u n (way.Down x) refl l
-way-fated w u n (way.Up x) l = move-fated w u n (way.Up x) refl l
-way-fated w u n (way.Auto to exec) l = move-fated w u n (way.Auto to exec) refl l
 way-fated w u n (way.Match to exec every) l = match-fated n (way.Match to exec every) l
+way-fated w u n x l = move-fated w u n x refl l
 
 fated : (w : World) (u : Purpose) (s : Stage) (c : Cause) → Fated s (fate w u s c)
 fated w u (stage.Drain n) c = drain-fated n c

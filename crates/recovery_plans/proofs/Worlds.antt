@@ -1,6 +1,5 @@
 -- Made worlds and books, and recoveries that go their whole way over them.
-use Rattle.std.proofs.Common.{ℕ, zero, suc, ◌+◌, ◌*◌, Bool, true, false, List, [], ◌∷◌, map, Some, None}
-use Rattle.std.specs.Prelude.{◌==◌, if◌then◌else◌}
+use Rattle.std.proofs.Common.{ℕ, zero, suc, ◌+◌, ◌*◌, Bool, true, false, List, [], ◌∷◌, map, Some, None, ◌==◌, if◌then◌else◌}
 use Rattle.recovery_plans.proofs.Prelude.{BookState, Bridge, Coord, Entry, Exchange, Moment, Recovery, Rule, Server, ServerNo, Settings, SourceState}
 use Rattle.recovery_plans.proofs.Prelude.{Taken, Txn, World, has_source, is_going, run, taken}
 

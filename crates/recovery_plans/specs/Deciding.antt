@@ -21,7 +21,7 @@ use Rattle.recovery_plans.specs.declared.why.Why.{Why}
 use Rattle.recovery_plans.specs.declared.why.Why.TheVariants as why
 use Rattle.recovery_plans.specs.Recoveries.{Recovery, working, loses}
 use Rattle.recovery_plans.specs.Stages.{before, drain, level, move, with_bridge, with_way}
-use Rattle.recovery_plans.specs.Telling.{told}
+use Rattle.recovery_plans.specs.Telling.{result_lines}
 use Rattle.recovery_plans.specs.Whys as whys
 
 -- What is decided by: the servers' settings, whether they use GTIDs, the book, and the moment at which rules of
@@ -238,7 +238,7 @@ sort r = record r {
 
 -- nothing more is changed: these operations, and the lines
 abbrev pub closing : Recovery → List Op → Recovery
-closing r ops = working r (stage.Close (told r)) (ops ++ op.Finish (told r) ∷ [])
+closing r ops = working r (stage.Close (result_lines r)) (ops ++ op.Finish (result_lines r) ∷ [])
 
 abbrev pub swap_by : Recovery → ServerNo → Option ServerNo → Recovery
 swap_by r p None = r

@@ -233,14 +233,22 @@ place_on (way.Up b) = b.exec
 place_on (way.Auto to exec) = exec
 place_on (way.Match to exec every) = exec
 
+-- why a replica is lost for what it met on its way; for the rest the recovery fails
+abbrev pub why_missed : World → ServerNo → Way → Miss → Option Why
+why_missed w n by (miss.Unreachable k) = Some lost.unreachable
+why_missed w n by miss.Running = Some (lost.moved (spot_by (server_at w n.0)))
+why_missed w n by (miss.Interfered expected found) = Some (lost.moved found)
+why_missed w n by miss.Loop = None
+why_missed w n by (miss.Purged first) = Some (lost.purged (place_on by))
+why_missed w n by miss.NoMark = None
+why_missed w n by (miss.Mismatch entry) = None
+
+abbrev pub lost_or_fails : Purpose → ServerNo → Option Why → Fate
+lost_or_fails u n None = Fails
+lost_or_fails u n (Some why) = lost_on_way u n why
+
 abbrev pub missed_fate : World → Purpose → ServerNo → Way → Miss → Fate
-missed_fate w u n by (miss.Unreachable k) = lost_on_way u n lost.unreachable
-missed_fate w u n by miss.Running = lost_on_way u n (lost.moved (spot_by (server_at w n.0)))
-missed_fate w u n by (miss.Interfered expected found) = lost_on_way u n (lost.moved found)
-missed_fate w u n by miss.Loop = Fails
-missed_fate w u n by (miss.Purged first) = lost_on_way u n (lost.purged (place_on by))
-missed_fate w u n by miss.NoMark = Fails
-missed_fate w u n by (miss.Mismatch entry) = Fails
+missed_fate w u n by m = lost_or_fails u n (why_missed w n by m)
 
 abbrev pub move_fate : World → Purpose → ServerNo → Way → Option Loss → Fate
 move_fate w u n by None = Fails

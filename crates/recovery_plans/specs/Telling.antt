@@ -39,5 +39,5 @@ told_by (purpose.Intermediate s) o order = option_to_list (option_map line.Succe
 told_by (purpose.Takeover d) o order = option_to_list (option_map line.Promoted o.promoted) ++ lines_apart o order
 
 -- the new source, then the others in name order
-abbrev pub told : Recovery → List Line
-told r = told_by r.purpose r.outcome r.order
+abbrev pub result_lines : Recovery → List Line
+result_lines r = told_by r.purpose r.outcome r.order

@@ -1,15 +1,13 @@
 -- What the attachment of a replica answers becomes of it.
-use Rattle.std.proofs.Common.{◌≡◌, ℕ, Bool, true, cond, List, [], ◌∷◌, ◌++◌, refl, sym, ◌∙◌, ap, subst, Option, Some, None, inl, inr, ◌⊎◌, ◌&&◌, Ok, Err, Result}
-use Rattle.std.specs.Prelude.{is_some}
-use Rattle.recovery_reasons.proofs.Prelude.{AttachFault, Attempt, Becomes, BookState, Cause, Exchange, GoesBy, HeldRecovery, HeldRings, IsTriedNow}
-use Rattle.recovery_reasons.proofs.Prelude.{Position, and_parts, are_held, are_matched, auto-can, bridge_at, by_match, by_set, crossed, crossing-can}
-use Rattle.recovery_reasons.proofs.Prelude.{crossing-found, decides-held, finds, footing, learn, logs_at, match-can, match-there, match_found}
-use Rattle.recovery_reasons.proofs.Prelude.{matched_in, seen_of}
-use Rattle.recovery_reasons.proofs.Prelude.{IsLostNow, Job, Moment, Op, Purpose, Recovery, ServerNo, ShowsWay, Speaks}
-use Rattle.recovery_reasons.proofs.Prelude.{SpeaksWith, Stage, Taken, Way, Why, World, after_answer, after_attach, attach_answer_of, attachment_by, attachment_of}
-use Rattle.recovery_reasons.proofs.Prelude.{attempted, before, by_deed, can_attach, decided}
-use Rattle.recovery_reasons.proofs.Prelude.{decided-walks, decisions-keep, deed_of, false≢true, ground_of, is_takeover, lost_on_way, met}
-use Rattle.recovery_reasons.proofs.Prelude.{move, place_on, same-tail, server_at, settled_turn, spot_by, tail_of, taken}
+use Rattle.std.proofs.Common.{◌≡◌, ℕ, Bool, true, cond, List, [], ◌∷◌, ◌++◌, refl, sym, ◌∙◌, ap, subst, Option, Some, None, inl, inr, ◌⊎◌, ◌&&◌, Err, Result, is_some}
+use Rattle.recovery_reasons.proofs.Prelude.{AttachFault, Attempt, Becomes, BookState, Cause, Exchange, GoesBy, HeldRecovery, HeldRings, IsLostNow}
+use Rattle.recovery_reasons.proofs.Prelude.{IsTriedNow, Job, Moment, Op, Position, Purpose, Recovery, ServerNo, ShowsWay, Speaks, SpeaksWith, Stage}
+use Rattle.recovery_reasons.proofs.Prelude.{Taken, Way, Why, World, after_answer, after_attach, and_parts, are_held, are_matched, attach_answer_of}
+use Rattle.recovery_reasons.proofs.Prelude.{attachment_by, attachment_of, attempted, auto-can, before, bridge_at, by_deed, by_match, by_set}
+use Rattle.recovery_reasons.proofs.Prelude.{can_attach, cause_by, crossed, crossing-can, crossing-found, decided, decided-walks, decides-held}
+use Rattle.recovery_reasons.proofs.Prelude.{decisions-keep, deed_of, false≢true, finds, footing, ground_of, is_takeover, learn, logs_at, lost_on_way}
+use Rattle.recovery_reasons.proofs.Prelude.{match-can, match-there, match_found, matched_in, met, move, same-tail, seen_of, settled_turn, tail_of}
+use Rattle.recovery_reasons.proofs.Prelude.{taken}
 use Rattle.recovery_reasons.proofs.Prelude.attaching
 use Rattle.recovery_reasons.proofs.Prelude.attempt
 use Rattle.recovery_reasons.proofs.Prelude.cause
@@ -64,34 +62,22 @@ module _ (w : World) (read : ℕ) (now : Moment) (x : Recovery) (n : ServerNo) w
   answered y e a = attempted w (going y) (move y n) (after_answer (going y).core (op.Start n ∷ []) n e a)
 
   becomes : (y : Way) (e : Exchange) (a : Result (Unit {0}) AttachFault) → Becomes w (going y) n y e a (answered y e a)
-  becomes (way.Down z) e (Ok t) = record { going = refl; made = refl; stage = refl; next = refl; outcome = refl }
-  becomes (way.Up z) e (Ok t) = record { going = refl; made = refl; stage = refl; next = refl; outcome = refl }
-  becomes (way.Auto to exec) e (Ok t) = record { going = refl; made = refl; stage = refl; next = refl; outcome = refl }
-  becomes (way.Match to exec every) e (Ok t) = record { going = refl; made = refl; stage = refl; next = refl; outcome = refl }
-  becomes (way.Down z) e (Err attaching.Unreachable) = lost-now (way.Down z) (cause.Unreachable n) lost.unreachable
-  becomes (way.Down z) e (Err (attaching.Running at)) = lost-now (way.Down z) (cause.Running n) (lost.moved (spot_by (server_at w n.0)))
-  becomes (way.Down z) e (Err (attaching.Interfered expected found)) = lost-now (way.Down z) (cause.Interfered n expected found) (lost.moved found)
   becomes (way.Down z) e (Err attaching.Loop) = refl
   becomes (way.Down z) e (Err (attaching.Errant set)) = tt
-  becomes (way.Down z) e (Err (attaching.Purged first)) = lost-now (way.Down z) (cause.Purged n first) (lost.purged (place_on (way.Down z)))
   becomes (way.Down z) e (Err attaching.Memory) = tt
-  becomes (way.Up z) e (Err attaching.Unreachable) = lost-now (way.Up z) (cause.Unreachable n) lost.unreachable
-  becomes (way.Up z) e (Err (attaching.Running at)) = lost-now (way.Up z) (cause.Running n) (lost.moved (spot_by (server_at w n.0)))
-  becomes (way.Up z) e (Err (attaching.Interfered expected found)) = lost-now (way.Up z) (cause.Interfered n expected found) (lost.moved found)
+  becomes (way.Down z) e (Err f) = lost-now (way.Down z) (cause_by n f) _
   becomes (way.Up z) e (Err attaching.Loop) = refl
   becomes (way.Up z) e (Err (attaching.Errant set)) = tt
-  becomes (way.Up z) e (Err (attaching.Purged first)) = lost-now (way.Up z) (cause.Purged n first) (lost.purged (place_on (way.Up z)))
   becomes (way.Up z) e (Err attaching.Memory) = tt
-  becomes (way.Auto to exec) e (Err attaching.Unreachable) = lost-now (way.Auto to exec) (cause.Unreachable n) lost.unreachable
-  becomes (way.Auto to exec) e (Err (attaching.Running at)) = lost-now (way.Auto to exec) (cause.Running n) (lost.moved (spot_by (server_at w n.0)))
-  becomes (way.Auto to exec) e (Err (attaching.Interfered expected found)) = lost-now (way.Auto to exec) (cause.Interfered n expected found) (lost.moved found)
+  becomes (way.Up z) e (Err f) = lost-now (way.Up z) (cause_by n f) _
   becomes (way.Auto to exec) e (Err attaching.Loop) = refl
   becomes (way.Auto to exec) e (Err (attaching.Errant set)) = lost-now (way.Auto to exec) (cause.Errant n set) (lost.ahead exec)
-  becomes (way.Auto to exec) e (Err (attaching.Purged first)) = lost-now (way.Auto to exec) (cause.Purged n first) (lost.purged (place_on (way.Auto to exec)))
   becomes (way.Auto to exec) e (Err attaching.Memory) = tt
+  becomes (way.Auto to exec) e (Err f) = lost-now (way.Auto to exec) (cause_by n f) _
   becomes (way.Match to exec every) e (Err (attaching.Errant set)) = tt
   becomes (way.Match to exec every) e (Err attaching.Memory) = tt
   becomes (way.Match to exec every) e (Err f) = record { going = refl; made = refl; lost = refl; left = (refl, refl) }
+  becomes _ e _ = record { going = refl; made = refl; stage = refl; next = refl; outcome = refl }
 
   -- ---- the operation
 

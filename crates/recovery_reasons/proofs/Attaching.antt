@@ -1,6 +1,5 @@
 -- Each attachment of a turn is the one by which its replica was sent, or by which two servers change places.
-use Rattle.std.proofs.Common.{◌≡◌, ℕ, Bool, true, false, List, [], ◌∷◌, refl, sym, ◌∙◌, ap, subst, Option, Some, None, ◌⊎◌, inl, inr, ◌||◌, ◌&&◌}
-use Rattle.std.specs.Prelude.{option_map}
+use Rattle.std.proofs.Common.{◌≡◌, ℕ, Bool, true, false, List, [], ◌∷◌, refl, sym, ◌∙◌, ap, subst, Option, Some, None, ◌⊎◌, inl, inr, ◌||◌, ◌&&◌, option_map}
 use Rattle.recovery_reasons.proofs.Prelude.{All, All-cons, All-nil, AreSent, Ask, Attach, AttachAuto, AttachesAsSent, Attempt, Attempts, BookState}
 use Rattle.recovery_reasons.proofs.Prelude.{Coord, Decisions, Deed, Does, Exchange, ExplainsTruly, Fact, Fits, HeldRecovery, HeldRings, IsMadeSo, Job}
 use Rattle.recovery_reasons.proofs.Prelude.{Match, Moment, Observation, Op, Position, Recovery, Request, ServerNo, ShowsWay, SourceState, Speaks}

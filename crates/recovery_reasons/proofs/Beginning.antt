@@ -1,6 +1,5 @@
 -- A recovery begins on its way.
-use Rattle.std.proofs.Common.{◌≡◌, ℕ, Bool, true, false, cond, not, List, [], ◌∷◌, ◌++◌, map, refl, sym, ◌∙◌, ap, subst, None, inl, inr, arith}
-use Rattle.std.specs.Prelude.{◌==◌}
+use Rattle.std.proofs.Common.{◌≡◌, ℕ, Bool, true, false, cond, not, List, [], ◌∷◌, ◌++◌, map, refl, sym, ◌∙◌, ap, subst, None, inl, inr, arith, ◌==◌}
 use Rattle.recovery_reasons.proofs.Prelude.{All, All-append, All-cons, All-nil, Contains, Contains-append_right, IsOnWay, Means, Purpose, ServerNo}
 use Rattle.recovery_reasons.proofs.Prelude.{SwapOf, Task, begun_recovery, but, false≢true, first_source, first_stage, is_master, same_Some}
 use Rattle.recovery_reasons.proofs.Prelude.op

@@ -1,6 +1,5 @@
 -- Only some of the lost are detached, and only some are to be started; each that is marked as detached was.
-use Rattle.std.proofs.Common.{◌≡◌, ℕ, Bool, true, false, cond, List, [], ◌∷◌, ◌++◌, filter, map, refl, sym, ◌∙◌, ap, subst, Option, Some, None, ◌⊎◌, inl, inr, Ok, Err, Result}
-use Rattle.std.specs.Prelude.{◌==◌, find, option_map}
+use Rattle.std.proofs.Common.{◌≡◌, ℕ, Bool, true, false, cond, List, [], ◌∷◌, ◌++◌, filter, map, refl, sym, ◌∙◌, ap, subst, Option, Some, None, ◌⊎◌, inl, inr, Ok, Err, Result, ◌==◌, find, option_map}
 use Rattle.recovery_reasons.proofs.Prelude.{All, All-append, All-cons, All-head, All-nil, All-push, All-tail, All-weaker, Bearing, BookState}
 use Rattle.recovery_reasons.proofs.Prelude.{Decision, Decisions, Ending, Exchange, Expels, ExplainsTruly, Fact, Fits, HeldRecovery, HeldRings}
 use Rattle.recovery_reasons.proofs.Prelude.{IsCaredFor, IsExpelled, IsNext, IsOutSo, IsToDetach, IsToRelease, Job, Keeps, LostReplica, Lot, MayDecide, MayEnd}
@@ -29,17 +28,19 @@ expels-so : (u : Purpose) (o : Option Why) → expels u o ≡ true → IsToDetac
 expels-so purpose.Regroup o h = absurd (false≢true h)
 expels-so (purpose.Takeover d) o h = absurd (false≢true h)
 expels-so purpose.Master None h = absurd (false≢true h)
-expels-so purpose.Master (Some (why.Lost (word.Ahead c))) h = tt
-expels-so purpose.Master (Some (why.Lost (word.Behind c))) h = tt
-expels-so purpose.Master (Some (why.Lost (word.Purged c))) h = tt
 expels-so purpose.Master (Some (why.Unmatched m)) h = absurd (false≢true h)
-expels-so purpose.Master (Some (why.Lost y)) h = absurd (false≢true h)
+expels-so purpose.Master (Some (why.Lost word.Unreachable)) h = absurd (false≢true h)
+expels-so purpose.Master (Some (why.Lost (word.Moved at))) h = absurd (false≢true h)
+expels-so purpose.Master (Some (why.Lost word.NotLogging)) h = absurd (false≢true h)
+expels-so purpose.Master (Some (why.Lost word.MustNot)) h = absurd (false≢true h)
+expels-so purpose.Master (Some (why.Lost y)) h = tt
 expels-so (purpose.Intermediate s) None h = absurd (false≢true h)
-expels-so (purpose.Intermediate s) (Some (why.Lost (word.Ahead c))) h = tt
-expels-so (purpose.Intermediate s) (Some (why.Lost (word.Behind c))) h = tt
-expels-so (purpose.Intermediate s) (Some (why.Lost (word.Purged c))) h = tt
 expels-so (purpose.Intermediate s) (Some (why.Unmatched m)) h = absurd (false≢true h)
-expels-so (purpose.Intermediate s) (Some (why.Lost y)) h = absurd (false≢true h)
+expels-so (purpose.Intermediate s) (Some (why.Lost word.Unreachable)) h = absurd (false≢true h)
+expels-so (purpose.Intermediate s) (Some (why.Lost (word.Moved at))) h = absurd (false≢true h)
+expels-so (purpose.Intermediate s) (Some (why.Lost word.NotLogging)) h = absurd (false≢true h)
+expels-so (purpose.Intermediate s) (Some (why.Lost word.MustNot)) h = absurd (false≢true h)
+expels-so (purpose.Intermediate s) (Some (why.Lost y)) h = tt
 
 frees-so : (u : Purpose) (o : Option Why) → releases u o ≡ true → IsToRelease u o
 frees-so purpose.Regroup None h = absurd (false≢true h)

@@ -1,6 +1,5 @@
 -- The cause of an operation that stops its job is true in the world in which it stopped it.
-use Rattle.std.proofs.Common.{◌≡◌, ℕ, Bool, true, false, cond, not, List, [], ◌∷◌, length, refl, sym, ◌∙◌, ap, subst, Option, Some, None, Ok, Err, Result, ◌&&◌, ◌||◌, inl, inr}
-use Rattle.std.specs.Prelude.{nat_lt}
+use Rattle.std.proofs.Common.{◌≡◌, ℕ, Bool, true, false, cond, not, List, [], ◌∷◌, length, refl, sym, ◌∙◌, ap, subst, Option, Some, None, Ok, Err, Result, ◌&&◌, ◌||◌, inl, inr, nat_lt}
 use Rattle.recovery_reasons.proofs.Prelude.{AttachFault, Attempt, Attempts, Cause, Coord, Deed, Exchange, Interval, IsAttachment, IsMatchCause}
 use Rattle.recovery_reasons.proofs.Prelude.{IsTrueOf, IsUnreached, Job, MatchFault, Moment, Observation, Op, Server, ServerNo, Spot, StopsFor, World}
 use Rattle.recovery_reasons.proofs.Prelude.{after_match, answer_by_sets, attach_answer, attach_answer_of, attach_auto_answer, attempts, auto_purged}

@@ -1,6 +1,5 @@
 -- The choice among the drained.
-use Rattle.std.proofs.Common.{◌≡◌, ℕ, ◌+◌, ◌<◌, ◌≤◌, Bool, true, false, cond, not, ◌&&◌, ◌||◌, List, [], ◌∷◌, map, refl, sym, ◌∙◌, ap, subst, Option, Some, None, inl, inr, arith}
-use Rattle.std.specs.Prelude.{◌==◌, ◌*◌, find, nat_lt}
+use Rattle.std.proofs.Common.{◌≡◌, ℕ, ◌+◌, ◌<◌, ◌≤◌, Bool, true, false, cond, not, ◌&&◌, ◌||◌, List, [], ◌∷◌, map, refl, sym, ◌∙◌, ap, subst, Option, Some, None, inl, inr, arith, ◌==◌, ◌*◌, find, nat_lt}
 use Rattle.std.specs.Ordering.{is_lt, nat_cmp, ordering_then}
 use Rattle.std.specs.declared.cmp.Ordering.{Ordering}
 use Rattle.std.specs.declared.cmp.Ordering.TheVariants.{Less, Equal, Greater}
@@ -151,9 +150,7 @@ module _ (w : World) (b : BookState) (now : Moment) where
 
   barred-not : (r : Rule) → is_barred r ≡ false → r ≡ rule.MustNot → ⊥
   barred-not rule.MustNot h e = false≢true (sym h)
-  barred-not rule.Prefer h e = cc
-  barred-not rule.Neutral h e = cc
-  barred-not rule.PreferNot h e = cc
+  barred-not _ h e = cc
 
   may-so : (n : ServerNo) → MayBePromoted w b now n → (logs_at w n && not (is_barred (rule_at b n now))) ≡ true
   may-so n h = ap (λ a. a && not (is_barred (rule_at b n now))) h.logs ∙ ap not (not-barred (rule_at b n now) h.allowed)

@@ -1,6 +1,5 @@
 -- Orders of coordinates.
-use Rattle.std.proofs.Common.{◌≡◌, ◌≤◌, Bool, true, false, refl, sym, ◌∙◌, ap, ◌&&◌, ◌||◌, arith}
-use Rattle.std.specs.Prelude.{◌==◌, nat_lt}
+use Rattle.std.proofs.Common.{◌≡◌, ◌≤◌, Bool, true, false, refl, sym, ◌∙◌, ap, ◌&&◌, ◌||◌, arith, ◌==◌, nat_lt}
 use Rattle.recovery_reasons.proofs.Prelude.{Coord, eq-eqb, eqb-true, false≢true, is_before, ltb-false, same_coord}
 
 lower : (a b : Bool) → (a ≡ false → b ≡ true) → (a || b) ≡ true

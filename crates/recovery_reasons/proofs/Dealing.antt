@@ -68,16 +68,13 @@ named t (k ∷ ks) n h = go (split-first k ks n h) (λ g. named t ks n g)
 
 detach-expels : (u : Purpose) (o : Option Why) → IsToDetach u o → expels u o ≡ true
 detach-expels u None h = absurd h
-detach-expels purpose.Master (Some (why.Lost (word.Ahead c))) h = refl
-detach-expels purpose.Master (Some (why.Lost (word.Behind c))) h = refl
-detach-expels purpose.Master (Some (why.Lost (word.Purged c))) h = refl
-detach-expels (purpose.Intermediate s) (Some (why.Lost (word.Ahead c))) h = refl
-detach-expels (purpose.Intermediate s) (Some (why.Lost (word.Behind c))) h = refl
-detach-expels (purpose.Intermediate s) (Some (why.Lost (word.Purged c))) h = refl
-detach-expels u (Some (why.Lost (word.Ahead c))) h = absurd h
-detach-expels u (Some (why.Lost (word.Behind c))) h = absurd h
-detach-expels u (Some (why.Lost (word.Purged c))) h = absurd h
 detach-expels u (Some (why.Unmatched m)) h = absurd h
+detach-expels u (Some (why.Lost word.Unreachable)) h = absurd h
+detach-expels u (Some (why.Lost (word.Moved at))) h = absurd h
+detach-expels u (Some (why.Lost word.NotLogging)) h = absurd h
+detach-expels u (Some (why.Lost word.MustNot)) h = absurd h
+detach-expels purpose.Master (Some (why.Lost y)) h = refl
+detach-expels (purpose.Intermediate s) (Some (why.Lost y)) h = refl
 detach-expels u (Some (why.Lost y)) h = absurd h
 
 release-frees : (u : Purpose) (o : Option Why) → IsToRelease u o → releases u o ≡ true
@@ -128,17 +125,9 @@ moved-settles (stage.Move n by) h = refl
 moved-settles (stage.Join n p) h = refl
 moved-settles s h = absurd (false≢true h)
 
-released_in : Stage → Option ServerNo
-released_in (stage.Release n) = Some n
-released_in s = None
-
 moved-releases : (s : Stage) (n : ServerNo) → moved s ≡ stage.Release n → s ≡ stage.Release n
 moved-releases (stage.Release k) n h = h
 moved-releases s n h = cc
-
-no-expel : (s : Stage) (n : ServerNo) → moved s ≡ stage.Expel n → ⊥
-no-expel (stage.Expel k) n h = cc
-no-expel s n h = cc
 
 module _ (w : World) (b : BookState) (now : Moment) (r : Recovery) (P : Fact → Bool) (why' : ExplainsTruly w b now r P) where
   -- what is dealt with in both ways

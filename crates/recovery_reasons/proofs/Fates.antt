@@ -1,11 +1,11 @@
 -- Nobody is lost because none may be promoted, unless nobody is found.
-use Rattle.std.proofs.Common.{◌≡◌, Bool, true, false, cond, List, [], ◌∷◌, ◌++◌, map, refl, sym, ap, Option, Some, None}
-use Rattle.std.specs.Prelude.{◌==◌}
+use Rattle.std.proofs.Common.{◌≡◌, Bool, true, false, cond, List, [], ◌∷◌, ◌++◌, map, refl, sym, ap, Option, Some, None, ◌==◌}
 use Rattle.recovery_reasons.proofs.Prelude.{All-append, All-cons, All-head, All-nil, All-push, All-tail, AllFit, BookState, Bridge, Cause, Fate}
 use Rattle.recovery_reasons.proofs.Prelude.{Group, Loss, LostReplica, Lot, Means, Miss, Moment, Position, Purpose, ServerNo, Stage, Stopped, Way, Why}
 use Rattle.recovery_reasons.proofs.Prelude.{World, fate, fate_of_drain, fate_of_errant, fate_of_trail, ground_of, group_of, is_below, is_unfit, late}
-use Rattle.recovery_reasons.proofs.Prelude.{loss_of, losses_in, lost_on_way, lot_by, lot_by_group, lot_of, marked, match_fate, missed_fate, move_fate}
-use Rattle.recovery_reasons.proofs.Prelude.{own_end_of, place_on, same_coord, same_Some, server_at, spot_by, spot_seen, stay_of, stray, way_fate}
+use Rattle.recovery_reasons.proofs.Prelude.{loss_of, losses_in, lost_on_way, lost_or_fails, lot_by, lot_by_group, lot_of, marked, match_fate}
+use Rattle.recovery_reasons.proofs.Prelude.{missed_fate, move_fate, own_end_of, same_Some, same_coord, spot_seen, stay_of, stray, way_fate}
+use Rattle.recovery_reasons.proofs.Prelude.{why_missed}
 use Rattle.recovery_reasons.proofs.Prelude.cause
 use Rattle.recovery_reasons.proofs.Prelude.deciding
 use Rattle.recovery_reasons.proofs.Prelude.group
@@ -96,12 +96,20 @@ fit-errant : (u : Purpose) (n : ServerNo) (by : Way) → FitFate (fate_of_errant
 fit-errant u n (way.Auto to exec) = fit-way u n (lost.ahead exec) refl
 fit-errant u n _ = tt
 
+abbrev unfit_why : Option Why → Bool
+unfit_why None = false
+unfit_why (Some y) = is_unfit y
+
+fit-why : (w : World) (n : ServerNo) (by : Way) (m : Miss) → unfit_why (why_missed w n by m) ≡ false
+fit-why w n by (miss.Unreachable k) = refl
+fit-why w n by _ = refl
+
 fit-missed : (w : World) (u : Purpose) (n : ServerNo) (by : Way) (m : Miss) → FitFate (missed_fate w u n by m)
-fit-missed w u n by (miss.Unreachable k) = fit-way u n lost.unreachable refl
-fit-missed w u n by miss.Running = fit-way u n (lost.moved (spot_by (server_at w n.0))) refl
-fit-missed w u n by (miss.Interfered expected found) = fit-way u n (lost.moved found) refl
-fit-missed w u n by (miss.Purged first) = fit-way u n (lost.purged (place_on by)) refl
-fit-missed w u n by _ = tt
+fit-missed w u n by m = go (why_missed w n by m) (fit-why w n by m)
+  where
+    go : (o : Option Why) → unfit_why o ≡ false → FitFate (lost_or_fails u n o)
+    go None h = tt
+    go (Some y) h = fit-way u n y h
 
 fit-move : (w : World) (u : Purpose) (n : ServerNo) (by : Way) (l : Option Loss) → FitFate (move_fate w u n by l)
 fit-move w u n by None = tt
@@ -116,10 +124,8 @@ fit-match n (Some taking.Differs) = tt
 fit-match n (Some (taking.Missed m)) = refl
 
 fit-by : (w : World) (u : Purpose) (n : ServerNo) (by : Way) (l : Option Loss) → FitFate (way_fate w u n by l)
-fit-by w u n (way.Down x) l = fit-move w u n (way.Down x) l
-fit-by w u n (way.Up x) l = fit-move w u n (way.Up x) l
-fit-by w u n (way.Auto to exec) l = fit-move w u n (way.Auto to exec) l
 fit-by w u n (way.Match to exec every) l = fit-match n l
+fit-by w u n x l = fit-move w u n x l
 
 pub fit-fate : (w : World) (u : Purpose) (s : Stage) (c : Cause) → FitFate (fate w u s c)
 fit-fate w u (stage.Drain n) c = fit-drain n c

@@ -1,6 +1,5 @@
 -- The last reading of the designated one of a takeover, which shows the position at which it stopped.
-use Rattle.std.proofs.Common.{◌≡◌, ℕ, Bool, true, false, cond, not, List, [], ◌∷◌, ◌++◌, refl, sym, ◌∙◌, ap, subst, Option, Some, None, Ok, Err, ◌⊎◌, inl, inr, ◌&&◌}
-use Rattle.std.specs.Prelude.{◌==◌, is_some}
+use Rattle.std.proofs.Common.{◌≡◌, ℕ, Bool, true, false, cond, not, List, [], ◌∷◌, ◌++◌, refl, sym, ◌∙◌, ap, subst, Option, Some, None, Ok, Err, ◌⊎◌, inl, inr, ◌&&◌, ◌==◌, is_some}
 use Rattle.recovery_reasons.proofs.Prelude.{AreLeft, Attached, Attempt, Bearing, BookState, Bridge, Coord, Decision, Decisions, Detached, Ending, Exchange}
 use Rattle.recovery_reasons.proofs.Prelude.{Fits, HeldRecovery, HeldRings, IsGathering, IsMeeting, IsOnCourse, IsRest, Job, Keeps, KnowsLead}
 use Rattle.recovery_reasons.proofs.Prelude.{MayBear, MayDecide, MayEnd, Means, Moment, NamesLogging, Observation, Op, Position, Purpose, Recovery, Server, ServerNo, Sight}

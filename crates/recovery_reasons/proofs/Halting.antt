@@ -1,6 +1,5 @@
 -- A turn that reads another replica of a takeover goes on by what it shows.
 use Rattle.std.proofs.Common.{◌≡◌, ℕ, Bool, true, false, cond, List, [], ◌∷◌, refl, sym, ◌∙◌, ap, subst, Option, Some, None, ◌⊎◌, inl, inr}
-use Rattle.std.specs.Prelude.{◌==◌}
 use Rattle.recovery_reasons.proofs.Prelude.{Bridge, IsFreedNow, IsLeftNow, IsNextStage, Job, Moment, Op, Position, ReadsOthers, Recovery, ServerNo}
 use Rattle.recovery_reasons.proofs.Prelude.{Stage, Status, Taken, World, after_look, attempted, ended_by, eq-eqb, is_below, next, observed, position_of}
 use Rattle.recovery_reasons.proofs.Prelude.{same_coord, saw, seen-at, seen_in, seen_of, settled_turn, spot_seen, status, trailing}

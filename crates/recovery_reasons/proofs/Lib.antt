@@ -1,4 +1,4 @@
-mod Prelude
+pub mod Prelude
 pub mod Choosing
 pub mod Tasks
 pub mod Fates

@@ -1,6 +1,5 @@
 -- A better one is looked for once. Who it is, and what becomes of it, has facts that count.
-use Rattle.std.proofs.Common.{◌≡◌, ℕ, Bool, true, false, cond, List, [], ◌∷◌, map, refl, sym, ◌∙◌, ap, subst, Option, Some, None, ◌⊎◌, inl, inr}
-use Rattle.std.specs.Prelude.{IfSome}
+use Rattle.std.proofs.Common.{◌≡◌, ℕ, Bool, true, false, cond, List, [], ◌∷◌, map, refl, sym, ◌∙◌, ap, subst, Option, Some, None, ◌⊎◌, inl, inr, IfSome}
 use Rattle.recovery_reasons.proofs.Prelude.{Bearing, Betters, BookState, Bridge, Cause, Decision, Decisions, Ending, ExplainsTruly, Fact, Fits}
 use Rattle.recovery_reasons.proofs.Prelude.{GivesUp, HasNoBetter, IsBefallen, IsBetter, IsGivenUp, IsNext, IsOnCourse, IsSwapped, IsSwapping}
 use Rattle.recovery_reasons.proofs.Prelude.{MayBear, MayDecide, MayEnd, Moment, Observation, Op, Recovery, Remains, ServerNo, Stage, Task}
@@ -114,13 +113,7 @@ module _ (w : World) (b : BookState) (now : Moment) (r : Recovery) (P : Fact →
     decided-looked (by.Sorts ts) may h k m c s = absurd (unlooked _ _ may m s)
     decided-looked (by.Hands d ds go ts) may h k m c s = absurd (unlooked _ _ may.next m s)
     decided-looked (by.Leaves d ds ts) may h k m c s = absurd (unlooked _ _ may.next m s)
-    decided-looked (by.Looks n y ts) may h k m c s = absurd (unlooked _ _ may.0 m s)
-    decided-looked (by.Yields y ts) may h k m c s = absurd (unlooked _ _ may.0 m s)
-    decided-looked (by.Sticks t ts) may h k m c s = absurd (unlooked _ _ may.0 m s)
-    decided-looked (by.Chooses p ts) may h k m c s = absurd (unlooked _ _ may.0 m s)
-    decided-looked (by.ChoosesNobody ts) may h k m c s = absurd (unlooked _ _ may.0 m s)
-    decided-looked (by.HandedOver ts) may h k m c s = absurd (unlooked _ _ may.0 m s)
-    decided-looked (by.Passes ts) may h k m c s = absurd (unlooked _ _ may.0 m s)
+    decided-looked _ may h k m c s = absurd (unlooked _ _ may.0 m s)
 
     -- a failing operation
     pub borne-looked : (read : ℕ) (o : Op) (rest : List Op) (c : Cause) (ob : Option Observation) → by.Stops w read now x o rest c ob → (e : Bearing) → MayBear x.stage e → Looked P x
@@ -182,27 +175,5 @@ pub completes-looked : (P : Fact → Bool) (z : Recovery) (e : Ending) → MayEn
 completes-looked P z (by.Swaps p q) may fits course better h = λ k m c s.
     let same : p ≡ k = same_Some p k (sym (course.swap.taking p q (inr (inr may))).1 ∙ c) in
     inr (q, ap (λ (n : ServerNo). P (IsBetter n q)) (sym same) ∙ better p q (inr (inr may)), inr (inl refl))
-completes-looked P z by.Rests may fits course better h =
-    looked-as P z (ended_by z by.Rests) refl refl refl refl (λ p q sw. absurd (ending-calm z by.Rests may fits (λ m n e. cc) p q sw)) h
-completes-looked P z (by.Stays n s) may fits course better h =
-    looked-as P z (ended_by z (by.Stays n s)) refl refl refl refl (λ p q sw. absurd (ending-calm z (by.Stays n s) may fits (λ m k e. cc) p q sw)) h
-completes-looked P z (by.Loses n y) may fits course better h =
-    looked-as P z (ended_by z (by.Loses n y)) refl refl refl refl (λ p q sw. absurd (ending-calm z (by.Loses n y) may fits (λ m k e. cc) p q sw)) h
-completes-looked P z (by.Frees n y) may fits course better h =
-    looked-as P z (ended_by z (by.Frees n y)) refl refl refl refl (λ p q sw. absurd (ending-calm z (by.Frees n y) may fits (λ m k e. cc) p q sw)) h
-completes-looked P z (by.Follows n p) may fits course better h =
-    looked-as P z (ended_by z (by.Follows n p)) refl refl refl refl (λ m k sw. absurd (ending-calm z (by.Follows n p) may fits (λ i j e. cc) m k sw)) h
-completes-looked P z (by.Marks n) may fits course better h =
-    looked-as P z (ended_by z (by.Marks n)) refl refl refl refl (λ p q sw. absurd (ending-calm z (by.Marks n) may fits (λ m k e. cc) p q sw)) h
-completes-looked P z (by.Leads d) may fits course better h =
-    looked-as P z (ended_by z (by.Leads d)) refl refl refl refl (λ p q sw. absurd (ending-calm z (by.Leads d) may fits (λ m k e. cc) p q sw)) h
-completes-looked P z (by.Trails n x) may fits course better h =
-    looked-as P z (ended_by z (by.Trails n x)) refl refl refl refl (λ p q sw. absurd (ending-calm z (by.Trails n x) may fits (λ m k e. cc) p q sw)) h
-completes-looked P z (by.Joins n x) may fits course better h =
-    looked-as P z (ended_by z (by.Joins n x)) refl refl refl refl (λ p q sw. absurd (ending-calm z (by.Joins n x) may fits (λ m k e. cc) p q sw)) h
-completes-looked P z (by.Switches m d) may fits course better h =
-    looked-as P z (ended_by z (by.Switches m d)) refl refl refl refl (λ p q sw. absurd (ending-calm z (by.Switches m d) may fits (λ n k e. cc) p q sw)) h
-completes-looked P z (by.Shuts m d) may fits course better h =
-    looked-as P z (ended_by z (by.Shuts m d)) refl refl refl refl (λ p q sw. absurd (ending-calm z (by.Shuts m d) may fits (λ n k e. cc) p q sw)) h
-completes-looked P z (by.Ends n) may fits course better h =
-    looked-as P z (ended_by z (by.Ends n)) refl refl refl refl (λ p q sw. absurd (ending-calm z (by.Ends n) may fits (λ m k e. cc) p q sw)) h
+completes-looked x z y may fits course better h =
+    looked-as x z (ended_by z y) refl refl refl refl (λ p q sw. absurd (ending-calm z y may fits (λ m n e. cc) p q sw)) h

@@ -1,12 +1,11 @@
 -- If no operation is left after a turn's decisions, one of them found nobody.
-use Rattle.std.proofs.Common.{◌≡◌, ℕ, ◌+◌, ◌≤◌, ◌<◌, suc, Bool, true, false, List, [], ◌∷◌, ◌++◌, map, filter, refl, sym, ◌∙◌, ap, subst, Option, Some, None, ◌⊎◌, inl, inr, arith}
+use Rattle.std.proofs.Common.{◌≡◌, ℕ, ◌+◌, ◌≤◌, ◌<◌, suc, Bool, true, false, List, [], ◌∷◌, ◌++◌, map, filter, refl, sym, ◌∙◌, ap, subst, Option, Some, None, ◌⊎◌, inl, inr, arith, is_some}
 use Rattle.recovery_reasons.proofs.Prelude.{BookState, Bridge, Contains, Decision, Decisions, DecisionsElse, HasNobody, IsGathering, IsNext, IsOnWay, KnowsLead, MayDecide}
 use Rattle.recovery_reasons.proofs.Prelude.{Moment, Op, Purpose, Recovery, ServerNo, Stopped, Task, Way, World, at_last, better_of, by_queue, by_task}
 use Rattle.recovery_reasons.proofs.Prelude.{choose, chooses, chosen_of, crown, decided, decided-walks, decided_by, decisions-keep, expels, false≢true}
 use Rattle.recovery_reasons.proofs.Prelude.{finds_nobody, follows_lead, ground_of, hand, hand_by, hand_over, is_takeover, look_at, loses, lot_by, moves_in, once}
 use Rattle.recovery_reasons.proofs.Prelude.{once-walks, pauses_in, pauses_last, rejoin, releases, swap, swap_by, swap_or_crown, way_below, why_of}
 use Rattle.recovery_reasons.proofs.Prelude.{suits, without_stopped, yield}
-use Rattle.std.specs.Prelude.{is_some}
 use Rattle.recovery_reasons.proofs.Prelude.by as move
 use Rattle.recovery_reasons.proofs.Prelude.lost
 use Rattle.recovery_reasons.proofs.Prelude.nobody

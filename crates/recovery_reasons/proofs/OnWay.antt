@@ -1,6 +1,5 @@
 -- A recovery stays on its way, until nobody is found who takes the failed server's place.
-use Rattle.std.proofs.Common.{◌≡◌, ℕ, Bool, true, false, cond, not, List, [], ◌∷◌, ◌++◌, map, filter, refl, sym, ◌∙◌, ap, subst, Option, Some, None, ◌⊎◌, inl, inr, arith, append_assoc}
-use Rattle.std.specs.Prelude.{◌==◌, is_some, slice_index_or}
+use Rattle.std.proofs.Common.{◌≡◌, ℕ, Bool, true, false, cond, not, List, [], ◌∷◌, ◌++◌, map, filter, refl, sym, ◌∙◌, ap, subst, Option, Some, None, ◌⊎◌, inl, inr, arith, append_assoc, ◌==◌, is_some, slice_index_or}
 use Rattle.recovery_reasons.proofs.Prelude.{All, All-append, All-tail, AllFit, Attempt, Bearing, BookState, Bridge, Cause, Contains, Contains-tail}
 use Rattle.recovery_reasons.proofs.Prelude.{Coord, Decision, Ending, Exchange, Fate, Fits, IsFit, IsHanding, IsNext, IsOnCourse, IsOnWay, IsRead}
 use Rattle.recovery_reasons.proofs.Prelude.{IsSwapping, Job, Keeps, Line, MayBear, MayDecide, MayEnd, Moment, Observation, Op, Position, Purpose}
@@ -536,15 +535,12 @@ module _ (r : Recovery) (none : r.core.ops ≡ []) (c : IsOnCourse r) (fits : Is
   at-idle = at-next stage.Idle r.core.ops refl refl refl
 
   pub completes-way : (e : Ending) → MayEnd r e → IsOnWay (ended_by r e)
-  completes-way by.Rests may = made _ (kept-tasks (ends-out by.Rests may refl) stage.Idle) at-idle (calm-next stage.Idle refl refl) read-idle c.fit (λ h. refl)
-  completes-way (by.Stays n s) may = made _ (kept-tasks (ends-out (by.Stays n s) may refl) stage.Idle) at-idle (calm-next stage.Idle refl refl) read-idle c.fit (λ h. refl)
   completes-way (by.Loses n y) may =
       made _ (kept-tasks (ends-out (by.Loses n y) may refl) stage.Idle) at-idle (calm-next stage.Idle refl refl) read-idle (one-more r.outcome.lost n y c.fit (fit-stray r.failed (seen_of r.core.seen n.0) y may.1)) (λ h. refl)
   completes-way (by.Frees n y) may =
       made _ (kept-tasks (ends-out (by.Frees n y) may refl) (stage.Release n)) (at-next (stage.Release n) _ refl refl refl)
       (calm-next (stage.Release n) refl refl) (read-left (stage.Release n) _ r.core.seen (still-read r.core.seen))
       (one-more r.outcome.lost n y c.fit (fit-late may.0 (seen_of r.core.seen n.0) y may.2)) (λ h. cc)
-  completes-way (by.Follows n p) may = made _ (kept-tasks (ends-out (by.Follows n p) may refl) stage.Idle) at-idle (calm-next stage.Idle refl refl) read-idle c.fit (λ h. refl)
   completes-way (by.Marks n) may = made _ (kept-tasks (ends-out (by.Marks n) may refl) stage.Idle) at-idle (calm-next stage.Idle refl refl) read-idle (fit-marked n r.outcome.lost c.fit) (λ h. refl)
   completes-way (by.Leads d) may =
       made _ (kept-tasks (ends-out (by.Leads d) may refl) stage.Idle) (record {
@@ -584,6 +580,7 @@ module _ (r : Recovery) (none : r.core.ops ≡ []) (c : IsOnCourse r) (fits : Is
       made _ (given-tasks (stage.Close _) refl) (at-next (stage.Close _) _ refl refl refl)
       (last-swap r.purpose r.chosen r.outcome.promoted r.swaps r.stage (stage.Close _) c.swap refl (inr (ap closes may)))
       (read-left (stage.Close _) _ r.core.seen (still-read r.core.seen)) c.fit (λ h. absurd (never-empty (last_looks r r.purpose n) _ h))
+  completes-way x may = made _ (kept-tasks (ends-out x may refl) stage.Idle) at-idle (calm-next stage.Idle refl refl) read-idle c.fit (λ h. refl)
 
 -- ---- a failing operation
 

@@ -1,6 +1,5 @@
 -- A master that is asked to take writes does so where it is reached, whatever else a turn makes in which it fails.
-use Rattle.std.proofs.Common.{◌≡◌, ℕ, zero, suc, Bool, true, false, cond, List, [], ◌∷◌, refl, sym, ◌∙◌, ap, subst, Option, Some, None, ◌⊎◌, inl, inr, ◌&&◌, Ok, Err, Result, arith}
-use Rattle.std.specs.Prelude.{◌==◌}
+use Rattle.std.proofs.Common.{◌≡◌, ℕ, zero, suc, Bool, true, false, cond, List, [], ◌∷◌, refl, sym, ◌∙◌, ap, subst, Option, Some, None, ◌⊎◌, inl, inr, ◌&&◌, Ok, Err, Result, arith, ◌==◌}
 use Rattle.recovery_reasons.proofs.Prelude.{All, All-append, All-cons, All-head, All-nil, All-tail, Ask, Attach, AttachFault, Back, Bridge, Contains, Coord, Exchange}
 use Rattle.recovery_reasons.proofs.Prelude.{IsOpen, Purpose, Recovery, Request, Server, ServerNo, Sight, Spot, Stage, Unreachable, World, after, after_change, after_desk}
 use Rattle.recovery_reasons.proofs.Prelude.{asked, at_with, attach_answer, attached_to, back_by, bridge_at, can_attach, can_reach, crossed, crossing_of, desk_answer}
@@ -152,9 +151,7 @@ module _ (w : World) where
 
     undone-soft : (u : Purpose) (s : Stage) → All IsSoft (undone w u seen f s)
     undone-soft (purpose.Takeover d) s = back-soft (info s).back
-    undone-soft purpose.Regroup s = All-nil IsSoft
-    undone-soft purpose.Master s = All-nil IsSoft
-    undone-soft (purpose.Intermediate k) s = All-nil IsSoft
+    undone-soft _ s = All-nil IsSoft
 
   last-soft : (x : Recovery) → All IsSoft (last_exchanges w x)
   last-soft x =

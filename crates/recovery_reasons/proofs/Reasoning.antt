@@ -1,21 +1,21 @@
 -- Each entry of the lost was there before, or has its reason in this turn.
 use Rattle.recovery_reasons.proofs.Prelude.{Aim, AimsAt, All, All-append, All-cons, All-contains_itself, All-filter, All-head, All-nil, All-push}
-use Rattle.recovery_reasons.proofs.Prelude.{All-tail, AllLost, Ask, AttachFault, Attempt, Attempts, Below, BelowSuccessor, Beside, BookState, Bridge}
-use Rattle.recovery_reasons.proofs.Prelude.{Cause, Contains, Coord, Decision, Decisions, Deed, Ending, Errant, ExecOf, ExplainsTruly, Fact, Fate}
-use Rattle.recovery_reasons.proofs.Prelude.{Fits, Halted, HeldRecovery, HeldRings, Interfered, Interval, IsAsked, IsDue, IsLost, IsOnCourse, IsOnWay}
-use Rattle.recovery_reasons.proofs.Prelude.{IsRefusedOn, IsTrailing, IsTrueOf, IsUnreached, IsWaitFor, Job, Keeps, Late, Loses, Loss, LostReplica}
-use Rattle.recovery_reasons.proofs.Prelude.{Lot, MayDecide, MayEnd, Means, Miss, Moment, NamesLogging, Observation, Op, Purged, Purpose, Reason, Recovery, Running}
-use Rattle.recovery_reasons.proofs.Prelude.{Server, ServerNo, Sight, Speaks, SpeaksWith, Stage, Status, Stopped, StopsFor, Strayed, Unattached}
-use Rattle.recovery_reasons.proofs.Prelude.{Unmatched, Unreachable, Unreached, WaitsFor, WasRead, Way, Why, Without, World, after_ask, after_look}
-use Rattle.recovery_reasons.proofs.Prelude.{after_status, aim_of, alone, attempts, before, borne, by_bridge, by_deed, cause_by, chosen_of}
-use Rattle.recovery_reasons.proofs.Prelude.{decided_by, decides-held, deed_of, desk_answer, ended_by, ends, entered, exec_by, false≢true, fate}
-use Rattle.recovery_reasons.proofs.Prelude.{fate_of, fate_of_drain, fate_of_errant, fate_of_move, fate_of_trail, follows_no_more, ground_of, group_of}
+use Rattle.recovery_reasons.proofs.Prelude.{All-tail, AllLost, Ask, AttachFault, Attempt, Attempts, BelowSuccessor, BookState, Bridge, Cause}
+use Rattle.recovery_reasons.proofs.Prelude.{Contains, Coord, Decision, Decisions, Deed, Ending, ExecOf, ExplainsTruly, Fact, Fate, Fits, HeldRecovery}
+use Rattle.recovery_reasons.proofs.Prelude.{HeldRings, Interval, IsAsked, IsDue, IsLost, IsOnCourse, IsOnWay, IsRefusedOn, IsTrailing, IsTrueOf}
+use Rattle.recovery_reasons.proofs.Prelude.{IsUnreached, IsWaitFor, Job, Keeps, Loses, Loss, LostReplica, Lot, MayDecide, MayEnd, Means, Miss, Moment}
+use Rattle.recovery_reasons.proofs.Prelude.{NamesLogging, Observation, Op, Purpose, Reason, Recovery, Server, ServerNo, Sight, Speaks, SpeaksWith}
+use Rattle.recovery_reasons.proofs.Prelude.{Stage, Status, Stopped, StopsFor, Unreachable, WaitsFor, WasRead, Way, Why, World, after_ask, after_look}
+use Rattle.recovery_reasons.proofs.Prelude.{after_status, aim_of, alone, attempts, before, borne, by_bridge, by_deed, cause_by, chosen_of, decided_by}
+use Rattle.recovery_reasons.proofs.Prelude.{decides-held, deed_of, desk_answer, ended_by, ends, entered, exec_by, false≢true, fate, fate_of}
+use Rattle.recovery_reasons.proofs.Prelude.{fate_of_drain, fate_of_errant, fate_of_move, fate_of_trail, follows_no_more, ground_of, group_of}
 use Rattle.recovery_reasons.proofs.Prelude.{has_exec, has_own, info, is_at_or_before, is_barred, is_before, is_below, is_look, is_moved, is_over}
 use Rattle.recovery_reasons.proofs.Prelude.{is_reached, joined, kept-whole, latest_that, lead_of, leaver, logs_at, loses, loss_of, losses_in}
 use Rattle.recovery_reasons.proofs.Prelude.{lost_on_way, lot_by, lot_by_group, marked, match_fate, may_lead, met, more_on, move, move_fate, moved}
 use Rattle.recovery_reasons.proofs.Prelude.{observed, own_end_of, place_on, position_of, ring_at, rule_at, same-head, same_Some, same_coord, seen_in}
 use Rattle.recovery_reasons.proofs.Prelude.{seen_of, server_at, shown_of, speaks_of, spoken_to, spot_by, spot_seen, status, status_in, stay_of}
 use Rattle.recovery_reasons.proofs.Prelude.{stepped, tail_of, taken, unfit, way_below, way_by_set, went-of, without_stopped}
+use Rattle.recovery_reasons.specs.Reasons.{Below, Beside, Errant, Halted, Interfered, Late, Purged, Running, Strayed, Unattached, Unmatched, Unreached, Without}
 use Rattle.recovery_reasons.proofs.Prelude.attaching
 use Rattle.recovery_reasons.proofs.Prelude.attempt
 use Rattle.recovery_reasons.proofs.Prelude.by
@@ -32,8 +32,7 @@ use Rattle.recovery_reasons.proofs.Prelude.stage
 use Rattle.recovery_reasons.proofs.Prelude.taking
 use Rattle.recovery_reasons.proofs.Prelude.task
 use Rattle.recovery_reasons.proofs.Prelude.way
-use Rattle.std.proofs.Common.{◌≡◌, ℕ, Bool, true, false, cond, not, List, [], ◌∷◌, ◌++◌, map, refl, sym, ◌∙◌, ap, subst, Option, Some, None, ◌&&◌, ◌⊎◌, inl, inr, Ok, Err, Result, ◌+◌}
-use Rattle.std.specs.Prelude.{◌==◌, is_some, option_map}
+use Rattle.std.proofs.Common.{◌≡◌, ℕ, Bool, true, false, cond, not, List, [], ◌∷◌, ◌++◌, map, refl, sym, ◌∙◌, ap, subst, Option, Some, None, ◌&&◌, ◌⊎◌, inl, inr, Ok, Err, Result, ◌+◌, ◌==◌, is_some, option_map}
 use Rattle.recovery_reasons.proofs.Causing.{StopsTruly, deed-true, match-cause}
 use Rattle.recovery_reasons.proofs.Coordinates.{before-other}
 use Rattle.recovery_reasons.proofs.OnWay.{Fine, decides-fine, handing, next-on, still-on, stepped-course}
@@ -375,10 +374,8 @@ module _ (w : World) (b : BookState) (now : Moment) (r : Recovery) (P : Fact →
               matched-met n (λ m l. Unmatched to exec every h.0 m at h.2 (ap loss_of (sym h.1) ∙ l))
 
       way-met : (n : ServerNo) (by : Way) → x.stage ≡ stage.Move n by → Met (fate_of_move w x.purpose n by c)
-      way-met n (way.Down y) at = moving-met n (way.Down y) at refl refl refl
-      way-met n (way.Up y) at = moving-met n (way.Up y) at refl refl refl
-      way-met n (way.Auto to exec) at = moving-met n (way.Auto to exec) at refl refl refl
       way-met n (way.Match to exec every) at = matching-met n to exec every at
+      way-met n x at = moving-met n x at refl refl refl
 
       -- it was before the position at which the designated one stopped
       late-by : (n : ServerNo) (z : Bridge) (s : Status) → (n.0 ≡ z.no.0 → ⊥) → AimsAt x.core.seen n z → is_reached (aim_of x.core.seen (ExecOf z.no)) s.exec ≡ false → is_at_or_before z.exec s.exec ≡ false

@@ -1,6 +1,5 @@
 -- What a job saw was observed in one of its turns, or is what a bridge has of its own server.
-use Rattle.std.proofs.Common.{◌≡◌, ℕ, Bool, true, false, cond, not, List, refl, sym, subst, Option, Some, inl, inr}
-use Rattle.std.specs.Prelude.{◌==◌}
+use Rattle.std.proofs.Common.{◌≡◌, ℕ, Bool, true, false, cond, not, List, refl, sym, subst, Option, Some, inl, inr, ◌==◌}
 use Rattle.recovery_reasons.proofs.Prelude.{All, All-filter, All-push, Attempt, Attempts, Bearing, BookState, Bridge, Decision, Decisions, Deed, Does}
 use Rattle.recovery_reasons.proofs.Prelude.{Ending, Exchange, ExplainsTruly, Fact, IsSeenSo, IsShown, Job, Keeps, MayDecide, Moment, Observation, Op}
 use Rattle.recovery_reasons.proofs.Prelude.{Position, Reads, Recovery, ServerNo, Sight, Status, Way, World, attempts, borne, by_deed, decided_by}

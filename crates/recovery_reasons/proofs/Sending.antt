@@ -1,19 +1,16 @@
 -- Each replica that goes some way was sent that way, and the position at which the designated one stopped was read.
-use Rattle.std.proofs.Common.{◌≡◌, ℕ, Bool, true, false, cond, not, List, [], ◌∷◌, ◌++◌, filter, map, refl, sym, ◌∙◌, ap, subst, Option, Some, None, inl, ◌&&◌}
-use Rattle.std.specs.Prelude.{◌==◌, is_some, option_map}
-use Rattle.recovery_reasons.proofs.Prelude.{All, All-append, All-cons, All-contains_itself, All-filter, All-head, All-nil, All-tail, AreSent}
-use Rattle.recovery_reasons.proofs.Prelude.{Attached, Bearing, BookState, Bridge, Contains, Coord, Decision, Decisions, Ending}
-use Rattle.recovery_reasons.proofs.Prelude.{ExplainsTruly, Fact, HeldRecovery, HeldRings, IsDue, IsLed, IsNext, IsOnCourse, IsSent}
-use Rattle.recovery_reasons.proofs.Prelude.{IsSentSo, IsWayBelow, IsWayBeside, Keeps, Leads, Lot, MayDecide, MayEnd, Means, Moment, Op}
-use Rattle.recovery_reasons.proofs.Prelude.{Position, Purpose, Recovery, SendsBelow, SendsBeside, SendsThere, ServerNo, Sight, SourceState, Speaks}
-use Rattle.recovery_reasons.proofs.Prelude.{SpeaksWith, Stage, Status, Stopped, Task, Way, World, begun_recovery}
-use Rattle.recovery_reasons.proofs.Prelude.{borne, bridge_at, bridge_by, but, by_bridge, chosen_of, decided_by, decides-held, deed_of, ended}
-use Rattle.recovery_reasons.proofs.Prelude.{ended_by, ends, entered, fate_of, follows_no_more}
-use Rattle.recovery_reasons.proofs.Prelude.{ground_of, has_exec, has_own, is_before, joined, kept-whole, latest_that}
-use Rattle.recovery_reasons.proofs.Prelude.{lead_of, lead_under, leaver, logs_at, lot_by, lot_by_group, move_of, moved, moves_in}
-use Rattle.recovery_reasons.proofs.Prelude.{own_end_of, ring_at, same_Some, same_coord, seen_in, seen_of}
-use Rattle.recovery_reasons.proofs.Prelude.{All-chosen, IsStopped, chosen-logs, expels, group_of, info, own-is, releases, why_of}
-use Rattle.recovery_reasons.proofs.Prelude.{status, stepped, taken, way_below, way_by_set, went-of, without_stopped}
+use Rattle.std.proofs.Common.{◌≡◌, ℕ, Bool, true, false, cond, not, List, [], ◌∷◌, ◌++◌, filter, map, refl, sym, ◌∙◌, ap, subst, Option, Some, None, inl, ◌&&◌, ◌==◌, is_some, option_map}
+use Rattle.recovery_reasons.proofs.Prelude.{All, All-append, All-chosen, All-cons, All-contains_itself, All-filter, All-head, All-nil, All-tail}
+use Rattle.recovery_reasons.proofs.Prelude.{AreSent, Attached, Bearing, BookState, Bridge, Contains, Coord, Decision, Decisions, Ending}
+use Rattle.recovery_reasons.proofs.Prelude.{ExplainsTruly, Fact, HeldRecovery, HeldRings, IsDue, IsLed, IsNext, IsOnCourse, IsSent, IsSentSo}
+use Rattle.recovery_reasons.proofs.Prelude.{IsStopped, IsWayBelow, IsWayBeside, Keeps, Leads, Lot, MayDecide, MayEnd, Means, Moment, Op, Position}
+use Rattle.recovery_reasons.proofs.Prelude.{Purpose, Recovery, SendsBelow, SendsBeside, SendsThere, ServerNo, Sight, SourceState, Speaks, SpeaksWith}
+use Rattle.recovery_reasons.proofs.Prelude.{Stage, Status, Stopped, Task, Way, World, begun_recovery, borne, bridge_at, bridge_by, but, by_bridge}
+use Rattle.recovery_reasons.proofs.Prelude.{chosen-logs, chosen_of, decided_by, decides-held, deed_of, ended, ended_by, ends, entered, expels}
+use Rattle.recovery_reasons.proofs.Prelude.{fate_of, follows_no_more, ground_of, group_of, has_exec, has_own, info, is_before, joined, kept-whole}
+use Rattle.recovery_reasons.proofs.Prelude.{latest_that, lead_of, lead_under, leaver, logs_at, lot_by, lot_by_group, move_of, moved, moves_in, own-is}
+use Rattle.recovery_reasons.proofs.Prelude.{own_end_of, releases, ring_at, same_coord, same_Some, seen_in, seen_of, status, stepped, taken, way_below}
+use Rattle.recovery_reasons.proofs.Prelude.{way_by_set, went-of, why_of, without_stopped}
 use Rattle.recovery_reasons.proofs.Prelude.by
 use Rattle.recovery_reasons.proofs.Prelude.deciding
 use Rattle.recovery_reasons.proofs.Prelude.group

@@ -295,7 +295,7 @@ before-shows (way.Match to exec every) n o xs e = tt
 before-shows _ n o xs e = cc
 
 -- it ends its stage
-move-ends : (n : ServerNo) (by : Way) → ends (stage.Move n by) (deed_of (move by n)) ≡ true
+pub move-ends : (n : ServerNo) (by : Way) → ends (stage.Move n by) (deed_of (move by n)) ≡ true
 move-ends n (way.Down b) = refl
 move-ends n _ = refl
 
@@ -473,9 +473,7 @@ taken-speaks w b read now r rings held s going = record {
 
 begun-says : (u : Purpose) (by : Means) (id wait : ℕ) (f : ServerNo) (ns order : List ServerNo) → SpeaksWith (begun_recovery u by id wait f ns order)
 begun-says purpose.Regroup by id wait f ns order = silent (begun_recovery purpose.Regroup by id wait f ns order) refl refl refl (λ n p e. cc)
-begun-says purpose.Master by id wait f ns order = silent (begun_recovery purpose.Master by id wait f ns order) refl refl refl (λ n p e. cc)
-begun-says (purpose.Intermediate s) by id wait f ns order = silent (begun_recovery (purpose.Intermediate s) by id wait f ns order) refl refl refl (λ n p e. cc)
-begun-says (purpose.Takeover d) by id wait f ns order = silent (begun_recovery (purpose.Takeover d) by id wait f ns order) refl refl refl (λ n p e. cc)
+begun-says x by id wait f ns order = silent (begun_recovery x by id wait f ns order) refl refl refl (λ n p e. cc)
 
 pub begun-speaks : (u : Purpose) (by : Means) (id wait : ℕ) (f : ServerNo) (ns order : List ServerNo) → Speaks (begun_recovery u by id wait f ns order)
 begun-speaks u by id wait f ns order = record {

@@ -1,14 +1,12 @@
 -- Each follower was started below its new source, except for a master that went below the designated one.
-use Rattle.std.proofs.Common.{◌≡◌, ℕ, Bool, true, false, cond, not, List, [], ◌∷◌, refl, sym, ◌∙◌, ap, subst, Option, Some, None, ◌⊎◌, inl, inr, Ok, Err, Result}
-use Rattle.std.specs.Prelude.{◌==◌}
+use Rattle.std.proofs.Common.{◌≡◌, ℕ, Bool, true, false, cond, not, List, [], ◌∷◌, refl, sym, ◌∙◌, ap, subst, Option, Some, None, ◌⊎◌, inl, inr, Ok, Err, Result, ◌==◌}
 use Rattle.recovery_reasons.proofs.Prelude.{All, All-filter, All-push, All-weaker, Bearing, BookState, Cause, Decision, Decisions, Ending, Exchange}
 use Rattle.recovery_reasons.proofs.Prelude.{ExplainsTruly, Fact, Fits, Follower, HasNotFailed, HeldRecovery, HeldRings, IsFit, IsNext, IsStarted}
 use Rattle.recovery_reasons.proofs.Prelude.{IsSwitched, IsToStart, IsUp, Job, Keeps, MayDecide, MayEnd, Moment, Observation, Op, Recovery, ServerNo}
-use Rattle.recovery_reasons.proofs.Prelude.{Speaks, SpeaksWith, Stage, Starts, Switches, Task, Unreachable, World, after_ask, borne, by_deed}
-use Rattle.recovery_reasons.proofs.Prelude.{closes, decided_by, decides-held, decides-idle, deed_of, desk_answer, ended, ended_by, ends, entered}
-use Rattle.recovery_reasons.proofs.Prelude.{fate, fate_of, fits-step, follows_no_more, ground_of, info, joined, kept-whole, leaver, moved}
-use Rattle.recovery_reasons.proofs.Prelude.{moved-fits, same-head, server_at, stepped, stepped-fits, tail_of, taken, went-of}
-use Rattle.recovery_reasons.proofs.Prelude.{without_follower}
+use Rattle.recovery_reasons.proofs.Prelude.{Speaks, SpeaksWith, Stage, Starts, Switches, Task, Unreachable, World, after_ask, borne, by_deed, closes}
+use Rattle.recovery_reasons.proofs.Prelude.{decided_by, decides-held, decides-idle, deed_of, desk_answer, ended, ended_by, ends, entered, fate}
+use Rattle.recovery_reasons.proofs.Prelude.{fate_of, fits-step, follows_no_more, ground_of, info, joined, kept-whole, leaver, moved, moved-fits}
+use Rattle.recovery_reasons.proofs.Prelude.{same-head, server_at, stepped, stepped-fits, tail_of, taken, went-of, without_follower}
 use Rattle.recovery_reasons.proofs.Prelude.asking
 use Rattle.recovery_reasons.proofs.Prelude.attempt
 use Rattle.recovery_reasons.proofs.Prelude.by
@@ -230,10 +228,7 @@ module _ (w : World) (b : BookState) (now : Moment) (r : Recovery) (P : Fact →
 
       go : (f : Bearing) → fate w x.purpose x.stage c ≡ fate_of f → Upped (borne x (fate_of f))
       go by.Drops same = record { started = λ s. ups (borne x (fate_of by.Drops)) by.Drops same; below = λ m d at. cc }
-      go (by.Misses n y) same = record { started = λ s. ups (borne x (fate_of (by.Misses n y))) (by.Misses n y) same; below = λ m d at. cc }
-      go (by.Lets n y) same = record { started = λ s. ups (borne x (fate_of (by.Lets n y))) (by.Lets n y) same; below = λ m d at. cc }
-      go (by.Restarts p q) same = record { started = λ s. ups (borne x (fate_of (by.Restarts p q))) (by.Restarts p q) same; below = λ m d at. cc }
-      go (by.Returns p q) same = record { started = λ s. ups (borne x (fate_of (by.Returns p q))) (by.Returns p q) same; below = λ m d at. cc }
+      go y same = record { started = λ s. ups (borne x (fate_of y)) y same; below = λ m d at. cc }
 
   -- ---- a turn
 

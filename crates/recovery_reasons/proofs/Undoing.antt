@@ -1,6 +1,5 @@
 -- What a job leaves stopped, and what a turn makes good in which the recovery fails.
-use Rattle.std.proofs.Common.{◌≡◌, ℕ, ◌+◌, zero, suc, Bool, true, false, cond, not, List, [], ◌∷◌, ◌++◌, filter, refl, sym, ◌∙◌, ap, subst, Option, Some, None, ◌⊎◌, inl, inr, Ok, arith}
-use Rattle.std.specs.Prelude.{◌==◌}
+use Rattle.std.proofs.Common.{◌≡◌, ℕ, ◌+◌, zero, suc, Bool, true, false, cond, not, List, [], ◌∷◌, ◌++◌, filter, refl, sym, ◌∙◌, ap, subst, Option, Some, None, ◌⊎◌, inl, inr, Ok, arith, ◌==◌}
 use Rattle.recovery_reasons.proofs.Prelude.{All, All-append, All-cons, All-nil, Ask, Attach, Attempt, Attempts, BookState, Cause, Contains}
 use Rattle.recovery_reasons.proofs.Prelude.{Contains-append_cases, Contains-append_left, Contains-append_right, Contains-push, Coord, Decision}
 use Rattle.recovery_reasons.proofs.Prelude.{Decisions, Deed, Ending, Exchange, Fate, GoesBack, IsOpen, Job, KeepsHands, Line, MakesGood, MayDecide}
@@ -8,9 +7,8 @@ use Rattle.recovery_reasons.proofs.Prelude.{Moment, Observation, Op, OpensAgain,
 use Rattle.recovery_reasons.proofs.Prelude.{Stage, StartsHands, Taken, Threads, Turning, World, acted, after_ask, attempted, attempts, barred_by}
 use Rattle.recovery_reasons.proofs.Prelude.{borne, bridge_at, bridge_by, by_deed, can_attach, closed_at, crossed, crossing_of, decided, decided_by}
 use Rattle.recovery_reasons.proofs.Prelude.{decisions-keep, deed_of, ended_by, ends, entered, eqb-true, false≢true, fate, fate_of, follows_no_more}
-use Rattle.recovery_reasons.proofs.Prelude.{ground_of, is_going, is_takeover, last_exchanges, leaver, met, moved, next, on_going, restarts}
-use Rattle.recovery_reasons.proofs.Prelude.{run, same-no, same_Some, seen_of, settled_turn, stepped, taken, taken-walks, that_can, undone, with_hand}
-use Rattle.recovery_reasons.proofs.Prelude.{without}
+use Rattle.recovery_reasons.proofs.Prelude.{ground_of, is_going, is_takeover, last_exchanges, leaver, met, moved, on_going, restarts, run, same-no}
+use Rattle.recovery_reasons.proofs.Prelude.{same_Some, seen_of, settled_turn, stepped, taken, taken-walks, that_can, undone, with_hand, without}
 use Rattle.recovery_reasons.proofs.Prelude.asking
 use Rattle.recovery_reasons.proofs.Prelude.attempt
 use Rattle.recovery_reasons.proofs.Prelude.by
@@ -126,11 +124,7 @@ module _ (w : World) (j : Job) (rest : List Op) where
   asked-hands : (n : ServerNo) (a : Ask) → HandsOf j (after_ask j rest n a (Ok tt))
   asked-hands n (asking.Stop which) = stop-hands n which _ refl
   asked-hands n asking.Start = start-hands n _ refl
-  asked-hands n (asking.StartUntil to) = asks-hands n (asking.StartUntil to) _ refl (λ which e. cc)
-  asked-hands n asking.Detach = asks-hands n asking.Detach _ refl (λ which e. cc)
-  asked-hands n asking.Reattach = asks-hands n asking.Reattach _ refl (λ which e. cc)
-  asked-hands n asking.Reset = asks-hands n asking.Reset _ refl (λ which e. cc)
-  asked-hands n (asking.SetReadOnly on) = asks-hands n (asking.SetReadOnly on) _ refl (λ which e. cc)
+  asked-hands n x = asks-hands n x _ refl (λ which e. cc)
 
   -- an attachment is no request
   no-request : (e : Exchange) (n : ℕ) (a : Ask) → can_attach w e ≡ true → e ≡ Request n a → ⊥

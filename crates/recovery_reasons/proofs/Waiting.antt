@@ -1,6 +1,5 @@
 -- A turn whose operation waits is one more wait, or its end, by the status of that turn.
-use Rattle.std.proofs.Common.{◌≡◌, ℕ, ◌+◌, ◌<◌, ◌≤◌, Bool, true, false, cond, not, ◌||◌, ◌&&◌, List, [], ◌∷◌, ◌++◌, refl, sym, ◌∙◌, ap, subst, Option, Some, None, inl, inr, ◌⊎◌, arith}
-use Rattle.std.specs.Prelude.{nat_lt, ◌==◌}
+use Rattle.std.proofs.Common.{◌≡◌, ℕ, ◌+◌, ◌<◌, ◌≤◌, Bool, true, false, cond, not, ◌||◌, ◌&&◌, List, [], ◌∷◌, ◌++◌, refl, sym, ◌∙◌, ap, subst, Option, Some, None, inl, inr, ◌⊎◌, arith, nat_lt, ◌==◌}
 use Rattle.recovery_reasons.proofs.Prelude.{AreLeft, Attempt, Attempts, BookState, Bridge, Cause, Coord, Deed, EndOf, Exchange, ExecOf, Fate, HasCome}
 use Rattle.recovery_reasons.proofs.Prelude.{HasSettled, IsDueWait, IsFreedNow, IsGivenUpNow, IsOneMoreWait, IsRest, IsWaitOver, Job, Moment}
 use Rattle.recovery_reasons.proofs.Prelude.{Observation, Op, Recovery, ServerNo, Speaks, Stage, Status, Taken, WaitsItsTurns, WaitsUntil, World}

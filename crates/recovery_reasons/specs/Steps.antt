@@ -1,7 +1,6 @@
 -- The operations of the stages that wait, in order; no other stage waits.
 use Rattle.std.specs.Prelude.{◌≡◌, Bool, true, false, not, List, [], ◌∷◌, ◌++◌, Some, None}
-use Rattle.std.specs.List.{list_all}
-use Rattle.recovery_reasons.specs.Prelude.{Bridge, Deed, EndOf, ExecOf, Op, ServerNo, Stage, deed_of}
+use Rattle.recovery_reasons.specs.Prelude.{Bridge, Deed, EndOf, ExecOf, Op, ServerNo, Stage, deed_of, list_all}
 use Rattle.recovery_reasons.specs.Prelude.cross
 use Rattle.recovery_reasons.specs.Prelude.deed
 use Rattle.recovery_reasons.specs.Prelude.op

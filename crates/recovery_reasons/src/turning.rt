@@ -2,8 +2,7 @@
 
 ghost use Rattle.std.specs.Prelude.{◌≡◌, ◌∷◌, ℕ, All, Bool, List, [], true};
 ghost use Rattle.recovery_reasons.specs.Prelude.{BookState, Cause as Why, HeldRecovery, HeldRings, Line as ALine, Moment as AMoment, Op as AnOp};
-ghost use Rattle.recovery_reasons.specs.Prelude.{Recovery, ServerNo as Number};
-ghost use Rattle.recovery_reasons.specs.Prelude.{Way as AWay, World, decided, ground_of, is_going, server_of, taken};
+ghost use Rattle.recovery_reasons.specs.Prelude.{Recovery, ServerNo as Number, Way as AWay, World, decided, ground_of, is_going, server_of, taken};
 ghost use Rattle.recovery_reasons.specs.Prelude.op;
 ghost use Rattle.recovery_reasons.specs.Prelude.stage;
 ghost use Rattle.recovery_reasons.specs.Prelude.step;

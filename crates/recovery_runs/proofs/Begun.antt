@@ -1,14 +1,12 @@
 -- What a turn begins is plans, and recoveries as they begin, which name no replica twice.
-use Rattle.std.proofs.Common.{◌≡◌, ℕ, ◌+◌, ◌<◌, List, [], ◌∷◌, length, map, refl, Option, Some, None, ◌∙◌, ◌⊎◌, inl, inr, ap, arith}
-use Rattle.std.specs.Prelude.{All, IfSome, slice_get, get_or, ◌≤◌}
-use Rattle.recovery_runs.proofs.Prelude.{job_in, means_of}
+use Rattle.std.proofs.Common.{◌≡◌, ℕ, ◌+◌, ◌<◌, List, [], ◌∷◌, length, map, refl, Option, Some, None, ◌∙◌, ◌⊎◌, inl, inr, ap, arith, All, IfSome, slice_get, get_or, ◌≤◌}
 use Rattle.recovery_runs.proofs.Prelude.{Act, All-cons, All-contains, All-head, All-nil, All-tail, AreHooksOf, AreShort, AuditState, BeginInTurn}
-use Rattle.recovery_runs.proofs.Prelude.{Begins as RecoveryBegins, BeginsOnce, BookState, Code, Comes, Command, CommandTurn}
-use Rattle.recovery_runs.proofs.Prelude.{Configuration, HasHooks, HostPort, IsAct, IsAskedFor, IsBook, IsCommand, IsEntryIn, IsFresh, IsTurn, Means}
-use Rattle.recovery_runs.proofs.Prelude.{NamesReplicasOnce, Outcome, Planner, Ready, Refusal, ServerNo, State, TellsAll, Turn, Unended}
-use Rattle.recovery_runs.proofs.Prelude.{World, act-fits, act_in, actionable-entries, actionable_in, asked, attempt_in, begun_hooks, begun_recovery}
-use Rattle.recovery_runs.proofs.Prelude.{by_hand, code_at, command-comes, command_outcome, given-in, given-there, hooks_by, job_by, jobs_begun}
-use Rattle.recovery_runs.proofs.Prelude.{jobs_done, jobs_in_act, jobs_of, label_at, numbers_of, option_map, purpose_by, recovery-names}
+use Rattle.recovery_runs.proofs.Prelude.{Begins as RecoveryBegins, BeginsOnce, BookState, Code, Comes, Command, CommandTurn, Configuration, HasHooks}
+use Rattle.recovery_runs.proofs.Prelude.{HostPort, IsAct, IsAskedFor, IsBook, IsCommand, IsEntryIn, IsFresh, IsTurn, Means, NamesReplicasOnce}
+use Rattle.recovery_runs.proofs.Prelude.{Outcome, Planner, Ready, Refusal, ServerNo, State, TellsAll, Turn, Unended, World, act-fits, act_in}
+use Rattle.recovery_runs.proofs.Prelude.{actionable-entries, actionable_in, asked, attempt_in, begun_hooks, begun_recovery, by_hand, code_at}
+use Rattle.recovery_runs.proofs.Prelude.{command-comes, command_outcome, given-in, given-there, hooks_by, job_by, job_in, jobs_begun, jobs_done}
+use Rattle.recovery_runs.proofs.Prelude.{jobs_in_act, jobs_of, label_at, means_of, numbers_of, option_map, purpose_by, recovery-names}
 use Rattle.recovery_runs.proofs.Prelude.{recovery_begins, recovery_job, recovery_refusal, regroup-are, regroup_about, replicas_of, scan-each}
 use Rattle.recovery_runs.proofs.Prelude.{scan-in-turn, scan-names, scan_in, scan_outcome, short-by, slice_get_cases, source_of, takeover-names}
 use Rattle.recovery_runs.proofs.Prelude.{takeover_begins, takeover_refusal, told_of, unless_refused, with_told, within-book}

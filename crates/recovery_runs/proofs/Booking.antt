@@ -1,5 +1,5 @@
 -- The last readings of a recovery leave the book as the servers are.
-use Rattle.std.proofs.Common.{◌≡◌, ◌∙◌, ℕ, Bool, true, false, cond, List, [], refl, sym, ap, subst, Option, Some, None, Ok, Err, ◌⊎◌, inl, inr, ◌&&◌}
+use Rattle.std.proofs.Common.{◌≡◌, ◌∙◌, ℕ, true, List, [], refl, sym, ap, subst, Option, Some, None, ◌⊎◌, inl, inr}
 use Rattle.std.specs.Prelude.{◌==◌, is_some, unwrap_or}
 use Rattle.recovery_runs.proofs.Prelude.{All-contains, All-find, ComesTo, CoveredState, CoversAt, CoversSoFar, Docket, Follower, HasSo, HeldRecovery}
 use Rattle.recovery_runs.proofs.Prelude.{HeldState, Hook, IsBelow, IsClosed, IsCoveredBeside, IsRuling, IsStuck, IsUnder, Line, LooksAt, OldFollows}

@@ -1,6 +1,5 @@
 -- Each recovery after a turn was there before it, or begins in it.
-use Rattle.std.proofs.Common.{◌≡◌, ℕ, true, List, [], ◌++◌, refl, Option, Some, None}
-use Rattle.std.specs.Prelude.{◌==◌, All, Contains}
+use Rattle.std.proofs.Common.{◌≡◌, ℕ, true, List, [], ◌++◌, refl, Option, Some, None, ◌==◌, All, Contains}
 use Rattle.recovery_runs.proofs.Prelude.{Act, All-contains_itself, All-find, All-nil, All-weaker, ComesOf, Contains-append_left}
 use Rattle.recovery_runs.proofs.Prelude.{Contains-append_right, IsReady, Ready, Row, SameAim, State, Turn, Unended, act_in, after_act, after_done}
 use Rattle.recovery_runs.proofs.Prelude.{all-turned, command_outcome, flown-number, hooked-has, is_going, job_at, jobs_begun, jobs_done, jobs_in_act}

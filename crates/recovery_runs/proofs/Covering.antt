@@ -1,6 +1,5 @@
 -- Each turn leaves recoveries covered, kept, speaking and aimed.
-use Rattle.std.proofs.Common.{ℕ, List, refl, sym, subst, Option, Some, None}
-use Rattle.std.specs.Prelude.{All}
+use Rattle.std.proofs.Common.{ℕ, List, refl, sym, subst, Option, Some, None, All}
 use Rattle.recovery_runs.proofs.Prelude.{Act, AimedState, All-nil, All-weaker, BeginsOnce, CommandTurn, CoveredJobs, CoveredState, Flight, HeldState}
 use Rattle.recovery_runs.proofs.Prelude.{IsAimedBeside, IsCommand, IsCoveredBeside, IsKeptBeside, IsOutside, IsSpeakingBeside, IsTurn, KeptJobs}
 use Rattle.recovery_runs.proofs.Prelude.{KeptState, Ready, Recovery, Row, Scenario, SoundState, SpeakingState, State, Step, Turn, Unended, World}

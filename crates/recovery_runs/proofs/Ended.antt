@@ -1,6 +1,5 @@
 -- A recovery that a hook ended has changed no server.
-use Rattle.std.proofs.Common.{◌≡◌, ℕ, List, subst, Some, None, ◌⊎◌, inl, inr}
-use Rattle.std.specs.Prelude.{◌==◌}
+use Rattle.std.proofs.Common.{◌≡◌, ℕ, List, subst, Some, None, ◌⊎◌, inl, inr, ◌==◌}
 use Rattle.recovery_runs.proofs.Prelude.{All-find, BookState, Cause, ComesTo, Docket, FailsTruly, FailsWell, Fatal, HookState, IsEarly, IsEndedByHook}
 use Rattle.recovery_runs.proofs.Prelude.{IsFailing, IsFailure, Line, Moment, Nobody, Reached, Recovery, Row, Scenario, Sourced, State, StaysStill}
 use Rattle.recovery_runs.proofs.Prelude.{StopsTruly, Unended, World, decided, found-number, front_hook, ground_of, moment_at, next_count, number_of}

@@ -1,6 +1,5 @@
 -- The entry of a recovery that is done ends with the server that it promoted.
-use Rattle.std.proofs.Common.{◌≡◌, ◌∙◌, ℕ, Bool, true, false, cond, List, [], ◌∷◌, ◌++◌, map, refl, sym, ap, subst, Option, Some, None}
-use Rattle.std.specs.Prelude.{◌==◌, ◌||◌, Contains, find, if◌then◌else◌}
+use Rattle.std.proofs.Common.{◌≡◌, ◌∙◌, ℕ, Bool, true, false, cond, List, [], ◌∷◌, ◌++◌, map, refl, sym, ap, subst, Option, Some, None, ◌==◌, ◌||◌, Contains, find, if◌then◌else◌}
 use Rattle.recovery_runs.proofs.Prelude.{AuditState, Change, Contains-push, Docket, Ending, Hooked, IsFinish, JobStep, Line, Moment, Purpose}
 use Rattle.recovery_runs.proofs.Prelude.{Recovery, Row, ServerNo, State, Unended, acked_so, acknowledged_at, changes_by, changes_of, closed_by}
 use Rattle.recovery_runs.proofs.Prelude.{closing_at, closing_changes, closing_for, closing_of, ended, ended_so, finished_so, is_takeover}

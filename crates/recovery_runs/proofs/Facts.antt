@@ -1,6 +1,5 @@
 -- The lost of a recovery have reasons, from its start on.
-use Rattle.std.proofs.Common.{◌≡◌, ◌∙◌, ℕ, Bool, true, List, ◌++◌, refl, sym, subst, Option, Some, None}
-use Rattle.std.specs.Prelude.{◌==◌, All, IfSome}
+use Rattle.std.proofs.Common.{◌≡◌, ◌∙◌, ℕ, Bool, true, List, ◌++◌, refl, sym, subst, Option, Some, None, ◌==◌, All, IfSome}
 use Rattle.recovery_runs.proofs.Prelude.{Act, All-find, All-nil, All-weaker, BeginsOnce, Docket, ExplainedState, ExplainsAct, ExplainsDone}
 use Rattle.recovery_runs.proofs.Prelude.{ExplainsTruly, ExplainsTurn, Fact, HasFacts, HeldState, IsAct, IsExplained, IsReady, IsTurn, Ready, Recovery}
 use Rattle.recovery_runs.proofs.Prelude.{Row, Scenario, SpeakingState, State, Turn, Unended, act-fits, act_in, after_act, after_done, all-turned}

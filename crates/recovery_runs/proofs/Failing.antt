@@ -1,15 +1,14 @@
 -- A recovery fails for what happened to it.
-use Rattle.std.proofs.Common.{◌≡◌, ◌∙◌, ◌+◌, ℕ, Bool, true, false, cond, List, [], ◌∷◌, refl, sym, ap, subst, Option, Some, None, ◌⊎◌, inl, inr}
+use Rattle.std.proofs.Common.{◌≡◌, ◌∙◌, ◌+◌, ℕ, Bool, true, false, cond, List, [], ◌∷◌, refl, sym, ap, subst, Option, Some, None, ◌⊎◌, inl, inr, ◌==◌, IfSome, All}
 use Rattle.recovery_runs.proofs.Prelude.{All-find, All-head, Attempt, BookState, Cause, ComesTo, Deed, Docket, Exchange, FailsTruly, Failure, Fate}
 use Rattle.recovery_runs.proofs.Prelude.{Fine, HasNobody, Hook, HookState, HostPort, IsEndedByHook, IsFailing, IsOnWay, IsSpeakingBeside, IsTrueOf}
-use Rattle.recovery_runs.proofs.Prelude.{Speaks}
 use Rattle.recovery_runs.proofs.Prelude.{Job, JobStep, Line, Moment, Observation, Op, ReadsNow, RecoveriesFailForWhatBefell, Recovery, Scenario}
-use Rattle.recovery_runs.proofs.Prelude.{ServerNo, ShowsFailed, ShowsNow, SpeakingState, Stage, State, Status, Taken, Unended, World, acted}
+use Rattle.recovery_runs.proofs.Prelude.{ServerNo, ShowsFailed, ShowsNow, SpeakingState, Speaks, Stage, State, Status, Taken, Unended, World, acted}
 use Rattle.recovery_runs.proofs.Prelude.{attempted, barred_by, by_deed, cause-true, decided, decided-walks, decides-fine, decisions-keep, deed_of}
-use Rattle.recovery_runs.proofs.Prelude.{eq-eqb, failed_lines, false≢true, fate, finds-nobody, front_hook, front_turn, ground_of, has_source, info}
-use Rattle.recovery_runs.proofs.Prelude.{job_reply, met, next_count, number_of, on_going, option_map, position_of, promoted_in, ran_before, read-now}
-use Rattle.recovery_runs.proofs.Prelude.{rear_hook, rear_turn, same_Some, seen_in, seen_of, source_cause, spoken_to, status, step_before, step_reply}
-use Rattle.recovery_runs.proofs.Prelude.{step_with, still-on, stopped-befell, taken, turn_of, with_hooks}
+use Rattle.recovery_runs.proofs.Prelude.{eq-eqb, failed_lines, false≢true, fatal-ends, fate, finds-nobody, front_hook, front_turn, ground_of}
+use Rattle.recovery_runs.proofs.Prelude.{has_source, info, job_reply, met, next_count, number_of, on_going, option_map, position_of, promoted_in}
+use Rattle.recovery_runs.proofs.Prelude.{ran_before, read-now, rear_hook, rear_turn, same_Some, seen_in, seen_of, source_cause, spoken_to, status}
+use Rattle.recovery_runs.proofs.Prelude.{step_before, step_reply, step_with, still-on, stopped-befell, taken, turn_of, with_hooks}
 use Rattle.recovery_runs.proofs.Prelude.answered
 use Rattle.recovery_runs.proofs.Prelude.attempt
 use Rattle.recovery_runs.proofs.Prelude.cause
@@ -20,8 +19,6 @@ use Rattle.recovery_runs.proofs.Prelude.stage
 use Rattle.recovery_runs.proofs.Prelude.table
 use Rattle.recovery_runs.proofs.Prelude.taking
 use Rattle.recovery_runs.proofs.Prelude.unended
-use Rattle.std.specs.Prelude.{◌==◌, IfSome, All}
-use Rattle.recovery_runs.proofs.Prelude.{fatal-ends}
 use Rattle.recovery_runs.proofs.Origins.{Step}
 use Rattle.recovery_runs.proofs.Tending.{tends-comes}
 

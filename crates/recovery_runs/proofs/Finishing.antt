@@ -1,6 +1,5 @@
 -- The turn of a recovery in a state is one of its `Flight`.
-use Rattle.std.proofs.Common.{◌≡◌, ◌∙◌, ◌++◌, ℕ, Bool, List, refl, sym, ap, subst, Option, Some}
-use Rattle.std.specs.Prelude.{◌==◌, All}
+use Rattle.std.proofs.Common.{◌≡◌, ◌∙◌, ◌++◌, ℕ, Bool, List, refl, sym, ap, subst, Option, Some, ◌==◌, All}
 use Rattle.recovery_runs.proofs.Prelude.{AimedState, All-find, AllFit, CoveredState, Docket, ExplainsTruly, Fact, HeldState, Hooked, IsBeginning, UpState}
 use Rattle.recovery_runs.proofs.Prelude.{IsExplained, IsFinish, IsNamedRecovery, IsReady, IsSpeakingBeside, IsTold, JobStep, Keeps, KeepsHistories}
 use Rattle.recovery_runs.proofs.Prelude.{KeptState, Line, OwesNothing, Ready, Recovery, RecoveryTurn, Row, Safe, SameAim, SoundState, SpeakingState}

@@ -1,6 +1,5 @@
 -- The lines of recoveries' hooks in a state in which the hooks are in order.
-use Rattle.std.proofs.Common.{◌≡◌, ◌∙◌, ℕ, List, ◌++◌, refl, sym, ap, Option, Some, None}
-use Rattle.std.specs.Prelude.{◌==◌}
+use Rattle.std.proofs.Common.{◌≡◌, ◌∙◌, ℕ, List, ◌++◌, refl, sym, ap, Option, Some, None, ◌==◌}
 use Rattle.recovery_runs.proofs.Prelude.{All-find, Cause, Docket, Exchange, HookState, IsEarly, IsFailure, IsFinish, IsTended, IsTendedBeside}
 use Rattle.recovery_runs.proofs.Prelude.{JobStep, Line, Recovery, Row, State, TellsFailed, TendedState, Unended, all_before, all_behind, done-docket}
 use Rattle.recovery_runs.proofs.Prelude.{done_with, failed-docket, job_at, job_reply, moment_at, next_count, none-docket, number_of, option_map}

@@ -1,6 +1,5 @@
 -- The turn of a recovery with hooks in which it is done.
-use Rattle.std.proofs.Common.{◌≡◌, ◌∙◌, ◌+◌, Bool, true, false, List, ◌++◌, Option, Some, None, refl, sym, cond}
-use Rattle.std.specs.Prelude.{◌==◌}
+use Rattle.std.proofs.Common.{◌≡◌, ◌∙◌, ◌+◌, Bool, true, false, List, ◌++◌, Option, Some, None, refl, sym, cond, ◌==◌}
 use Rattle.recovery_runs.proofs.Prelude.{Docket, Hook, HookState, HostPort, JobStep, Line, Recovery, Taken, append-nil, done_with, failed_lines}
 use Rattle.recovery_runs.proofs.Prelude.{front_hook, front_turn, own_turn, ran_before, ran_lines, rear_hook, rear_turn, step_before, step_with}
 use Rattle.recovery_runs.proofs.Prelude.{with_hooks}

@@ -1,6 +1,5 @@
 -- What begins is after what is there.
-use Rattle.std.proofs.Common.{◌≡◌, ◌+◌, List, [], ◌++◌, refl, sym, subst}
-use Rattle.std.specs.Prelude.{All}
+use Rattle.std.proofs.Common.{◌≡◌, ◌+◌, List, [], ◌++◌, refl, sym, subst, All}
 use Rattle.recovery_runs.proofs.Prelude.{All-append, Outcome, State, Unended, Update, append-nil, jobs_of, known_of, updated}
 use Rattle.recovery_runs.proofs.Prelude.update
 

@@ -1,16 +1,15 @@
 -- What the last readings of a recovery left in the book stays there until it is done.
 use Rattle.std.proofs.Common.{◌≡◌, ◌∙◌, ℕ, ◌+◌, ◌<◌, ◌≤◌, Bool, true, false, List, [], ◌∷◌, refl, sym, ap, subst, Option, Some, None, ◌⊎◌, inl, inr, zero, suc, arith}
 use Rattle.std.specs.Prelude.{◌-◌, ◌^◌, ◌==◌, All, IfSome, replicate, slice_index_or, unwrap_or}
-use Rattle.recovery_runs.proofs.Prelude.{Act, All-contains, All-find, All-nil, All-weaker, BeginsOnce, BookState, BooksAtLast, Came, CoveredState}
+use Rattle.recovery_runs.proofs.Prelude.{Act, All-contains, All-find, All-nil, All-weaker, BeginsOnce, BooksAtLast, BookState, Came, CoveredState}
 use Rattle.recovery_runs.proofs.Prelude.{CoversAt, CoversSoFar, Docket, Follower, Instance, IsAct, IsBelow, IsClosed, IsCoveredBeside, IsKeptSo}
 use Rattle.recovery_runs.proofs.Prelude.{IsRuling, IsSpeakingBeside, IsTold, IsTurn, IsUnder, IsUpBeside, JobStep, Line, LoadsGiven, NumbersAreGiven}
 use Rattle.recovery_runs.proofs.Prelude.{Observation, OldFollows, Purpose, ReadsOn, Ready, Recovery, Row, Scenario, ServerNo, SpeakingState, Speaks}
 use Rattle.recovery_runs.proofs.Prelude.{Stage, State, Status, Taken, TakesWrites, Turn, Unended, UpSoFar, UpState, World, act-fits, act-reads}
 use Rattle.recovery_runs.proofs.Prelude.{act_asks, act_in, after_act, after_done, all-turned, as_read, asks, begun_recovery, crowns, done_asks}
 use Rattle.recovery_runs.proofs.Prelude.{false≢true, first_stage, hooked-has, instance_at, is_going, job_at, jobs_turned, moment_at, next_count}
-use Rattle.recovery_runs.proofs.Prelude.{none-some, number_of, openings-give-numbers, option_map, pollers, promoted_in, recovery_after}
-use Rattle.recovery_runs.proofs.Prelude.{same_Some, seen_in, shown_at, slot_at, start, status, step, taken, turn-reads, turn-stores, turn_of}
-use Rattle.recovery_runs.proofs.Prelude.{turn_taken}
+use Rattle.recovery_runs.proofs.Prelude.{none-some, number_of, openings-give-numbers, option_map, pollers, promoted_in, recovery_after, same_Some}
+use Rattle.recovery_runs.proofs.Prelude.{seen_in, shown_at, slot_at, start, status, step, taken, turn-reads, turn-stores, turn_of, turn_taken}
 use Rattle.recovery_runs.proofs.Prelude.act
 use Rattle.recovery_runs.proofs.Prelude.came
 use Rattle.recovery_runs.proofs.Prelude.job_step

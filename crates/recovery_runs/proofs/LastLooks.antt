@@ -1,10 +1,10 @@
 -- What is left at the end of a recovery in a master's place was left by a look at its servers.
-use Rattle.std.proofs.Common.{◌≡◌, ◌∙◌, ℕ, Bool, true, false, cond, List, [], ◌∷◌, ◌++◌, refl, sym, ap, subst, Option, Some, None, ◌⊎◌, inl, inr}
+use Rattle.std.proofs.Common.{◌≡◌, ◌∙◌, ℕ, Bool, true, false, cond, List, [], ◌∷◌, ◌++◌, refl, sym, ap, subst, Option, Some, None, inl, inr}
 use Rattle.recovery_runs.proofs.Prelude.{AtEnd, Attempt, Bearing, BookState, Decision, Decisions, Does, Exchange, IsOnWay, Job, Line, MayDecide}
 use Rattle.recovery_runs.proofs.Prelude.{Moment, Observation, Op, Purpose, ReadsLast, Recovery, ServerNo, Stage, Status, Taken, Turning, World}
 use Rattle.recovery_runs.proofs.Prelude.{after_look, borne, by_deed, crowns, decided_by, decides-idle, decisions-keep, deed_of, ended_by, ends}
 use Rattle.recovery_runs.proofs.Prelude.{entered, false≢true, fate_of, goes_on, ground_of, is_going, is_waiting, last_looks, moved, observed}
-use Rattle.recovery_runs.proofs.Prelude.{same-head, same-tail, seen_in, status, step, stepped, taken, taken-walks, told, went-of}
+use Rattle.recovery_runs.proofs.Prelude.{result_lines, same-head, same-tail, seen_in, status, step, stepped, taken, taken-walks, went-of}
 use Rattle.recovery_runs.proofs.Prelude.attempt
 use Rattle.recovery_runs.proofs.Prelude.by
 use Rattle.recovery_runs.proofs.Prelude.job_step
@@ -156,13 +156,13 @@ module _ (w : World) (b : BookState) (read : ℕ) (now : Moment) (r : Recovery) 
 
   -- the end of a stage leaves a look
   ends-so : (z : Recovery) (e : by.Ending) (ob : Option Observation) (es : List Exchange) → IsWholeBy w read now r (goes_on ob es (ended_by z e))
-  ends-so z (by.Ends m) ob es n lines c at promoted = (λ left. absurd (one z.purpose left), λ k aim left. absurd (two k (subst (λ (u : Purpose). last_looks z u m ++ op.Finish (told z) ∷ [] ≡ op.Status n None ∷ op.Finish lines ∷ []) aim left)))
+  ends-so z (by.Ends m) ob es n lines c at promoted = (λ left. absurd (one z.purpose left), λ k aim left. absurd (two k (subst (λ (u : Purpose). last_looks z u m ++ op.Finish (result_lines z) ∷ [] ≡ op.Status n None ∷ op.Finish lines ∷ []) aim left)))
     where
-      one : (u : Purpose) → last_looks z u m ++ op.Finish (told z) ∷ [] ≡ op.Finish lines ∷ [] → ⊥
+      one : (u : Purpose) → last_looks z u m ++ op.Finish (result_lines z) ∷ [] ≡ op.Finish lines ∷ [] → ⊥
       one (purpose.Takeover k) left = cc
       one _ left = cc
 
-      two : (k : ServerNo) → last_looks z (purpose.Takeover k) m ++ op.Finish (told z) ∷ [] ≡ op.Status n None ∷ op.Finish lines ∷ [] → ⊥
+      two : (k : ServerNo) → last_looks z (purpose.Takeover k) m ++ op.Finish (result_lines z) ∷ [] ≡ op.Status n None ∷ op.Finish lines ∷ [] → ⊥
       two k left = cc
   ends-so z by.Rests ob es n lines c at promoted = cc
   ends-so z e ob es n lines c at promoted = cc

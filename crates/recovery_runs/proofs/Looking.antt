@@ -1,6 +1,5 @@
 -- What the first turn of a recovery answers, and those of the hooks before it.
-use Rattle.std.proofs.Common.{All, Bool, List, None, Option, Some, [], ap, cond, false, refl, subst, suc, sym, take, true, zero, ℕ, ◌+◌, ◌==◌, ◌∙◌, ◌∷◌, ◌≡◌}
-use Rattle.std.specs.Prelude.{if◌then◌else◌, slice_get}
+use Rattle.std.proofs.Common.{All, Bool, List, None, Option, Some, [], ap, cond, false, refl, subst, suc, sym, take, true, zero, ℕ, ◌+◌, ◌==◌, ◌∙◌, ◌∷◌, ◌≡◌, if◌then◌else◌, slice_get}
 use Rattle.recovery_runs.proofs.Prelude.{AnswersHook, BookState, Cause, Docket, Hook, Hooked, HookState, HostPort, IsAtCheck, IsFresh, IsTended}
 use Rattle.recovery_runs.proofs.Prelude.{JobStep, Line, LooksFirst, MeetsMaster, Moment, Observation, Op, Passes, Purpose, Recovery, ServerNo, Stage}
 use Rattle.recovery_runs.proofs.Prelude.{State, Status, Taken, Unended, World, after_look, attempted, barred_by, by_queue, checked, decided, due_at}

@@ -1,6 +1,5 @@
 -- Through runs: the first turn of a recovery is its look at the failed server.
-use Rattle.std.proofs.Common.{All, Bool, List, None, Option, Some, [], ap, append_assoc, arith, cond, false, get_or, inl, inr, length, refl, subst, sym, take, true, ℕ, ◌++◌, ◌+◌, ◌<◌, ◌==◌, ◌∙◌, ◌∷◌, ◌≡◌, ◌⊎◌}
-use Rattle.std.specs.Prelude.{Contains, slice_get}
+use Rattle.std.proofs.Common.{All, Bool, List, None, Option, Some, [], ap, append_assoc, arith, cond, false, get_or, inl, inr, length, refl, subst, sym, take, true, ℕ, ◌++◌, ◌+◌, ◌<◌, ◌==◌, ◌∙◌, ◌∷◌, ◌≡◌, ◌⊎◌, Contains, slice_get}
 use Rattle.recovery_runs.proofs.Prelude.{Act, All-cons, All-contains, All-contains_itself, All-find, All-head, All-nil, All-tail, All-weaker}
 use Rattle.recovery_runs.proofs.Prelude.{AreHooksOf, Befell, Began, BeginsOnce, BookState, Cause, ComesTo, Docket, FailsTruly, Failure}
 use Rattle.recovery_runs.proofs.Prelude.{FirstFoundAway, HasHooks, HookState, IsEndedByHook, IsFailing, IsFresh, IsOfDead, IsOfDocket, IsReady}
@@ -28,10 +27,8 @@ use Rattle.recovery_runs.proofs.Failing.{fail-comes}
 use Rattle.recovery_runs.proofs.Joining.{joined, outcome-joins}
 use Rattle.recovery_runs.proofs.Looking.{all-passed, answers-hook, check-away, check-reached, looks-first, meets-master, own-fails, own-recovery}
 use Rattle.recovery_runs.proofs.Looking.{then-checked}
-use Rattle.recovery_runs.proofs.Origins.{began-here, get-last, get-longer, goes-on, longer, take-all, take-longer}
-use Rattle.recovery_runs.proofs.Tending.{Tends, opened, tends-comes, tends-step}
-use Rattle.recovery_runs.proofs.Origins.{Step}
-use Rattle.recovery_runs.proofs.Tending.{begun}
+use Rattle.recovery_runs.proofs.Origins.{Step, began-here, get-last, get-longer, goes-on, longer, take-all, take-longer}
+use Rattle.recovery_runs.proofs.Tending.{Tends, begun, opened, tends-comes, tends-step}
 
 length-push : (xs : List Step) (x : Step) → length (xs ++ x ∷ []) ≡ length xs + 1
 length-push [] x = refl
@@ -362,12 +359,10 @@ module _ (from : State) where
       done-looked (Some a) does alike = act-looked a does alike
 
     pub looked-step : (t : Turn) → IsTurn count t → All (HasLooked (xs ++ (rows, t) ∷ [])) (turn_step rows s t).jobs
-    looked-step (turn.Step x) is = all-stay (turn.Step x) (λ n same. cc)
-    looked-step (turn.Tick seconds) is = all-stay (turn.Tick seconds) (λ n same. cc)
     looked-step (turn.Act a) is = act-looked (turn.Act a) is a refl refl
     looked-step (turn.As node a) is = done-looked (turn.As node a) is (act_in s (turn.As node a)) refl refl
     looked-step (turn.Claim node) is = done-looked (turn.Claim node) is (act_in s (turn.Claim node)) refl refl
-    looked-step (turn.Release node) is = all-stay (turn.Release node) (λ n same. cc)
+    looked-step t is = all-stay t (λ n same. cc)
 
 -- ---- in each state of each run
 

@@ -1,6 +1,5 @@
 -- Each unended recovery began in a turn of its run.
-use Rattle.std.proofs.Common.{◌≡◌, ◌∙◌, ℕ, List, [], ◌∷◌, ◌++◌, length, refl, sym, ap, subst, take, Some, ◌⊎◌, inl, inr, zero, suc}
-use Rattle.std.specs.Prelude.{All, Contains, slice_get}
+use Rattle.std.proofs.Common.{◌≡◌, ◌∙◌, ℕ, List, [], ◌∷◌, ◌++◌, length, refl, sym, ap, subst, take, Some, ◌⊎◌, inl, inr, zero, suc, All, Contains, slice_get}
 use Rattle.recovery_runs.proofs.Prelude.{All-contains, All-weaker, Began, BeganIn, BeginsOnce, ComesOf, Contains-append_cases, Docket, HasHooks}
 use Rattle.recovery_runs.proofs.Prelude.{IsOfDocket, IsTurn, Purpose, Ready, Recovery, Row, SameAim, ServerNo, State, Turn, Unended, engine}
 use Rattle.recovery_runs.proofs.Prelude.{jobs_begun, replicas_of, run_turns, same-aim, step, then-aim}

@@ -1,13 +1,9 @@
 -- The hooks of recoveries are the scenario's.
-use Rattle.std.proofs.Common.{◌≡◌, ◌∙◌, ℕ, List, [], ◌∷◌, refl, sym, ap, take, Option, Some, None}
+use Rattle.std.proofs.Common.{◌≡◌, ◌∙◌, ℕ, List, sym, ap, take, Option, Some, None}
 use Rattle.recovery_runs.proofs.Prelude.{AreHooksOf, AreScenarios, Began, Configuration, Docket, HasHooks, Hooks, HookState, Purpose, Recovery, Row}
-use Rattle.recovery_runs.proofs.Prelude.{Scenario, State, Turn, Values, alias_of, configuration_of, engine, label_at, none-some, plan_of, run_turns}
-use Rattle.recovery_runs.proofs.Prelude.{same_Some, start, step, told_of, turn-configured}
+use Rattle.recovery_runs.proofs.Prelude.{Scenario, State, Turn, Values, alias_of, configuration_of, configured, engine, label_at, none-some, plan_of}
+use Rattle.recovery_runs.proofs.Prelude.{run_turns, same_Some, start, told_of}
 use Rattle.recovery_runs.proofs.Prelude.purpose
-
-configured : (s : State) (xs : List (List Row × Turn)) → (run_turns engine s xs).configuration ≡ s.configuration
-configured s [] = refl
-configured s (x ∷ xs) = configured (step x.0 s x.1) xs ∙ turn-configured x.0 s x.1
 
 module _ (s : Scenario) (wait : ℕ) (rows : List Row) (xs : List (List Row × Turn)) (r : Recovery) (docket : Docket) (began : Began (start s wait rows) xs r docket) (h : HookState) (has : docket.hooks ≡ Some h) where
   abbrev then : State

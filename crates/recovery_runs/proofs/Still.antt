@@ -1,6 +1,5 @@
 -- Until all hooks have run before a recovery that are to, none of its turns has changed a server.
-use Rattle.std.proofs.Common.{◌≡◌, ◌∙◌, ℕ, ◌+◌, true, List, [], ◌∷◌, ◌++◌, length, refl, sym, ap, subst, take, Option, Some, None, ◌⊎◌, inl, inr, arith}
-use Rattle.std.specs.Prelude.{◌==◌, All, Contains, slice_get}
+use Rattle.std.proofs.Common.{◌≡◌, ◌∙◌, ℕ, ◌+◌, true, List, [], ◌∷◌, ◌++◌, length, refl, sym, ap, subst, take, Option, Some, None, ◌⊎◌, inl, inr, arith, ◌==◌, All, Contains, slice_get}
 use Rattle.recovery_runs.proofs.Prelude.{Act, All-contains_itself, All-find, All-nil, All-weaker, Began, Docket, HookState, IsEarly, IsOfDocket}
 use Rattle.recovery_runs.proofs.Prelude.{IsReady, IsStill, IsTurn, Ready, Recovery, Row, SameAim, State, StaysStill, TendedState, Turn, Unended}
 use Rattle.recovery_runs.proofs.Prelude.{act_in, after_act, after_done, all-turned, command_outcome, early-turn, engine, flown-number, hooked}
@@ -162,9 +161,7 @@ module _ (from : State) where
       done-still (Some a) does alike moves = act-still a does alike moves
 
     pub still-step : (t : Turn) → IsTurn count t → All (HasStill (xs ++ (rows, t) ∷ [])) (step rows s t).jobs
-    still-step (turn.Step x) is = all-stay (turn.Step x) (λ n same. cc)
-    still-step (turn.Tick seconds) is = all-stay (turn.Tick seconds) (λ n same. cc)
     still-step (turn.Act a) is = act-still (turn.Act a) is a refl refl refl
     still-step (turn.As node a) is = done-still (turn.As node a) is (act_in s (turn.As node a)) refl refl refl
     still-step (turn.Claim node) is = done-still (turn.Claim node) is (act_in s (turn.Claim node)) refl refl refl
-    still-step (turn.Release node) is = all-stay (turn.Release node) (λ n same. cc)
+    still-step t is = all-stay t (λ n same. cc)

@@ -5,8 +5,7 @@ use Rattle.recovery_runs.proofs.Prelude.{eq-eqb, eqb-true, filtered-all, filtere
 use Rattle.recovery_runs.proofs.Prelude.{leader-told, none-some, ordered-once, owed, replicas_of, same-no as same-server, times, told_by}
 use Rattle.recovery_runs.proofs.Prelude.RecoveryPlans.{Outcome}
 use Rattle.recovery_runs.proofs.Prelude.purpose
-use Rattle.std.proofs.Common.{◌≡◌, ◌∙◌, ℕ, ◌+◌, ◌<◌, Bool, true, false, cond, not, ◌&&◌, ◌||◌, List, [], ◌∷◌, length, refl, sym, ap, subst, Option, Some, ◌⊎◌, inl, inr, arith}
-use Rattle.std.specs.Prelude.{◌==◌, Contains}
+use Rattle.std.proofs.Common.{◌≡◌, ◌∙◌, ℕ, ◌+◌, ◌<◌, Bool, true, false, cond, not, ◌&&◌, ◌||◌, List, [], ◌∷◌, length, refl, sym, ap, subst, Option, Some, ◌⊎◌, inl, inr, arith, ◌==◌, Contains}
 
 -- who is in a list at all is one of it
 pub counted : (ks : List ServerNo) (n : ServerNo) → 0 < times n.0 ks → Contains ks n

@@ -1,6 +1,5 @@
 -- Each turn leaves the hooks of recoveries tended.
-use Rattle.std.proofs.Common.{◌≡◌, ◌∙◌, ℕ, true, List, refl, sym, ap, subst, Option, Some, None}
-use Rattle.std.specs.Prelude.{◌==◌, All}
+use Rattle.std.proofs.Common.{◌≡◌, ◌∙◌, ℕ, true, List, refl, sym, ap, subst, Option, Some, None, ◌==◌, All}
 use Rattle.recovery_runs.proofs.Prelude.{All-find, All-nil, AreHooksOf, BeginsOnce, HasHooks, HookState, IsOfDead, IsTended, IsTendedBeside, IsTurn}
 use Rattle.recovery_runs.proofs.Prelude.{Purpose, Ready, Recovery, Row, Scenario, State, TendedState, Turn, Unended, acts-fit, all-turned}
 use Rattle.recovery_runs.proofs.Prelude.{begun-tended, begun_hooks, begun_recovery, hooked, is_going, job_at, jobs_turned, label_at, moment_at}

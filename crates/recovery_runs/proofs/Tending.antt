@@ -1,5 +1,5 @@
 -- What holds of the recoveries in each state of each run.
-use Rattle.std.proofs.Common.{◌≡◌, ◌∙◌, ℕ, ◌<◌, Bool, true, List, [], ◌∷◌, ◌++◌, length, append_assoc, refl, sym, ap, subst, Some}
+use Rattle.std.proofs.Common.{◌≡◌, ◌∙◌, ℕ, ◌<◌, Bool, true, List, [], ◌∷◌, ◌++◌, length, append_assoc, refl, sym, ap, subst, Some, ◌-◌, ◌^◌, ◌==◌, All, slice_get, take}
 use Rattle.recovery_runs.proofs.Prelude.{All-find, All-head, All-nil, All-tail, AreScenarios, Began, BooksAtLast, ComesTo, LoadGiven, LoadsGiven, CoveredState, Docket, ExplainedState}
 use Rattle.recovery_runs.proofs.Prelude.{ExplainsAlong, ExplainsTurn, Fact, FinishesWell, Goes, Goes-start, Goes-step, HasFacts, HookState, IsEarly}
 use Rattle.recovery_runs.proofs.Prelude.{IsExplained, IsFinish, IsQuiet, IsToldOf, IsTurn, KeptState, Line, Recovery, Row, Scenario, ServerNo}
@@ -10,7 +10,6 @@ use Rattle.recovery_runs.proofs.Prelude.act
 use Rattle.recovery_runs.proofs.Prelude.exchanges
 use Rattle.recovery_runs.proofs.Prelude.turn
 use Rattle.recovery_runs.proofs.Prelude.unended
-use Rattle.std.specs.Prelude.{◌-◌, ◌^◌, ◌==◌, All, slice_get, take}
 use Rattle.recovery_runs.proofs.Entries.{audit-ends}
 use Rattle.recovery_runs.proofs.Tellings.{told-then}
 use Rattle.recovery_runs.proofs.Finishing.{keeps-histories, keeps-up, lost-fit, owes-nothing, reply-told, taken-done}

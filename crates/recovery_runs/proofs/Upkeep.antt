@@ -1,6 +1,5 @@
 -- Each turn leaves recoveries up.
-use Rattle.std.proofs.Common.{◌≡◌, ◌∙◌, ℕ, Bool, true, List, refl, sym, subst, Option, Some, None}
-use Rattle.std.specs.Prelude.{IfSome}
+use Rattle.std.proofs.Common.{◌≡◌, ◌∙◌, ℕ, Bool, true, List, refl, sym, subst, Option, Some, None, IfSome}
 use Rattle.recovery_runs.proofs.Prelude.{Act, BeginsOnce, CoveredState, Docket, ExplainsAct, ExplainsDone, ExplainsTruly, ExplainsTurn, Fact, Flight}
 use Rattle.recovery_runs.proofs.Prelude.{HeldState, IsAct, IsTurn, IsUpBeside, Ready, Recovery, Row, Scenario, SpeakingState, State, Turn, Unended}
 use Rattle.recovery_runs.proofs.Prelude.{UpJobs, UpState, World, act-fits, act_in, after_act, after_done, exchange-ups, exchange_of, flight_of, flown}
@@ -40,11 +39,10 @@ module _ (P : Fact → Bool) (id : ℕ) where
 
     pub step-up : (t : Turn) → IsTurn count t → ExplainsTurn P id s t → UpState P id (step rows s t)
     step-up (turn.Step x) is explains = exchange-ups P id (flight_of s) s.jobs (exchange_of x) (step-outside x) up
-    step-up (turn.Tick seconds) is explains = record { jobs = up.jobs }
     step-up (turn.Act a) is explains = act-up a is explains
     step-up (turn.As node a) is explains = record { jobs = (done-up (act_in s (turn.As node a)) (act-fits count s (turn.As node a) is) explains).jobs }
     step-up (turn.Claim node) is explains = record { jobs = (done-up (act_in s (turn.Claim node)) (act-fits count s (turn.Claim node) is) explains).jobs }
-    step-up (turn.Release node) is explains = record { jobs = up.jobs }
+    step-up _ is explains = record { jobs = up.jobs }
 
   pub start-up : (s : Scenario) (wait : ℕ) (rows : List Row) → UpState P id (start s wait rows)
   start-up s wait rows = none-ups P id (flight_of (start s wait rows))

@@ -5,7 +5,6 @@ use Rattle.recovery_runs.specs.Prelude.{ServerNo, State, Turn, Unended, act_in, 
 use Rattle.recovery_runs.specs.Prelude.{label_at, owed, replicas_of, scan_outcome, times, told_of, updated}
 use Rattle.recovery_runs.specs.Prelude.act
 use Rattle.recovery_runs.specs.Prelude.purpose
-use Rattle.recovery_runs.specs.Prelude.turn
 use Rattle.recovery_runs.specs.Prelude.unended
 
 -- those of what a command or a scan answers: the jobs that it leaves if there are none before it
@@ -26,12 +25,7 @@ jobs_done s None = []
 jobs_done s (Some a) = jobs_in_act s a
 
 abbrev pub jobs_begun : State → Turn → List Unended
-jobs_begun s (turn.Step x) = []
-jobs_begun s (turn.Tick seconds) = []
-jobs_begun s (turn.Act a) = jobs_in_act s a
-jobs_begun s (turn.As node a) = jobs_done s (act_in s (turn.As node a))
-jobs_begun s (turn.Claim node) = jobs_done s (act_in s (turn.Claim node))
-jobs_begun s (turn.Release node) = []
+jobs_begun s t = jobs_done s (act_in s t)
 
 -- whoever is owed is in the order in which a recovery reports, except for a new source that is named at its start
 abbrev pub TellsAll : Recovery → Type 0

@@ -3,7 +3,6 @@ use Rattle.std.specs.Prelude.{◌≡◌, ℕ, Bool, All, Option, Some, None}
 use Rattle.recovery_runs.specs.Prelude.{Act, Docket, ExplainsTruly, Fact, IsExplained, Recovery, State, Turn, Unended, act_in, job_at, moment_at}
 use Rattle.recovery_runs.specs.Prelude.{number_of}
 use Rattle.recovery_runs.specs.Prelude.act
-use Rattle.recovery_runs.specs.Prelude.turn
 use Rattle.recovery_runs.specs.Prelude.unended
 
 -- what a recovery came to so far has facts that count
@@ -30,9 +29,4 @@ ExplainsDone P id s None = Unit {0}
 ExplainsDone P id s (Some a) = ExplainsAct P id s a
 
 abbrev pub ExplainsTurn : (Fact → Bool) → ℕ → State → Turn → Type 0
-ExplainsTurn P id s (turn.Step x) = Unit {0}
-ExplainsTurn P id s (turn.Tick seconds) = Unit {0}
-ExplainsTurn P id s (turn.Act a) = ExplainsAct P id s a
-ExplainsTurn P id s (turn.As node a) = ExplainsDone P id s (act_in s (turn.As node a))
-ExplainsTurn P id s (turn.Claim node) = ExplainsDone P id s (act_in s (turn.Claim node))
-ExplainsTurn P id s (turn.Release node) = Unit {0}
+ExplainsTurn P id s t = ExplainsDone P id s (act_in s t)

@@ -18,19 +18,14 @@ pub use Rattle.run_laws.specs.Commands as Commands
 pub use Rattle.run_laws.specs.InstanceKeeper as InstanceKeeper
 pub use Rattle.run_laws.specs.KeptRows as KeptRows
 pub use Rattle.run_laws.specs.Knowledge as Knowledge
-pub use Rattle.run_laws.specs.NameOrder as NameOrder
 pub use Rattle.run_laws.specs.NodeClaims as NodeClaims
 pub use Rattle.run_laws.specs.OpeningBook as OpeningBook
 pub use Rattle.run_laws.specs.OrchBase as OrchBase
 pub use Rattle.run_laws.specs.OrchCore as OrchCore
 pub use Rattle.run_laws.specs.RecoveryCore as RecoveryCore
-pub use Rattle.run_laws.specs.RecoveryHooks as RecoveryHooks
-pub use Rattle.run_laws.specs.RecoveryPlans as RecoveryPlans
-pub mod RecoveryReasons
 pub mod RunLaws
 pub use Rattle.run_laws.specs.Scenarios as Scenarios
 pub use Rattle.run_laws.specs.ServerModel as ServerModel
 pub use Rattle.run_laws.specs.Turns as Turns
 pub use Rattle.run_laws.specs.UnendedJobs as UnendedJobs
-pub use Rattle.run_laws.specs.UnendedLaws as UnendedLaws
 pub use Rattle.run_laws.specs.WorldOpenings as WorldOpenings

@@ -1,4 +1,4 @@
-mod Prelude
+pub mod Prelude
 pub mod Chosen
 pub mod Decisions
 pub mod Lists

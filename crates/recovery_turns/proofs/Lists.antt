@@ -1,6 +1,5 @@
 -- Lists of what a function gives of each of a list.
-use Rattle.std.proofs.Common.{◌≡◌, ℕ, ◌+◌, ◌<◌, Bool, true, false, cond, List, [], ◌∷◌, ◌++◌, take, length, get_or, map, refl, sym, ◌∙◌, ap, Option, Some, None}
-use Rattle.std.specs.Prelude.{filter, filter_map}
+use Rattle.std.proofs.Common.{◌≡◌, ℕ, ◌+◌, ◌<◌, Bool, true, false, cond, List, [], ◌∷◌, ◌++◌, take, length, get_or, map, refl, sym, ◌∙◌, ap, Option, Some, None, filter, filter_map}
 use Rattle.recovery_turns.proofs.Prelude.{append_assoc, filter_map-append, filter_more, map-append, option_to_list, take_more}
 
 cons-list : {Y : Type 0} (o : Option Y) → Rattle.std.specs.List.cons_option o [] ≡ option_to_list o

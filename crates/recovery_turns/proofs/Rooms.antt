@@ -1,6 +1,5 @@
 -- How long the lists of a recovery are after single changes.
-use Rattle.std.proofs.Common.{◌≡◌, ◌+◌, ◌-◌, ◌<◌, ◌≤◌, Bool, true, false, cond, List, [], ◌∷◌, ◌++◌, drop, length, length-append, length-drop, Option, Some, None, refl, arith}
-use Rattle.std.specs.Prelude.{filter}
+use Rattle.std.proofs.Common.{◌≡◌, ◌+◌, ◌-◌, ◌<◌, ◌≤◌, Bool, true, false, cond, List, [], ◌∷◌, ◌++◌, drop, length, length-append, length-drop, Option, Some, None, refl, arith, filter}
 use Rattle.recovery_turns.proofs.Prelude.{Act, Decided, Fits, IsRoomy, Job, Position, Recovery, ServerNo, Sight, Work, decided_on, follows_no_more}
 use Rattle.recovery_turns.proofs.Prelude.{job_after, leaver, moved, option_to_list, others, room_for, seen_after, settled_on, sights_of, stepped_by}
 use Rattle.recovery_turns.proofs.Prelude.{with_seen, without_follower, working_on}

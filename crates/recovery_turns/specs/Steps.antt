@@ -1,6 +1,6 @@
 -- A turn after which a recovery goes on, by whether its operation ended the stage.
 use Rattle.std.specs.Prelude.{◌≡◌, Bool, true, false, Option, Some, None}
-use Rattle.recovery_turns.specs.Prelude.{Job, Recovery, at_end, entered, is_waiting, moved, told}
+use Rattle.recovery_turns.specs.Prelude.{Job, Recovery, at_end, entered, is_waiting, moved, result_lines}
 use Rattle.recovery_turns.specs.declared.progress.LastLines.{LastLines}
 
 abbrev pub stepped_by : Recovery → Bool → Recovery
@@ -18,4 +18,4 @@ followed r ending j = progressed_by (record r { core = j }) ending (is_waiting j
 -- the lines are those that a recovery reports
 abbrev pub IsTold : Recovery → Option LastLines → Type 0
 IsTold r None = ⊥
-IsTold r (Some l) = (l.stage ≡ told r) × (l.told ≡ told r)
+IsTold r (Some l) = (l.stage ≡ result_lines r) × (l.told ≡ result_lines r)

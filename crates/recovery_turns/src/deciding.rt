@@ -225,7 +225,7 @@ impl Decided {
             ≡ closing (decided_on of.now self.old) ops.items) }
         ensures busy { OnOk result (IsBusy self.new.work) }
     {
-        let lines = self.told(alloc, of)?;
+        let lines = self.result_lines(alloc, of)?;
         ops.push(Op::Finish(lines.copy_each(alloc)?))?;
         self.begin(of, Stage::Close(lines), ops);
         Ok(())

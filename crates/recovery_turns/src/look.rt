@@ -211,7 +211,7 @@ impl Decided {
     {
         let Info { next, .. } = info_of(self.stage(of));
         if let Stage::Opened(_) = next {
-            let stage = self.told(alloc, of)?;
+            let stage = self.result_lines(alloc, of)?;
             let told = stage.copy_each(alloc)?;
             return Ok(Some(LastLines { stage, told }));
         }

@@ -1,7 +1,7 @@
 //! What a recovery reports when it is done.
 
 ghost use Rattle.std.specs.Prelude.{◌≡◌, ◌++◌, IfOk, OnOk, filter_map};
-ghost use Rattle.recovery_turns.specs.Prelude.{cause_of, follower_line, lost_line, option_to_list, replica_line, told, told_why};
+ghost use Rattle.recovery_turns.specs.Prelude.{cause_of, follower_line, lost_line, option_to_list, replica_line, result_lines, told_why};
 ghost use Rattle.recovery_turns.specs.Deciding.{decided_on};
 ghost use Rattle.recovery_turns.specs.Lines.{source_line};
 
@@ -135,8 +135,8 @@ impl Decided {
     }
 
     // The new source, then the others in name order.
-    pub(crate) fn told(&self, alloc: Global, of: &RecoveryJob) -> Result<Lines, Memory>
-        ensures { IfOk result (λ lines. lines ≡ told (decided_on of.now self.now)) }
+    pub(crate) fn result_lines(&self, alloc: Global, of: &RecoveryJob) -> Result<Lines, Memory>
+        ensures { IfOk result (λ lines. lines ≡ result_lines (decided_on of.now self.now)) }
     {
         let mut lines = Vec::new(alloc);
         if let Some(no) = self.promoted {

@@ -1,6 +1,5 @@
 -- Ways up, a step at a time, and what holds of all ways holds of what a path passes.
-use Rattle.std.proofs.Common.{◌≡◌, ℕ, ◌+◌, Bool, true, false, List, [], ◌∷◌, ◌++◌, refl, sym, ◌∙◌, ap, append_assoc, Option, Some, None, arith, zero, suc}
-use Rattle.std.specs.Prelude.{◌==◌, option_map, if◌then◌else◌}
+use Rattle.std.proofs.Common.{◌≡◌, ℕ, ◌+◌, Bool, true, false, List, [], ◌∷◌, ◌++◌, refl, sym, ◌∙◌, ap, append_assoc, Option, Some, None, arith, zero, suc, ◌==◌, option_map, if◌then◌else◌}
 use Rattle.regroup.proofs.Prelude.{BookState, Path, ServerNo, attached_of, eq-eqb, eqb-true, option_or, passed_in, path_beside, path_by, path_of}
 use Rattle.regroup.proofs.Prelude.{path_to, way_in, way_on, way_up}
 

@@ -1,10 +1,7 @@
 -- The commands that take servers below another one by whatever path, or set a server's replicas in order.
 use Rattle.std.specs.Prelude.{Option, Some, None}
-use Rattle.permission.specs.Commands.declared.name.CommandName.{CommandName}
-use Rattle.permission.specs.Commands.declared.kinds.PathCommand.{PathCommand}
-use Rattle.permission.specs.Commands.declared.route.Planner.{Planner}
-use Rattle.permission.specs.Commands.declared.route.Planner.TheVariants as planner
-use Rattle.permission.specs.Commands.Routes.{planner_of, route_of}
+use Rattle.regroup.specs.Prelude.{CommandName, PathCommand, Planner, planner_of, route_of}
+use Rattle.regroup.specs.Prelude.planner
 
 abbrev pub regroup_by : Option Planner → Option PathCommand
 regroup_by None = None

@@ -1,24 +1,10 @@
 -- What refuses these commands: the rows of the permission table, and what their checks are about.
 use Rattle.std.specs.Prelude.{Bool, true, false, not, is_some, List, [], ◌∷◌, ◌++◌, Option, None}
-use Rattle.std.specs.List.{flat_map}
-use Rattle.std.specs.Option.{option_or, option_to_list}
-use Rattle.permission.specs.OrchBase.declared.server.Moment.{Moment}
-use Rattle.permission.specs.OrchBase.declared.server.ServerNo.{ServerNo}
-use Rattle.permission.specs.Commands.declared.refusal.Refusal.{Refusal}
-use Rattle.permission.specs.Commands.declared.refusal.Refusal.TheVariants.{NoPath}
-use Rattle.permission.specs.Commands.declared.turn.Command.{Command}
-use Rattle.permission.specs.InstanceKeeper.Book.{BookState}
-use Rattle.permission.specs.BookViews.Sources.{replicas_of}
-use Rattle.permission.specs.Candidates.{without_candidate}
-use Rattle.permission.specs.ServerModel.Worlds.{World}
-use Rattle.permission.specs.Checks.{Case, first_refusal}
-use Rattle.permission.specs.Lists.{first_about, only_if}
-use Rattle.permission.specs.Replicas.{replicas_but}
-use Rattle.permission.specs.Rows.{about, going_by, moving, refused}
-use Rattle.permission.specs.declared.case.Check.{Check}
-use Rattle.permission.specs.declared.case.Check.TheVariants.{SameInstance, Busy, Unreachable, NoSource, AlreadyDetached, OtherCluster, Below, DestNotLogging, SameServerId, VersionLower, GtidOff, Errant, PurgedPlace, PurgedSet}
-use Rattle.permission.specs.Commands.declared.kinds.PathCommand.{PathCommand}
-use Rattle.permission.specs.Commands.declared.kinds.PathCommand.TheVariants as command
+use Rattle.regroup.specs.Prelude.{AlreadyDetached, Below, BookState, Busy, Case, Check, Command, DestNotLogging, Errant, GtidOff, Moment, NoPath}
+use Rattle.regroup.specs.Prelude.{NoSource, OtherCluster, PathCommand, PurgedPlace, PurgedSet, Refusal, SameInstance, SameServerId, ServerNo}
+use Rattle.regroup.specs.Prelude.{Unreachable, VersionLower, World, about, first_about, first_refusal, flat_map, going_by, moving, only_if, option_or}
+use Rattle.regroup.specs.Prelude.{option_to_list, refused, replicas_but, replicas_of, without_candidate}
+use Rattle.regroup.specs.Prelude.command
 use Rattle.regroup.specs.Commands.{regroup_command}
 use Rattle.regroup.specs.Ways.{crossed_in, passed_in, path_to}
 
@@ -36,6 +22,12 @@ abbrev pub row_of : Bool → PathCommand → List Check
 row_of gtid command.Relocate = relocate_row gtid
 row_of gtid command.RelocateReplicas = replicas_row gtid
 row_of gtid command.RegroupReplicas = Busy ∷ []
+
+-- after the one that its instances are known, its first check is that no job has its instance's lease
+abbrev pub is_held_first : PathCommand → Bool
+is_held_first command.Relocate = false
+is_held_first command.RelocateReplicas = false
+is_held_first command.RegroupReplicas = true
 
 -- the row after a command's own check
 abbrev pub places_row : Bool → List Check

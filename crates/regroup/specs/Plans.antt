@@ -1,17 +1,8 @@
 -- The plans of these commands.
 use Rattle.std.specs.Prelude.{Bool, true, false, List, [], ◌∷◌, ◌++◌, Option, Some, None}
-use Rattle.std.specs.List.{flat_map}
-use Rattle.permission.specs.OrchBase.declared.server.ServerNo.{ServerNo}
-use Rattle.permission.specs.Commands.declared.turn.Command.{Command}
-use Rattle.permission.specs.InstanceKeeper.Book.{BookState}
-use Rattle.permission.specs.Operations.declared.op.Op.{Op}
-use Rattle.permission.specs.Operations.Plans.{again, finished, under, up}
-use Rattle.plan_parts.specs.Parts.{autos, following}
-use Rattle.permission.specs.Replicas.{replicas_but}
-use Rattle.permission.specs.Rows.{about}
-use Rattle.permission.specs.ServerModel.Worlds.{World}
-use Rattle.permission.specs.Commands.declared.kinds.PathCommand.{PathCommand}
-use Rattle.permission.specs.Commands.declared.kinds.PathCommand.TheVariants as command
+use Rattle.regroup.specs.Prelude.{BookState, Command, Op, PathCommand, ServerNo, World, about, again, autos, finished, flat_map, following}
+use Rattle.regroup.specs.Prelude.{replicas_but, under, up}
+use Rattle.regroup.specs.Prelude.command
 use Rattle.regroup.specs.Commands.{regroup_command}
 use Rattle.regroup.specs.Ways.{Path, path_of}
 

@@ -1,11 +1,6 @@
 -- Ways up the book's forest, and the path of a server to another one by coordinates.
 use Rattle.std.specs.Prelude.{ℕ, ◌==◌, nat_lt, List, [], ◌∷◌, length, Option, Some, None, option_map, if◌then◌else◌, zero, suc}
-use Rattle.std.specs.Option.{option_or}
-use Rattle.permission.specs.OrchBase.declared.server.ServerNo.{ServerNo}
-use Rattle.permission.specs.InstanceKeeper.Book.{BookState}
-use Rattle.permission.specs.BookViews.Forests.{parent_of}
-use Rattle.permission.specs.Checks.{is_given}
-use Rattle.permission.specs.Views.{attached_of, source_of}
+use Rattle.regroup.specs.Prelude.{BookState, ServerNo, attached_of, is_given, option_or, parent_of, source_of}
 
 -- a server's parent in the book's forest; none of a number that no server has
 abbrev pub parent_at : BookState → ServerNo → Option ServerNo

@@ -1,12 +1,9 @@
 //! What refuses the commands.
 
 ghost use Rattle.std.specs.Prelude.{◌≡◌, ◌++◌, IfOk, IsSome};
-ghost use Rattle.std.specs.Option.{option_to_list};
-ghost use Rattle.permission.specs.OrchBase.Gives.{Gives};
-ghost use Rattle.permission.specs.BookViews.Forests.{book_forest};
-ghost use Rattle.permission.specs.Checks.{permit_fault, permitted};
+ghost use Rattle.regroup.specs.Prelude.{Gives, book_forest, option_to_list, permit_fault, permitted};
 ghost use Rattle.regroup.specs.Commands.{regroup_command};
-ghost use Rattle.regroup.specs.Permits.{astray, case_of, crossed_by, last_row_of, movers_of, own_refusal, passed_by, refusal_about, refusal_of, relocating, row_of};
+ghost use Rattle.regroup.specs.Permits.{astray, case_of, crossed_by, is_held_first, last_row_of, movers_of, own_refusal, passed_by, refusal_about, refusal_of, relocating, row_of};
 
 use crate::book_views::replicas;
 use crate::command::regroup_command;
@@ -83,6 +80,16 @@ fn row_of(gtid: bool, command: PathCommand) -> &'static [Check]
         PathCommand::Relocate => { if gtid { &RELOCATE_BY_GTIDS } else { &RELOCATE } }
         PathCommand::RelocateReplicas => { if gtid { &REPLICAS_BY_GTIDS } else { &REPLICAS } }
         PathCommand::RegroupReplicas => &REGROUP,
+    }
+}
+
+/// Whether the first check of a command, after that of known instances, is that no job has its instance's lease.
+pub fn is_held_first(command: PathCommand) -> bool
+    ensures { result ≡ is_held_first command }
+{
+    match command {
+        PathCommand::RegroupReplicas => true,
+        PathCommand::Relocate | PathCommand::RelocateReplicas => false,
     }
 }
 

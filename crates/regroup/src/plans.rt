@@ -1,9 +1,7 @@
 //! The plans of the commands.
 
 ghost use Rattle.std.specs.Prelude.{◌≡◌, IfOk, IsTrue, drop, length, true};
-ghost use Rattle.permission.specs.BookViews.Forests.{book_forest};
-ghost use Rattle.permission.specs.Commands.Turns.{is_within};
-ghost use Rattle.permission.specs.Operations.Named.{are_named};
+ghost use Rattle.regroup.specs.Prelude.{are_named, book_forest, is_within};
 ghost use Rattle.regroup.specs.Commands.{regroup_command};
 ghost use Rattle.regroup.specs.Plans.{ascended, climbed, has_plan, is_planned, moved_by, next_of, ops_of, plan_of, relocated, travelled};
 

@@ -1,7 +1,7 @@
 //! Ways up the book's forest, and the path of a server to another one by coordinates.
 
 ghost use Rattle.std.specs.Prelude.{◌≡◌, ◌++◌, IfOk, length, option_map};
-ghost use Rattle.permission.specs.BookViews.Forests.{book_forest};
+ghost use Rattle.regroup.specs.Prelude.{book_forest};
 ghost use Rattle.regroup.specs.Ways.{crossed_in, parent_at, passed_in, path_beside, path_by, path_of, path_to, way_up};
 
 use crate::Memory;

@@ -1,6 +1,5 @@
 -- Applies: what an applier can be about to do, and what stays.
-use Rattle.std.proofs.Common.{◌≡◌, ℕ, ◌+◌, ◌<◌, ◌≤◌, Bool, true, false, not, cond, [], ◌∷◌, ◌++◌, length, refl, sym, ◌∙◌, ap, subst, inl, inr, Option, Some, None, arith, take, ◌&&◌, length-append}
-use Rattle.std.specs.Prelude.{slice_get, nat_le}
+use Rattle.std.proofs.Common.{◌≡◌, ℕ, ◌+◌, ◌<◌, ◌≤◌, Bool, true, false, not, cond, [], ◌∷◌, ◌++◌, length, refl, sym, ◌∙◌, ap, subst, inl, inr, Option, Some, None, arith, take, ◌&&◌, length-append, slice_get, nat_le}
 use Rattle.replication_laws.proofs.Prelude.{ApplyStep, Attached, AttachedWell, Coord, Detached, GoesOn, Grows, KeepsFrom-took, Laid, Next, Placed}
 use Rattle.replication_laws.proofs.Prelude.{ReachesBy, Safe, Server, SourceState, StandsIn, StepFrom, Txn, Without, World, after_apply, and_parts}
 use Rattle.replication_laws.proofs.Prelude.{applied, apply_answer, apply_from, apply_step, apply_txn, attached_at, count_own, histories, history_of}

@@ -1,6 +1,5 @@
 -- A right bridge stays right, and which reattachments it justifies.
-use Rattle.std.proofs.Common.{◌≡◌, ℕ, ◌≤◌, Bool, true, false, cond, List, ◌++◌, length, take, drop, refl, sym, ◌∙◌, ap, subst, Option, Some, None, Ok, Err, arith, ◌&&◌}
-use Rattle.std.specs.Prelude.{◌==◌}
+use Rattle.std.proofs.Common.{◌≡◌, ℕ, ◌≤◌, Bool, true, false, cond, List, ◌++◌, length, take, drop, refl, sym, ◌∙◌, ap, subst, Option, Some, None, Ok, Err, arith, ◌&&◌, ◌==◌}
 use Rattle.replication_laws.proofs.Prelude.{Attach, Attached, AttachedWell, Bridges, Coord, Detached, GoesOn, Grows, IsJunction, JoinsWell}
 use Rattle.replication_laws.proofs.Prelude.{Laid-Grown, LaysOut, Log, Safe, Server, ServerNo, Settings, SourceState, Stands, Status, Txn, Without}
 use Rattle.replication_laws.proofs.Prelude.{World, and_parts, end_of, eqb-true, length-take, live_spot, own_end_of, place, place-of_end, same_coord}

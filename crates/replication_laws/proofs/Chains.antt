@@ -1,6 +1,5 @@
 -- Chains of sources: their ends, and when one comes to a server.
-use Rattle.std.proofs.Common.{◌≡◌, ℕ, ◌<◌, ◌≤◌, true, false, List, [], ◌∷◌, length, refl, sym, ◌∙◌, ap, subst, inl, inr, Option, Some, None, arith, zero, suc, ◌||◌, eqb}
-use Rattle.std.specs.Prelude.{◌==◌}
+use Rattle.std.proofs.Common.{◌≡◌, ℕ, ◌<◌, ◌≤◌, true, false, List, [], ◌∷◌, length, refl, sym, ◌∙◌, ap, subst, inl, inr, Option, Some, None, arith, zero, suc, ◌||◌, eqb, ◌==◌}
 use Rattle.replication_laws.proofs.Prelude.{AllByRecursion, Grounded, Here, IsDistinct, Placed, Reaches, Root, Server, Under, Up, World, cases_eq}
 use Rattle.replication_laws.proofs.Prelude.{chain_meets, chain_on, eq-eqb, eqb-false, eqb-true, length-le_from_distinct_below, list_any, ne_eqb}
 use Rattle.replication_laws.proofs.Prelude.{not_self, or_cases, or_parts, or_right, same_Some, server_at, slice_get_within, source_of, sources}

@@ -1,6 +1,5 @@
 -- Attachments that join well whatever happened.
-use Rattle.std.proofs.Common.{◌≡◌, true, ℕ, refl, sym, ◌∙◌, ap, Some, ◌&&◌}
-use Rattle.std.specs.Prelude.{◌==◌}
+use Rattle.std.proofs.Common.{◌≡◌, true, ℕ, refl, sym, ◌∙◌, ap, Some, ◌&&◌, ◌==◌}
 use Rattle.replication_laws.proofs.Prelude.{Attach, Attached, Coord, Detached, IsJunction, JoinsWell, Safe, ServerNo, SourceState, Without, World}
 use Rattle.replication_laws.proofs.Prelude.{and_parts, eqb-true, place, same_coord, same_coord-true, same_spot, source_no, spot_below}
 use Rattle.replication_laws.proofs.Prelude.spot

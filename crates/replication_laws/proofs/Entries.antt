@@ -10,8 +10,7 @@ use Rattle.replication_laws.proofs.Prelude.{slice_get-snoc_cases, slice_get-take
 use Rattle.replication_laws.proofs.Prelude.{touches, uuids}
 use Rattle.replication_laws.proofs.Prelude.Places.{Flushed, Opened}
 use Rattle.replication_laws.proofs.Prelude.next
-use Rattle.std.proofs.Common.{◌≡◌, ℕ, ◌+◌, ◌<◌, ◌≤◌, Bool, true, false, not, cond, List, [], ◌∷◌, get_or, length, take, zero, suc, refl, sym, ◌∙◌, ap, subst, inl, inr, Option, Some, None, arith, ◌&&◌, ◌||◌}
-use Rattle.std.specs.Prelude.{Result, Ok, Err, IsSomeAnd, count_by, nat_lt, nat_le, ◌==◌, option_map, slice_get}
+use Rattle.std.proofs.Common.{◌≡◌, ℕ, ◌+◌, ◌<◌, ◌≤◌, Bool, true, false, not, cond, List, [], ◌∷◌, get_or, length, take, zero, suc, refl, sym, ◌∙◌, ap, subst, inl, inr, Option, Some, None, arith, ◌&&◌, ◌||◌, Result, Ok, Err, IsSomeAnd, count_by, nat_lt, nat_le, ◌==◌, option_map, slice_get}
 use Rattle.replication_laws.proofs.Logs.{LaysOut-Grown, LaysOut-length}
 
 -- each transaction begins after the header of its file

@@ -1,6 +1,5 @@
 -- Fetches: the read coordinate of a replica goes on by one step of its source's log.
-use Rattle.std.proofs.Common.{◌≡◌, ℕ, ◌+◌, Bool, true, false, cond, refl, sym, ◌∙◌, ap, subst, inl, Option, Some, None, ◌&&◌}
-use Rattle.std.specs.Prelude.{nat_lt}
+use Rattle.std.proofs.Common.{◌≡◌, ℕ, ◌+◌, Bool, true, false, cond, refl, sym, ◌∙◌, ap, subst, inl, Option, Some, None, ◌&&◌, nat_lt}
 use Rattle.replication_laws.proofs.Prelude.{Attached, Coord, Detached, Laid, Laid-Grown, LaysOut, Next, Server, SourceState, StepFrom, Without, World}
 use Rattle.replication_laws.proofs.Prelude.{after_fetch, attached_at, fetch_from, fetch_kept, fetch_step, is_attached, is_before, next_after}
 use Rattle.replication_laws.proofs.Prelude.{next_after-step, place, same_Some, server_at, source_no, with_server}

@@ -1,6 +1,5 @@
 -- New files: each takes one from the room of its server's log.
-use Rattle.std.proofs.Common.{◌≡◌, ℕ, ◌+◌, ◌≤◌, Bool, true, false, cond, not, List, [], ◌∷◌, ◌++◌, take, refl, sym, ap, subst, inl, inr, Option, Some, None, arith, zero, suc, count_by}
-use Rattle.std.specs.Prelude.{◌==◌, slice_get}
+use Rattle.std.proofs.Common.{◌≡◌, ℕ, ◌+◌, ◌≤◌, Bool, true, false, cond, not, List, [], ◌∷◌, ◌++◌, take, refl, sym, ap, subst, inl, inr, Option, Some, None, arith, zero, suc, count_by, ◌==◌, slice_get}
 use Rattle.replication_laws.proofs.Prelude.{Exchange, HasFiles, Index, Rotate, Server, Txn, World, after, end_of, flush, is_rotate, nat_tests}
 use Rattle.replication_laws.proofs.Prelude.{own_txn, push, rotate_answer, run, same_Some, server_at, sum_by-cons, took, with_server}
 use Rattle.replication_laws.proofs.Prelude.rotating

@@ -1,5 +1,4 @@
-use Rattle.std.proofs.Common.{◌≡◌, ℕ, ◌+◌, ◌<◌, ◌≤◌, Bool, true, false, cond, List, [], ◌∷◌, ◌++◌, length, refl, sym, ◌∙◌, ap, subst, inl, inr, ◌⊎◌, Some, arith, length-append, zero, suc, ◌||◌, take}
-use Rattle.std.specs.Prelude.{slice_get, ◌==◌}
+use Rattle.std.proofs.Common.{◌≡◌, ℕ, ◌+◌, ◌<◌, ◌≤◌, Bool, true, false, cond, List, [], ◌∷◌, ◌++◌, length, refl, sym, ◌∙◌, ap, subst, inl, inr, ◌⊎◌, Some, arith, length-append, zero, suc, ◌||◌, take, slice_get, ◌==◌}
 use Rattle.replication_laws.proofs.Prelude.{IsKin, Txn, cases_eq, count_own, count_own-push, eq-eqb, length-take-le, nat_tests, own_txn, same_txn}
 use Rattle.replication_laws.proofs.Prelude.{slice_get-snoc_cases, slice_get_within, sum_by-take-le, take-append-le, take-append_seam, take-length}
 use Rattle.replication_laws.proofs.Prelude.{take-more}

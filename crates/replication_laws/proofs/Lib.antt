@@ -1,4 +1,4 @@
-mod Prelude
+pub mod Prelude
 pub mod Worlds
 pub use Rattle.server_model.proofs.Changes as Changes
 pub mod Histories

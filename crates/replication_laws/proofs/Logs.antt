@@ -1,5 +1,4 @@
-use Rattle.std.proofs.Common.{◌≡◌, ℕ, ◌<◌, Bool, true, false, cond, List, [], ◌∷◌, ◌++◌, ◌+◌, length, length-append, refl, sym, ◌∙◌, ap, subst, inl, inr, Some, arith}
-use Rattle.std.specs.Prelude.{slice_get}
+use Rattle.std.proofs.Common.{◌≡◌, ℕ, ◌<◌, Bool, true, false, cond, List, [], ◌∷◌, ◌++◌, ◌+◌, length, length-append, refl, sym, ◌∙◌, ap, subst, inl, inr, Some, arith, slice_get}
 use Rattle.replication_laws.proofs.Prelude.{Coord, Flushed, GoesOn, Grown, LaysOut, Log, Opened, Server, Took, Txn, length-push, place, push}
 use Rattle.replication_laws.proofs.Prelude.{slice_get-snoc_cases, stable_push, take-append_seam, took}
 use Rattle.replication_laws.proofs.Prelude.grown

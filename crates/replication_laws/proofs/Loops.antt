@@ -1,6 +1,5 @@
 -- When an attachment answers Loop.
-use Rattle.std.proofs.Common.{◌≡◌, ℕ, Bool, true, false, cond, not, List, [], length, refl, ◌∙◌, ap, Option, Some, None, ◌&&◌, ◌||◌, arith, ◌<◌}
-use Rattle.std.specs.Prelude.{Result, Ok, Err, nat_lt}
+use Rattle.std.proofs.Common.{◌≡◌, ℕ, Bool, true, false, cond, not, List, [], length, refl, ◌∙◌, ap, Option, Some, None, ◌&&◌, ◌||◌, arith, ◌<◌, Result, Ok, Err, nat_lt}
 use Rattle.replication_laws.proofs.Prelude.{AttachFault, Coord, Interval, IsReadyAt, IsReadyAuto, Placed, Reaches, Server, Spot, World}
 use Rattle.replication_laws.proofs.Prelude.{answer_by_sets, attach_answer, attach_auto_answer, auto_purged, chain_meets, errant_set, first_kept}
 use Rattle.replication_laws.proofs.Prelude.{held_of, live_spot, purged_answer, purged_len, same_spot, server_at, slice_get_within, sources}

@@ -1,14 +1,13 @@
 -- What orchestrator asks of a server, what happens to it, a new file of its log, and an attachment: what each keeps.
-use Rattle.std.proofs.Common.{◌≡◌, ℕ, Bool, true, false, cond, not, List, [], ◌∷◌, take, length, refl, sym, ◌∙◌, ap, subst, inl, inr, ◌⊎◌, Option, Some, None, ◌||◌, ◌&&◌, count_by, ◌≤◌, arith}
-use Rattle.std.specs.Prelude.{Result, Ok, Err, nat_lt, nat_le, ◌==◌}
-use Rattle.replication_laws.proofs.Prelude.{Ask, AttachedWell, Coord, Event, Flushed, GoesOn, Interval, IsAutoTarget, IsJunction, IsSource, IsTarget}
-use Rattle.replication_laws.proofs.Prelude.{KeepFiles, KeepsFrom, Laid-Grown, LaysOut, RotateAnswer, Server, ServerNo, Spot, StandsIn, Unreachable}
-use Rattle.replication_laws.proofs.Prelude.{World, after_attach, after_attach_auto, after_change, after_desk, after_rotate, answer_by_sets, asked}
-use Rattle.replication_laws.proofs.Prelude.{attach_answer, attach_auto_answer, attached_to, auto_coord, auto_purged, befallen, chain_meets}
-use Rattle.replication_laws.proofs.Prelude.{coord_after, ends_by, errant_set, file_start, first_kept, held-within, held_len, held_of, is_at_or_before}
-use Rattle.replication_laws.proofs.Prelude.{live_spot, nat_tests, place, place-coord_after, place-from, place-monotone, purged-place, purged_answer}
-use Rattle.replication_laws.proofs.Prelude.{purged_len, rotated, same_Some, same_spot, server_at, set_of, source_no, source_of, sources, spot_below}
-use Rattle.replication_laws.proofs.Prelude.{stable_flush, take-length, uuids, with_server, without_source}
+use Rattle.std.proofs.Common.{◌≡◌, ℕ, Bool, true, false, cond, not, List, [], ◌∷◌, take, length, refl, sym, ◌∙◌, ap, subst, inl, inr, ◌⊎◌, Option, Some, None, ◌||◌, ◌&&◌, count_by, ◌≤◌, arith, Result, Ok, Err, nat_lt, nat_le, ◌==◌}
+use Rattle.replication_laws.proofs.Prelude.{Ask, Asked, AttachedWell, Befallen, Coord, Event, Flushed, GoesOn, Interval, IsAutoTarget, IsJunction}
+use Rattle.replication_laws.proofs.Prelude.{IsSource, IsTarget, KeepFiles, KeepsFrom, Laid-Grown, LaysOut, RotateAnswer, Server, ServerNo, Spot}
+use Rattle.replication_laws.proofs.Prelude.{StandsIn, Unreachable, World, after_attach, after_attach_auto, after_change, after_desk, after_rotate}
+use Rattle.replication_laws.proofs.Prelude.{answer_by_sets, asked, attach_answer, attach_auto_answer, attached_to, auto_coord, auto_purged, befallen}
+use Rattle.replication_laws.proofs.Prelude.{chain_meets, coord_after, does-ask, does-befall, ends_by, errant_set, file_start, first_kept, held-within}
+use Rattle.replication_laws.proofs.Prelude.{held_len, held_of, is_at_or_before, live_spot, nat_tests, place, place-coord_after, place-from}
+use Rattle.replication_laws.proofs.Prelude.{place-monotone, purged-place, purged_answer, purged_len, rotated, same_Some, same_spot, server_at, set_of}
+use Rattle.replication_laws.proofs.Prelude.{source_no, source_of, sources, spot_below, stable_flush, take-length, uuids, with_server, without_source}
 use Rattle.replication_laws.proofs.Prelude.attaching
 use Rattle.replication_laws.proofs.Prelude.rotating
 use Rattle.server_model.proofs.Changes as changes
@@ -16,7 +15,6 @@ use Rattle.replication_laws.proofs.Chains.{Grounded-cut, Grounded-apart, Grounde
 use Rattle.replication_laws.proofs.Keeping.{at_or_before-refl, Same, Still, Still-refl, Standing, Linked, Linked-still, Linked-keeps, Linked-moves}
 use Rattle.replication_laws.proofs.Logs.{LaysOut-Grown, LaysOut-length}
 use Rattle.replication_laws.proofs.Worlds.{at_with_same, at_with_other}
-use Rattle.server_model.proofs.Changes.{Asked, Befallen, does-ask, does-befall}
 
 -- changes that leave the source
 

@@ -1,6 +1,5 @@
 -- Purges: what each keeps, and how far it goes.
-use Rattle.std.proofs.Common.{◌≡◌, ℕ, ◌<◌, ◌≤◌, ◌⊎◌, inl, inr, Bool, true, false, not, cond, refl, sym, ◌∙◌, ap, Option, Some, None, arith, ◌&&◌, subst}
-use Rattle.std.specs.Prelude.{nat_lt}
+use Rattle.std.proofs.Common.{◌≡◌, ℕ, ◌<◌, ◌≤◌, ◌⊎◌, inl, inr, Bool, true, false, not, cond, refl, sym, ◌∙◌, ap, Option, Some, None, arith, ◌&&◌, subst, nat_lt}
 use Rattle.replication_laws.proofs.Prelude.{Attached, AttachedWell, Detached, GoesOn, IsActive, PurgeAnswer, Server, ServerNo, SourceState, StandsIn}
 use Rattle.replication_laws.proofs.Prelude.{Without, World, after_purge, and_parts, eq-eqb, eqb-true, false≢true, files_read, from_file, greater}
 use Rattle.replication_laws.proofs.Prelude.{greater-right, is_attached_to, is_reading, kept_from, kept_from-rises, kept_from-within, least-each}

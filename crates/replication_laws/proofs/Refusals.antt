@@ -1,6 +1,5 @@
 -- What is read and refused of purged files.
-use Rattle.std.proofs.Common.{◌≡◌, ℕ, ◌<◌, ◌≤◌, Bool, true, false, not, cond, List, [], ◌∷◌, length, refl, sym, ◌∙◌, ap, subst, Option, Some, None, arith, ◌&&◌, ◌||◌}
-use Rattle.std.specs.Prelude.{Result, Ok, Err, nat_lt}
+use Rattle.std.proofs.Common.{◌≡◌, ℕ, ◌<◌, ◌≤◌, Bool, true, false, not, cond, List, [], ◌∷◌, length, refl, sym, ◌∙◌, ap, subst, Option, Some, None, arith, ◌&&◌, ◌||◌, Result, Ok, Err, nat_lt}
 use Rattle.replication_laws.proofs.Prelude.{Attached, AttachFault, Coord, Detached, FetchStep, Interval, IsActive, IsAutoTarget, IsReadyAt}
 use Rattle.replication_laws.proofs.Prelude.{IsReadyAuto, IsRefused, Next, Placed, Reaches, Server, ServerNo, SourceState, Spot, Without, World}
 use Rattle.replication_laws.proofs.Prelude.{after_attach, after_attach_auto, after_fetch, answer_by_sets, attach_answer, attach_auto_answer}

@@ -1,6 +1,5 @@
 -- No history of a run without errant writes gets full.
-use Rattle.std.proofs.Common.{◌≡◌, ℕ, ◌+◌, ◌<◌, ◌≤◌, Bool, true, false, cond, not, List, [], ◌∷◌, length, take, refl, sym, ◌∙◌, ap, subst, inl, inr, Option, Some, None, arith, length-append, zero, suc, count_by}
-use Rattle.std.specs.Prelude.{slice_get, nat_le}
+use Rattle.std.proofs.Common.{◌≡◌, ℕ, ◌+◌, ◌<◌, ◌≤◌, Bool, true, false, cond, not, List, [], ◌∷◌, length, take, refl, sym, ◌∙◌, ap, subst, inl, inr, Option, Some, None, arith, length-append, zero, suc, count_by, slice_get, nat_le}
 use Rattle.replication_laws.proofs.Prelude.{AllAllowed, AllFit, AllJoinWell, Apply, ApplyStep, Coord, Exchange, Fitting, IsNotFull, IsQuiet, Safe}
 use Rattle.replication_laws.proofs.Prelude.{Server, Txn, World, Write, after, apply_answer, apply_step, count_own, is_write, nat_tests, own_txn, run}
 use Rattle.replication_laws.proofs.Prelude.{same_Some, server_at, slice_get_within, sum_by-cons, took, with_server, write_answer}

@@ -1,9 +1,9 @@
 -- Exchanges and runs: what keeps `Placed`, what stays `Safe`, and the count of errant writes.
 use Rattle.std.proofs.Common.{ℕ, ◌+◌, ◌≤◌, Bool, true, false, cond, List, [], ◌∷◌, take, refl, Some, arith, zero, suc, ◌≡◌}
-use Rattle.replication_laws.proofs.Prelude.{AllAllowed, AllJoinWell, Allowed, Apply, Ask, Attach, AttachAuto, AttachedWell, Befall, Coord, Event}
-use Rattle.replication_laws.proofs.Prelude.{Exchange, Fetch, Grows, Interval, IsQuiet, JoinsWell, Placed, Purge, Request, Rotate, Safe, Server}
-use Rattle.replication_laws.proofs.Prelude.{ServerNo, Spot, StandsIn, World, Write, after, auto_coord, desk_answer, has_source, rotate_answer, run}
-use Rattle.replication_laws.proofs.Prelude.{server_at, uuids, with_server, write_answer}
+use Rattle.replication_laws.proofs.Prelude.{AllAllowed, AllJoinWell, Allowed, Apply, Ask, Attach, AttachAuto, AttachedWell, Becomes, Befall, Coord}
+use Rattle.replication_laws.proofs.Prelude.{Event, Exchange, Fetch, Grows, Interval, IsQuiet, JoinsWell, Leaves, Placed, Purge, Request, Rotate, Safe}
+use Rattle.replication_laws.proofs.Prelude.{Server, ServerNo, Spot, StandsIn, World, Write, after, auto_coord, desk_answer, has_source, leaves}
+use Rattle.replication_laws.proofs.Prelude.{rotate_answer, run, server_at, uuids, with_server, write_answer}
 use Rattle.server_model.proofs.Changes as changes
 use Rattle.replication_laws.proofs.Keeping.{Standing-well, Standing-placed, Linked-safe, Linked-placed, Placed-linked, Idle, Safe-idle, Grows-refl}
 use Rattle.replication_laws.proofs.Keeping.{Grows-trans, Idle-refl, Idle-same, Idle-with}
@@ -15,7 +15,6 @@ use Rattle.replication_laws.proofs.Moves.{AttachedWell-rotated, StandsIn-attache
 use Rattle.replication_laws.proofs.Moves.{GoesOn-rotated, Same-asked, Same-attached, Same-befallen, Same-joined}
 use Rattle.replication_laws.proofs.Purges.{Linked-purge, StandsIn-purged, AttachedWell-purged, GoesOn-purge}
 use Rattle.replication_laws.proofs.Subsets.{prefix-observed, held-prefix}
-use Rattle.server_model.proofs.Changes.{Becomes, Leaves, leaves}
 
 -- the count of errant writes never falls
 

@@ -1,6 +1,5 @@
 -- What a status shows has places, for good.
-use Rattle.std.proofs.Common.{◌≡◌, ℕ, Bool, true, false, cond, List, [], refl, sym, ◌∙◌, ap, subst, Option, Some, None, Ok, Err, count_by, ◌&&◌}
-use Rattle.std.specs.Prelude.{option_map}
+use Rattle.std.proofs.Common.{◌≡◌, ℕ, Bool, true, false, cond, List, [], refl, sym, ◌∙◌, ap, subst, Option, Some, None, Ok, Err, count_by, ◌&&◌, option_map}
 use Rattle.replication_laws.proofs.Prelude.{AllAllowed, Allowed, Coord, Exchange, Grows, HasExecuted, Interval, IsPosition, IsTarget, Laid-Grown}
 use Rattle.replication_laws.proofs.Prelude.{Placed, Server, Settings, Shows, SourceState, Status, World, after, end_of, ends_by, executed_set}
 use Rattle.replication_laws.proofs.Prelude.{false≢true, has_place, has_place-of_end, holds, is_at_or_before, own_end_of, place-from, place-parts, run}

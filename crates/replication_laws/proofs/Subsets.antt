@@ -1,6 +1,5 @@
 -- Of histories that agree, one whose set is within another's is its prefix.
-use Rattle.std.proofs.Common.{◌≡◌, ℕ, ◌+◌, ◌<◌, ◌≤◌, Bool, true, false, cond, List, [], ◌∷◌, length, refl, sym, ◌∙◌, ap, subst, ◌||◌, Option, Some, None, arith, zero, suc, take, get_or}
-use Rattle.std.specs.Prelude.{slice_get, All}
+use Rattle.std.proofs.Common.{◌≡◌, ℕ, ◌+◌, ◌<◌, ◌≤◌, Bool, true, false, cond, List, [], ◌∷◌, length, refl, sym, ◌∙◌, ap, subst, ◌||◌, Option, Some, None, arith, zero, suc, take, get_or, slice_get, All}
 use Rattle.replication_laws.proofs.Prelude.{Interval, IsKin, IsObserved, Safe, Server, Txn, World, errant_set, false_from_ne_true, has_gtid, held_len}
 use Rattle.replication_laws.proofs.Prelude.{histories, history_of, holds-set_of, length-take, length-take-le, nat_tests, nil_from_length, none-errant}
 use Rattle.replication_laws.proofs.Prelude.{or_right, prefix_len, same_Some, same_txn, server_at, set_of, slice_get-get_or, slice_get-take}

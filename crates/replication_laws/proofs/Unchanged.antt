@@ -1,6 +1,5 @@
 -- If nothing is done nothing changes.
-use Rattle.std.proofs.Common.{◌≡◌, ℕ, true, refl, Option, Some, None}
-use Rattle.std.specs.Prelude.{Result, Ok, Err}
+use Rattle.std.proofs.Common.{◌≡◌, ℕ, true, refl, Option, Some, None, Result, Ok, Err}
 use Rattle.replication_laws.proofs.Prelude.{Apply, ApplyStep, Ask, Attach, AttachAuto, AttachFault, Befall, Coord, Exchange, Fetch, FetchStep, Purge}
 use Rattle.replication_laws.proofs.Prelude.{PurgeAnswer, Request, Rotate, RotateAnswer, Server, ServerNo, Unreachable, World, Write, WriteAnswer}
 use Rattle.replication_laws.proofs.Prelude.{after, after_apply, after_attach, after_attach_auto, after_desk, after_fetch, after_purge, after_rotate}

@@ -1,5 +1,4 @@
-use Rattle.std.proofs.Common.{◌≡◌, ℕ, cond, refl, sym, ◌∙◌, ap, inl, inr, Some}
-use Rattle.std.specs.Prelude.{◌==◌}
+use Rattle.std.proofs.Common.{◌≡◌, ℕ, cond, refl, sym, ◌∙◌, ap, inl, inr, Some, ◌==◌}
 use Rattle.replication_laws.proofs.Prelude.{Server, World, cases_eq, eq-eqb, histories, history_of, ne_eqb, server_at, slice_get-set, source_no}
 use Rattle.replication_laws.proofs.Prelude.{source_of, sources, with_server}
 

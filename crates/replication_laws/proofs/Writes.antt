@@ -1,6 +1,5 @@
 -- Writes: how each server goes on, and what stays safe.
-use Rattle.std.proofs.Common.{◌≡◌, ℕ, ◌+◌, ◌<◌, Bool, true, false, not, cond, List, [], ◌∷◌, ◌++◌, length, refl, sym, ◌∙◌, ap, subst, inl, Option, Some, None, arith}
-use Rattle.std.specs.Prelude.{nat_le}
+use Rattle.std.proofs.Common.{◌≡◌, ℕ, ◌+◌, ◌<◌, Bool, true, false, not, cond, List, [], ◌∷◌, ◌++◌, length, refl, sym, ◌∙◌, ap, subst, inl, Option, Some, None, arith, nat_le}
 use Rattle.replication_laws.proofs.Prelude.{Attached, AttachedWell, Detached, Grows, IsQuiet, KeepsFrom-took, Placed, Safe, Server, SourceState}
 use Rattle.replication_laws.proofs.Prelude.{StandsIn, Txn, Without, World, WriteAnswer, after_write, count_own, has_source, histories, history_of}
 use Rattle.replication_laws.proofs.Prelude.{own_txn, same_txn, server_at, source_no, took, with_server, write_answer}

@@ -1,6 +1,5 @@
 -- Levels, counted from the first and from the last.
-use Rattle.std.proofs.Common.{◌≡◌, ℕ, ◌+◌, List, ◌++◌, zero, suc, refl, ◌∙◌, ap, append_assoc, add-one}
-use Rattle.std.specs.Prelude.{codes}
+use Rattle.std.proofs.Common.{◌≡◌, ℕ, ◌+◌, List, ◌++◌, zero, suc, refl, ◌∙◌, ap, append_assoc, add-one, codes}
 use Rattle.report_text.specs.Told.{levels_text}
 
 -- a level more after the others is one before them

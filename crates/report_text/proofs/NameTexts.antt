@@ -1,6 +1,5 @@
 -- Names beside their printed texts.
-use Rattle.std.proofs.Common.{◌≡◌, ◌∙◌, ℕ, List, [], map, Option, Some, None, refl, sym, ap}
-use Rattle.std.specs.Prelude.{option_map, slice_get}
+use Rattle.std.proofs.Common.{◌≡◌, ◌∙◌, ℕ, List, [], map, Option, Some, None, refl, sym, ap, option_map, slice_get}
 use Rattle.std.proofs.lemmas.Option.{same_Some, slice_get-map}
 use Rattle.server_words.specs.OrchBase.Names.{HostPort, printed, printed_at}
 

@@ -1,6 +1,5 @@
 -- The line of a server, by what the world answers for it.
-use Rattle.std.proofs.Common.{◌≡◌, ℕ, ◌+◌, ◌<◌, List, [], ◌∷◌, ◌++◌, zero, suc, length, map, take, drop, Option, Some, None, refl, sym, ap, ◌∙◌, arith, append_assoc, add-one}
-use Rattle.std.specs.Prelude.{option_map, slice_get, sum_by}
+use Rattle.std.proofs.Common.{◌≡◌, ℕ, ◌+◌, ◌<◌, List, [], ◌∷◌, ◌++◌, zero, suc, length, map, take, drop, Option, Some, None, refl, sym, ap, ◌∙◌, arith, append_assoc, add-one, option_map, slice_get, sum_by}
 use Rattle.std.proofs.lemmas.List.Sums.{sum_by-cons}
 use Rattle.server_words.specs.OrchBase.Names.{HostPort}
 use Rattle.server_words.specs.OrchBase.declared.server.Settings.{Settings}

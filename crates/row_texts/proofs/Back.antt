@@ -4,10 +4,9 @@ pub use Rattle.std.proofs.lemmas.Bool.{and_parts as both}
 use Rattle.std.proofs.Common.{◌≡◌, ℕ, suc, Bool, true, ◌<◌, ◌^◌, List, [], ◌∷◌, ◌++◌, Option, Some, None, Result, Ok, Err, refl, sym, ap, ◌∙◌, subst, arith}
 use Rattle.std.specs.Prelude.{◌&&◌, ⊤, IfSome, codes, nat_eq, nat_le, length, option_map, option_and_then}
 use Rattle.row_texts.proofs.Prelude.{Data, Items, Members, Moment, RowFault, array, as_array, as_bool, as_number, as_object, as_str, as_u64, at}
-use Rattle.row_texts.proofs.Prelude.{boolean, bytes_eq, empty_form, end_at, eqb-true, field_at, float, get_item, item, leb-true}
-use Rattle.row_texts.proofs.Prelude.{maybe_data, member, moment_data, moment_form, named, negative, no_items, no_members, none_of, none_or, null}
-use Rattle.row_texts.proofs.Prelude.{number, object, or_else, or_null, pair_of, same_text, shape_of, small_form, string, two_of, unsigned, up_to}
-use Rattle.row_texts.proofs.Prelude.{whole, whole_form, with_list}
+use Rattle.row_texts.proofs.Prelude.{boolean, bytes_eq, empty_form, end_at, eqb-true, field_at, float, get_item, item, leb-true, maybe_data, member}
+use Rattle.row_texts.proofs.Prelude.{moment_data, moment_form, named, negative, no_items, no_members, none_of, none_or, null, number, object, or_else}
+use Rattle.row_texts.proofs.Prelude.{or_null, pair_of, same_text, shape_of, small_form, string, two_of, unsigned, up_to, whole, whole_form, with_list}
 use Rattle.kept_rows.specs.OrchBase.Gives.{◌>>=◌}
 
 -- ---- what a step that went on was

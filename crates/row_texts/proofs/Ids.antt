@@ -1,17 +1,8 @@
 -- What `parse` answers for an id, and an id's text.
-use Rattle.row_texts.proofs.Prelude.{OkIff, ParsesUnsigned, all_ascii_digits, and_parts as both, bytes_eq, decimal-digits_value, digits_decimal}
+use Rattle.row_texts.proofs.Prelude.{ParsesUnsigned, all_ascii_digits, and_parts as both, by_tests, bytes_eq, decimal-digits_value, digits_decimal}
 use Rattle.row_texts.proofs.Prelude.{digits_value, digits_value-decimal, false≢true, first_decimal, id_printed, is_id, le-leb, leb-true, lt-ltb}
 use Rattle.row_texts.proofs.Prelude.{ltb-true, not_empty, own, parse_plain, result_ok, same_text}
-use Rattle.std.proofs.Common.{◌≡◌, ◌≢◌, ℕ, zero, suc, ◌^◌, ◌<◌, ◌≤◌, Bool, true, false, cond, leb, ltb, List, length, get_or, Some, None, Result, Ok, Err, refl, sym, ap, ◌∙◌, subst, arith}
-use Rattle.std.specs.Prelude.{◌&&◌, ◌||◌, codes, decimal}
-
-by_tests : {E : Type 0} (a b : Bool) (v : ℕ) (r : Result ℕ E) (P : Type 0) → OkIff r P v → (P → (a ≡ true) × (b ≡ true)) → (a ≡ true → b ≡ true → P) → result_ok r ≡ cond (a && b) (Some v) None
-by_tests true true v (Ok x) P h f g = ap (λ (n : ℕ). Some n) h.1
-by_tests true true v (Err e) P h f g = absurd (h (g refl refl))
-by_tests true false v (Ok x) P h f g = absurd (false≢true (f h.0).1)
-by_tests true false v (Err e) P h f g = refl
-by_tests false b v (Ok x) P h f g = absurd (false≢true (f h.0).0)
-by_tests false b v (Err e) P h f g = refl
+use Rattle.std.proofs.Common.{◌≡◌, ◌≢◌, ℕ, zero, suc, ◌^◌, ◌<◌, ◌≤◌, Bool, true, false, cond, leb, ltb, List, length, get_or, Some, None, Result, refl, sym, ap, ◌∙◌, subst, arith, ◌&&◌, ◌||◌, codes, decimal}
 
 -- what an id begins with, and that it isn't empty
 record Begins (bs : List ℕ) : Type 0 where

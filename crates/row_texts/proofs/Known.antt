@@ -1,6 +1,5 @@
 -- Servers that are known, one by one.
-pub use Rattle.kept_rows.proofs.Known.{rest_known}
-pub use Rattle.kept_rows.proofs.Known.{head_known as first_known}
+pub use Rattle.kept_rows.proofs.Known.{head_known as first_known, rest_known}
 use Rattle.row_texts.proofs.Prelude.{Row, and_parts as both, are_known, key_of, key_servers, servers_of, source_servers}
 use Rattle.row_texts.proofs.Prelude.row
 use Rattle.std.proofs.Common.{◌≡◌, ℕ, true, ltb, List, [], ◌∷◌, refl}

@@ -1,6 +1,5 @@
 -- A map's two entries are its first and its last.
-use Rattle.std.proofs.Common.{◌≡◌, ◌≢◌, ◌-◌, List, [], ◌∷◌, length, Some, None, refl}
-use Rattle.std.specs.Prelude.{String, string_bytes}
+use Rattle.std.proofs.Common.{◌≡◌, ◌≢◌, ◌-◌, List, [], ◌∷◌, length, Some, None, refl, String, string_bytes}
 use Rattle.row_texts.proofs.Prelude.{Global, Value, members_view, pair_of, slice_get, view}
 
 pub pair_none : (es : List (String Global × Value)) → length es ≢ 2 → pair_of (members_view es) ≡ None

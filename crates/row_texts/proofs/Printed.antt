@@ -4,8 +4,7 @@ use Rattle.row_texts.proofs.Prelude.{IsAscii-drop, IsAscii-nil, IsInterval, IsNa
 use Rattle.row_texts.proofs.Prelude.{eqb-true, head_text, hyphenated_ascii, is_host_byte, leb-true, list_all, lower, printed as set_text, range_text}
 use Rattle.row_texts.proofs.Prelude.{six_digits, texts, to_be_bytes, uuid_text, w128}
 use Rattle.row_texts.proofs.Prelude.Names.{printed}
-use Rattle.std.proofs.Common.{◌≡◌, ℕ, ◌^◌, ◌<◌, Bool, true, false, cond, leb, eqb, List, [], ◌∷◌, ◌++◌, All, length, Option, Some, None, inl, arith, refl}
-use Rattle.std.specs.Prelude.{◌&&◌, ◌||◌, codes, decimal}
+use Rattle.std.proofs.Common.{◌≡◌, ℕ, ◌^◌, ◌<◌, Bool, true, false, cond, leb, eqb, List, [], ◌∷◌, ◌++◌, All, length, Option, Some, None, inl, arith, refl, ◌&&◌, ◌||◌, codes, decimal}
 
 -- ---- names
 

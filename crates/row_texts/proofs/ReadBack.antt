@@ -5,12 +5,13 @@ use Rattle.row_texts.proofs.Prelude.{CanBeKept, Coord, Data, Ending, HasText, Ho
 use Rattle.row_texts.proofs.Prelude.{Outcome, RecoveryRow, Row, RowFault, ServerNo, Source, SourceState, SourceWord, Table, active_at, are_known}
 use Rattle.row_texts.proofs.Prelude.{as_array, as_bool, as_str, block_at, boolean, bytes_eq, candidate_at, coord_data, coord_form, downtime_at}
 use Rattle.row_texts.proofs.Prelude.{empty_form, end_at, ending_name, ending_of, ending_servers, eqb-false, eqb-true, field_at, first_block}
-use Rattle.row_texts.proofs.Prelude.{first_tail, get_item, instance_at, io_states, io_text, is_end, is_version, key_id, key_name, key_of, key_text, key_word}
+use Rattle.row_texts.proofs.Prelude.{get_item, instance_at, io_states, io_text, is_end, key_id, key_name, key_of, key_text, key_word}
 use Rattle.row_texts.proofs.Prelude.{kind_text, kinds, leb-true, maybe_data, member, moment_data, moment_form, name_form, name_text, no_members}
 use Rattle.row_texts.proofs.Prelude.{object, or_else, or_null, outcome_form, outcome_text, printed as set_text, read_row, recovery_at, row_at}
-use Rattle.row_texts.proofs.Prelude.{row_data, row_in, rule_text, rules, same_text, second_block, second_tail, server_of, set_form, shape_of}
+use Rattle.row_texts.proofs.Prelude.{row_data, row_in, rule_text, rules, same_text, second_block, server_of, set_form, shape_of}
 use Rattle.row_texts.proofs.Prelude.{small_form, source_at, source_name, source_servers, source_text, source_word, source_words, state_of, string}
 use Rattle.row_texts.proofs.Prelude.{switch_at, table_of, tail_at, value_of, version_of, whole, whole_form, word_form, wrapped}
+use Rattle.row_texts.specs.Tables.{first_tail, is_version, second_tail}
 use Rattle.row_texts.proofs.Prelude.Names.{printed}
 use Rattle.row_texts.proofs.Prelude.ending
 use Rattle.row_texts.proofs.Prelude.fault

@@ -1,11 +1,11 @@
 -- Whether intervals are a set, as a test; and which set is printed as a text.
-use Rattle.row_texts.proofs.Prelude.{All-cons, All-head, All-tail, AllPairs-cons, AllPass-from_list_all, GtidFault, HasThose, Interval, IsInterval}
+use Rattle.kept_rows.proofs.GtidSets.Inserts.{set_rest as tail_set}
+use Rattle.row_texts.proofs.Prelude.{All-cons, All-head, AllPairs-cons, AllPass-from_list_all, GtidFault, HasThose, Interval, IsInterval}
 use Rattle.row_texts.proofs.Prelude.{IsSet, and_parts as both, as_set, bytes_eq, eq-eqb, false≢true, high, is_interval, is_set, largest, le-leb}
 use Rattle.row_texts.proofs.Prelude.{leb-true, list_all, list_all-from_AllPass, low, lt-ltb, ltb-true, printed as set_text, same_sets_lem, same_text}
 use Rattle.row_texts.proofs.Prelude.{set_printed, text_at}
 use Rattle.row_texts.proofs.Prelude.RoundTrip.{printed_reads_lem}
-use Rattle.std.proofs.Common.{◌≡◌, ℕ, zero, suc, ◌+◌, ◌<◌, ◌^◌, Bool, true, false, cond, leb, ltb, List, [], ◌∷◌, All, Some, None, Result, Ok, Err, refl, sym, ap, ◌∙◌, arith}
-use Rattle.std.specs.Prelude.{◌&&◌}
+use Rattle.std.proofs.Common.{◌≡◌, ℕ, zero, suc, ◌+◌, ◌<◌, ◌^◌, Bool, true, false, cond, leb, ltb, List, [], ◌∷◌, All, Some, None, Result, Ok, Err, refl, sym, ap, ◌∙◌, arith, ◌&&◌}
 
 interval_told : (s : Interval) → is_interval s ≡ true → IsInterval s
 interval_told s e =
@@ -33,9 +33,6 @@ set_from_is (s ∷ xs) e =
       each = All-cons IsInterval s xs (interval_told s b.0) rest.each;
       apart = AllPairs-cons (λ s t. high s + 1 < low t) s xs (above s xs b.1) rest.apart;
     }
-
-tail_set : (s : Interval) (xs : List Interval) → IsSet (s ∷ xs) → IsSet xs
-tail_set s xs h = record { each = All-tail IsInterval s xs h.each; apart = λ i j d l w. h.apart (suc i) (suc j) d (omega (arith, l)) (omega (arith, w)) }
 
 pub is_from_set : (xs : List Interval) → IsSet xs → is_set xs ≡ true
 is_from_set [] h = refl

@@ -1,6 +1,5 @@
 -- From a word back to its text, and from a number back to its server's name.
-use Rattle.std.proofs.Common.{◌≡◌, ℕ, ◌≤◌, ◌<◌, ◌^◌, arith, Bool, true, false, cond, ltb, List, [], ◌∷◌, ◌++◌, length, get_or, Option, Some, None, Result, Ok, Err, refl, sym, ap, ◌∙◌, subst}
-use Rattle.std.specs.Prelude.{◌&&◌, codes, nat_le, nat_lt, find, position, option_map}
+use Rattle.std.proofs.Common.{◌≡◌, ℕ, ◌≤◌, ◌<◌, ◌^◌, arith, Bool, true, false, cond, ltb, List, [], ◌∷◌, ◌++◌, length, get_or, Option, Some, None, Result, Ok, Err, refl, sym, ap, ◌∙◌, subst, ◌&&◌, codes, nat_le, nat_lt, find, position, option_map}
 use Rattle.row_texts.proofs.Prelude.{CauseName, Coord, Data, GtidFault, HasText, HostPort, Interval, IsSet, NameFault, Outcome, ServerNo, after_first}
 use Rattle.row_texts.proofs.Prelude.{as_printed, as_set, as_str, bytes_eq, cause_text, causes, coord_at, coord_data, coord_form, coord_printed}
 use Rattle.row_texts.proofs.Prelude.{coord_text, ends_recoveries, eqb-true, is_set, is_space, leb-true, list_all, lt-ltb, ltb-false, name_at, name_form, name_printed}

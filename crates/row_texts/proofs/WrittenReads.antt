@@ -1,18 +1,17 @@
 -- What is written for a row reads as it.
-use Rattle.std.proofs.Common.{◌≡◌, ℕ, ◌<◌, ◌≤◌, ◌^◌, Bool, true, inl, inr, List, [], ◌++◌, length, Option, Some, None, Ok, refl, sym, ap, ◌∙◌, arith}
-use Rattle.std.specs.Prelude.{◌↔◌, IfSome, codes}
+use Rattle.std.proofs.Common.{◌≡◌, ℕ, ◌<◌, ◌≤◌, ◌^◌, Bool, true, inl, inr, List, [], ◌++◌, length, Option, Some, None, Ok, refl, sym, ap, ◌∙◌, arith, ◌↔◌, IfSome, codes}
 use Rattle.row_texts.proofs.Prelude.{AreNames, CanBeKept, CauseName, Coord, Data, Ending, HasText, HostPort, Instance, Interval, IoState, IsName}
 use Rattle.row_texts.proofs.Prelude.{IsOldValue, IsPrintable, IsSet, IsTextOf, IsValueOf, Items, Kind, Moment, RecoveryRow, Row, Rule, ServerNo}
 use Rattle.row_texts.proofs.Prelude.{Source, SourceState, Table, active_at, are_known, array, at, block_at, block_items, block_version, boolean}
 use Rattle.row_texts.proofs.Prelude.{candidate_at, coord_at, coord_data, coord_form, coord_printed, coord_text, downtime_at, end_at, ending_name}
-use Rattle.row_texts.proofs.Prelude.{ending_of, ending_servers, ends_recoveries, field_at, first_block, first_tail, instance_at, instance_items, io_states, io_text}
-use Rattle.row_texts.proofs.Prelude.{is_end, is_version, item, key_of, key_text, kind_text, kinds, le-leb, lt-ltb, maybe_data, moment_data, moment_form}
+use Rattle.row_texts.proofs.Prelude.{ending_of, ending_servers, ends_recoveries, field_at, first_block, instance_at, instance_items, io_states}
+use Rattle.row_texts.proofs.Prelude.{io_text, is_end, item, key_of, key_text, kind_text, kinds, le-leb, lt-ltb, maybe_data, moment_data, moment_form}
 use Rattle.row_texts.proofs.Prelude.{name_of, name_printed, name_text, named_among, no_items, old_instance_data, or_null, outcome_printed}
 use Rattle.row_texts.proofs.Prelude.{outcome_text, position_or_len, position_or_len_is, printed as set_text, printed_reads_lem as name_printed_reads}
 use Rattle.row_texts.proofs.Prelude.{read_row, recovery_at, recovery_list, row_at, row_data, row_in, rule_text, rules, same_name, same_name_tells}
-use Rattle.row_texts.proofs.Prelude.{second_block, second_tail, server_of, servers_of, shape_of, source_at, source_name, source_servers, source_text}
-use Rattle.row_texts.proofs.Prelude.{source_word, source_words, state_of, string, switch_at, table_of, tail_at, two_of, value_of, version_of, whole}
-use Rattle.row_texts.proofs.Prelude.{wrapped}
+use Rattle.row_texts.proofs.Prelude.{second_block, server_of, servers_of, shape_of, source_at, source_name, source_servers, source_text, source_word}
+use Rattle.row_texts.proofs.Prelude.{source_words, state_of, string, switch_at, table_of, tail_at, two_of, value_of, version_of, whole, wrapped}
+use Rattle.row_texts.specs.Tables.{first_tail, is_version, second_tail}
 use Rattle.row_texts.proofs.Prelude.Names.{printed}
 use Rattle.row_texts.proofs.Prelude.cause
 use Rattle.row_texts.proofs.Prelude.ending

@@ -12,22 +12,11 @@ pub use Rattle.kept_rows.specs.GtidSets.Printed.{printed}
 pub use Rattle.kept_rows.specs.GtidSets.Sets.{IsSet, high, largest, low}
 pub use Rattle.kept_rows.specs.GtidSets.declared.fault.GtidFault.{GtidFault}
 pub use Rattle.kept_rows.specs.GtidSets.declared.interval.Interval.{Interval}
-pub use Rattle.kept_rows.specs.Ranges.{IsKeyInRange}
-pub use Rattle.kept_rows.specs.Rows.{key_of, table_number, table_of}
-pub use Rattle.kept_rows.specs.Servers.{are_known, ending_servers, key_servers, servers_of, source_servers}
-pub use Rattle.kept_rows.specs.declared.observation.Instance.{Instance}
-pub use Rattle.kept_rows.specs.declared.recovery.RecoveryRow.{RecoveryRow}
-pub use Rattle.kept_rows.specs.declared.row.Downtime.{Downtime}
-pub use Rattle.kept_rows.specs.declared.row.Key.{Key}
-pub use Rattle.kept_rows.specs.declared.row.Key.TheVariants as key
-pub use Rattle.kept_rows.specs.declared.row.Row.{Row}
-pub use Rattle.kept_rows.specs.declared.row.Row.TheVariants as row
-pub use Rattle.kept_rows.specs.declared.row.Table.{Table}
-pub use Rattle.kept_rows.specs.declared.row.Table.TheVariants as table
 pub use Rattle.kept_rows.specs.OrchBase.Gives.{Gives}
 pub use Rattle.kept_rows.specs.OrchBase.Names.{HostPort, IsName, same_name}
 unfoldable pub use Rattle.kept_rows.specs.OrchBase.Names.{name_at}
 pub use Rattle.kept_rows.specs.OrchBase.Names
+pub use Rattle.kept_rows.specs.OrchBase.Words.{kind_text, rule_text}
 pub use Rattle.kept_rows.specs.OrchBase.declared.name.NameFault.{NameFault}
 pub use Rattle.kept_rows.specs.OrchBase.declared.recovery.CauseName.{CauseName}
 pub use Rattle.kept_rows.specs.OrchBase.declared.recovery.CauseName.TheVariants as cause
@@ -43,10 +32,22 @@ pub use Rattle.kept_rows.specs.OrchBase.declared.server.Moment.{Moment}
 pub use Rattle.kept_rows.specs.OrchBase.declared.server.ServerNo.{ServerNo}
 pub use Rattle.kept_rows.specs.OrchBase.declared.server.SourceState.{SourceState}
 pub use Rattle.kept_rows.specs.OrchBase.declared.server.SourceState.TheVariants as state
+pub use Rattle.kept_rows.specs.Ranges.{IsKeyInRange}
+pub use Rattle.kept_rows.specs.Rows.{key_of, table_number, table_of}
+pub use Rattle.kept_rows.specs.ServerWords.declared.status.Status.{Status}
+pub use Rattle.kept_rows.specs.Servers.{are_known, ending_servers, key_servers, servers_of, source_servers}
+pub use Rattle.kept_rows.specs.declared.observation.Instance.{Instance}
+pub use Rattle.kept_rows.specs.declared.recovery.RecoveryRow.{RecoveryRow}
+pub use Rattle.kept_rows.specs.declared.row.Downtime.{Downtime}
+pub use Rattle.kept_rows.specs.declared.row.Key.{Key}
+pub use Rattle.kept_rows.specs.declared.row.Key.TheVariants as key
+pub use Rattle.kept_rows.specs.declared.row.Row.{Row}
+pub use Rattle.kept_rows.specs.declared.row.Row.TheVariants as row
+pub use Rattle.kept_rows.specs.declared.row.Table.{Table}
+pub use Rattle.kept_rows.specs.declared.row.Table.TheVariants as table
 pub use Rattle.serde_json.specs.Data.{Data, Items, Members, array, boolean, item, member, no_items, no_members, null, number, object, string}
 pub use Rattle.serde_json.specs.Data.{unsigned}
 pub use Rattle.serde_json.specs.Find.{as_array, as_bool, as_null, as_number, as_object, as_str, as_u64, at}
 pub use Rattle.serde_json.specs.Read.{read}
 pub use Rattle.serde_json.specs.View.{members_view, view}
 pub use Rattle.serde_json.specs.Written.{compact_text}
-pub use Rattle.kept_rows.specs.ServerWords.declared.status.Status.{Status}

@@ -1,11 +1,11 @@
 -- What a text is read as: an object of a list of fields, `f`, and a version, `v`.
-use Rattle.std.specs.Prelude.{ℕ, ◌&&◌, List, Bool, Option, None, Some, Result, codes, nat_eq, nat_le, option_and_then, if◌then◌else◌}
+use Rattle.std.specs.Prelude.{ℕ, ◌&&◌, List, Option, None, Some, Result, codes, nat_eq, option_and_then, if◌then◌else◌}
 use Rattle.row_texts.specs.Prelude.{Data, HostPort, Members, Row, Table, as_array, as_object, bytes_eq, is_utf8, member, no_members, read}
 use Rattle.row_texts.specs.Prelude.table
 use Rattle.row_texts.specs.declared.fault.RowFault.{RowFault}
 use Rattle.row_texts.specs.declared.fault.RowFault.TheVariants as fault
 use Rattle.row_texts.specs.Fields.{or_else, whole_form}
-use Rattle.row_texts.specs.Tables.{active_at, candidate_at, downtime_at, instance_at, recovery_at, switch_at}
+use Rattle.row_texts.specs.Tables.{active_at, candidate_at, downtime_at, instance_at, is_version, recovery_at, switch_at}
 use Rattle.kept_rows.specs.OrchBase.Gives.{◌>>=◌}
 
 -- the table of a number
@@ -38,15 +38,6 @@ with_list p = option_and_then (λ ds. Some p) (as_array p.0)
 -- the list of fields and the version of a text's value
 unfoldable pub shape_of : Data → Option (Data × Data)
 shape_of d = option_and_then with_list (option_and_then two_of (as_object d))
-
--- the versions of a table: 1, and of instances and recoveries 2 too
-abbrev pub is_version : Table → ℕ → Bool
-is_version table.Instance v = nat_le 1 v && nat_le v 2
-is_version table.Downtime v = nat_eq v 1
-is_version table.Candidate v = nat_eq v 1
-is_version table.Recovery v = nat_le 1 v && nat_le v 2
-is_version table.Switch v = nat_eq v 1
-is_version table.Active v = nat_eq v 1
 
 unfoldable pub version_of : Table → Data → Option ℕ
 version_of t d = option_and_then (λ v. if is_version t v then Some v else None) (whole_form d)

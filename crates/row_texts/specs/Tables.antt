@@ -1,9 +1,10 @@
 -- The tables of kept rows: the list of fields of each, and its key.
-use Rattle.std.specs.Prelude.{ℕ, [], List, Option, None, Some, Result, Ok, codes, nat_eq, if◌then◌else◌}
-use Rattle.row_texts.specs.Prelude.{Data, Ending, HostPort, Interval, Row, SourceState, as_bool, as_str}
+use Rattle.std.specs.Prelude.{ℕ, ◌&&◌, [], Bool, List, Option, None, Some, Result, Ok, codes, nat_eq, nat_le, if◌then◌else◌}
+use Rattle.row_texts.specs.Prelude.{Data, Ending, HostPort, Interval, Row, SourceState, Table, as_bool, as_str, kind_text, rule_text}
 use Rattle.row_texts.specs.Prelude.ending
 use Rattle.row_texts.specs.Prelude.row
 use Rattle.row_texts.specs.Prelude.state
+use Rattle.row_texts.specs.Prelude.table
 use Rattle.kept_rows.specs.OrchBase.Gives.{◌>>=◌}
 use Rattle.row_texts.specs.declared.fault.RowFault.{RowFault}
 use Rattle.row_texts.specs.declared.word.Outcome.{Outcome}
@@ -14,7 +15,17 @@ use Rattle.row_texts.specs.declared.word.SourceWord.{SourceWord}
 use Rattle.row_texts.specs.declared.word.SourceWord.TheVariants as source
 use Rattle.row_texts.specs.Fields.{coord_form, empty_form, end_at, field_at, key_id, key_name, key_word, moment_form, name_form, or_null, outcome_form, server_of, set_form, small_form, whole_form, word_form}
 use Rattle.row_texts.specs.Words.{io_states, io_text, kinds, rules, source_text, source_words}
-use Rattle.kept_rows.specs.OrchBase.Words.{kind_text, rule_text}
+
+-- ---- versions
+
+-- the versions of a table: 1, and of instances and recoveries 2 too
+abbrev pub is_version : Table → ℕ → Bool
+is_version table.Instance v = nat_le 1 v && nat_le v 2
+is_version table.Downtime v = nat_eq v 1
+is_version table.Candidate v = nat_eq v 1
+is_version table.Recovery v = nat_le 1 v && nat_le v 2
+is_version table.Switch v = nat_eq v 1
+is_version table.Active v = nat_eq v 1
 
 -- ---- servers by their numbers
 

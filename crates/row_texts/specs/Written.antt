@@ -1,8 +1,8 @@
 -- What is written of a row: its value as JSON, and the key's text.
 use Rattle.std.specs.Prelude.{ℕ, [], List, Option, None, Some, codes, decimal, slice_index_or}
 use Rattle.row_texts.specs.Prelude.{Coord, Data, Downtime, Ending, HostPort, Instance, Items, Key, Moment, RecoveryRow, Row, ServerNo, SourceState}
-use Rattle.row_texts.specs.Prelude.{array, boolean, compact_text, coord_text, item, member, no_items, no_members, null, number, object}
-use Rattle.row_texts.specs.Prelude.{printed as set_text, string, unsigned}
+use Rattle.row_texts.specs.Prelude.{array, boolean, compact_text, coord_text, item, kind_text, member, no_items, no_members, null, number, object}
+use Rattle.row_texts.specs.Prelude.{printed as set_text, rule_text, string, unsigned}
 use Rattle.row_texts.specs.Prelude.Names.{printed}
 use Rattle.row_texts.specs.Prelude.ending
 use Rattle.row_texts.specs.Prelude.key
@@ -13,7 +13,6 @@ use Rattle.row_texts.specs.declared.word.Outcome.TheVariants as outcome
 use Rattle.row_texts.specs.declared.word.SourceWord.{SourceWord}
 use Rattle.row_texts.specs.declared.word.SourceWord.TheVariants as source
 use Rattle.row_texts.specs.Words.{io_text, outcome_text, source_text}
-use Rattle.kept_rows.specs.OrchBase.Words.{kind_text, rule_text}
 
 abbrev pub whole : ℕ → Data
 whole n = number (unsigned n)

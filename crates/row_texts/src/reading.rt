@@ -4,11 +4,13 @@ ghost use Rattle.std.specs.Prelude.{◌≡◌, option_map};
 ghost use Rattle.row_texts.specs.Prelude.{Gives, members_view, view};
 ghost use Rattle.row_texts.specs.declared.fault.RowFault.TheVariants.{NotJson};
 ghost use Rattle.row_texts.specs.Fields.{fault_of, or_else};
-ghost use Rattle.row_texts.specs.Reading.{is_version, pair_of, read_row, row_at, row_in, shape_of, two_of, value_of, version_of};
+ghost use Rattle.row_texts.specs.Reading.{pair_of, read_row, row_at, row_in, shape_of, two_of, value_of, version_of};
 
 use crate::fault::RowFault;
 use crate::orch_base::Name;
-use crate::table::{active_at, candidate_at, downtime_at, instance_at, recovery_at, switch_at};
+use crate::table::{
+    active_at, candidate_at, downtime_at, instance_at, is_version, recovery_at, switch_at,
+};
 use crate::word::is_same;
 use kept_rows::{Row, Table};
 use serde_json::{Map, Value};
@@ -52,15 +54,6 @@ fn shape_of(value: &Value) -> Option<(&Value, &Value)>
         Some((fields, version))
     } else {
         None
-    }
-}
-
-fn is_version(table: Table, version: u64) -> bool
-    ensures { result ≡ is_version table version }
-{
-    match table {
-        Table::Instance | Table::Recovery => 1 <= version && version <= 2,
-        Table::Downtime | Table::Candidate | Table::Switch | Table::Active => version == 1,
     }
 }
 

@@ -20,8 +20,8 @@ pub trait RowText: Sized {
     /// The servers that the row names are known.
     ghost has_names: { List HostPort → Self → Type 0 };
 
-    /// Appends the row's text, or nothing if memory runs out: version 2 of an instance, and of a recovery that has a
-    /// block, else version 1. The names are those of the servers by number.
+    /// Appends the row's text, or nothing if memory runs out. It has the latest version of its table, except that a
+    /// recovery without a block has version 1. The names are those of the servers by number.
     fn text(&self, names: &[Name], out: &mut Vec<u8>) -> Result<(), Memory>
         requires { has_names names.now self.now };
 

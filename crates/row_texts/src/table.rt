@@ -1,8 +1,9 @@
 //! The tables' rows, field by field.
 
+ghost use Rattle.std.specs.Prelude.{◌≡◌};
 ghost use Rattle.row_texts.specs.Prelude.{Gives, view};
 ghost use Rattle.row_texts.specs.Fields.{fault_of};
-ghost use Rattle.row_texts.specs.Tables.{active_at, block_at, candidate_at, downtime_at, instance_at, recovery_at, switch_at, tail_at};
+ghost use Rattle.row_texts.specs.Tables.{active_at, block_at, candidate_at, downtime_at, instance_at, is_version, recovery_at, switch_at, tail_at};
 
 use crate::fault::RowFault;
 use crate::field::{
@@ -13,9 +14,19 @@ use crate::gtid_sets::GtidSet;
 use crate::key::{ending_of, key_id, key_name, key_word, server_of, state_of};
 use crate::orch_base::{IoState, Kind, Name, Rule};
 use crate::word::SourceWord;
-use kept_rows::{Candidate, Downtime, Instance, RecoveryRow, Row, Seen};
+use kept_rows::{Candidate, Downtime, Instance, RecoveryRow, Row, Seen, Table};
 use serde_json::Value;
 use std::alloc::Global;
+
+/// Whether a table has this version.
+pub(crate) fn is_version(table: Table, version: u64) -> bool
+    ensures { result ≡ is_version table version }
+{
+    match table {
+        Table::Instance | Table::Recovery => 1 <= version && version <= 2,
+        Table::Downtime | Table::Candidate | Table::Switch | Table::Active => version == 1,
+    }
+}
 
 // The first kept file and the purged set, which version 1 hasn't.
 #[tactic(auto, unfolding(crate::specs::Tables::first_tail, crate::specs::Tables::second_tail))]

@@ -1,9 +1,8 @@
 //! Names, and what is printed as a text.
 
 ghost use Rattle.std.specs.Prelude.{◌≡◌, ◌||◌, IfOk, codes, find, nat_le, option_copied, option_map, slice_index};
-ghost use Rattle.row_texts.specs.Prelude.{bytes_eq};
+ghost use Rattle.row_texts.specs.Prelude.{bytes_eq, kind_text, rule_text};
 ghost use Rattle.row_texts.specs.Words.{cause_text, causes, id_printed, io_text, name_printed, named_among, outcome_of, rest_of, set_printed, source_text, word_of};
-ghost use Rattle.kept_rows.specs.OrchBase.Words.{kind_text, rule_text};
 
 use crate::gtid_sets::{GtidFault, GtidSet};
 use crate::orch_base::{CauseName, IoState, Kind, Memory, Name, NameFault, Rule};

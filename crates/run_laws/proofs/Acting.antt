@@ -1,10 +1,9 @@
 -- Turns of one of several orchestrators are those of a single one, and a claim that passes is a restart.
-use Rattle.std.proofs.Common.{◌≡◌, ◌∙◌, ◌⊎◌, ℕ, ◌+◌, Bool, true, false, List, ◌++◌, Option, Some, None, refl, sym, ap, inl, inr}
-use Rattle.std.specs.Prelude.{not, ◌==◌, ◌&&◌, if◌then◌else◌, nat_lt}
-use Rattle.run_laws.proofs.Prelude.{Act, ActiveActAlike, ClaimAnswer, ClaimState, HeldLastAMinute, IsRestartAndClaim, LapsedKeepNothing}
-use Rattle.run_laws.proofs.Prelude.{Moment, PassingRestarts, RenewingClaimsAlone, Row, State, TakenChangeNothing, act_claimed, act_in, after_act}
-use Rattle.run_laws.proofs.Prelude.{after_done, claim_changes, claim_changes_by, claim_reply, claimed, claims_after, done_changes, done_reply}
-use Rattle.run_laws.proofs.Prelude.{eq-eqb, holder_by, passes_to, with_claims}
+use Rattle.std.proofs.Common.{◌≡◌, ◌∙◌, ◌⊎◌, ℕ, ◌+◌, Bool, true, false, ◌++◌, Option, Some, None, refl, sym, ap, inl, inr, not, ◌==◌, ◌&&◌, if◌then◌else◌, nat_lt}
+use Rattle.run_laws.proofs.Prelude.{Act, ActiveActAlike, ClaimAnswer, ClaimState, HeldLastAMinute, IsRestartAndClaim, LapsedKeepNothing, Moment}
+use Rattle.run_laws.proofs.Prelude.{PassingRestarts, RenewingClaimsAlone, State, TakenChangeNothing, act-keeps as same-claims, act_claimed, act_in}
+use Rattle.run_laws.proofs.Prelude.{after_act, after_done, claim_changes, claim_changes_by, claim_reply, claimed, claims_after, done_changes}
+use Rattle.run_laws.proofs.Prelude.{done_reply, eq-eqb, holder_by, passes_to, with_claims}
 use Rattle.run_laws.proofs.Prelude.act
 use Rattle.run_laws.proofs.Prelude.answered
 use Rattle.run_laws.proofs.Prelude.claim
@@ -13,11 +12,6 @@ use Rattle.run_laws.proofs.Prelude.turn
 use Rattle.run_laws.proofs.NodeClaims.{held-answer, passes-on}
 
 -- ---- turns
-
--- what orchestrator does leaves the claims
-same-claims : (rows : List Row) (s : State) (a : Act) → record (after_act rows s a) { claims = s.claims; last_holder = s.last_holder } ≡ after_act rows s a
-same-claims rows s (act.PollRead p n) = refl
-same-claims rows s _ = refl
 
 pub active-alike : (s : State) → ActiveActAlike s
 active-alike s node a may =

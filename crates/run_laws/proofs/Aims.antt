@@ -1,6 +1,5 @@
 -- What a turn begins is about whom it was asked for.
-use Rattle.std.proofs.Common.{◌≡◌, ℕ, ◌+◌, List, [], ◌∷◌, refl, subst, false, Option, Some, None, sym}
-use Rattle.std.specs.Prelude.{All, Contains}
+use Rattle.std.proofs.Common.{◌≡◌, ℕ, ◌+◌, List, [], ◌∷◌, refl, subst, false, Option, Some, None, sym, All, Contains}
 use Rattle.run_laws.proofs.Prelude.{Act, All-cons, All-contains_itself, All-head, All-map, All-nil, All-push, All-tail, All-weaker, Attempt}
 use Rattle.run_laws.proofs.Prelude.{AuditState, Begins as RecoveryBegins, BookState, Command, Configuration, Entry, IsAbout, IsAimed, IsAskedBy}
 use Rattle.run_laws.proofs.Prelude.{IsAskedFor, IsAskedIn, IsAskedOf, IsFor, Kind, Moment, Purpose, Refusal, Route, ServerNo, Staged, State, Turn}

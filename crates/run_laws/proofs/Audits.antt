@@ -1,6 +1,5 @@
 -- Kept rows follow the audit of a run.
-use Rattle.std.proofs.Common.{◌≡◌, ◌∙◌, ℕ, ◌+◌, ◌<◌, ◌≤◌, ◌^◌, Bool, true, false, List, [], ◌∷◌, ◌++◌, length, refl, sym, ap, subst, Option, Some, None, arith}
-use Rattle.std.specs.Prelude.{All, IfSome, fold, nat_lt, if◌then◌else◌}
+use Rattle.std.proofs.Common.{◌≡◌, ◌∙◌, ℕ, ◌+◌, ◌<◌, ◌≤◌, ◌^◌, Bool, true, false, List, [], ◌∷◌, ◌++◌, length, refl, sym, ap, subst, Option, Some, None, arith, All, IfSome, fold, nat_lt, if◌then◌else◌}
 use Rattle.run_laws.proofs.Prelude.{Act, All-at, All-cons, All-head, All-nil, All-tail, AuditState, BeginApartInTurn, Begins as RecoveryBegins}
 use Rattle.run_laws.proofs.Prelude.{BookState, Change, Comes, CommandTurn, Effect, Follow, FollowAudit, FollowAudit-acknowledged, FollowAudit-book}
 use Rattle.run_laws.proofs.Prelude.{FollowAudit-closed, FollowAudit-loaded, FollowAudit-opened, Held, Instance, IsAct, IsAudited, IsBook, IsCommand}

@@ -1,6 +1,5 @@
 -- What begins with a turn can begin, at its moment, and doesn't overlap.
-use Rattle.std.proofs.Common.{◌≡◌, ℕ, ◌+◌, ◌<◌, ◌≤◌, ◌^◌, List, [], ◌∷◌, length, refl, sym, ap, subst, Option, Some, None, arith}
-use Rattle.std.specs.Prelude.{All, IfSome}
+use Rattle.std.proofs.Common.{◌≡◌, ℕ, ◌+◌, ◌<◌, ◌≤◌, ◌^◌, List, [], ◌∷◌, length, refl, sym, ap, subst, Option, Some, None, arith, All, IfSome}
 use Rattle.run_laws.proofs.Prelude.{Act, All-cons, All-map, All-nil, All-weaker, AuditState, BeginApartInTurn, BeginInTurn, Begins as RecoveryBegins}
 use Rattle.run_laws.proofs.Prelude.{BeginsApart, Command, IsAct, IsAskedFor, IsTurn, Moment, Ready, Recovery as KeptRecovery, Refusal, State, Turn}
 use Rattle.run_laws.proofs.Prelude.{act-fits, act_in, attempt_in, audit_after, begun, by_hand, entries_begun, entries_of, label_at, longest_block}

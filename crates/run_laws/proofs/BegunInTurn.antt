@@ -1,6 +1,5 @@
 -- Recoveries that begin in turn leave a book, and jobs whose turns can be taken.
-use Rattle.std.proofs.Common.{◌≡◌, ◌∙◌, ℕ, ◌<◌, Bool, true, false, List, [], ◌∷◌, length, map, refl, sym, subst, Option, Some}
-use Rattle.std.specs.Prelude.{All, IfSome, ◌||◌, ◌==◌, slice_set}
+use Rattle.std.proofs.Common.{◌≡◌, ◌∙◌, ℕ, ◌<◌, Bool, true, false, List, [], ◌∷◌, length, map, refl, sym, subst, Option, Some, All, IfSome, ◌||◌, ◌==◌, slice_set}
 use Rattle.run_laws.proofs.Prelude.{All-cons, All-head, All-nil, All-tail, AuditState, BeginInTurn, Begins, BookState, CanBegin, IsBook, IsListOf}
 use Rattle.run_laws.proofs.Prelude.{IsReady, IsShaped, Purpose, ServerNo, begun, begun-shaped, eqb-true, false≢true, first_source, leases_after}
 use Rattle.run_laws.proofs.Prelude.{leases_set, length-set, list_any, recovery_job, taken}

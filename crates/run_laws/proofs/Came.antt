@@ -1,11 +1,10 @@
 -- Each reading that is kept after a turn was kept before it, was in a slot, or is of the turn.
-use Rattle.std.proofs.Common.{Bool, List, None, Option, Some, ap, false, get_or-set_other, get_or-set_same, inl, inr, is_some, length, nat_lt, refl, subst, sym, true, ℕ, ◌<◌, ◌==◌, ◌∙◌, ◌≡◌, ◌≤◌, ◌⊎◌}
-use Rattle.std.specs.Prelude.{if◌then◌else◌, slice_index_or, slice_set}
-use Rattle.run_laws.proofs.Prelude.{Act, BookState, CommandTurn, Flown, Instance, IsKeptSo, Observation, Outcome, Ready, Row, ServerNo, State, Status}
+use Rattle.std.proofs.Common.{Bool, List, None, Option, Some, ap, false, get_or-set_other, get_or-set_same, inl, inr, is_some, length, nat_lt, refl, subst, sym, true, ℕ, ◌<◌, ◌==◌, ◌∙◌, ◌≡◌, ◌≤◌, ◌⊎◌, if◌then◌else◌, slice_index_or, slice_set}
+use Rattle.run_laws.proofs.Prelude.{Act, BookState, CommandTurn, Flown, Instance, IsKeptSo, Observation, Ready, Row, ServerNo, State, Status}
 use Rattle.run_laws.proofs.Prelude.{Turn, Unended, Update, act_asks, act_in, added_over, after_act, after_discovery, after_done, as_read, asks, book_decided}
 use Rattle.run_laws.proofs.Prelude.{book_turned, command_outcome, decided_of, discovered_over, done_asks, eqb-false, eqb-true, first_seen, instance_at}
-use Rattle.run_laws.proofs.Prelude.{job_at, job_observation, known_of, length-set, ltb-false, ltb-true, next_count, next_reading, none-some, numbers_of, after_change, removal, option_map}
-use Rattle.run_laws.proofs.Prelude.{reads_with, same_Some, scan_outcome, seen_in, shown_at, slot_at, status, step, stored, stored_over, turn_of, turned_at, updated}
+use Rattle.run_laws.proofs.Prelude.{job_at, job_observation, known_of, length-set, ltb-false, ltb-true, next_count, none-some, after_change, removal, option_map}
+use Rattle.run_laws.proofs.Prelude.{reads_with, same_Some, seen_in, shown_at, slot_at, status, step, stored, stored_over, turn_of, turned_at, updated}
 use Rattle.run_laws.proofs.Prelude.act
 use Rattle.run_laws.proofs.Prelude.turn
 use Rattle.run_laws.proofs.Making.{command-holds}

@@ -1,6 +1,5 @@
 -- Through runs the row at the claim's key is the kept claim's.
-use Rattle.std.proofs.Common.{◌≡◌, ◌∙◌, ℕ, ◌+◌, ◌<◌, ◌≤◌, ◌^◌, inl, inr, Bool, true, false, List, [], ◌∷◌, ◌++◌, length, map, Option, Some, None, refl, sym, ap, subst, arith, zero, suc}
-use Rattle.std.specs.Prelude.{All, AllPairs, IfSome, ◌==◌, filter, fold, if◌then◌else◌}
+use Rattle.std.proofs.Common.{◌≡◌, ◌∙◌, ℕ, ◌+◌, ◌<◌, ◌≤◌, ◌^◌, inl, inr, Bool, true, false, List, [], ◌∷◌, ◌++◌, length, map, Option, Some, None, refl, sym, ap, subst, arith, zero, suc, All, AllPairs, IfSome, ◌==◌, filter, fold, if◌then◌else◌}
 use Rattle.run_laws.proofs.Prelude.{Act, All-append, All-at, All-cons, All-filter, All-head, All-map, All-nil, All-tail, All-weaker, AreShort}
 use Rattle.run_laws.proofs.Prelude.{AuditState, Begins as RecoveryBegins, Change, ClaimAnswer, ClaimState, Comes, CommandTurn, Effect, Ending, Held}
 use Rattle.run_laws.proofs.Prelude.{IsAct, IsAudit, IsBook, IsClaimRow, IsCommand, IsEffectFor, IsInRange, IsKeyInRange, IsRising, IsScenario, IsSlot}
@@ -10,13 +9,13 @@ use Rattle.run_laws.proofs.Prelude.{are_known, as_row, asked, audit-loaded, bloc
 use Rattle.run_laws.proofs.Prelude.{claim_changes, claim_changes_by, claim_key, claim_or, claim_row, closing, closing-small, closing_changes}
 use Rattle.run_laws.proofs.Prelude.{closing_of, command-comes, command_outcome, counts, decided_of, discovery_change, done_changes, engine}
 use Rattle.run_laws.proofs.Prelude.{entries_of, entries_put, eq-eqb, false≢true, fits, fold-append, greatest_id, head_known, held_run, held_step}
-use Rattle.run_laws.proofs.Prelude.{instance_at, interrupted_at, is_eq, is_kept_so, is_of_book, job_at, job_observation, key_number, key_servers}
-use Rattle.run_laws.proofs.Prelude.{known_of, last_given, last_id-within, length-map, loaded_audit, loaded_book, map_of-risen, missing_from}
-use Rattle.run_laws.proofs.Prelude.{moment_at, observed_servers, opened-is, option_map, option_to_list, pairs_head, pairs_tail, period_by, period_of}
-use Rattle.run_laws.proofs.Prelude.{put_recovery, puts-loaded, reading, recoveries_begun, recovery_at, registering_from, release_changes}
-use Rattle.run_laws.proofs.Prelude.{release_changes_by, reloaded_audit, reloaded_rows, removal, restart_changes, row_after, row_fits, row_in}
-use Rattle.run_laws.proofs.Prelude.{row_in-changed, rows_of, servers-start, slot_at, sort_key, sort_key_of, source_servers, sources-start, start}
-use Rattle.run_laws.proofs.Prelude.{start_changes, start_claim, start_moment, start_rows, start_world, step, turned_at, updated, with_told}
+use Rattle.run_laws.proofs.Prelude.{instance_at, interrupted_at, is_eq, is_kept_so, is_of_book, job_at, job_observation, key-number as key-within}
+use Rattle.run_laws.proofs.Prelude.{key_servers, known_of, last_given, last_id-within, length-map, loaded_audit, loaded_book, map_of-risen}
+use Rattle.run_laws.proofs.Prelude.{missing_from, moment_at, observed_servers, opened-is, option_map, option_to_list, pairs_head, pairs_tail}
+use Rattle.run_laws.proofs.Prelude.{period_by, period_of, put_recovery, puts-loaded, reading, recoveries_begun, recovery_at, registering_from}
+use Rattle.run_laws.proofs.Prelude.{release_changes, release_changes_by, reloaded_audit, reloaded_rows, removal, restart_changes, row_after, row_fits}
+use Rattle.run_laws.proofs.Prelude.{row_in, row_in-changed, rows_of, servers-start, slot_at, sort_key, sort_key_of, source_servers, sources-start}
+use Rattle.run_laws.proofs.Prelude.{start, start_changes, start_claim, start_moment, start_rows, start_world, step, turned_at, updated, with_told}
 use Rattle.run_laws.proofs.Prelude.claims.{is_of}
 use Rattle.run_laws.proofs.Prelude.act
 use Rattle.run_laws.proofs.Prelude.change
@@ -61,12 +60,6 @@ booked-row count few (row.Candidate c) h = let less = head_known count c.no.0 []
 booked-row count few (row.Recovery r) h = absurd (false≢true h)
 booked-row count few (row.Switch e) h = omega arith
 booked-row count few (row.Active node end) h = absurd (false≢true h)
-
-key-within : (k : Key) → IsKeyInRange k → key_number k ≤ 2 ^ 32 + 2 ^ 64 + 1
-key-within (key.Server n) range = omega (arith, range)
-key-within (key.Id id) range = omega (arith, range)
-key-within key.Global range = omega arith
-key-within key.Active range = omega arith
 
 booked-key : (t : Table) (k : Key) → is_of_book t ≡ true → IsKeyInRange k → sort_key t k < claim_key
 booked-key table.Recovery k h range = absurd (false≢true h)

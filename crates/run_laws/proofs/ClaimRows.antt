@@ -1,8 +1,8 @@
 -- What claims change of the kept rows is neither the book's nor the audit's.
-use Rattle.std.proofs.Common.{◌≡◌, ◌∙◌, ℕ, ◌+◌, ◌*◌, ◌<◌, ◌^◌, ◌⊎◌, inl, inr, Bool, true, false, List, [], ◌∷◌, ◌++◌, length, Option, Some, None, refl, sym, ap, subst, append_assoc, arith}
-use Rattle.std.specs.Prelude.{All, ◌==◌, if◌then◌else◌}
+use Rattle.orch_core.proofs.InstanceKeeper.NoRecovery.{above}
+use Rattle.std.proofs.Common.{◌≡◌, ◌∙◌, ℕ, ◌+◌, ◌*◌, ◌<◌, ◌^◌, ◌⊎◌, inl, inr, Bool, true, false, List, [], ◌∷◌, ◌++◌, length, Option, Some, None, refl, sym, ap, subst, append_assoc, arith, All, ◌==◌, if◌then◌else◌}
 use Rattle.run_laws.proofs.Prelude.{All-append, All-cons, All-head, All-nil, All-tail, All-weaker, AuditState, BookState, Change, ClaimAnswer, Follow}
-use Rattle.run_laws.proofs.Prelude.{FollowAudit, IsAudited, IsBook, IsKeptFor, Moment, Recovery, Row, State, book_rows, changed, changed_by}
+use Rattle.run_laws.proofs.Prelude.{FollowAudit, IsAudited, IsBook, IsKeptFor, Moment, Recovery, Row, State, below, book_rows, changed, changed_by}
 use Rattle.run_laws.proofs.Prelude.{changed_by_rising, claim_changes, claim_changes_by, claim_key, claimed, first, is_eq, is_kept_so, last}
 use Rattle.run_laws.proofs.Prelude.{option_map, option_to_list, recovery_at, release_changes, row_after, row_in, row_in-changed_by, row_in-elsewhere}
 use Rattle.run_laws.proofs.Prelude.{second, sort_key, sort_key_of, third, to_third}
@@ -12,12 +12,6 @@ use Rattle.run_laws.proofs.Prelude.claim
 use Rattle.run_laws.proofs.Prelude.kept_row as row
 use Rattle.run_laws.proofs.Prelude.key
 use Rattle.run_laws.proofs.Prelude.table
-
-below : (p k : ℕ) → k < p → (k == p) ≡ false
-below p k h = grind arith
-
-above : (p k : ℕ) → p < k → (k == p) ≡ false
-above p k h = grind arith
 
 -- ---- the claim's row
 

@@ -1,6 +1,5 @@
 -- What ends with a job's turn: how, and what is kept of it.
-use Rattle.std.proofs.Common.{◌≡◌, ◌∙◌, ℕ, ◌<◌, ◌≤◌, ◌^◌, Bool, true, false, cond, List, [], ◌∷◌, map, refl, sym, ap, subst, Option, Some, None, arith}
-use Rattle.std.specs.Prelude.{◌==◌, All, AllPairs, IfSome, filter, find, if◌then◌else◌}
+use Rattle.std.proofs.Common.{◌≡◌, ◌∙◌, ℕ, ◌<◌, ◌≤◌, ◌^◌, Bool, true, false, cond, List, [], ◌∷◌, map, refl, sym, ap, subst, Option, Some, None, arith, ◌==◌, All, AllPairs, IfSome, filter, find, if◌then◌else◌}
 use Rattle.run_laws.proofs.Prelude.{All-cons, All-find, All-head, All-nil, All-tail, All-weaker, AuditState, Change, Ending, FollowAudit}
 use Rattle.run_laws.proofs.Prelude.{FollowAudit-mapped, IsApart, IsAudit, IsReady, JobStep, Moment, Ready, Recovery, Row, ServerNo, State, Unended}
 use Rattle.run_laws.proofs.Prelude.{acked_so, acknowledged_at, acknowledged_at-apart, are_known, cause_name, changed, closed_by, closing_at}

@@ -1,6 +1,5 @@
 -- In every state of a run the audit's recoveries don't overlap, and each of them counts at a restart.
-use Rattle.std.proofs.Common.{◌≡◌, ◌∙◌, ℕ, ◌<◌, ◌≤◌, Bool, true, false, leb, List, [], ◌∷◌, get_or, length, map, refl, sym, ap, subst, inl, inr, Option, arith, Some, None}
-use Rattle.std.specs.Prelude.{All, ◌==◌, ◌&&◌, nat_lt, if◌then◌else◌, IfSome}
+use Rattle.std.proofs.Common.{◌≡◌, ◌∙◌, ℕ, ◌<◌, ◌≤◌, Bool, true, false, leb, List, [], ◌∷◌, get_or, length, map, refl, sym, ap, subst, inl, inr, Option, arith, Some, None, All, ◌==◌, ◌&&◌, nat_lt, if◌then◌else◌, IfSome}
 use Rattle.run_laws.proofs.Prelude.{Act, All-head, All-map, All-push, All-tail, All-weaker, AuditState, BeginApartInTurn, BeginInTurn, Begins}
 use Rattle.run_laws.proofs.Prelude.{CanBegin, ComesTo, Ending, IsAct, IsApart, IsScenario, IsTurn, Moment, Ready, Recovery, Row, Scenario, ServerNo}
 use Rattle.run_laws.proofs.Prelude.{State, Turn, acked_so, acknowledged, acknowledged-apart, acknowledged_for, act-fits, act_in, after_act}
@@ -127,12 +126,11 @@ done-moment rows s (Some a) most = act-moment rows s a most
 
 -- the moment never passes the end of its range
 pub moment-stays : (rows : List Row) (s : State) (t : Turn) → s.moment ≤ greatest → (step rows s t).moment ≤ greatest
-moment-stays rows s (turn.Step x) most = most
 moment-stays rows s (turn.Tick seconds) most = later-most s.moment seconds
 moment-stays rows s (turn.Act a) most = act-moment rows s a most
 moment-stays rows s (turn.As node a) most = done-moment rows s (act_in s (turn.As node a)) most
 moment-stays rows s (turn.Claim node) most = done-moment rows s (act_in s (turn.Claim node)) most
-moment-stays rows s (turn.Release node) most = most
+moment-stays rows s _ most = most
 
 -- ---- each turn
 

@@ -1,10 +1,9 @@
 -- One more recovery, with the next id, is kept.
-use Rattle.std.proofs.Common.{◌≡◌, ◌≢◌, ◌∙◌, ℕ, ◌+◌, ◌-◌, ◌<◌, ◌≤◌, ◌^◌, Bool, true, false, leb, List, [], ◌∷◌, refl, sym, ap, subst, inl, inr, Option, Some, None, arith}
-use Rattle.std.specs.Prelude.{◌==◌, ◌⊎◌, ◌&&◌, if◌then◌else◌}
+use Rattle.std.proofs.Common.{◌≡◌, ◌≢◌, ◌∙◌, ℕ, ◌+◌, ◌-◌, ◌<◌, ◌≤◌, ◌^◌, Bool, true, false, leb, List, [], ◌∷◌, refl, sym, ap, subst, inl, inr, Option, Some, None, arith, ◌==◌, ◌⊎◌, ◌&&◌, if◌then◌else◌}
 use Rattle.run_laws.proofs.Prelude.{All-weaker, AuditState, FollowAudit, IsAudit-begun, IsAudited, Recovery, Row, are_known, as_row, begun, cases_lt}
 use Rattle.run_laws.proofs.Prelude.{changed_by, counts, ending_servers, eq-eqb, eqb-true, false≢true, find-append, greatest, is_block_in_range}
 use Rattle.run_laws.proofs.Prelude.{is_end_in_range, le-leb, leb-true, longest_block, ne_eqb, none-at, option_or, put_recovery, recovery_at}
-use Rattle.run_laws.proofs.Prelude.{row_after, row_at, row_in, row_in-changed_by, sort_key, sort_key_of}
+use Rattle.run_laws.proofs.Prelude.{row_after, row_at, row_in, row_in-changed_by, sort_key, sort_key_of, stands-at}
 use Rattle.run_laws.proofs.Prelude.kept_row as row
 use Rattle.run_laws.proofs.Prelude.key
 use Rattle.run_laws.proofs.Prelude.table
@@ -19,14 +18,6 @@ key-same m n = go (m == n) refl
     go : (e : Bool) → (m == n) ≡ e → (at m == at n) ≡ e
     go true is = eq-eqb (at m) (at n) (ap at (eqb-true m n is))
     go false is = ne_eqb (at m) (at n) (λ h. let same : m ≡ n = omega (arith, h) in false≢true (sym is ∙ eq-eqb m n same))
-
-stands-at : (rows : List Row) (p : ℕ) (x : Row) → row_in rows p ≡ Some x → sort_key_of x ≡ p
-stands-at [] p x h = absurd cc
-stands-at (r ∷ rows) p x h = go (sort_key_of r == p) refl h (stands-at rows p x)
-  where
-    go : (e : Bool) → (sort_key_of r == p) ≡ e → (if e then Some r else row_in rows p) ≡ Some x → (row_in rows p ≡ Some x → sort_key_of x ≡ p) → sort_key_of x ≡ p
-    go true is h rest = let same : r ≡ x = cc in subst (λ y. sort_key_of y ≡ p) same (eqb-true (sort_key_of r) p is)
-    go false is h rest = rest h
 
 -- if the last id that counts goes on, only what has that id counts, too
 leb-on : (m n : ℕ) → m ≢ n → leb m (n - 1) ≡ false → leb m n ≡ false

@@ -1,19 +1,15 @@
 -- A plan's job fails for what happened to the operation that was due.
-use Rattle.std.proofs.Common.{◌≡◌, ◌∙◌, ℕ, List, [], ◌∷◌, refl, sym, ap, subst, Option, Some, None}
-use Rattle.run_laws.proofs.Prelude.{job_in, means_of}
-use Rattle.run_laws.proofs.Prelude.{All-found, Befell, BegunJob, BookState, Cause, Command, Failure, IsBefallen, IsReady, Job}
-use Rattle.run_laws.proofs.Prelude.{JobStep, Line, Means, Moment, Op, Planner, PlansAreDone, PlansFailForWhatBefell, Ready, Reply, ServerNo}
-use Rattle.run_laws.proofs.Prelude.{SpendsWaitsLast, State, Unended, World, begun_of, deed_of, failed-befell, job_at, job_by, job_reply, next_count}
+use Rattle.std.proofs.Common.{◌≡◌, ◌∙◌, ℕ, List, [], ◌∷◌, refl, sym, ap, subst, Option, Some, None, ◌+◌}
+use Rattle.run_laws.proofs.Prelude.{All-found, Befell, BegunJob, BookState, Cause, Command, Failure, IsBefallen, IsReady, Job, JobStep, Line, Means}
+use Rattle.run_laws.proofs.Prelude.{Moment, Op, Planner, PlansAreDone, PlansFailForWhatBefell, Ready, Reply, ServerNo, SpendsWaitsLast, State}
+use Rattle.run_laws.proofs.Prelude.{Unended, World, begun_of, deed_of, failed-befell, job_at, job_by, job_in, job_reply, means_of, next_count}
 use Rattle.run_laws.proofs.Prelude.{option_map, regroup_about, reply_of, spent-last, step_reply, turn-idle, turn-taken, turn_of, turned}
 use Rattle.run_laws.proofs.Prelude.{undisturbed-done}
 use Rattle.run_laws.proofs.Prelude.act
 use Rattle.run_laws.proofs.Prelude.answered
 use Rattle.run_laws.proofs.Prelude.jobstep as step
-use Rattle.run_laws.proofs.Prelude.means
-use Rattle.run_laws.proofs.Prelude.planner
 use Rattle.run_laws.proofs.Prelude.turn
 use Rattle.run_laws.proofs.Prelude.unended
-use Rattle.std.specs.Prelude.{◌+◌}
 use Rattle.run_laws.proofs.Making as making
 use Rattle.run_laws.proofs.Making.{IsBegunBy, job-begun}
 

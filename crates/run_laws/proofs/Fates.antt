@@ -1,6 +1,5 @@
 -- What becomes of an entry of the audit with a turn.
-use Rattle.std.proofs.Common.{◌≡◌, ◌∙◌, ℕ, ◌+◌, Bool, true, false, List, [], ◌∷◌, ◌++◌, append_assoc, length, map, refl, sym, ap, subst, Option, Some, None, Result, Ok, Err}
-use Rattle.std.specs.Prelude.{◌==◌, ◌||◌, if◌then◌else◌}
+use Rattle.std.proofs.Common.{◌≡◌, ◌∙◌, ℕ, ◌+◌, Bool, true, false, List, [], ◌∷◌, ◌++◌, append_assoc, length, map, refl, sym, ap, subst, Option, Some, None, Result, Ok, Err, ◌==◌, ◌||◌, if◌then◌else◌}
 use Rattle.run_laws.proofs.Prelude.{Act, AuditIs, AuditState, Begins as RecoveryBegins, Change, Comes, ComesTo, CommandTurn, Decided, Decides}
 use Rattle.run_laws.proofs.Prelude.{Decision, Ending, JobStep, Knowledge, Line, Moment, Outcome, Recovery as KeptRecovery, Refusal, RestartKeepsAll}
 use Rattle.run_laws.proofs.Prelude.{Route, Row, Scenario, ServerNo, State, Taken, Turn, Unended, Update, acked_in, act_asks, act_in, after_act}

@@ -1,7 +1,6 @@
 -- Each turn of a run is its `Passage`s.
-use Rattle.std.proofs.Common.{◌≡◌, ◌∙◌, ℕ, Bool, true, false, List, [], ◌∷◌, length, refl, sym, ap, Option, Some, None, zero, suc}
-use Rattle.std.specs.Prelude.{is_some, map, nat_lt, not, replicate, slice_index_or, slice_set, if◌then◌else◌, IfSome}
-use Rattle.run_laws.proofs.Prelude.{Act, AllMayPass, BookState, Bridge, Exchange, Flight, Instance, IsAct, IsTurn, Job, JobStep, Observation, Ready}
+use Rattle.std.proofs.Common.{◌≡◌, ◌∙◌, ℕ, Bool, true, false, List, [], ◌∷◌, length, refl, sym, ap, Option, Some, None, zero, suc, is_some, map, nat_lt, not, replicate, slice_index_or, slice_set, if◌then◌else◌, IfSome}
+use Rattle.run_laws.proofs.Prelude.{Act, BookState, Bridge, Exchange, Flight, Instance, IsAct, IsTurn, Job, JobStep, Observation, Ready}
 use Rattle.run_laws.proofs.Prelude.{Row, ServerNo, Settings, State, Turn, Unended, act-fits, act_in, act_passages, after_act, after_done, after_put}
 use Rattle.run_laws.proofs.Prelude.{after_restart, after_row, book_turned, by_job, core-found, core_by, core_of, cores-replaced, cores-without}
 use Rattle.run_laws.proofs.Prelude.{counted, done_passages, empty_book, empty_slots, false≢true, flight_of, given-leases, given_back, hooked}
@@ -58,10 +57,6 @@ module _ (s : State) (p : ℕ) (n : ServerNo) where
       ≡ passing (flight_of s) (if known then pass.Polling p n (next_count s.reads) (moment_at s) ∷ [] else [])
   poll-flown true = refl
   poll-flown false = refl
-
-  pub poll-may : (known : Bool) → AllMayPass (flight_of s) (if known then pass.Polling p n (next_count s.reads) (moment_at s) ∷ [] else [])
-  poll-may true = (tt, tt)
-  poll-may false = tt
 
 -- ---- a job's turn
 

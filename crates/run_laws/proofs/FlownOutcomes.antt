@@ -1,24 +1,22 @@
 -- A command or a scan leaves what its `Passage`s leave.
-use Rattle.std.proofs.Common.{◌≡◌, ◌∙◌, ℕ, ◌+◌, ◌<◌, ◌≤◌, Bool, true, false, List, [], ◌∷◌, ◌++◌, length, refl, sym, ap, subst, Option, Some, None, Result, Ok, Err}
-use Rattle.std.specs.Prelude.{All, ◌&&◌, ◌==◌, is_some, map, nat_lt, not, if◌then◌else◌}
-use Rattle.run_laws.proofs.Prelude.{All-cons, All-map, All-nil, AllMayPass, AllPassWell, AreShort, Asks, AuditState, BeginInTurn, Begins as RecoveryBegins}
-use Rattle.run_laws.proofs.Prelude.{BookState, Bridge}
-use Rattle.run_laws.proofs.Prelude.{CanBegin, Command, CommandTurn, Coordinates, Decided, Decides, Decision, Discovers, Effect, Flight, Forgets}
-use Rattle.run_laws.proofs.Prelude.{Gtids, HeldJobs, HeldState, Instance, IsBook, IsCommand, IsHeldBeside, IsQuiet, IsSoundBeside, Job, Keys, Leases}
-use Rattle.run_laws.proofs.Prelude.{Line, Matches, Means, Moment, NamesLogging, Observation, Outcome, Passage, Paths, Planner, Ready, Recovers, Refusal, Route, Row}
-use Rattle.run_laws.proofs.Prelude.{ServerNo, SoundJobs, SoundState, State, Status as Seen, TakesOver, UnknownInstance, Unreachable, World}
-use Rattle.run_laws.proofs.Prelude.{about as given_or, about_one, acked, added_over, after_change, after_put, allowed, apart-held, apart-sound, asked}
-use Rattle.run_laws.proofs.Prelude.{attempt_in, begin-held, begin-sound, bridge_in, by_command, by_discovery, by_hand, by_instance, by_permission}
-use Rattle.run_laws.proofs.Prelude.{by_recoveries, by_recovery, by_removal, by_route, by_takeover, by_try, candidate_of, command_outcome, core_of}
-use Rattle.run_laws.proofs.Prelude.{cores-joined, decided, decided_of, discovered, discovered_over, downtime_at, downtime_begun, downtime_ended}
-use Rattle.run_laws.proofs.Prelude.{downtime_of, downtime_removal, effect_by, flight_of, forgotten, has_row, instance_at, is_within, job-number}
-use Rattle.run_laws.proofs.Prelude.{job_by, job_in, job_with, known_of, label_at, leased_to, leases_after, leases_by, leases_of, lines_of, list_any}
-use Rattle.run_laws.proofs.Prelude.{longest_block, ltb-true, may-take, means_of, moment_at, next_count, no_docket, number_of, numbers_of, outcome_by}
-use Rattle.run_laws.proofs.Prelude.{outcome_of, passing, period_by, permitted, plan_by, put_change, question, reading, recovered, recoveries_scanned}
-use Rattle.run_laws.proofs.Prelude.{recovery-begins, recovery-held, recovery-sound, recovery_begun, recovery_job, recovery_try, refusal, refusal_by}
-use Rattle.run_laws.proofs.Prelude.{regroup_about, removal_refusal, renewed, renewed_book, replicas_of, ringed, route_of, scan-in-turn, scan_in}
-use Rattle.run_laws.proofs.Prelude.{scan_outcome, taken-leases, taken_over, takeover-begins, takeover_try, takes_first, told-can, told-in-turn}
-use Rattle.run_laws.proofs.Prelude.{told_try, updated, with_told}
+use Rattle.std.proofs.Common.{◌≡◌, ◌∙◌, ℕ, ◌+◌, ◌<◌, ◌≤◌, Bool, true, false, List, [], ◌∷◌, ◌++◌, length, refl, sym, ap, subst, Option, Some, None, Result, Ok, Err, All, ◌&&◌, ◌==◌, is_some, map, nat_lt, not, if◌then◌else◌}
+use Rattle.run_laws.proofs.Prelude.{All-cons, All-map, All-nil, AllMayPass, AllPassWell, AreShort, Asks, AuditState, BeginInTurn}
+use Rattle.run_laws.proofs.Prelude.{Begins as RecoveryBegins, BookState, Bridge, CanBegin, Command, CommandTurn, Coordinates, Decided, Decides}
+use Rattle.run_laws.proofs.Prelude.{Decision, Discovers, Effect, Flight, Forgets, Gtids, HeldJobs, HeldState, Instance, IsBook, IsCommand}
+use Rattle.run_laws.proofs.Prelude.{IsHeldBeside, IsQuiet, IsSoundBeside, Job, Keys, Leases, Line, Matches, Means, Moment, NamesLogging, Observation}
+use Rattle.run_laws.proofs.Prelude.{Outcome, Passage, Paths, Planner, Ready, Recovers, Refusal, Route, Row, ServerNo, SoundJobs, SoundState, State}
+use Rattle.run_laws.proofs.Prelude.{Status as Seen, TakesOver, UnknownInstance, Unreachable, World, about as given_or, about_one, acked, added_over}
+use Rattle.run_laws.proofs.Prelude.{after_change, after_put, allowed, apart-held, apart-sound, asked, attempt_in, begin-held, begin-sound, bridge_in}
+use Rattle.run_laws.proofs.Prelude.{by_command, by_discovery, by_hand, by_instance, by_permission, by_recoveries, by_recovery, by_removal, by_route}
+use Rattle.run_laws.proofs.Prelude.{by_takeover, by_try, candidate_of, command_outcome, core_of, cores-joined, decided, decided_of, discovered}
+use Rattle.run_laws.proofs.Prelude.{discovered_over, downtime_at, downtime_begun, downtime_ended, downtime_of, downtime_removal, effect_by, flight_of}
+use Rattle.run_laws.proofs.Prelude.{forgotten, has_row, instance_at, is_within, job-number, job_by, job_in, job_with, known_of, label_at, leased_to}
+use Rattle.run_laws.proofs.Prelude.{leases_after, leases_by, leases_of, lines_of, list_any, longest_block, ltb-true, may-take, means_of, moment_at}
+use Rattle.run_laws.proofs.Prelude.{next_count, no_docket, number_of, numbers_of, outcome_by, outcome_of, passing, period_by, permitted, plan_by}
+use Rattle.run_laws.proofs.Prelude.{put_change, question, reading, recovered, recoveries_scanned, recovery-begins, recovery-held, recovery-sound}
+use Rattle.run_laws.proofs.Prelude.{recovery_begun, recovery_job, recovery_try, refusal, refusal_by, regroup_about, removal_refusal, renewed}
+use Rattle.run_laws.proofs.Prelude.{renewed_book, replicas_of, ringed, route_of, scan-in-turn, scan_in, scan_outcome, taken-leases, taken_over}
+use Rattle.run_laws.proofs.Prelude.{takeover-begins, takeover_try, takes_first, told-can, told-in-turn, told_try, updated, with_told}
 use Rattle.run_laws.proofs.Prelude.Outcomes.{begun}
 use Rattle.run_laws.proofs.Prelude.Decisions.{about, registered}
 use Rattle.run_laws.proofs.Prelude.JobLaws.{Begins as JobBegins}

@@ -1,6 +1,5 @@
 -- Kept rows follow the book of a run.
-use Rattle.std.proofs.Common.{◌≡◌, ◌∙◌, ℕ, ◌+◌, ◌<◌, ◌≤◌, ◌^◌, Bool, true, false, List, [], ◌∷◌, ◌++◌, length, map, refl, sym, ap, subst, Option, Some, None, zero, suc, arith}
-use Rattle.std.specs.Prelude.{All, IfSome, nat_lt, slice_index_or, slice_set, if◌then◌else◌}
+use Rattle.std.proofs.Common.{◌≡◌, ◌∙◌, ℕ, ◌+◌, ◌<◌, ◌≤◌, ◌^◌, Bool, true, false, List, [], ◌∷◌, ◌++◌, length, map, refl, sym, ap, subst, Option, Some, None, zero, suc, arith, All, IfSome, nat_lt, slice_index_or, slice_set, if◌then◌else◌}
 use Rattle.run_laws.proofs.Prelude.{Act, All-append, All-at, All-cons, All-map, All-nil, All-weaker, AreShort, AuditState, Begins as RecoveryBegins}
 use Rattle.run_laws.proofs.Prelude.{BookState, Change, Comes, CommandTurn, Effect, Ending, Follow, Follow-addition, Follow-change, Follow-given}
 use Rattle.run_laws.proofs.Prelude.{Follow-loaded, Follow-opened, Follow-recoveries, Follow-rings, Instance, IsAct, IsAudit, IsBook, IsCommand}

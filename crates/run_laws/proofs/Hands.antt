@@ -1,6 +1,5 @@
 -- What plans have in their hands is started again.
-use Rattle.std.proofs.Common.{All, Bool, List, None, Option, Some, [], ap, false, map, not, refl, subst, sym, true, ℕ, ◌+◌, ◌==◌, ◌∙◌, ◌∷◌, ◌≡◌, ◌⊎◌, inl, inr, ◌||◌}
-use Rattle.std.specs.Prelude.{if◌then◌else◌}
+use Rattle.std.proofs.Common.{All, Bool, List, None, Option, Some, [], ap, false, map, not, refl, subst, sym, true, ℕ, ◌+◌, ◌==◌, ◌∙◌, ◌∷◌, ◌≡◌, ◌⊎◌, inl, inr, ◌||◌, if◌then◌else◌}
 use Rattle.run_laws.proofs.Prelude.{Act, All-append, All-filter, All-find, All-map, All-nil, All-push, All-weaker, Ask, BookState, Command}
 use Rattle.run_laws.proofs.Prelude.{CommandTurn, CoordsCommand, Deed, HoldsNone, IsTaken, Job, JobStep, Line, Means, Misses, Moment, Op, Planner}
 use Rattle.run_laws.proofs.Prelude.{PlansReturn, Returns, Row, ServerNo, StartsAll, State, Status, StopsOne, Turn, Turned, Unended, World, about_kind}

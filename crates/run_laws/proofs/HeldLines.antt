@@ -1,19 +1,17 @@
 -- A turn of a plan's job keeps the servers of its lines on their way there, and its last one finds them there.
-use Rattle.std.proofs.Common.{◌≡◌, ◌∙◌, ℕ, ◌+◌, Bool, true, false, cond, List, [], ◌∷◌, ◌++◌, refl, sym, ap, subst, Option, Some, None, Ok, Err, Result, ◌⊎◌, inl, inr, arith}
-use Rattle.std.specs.Prelude.{◌==◌, All, Contains, if◌then◌else◌}
-use Rattle.run_laws.proofs.Prelude.{After, All-contains, All-head, All-tail, All-weaker, AllShow, ArePlaced, Attach, AttachAuto, AttachFault}
-use Rattle.run_laws.proofs.Prelude.{Attached, Attaches, Attempts, Below, Coord, Deed, Detached, Exchange, HeldJob, HoldOf, IsApplying, IsLeased}
-use Rattle.run_laws.proofs.Prelude.{IsMove, IsMoved, IsTaken, IsUnder, IsWaitFor, IsWritable, Job, JobStep, KeepsSource, Leases, Line, Makes, Misses}
-use Rattle.run_laws.proofs.Prelude.{Moment, Observation, Op, Position, Server, ServerNo, Sight, SourceState, Spares, Spot, Status, Stays, Stays-keeps}
+use Rattle.std.proofs.Common.{◌≡◌, ◌∙◌, ℕ, ◌+◌, Bool, true, false, cond, List, [], ◌∷◌, ◌++◌, refl, sym, ap, subst, Option, Some, None, Ok, Err, Result, ◌⊎◌, inl, inr, arith, ◌==◌, All, Contains, if◌then◌else◌}
+use Rattle.run_laws.proofs.Prelude.{After, All-contains, All-head, All-tail, All-weaker, AllShow, ArePlaced, Attach, AttachAuto, Attached, Attaches}
+use Rattle.run_laws.proofs.Prelude.{AttachFault, Attempts, Below, Coord, Deed, Detached, Exchange, HeldJob, HoldOf, IsApplying, IsLeased, IsMove}
+use Rattle.run_laws.proofs.Prelude.{IsMoved, IsTaken, IsUnder, IsWaitFor, IsWritable, Job, JobStep, KeepsSource, Leases, Line, Makes, Misses, Moment}
+use Rattle.run_laws.proofs.Prelude.{Observation, Op, Position, Server, ServerNo, Sight, SourceState, Spares, Spot, Status, Stays, Stays-keeps}
 use Rattle.run_laws.proofs.Prelude.{StaysSo, Turned, Under-keeps, Unended, Without, World, about-moves, after, after_answer, and_parts, are_held}
 use Rattle.run_laws.proofs.Prelude.{are_listed, are_matched, at_with_same, attach_answer, attach_answer_of, attached_anew, attached_no, attached_to}
 use Rattle.run_laws.proofs.Prelude.{attached_world, attempts, back-moves, below_after, by_deed, by_ops, change_of, deed-still, deed-taken, deed_of}
-use Rattle.run_laws.proofs.Prelude.{eq-eqb, eqb-true, false≢true, file_start, finds, finds_match, finished, footing, going, is_attached}
-use Rattle.run_laws.proofs.Prelude.{is_finish, is_going, is_in, is_moved, job_with, learn, leased_to, led, led_by, list_any, made-well}
-use Rattle.run_laws.proofs.Prelude.{matched_by, matched_in, moves, not-moved, number_of, open-moves, or_parts, other-after, position_of, read_below}
-use Rattle.run_laws.proofs.Prelude.{request-made, run, run-goes, same-stays-so, same-tried, same_Some, same_again, seen-at, seen_of, server_at}
-use Rattle.run_laws.proofs.Prelude.{server_of, shut-moves, source_no, source_shown, started-goes, turn-taken, turned, way-moves, with_seen}
-use Rattle.run_laws.proofs.Prelude.{with_server}
+use Rattle.run_laws.proofs.Prelude.{eq-eqb, eqb-true, false≢true, file_start, finds, finds_match, finished, footing, going, is_attached, is_finish}
+use Rattle.run_laws.proofs.Prelude.{is_going, is_in, is_moved, job_with, learn, leased_to, led_by, led_by_all, list_any, made-well, matched_by}
+use Rattle.run_laws.proofs.Prelude.{matched_in, moves, not-moved, number_of, open-moves, or_parts, other-after, position_of, read_below, request-made}
+use Rattle.run_laws.proofs.Prelude.{run, run-goes, same-stays-so, same-tried, same_again, same_Some, seen-at, seen_of, server_at, server_of}
+use Rattle.run_laws.proofs.Prelude.{shut-moves, source_no, source_shown, started-goes, turn-taken, turned, way-moves, with_seen, with_server}
 use Rattle.run_laws.proofs.Prelude.Turns
 use Rattle.run_laws.proofs.Prelude.asking
 use Rattle.run_laws.proofs.Prelude.cross
@@ -286,7 +284,7 @@ pub record LeadsOn (w : World) (j : Job) (r s : ServerNo) (ops : List Op) : Type
   sees : Sees j.seen below
   under : (x : ServerNo) → at ≡ Some x → IsUnder w r.0 x.0
   goes : on ≡ true → GoesOn w r.0
-  leads : led r.0 below at ops ≡ Some s
+  leads : led_by_all r.0 below at ops ≡ Some s
   starts : runs r.0 on ops ≡ true
 
 -- and the server is leased to the job
@@ -385,13 +383,13 @@ module _ (w : World) (l : Leases) (read : ℕ) (now : Moment) (j : Job) (held : 
     -- a wait leaves the servers
     abbrev Waits : Deed → Type 0
     Waits d = (s : Status) → Misses j d s → (r : ServerNo) (below : Below) (at : Option ServerNo) (on : Bool)
-        → (led r.0 (below_after (below_after below d) d) (led_by r.0 (below_after below d) at d) before ≡ led r.0 (below_after below d) (led_by r.0 below at d) before)
+        → (led_by_all r.0 (below_after (below_after below d) d) (led_by r.0 (below_after below d) at d) before ≡ led_by_all r.0 (below_after below d) (led_by r.0 below at d) before)
         × ((led_by r.0 below at d ≡ at) × (runs_by r.0 on d ≡ on))
 
     waits : (d : Deed) → Waits d
-    waits (deed.Await n to) s h r below at on = (ap (λ (b : Below). led r.0 b at before) (forgets-once below n), (refl, refl))
-    waits (deed.AwaitSet n m) s h r below at on = (ap (λ (b : Below). led r.0 b at before) (forgets-once below n), (refl, refl))
-    waits (deed.Settle n) s h r below at on = (ap (λ (b : Below). led r.0 b at before) (forgets-once below n), (refl, refl))
+    waits (deed.Await n to) s h r below at on = (ap (λ (b : Below). led_by_all r.0 b at before) (forgets-once below n), (refl, refl))
+    waits (deed.AwaitSet n m) s h r below at on = (ap (λ (b : Below). led_by_all r.0 b at before) (forgets-once below n), (refl, refl))
+    waits (deed.Settle n) s h r below at on = (ap (λ (b : Below). led_by_all r.0 b at before) (forgets-once below n), (refl, refl))
     waits d s h r below at on = absurd h
 
     waited-line : (s : Status) → Misses j (deed_of o) s → (r m : ServerNo) → IsLeased l j.id r.0 × LeadsOn w j r m (o ∷ before) → IsLeased l k.id r.0 × LeadsOn (run w es) k r m (o ∷ before)
@@ -521,11 +519,11 @@ led-changes n below d = go d
     go e = inl refl
 
 -- so it is of the job's list
-led-listed : (list : List ServerNo) (n : ℕ) (below : Below) (ops later : List Op) (s : ServerNo) → are_listed list (ops ++ later) ≡ true → led n below None ops ≡ Some s → list_any (λ k. k.0 == n) list ≡ true
+led-listed : (list : List ServerNo) (n : ℕ) (below : Below) (ops later : List Op) (s : ServerNo) → are_listed list (ops ++ later) ≡ true → led_by_all n below None ops ≡ Some s → list_any (λ k. k.0 == n) list ≡ true
 led-listed list n below [] later s listed h = cc
 led-listed list n below (x ∷ xs) later s listed h =
     let parts = and_parts (is_in list (change_of (deed_of x))) (are_listed list (xs ++ later)) listed in
-    go parts.0 (λ none. led-listed list n (below_after below (deed_of x)) xs later s parts.1 (subst (λ (o : Option ServerNo). led n (below_after below (deed_of x)) o xs ≡ Some s) none h))
+    go parts.0 (λ none. led-listed list n (below_after below (deed_of x)) xs later s parts.1 (subst (λ (o : Option ServerNo). led_by_all n (below_after below (deed_of x)) o xs ≡ Some s) none h))
     (led-changes n below (deed_of x))
   where
     go : is_in list (change_of (deed_of x)) ≡ true → (led_by n below None (deed_of x) ≡ None → list_any (λ k. k.0 == n) list ≡ true)

@@ -1,6 +1,5 @@
 -- Each recovery of the audit that isn't ended has its unended job.
-use Rattle.std.proofs.Common.{◌≡◌, ◌∙◌, ℕ, ◌+◌, ◌<◌, ◌≤◌, Bool, true, false, cond, List, [], ◌∷◌, ◌++◌, append_assoc, map, length, refl, sym, ap, subst, Option, Some, None, arith}
-use Rattle.std.specs.Prelude.{◌==◌, ◌||◌, All, AllPairs, IfSome, filter, fold, is_none, not, if◌then◌else◌}
+use Rattle.std.proofs.Common.{◌≡◌, ◌∙◌, ℕ, ◌+◌, ◌<◌, ◌≤◌, Bool, true, false, cond, List, [], ◌∷◌, ◌++◌, append_assoc, map, length, refl, sym, ap, subst, Option, Some, None, arith, ◌==◌, ◌||◌, All, AllPairs, IfSome, filter, fold, is_none, not, if◌then◌else◌}
 use Rattle.run_laws.proofs.Prelude.{Act, All-find, All-head, All-tail, AuditState, BeginInTurn, Begins as RecoveryBegins, Comes, ComesTo, CommandTurn}
 use Rattle.run_laws.proofs.Prelude.{Docket, Effect, Ending, EntriesHaveJobs, Hooked, IsAct, IsAudit, IsCommand, IsReady, IsTurn, JobStep, Moment}
 use Rattle.run_laws.proofs.Prelude.{Outcome, Ready, Recovery, Rise, Rise-push, Rise-with, Rise-within, Rise-without, Row, Scenario, State, Turn}
@@ -11,7 +10,7 @@ use Rattle.run_laws.proofs.Prelude.{flown-entry, flown-number, found-number, hoo
 use Rattle.run_laws.proofs.Prelude.{is_open, is_unended, job-entry, job-number, job_at, job_by, jobs_turned, joined-rising, known_of, loaded_audit}
 use Rattle.run_laws.proofs.Prelude.{ne_eqb, next_count, number_of, open_ids, option_map, option_to_list, pairs_head, pairs_tail, recoveries_scanned}
 use Rattle.run_laws.proofs.Prelude.{recovery_job, reloaded_audit, run_turns, same_Some, start, start_moment, step as turn_step, turn_of, turns_of}
-use Rattle.run_laws.proofs.Prelude.{updated, with-past, with_job, with_told, without_job}
+use Rattle.run_laws.proofs.Prelude.{updated, with-past, with_job, with_told, without-past, without_job}
 use Rattle.run_laws.proofs.Prelude.Decisions.{audit_after as audit_decided}
 use Rattle.run_laws.proofs.Prelude.RecoveryPlans.{Recovery as RecoveryJob}
 use Rattle.run_laws.proofs.Prelude.act
@@ -174,14 +173,6 @@ found-above low (x ∷ xs) id j e found entry h = go (number_of x == id) found (
     go true found rest =
         let here : Rising low (e ∷ entries_in xs) = subst (λ (o : Option ℕ). Rising low (option_to_list o ++ entries_in xs)) (ap entry_id (same_Some x j found) ∙ entry) h in here.0
     go false found rest = later (entry_id x) h (λ from. rest from found)
-
--- past the number nothing is dropped
-without-past : (low : ℕ) (jobs : List Unended) (high id : ℕ) → id ≤ low → Rise low jobs high → without_job jobs id ≡ jobs
-without-past low [] high id most rise = refl
-without-past low (k ∷ ks) high id most rise =
-    let first = rise.0 in
-    let differs : (number_of k == id) ≡ false = ne_eqb (number_of k) id (λ same. absurd (omega (arith, most, first, same))) in
-    ap (λ (b : Bool). cond (not b) (k ∷ without_job ks id) (without_job ks id)) differs ∙ ap (λ (xs : List Unended). k ∷ xs) (without-past (number_of k) ks high id (omega (arith, most, first)) rise.1)
 
 -- without a job that has an entry
 entries-without : (low from : ℕ) (jobs : List Unended) (high id : ℕ) (j : Unended) (e : ℕ) → Rise low jobs high → Rising from (entries_in jobs) → job_at jobs id ≡ Some j → entry_id j ≡ Some e

@@ -1,6 +1,5 @@
 -- Jobs in the states of runs: they keep to their leases, and leave fewer turns.
-use Rattle.std.proofs.Common.{◌≡◌, ◌∙◌, ℕ, ◌<◌, true, List, refl, sym, ap, subst, Option, Some, None}
-use Rattle.std.specs.Prelude.{◌==◌, is_some, map}
+use Rattle.std.proofs.Common.{◌≡◌, ◌∙◌, ℕ, ◌<◌, true, List, refl, sym, ap, subst, Option, Some, None, ◌==◌, is_some, map}
 use Rattle.run_laws.proofs.Prelude.{All-find, AllMayPass, HeldState, IsLeased, IsReady, Job, Ready, Row, State, Unended, by_job, core-found, core_of}
 use Rattle.run_laws.proofs.Prelude.{false≢true, fewer, flight_of, flown-fewer, flown-number, found-number, job_at, job_exchanges, job_turned}
 use Rattle.run_laws.proofs.Prelude.{jobs_turned, leases_of, moment_at, most_turns, next_count, number_of, option_map, others-left, run, server_at}

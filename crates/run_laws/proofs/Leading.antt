@@ -1,12 +1,11 @@
 -- Each command's plan leads the servers of its lines where these have them, and starts them.
-use Rattle.std.proofs.Common.{All, Bool, List, None, Option, Some, [], ap, append_assoc, arith, cond, false, inl, inr, refl, subst, sym, true, ℕ, ◌&&◌, ◌++◌, ◌==◌, ◌∙◌, ◌∷◌, ◌||◌, ◌≡◌, ◌⊎◌}
-use Rattle.std.specs.Prelude.{Contains, if◌then◌else◌}
+use Rattle.std.proofs.Common.{All, Bool, List, None, Option, Some, [], ap, append_assoc, arith, cond, false, inl, inr, refl, subst, sym, true, ℕ, ◌&&◌, ◌++◌, ◌==◌, ◌∙◌, ◌∷◌, ◌||◌, ◌≡◌, ◌⊎◌, Contains, if◌then◌else◌}
 use Rattle.run_laws.proofs.Prelude.{All-cons, All-contains, All-head, All-map, All-nil, All-tail, All-weaker, Attached, Below, BookState, Command}
 use Rattle.run_laws.proofs.Prelude.{CoordsCommand, Deed, Detached, Footing, GtidCommand, HasNoOwnSource, HasPath, LeadsAsTold, Line, MatchCommand, Op}
 use Rattle.run_laws.proofs.Prelude.{Path, PlansLeadAsTold, ServerNo, SourceState, Without, World, about_kind, about_one, again, again_auto, and_parts}
 use Rattle.run_laws.proofs.Prelude.{append-nil, are_held, auto, autos, below_after, by_gtids, by_name, coords_command, deed_of, eq-eqb, eqb-true}
 use Rattle.run_laws.proofs.Prelude.{false≢true, filter_passes, finds, finished, flat_map, following, gtid_command, instance_at, is_attached_to}
-use Rattle.run_laws.proofs.Prelude.{is_finish, is_replica_of, learn, led, led_by, lines_by, lines_of_ops, list_any, matching_plan, ne_eqb}
+use Rattle.run_laws.proofs.Prelude.{is_finish, is_replica_of, learn, led_by, led_by_all, lines_by, lines_of_ops, list_any, matching_plan, ne_eqb}
 use Rattle.run_laws.proofs.Prelude.{option_and_then, option_or, or_parts, path_of, pseudo_command, replicas_but, replicas_of, same-no, same_Some}
 use Rattle.run_laws.proofs.Prelude.{seen_source, siblings_of, source_above, source_in, source_of, swap, under, up, up-itself}
 use Rattle.run_laws.proofs.Prelude.asking
@@ -27,7 +26,7 @@ abbrev below-all : Below → List Op → Below
 below-all below [] = below
 below-all below (x ∷ xs) = below-all (below_after below (deed_of x)) xs
 
-led-append : (n : ℕ) (below : Below) (at : Option ServerNo) (xs ys : List Op) → led n below at (xs ++ ys) ≡ led n (below-all below xs) (led n below at xs) ys
+led-append : (n : ℕ) (below : Below) (at : Option ServerNo) (xs ys : List Op) → led_by_all n below at (xs ++ ys) ≡ led_by_all n (below-all below xs) (led_by_all n below at xs) ys
 led-append n below at [] ys = refl
 led-append n below at (x ∷ xs) ys = led-append n (below_after below (deed_of x)) (led_by n below at (deed_of x)) xs ys
 
@@ -87,7 +86,7 @@ starts-before r xs ys first later n on h = runs-append n on xs ys ∙ later n (r
 
 -- it is led where a line has it, and started
 abbrev pub IsLedSo : List Op → Line → Type 0
-IsLedSo ops (line.Follows r s) = (led r.0 (λ n. None) None ops ≡ Some s) × (runs r.0 false ops ≡ true)
+IsLedSo ops (line.Follows r s) = (led_by_all r.0 (λ n. None) None ops ≡ Some s) × (runs r.0 false ops ≡ true)
 IsLedSo ops _ = Unit {0}
 
 -- operations of which none ends the job, with these lines after them
@@ -115,7 +114,7 @@ leads-so ops (inl none) r s has = absurd (none-in (line.Follows r s) (subst (λ 
     none-in : (l : Line) → Contains [] l → ⊥
     none-in l c = let lt = c.1 in omega (arith, lt)
 leads-so ops (inr t) r s has =
-    ap (led r.0 (λ n. None) None) t.is
+    ap (led_by_all r.0 (λ n. None) None) t.is
     ∙ led-append r.0 (λ n. None) None t.before (op.Finish t.lines ∷ [])
     ∙ (All-contains (IsLedSo t.before) t.lines (line.Follows r s) t.led (subst (λ (ls : List Line). Contains ls (line.Follows r s)) told has)).0
   where
@@ -124,7 +123,7 @@ leads-so ops (inr t) r s has =
         ap lines_of_ops t.is ∙ lines-append t.before (op.Finish t.lines ∷ [])
         ∙ (ap (λ (ls : List Line). ls ++ (t.lines ++ [])) (no-lines t.before t.none) ∙ append-nil t.lines)
 
-one-line : (ops : List Op) (r s : ServerNo) → led r.0 (λ n. None) None ops ≡ Some s → runs r.0 false ops ≡ true → All (IsLedSo ops) (line.Follows r s ∷ [])
+one-line : (ops : List Op) (r s : ServerNo) → led_by_all r.0 (λ n. None) None ops ≡ Some s → runs r.0 false ops ≡ true → All (IsLedSo ops) (line.Follows r s ∷ [])
 one-line ops r s h on = All-cons (IsLedSo ops) (line.Follows r s) [] (h, on) (All-nil (IsLedSo ops))
 
 -- ---- parts
@@ -137,7 +136,7 @@ apart-so a b h = ne_eqb a.0 b.0 h
 
 -- a part leads this server there, and no other anywhere
 abbrev Leads : ServerNo → ServerNo → List Op → Type 0
-Leads r t ops = (n : ℕ) (below : Below) (at : Option ServerNo) → led n below at ops ≡ cond (r.0 == n) (Some t) at
+Leads r t ops = (n : ℕ) (below : Below) (at : Option ServerNo) → led_by_all n below at ops ≡ cond (r.0 == n) (Some t) at
 
 -- and starts it, and ends no job
 pub record Part (r t : ServerNo) (ops : List Op) : Type 0 where
@@ -196,7 +195,7 @@ again-leads i x = record {
 }
 
 -- the server itself
-leads-it : (r t : ServerNo) (ops : List Op) → Part r t ops → (below : Below) (at : Option ServerNo) → led r.0 below at ops ≡ Some t
+leads-it : (r t : ServerNo) (ops : List Op) → Part r t ops → (below : Below) (at : Option ServerNo) → led_by_all r.0 below at ops ≡ Some t
 leads-it r t ops h below at = h.leads r.0 below at ∙ ap (λ (a : Bool). cond a (Some t) at) (self r)
 
 starts-it : (r t : ServerNo) (ops : List Op) → Part r t ops → (on : Bool) → runs r.0 on ops ≡ true
@@ -212,7 +211,7 @@ module _ (r : ServerNo) where
   then-leads s t xs ys first later = record {
     leads = λ n below at.
         led-append n below at xs ys
-        ∙ (later.leads n (below-all below xs) (led n below at xs) ∙ (ap (λ (o : Option ServerNo). cond (r.0 == n) (Some t) o) (first.leads n below at) ∙ twice at (r.0 == n)));
+        ∙ (later.leads n (below-all below xs) (led_by_all n below at xs) ∙ (ap (λ (o : Option ServerNo). cond (r.0 == n) (Some t) o) (first.leads n below at) ∙ twice at (r.0 == n)));
     starts = starts-before r xs ys first.starts (λ n on h. later.starts n on (inl h));
     none = any-append xs ys first.none later.none;
   }
@@ -234,11 +233,11 @@ module _ (f : ServerNo → List Op) (t : ServerNo) where
   tail r rs all = All-tail (λ (k : ServerNo). Part k t (f k)) r rs all
 
   -- one that is there stays there
-  stays-led : (rs : List ServerNo) → Each rs → (n : ℕ) (below : Below) → led n below (Some t) (flat_map f rs) ≡ Some t
+  stays-led : (rs : List ServerNo) → Each rs → (n : ℕ) (below : Below) → led_by_all n below (Some t) (flat_map f rs) ≡ Some t
   stays-led [] all n below = refl
   stays-led (r ∷ rs) all n below =
       led-append n below (Some t) (f r) (flat_map f rs)
-      ∙ (ap (λ (o : Option ServerNo). led n (below-all below (f r)) o (flat_map f rs)) ((head r rs all).leads n below (Some t) ∙ same (r.0 == n))
+      ∙ (ap (λ (o : Option ServerNo). led_by_all n (below-all below (f r)) o (flat_map f rs)) ((head r rs all).leads n below (Some t) ∙ same (r.0 == n))
       ∙ stays-led rs (tail r rs all) n (below-all below (f r)))
     where
       same : (a : Bool) → cond a (Some t) (Some t) ≡ Some t
@@ -250,21 +249,21 @@ module _ (f : ServerNo → List Op) (t : ServerNo) where
   stays-on (r ∷ rs) all n on h = runs-append n on (f r) (flat_map f rs) ∙ stays-on rs (tail r rs all) n (runs n on (f r)) ((head r rs all).starts n on (inl h))
 
   abbrev LedTo : Below → Option ServerNo → Bool → List Op → ServerNo → Type 0
-  LedTo below at on ops r = (led r.0 below at ops ≡ Some t) × (runs r.0 on ops ≡ true)
+  LedTo below at on ops r = (led_by_all r.0 below at ops ≡ Some t) × (runs r.0 on ops ≡ true)
 
   all-led : (rs : List ServerNo) → Each rs → (at : Option ServerNo) (below : Below) (on : Bool) → All (LedTo below at on (flat_map f rs)) rs
   all-led [] all at below on = All-nil (LedTo below at on [])
   all-led (r ∷ rs) all at below on =
       All-cons (LedTo below at on (f r ++ flat_map f rs)) r rs (
         led-append r.0 below at (f r) (flat_map f rs)
-            ∙ (ap (λ (o : Option ServerNo). led r.0 (below-all below (f r)) o (flat_map f rs)) (leads-it r t (f r) (head r rs all) below at)
+            ∙ (ap (λ (o : Option ServerNo). led_by_all r.0 (below-all below (f r)) o (flat_map f rs)) (leads-it r t (f r) (head r rs all) below at)
             ∙ stays-led rs (tail r rs all) r.0 (below-all below (f r))),
         runs-append r.0 on (f r) (flat_map f rs) ∙ stays-on rs (tail r rs all) r.0 (runs r.0 on (f r)) (starts-it r t (f r) (head r rs all) on),
       )
       (All-weaker (λ (k : ServerNo). (o : Option ServerNo) (a : Bool) → LedTo (below-all below (f r)) o a (flat_map f rs) k) (LedTo below at on (f r ++ flat_map f rs))
       (λ k h. (
-        led-append k.0 below at (f r) (flat_map f rs) ∙ (h (led k.0 below at (f r)) (runs k.0 on (f r))).0,
-        runs-append k.0 on (f r) (flat_map f rs) ∙ (h (led k.0 below at (f r)) (runs k.0 on (f r))).1,
+        led-append k.0 below at (f r) (flat_map f rs) ∙ (h (led_by_all k.0 below at (f r)) (runs k.0 on (f r))).0,
+        runs-append k.0 on (f r) (flat_map f rs) ∙ (h (led_by_all k.0 below at (f r)) (runs k.0 on (f r))).1,
       )) rs (λ i d lt o a. all-led rs (tail r rs all) o (below-all below (f r)) a i d lt))
 
   -- none of them ends the job
@@ -345,7 +344,7 @@ module _ (b : BookState) where
   swap-told : (i x g : ServerNo) → source_of b i ≡ Some x → source_above b i ≡ Some g → IsTold (finished (swap i x g) (line.Follows i g ∷ line.Follows x i ∷ []))
   swap-told i x g e above = go (i.0 == x.0) refl
     where
-      told : led i.0 (λ n. None) None (swap i x g) ≡ Some g → led x.0 (λ n. None) None (swap i x g) ≡ Some i → IsTold (finished (swap i x g) (line.Follows i g ∷ line.Follows x i ∷ []))
+      told : led_by_all i.0 (λ n. None) None (swap i x g) ≡ Some g → led_by_all x.0 (λ n. None) None (swap i x g) ≡ Some i → IsTold (finished (swap i x g) (line.Follows i g ∷ line.Follows x i ∷ []))
       told first second =
           ends-so (swap i x g) (line.Follows i g ∷ line.Follows x i ∷ []) refl
           (All-cons (IsLedSo (swap i x g)) (line.Follows i g) (line.Follows x i ∷ [])
@@ -361,9 +360,9 @@ module _ (b : BookState) where
       one same =
           let its : g ≡ i = same_Some g i (sym above ∙ (ap (option_and_then (source_of b)) (e ∙ ap Some (sym same)) ∙ (e ∙ ap Some (sym same)))) in
           told
-          (ap (λ (y : ServerNo). led i.0 (λ n. None) None (swap i y g)) (sym same)
+          (ap (λ (y : ServerNo). led_by_all i.0 (λ n. None) None (swap i y g)) (sym same)
           ∙ (ap (λ (a : Bool). cond a (Some i) (cond a (cond a (Some i) (cond a None (cond a (Some i) (cond a (Some g) None)))) None)) (self i) ∙ ap Some (sym its)))
-          (ap (λ (y : ServerNo). led y.0 (λ n. None) None (swap i y g)) (sym same)
+          (ap (λ (y : ServerNo). led_by_all y.0 (λ n. None) None (swap i y g)) (sym same)
           ∙ ap (λ (a : Bool). cond a (Some i) (cond a (cond a (Some i) (cond a None (cond a (Some i) (cond a (Some g) None)))) None)) (self i))
 
       two : (i.0 ≡ x.0 → ⊥) → IsTold (finished (swap i x g) (line.Follows i g ∷ line.Follows x i ∷ []))
@@ -373,13 +372,13 @@ module _ (b : BookState) where
           seen : Bool → Bool → Option ServerNo
           seen a c = cond a (Some x) (cond a None (cond a (Some x) (cond c (Some g) None)))
 
-          first : led i.0 (λ n. None) None (swap i x g) ≡ Some g
+          first : led_by_all i.0 (λ n. None) None (swap i x g) ≡ Some g
           first =
               ap (λ (a : Bool). cond a (Some i) (cond (i.0 == i.0) (seen (i.0 == x.0) (x.0 == x.0)) None)) (apart-so x i (λ same. apart (sym same)))
               ∙ (ap (λ (a : Bool). cond a (seen (i.0 == x.0) (x.0 == x.0)) None) (self i)
               ∙ (ap (λ (a : Bool). seen a (x.0 == x.0)) (apart-so i x apart) ∙ ap (seen false) (self x)))
 
-          second : led x.0 (λ n. None) None (swap i x g) ≡ Some i
+          second : led_by_all x.0 (λ n. None) None (swap i x g) ≡ Some i
           second = ap (λ (a : Bool). cond a (Some i) (cond (i.0 == x.0) (seen (i.0 == x.0) (x.0 == x.0)) None)) (self x)
 
       go : (c : Bool) → (i.0 == x.0) ≡ c → IsTold (finished (swap i x g) (line.Follows i g ∷ line.Follows x i ∷ []))

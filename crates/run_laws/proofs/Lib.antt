@@ -1,4 +1,4 @@
-mod Prelude
+pub mod Prelude
 pub mod Once
 pub mod Naming
 pub mod Apart
@@ -59,17 +59,14 @@ pub mod CauseLaws
 pub use Rattle.recovery_covers.proofs.JobLaws as JobLaws
 pub mod MoveLaws
 pub use Rattle.orch_core.proofs.NameOrder as NameOrder
-pub mod OpeningLaws
 pub use Rattle.orch_core.proofs.OpeningsProofs as OpeningsProofs
 pub use Rattle.orch_core.proofs.OperationsProofs as OperationsProofs
 pub mod OrchCore
 pub use Rattle.orch_core.proofs.RecoveryCore as RecoveryCore
-pub use Rattle.recovery_covers.proofs.RecoveryEnds as RecoveryEnds
 pub use Rattle.recovery_covers.proofs.RecoveryLaws as RecoveryLaws
 pub use Rattle.orch_core.proofs.RecoveryPlans as RecoveryPlans
 pub use Rattle.recovery_covers.proofs.ReplicationLaws as ReplicationLaws
 pub use Rattle.orch_core.proofs.ScenariosProofs as ScenariosProofs
 pub use Rattle.orch_core.proofs.ServerModel as ServerModel
-pub use Rattle.orch_core.proofs.UnendedJobs as UnendedJobs
 pub mod UnendedLaws
 pub use Rattle.orch_core.proofs.WorldOpenings as WorldOpenings

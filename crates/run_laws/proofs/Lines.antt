@@ -1,6 +1,5 @@
 -- The lines of a scan: one for each entry that asks for a recovery.
-use Rattle.std.proofs.Common.{◌≡◌, ℕ, ◌+◌, List, [], ◌∷◌, length, refl, ap, inl, inr, arith}
-use Rattle.std.specs.Prelude.{fold}
+use Rattle.std.proofs.Common.{◌≡◌, ℕ, ◌+◌, List, [], ◌∷◌, length, refl, ap, inl, inr, arith, fold}
 use Rattle.run_laws.proofs.Prelude.{AreLinesOf, AreTries, Begins, Entry, Left, Line, Scan, ScansTryByTable, State, actionable_in, after_begun}
 use Rattle.run_laws.proofs.Prelude.{attempt_in, recoveries_scanned, scan_in, tries}
 use Rattle.run_laws.proofs.Told.{told-lines, told-tries}

@@ -1,6 +1,5 @@
 -- The lines with which a plan's job is done hold of the servers.
-use Rattle.std.proofs.Common.{◌≡◌, ◌∙◌, ℕ, Bool, true, false, List, [], ◌∷◌, length, refl, sym, ap, subst, Option, Some, None}
-use Rattle.std.specs.Prelude.{All, IfSome, ◌==◌, if◌then◌else◌, is_some, map}
+use Rattle.std.proofs.Common.{◌≡◌, ◌∙◌, ℕ, Bool, true, false, List, [], ◌∷◌, length, refl, sym, ap, subst, Option, Some, None, All, IfSome, ◌==◌, if◌then◌else◌, is_some, map}
 use Rattle.run_laws.proofs.Prelude.{Act, All-find, All-head, All-nil, All-tail, Flight, HeldJob, HeldState, HoldOf, IsAct, IsTurn, Job}
 use Rattle.run_laws.proofs.Prelude.{JobStep, Line, PlansHold, Ready, Reply, Row, State, Step, Turn, Turned, Unended, World, act-fits, act_in}
 use Rattle.run_laws.proofs.Prelude.{act_passages, after_act, after_done, by_ops, core-found, core_of, done_passages, engine, exchange_of}
@@ -48,11 +47,10 @@ module _ (count : ℕ) (rows : List Row) (s : State) (ready : Ready count s) (he
 
   turn-on-way : (t : Turn) → IsTurn count t → AllOnWay (passing (flight_of s) (passages_of s t)) (step rows s t).jobs
   turn-on-way (turn.Step x) is = outside-on-way (flight_of s) s.jobs (exchange_of x) (step-outside x) way
-  turn-on-way (turn.Tick seconds) is = way
   turn-on-way (turn.Act a) is = act-on-way a is
   turn-on-way (turn.As node a) is = done-on-way (act_in s (turn.As node a)) (act-fits count s (turn.As node a) is)
   turn-on-way (turn.Claim node) is = done-on-way (act_in s (turn.Claim node)) (act-fits count s (turn.Claim node) is)
-  turn-on-way (turn.Release node) is = way
+  turn-on-way _ is = way
 
   step-on-way : (t : Turn) → IsTurn count t → AllOnWay (flight_of (step rows s t)) (step rows s t).jobs
   step-on-way t is = subst (λ (f : Flight). AllOnWay f (step rows s t).jobs) (sym (flown count rows s t ready is)) (turn-on-way t is)

@@ -1,6 +1,5 @@
 -- Servers of a list.
-use Rattle.std.proofs.Common.{◌≡◌, Bool, true, false, List, [], ◌∷◌, refl, ap}
-use Rattle.std.specs.Prelude.{All, ◌||◌, ◌==◌}
+use Rattle.std.proofs.Common.{◌≡◌, Bool, true, false, List, [], ◌∷◌, refl, ap, All, ◌||◌, ◌==◌}
 use Rattle.run_laws.proofs.Prelude.{All-cons, All-head, All-nil, All-tail, IsListed, ServerNo, eq-eqb, list_any}
 
 -- servers are of their own list, whatever is before it

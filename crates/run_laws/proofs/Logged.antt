@@ -1,6 +1,5 @@
 -- What a command makes of the audit.
-use Rattle.std.proofs.Common.{◌≡◌, ℕ, ◌+◌, List, [], refl, inl, inr, Option, Some, None, Result, Ok, Err, subst, sym, ◌∷◌}
-use Rattle.std.specs.Prelude.{◌⊎◌}
+use Rattle.std.proofs.Common.{◌≡◌, ℕ, ◌+◌, List, [], refl, inl, inr, Option, Some, None, Result, Ok, Err, subst, sym, ◌∷◌, ◌⊎◌}
 use Rattle.run_laws.proofs.Prelude.{Asks, AuditState, Begins as RecoveryBegins, Comes, CommandTurn, Decided, Decides, Discovers, Forgets, IsAskedFor}
 use Rattle.run_laws.proofs.Prelude.{Knowledge, Line, Observation, Outcome, Recovers, Refusal, Route, ServerNo, State, Status as Seen, TakesOver}
 use Rattle.run_laws.proofs.Prelude.{Unended, UnknownInstance, Update, about as given_or, acknowledged, allowed, asked, audit_after, by_hand}

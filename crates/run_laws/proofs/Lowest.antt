@@ -1,6 +1,5 @@
 -- What refuses a command has the lowest number of what its checks refuse.
-use Rattle.std.proofs.Common.{◌≡◌, ℕ, ◌≤◌, Bool, true, false, List, [], ◌∷◌, refl, ap, Option, Some, None, arith}
-use Rattle.std.specs.Prelude.{Any, is_some, if◌then◌else◌}
+use Rattle.std.proofs.Common.{◌≡◌, ℕ, ◌≤◌, Bool, true, false, List, [], ◌∷◌, refl, ap, Option, Some, None, arith, Any, is_some, if◌then◌else◌}
 use Rattle.run_laws.proofs.Prelude.{All-cons, All-nil, Asks, Command, Coordinates, Decides, Discovers, Forgets, Gtids, IsAnswer, IsNoLower, Matches}
 use Rattle.run_laws.proofs.Prelude.{Paths, Planner, Recovers, Refusal, RefusedByLowest, Route, ServerNo, State, TakesOver, busy_by, busy_given}
 use Rattle.run_laws.proofs.Prelude.{by_hand, checks_by, coords-lowest, first_of, gtid-lowest, is_known, is_unknown, lease_at, match-lowest}

@@ -1,6 +1,5 @@
 -- Matches of logs, in the states of runs without errant writes.
-use Rattle.std.proofs.Common.{◌≡◌, ℕ, List, [], ◌∷◌, map, Ok}
-use Rattle.std.specs.Prelude.{All}
+use Rattle.std.proofs.Common.{◌≡◌, ℕ, List, [], ◌∷◌, map, Ok, All}
 use Rattle.run_laws.proofs.Prelude.{All-cons, All-head, All-nil, All-tail, All-weaker, AllMeet, Coord, EndsAt, EndsStill, Job, Meets, Safe, ServerNo}
 use Rattle.run_laws.proofs.Prelude.{Unended, World, core_of, logs-place, logs-prefix, match-well, match_logs, read-servers}
 

@@ -1,15 +1,13 @@
 -- Time passes by ticks alone, no recovery is of a later moment, and the numbers of jobs rise.
-use Rattle.std.proofs.Common.{All, Bool, IfSome, List, None, Option, Some, [], ap, arith, false, inl, inr, length, map, max, refl, subst, sym, true, ℕ, ◌+◌, ◌==◌, ◌∷◌, ◌≡◌, ◌≢◌, ◌≤◌}
-use Rattle.std.specs.Prelude.{fold, if◌then◌else◌}
-use Rattle.run_laws.proofs.Prelude.{Begins as RecoveryBegins}
-use Rattle.run_laws.proofs.Prelude.{later}
+use Rattle.std.proofs.Common.{All, Bool, IfSome, List, None, Option, Some, [], ap, arith, false, inl, inr, length, map, max, refl, subst, sym, true, ℕ, ◌+◌, ◌==◌, ◌∷◌, ◌≡◌, ◌≢◌, ◌≤◌, fold, if◌then◌else◌}
 use Rattle.run_laws.proofs.Prelude.{Act, All-cons, All-head, All-map, All-nil, All-push, All-tail, All-weaker, AuditState, BeginApartInTurn}
-use Rattle.run_laws.proofs.Prelude.{BeginInTurn, ComesTo, Ending, IsAct, IsPast, IsTurn, JobsRise, LastJobNeverSinks, Moment, NothingIsToCome}
-use Rattle.run_laws.proofs.Prelude.{PassesTime, Recovery, Row, Scenario, State, Turn, acked_so, acknowledged, acknowledged_for, act-fits, act_asks}
-use Rattle.run_laws.proofs.Prelude.{act_in, after_act, after_done, after_restart, asks, audit_after, begun, closed, command_outcome, done_asks}
-use Rattle.run_laws.proofs.Prelude.{end_or, ended_so, engine, entries_of, interrupted, interrupted_at, is_of, is_unended, job-number, known_of}
-use Rattle.run_laws.proofs.Prelude.{latest_recovery, loaded_audit, loaded_by, period_of, recoveries_begun, recoveries_in, recoveries_scanned}
-use Rattle.run_laws.proofs.Prelude.{reloaded_audit, reloaded_moment, row_raised, run_turns, start, start_moment, start_rows, step, turns_of, updated}
+use Rattle.run_laws.proofs.Prelude.{BeginInTurn, Begins as RecoveryBegins, ComesTo, Ending, IsAct, IsPast, IsTurn, JobsRise, LastJobNeverSinks}
+use Rattle.run_laws.proofs.Prelude.{Moment, NothingIsToCome, PassesTime, Recovery, Row, Scenario, State, Turn, acked_so, acknowledged}
+use Rattle.run_laws.proofs.Prelude.{acknowledged_for, act-fits, act_asks, act_in, after_act, after_done, after_restart, asks, audit_after, begun}
+use Rattle.run_laws.proofs.Prelude.{closed, command_outcome, done_asks, end_or, ended_so, engine, entries_of, interrupted, interrupted_at, is_of}
+use Rattle.run_laws.proofs.Prelude.{is_unended, job-number, known_of, later, latest_recovery, loaded_audit, loaded_by, period_of, recoveries_begun}
+use Rattle.run_laws.proofs.Prelude.{recoveries_in, recoveries_scanned, reloaded_audit, reloaded_moment, row_raised, run_turns, start, start_moment}
+use Rattle.run_laws.proofs.Prelude.{start_rows, step, turns_of, updated}
 use Rattle.run_laws.proofs.Prelude.act
 use Rattle.run_laws.proofs.Prelude.ending
 use Rattle.run_laws.proofs.Prelude.kept_row

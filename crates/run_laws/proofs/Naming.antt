@@ -1,29 +1,25 @@
 -- What begins names no replica twice.
+use Rattle.orch_core.proofs.RecoveryCore.Beginning.{passed}
 use Rattle.run_laws.proofs.Prelude.{Action, All-nil, All-push, AreCounts, AreReplicas, Attached, Attempt, AuditState, Begins, BookState, Code}
-use Rattle.run_laws.proofs.Prelude.{Detached, Entry, Instance, NamesLogging, NamesReplicasOnce, NoCandidate, NotMaster, NotReplica, Refusal, Server, ServerNo, SourceState}
-use Rattle.run_laws.proofs.Prelude.{Staged, UnknownInstance, Without, World, action-of, action_of, actionable_in, after_try, and_parts, attached_in}
-use Rattle.run_laws.proofs.Prelude.{attached_of, by_name, can_succeed, case_of, code_at, code_of, counts_of, entry_of, eqb-true, false≢true}
-use Rattle.run_laws.proofs.Prelude.{first_refusal, from_start, has_log, has_successor, held_back, held_off, instance_at, is_attached_to, is_given}
-use Rattle.run_laws.proofs.Prelude.{is_instance, is_replica_of, is_valid, logs_by, logs_in, neither, no_master, no_replica, none-some, none_replicates, not-true}
-use Rattle.run_laws.proofs.Prelude.{only_if, purpose_by, recovery_begins, recovery_purpose, recovery_refusal, recovery_try, refusal_for, replicas_of}
-use Rattle.run_laws.proofs.Prelude.{server_at, without_log}
-use Rattle.run_laws.proofs.Prelude.{row, same_label, same_Some, scan_step, scanned, scanned_over, seen_source, source_in, source_of, staged_refusal}
-use Rattle.run_laws.proofs.Prelude.{takeover_begins, takeover_refusal, takeover_try, tally-parts, times, unless_refused, unrefused, without_successor}
+use Rattle.run_laws.proofs.Prelude.{Detached, Entry, Instance, NamesLogging, NamesReplicasOnce, NoCandidate, NotMaster, NotReplica, Refusal, Server}
+use Rattle.run_laws.proofs.Prelude.{ServerNo, SourceState, Staged, UnknownInstance, Without, World, action-of, action_of, actionable_in, after_try}
+use Rattle.run_laws.proofs.Prelude.{and_parts, attached-replica, attached_of, by_name, can_succeed, case_of, code_at, code_of, counts_of, entry_of}
+use Rattle.run_laws.proofs.Prelude.{eqb-true, false≢true, first_refusal, from_start, has_log, has_successor, held_back, held_off, instance_at}
+use Rattle.run_laws.proofs.Prelude.{is_attached_to, is_given, is_instance, is_replica_of, is_valid, logs_by, logs_in, neither, no_master, no_replica}
+use Rattle.run_laws.proofs.Prelude.{none-some, none_replicates, not-true, only_if, purpose_by, recovery_begins, recovery_purpose, recovery_refusal}
+use Rattle.run_laws.proofs.Prelude.{recovery_try, refusal_for, replicas_of, row, same_label, same_Some, scan_step, scanned, scanned_over, seen_source}
+use Rattle.run_laws.proofs.Prelude.{server_at, source_in, source_of, staged_refusal, takeover_begins, takeover_refusal, takeover_try, tally-parts}
+use Rattle.run_laws.proofs.Prelude.{times, unless_refused, unrefused, without_log, without_successor}
 use Rattle.run_laws.proofs.Prelude.Lists.{first_of}
 use Rattle.run_laws.proofs.Prelude.Recoveries.{refusal_by}
 use Rattle.run_laws.proofs.Prelude.action
 use Rattle.run_laws.proofs.Prelude.check
 use Rattle.run_laws.proofs.Prelude.commands_refusal as refusal
 use Rattle.run_laws.proofs.Prelude.purpose
-use Rattle.std.proofs.Common.{◌≡◌, ℕ, ◌+◌, ◌<◌, ◌≤◌, ◌∙◌, ◌&&◌, Bool, true, false, cond, not, List, [], ◌∷◌, length, refl, sym, ap, subst, Option, Some, None, Ok, arith}
-use Rattle.std.specs.Prelude.{◌==◌, All, is_some, nat_lt, option_map}
+use Rattle.std.proofs.Common.{◌≡◌, ℕ, ◌+◌, ◌<◌, ◌≤◌, ◌∙◌, ◌&&◌, Bool, true, false, cond, not, List, [], ◌∷◌, length, refl, sym, ap, subst, Option, Some, None, Ok, arith, ◌==◌, All, is_some, nat_lt, option_map}
 use Rattle.run_laws.proofs.Once.{few-none, filtered-all, filtered-few, filtered-none, hit-few, none-few, ordered-few, ordered-once}
 
 -- ---- single tests
-
-passed : (b : Bool) (r : Refusal) → only_if (not b) r ≡ None → b ≡ true
-passed true r h = refl
-passed false r h = cc
 
 absent : (o : Option ServerNo) (r : Refusal) → only_if (is_some o) r ≡ None → o ≡ None
 absent None r h = refl
@@ -37,11 +33,6 @@ unattached : (i : ServerNo) (s : SourceState) → source_in s ≡ None → is_at
 unattached i Without h = refl
 unattached i (Attached m) h = cc
 unattached i (Detached m) h = refl
-
-attached-replica : (i : ServerNo) (s : SourceState) → is_given i (attached_in s) ≡ is_attached_to i s
-attached-replica i Without = refl
-attached-replica i (Attached m) = refl
-attached-replica i (Detached m) = refl
 
 of-five : (x1 x2 x3 x4 x5 : Option Refusal) → first_of (x1 ∷ x2 ∷ x3 ∷ x4 ∷ x5 ∷ []) ≡ None → (x4 ≡ None) × (x5 ≡ None) × (x2 ≡ None)
 of-five None None None None None h = (refl, refl, refl)

@@ -1,6 +1,5 @@
 -- Claims through runs of several orchestrators.
-use Rattle.std.proofs.Common.{◌≡◌, ◌≢◌, ◌∙◌, ℕ, ◌<◌, ◌≤◌, Bool, true, false, List, [], ◌∷◌, Option, Some, None, refl, sym, ap, subst, arith, ltb}
-use Rattle.std.specs.Prelude.{All, max, not, ◌==◌, if◌then◌else◌}
+use Rattle.std.proofs.Common.{◌≡◌, ◌≢◌, ◌∙◌, ℕ, ◌<◌, ◌≤◌, Bool, true, false, List, [], ◌∷◌, Option, Some, None, refl, sym, ap, subst, arith, ltb, All, max, not, ◌==◌, if◌then◌else◌}
 use Rattle.run_laws.proofs.Prelude.{Act, Acted, ActsWhereActive, All-head, All-tail, ClaimAnswer, Claimed, ClaimsAreReached, ClaimState, ClaimsWait}
 use Rattle.run_laws.proofs.Prelude.{ComesBefore, ComesTo, IsNode, IsNumberOf, IsReached, IsScenario, IsTurn, ItsClaimIsKept, LapsedDoesNothing, Later}
 use Rattle.run_laws.proofs.Prelude.{Made, Moment, NamesOneOf, OneIsActive, PassingLeavesNewJobs, PassingLeavesNoJob, PassingStartsAgain, Recovery}

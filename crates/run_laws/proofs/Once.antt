@@ -1,8 +1,7 @@
 -- How often a server is in the order by name, and in what a test leaves of a list.
 use Rattle.run_laws.proofs.Prelude.{HostPort, IsOrder-by_name, ServerNo, by_name, cases_lt, eq-eqb, eqb-true, false≢true, length-by_name, ne_eqb}
 use Rattle.run_laws.proofs.Prelude.{range_with_len, same-no as same-server, sum_by, sum_by-cons, sum_by-IsPermutation, times}
-use Rattle.std.proofs.Common.{◌≡◌, ℕ, ◌+◌, ◌<◌, ◌≤◌, ◌∙◌, Bool, true, false, cond, List, [], ◌∷◌, length, map, refl, sym, ap, subst, zero, suc, ◌⊎◌, inl, inr, arith}
-use Rattle.std.specs.Prelude.{◌==◌, filter}
+use Rattle.std.proofs.Common.{◌≡◌, ℕ, ◌+◌, ◌<◌, ◌≤◌, ◌∙◌, Bool, true, false, cond, List, [], ◌∷◌, length, map, refl, sym, ap, subst, zero, suc, ◌⊎◌, inl, inr, arith, ◌==◌, filter}
 
 -- how much one number adds
 abbrev hit : ℕ → ℕ → ℕ

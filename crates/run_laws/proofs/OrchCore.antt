@@ -1,6 +1,4 @@
 -- What is passed on of orch_core: lemmas that are cited above.
-pub use Rattle.orch_core.proofs.Claims
 pub use Rattle.orch_core.proofs.Comes
 pub use Rattle.orch_core.proofs.Finishing
 pub use Rattle.orch_core.proofs.Starts
-pub use Rattle.orch_core.proofs.States

@@ -1,6 +1,5 @@
 -- Recoveries begin without overlap in every state of a run, with the block periods of the scenario.
-use Rattle.std.proofs.Common.{◌≡◌, List, subst}
-use Rattle.std.specs.Prelude.{All}
+use Rattle.std.proofs.Common.{◌≡◌, List, subst, All}
 use Rattle.run_laws.proofs.Prelude.{All-map, BeginApartInTurn, Begins, ComesTo, Configuration, Recovery, Row, Scenario, State, Turn, entries_begun}
 use Rattle.run_laws.proofs.Prelude.{period_by, period_of, recoveries_begun}
 use Rattle.run_laws.proofs.Beginnings.{turn-apart, turn-periods}

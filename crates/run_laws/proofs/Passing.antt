@@ -1,7 +1,6 @@
 -- Each `Passage` of a turn may happen in a state with `Held`, and happens well in one with `Sound`. So each turn leaves
 -- a state with `Held`, and with `Sound` if it had it.
-use Rattle.std.proofs.Common.{ℕ, Bool, true, false, List, [], ◌∷◌, refl, sym, ap, subst, Option, Some, None}
-use Rattle.std.specs.Prelude.{is_some, if◌then◌else◌, IfSome}
+use Rattle.std.proofs.Common.{ℕ, Bool, true, false, List, [], ◌∷◌, refl, sym, ap, subst, Option, Some, None, is_some, if◌then◌else◌, IfSome}
 use Rattle.run_laws.proofs.Prelude.{Act, AllMayPass, AllPassWell, Allowed-step, Flight, HeldJobs, HeldState, IsAct, IsApartPassage, IsQuiet, IsStep}
 use Rattle.run_laws.proofs.Prelude.{IsTurn, MayPass, Outcome, PassesWell, Ready, Row, ServerNo, SoundJobs, SoundState, State, Step, Turn, Unended}
 use Rattle.run_laws.proofs.Prelude.{act-fits, act_in, act_passages, after_act, after_done, apart-held, apart-sound, by_command, by_job, by_recoveries}

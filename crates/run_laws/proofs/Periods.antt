@@ -25,7 +25,7 @@ turn-configured rows s (turn.As node a) = done-configured rows s (act_in s (turn
 turn-configured rows s (turn.Claim node) = done-configured rows s (act_in s (turn.Claim node))
 turn-configured rows s _ = refl
 
-configured : (s : State) (xs : List (List Row × Turn)) → (run_turns engine s xs).configuration ≡ s.configuration
+pub configured : (s : State) (xs : List (List Row × Turn)) → (run_turns engine s xs).configuration ≡ s.configuration
 configured s [] = refl
 configured s (x ∷ xs) = configured (step x.0 s x.1) xs ∙ turn-configured x.0 s x.1
 

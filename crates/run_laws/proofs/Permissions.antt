@@ -1,6 +1,5 @@
 -- Commands answer by the permission table, and a refused one changes nothing.
-use Rattle.std.proofs.Common.{◌≡◌, ◌∙◌, ℕ, ◌+◌, Bool, List, [], ◌∷◌, ◌++◌, refl, sym, ap, subst, Option, Some, None}
-use Rattle.std.specs.Prelude.{is_some, if◌then◌else◌}
+use Rattle.std.proofs.Common.{◌≡◌, ◌∙◌, ℕ, ◌+◌, Bool, List, [], ◌∷◌, ◌++◌, refl, sym, ap, subst, Option, Some, None, is_some, if◌then◌else◌}
 use Rattle.run_laws.proofs.Prelude.{Asks, AuditState, Begins as RecoveryBegins, BegunJob, BookState, Comes, CommandName, CommandTurn, Decided}
 use Rattle.run_laws.proofs.Prelude.{Decides, Discovers, Forgets, IsBegun, IsDone, Line, Observation, Outcome, Planner, Recovers, Refusal, Reply}
 use Rattle.run_laws.proofs.Prelude.{Route, Row, ServerNo, State, Status as Seen, TakesOver, Unended, UnknownInstance, Unreachable, about as given_or}
@@ -209,13 +208,10 @@ module _ (s : State) (c : CommandTurn) where
   takeover_leaves (Some i) d = taking_leaves i d
 
   route_leaves : (r : Route) → route_of c.command.name ≡ r → LeavesBegun s (begun_by s c.command r) (outcome_by s.world s.book s.audit s.configuration (numbers_of s) c r)
-  route_leaves Discovers is = told_begins (refusal_by s.world s.book s.audit s.configuration (numbers_of s) c.command Discovers) _ (answers_by s c Discovers is)
-  route_leaves Forgets is = told_begins (refusal_by s.world s.book s.audit s.configuration (numbers_of s) c.command Forgets) _ (answers_by s c Forgets is)
-  route_leaves (Asks q) is = told_begins (refusal_by s.world s.book s.audit s.configuration (numbers_of s) c.command (Asks q)) _ (answers_by s c (Asks q) is)
-  route_leaves (Decides d) is = told_begins (refusal_by s.world s.book s.audit s.configuration (numbers_of s) c.command (Decides d)) _ (answers_by s c (Decides d) is)
   route_leaves (Begins p) is = plan_leaves p (planned_refusal s.world s.book (record { 0 = s.moment }) s.configuration.every c.command p)
   route_leaves Recovers is = recovery_leaves c.command.i
   route_leaves TakesOver is = takeover_leaves c.command.i c.command.d
+  route_leaves x is = told_begins (refusal_by s.world s.book s.audit s.configuration (numbers_of s) c.command x) _ (answers_by s c x is)
 
   command_leaves : LeavesBegun s (begun_of s c.command) (command_outcome s c)
   unfolding outcome_of

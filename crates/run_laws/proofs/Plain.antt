@@ -1,6 +1,5 @@
 -- A job's turn, of a plan or a recovery, makes neither writes nor new files.
-use Rattle.std.proofs.Common.{◌≡◌, ℕ, ◌+◌, Bool, true, false, cond, List, [], ◌∷◌, ◌++◌, refl, ap, Option, Some, None, arith, IfSome}
-use Rattle.std.specs.Prelude.{All, count_by}
+use Rattle.std.proofs.Common.{◌≡◌, ℕ, ◌+◌, Bool, true, false, cond, List, [], ◌∷◌, ◌++◌, refl, ap, Option, Some, None, arith, IfSome, All, count_by}
 use Rattle.run_laws.proofs.Prelude.{All-append, All-cons, All-head, All-nil, All-tail, Ask, Attempts, BookState, Cause, Deed, Ends, Exchange, Goes}
 use Rattle.run_laws.proofs.Prelude.{IsAttachment, Job, Moment, Observation, Op, Purpose, Request, ServerNo, Sight, Stage, Stops, Unended, World}
 use Rattle.run_laws.proofs.Prelude.{attempts, bridge_at, by_deed, by_ops, can_attach, crossed-of, crossing_of, deed_of, flown, ground_of, hooked-has}

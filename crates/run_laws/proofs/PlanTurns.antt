@@ -1,6 +1,5 @@
 -- Each turn keeps the servers of the lines of plans' jobs on their way.
-use Rattle.std.proofs.Common.{◌≡◌, ◌∙◌, ℕ, Bool, true, false, cond, List, [], ◌∷◌, ◌++◌, refl, sym, ap, subst, Option, Some, None, inl, inr}
-use Rattle.std.specs.Prelude.{◌==◌, All}
+use Rattle.std.proofs.Common.{◌≡◌, ◌∙◌, ℕ, Bool, true, false, cond, List, [], ◌∷◌, ◌++◌, refl, sym, ap, subst, Option, Some, None, inl, inr, ◌==◌, All}
 use Rattle.run_laws.proofs.Prelude.{All-cons, All-find, All-nil, All-push, All-weaker, BookState, Command, Coordinates, Exchange, Flight, Gtids}
 use Rattle.run_laws.proofs.Prelude.{HasLeases, HasPath, HeldJob, HeldJobs, IsLeased, Job, Leases, Matches, Means, Moment, NoPath, Observation}
 use Rattle.run_laws.proofs.Prelude.{Passage, Path, PathCommand, Paths, Planner, ServerNo, Stays-keeps, Under-keeps, Unended, World, about_kind, after}

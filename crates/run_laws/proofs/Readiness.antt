@@ -1,6 +1,5 @@
 -- Each turn leaves all that is kept speaking of the servers, and so does an opening.
-use Rattle.std.proofs.Common.{◌≡◌, ◌∙◌, ℕ, ◌<◌, Bool, true, false, List, [], ◌∷◌, length, refl, sym, ap, subst, Option, Some, None, zero, suc, arith}
-use Rattle.std.specs.Prelude.{All, IsTrue, is_some, slice_index_or, slice_set, if◌then◌else◌, IfSome}
+use Rattle.std.proofs.Common.{◌≡◌, ◌∙◌, ℕ, ◌<◌, Bool, true, false, List, [], ◌∷◌, length, refl, sym, ap, subst, Option, Some, None, zero, suc, arith, All, IsTrue, is_some, slice_index_or, slice_set, if◌then◌else◌, IfSome}
 use Rattle.run_laws.proofs.Prelude.{Act, All-found, All-head, All-nil, All-replicate, All-set, All-tail, AllAllowed, Allowed-step, AuditState}
 use Rattle.run_laws.proofs.Prelude.{BookState, Change, ClaimState, Exchange, IsAct, IsBook, IsReady, IsScenario, IsSlot, IsTurn, Observation, Outcome}
 use Rattle.run_laws.proofs.Prelude.{Ready, Row, Scenario, ServerNo, State, Turn, Unended, act-fits, act_in, after_act, after_done, after_opening}
@@ -195,9 +194,7 @@ pub Ready-step : (count : ℕ) (rows : List Row) (s : State) (t : Turn) → Read
 Ready-step count rows s (turn.Step x) ready is = Ready-run count s (exchange_of x ∷ []) ready (Allowed-step count s.world x is).0
 Ready-step count rows s (turn.Tick seconds) ready is = Ready-tick count s seconds ready
 Ready-step count rows s (turn.Act a) ready is = Ready-act count rows s a ready is
-Ready-step count rows s (turn.As node a) ready is = Ready-claimed count rows s (turn.As node a) ready is
-Ready-step count rows s (turn.Claim node) ready is = Ready-claimed count rows s (turn.Claim node) ready is
-Ready-step count rows s (turn.Release node) ready is = Ready-claimed count rows s (turn.Release node) ready is
+Ready-step count rows s x ready is = Ready-claimed count rows s x ready is
 
 -- ---- an opening
 

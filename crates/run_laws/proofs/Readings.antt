@@ -1,6 +1,6 @@
 -- What is read of servers is stored, with numbers that rise.
-use Rattle.std.proofs.Common.{All, Bool, List, None, Option, Some, [], ap, arith, false, get_or-set_other, get_or-set_same, inl, inr, is_some, length, nat_lt, refl, replicate, subst, suc, sym, true, zero, ℕ, ◌<◌, ◌==◌, ◌∙◌, ◌∷◌, ◌≡◌, ◌≢◌, ◌≤◌}
-use Rattle.std.specs.Prelude.{fold, if◌then◌else◌, slice_index_or, slice_set}
+use Rattle.orch_core.proofs.Starts.{below}
+use Rattle.std.proofs.Common.{All, Bool, List, None, Option, Some, [], ap, arith, false, get_or-set_other, get_or-set_same, inl, inr, is_some, length, nat_lt, refl, replicate, subst, suc, sym, true, zero, ℕ, ◌<◌, ◌==◌, ◌∙◌, ◌∷◌, ◌≡◌, ◌≢◌, ◌≤◌, fold, if◌then◌else◌, slice_index_or, slice_set}
 use Rattle.run_laws.proofs.Prelude.{Act, All-cons, All-head, All-nil, All-tail, All-weaker, AuditState, BookState, Cause, Change, CommandTurn}
 use Rattle.run_laws.proofs.Prelude.{Decision, Deed, DiscoveriesRead, Discovers, Docket, Exchange, Flown, Hook, HookState, Instance, IsDiscovered}
 use Rattle.run_laws.proofs.Prelude.{IsKeptSo, IsStoredBy, Job, JobsStore, RestartsCountOn, reloaded_rows, Keys, Moment, Observation, Op, OpeningsGiveNumbers, Outcome, PollsRead, PollsStore}
@@ -33,10 +33,7 @@ use Rattle.run_laws.proofs.Making.{command-holds}
 use Rattle.run_laws.proofs.Ready.{place-within}
 use Rattle.run_laws.proofs.StartStates.{Opens, Opens-start}
 
-below : (m n : ℕ) → m < n → nat_lt m n ≡ true
-below m n h = grind arith
-
-not-below : (m n : ℕ) → n ≤ m → nat_lt m n ≡ false
+pub not-below : (m n : ℕ) → n ≤ m → nat_lt m n ≡ false
 not-below m n h = grind arith
 
 -- ---- a reading in a book

@@ -1,6 +1,5 @@
 -- What a command or a scan makes of a book leaves it one, of the same servers, and each job is of them.
-use Rattle.std.proofs.Common.{◌≡◌, ◌∙◌, ℕ, ◌+◌, ◌<◌, ◌≤◌, true, List, [], ◌∷◌, ◌++◌, length, map, sym, subst, Some}
-use Rattle.std.specs.Prelude.{All, ◌&&◌}
+use Rattle.std.proofs.Common.{◌≡◌, ◌∙◌, ℕ, ◌+◌, ◌<◌, ◌≤◌, true, List, [], ◌∷◌, ◌++◌, length, map, sym, subst, Some, All, ◌&&◌}
 use Rattle.run_laws.proofs.Prelude.{All-append, All-push, AreShort, BeginInTurn, Begins as RecoveryBegins, CanBegin, Comes, CommandTurn, Decision}
 use Rattle.run_laws.proofs.Prelude.{Effect, IsAskedFor, IsBook, IsCommand, IsEffectFor, IsReady, Outcome, Ready, ServerNo, State, are_known, asked}
 use Rattle.run_laws.proofs.Prelude.{asked-can, attempt_of, book_decided, both_true, change_is, command-comes, command_outcome, decided-effect}

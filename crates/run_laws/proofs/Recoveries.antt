@@ -1,29 +1,19 @@
 -- Recoveries that begin one after another leave what their `Passage`s leave.
-use Rattle.run_laws.proofs.Prelude.{All-head, All-tail, AllMayPass, AllPassWell, AuditState, BeginInTurn, Beginning, Begins, CanBegin, Flight, HeldJobs, IsAny}
-use Rattle.run_laws.proofs.Prelude.{IsHeldBeside, IsListed, IsListOf, IsSoundBeside, Job, Leases, NamesLogging, Purpose, ServerNo, SoundJobs, Unended}
-use Rattle.run_laws.proofs.Prelude.{World}
-use Rattle.run_laws.proofs.Prelude.{append-nil, are_held, are_listed, are_matched, begin-held, begin-sound, begun, by_recoveries, core_of}
-use Rattle.run_laws.proofs.Prelude.{cores-joined, first_ops, footing, joined, leased_to, leases_after, leases_of, matched_in, passed, passing}
-use Rattle.run_laws.proofs.Prelude.{recovery-held, recovery-sound, recovery_job, taken, taken-leases}
+use Rattle.run_laws.proofs.Prelude.{All-head, All-tail, AllMayPass, AllPassWell, AuditState, BeginInTurn, Beginning, Begins, CanBegin, Flight}
+use Rattle.run_laws.proofs.Prelude.{HeldJobs, IsAny, IsHeldBeside, IsListed, IsListOf, IsSoundBeside, Job, Leases, NamesLogging, Purpose, ServerNo}
+use Rattle.run_laws.proofs.Prelude.{SoundJobs, Unended, World, append-nil, are_listed, begin-held, begin-sound, begun, by_recoveries, core_of}
+use Rattle.run_laws.proofs.Prelude.{cores-joined, first-free as first-matched, first-held, first_ops, joined, leased_to, leases_after, leases_of}
+use Rattle.run_laws.proofs.Prelude.{passed, passing, recovery-held, recovery-sound, recovery_job, taken, taken-leases}
 use Rattle.run_laws.proofs.Prelude.JobLaws.{Begins as JobBegins}
 use Rattle.run_laws.proofs.Prelude.RecoveryPlans.{Recovery}
 use Rattle.run_laws.proofs.Prelude.purpose
 use Rattle.run_laws.proofs.Prelude.unended
-use Rattle.std.proofs.Common.{◌≡◌, ◌∙◌, ℕ, ◌<◌, true, List, [], ◌∷◌, ◌++◌, length, map, refl, sym, ap, subst, Option, Some}
-use Rattle.std.specs.Prelude.{All}
+use Rattle.std.proofs.Common.{◌≡◌, ◌∙◌, ℕ, ◌<◌, true, List, [], ◌∷◌, ◌++◌, length, map, refl, sym, ap, subst, Option, Some, All}
 use Rattle.run_laws.proofs.BegunInTurn.{length-taken}
 use Rattle.run_laws.proofs.Listing.{listed-behind}
 use Rattle.run_laws.proofs.PlanTurns.{AllOnWay, begun-on-way}
 
 -- ---- one that begins
-
-first-held : (w : World) (u : Purpose) (f : ServerNo) → are_held (footing w []) (first_ops u f) ≡ true
-first-held w purpose.Regroup f = refl
-first-held w _ f = refl
-
-first-matched : (u : Purpose) (f : ServerNo) → are_matched (matched_in []) (first_ops u f) ≡ true
-first-matched purpose.Regroup f = refl
-first-matched _ f = refl
 
 -- it only reads at first
 first-listed : (list : List ServerNo) (u : Purpose) (f : ServerNo) → are_listed list (first_ops u f) ≡ true

@@ -1,6 +1,5 @@
 -- Runs of turns, state by state: what each turn's exchanges keep.
-use Rattle.std.proofs.Common.{◌≡◌, ℕ, ◌+◌, ◌-◌, ◌≤◌, Bool, cond, List, [], ◌∷◌, ◌++◌, length, take, refl, sym, ◌∙◌, ap, subst, Option, None, Some, false, arith, zero, suc}
-use Rattle.std.specs.Prelude.{All, map, slice_get, count_by}
+use Rattle.std.proofs.Common.{◌≡◌, ℕ, ◌+◌, ◌-◌, ◌≤◌, Bool, cond, List, [], ◌∷◌, ◌++◌, length, take, refl, sym, ◌∙◌, ap, subst, Option, None, Some, false, arith, zero, suc, All, map, slice_get, count_by, ◌==◌}
 use Rattle.run_laws.proofs.Prelude.{Act, All-find, All-head, All-tail, All-take, AllAllowed, AllBridged, AllJoinWell, AllMeet, Allowed-step, ComesBy}
 use Rattle.run_laws.proofs.Prelude.{ComesTo, ComesWithin, Coord, Exchange, HasFiles, HeldJob, HeldState, IsHeldBeside, IsNotFull, IsQuiet, IsScenario}
 use Rattle.run_laws.proofs.Prelude.{IsSoundBeside, IsTurn, Job, NamesOneOf, Placed, Ready, Row, Safe, Scenario, Server, ServerNo, SoundState, State}
@@ -21,7 +20,6 @@ use Rattle.run_laws.proofs.Prelude.rotating
 use Rattle.run_laws.proofs.Prelude.turn
 use Rattle.run_laws.proofs.Prelude.turns_step as step
 use Rattle.run_laws.proofs.Prelude.unended
-use Rattle.std.specs.Prelude.{◌==◌}
 use Rattle.run_laws.proofs.Passing.{Held-step, Sound-step}
 use Rattle.run_laws.proofs.StartStates.{Held-start, Sound-start}
 use Rattle.run_laws.proofs.Plain.{IsPlain, flown-plain, none-counts}
@@ -154,11 +152,10 @@ Fit-done count s (Some a) goes q = Fit-act count s a goes q
 
 Fit-turn : (count : ℕ) (s : State) (t : Turn) → IsTurn count t → Goes count s → IsQuiet s.world → Fit s.world (exchanges_at s t)
 Fit-turn count s (turn.Step x) is goes q = let fit = Allowed-step count s.world x is in record { allowed = fit.0; join = fit.1 }
-Fit-turn count s (turn.Tick seconds) is goes q = Fit-none s.world
 Fit-turn count s (turn.Act a) is goes q = Fit-act count s a goes q
 Fit-turn count s (turn.As node a) is goes q = Fit-done count s (act_in s (turn.As node a)) goes q
 Fit-turn count s (turn.Claim node) is goes q = Fit-done count s (act_in s (turn.Claim node)) goes q
-Fit-turn count s (turn.Release node) is goes q = Fit-none s.world
+Fit-turn count s _ is goes q = Fit-none s.world
 
 Fit-along : (count : ℕ) (s : State) (xs : List (List Row × Turn)) → All (IsTurn count) (turns_of xs) → Goes count s → IsQuiet (run_turns engine s xs).world → Fit s.world (along s xs)
 unfolding along
@@ -200,11 +197,10 @@ adds-writes = record { each = each }
 
     each : (s : State) (t : Turn) → count_by adds (exchanges_at s t) ≡ tick (is_write t)
     each s (turn.Step x) = by-step x
-    each s (turn.Tick seconds) = refl
     each s (turn.Act a) = by-act s a
     each s (turn.As node a) = by-done s (act_in s (turn.As node a))
     each s (turn.Claim node) = by-done s (act_in s (turn.Claim node))
-    each s (turn.Release node) = refl
+    each s _ = refl
 
 opens-rotates : Tells opens_file is_rotate
 opens-rotates = record { each = each }
@@ -223,11 +219,10 @@ opens-rotates = record { each = each }
 
     each : (s : State) (t : Turn) → count_by opens_file (exchanges_at s t) ≡ tick (is_rotate t)
     each s (turn.Step x) = by-step x
-    each s (turn.Tick seconds) = refl
     each s (turn.Act a) = by-act s a
     each s (turn.As node a) = by-done s (act_in s (turn.As node a))
     each s (turn.Claim node) = by-done s (act_in s (turn.Claim node))
-    each s (turn.Release node) = refl
+    each s _ = refl
 
 -- the scenario's first turns and the next one are no more than all of a kind
 module _ (is : Turn → Bool) where

@@ -1,6 +1,5 @@
 -- The audit that is loaded of rows which follow one is that one, if its recoveries count.
-use Rattle.std.proofs.Common.{◌≡◌, ◌∙◌, ℕ, ◌-◌, ◌<◌, ◌≤◌, ◌^◌, Bool, true, false, cond, List, [], ◌∷◌, refl, sym, ap, subst, inl, inr, Option, Some, None, arith}
-use Rattle.std.specs.Prelude.{All, AllPairs, IfSome, ◌==◌, ◌⊎◌, find, option_map, if◌then◌else◌}
+use Rattle.std.proofs.Common.{◌≡◌, ◌∙◌, ℕ, ◌-◌, ◌<◌, ◌≤◌, ◌^◌, Bool, true, false, cond, List, [], ◌∷◌, refl, sym, ap, subst, inl, inr, Option, Some, None, arith, All, AllPairs, IfSome, ◌==◌, ◌⊎◌, find, option_map, if◌then◌else◌}
 use Rattle.run_laws.proofs.Prelude.{All-weaker, AuditState, FollowAudit, IsAudit, IsAudited, IsRising, Recovery, Row, as_row, audit_of, cases_lt}
 use Rattle.run_laws.proofs.Prelude.{counted, counts, eq-eqb, eqb-true, loaded-at, loaded_by, longest_block, ne_eqb, none-at, pairs_head, pairs_tail}
 use Rattle.run_laws.proofs.Prelude.{recoveries_in, row-of, row_at}

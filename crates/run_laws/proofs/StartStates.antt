@@ -1,6 +1,5 @@
 -- A run begins with `Held` and `Sound`: the bridges of an opening are those of the servers' statuses.
-use Rattle.std.proofs.Common.{◌≡◌, ◌∙◌, ◌⊎◌, ℕ, Bool, true, false, List, [], ◌∷◌, length, refl, sym, ap, subst, Option, Some, None, inl, inr}
-use Rattle.std.specs.Prelude.{All, IfSome, ◌&&◌, is_none, slice_index_or, if◌then◌else◌}
+use Rattle.std.proofs.Common.{◌≡◌, ◌∙◌, ◌⊎◌, ℕ, Bool, true, false, List, [], ◌∷◌, length, refl, sym, ap, subst, Option, Some, None, inl, inr, All, IfSome, ◌&&◌, is_none, slice_index_or, if◌then◌else◌}
 use Rattle.run_laws.proofs.Prelude.{All-at, All-head, All-nil, All-replicate, All-ring, All-set, All-tail, AllBridged, AllMeet, AreOwn, BookState}
 use Rattle.run_laws.proofs.Prelude.{Bridge, Bridged-seen, Change, HasLeases, HeldJob, HeldState, IsHeldBeside, IsScenario, IsShown, IsShownBridged}
 use Rattle.run_laws.proofs.Prelude.{IsSoundBeside, Leases, Moment, Placed, Placed-safe, Row, Rule, Safe, Safe-opened, Scenario, Server, ServerNo}

@@ -1,6 +1,5 @@
 -- Each command's plan starts what it stops.
-use Rattle.std.proofs.Common.{Bool, List, None, Option, Some, [], ap, false, refl, true, ℕ, ◌++◌, ◌==◌, ◌∙◌, ◌∷◌, ◌≡◌}
-use Rattle.std.specs.Prelude.{if◌then◌else◌}
+use Rattle.std.proofs.Common.{Bool, List, None, Option, Some, [], ap, false, refl, true, ℕ, ◌++◌, ◌==◌, ◌∙◌, ◌∷◌, ◌≡◌, if◌then◌else◌}
 use Rattle.run_laws.proofs.Prelude.{BookState, Command, CoordsCommand, GtidCommand, Line, MatchCommand, Op, Path, PathCommand, PlansStartAgain}
 use Rattle.run_laws.proofs.Prelude.{ServerNo, StartsWhatItStops, World, about_kind, about_one, after_deed, again, again_auto, auto, autos, by_gtids}
 use Rattle.run_laws.proofs.Prelude.{coords_command, deed_of, finished, flat_map, gtid_command, left_stopped, matching_plan, matchings, option_or}

@@ -1,14 +1,15 @@
 -- What the tables of servers, of the book and of the analysis say, row by row.
-use Rattle.std.proofs.Common.{All, Bool, List, None, Ok, Option, Result, Some, [], ap, arith, drop, false, inl, inr, length, nat_le, nat_lt, not, refl, subst, suc, sym, true, zero, ℕ, ◌&&◌, ◌++◌, ◌+◌, ◌-◌, ◌<◌, ◌||◌, ◌∙◌, ◌∷◌, ◌≡◌, ◌≤◌, ◌⊎◌}
-use Rattle.std.specs.Prelude.{Contains, if◌then◌else◌, slice_get, slice_set}
-use Rattle.run_laws.proofs.Prelude.{All-cons, All-contains, All-nil, All-weaker, AnswersWrites, BookState, Bridge, Contains-append_left}
-use Rattle.run_laws.proofs.Prelude.{Contains-append_right, Contains-get_or, CountsByInstances, CountsReplicas, EndsInTime, Instance, IoState}
-use Rattle.run_laws.proofs.Prelude.{KeepsSixteen, Moment, Replicates, RunsAllServers, Server, ServerNo, ServersByTable, StartsAgain, State}
-use Rattle.run_laws.proofs.Prelude.{ThreadsByTable, Turn, World, WriteAnswer, WritesByTable, after_write, and_parts, by_name, changed_server}
-use Rattle.run_laws.proofs.Prelude.{count_own, drop-append-le, end_after, false≢true, flat_map, healed, is_attached, is_before, is_connected}
-use Rattle.run_laws.proofs.Prelude.{length-append, own_txn, polls, replicates, replicates_turns, round_of, rule_after, same_Some, server_at}
-use Rattle.run_laws.proofs.Prelude.{AttachFault, AttachesBySet, AttachesByTable, Coord, GoesOn, attach_at, attach_auto, attached_auto, attached_set}
-use Rattle.run_laws.proofs.Prelude.{attached_to, attached_world, auto_coord, slice_get_within, took, uuids, write, write_answer}
+use Rattle.run_laws.proofs.Readings.{not-below}
+use Rattle.orch_core.proofs.Starts.{below}
+use Rattle.std.proofs.Common.{All, Bool, List, None, Ok, Option, Result, Some, [], ap, arith, drop, false, inl, inr, length, nat_le, not, refl, subst, suc, sym, true, zero, ℕ, ◌&&◌, ◌++◌, ◌+◌, ◌-◌, ◌<◌, ◌||◌, ◌∙◌, ◌∷◌, ◌≡◌, ◌≤◌, ◌⊎◌, Contains, if◌then◌else◌, slice_get, slice_set}
+use Rattle.run_laws.proofs.Prelude.{All-cons, All-contains, All-nil, All-weaker, AnswersWrites, AttachesBySet, AttachesByTable, AttachFault}
+use Rattle.run_laws.proofs.Prelude.{BookState, Bridge, Contains-append_left, Contains-append_right, Contains-get_or, Coord, CountsByInstances}
+use Rattle.run_laws.proofs.Prelude.{CountsReplicas, EndsInTime, GoesOn, Instance, IoState, KeepsSixteen, Moment, Replicates, RunsAllServers, Server}
+use Rattle.run_laws.proofs.Prelude.{ServerNo, ServersByTable, StartsAgain, State, ThreadsByTable, Turn, World, WriteAnswer, WritesByTable}
+use Rattle.run_laws.proofs.Prelude.{after_write, and_parts, attach_at, attach_auto, attached_auto, attached_set, attached_to, attached_world}
+use Rattle.run_laws.proofs.Prelude.{auto_coord, by_name, changed_server, count_own, drop-append-le, end_after, false≢true, first-part as and-left}
+use Rattle.run_laws.proofs.Prelude.{flat_map, healed, is_attached, is_before, is_connected, length-append, own_txn, polls, replicates}
+use Rattle.run_laws.proofs.Prelude.{replicates_turns, round_of, rule_after, same_Some, server_at, slice_get_within, took, uuids, write, write_answer}
 use Rattle.run_laws.proofs.Prelude.act
 use Rattle.run_laws.proofs.Prelude.io
 use Rattle.run_laws.proofs.Prelude.rule
@@ -22,9 +23,6 @@ slice_get-set_same (y ∷ xs) zero x h = refl
 slice_get-set_same (y ∷ xs) (suc n) x h = slice_get-set_same xs n x (omega (arith, h))
 
 -- ---- the analysis
-
-and-left : (a b : Bool) → (a && b) ≡ true → a ≡ true
-and-left a b h = (and_parts a b h).0
 
 and-right : (a b : Bool) → (a && b) ≡ true → b ≡ true
 and-right a b h = (and_parts a b h).1
@@ -76,12 +74,6 @@ keeps-sixteen ring b = record { room = λ few. with-room few _; full = λ all. w
         inr (ap (λ (k : ℕ). drop k (ring ++ b ∷ [])) one ∙ drop-append-le 1 ring (b ∷ []) (omega (arith, all)))
 
 -- ---- ends
-
-below : (m n : ℕ) → m < n → nat_lt m n ≡ true
-below m n h = grind arith
-
-not-below : (m n : ℕ) → n ≤ m → nat_lt m n ≡ false
-not-below m n h = grind arith
 
 pub ends-in-time : (b : BookState) (n : ServerNo) (now : Moment) → EndsInTime b n now
 ends-in-time b n now = record {

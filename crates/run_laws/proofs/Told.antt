@@ -1,6 +1,5 @@
 -- What begins is the same for its lines, its entry and its tries, whatever values its hooks get.
-use Rattle.std.proofs.Common.{◌≡◌, ℕ, ◌+◌, List, [], ◌∷◌, ap, refl, inl, inr}
-use Rattle.std.specs.Prelude.{map}
+use Rattle.std.proofs.Common.{◌≡◌, ℕ, ◌+◌, List, [], ◌∷◌, ap, refl, inl, inr, map}
 use Rattle.run_laws.proofs.Prelude.{AreLinesOf, AreTries, Begins, BookState, Configuration, Entry, Left, Line, Recovery as KeptRecovery, Scan}
 use Rattle.run_laws.proofs.Prelude.{after_begun, entries_of, with_told}
 

@@ -1,6 +1,5 @@
 -- What a turn leaves of the servers and the jobs.
-use Rattle.std.proofs.Common.{◌≡◌, ℕ, List, [], ◌∷◌, refl, ap, subst, Option, Some, None}
-use Rattle.std.specs.Prelude.{IfSome}
+use Rattle.std.proofs.Common.{◌≡◌, ℕ, List, [], ◌∷◌, refl, ap, subst, Option, Some, None, IfSome}
 use Rattle.run_laws.proofs.Prelude.{Act, CommandTurn, IsAct, IsTurn, Row, State, Step, Turn, Unended, World, act-fits, act_in, after_act, after_done}
 use Rattle.run_laws.proofs.Prelude.{command_outcome, exchange_of, job_exchanges, jobs_turned, run, scan_outcome, state_settled, step, turned_at}
 use Rattle.run_laws.proofs.Prelude.act

@@ -1,6 +1,5 @@
 -- What is passed on of unended_laws: lemmas that are cited above.
 pub use Rattle.unended_laws.proofs.Checking
-pub use Rattle.unended_laws.proofs.Cores
 pub use Rattle.unended_laws.proofs.CoveredBeside
 pub use Rattle.unended_laws.proofs.CoveredTurning
 pub use Rattle.unended_laws.proofs.Ending

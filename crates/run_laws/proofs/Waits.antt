@@ -1,19 +1,17 @@
 -- The operations of each job may wait as often as the run allows.
-use Rattle.std.proofs.Common.{All, List, None, Option, Some, [], ap, false, map, refl, subst, sym, true, ℕ, ◌+◌, ◌==◌, ◌∙◌, ◌∷◌, ◌≡◌}
-use Rattle.run_laws.proofs.Prelude.{job_in, means_of}
+use Rattle.std.proofs.Common.{All, List, None, Option, Some, [], ap, map, refl, subst, sym, true, ℕ, ◌+◌, ◌==◌, ◌∙◌, ◌∷◌, ◌≡◌}
 use Rattle.run_laws.proofs.Prelude.{All-append, All-find, All-map, All-nil, All-push, Begins as RecoveryBegins, BegunJob, BegunMayWait, BookState}
-use Rattle.run_laws.proofs.Prelude.{Command, CommandTurn, Configuration, Deed, Does, Exchange, IsTaken, Job, JobsMayWait}
-use Rattle.run_laws.proofs.Prelude.{KeepsAlways, MayWait, Means, Moment, Observation, Op, Planner, RecoveryJob, Row, ServerNo, Stage, State, Turn}
-use Rattle.run_laws.proofs.Prelude.{Turned, Unended, World, all-turned, always, attempt_in, borne, by_deed, command_outcome, decided_by, deed-taken}
-use Rattle.run_laws.proofs.Prelude.{deed_of, ended_by, engine, entered, false≢true, fate_of, flown, follows_no_more, going, ground_of, hooked-has}
-use Rattle.run_laws.proofs.Prelude.{is_going, job_at, job_by, jobs_turned, kept-whole, known_of, leaver, moved, next_count, number_of, option_map}
+use Rattle.run_laws.proofs.Prelude.{Command, CommandTurn, Configuration, Deed, Does, Exchange, IsTaken, Job, JobsMayWait, KeepsAlways, MayWait, Means}
+use Rattle.run_laws.proofs.Prelude.{Moment, Observation, Op, Planner, RecoveryJob, Row, ServerNo, Stage, State, Turn, Turned, Unended, World}
+use Rattle.run_laws.proofs.Prelude.{all-turned, always, attempt_in, borne, by_deed, command_outcome, decided_by, deed-taken, deed_of, ended_by}
+use Rattle.run_laws.proofs.Prelude.{engine, entered, false≢true, fate_of, flown, follows_no_more, going, ground_of, hooked-has, is_going, job_at}
+use Rattle.run_laws.proofs.Prelude.{job_by, job_in, jobs_turned, kept-whole, known_of, leaver, means_of, moved, next_count, number_of, option_map}
 use Rattle.run_laws.proofs.Prelude.{promoted_in, recoveries_scanned, recovery_job, regroup_about, run_turns, scan_in, start, step, turn-idle}
 use Rattle.run_laws.proofs.Prelude.{turn-taken, turn_of, turned, updated, with_told}
 use Rattle.run_laws.proofs.Prelude.Turns
 use Rattle.run_laws.proofs.Prelude.events
 use Rattle.run_laws.proofs.Prelude.jobstep
 use Rattle.run_laws.proofs.Prelude.move
-use Rattle.run_laws.proofs.Prelude.planner
 use Rattle.run_laws.proofs.Prelude.taking
 use Rattle.run_laws.proofs.Prelude.unended
 use Rattle.run_laws.proofs.Prelude.comes

@@ -7,7 +7,6 @@ use Rattle.run_laws.specs.Prelude.TheVariants.{Begins}
 use Rattle.run_laws.specs.Prelude.act
 use Rattle.run_laws.specs.Prelude.kind
 use Rattle.run_laws.specs.Prelude.purpose
-use Rattle.run_laws.specs.Prelude.turn
 
 -- ---- what it is for
 
@@ -53,12 +52,7 @@ IsAskedOf s None x = ⊥
 IsAskedOf s (Some a) x = IsAskedIn s a x
 
 abbrev pub IsAsked : State → Turn → RecoveryBegins → Type 0
-IsAsked s (turn.Step y) x = ⊥
-IsAsked s (turn.Tick seconds) x = ⊥
-IsAsked s (turn.Act a) x = IsAskedIn s a x
-IsAsked s (turn.As node a) x = IsAskedOf s (act_in s (turn.As node a)) x
-IsAsked s (turn.Claim node) x = IsAskedOf s (act_in s (turn.Claim node)) x
-IsAsked s (turn.Release node) x = ⊥
+IsAsked s t x = IsAskedOf s (act_in s t) x
 
 -- a recovery that a turn begins was asked for in it, and its entry has what it is about
 pub record IsAimed (s : State) (t : Turn) (x : RecoveryBegins) : Type 0 where

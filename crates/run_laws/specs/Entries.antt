@@ -5,7 +5,6 @@ use Rattle.run_laws.specs.Prelude.{Route, ServerNo, Staged, State, TakesOver, Tu
 use Rattle.run_laws.specs.Prelude.{route_of, scanned, takeover_try, terms_of, told_try, with_told}
 use Rattle.run_laws.specs.Prelude.TheVariants.{Begins}
 use Rattle.run_laws.specs.Prelude.act
-use Rattle.run_laws.specs.Prelude.turn
 use Rattle.run_laws.specs.Begins.{entries_of}
 
 -- ---- by a command
@@ -69,12 +68,7 @@ recoveries_done s None = []
 recoveries_done s (Some a) = recoveries_in_act s a
 
 abbrev pub recoveries_begun : State → Turn → List RecoveryBegins
-recoveries_begun s (turn.Step x) = []
-recoveries_begun s (turn.Tick seconds) = []
-recoveries_begun s (turn.Act a) = recoveries_in_act s a
-recoveries_begun s (turn.As node a) = recoveries_done s (act_in s (turn.As node a))
-recoveries_begun s (turn.Claim node) = recoveries_done s (act_in s (turn.Claim node))
-recoveries_begun s (turn.Release node) = []
+recoveries_begun s t = recoveries_done s (act_in s t)
 
 -- their entries, in order
 abbrev pub entries_begun : State → Turn → List Recovery

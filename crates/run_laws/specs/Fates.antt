@@ -80,12 +80,7 @@ entry_in_done s None k = k
 entry_in_done s (Some a) k = entry_in_act s a k
 
 abbrev pub entry_after : State → Turn → KeptRecovery → KeptRecovery
-entry_after s (turn.Step x) k = k
-entry_after s (turn.Tick seconds) k = k
-entry_after s (turn.Act a) k = entry_in_act s a k
-entry_after s (turn.As node a) k = entry_in_done s (act_in s (turn.As node a)) k
-entry_after s (turn.Claim node) k = entry_in_done s (act_in s (turn.Claim node)) k
-entry_after s (turn.Release node) k = k
+entry_after s t k = entry_in_done s (act_in s t) k
 
 -- each entry that there was becomes what the turn makes of it, and those that begin in it come after
 abbrev pub AuditIs : List Row → State → Turn → Type 0

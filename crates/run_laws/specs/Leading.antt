@@ -58,9 +58,9 @@ led_by n below at (deed.Match k m every) = at
 led_by n below at (deed.Finish lines) = at
 
 -- and operations, one after another
-abbrev pub led : ℕ → Below → Option ServerNo → List Op → Option ServerNo
-led n below at [] = at
-led n below at (x ∷ xs) = led n (below_after below (deed_of x)) (led_by n below at (deed_of x)) xs
+abbrev pub led_by_all : ℕ → Below → Option ServerNo → List Op → Option ServerNo
+led_by_all n below at [] = at
+led_by_all n below at (x ∷ xs) = led_by_all n (below_after below (deed_of x)) (led_by n below at (deed_of x)) xs
 
 -- the lines that operations end with
 abbrev pub lines_by : Deed → List Line
@@ -83,7 +83,7 @@ lines_of_ops (x ∷ xs) = lines_by (deed_of x) ++ lines_of_ops xs
 
 -- each server that a line has below another is led there
 abbrev pub LeadsAsTold : List Op → Type 0
-LeadsAsTold ops = (r s : ServerNo) → Contains (lines_of_ops ops) (line.Follows r s) → led r.0 (λ n. None) None ops ≡ Some s
+LeadsAsTold ops = (r s : ServerNo) → Contains (lines_of_ops ops) (line.Follows r s) → led_by_all r.0 (λ n. None) None ops ≡ Some s
 
 -- no instance is its own source
 abbrev pub HasNoOwnSource : BookState → Type 0

@@ -1,9 +1,8 @@
 -- What the tables of servers, of the book and of the analysis say, row by row.
 use Rattle.std.specs.Prelude.{◌≡◌, ◌⊎◌, ℕ, ◌<◌, ◌≤◌, Bool, Ok, true, false, Contains, List, [], ◌∷◌, ◌++◌, count_by, drop, length, None, Some}
 use Rattle.run_laws.specs.Prelude.{Attached, BookState, Bridge, Candidate, Coord, Downtime, Instance, Moment, Position, Server, ServerNo, Spot, State}
-use Rattle.run_laws.specs.Prelude.{attach_at, attach_auto}
-use Rattle.run_laws.specs.Prelude.{Turn, World, after, asked, by_name, candidate_kept, counts_of, downtime_at, downtime_kept, is_attached, is_before, is_replica_that}
-use Rattle.run_laws.specs.Prelude.{lags, replicates, round_of, rule_at, server_at, with_bridge, write}
+use Rattle.run_laws.specs.Prelude.{Turn, World, after, asked, attach_at, attach_auto, by_name, candidate_kept, counts_of, downtime_at, downtime_kept}
+use Rattle.run_laws.specs.Prelude.{is_attached, is_before, is_replica_that, lags, replicates, round_of, rule_at, server_at, with_bridge, write}
 use Rattle.run_laws.specs.Prelude.act
 use Rattle.run_laws.specs.Prelude.asking
 use Rattle.run_laws.specs.Prelude.event

@@ -1,4 +1,4 @@
-mod Prelude
+pub mod Prelude
 pub mod Quotes
 pub mod Printed
 pub mod Lists

@@ -137,7 +137,7 @@ literal text all = IsUtf8-are_ascii text all
 All-first : {A : Type 0} (P : A → Type 0) (x : A) (xs : List A) → All P (x ∷ xs) → P x
 All-first P x xs all = all 0 x (omega arith)
 
-All-rest : {A : Type 0} (P : A → Type 0) (x : A) (xs : List A) → All P (x ∷ xs) → All P xs
+pub All-rest : {A : Type 0} (P : A → Type 0) (x : A) (xs : List A) → All P (x ∷ xs) → All P xs
 All-rest P x xs all = λ k d below. all (suc k) d (omega arith)
 
 has_items : {A : Type 0} (f : A → Data) (P : A → Type 0) (xs : List A) → ((x : A) → P x → HasUtf8 (f x)) → All P xs → ItemsHaveUtf8 (items_of f xs)

@@ -1,13 +1,10 @@
 -- Lists and objects, item by item.
-use Rattle.std.proofs.Common.{◌≡◌, ◌∙◌, ◌≤◌, ℕ, suc, ◌+◌, ◌-◌, Bool, true, false, ◌||◌, ◌∷◌, List, [], ◌++◌, length, drop, sym, ap, ap₂, refl, arith, append_assoc}
-use Rattle.std.specs.Prelude.{Some, nat_lt, slice_get, replicate}
+use Rattle.scenario_generator.proofs.Reading.{regroup}
+use Rattle.std.proofs.Common.{◌≡◌, ◌∙◌, ◌≤◌, ℕ, suc, ◌+◌, ◌-◌, Bool, true, false, ◌||◌, ◌∷◌, List, [], ◌++◌, length, drop, sym, ap, ap₂, refl, arith, Some, nat_lt, slice_get, replicate}
 use Rattle.scenario_dump.proofs.Prelude.{Data, comma_if, common_steps, compact_text, count_data, drop_all, items_of, items_text, slice_get-drop}
 
 some_behind : (n : ℕ) → nat_lt 0 (n + 1) ≡ true
 some_behind n = grind (arith, common_steps)
-
-regroup : (out a b c : List ℕ) → (out ++ (a ++ b)) ++ c ≡ out ++ (a ++ (b ++ c))
-regroup out a b c = simp append_assoc
 
 -- ---- lists
 

@@ -1,6 +1,5 @@
 -- After how many transactions a log was flushed, one transaction after another.
-use Rattle.std.proofs.Common.{◌≡◌, ◌∙◌, ◌<◌, ◌≤◌, ℕ, zero, suc, ◌+◌, ◌-◌, Bool, true, false, ◌||◌, ◌∷◌, List, [], ◌++◌, length, drop, sym, ap, ap₂, refl, arith, append_assoc, append-nil}
-use Rattle.std.specs.Prelude.{Some, nat_le, nat_lt, slice_get, replicate}
+use Rattle.std.proofs.Common.{◌≡◌, ◌∙◌, ◌<◌, ◌≤◌, ℕ, zero, suc, ◌+◌, ◌-◌, Bool, true, false, ◌||◌, ◌∷◌, List, [], ◌++◌, length, drop, sym, ap, ap₂, refl, arith, append_assoc, append-nil, Some, nat_le, nat_lt, slice_get, replicate}
 use Rattle.scenario_dump.proofs.Prelude.{Entry, Log, common_steps, compact_text, coord_after, count_data, drop_all, end_coord, end_or_first}
 use Rattle.scenario_dump.proofs.Prelude.{file_behind, flush_points, flushed_from, items_of, items_text, list_data, slice_get-drop}
 

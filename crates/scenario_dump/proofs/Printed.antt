@@ -1,7 +1,7 @@
 -- What was printed, part by part.
 pub use Rattle.scenario_generator.proofs.Texts.{appended}
 pub use Rattle.std.proofs.lemmas.Result.{on_ok_weaker as map_ok}
-use Rattle.std.proofs.Common.{Bool, ◌≡◌, ◌∙◌, ℕ, ◌∷◌, List, [], ◌++◌, Result, sym, ap, ap₂, append_assoc, append-nil, decimal}
+use Rattle.std.proofs.Common.{Bool, ◌≡◌, ◌∙◌, ℕ, ◌∷◌, List, [], ◌++◌, sym, ap, ap₂, append_assoc, append-nil, decimal}
 use Rattle.scenario_dump.proofs.Prelude.{Token, Version, comma_if, escape, print, print_from, quoted, version_text}
 use Rattle.scenario_dump.proofs.Prelude.Json.{string}
 use Rattle.scenario_dump.proofs.Quotes.{escape-version_text}

@@ -1,42 +1,15 @@
 -- Texts that are in quotes as they are.
-use Rattle.scenario_dump.proofs.Prelude.{Coord, HostPort, IsName, Version, and_parts as both, by_index, common_steps, coord_text, digit_glyph}
-use Rattle.scenario_dump.proofs.Prelude.{digit_place, digits, digits_onto, drop-nil, escape, escape_byte, escape_byte_plain, false≢true, hex_digit}
-use Rattle.scenario_dump.proofs.Prelude.{is_host_byte, is_hyphen_place, list_all, lower, nibble, nibble_small, printed, six_digits, to_be_bytes}
-use Rattle.scenario_dump.proofs.Prelude.{uuid_text, version_text, w128}
-use Rattle.std.proofs.Common.{◌≡◌, ◌∙◌, ◌==◌, ℕ, zero, suc, ◌+◌, ◌/◌, ◌%◌, ◌<◌, Bool, true, false, cond, ◌∷◌, List, [], ◌++◌, length, drop, sym, ap, ap₂, subst, refl, arith, append_assoc, decimal}
-use Rattle.std.specs.Prelude.{codes, if◌then◌else◌}
-
-escape-append : (a b : List ℕ) → escape (a ++ b) ≡ escape a ++ escape b
-escape-append [] b = refl
-escape-append (x ∷ xs) b = ap (λ (v : List ℕ). escape_byte x ++ v) (escape-append xs b) ∙ sym (append_assoc (escape_byte x) (escape xs) (escape b))
+use Rattle.scenario_generator.proofs.Texts.{escape-append, escape-decimal}
+use Rattle.scenario_dump.proofs.Prelude.{Coord, HostPort, IsName, Version, and_parts as both, by_index, common_steps, coord_text, digit_place}
+use Rattle.scenario_dump.proofs.Prelude.{drop-nil, escape, escape_byte, escape_byte_plain, false≢true, hex_digit, is_host_byte, is_hyphen_place}
+use Rattle.scenario_dump.proofs.Prelude.{list_all, lower, nibble, nibble_small, printed, six_digits, to_be_bytes, uuid_text, version_text, w128}
+use Rattle.std.proofs.Common.{◌≡◌, ◌∙◌, ℕ, zero, suc, ◌+◌, ◌<◌, Bool, true, false, ◌∷◌, List, [], ◌++◌, length, drop, ap, ap₂, subst, refl, arith, decimal, codes, if◌then◌else◌}
 
 -- both parts are unchanged
 escape-both : (a b : List ℕ) → escape a ≡ a → escape b ≡ b → escape (a ++ b) ≡ a ++ b
 escape-both a b first second = escape-append a b ∙ ap₂ (λ (v w : List ℕ). v ++ w) first second
 
 -- ---- decimals
-
-plain_glyph : (n : ℕ) → escape_byte (digit_glyph false (n % 10)) ≡ digit_glyph false (n % 10) ∷ []
-plain_glyph n =
-    let same : digit_glyph false (n % 10) ≡ 48 + n % 10 = grind (arith, common_steps) in
-    rw same (escape_byte_plain (48 + n % 10) (λ e. omega arith) (λ e. omega arith) (omega arith))
-
-escape-either : (b : Bool) (x y : List ℕ) → escape x ≡ x → escape y ≡ y → escape (cond b x y) ≡ cond b x y
-escape-either true x y same same' = same
-escape-either false x y same same' = same'
-
-escape-glyph : (n : ℕ) (acc : List ℕ) → escape acc ≡ acc → escape (digit_glyph false (n % 10) ∷ acc) ≡ digit_glyph false (n % 10) ∷ acc
-escape-glyph n acc same = ap (λ (v : List ℕ). v ++ escape acc) (plain_glyph n) ∙ ap (λ (v : List ℕ). digit_glyph false (n % 10) ∷ v) same
-
-escape-onto : (k n : ℕ) (acc : List ℕ) → escape acc ≡ acc → escape (digits_onto k 10 false n acc) ≡ digits_onto k 10 false n acc
-escape-onto zero n acc same = same
-escape-onto (suc k) n acc same =
-    let last = escape-glyph n acc same in
-    escape-either (n / 10 == 0) (digit_glyph false (n % 10) ∷ acc) (digits_onto k 10 false (n / 10) (digit_glyph false (n % 10) ∷ acc)) last (escape-onto k (n / 10) (digit_glyph false (n % 10) ∷ acc) last)
-
-escape-decimal : (n : ℕ) → escape (decimal n) ≡ decimal n
-unfolding digits
-escape-decimal n = escape-onto 64 n [] refl
 
 -- ---- coordinates, names, UUIDs and versions
 

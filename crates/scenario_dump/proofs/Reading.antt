@@ -1,6 +1,6 @@
 -- The value of the world reads back.
-use Rattle.std.proofs.Common.{◌≡◌, ◌∙◌, ◌<◌, ℕ, zero, suc, ◌+◌, ◌^◌, true, ◌∷◌, List, [], Option, Some, None, refl, ap, arith}
-use Rattle.std.specs.Prelude.{All, codes, map, slice_get}
+use Rattle.scenario_dump.proofs.Lines.{All-rest}
+use Rattle.std.proofs.Common.{◌≡◌, ◌∙◌, ◌<◌, ℕ, zero, suc, ◌+◌, ◌^◌, true, ◌∷◌, List, [], Option, Some, None, refl, ap, arith, All, codes, map, slice_get}
 use Rattle.scenario_dump.proofs.Prelude.{Alias, Block, ClusterFilters, Coord, Data, Hook, Hooks, IsReadable, IsRising, Less, Members, Part, Scenario}
 use Rattle.scenario_dump.proofs.Prelude.{Server, ServerInit, ServerNo, World, aliases_data, blocks_data, count_data, dump_data, dump_text}
 use Rattle.scenario_dump.proofs.Prelude.{filters_data, hook_data, hooks_data, init_by, init_of, items_of, list_data, member, nat_cmp}
@@ -13,9 +13,6 @@ use Rattle.scenario_dump.proofs.ReadBack.{is_after, EachReads, Reads, ReadsItems
 
 All-first : {A : Type 0} (P : A → Type 0) (x : A) (xs : List A) → All P (x ∷ xs) → P x
 All-first P x xs all = all 0 x (omega arith)
-
-All-rest : {A : Type 0} (P : A → Type 0) (x : A) (xs : List A) → All P (x ∷ xs) → All P xs
-All-rest P x xs all = λ k d below. all (suc k) d (omega arith)
 
 reads_items : {A : Type 0} (k : ℕ) (f : A → Data) (P : A → Type 0) (xs : List A) → ((x : A) → P x → Reads k (f x)) → All P xs → ReadsItems k (items_of f xs)
 reads_items k f P [] each all = reads_no_items k

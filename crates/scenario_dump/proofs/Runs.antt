@@ -1,8 +1,8 @@
 -- Parts of histories, one transaction after another.
-use Rattle.scenario_dump.proofs.Prelude.{Data, Part, Txn, and_parts as both, behind, comma_if, common_steps, compact_text, drop_all, eqb-true}
+use Rattle.scenarios.proofs.OpeningsProofs.Agreements.{eqb-swap as flipped}
+use Rattle.scenario_dump.proofs.Prelude.{Data, Part, Txn, and_parts as both, behind, comma_if, compact_text, drop_all, eqb-true}
 use Rattle.scenario_dump.proofs.Prelude.{is_like, items_of, items_text, list_data, part_of, parts_of, slice_get-drop}
-use Rattle.std.proofs.Common.{◌≡◌, ◌∙◌, ◌==◌, ◌≤◌, ℕ, ◌+◌, Bool, true, false, ◌&&◌, ◌∷◌, List, [], ◌++◌, length, drop, sym, ap, ap₂, refl, arith, append_assoc}
-use Rattle.std.specs.Prelude.{Some, if◌then◌else◌, slice_get}
+use Rattle.std.proofs.Common.{◌≡◌, ◌∙◌, ◌==◌, ◌≤◌, ℕ, ◌+◌, Bool, true, false, ◌&&◌, ◌∷◌, List, [], ◌++◌, length, drop, sym, ap, ap₂, refl, arith, append_assoc, Some, if◌then◌else◌, slice_get}
 
 -- a part before others: the first of them joins it if it is like it
 abbrev alike : Part → Part → Bool
@@ -11,9 +11,6 @@ alike p q = p.origin.0 == q.origin.0 && p.size == q.size
 abbrev pub merged : Part → List Part → List Part
 merged p [] = p ∷ []
 merged p (q ∷ qs) = if alike p q then record p { count = p.count + q.count } ∷ qs else p ∷ q ∷ qs
-
-flipped : (a b : ℕ) → (a == b) ≡ (b == a)
-flipped a b = grind (arith, common_steps)
 
 alike_flipped : (a b c d : ℕ) → (a == b && c == d) ≡ (b == a && d == c)
 alike_flipped a b c d = ap₂ (λ (x y : Bool). x && y) (flipped a b) (flipped c d)

@@ -1,6 +1,5 @@
 -- The text of a server, part by part.
-use Rattle.std.proofs.Common.{◌≡◌, ◌∙◌, ℕ, Bool, true, ◌∷◌, List, [], ◌++◌, length, sym, ap, ap₂, refl, append_assoc, decimal}
-use Rattle.std.specs.Prelude.{Option, Some, None, codes, option_map, slice_get}
+use Rattle.std.proofs.Common.{◌≡◌, ◌∙◌, ℕ, Bool, true, ◌∷◌, List, [], ◌++◌, length, sym, ap, ap₂, refl, append_assoc, decimal, Option, Some, None, codes, option_map, slice_get}
 use Rattle.scenario_dump.proofs.Prelude.{Coord, Members, Plain, Server, ServerNo, Settings, Without, World, boolean, compact_text, coord_data}
 use Rattle.scenario_dump.proofs.Prelude.{coord_text, count_data, end_text, escape_byte, fixed_text, flag_text, flushes_text, history_text, init_of}
 use Rattle.scenario_dump.proofs.Prelude.{is_detached, length-map, list_data, member, member_for, members_text, name_text, no_members, opening_of}

@@ -1,8 +1,7 @@
 -- The whole text, part by part.
-use Rattle.std.proofs.Common.{◌≡◌, ℕ, ◌∷◌, List, [], ◌++◌, append_assoc, decimal}
+use Rattle.std.proofs.Common.{◌≡◌, ℕ, ◌∷◌, List, [], ◌++◌, append_assoc, decimal, codes}
 use Rattle.scenario_dump.proofs.Prelude.{Scenario, World, aliases_data, blocks_data, compact_text, digits, dump_data, dump_text, escape_byte}
 use Rattle.scenario_dump.proofs.Prelude.{flag_text, hook_data, list_data, object, servers_text, string}
-use Rattle.std.specs.Prelude.{codes}
 use Rattle.scenario_dump.proofs.Printed.{joined}
 
 abbrev pub whole_parts : World → Scenario → ℕ → List (List ℕ)

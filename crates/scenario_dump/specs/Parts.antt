@@ -1,12 +1,11 @@
 -- What is printed of one server, for the texts of its parts.
 use Rattle.std.specs.Prelude.{ℕ, ◌++◌, List, [], codes, decimal, Bool, option_map, Option, Some, None, unwrap_or}
 use Rattle.scenario_dump.specs.Prelude.{Coord, Part, Server, Settings, World, compact_text, coord_text, history_of, printed, quoted, server_at}
-use Rattle.scenario_dump.specs.Prelude.{token_text, uuid_text}
+use Rattle.scenario_dump.specs.Prelude.{token_text, uuid_text, version_text}
 use Rattle.scenario_dump.specs.Prelude.token
 use Rattle.scenario_dump.specs.Histories.{parts_of}
 use Rattle.scenario_dump.specs.Servers.{init_of, opening_of, points_of}
 use Rattle.scenario_dump.specs.Texts.{count_data, list_data, part_data, server_data}
-use Rattle.scenarios.specs.OrchBase.Words.{version_text}
 
 abbrev pub flag_text : Bool → List ℕ
 flag_text on = token_text (token.boolean on)

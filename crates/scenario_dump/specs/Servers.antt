@@ -1,9 +1,8 @@
 -- The servers of a world as a scenario gives them.
 use Rattle.std.specs.Prelude.{ℕ, true, false, if◌then◌else◌, List, [], length, map, Option, Some, None}
-use Rattle.scenario_dump.specs.Prelude.{Attached, Detached, Opened, Server, ServerInit, ServerNo, SourceState, Without, World, opening}
+use Rattle.scenario_dump.specs.Prelude.{Attached, Detached, Opened, Server, ServerInit, ServerNo, SourceState, Without, World, is_detached, opening}
 use Rattle.scenario_dump.specs.Files.{flush_points}
 use Rattle.scenario_dump.specs.Histories.{parts_of}
-use Rattle.server_model.specs.Desk.{is_detached}
 
 abbrev pub source_in : SourceState → Option ServerNo
 source_in Without = None

@@ -1,11 +1,10 @@
 -- A world at a moment as a scenario without turns, as JSON: compact, in one line, the keys of each object in the order
 -- of their bytes.
 use Rattle.std.specs.Prelude.{ℕ, ◌++◌, List, [], ◌∷◌, Bool, codes, if◌then◌else◌, is_some, unwrap_or, option_map, slice_get, Option, Some, None}
-use Rattle.scenario_dump.specs.Prelude.{Alias, Block, ClusterFilters, Coord, Data, Hook, Hooks, Items, Members, Part, Scenario, ServerInit}
-use Rattle.scenario_dump.specs.Prelude.{World, array, boolean, compact_text, coord_text, item, member, no_items, no_members, number, object, printed}
-use Rattle.scenario_dump.specs.Prelude.{string, unsigned, uuid_text}
+use Rattle.scenario_dump.specs.Prelude.{Alias, Block, ClusterFilters, Coord, Data, Hook, Hooks, Items, Members, Part, Scenario, ServerInit, World}
+use Rattle.scenario_dump.specs.Prelude.{array, boolean, compact_text, coord_text, item, member, no_items, no_members, number, object, printed, string}
+use Rattle.scenario_dump.specs.Prelude.{unsigned, uuid_text, version_text}
 use Rattle.scenario_dump.specs.Servers.{opening_of}
-use Rattle.scenarios.specs.OrchBase.Words.{version_text}
 
 abbrev pub count_data : ℕ → Data
 count_data n = number (unsigned n)

@@ -1,10 +1,9 @@
 //! Servers as JSON.
 
 ghost use Rattle.std.specs.Prelude.{◌≡◌, ◌++◌, ◌<◌, length, OnOk, option_map, Some};
-ghost use Rattle.scenario_dump.specs.Prelude.{Without, server_at};
+ghost use Rattle.scenario_dump.specs.Prelude.{Without, is_detached, server_at};
 ghost use Rattle.scenario_dump.specs.Parts.{end_text, fixed_text, server_text, until_text};
 ghost use Rattle.scenario_dump.specs.Servers.{source_in};
-ghost use Rattle.server_model.specs.Desk.{is_detached};
 
 use crate::binlog_coords_items::Coord;
 use crate::files::print_flushes;

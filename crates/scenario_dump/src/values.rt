@@ -1,11 +1,10 @@
 //! Values as JSON, each after the bytes that are before it.
 
 ghost use Rattle.std.specs.Prelude.{◌≡◌, ◌++◌, decimal, OnOk};
-ghost use Rattle.scenario_dump.specs.Prelude.{comma_if, coord_text, printed, quoted, uuid_text};
+ghost use Rattle.scenario_dump.specs.Prelude.{comma_if, coord_text, printed, quoted, uuid_text, version_text};
 ghost use Rattle.scenario_dump.specs.Parts.{flag_text};
 ghost use Rattle.scenario_dump.specs.Servers.{opening_of};
 ghost use Rattle.scenario_dump.specs.Texts.{name_text};
-ghost use Rattle.scenarios.specs.OrchBase.Words.{version_text};
 
 use crate::binlog_coords_items::{Coord, print_coord};
 use crate::orch_base::{Memory, Name, ServerNo, Version};

@@ -1,4 +1,4 @@
-mod Prelude
+pub mod Prelude
 pub mod Draws
 pub mod Sends
 pub mod Texts

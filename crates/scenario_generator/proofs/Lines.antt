@@ -1,6 +1,5 @@
 -- The text is UTF-8, and not too long.
-use Rattle.std.proofs.Common.{◌≡◌, ◌<◌, ◌≤◌, ℕ, zero, suc, ◌+◌, ◌*◌, ◌^◌, Bool, true, false, ◌∷◌, List, [], ◌++◌, length, drop, refl, sym, ap, subst, arith, decimal}
-use Rattle.std.specs.Prelude.{Some, codes, slice_get}
+use Rattle.std.proofs.Common.{◌≡◌, ◌<◌, ◌≤◌, ℕ, zero, suc, ◌+◌, ◌*◌, ◌^◌, Bool, true, false, ◌∷◌, List, [], ◌++◌, length, drop, refl, sym, ap, subst, arith, decimal, Some, codes, slice_get}
 use Rattle.scenario_generator.proofs.Prelude.{Apply, AreTurnsOf, Data, DrawnServer, DrawnTurn, Fetch, IsAscii-decimal, IsPlaced, IsTurnOf, IsUtf8}
 use Rattle.scenario_generator.proofs.Prelude.{IsUtf8-append, IsUtf8-are_ascii, IsUtf8-from_ascii, IsUtf8-nil, Items, PollRead, PollStore, Replica}
 use Rattle.scenario_generator.proofs.Prelude.{Root, Rotate, Write, are_ascii, comma_if, compact_text, count_at, count_in, count_of, drop-nil, is_utf8}

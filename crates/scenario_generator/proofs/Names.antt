@@ -1,9 +1,9 @@
 -- Names read as names.
+use Rattle.orch_base.proofs.RoundTrip.{host_fits}
 use Rattle.scenario_generator.proofs.Prelude.{and_parts as both, common_steps, digit_glyph, digits, digits_onto, drop-nil, eqb-true, false≢true}
-use Rattle.scenario_generator.proofs.Prelude.{host_at, host_of, is_colon, is_host_byte, le-ltb, length-append, length-decimal-le, length-drop}
-use Rattle.scenario_generator.proofs.Prelude.{list_all, name_at, ne_eqb, padded, port_of, position_or_len, server_name, take_all}
-use Rattle.std.proofs.Common.{◌≡◌, ◌<◌, ◌≤◌, ◌==◌, ℕ, zero, suc, ◌+◌, ◌/◌, ◌%◌, ◌^◌, Bool, true, false, cond, not, eqb, ltb, ◌∷◌, List, [], ◌++◌, length, drop, None, Ok, refl, subst, arith, decimal}
-use Rattle.std.specs.Prelude.{◌&&◌, codes, position}
+use Rattle.scenario_generator.proofs.Prelude.{host_of, is_colon, is_host_byte, le-ltb, length-append, length-decimal-le, length-drop}
+use Rattle.scenario_generator.proofs.Prelude.{list_all, name_at, padded, port_of, position_or_len, server_name, take_all}
+use Rattle.std.proofs.Common.{◌≡◌, ◌<◌, ◌≤◌, ◌==◌, ℕ, zero, suc, ◌+◌, ◌/◌, ◌%◌, ◌^◌, Bool, true, false, cond, eqb, ltb, ◌∷◌, List, [], ◌++◌, length, drop, None, Ok, refl, subst, arith, decimal, ◌&&◌, codes}
 
 -- ---- bytes of a host, each
 
@@ -71,24 +71,6 @@ no_colon (b ∷ host) e =
     let here : is_colon b ≡ false = not_colon_at b (eqb b 58) refl p.0 in
     let more = no_colon host p.1 in
     rw here (omega (arith, more))
-
-all_pass : (host : List ℕ) → list_all is_host_byte host ≡ true → position_or_len (λ b. not (is_host_byte b)) host ≡ length host
-all_pass [] e = refl
-all_pass (b ∷ host) e =
-    let p = both (is_host_byte b) (list_all is_host_byte host) e in
-    let more = all_pass host p.1 in
-    rw p.0 (omega (arith, more))
-
-all_good : (host : List ℕ) → list_all is_host_byte host ≡ true → position (λ b. not (is_host_byte b)) host ≡ None
-all_good host e =
-    let none : ltb (length host) (length host) ≡ false = le-ltb _ _ (omega arith) in
-    rw (all_pass host e, none) refl
-
-host_fits : (host : List ℕ) → 0 < length host → length host ≤ 255 → list_all is_host_byte host ≡ true → host_at host ≡ Ok host
-host_fits host some short e =
-    let not_empty : eqb (length host) 0 ≡ false = ne_eqb _ _ (omega arith) in
-    let not_long : ltb 255 (length host) ≡ false = le-ltb _ _ short in
-    rw (not_empty, not_long, all_good host e) refl
 
 host_alone : (host : List ℕ) → list_all is_host_byte host ≡ true → host_of host ≡ host
 host_alone host e = rw (no_colon host e) (take_all (length host) host (omega arith))

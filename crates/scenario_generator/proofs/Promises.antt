@@ -1,6 +1,5 @@
 -- What is drawn, whatever the seed.
-use Rattle.std.proofs.Common.{◌≡◌, ◌∙◌, ◌≢◌, ◌⊎◌, ◌<◌, ◌≤◌, ◌==◌, ℕ, zero, suc, ◌+◌, ◌%◌, ◌^◌, Bool, true, false, ◌∷◌, List, [], ◌++◌, length, sym, ap, subst, refl, arith, inl, inr}
-use Rattle.std.specs.Prelude.{codes, decimal, drop, if◌then◌else◌, slice_get, Some}
+use Rattle.std.proofs.Common.{◌≡◌, ◌∙◌, ◌≢◌, ◌⊎◌, ◌<◌, ◌≤◌, ◌==◌, ℕ, zero, suc, ◌+◌, ◌%◌, ◌^◌, Bool, true, false, ◌∷◌, List, [], ◌++◌, length, sym, ap, subst, refl, arith, inl, inr, codes, decimal, drop, if◌then◌else◌, slice_get, Some}
 use Rattle.scenario_generator.proofs.Prelude.{Apply, ArePlaced, AreTurnsOf, DrawnServer, Fetch, IsPlaced, IsTurnOf, PollRead, PollStore, Replica}
 use Rattle.scenario_generator.proofs.Prelude.{Root, Rotate, Write, below, common_steps, count_at, count_of, decimal_is_IsNumeral, digits_value}
 use Rattle.scenario_generator.proofs.Prelude.{drop-nil, eqb-true, executed_by, next, root_of, server_by, server_name, servers_from, slice_get_within}

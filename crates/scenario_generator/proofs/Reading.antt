@@ -71,7 +71,7 @@ lex-one c t ts r h ended =
     (lex-token_text t (print_from (ends t) ts ++ r) h (λ e. ap (λ b. ends_word (print_from b ts ++ r)) e ∙ value_ends ts r ended))
     ∙ sym (append_assoc (cond (c && begins t) (comma ∷ []) []) (token_lexemes t) (lex between (print_from (ends t) ts ++ r))))
 
-regroup : (a b c d : List ℕ) → (a ++ (b ++ c)) ++ d ≡ a ++ (b ++ (c ++ d))
+pub regroup : (a b c d : List ℕ) → (a ++ (b ++ c)) ++ d ≡ a ++ (b ++ (c ++ d))
 regroup a b c d = simp append_assoc
 
 lex-newline : (c : Bool) (ts : List Token) → ArePrintable ts → lex between (print_from c ts ++ 10 ∷ []) ≡ lex between (print_from c ts ++ [])

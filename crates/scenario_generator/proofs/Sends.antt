@@ -1,6 +1,5 @@
 -- Texts on their way to sinks.
-use Rattle.std.proofs.Common.{◌≡◌, ◌∙◌, ℕ, ◌+◌, ◌≤◌, List, [], ◌++◌, length, take, sym, ap, subst, arith, append_assoc, Option, Some, None, Result, Ok, Err}
-use Rattle.std.specs.Prelude.{OnOk, OnErr}
+use Rattle.std.proofs.Common.{◌≡◌, ◌∙◌, ℕ, ◌+◌, ◌≤◌, List, [], ◌++◌, length, take, sym, ap, subst, arith, append_assoc, Option, Some, None, Result, Ok, Err, OnOk, OnErr}
 use Rattle.scenario_generator.proofs.Prelude.{Appends, AppendsFront, IsHanded, Joins, JoinsFront, Stays, StaysFront, append-nil, length-append}
 use Rattle.scenario_generator.proofs.Prelude.{take-append-add, take-append-le, take-length}
 

@@ -1,6 +1,5 @@
 -- Servers as they are drawn.
-use Rattle.std.proofs.Common.{◌≡◌, ◌∙◌, ◌≢◌, inl, inr, ◌<◌, ◌≤◌, ◌==◌, ℕ, zero, suc, ◌+◌, ◌-◌, ◌%◌, Bool, true, false, ◌∷◌, List, [], ◌++◌, length, sym, ap, subst, refl, arith, append_assoc}
-use Rattle.std.specs.Prelude.{if◌then◌else◌, nat_lt, slice_index, slice_set}
+use Rattle.std.proofs.Common.{◌≡◌, ◌∙◌, ◌≢◌, inl, inr, ◌<◌, ◌≤◌, ◌==◌, ℕ, zero, suc, ◌+◌, ◌-◌, ◌%◌, Bool, true, false, ◌∷◌, List, [], ◌++◌, length, sym, ap, subst, refl, arith, append_assoc, if◌then◌else◌, nat_lt, slice_index, slice_set}
 use Rattle.scenario_generator.proofs.Prelude.{AreCounts, AreFew, Drawing, DrawnServer, Replica, Root, after_server, append-nil, below, comma_if}
 use Rattle.scenario_generator.proofs.Prelude.{common_steps, count_at, count_of, eqb_tells, executed_by, get_or-set_other, get_or-set_same}
 use Rattle.scenario_generator.proofs.Prelude.{length-append, listed, next, root_of, server_by, server_text, servers_data, servers_from, servers_text}

@@ -1,35 +1,34 @@
 -- Texts and their parts.
-use Rattle.std.proofs.Common.{◌≡◌, ◌∙◌, ◌==◌, ℕ, zero, suc, ◌+◌, ◌/◌, ◌%◌, Bool, true, false, cond, Result, Ok, Err, subst, ◌∷◌, List, [], ◌++◌, length, drop, sym, ap, refl, arith, append_assoc, decimal}
-use Rattle.std.specs.Prelude.{OnOk, codes, if◌then◌else◌, is_ok, nat_lt}
+use Rattle.std.proofs.Common.{◌≡◌, ◌∙◌, ◌==◌, ℕ, zero, suc, ◌+◌, ◌/◌, ◌%◌, Bool, true, false, cond, Result, Ok, Err, subst, ◌∷◌, List, [], ◌++◌, length, drop, sym, ap, refl, arith, append_assoc, decimal, OnOk, codes, if◌then◌else◌, is_ok, nat_lt}
 use Rattle.scenario_generator.proofs.Prelude.{Apply, Fetch, PollRead, PollStore, Replica, Root, Rotate, Write, common_steps, digit_glyph, digits}
 use Rattle.scenario_generator.proofs.Prelude.{digits_onto, drop-nil, escape, escape_byte, escape_byte_plain, padded, server_name, server_text}
 use Rattle.scenario_generator.proofs.Prelude.{turn_text}
 
 -- ---- names are quoted as they are
 
-escape-append : (a b : List ℕ) → escape (a ++ b) ≡ escape a ++ escape b
+pub escape-append : (a b : List ℕ) → escape (a ++ b) ≡ escape a ++ escape b
 escape-append [] b = refl
 escape-append (x ∷ xs) b = ap (λ (v : List ℕ). escape_byte x ++ v) (escape-append xs b) ∙ sym (append_assoc (escape_byte x) (escape xs) (escape b))
 
-plain_glyph : (n : ℕ) → escape_byte (digit_glyph false (n % 10)) ≡ digit_glyph false (n % 10) ∷ []
+pub plain_glyph : (n : ℕ) → escape_byte (digit_glyph false (n % 10)) ≡ digit_glyph false (n % 10) ∷ []
 plain_glyph n =
     let same : digit_glyph false (n % 10) ≡ 48 + n % 10 = grind (arith, common_steps) in
     rw same (escape_byte_plain (48 + n % 10) (λ e. omega arith) (λ e. omega arith) (omega arith))
 
-escape-either : (b : Bool) (x y : List ℕ) → escape x ≡ x → escape y ≡ y → escape (cond b x y) ≡ cond b x y
+pub escape-either : (b : Bool) (x y : List ℕ) → escape x ≡ x → escape y ≡ y → escape (cond b x y) ≡ cond b x y
 escape-either true x y same same' = same
 escape-either false x y same same' = same'
 
-escape-glyph : (n : ℕ) (acc : List ℕ) → escape acc ≡ acc → escape (digit_glyph false (n % 10) ∷ acc) ≡ digit_glyph false (n % 10) ∷ acc
+pub escape-glyph : (n : ℕ) (acc : List ℕ) → escape acc ≡ acc → escape (digit_glyph false (n % 10) ∷ acc) ≡ digit_glyph false (n % 10) ∷ acc
 escape-glyph n acc same = ap (λ (v : List ℕ). v ++ escape acc) (plain_glyph n) ∙ ap (λ (v : List ℕ). digit_glyph false (n % 10) ∷ v) same
 
-escape-onto : (k n : ℕ) (acc : List ℕ) → escape acc ≡ acc → escape (digits_onto k 10 false n acc) ≡ digits_onto k 10 false n acc
+pub escape-onto : (k n : ℕ) (acc : List ℕ) → escape acc ≡ acc → escape (digits_onto k 10 false n acc) ≡ digits_onto k 10 false n acc
 escape-onto zero n acc same = same
 escape-onto (suc k) n acc same =
     let last = escape-glyph n acc same in
     escape-either (n / 10 == 0) (digit_glyph false (n % 10) ∷ acc) (digits_onto k 10 false (n / 10) (digit_glyph false (n % 10) ∷ acc)) last (escape-onto k (n / 10) (digit_glyph false (n % 10) ∷ acc) last)
 
-escape-decimal : (n : ℕ) → escape (decimal n) ≡ decimal n
+pub escape-decimal : (n : ℕ) → escape (decimal n) ≡ decimal n
 unfolding digits
 escape-decimal n = escape-onto 64 n [] refl
 

@@ -1,6 +1,5 @@
 -- Turns as they are drawn.
-use Rattle.std.proofs.Common.{◌≡◌, ◌∙◌, ◌≤◌, ℕ, zero, suc, ◌+◌, ◌-◌, true, ◌∷◌, List, [], ◌++◌, length, sym, ap, refl, arith, append_assoc}
-use Rattle.std.specs.Prelude.{nat_lt}
+use Rattle.std.proofs.Common.{◌≡◌, ◌∙◌, ◌≤◌, ℕ, zero, suc, ◌+◌, ◌-◌, true, ◌∷◌, List, [], ◌++◌, length, sym, ap, refl, arith, append_assoc, nat_lt}
 use Rattle.scenario_generator.proofs.Prelude.{Drawing, DrawnTurn, after_turn, append-nil, comma_if, length-append, listed, turn_from, turn_text}
 use Rattle.scenario_generator.proofs.Prelude.{turns_data, turns_from, turns_text, with_turn}
 use Rattle.scenario_generator.proofs.Texts.{some_before}

@@ -1,6 +1,5 @@
 -- Values whose text reads back.
-use Rattle.std.proofs.Common.{◌≡◌, ◌∙◌, ◌<◌, ◌≤◌, ℕ, zero, suc, ◌+◌, ◌^◌, ◌∷◌, List, [], ◌++◌, Option, Some, option_map, option_and_then, refl, sym, ap, arith, append-nil}
-use Rattle.std.specs.Prelude.{codes}
+use Rattle.std.proofs.Common.{◌≡◌, ◌∙◌, ◌<◌, ◌≤◌, ℕ, zero, suc, ◌+◌, ◌^◌, ◌∷◌, List, [], ◌++◌, Option, Some, option_map, option_and_then, refl, sym, ap, arith, append-nil, codes}
 use Rattle.scenario_generator.proofs.Prelude.{Apply, ArePrintable-json_tokens, AreTurnsOf, Data, DrawnServer, DrawnTurn, Fetch, HasNumbers}
 use Rattle.scenario_generator.proofs.Prelude.{IsNumber-decimal, IsTurnOf, Items, ItemsHaveNumbers, PollRead, PollStore, Replica, Root, Rotate, Token}
 use Rattle.scenario_generator.proofs.Prelude.{Write, array, compact_text, count_at, count_of, drawn_data, item, items_outline, json_tokens, max_depth}

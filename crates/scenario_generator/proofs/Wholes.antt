@@ -1,9 +1,8 @@
 -- The whole text and its parts.
-use Rattle.std.proofs.Common.{◌≡◌, ◌∙◌, ℕ, Bool, true, false, ◌∷◌, List, [], ◌++◌, Option, sym, ap, subst, refl, append_assoc}
+use Rattle.std.proofs.Common.{◌≡◌, ◌∙◌, ℕ, Bool, true, false, ◌∷◌, List, [], ◌++◌, Option, sym, ap, subst, refl, append_assoc, codes}
 use Rattle.scenario_generator.proofs.Prelude.{Appends, AppendsFront, IsHanded, Items, comma_if, compact_text, digits, drawn_data, escape_byte, item}
 use Rattle.scenario_generator.proofs.Prelude.{items_text, listed, no_items, scenario_text, servers_data, servers_from, servers_text, turns_data}
 use Rattle.scenario_generator.proofs.Prelude.{turns_from, turns_text}
-use Rattle.std.specs.Prelude.{codes}
 use Rattle.scenario_generator.proofs.Sends.{front_more, front_of_longer, takes_more, takes_nothing}
 
 -- the items, and the closing bracket

@@ -1,23 +1,15 @@
 -- Tables as they grow.
-use Rattle.std.proofs.Common.{◌≡◌, ℕ, ◌+◌, ◌<◌, ◌||◌, Bool, true, false, cond, eqb, List, [], length, get_or, drop, map, Option, Some, Bor, refl, sym, ap, subst, ◌∙◌, add-one, drop-cons}
-use Rattle.std.specs.Prelude.{All}
-use Rattle.std.specs.Cmp.Lexicographic.{pointwise}
+use Rattle.std.proofs.Common.{◌≡◌, ℕ, ◌+◌, ◌<◌, ◌||◌, Bool, true, false, cond, eqb, List, [], length, get_or, drop, map, Option, Some, Bor, refl, sym, ap, subst, ◌∙◌, add-one, drop-cons, All}
+use Rattle.scenario_reader.proofs.Prelude.{All-map, All-weaker, Judged, ServerInit, alias_of, answered_list, bytes_eq-Decides, pointwise, update}
 use Rattle.std.specs.HashMap.{HashMap, get_by}
-use Rattle.std.specs.Map.{update}
 use Rattle.std.specs.Option.{option_map_or}
 use Rattle.std.specs.Str.{bytes_eq}
-use Rattle.std.proofs.lemmas.List.Elements.{All-map, All-weaker}
 use Rattle.std.proofs.lemmas.Option.{same_Some}
-use Rattle.std.proofs.lemmas.Slice.Eq.{bytes_eq-Decides}
 use Rattle.cluster_filters.specs.Forms.{Form, some_matches}
 use Rattle.cluster_filters.specs.Judging.{judged}
-use Rattle.cluster_filters.specs.declared.judge.Judged.{Judged}
-use Rattle.scenarios.specs.Openings.declared.init.ServerInit.{ServerInit}
 use Rattle.scenarios.specs.declared.filters.Alias.{Alias}
 use Rattle.scenarios.specs.declared.filters.FilterList.{FilterList}
-use Rattle.scenario_reader.specs.Aliases.{alias_of}
 use Rattle.scenario_reader.specs.AliasTable.{alias_at, answered_by, AreKnown, AreUnjudged, IsAliasTable, IsAnswer}
-use Rattle.scenario_reader.specs.Filters.{answered_list}
 
 -- the alias at a place, or one after it
 alias_of-at : (aliases : List Alias) (n : ℕ) (a : Alias) (cluster : List ℕ) (test : Bool) → n < length aliases → a ≡ get_or aliases n a → test ≡ pointwise eqb a.cluster cluster

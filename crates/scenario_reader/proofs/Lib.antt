@@ -1,4 +1,4 @@
-mod Prelude
+pub mod Prelude
 pub mod AliasTables
 pub mod PatternLemmas
 pub mod Limits

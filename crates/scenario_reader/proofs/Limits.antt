@@ -1,10 +1,6 @@
 -- The limits of an opening, if the servers aren't too many for what they list.
 use Rattle.std.proofs.Common.{◌≡◌, ◌*◌, Bool, List, true, length}
-use Rattle.std.proofs.lemmas.Bool.{leb-true}
-use Rattle.scenarios.specs.Openings.declared.init.ServerInit.{ServerInit}
-use Rattle.scenarios.specs.Openings.Opening.{IsListed, opening}
-use Rattle.scenario_servers.specs.Openings.{IsGiven}
-use Rattle.scenario_reader.specs.ReadOpenings.{is_small, listed_count}
+use Rattle.scenario_reader.proofs.Prelude.{IsGiven, IsListed, ServerInit, is_small, leb-true, listed_count, opening}
 
 pub small-listed : (gtid : Bool) (servers : List ServerInit) → IsGiven gtid servers → is_small (length servers) (listed_count servers) ≡ true → IsListed (opening servers gtid)
 small-listed gtid servers given small = record {

@@ -1,17 +1,11 @@
 -- Taking a member out of an object.
 use Rattle.std.proofs.Common.{◌≡◌, ℕ, List, [], ◌∷◌, Some, String, string_bytes, cond, refl, sym, ap, ◌∙◌}
-use Rattle.std.proofs.lemmas.Map.Text.{is_eq-slice_cmp}
-use Rattle.std.proofs.lemmas.Slice.Eq.{bytes_eq-Decides}
 use Rattle.std.specs.BTreeMap.{is_at}
-use Rattle.std.specs.Cmp.Lexicographic.{slice_cmp}
-use Rattle.std.specs.Map.{remove_entry}
 use Rattle.std.specs.Ordering.{is_eq, match_ordering, nat_cmp}
 use Rattle.std.specs.declared.alloc.Global.{Global}
 use Rattle.std.specs.declared.cmp.Ordering.{Ordering}
 use Rattle.std.specs.declared.cmp.Ordering.TheVariants.{Equal, Greater, Less}
-use Rattle.scenario_reader.proofs.Prelude.{Value, view}
-use Rattle.serde_json.proofs.Views.{member_later}
-use Rattle.serde_json.specs.Find.{get_member}
+use Rattle.scenario_reader.proofs.Prelude.{Value, bytes_eq-Decides, get_member, is_eq-slice_cmp, member_later, remove_entry, slice_cmp, view}
 use Rattle.serde_json.specs.View.{members_view}
 
 abbrev pub Entry : Type 0

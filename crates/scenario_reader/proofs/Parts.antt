@@ -1,6 +1,5 @@
 -- The parts of what is read as a scenario.
-use Rattle.std.proofs.Common.{◌≡◌, ℕ, Bool, true, List, [], ◌∷◌, length, Option, Some, None, Ok, refl, sym, ap, subst}
-use Rattle.std.specs.Prelude.{codes, decimal}
+use Rattle.std.proofs.Common.{◌≡◌, ℕ, Bool, true, List, [], ◌∷◌, length, Option, Some, None, Ok, refl, sym, ap, subst, codes, decimal}
 use Rattle.scenario_reader.proofs.Prelude.{BadHook, Data, FaultCode, Flaw, Given, Head, Hook, Hooks, HostPort, Items, Opened, Scenario, ServerInit}
 use Rattle.scenario_reader.proofs.Prelude.{TooLarge, Turn, aliases_in, answered, bind-ok, blocks_in, bool_in, code_of, exit_or_fails, fails_at}
 use Rattle.scenario_reader.proofs.Prelude.{filters_in, flaw_in, found_of, get, head_in, holds, holds-ok, hook_in, hook_keys, hook_list_in, hooks_in}

@@ -1,11 +1,9 @@
 -- Texts that all have patterns, and answers one after the other.
 use Rattle.std.proofs.Common.{◌≡◌, ℕ, ◌+◌, ◌<◌, Bool, true, false, not, nat_lt, List, [], ◌∷◌, ◌++◌, length, map, take, get_or, None, refl, arith}
+use Rattle.scenario_reader.proofs.Prelude.{All-head, All-push, All-tail, HavePatterns, map-append, take_more}
 use Rattle.std.specs.List.{position_or_len}
 use Rattle.std.proofs.lemmas.Bool.Decides.{nat_tests}
-use Rattle.std.proofs.lemmas.List.{map-append, take_more}
-use Rattle.std.proofs.lemmas.List.Elements.{All-head, All-tail, All-push}
 use Rattle.cluster_filters.specs.Forms.{Form, form_of, has_pattern, forms_of, first_bad}
-use Rattle.scenario_reader.specs.Filters.{HavePatterns}
 
 abbrev fails : Form → Bool
 fails form = not (has_pattern form)

@@ -1,17 +1,16 @@
 -- What is read as a scenario meets the condition of the calls that take one.
+pub use Rattle.scenario_servers.proofs.Reading.{length-listed_names as length-names}
 use Rattle.scenario_reader.proofs.Prelude.{All-nil as none_of, All-weaker, AllPass-from_list_all, AreHooks, Block, Data, Given, Head, Hook, Hooks}
 use Rattle.scenario_reader.proofs.Prelude.{HostPort, IsChecked, IsGiven, IsHook, IsListed, IsListedTurn, IsScenario, IsTurn, IsTurnOf, Items}
 use Rattle.scenario_reader.proofs.Prelude.{MAX_SCENARIO_LEN, NamesOneOf, Opened, Scenario, ServerInit, TooLarge, TooLong, Turn, and_parts, bind-ok}
 use Rattle.scenario_reader.proofs.Prelude.{block_in, blocks_in, bounded, each, each_from, each_from-all, each_from-length, each_member-all, eq-eqb}
 use Rattle.scenario_reader.proofs.Prelude.{expanded, expanded-are, false≢true, head_in, holds, holds-ok, hook_in, hook_list_in, hooks_in, in_order}
-use Rattle.scenario_reader.proofs.Prelude.{inits_from, inits_of, is_hook_text, is_printable, is_small, is_write, item, item_count, items_in, json_in}
-use Rattle.scenario_reader.proofs.Prelude.{known_of, label_or_fails, leb-true, length-map, list_all, listed_count, listed_in, listed_names}
-use Rattle.scenario_reader.proofs.Prelude.{listed_uuids, members_in, no_hooks, no_items, number-ok, number_in, opening, opening_in, optional}
-use Rattle.scenario_reader.proofs.Prelude.{optional-ok, order_within, period_in, printed, printed_of, read_given, rules_of, same_Ok, scenario_from}
-use Rattle.scenario_reader.proofs.Prelude.{scenario_in, scenario_with, server_in, server_names, servers_in, turn-has, turn_in, turns_in, under}
-use Rattle.scenario_reader.proofs.Prelude.{under-ok}
-use Rattle.std.proofs.Common.{◌≡◌, ℕ, ◌+◌, ◌*◌, ◌≤◌, ◌⊎◌, inl, inr, ◌∙◌, Bool, true, eqb, leb, List, [], ◌∷◌, length, All, Option, Ok, refl, ap, subst, sym, arith}
-use Rattle.std.specs.Prelude.{◌&&◌, count_by, codes, not}
+use Rattle.scenario_reader.proofs.Prelude.{inits_of, is_hook_text, is_printable, is_small, is_write, items_in, json_in, known_of, label_or_fails}
+use Rattle.scenario_reader.proofs.Prelude.{leb-true, length-inits_from as length-inits, length-map, list_all, listed_count, listed_in, listed_names}
+use Rattle.scenario_reader.proofs.Prelude.{listed_uuids, members_in, no_hooks, number-ok, number_in, opening, opening_in, optional, optional-ok}
+use Rattle.scenario_reader.proofs.Prelude.{order_within, period_in, printed, printed_of, read_given, rules_of, same_Ok, scenario_from, scenario_in}
+use Rattle.scenario_reader.proofs.Prelude.{scenario_with, server_in, server_names, servers_in, turn-has, turn_in, turns_in, under, under-ok}
+use Rattle.std.proofs.Common.{◌≡◌, ℕ, ◌+◌, ◌*◌, ◌≤◌, ◌⊎◌, inl, inr, ◌∙◌, Bool, true, eqb, leb, List, [], length, All, Option, Ok, refl, ap, subst, sym, arith, ◌&&◌, count_by, codes, not}
 use Rattle.scenario_reader.proofs.Parts.{from-ok, head-ok, hook-ok, hooks-ok, made_of, opening-ok, with-ok}
 
 -- ---- turns
@@ -55,14 +54,6 @@ turns-have names servers nodes items ts count e =
     listed.2
 
 -- ---- the servers
-
-length-names : (ds : Items) → length (listed_names ds) ≡ item_count ds
-length-names no_items = refl
-length-names (item d ds) = let more = length-names ds in omega arith
-
-length-inits : (gs : List Given) (n : ℕ) (xs : List Given) → length (inits_from gs n xs) ≡ length xs
-length-inits gs n [] = refl
-length-inits gs n (x ∷ xs) = let more = length-inits gs (n + 1) xs in omega arith
 
 -- a name for each server
 names-of : (gtid : Bool) (d : Data) (given : List (Option HostPort) × List Given) → servers_in gtid d ≡ Ok given → length given.0 ≡ length (inits_of given.1)

@@ -1,14 +1,10 @@
 -- Tables of the clusters' aliases, and of which clusters pass filters.
 use Rattle.std.specs.Prelude.{◌≡◌, ℕ, All, Bool, List, [], false, map, Some}
+use Rattle.scenario_reader.specs.Prelude.{Alias, FilterList, Form, ServerInit, bytes_eq, forms_of, some_matches}
 use Rattle.std.specs.HashMap.{HashMap, get_by}
 use Rattle.std.specs.Option.{option_map_or}
-use Rattle.std.specs.Str.{bytes_eq}
 use denote.Ref.{Bor}
-use Rattle.cluster_filters.specs.Forms.{Form, forms_of, some_matches}
 use Rattle.cluster_filters.specs.declared.judge.Judged.{Judged}
-use Rattle.scenarios.specs.Openings.declared.init.ServerInit.{ServerInit}
-use Rattle.scenarios.specs.declared.filters.Alias.{Alias}
-use Rattle.scenarios.specs.declared.filters.FilterList.{FilterList}
 use Rattle.scenario_reader.specs.Aliases.{alias_of}
 
 -- the alias that a table has for a cluster: empty if it has none

@@ -1,11 +1,7 @@
 -- The clusters' aliases.
 use Rattle.std.specs.Prelude.{ℕ, List, Result, Ok}
-use Rattle.serde_json.specs.Data.{Data}
+use Rattle.scenario_reader.specs.Prelude.{Alias, Data, Fault, each_member, label_or_fails, members_in, text_in, text_within}
 pub use Rattle.scenarios.specs.Aliases.{alias_of}
-use Rattle.scenarios.specs.declared.filters.Alias.{Alias}
-use Rattle.scenario_values.specs.declared.fault.Fault.{Fault}
-use Rattle.scenario_values.specs.Faults.{each_member}
-use Rattle.scenario_values.specs.Values.{members_in, text_in, label_or_fails, text_within}
 use Rattle.scenarios.specs.OrchBase.Gives.{◌>>=◌}
 
 -- the alias of a cluster's label: the label has 1 to 261 bytes, the alias at most 255

@@ -1,15 +1,9 @@
 -- The two lists of filters, and which servers' clusters pass them.
 use Rattle.std.specs.Prelude.{◌≡◌, ℕ, ◌∷◌, List, [], Bool, true, map, codes, All, Result, Ok}
-use Rattle.serde_json.specs.Data.{Data}
-use Rattle.cluster_filters.specs.Forms.{form_of, has_pattern, forms_of, some_matches}
-use Rattle.scenarios.specs.Openings.declared.init.ServerInit.{ServerInit}
-use Rattle.scenarios.specs.declared.filters.Alias.{Alias}
-use Rattle.scenarios.specs.declared.filters.FilterList.{FilterList}
+use Rattle.scenario_reader.specs.Prelude.{Alias, Data, Fault, FilterList, ServerInit, each, form_of, forms_of, has_pattern, holds, items_in}
+use Rattle.scenario_reader.specs.Prelude.{members_in, only_keys, optional, some_matches, text_in}
 use Rattle.scenarios.specs.declared.filters.ClusterFilters.{ClusterFilters}
-use Rattle.scenario_values.specs.declared.fault.Fault.{Fault}
 use Rattle.scenario_values.specs.declared.fault.FaultCode.TheVariants.{BadPattern}
-use Rattle.scenario_values.specs.Faults.{holds, optional, only_keys, each}
-use Rattle.scenario_values.specs.Values.{members_in, items_in, text_in}
 use Rattle.scenario_reader.specs.declared.filters.FilterTexts.{FilterTexts}
 use Rattle.scenario_reader.specs.Aliases.{alias_of}
 use Rattle.scenarios.specs.OrchBase.Gives.{◌>>=◌}

@@ -8,8 +8,6 @@ pub mod Hooks
 pub mod ReadScenarios
 pub use Rattle.scenarios.specs.BinlogCoords as BinlogCoords
 pub mod ClusterFilters
-pub use Rattle.scenarios.specs.GtidSets as GtidSets
-pub use Rattle.scenarios.specs.HookTexts as HookTexts
 pub use Rattle.scenarios.specs.Openings as Openings
 pub use Rattle.scenarios.specs.OrchBase as OrchBase
 pub mod ScenarioServers

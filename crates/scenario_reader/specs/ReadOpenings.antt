@@ -1,18 +1,15 @@
 -- The opening that the servers of a text make, and the position of a flaw of them in the text.
 use Rattle.std.specs.Prelude.{ℕ, ◌*◌, ◌∷◌, List, [], Bool, length, sum_by, nat_le, codes, decimal, Result, Ok, Err}
-use Rattle.scenarios.specs.Openings.declared.init.ServerInit.{ServerInit}
+use Rattle.scenario_reader.specs.Prelude.{Fault, ServerInit, TooLarge, fails, holds, transactions, under}
 use Rattle.scenarios.specs.Openings.declared.opening.Flaw.{Flaw}
 use Rattle.scenarios.specs.Openings.declared.opening.Flaw.TheVariants as flaw
-use Rattle.scenarios.specs.Openings.Listed.{transactions}
 use Rattle.scenarios.specs.Openings.Opening.{Opened}
 use Rattle.scenarios.specs.Openings.Servers.{parts_of}
 use Rattle.opening_checks.specs.declared.fault.FlawedValue.{FlawedValue}
 use Rattle.opening_checks.specs.declared.fault.FlawedValue.TheVariants as value
 use Rattle.opening_checks.specs.Checked.{Found, checked}
-use Rattle.scenario_values.specs.declared.fault.Fault.{Fault}
 use Rattle.scenario_values.specs.declared.fault.FaultCode.{FaultCode}
-use Rattle.scenario_values.specs.declared.fault.FaultCode.TheVariants.{BothGiven, SourceNotLogging, Loop, OtherCluster, TooMany, BadPlace, NotKin, TooLarge}
-use Rattle.scenario_values.specs.Faults.{fails, holds, under}
+use Rattle.scenario_values.specs.declared.fault.FaultCode.TheVariants.{BothGiven, SourceNotLogging, Loop, OtherCluster, TooMany, BadPlace, NotKin}
 use Rattle.scenarios.specs.OrchBase.Gives.{◌>>=◌}
 
 -- ---- flaws

@@ -1,9 +1,7 @@
 //! The clusters' aliases.
 
 ghost use Rattle.std.specs.Prelude.{◌≡◌, IfOk};
-ghost use Rattle.scenarios.specs.OrchBase.Gives.{Gives};
-ghost use Rattle.serde_json.specs.View.{view, members_view};
-ghost use Rattle.scenario_values.specs.Faults.{fault_of, under as place_under, each_member};
+ghost use Rattle.scenario_reader.specs.Prelude.{Gives, each_member, fault_of, members_view, under as place_under, view};
 ghost use Rattle.scenario_reader.specs.Aliases.{alias_in, aliases_in};
 ghost use Rattle.scenario_reader.specs.AliasTable.{alias_at, IsAliasTable};
 

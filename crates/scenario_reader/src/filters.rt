@@ -1,11 +1,8 @@
 //! The lists of filters.
 
 ghost use Rattle.std.specs.Prelude.{◌≡◌, true, map, string_bytes, IfOk, OnOk};
-ghost use Rattle.scenarios.specs.OrchBase.Gives.{Gives};
-ghost use Rattle.serde_json.specs.View.{view, items_view};
-ghost use Rattle.cluster_filters.specs.Forms.{form_of, has_pattern};
+ghost use Rattle.scenario_reader.specs.Prelude.{Gives, each, fault_of, form_of, has_pattern, holds, items_view, optional, under_item, view};
 ghost use Rattle.scenario_values.specs.declared.fault.FaultCode.TheVariants.{BadPattern};
-ghost use Rattle.scenario_values.specs.Faults.{fault_of, holds, optional, under_item, each};
 ghost use Rattle.scenario_reader.specs.Filters.{filter_in, list_in, everything, filters_in, no_filters, HavePatterns, AreRead};
 
 use crate::orch_base::Memory;

@@ -1,8 +1,7 @@
 //! The position of a flaw in the text.
 
 ghost use Rattle.std.specs.Prelude.{◌≡◌, ◌∷◌, codes, decimal};
-ghost use Rattle.scenarios.specs.OrchBase.Gives.{Gives};
-ghost use Rattle.scenario_values.specs.Faults.{fault_of};
+ghost use Rattle.scenario_reader.specs.Prelude.{Gives, fault_of};
 ghost use Rattle.scenario_reader.specs.ReadOpenings.{code_of, fails_at, flaw_fails, keys_of};
 
 use crate::openings::{Flaw, Opening};

@@ -1,10 +1,7 @@
 //! The opening that the servers make.
 
 ghost use Rattle.std.specs.Prelude.{◌≡◌, ◌^◌, ◌-◌, length, min};
-ghost use Rattle.scenarios.specs.OrchBase.Gives.{Gives};
-ghost use Rattle.scenarios.specs.Openings.Listed.{transactions};
-ghost use Rattle.scenario_values.specs.Faults.{fault_of};
-ghost use Rattle.scenario_servers.specs.Openings.{IsGiven};
+ghost use Rattle.scenario_reader.specs.Prelude.{Gives, IsGiven, fault_of, transactions};
 ghost use Rattle.scenario_reader.specs.ReadOpenings.{is_small, listed_count, opening_in};
 
 use crate::flaws::flawed;

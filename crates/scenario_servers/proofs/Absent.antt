@@ -1,6 +1,5 @@
 -- What is read of an object that lacks the keys.
-use Rattle.std.proofs.Common.{◌≡◌, Bool, false, true, None, Ok, refl}
-use Rattle.std.specs.Prelude.{codes}
+use Rattle.std.proofs.Common.{◌≡◌, Bool, false, true, None, Ok, refl, codes}
 use Rattle.scenario_servers.proofs.Prelude.{Data, get, has_source, replication_in, setup_in}
 
 pub setup-absent : (d : Data) → get (codes "logs") d ≡ None → get (codes "read_only") d ≡ None → get (codes "limit") d ≡ None → get (codes "up") d ≡ None → get (codes "desk") d ≡ None → get (codes "feed") d ≡ None

@@ -1,6 +1,5 @@
 -- Servers that differ from all before them differ from all others.
-use Rattle.std.proofs.Common.{◌≡◌, ℕ, ◌<◌, ◌≤◌, inl, inr, Bool, true, List, length, sym, ◌∙◌, Some}
-use Rattle.std.specs.Prelude.{slice_get}
+use Rattle.std.proofs.Common.{◌≡◌, ℕ, ◌<◌, ◌≤◌, inl, inr, Bool, true, List, length, sym, ◌∙◌, Some, slice_get}
 use Rattle.scenario_servers.proofs.Prelude.{IsApart, IsGiven, IsServer, ServerInit, cases_order, false≢true, same_name, same_name_tells}
 
 abbrev AllApart : List ServerInit → Type 0

@@ -1,14 +1,8 @@
 -- Reading the items of a list, each of which is dropped once it is read.
 use Rattle.std.proofs.Common.{◌≡◌, ℕ, Some, None, ◌+◌, List, [], ◌∷◌, ◌++◌, length, Option, MatchOption, Result, Ok, Err, refl, sym, ap, ◌∙◌, append_assoc, append-nil, subst}
-use Rattle.std.proofs.lemmas.List.{length_push}
+use Rattle.scenario_servers.proofs.Prelude.{Data, Fault, Value, each_from, items_view, length_push, under_item, view, with_front}
 use Rattle.std.specs.Prelude.{⊤}
-use Rattle.serde_json.specs.Data.{Data}
-use Rattle.serde_json.specs.View.{view, items_view}
-use Rattle.serde_json.specs.declared.value.Value.{Value}
 use Rattle.server_words.specs.OrchBase.Gives.{◌>>=◌}
-use Rattle.scenario_values.specs.declared.fault.Fault.{Fault}
-use Rattle.scenario_values.specs.Faults.{each_from, under_item}
-use Rattle.scenario_values.proofs.Each.{with_front}
 
 -- the items before the rest were read as `front`
 abbrev pub IsReadOn : {A : Type 0} → (ℕ → Data → Result A Fault) → List Value → List Value → List A → Type 0

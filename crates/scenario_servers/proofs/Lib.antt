@@ -1,4 +1,4 @@
-mod Prelude
+pub mod Prelude
 pub mod Absent
 pub mod Apartness
 pub mod NameTables

@@ -1,10 +1,9 @@
 -- The table of the first server of each name, as names are listed one after the other.
-use Rattle.std.proofs.Common.{◌≡◌, ℕ, suc, ◌+◌, ◌<◌, Bool, true, false, cond, List, [], ◌∷◌, ◌++◌, length, get_or, drop, Option, Some, None, refl, sym, ap, ◌∙◌, subst, append_assoc, add-one, add-zero, zero-add, drop-cons, arith, eqb}
-use Rattle.std.specs.Prelude.{if◌then◌else◌, is_some, ◌&&◌}
+use Rattle.std.proofs.Common.{◌≡◌, ℕ, suc, ◌+◌, ◌<◌, Bool, true, false, cond, List, [], ◌∷◌, ◌++◌, length, get_or, drop, Option, Some, None, refl, sym, ap, ◌∙◌, subst, append_assoc, add-zero, zero-add, arith, eqb, if◌then◌else◌, is_some, ◌&&◌}
 use Rattle.scenario_servers.proofs.Prelude.{AddsName, BTreeMap, Equal, Greater, HostPort, IsTableOf, Less, NameKey, Ordering, Updates, Value}
 use Rattle.scenario_servers.proofs.Prelude.{first_named, is_eq, is_eq-slice_cmp, is_named, items_view, length_push, listed_name, listed_names}
-use Rattle.scenario_servers.proofs.Prelude.{name_cmp, nat_cmp, nat_tests, number_at, option_or, ordering_then, same_name, same_name_tells, slice_cmp}
-use Rattle.scenario_servers.proofs.Prelude.{view}
+use Rattle.scenario_servers.proofs.Prelude.{name_cmp, nat_cmp, nat_tests, number_at, option_or, ordering_then, rest_at, same_name, same_name_tells}
+use Rattle.scenario_servers.proofs.Prelude.{slice_cmp, view}
 
 -- ---- one more name
 
@@ -23,7 +22,7 @@ or_none : {X : Type 0} (o : Option X) → option_or o None ≡ o
 or_none None = refl
 or_none (Some x) = refl
 
-absent : {X : Type 0} (o : Option X) → is_some o ≡ false → o ≡ None
+pub absent : {X : Type 0} (o : Option X) → is_some o ≡ false → o ≡ None
 absent None e = refl
 absent (Some x) e = absurd (cc)
 
@@ -84,9 +83,6 @@ pub record IsListedTo (vs : List Value) (at : ℕ) (listed : List (Option HostPo
   pub front : listed ++ listed_names (items_view (drop at vs)) ≡ listed_names (items_view vs)
   pub count : length listed ≡ at
   pub tabled : IsTableOf numbers listed
-
-rest_at : (vs : List Value) (at : ℕ) (v : Value) → at < length vs → v ≡ get_or vs at v → drop at vs ≡ v ∷ drop (at + 1) vs
-rest_at vs at v lt here = rw add-one (drop-cons vs at v lt ∙ ap (λ (w : Value). w ∷ drop (suc at) vs) (sym here))
 
 next_front : (vs : List Value) (at : ℕ) (v : Value) (x : Option HostPort) (listed : List (Option HostPort)) → at < length vs → v ≡ get_or vs at v → x ≡ listed_name (view v)
     → listed ++ listed_names (items_view (drop at vs)) ≡ listed_names (items_view vs) → (listed ++ x ∷ []) ++ listed_names (items_view (drop (at + 1) vs)) ≡ listed_names (items_view vs)

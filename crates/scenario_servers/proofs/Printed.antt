@@ -1,8 +1,7 @@
 -- A name is printed in ASCII.
 use Rattle.scenario_servers.proofs.Prelude.{HostPort, IsAscii, IsAscii-append, IsAscii-cons, IsAscii-decimal, IsAscii-nil, IsName, IsUtf8}
 use Rattle.scenario_servers.proofs.Prelude.{IsUtf8-from_ascii, and_parts as both, eqb-true, is_host_byte, leb-true, list_all, printed}
-use Rattle.std.proofs.Common.{◌≡◌, ℕ, ◌^◌, ◌<◌, Bool, true, false, leb, eqb, List, [], ◌∷◌, arith, refl}
-use Rattle.std.specs.Prelude.{◌&&◌, ◌||◌}
+use Rattle.std.proofs.Common.{◌≡◌, ℕ, ◌^◌, ◌<◌, Bool, true, false, leb, eqb, List, [], ◌∷◌, arith, refl, ◌&&◌, ◌||◌}
 
 either : (p q : Bool) (P : Type 0) → (p ≡ true → P) → (q ≡ true → P) → (p || q) ≡ true → P
 either true q P f g e = f refl

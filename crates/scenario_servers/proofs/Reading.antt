@@ -76,7 +76,7 @@ reads-server gtid names uuids n d g label reads = record {
 
 -- ---- names
 
-length-listed_names : (ds : Items) → length (listed_names ds) ≡ item_count ds
+pub length-listed_names : (ds : Items) → length (listed_names ds) ≡ item_count ds
 length-listed_names no_items = refl
 length-listed_names (item d ds) = let more = length-listed_names ds in omega arith
 
@@ -177,7 +177,7 @@ later-uuid uuids m n c d own uuid less at first second same =
 
 -- ---- all servers
 
-length-inits_from : (gs : List Given) (n : ℕ) (xs : List Given) → length (inits_from gs n xs) ≡ length xs
+pub length-inits_from : (gs : List Given) (n : ℕ) (xs : List Given) → length (inits_from gs n xs) ≡ length xs
 length-inits_from gs n [] = refl
 length-inits_from gs n (x ∷ xs) = ap suc (length-inits_from gs (n + 1) xs)
 

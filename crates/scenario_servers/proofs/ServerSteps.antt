@@ -1,6 +1,5 @@
 -- What is read of one server is in its ranges.
-use Rattle.std.proofs.Common.{◌≡◌, ℕ, ◌+◌, ◌<◌, ◌≤◌, ◌⊎◌, inl, inr, Bool, true, false, List, [], ◌∷◌, length, refl, ap, subst, ◌∙◌, Option, Some, None, Ok, All, arith, suc}
-use Rattle.std.specs.Prelude.{◌&&◌, nat_le, not, codes, if◌then◌else◌}
+use Rattle.std.proofs.Common.{◌≡◌, ℕ, ◌+◌, ◌<◌, ◌≤◌, ◌⊎◌, inl, inr, Bool, true, false, List, [], ◌∷◌, length, refl, ap, subst, ◌∙◌, Option, Some, None, Ok, All, arith, suc, ◌&&◌, nat_le, not, codes, if◌then◌else◌}
 use Rattle.scenario_servers.proofs.Prelude.{AutoWithoutGtid, BadNumber, Data, Given, HostPort, Identity, IsPart, Members, Part, Replication, ServerNo}
 use Rattle.scenario_servers.proofs.Prelude.{Setup, auto_in, bool_in, coord_in, default_version, fails, false≢true, first_named, flushes_in}
 use Rattle.scenario_servers.proofs.Prelude.{has_source, history_in, holds, identity_in, is_named, item_count, items_in, label_in, leb-true, maybe}

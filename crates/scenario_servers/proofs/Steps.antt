@@ -1,6 +1,5 @@
 -- What it means that reading succeeds, step by step.
-use Rattle.std.proofs.Common.{◌≡◌, ℕ, ◌+◌, ◌≤◌, ◌⊎◌, inl, inr, Bool, true, false, leb, is_eq, List, [], ◌∷◌, length, refl, sym, ap, subst, ◌∙◌, Option, Some, None, Result, Ok, Err, All, arith, zero, suc}
-use Rattle.std.specs.Prelude.{◌&&◌, slice_get, if◌then◌else◌}
+use Rattle.std.proofs.Common.{◌≡◌, ℕ, ◌+◌, ◌≤◌, ◌⊎◌, inl, inr, Bool, true, false, leb, is_eq, List, [], ◌∷◌, length, refl, sym, ap, subst, ◌∙◌, Option, Some, None, Result, Ok, Err, All, arith, zero, suc, ◌&&◌, slice_get, if◌then◌else◌}
 use Rattle.scenario_servers.proofs.Prelude.{All-cons, All-nil, BadNumber, Data, Equal, Fault, FaultCode, Greater, Items, Less, Members, Ordering}
 use Rattle.scenario_servers.proofs.Prelude.{UnknownKey, and_parts, array, boolean, each_from, each_member, fails, false≢true, get, get_item}
 use Rattle.scenario_servers.proofs.Prelude.{get_member, holds, is_eq-slice_cmp, is_key, item, item_count, leb-true, match_ordering, maybe, maybe_in}

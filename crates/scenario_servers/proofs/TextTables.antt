@@ -1,6 +1,5 @@
 -- The texts that name servers, as they are kept.
-use Rattle.std.proofs.Common.{◌≡◌, ℕ, Bool, true, false, cond, List, Option, Some, None, Result, Ok, refl, sym, ap, subst, ◌∙◌}
-use Rattle.std.specs.Prelude.{String}
+use Rattle.std.proofs.Common.{◌≡◌, ℕ, Bool, true, false, cond, List, Option, Some, None, Result, Ok, refl, sym, ap, subst, ◌∙◌, String}
 use Rattle.scenario_servers.proofs.Prelude.{AreTexts, Fault, Global, HashMap, HostPort, ServerNo, bytes_eq, bytes_eq-Decides, first_named}
 use Rattle.scenario_servers.proofs.Prelude.{get_by_text, name_at, name_or_fails, number_or_fails, same_Some, text_named, update}
 use Rattle.scenario_servers.proofs.Steps.{same_Ok}

@@ -1,15 +1,10 @@
 -- The table of the first server of each UUID, as UUIDs are listed one after the other.
-use Rattle.std.proofs.Common.{◌≡◌, ℕ, zero, suc, ◌+◌, ◌<◌, Bool, true, false, cond, List, [], ◌∷◌, ◌++◌, length, take, get_or, nat_lt, Option, Some, None, refl, sym, ap, ◌∙◌, add-zero, zero-add, arith}
-use Rattle.std.specs.Prelude.{◌==◌, ◌||◌, codes, if◌then◌else◌, is_some}
+use Rattle.std.proofs.Common.{◌≡◌, ℕ, zero, suc, ◌+◌, ◌<◌, Bool, true, false, cond, List, [], ◌∷◌, ◌++◌, length, take, get_or, nat_lt, Option, Some, None, refl, sym, ap, ◌∙◌, add-zero, zero-add, arith, ◌==◌, ◌||◌, codes, if◌then◌else◌}
 use Rattle.scenario_servers.proofs.Prelude.{AddsUuid, BTreeMap, IsUuidTable, Value, first_with, get as key_at, has_uuid, is_before, length_push}
 use Rattle.scenario_servers.proofs.Prelude.{list_any, nat_tests, option_or, read_uuid, uuid_at, view}
 use Rattle.scenario_servers.proofs.UuidLists.{IsUuidsTo, next_uuid}
 
 -- ---- one more UUID
-
-absent : {X : Type 0} (o : Option X) → is_some o ≡ false → o ≡ None
-absent None e = refl
-absent (Some x) e = absurd (cc)
 
 same : (u uuid : ℕ) → (u == uuid) ≡ true → u ≡ uuid
 same u uuid e = grind (arith, nat_tests)

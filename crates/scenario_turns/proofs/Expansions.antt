@@ -1,6 +1,5 @@
 -- How many turns the listed ones mean, and that each is a turn of the servers.
-use Rattle.std.proofs.Common.{◌≡◌, ℕ, ◌+◌, ◌*◌, ◌<◌, ◌≤◌, List, [], ◌∷◌, ◌++◌, length, take, get_or, All, Option, Some, None, false, leb, refl, arith}
-use Rattle.std.specs.Prelude.{IfSome}
+use Rattle.std.proofs.Common.{◌≡◌, ℕ, ◌+◌, ◌*◌, ◌<◌, ◌≤◌, List, [], ◌∷◌, ◌++◌, length, take, get_or, All, Option, Some, None, false, leb, refl, arith, IfSome}
 use Rattle.scenario_turns.proofs.Prelude.{Act, All-cons, All-head, All-nil, All-tail, Apply, Fetch, IsAct, IsListedTurn, IsNumberOf, IsTurnOf}
 use Rattle.scenario_turns.proofs.Prelude.{ListedTurn, One, PollRead, Polls, PollStore, Round, ServerNo, Step, Turn, done_by, expanded, expansion_of}
 use Rattle.scenario_turns.proofs.Prelude.{flat_map, length-append, length-flat_map-take, nat_tests, polls_of, steps_of}

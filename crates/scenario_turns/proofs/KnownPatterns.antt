@@ -1,8 +1,7 @@
 -- The answers of patterns that are kept are those that a pattern has.
-use Rattle.std.proofs.Common.{◌≡◌, ℕ, Bool, true, false, cond, List, Some, Ok, refl, sym, subst, ◌∙◌}
+use Rattle.std.proofs.Common.{◌≡◌, ℕ, Bool, true, false, cond, List, Some, Ok, refl, sym, subst, ◌∙◌, String}
 use Rattle.scenario_turns.proofs.Prelude.{AreKnown, BadPattern, BTreeMap, Found, Global, IsKnown, bind-ok, bytes_eq, bytes_eq-Decides, found_in}
 use Rattle.scenario_turns.proofs.Prelude.{found_of, get_by_text, holds, holds-ok, is_pattern, same_Ok, same_Some, update}
-use Rattle.std.specs.Prelude.{String}
 
 -- what is found is known
 found-known : (printed : List (List ℕ)) (text : List ℕ) (f : Found) → found_in printed text ≡ Ok f → IsKnown text f.answers printed

@@ -1,4 +1,4 @@
-mod Prelude
+pub mod Prelude
 pub mod Sound
 pub mod KnownPatterns
 pub mod Expansions

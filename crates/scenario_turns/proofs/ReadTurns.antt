@@ -1,6 +1,5 @@
 -- A turn that is read is one of the servers, or means such turns.
-use Rattle.std.proofs.Common.{◌≡◌, ℕ, ◌<◌, ◌≤◌, Bool, true, false, cond, List, length, Option, Some, None, Result, Ok, refl, subst, arith}
-use Rattle.std.specs.Prelude.{IfSome, ◌&&◌, nat_le}
+use Rattle.std.proofs.Common.{◌≡◌, ℕ, ◌<◌, ◌≤◌, Bool, true, false, cond, List, length, Option, Some, None, Result, Ok, refl, subst, arith, IfSome, ◌&&◌, nat_le}
 use Rattle.scenario_turns.proofs.Prelude.{Act, Apply, BadTurn, Cut, Data, Fail, Fault, Fetch, Heal, HostPort, IsAct, IsCommand, IsListedTurn}
 use Rattle.scenario_turns.proofs.Prelude.{IsNumberOf, IsTurnOf, Items, Job, Join, Link, ListedTurn, NodeTurn, One, PollRead, Polls, PollStore, Purge}
 use Rattle.scenario_turns.proofs.Prelude.{Restart, Rotate, Round, Scan, ServerNo, Turn, Word, Write, act_of, alone, amount_of, as_of, bind-ok}
@@ -162,17 +161,11 @@ turn_of-has names printed nodes word.Purge rest t counts e =
 turn_of-has names printed nodes word.Cut rest t counts e = made-has (length names) nodes (λ p. p.0.0 < length names) (λ p. turn.Step (Cut p.0 p.1)) (link_of names rest) t (λ p is. (is, tt)) (link-has names rest) e
 turn_of-has names printed nodes word.Join rest t counts e = made-has (length names) nodes (λ p. p.0.0 < length names) (λ p. turn.Step (Join p.0 p.1)) (link_of names rest) t (λ p is. (is, tt)) (link-has names rest) e
 turn_of-has names printed nodes word.Tick rest t counts e = made-has (length names) nodes (λ n. n ≤ 1000000000) turn.Tick (seconds_of rest) t (λ n is. (is, tt)) (seconds-have rest) e
-turn_of-has names printed nodes word.PollRead rest t counts e = act_of-has names printed nodes None word.PollRead rest t counts tt e
-turn_of-has names printed nodes word.PollStore rest t counts e = act_of-has names printed nodes None word.PollStore rest t counts tt e
-turn_of-has names printed nodes word.Polls rest t counts e = act_of-has names printed nodes None word.Polls rest t counts tt e
 turn_of-has names printed nodes word.Round rest t counts e = alone-has (length names) nodes Round rest t tt e
-turn_of-has names printed nodes word.Command rest t counts e = act_of-has names printed nodes None word.Command rest t counts tt e
-turn_of-has names printed nodes word.Job rest t counts e = act_of-has names printed nodes None word.Job rest t counts tt e
-turn_of-has names printed nodes word.Scan rest t counts e = act_of-has names printed nodes None word.Scan rest t counts tt e
-turn_of-has names printed nodes word.Restart rest t counts e = act_of-has names printed nodes None word.Restart rest t counts tt e
 turn_of-has names printed nodes word.Claim rest t counts e = made-has (length names) nodes (IsNumberOf nodes) turn.Claim (node_of nodes rest) t (λ n is. (tt, is)) (node_of-has nodes rest) e
 turn_of-has names printed nodes word.Release rest t counts e = made-has (length names) nodes (IsNumberOf nodes) turn.Release (node_of nodes rest) t (λ n is. (tt, is)) (node_of-has nodes rest) e
 turn_of-has names printed nodes word.As rest t counts e = as-has names printed nodes rest t counts e
+turn_of-has names printed nodes x rest t counts e = act_of-has names printed nodes None x rest t counts tt e
 
 pub turn-has : (names : List (Option HostPort)) (printed : List (List ℕ)) (nodes : ℕ) (d : Data) (t : ListedTurn) → length printed ≡ length names → turn_in names printed nodes d ≡ Ok t
     → IsListedTurn (length names) nodes t

@@ -1,7 +1,6 @@
 -- A command turn that is read is one over the servers.
 pub use Rattle.std.proofs.lemmas.Bool.{and_parts as both_true}
-use Rattle.std.proofs.Common.{◌≡◌, ℕ, ◌<◌, ◌≤◌, Bool, true, false, List, length, Option, Some, None, Result, Ok, refl, sym, subst, cond, ◌⊎◌, inl, inr, arith}
-use Rattle.std.specs.Prelude.{IfSome, ◌&&◌, ◌*◌, nat_lt, nat_le, codes, option_map}
+use Rattle.std.proofs.Common.{◌≡◌, ℕ, ◌<◌, ◌≤◌, Bool, true, false, List, length, Option, Some, None, Result, Ok, refl, sym, subst, cond, ◌⊎◌, inl, inr, arith, IfSome, ◌&&◌, ◌*◌, nat_lt, nat_le, codes, option_map}
 use Rattle.scenario_turns.proofs.Prelude.{BadCommand, BadNumber, BadPattern, Command, CommandName, CommandTurn, Data, Fault, Found, HostPort}
 use Rattle.scenario_turns.proofs.Prelude.{IsCommand, Items, Keys, ServerNo, bind-ok, command_in, command_keys, duration_in, fails, found_in, found_of}
 use Rattle.scenario_turns.proofs.Prelude.{get, given_in, holds, holds-ok, instances_in, is_found, is_pattern, is_there, is_within, keys_in, leb-true}
@@ -72,7 +71,7 @@ record AreInstances (count : ℕ) (name : CommandName) (c : Command) : Type 0 wh
   i_within : is_within count c.i ≡ true
   d_within : is_within count c.d ≡ true
 
-above : (m n : ℕ) → m < n → nat_lt m n ≡ true
+pub above : (m n : ℕ) → m < n → nat_lt m n ≡ true
 above m n h = grind (arith, nat_tests)
 
 within_of : (count : ℕ) (o : Option ServerNo) → IfSome o (λ n. n.0 < count) → is_within count o ≡ true

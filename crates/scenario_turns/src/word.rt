@@ -40,7 +40,7 @@ pub(crate) fn is_word(word: &str, text: &str) -> bool
 }
 
 #[tactic(auto, unfolding(crate::specs::Words::word_named))]
-fn searched(text: &str) -> Option<Word>
+fn word_named(text: &str) -> Option<Word>
     ensures { result ≡ word_named text.now }
 {
     match text {
@@ -66,19 +66,6 @@ fn searched(text: &str) -> Option<Word>
         "release" => Some(Word::Release),
         "as" => Some(Word::As),
         _ => None,
-    }
-}
-
-// Large scenarios consist of a few kinds of turns. Their names are compared byte by byte in place.
-fn word_named(text: &str) -> Option<Word>
-    ensures { result ≡ word_named text.now }
-{
-    match text.as_bytes() {
-        b"write" => Some(Word::Write),
-        b"fetch" => Some(Word::Fetch),
-        b"apply" => Some(Word::Apply),
-        b"job" => Some(Word::Job),
-        _ => searched(text),
     }
 }
 

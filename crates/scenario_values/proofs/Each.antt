@@ -1,13 +1,7 @@
 -- Reading the items of a list, or the members of an object, one after the other, as a loop does.
-use Rattle.std.proofs.Common.{◌≡◌, ℕ, suc, Some, None, ◌+◌, ◌<◌, List, [], ◌∷◌, ◌++◌, length, get_or, drop, Option, MatchOption, Result, Ok, Err, refl, sym, ap, ◌∙◌, append_assoc, add-one, drop-cons}
-use Rattle.std.specs.Prelude.{⊤, String, string_bytes}
-use Rattle.std.specs.declared.alloc.Global.{Global}
-use Rattle.serde_json.specs.Data.{Data}
-use Rattle.serde_json.specs.declared.value.Value.{Value}
-use Rattle.serde_json.specs.View.{view, items_view, members_view}
+use Rattle.std.proofs.Common.{◌≡◌, ℕ, suc, ◌+◌, ◌<◌, List, [], ◌∷◌, ◌++◌, length, get_or, drop, Result, Ok, Err, refl, sym, ap, ◌∙◌, append_assoc, add-one, drop-cons, String}
+use Rattle.scenario_values.proofs.Prelude.{Data, Fault, Global, Value, each_from, each_member, item_count, items_view, members_view, under_item, view}
 use Rattle.binlog_coords.specs.OrchBase.Gives.{◌>>=◌}
-use Rattle.scenario_values.specs.declared.fault.Fault.{Fault}
-use Rattle.scenario_values.specs.Faults.{under, under_item, each_from, each_member, item_count}
 
 pub item_count_view : (vs : List Value) → item_count (items_view vs) ≡ length vs
 item_count_view [] = refl
@@ -25,7 +19,7 @@ regroup : {A : Type 0} (front : List A) (x : A) (read : Result (List A) Fault) �
 regroup front x (Ok xs) = ap (λ (ys : List _). Ok ys) (simp append_assoc)
 regroup front x (Err f) = refl
 
-rest_at : (vs : List Value) (at : ℕ) (v : Value) → at < length vs → v ≡ get_or vs at v → drop at vs ≡ v ∷ drop (at + 1) vs
+pub rest_at : (vs : List Value) (at : ℕ) (v : Value) → at < length vs → v ≡ get_or vs at v → drop at vs ≡ v ∷ drop (at + 1) vs
 rest_at vs at v lt here = rw add-one (drop-cons vs at v lt ∙ ap (λ (w : Value). w ∷ drop (suc at) vs) (sym here))
 
 pub next_read : {A : Type 0} (read : ℕ → Data → Result A Fault) (vs : List Value) (at : ℕ) (v : Value) (x : A) (front : List A) → at < length vs → v ≡ get_or vs at v → under_item at (read at (view v)) ≡ Ok x
@@ -41,17 +35,3 @@ next_read read vs at v x front lt here ok so_far =
 -- the members before these were read as `front`
 abbrev pub AreReadTo : {A : Type 0} → (List ℕ → Data → Result A Fault) → List (String Global × Value) → List (String Global × Value) → List A → Type 0
 AreReadTo read all rest front = with_front front (each_member read (members_view rest)) ≡ each_member read (members_view all)
-
-pub next_member : {A : Type 0} (read : List ℕ → Data → Result A Fault) (all rest : List (String Global × Value)) (m : String Global × Value) (x : A) (front : List A)
-    → under (string_bytes m.0) (read (string_bytes m.0) (view m.1)) ≡ Ok x → AreReadTo read all (m ∷ rest) front → AreReadTo read all rest (front ++ x ∷ [])
-next_member read all rest m x front ok so_far =
-    let one : with_front front (each_member read (members_view (m ∷ rest))) ≡ with_front (front ++ x ∷ []) (each_member read (members_view rest)) =
-    rw ok (regroup front x (each_member read (members_view rest))) in
-    sym one ∙ so_far
-
-pub fails_member : {A : Type 0} (read : List ℕ → Data → Result A Fault) (all rest : List (String Global × Value)) (m : String Global × Value) (front : List A) (o : Option Fault)
-    → MatchOption o ⊤ (λ f. under (string_bytes m.0) (read (string_bytes m.0) (view m.1)) ≡ Err f) → AreReadTo read all (m ∷ rest) front → MatchOption o ⊤ (λ f. each_member read (members_view all) ≡ Err f)
-fails_member read all rest m front None failed so_far = tt
-fails_member read all rest m front (Some f) failed so_far =
-    let one : with_front front (each_member read (members_view (m ∷ rest))) ≡ Err f = rw failed refl in
-    sym so_far ∙ one

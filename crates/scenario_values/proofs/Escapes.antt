@@ -1,6 +1,6 @@
 -- Bytes of a key, escaped one after the other.
 use Rattle.std.proofs.Common.{◌≡◌, ℕ, ◌+◌, ◌<◌, zero, suc, List, [], ◌∷◌, ◌++◌, length, drop, get_or, refl, ◌∙◌, arith, append_assoc, add-one}
-use Rattle.scenario_values.specs.Faults.{escaped_byte, escaped}
+use Rattle.scenario_values.proofs.Prelude.{escaped, escaped_byte}
 
 rest_at : (bs : List ℕ) (n : ℕ) → n < length bs → escaped (drop n bs) ≡ escaped_byte (get_or bs n 0) ++ escaped (drop (suc n) bs)
 rest_at [] n lt = absurd (omega arith)

@@ -1,22 +1,9 @@
 -- The keys of an object.
-use Rattle.std.proofs.Common.{◌≡◌, ℕ, Bool, true, false, eqb, is_eq, List, [], ◌∷◌, map, Some, None, Result, Ok, refl, sym, ap, ◌∙◌, Bor}
-use Rattle.std.proofs.lemmas.Bool.{false≢true}
-use Rattle.std.proofs.lemmas.Map.Text.{is_eq-slice_cmp}
-use Rattle.std.specs.Prelude.{◌||◌, if◌then◌else◌, String, string_bytes}
-use Rattle.std.specs.declared.alloc.Global.{Global}
-use Rattle.std.specs.List.{list_any}
-use Rattle.std.specs.Cmp.Lexicographic.{pointwise, same_text, slice_cmp}
-use Rattle.std.specs.Map.{keys_of}
-use Rattle.std.specs.Ordering.{match_ordering, nat_cmp}
-use Rattle.std.specs.declared.cmp.Ordering.{Ordering}
-use Rattle.std.specs.declared.cmp.Ordering.TheVariants.{Equal, Greater, Less}
-use Rattle.serde_json.specs.Data.{Data, Members, array, boolean, member, no_members, null, number, object, string}
-use Rattle.serde_json.specs.Find.{as_object, get, get_member}
-use Rattle.serde_json.specs.declared.value.Value.{Value}
-use Rattle.serde_json.specs.View.{members_view}
-use Rattle.scenario_values.specs.declared.fault.Fault.{Fault}
-use Rattle.scenario_values.specs.declared.fault.FaultCode.TheVariants.{UnknownKey}
-use Rattle.scenario_values.specs.Faults.{fails, under, has_none, has_none_at, is_key, only_keys}
+use Rattle.std.proofs.Common.{◌≡◌, ℕ, Bool, true, false, eqb, is_eq, List, [], ◌∷◌, map, Some, None, Result, Ok, refl, sym, ap, ◌∙◌, Bor, ◌||◌, if◌then◌else◌, String, string_bytes}
+use Rattle.scenario_values.proofs.Prelude.{Data, Equal, Fault, Global, Greater, Less, Members, Ordering, UnknownKey, Value, array, as_object, boolean}
+use Rattle.scenario_values.proofs.Prelude.{fails, false≢true, get, get_member, has_none, has_none_at, is_eq-slice_cmp, is_key, keys_of, list_any}
+use Rattle.scenario_values.proofs.Prelude.{match_ordering, member, members_view, nat_cmp, no_members, null, number, object, only_keys, pointwise}
+use Rattle.scenario_values.proofs.Prelude.{same_text, slice_cmp, string, under}
 
 pub any_now : (known : List (Bor (List ℕ))) (key : List ℕ) → list_any (λ (s : Bor (List ℕ)). pointwise eqb s.now key) known ≡ is_key (map (λ (s : Bor (List ℕ)). s.now) known) key
 any_now [] key = refl

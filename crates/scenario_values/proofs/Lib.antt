@@ -1,3 +1,4 @@
+mod Prelude
 pub mod Unders
 pub mod Escapes
 pub mod Keys

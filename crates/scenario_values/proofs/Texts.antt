@@ -1,27 +1,7 @@
 -- Texts of versions and UUIDs.
-use Rattle.std.proofs.Common.{◌≡◌, ℕ, Bool, true, false, cond, List, [], ◌∷◌, length, Option, Some, None, Result, Ok, Err, refl, sym, ap, ◌∙◌, arith, leb}
-use Rattle.std.specs.Prelude.{◌&&◌}
-use Rattle.std.specs.Char.{is_ascii_digit}
-use Rattle.std.specs.List.{list_all}
-use Rattle.std.specs.Result.{OkIff, result_ok}
-use Rattle.std.specs.Str.{all_ascii_digits}
-use Rattle.std.specs.Str.Parse.{ParsesUnsigned, digits_value}
-use Rattle.std.proofs.lemmas.Bool.{false≢true, le-leb, leb-true}
-use Rattle.std.proofs.lemmas.Str.Parse.{parse_digits}
-use Rattle.uuid.specs.Text.{parsed, parsed_hyphenated}
-use Rattle.binlog_coords.proofs.OrchBase.NameLemmas.{own}
-use Rattle.scenario_values.specs.declared.fault.FaultCode.TheVariants.{BadUuid}
-use Rattle.scenario_values.specs.Faults.{fails}
-use Rattle.scenario_values.specs.Values.{uuid_or_fails, version_part}
-
--- `r` is `Ok v` exactly if both tests hold
-by_tests : {E : Type 0} (a b : Bool) (v : ℕ) (r : Result ℕ E) (P : Type 0) → OkIff r P v → (P → (a ≡ true) × (b ≡ true)) → (a ≡ true → b ≡ true → P) → result_ok r ≡ cond (a && b) (Some v) None
-by_tests true true v (Ok x) P h f g = ap (λ (n : ℕ). Some n) h.1
-by_tests true true v (Err e) P h f g = absurd (h (g refl refl))
-by_tests true false v (Ok x) P h f g = absurd (false≢true (f h.0).1)
-by_tests true false v (Err e) P h f g = refl
-by_tests false b v (Ok x) P h f g = absurd (false≢true (f h.0).0)
-by_tests false b v (Err e) P h f g = refl
+use Rattle.std.proofs.Common.{◌≡◌, ℕ, Bool, true, false, cond, List, [], ◌∷◌, length, Option, Some, None, Result, refl, sym, ap, ◌∙◌, arith, leb, ◌&&◌}
+use Rattle.scenario_values.proofs.Prelude.{BadUuid, ParsesUnsigned, all_ascii_digits, by_tests, digits_value, fails, is_ascii_digit, le-leb, leb-true}
+use Rattle.scenario_values.proofs.Prelude.{list_all, own, parse_digits, parsed, parsed_hyphenated, result_ok, uuid_or_fails, version_part}
 
 all_digits : (ds : List ℕ) → list_all is_ascii_digit ds ≡ all_ascii_digits ds
 all_digits [] = refl

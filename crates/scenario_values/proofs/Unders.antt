@@ -1,10 +1,7 @@
 -- What is read at a key.
 use Rattle.std.proofs.Common.{ℕ, List, Result, Ok, Err, refl, ap}
-use Rattle.binlog_coords.specs.OrchBase.Gives.{Gives}
-use Rattle.scenario_values.specs.declared.fault.Fault.{Fault}
-use Rattle.scenario_values.specs.declared.fault.ReadFault.{ReadFault}
-use Rattle.scenario_values.specs.declared.fault.ReadFault.TheVariants as read_fault
-use Rattle.scenario_values.specs.Faults.{fault_of, under, IsUnder}
+use Rattle.scenario_values.proofs.Prelude.{Fault, Gives, IsUnder, ReadFault, fault_of, under}
+use Rattle.scenario_values.proofs.Prelude.read_fault
 
 pub gives_under : {X Y : Type 0} (view : X → Y) (key : List ℕ) (r s : Result X ReadFault) (read : Result Y Fault)
     → IsUnder key r s → Gives view fault_of r read → Gives view fault_of s (under key read)

@@ -1,40 +1,19 @@
 -- Lists by the labels of clusters.
-use Rattle.std.proofs.Common.{◌≡◌, ◌∙◌, ℕ, zero, suc, ◌+◌, ◌<◌, ◌≤◌, Bool, true, false, cond, ltb, List, [], ◌∷◌, length, get_or, Option, None, Some, refl, sym, ap, subst, arith, inl, inr, ◌⊎◌}
-use Rattle.std.specs.Prelude.{All, find, nat_eq, not, position, slice_get}
-use Rattle.std.specs.Cmp.Lexicographic.{nat_list_cmp_total, pointwise, same_text, slice_cmp}
-use Rattle.std.specs.List.{position_or_len}
-use Rattle.std.specs.List.Sorted.{IsNonDecreasingBy, IsPartitionedBy}
-use Rattle.std.specs.Ordering.{is_eq, is_lt, nat_cmp, ordering_index}
-use Rattle.std.specs.declared.cmp.Ordering.{Ordering}
-use Rattle.std.specs.declared.cmp.Ordering.TheVariants.{Less, Equal, Greater}
-use Rattle.std.proofs.lemmas.Bool.{cases_lt, false≢true, lt-ltb, ltb-false}
-use Rattle.std.proofs.lemmas.Bool.Decides.{nat_tests}
-use Rattle.std.proofs.lemmas.List.{get_or_default}
-use Rattle.std.proofs.lemmas.List.Elements.{All-head, All-tail}
-use Rattle.std.proofs.lemmas.List.Folds.{find_at}
-use Rattle.std.proofs.lemmas.List.Sorted.{searchable_from_sorted, IsPartitionedBy-ltb}
-use Rattle.std.proofs.lemmas.Map.Text.{is_eq-slice_cmp}
-use Rattle.std.proofs.lemmas.Option.{same_Some}
-use Rattle.scenarios.specs.Aliases.{alias_of}
-use Rattle.scenarios.specs.Blocks.{period_in}
-use Rattle.scenarios.specs.Labels.{alias_label, block_label, entry_at, place_in, seconds_of, text_of, ArePlaces, AreRising, IsPoint}
-use Rattle.scenarios.specs.declared.blocks.Block.{Block}
-use Rattle.scenarios.specs.declared.filters.Alias.{Alias}
-use Rattle.scenarios.specs.declared.labels.ServerPlace.{ServerPlace}
+use Rattle.std.proofs.Common.{◌≡◌, ◌∙◌, ℕ, zero, suc, ◌+◌, ◌<◌, ◌≤◌, Bool, true, false, cond, ltb, List, [], ◌∷◌, length, get_or, Option, None, Some, refl, sym, ap, subst, arith, inl, inr, ◌⊎◌, All, find, nat_eq, not, position, slice_get}
+use Rattle.scenarios.proofs.Prelude.{Alias, All-head, All-tail, ArePlaces, AreRising, Block, Equal, Greater, IsNonDecreasingBy, IsPartitionedBy}
+use Rattle.scenarios.proofs.Prelude.{IsPartitionedBy-ltb, IsPoint, Less, Ordering, ServerPlace, alias_label, alias_of, block_label, cases_lt}
+use Rattle.scenarios.proofs.Prelude.{entry_at, false≢true, find_at, get_or_default, is_eq, is_eq-slice_cmp, is_lt, lt-ltb, ltb-false, nat_cmp}
+use Rattle.scenarios.proofs.Prelude.{nat_list_cmp_total, nat_tests, ordering_index, period_in, place_in, pointwise, position_or_len, same_Some}
+use Rattle.scenarios.proofs.Prelude.{same_text, searchable_from_sorted, seconds_of, slice_cmp, slice_get_past, text_of}
 
 -- ---- the entry at the first place
-
-past : {X : Type 0} (xs : List X) (n : ℕ) → length xs ≤ n → slice_get xs n ≡ None
-past [] n h = refl
-past (x ∷ xs) zero h = absurd (omega (arith, h))
-past (x ∷ xs) (suc n) h = past xs n (omega (arith, h))
 
 found : {X : Type 0} (p : X → Bool) (xs : List X) → entry_at xs (position p xs) ≡ find p xs
 found {X} p xs = go (ltb (position_or_len p xs) (length xs)) refl
   where
     go : (b : Bool) → ltb (position_or_len p xs) (length xs) ≡ b → entry_at xs (cond b (Some (position_or_len p xs)) None) ≡ find p xs
     go true is = sym (find_at p xs)
-    go false is = sym (find_at p xs ∙ past xs (position_or_len p xs) (ltb-false (position_or_len p xs) (length xs) is))
+    go false is = sym (find_at p xs ∙ slice_get_past xs (position_or_len p xs) (ltb-false (position_or_len p xs) (length xs) is))
 
 period_first : (bs : List Block) (block : ℕ) (cluster : List ℕ) → seconds_of block (find (λ b. pointwise nat_eq (block_label b) cluster) bs) ≡ period_in bs block cluster
 period_first [] block cluster = refl

@@ -1,12 +1,6 @@
 -- The room of a scenario's histories and logs is small.
-use Rattle.std.proofs.Common.{◌≡◌, ℕ, ◌*◌, ◌<◌, ◌≤◌, List, [], ◌∷◌, ◌++◌, length, refl, ap, arith, zero, suc, Some}
-use Rattle.std.specs.Prelude.{slice_get, max}
-use Rattle.std.proofs.lemmas.List.Sums.{count_by-le-length}
-use Rattle.std.proofs.lemmas.Option.{same_Some}
-use Rattle.openings.specs.declared.init.ServerInit.{ServerInit}
-use Rattle.scenarios.specs.declared.scenario.Scenario.{Scenario}
-use Rattle.scenarios.specs.Scenarios.{flushes_of, longest_flushes, room_of, IsScenario}
-use Rattle.scenarios.specs.ValidTurns.{is_rotate}
+use Rattle.std.proofs.Common.{◌≡◌, ℕ, ◌*◌, ◌<◌, ◌≤◌, List, [], ◌∷◌, ◌++◌, length, refl, ap, arith, zero, suc, Some, slice_get, max}
+use Rattle.scenarios.proofs.Prelude.{IsScenario, Scenario, ServerInit, count_by-le-length, flushes_of, is_rotate, longest_flushes, room_of, same_Some}
 
 -- what one server takes is no more than what all take
 le-times : (m n : ℕ) → 0 < m → n ≤ m * n

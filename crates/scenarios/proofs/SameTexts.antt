@@ -1,6 +1,6 @@
 -- Lists that are equal at each place of a function of their elements.
 use Rattle.std.proofs.Common.{◌≡◌, ℕ, ◌+◌, ◌<◌, List, [], ◌∷◌, ◌++◌, length, map, take, get_or, ap, sym, ◌∙◌}
-use Rattle.std.proofs.lemmas.List.{get_or-map, take_more, map-append}
+use Rattle.scenarios.proofs.Prelude.{get_or-map, map-append, take_more}
 
 pub same_at : {A B : Type 0} (f : A → B) (xs ys : List A) (n : ℕ) (x y : A) → n < length xs → n < length ys → x ≡ get_or xs n x → y ≡ get_or ys n y → map f xs ≡ map f ys → f x ≡ f y
 same_at f xs ys n x y within inside is are e =

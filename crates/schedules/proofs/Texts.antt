@@ -1,8 +1,6 @@
 -- What is written has no float.
-use Rattle.std.proofs.lemmas.Bool.{or_from as none-of}
-use Rattle.std.proofs.lemmas.Bool.{or_parts as neither}
-use Rattle.std.proofs.Common.{◌≡◌, ℕ, false, List, Option, Some, None, refl}
-use Rattle.std.specs.Prelude.{codes, option_map, decimal}
+use Rattle.std.proofs.lemmas.Bool.{or_from as none-of, or_parts as neither}
+use Rattle.std.proofs.Common.{◌≡◌, ℕ, false, List, Option, Some, None, refl, codes, option_map, decimal}
 use Rattle.std.specs.Ordering.{nat_cmp, match_ordering}
 use Rattle.std.specs.Cmp.Lexicographic.{slice_cmp}
 use Rattle.std.specs.declared.cmp.Ordering.{Ordering}

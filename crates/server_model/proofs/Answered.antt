@@ -1,6 +1,5 @@
 -- What the code of the exchanges answers and leaves is what the definitions say.
-use Rattle.std.proofs.Common.{◌≡◌, ℕ, ◌+◌, ◌<◌, Bool, true, false, cond, List, length, refl, subst, Some, arith}
-use Rattle.std.specs.Prelude.{slice_get, slice_set, nat_le}
+use Rattle.std.proofs.Common.{◌≡◌, ℕ, ◌+◌, ◌<◌, Bool, true, false, cond, List, length, refl, subst, Some, arith, slice_get, slice_set, nat_le}
 use Rattle.server_model.proofs.Prelude.{Server, World, after_write, count_own, has_source, nat_tests, own_txn, server_at, took, write_answer}
 use Rattle.server_model.proofs.Prelude.wrote
 

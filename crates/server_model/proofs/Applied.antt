@@ -1,6 +1,5 @@
 -- What an apply executes, and that it keeps what is kept.
-use Rattle.std.proofs.Common.{◌≡◌, ℕ, ◌<◌, ◌≤◌, Bool, true, false, not, cond, List, length, refl, sym, ◌∙◌, ap, subst, Option, Some, None, arith, ◌&&◌}
-use Rattle.std.specs.Prelude.{slice_get, slice_set, nat_le}
+use Rattle.std.proofs.Common.{◌≡◌, ℕ, ◌<◌, ◌≤◌, Bool, true, false, not, cond, List, length, refl, sym, ◌∙◌, ap, subst, Option, Some, None, arith, ◌&&◌, slice_get, slice_set, nat_le}
 use Rattle.server_model.proofs.Prelude.{ApplyStep, AreGtids, Attached, Coord, Detached, HasPlaces, IsKept, IsNumbered, IsReady, Next, Reserved}
 use Rattle.server_model.proofs.Prelude.{Server, SourceState, Txn, Without, World, after_apply, applied, applier_did, apply_from, apply_step}
 use Rattle.server_model.proofs.Prelude.{apply_txn, attached_at, is_applying, is_reached, next_after, same_coord, same_Some, server_at, source_no}

@@ -1,6 +1,5 @@
 -- Walks up the sources.
-use Rattle.std.proofs.Common.{◌≡◌, ℕ, ◌+◌, ◌-◌, ◌<◌, true, false, sym, subst, ap, ◌||◌, Option, Some, None, arith, suc, ◌∙◌}
-use Rattle.std.specs.Prelude.{◌==◌}
+use Rattle.std.proofs.Common.{◌≡◌, ℕ, ◌+◌, ◌-◌, ◌<◌, true, false, sym, subst, ap, ◌||◌, Option, Some, None, arith, suc, ◌∙◌, ◌==◌}
 use Rattle.server_model.proofs.Prelude.{Grounded, Root, Under, chain_meets, chain_on, eq-eqb, ne_eqb, same_Some}
 
 -- one step of the walk

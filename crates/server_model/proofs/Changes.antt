@@ -1,6 +1,5 @@
 -- What an exchange does: it leaves the world as it is, or changes its one server.
-use Rattle.std.proofs.Common.{◌≡◌, ℕ, List, refl, ◌⊎◌, inl, inr, Option, Some, None, false, Bool, true, cond, ◌||◌}
-use Rattle.std.specs.Prelude.{Result, Ok, Err, if◌then◌else◌, ◌+◌}
+use Rattle.std.proofs.Common.{◌≡◌, ℕ, List, refl, ◌⊎◌, inl, inr, Option, Some, None, false, Bool, true, cond, ◌||◌, Result, Ok, Err, if◌then◌else◌, ◌+◌}
 use Rattle.server_model.proofs.Prelude.{Apply, ApplyStep, Ask, Attach, AttachAuto, AttachFault, Attached, Befall, Coord, Detached, Event, Exchange}
 use Rattle.server_model.proofs.Prelude.{Fetch, FetchStep, Interval, Next, Purge, PurgeAnswer, Request, Rotate, RotateAnswer, Server, ServerNo}
 use Rattle.server_model.proofs.Prelude.{SourceState, Spot, Txn, Unreachable, World, Write, WriteAnswer, after, after_apply, after_attach}

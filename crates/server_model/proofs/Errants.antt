@@ -2,8 +2,7 @@
 use Rattle.server_model.proofs.Prelude.{All-head, All-nil, All-tail, Interval, IsInterval, IsSet, IsSet-with_pair, Txn, and_parts, eqb-true}
 use Rattle.server_model.proofs.Prelude.{errant_set, false≢true, filter, fold, get_or_from_slice_get, has_gtid, holds, largest, list_any, nat_tests}
 use Rattle.server_model.proofs.Prelude.{or_right, same_sets_lem, set_of, slice_get_within, spans, with_gtid}
-use Rattle.std.proofs.Common.{◌≡◌, ℕ, ◌^◌, ◌<◌, ◌≤◌, Bool, true, false, cond, not, List, [], ◌∷◌, length, refl, sym, ◌∙◌, ap, subst, arith, get_or, zero, suc}
-use Rattle.std.specs.Prelude.{slice_get, Some, ◌==◌, ◌&&◌, ◌||◌, All}
+use Rattle.std.proofs.Common.{◌≡◌, ℕ, ◌^◌, ◌<◌, ◌≤◌, Bool, true, false, cond, not, List, [], ◌∷◌, length, refl, sym, ◌∙◌, ap, subst, arith, get_or, zero, suc, slice_get, Some, ◌==◌, ◌&&◌, ◌||◌, All}
 use Rattle.server_model.proofs.ExecutedSets.{is_gtid, holds-set_of}
 
 -- a GTID that a set may have

@@ -1,6 +1,6 @@
 -- Executed sets: what they hold, and that they are kept as one server changes.
-use Rattle.std.proofs.Common.{◌≡◌, ℕ, ◌+◌, ◌-◌, ◌<◌, ◌≤◌, Bool, true, false, cond, List, [], ◌∷◌, ◌++◌, length, drop, refl, sym, ◌∙◌, ap, subst, inl, inr, Some, arith, zero, suc, length-append}
-use Rattle.std.specs.Prelude.{slice_get, slice_range, slice_set, ◌==◌, ◌&&◌, ◌||◌, All}
+pub use Rattle.server_words.proofs.GtidSets.Inserts.{or_assoc}
+use Rattle.std.proofs.Common.{◌≡◌, ℕ, ◌+◌, ◌-◌, ◌<◌, ◌≤◌, Bool, true, false, cond, List, [], ◌∷◌, ◌++◌, length, drop, refl, sym, ◌∙◌, ap, subst, inl, inr, Some, arith, zero, suc, length-append, slice_get, slice_range, slice_set, ◌==◌, ◌&&◌, ◌||◌, All}
 use Rattle.server_model.proofs.Prelude.{All-head, All-nil, All-push, All-tail, AreGtids, Coord, Interval, IsFit, IsNumbered, IsSetOf, Kept, Reserved}
 use Rattle.server_model.proofs.Prelude.{Rises, Rises-inserted, Server, Settings, TellsExecuted, Txn, cases_eq, eq-eqb, fold, fold-append}
 use Rattle.server_model.proofs.Prelude.{get_or_from_slice_get, has_gtid, held_len, holds, holds-with_pair, length-inserted, length-set, length-take}
@@ -17,10 +17,6 @@ is_gtid uuid u n t = (u == uuid t.origin.0) && (n == t.seq)
 
 Rises-one : (uuid n : ℕ) → Rises (single uuid n)
 Rises-one uuid n = omega arith
-
-or_assoc : (a b c : Bool) → ((a || b) || c) ≡ (a || (b || c))
-or_assoc true b c = refl
-or_assoc false b c = refl
 
 -- a set has what it had, and the GTIDs of the transactions that joined it
 pub holds-fold : (uuid : ℕ → ℕ) (txns : List Txn) (set : List Interval) (u n : ℕ) → All Rises set → holds (fold (with_gtid uuid) set txns) u n ≡ (holds set u n || list_any (is_gtid uuid u n) txns)

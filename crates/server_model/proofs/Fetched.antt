@@ -1,6 +1,5 @@
 -- What a fetch reads, and that it keeps what is kept.
-use Rattle.std.proofs.Common.{◌≡◌, ℕ, Bool, true, false, cond, List, refl, sym, ◌∙◌, ap, subst, Option, Some, None, arith, ◌&&◌}
-use Rattle.std.specs.Prelude.{slice_get, slice_set, nat_lt}
+use Rattle.std.proofs.Common.{◌≡◌, ℕ, Bool, true, false, cond, List, refl, sym, ◌∙◌, ap, subst, Option, Some, None, arith, ◌&&◌, slice_get, slice_set, nat_lt}
 use Rattle.server_model.proofs.Prelude.{Attached, Coord, Detached, FetchStep, IsKept, Next, Server, SourceState, Without, World, after_fetch}
 use Rattle.server_model.proofs.Prelude.{attached_at, fetch_from, fetch_kept, fetch_step, is_attached, is_receiving, next_after, receiver_did}
 use Rattle.server_model.proofs.Prelude.{same_Some, server_at, source_no}

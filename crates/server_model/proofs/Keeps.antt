@@ -1,6 +1,5 @@
 -- What is kept of the servers stays right as one of them changes.
-use Rattle.std.proofs.Common.{◌≡◌, ℕ, ◌+◌, ◌<◌, ◌≤◌, true, List, length, refl, sym, ◌∙◌, ap, subst, inl, inr, Option, Some, None, arith, get_or}
-use Rattle.std.specs.Prelude.{slice_get, slice_set, sum_by, count_by}
+use Rattle.std.proofs.Common.{◌≡◌, ℕ, ◌+◌, ◌<◌, ◌≤◌, true, List, length, refl, sym, ◌∙◌, ap, subst, inl, inr, Option, Some, None, arith, get_or, slice_get, slice_set, sum_by, count_by}
 use Rattle.server_model.proofs.Prelude.{Coord, Grown, HasPlaces, IsFit, IsKept, Laid-Grown, Log, Next, Server, StepFrom, ends_by}
 use Rattle.server_model.proofs.Prelude.{get_or_from_slice_get, has_place, length-set, next_after, next_after-step, place, place-from, place-parts}
 use Rattle.server_model.proofs.Prelude.{same_Some, slice_get_within, source_no, sum_by-set}

@@ -1,4 +1,4 @@
-mod Prelude
+pub mod Prelude
 pub mod Lists
 pub mod Told
 pub mod LogSizes

@@ -1,6 +1,5 @@
 -- Look-ups after a write.
-use Rattle.std.proofs.Common.{◌≡◌, ℕ, false, cond, List, [], ◌∷◌, refl, sym, ◌∙◌, ap, inl, inr, ◌⊎◌, Some, arith, zero, suc, length, ◌<◌, ◌≤◌, ◌+◌, ◌-◌, ◌++◌, take, drop, get_or}
-use Rattle.std.specs.Prelude.{slice_get, slice_range, slice_set, ◌==◌}
+use Rattle.std.proofs.Common.{◌≡◌, ℕ, false, cond, List, [], ◌∷◌, refl, sym, ◌∙◌, ap, inl, inr, ◌⊎◌, Some, arith, zero, suc, length, ◌<◌, ◌≤◌, ◌+◌, ◌-◌, ◌++◌, take, drop, get_or, slice_get, slice_range, slice_set, ◌==◌}
 use Rattle.server_model.proofs.Prelude.{cases_eq, eq-eqb, nat_tests, ne_eqb, same_Some, slice_get-get_or}
 
 pub slice_get-set : {X : Type 0} (xs : List X) (i : ℕ) (x v : X) → slice_get xs i ≡ Some x → (j : ℕ) → slice_get (slice_set xs i v) j ≡ cond (j == i) (Some v) (slice_get xs j)

@@ -1,6 +1,5 @@
 -- How a log grows with a transaction.
-use Rattle.std.proofs.Common.{◌≡◌, ℕ, ◌+◌, ◌≤◌, Bool, true, false, cond, [], ◌∷◌, length, length-append, arith}
-use Rattle.std.specs.Prelude.{nat_le}
+use Rattle.std.proofs.Common.{◌≡◌, ℕ, ◌+◌, ◌≤◌, Bool, true, false, cond, [], ◌∷◌, length, length-append, arith, nat_le}
 use Rattle.server_model.proofs.Prelude.{Log, appended, entry_at_end, flush, push}
 
 pub length-push : (log : Log) (size : ℕ) → length (push log size).entries ≡ length log.entries + 1

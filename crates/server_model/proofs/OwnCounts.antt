@@ -1,6 +1,5 @@
 -- How many transactions of its own each server has executed, as servers change.
-use Rattle.std.proofs.Common.{◌≡◌, ℕ, ◌+◌, ◌≤◌, List, [], ◌∷◌, ◌++◌, length, refl, sym, ◌∙◌, ap, Some, arith, zero, suc}
-use Rattle.std.specs.Prelude.{slice_get, slice_set, nat_eq}
+use Rattle.std.proofs.Common.{◌≡◌, ℕ, ◌+◌, ◌≤◌, List, [], ◌∷◌, ◌++◌, length, refl, sym, ◌∙◌, ap, Some, arith, zero, suc, slice_get, slice_set, nat_eq}
 use Rattle.server_model.proofs.Prelude.{Kept, Server, Txn, count_by-le-length, count_own, own_counts, own_from, same_Some}
 use Rattle.server_model.proofs.Lists.{set_self}
 

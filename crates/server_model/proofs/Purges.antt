@@ -1,6 +1,5 @@
 -- How far a purge goes.
-use Rattle.std.proofs.Common.{◌≡◌, ℕ, ◌≤◌, Bool, true, false, cond, List, [], ◌∷◌, map, not, refl, sym, ◌∙◌, ap, subst, Some, arith, zero, suc}
-use Rattle.std.specs.Prelude.{slice_get, filter, fold, nat_lt}
+use Rattle.std.proofs.Common.{◌≡◌, ℕ, ◌≤◌, Bool, true, false, cond, List, [], ◌∷◌, map, not, refl, sym, ◌∙◌, ap, subst, Some, arith, zero, suc, slice_get, filter, fold, nat_lt}
 use Rattle.server_model.proofs.Prelude.{Server, World, files_read, greater, is_reading, kept_from, least_read, lesser, nat_tests, purge_answer}
 use Rattle.server_model.proofs.Prelude.{same_Some, server_at}
 use Rattle.server_model.proofs.Prelude.purging

@@ -1,6 +1,5 @@
 -- What is seen of a server.
-use Rattle.std.proofs.Common.{◌≡◌, ℕ, Bool, List, sym, ◌∙◌, ap, subst, Option, Some}
-use Rattle.std.specs.Prelude.{option_map}
+use Rattle.std.proofs.Common.{◌≡◌, ℕ, Bool, List, sym, ◌∙◌, ap, subst, Option, Some, option_map}
 use Rattle.server_model.proofs.Prelude.{Interval, IsSetOf, Reserved, Server, Status, World, purged_txns, seen_purged, seen_set, server_at, shown}
 use Rattle.server_model.proofs.Prelude.{shown_of, source_at, status_of, uuids_in}
 

@@ -1,6 +1,5 @@
 -- No exchange leaves a server under a source that isn't one of the servers.
-use Rattle.std.proofs.Common.{◌≡◌, ℕ, ◌<◌, List, [], ◌∷◌, length, sym, subst, Some}
-use Rattle.std.specs.Prelude.{All, IfSome, slice_get, slice_set}
+use Rattle.std.proofs.Common.{◌≡◌, ℕ, ◌<◌, List, [], ◌∷◌, length, sym, subst, Some, All, IfSome, slice_get, slice_set}
 use Rattle.server_model.proofs.Prelude.{All-set, AllAllowed, Allowed, Ask, Event, Exchange, Server, SourceState, World, after, get_or_from_slice_get}
 use Rattle.server_model.proofs.Prelude.{length-set, own_txn, run, slice_get_within, source_no, took}
 use Rattle.server_model.proofs.Changes as changes

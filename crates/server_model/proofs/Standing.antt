@@ -1,6 +1,5 @@
 -- What is kept of servers, and beside them, is right.
-use Rattle.std.proofs.Common.{◌≡◌, ℕ, ◌≤◌, Bool, true, false, cond, List, [], ◌∷◌, length, refl, sym, ◌∙◌, ap, subst, Some, arith, zero, suc}
-use Rattle.std.specs.Prelude.{slice_get, map}
+use Rattle.std.proofs.Common.{◌≡◌, ℕ, ◌≤◌, Bool, true, false, cond, List, [], ◌∷◌, length, refl, sym, ◌∙◌, ap, subst, Some, arith, zero, suc, slice_get, map}
 use Rattle.server_model.proofs.Prelude.{AreGtids, CanStand, HasPlaces, IsKept, IsSetOf, Reserved, Server, StandsIn, Txn, place-parts, purged_txns}
 use Rattle.server_model.proofs.Prelude.{reserved_set, same_Some, set_of, source_no, uuids_in}
 

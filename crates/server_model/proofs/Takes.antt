@@ -1,6 +1,5 @@
 -- What is kept of the servers stays right as one executes one more transaction.
-use Rattle.std.proofs.Common.{◌≡◌, ℕ, ◌+◌, ◌<◌, ◌≤◌, Bool, true, false, cond, List, [], ◌∷◌, ◌++◌, length, length-append, sym, ◌∙◌, ap, Some, arith, get_or}
-use Rattle.std.specs.Prelude.{slice_get, slice_set, nat_eq}
+use Rattle.std.proofs.Common.{◌≡◌, ℕ, ◌+◌, ◌<◌, ◌≤◌, Bool, true, false, cond, List, [], ◌∷◌, ◌++◌, length, length-append, sym, ◌∙◌, ap, Some, arith, get_or, slice_get, slice_set, nat_eq}
 use Rattle.server_model.proofs.Prelude.{All-push, Coord, Grown, HasPlaces, HasSize, Index, IsFit, IsKept, IsNumbered, Server, Txn, count_own}
 use Rattle.server_model.proofs.Prelude.{mul-le-mul_right, own_counts, own_txn, place, push, slice_get-get_or, slice_get_within, source_no}
 use Rattle.server_model.proofs.Prelude.{stable_push, sum_by-le, sum_by_push, took}

@@ -26,10 +26,10 @@ pub struct Status {
     /// Whether its applier is on.
     pub sql: bool,
     pub read_only: bool,
-    /// The GTIDs of what it has executed (`gtid_executed`); empty if the servers don't use GTIDs.
-    pub set: GtidSet,
     /// The first file that its own binary log keeps; 1 before any purge, and for a server that doesn't log.
     pub first: u32,
+    /// The GTIDs of what it has executed (`gtid_executed`); empty if the servers don't use GTIDs.
+    pub set: GtidSet,
     /// The GTIDs of what is in the purged files of its log (`gtid_purged`). It is empty if the servers don't use GTIDs,
     /// and for a server that doesn't log.
     pub purged: GtidSet,

@@ -1,6 +1,5 @@
 -- A single command's claim decides whether it is taken.
-use Rattle.std.proofs.Common.{◌≡◌, ◌∙◌, ℕ, Bool, true, false, cond, List, refl, sym, ap, subst, Option, Some, None}
-use Rattle.std.specs.Prelude.{◌==◌, ◌&&◌, nat_lt, not}
+use Rattle.std.proofs.Common.{◌≡◌, ◌∙◌, ℕ, Bool, true, false, cond, List, refl, sym, ap, subst, Option, Some, None, ◌==◌, ◌&&◌, nat_lt, not}
 use Rattle.tasks.proofs.Prelude.{ClaimAnswer, ClaimedCommandsAreTaken, ClaimState, CommandTurn, Moment, Row, State, TakenClaimsTakeNoCommand, Turn}
 use Rattle.tasks.proofs.Prelude.{act_claimed, active, active_by, active_in, after_answer, after_done, claim_ahead, claim_by, claim_without, claimed}
 use Rattle.tasks.proofs.Prelude.{command_as, is_alone, is_of, may_act, nodes-step, own_turn, step, taker, taker_by, until_from}

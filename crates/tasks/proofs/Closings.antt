@@ -1,6 +1,5 @@
 -- The rounds after a single command's own turn, with their journal.
-use Rattle.std.proofs.Common.{◌≡◌, ◌∙◌, ℕ, zero, suc, ◌<◌, ◌≤◌, Bool, true, false, cond, List, [], ◌∷◌, ◌++◌, refl, sym, ap, subst, arith, append_assoc, Option, Some, None}
-use Rattle.std.specs.Prelude.{All}
+use Rattle.std.proofs.Common.{◌≡◌, ◌∙◌, ℕ, zero, suc, ◌<◌, ◌≤◌, Bool, true, false, cond, List, [], ◌∷◌, ◌++◌, refl, sym, ap, subst, arith, append_assoc, Option, Some, None, All}
 use Rattle.tasks.proofs.Prelude.{All-append, All-cons, All-head, All-nil, All-tail, AsksNever, AsksNothing, ClosesEach, FinishedBy, GivesUpEach}
 use Rattle.tasks.proofs.Prelude.{GivesUpOn, Held, IsFinish, LeadsTo, Point, Ran, Recorded, Reply, Row, ServerNo, State, Turn, TurnFault, WasCutShort}
 use Rattle.tasks.proofs.Prelude.{after_rounds, after_turns, append-nil, asks-round, begun_by, by_name, closing_by, engine, false≢true, flat_map}

@@ -1,6 +1,5 @@
 -- Runs with their journals, turn by turn, and the lines of their replies.
-use Rattle.std.proofs.Common.{◌≡◌, ◌∙◌, ℕ, ◌+◌, ◌<◌, ◌≤◌, cond, List, [], ◌∷◌, ◌++◌, length, take, get_or, true, false, refl, sym, ap, subst, arith, append_assoc, Option, Some, None, Bool}
-use Rattle.std.specs.Prelude.{◌||◌, slice_get}
+use Rattle.std.proofs.Common.{◌≡◌, ◌∙◌, ℕ, ◌+◌, ◌<◌, ◌≤◌, cond, List, [], ◌∷◌, ◌++◌, length, take, get_or, true, false, refl, sym, ap, subst, arith, append_assoc, Option, Some, None, Bool, ◌||◌, slice_get}
 use Rattle.tasks.proofs.Prelude.{Adds, Calls, Carries, Follows, GaveUp, GivesUp, GivesUpOn, Held, HostPort, IsFresh, IsOnTheWay, Leads, Point}
 use Rattle.tasks.proofs.Prelude.{Progress, Ran, Ran-more, Ran-nil, Recorded, Reply, Row, State, StepsTo, StepsTo-recorded, StopsBefore, StopsBehind}
 use Rattle.tasks.proofs.Prelude.{Taken, TakesFront, Tallies, Tally, Turn, TurnFault, Verdict, WasCutOff, any_refused, append-nil, between}

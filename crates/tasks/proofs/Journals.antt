@@ -1,6 +1,6 @@
 -- The lines of a journal, one after another.
-use Rattle.std.proofs.Common.{◌≡◌, ◌∙◌, ℕ, ◌+◌, ◌<◌, Bool, true, false, List, [], ◌∷◌, ◌++◌, length, take, drop, get_or, Result, Ok, Err, refl, sym, ap, subst, arith, append_assoc}
-use Rattle.std.specs.Prelude.{◌||◌, OnErr}
+use Rattle.orch_core.proofs.ServerModel.ExecutedSets.{or_assoc}
+use Rattle.std.proofs.Common.{◌≡◌, ◌∙◌, ℕ, ◌+◌, ◌<◌, Bool, true, false, List, [], ◌∷◌, ◌++◌, length, take, drop, get_or, Result, Ok, Err, refl, sym, ap, subst, arith, append_assoc, ◌||◌, OnErr}
 use Rattle.tasks.proofs.Prelude.{Adds, Carries, Ending, EndsWhole, FailsIn, HostPort, IsOnTheWay, JournalStands, Pieces, Progress, Recorded, Reply}
 use Rattle.tasks.proofs.Prelude.{Stays, Taken, Takes, TakesFront, Told, ToldSome, Turn, any_refused, append-nil, between, headed_text, is_refused}
 use Rattle.tasks.proofs.Prelude.{length-map, length-take-le, line_text, lines_text, list_any, list_any-append, map_more, replies_text, tables_of}
@@ -15,10 +15,6 @@ Entry = ℕ × Turn × Reply
 or_false : (b : Bool) → b ≡ (b || false)
 or_false true = refl
 or_false false = refl
-
-or_assoc : (a b c : Bool) → ((a || b) || c) ≡ (a || (b || c))
-or_assoc true b c = refl
-or_assoc false b c = refl
 
 -- of an error
 pub on_err : {A E : Type 0} (P : Type 0) (r : Result A E) → P → OnErr r P

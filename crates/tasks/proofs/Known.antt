@@ -61,12 +61,8 @@ cut_begins c s rows k = at c.asked (all_turns c s rows)
         let first = replies_begin (names_of s) (opened c s rows) ts k in
         let tables = tables_of (held_from c s rows ts).state.state in
         record { rest = first.rest ++ tables; is = ap (λ (v : List ℕ). v ++ tables) first.is ∙ append_assoc (cut_text asked.Run (names_of s) (held_from c s rows (take k ts)).state) first.rest tables }
-    at asked.Summary ts = record { rest = (asked_answer asked.Summary c.extra (names_of s) s (held_from c s rows ts).state).out; is = refl }
-    at asked.Dump ts = record { rest = (asked_answer asked.Dump c.extra (names_of s) s (held_from c s rows ts).state).out; is = refl }
-    at (asked.Turn t) ts = record { rest = (asked_answer (asked.Turn t) c.extra (names_of s) s (held_from c s rows ts).state).out; is = refl }
-    at (asked.Plan t) ts = record { rest = (asked_answer (asked.Plan t) c.extra (names_of s) s (held_from c s rows ts).state).out; is = refl }
-    at asked.Unknown ts = record { rest = (asked_answer asked.Unknown c.extra (names_of s) s (held_from c s rows ts).state).out; is = refl }
     at asked.Nothing ts = record { rest = []; is = refl }
+    at x ts = record { rest = (asked_answer x c.extra (names_of s) s (held_from c s rows ts).state).out; is = refl }
 
 -- ---- the replies are those of the turns
 

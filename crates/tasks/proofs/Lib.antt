@@ -1,4 +1,4 @@
-mod Prelude
+pub mod Prelude
 pub mod Answered
 pub mod Claimed
 pub mod Closings

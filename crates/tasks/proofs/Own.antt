@@ -1,5 +1,5 @@
 -- A single command's claim and its own turn.
-use Rattle.std.proofs.Common.{◌≡◌, ◌∙◌, ℕ, ◌++◌, List, [], ◌∷◌, Bool, true, false, refl, sym, ap, subst, Option, Some, None, cond, inr}
+use Rattle.std.proofs.Common.{◌≡◌, ◌∙◌, ℕ, ◌++◌, List, [], ◌∷◌, Bool, true, false, refl, sym, ap, subst, Option, Some, None, cond, inr, option_map}
 use Rattle.tasks.proofs.Prelude.{Answers, ClosesEach, CommandTurn, Ends, EndsEach, GivesUpEach, GivesUpOn, LeadsTo, Point, Ran, Recorded, Reply, Row}
 use Rattle.tasks.proofs.Prelude.{Stage, State, Stops, StopsEach, Turn, TurnFault, WasCutOff, active_in, append-nil, begun_by, claim_ahead}
 use Rattle.tasks.proofs.Prelude.{claim_without, closing, closing_by, command_as, engine, is_alone, is_commands, is_of, last_reply, option_and_then}
@@ -9,7 +9,6 @@ use Rattle.tasks.proofs.Prelude.act
 use Rattle.tasks.proofs.Prelude.answered
 use Rattle.tasks.proofs.Prelude.fault
 use Rattle.tasks.proofs.Prelude.turn
-use Rattle.std.specs.Prelude.{option_map}
 use Rattle.tasks.proofs.Closings.{last-told}
 use Rattle.tasks.proofs.Courses.{Recording, gave_up_on, recorded, recorded_at}
 use Rattle.tasks.proofs.Stages.{all_behind, all_some, one_stops, one_taken, some_first, stops_behind, stops_first}

@@ -1,5 +1,5 @@
 -- The ending if a command's plan is asked for.
-use Rattle.std.proofs.Common.{◌≡◌, ◌∙◌, ◌<◌, ℕ, Bool, false, cond, List, [], length, get_or, Option, Some, None, refl, sym, ap}
+use Rattle.std.proofs.Common.{◌≡◌, ◌∙◌, ◌<◌, ℕ, Bool, false, cond, List, [], length, get_or, Option, Some, None, refl, sym, ap, slice_get}
 use Rattle.tasks.proofs.Prelude.{Answer, Asked, ClaimAnswer, ClaimState, Command, CommandTurn, End, Ending, HostPort, Point, Reply, Row, Scenario}
 use Rattle.tasks.proofs.Prelude.{Stands, State, Taken, Task, Turn, TurnFault, Unended, WasCutOff, Writes, act_reply, active_in, asked_answer}
 use Rattle.tasks.proofs.Prelude.{begun_state, between, claim_ahead, claim_answer, claimed, course_from, engine, job_at, lasting, lasting_by}
@@ -10,7 +10,6 @@ use Rattle.tasks.proofs.Prelude.act
 use Rattle.tasks.proofs.Prelude.asked
 use Rattle.tasks.proofs.Prelude.ends
 use Rattle.tasks.proofs.Prelude.fault
-use Rattle.std.specs.Prelude.{slice_get}
 use Rattle.tasks.proofs.Claimed.{inactive, several}
 use Rattle.tasks.proofs.Courses.{Recording}
 use Rattle.tasks.proofs.Stages.{all_of_none}

@@ -1,6 +1,5 @@
 -- Texts on their way to sinks.
-use Rattle.std.proofs.Common.{◌≡◌, ◌∙◌, ℕ, ◌+◌, ◌≤◌, List, [], ◌++◌, length, take, true, false, sym, ap, subst, arith, append_assoc, Option, Some, None, Result, Ok, Err, Bool}
-use Rattle.std.specs.Prelude.{OnOk, OnErr, is_err}
+use Rattle.std.proofs.Common.{◌≡◌, ◌∙◌, ℕ, ◌+◌, ◌≤◌, List, [], ◌++◌, length, take, true, false, sym, ap, subst, arith, append_assoc, Option, Some, None, Result, Ok, Err, Bool, OnOk, OnErr, is_err}
 use Rattle.tasks.proofs.Prelude.{Appends, AppendsFront, Carries, End, FailsIn, HasCause, IsHanded, IsOnTheWay, Pieces, Rose, Taken, Takes, TakesFront}
 use Rattle.tasks.proofs.Prelude.{append-nil, between, length-append, take-append-add, take-append-le, take-length}
 

@@ -1,6 +1,5 @@
 -- Who takes a single command is one of the orchestrators.
-use Rattle.std.proofs.Common.{◌≡◌, ℕ, zero, suc, ◌<◌, ◌≤◌, Bool, true, false, cond, List, [], ◌∷◌, length, refl, Option, Some, None, arith}
-use Rattle.std.specs.Prelude.{IfSome, slice_index_or}
+use Rattle.std.proofs.Common.{◌≡◌, ℕ, zero, suc, ◌<◌, ◌≤◌, Bool, true, false, cond, List, [], ◌∷◌, length, refl, Option, Some, None, arith, IfSome, slice_index_or}
 use Rattle.tasks.proofs.Prelude.{ClaimState, IsNumberOf, Moment, State, active, active_by, active_in, is_later, is_of, may_act, nodes_of, taker}
 use Rattle.tasks.proofs.Prelude.{taker_by}
 

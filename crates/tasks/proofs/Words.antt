@@ -1,9 +1,10 @@
 -- What an accepted command line asks has a turn over the servers.
+use Rattle.scenario_turns.proofs.Sound.{above}
 use Rattle.std.proofs.Common.{◌≡◌, ◌∙◌, ℕ, ◌+◌, ◌<◌, ◌≤◌, Bool, true, false, List, [], ◌∷◌, length, Option, Some, None, Ok, Err, refl, sym, ap, subst, arith, map, cond}
-use Rattle.std.specs.Prelude.{IfSome, MatchOption, ⊤, ◌&&◌, ◌||◌, not, is_some, nat_lt, option_map}
+use Rattle.std.specs.Prelude.{IfSome, MatchOption, ⊤, ◌&&◌, ◌||◌, not, is_some, option_map}
 use Rattle.tasks.proofs.Prelude.{AreTaken, AskOfRead, BadPattern, CommandName, Fault, Found, HostPort, IsAsked, IsCommand, IsTaken, Own, Places}
 use Rattle.tasks.proofs.Prelude.{ReadFault, ServerNo, are_there, asked_about, asked_at, asked_named, asked_of, asked_turn, bind-ok, drawing_by}
-use Rattle.tasks.proofs.Prelude.{fault_of, found_in, found_of, holds, is_found, is_pattern, is_there, is_within, length-map, name_of, nat_tests}
+use Rattle.tasks.proofs.Prelude.{fault_of, found_in, found_of, holds, is_found, is_pattern, is_there, is_within, length-map, name_of}
 use Rattle.tasks.proofs.Prelude.{needed-used, needs_at, needs_of, nothing, option_map_or, own_at, pattern_for, printed, same_name, same_Ok, same_Some}
 use Rattle.tasks.proofs.Prelude.{server_from, server_given, server_of, taken_have, turn_for, used, uses_of}
 use Rattle.tasks.proofs.Prelude.asked
@@ -52,9 +53,6 @@ needed_given p c all =
 
 all_true : (a b c d e f : Bool) → a ≡ true → b ≡ true → c ≡ true → d ≡ true → e ≡ true → f ≡ true → ((a && b && c && d) && e && f) ≡ true
 all_true a b c d e f ha hb hc hd he hf = rw (ha, hb, hc, hd, he, hf) refl
-
-above : (m n : ℕ) → m < n → nat_lt m n ≡ true
-above m n h = grind (arith, nat_tests)
 
 within-from : (host : HostPort) (n : ℕ) (names : List HostPort) (i : ServerNo) → server_from host n names ≡ Some i → i.0 < n + length names
 within-from host n [] i e = cc

@@ -1,6 +1,5 @@
 -- What a permitted command, a recovery and a takeover begin stays within the cluster.
-use Rattle.std.proofs.Common.{◌≡◌, ℕ, Bool, true, false, not, List, [], ◌∷◌, ◌+◌, ◌++◌, map, refl, sym, ◌∙◌, ap, subst, Option, Some, None, Ok, ◌&&◌}
-use Rattle.std.specs.Prelude.{All}
+use Rattle.std.proofs.Common.{◌≡◌, ℕ, Bool, true, false, not, List, [], ◌∷◌, ◌+◌, ◌++◌, map, refl, sym, ◌∙◌, ap, subst, Option, Some, None, Ok, ◌&&◌, All}
 use Rattle.tidy_laws.proofs.Prelude.{All-append, All-cons, All-head, All-nil, All-push, All-tail, AllWithin, AreAlike, AreDueWithin, AuditState}
 use Rattle.tidy_laws.proofs.Prelude.{Begins, BookState, Clusters, Command, Coordinates, CoordsCommand, Deed, Follows, GtidCommand, Gtids, IsDueWithin}
 use Rattle.tidy_laws.proofs.Prelude.{IsJobWithin, IsRecoveryWithin, IsTaskWithin, IsTrim, IsUnendedWithin, Line, MatchCommand, Matches, Means, Moment}

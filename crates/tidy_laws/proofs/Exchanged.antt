@@ -1,6 +1,5 @@
 -- Each exchange in order keeps `IsTrim` of a world.
-use Rattle.std.proofs.Common.{◌≡◌, ℕ, ◌+◌, ◌<◌, ◌≤◌, Bool, true, false, not, cond, List, [], ◌∷◌, ◌++◌, length, length-append, refl, sym, ◌∙◌, ap, subst, inl, inr, ◌⊎◌, Option, Some, None, Ok, Err, arith, ◌&&◌, ◌||◌}
-use Rattle.std.specs.Prelude.{slice_get, nat_le, nat_lt, ◌==◌}
+use Rattle.std.proofs.Common.{◌≡◌, ℕ, ◌+◌, ◌<◌, ◌≤◌, Bool, true, false, not, cond, List, [], ◌∷◌, ◌++◌, length, length-append, refl, sym, ◌∙◌, ap, subst, inl, inr, ◌⊎◌, Option, Some, None, Ok, Err, arith, ◌&&◌, ◌||◌, slice_get, nat_le, nat_lt, ◌==◌}
 use Rattle.tidy_laws.proofs.Prelude.{All-push, AllAllowed, AllOrderly, Allowed, AreAlike, Ask, Asked, Becomes, Befallen, Clusters, Coord, Event}
 use Rattle.tidy_laws.proofs.Prelude.{Exchange, HasOwnOf, HasSize, Index, IsOrderly, IsOrderlyAsk, IsTrim, Leaves, Next, ReplicatesOf, Server}
 use Rattle.tidy_laws.proofs.Prelude.{ServerNo, SourceState, Spot, Txn, Without, World, after, appended, applied, apply_from, apply_step, apply_txn}

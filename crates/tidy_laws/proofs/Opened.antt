@@ -1,28 +1,18 @@
 -- The servers of a checked opening have `IsTrim`.
-use Rattle.std.proofs.Common.{◌≡◌, ℕ, ◌+◌, ◌≤◌, Bool, true, false, not, cond, List, [], ◌∷◌, length, take, refl, sym, ◌∙◌, ap, subst, Option, Some, None, zero, suc, ◌&&◌}
-use Rattle.std.specs.Prelude.{All, IfSome, slice_get, slice_index_or, nat_le, is_some, ◌==◌, count_by}
-use Rattle.tidy_laws.proofs.Prelude.{All-cons, All-nil, All-take, Attached, CanStand-opened, Clusters, Detached, Fits, Flaw, Grounded, HasOwnOf}
-use Rattle.tidy_laws.proofs.Prelude.{IsChecked, IsSound, IsTrim, IsWritten, Log, Opened, Part, ReplicatesOf, Root, Server, ServerInit, ServerNo, Txn}
-use Rattle.tidy_laws.proofs.Prelude.{Under, Without, appended, at_server, at_source, cluster_at, cluster_in, exec_of, exec_of-root, first_flaw}
-use Rattle.tidy_laws.proofs.Prelude.{first_met, flaw_or, flaws, flush, flushed_at, flushed_times, given-opened, history_at, joined_by-each, laid}
-use Rattle.tidy_laws.proofs.Prelude.{laid_after, list_any, listed_history, log_by, next_txn, not-false, number_of, of_source, opened, opened_server}
-use Rattle.tidy_laws.proofs.Prelude.{opened_world, or_parts, origin_elsewhere, other_cluster, pair_of, parts_of, push, read_of, read_of-root}
-use Rattle.tidy_laws.proofs.Prelude.{same_cluster, same_Some, same_text, server_at-opened, singles, singles-part, slice_get-get_or, sound_checked}
-use Rattle.tidy_laws.proofs.Prelude.{source-given, source_state, sources}
+pub use Rattle.run_laws.proofs.OpeningsProofs.Soundness.{no-flaw as unmet}
+use Rattle.read_back_laws.proofs.Layouts.{push-limit as limit-push}
+use Rattle.std.proofs.Common.{◌≡◌, ℕ, ◌+◌, ◌≤◌, Bool, true, false, not, cond, List, [], ◌∷◌, length, take, refl, sym, ◌∙◌, ap, subst, Option, Some, None, zero, suc, ◌&&◌, All, IfSome, slice_get, slice_index_or, is_some, ◌==◌, count_by}
+use Rattle.tidy_laws.proofs.Prelude.{All-cons, All-nil, All-take, Attached, CanStand-opened, Clusters, Detached, Fits, Grounded, HasOwnOf, IsChecked}
+use Rattle.tidy_laws.proofs.Prelude.{IsSound, IsTrim, IsWritten, Log, Opened, Part, ReplicatesOf, Root, Server, ServerInit, ServerNo, Txn, Under}
+use Rattle.tidy_laws.proofs.Prelude.{Without, at_server, at_source, cluster_at, cluster_in, exec_of, exec_of-root, first_met, flaws, flushed_at}
+use Rattle.tidy_laws.proofs.Prelude.{flushed_times, given-opened, history_at, joined_by-each, laid, laid_after, list_any, listed_history, log_by}
+use Rattle.tidy_laws.proofs.Prelude.{next_txn, not-false, number_of, of_source, opened, opened_server, opened_world, or_parts, origin_elsewhere}
+use Rattle.tidy_laws.proofs.Prelude.{other_cluster, pair_of, parts_of, push, read_of, read_of-root, same_cluster, same_Some, same_text}
+use Rattle.tidy_laws.proofs.Prelude.{server_at-opened, singles, singles-part, slice_get-get_or, sound_checked, source-given, source_state, sources}
 use Rattle.tidy_laws.proofs.Prelude.Servers.{source_of}
 use Rattle.tidy_laws.proofs.Positions.{All-slot}
 
 -- ---- no flaw
-
-flaw_or-none : (flaw : Flaw) (rest : Option (Flaw × ℕ)) (o : Option ℕ) → flaw_or flaw rest o ≡ None → (o ≡ None) × (rest ≡ None)
-flaw_or-none flaw rest None h = (refl, h)
-flaw_or-none flaw rest (Some n) h = cc
-
--- the servers as they are listed have none of the first flaws
-pub unmet : (servers : List ServerInit) (fs : List (Flaw × (ℕ → ServerInit → Bool))) → first_flaw servers fs ≡ None → (k : ℕ) (f : Flaw × (ℕ → ServerInit → Bool)) → slice_get fs k ≡ Some f → first_met f.1 0 servers ≡ None
-unmet servers [] none k f h = cc
-unmet servers (g ∷ fs) none zero f h = ap (λ (x : Flaw × (ℕ → ServerInit → Bool)). first_met x.1 0 servers) (sym (same_Some g f h)) ∙ (flaw_or-none g.0 (first_flaw servers fs) (first_met g.1 0 servers) none).0
-unmet servers (g ∷ fs) none (suc k) f h = unmet servers fs (flaw_or-none g.0 (first_flaw servers fs) (first_met g.1 0 servers) none).1 k f h
 
 never-met : (test : ServerInit → Bool) (n : ℕ) (is : List ServerInit) → first_met (λ m. test) n is ≡ None → All (λ i. test i ≡ false) is
 never-met test n [] none = All-nil (λ (i : ServerInit). test i ≡ false)
@@ -68,13 +58,6 @@ module _ (o : Opened) (checked : IsChecked o) where
 limit-times : (n : ℕ) (log : Log) → (flushed_times n log).limit ≡ log.limit
 limit-times zero log = refl
 limit-times (suc n) log = limit-times n log
-
-limit-push : (log : Log) (size : ℕ) → (push log size).limit ≡ log.limit
-limit-push log size = go (nat_le log.limit (log.pos + size))
-  where
-    go : (b : Bool) → (cond b (flush (appended log size)) (appended log size)).limit ≡ log.limit
-    go true = refl
-    go false = refl
 
 limit-laid : (flushes : List ℕ) (count : ℕ) (log : Log) (ts : List Txn) → (laid_after flushes count log ts).limit ≡ log.limit
 limit-laid flushes count log [] = limit-times (count_by (λ k. k == count) flushes) log

@@ -1,6 +1,5 @@
 -- Each `Passage` with `IsNeatPassage` leaves a `Flight` with `IsNeat`.
-use Rattle.std.proofs.Common.{◌≡◌, ℕ, Bool, true, false, List, [], ◌∷◌, length, refl, ◌∙◌, ap, subst, Option, Some, None}
-use Rattle.std.specs.Prelude.{All, IfSome, slice_set}
+use Rattle.std.proofs.Common.{◌≡◌, ℕ, Bool, true, false, List, [], ◌∷◌, length, refl, ◌∙◌, ap, subst, Option, Some, None, All, IfSome, slice_set}
 use Rattle.tidy_laws.proofs.Prelude.{All-at, All-nil, All-replicate, All-ring, All-set, AreNeatPassages, Bridge, Clusters, Flight, IsNeat}
 use Rattle.tidy_laws.proofs.Prelude.{IsNeatPassage, IsNeatTurn, IsReadWithin, IsWithinCluster, Job, Moment, Observation, Passage, Placed-after}
 use Rattle.tidy_laws.proofs.Prelude.{Placed-run, Position, ServerNo, Status, StoodWithin, Turned, after_turn, bridge-parts, bridge_in, job_at, label}

@@ -1,7 +1,6 @@
 -- Coordinates with a place in a log can be printed: how far a log of so many sized transactions goes.
 pub use Rattle.scenario_dump.proofs.Worlds.{All-at as All-slot}
-use Rattle.std.proofs.Common.{◌≡◌, ℕ, ◌+◌, ◌*◌, ◌≤◌, Bool, true, false, cond, List, [], ◌∷◌, ◌++◌, length, length-append, refl, subst, arith, ◌&&◌, ◌||◌}
-use Rattle.std.specs.Prelude.{All, nat_le, ◌==◌}
+use Rattle.std.proofs.Common.{◌≡◌, ℕ, ◌+◌, ◌*◌, ◌≤◌, Bool, true, false, cond, List, [], ◌∷◌, ◌++◌, length, length-append, refl, subst, arith, ◌&&◌, ◌||◌, All, nat_le, ◌==◌}
 use Rattle.tidy_laws.proofs.Prelude.{All-head, All-nil, All-push, All-tail, All-take, All-weaker, Coord, Entry, Flushed, HasSize, IsWritten, LaysOut}
 use Rattle.tidy_laws.proofs.Prelude.{Log, Took, Txn, and_parts, appended, end_coord, entry_at_end, eqb-true, false≢true, flush, get-push_new}
 use Rattle.tidy_laws.proofs.Prelude.{has_place, is_file_start, list_any, nat_tests, push, same_coord, same_coord-true}

@@ -1,6 +1,5 @@
 -- In a scenario that was read each coordinate up to which an applier is to go can be printed.
-use Rattle.std.proofs.Common.{◌≡◌, ℕ, ◌+◌, ◌<◌, ◌≤◌, ◌^◌, ◌&&◌, inl, inr, Bool, true, false, cond, leb, List, [], ◌∷◌, length, Option, Some, None, Result, Ok, Err, refl, sym, subst}
-use Rattle.std.specs.Prelude.{All, IfSome, codes, nat_le, nat_lt, option_and_then}
+use Rattle.std.proofs.Common.{◌≡◌, ℕ, ◌+◌, ◌<◌, ◌≤◌, ◌^◌, ◌&&◌, inl, inr, Bool, true, false, cond, leb, List, [], ◌∷◌, length, Option, Some, None, Result, Ok, Err, refl, sym, subst, All, IfSome, codes, nat_le, nat_lt, option_and_then}
 use Rattle.tidy_laws.proofs.Prelude.{All-cons, All-head, All-nil, All-tail, Coord, CoordFault, Data, Given, Head, HostPort, IsWritten, Items}
 use Rattle.tidy_laws.proofs.Prelude.{MAX_SCENARIO_LEN, NoColon, Scenario, ServerInit, TooLong, UntilsCanBePrinted, after_last, before_last, bind-ok}
 use Rattle.tidy_laws.proofs.Prelude.{coord_at, coord_in, coord_of, coord_or_fails, digits_value, each_from, each_from-all, extension_of, file_at}

@@ -1,6 +1,5 @@
 -- A recovery's turn makes exchanges in order, and what it goes by stays within the cluster.
-use Rattle.std.proofs.Common.{◌≡◌, ℕ, Bool, true, false, cond, List, [], ◌∷◌, ◌++◌, map, refl, sym, ◌∙◌, ap, subst, Option, Some, None}
-use Rattle.std.specs.Prelude.{◌==◌, IfSome, filter, option_map}
+use Rattle.std.proofs.Common.{◌≡◌, ℕ, Bool, true, false, cond, List, [], ◌∷◌, ◌++◌, map, refl, sym, ◌∙◌, ap, subst, Option, Some, None, ◌==◌, IfSome, filter, option_map}
 use Rattle.tidy_laws.proofs.Prelude.{All, All-append, All-at, All-chosen, All-cons, All-filter, All-head, All-latest, All-nil, All-push, All-tail}
 use Rattle.tidy_laws.proofs.Prelude.{All-weaker, AllOrderly, AllWithin, AreAlike, AreDueWithin, Attempt, Bearing, BookState, Bridge, Cause, Clusters}
 use Rattle.tidy_laws.proofs.Prelude.{Decision, Does, Ending, Exchange, FailsFor, Group, HeldRecovery, HeldRings, IsHanding, IsNext, IsReadWithin}
@@ -12,7 +11,7 @@ use Rattle.tidy_laws.proofs.Prelude.{deed_of, drain, due, ended_by, ends, entere
 use Rattle.tidy_laws.proofs.Prelude.{goes_back, ground_of, group_of, has_own, idle, kept-along, label, last_exchanges, last_looks, latest_that}
 use Rattle.tidy_laws.proofs.Prelude.{lead_under, leaver, level, loses, lot_by, lot_by_group, made-along, move, move_of, moved, moved-leads, moves_in}
 use Rattle.tidy_laws.proofs.Prelude.{moving, own_end_of, releases, restarts, ring_at, run, same_Some, seen_of, sight_of, sort, source-is, source_no}
-use Rattle.tidy_laws.proofs.Prelude.{stepped, swapped, taken, taken-walks, takes_writes, that_can, told, undone, way_back, way_below, way_by_set}
+use Rattle.tidy_laws.proofs.Prelude.{result_lines, stepped, swapped, taken, taken-walks, takes_writes, that_can, undone, way_back, way_below, way_by_set}
 use Rattle.tidy_laws.proofs.Prelude.{why_of, with-one, with_bridge, with_way, without_stopped, working}
 use Rattle.tidy_laws.proofs.Prelude.asking
 use Rattle.tidy_laws.proofs.Prelude.attempt
@@ -197,8 +196,8 @@ module _ (c : Clusters) where
     decides-within r (by.Levels p q) g s = working-within (record r { swaps = false }) (stage.Level p q) (level p q) s tt (level-due p q)
     decides-within r by.Remains g s = s
     decides-within r (by.Crowns p) g s = working-within r (stage.Crown p) (op.Reset p ∷ op.ReadOnly p false ∷ []) s tt (tt, (tt, tt))
-    decides-within r (by.Rejoins p) g s = working-within r (stage.Close (told r)) (op.Start p ∷ op.Finish (told r) ∷ []) s tt (tt, tt)
-    decides-within r by.Closes g s = working-within r (stage.Close (told r)) (op.Finish (told r) ∷ []) s tt tt
+    decides-within r (by.Rejoins p) g s = working-within r (stage.Close (result_lines r)) (op.Start p ∷ op.Finish (result_lines r) ∷ []) s tt (tt, tt)
+    decides-within r by.Closes g s = working-within r (stage.Close (result_lines r)) (op.Finish (result_lines r) ∷ []) s tt tt
 
   -- ---- a stage that is done
 
@@ -219,7 +218,7 @@ module _ (c : Clusters) where
   frees-within : (r : Recovery) (n : ServerNo) (why : Why) → IsRecoveryWithin c r → IsRecoveryWithin c (frees r n why)
   frees-within r n why s = working-within (loses r n why) (stage.Release n) (op.Start n ∷ []) s tt (tt, tt)
 
-  looks-due : (r : Recovery) (u : Purpose) (n : ServerNo) → AreDueWithin c (last_looks r u n ++ op.Finish (told r) ∷ [])
+  looks-due : (r : Recovery) (u : Purpose) (n : ServerNo) → AreDueWithin c (last_looks r u n ++ op.Finish (result_lines r) ∷ [])
   looks-due r purpose.Regroup n = tt
   looks-due r _ n = tt
 
@@ -247,7 +246,7 @@ module _ (c : Clusters) where
   completes-within r (by.Swaps p q) may s = working-within (swapped r p q) (stage.Open q) (op.Start p ∷ op.ReadOnly q false ∷ []) s tt (tt, (tt, tt))
   completes-within r (by.Switches m d) may s = working-within (follows r m d) (stage.Open d) (op.ReadOnly d false ∷ []) s tt (tt, tt)
   completes-within r (by.Shuts m d) may s = working-within r (stage.Shut m d) (op.ReadOnly m true ∷ gather m d) s tt (tt, gather-due m d)
-  completes-within r (by.Ends n) may s = working-within r (stage.Close (told r)) (last_looks r r.purpose n ++ op.Finish (told r) ∷ []) s tt (looks-due r r.purpose n)
+  completes-within r (by.Ends n) may s = working-within r (stage.Close (result_lines r)) (last_looks r r.purpose n ++ op.Finish (result_lines r) ∷ []) s tt (looks-due r r.purpose n)
 
   moved-within : (x : Stage) → IsStageWithin c x → IsStageWithin c (moved x)
   moved-within x h = subst (λ (o : Option Bridge). IfSome o (IsWithinCluster c)) (sym (moved-leads x)) h

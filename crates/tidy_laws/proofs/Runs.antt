@@ -1,6 +1,5 @@
 -- Each state of each run has `IsNeat`, and so `IsTidy`.
-use Rattle.std.proofs.Common.{ℕ, List, [], ◌∷◌, length, sym, subst}
-use Rattle.std.specs.Prelude.{All}
+use Rattle.std.proofs.Common.{ℕ, List, [], ◌∷◌, length, sym, subst, All}
 use Rattle.tidy_laws.proofs.Prelude.{All-head, All-nil, All-tail, Clusters, ComesTo, Goes, Goes-start, Goes-step, IsTidy, IsTurn, IsUnendedWithin}
 use Rattle.tidy_laws.proofs.Prelude.{Row, Scenario, State, Turn, UntilsCanBePrinted, cluster_at, engine, run_turns, start, start_world}
 use Rattle.tidy_laws.proofs.Prelude.{step as turn_step, turns_of}

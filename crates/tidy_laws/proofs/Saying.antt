@@ -1,16 +1,9 @@
 -- What is read of a dump is what was dumped.
-use Rattle.std.proofs.Common.{◌≡◌, ◌∙◌, ℕ, List, [], ◌∷◌, map, refl, ap, subst, Option, Some, None, Ok}
-use Rattle.scenario_dump.specs.Servers.{init_by, init_of, opening_of, source_in}
-use Rattle.tidy_laws.proofs.Prelude.{Scenario, Server, ServerInit, ServerNo, Settings, World, dump_text, dumped_scenario, scenario_in}
+use Rattle.read_back_laws.proofs.Inits.{init-settings}
+use Rattle.std.proofs.Common.{◌≡◌, ◌∙◌, ℕ, List, [], ◌∷◌, map, refl, ap, subst, Ok}
+use Rattle.scenario_dump.specs.Servers.{init_of, opening_of}
+use Rattle.tidy_laws.proofs.Prelude.{Scenario, Server, ServerInit, Settings, World, dump_text, dumped_scenario, scenario_in}
 use Rattle.tidy_laws.specs.Dumps.{SaysWhatWasDumped}
-
-init-settings : (v : Server) → (init_of v).settings ≡ v.settings
-unfolding init_of
-init-settings v = go (source_in v.source)
-  where
-    go : (o : Option ServerNo) → (init_by v o).settings ≡ v.settings
-    go None = refl
-    go (Some m) = refl
 
 all-settings : (vs : List Server) → map (λ (i : ServerInit). i.settings) (map init_of vs) ≡ map (λ (v : Server). v.settings) vs
 all-settings [] = refl

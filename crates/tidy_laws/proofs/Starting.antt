@@ -1,6 +1,5 @@
 -- A run begins neat: the bridges of an opening are those that its servers show.
-use Rattle.std.proofs.Common.{◌≡◌, ℕ, List, [], length, sym, subst, Some, None}
-use Rattle.std.specs.Prelude.{All, IfSome}
+use Rattle.std.proofs.Common.{◌≡◌, ℕ, List, [], length, sym, subst, Some, None, All, IfSome}
 use Rattle.tidy_laws.proofs.Prelude.{All-nil, All-replicate, Bridge, Clusters, Fits-start, IsNeat, IsReadWithin, IsScenario, IsTrim, IsWithinCluster}
 use Rattle.tidy_laws.proofs.Prelude.{Opens-start, Placed, Placed-safe, Row, Safe-opened, Scenario, ServerNo, UntilsCanBePrinted, bridge_in}
 use Rattle.tidy_laws.proofs.Prelude.{cluster_at, flight_of, flushes_of, flushes_of-few, greatest_id, loaded_book, opened-rings, pollers, rings-loaded}

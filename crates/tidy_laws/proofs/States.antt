@@ -1,6 +1,5 @@
 -- Each turn leaves a neat state neat.
-use Rattle.std.proofs.Common.{◌≡◌, ◌∙◌, ℕ, ◌+◌, Bool, true, false, List, [], ◌∷◌, ◌++◌, map, refl, sym, ap, subst, Option, Some, None, Result, Ok, Err}
-use Rattle.std.specs.Prelude.{All, is_some, ◌==◌, if◌then◌else◌}
+use Rattle.std.proofs.Common.{◌≡◌, ◌∙◌, ℕ, ◌+◌, Bool, true, false, List, [], ◌∷◌, ◌++◌, map, refl, sym, ap, subst, Option, Some, None, Result, Ok, Err, All, is_some, ◌==◌, if◌then◌else◌}
 use Rattle.tidy_laws.proofs.Prelude.{Act, All-append, All-cons, All-find, All-map, All-nil, All-push, AreNeatPassages, Asks, Begins as RecoveryBegins}
 use Rattle.tidy_laws.proofs.Prelude.{Clusters, Comes, Command, CommandTurn, Decides, Discovers, Docket, Flight, Flown, Forgets, HeldJob, HeldState}
 use Rattle.tidy_laws.proofs.Prelude.{IsAskedFor, IsHeldBeside, IsNeat, IsNeatTurn, IsOrderly, IsRecoveryWithin, IsStep, IsTurn, IsTurnWithin}
@@ -151,11 +150,10 @@ module _ (c : Clusters) (s : State) (held : HeldState s) (neat : IsNeatState c s
 
   passages-neat : (count : ℕ) (t : Turn) → IsTurn count t → AreNeatPassages c (flight_of s) (passages_of s t)
   passages-neat count (turn.Step x) is = (((step-may count (flight_of s) x is).0, step-orderly c count s x is), tt)
-  passages-neat count (turn.Tick seconds) is = tt
   passages-neat count (turn.Act a) is = act-neat a
   passages-neat count (turn.As node a) is = done-neat (act_in s (turn.As node a))
   passages-neat count (turn.Claim node) is = done-neat (act_in s (turn.Claim node))
-  passages-neat count (turn.Release node) is = tt
+  passages-neat count _ is = tt
 
   -- ---- what a turn leaves of the jobs
 

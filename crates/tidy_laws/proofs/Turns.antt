@@ -1,6 +1,5 @@
 -- An operation that is due makes exchanges in order, and what it leaves goes by servers of one cluster.
-use Rattle.std.proofs.Common.{◌≡◌, ℕ, Bool, true, false, cond, not, List, [], ◌∷◌, refl, sym, ◌∙◌, ap, subst, Option, Some, None, Ok, Err, ◌&&◌}
-use Rattle.std.specs.Prelude.{◌==◌, IfSome}
+use Rattle.std.proofs.Common.{◌≡◌, ℕ, Bool, true, false, cond, not, List, [], ◌∷◌, refl, sym, ◌∙◌, ap, subst, Option, Some, None, Ok, Err, ◌&&◌, ◌==◌, IfSome}
 use Rattle.tidy_laws.proofs.Prelude.{Aim, AllOrderly, AllShow, AllWithin, AreAlike, AreDueWithin, Attach, AttachAuto, Attached, Attempt, Attempts}
 use Rattle.tidy_laws.proofs.Prelude.{Bridge, Cause, Clusters, Coord, Crossing, Deed, Detached, Exchange, GoesWithin, HeldJob, IsDueWithin}
 use Rattle.tidy_laws.proofs.Prelude.{IsJobWithin, IsMove, IsOrderly, IsReadWithin, IsTriedWithin, IsTrim, IsTurnWithin, IsWaitFor, IsWithinCluster}

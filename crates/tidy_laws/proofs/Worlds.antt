@@ -1,6 +1,5 @@
 -- the servers of a state with `IsQuiet` are those of its scenario
-use Rattle.std.proofs.Common.{◌≡◌, ◌∙◌, ℕ, ◌+◌, Bool, List, [], ◌∷◌, length, map, refl, sym, ap, subst, Option, Some, None, arith, suc}
-use Rattle.std.specs.Prelude.{All, slice_get}
+use Rattle.std.proofs.Common.{◌≡◌, ◌∙◌, ℕ, ◌+◌, Bool, List, [], ◌∷◌, length, map, refl, sym, ap, subst, Option, Some, None, arith, suc, All, slice_get}
 use Rattle.tidy_laws.proofs.Prelude.{Act, All-head, All-tail, AllAllowed, Allowed-step, ComesTo, Goes, Goes-comes, Goes-start, Goes-step, Grows}
 use Rattle.tidy_laws.proofs.Prelude.{Grows-run, IsQuiet, IsTurn, IsWorldOf, Row, Scenario, Server, ServerInit, Settings, State, Turn, Unended}
 use Rattle.tidy_laws.proofs.Prelude.{UntilsCanBePrinted, World, act_exchanges, act_in, done_exchanges, engine, exchanges_at, flown-allowed}
@@ -43,11 +42,10 @@ done-allowed s (Some a) = act-allowed s a
 
 turn-exchanges : (count : ℕ) (s : State) (t : Turn) → IsTurn count t → AllAllowed s.world (exchanges_at s t)
 turn-exchanges count s (turn.Step x) is = (Allowed-step count s.world x is).0
-turn-exchanges count s (turn.Tick seconds) is = tt
 turn-exchanges count s (turn.Act a) is = act-allowed s a
 turn-exchanges count s (turn.As node a) is = done-allowed s (act_in s (turn.As node a))
 turn-exchanges count s (turn.Claim node) is = done-allowed s (act_in s (turn.Claim node))
-turn-exchanges count s (turn.Release node) is = tt
+turn-exchanges count s _ is = tt
 
 -- the servers' settings, and the mode
 record IsOf (settings : List Settings) (gtid : Bool) (w : World) : Type 0 where

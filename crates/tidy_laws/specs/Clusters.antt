@@ -1,7 +1,6 @@
 -- Of which cluster each server is: that never changes.
 use Rattle.std.specs.Prelude.{◌≡◌, ℕ, List, [], Option, Some, None}
-use Rattle.run_laws.specs.ServerModel.declared.server.Server.{Server}
-use Rattle.run_laws.specs.ServerModel.Worlds.{World, server_at}
+use Rattle.tidy_laws.specs.Prelude.{Server, World, server_at}
 
 -- the clusters by the servers' numbers
 abbrev pub Clusters : Type 0

@@ -1,12 +1,6 @@
 -- When what is dumped of a state of a run reads back.
 use Rattle.std.specs.Prelude.{◌≡◌, ℕ, [], map, Ok}
-use Rattle.run_laws.specs.Scenarios.declared.scenario.Scenario.{Scenario}
-use Rattle.run_laws.specs.Scenarios.Scenarios.{IsScenario}
-use Rattle.scenario_dump.specs.Reading.{dumped_scenario, refitted}
-use Rattle.scenario_dump.specs.Texts.{dump_text}
-use Rattle.scenario_reader.specs.ReadScenarios.{scenario_in}
-use Rattle.run_laws.specs.ServerModel.Worlds.{World}
-use Rattle.run_laws.specs.WorldOpenings.Opening.{opened_world}
+use Rattle.tidy_laws.specs.Prelude.{IsScenario, Scenario, World, dump_text, dumped_scenario, opened_world, refitted, scenario_in}
 
 -- What a scenario has is what was dumped: the moment, whether GTIDs are used, and each server's name, UUID, number,
 -- version, label, data centre and log. Also the orchestrators, marks, block periods, aliases, filters and hooks. It has

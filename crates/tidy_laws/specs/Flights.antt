@@ -1,14 +1,7 @@
 -- That servers with jobs, and what is kept of them, stay within clusters.
 use Rattle.std.specs.Prelude.{◌≡◌, List, [], ◌∷◌, All, IfSome, Some}
-use Rattle.run_laws.specs.ServerModel.Run.{AllAllowed, Allowed}
-use Rattle.run_laws.specs.ServerModel.Safe.{Placed}
-use Rattle.run_laws.specs.ServerModel.Worlds.{World}
-use Rattle.run_laws.specs.Operations.Jobs.{Job}
-use Rattle.run_laws.specs.Operations.Turns.{Turned, turned}
-use Rattle.run_laws.specs.JobLaws.Flights.{Flight}
-use Rattle.run_laws.specs.JobLaws.Leases.{job_at}
-use Rattle.run_laws.specs.JobLaws.Passages as pass
-use Rattle.run_laws.specs.JobLaws.Passages.{Passage, passed}
+use Rattle.tidy_laws.specs.Prelude.{AllAllowed, Allowed, Flight, Job, Passage, Placed, Turned, World, job_at, passed, turned}
+use Rattle.tidy_laws.specs.Prelude.pass
 use Rattle.tidy_laws.specs.Clusters.{Clusters}
 use Rattle.tidy_laws.specs.Trim.{AllOrderly, IsOrderly, IsTrim}
 use Rattle.tidy_laws.specs.Within.{IsReadWithin, IsWithinCluster}

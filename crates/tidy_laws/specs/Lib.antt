@@ -1,3 +1,4 @@
+pub mod Prelude
 pub mod Clusters
 pub mod Trim
 pub mod Within

@@ -1,21 +1,9 @@
 -- That recoveries go by servers of one cluster, now and later.
 use Rattle.std.specs.Prelude.{◌≡◌, true, List, IfSome, All, Option}
-use Rattle.run_laws.specs.OrchBase.declared.server.ServerNo.{ServerNo}
-use Rattle.run_laws.specs.InstanceKeeper.declared.bridge.Bridge.{Bridge}
-use Rattle.run_laws.specs.ServerModel.Worlds.{World}
-use Rattle.run_laws.specs.Operations.Jobs.{Job}
-use Rattle.run_laws.specs.Operations.Turns.{is_going}
-use Rattle.run_laws.specs.RecoveryPlans.declared.outcome.Stopped.{Stopped}
-use Rattle.run_laws.specs.RecoveryPlans.declared.stage.Stage.{Stage}
-use Rattle.run_laws.specs.RecoveryPlans.declared.task.Task.{Task}
-use Rattle.run_laws.specs.RecoveryPlans.declared.task.Task.TheVariants as task
-use Rattle.run_laws.specs.RecoveryPlans.declared.task.Way.{Way}
-use Rattle.run_laws.specs.RecoveryPlans.declared.task.Way.TheVariants as way
-use Rattle.run_laws.specs.RecoveryPlans.Recoveries.{Recovery}
-use Rattle.run_laws.specs.RecoveryPlans.Table.{info}
-use Rattle.run_laws.specs.RecoveryPlans.Taking.{Taken}
-use Rattle.run_laws.specs.UnendedJobs.declared.unended.Unended.{Unended}
-use Rattle.run_laws.specs.UnendedJobs.declared.unended.Unended.TheVariants as unended
+use Rattle.tidy_laws.specs.Prelude.{Bridge, Job, Recovery, ServerNo, Stage, Stopped, Taken, Task, Unended, Way, World, info, is_going}
+use Rattle.tidy_laws.specs.Prelude.task
+use Rattle.tidy_laws.specs.Prelude.unended
+use Rattle.tidy_laws.specs.Prelude.way
 use Rattle.tidy_laws.specs.Clusters.{AreAlike, Clusters}
 use Rattle.tidy_laws.specs.Trim.{AllOrderly}
 use Rattle.tidy_laws.specs.Within.{IsJobWithin, IsReadWithin, IsWithinCluster}

@@ -1,21 +1,9 @@
 -- What every exchange keeps of a server, as long as it goes by clusters and coordinates that are in order.
 use Rattle.std.specs.Prelude.{◌≡◌, ℕ, ◌+◌, ◌≤◌, ◌<◌, Bool, true, false, List, [], ◌∷◌, if◌then◌else◌, length, All, IfSome, Option, Some, None}
-use Rattle.run_laws.specs.BinlogCoords.declared.Coord.{Coord}
-use Rattle.run_laws.specs.BinlogCoords.Index.{Index}
-use Rattle.run_laws.specs.BinlogCoords.Log.{file_start, opened}
-use Rattle.run_laws.specs.OrchBase.declared.server.Settings.{Settings}
-use Rattle.run_laws.specs.OrchBase.declared.server.SourceState.{SourceState}
-use Rattle.run_laws.specs.OrchBase.declared.server.SourceState.TheVariants.{Without}
-use Rattle.run_laws.specs.ServerWords.declared.attach.Spot.{Spot}
-use Rattle.run_laws.specs.ServerWords.declared.changes.Ask.{Ask}
-use Rattle.run_laws.specs.ServerWords.declared.changes.Ask.TheVariants as asking
-use Rattle.run_laws.specs.ServerModel.declared.server.Server.{Server}
-use Rattle.run_laws.specs.ServerModel.Attach.{live_spot, same_spot}
-use Rattle.run_laws.specs.ServerModel.Fit.{HasSize}
-use Rattle.run_laws.specs.ServerModel.Kept.{Kept}
-use Rattle.run_laws.specs.ServerModel.Run.{Exchange, Write, Fetch, Apply, Request, Befall, Rotate, Purge, Attach, AttachAuto, after}
-use Rattle.run_laws.specs.ServerModel.Worlds.{World, server_at, source_no}
-use Rattle.scenario_dump.specs.Tidy.{IsWritten}
+use Rattle.tidy_laws.specs.Prelude.{Apply, Ask, Attach, AttachAuto, Befall, Coord, Exchange, Fetch, HasSize, Index, IsWritten, Kept, Purge, Request}
+use Rattle.tidy_laws.specs.Prelude.{Rotate, Server, Settings, SourceState, Spot, Without, World, Write, after, file_start, live_spot, opened}
+use Rattle.tidy_laws.specs.Prelude.{same_spot, server_at, source_no}
+use Rattle.tidy_laws.specs.Prelude.asking
 use Rattle.tidy_laws.specs.Clusters.{AreAlike, Clusters, cluster_at}
 
 -- of server n, what it has executed and its log: numbers in their ranges, the settings' limit, and origins of its

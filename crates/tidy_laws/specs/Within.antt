@@ -1,19 +1,8 @@
 -- That jobs, readings and bridges go by servers of one cluster.
 use Rattle.std.specs.Prelude.{◌≡◌, ℕ, List, [], ◌∷◌, IfSome, Option, Some, None}
-use Rattle.run_laws.specs.OrchBase.declared.server.SourceState.TheVariants.{Without}
-use Rattle.run_laws.specs.ServerWords.declared.status.Status.{Status}
-use Rattle.run_laws.specs.KeptRows.declared.observation.Observation.{Observation}
-use Rattle.run_laws.specs.InstanceKeeper.declared.bridge.Bridge.{Bridge}
-use Rattle.run_laws.specs.ServerModel.Run.{Exchange}
-use Rattle.run_laws.specs.ServerModel.Worlds.{World, source_no}
-use Rattle.run_laws.specs.Operations.declared.op.Op.{Op}
-use Rattle.run_laws.specs.Operations.declared.sight.Position.{Position}
-use Rattle.run_laws.specs.Operations.declared.sight.Sight.{Sight}
-use Rattle.run_laws.specs.Operations.Deeds as deed
-use Rattle.run_laws.specs.Operations.Deeds.{Deed, deed_of}
-use Rattle.run_laws.specs.Operations.Jobs.{Job, position_of, seen_of}
-use Rattle.run_laws.specs.Operations.Turns.{Attempt, Ends, Goes, Stops, Turned}
-use Rattle.scenario_dump.specs.Tidy.{IsWritten}
+use Rattle.tidy_laws.specs.Prelude.{Attempt, Bridge, Deed, Ends, Exchange, Goes, IsWritten, Job, Observation, Op, Position, Sight, Status, Stops}
+use Rattle.tidy_laws.specs.Prelude.{Turned, Without, World, deed_of, position_of, seen_of, source_no}
+use Rattle.tidy_laws.specs.Prelude.deed
 use Rattle.tidy_laws.specs.Clusters.{AreAlike, Clusters}
 use Rattle.tidy_laws.specs.Trim.{AllOrderly, IsOrderlyAsk}
 

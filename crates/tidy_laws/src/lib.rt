@@ -2,14 +2,8 @@
 #![tactic(auto)]
 
 ghost use Rattle.std.specs.Prelude.{◌≡◌, ℕ, List, Ok};
-ghost use Rattle.run_laws.specs.Runs.{InEveryStateOf};
-ghost use Rattle.scenario_dump.specs.Reading.{IsWithinLimits, IsWorldOf};
-ghost use Rattle.scenario_dump.specs.Tidy.{IsTidy};
-ghost use Rattle.scenario_reader.specs.ReadScenarios.{scenario_in};
-ghost use Rattle.run_laws.specs.Scenarios.declared.scenario.Scenario.{Scenario as AScenario};
-ghost use Rattle.run_laws.specs.ServerModel.Run.{Allowed, Exchange, after};
-ghost use Rattle.run_laws.specs.ServerModel.Safe.{IsQuiet, Placed};
-ghost use Rattle.run_laws.specs.ServerModel.Worlds.{World};
+ghost use Rattle.tidy_laws.specs.Prelude.{Allowed, Exchange, InEveryStateOf, IsQuiet, IsTidy, IsWithinLimits, IsWorldOf, Placed};
+ghost use Rattle.tidy_laws.specs.Prelude.{Scenario as AScenario, World, after, scenario_in};
 ghost use Rattle.tidy_laws.specs.Clusters.{Clusters};
 ghost use Rattle.tidy_laws.specs.Dumps.{ReadsBack};
 ghost use Rattle.tidy_laws.specs.Runs.{UntilsCanBePrinted};

@@ -1,6 +1,5 @@
 -- How calls end.
-use Rattle.std.proofs.Common.{◌≡◌, ◌∙◌, ℕ, ◌≤◌, true, false, List, [], Option, Some, None, Ok, Err, refl, sym, ap, subst, arith, ◌⊎◌, inl, inr}
-use Rattle.std.specs.Prelude.{IfSome, codes, Result}
+use Rattle.std.proofs.Common.{◌≡◌, ◌∙◌, ℕ, ◌≤◌, true, false, List, [], Option, Some, None, Ok, Err, refl, sym, ap, subst, arith, ◌⊎◌, inl, inr, IfSome, codes, Result}
 use Rattle.top_call.proofs.Prelude.{AskARead, AskOfRead, Asks, AskToDraw, Call, Closes, Consumes, DrawEnds, Drawing, End, Ending, Ends, Fault}
 use Rattle.top_call.proofs.Prelude.{FaultsAs, FaultsFor, Gives, HasKeepersCause, Idles, IsComplete, IsDrawn, IsGood, IsReported, IsTaken, IsUsage}
 use Rattle.top_call.proofs.Prelude.{NoneRose, OfRead, Places, ReadsWhole, Rose, Row, Scenario, FailsByKeeper, Taken, TakesLine, Tells, Usage, Way}
@@ -141,10 +140,8 @@ counted before now e cause = record {
   where
     at_five : (e : Ending) → status_of (way_of e) ≡ 5 → e ≡ ends.Keeper
     at_five (ends.Written true) five = absurd (omega (arith, five))
-    at_five (ends.Written false) five = absurd (omega (arith, five))
-    at_five ends.Unwritten five = absurd (omega (arith, five))
     at_five ends.Keeper five = refl
-    at_five ends.Memory five = absurd (omega (arith, five))
+    at_five _ five = absurd (omega (arith, five))
 
     is_low : (n : ℕ) → (n ≡ 1) ⊎ (n ≡ 2) ⊎ (n ≡ 3) → (1 ≤ n) × (n ≤ 3)
     is_low n (inl e) = (omega (arith, e), omega (arith, e))
@@ -163,7 +160,7 @@ keeper_rose before now w stops is = stops.failed (ap status_of is)
 
 -- ---- what a command line asks
 
-same_places : (r : Result Places Usage) (p q : Places) → r ≡ Ok p → r ≡ Ok q → p ≡ q
+pub same_places : (r : Result Places Usage) (p q : Places) → r ≡ Ok p → r ≡ Ok q → p ≡ q
 same_places (Ok x) p q e f = cc
 same_places (Err u) p q e f = absurd cc
 
@@ -256,7 +253,7 @@ read_whole words (Some bytes) left_now kept kept_now out err w status is read en
 
 -- ---- the command line is accepted
 
-not_both : {A E : Type 0} (r : Result A E) (x : A) (e : E) → r ≡ Ok x → r ≡ Err e → ⊥
+pub not_both : {A E : Type 0} (r : Result A E) (x : A) (e : E) → r ≡ Ok x → r ≡ Err e → ⊥
 not_both (Ok y) x e good bad = absurd cc
 not_both (Err d) x e good bad = absurd cc
 

@@ -1,6 +1,5 @@
 -- A source with more bytes than a scenario may have.
-use Rattle.std.proofs.Common.{◌≡◌, ◌∙◌, ℕ, ◌+◌, zero, suc, Bool, true, false, List, [], ◌∷◌, length, Option, Some, None, Ok, Err, refl, sym, ap, subst, cond, arith, nat_lt, nat_le}
-use Rattle.std.specs.Prelude.{IfSome, Result}
+use Rattle.std.proofs.Common.{◌≡◌, ◌∙◌, ℕ, ◌+◌, zero, suc, Bool, true, false, List, [], ◌∷◌, length, Option, Some, None, Ok, Err, refl, sym, ap, subst, cond, arith, nat_lt, nat_le, IfSome, Result}
 use Rattle.top_call.proofs.Prelude.{Fault, Gives, MAX_SCENARIO_LEN, NotRead, OfRead, ReadFault, ReadsAs, Scenario, Stop, TooLong, fault_of}
 use Rattle.top_call.proofs.Prelude.{length_fault, nat_tests, same_Some, scenario_in, stop_by, whole}
 use Rattle.top_call.proofs.Prelude.not_read

@@ -1,6 +1,5 @@
 -- How calls whose row store has known rows end: against their report.
-use Rattle.std.proofs.Common.{◌≡◌, ◌∙◌, ℕ, ◌≤◌, Bool, true, false, List, [], ◌++◌, length, take, Option, Some, None, Ok, Err, refl, sym, ap, subst, arith, ◌⊎◌, inl, inr}
-use Rattle.std.specs.Prelude.{IfSome, codes, Result}
+use Rattle.std.proofs.Common.{◌≡◌, ◌∙◌, ℕ, ◌≤◌, Bool, true, false, List, [], ◌++◌, length, take, Option, Some, None, Ok, Err, refl, sym, ap, subst, arith, ◌⊎◌, inl, inr, IfSome, codes, Result}
 use Rattle.top_call.proofs.Prelude.{Answer, AskARead, Asks, AskToDraw, Call, Closes, Drawing, End, Ends, EndsAs, EndsBy, Fault, IsReported, IsToWrite}
 use Rattle.top_call.proofs.Prelude.{IsWhole, KeepsRows, OfRead, Places, Recorded, Report, Row, Scenario, Taken, Takes, TakesBehind, TakesFront}
 use Rattle.top_call.proofs.Prelude.{TakesLine, Task, Tells, Usage, WasCut, Way, Work, WritesErr, WritesOut, answer_of, between, call, course_of}
@@ -60,7 +59,7 @@ read_reads : (p : Places) (rows : List Row) (read : Result Scenario Fault) → (
 read_reads p rows (Ok s) = refl
 read_reads p rows (Err fault) = refl
 
-unlike : (b : Bool) → b ≡ true → b ≡ false → ⊥
+pub unlike : (b : Bool) → b ≡ true → b ≡ false → ⊥
 unlike true e f = cc
 unlike false e f = cc
 

@@ -1,29 +1,27 @@
 -- Each run of the turns that a command line takes: its states are safe, its commands answer by the permission table,
 -- and its recoveries begin without overlap and finish well.
-use Rattle.std.proofs.Common.{◌≡◌, ℕ, zero, suc, ◌<◌, Bool, true, false, cond, List, [], ◌∷◌, ◌++◌, length, Option, Some, None, ◌∙◌, refl, sym, ap, subst, take, inl, inr, arith}
-use Rattle.std.specs.Prelude.{All, IfSome, is_some, ◌^◌, ◌≤◌}
-use Rattle.top_call.proofs.Prelude.{books-comes, turn-comes}
+use Rattle.std.proofs.Common.{◌≡◌, ℕ, zero, suc, ◌<◌, Bool, true, false, cond, List, [], ◌∷◌, ◌++◌, length, Option, Some, None, ◌∙◌, refl, sym, ap, subst, take, inl, inr, arith, All, IfSome, is_some, ◌^◌, ◌≤◌}
 use Rattle.top_call.proofs.Prelude.{ActAlone, All-append, All-cons, All-nil, All-take, AreSoFar, Asked, AskOfRead, BeginApart, BeginsApart, Comes}
 use Rattle.top_call.proofs.Prelude.{ComesTo, CommandTurn, Docket, Finishes, FinishWell, Follow-whole, FollowAudit, FollowAudit-whole, Goes}
 use Rattle.top_call.proofs.Prelude.{Goes-comes, Held, HostPort, IsActiveAlone, IsAsked, IsClaimRow, IsCommand, IsFinish, IsNumberOf, IsOn, IsOnOwn}
-use Rattle.top_call.proofs.Prelude.{IsOnTurns, IsRising, IsSafeRun, IsSafeState, IsScenario, IsTaken, IsTask, IsTurn, IsTurnOf, IsWhole, LeadsTo, Line}
-use Rattle.top_call.proofs.Prelude.{NamesOneOf, Obeys, ObeysTable, OwnClaimRow, OwnRestartKeepsAll, Places, Ran, Ran-append, Ready, Recorded}
-use Rattle.top_call.proofs.Prelude.{Recovery, Row, Scenario, ServerNo, SomeTaken, Stage, StartsBy, State, Task, TellHooks, TellsHooks, TellsTruly}
-use Rattle.top_call.proofs.Prelude.{TellTruly, Through, Turn, Work, acting-alone, active_in, after_turns, all_some, answers_by_table, apart-comes}
-use Rattle.top_call.proofs.Prelude.{apart-in-turn, asked_is, asked_of, began-comes, begun-since, begun_joins, begun_kept, begun_leased, begun_logged}
-use Rattle.top_call.proofs.Prelude.{begun_number, begun_there, by_name, by_name-within, changed, claim-row-whole, claim_ahead, claim_key}
-use Rattle.top_call.proofs.Prelude.{claim_without, closing, closing_by, command_as, course_of, engine, every-kept, every-many, every-one}
-use Rattle.top_call.proofs.Prelude.{every-reached, fail-comes, failure-comes, finish-comes, found-end, held_from, held_run, held_step, is_alone}
-use Rattle.top_call.proofs.Prelude.{is_open, job_at, jobs-comes, kept_at_start, lapsed-idle, length-map, lowest-refuses, matches-end, most_turns}
-use Rattle.top_call.proofs.Prelude.{named-job, named-round, names_of, nodes_of, option_to_list, others-stay, own_job, own_turn, passing-drops}
-use Rattle.top_call.proofs.Prelude.{passing-restarts, periods-in-turn, plans-done, plans-fail, reckoned-comes, recorder, refused_changes_nothing}
-use Rattle.top_call.proofs.Prelude.{restart-comes, round_of, rounds_of, rounds_while, row_in, run_state, run_turns, same_Some, scan-tries}
-use Rattle.top_call.proofs.Prelude.{scenario_in_sound, scenarios-comes, some_ran, spends-last, stages, start, start_changes, still-comes, taker}
-use Rattle.top_call.proofs.Prelude.{taker_is, task_of, told-next, turn-aimed, turn-fates, turns-round, turns_of, waits, without_turns}
-use Rattle.top_call.proofs.Prelude.{KeepTime, KeepsTime, LookFirst, LooksFirstIn, Promises, StoresReadings, active-alike, begun-may-wait}
-use Rattle.top_call.proofs.Prelude.{discoveries-read, held-last, jobs-may-wait, jobs-rise, jobs-store, lapsed-keep-nothing, last-never-sinks, plans-hold, plans-return}
-use Rattle.top_call.proofs.Prelude.{looks-before, openings-give-numbers, passes-time, passing-is-restart, past-comes, polls-read, polls-store, restarts-count-on}
-use Rattle.top_call.proofs.Prelude.{readings-never-sink, renewing-alone, taken-nothing}
+use Rattle.top_call.proofs.Prelude.{IsOnTurns, IsRising, IsSafeRun, IsSafeState, IsScenario, IsTaken, IsTask, IsTurn, IsTurnOf, IsWhole, KeepsTime}
+use Rattle.top_call.proofs.Prelude.{KeepTime, LeadsTo, Line, LookFirst, LooksFirstIn, NamesOneOf, Obeys, ObeysTable, OwnClaimRow, OwnRestartKeepsAll}
+use Rattle.top_call.proofs.Prelude.{Places, Promises, Ran, Ran-append, Ready, Recorded, Recovery, Row, Scenario, ServerNo, SomeTaken, Stage, StartsBy}
+use Rattle.top_call.proofs.Prelude.{State, StoresReadings, Task, TellHooks, TellsHooks, TellsTruly, TellTruly, Through, Turn, Work, acting-alone}
+use Rattle.top_call.proofs.Prelude.{active-alike, active_in, after_turns, all_some, answers_by_table, apart-comes, apart-in-turn, asked_is, asked_of}
+use Rattle.top_call.proofs.Prelude.{began-comes, begun-may-wait, begun-since, begun_joins, begun_kept, begun_leased, begun_logged, begun_number}
+use Rattle.top_call.proofs.Prelude.{begun_there, books-comes, by_name, by_name-within, changed, claim-row-whole, claim_ahead, claim_key}
+use Rattle.top_call.proofs.Prelude.{claim_without, closing, closing_by, command_as, course_of, discoveries-read, engine, every-kept, every-many}
+use Rattle.top_call.proofs.Prelude.{every-one, every-reached, fail-comes, failure-comes, finish-comes, found-end, held-last, held_from, held_run}
+use Rattle.top_call.proofs.Prelude.{held_step, is_alone, is_open, job_at, jobs-comes, jobs-may-wait, jobs-rise, jobs-store, kept_at_start}
+use Rattle.top_call.proofs.Prelude.{lapsed-idle, lapsed-keep-nothing, last-never-sinks, length-map, looks-before, lowest-refuses, matches-end}
+use Rattle.top_call.proofs.Prelude.{most_turns, named-job, named-round, names_of, nodes_of, openings-give-numbers, option_to_list, others-stay}
+use Rattle.top_call.proofs.Prelude.{own_job, own_turn, passes-time, passing-drops, passing-is-restart, passing-restarts, past-comes, periods-in-turn}
+use Rattle.top_call.proofs.Prelude.{plans-done, plans-fail, plans-hold, plans-return, polls-read, polls-store, readings-never-sink, reckoned-comes}
+use Rattle.top_call.proofs.Prelude.{recorder, refused_changes_nothing, renewing-alone, restart-comes, restarts-count-on, round_of, rounds_of}
+use Rattle.top_call.proofs.Prelude.{rounds_while, row_in, run_state, run_turns, same_Some, scan-tries, scenario_in_sound, scenarios-comes, some_ran}
+use Rattle.top_call.proofs.Prelude.{spends-last, stages, start, start_changes, still-comes, taken-nothing, taker, taker_is, task_of, told-next}
+use Rattle.top_call.proofs.Prelude.{turn-aimed, turn-comes, turn-fates, turns-round, turns_of, waits, without_turns}
 use Rattle.top_call.proofs.Prelude.act
 use Rattle.top_call.proofs.Prelude.asked
 use Rattle.top_call.proofs.Prelude.turn

@@ -1,3 +1,2 @@
 -- What is passed on of tasks: lemmas that are cited above.
 pub use Rattle.tasks.proofs.Own
-pub use Rattle.tasks.proofs.Sends

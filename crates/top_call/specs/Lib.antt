@@ -5,7 +5,6 @@ pub mod Reads
 pub mod Report
 pub mod Runs
 pub mod Promises
-pub use Rattle.recovery_runs.specs.AuditLog as AuditLog
 pub mod CommandLine
 pub use Rattle.recovery_runs.specs.Commands as Commands
 pub use Rattle.recovery_runs.specs.KeptRows as KeptRows
@@ -13,11 +12,8 @@ pub use Rattle.recovery_runs.specs.NodeClaims as NodeClaims
 pub use Rattle.recovery_runs.specs.OpeningBook as OpeningBook
 pub use Rattle.recovery_runs.specs.OrchBase as OrchBase
 pub use Rattle.recovery_runs.specs.OrchCore as OrchCore
-pub use Rattle.recovery_runs.specs.RecoveryPlans as RecoveryPlans
-pub mod RecoveryRuns
 pub use Rattle.recovery_runs.specs.RunLaws as RunLaws
 pub use Rattle.tasks.specs.ScenarioDump as ScenarioDump
-pub mod ScenarioReader
 pub use Rattle.scenario_reader.specs.ScenarioValues as ScenarioValues
 pub use Rattle.recovery_runs.specs.Scenarios as Scenarios
 pub use Rattle.recovery_runs.specs.ServerModel as ServerModel

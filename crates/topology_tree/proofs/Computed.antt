@@ -1,6 +1,5 @@
 -- The computed forest is the forest.
-use Rattle.std.proofs.Common.{◌≡◌, ℕ, ◌<◌, ◌≤◌, Bool, true, false, cond, eqb, List, length, refl, sym, ◌∙◌, ap, subst, inl, inr, ◌⊎◌, ◌||◌, Option, Some, None, arith, zero, suc}
-use Rattle.std.specs.Prelude.{◌==◌}
+use Rattle.std.proofs.Common.{◌≡◌, ℕ, ◌<◌, ◌≤◌, Bool, true, false, cond, eqb, List, length, refl, sym, ◌∙◌, ap, subst, inl, inr, ◌⊎◌, ◌||◌, Option, Some, None, arith, zero, suc, ◌==◌}
 use Rattle.topology_tree.proofs.Prelude.{ComesBack, Direct, Follows, Further, Grounded, IsClosed, IsForestOf, IsParent, Root, Under, above}
 use Rattle.topology_tree.proofs.Prelude.{comes_back, eq-eqb, eqb-true, false≢true, forest_of, get_or-map-range_with_len, is_reached, is_reached_on}
 use Rattle.topology_tree.proofs.Prelude.{length-le_from_distinct_below, length-map-range_with_len, or_cases, or_right, parent_of}

@@ -1,6 +1,5 @@
 -- what a walk lists
-use Rattle.std.proofs.Common.{◌≡◌, ℕ, ◌+◌, ◌<◌, ◌≤◌, List, [], ◌∷◌, ◌++◌, length, map, refl, sym, ◌∙◌, ap, subst, inl, inr, ◌⊎◌, Option, Some, arith, zero, suc}
-use Rattle.std.specs.Prelude.{slice_get}
+use Rattle.std.proofs.Common.{◌≡◌, ℕ, ◌+◌, ◌<◌, ◌≤◌, List, [], ◌∷◌, ◌++◌, length, map, refl, sym, ◌∙◌, ap, subst, inl, inr, ◌⊎◌, Option, Some, arith, zero, suc, slice_get}
 use Rattle.topology_tree.proofs.Prelude.{AllPairs-from_IsDistinct, Contains, Contains-append_left, Contains-push, Decides-eqb, Direct, Follows}
 use Rattle.topology_tree.proofs.Prelude.{Further, HasParentIn, IsForest, ListsTree, above, append-nil, children_of, flat_map, is_child, node_of}
 use Rattle.topology_tree.proofs.Prelude.{nodes_below, walk_at, walk_of}

@@ -1,6 +1,5 @@
 -- walks
-use Rattle.std.proofs.Common.{◌≡◌, ℕ, ◌+◌, ◌-◌, ◌<◌, ◌≤◌, true, List, [], ◌∷◌, ◌++◌, length, map, reverse, refl, sym, ◌∙◌, ap, subst, inl, inr, Option, Some, None, arith, zero, suc, append_assoc, Vec, ◌^◌}
-use Rattle.std.specs.Prelude.{slice_get}
+use Rattle.std.proofs.Common.{◌≡◌, ℕ, ◌+◌, ◌-◌, ◌<◌, ◌≤◌, true, List, [], ◌∷◌, ◌++◌, length, map, reverse, refl, sym, ◌∙◌, ap, subst, inl, inr, Option, Some, None, arith, zero, suc, append_assoc, Vec, ◌^◌, slice_get}
 use Rattle.topology_tree.proofs.Prelude.{All, All-cons, All-head, All-map, All-nil, All-push, All-tail, All-weaker, Direct, Ending, Follows, Further}
 use Rattle.topology_tree.proofs.Prelude.{IsClosed, IsForest, IsForestOf, IsLinked, IsParent, Settles, above, append-nil, cases_lt, children_of}
 use Rattle.topology_tree.proofs.Prelude.{edges_of, enumerate_from, ext_get_or, filter_passes, flat_map, is_child, map-append, nodes_below}

@@ -1,6 +1,5 @@
 -- Turns of recoveries with hooks, by those without.
-use Rattle.std.proofs.Common.{◌≡◌, ◌+◌, ◌-◌, ◌<◌, Bool, true, false, refl, sym, ◌∙◌, Option, Some, None, arith}
-use Rattle.std.specs.Prelude.{slice_get, if◌then◌else◌}
+use Rattle.std.proofs.Common.{◌≡◌, ◌+◌, ◌-◌, ◌<◌, Bool, true, false, refl, sym, ◌∙◌, Option, Some, None, arith, slice_get, if◌then◌else◌}
 use Rattle.unended_jobs.proofs.Prelude.{Docket, Hook, Hooked, HookState, HostPort, JobStep, Recovery, Taken, checked, due_after, due_before}
 use Rattle.unended_jobs.proofs.Prelude.{front_hook, front_turn, hooks_left, is_going, left_of, option_map, quiet, ran_after, ran_before, rear_hook}
 use Rattle.unended_jobs.proofs.Prelude.{rear_turn, slice_get_within, step_before, step_with, turns_to_end, with_hooks}

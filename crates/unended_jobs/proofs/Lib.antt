@@ -8,5 +8,4 @@ pub mod Turning
 pub mod Rounding
 pub mod RecoveryEnds
 pub mod RecoveryHooks
-pub mod RecoveryPlans
 pub use Rattle.recovery_plans.proofs.ServerModel as ServerModel

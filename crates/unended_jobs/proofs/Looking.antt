@@ -1,6 +1,5 @@
 -- What was looked up of a job, by its kind, and what a turn that was looked up answers.
-use Rattle.std.proofs.Common.{◌≡◌, ◌∙◌, ℕ, ◌<◌, zero, suc, Bool, true, false, List, [], ◌∷◌, length, ap, refl, sym, Option, Some, None, arith}
-use Rattle.std.specs.Prelude.{is_some, slice_get, if◌then◌else◌}
+use Rattle.std.proofs.Common.{◌≡◌, ◌∙◌, ℕ, ◌<◌, zero, suc, Bool, true, false, List, [], ◌∷◌, length, ap, refl, sym, Option, Some, None, arith, is_some, slice_get, if◌then◌else◌}
 use Rattle.unended_jobs.proofs.Prelude.{CanRun, Docket, Hook, HookState, HostPort, JobStep, Line, Recovery, RecoveryLook, Taken, Then, Unended}
 use Rattle.unended_jobs.proofs.Prelude.{UnendedLook, after_step, decided_on, done-purpose, foretold, front_hook, front_turn, hooked_by}
 use Rattle.unended_jobs.proofs.Prelude.{observation_of, option_map, own_turn, quiet, ran_after, rear_hook, rear_turn, step_before, step_of, step_with}

@@ -1,10 +1,6 @@
 -- Jobs by rising number: how one is found, and what becomes of it.
-use Rattle.std.proofs.Common.{◌≡◌, ◌≢◌, ◌∙◌, ℕ, zero, suc, ◌<◌, ◌≤◌, Bool, true, false, cond, List, [], ◌∷◌, ◌++◌, length, get_or, refl, sym, ap, subst, Some, None, arith}
-use Rattle.std.specs.Prelude.{◌==◌, not, slice_get, slice_set, if◌then◌else◌}
-use Rattle.std.specs.List.{remove}
-use Rattle.std.proofs.lemmas.Bool.{eq-eqb, eqb-true}
-use Rattle.unended_jobs.specs.declared.unended.Unended.{Unended}
-use Rattle.unended_jobs.specs.Unended.{number_of}
+use Rattle.std.proofs.Common.{◌≡◌, ◌≢◌, ◌∙◌, ℕ, zero, suc, ◌<◌, ◌≤◌, Bool, true, false, cond, List, [], ◌∷◌, ◌++◌, length, get_or, refl, sym, ap, subst, Some, None, arith, ◌==◌, not, slice_get, slice_set, if◌then◌else◌}
+use Rattle.unended_jobs.proofs.Prelude.{Unended, eq-eqb, eqb-true, number_of, remove}
 use Rattle.unended_jobs.specs.Jobs.{Rise, job_at, with_job, without_job}
 
 -- ---- numbers rise
@@ -83,7 +79,7 @@ with-past low (k ∷ ks) high id j h r =
     let differs : (number_of k == id) ≡ false = apart (number_of k) id (omega (arith, h, first)) in
     ap (λ b. (if b then j else k) ∷ with_job ks id j) differs ∙ ap (λ (xs : List Unended). k ∷ xs) (with-past (number_of k) ks high id j (omega (arith, h, first)) r.1)
 
-without-past : (low : ℕ) (jobs : List Unended) (high id : ℕ) → id ≤ low → Rise low jobs high → without_job jobs id ≡ jobs
+pub without-past : (low : ℕ) (jobs : List Unended) (high id : ℕ) → id ≤ low → Rise low jobs high → without_job jobs id ≡ jobs
 without-past low [] high id h r = refl
 without-past low (k ∷ ks) high id h r =
     let first = r.0 in

@@ -1,9 +1,8 @@
 -- Lists of turns.
 use Rattle.std.proofs.Common.{◌≡◌, ◌∙◌, ℕ, ◌+◌, ◌<◌, List, [], ◌∷◌, ◌++◌, length, get_or, take, sym, ap, append_assoc, append-nil}
-use Rattle.std.specs.List.{flat_map}
+use Rattle.unended_jobs.proofs.Prelude.{ServerNo, flat_map}
 use Rattle.std.proofs.lemmas.Grind.{flat_map-append}
 use Rattle.std.proofs.lemmas.List.{take_more}
-use Rattle.recovery_plans.specs.OrchBase.declared.server.ServerNo.{ServerNo}
 use Rattle.turns.specs.declared.turn.Turn.{Turn}
 
 -- two turns more for one server more

@@ -1,6 +1,5 @@
 -- What a turn observes is a status of a server that is there.
-use Rattle.std.proofs.Common.{◌≡◌, ℕ, ◌<◌, true, List, [], ◌∷◌, length, refl, sym, ◌∙◌, subst, Option, Some, arith}
-use Rattle.std.specs.Prelude.{All, IfSome, nat_lt}
+use Rattle.std.proofs.Common.{◌≡◌, ℕ, ◌<◌, true, List, [], ◌∷◌, length, refl, sym, ◌∙◌, subst, Option, Some, arith, All, IfSome, nat_lt}
 use Rattle.unended_jobs.proofs.Prelude.{All-head, Attempt, Attempts, BookState, Deed, IsNamedRecovery, IsOpOf, Job, Moment, Observation, Op, Recovery}
 use Rattle.unended_jobs.proofs.Prelude.{ServerNo, World, acted, and_parts, are_named, attempted-observes, attempts, by_deed, by_ops, decided}
 use Rattle.unended_jobs.proofs.Prelude.{decided-of, deed_of, ground_of, is_named, observed, settled, spoken_to, taken, turned}

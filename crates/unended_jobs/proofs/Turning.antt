@@ -1,19 +1,9 @@
 -- A job's turn: the place of a job, and what becomes of the jobs and the book.
-use Rattle.std.proofs.Common.{◌≡◌, ◌≢◌, ◌∙◌, ℕ, ◌<◌, ◌≤◌, Bool, true, false, List, length, get_or, refl, sym, ap, Some, None, ltb, arith}
-use Rattle.std.specs.Prelude.{slice_get, slice_set, if◌then◌else◌}
-use Rattle.std.specs.List.{remove}
+use Rattle.std.proofs.Common.{◌≡◌, ◌≢◌, ◌∙◌, ℕ, ◌<◌, ◌≤◌, Bool, true, false, List, length, get_or, refl, sym, ap, Some, None, ltb, arith, slice_get, slice_set, if◌then◌else◌}
+use Rattle.unended_jobs.proofs.Prelude.{BookState, JobStep, Unended, UnendedLook, foretold, is_going, ltb-false, ltb-true, number_of, observation_of}
+use Rattle.unended_jobs.proofs.Prelude.{option_map, remove, same_Some, slice_get-get_or, step_of}
 use Rattle.std.specs.List.Sorted.{IsNonDecreasingBy, IsPartitionPoint}
-use Rattle.std.specs.Option.{option_map}
-use Rattle.std.proofs.lemmas.Bool.{ltb-false, ltb-true}
-use Rattle.std.proofs.lemmas.Option.{same_Some, slice_get-get_or}
-use Rattle.recovery_plans.specs.InstanceKeeper.Book.{BookState}
-use Rattle.unended_jobs.specs.declared.look.UnendedLook.{UnendedLook}
-use Rattle.unended_jobs.specs.Looks.{foretold, observation_of, step_of}
-use Rattle.recovery_plans.specs.Operations.declared.step.JobStep.{JobStep}
-use Rattle.unended_jobs.specs.declared.unended.Unended.{Unended}
-use Rattle.unended_jobs.specs.Unended.{number_of}
 use Rattle.unended_jobs.proofs.Looking.{foretold-observation, foretold-step}
-use Rattle.recovery_plans.specs.Operations.Turns.{is_going}
 use Rattle.unended_jobs.specs.Jobs.{Rise, book_turned, job_at, jobs_turned, stored, turn_by, with_job, without_job, without_leases}
 use Rattle.unended_jobs.proofs.Numbers.{found-at, found-number, mono, none-at, remove-without, set-with}
 

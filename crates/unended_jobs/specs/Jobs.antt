@@ -1,18 +1,14 @@
 -- Unended jobs: how one is found, what its turn leaves of the jobs and the book, and what it answers.
 use Rattle.std.specs.Prelude.{ℕ, ◌+◌, ◌≤◌, ◌<◌, ◌==◌, Bool, not, is_some, if◌then◌else◌, List, [], ◌∷◌, find, filter, map, Option, Some, None}
-use Rattle.std.specs.Option.{option_map, option_and_then}
+use Rattle.unended_jobs.specs.Prelude.{BookState, Exchange, JobStep, Observation, after_store, is_going, option_map}
+use Rattle.std.specs.Option.{option_and_then}
 use Rattle.recovery_plans.specs.OrchBase.Memory.{next_count}
-use Rattle.recovery_plans.specs.KeptRows.declared.observation.Observation.{Observation}
-use Rattle.recovery_plans.specs.InstanceKeeper.Book.{BookState, after_store}
 use Rattle.recovery_plans.specs.InstanceKeeper.Leases.{given_back}
 use Rattle.unended_jobs.specs.declared.unended.Unended.{Unended}
 use Rattle.unended_jobs.specs.declared.look.UnendedLook.{UnendedLook}
 use Rattle.unended_jobs.specs.Looks.{foretold}
 use Rattle.unended_jobs.specs.Unended.{Flown, number_of, turns_of}
-use Rattle.recovery_plans.specs.Operations.declared.step.JobStep.{JobStep}
 use Rattle.recovery_plans.specs.Operations.declared.step.JobStep.TheVariants as step
-use Rattle.recovery_plans.specs.Operations.Turns.{is_going}
-use Rattle.recovery_plans.specs.ServerModel.Run.{Exchange}
 use Rattle.turns.specs.declared.reply.Reply.{Reply}
 use Rattle.turns.specs.declared.reply.Reply.TheVariants as answered
 

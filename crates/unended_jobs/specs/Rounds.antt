@@ -1,7 +1,6 @@
 -- The turns of a round.
 use Rattle.std.specs.Prelude.{ℕ, List, [], ◌∷◌, ◌++◌}
-use Rattle.std.specs.List.{flat_map}
-use Rattle.recovery_plans.specs.OrchBase.declared.server.ServerNo.{ServerNo}
+use Rattle.unended_jobs.specs.Prelude.{ServerNo, flat_map}
 use Rattle.turns.specs.declared.turn.Act.TheVariants as act
 use Rattle.turns.specs.declared.turn.Step.TheVariants as step
 use Rattle.turns.specs.declared.turn.Turn.{Turn}

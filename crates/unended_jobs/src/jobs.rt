@@ -1,10 +1,8 @@
 //! Jobs: how one is found, what its turn answers, and what becomes of it.
 
 ghost use Rattle.std.specs.Prelude.{◌≡◌, ◌<◌, ℕ, true, false, length, slice_get, None, Some, IfOk, IfSome, OnOk, OnErr, MatchOption};
-ghost use Rattle.std.specs.List.{remove};
+ghost use Rattle.unended_jobs.specs.Prelude.{is_going, remove, run};
 ghost use Rattle.recovery_plans.specs.KeptRows.Servers.{are_known, observed_servers};
-ghost use Rattle.recovery_plans.specs.Operations.Turns.{is_going};
-ghost use Rattle.recovery_plans.specs.ServerModel.Run.{run};
 ghost use Rattle.unended_jobs.specs.Looks.{CanGo, observation_of, step_of};
 ghost use Rattle.unended_jobs.specs.Jobs.{Rise, book_turned, job_at, job_exchanges, job_observation, jobs_turned, reads_with, step_reply, stored, turn_by, without_leases};
 

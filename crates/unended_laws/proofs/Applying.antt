@@ -1,6 +1,6 @@
 -- What leaves a server's applier on, and a server closed to writes.
-use Rattle.std.proofs.Common.{◌≡◌, ℕ, Bool, true, false, cond, List, [], ◌∷◌, refl, sym, ◌∙◌, ap, subst, Option, Some, None, Ok, Err, Result, ◌||◌, ◌⊎◌, inl, inr}
-use Rattle.std.specs.Prelude.{◌==◌, not}
+use Rattle.recovery_covers.proofs.RecoveryLaws.Deciding.{or-true}
+use Rattle.std.proofs.Common.{◌≡◌, ℕ, Bool, true, false, cond, List, [], ◌∷◌, refl, sym, ◌∙◌, ap, subst, Option, Some, None, Ok, Err, Result, ◌||◌, ◌⊎◌, inl, inr, ◌==◌, not}
 use Rattle.unended_laws.proofs.Prelude.{All, All-head, All-tail, Applies, Apply, ApplyStep, Ask, Attach, AttachAuto, AttachFault, Attached, Attempt, Befall}
 use Rattle.unended_laws.proofs.Prelude.{Coord, Detached, Event, Exchange, Fetch, FetchStep, GoesOn, IsApplying, IsGentle, IsLoose, IsShut, IsThere, IsUnder}
 use Rattle.unended_laws.proofs.Prelude.{Job, Moment, Next, Observation, Op, Purge, PurgeAnswer, Refuses, Request, Rotate, RotateAnswer, Server, ServerNo}
@@ -143,10 +143,6 @@ outside-so S lasts w (Befall n e) out m h = befall-so S lasts w n m h e (server_
 outside-so S lasts w (Rotate n) out m h = rotate-so S lasts w n m h (server_at w n) refl (rotate_answer (server_at w n))
 outside-so S lasts w (Purge n file) out m h = purge-so S lasts w n m h (server_at w n) refl (purge_answer w n file (server_at w n))
 outside-so S lasts w _ out m h = absurd (false≢true out)
-
-or-true : (b : Bool) → (b || true) ≡ true
-or-true true = refl
-or-true false = refl
 
 pub healed-applies : (s : Server) → Applies s → Applies (healed s)
 healed-applies s on = go s.up

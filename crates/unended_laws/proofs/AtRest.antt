@@ -1,6 +1,5 @@
 -- The replicas of a recovery rest so far, whatever others do and in each turn of its own.
-use Rattle.std.proofs.Common.{◌≡◌, ℕ, Bool, true, false, cond, not, List, [], ◌∷◌, ◌++◌, get_or, map, filter, refl, sym, ◌∙◌, ap, subst, Option, Some, None, ◌&&◌, ◌⊎◌, inl, inr}
-use Rattle.std.specs.Prelude.{◌==◌, option_map, is_some}
+use Rattle.std.proofs.Common.{◌≡◌, ℕ, Bool, true, false, cond, not, List, [], ◌∷◌, ◌++◌, get_or, map, filter, refl, sym, ◌∙◌, ap, subst, Option, Some, None, ◌&&◌, ◌⊎◌, inl, inr, ◌==◌, option_map, is_some}
 use Rattle.unended_laws.proofs.Prelude.{All, All-append, All-cons, All-filter, All-head, All-latest, All-map, All-nil, All-push, All-tail, Bearing}
 use Rattle.unended_laws.proofs.Prelude.{BookState, Bridge, Coord, Decision, Ending, Exchange, Group, HasSource, HeldRings, IsAny, IsApplying}
 use Rattle.unended_laws.proofs.Prelude.{IsLeased, IsMatchedThere, IsNext, IsResting, IsStopping, IsTaskOf, IsThere, Job, LeasedRecovery, Lot}

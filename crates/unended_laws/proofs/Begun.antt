@@ -1,6 +1,5 @@
 -- An unended job that begins leaves all with `Held` and `Sound`, itself too.
-use Rattle.std.proofs.Common.{◌∙◌, ℕ, Bool, List, [], ◌∷◌, ◌++◌, cond, sym, ap, Some}
-use Rattle.std.specs.Prelude.{All}
+use Rattle.std.proofs.Common.{◌∙◌, ℕ, Bool, List, [], ◌∷◌, ◌++◌, cond, sym, ap, Some, All}
 use Rattle.unended_laws.proofs.Prelude.{All-push, All-weaker, Docket, Flight, Held-passed, HeldJobs, IsAny, IsHeldBeside, IsLeased, IsLeasedList}
 use Rattle.unended_laws.proofs.Prelude.{IsListed, IsListOf, IsSoundBeside, Job, Leases, MayPass, Means, NamesLogging, Purpose, ServerNo, Sound-begun, SoundJobs}
 use Rattle.unended_laws.proofs.Prelude.{Unended, World, begun-held, begun-leased, begun-sound, begun_recovery, core_of, leased_to, number_of, passed}

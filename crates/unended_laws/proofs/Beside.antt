@@ -1,6 +1,5 @@
 -- What is no turn of theirs leaves unended jobs with `Held` and `Sound`.
-use Rattle.std.proofs.Common.{◌≡◌, ◌∙◌, ℕ, Bool, true, false, List, [], length, refl, Option, Some, None}
-use Rattle.std.specs.Prelude.{All}
+use Rattle.std.proofs.Common.{◌≡◌, ◌∙◌, ℕ, Bool, true, false, List, [], length, refl, Option, Some, None, All}
 use Rattle.unended_laws.proofs.Prelude.{All-nil, All-weaker, AreOwn, Flight, Held, Held-passed, HeldJobs, IsApart, IsHeldBeside, IsQuiet}
 use Rattle.unended_laws.proofs.Prelude.{IsSoundBeside, Job, MayPass, Moment, Observation, Passage, PassesWell, Sound-passed, Sound-restarted}
 use Rattle.unended_laws.proofs.Prelude.{SoundJobs, Spares, Unended, after_turn, bridge_in, forgotten-own, fresh-own, job_at, kept-own, number_of}

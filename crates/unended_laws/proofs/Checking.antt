@@ -1,6 +1,5 @@
 -- A recovery that looks at its failed server changes none.
-use Rattle.std.proofs.Common.{◌≡◌, ◌∙◌, ◌⊎◌, inl, inr, ℕ, Bool, false, List, [], ◌∷◌, ◌++◌, Option, Some, None, refl, sym, ap, cond, subst}
-use Rattle.std.specs.Prelude.{slice_get}
+use Rattle.std.proofs.Common.{◌≡◌, ◌∙◌, ◌⊎◌, inl, inr, ℕ, Bool, false, List, [], ◌∷◌, ◌++◌, Option, Some, None, refl, sym, ap, cond, subst, slice_get}
 use Rattle.unended_laws.proofs.Prelude.{Attempt, BookState, Cause, Docket, Exchange, Fate, Hook, HookState, HostPort, IsAtCheck, IsEarly, IsOfDead, IsTended}
 use Rattle.unended_laws.proofs.Prelude.{Job, JobStep, Line, Moment, Observation, Op, Purpose, Recovery, Sight, Stage, Status, Taken, World, acted, after_look}
 use Rattle.unended_laws.proofs.Prelude.{attempted, barred_by, by_deed, by_queue, decided, deed_of, due_before, fate, front_turn, ground_of, hooked}

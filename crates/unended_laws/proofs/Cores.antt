@@ -1,6 +1,5 @@
 -- The jobs of a `Flight` are the cores of unended jobs.
-use Rattle.std.proofs.Common.{◌≡◌, ℕ, Bool, true, false, List, [], ◌∷◌, ◌++◌, refl, ap, Some}
-use Rattle.std.specs.Prelude.{map, not, if◌then◌else◌, ◌==◌}
+use Rattle.std.proofs.Common.{◌≡◌, ℕ, Bool, true, false, List, [], ◌∷◌, ◌++◌, refl, ap, Some, map, not, if◌then◌else◌, ◌==◌}
 use Rattle.unended_laws.proofs.Prelude.{Job, Unended, core_of, job_at as core_at, number_of, option_map, replaced, with_job}
 use Rattle.unended_laws.proofs.Prelude.{without_job as without_core}
 use Rattle.unended_laws.proofs.Prelude.Jobs.{job_at, without_job}

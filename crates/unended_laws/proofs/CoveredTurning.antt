@@ -1,6 +1,5 @@
 -- The turn of an unended job leaves all covered, kept and speaking.
-use Rattle.std.proofs.Common.{◌≡◌, ◌∙◌, ℕ, Bool, true, false, List, cond, get_or, refl, sym, ap, subst, Option, Some, None}
-use Rattle.std.specs.Prelude.{All, ◌==◌, not}
+use Rattle.std.proofs.Common.{◌≡◌, ◌∙◌, ℕ, Bool, true, false, List, cond, get_or, refl, sym, ap, subst, Option, Some, None, All, ◌==◌, not}
 use Rattle.unended_laws.proofs.Prelude.{AimedJobs, All-filter, All-find, All-map, All-nil, All-weaker, AreOwn, BookState, Bridge, CoveredJobs, CoversSoFar}
 use Rattle.unended_laws.proofs.Prelude.{Docket, Flight, Flown, HasLeases, HeldJobs, HeldRings, IsAimedBeside, IsCoveredBeside, IsHeldBeside, IsKeptBeside}
 use Rattle.unended_laws.proofs.Prelude.{IsLeased, IsSoundBeside, IsSpeakingBeside, Job, KeepsLeased, KeptByChosen, KeptJobs, LeasedRecovery, Moment}

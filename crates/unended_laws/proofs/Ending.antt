@@ -1,17 +1,15 @@
 -- Unended recoveries that are done have covered their replicas, and what they owe beside.
-use Rattle.std.proofs.Common.{◌≡◌, ◌∙◌, ℕ, ◌+◌, ◌<◌, Bool, true, false, List, [], ◌∷◌, cond, refl, sym, ap, subst, Option, Some, None, inl, inr, arith}
-use Rattle.std.specs.Prelude.{All, IfSome, ◌==◌}
-use Rattle.unended_laws.proofs.Prelude.{AimedJobs, All-cons, All-contains, All-head, All-tail, All-weaker, AreSourcesOf, AttachesAsSent}
-use Rattle.unended_laws.proofs.Prelude.{BeginsWhole, CoveredJobs, Covers, CoversSoFar, DecidesOverAll, Decisions, ExplainsTruly, Fact, Flight}
-use Rattle.unended_laws.proofs.Prelude.{Follower, Follows, HasOnePlace, HeldJobs, HeldRecovery, HeldRings, IsAimedBeside, IsAsNamed, IsBeginning}
-use Rattle.unended_laws.proofs.Prelude.{IsChain, IsCoveredBeside, IsDoneIn, IsExplained, IsHeldBeside, IsKeptBeside, IsNamedOutcome}
-use Rattle.unended_laws.proofs.Prelude.{IsNamedRecovery, IsSoundBeside, IsSpeakingBeside, IsTold, Keeps, KeptByChosen, KeptJobs, Line, LostReplica}
-use Rattle.unended_laws.proofs.Prelude.{MakesWell, Outcome, Purpose, Recovery, RecoveryTurn, Safe, SameAim, ServerNo, SoundJobs, SpeakingJobs}
-use Rattle.unended_laws.proofs.Prelude.{Speaks, Unended, World, decided-chooses, eqb-true, first_source, follower_nos, found-number}
-use Rattle.unended_laws.proofs.Prelude.{ground_of, is_going, leader, listed, lost_nos, old-begins, outcome_then, owed, promoted-keeps}
-use Rattle.unended_laws.proofs.Prelude.{recovery_then, replica-placed, same_Some, self-all, self-times, taken-aim, taken-explained}
-use Rattle.unended_laws.proofs.Prelude.{taken-kept, taken_in, then-aim, times, turn-attaches, turn-begins, turn-chain, turn-done, turn-makes}
-use Rattle.unended_laws.proofs.Prelude.{world_then}
+use Rattle.std.proofs.Common.{◌≡◌, ◌∙◌, ℕ, ◌+◌, ◌<◌, Bool, true, false, List, [], ◌∷◌, cond, refl, sym, ap, subst, Option, Some, None, inl, inr, arith, All, IfSome, ◌==◌}
+use Rattle.unended_laws.proofs.Prelude.{AimedJobs, All-cons, All-contains, All-head, All-tail, All-weaker, AreSourcesOf, AttachesAsSent, BeginsWhole}
+use Rattle.unended_laws.proofs.Prelude.{CoveredJobs, Covers, CoversSoFar, DecidesOverAll, Decisions, ExplainsTruly, Fact, Flight, Follower, Follows}
+use Rattle.unended_laws.proofs.Prelude.{HasOnePlace, HeldJobs, HeldRecovery, HeldRings, IsAimedBeside, IsAsNamed, IsBeginning, IsChain}
+use Rattle.unended_laws.proofs.Prelude.{IsCoveredBeside, IsDoneIn, IsExplained, IsHeldBeside, IsKeptBeside, IsNamedOutcome, IsNamedRecovery}
+use Rattle.unended_laws.proofs.Prelude.{IsSoundBeside, IsSpeakingBeside, IsTold, Keeps, KeptByChosen, KeptJobs, Line, LostReplica, MakesWell, Outcome}
+use Rattle.unended_laws.proofs.Prelude.{Purpose, Recovery, RecoveryTurn, Safe, SameAim, ServerNo, SoundJobs, SpeakingJobs, Speaks, Unended, World}
+use Rattle.unended_laws.proofs.Prelude.{decided-chooses, eqb-true, first_source, follower_nos, found-number, ground_of, is_going, leader, listed}
+use Rattle.unended_laws.proofs.Prelude.{lost_nos, old-begins, outcome_then, owed, promoted-keeps, recovery_then, replica-placed, same_Some, self-all}
+use Rattle.unended_laws.proofs.Prelude.{self-times, taken-aim, taken-explained, taken-kept, taken_in, then-aim, times, turn-attaches, turn-begins}
+use Rattle.unended_laws.proofs.Prelude.{turn-chain, turn-done, turn-makes, world_then}
 use Rattle.unended_laws.proofs.Prelude.lost
 use Rattle.unended_laws.proofs.Prelude.purpose
 use Rattle.unended_laws.proofs.Prelude.unended

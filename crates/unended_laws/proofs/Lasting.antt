@@ -1,6 +1,5 @@
 -- What others do leaves what a recovery keeps up, and one that begins keeps it up.
-use Rattle.std.proofs.Common.{◌≡◌, ℕ, Bool, true, List, [], ◌∷◌, get_or, refl, sym, ◌∙◌, subst, Option, Some, None, ◌⊎◌, inl, inr}
-use Rattle.std.specs.Prelude.{IfSome}
+use Rattle.std.proofs.Common.{◌≡◌, ℕ, Bool, true, List, [], ◌∷◌, get_or, refl, sym, ◌∙◌, subst, Option, Some, None, ◌⊎◌, inl, inr, IfSome}
 use Rattle.unended_laws.proofs.Prelude.{All, All-cons, All-nil, AltersOnly, AreSourcesOf, Exchange, Fact, Follower, GoesOn, IsAny, IsKeptUp, IsLeased}
 use Rattle.unended_laws.proofs.Prelude.{IsOpenYet, IsShut, LeasedRecovery, Means, Op, Purpose, Recovery, ServerNo, Stage, UpSoFar, World, after, altered_by}
 use Rattle.unended_laws.proofs.Prelude.{begun_recovery, deed_of, false≢true, is_outside, is_takeover, run, same_Some, server_of, unleased-run}

@@ -1,4 +1,4 @@
-mod Prelude
+pub mod Prelude
 pub mod Hooked
 pub mod Cores
 pub mod Beside

@@ -1,20 +1,19 @@
 -- In each turn of a recovery its replicas rest so far, and none is found elsewhere.
-use Rattle.std.proofs.Common.{◌≡◌, ℕ, ◌<◌, Bool, true, false, cond, List, [], ◌∷◌, ◌++◌, get_or, refl, sym, ◌∙◌, ap, subst, Option, Some, None, Ok, Err, Result, ◌&&◌, ◌||◌, ◌⊎◌, inl, inr, arith}
-use Rattle.std.specs.Prelude.{◌==◌, IfSome, find, option_map}
+use Rattle.std.proofs.Common.{◌≡◌, ℕ, ◌<◌, Bool, true, false, cond, List, [], ◌∷◌, ◌++◌, get_or, refl, sym, ◌∙◌, ap, subst, Option, Some, None, Ok, Err, Result, ◌&&◌, ◌||◌, ◌⊎◌, inl, inr, arith, ◌==◌, IfSome, find, option_map}
 use Rattle.std.proofs.lemmas.List.{reverse-append}
 use Rattle.unended_laws.proofs.Prelude.{After, All, All-cons, All-nil, AreLeft, Attach, AttachAuto, AttachFault, Attempt, BookState, Bridge, Coord}
 use Rattle.unended_laws.proofs.Prelude.{CoversAt, CoversSoFar, Decision, Decisions, Deed, Exchange, ExplainsTruly, Fact, Fits, Halts, HasSource}
-use Rattle.unended_laws.proofs.Prelude.{HeldRecovery, HeldRings, IsApplying, IsLead, IsMatchedThere, IsNeverInterfered, IsRest, IsResting}
-use Rattle.unended_laws.proofs.Prelude.{IsStopping, IsThere, Job, KeepsMoves, Makes, Match, MatchFault, MayDecide, Moment, Observation, Op, Placed}
-use Rattle.unended_laws.proofs.Prelude.{Position, ReadsNow, Recovery, Rests, RestsFor, RestsSoFar, Server, ServerNo, ShowsNow, Speaks, SpeaksWith}
-use Rattle.unended_laws.proofs.Prelude.{Spot, Stage, Status, Stays, Stopped, Task, UpSoFar, WasStopped, Way, World, after_answer, after_attach}
-use Rattle.unended_laws.proofs.Prelude.{after_match, altered_by, attach_answer_of, attachment_by, before, by_deed, by_match, can_attach, covered}
-use Rattle.unended_laws.proofs.Prelude.{decided_by, decides-listed, decisions-keep, deed-still, deed_of, draining, due-listed, ends, entered}
-use Rattle.unended_laws.proofs.Prelude.{eq-eqb, eqb-true, false≢true, fits-of, fits-step, follows_no_more, ground_of, info, is_below, is_going}
-use Rattle.unended_laws.proofs.Prelude.{is_match_of, is_source, kept-along, lead_of, leaver, made-well, match_found, match_logs, move}
-use Rattle.unended_laws.proofs.Prelude.{moved, moved-fits, moves, of_queue, of_task, position_of, read-now, reader_of, run, same-head, same_Some}
-use Rattle.unended_laws.proofs.Prelude.{seen_in, seen_of, self-all, self-times, server_at, source_no, standing_at, status, status_in, stepped}
-use Rattle.unended_laws.proofs.Prelude.{stopped_nos, tail_of, taken, times, times-append, trailing, went-of}
+use Rattle.unended_laws.proofs.Prelude.{HeldRecovery, HeldRings, IsApplying, IsLead, IsMatchedThere, IsNeverInterfered, IsRest, IsResting, IsStopping}
+use Rattle.unended_laws.proofs.Prelude.{IsThere, Job, KeepsMoves, Makes, Match, MatchFault, MayDecide, Moment, Observation, Op, Placed, Position}
+use Rattle.unended_laws.proofs.Prelude.{ReadsNow, Recovery, Rests, RestsFor, RestsSoFar, Server, ServerNo, ShowsNow, Speaks, SpeaksWith, Spot, Stage}
+use Rattle.unended_laws.proofs.Prelude.{Status, Stays, Stopped, Task, UpSoFar, WasStopped, Way, World, after_answer, after_attach, after_match}
+use Rattle.unended_laws.proofs.Prelude.{altered_by, attach_answer_of, attachment_by, before, by_deed, by_match, can_attach, covered, decided_by}
+use Rattle.unended_laws.proofs.Prelude.{decides-listed, decisions-keep, deed-still, deed_of, draining, due-listed, ends, entered, eq-eqb, eqb-true}
+use Rattle.unended_laws.proofs.Prelude.{false≢true, fits-of, fits-step, follows_no_more, ground_of, info, is_below, is_going, is_match_of, is_source}
+use Rattle.unended_laws.proofs.Prelude.{kept-along, lead_of, leaver, made-well, match_found, match_logs, move, move-ends, moved, moved-fits, moves}
+use Rattle.unended_laws.proofs.Prelude.{of_queue, of_task, position_of, read-now, reader_of, run, same-head, same_Some, seen_in, seen_of, self-all}
+use Rattle.unended_laws.proofs.Prelude.{self-times, server_at, source_no, standing_at, status, status_in, stepped, stopped_nos, tail_of, taken, times}
+use Rattle.unended_laws.proofs.Prelude.{times-append, trailing, went-of}
 use Rattle.unended_laws.proofs.Prelude.asking
 use Rattle.unended_laws.proofs.Prelude.attaching
 use Rattle.unended_laws.proofs.Prelude.attempt
@@ -54,11 +53,6 @@ stops-first s n (inr at) o h = go (subst (λ (k : Stage). AreLeft k (o ∷ op.St
   where
     go : IsRest (trailing n at.0) (o ∷ op.Status n None ∷ []) → o ≡ op.Stop n
     go r = sym (ap (last_but_one (op.Stop n) (op.Stop n)) r.split ∙ before-last (op.Stop n) (op.Stop n) r.done o (op.Status n None))
-
--- a change of source ends its stage
-move-ends : (n : ServerNo) (by : Way) → ends (stage.Move n by) (deed_of (move by n)) ≡ true
-move-ends n (way.Down x) = refl
-move-ends n by = refl
 
 pub not-moves : (d : Deed) (s : Stage) → ends s d ≡ false → moves d ≡ false
 not-moves d s e = go (moves d) _ e

@@ -1,6 +1,5 @@
 -- A server that was stopped rests where it is, and an attachment that expects it there doesn't find it elsewhere.
-use Rattle.std.proofs.Common.{◌≡◌, ℕ, Bool, true, false, cond, not, List, [], ◌∷◌, refl, sym, ◌∙◌, ap, subst, Option, Some, None, Ok, Err, Result, ◌&&◌, ◌||◌, ◌⊎◌, inl, inr}
-use Rattle.std.specs.Prelude.{nat_lt, length}
+use Rattle.std.proofs.Common.{◌≡◌, ℕ, Bool, true, false, cond, not, List, [], refl, sym, ◌∙◌, ap, subst, Option, Some, None, Ok, Err, Result, ◌&&◌, ◌||◌, ◌⊎◌, inl, inr, nat_lt, length}
 use Rattle.unended_laws.proofs.Prelude.{All, Applies, ApplyStep, AttachFault, Attached, Coord, Detached, Exchange, Halts, HasSource, Interval}
 use Rattle.unended_laws.proofs.Prelude.{IsApplying, IsHalted, IsThere, Request, Rests, Server, ServerNo, SourceState, Spot, Stays, Txn}
 use Rattle.unended_laws.proofs.Prelude.{WasStopped, Without, World, after, answer_by_sets, apply_from, apply_step, at_with_same, attach_answer}
@@ -219,12 +218,10 @@ IsRunningOrThere expect s = (s.applier ≡ true) ⊎ (same_spot expect (live_spo
 
 never-so : (e f r : Spot) (a b c d p : Bool) (first : ℕ) → (b ≡ true) ⊎ (c ≡ true)
     → is_interfered (cond (not a) (Err attaching.Unreachable) (cond b (Err (attaching.Running r)) (cond (not c) (Err (attaching.Interfered e f)) (cond d (Err attaching.Loop) (purged_answer p first))))) ≡ false
-never-so e f r false b c d p first why = refl
-never-so e f r true true c d p first why = refl
-never-so e f r true false true true p first why = refl
 never-so e f r true false true false p first why = purged-never p first
 never-so e f r true false false d p first (inl on) = absurd (false≢true on)
 never-so e f r true false false d p first (inr there) = absurd (false≢true there)
+never-so e f r _ _ _ _ p first why = refl
 
 at-never : (w : World) (n to : ℕ) (expect : Spot) (c : Coord) → IsThere (IsRunningOrThere expect) w n → is_interfered (attach_answer w n expect to c (server_at w n)) ≡ false
 at-never w n to expect c h =
@@ -268,8 +265,5 @@ auto-never w n to observed (Some s) = go (s.up && s.desk) (s.receiver || s.appli
 
     go : (a b c : Bool) (xs : List Interval)
         → is_interfered (answer_by_sets (cond (not a) (Err attaching.Unreachable) (cond b (Err (attaching.Running (spot_below s s.source))) (cond c (Err attaching.Loop) (Ok tt)))) xs (auto_purged (uuids w) s (server_at w to))) ≡ false
-    go false b c xs = refl
-    go true true c xs = refl
-    go true false true xs = refl
     go true false false [] = later (server_at w to)
-    go true false false (x ∷ xs) = refl
+    go _ _ _ _ = refl

@@ -1,6 +1,5 @@
 -- An operation of a recovery keeps up its followers, and a closed master.
-use Rattle.std.proofs.Common.{◌≡◌, ℕ, zero, suc, ◌+◌, ◌<◌, ◌≤◌, Bool, true, false, cond, not, List, [], ◌∷◌, get_or, refl, sym, ◌∙◌, ap, subst, Option, Some, None, ◌⊎◌, inl, inr, arith}
-use Rattle.std.specs.Prelude.{◌==◌, IfSome}
+use Rattle.std.proofs.Common.{◌≡◌, ℕ, zero, suc, ◌+◌, ◌<◌, ◌≤◌, Bool, true, false, cond, not, List, [], ◌∷◌, get_or, refl, sym, ◌∙◌, ap, subst, Option, Some, None, ◌⊎◌, inl, inr, arith, ◌==◌, IfSome}
 use Rattle.unended_laws.proofs.Prelude.{All, All-cons, All-filter, All-head, All-nil, All-tail, All-weaker, AltersOnly, AreReplicas, Attach, AttachAuto}
 use Rattle.unended_laws.proofs.Prelude.{CoversAt, Deed, Exchange, Fact, Fits, Follower, GoesOn, IsApplying, IsAttachment, IsGiving, IsKeptUp, IsOpenYet, IsShut}
 use Rattle.unended_laws.proofs.Prelude.{IsUnder, Job, Leads, Line, Makes, MayMake, Moment, Observation, Op, Purpose, ReadsLast, Recovery, Request, RunsOn}
@@ -285,12 +284,7 @@ module _ (ns : List ServerNo) (n : ℕ) (out : 0 < times n ns → ⊥) where
   makes-spares (deed.Same k) h = attach-spares n k.0 (not-here k h)
   makes-spares (deed.Auto k m) h = attach-spares n k.0 (not-here k h)
   makes-spares (deed.CrossMatch k m) h = attach-spares n k.0 (not-here k h)
-  makes-spares (deed.Look k from) h = tt
-  makes-spares (deed.Await k to) h = tt
-  makes-spares (deed.AwaitSet k m) h = tt
-  makes-spares (deed.Settle k) h = tt
-  makes-spares (deed.Match k m every) h = tt
-  makes-spares (deed.Finish lines) h = tt
+  makes-spares _ h = tt
 
 module _ (w : World) (read : ℕ) (now : Moment) (P : Fact → Bool) (x : Recovery) (o : Op) (rest : List Op) (is : x.core.ops ≡ o ∷ rest) (c : CoversAt w x x.stage) (fits : Fits x.stage (o ∷ rest))
     (speaks : SpeaksWith x) (up : UpSoFar P w x) (ob : Option Observation) (es : List Exchange) (j : Job) (goes : by_deed w read now x.core rest (deed_of o) ≡ attempt.Goes ob es j) where

@@ -1,11 +1,10 @@
 -- Hooks stay in order along the turns of their recovery.
-use Rattle.std.proofs.Common.{◌≡◌, ◌∙◌, ◌+◌, ◌≤◌, inl, inr, ℕ, zero, suc, Bool, true, false, List, [], ◌∷◌, length, Option, Some, None, refl, sym, ap, cond, subst, arith}
-use Rattle.std.specs.Prelude.{◌==◌, All, slice_get, take}
-use Rattle.unended_laws.proofs.Prelude.{All-nil, All-push, BookState, Docket, Hook, HookState, Hooked, Hooks, HostPort, IsAtCheck, IsEarly, IsOfDead}
+use Rattle.std.proofs.Common.{◌≡◌, ◌∙◌, ◌+◌, ◌≤◌, inl, inr, ℕ, zero, suc, Bool, true, false, List, [], ◌∷◌, length, Option, Some, None, refl, sym, ap, cond, subst, arith, ◌==◌, All, slice_get, take}
+use Rattle.unended_laws.proofs.Prelude.{All-nil, All-push, BookState, Docket, Hook, Hooked, Hooks, HookState, HostPort, IsAtCheck, IsEarly, IsOfDead}
 use Rattle.unended_laws.proofs.Prelude.{IsOfDocket, IsTended, JobStep, Means, Moment, Purpose, Recovery, ServerNo, Taken, Values, World, begun_hooks}
-use Rattle.unended_laws.proofs.Prelude.{begun_recovery, checked, due_after, due_at, due_before, eqb-true, failed_lines, false≢true, front_hook, front_turn}
-use Rattle.unended_laws.proofs.Prelude.{hooked, is_going, option_map, plan_of, promoted_in, ran_after, ran_before, rear_hook, rear_turn, same_Some, take-more}
-use Rattle.unended_laws.proofs.Prelude.{taken, with_hooks}
+use Rattle.unended_laws.proofs.Prelude.{begun_recovery, checked, due_after, due_at, due_before, eqb-true, failed_lines, false≢true, front_hook}
+use Rattle.unended_laws.proofs.Prelude.{front_turn, got, hooked, is_going, option_map, plan_of, promoted_in, ran_after, ran_before, rear_hook}
+use Rattle.unended_laws.proofs.Prelude.{rear_turn, same_Some, take-more, taken, with_hooks}
 use Rattle.unended_jobs.specs.RecoveryHooks.Runs.{Passes}
 use Rattle.unended_laws.proofs.Prelude.cause
 use Rattle.unended_laws.proofs.Prelude.purpose
@@ -39,10 +38,6 @@ begun-tended u by id wait f replicas order hooks told dead = record {
 when : (b : Bool) (o : Option Hook) (h : Hook) → cond b o None ≡ Some h → b ≡ true
 when true o h e = refl
 when false o h e = absurd cc
-
-got : (b : Bool) (o : Option Hook) (h : Hook) → cond b o None ≡ Some h → o ≡ Some h
-got true o h e = e
-got false o h e = absurd cc
 
 past : (hs : List Hook) (n : ℕ) → slice_get hs n ≡ None → length hs ≤ n
 past [] n e = omega arith

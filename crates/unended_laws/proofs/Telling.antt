@@ -1,6 +1,5 @@
 -- The lines of hooks in the turn in which a recovery ends.
-use Rattle.std.proofs.Common.{◌≡◌, ◌∙◌, ◌+◌, ℕ, Bool, true, false, List, [], ◌++◌, ◌⊎◌, inl, inr, Option, Some, None, refl, sym, ap, cond, subst}
-use Rattle.std.specs.Prelude.{◌==◌, slice_get, take}
+use Rattle.std.proofs.Common.{◌≡◌, ◌∙◌, ◌+◌, ℕ, Bool, true, false, List, [], ◌++◌, ◌⊎◌, inl, inr, Option, Some, None, refl, sym, ap, cond, subst, ◌==◌, slice_get, take}
 use Rattle.unended_laws.proofs.Prelude.{AreInOrder, BookState, Cause, Docket, Hook, HookState, HostPort, IsTended, JobStep, Line, Moment, Recovery, Taken}
 use Rattle.unended_laws.proofs.Prelude.{World, after_lines, all-before, all-behind, all-stopped, all_before, all_behind, before_lines, done_lines, due_at}
 use Rattle.unended_laws.proofs.Prelude.{due_before, eq-eqb, failed_lines, false≢true, front_turn, hooked, lines_of, promoted_in, ran_before, rear_turn, taken}

@@ -1,6 +1,5 @@
 -- The turn of an unended job leaves all with `Held` and `Sound`.
-use Rattle.std.proofs.Common.{◌≡◌, ◌∙◌, ℕ, Bool, true, false, List, [], ◌∷◌, cond, refl, sym, ap, subst, Option, Some, None}
-use Rattle.std.specs.Prelude.{All, ◌==◌, not, map, if◌then◌else◌}
+use Rattle.std.proofs.Common.{◌≡◌, ◌∙◌, ℕ, Bool, true, false, List, [], ◌∷◌, cond, refl, sym, ap, subst, Option, Some, None, All, ◌==◌, not, map, if◌then◌else◌}
 use Rattle.unended_laws.proofs.Prelude.{All-cons, All-find, All-head, All-nil, All-tail, AllMayPass, AllPassWell, AreOwn, BookState, Bridge, Flight}
 use Rattle.unended_laws.proofs.Prelude.{Flown, Held-passed, HeldJobs, HeldRecovery, HeldRings, IsHeldBeside, IsQuiet, IsSoundBeside, Job}
 use Rattle.unended_laws.proofs.Prelude.{LeasedRecovery, Leases, MayPass, MayTake, Moment, Observation, PassesWell, Recovery, Sound-passed, SoundJobs}

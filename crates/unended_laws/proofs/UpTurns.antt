@@ -1,6 +1,5 @@
 -- Turns of unended jobs leave recoveries up, and so they end.
-use Rattle.std.proofs.Common.{◌≡◌, ◌∙◌, ℕ, Bool, true, List, [], sym, subst, Option, Some, None}
-use Rattle.std.specs.Prelude.{All}
+use Rattle.std.proofs.Common.{◌≡◌, ◌∙◌, ℕ, Bool, true, List, [], sym, subst, Option, Some, None, All}
 use Rattle.unended_laws.proofs.Prelude.{All-nil, All-weaker, BookState, ClosesFirst, CoveredJobs, CoversSoFar, Decisions, Docket, Exchange}
 use Rattle.unended_laws.proofs.Prelude.{ExplainsTruly, Fact, Flight, HeldJobs, HeldRecovery, IsCoveredBeside, IsDoneIn, IsHeldBeside}
 use Rattle.unended_laws.proofs.Prelude.{IsNeverInterfered, IsSpeakingBeside, IsUpBeside, KeepsUp, Line, Means, Moment, Observation, OpensAlone}

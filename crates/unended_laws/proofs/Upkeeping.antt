@@ -10,7 +10,7 @@ use Rattle.unended_laws.proofs.Prelude.{Unreachable, UpSoFar, WasRead, Way, Why,
 use Rattle.unended_laws.proofs.Prelude.{crowns, decided_by, decides-before, decides-fine, decides-idle, decides-speaks, decisions-keep, deed_of}
 use Rattle.unended_laws.proofs.Prelude.{desk_answer, drain, ended, ended_by, ends, false≢true, fate_of, fits-of, gather, ground_of, info, is_going}
 use Rattle.unended_laws.proofs.Prelude.{is_intermediate, is_takeover, joined, kept-along, last_looks, level, made-well, move, no-tail, run}
-use Rattle.unended_laws.proofs.Prelude.{same-head, same_Some, self-times, server_at, stepped-fits, still-on, taken, taken-walks, times, told, trail}
+use Rattle.unended_laws.proofs.Prelude.{result_lines, same-head, same_Some, self-times, server_at, stepped-fits, still-on, taken, taken-walks, times, trail}
 use Rattle.unended_laws.proofs.Prelude.{turn-done, went-of}
 use Rattle.unended_laws.proofs.Prelude.asking
 use Rattle.unended_laws.proofs.Prelude.attempt
@@ -39,11 +39,9 @@ drain-alters : (n : ServerNo) → All (Altered (stage.Drain n)) (drain n)
 drain-alters n = each (stage.Drain n) (drain n) (inr (here n), (tt, (inr (here n), (tt, tt))))
 
 move-alters : (n : ServerNo) (by' : Way) → All (Altered (stage.Move n by')) (before by' n ++ move by' n ∷ op.Start n ∷ [])
-move-alters n (way.Down x) = each (stage.Move n (way.Down x)) (move (way.Down x) n ∷ op.Start n ∷ []) (here n, (inl tt, tt))
-move-alters n (way.Up x) = each (stage.Move n (way.Up x)) (move (way.Up x) n ∷ op.Start n ∷ []) (here n, (inl tt, tt))
-move-alters n (way.Auto to exec) = each (stage.Move n (way.Auto to exec)) (move (way.Auto to exec) n ∷ op.Start n ∷ []) (here n, (inl tt, tt))
 move-alters n (way.Match to exec every) =
     each (stage.Move n (way.Match to exec every)) (op.Match n to every ∷ op.CrossMatch n to ∷ op.Start n ∷ []) (tt, (here n, (inl tt, tt)))
+move-alters n x = each (stage.Move n x) (move x n ∷ op.Start n ∷ []) (here n, (inl tt, tt))
 
 trail-alters : (n : ServerNo) (x : Bridge) → All (Altered (stage.Trail n x)) (trail n x.no)
 trail-alters n x = each (stage.Trail n x) (trail n x.no) (here n, (tt, (inr (here n), (tt, tt))))
@@ -157,16 +155,16 @@ module _ (w : World) (b : BookState) (now : Moment) (r : Recovery) (P : Fact →
     decided-up (by.Crowns p) may =
         begins _ refl refl refl (each (stage.Crown p) (op.Reset p ∷ op.ReadOnly p false ∷ []) (inr (here p), (inl tt, tt))) (λ k lines regroup at chosen. cc) (λ m d at. cc) (λ lines at crowned. cc)
     decided-up (by.Rejoins p) may =
-        begins _ refl refl refl (each (stage.Close (told x)) (op.Start p ∷ op.Finish (told x) ∷ []) (inl tt, (tt, tt)))
+        begins _ refl refl refl (each (stage.Close (result_lines x)) (op.Start p ∷ op.Finish (result_lines x) ∷ []) (inl tt, (tt, tt)))
         (λ k lines regroup at chosen.
-        ap (λ (i : ServerNo). op.Start i ∷ op.Finish (told x) ∷ []) (same_Some p k (sym may.1 ∙ chosen)) ∙ ap (λ (ls : List Line). op.Start k ∷ op.Finish ls ∷ []) (ap lines_in at))
+        ap (λ (i : ServerNo). op.Start i ∷ op.Finish (result_lines x) ∷ []) (same_Some p k (sym may.1 ∙ chosen)) ∙ ap (λ (ls : List Line). op.Start k ∷ op.Finish ls ∷ []) (ap lines_in at))
         (λ m d at. cc) (λ lines at crowned. false≢true (sym (ap crowns may.0.purpose) ∙ crowned))
       where
         lines_in : Stage → List Line
         lines_in (stage.Close ls) = ls
         lines_in _ = []
     decided-up by.Closes may =
-        begins _ refl refl refl (each (stage.Close (told x)) (op.Finish (told x) ∷ []) (tt, tt))
+        begins _ refl refl refl (each (stage.Close (result_lines x)) (op.Finish (result_lines x) ∷ []) (tt, tt))
         (λ k lines regroup at chosen. let bad : purpose.Intermediate may.0 ≡ purpose.Regroup = sym may.1.purpose ∙ regroup in cc) (λ m d at. cc) (λ lines at crowned. false≢true (sym (ap crowns may.1.purpose) ∙ crowned))
     decided-up (by.Chooses p ts) may = rests _ refl refl refl refl refl
     decided-up (by.ChoosesNobody ts) may = rests _ refl refl refl refl refl
@@ -236,7 +234,7 @@ module _ (w : World) (b : BookState) (now : Moment) (r : Recovery) (P : Fact →
         (λ n lines crowned e is. let bad : stage.Idle ≡ stage.Close lines = sym at ∙ e in cc)
 
     -- the last readings are to come
-    ends-reads : (n : ServerNo) → (crowns z.purpose ≡ true) × (z.outcome.promoted ≡ Some n) → (k : ServerNo) (lines : List Line) → stage.Close (told z) ≡ stage.Close lines → z.outcome.promoted ≡ Some k
+    ends-reads : (n : ServerNo) → (crowns z.purpose ≡ true) × (z.outcome.promoted ≡ Some n) → (k : ServerNo) (lines : List Line) → stage.Close (result_lines z) ≡ stage.Close lines → z.outcome.promoted ≡ Some k
         → ReadsLast (ended_by z (by.Ends n)) k lines
     ends-reads n led k lines at promoted = go z.purpose refl led.0
       where
@@ -247,17 +245,17 @@ module _ (w : World) (b : BookState) (now : Moment) (r : Recovery) (P : Fact →
         lines_in (stage.Close ls) = ls
         lines_in _ = []
 
-        these : told z ≡ lines
+        these : result_lines z ≡ lines
         these = ap lines_in at
 
         go : (u : Purpose) → z.purpose ≡ u → crowns u ≡ true → ReadsLast (ended_by z (by.Ends n)) k lines
         go (purpose.Takeover d) aim h =
-            inl (ap (λ (u : Purpose). last_looks z u n ++ op.Finish (told z) ∷ []) aim
-            ∙ (ap (λ (i : ServerNo). op.Status z.failed None ∷ op.Status i None ∷ op.Finish (told z) ∷ []) same ∙ ap (λ (ls : List Line). op.Status z.failed None ∷ op.Status k None ∷ op.Finish ls ∷ []) these))
+            inl (ap (λ (u : Purpose). last_looks z u n ++ op.Finish (result_lines z) ∷ []) aim
+            ∙ (ap (λ (i : ServerNo). op.Status z.failed None ∷ op.Status i None ∷ op.Finish (result_lines z) ∷ []) same ∙ ap (λ (ls : List Line). op.Status z.failed None ∷ op.Status k None ∷ op.Finish ls ∷ []) these))
         go purpose.Master aim h =
             inr (inl (
-              ap (λ (u : Purpose). last_looks z u n ++ op.Finish (told z) ∷ []) aim
-                  ∙ (ap (λ (i : ServerNo). op.Status i None ∷ op.Finish (told z) ∷ []) same ∙ ap (λ (ls : List Line). op.Status k None ∷ op.Finish ls ∷ []) these),
+              ap (λ (u : Purpose). last_looks z u n ++ op.Finish (result_lines z) ∷ []) aim
+                  ∙ (ap (λ (i : ServerNo). op.Status i None ∷ op.Finish (result_lines z) ∷ []) same ∙ ap (λ (ls : List Line). op.Status k None ∷ op.Finish ls ∷ []) these),
               λ d takes. let bad : purpose.Master ≡ purpose.Takeover d = sym aim ∙ takes in cc,
             ))
         go purpose.Regroup aim h = absurd (false≢true h)
@@ -310,7 +308,7 @@ module _ (w : World) (b : BookState) (now : Moment) (r : Recovery) (P : Fact →
         (λ k e at. let bad : stage.Meet k e ≡ stage.Switched m d = sym at ∙ may in cc)
         (λ k lines crowned at promoted. cc)
     completes-up (by.Ends n) may =
-        ended-so _ refl refl (last-alters z z.purpose n (told z)) (same-follow (ended_by z (by.Ends n)) refl refl refl)
+        ended-so _ refl refl (last-alters z z.purpose n (result_lines z)) (same-follow (ended_by z (by.Ends n)) refl refl refl)
         (λ p lines regroup at. false≢true (sym (ap crowns regroup) ∙ (st.crowned n may).0)) (λ m d at. cc)
         (λ m d at. let bad : stage.Meet m d ≡ stage.Opened n = sym at ∙ may in cc)
         (λ k lines crowned at promoted. ends-reads n (st.crowned n may) k lines at promoted)
@@ -367,10 +365,6 @@ module _ (w : World) (b : BookState) (now : Moment) (r : Recovery) (P : Fact →
         go : IsOpenYet x.stage ⊎ IsShut w x.failed.0 → IsShut w x.failed.0
         go (inl yet) = absurd (met yet)
         go (inr h) = h
-
-    -- no follower is in work at these stages
-    stage-is : (s t : Stage) → x.stage ≡ s → x.stage ≡ t → s ≡ t
-    stage-is s t a e = sym a ∙ e
 
     no-work : (s : Stage) → x.stage ≡ s → ((p n : ServerNo) → s ≡ stage.Level p n → ⊥) → ((n : ServerNo) → s ≡ stage.Release n → ⊥) → ((q : ServerNo) → s ≡ stage.Open q → ⊥)
         → (y : Recovery) (z : Follower) → IsInWork P x z.no → IsKeptUp P w y z.no

@@ -1,10 +1,8 @@
 -- What holds for a recovery and its hooks, from its start on.
 use Rattle.std.specs.Prelude.{◌≡◌, ◌⊎◌, false, List, [], ◌∷◌, Option, None, Some}
-use Rattle.std.specs.Option.{option_map}
+use Rattle.unended_laws.specs.Prelude.{Docket, Hooks, IsOfDead, Line, option_map}
 use Rattle.unended_jobs.specs.Commands.declared.line.HookPhase.TheVariants as phase
-use Rattle.unended_jobs.specs.Commands.declared.line.Line.{Line}
 use Rattle.unended_jobs.specs.HookTexts.declared.hooks.Hook.{Hook}
-use Rattle.unended_jobs.specs.HookTexts.declared.hooks.Hooks.{Hooks}
 use Rattle.unended_jobs.specs.HookTexts.declared.values.Values.{Values}
 use Rattle.unended_jobs.specs.OrchBase.Names.{HostPort}
 use Rattle.unended_jobs.specs.Operations.declared.op.Op.TheVariants as op
@@ -12,8 +10,6 @@ use Rattle.unended_jobs.specs.RecoveryPlans.declared.purpose.Purpose.TheVariants
 use Rattle.unended_jobs.specs.RecoveryPlans.declared.stage.Stage.TheVariants as stage
 use Rattle.unended_jobs.specs.RecoveryPlans.Recoveries.{Recovery}
 use Rattle.unended_jobs.specs.RecoveryHooks.Runs.{due_before, lines_of, running_before, when_done, AreInOrder, HookState}
-use Rattle.unended_jobs.specs.declared.docket.Docket.{Docket}
-use Rattle.recovery_reasons.specs.Reasons.{IsOfDead}
 
 -- it is to look at its failed server, and has stopped none
 pub record IsAtCheck (r : Recovery) : Type 0 where

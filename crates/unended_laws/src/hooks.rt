@@ -1,27 +1,16 @@
 //! Laws of the turns of recoveries with hooks.
 
 ghost use Rattle.std.specs.Prelude.{◌≡◌, ◌++◌, ℕ, [], List, None, Some, false, true};
+ghost use Rattle.unended_laws.specs.Prelude.{BookState, Docket as ADocket, Hooks as SomeHooks, IsOfDead, Line as ALine, Means as AMeans};
+ghost use Rattle.unended_laws.specs.Prelude.{Moment as AMoment, Purpose as APurpose, ServerNo as Number, World, begun_recovery, hooked, is_going};
+ghost use Rattle.unended_laws.specs.Prelude.{promoted_in, taken};
 ghost use Rattle.unended_jobs.specs.Commands.declared.cause.Cause.{Cause as ACause};
 ghost use Rattle.unended_jobs.specs.Commands.declared.cause.Cause.TheVariants as cause;
-ghost use Rattle.unended_jobs.specs.Commands.declared.line.Line.{Line as ALine};
-ghost use Rattle.unended_jobs.specs.HookTexts.declared.hooks.Hooks.{Hooks as SomeHooks};
 ghost use Rattle.unended_jobs.specs.HookTexts.declared.values.Values.{Values as AValues};
-ghost use Rattle.unended_jobs.specs.InstanceKeeper.Book.{BookState};
-ghost use Rattle.unended_jobs.specs.OrchBase.declared.server.Moment.{Moment as AMoment};
-ghost use Rattle.unended_jobs.specs.OrchBase.declared.server.ServerNo.{ServerNo as Number};
 ghost use Rattle.unended_jobs.specs.Operations.declared.step.JobStep.TheVariants as step;
-ghost use Rattle.unended_jobs.specs.Operations.Turns.{is_going};
 ghost use Rattle.unended_jobs.specs.RecoveryHooks.Runs.{begun_hooks, unsuccessful_lines, HookState};
-ghost use Rattle.unended_jobs.specs.RecoveryPlans.Beginning.{begun_recovery};
-ghost use Rattle.unended_jobs.specs.RecoveryPlans.declared.means.Means.{Means as AMeans};
-ghost use Rattle.unended_jobs.specs.RecoveryPlans.declared.purpose.Purpose.{Purpose as APurpose};
 ghost use Rattle.unended_jobs.specs.RecoveryPlans.Recoveries.{Recovery};
-ghost use Rattle.unended_jobs.specs.RecoveryPlans.Taking.{taken};
-ghost use Rattle.unended_jobs.specs.ServerModel.Worlds.{World};
-ghost use Rattle.unended_jobs.specs.Hooked.{hooked, promoted_in};
-ghost use Rattle.unended_jobs.specs.declared.docket.Docket.{Docket as ADocket};
 ghost use Rattle.unended_laws.specs.Tended.{all_before, all_behind, IsEarly, IsOfDocket, IsTended};
-ghost use Rattle.recovery_reasons.specs.Reasons.{IsOfDead};
 
 /// Until all hooks have run before it that are to, a recovery changes no server. It changes none in the turn in which
 /// it looks at its failed server, nor in the turn of such a hook, whatever its exit.

@@ -1,6 +1,5 @@
 -- How long the log of a server is at the opening, and how many files it has.
-use Rattle.std.proofs.Common.{◌≡◌, ℕ, ◌+◌, ◌-◌, ◌≤◌, Bool, true, false, cond, List, [], ◌∷◌, length, refl, ◌∙◌, ap, arith, zero, suc}
-use Rattle.std.specs.Prelude.{All, count_by, is_some, nat_le, ◌==◌, ◌&&◌}
+use Rattle.std.proofs.Common.{◌≡◌, ℕ, ◌+◌, ◌-◌, ◌≤◌, Bool, true, false, cond, List, [], ◌∷◌, length, refl, ◌∙◌, ap, arith, zero, suc, All, count_by, is_some, nat_le, ◌==◌, ◌&&◌}
 use Rattle.world_openings.proofs.Prelude.{All-head, All-tail, Grown, HasSize, Index, Kept, Log, ServerInit, Settings, SourceState, Txn, bare_server}
 use Rattle.world_openings.proofs.Prelude.{count_by-le-length, file_start, files-push, flushed_at, flushed_times, history_at, laid, laid_after}
 use Rattle.world_openings.proofs.Prelude.{length-push, log_by, logged_by, nat_tests, opened, push, server_of, source_state, sum_by-cons}

@@ -1,4 +1,4 @@
-mod Prelude
+pub mod Prelude
 pub mod Opened
 pub mod LaidLogs
 pub mod OpenedWorlds

@@ -1,6 +1,5 @@
 -- The servers of a world that an opening opens.
-use Rattle.std.proofs.Common.{◌≡◌, ℕ, ◌+◌, List, [], ◌∷◌, length, refl, sym, ◌∙◌, ap, Some, arith, zero, suc, zero-add}
-use Rattle.std.specs.Prelude.{slice_get}
+use Rattle.std.proofs.Common.{◌≡◌, ℕ, ◌+◌, List, [], ◌∷◌, length, refl, sym, ◌∙◌, ap, Some, arith, zero, suc, zero-add, slice_get}
 use Rattle.world_openings.proofs.Prelude.{Opened, Server, ServerInit, opened_from, opened_server, opened_world, same_Some, server_at}
 
 pub slice_get-opened_from : (servers : List ServerInit) (room flushes k : ℕ) (is : List ServerInit) (j : ℕ) (i : ServerInit) → slice_get is j ≡ Some i

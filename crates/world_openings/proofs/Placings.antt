@@ -2,8 +2,7 @@
 use Rattle.world_openings.proofs.Prelude.{AreBare, ArePlaced, Coord, HaveLogs, Index, Opened, Server, ServerInit, bare_server, cases_eq, cases_lt}
 use Rattle.world_openings.proofs.Prelude.{exec_of, get-push_new as slice_get-last, length-set, log_at, opened_from, placed_by, read_of, same_Some}
 use Rattle.world_openings.proofs.Prelude.{set_other, set_same, slice_get_within}
-use Rattle.std.proofs.Common.{◌≡◌, ℕ, ◌+◌, ◌<◌, List, [], ◌∷◌, ◌++◌, length, length-append, refl, sym, ◌∙◌, ap, inl, inr, Option, Some, None, arith, zero, suc}
-use Rattle.std.specs.Prelude.{option_map, slice_get, slice_set}
+use Rattle.std.proofs.Common.{◌≡◌, ℕ, ◌+◌, ◌<◌, List, [], ◌∷◌, ◌++◌, length, length-append, refl, sym, ◌∙◌, ap, inl, inr, Option, Some, None, arith, zero, suc, option_map, slice_get, slice_set}
 use Rattle.world_openings.proofs.Opened.{server_at-opened, length-opened_from}
 use Rattle.world_openings.proofs.OpenedWorlds.{log_at-is}
 

@@ -6,14 +6,10 @@ use Rattle.replication_laws.proofs.Runs.{Safe-fetched, Grows-after}
 use Rattle.replication_laws.proofs.Writes.{Safe-write}
 use Rattle.replication_laws.proofs.each_exchange_keeps_safe.Goals as goal
 
-pub returns-clause-write : goal.returns-clause-write
-returns-clause-write c = λ w n size safe some q. Safe-write w n size (server_at w n) refl some safe q
-
-pub returns-clause-fetch : goal.returns-clause-fetch
-returns-clause-fetch c = Safe-fetched
-
-pub returns-clause-apply : goal.returns-clause-apply
-returns-clause-apply c = λ w n safe. Safe-apply w n (server_at w n) refl safe
-
-pub returns-clause-goes_on : goal.returns-clause-goes_on
-returns-clause-goes_on c = λ w e safe allowed. Grows-after w e (Placed-safe w safe) allowed
+pub returns : goal.returns
+returns c = record {
+  write = λ w n size safe some q. Safe-write w n size (server_at w n) refl some safe q;
+  fetch = Safe-fetched;
+  apply = λ w n safe. Safe-apply w n (server_at w n) refl safe;
+  goes_on = λ w e safe allowed. Grows-after w e (Placed-safe w safe) allowed;
+}

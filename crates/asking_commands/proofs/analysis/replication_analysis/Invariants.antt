@@ -1,5 +1,4 @@
-use Rattle.std.proofs.Common.{◌≡◌, map, take}
-use Rattle.std.specs.Prelude.{filter}
+use Rattle.std.proofs.Common.{◌≡◌, map, take, filter}
 use Rattle.asking_commands.specs.Analysis.{is_problem, problem_line}
 use Rattle.asking_commands.proofs.analysis.replication_analysis.Given as goal
 

@@ -1,5 +1,4 @@
-use Rattle.std.proofs.Common.{◌≡◌, ◌+◌, ◌++◌, ◌∷◌, [], ℕ, Vec, Global, List, Bor, map, drop, ap, sym, ◌∙◌}
-use Rattle.std.specs.Prelude.{not}
+use Rattle.std.proofs.Common.{◌≡◌, ◌+◌, ◌++◌, ◌∷◌, [], ℕ, Vec, Global, List, Bor, map, drop, ap, sym, ◌∙◌, not}
 use Rattle.commands.specs.declared.line.Line.{Line}
 use Rattle.commands.specs.declared.line.Line.TheVariants as line
 use Rattle.asking_commands.specs.Labels.{clusters_of, each_once, is_again}

@@ -1,5 +1,4 @@
-use Rattle.std.proofs.Common.{◌≡◌, ℕ, List, Bor, map, take}
-use Rattle.std.specs.Prelude.{filter}
+use Rattle.std.proofs.Common.{◌≡◌, ℕ, List, Bor, map, take, filter}
 use Rattle.book_views.specs.Sources.{is_instance, label_at}
 use Rattle.asking_commands.proofs.labels.labels_of.Given as goal
 

@@ -1,5 +1,4 @@
-use Rattle.std.proofs.Common.{◌≡◌, map, take}
-use Rattle.std.specs.Prelude.{filter}
+use Rattle.std.proofs.Common.{◌≡◌, map, take, filter}
 use Rattle.commands.specs.declared.line.Line.TheVariants as line
 use Rattle.book_views.specs.Sources.{is_instance}
 use Rattle.asking_commands.proofs.listing.all_instances.Given as goal

@@ -1,5 +1,4 @@
-use Rattle.std.proofs.Common.{◌≡◌, map, take}
-use Rattle.std.specs.Prelude.{filter, ◌&&◌, slice_index_or, false}
+use Rattle.std.proofs.Common.{◌≡◌, map, take, filter, ◌&&◌, slice_index_or, false}
 use Rattle.instance_keeper.specs.OrchBase.declared.server.ServerNo.{ServerNo}
 use Rattle.commands.specs.declared.line.Line.TheVariants as line
 use Rattle.book_views.specs.Sources.{is_instance}

@@ -1,5 +1,4 @@
-use Rattle.std.proofs.Common.{◌++◌, ℕ, List, Option, take, ap, ◌∙◌}
-use Rattle.std.specs.Prelude.{filter_map}
+use Rattle.std.proofs.Common.{◌++◌, ℕ, List, Option, take, ap, ◌∙◌, filter_map}
 use Rattle.std.specs.Option.{option_to_list}
 use Rattle.commands.specs.declared.line.Line.{Line}
 use Rattle.asking_commands.specs.Trees.{node_line}

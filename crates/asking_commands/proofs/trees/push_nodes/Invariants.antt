@@ -1,5 +1,4 @@
-use Rattle.std.proofs.Common.{◌≡◌, ◌++◌, take}
-use Rattle.std.specs.Prelude.{filter_map}
+use Rattle.std.proofs.Common.{◌≡◌, ◌++◌, take, filter_map}
 use Rattle.asking_commands.specs.Trees.{node_line}
 use Rattle.asking_commands.proofs.trees.push_nodes.Given as goal
 

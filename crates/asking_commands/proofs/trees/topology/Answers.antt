@@ -1,5 +1,4 @@
-use Rattle.std.proofs.Common.{◌≡◌, ◌++◌, ℕ, true, false, Vec, Global, List, Option, length, ap, sym, ◌∙◌, append-nil, arith}
-use Rattle.std.specs.Prelude.{filter, filter_map, slice_get}
+use Rattle.std.proofs.Common.{◌≡◌, ◌++◌, ℕ, true, false, Vec, Global, List, Option, length, ap, sym, ◌∙◌, append-nil, arith, filter, filter_map, slice_get}
 use Rattle.std.specs.List.{flat_map, range_with_len}
 use Rattle.std.proofs.lemmas.Option.{slice_get-get_or}
 use Rattle.instance_keeper.specs.OrchBase.declared.server.ServerNo.{ServerNo}

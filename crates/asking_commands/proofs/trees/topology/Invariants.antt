@@ -1,5 +1,4 @@
-use Rattle.std.proofs.Common.{◌≡◌}
-use Rattle.std.specs.Prelude.{filter}
+use Rattle.std.proofs.Common.{◌≡◌, filter}
 use Rattle.std.specs.List.{flat_map, range_with_len}
 use Rattle.book_views.specs.Forests.{book_forest}
 use Rattle.asking_commands.specs.Trees.{is_root_of, tree_lines}

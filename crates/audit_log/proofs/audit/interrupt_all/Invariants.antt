@@ -1,5 +1,5 @@
 use Rattle.std.proofs.Common.{◌≡◌}
-use Rattle.audit_log.specs.Audits.{interrupted}
+use Rattle.audit_log.proofs.Prelude.{interrupted}
 use Rattle.audit_log.proofs.Changes.{mapped}
 use Rattle.audit_log.proofs.audit.interrupt_all.Given as goal
 

@@ -1,7 +1,5 @@
-use Rattle.std.proofs.Common.{◌%◌, ◌∙◌, ap, length, arith}
-use Rattle.std.specs.Prelude.{fold}
-use Rattle.std.proofs.lemmas.List.{take_all}
-use Rattle.audit_log.specs.Index.{bucket_of, mixed}
+use Rattle.std.proofs.Common.{◌%◌, ◌∙◌, ap, length, arith, fold}
+use Rattle.audit_log.proofs.Prelude.{bucket_of, mixed, take_all}
 use Rattle.audit_log.proofs.index.bucket.Goals as goal
 
 pub returns : goal.returns

@@ -1,6 +1,5 @@
-use Rattle.std.proofs.Common.{◌≡◌, ◌<◌, ◌^◌, take}
-use Rattle.std.specs.Prelude.{fold}
-use Rattle.audit_log.specs.Index.{mixed}
+use Rattle.std.proofs.Common.{◌≡◌, ◌<◌, ◌^◌, take, fold}
+use Rattle.audit_log.proofs.Prelude.{mixed}
 use Rattle.audit_log.proofs.index.bucket.Given as goal
 
 abbrev pub invariant-label : goal.invariant-label

@@ -1,6 +1,5 @@
 use Rattle.std.proofs.Common.{◌∷◌, ◌++◌, [], Some, sym, ◌∙◌, ap, take}
-use Rattle.kept_rows.specs.declared.recovery.Recovery.{Recovery}
-use Rattle.audit_log.specs.Loading.{recoveries_in, recovery_row_in}
+use Rattle.audit_log.proofs.Prelude.{Recovery, recoveries_in, recovery_row_in}
 use Rattle.audit_log.proofs.Loaded.{loaded-more, loaded-none}
 use Rattle.audit_log.proofs.loading.recoveries_in.Goals as goal
 use Rattle.audit_log.proofs.loading.recoveries_in.Goals.{in-Some+in_ok-loaded_by+in_ok-push, in_default}

@@ -1,5 +1,5 @@
 use Rattle.std.proofs.Common.{◌≡◌, take}
-use Rattle.audit_log.specs.Loading.{recoveries_in}
+use Rattle.audit_log.proofs.Prelude.{recoveries_in}
 use Rattle.audit_log.proofs.loading.recoveries_in.Given as goal
 
 abbrev pub invariant-loop-row : goal.invariant-loop-row

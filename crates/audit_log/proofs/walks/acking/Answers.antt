@@ -1,5 +1,5 @@
 use Rattle.std.proofs.Common.{◌≡◌, ◌<◌, ◌∙◌, length, reverse, ap, subst, arith}
-use Rattle.audit_log.specs.Index.{DoneOf}
+use Rattle.audit_log.proofs.Prelude.{DoneOf}
 use Rattle.audit_log.proofs.Stepping.{acking_from, acking-init, acking-step}
 use Rattle.audit_log.proofs.Walking.{but-falls, but-place, end_of, place-within}
 use Rattle.audit_log.proofs.walks.acking.Goals as goal

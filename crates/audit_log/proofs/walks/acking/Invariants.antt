@@ -1,6 +1,5 @@
-use Rattle.std.proofs.Common.{◌≡◌, drop, map, reverse}
-use Rattle.std.specs.Prelude.{filter}
-use Rattle.audit_log.specs.Audits.{acknowledged_for, is_new}
+use Rattle.std.proofs.Common.{◌≡◌, drop, map, reverse, filter}
+use Rattle.audit_log.proofs.Prelude.{acknowledged_for, is_new}
 use Rattle.audit_log.proofs.Walking.{end_of, IsPlace}
 use Rattle.audit_log.proofs.walks.acking.Given as goal
 

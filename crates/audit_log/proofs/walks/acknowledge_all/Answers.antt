@@ -1,7 +1,5 @@
-use Rattle.std.proofs.Common.{◌≡◌, ◌<◌, drop, length, ap, subst, arith}
-use Rattle.std.specs.Prelude.{count_by}
-use Rattle.audit_log.specs.Audits.{acknowledged_for}
-use Rattle.audit_log.specs.Index.{DoneOf}
+use Rattle.std.proofs.Common.{◌≡◌, ◌<◌, drop, length, ap, subst, arith, count_by}
+use Rattle.audit_log.proofs.Prelude.{DoneOf, acknowledged_for}
 use Rattle.audit_log.proofs.Stepping.{acked-count, acked-falls, acked-index, acked-init, acked-place, acked-so_far, count-init, New}
 use Rattle.audit_log.proofs.Walking.{but-place, changed, end_of, place-within}
 use Rattle.audit_log.proofs.walks.acknowledge_all.Goals as goal

@@ -1,7 +1,5 @@
-use Rattle.std.proofs.Common.{◌≡◌, drop}
-use Rattle.std.specs.Prelude.{count_by}
-use Rattle.audit_log.specs.Audits.{acknowledged_for, is_new}
-use Rattle.audit_log.specs.Index.{IsIndex}
+use Rattle.std.proofs.Common.{◌≡◌, drop, count_by}
+use Rattle.audit_log.proofs.Prelude.{IsIndex, acknowledged_for, is_new}
 use Rattle.audit_log.proofs.Walking.{changed, end_of, IsPlace}
 use Rattle.audit_log.proofs.walks.acknowledge_all.Given as goal
 

@@ -1,8 +1,5 @@
 use Rattle.std.proofs.Common.{◌≡◌, ◌<◌, ◌∙◌, length, sym, ap, subst, arith}
-use Rattle.std.specs.List.{AllWithin}
-use Rattle.kept_rows.specs.declared.recovery.Recovery.{Recovery}
-use Rattle.audit_log.specs.Apart.{IsClear}
-use Rattle.audit_log.specs.Index.{DoneOf}
+use Rattle.audit_log.proofs.Prelude.{AllWithin, DoneOf, IsClear, Recovery}
 use Rattle.audit_log.proofs.Linking.{but-clear}
 use Rattle.audit_log.proofs.Stepping.{Blocks, blocks-init, blocks-step}
 use Rattle.audit_log.proofs.Walking.{but-falls, but-place, end_of, Fails, place-of, place-within}

@@ -1,7 +1,5 @@
-use Rattle.std.proofs.Common.{length}
-use Rattle.std.specs.Prelude.{◌&&◌}
-use Rattle.std.specs.List.{AllWithin}
-use Rattle.audit_log.specs.Audits.{is_blocking, is_of}
+use Rattle.std.proofs.Common.{length, ◌&&◌}
+use Rattle.audit_log.proofs.Prelude.{AllWithin, is_blocking, is_of}
 use Rattle.audit_log.proofs.Walking.{end_of, Fails, IsPlace}
 use Rattle.audit_log.proofs.walks.blocking_at.Given as goal
 

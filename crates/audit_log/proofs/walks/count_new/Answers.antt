@@ -1,6 +1,5 @@
-use Rattle.std.proofs.Common.{◌≡◌, ◌<◌, drop, length, ap, subst, arith}
-use Rattle.std.specs.Prelude.{count_by}
-use Rattle.audit_log.specs.Index.{DoneOf}
+use Rattle.std.proofs.Common.{◌≡◌, ◌<◌, drop, length, ap, subst, arith, count_by}
+use Rattle.audit_log.proofs.Prelude.{DoneOf}
 use Rattle.audit_log.proofs.Stepping.{count-fits, count-init, count-step, New}
 use Rattle.audit_log.proofs.Walking.{but-falls, but-place, end_of, place-within}
 use Rattle.audit_log.proofs.walks.count_new.Goals as goal

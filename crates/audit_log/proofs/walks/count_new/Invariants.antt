@@ -1,6 +1,5 @@
-use Rattle.std.proofs.Common.{◌≡◌, drop}
-use Rattle.std.specs.Prelude.{count_by}
-use Rattle.audit_log.specs.Audits.{is_new}
+use Rattle.std.proofs.Common.{◌≡◌, drop, count_by}
+use Rattle.audit_log.proofs.Prelude.{is_new}
 use Rattle.audit_log.proofs.Walking.{end_of, IsPlace}
 use Rattle.audit_log.proofs.walks.count_new.Given as goal
 

@@ -1,7 +1,5 @@
 use Rattle.std.proofs.Common.{◌≡◌, ◌<◌, ◌∙◌, cond, Some, length, sym, ap, subst, arith}
-use Rattle.kept_rows.specs.declared.recovery.Recovery.{Recovery}
-use Rattle.audit_log.specs.Apart.{IsClear}
-use Rattle.audit_log.specs.Index.{DoneOf}
+use Rattle.audit_log.proofs.Prelude.{DoneOf, IsClear, Recovery}
 use Rattle.audit_log.proofs.Linking.{but-clear}
 use Rattle.audit_log.proofs.Stepping.{first-init, first-step, Open}
 use Rattle.audit_log.proofs.Walking.{but-falls, but-place, end_of, FirstFrom, place-of, place-within}

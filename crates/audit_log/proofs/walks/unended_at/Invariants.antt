@@ -1,5 +1,5 @@
 use Rattle.std.specs.Prelude.{◌&&◌}
-use Rattle.audit_log.specs.Audits.{is_of, is_unended}
+use Rattle.audit_log.proofs.Prelude.{is_of, is_unended}
 use Rattle.audit_log.proofs.Walking.{end_of, FirstFrom, IsPlace}
 use Rattle.audit_log.proofs.walks.unended_at.Given as goal
 

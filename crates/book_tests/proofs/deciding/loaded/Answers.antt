@@ -1,5 +1,4 @@
-use Rattle.std.proofs.Common.{ℕ, ◌<◌, ◌≤◌, List, sym, ◌∙◌, ap, subst, arith}
-use Rattle.std.specs.Prelude.{All}
+use Rattle.std.proofs.Common.{ℕ, ◌<◌, ◌≤◌, List, sym, ◌∙◌, ap, subst, arith, All}
 use Rattle.instance_keeper.specs.KeptRows.Rows.{IsRising}
 use Rattle.instance_keeper.specs.KeptRows.declared.recovery.Recovery.{Recovery}
 use Rattle.audit_log.specs.Audits.{longest_block, IsAudit}

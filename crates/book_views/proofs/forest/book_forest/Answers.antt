@@ -1,8 +1,5 @@
 use Rattle.std.proofs.Common.{◌≡◌, ℕ, List, Option, length, ap, sym, ◌∙◌, subst, arith}
-use Rattle.std.proofs.lemmas.Result.{IfOk-weaker}
-use Rattle.topology_tree.specs.Forests.{IsClosed, IsForestOf}
-use Rattle.topology_tree.proofs.Computed.{forest-computed}
-use Rattle.book_views.specs.Forests.{book_forest, source_nodes}
+use Rattle.book_views.proofs.Prelude.{IfOk-weaker, IsClosed, IsForestOf, book_forest, forest-computed, source_nodes}
 use Rattle.book_views.proofs.Nodes.{nodes-closed, length-nodes}
 use Rattle.book_views.proofs.forest.book_forest.Goals as goal
 

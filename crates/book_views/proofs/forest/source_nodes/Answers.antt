@@ -1,6 +1,5 @@
 use Rattle.std.proofs.Common.{map, ap, ◌∙◌}
-use Rattle.std.proofs.lemmas.List.{take_all}
-use Rattle.book_views.specs.Forests.{source_node, source_nodes}
+use Rattle.book_views.proofs.Prelude.{source_node, source_nodes, take_all}
 use Rattle.book_views.proofs.forest.source_nodes.Goals as goal
 
 pub returns : goal.returns

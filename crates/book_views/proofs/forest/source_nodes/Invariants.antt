@@ -1,5 +1,5 @@
 use Rattle.std.proofs.Common.{◌≡◌, map, take}
-use Rattle.book_views.specs.Forests.{source_node}
+use Rattle.book_views.proofs.Prelude.{source_node}
 use Rattle.book_views.proofs.forest.source_nodes.Given as goal
 
 abbrev pub invariant-loop-no : goal.invariant-loop-no

@@ -1,5 +1,4 @@
-use Rattle.std.proofs.Common.{◌<◌, length, ◌∙◌, ap, sym, arith}
-use Rattle.std.specs.Prelude.{is_some}
+use Rattle.std.proofs.Common.{◌<◌, length, ◌∙◌, ap, sym, arith, is_some}
 use Rattle.book_views.proofs.Reading.{place-at, places-all}
 use Rattle.book_views.proofs.sources.is_instance_in.Goals as goal
 

@@ -1,6 +1,5 @@
-use Rattle.std.proofs.Common.{◌≡◌, take}
-use Rattle.std.specs.Prelude.{filter}
-use Rattle.book_views.specs.Sources.{is_replica_of}
+use Rattle.std.proofs.Common.{◌≡◌, take, filter}
+use Rattle.book_views.proofs.Prelude.{is_replica_of}
 use Rattle.book_views.proofs.sources.replicas.Given as goal
 
 abbrev pub invariant-loop-no : goal.invariant-loop-no

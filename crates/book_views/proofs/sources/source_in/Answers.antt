@@ -1,8 +1,5 @@
 use Rattle.std.proofs.Common.{◌≡◌, ◌<◌, ◌∙◌, length, true, ap, subst, sym, arith}
-use Rattle.instance_keeper.specs.OrchBase.declared.server.SourceState.{SourceState}
-use Rattle.instance_keeper.specs.KeptRows.Servers.{are_known, source_servers}
-use Rattle.instance_keeper.specs.Book.{instance_at}
-use Rattle.book_views.specs.Sources.{seen_source}
+use Rattle.book_views.proofs.Prelude.{SourceState, are_known, instance_at, seen_source, source_servers}
 use Rattle.book_views.proofs.Reading.{place-at, places-all, source-known}
 use Rattle.book_views.proofs.sources.source_in.Goals as goal
 
@@ -11,18 +8,17 @@ bounds-instances-no c =
     let all = places-all c.args.book.now c.args.instances.now c.requires.instances in
     omega (arith, c.requires.no, all, c.servers.ensures.holds.instances)
 
-pub returns-clause-source : goal.returns-clause-source
-returns-clause-source c =
+pub returns : goal.returns
+returns c =
     let all = places-all c.args.book.now c.args.instances.now c.requires.instances in
     let within : c.args.no.0 < length c.args.instances.now = omega (arith, c.requires.no, all, c.servers.ensures.holds.instances) in
-    c.source_of.ensures ∙ ap seen_source (sym (place-at c.args.book.now c.args.instances.now c.args.no.0 c.index-instances-no.result c.requires.instances within c.index-instances-no.is))
-
-pub returns-clause-known : goal.returns-clause-known
-returns-clause-known c =
-    let all = places-all c.args.book.now c.args.instances.now c.requires.instances in
-    let within : c.args.no.0 < length c.args.instances.now = omega (arith, c.requires.no, all, c.servers.ensures.holds.instances) in
-    let source : c.source_of.result ≡ seen_source (instance_at c.args.book.now c.args.no) =
-    c.source_of.ensures ∙ ap seen_source (sym (place-at c.args.book.now c.args.instances.now c.args.no.0 c.index-instances-no.result c.requires.instances within c.index-instances-no.is))
-    in
-    subst (λ (s : SourceState). are_known (length c.args.book.now.names) (source_servers s) ≡ true) (sym source)
-    (source-known c.args.book.now c.args.no c.servers.ensures.holds c.requires.no)
+    record {
+      source =
+          c.source_of.ensures ∙ ap seen_source (sym (place-at c.args.book.now c.args.instances.now c.args.no.0 c.index-instances-no.result c.requires.instances within c.index-instances-no.is));
+      known =
+          let source : c.source_of.result ≡ seen_source (instance_at c.args.book.now c.args.no) =
+          c.source_of.ensures ∙ ap seen_source (sym (place-at c.args.book.now c.args.instances.now c.args.no.0 c.index-instances-no.result c.requires.instances within c.index-instances-no.is))
+          in
+          subst (λ (s : SourceState). are_known (length c.args.book.now.names) (source_servers s) ≡ true) (sym source)
+          (source-known c.args.book.now c.args.no c.servers.ensures.holds c.requires.no);
+    }

@@ -1,7 +1,5 @@
-use Rattle.std.proofs.Common.{◌≡◌, ◌+◌, ◌∙◌, ap}
-use Rattle.unended_jobs.specs.declared.unended.Unended.{Unended}
-use Rattle.command_outcomes.specs.Jobs.{job_by, leases_by, refusal_by}
-use Rattle.command_outcomes.specs.Outcomes.{begun, refusal}
+use Rattle.std.proofs.Common.{◌+◌, ◌∙◌, ap}
+use Rattle.command_outcomes.proofs.Prelude.{Unended, begun, job_by, leases_by, refusal, refusal_by}
 use Rattle.command_outcomes.proofs.Outcomes.{permitted-begun, refused-begun}
 use Rattle.command_outcomes.proofs.command.begin_by_forest.Goals as goal
 

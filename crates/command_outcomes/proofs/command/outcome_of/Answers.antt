@@ -1,10 +1,7 @@
 use Rattle.std.proofs.Common.{◌≡◌, ◌+◌, subst, sym}
-use Rattle.std.proofs.lemmas.Result.{IfOk-weaker}
-use Rattle.asking_commands.specs.Answers.{allowed, lines_of, permitted}
+use Rattle.command_outcomes.proofs.Prelude.{IfOk-weaker, LeavesIds, Outcome, allowed, begun_by, decision, discovered, forgotten, job_by, leases_by}
+use Rattle.command_outcomes.proofs.Prelude.{lines_of, next_reading, permitted, question, refusal_by, removal_refusal}
 use Rattle.book_commands.specs.Decisions.{decided_of}
-use Rattle.command_outcomes.specs.Jobs.{job_by, leases_by, refusal_by}
-use Rattle.command_outcomes.specs.Outcomes.{Outcome, begun_by, decision, discovered, forgotten, next_reading, question, removal_refusal}
-use Rattle.command_outcomes.specs.Ids.{LeavesIds}
 use Rattle.command_outcomes.specs.CommandsBy.{outcome}
 use Rattle.command_outcomes.specs.declared.command.Outcome.{Outcome as Inside}
 use Rattle.command_outcomes.proofs.Outcomes.{asked-leaves, begun-leaves, decided-leaves, discovered-leaves, forgotten-leaves}

@@ -1,6 +1,5 @@
 use Rattle.std.proofs.Common.{◌≡◌, Err, rules}
-use Rattle.asking_commands.specs.Answers.{permitted, unknown_in}
-use Rattle.command_outcomes.specs.Outcomes.{busy_given}
+use Rattle.command_outcomes.proofs.Prelude.{busy_given, permitted, unknown_in}
 use Rattle.command_outcomes.proofs.Outcomes.{refused-first}
 use Rattle.command_outcomes.proofs.command.removal_refusal.Goals as goal
 

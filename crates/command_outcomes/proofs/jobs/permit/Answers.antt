@@ -1,7 +1,5 @@
-use Rattle.std.proofs.Common.{◌≡◌, ◌<◌, length, List, subst, sym}
-use Rattle.std.specs.Prelude.{All}
-use Rattle.std.proofs.lemmas.Result.{IfOk-weaker}
-use Rattle.command_outcomes.proofs.Prelude.{ServerNo, leases_by}
+use Rattle.std.proofs.Common.{◌≡◌, ◌<◌, length, List, subst, sym, All}
+use Rattle.command_outcomes.proofs.Prelude.{IfOk-weaker, ServerNo, leases_by}
 use Rattle.command_outcomes.proofs.Begun.{leases-within}
 use Rattle.command_outcomes.proofs.jobs.permit.Goals as goal
 

@@ -1,9 +1,5 @@
-use Rattle.std.proofs.Common.{◌<◌, length, get_or, sym, ◌∙◌, ap, subst, arith}
-use Rattle.std.specs.Prelude.{filter_map, ◌++◌, ◌∷◌, []}
-use Rattle.std.proofs.lemmas.List.{take_all}
-use Rattle.book_views.proofs.Reading.{place-at, places-all}
-use Rattle.failure_analysis.specs.Analysis.{analysis, entry_at}
-use Rattle.failure_analysis.specs.Tallies.{AreParts}
+use Rattle.std.proofs.Common.{◌<◌, length, get_or, sym, ◌∙◌, ap, subst, arith, filter_map, ◌++◌, ◌∷◌, []}
+use Rattle.failure_analysis.proofs.Prelude.{AreParts, analysis, entry_at, place-at, places-all, take_all}
 use Rattle.failure_analysis.proofs.Counting.{tally-parts, tally-read}
 use Rattle.failure_analysis.proofs.Entries.{entries-passed, entries-pushed}
 use Rattle.failure_analysis.proofs.entry.analyse.Goals as goal

@@ -1,6 +1,5 @@
-use Rattle.std.proofs.Common.{◌≡◌, take}
-use Rattle.std.specs.Prelude.{filter_map}
-use Rattle.failure_analysis.specs.Analysis.{entry_at}
+use Rattle.std.proofs.Common.{◌≡◌, take, filter_map}
+use Rattle.failure_analysis.proofs.Prelude.{entry_at}
 use Rattle.failure_analysis.proofs.entry.analyse.Given as goal
 
 abbrev pub invariant-loop-no : goal.invariant-loop-no

@@ -1,5 +1,4 @@
-use Rattle.instance_keeper.specs.NameOrder.NameOrder.{by_name}
-use Rattle.failure_analysis.specs.Analysis.{analysis}
+use Rattle.failure_analysis.proofs.Prelude.{analysis, by_name}
 use Rattle.failure_analysis.proofs.Counting.{tally-parts}
 use Rattle.failure_analysis.proofs.Entries.{count-is-length, entries-servers}
 use Rattle.failure_analysis.proofs.laws.each_instance_has_one_entry.Goals as goal

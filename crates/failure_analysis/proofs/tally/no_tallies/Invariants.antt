@@ -1,5 +1,5 @@
 use Rattle.std.proofs.Common.{◌≡◌, replicate}
-use Rattle.failure_analysis.specs.Tallies.{no_replicas}
+use Rattle.failure_analysis.proofs.Prelude.{no_replicas}
 use Rattle.failure_analysis.proofs.tally.no_tallies.Given as goal
 
 abbrev pub invariant-loop : goal.invariant-loop

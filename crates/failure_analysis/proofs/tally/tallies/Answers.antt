@@ -1,11 +1,6 @@
 use Rattle.std.proofs.Common.{◌≡◌, ◌<◌, length, get_or, take, Option, Some, None, sym, ◌∙◌, ap, subst, arith}
-use Rattle.std.proofs.lemmas.List.{length-set}
-use Rattle.instance_keeper.specs.KeptRows.declared.observation.Instance.{Instance}
-use Rattle.instance_keeper.specs.OrchBase.declared.server.ServerNo.{ServerNo}
-use Rattle.book_views.specs.Sources.{is_attached_to, seen_source}
-use Rattle.book_views.proofs.Reading.{place-at, places-all}
-use Rattle.failure_analysis.specs.declared.tally.Tally.{Tally}
-use Rattle.failure_analysis.specs.Tallies.{raised, AreParts}
+use Rattle.failure_analysis.proofs.Prelude.{AreParts, Instance, ServerNo, Tally, is_attached_to, length-set, place-at, places-all, raised}
+use Rattle.failure_analysis.proofs.Prelude.{seen_source}
 use Rattle.failure_analysis.proofs.Counting.{not-attached, source-known, tallied-past, tallied-raised, tally-few, tally-parts, tally-read}
 use Rattle.failure_analysis.proofs.tally.tallies.Goals as goal
 use Rattle.failure_analysis.proofs.tally.tallies.Goals.{in-Some+in-Attached, in-Some+in_default-source, in_default}

@@ -1,5 +1,4 @@
-use Rattle.std.proofs.Common.{◌-◌, ◌^◌, min, List, ℕ, ap, ◌∙◌}
-use Rattle.std.specs.Prelude.{option_map}
+use Rattle.std.proofs.Common.{◌-◌, ◌^◌, min, List, ℕ, ap, ◌∙◌, option_map}
 use Rattle.gtid_sets.proofs.Prelude.{number_at}
 use Rattle.gtid_sets.proofs.Pieces.{read_both, read_no_first, read_no_last}
 use Rattle.gtid_sets.proofs.grammar.read_interval.Goals as goal

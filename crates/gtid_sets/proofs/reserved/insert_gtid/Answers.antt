@@ -1,5 +1,4 @@
-use Rattle.std.proofs.Common.{◌≡◌, ◌<◌, ◌≤◌, List, length, drop, true, false, arith, rules, sym, ◌∙◌, ap, subst}
-use Rattle.std.specs.Prelude.{◌-◌}
+use Rattle.std.proofs.Common.{◌≡◌, ◌<◌, ◌≤◌, List, length, drop, true, false, arith, rules, sym, ◌∙◌, ap, subst, ◌-◌}
 use Rattle.gtid_sets.proofs.Prelude.{All, AllWithin, Interval, IsInterval, high, point, touches_first}
 use Rattle.gtid_sets.proofs.Inserts.{IsOnTheWay-first, IsOnTheWay-next, IsOnTheWay-last, touches-there}
 use Rattle.gtid_sets.proofs.reserved.insert_gtid.Goals as goal

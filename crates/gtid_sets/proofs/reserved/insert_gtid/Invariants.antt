@@ -1,5 +1,4 @@
-use Rattle.std.proofs.Common.{◌≡◌, length}
-use Rattle.std.specs.Prelude.{vec_capacity}
+use Rattle.std.proofs.Common.{◌≡◌, length, vec_capacity}
 use Rattle.gtid_sets.proofs.Inserts.{IsOnTheWay}
 use Rattle.gtid_sets.proofs.reserved.insert_gtid.Given as goal
 

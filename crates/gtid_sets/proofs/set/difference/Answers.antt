@@ -1,5 +1,4 @@
-use Rattle.std.proofs.Common.{◌≡◌, ◌+◌, ◌<◌, ◌≤◌, get_or, length, leb, max, sym, ap, ◌∙◌, arith}
-use Rattle.std.specs.Prelude.{◌||◌, ◌&&◌}
+use Rattle.std.proofs.Common.{◌≡◌, ◌+◌, ◌<◌, ◌≤◌, get_or, length, leb, max, sym, ap, ◌∙◌, arith, ◌||◌, ◌&&◌}
 use Rattle.gtid_sets.proofs.Prelude.{Interval, high, low, ltb-false, ltb-true, on_line, point}
 use Rattle.gtid_sets.proofs.Line.{low_high, point_behind}
 use Rattle.gtid_sets.proofs.Search.{same_point, ends_before}

@@ -1,5 +1,4 @@
-use Rattle.std.proofs.Common.{length, ltb, not, ◌-◌, ◌≡◌, ℕ, ◌<◌, ◌≤◌, ◌+◌}
-use Rattle.std.specs.Prelude.{◌&&◌}
+use Rattle.std.proofs.Common.{length, ltb, not, ◌-◌, ◌≡◌, ℕ, ◌<◌, ◌≤◌, ◌+◌, ◌&&◌}
 use Rattle.gtid_sets.proofs.Prelude.{All, AllWithin, high, low, on_line, point}
 use Rattle.gtid_sets.proofs.set.difference.Given as goal
 

@@ -1,5 +1,4 @@
-use Rattle.std.proofs.Common.{length, take, ◌-◌, ◌≡◌, ℕ, ◌≤◌, ◌+◌}
-use Rattle.std.specs.Prelude.{◌||◌}
+use Rattle.std.proofs.Common.{length, take, ◌-◌, ◌≡◌, ℕ, ◌≤◌, ◌+◌, ◌||◌}
 use Rattle.gtid_sets.proofs.Prelude.{All, AllWithin, low, on_line}
 use Rattle.gtid_sets.proofs.set.united.Given as goal
 

@@ -1,5 +1,4 @@
-use Rattle.std.proofs.Common.{◌≡◌, None, length}
-use Rattle.std.specs.Prelude.{replicate}
+use Rattle.std.proofs.Common.{◌≡◌, None, length, replicate}
 use Rattle.instance_keeper.proofs.Prelude.{CountsUp, values}
 use Rattle.instance_keeper.proofs.book.empty_instances.Given as goal
 

@@ -1,7 +1,5 @@
-use Rattle.std.proofs.Common.{sym, ap, ◌∙◌}
-use Rattle.std.specs.Prelude.{option_map, slice_set}
-use Rattle.std.specs.Option.{option_copied_mut}
-use Rattle.instance_keeper.proofs.Prelude.{renewed, values}
+use Rattle.std.proofs.Common.{sym, ap, ◌∙◌, option_map, slice_set}
+use Rattle.instance_keeper.proofs.Prelude.{option_copied_mut, renewed, values}
 use Rattle.instance_keeper.proofs.Counts.{found_there, place_is, put_counts, put_values}
 use Rattle.instance_keeper.proofs.book.renew_at.Goals as goal
 

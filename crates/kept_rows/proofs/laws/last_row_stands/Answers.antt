@@ -1,4 +1,4 @@
-use Rattle.kept_rows.specs.Rows.{sort_key}
+use Rattle.kept_rows.proofs.Prelude.{sort_key}
 use Rattle.kept_rows.proofs.LookUps.{row_in-map_of, map_of_rising}
 use Rattle.kept_rows.proofs.laws.last_row_stands.Goals as goal
 

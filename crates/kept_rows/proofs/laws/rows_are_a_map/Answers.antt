@@ -1,4 +1,4 @@
-use Rattle.kept_rows.specs.Rows.{sort_key}
+use Rattle.kept_rows.proofs.Prelude.{sort_key}
 use Rattle.kept_rows.proofs.LookUps.{row_in-put, row_in-remove, row_in-changed, changed_rising}
 use Rattle.kept_rows.proofs.laws.rows_are_a_map.Goals as goal
 

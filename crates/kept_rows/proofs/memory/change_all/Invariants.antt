@@ -1,5 +1,5 @@
 use Rattle.std.proofs.Common.{◌≡◌, ◌+◌, ◌≤◌, length, vec_len, vec_capacity}
-use Rattle.kept_rows.specs.Rows.{changed, IsRising}
+use Rattle.kept_rows.proofs.Prelude.{IsRising, changed}
 use Rattle.kept_rows.proofs.memory.change_all.Given as goal
 
 abbrev pub invariant-changes : goal.invariant-changes

@@ -1,8 +1,5 @@
 use Rattle.std.proofs.Common.{ℕ, ◌<◌, ◌≤◌, sym, ◌∙◌, subst, arith}
-use Rattle.std.proofs.lemmas.Bool.{ltb-true, ltb-false}
-use Rattle.std.proofs.lemmas.List.Elements.{at_read}
-use Rattle.kept_rows.specs.Rows.{sort_key_of}
-use Rattle.kept_rows.specs.SortKeys.{at}
+use Rattle.kept_rows.proofs.Prelude.{at, at_read, ltb-false, ltb-true, sort_key_of}
 use Rattle.kept_rows.proofs.SortKeys.{first_at, rises_below, rises_above}
 use Rattle.kept_rows.proofs.memory.first_from.Goals as goal
 

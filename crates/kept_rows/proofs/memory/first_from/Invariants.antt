@@ -1,7 +1,5 @@
 use Rattle.std.proofs.Common.{length, ◌-◌, ◌<◌, ◌≤◌}
-use Rattle.std.specs.List.{AllWithin}
-use Rattle.kept_rows.specs.Rows.{sort_key_of}
-use Rattle.kept_rows.specs.SortKeys.{at}
+use Rattle.kept_rows.proofs.Prelude.{AllWithin, at, sort_key_of}
 use Rattle.kept_rows.proofs.memory.first_from.Given as goal
 
 abbrev pub invariant-halves : goal.invariant-halves

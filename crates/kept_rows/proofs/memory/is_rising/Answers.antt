@@ -1,7 +1,5 @@
-use Rattle.std.proofs.Common.{rules}
-use Rattle.std.specs.Prelude.{nat_lt}
-use Rattle.std.proofs.lemmas.List.Sorted.{answers_always}
-use Rattle.kept_rows.specs.Rows.{sort_key_of}
+use Rattle.std.proofs.Common.{rules, nat_lt}
+use Rattle.kept_rows.proofs.Prelude.{answers_always, sort_key_of}
 use Rattle.kept_rows.proofs.Rising.{adjacent_rise}
 use Rattle.kept_rows.proofs.memory.is_rising.Goals as goal
 

@@ -1,6 +1,5 @@
-use Rattle.std.proofs.Common.{◌≡◌, ◌+◌, ◌≤◌, length, vec_len, vec_capacity}
-use Rattle.std.specs.Prelude.{fold}
-use Rattle.kept_rows.specs.Rows.{put, IsRising}
+use Rattle.std.proofs.Common.{◌≡◌, ◌+◌, ◌≤◌, length, vec_len, vec_capacity, fold}
+use Rattle.kept_rows.proofs.Prelude.{IsRising, put}
 use Rattle.kept_rows.proofs.memory.put_all.Given as goal
 
 abbrev pub invariant-rows : goal.invariant-rows

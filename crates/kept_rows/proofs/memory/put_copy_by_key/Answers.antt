@@ -1,6 +1,5 @@
-use Rattle.std.proofs.Common.{◌∙◌, ap}
-use Rattle.std.specs.Prelude.{slice_set}
-use Rattle.kept_rows.specs.declared.row.Row.{Row}
+use Rattle.std.proofs.Common.{◌∙◌, ap, slice_set}
+use Rattle.kept_rows.proofs.Prelude.{Row}
 use Rattle.kept_rows.proofs.SortKeys.{puts_there, rising_as_put}
 use Rattle.kept_rows.proofs.memory.put_copy_by_key.Goals as goal
 

@@ -1,5 +1,5 @@
 use Rattle.std.proofs.Common.{arith}
-use Rattle.std.proofs.lemmas.Grind.{common_steps}
+use Rattle.kept_rows.proofs.Prelude.{common_steps}
 use Rattle.kept_rows.proofs.SortKeys.{puts_there, puts_new, rising_as_put}
 use Rattle.kept_rows.proofs.memory.put_row.Goals as goal
 

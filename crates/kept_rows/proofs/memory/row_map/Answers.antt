@@ -1,5 +1,5 @@
 use Rattle.std.proofs.Common.{subst, sym}
-use Rattle.kept_rows.specs.Rows.{IsRising}
+use Rattle.kept_rows.proofs.Prelude.{IsRising}
 use Rattle.kept_rows.proofs.Rising.{map_of-risen}
 use Rattle.kept_rows.proofs.memory.row_map.Goals as goal
 

@@ -9,73 +9,39 @@ use Rattle.live_calls.proofs.top.orch.Goals as goal
 
 -- ---- the command line asks for a live run
 
-pub returns-in-Ok-Some-clause-usage : goal.returns-in-Ok-Some-clause-usage
-returns-in-Ok-Some-clause-usage g c =
-    let words : List (List ℕ) = map (λ w. w.items) c.args.words.now in
-    subst (λ (n : ℕ). IsUsage words n) (sym c.status.ensures) (no_usage words c.in-Ok-Some.places c.answer.result (are_live _ _ _ c.in-Ok-Some.field-0-is c.in-Ok-Some.ensures).0 c.answer.ensures.not_usage)
-
-pub returns-in-Ok-Some-clause-fault : goal.returns-in-Ok-Some-clause-fault
-returns-in-Ok-Some-clause-fault g c = λ plain. absurd (never_both (map (λ w. w.items) c.args.words.now) plain (record { places = c.in-Ok-Some.places; taken = (are_live _ _ _ c.in-Ok-Some.field-0-is c.in-Ok-Some.ensures).0; live = (are_live _ _ _ c.in-Ok-Some.field-0-is c.in-Ok-Some.ensures).1 }))
-
-pub returns-in-Ok-Some-clause-live_fault : goal.returns-in-Ok-Some-clause-live_fault
-returns-in-Ok-Some-clause-live_fault g c = λ ask.
-    let words : List (List ℕ) = map (λ w. w.items) c.args.words.now in
-    known (g.S.Source.left c.args.scenario.now) _ _
-    (λ bytes e. subst (λ (n : ℕ). FaultsBy (live_scenario bytes) n) (sym c.status.ensures) (faults (call words bytes _ _ _ _) c.answer.result e)) (c.answer.ensures.ends words (are_live _ _ _ c.in-Ok-Some.field-0-is c.in-Ok-Some.ensures).0)
-
-pub returns-in-Ok-Some-clause-source : goal.returns-in-Ok-Some-clause-source
-returns-in-Ok-Some-clause-source g c = λ three. c.answer.ensures.source (of_three c.answer.result (sym c.status.ensures ∙ three))
-
-pub returns-in-Ok-Some-clause-sink : goal.returns-in-Ok-Some-clause-sink
-returns-in-Ok-Some-clause-sink g c = λ four. inl (c.answer.ensures.sink (of_four c.answer.result (sym c.status.ensures ∙ four)))
-
-pub returns-in-Ok-Some-clause-keeper : goal.returns-in-Ok-Some-clause-keeper
-returns-in-Ok-Some-clause-keeper g c = subst (λ (n : ℕ). FailsByKeeper (g.K.Keeper.faults c.args.keeper.now) (g.K.Keeper.faults c.answer.new.keeper) n) (sym c.status.ensures) c.answer.ensures.keeper
-
-pub returns-in-Ok-Some-clause-read : goal.returns-in-Ok-Some-clause-read
-returns-in-Ok-Some-clause-read g c =
-    let words : List (List ℕ) = map (λ w. w.items) c.args.words.now in
-    read_whole words (g.S.Source.left c.args.scenario.now) (g.S.Source.left c.answer.new.source) _ _ _ _ c.answer.result _ c.status.ensures c.answer.ensures.read (c.answer.ensures.ends words (are_live _ _ _ c.in-Ok-Some.field-0-is c.in-Ok-Some.ensures).0)
-
-pub returns-in-Ok-Some-clause-drawn : goal.returns-in-Ok-Some-clause-drawn
-returns-in-Ok-Some-clause-drawn g c = λ d ask. absurd (live_draws_nothing (map (λ w. w.items) c.args.words.now) c.in-Ok-Some.places d (are_live _ _ _ c.in-Ok-Some.field-0-is c.in-Ok-Some.ensures).0 (are_live _ _ _ c.in-Ok-Some.field-0-is c.in-Ok-Some.ensures).1 ask)
-
-pub returns-in-Ok-Some-clause-unread : goal.returns-in-Ok-Some-clause-unread
-returns-in-Ok-Some-clause-unread g c = λ d ask. absurd (live_draws_nothing (map (λ w. w.items) c.args.words.now) c.in-Ok-Some.places d (are_live _ _ _ c.in-Ok-Some.field-0-is c.in-Ok-Some.ensures).0 (are_live _ _ _ c.in-Ok-Some.field-0-is c.in-Ok-Some.ensures).1 ask)
-
-pub returns-in-Ok-Some-clause-unkept : goal.returns-in-Ok-Some-clause-unkept
-returns-in-Ok-Some-clause-unkept g c = λ d ask. absurd (live_draws_nothing (map (λ w. w.items) c.args.words.now) c.in-Ok-Some.places d (are_live _ _ _ c.in-Ok-Some.field-0-is c.in-Ok-Some.ensures).0 (are_live _ _ _ c.in-Ok-Some.field-0-is c.in-Ok-Some.ensures).1 ask)
-
-pub returns-in-Ok-Some-clause-live : goal.returns-in-Ok-Some-clause-live
-returns-in-Ok-Some-clause-live g c = λ ask. lifted (g.S.Source.left c.args.scenario.now) _ _ (λ bytes e. (c.answer.result, c.status.ensures, e)) (c.answer.ensures.ends (map (λ w. w.items) c.args.words.now) (are_live _ _ _ c.in-Ok-Some.field-0-is c.in-Ok-Some.ensures).0)
-
-pub returns-in-Ok-Some-clause-ends : goal.returns-in-Ok-Some-clause-ends
-returns-in-Ok-Some-clause-ends g c = λ plain. absurd (never_both (map (λ w. w.items) c.args.words.now) plain (record { places = c.in-Ok-Some.places; taken = (are_live _ _ _ c.in-Ok-Some.field-0-is c.in-Ok-Some.ensures).0; live = (are_live _ _ _ c.in-Ok-Some.field-0-is c.in-Ok-Some.ensures).1 }))
-
-pub returns-in-Ok-Some-clause-status : goal.returns-in-Ok-Some-clause-status
-returns-in-Ok-Some-clause-status g c = λ plain. absurd (never_both (map (λ w. w.items) c.args.words.now) plain (record { places = c.in-Ok-Some.places; taken = (are_live _ _ _ c.in-Ok-Some.field-0-is c.in-Ok-Some.ensures).0; live = (are_live _ _ _ c.in-Ok-Some.field-0-is c.in-Ok-Some.ensures).1 }))
-
-pub returns-in-Ok-Some-clause-out : goal.returns-in-Ok-Some-clause-out
-returns-in-Ok-Some-clause-out g c = λ plain. absurd (never_both (map (λ w. w.items) c.args.words.now) plain (record { places = c.in-Ok-Some.places; taken = (are_live _ _ _ c.in-Ok-Some.field-0-is c.in-Ok-Some.ensures).0; live = (are_live _ _ _ c.in-Ok-Some.field-0-is c.in-Ok-Some.ensures).1 }))
-
-pub returns-in-Ok-Some-clause-err : goal.returns-in-Ok-Some-clause-err
-returns-in-Ok-Some-clause-err g c = λ plain. absurd (never_both (map (λ w. w.items) c.args.words.now) plain (record { places = c.in-Ok-Some.places; taken = (are_live _ _ _ c.in-Ok-Some.field-0-is c.in-Ok-Some.ensures).0; live = (are_live _ _ _ c.in-Ok-Some.field-0-is c.in-Ok-Some.ensures).1 }))
-
-pub returns-in-Ok-Some-clause-kept : goal.returns-in-Ok-Some-clause-kept
-returns-in-Ok-Some-clause-kept g c = λ plain. absurd (never_both (map (λ w. w.items) c.args.words.now) plain (record { places = c.in-Ok-Some.places; taken = (are_live _ _ _ c.in-Ok-Some.field-0-is c.in-Ok-Some.ensures).0; live = (are_live _ _ _ c.in-Ok-Some.field-0-is c.in-Ok-Some.ensures).1 }))
-
-pub returns-in-Ok-Some-clause-complete : goal.returns-in-Ok-Some-clause-complete
-returns-in-Ok-Some-clause-complete g c =
-    let words : List (List ℕ) = map (λ w. w.items) c.args.words.now in
-    known (g.S.Source.left c.args.scenario.now) _ _
-    (λ bytes e good alone none. subst IsComplete (sym c.status.ensures) (complete (call words bytes _ _ _ _) c.answer.result _ _ _ _ (record { places = c.in-Ok-Some.places; taken = (are_live _ _ _ c.in-Ok-Some.field-0-is c.in-Ok-Some.ensures).0; live = (are_live _ _ _ c.in-Ok-Some.field-0-is c.in-Ok-Some.ensures).1 }) c.answer.ensures.source c.answer.ensures.sink (keeper_rose _ _ c.answer.result c.answer.ensures.keeper) e good alone none))
-    (c.answer.ensures.ends words (are_live _ _ _ c.in-Ok-Some.field-0-is c.in-Ok-Some.ensures).0)
-
-pub returns-in-Ok-Some-clause-promises : goal.returns-in-Ok-Some-clause-promises
-returns-in-Ok-Some-clause-promises g c = promised (map (λ w. w.items) c.args.words.now)
-
-pub returns-in-Ok-Some-clause-well : goal.returns-in-Ok-Some-clause-well
-returns-in-Ok-Some-clause-well g c = goes_well (map (λ w. w.items) c.args.words.now)
+pub returns-in-Ok-Some : goal.returns-in-Ok-Some
+returns-in-Ok-Some g c = record {
+  usage =
+      let words : List (List ℕ) = map (λ w. w.items) c.args.words.now in
+      subst (λ (n : ℕ). IsUsage words n) (sym c.status.ensures) (no_usage words c.in-Ok-Some.places c.answer.result (are_live _ _ _ c.in-Ok-Some.field-0-is c.in-Ok-Some.ensures).0 c.answer.ensures.not_usage);
+  fault = λ plain. absurd (never_both (map (λ w. w.items) c.args.words.now) plain (record { places = c.in-Ok-Some.places; taken = (are_live _ _ _ c.in-Ok-Some.field-0-is c.in-Ok-Some.ensures).0; live = (are_live _ _ _ c.in-Ok-Some.field-0-is c.in-Ok-Some.ensures).1 }));
+  live_fault = λ ask.
+      let words : List (List ℕ) = map (λ w. w.items) c.args.words.now in
+      known (g.S.Source.left c.args.scenario.now) _ _
+      (λ bytes e. subst (λ (n : ℕ). FaultsBy (live_scenario bytes) n) (sym c.status.ensures) (faults (call words bytes _ _ _ _) c.answer.result e)) (c.answer.ensures.ends words (are_live _ _ _ c.in-Ok-Some.field-0-is c.in-Ok-Some.ensures).0);
+  source = λ three. c.answer.ensures.source (of_three c.answer.result (sym c.status.ensures ∙ three));
+  sink = λ four. inl (c.answer.ensures.sink (of_four c.answer.result (sym c.status.ensures ∙ four)));
+  keeper = subst (λ (n : ℕ). FailsByKeeper (g.K.Keeper.faults c.args.keeper.now) (g.K.Keeper.faults c.answer.new.keeper) n) (sym c.status.ensures) c.answer.ensures.keeper;
+  read =
+      let words : List (List ℕ) = map (λ w. w.items) c.args.words.now in
+      read_whole words (g.S.Source.left c.args.scenario.now) (g.S.Source.left c.answer.new.source) _ _ _ _ c.answer.result _ c.status.ensures c.answer.ensures.read (c.answer.ensures.ends words (are_live _ _ _ c.in-Ok-Some.field-0-is c.in-Ok-Some.ensures).0);
+  drawn = λ d ask. absurd (live_draws_nothing (map (λ w. w.items) c.args.words.now) c.in-Ok-Some.places d (are_live _ _ _ c.in-Ok-Some.field-0-is c.in-Ok-Some.ensures).0 (are_live _ _ _ c.in-Ok-Some.field-0-is c.in-Ok-Some.ensures).1 ask);
+  unread = λ d ask. absurd (live_draws_nothing (map (λ w. w.items) c.args.words.now) c.in-Ok-Some.places d (are_live _ _ _ c.in-Ok-Some.field-0-is c.in-Ok-Some.ensures).0 (are_live _ _ _ c.in-Ok-Some.field-0-is c.in-Ok-Some.ensures).1 ask);
+  unkept = λ d ask. absurd (live_draws_nothing (map (λ w. w.items) c.args.words.now) c.in-Ok-Some.places d (are_live _ _ _ c.in-Ok-Some.field-0-is c.in-Ok-Some.ensures).0 (are_live _ _ _ c.in-Ok-Some.field-0-is c.in-Ok-Some.ensures).1 ask);
+  live = λ ask. lifted (g.S.Source.left c.args.scenario.now) _ _ (λ bytes e. (c.answer.result, c.status.ensures, e)) (c.answer.ensures.ends (map (λ w. w.items) c.args.words.now) (are_live _ _ _ c.in-Ok-Some.field-0-is c.in-Ok-Some.ensures).0);
+  ends = λ plain. absurd (never_both (map (λ w. w.items) c.args.words.now) plain (record { places = c.in-Ok-Some.places; taken = (are_live _ _ _ c.in-Ok-Some.field-0-is c.in-Ok-Some.ensures).0; live = (are_live _ _ _ c.in-Ok-Some.field-0-is c.in-Ok-Some.ensures).1 }));
+  status = λ plain. absurd (never_both (map (λ w. w.items) c.args.words.now) plain (record { places = c.in-Ok-Some.places; taken = (are_live _ _ _ c.in-Ok-Some.field-0-is c.in-Ok-Some.ensures).0; live = (are_live _ _ _ c.in-Ok-Some.field-0-is c.in-Ok-Some.ensures).1 }));
+  out = λ plain. absurd (never_both (map (λ w. w.items) c.args.words.now) plain (record { places = c.in-Ok-Some.places; taken = (are_live _ _ _ c.in-Ok-Some.field-0-is c.in-Ok-Some.ensures).0; live = (are_live _ _ _ c.in-Ok-Some.field-0-is c.in-Ok-Some.ensures).1 }));
+  err = λ plain. absurd (never_both (map (λ w. w.items) c.args.words.now) plain (record { places = c.in-Ok-Some.places; taken = (are_live _ _ _ c.in-Ok-Some.field-0-is c.in-Ok-Some.ensures).0; live = (are_live _ _ _ c.in-Ok-Some.field-0-is c.in-Ok-Some.ensures).1 }));
+  kept = λ plain. absurd (never_both (map (λ w. w.items) c.args.words.now) plain (record { places = c.in-Ok-Some.places; taken = (are_live _ _ _ c.in-Ok-Some.field-0-is c.in-Ok-Some.ensures).0; live = (are_live _ _ _ c.in-Ok-Some.field-0-is c.in-Ok-Some.ensures).1 }));
+  complete =
+      let words : List (List ℕ) = map (λ w. w.items) c.args.words.now in
+      known (g.S.Source.left c.args.scenario.now) _ _
+      (λ bytes e good alone none. subst IsComplete (sym c.status.ensures) (complete (call words bytes _ _ _ _) c.answer.result _ _ _ _ (record { places = c.in-Ok-Some.places; taken = (are_live _ _ _ c.in-Ok-Some.field-0-is c.in-Ok-Some.ensures).0; live = (are_live _ _ _ c.in-Ok-Some.field-0-is c.in-Ok-Some.ensures).1 }) c.answer.ensures.source c.answer.ensures.sink (keeper_rose _ _ c.answer.result c.answer.ensures.keeper) e good alone none))
+      (c.answer.ensures.ends words (are_live _ _ _ c.in-Ok-Some.field-0-is c.in-Ok-Some.ensures).0);
+  promises = promised (map (λ w. w.items) c.args.words.now);
+  well = goes_well (map (λ w. w.items) c.args.words.now);
+}
 
 -- ---- they don't
 

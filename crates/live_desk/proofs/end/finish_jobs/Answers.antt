@@ -1,5 +1,4 @@
-use Rattle.std.proofs.Common.{◌≡◌, ◌∙◌, List, Some, length, sym, ap, subst, arith}
-use Rattle.std.specs.Prelude.{All, ◌<◌, slice_get}
+use Rattle.std.proofs.Common.{◌≡◌, ◌∙◌, List, Some, length, sym, ap, subst, arith, All, ◌<◌, slice_get}
 use Rattle.live_desk.proofs.Prelude.{Unended, is_open, without-less}
 use Rattle.live_desk.proofs.Ends.{RunsOn-finished, RunsOn-none, first-open}
 use Rattle.live_desk.proofs.end.finish_jobs.Goals as goal

@@ -1,5 +1,4 @@
-use Rattle.std.proofs.Common.{◌≡◌, ℕ, subst}
-use Rattle.std.specs.Prelude.{IfOk}
+use Rattle.std.proofs.Common.{◌≡◌, ℕ, subst, IfOk}
 use Rattle.live_desk.proofs.Prelude.{Scenario, rows_after, state_after}
 use Rattle.live_desk.proofs.live_run.live_to_end.Goals as goal
 

@@ -1,5 +1,4 @@
-use Rattle.std.proofs.Common.{◌≡◌, ℕ, ◌<◌, length, Some}
-use Rattle.std.specs.Prelude.{slice_get}
+use Rattle.std.proofs.Common.{◌≡◌, ℕ, ◌<◌, length, Some, slice_get}
 use Rattle.openings.specs.Opening.{IsServer}
 use Rattle.openings.specs.declared.init.ServerInit.{ServerInit}
 use Rattle.made_openings.proofs.listed.are_servers.Given as goal

@@ -1,5 +1,4 @@
-use Rattle.std.proofs.Common.{◌≡◌, ℕ, ◌<◌, Some}
-use Rattle.std.specs.Prelude.{slice_get}
+use Rattle.std.proofs.Common.{◌≡◌, ℕ, ◌<◌, Some, slice_get}
 use Rattle.openings.specs.Apart.{IsApart}
 use Rattle.openings.specs.declared.init.ServerInit.{ServerInit}
 use Rattle.made_openings.proofs.listed.is_apart_from.Given as goal

@@ -1,9 +1,7 @@
-use Rattle.std.proofs.Common.{◌≡◌, ◌≤◌, length, sym, subst, ap, ◌∙◌, List, Some, refl, arith}
-use Rattle.std.specs.Prelude.{slice_get, All}
+use Rattle.std.proofs.Common.{◌≡◌, ◌≤◌, length, sym, subst, ap, ◌∙◌, List, Some, refl, arith, slice_get, All}
 use Rattle.std.proofs.lemmas.Option.{slice_get_read}
-use Rattle.openings.specs.Taking.{HasSize}
+use Rattle.openings.specs.Taking.{HasSize, PartsInRange}
 use Rattle.openings.specs.Servers.{history_at}
-use Rattle.openings.specs.Taking.{PartsInRange}
 use Rattle.openings.specs.declared.init.ServerInit.{ServerInit}
 use Rattle.model_tests.proofs.CheckedOnes.{checked-parts, checked-few, checked-flushes}
 use Rattle.model_tests.proofs.starts.log.Goals as goal

@@ -1,5 +1,4 @@
-use Rattle.std.proofs.Common.{rules, ◌≡◌, ℕ, Vec, Global, Bor, map, length, ap, sym, ◌∙◌, subst}
-use Rattle.std.specs.Prelude.{All, ◌<◌}
+use Rattle.std.proofs.Common.{rules, ◌≡◌, ℕ, Vec, Global, Bor, map, length, ap, sym, ◌∙◌, subst, All, ◌<◌}
 use Rattle.name_order.proofs.Prelude.{HostPort, IfOk-weaker, IsOrder, ServerNo, answers_always, by_name}
 use Rattle.name_order.proofs.ByName.{length-by_name, IsOrder-by_name}
 use Rattle.name_order.proofs.Arranged.{by_name-within, less, less_weak, sorted_is_by_name}

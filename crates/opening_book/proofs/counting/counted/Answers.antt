@@ -1,5 +1,4 @@
-use Rattle.std.proofs.Common.{◌∙◌, List, ap}
-use Rattle.std.specs.Prelude.{filter}
+use Rattle.std.proofs.Common.{◌∙◌, List, ap, filter}
 use Rattle.opening_book.proofs.Prelude.{Row, counts}
 use Rattle.opening_book.proofs.counting.counted.Goals as goal
 

@@ -1,5 +1,4 @@
-use Rattle.std.proofs.Common.{◌∙◌, List, ap, sym}
-use Rattle.std.specs.Prelude.{filter}
+use Rattle.std.proofs.Common.{◌∙◌, List, ap, sym, filter}
 use Rattle.opening_book.proofs.Prelude.{Row, counts, map_of-risen}
 use Rattle.opening_book.proofs.counting.counted_in_order.Goals as goal
 

@@ -1,5 +1,4 @@
-use Rattle.std.proofs.Common.{◌≡◌, ℕ, Bool, Option, Some, None, sym, ◌∙◌, ap}
-use Rattle.std.specs.Prelude.{IfSome, option_map}
+use Rattle.std.proofs.Common.{◌≡◌, ℕ, Bool, Option, Some, None, sym, ◌∙◌, ap, IfSome, option_map}
 use Rattle.opening_book.proofs.Prelude.{Instance, Moment, Server, Status, World, can_reach, opening_instance, same_Some, server_at, shown_of}
 use Rattle.opening_book.proofs.opening.instance.Goals as goal
 

@@ -1,5 +1,4 @@
-use Rattle.std.proofs.Common.{◌<◌, ◌+◌, ◌∙◌, ap, sym, get_or, length, drop, Some}
-use Rattle.std.specs.Prelude.{◌&&◌}
+use Rattle.std.proofs.Common.{◌<◌, ◌+◌, ◌∙◌, ap, sym, get_or, length, drop, Some, ◌&&◌}
 use Rattle.opening_checks.proofs.Prelude.{Txn, agrees_at, links_after, list_all}
 use Rattle.opening_checks.proofs.KinSteps.{agrees-on}
 use Rattle.opening_checks.proofs.kin.agrees_throughout.Goals as goal

@@ -1,5 +1,4 @@
-use Rattle.std.proofs.Common.{◌≡◌, ◌∙◌, ap, sym, subst, true, List, ◌+◌, Some, length, refl}
-use Rattle.std.specs.Prelude.{slice_get, is_some, not}
+use Rattle.std.proofs.Common.{◌≡◌, ◌∙◌, ap, sym, subst, true, List, ◌+◌, Some, length, refl, slice_get, is_some, not}
 use Rattle.opening_checks.proofs.Prelude.{IsTable, Link, not_kin, slice_get_read}
 use Rattle.opening_checks.proofs.KinTables.{first_met-on, lists-after, lists-here, not_kin-kin, not_kin-skip, source-there, IsTable-skip}
 use Rattle.opening_checks.proofs.kin.first_not_kin.Goals.{then-is_none+in_ok-is_kin+else-not-is_kin, else-is_none}

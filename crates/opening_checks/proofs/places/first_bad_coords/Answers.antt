@@ -1,5 +1,4 @@
-use Rattle.std.proofs.Common.{◌≡◌, ◌∙◌, length, refl, subst, Some, Option}
-use Rattle.std.specs.Prelude.{IfSome, slice_get}
+use Rattle.std.proofs.Common.{◌≡◌, ◌∙◌, length, refl, subst, Some, Option, IfSome, slice_get}
 use Rattle.opening_checks.proofs.Prelude.{FlawedValue, coord_value, slice_get_read}
 use Rattle.opening_checks.proofs.Purgings.{coords-blamed_at}
 use Rattle.opening_checks.proofs.places.first_bad_coords.Goals as goal

@@ -1,5 +1,4 @@
-use Rattle.std.proofs.Common.{◌≡◌, ◌∙◌, ap, sym, subst}
-use Rattle.std.specs.Prelude.{All}
+use Rattle.std.proofs.Common.{◌≡◌, ◌∙◌, ap, sym, subst, All}
 use Rattle.opening_checks.proofs.Prelude.{HasSize, IfOk-weaker, history_at, history_at-sized, log_by, log_in}
 use Rattle.opening_checks.proofs.source_logs.log_at.Goals as goal
 

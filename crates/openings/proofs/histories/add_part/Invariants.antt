@@ -1,5 +1,4 @@
-use Rattle.std.proofs.Common.{◌≡◌}
-use Rattle.std.specs.Prelude.{vec_capacity}
+use Rattle.std.proofs.Common.{◌≡◌, vec_capacity}
 use Rattle.openings.proofs.Joined.{Adds}
 use Rattle.openings.proofs.histories.add_part.Given as goal
 

@@ -1,5 +1,4 @@
-use Rattle.std.proofs.Common.{◌∙◌, ap, sym, subst, length, arith}
-use Rattle.std.specs.Prelude.{All}
+use Rattle.std.proofs.Common.{◌∙◌, ap, sym, subst, length, arith, All}
 use Rattle.openings.proofs.Prelude.{HasSize, IfOk-weaker, IsPart, root_of}
 use Rattle.openings.proofs.Sizes.{root-parts, history_at-joined, history_at-sized, parts_at-in_range}
 use Rattle.openings.proofs.histories.history_at.Goals as goal

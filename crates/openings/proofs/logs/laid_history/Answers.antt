@@ -1,5 +1,4 @@
-use Rattle.std.proofs.Common.{◌≤◌, ℕ, ap, sym, subst, arith, length}
-use Rattle.std.specs.Prelude.{All}
+use Rattle.std.proofs.Common.{◌≤◌, ℕ, ap, sym, subst, arith, length, All}
 use Rattle.openings.proofs.Prelude.{Index}
 use Rattle.openings.proofs.Laid.{good-points}
 use Rattle.openings.proofs.logs.laid_history.Goals as goal

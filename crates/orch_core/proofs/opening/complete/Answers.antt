@@ -1,5 +1,4 @@
-use Rattle.std.proofs.Common.{◌≡◌, length, rules, subst, sym}
-use Rattle.std.specs.Prelude.{All, IsTrue}
+use Rattle.std.proofs.Common.{◌≡◌, length, rules, subst, sym, All, IsTrue}
 use Rattle.orch_core.proofs.Prelude.{is_opening_change}
 use Rattle.orch_core.proofs.Starts.{fits-opening}
 use Rattle.orch_core.proofs.opening.complete.Goals as goal

@@ -1,5 +1,4 @@
-use Rattle.std.proofs.Common.{◌∙◌, ℕ, List, Option, None, add-one, ap, replicate, sym, arith}
-use Rattle.std.specs.Prelude.{slice_set}
+use Rattle.std.proofs.Common.{◌∙◌, ℕ, List, Option, None, add-one, ap, replicate, sym, arith, slice_set}
 use Rattle.orch_core.proofs.Prelude.{Observation, cleared, cleared_all, cleared_next, length-set}
 use Rattle.orch_core.proofs.opening.empty_slots.Goals as goal
 

@@ -1,5 +1,4 @@
-use Rattle.std.proofs.Common.{◌<◌, ◌≤◌, ℕ, length}
-use Rattle.std.specs.Prelude.{slice_index}
+use Rattle.std.proofs.Common.{◌<◌, ◌≤◌, ℕ, length, slice_index}
 use Rattle.orch_core.proofs.polls.first_least.Given as goal
 
 abbrev pub invariant-numbers : goal.invariant-numbers

@@ -1,5 +1,4 @@
-use Rattle.std.proofs.Common.{◌<◌, length, subst, arith}
-use Rattle.std.specs.Prelude.{nat_lt}
+use Rattle.std.proofs.Common.{◌<◌, length, subst, arith, nat_lt}
 use Rattle.permission.proofs.Prelude.{IsForest, above, book_forest, is_reached, length-forest, nat_tests, node_at, rank-below}
 use Rattle.permission.proofs.Below.{below-test, tested}
 use Rattle.permission.proofs.by_book.is_below.Goals as goal

@@ -1,5 +1,5 @@
 use Rattle.std.proofs.Common.{◌∙◌, sym}
-use Rattle.plan_lines.specs.Prelude.{ground_by}
+use Rattle.plan_lines.proofs.Prelude.{ground_by}
 use Rattle.plan_lines.proofs.Within.{chosen-there, others-there}
 use Rattle.plan_lines.proofs.branches.add_choice.Goals as goal
 

@@ -1,5 +1,4 @@
-use Rattle.std.proofs.Common.{◌∙◌, subst, sym}
-use Rattle.std.specs.Prelude.{All}
+use Rattle.std.proofs.Common.{◌∙◌, subst, sym, All}
 use Rattle.plan_lines.proofs.Within.{IsThere, expected-there}
 use Rattle.plan_lines.proofs.branches.add_gathered.Goals as goal
 

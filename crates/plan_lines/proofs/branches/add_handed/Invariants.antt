@@ -1,7 +1,5 @@
 use Rattle.std.proofs.Common.{◌≡◌, ◌++◌, take}
-use Rattle.std.specs.List.{flat_map}
-use Rattle.plan_lines.specs.Prelude.{ground_by}
-use Rattle.plan_lines.specs.Branches.{handed, way_of}
+use Rattle.plan_lines.proofs.Prelude.{flat_map, ground_by, handed, way_of}
 use Rattle.plan_lines.proofs.branches.add_handed.Given as goal
 
 abbrev pub invariant-loop-replica : goal.invariant-loop-replica

@@ -1,5 +1,4 @@
-use Rattle.plan_lines.specs.Prelude.{Stopped, ground_by}
-use Rattle.plan_lines.specs.Branches.{left, way_of}
+use Rattle.plan_lines.proofs.Prelude.{Stopped, ground_by, left, way_of}
 use Rattle.plan_lines.proofs.Lists.{given-onto}
 use Rattle.plan_lines.proofs.branches.add_left.Goals as goal
 

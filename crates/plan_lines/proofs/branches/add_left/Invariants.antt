@@ -1,7 +1,5 @@
-use Rattle.std.proofs.Common.{◌≡◌, ◌++◌, take}
-use Rattle.std.specs.Prelude.{filter_map}
-use Rattle.plan_lines.specs.Prelude.{ground_by}
-use Rattle.plan_lines.specs.Branches.{left, way_of}
+use Rattle.std.proofs.Common.{◌≡◌, ◌++◌, take, filter_map}
+use Rattle.plan_lines.proofs.Prelude.{ground_by, left, way_of}
 use Rattle.plan_lines.proofs.branches.add_left.Given as goal
 
 abbrev pub invariant-loop-replica : goal.invariant-loop-replica

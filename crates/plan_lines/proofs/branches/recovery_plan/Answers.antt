@@ -1,7 +1,5 @@
-use Rattle.std.proofs.Common.{◌<◌, ◌∙◌, length, subst, sym}
-use Rattle.std.specs.Prelude.{All}
-use Rattle.permission.proofs.Within.{replicas-within}
-use Rattle.plan_lines.specs.Prelude.{ServerNo}
+use Rattle.std.proofs.Common.{◌<◌, ◌∙◌, length, subst, sym, All}
+use Rattle.plan_lines.proofs.Prelude.{ServerNo, replicas-within}
 use Rattle.plan_lines.proofs.branches.recovery_plan.Goals as goal
 
 pub recovery_lines-requires : goal.recovery_lines-requires

@@ -1,6 +1,5 @@
 use Rattle.std.proofs.Common.{◌∙◌}
-use Rattle.plan_lines.specs.Prelude.{ground_by}
-use Rattle.plan_lines.specs.Branches.{lot_for}
+use Rattle.plan_lines.proofs.Prelude.{ground_by, lot_for}
 use Rattle.plan_lines.proofs.Within.{followers-there}
 use Rattle.plan_lines.proofs.chosen.add_below.Goals as goal
 

@@ -1,5 +1,4 @@
-use Rattle.plan_lines.specs.Prelude.{ground_by}
-use Rattle.plan_lines.specs.Branches.{chosen_line}
+use Rattle.plan_lines.proofs.Prelude.{chosen_line, ground_by}
 use Rattle.plan_lines.proofs.Lists.{given-onto}
 use Rattle.plan_lines.proofs.chosen.add_chosen.Goals as goal
 

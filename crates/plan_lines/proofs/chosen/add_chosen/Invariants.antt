@@ -1,7 +1,5 @@
-use Rattle.std.proofs.Common.{◌≡◌, ◌++◌, take}
-use Rattle.std.specs.Prelude.{filter_map}
-use Rattle.plan_lines.specs.Prelude.{ground_by}
-use Rattle.plan_lines.specs.Branches.{chosen_line}
+use Rattle.std.proofs.Common.{◌≡◌, ◌++◌, take, filter_map}
+use Rattle.plan_lines.proofs.Prelude.{chosen_line, ground_by}
 use Rattle.plan_lines.proofs.chosen.add_chosen.Given as goal
 
 abbrev pub invariant-loop-other : goal.invariant-loop-other

@@ -1,7 +1,5 @@
 use Rattle.std.proofs.Common.{◌≡◌, ◌++◌, take}
-use Rattle.std.specs.List.{flat_map}
-use Rattle.plan_lines.specs.Prelude.{ground_by, lot_by}
-use Rattle.plan_lines.specs.Branches.{lot_lines}
+use Rattle.plan_lines.proofs.Prelude.{flat_map, ground_by, lot_by, lot_lines}
 use Rattle.plan_lines.proofs.chosen.add_lots.Given as goal
 
 abbrev pub invariant-loop-other : goal.invariant-loop-other

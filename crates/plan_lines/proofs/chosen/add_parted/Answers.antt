@@ -1,5 +1,4 @@
-use Rattle.plan_lines.specs.Prelude.{Stopped, ground_by}
-use Rattle.plan_lines.specs.Branches.{lot_for, parted}
+use Rattle.plan_lines.proofs.Prelude.{Stopped, ground_by, lot_for, parted}
 use Rattle.plan_lines.proofs.Lists.{given-onto}
 use Rattle.plan_lines.proofs.chosen.add_parted.Goals as goal
 

@@ -1,7 +1,5 @@
-use Rattle.std.proofs.Common.{◌≡◌, ◌++◌, take}
-use Rattle.std.specs.Prelude.{filter_map}
-use Rattle.plan_lines.specs.Prelude.{ground_by}
-use Rattle.plan_lines.specs.Branches.{lot_for, parted}
+use Rattle.std.proofs.Common.{◌≡◌, ◌++◌, take, filter_map}
+use Rattle.plan_lines.proofs.Prelude.{ground_by, lot_for, parted}
 use Rattle.plan_lines.proofs.chosen.add_parted.Given as goal
 
 abbrev pub invariant-loop-other : goal.invariant-loop-other

@@ -1,6 +1,5 @@
 use Rattle.std.proofs.Common.{[]}
-use Rattle.plan_lines.specs.Prelude.{Stopped, ground_by}
-use Rattle.plan_lines.specs.Branches.{follower_in, lot_for}
+use Rattle.plan_lines.proofs.Prelude.{Stopped, follower_in, ground_by, lot_for}
 use Rattle.plan_lines.proofs.Lists.{given-onto}
 use Rattle.plan_lines.proofs.chosen.followers.Goals as goal
 

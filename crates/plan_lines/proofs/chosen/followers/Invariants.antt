@@ -1,7 +1,5 @@
-use Rattle.std.proofs.Common.{◌≡◌, take}
-use Rattle.std.specs.Prelude.{filter_map}
-use Rattle.plan_lines.specs.Prelude.{ground_by}
-use Rattle.plan_lines.specs.Branches.{follower_in, lot_for}
+use Rattle.std.proofs.Common.{◌≡◌, take, filter_map}
+use Rattle.plan_lines.proofs.Prelude.{follower_in, ground_by, lot_for}
 use Rattle.plan_lines.proofs.chosen.followers.Given as goal
 
 abbrev pub invariant-loop-other : goal.invariant-loop-other

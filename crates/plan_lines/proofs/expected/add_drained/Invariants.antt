@@ -1,5 +1,5 @@
 use Rattle.std.proofs.Common.{◌≡◌, ◌++◌, take}
-use Rattle.plan_lines.specs.Expected.{all_drained}
+use Rattle.plan_lines.proofs.Prelude.{all_drained}
 use Rattle.plan_lines.proofs.expected.add_drained.Given as goal
 
 abbrev pub invariant-loop-no : goal.invariant-loop-no

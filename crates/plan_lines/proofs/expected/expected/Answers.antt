@@ -1,6 +1,5 @@
 use Rattle.std.proofs.Common.{[]}
-use Rattle.plan_lines.specs.Prelude.{ServerNo, instance_at}
-use Rattle.plan_lines.specs.Expected.{expected_at}
+use Rattle.plan_lines.proofs.Prelude.{ServerNo, expected_at, instance_at}
 use Rattle.plan_lines.proofs.Lists.{given-onto}
 use Rattle.plan_lines.proofs.expected.expected.Goals as goal
 

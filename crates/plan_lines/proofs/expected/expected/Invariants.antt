@@ -1,5 +1,5 @@
 use Rattle.std.proofs.Common.{◌≡◌, take}
-use Rattle.plan_lines.specs.Expected.{expected}
+use Rattle.plan_lines.proofs.Prelude.{expected}
 use Rattle.plan_lines.proofs.expected.expected.Given as goal
 
 abbrev pub invariant-loop-no : goal.invariant-loop-no

@@ -1,5 +1,5 @@
 use Rattle.std.proofs.Common.{[], ◌∙◌, ap}
-use Rattle.plan_lines.specs.Straight.{straight_line}
+use Rattle.plan_lines.proofs.Prelude.{straight_line}
 use Rattle.plan_lines.proofs.Lists.{given-onto}
 use Rattle.plan_lines.proofs.straight.straight_lines.Goals as goal
 

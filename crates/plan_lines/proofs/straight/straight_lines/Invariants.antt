@@ -1,5 +1,5 @@
 use Rattle.std.proofs.Common.{◌≡◌, take}
-use Rattle.plan_lines.specs.Straight.{straight_lines}
+use Rattle.plan_lines.proofs.Prelude.{straight_lines}
 use Rattle.plan_lines.proofs.straight.straight_lines.Given as goal
 
 abbrev pub invariant-loop-op : goal.invariant-loop-op

@@ -1,5 +1,4 @@
-use Rattle.std.proofs.Common.{◌≡◌, ◌++◌, append_assoc, subst, sym}
-use Rattle.std.specs.Prelude.{OnOk}
+use Rattle.std.proofs.Common.{◌≡◌, ◌++◌, append_assoc, subst, sym, OnOk}
 use Rattle.plan_texts.specs.Conditions.{lost_words}
 use Rattle.plan_texts.specs.declared.line.Apart.{Apart}
 use Rattle.plan_texts.proofs.conditions.print_lost.Goals as goal

@@ -1,5 +1,4 @@
-use Rattle.std.proofs.Common.{append_assoc}
-use Rattle.std.specs.Prelude.{codes}
+use Rattle.std.proofs.Common.{append_assoc, codes}
 use Rattle.plan_texts.proofs.Written.{appended}
 use Rattle.plan_texts.specs.Statements.{own_words}
 use Rattle.plan_texts.proofs.words.print_own.Goals as goal

@@ -1,5 +1,5 @@
 use Rattle.std.proofs.Common.{true, false, sym, ◌∙◌}
-use Rattle.promotion_rules.specs.Choice.{nearer_order, is_better}
+use Rattle.promotion_rules.proofs.Prelude.{is_better, nearer_order}
 use Rattle.promotion_rules.proofs.Firsts.{first_step}
 use Rattle.promotion_rules.proofs.Orders.{nearer_total}
 use Rattle.promotion_rules.proofs.choice.better.Goals as goal

@@ -1,6 +1,5 @@
-use Rattle.std.proofs.Common.{◌≡◌, ◌<◌, length, take}
-use Rattle.std.specs.Prelude.{filter, IfSome}
-use Rattle.promotion_rules.specs.Choice.{first_by, is_better, nearer_order}
+use Rattle.std.proofs.Common.{◌≡◌, ◌<◌, length, take, filter, IfSome}
+use Rattle.promotion_rules.proofs.Prelude.{first_by, is_better, nearer_order}
 use Rattle.promotion_rules.proofs.choice.better.Given as goal
 
 abbrev pub invariant-loop-drained : goal.invariant-loop-drained

@@ -1,5 +1,5 @@
 use Rattle.std.proofs.Common.{true, false, sym, ◌∙◌}
-use Rattle.promotion_rules.specs.Choice.{advance_order, is_eligible}
+use Rattle.promotion_rules.proofs.Prelude.{advance_order, is_eligible}
 use Rattle.promotion_rules.proofs.Firsts.{first_step}
 use Rattle.promotion_rules.proofs.Orders.{advance_total}
 use Rattle.promotion_rules.proofs.choice.most_advanced.Goals as goal

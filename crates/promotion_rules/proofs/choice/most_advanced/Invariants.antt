@@ -1,6 +1,5 @@
-use Rattle.std.proofs.Common.{◌≡◌, ◌<◌, length, take}
-use Rattle.std.specs.Prelude.{filter, IfSome}
-use Rattle.promotion_rules.specs.Choice.{advance_order, first_by, is_eligible}
+use Rattle.std.proofs.Common.{◌≡◌, ◌<◌, length, take, filter, IfSome}
+use Rattle.promotion_rules.proofs.Prelude.{advance_order, first_by, is_eligible}
 use Rattle.promotion_rules.proofs.choice.most_advanced.Given as goal
 
 abbrev pub invariant-loop-drained : goal.invariant-loop-drained

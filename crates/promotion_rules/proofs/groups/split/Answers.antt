@@ -1,9 +1,5 @@
 use Rattle.std.proofs.Common.{ap, ◌∙◌, ◌++◌, get_or, None, false}
-use Rattle.std.specs.Option.{option_to_list}
-use Rattle.instance_keeper.specs.OrchBase.declared.rule.Rule.TheVariants.{Prefer}
-use Rattle.promotion_rules.specs.declared.drained.Drained.{Drained}
-use Rattle.promotion_rules.specs.Groups.{ahead_at, behind_at, follow_at, group_of}
-use Rattle.promotion_rules.specs.declared.groups.Group.{Group}
+use Rattle.promotion_rules.proofs.Prelude.{Drained, Group, Prefer, ahead_at, behind_at, follow_at, group_of, option_to_list}
 use Rattle.promotion_rules.proofs.Lists.{filter_map-more}
 use Rattle.promotion_rules.proofs.groups.split.Goals as goal
 

@@ -1,5 +1,5 @@
 use Rattle.std.proofs.Common.{◌≡◌, take}
-use Rattle.promotion_rules.specs.Groups.{ahead_in, behind_in, follow_in, group_of}
+use Rattle.promotion_rules.proofs.Prelude.{ahead_in, behind_in, follow_in, group_of}
 use Rattle.promotion_rules.proofs.groups.split.Given as goal
 
 -- the three lists are those of the replicas so far

@@ -1,4 +1,4 @@
-use Rattle.promotion_rules.specs.Choice.{is_better, nearer_order}
+use Rattle.promotion_rules.proofs.Prelude.{is_better, nearer_order}
 use Rattle.promotion_rules.proofs.Choosing.{chosen-first, none-chosen}
 use Rattle.promotion_rules.proofs.Orders.{nearer_total}
 use Rattle.promotion_rules.proofs.laws.better_is_the_first.Goals as goal

@@ -1,6 +1,5 @@
 use Rattle.std.proofs.Common.{◌≡◌, List, Option, Some, ap, sym, ◌∙◌}
-use Rattle.pseudo_match.proofs.Prelude.{Case, Check, Refusal, case_of, first_refusal, last_row_of, option_or, own_refusal, permitted, refusal_about}
-use Rattle.pseudo_match.proofs.Prelude.{row_of}
+use Rattle.pseudo_match.proofs.Prelude.{Case, Check, Refusal, case_of, first_refusal, option_or, own_refusal, permitted, refusal_about, row_of}
 use Rattle.pseudo_match.proofs.permits.permit_kind.Goals as goal
 
 pub returns-in-Some-clause-refusal : goal.returns-in-Some-clause-refusal

@@ -1,5 +1,4 @@
-use Rattle.std.proofs.Common.{◌∙◌, ap}
-use Rattle.std.specs.Prelude.{◌==◌, find}
+use Rattle.std.proofs.Common.{◌∙◌, ap, ◌==◌, find}
 use Rattle.recovery_core.proofs.Prelude.{Entry, option_map}
 use Rattle.recovery_core.proofs.Entries.{code_found}
 use Rattle.recovery_core.proofs.codes.code_at.Goals as goal

@@ -1,6 +1,5 @@
-use Rattle.std.proofs.Common.{◌≡◌, ◌∙◌, true, sym, ap, subst, take}
+use Rattle.std.proofs.Common.{◌≡◌, ◌∙◌, true, sym, ap, subst, take, filter}
 use Rattle.recovery_core.proofs.Prelude.{are_known, is_replica_of, source_servers, take_all}
-use Rattle.std.specs.Prelude.{filter}
 use Rattle.recovery_core.proofs.Grouping.{AreGrouped, more-grouped, none-grouped}
 use Rattle.recovery_core.proofs.groups.groups.Goals as goal
 

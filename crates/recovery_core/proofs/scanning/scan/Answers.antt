@@ -1,5 +1,4 @@
-use Rattle.std.proofs.Common.{◌<◌, ◌≤◌, ap, arith, sym, subst}
-use Rattle.std.specs.Prelude.{All}
+use Rattle.std.proofs.Common.{◌<◌, ◌≤◌, ap, arith, sym, subst, All}
 use Rattle.recovery_core.proofs.Prelude.{All-nil, Attempt, Begins, Staged, attempt_of, from_start}
 use Rattle.recovery_core.proofs.Steps.{more-ready, step-more}
 use Rattle.recovery_core.proofs.scanning.scan.Goals as goal

@@ -1,5 +1,4 @@
-use Rattle.std.proofs.Common.{◌≡◌, drop, None}
-use Rattle.std.specs.Prelude.{slice_index_or}
+use Rattle.std.proofs.Common.{◌≡◌, drop, None, slice_index_or}
 use Rattle.recovery_core.proofs.Prelude.{ServerNo, busy_by, first_about}
 use Rattle.recovery_core.proofs.stage.busy.Given as goal
 

@@ -1,5 +1,4 @@
-use Rattle.std.proofs.Common.{◌≡◌, take}
-use Rattle.std.specs.Prelude.{filter}
+use Rattle.std.proofs.Common.{◌≡◌, take, filter}
 use Rattle.recovery_plans.specs.Deciding.{may_lead}
 use Rattle.recovery_parts.specs.Grounds.{ground_by}
 use Rattle.recovery_parts.proofs.dividing.leaders.Given as goal

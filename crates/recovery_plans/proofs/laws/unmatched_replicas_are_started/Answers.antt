@@ -1,5 +1,4 @@
-use Rattle.std.proofs.Common.{◌≡◌, Bool, true, false, cond, List, [], ◌∷◌, ◌++◌, map, refl, sym, ◌∙◌, ap, subst, Some, arith}
-use Rattle.std.specs.Prelude.{filter, option_map}
+use Rattle.std.proofs.Common.{◌≡◌, Bool, true, false, cond, List, [], ◌∷◌, ◌++◌, map, refl, sym, ◌∙◌, ap, subst, Some, arith, filter, option_map}
 use Rattle.recovery_plans.proofs.Prelude.{All, All-cons, All-contains, All-nil, All-weaker, Contains, Contains-append_left, Contains-append_right}
 use Rattle.recovery_plans.proofs.Prelude.{LostReplica, Purpose, ServerNo, Why, expels, is_reached, releases, told_why, why_of}
 use Rattle.recovery_plans.proofs.Prelude.task

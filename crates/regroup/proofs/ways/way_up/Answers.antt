@@ -1,5 +1,4 @@
-use Rattle.std.proofs.Common.{◌≡◌, ◌+◌, ◌-◌, ◌++◌, sym, ap, ◌∙◌, List, Some, arith}
-use Rattle.std.specs.Prelude.{option_map}
+use Rattle.std.proofs.Common.{◌≡◌, ◌+◌, ◌-◌, ◌++◌, sym, ap, ◌∙◌, List, Some, arith, option_map}
 use Rattle.regroup.proofs.Prelude.{ServerNo, parent_at, way_in}
 use Rattle.regroup.proofs.Climbing.{way-comes, way-goes}
 use Rattle.regroup.proofs.ways.way_up.Goals as goal

@@ -1,5 +1,4 @@
-use Rattle.std.proofs.Common.{◌≡◌, ◌++◌}
-use Rattle.std.specs.Prelude.{option_map}
+use Rattle.std.proofs.Common.{◌≡◌, ◌++◌, option_map}
 use Rattle.regroup.proofs.Prelude.{parent_at, way_in, way_up}
 use Rattle.regroup.proofs.ways.way_up.Given as goal
 

@@ -1,5 +1,4 @@
-use Rattle.std.proofs.Common.{◌∙◌, ◌++◌, [], ◌∷◌, ap, sym}
-use Rattle.std.specs.Prelude.{Some}
+use Rattle.std.proofs.Common.{◌∙◌, ◌++◌, [], ◌∷◌, ap, sym, Some}
 use Rattle.scenario_dump.proofs.Prelude.{compact_text, count_data, list_data, option_copied}
 use Rattle.scenario_dump.proofs.Printed.{appended, map_ok}
 use Rattle.scenario_dump.proofs.Worlds.{logged_points, there_is, unlogged_points}

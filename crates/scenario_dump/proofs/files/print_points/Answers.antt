@@ -1,5 +1,4 @@
-use Rattle.std.proofs.Common.{◌≡◌, ◌∙◌, ◌||◌, ◌-◌, [], ◌∷◌, ap, arith}
-use Rattle.std.specs.Prelude.{nat_lt}
+use Rattle.std.proofs.Common.{◌≡◌, ◌∙◌, ◌||◌, ◌-◌, [], ◌∷◌, ap, arith, nat_lt}
 use Rattle.scenario_dump.proofs.Prelude.{file_behind}
 use Rattle.scenario_dump.proofs.Points.{at_below, behind_full, behind_within, coord_behind, either_first, either_last, points_begin, points_end, points_go_on}
 use Rattle.scenario_dump.proofs.Printed.{appended, map_ok}

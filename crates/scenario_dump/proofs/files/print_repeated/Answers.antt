@@ -1,5 +1,4 @@
-use Rattle.std.proofs.Common.{◌≡◌, ◌∙◌, ◌++◌, ◌||◌, ap, arith, decimal}
-use Rattle.std.specs.Prelude.{nat_lt}
+use Rattle.std.proofs.Common.{◌≡◌, ◌∙◌, ◌++◌, ◌||◌, ap, arith, decimal, nat_lt}
 use Rattle.scenario_dump.proofs.Prelude.{comma_if}
 use Rattle.scenario_dump.proofs.Lists.{repeated_goes_on}
 use Rattle.scenario_dump.proofs.Points.{either_first, either_last}

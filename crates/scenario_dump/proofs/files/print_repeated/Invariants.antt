@@ -1,5 +1,4 @@
-use Rattle.std.proofs.Common.{◌≡◌, ◌++◌, ◌-◌, ◌||◌, ℕ, List}
-use Rattle.std.specs.Prelude.{nat_lt, replicate}
+use Rattle.std.proofs.Common.{◌≡◌, ◌++◌, ◌-◌, ◌||◌, ℕ, List, nat_lt, replicate}
 use Rattle.scenario_dump.proofs.Prelude.{count_data, items_of, items_text}
 use Rattle.scenario_dump.proofs.files.print_repeated.Given as goal
 

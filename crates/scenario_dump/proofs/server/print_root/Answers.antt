@@ -1,5 +1,4 @@
-use Rattle.std.proofs.Common.{◌∙◌, ◌++◌, ap, sym}
-use Rattle.std.specs.Prelude.{codes}
+use Rattle.std.proofs.Common.{◌∙◌, ◌++◌, ap, sym, codes}
 use Rattle.scenario_dump.proofs.Printed.{First, Once, grew_by, map_ok, number_as, quoted_as}
 use Rattle.scenario_dump.proofs.Servers.{root_parts, root_text}
 use Rattle.scenario_dump.proofs.Worlds.{there_is}

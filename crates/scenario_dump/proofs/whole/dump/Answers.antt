@@ -1,5 +1,4 @@
-use Rattle.std.proofs.Common.{◌∙◌, ◌++◌, [], ap, sym}
-use Rattle.std.specs.Prelude.{codes}
+use Rattle.std.proofs.Common.{◌∙◌, ◌++◌, [], ap, sym, codes}
 use Rattle.scenario_dump.proofs.Prelude.{aliases_data, blocks_data, compact_text, flag_text, hook_data, list_data, object, string}
 use Rattle.scenario_dump.proofs.Printed.{First, Once, grew_by, number_as}
 use Rattle.scenario_dump.proofs.Wholes.{whole_parts, whole_text}

@@ -1,5 +1,4 @@
-use Rattle.std.proofs.Common.{◌≡◌, ◌++◌, drop}
-use Rattle.std.specs.Prelude.{nat_lt}
+use Rattle.std.proofs.Common.{◌≡◌, ◌++◌, drop, nat_lt}
 use Rattle.scenario_dump.proofs.Prelude.{aliases_data, compact_text, members_text, object}
 use Rattle.scenario_dump.proofs.whole.print_aliases.Given as goal
 

@@ -1,5 +1,4 @@
-use Rattle.std.proofs.Common.{◌≡◌, ◌++◌, drop}
-use Rattle.std.specs.Prelude.{nat_lt}
+use Rattle.std.proofs.Common.{◌≡◌, ◌++◌, drop, nat_lt}
 use Rattle.scenario_dump.proofs.Prelude.{compact_text, hook_data, items_of, items_text, list_data}
 use Rattle.scenario_dump.proofs.whole.print_hooks.Given as goal
 

@@ -1,5 +1,4 @@
-use Rattle.std.proofs.Common.{◌≡◌, ◌++◌, drop}
-use Rattle.std.specs.Prelude.{nat_lt}
+use Rattle.std.proofs.Common.{◌≡◌, ◌++◌, drop, nat_lt}
 use Rattle.scenario_dump.proofs.Prelude.{items_of, items_text, opening_of, server_data, servers_text}
 use Rattle.scenario_dump.proofs.whole.print_servers.Given as goal
 

@@ -1,5 +1,4 @@
-use Rattle.std.proofs.Common.{◌∙◌, ap, length, refl}
-use Rattle.std.specs.Prelude.{map, option_map, string_bytes}
+use Rattle.std.proofs.Common.{◌∙◌, ap, length, refl, map, option_map, string_bytes}
 use Rattle.scenario_dump.proofs.Prelude.{quoted, slice_get-map, slice_get_read, string}
 use Rattle.scenario_dump.proofs.Lists.{list_goes_on}
 use Rattle.scenario_dump.proofs.Printed.{quoted_behind}

@@ -1,5 +1,4 @@
-use Rattle.std.proofs.Common.{◌≡◌, ◌++◌, drop}
-use Rattle.std.specs.Prelude.{map, nat_lt, string_bytes}
+use Rattle.std.proofs.Common.{◌≡◌, ◌++◌, drop, map, nat_lt, string_bytes}
 use Rattle.scenario_dump.proofs.Prelude.{compact_text, items_of, items_text, list_data, string}
 use Rattle.scenario_dump.proofs.whole.print_texts.Given as goal
 

@@ -1,5 +1,4 @@
-use Rattle.std.proofs.Common.{◌+◌, ◌++◌, arith, refl, rules}
-use Rattle.std.specs.Prelude.{nat_lt}
+use Rattle.std.proofs.Common.{◌+◌, ◌++◌, arith, refl, rules, nat_lt}
 use Rattle.scenario_generator.proofs.Prelude.{comma_if, server_text, servers_from, servers_text}
 use Rattle.scenario_generator.proofs.Sends.{joins_front, joins_more, joins_nothing, on_err, stays_front}
 use Rattle.scenario_generator.proofs.Servers.{counts_next, follows, number_next, servers_from-within, text_next}

@@ -1,5 +1,4 @@
-use Rattle.std.proofs.Common.{◌+◌, ◌++◌, arith, refl}
-use Rattle.std.specs.Prelude.{nat_lt}
+use Rattle.std.proofs.Common.{◌+◌, ◌++◌, arith, refl, nat_lt}
 use Rattle.scenario_generator.proofs.Prelude.{comma_if, turn_text, turns_from, turns_text}
 use Rattle.scenario_generator.proofs.Sends.{joins_front, joins_more, joins_nothing, on_err, stays_front}
 use Rattle.scenario_generator.proofs.Texts.{two_printed}

@@ -1,6 +1,5 @@
-use Rattle.std.proofs.Common.{ℕ, List, ◌++◌, refl, subst, sym}
+use Rattle.std.proofs.Common.{ℕ, List, ◌++◌, refl, subst, sym, codes}
 use Rattle.scenario_generator.proofs.Prelude.{AppendsFront, servers_from, servers_text, turns_from, turns_text}
-use Rattle.std.specs.Prelude.{codes}
 use Rattle.scenario_generator.proofs.Sends.{front_of_longer, handed_is_front, on_err}
 use Rattle.scenario_generator.proofs.Wholes.{all_held, all_taken, front_of_two, front_of_whole, more_held, rest_front, scenario_parts}
 use Rattle.scenario_generator.proofs.generator.write_scenario.Goals as goal

@@ -1,5 +1,4 @@
-use Rattle.std.proofs.Common.{◌∙◌, ap}
-use Rattle.std.specs.Prelude.{codes}
+use Rattle.std.proofs.Common.{◌∙◌, ap, codes}
 use Rattle.scenario_generator.proofs.Prelude.{turn_text}
 use Rattle.scenario_generator.proofs.Texts.{appended, apply_text, fetch_text, poll_text, printed, printed_once, rotate_text, store_text, two_printed, write_text}
 use Rattle.scenario_generator.proofs.turn.print_turn.Goals as goal

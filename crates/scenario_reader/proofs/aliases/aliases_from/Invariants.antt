@@ -1,5 +1,4 @@
-use Rattle.scenario_values.proofs.Each.{AreReadTo}
-use Rattle.scenario_reader.specs.Aliases.{alias_in}
+use Rattle.scenario_reader.proofs.Prelude.{AreReadTo, alias_in}
 use Rattle.scenario_reader.proofs.aliases.aliases_from.Given as goal
 
 abbrev pub invariant-loop-label : goal.invariant-loop-label

@@ -1,5 +1,4 @@
-use Rattle.std.proofs.lemmas.List.Elements.{All-get_or}
-use Rattle.std.proofs.lemmas.Map.Text.{hash_map_updates_str}
+use Rattle.scenario_reader.proofs.Prelude.{All-get_or, hash_map_updates_str}
 use Rattle.scenario_reader.specs.AliasTable.{IsAnswer}
 use Rattle.scenario_reader.proofs.AliasTables.{answer-more}
 use Rattle.scenario_reader.proofs.answers.by_label.Goals as goal

@@ -1,5 +1,4 @@
-use Rattle.std.proofs.Common.{ℕ, List}
-use Rattle.std.specs.Prelude.{All}
+use Rattle.std.proofs.Common.{ℕ, List, All}
 use Rattle.cluster_filters.specs.Forms.{Form}
 use Rattle.scenario_reader.specs.AliasTable.{AreKnown, IsAnswer}
 use Rattle.scenario_reader.proofs.answers.by_label.Given as goal

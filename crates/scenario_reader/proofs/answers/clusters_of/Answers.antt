@@ -1,6 +1,5 @@
 use Rattle.std.proofs.Common.{◌≡◌, ◌∙◌, ap, false, refl, subst, sym}
-use Rattle.std.proofs.lemmas.List.Elements.{All-push}
-use Rattle.cluster_filters.specs.declared.judge.Judged.{Judged}
+use Rattle.scenario_reader.proofs.Prelude.{All-push, Judged}
 use Rattle.scenario_reader.specs.AliasTable.{alias_at, AreUnjudged}
 use Rattle.scenario_reader.proofs.answers.clusters_of.Goals.{then-branch+in_ok-push, else-branch}
 use Rattle.scenario_reader.proofs.answers.clusters_of.Goals as goal

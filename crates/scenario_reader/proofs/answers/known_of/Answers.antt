@@ -1,5 +1,4 @@
-use Rattle.std.proofs.Common.{subst, sym}
-use Rattle.std.specs.Prelude.{All}
+use Rattle.std.proofs.Common.{subst, sym, All}
 use Rattle.scenario_reader.specs.AliasTable.{alias_at, AreUnjudged, IsAnswer}
 use Rattle.scenario_reader.proofs.AliasTables.{judged-answers}
 use Rattle.scenario_reader.proofs.answers.known_of.Goals as goal

@@ -1,7 +1,5 @@
 use Rattle.std.proofs.Common.{string_bytes}
-use Rattle.std.proofs.lemmas.List.{map-append}
-use Rattle.scenario_values.proofs.Each.{next_read}
-use Rattle.scenario_reader.specs.Filters.{filter_in}
+use Rattle.scenario_reader.proofs.Prelude.{filter_in, map-append, next_read}
 use Rattle.scenario_reader.proofs.PatternLemmas.{pattern_pushed}
 use Rattle.scenario_reader.proofs.filters.each_filter.Goals as goal
 

@@ -1,6 +1,5 @@
 use Rattle.std.proofs.Common.{map, string_bytes}
-use Rattle.scenario_values.proofs.Each.{IsReadTo}
-use Rattle.scenario_reader.specs.Filters.{filter_in, HavePatterns}
+use Rattle.scenario_reader.proofs.Prelude.{HavePatterns, IsReadTo, filter_in}
 use Rattle.scenario_reader.proofs.filters.each_filter.Given as goal
 
 abbrev pub invariant-loop-number : goal.invariant-loop-number

@@ -1,5 +1,4 @@
-use Rattle.std.proofs.Common.{◌≡◌, ℕ, ◌≤◌, ◌⊎◌, inl, inr, Ok, arith}
-use Rattle.std.specs.Prelude.{codes}
+use Rattle.std.proofs.Common.{◌≡◌, ℕ, ◌≤◌, ◌⊎◌, inl, inr, Ok, arith, codes}
 use Rattle.scenario_reader.proofs.Prelude.{Data, number-ok, number_in, optional-ok, view}
 use Rattle.scenario_reader.proofs.head.nodes_at.Goals as goal
 

@@ -1,5 +1,4 @@
-use Rattle.std.proofs.Common.{◌≡◌, ◌-◌, ◌^◌, take}
-use Rattle.std.specs.Prelude.{min}
+use Rattle.std.proofs.Common.{◌≡◌, ◌-◌, ◌^◌, take, min}
 use Rattle.scenarios.specs.Openings.Listed.{transactions}
 use Rattle.scenario_reader.proofs.opening.listed.Given as goal
 

@@ -1,5 +1,4 @@
-use Rattle.std.proofs.Common.{◌≡◌, ◌-◌, ◌^◌, take}
-use Rattle.std.specs.Prelude.{min}
+use Rattle.std.proofs.Common.{◌≡◌, ◌-◌, ◌^◌, take, min}
 use Rattle.scenario_reader.specs.ReadOpenings.{listed_count}
 use Rattle.scenario_reader.proofs.opening.listed_count.Given as goal
 

@@ -1,5 +1,4 @@
-use Rattle.std.proofs.Common.{ℕ, List, Result, Ok, Err}
-use Rattle.std.specs.Prelude.{IfOk}
+use Rattle.std.proofs.Common.{ℕ, List, Result, Ok, Err, IfOk}
 use Rattle.scenario_reader.proofs.Prelude.{Gives, IsScenario, ReadFault, Scenario, fault_of, scenario_in}
 use Rattle.scenario_reader.proofs.Sound.{scenario_in_sound}
 use Rattle.scenario_reader.proofs.walk.read.Goals as goal

@@ -1,8 +1,5 @@
-use Rattle.std.proofs.Common.{◌≡◌, ◌∙◌, Ok, Option, ap, sym}
-use Rattle.std.specs.Prelude.{codes}
-use Rattle.scenario_reader.specs.Prelude.{needed, needed_in}
-use Rattle.scenario_reader.proofs.Prelude.{needed-ok, read_given, servers_in, view}
-use Rattle.serde_json.specs.Data.{Data}
+use Rattle.std.proofs.Common.{◌≡◌, ◌∙◌, Ok, Option, ap, sym, codes}
+use Rattle.scenario_reader.proofs.Prelude.{Data, needed, needed-ok, needed_in, read_given, servers_in, view}
 use Rattle.scenario_reader.proofs.walk.scenario_from.Goals as goal
 
 pub scenario_with-requires-clause-given : goal.scenario_with-requires-clause-given

@@ -1,9 +1,6 @@
-use Rattle.std.proofs.Common.{ap, ◌∙◌}
-use Rattle.std.specs.Prelude.{option_map}
-use Rattle.scenario_reader.proofs.Prelude.{view}
+use Rattle.std.proofs.Common.{ap, ◌∙◌, option_map}
+use Rattle.scenario_reader.proofs.Prelude.{get_member, view, view-lookup}
 use Rattle.scenario_reader.proofs.Members.{others_stay}
-use Rattle.serde_json.proofs.Views.{view-lookup}
-use Rattle.serde_json.specs.Find.{get_member}
 use Rattle.serde_json.specs.View.{members_view}
 use Rattle.scenario_reader.proofs.walk.taken.Goals as goal
 

@@ -1,5 +1,4 @@
-use Rattle.std.proofs.Common.{◌≡◌, ◌≤◌, take}
-use Rattle.std.specs.Prelude.{count_by}
+use Rattle.std.proofs.Common.{◌≡◌, ◌≤◌, take, count_by}
 use Rattle.scenario_reader.proofs.Prelude.{is_write}
 use Rattle.scenario_reader.proofs.walk.writes.Given as goal
 

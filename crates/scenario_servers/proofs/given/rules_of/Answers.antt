@@ -1,7 +1,5 @@
 use Rattle.std.proofs.Common.{rules, tests}
-use Rattle.std.proofs.lemmas.Iterator.{YieldsList-from_map, YieldsList-from_slice, items_from_collect}
-use Rattle.std.proofs.lemmas.Iterator.Consumers.{YieldsList-at}
-use Rattle.scenario_servers.specs.declared.given.Given.{Given}
+use Rattle.scenario_servers.proofs.Prelude.{Given, YieldsList-at, YieldsList-from_map, YieldsList-from_slice, items_from_collect}
 use Rattle.scenario_servers.proofs.given.rules_of.Goals as goal
 
 pub returns : goal.returns

@@ -1,5 +1,4 @@
-use Rattle.std.proofs.Common.{◌≡◌, ℕ, ◌<◌, ◌∙◌, sym, Some, Option, length, arith}
-use Rattle.std.specs.Prelude.{slice_get}
+use Rattle.std.proofs.Common.{◌≡◌, ℕ, ◌<◌, ◌∙◌, sym, Some, Option, length, arith, slice_get}
 use Rattle.scenario_servers.proofs.Prelude.{reached_from-on, source_in}
 use Rattle.scenario_servers.proofs.labels.root_in.Goals as goal
 

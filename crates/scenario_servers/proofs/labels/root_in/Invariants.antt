@@ -1,5 +1,4 @@
-use Rattle.std.proofs.Common.{◌≡◌, ◌-◌, length}
-use Rattle.std.specs.Prelude.{slice_get}
+use Rattle.std.proofs.Common.{◌≡◌, ◌-◌, length, slice_get}
 use Rattle.scenario_servers.proofs.Prelude.{reached_from, root_in, source_in}
 use Rattle.scenario_servers.proofs.labels.root_in.Given as goal
 

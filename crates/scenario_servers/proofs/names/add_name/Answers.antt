@@ -1,5 +1,4 @@
-use Rattle.std.proofs.Common.{rules, refl, sym, ap, ◌∙◌}
-use Rattle.std.specs.Prelude.{is_some}
+use Rattle.std.proofs.Common.{rules, refl, sym, ap, ◌∙◌, is_some}
 use Rattle.scenario_servers.proofs.NameTables.{adds_again, adds_name}
 use Rattle.scenario_servers.proofs.names.add_name.Goals as goal
 

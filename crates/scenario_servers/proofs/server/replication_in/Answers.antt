@@ -1,5 +1,4 @@
-use Rattle.std.proofs.Common.{refl}
-use Rattle.std.specs.Prelude.{codes}
+use Rattle.std.proofs.Common.{refl, codes}
 use Rattle.scenario_servers.proofs.Prelude.{view}
 use Rattle.scenario_servers.proofs.Absent.{replication-absent}
 use Rattle.scenario_servers.proofs.server.replication_in.Goals as goal

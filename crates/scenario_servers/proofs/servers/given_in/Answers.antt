@@ -1,8 +1,6 @@
 use Rattle.std.proofs.Common.{◌≡◌, ◌∙◌, ◌∷◌, [], List, length, refl, sym, ap, rules, arith}
 use Rattle.std.proofs.lemmas.Result.{err_from_is_err_and}
-use Rattle.std.specs.Vec.Iter.{into_iter_items}
-use Rattle.scenario_servers.proofs.Prelude.{length_push, server_in}
-use Rattle.scenario_values.specs.Faults.{fault_of}
+use Rattle.scenario_servers.proofs.Prelude.{fault_of, into_iter_items, length_push, server_in}
 use Rattle.scenario_servers.proofs.Dropped.{all_on, fails_on, next_on}
 use Rattle.scenario_servers.proofs.servers.given_in.Goals as goal
 

@@ -1,6 +1,5 @@
 use Rattle.std.proofs.Common.{◌≡◌, ◌+◌, ◌≤◌, length}
-use Rattle.std.specs.Vec.Iter.{into_iter_items, into_iter_len}
-use Rattle.scenario_servers.proofs.Prelude.{server_in}
+use Rattle.scenario_servers.proofs.Prelude.{into_iter_items, into_iter_len, server_in}
 use Rattle.scenario_servers.proofs.Dropped.{IsReadOn}
 use Rattle.scenario_servers.proofs.servers.given_in.Given as goal
 

@@ -1,6 +1,5 @@
 use Rattle.std.proofs.Common.{◌≡◌, ◌∙◌, refl}
-use Rattle.std.proofs.lemmas.List.{map_more}
-use Rattle.scenario_turns.proofs.Prelude.{is_found}
+use Rattle.scenario_turns.proofs.Prelude.{is_found, map_more}
 use Rattle.scenario_turns.proofs.pattern.answers.Goals as goal
 
 pub loop-name-preserved : goal.loop-name-preserved

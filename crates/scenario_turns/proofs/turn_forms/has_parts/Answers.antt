@@ -1,5 +1,4 @@
-use Rattle.std.proofs.Common.{◌≡◌, ℕ, List, [], ◌∷◌, length, refl, subst, arith}
-use Rattle.std.specs.Prelude.{nat_eq}
+use Rattle.std.proofs.Common.{◌≡◌, ℕ, List, [], ◌∷◌, length, refl, subst, arith, nat_eq}
 use Rattle.scenario_turns.proofs.Prelude.{BadTurn, Gives, Value, fault_of, holds, item_count, items_view, parts_after}
 use Rattle.scenario_turns.proofs.turn_forms.has_parts.Goals as goal
 

@@ -1,5 +1,5 @@
 use Rattle.std.proofs.Common.{◌≡◌, ◌++◌, drop}
-use Rattle.scenario_values.specs.Faults.{escaped}
+use Rattle.scenario_values.proofs.Prelude.{escaped}
 use Rattle.scenario_values.proofs.fault.escape.Given as goal
 
 abbrev pub invariant-loop-byte : goal.invariant-loop-byte

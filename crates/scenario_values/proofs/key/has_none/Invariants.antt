@@ -1,6 +1,5 @@
 use Rattle.std.proofs.Common.{◌≡◌, map}
-use Rattle.serde_json.specs.View.{members_view}
-use Rattle.scenario_values.specs.Faults.{has_none}
+use Rattle.scenario_values.proofs.Prelude.{has_none, members_view}
 use Rattle.scenario_values.proofs.Keys.{are_none}
 use Rattle.scenario_values.proofs.key.has_none.Given as goal
 

@@ -1,7 +1,5 @@
 use Rattle.std.proofs.Common.{rules, ◌≡◌, ◌∙◌, sym, map}
-use Rattle.serde_json.specs.Find.{as_object}
-use Rattle.serde_json.specs.View.{view}
-use Rattle.scenario_values.specs.Faults.{has_none_at}
+use Rattle.scenario_values.proofs.Prelude.{as_object, has_none_at, view}
 use Rattle.scenario_values.proofs.Keys.{has_none-absent}
 use Rattle.scenario_values.proofs.key.lacks.Goals as goal
 

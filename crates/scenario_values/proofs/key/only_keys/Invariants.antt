@@ -1,6 +1,5 @@
 use Rattle.std.proofs.Common.{◌≡◌, map}
-use Rattle.serde_json.specs.View.{members_view}
-use Rattle.scenario_values.specs.Faults.{only_keys}
+use Rattle.scenario_values.proofs.Prelude.{members_view, only_keys}
 use Rattle.scenario_values.proofs.Keys.{keys_pass}
 use Rattle.scenario_values.proofs.key.only_keys.Given as goal
 

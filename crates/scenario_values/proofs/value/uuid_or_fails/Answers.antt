@@ -1,4 +1,4 @@
-use Rattle.std.proofs.lemmas.Bool.{false≢true}
+use Rattle.scenario_values.proofs.Prelude.{false≢true}
 use Rattle.scenario_values.proofs.Texts.{uuid_none}
 use Rattle.scenario_values.proofs.value.uuid_or_fails.Goals as goal
 

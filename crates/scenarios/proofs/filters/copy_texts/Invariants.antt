@@ -1,5 +1,4 @@
-use Rattle.std.proofs.Common.{◌≡◌, map, take}
-use Rattle.std.specs.Prelude.{string_bytes}
+use Rattle.std.proofs.Common.{◌≡◌, map, take, string_bytes}
 use Rattle.scenarios.proofs.filters.copy_texts.Given as goal
 
 abbrev pub invariant-loop-text : goal.invariant-loop-text

@@ -1,7 +1,4 @@
-use Rattle.std.proofs.Common.{◌≡◌}
-use Rattle.std.specs.List.Sorted.{IsSortedWithin}
-use Rattle.std.specs.Cmp.Lexicographic.{slice_cmp}
-use Rattle.std.specs.Ordering.{is_lt, nat_cmp}
+use Rattle.scenarios.proofs.Prelude.{IsSortedWithin, is_lt, nat_cmp, slice_cmp}
 use Rattle.scenarios.proofs.labels.are_rising.Given as goal
 
 abbrev pub invariant-loop-n : goal.invariant-loop-n

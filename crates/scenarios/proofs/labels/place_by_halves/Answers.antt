@@ -1,5 +1,5 @@
-use Rattle.std.proofs.Common.{◌≡◌, ◌∙◌, ◌<◌, sym, ap, length, arith, nat_eq}
-use Rattle.std.specs.Cmp.Lexicographic.{pointwise}
+use Rattle.std.proofs.Common.{◌∙◌, ◌<◌, sym, ap, length, arith, nat_eq}
+use Rattle.scenarios.proofs.Prelude.{pointwise}
 use Rattle.scenarios.proofs.Places.{place_none, place_past, place_there}
 use Rattle.scenarios.proofs.labels.place_by_halves.Goals as goal
 

@@ -1,4 +1,4 @@
-use Rattle.scenarios.specs.Labels.{ArePlaces}
+use Rattle.scenarios.proofs.Prelude.{ArePlaces}
 use Rattle.scenarios.proofs.labels.places_of.Given as goal
 
 abbrev pub invariant-loop-server : goal.invariant-loop-server

@@ -1,5 +1,5 @@
 use Rattle.std.proofs.Common.{◌≡◌, take}
-use Rattle.scenarios.specs.Scenarios.{listed_in}
+use Rattle.scenarios.proofs.Prelude.{listed_in}
 use Rattle.scenarios.proofs.room.listed.Given as goal
 
 abbrev pub invariant-loop-server : goal.invariant-loop-server

@@ -1,8 +1,5 @@
-use Rattle.std.proofs.Common.{◌≡◌, ◌+◌, length, take, get_or, ap, sym, ◌∙◌}
-use Rattle.std.specs.Prelude.{max}
-use Rattle.std.proofs.lemmas.List.{take_more}
-use Rattle.openings.specs.declared.init.ServerInit.{ServerInit}
-use Rattle.scenarios.specs.Scenarios.{longest_flushes}
+use Rattle.std.proofs.Common.{◌≡◌, ◌+◌, length, take, get_or, ap, sym, ◌∙◌, max}
+use Rattle.scenarios.proofs.Prelude.{ServerInit, longest_flushes, take_more}
 use Rattle.scenarios.proofs.Rooms.{longest-push}
 use Rattle.scenarios.proofs.room.longest_flushes.Goals as goal
 

@@ -1,5 +1,5 @@
 use Rattle.std.proofs.Common.{◌≡◌, take}
-use Rattle.scenarios.specs.Scenarios.{longest_flushes}
+use Rattle.scenarios.proofs.Prelude.{longest_flushes}
 use Rattle.scenarios.proofs.room.longest_flushes.Given as goal
 
 abbrev pub invariant-loop-server : goal.invariant-loop-server

@@ -1,6 +1,5 @@
-use Rattle.std.proofs.Common.{◌≡◌, ◌≤◌, take}
-use Rattle.std.specs.Prelude.{count_by}
-use Rattle.scenarios.specs.ValidTurns.{is_write}
+use Rattle.std.proofs.Common.{◌≡◌, ◌≤◌, take, count_by}
+use Rattle.scenarios.proofs.Prelude.{is_write}
 use Rattle.scenarios.proofs.room.writes.Given as goal
 
 abbrev pub invariant-loop-t : goal.invariant-loop-t

@@ -1,5 +1,4 @@
-use Rattle.std.proofs.Common.{◌<◌, length, arith, sym, ◌∙◌}
-use Rattle.std.specs.Prelude.{string_bytes}
+use Rattle.std.proofs.Common.{◌<◌, length, arith, sym, ◌∙◌, string_bytes}
 use Rattle.scenarios.proofs.SameTexts.{same_at, same_more}
 use Rattle.scenarios.proofs.same.same_texts.Goals as goal
 

@@ -1,5 +1,4 @@
-use Rattle.std.proofs.Common.{◌≡◌, take, length, map}
-use Rattle.std.specs.Prelude.{string_bytes}
+use Rattle.std.proofs.Common.{◌≡◌, take, length, map, string_bytes}
 use Rattle.scenarios.proofs.same.same_texts.Given as goal
 
 abbrev pub invariant-loop-n : goal.invariant-loop-n

@@ -1,5 +1,4 @@
-use Rattle.std.proofs.Common.{◌≡◌, ◌++◌, drop, map}
-use Rattle.std.specs.Prelude.{nat_lt}
+use Rattle.std.proofs.Common.{◌≡◌, ◌++◌, drop, map, nat_lt}
 use Rattle.serde_json.specs.Written.{compact_text, items_text}
 use Rattle.scenario_dump.specs.Texts.{items_of, list_data}
 use Rattle.schedules.specs.Turns.{turn_data}

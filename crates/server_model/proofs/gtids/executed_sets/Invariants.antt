@@ -1,5 +1,4 @@
-use Rattle.std.proofs.Common.{◌≡◌, take}
-use Rattle.std.specs.Prelude.{map}
+use Rattle.std.proofs.Common.{◌≡◌, take, map}
 use Rattle.server_model.proofs.Prelude.{reserved_set, uuids_in}
 use Rattle.server_model.proofs.gtids.executed_sets.Given as goal
 

@@ -1,5 +1,4 @@
-use Rattle.std.proofs.Common.{◌≡◌, Some, arith, ap, sym, ◌∙◌}
-use Rattle.std.specs.Prelude.{slice_get}
+use Rattle.std.proofs.Common.{◌≡◌, Some, arith, ap, sym, ◌∙◌, slice_get}
 use Rattle.server_model.proofs.Prelude.{has_gtid, holds, uuids_in}
 use Rattle.server_model.proofs.ExecutedSets.{held_len-first}
 use Rattle.server_model.proofs.gtids.held_len.Goals.{After-contains}

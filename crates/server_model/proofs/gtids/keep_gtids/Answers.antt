@@ -1,5 +1,4 @@
-use Rattle.std.proofs.Common.{◌≡◌, ◌+◌, List, Some, arith, ap, sym, ◌∙◌}
-use Rattle.std.specs.Prelude.{slice_get, slice_range}
+use Rattle.std.proofs.Common.{◌≡◌, ◌+◌, List, Some, arith, ap, sym, ◌∙◌, slice_get, slice_range}
 use Rattle.server_model.proofs.Prelude.{Interval, Reserved, uuids_in, with_gtids, with_pair}
 use Rattle.server_model.proofs.ExecutedSets.{length-range, with_gtids-push}
 use Rattle.server_model.proofs.Lists.{range-more}

@@ -1,5 +1,4 @@
-use Rattle.std.proofs.Common.{◌≡◌}
-use Rattle.std.specs.Prelude.{slice_range}
+use Rattle.std.proofs.Common.{◌≡◌, slice_range}
 use Rattle.server_model.proofs.Prelude.{uuids_in, with_gtids}
 use Rattle.server_model.proofs.gtids.keep_gtids.Given as goal
 

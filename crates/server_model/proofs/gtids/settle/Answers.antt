@@ -1,5 +1,4 @@
-use Rattle.std.proofs.Common.{ap, ◌∙◌}
-use Rattle.std.specs.Prelude.{slice_set}
+use Rattle.std.proofs.Common.{ap, ◌∙◌, slice_set}
 use Rattle.server_model.proofs.Lists.{set_self, slice_get-index}
 use Rattle.server_model.proofs.gtids.settle.Goals as goal
 

@@ -1,5 +1,4 @@
-use Rattle.std.proofs.Common.{◌≡◌, Some, take, ap, sym, ◌∙◌, ◌+◌}
-use Rattle.std.specs.Prelude.{slice_get}
+use Rattle.std.proofs.Common.{◌≡◌, Some, take, ap, sym, ◌∙◌, ◌+◌, slice_get}
 use Rattle.server_model.proofs.Prelude.{count_own}
 use Rattle.server_model.proofs.Lists.{take-more}
 use Rattle.server_model.proofs.Takes.{count_own-push}

@@ -1,5 +1,4 @@
-use Rattle.std.proofs.Common.{◌≡◌, ◌∙◌, ◌++◌, List, ℕ, ap, subst, sym}
-use Rattle.std.specs.Prelude.{IfOk}
+use Rattle.std.proofs.Common.{◌≡◌, ◌∙◌, ◌++◌, List, ℕ, ap, subst, sym, IfOk}
 use Rattle.tasks.proofs.Prelude.{Answer, CommandTurn, planned_in, planned_text, view}
 use Rattle.tasks.proofs.Planning.{planned_in_place, replied_by, told_in_place}
 use Rattle.tasks.proofs.planned.planned.Goals as goal

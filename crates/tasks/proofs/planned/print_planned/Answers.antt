@@ -1,5 +1,4 @@
-use Rattle.std.proofs.Common.{◌≡◌, ◌∙◌, ◌++◌, List, Some, ap, subst, sym}
-use Rattle.std.specs.Prelude.{OnOk}
+use Rattle.std.proofs.Common.{◌≡◌, ◌∙◌, ◌++◌, List, Some, ap, subst, sym, OnOk}
 use Rattle.tasks.proofs.Prelude.{BookState, Ground, Means, Op, Planned, Purpose, Unended, ground_in, means_of, planned_by, planned_text, recovery_planned}
 use Rattle.tasks.proofs.Prelude.{straight, straight_lines}
 use Rattle.tasks.proofs.Planning.{found_planned, none_planned}

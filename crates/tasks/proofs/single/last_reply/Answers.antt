@@ -1,8 +1,6 @@
-use Rattle.std.proofs.Common.{List, Option, Result, Ok, Err, inl, arith}
-use Rattle.std.specs.Prelude.{IfOk, IfErr}
-use Rattle.tasks.proofs.Prelude.{Answers, ClosesEach, CommandTurn, EndsEach, GivesUpEach, Point, Ran, Reply, Row, Stops, Turn, TurnFault, engine}
-use Rattle.tasks.proofs.Prelude.{err_from_is_err_and, own_stages, point}
-use Rattle.orch_core.proofs.KnowledgeProofs.Causes.{cause-behind, cause-later}
+use Rattle.std.proofs.Common.{List, Option, Result, Ok, Err, inl, arith, IfOk, IfErr}
+use Rattle.tasks.proofs.Prelude.{Answers, ClosesEach, CommandTurn, EndsEach, GivesUpEach, Point, Ran, Reply, Row, Stops, Turn, TurnFault}
+use Rattle.tasks.proofs.Prelude.{cause-behind, cause-later, engine, err_from_is_err_and, own_stages, point}
 use Rattle.tasks.proofs.Own.{own_gave_up, rounds_answer, rounds_gave_up}
 use Rattle.tasks.proofs.Stands.{whole_gave_up}
 use Rattle.tasks.proofs.single.last_reply.Goals as goal
@@ -29,27 +27,25 @@ returns-in_err-reply-clause-err g c =
     rw (p.1, p.2)
     (own_gave_up c.args.own.now (point (g.K.Keeper.kept c.args.keeper.now) c.args.engine.now) (point (g.K.Keeper.kept c.run.new.keeper) c.run.new.self) c.args.turns.now c.in_ok-run.ensures.ok _ _ c.in_err-reply.ensures.err)
 
-pub returns-clause-ok : goal.returns-clause-ok
-returns-clause-ok g c =
-    let from = point (g.K.Keeper.kept c.args.keeper.now) c.args.engine.now in
-    let at = point (g.K.Keeper.kept c.run.new.keeper) c.run.new.self in
-    let own = point (g.K.Keeper.kept c.own_reply.new.keeper) c.own_reply.new.engine in
-    answers_by c.args.own.now from at own _ c.args.turns.now c.in_ok-reply.reply _ c.in_ok-run.ensures.ok c.in_ok-reply.ensures.ok c.finish.ensures.ok
-
-pub returns-clause-err : goal.returns-clause-err
-returns-clause-err g c =
-    let from = point (g.K.Keeper.kept c.args.keeper.now) c.args.engine.now in
-    let at = point (g.K.Keeper.kept c.run.new.keeper) c.run.new.self in
-    let own = point (g.K.Keeper.kept c.own_reply.new.keeper) c.own_reply.new.engine in
-    stops_by c.args.own.now from at own c.args.turns.now (g.K.Keeper.kept c.finish.new.keeper) c.in_ok-reply.reply _ c.in_ok-run.ensures.ok c.in_ok-reply.ensures.ok c.finish.ensures.err
+pub returns : goal.returns
+returns g c = record {
+  ok =
+      let from = point (g.K.Keeper.kept c.args.keeper.now) c.args.engine.now in
+      let at = point (g.K.Keeper.kept c.run.new.keeper) c.run.new.self in
+      let own = point (g.K.Keeper.kept c.own_reply.new.keeper) c.own_reply.new.engine in
+      answers_by c.args.own.now from at own _ c.args.turns.now c.in_ok-reply.reply _ c.in_ok-run.ensures.ok c.in_ok-reply.ensures.ok c.finish.ensures.ok;
+  err =
+      let from = point (g.K.Keeper.kept c.args.keeper.now) c.args.engine.now in
+      let at = point (g.K.Keeper.kept c.run.new.keeper) c.run.new.self in
+      let own = point (g.K.Keeper.kept c.own_reply.new.keeper) c.own_reply.new.engine in
+      stops_by c.args.own.now from at own c.args.turns.now (g.K.Keeper.kept c.finish.new.keeper) c.in_ok-reply.reply _ c.in_ok-run.ensures.ok c.in_ok-reply.ensures.ok c.finish.ensures.err;
+  cause =
+      let first = c.in_ok-run.ensures.cause.later in
+      let second = c.in_ok-reply.ensures.cause.later in
+      cause-behind _ _ _ _ (omega (arith, first, second)) c.finish.ensures.cause;
+}
 
 pub returns-in_err-reply-clause-cause : goal.returns-in_err-reply-clause-cause
 returns-in_err-reply-clause-cause g c =
     let p = err_from_is_err_and c.from_residual-in_err-reply.result c.from_residual-in_err-reply.ensures.1 in
     rw (p.1, p.2) (cause-later _ _ _ _ c.in_ok-run.ensures.cause.later c.in_err-reply.ensures.cause)
-
-pub returns-clause-cause : goal.returns-clause-cause
-returns-clause-cause g c =
-    let first = c.in_ok-run.ensures.cause.later in
-    let second = c.in_ok-reply.ensures.cause.later in
-    cause-behind _ _ _ _ (omega (arith, first, second)) c.finish.ensures.cause

@@ -1,7 +1,6 @@
 use Rattle.std.proofs.Common.{◌∙◌, ap, Option, arith}
-use Rattle.tasks.proofs.Prelude.{Reply, err_from_is_err_and, point, unwrap_or}
+use Rattle.tasks.proofs.Prelude.{Reply, cause-fine, cause-later, cause-stays, err_from_is_err_and, point, unwrap_or}
 use Rattle.tasks.proofs.Prelude.answered
-use Rattle.orch_core.proofs.KnowledgeProofs.Causes.{cause-fine, cause-later, cause-stays}
 use Rattle.tasks.proofs.Own.{claim_stops_by, ends_by, own_stops_by, own_wanting_by}
 use Rattle.tasks.proofs.single.own_reply.Goals as goal
 

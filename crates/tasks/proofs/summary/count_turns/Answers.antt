@@ -1,6 +1,5 @@
 use Rattle.std.proofs.Common.{◌≡◌, ◌∙◌, ap, arith, length, take, Err, refl, subst, true}
-use Rattle.tasks.proofs.Prelude.{Calls, StepsTo, Turn, engine, err_from_is_err_and, kept_by, length-take-le, point, reply_of}
-use Rattle.orch_core.proofs.KnowledgeProofs.Causes.{cause-fine, cause-later}
+use Rattle.tasks.proofs.Prelude.{Calls, StepsTo, Turn, cause-fine, cause-later, engine, err_from_is_err_and, kept_by, length-take-le, point, reply_of}
 use Rattle.tasks.proofs.Courses.{Tallies-counted, Tallies-next, Tallies-nil, same_point, tally_gave_up}
 use Rattle.tasks.proofs.summary.count_turns.Goals as goal
 

@@ -1,5 +1,4 @@
-use Rattle.std.proofs.Common.{◌≡◌, ◌<◌, length, IfSome, get_or}
-use Rattle.std.specs.Prelude.{count_by, ◌==◌}
+use Rattle.std.proofs.Common.{◌≡◌, ◌<◌, length, IfSome, get_or, count_by, ◌==◌}
 use Rattle.topology_tree.proofs.Prelude.{Walked}
 use Rattle.topology_tree.proofs.loops.follow.Given as goal
 

@@ -1,5 +1,4 @@
-use Rattle.std.proofs.Common.{◌≡◌, ◌<◌, length}
-use Rattle.std.specs.Prelude.{count_by, not}
+use Rattle.std.proofs.Common.{◌≡◌, ◌<◌, length, count_by, not}
 use Rattle.topology_tree.proofs.Prelude.{above}
 use Rattle.topology_tree.proofs.Marking.{Marking}
 use Rattle.topology_tree.proofs.loops.mark_loop.Given as goal

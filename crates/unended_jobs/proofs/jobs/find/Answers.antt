@@ -1,7 +1,6 @@
 use Rattle.std.proofs.Common.{◌<◌, ◌∙◌, rules, ltb, sym, ap, length, arith}
+use Rattle.unended_jobs.proofs.Prelude.{Unended, number_of}
 use Rattle.std.proofs.lemmas.List.Sorted.{IsPartitionPoint-from_clause, IsPartitionedBy-ltb}
-use Rattle.unended_jobs.specs.declared.unended.Unended.{Unended}
-use Rattle.unended_jobs.specs.Unended.{number_of}
 use Rattle.unended_jobs.proofs.Turning.{found-there, item-any, none-there, rises}
 use Rattle.unended_jobs.proofs.jobs.find.Goals as goal
 

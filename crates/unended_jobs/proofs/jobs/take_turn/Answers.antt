@@ -1,8 +1,5 @@
-use Rattle.std.proofs.Common.{rules, ◌∙◌, ◌≡◌, sym, ap, subst, Option}
-use Rattle.std.specs.Prelude.{IfSome}
-use Rattle.unended_jobs.specs.Looks.{CanGo, observation_of}
-use Rattle.unended_jobs.specs.Unended.{Flown}
-use Rattle.unended_jobs.specs.declared.unended.Unended.{Unended}
+use Rattle.std.proofs.Common.{rules, ◌∙◌, ◌≡◌, sym, ap, subst, Option, IfSome}
+use Rattle.unended_jobs.proofs.Prelude.{CanGo, Flown, Unended, observation_of}
 use Rattle.unended_jobs.proofs.Looking.{foretold-observation}
 use Rattle.recovery_plans.specs.ServerModel.Run.{run}
 use Rattle.unended_jobs.specs.Jobs.{job_exchanges, job_observation, reads_with}

@@ -1,6 +1,5 @@
 use Rattle.std.proofs.Common.{◌≡◌, ◌++◌, take}
-use Rattle.std.specs.List.{flat_map}
-use Rattle.unended_jobs.specs.Rounds.{polls}
+use Rattle.unended_jobs.proofs.Prelude.{flat_map, polls}
 use Rattle.unended_jobs.proofs.rounds.add_polls.Given as goal
 
 abbrev pub invariant-loop-no : goal.invariant-loop-no

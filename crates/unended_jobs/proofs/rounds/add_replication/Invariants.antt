@@ -1,6 +1,5 @@
 use Rattle.std.proofs.Common.{◌≡◌, ◌++◌, take}
-use Rattle.std.specs.List.{flat_map}
-use Rattle.unended_jobs.specs.Rounds.{replicates}
+use Rattle.unended_jobs.proofs.Prelude.{flat_map, replicates}
 use Rattle.unended_jobs.proofs.rounds.add_replication.Given as goal
 
 abbrev pub invariant-loop-no : goal.invariant-loop-no

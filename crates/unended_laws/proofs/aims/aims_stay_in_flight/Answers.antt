@@ -5,14 +5,10 @@ use Rattle.unended_laws.proofs.CoveredTurning.{number-aimed}
 use Rattle.unended_laws.proofs.Ending.{last-aim}
 use Rattle.unended_laws.proofs.aims.aims_stay_in_flight.Goals as goal
 
-pub returns-clause-begun : goal.returns-clause-begun
-returns-clause-begun c = begin-aimed
-
-pub returns-clause-none : goal.returns-clause-none
-returns-clause-none c = none-aimed
-
-pub returns-clause-turned : goal.returns-clause-turned
-returns-clause-turned c = λ begun f us b id read now rings held. number-aimed f us b id read now rings held begun (job_at us id) refl
-
-pub returns-clause-last : goal.returns-clause-last
-returns-clause-last c = λ begun f us t held aimed. last-aim f us t held begun aimed
+pub returns : goal.returns
+returns c = record {
+  begun = begin-aimed;
+  none = none-aimed;
+  turned = λ begun f us b id read now rings held. number-aimed f us b id read now rings held begun (job_at us id) refl;
+  last = λ begun f us t held aimed. last-aim f us t held begun aimed;
+}

@@ -1,5 +1,4 @@
-use Rattle.std.proofs.Common.{◌≡◌, ◌≤◌, List, length, ap, subst, sym, ◌∙◌, ◌-◌, arith, rules}
-use Rattle.std.specs.Prelude.{All}
+use Rattle.std.proofs.Common.{◌≡◌, ◌≤◌, List, length, ap, subst, sym, ◌∙◌, ◌-◌, arith, rules, All}
 use Rattle.world_openings.proofs.Prelude.{PartsInRange, ServerInit, Txn, count_of, history_at, laid, sound_checked}
 use Rattle.world_openings.proofs.Prelude.Taking.{HasSize}
 use Rattle.world_openings.proofs.OpenedWorlds.{Fits-at, length-history_at}

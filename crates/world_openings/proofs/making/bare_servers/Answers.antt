@@ -1,5 +1,4 @@
-use Rattle.std.proofs.Common.{◌≡◌, ℕ, List, length, Some, ap, subst, arith}
-use Rattle.std.specs.Prelude.{slice_get}
+use Rattle.std.proofs.Common.{◌≡◌, ℕ, List, length, Some, ap, subst, arith, slice_get}
 use Rattle.world_openings.proofs.Prelude.{AreBare, ServerInit, bare_server, slice_get-index}
 use Rattle.world_openings.proofs.Placings.{AreBare-more}
 use Rattle.world_openings.proofs.making.bare_servers.Goals as goal

@@ -1,5 +1,4 @@
-use Rattle.std.proofs.Common.{◌≡◌, ℕ, ◌+◌, ◌<◌, List, length, ap, subst, sym, ◌∙◌, arith}
-use Rattle.std.specs.Prelude.{slice_set}
+use Rattle.std.proofs.Common.{◌≡◌, ℕ, ◌+◌, ◌<◌, List, length, ap, subst, sym, ◌∙◌, arith, slice_set}
 use Rattle.world_openings.proofs.Prelude.{ArePlaced, Server, ServerInit, exec_of, read_of, server_of, slice_get-index}
 use Rattle.world_openings.proofs.Placings.{listed-by, ArePlaced-none, ArePlaced-more, HaveLogs-placed}
 use Rattle.world_openings.proofs.making.place_servers.Goals as goal

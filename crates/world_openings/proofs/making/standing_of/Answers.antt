@@ -1,5 +1,4 @@
-use Rattle.std.proofs.Common.{◌≡◌, ℕ, ◌<◌, List, length, Some, ap, subst, sym, ◌∙◌, arith, get_or, true}
-use Rattle.std.specs.Prelude.{option_map, slice_get}
+use Rattle.std.proofs.Common.{◌≡◌, ℕ, ◌<◌, List, length, Some, ap, subst, sym, ◌∙◌, arith, get_or, true, option_map, slice_get}
 use Rattle.world_openings.proofs.Prelude.{Index, IsPlacedIn, IsUnder, Log, Server, ServerInit, Settings, exec_in, exec_of, log-logged, log_at}
 use Rattle.world_openings.proofs.Prelude.{read_in, read_of, slice_get-index, slice_get_within, sound_checked}
 use Rattle.world_openings.proofs.OpenedWorlds.{placed-under, exec_of-under, read_of-under, read_of-root}

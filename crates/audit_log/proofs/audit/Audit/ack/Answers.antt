@@ -1,8 +1,5 @@
 use Rattle.std.proofs.Common.{◌≡◌, List, length, map, sym, ◌∙◌, ap, subst}
-use Rattle.std.proofs.lemmas.List.{length-map}
-use Rattle.kept_rows.specs.declared.recovery.Recovery.{Recovery}
-use Rattle.audit_log.specs.Audits.{acknowledged_for, IsAudit}
-use Rattle.audit_log.specs.Index.{IsIndex}
+use Rattle.audit_log.proofs.Prelude.{IsAudit, IsIndex, Recovery, acknowledged_for, length-map}
 use Rattle.audit_log.proofs.Changes.{IsAudit-map, lent}
 use Rattle.audit_log.proofs.Kept.{acknowledged-block, acknowledged-id}
 use Rattle.audit_log.proofs.audit.Audit.ack.Goals as goal

@@ -1,5 +1,5 @@
 use Rattle.std.proofs.Common.{◌≡◌, ◌<◌, length, get_or, set, ◌-◌, vec_capacity, vec_len, sym, ◌∙◌, ap, refl}
-use Rattle.audit_log.specs.Audits.{AuditRoom, acked_so, acknowledged_at}
+use Rattle.audit_log.proofs.Prelude.{AuditRoom, acked_so, acknowledged_at}
 use Rattle.audit_log.proofs.Changes.{none-changed, one-changed}
 use Rattle.audit_log.proofs.Changing.{found-set}
 use Rattle.audit_log.proofs.Indexing.{acked-stays}

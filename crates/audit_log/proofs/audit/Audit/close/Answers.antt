@@ -1,8 +1,5 @@
 use Rattle.std.proofs.Common.{◌≡◌, List, length, map, sym, ◌∙◌, ap, subst}
-use Rattle.std.proofs.lemmas.List.{length-map}
-use Rattle.kept_rows.specs.declared.recovery.Recovery.{Recovery}
-use Rattle.audit_log.specs.Audits.{interrupted, IsAudit}
-use Rattle.audit_log.specs.Index.{IsIndex}
+use Rattle.audit_log.proofs.Prelude.{IsAudit, IsIndex, Recovery, interrupted, length-map}
 use Rattle.audit_log.proofs.Changes.{IsAudit-map, lent}
 use Rattle.audit_log.proofs.Kept.{interrupted-block, interrupted-id}
 use Rattle.audit_log.proofs.audit.Audit.close.Goals as goal

@@ -1,6 +1,5 @@
-use Rattle.std.proofs.Common.{◌≡◌, map, take}
-use Rattle.std.specs.Prelude.{filter}
-use Rattle.audit_log.specs.Audits.{interrupted, is_unended}
+use Rattle.std.proofs.Common.{◌≡◌, map, take, filter}
+use Rattle.audit_log.proofs.Prelude.{interrupted, is_unended}
 use Rattle.audit_log.proofs.audit.Audit.closing.Given as goal
 
 abbrev pub invariant-loop-recovery : goal.invariant-loop-recovery

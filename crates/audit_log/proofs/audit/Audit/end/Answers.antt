@@ -1,9 +1,6 @@
-use Rattle.std.proofs.Common.{◌≡◌, ◌<◌, length, get_or, set, ◌-◌, vec_capacity, vec_len, sym, ◌∙◌, ap, refl, subst}
-use Rattle.audit_log.specs.Audits.{AuditRoom, ended, ended_so}
+use Rattle.std.proofs.Common.{◌≡◌, ◌<◌, length, get_or, set, ◌-◌, vec_capacity, vec_len, sym, ◌∙◌, ap, refl, subst, IsSomeAnd, true}
+use Rattle.audit_log.proofs.Prelude.{AuditRoom, Recovery, ended, ended_so, is_unended, recovery_at}
 use Rattle.audit_log.proofs.Changes.{none-changed, one-changed}
-use Rattle.std.specs.Prelude.{IsSomeAnd, true}
-use Rattle.kept_rows.specs.declared.recovery.Recovery.{Recovery}
-use Rattle.audit_log.specs.Audits.{is_unended, recovery_at}
 use Rattle.audit_log.proofs.Changing.{found-set, unended-there}
 use Rattle.audit_log.proofs.Indexing.{ended-stays}
 use Rattle.audit_log.proofs.audit.Audit.end.Goals as goal

@@ -1,11 +1,7 @@
-use Rattle.std.proofs.Common.{◌≡◌, ◌<◌, length, get_or, set, ◌-◌, vec_capacity, vec_len, sym, ◌∙◌, ap, subst}
-use Rattle.audit_log.specs.Audits.{AuditRoom, finished, finished_so}
+use Rattle.std.proofs.Common.{◌≡◌, ◌<◌, length, get_or, set, ◌-◌, vec_capacity, vec_len, sym, ◌∙◌, ap, subst, IsSomeAnd, true}
+use Rattle.audit_log.proofs.Prelude.{AuditRoom, Recovery, finished, finished_so, is_unended, recovery_at}
 use Rattle.audit_log.proofs.Changes.{none-changed, one-changed}
-use Rattle.audit_log.proofs.Changing.{finished-is}
-use Rattle.std.specs.Prelude.{IsSomeAnd, true}
-use Rattle.kept_rows.specs.declared.recovery.Recovery.{Recovery}
-use Rattle.audit_log.specs.Audits.{is_unended, recovery_at}
-use Rattle.audit_log.proofs.Changing.{finished-block, finished-id, finished-stays, found-set, unended-there}
+use Rattle.audit_log.proofs.Changing.{finished-block, finished-id, finished-is, finished-stays, found-set, unended-there}
 use Rattle.audit_log.proofs.audit.Audit.finish.Goals as goal
 
 pub returns-in-Some : goal.returns-in-Some

@@ -1,6 +1,5 @@
 use Rattle.std.proofs.Common.{rules, ap, sym}
-use Rattle.std.proofs.lemmas.List.Sorted.{answers_always}
-use Rattle.kept_rows.specs.declared.recovery.Recovery.{Recovery}
+use Rattle.audit_log.proofs.Prelude.{Recovery, answers_always}
 use Rattle.audit_log.proofs.Finding.{stands}
 use Rattle.audit_log.proofs.audit.Audit.index_of.Goals as goal
 

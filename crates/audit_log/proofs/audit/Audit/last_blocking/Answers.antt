@@ -1,5 +1,5 @@
 use Rattle.std.proofs.Common.{Some, sym, ◌∙◌, ap}
-use Rattle.audit_log.specs.Audits.{AuditRoom, last_blocking}
+use Rattle.audit_log.proofs.Prelude.{AuditRoom, last_blocking}
 use Rattle.audit_log.proofs.Stepping.{Blocks}
 use Rattle.audit_log.proofs.Walking.{find-last, find-last_none}
 use Rattle.audit_log.proofs.audit.Audit.last_blocking.Goals as goal

@@ -1,7 +1,5 @@
-use Rattle.std.proofs.Common.{◌≤◌, ◌^◌, sym, ap, subst, arith}
-use Rattle.std.specs.Prelude.{◌&&◌, reverse}
-use Rattle.kept_rows.specs.declared.recovery.Recovery.{Recovery}
-use Rattle.audit_log.specs.Audits.{AuditRoom, is_blocking, is_of, longest_block, IsAudit}
+use Rattle.std.proofs.Common.{◌≤◌, ◌^◌, sym, ap, subst, arith, ◌&&◌, reverse}
+use Rattle.audit_log.proofs.Prelude.{AuditRoom, IsAudit, Recovery, is_blocking, is_of, longest_block}
 use Rattle.audit_log.proofs.Finding.{All-found, All-reverse}
 use Rattle.audit_log.proofs.audit.Audit.may_begin.Goals as goal
 

@@ -1,5 +1,5 @@
 use Rattle.std.proofs.Common.{◌≡◌, ◌<◌, length, get_or, Some, sym, ◌∙◌, ap}
-use Rattle.audit_log.specs.Audits.{AuditRoom, recovery_at}
+use Rattle.audit_log.proofs.Prelude.{AuditRoom, recovery_at}
 use Rattle.audit_log.proofs.Changes.{found-at, none-at}
 use Rattle.audit_log.proofs.audit.Audit.recovery.Goals as goal
 

@@ -1,5 +1,5 @@
 use Rattle.std.proofs.Common.{Some, sym, ◌∙◌, ap}
-use Rattle.audit_log.specs.Audits.{AuditRoom, unended_of}
+use Rattle.audit_log.proofs.Prelude.{AuditRoom, unended_of}
 use Rattle.audit_log.proofs.Stepping.{Open}
 use Rattle.audit_log.proofs.Walking.{find-first, find-none}
 use Rattle.audit_log.proofs.audit.Audit.unended_of.Goals as goal

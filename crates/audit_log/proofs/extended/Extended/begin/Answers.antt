@@ -1,7 +1,5 @@
 use Rattle.std.proofs.Common.{sym, ◌∙◌, ap, subst}
-use Rattle.audit_log.specs.Apart.{MayBegin}
-use Rattle.audit_log.specs.Audits.{begun, AuditRoom}
-use Rattle.audit_log.specs.Extended.{extended}
+use Rattle.audit_log.proofs.Prelude.{AuditRoom, MayBegin, begun, extended}
 use Rattle.audit_log.proofs.Extending.{extended-begun, extended-may}
 use Rattle.audit_log.proofs.extended.Extended.begin.Goals as goal
 

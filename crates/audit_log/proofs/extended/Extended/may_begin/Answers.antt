@@ -1,8 +1,5 @@
-use Rattle.std.proofs.Common.{◌≤◌, ◌^◌, sym, ◌∙◌, ap, subst}
-use Rattle.std.specs.Prelude.{All}
-use Rattle.kept_rows.specs.declared.recovery.Recovery.{Recovery}
-use Rattle.audit_log.specs.Audits.{AuditRoom, may_begin}
-use Rattle.audit_log.specs.Extended.{either_held}
+use Rattle.std.proofs.Common.{◌≤◌, ◌^◌, sym, ◌∙◌, ap, subst, All}
+use Rattle.audit_log.proofs.Prelude.{AuditRoom, Recovery, either_held, may_begin}
 use Rattle.audit_log.proofs.Extending.{All-second, extended-held}
 use Rattle.audit_log.proofs.extended.Extended.may_begin.Goals as goal
 

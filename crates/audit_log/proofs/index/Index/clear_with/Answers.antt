@@ -1,9 +1,5 @@
 use Rattle.std.proofs.Common.{◌≡◌, ◌+◌, ◌≤◌, false, inl, inr, sym, arith}
-use Rattle.std.specs.List.{AllWithin}
-use Rattle.std.proofs.lemmas.List.Elements.{at_read}
-use Rattle.kept_rows.specs.declared.recovery.Recovery.{Recovery}
-use Rattle.audit_log.specs.Apart.{IsClear}
-use Rattle.audit_log.specs.Audits.{is_unended}
+use Rattle.audit_log.proofs.Prelude.{AllWithin, IsClear, Recovery, at_read, is_unended}
 use Rattle.audit_log.proofs.Linking.{clear-more}
 use Rattle.audit_log.proofs.index.Index.clear_with.Goals as goal
 

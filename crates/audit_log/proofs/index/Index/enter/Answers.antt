@@ -1,8 +1,5 @@
-use Rattle.std.proofs.Common.{◌+◌, length, set, inl, inr, sym, ◌∙◌, ap, subst, arith}
-use Rattle.std.specs.Prelude.{vec_len}
-use Rattle.std.proofs.lemmas.Bool.{eqb-true}
-use Rattle.std.proofs.lemmas.Option.{IfSome_then}
-use Rattle.audit_log.specs.Index.{bucket_of, IsLinked}
+use Rattle.std.proofs.Common.{◌+◌, length, set, inl, inr, sym, ◌∙◌, ap, subst, arith, vec_len}
+use Rattle.audit_log.proofs.Prelude.{IfSome_then, IsLinked, bucket_of, eqb-true}
 use Rattle.audit_log.proofs.Indexing.{index-blind, index-grown}
 use Rattle.audit_log.proofs.index.Index.enter.Goals as goal
 

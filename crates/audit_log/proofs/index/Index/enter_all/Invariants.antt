@@ -1,5 +1,5 @@
 use Rattle.std.proofs.Common.{take}
-use Rattle.audit_log.specs.Index.{IsIndex}
+use Rattle.audit_log.proofs.Prelude.{IsIndex}
 use Rattle.audit_log.proofs.index.Index.enter_all.Given as goal
 
 abbrev pub invariant-loop-i : goal.invariant-loop-i

@@ -1,6 +1,5 @@
 use Rattle.std.proofs.Common.{◌≤◌}
-use Rattle.std.specs.List.{AllWithin}
-use Rattle.audit_log.specs.Index.{DoneOf}
+use Rattle.audit_log.proofs.Prelude.{AllWithin, DoneOf}
 use Rattle.audit_log.proofs.index.Index.last_before.Given as goal
 
 abbrev pub invariant-loop-at : goal.invariant-loop-at

@@ -1,6 +1,5 @@
-use Rattle.std.proofs.Common.{◌≤◌, ℕ, List, subst}
-use Rattle.std.specs.Prelude.{All, IfSome}
-use Rattle.audit_log.specs.Apart.{IsClear}
+use Rattle.std.proofs.Common.{◌≤◌, ℕ, List, subst, All, IfSome}
+use Rattle.audit_log.proofs.Prelude.{IsClear}
 use Rattle.audit_log.proofs.index.Index.link_to.Goals as goal
 
 pub returns-clause-clear : goal.returns-clause-clear

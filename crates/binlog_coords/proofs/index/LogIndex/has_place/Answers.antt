@@ -1,5 +1,4 @@
-use Rattle.std.proofs.Common.{refl, ap}
-use Rattle.std.specs.Prelude.{map}
+use Rattle.std.proofs.Common.{refl, ap, map}
 use Rattle.binlog_coords.proofs.Prelude.{Index, entry_of}
 use Rattle.binlog_coords.proofs.Halves.{has_place-by}
 use Rattle.binlog_coords.proofs.index.LogIndex.has_place.Goals as goal

@@ -1,5 +1,4 @@
-use Rattle.std.proofs.Common.{ap}
-use Rattle.std.specs.Prelude.{map}
+use Rattle.std.proofs.Common.{ap, map}
 use Rattle.binlog_coords.proofs.Prelude.{Index, entry_of}
 use Rattle.binlog_coords.proofs.Halves.{next_after-begun, next_after-elsewhere, next_after-past}
 use Rattle.binlog_coords.proofs.index.LogIndex.next_after.Goals as goal

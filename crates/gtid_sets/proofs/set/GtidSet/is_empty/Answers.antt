@@ -1,5 +1,4 @@
-use Rattle.std.proofs.Common.{◌≡◌, List, [], false, refl, sym, subst, arith}
-use Rattle.std.specs.Prelude.{◌↔◌, IsTrue}
+use Rattle.std.proofs.Common.{◌≡◌, List, [], false, refl, sym, subst, arith, ◌↔◌, IsTrue}
 use Rattle.gtid_sets.proofs.Prelude.{Interval, common_steps, holds}
 use Rattle.gtid_sets.proofs.Search.{none_held}
 use Rattle.gtid_sets.proofs.set.GtidSet.is_empty.Goals as goal

@@ -1,5 +1,4 @@
-use Rattle.std.proofs.Common.{◌≡◌, true, eqb, subst, arith}
-use Rattle.std.specs.Prelude.{◌&&◌}
+use Rattle.std.proofs.Common.{◌≡◌, true, eqb, subst, arith, ◌&&◌}
 use Rattle.gtid_sets.proofs.Prelude.{Decides, Interval, nat_tests, slice_eq-Decides}
 use Rattle.gtid_sets.proofs.set.GtidSet.is_same.Goals as goal
 

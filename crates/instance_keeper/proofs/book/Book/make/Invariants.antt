@@ -1,5 +1,4 @@
-use Rattle.std.proofs.Common.{◌≡◌, take}
-use Rattle.std.specs.Prelude.{fold}
+use Rattle.std.proofs.Common.{◌≡◌, take, fold}
 use Rattle.instance_keeper.proofs.Prelude.{after_row, empty_book, names_of}
 use Rattle.instance_keeper.proofs.book.Book.make.Given as goal
 

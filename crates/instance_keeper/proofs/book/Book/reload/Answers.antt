@@ -1,5 +1,4 @@
-use Rattle.std.proofs.Common.{◌∙◌, ap, sym, zero}
-use Rattle.std.specs.Prelude.{fold}
+use Rattle.std.proofs.Common.{◌∙◌, ap, sym, zero, fold}
 use Rattle.instance_keeper.proofs.Prelude.{BookState, after_row, first_set}
 use Rattle.instance_keeper.proofs.Reloads.{all_set, none_set}
 use Rattle.instance_keeper.proofs.book.Book.reload.Goals as goal

@@ -1,5 +1,4 @@
-use Rattle.std.proofs.Common.{List, ap}
-use Rattle.std.specs.Prelude.{slice_set}
+use Rattle.std.proofs.Common.{List, ap, slice_set}
 use Rattle.instance_keeper.proofs.Prelude.{Bridge}
 use Rattle.instance_keeper.proofs.Books.{none_ringed, downtime_set, candidate_set}
 use Rattle.instance_keeper.proofs.book.Book.remove.Goals as goal

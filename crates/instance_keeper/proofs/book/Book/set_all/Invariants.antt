@@ -1,5 +1,4 @@
-use Rattle.std.proofs.Common.{◌≡◌, ◌≤◌, length}
-use Rattle.std.specs.Prelude.{fold}
+use Rattle.std.proofs.Common.{◌≡◌, ◌≤◌, length, fold}
 use Rattle.instance_keeper.proofs.Prelude.{after_row, first_set}
 use Rattle.instance_keeper.proofs.book.Book.set_all.Given as goal
 

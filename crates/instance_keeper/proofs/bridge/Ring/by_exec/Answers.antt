@@ -1,5 +1,4 @@
-use Rattle.std.proofs.Common.{◌≡◌, ◌<◌, ◌+◌, ℕ, Option, length, take, ap, ◌∙◌, rules, suc, arith}
-use Rattle.std.specs.Prelude.{slice_get}
+use Rattle.std.proofs.Common.{◌≡◌, ◌<◌, ◌+◌, ℕ, Option, length, take, ap, ◌∙◌, rules, suc, arith, slice_get}
 use Rattle.instance_keeper.proofs.Prelude.{Bridge, has_exec, latest_that, over}
 use Rattle.instance_keeper.proofs.Ringed.{latest_more}
 use Rattle.instance_keeper.proofs.bridge.Ring.by_exec.Goals as goal

@@ -1,5 +1,4 @@
-use Rattle.std.proofs.Common.{length, List, subst, sym}
-use Rattle.std.specs.Prelude.{All}
+use Rattle.std.proofs.Common.{length, List, subst, sym, All}
 use Rattle.live_desk.proofs.Prelude.{DeskState, IfSome_then, IsTurn, NamesOneOf, Turn}
 use Rattle.live_desk.proofs.desk.Desk.next_listed.Goals as goal
 

@@ -1,5 +1,4 @@
-use Rattle.std.proofs.Common.{◌≡◌, ◌∙◌, [], false, true, Result, Ok, Err, ap, subst, sym}
-use Rattle.std.specs.Prelude.{OnOk}
+use Rattle.std.proofs.Common.{◌≡◌, ◌∙◌, [], false, true, Result, Ok, Err, ap, subst, sym, OnOk}
 use Rattle.orch_core.proofs.Prelude.{ClaimState, State, StepsTo, act_changes, acts, asks, changes_of, engine, state_of}
 use Rattle.orch_core.proofs.Prelude.turn
 use Rattle.orch_core.proofs.Claims.{StepsTo-same, asks-acting, changes-acting, same-claims, step-acting}

@@ -1,5 +1,4 @@
-use Rattle.std.proofs.Common.{◌≡◌, ◌∙◌, ℕ, ◌<◌, ◌≤◌, ◌^◌, length, sym, ap, subst, true}
-use Rattle.std.specs.Prelude.{IfSome}
+use Rattle.std.proofs.Common.{◌≡◌, ◌∙◌, ℕ, ◌<◌, ◌≤◌, ◌^◌, length, sym, ap, subst, true, IfSome}
 use Rattle.orch_core.proofs.Prelude.{CanSettle, CommandTurn, IsCommand, Numbers, State, command_outcome, is_within, numbers_of, outcome, outcome_of}
 use Rattle.orch_core.proofs.Prelude.{state_of}
 use Rattle.orch_core.proofs.Outcomes.{command-settles, destination-within, given-duration, given-within}

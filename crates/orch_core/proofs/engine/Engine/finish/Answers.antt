@@ -1,11 +1,9 @@
-use Rattle.std.proofs.Common.{◌≡◌, ◌∙◌, ◌+◌, ◌<◌, ◌∷◌, ◌++◌, refl, sym, ap, subst, length, List, arith}
-use Rattle.std.specs.Prelude.{All}
-use Rattle.orch_core.proofs.Prelude.{All-tail, IsTurn, NamesOneOf, Ran, ServerNo, State, Turn, WasCutOff, by_name, engine, flat_map, nodes_of, polls}
-use Rattle.orch_core.proofs.Prelude.{replicates, round_of}
+use Rattle.std.proofs.Common.{◌≡◌, ◌∙◌, ◌+◌, ◌<◌, ◌∷◌, ◌++◌, refl, sym, ap, subst, length, List, arith, All}
+use Rattle.orch_core.proofs.Prelude.{All-tail, IsTurn, NamesOneOf, Ran, ServerNo, State, Turn, WasCutOff, by_name, cause-fine, cause-later, engine}
+use Rattle.orch_core.proofs.Prelude.{flat_map, nodes_of, polls, replicates, round_of}
 use Rattle.orch_core.proofs.Prelude.act
 use Rattle.orch_core.proofs.Prelude.turn
 use Rattle.orch_core.proofs.Finishing.{FinishedBy-told, Rounds-more, Rounds-none, cut-first, cut-round, named-others, round-less, told-more, turns-round}
-use Rattle.knowledge.proofs.Causes.{cause-fine, cause-later}
 use Rattle.orch_core.proofs.engine.Engine.finish.Goals as goal
 
 pub rounds-preserved : goal.rounds-preserved

@@ -1,5 +1,4 @@
-use Rattle.std.proofs.Common.{◌≡◌, ◌∙◌, ◌<◌, ◌++◌, [], rules, sym, ap, subst, length, Bool, true, false, Option}
-use Rattle.std.specs.Prelude.{IfSome, is_ok, slice_get}
+use Rattle.std.proofs.Common.{◌≡◌, ◌∙◌, ◌<◌, ◌++◌, [], rules, sym, ap, subst, length, Bool, true, false, Option, IfSome, is_ok, slice_get}
 use Rattle.orch_core.proofs.Prelude.{AreReply, CanGo, Closing, IsOpenAt, Reply, State, Unended, changes_by, changes_of, closed_by, closing_changes}
 use Rattle.orch_core.proofs.Prelude.{job_at, kept_if, observation_of, ready-of, reply_of, state_of, step, step_of, step_reply}
 use Rattle.orch_core.proofs.Prelude.act

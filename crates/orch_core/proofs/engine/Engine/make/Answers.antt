@@ -1,9 +1,7 @@
-use Rattle.std.proofs.Common.{◌≡◌, ◌∙◌, ◌+◌, ℕ, Bool, false, List, length, ap, refl, subst, sym, arith, rules}
-use Rattle.orch_core.proofs.Prelude.{Change, Row, ServerInit, World, audit_of, counted, err_from_is_err_and, greatest_id, holder_of}
-use Rattle.orch_core.proofs.Prelude.{is_opening_change, kept_at_start, kept_claim, kept_if, last_id, last_id-within, length-map, loading}
-use Rattle.orch_core.proofs.Prelude.{made as claims_made, opening_changes, period_by}
-use Rattle.std.specs.Prelude.{All, IsTrue, is_ok, map}
-use Rattle.knowledge.proofs.Causes.{cause-carried, cause-fine, cause-stays}
+use Rattle.std.proofs.Common.{◌≡◌, ◌∙◌, ◌+◌, ℕ, Bool, false, List, length, ap, refl, subst, sym, arith, rules, All, IsTrue, is_ok, map}
+use Rattle.orch_core.proofs.Prelude.{Change, Row, ServerInit, World, audit_of, cause-carried, cause-fine, cause-stays, counted, err_from_is_err_and}
+use Rattle.orch_core.proofs.Prelude.{greatest_id, holder_of, is_opening_change, kept_at_start, kept_claim, kept_if, last_id, last_id-within}
+use Rattle.orch_core.proofs.Prelude.{length-map, loading, made as claims_made, opening_changes, period_by}
 use Rattle.orch_core.proofs.Sources.{KnowsSources}
 use Rattle.orch_core.proofs.Starts.{Fits-start, IsOpening, all-loading, IsState-made, StartsBy-made, book-names, kept_made, moment-within, opened-by, sources-start, starts-reads, world_made}
 use Rattle.orch_core.proofs.engine.Engine.make.Goals as goal

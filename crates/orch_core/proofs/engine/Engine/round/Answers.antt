@@ -1,10 +1,9 @@
 use Rattle.std.proofs.Common.{[], ◌∷◌, Err, ap, arith}
-use Rattle.orch_core.proofs.Prelude.{engine, err_from_is_err_and}
+use Rattle.orch_core.proofs.Prelude.{cause-fine, cause-later, engine, err_from_is_err_and}
 use Rattle.orch_core.proofs.Prelude.act
 use Rattle.orch_core.proofs.Prelude.turn
 use Rattle.orch_core.proofs.Finishing.{Ran-append, cut-behind}
 use Rattle.orch_core.proofs.Runs.{Ran-more, Ran-nil, cut-at}
-use Rattle.knowledge.proofs.Causes.{cause-fine, cause-later}
 use Rattle.orch_core.proofs.engine.Engine.round.Goals as goal
 
 pub returns-in_err-reply-clause-err : goal.returns-in_err-reply-clause-err

@@ -1,7 +1,6 @@
 use Rattle.std.proofs.Common.{◌≡◌, ◌∙◌, true, subst, arith}
-use Rattle.orch_core.proofs.Prelude.{StepsTo, Turn, engine, err_from_is_err_and, kept_by}
+use Rattle.orch_core.proofs.Prelude.{StepsTo, Turn, cause-fine, cause-later, engine, err_from_is_err_and, kept_by}
 use Rattle.orch_core.proofs.Runs.{Ran-next}
-use Rattle.knowledge.proofs.Causes.{cause-fine, cause-later}
 use Rattle.orch_core.proofs.engine.Engine.run.Goals as goal
 
 pub loop-t-preserved : goal.loop-t-preserved

@@ -1,5 +1,4 @@
-use Rattle.std.proofs.Common.{◌≡◌, ◌≢◌, ◌∙◌, ◌≤◌, ◌^◌, [], Err, sym, ap, subst}
-use Rattle.std.specs.Prelude.{IfOk, OnOk, is_ok}
+use Rattle.std.proofs.Common.{◌≡◌, ◌≢◌, ◌∙◌, ◌≤◌, ◌^◌, [], Err, sym, ap, subst, IfOk, OnOk, is_ok}
 use Rattle.orch_core.proofs.Prelude.{AreReply, CanSettle, Numbers, Outcome, State, kept_if, numbers_of, outcome, scan_by, scan_outcome, settled}
 use Rattle.orch_core.proofs.Prelude.{state_of}
 use Rattle.orch_core.proofs.Prelude.fault

@@ -1,11 +1,9 @@
 use Rattle.std.proofs.Common.{◌≡◌, ◌∙◌, ◌-◌, ◌≤◌, ◌^◌, ◌++◌, ℕ, true, List, Option, length, ap, arith, rules, subst, sym}
-use Rattle.orch_core.proofs.Prelude.{AuditState, Change, IsAudit, Moment, Row, State, StepsTo, audit_of, book_made, closed, counted, engine}
-use Rattle.orch_core.proofs.Prelude.{interrupted_at, kept_if, kept_with, last_given, latest_recovery, loading, period_by, reloaded_audit}
-use Rattle.orch_core.proofs.Prelude.{reloaded_moment, reloaded_rows, restart_changes, state_of}
+use Rattle.orch_core.proofs.Prelude.{AuditState, Change, IsAudit, Moment, Row, State, StepsTo, audit_of, book_made, cause-fine, cause-later}
+use Rattle.orch_core.proofs.Prelude.{cause-stays, closed, counted, engine, err_from_is_err_and, interrupted_at, kept_if, kept_with, last_given}
+use Rattle.orch_core.proofs.Prelude.{latest_recovery, loading, period_by, reloaded_audit, reloaded_moment, reloaded_rows, restart_changes, state_of}
 use Rattle.orch_core.proofs.Prelude.act
 use Rattle.orch_core.proofs.Prelude.turn
-use Rattle.std.proofs.lemmas.Result.{err_from_is_err_and}
-use Rattle.knowledge.proofs.Causes.{cause-fine, cause-later, cause-stays}
 use Rattle.orch_core.proofs.States.{IsRestarted, IsState-restart, StepsTo-given, reloaded-is, step-restart, with_given}
 use Rattle.orch_core.proofs.engine.Engine.start_again.Goals as goal
 

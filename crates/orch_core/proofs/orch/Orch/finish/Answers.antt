@@ -1,10 +1,8 @@
-use Rattle.std.proofs.Common.{◌≡◌, ◌∙◌, ◌+◌, ◌<◌, refl, sym, ap, subst, length, List, arith}
-use Rattle.std.specs.Prelude.{All}
-use Rattle.orch_core.proofs.Prelude.{BookState, IsTurn, NamesOneOf, Ran, Recorded, ServerNo, Turn, WasCutOff, by_name, nodes_of, recorder, round_of}
-use Rattle.orch_core.proofs.Prelude.{round_over}
+use Rattle.std.proofs.Common.{◌≡◌, ◌∙◌, ◌+◌, ◌<◌, refl, sym, ap, subst, length, List, arith, All}
+use Rattle.orch_core.proofs.Prelude.{BookState, IsTurn, NamesOneOf, Ran, Recorded, ServerNo, Turn, WasCutOff, by_name, cause-fine, cause-later}
+use Rattle.orch_core.proofs.Prelude.{nodes_of, recorder, round_of, round_over}
 use Rattle.orch_core.proofs.Others.{closed-others}
 use Rattle.orch_core.proofs.Finishing.{Finished-others, Rounds-more, cut-first, cut-round, named-round, round-less, turns-round}
-use Rattle.knowledge.proofs.Causes.{cause-fine, cause-later}
 use Rattle.orch_core.proofs.orch.Orch.finish.Goals as goal
 
 pub rounds-preserved : goal.rounds-preserved

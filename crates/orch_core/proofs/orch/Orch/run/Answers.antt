@@ -1,7 +1,6 @@
 use Rattle.std.proofs.Common.{◌≡◌, ◌∙◌, true, Err, ap, subst, arith}
-use Rattle.orch_core.proofs.Prelude.{Calls, StepsTo, Turn, err_from_is_err_and, kept_by, recorder}
+use Rattle.orch_core.proofs.Prelude.{Calls, StepsTo, Turn, cause-fine, cause-later, cause-stays, err_from_is_err_and, kept_by, recorder}
 use Rattle.orch_core.proofs.Runs.{Ran-next, cut-at}
-use Rattle.knowledge.proofs.Causes.{cause-fine, cause-later, cause-stays}
 use Rattle.orch_core.proofs.orch.Orch.run.Goals as goal
 
 pub loop-t-preserved : goal.loop-t-preserved

@@ -1,5 +1,4 @@
-use Rattle.std.proofs.Common.{◌≡◌, ℕ, ◌<◌, ◌∙◌, List, Option, None, length, sym, ap, subst}
-use Rattle.std.specs.Prelude.{All, slice_index_or}
+use Rattle.std.proofs.Common.{◌≡◌, ℕ, ◌<◌, ◌∙◌, List, Option, None, length, sym, ap, subst, All, slice_index_or}
 use Rattle.recovery_core.proofs.Prelude.{Refusal, ServerNo, Staged, action_of, busy_by, first_about, recovery_list, refusal_for}
 use Rattle.recovery_core.proofs.Trying.{list-within, refused-busy, refused-else}
 use Rattle.recovery_core.proofs.stage.Stage.refusal.Goals as goal

@@ -1,5 +1,4 @@
-use Rattle.std.proofs.Common.{◌≡◌, ◌<◌, ◌∙◌, None, length, sym, ap, subst}
-use Rattle.std.specs.Prelude.{All}
+use Rattle.std.proofs.Common.{◌≡◌, ◌<◌, ◌∙◌, None, length, sym, ap, subst, All}
 use Rattle.recovery_core.proofs.Prelude.{Begins, ServerNo, Staged, entry_of, recovery_kind, recovery_list, staged_refusal}
 use Rattle.recovery_core.proofs.Trying.{entry-may, list-within, none-there, on-ok, recovery-may, room-kept}
 use Rattle.recovery_core.proofs.stage.Stage.try_entry.Goals as goal

@@ -1,5 +1,4 @@
-use Rattle.std.proofs.Common.{◌≡◌, ◌+◌, ◌∷◌, drop, refl, sym, ap, ◌∙◌, rules, arith}
-use Rattle.std.specs.Prelude.{slice_get}
+use Rattle.std.proofs.Common.{◌≡◌, ◌+◌, ◌∷◌, drop, refl, sym, ap, ◌∙◌, rules, arith, slice_get}
 use Rattle.recovery_turns.proofs.Prelude.{Recovery, decided_on, ground_by, hand, moving, on_ok_weaker}
 use Rattle.recovery_turns.proofs.Prelude.lost
 use Rattle.recovery_turns.proofs.Decisions.{first_is, hand_goes, hand_loses, hand_way, handed_on, left_fewer, left_on, left_task}

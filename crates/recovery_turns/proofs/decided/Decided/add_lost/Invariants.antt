@@ -1,5 +1,4 @@
-use Rattle.std.proofs.Common.{◌≡◌, ◌++◌, take}
-use Rattle.std.specs.Prelude.{filter_map}
+use Rattle.std.proofs.Common.{◌≡◌, ◌++◌, take, filter_map}
 use Rattle.recovery_turns.proofs.Prelude.{decided_on, lost_line}
 use Rattle.recovery_turns.proofs.decided.Decided.add_lost.Given as goal
 

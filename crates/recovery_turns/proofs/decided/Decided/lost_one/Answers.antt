@@ -1,5 +1,4 @@
-use Rattle.std.proofs.Common.{Some, None, sym, ap, ◌∙◌}
-use Rattle.std.specs.Prelude.{◌==◌, find}
+use Rattle.std.proofs.Common.{Some, None, sym, ap, ◌∙◌, ◌==◌, find}
 use Rattle.recovery_turns.proofs.Prelude.{LostReplica, Recovery}
 use Rattle.recovery_turns.proofs.Decisions.{lost_on}
 use Rattle.recovery_turns.proofs.decided.Decided.lost_one.Goals as goal

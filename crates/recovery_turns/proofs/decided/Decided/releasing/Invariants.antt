@@ -1,5 +1,4 @@
-use Rattle.std.proofs.Common.{◌≡◌, map, take}
-use Rattle.std.specs.Prelude.{filter}
+use Rattle.std.proofs.Common.{◌≡◌, map, take, filter}
 use Rattle.recovery_turns.proofs.Prelude.{decided_on, releases, why_of}
 use Rattle.recovery_turns.proofs.Prelude.task
 use Rattle.recovery_turns.proofs.decided.Decided.releasing.Given as goal

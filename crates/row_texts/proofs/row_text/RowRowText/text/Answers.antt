@@ -1,5 +1,4 @@
-use Rattle.std.proofs.Common.{◌∙◌, Result, Ok, Err, subst}
-use Rattle.std.specs.Prelude.{OnOk, string_bytes}
+use Rattle.std.proofs.Common.{◌∙◌, Result, Ok, Err, subst, OnOk, string_bytes}
 use Rattle.row_texts.proofs.Prelude.{IsUtf8, view}
 use Rattle.row_texts.proofs.Texts.{written_value}
 use Rattle.row_texts.proofs.row_text.RowRowText.text.Goals as goal

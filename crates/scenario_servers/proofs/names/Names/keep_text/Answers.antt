@@ -1,5 +1,4 @@
-use Rattle.std.proofs.Common.{◌≡◌, Ok, List, Option, subst, sym}
-use Rattle.std.specs.Prelude.{string_bytes}
+use Rattle.std.proofs.Common.{◌≡◌, Ok, List, Option, subst, sym, string_bytes}
 use Rattle.scenario_servers.proofs.Prelude.{HostPort, hash_map_updates_text, text_named}
 use Rattle.scenario_servers.proofs.TextTables.{text-more}
 use Rattle.scenario_servers.proofs.names.Names.keep_text.Goals as goal

@@ -1,5 +1,4 @@
-use Rattle.std.proofs.Common.{◌≡◌, Ok}
-use Rattle.std.specs.Prelude.{string_bytes}
+use Rattle.std.proofs.Common.{◌≡◌, Ok, string_bytes}
 use Rattle.scenario_turns.proofs.Prelude.{btree_map_updates_text, found_in}
 use Rattle.scenario_turns.proofs.KnownPatterns.{known-more}
 use Rattle.scenario_turns.proofs.patterns.Patterns.learn.Goals as goal

@@ -1,8 +1,5 @@
 use Rattle.std.proofs.Common.{rules}
-use Rattle.std.specs.Ordering.{is_lt}
-use Rattle.std.proofs.lemmas.List.Sorted.{IsPartitionPoint-from_clause}
-use Rattle.scenarios.specs.Labels.{block_label}
-use Rattle.scenarios.specs.declared.blocks.Block.{Block}
+use Rattle.scenarios.proofs.Prelude.{Block, IsPartitionPoint-from_clause, block_label, is_lt}
 use Rattle.scenarios.proofs.Places.{order, parted}
 use Rattle.scenarios.proofs.blocks.BlockLabelled.count_below.Goals as goal
 

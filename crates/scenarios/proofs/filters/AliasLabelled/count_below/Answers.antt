@@ -1,8 +1,5 @@
 use Rattle.std.proofs.Common.{rules}
-use Rattle.std.specs.Ordering.{is_lt}
-use Rattle.std.proofs.lemmas.List.Sorted.{IsPartitionPoint-from_clause}
-use Rattle.scenarios.specs.Labels.{alias_label}
-use Rattle.scenarios.specs.declared.filters.Alias.{Alias}
+use Rattle.scenarios.proofs.Prelude.{Alias, IsPartitionPoint-from_clause, alias_label, is_lt}
 use Rattle.scenarios.proofs.Places.{order, parted}
 use Rattle.scenarios.proofs.filters.AliasLabelled.count_below.Goals as goal
 

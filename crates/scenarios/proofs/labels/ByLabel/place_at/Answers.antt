@@ -1,9 +1,5 @@
-use Rattle.std.proofs.Common.{◌≡◌, ◌∙◌, Some, ap, arith, nat_eq, rules, sym, true}
-use Rattle.std.specs.Prelude.{slice_get}
-use Rattle.std.specs.Arc.{arc_value}
-use Rattle.std.specs.Cmp.Lexicographic.{pointwise}
-use Rattle.std.proofs.lemmas.Grind.{common_steps}
-use Rattle.std.proofs.lemmas.Option.{gets}
+use Rattle.std.proofs.Common.{◌≡◌, ◌∙◌, Some, ap, arith, nat_eq, rules, sym, true, slice_get}
+use Rattle.scenarios.proofs.Prelude.{arc_value, common_steps, gets, pointwise}
 use Rattle.scenarios.proofs.Places.{placed}
 use Rattle.scenarios.proofs.labels.ByLabel.place_at.Goals as goal
 

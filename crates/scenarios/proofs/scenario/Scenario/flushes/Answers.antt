@@ -1,8 +1,5 @@
-use Rattle.std.proofs.Common.{◌≡◌, ◌+◌, ◌≤◌, ℕ, List, ap, sym, subst, ◌∙◌, arith}
-use Rattle.std.specs.Prelude.{count_by}
-use Rattle.turns.specs.declared.turn.Turn.{Turn}
-use Rattle.scenarios.specs.Scenarios.{longest_flushes, flushes_of}
-use Rattle.scenarios.specs.ValidTurns.{is_rotate}
+use Rattle.std.proofs.Common.{◌≡◌, ◌+◌, ◌≤◌, ℕ, List, ap, sym, subst, ◌∙◌, arith, count_by}
+use Rattle.scenarios.proofs.Prelude.{Turn, flushes_of, is_rotate, longest_flushes}
 use Rattle.scenarios.proofs.Rooms.{flushes_of-few}
 use Rattle.scenarios.proofs.scenario.Scenario.flushes.Goals as goal
 

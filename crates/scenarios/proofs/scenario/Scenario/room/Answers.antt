@@ -1,8 +1,5 @@
-use Rattle.std.proofs.Common.{◌+◌, ◌≤◌, ℕ, List, ap, sym, subst, ◌∙◌}
-use Rattle.std.specs.Prelude.{count_by}
-use Rattle.turns.specs.declared.turn.Turn.{Turn}
-use Rattle.scenarios.specs.Scenarios.{listed_in}
-use Rattle.scenarios.specs.ValidTurns.{is_write}
+use Rattle.std.proofs.Common.{◌+◌, ◌≤◌, ℕ, List, ap, sym, subst, ◌∙◌, count_by}
+use Rattle.scenarios.proofs.Prelude.{Turn, is_write, listed_in}
 use Rattle.scenarios.proofs.Rooms.{room_of-few}
 use Rattle.scenarios.proofs.scenario.Scenario.room.Goals as goal
 

@@ -1,5 +1,4 @@
-use Rattle.std.proofs.Common.{◌≡◌, ◌<◌, List, length, ap, subst, sym, ◌∙◌, Some, arith}
-use Rattle.std.specs.Prelude.{slice_get}
+use Rattle.std.proofs.Common.{◌≡◌, ◌<◌, List, length, ap, subst, sym, ◌∙◌, Some, arith, slice_get}
 use Rattle.server_model.proofs.Prelude.{Server, World, applier_did, uuids_in}
 use Rattle.server_model.proofs.Prelude.applying
 use Rattle.server_model.proofs.Applied.{applier-untouched, applied-left, executes-in, Executes, IsKept-applied}

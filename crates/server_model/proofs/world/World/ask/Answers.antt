@@ -26,17 +26,16 @@ invariant_of-self-2 c =
       gtids = rw c.ask.ensures (AreGtids-untouched c.self.inside.servers.items c.self.inside.executed.items c.self.inside.purged.items c.self.inside.gtid c.args.no.0 c.index_mut-s.result.now (asked c.args.ask c.index_mut-s.result.now) c.self.invariant.gtids here moved.same);
     }
 
-pub returns-clause-answer : goal.returns-clause-answer
-returns-clause-answer c =
+pub returns : goal.returns
+returns c =
     let within : c.args.no.0 < length c.self.inside.servers.items = subst (λ (w : World). c.args.no.0 < length w.servers) (sym c.self.view_is) c.requires in
     let here = slice_get-index c.self.inside.servers.items c.args.no.0 c.index_mut-s.result.now within c.index_mut-s.ensures.value in
-    sym (desk-reached c.args.self.now c.args.no.0 c.index_mut-s.result.now (subst (λ (w : World). server_at w c.args.no.0 ≡ Some c.index_mut-s.result.now) c.self.view_is here)
-    (sym c.is_reachable.ensures ∙ c.if-not-is_reachable.false))
-
-pub returns-clause-world : goal.returns-clause-world
-returns-clause-world c =
-    let within : c.args.no.0 < length c.self.inside.servers.items = subst (λ (w : World). c.args.no.0 < length w.servers) (sym c.self.view_is) c.requires in
-    let here = slice_get-index c.self.inside.servers.items c.args.no.0 c.index_mut-s.result.now within c.index_mut-s.ensures.value in
-    asked-left c.args.self.now c.self.inside.servers.items c.self.inside.gtid c.self.inside.errant c.args.no.0 c.args.ask c.index_mut-s.result.now c.ask.new.self c.self.view_is here c.ask.ensures
-    (desk-reached c.args.self.now c.args.no.0 c.index_mut-s.result.now (subst (λ (w : World). server_at w c.args.no.0 ≡ Some c.index_mut-s.result.now) c.self.view_is here)
-    (sym c.is_reachable.ensures ∙ c.if-not-is_reachable.false))
+    record {
+      answer =
+          sym (desk-reached c.args.self.now c.args.no.0 c.index_mut-s.result.now (subst (λ (w : World). server_at w c.args.no.0 ≡ Some c.index_mut-s.result.now) c.self.view_is here)
+          (sym c.is_reachable.ensures ∙ c.if-not-is_reachable.false));
+      world =
+          asked-left c.args.self.now c.self.inside.servers.items c.self.inside.gtid c.self.inside.errant c.args.no.0 c.args.ask c.index_mut-s.result.now c.ask.new.self c.self.view_is here c.ask.ensures
+          (desk-reached c.args.self.now c.args.no.0 c.index_mut-s.result.now (subst (λ (w : World). server_at w c.args.no.0 ≡ Some c.index_mut-s.result.now) c.self.view_is here)
+          (sym c.is_reachable.ensures ∙ c.if-not-is_reachable.false));
+    }

@@ -1,8 +1,7 @@
-use Rattle.std.proofs.Common.{◌<◌, length, subst, sym, ◌∙◌}
+use Rattle.std.proofs.Common.{◌<◌, ◌∙◌, false, length, refl, subst, sym}
 use Rattle.server_model.proofs.Prelude.{World, attached_to}
 use Rattle.server_model.proofs.Lists.{slice_get-index}
 use Rattle.server_model.proofs.Changed.{IsKept-attached, joined-apart, target-in, attached-left}
-use Rattle.std.proofs.Common.{false, refl}
 use Rattle.server_model.proofs.ExecutedSets.{AreGtids-still}
 use Rattle.server_model.proofs.OwnCounts.{own-still}
 use Rattle.server_model.proofs.world.World.attach_at.Goals as goal

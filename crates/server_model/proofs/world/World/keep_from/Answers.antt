@@ -1,5 +1,4 @@
-use Rattle.std.proofs.Common.{◌≡◌, ℕ, ◌<◌, ◌≤◌, List, Option, Some, true, length, refl, arith, ap, subst, sym, ◌∙◌}
-use Rattle.std.specs.Prelude.{All, IsSomeAnd, slice_get, slice_range, slice_set}
+use Rattle.std.proofs.Common.{◌≡◌, ℕ, ◌<◌, ◌≤◌, List, Option, Some, true, length, refl, arith, ap, subst, sym, ◌∙◌, All, IsSomeAnd, slice_get, slice_range, slice_set}
 use Rattle.server_model.proofs.Prelude.{IsNumbered, Server, Txn, World, length-set, purged_len, same_Some, server_at, server_of, uuids_in}
 use Rattle.server_model.proofs.Changed.{IsKept-purged, purged-left}
 use Rattle.server_model.proofs.ExecutedSets.{purged_with, purge-room, uuids_in-set, AreGtids-purged}

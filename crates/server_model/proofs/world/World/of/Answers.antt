@@ -1,5 +1,4 @@
-use Rattle.std.proofs.Common.{◌≤◌, List, length, ap, subst, sym, ◌∙◌}
-use Rattle.std.specs.Prelude.{All}
+use Rattle.std.proofs.Common.{◌≤◌, List, length, ap, subst, sym, ◌∙◌, All}
 use Rattle.server_model.proofs.Prelude.{IsNumbered, Server, own_counts, purged_len, slice_get-get_or}
 use Rattle.server_model.proofs.PurgedFiles.{purged_len-within}
 use Rattle.server_model.proofs.Standing.{IsKept-standing, AreGtids-standing}

@@ -1,5 +1,4 @@
-use Rattle.std.proofs.Common.{◌≡◌, ℕ, ◌<◌, ◌≤◌, List, Option, Some, length, arith, ap, subst, sym, ◌∙◌}
-use Rattle.std.specs.Prelude.{IsSomeAnd}
+use Rattle.std.proofs.Common.{◌≡◌, ℕ, ◌<◌, ◌≤◌, List, Option, Some, length, arith, ap, subst, sym, ◌∙◌, IsSomeAnd}
 use Rattle.server_model.proofs.Prelude.{Index, Server, World, kept_from, server_at}
 use Rattle.server_model.proofs.Lists.{slice_get-index}
 use Rattle.server_model.proofs.Purges.{kept_from-rises, kept_from-within, purge-answered}

@@ -1,8 +1,7 @@
-use Rattle.std.proofs.Common.{◌≡◌, ℕ, ◌<◌, length, Some, subst, sym, ap, ◌∙◌, arith, true}
+use Rattle.std.proofs.Common.{◌<◌, ◌∙◌, ◌≡◌, Some, ℕ, ap, arith, length, refl, subst, sym, true}
 use Rattle.server_model.proofs.Prelude.{Index, Server, World, end_of, ne_eqb, rotated, server_at}
 use Rattle.server_model.proofs.Lists.{slice_get-index}
 use Rattle.server_model.proofs.Changed.{IsKept-rotated, rotated-left, rotate-answered}
-use Rattle.std.proofs.Common.{refl}
 use Rattle.server_model.proofs.ExecutedSets.{AreGtids-still}
 use Rattle.server_model.proofs.OwnCounts.{own-still}
 use Rattle.server_model.proofs.PurgedFiles.{purged_txns-rotated}

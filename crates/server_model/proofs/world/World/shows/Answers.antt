@@ -1,6 +1,5 @@
-use Rattle.std.proofs.Common.{◌≡◌, ◌<◌, List, length, Some, ap, arith, subst, sym, ◌∙◌}
+use Rattle.std.proofs.Common.{◌≡◌, ◌<◌, List, length, Some, ap, arith, subst, sym, ◌∙◌, option_and_then, slice_get}
 use Rattle.server_model.proofs.Prelude.{Server, World, option_copied, server_at, source_no}
-use Rattle.std.specs.Prelude.{option_and_then, slice_get}
 use Rattle.server_model.proofs.Lists.{slice_get-index}
 use Rattle.server_model.proofs.Seen.{shown-is, seen-kept, purged-kept}
 use Rattle.server_model.proofs.world.World.shows.Goals as goal

@@ -1,5 +1,4 @@
-use Rattle.std.proofs.Common.{◌≡◌, ◌<◌, List, Some, length, ap, subst, sym, ◌∙◌}
-use Rattle.std.specs.Prelude.{slice_get}
+use Rattle.std.proofs.Common.{◌≡◌, ◌<◌, List, Some, length, ap, subst, sym, ◌∙◌, slice_get}
 use Rattle.server_model.proofs.Prelude.{Server, World, attach_answer, attach_decision, chain_meets, first_kept, server_at, sources, sources_in}
 use Rattle.server_model.proofs.Lists.{slice_get-index}
 use Rattle.server_model.proofs.world.World.test_attach_at.Goals as goal

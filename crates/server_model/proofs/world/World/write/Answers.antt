@@ -1,5 +1,4 @@
-use Rattle.std.proofs.Common.{◌≡◌, ◌+◌, ◌<◌, length, refl, Some, ap, arith, subst, sym, ◌∙◌}
-use Rattle.std.specs.Prelude.{slice_get}
+use Rattle.std.proofs.Common.{◌≡◌, ◌+◌, ◌<◌, length, refl, Some, ap, arith, subst, sym, ◌∙◌, slice_get}
 use Rattle.server_model.proofs.Prelude.{Server, World, count_own, eq-eqb, own_txn, server_at, uuids_in}
 use Rattle.server_model.proofs.Answered.{write-answered, write-left}
 use Rattle.server_model.proofs.ExecutedSets.{AreGtids-took, set-room, uuids_in-at}

@@ -1,5 +1,4 @@
-use Rattle.std.proofs.Common.{◌≡◌, List, length, sym, ◌∙◌, ap, subst}
-use Rattle.std.specs.Prelude.{Result, Ok, Err, IfOk}
+use Rattle.std.proofs.Common.{◌≡◌, List, length, sym, ◌∙◌, ap, subst, Result, Ok, Err, IfOk}
 use Rattle.world_openings.proofs.Prelude.{CanStand, Server, World, world_with}
 use Rattle.world_openings.proofs.Opened.{length-opened_from}
 use Rattle.world_openings.proofs.OpenedWorlds.{CanStand-opened}
