@@ -1,6 +1,6 @@
 -- The job that a command begins: what refuses it, of which servers it takes the leases, and the job itself.
 use Rattle.std.specs.Prelude.{ℕ, Bool, true, false, List, [], Option, Some, None}
-use Rattle.command_outcomes.specs.Prelude.{BookState, Case, Command, Coordinates, Gtids, Matches, Means, Moment, Op, Paths, Planner, Recovery}
+use Rattle.command_outcomes.specs.Prelude.{BookState, Case, Command, Coordinates, Gtids, Lead, Matches, Means, Moment, Op, Paths, Planner, Recovery}
 use Rattle.command_outcomes.specs.Prelude.{Refusal, ServerNo, Unended, World, about, begun_recovery, job_with, no_docket, refused, replicas_of}
 use Rattle.command_outcomes.specs.Prelude.coords
 use Rattle.command_outcomes.specs.Prelude.coords_plans
@@ -23,12 +23,12 @@ refusal_about w b now every (Gtids kind) = gtids.refusal_about w b kind
 refusal_about w b now every (Paths kind) = paths.refusal_about w b now kind
 refusal_about w b now every (Matches kind) = matches.refusal_about w b now every kind
 
--- after the one that its instances are known, its first check is that no job has its instance's lease
-abbrev pub is_held_first : Planner → Bool
-is_held_first (Coordinates kind) = coords.is_held_first kind
-is_held_first (Gtids kind) = gtids.is_held_first kind
-is_held_first (Paths kind) = paths.is_held_first kind
-is_held_first (Matches kind) = matches.is_held_first kind
+-- which checks of its row come first, after the one that its instances are known
+abbrev pub lead_of : Planner → Lead
+lead_of (Coordinates kind) = coords.lead_of kind
+lead_of (Gtids kind) = gtids.lead_of kind
+lead_of (Paths kind) = paths.lead_of kind
+lead_of (Matches kind) = matches.lead_of kind
 
 -- what its checks are about
 abbrev pub case_of : World → BookState → Planner → ServerNo → Option ServerNo → Case

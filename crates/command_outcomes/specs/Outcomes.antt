@@ -1,11 +1,11 @@
 -- Commands: what each answers, and what it changes.
-use Rattle.std.specs.Prelude.{◌+◌, ℕ, true, map, unwrap_or, List, [], ◌∷◌, Option, Some, None, Result, Ok, Err}
+use Rattle.std.specs.Prelude.{◌+◌, ℕ, Bool, true, false, map, unwrap_or, List, [], ◌∷◌, Option, Some, None, Result, Ok, Err}
 use Rattle.command_outcomes.specs.Prelude.{Asks, Attempt, AuditState, Begins as RecoveryBegins, BookState, Change, Command, CommandTurn, Decided, Decides}
-use Rattle.command_outcomes.specs.Prelude.{Decision, Discovers, Forgets, Kind, Line, Observation, Planner, Recovers, Refusal, Reply, Route, ServerNo, Staged}
+use Rattle.command_outcomes.specs.Prelude.{Decision, Discovers, Forgets, Kind, Lead, Line, Observation, Planner, Recovers, Refusal, Reply, Route, ServerNo, Staged}
 use Rattle.command_outcomes.specs.Prelude.{Status as Seen, TakesOver, Terms, Unended, UnknownInstance, Unreachable, World, allowed, attempt_of, busy}
-use Rattle.command_outcomes.specs.Prelude.{decided_of, discovery_change, given_try, instance_at, kind_try, label_at, lines_of, next_count, option_to_list}
+use Rattle.command_outcomes.specs.Prelude.{decided_of, discovery_change, given_try, instance_at, kind_try, label_at, lines_of, looks_at, next_count, option_to_list}
 use Rattle.command_outcomes.specs.Prelude.{permitted, put_recovery, recovery_try, route_of, rows_of, scanned, unknown_in}
-use Rattle.command_outcomes.specs.Jobs.{job_by, leases_by, refusal_by}
+use Rattle.command_outcomes.specs.Jobs.{job_by, lead_of, leases_by, refusal_by}
 use Rattle.command_outcomes.specs.Prelude.TheVariants.{Begins}
 use Rattle.command_outcomes.specs.Prelude.answered
 use Rattle.command_outcomes.specs.Prelude.change
@@ -65,6 +65,19 @@ busy_given b (Some i) = busy b i
 -- 2, then 4
 abbrev pub removal_refusal : BookState → Command → Option Refusal
 removal_refusal b c = first_of (unknown_in b c) (busy_given b c.i)
+
+-- what is left to a command's lease check, if its first checks come to that
+abbrev pub busy_if : BookState → Bool → ServerNo → Option Refusal
+busy_if b true i = busy b i
+busy_if b false i = None
+
+-- what a command's first checks refuse that need no forest of sources
+abbrev pub early_about : BookState → Lead → Option ServerNo → Option ServerNo → Option Refusal
+early_about b l None d = None
+early_about b l (Some i) d = busy_if b (looks_at l i d) i
+
+abbrev pub early_refusal : BookState → Command → Planner → Option Refusal
+early_refusal b c p = first_of (unknown_in b c) (early_about b (lead_of p) c.i c.d)
 
 abbrev pub removal : ServerNo → Change
 removal i = change.Remove table.Instance (key.Server i)

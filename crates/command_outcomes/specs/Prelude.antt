@@ -21,7 +21,8 @@ pub use Rattle.recovery_core.specs.KeptRows.declared.row.Key.TheVariants as key
 pub use Rattle.recovery_core.specs.KeptRows.declared.row.Table.TheVariants as table
 pub use Rattle.recovery_core.specs.OrchBase.Memory.{next_count}
 pub use Rattle.recovery_core.specs.OrchBase.Words.{code_text}
-pub use Rattle.recovery_core.specs.Permission.Checks.{busy}
+pub use Rattle.recovery_core.specs.Permission.Checks.{busy, looks_at}
+pub use Rattle.recovery_core.specs.Permission.declared.case.Lead.{Lead}
 pub use Rattle.recovery_core.specs.Prelude.{AuditState, BookState, Case, Code, Gives, HookState, IsNamedRecovery, Kind, Line, Moment, Recovery}
 pub use Rattle.recovery_core.specs.Prelude.{Refusal, ServerNo, UnknownInstance, World, begun_recovery, is_within, label_at, longest_block}
 pub use Rattle.recovery_core.specs.Prelude.{permit_fault, replicas_of}

@@ -2,7 +2,7 @@
 
 ghost use Rattle.std.specs.Prelude.{◌≡◌, ◌<◌, ◌≤◌, ◌^◌, ◌∷◌, [], All, IfOk, IfSome, IsTrue, length};
 ghost use Rattle.command_outcomes.specs.Prelude.{allowed, discovery_change, instance_at, is_within, option_to_list};
-ghost use Rattle.command_outcomes.specs.Outcomes.{begun_by, decision, discovered, forgotten, next_reading, outcome_of, question, refusal, removal, removal_refusal};
+ghost use Rattle.command_outcomes.specs.Outcomes.{begun_by, decision, discovered, early_refusal, forgotten, next_reading, outcome_of, question, refusal, removal, removal_refusal};
 ghost use Rattle.command_outcomes.specs.Ids.{LeavesIds};
 ghost use Rattle.command_outcomes.specs.CommandsBy.{outcome};
 
@@ -10,9 +10,9 @@ use crate::audit_log::Audit;
 use crate::book_views::book_forest;
 use crate::commands::{Command, CommandTurn, Decision, Line, Lines, Planner, Refusal, Route};
 use crate::instance_keeper_items::{Book, Change, Instance, Key, Observation, Row, Seen, Table};
-use crate::jobs::{is_held_first, job, permit as permit_job};
+use crate::jobs::{job, lead_of, permit as permit_job};
 use crate::orch_base::{Kind, Listed, Memory, Moment, ServerNo};
-use crate::permission_items::PermitFault;
+use crate::permission_items::{PermitFault, looks_at};
 use crate::recovering::begin_by_hand;
 use crate::server_model::World;
 use crate::turns::Reply;
@@ -183,8 +183,7 @@ fn removal(no: ServerNo) -> Change
     Change::Remove(Table::Instance, Key::Server(no))
 }
 
-// What refuses the removal: an instance that isn't in the book, or one of which a job has the lease. A command that
-// begins a job and checks these first is refused so, too.
+// What refuses the removal: an instance that isn't in the book, or one of which a job has the lease.
 fn removal_refusal(book: &Book, command: Command) -> Option<Refusal>
     requires i { IsTrue (is_within (length book.now.names) command.i) }
     requires d { IsTrue (is_within (length book.now.names) command.d) }
@@ -330,7 +329,25 @@ fn begin_by_forest(
     })
 }
 
-// Begins the job of a command, unless it is refused. If its instance is unknown or leased, no forest is made. `Memory`
+// What the first checks of a command that begins a job refuse: an unknown instance, or one that is leased. `None` if
+// another check comes before that of the lease.
+fn early_refusal(book: &Book, command: Command, planner: Planner) -> Option<Refusal>
+    requires i { IsTrue (is_within (length book.now.names) command.i) }
+    requires d { IsTrue (is_within (length book.now.names) command.d) }
+    ensures { result ≡ early_refusal book.now command planner }
+{
+    if let Err(refusal) = permit(book, command) {
+        return Some(refusal);
+    }
+    let no = command.i?;
+    if !looks_at(lead_of(planner), no, command.d) {
+        return None;
+    }
+    let job = book.lease(no)?;
+    Some(Refusal::Busy(no, job))
+}
+
+// Begins the job of a command, unless it is refused. What the first checks refuse takes no forest of sources. `Memory`
 // also comes if no number is left for a job.
 fn begin_by(
     alloc: Global,
@@ -345,10 +362,8 @@ fn begin_by(
     ensures { IfOk result (λ out. outcome out ≡ begun_by world.now book.now numbers command
         planner) }
 {
-    if is_held_first(planner) {
-        if let Some(refusal) = removal_refusal(book, command) {
-            return Ok(refused(alloc, numbers.reads, refusal));
-        }
+    if let Some(refusal) = early_refusal(book, command, planner) {
+        return Ok(refused(alloc, numbers.reads, refusal));
     }
     begin_by_forest(alloc, world, book, numbers, command, planner)
 }

@@ -3,14 +3,14 @@
 ghost use Rattle.std.specs.Prelude.{◌≡◌, ◌<◌, All, IfOk, IsTrue, length};
 ghost use Rattle.command_outcomes.specs.Prelude.{Gives, book_forest, is_within, permit_fault};
 ghost use Rattle.recovery_core.specs.Permission.Checks.{permitted};
-ghost use Rattle.command_outcomes.specs.Jobs.{case_of, is_held_first, job_by, leases_by, means_of, ops_of, refusal_about, refusal_by, unless_planned};
+ghost use Rattle.command_outcomes.specs.Jobs.{case_of, job_by, lead_of, leases_by, means_of, ops_of, refusal_about, refusal_by, unless_planned};
 
 use crate::commands::{Command, Planner};
 use crate::instance_keeper_items::Book;
 use crate::job_plans::Job;
 use crate::operations_items::Op;
 use crate::orch_base::{Memory, Moment, ServerNo};
-use crate::permission_items::{Case, PermitFault, unknown_in};
+use crate::permission_items::{Case, Lead, PermitFault, unknown_in};
 use crate::recovery_plans_items::Means;
 use crate::regrouping::RegroupJob;
 use crate::server_model::World;
@@ -18,15 +18,15 @@ use crate::topology_tree::Forest;
 use std::alloc::Global;
 use unended_jobs::Unended;
 
-/// Whether the first check of a command, after that of known instances, is that no job has its instance's lease.
-pub(crate) fn is_held_first(planner: Planner) -> bool
-    ensures { result ≡ is_held_first planner }
+/// Which checks of a command's row come first, after the one that its instances are known.
+pub(crate) fn lead_of(planner: Planner) -> Lead
+    ensures { result ≡ lead_of planner }
 {
     match planner {
-        Planner::Coordinates(kind) => moves_coords::is_held_first(kind),
-        Planner::Gtids(kind) => moves_gtid::is_held_first(kind),
-        Planner::Paths(kind) => regroup::is_held_first(kind),
-        Planner::Matches(kind) => pseudo_match::is_held_first(kind),
+        Planner::Coordinates(kind) => moves_coords::lead_of(kind),
+        Planner::Gtids(kind) => moves_gtid::lead_of(kind),
+        Planner::Paths(kind) => regroup::lead_of(kind),
+        Planner::Matches(kind) => pseudo_match::lead_of(kind),
     }
 }
 

@@ -13,6 +13,8 @@ use Rattle.permission.specs.Rows.{about, going_by, moving, refused, swapping}
 use Rattle.permission.specs.Views.{is_auto, source_above, source_of}
 use Rattle.permission.specs.declared.case.Check.{Check}
 use Rattle.permission.specs.declared.case.Check.TheVariants.{SameInstance, Busy, Unreachable, NoSource, NotDetached, AlreadyDetached, OtherCluster, Below, SourceHasNoSource, NotSibling, NotSameLog, DestNotLogging, SameServerId, VersionLower, Errant, PurgedPlace, PurgedSet}
+use Rattle.permission.specs.declared.case.Lead.{Lead}
+use Rattle.permission.specs.declared.case.Lead.TheVariants as lead
 use Rattle.permission.specs.Commands.declared.kinds.CoordsCommand.{CoordsCommand}
 use Rattle.permission.specs.Commands.declared.kinds.CoordsCommand.TheVariants as command
 use Rattle.moves_coords.specs.Commands.{coords_command}
@@ -49,22 +51,22 @@ row_of gtids command.RestartReplica = attached_row
 row_of gtids command.SetReadOnly = Busy ∷ Unreachable ∷ []
 row_of gtids command.SetWriteable = Busy ∷ Unreachable ∷ []
 
--- after the one that its instances are known, its first check is that no job has its instance's lease
-abbrev pub is_held_first : CoordsCommand → Bool
-is_held_first command.MoveUp = true
-is_held_first command.MoveUpReplicas = true
-is_held_first command.MoveBelow = false
-is_held_first command.Repoint = false
-is_held_first command.TakeSiblings = true
-is_held_first command.TakeMaster = true
-is_held_first command.DetachReplica = true
-is_held_first command.ReattachReplica = true
-is_held_first command.ResetReplica = true
-is_held_first command.StartReplica = true
-is_held_first command.StopReplica = true
-is_held_first command.RestartReplica = true
-is_held_first command.SetReadOnly = true
-is_held_first command.SetWriteable = true
+-- which checks of its row come first, after the one that its instances are known
+abbrev pub lead_of : CoordsCommand → Lead
+lead_of command.MoveUp = lead.Held
+lead_of command.MoveUpReplicas = lead.Held
+lead_of command.MoveBelow = lead.Apart
+lead_of command.Repoint = lead.Apart
+lead_of command.TakeSiblings = lead.Held
+lead_of command.TakeMaster = lead.Held
+lead_of command.DetachReplica = lead.Held
+lead_of command.ReattachReplica = lead.Held
+lead_of command.ResetReplica = lead.Held
+lead_of command.StartReplica = lead.Held
+lead_of command.StopReplica = lead.Held
+lead_of command.RestartReplica = lead.Held
+lead_of command.SetReadOnly = lead.Held
+lead_of command.SetWriteable = lead.Held
 
 -- Which servers move to which source, by the destination that is given, of which the job takes the leases, and by whose
 -- coordinates the moves go. A server goes up by that of its source, and goes on or lets its replicas up by its own.

@@ -5,7 +5,7 @@ ghost use Rattle.permission.specs.OrchBase.Gives.{Gives};
 ghost use Rattle.permission.specs.BookViews.Forests.{book_forest};
 ghost use Rattle.permission.specs.Checks.{permit_fault, permitted};
 ghost use Rattle.moves_coords.specs.Commands.{coords_command};
-ghost use Rattle.moves_coords.specs.Permits.{by_gtids, case_of, is_held_first, refusal_about, refusal_of, row_of};
+ghost use Rattle.moves_coords.specs.Permits.{by_gtids, case_of, lead_of, refusal_about, refusal_of, row_of};
 
 use crate::book_views::replicas;
 use crate::command::coords_command;
@@ -16,7 +16,8 @@ use crate::server_model::World;
 use crate::topology_tree::Forest;
 use crate::{Memory, PermitFault};
 use permission::{
-    Case, Check, first_refusal, is_auto, one_or_none, siblings, source, source_above, unknown_in,
+    Case, Check, Lead, first_refusal, is_auto, one_or_none, siblings, source, source_above,
+    unknown_in,
 };
 use std::alloc::Global;
 
@@ -154,9 +155,9 @@ fn row_of(by_gtids: bool, command: CoordsCommand) -> &'static [Check]
     }
 }
 
-/// Whether the first check of a command, after that of known instances, is that no job has its instance's lease.
-pub fn is_held_first(command: CoordsCommand) -> bool
-    ensures { result ≡ is_held_first command }
+/// Which checks of a command's row come first, after the one that its instances are known.
+pub fn lead_of(command: CoordsCommand) -> Lead
+    ensures { result ≡ lead_of command }
 {
     match command {
         CoordsCommand::MoveUp
@@ -170,8 +171,8 @@ pub fn is_held_first(command: CoordsCommand) -> bool
         | CoordsCommand::StopReplica
         | CoordsCommand::RestartReplica
         | CoordsCommand::SetReadOnly
-        | CoordsCommand::SetWriteable => true,
-        CoordsCommand::MoveBelow | CoordsCommand::Repoint => false,
+        | CoordsCommand::SetWriteable => Lead::Held,
+        CoordsCommand::MoveBelow | CoordsCommand::Repoint => Lead::Apart,
     }
 }
 

@@ -1,5 +1,5 @@
 -- What refuses these commands: the rows of the permission table, and what their checks are about.
-use Rattle.std.specs.Prelude.{Bool, true, false, List, [], ◌∷◌, ◌++◌, Option}
+use Rattle.std.specs.Prelude.{List, [], ◌∷◌, ◌++◌, Option}
 use Rattle.std.specs.Option.{option_to_list}
 use Rattle.permission.specs.OrchBase.declared.server.ServerNo.{ServerNo}
 use Rattle.permission.specs.Commands.declared.refusal.Refusal.{Refusal}
@@ -12,6 +12,8 @@ use Rattle.permission.specs.Rows.{about, going_by, moving, refused}
 use Rattle.permission.specs.Views.{source_of}
 use Rattle.permission.specs.declared.case.Check.{Check}
 use Rattle.permission.specs.declared.case.Check.TheVariants.{SameInstance, Busy, Unreachable, NoSource, AlreadyDetached, OtherCluster, Below, DestNotLogging, SameServerId, VersionLower, GtidOff, Errant, PurgedPlace, PurgedSet}
+use Rattle.permission.specs.declared.case.Lead.{Lead}
+use Rattle.permission.specs.declared.case.Lead.TheVariants as lead
 use Rattle.permission.specs.Commands.declared.kinds.GtidCommand.{GtidCommand}
 use Rattle.permission.specs.Commands.declared.kinds.GtidCommand.TheVariants as command
 use Rattle.moves_gtid.specs.Commands.{gtid_command}
@@ -27,12 +29,12 @@ row_of command.MoveReplicasGtid = move_row
 row_of command.EnableGtid = Busy ∷ Unreachable ∷ NoSource ∷ AlreadyDetached ∷ GtidOff ∷ Errant ∷ PurgedSet ∷ []
 row_of command.DisableGtid = Busy ∷ Unreachable ∷ NoSource ∷ AlreadyDetached ∷ GtidOff ∷ PurgedPlace ∷ []
 
--- after the one that its instances are known, its first check is that no job has its instance's lease
-abbrev pub is_held_first : GtidCommand → Bool
-is_held_first command.MoveGtid = false
-is_held_first command.MoveReplicasGtid = false
-is_held_first command.EnableGtid = true
-is_held_first command.DisableGtid = true
+-- which checks of its row come first, after the one that its instances are known
+abbrev pub lead_of : GtidCommand → Lead
+lead_of command.MoveGtid = lead.Apart
+lead_of command.MoveReplicasGtid = lead.Other
+lead_of command.EnableGtid = lead.Held
+lead_of command.DisableGtid = lead.Held
 
 -- Which servers move to which source, by the destination that is given, and of which the job takes the leases. One that
 -- finds its place anew keeps its source, and one that goes on by coordinates goes by its own.

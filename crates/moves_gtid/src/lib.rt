@@ -12,5 +12,5 @@ use permission::{
 /// Out of memory.
 pub use permission::PermitFault;
 pub use permission::orch_base::Memory;
-pub use permits::{is_held_first, permit, permit_kind};
+pub use permits::{lead_of, permit, permit_kind};
 pub use plans::{ops_of, plan};

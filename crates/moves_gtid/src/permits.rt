@@ -5,7 +5,7 @@ ghost use Rattle.permission.specs.OrchBase.Gives.{Gives};
 ghost use Rattle.permission.specs.BookViews.Forests.{book_forest};
 ghost use Rattle.permission.specs.Checks.{permit_fault, permitted};
 ghost use Rattle.moves_gtid.specs.Commands.{gtid_command};
-ghost use Rattle.moves_gtid.specs.Permits.{case_of, is_held_first, refusal_about, refusal_of, row_of};
+ghost use Rattle.moves_gtid.specs.Permits.{case_of, lead_of, refusal_about, refusal_of, row_of};
 
 use crate::command::gtid_command;
 use crate::commands::{Command, GtidCommand};
@@ -14,7 +14,7 @@ use crate::orch_base::{Moment, ServerNo};
 use crate::server_model::World;
 use crate::topology_tree::Forest;
 use crate::{Memory, PermitFault};
-use permission::{Case, Check, first_refusal, one_or_none, replicas_but, source, unknown_in};
+use permission::{Case, Check, Lead, first_refusal, one_or_none, replicas_but, source, unknown_in};
 use std::alloc::Global;
 
 const MOVE: [Check; 11] = [
@@ -61,13 +61,14 @@ fn row_of(command: GtidCommand) -> &'static [Check]
     }
 }
 
-/// Whether the first check of a command, after that of known instances, is that no job has its instance's lease.
-pub fn is_held_first(command: GtidCommand) -> bool
-    ensures { result ≡ is_held_first command }
+/// Which checks of a command's row come first, after the one that its instances are known.
+pub fn lead_of(command: GtidCommand) -> Lead
+    ensures { result ≡ lead_of command }
 {
     match command {
-        GtidCommand::EnableGtid | GtidCommand::DisableGtid => true,
-        GtidCommand::MoveGtid | GtidCommand::MoveReplicasGtid => false,
+        GtidCommand::EnableGtid | GtidCommand::DisableGtid => Lead::Held,
+        GtidCommand::MoveGtid => Lead::Apart,
+        GtidCommand::MoveReplicasGtid => Lead::Other,
     }
 }
 

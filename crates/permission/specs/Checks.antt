@@ -1,10 +1,12 @@
 -- The checks of the permission table: what each is about, and the refusal of one that doesn't pass.
-use Rattle.std.specs.Prelude.{ℕ, Bool, false, ◌==◌, not, nat_lt, List, [], ◌∷◌, Option, Some, None, Result, Ok, Err, is_some}
+use Rattle.std.specs.Prelude.{ℕ, Bool, true, false, ◌==◌, not, nat_lt, List, [], ◌∷◌, Option, Some, None, Result, Ok, Err, is_some}
 use Rattle.permission.specs.Prelude.{BookState, Command, Interval, Refusal, ServerNo, World, instance_at, is_instance, is_within, lease_at}
 use Rattle.permission.specs.Prelude.{option_and_then, seen_source, unknown_of}
 use Rattle.permission.specs.Prelude.refusal
 use Rattle.permission.specs.declared.case.Check.{Check}
 use Rattle.permission.specs.declared.case.Check.TheVariants as check
+use Rattle.permission.specs.declared.case.Lead.{Lead}
+use Rattle.permission.specs.declared.case.Lead.TheVariants as lead
 use Rattle.permission.specs.declared.case.Move.{Move}
 use Rattle.permission.specs.declared.row.PermitFault.{PermitFault}
 use Rattle.permission.specs.declared.row.PermitFault.TheVariants as fault
@@ -27,6 +29,17 @@ pub record Case : Type 0 where
 abbrev pub is_given : ServerNo → Option ServerNo → Bool
 is_given n None = false
 is_given n (Some m) = m.0 == n.0
+
+-- another server is given as the destination
+abbrev pub goes_elsewhere : ServerNo → Option ServerNo → Bool
+goes_elsewhere i None = false
+goes_elsewhere i (Some d) = not (is_given i (Some d))
+
+-- whether no check but that of the instance's lease is left of those that come first
+abbrev pub looks_at : Lead → ServerNo → Option ServerNo → Bool
+looks_at lead.Held i d = true
+looks_at lead.Apart i d = goes_elsewhere i d
+looks_at lead.Other i d = false
 
 -- both are there and equal
 abbrev pub are_one : Option ServerNo → Option ServerNo → Bool

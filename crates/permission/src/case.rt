@@ -55,6 +55,17 @@ pub enum Check {
     MovedNotLogging,
 }
 
+/// Which checks of a command's row come first, after the one that its instances are known.
+#[derive(Clone, Copy)]
+pub enum Lead {
+    /// That no job has its instance's lease.
+    Held,
+    /// That its destination isn't its instance, then that no job has its instance's lease.
+    Apart,
+    /// Others.
+    Other,
+}
+
 /// A server that moves, and its new source.
 #[derive(Clone, Copy, Debug, PartialEq, Eq)]
 pub struct Move {

@@ -14,13 +14,13 @@ pub use book_views;
 pub use by_book::{attached_to, is_auto, is_before, is_below, is_valid, source, source_above};
 pub use by_settings::{has_log, same_label};
 pub use candidates::{has_candidate, is_candidate, without_candidate};
-pub use case::{Case, Check, Move, moves_to, one_or_none};
+pub use case::{Case, Check, Lead, Move, moves_to, one_or_none};
 pub use operations::{
     binlog_coords_items, commands, gtid_sets, instance_keeper_items, kept_rows_items, orch_base,
     server_model, server_words_items,
 };
 pub use replicas::{replicas_but, siblings};
-pub use row::{PermitFault, answered, first_refusal, refusal_around, unknown_in};
+pub use row::{PermitFault, answered, first_refusal, looks_at, refusal_around, unknown_in};
 pub use topology_tree;
 /// Out of memory.
 pub use operations::orch_base::Memory;

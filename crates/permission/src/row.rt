@@ -2,7 +2,7 @@
 
 ghost use Rattle.std.specs.Prelude.{◌≡◌, IfOk};
 ghost use Rattle.permission.specs.Prelude.{Gives, book_forest, option_and_then, option_or};
-ghost use Rattle.permission.specs.Checks.{are_one, errant, errant_by, first_refusal, is_given, is_known, permit_fault, permitted, refusal_by, unknown_in};
+ghost use Rattle.permission.specs.Checks.{are_one, errant, errant_by, first_refusal, goes_elsewhere, is_given, is_known, looks_at, permit_fault, permitted, refusal_by, unknown_in};
 ghost use Rattle.permission.specs.Errants.{own_missing};
 ghost use Rattle.permission.specs.Lists.{first_about, only_if};
 ghost use Rattle.permission.specs.Views.{attached_of};
@@ -15,7 +15,7 @@ use crate::by_book::{
 use crate::by_settings::{
     lower_version, moved_not_logging, not_logging, other_cluster, same_id, uuid,
 };
-use crate::case::{Case, Check, Move};
+use crate::case::{Case, Check, Lead, Move};
 use crate::commands::{BoxedSet, Command, Refusal, unknown_instance};
 use crate::gtid_sets::GtidSet;
 use crate::instance_keeper_items::Book;
@@ -66,6 +66,27 @@ pub(crate) fn is_given(no: ServerNo, other: Option<ServerNo>) -> bool
     match other {
         Some(other) => other.0 == no.0,
         None => false,
+    }
+}
+
+// Whether another server is given as the destination.
+fn goes_elsewhere(i: ServerNo, d: Option<ServerNo>) -> bool
+    ensures { result ≡ goes_elsewhere i d }
+{
+    match d {
+        None => false,
+        Some(d) => !is_given(i, Some(d)),
+    }
+}
+
+/// Whether no check but that of the instance's lease is left of those that come first.
+pub fn looks_at(lead: Lead, i: ServerNo, d: Option<ServerNo>) -> bool
+    ensures { result ≡ looks_at lead i d }
+{
+    match lead {
+        Lead::Held => true,
+        Lead::Apart => goes_elsewhere(i, d),
+        Lead::Other => false,
     }
 }
 

@@ -15,6 +15,8 @@ use Rattle.permission.specs.Rows.{about, moving, refused}
 use Rattle.permission.specs.Views.{source_above, source_of}
 use Rattle.permission.specs.declared.case.Check.{Check}
 use Rattle.permission.specs.declared.case.Check.TheVariants.{SameInstance, Busy, Unreachable, NoSource, AlreadyDetached, OtherCluster, Below, SourceHasNoSource, DestNotLogging, SameServerId, VersionLower, PseudoOff, MovedNotLogging}
+use Rattle.permission.specs.declared.case.Lead.{Lead}
+use Rattle.permission.specs.declared.case.Lead.TheVariants as lead
 use Rattle.permission.specs.Commands.declared.kinds.MatchCommand.{MatchCommand}
 use Rattle.permission.specs.Commands.declared.kinds.MatchCommand.TheVariants as command
 use Rattle.pseudo_match.specs.Commands.{pseudo_command}
@@ -30,12 +32,12 @@ row_of command.MatchUp = Busy ∷ Unreachable ∷ NoSource ∷ AlreadyDetached �
 row_of command.MatchReplicas = match_row
 row_of command.RegroupReplicas = Busy ∷ []
 
--- after the one that its instances are known, its first check is that no job has its instance's lease
-abbrev pub is_held_first : MatchCommand → Bool
-is_held_first command.Match = false
-is_held_first command.MatchUp = true
-is_held_first command.MatchReplicas = false
-is_held_first command.RegroupReplicas = true
+-- which checks of its row come first, after the one that its instances are known
+abbrev pub lead_of : MatchCommand → Lead
+lead_of command.Match = lead.Apart
+lead_of command.MatchUp = lead.Held
+lead_of command.MatchReplicas = lead.Other
+lead_of command.RegroupReplicas = lead.Held
 
 -- the checks of marks, of servers that move and of replicas that are regrouped, if there are none and if there are
 abbrev pub moved_row : Bool → List Check

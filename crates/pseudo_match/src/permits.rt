@@ -5,7 +5,7 @@ ghost use Rattle.permission.specs.OrchBase.Gives.{Gives};
 ghost use Rattle.permission.specs.BookViews.Forests.{book_forest};
 ghost use Rattle.permission.specs.Checks.{permit_fault, permitted};
 ghost use Rattle.pseudo_match.specs.Commands.{pseudo_command};
-ghost use Rattle.pseudo_match.specs.Permits.{case_of, is_held_first, last_row_of, own_refusal, refusal_about, refusal_of, row_of, sources_over};
+ghost use Rattle.pseudo_match.specs.Permits.{case_of, last_row_of, lead_of, own_refusal, refusal_about, refusal_of, row_of, sources_over};
 
 use crate::book_views::replicas;
 use crate::command::pseudo_command;
@@ -16,7 +16,7 @@ use crate::server_model::World;
 use crate::topology_tree::Forest;
 use crate::{Memory, PermitFault};
 use permission::{
-    Case, Check, one_or_none, refusal_around, replicas_but, source, source_above, unknown_in,
+    Case, Check, Lead, one_or_none, refusal_around, replicas_but, source, source_above, unknown_in,
     without_candidate,
 };
 use std::alloc::Global;
@@ -56,13 +56,14 @@ fn row_of(command: MatchCommand) -> &'static [Check]
     }
 }
 
-/// Whether the first check of a command, after that of known instances, is that no job has its instance's lease.
-pub fn is_held_first(command: MatchCommand) -> bool
-    ensures { result ≡ is_held_first command }
+/// Which checks of a command's row come first, after the one that its instances are known.
+pub fn lead_of(command: MatchCommand) -> Lead
+    ensures { result ≡ lead_of command }
 {
     match command {
-        MatchCommand::MatchUp | MatchCommand::RegroupReplicas => true,
-        MatchCommand::Match | MatchCommand::MatchReplicas => false,
+        MatchCommand::MatchUp | MatchCommand::RegroupReplicas => Lead::Held,
+        MatchCommand::Match => Lead::Apart,
+        MatchCommand::MatchReplicas => Lead::Other,
     }
 }
 

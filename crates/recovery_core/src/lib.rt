@@ -40,5 +40,5 @@ pub use permission::orch_base::Memory;
 
 /// What is passed on of `permission`.
 pub mod permission_items {
-    pub use permission::{Case, PermitFault, replicas_but, source, unknown_in};
+    pub use permission::{Case, Lead, PermitFault, looks_at, replicas_but, source, unknown_in};
 }

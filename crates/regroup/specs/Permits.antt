@@ -1,10 +1,11 @@
 -- What refuses these commands: the rows of the permission table, and what their checks are about.
 use Rattle.std.specs.Prelude.{Bool, true, false, not, is_some, List, [], ◌∷◌, ◌++◌, Option, None}
 use Rattle.regroup.specs.Prelude.{AlreadyDetached, Below, BookState, Busy, Case, Check, Command, DestNotLogging, Errant, GtidOff, Moment, NoPath}
-use Rattle.regroup.specs.Prelude.{NoSource, OtherCluster, PathCommand, PurgedPlace, PurgedSet, Refusal, SameInstance, SameServerId, ServerNo}
+use Rattle.regroup.specs.Prelude.{Lead, NoSource, OtherCluster, PathCommand, PurgedPlace, PurgedSet, Refusal, SameInstance, SameServerId, ServerNo}
 use Rattle.regroup.specs.Prelude.{Unreachable, VersionLower, World, about, first_about, first_refusal, flat_map, going_by, moving, only_if, option_or}
 use Rattle.regroup.specs.Prelude.{option_to_list, refused, replicas_but, replicas_of, without_candidate}
 use Rattle.regroup.specs.Prelude.command
+use Rattle.regroup.specs.Prelude.lead
 use Rattle.regroup.specs.Commands.{regroup_command}
 use Rattle.regroup.specs.Ways.{crossed_in, passed_in, path_to}
 
@@ -23,11 +24,11 @@ row_of gtid command.Relocate = relocate_row gtid
 row_of gtid command.RelocateReplicas = replicas_row gtid
 row_of gtid command.RegroupReplicas = Busy ∷ []
 
--- after the one that its instances are known, its first check is that no job has its instance's lease
-abbrev pub is_held_first : PathCommand → Bool
-is_held_first command.Relocate = false
-is_held_first command.RelocateReplicas = false
-is_held_first command.RegroupReplicas = true
+-- which checks of its row come first, after the one that its instances are known
+abbrev pub lead_of : PathCommand → Lead
+lead_of command.Relocate = lead.Apart
+lead_of command.RelocateReplicas = lead.Other
+lead_of command.RegroupReplicas = lead.Held
 
 -- the row after a command's own check
 abbrev pub places_row : Bool → List Check

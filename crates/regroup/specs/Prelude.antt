@@ -24,4 +24,6 @@ pub use Rattle.permission.specs.declared.case.Check.{Check}
 pub use Rattle.permission.specs.declared.case.Check.TheVariants.{AlreadyDetached, Below, Busy, DestNotLogging, Errant, GtidOff, NoSource}
 pub use Rattle.permission.specs.declared.case.Check.TheVariants.{OtherCluster, PurgedPlace, PurgedSet, SameInstance, SameServerId, Unreachable}
 pub use Rattle.permission.specs.declared.case.Check.TheVariants.{VersionLower}
+pub use Rattle.permission.specs.declared.case.Lead.{Lead}
+pub use Rattle.permission.specs.declared.case.Lead.TheVariants as lead
 pub use Rattle.plan_parts.specs.Parts.{autos, following}

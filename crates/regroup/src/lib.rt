@@ -13,7 +13,7 @@ use permission::{
     book_views, commands, instance_keeper_items, operations_items, orch_base, server_model,
     topology_tree,
 };
-pub use permits::{is_held_first, permit, permit_kind};
+pub use permits::{lead_of, permit, permit_kind};
 pub use plans::{is_planned, ops_of, plan};
 /// Out of memory.
 pub use permission::orch_base::Memory;

@@ -3,7 +3,7 @@
 ghost use Rattle.std.specs.Prelude.{◌≡◌, ◌++◌, IfOk, IsSome};
 ghost use Rattle.regroup.specs.Prelude.{Gives, book_forest, option_to_list, permit_fault, permitted};
 ghost use Rattle.regroup.specs.Commands.{regroup_command};
-ghost use Rattle.regroup.specs.Permits.{astray, case_of, crossed_by, is_held_first, last_row_of, movers_of, own_refusal, passed_by, refusal_about, refusal_of, relocating, row_of};
+ghost use Rattle.regroup.specs.Permits.{astray, case_of, crossed_by, last_row_of, lead_of, movers_of, own_refusal, passed_by, refusal_about, refusal_of, relocating, row_of};
 
 use crate::book_views::replicas;
 use crate::command::regroup_command;
@@ -15,7 +15,7 @@ use crate::topology_tree::Forest;
 use crate::ways::{path_to, push_crossed, push_passed};
 use crate::{Memory, PermitFault};
 use permission::{
-    Case, Check, one_or_none, refusal_around, replicas_but, unknown_in, without_candidate,
+    Case, Check, Lead, one_or_none, refusal_around, replicas_but, unknown_in, without_candidate,
 };
 use std::alloc::Global;
 
@@ -83,13 +83,14 @@ fn row_of(gtid: bool, command: PathCommand) -> &'static [Check]
     }
 }
 
-/// Whether the first check of a command, after that of known instances, is that no job has its instance's lease.
-pub fn is_held_first(command: PathCommand) -> bool
-    ensures { result ≡ is_held_first command }
+/// Which checks of a command's row come first, after the one that its instances are known.
+pub fn lead_of(command: PathCommand) -> Lead
+    ensures { result ≡ lead_of command }
 {
     match command {
-        PathCommand::RegroupReplicas => true,
-        PathCommand::Relocate | PathCommand::RelocateReplicas => false,
+        PathCommand::RegroupReplicas => Lead::Held,
+        PathCommand::Relocate => Lead::Apart,
+        PathCommand::RelocateReplicas => Lead::Other,
     }
 }
 
