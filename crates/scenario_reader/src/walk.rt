@@ -1,7 +1,7 @@
 //! The walk over a scenario's text.
 
-ghost use Rattle.std.specs.Prelude.{◌≡◌, ◌+◌, ◌≤◌, ℕ, List, [], Some, Ok, IfOk, codes, count_by, length, option_map};
-ghost use Rattle.scenario_reader.specs.Prelude.{Gives, IsGiven, IsScenario, Scenario as AScenario, TooLong, each, expanded, fault_of, get, get_member, inits_of, is_write};
+ghost use Rattle.std.specs.Prelude.{◌≡◌, ◌+◌, ◌≤◌, ℕ, List, [], Some, Ok, IfOk, codes, length, option_map};
+ghost use Rattle.scenario_reader.specs.Prelude.{Gives, IsGiven, IsScenario, Scenario as AScenario, TooLong, each, expanded, fault_of, get, get_member, inits_of};
 ghost use Rattle.scenario_reader.specs.Prelude.{items_in, items_view, members_view, needed_in, no_items, optional_in, servers_in, turn_in, under as place_under, view};
 ghost use Rattle.scenario_reader.specs.Filters.{AreRead};
 ghost use Rattle.scenario_reader.specs.ReadOpenings.{is_small, listed_count};
@@ -13,38 +13,19 @@ use crate::opening::{listed_count, opening_in};
 use crate::openings::ServerInit;
 use crate::orch_base::{MAX_SCENARIO_LEN, Moment, ServerNo};
 use scenario_servers::{Listed, Names, inits_of, known_of, rules_of, servers_in};
-use scenario_turns::{ListedTurn, Patterns, are_few, each_turn, expanded, in_order, printed_of};
+use scenario_turns::{ListedTurn, Patterns, each_turn, expanded, in_order, printed_of};
 use scenario_values::{FaultCode, ReadFault, fails, holds, items_in, under};
-use scenarios::{Answers, Rules, Scenario, Step, Turn, Turns};
+use scenarios::{Answers, Rules, Scenario, Turn, Turns};
 use serde_json::{Map, Value};
 use std::alloc::Global;
 
 const MOST: u64 = 4_000_000;
 
-fn is_write(turn: &Turn) -> bool
-    ensures { result ≡ is_write turn.now }
-{
-    matches!(turn, Turn::Step(Step::Write(_, _)))
-}
-
-fn writes(turns: &[Turn]) -> usize
-    ensures { result ≡ count_by is_write turns.now }
-{
-    let mut count = 0;
-    for turn in turns {
-        if is_write(turn) {
-            count += 1;
-        }
-    }
-    count
-}
-
 // Whether the servers times the transactions that they list and the turns write are at most 4,000,000.
-fn is_small(servers: &[ServerInit], turns: &[Turn]) -> bool
-    ensures { result
-        ≡ is_small (length servers.now) (listed_count servers.now + count_by is_write turns.now) }
+fn is_small(servers: &[ServerInit], writes: usize) -> bool
+    ensures { result ≡ is_small (length servers.now) (listed_count servers.now + writes) }
 {
-    let count = listed_count(servers).saturating_add(writes(turns) as u64);
+    let count = listed_count(servers).saturating_add(writes as u64);
     match count.checked_mul(servers.len() as u64) {
         Some(product) => product <= MOST,
         None => false,
@@ -71,7 +52,7 @@ fn turns_at(
 }
 
 // The turns that the listed ones mean, if they are not too many.
-#[tactic(auto, unfolding(crate::specs::ReadScenarios::bounded))]
+#[tactic(auto, using(scenario_turns::proofs::Expansions::few_some, scenario_turns::proofs::Expansions::few_none), unfolding(crate::specs::ReadScenarios::bounded))]
 fn bounded(
     alloc: Global,
     servers: &[ServerInit],
@@ -82,9 +63,10 @@ fn bounded(
     ensures { Gives (λ v. v.items) fault_of result
         (bounded servers.now (expanded ordered.now listed.items)) }
 {
-    holds(alloc, FaultCode::TooLarge, are_few(ordered, &listed))?;
-    let turns = expanded(alloc, ordered, listed)?;
-    holds(alloc, FaultCode::TooLarge, is_small(servers, &turns))?;
+    let Some((turns, writes)) = expanded(alloc, ordered, listed)? else {
+        return Err(fails(alloc, FaultCode::TooLarge));
+    };
+    holds(alloc, FaultCode::TooLarge, is_small(servers, writes))?;
     Ok(turns)
 }
 

@@ -1,28 +1,56 @@
--- How many turns the listed ones mean, and that each is a turn of the servers.
-use Rattle.std.proofs.Common.{◌≡◌, ℕ, ◌+◌, ◌*◌, ◌<◌, ◌≤◌, List, [], ◌∷◌, ◌++◌, length, take, get_or, All, Option, Some, None, false, leb, refl, arith, IfSome}
+-- How many turns and writes the listed ones mean, and that each is a turn of the servers.
+use Rattle.std.proofs.Common.{◌≡◌, ℕ, ◌+◌, ◌<◌, ◌≤◌, Bool, List, [], ◌∷◌, ◌++◌, length, take, get_or, count_by, cond, nat_le, if◌then◌else◌, All, Option, Some, None, true, false, ap, sym, subst, refl, arith, IfSome}
 use Rattle.scenario_turns.proofs.Prelude.{Act, All-cons, All-head, All-nil, All-tail, Apply, Fetch, IsAct, IsListedTurn, IsNumberOf, IsTurnOf}
-use Rattle.scenario_turns.proofs.Prelude.{ListedTurn, One, PollRead, Polls, PollStore, Round, ServerNo, Step, Turn, done_by, expanded, expansion_of}
-use Rattle.scenario_turns.proofs.Prelude.{flat_map, length-append, length-flat_map-take, nat_tests, polls_of, steps_of}
+use Rattle.scenario_turns.proofs.Prelude.{ListedTurn, One, PollRead, Polls, PollStore, Round, ServerNo, Step, Turn, done_by, expanded, expansion_of, few}
+use Rattle.scenario_turns.proofs.Prelude.{flat_map, is_write, length-append, length-flat_map-take, nat_tests, polls_of, same_Some, steps_of, sum_by-append}
+
+some_none : {ts : List Turn} → Some ts ≡ None → ⊥
+some_none e = cc
 
 -- ---- how many
 
-twice : (f g : ServerNo → Turn) (ns : List ServerNo) → length (flat_map (λ n. f n ∷ g n ∷ []) ns) ≡ 2 * length ns
-twice f g [] = refl
-twice f g (n ∷ ns) = let more = twice f g ns in omega arith
-
-pub polls_length : (node : Option ℕ) (ns : List ServerNo) → length (polls_of node ns) ≡ 2 * length ns
-polls_length by ns = twice (λ n. done_by by (PollRead 0 n)) (λ n. done_by by (PollStore 0)) ns
-
-pub round_length : (ns : List ServerNo) → length (steps_of ns ++ polls_of None ns) ≡ 4 * length ns
-round_length ns = omega (arith, length-append (steps_of ns) (polls_of None ns), twice (λ n. Step (Fetch n)) (λ n. Step (Apply n)) ns, polls_length None ns)
-
 -- the turns up to one that is listed, and its own, are more than there may be: those of all are too
-pub too_many : (ns : List ServerNo) (listed : List ListedTurn) (i count own : ℕ) (d : ListedTurn) → i < length listed → count ≡ length (expanded ns (take i listed)) → own ≡ length (expansion_of ns (get_or listed i d))
-    → 1000000 < count + own → false ≡ leb (length (expanded ns listed)) 1000000
-too_many ns listed i count own d lt so_far one over =
-    let within : length (expanded ns (take i listed)) + length (expansion_of ns (get_or listed i d)) ≤ length (expanded ns listed) = length-flat_map-take (expansion_of ns) listed i d lt in
-    let more : 1000000 < length (expanded ns listed) = omega arith in
-    grind (arith, nat_tests, more)
+pub too_many : (ns : List ServerNo) (listed seen : List ListedTurn) (own : ListedTurn) → length seen < length listed → seen ≡ take (length seen) listed → own ≡ get_or listed (length seen) own
+    → 1000000 < length (expanded ns seen ++ expansion_of ns own) → None ≡ few (expanded ns listed)
+too_many ns listed seen own lt front at over =
+    let whole : length (expanded ns (take (length seen) listed)) + length (expansion_of ns (get_or listed (length seen) own)) ≤ length (expanded ns listed) = length-flat_map-take (expansion_of ns) listed (length seen) own lt in
+    let begun : length (expanded ns seen) + length (expansion_of ns (get_or listed (length seen) own)) ≤ length (expanded ns listed) =
+    subst (λ s. length (expanded ns s) + length (expansion_of ns (get_or listed (length seen) own)) ≤ length (expanded ns listed)) (sym front) whole in
+    let within : length (expanded ns seen) + length (expansion_of ns own) ≤ length (expanded ns listed) = subst (λ t. length (expanded ns seen) + length (expansion_of ns t) ≤ length (expanded ns listed)) (sym at) begun in
+    let sum = length-append (expanded ns seen) (expansion_of ns own) in
+    let more : 1000000 < length (expanded ns listed) = omega (arith, sum, within, over) in
+    let tested : false ≡ nat_le (length (expanded ns listed)) 1000000 = grind (arith, nat_tests, more) in
+    ap (λ b. if b then Some (expanded ns listed) else None) tested
+
+-- the turns are few, or not
+few_by : (ts us : List Turn) (b : Bool) → b ≡ nat_le (length ts) 1000000 → Some us ≡ (if b then Some ts else None) → (true ≡ nat_le (length ts) 1000000) × (us ≡ ts)
+few_by ts us true is some = (is, same_Some us ts some)
+few_by ts us false is some = absurd (some_none some)
+
+pub few_some : (ts us : List Turn) → Some us ≡ few ts → (true ≡ nat_le (length ts) 1000000) × (us ≡ ts)
+few_some ts us some = few_by ts us (nat_le (length ts) 1000000) refl some
+
+many_by : (ts : List Turn) (b : Bool) → b ≡ nat_le (length ts) 1000000 → None ≡ (if b then Some ts else None) → false ≡ nat_le (length ts) 1000000
+many_by ts true is none = absurd (some_none (sym none))
+many_by ts false is none = is
+
+pub few_none : (ts : List Turn) → None ≡ few ts → false ≡ nat_le (length ts) 1000000
+few_none ts none = many_by ts (nat_le (length ts) 1000000) refl none
+
+pub polls_write_nothing : (node : Option ℕ) (ns : List ServerNo) → count_by is_write (polls_of node ns) ≡ 0
+polls_write_nothing None [] = refl
+polls_write_nothing None (n ∷ ns) = polls_write_nothing None ns
+polls_write_nothing (Some by) [] = refl
+polls_write_nothing (Some by) (n ∷ ns) = polls_write_nothing (Some by) ns
+
+steps_write_nothing : (ns : List ServerNo) → count_by is_write (steps_of ns) ≡ 0
+steps_write_nothing [] = refl
+steps_write_nothing (n ∷ ns) = steps_write_nothing ns
+
+pub rounds_write_nothing : (ns : List ServerNo) → count_by is_write (steps_of ns ++ polls_of None ns) ≡ 0
+rounds_write_nothing ns =
+    let sum : count_by is_write (steps_of ns ++ polls_of None ns) ≡ count_by is_write (steps_of ns) + count_by is_write (polls_of None ns) = sum_by-append (λ t. cond (is_write t) 1 0) (steps_of ns) (polls_of None ns) in
+    omega (arith, sum, steps_write_nothing ns, polls_write_nothing None ns)
 
 -- ---- turns of the servers
 

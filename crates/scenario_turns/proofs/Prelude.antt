@@ -1,7 +1,10 @@
 -- What its proofs cite of others.
-pub use Rattle.std.proofs.lemmas.List.{length-append, length-map, map_more}
+pub use Rattle.std.proofs.lemmas.List.{length-append, length-map, map-id, map_more}
 pub use Rattle.std.proofs.lemmas.List.Elements.{All-head, All-tail}
+pub use Rattle.std.proofs.lemmas.Iterator.Adapters.{YieldsList-from_vec}
+pub use Rattle.std.proofs.lemmas.Iterator.Consumers.{YieldsList-so_far, YieldsList-turn}
 pub use Rattle.std.proofs.lemmas.List.Folds.{length-flat_map-take}
+pub use Rattle.std.proofs.lemmas.List.Sums.{sum_by-append}
 pub use Rattle.std.proofs.lemmas.Map.Text.{btree_map_updates_text}
 pub use Rattle.name_order.proofs.Arranged.{by_name-within}
 pub use Rattle.scenario_servers.proofs.Prelude.{All-cons, All-nil, IsReadTo, Value, bytes_eq-Decides, get, leb-true, nat_tests, same_Some, update}
@@ -9,14 +12,14 @@ pub use Rattle.scenario_servers.proofs.ServerSteps.{named-ok}
 pub use Rattle.scenario_servers.proofs.Steps.{bind-ok, holds-ok, maybe-ok, number-ok, or_fails-ok, same_Ok, under-ok}
 pub use Rattle.scenario_turns.specs.Commands.{command_keys, parts_of}
 unfoldable pub use Rattle.scenario_turns.specs.Commands.{command_in, duration_in, given_in, instances_in, keys_in, name_in, pattern_in}
-pub use Rattle.scenario_turns.specs.Expansion.{IsListedTurn, done_by, expanded, expansion_of, in_order, polls_of, server_names, steps_of}
+pub use Rattle.scenario_turns.specs.Expansion.{IsListedTurn, done_by, expanded, expansion_of, few, in_order, polls_of, server_names, steps_of}
 pub use Rattle.scenario_turns.specs.Found.{found_of}
 unfoldable pub use Rattle.scenario_turns.specs.Found.{found_in}
 pub use Rattle.scenario_turns.specs.KnownPatterns.{AreKnown, IsKnown}
 pub use Rattle.scenario_turns.specs.Prelude.{Act, Apply, BadCommand, BadNumber, BadPattern, BadTurn, BTreeMap, CommandName, CommandTurn, Cut, Data}
 pub use Rattle.scenario_turns.specs.Prelude.{Fail, Fault, Fetch, Found, Gives, Global, Heal, HostPort, IsCommand, IsNumberOf, IsTurnOf, Items, Job}
 pub use Rattle.scenario_turns.specs.Prelude.{Join, Keys, Link, NodeTurn, PollRead, PollStore, Purge, Restart, Rotate, Scan, ServerInit, ServerNo}
-pub use Rattle.scenario_turns.specs.Prelude.{Step, Turn, Write, bytes_eq, fails, fault_of, flat_map, get_by_text, holds, is_there, item, item_count}
+pub use Rattle.scenario_turns.specs.Prelude.{Step, Turn, Write, bytes_eq, fails, fault_of, flat_map, get_by_text, holds, is_there, is_write, item, item_count}
 pub use Rattle.scenario_turns.specs.Prelude.{items_in, items_view, maybe, members_in, needs_of, no_items, only_keys, printed, seconds_at, text_in}
 pub use Rattle.scenario_turns.specs.Prelude.{under_item, view}
 unfoldable pub use Rattle.scenario_turns.specs.Prelude.{is_found, is_pattern, number_in, rule_in, server_named, short_in}

@@ -1,5 +1,5 @@
 -- The turns that listed turns mean.
-use Rattle.std.specs.Prelude.{ℕ, ◌++◌, ◌∷◌, List, [], map, IfSome, Option, None, Some}
+use Rattle.std.specs.Prelude.{ℕ, ◌++◌, ◌∷◌, List, [], map, length, nat_le, if◌then◌else◌, IfSome, Option, None, Some}
 use Rattle.scenario_turns.specs.Prelude.{Act, Apply, Fetch, HostPort, IsNumberOf, IsTurnOf, PollRead, PollStore, ServerInit, ServerNo, Step, Turn}
 use Rattle.scenario_turns.specs.Prelude.{by_name, flat_map, printed}
 use Rattle.scenario_turns.specs.Prelude.turn
@@ -39,6 +39,10 @@ expansion_of ns Round = steps_of ns ++ polls_of None ns
 -- the turns of all listed ones, in order
 abbrev pub expanded : List ServerNo → List ListedTurn → List Turn
 expanded ns listed = flat_map (expansion_of ns) listed
+
+-- these turns, if they are at most 1,000,000
+abbrev pub few : List Turn → Option (List Turn)
+few turns = if nat_le (length turns) 1000000 then Some turns else None
 
 -- the listed turn is a turn of so many servers and orchestrators, if it is one turn, and means turns of one of them
 abbrev pub IsListedTurn : ℕ → ℕ → ListedTurn → Type 0

@@ -28,5 +28,5 @@ pub use Rattle.scenarios.specs.Turns.declared.turn.Step.TheVariants.{Apply, Cut,
 pub use Rattle.scenarios.specs.Turns.declared.turn.Turn.{Turn}
 pub use Rattle.scenarios.specs.Turns.declared.turn.Turn.TheVariants.{Step}
 pub use Rattle.scenarios.specs.Turns.declared.turn.Turn.TheVariants as turn
-pub use Rattle.scenarios.specs.ValidTurns.{IsCommand, IsNumberOf, IsTurnOf}
+pub use Rattle.scenarios.specs.ValidTurns.{IsCommand, IsNumberOf, IsTurnOf, is_write}
 pub use Rattle.serde_json.specs.Find.{as_number, as_u64}

@@ -1,7 +1,8 @@
 //! What listed turns mean.
 
-ghost use Rattle.std.specs.Prelude.{◌≡◌, ◌++◌, ◌≤◌, IfOk, OnOk, length, nat_le};
-ghost use Rattle.scenario_turns.specs.Expansion.{done_by, printed_of, server_names, in_order, polls_of, steps_of, expansion_of, expanded};
+ghost use Rattle.std.specs.Prelude.{◌≡◌, ◌++◌, ◌≤◌, IfOk, IfSome, List, OnOk, count_by, length, option_map};
+ghost use Rattle.scenario_turns.specs.Expansion.{done_by, printed_of, server_names, in_order, polls_of, steps_of, expansion_of, expanded, few};
+ghost use Rattle.scenario_turns.specs.Prelude.{ServerNo, is_write};
 
 use crate::openings::ServerInit;
 use crate::orch_base::{Memory, Name, OwnedText, ServerNo};
@@ -52,34 +53,6 @@ pub fn in_order(alloc: Global, servers: &[ServerInit]) -> Result<Vec<ServerNo>, 
     in_name_order(alloc, &names)
 }
 
-// How many turns a listed one means.
-fn length_of(ordered: &[ServerNo], listed: &ListedTurn) -> usize
-    requires { length ordered.now ≤ 1000 }
-    ensures exact { result ≡ length (expansion_of ordered.now listed.now) }
-    ensures few { result ≤ 4000 }
-{
-    match listed {
-        ListedTurn::One(_) => 1,
-        ListedTurn::Polls(_) => 2 * ordered.len(),
-        ListedTurn::Round => 4 * ordered.len(),
-    }
-}
-
-/// Whether the listed turns mean at most 1,000,000.
-pub fn are_few(ordered: &[ServerNo], listed: &[ListedTurn]) -> bool
-    requires { length ordered.now ≤ 1000 }
-    ensures { result ≡ nat_le (length (expanded ordered.now listed.now)) 1000000 }
-{
-    let mut count = 0;
-    for one in listed {
-        count += length_of(ordered, one);
-        if count > MOST_TURNS {
-            return false;
-        }
-    }
-    true
-}
-
 /// The turn in which the one orchestrator does this, or one of several by its number.
 pub(crate) fn done_by(node: Option<u32>, act: Act) -> Turn
     ensures { result ≡ done_by node act }
@@ -126,17 +99,43 @@ fn push_turns(ordered: &[ServerNo], listed: ListedTurn, turns: &mut Vec<Turn>) -
     }
 }
 
-/// The turns that the listed ones mean. The time is that of these turns. `Err` means out of memory.
+fn is_write(turn: &Turn) -> bool
+    ensures { result ≡ is_write turn.now }
+{
+    matches!(turn, Turn::Step(Step::Write(_, _)))
+}
+
+// How many writes a listed turn means.
+#[tactic(auto, using(crate::proofs::Expansions::polls_write_nothing, crate::proofs::Expansions::rounds_write_nothing))]
+fn writes_of(listed: &ListedTurn) -> usize
+    ensures exact { (ns : List ServerNo) → result ≡ count_by is_write (expansion_of ns listed.now) }
+    ensures few { result ≤ 1 }
+{
+    match listed {
+        ListedTurn::One(turn) => if is_write(turn) { 1 } else { 0 },
+        ListedTurn::Polls(_) | ListedTurn::Round => 0,
+    }
+}
+
+/// The turns that the listed ones mean, if they are at most 1,000,000, and how many of them are writes. The time is
+/// that of these turns. `Err` means out of memory.
 pub fn expanded(
     alloc: Global,
     ordered: &[ServerNo],
     listed: Vec<ListedTurn>,
-) -> Result<Vec<Turn>, Memory>
-    ensures { IfOk result (λ turns. turns.items ≡ expanded ordered.now listed.items) }
+) -> Result<Option<(Vec<Turn>, usize)>, Memory>
+    ensures turns { IfOk result (λ e. option_map (λ p. p.0.items) e
+        ≡ few (expanded ordered.now listed.items)) }
+    ensures writes { IfOk result (λ e. IfSome e (λ p. p.1 ≡ count_by is_write p.0.items)) }
 {
-    let mut turns = Vec::with_capacity(alloc, listed.len())?;
+    let mut turns = Vec::with_capacity(alloc, listed.len().min(MOST_TURNS))?;
+    let mut writes = 0;
     for one in listed {
+        writes += writes_of(&one);
         push_turns(ordered, one, &mut turns)?;
+        if turns.len() > MOST_TURNS {
+            return Ok(None);
+        }
     }
-    Ok(turns)
+    Ok(Some((turns, writes)))
 }

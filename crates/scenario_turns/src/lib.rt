@@ -11,7 +11,7 @@ mod turn_forms;
 mod word;
 
 pub use command::command_in;
-pub use expansion::{ListedTurn, are_few, expanded, in_order, printed_of};
+pub use expansion::{ListedTurn, expanded, in_order, printed_of};
 pub use laws::{read_commands_are_sound, read_turns_are_sound};
 pub use pattern::{found, printed_names};
 pub use patterns::Patterns;
