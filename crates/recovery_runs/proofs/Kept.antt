@@ -1,15 +1,16 @@
 -- What the last readings of a recovery left in the book stays there until it is done.
-use Rattle.std.proofs.Common.{◌≡◌, ◌∙◌, ℕ, ◌+◌, ◌<◌, ◌≤◌, Bool, true, false, List, [], ◌∷◌, refl, sym, ap, subst, Option, Some, None, ◌⊎◌, inl, inr, zero, suc, arith}
-use Rattle.std.specs.Prelude.{◌-◌, ◌^◌, ◌==◌, All, IfSome, replicate, slice_index_or, unwrap_or}
+use Rattle.std.proofs.Common.{◌≡◌, ◌∙◌, ℕ, ◌+◌, ◌<◌, ◌≤◌, Bool, true, false, List, [], ◌∷◌, refl, sym, ap, subst, Option, Some, None, ◌⊎◌, inl, inr, arith}
+use Rattle.std.specs.Prelude.{◌-◌, ◌^◌, ◌==◌, All, IfSome, slice_index_or, unwrap_or}
 use Rattle.recovery_runs.proofs.Prelude.{Act, All-contains, All-find, All-nil, All-weaker, BeginsOnce, BooksAtLast, BookState, Came, CoveredState}
 use Rattle.recovery_runs.proofs.Prelude.{CoversAt, CoversSoFar, Docket, Follower, Instance, IsAct, IsBelow, IsClosed, IsCoveredBeside, IsKeptSo}
 use Rattle.recovery_runs.proofs.Prelude.{IsRuling, IsSpeakingBeside, IsTold, IsTurn, IsUnder, IsUpBeside, JobStep, Line, LoadsGiven, NumbersAreGiven}
 use Rattle.recovery_runs.proofs.Prelude.{Observation, OldFollows, Purpose, ReadsOn, Ready, Recovery, Row, Scenario, ServerNo, SpeakingState, Speaks}
 use Rattle.recovery_runs.proofs.Prelude.{Stage, State, Status, Taken, TakesWrites, Turn, Unended, UpSoFar, UpState, World, act-fits, act-reads}
 use Rattle.recovery_runs.proofs.Prelude.{act_asks, act_in, after_act, after_done, all-turned, as_read, asks, begun_recovery, crowns, done_asks}
-use Rattle.recovery_runs.proofs.Prelude.{false≢true, first_stage, hooked-has, instance_at, is_going, job_at, jobs_turned, moment_at, next_count}
+use Rattle.recovery_runs.proofs.Prelude.{first_stage, hooked-has, instance_at, is_going, job_at, jobs_turned, moment_at, next_count}
 use Rattle.recovery_runs.proofs.Prelude.{none-some, number_of, openings-give-numbers, option_map, pollers, promoted_in, recovery_after, same_Some}
-use Rattle.recovery_runs.proofs.Prelude.{seen_in, shown_at, slot_at, start, status, step, taken, turn-reads, turn-stores, turn_of, turn_taken}
+use Rattle.recovery_runs.proofs.Prelude.{seen_in, shown_at, slot_at, start, status, step, taken, taken-aim, times, turn-reads, turn-stores, turn_of}
+use Rattle.recovery_runs.proofs.Prelude.{turn_taken}
 use Rattle.recovery_runs.proofs.Prelude.act
 use Rattle.recovery_runs.proofs.Prelude.came
 use Rattle.recovery_runs.proofs.Prelude.job_step
@@ -19,6 +20,7 @@ use Rattle.recovery_runs.proofs.Prelude.stage
 use Rattle.recovery_runs.proofs.Prelude.turn
 use Rattle.recovery_runs.proofs.Prelude.unended
 use Rattle.recovery_runs.proofs.Covering.{with-command, with-scan}
+use Rattle.recovery_runs.proofs.There.{HasReplicas, IsThere, has-seen, job-leaves, no-slot, promoted-one, turn-empties}
 use Rattle.recovery_runs.proofs.LastLooks.{IsWholeBy, LooksNow, WasLast, taken-last, taken-whole}
 use Rattle.recovery_runs.proofs.Shown.{ruling-shown, under-shown}
 
@@ -298,32 +300,6 @@ module _ (count : ℕ) (s : State) (ready : Ready count s) (covered : CoveredSta
   turn-ends rows (turn.Claim node) plain is room = done-ends rows (act_in s (turn.Claim node)) plain (act-fits count s (turn.Claim node) is) room
   turn-ends rows _ plain is room = ends
 
--- ---- a restart
-
-no-slot : (k p : ℕ) (o : Observation) → slice_index_or (replicate k None) p None ≡ Some o → ⊥
-no-slot zero p o e = cc
-no-slot (suc k) zero o e = cc
-no-slot (suc k) (suc p) o e = no-slot k p o e
-
-record IsEmpty (s : State) : Type 0 where
-  jobs : s.jobs ≡ []
-  slots : (p : ℕ) (o : Observation) → slot_at s p ≡ Some o → ⊥
-
-act-empties : (rows : List Row) (s : State) (a : Act) → act_asks a ≡ true → IsEmpty (after_act rows s a)
-act-empties rows s act.Restart asks = record { jobs = refl; slots = no-slot pollers }
-act-empties rows s (act.PollRead p n) asks = absurd (false≢true asks)
-act-empties rows s a asks = absurd (false≢true asks)
-
-done-empties : (rows : List Row) (s : State) (o : Option Act) → done_asks o ≡ true → IsEmpty (after_done rows s o)
-done-empties rows s None asks = absurd (false≢true asks)
-done-empties rows s (Some a) asks = act-empties rows s a asks
-
-turn-empties : (rows : List Row) (s : State) (t : Turn) → asks s t ≡ true → IsEmpty (step rows s t)
-turn-empties rows s (turn.Act a) asks = act-empties rows s a asks
-turn-empties rows s (turn.As node a) asks = let h = done-empties rows s (act_in s (turn.As node a)) asks in record { jobs = h.jobs; slots = h.slots }
-turn-empties rows s (turn.Claim node) asks = let h = done-empties rows s (act_in s (turn.Claim node)) asks in record { jobs = h.jobs; slots = h.slots }
-turn-empties rows s _ asks = absurd (false≢true asks)
-
 -- ---- along a run
 
 -- as long as the count of readings has room
@@ -359,10 +335,12 @@ keeps-start s wait rows = record {
 -- ---- the turn in which a recovery is done
 
 pub booked-last : (count : ℕ) (rows : List Row) (s : State) (id : ℕ) (r : Recovery) (docket : Docket) (own : List Line) → job_at s.jobs id ≡ Some (unended.Recovery r docket) → Ready count s → CoveredState s → SpeakingState s → ((k : ℕ) → UpState (λ x. true) k s)
-    → KeepsEnds s → (step rows s (turn.Act (act.Job id))).reads < 2 ^ 64 - 1 → (turn_taken s r).step ≡ job_step.Done own → (w : World) (lines : List Line) → IsTold w (recovery_after s r) lines
+    → All (HasReplicas s.book) s.jobs → KeepsEnds s → (step rows s (turn.Act (act.Job id))).reads < 2 ^ 64 - 1 → (turn_taken s r).step ≡ job_step.Done own → (w : World) (lines : List Line) → IsTold w (recovery_after s r) lines
     → BooksAtLast (step rows s (turn.Act (act.Job id))).book (recovery_after s r)
-booked-last count rows s id r docket own found ready covers speaking ups keeps room done w lines told = record {
-  promoted = λ n crowned p. let h = last n crowned p in
+booked-last count rows s id r docket own found ready covers speaking ups there keeps room done w lines told = record {
+  promoted = λ n crowned p.
+      let h = last n crowned p in
+      has-seen TakesWrites now.book n (has-still n crowned p)
       (stays s now room on given TakesWrites n (shows-promoted s r covered lines h.at n (subst (λ (u : Purpose). crowns u ≡ true) h.purpose crowned) (sym h.promoted ∙ p))
       (kept.promoted n lines (subst (λ (u : Purpose). crowns u ≡ true) h.purpose crowned) h.at (sym h.promoted ∙ p) h.ops)).kept;
   old = λ d aim.
@@ -377,6 +355,14 @@ booked-last count rows s id r docket own found ready covers speaking ups keeps r
 
     on : ReadsOn s now
     on = act-reads count rows s ready (act.Job id) refl
+
+    -- the promoted one is one of its replicas
+    has-still : (n : ServerNo) → crowns (recovery_after s r).purpose ≡ true → (recovery_after s r).outcome.promoted ≡ Some n → IsThere now.book n
+    has-still n crowned p =
+        let aim = taken-aim s.world s.book (next_count s.reads) (moment_at s) r in
+        let one = promoted-one w (recovery_after s r).purpose (recovery_after s r).failed (recovery_after s r).replicas (recovery_after s r).outcome told.covers crowned n p in
+        let all = All-find (HasReplicas s.book) (λ (k : Unended). number_of k == id) s.jobs (unended.Recovery r docket) there found in
+        job-leaves rows s id n (all n (subst (λ (ks : List ServerNo). 0 < times n.0 ks) aim.replicas one))
 
     before : s.reads < 2 ^ 64 - 1
     before = room-before s.reads now.reads on.count room

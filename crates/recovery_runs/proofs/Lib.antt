@@ -19,6 +19,7 @@ pub mod Failing
 pub mod TurningWell
 pub mod Booking
 pub mod Shown
+pub mod There
 pub mod LastLooks
 pub mod Kept
 pub mod Ended

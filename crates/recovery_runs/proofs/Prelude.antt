@@ -4,7 +4,9 @@ pub use Rattle.std.proofs.lemmas.Option.{slice_get_cases}
 pub use Rattle.recovery_covers.proofs.Decided.{IsStuck}
 pub use Rattle.recovery_covers.proofs.Staying.{same-aim, taken-aim, then-aim}
 pub use Rattle.recovery_covers.proofs.Telling.{all-told, leader-told}
+pub use Rattle.recovery_covers.proofs.Times.{self-times}
 pub use Rattle.recovery_covers.proofs.Turning.{decides-before}
+pub use Rattle.recovery_covers.specs.Covers.{Covers, follower_nos, listed, lost_nos}
 pub use Rattle.recovery_covers.specs.RecoveryLaws.Standing.{IsRuling}
 pub use Rattle.recovery_covers.specs.SoFar.{CoversAt, CoversSoFar, IsClosed, OldFollows}
 pub use Rattle.recovery_reasons.proofs.Answering.{turn-answered}
@@ -23,7 +25,8 @@ pub use Rattle.recovery_reasons.proofs.Readings.{ReadsNow, ShowsNow, read-now}
 pub use Rattle.recovery_reasons.proofs.Undoing.{fails-opening, fails-starting, turn-hands}
 pub use Rattle.recovery_reasons.proofs.Waiting.{turn-waits}
 pub use Rattle.recovery_runs.specs.Begun.{AreHooksOf, BeginsOnce, ComesOf, HasHooks, TellsAll, jobs_begun, jobs_done, jobs_in_act, jobs_of}
-pub use Rattle.recovery_runs.specs.Booking.{BooksAtLast, HasSo, IsBelow, LoadGiven, LoadsGiven, LooksAt, RecoveriesBookTheirEnd, TakesWrites}
+pub use Rattle.recovery_runs.specs.Booking.{BooksAtLast, HasSeen, HasSo, IsBelow, LoadGiven, LoadsGiven, LooksAt, RecoveriesBookTheirEnd, SawSo}
+pub use Rattle.recovery_runs.specs.Booking.{TakesWrites}
 pub use Rattle.recovery_runs.specs.Facts.{ExplainedState, ExplainsAct, ExplainsDone, ExplainsTurn, HasFacts}
 pub use Rattle.recovery_runs.specs.Failing.{FailsTruly, Fatal, IsEndedByHook, IsFailing, Nobody, Reached, RecoveriesFailForWhatBefell, ShowsFailed}
 pub use Rattle.recovery_runs.specs.Failing.{Sourced, StopsTruly}
@@ -70,6 +73,7 @@ pub use Rattle.run_laws.proofs.Prelude.{run_turns, same-head, same-no, same-tail
 pub use Rattle.run_laws.proofs.Prelude.{seen_of, server_at, shown_at, shown_of, slice_get_within, slot_at, source_of, start, status, step, step_reply}
 pub use Rattle.run_laws.proofs.Prelude.{takeover_begins, takeover_refusal, takes, times, turn_of, turned_at, turns_of, unless_hook, unless_refused}
 pub use Rattle.run_laws.proofs.Prelude.{updated, with_told}
+pub use Rattle.run_laws.proofs.Prelude.{IsForgotten, IsHeldBeside, IsLeased, is_attached_to, leases_of, route_of, seen_source}
 unfoldable pub use Rattle.run_laws.proofs.Prelude.{by_name}
 pub use Rattle.run_laws.proofs.Readings.{jobs-store, openings-give-numbers, turn-stores}
 pub use Rattle.run_laws.proofs.ReadyOutcomes.{given-in, within-book}
@@ -77,6 +81,7 @@ pub use Rattle.run_laws.proofs.RecoveryCore.Entries.{actionable-entries}
 pub use Rattle.run_laws.proofs.ReplicationLaws.Runs as exchanges
 pub use Rattle.run_laws.proofs.RunLaws.{Goes, Goes-start, Goes-step}
 pub use Rattle.run_laws.proofs.ServerModel.Lists.{slice_get-snoc_cases}
+pub use Rattle.run_laws.proofs.Staying.{instances-stay}
 pub use Rattle.run_laws.proofs.TurnJobs.{acts-fit, turn-keeps}
 pub use Rattle.run_laws.proofs.UnendedLaws.Checking.{tended-still}
 pub use Rattle.run_laws.proofs.UnendedLaws.CoveredBeside.{apart-stays, none-aimed, none-covered, none-kept, none-speak, outside-stays}
@@ -93,6 +98,7 @@ pub use Rattle.run_laws.specs.AuditLog.Audits
 pub use Rattle.run_laws.specs.CommandOutcomes.HookTelling.{hooks_by}
 pub use Rattle.run_laws.specs.CommandOutcomes.declared.command.Update.TheVariants as update
 pub use Rattle.run_laws.specs.Commands.declared.cause.Cause.TheVariants as cause
+pub use Rattle.run_laws.specs.Commands.declared.route.Route.TheVariants as route
 pub use Rattle.run_laws.specs.HookTexts.declared.hooks.Hooks.{Hooks}
 pub use Rattle.run_laws.specs.HookTexts.declared.values.Values.{Values}
 pub use Rattle.run_laws.specs.InstanceKeeper.Leases

@@ -21,6 +21,7 @@ use Rattle.recovery_runs.proofs.Tended.{tended-start, tended-step}
 use Rattle.recovery_runs.proofs.Covering.{covered-start, covered-step, kept-start, kept-step, speaking-step}
 use Rattle.recovery_runs.proofs.Origins.{HasOrigin, Step, origins-step, take-all}
 use Rattle.recovery_runs.proofs.Kept.{KeepsEnds, booked-last, keeps-start, keeps-step}
+use Rattle.recovery_runs.proofs.There.{HasReplicas, there-step}
 use Rattle.recovery_runs.proofs.Upkeep.{all-counts, start-up, step-up}
 
 -- ---- one state
@@ -61,6 +62,7 @@ module _ (count : ℕ) (from : State) where
     pub cares : Cares s
     pub origins : All (HasOrigin from xs) s.jobs
     pub stills : All (HasStill from xs) s.jobs
+    pub there : All (HasReplicas s.book) s.jobs
 
   pub tends-step : (xs : List Step) (s : State) (x : Step) → IsTurn count x.1 → Tends xs s → Tends (xs ++ x ∷ []) (step x.0 s x.1)
   tends-step xs s x is t = record {
@@ -69,6 +71,7 @@ module _ (count : ℕ) (from : State) where
     cares = Cares-step count x.0 s x.1 is t.goes t.cares;
     origins = origins-step from count xs s x t.here t.goes.ready is t.origins;
     stills = still-step from count xs s x.0 t.here t.goes.ready t.cares.tended t.stills x.1 is;
+    there = there-step count x.0 s x.1 t.goes.ready t.goes.held is t.there;
   }
 
   tends-run : (xs ys : List Step) (s : State) → All (IsTurn count) (turns_of ys) → Tends xs s → Tends (xs ++ ys) (run_turns engine s ys)
@@ -130,6 +133,7 @@ module _ (s : Scenario) (xs : List Step) (now : State) (comes : ComesTo s xs now
     cares = record { covered = covered-start s comes.wait comes.rows; speaking = none-speak; kept = λ q. kept-start s comes.wait comes.rows; tended = tended-start s comes.wait comes.rows };
     origins = All-nil (HasOrigin begun []);
     stills = All-nil (HasStill begun []);
+    there = All-nil (HasReplicas begun.book);
   }
 
   pub tends-comes : Tends (length s.opening.servers) begun xs now
@@ -216,6 +220,6 @@ module _ (s : Scenario) (xs : List Step) (now : State) (comes : ComesTo s xs now
           → BooksAtLast (step rows now (turn.Act (act.Job id))).book (recovery_after now r)
       book-kept rows id r docket lines is loads room =
           let t = tends-comes in
-          booked-last (length s.opening.servers) rows now id r docket (own_lines now r) is.found t.goes.ready t.cares.covered t.cares.speaking ups-comes (kept-comes loads) room
+          booked-last (length s.opening.servers) rows now id r docket (own_lines now r) is.found t.goes.ready t.cares.covered t.cares.speaking ups-comes t.there (kept-comes loads) room
           (taken-done now id r docket lines is) (step rows now (turn.Act (act.Job id))).world (own_lines now r)
           (owes-nothing now id r docket lines is (length s.opening.servers) rows t.goes.ready t.goes.held t.cares.covered).told

@@ -62,9 +62,13 @@ LoadGiven from xs = (k : ℕ) (x : List Row × Turn) → slice_get xs k ≡ Some
 abbrev pub SawSo : (Status → Type 0) → BookState → ServerNo → Type 0
 SawSo Q b n = (i : Instance) → instance_at b n ≡ Some i → Q i.seen
 
--- What the book has of the server that was promoted in a master's place shows it without a source and writable. What
--- it has of a takeover's old master shows that one below the designated one. So it is whatever was read and stored
--- after the recovery read them last.
+-- the book has the server, and what was seen of it last is so
+abbrev pub HasSeen : (Status → Type 0) → BookState → ServerNo → Type 0
+HasSeen Q b n = (i : Instance) × (instance_at b n ≡ Some i) × Q i.seen
+
+-- The book has the server that was promoted in a master's place, and shows it without a source and writable. What it
+-- has of a takeover's old master shows that one below the designated one. So it is whatever was read and stored after
+-- the recovery read them last.
 pub record BooksAtLast (b : BookState) (r : Recovery) : Type 0 where
-  pub promoted : (n : ServerNo) → crowns r.purpose ≡ true → r.outcome.promoted ≡ Some n → SawSo TakesWrites b n
+  pub promoted : (n : ServerNo) → crowns r.purpose ≡ true → r.outcome.promoted ≡ Some n → HasSeen TakesWrites b n
   pub old : (d : ServerNo) → r.purpose ≡ purpose.Takeover d → SawSo (IsBelow d) b r.failed

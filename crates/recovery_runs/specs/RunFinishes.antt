@@ -27,7 +27,7 @@ world_then rows s id = (step rows s (turn.Act (act.Job id))).world
 -- - The applier of each follower is on, and isn't to stop at a coordinate. The exceptions are a takeover's old master,
 --   whose threads stay off, and a better one that was given up and then not reached. That of a regroup's chosen one is
 --   on, too, unless it isn't attached. A takeover's old master refuses writes.
--- - In a master's place what the book has of the promoted one shows it without a source and writable. What it has of a
+-- - In a master's place the book has the promoted one, and shows it without a source and writable. What it has of a
 --   takeover's old master shows that one below it. So it is if no restart loaded a later reading than were given, and
 --   the count of readings isn't at its end.
 pub record FinishesWell (count : ℕ) (from : State) (xs : List (List Row × Turn)) (rows : List Row) (s : State) (id : ℕ) (r : Recovery) (docket : Docket) (lines : List Line) : Type 0 where

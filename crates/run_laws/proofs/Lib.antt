@@ -43,6 +43,7 @@ pub mod NodeClaims
 pub mod Acting
 pub mod Making
 pub mod Readings
+pub mod Staying
 pub mod Came
 pub mod Moments
 pub mod Waits

@@ -294,8 +294,9 @@ pub use Rattle.run_laws.specs.Prelude.{Kind, Matches, Paths, after_store, apply,
 pub use Rattle.run_laws.specs.Prelude.{claim_changes, claim_or, claims_after, counts_of, done_with, entries_put, exchanges_at, is_before}
 pub use Rattle.run_laws.specs.Prelude.{leases_after, put_recovery, reading, recovery_try, refusal_at, replicates, rotate, row_in, slot_at, sort_key}
 pub use Rattle.run_laws.specs.Prelude.{taken, takeover_try, unknown_in, unreached, write}
-pub use Rattle.run_laws.specs.Readings.{DiscoveriesRead, IsDiscovered, IsKeptSo, IsStoredBy, JobsStore, OpeningsGiveNumbers, PollsRead, PollsStore}
-pub use Rattle.run_laws.specs.Readings.{ReadingsNeverSink, RestartsCountOn, as_read, deed_in, first_op, shown_at, unless_hook}
+pub use Rattle.run_laws.specs.Readings.{DiscoveriesRead, InstancesStay, IsDiscovered, IsForgotten, IsKeptSo, IsStoredBy, JobsStore}
+pub use Rattle.run_laws.specs.Readings.{OpeningsGiveNumbers, PollsRead, PollsStore, ReadingsNeverSink, RestartsCountOn, as_read, deed_in, first_op}
+pub use Rattle.run_laws.specs.Readings.{shown_at, unless_hook}
 pub use Rattle.run_laws.specs.Ready.{AreShort, Ready}
 pub use Rattle.run_laws.specs.Runs.{ComesBefore, ComesBy, ComesTo, ComesWithin, IsBegun}
 pub use Rattle.run_laws.specs.States.{HeldState, SoundState}

@@ -1,8 +1,8 @@
 -- What is read of servers, and what becomes of it in the book.
 use Rattle.std.specs.Prelude.{◌≡◌, ◌≢◌, ℕ, ◌<◌, ◌≤◌, List, [], ◌∷◌, length, true, false, is_some, unwrap_or, Option, Some, None}
-use Rattle.run_laws.specs.Prelude.{BookState, CommandTurn, Deed, Discovers, Instance, Observation, Op, Row, Scenario, ServerNo, State, Status}
-use Rattle.run_laws.specs.Prelude.{Turn, Unended, asks, decided, deed_of, front_hook, ground_of, instance_at, job_at, next_count, route_of, seen_in, slot_at}
-use Rattle.run_laws.specs.Prelude.{after_store, last_read, reloaded_rows, start, status, step}
+use Rattle.run_laws.specs.Prelude.{BookState, CommandTurn, Deed, Discovers, Forgets, Instance, Observation, Op, Row, Scenario, ServerNo, State}
+use Rattle.run_laws.specs.Prelude.{Status, Turn, Unended, act_in, after_store, asks, decided, deed_of, front_hook, ground_of, instance_at, job_at}
+use Rattle.run_laws.specs.Prelude.{last_read, leases_of, next_count, refusal_at, reloaded_rows, route_of, seen_in, slot_at, start, status, step}
 use Rattle.run_laws.specs.Prelude.act
 use Rattle.run_laws.specs.Prelude.deed
 use Rattle.run_laws.specs.Prelude.turn
@@ -82,6 +82,22 @@ pub record IsStoredBy (s : State) (n : ServerNo) (now : State) : Type 0 where
 abbrev pub JobsStore : Type 0
 JobsStore = (rows : List Row) (s : State) (id : ℕ) (u : Unended) (n : ServerNo) (from : Option ServerNo) → job_at s.jobs id ≡ Some u → deed_in s u ≡ Some (deed.Look n from)
     → IsStoredBy s n (step rows s (turn.Act (act.Job id)))
+
+-- ---- instances
+
+-- the turn is a command to forget this instance: no check refuses it, and no job has its lease
+pub record IsForgotten (s : State) (t : Turn) (n : ServerNo) : Type 0 where
+  pub command : CommandTurn
+  pub taken : act_in s t ≡ Some (act.Command command)
+  pub route : route_of command.command.name ≡ Forgets
+  pub given : command.command.i ≡ Some n
+  pub may : refusal_at s command.command ≡ None
+  pub free : leases_of s.book.leases n.0 ≡ None
+
+-- only that and a restart take an instance out of the book
+abbrev pub InstancesStay : Type 0
+InstancesStay = (rows : List Row) (s : State) (t : Turn) (n : ServerNo) (was : Instance) → asks s t ≡ false → instance_at s.book n ≡ Some was
+    → instance_at (step rows s t).book n ≡ None → IsForgotten s t n
 
 -- ---- numbers of readings
 

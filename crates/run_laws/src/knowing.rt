@@ -1,7 +1,7 @@
 //! Laws of what is read of servers, of time, and of how often jobs may wait.
 
 ghost use Rattle.run_laws.specs.Moments.{JobsRise, LastJobNeverSinks, NothingIsToCome, PassesTime};
-ghost use Rattle.run_laws.specs.Readings.{DiscoveriesRead, JobsStore, OpeningsGiveNumbers, PollsRead, PollsStore, ReadingsNeverSink, RestartsCountOn};
+ghost use Rattle.run_laws.specs.Readings.{DiscoveriesRead, InstancesStay, JobsStore, OpeningsGiveNumbers, PollsRead, PollsStore, ReadingsNeverSink, RestartsCountOn};
 ghost use Rattle.run_laws.specs.Runs.{InEveryState};
 ghost use Rattle.run_laws.specs.Hands.{PlansReturn};
 ghost use Rattle.run_laws.specs.Leading.{PlansLeadAsTold};
@@ -15,14 +15,16 @@ ghost use Rattle.std.specs.Prelude.{List, ℕ};
 /// A poll, a discovery and a look of a job read what one status of the server has then, with the next read number, and
 /// it is stored. The book has it, valid exactly if the server was reached, unless it has a later reading. A reading
 /// that didn't reach its server keeps what was seen before. No instance goes back to an earlier reading except by a
-/// restart. After an opening no kept number is above those that were given. A restart goes on with their count, and
-/// loads no number above the greatest of the rows that count.
+/// restart. Only a restart and a command that forgets it take an instance out of the book. Such a command is refused as
+/// long as a job has the instance's lease. After an opening no kept number is above those that were given. A restart
+/// goes on with their count, and loads no number above the greatest of the rows that count.
 pub fn readings_are_stored()
     ensures polls { PollsRead }
     ensures stores { PollsStore }
     ensures discoveries { DiscoveriesRead }
     ensures jobs { JobsStore }
     ensures never_sink { ReadingsNeverSink }
+    ensures stay { InstancesStay }
     ensures openings { OpeningsGiveNumbers }
     ensures restarts { RestartsCountOn }
 {}

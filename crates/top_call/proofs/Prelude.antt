@@ -31,6 +31,7 @@ pub use Rattle.recovery_runs.proofs.RunLaws.Permissions.{begun_there, refused_ch
 pub use Rattle.recovery_runs.proofs.RunLaws.Readings.{discoveries-read, jobs-store, openings-give-numbers, polls-read, polls-store}
 pub use Rattle.recovery_runs.proofs.RunLaws.Readings.{readings-never-sink, restarts-count-on}
 pub use Rattle.recovery_runs.proofs.RunLaws.RunLaws.{Goes, Goes-comes}
+pub use Rattle.recovery_runs.proofs.RunLaws.Staying.{instances-stay}
 pub use Rattle.recovery_runs.proofs.RunLaws.Waits.{begun-may-wait, jobs-may-wait}
 pub use Rattle.recovery_runs.proofs.Tending.{began-comes, finish-comes, scenarios-comes, still-comes, told-next}
 pub use Rattle.recovery_runs.proofs.TurningWell.{turn-comes}

@@ -13,7 +13,7 @@ use Rattle.top_call.proofs.Prelude.{began-comes, begun-may-wait, begun-since, be
 use Rattle.top_call.proofs.Prelude.{begun_there, books-comes, by_name, by_name-within, changed, claim-row-whole, claim_ahead, claim_key}
 use Rattle.top_call.proofs.Prelude.{claim_without, closing, closing_by, command_as, course_of, discoveries-read, engine, every-kept, every-many}
 use Rattle.top_call.proofs.Prelude.{every-one, every-reached, fail-comes, failure-comes, finish-comes, found-end, held-last, held_from, held_run}
-use Rattle.top_call.proofs.Prelude.{held_step, is_alone, is_open, job_at, jobs-comes, jobs-may-wait, jobs-rise, jobs-store, kept_at_start}
+use Rattle.top_call.proofs.Prelude.{held_step, instances-stay, is_alone, is_open, job_at, jobs-comes, jobs-may-wait, jobs-rise, jobs-store, kept_at_start}
 use Rattle.top_call.proofs.Prelude.{lapsed-idle, lapsed-keep-nothing, last-never-sinks, length-map, looks-before, lowest-refuses, matches-end}
 use Rattle.top_call.proofs.Prelude.{most_turns, named-job, named-round, names_of, nodes_of, openings-give-numbers, option_to_list, others-stay}
 use Rattle.top_call.proofs.Prelude.{own_job, own_turn, passes-time, passing-drops, passing-is-restart, passing-restarts, past-comes, periods-in-turn}
@@ -415,6 +415,7 @@ stores_readings = record {
   discoveries = discoveries-read;
   jobs = jobs-store;
   never_sink = readings-never-sink;
+  stay = instances-stay;
   openings = openings-give-numbers;
   restarts = restarts-count-on;
 }

@@ -43,8 +43,8 @@ pub use Rattle.recovery_runs.specs.RunLaws.LinesHold.{DoneAsTold}
 pub use Rattle.recovery_runs.specs.RunLaws.Lowest.{RefusedByLowest}
 pub use Rattle.recovery_runs.specs.RunLaws.Marks.{FoundMatchesEnd, MatchesEnd}
 pub use Rattle.recovery_runs.specs.RunLaws.Moments.{JobsRise, NothingIsToCome, PassesTime}
-pub use Rattle.recovery_runs.specs.RunLaws.Readings.{DiscoveriesRead, JobsStore, OpeningsGiveNumbers, PollsRead, PollsStore, ReadingsNeverSink}
-pub use Rattle.recovery_runs.specs.RunLaws.Readings.{RestartsCountOn}
+pub use Rattle.recovery_runs.specs.RunLaws.Readings.{DiscoveriesRead, InstancesStay, JobsStore, OpeningsGiveNumbers, PollsRead, PollsStore}
+pub use Rattle.recovery_runs.specs.RunLaws.Readings.{ReadingsNeverSink, RestartsCountOn}
 pub use Rattle.recovery_runs.specs.RunLaws.Waits.{BegunMayWait, MayWait}
 pub use Rattle.recovery_runs.specs.Scenarios.Scenarios.{period_of}
 pub use Rattle.recovery_runs.specs.ServerModel.Safe.{Placed}

@@ -12,8 +12,8 @@ use Rattle.top_call.specs.Prelude.{Row, Safe, Scenario, SoundState, SpendsWaitsL
 use Rattle.top_call.specs.Prelude.{claim_key, closed, course_of, engine, entries_begun, entries_put, entry_kept, interrupted_at, job_at, leases_after}
 use Rattle.top_call.specs.Prelude.{moment_at, own_lines, period_of, promoted_then, recoveries_begun, recoveries_scanned, recovery_after, recovery_job}
 use Rattle.top_call.specs.Prelude.{refusal_at, reply_of, route_of, row_in, run_turns, start, step, taken, told_hooks, turns_of, with_entry}
-use Rattle.top_call.specs.Prelude.{ActiveActAlike, BegunMayWait, DiscoveriesRead, DoneAsTold, HeldLastAMinute, HoldsNone, JobsRise, JobsStore, LapsedKeepNothing, LooksBefore}
-use Rattle.top_call.specs.Prelude.{MayWait, NothingIsToCome, OpeningsGiveNumbers, PassesTime, PassingRestarts, PollsRead, PollsStore, ReadingsNeverSink, Returns}
+use Rattle.top_call.specs.Prelude.{ActiveActAlike, BegunMayWait, DiscoveriesRead, DoneAsTold, HeldLastAMinute, HoldsNone, InstancesStay, JobsRise, JobsStore, LapsedKeepNothing}
+use Rattle.top_call.specs.Prelude.{LooksBefore, MayWait, NothingIsToCome, OpeningsGiveNumbers, PassesTime, PassingRestarts, PollsRead, PollsStore, ReadingsNeverSink, Returns}
 use Rattle.top_call.specs.Prelude.{RenewingClaimsAlone, RestartsCountOn, TakenChangeNothing}
 use Rattle.top_call.specs.Prelude.act
 use Rattle.top_call.specs.Prelude.answered
@@ -266,13 +266,15 @@ KeepTime words bytes = (w : Work) (run : Recorded) → IsTask words bytes w → 
 
 -- ---- what is read
 
--- In any state what is read of a server is what one status shows then, and it is stored, with numbers that rise. A
--- restart goes on with their count, whatever rows it loads.
+-- In any state what is read of a server is what one status shows then, and it is stored, with numbers that rise. Only a
+-- restart and a command that forgets it take an instance out of the book. A restart goes on with the count of readings,
+-- whatever rows it loads.
 pub record StoresReadings : Type 0 where
   pub polls : PollsRead
   pub stores : PollsStore
   pub discoveries : DiscoveriesRead
   pub jobs : JobsStore
   pub never_sink : ReadingsNeverSink
+  pub stay : InstancesStay
   pub openings : OpeningsGiveNumbers
   pub restarts : RestartsCountOn
