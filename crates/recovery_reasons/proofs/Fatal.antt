@@ -1,6 +1,6 @@
 -- Which failing operations end a recovery.
-use Rattle.std.proofs.Common.{◌≡◌, List, sym, ◌∙◌, ap, Some, ◌⊎◌, inl, inr}
-use Rattle.recovery_reasons.proofs.Prelude.{Bridge, CanEnd, Cause, Coord, Interval, IsMissed, Purpose, ServerNo, Stage, Way, Why, World, fate}
+use Rattle.std.proofs.Common.{◌≡◌, ℕ, List, sym, ◌∙◌, ap, Some, ◌⊎◌, inl, inr}
+use Rattle.recovery_reasons.proofs.Prelude.{Bridge, CanEnd, Cause, Coord, Interval, IsMissed, IsUnmatched, Purpose, ServerNo, Stage, Way, Why, World, fate}
 use Rattle.recovery_reasons.proofs.Prelude.{fate_of_move, lost_on_way, speaks_of}
 use Rattle.recovery_reasons.proofs.Prelude.cause
 use Rattle.recovery_reasons.proofs.Prelude.lost
@@ -37,6 +37,12 @@ module _ (w : World) (u : Purpose) where
   move-goes n (way.Match to exec every) (cause.Purged m first) i h = cc
   move-goes n (way.Match to exec every) c i h = absurd i
 
+  match-goes : (n to : ServerNo) (exec : Coord) (every : ℕ) (c : Cause) → IsUnmatched c → fate_of_move w u n (way.Match to exec every) c ≡ taking.Fails → ⊥
+  match-goes n to exec every (cause.NoMark m) i h = cc
+  match-goes n to exec every (cause.Mismatch m entry) i h = cc
+  match-goes n to exec every (cause.Loop m) i h = cc
+  match-goes n to exec every c i h = absurd i
+
   reached-goes : (s : Stage) (n m : ServerNo) → speaks_of s ≡ Some n → fate w u s (cause.Unreachable m) ≡ taking.Fails → ⊥
   reached-goes (stage.Drain k) n m on h = cc
   reached-goes (stage.Move k by) n m on h = move-goes k by (cause.Unreachable m) tt h
@@ -50,6 +56,7 @@ module _ (w : World) (u : Purpose) where
     reached = λ n m on is. reached-goes s n m on (ap (fate w u s) (sym is) ∙ h);
     missed = λ n by at i. move-goes n by c i (ap (λ (k : Stage). fate w u k c) (sym at) ∙ h);
     errant = λ n to m exec set at is. lost-goes u n _ (as-errant n to m exec set at is);
+    unmatched = λ n to exec every at i. match-goes n to exec every c i (ap (λ (k : Stage). fate w u k c) (sym at) ∙ h);
     late = λ n m x at is. waits n m x (ap (λ (k : Stage). fate w u k (cause.WaitSpent m)) (sym at) ∙ (ap (fate w u s) (sym is) ∙ h));
     better = λ p q at. swaps p q at;
     lost = λ n at. frees n at;

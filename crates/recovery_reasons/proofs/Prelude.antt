@@ -100,7 +100,7 @@ pub use Rattle.recovery_reasons.specs.Attaching as makes
 pub use Rattle.recovery_reasons.specs.Causes.{IsMatchCause, IsTrueOf, IsUnreached}
 pub use Rattle.recovery_reasons.specs.Changing.{ChangesIts, IsIts}
 pub use Rattle.recovery_reasons.specs.Choices.{ComesFirst, IsBestOne, IsBetterOne, IsFirstOf, IsNear, IsPreferred, MayBePromoted}
-pub use Rattle.recovery_reasons.specs.Fatal.{CanEnd, IsMissed}
+pub use Rattle.recovery_reasons.specs.Fatal.{CanEnd, IsMissed, IsUnmatched}
 pub use Rattle.recovery_reasons.specs.Nobody.{DecisionsElse, HasNobody, finds_nobody}
 pub use Rattle.recovery_reasons.specs.Nobody as nobody
 pub use Rattle.recovery_reasons.specs.OnWay.{AllFit, IsGathering, IsMeeting, IsOnCourse, IsOnWay, IsRead, IsSwapping, KnowsLead, StageOf, SwapOf}

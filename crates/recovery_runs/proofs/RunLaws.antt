@@ -20,4 +20,5 @@ pub use Rattle.run_laws.proofs.Permissions
 pub use Rattle.run_laws.proofs.Readings
 pub use Rattle.run_laws.proofs.RunLaws
 pub use Rattle.run_laws.proofs.Staying
+pub use Rattle.run_laws.proofs.Unasked
 pub use Rattle.run_laws.proofs.Waits

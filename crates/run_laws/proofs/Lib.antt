@@ -22,6 +22,7 @@ pub mod Told
 pub mod Beginnings
 pub mod Logged
 pub mod Lines
+pub mod Unasked
 pub mod Closings
 pub mod Loads
 pub mod Sameness

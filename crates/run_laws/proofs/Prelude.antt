@@ -21,6 +21,7 @@ pub use Rattle.move_laws.proofs.BegunGtid as gtids
 pub use Rattle.move_laws.proofs.BegunMatch as matches
 pub use Rattle.move_laws.proofs.BegunPath as paths
 pub use Rattle.move_laws.proofs.Firsts.{given-by}
+pub use Rattle.move_laws.proofs.Prelude.{action_checks, code_checks, own_checks, without_candidate}
 pub use Rattle.move_laws.proofs.Prelude.{Action, AreTries, Attempt, Code, Contains-append_right, Contains-get_or, CoordsCommand, Entry, Footing}
 pub use Rattle.move_laws.proofs.Prelude.{GtidCommand, IsAnswer, IsNoLower, IsOrder-by_name, Left, MatchCommand, Path, PathCommand, Scan, Staged}
 pub use Rattle.move_laws.proofs.Prelude.{about as about_kind, about_one, action_of, actionable_in, after_try, again, again_auto, are_held, are_listed}
@@ -266,7 +267,7 @@ pub use Rattle.recovery_covers.specs.RecoveryLaws.Standing.{IsWritable, KeepsSou
 pub use Rattle.run_laws.specs.Acting.{ActiveActAlike, HeldLastAMinute, IsRestartAndClaim, LapsedKeepNothing, PassingRestarts, RenewingClaimsAlone}
 pub use Rattle.run_laws.specs.Acting.{TakenChangeNothing}
 pub use Rattle.run_laws.specs.Aims.{IsAbout, IsAimed, IsAskedBy, IsAskedIn, IsAskedOf, IsFor}
-pub use Rattle.run_laws.specs.Answering.{ScansTryByTable}
+pub use Rattle.run_laws.specs.Answering.{IsUnasked, PassesFilter, ScansBeginUnasked, ScansTryByTable}
 pub use Rattle.run_laws.specs.Begins.{BeginApartInTurn, BeginsApart, NamesReplicasOnce, entries_of}
 pub use Rattle.run_laws.specs.BegunJobs.{BegunJob, begun_by, begun_of, entry_kept, of_plan, of_try, recovering, taking_by, taking_over, with_entry}
 pub use Rattle.run_laws.specs.Claims.{ActsWhereActive, ClaimsAreReached, ClaimsWait, IsClaimRow, ItsClaimIsKept, LapsedDoesNothing, OneIsActive}

@@ -1,7 +1,8 @@
 -- What commands and scans answer and begin.
-use Rattle.std.specs.Prelude.{◌≡◌, ℕ, ◌+◌, ◌∷◌, ◌++◌, List, [], Some, length, map}
-use Rattle.run_laws.specs.Prelude.{AreTries, Command, CommandTurn, Line, Refusal, Row, State, actionable_in, changes_of, entries_put, leases_after}
-use Rattle.run_laws.specs.Prelude.{number_of, recovery_job, refusal_at, reply_of, route_of, step, taken}
+use Rattle.std.specs.Prelude.{◌≡◌, ℕ, ◌+◌, ◌∷◌, ◌++◌, false, true, All, List, [], None, Some, length, map, slice_index_or}
+use Rattle.run_laws.specs.Prelude.{Action, AreTries, Code, Command, CommandTurn, IntermediateRecovery, Line, MasterRecovery, Nothing, Refusal, Row}
+use Rattle.run_laws.specs.Prelude.{ServerNo, State, action_of, actionable_in, changes_of, code_at, downtime_at, entries_put, leases_after, number_of}
+use Rattle.run_laws.specs.Prelude.{recovery_job, refusal_at, reply_of, route_of, step, taken}
 use Rattle.run_laws.specs.Prelude.RefusedCommands.{IsAnswer}
 use Rattle.run_laws.specs.Prelude.act
 use Rattle.run_laws.specs.Prelude.answered
@@ -98,3 +99,18 @@ ScannedTakeLeases = (rows : List Row) (s : State) → (step rows s (turn.Act act
 -- and its entries are kept
 abbrev pub ScannedKeepEntries : Type 0
 ScannedKeepEntries = (rows : List Row) (s : State) → changes_of rows s (turn.Act act.Scan) ≡ entries_put (recoveries_scanned s)
+
+-- what it begins it begins by itself: recoveries are enabled then, the server isn't in downtime, and the scenario's
+-- filters for its analysis have its cluster
+abbrev pub PassesFilter : State → ServerNo → Action → Type 0
+PassesFilter s f Nothing = ⊥
+PassesFilter s f MasterRecovery = slice_index_or s.configuration.master f.0 false ≡ true
+PassesFilter s f IntermediateRecovery = slice_index_or s.configuration.intermediate f.0 false ≡ true
+
+pub record IsUnasked (s : State) (f : ServerNo) : Type 0 where
+  pub enabled : s.book.switch ≡ Some false → ⊥
+  pub up : downtime_at s.book f (record { 0 = s.moment }) ≡ None
+  pub passes : (code : Code) → code_at s.book f ≡ Some code → PassesFilter s f (action_of code)
+
+abbrev pub ScansBeginUnasked : Type 0
+ScansBeginUnasked = (s : State) → All (λ x. IsUnasked s x.job.failed) (recoveries_scanned s)

@@ -7,6 +7,7 @@ pub use Rattle.cause_laws.specs.Prelude.{Attached, Cause, HasLeases, Status, att
 pub use Rattle.move_laws.specs.Lowest.{IsAnswer, coords_checks, gtid_checks, match_checks, path_checks, recovery_checks, takeover_checks}
 pub use Rattle.move_laws.specs.Prelude.{Attempt, Entry, IsBook, Op, Recovery, actionable_in, begun, coords_command, label_at, leases_of, path_of}
 pub use Rattle.move_laws.specs.Prelude.{replicas_of, scanned, source_of, taken, with_bridge}
+pub use Rattle.move_laws.specs.Prelude.{Action, Code, IntermediateRecovery, MasterRecovery, Nothing, action_of, code_at}
 pub use Rattle.move_laws.specs.Tries.{AreTries}
 pub use Rattle.orch_core.specs.After.{after_restart, step}
 pub use Rattle.orch_core.specs.AskingCommands.Answers.{allowed, permitted}

@@ -1,6 +1,6 @@
 //! Laws of what commands and scans answer and begin.
 
-ghost use Rattle.run_laws.specs.Answering.{BegunAreTheCommands, BegunHaveNextNumber, CommandsAnswerByTable, EntersAudit, HasNextNumber, IsLastJob, IsReplied, JoinsJobs, KeepsEntry, LowestRefuse, RefusedChangeNothing, ScannedAreLastJobs, ScannedJoinJobs, ScannedKeepEntries, ScannedTakeLeases, ScansTellEachTry, ScansTryByTable, SpendsWaits, TakesLeases, WhereBegun};
+ghost use Rattle.run_laws.specs.Answering.{BegunAreTheCommands, BegunHaveNextNumber, CommandsAnswerByTable, EntersAudit, HasNextNumber, IsLastJob, IsReplied, JoinsJobs, KeepsEntry, LowestRefuse, RefusedChangeNothing, ScannedAreLastJobs, ScannedJoinJobs, ScannedKeepEntries, ScannedTakeLeases, ScansBeginUnasked, ScansTellEachTry, ScansTryByTable, SpendsWaits, TakesLeases, WhereBegun};
 
 /// A command turn is refused exactly with the refusal of the permission table. That is what one of its checks refuses
 /// and none with a lower number. Otherwise it begins its job or is done. A refused one changes nothing: no kept row,
@@ -27,10 +27,12 @@ pub fn commands_answer_by_the_table()
 
 /// A scan has a line for each instance whose analysis asks for a recovery, in name order. It begins, with the next
 /// job's number, exactly if no check refuses it on what those before it left. Else it is refused. Exactly what its
-/// lines report so begins: it joins the unended jobs, takes its leases, and its entries are kept.
+/// lines report so begins: it joins the unended jobs, takes its leases, and its entries are kept. It begins nothing
+/// while recoveries are disabled, of a server in downtime, or of a cluster that the filters don't have.
 pub fn scans_tell_each_try()
     ensures lines { ScansTellEachTry }
     ensures table { ScansTryByTable }
+    ensures unasked { ScansBeginUnasked }
     ensures joins { ScannedJoinJobs }
     ensures last { ScannedAreLastJobs }
     ensures leases { ScannedTakeLeases }

@@ -32,6 +32,7 @@ pub use Rattle.recovery_runs.proofs.RunLaws.Readings.{discoveries-read, jobs-sto
 pub use Rattle.recovery_runs.proofs.RunLaws.Readings.{readings-never-sink, restarts-count-on}
 pub use Rattle.recovery_runs.proofs.RunLaws.RunLaws.{Goes, Goes-comes}
 pub use Rattle.recovery_runs.proofs.RunLaws.Staying.{instances-stay}
+pub use Rattle.recovery_runs.proofs.RunLaws.Unasked.{scans-unasked}
 pub use Rattle.recovery_runs.proofs.RunLaws.Waits.{begun-may-wait, jobs-may-wait}
 pub use Rattle.recovery_runs.proofs.Tending.{began-comes, finish-comes, scenarios-comes, still-comes, told-next}
 pub use Rattle.recovery_runs.proofs.TurningWell.{turn-comes}

@@ -13,15 +13,15 @@ use Rattle.top_call.proofs.Prelude.{began-comes, begun-may-wait, begun-since, be
 use Rattle.top_call.proofs.Prelude.{begun_there, books-comes, by_name, by_name-within, changed, claim-row-whole, claim_ahead, claim_key}
 use Rattle.top_call.proofs.Prelude.{claim_without, closing, closing_by, command_as, course_of, discoveries-read, engine, every-kept, every-many}
 use Rattle.top_call.proofs.Prelude.{every-one, every-reached, fail-comes, failure-comes, finish-comes, found-end, held-last, held_from, held_run}
-use Rattle.top_call.proofs.Prelude.{held_step, instances-stay, is_alone, is_open, job_at, jobs-comes, jobs-may-wait, jobs-rise, jobs-store, kept_at_start}
-use Rattle.top_call.proofs.Prelude.{lapsed-idle, lapsed-keep-nothing, last-never-sinks, length-map, looks-before, lowest-refuses, matches-end}
-use Rattle.top_call.proofs.Prelude.{most_turns, named-job, named-round, names_of, nodes_of, openings-give-numbers, option_to_list, others-stay}
-use Rattle.top_call.proofs.Prelude.{own_job, own_turn, passes-time, passing-drops, passing-is-restart, passing-restarts, past-comes, periods-in-turn}
-use Rattle.top_call.proofs.Prelude.{plans-done, plans-fail, plans-hold, plans-return, polls-read, polls-store, readings-never-sink, reckoned-comes}
-use Rattle.top_call.proofs.Prelude.{recorder, refused_changes_nothing, renewing-alone, restart-comes, restarts-count-on, round_of, rounds_of}
-use Rattle.top_call.proofs.Prelude.{rounds_while, row_in, run_state, run_turns, same_Some, scan-tries, scenario_in_sound, scenarios-comes, some_ran}
-use Rattle.top_call.proofs.Prelude.{spends-last, stages, start, start_changes, still-comes, taken-nothing, taker, taker_is, task_of, told-next}
-use Rattle.top_call.proofs.Prelude.{turn-aimed, turn-comes, turn-fates, turns-round, turns_of, waits, without_turns}
+use Rattle.top_call.proofs.Prelude.{held_step, instances-stay, is_alone, is_open, job_at, jobs-comes, jobs-may-wait, jobs-rise, jobs-store}
+use Rattle.top_call.proofs.Prelude.{kept_at_start, lapsed-idle, lapsed-keep-nothing, last-never-sinks, length-map, looks-before, lowest-refuses}
+use Rattle.top_call.proofs.Prelude.{matches-end, most_turns, named-job, named-round, names_of, nodes_of, openings-give-numbers, option_to_list}
+use Rattle.top_call.proofs.Prelude.{others-stay, own_job, own_turn, passes-time, passing-drops, passing-is-restart, passing-restarts, past-comes}
+use Rattle.top_call.proofs.Prelude.{periods-in-turn, plans-done, plans-fail, plans-hold, plans-return, polls-read, polls-store, readings-never-sink}
+use Rattle.top_call.proofs.Prelude.{reckoned-comes, recorder, refused_changes_nothing, renewing-alone, restart-comes, restarts-count-on, round_of}
+use Rattle.top_call.proofs.Prelude.{rounds_of, rounds_while, row_in, run_state, run_turns, same_Some, scan-tries, scans-unasked, scenario_in_sound}
+use Rattle.top_call.proofs.Prelude.{scenarios-comes, some_ran, spends-last, stages, start, start_changes, still-comes, taken-nothing, taker, taker_is}
+use Rattle.top_call.proofs.Prelude.{task_of, told-next, turn-aimed, turn-comes, turn-fates, turns-round, turns_of, waits, without_turns}
 use Rattle.top_call.proofs.Prelude.act
 use Rattle.top_call.proofs.Prelude.asked
 use Rattle.top_call.proofs.Prelude.turn
@@ -166,7 +166,7 @@ module _ (w : Work) (ts : List Turn) (kept : Option (List Row)) (run : Recorded)
     all = turn-fates rows run.state t;
     restart = restart-comes w.scenario found.xs run.state rows comes_to;
     own = own_restart is;
-    scans = record { tries = scan-tries run.state; joins = refl; leases = refl; kept = refl };
+    scans = record { tries = scan-tries run.state; unasked = scans-unasked run.state; joins = refl; leases = refl; kept = refl };
   }
 
   pub alone : kept ≡ w.new → IsActiveAlone w run.state

@@ -28,7 +28,7 @@ pub use Rattle.recovery_runs.specs.RunFinishes.{AreScenarios, FailsWell, Finishe
 pub use Rattle.recovery_runs.specs.RunLaws.Acting.{ActiveActAlike, HeldLastAMinute, LapsedKeepNothing, PassingRestarts, RenewingClaimsAlone}
 pub use Rattle.recovery_runs.specs.RunLaws.Acting.{TakenChangeNothing}
 pub use Rattle.recovery_runs.specs.RunLaws.Aims.{IsAimed}
-pub use Rattle.recovery_runs.specs.RunLaws.Answering.{TriesByTable}
+pub use Rattle.recovery_runs.specs.RunLaws.Answering.{IsUnasked, TriesByTable}
 pub use Rattle.recovery_runs.specs.RunLaws.Begins.{BeginApartInTurn}
 pub use Rattle.recovery_runs.specs.RunLaws.BegunJobs.{BegunJob, begun_of, entry_kept, with_entry}
 pub use Rattle.recovery_runs.specs.RunLaws.Claims.{ActsWhereActive, ClaimsWait, IsClaimRow, ItsClaimIsKept, LapsedDoesNothing, OneIsActive}

@@ -12,9 +12,10 @@ use Rattle.top_call.specs.Prelude.{Row, Safe, Scenario, SoundState, SpendsWaitsL
 use Rattle.top_call.specs.Prelude.{claim_key, closed, course_of, engine, entries_begun, entries_put, entry_kept, interrupted_at, job_at, leases_after}
 use Rattle.top_call.specs.Prelude.{moment_at, own_lines, period_of, promoted_then, recoveries_begun, recoveries_scanned, recovery_after, recovery_job}
 use Rattle.top_call.specs.Prelude.{refusal_at, reply_of, route_of, row_in, run_turns, start, step, taken, told_hooks, turns_of, with_entry}
-use Rattle.top_call.specs.Prelude.{ActiveActAlike, BegunMayWait, DiscoveriesRead, DoneAsTold, HeldLastAMinute, HoldsNone, InstancesStay, JobsRise, JobsStore, LapsedKeepNothing}
-use Rattle.top_call.specs.Prelude.{LooksBefore, MayWait, NothingIsToCome, OpeningsGiveNumbers, PassesTime, PassingRestarts, PollsRead, PollsStore, ReadingsNeverSink, Returns}
-use Rattle.top_call.specs.Prelude.{RenewingClaimsAlone, RestartsCountOn, TakenChangeNothing}
+use Rattle.top_call.specs.Prelude.{ActiveActAlike, BegunMayWait, DiscoveriesRead, DoneAsTold, HeldLastAMinute, HoldsNone, InstancesStay, IsUnasked}
+use Rattle.top_call.specs.Prelude.{JobsRise, JobsStore, LapsedKeepNothing, LooksBefore, MayWait, NothingIsToCome, OpeningsGiveNumbers, PassesTime}
+use Rattle.top_call.specs.Prelude.{PassingRestarts, PollsRead, PollsStore, ReadingsNeverSink, RenewingClaimsAlone, RestartsCountOn, Returns}
+use Rattle.top_call.specs.Prelude.{TakenChangeNothing}
 use Rattle.top_call.specs.Prelude.act
 use Rattle.top_call.specs.Prelude.answered
 use Rattle.top_call.specs.Prelude.turn
@@ -89,10 +90,12 @@ ObeysTable words bytes = (w : Work) (run : Recorded) (rows : List Row) (c : Comm
 
 -- ---- recoveries that begin
 
--- a scan answers for each of its tries by the permission table; what begins joins the unended jobs, takes its leases,
--- and its entries are kept
+-- A scan answers for each of its tries by the permission table. It begins nothing while recoveries are disabled, of a
+-- server in downtime, or of a cluster that the filters don't have. What begins joins the unended jobs, takes its
+-- leases, and its entries are kept.
 pub record Scans (rows : List Row) (s : State) : Type 0 where
   pub tries : TriesByTable s
+  pub unasked : All (λ x. IsUnasked s x.job.failed) (recoveries_scanned s)
   pub joins : (step rows s (turn.Act act.Scan)).jobs ≡ s.jobs ++ map recovery_job (recoveries_scanned s)
   pub leases : (step rows s (turn.Act act.Scan)).book.leases ≡ leases_after s.book.leases (recoveries_scanned s)
   pub kept : changes_of rows s (turn.Act act.Scan) ≡ entries_put (recoveries_scanned s)
