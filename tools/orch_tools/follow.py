@@ -498,7 +498,7 @@ def add_arguments(parser: argparse.ArgumentParser) -> None:
     parser.add_argument("--execute", "--carry-out", action="store_true", dest="execute", help="send the statements; without it nothing is changed")
     parser.add_argument("--replication-user", default="", metavar="USER",
                         help="by which a server that had no source reads its new one; its password comes from the environment REPLICATION_PASSWORD")
-    parser.add_argument("--login-option", default="", metavar="TEXT", help="goes behind that login, such as GET_SOURCE_PUBLIC_KEY=1 or SOURCE_SSL=1")
+    parser.add_argument("--login-option", default="", metavar="TEXT", help="goes after that login, such as GET_SOURCE_PUBLIC_KEY=1 or SOURCE_SSL=1")
     parser.add_argument("--place", action="append", default=[], type=place, metavar="HOST:PORT=FILE:POSITION",
                         help="the coordinate of the new source's log that was found for this server, where a line is by hand")
     parser.add_argument("--wait", type=float, default=600, metavar="SECONDS", help="how long each wait may take (%(default)d)")

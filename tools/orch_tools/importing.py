@@ -77,7 +77,7 @@ def add_arguments(parser: argparse.ArgumentParser) -> None:
     parser.add_argument("--without", action="append", default=[], metavar="NAME", type=full, help="leave this server out")
     parser.add_argument("--only-named", action="store_true", help="find no other servers")
     parser.add_argument("--broken-ok", action="store_true", help="accept broken appliers and receivers, as if a start made them go on")
-    parser.add_argument("--turns", default=[], metavar="JSON", type=turns_of, help="turns behind those of the scenario")
+    parser.add_argument("--turns", default=[], metavar="JSON", type=turns_of, help="turns after those of the scenario")
     parser.add_argument("--exact", action="store_true", help="list each transaction of each binary log")
     parser.add_argument("--last-files", type=positive, metavar="N", help="with --exact: read only the N newest files of each binary log")
     parser.add_argument("--jobs", type=positive, default=32, metavar="N", help="ask so many servers at a time (%(default)d)")

@@ -53,9 +53,10 @@ class Sections:
         return next((heading for heading in self.named(name) if heading.startswith(group)), None)
 
     def of(self, text: str) -> list[str]:
-        """The headings that a line of the program, or a name, speaks of."""
+        """The headings that a line of the program, or a name, speaks of; a heading speaks of itself."""
+        own = [heading for heading in self.texts if heading.lower() == text.strip().lower()]
         found = [self.heading_of(group, name) for group, name in spoken_of(text)]
-        return [heading for heading in dict.fromkeys(found) if heading] or self.named(text.strip())
+        return own or [heading for heading in dict.fromkeys(found) if heading] or self.named(text.strip())
 
     def names(self) -> list[str]:
         """Each name of the document."""

@@ -165,6 +165,7 @@ class ExplainTest(WrapperTest):
                                ("9 job 1: failed Unreachable r:3306", ["failed Unreachable"]),
                                ("Unreachable", ["refused 5 Unreachable", "failed Unreachable"]),
                                ("b:3306 not logging detached", ["lost not logging"]), ("16 VersionLower", ["refused 16 VersionLower"]),
+                               ("lost not logging", ["lost not logging"]), ("analysis NoProblem", ["analysis NoProblem"]),
                                ("refused 20 NotActionable NoProblem", ["refused 20 NotActionable", "analysis NoProblem"]),
                                ("scenario fault 13 TooMany /servers/1/executed", ["scenario fault 13 TooMany"]), ("nothing", [])):
             self.assertEqual(found.of(text), headings, text)

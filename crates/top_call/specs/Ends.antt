@@ -158,7 +158,7 @@ FaultsAs (Err usage) read status = status ≡ 2 → ⊥
 abbrev pub FaultsOf : List (List ℕ) → Option (List ℕ) → ℕ → Type 0
 FaultsOf words left status = IfSome left (λ bytes. FaultsAs (places_of words) (scenario_in bytes) status)
 
--- 5 only if the row store's count rose, which never falls; with 1, 2 and 3 it isn't asked
+-- 5 only if the row store's count rose, which never falls; with 1, 2 and 3 it stays
 pub record FailsByKeeper (before now status : ℕ) : Type 0 where
   pub later : before ≤ now
   pub failed : status ≡ 5 → Rose before now

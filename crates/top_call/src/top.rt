@@ -255,8 +255,9 @@ pub fn orch_plain<S: Source, O: Sink, E: Sink, K: Keeper>(
     ensures usage { IsUsage (map (λ w. w.items) words.now) result }
     ensures fault { FaultsOf (map (λ w. w.items) words.now) (S.left scenario.old) result }
 
-    // 3, 4 and 5 only if a count of faults rose, 5 only if the row store's rose in its last call. 0 and 7 only if it
-    // didn't, and if the source was read to its end, or the command line asks to draw a scenario.
+    // 3, 4 and 5 only if a count of faults rose: the source's, a sink's, the row store's. That of the row store never
+    // falls, and stays with 1, 2 and 3. 0 and 7 only if the source was read to its end, or the command line asks to
+    // draw a scenario.
     ensures source { result ≡ 3 → Rose (S.faults scenario.old) (S.faults scenario.new) }
     ensures sink { result ≡ 4 → Rose (O.faults out.old) (O.faults out.new)
         ⊎ Rose (E.faults err.old) (E.faults err.new) }
@@ -282,8 +283,8 @@ pub fn orch_plain<S: Source, O: Sink, E: Sink, K: Keeper>(
         (across (E.written err.old) (E.faults err.old) (E.written err.new) (E.faults err.new)))
         result) }
 
-    // If the row store's rows are known, all of it against the report. The report is a function of the arguments, the
-    // bytes and the rows. That is the status, what out and err took, and the rows that are kept.
+    // If the source's bytes and the row store's rows are known, all of it against the report. The report is a function
+    // of the arguments, the bytes and the rows. That is the status, what out and err took, and the rows that are kept.
     ensures status { ByReport (map (λ w. w.items) words.now) (S.left scenario.old)
         (K.kept keeper.old) (λ rows r. EndsAs r result) }
     ensures out { ByReport (map (λ w. w.items) words.now) (S.left scenario.old) (K.kept keeper.old)
@@ -295,7 +296,7 @@ pub fn orch_plain<S: Source, O: Sink, E: Sink, K: Keeper>(
     ensures kept { ByReport (map (λ w. w.items) words.now) (S.left scenario.old) (K.kept keeper.old)
         (λ rows r. KeepsRows r result rows (K.kept keeper.new)) }
 
-    // If no count rose, the whole report of a good command line and good bytes is written, or memory ran out.
+    // If no count rose, the whole report of a good command line and good, known bytes is written, or memory ran out.
     ensures complete { IfSome (S.left scenario.old) (λ bytes.
         IsGood (map (λ w. w.items) words.now) bytes
         → NoneRose (S.faults scenario.old) (S.faults scenario.new) (K.faults keeper.old)
