@@ -291,9 +291,8 @@ def names_printed(top: str) -> List[str]:
 
     numbers = re.findall(r"Refusal::(\w+)(?:\([^)]*\))? => (\d+),", source("commands/src/refusal.rt"))
     names = ["refused %s %s" % (number, name) for name, number in numbers]
-    words = source("report_text/src/words.rt")
-    names += ["failed " + it for it in re.findall(r'CauseName::\w+\s*=>\s*\{?\s*b"(\w+)"', words)]
-    names += ["analysis " + it for it in re.findall(r'\bCode::\w+\s*=>\s*\{?\s*b"(\w+)"', words)]
+    names += ["failed " + it for it in re.findall(r'CauseName::\w+\s*=>\s*\{?\s*"(\w+)"', source("orch_base/src/recovery.rt"))]
+    names += ["analysis " + it for it in re.findall(r'\bCode::\w+\s*=>\s*\{?\s*"(\w+)"', source("orch_base/src/code.rt"))]
     names += ["lost " + it for it in losses_in(source("report_text/src/line.rt"))]
     return names + ["scenario fault " + it for it in re.findall(r'FaultCode::\w+ => b"(\d+ \w+)"', source("top_call/src/fault.rt"))]
 

@@ -78,7 +78,8 @@ class Repository(unittest.TestCase):
             "docs/REFUSALS.md": "### refused 2 UnknownInstance\n\n### failed Running\n\n### analysis DeadMaster\n\n### lost ahead\n\n"
                                 "### scenario fault 1 TooLong\n",
             "crates/commands/src/refusal.rt": "Refusal::UnknownInstance => 2,\n",
-            "crates/report_text/src/words.rt": 'CauseName::Running => b"Running",\nCode::DeadMaster =>\n    b"DeadMaster",\n',
+            "crates/orch_base/src/code.rt": 'Code::DeadMaster =>\n    "DeadMaster",\n',
+            "crates/orch_base/src/recovery.rt": 'CauseName::Running => "Running",\n',
             "crates/report_text/src/line.rt": 'Lost::Ahead(coord) => {\n    out.extend_from_slice(b" ahead ")?;\n',
             "crates/top_call/src/fault.rt": 'FaultCode::TooLong => b"1 TooLong",\n',
             "examples/tour/one.json": "{}", "examples/tour/one.json.args": "-c\ntopology\n",

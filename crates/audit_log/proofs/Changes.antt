@@ -1,31 +1,10 @@
 -- Lists of recoveries that change, and keep their ids.
 use Rattle.std.proofs.Common.{◌≡◌, ℕ, ◌+◌, ◌<◌, ◌≤◌, false, cond, List, [], ◌∷◌, ◌++◌, length, get_or, set, map, take, drop, zero, suc, refl, sym, ◌∙◌, ap, subst, Some, None, arith, ◌==◌, All, AllPairs, find}
-use Rattle.audit_log.proofs.Prelude.{All-head, All-map, All-push, All-tail, All-weaker, AuditState, IsAudit, Recovery, add-one, all_pairs_push}
+use Rattle.audit_log.proofs.Prelude.{All-head, All-map, All-push, All-tail, All-weaker, AuditState, IsAudit, Recovery, all_pairs_push}
 use Rattle.audit_log.proofs.Prelude.{append-nil, begun, drop_all, eq-eqb, get_or-map, length-map, longest_block, ne_eqb, take_all}
+pub use Rattle.kept_rows.proofs.OrchBase.Mapped.{mapped, mapped_all, mapped_step}
 
 -- ---- a list that is mapped from its first element on
-
-abbrev pub mapped : {A : Type 0} → (A → A) → ℕ → List A → List A
-mapped f zero xs = xs
-mapped f (suc k) [] = []
-mapped f (suc k) (x ∷ xs) = f x ∷ mapped f k xs
-
-pub mapped_next : {A : Type 0} (f : A → A) (k : ℕ) (xs : List A) (d : A) → k < length xs → set (mapped f k xs) k (f (get_or xs k d)) ≡ mapped f (suc k) xs
-mapped_next f k [] d within = absurd (omega (arith, within))
-mapped_next f zero (x ∷ xs) d within = refl
-mapped_next f (suc k) (x ∷ xs) d within = ap (λ ys. f x ∷ ys) (mapped_next f k xs d (omega (arith, within)))
-
--- what is mapped already is as it was
-pub mapped_at : {A : Type 0} (f : A → A) (k : ℕ) (xs : List A) (d : A) → get_or (mapped f k xs) k d ≡ get_or xs k d
-mapped_at f zero xs d = refl
-mapped_at f (suc k) [] d = refl
-mapped_at f (suc k) (x ∷ xs) d = mapped_at f k xs d
-
-pub mapped_all : {A : Type 0} (f : A → A) (k : ℕ) (xs : List A) → length xs ≤ k → mapped f k xs ≡ map f xs
-mapped_all f zero [] past = refl
-mapped_all f zero (x ∷ xs) past = absurd (omega (arith, past))
-mapped_all f (suc k) [] past = refl
-mapped_all f (suc k) (x ∷ xs) past = ap (λ ys. f x ∷ ys) (mapped_all f k xs (omega (arith, past)))
 
 -- ---- ids and block periods
 
@@ -107,13 +86,6 @@ found-at id (x ∷ xs) (suc i) d rising within is =
     let less = pairs-head x xs rising i d (omega (arith, within)) in
     let other : (x.id == id) ≡ false = ne_eqb x.id id (λ e. absurd (omega (arith, less, e, is))) in
     ap (λ b. cond b (Some x) (find (λ r. r.id == id) xs)) other ∙ found-at id xs i d (pairs-tail x xs rising) (omega (arith, within)) is
-
--- a loop's step that changes the element there
-pub mapped_step : {A : Type 0} (f : A → A) (xs ys : List A) (k : ℕ) (now d : A) → ys ≡ mapped f k xs → k < length xs → now ≡ f (get_or ys k d) → set ys k now ≡ mapped f (k + 1) xs
-mapped_step f xs ys k now d so_far within is =
-    (λ i. set (so_far i) k ((is ∙ ap (λ zs. f (get_or zs k d)) so_far ∙ ap f (mapped_at f k xs d)) i))
-    ∙ mapped_next f k xs d within
-    ∙ ap (λ n. mapped f n xs) (sym (add-one k))
 
 -- a part that was lent and is as long as the whole
 pub lent : {A : Type 0} (now xs : List A) (n : ℕ) → length now ≡ length xs → n ≡ length xs → take n (now ++ drop (length now) xs) ≡ now

@@ -73,9 +73,13 @@ impl Model for Audit {
 
     ghost Value = { AuditRoom };
 
-    ghost view = { λ a. record { audit = record { recoveries = a.recoveries.items; next = a.next }; spare = vec_capacity a.recoveries - vec_len a.recoveries } };
+    ghost view = { λ a. record {
+      audit = record { recoveries = a.recoveries.items; next = a.next };
+      spare = vec_capacity a.recoveries - vec_len a.recoveries;
+    } };
 
-    ghost invariant = { λ a. IsFound (record { recoveries = a.recoveries.items; next = a.next }) a.index };
+    ghost invariant = { λ a.
+        IsFound (record { recoveries = a.recoveries.items; next = a.next }) a.index };
 }
 
 impl Audit {

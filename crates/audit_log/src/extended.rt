@@ -40,7 +40,10 @@ impl<'a> Model for Extended<'a> {
 
     ghost Value = { AuditRoom };
 
-    ghost view = { λ e. record { audit = extended e.audit.now.audit e.more.audit; spare = e.more.spare } };
+    ghost view = { λ e. record {
+      audit = extended e.audit.now.audit e.more.audit;
+      spare = e.more.spare;
+    } };
 }
 
 impl<'a> Extended<'a> {

@@ -8,6 +8,7 @@ use Rattle.command_line.proofs.Prelude.{seconds_at, text_in, text_within, texts_
 use Rattle.command_line.proofs.Prelude.Usages.{or_bad}
 use Rattle.std.proofs.Common.{◌≡◌, ◌∙◌, ℕ, ◌≤◌, arith, Bool, true, false, List, length, Option, Some, None, Result, Ok, Err, refl, sym, ap, subst, cond, ◌&&◌, ◌||◌, ◌-◌, ◌^◌, codes, is_some, nat_le, not, IfSome, option_map, ◌*◌}
 use Rattle.orch_base.specs.Gives.{◌>>=◌}
+use Rattle.commands.proofs.Numbers.{in_range}
 
 abbrev Same : {A : Type 0} → Result A Usage → Result A Usage → Type 0
 Same r s = r ≡ s
@@ -34,17 +35,6 @@ read_there read None x e = ap is_some (sym (same_ok None x e))
 read_there read (Some text) x e =
     let y = bind_ok (read text) _ x e in
     ap is_some (sym (same_ok (Some y.0) x y.2))
-
-in_range : (low high n : ℕ) (o : Option ℕ) → within low high o ≡ Some n → (low ≤ n) × (n ≤ high)
-in_range low high n None e = cc
-in_range low high n (Some m) e = go (nat_le low m && nat_le m high) refl e
-  where
-    go : (b : Bool) → (nat_le low m && nat_le m high) ≡ b → cond b (Some m) None ≡ Some n → (low ≤ n) × (n ≤ high)
-    go true is e =
-        let parts = both_true (nat_le low m) (nat_le m high) is in
-        let same : m ≡ n = cc in
-        subst (λ (k : ℕ). (low ≤ k) × (k ≤ high)) same (leb-true low m parts.0, leb-true m high parts.1)
-    go false is e = cc
 
 read_some : {A : Type 0} (o : Option A) (x : A) → or_bad_value o ≡ Ok x → o ≡ Some x
 read_some None x e = cc

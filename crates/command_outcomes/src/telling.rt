@@ -7,7 +7,7 @@ use crate::Configuration;
 use crate::hook_texts::Values;
 use crate::instance_keeper_items::Book;
 use crate::orch_base::{Code, Memory, Name, OwnedText, ServerNo};
-use crate::recovery_hooks::{HookRun, code_word};
+use crate::recovery_hooks::HookRun;
 use recovery_core::Begun;
 use std::alloc::Global;
 
@@ -28,7 +28,7 @@ fn told_of(
     ensures { IfOk result (λ v. v ≡ told_of configuration.now failed.now cluster.now code) }
 {
     Ok(Values {
-        failure_type: text_of(alloc, code_word(code))?,
+        failure_type: text_of(alloc, code.word())?,
         failed: failed.copy(alloc)?,
         cluster: text_of(alloc, cluster)?,
         alias: text_of(alloc, configuration.aliases.alias_at(server, cluster))?,

@@ -1,7 +1,7 @@
 -- Numbers and durations.
 use Rattle.server_words.proofs.GtidSets.RoundTrip.{same_digits as all_digits}
 use Rattle.server_words.proofs.OrchBase.NameLemmas.{by_tests, own}
-use Rattle.std.proofs.Common.{◌≡◌, ◌≢◌, ℕ, ◌-◌, ◌^◌, Bool, true, false, cond, eqb, List, [], ◌∷◌, ◌++◌, length, drop, take, Option, Some, None, Result, Bor, refl, sym, ap, ◌∙◌, arith, leb, ltb, length-append, ◌&&◌, option_map}
+use Rattle.std.proofs.Common.{◌≡◌, ◌≢◌, ℕ, ◌-◌, ◌^◌, ◌≤◌, Bool, true, false, cond, eqb, List, [], ◌∷◌, ◌++◌, length, drop, take, Option, Some, None, Result, Bor, refl, sym, ap, subst, ◌∙◌, arith, leb, ltb, length-append, ◌&&◌, option_map, nat_le}
 use Rattle.std.specs.Char.{is_ascii_digit}
 use Rattle.std.specs.List.{list_all}
 use Rattle.std.specs.Option.{MatchOption}
@@ -9,10 +9,10 @@ use Rattle.std.specs.Result.{result_ok}
 use Rattle.std.specs.Str.{all_ascii_digits}
 use Rattle.std.specs.Str.Parse.{ParsesUnsigned, digits_value}
 use Rattle.std.specs.Cmp.Lexicographic.{pointwise, same_text, nat_list_eq_equiv}
-use Rattle.std.proofs.lemmas.Bool.{le-leb, leb-true, lt-ltb, ltb-true}
+use Rattle.std.proofs.lemmas.Bool.{and_parts, le-leb, leb-true, lt-ltb, ltb-true}
 use Rattle.std.proofs.lemmas.List.{drop_at, take_at, take-append-drop}
 use Rattle.std.proofs.lemmas.Str.Parse.{parse_digits}
-use Rattle.commands.specs.Values.{before, number_at}
+use Rattle.commands.specs.Values.{before, number_at, within}
 
 third_holds : (a b c : Bool) → b ≡ true → (a && c) ≡ (a && b && c)
 third_holds true true c e = refl
@@ -61,3 +61,15 @@ ends_not c bs true e none =
 pub before_strips : (c : ℕ) (bs : List ℕ) (r : Option (Bor (List ℕ))) → MatchOption r ((front : List ℕ) → bs ≢ front ++ (c ∷ [])) (λ x. bs ≡ x.now ++ (c ∷ [])) → option_map (λ s. s.now) r ≡ before c bs
 before_strips c bs None h = sym (ends_not c bs _ refl h)
 before_strips c bs (Some x) h = sym (ap (before c) h ∙ ends c x.now)
+
+-- a number that is in a range lies in it
+pub in_range : (low high n : ℕ) (o : Option ℕ) → within low high o ≡ Some n → (low ≤ n) × (n ≤ high)
+in_range low high n None e = cc
+in_range low high n (Some m) e = go (nat_le low m && nat_le m high) refl e
+  where
+    go : (b : Bool) → (nat_le low m && nat_le m high) ≡ b → cond b (Some m) None ≡ Some n → (low ≤ n) × (n ≤ high)
+    go true is e =
+        let parts = and_parts (nat_le low m) (nat_le m high) is in
+        let same : m ≡ n = cc in
+        subst (λ (k : ℕ). (low ≤ k) × (k ≤ high)) same (leb-true low m parts.0, leb-true m high parts.1)
+    go false is e = cc

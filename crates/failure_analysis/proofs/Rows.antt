@@ -1,8 +1,9 @@
 -- Exactly one of the table's rows applies.
-use Rattle.std.proofs.Common.{◌≡◌, ℕ, ◌≤◌, Bool, true, false, cond, List, [], ◌∷◌, Option, None, Some, refl, sym, ◌∙◌, ap, arith}
+use Rattle.std.proofs.Common.{◌≡◌, ℕ, ◌≤◌, Bool, true, false, Option, None, Some, refl, sym, ◌∙◌, ap, arith}
 use Rattle.std.specs.Prelude.{◌↔◌, All, count_by, find, unwrap_or}
-use Rattle.failure_analysis.proofs.Prelude.{All-cons, All-head, All-nil, All-tail, AreCounts, Code, Counts, NoProblem, action_by, action_of, code_of}
-use Rattle.failure_analysis.proofs.Prelude.{conditions, false≢true, is_of_row, nat_tests, problems, same_Some}
+use Rattle.failure_analysis.proofs.Prelude.{AreCounts, Code, Counts, NoProblem, action_by, action_of, code_of}
+use Rattle.failure_analysis.proofs.Prelude.{conditions, false≢true, is_of_row, nat_tests, problems}
+use Rattle.instance_keeper.proofs.OrchBase.Found.{found-passes, none-found, none-passes}
 
 abbrev counts : Bool → Bool → ℕ → ℕ → ℕ → ℕ → Counts
 counts h ok n v r l = record { has_source = h; valid = ok; replicas = n; valid_replicas = v; replicating = r; lagging = l }
@@ -39,28 +40,6 @@ pub action-of : (c : Counts) → AreCounts c → action_of (code_of c) ≡ actio
 action-of c are = acts c.has_source c.valid c.replicas c.valid_replicas c.replicating c.lagging are.lagging are.replicating are.valid
 
 -- ---- the last row
-
-module _ {X : Type 0} (p : X → Bool) where
-  found-passes : (xs : List X) (y : X) → find p xs ≡ Some y → p y ≡ true
-  found-passes [] y e = cc
-  found-passes (x ∷ xs) y e = go (p x) refl e (found-passes xs y)
-    where
-      go : (b : Bool) → p x ≡ b → cond b (Some x) (find p xs) ≡ Some y → (find p xs ≡ Some y → p y ≡ true) → p y ≡ true
-      go true f g rest = ap p (sym (same_Some x y g)) ∙ f
-      go false f g rest = rest g
-
-  none-passes : (xs : List X) → find p xs ≡ None → All (λ x. p x ≡ false) xs
-  none-passes [] e = All-nil (λ x. p x ≡ false)
-  none-passes (x ∷ xs) e = go (p x) refl e (none-passes xs)
-    where
-      go : (b : Bool) → p x ≡ b → cond b (Some x) (find p xs) ≡ None → (find p xs ≡ None → All (λ y. p y ≡ false) xs) → All (λ y. p y ≡ false) (x ∷ xs)
-      go true f g rest = cc
-      go false f g rest = All-cons (λ y. p y ≡ false) x xs f (rest g)
-
-  none-found : (xs : List X) → All (λ x. p x ≡ false) xs → find p xs ≡ None
-  none-found [] all = refl
-  none-found (x ∷ xs) all =
-      ap (λ b. cond b (Some x) (find p xs)) (All-head (λ y. p y ≡ false) x xs all) ∙ none-found xs (All-tail (λ y. p y ≡ false) x xs all)
 
 pub last-row : (c : Counts) → (code_of c ≡ NoProblem) ↔ All (λ code. is_of_row code c ≡ false) problems
 unfolding code_of

@@ -34,6 +34,12 @@ module _ {X : Type 0} where
   set_values (e ∷ es) zero v = refl
   set_values (e ∷ es) (suc j) v = ap (λ l. e.1 ∷ l) (set_values es j v)
 
+  -- a place that takes what it has
+  pub set_same : (xs : List X) (n : ℕ) (v : X) → slice_get xs n ≡ Some v → slice_set xs n v ≡ xs
+  set_same [] n v is = refl
+  set_same (x ∷ xs) zero v is = let same : v ≡ x = cc in ap (λ y. y ∷ xs) same
+  set_same (x ∷ xs) (suc n) v is = ap (λ l. x ∷ l) (set_same xs n v is)
+
   -- so a place that is written by its key
   pub put_counts : (es now : List (ℕ × X)) (k : ℕ) (v : X) → CountsUp 0 es → now ≡ set_value (nat_eq k) es v → CountsUp 0 now
   put_counts es now k v up e = subst (CountsUp 0) (sym (e ∙ written_here es 0 k k v up (sym (zero-add k)))) (set_counts es 0 k v up)

@@ -1,8 +1,9 @@
 -- What its proofs cite of others.
 pub use Rattle.std.proofs.Math.Seq.{take-append_seam}
 pub use Rattle.std.proofs.lemmas.Bool.{leb-false, leb-true}
-pub use Rattle.std.proofs.lemmas.List.{length-map, length-replicate, length-set}
+pub use Rattle.std.proofs.lemmas.List.{drop-set-lt, length-map, length-replicate, length-set}
 pub use Rattle.std.proofs.lemmas.List.Elements.{All-replicate, All-set, filter_map-append}
+pub use Rattle.std.proofs.lemmas.List.Sums.{fold_more}
 pub use Rattle.std.proofs.lemmas.List.FromFn.{get_or-map-range_with_len, length-map-range_with_len}
 pub use Rattle.std.proofs.lemmas.Option.{slice_get-get_or}
 pub use Rattle.std.specs.Cmp.Lexicographic.{same_text}

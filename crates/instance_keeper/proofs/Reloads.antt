@@ -1,6 +1,6 @@
 -- A book that is loaded anew, place after place.
-use Rattle.std.proofs.Common.{◌≡◌, ◌∙◌, ℕ, zero, suc, ◌<◌, ◌≤◌, Bool, true, false, List, [], ◌∷◌, length, replicate, Option, None, Some, refl, sym, ap, subst, arith, ◌&&◌, nat_le, if◌then◌else◌, slice_set}
-use Rattle.instance_keeper.proofs.Prelude.{BookState, Bridge, Candidate, Downtime, Instance, IsBook, IsNumbered, Row, after_put, after_row}
+use Rattle.std.proofs.Common.{◌≡◌, ◌∙◌, ℕ, zero, suc, ◌<◌, ◌≤◌, ◌+◌, Bool, true, false, List, [], ◌∷◌, length, replicate, drop, get_or, add-one, Option, None, Some, refl, sym, ap, subst, arith, ◌&&◌, nat_le, if◌then◌else◌, slice_set}
+use Rattle.instance_keeper.proofs.Prelude.{BookState, Bridge, Candidate, Downtime, Instance, IsBook, IsNumbered, Row, after_put, after_row, drop-cons, drop-set-lt}
 use Rattle.instance_keeper.proofs.Prelude.{empty_book, first_of, first_set, head_known, leb-false, leb-true, length-map, length-replicate, place_from}
 use Rattle.instance_keeper.proofs.Prelude.{row_fits, source_servers}
 use Rattle.instance_keeper.proofs.Prelude.row
@@ -35,6 +35,17 @@ first_again k n v [] less = refl
 first_again zero n v (x ∷ xs) less = absurd (omega (arith, less))
 first_again (suc k) zero v (x ∷ xs) less = refl
 first_again (suc k) (suc n) v (x ∷ xs) less = ap (λ ys. x ∷ ys) (first_again k n v xs (omega (arith, less)))
+
+-- ---- rows that are used up, one after another
+
+-- the next one is as it was at first, and those after it
+pub used_next : {A : Type 0} (now first : List A) (k : ℕ) (left d : A) → drop k now ≡ drop k first → length now ≡ length first → k < length now
+    → (get_or now k d ≡ get_or first k d) × (drop (k + 1) (slice_set now k left) ≡ drop (k + 1) first)
+used_next now first k left d same count within =
+    let both : get_or now k d ∷ drop (suc k) now ≡ get_or first k d ∷ drop (suc k) first = sym (drop-cons now k d within) ∙ (same ∙ drop-cons first k d (omega (arith, within, count))) in
+    let rest : drop (suc k) now ≡ drop (suc k) first = ap (drop 1) both in
+    let suc_k = add-one k in
+    (ap (λ l. get_or l 0 d) both, drop-set-lt (k + 1) now k left (omega arith) ∙ (ap (λ n. drop n now) suc_k ∙ (rest ∙ ap (λ n. drop n first) (sym suc_k))))
 
 -- ---- the book with them
 

@@ -1,6 +1,6 @@
 //! The book: what orchestrator knows.
 
-ghost use Rattle.std.specs.Prelude.{◌≡◌, ◌<◌, ◌≤◌, ◌^◌, All, None, Some, [], IfOk, OnErr, OnOk, IsTrue, true, fold, length, map, replicate, slice_get, slice_set, slice_index_or, option_map, unwrap_or, nat_lt};
+ghost use Rattle.std.specs.Prelude.{◌≡◌, ◌<◌, ◌≤◌, ◌^◌, All, None, Some, [], IfOk, OnErr, OnOk, IsTrue, true, false, fold, length, map, replicate, slice_get, slice_set, slice_index_or, option_map, unwrap_or, nat_lt};
 ghost use Rattle.instance_keeper.specs.Prelude.{IsOrder, are_known, by_name, fits, key_servers, observed_servers, option_copied};
 ghost use Rattle.instance_keeper.specs.Prelude.{rank_of, row_fits, servers_of, values};
 ghost use Rattle.instance_keeper.specs.Bridges.{bridge_in, has_exec, has_own, latest_that, ring_at, ringed};
@@ -20,6 +20,7 @@ use indexmap::IndexMap;
 use kept_rows::{Candidate, Change, Downtime, Instance, Key, Observation, Row, Table};
 use std::alloc::Global;
 use std::marker::Model;
+use std::mem::{replace, swap};
 
 /// What became of an observation.
 #[derive(Clone, Copy, Debug, PartialEq, Eq)]
@@ -68,6 +69,24 @@ fn set_place(instances: &mut Instances, no: u32, instance: Option<Instance>)
     ensures values { values instances.new ≡ slice_set (values instances.old) no instance }
 {
     instances[no as usize] = instance;
+}
+
+// Swaps an instance for the one at its place, which is its number: `false` if none is there, and nothing is changed.
+#[inline(always)]
+fn swap_in(instances: &mut Instances, instance: &mut Instance) -> bool
+    requires keys { CountsUp 0 instances.old.entries }
+    requires within { instance.old.no.0 < length (values instances.old) }
+    ensures keys { CountsUp 0 instances.new.entries }
+    ensures swapped { result ≡ true → values instances.new
+        ≡ slice_set (values instances.old) instance.old.no.0 (Some instance.old) }
+    ensures none { result ≡ false → (values instances.new ≡ values instances.old)
+        × (instance.new ≡ instance.old) }
+{
+    let Some(kept) = &mut instances[instance.no.0 as usize] else {
+        return false;
+    };
+    swap(kept, instance);
+    true
 }
 
 fn instance_in(instances: &Instances, no: u32) -> Option<&Instance>
@@ -193,9 +212,28 @@ impl Model for Book {
 
     ghost Value = { BookState };
 
-    ghost view = { λ b. record { settings = b.servers; names = map (λ s. s.name) b.servers; instances = values b.instances; downtimes = b.downtimes.items; candidates = b.candidates.items; switch = b.switch; rings = b.rings.items; leases = b.leases.items } };
+    ghost view = { λ b. record {
+      settings = b.servers;
+      names = map (λ s. s.name) b.servers;
+      instances = values b.instances;
+      downtimes = b.downtimes.items;
+      candidates = b.candidates.items;
+      switch = b.switch;
+      rings = b.rings.items;
+      leases = b.leases.items;
+    } };
 
-    ghost invariant = { λ b. CountsUp 0 b.instances.entries × IsBook (record { settings = b.servers; names = map (λ s. s.name) b.servers; instances = values b.instances; downtimes = b.downtimes.items; candidates = b.candidates.items; switch = b.switch; rings = b.rings.items; leases = b.leases.items }) };
+    ghost invariant = { λ b. CountsUp 0 b.instances.entries
+        × IsBook (record {
+          settings = b.servers;
+          names = map (λ s. s.name) b.servers;
+          instances = values b.instances;
+          downtimes = b.downtimes.items;
+          candidates = b.candidates.items;
+          switch = b.switch;
+          rings = b.rings.items;
+          leases = b.leases.items;
+        }) };
 }
 
 // A place for each server, all of them empty.
@@ -450,7 +488,7 @@ impl Book {
 
     // Puts these rows, if a book takes them, while all places of instances are still to be set. It gives the next one
     // that is to be set then.
-    fn set_all(&mut self, rows: Vec<Row>) -> u32
+    fn set_all(&mut self, mut rows: Vec<Row>) -> u32
         ensures within { result ≤ length self.new.names }
         ensures after { first_set result self.new ≡
             fold after_row (first_set 0 self.old) rows.items }
@@ -458,7 +496,7 @@ impl Book {
         ensures names { self.new.names ≡ self.old.names }
     {
         let mut next = 0;
-        'rows: for row in rows {
+        for row in rows.iter_mut() {
             next = self.set_next(next, row);
         }
         next
@@ -482,24 +520,40 @@ impl Book {
     // Puts a row, if a book takes it, while the places of instances from the next one on are still to be set. It gives
     // the next one that is to be set then.
     #[inline(always)]
-    fn set_next(&mut self, next: u32, row: Row) -> u32
+    fn set_next(&mut self, next: u32, row: &mut Row) -> u32
         requires { next ≤ length self.old.names }
         ensures within { result ≤ length self.new.names }
-        ensures after { first_set result self.new ≡ after_row (first_set next self.old) row }
+        ensures after { first_set result self.new ≡ after_row (first_set next self.old) row.old }
         ensures settings { self.new.settings ≡ self.old.settings }
         ensures names { self.new.names ≡ self.old.names }
     {
-        match place_from(next, self.servers(), &row) {
+        match place_from(next, self.servers(), row) {
             Some(no) => {
                 self.empty_between(next, no);
-                self.put_in_place(row);
+                self.put_by_place(row);
                 no + 1
             }
             None => {
-                self.take(row);
+                self.take(replace(row, Row::Switch(false)));
                 next
             }
         }
+    }
+
+    // Puts a row, an instance's by its place. What is left of the row doesn't count.
+    #[inline(always)]
+    fn put_by_place(&mut self, row: &mut Row)
+        requires { row_fits (length self.old.names) row.old ≡ true }
+        ensures after { self.new ≡ after_put self.old row.old }
+        ensures settings { self.new.settings ≡ self.old.settings }
+        ensures names { self.new.names ≡ self.old.names }
+    {
+        if let Row::Instance(instance) = &mut *row {
+            if swap_in(&mut self.instances, instance) {
+                return;
+            }
+        }
+        self.put_in_place(replace(row, Row::Switch(false)));
     }
 
     // Empties the places of instances from one on and before another.

@@ -37,7 +37,8 @@ impl Model for ServerList {
 
     ghost view = { λ s. s.settings.items };
 
-    ghost invariant = { λ s. IsServerList s.settings.items s.names.items s.order.items s.ranks.items };
+    ghost invariant = { λ s.
+        IsServerList s.settings.items s.names.items s.order.items s.ranks.items };
 }
 
 fn copy_settings(alloc: Global, settings: &[Settings]) -> Result<Vec<Settings>, Memory>
@@ -50,7 +51,8 @@ fn copy_settings(alloc: Global, settings: &[Settings]) -> Result<Vec<Settings>, 
     Ok(copies)
 }
 
-fn copy_names(alloc: Global, settings: &[Settings]) -> Result<Vec<Name>, Memory>
+/// The names in the settings. `Err` means out of memory.
+pub fn copy_names(alloc: Global, settings: &[Settings]) -> Result<Vec<Name>, Memory>
     ensures { IfOk result (λ names. names.items ≡ map (λ s. s.name) settings.now) }
 {
     let mut names = Vec::with_capacity(alloc, settings.len())?;

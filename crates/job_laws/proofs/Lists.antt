@@ -1,22 +1,14 @@
 -- What holds of each of a list.
-use Rattle.std.proofs.Common.{◌≡◌, ℕ, ◌-◌, Bool, true, false, cond, not, List, [], ◌∷◌, ◌++◌, length, refl, sym, ◌∙◌, ap, subst, Some, zero, suc, ◌==◌, slice_index_or, find}
+use Rattle.std.proofs.Common.{◌≡◌, ℕ, ◌-◌, Bool, true, false, cond, not, List, [], ◌∷◌, ◌++◌, length, refl, sym, ◌∙◌, ap, Some, zero, suc, ◌==◌, slice_index_or, find}
 use Rattle.job_laws.proofs.Prelude.{All, All-cons, All-drop, All-head, All-nil, All-push, All-tail, Bridge, Job, eq-eqb, eqb-true, is_same, job_at}
-use Rattle.job_laws.proofs.Prelude.{keep_last, last_item, ne_eqb, replaced, ring_size, same_Some, with_bridge, without_job}
+use Rattle.job_laws.proofs.Prelude.{keep_last, last_item, ne_eqb, replaced, ring_size, with_bridge, without_job}
+use Rattle.operations.proofs.OrchBase.Found.{All-found}
 
 -- at a place of the list, or if there is none
 pub All-at : {X : Type 0} (P : X → Type 0) (xs : List X) (i : ℕ) (d : X) → P d → All P xs → P (slice_index_or xs i d)
 All-at P [] i d none all = none
 All-at P (x ∷ xs) zero d none all = All-head P x xs all
 All-at P (x ∷ xs) (suc i) d none all = All-at P xs i d none (All-tail P x xs all)
-
--- of the one that is found
-pub All-find : {X : Type 0} (P : X → Type 0) (p : X → Bool) (xs : List X) (y : X) → All P xs → find p xs ≡ Some y → P y
-All-find P p [] y all h = cc
-All-find P p (x ∷ xs) y all h = go (p x) h (All-find P p xs y (All-tail P x xs all))
-  where
-    go : (b : Bool) → cond b (Some x) (find p xs) ≡ Some y → (find p xs ≡ Some y → P y) → P y
-    go true e rest = subst P (same_Some x y e) (All-head P x xs all)
-    go false e rest = rest e
 
 pub All-ring : (P : Bridge → Type 0) (ring : List Bridge) (b : Bridge) → P b → All P ring → All P (with_bridge ring b)
 All-ring P ring b one all = go (is_same (last_item ring) b)
@@ -66,3 +58,6 @@ found-without (x ∷ xs) id n k apart h = go (x.id == id) refl h (found-without 
         at : (b : Bool) → cond b (Some x) (job_at xs n) ≡ Some k → cond b (Some x) (job_at (without_job xs id) n) ≡ Some k
         at true h = h
         at false h = rest h
+
+pub All-find : {X : Type 0} (P : X → Type 0) (p : X → Bool) (xs : List X) (y : X) → All P xs → find p xs ≡ Some y → P y
+All-find P p = All-found p P

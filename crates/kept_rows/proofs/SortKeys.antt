@@ -2,21 +2,16 @@
 use Rattle.std.proofs.Common.{◌≡◌, ℕ, suc, ◌+◌, ◌<◌, ◌≤◌, true, false, List, [], ◌∷◌, ◌++◌, length, get_or, take, drop, All, refl, sym, ap, ◌∙◌, subst, append-nil, arith, inl, inr, nat_lt, ◌⊎◌}
 use Rattle.kept_rows.proofs.Prelude.{All-append, All-cons, All-nil, All-weaker, AllPairs-cons, AllPairs-filter, AllWithin, HoldsAt, Instance}
 use Rattle.kept_rows.proofs.Prelude.{IsFirstFrom, IsRising, Key, Row, SortKey, Table, at, cases_lt, drop-cons, filter-append, filter_passes, key_of}
-use Rattle.kept_rows.proofs.Prelude.{ltb-true, nat_tests, put, remove, rows_before, rows_behind, slice_set, sort_key, sort_key_of, table_of}
+use Rattle.kept_rows.proofs.Prelude.{put, remove, rows_before, rows_behind, slice_set, sort_key, sort_key_of, table_of}
 use Rattle.kept_rows.proofs.Prelude.{take-append-drop}
 use Rattle.kept_rows.proofs.Prelude.key
 use Rattle.kept_rows.proofs.Prelude.row
 use Rattle.kept_rows.proofs.Prelude.table
 use Rattle.kept_rows.proofs.Lists.{filter_all, filter_none, All_take, All_drop, set_parts, pairs_append}
+use Rattle.std.proofs.lemmas.Bool.{le-ltb as less_false, lt-ltb as less_true, ltb-true as lt_from}
 
 le_cases : (a b : ℕ) → a ≤ b → (a < b) ⊎ (a ≡ b)
 le_cases a b h = elim (cases_lt a b) [ inl less ↦ inl less | inr more ↦ inr (omega arith) ]
-
-less_true : (a b : ℕ) → a < b → nat_lt a b ≡ true
-less_true a b h = grind (arith, nat_tests)
-
-less_false : (a b : ℕ) → b ≤ a → nat_lt a b ≡ false
-less_false a b h = grind (arith, nat_tests)
 
 before_all : (rows : List Row) (p : ℕ) → All (λ x. sort_key_of x < p) rows → rows_before rows p ≡ rows
 before_all rows p h = filter_all _ rows (All-weaker (λ x. sort_key_of x < p) (λ x. nat_lt (sort_key_of x) p ≡ true) (λ x. less_true (sort_key_of x) p) rows h)
@@ -164,9 +159,6 @@ module _ (rows : List Row) (p i : ℕ) (rising : IsRising rows) (first : IsFirst
   remove_none t k is here =
       let e = remove_middle (take i rows) [] (drop i rows) p front_below (All-nil (λ x. sort_key_of x ≡ p)) (from_first rows p i rising here) t k is in
       sym (ap (λ l. remove l t k) (sym (take-append-drop i rows)) ∙ (e ∙ take-append-drop i rows))
-
-lt_from : (a b : ℕ) → nat_lt a b ≡ true → a < b
-lt_from a b h = ltb-true a b h
 
 rows_below : (rows : List Row) (p : ℕ) → All (λ x. sort_key_of x < p) (rows_before rows p)
 rows_below rows p = All-weaker (λ x. nat_lt (sort_key_of x) p ≡ true) (λ x. sort_key_of x < p) (λ x. lt_from (sort_key_of x) p) (rows_before rows p) (filter_passes (λ x. nat_lt (sort_key_of x) p) rows)

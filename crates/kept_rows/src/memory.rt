@@ -41,7 +41,12 @@ impl Model for MemKeeper {
 
     ghost Value = { Kept };
 
-    ghost view = { λ k. record { rows = k.rows.items; calls = k.calls; fail_at = k.fail_at.items; faults = k.faults } };
+    ghost view = { λ k. record {
+      rows = k.rows.items;
+      calls = k.calls;
+      fail_at = k.fail_at.items;
+      faults = k.faults;
+    } };
 
     ghost invariant = { λ k. IsRising k.rows.items };
 }

@@ -32,7 +32,8 @@ pub trait CheckedOpening: Sized {
 impl CheckedOpening for Opening {
     ghost may_check = { λ servers gtid. IsListed (opening servers gtid) };
 
-    ghost check_gives = { λ servers gtid result. Gives (λ o. o) flaw_of result (checked servers gtid) };
+    ghost check_gives = { λ servers gtid result.
+        Gives (λ o. o) flaw_of result (checked servers gtid) };
 
     fn check(alloc: Global, servers: Vec<ServerInit>, gtid: bool) -> Result<Opening, OpeningFault> {
         check_servers(alloc, &servers)?;

@@ -1,22 +1,6 @@
 -- Beginnings of lists, and lists with one more element.
-use Rattle.std.proofs.Common.{◌≡◌, ℕ, ◌+◌, ◌<◌, List, [], ◌∷◌, ◌++◌, length, refl, sym, ap, inl, inr, ◌⊎◌, Some, arith, zero, suc, take, slice_get}
-use Rattle.openings.proofs.Prelude.{same_Some}
-
--- an element of a list with one more at its end is an old one or the new one
-pub slice_get-snoc_cases : {X : Type 0} (xs : List X) (y x : X) (i : ℕ) → slice_get (xs ++ y ∷ []) i ≡ Some x → (slice_get xs i ≡ Some x) ⊎ ((i ≡ length xs) × (x ≡ y))
-slice_get-snoc_cases [] y x zero h = inr (refl, sym (same_Some y x h))
-slice_get-snoc_cases [] y x (suc i) h = cc
-slice_get-snoc_cases (z ∷ xs) y x zero h = inl h
-slice_get-snoc_cases (z ∷ xs) y x (suc i) h =
-    elim (slice_get-snoc_cases xs y x i h) [ inl old ↦ inl old | inr new ↦ inr (ap suc new.0, new.1) ]
-
--- what is taken of a list is taken of one that goes on
-pub slice_get-take : {X : Type 0} (xs : List X) (n i : ℕ) (x : X) → slice_get (take n xs) i ≡ Some x → slice_get xs i ≡ Some x
-slice_get-take [] zero i x h = h
-slice_get-take [] (suc n) i x h = h
-slice_get-take (z ∷ xs) zero i x h = cc
-slice_get-take (z ∷ xs) (suc n) zero x h = h
-slice_get-take (z ∷ xs) (suc n) (suc i) x h = slice_get-take xs n i x h
+use Rattle.std.proofs.Common.{◌≡◌, ℕ, ◌<◌, List, [], ◌∷◌, Some, arith, zero, suc, take, slice_get}
+pub use Rattle.binlog_coords.proofs.OrchBase.Lists.{slice_get-front, slice_get-snoc_cases, slice_get-take, take-more}
 
 -- an element of a prefix is within it
 pub slice_get-take_within : {X : Type 0} (xs : List X) (n i : ℕ) (x : X) → slice_get (take n xs) i ≡ Some x → i < n
@@ -24,17 +8,3 @@ slice_get-take_within xs zero i x h = cc
 slice_get-take_within [] (suc n) i x h = cc
 slice_get-take_within (z ∷ xs) (suc n) zero x h = omega arith
 slice_get-take_within (z ∷ xs) (suc n) (suc i) x h = let within : i < n = slice_get-take_within xs n i x h in omega arith
-
--- a prefix of a list has what the list has there
-pub slice_get-front : {X : Type 0} (xs : List X) (n i : ℕ) (x : X) → i < n → slice_get xs i ≡ Some x → slice_get (take n xs) i ≡ Some x
-slice_get-front [] n i x h e = cc
-slice_get-front (y ∷ ys) zero i x h e = absurd (omega arith)
-slice_get-front (y ∷ ys) (suc n) zero x h e = e
-slice_get-front (y ∷ ys) (suc n) (suc i) x h e = slice_get-front ys n i x (omega arith) e
-
--- one element more of a list
-pub take-more : {X : Type 0} (xs : List X) (i : ℕ) (x : X) → slice_get xs i ≡ Some x → take (i + 1) xs ≡ take i xs ++ x ∷ []
-take-more [] i x h = cc
-take-more (z ∷ xs) zero x h = let e : z ≡ x = same_Some z x h in ap (λ y. y ∷ []) e
-take-more (z ∷ xs) (suc i) x h =
-    let e : suc i + 1 ≡ suc (i + 1) = omega arith in rw e (ap (λ ys. z ∷ ys) (take-more xs i x h))

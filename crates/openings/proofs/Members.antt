@@ -2,11 +2,7 @@
 pub use Rattle.openings.proofs.Fronts.{slice_get-snoc_cases as get-push}
 use Rattle.std.proofs.Common.{◌≡◌, ℕ, ◌+◌, ◌<◌, List, [], ◌∷◌, ◌++◌, length, take, replicate, refl, sym, ap, ◌∙◌, inl, inr, ◌⊎◌, Some, arith, suc, zero, subst, slice_get}
 use Rattle.openings.proofs.Prelude.{cases_order, same_Some}
-
-pub get-push_old : {X : Type 0} (xs : List X) (y z : X) (k : ℕ) → slice_get xs k ≡ Some z → slice_get (xs ++ y ∷ []) k ≡ Some z
-get-push_old [] y z k h = cc
-get-push_old (x ∷ xs) y z zero h = h
-get-push_old (x ∷ xs) y z (suc k) h = get-push_old xs y z k h
+pub use Rattle.binlog_coords.proofs.OrchBase.Lists.{slice_get-snoc_old as get-push_old}
 
 pub get-push_new : {X : Type 0} (xs : List X) (y : X) → slice_get (xs ++ y ∷ []) (length xs) ≡ Some y
 get-push_new [] y = refl

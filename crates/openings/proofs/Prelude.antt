@@ -10,7 +10,6 @@ pub use Rattle.std.proofs.lemmas.List.Sums.{count_by-le-length, sum_by-cons, sum
 pub use Rattle.std.proofs.lemmas.Map.Steps.{length-le_from_distinct_below}
 pub use Rattle.std.proofs.lemmas.Option.{get_or_from_slice_get, same_Some, slice_get-get_or, slice_get_within}
 pub use Rattle.std.proofs.lemmas.Result.{IfOk-weaker}
-pub use Rattle.std.specs.List.{AllByRecursion}
 unfoldable pub use Rattle.std.specs.List.{IsDistinct}
 pub use Rattle.binlog_coords.specs.Index.{Index}
 pub use Rattle.binlog_coords.specs.Log.{appended}

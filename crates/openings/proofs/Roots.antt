@@ -1,7 +1,8 @@
 -- If no number comes back to itself, each chain ends.
 use Rattle.std.proofs.Common.{◌≡◌, ℕ, ◌<◌, ◌≤◌, true, false, List, [], ◌∷◌, length, refl, sym, ◌∙◌, ap, subst, inl, inr, ◌⊎◌, Option, Some, None, arith, zero, suc, ◌||◌, eqb, ◌==◌}
-use Rattle.openings.proofs.Prelude.{AllByRecursion, Grounded, IsDistinct, Root, Under, eq-eqb, eqb-true, follow_on, is_reached, is_reached_on}
+use Rattle.openings.proofs.Prelude.{Grounded, IsDistinct, Root, Under, eq-eqb, eqb-true, follow_on, is_reached, is_reached_on}
 use Rattle.openings.proofs.Prelude.{length-le_from_distinct_below, list_any, ne_eqb, or_cases, or_left, or_right, reached_from}
+use Rattle.binlog_coords.proofs.OrchBase.Lists.{all-apart}
 
 -- the numbers that a walk of so many steps meets
 abbrev walk_on : (ℕ → List ℕ) → Option ℕ → List ℕ
@@ -38,11 +39,6 @@ reached-more up q (suc k) (suc l) n le h = go (up n) h (λ m. reached-more up q 
     go None h further = cc
     go (Some m) h further =
         elim (or_cases (m == q) _ h) [ inl same ↦ or_left (m == q) _ same | inr more ↦ or_right (m == q) _ (further m more) ]
-
-all-apart : (x : ℕ) (xs : List ℕ) → ((q : ℕ) → list_any (eqb q) xs ≡ true → eqb x q ≡ false) → AllByRecursion (λ y. eqb x y ≡ false) xs
-all-apart x [] apart = tt
-all-apart x (y ∷ ys) apart =
-    (apart y (or_left (eqb y y) (list_any (eqb y) ys) (eq-eqb y y refl)), all-apart x ys (λ q h. apart q (or_right (eqb q y) (list_any (eqb q) ys) h)))
 
 -- up leads from numbers below a bound, and to them; none comes back to itself within so many steps
 pub record IsLoopless (up : ℕ → Option ℕ) (bound : ℕ) : Type 0 where

@@ -2,6 +2,8 @@
 use Rattle.std.specs.Prelude.{◌++◌, ℕ, List, codes, decimal}
 use Rattle.orch_base.specs.declared.code.Code.{Code}
 use Rattle.orch_base.specs.declared.code.Code.TheVariants as code
+use Rattle.orch_base.specs.declared.recovery.CauseName.{CauseName}
+use Rattle.orch_base.specs.declared.recovery.CauseName.TheVariants as cause
 use Rattle.orch_base.specs.declared.recovery.Kind.{Kind}
 use Rattle.orch_base.specs.declared.recovery.Kind.TheVariants as kind
 use Rattle.orch_base.specs.declared.rule.Rule.{Rule}
@@ -41,6 +43,22 @@ abbrev pub kind_text : Kind → List ℕ
 kind_text kind.Master = codes "master"
 kind_text kind.Intermediate = codes "intermediate"
 kind_text kind.Takeover = codes "takeover"
+
+-- the name of a cause
+abbrev pub cause_name_text : CauseName → List ℕ
+cause_name_text cause.Unreachable = codes "Unreachable"
+cause_name_text cause.WaitSpent = codes "WaitSpent"
+cause_name_text cause.Interfered = codes "Interfered"
+cause_name_text cause.Running = codes "Running"
+cause_name_text cause.Loop = codes "Loop"
+cause_name_text cause.Errant = codes "Errant"
+cause_name_text cause.Moved = codes "Moved"
+cause_name_text cause.Reachable = codes "Reachable"
+cause_name_text cause.NoCandidate = codes "NoCandidate"
+cause_name_text cause.Purged = codes "Purged"
+cause_name_text cause.NoMark = codes "NoMark"
+cause_name_text cause.Mismatch = codes "Mismatch"
+cause_name_text cause.HookFailed = codes "HookFailed"
 
 abbrev pub version_text : Version → List ℕ
 version_text v = decimal v.major ++ codes "." ++ decimal v.minor ++ codes "." ++ decimal v.patch

@@ -1,5 +1,8 @@
 //! The analysis of a server.
 
+ghost use Rattle.std.specs.Prelude.{◌≡◌};
+ghost use Rattle.orch_base.specs.Words.{code_text};
+
 /// An analysis, by orchestrator's names (orchestrator's documentation, "Failure detection scenarios").
 #[derive(Clone, Copy, Debug, PartialEq, Eq)]
 pub enum Code {
@@ -39,4 +42,35 @@ pub enum Code {
     UnreachableIntermediateMaster,
     /// None of these.
     NoProblem,
+}
+
+impl Code {
+    /// Orchestrator's name for it.
+    pub fn word(self) -> &'static str
+        ensures { result.now ≡ code_text self }
+    {
+        match self {
+            Code::MasterSingleReplicaDead => "MasterSingleReplicaDead",
+            Code::MasterSingleReplicaNotReplicating => "MasterSingleReplicaNotReplicating",
+            Code::AllMasterReplicasNotReplicating => "AllMasterReplicasNotReplicating",
+            Code::AllMasterReplicasNotReplicatingOrDead => "AllMasterReplicasNotReplicatingOrDead",
+            Code::DeadMasterWithoutReplicas => "DeadMasterWithoutReplicas",
+            Code::DeadMasterAndReplicas => "DeadMasterAndReplicas",
+            Code::DeadMaster => "DeadMaster",
+            Code::DeadMasterAndSomeReplicas => "DeadMasterAndSomeReplicas",
+            Code::UnreachableMasterWithLaggingReplicas => "UnreachableMasterWithLaggingReplicas",
+            Code::UnreachableMaster => "UnreachableMaster",
+            Code::AllIntermediateMasterReplicasNotReplicating =>
+                "AllIntermediateMasterReplicasNotReplicating",
+            Code::DeadIntermediateMasterAndReplicas => "DeadIntermediateMasterAndReplicas",
+            Code::DeadIntermediateMasterWithSingleReplica =>
+                "DeadIntermediateMasterWithSingleReplica",
+            Code::DeadIntermediateMaster => "DeadIntermediateMaster",
+            Code::DeadIntermediateMasterAndSomeReplicas => "DeadIntermediateMasterAndSomeReplicas",
+            Code::UnreachableIntermediateMasterWithLaggingReplicas =>
+                "UnreachableIntermediateMasterWithLaggingReplicas",
+            Code::UnreachableIntermediateMaster => "UnreachableIntermediateMaster",
+            Code::NoProblem => "NoProblem",
+        }
+    }
 }

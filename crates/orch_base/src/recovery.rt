@@ -1,5 +1,8 @@
 //! What is recovered, and how it ends (orchestrator's documentation, "Topology recovery").
 
+ghost use Rattle.std.specs.Prelude.{◌≡◌};
+ghost use Rattle.orch_base.specs.Words.{cause_name_text, kind_text};
+
 use crate::server::ServerNo;
 
 /// What is recovered.
@@ -11,6 +14,19 @@ pub enum Kind {
     Intermediate,
     /// A master that is replaced as planned.
     Takeover,
+}
+
+impl Kind {
+    /// Its word.
+    pub fn word(self) -> &'static str
+        ensures { result.now ≡ kind_text self }
+    {
+        match self {
+            Kind::Master => "master",
+            Kind::Intermediate => "intermediate",
+            Kind::Takeover => "takeover",
+        }
+    }
 }
 
 /// The name of a cause that ends a recovery.
@@ -42,6 +58,29 @@ pub enum CauseName {
     Mismatch,
     /// A hook that ran before the recovery answered that it isn't to go on.
     HookFailed,
+}
+
+impl CauseName {
+    /// Its word.
+    pub fn word(self) -> &'static str
+        ensures { result.now ≡ cause_name_text self }
+    {
+        match self {
+            CauseName::Unreachable => "Unreachable",
+            CauseName::WaitSpent => "WaitSpent",
+            CauseName::Interfered => "Interfered",
+            CauseName::Running => "Running",
+            CauseName::Loop => "Loop",
+            CauseName::Errant => "Errant",
+            CauseName::Moved => "Moved",
+            CauseName::Reachable => "Reachable",
+            CauseName::NoCandidate => "NoCandidate",
+            CauseName::Purged => "Purged",
+            CauseName::NoMark => "NoMark",
+            CauseName::Mismatch => "Mismatch",
+            CauseName::HookFailed => "HookFailed",
+        }
+    }
 }
 
 /// How a recovery ended.

@@ -1,4 +1,4 @@
-//! What an opening lays out beside the servers: names and settings, the slots of pollers, the configuration, and the
+//! What an opening lays out beside the servers: settings, the slots of pollers, the configuration, and the
 //! book with what its rows leave open.
 
 ghost use Rattle.std.specs.Prelude.{◌≡◌, ◌≤◌, ◌^◌, All, IfOk, IsTrue, None, [], is_ok, length, map};
@@ -9,7 +9,7 @@ ghost use Rattle.orch_core.specs.States.{HasKnownSource};
 
 use crate::instance_keeper_items::{Book, Change, Keeper, Observation};
 use crate::openings::ServerInit;
-use crate::orch_base::{Memory, Moment, Name, Settings};
+use crate::orch_base::{Memory, Moment, Settings};
 use crate::server_model::World;
 use crate::{Configuration, Scenario, TurnFault};
 use knowledge::keep_some;
@@ -91,17 +91,6 @@ pub(crate) fn copy_settings(alloc: Global, servers: &[ServerInit]) -> Result<Vec
         settings.push(server.settings.copy(alloc)?)?;
     }
     Ok(settings)
-}
-
-/// The names in the settings.
-pub(crate) fn copy_names(alloc: Global, settings: &[Settings]) -> Result<Vec<Name>, Memory>
-    ensures { IfOk result (λ names. names.items ≡ map (λ s. s.name) settings.now) }
-{
-    let mut names = Vec::with_capacity(alloc, settings.len())?;
-    'servers: for server in settings {
-        names.push(server.name.copy(alloc)?)?;
-    }
-    Ok(names)
 }
 
 /// The configuration of a scenario whose jobs wait at most `wait` times.

@@ -94,7 +94,15 @@ impl Model for Case {
 
     ghost Value = { ACase };
 
-    ghost view = { λ c. record { i = c.i; to = c.to; leased = c.leased.items; reached = c.reached.items; moves = c.moves.items; sources = c.sources.items; crossed = c.crossed.items } };
+    ghost view = { λ c. record {
+      i = c.i;
+      to = c.to;
+      leased = c.leased.items;
+      reached = c.reached.items;
+      moves = c.moves.items;
+      sources = c.sources.items;
+      crossed = c.crossed.items;
+    } };
 }
 
 /// The list of one server, if there is one. `Err` means out of memory.

@@ -10,6 +10,7 @@ use Rattle.plan_laws.proofs.Prelude.task
 use Rattle.plan_laws.proofs.Meeting.{done-first, last-of, walk-on}
 use Rattle.plan_laws.proofs.Parted.{detached, started}
 use Rattle.plan_laws.proofs.Scripts.{goes}
+pub use Rattle.plan_lines.proofs.TakenOver.{longer}
 
 -- ---- what turns do
 
@@ -38,15 +39,6 @@ no-takeover purpose.Regroup is = refl
 no-takeover purpose.Master is = refl
 no-takeover (purpose.Intermediate s) is = absurd (false≢true is)
 no-takeover (purpose.Takeover d) is = absurd (false≢true is)
-
--- a list doesn't end with more than it has
-pub longer : {X : Type 0} (xs : List X) (x : X) → xs ++ x ∷ [] ≡ xs → ⊥
-longer {X = X} [] x h = cc
-longer {X = X} (y ∷ ys) x h = longer ys x (ap tail h)
-  where
-    tail : List X → List X
-    tail [] = []
-    tail (z ∷ zs) = zs
 
 -- whose receiver an operation stops
 abbrev pub stopped_by : ServerNo → Op → ServerNo

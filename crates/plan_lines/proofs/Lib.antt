@@ -1,6 +1,5 @@
 pub mod Prelude
-mod Lists
 pub mod Peeling
-mod TakenOver
+pub mod TakenOver
 mod Within
 pub use Rattle.recovery_plans.proofs.PromotionRules as PromotionRules

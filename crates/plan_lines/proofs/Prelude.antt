@@ -1,6 +1,5 @@
 -- What its proofs cite of others.
 pub use Rattle.std.proofs.lemmas.Bool.{not-true}
-pub use Rattle.std.proofs.lemmas.List.{take_more}
 pub use Rattle.std.proofs.lemmas.List.Elements.{All-cons, All-filter, All-head, All-nil, All-tail, filter_map-append}
 pub use Rattle.std.proofs.lemmas.Option.{same_Some}
 pub use Rattle.std.specs.List.{cons_option, flat_map}
@@ -34,7 +33,7 @@ pub use Rattle.recovery_plans.specs.Operations.declared.op.Op.TheVariants as op
 pub use Rattle.recovery_plans.specs.OrchBase.declared.server.ServerNo as RecoveryPlansServerNo
 pub use Rattle.recovery_plans.specs.OrchBase.declared.server.SourceState.TheVariants as source
 pub use Rattle.recovery_plans.specs.Prelude.{Bridge, Cause, Coord, EndOf, Exchange, ExecOf, Job, Observation, Op, Position, SourceState, bridge_at}
-pub use Rattle.recovery_plans.specs.Prelude.{by_deed, deed_of, job_with, option_to_list, same_coord, seen_of}
+pub use Rattle.recovery_plans.specs.Prelude.{by_deed, deed_of, job_with, same_coord, seen_of}
 pub use Rattle.recovery_plans.specs.Recoveries.{Outcome}
 pub use Rattle.recovery_plans.specs.Stages.{reads_last, with_bridge, with_way}
 pub use Rattle.recovery_plans.specs.Taking.{acted, at_end, frees, halted, is_below, lead_under, looked, progressed, spot_seen}

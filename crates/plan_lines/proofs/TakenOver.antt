@@ -20,7 +20,7 @@ use Rattle.plan_lines.proofs.Prelude.way
 use Rattle.plan_lines.proofs.Peeling.{last-of, left, none-goes, peel, peel-on, walk}
 
 -- a list doesn't end with more than it has
-longer : {X : Type 0} (xs : List X) (x : X) → xs ++ x ∷ [] ≡ xs → ⊥
+pub longer : {X : Type 0} (xs : List X) (x : X) → xs ++ x ∷ [] ≡ xs → ⊥
 longer {X = X} [] x h = cc
 longer {X = X} (y ∷ ys) x h = longer ys x (ap tail h)
   where

@@ -3,41 +3,10 @@ use Rattle.promotion_rules.proofs.Prelude.{All-cons, All-contains, All-head, All
 use Rattle.promotion_rules.proofs.Prelude.{Ordering, and_left as both-false, and_parts, append-nil, comes_first, false≢true, filter_more, find-append}
 use Rattle.promotion_rules.proofs.Prelude.{first_by, is_lt, list_all, list_all-append, not-true as not-false, option_or, ranks_by, same_Some}
 use Rattle.promotion_rules.proofs.Prelude.{tied_itself}
-use Rattle.std.proofs.Common.{◌≡◌, ℕ, ◌+◌, ◌<◌, Bool, true, false, cond, not, suc, ◌&&◌, List, [], ◌∷◌, ◌++◌, length, get_or, take, refl, sym, ◌∙◌, ap, subst, Option, Some, None, arith, All, filter, find, Contains}
+use Rattle.std.proofs.Common.{◌≡◌, ℕ, ◌+◌, ◌<◌, Bool, true, false, cond, not, suc, ◌&&◌, List, [], ◌∷◌, ◌++◌, length, get_or, take, refl, sym, ◌∙◌, ap, Option, Some, None, arith, All, filter, find, Contains}
+pub use Rattle.instance_keeper.proofs.OrchBase.Found.{All-found, found-passes as found_passes, none-found as none_found, none-passes as none_passes}
 
 module _ {X : Type 0} (p : X → Bool) where
-  -- what is found passes
-  pub found_passes : (xs : List X) (y : X) → find p xs ≡ Some y → p y ≡ true
-  found_passes [] y e = cc
-  found_passes (x ∷ xs) y e = go (p x) refl e (found_passes xs y)
-    where
-      go : (b : Bool) → p x ≡ b → cond b (Some x) (find p xs) ≡ Some y → (find p xs ≡ Some y → p y ≡ true) → p y ≡ true
-      go true f g rest = ap p (sym (same_Some x y g)) ∙ f
-      go false f g rest = rest g
-
-  -- what is found is one of the list
-  pub All-found : (P : X → Type 0) (xs : List X) (y : X) → All P xs → find p xs ≡ Some y → P y
-  All-found P [] y all e = cc
-  All-found P (x ∷ xs) y all e = go (p x) e (All-found P xs y (All-tail P x xs all))
-    where
-      go : (b : Bool) → cond b (Some x) (find p xs) ≡ Some y → (find p xs ≡ Some y → P y) → P y
-      go true g rest = subst P (same_Some x y g) (All-head P x xs all)
-      go false g rest = rest g
-
-  -- if nothing is found nothing passes
-  pub none_passes : (xs : List X) → find p xs ≡ None → All (λ x. p x ≡ false) xs
-  none_passes [] e = All-nil (λ x. p x ≡ false)
-  none_passes (x ∷ xs) e = go (p x) refl e (none_passes xs)
-    where
-      go : (b : Bool) → p x ≡ b → cond b (Some x) (find p xs) ≡ None → (find p xs ≡ None → All (λ y. p y ≡ false) xs) → All (λ y. p y ≡ false) (x ∷ xs)
-      go true f g rest = cc
-      go false f g rest = All-cons (λ y. p y ≡ false) x xs f (rest g)
-
-  pub none_found : (xs : List X) → All (λ x. p x ≡ false) xs → find p xs ≡ None
-  none_found [] all = refl
-  none_found (x ∷ xs) all =
-      ap (λ b. cond b (Some x) (find p xs)) (All-head (λ y. p y ≡ false) x xs all) ∙ none_found xs (All-tail (λ y. p y ≡ false) x xs all)
-
   all_pass : (xs : List X) → list_all p xs ≡ true → All (λ x. p x ≡ true) xs
   all_pass [] e = All-nil (λ x. p x ≡ true)
   all_pass (x ∷ xs) e =

@@ -3,7 +3,7 @@ use Rattle.std.proofs.Common.{◌≡◌, ◌∙◌, ◌≤◌, ℕ, Bool, true, 
 use Rattle.read_back_laws.proofs.Prelude.{CommandTurn, Data, Found, HostPort, IsKnown, IsTold, Members, NamesRead, Rule, ServerNo, command_in, command_keys}
 use Rattle.read_back_laws.proofs.Prelude.{duration_in, found_in, get_member, given_data, given_in, given_members, has_needed, instances_in, is_there, is_within}
 use Rattle.read_back_laws.proofs.Prelude.{item, le-leb, ltb-true, maybe_in, name_data, name_of-word_of, needs_of, no_items, no_members, only_keys, pattern_in}
-use Rattle.read_back_laws.proofs.Prelude.{rule_at, rule_in, rule_word, server_named, short_in, string, with_given, word_of}
+use Rattle.read_back_laws.proofs.Prelude.{rule_at, rule_in, rule_text, server_named, short_in, string, with_given, word_of}
 use Rattle.scenario_reader.specs.ScenarioTurns.Commands.{keys_in, name_in}
 use Rattle.read_back_laws.proofs.Prelude.rule
 use Rattle.read_back_laws.proofs.Durations.{seconds-read}
@@ -19,12 +19,12 @@ four _ _ _ _ e = absurd cc
 
 -- ---- single values
 
-rule-reads : (r : Rule) → rule_in (string (rule_word r)) ≡ Ok r
+rule-reads : (r : Rule) → rule_in (string (rule_text r)) ≡ Ok r
 unfolding rule_in rule_at
 rule-reads rule.Prefer = refl
 rule-reads _ = refl
 
-rules-read : (o : Option Rule) → maybe_in (codes "rule") rule_in (option_map (λ r. string (rule_word r)) o) ≡ Ok o
+rules-read : (o : Option Rule) → maybe_in (codes "rule") rule_in (option_map (λ r. string (rule_text r)) o) ≡ Ok o
 rules-read None = refl
 rules-read (Some r) = rw (rule-reads r) refl
 
@@ -72,7 +72,7 @@ module _ (names : List HostPort) (t : CommandTurn) where
   o-reason = option_map string t.keys.reason
 
   abbrev o-rule : Option Data
-  o-rule = option_map (λ r. string (rule_word r)) t.keys.rule
+  o-rule = option_map (λ r. string (rule_text r)) t.keys.rule
 
   abbrev m1 : Members
   m1 = with_given (codes "d") o-d no_members

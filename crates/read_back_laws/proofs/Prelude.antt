@@ -96,7 +96,7 @@ pub use Rattle.scenario_reader.proofs.Prelude.{printed_of, rules_of, same_Ok, te
 unfoldable pub use Rattle.scenario_reader.proofs.Prelude.{aliases_in, block_in, blocks_in, bounded, filters_in, head_in, hook_in, hook_list_in}
 unfoldable pub use Rattle.scenario_reader.proofs.Prelude.{hooks_in, keys_in, listed_in, number_in, one_in, opening_in, scenario_from, server_in}
 unfoldable pub use Rattle.scenario_reader.proofs.Prelude.{turns_in, whole_of}
-pub use Rattle.scenario_reader.proofs.ScenarioServers.Printed.{printed_is_utf8}
+pub use Rattle.scenario_reader.proofs.OrchBase.Printed.{printed_is_utf8}
 pub use Rattle.scenario_reader.proofs.ScenarioServers.ServerSteps.{ReadsIdentity, named-ok, server-ok}
 pub use Rattle.scenario_reader.proofs.ScenarioServers.Steps.{Same, each_from-get, each_from-ok, maybe-ok, or_fails-ok}
 pub use Rattle.scenario_reader.proofs.Sound.{scenario_in_sound}
@@ -161,6 +161,7 @@ pub use Rattle.scenarios.specs.Openings.Listed.{joined_by, listed_history, next_
 pub use Rattle.scenarios.specs.Openings.Logs.{flushed_at, flushed_times, laid, laid_after}
 pub use Rattle.scenarios.specs.OrchBase.Chains.{Direct, Follows, Further, Grounded, Root, Under, is_reached, is_reached_on}
 pub use Rattle.scenarios.specs.OrchBase.Histories.{count_own, same_txn}
+pub use Rattle.scenarios.specs.OrchBase.Words.{rule_text}
 pub use Rattle.scenarios.specs.OrchBase.declared.rule.Rule.TheVariants as rule
 pub use Rattle.scenarios.specs.ServerWords.declared.changes.Link.TheVariants as link
 pub use Rattle.scenarios.specs.Turns.declared.turn.Act.{Act}
@@ -168,7 +169,7 @@ pub use Rattle.scenarios.specs.Turns.declared.turn.Act.TheVariants as act
 pub use Rattle.scenarios.specs.Turns.declared.turn.Step.{Step}
 pub use Rattle.scenarios.specs.Turns.declared.turn.Step.TheVariants as step
 pub use Rattle.scenarios.specs.Turns.declared.turn.Turn.TheVariants as turn
-pub use Rattle.schedules.specs.Turns.{act_data, given_data, given_members, name_data, rule_word, step_data, with_given}
+pub use Rattle.schedules.specs.Turns.{act_data, given_data, given_members, name_data, step_data, with_given}
 pub use Rattle.serde_json.proofs.Views.{get_member-put, get_member-put_other}
 pub use Rattle.serde_json.specs.Find.{as_str, get_item, get_member}
 pub use Rattle.serde_json.specs.Read.{number_of}

@@ -25,7 +25,13 @@ impl Model for Begun {
 
     ghost Value = { Begins };
 
-    ghost view = { λ a. record { list = a.list.items; job = a.job; entry = a.entry; code = a.code; hooks = a.hooks } };
+    ghost view = { λ a. record {
+      list = a.list.items;
+      job = a.job;
+      entry = a.entry;
+      code = a.code;
+      hooks = a.hooks;
+    } };
 }
 
 impl Begun {

@@ -81,7 +81,13 @@ impl<'a> Model for Stage<'a> {
 
     ghost Value = { Staged };
 
-    ghost view = { λ a. record { leases = a.leases.items; audit = a.audit.audit; last = a.last; lines = a.lines.items; begun = a.begun.items } };
+    ghost view = { λ a. record {
+      leases = a.leases.items;
+      audit = a.audit.audit;
+      last = a.last;
+      lines = a.lines.items;
+      begun = a.begun.items;
+    } };
 }
 
 impl<'a> Stage<'a> {

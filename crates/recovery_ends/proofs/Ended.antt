@@ -20,20 +20,13 @@ use Rattle.recovery_ends.proofs.Prelude.task
 use Rattle.recovery_ends.proofs.Prelude.way
 use Rattle.recovery_ends.proofs.Shapes.{fits-step, moved-fits, same-head}
 use Rattle.recovery_ends.proofs.Fitting.{IsFit, begun-fits, decides-fits, stepped-fits, taken-fits, went-of}
+use Rattle.recovery_plans.proofs.OrchBase.Lists.{filter-shorter}
 
 -- the operations that are left, and may come
 abbrev ops_in : Recovery → ℕ
 ops_in r = length r.core.ops + ops_to_come r
 
 -- ---- lists
-
-filter-shorter : {X : Type 0} (p : X → Bool) (xs : List X) → length (filter p xs) ≤ length xs
-filter-shorter p [] = omega arith
-filter-shorter {X} p (x ∷ xs) = go (p x) (filter-shorter p xs)
-  where
-    go : (b : Bool) → length (filter p xs) ≤ length xs → length (cond b (x ∷ filter p xs) (filter p xs)) ≤ length (x ∷ xs)
-    go true h = omega (arith, h)
-    go false h = omega (arith, h)
 
 marks-ops : (ns : List ServerNo) (t : ServerNo → Task) → ((n : ServerNo) → ops_of_task ns (t n) ≡ 1) → (ms : List ServerNo) (ts : List Task)
     → ops_of_queue ns (map t ms ++ ts) ≡ length ms + ops_of_queue ns ts

@@ -2,12 +2,10 @@
 //! "Recovery hooks").
 #![tactic(auto)]
 
-mod analysis;
 mod laws;
 mod lines;
 mod run;
 
-pub use analysis::code_word;
 pub use laws::{all_hooks_run, hooks_run_in_order};
 /// Out of memory.
 pub use orch_base::Memory;

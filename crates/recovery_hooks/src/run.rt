@@ -38,7 +38,13 @@ impl Model for HookRun {
 
     ghost Value = { HookState };
 
-    ghost view = { λ a. record { hooks = a.hooks; told = a.told; checked = a.checked; before = a.before; after = a.after } };
+    ghost view = { λ a. record {
+      hooks = a.hooks;
+      told = a.told;
+      checked = a.checked;
+      before = a.before;
+      after = a.after;
+    } };
 
     ghost use Rattle.recovery_hooks.specs.Runs.{IsWithin};
 

@@ -1,21 +1,13 @@
 -- What is chosen is one of those that were drained, and logs.
-use Rattle.std.proofs.Common.{◌≡◌, ℕ, Bool, true, false, cond, List, [], ◌∷◌, map, refl, sym, ◌∙◌, ap, subst, Option, Some, None, ◌&&◌, ◌==◌, not, find}
+use Rattle.std.proofs.Common.{◌≡◌, ℕ, Bool, true, List, [], ◌∷◌, map, refl, sym, ◌∙◌, ap, subst, Option, Some, None, ◌&&◌, ◌==◌, not}
 use Rattle.recovery_plans.proofs.Prelude.{All, All-cons, All-contains, All-head, All-map, All-nil, All-tail, BookState, Drained, Moment, ServerNo}
 use Rattle.recovery_plans.proofs.Prelude.{Stopped, World, advance_order, and_parts, better_of, chosen-first, chosen_of, drained_of, eqb-true}
 use Rattle.recovery_plans.proofs.Prelude.{follower_of, found_passes, ground_of, is_barred, is_better, is_eligible, logs_at, most_advanced}
-use Rattle.recovery_plans.proofs.Prelude.{nearer_order, rule_at, same_Some, stopped_in}
+use Rattle.recovery_plans.proofs.Prelude.{nearer_order, rule_at, stopped_in}
+use Rattle.operations.proofs.OrchBase.Found.{All-found}
 
 pub same-no : (a b : ServerNo) → a.0 ≡ b.0 → a ≡ b
 same-no a b h = ap (λ (n : ℕ). let m : ServerNo = record { 0 = n } in m) h
-
--- what is found of a list
-All-found : {X : Type 0} (P : X → Type 0) (p : X → Bool) (xs : List X) (y : X) → All P xs → find p xs ≡ Some y → P y
-All-found P p [] y all h = cc
-All-found P p (x ∷ xs) y all h = go (p x) h (All-found P p xs y (All-tail P x xs all))
-  where
-    go : (b : Bool) → cond b (Some x) (find p xs) ≡ Some y → (find p xs ≡ Some y → P y) → P y
-    go true g rest = subst P (same_Some x y g) (All-head P x xs all)
-    go false g rest = rest g
 
 -- ---- the choice
 
@@ -47,7 +39,7 @@ module _ (w : World) (b : BookState) (now : Moment) (f : ServerNo) where
     where
       go : (o : Option ServerNo) → stopped_in xs o ≡ Some p → P p
       go None g = cc
-      go (Some n) g = All-found P (λ (s : Stopped). s.no.0 == n.0) xs p all g
+      go (Some n) g = All-found (λ (s : Stopped). s.no.0 == n.0) P xs p all g
 
   pub chosen-logs : (xs : List Stopped) (p : Stopped) → chosen_of (ground_of w b now) f xs ≡ Some p → logs_at w p.no ≡ true
   chosen-logs xs p h = (and_parts (logs_at w p.no) (not (is_barred (rule_at b p.no now))) (chosen-may xs p h)).0

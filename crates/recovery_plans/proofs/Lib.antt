@@ -12,5 +12,6 @@ pub mod Promoting
 pub use Rattle.operations.proofs.BinlogCoords as BinlogCoords
 pub use Rattle.operations.proofs.KeptRows as KeptRows
 pub mod OperationsProofs
+pub use Rattle.operations.proofs.OrchBase as OrchBase
 pub mod PromotionRules
 pub use Rattle.operations.proofs.ServerModel as ServerModel

@@ -7,7 +7,7 @@ use Rattle.recovery_reasons.proofs.Prelude.{Means, Moment, Observation, Op, Purp
 use Rattle.recovery_reasons.proofs.Prelude.{World, after_ask, append-nil, begun_recovery, borne, but, by_deed, decided_by, decides-held, deed_of}
 use Rattle.recovery_reasons.proofs.Prelude.{desk_answer, ended, ended_by, ends, entered, eqb-true, expels, false≢true, fate_of, filter_passes}
 use Rattle.recovery_reasons.proofs.Prelude.{first_stage, first_tasks, fits-step, follows_no_more, ground_of, joined, kept-whole, leaver, losses_in}
-use Rattle.recovery_reasons.proofs.Prelude.{lot_by, marked, move_of, moved, moved-fits, moves_in, next, releases, same-head, same-tail, server_at}
+use Rattle.recovery_reasons.proofs.Prelude.{lot_by, mark_of, marked, move_of, moved, moved-fits, moves_in, next, releases, same-head, same-tail, server_at}
 use Rattle.recovery_reasons.proofs.Prelude.{stay_of, stepped, tail_of, taken, unfit, went-of, why_of, without_stopped}
 use Rattle.recovery_reasons.proofs.Prelude.asking
 use Rattle.recovery_reasons.proofs.Prelude.attempt
@@ -92,6 +92,37 @@ why-marked k (l ∷ ls) n = go (l.no.0 == k.0) (why-marked k ls n)
             ≡ option_map (λ (x : LostReplica). x.why) (cond c (Some l) (find (λ (x : LostReplica). x.no.0 == n.0) ls))
         by true = refl
         by false = rest
+
+-- a mark stays
+pub still-marked : (k : ServerNo) (xs : List LostReplica) (n : ServerNo) → mark_of xs n ≡ Some true → mark_of (map (marked k) xs) n ≡ Some true
+still-marked k [] n h = h
+still-marked k (l ∷ ls) n h = go (l.no.0 == k.0) (still-marked k ls n) h
+  where
+    go : (a : Bool) → (mark_of ls n ≡ Some true → mark_of (map (marked k) ls) n ≡ Some true) → option_map (λ (x : LostReplica). x.detached) (cond (l.no.0 == n.0) (Some l) (find (λ (x : LostReplica). x.no.0 == n.0) ls)) ≡ Some true
+        → option_map (λ (x : LostReplica). x.detached) (cond ((cond a (record l { detached = true }) l).no.0 == n.0) (Some (cond a (record l { detached = true }) l)) (find (λ (x : LostReplica). x.no.0 == n.0) (map (marked k) ls))) ≡ Some true
+    go true rest = by (l.no.0 == n.0)
+      where
+        by : (c : Bool) → option_map (λ (x : LostReplica). x.detached) (cond c (Some l) (find (λ (x : LostReplica). x.no.0 == n.0) ls)) ≡ Some true
+            → option_map (λ (x : LostReplica). x.detached) (cond c (Some (record l { detached = true })) (find (λ (x : LostReplica). x.no.0 == n.0) (map (marked k) ls))) ≡ Some true
+        by true g = refl
+        by false g = rest g
+    go false rest = by (l.no.0 == n.0)
+      where
+        by : (c : Bool) → option_map (λ (x : LostReplica). x.detached) (cond c (Some l) (find (λ (x : LostReplica). x.no.0 == n.0) ls)) ≡ Some true → option_map (λ (x : LostReplica). x.detached) (cond c (Some l) (find (λ (x : LostReplica). x.no.0 == n.0) (map (marked k) ls))) ≡ Some true
+        by true g = g
+        by false g = rest g
+
+-- and each that is lost gets its own
+pub marked-now : (n : ServerNo) (xs : List LostReplica) → (why_of xs n ≡ None → ⊥) → mark_of (map (marked n) xs) n ≡ Some true
+marked-now n [] off = absurd (off refl)
+marked-now n (l ∷ ls) off = go (l.no.0 == n.0) refl (λ rest. marked-now n ls rest)
+  where
+    go : (a : Bool) → (l.no.0 == n.0) ≡ a → ((why_of ls n ≡ None → ⊥) → mark_of (map (marked n) ls) n ≡ Some true)
+        → option_map (λ (x : LostReplica). x.detached) (cond ((cond a (record l { detached = true }) l).no.0 == n.0) (Some (cond a (record l { detached = true }) l)) (find (λ (x : LostReplica). x.no.0 == n.0) (map (marked n) ls))) ≡ Some true
+    go true e rest = subst (λ (c : Bool). option_map (λ (x : LostReplica). x.detached) (cond c (Some (record l { detached = true })) (find (λ (x : LostReplica). x.no.0 == n.0) (map (marked n) ls))) ≡ Some true) (sym e) refl
+    go false e rest =
+        subst (λ (c : Bool). option_map (λ (x : LostReplica). x.detached) (cond c (Some l) (find (λ (x : LostReplica). x.no.0 == n.0) (map (marked n) ls))) ≡ Some true) (sym e)
+        (rest (λ none. off (subst (λ (c : Bool). option_map (λ (x : LostReplica). x.why) (cond c (Some l) (find (λ (x : LostReplica). x.no.0 == n.0) ls)) ≡ None) (sym e) none)))
 
 -- tasks
 out-on : (u : Purpose) (xs ys : List LostReplica) → ((n : ServerNo) → IsToDetach u (why_of xs n) → IsToDetach u (why_of ys n)) → ((n : ServerNo) → IsToRelease u (why_of xs n) → IsToRelease u (why_of ys n)) → (ts : List Task)

@@ -2,13 +2,13 @@
 use Rattle.std.proofs.Common.{◌≡◌, ℕ, suc, zero, Bool, true, false, cond, List, [], ◌∷◌, ◌++◌, filter, map, refl, sym, ◌∙◌, ap, subst, Option, Some, None, ◌⊎◌, inl, inr, arith}
 use Rattle.recovery_reasons.proofs.Prelude.{AreDealtWith, AreSorted, Attempt, Bearing, BookState, Bridge, Cause, Contains, Contains-append_left}
 use Rattle.recovery_reasons.proofs.Prelude.{Contains-append_right, Contains-tail, Decision, Decisions, Ending, Exchange, ExplainsTruly, Fact, Fits}
-use Rattle.recovery_reasons.proofs.Prelude.{HeldRecovery, HeldRings, IsAsked, IsCaredFor, IsDetachedSo, IsFit, IsNext, IsOnWay, IsPassed}
+use Rattle.recovery_reasons.proofs.Prelude.{HeldRecovery, HeldRings, IsAsked, IsCaredFor, IsDetachedSo, IsFit, IsMarkedSo, IsNext, IsOnWay, IsPassed}
 use Rattle.recovery_reasons.proofs.Prelude.{IsReleased, IsReleasedSo, IsToDetach, IsToRelease, IsUnreached, Job, Keeps, LostReplica, Lot, MayBear}
 use Rattle.recovery_reasons.proofs.Prelude.{MayDecide, MayEnd, Means, Moment, Observation, Op, Passes, Purpose, Recovery, Releases, ServerNo}
 use Rattle.recovery_reasons.proofs.Prelude.{Speaks, Stage, Stopped, Task, TasksOf, Way, Why, World, begun_recovery, borne, but, by_deed, decided_by}
 use Rattle.recovery_reasons.proofs.Prelude.{decides-held, deed_of, ended, ended_by, ends, entered, expels, false≢true, fate_of, finds_nobody}
-use Rattle.recovery_reasons.proofs.Prelude.{first_stage, first_tasks, fits-step, follows_no_more, ground_of, is_beside, is_settling, is_takeover}
-use Rattle.recovery_reasons.proofs.Prelude.{joined, kept-whole, lead_of, leads_on, leaver, lot_by, more_on, move_of, moved, moved-fits, moved-leads}
+use Rattle.recovery_reasons.proofs.Prelude.{first_stage, first_tasks, fits-step, follows_no_more, ground_of, is_beside, is_settling, is_takeover, rests}
+use Rattle.recovery_reasons.proofs.Prelude.{joined, kept-whole, lead_of, leads_on, leaver, lot_by, mark_of, marked, more_on, move_of, moved, moved-fits, moved-leads}
 use Rattle.recovery_reasons.proofs.Prelude.{moves_in, releases, same-head, same-tail, spoken_to, stepped, stepped-fits, tail_of, taken}
 use Rattle.recovery_reasons.proofs.Prelude.{went-of, why_of, without_stopped}
 use Rattle.recovery_reasons.proofs.Prelude.attempt
@@ -20,7 +20,7 @@ use Rattle.recovery_reasons.proofs.Prelude.stage
 use Rattle.recovery_reasons.proofs.Prelude.task
 use Rattle.recovery_reasons.proofs.Prelude.why
 use Rattle.recovery_reasons.proofs.Prelude.word
-use Rattle.recovery_reasons.proofs.Caring.{decided-cared, expelled-so, why-marked}
+use Rattle.recovery_reasons.proofs.Caring.{decided-cared, expelled-so, marked-now, still-marked, why-marked}
 use Rattle.recovery_reasons.proofs.OnWay.{Fine, IsStuck, decides-fine, decides-lost, decides-stuck, no-tail}
 use Rattle.recovery_reasons.proofs.Reasoning.{StopsUnreached, asked-unreached}
 use Rattle.recovery_reasons.proofs.Readings.{fits-of}
@@ -90,6 +90,9 @@ release-frees (purpose.Intermediate s) (Some (why.Unmatched m)) h = refl
 release-frees (purpose.Intermediate s) (Some (why.Lost y)) h = absurd h
 release-frees (purpose.Takeover d) (Some y) h = absurd h
 
+detach-lost : (u : Purpose) (o : Option Why) → IsToDetach u o → o ≡ None → ⊥
+detach-lost u o h e = subst (IsToDetach u) e h
+
 over-detaches : (u : Purpose) (o : Option Why) → is_takeover u ≡ true → IsToDetach u o → ⊥
 over-detaches (purpose.Takeover d) o t h = false≢true (detach-expels (purpose.Takeover d) o h)
 over-detaches _ o t h = false≢true t
@@ -118,12 +121,63 @@ drains-sorted t (n ∷ ns) ts there h = (λ e. Contains-append_right (map t ns) 
 
 -- ---- stages
 
+abbrev is_mark : Ending → Bool
+is_mark (by.Marks n) = true
+is_mark _ = false
+
 moved-settles : (s : Stage) → is_settling (moved s) ≡ true → is_settling s ≡ true
 moved-settles (stage.Drain n) h = refl
 moved-settles (stage.Judged n) h = refl
 moved-settles (stage.Move n by) h = refl
 moved-settles (stage.Join n p) h = refl
 moved-settles s h = absurd (false≢true h)
+
+-- only a mark ends such a stage
+unmarked : (x : Recovery) (e : Ending) → MayEnd x e → is_mark e ≡ false → (n : ServerNo) → x.stage ≡ stage.Expelled n → ⊥
+unmarked x by.Rests may off n at = false≢true (sym (ap rests at) ∙ may)
+unmarked x (by.Marks k) may off n at = false≢true (sym off)
+unmarked x (by.Stays k s) may off n at = let bad : stage.Judged k ≡ stage.Expelled n = sym may.0 ∙ at in cc
+unmarked x (by.Loses k y) may off n at = go may.0
+  where
+    go : (x.stage ≡ stage.Judged k) ⊎ ((z : Bridge) × (x.stage ≡ stage.Looked k z)) → ⊥
+    go (inl is) = let bad : stage.Judged k ≡ stage.Expelled n = sym is ∙ at in cc
+    go (inr (z, is)) = let bad : stage.Looked k z ≡ stage.Expelled n = sym is ∙ at in cc
+unmarked x (by.Frees k y) may off n at = let bad : stage.Halted k may.0 ≡ stage.Expelled n = sym may.1 ∙ at in cc
+unmarked x (by.Follows k p) may off n at = go may
+  where
+    go : (x.stage ≡ stage.Join k p) ⊎ (x.stage ≡ stage.Resume p k) → ⊥
+    go (inl is) = let bad : stage.Join k p ≡ stage.Expelled n = sym is ∙ at in cc
+    go (inr is) = let bad : stage.Resume p k ≡ stage.Expelled n = sym is ∙ at in cc
+unmarked x (by.Leads d) may off n at = let bad : stage.Gather may.0 d ≡ stage.Expelled n = sym may.1 ∙ at in cc
+unmarked x (by.Trails k z) may off n at = let bad : stage.Looked k z ≡ stage.Expelled n = sym may.0 ∙ at in cc
+unmarked x (by.Joins k z) may off n at = let bad : stage.Halted k z ≡ stage.Expelled n = sym may.0 ∙ at in cc
+unmarked x (by.Swaps p q) may off n at = let bad : stage.Swapped p q ≡ stage.Expelled n = sym may ∙ at in cc
+unmarked x (by.Switches m d) may off n at = let bad : stage.Switched m d ≡ stage.Expelled n = sym may ∙ at in cc
+unmarked x (by.Shuts m d) may off n at = let bad : stage.Meet m d ≡ stage.Expelled n = sym may ∙ at in cc
+unmarked x (by.Ends k) may off n at = let bad : stage.Opened k ≡ stage.Expelled n = sym may ∙ at in cc
+
+-- no operation fails at such a stage
+unborne : (s : Stage) (e : Bearing) → MayBear s e → (n : ServerNo) → s ≡ stage.Expelled n → ⊥
+unborne s by.Drops may n at = go may
+  where
+    go : (s ≡ stage.Check) ⊎ ((k : ServerNo) × ((s ≡ stage.Expel k) ⊎ (s ≡ stage.Release k))) → ⊥
+    go (inl is) = let bad : stage.Check ≡ stage.Expelled n = sym is ∙ at in cc
+    go (inr (k, inl is)) = let bad : stage.Expel k ≡ stage.Expelled n = sym is ∙ at in cc
+    go (inr (k, inr is)) = let bad : stage.Release k ≡ stage.Expelled n = sym is ∙ at in cc
+unborne s (by.Misses k y) may n at = go may
+  where
+    go : (s ≡ stage.Drain k) ⊎ (((way' : Way) × (s ≡ stage.Move k way')) ⊎ ((p : ServerNo) × (s ≡ stage.Join k p))) → ⊥
+    go (inl is) = let bad : stage.Drain k ≡ stage.Expelled n = sym is ∙ at in cc
+    go (inr (inl is)) = let bad : stage.Move k is.0 ≡ stage.Expelled n = sym is.1 ∙ at in cc
+    go (inr (inr is)) = let bad : stage.Join k is.0 ≡ stage.Expelled n = sym is.1 ∙ at in cc
+unborne s (by.Lets k y) may n at = go may
+  where
+    go : ((way' : Way) × (s ≡ stage.Move k way') × (more_on way' ≡ 1)) ⊎ ((z : Bridge) × ((s ≡ stage.Look k z) ⊎ (s ≡ stage.Trail k z))) → ⊥
+    go (inl is) = let bad : stage.Move k is.0 ≡ stage.Expelled n = sym is.1 ∙ at in cc
+    go (inr (z, inl is)) = let bad : stage.Look k z ≡ stage.Expelled n = sym is ∙ at in cc
+    go (inr (z, inr is)) = let bad : stage.Trail k z ≡ stage.Expelled n = sym is ∙ at in cc
+unborne s (by.Restarts p q) may n at = let bad : stage.Level p q ≡ stage.Expelled n = sym may ∙ at in cc
+unborne s (by.Returns p q) may n at = let bad : stage.Swap p q ≡ stage.Expelled n = sym may ∙ at in cc
 
 moved-releases : (s : Stage) (n : ServerNo) → moved s ≡ stage.Release n → s ≡ stage.Release n
 moved-releases (stage.Release k) n h = h
@@ -161,6 +215,8 @@ module _ (w : World) (b : BookState) (now : Moment) (r : Recovery) (P : Fact →
     aim : y.purpose ≡ x.purpose
     replicas : y.replicas ≡ x.replicas
     lost : (n : ServerNo) → why_of y.outcome.lost n ≡ why_of x.outcome.lost n
+    marks : (n : ServerNo) → mark_of x.outcome.lost n ≡ Some true → mark_of y.outcome.lost n ≡ Some true
+    left : (n : ServerNo) → IsToDetach x.purpose (why_of x.outcome.lost n) → x.stage ≡ stage.Expelled n → IsMarkedSo y n
     chosen : y.chosen ≡ x.chosen
     sorting : Contains x.queue task.Sorting → Contains y.queue task.Sorting
     expelling : (n : ServerNo) → Contains x.queue (task.Expelling n) → IsDetachedSo P y n
@@ -171,21 +227,21 @@ module _ (w : World) (b : BookState) (now : Moment) (r : Recovery) (P : Fact →
   carried : (x y : Recovery) → Carries x y → Dealt x → Dealt y
   carried x y c h = record {
     detached = λ e n i d.
-        detach n
-        (h.detached (λ none. e (c.chosen ∙ none)) n (subst (λ (ns : List ServerNo). Contains ns n) c.replicas i)
-        (subst (λ (u : Purpose). IsToDetach u (why_of x.outcome.lost n)) c.aim (subst (λ (o : Option Why). IsToDetach y.purpose o) (c.lost n) d)));
+        let before = subst (λ (u : Purpose). IsToDetach u (why_of x.outcome.lost n)) c.aim (subst (λ (o : Option Why). IsToDetach y.purpose o) (c.lost n) d) in
+        detach n before (h.detached (λ none. e (c.chosen ∙ none)) n (subst (λ (ns : List ServerNo). Contains ns n) c.replicas i) before);
     released = λ e n i d.
         free n
         (h.released (λ none. e (c.chosen ∙ none)) n (subst (λ (ns : List ServerNo). Contains ns n) c.replicas i)
         (subst (λ (u : Purpose). IsToRelease u (why_of x.outcome.lost n)) c.aim (subst (λ (o : Option Why). IsToRelease y.purpose o) (c.lost n) d)));
   }
     where
-      detach : (n : ServerNo) → IsDetachedSo P x n → IsDetachedSo P y n
-      detach n (inl g) = inl g
-      detach n (inr (inl g)) = inr (inl g)
-      detach n (inr (inr (inl g))) = inr (inr (inl (c.sorting g)))
-      detach n (inr (inr (inr (inl g)))) = c.expelling n g
-      detach n (inr (inr (inr (inr g)))) = c.expel n g
+      detach : (n : ServerNo) → IsToDetach x.purpose (why_of x.outcome.lost n) → IsDetachedSo P x n → IsDetachedSo P y n
+      detach n d (inl (f, inl m)) = inl (f, inl (c.marks n m))
+      detach n d (inl (f, inr at)) = inl (f, c.left n d at)
+      detach n d (inr (inl g)) = inr (inl g)
+      detach n d (inr (inr (inl g))) = inr (inr (inl (c.sorting g)))
+      detach n d (inr (inr (inr (inl g)))) = c.expelling n g
+      detach n d (inr (inr (inr (inr g)))) = c.expel n g
 
       free : (n : ServerNo) → IsReleasedSo P x n → IsReleasedSo P y n
       free n (inl g) = inl g
@@ -224,6 +280,8 @@ module _ (w : World) (b : BookState) (now : Moment) (r : Recovery) (P : Fact →
         aim = aim;
         replicas = replicas;
         lost = λ n. ap (λ (xs : List LostReplica). why_of xs n) lost;
+        marks = λ n m. subst (λ (xs : List LostReplica). mark_of xs n ≡ Some true) (sym lost) m;
+        left = λ n d at. let bad : stage.Idle ≡ stage.Expelled n = sym idle ∙ at in cc;
         chosen = chosen;
         sorting = λ g. to task.Sorting (behind-it task.Sorting off g);
         expelling = λ n g. one n (split-first t ts (task.Expelling n) (subst (λ (us : List Task). Contains us (task.Expelling n)) next.queue g));
@@ -263,6 +321,8 @@ module _ (w : World) (b : BookState) (now : Moment) (r : Recovery) (P : Fact →
           aim = aim;
           replicas = replicas;
           lost = λ n. ap (λ (xs : List LostReplica). why_of xs n) lost;
+          marks = λ n m. subst (λ (xs : List LostReplica). mark_of xs n ≡ Some true) (sym lost) m;
+          left = λ n d at. let bad : stage.Idle ≡ stage.Expelled n = sym (way.rests none) ∙ at in cc;
           chosen = chosen;
           sorting = λ g. absurd (no-none task.Sorting (subst (λ (us : List Task). Contains us task.Sorting) over g));
           expelling = λ n g. absurd (no-none (task.Expelling n) (subst (λ (us : List Task). Contains us (task.Expelling n)) over g));
@@ -438,11 +498,12 @@ module _ (w : World) (b : BookState) (now : Moment) (r : Recovery) (P : Fact →
     moved-dealt t q = go q
       where
         detach : (n : ServerNo) → IsDetachedSo P x n → IsDetachedSo P (record later { stage = moved x.stage }) n
-        detach n (inl g) = inl g
+        detach n (inl (f, inl m)) = inl (f, inl m)
+        detach n (inl (f, inr at)) = let bad : o ∷ rest ≡ [] = t ∙ ap tail_of at in cc
         detach n (inr (inl g)) = inr (inl g)
         detach n (inr (inr (inl g))) = inr (inr (inl g))
         detach n (inr (inr (inr (inl g)))) = inr (inr (inr (inl g)))
-        detach n (inr (inr (inr (inr g)))) = inl (expelled-so w b now r P why' read x so o rest is fits ob es j goes care n g (same-head o (op.Detach n) rest [] (t ∙ ap tail_of g)))
+        detach n (inr (inr (inr (inr g)))) = inl (expelled-so w b now r P why' read x so o rest is fits ob es j goes care n g (same-head o (op.Detach n) rest [] (t ∙ ap tail_of g)), inr (ap moved g))
 
         free : (n : ServerNo) → IsReleasedSo P x n → IsReleasedSo P (record later { stage = moved x.stage }) n
         free n (inl g) = inl g
@@ -494,11 +555,14 @@ module _ (w : World) (b : BookState) (now : Moment) (r : Recovery) (P : Fact →
     unexpelled n at = let f = subst (λ (s : Stage). Fits s []) at (subst (λ (xs : List Op). Fits z.stage xs) none fits) in no-tail f.front _ _ f.is
 
     -- with the same lost ones
-    same-end : (y : Recovery) → y.purpose ≡ z.purpose → y.replicas ≡ z.replicas → ((n : ServerNo) → why_of y.outcome.lost n ≡ why_of z.outcome.lost n) → y.chosen ≡ z.chosen → y.queue ≡ z.queue → Dealt y
-    same-end y aim replicas lost chosen queue = carried z y (record {
+    same-end : (y : Recovery) → y.purpose ≡ z.purpose → y.replicas ≡ z.replicas → ((n : ServerNo) → why_of y.outcome.lost n ≡ why_of z.outcome.lost n) → ((n : ServerNo) → mark_of z.outcome.lost n ≡ Some true → mark_of y.outcome.lost n ≡ Some true)
+        → ((n : ServerNo) → IsToDetach z.purpose (why_of z.outcome.lost n) → z.stage ≡ stage.Expelled n → IsMarkedSo y n) → y.chosen ≡ z.chosen → y.queue ≡ z.queue → Dealt y
+    same-end y aim replicas lost marks left chosen queue = carried z y (record {
       aim = aim;
       replicas = replicas;
       lost = lost;
+      marks = marks;
+      left = left;
       chosen = chosen;
       sorting = λ g. subst (λ (us : List Task). Contains us task.Sorting) (sym queue) g;
       expelling = λ n g. inr (inr (inr (inl (subst (λ (us : List Task). Contains us (task.Expelling n)) (sym queue) g))));
@@ -528,11 +592,21 @@ module _ (w : World) (b : BookState) (now : Moment) (r : Recovery) (P : Fact →
         stage_in (stage.Release k) = k
         stage_in _ = n
     completes-dealt (by.Marks n) may =
-        calmly (ended_by z (by.Marks n)) refl (λ e. false≢true e) (λ q e. cc) (λ m e. cc) (same-end (ended_by z (by.Marks n)) refl refl (λ k. why-marked n z.outcome.lost k) refl refl)
+        calmly (ended_by z (by.Marks n)) refl (λ e. false≢true e) (λ q e. cc) (λ m e. cc)
+        (same-end (ended_by z (by.Marks n)) refl refl (λ k. why-marked n z.outcome.lost k) (λ k m. still-marked n z.outcome.lost k m) (λ k d at. inl (told-now k d at)) refl refl)
+      where
+        left_in : Stage → ServerNo
+        left_in (stage.Expelled k) = k
+        left_in _ = n
+
+        told-now : (k : ServerNo) → IsToDetach z.purpose (why_of z.outcome.lost k) → z.stage ≡ stage.Expelled k → mark_of (map (marked n) z.outcome.lost) k ≡ Some true
+        told-now k d at =
+            subst (λ (i : ServerNo). mark_of (map (marked i) z.outcome.lost) k ≡ Some true) (ap left_in (sym at ∙ may))
+            (marked-now k z.outcome.lost (detach-lost z.purpose (why_of z.outcome.lost k) d))
     completes-dealt (by.Trails n x) may =
-        calmly (ended_by z (by.Trails n x)) refl (λ e. false≢true e) (λ q e. h.led x (ap lead_of may.0)) (λ m e. cc) (same-end (ended_by z (by.Trails n x)) refl refl (λ k. refl) refl refl)
+        calmly (ended_by z (by.Trails n x)) refl (λ e. false≢true e) (λ q e. h.led x (ap lead_of may.0)) (λ m e. cc) (same-end (ended_by z (by.Trails n x)) refl refl (λ k. refl) (λ k m. m) (λ k d at. absurd (unmarked z (by.Trails n x) may refl k at)) refl refl)
     completes-dealt (by.Joins n x) may =
-        let dealt = same-end (ended_by z (by.Joins n x)) refl refl (λ k. refl) refl refl in
+        let dealt = same-end (ended_by z (by.Joins n x)) refl refl (λ k. refl) (λ k m. m) (λ k d at. absurd (unmarked z (by.Joins n x) may refl k at)) refl refl in
         let over = h.led x (ap lead_of may.0) in
         record {
           sorted = h.sorted;
@@ -542,8 +616,8 @@ module _ (w : World) (b : BookState) (now : Moment) (r : Recovery) (P : Fact →
           detached = dealt.detached;
           released = dealt.released;
         }
-    completes-dealt by.Rests may = calmly (ended_by z by.Rests) refl (λ e. false≢true e) (λ q e. cc) (λ m e. cc) (same-end (ended_by z by.Rests) refl refl (λ k. refl) refl refl)
-    completes-dealt e may = calmly (ended_by z e) refl (λ g. false≢true g) (λ q g. cc) (λ m g. cc) (same-end (ended_by z e) refl refl (λ k. refl) refl refl)
+    completes-dealt by.Rests may = calmly (ended_by z by.Rests) refl (λ e. false≢true e) (λ q e. cc) (λ m e. cc) (same-end (ended_by z by.Rests) refl refl (λ k. refl) (λ k m. m) (λ k d at. absurd (unmarked z by.Rests may refl k at)) refl refl)
+    completes-dealt e may = calmly (ended_by z e) refl (λ g. false≢true g) (λ q g. cc) (λ m g. cc) (same-end (ended_by z e) refl refl (λ k. refl) (λ k m. m) (λ k d at. absurd (unmarked z e may refl k at)) refl refl)
 
   -- ---- a failing operation
 
@@ -568,11 +642,13 @@ module _ (w : World) (b : BookState) (now : Moment) (r : Recovery) (P : Fact →
         go (inl e) = why' x (IsPassed n) so (Passes (inr at) (unreached n (op.Start n) (same-head o (op.Start n) rest [] (sym is ∙ e)) refl tt))
         go (inr e) = let bad : o ∷ rest ≡ [] = sym is ∙ e in cc
 
-    same-borne : (y : Recovery) → y.purpose ≡ x.purpose → y.replicas ≡ x.replicas → y.outcome.lost ≡ x.outcome.lost → y.chosen ≡ x.chosen → y.queue ≡ x.queue → Dealt y
-    same-borne y aim replicas lost chosen queue = carried x y (record {
+    same-borne : (y : Recovery) → y.purpose ≡ x.purpose → y.replicas ≡ x.replicas → y.outcome.lost ≡ x.outcome.lost → ((n : ServerNo) → x.stage ≡ stage.Expelled n → ⊥) → y.chosen ≡ x.chosen → y.queue ≡ x.queue → Dealt y
+    same-borne y aim replicas lost left chosen queue = carried x y (record {
       aim = aim;
       replicas = replicas;
       lost = λ n. ap (λ (xs : List LostReplica). why_of xs n) lost;
+      marks = λ n m. subst (λ (xs : List LostReplica). mark_of xs n ≡ Some true) (sym lost) m;
+      left = λ n d at. absurd (left n at);
       chosen = chosen;
       sorting = λ g. subst (λ (us : List Task). Contains us task.Sorting) (sym queue) g;
       expelling = λ n g. inr (inr (inr (inl (subst (λ (us : List Task). Contains us (task.Expelling n)) (sym queue) g))));
@@ -598,7 +674,7 @@ module _ (w : World) (b : BookState) (now : Moment) (r : Recovery) (P : Fact →
 
     borne-dealt : (e : Bearing) → MayBear x.stage e → AreDealtWith P (borne x (fate_of e))
     borne-dealt by.Drops may =
-        calm-borne (borne x (fate_of by.Drops)) refl (λ e. false≢true e) (λ q e. cc) (λ m e. cc) (same-borne (borne x (fate_of by.Drops)) refl refl refl refl refl)
+        calm-borne (borne x (fate_of by.Drops)) refl (λ e. false≢true e) (λ q e. cc) (λ m e. cc) (same-borne (borne x (fate_of by.Drops)) refl refl refl (unborne x.stage by.Drops may) refl refl)
     borne-dealt (by.Misses n y) may = calm-borne (borne x (fate_of (by.Misses n y))) refl (λ e. false≢true e) (λ q e. cc) (λ m e. cc) (go may)
       where
         go : (x.stage ≡ stage.Drain n) ⊎ (((by' : Way) × (x.stage ≡ stage.Move n by')) ⊎ ((p : ServerNo) × (x.stage ≡ stage.Join n p))) → Dealt (borne x (fate_of (by.Misses n y)))
@@ -612,9 +688,9 @@ module _ (w : World) (b : BookState) (now : Moment) (r : Recovery) (P : Fact →
         go (inr (q, inl at)) = in-takeover (borne x (fate_of (by.Lets n y))) (h.led q (ap lead_of at))
         go (inr (q, inr at)) = in-takeover (borne x (fate_of (by.Lets n y))) (h.led q (ap lead_of at))
     borne-dealt (by.Restarts p q) may =
-        calm-borne (borne x (fate_of (by.Restarts p q))) refl (λ e. false≢true e) (λ y e. cc) (λ m e. inl (released-at q m e)) (same-borne (borne x (fate_of (by.Restarts p q))) refl refl refl refl refl)
+        calm-borne (borne x (fate_of (by.Restarts p q))) refl (λ e. false≢true e) (λ y e. cc) (λ m e. inl (released-at q m e)) (same-borne (borne x (fate_of (by.Restarts p q))) refl refl refl (unborne x.stage (by.Restarts p q) may) refl refl)
     borne-dealt (by.Returns p q) may =
-        calm-borne (borne x (fate_of (by.Returns p q))) refl (λ e. false≢true e) (λ y e. cc) (λ m e. cc) (same-borne (borne x (fate_of (by.Returns p q))) refl refl refl refl refl)
+        calm-borne (borne x (fate_of (by.Returns p q))) refl (λ e. false≢true e) (λ y e. cc) (λ m e. cc) (same-borne (borne x (fate_of (by.Returns p q))) refl refl refl (unborne x.stage (by.Returns p q) may) refl refl)
 
   -- ---- a turn
 

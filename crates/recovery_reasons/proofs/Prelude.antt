@@ -113,16 +113,16 @@ pub use Rattle.recovery_reasons.specs.Prelude.{spot_by, spot_seen, stopped_at}
 pub use Rattle.recovery_reasons.specs.Reasons.{AimsAt, AllDrained, AllLost, AreDealtWith, AreSent, AreSorted, BelowSuccessor, Betters, Chooses}
 pub use Rattle.recovery_reasons.specs.Reasons.{Drains, Expels, ExplainsTruly, Fact, GivesUp, GoesBy, HasNoBetter, HasNotFailed, IsAsked, IsBefallen}
 pub use Rattle.recovery_reasons.specs.Reasons.{IsBetter, IsCaredFor, IsChosen, IsDetachedSo, IsDrained, IsDue, IsExpelled, IsExplained, IsGivenUp}
-pub use Rattle.recovery_reasons.specs.Reasons.{IsLed, IsLost, IsOutSo, IsPassed, IsPromoted, IsRefusedOn, IsReleased, IsReleasedSo, IsSeenSo, IsSent}
+pub use Rattle.recovery_reasons.specs.Reasons.{IsLed, IsLost, IsMarkedSo, IsOutSo, IsPassed, IsPromoted, IsRefusedOn, IsReleased, IsReleasedSo, IsSeenSo, IsSent}
 pub use Rattle.recovery_reasons.specs.Reasons.{IsSentSo, IsShown, IsStarted, IsSwapped, IsSwitched, IsToDetach, IsToRelease, IsToStart, IsTrailing}
 pub use Rattle.recovery_reasons.specs.Reasons.{IsUp, Leads, Loses, Passes, Reads, Reason, Releases, Remains, SendsBelow, SendsBeside, SendsThere}
 pub use Rattle.recovery_reasons.specs.Reasons.{ShowsWay, Speaks, SpeaksWith, Starts, Switches, WaitsFor, WasCrowned, WasLooked, is_settling, lead_of}
-pub use Rattle.recovery_reasons.specs.Reasons.{leads_on, speaks_of}
+pub use Rattle.recovery_reasons.specs.Reasons.{leads_on, mark_of, speaks_of}
 pub use Rattle.recovery_reasons.specs.Steps.{AreFirst, AreLeft, IsRest, are_calm, draining, gathering, leveling, trailing, waits}
 pub use Rattle.recovery_reasons.specs.Undoing.{GoesBack, IsOpen, KeepsHands, MakesGood, OpensAgain, StartsHands, closed_at}
 pub use Rattle.recovery_reasons.specs.Undoing as good
 pub use Rattle.recovery_reasons.specs.Waiting.{BeginsWhole, HasCome, HasSettled, IsDueWait, IsFreedNow, IsGivenUpNow, IsLeftNow, IsNextStage}
-pub use Rattle.recovery_reasons.specs.Waiting.{IsOneMoreWait, IsWaitOver, ReadsOthers, WaitsItsTurns, WaitsUntil, end_seen, exec_seen}
+pub use Rattle.recovery_reasons.specs.Waiting.{IsOneMoreWait, IsWaitOver, LosesItsWait, ReadsOthers, WaitsItsTurns, WaitsUntil, end_seen, exec_seen}
 pub use Rattle.recovery_reasons.specs.Waiting as waiting
 pub use Rattle.recovery_reasons.specs.Ways.{IsWayBelow, IsWayBeside}
 pub use Rattle.recovery_reasons.specs.Ways as ways

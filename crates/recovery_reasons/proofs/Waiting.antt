@@ -1,7 +1,7 @@
 -- A turn whose operation waits is one more wait, or its end, by the status of that turn.
 use Rattle.std.proofs.Common.{◌≡◌, ℕ, ◌+◌, ◌<◌, ◌≤◌, Bool, true, false, cond, not, ◌||◌, ◌&&◌, List, [], ◌∷◌, ◌++◌, refl, sym, ◌∙◌, ap, subst, Option, Some, None, inl, inr, ◌⊎◌, arith, nat_lt, ◌==◌}
 use Rattle.recovery_reasons.proofs.Prelude.{AreLeft, Attempt, Attempts, BookState, Bridge, Cause, Coord, Deed, EndOf, Exchange, ExecOf, Fate, HasCome}
-use Rattle.recovery_reasons.proofs.Prelude.{HasSettled, IsDueWait, IsFreedNow, IsGivenUpNow, IsOneMoreWait, IsRest, IsWaitOver, Job, Moment}
+use Rattle.recovery_reasons.proofs.Prelude.{HasSettled, IsDueWait, IsFreedNow, IsGivenUpNow, IsLeftNow, IsOneMoreWait, IsRest, IsWaitOver, Job, LosesItsWait, Moment}
 use Rattle.recovery_reasons.proofs.Prelude.{Observation, Op, Recovery, ServerNo, Speaks, Stage, Status, Taken, WaitsItsTurns, WaitsUntil, World}
 use Rattle.recovery_reasons.proofs.Prelude.{acted, after_wait, after_wait_by, and_parts, are_calm, at-end, at_end, attempted, attempts, barred_by}
 use Rattle.recovery_reasons.proofs.Prelude.{by_deed, decided, decided-walks, decisions-keep, deed_of, draining, end_seen, ended_by, ends, entered}
@@ -157,6 +157,10 @@ module _ (w : World) (read : ℕ) (now : Moment) (x : Recovery) (n : ServerNo) (
   abbrev choice : Status → Bool → Attempt
   choice seen a = cond a (attempt.Goes None [] (record (saw due.core n seen) { waited = due.core.waited + 1 })) (attempt.Stops (cause.WaitSpent n) None)
 
+  -- its server isn't reached
+  misses : (t : Status → Bool) → by_deed w read now due.core (op.Stop n ∷ more) (deed_of o) ≡ waited_by t → seen_in (status w n.0) ≡ None → comes (attempt.Stops (cause.Unreachable n) None) ≡ settled_turn w read now due
+  misses t is gone = ap comes (sym (is ∙ ap (after_wait due.core (op.Stop n ∷ more) n t) gone))
+
   -- a wait by this test, by this status
   module _ (t : Status → Bool) (seen : Status) (is : by_deed w read now due.core (op.Stop n ∷ more) (deed_of o) ≡ waited_by t) (shown : seen_in (status w n.0) ≡ Some seen) where
     known : by_deed w read now due.core (op.Stop n ∷ more) (deed_of o) ≡ after_wait_by due.core (op.Stop n ∷ more) n seen (t seen)
@@ -245,6 +249,34 @@ module _ (w : World) (read : ℕ) (now : Moment) (x : Recovery) where
     where
       test : Status → Bool
       test s = is_reached (end_seen x m) s.exec
+
+module _ (w : World) (read : ℕ) (now : Moment) (x : Recovery) where
+  drain-away : (n : ServerNo) (more : List Op) → x.stage ≡ stage.Drain n → x.core.ops ≡ op.Settle n ∷ op.Stop n ∷ more → seen_in (status w n.0) ≡ None
+      → IsLeftNow x n lost.unreachable (turn w read now x x)
+  drain-away n more at is gone =
+      subst (λ (z : Recovery). IsLeftNow z n lost.unreachable (turn w read now x z)) (sym (as-due w read now x (stage.Drain n) (op.Settle n ∷ op.Stop n ∷ more) at is))
+      (subst (λ (t : Taken). IsLeftNow (due w read now x n (op.Settle n) more (stage.Drain n) refl refl) n lost.unreachable t)
+      (misses w read now x n (op.Settle n) more (stage.Drain n) refl refl (settles x.core) refl gone) (record { going = refl; made = refl; lost = refl; next = (refl, refl) }))
+
+  trail-away : (n : ServerNo) (y : Bridge) (more : List Op) → x.stage ≡ stage.Trail n y → x.core.ops ≡ op.Await n (ExecOf y.no) ∷ op.Stop n ∷ more → seen_in (status w n.0) ≡ None
+      → IsFreedNow x n lost.unreachable (turn w read now x x)
+  trail-away n y more at is gone =
+      subst (λ (z : Recovery). IsFreedNow z n lost.unreachable (turn w read now x z)) (sym (as-due w read now x (stage.Trail n y) (op.Await n (ExecOf y.no) ∷ op.Stop n ∷ more) at is))
+      (subst (λ (t : Taken). IsFreedNow (due w read now x n (op.Await n (ExecOf y.no)) more (stage.Trail n y) refl refl) n lost.unreachable t)
+      (misses w read now x n (op.Await n (ExecOf y.no)) more (stage.Trail n y) refl refl (λ s. is_reached (exec_seen x y.no) s.exec) refl gone) (record { going = refl; made = refl; lost = refl; next = (refl, refl) }))
+
+  level-away : (p q : ServerNo) (more : List Op) → x.stage ≡ stage.Level p q → x.core.ops ≡ op.Await q (EndOf p) ∷ op.Stop q ∷ more → seen_in (status w q.0) ≡ None
+      → IsGivenUpNow x q (turn w read now x x)
+  level-away p q more at is gone =
+      subst (λ (z : Recovery). IsGivenUpNow z q (turn w read now x z)) (sym (as-due w read now x (stage.Level p q) (op.Await q (EndOf p) ∷ op.Stop q ∷ more) at is))
+      (subst (λ (t : Taken). IsGivenUpNow (due w read now x q (op.Await q (EndOf p)) more (stage.Level p q) refl refl) q t)
+      (misses w read now x q (op.Await q (EndOf p)) more (stage.Level p q) refl refl (λ s. is_reached (end_seen x p) s.exec) refl gone) (record { going = refl; made = refl; next = (refl, refl); outcome = refl }))
+
+  gather-away : (m k : ServerNo) (more : List Op) → x.stage ≡ stage.Gather m k → x.core.ops ≡ op.Await k (EndOf m) ∷ op.Stop k ∷ more → seen_in (status w k.0) ≡ None
+      → (turn w read now x x).step ≡ step.Failed (cause.Unreachable k) []
+  gather-away m k more at is gone =
+      subst (λ (z : Recovery). (turn w read now x z).step ≡ step.Failed (cause.Unreachable k) []) (sym (as-due w read now x (stage.Gather m k) (op.Await k (EndOf m) ∷ op.Stop k ∷ more) at is))
+      (ap (λ (t : Taken). t.step) (sym (misses w read now x k (op.Await k (EndOf m)) more (stage.Gather m k) refl refl (λ s. is_reached (end_seen x m) s.exec) refl gone)))
 
 -- ---- the count of waits
 
@@ -358,6 +390,14 @@ module _ (w : World) (b : BookState) (read : ℕ) (now : Moment) (r : Recovery) 
   stop-next s o rest at is on =
       let h = stop-behind s o rest (subst (λ (k : Stage). IsDueWait k o rest) at (only-so o rest is on)) in (h.0, is ∙ ap (λ (xs : List Op). o ∷ xs) h.1)
 
+  turn-away : LosesItsWait w so (taken w b read now r)
+  turn-away = record {
+    drains = λ n rest at is gone. let h = stop-next (stage.Drain n) (op.Settle n) rest at is refl in drain-away w read now so n h.0 at h.1 gone;
+    trails = λ n x rest at is gone. let h = stop-next (stage.Trail n x) (op.Await n (ExecOf x.no)) rest at is refl in trail-away w read now so n x h.0 at h.1 gone;
+    levels = λ p q rest at is gone. let h = stop-next (stage.Level p q) (op.Await q (EndOf p)) rest at is refl in level-away w read now so p q h.0 at h.1 gone;
+    gathers = λ m k rest at is gone. let h = stop-next (stage.Gather m k) (op.Await k (EndOf m)) rest at is refl in gather-away w read now so m k h.0 at h.1 gone;
+  }
+
   pub turn-waits : WaitsItsTurns w so (taken w b read now r)
   turn-waits = record {
     only = only-so;
@@ -365,6 +405,7 @@ module _ (w : World) (b : BookState) (read : ℕ) (now : Moment) (r : Recovery) 
     trails = λ n x rest s at is shown. let h = stop-next (stage.Trail n x) (op.Await n (ExecOf x.no)) rest at is refl in trails-so w read now so n x h.0 s at h.1 shown;
     levels = λ p q rest s at is shown. let h = stop-next (stage.Level p q) (op.Await q (EndOf p)) rest at is refl in levels-so w read now so p q h.0 s at h.1 shown;
     gathers = λ m k rest s at is shown. let h = stop-next (stage.Gather m k) (op.Await k (EndOf m)) rest at is refl in gathers-so w read now so m k h.0 s at h.1 shown;
+    away = turn-away;
     reads = reads-others w read now so;
     fresh = (counts-turn w read now so).fresh;
     wait = (counts-turn w read now so).wait;

@@ -1,5 +1,5 @@
 -- Why a replica is lost.
-use Rattle.std.specs.Prelude.{◌≡◌, ℕ, Bool, true, false, List, [], ◌∷◌, ◌++◌, Option, Some, None, Ok, Err, All, option_map, ◌⊎◌, filter, map}
+use Rattle.std.specs.Prelude.{◌≡◌, ℕ, Bool, true, false, ◌==◌, List, [], ◌∷◌, ◌++◌, Option, Some, None, Ok, Err, All, option_map, ◌⊎◌, filter, find, map}
 use Rattle.recovery_reasons.specs.Prelude.{Attach, AttachAuto, Attached, AttachFault, BookState, Bridge, Cause, Contains, Coord, Decisions, Deed, ExecOf}
 use Rattle.recovery_reasons.specs.Prelude.{HasExecutedMost, Interval, IsChoice, IsNext, IsOver, Job, LostReplica, MatchFault, Miss, Missed, Moment}
 use Rattle.recovery_reasons.specs.Prelude.{Observation, Op, Position, Purpose, Recovery, ServerNo, Sight, Spot, Stage, Status, Stopped, Stops, Task}
@@ -442,10 +442,18 @@ abbrev pub AreSorted : List Task → Type 0
 AreSorted [] = Unit {0}
 AreSorted (t ∷ ts) = (leads_on t ≡ true → Contains ts task.Sorting) × AreSorted ts
 
--- a lost one was detached, or wasn't reached then, or is still to be
+-- whether it is marked as detached, if it is lost
+abbrev pub mark_of : List LostReplica → ServerNo → Option Bool
+mark_of xs n = option_map (λ l. l.detached) (find (λ l. l.no.0 == n.0) xs)
+
+-- a lost one is marked as detached, or will be at the end of this stage
+abbrev pub IsMarkedSo : Recovery → ServerNo → Type 0
+IsMarkedSo r n = (mark_of r.outcome.lost n ≡ Some true) ⊎ (r.stage ≡ stage.Expelled n)
+
+-- a lost one was detached and is marked so, or wasn't reached then, or is still to be
 abbrev pub IsDetachedSo : (Fact → Bool) → Recovery → ServerNo → Type 0
 IsDetachedSo P r n =
-    (P (IsExpelled n) ≡ true)
+    ((P (IsExpelled n) ≡ true) × IsMarkedSo r n)
     ⊎ ((P (IsPassed n) ≡ true) ⊎ (Contains r.queue task.Sorting ⊎ (Contains r.queue (task.Expelling n) ⊎ (r.stage ≡ stage.Expel n))))
 
 -- a lost one was started, or wasn't reached then, or is still to be

@@ -111,13 +111,26 @@ pub record ReadsOthers (w : World) (d : Recovery) (t : Taken) : Type 0 where
   pub away : (n : ServerNo) (x : Bridge) → (d.stage ≡ stage.Look n x) ⊎ (d.stage ≡ stage.Trail n x) → d.core.ops ≡ op.Status n None ∷ [] → seen_in (status w n.0) ≡ None
       → IsFreedNow d n lost.unreachable t
 
+-- The turn of a wait whose server isn't reached. A replica that is drained is lost. One that comes to the position at
+-- which the designated one stopped is lost, and started next. The better one is given up. A takeover whose designated
+-- one isn't reached fails.
+pub record LosesItsWait (w : World) (d : Recovery) (t : Taken) : Type 0 where
+  pub drains : (n : ServerNo) (rest : List Op) → d.stage ≡ stage.Drain n → d.core.ops ≡ op.Settle n ∷ rest → seen_in (status w n.0) ≡ None
+      → IsLeftNow d n lost.unreachable t
+  pub trails : (n : ServerNo) (x : Bridge) (rest : List Op) → d.stage ≡ stage.Trail n x → d.core.ops ≡ op.Await n (ExecOf x.no) ∷ rest
+      → seen_in (status w n.0) ≡ None → IsFreedNow d n lost.unreachable t
+  pub levels : (p q : ServerNo) (rest : List Op) → d.stage ≡ stage.Level p q → d.core.ops ≡ op.Await q (EndOf p) ∷ rest
+      → seen_in (status w q.0) ≡ None → IsGivenUpNow d q t
+  pub gathers : (m k : ServerNo) (rest : List Op) → d.stage ≡ stage.Gather m k → d.core.ops ≡ op.Await k (EndOf m) ∷ rest
+      → seen_in (status w k.0) ≡ None → t.step ≡ step.Failed (cause.Unreachable k) []
+
 -- The turn of a recovery as it was decided so far. Each wait goes by the status of that turn:
 -- - a drained replica executes what it fetched; the last wait ends this, too;
 -- - one comes to the position at which the designated one stopped, or is lost as `behind` at its own;
 -- - the better one comes to the end of the chosen one's log, or is given up;
 -- - the designated one comes to the end of its master's log, or the recovery fails.
--- No other operation waits. A takeover's other replicas go on by their readings. The count of waits begins again with
--- each operation, and how many there are stays.
+-- No other operation waits. One whose server isn't reached is over in that turn, too. A takeover's other replicas go
+-- on by their readings. The count of waits begins again with each operation, and how many there are stays.
 pub record WaitsItsTurns (w : World) (d : Recovery) (t : Taken) : Type 0 where
   pub only : (o : Op) (rest : List Op) → d.core.ops ≡ o ∷ rest → waits (deed_of o) ≡ true → IsDueWait d.stage o rest
   pub drains : (n : ServerNo) (rest : List Op) (s : Status) → d.stage ≡ stage.Drain n → d.core.ops ≡ op.Settle n ∷ rest → seen_in (status w n.0) ≡ Some s
@@ -128,6 +141,7 @@ pub record WaitsItsTurns (w : World) (d : Recovery) (t : Taken) : Type 0 where
       → seen_in (status w q.0) ≡ Some s → WaitsUntil d q (HasCome (end_seen d p) s.exec) (IsGivenUpNow d q t) t
   pub gathers : (m k : ServerNo) (rest : List Op) (s : Status) → d.stage ≡ stage.Gather m k → d.core.ops ≡ op.Await k (EndOf m) ∷ rest
       → seen_in (status w k.0) ≡ Some s → WaitsUntil d k (HasCome (end_seen d m) s.exec) (t.step ≡ step.Failed (cause.WaitSpent k) []) t
+  pub away : LosesItsWait w d t
   pub reads : ReadsOthers w d t
   pub fresh : t.step ≡ step.Going → (t.recovery.core.waited ≡ 0) ⊎ IsOneMoreWait d t
   pub wait : t.step ≡ step.Going → t.recovery.core.wait ≡ d.core.wait

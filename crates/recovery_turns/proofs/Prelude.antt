@@ -1,10 +1,9 @@
 -- What its proofs cite of others.
-pub use Rattle.std.proofs.Math.Numerals.{add-one}
 pub use Rattle.std.proofs.Math.Seq.{take-append_seam}
 pub use Rattle.std.proofs.lemmas.Bool.{eq-eqb, false≢true, lt-ltb, ne_eqb}
 pub use Rattle.std.proofs.lemmas.Fn.{filter_same}
-pub use Rattle.std.proofs.lemmas.List.{append_assoc, drop-drop, drop_all, length-map, map-append, take_more}
-pub use Rattle.std.proofs.lemmas.List.Elements.{All-head, All-tail, filter_map-append, filter_more}
+pub use Rattle.std.proofs.lemmas.List.{append_assoc, drop-drop, drop_all, length-map, map-append}
+pub use Rattle.std.proofs.lemmas.List.Elements.{All-head, All-tail, filter_more}
 pub use Rattle.std.proofs.lemmas.List.Folds.{find-append}
 pub use Rattle.std.proofs.lemmas.Result.{IfOk-weaker, on_ok_weaker}
 pub use Rattle.std.specs.List.{All, remove}

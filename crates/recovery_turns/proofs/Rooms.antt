@@ -1,17 +1,10 @@
 -- How long the lists of a recovery are after single changes.
-use Rattle.std.proofs.Common.{◌≡◌, ◌+◌, ◌-◌, ◌<◌, ◌≤◌, Bool, true, false, cond, List, [], ◌∷◌, ◌++◌, drop, length, length-append, length-drop, Option, Some, None, refl, arith, filter}
+use Rattle.std.proofs.Common.{◌≡◌, ◌+◌, ◌-◌, ◌<◌, ◌≤◌, Bool, true, false, List, [], ◌∷◌, ◌++◌, drop, length, length-append, length-drop, Option, Some, None, arith}
 use Rattle.recovery_turns.proofs.Prelude.{Act, Decided, Fits, IsRoomy, Job, Position, Recovery, ServerNo, Sight, Work, decided_on, follows_no_more}
 use Rattle.recovery_turns.proofs.Prelude.{job_after, leaver, moved, option_to_list, others, room_for, seen_after, settled_on, sights_of, stepped_by}
 use Rattle.recovery_turns.proofs.Prelude.{with_seen, without_follower, working_on}
 use Rattle.recovery_turns.proofs.Prelude.act
-
-pub filter_short : {X : Type 0} (p : X → Bool) (xs : List X) → length (filter p xs) ≤ length xs
-filter_short p [] = omega arith
-filter_short p (x ∷ xs) = go (p x) refl (filter_short p xs)
-  where
-    go : (b : Bool) → p x ≡ b → length (filter p xs) ≤ length xs → length (cond b (x ∷ filter p xs) (filter p xs)) ≤ length (x ∷ xs)
-    go true e h = omega (arith, h)
-    go false e h = omega (arith, h)
+use Rattle.recovery_plans.proofs.OrchBase.Lists.{filter-shorter as filter_short}
 
 pub seen_short : (xs : List Sight) (n : ServerNo) (s : Position) → length (with_seen xs n s) ≤ length xs + 1
 seen_short xs n s =

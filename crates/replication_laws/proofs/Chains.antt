@@ -1,8 +1,9 @@
 -- Chains of sources: their ends, and when one comes to a server.
 use Rattle.std.proofs.Common.{◌≡◌, ℕ, ◌<◌, ◌≤◌, true, false, List, [], ◌∷◌, length, refl, sym, ◌∙◌, ap, subst, inl, inr, Option, Some, None, arith, zero, suc, ◌||◌, eqb, ◌==◌}
-use Rattle.replication_laws.proofs.Prelude.{AllByRecursion, Grounded, Here, IsDistinct, Placed, Reaches, Root, Server, Under, Up, World, cases_eq}
+use Rattle.replication_laws.proofs.Prelude.{Grounded, Here, IsDistinct, Placed, Reaches, Root, Server, Under, Up, World, cases_eq}
 use Rattle.replication_laws.proofs.Prelude.{chain_meets, chain_on, eq-eqb, eqb-false, eqb-true, length-le_from_distinct_below, list_any, ne_eqb}
 use Rattle.replication_laws.proofs.Prelude.{not_self, or_cases, or_parts, or_right, same_Some, server_at, slice_get_within, source_of, sources}
+use Rattle.server_words.proofs.OrchBase.Lists.{all-apart}
 
 -- the chains if one server lost its source
 pub Grounded-cut : (up up' : ℕ → Option ℕ) (n : ℕ) → up' n ≡ None → ((x : ℕ) → (x ≡ n → ⊥) → up' x ≡ up x) → (x : ℕ) → Grounded up x → Grounded up' x
@@ -61,11 +62,6 @@ chain-reaches up x q (Under x' m e g) h =
       | inl same ↦ subst (λ (y : ℕ). Reaches up q y) (eqb-true q x same) Here
       | inr more ↦ Up x m e (chain-reaches up m q g more)
     ]
-
-all-apart : (x : ℕ) (xs : List ℕ) → ((q : ℕ) → list_any (eqb q) xs ≡ true → eqb x q ≡ false) → AllByRecursion (λ y. eqb x y ≡ false) xs
-all-apart x [] apart = tt
-all-apart x (y ∷ ys) apart =
-    (apart y (ap (λ b. b || list_any (eqb y) ys) (eq-eqb y y refl)), all-apart x ys (λ q h. apart q (or_right (eqb q y) (list_any (eqb q) ys) h)))
 
 chain-distinct : (up : ℕ → Option ℕ) (x : ℕ) (g : Grounded up x) → IsDistinct eqb (chain up x g)
 unfolding chain IsDistinct

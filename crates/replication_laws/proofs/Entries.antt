@@ -10,8 +10,9 @@ use Rattle.replication_laws.proofs.Prelude.{slice_get-snoc_cases, slice_get-take
 use Rattle.replication_laws.proofs.Prelude.{touches, uuids}
 use Rattle.replication_laws.proofs.Prelude.Places.{Flushed, Opened}
 use Rattle.replication_laws.proofs.Prelude.next
-use Rattle.std.proofs.Common.{◌≡◌, ℕ, ◌+◌, ◌<◌, ◌≤◌, Bool, true, false, not, cond, List, [], ◌∷◌, get_or, length, take, zero, suc, refl, sym, ◌∙◌, ap, subst, inl, inr, Option, Some, None, arith, ◌&&◌, ◌||◌, Result, Ok, Err, IsSomeAnd, count_by, nat_lt, nat_le, ◌==◌, option_map, slice_get}
+use Rattle.std.proofs.Common.{◌≡◌, ℕ, ◌+◌, ◌<◌, ◌≤◌, Bool, true, false, not, cond, List, [], ◌∷◌, get_or, length, take, suc, refl, sym, ◌∙◌, ap, subst, inl, inr, Option, Some, None, arith, ◌&&◌, ◌||◌, Result, Ok, Err, IsSomeAnd, count_by, nat_lt, nat_le, ◌==◌, option_map, slice_get}
 use Rattle.replication_laws.proofs.Logs.{LaysOut-Grown, LaysOut-length}
+use Rattle.server_words.proofs.OrchBase.Lists.{slice_get-there as entry-there}
 
 -- each transaction begins after the header of its file
 starts-past : (log : Log) → Laid log → (i : ℕ) (t : Entry) → slice_get log.entries i ≡ Some t → 4 ≤ t.start
@@ -65,11 +66,6 @@ module _ (s : Server) (g : Laid s.log.log) (low : 1 ≤ s.first) (high : s.first
       place-monotone s.log.log (file_start s.first) (start_coord e) (purged_len s) k before (purged-place s low high) begins
 
 -- what is read of a log
-
-entry-there : {X : Type 0} (xs : List X) (k : ℕ) → k < length xs → (e : X) × (slice_get xs k ≡ Some e)
-entry-there [] k h = absurd (omega arith)
-entry-there (x ∷ xs) zero h = (x, refl)
-entry-there (x ∷ xs) (suc k) h = entry-there xs k (omega arith)
 
 module _ (w : World) (n : ℕ) (s : Server) (placed : Placed w) (at : server_at w n ≡ Some s) where
   laid-log : s.settings.logs ≡ true → Laid s.log.log

@@ -1,18 +1,13 @@
-use Rattle.std.proofs.Common.{◌≡◌, ℕ, ◌+◌, ◌<◌, ◌≤◌, Bool, true, false, cond, List, [], ◌∷◌, ◌++◌, length, refl, sym, ◌∙◌, ap, subst, inl, inr, ◌⊎◌, Some, arith, length-append, zero, suc, ◌||◌, take, slice_get, ◌==◌}
+use Rattle.std.proofs.Common.{◌≡◌, ℕ, ◌+◌, ◌<◌, ◌≤◌, Bool, true, false, cond, List, [], ◌∷◌, ◌++◌, length, refl, sym, ◌∙◌, ap, subst, inl, inr, ◌⊎◌, Some, arith, length-append, suc, ◌||◌, take, slice_get, ◌==◌}
 use Rattle.replication_laws.proofs.Prelude.{IsKin, Txn, cases_eq, count_own, count_own-push, eq-eqb, length-take-le, nat_tests, own_txn, same_txn}
 use Rattle.replication_laws.proofs.Prelude.{slice_get-snoc_cases, slice_get_within, sum_by-take-le, take-append-le, take-append_seam, take-length}
 use Rattle.replication_laws.proofs.Prelude.{take-more}
 use Rattle.replication_laws.proofs.Prelude.Histories.{holds}
+pub use Rattle.server_words.proofs.OrchBase.Lists.{slice_get-snoc_old}
 
 -- one or nothing
 abbrev pub tick : Bool → ℕ
 tick b = cond b 1 0
-
--- an element of a list with one more at its end
-pub slice_get-snoc_old : {X : Type 0} (xs : List X) (y x : X) (i : ℕ) → slice_get xs i ≡ Some x → slice_get (xs ++ y ∷ []) i ≡ Some x
-slice_get-snoc_old [] y x i h = cc
-slice_get-snoc_old (z ∷ xs) y x zero h = h
-slice_get-snoc_old (z ∷ xs) y x (suc i) h = slice_get-snoc_old xs y x i h
 
 pub slice_get-snoc_new : {X : Type 0} (xs : List X) (y : X) → slice_get (xs ++ y ∷ []) (length xs) ≡ Some y
 slice_get-snoc_new [] y = refl

@@ -8,7 +8,7 @@ pub use Rattle.std.proofs.lemmas.List.Folds.{list_any-append, list_any_at}
 pub use Rattle.std.proofs.lemmas.List.Sums.{sum_by-cons, sum_by-take-le}
 pub use Rattle.std.proofs.lemmas.Map.Steps.{length-le_from_distinct_below}
 pub use Rattle.std.proofs.lemmas.Option.{get_or_from_slice_get, same_Some, slice_get-get_or, slice_get_past, slice_get_within}
-pub use Rattle.std.specs.List.{AllByRecursion, list_any}
+pub use Rattle.std.specs.List.{list_any}
 unfoldable pub use Rattle.std.specs.List.{IsDistinct}
 pub use Rattle.replication_laws.specs.Below.{Here, IsReadyAt, IsReadyAuto, Reaches, Up}
 pub use Rattle.replication_laws.specs.Bridges.{Bridges, Stands}

@@ -12,7 +12,7 @@ use Rattle.commands.specs.declared.cause.Cause.{Cause}
 use Rattle.commands.specs.declared.cause.Cause.TheVariants as cause
 use Rattle.commands.specs.Causes.{cause_name}
 use Rattle.report_text.specs.Names.{name_text, given_text}
-use Rattle.report_text.specs.Words.{cause_name_text}
+use Rattle.server_words.specs.OrchBase.Words.{cause_name_text}
 
 -- the position of a server
 abbrev pub spot_text : List HostPort → Spot → List ℕ

@@ -6,7 +6,8 @@ use Rattle.server_words.specs.OrchBase.declared.recovery.Ending.TheVariants as e
 use Rattle.server_words.specs.OrchBase.declared.server.Moment.{Moment}
 use Rattle.commands.specs.declared.line.RecoveryLine.{RecoveryLine}
 use Rattle.report_text.specs.Names.{name_text}
-use Rattle.report_text.specs.Words.{acked_text, cause_name_text}
+use Rattle.report_text.specs.Words.{acked_text}
+use Rattle.server_words.specs.OrchBase.Words.{cause_name_text}
 use Rattle.server_words.specs.OrchBase.Words.{kind_text}
 
 abbrev pub ended_text : Option Moment → List ℕ

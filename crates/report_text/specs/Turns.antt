@@ -3,7 +3,7 @@ use Rattle.std.specs.Prelude.{ℕ, List, ◌++◌, codes, decimal}
 use Rattle.server_words.specs.OrchBase.Names.{HostPort}
 use Rattle.server_words.specs.OrchBase.declared.server.ServerNo.{ServerNo}
 use Rattle.server_words.specs.declared.changes.Link.{Link}
-use Rattle.server_words.specs.declared.changes.Link.TheVariants as link
+use Rattle.server_words.specs.Words.{link_text}
 use Rattle.report_text.specs.Names.{name_text}
 use Rattle.report_text.specs.Commands.{command_text}
 use Rattle.turns.specs.declared.turn.Step.{Step}
@@ -12,10 +12,6 @@ use Rattle.turns.specs.declared.turn.Act.{Act}
 use Rattle.turns.specs.declared.turn.Act.TheVariants as act
 use Rattle.turns.specs.declared.turn.Turn.{Turn}
 use Rattle.turns.specs.declared.turn.Turn.TheVariants as turn
-
-abbrev pub link_text : Link → List ℕ
-link_text link.Desk = codes "desk"
-link_text link.Feed = codes "feed"
 
 -- the word, the name, a space and the number
 abbrev pub amount_text : List ℕ → List HostPort → ServerNo → ℕ → List ℕ

@@ -1,7 +1,5 @@
 -- Names of one value each.
 use Rattle.std.specs.Prelude.{ℕ, Bool, List, codes, if◌then◌else◌}
-use Rattle.server_words.specs.OrchBase.declared.recovery.CauseName.{CauseName}
-use Rattle.server_words.specs.OrchBase.declared.recovery.CauseName.TheVariants as cause
 use Rattle.commands.specs.declared.line.HookPhase.{HookPhase}
 use Rattle.commands.specs.declared.line.HookPhase.TheVariants as phase
 use Rattle.commands.specs.declared.line.StateWord.{StateWord}
@@ -17,22 +15,6 @@ state_text state.Unreachable = codes "unreachable"
 -- read-only or writable
 abbrev pub mode_text : Bool → List ℕ
 mode_text read_only = if read_only then codes "ro" else codes "rw"
-
--- the name of a cause
-abbrev pub cause_name_text : CauseName → List ℕ
-cause_name_text cause.Unreachable = codes "Unreachable"
-cause_name_text cause.WaitSpent = codes "WaitSpent"
-cause_name_text cause.Interfered = codes "Interfered"
-cause_name_text cause.Running = codes "Running"
-cause_name_text cause.Loop = codes "Loop"
-cause_name_text cause.Errant = codes "Errant"
-cause_name_text cause.Moved = codes "Moved"
-cause_name_text cause.Reachable = codes "Reachable"
-cause_name_text cause.NoCandidate = codes "NoCandidate"
-cause_name_text cause.Purged = codes "Purged"
-cause_name_text cause.NoMark = codes "NoMark"
-cause_name_text cause.Mismatch = codes "Mismatch"
-cause_name_text cause.HookFailed = codes "HookFailed"
 
 -- when a hook runs
 abbrev pub phase_text : HookPhase → List ℕ

@@ -7,7 +7,6 @@ use crate::binlog_coords_items::print_coord;
 use crate::names::{PrintedNames, print_given, print_name};
 use crate::number::print_counted;
 use crate::orch_base::{Memory, ServerNo, SourceState};
-use crate::words::cause_name_word;
 use commands::Cause;
 use server_words::Spot;
 
@@ -127,7 +126,7 @@ pub(crate) fn print_cause(
 ) -> Result<(), Memory>
     ensures { OnOk result (out.new.items ≡ out.old.items ++ cause_text names.now cause.now) }
 {
-    out.extend_from_slice(cause_name_word(cause.name()))?;
+    out.extend_from_slice(cause.name().word().as_bytes())?;
     print_given(names, server_of(cause), out)?;
     print_details(cause, names, out)
 }
@@ -140,6 +139,6 @@ pub(crate) fn print_unnamed(
 ) -> Result<(), Memory>
     ensures { OnOk result (out.new.items ≡ out.old.items ++ unnamed_text names.now cause.now) }
 {
-    out.extend_from_slice(cause_name_word(cause.name()))?;
+    out.extend_from_slice(cause.name().word().as_bytes())?;
     print_details(cause, names, out)
 }

@@ -11,7 +11,7 @@ use crate::number::{print_counted, print_number};
 use crate::orch_base::{Memory, ServerNo, Version};
 use crate::recovery::print_recovery;
 use crate::refusal::print_refusal;
-use crate::words::{code_word, mode_word, phase_word, rule_word, state_word};
+use crate::words::{mode_word, phase_word, state_word};
 use commands::{HookPhase, Line, Lost, StateWord};
 
 fn print_version(version: Version, out: &mut Vec<u8>) -> Result<(), Memory>
@@ -182,7 +182,7 @@ fn print_told(line: &Line, names: &PrintedNames<'_>, out: &mut Vec<u8>) -> Resul
             replicating,
             lagging,
         } => {
-            print_name_word(*no, code_word(*code), names, out)?;
+            print_name_word(*no, code.word().as_bytes(), names, out)?;
             print_counts(*replicas, *valid, *replicating, *lagging, out)
         }
         Line::Downtime(no, until) => {
@@ -190,7 +190,7 @@ fn print_told(line: &Line, names: &PrintedNames<'_>, out: &mut Vec<u8>) -> Resul
             print_counted(b" until ", until.0, out)
         }
         Line::Candidate { no, rule, until } => {
-            print_name_word(*no, rule_word(*rule), names, out)?;
+            print_name_word(*no, rule.word().as_bytes(), names, out)?;
             print_counted(b" until ", until.0, out)
         }
         Line::Acknowledged(count) => print_counted(b"acknowledged ", *count, out),
@@ -198,11 +198,11 @@ fn print_told(line: &Line, names: &PrintedNames<'_>, out: &mut Vec<u8>) -> Resul
         Line::Disabled => out.extend_from_slice(b"disabled"),
         Line::Recovery(recovery) => print_recovery(recovery, names, out),
         Line::Begun { no, code, job } => {
-            print_name_word(*no, code_word(*code), names, out)?;
+            print_name_word(*no, code.word().as_bytes(), names, out)?;
             print_counted(b" begun ", *job, out)
         }
         Line::Refused { no, code, refusal } => {
-            print_name_word(*no, code_word(*code), names, out)?;
+            print_name_word(*no, code.word().as_bytes(), names, out)?;
             out.extend_from_slice(b" refused ")?;
             print_refusal(refusal, names, out)
         }

@@ -6,7 +6,7 @@ ghost use Rattle.report_text.specs.Recoveries.{begun_text, ended_text, ending_te
 use crate::names::{PrintedNames, print_at_server};
 use crate::number::print_counted;
 use crate::orch_base::{Ending, Memory, Moment};
-use crate::words::{acked_word, cause_name_word, kind_word};
+use crate::words::acked_word;
 use commands::RecoveryLine;
 
 fn print_ended(ended: Option<Moment>, out: &mut Vec<u8>) -> Result<(), Memory>
@@ -36,7 +36,7 @@ fn print_ending(
         Ending::Failed(cause) => {
             print_ended(ended, out)?;
             out.extend_from_slice(b" failed ")?;
-            out.extend_from_slice(cause_name_word(cause))
+            out.extend_from_slice(cause.word().as_bytes())
         }
         Ending::Interrupted => {
             print_ended(ended, out)?;
@@ -53,7 +53,7 @@ fn print_begun(r: &RecoveryLine, names: &PrintedNames<'_>, out: &mut Vec<u8>) ->
     out.extend_from_slice(b" ")?;
     out.extend_from_slice(r.cluster.as_str().as_bytes())?;
     out.extend_from_slice(b" ")?;
-    out.extend_from_slice(kind_word(r.kind))?;
+    out.extend_from_slice(r.kind.word().as_bytes())?;
     print_at_server(b" ", names, r.failed, out)?;
     print_counted(b" begun ", r.begun.0, out)
 }

@@ -6,7 +6,6 @@ ghost use Rattle.report_text.specs.Refusals.{refusal_name, refusal_text, values_
 use crate::names::{PrintedNames, print_at_server};
 use crate::number::{print_counted, print_number};
 use crate::orch_base::Memory;
-use crate::words::code_word;
 use commands::Refusal;
 
 fn name_word(refusal: &Refusal) -> &'static [u8]
@@ -70,7 +69,7 @@ fn print_values(
         }
         Refusal::NotActionable(code) => {
             out.extend_from_slice(b" ")?;
-            out.extend_from_slice(code_word(*code))
+            out.extend_from_slice(code.word().as_bytes())
         }
         Refusal::Downtimed(until) => print_counted(b" until ", until.0, out),
         Refusal::OpenRecovery(id) => print_counted(b" ", *id, out),

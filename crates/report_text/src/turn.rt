@@ -1,7 +1,7 @@
 //! The names of turns.
 
 ghost use Rattle.std.specs.Prelude.{◌≡◌, ◌++◌, OnOk};
-ghost use Rattle.report_text.specs.Turns.{act_text, amount_text, link_text, linked_text, poll_text, step_text, words_text};
+ghost use Rattle.report_text.specs.Turns.{act_text, amount_text, linked_text, poll_text, step_text, words_text};
 
 use crate::command::print_command;
 use crate::names::{PrintedNames, print_at_server};
@@ -9,15 +9,6 @@ use crate::number::print_counted;
 use crate::orch_base::{Memory, ServerNo};
 use server_words::Link;
 use turns::{Act, Step, Turn};
-
-fn link_word(link: Link) -> &'static [u8]
-    ensures { result.now ≡ link_text link }
-{
-    match link {
-        Link::Desk => b"desk",
-        Link::Feed => b"feed",
-    }
-}
 
 // The word, a space, the server's name, a space and the link.
 fn print_link(
@@ -32,7 +23,7 @@ fn print_link(
 {
     print_at_server(word, names, no, out)?;
     out.extend_from_slice(b" ")?;
-    out.extend_from_slice(link_word(link))
+    out.extend_from_slice(link.word().as_bytes())
 }
 
 // `poll-read `, the poller, a space and the server's name.

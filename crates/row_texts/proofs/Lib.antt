@@ -1,4 +1,4 @@
-mod Prelude
+pub mod Prelude
 pub mod Back
 pub mod Ids
 pub mod Known

@@ -18,6 +18,7 @@ pub use Rattle.std.specs.declared.alloc.Global.{Global}
 pub use Rattle.kept_rows.proofs.GtidSets.RoundTrip
 pub use Rattle.kept_rows.proofs.GtidSets.SameSets.{same_sets_lem}
 pub use Rattle.kept_rows.proofs.OrchBase.NameLemmas.{by_tests, not_empty, own}
+pub use Rattle.kept_rows.proofs.OrchBase.Printed.{printed_is_utf8}
 pub use Rattle.kept_rows.proofs.OrchBase.RoundTrip.{printed_reads_lem}
 pub use Rattle.kept_rows.proofs.OrchBase.SameNames.{same_name_tells}
 pub use Rattle.kept_rows.specs.BinlogCoords.Text.{six_digits}
@@ -25,9 +26,8 @@ pub use Rattle.kept_rows.specs.GtidSets.Grammar.{HasThose}
 pub use Rattle.kept_rows.specs.GtidSets.Printed.{head_text, range_text, uuid_text}
 unfoldable pub use Rattle.kept_rows.specs.GtidSets.Printed.{texts}
 pub use Rattle.kept_rows.specs.GtidSets.Sets.{IsInterval}
-pub use Rattle.kept_rows.specs.OrchBase.Names.{is_host_byte}
 pub use Rattle.kept_rows.specs.OrchBase.Names
-pub use Rattle.kept_rows.specs.OrchBase.Words.{kind_text, rule_text}
+pub use Rattle.kept_rows.specs.OrchBase.Words.{cause_name_text, kind_text, rule_text}
 pub use Rattle.kept_rows.specs.OrchBase.declared.recovery.CauseName.TheVariants as cause
 pub use Rattle.kept_rows.specs.OrchBase.declared.recovery.Ending.TheVariants as ending
 pub use Rattle.kept_rows.specs.OrchBase.declared.recovery.Kind.TheVariants as kind
@@ -52,7 +52,7 @@ unfoldable pub use Rattle.row_texts.specs.Reading.{read_row, row_in, shape_of, t
 pub use Rattle.row_texts.specs.Tables.{block_at, ending_of, state_of, tail_at}
 unfoldable pub use Rattle.row_texts.specs.Tables.{active_at, candidate_at, downtime_at, first_block, instance_at, recovery_at, second_block}
 unfoldable pub use Rattle.row_texts.specs.Tables.{source_at, switch_at}
-pub use Rattle.row_texts.specs.Words.{as_printed, as_set, cause_text, causes, io_states, io_text, is_id, is_interval, is_set, is_space, kinds}
+pub use Rattle.row_texts.specs.Words.{as_printed, as_set, causes, io_states, io_text, is_id, is_interval, is_set, is_space, kinds}
 pub use Rattle.row_texts.specs.Words.{named_among, outcome_of, outcome_text, rest_of, rules, source_text, source_words, word_of}
 unfoldable pub use Rattle.row_texts.specs.Words.{coord_printed, id_printed, name_printed, outcome_printed, set_printed}
 pub use Rattle.row_texts.specs.Written.{block_items, block_version, coord_data, ending_name, instance_items, key_text, maybe_data, moment_data}

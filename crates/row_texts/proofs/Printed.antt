@@ -1,45 +1,9 @@
--- What is printed of names, coordinates and sets is ASCII.
-use Rattle.row_texts.proofs.Prelude.{All-head, All-tail, Coord, HostPort, Interval, IsAscii, IsAscii-append, IsAscii-cons, IsAscii-decimal}
-use Rattle.row_texts.proofs.Prelude.{IsAscii-drop, IsAscii-nil, IsInterval, IsName, IsSet, IsUtf8, IsUtf8-from_ascii, and_parts as both, coord_text}
-use Rattle.row_texts.proofs.Prelude.{eqb-true, head_text, hyphenated_ascii, is_host_byte, leb-true, list_all, lower, printed as set_text, range_text}
+-- What is printed of coordinates and sets is ASCII.
+use Rattle.row_texts.proofs.Prelude.{All-head, All-tail, Coord, Interval, IsAscii, IsAscii-append, IsAscii-cons, IsAscii-decimal}
+use Rattle.row_texts.proofs.Prelude.{IsAscii-drop, IsAscii-nil, IsInterval, IsSet, IsUtf8, IsUtf8-from_ascii, and_parts as both, coord_text}
+use Rattle.row_texts.proofs.Prelude.{head_text, hyphenated_ascii, leb-true, list_all, lower, printed as set_text, range_text}
 use Rattle.row_texts.proofs.Prelude.{six_digits, texts, to_be_bytes, uuid_text, w128}
-use Rattle.row_texts.proofs.Prelude.Names.{printed}
-use Rattle.std.proofs.Common.{◌≡◌, ℕ, ◌^◌, ◌<◌, Bool, true, false, cond, leb, eqb, List, [], ◌∷◌, ◌++◌, All, length, Option, Some, None, inl, arith, refl, ◌&&◌, ◌||◌, codes, decimal}
-
--- ---- names
-
-either : (p q : Bool) (P : Type 0) → (p ≡ true → P) → (q ≡ true → P) → (p || q) ≡ true → P
-either true q P f g e = f refl
-either false q P f g e = g e
-
-in_range : (low high b : ℕ) → high < 128 → (leb low b && leb b high) ≡ true → b < 128
-in_range low high b small e = omega (arith, small, leb-true b high (both (leb low b) (leb b high) e).1)
-
-is_one : (byte b : ℕ) → byte < 128 → eqb b byte ≡ true → b < 128
-is_one byte b small e = omega (arith, small, eqb-true b byte e)
-
-host_byte : (b : ℕ) → is_host_byte b ≡ true → b < 128
-host_byte b =
-    either _ _ (b < 128)
-    (either _ _ (b < 128)
-    (either _ _ (b < 128)
-    (either _ _ (b < 128)
-    (either _ _ (b < 128) (in_range 97 122 b (omega arith)) (in_range 65 90 b (omega arith)))
-    (in_range 48 57 b (omega arith)))
-    (is_one 46 b (omega arith)))
-    (is_one 45 b (omega arith)))
-    (is_one 95 b (omega arith))
-
-host_bytes : (bs : List ℕ) → list_all is_host_byte bs ≡ true → IsAscii bs
-host_bytes [] all = IsAscii-nil
-host_bytes (b ∷ bs) all =
-    let parts = both (is_host_byte b) (list_all is_host_byte bs) all in
-    IsAscii-cons b bs (host_byte b parts.0) (host_bytes bs parts.1)
-
-pub name_is_utf8 : (name : HostPort) → IsName name → IsUtf8 (printed name)
-name_is_utf8 name is =
-    let port : name.port < 2 ^ 64 = omega (arith, is.fits) in
-    IsUtf8-from_ascii (printed name) (IsAscii-append name.host _ (host_bytes name.host is.bytes) (IsAscii-cons 58 _ (omega arith) (IsAscii-decimal name.port port)))
+use Rattle.std.proofs.Common.{◌≡◌, ℕ, ◌^◌, ◌<◌, Bool, true, false, cond, leb, eqb, List, [], ◌∷◌, ◌++◌, All, length, Option, Some, None, inl, arith, refl, codes, decimal}
 
 -- ---- coordinates
 

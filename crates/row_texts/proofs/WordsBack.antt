@@ -1,7 +1,7 @@
 -- From a word back to its text, and from a number back to its server's name.
 use Rattle.std.proofs.Common.{◌≡◌, ℕ, ◌≤◌, ◌<◌, ◌^◌, arith, Bool, true, false, cond, ltb, List, [], ◌∷◌, ◌++◌, length, get_or, Option, Some, None, Result, Ok, Err, refl, sym, ap, ◌∙◌, subst, ◌&&◌, codes, nat_le, nat_lt, find, position, option_map}
 use Rattle.row_texts.proofs.Prelude.{CauseName, Coord, Data, GtidFault, HasText, HostPort, Interval, IsSet, NameFault, Outcome, ServerNo, after_first}
-use Rattle.row_texts.proofs.Prelude.{as_printed, as_set, as_str, bytes_eq, cause_text, causes, coord_at, coord_data, coord_form, coord_printed}
+use Rattle.row_texts.proofs.Prelude.{as_printed, as_set, as_str, bytes_eq, cause_name_text, causes, coord_at, coord_data, coord_form, coord_printed}
 use Rattle.row_texts.proofs.Prelude.{coord_text, ends_recoveries, eqb-true, is_set, is_space, leb-true, list_all, lt-ltb, ltb-false, name_at, name_form, name_printed}
 use Rattle.row_texts.proofs.Prelude.{named_among, number_within, outcome_form, outcome_of, outcome_printed, outcome_text, position-Some}
 use Rattle.row_texts.proofs.Prelude.{position_or_len, printed as set_text, rest_of, result_ok, same_name, same_name_tells, same_text, server_of}
@@ -55,15 +55,15 @@ one_word false true w o is_un is_in e = let k : outcome.Interrupted ≡ o = cc i
 one_word false false w o is_un is_in e = absurd cc
 
 two_words : (b c : Bool) (w r : List ℕ) (o : Outcome) → bytes_eq w (codes "promoted") ≡ b → bytes_eq w (codes "failed") ≡ c
-    → cond b (option_map (λ n. outcome.Promoted n) (name_printed r)) (cond c (option_map (λ k. outcome.Failed k) (named_among cause_text causes r)) None) ≡ Some o → (w ++ 32 ∷ r) ≡ outcome_text o
+    → cond b (option_map (λ n. outcome.Promoted n) (name_printed r)) (cond c (option_map (λ k. outcome.Failed k) (named_among cause_name_text causes r)) None) ≡ Some o → (w ++ 32 ∷ r) ≡ outcome_text o
 two_words true c w r o is_pro is_fail e =
     let m = map_back (λ n. outcome.Promoted n) (name_printed r) o e in
     let word : w ≡ codes "promoted" = same_text w (codes "promoted") (sym is_pro) in
     ap (λ (x : List ℕ). x ++ (32 ∷ r)) word ∙ ap (λ (x : List ℕ). codes "promoted " ++ x) (name_back r m.0 m.1) ∙ ap outcome_text m.2
 two_words false true w r o is_pro is_fail e =
-    let m = map_back (λ k. outcome.Failed k) (named_among cause_text causes r) o e in
+    let m = map_back (λ k. outcome.Failed k) (named_among cause_name_text causes r) o e in
     let word : w ≡ codes "failed" = same_text w (codes "failed") (sym is_fail) in
-    ap (λ (x : List ℕ). x ++ (32 ∷ r)) word ∙ ap (λ (x : List ℕ). codes "failed " ++ x) (named_back cause_text causes r m.0 m.1) ∙ ap outcome_text m.2
+    ap (λ (x : List ℕ). x ++ (32 ∷ r)) word ∙ ap (λ (x : List ℕ). codes "failed " ++ x) (named_back cause_name_text causes r m.0 m.1) ∙ ap outcome_text m.2
 two_words false false w r o is_pro is_fail e = absurd cc
 
 by_rest : (s : List ℕ) (rest : Option (List ℕ)) (o : Outcome) → rest_of s ≡ rest → outcome_of (word_of s) rest ≡ Some o → s ≡ outcome_text o
@@ -91,8 +91,8 @@ among p test (y ∷ ys) x all e =
     let each = both (test y) (list_all test ys) all in
     among_step test y x (find p ys) (p y) each.0 (among p test ys x each.1) e
 
-cause_ends : (s : List ℕ) (c : CauseName) → named_among cause_text causes s ≡ Some c → ends_recoveries c ≡ true
-cause_ends s c e = among (λ (k : CauseName). bytes_eq (cause_text k) s) ends_recoveries causes c refl e
+cause_ends : (s : List ℕ) (c : CauseName) → named_among cause_name_text causes s ≡ Some c → ends_recoveries c ≡ true
+cause_ends s c e = among (λ (k : CauseName). bytes_eq (cause_name_text k) s) ends_recoveries causes c refl e
 
 one_ends : (b c : Bool) (o : Outcome) → cond b (Some outcome.Unended) (cond c (Some outcome.Interrupted) None) ≡ Some o → outcome_ends o ≡ true
 one_ends true c o e = let k : outcome.Unended ≡ o = cc in subst (λ (x : Outcome). outcome_ends x ≡ true) k refl
@@ -100,12 +100,12 @@ one_ends false true o e = let k : outcome.Interrupted ≡ o = cc in subst (λ (x
 one_ends false false o e = absurd cc
 
 two_ends : (b c : Bool) (r : List ℕ) (o : Outcome)
-    → cond b (option_map (λ n. outcome.Promoted n) (name_printed r)) (cond c (option_map (λ k. outcome.Failed k) (named_among cause_text causes r)) None) ≡ Some o → outcome_ends o ≡ true
+    → cond b (option_map (λ n. outcome.Promoted n) (name_printed r)) (cond c (option_map (λ k. outcome.Failed k) (named_among cause_name_text causes r)) None) ≡ Some o → outcome_ends o ≡ true
 two_ends true c r o e =
     let m = map_back (λ n. outcome.Promoted n) (name_printed r) o e in
     subst (λ (x : Outcome). outcome_ends x ≡ true) m.2 refl
 two_ends false true r o e =
-    let m = map_back (λ k. outcome.Failed k) (named_among cause_text causes r) o e in
+    let m = map_back (λ k. outcome.Failed k) (named_among cause_name_text causes r) o e in
     subst (λ (x : Outcome). outcome_ends x ≡ true) m.2 (cause_ends r m.0 m.1)
 two_ends false false r o e = absurd cc
 

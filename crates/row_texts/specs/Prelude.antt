@@ -16,7 +16,7 @@ pub use Rattle.kept_rows.specs.OrchBase.Gives.{Gives}
 pub use Rattle.kept_rows.specs.OrchBase.Names.{HostPort, IsName, same_name}
 unfoldable pub use Rattle.kept_rows.specs.OrchBase.Names.{name_at}
 pub use Rattle.kept_rows.specs.OrchBase.Names
-pub use Rattle.kept_rows.specs.OrchBase.Words.{kind_text, rule_text}
+pub use Rattle.kept_rows.specs.OrchBase.Words.{cause_name_text, kind_text, rule_text}
 pub use Rattle.kept_rows.specs.OrchBase.declared.name.NameFault.{NameFault}
 pub use Rattle.kept_rows.specs.OrchBase.declared.recovery.CauseName.{CauseName}
 pub use Rattle.kept_rows.specs.OrchBase.declared.recovery.CauseName.TheVariants as cause

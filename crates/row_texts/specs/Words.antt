@@ -1,7 +1,7 @@
 -- The names in kept rows, and what a text means: such a name, or what is printed as this text.
 use Rattle.std.specs.Prelude.{ℕ, ◌+◌, ◌^◌, ◌==◌, ◌&&◌, ◌||◌, ◌∷◌, ◌++◌, [], List, Bool, true, Option, Some, None, Result, Ok, Err, codes, find, length, nat_le, nat_lt, option_map, slice_index, if◌then◌else◌}
 use Rattle.row_texts.specs.Prelude.{CauseName, Coord, GtidFault, HostPort, Interval, IoState, Kind, NameFault, Rule, after_first, all_ascii_digits}
-use Rattle.row_texts.specs.Prelude.{before_first, bytes_eq, coord_at, digits_value, high, largest, list_all, low, name_at, position_or_len}
+use Rattle.row_texts.specs.Prelude.{before_first, bytes_eq, cause_name_text, coord_at, digits_value, high, largest, list_all, low, name_at, position_or_len}
 use Rattle.row_texts.specs.Prelude.{printed as set_text, result_ok, text_at}
 use Rattle.row_texts.specs.Prelude.Names.{printed}
 use Rattle.row_texts.specs.Prelude.cause
@@ -38,22 +38,6 @@ source_text source.Detached = codes "detached"
 
 abbrev pub source_words : List SourceWord
 source_words = source.Without ∷ source.Attached ∷ source.Detached ∷ []
-
--- the name of a cause
-abbrev pub cause_text : CauseName → List ℕ
-cause_text cause.Unreachable = codes "Unreachable"
-cause_text cause.WaitSpent = codes "WaitSpent"
-cause_text cause.Interfered = codes "Interfered"
-cause_text cause.Running = codes "Running"
-cause_text cause.Loop = codes "Loop"
-cause_text cause.Errant = codes "Errant"
-cause_text cause.Moved = codes "Moved"
-cause_text cause.Reachable = codes "Reachable"
-cause_text cause.NoCandidate = codes "NoCandidate"
-cause_text cause.Purged = codes "Purged"
-cause_text cause.NoMark = codes "NoMark"
-cause_text cause.Mismatch = codes "Mismatch"
-cause_text cause.HookFailed = codes "HookFailed"
 
 -- the causes that a recovery can end by; no recovery matches logs
 abbrev pub causes : List CauseName
@@ -116,7 +100,7 @@ rest_of s = if nat_lt (position_or_len is_space s) (length s) then Some (after_f
 abbrev pub outcome_of : List ℕ → Option (List ℕ) → Option Outcome
 outcome_of word None = if bytes_eq word (codes "unended") then Some outcome.Unended else (if bytes_eq word (codes "interrupted") then Some outcome.Interrupted else None)
 outcome_of word (Some rest) = if bytes_eq word (codes "promoted") then option_map (λ n. outcome.Promoted n) (name_printed rest)
-    else (if bytes_eq word (codes "failed") then option_map (λ c. outcome.Failed c) (named_among cause_text causes rest) else None)
+    else (if bytes_eq word (codes "failed") then option_map (λ c. outcome.Failed c) (named_among cause_name_text causes rest) else None)
 
 unfoldable pub outcome_printed : List ℕ → Option Outcome
 outcome_printed s = outcome_of (word_of s) (rest_of s)
@@ -125,4 +109,4 @@ abbrev pub outcome_text : Outcome → List ℕ
 outcome_text outcome.Unended = codes "unended"
 outcome_text outcome.Interrupted = codes "interrupted"
 outcome_text (outcome.Promoted n) = codes "promoted " ++ printed n
-outcome_text (outcome.Failed c) = codes "failed " ++ cause_text c
+outcome_text (outcome.Failed c) = codes "failed " ++ cause_name_text c

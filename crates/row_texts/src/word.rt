@@ -1,8 +1,8 @@
 //! Names, and what is printed as a text.
 
 ghost use Rattle.std.specs.Prelude.{◌≡◌, ◌||◌, IfOk, codes, find, nat_le, option_copied, option_map, slice_index};
-ghost use Rattle.row_texts.specs.Prelude.{bytes_eq, kind_text, rule_text};
-ghost use Rattle.row_texts.specs.Words.{cause_text, causes, id_printed, io_text, name_printed, named_among, outcome_of, rest_of, set_printed, source_text, word_of};
+ghost use Rattle.row_texts.specs.Prelude.{bytes_eq, cause_name_text, kind_text, rule_text};
+ghost use Rattle.row_texts.specs.Words.{causes, id_printed, io_text, name_printed, named_among, outcome_of, rest_of, set_printed, source_text, word_of};
 
 use crate::gtid_sets::{GtidFault, GtidSet};
 use crate::orch_base::{CauseName, IoState, Kind, Memory, Name, NameFault, Rule};
@@ -23,11 +23,7 @@ impl Word for Kind {
     ghost word_of = { kind_text };
 
     fn word(self) -> &'static str {
-        match self {
-            Kind::Master => "master",
-            Kind::Intermediate => "intermediate",
-            Kind::Takeover => "takeover",
-        }
+        Kind::word(self)
     }
 }
 
@@ -35,12 +31,7 @@ impl Word for Rule {
     ghost word_of = { rule_text };
 
     fn word(self) -> &'static str {
-        match self {
-            Rule::Prefer => "prefer",
-            Rule::Neutral => "neutral",
-            Rule::PreferNot => "prefer_not",
-            Rule::MustNot => "must_not",
-        }
+        Rule::word(self)
     }
 }
 
@@ -57,24 +48,10 @@ impl Word for IoState {
 }
 
 impl Word for CauseName {
-    ghost word_of = { cause_text };
+    ghost word_of = { cause_name_text };
 
     fn word(self) -> &'static str {
-        match self {
-            CauseName::Unreachable => "Unreachable",
-            CauseName::WaitSpent => "WaitSpent",
-            CauseName::Interfered => "Interfered",
-            CauseName::Running => "Running",
-            CauseName::Loop => "Loop",
-            CauseName::Errant => "Errant",
-            CauseName::Moved => "Moved",
-            CauseName::Reachable => "Reachable",
-            CauseName::NoCandidate => "NoCandidate",
-            CauseName::Purged => "Purged",
-            CauseName::NoMark => "NoMark",
-            CauseName::Mismatch => "Mismatch",
-            CauseName::HookFailed => "HookFailed",
-        }
+        CauseName::word(self)
     }
 }
 
@@ -202,7 +179,7 @@ pub(crate) fn parts(text: &str) -> (&str, Option<&str>)
 }
 
 fn cause_named(text: &str) -> Option<CauseName>
-    ensures { result ≡ named_among cause_text causes text.now }
+    ensures { result ≡ named_among cause_name_text causes text.now }
 {
     let causes = [
         CauseName::Unreachable,

@@ -14,7 +14,7 @@ use kept_rows::{Downtime, Instance, RecoveryRow, Row};
 use serde_json::{Value, json};
 use std::alloc::Global;
 
-#[tactic(auto, using(crate::proofs::Printed::name_is_utf8))]
+#[tactic(auto, using(crate::proofs::Prelude::printed_is_utf8))]
 fn name_string(alloc: Global, names: &[Name], no: ServerNo) -> Result<String, Memory>
     requires { no.0 < length names.now }
     ensures { IfOk result (λ s. string_bytes s ≡ name_text names.now no) }

@@ -49,6 +49,7 @@ pub mod Came
 pub mod Moments
 pub mod Waits
 pub mod Tables
+pub mod Shown
 pub mod Stopping
 pub mod Hands
 pub mod LinesHold

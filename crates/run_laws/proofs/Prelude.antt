@@ -222,6 +222,7 @@ pub use Rattle.orch_core.specs.Replies.{claim_reply, done_reply}
 pub use Rattle.orch_core.specs.Scenarios.ValidTurns.{IsNumberOf, is_rotate_step, is_write_step}
 pub use Rattle.orch_core.specs.Scenarios.ValidTurns as Scenarios
 pub use Rattle.orch_core.specs.ServerModel.Attach.{after_attach as attached_world}
+pub use Rattle.orch_core.specs.ServerModel.Gtids.{io_of, is_up, source_at, status_in}
 pub use Rattle.orch_core.specs.ServerModel.Run.{is_write}
 pub use Rattle.orch_core.specs.ServerWords.declared.answers.ApplyAnswer.TheVariants as answers
 pub use Rattle.orch_core.specs.ServerWords.declared.answers.RotateAnswer.TheVariants as rotating
@@ -303,6 +304,7 @@ pub use Rattle.run_laws.specs.Runs.{ComesBefore, ComesBy, ComesTo, ComesWithin, 
 pub use Rattle.run_laws.specs.States.{HeldState, SoundState}
 pub use Rattle.run_laws.specs.Stopping.{PlansStartAgain, StartsWhatItStops, after_asking, after_deed, left_stopped}
 pub use Rattle.run_laws.specs.Tables.{AnswersWrites, AttachesBySet, AttachesByTable, CountsByInstances, CountsReplicas, EndsInTime, GoesOn}
+pub use Rattle.run_laws.specs.Tables.{IsConnected, ShowsServer, StatusesByTable}
 pub use Rattle.run_laws.specs.Tables.{KeepsSixteen, Replicates, RunsAllServers, ServersByTable, StartsAgain, ThreadsByTable, WritesByTable}
 pub use Rattle.run_laws.specs.Waits.{BegunMayWait, JobsMayWait, MayWait}
 pub use Rattle.unended_laws.proofs.Applying.{Spares, StaysSo, outside-stays-so, request-made, run-goes, same-stays-so, started-goes}

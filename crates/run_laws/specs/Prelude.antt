@@ -81,6 +81,7 @@ pub use Rattle.orch_core.specs.Runs.{Held, asks, engine, held_run, run_turns, tu
 pub use Rattle.orch_core.specs.Scenarios.ValidTurns.{is_rotate, is_write}
 pub use Rattle.orch_core.specs.ServerModel.Attach.{live_spot, same_spot}
 pub use Rattle.orch_core.specs.ServerModel.Desk.{asked}
+pub use Rattle.orch_core.specs.ServerModel.Gtids.{source_at}
 pub use Rattle.orch_core.specs.ServerModel.Run.{IsJunction}
 pub use Rattle.orch_core.specs.ServerModel.Run as exchange
 pub use Rattle.orch_core.specs.ServerModel.Safe.{Placed}

@@ -1,8 +1,9 @@
 -- What the tables of servers, of the book and of the analysis say, row by row.
-use Rattle.std.specs.Prelude.{◌≡◌, ◌⊎◌, ℕ, ◌<◌, ◌≤◌, Bool, Ok, true, false, Contains, List, [], ◌∷◌, ◌++◌, count_by, drop, length, None, Some}
+use Rattle.std.specs.Prelude.{◌≡◌, ◌⊎◌, ◌&&◌, ℕ, ◌<◌, ◌≤◌, Bool, Ok, true, false, Contains, List, [], ◌∷◌, ◌++◌, count_by, drop, length, None, Some}
 use Rattle.run_laws.specs.Prelude.{Attached, BookState, Bridge, Candidate, Coord, Downtime, Instance, Moment, Position, Server, ServerNo, Spot, State}
 use Rattle.run_laws.specs.Prelude.{Turn, World, after, asked, attach_at, attach_auto, by_name, candidate_kept, counts_of, downtime_at, downtime_kept}
-use Rattle.run_laws.specs.Prelude.{is_attached, is_before, is_replica_that, lags, replicates, round_of, rule_at, server_at, with_bridge, write}
+use Rattle.run_laws.specs.Prelude.{Status, is_attached, is_before, is_replica_that, lags, replicates, round_of, rule_at, seen_in, server_at}
+use Rattle.run_laws.specs.Prelude.{source_at, status, with_bridge, write}
 use Rattle.run_laws.specs.Prelude.act
 use Rattle.run_laws.specs.Prelude.asking
 use Rattle.run_laws.specs.Prelude.event
@@ -115,3 +116,31 @@ AttachesBySet = (w : World) (n : ℕ) (seen : Position) (to : ServerNo) (s t : S
 
 abbrev pub WritesByTable : Type 0
 WritesByTable = (w : World) (n size : ℕ) (s : Server) → server_at w n ≡ Some s → AnswersWrites w n size s
+
+-- ---- a status
+
+-- its receiver is on and connected: its source is up, and it reaches that one
+pub record IsConnected (w : World) (s : Server) : Type 0 where
+  pub receiver : s.receiver ≡ true
+  pub feed : s.feed ≡ true
+  pub source : Server
+  pub below : source_at w s ≡ Some source
+  pub up : source.up ≡ true
+
+-- A status that reaches its server reports that one as it is. Its receiver is `Yes` exactly if it is connected, and
+-- `No` exactly if it is off.
+pub record ShowsServer (w : World) (s : Server) (seen : Status) : Type 0 where
+  pub reached : (s.up && s.desk) ≡ true
+  pub source : seen.source ≡ s.source
+  pub coordinates : (seen.exec ≡ s.exec) × (seen.read ≡ s.read)
+  pub applier : seen.sql ≡ s.applier
+  pub settings : (seen.auto ≡ s.auto) × (seen.read_only ≡ s.read_only)
+  pub yes : seen.io ≡ io.Yes → IsConnected w s
+  pub connected : IsConnected w s → seen.io ≡ io.Yes
+  pub no : seen.io ≡ io.No → s.receiver ≡ false
+  pub off : s.receiver ≡ false → seen.io ≡ io.No
+
+-- so each does, and one that doesn't reach its server finds it down or unreachable
+pub record StatusesByTable (w : World) (n : ℕ) (s : Server) : Type 0 where
+  pub shows : (seen : Status) → server_at w n ≡ Some s → seen_in (status w n) ≡ Some seen → ShowsServer w s seen
+  pub away : server_at w n ≡ Some s → seen_in (status w n) ≡ None → (s.up && s.desk) ≡ false

@@ -7,9 +7,9 @@ ghost use Rattle.run_laws.specs.Hands.{PlansReturn};
 ghost use Rattle.run_laws.specs.Leading.{PlansLeadAsTold};
 ghost use Rattle.run_laws.specs.LinesHold.{PlansHold};
 ghost use Rattle.run_laws.specs.Stopping.{PlansStartAgain};
-ghost use Rattle.run_laws.specs.Tables.{AttachesBySet, AttachesByTable, CountsByInstances, CountsReplicas, EndsInTime, KeepsSixteen, RunsAllServers, ServersByTable, ThreadsByTable, WritesByTable};
+ghost use Rattle.run_laws.specs.Tables.{AttachesBySet, AttachesByTable, CountsByInstances, CountsReplicas, EndsInTime, KeepsSixteen, RunsAllServers, ServersByTable, StatusesByTable, ThreadsByTable, WritesByTable};
 ghost use Rattle.run_laws.specs.Waits.{BegunMayWait, JobsMayWait};
-ghost use Rattle.run_laws.specs.Prelude.{BookState, Bridge, Instance as AnInstance, Moment as AMoment, ServerNo as Number, State, Turn};
+ghost use Rattle.run_laws.specs.Prelude.{BookState, Bridge, Instance as AnInstance, Moment as AMoment, Server as AServer, ServerNo as Number, State, Turn, World};
 ghost use Rattle.std.specs.Prelude.{List, ℕ};
 
 /// A poll, a discovery and a look of a job read what one status of the server has then, with the next read number, and
@@ -59,6 +59,8 @@ pub fn jobs_wait_as_told()
 /// - A round of a single command is a turn of its job, and each server fetches, applies and is polled.
 /// - A write is refused by a server that is down or read-only. One that starts again starts a replica's threads. A
 ///   start, a stop and an attachment drop an end of the applier. By a coordinate auto position is off.
+/// - A status that reaches its server reports it as it is. Its receiver is connected exactly if it is on, its source is
+///   up, and it reaches that one.
 /// - The plan of each command except stop-replica starts each server again that it stops. It leads each server of its
 ///   lines where they have it: by its last change of source.
 pub fn tables_hold_row_by_row()
@@ -69,6 +71,7 @@ pub fn tables_hold_row_by_row()
     ensures rounds { (s : State) (job : ℕ) → RunsAllServers s job }
     ensures writes { WritesByTable }
     ensures starts { ServersByTable }
+    ensures statuses { (w : World) (n : ℕ) (s : AServer) → StatusesByTable w n s }
     ensures threads { ThreadsByTable }
     ensures attaches { AttachesByTable }
     ensures attaches_by_set { AttachesBySet }

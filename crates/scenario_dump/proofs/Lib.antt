@@ -10,3 +10,4 @@ pub mod Wholes
 pub mod ReadBack
 pub mod Reading
 pub mod Lines
+pub use Rattle.scenario_generator.proofs.Sends as Sends

@@ -1,16 +1,17 @@
 -- The text is UTF-8 if the texts in it are.
 use Rattle.std.proofs.Common.{inl, ◌≡◌, ◌==◌, ℕ, zero, suc, ◌+◌, ◌/◌, ◌%◌, Bool, true, false, cond, ◌∷◌, List, [], ◌++◌, length, drop, Option, Some, None, refl, arith, decimal}
 use Rattle.std.specs.Prelude.{All, codes, is_some, nat_lt, option_map, slice_get, unwrap_or}
-use Rattle.scenario_dump.proofs.Prelude.{Alias, Block, Coord, Data, HasTexts, Hook, HostPort, IsName, IsUtf8, IsUtf8-append, IsUtf8-are_ascii}
+use Rattle.scenario_dump.proofs.Prelude.{Alias, Block, Coord, Data, HasTexts, Hook, IsName, IsUtf8, IsUtf8-append, IsUtf8-are_ascii}
 use Rattle.scenario_dump.proofs.Prelude.{IsUtf8-boolean, IsUtf8-from_ascii, IsUtf8-nil, IsUtf8-quoted, Items, Members, Part, Scenario, ServerInit}
 use Rattle.scenario_dump.proofs.Prelude.{ServerNo, Version, World, aliases_data, are_ascii, array, blocks_data, boolean, comma_if, common_steps}
 use Rattle.scenario_dump.proofs.Prelude.{compact_text, coord_data, coord_text, count_data, digit_glyph, digits, digits_onto, drop-nil, dump_data}
-use Rattle.scenario_dump.proofs.Prelude.{dump_text, float, hook_data, hyphenated_ascii, is_host_byte, is_utf8, is_utf8-from_IsUtf8, item, items_of}
-use Rattle.scenario_dump.proofs.Prelude.{items_text, list_all, list_data, lower, member, member_for, member_if, members_text, name_text, negative}
+use Rattle.scenario_dump.proofs.Prelude.{dump_text, float, hook_data, hyphenated_ascii, is_utf8, is_utf8-from_IsUtf8, item, items_of}
+use Rattle.scenario_dump.proofs.Prelude.{items_text, list_data, lower, member, member_for, member_if, members_text, name_text, negative}
 use Rattle.scenario_dump.proofs.Prelude.{no_items, no_members, null, number, object, opening_of, part_data, printed, server_data, six_digits, string}
 use Rattle.scenario_dump.proofs.Prelude.{to_be_bytes, unsigned, uuid_text, version_text, w128}
 use Rattle.scenario_dump.proofs.ReadBack.{both}
 use Rattle.scenario_dump.proofs.Worlds.{All-at}
+use Rattle.scenarios.proofs.OrchBase.Printed.{printed_is_utf8 as utf8_printed}
 
 -- ---- decimals are ASCII, whatever their size
 
@@ -67,16 +68,6 @@ utf8_version v =
 
 utf8_uuid : (uuid : ℕ) → IsUtf8 (uuid_text uuid)
 utf8_uuid uuid = IsUtf8-from_ascii (uuid_text uuid) (hyphenated_ascii lower (to_be_bytes w128 uuid) (inl refl))
-
-ascii_host : (b : ℕ) → is_host_byte b ≡ true → nat_lt b 128 ≡ true
-ascii_host b is = grind (arith, common_steps, is)
-
-ascii-host : (host : List ℕ) → list_all is_host_byte host ≡ true → are_ascii host ≡ true
-ascii-host [] all = refl
-ascii-host (b ∷ host) all = let p = both (is_host_byte b) (list_all is_host_byte host) all in rw (ascii_host b p.0) (ascii-host host p.1)
-
-utf8_printed : (name : HostPort) → IsName name → IsUtf8 (printed name)
-utf8_printed name is = IsUtf8-are_ascii (printed name) (ascii-append name.host (58 ∷ decimal name.port) (ascii-host name.host is.bytes) (ascii-decimal name.port))
 
 -- ---- values whose texts are UTF-8
 

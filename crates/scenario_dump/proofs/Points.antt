@@ -1,12 +1,8 @@
 -- After how many transactions a log was flushed, one transaction after another.
-use Rattle.std.proofs.Common.{◌≡◌, ◌∙◌, ◌<◌, ◌≤◌, ℕ, zero, suc, ◌+◌, ◌-◌, Bool, true, false, ◌||◌, ◌∷◌, List, [], ◌++◌, length, drop, sym, ap, ap₂, refl, arith, append_assoc, append-nil, Some, nat_le, nat_lt, slice_get, replicate}
+use Rattle.std.proofs.Common.{◌≡◌, ◌∙◌, ◌<◌, ◌≤◌, ℕ, suc, ◌+◌, ◌-◌, Bool, true, false, ◌||◌, ◌∷◌, List, [], ◌++◌, length, drop, sym, ap, ap₂, refl, arith, append_assoc, append-nil, Some, nat_le, nat_lt, slice_get, replicate}
 use Rattle.scenario_dump.proofs.Prelude.{Entry, Log, common_steps, compact_text, coord_after, count_data, drop_all, end_coord, end_or_first}
 use Rattle.scenario_dump.proofs.Prelude.{file_behind, flush_points, flushed_from, items_of, items_text, list_data, slice_get-drop}
-
-pub at_below : {A : Type 0} (xs : List A) (k : ℕ) → k < length xs → (x : A) × (slice_get xs k ≡ Some x)
-at_below [] k below = absurd (omega arith)
-at_below (x ∷ xs) zero below = (x, refl)
-at_below (x ∷ xs) (suc k) below = at_below xs k (omega arith)
+pub use Rattle.scenarios.proofs.OrchBase.Lists.{slice_get-there as at_below}
 
 pub coord_behind : (log : Log) (k : ℕ) (e : Entry) → slice_get log.entries k ≡ Some e → coord_after log (k + 1) ≡ end_coord e
 coord_behind log k e there = let next : k + 1 ≡ suc k = omega arith in ap (coord_after log) next ∙ ap end_or_first there

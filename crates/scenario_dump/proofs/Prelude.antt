@@ -28,13 +28,12 @@ unfoldable pub use Rattle.scenario_dump.specs.Servers.{init_of, opening_of}
 pub use Rattle.scenario_dump.specs.Texts.{aliases_data, blocks_data, coord_data, count_data, filters_data, hook_data, hooks_data, items_of, list_data}
 pub use Rattle.scenario_dump.specs.Texts.{member_for, member_if, name_text, part_data}
 unfoldable pub use Rattle.scenario_dump.specs.Texts.{dump_data, dump_text, server_data}
-pub use Rattle.scenario_generator.proofs.Prelude.{ArePrintable-json_tokens, HasNumbers, IsNumber-decimal, IsUtf8-append, IsUtf8-are_ascii}
-pub use Rattle.scenario_generator.proofs.Prelude.{IsUtf8-from_ascii, IsUtf8-nil, ItemsHaveNumbers, Token, and_parts, are_ascii, common_steps}
+pub use Rattle.scenario_generator.proofs.Prelude.{IsUtf8-append, IsUtf8-are_ascii}
+pub use Rattle.scenario_generator.proofs.Prelude.{IsUtf8-from_ascii, IsUtf8-nil, Token, and_parts, are_ascii, common_steps}
 pub use Rattle.scenario_generator.proofs.Prelude.{digit_glyph, digits_onto, drop-nil, eqb-true, escape, escape_byte_plain, false≢true, is_host_byte}
-pub use Rattle.scenario_generator.proofs.Prelude.{is_utf8-from_IsUtf8, items_outline, json_tokens, list_all, max_depth, number_of-decimal, of_items}
-pub use Rattle.scenario_generator.proofs.Prelude.{of_json, outline, print, print-outline, put, slice_get_within, tokens, value-json_tokens}
+pub use Rattle.scenario_generator.proofs.Prelude.{is_utf8-from_IsUtf8, json_tokens, list_all, max_depth, of_items}
+pub use Rattle.scenario_generator.proofs.Prelude.{of_json, print, put, slice_get_within, tokens}
 unfoldable pub use Rattle.scenario_generator.proofs.Prelude.{digits, escape_byte, print_from}
-pub use Rattle.scenario_generator.proofs.Reading.{tokens-line}
 pub use Rattle.scenarios.specs.BinlogCoords.Log.{end_coord, end_or_first}
 pub use Rattle.scenarios.specs.BinlogCoords.Text.{six_digits}
 pub use Rattle.scenarios.specs.OrchBase.Names.{HostPort}

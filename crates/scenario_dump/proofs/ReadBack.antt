@@ -1,25 +1,16 @@
 -- The text reads as JSON, with the value of the world.
 pub use Rattle.std.proofs.lemmas.Bool.{and_parts as both}
-use Rattle.std.proofs.Common.{◌≡◌, ◌∙◌, ◌<◌, ◌≤◌, ℕ, ◌+◌, ◌^◌, Bool, true, false, ◌&&◌, ◌∷◌, List, [], ◌++◌, Option, Some, option_map, option_and_then, refl, sym, ap, arith, append-nil}
-use Rattle.scenario_dump.proofs.Prelude.{ArePrintable-json_tokens, Data, Equal, Greater, HasNumbers as HasNumbersIn, IsNumber-decimal, Items}
-use Rattle.scenario_dump.proofs.Prelude.{ItemsHaveNumbers, Less, Members, MembersHaveNumbers, Ordering, Token, array, boolean, compact_text}
-use Rattle.scenario_dump.proofs.Prelude.{false≢true, item, items_outline, json_tokens, max_depth, member, members_outline, nat_cmp, no_items}
-use Rattle.scenario_dump.proofs.Prelude.{no_members, number, number_of-decimal, object, of_items, of_json, of_members, outline, print-outline, put}
-use Rattle.scenario_dump.proofs.Prelude.{read, slice_cmp, string, tokens, tokens-line, unsigned, value-json_tokens}
+use Rattle.std.proofs.Common.{◌≡◌, ◌∙◌, ◌≤◌, ℕ, ◌+◌, Bool, true, false, ◌&&◌, List, Option, Some, option_map, option_and_then, refl, sym, ap, arith}
+use Rattle.scenario_dump.proofs.Prelude.{Data, Equal, Greater}
+use Rattle.scenario_dump.proofs.Prelude.{Less, Members, MembersHaveNumbers, Ordering, Token, boolean}
+use Rattle.scenario_dump.proofs.Prelude.{false≢true, member, members_outline, nat_cmp}
+use Rattle.scenario_dump.proofs.Prelude.{no_members, object, of_json, of_members, put}
+use Rattle.scenario_dump.proofs.Prelude.{slice_cmp}
 use Rattle.scenario_dump.proofs.Prelude.json
 use Rattle.scenario_dump.proofs.Prelude.tree
+pub use Rattle.scenario_generator.proofs.ReadBack.{Reads, ReadsItems, reads_array, reads_item, reads_no_items, reads_number, reads_string, reads_text}
 
 -- ---- values that read back, no deeper than this
-
-pub record Reads (k : ℕ) (d : Data) : Type 0 where
-  pub back : of_json (outline d) ≡ Some d
-  pub numbers : HasNumbersIn (outline d)
-  pub shallow : tree.depth (outline d) ≤ k
-
-pub record ReadsItems (k : ℕ) (ds : Items) : Type 0 where
-  pub back : of_items (items_outline ds) ≡ Some ds
-  pub numbers : ItemsHaveNumbers (items_outline ds)
-  pub shallow : tree.items_depth (items_outline ds) ≤ k
 
 -- members after others
 abbrev pub behind : Members → Members → Members
@@ -46,27 +37,8 @@ pub record ReadsMembers (k : ℕ) (found ms : Members) : Type 0 where
   pub numbers : MembersHaveNumbers (members_outline ms)
   pub shallow : tree.members_depth (members_outline ms) ≤ k
 
-pub reads_string : (k : ℕ) (s : List ℕ) → Reads k (string s)
-reads_string k s = record { back = refl; numbers = tt; shallow = omega arith }
-
 pub reads_flag : (k : ℕ) (b : Bool) → Reads k (boolean b)
 reads_flag k b = record { back = refl; numbers = tt; shallow = omega arith }
-
-pub reads_number : (k n : ℕ) → n < 2 ^ 64 → Reads k (number (unsigned n))
-reads_number k n small = record { back = ap (option_map number) (number_of-decimal n small); numbers = IsNumber-decimal n small; shallow = omega arith }
-
-pub reads_no_items : (k : ℕ) → ReadsItems k no_items
-reads_no_items k = record { back = refl; numbers = tt; shallow = omega arith }
-
-pub reads_item : (k : ℕ) (d : Data) (ds : Items) → Reads k d → ReadsItems k ds → ReadsItems k (item d ds)
-reads_item k d ds first rest = record {
-  back = rw (first.back, rest.back);
-  numbers = (first.numbers, rest.numbers);
-  shallow = omega (arith, first.shallow, rest.shallow);
-}
-
-pub reads_array : (k : ℕ) (ds : Items) → ReadsItems k ds → Reads (k + 1) (array ds)
-reads_array k ds items = record { back = ap (option_map array) items.back; numbers = items.numbers; shallow = omega (arith, items.shallow) }
 
 -- ---- members in the order of their keys
 
@@ -117,10 +89,3 @@ reads_rising k found (member l d ms) rising each =
 
 abbrev whole : Option (json.Json × List Token) → Option Data
 whole o = option_and_then of_json (option_and_then (λ p. json.if_last p.0 p.1) o)
-
-pub reads_text : (k : ℕ) (d : Data) → k ≤ max_depth → Reads k d → read (compact_text d ++ 10 ∷ []) ≡ Some d
-reads_text k d deep h =
-    let j = outline d in
-    let text : tokens (compact_text d ++ 10 ∷ []) ≡ json_tokens j =
-    ap (λ (v : List ℕ). tokens (v ++ 10 ∷ [])) (sym (print-outline d)) ∙ tokens-line (json_tokens j) (ArePrintable-json_tokens j h.numbers) in
-    ap whole (ap (json.value max_depth) (text ∙ sym (append-nil (json_tokens j))) ∙ value-json_tokens j max_depth [] (omega (arith, h.shallow))) ∙ h.back

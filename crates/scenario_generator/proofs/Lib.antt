@@ -7,6 +7,7 @@ pub mod Turns
 pub mod Wholes
 pub mod Promises
 pub mod Reading
+pub mod ReadBack
 pub mod Values
 pub mod Names
 pub mod Lines

@@ -1,47 +1,17 @@
 -- Values whose text reads back.
-use Rattle.std.proofs.Common.{◌≡◌, ◌∙◌, ◌<◌, ◌≤◌, ℕ, zero, suc, ◌+◌, ◌^◌, ◌∷◌, List, [], ◌++◌, Option, Some, option_map, option_and_then, refl, sym, ap, arith, append-nil, codes}
-use Rattle.scenario_generator.proofs.Prelude.{Apply, ArePrintable-json_tokens, AreTurnsOf, Data, DrawnServer, DrawnTurn, Fetch, HasNumbers}
-use Rattle.scenario_generator.proofs.Prelude.{IsNumber-decimal, IsTurnOf, Items, ItemsHaveNumbers, PollRead, PollStore, Replica, Root, Rotate, Token}
-use Rattle.scenario_generator.proofs.Prelude.{Write, array, compact_text, count_at, count_of, drawn_data, item, items_outline, json_tokens, max_depth}
-use Rattle.scenario_generator.proofs.Prelude.{member, no_items, no_members, number_of-decimal, object, of_items, of_json, outline, print-outline, put}
-use Rattle.scenario_generator.proofs.Prelude.{read, scenario_text, server_data, server_name, servers_data, servers_from, tokens, turn_data}
-use Rattle.scenario_generator.proofs.Prelude.{turns_data, turns_from, unsigned, value-json_tokens}
+use Rattle.std.proofs.Common.{◌≡◌, ◌<◌, ◌≤◌, ℕ, zero, suc, ◌+◌, ◌∷◌, List, [], Option, Some, option_and_then, refl, ap, arith, codes}
+use Rattle.scenario_generator.proofs.Prelude.{Apply, AreTurnsOf, Data, DrawnServer, DrawnTurn, Fetch}
+use Rattle.scenario_generator.proofs.Prelude.{IsTurnOf, PollRead, PollStore, Replica, Root, Rotate, Token}
+use Rattle.scenario_generator.proofs.Prelude.{Write, array, count_at, count_of, drawn_data, item}
+use Rattle.scenario_generator.proofs.Prelude.{member, no_items, no_members, object, of_json, put}
+use Rattle.scenario_generator.proofs.Prelude.{read, scenario_text, server_data, server_name, servers_data, servers_from, turn_data}
+use Rattle.scenario_generator.proofs.Prelude.{turns_data, turns_from}
 use Rattle.scenario_generator.proofs.Prelude.SerdeJson.{number, string}
 use Rattle.scenario_generator.proofs.Prelude.json
-use Rattle.scenario_generator.proofs.Prelude.tree
 use Rattle.scenario_generator.proofs.Promises.{counts_few, turns_are}
-use Rattle.scenario_generator.proofs.Reading.{tokens-line}
+use Rattle.scenario_generator.proofs.ReadBack.{Reads, ReadsItems, reads_array, reads_item, reads_no_items, reads_number, reads_string, reads_text}
 
 -- ---- values that read back, no deeper than this
-
-record Reads (k : ℕ) (d : Data) : Type 0 where
-  back : of_json (outline d) ≡ Some d
-  numbers : HasNumbers (outline d)
-  shallow : tree.depth (outline d) ≤ k
-
-record ReadsItems (k : ℕ) (ds : Items) : Type 0 where
-  back : of_items (items_outline ds) ≡ Some ds
-  numbers : ItemsHaveNumbers (items_outline ds)
-  shallow : tree.items_depth (items_outline ds) ≤ k
-
-reads_string : (k : ℕ) (s : List ℕ) → Reads k (string s)
-reads_string k s = record { back = refl; numbers = tt; shallow = omega arith }
-
-reads_number : (k n : ℕ) → n < 2 ^ 64 → Reads k (number (unsigned n))
-reads_number k n small = record { back = ap (option_map number) (number_of-decimal n small); numbers = IsNumber-decimal n small; shallow = omega arith }
-
-reads_no_items : (k : ℕ) → ReadsItems k no_items
-reads_no_items k = record { back = refl; numbers = tt; shallow = omega arith }
-
-reads_item : (k : ℕ) (d : Data) (ds : Items) → Reads k d → ReadsItems k ds → ReadsItems k (item d ds)
-reads_item k d ds first rest = record {
-  back = rw (first.back, rest.back);
-  numbers = (first.numbers, rest.numbers);
-  shallow = omega (arith, first.shallow, rest.shallow);
-}
-
-reads_array : (k : ℕ) (ds : Items) → ReadsItems k ds → Reads (k + 1) (array ds)
-reads_array k ds items = record { back = ap (option_map array) items.back; numbers = items.numbers; shallow = omega (arith, items.shallow) }
 
 -- members in the order of their keys
 reads_two : (k : ℕ) (l m : List ℕ) (d e : Data) → put m e (member l d no_members) ≡ member l d (member m e no_members) → Reads k d → Reads k e → Reads (k + 1) (object (member l d (member m e no_members)))
@@ -101,13 +71,6 @@ reads_drawn seed servers turns some =
 
 abbrev whole : Option (json.Json × List Token) → Option Data
 whole o = option_and_then of_json (option_and_then (λ p. json.if_last p.0 p.1) o)
-
-reads_text : (k : ℕ) (d : Data) → k ≤ max_depth → Reads k d → read (compact_text d ++ 10 ∷ []) ≡ Some d
-reads_text k d deep h =
-    let j = outline d in
-    let text : tokens (compact_text d ++ 10 ∷ []) ≡ json_tokens j =
-    ap (λ (v : List ℕ). tokens (v ++ 10 ∷ [])) (sym (print-outline d)) ∙ tokens-line (json_tokens j) (ArePrintable-json_tokens j h.numbers) in
-    ap whole (ap (json.value max_depth) (text ∙ sym (append-nil (json_tokens j))) ∙ value-json_tokens j max_depth [] (omega (arith, h.shallow))) ∙ h.back
 
 pub text_reads : (seed servers turns : ℕ) → 0 < servers → read (scenario_text seed servers turns) ≡ Some (drawn_data seed servers turns)
 unfolding scenario_text

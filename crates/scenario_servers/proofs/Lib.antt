@@ -2,7 +2,6 @@ pub mod Prelude
 pub mod Absent
 pub mod Apartness
 pub mod NameTables
-pub mod Printed
 pub mod Reading
 pub mod ServerSteps
 pub mod Steps

@@ -1,7 +1,6 @@
 -- What its proofs cite of others.
-pub use Rattle.std.proofs.lemmas.Bool.{and_parts, cases_order, eq-eqb, eqb-true, false_from_ne_true, false≢true, leb-true, lt-ltb, or_left, or_right}
+pub use Rattle.std.proofs.lemmas.Bool.{and_parts, cases_order, eq-eqb, false_from_ne_true, false≢true, leb-true, lt-ltb, or_left, or_right}
 pub use Rattle.std.proofs.lemmas.Bool.Decides.{nat_tests}
-pub use Rattle.std.proofs.lemmas.Fmt.{IsAscii-decimal}
 pub use Rattle.std.proofs.lemmas.Iterator.{YieldsList-from_map, YieldsList-from_slice, YieldsList-from_zip, items_from_collect}
 pub use Rattle.std.proofs.lemmas.Iterator.Adapters.{YieldsList-from_vec}
 pub use Rattle.std.proofs.lemmas.Iterator.Consumers.{YieldsList-at, YieldsList-end}
@@ -10,15 +9,13 @@ pub use Rattle.std.proofs.lemmas.List.Elements.{All-cons, All-nil}
 pub use Rattle.std.proofs.lemmas.Map.Text.{hash_map_updates_text, is_eq-slice_cmp}
 pub use Rattle.std.proofs.lemmas.Option.{same_Some}
 pub use Rattle.std.proofs.lemmas.Slice.Eq.{bytes_eq-Decides}
-pub use Rattle.std.proofs.lemmas.Str.{IsAscii-append, IsUtf8-from_ascii}
-pub use Rattle.std.proofs.lemmas.Str.Ascii.{IsAscii-cons, IsAscii-nil}
 pub use Rattle.std.specs.BTreeMap.{Updates}
 pub use Rattle.std.specs.BTreeMap as Std
 pub use Rattle.std.specs.Cmp.Lexicographic.{same_text}
-pub use Rattle.std.specs.List.{list_all, zip}
+pub use Rattle.std.specs.List.{zip}
 pub use Rattle.std.specs.Map.{update}
 pub use Rattle.std.specs.Ordering.{is_eq, match_ordering, ordering_then}
-pub use Rattle.std.specs.Str.{IsAscii, IsUtf8, bytes_eq}
+pub use Rattle.std.specs.Str.{IsUtf8, bytes_eq}
 pub use Rattle.std.specs.Vec.Iter.{into_iter_items, into_iter_len}
 pub use Rattle.std.specs.declared.cmp.Ordering.{Ordering}
 pub use Rattle.std.specs.declared.cmp.Ordering.TheVariants.{Equal, Greater, Less}
@@ -55,5 +52,5 @@ pub use Rattle.scenario_values.specs.declared.fault.FaultCode.TheVariants.{Unkno
 pub use Rattle.serde_json.specs.Data.{Members, array, boolean, member, no_members, null, number, object, string}
 pub use Rattle.serde_json.specs.Find.{get_item, get_member}
 pub use Rattle.serde_json.specs.declared.value.Value.{Value}
+pub use Rattle.server_words.proofs.OrchBase.Printed.{printed_is_utf8}
 pub use Rattle.server_words.proofs.OrchBase.SameNames.{same_name_tells}
-pub use Rattle.server_words.specs.OrchBase.Names.{IsName, is_host_byte}

@@ -32,7 +32,7 @@ fn root_in(given: &[Given], n: usize) -> usize
 }
 
 /// A name as it is printed, HOST:PORT. `Err` means out of memory.
-#[tactic(auto, using(crate::proofs::Printed::printed_is_utf8))]
+#[tactic(auto, using(crate::proofs::Prelude::printed_is_utf8))]
 pub fn printed_name(alloc: Global, name: &Name) -> Result<OwnedText, Memory>
     ensures { IfOk result (λ l. l ≡ printed name.now) }
 {

@@ -34,9 +34,11 @@ impl Eq for NameKey {
 }
 
 impl PartialOrd for NameKey {
-    ghost partial_cmp = { as_partial_cmp (then_cmp (on (λ k. k.0.host) (slice_cmp nat_cmp)) (on (λ k. k.0.port) nat_cmp)) };
+    ghost partial_cmp = { as_partial_cmp (then_cmp (on (λ k. k.0.host) (slice_cmp nat_cmp))
+        (on (λ k. k.0.port) nat_cmp)) };
 
-    ghost laws = { partial_order_from_own_ties (Prim.search (comparing, rules) depth 9) (Prim.search (comparing, rules) depth 9) };
+    ghost laws = { partial_order_from_own_ties (Prim.search (comparing, rules) depth 9)
+        (Prim.search (comparing, rules) depth 9) };
 
     fn partial_cmp(&self, other: &NameKey) -> Option<Ordering> {
         Some(self.cmp(other))
@@ -76,7 +78,8 @@ impl Model for Names {
 
     ghost view = { λ n. n.listed.items };
 
-    ghost invariant = { λ n. (IsTableOf n.numbers n.listed.items) × (AreTexts n.texts n.listed.items) };
+    ghost invariant = { λ n. (IsTableOf n.numbers n.listed.items)
+        × (AreTexts n.texts n.listed.items) };
 }
 
 // The name that a server is listed with, if it reads.

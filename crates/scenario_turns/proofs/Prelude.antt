@@ -33,7 +33,7 @@ pub use Rattle.scenario_turns.specs.declared.word.Word.{Word}
 pub use Rattle.scenario_turns.specs.declared.word.Word.TheVariants as word
 pub use Rattle.scenario_values.specs.Values.{text_within}
 pub use Rattle.scenarios.specs.Commands.Turns.{is_within}
-pub use Rattle.scenarios.specs.Commands.Values.{number_and_unit, number_at, within}
+pub use Rattle.scenarios.specs.Commands.Values.{number_and_unit, number_at}
 pub use Rattle.scenarios.specs.Commands.declared.turn.Command.{Command}
 pub use Rattle.scenarios.specs.Turns.declared.turn.Act.TheVariants
 pub use Rattle.scenarios.specs.Turns.declared.turn.Turn.TheVariants as turn

@@ -6,7 +6,8 @@ use Rattle.scenario_turns.proofs.Prelude.{IsCommand, Items, Keys, ServerNo, bind
 use Rattle.scenario_turns.proofs.Prelude.{get, given_in, holds, holds-ok, instances_in, is_found, is_pattern, is_there, is_within, keys_in, leb-true}
 use Rattle.scenario_turns.proofs.Prelude.{length-map, maybe, maybe-ok, members_in, name_in, named-ok, nat_tests, needs_of, number_and_unit, number_at}
 use Rattle.scenario_turns.proofs.Prelude.{only_keys, or_fails-ok, parts_of, pattern_in, rule_in, same_Ok, seconds_at, server_named, short_in, text_in}
-use Rattle.scenario_turns.proofs.Prelude.{text_within, under-ok, under_item, within}
+use Rattle.scenario_turns.proofs.Prelude.{text_within, under-ok, under_item}
+use Rattle.scenarios.proofs.CommandsProofs.Numbers.{in_range}
 
 -- what is read if it is given has what each that is read has
 given_has : {A : Type 0} (P : A → Type 0) (key : List ℕ) (read : Data → Result A Fault) (d : Data) (o : Option A) → ((v : Data) (x : A) → read v ≡ Ok x → P x) → maybe key read d ≡ Ok o → IfSome o P
@@ -17,17 +18,6 @@ given_has {A} P key read d o has e = go (maybe-ok key read d o e)
     go (inr there) = subst (λ (p : Option A). IfSome p P) (sym there.2) (has there.0 there.1 there.3)
 
 -- ---- numbers and texts
-
-in_range : (low high n : ℕ) (o : Option ℕ) → within low high o ≡ Some n → (low ≤ n) × (n ≤ high)
-in_range low high n None e = cc
-in_range low high n (Some m) e = go (nat_le low m && nat_le m high) refl e
-  where
-    go : (b : Bool) → (nat_le low m && nat_le m high) ≡ b → cond b (Some m) None ≡ Some n → (low ≤ n) × (n ≤ high)
-    go true is e =
-        let parts = both_true (nat_le low m) (nat_le m high) is in
-        let same : m ≡ n = cc in
-        subst (λ (k : ℕ). (low ≤ k) × (k ≤ high)) same (leb-true low m parts.0, leb-true m high parts.1)
-    go false is e = cc
 
 seconds-have : (text : List ℕ) (n : ℕ) → seconds_at text ≡ Some n → (1 ≤ n) × (n ≤ 31536000)
 seconds-have text n e =

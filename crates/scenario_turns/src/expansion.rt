@@ -119,6 +119,8 @@ fn writes_of(listed: &ListedTurn) -> usize
 
 /// The turns that the listed ones mean, if they are at most 1,000,000, and how many of them are writes. The time is
 /// that of these turns. `Err` means out of memory.
+// Inlined into a larger function, the walk would have too few registers.
+#[inline(never)]
 pub fn expanded(
     alloc: Global,
     ordered: &[ServerNo],

@@ -7,7 +7,9 @@ use Rattle.std.specs.declared.cmp.Ordering.{Ordering}
 use Rattle.std.specs.declared.cmp.Ordering.TheVariants.{Less, Equal, Greater}
 use Rattle.serde_json.specs.Data.{Data, string, Members, no_members, member, put}
 use Rattle.serde_json.specs.Written.{has_float, members_have_float}
+pub use Rattle.scenarios.proofs.OrchBase.Printed.{printed_is_utf8}
 use Rattle.scenarios.specs.OrchBase.Names.{HostPort}
+use Rattle.scenarios.specs.OrchBase.Words.{rule_text}
 use Rattle.scenarios.specs.Commands.declared.turn.CommandTurn.{CommandTurn}
 use Rattle.scenarios.specs.Turns.declared.turn.Act.{Act}
 use Rattle.scenarios.specs.Turns.declared.turn.Act.TheVariants as act
@@ -15,7 +17,7 @@ use Rattle.scenarios.specs.Turns.declared.turn.Step.{Step}
 use Rattle.scenarios.specs.Turns.declared.turn.Step.TheVariants as step
 use Rattle.scenarios.specs.Turns.declared.turn.Turn.{Turn}
 use Rattle.scenarios.specs.Turns.declared.turn.Turn.TheVariants as turn
-use Rattle.schedules.specs.Turns.{act_data, given_members, name_text, rule_word, step_data, turn_data, with_given}
+use Rattle.schedules.specs.Turns.{act_data, given_members, name_text, step_data, turn_data, with_given}
 
 put-plain : (k : List ℕ) (d : Data) (ms : Members) → has_float d ≡ false → members_have_float ms ≡ false → members_have_float (put k d ms) ≡ false
 put-plain k d no_members e f = none-of (has_float d) false e refl
@@ -35,7 +37,7 @@ given-plain k text (Some x) ms e = put-plain k (string (text x)) ms refl e
 
 given_plain : (names : List HostPort) (t : CommandTurn) → members_have_float (given_members names t) ≡ false
 given_plain names t =
-    given-plain (codes "rule") rule_word t.keys.rule _
+    given-plain (codes "rule") rule_text t.keys.rule _
     (given-plain (codes "reason") (λ x. x) t.keys.reason _
     (given-plain (codes "pattern") (λ f. f.text) t.keys.pattern _
     (given-plain (codes "owner") (λ x. x) t.keys.owner _

@@ -2,12 +2,10 @@
 use Rattle.std.specs.Prelude.{ℕ, List, [], ◌++◌, codes, decimal, option_map, unwrap_or, slice_get, Option, Some, None}
 use Rattle.serde_json.specs.Data.{Data, string, array, object, no_items, item, Members, no_members, put}
 use Rattle.serde_json.specs.Written.{compact_text}
-use Rattle.scenarios.specs.OrchBase.declared.rule.Rule.{Rule}
-use Rattle.scenarios.specs.OrchBase.declared.rule.Rule.TheVariants as rule
 use Rattle.scenarios.specs.OrchBase.declared.server.ServerNo.{ServerNo}
 use Rattle.scenarios.specs.OrchBase.Names.{HostPort, printed}
-use Rattle.scenarios.specs.ServerWords.declared.changes.Link.{Link}
-use Rattle.scenarios.specs.ServerWords.declared.changes.Link.TheVariants as link
+use Rattle.scenarios.specs.OrchBase.Words.{rule_text}
+use Rattle.scenarios.specs.ServerWords.Words.{link_text}
 use Rattle.scenario_dump.specs.Texts.{list_data}
 use Rattle.scenarios.specs.Commands.Names.{word_of}
 use Rattle.scenarios.specs.Commands.declared.turn.CommandTurn.{CommandTurn}
@@ -26,16 +24,6 @@ name_text names n = unwrap_or (option_map printed (slice_get names n.0)) []
 abbrev pub name_data : List HostPort → ServerNo → Data
 name_data names n = string (name_text names n)
 
-abbrev pub link_word : Link → List ℕ
-link_word link.Desk = codes "desk"
-link_word link.Feed = codes "feed"
-
-abbrev pub rule_word : Rule → List ℕ
-rule_word rule.Prefer = codes "prefer"
-rule_word rule.Neutral = codes "neutral"
-rule_word rule.PreferNot = codes "prefer_not"
-rule_word rule.MustNot = codes "must_not"
-
 -- ---- commands
 
 -- with a member if it is given; an object's members are in the order of their keys
@@ -46,7 +34,7 @@ with_given key (Some d) ms = put key d ms
 -- just the keys that the turn holds; a duration is the decimal text of its seconds
 abbrev pub given_members : List HostPort → CommandTurn → Members
 given_members names t =
-    with_given (codes "rule") (option_map (λ r. string (rule_word r)) t.keys.rule)
+    with_given (codes "rule") (option_map (λ r. string (rule_text r)) t.keys.rule)
     (with_given (codes "reason") (option_map string t.keys.reason)
     (with_given (codes "pattern") (option_map (λ f. string f.text) t.keys.pattern)
     (with_given (codes "owner") (option_map string t.keys.owner)
@@ -75,8 +63,8 @@ step_data names (step.Fetch n) = with_one (codes "fetch") (name_data names n)
 step_data names (step.Apply n) = with_one (codes "apply") (name_data names n)
 step_data names (step.Fail n) = with_one (codes "fail") (name_data names n)
 step_data names (step.Heal n) = with_one (codes "heal") (name_data names n)
-step_data names (step.Cut n l) = with_two (codes "cut") (name_data names n) (string (link_word l))
-step_data names (step.Join n l) = with_two (codes "join") (name_data names n) (string (link_word l))
+step_data names (step.Cut n l) = with_two (codes "cut") (name_data names n) (string (link_text l))
+step_data names (step.Join n l) = with_two (codes "join") (name_data names n) (string (link_text l))
 step_data names (step.Rotate n) = with_one (codes "rotate") (name_data names n)
 step_data names (step.Purge n file) = with_two (codes "purge") (name_data names n) (whole file)
 

@@ -3,11 +3,12 @@
 ghost use Rattle.std.specs.Prelude.{◌≡◌, IfOk, OnOk, decimal, option_map};
 ghost use Rattle.serde_json.specs.Data.{string};
 ghost use Rattle.serde_json.specs.View.{members_view, view};
-ghost use Rattle.schedules.specs.Turns.{given_data, name_data, rule_word, with_given};
+ghost use Rattle.scenarios.specs.OrchBase.Words.{rule_text};
+ghost use Rattle.schedules.specs.Turns.{given_data, name_data, with_given};
 
 use crate::commands::{CommandTurn, Found};
 use crate::orch_base::{Memory, Name, OwnedText, Rule, ServerNo};
-use crate::words::{name_string, rule_word};
+use crate::words::name_string;
 use itoa::Buffer;
 use serde_json::{Map, Value, put};
 use std::alloc::Global;
@@ -42,10 +43,10 @@ fn name_value(alloc: Global, names: &[Name], no: Option<ServerNo>) -> Result<Opt
 
 fn rule_value(alloc: Global, rule: Option<Rule>) -> Result<Option<Value>, Memory>
     ensures { IfOk result (λ v. option_map view v
-        ≡ option_map (λ r. string (rule_word r)) rule) }
+        ≡ option_map (λ r. string (rule_text r)) rule) }
 {
     match rule {
-        Some(rule) => Ok(Some(Value::from(String::from_str(alloc, rule_word(rule))?))),
+        Some(rule) => Ok(Some(Value::from(String::from_str(alloc, rule.word())?))),
         None => Ok(None),
     }
 }

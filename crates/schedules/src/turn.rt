@@ -3,7 +3,8 @@
 ghost use Rattle.std.specs.Prelude.{◌≡◌, IfOk};
 ghost use Rattle.serde_json.specs.Data.{string};
 ghost use Rattle.serde_json.specs.View.{view};
-ghost use Rattle.schedules.specs.Turns.{act_data, link_word, name_data, step_data, turn_data, with_one, with_two};
+ghost use Rattle.scenarios.specs.ServerWords.Words.{link_text};
+ghost use Rattle.schedules.specs.Turns.{act_data, name_data, step_data, turn_data, with_one, with_two};
 ghost use Rattle.row_texts.specs.Written.{whole};
 
 use crate::command::given_value;
@@ -11,7 +12,7 @@ use crate::commands::CommandTurn;
 use crate::orch_base::{Memory, Name, ServerNo};
 use crate::server_words_items::Link;
 use crate::turns::{Act, Step, Turn};
-use crate::words::{link_word, name_string};
+use crate::words::name_string;
 use serde_json::{Value, json};
 use std::alloc::Global;
 
@@ -47,10 +48,10 @@ fn with_link(
     link: Link,
 ) -> Result<Value, Memory>
     ensures { IfOk result (λ v. view v
-        ≡ with_two word.now (name_data names.now no) (string (link_word link))) }
+        ≡ with_two word.now (name_data names.now no) (string (link_text link))) }
 {
     let name = name_string(alloc, names, no)?;
-    let link = link_word(link);
+    let link = link.word();
     json!(in alloc; [word, name, link])
 }
 

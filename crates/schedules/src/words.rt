@@ -2,13 +2,12 @@
 
 ghost use Rattle.std.specs.Prelude.{◌≡◌, IfOk, string_bytes};
 ghost use Rattle.scenarios.specs.OrchBase.Names.{printed};
-ghost use Rattle.schedules.specs.Turns.{link_word, name_text, rule_word};
+ghost use Rattle.schedules.specs.Turns.{name_text};
 
-use crate::orch_base::{Memory, Name, Rule, ServerNo};
-use crate::server_words_items::Link;
+use crate::orch_base::{Memory, Name, ServerNo};
 use std::alloc::Global;
 
-#[tactic(auto, using(row_texts::proofs::Printed::name_is_utf8))]
+#[tactic(auto, using(crate::proofs::Texts::printed_is_utf8))]
 fn printed(alloc: Global, name: &Name) -> Result<String, Memory>
     ensures { IfOk result (λ s. string_bytes s ≡ printed name.now) }
 {
@@ -24,25 +23,5 @@ pub(crate) fn name_string(alloc: Global, names: &[Name], no: ServerNo) -> Result
     match names.get(no.0 as usize) {
         Some(name) => printed(alloc, name),
         None => Ok(String::new(alloc)),
-    }
-}
-
-pub(crate) fn link_word(link: Link) -> &'static str
-    ensures { result.now ≡ link_word link }
-{
-    match link {
-        Link::Desk => "desk",
-        Link::Feed => "feed",
-    }
-}
-
-pub(crate) fn rule_word(rule: Rule) -> &'static str
-    ensures { result.now ≡ rule_word rule }
-{
-    match rule {
-        Rule::Prefer => "prefer",
-        Rule::Neutral => "neutral",
-        Rule::PreferNot => "prefer_not",
-        Rule::MustNot => "must_not",
     }
 }

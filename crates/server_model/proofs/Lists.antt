@@ -1,6 +1,7 @@
 -- Look-ups after a write.
-use Rattle.std.proofs.Common.{◌≡◌, ℕ, false, cond, List, [], ◌∷◌, refl, sym, ◌∙◌, ap, inl, inr, ◌⊎◌, Some, arith, zero, suc, length, ◌<◌, ◌≤◌, ◌+◌, ◌-◌, ◌++◌, take, drop, get_or, slice_get, slice_range, slice_set, ◌==◌}
+use Rattle.std.proofs.Common.{◌≡◌, ℕ, false, cond, List, [], ◌∷◌, refl, sym, ◌∙◌, ap, inl, inr, ◌⊎◌, Some, arith, zero, suc, length, ◌<◌, ◌≤◌, ◌+◌, ◌-◌, ◌++◌, drop, get_or, slice_get, slice_range, slice_set, ◌==◌}
 use Rattle.server_model.proofs.Prelude.{cases_eq, eq-eqb, nat_tests, ne_eqb, same_Some, slice_get-get_or}
+pub use Rattle.server_words.proofs.OrchBase.Lists.{slice_get-front, slice_get-snoc_cases, slice_get-take, take-more}
 
 pub slice_get-set : {X : Type 0} (xs : List X) (i : ℕ) (x v : X) → slice_get xs i ≡ Some x → (j : ℕ) → slice_get (slice_set xs i v) j ≡ cond (j == i) (Some v) (slice_get xs j)
 slice_get-set [] i x v h j = cc
@@ -34,36 +35,6 @@ set_self (y ∷ ys) (suc i) x h = ap (λ zs. y ∷ zs) (set_self ys i x h)
 -- what an index finds
 pub slice_get-index : {X : Type 0} (xs : List X) (i : ℕ) (x : X) → i < length xs → x ≡ get_or xs i x → slice_get xs i ≡ Some x
 slice_get-index xs i x within e = slice_get-get_or xs i x within ∙ ap Some (sym e)
-
--- a prefix of a list has what the list has there
-pub slice_get-front : {X : Type 0} (xs : List X) (n i : ℕ) (x : X) → i < n → slice_get xs i ≡ Some x → slice_get (take n xs) i ≡ Some x
-slice_get-front [] n i x h e = cc
-slice_get-front (y ∷ ys) zero i x h e = absurd (omega arith)
-slice_get-front (y ∷ ys) (suc n) zero x h e = e
-slice_get-front (y ∷ ys) (suc n) (suc i) x h e = slice_get-front ys n i x (omega arith) e
-
--- one element more of a list
-pub take-more : {X : Type 0} (xs : List X) (i : ℕ) (x : X) → slice_get xs i ≡ Some x → take (i + 1) xs ≡ take i xs ++ x ∷ []
-take-more [] i x h = cc
-take-more (z ∷ xs) zero x h = let e : z ≡ x = same_Some z x h in ap (λ y. y ∷ []) e
-take-more (z ∷ xs) (suc i) x h =
-    let e : suc i + 1 ≡ suc (i + 1) = omega arith in rw e (ap (λ ys. z ∷ ys) (take-more xs i x h))
-
--- an element of a list with one more at its end is an old one or the new one
-pub slice_get-snoc_cases : {X : Type 0} (xs : List X) (y x : X) (i : ℕ) → slice_get (xs ++ y ∷ []) i ≡ Some x → (slice_get xs i ≡ Some x) ⊎ ((i ≡ length xs) × (x ≡ y))
-slice_get-snoc_cases [] y x zero h = inr (refl, sym (same_Some y x h))
-slice_get-snoc_cases [] y x (suc i) h = cc
-slice_get-snoc_cases (z ∷ xs) y x zero h = inl h
-slice_get-snoc_cases (z ∷ xs) y x (suc i) h =
-    elim (slice_get-snoc_cases xs y x i h) [ inl old ↦ inl old | inr new ↦ inr (ap suc new.0, new.1) ]
-
--- what is taken of a list is taken of one that goes on
-pub slice_get-take : {X : Type 0} (xs : List X) (n i : ℕ) (x : X) → slice_get (take n xs) i ≡ Some x → slice_get xs i ≡ Some x
-slice_get-take [] zero i x h = h
-slice_get-take [] (suc n) i x h = h
-slice_get-take (z ∷ xs) zero i x h = cc
-slice_get-take (z ∷ xs) (suc n) zero x h = h
-slice_get-take (z ∷ xs) (suc n) (suc i) x h = slice_get-take xs n i x h
 
 -- the list from an index on begins with what is there
 pub slice_get-drop : {X : Type 0} (xs : List X) (i : ℕ) (x : X) → slice_get xs i ≡ Some x → drop i xs ≡ x ∷ drop (i + 1) xs

@@ -1,5 +1,8 @@
 //! What changes one server: what orchestrator asks of it, and what happens to it.
 
+ghost use Rattle.std.specs.Prelude.{◌≡◌};
+ghost use Rattle.server_words.specs.Words.{link_text};
+
 use binlog_coords::Coord;
 
 /// The threads of a replica (MySQL 8.0 Reference Manual, "STOP REPLICA Statement").
@@ -19,6 +22,18 @@ pub enum Link {
     Desk,
     /// From the server to its source.
     Feed,
+}
+
+impl Link {
+    /// Its word.
+    pub fn word(self) -> &'static str
+        ensures { result.now ≡ link_text self }
+    {
+        match self {
+            Link::Desk => "desk",
+            Link::Feed => "feed",
+        }
+    }
 }
 
 /// What orchestrator asks of a server.

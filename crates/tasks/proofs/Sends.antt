@@ -1,43 +1,10 @@
 -- Texts on their way to sinks.
-use Rattle.std.proofs.Common.{◌≡◌, ◌∙◌, ℕ, ◌+◌, ◌≤◌, List, [], ◌++◌, length, take, true, false, sym, ap, subst, arith, append_assoc, Option, Some, None, Result, Ok, Err, Bool, OnOk, OnErr, is_err}
+use Rattle.std.proofs.Common.{◌≡◌, ◌∙◌, ℕ, ◌+◌, ◌≤◌, List, [], ◌++◌, true, false, sym, ap, subst, arith, append_assoc, Option, Result, Ok, Err, Bool, OnOk, OnErr, is_err}
 use Rattle.tasks.proofs.Prelude.{Appends, AppendsFront, Carries, End, FailsIn, HasCause, IsHanded, IsOnTheWay, Pieces, Rose, Taken, Takes, TakesFront}
-use Rattle.tasks.proofs.Prelude.{append-nil, between, length-append, take-append-add, take-append-le, take-length}
+use Rattle.tasks.proofs.Prelude.{append-nil, between}
+pub use Rattle.scenario_dump.proofs.Sends.{front_more, front_of_longer, takes_more, takes_nothing, whole_is_front}
 
 -- ---- what sinks take
-
--- nothing was taken
-pub takes_nothing : (known : Option (List ℕ)) → Appends known known []
-takes_nothing None = tt
-takes_nothing (Some xs) = sym (append-nil xs)
-
--- one text and then another
-pub takes_more : (before mid after : Option (List ℕ)) (xs ys : List ℕ) → Appends before mid xs → Appends mid after ys → Appends before after (xs ++ ys)
-takes_more None mid after xs ys first second = tt
-takes_more (Some b) None after xs ys first second = absurd first
-takes_more (Some b) (Some m) None xs ys first second = absurd second
-takes_more (Some b) (Some m) (Some a) xs ys first second = second ∙ (ap (λ (v : List ℕ). v ++ ys) first ∙ append_assoc b xs ys)
-
--- a text and then a prefix of another are a prefix of both
-pub front_more : (before mid after : Option (List ℕ)) (xs ys : List ℕ) → Appends before mid xs → AppendsFront mid after ys → AppendsFront before after (xs ++ ys)
-front_more before mid after xs ys first second =
-    let n = second.0 in
-    let few : n ≤ length ys = second.1 in
-    let within : length xs + n ≤ length (xs ++ ys) = omega (arith, few, length-append xs ys) in
-    (length xs + n, within, subst (λ (v : List ℕ). Appends before after v) (sym (take-append-add xs ys n)) (takes_more before mid after xs (take n ys) first second.2))
-
--- a prefix of a text is one of a longer text
-pub front_of_longer : (before after : Option (List ℕ)) (xs ys : List ℕ) → AppendsFront before after xs → AppendsFront before after (xs ++ ys)
-front_of_longer before after xs ys took =
-    let n = took.0 in
-    let few : n ≤ length xs = took.1 in
-    let within : n ≤ length (xs ++ ys) = omega (arith, few, length-append xs ys) in
-    (n, within, subst (λ (v : List ℕ). Appends before after v) (sym (take-append-le n xs ys few)) took.2)
-
--- the whole is a prefix
-pub whole_is_front : (before after : Option (List ℕ)) (bytes : List ℕ) → Appends before after bytes → AppendsFront before after bytes
-whole_is_front before after bytes took =
-    let within : length bytes ≤ length bytes = omega arith in
-    (length bytes, within, subst (λ (v : List ℕ). Appends before after v) (sym (take-length bytes)) took)
 
 -- and nothing is one of each text
 pub nothing_is_front : (before after : Option (List ℕ)) (bytes : List ℕ) → Appends before after [] → AppendsFront before after bytes

@@ -1,8 +1,9 @@
 -- how many steps it is from a node to its root
-use Rattle.std.proofs.Common.{◌≡◌, ℕ, ◌+◌, ◌<◌, ◌≤◌, true, false, List, [], ◌∷◌, length, refl, sym, ◌∙◌, ap, subst, inl, inr, ◌⊎◌, Option, Some, None, arith, zero, suc, ◌||◌, eqb}
-use Rattle.topology_tree.proofs.Prelude.{AllByRecursion, Direct, Follows, Further, Grounded, IsClosed, IsDistinct, Root, Under, above, eq-eqb}
-use Rattle.topology_tree.proofs.Prelude.{eqb-true, length-le_from_distinct_below, list_any, ne_eqb, or_cases, or_right}
+use Rattle.std.proofs.Common.{◌≡◌, ℕ, ◌+◌, ◌<◌, ◌≤◌, true, false, List, [], ◌∷◌, length, refl, sym, ◌∙◌, ap, subst, inl, inr, ◌⊎◌, Option, Some, None, arith, zero, suc, eqb}
+use Rattle.topology_tree.proofs.Prelude.{Direct, Follows, Further, Grounded, IsClosed, IsDistinct, Root, Under, above}
+use Rattle.topology_tree.proofs.Prelude.{eqb-true, length-le_from_distinct_below, list_any, ne_eqb, or_cases}
 use Rattle.topology_tree.proofs.Chains.{Grounded-no_return}
+use Rattle.orch_base.proofs.Lists.{all-apart}
 
 -- the nodes from one to its root
 unfoldable pub chain : (up : ℕ → Option ℕ) (x : ℕ) → Grounded up x → List ℕ
@@ -22,11 +23,6 @@ chain-follows up x q (Under x' m e g) h =
         | inr further ↦ inr (Further x m e further)
       ]
     ]
-
-all-apart : (x : ℕ) (xs : List ℕ) → ((q : ℕ) → list_any (eqb q) xs ≡ true → eqb x q ≡ false) → AllByRecursion (λ y. eqb x y ≡ false) xs
-all-apart x [] apart = tt
-all-apart x (y ∷ ys) apart =
-    (apart y (ap (λ b. b || list_any (eqb y) ys) (eq-eqb y y refl)), all-apart x ys (λ q h. apart q (or_right (eqb q y) (list_any (eqb q) ys) h)))
 
 pub chain-distinct : (up : ℕ → Option ℕ) (x : ℕ) (g : Grounded up x) → IsDistinct eqb (chain up x g)
 unfolding chain IsDistinct

@@ -5,6 +5,7 @@ use Rattle.world_openings.proofs.Prelude.{set_other, set_same, slice_get_within}
 use Rattle.std.proofs.Common.{◌≡◌, ℕ, ◌+◌, ◌<◌, List, [], ◌∷◌, ◌++◌, length, length-append, refl, sym, ◌∙◌, ap, inl, inr, Option, Some, None, arith, zero, suc, option_map, slice_get, slice_set}
 use Rattle.world_openings.proofs.Opened.{server_at-opened, length-opened_from}
 use Rattle.world_openings.proofs.OpenedWorlds.{log_at-is}
+use Rattle.server_words.proofs.OrchBase.Lists.{slice_get-there as there}
 
 -- lists with the same elements are the same
 same-by_index : {X : Type 0} (xs ys : List X) → length xs ≡ length ys → ((k : ℕ) (x : X) → slice_get xs k ≡ Some x → slice_get ys k ≡ Some x) → xs ≡ ys
@@ -21,11 +22,6 @@ slice_get-before : {X : Type 0} (xs : List X) (y : X) (k : ℕ) → k < length x
 slice_get-before [] y k h = absurd (omega arith)
 slice_get-before (x ∷ xs) y zero h = refl
 slice_get-before (x ∷ xs) y (suc k) h = slice_get-before xs y k (omega arith)
-
-there : {X : Type 0} (xs : List X) (k : ℕ) → k < length xs → (x : X) × (slice_get xs k ≡ Some x)
-there [] k h = absurd (omega arith)
-there (x ∷ xs) zero h = (x, refl)
-there (x ∷ xs) (suc k) h = there xs k (omega arith)
 
 pub AreBare-more : (o : Opened) (room flushes n : ℕ) (servers : List Server) (i : ServerInit) → slice_get o.servers n ≡ Some i → AreBare o room flushes n servers
     → AreBare o room flushes (n + 1) (servers ++ bare_server o.servers room flushes n i ∷ [])

@@ -12,32 +12,27 @@ index_mut-requires c =
     let known : c.in-Attached.source.0 < length b.names = source-known b c.loop-place.place-index c.in-Some.replica c.in-Attached.source c.servers-count.ensures.holds (place ∙ c.in-Some.is) c.in-Attached.is in
     omega (arith, known, c.loop-place.invariant.count, c.loop-place.tallies.ok)
 
-pub raise-requires-clause-parts : goal.raise-requires-clause-parts
-raise-requires-clause-parts c =
+pub raise-requires : goal.raise-requires
+raise-requires c =
     let b = c.args.book.now in
     let ts = c.loop-place.tallies.items in
     let s = c.in-Attached.source in
     let place = place-at b c.args.instances.now c.loop-place.place-index c.place-item.result c.requires c.loop-place-test.true c.place-item.is in
     let known : s.0 < length b.names = source-known b c.loop-place.place-index c.in-Some.replica s c.servers-count.ensures.holds (place ∙ c.in-Some.is) c.in-Attached.is in
     let within : s.0 < length ts = omega (arith, known, c.loop-place.invariant.count) in
-    subst AreParts (sym (tally-read ts s.0 c.index_mut.result.now within c.index_mut.ensures.value ∙ c.loop-place.invariant.tallies s known))
-    (tally-parts (take c.loop-place.place-index b.instances) s)
-
-pub raise-requires-clause-room : goal.raise-requires-clause-room
-raise-requires-clause-room c =
-    let b = c.args.book.now in
-    let ts = c.loop-place.tallies.items in
-    let s = c.in-Attached.source in
-    let place = place-at b c.args.instances.now c.loop-place.place-index c.place-item.result c.requires c.loop-place-test.true c.place-item.is in
-    let known : s.0 < length b.names = source-known b c.loop-place.place-index c.in-Some.replica s c.servers-count.ensures.holds (place ∙ c.in-Some.is) c.in-Attached.is in
-    let within : s.0 < length ts = omega (arith, known, c.loop-place.invariant.count) in
-    let is = ap (λ (t : Tally). t.replicas) (tally-read ts s.0 c.index_mut.result.now within c.index_mut.ensures.value ∙ c.loop-place.invariant.tallies s known) in
-    let few = tally-few b.instances c.loop-place.place-index s in
-    let book = c.servers-count.ensures.holds in
-    let small = book.small in
-    let all = places-all b c.args.instances.now c.requires in
-    let servers = book.instances in
-    omega (arith, is, few, small, all, servers, c.loop-place-test.true)
+    record {
+      parts =
+          subst AreParts (sym (tally-read ts s.0 c.index_mut.result.now within c.index_mut.ensures.value ∙ c.loop-place.invariant.tallies s known))
+          (tally-parts (take c.loop-place.place-index b.instances) s);
+      room =
+          let is = ap (λ (t : Tally). t.replicas) (tally-read ts s.0 c.index_mut.result.now within c.index_mut.ensures.value ∙ c.loop-place.invariant.tallies s known) in
+          let few = tally-few b.instances c.loop-place.place-index s in
+          let book = c.servers-count.ensures.holds in
+          let small = book.small in
+          let all = places-all b c.args.instances.now c.requires in
+          let servers = book.instances in
+          omega (arith, is, few, small, all, servers, c.loop-place-test.true);
+    }
 
 pub loop-place-preserved : goal.loop-place-preserved
 loop-place-preserved c =

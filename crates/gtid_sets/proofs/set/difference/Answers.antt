@@ -30,20 +30,18 @@ sweep-preserved-then-ends_before c =
       order = c.sweep.invariant.order;
     }
 
-pub append-requires-clause-next : goal.append-requires-clause-next
-append-requires-clause-next c =
+pub append-requires : goal.append-requires
+append-requires c =
     let d : Interval = record { uuid = 0; first = 0; last = 0 } in
     let s = get_or c.args.these.now c.sweep.i d in
     let not_less = ltb-false _ _ (sym c.ends_before.ensures ∙ c.if-ends_before.false) in
-    part_is s c.start_from-start.result.uuid c.start_from-start.result.n (c.requires.these.each c.sweep.i d c.sweep-test.true) (search arith) (omega (arith, c.start_from-start.ensures)) not_less
-
-pub append-requires-clause-order : goal.append-requires-clause-order
-append-requires-clause-order c =
-    let d : Interval = record { uuid = 0; first = 0; last = 0 } in
-    let s = get_or c.args.these.now c.sweep.i d in
-    let not_less = ltb-false _ _ (sym c.ends_before.ensures ∙ c.if-ends_before.false) in
-    let at = part_low s c.start_from-start.result.uuid c.start_from-start.result.n (c.requires.these.each c.sweep.i d c.sweep-test.true) (search arith) (omega (arith, c.start_from-start.ensures)) not_less in
-    λ k e h. let o = c.sweep.invariant.order k e h in omega (arith, c.start_from-start.ensures)
+    record {
+      next =
+          part_is s c.start_from-start.result.uuid c.start_from-start.result.n (c.requires.these.each c.sweep.i d c.sweep-test.true) (search arith) (omega (arith, c.start_from-start.ensures)) not_less;
+      order =
+          let at = part_low s c.start_from-start.result.uuid c.start_from-start.result.n (c.requires.these.each c.sweep.i d c.sweep-test.true) (search arith) (omega (arith, c.start_from-start.ensures)) not_less in
+          λ k e h. let o = c.sweep.invariant.order k e h in omega (arith, c.start_from-start.ensures);
+    }
 
 pub sweep-preserved-then-is_clear : goal.sweep-preserved-then-is_clear
 sweep-preserved-then-is_clear c =

@@ -1,5 +1,5 @@
 use Rattle.plan_lines.proofs.Prelude.{Stopped, ground_by, left, way_of}
-use Rattle.plan_lines.proofs.Lists.{given-onto}
+use Rattle.recovery_parts.proofs.Lists.{given-onto}
 use Rattle.plan_lines.proofs.branches.add_left.Goals as goal
 
 pub loop-replica-preserved : goal.loop-replica-preserved

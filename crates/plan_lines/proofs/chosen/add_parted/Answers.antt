@@ -1,5 +1,5 @@
 use Rattle.plan_lines.proofs.Prelude.{Stopped, ground_by, lot_for, parted}
-use Rattle.plan_lines.proofs.Lists.{given-onto}
+use Rattle.recovery_parts.proofs.Lists.{given-onto}
 use Rattle.plan_lines.proofs.chosen.add_parted.Goals as goal
 
 pub loop-other-preserved : goal.loop-other-preserved

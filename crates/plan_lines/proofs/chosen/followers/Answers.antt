@@ -1,6 +1,6 @@
 use Rattle.std.proofs.Common.{[]}
 use Rattle.plan_lines.proofs.Prelude.{Stopped, follower_in, ground_by, lot_for}
-use Rattle.plan_lines.proofs.Lists.{given-onto}
+use Rattle.recovery_parts.proofs.Lists.{given-onto}
 use Rattle.plan_lines.proofs.chosen.followers.Goals as goal
 
 pub loop-other-preserved : goal.loop-other-preserved

@@ -1,6 +1,6 @@
 use Rattle.std.proofs.Common.{[]}
 use Rattle.plan_lines.proofs.Prelude.{ServerNo, expected_at, instance_at}
-use Rattle.plan_lines.proofs.Lists.{given-onto}
+use Rattle.recovery_parts.proofs.Lists.{given-onto}
 use Rattle.plan_lines.proofs.expected.expected.Goals as goal
 
 pub loop-no-preserved : goal.loop-no-preserved

@@ -1,6 +1,6 @@
 use Rattle.std.proofs.Common.{[], ◌∙◌, ap}
 use Rattle.plan_lines.proofs.Prelude.{straight_line}
-use Rattle.plan_lines.proofs.Lists.{given-onto}
+use Rattle.recovery_parts.proofs.Lists.{given-onto}
 use Rattle.plan_lines.proofs.straight.straight_lines.Goals as goal
 
 pub loop-op-preserved : goal.loop-op-preserved

@@ -18,17 +18,15 @@ returns-in_err-reply-clause-err g c =
     (tally_gave_up _ (point (g.K.Keeper.kept c.loop-t.keeper) c.loop-t.engine) (point (g.K.Keeper.kept c.turn.new.keeper) c.turn.new.self) c.args.turns.now c.loop-t.t-index c.t-item.result c.loop-t.tally c.in_err-reply.field-0.0 c.loop-t-test.true c.loop-t.invariant.tallies
     (same_point _ _ _ _ c.in_err-reply.ensures.kept c.in_err-reply.ensures.err) (λ e. subst (Calls engine c.loop-t.engine) c.t-item.is (c.in_err-reply.ensures.calls (ap Err e))))
 
-pub with_reply-tally-requires-clause-turns : goal.with_reply-tally-requires-clause-turns
-with_reply-tally-requires-clause-turns g c =
-    let counted = Tallies-counted _ _ _ c.loop-t.tally c.loop-t.invariant.tallies in
-    let few : length (take c.loop-t.t-index c.args.turns.now) ≡ c.loop-t.t-index = length-take-le c.loop-t.t-index c.args.turns.now (omega arith) in
-    omega (arith, counted.turns, few, c.loop-t-test.true)
-
-pub with_reply-tally-requires-clause-refused : goal.with_reply-tally-requires-clause-refused
-with_reply-tally-requires-clause-refused g c = (Tallies-counted _ _ _ c.loop-t.tally c.loop-t.invariant.tallies).refused
-
-pub with_reply-tally-requires-clause-failed : goal.with_reply-tally-requires-clause-failed
-with_reply-tally-requires-clause-failed g c = (Tallies-counted _ _ _ c.loop-t.tally c.loop-t.invariant.tallies).failed
+pub with_reply-tally-requires : goal.with_reply-tally-requires
+with_reply-tally-requires g c = record {
+  turns =
+      let counted = Tallies-counted _ _ _ c.loop-t.tally c.loop-t.invariant.tallies in
+      let few : length (take c.loop-t.t-index c.args.turns.now) ≡ c.loop-t.t-index = length-take-le c.loop-t.t-index c.args.turns.now (omega arith) in
+      omega (arith, counted.turns, few, c.loop-t-test.true);
+  refused = (Tallies-counted _ _ _ c.loop-t.tally c.loop-t.invariant.tallies).refused;
+  failed = (Tallies-counted _ _ _ c.loop-t.tally c.loop-t.invariant.tallies).failed;
+}
 
 pub loop-t-preserved : goal.loop-t-preserved
 loop-t-preserved g c = record {

@@ -8,29 +8,20 @@ nothing-left : {X : Type 0} (xs : List X) → length xs ≡ 0 → xs ≡ []
 nothing-left [] h = refl
 nothing-left (x ∷ xs) h = absurd (omega (arith, h))
 
-pub join_recovery-requires-clause-can : goal.join_recovery-requires-clause-can
-join_recovery-requires-clause-can c =
+pub join_recovery-requires : goal.join_recovery-requires
+join_recovery-requires c =
     let at = c.loop-begun in
     let steps : into_iter_items at.begun-iterator ≡ c.in-Some.begun ∷ into_iter_items c.next.new.self = c.in-Some.ensures.steps.0 in
-    next-can _ _ (into_iter_items at.begun-iterator) c.in-Some.begun (into_iter_items c.next.new.self) steps (known at.self) _ _ _ at.invariant.left
-
-pub join_recovery-requires-clause-id : goal.join_recovery-requires-clause-id
-join_recovery-requires-clause-id c =
-    let at = c.loop-begun in
-    let steps : into_iter_items at.begun-iterator ≡ c.in-Some.begun ∷ into_iter_items c.next.new.self = c.in-Some.ensures.steps.0 in
-    next-fits _ _ (into_iter_items at.begun-iterator) c.in-Some.begun (into_iter_items c.next.new.self) steps (known at.self) _ _ _ at.invariant.left
-
-pub join_recovery-requires-clause-room : goal.join_recovery-requires-clause-room
-join_recovery-requires-clause-room c =
-    let at = c.loop-begun in
-    let steps : into_iter_items at.begun-iterator ≡ c.in-Some.begun ∷ into_iter_items c.next.new.self = c.in-Some.ensures.steps.0 in
-    next-room _ _ (into_iter_items at.begun-iterator) c.in-Some.begun (into_iter_items c.next.new.self) steps (known at.self) _ _ _ at.invariant.left
-
-pub join_recovery-requires-clause-spare : goal.join_recovery-requires-clause-spare
-join_recovery-requires-clause-spare c =
-    let at = c.loop-begun in
-    let steps : into_iter_items at.begun-iterator ≡ c.in-Some.begun ∷ into_iter_items c.next.new.self = c.in-Some.ensures.steps.0 in
-    next-spare _ _ (into_iter_items at.begun-iterator) c.in-Some.begun (into_iter_items c.next.new.self) steps (known at.self) _ _ _ at.invariant.left
+    record {
+      can =
+          next-can _ _ (into_iter_items at.begun-iterator) c.in-Some.begun (into_iter_items c.next.new.self) steps (known at.self) _ _ _ at.invariant.left;
+      id =
+          next-fits _ _ (into_iter_items at.begun-iterator) c.in-Some.begun (into_iter_items c.next.new.self) steps (known at.self) _ _ _ at.invariant.left;
+      room =
+          next-room _ _ (into_iter_items at.begun-iterator) c.in-Some.begun (into_iter_items c.next.new.self) steps (known at.self) _ _ _ at.invariant.left;
+      spare =
+          next-spare _ _ (into_iter_items at.begun-iterator) c.in-Some.begun (into_iter_items c.next.new.self) steps (known at.self) _ _ _ at.invariant.left;
+    }
 
 pub loop-begun-preserved : goal.loop-begun-preserved
 loop-begun-preserved c =

@@ -27,8 +27,8 @@ keep_turn-requires g c =
     looked-as before c.args.self.now c.self.view_is id at j look c.saturating_add-read.result c.requires.at c.requires.id c.index-job.ensures c.saturating_add-read.ensures c.in_ok-look.ensures.turn in
     observed-place before id at j look c.self.invariant looked
 
-pub returns-in_err-replies-clause-idle : goal.returns-in_err-replies-clause-idle
-returns-in_err-replies-clause-idle g c =
+pub returns-in_err-replies : goal.returns-in_err-replies
+returns-in_err-replies g c =
     let before = state_of c.self.inside in
     let id = c.args.found.id in
     let at = c.args.found.at in
@@ -40,22 +40,17 @@ returns-in_err-replies-clause-idle g c =
     let closes = c.closing_of-closing.ensures in
     let items : changes_by before.book (observation_of look) ++ closing_changes before.audit now c.closing_of-closing.result ≡ changes_by before.book (observation_of look) ++ closing_changes before.audit now (ends before id at j look c.self.invariant looked) =
     ap (λ (k : Option Closing). changes_by before.book (observation_of look) ++ closing_changes before.audit now k) closes in
-    (λ none. c.keep_turn.ensures.idle (items ∙ changes-here before id at j look c.self.invariant looked ∙ subst (λ (s : State). changes_of [] s (turn.Act (act.Job id)) ≡ []) (sym c.self.view_is) none))
-
-pub returns-in_err-replies-clause-calls : goal.returns-in_err-replies-clause-calls
-returns-in_err-replies-clause-calls g c =
-    let before = state_of c.self.inside in
-    let id = c.args.found.id in
-    let at = c.args.found.at in
-    let j = c.index-job.result.now in
-    let look = c.in_ok-look.look in
-    let looked : Looked before id at j look =
-    looked-as before c.args.self.now c.self.view_is id at j look c.saturating_add-read.result c.requires.at c.requires.id c.index-job.ensures c.saturating_add-read.ensures c.in_ok-look.ensures.turn in
-    let now = c.self.inside.moment in
-    let closes = c.closing_of-closing.ensures in
-    let items : changes_by before.book (observation_of look) ++ closing_changes before.audit now c.closing_of-closing.result ≡ changes_by before.book (observation_of look) ++ closing_changes before.audit now (ends before id at j look c.self.invariant looked) =
-    ap (λ (k : Option Closing). changes_by before.book (observation_of look) ++ closing_changes before.audit now k) closes in
-    (λ failed none. c.keep_turn.ensures.calls (search rules) (items ∙ changes-here before id at j look c.self.invariant looked ∙ subst (λ (s : State). changes_of [] s (turn.Act (act.Job id)) ≡ []) (sym c.self.view_is) none))
+    record {
+      reply = search rules;
+      ok = search rules;
+      err = search rules;
+      kept = search rules;
+      cause = search rules;
+      idle = (λ none. c.keep_turn.ensures.idle (items ∙ changes-here before id at j look c.self.invariant looked ∙ subst (λ (s : State). changes_of [] s (turn.Act (act.Job id)) ≡ []) (sym c.self.view_is) none));
+      calls = (λ failed none. c.keep_turn.ensures.calls (search rules) (items ∙ changes-here before id at j look c.self.invariant looked ∙ subst (λ (s : State). changes_of [] s (turn.Act (act.Job id)) ≡ []) (sym c.self.view_is) none));
+      servers = search rules;
+      nodes = search rules;
+    }
 
 pub take_turn-requires-clause-can : goal.take_turn-requires-clause-can
 take_turn-requires-clause-can g c =
@@ -79,8 +74,8 @@ take_turn-requires-clause-known g c =
     looked-as before c.args.self.now c.self.view_is id at j look c.saturating_add-read.result c.requires.at c.requires.id c.index-job.ensures c.saturating_add-read.ensures c.in_ok-look.ensures.turn in
     observed-book before id at j look c.self.invariant looked
 
-pub returns-in_err-take_turn-clause-kept : goal.returns-in_err-take_turn-clause-kept
-returns-in_err-take_turn-clause-kept g c =
+pub returns-in_err-take_turn : goal.returns-in_err-take_turn
+returns-in_err-take_turn g c =
     let before = state_of c.self.inside in
     let id = c.args.found.id in
     let at = c.args.found.at in
@@ -93,25 +88,20 @@ returns-in_err-take_turn-clause-kept g c =
     let items : changes_by before.book (observation_of look) ++ closing_changes before.audit now c.closing_of-closing.result ≡ changes_by before.book (observation_of look) ++ closing_changes before.audit now (ends before id at j look c.self.invariant looked) =
     ap (λ (k : Option Closing). changes_by before.book (observation_of look) ++ closing_changes before.audit now k) closes in
     let empty = items ∙ none-kept before id at j look c.self.invariant looked c.in_err-take_turn.ensures.memory c.in_err-take_turn.ensures.going in
-    let fails : is_ok c.from_residual-in_err-take_turn.result ≡ false = search rules in
-    ap g.K.Keeper.kept (c.keep_turn.ensures.idle empty)
-    ∙ ap (λ (made : Bool). kept_if made (g.K.Keeper.kept c.args.keeper.now) (changes_of [] c.args.self.now (turn.Act (act.Job id)))) (sym fails)
-
-pub returns-in_err-take_turn-clause-idle : goal.returns-in_err-take_turn-clause-idle
-returns-in_err-take_turn-clause-idle g c =
-    let before = state_of c.self.inside in
-    let id = c.args.found.id in
-    let at = c.args.found.at in
-    let j = c.index-job.result.now in
-    let look = c.in_ok-look.look in
-    let looked : Looked before id at j look =
-    looked-as before c.args.self.now c.self.view_is id at j look c.saturating_add-read.result c.requires.at c.requires.id c.index-job.ensures c.saturating_add-read.ensures c.in_ok-look.ensures.turn in
-    let now = c.self.inside.moment in
-    let closes = c.closing_of-closing.ensures in
-    let items : changes_by before.book (observation_of look) ++ closing_changes before.audit now c.closing_of-closing.result ≡ changes_by before.book (observation_of look) ++ closing_changes before.audit now (ends before id at j look c.self.invariant looked) =
-    ap (λ (k : Option Closing). changes_by before.book (observation_of look) ++ closing_changes before.audit now k) closes in
-    let empty = items ∙ none-kept before id at j look c.self.invariant looked c.in_err-take_turn.ensures.memory c.in_err-take_turn.ensures.going in
-    (λ none. c.keep_turn.ensures.idle empty)
+    record {
+      reply = search rules;
+      ok = search rules;
+      err = search rules;
+      kept =
+          let fails : is_ok c.from_residual-in_err-take_turn.result ≡ false = search rules in
+          ap g.K.Keeper.kept (c.keep_turn.ensures.idle empty)
+          ∙ ap (λ (made : Bool). kept_if made (g.K.Keeper.kept c.args.keeper.now) (changes_of [] c.args.self.now (turn.Act (act.Job id)))) (sym fails);
+      cause = search rules;
+      idle = (λ none. c.keep_turn.ensures.idle empty);
+      calls = search rules;
+      servers = search rules;
+      nodes = search rules;
+    }
 
 pub close_entry-requires : goal.close_entry-requires
 close_entry-requires g c =
@@ -138,36 +128,8 @@ invariant_of-self-2 g c =
     IsState-taken before id at j look c.self.invariant looked c.take_turn.new.world c.take_turn.new.book c.close_entry.new.audit.audit c.take_turn.new.jobs.items c.take_turn.new.reads
     c.in_ok-take_turn.ensures.world c.in_ok-take_turn.ensures.book closed c.in_ok-take_turn.ensures.jobs
 
-pub returns-clause-reply : goal.returns-clause-reply
-returns-clause-reply g c =
-    let before = state_of c.self.inside in
-    let id = c.args.found.id in
-    let at = c.args.found.at in
-    let j = c.index-job.result.now in
-    let look = c.in_ok-look.look in
-    let looked : Looked before id at j look =
-    looked-as before c.args.self.now c.self.view_is id at j look c.saturating_add-read.result c.requires.at c.requires.id c.index-job.ensures c.saturating_add-read.ensures c.in_ok-look.ensures.turn in
-    let said : step_reply (step_of look) ≡ reply_of c.args.self.now (turn.Act (act.Job id)) =
-    sym (reply-is before id at j look c.self.invariant looked) ∙ ap (λ (s : State). reply_of s (turn.Act (act.Job id))) c.self.view_is in
-    subst (λ (r : Reply). AreReply c.args.written r c.in_ok-replies.replies) said c.in_ok-replies.ensures.reply
-
-pub returns-clause-ok : goal.returns-clause-ok
-returns-clause-ok g c =
-    let before = state_of c.self.inside in
-    let id = c.args.found.id in
-    let at = c.args.found.at in
-    let j = c.index-job.result.now in
-    let look = c.in_ok-look.look in
-    let looked : Looked before id at j look =
-    looked-as before c.args.self.now c.self.view_is id at j look c.saturating_add-read.result c.requires.at c.requires.id c.index-job.ensures c.saturating_add-read.ensures c.in_ok-look.ensures.turn in
-    let closed : c.close_entry.new.audit.audit ≡ closed_by before.audit c.self.inside.moment (ends before id at j look c.self.invariant looked) =
-    c.close_entry.ensures ∙ ap (closed_by before.audit c.self.inside.moment) c.closing_of-closing.ensures in
-    step-here before id at j look c.self.invariant looked c.take_turn.new.world c.take_turn.new.book c.close_entry.new.audit.audit c.take_turn.new.jobs.items c.take_turn.new.reads
-    c.in_ok-take_turn.ensures.world c.in_ok-take_turn.ensures.book closed c.in_ok-take_turn.ensures.jobs c.in_ok-take_turn.ensures.reads
-    ∙ ap (λ (s : State). step [] s (turn.Act (act.Job id))) c.self.view_is
-
-pub returns-clause-kept : goal.returns-clause-kept
-returns-clause-kept g c =
+pub returns : goal.returns
+returns g c =
     let before = state_of c.self.inside in
     let id = c.args.found.id in
     let at = c.args.found.at in
@@ -179,31 +141,24 @@ returns-clause-kept g c =
     let closes = c.closing_of-closing.ensures in
     let items : changes_by before.book (observation_of look) ++ closing_changes before.audit now c.closing_of-closing.result ≡ changes_by before.book (observation_of look) ++ closing_changes before.audit now (ends before id at j look c.self.invariant looked) =
     ap (λ (k : Option Closing). changes_by before.book (observation_of look) ++ closing_changes before.audit now k) closes in
-    c.in_ok-replies.ensures.kept ∙ ap (kept_if true (g.K.Keeper.kept c.args.keeper.now)) (items ∙ changes-here before id at j look c.self.invariant looked)
-    ∙ ap (λ (s : State). kept_if true (g.K.Keeper.kept c.args.keeper.now) (changes_of [] s (turn.Act (act.Job id)))) c.self.view_is
-
-pub returns-clause-idle : goal.returns-clause-idle
-returns-clause-idle g c =
-    let before = state_of c.self.inside in
-    let id = c.args.found.id in
-    let at = c.args.found.at in
-    let j = c.index-job.result.now in
-    let look = c.in_ok-look.look in
-    let looked : Looked before id at j look =
-    looked-as before c.args.self.now c.self.view_is id at j look c.saturating_add-read.result c.requires.at c.requires.id c.index-job.ensures c.saturating_add-read.ensures c.in_ok-look.ensures.turn in
-    let now = c.self.inside.moment in
-    let closes = c.closing_of-closing.ensures in
-    let items : changes_by before.book (observation_of look) ++ closing_changes before.audit now c.closing_of-closing.result ≡ changes_by before.book (observation_of look) ++ closing_changes before.audit now (ends before id at j look c.self.invariant looked) =
-    ap (λ (k : Option Closing). changes_by before.book (observation_of look) ++ closing_changes before.audit now k) closes in
-    (λ none. c.keep_turn.ensures.idle (items ∙ changes-here before id at j look c.self.invariant looked ∙ subst (λ (s : State). changes_of [] s (turn.Act (act.Job id)) ≡ []) (sym c.self.view_is) none))
-
-pub returns-clause-servers : goal.returns-clause-servers
-returns-clause-servers g c =
-    let before = state_of c.self.inside in
-    let id = c.args.found.id in
-    let at = c.args.found.at in
-    let j = c.index-job.result.now in
-    let look = c.in_ok-look.look in
-    let looked : Looked before id at j look =
-    looked-as before c.args.self.now c.self.view_is id at j look c.saturating_add-read.result c.requires.at c.requires.id c.index-job.ensures c.saturating_add-read.ensures c.in_ok-look.ensures.turn in
-    servers-taken before id at j look c.self.invariant looked c.take_turn.new.world c.in_ok-take_turn.ensures.world ∙ ap (λ (s : State). length s.world.servers) c.self.view_is
+    record {
+      reply =
+          let said : step_reply (step_of look) ≡ reply_of c.args.self.now (turn.Act (act.Job id)) =
+          sym (reply-is before id at j look c.self.invariant looked) ∙ ap (λ (s : State). reply_of s (turn.Act (act.Job id))) c.self.view_is in
+          subst (λ (r : Reply). AreReply c.args.written r c.in_ok-replies.replies) said c.in_ok-replies.ensures.reply;
+      ok =
+          let closed : c.close_entry.new.audit.audit ≡ closed_by before.audit c.self.inside.moment (ends before id at j look c.self.invariant looked) =
+          c.close_entry.ensures ∙ ap (closed_by before.audit c.self.inside.moment) c.closing_of-closing.ensures in
+          step-here before id at j look c.self.invariant looked c.take_turn.new.world c.take_turn.new.book c.close_entry.new.audit.audit c.take_turn.new.jobs.items c.take_turn.new.reads
+          c.in_ok-take_turn.ensures.world c.in_ok-take_turn.ensures.book closed c.in_ok-take_turn.ensures.jobs c.in_ok-take_turn.ensures.reads
+          ∙ ap (λ (s : State). step [] s (turn.Act (act.Job id))) c.self.view_is;
+      err = search rules;
+      kept =
+          c.in_ok-replies.ensures.kept ∙ ap (kept_if true (g.K.Keeper.kept c.args.keeper.now)) (items ∙ changes-here before id at j look c.self.invariant looked)
+          ∙ ap (λ (s : State). kept_if true (g.K.Keeper.kept c.args.keeper.now) (changes_of [] s (turn.Act (act.Job id)))) c.self.view_is;
+      cause = search rules;
+      idle = (λ none. c.keep_turn.ensures.idle (items ∙ changes-here before id at j look c.self.invariant looked ∙ subst (λ (s : State). changes_of [] s (turn.Act (act.Job id)) ≡ []) (sym c.self.view_is) none));
+      calls = search rules;
+      servers = servers-taken before id at j look c.self.invariant looked c.take_turn.new.world c.in_ok-take_turn.ensures.world ∙ ap (λ (s : State). length s.world.servers) c.self.view_is;
+      nodes = search rules;
+    }

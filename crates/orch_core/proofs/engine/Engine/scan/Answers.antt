@@ -1,4 +1,4 @@
-use Rattle.std.proofs.Common.{◌≡◌, ◌≢◌, ◌∙◌, ◌≤◌, ◌^◌, [], Err, sym, ap, subst, IfOk, OnOk, is_ok}
+use Rattle.std.proofs.Common.{◌≡◌, ◌≢◌, ◌∙◌, ◌≤◌, ◌^◌, [], Err, sym, ap, subst, IfOk, OnOk, is_ok, rules}
 use Rattle.orch_core.proofs.Prelude.{AreReply, CanSettle, Numbers, Outcome, State, kept_if, numbers_of, outcome, scan_by, scan_outcome, settled}
 use Rattle.orch_core.proofs.Prelude.{state_of}
 use Rattle.orch_core.proofs.Prelude.fault
@@ -22,42 +22,20 @@ settle-requires-clause-outcome g c =
     subst (λ (s : State). CanSettle s (outcome c.in_ok-outcome.outcome)) c.self.view_is
     (subst (CanSettle before) (sym same) (scan-settles before c.self.invariant c.servers.ensures.holds))
 
-pub returns-clause-kept : goal.returns-clause-kept
-returns-clause-kept g c =
+pub returns : goal.returns
+returns g c =
     let before = state_of c.self.inside in
     let numbers : c.numbers-numbers.result ≡ numbers_of before = c.numbers-numbers.ensures ∙ ap numbers_of (sym c.self.view_is) in
     let same : outcome c.in_ok-outcome.outcome ≡ scan_outcome c.args.self.now =
     c.in_ok-outcome.ensures.outcome ∙ ap (scan_by before.world before.book before.audit before.configuration) numbers ∙ ap scan_outcome c.self.view_is in
-    c.settle.ensures.kept ∙ ap (λ (o : Outcome). kept_if (is_ok c.settle.result) (g.K.Keeper.kept c.args.keeper.now) o.rows) same
-
-pub returns-clause-reply : goal.returns-clause-reply
-returns-clause-reply g c =
-    let before = state_of c.self.inside in
-    let numbers : c.numbers-numbers.result ≡ numbers_of before = c.numbers-numbers.ensures ∙ ap numbers_of (sym c.self.view_is) in
-    let same : outcome c.in_ok-outcome.outcome ≡ scan_outcome c.args.self.now =
-    c.in_ok-outcome.ensures.outcome ∙ ap (scan_by before.world before.book before.audit before.configuration) numbers ∙ ap scan_outcome c.self.view_is in
-    subst (λ (o : Outcome). IfOk c.settle.result (λ r. AreReply c.args.written o.reply r)) same c.settle.ensures.reply
-
-pub returns-clause-ok : goal.returns-clause-ok
-returns-clause-ok g c =
-    let before = state_of c.self.inside in
-    let numbers : c.numbers-numbers.result ≡ numbers_of before = c.numbers-numbers.ensures ∙ ap numbers_of (sym c.self.view_is) in
-    let same : outcome c.in_ok-outcome.outcome ≡ scan_outcome c.args.self.now =
-    c.in_ok-outcome.ensures.outcome ∙ ap (scan_by before.world before.book before.audit before.configuration) numbers ∙ ap scan_outcome c.self.view_is in
-    subst (λ (o : Outcome). OnOk c.settle.result (c.settle.new.self ≡ settled c.args.self.now o)) same c.settle.ensures.ok
-
-pub returns-clause-idle : goal.returns-clause-idle
-returns-clause-idle g c =
-    let before = state_of c.self.inside in
-    let numbers : c.numbers-numbers.result ≡ numbers_of before = c.numbers-numbers.ensures ∙ ap numbers_of (sym c.self.view_is) in
-    let same : outcome c.in_ok-outcome.outcome ≡ scan_outcome c.args.self.now =
-    c.in_ok-outcome.ensures.outcome ∙ ap (scan_by before.world before.book before.audit before.configuration) numbers ∙ ap scan_outcome c.self.view_is in
-    subst (λ (o : Outcome). o.rows ≡ [] → c.settle.new.keeper ≡ c.args.keeper.now) same c.settle.ensures.idle
-
-pub returns-clause-calls : goal.returns-clause-calls
-returns-clause-calls g c =
-    let before = state_of c.self.inside in
-    let numbers : c.numbers-numbers.result ≡ numbers_of before = c.numbers-numbers.ensures ∙ ap numbers_of (sym c.self.view_is) in
-    let same : outcome c.in_ok-outcome.outcome ≡ scan_outcome c.args.self.now =
-    c.in_ok-outcome.ensures.outcome ∙ ap (scan_by before.world before.book before.audit before.configuration) numbers ∙ ap scan_outcome c.self.view_is in
-    subst (λ (o : Outcome). c.settle.result ≡ Err fault.Keeper → o.rows ≢ []) same c.settle.ensures.calls
+    record {
+      reply = subst (λ (o : Outcome). IfOk c.settle.result (λ r. AreReply c.args.written o.reply r)) same c.settle.ensures.reply;
+      ok = subst (λ (o : Outcome). OnOk c.settle.result (c.settle.new.self ≡ settled c.args.self.now o)) same c.settle.ensures.ok;
+      err = search rules;
+      kept = c.settle.ensures.kept ∙ ap (λ (o : Outcome). kept_if (is_ok c.settle.result) (g.K.Keeper.kept c.args.keeper.now) o.rows) same;
+      cause = search rules;
+      idle = subst (λ (o : Outcome). o.rows ≡ [] → c.settle.new.keeper ≡ c.args.keeper.now) same c.settle.ensures.idle;
+      calls = subst (λ (o : Outcome). c.settle.result ≡ Err fault.Keeper → o.rows ≢ []) same c.settle.ensures.calls;
+      servers = search rules;
+      nodes = search rules;
+    }

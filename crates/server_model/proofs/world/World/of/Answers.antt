@@ -12,20 +12,18 @@ executed_sets-requires c =
     subst (λ (ss : List Server). All (λ (s : Server). All (IsNumbered (length ss)) s.history.txns) ss) (sym c.deref-2.ensures.value)
     (λ k d h. (c.requires.each k _ (slice_get-get_or c.args.servers.items k d h)).numbered)
 
-pub purged_sets-requires-clause-numbered : goal.purged_sets-requires-clause-numbered
-purged_sets-requires-clause-numbered c =
-    subst (λ (ss : List Server). All (λ (s : Server). All (IsNumbered (length ss)) s.history.txns) ss) (sym c.deref-3.ensures.value)
-    (λ k d h. (c.requires.each k _ (slice_get-get_or c.args.servers.items k d h)).numbered)
-
-pub purged_sets-requires-clause-fits : goal.purged_sets-requires-clause-fits
-purged_sets-requires-clause-fits c =
-    subst (All (λ (s : Server). length s.history.txns ≤ s.history.room)) (sym c.deref-3.ensures.value)
-    (λ k d h. (c.requires.each k _ (slice_get-get_or c.args.servers.items k d h)).fit.within)
-
-pub purged_sets-requires-clause-within : goal.purged_sets-requires-clause-within
-purged_sets-requires-clause-within c =
-    subst (All (λ (s : Server). purged_len s ≤ length s.history.txns)) (sym c.deref-3.ensures.value)
-    (λ k d h. purged_len-within _ (c.requires.each k _ (slice_get-get_or c.args.servers.items k d h)).fit)
+pub purged_sets-requires : goal.purged_sets-requires
+purged_sets-requires c = record {
+  numbered =
+      subst (λ (ss : List Server). All (λ (s : Server). All (IsNumbered (length ss)) s.history.txns) ss) (sym c.deref-3.ensures.value)
+      (λ k d h. (c.requires.each k _ (slice_get-get_or c.args.servers.items k d h)).numbered);
+  fits =
+      subst (All (λ (s : Server). length s.history.txns ≤ s.history.room)) (sym c.deref-3.ensures.value)
+      (λ k d h. (c.requires.each k _ (slice_get-get_or c.args.servers.items k d h)).fit.within);
+  within =
+      subst (All (λ (s : Server). purged_len s ≤ length s.history.txns)) (sym c.deref-3.ensures.value)
+      (λ k d h. purged_len-within _ (c.requires.each k _ (slice_get-get_or c.args.servers.items k d h)).fit);
+}
 
 pub invariant_of-result : goal.invariant_of-result
 invariant_of-result c = record {

@@ -1,18 +1,19 @@
 -- A name is printed in ASCII.
-use Rattle.scenario_servers.proofs.Prelude.{HostPort, IsAscii, IsAscii-append, IsAscii-cons, IsAscii-decimal, IsAscii-nil, IsName, IsUtf8}
-use Rattle.scenario_servers.proofs.Prelude.{IsUtf8-from_ascii, and_parts as both, eqb-true, is_host_byte, leb-true, list_all, printed}
 use Rattle.std.proofs.Common.{◌≡◌, ℕ, ◌^◌, ◌<◌, Bool, true, false, leb, eqb, List, [], ◌∷◌, arith, refl, ◌&&◌, ◌||◌}
+use Rattle.std.proofs.lemmas.Bool.{and_parts as both, eqb-true, leb-true}
+use Rattle.std.proofs.lemmas.Fmt.{IsAscii-decimal}
+use Rattle.std.proofs.lemmas.Str.{IsAscii-append, IsUtf8-from_ascii}
+use Rattle.std.proofs.lemmas.Str.Ascii.{IsAscii-cons, IsAscii-nil}
+use Rattle.std.specs.List.{list_all}
+use Rattle.std.specs.Str.{IsAscii, IsUtf8}
+use Rattle.orch_base.specs.Names.{HostPort, IsName, is_host_byte, printed}
 
 either : (p q : Bool) (P : Type 0) → (p ≡ true → P) → (q ≡ true → P) → (p || q) ≡ true → P
 either true q P f g e = f refl
 either false q P f g e = g e
 
-right : (p q : Bool) → (p && q) ≡ true → q ≡ true
-right true q e = e
-right false q e = absurd cc
-
 in_range : (low high b : ℕ) → high < 128 → (leb low b && leb b high) ≡ true → b < 128
-in_range low high b small e = omega (arith, small, leb-true b high (right (leb low b) (leb b high) e))
+in_range low high b small e = omega (arith, small, leb-true b high (both (leb low b) (leb b high) e).1)
 
 is_one : (byte b : ℕ) → byte < 128 → eqb b byte ≡ true → b < 128
 is_one byte b small e = omega (arith, small, eqb-true b byte e)
