@@ -178,6 +178,9 @@ class LightWriter:
             found.add("sizes unknown", "no GTIDs: the scenario's transactions are pieces of at most a million bytes; what is missing is reported in bytes")
         for tree in self.trees:
             self.note_tree(found, tree)
+        for name in [tree.root.name for tree in self.trees if not self.is_told(tree)]:
+            found.add("kin", "%s isn't reached, and its source isn't known: taken for a master of its own. If it is a replica, give --below %s=SOURCE"
+                      % (name, name))
         alone = [tree.root.name for tree in self.trees if tree.root.up and tree.root.name not in self.lead_of]
         if len(alone) > 1 and not self.light.gtid:
             found.add("kin", "no GTIDs: whether %s are of one history isn't known; each is taken for a cluster of its own" % ", ".join(alone))

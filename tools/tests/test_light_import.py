@@ -172,6 +172,14 @@ class TellsTest(unittest.TestCase):
         self.assertIn("b:3306: not reached, and no GTIDs: how far it had come in its source's log isn't known; taken for level with it", err)
         self.assertIn("b:3306: read after its death: pairs of coordinates polled earlier aren't known", err)
 
+    def test_a_server_of_which_nothing_is_known_may_be_a_replica(self) -> None:
+        answers = {"a:3306": server(1, end=5000), "c:3306": server(3, replica_row("a", 700))}
+        status, scenario, err = imported(answers, "a", "b", "c")
+        self.assertEqual((status, "source" in one_of(scenario, "b:3306")), (0, False))
+        unknown = "b:3306 isn't reached, and its source isn't known: taken for a master of its own. If it is a replica, give --below b:3306=SOURCE"
+        self.assertIn(unknown, err)
+        self.assertNotIn(unknown, imported(answers, "a", "b", "c", "--below", "b=a")[2])
+
 
 class RefusesTest(unittest.TestCase):
     """What no scenario can say."""

@@ -97,7 +97,7 @@ over-detaches : (u : Purpose) (o : Option Why) → is_takeover u ≡ true → Is
 over-detaches (purpose.Takeover d) o t h = false≢true (detach-expels (purpose.Takeover d) o h)
 over-detaches _ o t h = false≢true t
 
-over-releases : (u : Purpose) (o : Option Why) → is_takeover u ≡ true → IsToRelease u o → ⊥
+pub over-releases : (u : Purpose) (o : Option Why) → is_takeover u ≡ true → IsToRelease u o → ⊥
 over-releases (purpose.Takeover d) o t h = false≢true (release-frees (purpose.Takeover d) o h)
 over-releases _ o t h = false≢true t
 

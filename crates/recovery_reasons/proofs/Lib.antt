@@ -10,12 +10,13 @@ pub mod Readings
 pub mod Listing
 pub mod Gathering
 pub mod Changing
+pub mod Caring
+pub mod Asking
 pub mod Speaking
 pub mod Coordinates
 pub mod Reasoning
 pub mod Seeing
 pub mod Looking
-pub mod Caring
 pub mod Starting
 pub mod Dealing
 pub mod Sending

@@ -72,13 +72,14 @@ pub use Rattle.recovery_laws.specs.RecoveryPlans.Moves.{Turning, WasRead, follow
 pub use Rattle.recovery_laws.specs.RecoveryPlans.Moves as by
 pub use Rattle.recovery_laws.specs.RecoveryPlans.Named.{IsListOf}
 pub use Rattle.recovery_laws.specs.RecoveryPlans.Recoveries.{without_follower}
-pub use Rattle.recovery_laws.specs.RecoveryPlans.Stages.{is_finish}
+pub use Rattle.recovery_laws.specs.RecoveryPlans.Stages.{gather, is_finish, level, target}
 pub use Rattle.recovery_laws.specs.RecoveryPlans.Table.{Back, alone, more_on}
 pub use Rattle.recovery_laws.specs.RecoveryPlans.Table as table
 pub use Rattle.recovery_laws.specs.RecoveryPlans.Taking.{Fate, Loss, at_end, attempted, back_by, barred_by, exec_by, fate_of_drain, fate_of_errant}
 pub use Rattle.recovery_laws.specs.RecoveryPlans.Taking.{fate_of_move, fate_of_trail, lost_on_way, lost_or_fails, marked, match_fate, met}
 pub use Rattle.recovery_laws.specs.RecoveryPlans.Taking.{missed_fate, move_fate, on_going, progressed, settled as settled_turn, way_fate, why_missed}
 pub use Rattle.recovery_laws.specs.RecoveryPlans.Taking as taking
+pub use Rattle.recovery_laws.specs.RecoveryPlans.Telling.{result_lines}
 pub use Rattle.recovery_laws.specs.RecoveryPlans.Whys as lost
 pub use Rattle.recovery_laws.specs.RecoveryPlans.declared.means.Means.TheVariants as means
 pub use Rattle.recovery_laws.specs.RecoveryPlans.declared.purpose.Purpose.TheVariants as purpose
@@ -95,6 +96,7 @@ pub use Rattle.recovery_laws.specs.ServerWords.declared.attach.AttachFault.TheVa
 pub use Rattle.recovery_laws.specs.ServerWords.declared.attach.Spot.TheVariants as spot
 pub use Rattle.recovery_laws.specs.ServerWords.declared.changes.Ask.TheVariants as asking
 pub use Rattle.recovery_laws.specs.ServerWords.declared.status.StatusFault.TheVariants as seeing
+pub use Rattle.recovery_reasons.specs.Asking.{AsksAsDue, AsksSoFar, DoesAt, IsAskedSo, IsLetGo, Speaks}
 pub use Rattle.recovery_reasons.specs.Attaching.{AttachesAsSent, Becomes, IsLostNow, IsMadeSo, IsTriedNow, attachment_by}
 pub use Rattle.recovery_reasons.specs.Attaching as makes
 pub use Rattle.recovery_reasons.specs.Causes.{IsMatchCause, IsTrueOf, IsUnreached}
@@ -116,7 +118,7 @@ pub use Rattle.recovery_reasons.specs.Reasons.{IsBetter, IsCaredFor, IsChosen, I
 pub use Rattle.recovery_reasons.specs.Reasons.{IsLed, IsLost, IsMarkedSo, IsOutSo, IsPassed, IsPromoted, IsRefusedOn, IsReleased, IsReleasedSo, IsSeenSo, IsSent}
 pub use Rattle.recovery_reasons.specs.Reasons.{IsSentSo, IsShown, IsStarted, IsSwapped, IsSwitched, IsToDetach, IsToRelease, IsToStart, IsTrailing}
 pub use Rattle.recovery_reasons.specs.Reasons.{IsUp, Leads, Loses, Passes, Reads, Reason, Releases, Remains, SendsBelow, SendsBeside, SendsThere}
-pub use Rattle.recovery_reasons.specs.Reasons.{ShowsWay, Speaks, SpeaksWith, Starts, Switches, WaitsFor, WasCrowned, WasLooked, is_settling, lead_of}
+pub use Rattle.recovery_reasons.specs.Reasons.{ShowsWay, SpeaksWith, Starts, Switches, WaitsFor, WasCrowned, WasLooked, is_settling, lead_of}
 pub use Rattle.recovery_reasons.specs.Reasons.{leads_on, mark_of, speaks_of}
 pub use Rattle.recovery_reasons.specs.Steps.{AreFirst, AreLeft, IsRest, are_calm, draining, gathering, leveling, trailing, waits}
 pub use Rattle.recovery_reasons.specs.Undoing.{GoesBack, IsOpen, KeepsHands, MakesGood, OpensAgain, StartsHands, closed_at}

@@ -20,7 +20,9 @@ use Rattle.recovery_reasons.proofs.Prelude.stage
 use Rattle.recovery_reasons.proofs.Prelude.table
 use Rattle.recovery_reasons.proofs.Prelude.way
 use Rattle.std.proofs.Common.{◌≡◌, ℕ, Bool, true, false, cond, List, [], ◌∷◌, ◌++◌, arith, refl, sym, ◌∙◌, ap, subst, Option, Some, None, option_map, ◌⊎◌, inl, inr, Ok, Err, Result}
+use Rattle.recovery_reasons.proofs.Asking.{begun-asks, taken-asks}
 use Rattle.recovery_reasons.proofs.Beginning.{begun-way}
+use Rattle.recovery_reasons.proofs.Caring.{begun-cared, taken-cared}
 use Rattle.recovery_reasons.proofs.Changing.{begun-changes, taken-its}
 use Rattle.recovery_reasons.proofs.Gathering.{begun-knows, taken-knows}
 use Rattle.recovery_reasons.proofs.Listing.{begun-listed, taken-listed}
@@ -469,6 +471,8 @@ taken-speaks w b read now r rings held s going = record {
   knows = taken-knows w b now r held.named read rings held (inl s.way) s.listed s.knows going;
   listed = taken-listed w b read now r rings held s.listed going;
   changes = taken-its w b read now r s.changes going;
+  cares = taken-cared w b now r (λ x. true) (λ d x so is. refl) read rings held s.cares;
+  asks = taken-asks w b read now r rings held s.way s.cares s.asks going;
 }
 
 begun-says : (u : Purpose) (by : Means) (id wait : ℕ) (f : ServerNo) (ns order : List ServerNo) → SpeaksWith (begun_recovery u by id wait f ns order)
@@ -482,4 +486,6 @@ begun-speaks u by id wait f ns order = record {
   knows = begun-knows u by id wait f ns order;
   listed = begun-listed u by id wait f ns order;
   changes = begun-changes u by id wait f ns order;
+  cares = begun-cared (λ x. true) u by id wait f ns order;
+  asks = begun-asks u by id wait f ns order;
 }

@@ -6,6 +6,7 @@ pub mod Steps
 pub mod Ways
 pub mod Changing
 pub mod Reasons
+pub mod Asking
 pub mod Attaching
 pub mod Waiting
 pub mod Undoing

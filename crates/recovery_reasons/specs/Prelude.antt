@@ -63,6 +63,7 @@ pub use Rattle.recovery_laws.specs.ServerModel.Attach.{attach_answer, live_spot,
 pub use Rattle.recovery_laws.specs.ServerModel.Desk.{can_reach, desk_answer}
 pub use Rattle.recovery_laws.specs.ServerModel.Gtids.{attach_auto_answer, status}
 pub use Rattle.recovery_laws.specs.ServerModel.Run.{Attach, AttachAuto, Request}
+pub use Rattle.recovery_laws.specs.ServerModel.Run as model
 pub use Rattle.recovery_laws.specs.ServerWords.declared.attach.AttachFault.{AttachFault}
 pub use Rattle.recovery_laws.specs.ServerWords.declared.attach.AttachFault.TheVariants as attaching
 pub use Rattle.recovery_laws.specs.ServerWords.declared.attach.Spot.{Spot}

@@ -24,10 +24,8 @@ use Rattle.recovery_reasons.specs.Prelude.why
 use Rattle.recovery_reasons.specs.Prelude.whys as lost
 use Rattle.recovery_reasons.specs.Prelude.Operations.{Match}
 use Rattle.recovery_reasons.specs.Causes.{IsRunning, IsUnreached}
-use Rattle.recovery_reasons.specs.Changing.{ChangesIts}
 use Rattle.recovery_reasons.specs.Choices.{IsBestOne, IsBetterOne, IsFirstOf}
-use Rattle.recovery_reasons.specs.OnWay.{IsOnWay, IsSwapping, KnowsLead, chooses}
-use Rattle.recovery_reasons.specs.Steps.{AreLeft}
+use Rattle.recovery_reasons.specs.OnWay.{IsSwapping, chooses}
 use Rattle.recovery_reasons.specs.Ways.{IsWayBelow, IsWayBeside}
 
 -- If one is chosen, without GTIDs: a drained one that executed more than the chosen one. Or one that executed less, if
@@ -140,15 +138,6 @@ pub record SpeaksWith (r : Recovery) : Type 0 where
   pub asked : (n p : ServerNo) → r.stage ≡ stage.Join n p → All (λ o. IsAsked (deed_of o)) r.core.ops
   pub looks : (n : ServerNo) (x : Bridge) → r.stage ≡ stage.Look n x → All (λ o. is_look (deed_of o) ≡ true) r.core.ops
   pub starts : (n p : ServerNo) → (info r.stage).made ≡ table.Follows n p → (r.core.ops ≡ op.Start n ∷ []) ⊎ (r.core.ops ≡ [])
-
--- So it is, the recovery is on its way, and what is left of a stage that waits are its last operations. It changes only
--- its replicas, and in a takeover the master. There it knows the position at which the designated one stopped.
-pub record Speaks (r : Recovery) : Type 0 where
-  pub says : SpeaksWith r
-  pub way : IsOnWay r
-  pub knows : KnowsLead r
-  pub listed : AreLeft r.stage r.core.ops
-  pub changes : ChangesIts r
 
 -- this task is next
 abbrev pub IsDue : Task → Recovery → Type 0

@@ -10,7 +10,8 @@ ghost use Rattle.recovery_reasons.specs.Prelude.taking;
 ghost use Rattle.recovery_reasons.specs.Fatal.{CanEnd};
 ghost use Rattle.recovery_reasons.specs.Nobody.{HasNobody};
 ghost use Rattle.recovery_reasons.specs.OnWay.{AllFit};
-ghost use Rattle.recovery_reasons.specs.Reasons.{ExplainsTruly, Fact, IsExplained, Speaks, WasCrowned};
+ghost use Rattle.recovery_reasons.specs.Asking.{Speaks};
+ghost use Rattle.recovery_reasons.specs.Reasons.{ExplainsTruly, Fact, IsExplained, WasCrowned};
 
 /// What a recovery came to so far has true facts: each entry of its lost, each of its drained, whom it chose and among
 /// whom, and whom it promoted. They were so before the turn, or are true of its world and its book. Take whatever holds

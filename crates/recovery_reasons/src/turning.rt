@@ -8,7 +8,8 @@ ghost use Rattle.recovery_reasons.specs.Prelude.stage;
 ghost use Rattle.recovery_reasons.specs.Prelude.step;
 ghost use Rattle.recovery_reasons.specs.Attaching.{AttachesAsSent, IsTriedNow};
 ghost use Rattle.recovery_reasons.specs.Changing.{IsIts};
-ghost use Rattle.recovery_reasons.specs.Reasons.{ExplainsTruly, Fact, IsExplained, Speaks};
+ghost use Rattle.recovery_reasons.specs.Asking.{AsksAsDue, Speaks};
+ghost use Rattle.recovery_reasons.specs.Reasons.{ExplainsTruly, Fact, IsExplained};
 ghost use Rattle.recovery_reasons.specs.Undoing.{KeepsHands, OpensAgain, StartsHands};
 ghost use Rattle.recovery_reasons.specs.Waiting.{BeginsWhole, WaitsItsTurns};
 
@@ -24,7 +25,9 @@ ghost use Rattle.recovery_reasons.specs.Waiting.{BeginsWhole, WaitsItsTurns};
 /// takeover that has closed its master, that one takes writes again, until it is below the designated one. If it was to
 /// go below it in this turn, the designated one goes back below it and is started.
 ///
-/// No turn changes another server than its replicas, and in a takeover the master and the designated one.
+/// No turn changes another server than its replicas, and in a takeover the master and the designated one. A turn after
+/// which the recovery goes on starts and stops only whom its stage starts and stops. It starts only those lost ones
+/// that are to be started.
 pub fn recoveries_turn_well()
     ensures attaches { (w : World) (b : BookState) (read : ℕ) (now : AMoment) (r : Recovery)
         (P : Fact → Bool) →
@@ -42,6 +45,10 @@ pub fn recoveries_turn_well()
         IsTriedNow w (decided (ground_of w b now) r) n y (taken w b read now r) }
     ensures waits { (w : World) (b : BookState) (read : ℕ) (now : AMoment) (r : Recovery) →
         Speaks r → WaitsItsTurns w (decided (ground_of w b now) r) (taken w b read now r) }
+    ensures asks { (w : World) (b : BookState) (read : ℕ) (now : AMoment) (r : Recovery) →
+        HeldRings w b.rings → HeldRecovery w r → Speaks r →
+        is_going (taken w b read now r).step ≡ true →
+        AsksAsDue (ground_of w b now) r (taken w b read now r).exchanges }
     ensures begins { (w : World) (b : BookState) (read : ℕ) (now : AMoment) (r : Recovery) →
         HeldRings w b.rings → HeldRecovery w r → Speaks r →
         is_going (taken w b read now r).step ≡ true →

@@ -1,14 +1,15 @@
 -- What a turn begins is plans, and recoveries as they begin, which name no replica twice.
-use Rattle.std.proofs.Common.{◌≡◌, ℕ, ◌+◌, ◌<◌, List, [], ◌∷◌, length, map, refl, Option, Some, None, ◌∙◌, ◌⊎◌, inl, inr, ap, arith, All, IfSome, slice_get, get_or, ◌≤◌}
+use Rattle.std.proofs.Common.{◌≡◌, ℕ, ◌+◌, ◌<◌, true, List, [], ◌∷◌, length, map, refl, Option, Some, None, ◌∙◌, ◌⊎◌, inl, inr, ap, arith, All, IfSome, slice_get, get_or, ◌≤◌}
+use Rattle.std.specs.Prelude.{is_some}
 use Rattle.recovery_runs.proofs.Prelude.{Act, All-cons, All-contains, All-head, All-nil, All-tail, AreHooksOf, AreShort, AuditState, BeginInTurn}
 use Rattle.recovery_runs.proofs.Prelude.{Begins as RecoveryBegins, BeginsOnce, BookState, Code, Comes, Command, CommandTurn, Configuration, HasHooks}
 use Rattle.recovery_runs.proofs.Prelude.{HostPort, IsAct, IsAskedFor, IsBook, IsCommand, IsEntryIn, IsFresh, IsTurn, Means, NamesReplicasOnce}
 use Rattle.recovery_runs.proofs.Prelude.{Outcome, Planner, Ready, Refusal, ServerNo, State, TellsAll, Turn, Unended, World, act-fits, act_in}
 use Rattle.recovery_runs.proofs.Prelude.{actionable-entries, actionable_in, asked, attempt_in, begun_hooks, begun_recovery, by_hand, code_at}
-use Rattle.recovery_runs.proofs.Prelude.{command-comes, command_outcome, given-in, given-there, hooks_by, job_by, job_in, jobs_begun, jobs_done}
+use Rattle.recovery_runs.proofs.Prelude.{command-comes, command_outcome, false≢true, given-in, given-there, hooks_by, instance_at, is_takeover, job_by, job_in, jobs_begun, jobs_done}
 use Rattle.recovery_runs.proofs.Prelude.{jobs_in_act, jobs_of, label_at, means_of, numbers_of, option_map, purpose_by, recovery-names}
 use Rattle.recovery_runs.proofs.Prelude.{recovery_begins, recovery_job, recovery_refusal, regroup-are, regroup_about, replicas_of, scan-each}
-use Rattle.recovery_runs.proofs.Prelude.{scan-in-turn, scan-names, scan_in, scan_outcome, short-by, slice_get_cases, source_of, takeover-names}
+use Rattle.recovery_runs.proofs.Prelude.{scan-in-turn, scan-names, scan_in, scan_outcome, short-by, slice_get_cases, source_of, takeover-knows, takeover-names}
 use Rattle.recovery_runs.proofs.Prelude.{takeover_begins, takeover_refusal, told_of, unless_refused, with_told, within-book}
 use Rattle.recovery_runs.proofs.Prelude.Audits.{begun as begun_audit}
 use Rattle.recovery_runs.proofs.Prelude.Leases.{taken}
@@ -38,7 +39,14 @@ module _ (state : State) where
 
   regroup-once : (by : Means) (id wait : ℕ) (i : Option ServerNo) → Once (regroup_about b by id wait i)
   regroup-once by id wait None = tt
-  regroup-once by id wait (Some i) = record { fresh = refl; replicas = refl; once = regroup-are b i; tells = tells-own None (replicas_of b i); hooks = refl }
+  regroup-once by id wait (Some i) = record {
+    fresh = refl;
+    replicas = refl;
+    once = regroup-are b i;
+    tells = tells-own None (replicas_of b i);
+    hooks = refl;
+    known = λ over. absurd (false≢true over);
+  }
 
   job-once : (w : World) (c : Command) (p : Planner) (id wait every : ℕ) → Once (job_by w b c p id wait every)
   job-once w c p id wait every = go (means_of every p)
@@ -52,8 +60,16 @@ module _ (state : State) where
   abbrev Hooked : RecoveryBegins → Type 0
   Hooked x = HasHooks state x.job.purpose x.job.failed (hooks_by c b x x.code)
 
-  begins-once : (x : RecoveryBegins) → IsFresh x.job → NamesReplicasOnce b x → TellsAll x.job → Hooked x → Once (recovery_job (with_told c b x))
-  begins-once x fresh names tells hooks = record { fresh = fresh; replicas = names.replicas; once = names.once; tells = tells; hooks = hooks }
+  abbrev Known : RecoveryBegins → Type 0
+  Known x = is_takeover x.job.purpose ≡ true → is_some (instance_at b x.job.failed) ≡ true
+
+  begins-once : (x : RecoveryBegins) → IsFresh x.job → NamesReplicasOnce b x → TellsAll x.job → Hooked x → Known x → Once (recovery_job (with_told c b x))
+  begins-once x fresh names tells hooks known = record { fresh = fresh; replicas = names.replicas; once = names.once; tells = tells; hooks = hooks; known = known }
+
+  -- one that isn't asked for as a takeover is none
+  no-takeover : (o : Option ServerNo) → is_takeover (purpose_by o) ≡ true → ⊥
+  no-takeover None over = false≢true over
+  no-takeover (Some s) over = false≢true over
 
   -- of a server that is there and has an analysis
   module _ (audit : AuditState) (a : Attempt) (wait job : ℕ) (f : ServerNo) where
@@ -97,21 +113,22 @@ module _ (state : State) where
         let x = recovery_begins b audit a.now a.block wait job f in
         let has = analysed f free in
         begins-once x refl (recovery-names w b audit a wait job f x (ap (λ (o : Option Refusal). unless_refused o x) free)) (tells-by (source_of b f) job wait f) (hooks-by audit a wait job f (source_of b f) has.0 here has.1)
+        (λ over. absurd (no-takeover (source_of b f) over))
 
     takeover-once : (i d : ServerNo) → i.0 < length b.names → d.0 < length b.names → takeover_refusal w b audit a i d ≡ None → Once (recovery_job (with_told c b (takeover_begins b audit a.now a.block wait job i d)))
     takeover-once i d here there free =
         let x = takeover_begins b audit a.now a.block wait job i d in
-        begins-once x refl (takeover-names w b audit a wait job i d x there (ap (λ (o : Option Refusal). unless_refused o x) free)) (listed b i d here) refl
+        begins-once x refl (takeover-names w b audit a wait job i d x there (ap (λ (o : Option Refusal). unless_refused o x) free)) (listed b i d here) refl (λ over. takeover-knows w b audit a i d free)
 
   -- of several, each as it begins
   all-once : (count : ℕ) (leases : List (Option ℕ)) (a : AuditState) (last : ℕ) (xs : List RecoveryBegins) → BeginInTurn count leases a last xs → All (NamesReplicasOnce b) xs
-      → All (λ x. TellsAll x.job) xs → All Hooked xs → All Once (map recovery_job (map (with_told c b) xs))
-  all-once count leases a last [] each names tells hooks = none-new
-  all-once count leases a last (x ∷ xs) each names tells hooks =
+      → All (λ x. TellsAll x.job) xs → All Hooked xs → All Known xs → All Once (map recovery_job (map (with_told c b) xs))
+  all-once count leases a last [] each names tells hooks known = none-new
+  all-once count leases a last (x ∷ xs) each names tells hooks known =
       All-cons Once (recovery_job (with_told c b x)) (map recovery_job (map (with_told c b) xs))
-      (begins-once x each.0.fresh (All-head (NamesReplicasOnce b) x xs names) (All-head (λ (y : RecoveryBegins). TellsAll y.job) x xs tells) (All-head Hooked x xs hooks))
+      (begins-once x each.0.fresh (All-head (NamesReplicasOnce b) x xs names) (All-head (λ (y : RecoveryBegins). TellsAll y.job) x xs tells) (All-head Hooked x xs hooks) (All-head Known x xs known))
       (all-once count (taken leases x.list x.job.core.id) (begun_audit a x.entry) x.job.core.id xs each.1 (All-tail (NamesReplicasOnce b) x xs names)
-      (All-tail (λ (y : RecoveryBegins). TellsAll y.job) x xs tells) (All-tail Hooked x xs hooks))
+      (All-tail (λ (y : RecoveryBegins). TellsAll y.job) x xs tells) (All-tail Hooked x xs hooks) (All-tail Known x xs known))
 
 -- ---- in a state
 
@@ -125,6 +142,7 @@ scan-new s is periods =
     (λ z e asks.
     let in_book = All-contains (IsEntryIn s.book) (actionable_in s.book) e (actionable-entries s.book) asks in
     hooks-by s z.audit (attempt_in s e.no) s.configuration.wait (z.last + 1) e.no (source_of s.book e.no) e.code in_book.within in_book.code) s.audit s.last_job)
+    (scan-each s.world s.book (attempt_in s) s.configuration.wait (Known s) (λ z e asks over. absurd (no-takeover s (source_of s.book e.no) over)) s.audit s.last_job)
 
 -- ---- any turn
 

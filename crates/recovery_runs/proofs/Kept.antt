@@ -4,7 +4,7 @@ use Rattle.std.specs.Prelude.{◌-◌, ◌^◌, ◌==◌, All, IfSome, slice_ind
 use Rattle.recovery_runs.proofs.Prelude.{Act, All-contains, All-find, All-nil, All-weaker, BeginsOnce, BooksAtLast, BookState, Came, CoveredState}
 use Rattle.recovery_runs.proofs.Prelude.{CoversAt, CoversSoFar, Docket, Follower, Instance, IsAct, IsBelow, IsClosed, IsCoveredBeside, IsKeptSo}
 use Rattle.recovery_runs.proofs.Prelude.{IsRuling, IsSpeakingBeside, IsTold, IsTurn, IsUnder, IsUpBeside, JobStep, Line, LoadsGiven, NumbersAreGiven}
-use Rattle.recovery_runs.proofs.Prelude.{Observation, OldFollows, Purpose, ReadsOn, Ready, Recovery, Row, Scenario, ServerNo, SpeakingState, Speaks}
+use Rattle.recovery_runs.proofs.Prelude.{Observation, OldFollows, owed, Purpose, ReadsOn, Ready, Recovery, Row, Scenario, ServerNo, SpeakingState, Speaks}
 use Rattle.recovery_runs.proofs.Prelude.{Stage, State, Status, Taken, TakesWrites, Turn, Unended, UpSoFar, UpState, World, act-fits, act-reads}
 use Rattle.recovery_runs.proofs.Prelude.{act_asks, act_in, after_act, after_done, all-turned, as_read, asks, begun_recovery, crowns, done_asks}
 use Rattle.recovery_runs.proofs.Prelude.{first_stage, hooked-has, instance_at, is_going, job_at, jobs_turned, moment_at, next_count}
@@ -20,7 +20,7 @@ use Rattle.recovery_runs.proofs.Prelude.stage
 use Rattle.recovery_runs.proofs.Prelude.turn
 use Rattle.recovery_runs.proofs.Prelude.unended
 use Rattle.recovery_runs.proofs.Covering.{with-command, with-scan}
-use Rattle.recovery_runs.proofs.There.{HasReplicas, IsThere, has-seen, job-leaves, no-slot, promoted-one, turn-empties}
+use Rattle.recovery_runs.proofs.There.{HasReplicas, IsThere, has-seen, job-leaves, no-slot, owes-alike, owes-master, owes-replicas, promoted-one, turn-empties}
 use Rattle.recovery_runs.proofs.LastLooks.{IsWholeBy, LooksNow, WasLast, taken-last, taken-whole}
 use Rattle.recovery_runs.proofs.Shown.{ruling-shown, under-shown}
 
@@ -345,9 +345,10 @@ booked-last count rows s id r docket own found ready covers speaking ups there k
       (kept.promoted n lines (subst (λ (u : Purpose). crowns u ≡ true) h.purpose crowned) h.at (sym h.promoted ∙ p) h.ops)).kept;
   old = λ d aim.
       let h = last told.covers.promoted (ap crowns aim) told.covers.is_promoted in
-      subst (λ (n : ServerNo). (i : Instance) → instance_at now.book n ≡ Some i → IsBelow d i.seen) (sym h.failed)
+      has-seen (IsBelow d) now.book (recovery_after s r).failed (still-there (recovery_after s r).failed (old-owed d aim))
+      (subst (λ (n : ServerNo). (i : Instance) → instance_at now.book n ≡ Some i → IsBelow d i.seen) (sym h.failed)
       (stays s now room on given (IsBelow d) r.failed (shows-old s r covered lines h.at d (sym h.purpose ∙ aim))
-      (kept.old d told.covers.promoted lines (sym h.purpose ∙ aim) h.at (sym h.promoted ∙ told.covers.is_promoted) (inr h.ops))).kept;
+      (kept.old d told.covers.promoted lines (sym h.purpose ∙ aim) h.at (sym h.promoted ∙ told.covers.is_promoted) (inr h.ops))).kept);
 }
   where
     now : State
@@ -356,13 +357,24 @@ booked-last count rows s id r docket own found ready covers speaking ups there k
     on : ReadsOn s now
     on = act-reads count rows s ready (act.Job id) refl
 
-    -- the promoted one is one of its replicas
+    -- whoever is owed a place is still there
+    still-there : (n : ServerNo) → 0 < times n.0 (owed (recovery_after s r).purpose (recovery_after s r).failed (recovery_after s r).replicas) → IsThere now.book n
+    still-there n one =
+        let aim = taken-aim s.world s.book (next_count s.reads) (moment_at s) r in
+        let all = All-find (HasReplicas s.book) (λ (k : Unended). number_of k == id) s.jobs (unended.Recovery r docket) there found in
+        job-leaves rows s id n (all n (subst (λ (ks : List ServerNo). 0 < times n.0 ks) (owes-alike r (recovery_after s r) aim) one))
+
+    -- so is the promoted one, which is one of the replicas
     has-still : (n : ServerNo) → crowns (recovery_after s r).purpose ≡ true → (recovery_after s r).outcome.promoted ≡ Some n → IsThere now.book n
     has-still n crowned p =
-        let aim = taken-aim s.world s.book (next_count s.reads) (moment_at s) r in
-        let one = promoted-one w (recovery_after s r).purpose (recovery_after s r).failed (recovery_after s r).replicas (recovery_after s r).outcome told.covers crowned n p in
-        let all = All-find (HasReplicas s.book) (λ (k : Unended). number_of k == id) s.jobs (unended.Recovery r docket) there found in
-        job-leaves rows s id n (all n (subst (λ (ks : List ServerNo). 0 < times n.0 ks) aim.replicas one))
+        still-there n (owes-replicas (recovery_after s r).purpose (recovery_after s r).failed (recovery_after s r).replicas n
+        (promoted-one w (recovery_after s r).purpose (recovery_after s r).failed (recovery_after s r).replicas (recovery_after s r).outcome told.covers crowned n p))
+
+    -- and so is a takeover's master
+    old-owed : (d : ServerNo) → (recovery_after s r).purpose ≡ purpose.Takeover d → 0 < times (recovery_after s r).failed.0 (owed (recovery_after s r).purpose (recovery_after s r).failed (recovery_after s r).replicas)
+    old-owed d aim =
+        subst (λ (u : Purpose). 0 < times (recovery_after s r).failed.0 (owed u (recovery_after s r).failed (recovery_after s r).replicas)) (sym aim)
+        (owes-master d (recovery_after s r).failed (recovery_after s r).replicas)
 
     before : s.reads < 2 ^ 64 - 1
     before = room-before s.reads now.reads on.count room

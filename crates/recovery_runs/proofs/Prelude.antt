@@ -2,6 +2,7 @@
 pub use Rattle.std.proofs.lemmas.Bool.{false_from_ne_true}
 pub use Rattle.std.proofs.lemmas.Option.{slice_get_cases}
 pub use Rattle.recovery_covers.proofs.Decided.{IsStuck}
+pub use Rattle.recovery_covers.proofs.Prelude.{LeasedRecovery}
 pub use Rattle.recovery_covers.proofs.Staying.{same-aim, taken-aim, then-aim}
 pub use Rattle.recovery_covers.proofs.Telling.{all-told, leader-told}
 pub use Rattle.recovery_covers.proofs.Times.{self-times}
@@ -24,7 +25,7 @@ pub use Rattle.recovery_reasons.proofs.Prelude.{on_going, once, saw, spoken_to, 
 pub use Rattle.recovery_reasons.proofs.Readings.{ReadsNow, ShowsNow, read-now}
 pub use Rattle.recovery_reasons.proofs.Undoing.{fails-opening, fails-starting, turn-hands}
 pub use Rattle.recovery_reasons.proofs.Waiting.{turn-waits}
-pub use Rattle.recovery_runs.specs.Begun.{AreHooksOf, BeginsOnce, ComesOf, HasHooks, TellsAll, jobs_begun, jobs_done, jobs_in_act, jobs_of}
+pub use Rattle.recovery_runs.specs.Begun.{AreHooksOf, BeginsOnce, ComesOf, HasHooks, IsBegunOnce, TellsAll, jobs_begun, jobs_done, jobs_in_act, jobs_of}
 pub use Rattle.recovery_runs.specs.Booking.{BooksAtLast, HasSeen, HasSo, IsBelow, LoadGiven, LoadsGiven, LooksAt, RecoveriesBookTheirEnd, SawSo}
 pub use Rattle.recovery_runs.specs.Booking.{TakesWrites}
 pub use Rattle.recovery_runs.specs.Facts.{ExplainedState, ExplainsAct, ExplainsDone, ExplainsTurn, HasFacts}
@@ -46,7 +47,7 @@ pub use Rattle.run_laws.proofs.Came.{Came, ReadsOn, act-reads, turn-reads}
 pub use Rattle.run_laws.proofs.Came as came
 pub use Rattle.run_laws.proofs.CauseLaws.Turning.{stopped-befell}
 pub use Rattle.run_laws.proofs.Flown.{flown}
-pub use Rattle.run_laws.proofs.Naming.{recovery-names, regroup-are, scan-names, takeover-names}
+pub use Rattle.run_laws.proofs.Naming.{recovery-names, regroup-are, scan-names, takeover-knows, takeover-names}
 pub use Rattle.run_laws.proofs.Once.{filtered-all, filtered-few, filtered-none, ordered-once}
 pub use Rattle.run_laws.proofs.OrchCore.Comes as comes
 pub use Rattle.run_laws.proofs.Passing.{step-may}
@@ -89,7 +90,9 @@ pub use Rattle.run_laws.proofs.UnendedLaws.CoveredBeside.{recovery-covered, reco
 pub use Rattle.run_laws.proofs.UnendedLaws.CoveredTurning.{number-aimed, number-covered, number-kept, number-speaking}
 pub use Rattle.run_laws.proofs.UnendedLaws.Ending.{done-chain, done-named, done-old, done-placed, done-promoted, done-told, last-aim, turn-aim}
 pub use Rattle.run_laws.proofs.UnendedLaws.Ending.{turn-changes, turn-chooses, turn-explained, turn-held, turn-rings, turn-sends, turn-speaks}
-pub use Rattle.run_laws.proofs.UnendedLaws.Ending.{turn-whole}
+pub use Rattle.run_laws.proofs.UnendedLaws.Ending.{turn-due, turn-spares, turn-whole}
+pub use Rattle.run_laws.proofs.UnendedLaws.Lasting.{old-leased}
+pub use Rattle.recovery_reasons.specs.Prelude.{IsAny}
 pub use Rattle.run_laws.proofs.UnendedLaws.Staying.{begun-tended, early-turn, of-docket, tended-turn}
 pub use Rattle.run_laws.proofs.UnendedLaws.Telling.{done-docket, failed-docket, none-docket, reached-docket}
 pub use Rattle.run_laws.proofs.UnendedLaws.UpTurns.{done-ups, exchange-ups, none-ups, number-up, recovery-up, turn-finds, turn-shuts, turn-stands}

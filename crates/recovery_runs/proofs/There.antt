@@ -1,5 +1,5 @@
 -- The book has each replica of a recovery as long as that goes on: its lease keeps it from being forgotten.
-use Rattle.std.proofs.Common.{◌≡◌, ◌∙◌, ◌<◌, ◌+◌, ◌++◌, ℕ, Bool, true, false, List, [], refl, sym, ap, subst, Option, Some, None, ◌⊎◌, inl, inr, zero, suc, arith}
+use Rattle.std.proofs.Common.{◌≡◌, ◌∙◌, ◌<◌, ◌+◌, ◌++◌, ◌==◌, ℕ, Bool, true, false, cond, List, [], refl, sym, ap, subst, Option, Some, None, ◌⊎◌, inl, inr, zero, suc, arith}
 use Rattle.std.specs.Prelude.{All, Contains, is_some, replicate, slice_index_or}
 use Rattle.recovery_runs.proofs.Prelude.{Act, All-contains, All-nil, All-weaker, BeginsOnce, BookState, Comes, ComesOf, CommandTurn}
 use Rattle.recovery_runs.proofs.Prelude.{Contains-append_cases, Covers, Docket, HasSeen, HeldState, Instance, IsForgotten, IsHeldBeside, IsLeased}
@@ -7,6 +7,7 @@ use Rattle.recovery_runs.proofs.Prelude.{IsTurn, Observation, Outcome, Planner, 
 use Rattle.recovery_runs.proofs.Prelude.{World, act_asks, act_in, after_act, after_done, asks, by_name, command-comes, command_outcome, crowns}
 use Rattle.recovery_runs.proofs.Prelude.{done_asks, false≢true, filtered-none, follower_nos, instance_at, instances-stay, is_attached_to, is_replica_of}
 use Rattle.recovery_runs.proofs.Prelude.{jobs_begun, jobs_done, jobs_of, leases_of, listed, lost_nos, none-some, pollers, replicas_of, route_of}
+use Rattle.recovery_runs.proofs.Prelude.{IsAny, IsBegunOnce, LeasedRecovery, SameAim, eqb-true, is_takeover, old-leased, owed}
 use Rattle.recovery_runs.proofs.Prelude.{same_Some, seen_source, self-times, slot_at, step, times}
 use Rattle.recovery_runs.proofs.Prelude.RecoveryPlans.{Outcome as Report}
 use Rattle.recovery_runs.proofs.Prelude.act
@@ -23,10 +24,34 @@ use Rattle.recovery_runs.proofs.Tellings.{counted}
 abbrev pub IsThere : BookState → ServerNo → Type 0
 IsThere b n = is_some (instance_at b n) ≡ true
 
--- it has each replica of a recovery
+-- it has each replica of a recovery, and a takeover's master
 abbrev pub HasReplicas : BookState → Unended → Type 0
 HasReplicas b (unended.Plan j) = Unit {0}
-HasReplicas b (unended.Recovery r docket) = (n : ServerNo) → 0 < times n.0 r.replicas → IsThere b n
+HasReplicas b (unended.Recovery r docket) = (n : ServerNo) → 0 < times n.0 (owed r.purpose r.failed r.replicas) → IsThere b n
+
+-- who is owed a place is a replica, or the takeover's master
+owed-cases : (u : Purpose) (f : ServerNo) (ns : List ServerNo) (n : ServerNo) → 0 < times n.0 (owed u f ns) → (0 < times n.0 ns) ⊎ ((is_takeover u ≡ true) × (f ≡ n))
+owed-cases (purpose.Takeover d) f ns n some = go (f.0 == n.0) refl some
+  where
+    go : (a : Bool) → (f.0 == n.0) ≡ a → 0 < cond a 1 0 + times n.0 ns → (0 < times n.0 ns) ⊎ ((true ≡ true) × (f ≡ n))
+    go true e h = inr (refl, ap (λ (i : ℕ). record { 0 = i }) (eqb-true f.0 n.0 e))
+    go false e h = inl (omega (arith, h))
+owed-cases _ f ns n some = inl some
+
+pub owes-replicas : (u : Purpose) (f : ServerNo) (ns : List ServerNo) (n : ServerNo) → 0 < times n.0 ns → 0 < times n.0 (owed u f ns)
+owes-replicas (purpose.Takeover d) f ns n some = go (f.0 == n.0)
+  where
+    go : (a : Bool) → 0 < cond a 1 0 + times n.0 ns
+    go a = omega (arith, some)
+owes-replicas _ f ns n some = some
+
+pub owes-master : (d f : ServerNo) (ns : List ServerNo) → 0 < times f.0 (owed (purpose.Takeover d) f ns)
+owes-master d f ns = self-times f ns
+
+-- what goes on owes the same servers a place
+pub owes-alike : (was r : Recovery) → SameAim was r → owed r.purpose r.failed r.replicas ≡ owed was.purpose was.failed was.replicas
+owes-alike was r aim =
+    ap (λ (u : Purpose). owed u r.failed r.replicas) aim.purpose ∙ (ap (λ (f : ServerNo). owed was.purpose f r.replicas) aim.failed ∙ ap (λ (ns : List ServerNo). owed was.purpose was.failed ns) aim.replicas)
 
 pub has-seen : (Q : Status → Type 0) (b : BookState) (n : ServerNo) → IsThere b n → SawSo Q b n → HasSeen Q b n
 has-seen Q b n there saw = go (instance_at b n) refl there
@@ -127,26 +152,39 @@ module _ (count : ℕ) (rows : List Row) (s : State) (t : Turn) (ready : Ready c
   -- what was there has leases
   was-there : (r : Recovery) (docket : Docket) → Contains s.jobs (unended.Recovery r docket) → HasReplicas s.book (unended.Recovery r docket) → HasReplicas (step rows s t).book (unended.Recovery r docket)
   was-there r docket among there n some =
-      let own = (All-contains (IsHeldBeside s.world (leases_of s.book.leases)) s.jobs (unended.Recovery r docket) held.jobs among).1 in
-      let lease = All-contains (λ (k : ServerNo). IsLeased (leases_of s.book.leases) r.core.id k.0) r.replicas n own.replicas (counted r.replicas n some) in
-      unless-forgotten rows s t n plain (there n some) (λ f. none-some r.core.id (sym f.free ∙ lease))
+      unless-forgotten rows s t n plain (there n some) (λ f. none-some r.core.id (sym f.free ∙ leased (owed-cases r.purpose r.failed r.replicas n some)))
+    where
+      own : LeasedRecovery (leases_of s.book.leases) r.core.id r
+      own = (All-contains (IsHeldBeside s.world (leases_of s.book.leases)) s.jobs (unended.Recovery r docket) held.jobs among).1
 
-  -- what begins has the replicas that the book has
+      leased : (0 < times n.0 r.replicas) ⊎ ((is_takeover r.purpose ≡ true) × (r.failed ≡ n)) → IsLeased (leases_of s.book.leases) r.core.id n.0
+      leased (inl one) = All-contains (λ (k : ServerNo). IsLeased (leases_of s.book.leases) r.core.id k.0) r.replicas n own.replicas (counted r.replicas n one)
+      leased (inr master) =
+          subst (λ (k : ServerNo). IsLeased (leases_of s.book.leases) r.core.id k.0) master.1
+          (old-leased (IsLeased (leases_of s.book.leases) r.core.id) IsAny r.purpose r.failed r.chosen master.0 own.sources)
+
+  -- what begins has the replicas that the book has, and a master that it has
   new-there : (r : Recovery) (docket : Docket) → Contains (jobs_begun s t) (unended.Recovery r docket) → HasReplicas (step rows s t).book (unended.Recovery r docket)
   new-there r docket among n some =
-      let new = All-contains (BeginsOnce s) (jobs_begun s t) (unended.Recovery r docket) (begun-once count s t ready is) among in
-      unless-forgotten rows s t n plain (replica-there s.book r.failed n (subst (λ (ks : List ServerNo). 0 < times n.0 ks) new.replicas some))
+      unless-forgotten rows s t n plain (known (owed-cases r.purpose r.failed r.replicas n some))
       (λ f.
       let none : jobs_begun s t ≡ [] = ap (jobs_done s) f.taken ∙ forgets-none s f.command f.route in
       All-contains (λ u. ⊥) [] (unended.Recovery r docket) (All-nil (λ u. ⊥)) (subst (λ (us : List Unended). Contains us (unended.Recovery r docket)) none among))
+    where
+      new : IsBegunOnce s r docket
+      new = All-contains (BeginsOnce s) (jobs_begun s t) (unended.Recovery r docket) (begun-once count s t ready is) among
+
+      known : (0 < times n.0 r.replicas) ⊎ ((is_takeover r.purpose ≡ true) × (r.failed ≡ n)) → IsThere s.book n
+      known (inl one) = replica-there s.book r.failed n (subst (λ (ks : List ServerNo). 0 < times n.0 ks) new.replicas one)
+      known (inr master) = subst (λ (k : ServerNo). IsThere s.book k) master.1 (new.known master.0)
 
   come-there : All (HasReplicas s.book) s.jobs → (u : Unended) → ComesOf (s.jobs ++ jobs_begun s t) u → HasReplicas (step rows s t).book u
   come-there all (unended.Plan j) h = tt
   come-there all (unended.Recovery r docket) h = λ n some.
-      let own = subst (λ (ks : List ServerNo). 0 < times n.0 ks) h.aim.replicas some in
+      let own = subst (λ (ks : List ServerNo). 0 < times n.0 ks) (owes-alike h.was r h.aim) some in
       by n own (Contains-append_cases s.jobs (jobs_begun s t) (unended.Recovery h.was h.had) h.among)
     where
-      by : (n : ServerNo) → 0 < times n.0 h.was.replicas → Contains s.jobs (unended.Recovery h.was h.had) ⊎ Contains (jobs_begun s t) (unended.Recovery h.was h.had) → IsThere (step rows s t).book n
+      by : (n : ServerNo) → 0 < times n.0 (owed h.was.purpose h.was.failed h.was.replicas) → Contains s.jobs (unended.Recovery h.was h.had) ⊎ Contains (jobs_begun s t) (unended.Recovery h.was h.had) → IsThere (step rows s t).book n
       by n own (inl there) = was-there h.was h.had there (All-contains (HasReplicas s.book) s.jobs (unended.Recovery h.was h.had) all there) n own
       by n own (inr begun) = new-there h.was h.had begun n own
 

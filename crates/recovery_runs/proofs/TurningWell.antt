@@ -2,8 +2,8 @@
 use Rattle.std.proofs.Common.{ℕ, List, refl, take, true}
 use Rattle.recovery_runs.proofs.Prelude.{ComesTo, HeldState, RecoveriesTurnWell, Scenario, Speaks, State, UpState, engine, fails-opening}
 use Rattle.recovery_runs.proofs.Prelude.{fails-starting, flight_of, found-number, moment_at, next_count, run_turns, turn-answered}
-use Rattle.recovery_runs.proofs.Prelude.{turn-changes, turn-chooses, turn-finds, turn-hands, turn-held, turn-its, turn-rings, turn-sends}
-use Rattle.recovery_runs.proofs.Prelude.{turn-shuts, turn-speaks, turn-stands, turn-waits, turn-whole}
+use Rattle.recovery_runs.proofs.Prelude.{turn-changes, turn-chooses, turn-due, turn-finds, turn-hands, turn-held, turn-its, turn-rings, turn-sends}
+use Rattle.recovery_runs.proofs.Prelude.{turn-shuts, turn-spares, turn-speaks, turn-stands, turn-waits, turn-whole}
 use Rattle.recovery_runs.proofs.Prelude.unended
 use Rattle.recovery_runs.proofs.Finishing.{facts-true, turn_in}
 use Rattle.recovery_runs.proofs.Origins.{Step}
@@ -16,6 +16,8 @@ turn-well s held cares ups id r docket found =
       chooses = turn-chooses (flight_of s) s.jobs (turn_in s id r docket found) held cares.covered;
       servers = turn-its s.world s.book (next_count s.reads) (moment_at s) r speaks.changes;
       changes = turn-changes (flight_of s) s.jobs (turn_in s id r docket found) held cares.covered;
+      asks = λ going. turn-due (flight_of s) s.jobs (turn_in s id r docket found) held cares.speaking going;
+      spares = λ going. turn-spares (flight_of s) s.jobs (turn_in s id r docket found) held cares.covered cares.speaking going;
       closes =
           turn-shuts (λ x. true) id (flight_of s) s.jobs (turn_in s id r docket found) held cares.covered cares.speaking (λ d x so is. refl) (ups id)
           (found-number s.jobs id (unended.Recovery r docket) found);

@@ -1,7 +1,7 @@
 -- The jobs that a turn begins.
-use Rattle.std.specs.Prelude.{◌≡◌, ◌<◌, ◌⊎◌, Contains, List, [], Option, Some, None, slice_get}
+use Rattle.std.specs.Prelude.{◌≡◌, ◌<◌, ◌⊎◌, true, Contains, List, [], Option, Some, None, is_some, slice_get}
 use Rattle.recovery_runs.specs.Prelude.{Act, AreReplicas, Code, Docket, HookState, HostPort, IsFresh, IsOfDocket, Outcome, Purpose, Recovery, SameAim}
-use Rattle.recovery_runs.specs.Prelude.{ServerNo, State, Turn, Unended, act_in, begun_hooks, code_at, command_outcome, first_source, known_of}
+use Rattle.recovery_runs.specs.Prelude.{ServerNo, State, Turn, Unended, act_in, begun_hooks, code_at, command_outcome, first_source, instance_at, is_takeover, known_of}
 use Rattle.recovery_runs.specs.Prelude.{label_at, owed, replicas_of, scan_outcome, times, told_of, updated}
 use Rattle.recovery_runs.specs.Prelude.act
 use Rattle.recovery_runs.specs.Prelude.purpose
@@ -47,14 +47,15 @@ HasHooks s purpose.Master f o = AreHooksOf s f o
 HasHooks s (purpose.Intermediate n) f o = AreHooksOf s f o
 HasHooks s (purpose.Takeover d) f o = o ≡ None
 
--- a recovery as it begins, of the replicas that the book has of the failed server, which names none twice, and reports
--- all; and with its hooks
+-- A recovery as it begins, of the replicas that the book has of the failed server, which names none twice, and reports
+-- all. It has its hooks. The book has a takeover's master.
 pub record IsBegunOnce (s : State) (r : Recovery) (docket : Docket) : Type 0 where
   pub fresh : IsFresh r
   pub replicas : r.replicas ≡ replicas_of s.book r.failed
   pub once : AreReplicas r.purpose r.failed r.replicas
   pub tells : TellsAll r
   pub hooks : HasHooks s r.purpose r.failed docket.hooks
+  pub known : is_takeover r.purpose ≡ true → is_some (instance_at s.book r.failed) ≡ true
 
 -- so a job begins
 abbrev pub BeginsOnce : State → Unended → Type 0

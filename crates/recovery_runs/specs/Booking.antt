@@ -66,9 +66,9 @@ SawSo Q b n = (i : Instance) → instance_at b n ≡ Some i → Q i.seen
 abbrev pub HasSeen : (Status → Type 0) → BookState → ServerNo → Type 0
 HasSeen Q b n = (i : Instance) × (instance_at b n ≡ Some i) × Q i.seen
 
--- The book has the server that was promoted in a master's place, and shows it without a source and writable. What it
--- has of a takeover's old master shows that one below the designated one. So it is whatever was read and stored after
--- the recovery read them last.
+-- The book has the server that was promoted in a master's place, and shows it without a source and writable. It has a
+-- takeover's old master, and shows it below the designated one. So it is whatever was read and stored after the
+-- recovery read them last.
 pub record BooksAtLast (b : BookState) (r : Recovery) : Type 0 where
   pub promoted : (n : ServerNo) → crowns r.purpose ≡ true → r.outcome.promoted ≡ Some n → HasSeen TakesWrites b n
-  pub old : (d : ServerNo) → r.purpose ≡ purpose.Takeover d → SawSo (IsBelow d) b r.failed
+  pub old : (d : ServerNo) → r.purpose ≡ purpose.Takeover d → HasSeen (IsBelow d) b r.failed

@@ -6,6 +6,7 @@ pub use Rattle.recovery_covers.specs.Doing.{DecidesOverAll, MakesWell}
 pub use Rattle.recovery_covers.specs.Kept.{IsBeginning, Keeps, SameAim}
 pub use Rattle.recovery_covers.specs.RecoveryLaws.Standing.{attached_no}
 pub use Rattle.recovery_covers.specs.Told.{IsToldOf}
+pub use Rattle.recovery_reasons.specs.Asking.{AsksAsDue}
 pub use Rattle.recovery_reasons.specs.Attaching.{AttachesAsSent, IsTriedNow}
 pub use Rattle.recovery_reasons.specs.Causes.{IsTrueOf}
 pub use Rattle.recovery_reasons.specs.Changing.{IsIts}
@@ -63,4 +64,4 @@ pub use Rattle.run_laws.specs.UnendedLaws.CoveredBeside.{IsAimedBeside}
 pub use Rattle.run_laws.specs.UnendedLaws.CoveredFlights.{AimedJobs, CoveredJobs, KeptJobs, SpeakingJobs}
 pub use Rattle.run_laws.specs.UnendedLaws.Tended.{IsEarly, IsOfDocket, IsTended, all_before, all_behind}
 pub use Rattle.run_laws.specs.UnendedLaws.Turns.{IsNamedOutcome}
-pub use Rattle.run_laws.specs.UnendedLaws.Upkeep.{ClosesFirst, IsNeverInterfered, KeepsUp, OpensAlone, UpJobs}
+pub use Rattle.run_laws.specs.UnendedLaws.Upkeep.{ClosesFirst, IsNeverInterfered, KeepsUp, OpensAlone, SparesItsMaster, UpJobs}

@@ -1,8 +1,8 @@
 -- What each turn of an unended recovery owes.
 use Rattle.std.specs.Prelude.{◌≡◌, ◌∷◌, ℕ, All, Bool, true, List, [], Some}
-use Rattle.recovery_runs.specs.Prelude.{AttachesAsSent, BeginsWhole, Cause, ClosesFirst, DecidesOverAll, Decisions, Docket, ExplainsTruly, Fact}
+use Rattle.recovery_runs.specs.Prelude.{AsksAsDue, AttachesAsSent, BeginsWhole, Cause, ClosesFirst, DecidesOverAll, Decisions, Docket, ExplainsTruly, Fact}
 use Rattle.recovery_runs.specs.Prelude.{IsExplained, IsIts, IsNeverInterfered, IsTriedNow, KeepsHands, Line, MakesWell, Op, OpensAgain, OpensAlone}
-use Rattle.recovery_runs.specs.Prelude.{Recovery, ServerNo, StartsHands, State, WaitsItsTurns, Way, decided, ground_of, is_going, job_at, moment_at}
+use Rattle.recovery_runs.specs.Prelude.{Recovery, ServerNo, SparesItsMaster, StartsHands, State, WaitsItsTurns, Way, decided, ground_of, is_going, job_at, moment_at}
 use Rattle.recovery_runs.specs.Prelude.{server_of}
 use Rattle.recovery_runs.specs.Prelude.jobstep as step
 use Rattle.recovery_runs.specs.Prelude.op
@@ -16,9 +16,11 @@ decided_at s r = decided (ground_of s.world s.book (moment_at s)) r
 
 -- If it decides whom to choose each replica is drained, or lost. So is each before the first is handed over to a
 -- successor. A turn changes no server but its replicas, and in a takeover the master and the designated one. One after
--- which it goes on changes what it may. One of a takeover changes nothing else before its master refuses writes. None
--- finds a replica that goes below its new source at another position than the one at which it was stopped. The master
--- that a takeover has closed has no source: so it takes writes again without one if the takeover fails.
+-- which it goes on changes what it may, and starts and stops only whom its stage does. It asks nothing of a takeover's
+-- master but to refuse writes, and attaches it only when the designated one takes its place. One of a takeover changes
+-- nothing else before its master refuses writes. None finds a replica that goes below its new source at another
+-- position than the one at which it was stopped. The master that a takeover has closed has no source: so it takes
+-- writes again without one if the takeover fails.
 -- What it came to in this very turn is a fact of the turn. If each fact that is true in it counts, and what it came to
 -- before counts, all of it counts.
 --
@@ -30,6 +32,8 @@ pub record TurnsWell (s : State) (r : Recovery) : Type 0 where
   pub chooses : (d : Recovery) → Decisions (ground_of s.world s.book (moment_at s)) r d → DecidesOverAll d
   pub servers : All (λ e. IsIts r.purpose r.failed r.replicas (server_of e)) (turn_taken s r).exchanges
   pub changes : is_going (turn_taken s r).step ≡ true → MakesWell s.world (ground_of s.world s.book (moment_at s)) r (turn_taken s r).exchanges
+  pub asks : is_going (turn_taken s r).step ≡ true → AsksAsDue (ground_of s.world s.book (moment_at s)) r (turn_taken s r).exchanges
+  pub spares : is_going (turn_taken s r).step ≡ true → SparesItsMaster (ground_of s.world s.book (moment_at s)) r (turn_taken s r).exchanges
   pub finds : (d : Recovery) → Decisions (ground_of s.world s.book (moment_at s)) r d → IsNeverInterfered s.world d
   pub alone : (d : Recovery) → Decisions (ground_of s.world s.book (moment_at s)) r d → OpensAlone s.world d
   pub closes : is_going (turn_taken s r).step ≡ true → All (ClosesFirst s.world r) (turn_taken s r).exchanges

@@ -127,6 +127,11 @@ module _ (w : World) (b : BookState) (audit : AuditState) (a : Attempt) where
       of-five (only_if (not (is_instance b i && is_instance b d)) UnknownInstance) (first_refusal w b (case_of b i d) row) (held_back b audit a i) (no_master b i)
       (no_replica b i d) free
 
+  -- the master is an instance of the book
+  pub takeover-knows : (i d : ServerNo) → takeover_refusal w b audit a i d ≡ None → is_instance b i ≡ true
+  takeover-knows i d free =
+      (and_parts (is_instance b i) (is_instance b d) (passed (is_instance b i && is_instance b d) UnknownInstance (neither (only_if (not (is_instance b i && is_instance b d)) UnknownInstance) _ free).0)).0
+
   takeover-logs : (i d : ServerNo) → takeover_refusal w b audit a i d ≡ None → NamesLogging w (purpose.Takeover d)
   takeover-logs i d free =
       let one = neither _ (first_refusal w b (case_of b i d) (check.Busy ∷ check.Unreachable ∷ check.DestNotLogging ∷ check.SameServerId ∷ check.VersionLower ∷ [])) (unrefused-takeover i d free).2 in

@@ -1,18 +1,18 @@
 -- A takeover's master has no source from its reading on, until it is below the designated one.
-use Rattle.std.proofs.Common.{◌≡◌, ℕ, ◌<◌, ◌≤◌, Bool, true, false, cond, List, [], ◌∷◌, refl, sym, ◌∙◌, ap, subst, Option, Some, None, ◌⊎◌, inl, inr, arith}
+use Rattle.std.proofs.Common.{◌≡◌, ℕ, ◌<◌, Bool, true, false, cond, List, [], ◌∷◌, refl, sym, ◌∙◌, ap, subst, Option, Some, None, ◌⊎◌, inl, inr, arith}
 use Rattle.std.specs.List.{Contains}
-use Rattle.unended_laws.proofs.Prelude.{After, All, All-cons, All-contains, All-head, All-nil, Attached, Attempt, Bearing, BookState, CoversAt}
+use Rattle.unended_laws.proofs.Prelude.{After, All, All-head, Attached, Attempt, Bearing, BookState, CoversAt}
 use Rattle.unended_laws.proofs.Prelude.{CoversSoFar, Decision, Decisions, Detached, Ending, Exchange, ExplainsTruly, Fact, Fine, Fits, Free-keeps}
 use Rattle.unended_laws.proofs.Prelude.{HeldRecovery, HeldRings, IsAny, IsFit, IsFree, IsLeased, IsOnWay, IsStuck, IsToStand, Job, KeepsMoves}
 use Rattle.unended_laws.proofs.Prelude.{LeasedRecovery, MayBear, MayDecide, MayEnd, Means, Moment, Observation, Op, OpensAlone, Placed, Position}
 use Rattle.unended_laws.proofs.Prelude.{Purpose, ReadsNow, Recovery, Server, ServerNo, ShowsNow, SourceState, Speaks, SpeaksWith, Stage}
-use Rattle.unended_laws.proofs.Prelude.{StandsAlone, Stays, Stays-keeps, Stays-same, Task, UpSoFar, WasRead, Without, World, Yields, after}
+use Rattle.unended_laws.proofs.Prelude.{StandsAlone, Stays, Stays-keeps, Stays-same, UpSoFar, WasRead, Without, World, Yields, after}
 use Rattle.unended_laws.proofs.Prelude.{altered_by, barred_by, begun_recovery, borne, by_deed, closed_at, closes, covered, decided_by, decides-fine}
 use Rattle.unended_laws.proofs.Prelude.{decides-idle, decisions-keep, deed-still, deed_of, ended_by, ends, entered, false≢true, fate_of, fits-of}
-use Rattle.unended_laws.proofs.Prelude.{fits-step, follows_no_more, ground_of, has_source, info, is_attached, is_going, is_master, is_outside}
-use Rattle.unended_laws.proofs.Prelude.{is_takeover, kept-along, leaver, made-well, moved, moved-fits, no-tail, of_queue, of_task, outside-stays}
-use Rattle.unended_laws.proofs.Prelude.{position_of, read-now, run, same-head, same_Some, seen_of, self-times, server_of, source_cause, started}
-use Rattle.unended_laws.proofs.Prelude.{stepped, stepped-fits, still-on, tail_of, taken, times, times-append, unleased-run, went-of}
+use Rattle.unended_laws.proofs.Prelude.{fits-step, follows_no_more, ground_of, has_source, info, is_attached, is_going, is_outside}
+use Rattle.unended_laws.proofs.Prelude.{is_takeover, kept-along, leaver, made-well, moved, moved-fits, no-tail, outside-stays}
+use Rattle.unended_laws.proofs.Prelude.{position_of, read-now, run, same-head, same_Some, seen_of, server_of, source_cause, started}
+use Rattle.unended_laws.proofs.Prelude.{stepped, stepped-fits, still-on, tail_of, taken, times, unleased-run, went-of}
 use Rattle.unended_laws.proofs.Prelude.attempt
 use Rattle.unended_laws.proofs.Prelude.by
 use Rattle.unended_laws.proofs.Prelude.cause
@@ -25,7 +25,7 @@ use Rattle.unended_laws.proofs.Applying.{LastsGently, Spares, run-so}
 use Rattle.unended_laws.proofs.LastReads.{shown-source}
 use Rattle.unended_laws.proofs.Lasting.{old-leased}
 use Rattle.unended_laws.proofs.RestTurns.{not-moves, shown-there}
-use Rattle.unended_laws.proofs.Running.{not-promoted, spared, unaltered, waiting}
+use Rattle.unended_laws.proofs.Running.{master-not, not-promoted, old-waits, spared, unaltered}
 use Rattle.unended_laws.proofs.Upkeeping.{Before, decides-before-up, stuck-only}
 
 -- ---- servers
@@ -84,7 +84,7 @@ out-not f (stage.Close lines) out (inr (k, e)) = cc
 out-not f s out (inr (k, e)) = false≢true out
 
 -- the designated one takes its place, or has taken it
-abbrev is_late : Stage → Bool
+abbrev pub is_late : Stage → Bool
 is_late (stage.Yield m d) = true
 is_late (stage.Switch m d) = true
 is_late (stage.Switched m d) = true
@@ -101,7 +101,7 @@ closes-late (stage.Opened n) h = refl
 closes-late (stage.Close lines) h = refl
 closes-late s h = absurd (false≢true h)
 
-yields-late : (s : Stage) → Yields s → is_late s ≡ true
+pub yields-late : (s : Stage) → Yields s → is_late s ≡ true
 yields-late s (inl (m, d, inl at)) = ap is_late at
 yields-late s (inl (m, d, inr (inl at))) = ap is_late at
 yields-late s (inl (m, d, inr (inr at))) = ap is_late at
@@ -111,11 +111,6 @@ moved-unmet : (s : Stage) (o : Op) (rest : List Op) (m d : ServerNo) → o ∷ r
 moved-unmet (stage.Meet k e) o rest m d t h = cc
 moved-unmet (stage.Move n by) o rest m d t h = cc
 moved-unmet s o rest m d t h = cc
-
-master-not : (u : Purpose) → is_master u ≡ true → is_takeover u ≡ true → ⊥
-master-not (purpose.Takeover d) h t = false≢true h
-master-not purpose.Regroup h t = false≢true t
-master-not _ h t = false≢true t
 
 pub begun-alone : (w : World) (u : Purpose) (by : Means) (id wait : ℕ) (f : ServerNo) (ns order : List ServerNo) → StandsAlone w (begun_recovery u by id wait f ns order)
 begun-alone w (purpose.Takeover d) by id wait f ns order = λ t s. absurd (out-not f (stage.Meet f d) refl s)
@@ -137,13 +132,6 @@ module _ (w : World) (b : BookState) (now : Moment) where
   decides-alone x d may (inr stuck) h = subst (λ (e : Decision). StandsAlone w (decided_by (ground_of w b now) x e)) (sym (stuck-only w b now x d may stuck)) h
 
 -- ---- an operation
-
--- a task gives a server its position at most as often as all tasks do
-placed-at-most : (n : ℕ) (f : ServerNo) (ts : List Task) (k : ℕ) → times n (of_queue f ts) ≤ k → All (λ t. times n (of_task f t) ≤ k) ts
-placed-at-most n f [] k h = All-nil (λ (t : Task). times n (of_task f t) ≤ k)
-placed-at-most n f (t ∷ ts) k h =
-    let e = times-append n (of_task f t) (of_queue f ts) in
-    All-cons (λ (y : Task). times n (of_task f y) ≤ k) t ts (omega (arith, e, h)) (placed-at-most n f ts k (omega (arith, e, h)))
 
 -- After an operation the master has no source while it is to have none. One that was read without a source has none.
 record Alone (v : World) (z : Recovery) : Type 0 where
@@ -217,17 +205,10 @@ module _ (w : World) (read : ℕ) (now : Moment) (P : Fact → Bool) (x : Recove
 
   -- while it is to give up its place no stage alters it
   waits-free : Contains x.queue task.Yielding → IsFree w x.failed.0 → IsFree w' x.failed.0
-  waits-free has free = spared-free w es x.failed.0 (spared w read now P x o rest is c fits speaks up ob es j goes-so x.failed.0 (off (times x.failed.0 (altered_by x.stage)) (unaltered w x x.stage c x.failed.0 some))) free
+  waits-free has free = spared-free w es x.failed.0 (spared w read now P x o rest is c fits speaks up ob es j goes-so x.failed.0 (off (times x.failed.0 (altered_by x.stage)) (unaltered w x x.stage c x.failed.0 (old-waits x has)))) free
     where
       off : (k : ℕ) → k ≡ 0 → 0 < k → ⊥
       off k z g = omega (arith, z, g)
-
-      some : 0 < waiting x x.failed.0
-      some =
-          let least : times x.failed.0 (x.failed ∷ []) ≤ times x.failed.0 (of_queue x.failed x.queue) =
-          All-contains (λ (t : Task). times x.failed.0 (of_task x.failed t) ≤ times x.failed.0 (of_queue x.failed x.queue)) x.queue task.Yielding (placed-at-most x.failed.0 x.failed x.queue (times x.failed.0 (of_queue x.failed x.queue)) (omega arith)) has in
-          let one = self-times x.failed [] in
-          omega (arith, least, one)
 
   -- the designated one loses its source, which isn't the master
   yields-free : (m d : ServerNo) → x.stage ≡ stage.Yield m d → o ≡ op.Reset d → is_takeover x.purpose ≡ true → IsFree w x.failed.0 → IsFree w' x.failed.0

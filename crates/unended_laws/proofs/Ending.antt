@@ -1,19 +1,20 @@
 -- Unended recoveries that are done have covered their replicas, and what they owe beside.
 use Rattle.std.proofs.Common.{◌≡◌, ◌∙◌, ℕ, ◌+◌, ◌<◌, Bool, true, false, List, [], ◌∷◌, cond, refl, sym, ap, subst, Option, Some, None, inl, inr, arith, All, IfSome, ◌==◌}
-use Rattle.unended_laws.proofs.Prelude.{AimedJobs, All-cons, All-contains, All-head, All-tail, All-weaker, AreSourcesOf, AttachesAsSent, BeginsWhole}
+use Rattle.unended_laws.proofs.Prelude.{AimedJobs, All-cons, All-contains, All-head, All-tail, All-weaker, AreSourcesOf, AsksAsDue, AttachesAsSent, BeginsWhole}
 use Rattle.unended_laws.proofs.Prelude.{CoveredJobs, Covers, CoversSoFar, DecidesOverAll, Decisions, ExplainsTruly, Fact, Flight, Follower, Follows}
 use Rattle.unended_laws.proofs.Prelude.{HasOnePlace, HeldJobs, HeldRecovery, HeldRings, IsAimedBeside, IsAsNamed, IsBeginning, IsChain}
 use Rattle.unended_laws.proofs.Prelude.{IsCoveredBeside, IsDoneIn, IsExplained, IsHeldBeside, IsKeptBeside, IsNamedOutcome, IsNamedRecovery}
 use Rattle.unended_laws.proofs.Prelude.{IsSoundBeside, IsSpeakingBeside, IsTold, Keeps, KeptByChosen, KeptJobs, Line, LostReplica, MakesWell, Outcome}
-use Rattle.unended_laws.proofs.Prelude.{Purpose, Recovery, RecoveryTurn, Safe, SameAim, ServerNo, SoundJobs, SpeakingJobs, Speaks, Unended, World}
+use Rattle.unended_laws.proofs.Prelude.{Purpose, Recovery, RecoveryTurn, Safe, SameAim, ServerNo, SoundJobs, SparesItsMaster, SpeakingJobs, Speaks, Unended, World}
 use Rattle.unended_laws.proofs.Prelude.{decided-chooses, eqb-true, first_source, follower_nos, found-number, ground_of, is_going, leader, listed}
 use Rattle.unended_laws.proofs.Prelude.{lost_nos, old-begins, outcome_then, owed, promoted-keeps, recovery_then, replica-placed, same_Some, self-all}
-use Rattle.unended_laws.proofs.Prelude.{self-times, taken-aim, taken-explained, taken-kept, taken_in, then-aim, times, turn-attaches, turn-begins}
+use Rattle.unended_laws.proofs.Prelude.{self-times, taken-aim, taken-explained, taken-kept, taken_in, then-aim, times, turn-asks, turn-attaches, turn-begins}
 use Rattle.unended_laws.proofs.Prelude.{turn-chain, turn-done, turn-makes, world_then}
 use Rattle.unended_laws.proofs.Prelude.lost
 use Rattle.unended_laws.proofs.Prelude.purpose
 use Rattle.unended_laws.proofs.Prelude.unended
 use Rattle.unended_laws.proofs.CoveredTurning.{found, rings-held, rings-sound}
+use Rattle.unended_laws.proofs.Sparing.{spares-master}
 
 -- ---- the servers of an outcome are those of the recovery
 
@@ -118,6 +119,9 @@ module _ (f : Flight) (us : List Unended) (t : RecoveryTurn f us) where
     turn-sends P speaking explains lost going =
         turn-attaches f.world t.book t.at_read t.at_moment t.recovery P rings mine (turn-speaks speaking) explains lost.sent going
 
+    pub turn-due : SpeakingJobs us → is_going (taken_in f us t).step ≡ true → AsksAsDue (ground_of f.world t.book t.at_moment) t.recovery (taken_in f us t).exchanges
+    turn-due speaking going = turn-asks f.world t.book t.at_read t.at_moment t.recovery rings mine (turn-speaks speaking) going
+
     pub turn-whole : SpeakingJobs us → is_going (taken_in f us t).step ≡ true → BeginsWhole (ground_of f.world t.book t.at_moment) t.recovery (taken_in f us t)
     turn-whole speaking going = turn-begins f.world t.book t.at_moment t.recovery t.at_read rings mine (turn-speaks speaking) going
 
@@ -130,6 +134,9 @@ module _ (f : Flight) (us : List Unended) (t : RecoveryTurn f us) where
 
       pub turn-changes : is_going (taken_in f us t).step ≡ true → MakesWell f.world (ground_of f.world t.book t.at_moment) t.recovery (taken_in f us t).exchanges
       turn-changes going = turn-makes f.world t.book t.at_read t.at_moment t.recovery held.flight.placed rings mine so-far going
+
+      pub turn-spares : SpeakingJobs us → is_going (taken_in f us t).step ≡ true → SparesItsMaster (ground_of f.world t.book t.at_moment) t.recovery (taken_in f us t).exchanges
+      turn-spares speaking going = spares-master f.world t.book t.at_read t.at_moment t.recovery held.flight.placed rings mine so-far (turn-speaks speaking) going
 
       turn-keeps : SoundJobs f us → KeptJobs f us → KeptByChosen (world_then f us t) (recovery_then f us t)
       turn-keeps sound kept =

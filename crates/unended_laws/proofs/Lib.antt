@@ -6,7 +6,6 @@ pub mod Begun
 pub mod Turning
 pub mod CoveredBeside
 pub mod CoveredTurning
-pub mod Ending
 pub mod Applying
 pub mod Lasting
 pub mod LastReads
@@ -16,6 +15,8 @@ pub mod Resting
 pub mod AtRest
 pub mod RestTurns
 pub mod Alone
+pub mod Sparing
+pub mod Ending
 pub mod UpTurns
 pub mod Checking
 pub mod Telling

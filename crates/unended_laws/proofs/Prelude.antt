@@ -45,8 +45,10 @@ pub use Rattle.recovery_covers.specs.RecoveryLaws.LeasedRecoveries.{IsLeasedList
 pub use Rattle.recovery_covers.specs.RecoveryLaws.Passing.{core_by}
 pub use Rattle.recovery_covers.specs.RecoveryLaws.Staying.{Spares}
 pub use Rattle.recovery_covers.specs.SoFar.{IsClosed}
+pub use Rattle.recovery_reasons.proofs.Asking.{asks-far, turn-asks}
 pub use Rattle.recovery_reasons.proofs.Attaching.{turn-attaches}
 pub use Rattle.recovery_reasons.proofs.BinlogCoords.Places.{same_coord-refl as coord-refl}
+pub use Rattle.recovery_reasons.proofs.Dealing.{over-releases}
 pub use Rattle.recovery_reasons.proofs.Facts.{taken-explained}
 pub use Rattle.recovery_reasons.proofs.Listing.{decides-listed, due-listed}
 pub use Rattle.recovery_reasons.proofs.OnWay.{Fine, decides-fine, no-tail, still-on}
@@ -79,6 +81,7 @@ pub use Rattle.recovery_reasons.proofs.Reasoning.{StopsUnreached, asked-unreache
 pub use Rattle.recovery_reasons.proofs.Sights.{SeesOnly, deed-sees}
 pub use Rattle.recovery_reasons.proofs.Speaking.{begun-speaks, decides-speaks, move-ends, moved-starts, taken-speaks}
 pub use Rattle.recovery_reasons.proofs.Whole.{turn-begins}
+pub use Rattle.recovery_reasons.specs.Asking.{AsksAsDue, AsksSoFar, DoesAt, IsLetGo, StartsAt, StopsAt}
 pub use Rattle.recovery_reasons.specs.Prelude.{Interval}
 pub use Rattle.recovery_reasons.specs.PromotionRules.declared.groups.Group.TheVariants as group
 pub use Rattle.unended_jobs.proofs.Going.{flown-allowed}
@@ -159,4 +162,4 @@ pub use Rattle.unended_laws.specs.There.{Applies, IsApplying, IsThere}
 pub use Rattle.unended_laws.specs.Turns.{IsDoneIn, IsNamedOutcome, RecoveryTurn, outcome_then, recovery_then, taken_in, world_then}
 pub use Rattle.unended_laws.specs.Upkeep.{AltersOnly, ClosesFirst, GoesOn, IsGentle, IsInWork, IsKeptUp, IsLoose, IsNeverInterfered, IsOpenYet}
 pub use Rattle.unended_laws.specs.Upkeep.{IsShut, IsToStand, IsUpBeside, KeepsUp, OldWasRead, OpensAlone, ReadsLast, Refuses, RunsOn, SawBelow}
-pub use Rattle.unended_laws.specs.Upkeep.{SawFree, Stands, StandsAlone, UpJobs, UpSoFar, altered_by}
+pub use Rattle.unended_laws.specs.Upkeep.{SawFree, SparesItsMaster, SparesMaster, Stands, StandsAlone, UpJobs, UpSoFar, altered_by}

@@ -1,13 +1,14 @@
 -- An operation of a recovery keeps up its followers, and a closed master.
 use Rattle.std.proofs.Common.{◌≡◌, ℕ, zero, suc, ◌+◌, ◌<◌, ◌≤◌, Bool, true, false, cond, not, List, [], ◌∷◌, get_or, refl, sym, ◌∙◌, ap, subst, Option, Some, None, ◌⊎◌, inl, inr, arith, ◌==◌, IfSome}
-use Rattle.unended_laws.proofs.Prelude.{All, All-cons, All-filter, All-head, All-nil, All-tail, All-weaker, AltersOnly, AreReplicas, Attach, AttachAuto}
+use Rattle.std.specs.List.{Contains}
+use Rattle.unended_laws.proofs.Prelude.{All, All-cons, All-contains, All-filter, All-head, All-nil, All-tail, All-weaker, AltersOnly, AreReplicas, Attach, AttachAuto}
 use Rattle.unended_laws.proofs.Prelude.{CoversAt, Deed, Exchange, Fact, Fits, Follower, GoesOn, IsApplying, IsAttachment, IsGiving, IsKeptUp, IsOpenYet, IsShut}
 use Rattle.unended_laws.proofs.Prelude.{IsUnder, Job, Leads, Line, Makes, MayMake, Moment, Observation, Op, Purpose, ReadsLast, Recovery, Request, RunsOn}
 use Rattle.unended_laws.proofs.Prelude.{ServerNo, SpeaksWith, Stage, Stopped, Task, UpSoFar, World, altered_by, by_deed, crowned-leader, crowns, deed_of, ends, entered}
 use Rattle.unended_laws.proofs.Prelude.{eq-eqb, eqb-true, false≢true, filter_passes, first_source, fits-step, follower_nos, follows_no_more, gather, info}
-use Rattle.unended_laws.proofs.Prelude.{is_late, is_master, is_takeover, joined, leader, leaver, listed, lost_nos, made-well, master-crowns, move, moved, of_queue}
+use Rattle.unended_laws.proofs.Prelude.{is_late, is_master, is_takeover, joined, leader, leaver, listed, lost_nos, made-well, master-crowns, move, moved, of_queue, of_task}
 use Rattle.unended_laws.proofs.Prelude.{moved-fits, moved-starts, observed, of_stage, op-does, run, same-head, same-no, same-tail, same_Some, self-all, stopped_nos}
-use Rattle.unended_laws.proofs.Prelude.{self-times, stepped, tail_of, takeover-crowns, target, times, without_follower}
+use Rattle.unended_laws.proofs.Prelude.{self-times, stepped, tail_of, takeover-crowns, target, times, times-append, without_follower}
 use Rattle.unended_laws.proofs.Prelude.asking
 use Rattle.unended_laws.proofs.Prelude.attempt
 use Rattle.unended_laws.proofs.Prelude.cross
@@ -16,6 +17,7 @@ use Rattle.unended_laws.proofs.Prelude.op
 use Rattle.unended_laws.proofs.Prelude.purpose
 use Rattle.unended_laws.proofs.Prelude.stage
 use Rattle.unended_laws.proofs.Prelude.table
+use Rattle.unended_laws.proofs.Prelude.task
 use Rattle.unended_laws.proofs.LastReads.{reads-on}
 use Rattle.unended_laws.proofs.Applying.{KeepsShut, Spares, closed-shut, request-made, run-goes, run-on, run-shut, started-applies, started-goes}
 
@@ -32,13 +34,34 @@ Altered s o = AltersOnly (altered_by s) (deed_of o)
 abbrev pub waiting : Recovery → ℕ → ℕ
 waiting x n = times n (of_queue x.failed x.queue) + times n (stopped_nos x.drained)
 
+-- a task gives a server its position at most as often as all tasks do
+placed-at-most : (n : ℕ) (f : ServerNo) (ts : List Task) (k : ℕ) → times n (of_queue f ts) ≤ k → All (λ t. times n (of_task f t) ≤ k) ts
+placed-at-most n f [] k h = All-nil (λ (t : Task). times n (of_task f t) ≤ k)
+placed-at-most n f (t ∷ ts) k h =
+    let e = times-append n (of_task f t) (of_queue f ts) in
+    All-cons (λ (y : Task). times n (of_task f y) ≤ k) t ts (omega (arith, e, h)) (placed-at-most n f ts k (omega (arith, e, h)))
+
+-- a master that is to give up its place waits for that
+pub old-waits : (x : Recovery) → Contains x.queue task.Yielding → 0 < waiting x x.failed.0
+old-waits x has =
+    let least : times x.failed.0 (x.failed ∷ []) ≤ times x.failed.0 (of_queue x.failed x.queue) =
+    All-contains (λ (t : Task). times x.failed.0 (of_task x.failed t) ≤ times x.failed.0 (of_queue x.failed x.queue)) x.queue task.Yielding (placed-at-most x.failed.0 x.failed x.queue (times x.failed.0 (of_queue x.failed x.queue)) (omega arith)) has in
+    let one = self-times x.failed [] in
+    omega (arith, least, one)
+
+-- a dead master's recovery is no takeover
+pub master-not : (u : Purpose) → is_master u ≡ true → is_takeover u ≡ true → ⊥
+master-not (purpose.Takeover d) h t = false≢true h
+master-not purpose.Regroup h t = false≢true t
+master-not _ h t = false≢true t
+
 module _ (w : World) (x : Recovery) where
   -- a server that is to go some way, that is drained, or that is a follower
   module _ (s : Stage) (c : CoversAt w x s) (n : ℕ) (f : 0 < waiting x n + times n (follower_nos x.outcome.followers)) where
-    unplaced : times n (of_stage s) ≡ 0
+    pub unplaced : times n (of_stage s) ≡ 0
     unplaced = let e = c.once n in let most = c.replicas.distinct n in omega (arith, e, most, f)
 
-    unlost : times n (lost_nos x.outcome.lost) ≡ 0
+    pub unlost : times n (lost_nos x.outcome.lost) ≡ 0
     unlost = let e = c.once n in let most = c.replicas.distinct n in omega (arith, e, most, f)
 
     unled : (p : ServerNo) → crowns x.purpose ≡ true → x.outcome.promoted ≡ Some p → times n (p ∷ []) ≡ 0
@@ -167,14 +190,10 @@ module _ (w : World) (x : Recovery) where
       opened _ = None
   opens-crowned s c n h = cc
 
-  -- the old master isn't promoted
-  pub not-promoted : (s : Stage) → CoversAt w x s → is_takeover x.purpose ≡ true → (n : ServerNo) → x.outcome.promoted ≡ Some n → n.0 ≡ x.failed.0 → ⊥
-  not-promoted s c t n is same = go x.purpose refl t
+  -- the old master isn't the designated one
+  pub not-chosen : (s : Stage) → CoversAt w x s → is_takeover x.purpose ≡ true → (n : ServerNo) → x.chosen ≡ Some n → n.0 ≡ x.failed.0 → ⊥
+  not-chosen s c t n is same = go x.purpose refl t
     where
-      leads : (d : ServerNo) → x.purpose ≡ purpose.Takeover d → Leads x s → x.outcome.promoted ≡ x.chosen
-      leads d at (inl e) = e
-      leads d at (inr l) = absurd (false≢true (sym (ap is_master at) ∙ l.1.master))
-
       apart : (d : ServerNo) → times d.0 (x.failed ∷ x.replicas) ≤ 1 → times d.0 x.replicas ≡ 1 → d.0 ≡ x.failed.0 → ⊥
       apart d most once e =
           let here : cond (x.failed.0 == d.0) 1 0 ≡ 1 = ap (λ b. cond b 1 0) (eq-eqb x.failed.0 d.0 (sym e)) in
@@ -186,11 +205,19 @@ module _ (w : World) (x : Recovery) where
       go : (u : Purpose) → x.purpose ≡ u → is_takeover u ≡ true → ⊥
       go (purpose.Takeover d) at h =
           let named : x.chosen ≡ Some d = subst (λ (u : Purpose). IfSome (first_source u) (λ k. x.chosen ≡ Some k)) at c.named in
-          let it : n ≡ d = same_Some n d (sym is ∙ (leads d at c.leads ∙ named)) in
+          let it : n ≡ d = same_Some n d (sym is ∙ named) in
           let rs = subst (λ (u : Purpose). AreReplicas u x.failed x.replicas) at c.replicas in
           apart d (rs.distinct d.0) rs.placed (sym (ap (λ (k : ServerNo). k.0) it) ∙ same)
       go purpose.Regroup at h = false≢true h
       go _ at h = false≢true h
+
+  -- nor promoted
+  pub not-promoted : (s : Stage) → CoversAt w x s → is_takeover x.purpose ≡ true → (n : ServerNo) → x.outcome.promoted ≡ Some n → n.0 ≡ x.failed.0 → ⊥
+  not-promoted s c t n is same = go c.leads
+    where
+      go : Leads x s → ⊥
+      go (inl e) = not-chosen s c t n (sym e ∙ is) same
+      go (inr l) = master-not x.purpose l.1.master t
 
 -- ---- what is left of a stage
 

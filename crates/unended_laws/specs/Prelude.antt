@@ -15,12 +15,13 @@ pub use Rattle.recovery_covers.specs.RecoveryLaws.Rings.{AreOwn}
 pub use Rattle.recovery_covers.specs.RecoveryLaws.SoundRecoveries.{SoundRecovery}
 pub use Rattle.recovery_covers.specs.RecoveryLaws.Standing.{attached_no}
 pub use Rattle.recovery_covers.specs.SoFar.{CoversSoFar}
+pub use Rattle.recovery_reasons.specs.Asking.{Speaks}
 pub use Rattle.recovery_reasons.specs.Attaching.{attachment_by}
-pub use Rattle.recovery_reasons.specs.Prelude.{Ask, BookState, Bridge, Coord, Decisions, Deed, Exchange, HeldRecovery, IsAny, Job, Line, Means}
+pub use Rattle.recovery_reasons.specs.Prelude.{Ask, BookState, Bridge, Coord, Decisions, Deed, Exchange, Ground, HeldRecovery, IsAny, Job, Line, Means}
 pub use Rattle.recovery_reasons.specs.Prelude.{Moment, Observation, Position, Purpose, Server, ServerNo, Sight, Spot, Stage, Taken, Task, Way, World}
 pub use Rattle.recovery_reasons.specs.Prelude.{attach_answer_of, begun_recovery, deed_of, ground_of, is_going, is_takeover, match_found, run, seen_of}
 pub use Rattle.recovery_reasons.specs.Prelude.{server_at, server_of, tail_of, taken}
-pub use Rattle.recovery_reasons.specs.Reasons.{ExplainsTruly, Fact, IsExplained, IsGivenUp, IsOfDead, IsPassed, IsYetToStart, Speaks}
+pub use Rattle.recovery_reasons.specs.Reasons.{ExplainsTruly, Fact, IsExplained, IsGivenUp, IsOfDead, IsPassed, IsYetToStart}
 pub use Rattle.recovery_reasons.specs.Undoing.{closed_at}
 pub use Rattle.unended_jobs.specs.HookTexts.declared.hooks.Hooks.{Hooks}
 pub use Rattle.unended_jobs.specs.Hooked.{hooked, promoted_in}

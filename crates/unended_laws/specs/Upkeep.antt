@@ -1,7 +1,7 @@
 -- What a recovery keeps up: the appliers of those that follow, and the old master of a takeover, which takes no writes
 -- and has no source.
 use Rattle.std.specs.Prelude.{◌≡◌, ◌<◌, ◌⊎◌, ℕ, Bool, true, false, List, [], ◌∷◌, Some, None, Err, All}
-use Rattle.unended_laws.specs.Prelude.{Ask, Deed, Exchange, Fact, Flight, IsFree, IsGivenUp, IsPassed, IsYetToStart, Line, Position, Server}
+use Rattle.unended_laws.specs.Prelude.{Ask, Decisions, Deed, Exchange, Fact, Flight, Ground, IsFree, IsGivenUp, IsPassed, IsYetToStart, Line, Position, Server}
 use Rattle.unended_laws.specs.Prelude.{ServerNo, Sight, Spot, Stage, Unended, Way, Without, World, attach_answer_of, attached_no, attachment_by}
 use Rattle.unended_laws.specs.Prelude.{closed_at, crowns, deed_of, gather, is_attached, is_takeover, number_of, seen_of, tail_of, times}
 use Rattle.unended_laws.specs.Prelude.asking
@@ -183,6 +183,26 @@ StandsAlone w r = is_takeover r.purpose ≡ true → IsToStand r.failed r.stage 
 -- the master that a takeover has closed, which takes writes again if it fails, has no source
 abbrev pub OpensAlone : World → Recovery → Type 0
 OpensAlone w d = (m : ServerNo) → is_takeover d.purpose ≡ true → closed_at d.failed d.stage ≡ Some m → IsFree w m.0
+
+-- An exchange of a turn that goes on, of the recovery as it was decided so far. Nothing is asked of a takeover's master
+-- but to refuse writes. It is attached only when the designated one takes its place. What is no orchestrator's isn't
+-- made.
+abbrev pub SparesMaster : Recovery → Exchange → Type 0
+SparesMaster r (model.Request n a) = is_takeover r.purpose ≡ true → n ≡ r.failed.0 → a ≡ asking.SetReadOnly true
+SparesMaster r (model.Attach n expect to at) = is_takeover r.purpose ≡ true → n ≡ r.failed.0 → (d : ServerNo) × (r.stage ≡ stage.Switch r.failed d)
+SparesMaster r (model.AttachAuto n observed to) = is_takeover r.purpose ≡ true → n ≡ r.failed.0 → (d : ServerNo) × (r.stage ≡ stage.Switch r.failed d)
+SparesMaster r (model.Write n size) = ⊥
+SparesMaster r (model.Fetch n) = ⊥
+SparesMaster r (model.Apply n) = ⊥
+SparesMaster r (model.Befall n e) = ⊥
+SparesMaster r (model.Rotate n) = ⊥
+SparesMaster r (model.Purge n file) = ⊥
+
+-- so is each of a turn's exchanges
+pub record SparesItsMaster (g : Ground) (r : Recovery) (es : List Exchange) : Type 0 where
+  pub decided : Recovery
+  pub so : Decisions g r decided
+  pub each : All (SparesMaster decided) es
 
 -- ---- attachments
 

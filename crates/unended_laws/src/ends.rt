@@ -6,13 +6,15 @@ ghost use Rattle.unended_laws.specs.Prelude.{Line as ALine, MakesWell, Safe, Sam
 ghost use Rattle.unended_laws.specs.Flights.{HeldJobs, SoundJobs};
 ghost use Rattle.unended_jobs.specs.RecoveryPlans.Recoveries.{Recovery};
 ghost use Rattle.unended_laws.specs.Prelude.purpose;
-ghost use Rattle.unended_laws.specs.CoveredFlights.{CoveredJobs, KeptJobs};
+ghost use Rattle.unended_laws.specs.CoveredFlights.{CoveredJobs, KeptJobs, SpeakingJobs};
 ghost use Rattle.unended_laws.specs.Turns.{IsDoneIn, IsNamedOutcome, RecoveryTurn, outcome_then, recovery_then, taken_in, world_then};
+ghost use Rattle.unended_laws.specs.Upkeep.{SparesItsMaster};
 
 /// A turn leaves a recovery its purpose, its failed server and its replicas. One in which it is done leaves these
 /// replicas covered, with the outcome's lines, each in one place. Its followers are a chain only after a swap. The
 /// servers of the outcome are there. If it decides whom to choose each replica is drained, or lost, and before it hands
-/// over the first. A turn after which it goes on changes what it may.
+/// over the first. A turn after which it goes on changes what it may. Nothing is asked of a takeover's master but to
+/// refuse writes, and it is attached only when the designated one takes its place.
 pub fn finished_recoveries_cover()
     ensures aim { (f : Flight) (us : List AnUnended) (t : RecoveryTurn f us) →
         SameAim t.recovery (recovery_then f us t) }
@@ -39,6 +41,11 @@ pub fn finished_recoveries_cover()
     ensures changes { (f : Flight) (us : List AnUnended) (t : RecoveryTurn f us) →
         HeldJobs f us → CoveredJobs f us → is_going (taken_in f us t).step ≡ true →
         MakesWell f.world (ground_of f.world t.book t.at_moment) t.recovery
+        (taken_in f us t).exchanges }
+    ensures spares { (f : Flight) (us : List AnUnended) (t : RecoveryTurn f us) →
+        HeldJobs f us → CoveredJobs f us → SpeakingJobs us →
+        is_going (taken_in f us t).step ≡ true →
+        SparesItsMaster (ground_of f.world t.book t.at_moment) t.recovery
         (taken_in f us t).exchanges }
 {}
 

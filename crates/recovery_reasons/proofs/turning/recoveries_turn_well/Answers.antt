@@ -1,4 +1,5 @@
 use Rattle.recovery_reasons.proofs.Answering.{turn-answered}
+use Rattle.recovery_reasons.proofs.Asking.{turn-asks}
 use Rattle.recovery_reasons.proofs.Attaching.{turn-attaches}
 use Rattle.recovery_reasons.proofs.Changing.{turn-its}
 use Rattle.recovery_reasons.proofs.Undoing.{fails-opening, fails-starting, turn-hands}
@@ -12,6 +13,7 @@ returns c = record {
   changes = λ w b read now r speaks. turn-its w b read now r speaks.changes;
   answered = λ w b read now r n y o rings held speaks at due. turn-answered w b read now r rings held speaks n y o at due;
   waits = λ w b read now r speaks. turn-waits w b read now r speaks;
+  asks = λ w b read now r rings held speaks going. turn-asks w b read now r rings held speaks going;
   begins = λ w b read now r rings held speaks going. turn-begins w b now r read rings held speaks going;
   hands = λ w b read now r going. turn-hands w b read now r going;
   starts = λ w b read now r k lines failed. fails-starting w b read now r k lines failed;

@@ -1,4 +1,4 @@
-use Rattle.unended_laws.proofs.Ending.{done-chain, done-named, done-placed, done-told, turn-aim, turn-changes, turn-chooses}
+use Rattle.unended_laws.proofs.Ending.{done-chain, done-named, done-placed, done-told, turn-aim, turn-changes, turn-chooses, turn-spares}
 use Rattle.unended_laws.proofs.ends.finished_recoveries_cover.Goals as goal
 
 pub returns : goal.returns
@@ -10,4 +10,5 @@ returns c = record {
   named = λ f us t lines count done held covered named. done-named f us t held covered lines done count named;
   chooses = λ f us t d held covered so. turn-chooses f us t held covered d so;
   changes = λ f us t held covered going. turn-changes f us t held covered going;
+  spares = λ f us t held covered speaking going. turn-spares f us t held covered speaking going;
 }
