@@ -2,8 +2,8 @@
 
 use crate::orch_base::{Memory, Moment, ServerNo, SourceState};
 use crate::rows::{Given, are_rows, rows, settings};
-use instance_keeper::{Ending, Rule};
-use opening_book::{counted, last_id, last_read, latest_moment, loaded_book};
+use instance_keeper::{Book, Ending, Rule};
+use opening_book::{counted, last_id, last_read, latest_moment};
 use std::alloc::Global;
 use std::slice;
 
@@ -182,7 +182,7 @@ const SERVERS: [(&str, &str); 2] = [("m", "m:3306"), ("r", "m:3306")];
 fn loaded(alloc: Global) -> Result<(u32, bool), Memory> {
     let settings = settings(alloc, &SERVERS)?;
     let rows = rows(alloc, &IN_ORDER)?;
-    let book = loaded_book(alloc, &settings, &rows)?;
+    let book = Book::make(alloc, &settings, &rows)?;
     let told = (book.servers(), book.enabled());
     drop(book);
     Ok(told)

@@ -14,7 +14,7 @@ use crate::binlog_coords_items::Coord;
 use crate::bridge::{Bridge, Ring, bridge_in};
 use crate::lease::{LeaseFault, first_busy, give_back, take};
 use crate::orch_base::{Moment, Name, ServerNo, Settings};
-use crate::server_list::ServerList;
+use crate::server_list::{ServerList, copy_settings};
 use crate::{Memory, Rule};
 use indexmap::IndexMap;
 use kept_rows::{Candidate, Change, Downtime, Instance, Key, Observation, Row, Table};
@@ -311,12 +311,13 @@ fn bridge_of(instance: &Instance) -> Option<Bridge>
 }
 
 impl Book {
-    // The book of these servers, without a row.
-    fn empty(alloc: Global, settings: &[Settings]) -> Result<Book, Memory>
+    /// The book of these servers, without a row. `Err` means out of memory.
+    pub fn of_servers(alloc: Global, settings: &[&Settings]) -> Result<Book, Memory>
         requires { length settings.now < 2 ^ 32 }
-        ensures { IfOk result (λ b. b ≡ empty_book settings.now) }
+        ensures { IfOk result (λ b. b ≡ empty_book (map (λ s. s.now) settings.now)) }
     {
-        let servers = ServerList::make(alloc, settings)?;
+        let copies = copy_settings(alloc, settings)?;
+        let servers = ServerList::make(alloc, copies)?;
         let count = servers.count();
         Ok(Book {
             servers,
@@ -465,7 +466,8 @@ impl Book {
         ensures names { IfOk result (λ b. b.names ≡ map (λ s. s.name) settings.now) }
         ensures count { IfOk result (λ b. length b.names ≡ length settings.now) }
     {
-        let mut book = Book::empty(alloc, settings)?;
+        let borrowed: Vec<&Settings> = settings.iter().collect(alloc)?;
+        let mut book = Book::of_servers(alloc, &borrowed)?;
         'rows: for row in rows {
             book.take(row.copy(alloc)?);
         }

@@ -20,7 +20,6 @@ pub use kept_rows::{
 };
 pub use laws::{had_rows_change_nothing, instances_are_rows, rows_follow_the_book};
 pub use lease::LeaseFault;
-pub use server_list::copy_names;
 /// Out of memory.
 pub use kept_rows::orch_base::{CauseName, Code, Ending, Kind, Memory, Rule};
 

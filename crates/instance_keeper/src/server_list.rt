@@ -41,8 +41,9 @@ impl Model for ServerList {
         IsServerList s.settings.items s.names.items s.order.items s.ranks.items };
 }
 
-fn copy_settings(alloc: Global, settings: &[Settings]) -> Result<Vec<Settings>, Memory>
-    ensures { IfOk result (λ copies. copies.items ≡ settings.now) }
+/// Copies of these settings, in order. `Err` means out of memory.
+pub(crate) fn copy_settings(alloc: Global, settings: &[&Settings]) -> Result<Vec<Settings>, Memory>
+    ensures { IfOk result (λ copies. copies.items ≡ map (λ s. s.now) settings.now) }
 {
     let mut copies = Vec::with_capacity(alloc, settings.len())?;
     'servers: for server in settings {
@@ -51,8 +52,8 @@ fn copy_settings(alloc: Global, settings: &[Settings]) -> Result<Vec<Settings>, 
     Ok(copies)
 }
 
-/// The names in the settings. `Err` means out of memory.
-pub fn copy_names(alloc: Global, settings: &[Settings]) -> Result<Vec<Name>, Memory>
+// The names in the settings.
+fn copy_names(alloc: Global, settings: &[Settings]) -> Result<Vec<Name>, Memory>
     ensures { IfOk result (λ names. names.items ≡ map (λ s. s.name) settings.now) }
 {
     let mut names = Vec::with_capacity(alloc, settings.len())?;
@@ -64,15 +65,15 @@ pub fn copy_names(alloc: Global, settings: &[Settings]) -> Result<Vec<Name>, Mem
 
 impl ServerList {
     /// The list of servers of these settings, by number.
-    pub(crate) fn make(alloc: Global, settings: &[Settings]) -> Result<ServerList, Memory>
-        requires { length settings.now < 2 ^ 32 }
-        ensures { IfOk result (λ list. list ≡ settings.now) }
+    pub(crate) fn make(alloc: Global, settings: Vec<Settings>) -> Result<ServerList, Memory>
+        requires { length settings.items < 2 ^ 32 }
+        ensures { IfOk result (λ list. list ≡ settings.items) }
     {
-        let names = copy_names(alloc, settings)?;
+        let names = copy_names(alloc, &settings)?;
         let order = in_name_order(alloc, &names)?;
         let ranks = ranks(alloc, &order)?;
         Ok(ServerList {
-            settings: copy_settings(alloc, settings)?,
+            settings,
             names,
             order,
             ranks,

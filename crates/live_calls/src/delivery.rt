@@ -9,7 +9,7 @@ use crate::orch_base::{Gate, Name, Sink};
 use crate::orch_core_items::Engine;
 use crate::rows::keep_rows;
 use crate::scenarios_items::Scenario;
-use crate::tasks::{Ending, journal_report, names_of};
+use crate::tasks::{Ending, journal_report};
 use crate::turns::{Reply, Turn};
 use live_desk::{Ended, live_to_end};
 use schedules::schedule_text;
@@ -68,9 +68,6 @@ pub(crate) fn live_ending<R: Threads + Wait + Sync, G: Gate + Sync, O: Sink, K: 
         result }
     ensures cause { HasKeepersCause (K.faults keeper.old) (K.faults keeper.new) result }
 {
-    let Ok(names) = names_of(alloc, scenario) else {
-        return Ending::Memory;
-    };
     let ran = live_to_end(
         rt,
         alloc,
@@ -89,5 +86,6 @@ pub(crate) fn live_ending<R: Threads + Wait + Sync, G: Gate + Sync, O: Sink, K: 
         engine,
         rows,
     } = ended;
-    deliver(alloc, &names, &journal.entries, &engine, rows, out, keeper)
+    let names = scenario.opening.names();
+    deliver(alloc, names, &journal.entries, &engine, rows, out, keeper)
 }

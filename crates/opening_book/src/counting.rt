@@ -1,13 +1,13 @@
 //! Kept rows that count.
 
-ghost use Rattle.std.specs.Prelude.{◌≡◌, ◌<◌, ◌^◌, IfOk, OnOk, filter, length, map};
-ghost use Rattle.opening_book.specs.Prelude.{IsRising, book_made, list_all};
+ghost use Rattle.std.specs.Prelude.{◌≡◌, IfOk, filter, map};
+ghost use Rattle.opening_book.specs.Prelude.{IsRising, list_all};
 ghost use Rattle.opening_book.specs.Prelude.row;
 ghost use Rattle.opening_book.specs.Counting.{counts, counted, is_block_in_range, is_end_in_range, is_in_range, last_read, later_read, latest, raised};
 
 use crate::Memory;
-use crate::orch_base::{Moment, Settings};
-use instance_keeper::{Book, RecoveryRow, Row, row_map};
+use crate::orch_base::Moment;
+use instance_keeper::{RecoveryRow, Row, row_map};
 use std::alloc::Global;
 
 /// Read numbers and moments of rows that count are at most this.
@@ -158,12 +158,4 @@ pub fn last_read(rows: &[Row]) -> u64
         last = later_read(last, row);
     }
     last
-}
-
-/// The book of these servers, by number, and of these rows. `Err` means out of memory.
-pub fn loaded_book(alloc: Global, settings: &[Settings], rows: &[Row]) -> Result<Book, Memory>
-    requires { length settings.now < 2 ^ 32 }
-    ensures { IfOk result (λ b. b ≡ book_made settings.now rows.now) }
-{
-    Book::make(alloc, settings, rows)
 }

@@ -7,7 +7,7 @@ mod laws;
 mod opening;
 
 pub use audit::{beyond_instances, last_id, latest_recovery, loaded_audit};
-pub use counting::{GREATEST_ID, counted, counted_in_order, last_read, latest_moment, loaded_book};
+pub use counting::{GREATEST_ID, counted, counted_in_order, last_read, latest_moment};
 use instance_keeper::orch_base;
 pub use laws::{
     kept_rows_follow_the_audit, kept_rows_follow_the_book, openings_count_readings,

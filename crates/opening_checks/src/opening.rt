@@ -37,6 +37,6 @@ impl CheckedOpening for Opening {
 
     fn check(alloc: Global, servers: Vec<ServerInit>, gtid: bool) -> Result<Opening, OpeningFault> {
         check_servers(alloc, &servers)?;
-        Ok(Opening::of_checked(servers, gtid))
+        Ok(Opening::of_checked(alloc, servers, gtid)?)
     }
 }

@@ -1,9 +1,9 @@
 //! Openings.
 
-ghost use Rattle.std.specs.Prelude.{◌≡◌, ◌↔◌, IfOk, IsTrue};
+ghost use Rattle.std.specs.Prelude.{◌≡◌, ◌↔◌, IfOk, IsTrue, map};
 
 use crate::ServerInit;
-use crate::orch_base::{Memory, copy_of, same_values};
+use crate::orch_base::{Memory, Name, copy_of, same_values};
 use std::alloc::Global;
 use std::fmt;
 use std::marker::Model;
@@ -53,6 +53,7 @@ impl fmt::Display for Flaw {
 #[derive(Drop)]
 pub struct Opening {
     servers: Vec<ServerInit>,
+    names: Vec<Name>,
     gtid: bool,
 }
 
@@ -68,16 +69,36 @@ impl Model for Opening {
     ghost invariant = { IsCheckedInside };
 }
 
+// The servers' names, in the scenario's order.
+fn names_of(alloc: Global, servers: &[ServerInit]) -> Result<Vec<Name>, Memory>
+    ensures { IfOk result (λ names. names.items ≡ map (λ i. i.settings.name) servers.now) }
+{
+    let mut names = Vec::with_capacity(alloc, servers.len())?;
+    for server in servers {
+        names.push(server.settings.name.copy(alloc)?)?;
+    }
+    Ok(names)
+}
+
 impl Opening {
-    ghost use Rattle.std.specs.Prelude.{◌≡◌, ◌↔◌, IfOk, IsTrue};
+    ghost use Rattle.std.specs.Prelude.{◌≡◌, ◌↔◌, IfOk, IsTrue, map};
     ghost use Rattle.openings.specs.Opening.{opening, IsChecked};
 
-    /// The opening of these servers, which are within the limits and without a flaw. It takes no memory.
-    pub fn of_checked(servers: Vec<ServerInit>, gtid: bool) -> Opening
+    /// The opening of these servers, which are within the limits and without a flaw. `Err` means out of memory.
+    pub fn of_checked(
+        alloc: Global,
+        servers: Vec<ServerInit>,
+        gtid: bool,
+    ) -> Result<Opening, Memory>
         requires { IsChecked (opening servers.items gtid) }
-        ensures { result ≡ opening servers.items gtid }
+        ensures { IfOk result (λ o. o ≡ opening servers.items gtid) }
     {
-        Opening { servers, gtid }
+        let names = names_of(alloc, &servers)?;
+        Ok(Opening {
+            servers,
+            names,
+            gtid,
+        })
     }
 
     /// The servers in the scenario's order.
@@ -86,6 +107,13 @@ impl Opening {
         ensures checked { IsChecked self.now }
     {
         &self.servers
+    }
+
+    /// The servers' names in the scenario's order.
+    pub fn names(&self) -> &[Name]
+        ensures { result.now ≡ map (λ i. i.settings.name) self.now.servers }
+    {
+        &self.names
     }
 
     /// Whether the servers use GTIDs.
@@ -99,9 +127,9 @@ impl Opening {
     pub fn copy(&self, alloc: Global) -> Result<Opening, Memory>
         ensures { IfOk result (λ o. o ≡ self.now) }
     {
-        let servers = copy_of(alloc, &self.servers)?;
         Ok(Opening {
-            servers,
+            servers: copy_of(alloc, &self.servers)?,
+            names: names_of(alloc, &self.servers)?,
             gtid: self.gtid,
         })
     }

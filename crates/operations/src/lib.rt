@@ -22,6 +22,6 @@ pub use step::JobStep;
 pub mod instance_keeper_items {
     pub use instance_keeper::{
         Book, Bridge, Candidate, Change, Downtime, Instance, Keeper, KeeperFault, Key, MemKeeper,
-        Observation, Recovery, RecoveryRow, Row, Seen, StoreAnswer, Table, copy_names,
+        Observation, Recovery, RecoveryRow, Row, Seen, StoreAnswer, Table,
     };
 }

@@ -1,15 +1,15 @@
 -- The state with which a scenario's run begins.
-use Rattle.std.proofs.Common.{◌≡◌, ◌∙◌, ℕ, ◌+◌, ◌<◌, ◌≤◌, ◌^◌, Bool, true, false, List, [], ◌∷◌, length, get_or, refl, sym, ap, subst, Option, Some, None, arith, All, IfSome, IsTrue, ◌&&◌, is_none, nat_lt, slice_index_or, if◌then◌else◌}
+use Rattle.std.proofs.Common.{◌≡◌, ◌∙◌, ℕ, ◌+◌, ◌<◌, ◌≤◌, ◌^◌, Bool, true, false, List, [], ◌∷◌, length, get_or, map, refl, sym, ap, subst, Option, Some, None, arith, All, IfSome, IsTrue, ◌&&◌, is_none, nat_lt, slice_index_or, if◌then◌else◌}
 use Rattle.orch_core.proofs.Prelude.{All-nil, All-replicate, AreReadWithin, Attached, AuditState, BookState, Candidate, Change, ClaimState}
 use Rattle.orch_core.proofs.Prelude.{Configuration, Detached, Fits, HasKnownSource, HasSameServers, HaveEntries, Instance, IsAudit, IsScenario}
 use Rattle.orch_core.proofs.Prelude.{IsSlot, IsState, IsUnended, Moment, Observation, Rise, Row, Rule, Scenario, Server, ServerNo, Settings, StartsBy}
 use Rattle.orch_core.proofs.Prelude.{State, Unended, World, after_opening, are_known, audit-opened, audit_of, book_made, changed, closed}
-use Rattle.orch_core.proofs.Prelude.{configuration_of, counted, empty_slots, flushes_of, get_or-le-sum_by, given-opened, greatest, greatest_id}
+use Rattle.orch_core.proofs.Prelude.{configuration_of, counted, empty_book, empty_slots, flushes_of, get_or-le-sum_by, given-opened, greatest, greatest_id}
 use Rattle.orch_core.proofs.Prelude.{has_row, holder_of, is_opening_change, kept_at_start, kept_claim, kept_if, last_id, last_id-within, last_read}
 use Rattle.orch_core.proofs.Prelude.{latest, length-map, length-replicate, loaded_audit, loaded_book, loading, longest-at, longest_block}
 use Rattle.orch_core.proofs.Prelude.{made as claims_made, missing, missing_from, opened_book, opened_world, opening_changes, opening_instance}
 use Rattle.orch_core.proofs.Prelude.{parts_of, period_by, period_of, pollers, put_instance, registered, registering, registering_from, room_of}
-use Rattle.orch_core.proofs.Prelude.{row_fits, same-change, server_at, settings_of, slice_get-get_or, slice_get_within, source_servers, source_state}
+use Rattle.orch_core.proofs.Prelude.{row_fits, same-change, ServerInit, server_at, settings_of, slice_get-get_or, slice_get_within, source_servers, source_state}
 use Rattle.orch_core.proofs.Prelude.{start, start_changes, start_moment, start_rows, start_world, transactions}
 use Rattle.orch_core.proofs.Prelude.change
 use Rattle.orch_core.proofs.Prelude.row
@@ -114,6 +114,11 @@ pub book-names : (s : Scenario) (w : World) (settings : List Settings) (items : 
 book-names s w settings items b world settings_are loads =
     ap (λ (x : BookState). length x.names) loads ∙ (ap length (same-made settings items).names ∙ (length-map settings (λ x. x.name)
     ∙ (sym (ap length (same-made settings items).settings) ∙ (sym (ap (λ (x : BookState). length x.settings) loads) ∙ book-settings s w settings items b world settings_are loads))))
+
+-- a book of all servers counts them
+pub count-made : (s : Scenario) (servers : List ServerInit) (b : BookState) (count : ℕ) → servers ≡ s.opening.servers → b ≡ empty_book (map (λ i. i.settings) servers) → count ≡ length b.names → count ≡ length s.opening.servers
+count-made s servers b count same empty counts =
+    counts ∙ ap (λ (x : BookState). length x.names) empty ∙ length-map (map (λ i. i.settings) servers) (λ x. x.name) ∙ length-map servers (λ i. i.settings) ∙ ap length same
 
 -- the world of an opening, with room as it was counted
 pub world_made : (s : Scenario) (w : World) (room flushes : ℕ) → w ≡ opened_world s.opening room flushes → room ≡ room_of s → flushes ≡ flushes_of s → w ≡ start_world s

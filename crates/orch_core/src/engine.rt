@@ -15,8 +15,8 @@ use crate::audit_log::Audit;
 use crate::claiming::{holder_of, kept_claim};
 use crate::command_outcomes_items::{Numbers, Outcome, outcome_of, read_server, scan_by};
 use crate::exchanging::{exchange, later, read_reply};
-use crate::instance_keeper_items::{Book, Change, Keeper, Observation, copy_names};
-use crate::opening::{complete, configure, copy_settings, empty_slots, make_slots};
+use crate::instance_keeper_items::{Book, Change, Keeper, Observation};
+use crate::opening::{book_of, complete, configure, empty_slots, make_slots};
 use crate::orch_base::{Memory, Moment, ServerNo};
 use crate::server_model::World;
 use crate::unended_jobs_items::{FoundJob, Unended, find, others_over, take_turn};
@@ -28,7 +28,7 @@ use knowledge::{
 use node_claims::Claims;
 use opening_book::{
     GREATEST_ID, beyond_instances, counted, counted_in_order, last_id, last_read, latest_moment,
-    latest_recovery, loaded_audit, loaded_book, loading,
+    latest_recovery, loaded_audit, loading,
 };
 use std::alloc::Global;
 use std::marker::Model;
@@ -449,19 +449,19 @@ impl Engine {
         ensures nodes { IfOk result (λ e. nodes_of e ≡ s.now.nodes) }
     {
         let world = World::make(alloc, &s.opening, s.room(), s.flushes())?;
-        let settings = copy_settings(alloc, s.opening.servers())?;
+        let mut book = book_of(alloc, s.opening.servers())?;
         let slots = make_slots(alloc)?;
         let configuration = configure(alloc, s, wait)?;
-        let names = copy_names(alloc, &settings)?;
-        let given = given_rows(alloc, keeper, &names)?;
+        let given = given_rows(alloc, keeper, book.names())?;
         let next = last_id(&given) + 1;
-        let rows = counted(alloc, settings.len() as u32, GREATEST_ID, given)?;
+        let rows = counted(alloc, book.servers(), GREATEST_ID, given)?;
         let moment = latest_moment(s.moment, &rows);
         let mut audit = loaded_audit(alloc, &configuration, &rows, next)?;
         let recoveries = loading(alloc, &configuration, &rows, &audit, moment)?;
         let kept = kept_claim(&rows);
+        let reads = last_read(&rows);
         let claims = Claims::make(alloc, s.nodes, kept)?;
-        let book = loaded_book(alloc, &settings, &rows)?;
+        book.reload(rows);
         let book = complete(alloc, keeper, &world, moment, book, s, recoveries)?;
         audit.close(moment);
         let knowledge = Knowledge {
@@ -475,7 +475,7 @@ impl Engine {
             moment,
             knowledge,
             slots,
-            reads: last_read(&rows),
+            reads,
             configuration,
             claims,
             last_holder: holder_of(kept),

@@ -2,14 +2,14 @@
 //! book with what its rows leave open.
 
 ghost use Rattle.std.specs.Prelude.{◌≡◌, ◌≤◌, ◌^◌, All, IfOk, IsTrue, None, [], is_ok, length, map};
-ghost use Rattle.orch_core.specs.Prelude.{HasTurnCause, is_opening_change, kept_if, opened_book, opening_changes, pollers};
+ghost use Rattle.orch_core.specs.Prelude.{HasTurnCause, empty_book, is_opening_change, kept_if, opened_book, opening_changes, pollers};
 ghost use Rattle.orch_core.specs.Polls.{empty_slots};
 ghost use Rattle.orch_core.specs.Starts.{configuration_of};
 ghost use Rattle.orch_core.specs.States.{HasKnownSource};
 
 use crate::instance_keeper_items::{Book, Change, Keeper, Observation};
 use crate::openings::ServerInit;
-use crate::orch_base::{Memory, Moment, Settings};
+use crate::orch_base::{Memory, Moment};
 use crate::server_model::World;
 use crate::{Configuration, Scenario, TurnFault};
 use knowledge::keep_some;
@@ -82,15 +82,16 @@ pub(crate) fn empty_slots(slots: &mut Vec<Option<Observation>>)
     }
 }
 
-/// The settings of all servers.
-pub(crate) fn copy_settings(alloc: Global, servers: &[ServerInit]) -> Result<Vec<Settings>, Memory>
-    ensures { IfOk result (λ settings. settings.items ≡ map (λ i. i.settings) servers.now) }
+/// The book of these servers, without a row.
+pub(crate) fn book_of(alloc: Global, servers: &[ServerInit]) -> Result<Book, Memory>
+    requires { length servers.now ≤ 1000 }
+    ensures { IfOk result (λ b. b ≡ empty_book (map (λ i. i.settings) servers.now)) }
 {
     let mut settings = Vec::with_capacity(alloc, servers.len())?;
     'servers: for server in servers {
-        settings.push(server.settings.copy(alloc)?)?;
+        settings.push(&server.settings)?;
     }
-    Ok(settings)
+    Book::of_servers(alloc, &settings)
 }
 
 /// The configuration of a scenario whose jobs wait at most `wait` times.

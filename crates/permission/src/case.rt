@@ -62,7 +62,7 @@ pub enum Lead {
     Held,
     /// That its destination isn't its instance, then that no job has its instance's lease.
     Apart,
-    /// Others.
+    /// That its destination isn't its instance, then that no job has the leases of other servers.
     Other,
 }
 

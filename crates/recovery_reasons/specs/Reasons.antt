@@ -296,7 +296,8 @@ pub data IsTrue (w : World) (b : BookState) (now : Moment) (r : Recovery) : Fact
   Chooses : (p : Stopped) → IsDue task.Choosing r → chosen_of (ground_of w b now) r.failed r.drained ≡ Some p
       → HasExecutedMost is_eligible (map (drained_of (ground_of w b now) r.failed) r.drained) p.no → IsFirstOf w b now r.failed r.drained p.no
       → IsTrue w b now r (IsChosen p.no (filter (may_lead (ground_of w b now)) r.drained))
-  -- the first of the followers that log and have a strictly better rule than the chosen one, by the book of this turn
+  -- The first of the followers that log and have a strictly better rank than the chosen one, by the book of this turn.
+  -- The rank is the rule, then the failed server's data centre.
   Betters : {p q : ServerNo} → r.chosen ≡ Some p → better_of (ground_of w b now) r.failed p (map (λ x. x.no) r.outcome.followers) ≡ Some q
       → IsChoice (nearer_order b.names) (is_better (follower_of (ground_of w b now) r.failed p)) (map (follower_of (ground_of w b now) r.failed) (map (λ x. x.no) r.outcome.followers)) q
       → IsBestOne w b now r.failed p r.outcome.followers q → IsTrue w b now r (IsBetter p q)

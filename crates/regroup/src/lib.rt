@@ -17,11 +17,11 @@ pub use permits::{lead_of, permit, permit_kind};
 pub use plans::{is_planned, ops_of, plan};
 /// Out of memory.
 pub use permission::orch_base::Memory;
-/// Which drained replicas follow the promoted one, and at which coordinate of its binary log.
+/// How a drained replica goes below the promoted one.
 pub use promotion_rules::Group;
-/// Which drained replicas follow the promoted one, and at which coordinate of its binary log.
+/// Drained replicas by how they go below the promoted one.
 pub use promotion_rules::Groups;
-/// Which drained replicas follow the promoted one, and at which coordinate of its binary log.
+/// What is known of the promoted one.
 pub use promotion_rules::Lines;
 /// Which drained replicas follow the promoted one, and at which coordinate of its binary log.
 pub use promotion_rules::split;

@@ -50,6 +50,7 @@ pub mod Moments
 pub mod Waits
 pub mod Tables
 pub mod Shown
+pub mod CheckTables
 pub mod Stopping
 pub mod Hands
 pub mod LinesHold

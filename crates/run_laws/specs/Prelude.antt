@@ -19,7 +19,14 @@ pub use Rattle.orch_core.specs.CommandOutcomes.Jobs.{job_by, leases_by}
 pub use Rattle.orch_core.specs.CommandOutcomes.Outcomes.{busy_given, entries_put, terms_of}
 pub use Rattle.orch_core.specs.Commands.Causes.{cause_name}
 pub use Rattle.orch_core.specs.Commands.declared.cause.Cause.TheVariants as cause
+pub use Rattle.orch_core.specs.Commands.declared.kinds.CoordsCommand.{CoordsCommand}
 pub use Rattle.orch_core.specs.Commands.declared.kinds.CoordsCommand.TheVariants as coords_kind
+pub use Rattle.orch_core.specs.Commands.declared.kinds.GtidCommand.{GtidCommand}
+pub use Rattle.orch_core.specs.Commands.declared.kinds.GtidCommand.TheVariants as gtid_kind
+pub use Rattle.orch_core.specs.Commands.declared.kinds.MatchCommand.{MatchCommand}
+pub use Rattle.orch_core.specs.Commands.declared.kinds.MatchCommand.TheVariants as match_kind
+pub use Rattle.orch_core.specs.Commands.declared.kinds.PathCommand.{PathCommand}
+pub use Rattle.orch_core.specs.Commands.declared.kinds.PathCommand.TheVariants as path_kind
 pub use Rattle.orch_core.specs.Commands.declared.line.Line.TheVariants as line
 pub use Rattle.orch_core.specs.Commands.declared.refusal.Refusal.TheVariants as refusal
 pub use Rattle.orch_core.specs.Commands.declared.route.Decision.{Decision}
@@ -28,7 +35,22 @@ pub use Rattle.orch_core.specs.Commands.declared.route.Planner.{Planner}
 pub use Rattle.orch_core.specs.Commands.declared.route.Planner.TheVariants.{Coordinates, Gtids, Matches, Paths}
 pub use Rattle.orch_core.specs.Commands.declared.route.Route.TheVariants
 pub use Rattle.orch_core.specs.FailureAnalysis.Analysis.{counts_of, is_replica_that, lags, replicates}
-pub use Rattle.orch_core.specs.InstanceKeeper.Book.{after_store, downtime_at, rule_at}
+pub use Rattle.orch_core.specs.FailureAnalysis.Table.{code_of}
+pub use Rattle.orch_core.specs.FailureAnalysis.declared.code.Counts.{Counts}
+pub use Rattle.orch_core.specs.OrchBase.declared.code.Code.TheVariants as code
+pub use Rattle.orch_core.specs.OrchBase.declared.server.Version.{Version}
+pub use Rattle.orch_core.specs.Permission.Checks.{Case, check_number, refusal_by as refusal_in}
+pub use Rattle.orch_core.specs.Permission.declared.case.Check.{Check}
+pub use Rattle.orch_core.specs.Permission.declared.case.Check.TheVariants as check
+pub use Rattle.orch_core.specs.Permission.declared.case.Move.{Move}
+pub use Rattle.orch_core.specs.MovesCoords.Permits.{row_of as coords_row}
+pub use Rattle.orch_core.specs.MovesGtid.Permits.{row_of as gtid_row}
+pub use Rattle.orch_core.specs.PseudoMatch.Permits.{last_row_of as match_last, row_of as match_row}
+pub use Rattle.orch_core.specs.RecoveryCore.Takeovers.{row as takeover_row}
+pub use Rattle.orch_core.specs.Regroup.Permits.{last_row_of as path_last, row_of as path_row}
+pub use Rattle.orch_core.specs.Scenarios.Blocks.{period_in}
+pub use Rattle.orch_core.specs.Scenarios.declared.blocks.Block.{Block}
+pub use Rattle.orch_core.specs.InstanceKeeper.Book.{after_store, downtime_at, lease_at, rule_at}
 pub use Rattle.orch_core.specs.InstanceKeeper.Had.{candidate_kept, downtime_kept}
 pub use Rattle.orch_core.specs.KeptRows.Recoveries.{as_row, put_recovery}
 pub use Rattle.orch_core.specs.KeptRows.Rows.{IsRising, row_in, sort_key}

@@ -127,8 +127,8 @@ pub record IsConnected (w : World) (s : Server) : Type 0 where
   pub below : source_at w s ≡ Some source
   pub up : source.up ≡ true
 
--- A status that reaches its server reports that one as it is. Its receiver is `Yes` exactly if it is connected, and
--- `No` exactly if it is off.
+-- A status that reaches its server reports its source, both coordinates, its applier, auto position and read_only as
+-- they are. Its receiver is `Yes` exactly if it is connected, and `No` exactly if it is off.
 pub record ShowsServer (w : World) (s : Server) (seen : Status) : Type 0 where
   pub reached : (s.up && s.desk) ≡ true
   pub source : seen.source ≡ s.source

@@ -1,5 +1,6 @@
 //! Laws of what is read of servers, of time, and of how often jobs may wait.
 
+ghost use Rattle.run_laws.specs.CheckTables.{ChecksByTable, CodesByTable, EnablesBySet, PeriodsByTable, RowsByTable};
 ghost use Rattle.run_laws.specs.Moments.{JobsRise, LastJobNeverSinks, NothingIsToCome, PassesTime};
 ghost use Rattle.run_laws.specs.Readings.{DiscoveriesRead, InstancesStay, JobsStore, OpeningsGiveNumbers, PollsRead, PollsStore, ReadingsNeverSink, RestartsCountOn};
 ghost use Rattle.run_laws.specs.Runs.{InEveryState};
@@ -9,7 +10,7 @@ ghost use Rattle.run_laws.specs.LinesHold.{PlansHold};
 ghost use Rattle.run_laws.specs.Stopping.{PlansStartAgain};
 ghost use Rattle.run_laws.specs.Tables.{AttachesBySet, AttachesByTable, CountsByInstances, CountsReplicas, EndsInTime, KeepsSixteen, RunsAllServers, ServersByTable, StatusesByTable, ThreadsByTable, WritesByTable};
 ghost use Rattle.run_laws.specs.Waits.{BegunMayWait, JobsMayWait};
-ghost use Rattle.run_laws.specs.Prelude.{BookState, Bridge, Instance as AnInstance, Moment as AMoment, Server as AServer, ServerNo as Number, State, Turn, World};
+ghost use Rattle.run_laws.specs.Prelude.{Block, BookState, Bridge, Case, Instance as AnInstance, Moment as AMoment, Server as AServer, ServerNo as Number, State, Turn, World};
 ghost use Rattle.std.specs.Prelude.{List, ℕ};
 
 /// A poll, a discovery and a look of a job read what one status of the server has then, with the next read number, and
@@ -59,10 +60,14 @@ pub fn jobs_wait_as_told()
 /// - A round of a single command is a turn of its job, and each server fetches, applies and is polled.
 /// - A write is refused by a server that is down or read-only. One that starts again starts a replica's threads. A
 ///   start, a stop and an attachment drop an end of the applier. By a coordinate auto position is off.
-/// - A status that reaches its server reports it as it is. Its receiver is connected exactly if it is on, its source is
-///   up, and it reaches that one.
-/// - The plan of each command except stop-replica starts each server again that it stops. It leads each server of its
-///   lines where they have it: by its last change of source.
+/// - A status that reaches its server reports its source, both coordinates, its applier, auto position and read_only as
+///   they are. Its receiver is connected exactly if it is on, its source is up, and it reaches that one.
+/// - The plan of each command except stop-replica starts each server again that it stops. Its last change of source
+///   takes each server of its lines to the source that the line names.
+/// - Each plan and takeover has the checks of the permission table. Those of server ids, versions, binary logs,
+///   readings and leases refuse exactly what the table has.
+/// - A code of the analysis reports what was counted. A cluster has the block period of its first entry. The plan of
+///   enable-gtid takes its instance below its source by GTIDs.
 pub fn tables_hold_row_by_row()
     ensures counts { (i : AnInstance) → CountsReplicas i }
     ensures instances { (b : BookState) (n : Number) (i : AnInstance) → CountsByInstances b n i }
@@ -77,4 +82,10 @@ pub fn tables_hold_row_by_row()
     ensures attaches_by_set { AttachesBySet }
     ensures plans { PlansStartAgain }
     ensures leads { PlansLeadAsTold }
+    ensures checks { (w : World) (b : BookState) (c : Case) → ChecksByTable w b c }
+    ensures rows { RowsByTable }
+    ensures codes { CodesByTable }
+    ensures periods { (xs : List Block) (otherwise : ℕ) (cluster : List ℕ) →
+        PeriodsByTable xs otherwise cluster }
+    ensures enables { EnablesBySet }
 {}

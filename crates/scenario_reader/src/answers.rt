@@ -1,6 +1,6 @@
 //! Which servers' clusters pass the filters.
 
-ghost use Rattle.std.specs.Prelude.{◌≡◌, ℕ, All, List, map, IfOk, OnOk};
+ghost use Rattle.std.specs.Prelude.{◌≡◌, ℕ, All, List, false, map, IfOk, OnOk};
 ghost use Rattle.cluster_filters.specs.Forms.{forms_of, some_matches, Form};
 ghost use Rattle.scenario_reader.specs.AliasTable.{alias_at, answered_by, passes_by, AreKnown, AreUnjudged, IsAnswer};
 ghost use Rattle.scenario_reader.specs.Filters.{HavePatterns, AreRead, answered};
@@ -117,6 +117,13 @@ fn answers(
     Ok(Answers::new(answers))
 }
 
+// The answers without a filter: no cluster passes.
+fn none_pass(alloc: Global, servers: &[ServerInit]) -> Result<Vec<bool>, Memory>
+    ensures { IfOk result (λ v. v.items ≡ map (λ i. false) servers.now) }
+{
+    servers.iter().map(|_| false).collect(alloc)
+}
+
 // The texts, with an answer for each server.
 fn answered_list(
     alloc: Global,
@@ -127,6 +134,10 @@ fn answered_list(
     requires { HavePatterns texts }
     ensures { IfOk result (λ l. l ≡ answered_by (alias_at aliases.now) texts servers.now) }
 {
+    if texts.as_slice().is_empty() {
+        let passes = Answers::new(none_pass(alloc, servers)?);
+        return Ok(FilterList { texts, passes });
+    }
     let filters = filters_of(alloc, &texts)?;
     let passes = answers(alloc, &filters, aliases, servers)?;
     Ok(FilterList { texts, passes })

@@ -10,7 +10,7 @@ ghost use Rattle.scenario_reader.specs.ReadScenarios.{json_in, bounded, turns_in
 use crate::answers::answered;
 use crate::head::{Head, head_in, keys_in};
 use crate::opening::{listed_count, opening_in};
-use crate::openings::ServerInit;
+use crate::openings::{Opening, ServerInit};
 use crate::orch_base::{MAX_SCENARIO_LEN, Moment, ServerNo};
 use scenario_servers::{Listed, Names, inits_of, known_of, rules_of, servers_in};
 use scenario_turns::{ListedTurn, Patterns, each_turn, expanded, in_order, printed_of};
@@ -55,38 +55,42 @@ fn turns_at(
 #[tactic(auto, using(scenario_turns::proofs::Expansions::few_some, scenario_turns::proofs::Expansions::few_none), unfolding(crate::specs::ReadScenarios::bounded))]
 fn bounded(
     alloc: Global,
-    servers: &[ServerInit],
+    opening: &Opening,
     ordered: &[ServerNo],
     listed: Vec<ListedTurn>,
 ) -> Result<Vec<Turn>, ReadFault>
     requires { length ordered.now ≤ 1000 }
     ensures { Gives (λ v. v.items) fault_of result
-        (bounded servers.now (expanded ordered.now listed.items)) }
+        (bounded opening.now.servers (expanded ordered.now listed.items)) }
 {
     let Some((turns, writes)) = expanded(alloc, ordered, listed)? else {
         return Err(fails(alloc, FaultCode::TooLarge));
     };
-    holds(alloc, FaultCode::TooLarge, is_small(servers, writes))?;
+    holds(
+        alloc,
+        FaultCode::TooLarge,
+        is_small(opening.servers(), writes),
+    )?;
     Ok(turns)
 }
 
-// The turns over these servers, of so many orchestrators.
+// The turns over the servers of this opening, of so many orchestrators.
 #[tactic(auto, unfolding(crate::specs::ReadScenarios::turns_in))]
 fn turns_in(
     alloc: Global,
     names: &Names,
-    servers: &[ServerInit],
+    opening: &Opening,
     nodes: u32,
     items: &[Value],
 ) -> Result<Turns, ReadFault>
-    requires { length servers.now ≤ 1000 }
+    requires { length opening.now.servers ≤ 1000 }
     ensures { Gives (λ t. t) fault_of result
-        (turns_in names.now servers.now nodes (items_view items.now)) }
+        (turns_in names.now opening.now.servers nodes (items_view items.now)) }
 {
-    let patterns = Patterns::of_turns(alloc, printed_of(alloc, servers)?, items)?;
+    let patterns = Patterns::of_turns(alloc, printed_of(alloc, opening)?, items)?;
     let listed = turns_at(alloc, names, &patterns, nodes, items)?;
-    let ordered = in_order(alloc, servers)?;
-    let turns = bounded(alloc, servers, &ordered, listed)?;
+    let ordered = in_order(alloc, opening)?;
+    let turns = bounded(alloc, opening, &ordered, listed)?;
     Ok(Turns::new(turns))
 }
 
@@ -107,10 +111,11 @@ fn scenario_with(
     let rules = rules_of(alloc, &listed.given)?;
     let servers = inits_of(alloc, listed.given)?;
     let opening = opening_in(alloc, servers, head.gtid)?;
-    let turns = turns_in(alloc, &listed.names, opening.servers(), head.nodes, items)?;
-    let filters = answered(alloc, head.filters, &head.aliases, opening.servers())?;
-    let blocks = head.blocks.resolved(alloc, opening.servers())?;
-    let aliases = head.aliases.resolved(alloc, opening.servers())?;
+    let servers = opening.servers();
+    let turns = turns_in(alloc, &listed.names, &opening, head.nodes, items)?;
+    let filters = answered(alloc, head.filters, &head.aliases, servers)?;
+    let blocks = head.blocks.resolved(alloc, servers)?;
+    let aliases = head.aliases.resolved(alloc, servers)?;
     Ok(Scenario {
         opening,
         moment: Moment(head.moment),

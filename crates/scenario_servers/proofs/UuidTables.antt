@@ -1,6 +1,6 @@
 -- The table of the first server of each UUID, as UUIDs are listed one after the other.
 use Rattle.std.proofs.Common.{◌≡◌, ℕ, zero, suc, ◌+◌, ◌<◌, Bool, true, false, cond, List, [], ◌∷◌, ◌++◌, length, take, get_or, nat_lt, Option, Some, None, refl, sym, ap, ◌∙◌, add-zero, zero-add, arith, ◌==◌, ◌||◌, codes, if◌then◌else◌}
-use Rattle.scenario_servers.proofs.Prelude.{AddsUuid, BTreeMap, IsUuidTable, Value, first_with, get as key_at, has_uuid, is_before, length_push}
+use Rattle.scenario_servers.proofs.Prelude.{AddsUuid, HashMap, IsUuidTable, Value, first_with, get as key_at, has_uuid, is_before, length_push}
 use Rattle.scenario_servers.proofs.Prelude.{list_any, nat_tests, option_or, read_uuid, uuid_at, view}
 use Rattle.scenario_servers.proofs.UuidLists.{IsUuidsTo, next_uuid}
 
@@ -23,12 +23,12 @@ first_with-push uuid n (y ∷ ys) x = first_at (has_uuid uuid y) (has_uuid uuid 
         rw more at e
 
 -- the servers before `at` are listed and tabled
-pub record IsTabledTo (vs : List Value) (at : ℕ) (listed : List (Option ℕ)) (numbers : BTreeMap ℕ ℕ) : Type 0 where
+pub record IsTabledTo {S : Type 0} (vs : List Value) (at : ℕ) (listed : List (Option ℕ)) (numbers : HashMap ℕ ℕ S) : Type 0 where
   pub front : IsUuidsTo vs at listed
   pub count : length listed ≡ at
   pub tabled : IsUuidTable numbers listed
 
-pub next_tabled : (vs : List Value) (at : ℕ) (v : Value) (x : Option ℕ) (listed after : List (Option ℕ)) (old new : BTreeMap ℕ ℕ) → after ≡ listed ++ x ∷ [] → at < length vs → v ≡ get_or vs at v
+pub next_tabled : {S : Type 0} (vs : List Value) (at : ℕ) (v : Value) (x : Option ℕ) (listed after : List (Option ℕ)) (old new : HashMap ℕ ℕ S) → after ≡ listed ++ x ∷ [] → at < length vs → v ≡ get_or vs at v
     → x ≡ read_uuid (uuid_at at (key_at (codes "uuid") (view v))) → AddsUuid old new x at → IsTabledTo vs at listed old → IsTabledTo vs (at + 1) after new
 next_tabled vs at v x listed after old new pushed lt here is adds so_far = record {
   front = rw pushed (next_uuid vs at v x listed lt here is so_far.front);

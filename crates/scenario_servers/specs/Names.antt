@@ -2,16 +2,24 @@
 -- stop.
 use Rattle.std.specs.Prelude.{ℕ, ◌+◌, ◌==◌, ◌∷◌, List, [], take, Bool, false, nat_lt, if◌then◌else◌, codes, Option, Some, None, option_and_then, Result, Ok, Err}
 use Rattle.scenario_servers.specs.Prelude.{Data, DuplicateName, DuplicateUuid, Fault, HostPort, Items, NameFault, ServerNo, UnknownName, as_str}
-use Rattle.scenario_servers.specs.Prelude.{fails, get, item, list_any, name_at, name_in, no_items, same_name, under, uuid_in}
+use Rattle.scenario_servers.specs.Prelude.{fails, get, item, list_any, name_at, name_in, name_or_fails, no_items, same_name, under, uuid_in}
 use Rattle.server_words.specs.OrchBase.Gives.{◌>>=◌}
 
 abbrev pub read_name : Result HostPort NameFault → Option HostPort
 read_name (Ok name) = Some name
 read_name (Err e) = None
 
+-- the text that a server is listed with
+abbrev pub listed_text : Data → Option (List ℕ)
+listed_text d = option_and_then as_str (get (codes "name") d)
+
+-- the name that a text is, if it reads
+abbrev pub name_in_text : Option (List ℕ) → Option HostPort
+name_in_text text = option_and_then (λ t. read_name (name_at t)) text
+
 -- the name that a server is listed with, if it reads
 abbrev pub listed_name : Data → Option HostPort
-listed_name d = option_and_then (λ text. read_name (name_at text)) (option_and_then as_str (get (codes "name") d))
+listed_name d = name_in_text (listed_text d)
 
 abbrev pub listed_names : Items → List (Option HostPort)
 listed_names no_items = []
@@ -42,10 +50,17 @@ is_earlier n None = false
 is_earlier n (Some m) = nat_lt m n
 
 -- the name of server n, which no earlier one has
+abbrev pub new_name : List (Option HostPort) → ℕ → HostPort → Result HostPort Fault
+new_name names n name = if is_earlier n (first_named name 0 names) then fails DuplicateName else Ok name
+
 unfoldable pub own_name : List (Option HostPort) → ℕ → Data → Result HostPort Fault
 own_name names n d = do
   name ← name_in d
-  if is_earlier n (first_named name 0 names) then fails DuplicateName else Ok name
+  new_name names n name
+
+-- the name that a text is
+abbrev pub own_named : List (Option HostPort) → ℕ → List ℕ → Result HostPort Fault
+own_named names n text = name_or_fails (name_at text) >>= new_name names n
 
 -- ---- UUIDs
 

@@ -1,13 +1,13 @@
 -- What this crate's definitions and contracts cite of others.
 pub use Rattle.std.specs.BTreeMap.{BTreeMap}
-pub use Rattle.std.specs.BTreeMap as Std
-pub use Rattle.std.specs.Cmp.{partial_order_from_own_ties}
-pub use Rattle.std.specs.Cmp.Lexicographic.{pointwise, slice_cmp}
-pub use Rattle.std.specs.Cmp.Rules.{comparing}
-pub use Rattle.std.specs.HashMap.{HashMap, get_by_text}
+pub use Rattle.std.specs.Cmp.Lexicographic.{pointwise}
+pub use Rattle.std.specs.Cmp.Rules.{comparing, hashing}
+pub use Rattle.std.specs.HashMap.{HashMap, get_by, get_by_text}
 pub use Rattle.std.specs.List.{list_any}
+pub use Rattle.std.specs.Map.{update}
 pub use Rattle.std.specs.Option.{option_or}
-pub use Rattle.std.specs.Ordering.{as_partial_cmp, eq_of_both, nat_cmp, on, then_cmp}
+pub use Rattle.std.specs.Ordering.{eq_of_both, on}
+pub use Rattle.std.specs.Str.{bytes_eq}
 pub use Rattle.std.specs.declared.alloc.Global.{Global}
 unfoldable pub use Rattle.commands.specs.Values.{rule_at}
 pub use Rattle.openings.specs.Opening.{IsServer}
@@ -15,7 +15,7 @@ pub use Rattle.openings.specs.Servers.{number_of, reached_from}
 pub use Rattle.openings.specs.declared.init.ServerInit.{ServerInit}
 pub use Rattle.openings.specs.declared.part.Part.{Part}
 pub use Rattle.server_words.specs.OrchBase.Gives.{Gives}
-pub use Rattle.server_words.specs.OrchBase.Names.{HostPort, name_cmp, printed, same_name}
+pub use Rattle.server_words.specs.OrchBase.Names.{HostPort, printed, same_name}
 unfoldable pub use Rattle.server_words.specs.OrchBase.Names.{name_at}
 pub use Rattle.server_words.specs.OrchBase.declared.name.NameFault.{NameFault}
 pub use Rattle.server_words.specs.OrchBase.declared.rule.Rule.{Rule}

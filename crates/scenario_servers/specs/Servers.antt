@@ -1,5 +1,5 @@
 -- What the text of a server has.
-use Rattle.std.specs.Prelude.{ℕ, ◌+◌, ◌∷◌, ◌++◌, ◌&&◌, List, [], Bool, true, false, not, nat_le, is_some, if◌then◌else◌, codes, Option, Result, Ok}
+use Rattle.std.specs.Prelude.{ℕ, ◌+◌, ◌∷◌, ◌++◌, ◌&&◌, List, [], Bool, true, false, not, nat_le, is_some, if◌then◌else◌, codes, Option, None, Result, Ok}
 use Rattle.scenario_servers.specs.Prelude.{AutoWithoutGtid, BadNumber, Data, Fault, HostPort, Items, Part, Version, bool_in, coord_in, each}
 use Rattle.scenario_servers.specs.Prelude.{each_from, fails, get, holds, item, item_count, items_in, label_in, maybe, members_in, needed, no_items}
 use Rattle.scenario_servers.specs.Prelude.{number_in, only_keys, optional, short_in, under_item, version_in, whole_in}
@@ -69,6 +69,17 @@ identity_in names uuids n d = do
   cluster ← maybe (codes "cluster") label_in d
   Ok (record { name = name; uuid = uuid; server_id = server_id; version = version; cluster = cluster })
 
+-- who server n is, if the text has nothing about it but its name and UUID
+unfoldable pub plain_identity : List (Option HostPort) → List (Option ℕ) → ℕ → Data → Result Identity Fault
+plain_identity names uuids n d = do
+  name ← needed (codes "name") (own_name names n) d
+  uuid ← own_uuid uuids n d
+  Ok (record { name = name; uuid = uuid; server_id = n + 1; version = default_version; cluster = None })
+
+-- how it is set up, and what reaches it, if the text has nothing about it
+abbrev pub plain_setup : Data → Setup
+plain_setup d = record { logs = true; read_only = has_source d; limit = 1073741824; up = true; desk = true; feed = true }
+
 -- how it is set up, and what reaches it
 unfoldable pub setup_in : Data → Result Setup Fault
 setup_in d = do
@@ -123,6 +134,33 @@ server_from gtid names uuids n d = do
     flushes = flushes;
     purged = purged;
     dc = dc;
+  })
+
+-- the keys of most servers
+abbrev pub plain_keys : List (List ℕ)
+plain_keys = codes "name" ∷ codes "source" ∷ codes "history" ∷ codes "uuid" ∷ []
+
+-- how it replicates, if the text has nothing about it
+abbrev pub plain_replication : Replication
+plain_replication = record { executed = 0; at = None; read = None; io = None; sql = None; auto = false; detached = false; until = None }
+
+-- a server that has no keys but these: all else is as it is by default
+unfoldable pub plain_from : List (Option HostPort) → List (Option ℕ) → ℕ → Data → Result Given Fault
+plain_from names uuids n d = do
+  identity ← plain_identity names uuids n d
+  history ← maybe (codes "history") (history_in names) d
+  source ← maybe (codes "source") (server_named names) d
+  Ok (record {
+    identity = identity;
+    setup = plain_setup d;
+    known = true;
+    rule = None;
+    history = history;
+    source = source;
+    replication = plain_replication;
+    flushes = [];
+    purged = 1;
+    dc = [];
   })
 
 -- Server n. Its unknown keys come first.

@@ -3,7 +3,7 @@
 ghost use Rattle.std.specs.Prelude.{◌≡◌, ◌+◌, ◌<◌, codes};
 ghost use Rattle.scenario_servers.specs.Prelude.{Gives, fault_of, needed, number_in, optional, view};
 ghost use Rattle.scenario_servers.specs.Names.{own_name};
-ghost use Rattle.scenario_servers.specs.Servers.{identity_in};
+ghost use Rattle.scenario_servers.specs.Servers.{plain_identity, identity_in};
 
 use crate::given::Identity;
 use crate::names::{Names, own_name};
@@ -48,6 +48,30 @@ fn server_id_at(alloc: Global, number: u32, object: &Value) -> Result<u32, ReadF
         Some(value) => under(alloc, b"server_id", server_id_in(alloc, value)),
         None => Ok(number + 1),
     }
+}
+
+/// Who the server of this number is, if the text has nothing about it but its name and UUID.
+#[tactic(auto, unfolding(crate::specs::Servers::plain_identity))]
+pub(crate) fn plain_identity(
+    alloc: Global,
+    names: &Names,
+    uuids: &Uuids,
+    number: u32,
+    object: &Value,
+) -> Result<Identity, ReadFault>
+    requires { number < 1000 }
+    ensures { Gives (λ i. i) fault_of result
+        (plain_identity names.now uuids.now number (view object.now)) }
+{
+    let name = name_at(alloc, names, number, object)?;
+    let uuid = own_uuid(alloc, uuids, number, object)?;
+    Ok(Identity {
+        name,
+        uuid,
+        server_id: number + 1,
+        version: DEFAULT_VERSION,
+        cluster: None,
+    })
 }
 
 /// Who the server of this number is.

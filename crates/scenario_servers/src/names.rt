@@ -1,21 +1,21 @@
 //! The names of a scenario's servers, and the servers that texts name.
 
-ghost use Rattle.std.specs.Prelude.{◌≡◌, ◌==◌, Ok, Some, IfOk, OnOk, option_map};
+ghost use Rattle.std.specs.Hash as fed;
+ghost use Rattle.std.specs.Prelude.{◌≡◌, ◌==◌, ◌++◌, Ok, Some, IfOk, OnOk, option_map};
 ghost use Rattle.std.proofs.Common.{rules};
-ghost use Rattle.scenario_servers.specs.Prelude.{Gives, as_partial_cmp, comparing, eq_of_both, fault_of, nat_cmp, on, partial_order_from_own_ties};
-ghost use Rattle.scenario_servers.specs.Prelude.{name_at, name_or_fails, pointwise, slice_cmp, then_cmp, view};
-ghost use Rattle.scenario_servers.specs.Names.{listed_name, server_named, own_name};
-ghost use Rattle.scenario_servers.specs.NameTable.{AddsName};
+ghost use Rattle.scenario_servers.specs.Prelude.{Gives, comparing, eq_of_both, fault_of, hashing, name_at, name_or_fails, on, pointwise, view};
+ghost use Rattle.scenario_servers.specs.Names.{listed_text, name_in_text, server_named, own_name};
+ghost use Rattle.scenario_servers.specs.NameTable.{AddsName, AddsText};
 
 use crate::orch_base::{Memory, Name, NameFault, ServerNo};
 use scenario_values::{FaultCode, ReadFault, fails, text_in};
 use serde_json::Value;
 use std::alloc::Global;
-use std::cmp::Ordering;
-use std::collections::{BTreeMap, HashMap};
+use std::collections::HashMap;
+use std::hash::{Hash, Hasher};
 use std::marker::Model;
 
-// A name, in the order of names.
+// A name, as it is looked up.
 #[derive(Drop)]
 struct NameKey(Name);
 
@@ -33,38 +33,23 @@ impl Eq for NameKey {
     ghost laws = { Prim.search (comparing, rules) depth 9 };
 }
 
-impl PartialOrd for NameKey {
-    ghost partial_cmp = { as_partial_cmp (then_cmp (on (λ k. k.0.host) (slice_cmp nat_cmp))
-        (on (λ k. k.0.port) nat_cmp)) };
+impl Hash for NameKey {
+    ghost hash_input = { λ k. fed.str k.0.host ++ fed.u16 k.0.port };
 
-    ghost laws = { partial_order_from_own_ties (Prim.search (comparing, rules) depth 9)
-        (Prim.search (comparing, rules) depth 9) };
+    ghost respects_eq = { Prim.search (hashing, rules) depth 9 };
 
-    fn partial_cmp(&self, other: &NameKey) -> Option<Ordering> {
-        Some(self.cmp(other))
+    fn hash<H: Hasher>(&self, state: &mut H) {
+        self.0.host().hash(state);
+        self.0.port().hash(state);
     }
 }
 
-impl Ord for NameKey {
-    ghost cmp = { then_cmp (on (λ k. k.0.host) (slice_cmp nat_cmp)) (on (λ k. k.0.port) nat_cmp) };
-
-    ghost total = { Prim.search (comparing, rules) depth 9 };
-
-    ghost matches_partial_cmp = { Prim.search (comparing, rules) depth 9 };
-
-    ghost matches_eq = { Prim.search (comparing, rules) depth 9 };
-
-    fn cmp(&self, other: &NameKey) -> Ordering {
-        self.0.compare(&other.0)
-    }
-}
-
-/// The names that a scenario's servers are listed with, each if it reads. They are searched by halves; a text with
-/// which a server is listed is found without a name being made of it.
+/// The names that a scenario's servers are listed with, each if it reads. A text with which a server is listed is found
+/// without a name being made of it.
 #[derive(Drop)]
 pub struct Names {
     listed: Vec<Option<Name>>,
-    numbers: BTreeMap<NameKey, u32>,
+    numbers: HashMap<NameKey, u32>,
     // The servers that texts name.
     texts: HashMap<String, u32>,
 }
@@ -82,14 +67,18 @@ impl Model for Names {
         × (AreTexts n.texts n.listed.items) };
 }
 
-// The name that a server is listed with, if it reads.
-fn listed_name(alloc: Global, value: &Value) -> Result<Option<Name>, Memory>
-    ensures { IfOk result (λ name. name ≡ listed_name (view value.now)) }
+// The text with which a server is listed.
+fn listed_text(value: &Value) -> Option<&str>
+    ensures { option_map (λ t. t.now) result ≡ listed_text (view value.now) }
 {
-    let Some(named) = value.get("name") else {
-        return Ok(None);
-    };
-    let Some(text) = named.as_str() else {
+    value.get("name")?.as_str()
+}
+
+// The name that a text is, if it reads.
+fn listed_name(alloc: Global, text: Option<&str>) -> Result<Option<Name>, Memory>
+    ensures { IfOk result (λ name. name ≡ name_in_text (option_map (λ t. t.now) text.entry)) }
+{
+    let Some(text) = text else {
         return Ok(None);
     };
     match Name::read(alloc, text) {
@@ -99,28 +88,45 @@ fn listed_name(alloc: Global, value: &Value) -> Result<Option<Name>, Memory>
     }
 }
 
-// Tables the number of a server, unless it has no name or an earlier one has it.
+// Tables the number of a server, unless it has no name or an earlier one has it. The answer is the first server of the
+// name.
 fn add_name(
     alloc: Global,
-    numbers: &mut BTreeMap<NameKey, u32>,
+    numbers: &mut HashMap<NameKey, u32>,
     name: Option<&Name>,
     number: u32,
-) -> Result<(), Memory>
-    ensures { OnOk result (AddsName numbers.old numbers.new (option_map (λ n. n.now) name.entry)
-        number) }
+) -> Result<Option<u32>, Memory>
+    ensures { IfOk result (λ first. AddsName numbers.old numbers.new
+        (option_map (λ n. n.now) name.entry) number first) }
 {
     let Some(name) = name else {
-        return Ok(());
+        return Ok(None);
     };
-    if let Some(first) = numbers.insert(NameKey(name.copy(alloc)?), number)? {
-        numbers.insert(NameKey(name.copy(alloc)?), first)?;
+    match numbers.insert(NameKey(name.copy(alloc)?), number)? {
+        Some(first) => {
+            numbers.insert(NameKey(name.copy(alloc)?), first)?;
+            Ok(Some(first))
+        }
+        None => Ok(Some(number)),
     }
-    Ok(())
 }
 
-// The text with which a server is listed.
-fn listed_text(value: &Value) -> Option<&str> {
-    value.get("name")?.as_str()
+// Keeps a text that names a server.
+fn add_text(
+    alloc: Global,
+    texts: &mut HashMap<String, u32>,
+    text: Option<&str>,
+    first: Option<u32>,
+) -> Result<(), Memory>
+    ensures { OnOk result (AddsText texts.old texts.new (option_map (λ t. t.now) text.entry)
+        first) }
+{
+    let (Some(text), Some(first)) = (text, first) else {
+        return Ok(());
+    };
+    let key = String::from_str(alloc, text)?;
+    texts.insert(key, first)?;
+    Ok(())
 }
 
 // The name that a text is.
@@ -135,30 +141,32 @@ fn name_of(alloc: Global, text: &str) -> Result<Name, ReadFault>
 }
 
 impl Names {
-    ghost use Rattle.std.specs.Prelude.{◌≡◌, ◌≤◌, IfOk, Ok, length};
+    ghost use Rattle.std.specs.Prelude.{◌≡◌, ◌≤◌, IfOk, IfSome, length};
     ghost use Rattle.server_words.specs.OrchBase.Gives.{Gives};
     ghost use Rattle.serde_json.specs.View.{items_view};
     ghost use Rattle.scenario_values.specs.Faults.{fault_of};
-    ghost use Rattle.scenario_servers.specs.Prelude.{name_at, name_or_fails};
-    ghost use Rattle.scenario_servers.specs.Names.{first_named, listed_names};
-    ghost use Rattle.scenario_servers.specs.NameTable.{text_named};
+    ghost use Rattle.scenario_servers.specs.Names.{first_named, listed_names, own_named};
+    ghost use Rattle.scenario_servers.specs.NameTable.{IsFound, text_named};
 
-    // The names, without a text.
-    fn listed(alloc: Global, items: &[Value]) -> Result<Names, Memory>
+    /// The names of the servers that are listed, of which there are at most 1,000. `Err` means out of memory.
+    pub fn of(alloc: Global, items: &[Value]) -> Result<Names, Memory>
         requires { length items.now ≤ 1000 }
         ensures { IfOk result (λ n. n ≡ listed_names (items_view items.now)) }
     {
         let mut listed = Vec::with_capacity(alloc, items.len())?;
-        let mut numbers = BTreeMap::new(alloc);
+        let mut numbers = HashMap::new(alloc);
+        let mut texts = HashMap::new(alloc);
         for value in items {
-            let name = listed_name(alloc, value)?;
-            add_name(alloc, &mut numbers, name.as_ref(), listed.len() as u32)?;
+            let text = listed_text(value);
+            let name = listed_name(alloc, text)?;
+            let first = add_name(alloc, &mut numbers, name.as_ref(), listed.len() as u32)?;
+            add_text(alloc, &mut texts, text, first)?;
             listed.push(name)?;
         }
         Ok(Names {
             listed,
             numbers,
-            texts: HashMap::new(alloc),
+            texts,
         })
     }
 
@@ -171,31 +179,6 @@ impl Names {
             Some(number) => Ok(ServerNo(number)),
             None => Err(fails(alloc, FaultCode::UnknownName)),
         }
-    }
-
-    // Keeps a text that names a server.
-    fn keep_text(&mut self, alloc: Global, text: &str) -> Result<(), Memory>
-        ensures { self.new ≡ self.old }
-    {
-        if let Ok(number) = self.server_at(alloc, text) {
-            let key = String::from_str(alloc, text)?;
-            self.texts.insert(key, number.0)?;
-        }
-        Ok(())
-    }
-
-    /// The names of the servers that are listed, of which there are at most 1,000. `Err` means out of memory.
-    pub fn of(alloc: Global, items: &[Value]) -> Result<Names, Memory>
-        requires { length items.now ≤ 1000 }
-        ensures { IfOk result (λ n. n ≡ listed_names (items_view items.now)) }
-    {
-        let mut names = Names::listed(alloc, items)?;
-        for value in items {
-            if let Some(text) = listed_text(value) {
-                names.keep_text(alloc, text)?;
-            }
-        }
-        Ok(names)
     }
 
     // The server of a text, as `server_at` finds it.
@@ -215,14 +198,23 @@ impl Names {
         self.numbers.get(key).copied()
     }
 
-    // The first server with the name that a text is.
-    fn first_of(&self, text: &str, key: &NameKey) -> Option<u32>
-        requires { name_or_fails (name_at text.now) ≡ Ok key.now.0 }
-        ensures { result ≡ first_named key.now.0 0 self.now }
+    // The name that a text is and the first server with it, if a server is listed with this very text.
+    fn found(&self, text: &str) -> Option<(&Name, u32)>
+        ensures { IfSome result (λ f. IsFound self.now text.now f.0.now f.1) }
     {
-        match self.texts.get(text).copied() {
-            Some(number) => Some(number),
-            None => self.first_named(key),
+        let first = self.texts.get(text).copied()?;
+        let name = self.listed.get(first as usize)?.as_ref()?;
+        Some((name, first))
+    }
+
+    // The name that a text is, which no server before this number has.
+    fn own_named(&self, alloc: Global, number: u32, text: &str) -> Result<Name, ReadFault>
+        ensures { Gives (λ n. n) fault_of result (own_named self.now number text.now) }
+    {
+        let key = NameKey(name_of(alloc, text)?);
+        match self.first_named(&key) {
+            Some(first) if first < number => Err(fails(alloc, FaultCode::DuplicateName)),
+            _ => Ok(key.0),
         }
     }
 }
@@ -247,9 +239,9 @@ pub(crate) fn own_name(
     ensures { Gives (λ n. n) fault_of result (own_name names.now number (view value.now)) }
 {
     let text = text_in(alloc, value)?;
-    let key = NameKey(name_of(alloc, text)?);
-    match names.first_of(text, &key) {
-        Some(first) if first < number => Err(fails(alloc, FaultCode::DuplicateName)),
-        _ => Ok(key.0),
+    match names.found(text) {
+        Some((_, first)) if first < number => Err(fails(alloc, FaultCode::DuplicateName)),
+        Some((name, _)) => Ok(name.copy(alloc)?),
+        None => names.own_named(alloc, number, text),
     }
 }

@@ -3,19 +3,19 @@
 ghost use Rattle.std.specs.Prelude.{◌≡◌, ◌<◌, [], false, map, codes};
 ghost use Rattle.scenario_servers.specs.Prelude.{Gives, fault_of, maybe, members_view, number_in, only_keys, optional, short_in, view};
 ghost use Rattle.scenario_servers.specs.Names.{server_named};
-ghost use Rattle.scenario_servers.specs.Servers.{has_source, server_keys, setup_in, auto_in, replication_in, history_in, flushes_in, server_from, server_in};
+ghost use Rattle.scenario_servers.specs.Servers.{has_source, server_keys, plain_setup, setup_in, auto_in, replication_in, history_in, flushes_in, plain_from, server_from, server_in};
 
 use crate::given::{Given, Replication, Setup};
 use crate::history::{flushes_in, history_in};
-use crate::identity::identity_in;
+use crate::identity::{identity_in, plain_identity};
 use crate::names::{Names, server_named};
 use crate::orch_base::{OwnedText, ServerNo};
 use crate::rule::maybe_rule;
 use crate::uuids::Uuids;
 use openings::{Counts, Parts};
 use scenario_values::{
-    FaultCode, ReadFault, bool_at, bool_in, fails, lacks, maybe_bool, maybe_coord, members_in,
-    number_at, only_keys, short_in, under, whole_at,
+    FaultCode, ReadFault, bool_at, bool_in, fails, has_only, lacks, maybe_bool, maybe_coord,
+    members_in, number_at, only_keys, short_in, under, whole_at,
 };
 use serde_json::{Map, Value};
 use std::alloc::Global;
@@ -50,10 +50,39 @@ const SERVER_KEYS: [&str; 26] = [
     "until",
 ];
 
+// The keys of most servers.
+const PLAIN_KEYS: [&str; 4] = ["name", "source", "history", "uuid"];
+
+// How a server replicates, if the text has nothing about it.
+const REPLICATES: Replication = Replication {
+    executed: 0,
+    at: None,
+    read: None,
+    io: None,
+    sql: None,
+    auto: false,
+    detached: false,
+    until: None,
+};
+
 fn has_source(object: &Value) -> bool
     ensures { result ≡ has_source (view object.now) }
 {
     object.get("source").is_some()
+}
+
+// How a server is set up, and what reaches it, if the text has nothing about it.
+fn plain_setup(object: &Value) -> Setup
+    ensures { result ≡ plain_setup (view object.now) }
+{
+    Setup {
+        logs: true,
+        read_only: has_source(object),
+        limit: 1073741824,
+        up: true,
+        desk: true,
+        feed: true,
+    }
 }
 
 // How a server is set up, and what reaches it.
@@ -62,14 +91,7 @@ fn setup_in(alloc: Global, object: &Value) -> Result<Setup, ReadFault>
     ensures { Gives (λ s. s) fault_of result (setup_in (view object.now)) }
 {
     if lacks(object, &SERVER_KEYS[5..11]) {
-        return Ok(Setup {
-            logs: true,
-            read_only: has_source(object),
-            limit: 1073741824,
-            up: true,
-            desk: true,
-            feed: true,
-        });
+        return Ok(plain_setup(object));
     }
     let logs = bool_at(alloc, object, "logs", true)?;
     let read_only = bool_at(alloc, object, "read_only", has_source(object))?;
@@ -116,16 +138,7 @@ fn replication_in(alloc: Global, gtid: bool, object: &Value) -> Result<Replicati
     ensures { Gives (λ r. r) fault_of result (replication_in gtid (view object.now)) }
 {
     if lacks(object, &SERVER_KEYS[18..]) {
-        return Ok(Replication {
-            executed: 0,
-            at: None,
-            read: None,
-            io: None,
-            sql: None,
-            auto: false,
-            detached: false,
-            until: None,
-        });
+        return Ok(REPLICATES);
     }
     let executed = whole_at(alloc, object, "executed", 0)?;
     let at = maybe_coord(alloc, object, "at")?;
@@ -252,6 +265,36 @@ fn server_from(
     })
 }
 
+// A server that has no keys but PLAIN_KEYS.
+#[tactic(auto, unfolding(crate::specs::Servers::plain_from))]
+fn plain_from(
+    alloc: Global,
+    names: &Names,
+    uuids: &Uuids,
+    number: u32,
+    object: &Value,
+) -> Result<Given, ReadFault>
+    requires { number < 1000 }
+    ensures { Gives (λ g. g) fault_of result
+        (plain_from names.now uuids.now number (view object.now)) }
+{
+    let identity = plain_identity(alloc, names, uuids, number, object)?;
+    let history = history_at(alloc, names, object)?;
+    let source = source_at(alloc, names, object)?;
+    Ok(Given {
+        identity,
+        setup: plain_setup(object),
+        known: true,
+        rule: None,
+        history,
+        source,
+        replication: REPLICATES,
+        flushes: Counts::new(Vec::new(alloc)),
+        purged: 1,
+        dc: OwnedText::new(String::new(alloc)),
+    })
+}
+
 /// The server of this number, its unknown keys first.
 #[tactic(auto, unfolding(crate::specs::Servers::server_in))]
 pub(crate) fn server_in(
@@ -267,6 +310,9 @@ pub(crate) fn server_in(
         (server_in gtid names.now uuids.now number (view value.now)) }
 {
     let members = members_in(alloc, value)?;
+    if has_only(members, &PLAIN_KEYS) {
+        return plain_from(alloc, names, uuids, number, value);
+    }
     known_keys(alloc, value, members)?;
     server_from(alloc, gtid, names, uuids, number, value)
 }

@@ -9,7 +9,7 @@ use crate::orch_base::Memory;
 use scenario_values::{FaultCode, ReadFault, fails, under, uuid_in};
 use serde_json::Value;
 use std::alloc::Global;
-use std::collections::BTreeMap;
+use std::collections::HashMap;
 use std::marker::Model;
 
 // The UUID that is given, and else the server's number plus 1.
@@ -36,11 +36,7 @@ fn listed_uuid(alloc: Global, number: u32, object: &Value) -> Result<Option<u128
 }
 
 // Tables the number of a server, unless it has no UUID or an earlier one has it.
-fn add_uuid(
-    numbers: &mut BTreeMap<u128, u32>,
-    uuid: Option<u128>,
-    number: u32,
-) -> Result<(), Memory>
+fn add_uuid(numbers: &mut HashMap<u128, u32>, uuid: Option<u128>, number: u32) -> Result<(), Memory>
     ensures { OnOk result (AddsUuid numbers.old numbers.new uuid number) }
 {
     let Some(uuid) = uuid else {
@@ -52,11 +48,11 @@ fn add_uuid(
     Ok(())
 }
 
-/// The UUIDs of the servers that are listed, each if it reads. They are searched by halves.
+/// The UUIDs of the servers that are listed, each if it reads.
 #[derive(Drop)]
 pub(crate) struct Uuids {
     listed: Vec<Option<u128>>,
-    numbers: BTreeMap<u128, u32>,
+    numbers: HashMap<u128, u32>,
 }
 
 impl Model for Uuids {
@@ -82,7 +78,7 @@ impl Uuids {
         ensures { IfOk result (λ u. u ≡ listed_uuids 0 (items_view items.now)) }
     {
         let mut listed = Vec::with_capacity(alloc, items.len())?;
-        let mut numbers = BTreeMap::new(alloc);
+        let mut numbers = HashMap::new(alloc);
         for (number, value) in items.iter().enumerate() {
             let uuid = listed_uuid(alloc, number as u32, value)?;
             add_uuid(&mut numbers, uuid, number as u32)?;

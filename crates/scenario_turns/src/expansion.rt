@@ -1,11 +1,11 @@
 //! What listed turns mean.
 
 ghost use Rattle.std.specs.Prelude.{◌≡◌, ◌++◌, ◌≤◌, IfOk, IfSome, List, OnOk, count_by, length, option_map};
-ghost use Rattle.scenario_turns.specs.Expansion.{done_by, printed_of, server_names, in_order, polls_of, steps_of, expansion_of, expanded, few};
+ghost use Rattle.scenario_turns.specs.Expansion.{done_by, printed_of, in_order, polls_of, steps_of, expansion_of, expanded, few};
 ghost use Rattle.scenario_turns.specs.Prelude.{ServerNo, is_write};
 
-use crate::openings::ServerInit;
-use crate::orch_base::{Memory, Name, OwnedText, ServerNo};
+use crate::openings::Opening;
+use crate::orch_base::{Memory, OwnedText, ServerNo};
 use crate::pattern::printed_names;
 use name_order::in_name_order;
 use scenarios::{Act, Step, Turn};
@@ -25,32 +25,20 @@ pub enum ListedTurn {
 
 const MOST_TURNS: usize = 1_000_000;
 
-fn server_names(alloc: Global, servers: &[ServerInit]) -> Result<Vec<Name>, Memory>
-    ensures { IfOk result (λ names. names.items ≡ server_names servers.now) }
-{
-    let mut names = Vec::with_capacity(alloc, servers.len())?;
-    for server in servers {
-        names.push(server.settings.name.copy(alloc)?)?;
-    }
-    Ok(names)
-}
-
 /// The servers' names as they are printed. `Err` means out of memory.
-pub fn printed_of(alloc: Global, servers: &[ServerInit]) -> Result<Vec<OwnedText>, Memory>
-    ensures { IfOk result (λ printed. printed.items ≡ printed_of servers.now) }
+pub fn printed_of(alloc: Global, opening: &Opening) -> Result<Vec<OwnedText>, Memory>
+    ensures { IfOk result (λ printed. printed.items ≡ printed_of opening.now.servers) }
 {
-    let names = server_names(alloc, servers)?;
-    printed_names(alloc, &names)
+    printed_names(alloc, opening.names())
 }
 
 /// The servers' numbers in the order of their names. `Err` means out of memory.
-pub fn in_order(alloc: Global, servers: &[ServerInit]) -> Result<Vec<ServerNo>, Memory>
-    requires { length servers.now ≤ 1000 }
-    ensures order { IfOk result (λ ordered. ordered.items ≡ in_order servers.now) }
+pub fn in_order(alloc: Global, opening: &Opening) -> Result<Vec<ServerNo>, Memory>
+    requires { length opening.now.servers ≤ 1000 }
+    ensures order { IfOk result (λ ordered. ordered.items ≡ in_order opening.now.servers) }
     ensures few { IfOk result (λ ordered. length ordered.items ≤ 1000) }
 {
-    let names = server_names(alloc, servers)?;
-    in_name_order(alloc, &names)
+    in_name_order(alloc, opening.names())
 }
 
 /// The turn in which the one orchestrator does this, or one of several by its number.

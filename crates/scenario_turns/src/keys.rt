@@ -9,10 +9,13 @@ use crate::orch_base::{OwnedText, ServerNo};
 use crate::patterns::Patterns;
 use scenario_servers::{Names, maybe_rule, server_named};
 use scenario_values::{
-    FaultCode, ReadFault, fails, holds, members_in, only_keys, short_in, text_in, under,
+    FaultCode, ReadFault, fails, holds, lacks, members_in, only_keys, short_in, text_in, under,
 };
 use serde_json::Value;
 use std::alloc::Global;
+
+// The keys that a command may be given: its servers, and the others.
+const COMMAND_KEYS: [&str; 7] = ["i", "d", "rule", "duration", "reason", "owner", "pattern"];
 
 #[tactic(auto, unfolding(crate::specs::Commands::duration_in))]
 fn duration_in(alloc: Global, value: &Value) -> Result<u64, ReadFault>
@@ -124,6 +127,15 @@ fn keys_in(
     ensures { Gives (λ k. k) fault_of result (keys_in patterns.now name (view object.now)) }
 {
     let needs = name.needs();
+    if !needs.rule && !needs.pattern && lacks(object, &COMMAND_KEYS[2..]) {
+        return Ok(Keys {
+            rule: None,
+            duration: None,
+            reason: None,
+            owner: None,
+            pattern: None,
+        });
+    }
     let rule = maybe_rule(alloc, object, "rule")?;
     holds(alloc, FaultCode::BadCommand, rule.is_some() || !needs.rule)?;
     let duration = maybe_duration(alloc, object, "duration")?;
@@ -158,11 +170,7 @@ pub(crate) fn given_in(
         (given_in names.now patterns.now name (view object.now)) }
 {
     let members = members_in(alloc, object)?;
-    only_keys(
-        alloc,
-        members,
-        &["i", "d", "rule", "duration", "reason", "owner", "pattern"],
-    )?;
+    only_keys(alloc, members, &COMMAND_KEYS)?;
     let command = instances_in(alloc, names, name, object)?;
     let keys = keys_in(alloc, patterns, name, object)?;
     Ok(CommandTurn { command, keys })

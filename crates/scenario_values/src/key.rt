@@ -1,6 +1,6 @@
 //! Which keys an object has.
 
-ghost use Rattle.std.specs.Prelude.{◌≡◌, IsTrue, List, None, map, true, ℕ};
+ghost use Rattle.std.specs.Prelude.{◌≡◌, IsTrue, List, None, is_ok, map, true, ℕ};
 ghost use Rattle.binlog_coords.specs.OrchBase.Gives.{Gives};
 ghost use Rattle.serde_json.specs.Find.{as_object, get};
 ghost use Rattle.serde_json.specs.View.{members_view, view};
@@ -33,6 +33,19 @@ pub fn only_keys(
         }
     }
     Ok(())
+}
+
+/// Whether there is no key but these. It is one walk over the members, in place of a search for each other key.
+pub fn has_only(members: &Map<String, Value>, keys: &[&str]) -> bool
+    ensures { result
+        ≡ is_ok (only_keys (map (λ s. s.now) keys.now) (members_view members.now.entries)) }
+{
+    for key in members.keys() {
+        if !is_key(keys, key.as_str()) {
+            return false;
+        }
+    }
+    true
 }
 
 fn has_none(members: &Map<String, Value>, keys: &[&str]) -> bool

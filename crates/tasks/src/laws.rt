@@ -27,8 +27,8 @@ pub fn summaries_count_the_turns()
     ensures turns { SummariesCountTurns }
 {}
 
-/// A single command claims first if none of several orchestrators is active. If it got the claim, it is taken as the
-/// first one. If another's claim lasts, it isn't taken.
+/// Before a single command the first of several orchestrators claims, if none is active. If it gets the claim, it takes
+/// the command. If another's claim lasts, the command isn't taken.
 pub fn claims_decide_single_commands()
     ensures held { ClaimedCommandsAreTaken }
     ensures taken { TakenClaimsTakeNoCommand }

@@ -8,7 +8,6 @@ mod dumped;
 mod ending;
 mod journal;
 mod laws;
-mod names;
 mod nobody;
 mod pieces;
 mod planned;
@@ -25,7 +24,6 @@ pub use laws::{
     asked_turns_are_sound, claims_decide_single_commands, cut_texts_begin_the_report,
     known_rows_fix_the_run, plans_are_answered_as_commands, summaries_count_the_turns,
 };
-pub use names::names_of;
 use orch_core::{
     asking_commands_items, commands, instance_keeper_items, node_claims, orch_base,
     scenarios_items, turns, unended_jobs_items,

@@ -304,7 +304,7 @@ fn last_reply<K: Keeper>(
 /// servers then are asked for, they are on out and all of the reply is on err.
 ///
 /// If there are several orchestrators the active one takes it. If none is active, the first claims. If another's claim
-/// lasts, that one's reply is written on err, and nothing else. After a row store's fault nothing is written.
+/// lasts, the answer to the claim is written on err, and nothing else. After a row store's fault nothing is written.
 pub(crate) fn command_report<O: Sink, E: Sink, K: Keeper>(
     alloc: Global,
     keeper: &mut K,

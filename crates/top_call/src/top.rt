@@ -19,7 +19,7 @@ use command_line::{Drawing, Places, Usage, places};
 use scenario_generator::{NotWritten, write_scenario};
 use scenario_reader::Fault;
 use std::alloc::Global;
-use tasks::{Ending, names_of, task_of, task_report};
+use tasks::{Ending, task_of, task_report};
 
 /// Writes a line, as far as the sink takes it.
 pub fn close<E: Sink>(err: &mut E, line: &[u8])
@@ -58,13 +58,11 @@ fn task_ending<O: Sink, E: Sink, K: Keeper>(
     ensures cause { HasKeepersCause (K.faults keeper.old) (K.faults keeper.new) result }
     ensures later { E.faults err.old ≤ E.faults err.new }
 {
-    let Ok(names) = names_of(alloc, scenario) else {
-        return Ending::Memory;
-    };
-    let Ok(task) = task_of(alloc, places, &names) else {
-        return Ending::Memory;
-    };
-    task_report(alloc, &task, &names, scenario, out, err, keeper)
+    let names = scenario.opening.names();
+    match task_of(alloc, places, names) {
+        Ok(task) => task_report(alloc, &task, names, scenario, out, err, keeper),
+        Err(_) => Ending::Memory,
+    }
 }
 
 // Does what the command line asks with the scenario.
@@ -228,8 +226,8 @@ fn respond<S: Source, O: Sink, E: Sink, K: Keeper>(
 /// made. If the command line asks to draw a scenario, that is written on out, and neither the source nor the row store
 /// is called. It waits for no other thread: a command line with `live` is done as one with `run`. The status is:
 ///
-/// - 0: the report is written, and no reply in it is refused or failed; or a run's summary is, or a scenario that was
-/// drawn.
+/// - 0: the report is written, and no reply in it is refused or failed. Or a run's summary or a drawn scenario is
+///   written.
 /// - 1: the command line isn't accepted; `usage` on err.
 /// - 2: the scenario has a fault; `scenario fault CODE NAME PATH` on err.
 /// - 3: the source failed; `read fault` on err.

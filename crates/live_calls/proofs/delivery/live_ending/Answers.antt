@@ -1,4 +1,4 @@
-use Rattle.std.proofs.Common.{◌≡◌, ◌∙◌, ◌≤◌, List, arith, inl, subst, sym}
+use Rattle.std.proofs.Common.{◌≡◌, ◌≤◌, List, arith, inl, subst, sym}
 use Rattle.live_calls.proofs.Prelude.{Entry, IsLive, rows_after, state_after}
 use Rattle.live_calls.proofs.Ends.{few_threads}
 use Rattle.live_calls.proofs.Reports.{tells}
@@ -14,10 +14,10 @@ pub returns-clause-tells : goal.returns-clause-tells
 returns-clause-tells g c =
     let s = c.args.scenario.now in
     let wait = c.args.places.now.wait in
-    let ended = c.in-Ok-ran.ended in
-    let same = sym c.deref-2.ensures.value in
+    let ended = c.in-Ok.ended in
+    let same = sym c.deref.ensures.value in
     inl
-    (tells s wait _ c.deref-2.result.now ended.engine ended.rows.items _ _ _ c.deliver.result (c.deref.ensures.value ∙ c.in-Ok.ensures)
-    (subst (λ (es : List Entry). IsLive s wait es) same c.in-Ok-ran.ensures.live)
-    (subst (λ (es : List Entry). ended.engine ≡ state_after s wait es) same c.in-Ok-ran.ensures.state)
-    (subst (λ (es : List Entry). ended.rows.items ≡ rows_after s wait es) same c.in-Ok-ran.ensures.rows) c.deliver.ensures.delivers)
+    (tells s wait _ c.deref.result.now ended.engine ended.rows.items _ _ _ c.deliver.result c.names-names.ensures
+    (subst (λ (es : List Entry). IsLive s wait es) same c.in-Ok.ensures.live)
+    (subst (λ (es : List Entry). ended.engine ≡ state_after s wait es) same c.in-Ok.ensures.state)
+    (subst (λ (es : List Entry). ended.rows.items ≡ rows_after s wait es) same c.in-Ok.ensures.rows) c.deliver.ensures.delivers)

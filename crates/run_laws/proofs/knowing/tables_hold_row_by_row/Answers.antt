@@ -1,3 +1,4 @@
+use Rattle.run_laws.proofs.CheckTables.{checks-by-table, codes-by-table, enables-by-set, periods-by-table, rows-by-table}
 use Rattle.run_laws.proofs.Leading.{plans-lead-as-told}
 use Rattle.run_laws.proofs.Shown.{statuses-by-table}
 use Rattle.run_laws.proofs.Stopping.{plans-start-again}
@@ -19,4 +20,9 @@ returns c = record {
   attaches_by_set = attaches-by-set;
   plans = plans-start-again;
   leads = plans-lead-as-told;
+  checks = checks-by-table;
+  rows = rows-by-table;
+  codes = codes-by-table;
+  periods = periods-by-table;
+  enables = enables-by-set;
 }

@@ -6,5 +6,5 @@ use Rattle.scenario_servers.proofs.server.setup_in.Goals as goal
 pub returns-then-lacks : goal.returns-then-lacks
 returns-then-lacks c =
     let absent = c.lacks.ensures.absent c.if-lacks.true in
-    rw c.has_source.ensures (setup-absent (view c.args.object.now) (absent (codes "logs") refl) (absent (codes "read_only") refl) (absent (codes "limit") refl) (absent (codes "up") refl) (absent (codes "desk") refl)
+    rw c.plain_setup.ensures (setup-absent (view c.args.object.now) (absent (codes "logs") refl) (absent (codes "read_only") refl) (absent (codes "limit") refl) (absent (codes "up") refl) (absent (codes "desk") refl)
     (absent (codes "feed") refl))
