@@ -1,13 +1,12 @@
 //! How a recovery's entry of the audit ends with the turn that ends its job.
 
-ghost use Rattle.std.specs.Prelude.{◌≡◌, ◌≢◌, ◌<◌, ◌++◌, [], Err, IfOk, IfSome, IsSomeAnd, Some, is_ok, true, length};
+ghost use Rattle.std.specs.Prelude.{◌≡◌, ◌<◌, ◌++◌, IfOk, IfSome, IsSomeAnd, Some, true, length};
 ghost use Rattle.std.specs.Option.{option_copied};
 ghost use Rattle.command_outcomes.specs.AuditLog.Audits.{is_unended, recovery_at};
 ghost use Rattle.command_outcomes.specs.UnendedJobs.Jobs.{step_reply};
 ghost use Rattle.command_outcomes.specs.UnendedJobs.Looks.{foretold, observation_of, step_of};
 ghost use Rattle.knowledge.specs.Closings.{closed_by, closed_so, closing_change, closing_changes, closing_of};
-ghost use Rattle.knowledge.specs.Faults.{HasTurnCause};
-ghost use Rattle.knowledge.specs.Kept.{changes_by, kept_if};
+ghost use Rattle.knowledge.specs.Kept.{Keeps, changes_by};
 ghost use Rattle.knowledge.specs.Replies.{AreReply};
 
 use crate::audit_log::Audit;
@@ -130,15 +129,9 @@ pub fn keep_turn<K: Keeper>(
 ) -> Result<Replies, TurnFault>
     requires { IfSome (observation_of look.now) (λ o. o.no.0 < length book.now.names) }
     ensures reply { IfOk result (λ r. AreReply written (step_reply (step_of look.now)) r) }
-    ensures kept { K.kept keeper.new ≡ kept_if (is_ok result) (K.kept keeper.old)
+    ensures keeps { Keeps K.kept K.faults keeper.old keeper.new
         (changes_by book.now (observation_of look.now)
-        ++ closing_changes audit.now.audit now closing) }
-    ensures cause { HasTurnCause (K.faults keeper.old) (K.faults keeper.new) result }
-    ensures idle { changes_by book.now (observation_of look.now)
-        ++ closing_changes audit.now.audit now closing ≡ [] → keeper.new ≡ keeper.old }
-    ensures calls { result ≡ Err TurnFault.Keeper
-        → changes_by book.now (observation_of look.now)
-        ++ closing_changes audit.now.audit now closing ≢ [] }
+        ++ closing_changes audit.now.audit now closing) result }
 {
     let replies = answered(alloc, look.step(), written)?;
     let changes = job_changes(alloc, book, audit, now, look.observation(), closing)?;

@@ -1,13 +1,13 @@
 //! What is kept: the changes of rows, which are kept before they are made, and the rows that a row store hands back.
 
-ghost use Rattle.std.specs.Prelude.{◌≡◌, ◌≢◌, ◌<◌, [], ◌∷◌, IfOk, IfSome, OnOk, OnErr, IsSomeAnd, None, Some, Err, is_ok, length, true};
+ghost use Rattle.std.specs.Prelude.{◌≡◌, ◌<◌, [], ◌∷◌, IfOk, IfSome, OnOk, OnErr, IsSomeAnd, None, Some, is_ok, length, true};
 ghost use Rattle.std.specs.Bool.{OnTrue};
 ghost use Rattle.command_outcomes.specs.InstanceKeeper.Book.{after_addition, instance_at};
 ghost use Rattle.command_outcomes.specs.UnendedJobs.Jobs.{stored};
 ghost use Rattle.command_outcomes.specs.KeptRows.Rows.{IsRising};
 ghost use Rattle.command_outcomes.specs.KeptRows.Servers.{are_known, observed_servers, servers_of};
 ghost use Rattle.knowledge.specs.Faults.{HasTurnCause};
-ghost use Rattle.knowledge.specs.Kept.{changes_by, kept_if};
+ghost use Rattle.knowledge.specs.Kept.{Keeps, changes_by, kept_if};
 ghost use Rattle.knowledge.specs.Newer.{IsNewer, reading_of};
 ghost use Rattle.knowledge.specs.Replies.{reply_by, stored_reply};
 ghost use Rattle.command_outcomes.specs.Turns.Plain.{is_plain};
@@ -37,11 +37,8 @@ pub fn store_slot<K: Keeper>(
     ensures emptied { OnOk result (slot.new ≡ None) }
     ensures err { OnErr result (book.new ≡ book.old) }
     ensures slot { OnErr result (slot.new ≡ slot.old) }
-    ensures kept { K.kept keeper.new ≡ kept_if (is_ok result) (K.kept keeper.old)
-        (changes_by book.old slot.old) }
-    ensures cause { HasTurnCause (K.faults keeper.old) (K.faults keeper.new) result }
-    ensures idle { changes_by book.old slot.old ≡ [] → keeper.new ≡ keeper.old }
-    ensures calls { result ≡ Err TurnFault.Keeper → changes_by book.old slot.old ≢ [] }
+    ensures keeps { Keeps K.kept K.faults keeper.old keeper.new
+        (changes_by book.old slot.old) result }
 {
     if let Some(instance) = take_newer(book, slot) {
         return put_newer(alloc, keeper, book, slot, instance);
@@ -156,11 +153,7 @@ fn keep_store<K: Keeper>(
     slot: &Option<Observation>,
 ) -> Result<(), TurnFault>
     requires { IfSome slot.now (λ o. o.no.0 < length book.now.names) }
-    ensures kept { K.kept keeper.new ≡ kept_if (is_ok result) (K.kept keeper.old)
-        (changes_by book.now slot.now) }
-    ensures cause { HasTurnCause (K.faults keeper.old) (K.faults keeper.new) result }
-    ensures idle { changes_by book.now slot.now ≡ [] → keeper.new ≡ keeper.old }
-    ensures calls { result ≡ Err TurnFault.Keeper → changes_by book.now slot.now ≢ [] }
+    ensures { Keeps K.kept K.faults keeper.old keeper.new (changes_by book.now slot.now) result }
 {
     let Some(o) = slot else {
         return Ok(());
@@ -192,10 +185,7 @@ pub fn keep_some<K: Keeper>(
     names: &[Name],
     changes: &[Change],
 ) -> Result<(), TurnFault>
-    ensures kept { K.kept keeper.new ≡ kept_if (is_ok result) (K.kept keeper.old) changes.now }
-    ensures cause { HasTurnCause (K.faults keeper.old) (K.faults keeper.new) result }
-    ensures idle { changes.now ≡ [] → keeper.new ≡ keeper.old }
-    ensures calls { result ≡ Err TurnFault.Keeper → changes.now ≢ [] }
+    ensures { Keeps K.kept K.faults keeper.old keeper.new changes.now result }
 {
     if changes.is_empty() {
         return Ok(());

@@ -1,10 +1,9 @@
 //! What orchestrator knows, and what a command or a scan makes of it.
 
-ghost use Rattle.std.specs.Prelude.{◌≡◌, ◌≢◌, ◌<◌, ◌≤◌, ◌+◌, ◌-◌, ◌^◌, ◌∷◌, [], if◌then◌else◌, Err, IfOk, None, OnOk, Some, is_ok, length, vec_len, vec_capacity};
+ghost use Rattle.std.specs.Prelude.{◌≡◌, ◌<◌, ◌≤◌, ◌+◌, ◌-◌, ◌^◌, ◌∷◌, [], if◌then◌else◌, IfOk, None, OnOk, Some, length, vec_len, vec_capacity};
 ghost use Rattle.command_outcomes.specs.RecoveryCore.Begun.{BeginInTurn, CanBegin};
 ghost use Rattle.command_outcomes.specs.RecoveryCore.Scans.{HasRoom};
-ghost use Rattle.knowledge.specs.Faults.{HasTurnCause};
-ghost use Rattle.knowledge.specs.Kept.{kept_if};
+ghost use Rattle.knowledge.specs.Kept.{Keeps};
 ghost use Rattle.knowledge.specs.Knowing.{HasRoomFor, IsEffect, IsUpdate, MayTake, updated};
 ghost use Rattle.command_outcomes.specs.Ids.{LeavesIds};
 ghost use Rattle.knowledge.specs.KnowingBy.{known};
@@ -135,11 +134,7 @@ impl Knowledge {
             (vec_capacity self.new.jobs - vec_len self.new.jobs) self.new.audit.spare
             outcome.now.book) }
         ensures known { known self.new ≡ known self.old }
-        ensures kept { K.kept keeper.new ≡ kept_if (is_ok result) (K.kept keeper.old)
-            outcome.now.rows.items }
-        ensures cause { HasTurnCause (K.faults keeper.old) (K.faults keeper.new) result }
-        ensures idle { outcome.now.rows.items ≡ [] → keeper.new ≡ keeper.old }
-        ensures calls { result ≡ Err TurnFault.Keeper → outcome.now.rows.items ≢ [] }
+        ensures keeps { Keeps K.kept K.faults keeper.old keeper.new outcome.now.rows.items result }
     {
         let reply = copied(alloc, &outcome.reply, written)?;
         self.make_room(alloc, &outcome.book)?;

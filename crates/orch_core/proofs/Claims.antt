@@ -1,8 +1,8 @@
 -- Turns of several orchestrators are turns of one, with the claims as they are left.
 use Rattle.std.proofs.Common.{◌≡◌, ◌∙◌, ℕ, Bool, true, false, List, length, Option, Some, None, refl, sym, ap, IfSome, if◌then◌else◌}
-use Rattle.orch_core.proofs.Prelude.{Act, ClaimAnswer, ClaimState, IsAct, IsTurn, Row, State, StepsTo, Turn, act_claimed, act_in, acted_long, acts}
-use Rattle.orch_core.proofs.Prelude.{after_act, after_done, answered_long, asks, changes_of, claimed, done_asks, done_changes, engine, nodes_of}
-use Rattle.orch_core.proofs.Prelude.{passes_to, released_long, step, with_claims}
+use Rattle.orch_core.proofs.Prelude.{Act, ClaimAnswer, ClaimState, IsAct, IsTurn, Row, State, Turn, act_claimed, act_in, acted_long, acts}
+use Rattle.orch_core.proofs.Prelude.{after_act, after_done, answered_long, asks, changes_of, claimed, done_asks, done_changes, done_reply, nodes_of}
+use Rattle.orch_core.proofs.Prelude.{passes_to, released_long, reply_of, step, with_claims}
 use Rattle.orch_core.proofs.Prelude.act
 use Rattle.orch_core.proofs.Prelude.claim
 use Rattle.orch_core.proofs.Prelude.claims
@@ -13,12 +13,6 @@ use Rattle.orch_core.proofs.Prelude.turn
 pub act-keeps : (rows : List Row) (s : State) (a : Act) → record (after_act rows s a) { claims = s.claims; last_holder = s.last_holder } ≡ after_act rows s a
 act-keeps rows s (act.PollRead p n) = refl
 act-keeps rows s _ = refl
-
--- ---- a turn that is as another
-
-pub StepsTo-same : (kept : Option (List Row)) (s now : State) (t u : Turn) → ((rows : List Row) → step rows s t ≡ step rows s u) → StepsTo engine kept s t now → StepsTo engine kept s u now
-StepsTo-same None s now t u same steps = (steps.0, steps.1 ∙ same steps.0)
-StepsTo-same (Some rows) s now t u same steps = steps ∙ same rows
 
 -- ---- one of several that acts
 
@@ -39,6 +33,9 @@ module _ (s : State) (node : ℕ) (a : Act) (does : acts s node ≡ true) where
 
   pub asks-acting : asks s (turn.Act a) ≡ asks s (turn.As node a)
   asks-acting = ap done_asks (sym acting)
+
+  pub reply-acting : reply_of s (turn.Act a) ≡ reply_of s (turn.As node a)
+  reply-acting = ap (done_reply s) (sym acting)
 
 -- ---- and one that lapsed
 

@@ -6,6 +6,7 @@ pub mod Periods
 pub mod States
 pub mod Claims
 pub mod Runs
+pub mod Taking
 pub mod Starts
 pub mod Beginnings
 pub mod Comes

@@ -5,7 +5,7 @@ pub use Rattle.std.proofs.lemmas.List.{length-append, length-map, length-replica
 pub use Rattle.std.proofs.lemmas.List.Elements.{All-append, All-cons, All-filter, All-map, All-nil, All-push, All-replicate, All-set, All-weaker}
 pub use Rattle.std.proofs.lemmas.List.Filters.{length-filter_both}
 pub use Rattle.std.proofs.lemmas.List.Sums.{fold-append, get_or-le-sum_by}
-pub use Rattle.std.proofs.lemmas.Result.{err_from_is_err_and}
+pub use Rattle.std.proofs.lemmas.Result.{err_from_is_err_and, on_ok_weaker}
 pub use Rattle.std.specs.Cmp.Lexicographic.{pointwise}
 pub use Rattle.std.specs.List.{flat_map, list_any}
 pub use Rattle.knowledge.proofs.AuditLog.Changes.{IsAudit-begun, IsAudit-map}
@@ -102,6 +102,7 @@ pub use Rattle.knowledge.specs.UnendedJobs.declared.look.UnendedLook.{UnendedLoo
 pub use Rattle.knowledge.specs.UnendedJobs.declared.unended.Unended.TheVariants as unended
 pub use Rattle.knowledge.specs.declared.closing.Closing.{Closing}
 pub use Rattle.knowledge.specs.declared.fault.TurnFault.TheVariants as fault
+pub use Rattle.knowledge.specs.declared.replies.Replies.{Replies}
 pub use Rattle.node_claims.proofs.Owned.{acted_long, answered_long, released_long}
 pub use Rattle.node_claims.specs.Claims as claims
 pub use Rattle.node_claims.specs.declared.claims.ClaimAnswer.TheVariants as claim
@@ -117,12 +118,12 @@ pub use Rattle.orch_core.specs.After.{after_act, after_done, after_restart, step
 pub use Rattle.orch_core.specs.Due.{last_poll, last_poll_from, polled_at}
 pub use Rattle.orch_core.specs.EngineBy.{state_of}
 pub use Rattle.orch_core.specs.Jobs.{turn_of, turned_at}
-pub use Rattle.orch_core.specs.Keeping.{Calls, Ran, StepsTo, WasCutOff, kept_by, kept_with}
+pub use Rattle.orch_core.specs.Keeping.{Calls, Ran, StepsTo, Takes, WasCutOff, kept_by, kept_with}
 pub use Rattle.orch_core.specs.Nodes.{act_claimed, act_in, acts, claimed, holder_of, kept_claim, passes_to, with_claims}
 pub use Rattle.orch_core.specs.Polls.{act_changes, changes_of, command_outcome, done_changes, empty_slots, numbers_of, scan_outcome}
 pub use Rattle.orch_core.specs.Prelude.{Act, Apply, AreReadWithin, AreReply, Asks, AuditState, BookState, Change, ClaimAnswer, ClaimState, Command}
 pub use Rattle.orch_core.specs.Prelude.{CommandTurn, Configuration, Decides, Discovers, Exchange, Flown, Forgets, IsAct, IsAudit, IsCommand}
-pub use Rattle.orch_core.specs.Prelude.{IsScenario, IsStep, IsTurn, IsUnended, IsUpdate, Knowledge, LeavesIds, Line, Moment, NamesOneOf, Numbers}
+pub use Rattle.orch_core.specs.Prelude.{IsScenario, IsStep, IsTurn, IsUnended, IsUpdate, Keeps, Knowledge, LeavesIds, Line, Moment, NamesOneOf, Numbers}
 pub use Rattle.orch_core.specs.Prelude.{Observation, Outcome, Recovers, Refusal, Reply, Rise, Route, Row, Scenario, Server, ServerNo, Step, TakesOver}
 pub use Rattle.orch_core.specs.Prelude.{Turn, TurnFault, Unended, UnknownInstance, Unreachable, Update, World, are_known, audit_of, book_turned}
 pub use Rattle.orch_core.specs.Prelude.{by_hand, changed, changes_by, closed, closed_by, closing_changes, closing_of, counted, flown, flushes_of}
@@ -133,7 +134,7 @@ pub use Rattle.orch_core.specs.Prelude.{option_map, outcome, period_by, period_o
 pub use Rattle.orch_core.specs.Prelude.{removal_refusal, room_of, round_over, route_of, run, scan_by, seen_in, settings_of, source_servers, status}
 pub use Rattle.orch_core.specs.Prelude.{stored, takeover_refusal, updated, without_job}
 unfoldable pub use Rattle.orch_core.specs.Prelude.{by_name, outcome_of}
-pub use Rattle.orch_core.specs.Replies.{reply_of}
+pub use Rattle.orch_core.specs.Replies.{act_reply, done_reply, reply_of}
 pub use Rattle.orch_core.specs.Restarts.{interrupted_at, last_given, reloaded_audit, reloaded_book, reloaded_moment, reloaded_rows, restart_changes}
 pub use Rattle.orch_core.specs.Rounds.{FinishedBy, WasCutShort, after_rounds, after_turns, round_of, times, told_in}
 pub use Rattle.orch_core.specs.Runs.{Held, LeadsTo, Machine, Recorded, act_asks, asks, done_asks, engine, held_run, held_step, recorder, run_turns}

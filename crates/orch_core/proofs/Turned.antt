@@ -223,9 +223,6 @@ module _ (s : State) (id at : ℕ) (j : Unended) (look : UnendedLook) (is : IsSt
       IsState-job s id is w b a jobs reads (world ∙ ap (λ t. run s.world (job_exchanges t)) turn_by-is) (book ∙ ap (book_turned s.book id) turn_by-is)
       (closes ∙ ap (closed_by s.audit now_is) (sym ends-is)) (joins ∙ ap (jobs_turned s.jobs id) turn_by-is)
 
-  pub servers-taken : (w : World) → w ≡ run s.world (job_exchanges (turn_by s.jobs id look)) → length w.servers ≡ length s.world.servers
-  servers-taken w world = ap (λ (x : World). length x.servers) world ∙ servers-run s.world (job_exchanges (turn_by s.jobs id look))
-
   pub observed-book : IfSome (observation_of look) (λ o. are_known (length s.book.names) (observed_servers o) ≡ true)
   observed-book = subst (λ (n : ℕ). IfSome (observation_of look) (λ o. are_known n (observed_servers o) ≡ true)) (sym is.names) observed-here
 

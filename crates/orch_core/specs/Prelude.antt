@@ -24,7 +24,7 @@ pub use Rattle.knowledge.specs.Commands.declared.turn.Command.{Command}
 pub use Rattle.knowledge.specs.Commands.declared.turn.CommandTurn.{CommandTurn}
 pub use Rattle.knowledge.specs.Faults.{HasTurnCause}
 pub use Rattle.knowledge.specs.InstanceKeeper.Book.{empty_book, instance_at}
-pub use Rattle.knowledge.specs.Kept.{changes_by, kept_if}
+pub use Rattle.knowledge.specs.Kept.{Keeps, changes_by, kept_if}
 pub use Rattle.knowledge.specs.KeptRows.Seeing.{seen_in}
 pub use Rattle.knowledge.specs.KeptRows.Servers.{observed_servers, source_servers}
 pub use Rattle.knowledge.specs.KeptRows.declared.observation.Observation.{Observation}

@@ -1,13 +1,13 @@
 //! The machine of a run: the servers, the moment, and what orchestrator knows, one turn after another. It writes no
 //! journal.
 
-ghost use Rattle.std.specs.Prelude.{◌≡◌, ◌≢◌, ◌<◌, ◌≤◌, ◌^◌, [], ◌∷◌, All, Some, None, IfOk, IfErr, OnOk, OnErr, Err, true, false, if◌then◌else◌, is_ok, length, slice_get};
-ghost use Rattle.orch_core.specs.Prelude.{AreReadWithin, AreReply, HasTurnCause, IsAct, IsCommand, IsStep, IsTurn, LeavesIds, NamesOneOf, Rise, is_open, is_plain};
-ghost use Rattle.orch_core.specs.Prelude.{job_at, kept_if, outcome as outcome_in, pollers};
-ghost use Rattle.orch_core.specs.Polls.{act_changes, changes_of, command_outcome, job_changes, numbers_of, scan_outcome};
+ghost use Rattle.std.specs.Prelude.{◌≡◌, ◌<◌, ◌≤◌, ◌^◌, ◌∷◌, All, Some, None, IfOk, IfErr, OnOk, OnErr, true, if◌then◌else◌, is_ok, length, slice_get};
+ghost use Rattle.orch_core.specs.Prelude.{AreReadWithin, AreReply, HasTurnCause, IsAct, IsCommand, IsStep, IsTurn, Keeps, LeavesIds, NamesOneOf, Rise, is_open, is_plain};
+ghost use Rattle.orch_core.specs.Prelude.{job_at, outcome as outcome_in, pollers};
+ghost use Rattle.orch_core.specs.Polls.{numbers_of};
 ghost use Rattle.orch_core.specs.Replies.{act_reply, reply_of, step_reply};
-ghost use Rattle.orch_core.specs.Runs.{act_asks, asks, engine};
-ghost use Rattle.orch_core.specs.Keeping.{StepsTo, kept_by, kept_with, Calls};
+ghost use Rattle.orch_core.specs.Runs.{engine};
+ghost use Rattle.orch_core.specs.Keeping.{StepsTo, Takes, kept_by, kept_with};
 ghost use Rattle.orch_core.specs.Settling.{CanSettle, settled};
 ghost use Rattle.orch_core.specs.States.{IsState, nodes_of};
 
@@ -82,7 +82,7 @@ fn is_bound(_wait: u32)
 {}
 
 impl Engine {
-    ghost use Rattle.orch_core.specs.After.{after_job, after_read, after_step, after_store, after_tick};
+    ghost use Rattle.orch_core.specs.After.{after_read, after_step, after_tick};
 
     // A step that happens to a server.
     fn exchange(&mut self, x: Step) -> Reply
@@ -153,17 +153,9 @@ impl Engine {
         poller: u32,
     ) -> Result<Reply, TurnFault>
         requires { poller < pollers }
-        ensures reply { IfOk result (λ r. r ≡ act_reply self.old (Act.PollStore poller)) }
         ensures plain { IfOk result (λ r. is_plain r ≡ true) }
-        ensures ok { OnOk result (self.new ≡ after_store self.old poller) }
-        ensures err { OnErr result (self.new ≡ self.old) }
-        ensures kept { K.kept keeper.new ≡ kept_if (is_ok result) (K.kept keeper.old)
-            (act_changes [] self.old (Act.PollStore poller)) }
-        ensures cause { HasTurnCause (K.faults keeper.old) (K.faults keeper.new) result }
-        ensures idle { act_changes [] self.old (Act.PollStore poller) ≡ []
-            → keeper.new ≡ keeper.old }
-        ensures calls { result ≡ Err TurnFault.Keeper
-            → act_changes [] self.old (Act.PollStore poller) ≢ [] }
+        ensures takes { Takes engine (λ s. s) K.kept K.faults keeper.old keeper.new
+            self.old (Turn.Act (Act.PollStore poller)) self.new (λ r said. said ≡ r) result }
     {
         store_slot(
             alloc,
@@ -245,16 +237,8 @@ impl Engine {
         id: u64,
         written: bool,
     ) -> Result<Replies, TurnFault>
-        ensures reply { IfOk result (λ r. AreReply written (act_reply self.old (Act.Job id)) r) }
-        ensures ok { OnOk result (self.new ≡ after_job self.old id) }
-        ensures err { OnErr result (self.new ≡ self.old) }
-        ensures kept { K.kept keeper.new ≡ kept_if (is_ok result) (K.kept keeper.old)
-            (job_changes self.old id) }
-        ensures cause { HasTurnCause (K.faults keeper.old) (K.faults keeper.new) result }
-        ensures idle { job_changes self.old id ≡ [] → keeper.new ≡ keeper.old }
-        ensures calls { result ≡ Err TurnFault.Keeper → job_changes self.old id ≢ [] }
-        ensures servers { length self.new.world.servers ≡ length self.old.world.servers }
-        ensures nodes { nodes_of self.new ≡ nodes_of self.old }
+        ensures { Takes engine (λ s. s) K.kept K.faults keeper.old keeper.new
+            self.old (Turn.Act (Act.Job id)) self.new (AreReply written) result }
     {
         match find(&self.knowledge.jobs, id) {
             None => Ok(plain(Reply::NoJob, written)),
@@ -271,18 +255,8 @@ impl Engine {
     ) -> Result<Replies, TurnFault>
         requires at { found.at < length self.old.jobs }
         requires id { job_at self.old.jobs found.id ≡ slice_get self.old.jobs found.at }
-        ensures reply { IfOk result
-            (λ r. AreReply written (act_reply self.old (Act.Job found.id)) r) }
-        ensures ok { OnOk result (self.new ≡ after_job self.old found.id) }
-        ensures err { OnErr result (self.new ≡ self.old) }
-        ensures kept { K.kept keeper.new ≡ kept_if (is_ok result) (K.kept keeper.old)
-            (job_changes self.old found.id) }
-        ensures cause { HasTurnCause (K.faults keeper.old) (K.faults keeper.new) result }
-        ensures idle { job_changes self.old found.id ≡ [] → keeper.new ≡ keeper.old }
-        ensures calls { result ≡ Err TurnFault.Keeper
-            → job_changes self.old found.id ≢ [] }
-        ensures servers { length self.new.world.servers ≡ length self.old.world.servers }
-        ensures nodes { nodes_of self.new ≡ nodes_of self.old }
+        ensures { Takes engine (λ s. s) K.kept K.faults keeper.old keeper.new
+            self.old (Turn.Act (Act.Job found.id)) self.new (AreReply written) result }
     {
         let read = self.reads.saturating_add(1);
         let job = &self.knowledge.jobs[found.at];
@@ -321,16 +295,8 @@ impl Engine {
         written: bool,
     ) -> Result<Replies, TurnFault>
         requires { IsCommand (length self.old.world.servers) t.now }
-        ensures reply { IfOk result
-            (λ r. AreReply written (act_reply self.old (Act.Command t.now)) r) }
-        ensures ok { OnOk result (self.new ≡ settled self.old (command_outcome self.old t.now)) }
-        ensures err { OnErr result (self.new ≡ self.old) }
-        ensures kept { K.kept keeper.new ≡ kept_if (is_ok result) (K.kept keeper.old)
-            ((command_outcome self.old t.now).rows) }
-        ensures cause { HasTurnCause (K.faults keeper.old) (K.faults keeper.new) result }
-        ensures idle { (command_outcome self.old t.now).rows ≡ [] → keeper.new ≡ keeper.old }
-        ensures calls { result ≡ Err TurnFault.Keeper
-            → (command_outcome self.old t.now).rows ≢ [] }
+        ensures { Takes engine (λ s. s) K.kept K.faults keeper.old keeper.new
+            self.old (Turn.Act (Act.Command t.now)) self.new (AreReply written) result }
     {
         // shows the proof what holds of the book
         let _ = self.knowledge.book.servers();
@@ -357,16 +323,8 @@ impl Engine {
         keeper: &mut K,
         written: bool,
     ) -> Result<Replies, TurnFault>
-        ensures reply { IfOk result (λ r. AreReply written (act_reply self.old Act.Scan) r) }
-        ensures ok { OnOk result (self.new ≡ settled self.old (scan_outcome self.old)) }
-        ensures err { OnErr result (self.new ≡ self.old) }
-        ensures kept { K.kept keeper.new ≡ kept_if (is_ok result) (K.kept keeper.old)
-            ((scan_outcome self.old).rows) }
-        ensures cause { HasTurnCause (K.faults keeper.old) (K.faults keeper.new) result }
-        ensures idle { (scan_outcome self.old).rows ≡ [] → keeper.new ≡ keeper.old }
-        ensures calls { result ≡ Err TurnFault.Keeper → (scan_outcome self.old).rows ≢ [] }
-        ensures servers { length self.new.world.servers ≡ length self.old.world.servers }
-        ensures nodes { nodes_of self.new ≡ nodes_of self.old }
+        ensures { Takes engine (λ s. s) K.kept K.faults keeper.old keeper.new
+            self.old (Turn.Act Act.Scan) self.new (AreReply written) result }
     {
         // shows the proof what holds of the book
         let _ = self.knowledge.book.servers();
@@ -395,11 +353,7 @@ impl Engine {
         ensures reply { IfOk result (λ r. AreReply written outcome.reply r) }
         ensures ok { OnOk result (self.new ≡ settled self.old (outcome_in outcome)) }
         ensures err { OnErr result (self.new ≡ self.old) }
-        ensures kept { K.kept keeper.new ≡ kept_if (is_ok result) (K.kept keeper.old)
-            outcome.rows.items }
-        ensures cause { HasTurnCause (K.faults keeper.old) (K.faults keeper.new) result }
-        ensures idle { outcome.rows.items ≡ [] → keeper.new ≡ keeper.old }
-        ensures calls { result ≡ Err TurnFault.Keeper → outcome.rows.items ≢ [] }
+        ensures keeps { Keeps K.kept K.faults keeper.old keeper.new outcome.rows.items result }
     {
         let written = self
             .knowledge
@@ -492,18 +446,8 @@ impl Engine {
         written: bool,
     ) -> Result<Replies, TurnFault>
         requires { IsAct (length self.old.world.servers) act.now }
-        ensures reply { IfOk result (λ r. AreReply written (act_reply self.old act.now) r) }
-        ensures ok { OnOk result (StepsTo engine
-            (K.kept keeper.old) self.old (Turn.Act act.now) self.new) }
-        ensures err { OnErr result (self.new ≡ self.old) }
-        ensures kept { K.kept keeper.new ≡ kept_by engine (is_ok result)
-            (K.kept keeper.old) self.old (Turn.Act act.now) }
-        ensures cause { HasTurnCause (K.faults keeper.old) (K.faults keeper.new) result }
-        ensures idle { act_asks act.now ≡ false → act_changes [] self.old act.now ≡ []
-            → keeper.new ≡ keeper.old }
-        ensures calls { result ≡ Err TurnFault.Keeper → Calls engine self.old (Turn.Act act.now) }
-        ensures servers { length self.new.world.servers ≡ length self.old.world.servers }
-        ensures nodes { nodes_of self.new ≡ nodes_of self.old }
+        ensures { Takes engine (λ s. s) K.kept K.faults keeper.old keeper.new
+            self.old (Turn.Act act.now) self.new (AreReply written) result }
     {
         match act {
             Act::PollRead(poller, no) => Ok(plain(self.poll_read(alloc, *poller, *no)?, written)),
@@ -525,17 +469,8 @@ impl Engine {
     ) -> Result<Replies, TurnFault>
         requires turn { IsTurn (length self.old.world.servers) t.now }
         requires named { NamesOneOf (nodes_of self.old) t.now }
-        ensures reply { IfOk result (λ r. AreReply written (reply_of self.old t.now) r) }
-        ensures ok { OnOk result (StepsTo engine (K.kept keeper.old) self.old t.now self.new) }
-        ensures err { OnErr result (self.new ≡ self.old) }
-        ensures kept { K.kept keeper.new ≡ kept_by engine (is_ok result)
-            (K.kept keeper.old) self.old t.now }
-        ensures cause { HasTurnCause (K.faults keeper.old) (K.faults keeper.new) result }
-        ensures idle { asks self.old t.now ≡ false → changes_of [] self.old t.now ≡ []
-            → keeper.new ≡ keeper.old }
-        ensures calls { result ≡ Err TurnFault.Keeper → Calls engine self.old t.now }
-        ensures servers { length self.new.world.servers ≡ length self.old.world.servers }
-        ensures nodes { nodes_of self.new ≡ nodes_of self.old }
+        ensures { Takes engine (λ s. s) K.kept K.faults keeper.old keeper.new
+            self.old t.now self.new (AreReply written) result }
     {
         match t {
             Turn::Step(x) => Ok(plain(self.exchange(*x), written)),
@@ -558,17 +493,8 @@ impl Engine {
     ) -> Result<Reply, TurnFault>
         requires turn { IsTurn (length self.old.world.servers) t.now }
         requires named { NamesOneOf (nodes_of self.old) t.now }
-        ensures reply { IfOk result (λ r. r ≡ reply_of self.old t.now) }
-        ensures ok { OnOk result (StepsTo engine (K.kept keeper.old) self.old t.now self.new) }
-        ensures err { OnErr result (self.new ≡ self.old) }
-        ensures kept { K.kept keeper.new ≡ kept_by engine (is_ok result)
-            (K.kept keeper.old) self.old t.now }
-        ensures cause { HasTurnCause (K.faults keeper.old) (K.faults keeper.new) result }
-        ensures idle { asks self.old t.now ≡ false → changes_of [] self.old t.now ≡ []
-            → keeper.new ≡ keeper.old }
-        ensures calls { result ≡ Err TurnFault.Keeper → Calls engine self.old t.now }
-        ensures servers { length self.new.world.servers ≡ length self.old.world.servers }
-        ensures nodes { nodes_of self.new ≡ nodes_of self.old }
+        ensures { Takes engine (λ s. s) K.kept K.faults keeper.old keeper.new
+            self.old t.now self.new (λ r said. said ≡ r) result }
     {
         let replies = self.replies(alloc, keeper, t, false)?;
         Ok(replies.told)

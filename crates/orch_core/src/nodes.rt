@@ -1,13 +1,10 @@
 //! The turns of several orchestrators over the same kept rows.
 
-ghost use Rattle.std.specs.Prelude.{◌≡◌, [], IfOk, OnOk, OnErr, Err, true, false, is_ok, length};
-ghost use Rattle.orch_core.specs.Prelude.{AreReply, HasTurnCause, IsAct, IsNode, is_plain};
-ghost use Rattle.orch_core.specs.Polls.{changes_of};
-ghost use Rattle.orch_core.specs.Replies.{reply_of};
-ghost use Rattle.orch_core.specs.Runs.{asks, engine};
-ghost use Rattle.orch_core.specs.Keeping.{ClaimPasses, StepsTo, kept_by, Calls};
+ghost use Rattle.std.specs.Prelude.{◌≡◌, ⊤, IfOk, true, length};
+ghost use Rattle.orch_core.specs.Prelude.{AreReply, IsAct, IsNode, is_plain};
+ghost use Rattle.orch_core.specs.Runs.{engine};
+ghost use Rattle.orch_core.specs.Keeping.{Takes, claimless};
 ghost use Rattle.orch_core.specs.Nodes.{claimed};
-ghost use Rattle.orch_core.specs.States.{nodes_of};
 
 use crate::claiming::{claim_reply, held_changes, passes_to, release_changes, release_reply};
 use crate::instance_keeper_items::Keeper;
@@ -29,20 +26,8 @@ impl Engine {
     ) -> Result<Replies, TurnFault>
         requires node { IsNode self.old.claims node }
         requires act { IsAct (length self.old.world.servers) act.now }
-        ensures reply { IfOk result
-            (λ r. AreReply written (reply_of self.old (Turn.As node act.now)) r) }
-        ensures ok { OnOk result (StepsTo engine
-            (K.kept keeper.old) self.old (Turn.As node act.now) self.new) }
-        ensures err { OnErr result (self.new ≡ self.old) }
-        ensures kept { K.kept keeper.new ≡ kept_by engine (is_ok result)
-            (K.kept keeper.old) self.old (Turn.As node act.now) }
-        ensures cause { HasTurnCause (K.faults keeper.old) (K.faults keeper.new) result }
-        ensures idle { asks self.old (Turn.As node act.now) ≡ false
-            → changes_of [] self.old (Turn.As node act.now) ≡ [] → keeper.new ≡ keeper.old }
-        ensures calls { result ≡ Err TurnFault.Keeper
-            → Calls engine self.old (Turn.As node act.now) }
-        ensures servers { length self.new.world.servers ≡ length self.old.world.servers }
-        ensures nodes { nodes_of self.new ≡ nodes_of self.old }
+        ensures { Takes engine (λ s. s) K.kept K.faults keeper.old keeper.new
+            self.old (Turn.As node act.now) self.new (AreReply written) result }
     {
         if !self.claims.may_act(node, self.moment) {
             return Ok(plain(Reply::Lapsed, written));
@@ -58,19 +43,9 @@ impl Engine {
         node: u32,
     ) -> Result<Reply, TurnFault>
         requires { IsNode self.old.claims node }
-        ensures reply { IfOk result (λ r. r ≡ reply_of self.old (Turn.Claim node)) }
         ensures plain { IfOk result (λ r. is_plain r ≡ true) }
-        ensures ok { OnOk result (StepsTo engine
-            (K.kept keeper.old) self.old (Turn.Claim node) self.new) }
-        ensures err { OnErr result (self.new ≡ self.old) }
-        ensures kept { K.kept keeper.new ≡ kept_by engine (is_ok result)
-            (K.kept keeper.old) self.old (Turn.Claim node) }
-        ensures cause { HasTurnCause (K.faults keeper.old) (K.faults keeper.new) result }
-        ensures idle { asks self.old (Turn.Claim node) ≡ false
-            → changes_of [] self.old (Turn.Claim node) ≡ [] → keeper.new ≡ keeper.old }
-        ensures calls { result ≡ Err TurnFault.Keeper → Calls engine self.old (Turn.Claim node) }
-        ensures servers { length self.new.world.servers ≡ length self.old.world.servers }
-        ensures nodes { nodes_of self.new ≡ nodes_of self.old }
+        ensures takes { Takes engine (λ s. s) K.kept K.faults keeper.old keeper.new
+            self.old (Turn.Claim node) self.new (λ r said. said ≡ r) result }
     {
         let now = self.moment;
         let answer = self.claims.answer(node, now);
@@ -92,16 +67,8 @@ impl Engine {
         until: Moment,
     ) -> Result<(), TurnFault>
         requires { claimed self.old node ≡ ClaimAnswer.Held until }
-        ensures ok { OnOk result (ClaimPasses (K.kept keeper.old) self.old node self.new) }
-        ensures err { OnErr result (self.new ≡ self.old) }
-        ensures kept { K.kept keeper.new ≡ kept_by engine (is_ok result)
-            (K.kept keeper.old) self.old (Turn.Claim node) }
-        ensures cause { HasTurnCause (K.faults keeper.old) (K.faults keeper.new) result }
-        ensures idle { asks self.old (Turn.Claim node) ≡ false
-            → changes_of [] self.old (Turn.Claim node) ≡ [] → keeper.new ≡ keeper.old }
-        ensures calls { result ≡ Err TurnFault.Keeper → Calls engine self.old (Turn.Claim node) }
-        ensures servers { length self.new.world.servers ≡ length self.old.world.servers }
-        ensures nodes { nodes_of self.new ≡ nodes_of self.old }
+        ensures takes { Takes claimless (λ s. s) K.kept K.faults keeper.old keeper.new
+            self.old (Turn.Claim node) self.new (λ r said. ⊤) result }
         ensures claims { self.new.claims ≡ self.old.claims }
         ensures holder { self.new.last_holder ≡ self.old.last_holder }
     {
@@ -120,19 +87,9 @@ impl Engine {
         node: u32,
     ) -> Result<Reply, TurnFault>
         requires { IsNode self.old.claims node }
-        ensures reply { IfOk result (λ r. r ≡ reply_of self.old (Turn.Release node)) }
         ensures plain { IfOk result (λ r. is_plain r ≡ true) }
-        ensures ok { OnOk result (StepsTo engine
-            (K.kept keeper.old) self.old (Turn.Release node) self.new) }
-        ensures err { OnErr result (self.new ≡ self.old) }
-        ensures kept { K.kept keeper.new ≡ kept_by engine (is_ok result)
-            (K.kept keeper.old) self.old (Turn.Release node) }
-        ensures cause { HasTurnCause (K.faults keeper.old) (K.faults keeper.new) result }
-        ensures idle { asks self.old (Turn.Release node) ≡ false
-            → changes_of [] self.old (Turn.Release node) ≡ [] → keeper.new ≡ keeper.old }
-        ensures calls { result ≡ Err TurnFault.Keeper → Calls engine self.old (Turn.Release node) }
-        ensures servers { length self.new.world.servers ≡ length self.old.world.servers }
-        ensures nodes { nodes_of self.new ≡ nodes_of self.old }
+        ensures takes { Takes engine (λ s. s) K.kept K.faults keeper.old keeper.new
+            self.old (Turn.Release node) self.new (λ r said. said ≡ r) result }
     {
         let changes = release_changes(alloc, self.claims.kept(), node)?;
         keep_some(alloc, keeper, self.knowledge.book.names(), &changes)?;

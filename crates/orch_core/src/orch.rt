@@ -1,14 +1,12 @@
 //! A run with the journal of its turns.
 
-ghost use Rattle.std.specs.Prelude.{◌≡◌, ◌<◌, ◌≤◌, ◌^◌, [], All, IfOk, IfErr, OnOk, OnErr, Err, false, is_ok, length, map};
+ghost use Rattle.std.specs.Prelude.{◌≡◌, ◌<◌, ◌≤◌, ◌^◌, [], All, IfOk, IfErr, OnOk, is_ok, length, map};
 ghost use Rattle.orch_core.specs.Prelude.{AreReadWithin, HasTurnCause, IsScenario, IsTurn, NamesOneOf, Rise, active, by_name, is_open, without_job};
 ghost use Rattle.orch_core.specs.Due.{IsDue};
-ghost use Rattle.orch_core.specs.Polls.{changes_of};
 ghost use Rattle.orch_core.specs.Rounds.{Finished, WasCutShort};
 ghost use Rattle.orch_core.specs.States.{IsState, nodes_of};
-ghost use Rattle.orch_core.specs.Replies.{reply_of};
-ghost use Rattle.orch_core.specs.Runs.{asks, recorder};
-ghost use Rattle.orch_core.specs.Keeping.{StepsTo, kept_by, Calls, Ran, WasCutOff};
+ghost use Rattle.orch_core.specs.Runs.{recorder};
+ghost use Rattle.orch_core.specs.Keeping.{Ran, Takes, WasCutOff};
 ghost use Rattle.orch_core.specs.Starts.{StartsBy, kept_at_start};
 
 use crate::audit_log::Audit;
@@ -93,18 +91,8 @@ impl Orch {
     ) -> Result<Reply, TurnFault>
         requires turn { IsTurn (length self.old.state.world.servers) t }
         requires named { NamesOneOf (nodes_of self.old.state) t }
-        ensures reply { IfOk result (λ r. r ≡ reply_of self.old.state t) }
-        ensures ok { OnOk result (StepsTo recorder (K.kept keeper.old) self.old t self.new) }
-        ensures err { OnErr result (self.new ≡ self.old) }
-        ensures kept { K.kept keeper.new ≡ kept_by recorder (is_ok result)
-            (K.kept keeper.old) self.old t }
-        ensures cause { HasTurnCause (K.faults keeper.old) (K.faults keeper.new) result }
-        ensures idle { asks self.old.state t ≡ false → changes_of [] self.old.state t ≡ []
-            → keeper.new ≡ keeper.old }
-        ensures calls { result ≡ Err TurnFault.Keeper → Calls recorder self.old t }
-        ensures servers { length self.new.state.world.servers ≡ length
-            self.old.state.world.servers }
-        ensures nodes { nodes_of self.new.state ≡ nodes_of self.old.state }
+        ensures { Takes recorder (λ r. r.state) K.kept K.faults keeper.old keeper.new
+            self.old t self.new (λ r said. said ≡ r) result }
     {
         self.journal.reserve(1)?;
         let replies = self.engine.replies(alloc, keeper, &t, true)?;

@@ -1,7 +1,9 @@
-use Rattle.std.proofs.Common.{◌≡◌, ◌∙◌, ℕ, ◌<◌, ◌≤◌, ◌^◌, length, sym, ap, subst, true, IfSome}
+use Rattle.std.proofs.Common.{◌≡◌, ◌∙◌, ℕ, ◌<◌, ◌≤◌, ◌^◌, length, refl, sym, ap, subst, true, IfSome}
 use Rattle.orch_core.proofs.Prelude.{CanSettle, CommandTurn, IsCommand, Numbers, State, command_outcome, is_within, numbers_of, outcome, outcome_of}
 use Rattle.orch_core.proofs.Prelude.{state_of}
+use Rattle.orch_core.proofs.Prelude.act
 use Rattle.orch_core.proofs.Outcomes.{command-settles, destination-within, given-duration, given-within}
+use Rattle.orch_core.proofs.Taking.{Takes-settled}
 use Rattle.orch_core.proofs.engine.Engine.command.Goals as goal
 
 pub outcome_of-requires-clause-i : goal.outcome_of-requires-clause-i
@@ -40,3 +42,15 @@ settle-requires-clause-outcome g c =
     let wait : before.configuration.wait < 2 ^ 32 = subst (λ (n : Numbers). n.wait < 2 ^ 32) numbers c.is_bound.ensures in
     subst (λ (s : State). CanSettle s (outcome c.in_ok-outcome.outcome)) c.self.view_is
     (subst (CanSettle before) (sym same) (command-settles before c.args.t.now c.self.invariant c.servers.ensures.holds wait command))
+
+pub returns : goal.returns
+returns g c =
+    let before = state_of c.self.inside in
+    let numbers : c.numbers-numbers.result ≡ numbers_of before = c.numbers-numbers.ensures ∙ ap numbers_of (sym c.self.view_is) in
+    let here : outcome c.in_ok-outcome.outcome ≡ command_outcome before c.args.t.now =
+    c.in_ok-outcome.ensures.outcome
+    ∙ ap (λ (t : CommandTurn). outcome_of before.world before.book before.audit before.configuration c.numbers-numbers.result t) c.as_turn.ensures
+    ∙ ap (λ (n : Numbers). outcome_of before.world before.book before.audit before.configuration n c.args.t.now) numbers in
+    let same : outcome c.in_ok-outcome.outcome ≡ command_outcome c.args.self.now c.args.t.now = here ∙ ap (λ (s : State). command_outcome s c.args.t.now) c.self.view_is in
+    Takes-settled _ _ _ _ c.args.self.now c.settle.new.self (act.Command c.args.t.now) c.args.written (outcome c.in_ok-outcome.outcome) (command_outcome c.args.self.now c.args.t.now) c.settle.result same refl (λ given. refl) (λ given. refl) refl
+    c.settle.ensures.reply c.settle.ensures.ok c.settle.ensures.err c.settle.ensures.keeps

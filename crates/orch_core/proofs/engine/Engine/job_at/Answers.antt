@@ -1,9 +1,10 @@
-use Rattle.std.proofs.Common.{◌≡◌, ◌∙◌, ◌<◌, ◌++◌, [], rules, sym, ap, subst, length, Bool, true, false, Option, IfSome, is_ok, slice_get}
-use Rattle.orch_core.proofs.Prelude.{AreReply, CanGo, Closing, IsOpenAt, Reply, State, Unended, changes_by, changes_of, closed_by, closing_changes}
-use Rattle.orch_core.proofs.Prelude.{job_at, kept_if, observation_of, ready-of, reply_of, state_of, step, step_of, step_reply}
+use Rattle.std.proofs.Common.{◌≡◌, ◌∙◌, ◌<◌, ◌++◌, [], rules, refl, sym, ap, subst, inr, length, Bool, false, List, Ok, Option, IfSome, is_ok, slice_get}
+use Rattle.orch_core.proofs.Prelude.{AreReply, CanGo, Change, Closing, IsOpenAt, Keeps, Reply, State, Unended, changes_by, changes_of, closed_by, closing_changes}
+use Rattle.orch_core.proofs.Prelude.{job_at, job_exchanges, kept_if, observation_of, ready-of, reply_of, servers-run, state_of, step, step_of, step_reply, turned_at}
 use Rattle.orch_core.proofs.Prelude.act
 use Rattle.orch_core.proofs.Prelude.turn
-use Rattle.orch_core.proofs.Turned.{Looked, IsState-taken, changes-here, ends, ends-open, found-one, here, looked-as, none-kept, observed-book, observed-place, reply-is, servers-taken, step-here}
+use Rattle.orch_core.proofs.Taking.{Takes-kept}
+use Rattle.orch_core.proofs.Turned.{Looked, IsState-taken, changes-here, ends, ends-open, found-one, here, looked-as, none-kept, observed-book, observed-place, reply-is, step-here}
 use Rattle.orch_core.proofs.engine.Engine.job_at.Goals as goal
 
 pub look-requires : goal.look-requires
@@ -46,8 +47,8 @@ returns-in_err-replies g c =
       err = search rules;
       kept = search rules;
       cause = search rules;
-      idle = (λ none. c.keep_turn.ensures.idle (items ∙ changes-here before id at j look c.self.invariant looked ∙ subst (λ (s : State). changes_of [] s (turn.Act (act.Job id)) ≡ []) (sym c.self.view_is) none));
-      calls = (λ failed none. c.keep_turn.ensures.calls (search rules) (items ∙ changes-here before id at j look c.self.invariant looked ∙ subst (λ (s : State). changes_of [] s (turn.Act (act.Job id)) ≡ []) (sym c.self.view_is) none));
+      idle = (λ silent none. c.keep_turn.ensures.keeps.idle (items ∙ changes-here before id at j look c.self.invariant looked ∙ subst (λ (s : State). changes_of [] s (turn.Act (act.Job id)) ≡ []) (sym c.self.view_is) none));
+      calls = λ failed. inr ([], λ none. c.keep_turn.ensures.keeps.calls (search rules) (items ∙ changes-here before id at j look c.self.invariant looked ∙ subst (λ (s : State). changes_of [] s (turn.Act (act.Job id)) ≡ []) (sym c.self.view_is) none));
       servers = search rules;
       nodes = search rules;
     }
@@ -94,10 +95,10 @@ returns-in_err-take_turn g c =
       err = search rules;
       kept =
           let fails : is_ok c.from_residual-in_err-take_turn.result ≡ false = search rules in
-          ap g.K.Keeper.kept (c.keep_turn.ensures.idle empty)
+          ap g.K.Keeper.kept (c.keep_turn.ensures.keeps.idle empty)
           ∙ ap (λ (made : Bool). kept_if made (g.K.Keeper.kept c.args.keeper.now) (changes_of [] c.args.self.now (turn.Act (act.Job id)))) (sym fails);
       cause = search rules;
-      idle = (λ none. c.keep_turn.ensures.idle empty);
+      idle = (λ silent none. c.keep_turn.ensures.keeps.idle empty);
       calls = search rules;
       servers = search rules;
       nodes = search rules;
@@ -141,24 +142,16 @@ returns g c =
     let closes = c.closing_of-closing.ensures in
     let items : changes_by before.book (observation_of look) ++ closing_changes before.audit now c.closing_of-closing.result ≡ changes_by before.book (observation_of look) ++ closing_changes before.audit now (ends before id at j look c.self.invariant looked) =
     ap (λ (k : Option Closing). changes_by before.book (observation_of look) ++ closing_changes before.audit now k) closes in
-    record {
-      reply =
-          let said : step_reply (step_of look) ≡ reply_of c.args.self.now (turn.Act (act.Job id)) =
-          sym (reply-is before id at j look c.self.invariant looked) ∙ ap (λ (s : State). reply_of s (turn.Act (act.Job id))) c.self.view_is in
-          subst (λ (r : Reply). AreReply c.args.written r c.in_ok-replies.replies) said c.in_ok-replies.ensures.reply;
-      ok =
-          let closed : c.close_entry.new.audit.audit ≡ closed_by before.audit c.self.inside.moment (ends before id at j look c.self.invariant looked) =
-          c.close_entry.ensures ∙ ap (closed_by before.audit c.self.inside.moment) c.closing_of-closing.ensures in
-          step-here before id at j look c.self.invariant looked c.take_turn.new.world c.take_turn.new.book c.close_entry.new.audit.audit c.take_turn.new.jobs.items c.take_turn.new.reads
-          c.in_ok-take_turn.ensures.world c.in_ok-take_turn.ensures.book closed c.in_ok-take_turn.ensures.jobs c.in_ok-take_turn.ensures.reads
-          ∙ ap (λ (s : State). step [] s (turn.Act (act.Job id))) c.self.view_is;
-      err = search rules;
-      kept =
-          c.in_ok-replies.ensures.kept ∙ ap (kept_if true (g.K.Keeper.kept c.args.keeper.now)) (items ∙ changes-here before id at j look c.self.invariant looked)
-          ∙ ap (λ (s : State). kept_if true (g.K.Keeper.kept c.args.keeper.now) (changes_of [] s (turn.Act (act.Job id)))) c.self.view_is;
-      cause = search rules;
-      idle = (λ none. c.keep_turn.ensures.idle (items ∙ changes-here before id at j look c.self.invariant looked ∙ subst (λ (s : State). changes_of [] s (turn.Act (act.Job id)) ≡ []) (sym c.self.view_is) none));
-      calls = search rules;
-      servers = servers-taken before id at j look c.self.invariant looked c.take_turn.new.world c.in_ok-take_turn.ensures.world ∙ ap (λ (s : State). length s.world.servers) c.self.view_is;
-      nodes = search rules;
-    }
+    let said : step_reply (step_of look) ≡ reply_of c.args.self.now (turn.Act (act.Job id)) =
+    sym (reply-is before id at j look c.self.invariant looked) ∙ ap (λ (s : State). reply_of s (turn.Act (act.Job id))) c.self.view_is in
+    let closed : c.close_entry.new.audit.audit ≡ closed_by before.audit c.self.inside.moment (ends before id at j look c.self.invariant looked) =
+    c.close_entry.ensures ∙ ap (closed_by before.audit c.self.inside.moment) c.closing_of-closing.ensures in
+    let kept : changes_by before.book (observation_of look) ++ closing_changes before.audit now c.closing_of-closing.result ≡ changes_of [] c.args.self.now (turn.Act (act.Job id)) =
+    items ∙ changes-here before id at j look c.self.invariant looked ∙ ap (λ (s : State). changes_of [] s (turn.Act (act.Job id))) c.self.view_is in
+    Takes-kept _ _ _ _ c.args.self.now _ (step [] c.args.self.now (turn.Act (act.Job id))) (act.Job id) (changes_of [] c.args.self.now (turn.Act (act.Job id))) (AreReply c.args.written) _ refl (λ given. refl) (λ given. refl)
+    (subst (λ (r : Reply). AreReply c.args.written r c.in_ok-replies.replies) said c.in_ok-replies.ensures.reply)
+    (step-here before id at j look c.self.invariant looked c.take_turn.new.world c.take_turn.new.book c.close_entry.new.audit.audit c.take_turn.new.jobs.items c.take_turn.new.reads
+    c.in_ok-take_turn.ensures.world c.in_ok-take_turn.ensures.book closed c.in_ok-take_turn.ensures.jobs c.in_ok-take_turn.ensures.reads
+    ∙ ap (λ (s : State). step [] s (turn.Act (act.Job id))) c.self.view_is)
+    tt (subst (λ (cs : List Change). Keeps g.K.Keeper.kept g.K.Keeper.faults c.args.keeper.now c.keep_turn.new.keeper cs (Ok c.in_ok-replies.replies)) kept c.in_ok-replies.ensures.keeps)
+    (servers-run c.args.self.now.world (job_exchanges (turned_at c.args.self.now id))) refl

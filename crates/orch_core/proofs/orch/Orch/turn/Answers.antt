@@ -1,19 +1,12 @@
-use Rattle.std.proofs.Common.{◌≡◌, ◌∙◌, ◌+◌, ◌<◌, ◌≤◌, ℕ, ◌++◌, ◌∷◌, [], List, Result, Err, length, map, ap, subst, sym, arith}
-use Rattle.orch_core.proofs.Prelude.{Calls, Recorded, Reply, StepsTo, Turn, TurnFault, err_from_is_err_and, last_poll, length-map, map-append}
+use Rattle.std.proofs.Common.{◌≡◌, ◌∙◌, ◌+◌, ◌<◌, ◌≤◌, ℕ, ◌++◌, ◌∷◌, [], List, Ok, Err, length, map, ap, subst, sym, arith}
+use Rattle.orch_core.proofs.Prelude.{Recorded, Reply, Takes, Turn, err_from_is_err_and, last_poll, length-map, map-append}
 use Rattle.orch_core.proofs.Prelude.{polled_at, recorder, reply_of, same_Some}
 use Rattle.orch_core.proofs.LastPolls.{last_poll-push}
-use Rattle.orch_core.proofs.Runs.{StepsTo-recorded}
+use Rattle.orch_core.proofs.Taking.{Takes-recorded, Takes-unrecorded}
 use Rattle.orch_core.proofs.orch.Orch.turn.Goals as goal
 
-abbrev Same : {A : Type 0} → Result A TurnFault → Result A TurnFault → Type 0
-Same x y = x ≡ y
-
-same_err : {A : Type 0} (a b : TurnFault) → Same {A = A} (Err a) (Err b) → a ≡ b
-same_err a b e = cc
-
-pub returns-clause-ok : goal.returns-clause-ok
-returns-clause-ok g c =
-    let kept = g.K.Keeper.kept c.args.keeper.now in
+pub returns : goal.returns
+returns g c =
     let journal = c.self.inside.journal.items in
     let reply = reply_of c.self.inside.engine c.args.t in
     let written : c.unwrap-written.result ≡ reply = sym (same_Some reply c.unwrap-written.result (sym c.in_ok-replies.ensures.reply.written_too ∙ c.unwrap-written.ensures)) in
@@ -21,13 +14,15 @@ returns-clause-ok g c =
     c.push_reserved.ensures.items
     ∙ ap (λ (xs : List (Turn × Reply)). xs ++ (c.args.t, c.unwrap-written.result) ∷ []) c.in_ok-reserve.ensures.items
     ∙ ap (λ (r : Reply). journal ++ (c.args.t, r) ∷ []) written in
-    subst (λ (r : Recorded). StepsTo recorder kept r c.args.t (record { state = c.replies.new.self; journal = c.push_reserved.new.self.items })) c.self.view_is
-    (StepsTo-recorded kept c.self.inside.engine c.replies.new.self journal c.push_reserved.new.self.items c.args.t c.in_ok-replies.ensures.ok joins)
+    subst (λ (r : Recorded). Takes recorder (λ x. x.state) g.K.Keeper.kept g.K.Keeper.faults c.args.keeper.now c.replies.new.keeper r c.args.t (record { state = c.replies.new.self; journal = c.push_reserved.new.self.items }) (λ r said. said ≡ r) (Ok c.in_ok-replies.replies.told)) c.self.view_is
+    (Takes-recorded _ _ _ _ c.self.inside.engine c.replies.new.self journal c.push_reserved.new.self.items c.args.t c.in_ok-replies.replies joins c.in_ok-replies.ensures)
 
-pub returns-in_err-replies-clause-calls : goal.returns-in_err-replies-clause-calls
-returns-in_err-replies-clause-calls g c =
+pub returns-in_err-replies : goal.returns-in_err-replies
+returns-in_err-replies g c =
     let p = err_from_is_err_and c.from_residual-in_err-replies.result c.from_residual-in_err-replies.ensures.1 in
-    rw (p.1, p.2) (λ failed. subst (λ (r : Recorded). Calls recorder r c.args.t) c.self.view_is (c.in_err-replies.ensures.calls (ap Err (same_err _ _ failed))))
+    rw (p.1, p.2)
+    (subst (λ (r : Recorded). Takes {R = Reply} recorder (λ x. x.state) g.K.Keeper.kept g.K.Keeper.faults c.args.keeper.now c.replies.new.keeper r c.args.t (record { state = c.replies.new.self; journal = c.reserve.new.self.items }) (λ r said. said ≡ r) (Err c.in_err-replies.field-0.0)) c.self.view_is
+    (Takes-unrecorded _ _ _ _ c.self.inside.engine c.replies.new.self c.self.inside.journal.items c.reserve.new.self.items c.args.t c.in_err-replies.field-0.0 c.in_ok-reserve.ensures.items c.in_err-replies.ensures))
 
 pub invariant_of-self-2 : goal.invariant_of-self-2
 invariant_of-self-2 g c =
