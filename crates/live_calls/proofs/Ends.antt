@@ -1,11 +1,12 @@
 -- How calls end that ask for a live run.
-pub use Rattle.top_call.proofs.Ends.{same_places as both_ok}
+pub use Rattle.top_call.proofs.Ends.{faults as plain_faults, same_places as both_ok}
+use Rattle.top_call.proofs.Ends.{complete as plain_complete, read_whole as plain_read}
 use Rattle.top_call.proofs.Reports.{unlike}
-use Rattle.std.proofs.Common.{◌≡◌, ℕ, ◌≤◌, true, false, Bool, List, [], Option, Some, None, Ok, Err, refl, sym, subst, ◌⊎◌, inl, inr, IfSome, codes}
-use Rattle.live_calls.proofs.Prelude.{AskLive, AskToDraw, Call, Consumes, Drawing, End, Entry, Fails, FailsIn, Fault, FaultsBy, Idles, IsComplete}
-use Rattle.live_calls.proofs.Prelude.{IsGood, IsLive, IsPlain, IsReported, IsTaken, LiveEnds, LiveReport, Lives, LiveTells, LiveWords, NoneRose}
+use Rattle.std.proofs.Common.{◌≡◌, ℕ, ◌≤◌, true, false, Bool, List, [], Option, Some, None, Ok, Err, refl, sym, subst, ◌⊎◌, inl, inr, IfSome, Result, codes}
+use Rattle.live_calls.proofs.Prelude.{AskLive, AskToDraw, Call, Consumes, Drawing, End, Ends, Entry, Fails, FailsIn, Fault, FaultsBy, Idles, IsComplete}
+use Rattle.live_calls.proofs.Prelude.{IsGood, IsLive, IsPlain, IsReported, IsTaken, LiveEnds, LiveReport, Lives, LiveTells, NoneRose}
 use Rattle.live_calls.proofs.Prelude.{OfRead, Own, Places, ReadsWhole, Rose, Row, RunsAlone, Scenario, Taken, Takes, TakesFront, TakesLine, Usage}
-use Rattle.live_calls.proofs.Prelude.{Way, between, call, drawing_by, drawing_of, fault_text, idles, is_live, is_live_word, live_report}
+use Rattle.live_calls.proofs.Prelude.{Way, between, call, drawing_by, drawing_of, known, fault_text, idles, is_live, is_live_word, live_report}
 use Rattle.live_calls.proofs.Prelude.{live_scenario, none_or_some, not_both, of_done, of_two, own_at, places_of, reads_at, status_of, taken_have}
 use Rattle.live_calls.proofs.Prelude.ends
 use Rattle.live_calls.proofs.Prelude.own
@@ -14,13 +15,6 @@ use Rattle.live_calls.proofs.Prelude.way
 use Rattle.live_calls.proofs.LiveScenarios.{alone_read}
 
 -- ---- the command line
-
--- the command line names `live`, if it does
-pub are_live : (words : List (List ℕ)) (o : Option Places) (p : Places) → o ≡ Some p → LiveWords words o → (places_of words ≡ Ok p) × (is_live p ≡ true)
-are_live words o p same h = subst (LiveWords words) same h
-
-pub are_plain : (words : List (List ℕ)) (o : Option Places) → o ≡ None → LiveWords words o → IsPlain words
-are_plain words o same h = subst (LiveWords words) same h
 
 not_drawn : (o : Option Own) (p : Places) → is_live_word o ≡ true → drawing_by o p ≡ None
 not_drawn None p is = refl
@@ -40,6 +34,18 @@ is_plain words p taken is = λ q other. subst (λ (x : Places). is_live x ≡ fa
 
 pub bad_is_plain : (words : List (List ℕ)) → places_of words ≡ Err usage.BadWords → IsPlain words
 bad_is_plain words bad = λ q other. absurd (not_both (places_of words) q usage.BadWords other bad)
+
+-- it names `live`, or it doesn't
+pub plain_or_live : (words : List (List ℕ)) → IsPlain words ⊎ AskLive words
+plain_or_live words = at (places_of words) refl
+  where
+    by : (p : Places) → places_of words ≡ Ok p → (b : Bool) → is_live p ≡ b → IsPlain words ⊎ AskLive words
+    by p taken true is = inr (record { places = p; taken = taken; live = is })
+    by p taken false is = inl (is_plain words p taken is)
+
+    at : (r : Result Places Usage) → places_of words ≡ r → IsPlain words ⊎ AskLive words
+    at (Ok p) taken = by p taken (is_live p) refl
+    at (Err u) bad = inl (λ q other. absurd (not_both (places_of words) q u other bad))
 
 pub live_draws_nothing : (words : List (List ℕ)) (p : Places) (d : Drawing) → places_of words ≡ Ok p → is_live p ≡ true → AskToDraw words d → ⊥
 live_draws_nothing words p d taken live ask =
@@ -134,7 +140,27 @@ complete c way.Sink sb sa kb ka ask source sink keeper ends_so good alone none =
 complete c way.Keeper sb sa kb ka ask source sink keeper ends_so good alone none = absurd (none.no_keeper (keeper refl))
 complete c way.Memory sb sa kb ka ask source sink keeper ends_so good alone none = inr (inr refl)
 
--- if the bytes are known, what follows
-pub follows : (left : Option (List ℕ)) (P Q : List ℕ → Type 0) → ((bytes : List ℕ) → P bytes → Q bytes) → IfSome left P → IfSome left Q
-follows None P Q f h = tt
-follows (Some bytes) P Q f h = f bytes h
+-- ---- of both kinds of command lines
+
+module _ (words : List (List ℕ)) (left left_now : Option (List ℕ)) (kept kept_now : Option (List Row)) (out err : End) (w : Way) (status : ℕ) (is : status ≡ status_of w)
+    (live : AskLive words → OfRead left (λ bytes. LiveEnds (call words bytes kept kept_now out err) w)) (plain : IsPlain words → OfRead left (λ bytes. Ends (call words bytes kept kept_now out err) w)) where
+  pub read_either : (IsReported w → IfSome left (λ bytes. Consumes left left_now bytes)) → IfSome left (λ bytes. ReadsWhole words bytes status left left_now)
+  read_either read = at (plain_or_live words)
+    where
+      at : IsPlain words ⊎ AskLive words → IfSome left (λ bytes. ReadsWhole words bytes status left left_now)
+      at (inl not_live) = plain_read words left left_now kept kept_now out err w status is read (plain not_live)
+      at (inr ask) = read_whole words left left_now kept kept_now out err w status is read (live ask)
+
+  pub complete_either : (sb sa kb ka : ℕ) → (w ≡ way.Source → Rose sb sa) → (w ≡ way.Sink → Rose out.old.faults out.new.faults ⊎ Rose err.old.faults err.new.faults) → (w ≡ way.Keeper → Rose kb ka)
+      → IfSome left (λ bytes. IsGood words bytes → RunsAlone words bytes → NoneRose sb sa kb ka out err → IsComplete status)
+  complete_either sb sa kb ka source sink keeper = at (plain_or_live words)
+    where
+      on_out : NoneRose sb sa kb ka out err → Rose out.old.faults out.new.faults ⊎ Rose err.old.faults err.new.faults → Rose out.old.faults out.new.faults
+      on_out none (inl rose) = rose
+      on_out none (inr rose) = absurd (none.no_err rose)
+
+      at : IsPlain words ⊎ AskLive words → IfSome left (λ bytes. IsGood words bytes → RunsAlone words bytes → NoneRose sb sa kb ka out err → IsComplete status)
+      at (inl not_live) =
+          known left _ _ (λ bytes e good alone none. subst IsComplete (sym is) (plain_complete (call words bytes kept kept_now out err) w sb sa kb ka source sink keeper e good none)) (plain not_live)
+      at (inr ask) =
+          known left _ _ (λ bytes e good alone none. subst IsComplete (sym is) (complete (call words bytes kept kept_now out err) w sb sa kb ka ask source (λ s. on_out none (sink s)) keeper e good alone none)) (live ask)

@@ -5,7 +5,7 @@ pub use Rattle.std.proofs.lemmas.Result.{err_from_is_err_and}
 pub use Rattle.std.specs.Option.{option_and_then}
 pub use Rattle.live_calls.specs.Alike.{SchedulesRunAlike, with_turns}
 pub use Rattle.live_calls.specs.Dumps.{DumpsAreOfWhatIsLeft, RefusedCommandsLeaveTheState}
-pub use Rattle.live_calls.specs.Ends.{AskLive, IsPlain, LiveEnds, Lives, LiveWords, RunsAlone}
+pub use Rattle.live_calls.specs.Ends.{AskLive, IsPlain, LiveEnds, Lives, RunsAlone}
 pub use Rattle.live_calls.specs.Prelude.{Change, Entry, Extra, FailsIn, FaultsBy, IsLive, IsQuiet, Way, across, flushes_of, is_live, reply_of}
 pub use Rattle.live_calls.specs.Prelude.{room_of, rows_after, run_answer, run_of, schedule_line, told_run, turns_in}
 unfoldable pub use Rattle.live_calls.specs.Prelude.{dump_text}
@@ -14,10 +14,10 @@ pub use Rattle.live_calls.specs.Reports.{Delivers, LiveReport, LiveTells, Ran, l
 pub use Rattle.live_calls.specs.Runs.{LiveGoesWell, live_work}
 pub use Rattle.live_desk.specs.Desks.{opening}
 pub use Rattle.live_desk.specs.Ends.{state_after}
-pub use Rattle.top_call.proofs.Ends.{bad_words, counted, each, idles, keeper_rose, known, lifted, no_usage, none_or_some, not_both, of_done, of_four}
-pub use Rattle.top_call.proofs.Ends.{of_three, of_two, reads_at, told_of_faults, undrawn, unmoved}
-pub use Rattle.top_call.proofs.Prelude.{Answer, Asked, AskToDraw, Call, Comes, Consumes, DrawEnds, Drawing, End, Ending, FailsByKeeper, Fault, Gives}
-pub use Rattle.top_call.proofs.Prelude.{Held, HostPort, Idles, IsComplete, IsGood, IsReported, IsTaken, IsUsage, LeadsTo, NoneRose, OfRead, Places}
+pub use Rattle.top_call.proofs.Ends.{counted, each, idles, keeper_rose, known, lifted, no_usage, none_or_some, not_both, of_done, of_four}
+pub use Rattle.top_call.proofs.Ends.{memory_usage, of_three, of_two, parse_bad, parse_ok, reads_at, told_of_faults, undrawn, unmoved}
+pub use Rattle.top_call.proofs.Prelude.{Answer, Asked, AskToDraw, Call, Comes, Consumes, DrawEnds, Drawing, End, Ending, FailsByKeeper, Fault, FaultsAs, Gives}
+pub use Rattle.top_call.proofs.Prelude.{Ends, Held, HostPort, Idles, IsComplete, IsGood, IsReported, IsTaken, IsUsage, LeadsTo, NoneRose, OfRead, Places}
 pub use Rattle.top_call.proofs.Prelude.{ReadFault, ReadsAs, ReadsWhole, Recorded, Rose, Row, Scenario, ServerNo, State, Taken, Takes, TakesFront}
 pub use Rattle.top_call.proofs.Prelude.{TakesLine, Task, Turn, Usage, active_in, answer_of, between, call, changed, claim_ahead, claim_without}
 pub use Rattle.top_call.proofs.Prelude.{closing, closing_by, command_as, drawing_of, fault_of, fault_text, held_run, is_alone, names_of}

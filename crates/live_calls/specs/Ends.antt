@@ -1,7 +1,7 @@
 -- How a call ends that asks for a live run.
-use Rattle.std.specs.Prelude.{◌≡◌, ℕ, ◌⊎◌, true, false, List, [], codes, IfSome, Option, Some, None, Ok, Err}
-use Rattle.live_calls.specs.Prelude.{Call, End, Entry, FailsIn, Fault, FaultsBy, Idles, IsLive, OfRead, Places, Row, Scenario, Takes, TakesFront}
-use Rattle.live_calls.specs.Prelude.{TakesLine, Way, call, fault_text, is_live, places_of, scenario_in, status_of}
+use Rattle.std.specs.Prelude.{◌≡◌, ℕ, ◌⊎◌, true, false, List, [], codes, IfSome, Option, Result, Ok, Err}
+use Rattle.live_calls.specs.Prelude.{Call, End, Ends, Entry, FailsIn, Fault, FaultsBy, Idles, IsLive, IsParse, OfRead, Places, Row, Scenario, Takes, TakesFront}
+use Rattle.live_calls.specs.Prelude.{TakesLine, Usage, Way, call, fault_text, is_live, places_of, scenario_in, status_of}
 use Rattle.live_calls.specs.Prelude.way
 use Rattle.live_calls.specs.Reads.{live_scenario}
 use Rattle.live_calls.specs.Reports.{LiveReport, live_report}
@@ -15,11 +15,6 @@ pub record AskLive (words : List (List ℕ)) : Type 0 where
   pub places : Places
   pub taken : places_of words ≡ Ok places
   pub live : is_live places ≡ true
-
--- this is it, if it names `live`
-abbrev pub LiveWords : List (List ℕ) → Option Places → Type 0
-LiveWords words None = IsPlain words
-LiveWords words (Some p) = (places_of words ≡ Ok p) × (is_live p ≡ true)
 
 -- The call's scenario was run in threads, and this holds for the report of what came of it. The report is of a journal
 -- that is a run of the scenario's opening. The journal has each of its commands once and in order, all its other turns
@@ -44,9 +39,13 @@ LiveEnds c way.Keeper = Lives c (λ r. Idles c (codes "keeper fault\n"))
 LiveEnds c way.Memory =
     Idles c (codes "out of memory\n") ⊎ Lives c (λ r. ((c.kept_now ≡ c.kept) ⊎ (c.kept_now ≡ r.kept)) × TakesFront c.out r.out × TakesLine c.err (codes "out of memory\n"))
 
--- so ends a call of any command line that these places are, over the bytes that were read
-abbrev pub LiveEndsOf : Places → Option (List ℕ) → Option (List Row) → Option (List Row) → End → End → Way → Type 0
-LiveEndsOf p left kept kept_now out err w = (words : List (List ℕ)) → places_of words ≡ Ok p → OfRead left (λ bytes. LiveEnds (call words bytes kept kept_now out err) w)
+-- so ends a call of any arguments that read so and name `live`, over the bytes that were read
+abbrev pub LiveEndsOf : Result Places Usage → Option (List ℕ) → Option (List Row) → Option (List Row) → End → End → Way → Type 0
+LiveEndsOf parsed left kept kept_now out err w = (words : List (List ℕ)) → IsParse words parsed → AskLive words → OfRead left (λ bytes. LiveEnds (call words bytes kept kept_now out err) w)
+
+-- and so of any that read so and don't
+abbrev pub PlainEndsOf : Result Places Usage → Option (List ℕ) → Option (List Row) → Option (List Row) → End → End → Way → Type 0
+PlainEndsOf parsed left kept kept_now out err w = (words : List (List ℕ)) → IsParse words parsed → IsPlain words → OfRead left (λ bytes. Ends (call words bytes kept kept_now out err) w)
 
 -- over any bytes that are this scenario
 abbrev pub LiveEndsOver : Places → Scenario → Option (List Row) → Option (List Row) → End → End → Way → Type 0

@@ -5,8 +5,8 @@ pub use Rattle.live_desk.specs.Ends.{IsLive, rows_after}
 pub use Rattle.live_desk.specs.Entries.{Entry, turns_in}
 pub use Rattle.schedules.specs.Turns.{schedule_line}
 pub use Rattle.top_call.specs.CommandLine.Places.{is_live}
-pub use Rattle.top_call.specs.Ends.{AskToDraw, Call, DrawEnds, EndsBy, FailsByKeeper, FaultsBy, FaultsOf, Idles, IsComplete, IsGood, IsReported}
-pub use Rattle.top_call.specs.Ends.{IsUsage, NoneRose, ReadsWhole, Reports, call, status_of}
+pub use Rattle.top_call.specs.Ends.{AskToDraw, Call, DrawEnds, Ends, EndsBy, FailsByKeeper, FaultsBy, FaultsOf, Idles, IfDrawn, IsComplete, IsGood, IsReported}
+pub use Rattle.top_call.specs.Ends.{IsParse, IsUsage, NoneRose, ReadsWhole, Reports, UsageOf, call, status_of}
 pub use Rattle.top_call.specs.Faults.{fault_text}
 pub use Rattle.top_call.specs.KeptRows.Keeping.{HasKeeperCause, KeepsAll}
 pub use Rattle.top_call.specs.KeptRows.Rows.{changed}
@@ -16,7 +16,7 @@ pub use Rattle.top_call.specs.OrchBase.Gives.{Gives}
 pub use Rattle.top_call.specs.OrchBase.Names.{HostPort}
 pub use Rattle.top_call.specs.Prelude.{CommandTurn, Consumes, Docket, Drawing, End, Ending, FailsIn, Fault, HasKeepersCause, IsFinish, IsQuiet}
 pub use Rattle.top_call.specs.Prelude.{IsScenario, IsTaken, Line, Places, Recorded, Recovery, Refusal, Rose, Row, Scenario, State, Takes, TakesFront}
-pub use Rattle.top_call.specs.Prelude.{TakesLine, Task, Turn, Work, across, course_of, job_at, names_of, reply_of, task_answer, task_of}
+pub use Rattle.top_call.specs.Prelude.{TakesLine, Task, Turn, Usage, Work, across, course_of, job_at, names_of, reply_of, task_answer, task_of}
 unfoldable pub use Rattle.top_call.specs.Prelude.{places_of, scenario_in}
 pub use Rattle.top_call.specs.Promises.{Promises}
 pub use Rattle.top_call.specs.Reads.{OfRead, ReadsAs}

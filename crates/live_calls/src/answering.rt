@@ -1,6 +1,6 @@
 //! What is answered to a command line that asks for a live run.
 
-ghost use Rattle.std.specs.Prelude.{◌≡◌, IfSome, true};
+ghost use Rattle.std.specs.Prelude.{◌≡◌, IfSome, Ok, true};
 ghost use Rattle.live_calls.specs.Prelude.{Consumes, IsReported, IsScenario, IsTaken, Rose, FailsByKeeper, across, is_live, status_of};
 ghost use Rattle.live_calls.specs.Ends.{LiveEndsOf, LiveEndsOver};
 
@@ -77,7 +77,8 @@ pub(crate) fn answer<
 ) -> Way
     requires words { IsTaken places.now }
     requires live { is_live places.now ≡ true }
-    ensures ends { LiveEndsOf places.now (S.left source.old) (K.kept keeper.old) (K.kept keeper.new)
+    ensures ends { LiveEndsOf (Ok places.now) (S.left source.old)
+        (K.kept keeper.old) (K.kept keeper.new)
         (across (O.written out.old) (O.faults out.old) (O.written out.new) (O.faults out.new))
         (across (E.written err.old) (E.faults err.old) (E.written err.new) (E.faults err.new))
         result }

@@ -1,40 +1,74 @@
 //! The top call.
 
-ghost use Rattle.std.specs.Prelude.{◌≡◌, ◌⊎◌, ℕ, List, map, IfOk, IfSome};
-ghost use Rattle.live_calls.specs.Prelude.{AskToDraw, ByReport, DrawEnds, Drawing, EndsAs, EndsBy, FailsByKeeper, FaultsOf, IsComplete, IsGood};
-ghost use Rattle.live_calls.specs.Prelude.{IsUsage, KeepsRows, NoneRose, OfRead, Promises, ReadsWhole, Rose, WritesErr, WritesOut, across, call};
-ghost use Rattle.live_calls.specs.Ends.{AskLive, IsPlain, LiveEndsBy, LiveFaultsOf, LiveWords, RunsAlone};
+ghost use Rattle.std.specs.Prelude.{◌≡◌, ◌⊎◌, ℕ, List, map, IfSome};
+ghost use Rattle.live_calls.specs.Prelude.{AskToDraw, ByReport, Consumes, DrawEnds, Drawing, EndsAs, EndsBy, FailsByKeeper, FaultsOf, IfDrawn, IsComplete, IsGood};
+ghost use Rattle.live_calls.specs.Prelude.{IsReported, IsUsage, KeepsRows, NoneRose, OfRead, Promises, ReadsWhole, Rose, UsageOf, WritesErr, WritesOut, across, call, status_of};
+ghost use Rattle.live_calls.specs.Ends.{AskLive, IsPlain, LiveEndsBy, LiveEndsOf, LiveFaultsOf, PlainEndsOf, RunsAlone};
 ghost use Rattle.live_calls.specs.Runs.{LiveGoesWell};
 
 use crate::answering::answer;
-use crate::command_line::{Places, Usage, places};
+use crate::command_line::Usage;
 use crate::kept_rows_items::Keeper;
-use crate::orch_base::{Gate, Memory, Sink, Source};
+use crate::orch_base::{Gate, Sink, Source};
 use std::alloc::Global;
 use std::sync::Wait;
 use std::thread::Threads;
-use top_call::{Way, close, orch_plain};
+use top_call::{Parsed, Way, close, respond};
 
-// The places of the command line, if it is accepted and asks for a live run.
-fn live_words(alloc: Global, words: &[Vec<u8>]) -> Result<Option<Places>, Memory>
-    ensures { IfOk result (LiveWords (map (λ w. w.items) words.now)) }
+// Does what a command line asks. `orch` answers its status.
+fn orch_parsed<R: Threads + Wait + Sync, G: Gate + Sync, S: Source, O: Sink, E: Sink, K: Keeper>(
+    rt: &R,
+    alloc: Global,
+    parsed: &Parsed,
+    source: &mut S,
+    out: &mut O,
+    err: &mut E,
+    keeper: &mut K,
+    gate: &G,
+) -> Way
+    ensures live { LiveEndsOf parsed.now (S.left source.old)
+        (K.kept keeper.old) (K.kept keeper.new)
+        (across (O.written out.old) (O.faults out.old) (O.written out.new) (O.faults out.new))
+        (across (E.written err.old) (E.faults err.old) (E.written err.new) (E.faults err.new))
+        result }
+    ensures ends { PlainEndsOf parsed.now (S.left source.old)
+        (K.kept keeper.old) (K.kept keeper.new)
+        (across (O.written out.old) (O.faults out.old) (O.written out.new) (O.faults out.new))
+        (across (E.written err.old) (E.faults err.old) (E.written err.new) (E.faults err.new))
+        result }
+    ensures usage { UsageOf parsed.now (status_of result) }
+    ensures source { result ≡ Way.Source → Rose (S.faults source.old) (S.faults source.new) }
+    ensures sink { result ≡ Way.Sink → Rose (O.faults out.old) (O.faults out.new)
+        ⊎ Rose (E.faults err.old) (E.faults err.new) }
+    ensures keeper { FailsByKeeper (K.faults keeper.old) (K.faults keeper.new) (status_of result) }
+    ensures read { IsReported result
+        → IfSome (S.left source.old)
+        (λ bytes. Consumes (S.left source.old) (S.left source.new) bytes) }
+    ensures drawn { IfDrawn parsed.now (λ d. DrawEnds d (status_of result)
+        (across (O.written out.old) (O.faults out.old) (O.written out.new) (O.faults out.new))
+        (across (E.written err.old) (E.faults err.old) (E.written err.new) (E.faults err.new))) }
+    ensures unread { IfDrawn parsed.now (λ d. source.new ≡ source.old) }
+    ensures unkept { IfDrawn parsed.now (λ d. keeper.new ≡ keeper.old) }
 {
-    match places(alloc, words) {
+    match parsed.places() {
         Ok(places) => {
             if places.is_live() {
-                Ok(Some(places))
+                answer(rt, alloc, places, source, out, err, keeper, gate)
             } else {
-                Ok(None)
+                respond(alloc, parsed, source, out, err, keeper)
             }
         }
-        Err(Usage::BadWords) => Ok(None),
-        Err(Usage::Memory) => Err(Memory),
+        Err(Usage::BadWords) => respond(alloc, parsed, source, out, err, keeper),
+        Err(Usage::Memory) => {
+            close(err, b"out of memory\n");
+            Way::Memory
+        }
     }
 }
 
 /// Does what the command line asks with the scenario that the source has. Writes the report on out and what went wrong
-/// on err, and answers the program's status. A command line that doesn't name `live` is done by `orch_plain`, which
-/// waits for no other thread.
+/// on err, and answers the program's status. A command line that doesn't name `live` is done as by `orch_plain`,
+/// and waits for no other thread.
 ///
 /// For `live`, the scenario is run by threads over a book in memory: a driver, pollers and workers. Each of them passes
 /// the gate before each of its turns. Its last rows are then kept by one call, over those that the row store has. After
@@ -138,14 +172,6 @@ pub fn orch<R: Threads + Wait + Sync, G: Gate + Sync, S: Source, O: Sink, E: Sin
     // So it is in a live run, whatever turns its threads take.
     ensures well { (bytes : List ℕ) → LiveGoesWell (map (λ w. w.items) words.now) bytes }
 {
-    match live_words(alloc, words) {
-        Ok(Some(places)) => {
-            answer(rt, alloc, &places, scenario, out, err, keeper, gate).status()
-        }
-        Ok(None) => orch_plain(alloc, words, scenario, out, err, keeper),
-        Err(_) => {
-            close(err, b"out of memory\n");
-            Way::Memory.status()
-        }
-    }
+    let parsed = Parsed::read(alloc, words);
+    orch_parsed(rt, alloc, &parsed, scenario, out, err, keeper, gate).status()
 }

@@ -1,6 +1,7 @@
 //! Servers' names by their numbers.
 
-ghost use Rattle.std.specs.Prelude.{◌≡◌, ◌++◌, IfOk, OnOk};
+ghost use Rattle.std.specs.Prelude.{◌≡◌, ◌++◌, IfOk, OnOk, map};
+ghost use Rattle.server_words.specs.OrchBase.Names.{printed};
 ghost use Rattle.report_text.specs.Names.{name_text, given_text};
 
 use crate::orch_base::{Memory, Name, ServerNo};
@@ -10,7 +11,7 @@ use std::marker::Model;
 /// Servers' names, each printed once, so that many texts append them.
 #[derive(Drop)]
 pub struct PrintedNames<'a> {
-    names: &'a [Name],
+    names: Vec<&'a Name>,
     texts: Vec<Vec<u8>>,
 }
 
@@ -20,9 +21,24 @@ impl<'a> Model for PrintedNames<'a> {
 
     ghost Value = { List HostPort };
 
-    ghost view = { λ p. p.names.now };
+    ghost view = { λ p. map (λ n. n.now) p.names.items };
 
-    ghost invariant = { λ p. map (λ t. t.items) p.texts.items ≡ map printed p.names.now };
+    ghost invariant = { λ p. map (λ t. t.items) p.texts.items
+        ≡ map printed (map (λ n. n.now) p.names.items) };
+}
+
+// Each of these names as it is printed, in order.
+fn printed_each(alloc: Global, names: &[&Name]) -> Result<Vec<Vec<u8>>, Memory>
+    ensures { IfOk result (λ texts. map (λ t. t.items) texts.items
+        ≡ map printed (map (λ n. n.now) names.now)) }
+{
+    let mut texts = Vec::with_capacity(alloc, names.len())?;
+    for name in names {
+        let mut text = Vec::new(alloc);
+        name.print(&mut text)?;
+        texts.push(text)?;
+    }
+    Ok(texts)
 }
 
 impl<'a> PrintedNames<'a> {
@@ -30,12 +46,14 @@ impl<'a> PrintedNames<'a> {
     pub fn new(alloc: Global, names: &'a [Name]) -> Result<PrintedNames<'a>, Memory>
         ensures { IfOk result (λ p. p ≡ names.now) }
     {
-        let mut texts = Vec::with_capacity(alloc, names.len())?;
-        for name in names {
-            let mut text = Vec::new(alloc);
-            name.print(&mut text)?;
-            texts.push(text)?;
-        }
+        PrintedNames::of(alloc, names.iter().collect(alloc)?)
+    }
+
+    /// Prints each of these names, which are borrowed one by one, in order.
+    pub(crate) fn of(alloc: Global, names: Vec<&'a Name>) -> Result<PrintedNames<'a>, Memory>
+        ensures { IfOk result (λ p. p ≡ map (λ n. n.now) names.entry.items) }
+    {
+        let texts = printed_each(alloc, &names)?;
         Ok(PrintedNames { names, texts })
     }
 }

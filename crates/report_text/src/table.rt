@@ -1,6 +1,6 @@
 //! The tables.
 
-ghost use Rattle.std.specs.Prelude.{◌≡◌, ◌++◌, ◌<◌, [], length, IfOk, OnOk, OnErr};
+ghost use Rattle.std.specs.Prelude.{◌≡◌, ◌++◌, ◌<◌, [], length, map, IfOk, OnOk, OnErr};
 ghost use Rattle.std.specs.Option.{option_copied};
 ghost use Rattle.server_model.specs.Worlds.{server_at};
 ghost use Rattle.report_text.specs.Told.{told_lines};
@@ -181,12 +181,12 @@ fn print_jobs(jobs: &[u64], out: &mut Vec<u8>) -> Result<(), Memory>
 }
 
 // The servers' names, in order.
-fn names_in(alloc: Global, world: &World) -> Result<Vec<Name>, Memory>
-    ensures { IfOk result (λ names. names.items ≡ names_in world.now) }
+fn names_in(alloc: Global, world: &World) -> Result<Vec<&Name>, Memory>
+    ensures { IfOk result (λ names. map (λ n. n.now) names.items ≡ names_in world.now) }
 {
     let mut names = Vec::new(alloc);
     for no in 0..world.servers() {
-        names.push(world.settings(ServerNo(no)).name.copy(alloc)?)?;
+        names.push(&world.settings(ServerNo(no)).name)?;
     }
     Ok(names)
 }
@@ -196,8 +196,7 @@ fn print_recoveries(world: &World, lines: &[Line], out: &mut Vec<u8>) -> Result<
         ++ told_lines [] (names_in world.now) lines.now) }
 {
     let alloc = *out.allocator();
-    let names = names_in(alloc, world)?;
-    let names = PrintedNames::new(alloc, &names)?;
+    let names = PrintedNames::of(alloc, names_in(alloc, world)?)?;
     print_told_lines(b"", lines, &names, out)
 }
 

@@ -52,7 +52,7 @@ pub use Rattle.orch_core.proofs.Comes.{Comes, IsAskedFor, asked-can, asked-next,
 pub use Rattle.orch_core.proofs.Comes as comes
 pub use Rattle.orch_core.proofs.CommandOutcomes.Begun.{job-ready}
 pub use Rattle.orch_core.proofs.FailureAnalysis.Counting.{first-part, tally-parts}
-pub use Rattle.orch_core.proofs.FailureAnalysis.Rows.{action-of}
+pub use Rattle.orch_core.proofs.FailureAnalysis.Rows.{action-of, row-code}
 pub use Rattle.orch_core.proofs.Finishing.{fewer}
 pub use Rattle.orch_core.proofs.InstanceKeeper.BookLaws.{first, last, second, third, to_third}
 pub use Rattle.orch_core.proofs.InstanceKeeper.Books.{change_is, empty_is, known_at, leases_set, put_is, rings_set}

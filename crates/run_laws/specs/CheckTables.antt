@@ -1,6 +1,6 @@
 -- Checks of the permission table, the codes of an analysis and block periods, as the tables have them.
 use Rattle.std.specs.Prelude.{◌≡◌, ◌<◌, ◌⊎◌, ◌==◌, ℕ, Bool, true, false, not, All, Contains, List, [], ◌∷◌, ◌++◌, filter, map, None, Some}
-use Rattle.run_laws.specs.Prelude.{Block, BookState, Case, Check, Code, Counts, Instance, Move, Refusal, Server, ServerNo, Version, World}
+use Rattle.run_laws.specs.Prelude.{AreCounts, Attached, Block, BookState, Case, Check, Code, Counts, Detached, Instance, Move, Refusal, Server, ServerNo, SourceState, Version, World}
 use Rattle.run_laws.specs.Prelude.{CoordsCommand, GtidCommand, MatchCommand, PathCommand, check_number, coords_row, gtid_row, match_last, match_row}
 use Rattle.run_laws.specs.Prelude.{path_last, path_row, takeover_row}
 use Rattle.run_laws.specs.Prelude.{code_of, instance_at, lease_at, period_in, refusal_in, server_at}
@@ -51,14 +51,58 @@ pub record RefusesLeased (w : World) (b : BookState) (c : Case) : Type 0 where
   pub passes : refusal_in w b c check.Busy ≡ None → (n : ServerNo) → Contains c.leased n → lease_at b n ≡ None
   pub refuses : (r : Refusal) → refusal_in w b c check.Busy ≡ Some r → (n : ServerNo) × (job : ℕ) × Contains c.leased n × (lease_at b n ≡ Some job) × (r ≡ refusal.Busy n job)
 
--- A server that moves has another server id than its new source, and no lower version. New sources write a binary log.
--- The last readings of the servers that must be reached reached them.
+-- one over the case passes only if this isn't so, and else it is
+pub record RefusesCase (w : World) (b : BookState) (c : Case) (k : Check) (Q : Type 0) (of : Refusal) : Type 0 where
+  pub passes : refusal_in w b c k ≡ None → Q → ⊥
+  pub refuses : (r : Refusal) → refusal_in w b c k ≡ Some r → (r ≡ of) × Q
+
+-- the book has it below this one, attached or detached
+abbrev pub IsFrom : SourceState → ServerNo → Type 0
+IsFrom s x = (s ≡ Attached x) ⊎ (s ≡ Detached x)
+
+-- the source that the book has of it; of a server that it doesn't have it has none
+pub record HasSource (b : BookState) (n x : ServerNo) : Type 0 where
+  pub instance : Instance
+  pub there : instance_at b n ≡ Some instance
+  pub source : IsFrom instance.seen.source x
+
+-- by the book it is attached to this one, or detached
+pub record IsSeenSo (Q : SourceState → Type 0) (b : BookState) (n : ServerNo) : Type 0 where
+  pub instance : Instance
+  pub there : instance_at b n ≡ Some instance
+  pub source : Q instance.seen.source
+
+abbrev pub IsAttachedTo : BookState → ServerNo → ServerNo → Type 0
+IsAttachedTo b n x = IsSeenSo (λ s. s ≡ Attached x) b n
+
+-- the destination is attached to the instance's source
+pub record IsSibling (b : BookState) (c : Case) : Type 0 where
+  pub source : ServerNo
+  pub destination : ServerNo
+  pub given : c.to ≡ Some destination
+  pub below : HasSource b c.i source
+  pub beside : IsAttachedTo b destination source
+
+-- A server that moves has another server id than its new source, no lower version, and the same label. New sources
+-- write a binary log, and so does a server that must be matched. The last readings of the servers that must be reached
+-- reached them. What the book has of the instance's source, of that one's source and of the destination's is as it must
+-- be.
 pub record ChecksByTable (w : World) (b : BookState) (c : Case) : Type 0 where
   pub ids : RefusesMoves (λ s t. s.settings.server_id ≡ t.settings.server_id) w b c check.SameServerId (λ n. refusal.SameServerId n)
   pub versions : RefusesMoves (λ s t. IsLower s.settings.version t.settings.version) w b c check.VersionLower (λ n. refusal.VersionLower n)
+  pub labels : RefusesMoves (λ s t. s.settings.cluster ≡ t.settings.cluster → ⊥) w b c check.OtherCluster (λ n. refusal.OtherCluster)
+  pub moved : RefusesMoves (λ s t. s.settings.logs ≡ false) w b c check.MovedNotLogging (λ n. refusal.MovedNotLogging n)
   pub logs : RefusesServers (Logs w) w b c check.DestNotLogging c.sources (λ n. refusal.DestNotLogging)
   pub reached : RefusesServers (WasReached b) w b c check.Unreachable c.reached (λ n. refusal.Unreachable n)
   pub leases : RefusesLeased w b c
+  pub same : RefusesCase w b c check.SameInstance (c.to ≡ Some c.i) refusal.SameInstance
+  pub source : RefusesCase w b c check.NoSource ((x : ServerNo) → HasSource b c.i x → ⊥) refusal.NoSource
+  pub attached : RefusesCase w b c check.NotDetached ((x : ServerNo) × IsAttachedTo b c.i x) refusal.NotDetached
+  pub detached : RefusesCase w b c check.AlreadyDetached ((x : ServerNo) × IsSeenSo (λ s. s ≡ Detached x) b c.i) refusal.AlreadyDetached
+  pub above : RefusesCase w b c check.SourceHasNoSource ((x y : ServerNo) → HasSource b c.i x → IsAttachedTo b x y → ⊥) refusal.SourceHasNoSource
+  pub sibling : RefusesCase w b c check.NotSibling (IsSibling b c → ⊥) refusal.NotSibling
+  pub own : RefusesCase w b c check.NotSameLog ((x : ServerNo) → HasSource b c.i x → c.to ≡ Some x → ⊥) refusal.NotSameLog
+  pub gtid : RefusesCase w b c check.GtidOff (w.gtid ≡ false) refusal.GtidOff
 
 -- ---- rows
 
@@ -157,8 +201,10 @@ CodeSays code.UnreachableIntermediateMasterWithLaggingReplicas c = Is c true fal
 CodeSays code.UnreachableIntermediateMaster c = Is c true false × (0 < c.replicating) × (c.lagging < c.replicating)
 CodeSays code.NoProblem c = Unit {0}
 
-abbrev pub CodesByTable : Type 0
-CodesByTable = (c : Counts) → CodeSays (code_of c) c
+-- an analysis gives the code that reports what was counted
+pub record CodesByTable : Type 0 where
+  pub says : (c : Counts) → CodeSays (code_of c) c
+  pub found : (c : Counts) (k : Code) → AreCounts c → CodeSays k c → (k ≡ code.NoProblem) ⊎ (code_of c ≡ k)
 
 -- ---- block periods
 

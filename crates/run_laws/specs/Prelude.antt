@@ -35,9 +35,11 @@ pub use Rattle.orch_core.specs.Commands.declared.route.Planner.{Planner}
 pub use Rattle.orch_core.specs.Commands.declared.route.Planner.TheVariants.{Coordinates, Gtids, Matches, Paths}
 pub use Rattle.orch_core.specs.Commands.declared.route.Route.TheVariants
 pub use Rattle.orch_core.specs.FailureAnalysis.Analysis.{counts_of, is_replica_that, lags, replicates}
-pub use Rattle.orch_core.specs.FailureAnalysis.Table.{code_of}
+pub use Rattle.orch_core.specs.FailureAnalysis.Table.{AreCounts, code_of}
 pub use Rattle.orch_core.specs.FailureAnalysis.declared.code.Counts.{Counts}
 pub use Rattle.orch_core.specs.OrchBase.declared.code.Code.TheVariants as code
+pub use Rattle.orch_core.specs.OrchBase.declared.server.SourceState.{SourceState}
+pub use Rattle.orch_core.specs.OrchBase.declared.server.SourceState.TheVariants.{Detached}
 pub use Rattle.orch_core.specs.OrchBase.declared.server.Version.{Version}
 pub use Rattle.orch_core.specs.Permission.Checks.{Case, check_number, refusal_by as refusal_in}
 pub use Rattle.orch_core.specs.Permission.declared.case.Check.{Check}

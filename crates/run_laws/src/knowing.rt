@@ -64,10 +64,10 @@ pub fn jobs_wait_as_told()
 ///   they are. Its receiver is connected exactly if it is on, its source is up, and it reaches that one.
 /// - The plan of each command except stop-replica starts each server again that it stops. Its last change of source
 ///   takes each server of its lines to the source that the line names.
-/// - Each plan and takeover has the checks of the permission table. Those of server ids, versions, binary logs,
-///   readings and leases refuse exactly what the table has.
-/// - A code of the analysis reports what was counted. A cluster has the block period of its first entry. The plan of
-///   enable-gtid takes its instance below its source by GTIDs.
+/// - Each plan and takeover has the checks of the permission table. They refuse exactly what the table has, except
+///   those of the forest, of GTID sets, of purged files and of missing marks, which aren't in it.
+/// - An analysis gives the code that reports what was counted. A cluster has the block period of its first entry. The
+///   plan of enable-gtid takes its instance below its source by GTIDs.
 pub fn tables_hold_row_by_row()
     ensures counts { (i : AnInstance) → CountsReplicas i }
     ensures instances { (b : BookState) (n : Number) (i : AnInstance) → CountsByInstances b n i }

@@ -1,10 +1,10 @@
 -- How calls end.
-use Rattle.std.proofs.Common.{◌≡◌, ◌∙◌, ℕ, ◌≤◌, true, false, List, [], Option, Some, None, Ok, Err, refl, sym, ap, subst, arith, ◌⊎◌, inl, inr, IfSome, codes, Result}
+use Rattle.std.proofs.Common.{◌≡◌, ◌∙◌, ℕ, ◌≤◌, true, false, List, [], Option, Some, None, Ok, Err, refl, sym, ap, subst, arith, ◌⊎◌, inl, inr, IfOk, IfSome, codes, Result}
 use Rattle.top_call.proofs.Prelude.{AskARead, AskOfRead, Asks, AskToDraw, Call, Closes, Consumes, DrawEnds, Drawing, End, Ending, Ends, Fault}
-use Rattle.top_call.proofs.Prelude.{FaultsAs, FaultsFor, Gives, HasKeepersCause, Idles, IsComplete, IsDrawn, IsGood, IsReported, IsTaken, IsUsage}
+use Rattle.top_call.proofs.Prelude.{FaultsAs, FaultsFor, HasKeepersCause, Idles, IsComplete, IsDrawn, IsGood, IsParse, IsReported, IsTaken, IsUsage}
 use Rattle.top_call.proofs.Prelude.{NoneRose, OfRead, Places, ReadsWhole, Rose, Row, Scenario, FailsByKeeper, Taken, TakesLine, Tells, Usage, Way}
 use Rattle.top_call.proofs.Prelude.{Work, between, call, drawing_of, drawn_text, fault_text, names_of, nothing_is_front, places_of}
-use Rattle.top_call.proofs.Prelude.{same_Some, scenario_in, status_of, taken, taken_have, takes_nothing, task_of, usage_fault}
+use Rattle.top_call.proofs.Prelude.{same_Some, scenario_in, status_of, taken, taken_have, takes_nothing, task_of}
 use Rattle.top_call.proofs.Prelude.ends
 use Rattle.top_call.proofs.Prelude.usage
 use Rattle.top_call.proofs.Prelude.way
@@ -261,9 +261,9 @@ not_both (Err d) x e good bad = absurd cc
 sound : (bytes : List ℕ) (s : Scenario) (f : Fault) → scenario_in bytes ≡ Ok s → scenario_in bytes ≡ Err f → ⊥
 sound bytes s f read_as fault_as = not_both (scenario_in bytes) s f read_as fault_as
 
-module _ (c : Call) (p : Places) (taken_as : places_of c.words ≡ Ok p) where
-  taken_twice : places_of c.words ≡ Err usage.BadWords → ⊥
-  taken_twice bad = not_both (places_of c.words) p usage.BadWords taken_as bad
+module _ (c : Call) where
+  taken_twice : (p : Places) → places_of c.words ≡ Ok p → places_of c.words ≡ Err usage.BadWords → ⊥
+  taken_twice p taken_as bad = not_both (places_of c.words) p usage.BadWords taken_as bad
 
   fault_back : (w : Way) → Ends c w → w ≡ way.Fault → (f : Fault) × (scenario_in c.bytes ≡ Err f)
   fault_back w ends_so is = let at : Ends c way.Fault = subst (Ends c) is ends_so in (at.1.0, at.1.1)
@@ -271,7 +271,7 @@ module _ (c : Call) (p : Places) (taken_as : places_of c.words ≡ Ok p) where
   fault_on : (w : Way) (f : Fault) → AskARead c.words → Ends c w → scenario_in c.bytes ≡ Err f → (status_of w ≡ 2) ⊎ (status_of w ≡ 3) ⊎ (status_of w ≡ 6)
   fault_on (way.Reported refused) f ask ends_so fault_as = absurd (sound c.bytes ends_so.work.scenario f ends_so.asks.is.read fault_as)
   fault_on way.Drawn f ask ends_so fault_as = absurd (never_both c.words ends_so.drawing ask ends_so.asks)
-  fault_on way.Usage f ask ends_so fault_as = absurd (taken_twice ends_so.0)
+  fault_on way.Usage f ask ends_so fault_as = absurd (taken_twice ask.0 ask.1 ends_so.0)
   fault_on way.Fault f ask ends_so fault_as = inl refl
   fault_on way.Source f ask ends_so fault_as = inr (inl refl)
   fault_on way.Sink f ask (inl closes) fault_as = absurd (sound c.bytes closes.work.scenario f closes.asks.is.read fault_as)
@@ -279,21 +279,31 @@ module _ (c : Call) (p : Places) (taken_as : places_of c.words ≡ Ok p) where
   fault_on way.Keeper f ask ends_so fault_as = absurd (sound c.bytes ends_so.work.scenario f ends_so.asks.is.read fault_as)
   fault_on way.Memory f ask ends_so fault_as = inr (inr refl)
 
-  faults_for : (w : Way) (o : Option Drawing) → drawing_of p ≡ o → Ends c w → FaultsFor o (scenario_in c.bytes) (status_of w)
-  faults_for w None is ends_so = record {
+  faults_for : (p : Places) → places_of c.words ≡ Ok p → (w : Way) (o : Option Drawing) → drawing_of p ≡ o → Ends c w → FaultsFor o (scenario_in c.bytes) (status_of w)
+  faults_for p taken_as w None is ends_so = record {
     only = λ two. fault_back w ends_so (of_two w two);
     always = λ f fault_as. fault_on w f (p, taken_as, is) ends_so fault_as;
   }
-  faults_for w (Some d) is ends_so = λ two. let at : Ends c way.Fault = subst (Ends c) (of_two w two) ends_so in never_both c.words d at.0 (p, taken_as, is)
+  faults_for p taken_as w (Some d) is ends_so = λ two. let at : Ends c way.Fault = subst (Ends c) (of_two w two) ends_so in never_both c.words d at.0 (p, taken_as, is)
 
   pub faults : (w : Way) → Ends c w → FaultsAs (places_of c.words) (scenario_in c.bytes) (status_of w)
-  faults w ends_so = subst (λ (r : Result Places Usage). FaultsAs r (scenario_in c.bytes) (status_of w)) (sym taken_as) (faults_for w (drawing_of p) refl ends_so)
+  faults w ends_so = at (places_of c.words) refl
+    where
+      at : (r : Result Places Usage) → places_of c.words ≡ r → FaultsAs r (scenario_in c.bytes) (status_of w)
+      at (Ok p) is = faults_for p is w (drawing_of p) refl ends_so
+      at (Err u) is = λ two. let fault : Ends c way.Fault = subst (Ends c) (of_two w two) ends_so in not_both (places_of c.words) fault.0.0 u fault.0.1 is
 
 pub no_usage : (words : List (List ℕ)) (p : Places) (w : Way) → places_of words ≡ Ok p → (w ≡ way.Usage → ⊥) → IsUsage words (status_of w)
 no_usage words p w taken_as other = record {
   only = λ one. absurd (other (of_one w one));
   always = λ bad. absurd (not_both (places_of words) p usage.BadWords taken_as bad);
 }
+
+pub bad_usage : (words : List (List ℕ)) → places_of words ≡ Err usage.BadWords → IsUsage words 1
+bad_usage words bad = record { only = λ one. bad; always = λ bad. inl refl }
+
+pub memory_usage : (words : List (List ℕ)) → IsUsage words 6
+memory_usage words = record { only = λ one. absurd (omega (arith, one)); always = λ bad. inr refl }
 
 pub complete : (c : Call) (w : Way) (sb sa kb ka : ℕ) → (w ≡ way.Source → Rose sb sa) → (w ≡ way.Sink → Rose c.out.old.faults c.out.new.faults ⊎ Rose c.err.old.faults c.err.new.faults) → (w ≡ way.Keeper → Rose kb ka) → Ends c w → IsGood c.words c.bytes
     → NoneRose sb sa kb ka c.out c.err → IsComplete (status_of w)
@@ -313,10 +323,17 @@ complete c way.Sink sb sa kb ka source sink keeper ends_so good none = absurd (n
 complete c way.Keeper sb sa kb ka source sink keeper ends_so good none = absurd (none.no_keeper (keeper refl))
 complete c way.Memory sb sa kb ka source sink keeper ends_so good none = inr (inr refl)
 
--- ---- they aren't
+-- ---- what was read of it is handed on
 
-pub bad_words : (words : List (List ℕ)) (u : Usage) → u ≡ usage.BadWords → Gives {X = Places} {Y = Places} (λ p. p) usage_fault (Err u) (places_of words) → places_of words ≡ Err usage.BadWords
-bad_words words u is h = rw is at h
+pub parse_ok : (words : List (List ℕ)) (r : Result Places Usage) (p : Places) → r ≡ Ok p → IsParse words r → places_of words ≡ Ok p
+parse_ok words r p is h = subst (IsParse words) is h
+
+pub parse_bad : (words : List (List ℕ)) (r : Result Places Usage) → r ≡ Err usage.BadWords → IsParse words r → places_of words ≡ Err usage.BadWords
+parse_bad words r is h = subst (IsParse words) is h
+
+pub parse_taken : (words : List (List ℕ)) (r : Result Places Usage) → IsParse words r → IfOk r IsTaken
+parse_taken words (Ok p) h = (words, h)
+parse_taken words (Err u) h = tt
 
 pub not_asked : (words : List (List ℕ)) (d : Drawing) → places_of words ≡ Err usage.BadWords → AskToDraw words d → ⊥
 not_asked words d bad ask = not_both (places_of words) ask.0 usage.BadWords ask.1 bad

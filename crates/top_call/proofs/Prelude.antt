@@ -1,6 +1,5 @@
 -- What its proofs cite of others.
 pub use Rattle.std.proofs.lemmas.List.Elements.{All-take}
-pub use Rattle.command_line.specs.Usages.{usage_fault}
 pub use Rattle.command_line.specs.declared.usage.Usage.TheVariants as usage
 pub use Rattle.recovery_runs.proofs.Booking.{books-comes}
 pub use Rattle.recovery_runs.proofs.Ended.{failure-comes}
@@ -70,7 +69,7 @@ pub use Rattle.tasks.specs.declared.asked.Asked.{Asked}
 pub use Rattle.tasks.specs.declared.asked.Asked.TheVariants as asked
 pub use Rattle.tasks.specs.declared.ending.Ending.TheVariants as ends
 pub use Rattle.top_call.specs.Ends.{AskARead, Asks, AskToDraw, Call, Closes, DrawEnds, Ends, EndsBy, FailsByKeeper, FaultsAs, FaultsFor, Idles}
-pub use Rattle.top_call.specs.Ends.{IsComplete, IsGood, IsReported, IsTask, IsUsage, NoneRose, ReadsWhole, call, drawn_text, status_of}
+pub use Rattle.top_call.specs.Ends.{IsComplete, IsGood, IsParse, IsReported, IsTask, IsUsage, NoneRose, ReadsWhole, call, drawn_text, status_of}
 pub use Rattle.top_call.specs.Faults.{fault_text}
 pub use Rattle.top_call.specs.Prelude.{Consumes, Docket, Drawing, Ending, HasKeepersCause, IsClaimRow, IsDrawn, IsFinish, IsOnOwn, IsOnTurns}
 pub use Rattle.top_call.specs.Prelude.{IsRising, IsScenario, Line, Recovery, TakesLine, Task, Usage, claim_key, drawing_of, row_in, task_of}

@@ -1,8 +1,8 @@
 -- How a call ends.
 use Rattle.std.specs.Prelude.{◌≡◌, ℕ, ◌≤◌, ◌⊎◌, ⊤, Bool, List, [], codes, if◌then◌else◌, IfSome, Option, Some, None, Result, Ok, Err}
-use Rattle.top_call.specs.Prelude.{AskOfRead, BadWords, Consumes, Drawing, End, Ending, Fails, FailsIn, Fault, IsWritten, Places, Rose, Row, Scenario}
+use Rattle.top_call.specs.Prelude.{AskOfRead, BadWords, Consumes, Drawing, End, Ending, Fails, FailsIn, Fault, Gives, IsWritten, Places, Rose, Row, Scenario}
 use Rattle.top_call.specs.Prelude.{Taken, Takes, TakesFront, TakesLine, Tells, Usage, Work, between, course_of, drawing_of, names_of}
-use Rattle.top_call.specs.Prelude.{places_of, scenario_in, scenario_text, task_of}
+use Rattle.top_call.specs.Prelude.{places_of, scenario_in, scenario_text, task_of, usage_fault}
 use Rattle.top_call.specs.Prelude.ends
 use Rattle.top_call.specs.Faults.{fault_text}
 use Rattle.top_call.specs.Reads.{OfRead}
@@ -68,6 +68,10 @@ pub record Reports (c : Call) (refused : Bool) : Type 0 where
   pub asks : Asks c work
   pub written : IsWritten (course_of work) c.out c.err refused
 
+-- so read these arguments, unless memory ran out
+abbrev pub IsParse : List (List ℕ) → Result Places Usage → Type 0
+IsParse words parsed = Gives (λ p. p) usage_fault parsed (places_of words)
+
 -- the command line is accepted, and asks something of a scenario that is read
 abbrev pub AskARead : List (List ℕ) → Type 0
 AskARead words = (p : Places) × (places_of words ≡ Ok p) × AskOfRead p
@@ -75,6 +79,10 @@ AskARead words = (p : Places) × (places_of words ≡ Ok p) × AskOfRead p
 -- the command line is accepted, and asks to draw this scenario
 abbrev pub AskToDraw : List (List ℕ) → Drawing → Type 0
 AskToDraw words d = (p : Places) × (places_of words ≡ Ok p) × (drawing_of p ≡ Some d)
+
+-- what holds of the scenario that any arguments that read so ask to draw
+abbrev pub IfDrawn : Result Places Usage → (Drawing → Type 0) → Type 0
+IfDrawn parsed P = (words : List (List ℕ)) (d : Drawing) → IsParse words parsed → AskToDraw words d → P d
 
 -- the text of a scenario that is drawn
 abbrev pub drawn_text : Drawing → List ℕ
@@ -109,9 +117,9 @@ DrawEnds d status out err =
     ⊎ ((status ≡ 4) × FailsIn out (drawn_text d) × TakesLine err (codes "write fault\n"))
     ⊎ ((status ≡ 6) × TakesFront out (drawn_text d) × TakesLine err (codes "out of memory\n"))
 
--- so ends a call of any command line that these places are, over the bytes that were read
-abbrev pub EndsOf : Places → Option (List ℕ) → Option (List Row) → Option (List Row) → End → End → Way → Type 0
-EndsOf p left kept kept_now out err w = (words : List (List ℕ)) → places_of words ≡ Ok p → OfRead left (λ bytes. Ends (call words bytes kept kept_now out err) w)
+-- so ends a call of any arguments that read so, over the bytes that were read
+abbrev pub EndsOf : Result Places Usage → Option (List ℕ) → Option (List Row) → Option (List Row) → End → End → Way → Type 0
+EndsOf parsed left kept kept_now out err w = (words : List (List ℕ)) → IsParse words parsed → OfRead left (λ bytes. Ends (call words bytes kept kept_now out err) w)
 
 -- over any bytes that are this scenario
 abbrev pub EndsOver : Places → Scenario → Option (List Row) → Option (List Row) → End → End → Way → Type 0
@@ -138,6 +146,10 @@ EndsBy c status = (w : Way) × (status ≡ status_of w) × Ends c w
 pub record IsUsage (words : List (List ℕ)) (status : ℕ) : Type 0 where
   pub only : status ≡ 1 → places_of words ≡ Err BadWords
   pub always : places_of words ≡ Err BadWords → (status ≡ 1) ⊎ (status ≡ 6)
+
+-- so it is for any arguments that read so
+abbrev pub UsageOf : Result Places Usage → ℕ → Type 0
+UsageOf parsed status = (words : List (List ℕ)) → IsParse words parsed → IsUsage words status
 
 -- 2 exactly if what is read is a fault, unless the source failed or memory ran out
 pub record FaultsBy (read : Result Scenario Fault) (status : ℕ) : Type 0 where

@@ -1,6 +1,7 @@
 -- What this crate's definitions and contracts cite of others.
 pub use Rattle.std.specs.Io.KnownBytes.{Consumes}
 pub use Rattle.command_line.specs.Taken.{IsDrawn}
+pub use Rattle.command_line.specs.Usages.{usage_fault}
 pub use Rattle.command_line.specs.declared.parts.Drawing.{Drawing}
 pub use Rattle.command_line.specs.declared.usage.Usage.{Usage}
 pub use Rattle.command_line.specs.declared.usage.Usage.TheVariants.{BadWords}
@@ -55,6 +56,7 @@ pub use Rattle.recovery_runs.specs.TurnsWell.{RecoveriesTurnWell}
 pub use Rattle.recovery_runs.specs.UnendedJobs.declared.unended.Unended.TheVariants as unended
 unfoldable pub use Rattle.scenario_generator.specs.Texts.{scenario_text}
 unfoldable pub use Rattle.scenario_reader.specs.ReadScenarios.{scenario_in}
+pub use Rattle.recovery_runs.specs.OrchBase.Gives.{Gives}
 pub use Rattle.scenario_reader.specs.ScenarioValues.declared.fault.Fault.{Fault}
 pub use Rattle.scenario_reader.specs.ScenarioValues.declared.fault.FaultCode.{FaultCode}
 pub use Rattle.scenario_reader.specs.ScenarioValues.declared.fault.FaultCode.TheVariants as code

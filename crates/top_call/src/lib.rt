@@ -2,11 +2,13 @@
 #![tactic(auto)]
 
 mod fault;
+mod parsed;
 mod reading;
 mod top;
 mod way;
 
 pub use command_line;
+pub use parsed::Parsed;
 pub use reading::{Stop, scenario_from, stop_by};
 pub use recovery_runs::{
     binlog_coords_items, gtid_sets, instance_keeper_items, kept_rows_items, orch_base,
@@ -14,5 +16,5 @@ pub use recovery_runs::{
 };
 pub use scenario_reader::scenario_values;
 pub use tasks;
-pub use top::{close, close_fault, orch_plain};
+pub use top::{close, close_fault, orch_plain, respond};
 pub use way::Way;

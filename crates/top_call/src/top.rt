@@ -1,9 +1,9 @@
 //! The call that does what the command line asks, except for a run in threads.
 
-ghost use Rattle.std.specs.Prelude.{◌≡◌, ◌≤◌, ◌⊎◌, ℕ, List, [], codes, map, IfSome, Option, Some};
+ghost use Rattle.std.specs.Prelude.{◌≡◌, ◌≤◌, ◌⊎◌, ℕ, List, [], codes, map, IfSome, Ok};
 ghost use Rattle.top_call.specs.Prelude.{AskOfRead, Consumes, Drawing, HasKeepersCause, IsDrawn, IsScenario, IsTaken, Rose};
-ghost use Rattle.top_call.specs.Prelude.{TakesLine, Tells, across, drawing_of, names_of, task_of};
-ghost use Rattle.top_call.specs.Ends.{AskToDraw, DrawEnds, EndsBy, EndsOf, EndsOver, FaultsOf, IsComplete, IsGood, IsReported, IsUsage, NoneRose, ReadsWhole, FailsByKeeper, call, status_of};
+ghost use Rattle.top_call.specs.Prelude.{TakesLine, Tells, across, names_of, task_of};
+ghost use Rattle.top_call.specs.Ends.{AskToDraw, DrawEnds, EndsBy, EndsOf, EndsOver, FaultsOf, IfDrawn, IsComplete, IsGood, IsReported, IsUsage, NoneRose, ReadsWhole, FailsByKeeper, UsageOf, call, status_of};
 ghost use Rattle.top_call.specs.Faults.{fault_text};
 ghost use Rattle.top_call.specs.Reads.{OfRead};
 ghost use Rattle.top_call.specs.Report.{ByReport, EndsAs, KeepsRows, WritesErr, WritesOut};
@@ -12,10 +12,11 @@ ghost use Rattle.top_call.specs.Promises.{Promises};
 use crate::fault::fault_line;
 use crate::instance_keeper_items::Keeper;
 use crate::orch_base::{Sink, Source, write_all};
+use crate::parsed::Parsed;
 use crate::reading::{Stop, scenario_from};
 use crate::scenarios_items::Scenario;
 use crate::way::Way;
-use command_line::{Drawing, Places, Usage, places};
+use command_line::{Drawing, Places, Usage};
 use scenario_generator::{NotWritten, write_scenario};
 use scenario_reader::Fault;
 use std::alloc::Global;
@@ -136,7 +137,7 @@ fn answer<S: Source, O: Sink, E: Sink, K: Keeper>(
 ) -> Way
     requires words { IsTaken places.now }
     requires asks { AskOfRead places.now }
-    ensures ends { EndsOf places.now (S.left source.old) (K.kept keeper.old) (K.kept keeper.new)
+    ensures ends { EndsOf (Ok places.now) (S.left source.old) (K.kept keeper.old) (K.kept keeper.new)
         (across (O.written out.old) (O.faults out.old) (O.written out.new) (O.faults out.new))
         (across (E.written err.old) (E.faults err.old) (E.written err.new) (E.faults err.new))
         result }
@@ -184,21 +185,20 @@ fn draw<O: Sink, E: Sink>(alloc: Global, drawing: Drawing, out: &mut O, err: &mu
     }
 }
 
-// Does what an accepted command line asks.
-fn respond<S: Source, O: Sink, E: Sink, K: Keeper>(
+/// Does what a command line asks, except for a run in threads. `orch_plain` answers its status.
+pub fn respond<S: Source, O: Sink, E: Sink, K: Keeper>(
     alloc: Global,
-    places: &Places,
+    parsed: &Parsed,
     source: &mut S,
     out: &mut O,
     err: &mut E,
     keeper: &mut K,
 ) -> Way
-    requires { IsTaken places.now }
-    ensures ends { EndsOf places.now (S.left source.old) (K.kept keeper.old) (K.kept keeper.new)
+    ensures ends { EndsOf parsed.now (S.left source.old) (K.kept keeper.old) (K.kept keeper.new)
         (across (O.written out.old) (O.faults out.old) (O.written out.new) (O.faults out.new))
         (across (E.written err.old) (E.faults err.old) (E.written err.new) (E.faults err.new))
         result }
-    ensures not_usage { result ≡ Way.Usage → ⊥ }
+    ensures usage { UsageOf parsed.now (status_of result) }
     ensures source { result ≡ Way.Source → Rose (S.faults source.old) (S.faults source.new) }
     ensures sink { result ≡ Way.Sink → Rose (O.faults out.old) (O.faults out.new)
         ⊎ Rose (E.faults err.old) (E.faults err.new) }
@@ -206,16 +206,25 @@ fn respond<S: Source, O: Sink, E: Sink, K: Keeper>(
     ensures read { IsReported result
         → IfSome (S.left source.old)
         (λ bytes. Consumes (S.left source.old) (S.left source.new) bytes) }
-    ensures drawn { (d : Drawing) → drawing_of places.now ≡ Some d
-        → DrawEnds d (status_of result)
+    ensures drawn { IfDrawn parsed.now (λ d. DrawEnds d (status_of result)
         (across (O.written out.old) (O.faults out.old) (O.written out.new) (O.faults out.new))
-        (across (E.written err.old) (E.faults err.old) (E.written err.new) (E.faults err.new)) }
-    ensures unread { (d : Drawing) → drawing_of places.now ≡ Some d → source.new ≡ source.old }
-    ensures unkept { (d : Drawing) → drawing_of places.now ≡ Some d → keeper.new ≡ keeper.old }
+        (across (E.written err.old) (E.faults err.old) (E.written err.new) (E.faults err.new))) }
+    ensures unread { IfDrawn parsed.now (λ d. source.new ≡ source.old) }
+    ensures unkept { IfDrawn parsed.now (λ d. keeper.new ≡ keeper.old) }
 {
-    match places.drawing() {
-        Some(drawing) => draw(alloc, drawing, out, err),
-        None => answer(alloc, places, source, out, err, keeper),
+    match parsed.places() {
+        Ok(places) => match places.drawing() {
+            Some(drawing) => draw(alloc, drawing, out, err),
+            None => answer(alloc, places, source, out, err, keeper),
+        },
+        Err(Usage::BadWords) => {
+            close(err, b"usage\n");
+            Way::Usage
+        }
+        Err(Usage::Memory) => {
+            close(err, b"out of memory\n");
+            Way::Memory
+        }
     }
 }
 
@@ -308,15 +317,6 @@ pub fn orch_plain<S: Source, O: Sink, E: Sink, K: Keeper>(
     // hands back.
     ensures promises { (bytes : List ℕ) → Promises (map (λ w. w.items) words.now) bytes }
 {
-    match places(alloc, words) {
-        Ok(places) => respond(alloc, &places, scenario, out, err, keeper).status(),
-        Err(Usage::BadWords) => {
-            close(err, b"usage\n");
-            Way::Usage.status()
-        }
-        Err(Usage::Memory) => {
-            close(err, b"out of memory\n");
-            Way::Memory.status()
-        }
-    }
+    let parsed = Parsed::read(alloc, words);
+    respond(alloc, &parsed, scenario, out, err, keeper).status()
 }

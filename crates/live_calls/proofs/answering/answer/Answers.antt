@@ -5,16 +5,16 @@ use Rattle.live_calls.proofs.Ends.{faulty}
 use Rattle.live_calls.proofs.answering.answer.Goals as goal
 
 pub returns-in-Err-Source-clause-ends : goal.returns-in-Err-Source-clause-ends
-returns-in-Err-Source-clause-ends g c = λ words t. each (g.S.Source.left c.args.source.now) _ (λ bytes. idles words bytes _ _ _ _ c.close-in-Err-Source.ensures.took)
+returns-in-Err-Source-clause-ends g c = λ words t ask. each (g.S.Source.left c.args.source.now) _ (λ bytes. idles words bytes _ _ _ _ c.close-in-Err-Source.ensures.took)
 
 pub returns-in-Err-Memory-clause-ends : goal.returns-in-Err-Memory-clause-ends
-returns-in-Err-Memory-clause-ends g c = λ words t. each (g.S.Source.left c.args.source.now) _ (λ bytes. inl (idles words bytes _ _ _ _ c.close.ensures.took))
+returns-in-Err-Memory-clause-ends g c = λ words t ask. each (g.S.Source.left c.args.source.now) _ (λ bytes. inl (idles words bytes _ _ _ _ c.close.ensures.took))
 
 pub returns-in-Ok-clause-ends : goal.returns-in-Ok-clause-ends
-returns-in-Ok-clause-ends g c = λ words t. lifted (g.S.Source.left c.args.source.now) _ _ (λ bytes r. c.report.ensures.ends words bytes t r) c.in-Ok.ensures.read
+returns-in-Ok-clause-ends g c = λ words t ask. lifted (g.S.Source.left c.args.source.now) _ _ (λ bytes r. c.report.ensures.ends words bytes t r) c.in-Ok.ensures.read
 
 pub returns-in-Err-Fault-clause-ends : goal.returns-in-Err-Fault-clause-ends
-returns-in-Err-Fault-clause-ends g c = λ words t.
+returns-in-Err-Fault-clause-ends g c = λ words t ask.
     lifted (g.S.Source.left c.args.source.now) _ _
     (λ bytes r. faulty words bytes _ _ _ _ _ r c.close_fault.ensures)
     (subst (λ (why : Stop). OfRead (g.S.Source.left c.args.source.now) (λ bytes. ReadsAs (live_scenario bytes) (Err why))) c.in-Err-Fault.field-0-is c.in-Err-Fault.ensures.read)

@@ -1,6 +1,0 @@
-use Rattle.std.proofs.Common.{◌≡◌, map, take}
-use Rattle.server_words.specs.OrchBase.Names.{printed}
-use Rattle.report_text.proofs.names.PrintedNames.new.Given as goal
-
-abbrev pub invariant-loop-name : goal.invariant-loop-name
-invariant-loop-name l = map (λ t. t.items) l.texts.items ≡ map printed (take l.name-index l.names)
